@@ -1,0 +1,101 @@
+// One 32-bit cell (01, "Cells"): its kind, its number of arguments and its number, taken out by masks and shifts, and
+// cells built again by them. Every function takes any number at all.
+ghost use mathlib.Core.Path.{_≡_};
+ghost use Prim.Native.Nat.{_%_, _^_};
+ghost use Rattle.cell.specs.Cell.{kindOf, argsOf, numberOf, middleOf, variableCell, nameCell, numberCell, valuesAt, valuesOf, arity};
+
+// Bits 31..30.
+pub fn kind(c: u32) -> u32
+    ensures { λ r. ⌜ r ≡ kindOf c ⌝ }
+{
+    c >> 30
+}
+
+// Bits 18..16: the number of arguments, in a name.
+pub fn args(c: u32) -> u32
+    ensures { λ r. ⌜ r ≡ argsOf c ⌝ }
+{
+    (c >> 16) & 7
+}
+
+// Bits 15..0: the number of a variable or a name, the value of a number.
+pub fn number(c: u32) -> u32
+    ensures { λ r. ⌜ r ≡ numberOf c ⌝ }
+{
+    c & 0xffff
+}
+
+// Bits 29..16: zero, or the number of arguments of a name.
+pub fn middle(c: u32) -> u32
+    ensures { λ r. ⌜ r ≡ middleOf c ⌝ }
+{
+    (c >> 16) & 0x3fff
+}
+
+// A cell is built from the low bits of its parts, as many as its fields have.
+pub fn variable_cell(n: u32) -> u32
+    ensures { λ r. ⌜ r ≡ variableCell (n % 2 ^ 16) ⌝ }
+{
+    n & 0xffff
+}
+
+pub fn name_cell(a: u32, n: u32) -> u32
+    ensures { λ r. ⌜ r ≡ nameCell (a % 2 ^ 3) (n % 2 ^ 16) ⌝ }
+{
+    (1 << 30) | ((a & 7) << 16) | (n & 0xffff)
+}
+
+pub fn number_cell(n: u32) -> u32
+    ensures { λ r. ⌜ r ≡ numberCell (n % 2 ^ 16) ⌝ }
+{
+    (2 << 30) | (n & 0xffff)
+}
+
+// What a cell is.
+pub enum Shape {
+    // its number
+    Variable(u32),
+    // its number of arguments, 0 to 4, and its number
+    Name(u32, u32),
+    // its value
+    Number(u32),
+    // no cell of 01
+    Refused,
+}
+
+pub fn shape_of(c: u32) -> Shape
+    ensures { λ r. ⌜ valuesOf r ≡ valuesAt c ⌝ }
+{
+    let k = kind(c);
+    let m = middle(c);
+    match k {
+        0 => match m {
+            0 => Shape::Variable(number(c)),
+            _ => Shape::Refused,
+        },
+        1 => match m {
+            0..=4 => Shape::Name(args(c), number(c)),
+            _ => Shape::Refused,
+        },
+        2 => match m {
+            0 => Shape::Number(number(c)),
+            _ => Shape::Refused,
+        },
+        _ => Shape::Refused,
+    }
+}
+
+// How many terms follow the cell as its arguments.
+pub fn arity_of(c: u32) -> usize
+    ensures { λ r. ⌜ r ≡ arity c ⌝ }
+{
+    let k = kind(c);
+    let m = middle(c);
+    match k {
+        1 => match m {
+            0..=4 => args(c) as usize,
+            _ => 0,
+        },
+        _ => 0,
+    }
+}

@@ -1,0 +1,11 @@
+pub mod TermsLaws
+pub mod PlaceLaws
+pub mod EndsLaws
+pub mod Tests
+pub mod Inst
+pub mod Occurs
+pub mod Step
+pub mod Decide
+pub mod Finite
+pub mod Fixed
+pub mod Examples
