@@ -1,0 +1,4 @@
+pub mod All
+pub mod Refusal
+pub mod Read
+pub mod Table

@@ -1,0 +1,156 @@
+-- Tables and goals (01, "Tables and goals"): how they are read, in 01's order of tests ("1, 2, 3 come first; then cells are read left to right,
+-- and at each place 4, 5, 6, 7, 8 in that order; 9 last"), and what they are.
+use Prim.Native.Nat.{ℕ, zero, suc, _+_, _-_, _≤_, _<_}
+use mathlib.Core.Path.{_≡_}
+use mathlib.Core.Bool.{Bool, true, false, cond, not, _&&_, _||_}
+use mathlib.Core.List.{List, [], _∷_, _++_, flatten, List·Memᴰ}
+use lib.Dec.{eqb, leb, ltb}
+use lib.ListN.{length, getD, take, drop, replicate}
+use Rattle.cell.specs.Cell.{Cell, Values, valuesAt, isVar}
+use Rattle.term.specs.Terms.{Terms}
+use Rattle.table.specs.declared.TableAnswer.{TableAnswer}
+use Rattle.table.specs.declared.GoalAnswer.{GoalAnswer}
+use Rattle.table.specs.declared.TableAnswer.the-variants as table-answer
+use Rattle.table.specs.declared.GoalAnswer.the-variants as goal-answer
+use Rattle.table.specs.All.{All}
+use Rattle.table.specs.Refusal.{Refused, refused, told, Answer, answered, turned}
+use Rattle.table.specs.Read.{Read, read, refuse, when, andThen}
+
+-- The terms of a row or of a goal. LONG and TWICE are given in a row only.
+abbrev pub bad : Bool → ℕ → ℕ → Refused
+bad row n p = refused n (cond row 1 3) p
+
+-- what has been read: the place after it, and how many variables it has
+pub record Met : Type 0 where
+  pub next : ℕ
+  pub vars : ℕ
+
+abbrev pub met : ℕ → ℕ → Met
+met p v = record { next = p; vars = v }
+
+-- the variables met once a cell is read: 01, "numbered 0, 1, 2 in order of first appearance"
+abbrev pub counted : Values → ℕ → ℕ
+counted v vars = cond (eqb (v .kind) 0 && eqb (v .number) vars) (suc vars) vars
+
+-- one cell: CELL, FRESH, and in a row TWICE
+abbrev pub cellTests : {A : Type 0} → Bool → Values → ℕ → ℕ → Read A → Read A
+cellTests row v vars p rest =
+    when (eqb (v .kind) 3) (bad row 6 p)
+    (when (eqb (v .kind) 0 && ltb vars (v .number)) (bad row 7 p)
+    (when (row && (eqb (v .kind) 0 && ltb (v .number) vars)) (bad row 8 p)
+    rest))
+
+-- the cells left, the terms owed, the cells used so far, the variables met, the next cell's place
+unfoldable pub termsFrom : Bool → List ℕ → ℕ → ℕ → ℕ → ℕ → Read Met
+termsFrom row [] zero used vars p = read (met p vars)
+termsFrom row [] (suc owed) used vars p = when (row && leb 32 used) (bad row 4 p) (refuse (bad row 5 p))
+termsFrom row (c ∷ xs) zero used vars p = read (met p vars)
+termsFrom row (c ∷ xs) (suc owed) used vars p =
+    when (row && leb 32 used) (bad row 4 p)
+    (cellTests row (valuesAt c) vars p
+    (termsFrom row xs (valuesAt c .args + owed) (suc used) (counted (valuesAt c) vars) (suc p)))
+
+pub record Table : Type 0 where
+  pub width : ℕ
+  pub rows : List (List ℕ)
+
+abbrev pub table : ℕ → List (List ℕ) → Table
+table w rows = record { width = w; rows = rows }
+
+-- one more row before those that are read
+abbrev pub before : List ℕ → Read (List (List ℕ)) → Read (List (List ℕ))
+before r (read rs) = read (r ∷ rs)
+before r (refuse f) = refuse f
+
+-- so many rows of a width from the place p on, and nothing after them: EXTRA
+unfoldable pub rowsFrom : ℕ → ℕ → List ℕ → ℕ → Read (List (List ℕ))
+rowsFrom w zero [] p = read []
+rowsFrom w zero (c ∷ xs) p = refuse (refused 9 1 p)
+rowsFrom w (suc n) xs p =
+    andThen (termsFrom true xs w 0 0 p) (λ (m : Met). before (take (m .next - p) xs) (rowsFrom w n (drop (m .next - p) xs) (m .next)))
+
+-- 01, "A table is: width (1 to 8), row count (1 to 64), then the rows": LENGTH, WIDTH, COUNT, then the rows
+unfoldable pub tableOf : List ℕ → Read Table
+tableOf t =
+    when (ltb (length t) 2 || ltb 2050 (length t)) (refused 1 1 0)
+    (when (ltb (getD t 0 0) 1 || ltb 8 (getD t 0 0)) (refused 2 1 0)
+    (when (ltb (getD t 1 0) 1 || ltb 64 (getD t 1 0)) (refused 3 1 1)
+    (andThen (rowsFrom (getD t 0 0) (getD t 1 0) (drop 2 t) 2) (λ (rows : List (List ℕ)). read (table (getD t 0 0) rows)))))
+
+-- 01, "A goal is read with its table: width terms, 1 to 32 cells in all": LENGTH, the terms, EXTRA
+unfoldable pub goalOf : ℕ → List ℕ → Read ℕ
+goalOf w g =
+    when (ltb (length g) 1 || ltb 32 (length g)) (refused 1 3 0)
+    (andThen (termsFrom false g w 0 0 0) (λ (m : Met).
+    when (ltb (m .next) (length g)) (refused 9 3 (m .next)) (read (m .vars))))
+
+-- What the entries answer.
+
+-- where each row starts, the first at p
+unfoldable pub starts : ℕ → List (List ℕ) → List ℕ
+starts p [] = []
+starts p (r ∷ rs) = p ∷ starts (p + length r) rs
+
+abbrev pub startsIn : Read Table → List ℕ
+startsIn (read T) = starts 2 (T .rows) ++ replicate (64 - length (T .rows)) 0
+startsIn (refuse f) = replicate 64 0
+
+abbrev pub tableSays : Read Table → Answer
+tableSays (read T) = answered (T .width) (length (T .rows))
+tableSays (refuse f) = turned f
+
+abbrev pub tableTold : TableAnswer → Answer
+tableTold (table-answer.Accepted w n) = answered w n
+tableTold (table-answer.Refused f) = turned (told f)
+
+abbrev pub goalSays : List ℕ → Read ℕ → Answer
+goalSays g (read n) = answered (length g) n
+goalSays g (refuse f) = turned f
+
+abbrev pub goalTold : GoalAnswer → Answer
+goalTold (goal-answer.Accepted n v) = answered n v
+goalTold (goal-answer.Refused f) = turned (told f)
+
+-- 01, "The row handed out by number is that part of the lent table; where the table is refused or has no such row, that part is empty"
+abbrev pub rowIn : Read Table → ℕ → List ℕ
+rowIn (read T) r = getD (T .rows) r []
+rowIn (refuse f) r = []
+
+-- What a table and a goal are, by 01's words.
+
+-- how often a cell stands in a list
+unfoldable pub count : ℕ → List ℕ → ℕ
+count v [] = 0
+count v (c ∷ xs) = cond (eqb v c) 1 0 + count v xs
+
+-- the variables of a list by first appearance, those listed before left out
+unfoldable pub appear : List ℕ → List ℕ → List ℕ
+appear met [] = []
+appear met (c ∷ xs) = cond (isVar c && eqb (count c met) 0) (c ∷ appear (c ∷ met) xs) (appear met xs)
+
+-- n, n + 1, and so on, a of them
+unfoldable pub upFrom : ℕ → ℕ → List ℕ
+upFrom n zero = []
+upFrom n (suc a) = n ∷ upFrom (suc n) a
+
+-- what a row and a goal have in common: width terms, good cells, "variables are numbered 0, 1, 2 in order of first appearance"
+pub record Head (w : ℕ) (xs : List ℕ) : Type 0 where
+  pub terms : Terms w xs
+  pub short : length xs ≤ 32
+  pub cells : (c : ℕ) → List·Memᴰ c xs → Cell c
+  pub order : appear [] xs ≡ upFrom 0 (length (appear [] xs))
+
+-- "A row uses each of its variables once"
+pub record Row (w : ℕ) (xs : List ℕ) : Type 0 where
+  pub head : Head w xs
+  pub once : (v : ℕ) → isVar v ≡ true → count v xs ≤ 1
+
+pub record IsTable (t : List ℕ) (w : ℕ) (rows : List (List ℕ)) : Type 0 where
+  pub cells : t ≡ w ∷ length rows ∷ flatten rows
+  pub width : (1 ≤ w) × (w ≤ 8)
+  pub count : (1 ≤ length rows) × (length rows ≤ 64)
+  pub each : All (Row w) rows
+
+pub record IsGoal (w : ℕ) (g : List ℕ) : Type 0 where
+  pub head : Head w g
+  pub some : 1 ≤ length g
