@@ -3,3 +3,4 @@ pub mod PlansLaws
 pub mod SizeLaws
 pub mod CheckLaws
 pub mod MarksLaws
+pub mod Examples
