@@ -20,7 +20,7 @@ use Rattle.table.specs.Table.{Table, Row, IsTable}
 use Rattle.plan.specs.Runs.{Run, runs}
 use Rattle.plan.specs.Plans.{Plan, leaf, node, Branches, end, next, write, writes, branches, branchesIn}
 use Rattle.plan.specs.Check.{Seen, seen, bad, cellThen, Reader, branchesFrom, leafFrom, nodeFrom, stateFrom, nothingAfter, planFor}
-use Rattle.plan.proofs.RunsLaws.{Each, Sized, group-sizes, Fits, fits-some, runs-fit}
+use Rattle.plan.proofs.RunsLaws.{Each, Sized, group-sizes, Fits, fits-some, fits-more, runs-fit}
 use Rattle.plan.proofs.PlansLaws.{write-some, write-one}
 use Rattle.plan.proofs.SizeLaws.{size-bound}
 
@@ -221,13 +221,6 @@ node-sound below h k rows p xs s e =
     let bs = branches-sound below h k (runs i rows) (suc (suc p)) (m .1) s (m .4) in
     record { plan = node i (leb-true i k (c .3)) (bs .plans); cells = cc (c .2, m .2, bs .cells); count = bs .count; ends = omega (arith, bs .ends) }
 
--- cells at the front of those from i on end at i and their number
-rest-is : (xs w rest : List ℕ) (i : ℕ) → drop i xs ≡ w ++ rest → (rest ≡ drop (i + length w) xs) × (length xs - i ≡ length w + length rest)
-rest-is xs w rest i e = (
-  sym (drop-append-seam w rest) ∙ ap (drop (length w)) (sym e) ∙ drop-drop (length w) i xs,
-  sym (length-drop i xs) ∙ ap length e ∙ length-append w rest,
-)
-
 -- what is read is a plan
 pub state-sound : (n : ℕ) → Sound (stateFrom n)
 unfolding stateFrom
@@ -309,6 +302,16 @@ depth-free (suc m) (suc n) zero rows f f′ h p xs = refl
 depth-free (suc m) zero (suc k) rows f f′ h p xs = absurd (omega (arith, fits-some zero k rows f′ h))
 depth-free (suc m) (suc n) (suc k) rows f f′ h p xs = node-alike m n (stateFrom m) (stateFrom n) (depth-free m n) k rows f f′ p xs
 
+-- so an inner state is read by the reading of any state below it, with no number that falls
+pub state-again : (n k : ℕ) (rows : List (List ℕ)) → All (Fits n k) rows → 0 < length rows → 0 < k → (p : ℕ) (xs : List ℕ)
+    → stateFrom n k rows p xs ≡ nodeFrom (stateFrom n) (k - 1) rows p xs
+unfolding stateFrom
+state-again n zero rows f h l p xs = absurd (omega arith)
+state-again zero (suc k) rows f h l p xs = absurd (omega (arith, fits-some zero k rows f h))
+state-again (suc n) (suc k) rows f h l p xs =
+    let e : suc k - 1 ≡ k = omega arith in
+    rw e (node-alike n (suc n) (stateFrom n) (stateFrom (suc n)) (depth-free n (suc n)) k rows f (fits-more (suc n) (suc k) rows f) p xs)
+
 -- so the cells of a state are read exactly where a plan of the state stands there
 pub state-reads : (n k : ℕ) (rows : List (List ℕ)) → All (Fits n k) rows → 0 < length rows → (p : ℕ) (xs : List ℕ) (s : Seen)
     → (stateFrom n k rows p xs ≡ read s) ↔ Stands k rows p xs s
@@ -316,6 +319,13 @@ state-reads n k rows f h p xs s = (state-sound n k rows p xs s, λ t. go t)
   where
     go : Stands k rows p xs s → stateFrom n k rows p xs ≡ read s
     go t = rw (t .cells) (state-complete n k rows f h (t .plan) p (s .rest) ∙ ap₂ (λ (b e : ℕ). read (seen b e (s .rest))) (t .count) (sym (t .ends)))
+
+-- cells at the front of those from i on end at i and their number
+rest-is : (xs w rest : List ℕ) (i : ℕ) → drop i xs ≡ w ++ rest → (rest ≡ drop (i + length w) xs) × (length xs - i ≡ length w + length rest)
+rest-is xs w rest i e = (
+  sym (drop-append-seam w rest) ∙ ap (drop (length w)) (sym e) ∙ drop-drop (length w) i xs,
+  sym (length-drop i xs) ∙ ap length e ∙ length-append w rest,
+)
 
 -- what is after it are the cells from the next place on
 pub state-rest : (n k : ℕ) (rows : List (List ℕ)) (xs : List ℕ) (i : ℕ) (s : Seen) → stateFrom n k rows i (drop i xs) ≡ read s

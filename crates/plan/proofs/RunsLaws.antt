@@ -196,6 +196,10 @@ pub fits-some : (n k : ℕ) (rows : List (List ℕ)) → All (Fits n (suc k)) ro
 fits-some n k [] a h = absurd (omega arith)
 fits-some n k (r ∷ rs) a h = omega (arith, terms-length (a .0 .0))
 
+pub fits-more : (n k : ℕ) (rows : List (List ℕ)) → All (Fits n k) rows → All (Fits (suc n) k) rows
+fits-more n k [] a = tt
+fits-more n k (r ∷ rs) a = ((a .0 .0, omega arith), fits-more n k rs (a .1))
+
 -- below each branch the rows fit with one cell less
 pub runs-fit : (n k i : ℕ) → i ≤ k → (rows : List (List ℕ)) → All (Fits (suc n) (suc k)) rows → Each (λ (c : ℕ). Fits n (arity c + k)) (runs i rows)
 runs-fit n k i h = group-all (root i) (close i) (Fits (suc n) (suc k)) (λ (c : ℕ). Fits n (arity c + k)) (fits-close n k i h)
