@@ -1,0 +1,2 @@
+pub mod Minimum
+pub mod Best
