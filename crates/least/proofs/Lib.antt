@@ -1,2 +1,3 @@
 pub mod Minimum
 pub mod Best
+pub mod Exchange
