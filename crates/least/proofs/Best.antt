@@ -5,12 +5,11 @@ use Prim.Native.Nat.{ℕ, zero, suc, _+_, _≤_, _<_}
 use native.Mathlib.Omega.{arith}
 use lib.ListN.{length}
 use Rattle.cell.specs.Cell.{arity}
-use Rattle.term.specs.Terms.{Terms, more, root, close}
-use Rattle.term.proofs.PlaceLaws.{close-terms, close-length}
+use Rattle.term.specs.Terms.{root, close}
 use Rattle.table.specs.All.{All}
 use Rattle.plan.specs.Runs.{Run, runs}
 use Rattle.plan.specs.Plans.{Plan, leaf, node, Branches, end, next, Measure, choice, cost, costs}
-use Rattle.plan.proofs.RunsLaws.{Each, Sized, group-all, group-sizes}
+use Rattle.plan.proofs.RunsLaws.{Each, Sized, group-sizes, Fits, fits-some, runs-fit}
 use Rattle.least.specs.Least.{Least}
 use Rattle.least.proofs.Minimum.{argmin, minimum, argmin-first}
 
@@ -73,24 +72,6 @@ module _ (m : Measure) where
   best (suc n) zero rows = 0
   best (suc n) (suc k) rows = minimum k (through m rows (λ (i : ℕ). total (λ c g. best n (arity c + k) g) (runs i rows)))
 
--- a row of k terms, of at most n cells
-pub record Fits (n k : ℕ) (r : List ℕ) : Type 0 where
-  pub terms : Terms k r
-  pub short : length r ≤ n
-
-pub fits-some : {n k : ℕ} {r : List ℕ} → Fits n (suc k) r → 0 < n
-fits-some {n} {k} {r} f = go (f .terms) (f .short)
-  where
-    go : {r : List ℕ} → Terms (suc k) r → length r ≤ n → 0 < n
-    go (more t) h = omega arith
-
-pub fits-close : (n k i : ℕ) → i ≤ k → (r : List ℕ) → Fits (suc n) (suc k) r → Fits n (arity (root i r) + k) (close i r)
-fits-close n k i h r f = record { terms = close-terms i (f .terms) h; short = omega (arith, close-length i (f .terms) (omega arith), f .short) }
-
--- the rows of each run fit below it
-pub fits-runs : (n k i : ℕ) (rows : List (List ℕ)) → i ≤ k → All (Fits (suc n) (suc k)) rows → Each (λ (c : ℕ). Fits n (arity c + k)) (runs i rows)
-fits-runs n k i rows h a = group-all (root i) (close i) (Fits (suc n) (suc k)) (λ (c : ℕ). Fits n (arity c + k)) (fits-close n k i h) rows a
-
 module _ (m : Measure) where
   pub best-runs : (n k : ℕ) → ((k : ℕ) (rows : List (List ℕ)) → All (Fits n k) rows → 0 < length rows → Least m k rows (best m n k rows))
       → (gs : List Run) → Each (λ (c : ℕ). Fits n (arity c + k)) gs → (s : ℕ) → Sized s gs → LeastRuns m k gs (total m (λ c g. best m n (arity c + k) g) gs)
@@ -105,8 +86,7 @@ module _ (m : Measure) where
   unfolding best
   best-least zero zero rows a h = leaf-least m rows
   best-least (suc n) zero rows a h = leaf-least m rows
-  best-least zero (suc k) [] a h = absurd (omega arith)
-  best-least zero (suc k) (r ∷ rs) a h = absurd (omega (arith, fits-some (a .0)))
+  best-least zero (suc k) rows a h = absurd (omega (arith, fits-some 0 k rows a h))
   best-least (suc n) (suc k) rows a h =
       node-least m k rows (λ (i : ℕ). total m (λ c g. best m n (arity c + k) g) (runs i rows))
-      (λ i l. best-runs n k (λ k rows a h. best-least n k rows a h) (runs i rows) (fits-runs n k i rows l a) (length rows) (group-sizes (root i) (close i) rows))
+      (λ i l. best-runs n k (λ k rows a h. best-least n k rows a h) (runs i rows) (runs-fit n k i l rows a) (length rows) (group-sizes (root i) (close i) rows))
