@@ -3,3 +3,4 @@ pub mod Best
 pub mod Exchange
 pub mod AllLaws
 pub mod Closing
+pub mod Parts
