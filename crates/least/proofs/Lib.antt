@@ -4,3 +4,4 @@ pub mod Exchange
 pub mod AllLaws
 pub mod Closing
 pub mod Parts
+pub mod Counts
