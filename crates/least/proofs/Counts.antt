@@ -1,5 +1,5 @@
 -- The least cost of a pair of first and last row, from those of pairs in between: what document 001's equation 1 becomes once agreed places are closed.
-use mathlib.Core.Path.{_≡_, refl, sym, _∙_}
+use mathlib.Core.Path.{_≡_, _∙_}
 use mathlib.Core.List.{List, [], _∷_, map}
 use Prim.Native.Nat.{ℕ, zero, suc, pred, _+_, _-_, _≤_, _<_}
 use native.Mathlib.Omega.{arith}
@@ -11,8 +11,8 @@ use Rattle.plan.specs.Runs.{Run, runs}
 use Rattle.plan.specs.Plans.{Measure}
 use Rattle.least.specs.Least.{Stuck, Least}
 use Rattle.least.specs.Entries.{between, Closes, stop, step}
-use Rattle.least.proofs.Minimum.{argmin, minimum}
-use Rattle.least.proofs.Best.{least-one, LeastRuns, through, leaf-least, runs-nil, runs-cons, node-least}
+use Rattle.least.proofs.Minimum.{minimum}
+use Rattle.least.proofs.Best.{least-one, LeastRuns, through, runs-nil, runs-cons, node-least}
 use Rattle.least.proofs.Closing.{closes-least, closes-then, closes-length, confluent, order-does-not-matter}
 use Rattle.least.proofs.Parts.{slice-slice, closes-part, PartOf, Parts, group-parts, part-agree, part-proper}
 

@@ -1,8 +1,10 @@
 pub mod Minimum
 pub mod Best
-pub mod Exchange
 pub mod AllLaws
-pub mod Closing
 pub mod Parts
+pub mod Agreed
+pub mod Exchange
+pub mod Closing
 pub mod Counts
 pub mod Scan
+pub mod Building

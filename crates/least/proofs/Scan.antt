@@ -6,38 +6,19 @@ use Prim.Native.Nat.{ℕ, zero, suc, _+_, _≤_, _<_}
 use native.Mathlib.Omega.{arith}
 use native.Mathlib.Nat.{zero-add}
 use lib.ListN.{length, length-map}
-use lib.Seq.{take-length}
 use lib.Dec.{ltb}
 use borrow.Author.Tests.{ltb-true, ltb-false}
 use Rattle.cell.specs.Cell.{arity}
 use Rattle.term.specs.Terms.{Terms, none, more, root, close}
 use Rattle.term.proofs.PlaceLaws.{root-before}
 use Rattle.table.specs.All.{All}
-use Rattle.plan.specs.Runs.{Run, run, runs}
+use Rattle.plan.specs.Runs.{Run, runs}
 use Rattle.plan.specs.Plans.{Measure}
-use Rattle.plan.proofs.RunsLaws.{Fits, fits-close, group-rows}
+use Rattle.plan.proofs.RunsLaws.{Fits, fits-close}
 use Rattle.least.specs.Least.{Agree, Stuck}
 use Rattle.least.specs.Entries.{Closes, stop, step}
 use Rattle.least.proofs.AllLaws.{all-map, all-both, all-unmap}
-use Rattle.least.proofs.Exchange.{agree-runs}
-use Rattle.least.proofs.Parts.{group-parts, part-agree}
-
--- one run at a place: its rows agree there on the run's cell, and the run has them all, closed
-pub run-agrees : (i : ℕ) (g : Run) (rows : List (List ℕ)) → runs i rows ≡ g ∷ [] → Agree i (g .cell) rows
-run-agrees i g rows e =
-    let p = rw e at (group-parts (root i) (close i) rows) in
-    let n : length (g .rows) + 0 ≡ length rows = rw e at (group-rows (root i) (close i) rows) in
-    let z : 0 + length (g .rows) ≡ length rows = omega arith in
-    rw (z, take-length rows) at (part-agree i 0 g rows (p .0))
-
-pub run-is : (i : ℕ) (g : Run) (rows : List (List ℕ)) → runs i rows ≡ g ∷ [] → g ≡ run (g .cell) (map (close i) rows)
-run-is i g rows e =
-    let a = agree-runs i (g .cell) rows (run-agrees i g rows e) in
-    cc
-
--- where there is not one run, no cell is agreed
-pub no-run : (i c : ℕ) (rows : List (List ℕ)) → (length (runs i rows) ≡ 1 → ⊥) → Agree i c rows → ⊥
-no-run i c rows n a = n (ap length (agree-runs i c rows a))
+use Rattle.least.proofs.Agreed.{run-agrees, run-is, no-run}
 
 -- what a scan has found: what the closed cells weigh, the open places left, and the rows
 pub record Scan : Type 0 where
