@@ -8,3 +8,4 @@ pub mod Closing
 pub mod Counts
 pub mod Scan
 pub mod Building
+pub mod Builder
