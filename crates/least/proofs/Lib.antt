@@ -9,3 +9,4 @@ pub mod Counts
 pub mod Scan
 pub mod Building
 pub mod Builder
+pub mod Pairs
