@@ -5,3 +5,5 @@ pub mod SoundLaws
 pub mod HeadLaws
 pub mod RowsLaws
 pub mod TableLaws
+pub mod Accepted
+pub mod PartLaws

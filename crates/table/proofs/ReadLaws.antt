@@ -4,7 +4,7 @@ use mathlib.Core.Bool.{Bool, true, false, _&&_, _||_}
 use Prim.Native.Nat.{ℕ, _≤_}
 use native.Mathlib.Omega.{arith}
 use lib.Dec.{eqb, ltb}
-use borrow.Author.Tests.{ltb-false}
+use borrow.Author.Tests.{ltb-false, le-ltb}
 use Rattle.cell.specs.Cell.{Values}
 use Rattle.table.specs.Refusal.{Refused}
 use Rattle.table.specs.Read.{Read, read, refuse, when, andThen}
@@ -36,6 +36,9 @@ module _ {A B : Type 0} where
 pub apart : {A B : Type 0} {x : A} {f : Refused} → read x ≡ refuse f → B
 apart e = absurd (let z : _≡_ {A = ℕ} 0 1 = cc in omega arith)
 
+pub read-one : {A : Type 0} {x y : A} → read x ≡ read y → x ≡ y
+read-one e = cc
+
 -- what is read has passed its test
 pub passed : {A : Type 0} (b : Bool) (f : Refused) (r : Read A) {x : A} → when b f r ≡ read x → (b ≡ false) × (r ≡ read x)
 passed true f r e = absurd (let z : _≡_ {A = ℕ} 0 1 = cc in omega arith)
@@ -59,3 +62,6 @@ inside n low high e = let p = both (ltb n low) (ltb high n) e in (ltb-false n lo
     both : (a b : Bool) → (a || b) ≡ false → (a ≡ false) × (b ≡ false)
     both true b h = absurd (let z : _≡_ {A = ℕ} 0 1 = cc in omega arith)
     both false b h = (refl, h)
+
+pub within-bounds : (n low high : ℕ) → low ≤ n → n ≤ high → (ltb n low || ltb high n) ≡ false
+within-bounds n low high l h = rw (le-ltb n low l, le-ltb high n h)

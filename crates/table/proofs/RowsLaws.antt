@@ -116,7 +116,7 @@ pub outcome-turned : {f : Refused} (r : TableRead) → TableReads (refuse f) r �
 outcome-turned r q = rw (q .answer, q .starts)
 
 -- What the code answers is what is to be answered for a table of these rows.
-length-starts : (p : ℕ) (rows : List (List ℕ)) → length (starts p rows) ≡ length rows
+pub length-starts : (p : ℕ) (rows : List (List ℕ)) → length (starts p rows) ≡ length rows
 unfolding starts
 length-starts p [] = refl
 length-starts p (r ∷ rs) = ap suc (length-starts (p + length r) rs)

@@ -8,7 +8,7 @@ use native.Mathlib.Decide.{decLt}
 use native.Mathlib.Omega.{arith}
 use lib.Dec.{eqb}
 use borrow.Author.Tests.{ne-eqb}
-use Rattle.cell.specs.Cell.{Cell, Values, values, valuesAt, kindOf, middleOf, isVar}
+use Rattle.cell.specs.Cell.{Cell, Values, values, valuesAt, isVar}
 use Rattle.cell.specs.Cell as cell-specs
 use Rattle.cell.proofs.CellLaws.{Reading, a-variable, no-cell, reading, cell-accepted, isVar-kind}
 use Rattle.cell.proofs.CellLaws as cell-laws

@@ -14,7 +14,7 @@ use Rattle.term.specs.Terms.{Terms, none, more}
 use Rattle.table.specs.Read.{read, andThen}
 use Rattle.table.specs.Table.{Met, met, counted, termsFrom}
 use Rattle.table.specs.Looks.{cellFrom, cellsFrom}
-use Rattle.table.proofs.ReadLaws.{then-both, then-assoc, tests-then, passed, passed-tests, apart, first}
+use Rattle.table.proofs.ReadLaws.{then-both, then-assoc, tests-then, passed, passed-tests, apart, read-one, first}
 
 -- a row that is not yet full
 not-full : (row : Bool) (used : ℕ) → (row ≡ true → used < 32) → (row && leb 32 used) ≡ false
@@ -74,11 +74,8 @@ whole row xs k p {m} e =
     let f = terms-front row xs k 0 0 p (λ r. omega arith) e in
     let h : andThen (cellsFrom row (f .cells) 0 p) (λ (v : ℕ). read (met (p + length (f .cells)) v)) ≡ read m = sym (terms-pass (f .terms) (f .rest) row 0 0 p (f .room)) ∙ rw (f .split) at e in
     let g = first (cellsFrom row (f .cells) 0 p) (λ (v : ℕ). read (met (p + length (f .cells)) v)) h in
-    let q : met (p + length (f .cells)) (g .0) ≡ m = same (g .2) in
+    let q : met (p + length (f .cells)) (g .0) ≡ m = read-one (g .2) in
     record { front = f; next = sym (ap (λ (n : Met). n .next) q); tested = g .1 ∙ ap (λ (n : Met). read (n .vars)) q }
-  where
-    same : {x y : Met} → read x ≡ read y → x ≡ y
-    same h = cc
 
 -- they are the cells up to the place after them, and what follows is the rest
 pub whole-part : {row : Bool} {xs : List ℕ} {k p : ℕ} {m : Met} (o : Whole row xs k p m)

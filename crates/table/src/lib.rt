@@ -145,3 +145,68 @@ pub fn read_table(cells: &[u32]) -> TableRead
     }
     read_rows(cells, width, count)
 }
+
+// A goal for a table of a width: any width, any cells.
+pub fn goal_for(width: usize, goal: &[u32]) -> GoalAnswer
+    ensures { λ r. ⌜ goalTold r ≡ goalSays (now (goal .entry)) (goalOf width (now (goal .entry))) ⌝ }
+{
+    if outside(goal.len(), 1, 32) {
+        return GoalAnswer::Refused(terms::refusal(false, Reason::Length, 0));
+    }
+    match terms::read_terms(goal, 0, width, false) {
+        TermsRead::Whole(e, vars) => {
+            if e < goal.len() {
+                return GoalAnswer::Refused(terms::refusal(false, Reason::Extra, e));
+            }
+            GoalAnswer::Accepted(goal.len(), vars)
+        }
+        TermsRead::Turned(f) => GoalAnswer::Refused(f),
+    }
+}
+
+// A goal with its table: the table's refusal comes first.
+pub fn read_goal(table: &[u32], goal: &[u32]) -> GoalAnswer
+    ensures { λ r. ⌜ goalTold r ≡ goalSays (now (goal .entry)) (goalWith (now (table .entry)) (now (goal .entry))) ⌝ }
+{
+    let answer = read_table(table).answer;
+    match answer {
+        TableAnswer::Accepted(width, _) => goal_for(width, goal),
+        TableAnswer::Refused(f) => GoalAnswer::Refused(f),
+    }
+}
+
+// Where the r-th row is in its table. A row ends where the next one starts, and the last where the table ends.
+pub fn row_place(cells: &[u32], r: usize) -> Part
+    ensures { λ p. ⌜ RowPlace (tableOf (now (cells .entry))) r p ⌝ }
+{
+    let read = read_table(cells);
+    let answer = read.answer;
+    let starts = read.starts;
+    let TableAnswer::Accepted(_, count) = answer else {
+        return Part { start: 0, end: 0 };
+    };
+    if count <= r {
+        return Part { start: 0, end: 0 };
+    }
+    let start = starts[r];
+    let next = r + 1;
+    if next < count {
+        let end = starts[next];
+        Part { start, end }
+    } else {
+        Part {
+            start,
+            end: cells.len(),
+        }
+    }
+}
+
+// The r-th row: that part of the lent table and no copy, empty where there is no such row.
+pub fn row(cells: &[u32], r: usize) -> &[u32]
+    ensures { λ p. ⌜ now p ≡ rowIn (tableOf (now (cells .entry))) r ⌝ }
+{
+    let p = row_place(cells, r);
+    let a = p.start;
+    let e = p.end;
+    &cells[a..e]
+}
