@@ -1,19 +1,18 @@
 -- Every refusal's place lies within what is read, hence below 2^16.
-use mathlib.Core.Path.{_≡_, refl, ap, sym, _∙_}
-use mathlib.Core.Bool.{Bool, true, false, cond, not, _&&_, _||_}
-use mathlib.Core.List.{List, [], _∷_, _++_}
-use Prim.Native.Nat.{ℕ, zero, suc, _+_, _-_, _≤_, _<_}
+use mathlib.Core.Path.{_≡_, refl}
+use mathlib.Core.Bool.{Bool, true, false, not, _&&_, _||_}
+use mathlib.Core.List.{List, [], _∷_}
+use Prim.Native.Nat.{ℕ, zero, suc, _+_, _-_, _≤_}
 use native.Mathlib.Omega.{arith}
 use lib.Dec.{eqb, leb, ltb}
 use lib.ListN.{length, getD, take, drop, length-drop}
-use borrow.Author.Tests.{ltb-false, ltb-true}
+use borrow.Author.Tests.{ltb-false}
 use Rattle.cell.specs.Cell.{arity, valuesAt}
 use Rattle.table.specs.Refusal.{Refused, refused}
 use Rattle.plan.specs.Runs.{Run, runs}
 use Rattle.plan.specs.Check.{Seen, seen, cellThen, Reader, branchesFrom, leafFrom, stateFrom, nothingAfter, planFor}
-use Rattle.plan.specs.Check.{bad as plan-bad}
 use Rattle.table.specs.Read.{Read, read, refuse, when, andThen}
-use Rattle.table.specs.Table.{Table, Met, met, counted, cellTests, bad, termsFrom, before, rowsFrom, tableOf, table, goalOf}
+use Rattle.table.specs.Table.{Table, Met, met, counted, bad, termsFrom, before, rowsFrom, tableOf, table, goalOf}
 
 -- the place of a refusal is at most n; what is read has P
 pub data Placed {A : Type 0} (n : ℕ) (P : A → Type 0) : Read A → Type 0 where
@@ -44,10 +43,10 @@ placed-terms row (c ∷ xs) zero used vars p n e = good {x = met p vars} (omega 
 placed-terms row (c ∷ xs) (suc owed) used vars p n e =
     let v = valuesAt c in
     placed-when (row && leb 32 used) (bad row 4 p) (omega arith) (λ _.
-      placed-when (eqb (v .kind) 3) (bad row 6 p) (omega arith) (λ _.
-      placed-when (eqb (v .kind) 0 && ltb vars (v .number)) (bad row 7 p) (omega arith) (λ _.
-      placed-when (row && (eqb (v .kind) 0 && ltb (v .number) vars)) (bad row 8 p) (omega arith) (λ _.
-      later (placed-terms row xs (v .args + owed) (suc used) (counted v vars) (suc p) n (omega arith))))))
+    placed-when (eqb (v .kind) 3) (bad row 6 p) (omega arith) (λ _.
+    placed-when (eqb (v .kind) 0 && ltb vars (v .number)) (bad row 7 p) (omega arith) (λ _.
+    placed-when (row && (eqb (v .kind) 0 && ltb (v .number) vars)) (bad row 8 p) (omega arith) (λ _.
+    later (placed-terms row xs (v .args + owed) (suc used) (counted v vars) (suc p) n (omega arith))))))
   where
     later : {r : Read Met} → Placed n (Within (suc p) n) r → Placed n (Within p n) r
     later (good {x} w) = good {x = x} (omega arith)

@@ -1,8 +1,13 @@
 -- What the entries for C and Rust answer: one number of 64 bits, `number + 2^8 · input + 2^16 · first + 2^32 · second`. Refused: the refusal's number, the
 -- input it concerns, its place first and 0 second. Answered: number and input 0, and the two values.
-use Prim.Native.Nat.{ℕ, _+_, _*_, _^_}
+use Prim.Native.Nat.{ℕ, _+_, _*_, _^_, _<_}
 use Rattle.table.specs.Refusal.{Answer, answered, turned}
 
 abbrev pub coded : Answer → ℕ
 coded (answered a b) = 2 ^ 16 * a + 2 ^ 32 * b
 coded (turned f) = f .number + 2 ^ 8 * f .input + 2 ^ 16 * f .place
+
+-- an answer whose parts fit their places in that number; proofs/Small shows it of every answer
+abbrev pub Small : Answer → Type 0
+Small (answered a b) = (a < 2 ^ 16) × (b < 2 ^ 32)
+Small (turned f) = f .place < 2 ^ 16

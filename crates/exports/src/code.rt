@@ -2,10 +2,13 @@
 ghost use mathlib.Core.Path.{_≡_};
 ghost use Prim.Native.Nat.{_≤_, _<_, _^_};
 ghost use Rattle.table.specs.Refusal.{numberOf, inputOf, told, answered, turned};
-ghost use Rattle.exports.specs.Coded.{coded};
+ghost use Rattle.table.specs.Table.{tableTold, goalTold};
+ghost use Rattle.exports.specs.Coded.{coded, Small};
+use table::GoalAnswer;
 use table::Input;
 use table::Reason;
 use table::Refusal;
+use table::TableAnswer;
 
 fn number_of(reason: Reason) -> u64
     ensures { λ r. ⌜ (r ≡ numberOf reason) × (r ≤ 16) ⌝ }
@@ -50,7 +53,7 @@ pub fn code_answer(first: usize, second: usize) -> u64
     65536 * a + 4294967296 * b
 }
 
-pub fn code_refusal(f: Refusal) -> u64
+fn code_refusal(f: Refusal) -> u64
     requires { ⌜ f .place < 2 ^ 16 ⌝ }
     ensures { λ r. ⌜ r ≡ coded (turned (told f)) ⌝ }
 {
@@ -60,4 +63,25 @@ pub fn code_refusal(f: Refusal) -> u64
     let i = input_of(input);
     let p = f.place as u64;
     n + 256 * i + 65536 * p
+}
+
+// What each kind of answer is coded as.
+pub fn code_table(a: TableAnswer) -> u64
+    requires { ⌜ Small (tableTold a) ⌝ }
+    ensures { λ r. ⌜ r ≡ coded (tableTold a) ⌝ }
+{
+    match a {
+        TableAnswer::Accepted(width, rows) => code_answer(width, rows),
+        TableAnswer::Refused(f) => code_refusal(f),
+    }
+}
+
+pub fn code_goal(a: GoalAnswer) -> u64
+    requires { ⌜ Small (goalTold a) ⌝ }
+    ensures { λ r. ⌜ r ≡ coded (goalTold a) ⌝ }
+{
+    match a {
+        GoalAnswer::Accepted(cells, vars) => code_answer(cells, vars),
+        GoalAnswer::Refused(f) => code_refusal(f),
+    }
 }

@@ -1,2 +1,37 @@
-// What other programs call. Each entry answers one number of 64 bits (specs/Coded).
+// What other programs call. Each entry takes any cells at all and answers one number of 64 bits (specs/Coded): the refusal, or its two values.
+ghost use mathlib.Core.Path.{_≡_};
+ghost use Rattle.table.specs.Table.{tableOf, tableSays, goalWith, goalSays, startsIn, rowIn};
+ghost use Rattle.table.specs.Refusal.{answered};
+ghost use lib.ListN.{length, getD};
+ghost use Rattle.exports.specs.Coded.{coded};
+
 mod code;
+
+// A table's width and number of rows.
+#[no_mangle]
+pub extern "C" fn dudowiej_read_table(cells: &[u32]) -> u64
+    ensures { λ r. ⌜ r ≡ coded (tableSays (tableOf (now (cells .entry)))) ⌝ }
+{
+    let read = table::read_table(cells);
+    let answer = read.answer;
+    code::code_table(answer)
+}
+
+// A goal's number of cells and of variables.
+#[no_mangle]
+pub extern "C" fn dudowiej_read_goal(cells: &[u32], goal: &[u32]) -> u64
+    ensures { λ r. ⌜ r ≡ coded (goalSays (now (goal .entry)) (goalWith (now (cells .entry)) (now (goal .entry)))) ⌝ }
+{
+    code::code_goal(table::read_goal(cells, goal))
+}
+
+// Where the r-th row's cells start in the table, and how many they are; both 0 where there is no such row.
+#[no_mangle]
+pub extern "C" fn dudowiej_row(cells: &[u32], r: usize) -> u64
+    ensures { λ n. ⌜ n ≡ coded (answered (getD (startsIn (tableOf (now (cells .entry)))) r 0) (length (rowIn (tableOf (now (cells .entry))) r))) ⌝ }
+{
+    let part = table::row_place(cells, r);
+    let start = part.start;
+    let end = part.end;
+    code::code_answer(start, end - start)
+}

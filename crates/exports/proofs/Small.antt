@@ -1,0 +1,75 @@
+-- Every answer fits the number it is coded as: the values below 2^16 and 2^32, a refusal's place below 2^16.
+use mathlib.Core.Path.{_≡_, refl, ap, _∙_}
+use mathlib.Core.List.{List, [], _∷_, _++_, flatten}
+use Prim.Native.Nat.{ℕ, zero, suc, _+_, _-_, _≤_}
+use native.Mathlib.Omega.{arith}
+use mathlib.Core.Bool.{_||_}
+use lib.Dec.{ltb}
+use lib.ListN.{length, getD, replicate, length-append}
+use Rattle.table.specs.Refusal.{Answer, answered}
+use Rattle.table.specs.Read.{Read, read, refuse, andThen}
+use Rattle.table.specs.Table.{Table, tableOf, tableSays, goalOf, goalSays, goalWith, rowIn, startsIn, starts, Row}
+use Rattle.table.specs.All.{All}
+use Rattle.table.proofs.Accepted.{is-table, is-goal}
+use Rattle.table.proofs.HeadLaws.{head-few}
+use Rattle.table.proofs.ReadLaws.{passed, inside}
+use Rattle.exports.specs.Coded.{Small}
+use Rattle.exports.proofs.Places.{placed-at, placed-table, placed-goal}
+
+-- an answer that is equal to a small one
+pub small-by : {a b : Answer} → a ≡ b → Small b → Small a
+small-by e s = rw e s
+
+pub table-small : (t : List ℕ) → Small (tableSays (tableOf t))
+table-small t = go (tableOf t) refl
+  where
+    go : (r : Read Table) → tableOf t ≡ r → Small (tableSays r)
+    go (read T) e = let i = is-table t e in (omega (arith, i .width .1), omega (arith, i .count .1))
+    go (refuse f) e = let l = placed-at (placed-table t) e in omega arith
+
+pub goal-small : (w : ℕ) (g : List ℕ) → Small (goalSays g (goalOf w g))
+goal-small w g = go (goalOf w g) refl
+  where
+    go : (r : Read ℕ) → goalOf w g ≡ r → Small (goalSays g r)
+    go (read v) e = let i = is-goal w g e in (omega (arith, i .0 .head .short), omega (arith, i .1, head-few (i .0 .head)))
+    go (refuse f) e = let l = placed-at (placed-goal w g) e in omega arith
+
+pub goal-with-small : (t g : List ℕ) → Small (goalSays g (goalWith t g))
+goal-with-small t g = go (tableOf t) refl
+  where
+    go : (r : Read Table) → tableOf t ≡ r → Small (goalSays g (andThen r (λ (T : Table). goalOf (T .width) g)))
+    go (read T) e = goal-small (T .width) g
+    go (refuse f) e = let l = placed-at (placed-table t) e in omega arith
+
+-- a row starts within the table
+zeros-at : (m r : ℕ) → _≡_ {A = ℕ} (getD (replicate m 0) r 0) 0
+zeros-at zero r = refl
+zeros-at (suc m) zero = refl
+zeros-at (suc m) (suc r) = zeros-at m r
+
+starts-within : (p : ℕ) (rows : List (List ℕ)) (m r : ℕ) → getD (starts p rows ++ replicate m 0) r 0 ≤ p + length (flatten rows)
+unfolding starts flatten
+starts-within p [] m r = let e = zeros-at m r in omega arith
+starts-within p (x ∷ rows) m zero = omega arith
+starts-within p (x ∷ rows) m (suc r) = omega (arith, starts-within (p + length x) rows m r, length-append x (flatten rows))
+
+-- and has at most 32 cells
+row-short : (w : ℕ) (rows : List (List ℕ)) (r : ℕ) → All (Row w) rows → length (getD rows r []) ≤ 32
+row-short w [] r a = omega arith
+row-short w (x ∷ rows) zero a = a .0 .head .short
+row-short w (x ∷ rows) (suc r) a = row-short w rows r (a .1)
+
+table-length : (t : List ℕ) {T : Table} → tableOf t ≡ read T → length t ≤ 2050
+unfolding tableOf
+table-length t e = inside (length t) 2 2050 (passed (ltb (length t) 2 || ltb 2050 (length t)) _ _ e .0) .1
+
+pub row-small : (t : List ℕ) (r : ℕ) → Small (answered (getD (startsIn (tableOf t)) r 0) (length (rowIn (tableOf t) r)))
+row-small t r = go (tableOf t) refl
+  where
+    go : (x : Read Table) → tableOf t ≡ x → Small (answered (getD (startsIn x) r 0) (length (rowIn x r)))
+    go (read T) e =
+        let i = is-table t e in
+        let l = table-length t e in
+        let f : length t ≡ 2 + length (flatten (T .rows)) = ap length (i .cells) ∙ omega arith in
+        (omega (arith, starts-within 2 (T .rows) (64 - length (T .rows)) r), omega (arith, row-short (T .width) (T .rows) r (i .each)))
+    go (refuse f) e = (omega (arith, zeros-at 64 r), omega arith)

@@ -1,0 +1,18 @@
+use mathlib.Core.Path.{_∙_, ap}
+use Rattle.exports.specs.Coded.{coded}
+use Rattle.exports.proofs.Small.{small-by, table-small}
+use borrow.Author.Needs.{needs}
+use Rattle.exports.proofs.dudowiej_read_table.Statement.{statement}
+use Rattle.exports.proofs.dudowiej_read_table.Tie as tie
+
+read-table-requires : tie.Need-read-table-requires
+read-table-requires c κs = search needs
+
+code-table-requires : tie.Need-code-table-requires
+code-table-requires c κs = small-by (c .read-table .ensures .answer) (table-small (c .before .before .args .cells .now))
+
+returns : tie.Need-returns
+returns c = c .code-table .ensures ∙ ap coded (c .before .read-table .ensures .answer)
+
+pub dudowiej-read-table-spec : {M : Type 1} → statement M
+dudowiej-read-table-spec = tie.close (tie.spec read-table-requires code-table-requires returns)
