@@ -10,6 +10,7 @@ use borrow.Author.Tests.{ltb-false}
 use Rattle.cell.specs.Cell.{arity, valuesAt}
 use Rattle.table.specs.Refusal.{Refused, refused}
 use Rattle.plan.specs.Runs.{Run, runs}
+use Rattle.plan.specs.Check.{bad as plan-bad}
 use Rattle.plan.specs.Check.{Seen, seen, cellThen, Reader, branchesFrom, leafFrom, stateFrom, nothingAfter, planFor}
 use Rattle.table.specs.Read.{Read, read, refuse, when, andThen}
 use Rattle.table.specs.Table.{Table, Met, met, counted, bad, termsFrom, before, rowsFrom, tableOf, table, goalOf}
