@@ -1,0 +1,2 @@
+// Every example of 01.
+fn main() {}
