@@ -1,4 +1,7 @@
 //! An independent implementation of the rule tables, compared with the functions that the library exports and timed beside them.
 
+pub mod compare;
 pub mod engine;
+pub mod make;
 pub mod model;
+pub mod random;
