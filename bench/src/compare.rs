@@ -1,5 +1,6 @@
 //! The exported functions against the independent implementation, input by input: the whole answer and the whole of the lent room.
 
+pub mod listings;
 mod small;
 mod tally;
 

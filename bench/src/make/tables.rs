@@ -13,8 +13,8 @@ pub enum Kind {
     Nested,
     /// Six columns, three of them mostly blank.
     Blank,
-    /// Every row of 32 cells.
-    Full,
+    /// So many columns, every row of 32 cells.
+    Full(usize),
     /// Few short rows over few symbols.
     Small,
     /// One column of names nested one in another.
@@ -27,11 +27,17 @@ type Row = Vec<Term>;
 pub fn any(random: &mut Random) -> Vec<u32> {
     match random.below(16) {
         0 => table(random, Kind::Shop, 64),
-        1 => table(random, Kind::Full, 64),
+        1 => {
+            let width = random.within(1..=8);
+            table(random, Kind::Full(width), 64)
+        }
         2 | 3 => with_rows(random, Kind::Shop, 64),
         4 | 5 => with_rows(random, Kind::Nested, 24),
         6 | 7 => with_rows(random, Kind::Blank, 32),
-        8 => with_rows(random, Kind::Full, 16),
+        8 => {
+            let width = random.within(1..=8);
+            with_rows(random, Kind::Full(width), 16)
+        }
         9 => with_rows(random, Kind::Chain, 8),
         _ => with_rows(random, Kind::Small, 6),
     }
@@ -48,10 +54,7 @@ pub fn table(random: &mut Random, kind: Kind, rows: usize) -> Vec<u32> {
         Kind::Shop => shop(random, rows),
         Kind::Nested => varied(random, rows, 2, 8..=20, Alphabet { symbols: 3, variable: 8 }),
         Kind::Blank => blank(random, rows),
-        Kind::Full => {
-            let width = random.within(1..=8);
-            varied(random, rows, width, ROW_CELLS..=ROW_CELLS, Alphabet { symbols: 3, variable: 12 })
-        }
+        Kind::Full(width) => varied(random, rows, width, ROW_CELLS..=ROW_CELLS, Alphabet { symbols: 3, variable: 12 }),
         Kind::Small => {
             let width = random.within(1..=3);
             varied(random, rows, width, width..=6, Alphabet { symbols: 2, variable: 4 })

@@ -8,10 +8,11 @@ use super::term::Symbol;
 
 /// The listing of a table given as bytes.
 pub fn listing(bytes: &[u8]) -> String {
-    if bytes.len() % 4 != 0 || bytes.len() > 4 * TABLE_CELLS {
+    let words = bytes.chunks_exact(4);
+    if !words.remainder().is_empty() || bytes.len() > 4 * TABLE_CELLS {
         return "refused 1 at 0\n".to_string();
     }
-    let cells: Vec<u32> = bytes.chunks(4).map(|b| u32::from_le_bytes([b[0], b[1], b[2], b[3]])).collect();
+    let cells: Vec<u32> = words.map(|b| u32::from_le_bytes([b[0], b[1], b[2], b[3]])).collect();
     let table = match read_table(&cells) {
         Ok(table) => table,
         Err(refusal) => return format!("refused {} at {}\n", refusal.number as u32, refusal.place),

@@ -1,10 +1,10 @@
-//! The two runs that are timed: a walk down a plan, and every row unified in turn. Plain and quick: bindings are kept by reference and taken
-//! back, nothing is copied but the list of open places. Both are compared with the definitions of `run`.
+//! The two runs that are timed: a walk down a plan, and every row unified in turn. Plain and quick: nothing is copied, bindings and open places
+//! are kept by reference and put back after each branch. Both are compared with the definitions of `run`.
 
 use std::ops::Range;
 
 use super::plan::{Branch, Plan};
-use super::read::{Goal, Row};
+use super::read::{Goal, Row, ROW_CELLS};
 use super::term::Term;
 
 /// What stands at an open place: a part of the goal, or a variable that was made when a goal's variable was bound.
@@ -32,45 +32,44 @@ struct Walk<'p, 'g> {
     plan: &'p Plan,
     /// By variable: the goal's first, then those made.
     bound: Vec<Option<Bound>>,
-    /// The open places of the state that is walked, after those of the states above it.
+    /// The open places, the leftmost last: it is the one that is closed most often.
     open: Vec<Seen<'g>>,
     tried: usize,
 }
 
 /// Walks the plan: the hit rows are added to `hits`, and the number of branches tried is given back.
 pub fn walk(plan: &Plan, goal: &Goal, hits: &mut Vec<u8>) -> usize {
-    let open = goal.arguments.iter().map(Seen::Term).collect();
+    let mut open = Vec::with_capacity(ROW_CELLS);
+    open.extend(goal.arguments.iter().rev().map(Seen::Term));
     let mut walk = Walk { plan, bound: vec![None; goal.variables], open, tried: 0 };
-    walk.state(plan.top(), 0, 0..plan.rows, hits);
+    walk.state(plan.top(), 0..plan.rows, hits);
     walk.tried
 }
 
 impl<'g> Walk<'_, 'g> {
-    /// A state: its branches, where its list of open places starts, its rows.
-    fn state(&mut self, state: Range<usize>, open: usize, rows: Range<usize>, hits: &mut Vec<u8>) {
+    /// A state, by its branches and rows. The open places and the bindings are left as they were found.
+    fn state(&mut self, state: Range<usize>, rows: Range<usize>, hits: &mut Vec<u8>) {
         if state.is_empty() {
             hits.extend(rows.map(|row| row as u8));
             return;
         }
         let plan = self.plan;
-        let place = open + plan.branches[state.start].place();
-        let shown = self.look(self.open[place]);
+        let at = self.open.len() - 1 - plan.branches[state.start].place();
+        let shown = self.look(self.open[at]);
         for (branch, below) in plan.at(state) {
             self.tried += 1;
             match shown {
-                _ if branch.is_variable() => self.below(branch, below, open, place, |_| {}, hits),
-                Shown::Goal(term) if term.cell() == branch.cell => {
-                    self.below(branch, below, open, place, |list| list.extend(term.arguments().iter().map(Seen::Term)), hits)
-                }
+                _ if branch.is_variable() => self.below(branch, below, at, [].into_iter(), hits),
+                Shown::Goal(term) if term.cell() == branch.cell => self.below(branch, below, at, term.arguments().iter().rev().map(Seen::Term), hits),
                 Shown::Bound(bound) if bound.cell == branch.cell => {
                     let made = bound.arguments..bound.arguments + branch.argument_count();
-                    self.below(branch, below, open, place, |list| list.extend(made.map(Seen::Made)), hits)
+                    self.below(branch, below, at, made.rev().map(Seen::Made), hits)
                 }
                 Shown::Unbound(variable) => {
                     let made = self.bound.len()..self.bound.len() + branch.argument_count();
                     self.bound[variable] = Some(Bound { cell: branch.cell, arguments: made.start });
                     self.bound.resize(made.end, None);
-                    self.below(branch, below, open, place, |list| list.extend(made.clone().map(Seen::Made)), hits);
+                    self.below(branch, below, at, made.clone().rev().map(Seen::Made), hits);
                     self.bound.truncate(made.start);
                     self.bound[variable] = None;
                 }
@@ -91,22 +90,16 @@ impl<'g> Walk<'_, 'g> {
         }
     }
 
-    /// Goes down a branch whose test was passed: the place is closed, its arguments in its stead.
-    fn below(
-        &mut self,
-        branch: &Branch,
-        below: Range<usize>,
-        open: usize,
-        place: usize,
-        arguments: impl FnOnce(&mut Vec<Seen<'g>>),
-        hits: &mut Vec<u8>,
-    ) {
-        let end = self.open.len();
-        self.open.extend_from_within(open..place);
-        arguments(&mut self.open);
-        self.open.extend_from_within(place + 1..end);
-        self.state(below, end, branch.rows(), hits);
-        self.open.truncate(end);
+    /// Goes down a branch whose test was passed: the place is closed, its arguments in its stead, and opened again afterwards.
+    fn below(&mut self, branch: &Branch, below: Range<usize>, at: usize, arguments: impl ExactSizeIterator<Item = Seen<'g>>, hits: &mut Vec<u8>) {
+        let seen = self.open.remove(at);
+        let count = arguments.len();
+        if count > 0 {
+            self.open.splice(at..at, arguments);
+        }
+        self.state(below, branch.rows(), hits);
+        self.open.drain(at..at + count);
+        self.open.insert(at, seen);
     }
 }
 
