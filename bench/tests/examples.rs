@@ -178,3 +178,8 @@ fn the_listing() {
     assert_eq!(listing(&[0; 8204]), "refused 1 at 0\n");
     assert_eq!(listing(&bytes[..12]), "refused 5 at 3\n");
 }
+
+#[test]
+fn the_shop_of_the_samples() {
+    assert_eq!(listing(include_bytes!("../../samples/shop.cells")), include_str!("../../samples/shop.listing"));
+}

@@ -11,8 +11,10 @@ struct Altered {
     row: fn(&[u32], usize) -> u64,
     check_plan: fn(&[u32], &[u32]) -> u64,
     build_plan: fn(&[u32], &mut [u32]) -> u64,
-    run_plan: fn(&[u32], &[u32], &[u32], &mut [u8]) -> u64,
+    run_plan: RunPlan,
 }
+
+type RunPlan = fn(&[u32], &[u32], &[u32], &mut [u8]) -> u64;
 
 const RIGHT: Altered = Altered {
     read_table: |table| Plain.read_table(table),
