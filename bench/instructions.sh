@@ -1,0 +1,14 @@
+#!/bin/sh
+# Instructions of the exported and of the independent functions, counted by callgrind. Arguments go to cargo, as `--features stand-in`.
+set -eu
+cd "$(dirname "$0")"
+if ! command -v valgrind >/dev/null; then
+    echo "valgrind is not installed: no instructions are counted"
+    exit 0
+fi
+cargo build --quiet --release "$@"
+counts=$(mktemp -d)
+trap 'rm -r "$counts"' EXIT
+valgrind --quiet --tool=callgrind --toggle-collect=measured --dump-after=measured --callgrind-out-file="$counts/count" \
+    target/release/dudowiej-bench count
+target/release/dudowiej-bench instructions "$counts"

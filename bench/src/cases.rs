@@ -1,0 +1,217 @@
+//! What is measured, in time and in instructions: the exported functions beside the independent ones on the same inputs.
+
+use std::hint::black_box;
+
+use crate::engine::{Engine, Exported, Plain};
+use crate::make::goals;
+use crate::make::tables::{table, Kind};
+use crate::model::least::least;
+use crate::model::plan::{check, Plan, PLAN_CELLS};
+use crate::model::read::{read_goal, read_table, Goal, Table};
+use crate::model::walk::{in_turn, walk};
+use crate::random::Random;
+
+pub const SEED: u64 = 64;
+
+pub const KINDS: [(&str, Kind); 5] =
+    [("shop", Kind::Shop), ("nested", Kind::Nested), ("blank", Kind::Blank), ("full, 8 columns", Kind::Full(8)), ("full, 1 column", Kind::Full(1))];
+
+/// The numbers of rows, the last one for the ratios.
+pub const ROWS: [usize; 4] = [8, 16, 32, 64];
+
+/// A table with its least plan and goals of three sorts: instances of rows, rows with some parts blank, and the goal of distinct variables.
+pub struct Case {
+    table: Vec<u32>,
+    plan: Vec<u32>,
+    goals: [(&'static str, Vec<Vec<u32>>); 3],
+    read: Table,
+    tree: Plan,
+}
+
+impl Case {
+    pub fn new(kind: Kind, rows: usize) -> Case {
+        let random = &mut Random::new(SEED);
+        let table = table(random, kind, rows);
+        let read = read_table(&table).expect("a sound table");
+        let tree = least(&read);
+        let goals = [
+            ("instances", (0..16).map(|_| goals::instance(random, &read)).collect()),
+            ("part blank", (0..16).map(|_| goals::general(random, &read)).collect()),
+            ("open", vec![goals::open(read.width)]),
+        ];
+        Case { plan: tree.write(), table, goals, read, tree }
+    }
+
+    /// The case in one line.
+    pub fn title(&self) -> String {
+        let (rows, width) = (self.read.rows.len(), self.read.width);
+        format!("{rows} rows of width {width}, {} cells; plan of {} branches, {} cells", self.table.len(), self.tree.branches.len(), self.plan.len())
+    }
+
+    pub fn measures(&self) -> Vec<Measure<'_>> {
+        let mut measures = vec![self.reading(), self.checking(), self.checking_read(), self.building(), self.building_read()];
+        for (sort, goals) in &self.goals {
+            measures.push(self.running(sort, goals));
+            measures.push(self.walking(sort, goals));
+            measures.push(self.walking_read(sort, goals));
+            measures.push(self.against_rows_in_turn(sort, goals));
+            measures.push(self.against_rows_in_turn_from_cells(sort, goals));
+        }
+        measures
+    }
+
+    // What the exported functions do.
+
+    fn read(&self) -> Work<'_> {
+        once(|| Exported.read_table(&self.table))
+    }
+
+    fn check(&self) -> Work<'_> {
+        once(|| Exported.check_plan(&self.table, &self.plan))
+    }
+
+    fn build(&self) -> Work<'_> {
+        let mut room = vec![0; PLAN_CELLS];
+        once(move || Exported.build_plan(&self.table, &mut room))
+    }
+
+    fn run<'c>(&'c self, goals: &'c [Vec<u32>]) -> Work<'c> {
+        let mut room = [0; 64];
+        each(goals, move |goal| Exported.run_plan(&self.table, &self.plan, goal, &mut room))
+    }
+
+    fn read_goal<'c>(&'c self, goals: &'c [Vec<u32>]) -> Work<'c> {
+        each(goals, |goal| Exported.read_goal(&self.table, goal))
+    }
+
+    // The measures.
+
+    fn reading(&self) -> Measure<'_> {
+        Measure::new("read", vec![self.read()], vec![], once(|| Plain.read_table(&self.table)))
+    }
+
+    fn checking(&self) -> Measure<'_> {
+        Measure::new("check", vec![self.check()], vec![], once(|| Plain.check_plan(&self.table, &self.plan)))
+    }
+
+    /// The check less the reading of the table, against the independent check for a table that is read.
+    fn checking_read(&self) -> Measure<'_> {
+        let independent = once(|| check(&self.read, &self.plan).map_or(0, |plan| plan.branches.len() as u64));
+        Measure::new("check less read", vec![self.check()], vec![self.read()], independent)
+    }
+
+    fn building(&self) -> Measure<'_> {
+        let mut room = vec![0; PLAN_CELLS];
+        Measure::new("build", vec![self.build()], vec![], once(move || Plain.build_plan(&self.table, &mut room)))
+    }
+
+    /// The same for building.
+    fn building_read(&self) -> Measure<'_> {
+        let independent = once(|| least(&self.read).write().len() as u64);
+        Measure::new("build less read", vec![self.build()], vec![self.read()], independent)
+    }
+
+    /// The whole call: table and plan are checked in it, on both sides.
+    fn running<'c>(&'c self, sort: &str, goals: &'c [Vec<u32>]) -> Measure<'c> {
+        let mut room = [0; 64];
+        let independent = each(goals, move |goal| Plain.run_plan(&self.table, &self.plan, goal, &mut room));
+        Measure::new(format!("run, {sort}"), vec![self.run(goals)], vec![], independent)
+    }
+
+    /// The run less the check of the same table and plan, against reading the goal and walking down the same plan.
+    fn walking<'c>(&'c self, sort: &str, goals: &'c [Vec<u32>]) -> Measure<'c> {
+        let mut hits = Vec::with_capacity(64);
+        let independent = each(goals, move |goal| walked(&self.tree, &self.goal(goal), &mut hits));
+        Measure::new(format!("walk, {sort}"), vec![self.run(goals)], vec![self.check()], independent)
+    }
+
+    /// The same without the reading of the goal: for the exported side, read_goal less read_table is taken off too.
+    fn walking_read<'c>(&'c self, sort: &str, goals: &'c [Vec<u32>]) -> Measure<'c> {
+        let read: Vec<Goal> = goals.iter().map(|goal| self.goal(goal)).collect();
+        let mut hits = Vec::with_capacity(64);
+        let work = move || {
+            for goal in &read {
+                black_box(walked(&self.tree, black_box(goal), &mut hits));
+            }
+        };
+        let independent = Work { calls: goals.len(), work: Box::new(work) };
+        let (more, less) = (vec![self.run(goals), self.read()], vec![self.check(), self.read_goal(goals)]);
+        Measure::new(format!("walk less goal, {sort}"), more, less, independent)
+    }
+
+    /// The run less the check, against reading the goal and unifying every row of a table that is read.
+    fn against_rows_in_turn<'c>(&'c self, sort: &str, goals: &'c [Vec<u32>]) -> Measure<'c> {
+        let mut hits = Vec::with_capacity(64);
+        let independent = each(goals, move |goal| {
+            hits.clear();
+            in_turn(&self.read.rows, &self.goal(goal), &mut hits);
+            hits.len() as u64
+        });
+        Measure::new(format!("walk to rows in turn, {sort}"), vec![self.run(goals)], vec![self.check()], independent)
+    }
+
+    /// The whole call, against reading table and goal and unifying every row.
+    fn against_rows_in_turn_from_cells<'c>(&'c self, sort: &str, goals: &'c [Vec<u32>]) -> Measure<'c> {
+        let mut hits = Vec::with_capacity(64);
+        let independent = each(goals, move |goal| {
+            hits.clear();
+            let table = read_table(&self.table).expect("a sound table");
+            in_turn(&table.rows, &self.goal(goal), &mut hits);
+            hits.len() as u64
+        });
+        Measure::new(format!("run to rows in turn, {sort}"), vec![self.run(goals)], vec![], independent)
+    }
+
+    fn goal(&self, cells: &[u32]) -> Goal {
+        read_goal(self.read.width, cells).expect("a sound goal")
+    }
+}
+
+fn walked(plan: &Plan, goal: &Goal, hits: &mut Vec<u8>) -> u64 {
+    hits.clear();
+    walk(plan, goal, hits) as u64
+}
+
+/// One line of figures. The exported side: some works, less others that they contain. The independent side: one work.
+pub struct Measure<'c> {
+    pub name: String,
+    pub more: Vec<Work<'c>>,
+    pub less: Vec<Work<'c>>,
+    pub independent: Work<'c>,
+}
+
+impl<'c> Measure<'c> {
+    fn new(name: impl Into<String>, more: Vec<Work<'c>>, less: Vec<Work<'c>>, independent: Work<'c>) -> Measure<'c> {
+        Measure { name: name.into(), more, less, independent }
+    }
+
+    /// The figure for a call of the exported side and of the independent side, from a figure for each work.
+    pub fn figures(&mut self, mut figure: impl FnMut(&mut Work<'c>) -> f64) -> (f64, f64) {
+        let mut for_a_call = |work: &mut Work<'c>| figure(work) / work.calls as f64;
+        let more: f64 = self.more.iter_mut().map(&mut for_a_call).sum();
+        let less: f64 = self.less.iter_mut().map(&mut for_a_call).sum();
+        (more - less, for_a_call(&mut self.independent))
+    }
+}
+
+/// Some calls, made by `work` each time it is called.
+pub struct Work<'c> {
+    pub calls: usize,
+    pub work: Box<dyn FnMut() + 'c>,
+}
+
+fn once<'c>(mut call: impl FnMut() -> u64 + 'c) -> Work<'c> {
+    let work = move || {
+        black_box(call());
+    };
+    Work { calls: 1, work: Box::new(work) }
+}
+
+fn each<'c>(goals: &'c [Vec<u32>], mut call: impl FnMut(&[u32]) -> u64 + 'c) -> Work<'c> {
+    let work = move || {
+        for goal in goals {
+            black_box(call(black_box(goal)));
+        }
+    };
+    Work { calls: goals.len(), work: Box::new(work) }
+}

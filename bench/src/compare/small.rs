@@ -1,0 +1,112 @@
+//! Families that are small enough to be compared whole: every table, goal and plan of a few cells over a few symbols, and every single damage to
+//! some plans.
+
+use super::Comparison;
+use crate::engine::Engine;
+use crate::make::goals;
+use crate::model::least::least;
+use crate::model::plan::grow;
+use crate::model::read::read_table;
+
+const A: u32 = 1 << 30 | 1;
+const B: u32 = 1 << 30 | 2;
+const F1: u32 = 1 << 30 | 1 << 16 | 1;
+const NINE: u32 = 2 << 30 | 9;
+const NONE: u32 = 3 << 30;
+
+impl<E: Engine> Comparison<'_, E> {
+    pub(super) fn small_families(&mut self) {
+        self.short_tables();
+        self.short_goals();
+        self.short_plans();
+        self.damaged_plans();
+    }
+
+    /// Every table of up to seven cells with width and rows 1 or 2; those accepted are built, checked and run.
+    fn short_tables(&mut self) {
+        for header in [[1, 1], [1, 2], [2, 1], [2, 2]] {
+            words(&[0, 1, A, F1, NINE, NONE], 5, &mut |row_cells| {
+                let table = [&header, row_cells].concat();
+                self.read_table(&table);
+                let Ok(read) = read_table(&table) else {
+                    return;
+                };
+                self.search(&read);
+                self.build(&table);
+                let plan = least(&read).write();
+                self.check_plan(&table, &plan);
+                self.run(&table, &plan, &goals::open(read.width), read.rows.len());
+                self.run(&table, &plan, &vec![0; read.width], read.rows.len());
+            });
+        }
+        words(&[0, 1, 2, u32::MAX], 2, &mut |table| self.read_table(table));
+    }
+
+    /// Every goal of up to five cells for a table with repeated names, numbers and variables.
+    fn short_goals(&mut self) {
+        let table = [2, 5, A, F1, 0, 0, 1, F1, A, NINE, F1, 0, A, F1, F1, A, A];
+        let read = read_table(&table).expect("a sound table");
+        let plan = least(&read).write();
+        words(&[0, 1, 2, A, F1, NINE, NONE], 5, &mut |goal| {
+            self.read_goal(&table, goal);
+            self.run(&table, &plan, goal, read.rows.len());
+        });
+    }
+
+    /// Every plan of up to five cells for some small tables.
+    fn short_plans(&mut self) {
+        let tables: [(&[u32], [u32; 6]); 4] = [
+            (&[1, 1, 0], [0, 1, 2, 3, A, NINE]),
+            (&[1, 2, A, A], [0, 1, 2, 3, A, B]),
+            (&[1, 2, A, NINE], [0, 1, 2, A, NINE, NONE]),
+            (&[2, 2, A, B, A, A], [0, 1, 2, A, B, F1]),
+        ];
+        for (table, alphabet) in tables {
+            words(&alphabet, 5, &mut |plan| self.check_plan(table, plan));
+        }
+    }
+
+    /// Some plans cut at every place, and with every cell replaced by each of some others.
+    fn damaged_plans(&mut self) {
+        let tables: [&[u32]; 4] = [
+            &[2, 3, A, B, B, A, A, A],
+            &[1, 3, F1, A, F1, B, A],
+            &[2, 4, 0, A, A, A, A, A, F1, 0, 1],
+            &[3, 4, A, B, NINE, A, B, B, A, NINE, NINE, B, A, NINE],
+        ];
+        for table in tables {
+            let read = read_table(table).expect("a sound table");
+            for last in [false, true] {
+                let plan = grow(&read, |open, rows| if last { open.places(rows) - 1 } else { 0 }).write();
+                for place in 0..plan.len() {
+                    self.check_plan(table, &plan[..place]);
+                    for cell in [0, 1, 2, 3, 4, plan[place].wrapping_add(1), plan[place] ^ 1 << 16, A, B, F1, NINE, NONE, u32::MAX] {
+                        let mut damaged = plan.clone();
+                        damaged[place] = cell;
+                        self.check_plan(table, &damaged);
+                        self.run(table, &damaged, &goals::open(read.width), read.rows.len());
+                    }
+                }
+                for cell in [0, A, u32::MAX] {
+                    self.check_plan(table, &[&plan[..], &[cell]].concat());
+                }
+            }
+        }
+    }
+}
+
+/// Every list of up to so many cells of an alphabet.
+fn words(alphabet: &[u32], most: usize, visit: &mut impl FnMut(&[u32])) {
+    fn longer(alphabet: &[u32], left: usize, word: &mut Vec<u32>, visit: &mut impl FnMut(&[u32])) {
+        visit(word);
+        if left == 0 {
+            return;
+        }
+        for &cell in alphabet {
+            word.push(cell);
+            longer(alphabet, left - 1, word, visit);
+            word.pop();
+        }
+    }
+    longer(alphabet, most, &mut Vec::new(), visit);
+}

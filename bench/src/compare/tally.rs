@@ -1,0 +1,108 @@
+//! What was compared, and what came of it.
+
+use std::collections::BTreeMap;
+use std::fmt;
+
+use crate::model::refusal::NAMES;
+
+#[derive(Clone, Copy, PartialEq, Eq)]
+pub enum Entry {
+    ReadTable,
+    ReadGoal,
+    Row,
+    CheckPlan,
+    BuildPlan,
+    RunPlan,
+}
+
+const ENTRIES: [&str; 6] = ["read_table", "read_goal", "row", "check_plan", "build_plan", "run_plan"];
+
+/// How many differences are shown with their inputs.
+const SHOWN: u64 = 5;
+
+#[derive(Default)]
+pub struct Tally {
+    /// By the number of the refusal, 0 where the entry answered, and by entry.
+    counts: [[u64; 6]; 17],
+    differ: u64,
+    /// Hits and branches tried of all runs that were answered.
+    hits: u64,
+    tried: u64,
+    /// The independent implementation's parts among themselves: compared, and how many differed.
+    own: BTreeMap<&'static str, (u64, u64)>,
+}
+
+impl Tally {
+    /// One call of an exported function: its answer beside the expected one, and whether the lent rooms are the same afterwards.
+    pub fn settle(&mut self, entry: Entry, answer: u64, expected: u64, same_room: bool, inputs: &dyn Fn() -> String) {
+        let number = (expected & 0xff) as usize;
+        self.counts[number][entry as usize] += 1;
+        if number == 0 && entry == Entry::RunPlan {
+            self.hits += expected >> 16 & 0xffff;
+            self.tried += expected >> 32;
+        }
+        if answer != expected || !same_room {
+            self.differ += 1;
+            if self.differ <= SHOWN {
+                let room = if same_room { "" } else { ", another room" };
+                eprintln!("{}: {answer:#x} and not {expected:#x}{room}: {}", ENTRIES[entry as usize], inputs());
+            }
+        }
+    }
+
+    /// One comparison within the independent implementation.
+    pub fn own(&mut self, what: &'static str, same: bool, inputs: &dyn Fn() -> String) {
+        let (compared, differ) = self.own.entry(what).or_default();
+        *compared += 1;
+        if !same {
+            *differ += 1;
+            if *differ <= SHOWN {
+                eprintln!("{what}: {}", inputs());
+            }
+        }
+    }
+
+    pub fn compared(&self) -> u64 {
+        self.counts.iter().flatten().sum()
+    }
+
+    pub fn differ(&self) -> u64 {
+        self.differ
+    }
+
+    /// The refusals that no input met.
+    pub fn never_met(&self) -> Vec<usize> {
+        (1..=16).filter(|&number| self.counts[number].iter().all(|&count| count == 0)).collect()
+    }
+
+    /// Nothing differs, here or within the independent implementation, and every refusal was met.
+    pub fn passed(&self) -> bool {
+        self.differ == 0 && self.own.values().all(|&(_, differ)| differ == 0) && self.never_met().is_empty()
+    }
+}
+
+impl fmt::Display for Tally {
+    fn fmt(&self, f: &mut fmt::Formatter) -> fmt::Result {
+        write!(f, "{:<12}", "")?;
+        for entry in ENTRIES {
+            write!(f, "{entry:>12}")?;
+        }
+        writeln!(f)?;
+        for (number, counts) in self.counts.iter().enumerate() {
+            let name = if number == 0 { "answered".to_string() } else { format!("{number} {}", NAMES[number - 1]) };
+            write!(f, "{name:<12}")?;
+            for count in counts {
+                write!(f, "{count:>12}")?;
+            }
+            writeln!(f)?;
+        }
+        writeln!(f, "hits {} tried {}", self.hits, self.tried)?;
+        for (what, (compared, differ)) in &self.own {
+            writeln!(f, "{what}: {compared}, {differ} differ")?;
+        }
+        for number in self.never_met() {
+            writeln!(f, "refusal {number} {} was never met", NAMES[number - 1])?;
+        }
+        write!(f, "{} compared, {} differ", self.compared(), self.differ)
+    }
+}

@@ -1,0 +1,57 @@
+//! Instructions, as callgrind counts them. `count` does each work once to warm up and once inside `measured`; callgrind, told to count inside
+//! `measured` alone and to write a file after each, gives one file for each; `instructions` reads the files. bench/instructions.sh does it all.
+
+use std::path::Path;
+
+use crate::cases::{Case, KINDS, ROWS};
+
+/// What callgrind counts.
+#[no_mangle]
+#[inline(never)]
+pub fn measured(work: &mut dyn FnMut()) {
+    work();
+}
+
+/// Does every work of every measure, in the order in which `instructions` takes the files.
+pub fn count() {
+    each_case(|_, case| {
+        for mut measure in case.measures() {
+            measure.figures(|work| {
+                (work.work)();
+                measured(&mut *work.work);
+                0.0
+            });
+        }
+    });
+}
+
+/// Prints the instructions of every measure from callgrind's files FOLDER/count.1, count.2, ..
+pub fn instructions(folder: &Path) {
+    let mut files = 0;
+    each_case(|name, case| {
+        println!("\n{name}: {}", case.title());
+        println!("{:<34}{:>12}{:>13}{:>8}", "instructions for a call", "exported", "independent", "ratio");
+        for mut measure in case.measures() {
+            let (exported, independent) = measure.figures(|_| {
+                files += 1;
+                total(&folder.join(format!("count.{files}"))) as f64
+            });
+            println!("{:<34}{exported:>12.0}{independent:>13.0}{:>8.2}", measure.name, exported / independent);
+        }
+    });
+}
+
+fn each_case(mut visit: impl FnMut(&str, &Case)) {
+    for (name, kind) in KINDS {
+        for rows in ROWS {
+            visit(name, &Case::new(kind, rows));
+        }
+    }
+}
+
+/// The number on the line `summary:` of a file of callgrind.
+fn total(file: &Path) -> u64 {
+    let text = std::fs::read_to_string(file).unwrap_or_else(|error| panic!("{}: {error}", file.display()));
+    let line = text.lines().find_map(|line| line.strip_prefix("summary: "));
+    line.and_then(|number| number.trim().parse().ok()).unwrap_or_else(|| panic!("{}: no summary", file.display()))
+}

@@ -1,0 +1,10 @@
+//! An independent implementation of the rule tables, compared with the functions that the library exports and timed beside them.
+
+pub mod cases;
+pub mod compare;
+pub mod count;
+pub mod engine;
+pub mod make;
+pub mod model;
+pub mod random;
+pub mod time;

@@ -1,0 +1,80 @@
+//! The comparison and the benchmark; docs/BENCH.md says how they are made.
+
+use std::io::Read;
+use std::path::Path;
+use std::process::ExitCode;
+
+use dudowiej_bench::compare::{self, listings, ROUNDS, SEED};
+use dudowiej_bench::engine::Exported;
+use dudowiej_bench::model::listing::listing;
+use dudowiej_bench::{count, time};
+
+const USAGE: &str = "usage:
+  compare [ROUNDS [SEED]]   the exported functions against the independent implementation
+  time                      both side by side, in nanoseconds
+  count                     every call that bench/instructions.sh counts, once
+  instructions FOLDER       what callgrind counted
+  list                      the independent listing of the table on standard input";
+
+fn main() -> ExitCode {
+    let words: Vec<String> = std::env::args().skip(1).collect();
+    let words: Vec<&str> = words.iter().map(String::as_str).collect();
+    if cfg!(feature = "stand-in") && words.first() != Some(&"list") {
+        println!("The stand-in: no exported function is called, the harness is tried on the independent ones.");
+    }
+    match words[..] {
+        ["compare"] => compared(ROUNDS, SEED),
+        ["compare", rounds] => number(rounds).map_or_else(usage, |rounds| compared(rounds as usize, SEED)),
+        ["compare", rounds, seed] => match (number(rounds), number(seed)) {
+            (Some(rounds), Some(seed)) => compared(rounds as usize, seed),
+            _ => usage(),
+        },
+        ["time"] => done(time::time),
+        ["count"] => done(count::count),
+        ["instructions", folder] => done(|| count::instructions(Path::new(folder))),
+        ["list"] => done(list),
+        _ => usage(),
+    }
+}
+
+fn done(work: impl FnOnce()) -> ExitCode {
+    work();
+    ExitCode::SUCCESS
+}
+
+fn usage() -> ExitCode {
+    eprintln!("{USAGE}");
+    ExitCode::from(2)
+}
+
+fn number(word: &str) -> Option<u64> {
+    word.parse().ok()
+}
+
+fn compared(rounds: usize, seed: u64) -> ExitCode {
+    println!("seed {seed}, {rounds} rounds");
+    let listings_differ = compared_listings(rounds / 20, seed);
+    let tally = compare::compare(&Exported, rounds, seed);
+    println!("{tally}");
+    if tally.passed() && listings_differ == 0 {
+        ExitCode::SUCCESS
+    } else {
+        ExitCode::FAILURE
+    }
+}
+
+fn compared_listings(count: usize, seed: u64) -> usize {
+    let Some(program) = listings::program() else {
+        println!("target/bin/planlist is not built: no listing is compared");
+        return 0;
+    };
+    let differ = listings::compare(&program, count, seed);
+    println!("listings of planlist: {count}, {differ} differ");
+    differ
+}
+
+fn list() {
+    let mut bytes = Vec::new();
+    std::io::stdin().read_to_end(&mut bytes).expect("standard input can be read");
+    print!("{}", listing(&bytes));
+}

@@ -1,0 +1,86 @@
+//! Random inputs: tables, goals and plans, sound and damaged.
+
+pub mod damage;
+pub mod goals;
+pub mod plans;
+pub mod tables;
+
+use crate::model::term::Term;
+use crate::random::Random;
+
+/// The names and numbers that terms are made of: few, so that rows agree often.
+#[derive(Clone, Copy)]
+struct Alphabet {
+    /// How many names without arguments there are, how many of each other number of arguments, and how many numbers.
+    symbols: usize,
+    /// A leaf is a variable once in so many times; 0: never.
+    variable: usize,
+}
+
+impl Alphabet {
+    /// A term of exactly `size` cells. All its variables are v0; a row or goal is numbered when it is complete.
+    fn term(self, random: &mut Random, size: usize) -> Term {
+        if size == 1 {
+            return self.leaf(random);
+        }
+        let arguments = random.within(1..=4.min(size - 1));
+        Term::Name(100 + random.below(self.symbols) as u16, self.terms(random, arguments, size - 1))
+    }
+
+    /// So many terms, of exactly `size` cells in all.
+    fn terms(self, random: &mut Random, count: usize, size: usize) -> Vec<Term> {
+        let mut sizes = vec![1; count];
+        for _ in count..size {
+            sizes[random.below(count)] += 1;
+        }
+        sizes.into_iter().map(|size| self.term(random, size)).collect()
+    }
+
+    fn leaf(self, random: &mut Random) -> Term {
+        if self.variable > 0 && random.one_in(self.variable) {
+            Term::Var(0)
+        } else if random.one_in(3) {
+            Term::Number(random.below(self.symbols) as u16)
+        } else {
+            Term::Name(random.below(self.symbols) as u16, Vec::new())
+        }
+    }
+}
+
+/// The cells of terms.
+fn size(terms: &[Term]) -> usize {
+    terms.iter().map(Term::size).sum()
+}
+
+/// The subterm of this index, each before its arguments.
+fn subterm<'t>(terms: &'t mut [Term], index: &mut usize) -> Option<&'t mut Term> {
+    for term in terms {
+        if *index == 0 {
+            return Some(term);
+        }
+        *index -= 1;
+        if let Term::Name(_, arguments) = term {
+            if let Some(found) = subterm(arguments, index) {
+                return Some(found);
+            }
+        }
+    }
+    None
+}
+
+/// One of the subterms, all equally often.
+fn any_subterm<'t>(random: &mut Random, terms: &'t mut [Term]) -> &'t mut Term {
+    let mut index = random.below(size(terms));
+    subterm(terms, &mut index).expect("the index is below the number of cells")
+}
+
+/// Every variable, from left to right, replaced by what is given for its number.
+fn each_variable(terms: &mut [Term], replace: &mut impl FnMut(u16) -> Term) {
+    for term in terms {
+        match term {
+            Term::Var(number) => *term = replace(*number),
+            Term::Name(_, arguments) => each_variable(arguments, replace),
+            Term::Number(_) => {}
+        }
+    }
+}

@@ -1,0 +1,87 @@
+//! Goals for a table.
+
+use super::{any_subterm, each_variable, size, Alphabet};
+use crate::model::read::{Table, ROW_CELLS};
+use crate::model::term::Term;
+use crate::random::Random;
+
+const ALPHABET: Alphabet = Alphabet { symbols: 3, variable: 4 };
+
+/// A sound goal of any kind.
+pub fn any(random: &mut Random, table: &Table) -> Vec<u32> {
+    match random.below(8) {
+        0 => open(table.width),
+        1 => cells(vec![Term::Var(0); table.width]),
+        2 => random_terms(random, table.width),
+        3 => mixed(random, table),
+        4 | 5 => instance(random, table),
+        _ => general(random, table),
+    }
+}
+
+/// The goal of distinct variables.
+pub fn open(width: usize) -> Vec<u32> {
+    (0..width as u32).collect()
+}
+
+fn random_terms(random: &mut Random, width: usize) -> Vec<u32> {
+    let size = random.within(width..=ROW_CELLS.min(3 * width));
+    let mut terms = ALPHABET.terms(random, width, size);
+    shared(random, &mut terms);
+    cells(terms)
+}
+
+/// A row's instance: its variables replaced by terms without variables.
+pub fn instance(random: &mut Random, table: &Table) -> Vec<u32> {
+    let mut terms = random.pick(&table.rows).arguments.clone();
+    let ground = Alphabet { symbols: 3, variable: 0 };
+    each_variable(&mut terms, &mut |_| {
+        let size = random.within(1..=3);
+        ground.term(random, size)
+    });
+    cells(terms)
+}
+
+/// A row with some of its subterms replaced by variables, some of them shared.
+pub fn general(random: &mut Random, table: &Table) -> Vec<u32> {
+    let mut terms = random.pick(&table.rows).arguments.clone();
+    for _ in 0..random.within(1..=4) {
+        *any_subterm(random, &mut terms) = Term::Var(0);
+    }
+    shared(random, &mut terms);
+    cells(terms)
+}
+
+/// Arguments of different rows.
+fn mixed(random: &mut Random, table: &Table) -> Vec<u32> {
+    let mut terms: Vec<Term> = (0..table.width).map(|argument| random.pick(&table.rows).arguments[argument].clone()).collect();
+    shared(random, &mut terms);
+    cells(terms)
+}
+
+/// Gives each variable one of few numbers, or of many.
+fn shared(random: &mut Random, terms: &mut [Term]) {
+    let few = *random.pick(&[2, 4, 1000]);
+    each_variable(terms, &mut |_| Term::Var(random.below(few) as u16));
+}
+
+/// The goal's cells: arguments made blank until 32 cells are enough, variables numbered by first appearance.
+fn cells(mut terms: Vec<Term>) -> Vec<u32> {
+    let mut blank = 2000;
+    while size(&terms) > ROW_CELLS {
+        let largest = terms.iter_mut().max_by_key(|term| term.size()).expect("a goal has an argument");
+        *largest = Term::Var(blank);
+        blank += 1;
+    }
+    let mut met = Vec::new();
+    each_variable(&mut terms, &mut |number| {
+        let found = met.iter().position(|&other| other == number).unwrap_or_else(|| {
+            met.push(number);
+            met.len() - 1
+        });
+        Term::Var(found as u16)
+    });
+    let mut cells = Vec::new();
+    terms.iter().for_each(|term| term.write(&mut cells));
+    cells
+}

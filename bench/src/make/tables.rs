@@ -1,0 +1,146 @@
+//! Tables of the kinds that are compared and timed.
+
+use super::{any_subterm, each_variable, size, Alphabet};
+use crate::model::read::ROW_CELLS;
+use crate::model::term::Term;
+use crate::random::Random;
+
+#[derive(Clone, Copy, Debug, PartialEq, Eq)]
+pub enum Kind {
+    /// Urgency, enamel, piece, firing; neighbours often agree.
+    Shop,
+    /// Two columns of nested names.
+    Nested,
+    /// Six columns, three of them mostly blank.
+    Blank,
+    /// So many columns, every row of 32 cells.
+    Full(usize),
+    /// Few short rows over few symbols.
+    Small,
+    /// One column of names nested one in another.
+    Chain,
+}
+
+type Row = Vec<Term>;
+
+/// A table of any kind and any number of rows.
+pub fn any(random: &mut Random) -> Vec<u32> {
+    match random.below(16) {
+        0 => table(random, Kind::Shop, 64),
+        1 => {
+            let width = random.within(1..=8);
+            table(random, Kind::Full(width), 64)
+        }
+        2 | 3 => with_rows(random, Kind::Shop, 64),
+        4 | 5 => with_rows(random, Kind::Nested, 24),
+        6 | 7 => with_rows(random, Kind::Blank, 32),
+        8 => {
+            let width = random.within(1..=8);
+            with_rows(random, Kind::Full(width), 16)
+        }
+        9 => with_rows(random, Kind::Chain, 8),
+        _ => with_rows(random, Kind::Small, 6),
+    }
+}
+
+fn with_rows(random: &mut Random, kind: Kind, most: usize) -> Vec<u32> {
+    let rows = random.within(1..=most);
+    table(random, kind, rows)
+}
+
+/// A table of so many rows.
+pub fn table(random: &mut Random, kind: Kind, rows: usize) -> Vec<u32> {
+    cells(&match kind {
+        Kind::Shop => shop(random, rows),
+        Kind::Nested => varied(random, rows, 2, 8..=20, Alphabet { symbols: 3, variable: 8 }),
+        Kind::Blank => blank(random, rows),
+        Kind::Full(width) => varied(random, rows, width, ROW_CELLS..=ROW_CELLS, Alphabet { symbols: 3, variable: 12 }),
+        Kind::Small => {
+            let width = random.within(1..=3);
+            varied(random, rows, width, width..=6, Alphabet { symbols: 2, variable: 4 })
+        }
+        Kind::Chain => chain(random, rows),
+    })
+}
+
+/// The table of these rows, each row's variables numbered from the left.
+fn cells(rows: &[Row]) -> Vec<u32> {
+    let mut cells = vec![rows[0].len() as u32, rows.len() as u32];
+    for row in rows {
+        let mut row = row.clone();
+        let mut variables = 0..;
+        each_variable(&mut row, &mut |_| Term::Var(variables.next().expect("numbers do not end")));
+        row.iter().for_each(|term| term.write(&mut cells));
+    }
+    cells
+}
+
+fn shop(random: &mut Random, rows: usize) -> Vec<Row> {
+    const URGENCIES: [u16; 5] = [9, 10, 5, 3, 1];
+    let mut enamel = 0;
+    let row = |number: usize| {
+        if random.one_in(3) {
+            enamel = random.below(6) as u16;
+        }
+        let piece = random.below(8) as u16;
+        let piece = match piece {
+            0 | 1 => Term::Name(20 + piece, vec![Term::Name(30 + random.below(3) as u16, vec![])]),
+            _ => Term::Name(20 + piece, vec![]),
+        };
+        let heat = Term::Number(720 + 20 * random.below(5) as u16);
+        let minutes = Term::Number(2 + random.below(3) as u16);
+        let urgency = Term::Number(URGENCIES[number * URGENCIES.len() / rows]);
+        let mut row = vec![urgency, Term::Name(10 + enamel, vec![]), piece, Term::Name(40, vec![heat, minutes])];
+        if random.one_in(8) {
+            row[random.below(3)] = Term::Var(0);
+        }
+        row
+    };
+    (0..rows).map(row).collect()
+}
+
+fn blank(random: &mut Random, rows: usize) -> Vec<Row> {
+    let alphabet = Alphabet { symbols: 3, variable: 20 };
+    let column = |random: &mut Random, column: usize| {
+        if column % 2 == 1 && !random.one_in(4) {
+            Term::Var(0)
+        } else {
+            alphabet.leaf(random)
+        }
+    };
+    (0..rows).map(|_| (0..6).map(|number| column(random, number)).collect()).collect()
+}
+
+/// Rows that often differ from the row above in one subterm, and sometimes in nothing.
+fn varied(random: &mut Random, rows: usize, width: usize, sizes: std::ops::RangeInclusive<usize>, alphabet: Alphabet) -> Vec<Row> {
+    let mut made: Vec<Row> = Vec::new();
+    for _ in 0..rows {
+        let row = match made.last() {
+            Some(above) if !random.one_in(4) => {
+                let mut row = above.clone();
+                if !random.one_in(8) {
+                    let term = any_subterm(random, &mut row);
+                    *term = alphabet.term(random, term.size());
+                }
+                row
+            }
+            _ => {
+                let size = random.within(sizes.clone());
+                alphabet.terms(random, width, size)
+            }
+        };
+        debug_assert!(size(&row) <= ROW_CELLS);
+        made.push(row);
+    }
+    made
+}
+
+fn chain(random: &mut Random, rows: usize) -> Vec<Row> {
+    let alphabet = Alphabet { symbols: 2, variable: 3 };
+    let row = |_| {
+        let nested = if random.one_in(4) { ROW_CELLS - 1 } else { random.below(ROW_CELLS) };
+        let leaf = alphabet.leaf(random);
+        vec![(0..nested).fold(leaf, |term, _| Term::Name(100, vec![term]))]
+    };
+    (0..rows).map(row).collect()
+}

@@ -1,0 +1,135 @@
+//! The reading of tables and goals (01, "Tables and goals").
+
+use super::refusal::{Input, Number, Refusal};
+use super::term::{Symbol, Term};
+
+/// The most cells of a row and of a goal.
+pub const ROW_CELLS: usize = 32;
+/// The most cells of a table.
+pub const TABLE_CELLS: usize = 2050;
+
+pub struct Table {
+    pub width: usize,
+    pub rows: Vec<Row>,
+}
+
+pub struct Row {
+    /// The index of the row's first cell in the table.
+    pub start: usize,
+    /// The number of the row's cells.
+    pub cells: usize,
+    pub variables: usize,
+    pub arguments: Vec<Term>,
+}
+
+pub struct Goal {
+    pub cells: usize,
+    pub variables: usize,
+    pub arguments: Vec<Term>,
+}
+
+/// Reads terms from left to right; one for a table, one for a goal.
+struct Reader<'c> {
+    input: Input,
+    cells: &'c [u32],
+    at: usize,
+    /// Where a row that is not complete is LONG.
+    long_at: usize,
+    /// The variables met so far, in this row or goal.
+    variables: u16,
+}
+
+impl Reader<'_> {
+    fn refusal(&self, number: Number) -> Refusal {
+        Refusal { number, input: self.input, place: self.at }
+    }
+
+    fn terms(&mut self, count: usize) -> Result<Vec<Term>, Refusal> {
+        let mut terms = Vec::with_capacity(count);
+        for _ in 0..count {
+            terms.push(self.term()?);
+        }
+        Ok(terms)
+    }
+
+    fn term(&mut self) -> Result<Term, Refusal> {
+        if self.at == self.long_at {
+            return Err(self.refusal(Number::Long));
+        }
+        let Some(&cell) = self.cells.get(self.at) else {
+            return Err(self.refusal(Number::Short));
+        };
+        match Symbol::of(cell) {
+            None => Err(self.refusal(Number::Cell)),
+            Some(Symbol::Variable(number)) => {
+                self.variable(number)?;
+                self.at += 1;
+                Ok(Term::Var(number))
+            }
+            Some(Symbol::Number(value)) => {
+                self.at += 1;
+                Ok(Term::Number(value))
+            }
+            Some(Symbol::Name { number, arguments }) => {
+                self.at += 1;
+                Ok(Term::Name(number, self.terms(arguments)?))
+            }
+        }
+    }
+
+    /// A variable is the next new one or, in a goal, one met before.
+    fn variable(&mut self, number: u16) -> Result<(), Refusal> {
+        if number > self.variables {
+            return Err(self.refusal(Number::Fresh));
+        }
+        if number == self.variables {
+            self.variables += 1;
+        } else if self.input == Input::Table {
+            return Err(self.refusal(Number::Twice));
+        }
+        Ok(())
+    }
+
+    fn nothing_left(&self) -> Result<(), Refusal> {
+        if self.at < self.cells.len() {
+            return Err(self.refusal(Number::Extra));
+        }
+        Ok(())
+    }
+}
+
+pub fn read_table(cells: &[u32]) -> Result<Table, Refusal> {
+    let refused = |number, place| Err(Refusal { number, input: Input::Table, place });
+    if cells.len() < 2 || cells.len() > TABLE_CELLS {
+        return refused(Number::Length, 0);
+    }
+    if !(1..=8).contains(&cells[0]) {
+        return refused(Number::Width, 0);
+    }
+    if !(1..=64).contains(&cells[1]) {
+        return refused(Number::Count, 1);
+    }
+    let width = cells[0] as usize;
+    let mut rows = Vec::with_capacity(cells[1] as usize);
+    let mut reader = Reader { input: Input::Table, cells, at: 2, long_at: 0, variables: 0 };
+    for _ in 0..cells[1] {
+        let start = reader.at;
+        reader.long_at = start + ROW_CELLS;
+        reader.variables = 0;
+        let arguments = reader.terms(width)?;
+        rows.push(Row { start, cells: reader.at - start, variables: reader.variables as usize, arguments });
+    }
+    reader.nothing_left()?;
+    Ok(Table { width, rows })
+}
+
+/// A goal, read with its table's width.
+pub fn read_goal(width: usize, cells: &[u32]) -> Result<Goal, Refusal> {
+    if cells.is_empty() || cells.len() > ROW_CELLS {
+        return Err(Refusal { number: Number::Length, input: Input::Goal, place: 0 });
+    }
+    let mut reader = Reader { input: Input::Goal, cells, at: 0, long_at: usize::MAX, variables: 0 };
+    let arguments = reader.terms(width)?;
+    reader.nothing_left()?;
+    Ok(Goal { cells: cells.len(), variables: reader.variables as usize, arguments })
+}

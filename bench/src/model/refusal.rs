@@ -1,0 +1,53 @@
+//! What is turned away (01, "What is turned away"), and an entry's answer as one number.
+
+/// 01's numbers 1 to 16.
+#[derive(Clone, Copy, Debug, PartialEq, Eq)]
+pub enum Number {
+    Length = 1,
+    Width,
+    Count,
+    Long,
+    Short,
+    Cell,
+    Fresh,
+    Twice,
+    Extra,
+    Size,
+    Ends,
+    Open,
+    Edges,
+    Label,
+    Rows,
+    Room,
+}
+
+/// 01's names, by number from 1.
+pub const NAMES: [&str; 16] =
+    ["LENGTH", "WIDTH", "COUNT", "LONG", "SHORT", "CELL", "FRESH", "TWICE", "EXTRA", "SIZE", "ENDS", "OPEN", "EDGES", "LABEL", "ROWS", "ROOM"];
+
+/// Which input a refusal concerns.
+#[derive(Clone, Copy, Debug, PartialEq, Eq)]
+pub enum Input {
+    Table = 1,
+    Plan,
+    Goal,
+    Room,
+}
+
+#[derive(Clone, Copy, Debug, PartialEq, Eq)]
+pub struct Refusal {
+    pub number: Number,
+    pub input: Input,
+    pub place: usize,
+}
+
+/// An entry's two values, or its refusal.
+pub type Answer = Result<(usize, usize), Refusal>;
+
+/// The answer as the exported functions give it: number + 2^8 · input + 2^16 · first + 2^32 · second.
+pub fn packed(answer: Answer) -> u64 {
+    match answer {
+        Ok((first, second)) => (first as u64) << 16 | (second as u64) << 32,
+        Err(refusal) => refusal.number as u64 | (refusal.input as u64) << 8 | (refusal.place as u64) << 16,
+    }
+}

@@ -1,0 +1,185 @@
+//! Every example of 01 ("On both sides", "Plans", "Errors that look right"), by each engine: the exported functions, the walk and the definitions.
+
+mod notation;
+
+use dudowiej_bench::engine::{Definition, Engine, Exported, Plain};
+use dudowiej_bench::model::least::{least, least_by_search};
+use dudowiej_bench::model::listing::listing;
+use dudowiej_bench::model::plan::grow;
+use dudowiej_bench::model::read;
+use notation::{goal, name, plan, table};
+
+const LONG: u64 = 4;
+const SHORT: u64 = 5;
+const CELL: u64 = 6;
+const FRESH: u64 = 7;
+const TWICE: u64 = 8;
+const EDGES: u64 = 13;
+
+const TABLE: u64 = 1;
+const PLAN: u64 = 2;
+
+fn engines() -> [&'static dyn Engine; 3] {
+    [&Exported, &Plain, &Definition]
+}
+
+fn refused(number: u64, input: u64, place: u64) -> u64 {
+    number | input << 8 | place << 16
+}
+
+fn answered(first: u64, second: u64) -> u64 {
+    first << 16 | second << 32
+}
+
+/// Builds the plan in a room larger than it is.
+fn built(engine: &dyn Engine, table: &[u32]) -> (Vec<u32>, u64) {
+    let mut room = vec![7; 7000];
+    let answer = engine.build_plan(table, &mut room);
+    let cells = (answer >> 16 & 0xffff) as usize;
+    assert_eq!(answer & 0xffff, 0);
+    assert!(room[cells..].iter().all(|&cell| cell == 7));
+    room.truncate(cells);
+    (room, answer >> 32)
+}
+
+/// The table's least cost and plan.
+fn builds(rows: &str, cost: u64, written: &str) {
+    for engine in engines() {
+        let (cells, least) = built(engine, &table(rows));
+        assert_eq!((least, &cells), (cost, &plan(written)), "{rows}");
+        assert_eq!(engine.check_plan(&table(rows), &cells), answered(cost, 0));
+    }
+}
+
+fn costs(rows: &str, cost: u64) {
+    for engine in engines() {
+        assert_eq!(built(engine, &table(rows)).1, cost, "{rows}");
+    }
+    let read = read::read_table(&table(rows)).unwrap();
+    assert_eq!(least_by_search(&read), least(&read));
+}
+
+/// Runs the least plan on the goal.
+fn runs(rows: &str, asked: &str, hits: &[u8], tried: u64) {
+    for engine in engines() {
+        let cells = built(engine, &table(rows)).0;
+        let mut room = [7; 64];
+        assert_eq!(engine.run_plan(&table(rows), &cells, &goal(asked), &mut room), answered(hits.len() as u64, tried), "{rows} {asked}");
+        assert_eq!(&room[..hits.len()], hits);
+        assert!(room[hits.len()..].iter().all(|&byte| byte == 7));
+    }
+}
+
+fn reads(cells: &[u32], answer: u64) {
+    for engine in engines() {
+        assert_eq!(engine.read_table(cells), answer, "{cells:?}");
+    }
+}
+
+const G_ROWS: &str = "(g,a,1) (g,a,2) (g,a,3) (g,1,b) (g,2,b) (g,3,b)";
+
+#[test]
+fn p1() {
+    builds("(a,b,c) (a,b,d) (a,c,c) (b,a,c)", 9, "0 2 a 0 2 b 0 2 c 1 d 1 c 0 1 c 1 b 0 1 a 0 1 c 1");
+}
+
+#[test]
+fn p2() {
+    let rows = "(a,b) (b,c) (a,d)";
+    costs(rows, 6);
+    for engine in engines() {
+        assert_eq!(built(engine, &table(rows)).0[0], 0);
+    }
+    runs(rows, "(a,v0)", &[0, 2], 5);
+    runs(rows, "(v0,v1)", &[0, 1, 2], 6);
+}
+
+#[test]
+fn p3() {
+    costs(G_ROWS, 11);
+    for engine in engines() {
+        assert_eq!(engine.check_plan(&table(G_ROWS), &plan("0 2")), refused(EDGES, PLAN, 1));
+        let mut split = plan("0 2 g");
+        split.extend(&built(engine, &table(G_ROWS)).0[3..]);
+        assert_eq!(engine.check_plan(&table(G_ROWS), &split), refused(EDGES, PLAN, 1));
+    }
+}
+
+#[test]
+fn p4_p5_p6() {
+    builds("(v0)", 1, "0 1 v0 1");
+    builds("(a) (a)", 1, "0 1 a 2");
+    runs("(a) (a)", "(a)", &[0, 1], 1);
+    builds("(v0) (v0)", 2, "0 2 v0 1 v0 1");
+}
+
+#[test]
+fn p7() {
+    runs("(a,b) (a,a)", "(v0,v0)", &[1], 3);
+}
+
+#[test]
+fn p8() {
+    builds("(f1(a)) (f1(b)) (g)", 4, "0 2 f1 0 2 a 1 b 1 g 1");
+    runs("(f1(a)) (f1(b)) (g)", "(g)", &[2], 2);
+}
+
+#[test]
+fn p9_p10() {
+    reads(&[2, 1, 0, 0], refused(TWICE, TABLE, 3));
+    reads(&[1, 1, 1], refused(FRESH, TABLE, 2));
+    reads(&[2, 1, name('a', 0)], refused(SHORT, TABLE, 3));
+}
+
+#[test]
+fn long_rows() {
+    let nested = |times| {
+        let mut cells = vec![1, 1];
+        cells.extend(std::iter::repeat_n(name('f', 1), times));
+        cells.push(name('a', 0));
+        cells
+    };
+    reads(&nested(31), answered(1, 1));
+    reads(&nested(32), refused(LONG, TABLE, 34));
+}
+
+#[test]
+fn five_arguments() {
+    reads(&[1, 1, name('f', 4) + (1 << 16)], refused(CELL, TABLE, 2));
+}
+
+#[test]
+fn six_rows_cost_13_and_not_14() {
+    let rows = "(a,x,x,x) (a,x,x,x) (a,y,y,y) (b,y,y,y) (b,z,z,z) (b,z,z,z)";
+    costs(rows, 13);
+    // The first place has two runs and leads to 14, the second has three and leads to 13.
+    let read = read::read_table(&table(rows)).unwrap();
+    for (first, runs, cost) in [(0, 2, 14), (1, 3, 13)] {
+        let mut top = true;
+        let plan = grow(&read, |open, rows| {
+            let place = if top { first } else { (0..open.places(rows)).min_by_key(|&p| open.runs(rows, p)).unwrap() };
+            top = false;
+            place
+        });
+        assert_eq!((plan.at(plan.top()).count(), plan.branches.len()), (runs, cost));
+        for engine in engines() {
+            assert_eq!(engine.check_plan(&table(rows), &plan.write()), answered(cost as u64, 0));
+        }
+    }
+}
+
+#[test]
+fn the_listing() {
+    let cells: [u32; 6] = [2, 2, 1073741825, 1073741826, 1073741825, 2147483657];
+    let bytes: Vec<u8> = cells.iter().flat_map(|cell| cell.to_le_bytes()).collect();
+    assert_eq!(listing(&bytes), "rows 2 width 2 edges 3\n0 0 n1/0 0-1\n1 0 n2/0 0-0\n1 0 i9 1-1\n");
+    assert_eq!(listing(&[]), "refused 1 at 0\n");
+    assert_eq!(listing(&[0; 7]), "refused 1 at 0\n");
+    assert_eq!(listing(&[0; 8204]), "refused 1 at 0\n");
+    assert_eq!(listing(&bytes[..12]), "refused 5 at 3\n");
+}
+
+#[test]
+fn the_shop_of_the_samples() {
+    assert_eq!(listing(include_bytes!("../../samples/shop.cells")), include_str!("../../samples/shop.listing"));
+}

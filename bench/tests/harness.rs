@@ -1,0 +1,207 @@
+//! The comparison finds what it should: engines that are wrong in one thing each are found, and one that is right passes.
+
+use dudowiej_bench::compare::compare;
+use dudowiej_bench::engine::{Engine, Plain};
+use dudowiej_bench::model::plan::{check, grow};
+use dudowiej_bench::model::read::read_table;
+
+/// An engine whose entries can be replaced one by one.
+struct Altered {
+    read_table: fn(&[u32]) -> u64,
+    row: fn(&[u32], usize) -> u64,
+    check_plan: fn(&[u32], &[u32]) -> u64,
+    build_plan: fn(&[u32], &mut [u32]) -> u64,
+    run_plan: RunPlan,
+}
+
+type RunPlan = fn(&[u32], &[u32], &[u32], &mut [u8]) -> u64;
+
+const RIGHT: Altered = Altered {
+    read_table: |table| Plain.read_table(table),
+    row: |table, row| Plain.row(table, row),
+    check_plan: |table, plan| Plain.check_plan(table, plan),
+    build_plan: |table, room| Plain.build_plan(table, room),
+    run_plan: |table, plan, goal, room| Plain.run_plan(table, plan, goal, room),
+};
+
+impl Engine for Altered {
+    fn read_table(&self, table: &[u32]) -> u64 {
+        (self.read_table)(table)
+    }
+    fn read_goal(&self, table: &[u32], goal: &[u32]) -> u64 {
+        Plain.read_goal(table, goal)
+    }
+    fn row(&self, table: &[u32], row: usize) -> u64 {
+        (self.row)(table, row)
+    }
+    fn check_plan(&self, table: &[u32], plan: &[u32]) -> u64 {
+        (self.check_plan)(table, plan)
+    }
+    fn build_plan(&self, table: &[u32], room: &mut [u32]) -> u64 {
+        (self.build_plan)(table, room)
+    }
+    fn run_plan(&self, table: &[u32], plan: &[u32], goal: &[u32], room: &mut [u8]) -> u64 {
+        (self.run_plan)(table, plan, goal, room)
+    }
+}
+
+fn found(wrong: Altered) {
+    let tally = compare(&wrong, 200, 1);
+    assert!(tally.differ() > 0);
+    assert!(!tally.passed());
+}
+
+fn answered(answer: u64) -> bool {
+    answer & 0xff == 0
+}
+
+fn hits(answer: u64) -> usize {
+    (answer >> 16 & 0xffff) as usize
+}
+
+#[test]
+fn a_right_one_passes() {
+    let tally = compare(&RIGHT, 2000, 1);
+    assert!(tally.passed(), "{tally}");
+}
+
+#[test]
+fn few_rounds_do_not_meet_every_refusal() {
+    let tally = compare(&RIGHT, 0, 1);
+    assert_eq!(tally.differ(), 0);
+    assert!(!tally.never_met().is_empty() && !tally.passed());
+}
+
+#[test]
+fn refusing_everything() {
+    found(Altered { read_table: |_| 0x101, ..RIGHT });
+    found(Altered { check_plan: |_, _| 0x20a, ..RIGHT });
+}
+
+#[test]
+fn a_row_past_the_last() {
+    found(Altered { row: |table, row| Plain.row(table, row.min(63)), ..RIGHT });
+}
+
+#[test]
+fn a_check_that_accepts_only_the_builders_plan() {
+    found(Altered {
+        check_plan: |table, plan| {
+            let mut room = vec![0; plan.len()];
+            let same = answered(Plain.build_plan(table, &mut room)) && room == plan;
+            let answer = Plain.check_plan(table, plan);
+            if answered(answer) && !same {
+                0x20e
+            } else {
+                answer
+            }
+        },
+        ..RIGHT
+    });
+}
+
+#[test]
+fn the_place_with_the_fewest_runs() {
+    found(Altered {
+        build_plan: |table, room| {
+            let Ok(read) = read_table(table) else {
+                return Plain.build_plan(table, room);
+            };
+            let plan = grow(&read, |open, rows| (0..open.places(rows)).min_by_key(|&place| open.runs(rows, place)).expect("an open place"));
+            let cells = plan.write();
+            if room.len() < cells.len() {
+                return 0x410 | (cells.len() as u64) << 16;
+            }
+            room[..cells.len()].copy_from_slice(&cells);
+            (cells.len() as u64) << 16 | (plan.branches.len() as u64) << 32
+        },
+        ..RIGHT
+    });
+}
+
+#[test]
+fn a_refusal_that_writes() {
+    found(Altered {
+        build_plan: |table, room| {
+            let answer = Plain.build_plan(table, room);
+            if let (false, Some(cell)) = (answered(answer), room.first_mut()) {
+                *cell = 0;
+            }
+            answer
+        },
+        ..RIGHT
+    });
+}
+
+#[test]
+fn a_room_cleared_behind_the_hits() {
+    found(Altered {
+        run_plan: |table, plan, goal, room| {
+            let answer = Plain.run_plan(table, plan, goal, room);
+            if answered(answer) {
+                room[hits(answer)..].fill(0);
+            }
+            answer
+        },
+        ..RIGHT
+    });
+}
+
+#[test]
+fn room_for_the_hits_alone() {
+    found(Altered {
+        run_plan: |table, plan, goal, room| {
+            let mut enough = [0; 64];
+            let answer = Plain.run_plan(table, plan, goal, &mut enough);
+            let count = hits(answer);
+            if answered(answer) && count <= room.len() {
+                room[..count].copy_from_slice(&enough[..count]);
+                return answer;
+            }
+            Plain.run_plan(table, plan, goal, room)
+        },
+        ..RIGHT
+    });
+}
+
+#[test]
+fn one_variable_read_as_two() {
+    found(Altered {
+        run_plan: |table, plan, goal, room| {
+            let mut variables = 0..;
+            let apart: Vec<u32> = goal.iter().map(|&cell| if cell >> 16 == 0 { variables.next().unwrap() } else { cell }).collect();
+            let sound = answered(Plain.read_goal(table, goal));
+            Plain.run_plan(table, plan, if sound { &apart } else { goal }, room)
+        },
+        ..RIGHT
+    });
+}
+
+#[test]
+fn only_the_first_hit() {
+    found(Altered {
+        run_plan: |table, plan, goal, room| {
+            let answer = Plain.run_plan(table, plan, goal, room);
+            if answered(answer) && hits(answer) > 1 {
+                answer & !0xffff_0000 | 1 << 16
+            } else {
+                answer
+            }
+        },
+        ..RIGHT
+    });
+}
+
+#[test]
+fn every_branch_counted_as_tried() {
+    found(Altered {
+        run_plan: |table, plan, goal, room| {
+            let answer = Plain.run_plan(table, plan, goal, room);
+            match read_table(table).ok().and_then(|table| check(&table, plan).ok()) {
+                Some(plan) if answered(answer) => answer & 0xffff_ffff | (plan.branches.len() as u64) << 32,
+                _ => answer,
+            }
+        },
+        ..RIGHT
+    });
+}

@@ -1,0 +1,99 @@
+/* The rule tables as a C library: reading tables and goals, the least plan, the check of any plan, the run of a plan on a goal.
+ *
+ * Link target/staticlib/libexports.a, which `rt staticlib exports` writes (x86-64).
+ *
+ * Every function takes any cells at all, and ends; nobody has to check first. It answers one number, which the inline functions below take apart.
+ * Either it answered, and there are two values, or the input is refused: then there is the refusal's number, the input that it concerns and a place
+ * in it, and nothing was written to the lent room.
+ *
+ * A list is passed as a pointer and a length. The pointer is aligned for its type and not null, even where the length is 0. A lent room shares no
+ * memory with the inputs. The functions keep nothing between calls, and allocate nothing. */
+#ifndef DUDOWIEJ_H
+#define DUDOWIEJ_H
+
+#include <stdbool.h>
+#include <stddef.h>
+#include <stdint.h>
+
+#ifdef __cplusplus
+extern "C" {
+#endif
+
+/* What no table, row, goal or plan exceeds. */
+enum {
+    DUDOWIEJ_COLUMNS = 8,
+    DUDOWIEJ_ROWS = 64,
+    DUDOWIEJ_ROW_CELLS = 32,
+    DUDOWIEJ_GOAL_CELLS = 32,
+    DUDOWIEJ_TABLE_CELLS = 2050,
+    DUDOWIEJ_PLAN_CELLS = 6082
+};
+
+/* Why an input is refused. */
+enum dudowiej_refusal {
+    DUDOWIEJ_REFUSED_LENGTH = 1, /* table under 2 or over 2,050 cells; goal of 0 or over 32: place 0 */
+    DUDOWIEJ_REFUSED_WIDTH = 2,  /* width not 1 to 8: place 0 */
+    DUDOWIEJ_REFUSED_COUNT = 3,  /* row count not 1 to 64: place 1 */
+    DUDOWIEJ_REFUSED_LONG = 4,   /* a row not complete after 32 cells: the next cell */
+    DUDOWIEJ_REFUSED_SHORT = 5,  /* the cells end inside a row or goal, or before a row: number of cells */
+    DUDOWIEJ_REFUSED_CELL = 6,   /* not a cell: that cell */
+    DUDOWIEJ_REFUSED_FRESH = 7,  /* a variable's number above the count of variables so far: that cell */
+    DUDOWIEJ_REFUSED_TWICE = 8,  /* in a row, a variable for the second time: that cell */
+    DUDOWIEJ_REFUSED_EXTRA = 9,  /* cells after the last row, the goal or the plan: the first such */
+    DUDOWIEJ_REFUSED_SIZE = 10,  /* plan over 6,082 cells: place 0 */
+    DUDOWIEJ_REFUSED_ENDS = 11,  /* the plan ends before its tree is complete: number of cells */
+    DUDOWIEJ_REFUSED_OPEN = 12,  /* an index not below the number of open places: that cell */
+    DUDOWIEJ_REFUSED_EDGES = 13, /* a branch count that is not the number of runs: that cell */
+    DUDOWIEJ_REFUSED_LABEL = 14, /* a branch cell that is not the run's symbol: that cell */
+    DUDOWIEJ_REFUSED_ROWS = 15,  /* a leaf cell that is not its number of rows: that cell */
+    DUDOWIEJ_REFUSED_ROOM = 16   /* the lent room is too small: cells or bytes needed */
+};
+
+/* Which input a refusal concerns. */
+enum dudowiej_input { DUDOWIEJ_TABLE = 1, DUDOWIEJ_PLAN = 2, DUDOWIEJ_GOAL = 3, DUDOWIEJ_ROOM = 4 };
+
+/* Reads a table. First: its width. Second: its rows. */
+uint64_t dudowiej_read_table(const uint32_t *table, size_t table_cells);
+
+/* Reads a goal for a table; the table's refusal comes first. First: the goal's cells. Second: its variables. */
+uint64_t dudowiej_read_goal(const uint32_t *table, size_t table_cells, const uint32_t *goal, size_t goal_cells);
+
+/* The row of this number, from 0. First: where its cells start in the table. Second: how many they are. Both are 0 where the table is refused or
+ * has no such row; this function never refuses. */
+uint64_t dudowiej_row(const uint32_t *table, size_t table_cells, size_t row);
+
+/* Checks any plan for a table. First: the plan's branches. Second: 0. */
+uint64_t dudowiej_check_plan(const uint32_t *table, size_t table_cells, const uint32_t *plan, size_t plan_cells);
+
+/* Writes the least plan to the front of the room; the rest of it is untouched. First: the cells written. Second: the plan's branches. A room of
+ * DUDOWIEJ_PLAN_CELLS cells is always large enough. */
+uint64_t dudowiej_build_plan(const uint32_t *table, size_t table_cells, uint32_t *room, size_t room_cells);
+
+/* Runs a plan on a goal and writes the numbers of the rows that unify with it, from the top, to the front of the room; the rest of it is untouched.
+ * The room has a byte for every row of the table. First: the rows written. Second: the branches tried. */
+uint64_t dudowiej_run_plan(const uint32_t *table, size_t table_cells, const uint32_t *plan, size_t plan_cells, const uint32_t *goal,
+                           size_t goal_cells, uint8_t *room, size_t room_bytes);
+
+/* An answer taken apart: number + 2^8 * input + 2^16 * first + 2^32 * second. */
+
+/* The refusal's number (enum dudowiej_refusal), or 0 where there is none. */
+static inline unsigned dudowiej_number(uint64_t answer) { return (unsigned)(answer & 0xff); }
+
+static inline bool dudowiej_refused(uint64_t answer) { return dudowiej_number(answer) != 0; }
+
+/* The input that a refusal concerns (enum dudowiej_input), or 0 where there is none. */
+static inline unsigned dudowiej_input(uint64_t answer) { return (unsigned)(answer >> 8 & 0xff); }
+
+/* A refusal's place. */
+static inline uint32_t dudowiej_place(uint64_t answer) { return (uint32_t)(answer >> 16 & 0xffff); }
+
+/* The two values of an answer that is no refusal. */
+static inline uint32_t dudowiej_first(uint64_t answer) { return (uint32_t)(answer >> 16 & 0xffff); }
+
+static inline uint32_t dudowiej_second(uint64_t answer) { return (uint32_t)(answer >> 32); }
+
+#ifdef __cplusplus
+}
+#endif
+
+#endif

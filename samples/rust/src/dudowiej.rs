@@ -1,0 +1,84 @@
+//! The exported functions as safe ones: slices in, an answer or a refusal out. They take any cells at all.
+
+/// Why an input is refused (include/dudowiej.h): number, input and place.
+#[derive(Debug, Clone, Copy, PartialEq, Eq)]
+pub struct Refusal {
+    pub number: u8,
+    pub input: &'static str,
+    pub place: u16,
+}
+
+extern "C" {
+    fn dudowiej_read_table(table: *const u32, table_cells: usize) -> u64;
+    fn dudowiej_row(table: *const u32, table_cells: usize, row: usize) -> u64;
+    fn dudowiej_check_plan(table: *const u32, table_cells: usize, plan: *const u32, plan_cells: usize) -> u64;
+    fn dudowiej_build_plan(table: *const u32, table_cells: usize, room: *mut u32, room_cells: usize) -> u64;
+    fn dudowiej_run_plan(
+        table: *const u32,
+        table_cells: usize,
+        plan: *const u32,
+        plan_cells: usize,
+        goal: *const u32,
+        goal_cells: usize,
+        room: *mut u8,
+        room_bytes: usize,
+    ) -> u64;
+}
+
+/// number + 2^8 · input + 2^16 · first + 2^32 · second, taken apart.
+fn apart(answer: u64) -> Result<(usize, usize), Refusal> {
+    let first = (answer >> 16) as u16;
+    match answer as u8 {
+        0 => Ok((first as usize, (answer >> 32) as usize)),
+        number => {
+            let input = match answer >> 8 & 0xff {
+                1 => "table",
+                2 => "plan",
+                3 => "goal",
+                _ => "room",
+            };
+            Err(Refusal { number, input, place: first })
+        }
+    }
+}
+
+/// A table's width and rows.
+pub fn read_table(table: &[u32]) -> Result<(usize, usize), Refusal> {
+    apart(unsafe { dudowiej_read_table(table.as_ptr(), table.len()) })
+}
+
+/// A row of a table; empty where there is none.
+pub fn row(table: &[u32], row: usize) -> &[u32] {
+    let (start, cells) = apart(unsafe { dudowiej_row(table.as_ptr(), table.len(), row) }).unwrap_or((0, 0));
+    &table[start..start + cells]
+}
+
+/// The branches of a plan.
+pub fn check_plan(table: &[u32], plan: &[u32]) -> Result<usize, Refusal> {
+    let answer = unsafe { dudowiej_check_plan(table.as_ptr(), table.len(), plan.as_ptr(), plan.len()) };
+    Ok(apart(answer)?.0)
+}
+
+/// The least plan and its branches.
+pub fn build_plan(table: &[u32]) -> Result<(Vec<u32>, usize), Refusal> {
+    let mut plan = vec![0; 6082];
+    let (cells, branches) = build_plan_in(table, &mut plan)?;
+    plan.truncate(cells);
+    Ok((plan, branches))
+}
+
+/// The least plan in a lent room: its cells and its branches.
+pub fn build_plan_in(table: &[u32], room: &mut [u32]) -> Result<(usize, usize), Refusal> {
+    apart(unsafe { dudowiej_build_plan(table.as_ptr(), table.len(), room.as_mut_ptr(), room.len()) })
+}
+
+/// The rows that unify with the goal, from the top, and the branches tried.
+pub fn run_plan(table: &[u32], plan: &[u32], goal: &[u32]) -> Result<(Vec<u8>, usize), Refusal> {
+    let mut rows = vec![0; 64];
+    let answer = unsafe {
+        dudowiej_run_plan(table.as_ptr(), table.len(), plan.as_ptr(), plan.len(), goal.as_ptr(), goal.len(), rows.as_mut_ptr(), rows.len())
+    };
+    let (hits, tried) = apart(answer)?;
+    rows.truncate(hits);
+    Ok((rows, tried))
+}
