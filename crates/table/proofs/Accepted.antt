@@ -13,7 +13,7 @@ use Rattle.table.specs.All.{All}
 use Rattle.table.specs.Refusal.{refused}
 use Rattle.table.specs.Read.{read, when}
 use Rattle.table.specs.Table.{Met, met, Table, table, termsFrom, rowsFrom, tableOf, goalOf, appear, Head, Row, IsTable, IsGoal}
-use Rattle.table.proofs.ReadLaws.{passed, read-one, first, inside, within-bounds}
+use Rattle.table.proofs.ReadLaws.{not-both, passed, read-one, first, inside, within-bounds}
 use Rattle.table.proofs.WholeLaws.{terms-pass, Whole, whole}
 use Rattle.table.proofs.HeadLaws.{passed-head, head-passes, head-below, head-few}
 use Rattle.table.proofs.RowsLaws.{RowsAre, rows-are, are-rows}
@@ -94,7 +94,7 @@ pub goal-is : (w : ℕ) (g : List ℕ) → IsGoal w g → goalOf w g ≡ read (l
 unfolding goalOf
 goal-is w g i =
     let h : termsFrom false g w 0 0 0 ≡ read (met (0 + length g) (length (appear [] g))) =
-    rw append-nil at (terms-pass (i .head .terms) [] false 0 0 0 (λ r. absurd (let z : _≡_ {A = ℕ} 0 1 = cc in omega arith))) ∙ rw (head-passes 0 (i .head)) in
+    rw append-nil at (terms-pass (i .head .terms) [] false 0 0 0 (λ r. not-both r refl)) ∙ rw (head-passes 0 (i .head)) in
     rw (within-bounds (length g) 1 32 (i .some) (i .head .short), h, le-ltb (0 + length g) (length g) (omega arith))
 
 -- 01, "A goal is read with its table: width terms, 1 to 32 cells in all": a goal is accepted exactly when it is one

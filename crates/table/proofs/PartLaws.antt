@@ -15,14 +15,14 @@ use Rattle.table.specs.Table.{Table, tableOf, starts, startsIn, tableSay
 use Rattle.table.proofs.RowsLaws.{length-starts}
 use Rattle.table.proofs.Accepted.{is-table}
 
-start-next : (p : ℕ) (rows : List (List ℕ)) (r : ℕ) → suc r < length rows → getD (starts p rows) (suc r) 0 ≡ getD (starts p rows) r 0 + length (getD rows r [])
+pub start-next : (p : ℕ) (rows : List (List ℕ)) (r : ℕ) → suc r < length rows → getD (starts p rows) (suc r) 0 ≡ getD (starts p rows) r 0 + length (getD rows r [])
 unfolding starts
 start-next p [] r h = absurd (omega arith)
 start-next p (x ∷ []) r h = absurd (omega arith)
 start-next p (x ∷ (y ∷ rows)) zero h = refl
 start-next p (x ∷ (y ∷ rows)) (suc r) h = start-next (p + length x) (y ∷ rows) r (omega arith)
 
-start-last : (p : ℕ) (rows : List (List ℕ)) (r : ℕ) → suc r ≡ length rows → getD (starts p rows) r 0 + length (getD rows r []) ≡ p + length (flatten rows)
+pub start-last : (p : ℕ) (rows : List (List ℕ)) (r : ℕ) → suc r ≡ length rows → getD (starts p rows) r 0 + length (getD rows r []) ≡ p + length (flatten rows)
 unfolding starts flatten
 start-last p [] r h = absurd (omega arith)
 start-last p (x ∷ []) zero h = omega (arith, length-append x [])
@@ -30,7 +30,7 @@ start-last p (x ∷ []) (suc r) h = absurd (omega arith)
 start-last p (x ∷ (y ∷ rows)) zero h = absurd (omega arith)
 start-last p (x ∷ (y ∷ rows)) (suc r) h = omega (arith, start-last (p + length x) (y ∷ rows) r (omega arith), length-append x (flatten (y ∷ rows)))
 
-start-within : (p : ℕ) (rows : List (List ℕ)) (r : ℕ) → r < length rows → getD (starts p rows) r 0 + length (getD rows r []) ≤ p + length (flatten rows)
+pub start-within : (p : ℕ) (rows : List (List ℕ)) (r : ℕ) → r < length rows → getD (starts p rows) r 0 + length (getD rows r []) ≤ p + length (flatten rows)
 unfolding starts flatten
 start-within p [] r h = absurd (omega arith)
 start-within p (x ∷ rows) zero h = omega (arith, length-append x (flatten rows))
@@ -53,10 +53,10 @@ zeros (suc n) (suc i) = zeros n i
 
 -- a start that is noted is a row's, and beyond the rows 0 is noted
 module _ (T : Table) (r : ℕ) where
-  noted : r < length (T .rows) → getD (startsIn (read T)) r 0 ≡ getD (starts 2 (T .rows)) r 0
+  pub noted : r < length (T .rows) → getD (startsIn (read T)) r 0 ≡ getD (starts 2 (T .rows)) r 0
   noted h = List·getD-append (starts 2 (T .rows)) _ 0 r (omega (arith, length-starts 2 (T .rows)))
 
-  none : length (T .rows) ≤ r → getD (startsIn (read T)) r 0 ≡ 0
+  pub none : length (T .rows) ≤ r → getD (startsIn (read T)) r 0 ≡ 0
   none h =
       let l = length-starts 2 (T .rows) in
       let e : length (starts 2 (T .rows)) + (r - length (T .rows)) ≡ r = omega arith in
@@ -99,13 +99,13 @@ module _ (t : List ℕ) {T : Table} (g : tableOf t ≡ read T) (r : ℕ) where
         rw (s, g) (record { start = refl; end = l ∙ sym (rw (noted T r (omega arith)) (start-last 2 (T .rows) r (omega arith))) })
 
   -- the cells of a row are those at its place
-  cells-at : take (length (getD (T .rows) r [])) (drop (getD (startsIn (read T)) r 0) t) ≡ getD (T .rows) r []
+  pub cells-at : take (length (getD (T .rows) r [])) (drop (getD (startsIn (read T)) r 0) t) ≡ getD (T .rows) r []
   cells-at =
       by-cases (decLt r (length (T .rows)))
       (λ (h : r < length (T .rows)). rw (noted T r h) (rw (← all-cells) at (row-at (T .width ∷ (length (T .rows) ∷ [])) (T .rows) r h)))
       (λ h. rw (beyond (omega arith)))
 
-  place-within : getD (startsIn (read T)) r 0 + length (getD (T .rows) r []) ≤ length t
+  pub place-within : getD (startsIn (read T)) r 0 + length (getD (T .rows) r []) ≤ length t
   place-within =
       let l : length t ≡ 2 + length (flatten (T .rows)) = ap length all-cells ∙ omega arith in
       by-cases (decLt r (length (T .rows)))

@@ -1,5 +1,5 @@
 -- Laws of readings: how a refusal and a reading that goes on combine, and what a reading that succeeds says of its tests.
-use mathlib.Core.Path.{_≡_, refl}
+use mathlib.Core.Path.{_≡_, refl, sym}
 use mathlib.Core.Bool.{Bool, true, false, _&&_, _||_}
 use Prim.Native.Nat.{ℕ, _≤_}
 use native.Mathlib.Omega.{arith}
@@ -32,16 +32,19 @@ module _ {A B : Type 0} where
       three-then (eqb (v .kind) 3) (eqb (v .kind) 0 && ltb vars (v .number)) (row && (eqb (v .kind) 0 && ltb (v .number) vars))
       (bad row 6 p) (bad row 7 p) (bad row 8 p) x f
 
--- a refusal is not a value
+-- a refusal is not a value, and a test has one answer
 pub apart : {A B : Type 0} {x : A} {f : Refused} → read x ≡ refuse f → B
 apart e = absurd (let z : _≡_ {A = ℕ} 0 1 = cc in omega arith)
+
+pub not-both : {A : Type 0} {b : Bool} → b ≡ true → b ≡ false → A
+not-both h k = absurd (let z : _≡_ {A = ℕ} 0 1 = cc in omega arith)
 
 pub read-one : {A : Type 0} {x y : A} → read x ≡ read y → x ≡ y
 read-one e = cc
 
 -- what is read has passed its test
 pub passed : {A : Type 0} (b : Bool) (f : Refused) (r : Read A) {x : A} → when b f r ≡ read x → (b ≡ false) × (r ≡ read x)
-passed true f r e = absurd (let z : _≡_ {A = ℕ} 0 1 = cc in omega arith)
+passed true f r e = apart (sym e)
 passed false f r e = (refl, e)
 
 pub passed-tests : {A : Type 0} (row : Bool) (v : Values) (vars p : ℕ) (r : Read A) {x : A} → cellTests row v vars p r ≡ read x → r ≡ read x
@@ -53,14 +56,14 @@ passed-tests row v vars p r e =
 -- and what is read after another reading has that one first
 pub first : {A B : Type 0} (r : Read A) (f : A → Read B) {y : B} → andThen r f ≡ read y → (x : A) × (r ≡ read x) × (f x ≡ read y)
 first (read x) f e = (x, refl, e)
-first (refuse s) f e = absurd (let z : _≡_ {A = ℕ} 0 1 = cc in omega arith)
+first (refuse s) f e = apart (sym e)
 
 -- a number that is not outside its bounds
 pub inside : (n low high : ℕ) → (ltb n low || ltb high n) ≡ false → (low ≤ n) × (n ≤ high)
 inside n low high e = let p = both (ltb n low) (ltb high n) e in (ltb-false n low (p .0), ltb-false high n (p .1))
   where
     both : (a b : Bool) → (a || b) ≡ false → (a ≡ false) × (b ≡ false)
-    both true b h = absurd (let z : _≡_ {A = ℕ} 0 1 = cc in omega arith)
+    both true b h = not-both refl h
     both false b h = (refl, h)
 
 pub within-bounds : (n low high : ℕ) → low ≤ n → n ≤ high → (ltb n low || ltb high n) ≡ false

@@ -52,7 +52,7 @@ whole-row {p = p} o = passed-row (o .front .terms) (omega (arith, o .front .room
 
 before-read : (r : List ℕ) (R : Read (List (List ℕ))) {rows : List (List ℕ)} → before r R ≡ read rows → (rs : List (List ℕ)) × (R ≡ read rs) × (rows ≡ r ∷ rs)
 before-read r (read rs) e = (rs, refl, cc)
-before-read r (refuse f) e = absurd (let z : _≡_ {A = ℕ} 0 1 = cc in omega arith)
+before-read r (refuse f) e = apart (sym e)
 
 pub rows-are : (w n : ℕ) (xs : List ℕ) (p : ℕ) {rows : List (List ℕ)} → rowsFrom w n xs p ≡ read rows → RowsAre w n xs rows
 unfolding rowsFrom flatten

@@ -17,7 +17,7 @@ use Rattle.table.specs.Refusal.{Refused}
 use Rattle.table.specs.Read.{Read, read, refuse, andThen}
 use Rattle.table.specs.Table.{count, appear, upFrom}
 use Rattle.table.specs.Looks.{cellFrom, cellsFrom}
-use Rattle.table.proofs.ReadLaws.{first}
+use Rattle.table.proofs.ReadLaws.{not-both, first}
 use Rattle.table.proofs.LooksLaws as looks
 
 -- every way one cell can come out of the tests
@@ -99,10 +99,7 @@ module _ (c : ℕ) (ys : List ℕ) where
   -- and how often a variable stands there
   count-symbol : (x : ℕ) → isVar c ≡ false → isVar x ≡ true → count x (c ∷ ys) ≡ count x ys
   unfolding count
-  count-symbol x i j = rw (ne-eqb x c (λ e. let z : _≡_ {A = ℕ} 0 1 = differ (sym i ∙ ap isVar (sym e) ∙ j) in omega arith)) (omega arith)
-    where
-      differ : false ≡ true → _≡_ {A = ℕ} 0 1
-      differ q = cc
+  count-symbol x i j = rw (ne-eqb x c (λ e. not-both j (ap isVar e ∙ i))) (omega arith)
 
   count-met : (x n : ℕ) → c ≡ n → count x (down n) + count x (c ∷ ys) ≡ count x (down (suc n)) + count x ys
   unfolding count down
@@ -119,9 +116,6 @@ pub record Sound (row : Bool) (ys : List ℕ) (vars v : ℕ) : Type 0 where
   pub total : v ≡ vars + more
   pub order : appear (down vars) ys ≡ upFrom vars more
   pub once : row ≡ true → (x : ℕ) → isVar x ≡ true → count x (down vars) + count x ys ≤ 1
-
-both-ways : {A : Type 0} {b : Bool} → b ≡ true → b ≡ false → A
-both-ways h k = absurd (let z : _≡_ {A = ℕ} 0 1 = cc in omega arith)
 
 -- the numbers from n on begin with n
 up-first : (n a c : ℕ) {l : List ℕ} → c ∷ l ≡ upFrom n a → (m : ℕ) × (a ≡ suc m) × (c ≡ n) × (l ≡ upFrom (suc n) m)
@@ -160,7 +154,7 @@ module _ {row : Bool} {c : ℕ} {ys : List ℕ} {vars : ℕ} where
     more = s .more;
     total = s .total;
     order = appear-old c ys vars i h ∙ s .order;
-    once = λ q. both-ways q r;
+    once = λ q. not-both q r;
   }
 
   sound-take : {v u : ℕ} → Seen row c vars (read u) → Sound row (c ∷ ys) vars v → Sound row ys u v
@@ -185,7 +179,7 @@ module _ {row : Bool} {c : ℕ} {ys : List ℕ} {vars : ℕ} where
     more = s .more;
     total = s .total;
     order = sym (appear-old c ys vars i h) ∙ s .order;
-    once = λ q. both-ways q r;
+    once = λ q. not-both q r;
   }
 
   -- no cell that is turned away stands in front of sound cells

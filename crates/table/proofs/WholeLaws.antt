@@ -14,7 +14,7 @@ use Rattle.term.specs.Terms.{Terms, none, more}
 use Rattle.table.specs.Read.{read, andThen}
 use Rattle.table.specs.Table.{Met, met, counted, termsFrom}
 use Rattle.table.specs.Looks.{cellFrom, cellsFrom}
-use Rattle.table.proofs.ReadLaws.{then-both, then-assoc, tests-then, passed, passed-tests, apart, read-one, first}
+use Rattle.table.proofs.ReadLaws.{not-both, then-both, then-assoc, tests-then, passed, passed-tests, apart, read-one, first}
 
 -- a row that is not yet full
 not-full : (row : Bool) (used : ℕ) → (row ≡ true → used < 32) → (row && leb 32 used) ≡ false
@@ -23,7 +23,7 @@ not-full false used h = refl
 
 full : (row : Bool) (used : ℕ) → (row && leb 32 used) ≡ false → row ≡ true → used < 32
 full true used h e = leb-false 32 used h
-full false used h e = absurd (let z : _≡_ {A = ℕ} 0 1 = cc in omega arith)
+full false used h e = not-both e refl
 
 -- k terms, whatever follows, are read whole where their cells pass the tests
 pub terms-pass : {k : ℕ} {ys : List ℕ} → Terms k ys → (rest : List ℕ) (row : Bool) (used vars p : ℕ) → (row ≡ true → used + length ys ≤ 32)

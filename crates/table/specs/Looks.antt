@@ -1,5 +1,5 @@
 -- The steps in which the cells of a row or of a goal are looked at: one to find where the terms end (`ends` of term), one to test the cells.
--- proofs/TermsLaws has the law that the two together are `termsFrom`.
+-- That the two together are `termsFrom` is `two-looks` of proofs/LooksLaws.
 use Prim.Native.Nat.{ℕ, suc}
 use mathlib.Core.Bool.{Bool, cond, _&&_}
 use mathlib.Core.List.{List, [], _∷_}

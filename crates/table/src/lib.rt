@@ -76,6 +76,7 @@ fn outside(n: usize, low: usize, high: usize) -> bool
     n < low || high < n
 }
 
+// A cell taken as a plain number.
 fn wide(c: u32) -> usize
     ensures { λ r. ⌜ r ≡ c ⌝ }
 {

@@ -1,5 +1,6 @@
 use mathlib.Core.Path.{sym, _∙_}
 use mathlib.Core.Logic.{⊎-elim}
+use native.Mathlib.Omega.{arith}
 use borrow.Author.Tests.{le-leb, lt-leb}
 use borrow.Author.Needs.{needs}
 use Rattle.table.proofs.terms.not_whole.Statement.{statement}
@@ -9,7 +10,7 @@ refusal-requires : tie.Need-refusal-requires
 refusal-requires c κs = search needs
 
 returns : tie.Need-returns
-returns c = c .refusal .ensures ∙ sym (rw (c .before .before .if1 .taken, le-leb 32 _ (c .before .if2 .taken)))
+returns c = c .refusal .ensures ∙ sym (rw (c .before .before .if1 .taken, le-leb 32 (c .before .before .before .args .used) (omega arith)))
 
 refusal-requires-2 : tie.Need-refusal-requires-2
 refusal-requires-2 c κs = search needs
@@ -17,7 +18,7 @@ refusal-requires-2 c κs = search needs
 returns-2 : tie.Need-returns-2
 returns-2 c =
     c .refusal2 .ensures ∙ ⊎-elim
-    (λ w. sym (rw (w .0 .taken, lt-leb 32 _ (w .1 .left))))
+    (λ w. sym (rw (w .0 .taken, lt-leb 32 (c .before .before .args .used) (omega arith))))
     (λ w. sym (rw (w .left)))
     (c .before .if1 .came)
 
