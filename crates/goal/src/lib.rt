@@ -46,9 +46,36 @@ pub fn reader_at<'a>(cells: &'a [u32], at: usize) -> Reader<'a>
     Reader { cells, at }
 }
 
+// The cell at the reader's place, or that there is none.
+pub fn peek<'a>(r: Reader<'a>) -> Step
+    ensures { λ s. ⌜ s ≡ stepAt (now (r .entry .cells)) (r .entry .at) ⌝ }
+{
+    step_at(r.cells, r.at)
+}
+
 // The place reached.
 pub fn place<'a>(r: Reader<'a>) -> usize
     ensures { λ n. ⌜ n ≡ r .entry .at ⌝ }
 {
     r.at
+}
+
+// How many cells are left from the place on.
+pub fn left<'a>(r: Reader<'a>) -> usize
+    ensures { λ n. ⌜ n ≡ leftFrom (now (r .entry .cells)) (r .entry .at) ⌝ }
+{
+    left_of(r.cells, r.at)
+}
+
+// The same with plain parameters: whoever calls these handles no reader.
+pub fn cell_at(cells: &[u32], at: usize) -> Step
+    ensures { λ r. ⌜ r ≡ stepAt (now (cells .entry)) at ⌝ }
+{
+    peek(reader_at(cells, at))
+}
+
+pub fn cells_left(cells: &[u32], at: usize) -> usize
+    ensures { λ r. ⌜ r ≡ leftFrom (now (cells .entry)) at ⌝ }
+{
+    left(reader_at(cells, at))
 }
