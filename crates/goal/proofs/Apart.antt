@@ -66,44 +66,44 @@ stayed R = (stay-none B yes, tt)
 
 module _ {M : Type 1} (𝓤 : URA M) (H : Heap 𝓤) (A : Atoms 𝓤) (W : Given 𝓤 H A) (R : RattleType) (f : List ℕ → ℕ → R .Denot) where
   -- the contract that the walk cites
-  abbrev Callee : Contract 𝓤
+  abbrev pub Callee : Contract 𝓤
   Callee = tripleOf 𝓤 H A (Plain R .signature) (closing 𝓤 H A (Plain R) (plainly 𝓤 R f))
 
   module _ (κ : Lft) (q : Share) (d : Reader) where
-    abbrev mach : Val
+    abbrev pub mach : Val
     mach = T′.lowered d
 
-    abbrev found : R .Denot
+    abbrev pub found : R .Denot
     found = f (now (d .cells)) (d .at)
 
     abbrev Post : Val → SProp 𝓤
     Post = walkOf 𝓤 H A (Held R) (stayed R) (heldly 𝓤 R f) .post (((κ, tt), (q, tt), tt, (d, tt), (mach ∷ [], tt)), tt)
 
-    abbrev Own : Fml
+    abbrev pub Own : Fml
     Own = B (κ, tt) .own d (mach ∷ [])
 
     -- the reader's type and laws, and its fields' values
-    abbrev D : Declared
+    abbrev pub D : Declared
     D = T.the-type (namedLft 1 0 tt (κ, tt))
 
-    abbrev L : LL.Laws D
+    abbrev pub L : LL.Laws D
     L = T′.the-laws (namedLft 1 0 tt (κ, tt))
 
-    abbrev vd : Values (D .parts)
+    abbrev pub vd : Values (D .parts)
     vd = (d .cells, (d .at, tt))
 
     -- what the callee is passed
-    abbrev passed : Vals (Plain R .signature) (κ, tt)
+    abbrev pub passed : Vals (Plain R .signature) (κ, tt)
     passed = (sliceVal (d .cells .ptr) (length (d .cells .now)) ∷ [], (vint w64 (d .at) ∷ [], tt))
 
-    abbrev to : Callee .Ghost
+    abbrev pub to : Callee .Ghost
     to = (((κ, tt), (q, tt), tt, vd, passed), tt)
 
     asked : ent 𝓤 (onEntry 𝓤 H A (Plain R .signature) (κ, tt) (q, tt) vd passed) (Callee .pre to)
     asked = qed W ((‵ (flft κ q) ⊛ ‵ ftrue) ∷ ‵ (owns (ShrSlice (named 0) κ u32 ∷ usize ∷ []) vd passed) ∷ []) ∵ join ! $ frame ! $ done !
 
     -- what the reader owns gives what the callee asks, and is kept
-    apart : ent 𝓤 (onEntry 𝓤 H A (Held R .signature) (κ, tt) (q, tt) (d, tt) (mach ∷ [], tt)) (sep 𝓤 (Callee .pre to) (sem 𝓤 H A Own))
+    pub apart : ent 𝓤 (onEntry 𝓤 H A (Held R .signature) (κ, tt) (q, tt) (d, tt) (mach ∷ [], tt)) (sep 𝓤 (Callee .pre to) (sem 𝓤 H A Own))
     apart =
         qed W ((‵ (flft κ q) ⊛ ‵ ftrue) ∷ ‵ (owns (B (κ, tt) ∷ []) (d, tt) (mach ∷ [], tt)) ∷ []) ∵
         move ! (1 ∷ []) $ fsplit ! $ move ! (1 ∷ []) $ drop ! $ use1 W (‵ Own ⊛ ‵ Own) (LL.copy D (T′.the-copy (namedLft 1 0 tt (κ, tt))) 𝓤 H A W .twice d (mach ∷ [])) $ split ! $
@@ -112,7 +112,7 @@ module _ {M : Type 1} (𝓤 : URA M) (H : Heap 𝓤) (A : Atoms 𝓤) (W : Given
         move ! (2 ∷ 0 ∷ []) $ use2 W (raw (Callee .pre to)) asked $ frame ! $ done !)
 
     -- of the callee's `ensured`, the clause alone: it has no `&mut`, so what is said of last values is dropped
-    said : (r : R .Denot) → ent 𝓤 (ensured 𝓤 H A (Plain R) (plainly 𝓤 R f) (κ, tt) vd tt r) (fact 𝓤 (r ≡ found))
+    pub said : (r : R .Denot) → ent 𝓤 (ensured 𝓤 H A (Plain R) (plainly 𝓤 R f) (κ, tt) vd tt r) (fact 𝓤 (r ≡ found))
     said r = exE 𝓤 _ (λ ws. snd∗ 𝓤 (sem 𝓤 H A (lasts (Plain R) (κ, tt) vd ws)) (fact 𝓤 (r ≡ found)))
 
     exits : (r : R .Denot) (u : Val) → r ≡ found → ent 𝓤 (⋆ 𝓤 H A (‵ (R .own r (u ∷ [])) ∷ (‵ (flft κ q) ⊛ ‵ ftrue) ∷ ‵ Own ∷ [])) (Post u)

@@ -53,6 +53,14 @@ pub fn peek<'a>(r: Reader<'a>) -> Step
     step_at(r.cells, r.at)
 }
 
+// The reader one cell on; at the end of the cells it stays where it is.
+pub fn taken<'a>(r: Reader<'a>) -> Reader<'a>
+    ensures { λ q. ⌜ (q .cells ≡ r .entry .cells) × (q .at ≡ placeAfter (now (r .entry .cells)) (r .entry .at)) ⌝ }
+{
+    let at = after(r.cells, r.at);
+    Reader { cells: r.cells, at }
+}
+
 // The place reached.
 pub fn place<'a>(r: Reader<'a>) -> usize
     ensures { λ n. ⌜ n ≡ r .entry .at ⌝ }
