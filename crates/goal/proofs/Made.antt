@@ -26,7 +26,6 @@ use denote.Laws.{Is, shows}
 use denote.Plain.{uint-vals, uint-tells, uint-makes}
 use denote.Builtin.{u32, usize}
 use denote.Ref.{RefT, NamedLft, now}
-use denote.Signature.{plain}
 use denote.Slice.{sliceVal, ShrSlice, slice-vals, shr-slice-tells, shr-slice-lawful, shr-slice-copy}
 use denote.Steps.{owned, peeks, heard, nothing}
 use denote.Struct.Laws as LL
@@ -34,14 +33,12 @@ use denote.Triple.Statement.{Contract, Triple}
 use denote.Triple.Call.{calls-at}
 use denote.Triple.Entry.{Args, Vals, onEntry}
 use denote.Triple.Spec.{Meets, tripleOf}
-use denote.Triple.Walked.{says, Stays, stay-none, stay-none-slice, walkOf, goes-none, goes-none-slice, Walks, ends-at, walked, walk-meets}
-use denote.Exit.{yes}
+use denote.Triple.Walked.{says, walkOf, Walks, ends-at, walked, walk-meets}
 use denote.Triple.Clauses.{ensured, lasts, closing}
 use Rattle.goal.specs.declared.Reader.{Reader}
 use Rattle.goal.proofs.Reader as T
 use Rattle.goal.proofs.Reader.Laws as T′
-use Rattle.goal.proofs.Promises.{B, Plain, Held, plainly, heldly, Lands}
-use Rattle.goal.proofs.Apart.{cellsTy}
+use Rattle.goal.proofs.Shared.{B, cellsTy, Plain, Held, plain-stays, plainly, heldly, Lands, plain-go}
 use Rattle.goal.proofs.reader_at as reader-at
 use Rattle.goal.proofs.reader_at.Symbol.{name as #goal·reader-at}
 
@@ -56,9 +53,6 @@ making τ callee = record {
       (seq (call callee (copy (place 3 []) ∷ []) (place 0 []))
       return);
 }
-
-abbrev stayed : (R : RattleType) → Stays (Plain R .signature .params) (Plain R .kept)
-stayed R = (stay-none-slice (0 ∷ []) tt (plain (λ _. u32)) yes, (stay-none (λ _. usize) yes, tt))
 
 module _ {M : Type 1} (𝓤 : URA M) (H : Heap 𝓤) (A : Atoms 𝓤) (W : Given 𝓤 H A) (mem : Memory → SProp 𝓤) (run : Routine → Fun 𝓤) (R : RattleType) (f : List ℕ → ℕ → R .Denot) where
   -- the contracts that the walk cites
@@ -87,7 +81,7 @@ module _ {M : Type 1} (𝓤 : URA M) (H : Heap 𝓤) (A : Atoms 𝓤) (W : Given
     αᵉ = record { mir = erased; lft = κ }
 
     abbrev Post : Val → SProp 𝓤
-    Post = walkOf 𝓤 H A (Plain R) (stayed R) (plainly 𝓤 R f) .post (((κ, tt), (q, tt), tt, given, passed), tt)
+    Post = walkOf 𝓤 H A (Plain R) plain-stays (plainly 𝓤 R f) .post (((κ, tt), (q, tt), tt, given, passed), tt)
 
     abbrev Own : Fml
     Own = ShrSlice (named 0) κ u32 .own s (v ∷ [])
@@ -128,7 +122,7 @@ module _ {M : Type 1} (𝓤 : URA M) (H : Heap 𝓤) (A : Atoms 𝓤) (W : Given
     exits : (t : R .Denot) (u : Val) → t ≡ found → ent 𝓤 (⋆ 𝓤 H A (‵ (R .own t (u ∷ [])) ∷ (‵ (flft κ q) ⊛ ‵ ftrue) ∷ ‵ Own ∷ [])) (Post u)
     exits t u e =
         qed W (‵ (R .own t (u ∷ [])) ∷ (‵ (flft κ q) ⊛ ‵ ftrue) ∷ ‵ Own ∷ []) ∵
-        suffices ! _ (ends-at 𝓤 H A (Plain R) (stayed R) (plainly 𝓤 R f) W (((κ, tt), (q, tt), tt, given, passed), tt) u t (tt, (tt, tt)) (tt, (tt, tt))) $ says ! e $
+        suffices ! _ (ends-at 𝓤 H A (Plain R) plain-stays (plainly 𝓤 R f) W (((κ, tt), (q, tt), tt, given, passed), tt) u t (tt, (tt, tt)) (tt, (tt, tt))) $ says ! e $
         -- [the result; what s owns], once the token is handed back: the facts of n are made anew
         move ! (1 ∷ []) $ frame ! $ nothing ! $ owned ! usize (Is usize) (uint-makes 𝓤 H A W w64) n _ (refl, ok) $ fjoin ! $ move ! (2 ∷ 0 ∷ []) $ fjoin ! $ frame ! $ done !
 
@@ -155,12 +149,12 @@ module _ {M : Type 1} (𝓤 : URA M) (H : Heap 𝓤) (A : Atoms 𝓤) (W : Given
           move ! (9 ∷ 10 ∷ []) $ free1 ! $ move ! (7 ∷ 8 ∷ []) $ free1 ! $ move ! (5 ∷ 6 ∷ []) $ free1 ! $ move ! (3 ∷ 4 ∷ []) $ free1 ! $ free0 ! $ by ! (exits t u′ (answers r t made e))))))))))))))
 
   module _ (τ : Ty) (callee : Name) (typed : Lands R τ) where
-    walks : (C : Calls 𝓤 H) (Λ : Loops 𝓤 H) → FmC 𝓤 H (W .laws) C → Triple 𝓤 (C #goal·reader-at) Maker → Triple 𝓤 (C callee) Callee → Walks 𝓤 H A (Plain R) (stayed R) (WpFn 𝓤 H C Λ (making τ callee)) (plainly 𝓤 R f)
+    walks : (C : Calls 𝓤 H) (Λ : Loops 𝓤 H) → FmC 𝓤 H (W .laws) C → Triple 𝓤 (C #goal·reader-at) Maker → Triple 𝓤 (C callee) Callee → Walks 𝓤 H A (Plain R) plain-stays (WpFn 𝓤 H C Λ (making τ callee)) (plainly 𝓤 R f)
     walks C Λ fm known-maker known-callee =
-        walked 𝓤 H A (Plain R) (stayed R) (plainly 𝓤 R f) (WpFn 𝓤 H C Λ (making τ callee)) (λ κs. (slice-vals, (uint-vals w64, tt))) (λ κs. (shr-slice-tells (named 0) (κs .0) u32, (uint-tells w64, tt)))
+        walked 𝓤 H A (Plain R) plain-stays (plainly 𝓤 R f) (WpFn 𝓤 H C Λ (making τ callee)) (λ κs. (slice-vals, (uint-vals w64, tt))) (λ κs. (shr-slice-tells (named 0) (κs .0) u32, (uint-tells w64, tt)))
         (λ κs qs bounds a g are. via 𝓤 _ (fst∗ 𝓤 _ (emp 𝓤)) (walk (κs .0) (qs .0) (a .0) (a .1 .0) (are .1 .0 .1) τ callee typed C Λ fm known-maker known-callee (are .0)))
 
     pub made-meets : (𝓣 : Tables 𝓤 H) → Triple 𝓤 (𝓣 .C #goal·reader-at) Maker → Triple 𝓤 (𝓣 .C callee) Callee → Meets 𝓤 H A (Plain R .signature) (WpFn 𝓤 H (𝓣 .C) (𝓣 .Λ) (making τ callee)) (closing 𝓤 H A (Plain R) (plainly 𝓤 R f))
     made-meets 𝓣 known-maker known-callee =
-        walk-meets 𝓤 H A (Plain R) (stayed R) W (goes-none-slice 𝓤 H A W 1 (0 ∷ []) tt (plain (λ _. u32)) yes, (goes-none 𝓤 H A W 1 (λ _. usize) yes (λ κs x l. refl), tt)) (plainly 𝓤 R f) (WpFn 𝓤 H (𝓣 .C) (𝓣 .Λ) (making τ callee)) (WpFn-mono 𝓤 H (W .laws) 𝓣 (making τ callee))
+        walk-meets 𝓤 H A (Plain R) plain-stays W (plain-go 𝓤 H A W) (plainly 𝓤 R f) (WpFn 𝓤 H (𝓣 .C) (𝓣 .Λ) (making τ callee)) (WpFn-mono 𝓤 H (W .laws) 𝓣 (making τ callee))
         (walks (𝓣 .C) (𝓣 .Λ) (fmOf 𝓤 H (W .laws) 𝓣) known-maker known-callee)

@@ -5,7 +5,7 @@ use denote.Triple.Table.{entered, cited}
 use Rattle.goal.specs.Read.{stepAt}
 use Rattle.goal.proofs.Step as S
 use Rattle.goal.proofs.Step.Laws as S′
-use Rattle.goal.proofs.Promises.{step-lands}
+use Rattle.goal.proofs.Shared.{step-lands}
 use Rattle.goal.proofs.Made.{made-meets}
 use Rattle.goal.proofs.reader_at as reader-at
 use Rattle.goal.proofs.reader_at.Symbol as reader-at-def

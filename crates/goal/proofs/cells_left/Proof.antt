@@ -5,7 +5,7 @@ use denote.Builtin.{usize}
 use denote.Triple.Spec.{tripleOf}
 use denote.Triple.Table.{entered, cited}
 use Rattle.goal.specs.Read.{leftFrom}
-use Rattle.goal.proofs.Promises.{number-lands}
+use Rattle.goal.proofs.Shared.{number-lands}
 use Rattle.goal.proofs.Made.{made-meets}
 use Rattle.goal.proofs.reader_at as reader-at
 use Rattle.goal.proofs.reader_at.Symbol as reader-at-def

@@ -5,7 +5,7 @@ use denote.Builtin.{usize}
 use denote.Triple.Spec.{tripleOf}
 use denote.Triple.Table.{entered, cited}
 use Rattle.goal.specs.Read.{leftFrom}
-use Rattle.goal.proofs.Promises.{number-lands}
+use Rattle.goal.proofs.Shared.{number-lands}
 use Rattle.goal.proofs.Apart.{apart-meets}
 use Rattle.goal.proofs.left_of as left-of
 use Rattle.goal.proofs.left_of.Symbol as left-of-def

@@ -34,14 +34,12 @@ use denote.Triple.Call.{calls-at}
 use denote.Triple.Entry.{onEntry}
 use denote.Triple.Spec.{Meets, tripleOf}
 use denote.Triple.Table.{entered, cited}
-use denote.Triple.Walked.{says, Stays, stay-none, walkOf, goes-none, Walks, ends-at, walked, walk-meets}
-use denote.Exit.{yes}
+use denote.Triple.Walked.{says, walkOf, Walks, ends-at, walked, walk-meets}
 use denote.Triple.Clauses.{ensured}
 use Rattle.goal.specs.Read.{placeAfter}
 use Rattle.goal.specs.declared.Reader.{Reader}
-use Rattle.goal.proofs.Reader as T
 use Rattle.goal.proofs.Reader.Laws as T′
-use Rattle.goal.proofs.Promises.{B, Plain, plainly, number-lands}
+use Rattle.goal.proofs.Shared.{B, D, L, Plain, held-stays, plainly, held-go, number-lands}
 use Rattle.goal.proofs.Apart as apart
 use Rattle.goal.proofs.after as after
 use Rattle.goal.proofs.after.Symbol as after-def
@@ -51,9 +49,6 @@ use Rattle.goal.proofs.taken.Key.{name as #goal·taken}
 use Rattle.goal.proofs.taken as taken
 use Rattle.goal.proofs.taken.Statement as stated
 use Rattle.goal.proofs.taken.Code as code
-
-abbrev stayed : Stays (taken.ended .signature .params) (taken.ended .kept)
-stayed = (stay-none B yes, tt)
 
 module _ {M : Type 1} (𝓤 : URA M) (H : Heap 𝓤) (A : Atoms 𝓤) (W : Given 𝓤 H A) (mem : Memory → SProp 𝓤) (run : Routine → Fun 𝓤) where
   -- the contract that the proof cites
@@ -68,7 +63,7 @@ module _ {M : Type 1} (𝓤 : URA M) (H : Heap 𝓤) (A : Atoms 𝓤) (W : Given
     next n = record { cells = d .cells; at = n }
 
     abbrev Post : Val → SProp 𝓤
-    Post = walkOf 𝓤 H A taken.ended stayed (taken.clauses 𝓤 H A mem run) .post (((κ, tt), (q, tt), tt, (d, tt), (mach ∷ [], tt)), tt)
+    Post = walkOf 𝓤 H A taken.ended held-stays (taken.clauses 𝓤 H A mem run) .post (((κ, tt), (q, tt), tt, (d, tt), (mach ∷ [], tt)), tt)
 
     abbrev Own : Fml
     Own = B (κ, tt) .own d (mach ∷ [])
@@ -83,11 +78,11 @@ module _ {M : Type 1} (𝓤 : URA M) (H : Heap 𝓤) (A : Atoms 𝓤) (W : Given
     exits : (n : ℕ) → n ≡ found → n < 2 ^ 64 → ent 𝓤 (⋆ 𝓤 H A ((‵ (flft κ q) ⊛ ‵ ftrue) ∷ ‵ Own ∷ [])) (Post (T′.lowered (next n)))
     exits n e ok =
         qed W ((‵ (flft κ q) ⊛ ‵ ftrue) ∷ ‵ Own ∷ []) ∵
-        suffices ! _ (ends-at 𝓤 H A taken.ended stayed (taken.clauses 𝓤 H A mem run) W (((κ, tt), (q, tt), tt, (d, tt), (mach ∷ [], tt)), tt) (T′.lowered (next n)) (next n) (tt, tt) (tt, tt)) $ says ! (refl, e) $
-        frame ! $ use1 W (‵ Own ⊛ ‵ Own) (LL.copy (T.the-type (namedLft 1 0 tt (κ, tt))) (T′.the-copy (namedLft 1 0 tt (κ, tt))) 𝓤 H A W .twice d (mach ∷ [])) $ split ! $
+        suffices ! _ (ends-at 𝓤 H A taken.ended held-stays (taken.clauses 𝓤 H A mem run) W (((κ, tt), (q, tt), tt, (d, tt), (mach ∷ [], tt)), tt) (T′.lowered (next n)) (next n) (tt, tt) (tt, tt)) $ says ! (refl, e) $
+        frame ! $ use1 W (‵ Own ⊛ ‵ Own) (LL.copy (D (κ, tt)) (T′.the-copy (namedLft 1 0 tt (κ, tt))) 𝓤 H A W .twice d (mach ∷ [])) $ split ! $
         nothing ! $ move ! (1 ∷ 0 ∷ []) $ fjoin ! $ frame ! $
         -- [what the reader owns]: the new place's facts take the place of the old one's
-        owned ! usize (Is usize) (uint-makes 𝓤 H A W w64) n _ (refl, ok) $ move ! (1 ∷ 0 ∷ []) $ by ! (own-put 𝓤 H A W (T.the-type (namedLft 1 0 tt (κ, tt))) (T′.the-laws (namedLft 1 0 tt (κ, tt))) 1 (d .cells, (d .at, tt)) n mach)
+        owned ! usize (Is usize) (uint-makes 𝓤 H A W w64) n _ (refl, ok) $ move ! (1 ∷ 0 ∷ []) $ by ! (own-put 𝓤 H A W (D (κ, tt)) (L (κ, tt)) 1 (d .cells, (d .at, tt)) n mach)
 
     module _ (C : Calls 𝓤 H) (Λ : Loops 𝓤 H) (fm : FmC 𝓤 H (W .laws) C) (known : Triple 𝓤 (C #goal·after) After) where
       walk : Holds (hasTy (T′.mir (named 0)) mach) × WT mach → ent 𝓤 (onEntry 𝓤 H A taken.signature (κ, tt) (q, tt) (d, tt) (mach ∷ [], tt)) (WpFn 𝓤 H C Λ code.function (mach ∷ []) Post)
@@ -109,14 +104,14 @@ module _ {M : Type 1} (𝓤 : URA M) (H : Heap 𝓤) (A : Atoms 𝓤) (W : Given
           move ! (13 ∷ 14 ∷ []) $ free1 ! $ move ! (11 ∷ 12 ∷ []) $ free1 ! $ move ! (9 ∷ 10 ∷ []) $ free1 ! $ move ! (7 ∷ 8 ∷ []) $ free1 ! $ move ! (5 ∷ 6 ∷ []) $ free1 ! $ move ! (3 ∷ 4 ∷ []) $ free1 ! $ free0 ! $
           keep ! (1 ∷ 2 ∷ []) $ by ! (exits n e (is .1))))))))))))
 
-  taken-walks : (C : Calls 𝓤 H) (Λ : Loops 𝓤 H) → FmC 𝓤 H (W .laws) C → Triple 𝓤 (C #goal·after) After → Walks 𝓤 H A taken.ended stayed (WpFn 𝓤 H C Λ code.function) (taken.clauses 𝓤 H A mem run)
+  taken-walks : (C : Calls 𝓤 H) (Λ : Loops 𝓤 H) → FmC 𝓤 H (W .laws) C → Triple 𝓤 (C #goal·after) After → Walks 𝓤 H A taken.ended held-stays (WpFn 𝓤 H C Λ code.function) (taken.clauses 𝓤 H A mem run)
   taken-walks C Λ fm known =
-      walked 𝓤 H A taken.ended stayed (taken.clauses 𝓤 H A mem run) (WpFn 𝓤 H C Λ code.function) (λ κs. (LL.vals (T.the-type (namedLft 1 0 tt κs)) (T′.the-laws (namedLft 1 0 tt κs)), tt)) (λ κs. (LL.tells (T.the-type (namedLft 1 0 tt κs)) (T′.the-laws (namedLft 1 0 tt κs)), tt))
-      (λ κs qs bounds a g are. via 𝓤 _ (fst∗ 𝓤 _ (emp 𝓤)) (walk (κs .0) (qs .0) (a .0) C Λ fm known (LL.lawful (T.the-type (namedLft 1 0 tt κs)) (T′.the-laws (namedLft 1 0 tt κs)) 𝓤 H A W .typed (a .0) _ (are .0) .0)))
+      walked 𝓤 H A taken.ended held-stays (taken.clauses 𝓤 H A mem run) (WpFn 𝓤 H C Λ code.function) (λ κs. (LL.vals (D κs) (L κs), tt)) (λ κs. (LL.tells (D κs) (L κs), tt))
+      (λ κs qs bounds a g are. via 𝓤 _ (fst∗ 𝓤 _ (emp 𝓤)) (walk (κs .0) (qs .0) (a .0) C Λ fm known (LL.lawful (D κs) (L κs) 𝓤 H A W .typed (a .0) _ (are .0) .0)))
 
   taken-meets : (𝓣 : Tables 𝓤 H) → Triple 𝓤 (𝓣 .C #goal·after) After → Meets 𝓤 H A taken.signature (WpFn 𝓤 H (𝓣 .C) (𝓣 .Λ) code.function) (taken.spec 𝓤 H A mem run)
   taken-meets 𝓣 known =
-      walk-meets 𝓤 H A taken.ended stayed W (goes-none 𝓤 H A W 1 B yes (λ κs x f. refl), tt) (taken.clauses 𝓤 H A mem run) (WpFn 𝓤 H (𝓣 .C) (𝓣 .Λ) code.function) (WpFn-mono 𝓤 H (W .laws) 𝓣 code.function)
+      walk-meets 𝓤 H A taken.ended held-stays W (held-go 𝓤 H A W) (taken.clauses 𝓤 H A mem run) (WpFn 𝓤 H (𝓣 .C) (𝓣 .Λ) code.function) (WpFn-mono 𝓤 H (W .laws) 𝓣 code.function)
       (taken-walks (𝓣 .C) (𝓣 .Λ) (fmOf 𝓤 H (W .laws) 𝓣) known)
 
 pub taken-spec : {M : Type 1} → stated.statement M
