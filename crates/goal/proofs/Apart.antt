@@ -35,11 +35,12 @@ use denote.Triple.Statement.{Contract, Triple}
 use denote.Triple.Call.{calls-at}
 use denote.Triple.Entry.{Vals, onEntry}
 use denote.Triple.Spec.{Meets, tripleOf}
+use denote.Triple.Weaken.{weaken}
 use denote.Triple.Walked.{says, walkOf, Walks, ends-at, walked, walk-meets}
 use denote.Triple.Clauses.{ensured, lasts, closing}
 use Rattle.goal.specs.declared.Reader.{Reader}
 use Rattle.goal.proofs.Reader.Laws as T′
-use Rattle.goal.proofs.Shared.{B, D, L, cellsTy, Plain, Held, held-stays, plainly, heldly, Lands, held-go}
+use Rattle.goal.proofs.Shared.{B, D, L, cellsTy, Plain, Held, held-stays, plainly, heldly, Ensures, ensuring, Gives, Lands, held-go}
 
 abbrev pub taking-apart : Ty → Name → Fn
 taking-apart τ callee = record {
@@ -128,7 +129,9 @@ module _ {M : Type 1} (𝓤 : URA M) (H : Heap 𝓤) (A : Atoms 𝓤) (W : Given
         walked 𝓤 H A (Held R) held-stays (heldly 𝓤 R f) (WpFn 𝓤 H C Λ (taking-apart τ callee)) (λ κs. (LL.vals (D κs) (L κs), tt)) (λ κs. (LL.tells (D κs) (L κs), tt))
         (λ κs qs bounds a g are. via 𝓤 _ (fst∗ 𝓤 _ (emp 𝓤)) (walk (κs .0) (qs .0) (a .0) τ callee typed C Λ fm known (LL.lawful (D κs) (L κs) 𝓤 H A W .typed (a .0) _ (are .0) .0)))
 
-    pub apart-meets : (𝓣 : Tables 𝓤 H) → Triple 𝓤 (𝓣 .C callee) Callee → Meets 𝓤 H A (Held R .signature) (WpFn 𝓤 H (𝓣 .C) (𝓣 .Λ) (taking-apart τ callee)) (closing 𝓤 H A (Held R) (heldly 𝓤 R f))
-    apart-meets 𝓣 known =
-        walk-meets 𝓤 H A (Held R) held-stays W (held-go 𝓤 H A W) (heldly 𝓤 R f) (WpFn 𝓤 H (𝓣 .C) (𝓣 .Λ) (taking-apart τ callee)) (WpFn-mono 𝓤 H (W .laws) 𝓣 (taking-apart τ callee))
-        (walks (𝓣 .C) (𝓣 .Λ) (fmOf 𝓤 H (W .laws) 𝓣) known)
+    pub apart-meets : (E : Ensures 𝓤 (Held R) (heldly 𝓤 R f)) → Gives 𝓤 (Held R) (heldly 𝓤 R f) E → (𝓣 : Tables 𝓤 H) → Triple 𝓤 (𝓣 .C callee) Callee
+        → Meets 𝓤 H A (Held R .signature) (WpFn 𝓤 H (𝓣 .C) (𝓣 .Λ) (taking-apart τ callee)) (closing 𝓤 H A (Held R) (ensuring 𝓤 (Held R) (heldly 𝓤 R f) E))
+    apart-meets E gives 𝓣 known =
+        weaken 𝓤 H A (Held R) W (heldly 𝓤 R f) E gives (WpFn 𝓤 H (𝓣 .C) (𝓣 .Λ) (taking-apart τ callee)) (WpFn-mono 𝓤 H (W .laws) 𝓣 (taking-apart τ callee))
+        (walk-meets 𝓤 H A (Held R) held-stays W (held-go 𝓤 H A W) (heldly 𝓤 R f) (WpFn 𝓤 H (𝓣 .C) (𝓣 .Λ) (taking-apart τ callee)) (WpFn-mono 𝓤 H (W .laws) 𝓣 (taking-apart τ callee))
+        (walks (𝓣 .C) (𝓣 .Λ) (fmOf 𝓤 H (W .laws) 𝓣) known))

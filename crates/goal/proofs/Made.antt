@@ -33,12 +33,13 @@ use denote.Triple.Statement.{Contract, Triple}
 use denote.Triple.Call.{calls-at}
 use denote.Triple.Entry.{Args, Vals, onEntry}
 use denote.Triple.Spec.{Meets, tripleOf}
+use denote.Triple.Weaken.{weaken}
 use denote.Triple.Walked.{says, walkOf, Walks, ends-at, walked, walk-meets}
 use denote.Triple.Clauses.{ensured, lasts, closing}
 use Rattle.goal.specs.declared.Reader.{Reader}
 use Rattle.goal.proofs.Reader as T
 use Rattle.goal.proofs.Reader.Laws as T′
-use Rattle.goal.proofs.Shared.{B, cellsTy, Plain, Held, plain-stays, plainly, heldly, Lands, plain-go}
+use Rattle.goal.proofs.Shared.{B, cellsTy, Plain, Held, plain-stays, plainly, heldly, Ensures, ensuring, Gives, Lands, plain-go}
 use Rattle.goal.proofs.reader_at as reader-at
 use Rattle.goal.proofs.reader_at.Symbol.{name as #goal·reader-at}
 
@@ -154,7 +155,9 @@ module _ {M : Type 1} (𝓤 : URA M) (H : Heap 𝓤) (A : Atoms 𝓤) (W : Given
         walked 𝓤 H A (Plain R) plain-stays (plainly 𝓤 R f) (WpFn 𝓤 H C Λ (making τ callee)) (λ κs. (slice-vals, (uint-vals w64, tt))) (λ κs. (shr-slice-tells (named 0) (κs .0) u32, (uint-tells w64, tt)))
         (λ κs qs bounds a g are. via 𝓤 _ (fst∗ 𝓤 _ (emp 𝓤)) (walk (κs .0) (qs .0) (a .0) (a .1 .0) (are .1 .0 .1) τ callee typed C Λ fm known-maker known-callee (are .0)))
 
-    pub made-meets : (𝓣 : Tables 𝓤 H) → Triple 𝓤 (𝓣 .C #goal·reader-at) Maker → Triple 𝓤 (𝓣 .C callee) Callee → Meets 𝓤 H A (Plain R .signature) (WpFn 𝓤 H (𝓣 .C) (𝓣 .Λ) (making τ callee)) (closing 𝓤 H A (Plain R) (plainly 𝓤 R f))
-    made-meets 𝓣 known-maker known-callee =
-        walk-meets 𝓤 H A (Plain R) plain-stays W (plain-go 𝓤 H A W) (plainly 𝓤 R f) (WpFn 𝓤 H (𝓣 .C) (𝓣 .Λ) (making τ callee)) (WpFn-mono 𝓤 H (W .laws) 𝓣 (making τ callee))
-        (walks (𝓣 .C) (𝓣 .Λ) (fmOf 𝓤 H (W .laws) 𝓣) known-maker known-callee)
+    pub made-meets : (E : Ensures 𝓤 (Plain R) (plainly 𝓤 R f)) → Gives 𝓤 (Plain R) (plainly 𝓤 R f) E → (𝓣 : Tables 𝓤 H) → Triple 𝓤 (𝓣 .C #goal·reader-at) Maker → Triple 𝓤 (𝓣 .C callee) Callee
+        → Meets 𝓤 H A (Plain R .signature) (WpFn 𝓤 H (𝓣 .C) (𝓣 .Λ) (making τ callee)) (closing 𝓤 H A (Plain R) (ensuring 𝓤 (Plain R) (plainly 𝓤 R f) E))
+    made-meets E gives 𝓣 known-maker known-callee =
+        weaken 𝓤 H A (Plain R) W (plainly 𝓤 R f) E gives (WpFn 𝓤 H (𝓣 .C) (𝓣 .Λ) (making τ callee)) (WpFn-mono 𝓤 H (W .laws) 𝓣 (making τ callee))
+        (walk-meets 𝓤 H A (Plain R) plain-stays W (plain-go 𝓤 H A W) (plainly 𝓤 R f) (WpFn 𝓤 H (𝓣 .C) (𝓣 .Λ) (making τ callee)) (WpFn-mono 𝓤 H (W .laws) 𝓣 (making τ callee))
+        (walks (𝓣 .C) (𝓣 .Λ) (fmOf 𝓤 H (W .laws) 𝓣) known-maker known-callee))

@@ -32,17 +32,17 @@ fn step_at(cells: &[u32], at: usize) -> Step
 fn after(cells: &[u32], at: usize) -> usize
     ensures { λ r. ⌜ r ≡ placeAfter (now (cells .entry)) at ⌝ }
 {
-    if at < cells.len() { at + 1 } else { at }
+    if cells.len() <= at { at } else { at + 1 }
 }
 
 // Past the end the difference would wrap.
 fn left_of(cells: &[u32], at: usize) -> usize
     ensures { λ r. ⌜ r ≡ leftFrom (now (cells .entry)) at ⌝ }
 {
-    if at < cells.len() {
-        cells.len() - at
-    } else {
+    if cells.len() <= at {
         0
+    } else {
+        cells.len() - at
     }
 }
 

@@ -1,4 +1,5 @@
 -- `goal::cell_at` meets its contract: it makes a reader and passes it to `peek`.
+use base.Logic.{id⊢}
 use contract.Running.{givenOf, tables, tablesOf}
 use denote.Triple.Spec.{tripleOf}
 use denote.Triple.Table.{entered, cited}
@@ -26,6 +27,7 @@ cell-at-spec 𝓤 H 𝓜 𝓖 𝓡 =
     entered 𝓤 H (tripleOf 𝓤 H (𝓖 .A) cell-at.signature (cell-at.spec 𝓤 H (𝓖 .A) (𝓜 .mem) (𝓡 .run)))
     (tables 𝓤 H 𝓜 𝓡 code.env .C) (tables 𝓤 H 𝓜 𝓡 code.env .Λ) #goal·cell-at code.function (code.unfolded 𝓤 H 𝓜 𝓡)
     (made-meets 𝓤 H (𝓖 .A) (givenOf 𝓤 H 𝓜 𝓖) (𝓜 .mem) (𝓡 .run) S.the-row stepAt S′.mir #goal·peek
-    (step-lands 𝓤 H (𝓖 .A) (givenOf 𝓤 H 𝓜 𝓖)) (tablesOf 𝓤 H 𝓜 (tables 𝓤 H 𝓜 𝓡 code.env))
+    (step-lands 𝓤 H (𝓖 .A) (givenOf 𝓤 H 𝓜 𝓖)) (λ κs a. cell-at.clauses 𝓤 H (𝓖 .A) (𝓜 .mem) (𝓡 .run) κs a .ensures) (λ κs a g r ws. id⊢ 𝓤 _)
+    (tablesOf 𝓤 H 𝓜 (tables 𝓤 H 𝓜 𝓡 code.env))
     (cited 𝓤 H (tripleOf 𝓤 H (𝓖 .A) reader-at.signature (reader-at.spec 𝓤 H (𝓖 .A) (𝓜 .mem) (𝓡 .run))) 𝓜 𝓡 code.env #goal·reader-at reader-at-def.routine code.calls-goal·reader-at (reader-at-thm.met 𝓤 H 𝓜 𝓖 𝓡))
     (cited 𝓤 H (tripleOf 𝓤 H (𝓖 .A) peek.signature (peek.spec 𝓤 H (𝓖 .A) (𝓜 .mem) (𝓡 .run))) 𝓜 𝓡 code.env #goal·peek peek-def.routine code.calls-goal·peek (peek-thm.met 𝓤 H 𝓜 𝓖 𝓡)))

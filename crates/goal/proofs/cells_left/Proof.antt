@@ -1,5 +1,6 @@
 -- `goal::cells_left` meets its contract: it makes a reader and passes it to `left`.
 use mir.Syntax.{tyInt, w64}
+use base.Logic.{id⊢}
 use contract.Running.{givenOf, tables, tablesOf}
 use denote.Builtin.{usize}
 use denote.Triple.Spec.{tripleOf}
@@ -26,6 +27,7 @@ cells-left-spec 𝓤 H 𝓜 𝓖 𝓡 =
     entered 𝓤 H (tripleOf 𝓤 H (𝓖 .A) cells-left.signature (cells-left.spec 𝓤 H (𝓖 .A) (𝓜 .mem) (𝓡 .run)))
     (tables 𝓤 H 𝓜 𝓡 code.env .C) (tables 𝓤 H 𝓜 𝓡 code.env .Λ) #goal·cells-left code.function (code.unfolded 𝓤 H 𝓜 𝓡)
     (made-meets 𝓤 H (𝓖 .A) (givenOf 𝓤 H 𝓜 𝓖) (𝓜 .mem) (𝓡 .run) usize leftFrom (tyInt w64) #goal·left
-    (number-lands 𝓤 H (𝓖 .A) (givenOf 𝓤 H 𝓜 𝓖)) (tablesOf 𝓤 H 𝓜 (tables 𝓤 H 𝓜 𝓡 code.env))
+    (number-lands 𝓤 H (𝓖 .A) (givenOf 𝓤 H 𝓜 𝓖)) (λ κs a. cells-left.clauses 𝓤 H (𝓖 .A) (𝓜 .mem) (𝓡 .run) κs a .ensures) (λ κs a g r ws. id⊢ 𝓤 _)
+    (tablesOf 𝓤 H 𝓜 (tables 𝓤 H 𝓜 𝓡 code.env))
     (cited 𝓤 H (tripleOf 𝓤 H (𝓖 .A) reader-at.signature (reader-at.spec 𝓤 H (𝓖 .A) (𝓜 .mem) (𝓡 .run))) 𝓜 𝓡 code.env #goal·reader-at reader-at-def.routine code.calls-goal·reader-at (reader-at-thm.met 𝓤 H 𝓜 𝓖 𝓡))
     (cited 𝓤 H (tripleOf 𝓤 H (𝓖 .A) left.signature (left.spec 𝓤 H (𝓖 .A) (𝓜 .mem) (𝓡 .run))) 𝓜 𝓡 code.env #goal·left left-def.routine code.calls-goal·left (left-thm.met 𝓤 H 𝓜 𝓖 𝓡)))
