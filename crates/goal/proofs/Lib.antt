@@ -1,0 +1,5 @@
+pub mod Shared
+pub mod Apart
+pub mod Made
+pub mod ReadLaws
+pub mod Fixed
