@@ -156,7 +156,7 @@ pub fn goal_for(width: usize, goal: &[u32]) -> GoalAnswer
     }
     match terms::read_terms(goal, 0, width, false) {
         TermsRead::Whole(e, vars) => {
-            if e < goal.len() {
+            if 0 < goal::cells_left(goal, e) {
                 return GoalAnswer::Refused(terms::refusal(false, Reason::Extra, e));
             }
             GoalAnswer::Accepted(goal.len(), vars)

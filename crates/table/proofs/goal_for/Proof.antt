@@ -34,17 +34,20 @@ read-terms-requires c κs = let h = inside (length (c .before .before .before .a
 enum-known-e : tie.Need-enum-known-e
 enum-known-e c = search needs
 
+cells-left-requires : tie.Need-cells-left-requires
+cells-left-requires c κs = search needs
+
 refusal-requires-2 : tie.Need-refusal-requires-2
 refusal-requires-2 c κs = search needs
 
 returns-2 : tie.Need-returns-2
-returns-2 c = ap turned (c .refusal2 .ensures) ∙ sym (ap (goalSays _) (goal-extra _ _ (fine-length (c .before .before .before .before .before .before)) (whole (c .before .before .before)) (c .before .if2 .taken)))
+returns-2 c = ap turned (c .refusal2 .ensures) ∙ sym (ap (goalSays _) (goal-extra _ _ (fine-length (c .before .before .before .before .before .before .before)) (whole (c .before .before .before .before)) (omega arith)))
 
 enum-known-f : tie.Need-enum-known-f
 enum-known-f c = search needs
 
 returns-3 : tie.Need-returns-3
-returns-3 c = sym (ap (goalSays _) (goal-whole _ _ (fine-length (c .before .before .before .before .before)) (whole (c .before .before)) (c .if2 .left)))
+returns-3 c = sym (ap (goalSays _) (goal-whole _ _ (fine-length (c .before .before .before .before .before .before)) (whole (c .before .before .before)) (omega arith)))
 
 returns-4 : tie.Need-returns-4
 returns-4 c = sym (ap (goalSays _) (goal-turned _ _ (fine-length (c .before .before .before .before)) (sym (c .before .before .before .read-terms .ensures) ∙ ap termsTold (c .before .f .given .1))))
@@ -58,6 +61,7 @@ goal-for-spec =
     returns
     read-terms-requires
     enum-known-e
+    cells-left-requires
     refusal-requires-2
     returns-2
     enum-known-f
