@@ -3,3 +3,4 @@ pub mod Plans
 pub mod Check
 pub mod Marks
 pub mod Checked
+pub mod Mask
