@@ -6,7 +6,7 @@ use Rattle.term.specs.Terms.{root}
 use Rattle.plan.specs.Mask.{kept, bitAt, without}
 use Rattle.plan.specs.declared.mask.Closed.{Closed}
 
--- mask::row_mask, mask::root_at: the promise is an equation with what the arguments give
+-- mask::row_mask, mask::root_at, column::same_symbol, column::run_length, column::run_count: the promise is an equation with what the arguments give
 pub given-fixed : {A : Type 0} {x r s : A} → r ≡ x → s ≡ x → r ≡ s
 given-fixed p q = p ∙ sym q
 

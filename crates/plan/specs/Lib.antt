@@ -4,3 +4,4 @@ pub mod Check
 pub mod Marks
 pub mod Checked
 pub mod Mask
+pub mod Column

@@ -8,9 +8,6 @@ use Rattle.plan.proofs.MaskLaws.{Open, found, not-found, bit-shifted}
 use borrow.Author.Needs.{needs}
 use Rattle.plan.proofs.mask.close_at.Statement.{statement}
 use Rattle.plan.proofs.mask.close_at.Tie as tie
-use Rattle.plan.proofs.mask.close_at.Reads as reads
-use Rattle.plan.proofs.mask.close_at.Lts as lts
-use Rattle.plan.proofs.mask.root_at.Reads as root-at-reads
 
 -- where the bit is below 32, the cell is there
 there : (c : tie.Then1) → Open (c .before .before .before .args .i) (c .before .before .before .args .mask) (drop (c .before .before .before .args .start) (c .before .before .before .args .cells .now)) (c .before .root-at .result)

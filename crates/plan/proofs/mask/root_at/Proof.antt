@@ -11,9 +11,6 @@ use lib.ListN.{length, drop, getD}
 use Rattle.plan.specs.Mask.{bitFrom, bitAt}
 use Rattle.plan.proofs.mask.root_at.Statement.{statement}
 use Rattle.plan.proofs.mask.root_at.Tie as tie
-use Rattle.plan.proofs.mask.root_at.Reads as reads
-use Rattle.plan.proofs.mask.root_at.Lts as lts
-use Rattle.cell.proofs.arity_of.Reads as arity-of-reads
 
 abbrev Inv-loop : tie.InvT-loop
 Inv-loop cells start mask i left₀ bit₀ owed₀ left bit owed =

@@ -5,8 +5,6 @@ use borrow.Author.Tests.{lt-ltb, le-ltb}
 use borrow.Author.Needs.{needs}
 use Rattle.plan.proofs.mask.row_mask.Statement.{statement}
 use Rattle.plan.proofs.mask.row_mask.Tie as tie
-use Rattle.plan.proofs.mask.row_mask.Reads as reads
-use Rattle.plan.proofs.mask.row_mask.Lts as lts
 
 cast-result : tie.Need-cast-result
 cast-result c = search needs
