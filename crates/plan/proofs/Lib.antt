@@ -6,4 +6,5 @@ pub mod MarksLaws
 pub mod Examples
 pub mod MaskLaws
 pub mod ColumnLaws
+pub mod RowsLaws
 pub mod Fixed
