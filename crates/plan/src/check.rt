@@ -2,14 +2,37 @@
 ghost use mathlib.Core.Path.{_≡_};
 ghost use Prim.Native.Nat.{_≤_};
 ghost use lib.ListN.{length};
+ghost use Rattle.table.specs.Refusal.{numberOf, told};
+ghost use Rattle.plan.specs.Check.{bad};
 ghost use Rattle.plan.specs.States.{Closes};
+use super::mask::close_at;
+use table::Input;
+use table::Reason;
+use table::Refusal;
+
+// A state that is read: its number of branches, and the place after it; or why the plan is turned away.
+pub enum Step {
+    Seen(usize, usize),
+    Refused(Refusal),
+}
+
+// A refusal of the plan.
+pub fn refusal(reason: Reason, place: usize) -> Refusal
+    ensures { λ r. ⌜ told r ≡ bad (numberOf reason) place ⌝ }
+{
+    Refusal {
+        reason,
+        input: Input::Plan,
+        place,
+    }
+}
 
 // Closes place i of the rows from first to before end: the cell that each has there goes into the column, and its bit out of its mask.
 fn close_rows(
     table: &[u32],
     starts: &[usize; 64],
-    masks: &mut [u32],
-    column: &mut [u32],
+    masks: &mut [u32; 64],
+    column: &mut [u32; 64],
     i: u32,
     first: usize,
     end: usize,
@@ -20,7 +43,7 @@ fn close_rows(
     let mut row = end;
     while first < row {
         row -= 1;
-        let closed = super::mask::close_at(table, starts[row], masks[row], i);
+        let closed = close_at(table, starts[row], masks[row], i);
         column[row] = closed.cell;
         masks[row] = closed.mask;
     }
