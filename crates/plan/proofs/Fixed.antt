@@ -1,8 +1,12 @@
 -- Two results that a promise allows are equal, for every public function of the crate.
 use mathlib.Core.Path.{_≡_, sym, ap₂, _∙_}
-use Prim.Native.Nat.{ℕ}
+use mathlib.Core.Logic.{by-cases}
+use Prim.Native.Nat.{ℕ, _<_, min}
+use native.Mathlib.Decide.{decLt}
+use native.Mathlib.Omega.{arith}
+use lib.Seq.{ext-getD}
 use mathlib.Core.List.{List}
-use Rattle.plan.specs.Mask.{ClosedAt}
+use Rattle.plan.specs.Mask.{OpenRows, ClosedAt}
 use Rattle.plan.specs.declared.mask.Closed.{Closed}
 
 -- mask::row_mask, mask::root_at, column::same_symbol, column::run_length, column::run_count: the promise is an equation with what the arguments give
@@ -12,3 +16,10 @@ given-fixed p q = p ∙ sym q
 -- mask::close_at: each of the two values is given
 pub closed-fixed : {i m : ℕ} {xs : List ℕ} {r s : Closed} → ClosedAt i m xs r → ClosedAt i m xs s → r ≡ s
 closed-fixed p q = ap₂ (λ (c n : ℕ). record { cell = c; mask = n }) (p .cell ∙ sym (q .cell)) (p .mask ∙ sym (q .mask))
+
+-- mask::open_rows: each mask is given
+pub open-fixed : {ss : List ℕ} {n len : ℕ} {ms ns : List ℕ} → OpenRows ss n len ms → OpenRows ss n len ns → ms ≡ ns
+open-fixed {n = n} {ms = ms} {ns} p q =
+    ext-getD 0 ms ns (p .size ∙ sym (q .size)) (λ i h. by-cases (decLt i (min n 64))
+    (λ (l : i < min n 64). p .rows i l ∙ sym (q .rows i l))
+    (λ l. p .others i (omega arith) ∙ sym (q .others i (omega arith))))
