@@ -13,8 +13,12 @@ use Rattle.table.specs.All.{All}
 use Rattle.table.proofs.Accepted.{is-table, is-goal}
 use Rattle.table.proofs.HeadLaws.{head-few}
 use Rattle.table.proofs.ReadLaws.{passed, inside}
+use Rattle.plan.specs.Check.{planFor, planOf}
+use Rattle.plan.specs.Checked.{planSays}
+use Rattle.plan.proofs.SizeLaws.{bound}
+use Rattle.plan.proofs.CheckLaws.{accepted-one, rows-fit}
 use Rattle.exports.specs.Coded.{Small}
-use Rattle.exports.proofs.Places.{placed-at, placed-table, placed-goal}
+use Rattle.exports.proofs.Places.{placed-at, placed-table, placed-plan, placed-goal}
 
 -- an answer that is equal to a small one
 pub small-by : {a b : Answer} → a ≡ b → Small b → Small a
@@ -73,3 +77,19 @@ row-small t r = go (tableOf t) refl
         let f : length t ≡ 2 + length (flatten (T .rows)) = ap length (i .cells) ∙ omega arith in
         (omega (arith, starts-within 2 (T .rows) (64 - length (T .rows)) r), omega (arith, row-short (T .width) (T .rows) r (i .each)))
     go (refuse f) e = (omega (arith, zeros-at 64 r), omega arith)
+
+-- a plan of an accepted table has at most 2,048 branches
+pub plan-small : (t p : List ℕ) → Small (planSays (planOf t p))
+plan-small t p = go (tableOf t) refl
+  where
+    with-table : (T : Table) → tableOf t ≡ read T → (r : Read ℕ) → planFor T p ≡ r → Small (planSays r)
+    with-table T e (read n) f =
+        let i = is-table t e in
+        let a = accepted-one T i p n .0 f in
+        let b = bound (a .0) 32 (rows-fit (T .width) (T .rows) (i .each)) (i .count .0) in
+        (omega (arith, i .count .1, a .2), omega arith)
+    with-table T e (refuse f) h = let l = placed-at (placed-plan T p) h in omega arith
+
+    go : (r : Read Table) → tableOf t ≡ r → Small (planSays (andThen r (λ (T : Table). planFor T p)))
+    go (read T) e = with-table T e (planFor T p) refl
+    go (refuse f) e = let l = placed-at (placed-table t) e in omega arith

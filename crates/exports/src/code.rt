@@ -3,7 +3,9 @@ ghost use mathlib.Core.Path.{_≡_};
 ghost use Prim.Native.Nat.{_≤_, _<_, _^_};
 ghost use Rattle.table.specs.Refusal.{numberOf, inputOf, told, answered, turned};
 ghost use Rattle.table.specs.Table.{tableTold, goalTold};
+ghost use Rattle.plan.specs.Checked.{planTold};
 ghost use Rattle.exports.specs.Coded.{coded, Small};
+use plan::PlanAnswer;
 use table::GoalAnswer;
 use table::Input;
 use table::Reason;
@@ -83,5 +85,15 @@ pub fn code_goal(a: GoalAnswer) -> u64
     match a {
         GoalAnswer::Accepted(cells, vars) => code_answer(cells, vars),
         GoalAnswer::Refused(f) => code_refusal(f),
+    }
+}
+
+pub fn code_plan(a: PlanAnswer) -> u64
+    requires { ⌜ Small (planTold a) ⌝ }
+    ensures { λ r. ⌜ r ≡ coded (planTold a) ⌝ }
+{
+    match a {
+        PlanAnswer::Accepted(branches) => code_answer(branches, 0),
+        PlanAnswer::Refused(f) => code_refusal(f),
     }
 }

@@ -3,6 +3,8 @@ ghost use mathlib.Core.Path.{_≡_};
 ghost use Rattle.table.specs.Table.{tableOf, tableSays, goalWith, goalSays, startsIn, rowIn};
 ghost use Rattle.table.specs.Refusal.{answered};
 ghost use lib.ListN.{length, getD};
+ghost use Rattle.plan.specs.Check.{planOf};
+ghost use Rattle.plan.specs.Checked.{planSays};
 ghost use Rattle.exports.specs.Coded.{coded};
 
 mod code;
@@ -34,4 +36,12 @@ pub extern "C" fn dudowiej_row(cells: &[u32], r: usize) -> u64
     let start = part.start;
     let end = part.end;
     code::code_answer(start, end - start)
+}
+
+// An accepted plan's number of branches.
+#[no_mangle]
+pub extern "C" fn dudowiej_check_plan(cells: &[u32], plan: &[u32]) -> u64
+    ensures { λ r. ⌜ r ≡ coded (planSays (planOf (now (cells .entry)) (now (plan .entry)))) ⌝ }
+{
+    code::code_plan(plan::check_plan(cells, plan))
 }

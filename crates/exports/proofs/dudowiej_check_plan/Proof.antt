@@ -1,0 +1,18 @@
+use mathlib.Core.Path.{_∙_, ap}
+use Rattle.exports.specs.Coded.{coded}
+use Rattle.exports.proofs.Small.{small-by, plan-small}
+use borrow.Author.Needs.{needs}
+use Rattle.exports.proofs.dudowiej_check_plan.Statement.{statement}
+use Rattle.exports.proofs.dudowiej_check_plan.Tie as tie
+
+check-plan-requires : tie.Need-check-plan-requires
+check-plan-requires c κs = search needs
+
+code-plan-requires : tie.Need-code-plan-requires
+code-plan-requires c κs = small-by (c .check-plan .ensures) (plan-small (c .before .before .before .args .cells .now) (c .before .before .before .args .plan .now))
+
+returns : tie.Need-returns
+returns c = c .code-plan .ensures ∙ ap coded (c .before .check-plan .ensures)
+
+pub dudowiej-check-plan-spec : {M : Type 1} → statement M
+dudowiej-check-plan-spec = tie.close (tie.spec check-plan-requires code-plan-requires returns)
