@@ -57,7 +57,7 @@ fn test_cell(c: u32, vars: usize, place: usize, row: bool) -> Tested
             if vars < n {
                 return Tested::Bad(refusal(row, Reason::Fresh, place));
             }
-            if vars <= n {
+            if n == vars {
                 return Tested::Good(vars + 1);
             }
             if row {
