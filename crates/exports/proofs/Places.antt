@@ -11,7 +11,9 @@ use Rattle.cell.specs.Cell.{arity, valuesAt}
 use Rattle.table.specs.Refusal.{Refused, refused}
 use Rattle.plan.specs.Runs.{Run, runs}
 use Rattle.plan.specs.Check.{bad as plan-bad}
-use Rattle.plan.specs.Check.{Seen, seen, cellThen, Reader, branchesFrom, leafFrom, stateFrom, nothingAfter, planFor}
+use Rattle.plan.specs.Check.{Seen, seen, cellThen, Reader, branchesFrom, leafFrom, stateFrom, nothingAfter, planFor, planOf}
+use Rattle.run.specs.Run.{runOf}
+use Rattle.table.proofs.Accepted.{is-table}
 use Rattle.table.specs.Read.{Read, read, refuse, when, andThen}
 use Rattle.table.specs.Table.{Table, Met, met, counted, bad, termsFrom, before, rowsFrom, tableOf, table, goalOf}
 
@@ -68,6 +70,11 @@ placed-rows w (suc k) xs p n e =
     placed-then (λ (m : Met). before (take (m .next - p) xs) (rowsFrom w k (drop (m .next - p) xs) (m .next))) (placed-terms true xs w 0 0 p n e)
     (λ m i. placed-before (take (m .next - p) xs) (placed-rows w k (drop (m .next - p) xs) (m .next) n (omega (arith, length-drop (m .next - p) xs))))
 
+-- a bound may be larger
+pub widen : {A : Type 0} {n m : ℕ} {r : Read A} → n ≤ m → Placed n Any r → Placed m Any r
+widen l (good p) = good tt
+widen l (turned {f} q) = turned {f = f} (omega arith)
+
 -- both sides of a test with two ways to fail
 or-false : (a b : Bool) → (a || b) ≡ false → (a ≡ false) × (b ≡ false)
 or-false true b e = let z : _≡_ {A = ℕ} 0 1 = cc in absurd (omega arith)
@@ -83,10 +90,6 @@ placed-table t =
     placed-when (ltb (getD t 0 0) 1 || ltb 8 (getD t 0 0)) (refused 2 1 0) (omega arith) (λ _.
     placed-when (ltb (getD t 1 0) 1 || ltb 64 (getD t 1 0)) (refused 3 1 1) (omega arith) (λ _.
     placed-then (λ (rows : List (List ℕ)). read (table (getD t 0 0) rows)) (widen hi (placed-rows (getD t 0 0) (getD t 1 0) (drop 2 t) 2 (length t) (omega (arith, length-drop 2 t)))) (λ x _. good tt))))
-  where
-    widen : {A : Type 0} {n m : ℕ} {r : Read A} → n ≤ m → Placed n Any r → Placed m Any r
-    widen l (good p) = good tt
-    widen l (turned {f} q) = turned {f = f} (omega arith)
 
 pub placed-goal : (w : ℕ) (g : List ℕ) → Placed 32 (Any {A = ℕ}) (goalOf w g)
 unfolding goalOf Within
@@ -146,3 +149,26 @@ placed-plan T cells =
     narrow : {n : ℕ} {r : Read Seen} → n ≤ 6082 → Placed n (Left n) r → Placed 6082 (λ (s : Seen). s .next ≤ 6082) r
     narrow l (good {x} w) = good {x = x} (omega arith)
     narrow l (turned {f} q) = turned {f = f} (omega arith)
+
+-- a run: the table's, the plan's and the goal's refusals, and ROOM at the number of rows
+pub placed-checked : (t p : List ℕ) → Placed 6082 (Any {A = ℕ}) (planOf t p)
+placed-checked t p = placed-then (λ (T : Table). planFor T p) (widen (omega arith) (placed-table t)) (λ T _. placed-plan T p)
+
+pub placed-run : (t p g room : List ℕ) → Placed 6082 (Any {A = Table}) (runOf t p g room)
+unfolding runOf
+placed-run t p g room = go (tableOf t) refl
+  where
+    rest : (T : Table) → length (T .rows) ≤ 64 → Placed 6082 Any (andThen (planOf t p) (λ (n : ℕ).
+        andThen (goalOf (T .width) g) (λ (v : ℕ).
+        when (ltb (length room) (length (T .rows))) (refused 16 4 (length (T .rows))) (read T))))
+    rest T l =
+        placed-then _ (placed-checked t p) (λ n _.
+        placed-then _ (widen (omega arith) (placed-goal (T .width) g)) (λ v _.
+        placed-when (ltb (length room) (length (T .rows))) (refused 16 4 (length (T .rows))) (omega arith) (λ _. good tt)))
+
+    go : (r : Read Table) → tableOf t ≡ r → Placed 6082 Any (andThen r (λ (T : Table).
+        andThen (planOf t p) (λ (n : ℕ).
+        andThen (goalOf (T .width) g) (λ (v : ℕ).
+        when (ltb (length room) (length (T .rows))) (refused 16 4 (length (T .rows))) (read T)))))
+    go (read T) e = rest T (is-table t e .count .1)
+    go (refuse f) e = let l = placed-at (placed-table t) e in turned {f = f} (omega arith)
