@@ -1,2 +1,3 @@
 pub mod Skeleton
 pub mod Run
+pub mod After

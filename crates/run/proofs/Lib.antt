@@ -1,0 +1,3 @@
+pub mod CountLaws
+pub mod AfterLaws
+pub mod SkeletonLaws
