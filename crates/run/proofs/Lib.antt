@@ -1,3 +1,6 @@
 pub mod CountLaws
 pub mod AfterLaws
 pub mod SkeletonLaws
+pub mod SeeLaws
+pub mod PlacesLaws
+pub mod GoalLaws

@@ -1,3 +1,5 @@
 pub mod Skeleton
 pub mod Run
 pub mod After
+pub mod See
+pub mod Places

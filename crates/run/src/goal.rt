@@ -1,0 +1,148 @@
+// The goal as the walk sees it: its cells, where the term at each of them ends, and what its variables are bound to. The walk
+// refers to a term of the goal by a number: below 32 it is a cell of the goal, from 32 on a variable made for an argument.
+ghost use mathlib.Core.Path.{_≡_};
+ghost use mathlib.Core.Bool.{true};
+ghost use Prim.Native.Nat.{_<_};
+ghost use lib.ListN.{getD};
+ghost use Rattle.cell.specs.Cell.{isVar};
+ghost use Rattle.table.specs.All.{All};
+ghost use Rattle.run.specs.See.{viewVar, viewOf, Visible, steps, hopOf, Whole, Stepped};
+
+// What a term of the goal is found to be.
+pub enum View {
+    // an unbound variable
+    Loose(usize),
+    // a symbol, and where its first argument is
+    Symbol(u32, usize),
+}
+
+pub fn wide(x: u8) -> usize
+    ensures { λ r. ⌜ r ≡ x ⌝ }
+{
+    x as usize
+}
+
+// A variable: unbound where `bound` has 0, which is no symbol; otherwise its symbol, its arguments being variables too.
+fn look_var(bound: &[u32; 64], args: &[u8; 64], v: usize) -> View
+    requires { ⌜ v < 64 ⌝ }
+    ensures { λ r. ⌜ r ≡ viewVar (now (bound .entry)) (now (args .entry)) v ⌝ }
+{
+    let b = bound[v];
+    if b == 0 {
+        return View::Loose(v);
+    }
+    View::Symbol(b, wide(args[v]))
+}
+
+// The term referred to by `r`. The arguments of a symbol of the goal follow it.
+pub fn look(goal: &[u32; 32], bound: &[u32; 64], args: &[u8; 64], r: usize) -> View
+    requires { ⌜ Visible (now goal) r ⌝ }
+    ensures { λ v. ⌜ v ≡ viewOf (now (goal .entry)) (now (bound .entry)) (now (args .entry)) r ⌝ }
+{
+    if 32 <= r {
+        return look_var(bound, args, r);
+    }
+    let g = goal[r];
+    match cell::kind(g) {
+        0 => look_var(bound, args, g as usize),
+        _ => View::Symbol(g, r + 1),
+    }
+}
+
+// For each number the next one.
+const UP: [u8; 64] = [
+    1,
+    2,
+    3,
+    4,
+    5,
+    6,
+    7,
+    8,
+    9,
+    10,
+    11,
+    12,
+    13,
+    14,
+    15,
+    16,
+    17,
+    18,
+    19,
+    20,
+    21,
+    22,
+    23,
+    24,
+    25,
+    26,
+    27,
+    28,
+    29,
+    30,
+    31,
+    32,
+    33,
+    34,
+    35,
+    36,
+    37,
+    38,
+    39,
+    40,
+    41,
+    42,
+    43,
+    44,
+    45,
+    46,
+    47,
+    48,
+    49,
+    50,
+    51,
+    52,
+    53,
+    54,
+    55,
+    56,
+    57,
+    58,
+    59,
+    60,
+    61,
+    62,
+    63,
+    64,
+];
+
+// Where `a` terms end that stand one after another from `from` on.
+fn hop(sib: &[u8; 64], from: usize, a: usize) -> usize
+    requires { ⌜ All (λ x. x < 64) (steps (now sib) a from) ⌝ }
+    ensures { λ r. ⌜ r ≡ hopOf (now (sib .entry)) a from ⌝ }
+{
+    let mut left = a;
+    let mut q = from;
+    while 0 < left {
+        q = wide(sib[q]);
+        left -= 1;
+    }
+    q
+}
+
+// For each of the goal's `n` cells the place after its term, filled from the last cell to the first; for a variable the next number.
+pub fn siblings(goal: &[u32; 32], n: usize) -> [u8; 64]
+    requires { ⌜ Whole (now goal) n ⌝ }
+    ensures { λ r. ⌜ Stepped (now (goal .entry)) r n ⌝ }
+{
+    let mut sib = UP;
+    let mut p = n;
+    while 0 < p {
+        p -= 1;
+        let a = cell::arity_of(goal[p]);
+        let q = hop(&sib, p + 1, a);
+        sib[p] = q as u8;
+    }
+    sib
+}
