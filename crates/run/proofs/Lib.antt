@@ -4,3 +4,4 @@ pub mod SkeletonLaws
 pub mod SeeLaws
 pub mod PlacesLaws
 pub mod GoalLaws
+pub mod LinkLaws

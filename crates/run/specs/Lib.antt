@@ -3,3 +3,4 @@ pub mod Run
 pub mod After
 pub mod See
 pub mod Places
+pub mod Link
