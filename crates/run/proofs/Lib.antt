@@ -5,3 +5,5 @@ pub mod SeeLaws
 pub mod PlacesLaws
 pub mod GoalLaws
 pub mod LinkLaws
+pub mod WalkLaws
+pub mod StartLaws

@@ -11,7 +11,10 @@ use Rattle.cell.specs.Cell.{isVar, kindOf}
 use Rattle.table.specs.All.{All}
 use Rattle.table.specs.Table.{upFrom}
 use Rattle.run.specs.See.{viewVar, viewOf, steps, hopOf}
+use Rattle.run.specs.Walk.{foundOf}
+use Rattle.run.specs.declared.goal.View.{View}
 use Rattle.run.specs.declared.goal.View.the-variants.{Loose, Symbol}
+use Rattle.run.specs.declared.walk.Found.the-variants.{Other, Same, Unbound}
 
 -- a cell's kind tells whether it is a variable
 pub is-var : (c : ℕ) → kindOf c ≡ 0 → isVar c ≡ true
@@ -82,3 +85,21 @@ store-next new fin xs ys j x e h = let f : j + 1 ≡ suc j = omega arith in rw f
 
 pub store-end : (new fin xs : List ℕ) (j : ℕ) → xs ≡ [] → sets new j xs ≡ fin → new ≡ fin
 store-end new fin xs j e h = ap (sets new j) (sym e) ∙ h
+
+-- a branch's cell against what was seen
+pub found-variable : (c : ℕ) (v : View) → isVar c ≡ true → foundOf c v ≡ Same 0
+unfolding foundOf
+found-variable c (Loose v) h = rw h
+found-variable c (Symbol d p) h = rw h
+
+pub found-loose : (c v : ℕ) → isVar c ≡ false → foundOf c (Loose v) ≡ Unbound v
+unfolding foundOf
+found-loose c v h = rw h
+
+pub found-same : (c d p : ℕ) → isVar c ≡ false → c ≡ d → foundOf c (Symbol d p) ≡ Same p
+unfolding foundOf
+found-same c d p h e = rw (h, eq-eqb c d e)
+
+pub found-other : (c d p : ℕ) → isVar c ≡ false → (c ≡ d → ⊥) → foundOf c (Symbol d p) ≡ Other
+unfolding foundOf
+found-other c d p h e = rw (h, ne-eqb c d e)

@@ -4,3 +4,4 @@ pub mod After
 pub mod See
 pub mod Places
 pub mod Link
+pub mod Walk

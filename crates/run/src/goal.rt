@@ -6,6 +6,7 @@ ghost use Prim.Native.Nat.{_<_};
 ghost use lib.ListN.{getD};
 ghost use Rattle.cell.specs.Cell.{isVar};
 ghost use Rattle.table.specs.All.{All};
+ghost use Rattle.table.specs.Table.{upFrom};
 ghost use Rattle.run.specs.See.{viewVar, viewOf, Visible, steps, hopOf, Whole, Stepped};
 
 // What a term of the goal is found to be.
@@ -49,73 +50,19 @@ pub fn look(goal: &[u32; 32], bound: &[u32; 64], args: &[u8; 64], r: usize) -> V
     }
 }
 
-// For each number the next one.
-const UP: [u8; 64] = [
-    1,
-    2,
-    3,
-    4,
-    5,
-    6,
-    7,
-    8,
-    9,
-    10,
-    11,
-    12,
-    13,
-    14,
-    15,
-    16,
-    17,
-    18,
-    19,
-    20,
-    21,
-    22,
-    23,
-    24,
-    25,
-    26,
-    27,
-    28,
-    29,
-    30,
-    31,
-    32,
-    33,
-    34,
-    35,
-    36,
-    37,
-    38,
-    39,
-    40,
-    41,
-    42,
-    43,
-    44,
-    45,
-    46,
-    47,
-    48,
-    49,
-    50,
-    51,
-    52,
-    53,
-    54,
-    55,
-    56,
-    57,
-    58,
-    59,
-    60,
-    61,
-    62,
-    63,
-    64,
-];
+// The table of steps before any cell: for each number the next one.
+fn numbers() -> [u8; 64]
+    ensures { λ r. ⌜ r ≡ upFrom 1 64 ⌝ }
+{
+    let mut sib = [0u8; 64];
+    let mut r = 0;
+    while r < 64 {
+        let next = r + 1;
+        sib[r] = next as u8;
+        r = next;
+    }
+    sib
+}
 
 // Where `a` terms end that stand one after another from `from` on.
 fn hop(sib: &[u8; 64], from: usize, a: usize) -> usize
@@ -136,7 +83,7 @@ pub fn siblings(goal: &[u32; 32], n: usize) -> [u8; 64]
     requires { ⌜ Whole (now goal) n ⌝ }
     ensures { λ r. ⌜ Stepped (now (goal .entry)) r n ⌝ }
 {
-    let mut sib = UP;
+    let mut sib = numbers();
     let mut p = n;
     while 0 < p {
         p -= 1;

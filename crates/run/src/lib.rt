@@ -1,6 +1,7 @@
 // A run (01, "A run"): the rows that unify with a goal, from the top, and the number of branches tried.
 mod goal;
 mod places;
+mod walk;
 
 use table::Refusal;
 
