@@ -74,6 +74,7 @@ module _ {plan es ms gs sib room : List ℕ} {w : ℕ} (b : Begun plan es ms gs 
         cells = b .cells ∙ sym (append-nil (write (b .tree)));
         left = 32;
         noted = b .noted;
+        deep = b .deep;
         space = record { wide = n; deep = omega arith; numbers = omega arith; below = omega arith; above = omega arith; size = rw e (length-sets (zeros 1024) 0 (steps sib w 0) ∙ z) };
         R = b .whole;
         linked = record {

@@ -15,13 +15,14 @@ use Rattle.table.specs.All.{All}
 use Rattle.table.specs.Table.{upFrom}
 use Rattle.plan.specs.Runs.{Run, runs}
 use Rattle.plan.specs.Plans.{Plan, leaf, node, Branches, end, next, write, writes}
+use Rattle.plan.proofs.MarksLaws.{Noted, NotedIn}
 use Rattle.plan.proofs.RunsLaws.{rowsIn, group-rows}
 use Rattle.term.specs.Terms.{root, close}
 use Rattle.run.specs.After.{Left, stuck, left, after}
 use Rattle.run.specs.See.{viewOf, steps, Visible}
 use Rattle.run.specs.Places.{Fitting, Opened}
 use Rattle.run.specs.Link.{var, Ok, cell, number, Oks, nil, cons, Linked}
-use Rattle.run.specs.Walk.{under, hits, hitsIn, hitsAt, tried, triedIn, triedAt, Walked, Restored, foundOf, Noted, NotedIn, Space, Counted, Ready, ReadyAt, reopened, ReadyBelow}
+use Rattle.run.specs.Walk.{under, hits, hitsIn, hitsAt, tried, triedIn, triedAt, Walked, Restored, foundOf, Deep, DeepIn, Space, Counted, Ready, ReadyAt, reopened, ReadyBelow}
 use Rattle.run.specs.declared.goal.View.{View}
 use Rattle.run.specs.declared.goal.View.the-variants.{Loose, Symbol}
 use Rattle.run.specs.declared.walk.Here.{Here}
@@ -139,14 +140,15 @@ record Inner (es ms : List ℕ) {k : ℕ} {rows : List (List ℕ)} (p : Plan k r
   pub cells : write p ≡ i ∷ (length (runs i rows) ∷ writes trees)
   pub all-hits : (m : ℕ) (R : List ℕ) (f : ℕ) → hits p m R f ≡ hitsIn trees i m R f
   pub all-tried : (m : ℕ) (R : List ℕ) → tried p m R ≡ triedIn trees i m R
-  pub all-noted : (at n : ℕ) → Noted p es ms at n → NotedIn trees es ms (at + 2) n
+  pub all-noted : (at : ℕ) → Noted p es ms at → NotedIn trees es ms (at + 2)
+  pub all-deep : (n : ℕ) → Deep p n → DeepIn trees n
 
 inner : (es ms : List ℕ) {k : ℕ} {rows : List (List ℕ)} (p : Plan k rows) (j : ℕ) → k ≡ suc j → Inner es ms p j
-unfolding write hits tried Noted
+unfolding write hits tried Noted Deep
 inner es ms leaf j e = absurd (let z : ⊥ = omega arith in z)
 inner es ms (node {k} {rows} i h bs) j e =
     subst (λ (j : ℕ). Inner es ms (node {k = k} {rows = rows} i h bs) j) (let z : k ≡ j = omega arith in z)
-    (record { i = i; low = h; trees = bs; cells = refl; all-hits = λ m R f. refl; all-tried = λ m R. refl; all-noted = λ at n x. x })
+    (record { i = i; low = h; trees = bs; cells = refl; all-hits = λ m R f. refl; all-tried = λ m R. refl; all-noted = λ at x. x; all-deep = λ n x. x })
 
 -- n branches from a cell on, at place i where v was seen
 pub record ReadyIn (plan ends many goal sib bound args places room : List ℕ) (h : Here) (v : View) (n i : ℕ) : Type 0 where
@@ -155,8 +157,9 @@ pub record ReadyIn (plan ends many goal sib bound args places room : List ℕ) (
   pub behind : List ℕ
   pub cells : drop (h .at) plan ≡ writes trees ++ behind
   pub number : n ≡ length groups
+  pub noted : NotedIn trees ends many (h .at)
   pub left : ℕ
-  pub noted : NotedIn trees ends many (h .at) left
+  pub deep : DeepIn trees left
   pub space : Space places h left
   pub R : List ℕ
   pub linked : Linked goal sib bound args (take (h .width) (drop (h .base) places)) (h .next) R
@@ -195,7 +198,8 @@ inside {plan} {es} {ms} {gs} {sib} {bs} {ns} {os} {room} {h} w v x l =
         cells = rw q at (s .2);
         number = refl;
         left = w .left;
-        noted = n .all-noted at (w .left) (w .noted);
+        noted = n .all-noted at (w .noted);
+        deep = n .all-deep (w .left) (w .deep);
         space = record { wide = w .space .wide; deep = w .space .deep; numbers = w .space .numbers; below = w .space .below; above = w .space .above; size = w .space .size };
         R = w .R;
         linked = w .linked;
@@ -243,17 +247,17 @@ pub record Firstly (plan es ms gs sib bs ns os room : List ℕ) (v : View) (h : 
       → Walked room room″ (hitsIn trees i (h .next) R (h .row)) (triedIn trees i (h .next) R) h o′)
 
 module _ {plan es ms gs sib bs ns os room : List ℕ} {v : View} {h : Here} {n i : ℕ} (w : ReadyIn plan es ms gs sib bs ns os room h v n i) where
-  first-of : {groups : List Run} (trees : Branches (h .width - 1) groups) → drop (h .at) plan ≡ writes trees ++ w .behind → NotedIn trees es ms (h .at) (w .left)
+  first-of : {groups : List Run} (trees : Branches (h .width - 1) groups) → drop (h .at) plan ≡ writes trees ++ w .behind → NotedIn trees es ms (h .at) → DeepIn trees (w .left)
       → n ≡ length groups → 0 < n → h .row + rowsIn groups ≤ 64 → h .row + rowsIn groups ≤ length room → Firstly plan es ms gs sib bs ns os room v h n i trees (w .R)
-  unfolding write hits tried Noted
-  first-of end cells noted total some few roomy = absurd (let y : ⊥ = omega arith in y)
-  first-of (next {g = g} {gs = groups} p trees) cells noted total some few roomy =
+  unfolding write hits tried Noted Deep
+  first-of end cells noted deep total some few roomy = absurd (let y : ⊥ = omega arith in y)
+  first-of (next {g = g} {gs = groups} p trees) cells noted deep total some few roomy =
       let at = h .at in
       let ws = writes trees ++ w .behind in
       let c₁ : drop at plan ≡ g .cell ∷ (write p ++ ws) = cells ∙ ap (λ (l : List ℕ). g .cell ∷ l) (append-assoc (write p) (writes trees) (w .behind)) in
       let r = read plan at (g .cell) (write p ++ ws) c₁ in
-      let e = noted .0 .ends-at in
-      let a = noted .0 .rows-at in
+      let e = noted .0 in
+      let a = noted .1 in
       let x = w .counted in
       let s : Space os h (w .left) = w .space in
       record {
@@ -263,8 +267,9 @@ module _ {plan es ms gs sib bs ns os room : List ℕ} {v : View} {h : Here} {n i
           behind = ws;
           cells = c₁;
           left = w .left;
-          less = noted .0 .less;
-          noted = noted .1;
+          less = deep .0;
+          noted = noted .2;
+          deep = deep .1;
           space = record { wide = s .wide; deep = s .deep; numbers = s .numbers; below = s .below; above = s .above; size = s .size };
           R = w .R;
           linked = w .linked;
@@ -283,7 +288,8 @@ module _ {plan es ms gs sib bs ns os room : List ℕ} {v : View} {h : Here} {n i
             cells = rw e (drop-more plan (write p) ws (at + 1) (r .2));
             number = omega arith;
             left = w .left;
-            noted = rw e (noted .2);
+            noted = rw e (noted .3);
+            deep = deep .2;
             space = record { wide = s .wide; deep = s .deep; numbers = s .numbers; below = s .below; above = s .above; size = s .size };
             R = w .R;
             linked = w .linked;
@@ -313,7 +319,7 @@ module _ {plan es ms gs sib bs ns os room : List ℕ} {v : View} {h : Here} {n i
       }
 
   pub firstly : 0 < n → Firstly plan es ms gs sib bs ns os room v h n i (w .trees) (w .R)
-  firstly l = first-of (w .trees) (w .cells) (w .noted) (w .number) l (w .counted .few) (w .counted .roomy)
+  firstly l = first-of (w .trees) (w .cells) (w .noted) (w .deep) (w .number) l (w .counted .few) (w .counted .roomy)
 
 -- what was lent is as it was found, so the branches after it can be walked
 pub carried : {plan es ms gs sib bs ns os room bs′ ns′ os′ : List ℕ} {v : View} {h : Here} {n i : ℕ} → ReadyIn plan es ms gs sib bs ns os room h v n i → Restored bs bs′ ns ns′ os os′ (h .top)
@@ -330,6 +336,7 @@ carried {gs = gs} {sib = sib} {bs} {ns} {os} {bs′ = bs′} {ns′ = ns′} {os
       number = w .number;
       left = w .left;
       noted = w .noted;
+      deep = w .deep;
       space = record { wide = s .wide; deep = s .deep; numbers = s .numbers; below = s .below; above = s .above; size = r .size ∙ s .size };
       R = w .R;
       linked = rw (r .bound-same, r .args-same, p) (w .linked);
@@ -497,6 +504,7 @@ module _ {plan es ms gs sib bs ns os room : List ℕ} {h : Here} {v : View} {i :
       left = w .left;
       less = w .less;
       noted = w .noted;
+      deep = w .deep;
       space = w .space;
       R = d .rest;
       linked = d .linked;
@@ -621,6 +629,7 @@ module _ {plan es ms gs sib bs ns os room : List ℕ} {h : Here} {i p : ℕ} (w 
           cells = below-read .2;
           left = w .left - 1;
           noted = w .noted;
+          deep = w .deep;
           space = record {
             wide = omega (arith, w .less);
             deep = omega (arith, s .deep);

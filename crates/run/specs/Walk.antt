@@ -12,6 +12,7 @@ use Rattle.table.specs.All.{All}
 use Rattle.table.specs.Table.{upFrom}
 use Rattle.plan.specs.Runs.{Run}
 use Rattle.plan.specs.Plans.{Plan, leaf, node, Branches, end, next, write}
+use Rattle.plan.proofs.MarksLaws.{Noted}
 use Rattle.run.specs.After.{Left, stuck, left, after}
 use Rattle.run.specs.See.{viewOf, steps}
 use Rattle.run.specs.Link.{var, Goal, Lies, Linked}
@@ -76,22 +77,15 @@ foundOf c (Symbol d p) = cond (isVar c) (Same 0) (cond (eqb c d) (Same p) Other)
 
 -- What it takes for granted.
 
--- the check's notes of a branch, at its cell; and that what is open below it is less than n, the number of cells left in each of its state's rows
-pub record Note (ends many : List ℕ) (at stop rows wide n : ℕ) : Type 0 where
-  pub ends-at : getD ends at 0 ≡ stop
-  pub rows-at : getD many at 0 ≡ rows
-  pub less : wide < n
-
+-- a state's rows have at most n cells left: what is open below a branch is less than that
 unfoldable mutual
-  pub Noted : {k : ℕ} {rows : List (List ℕ)} → Plan k rows → (ends many : List ℕ) (at n : ℕ) → Type 0
-  Noted leaf es ms at n = Unit {0}
-  Noted (node i h bs) es ms at n = NotedIn bs es ms (at + 2) n
+  pub Deep : {k : ℕ} {rows : List (List ℕ)} → Plan k rows → ℕ → Type 0
+  Deep leaf n = Unit {0}
+  Deep (node i h bs) n = DeepIn bs n
 
-  pub NotedIn : {k : ℕ} {gs : List Run} → Branches k gs → (ends many : List ℕ) (at n : ℕ) → Type 0
-  NotedIn end es ms at n = Unit {0}
-  NotedIn (next {k} {g} p bs) es ms at n =
-      Note es ms at (at + 1 + length (write p)) (length (g .rows)) (arity (g .cell) + k) n
-      × Noted p es ms (at + 1) (n - 1) × NotedIn bs es ms (at + 1 + length (write p)) n
+  pub DeepIn : {k : ℕ} {gs : List Run} → Branches k gs → ℕ → Type 0
+  DeepIn end n = Unit {0}
+  DeepIn (next {k} {g} p bs) n = (arity (g .cell) + k < n) × Deep p (n - 1) × DeepIn bs n
 
 -- at most n cells are left in each row: there are numbers and room enough for as many decisions
 pub record Space (places : List ℕ) (h : Here) (n : ℕ) : Type 0 where
@@ -116,8 +110,9 @@ pub record Ready (plan ends many goal sib bound args places room : List ℕ) (h 
   pub tree : Plan (h .width) rows
   pub behind : List ℕ
   pub cells : drop (h .at) plan ≡ write tree ++ behind
+  pub noted : Noted tree ends many (h .at)
   pub left : ℕ
-  pub noted : Noted tree ends many (h .at) left
+  pub deep : Deep tree left
   pub space : Space places h left
   pub R : List ℕ
   pub linked : Linked goal sib bound args (take (h .width) (drop (h .base) places)) (h .next) R
@@ -129,9 +124,10 @@ pub record ReadyAt (plan ends many goal sib bound args places room : List ℕ) (
   pub tree : Plan (arity (group .cell) + (h .width - 1)) (group .rows)
   pub behind : List ℕ
   pub cells : drop (h .at) plan ≡ group .cell ∷ (write tree ++ behind)
+  pub noted : Noted tree ends many (h .at + 1)
   pub left : ℕ
   pub less : arity (group .cell) + (h .width - 1) < left
-  pub noted : Noted tree ends many (h .at + 1) (left - 1)
+  pub deep : Deep tree (left - 1)
   pub space : Space places h left
   pub R : List ℕ
   pub linked : Linked goal sib bound args (take (h .width) (drop (h .base) places)) (h .next) R
@@ -149,9 +145,10 @@ pub record ReadyBelow (plan ends many goal sib bound args places room : List ℕ
   pub tree : Plan (arity (group .cell) + (h .width - 1)) (group .rows)
   pub behind : List ℕ
   pub cells : drop (h .at) plan ≡ group .cell ∷ (write tree ++ behind)
+  pub noted : Noted tree ends many (h .at + 1)
   pub left : ℕ
   pub less : arity (group .cell) + (h .width - 1) < left
-  pub noted : Noted tree ends many (h .at + 1) (left - 1)
+  pub deep : Deep tree (left - 1)
   pub space : Space places h left
   pub R : List ℕ
   pub linked : Linked goal sib bound args (reopened sib places h i (arity (group .cell)) p) (h .next + arity (group .cell)) R
@@ -164,7 +161,8 @@ pub record Begun (plan ends many goal sib room : List ℕ) (w : ℕ) : Type 0 wh
   pub rows : List (List ℕ)
   pub tree : Plan w rows
   pub cells : plan ≡ write tree
-  pub noted : Noted tree ends many 0 32
+  pub noted : Noted tree ends many 0
+  pub deep : Deep tree 32
   pub whole : List ℕ
   pub head : Goal w whole
   pub lies : Lies whole goal sib
