@@ -7,3 +7,4 @@ pub mod GoalLaws
 pub mod LinkLaws
 pub mod WalkLaws
 pub mod StartLaws
+pub mod MeaningLaws
