@@ -8,3 +8,4 @@ pub mod LinkLaws
 pub mod WalkLaws
 pub mod StartLaws
 pub mod MeaningLaws
+pub mod AcceptedLaws

@@ -127,11 +127,11 @@ steps-up L u (suc a) h l =
 
 -- Cells of the goal.
 
-lift-var : (c : ℕ) → isVar c ≡ true → lift c ≡ var c
+pub lift-var : (c : ℕ) → isVar c ≡ true → lift c ≡ var c
 unfolding lift
 lift-var c h = rw h
 
-lift-symbol : (c : ℕ) → isVar c ≡ false → lift c ≡ c
+pub lift-symbol : (c : ℕ) → isVar c ≡ false → lift c ≡ c
 unfolding lift
 lift-symbol c h = rw h
 

@@ -23,10 +23,10 @@ pub terms-long : {k : ℕ} {xs : List ℕ} → Terms k xs → k ≤ length xs
 terms-long none = omega arith
 terms-long (more {c} {k} t) = let h = terms-long t in omega arith
 
-abbrev zeros : ℕ → List ℕ
+abbrev pub zeros : ℕ → List ℕ
 zeros n = replicate n 0
 
-getD-zeros : (n v : ℕ) → getD (zeros n) v 0 ≡ 0
+pub getD-zeros : (n v : ℕ) → getD (zeros n) v 0 ≡ 0
 getD-zeros zero v = refl
 getD-zeros (suc n) zero = refl
 getD-zeros (suc n) (suc v) = getD-zeros n v
