@@ -8,4 +8,7 @@ pub mod LinkLaws
 pub mod WalkLaws
 pub mod StartLaws
 pub mod MeaningLaws
+pub mod AllLaws
 pub mod AcceptedLaws
+pub mod Fixed
+pub mod Theorems

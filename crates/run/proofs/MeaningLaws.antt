@@ -24,7 +24,7 @@ use Rattle.run.specs.Link.{var}
 use Rattle.run.specs.Walk.{under, hits, hitsIn, tried, triedIn, Deep, DeepIn}
 use Rattle.run.proofs.CountLaws.{count-mem, mem-count, Linear}
 use Rattle.run.proofs.AfterLaws.{RowLike}
-use Rattle.run.proofs.SkeletonLaws.{Holds, Decided, goes, ends, step, reached, fill-decide, decide-count, count-fill, var-no-hole, three-of, one-row, opened-row}
+use Rattle.run.proofs.SkeletonLaws.{Holds, Decided, goes, ends, step, reached, fill-decide, decide-count, count-fill, var-no-hole, three-of, one-row, Opened, opened-row}
 use Rattle.run.proofs.StartLaws.{terms-long}
 
 -- A row under a skeleton: its open terms x.
@@ -160,25 +160,25 @@ all-map P Q h [] a = tt
 all-map P Q h (r ∷ rs) a = (h r (a .0), all-map P Q h rs (a .1))
 
 -- a row of a run, under the skeleton below the branch
-abbrev Below : ℕ → List ℕ → ℕ → List ℕ → Type 0
+abbrev pub Below : ℕ → List ℕ → ℕ → List ℕ → Type 0
 Below i K c x = Fine (decide i c K) x × (c ≢ hole)
 
-below-all : (K : List ℕ) (i j : ℕ) → count hole K ≡ i + suc j → (rows : List (List ℕ)) → All (Fine K) rows → Each (Below i K) (runs i rows)
+pub below-all : (K : List ℕ) (i j : ℕ) → count hole K ≡ i + suc j → (rows : List (List ℕ)) → All (Fine K) rows → Each (Below i K) (runs i rows)
 below-all K i j e = group-all (root i) (close i) (Fine K) (Below i K) (λ r f. (fine-close K i j e f, no-hole K i j e f))
 
-some-row : (P : List ℕ → Type 0) (rows : List (List ℕ)) → 0 < length rows → All P rows → (x : List ℕ) × P x
+pub some-row : (P : List ℕ → Type 0) (rows : List (List ℕ)) → 0 < length rows → All P rows → (x : List ℕ) × P x
 some-row P [] l a = absurd (let z : ⊥ = omega arith in z)
 some-row P (r ∷ rs) l a = (r, a .0)
 
 -- what a run's rows say of its cell and of what is open below it
 module _ (i k c : ℕ) (K : List ℕ) (rows : List (List ℕ)) (e : count hole K ≡ suc k) (l : i ≤ k) (s : 0 < length rows) (a : All (Below i K c) rows) where
-  cell-hole : c ≢ hole
+  pub cell-hole : c ≢ hole
   cell-hole = some-row (Below i K c) rows s a .1 .1
 
-  holes-below : count hole (decide i c K) ≡ arity c + k
+  pub holes-below : count hole (decide i c K) ≡ arity c + k
   holes-below = let z = decide-count i c K cell-hole (omega arith) in omega arith
 
-  fine-below : All (Fine (decide i c K)) rows
+  pub fine-below : All (Fine (decide i c K)) rows
   fine-below = all-map (Below i K c) (Fine (decide i c K)) (λ x y. y .0) rows a
 
 -- numbers of variables: m is the next one, n cells are left in each row
@@ -243,6 +243,10 @@ skeleton-low {K} {x} F c m v = F .low c (mem-count c (fill K x) (let e = count-f
 skeleton-short : {K x : List ℕ} → Fine K x → 2 ^ 15 + count hole K ≤ 2 ^ 16
 skeleton-short F = let h = terms-long (F .terms) in let s = F .short in omega arith
 
+-- so with a variable of its own at each open place it is a row itself
+pub opened-fine : {K x : List ℕ} → Fine K x → Opened (2 ^ 15) K
+opened-fine F = opened-row (2 ^ 15) (skeleton-linear F) (skeleton-low F) (skeleton-short F)
+
 -- no row that fits the skeleton unifies
 abbrev Dead : List ℕ → List ℕ → Type 0
 Dead G K = (X : List ℕ) → Terms (count hole K) X → RowLike (fill K X) → Linear (fill K X) → ¬ Unifies (fill K X) G
@@ -265,7 +269,7 @@ module _ (g : List ℕ) where
   dead-open : {K x : List ℕ} → Fine K x → Dead goal K → ¬ Tried g K
   unfolding Tried opened
   dead-open {K} F d u =
-      let o = opened-row (2 ^ 15) (skeleton-linear F) (skeleton-low F) (skeleton-short F) in
+      let o = opened-fine F in
       d (upFrom (2 ^ 15) (count hole K)) (o .terms) (o .row) (o .lin) u
 
   alive-open : {n : ℕ} {K R x : List ℕ} → Fine K x → Holds n goal K R → Tried g K

@@ -226,15 +226,16 @@ step {n} {G} {K} {R} i c H l h low high = go (after-correct n i c j R (rw e at (
         let o = one-row i c j K h e (three-of i (arity c) j (rw e′ at u)) r s in
         o .5 (λ Y X. ¬ Unifies Y R) f (H .same (o .0) (o .2) (o .3) (o .4) .0 (rw (o .1) at q)))
 
--- distinct variables at the open places unify with whatever is left
-pub open-unifies : {n k : ℕ} {ws R : List ℕ} → Fresh k ws → RowLike ws → Terms k R → GoalLike n R → Unifies ws R
-open-unifies {n} {k} {ws} {R} f r t g =
+-- distinct variables unify with any terms that do not hold them
+pub vars-unify : {k : ℕ} {ws R : List ℕ} → Fresh k ws → Terms k R → ((c : ℕ) → List·Memᴰ c R → ¬ List·Memᴰ c ws) → Unifies ws R
+vars-unify {ws = ws} {R = R} f t apart =
     let s = spread R Subst-id f t in
-    let off : (c : ℕ) → List·Memᴰ c R → s .new c ≡ idS c = λ c m. s .keeps c (λ q. apart c m q) in
+    let off : (c : ℕ) → List·Memᴰ c R → s .new c ≡ idS c = λ c m. s .keeps c (apart c m) in
     record { by = s .new; good = s .good; same = s .hits ∙ sym (inst-agree (s .new) idS R off ∙ inst-id R) }
-  where
-    apart : (c : ℕ) → List·Memᴰ c R → List·Memᴰ c ws → ⊥
-    apart c m q = let v = fresh-var f c q in let x = g .range c m v in let y = r .low c q v in omega arith
+
+-- so those at the open places unify with whatever is left
+open-unifies : {n k : ℕ} {ws R : List ℕ} → Fresh k ws → RowLike ws → Terms k R → GoalLike n R → Unifies ws R
+open-unifies f r t g = vars-unify f t (λ c m q. let v = fresh-var f c q in let x = g .range c m v in let y = r .low c q v in omega arith)
 
 -- a skeleton with a variable of its own at each open place
 pub record Opened (m : ℕ) (K : List ℕ) : Type 0 where
