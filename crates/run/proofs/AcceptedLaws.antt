@@ -1,23 +1,23 @@
 -- From an accepted table, plan and goal to what the walk takes for granted, and from what it gives to what a run is to report.
-use Prim.Native.Nat.{ℕ, zero, suc, pred, _+_, _-_, _^_, _≤_, _<_}
+use Prim.Native.Nat.{ℕ, zero, suc, _+_, _-_, _^_, _≤_, _<_}
 use mathlib.Core.Path.{_≡_, refl, sym, _∙_, ap, subst}
-use mathlib.Core.Logic.{_≢_, _⊎_, inl, inr, ⊎-elim}
+use mathlib.Core.Logic.{_≢_, _⊎_, ⊎-elim}
 use mathlib.Core.Bool.{Bool, true, false, true≢false}
-use mathlib.Core.List.{List, [], _∷_, _++_, List·Memᴰ, List·Memᴰ·head, List·Memᴰ·tail, List·Memᴰ·cases-cons, List·Memᴰ·not-nil}
+use mathlib.Core.List.{List, [], _∷_, List·Memᴰ, List·Memᴰ·head, List·Memᴰ·tail, List·Memᴰ·cases-cons, List·Memᴰ·not-nil}
 use native.Mathlib.Omega.{arith}
 use lib.Dec.{ltb}
 use borrow.Author.Tests.{ltb-true, ltb-false}
 use lib.ListN.{length, getD, take, drop, replicate, length-append, length-replicate, List·getD-append}
-use lib.Seq.{take-at, getD-append-add, getD-take}
+use lib.Seq.{take-at, getD-append-add}
 use Rattle.cell.specs.Cell.{arity, isVar, valuesAt}
 use Rattle.cell.proofs.CellLaws.{var-arity, var-small, cell-accepted}
-use Rattle.term.specs.Terms.{Terms, none, more, front, back, root, close}
+use Rattle.term.specs.Terms.{Terms, none, more, front, root, close}
 use Rattle.term.specs.Unify.{Unifies, renamed, Matches}
 use Rattle.term.proofs.Tests.{bool-cases}
 use Rattle.table.specs.All.{All}
-use Rattle.table.specs.Table.{count, Head, Row, IsTable, IsGoal}
+use Rattle.table.specs.Table.{Row, IsTable, IsGoal}
 use Rattle.table.proofs.Accepted.{few-variables}
-use Rattle.plan.specs.Runs.{Run, runs}
+use Rattle.plan.specs.Runs.{Run}
 use Rattle.plan.specs.Plans.{Plan, leaf, node, Branches, end, next}
 use Rattle.plan.specs.Checked.{padded}
 use Rattle.plan.proofs.CheckLaws.{rows-fit}
@@ -50,6 +50,9 @@ fine-row w r h =
       short = omega (arith, h .head .short);
       symbols = λ m. no-cell (h .head .cells hole m);
     }
+
+pub table-fine : {t : List ℕ} {w : ℕ} {rows : List (List ℕ)} → IsTable t w rows → All (Fine (replicate w hole)) rows
+table-fine {w = w} {rows = rows} i = all-map (Row w) (Fine (replicate w hole)) (fine-row w) rows (i .each)
 
 -- rows that fit: at most so many cells, so what is open below a branch is less
 fits-wide : (n k : ℕ) (rows : List (List ℕ)) → 0 < length rows → All (Fits n k) rows → k ≤ n

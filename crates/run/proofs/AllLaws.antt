@@ -1,6 +1,6 @@
 -- The goal of distinct variables: every branch is tried.
 use Prim.Native.Nat.{ℕ, zero, suc, _+_, _-_, _^_, _≤_, _<_}
-use mathlib.Core.Path.{_≡_, refl, sym, _∙_, ap, subst}
+use mathlib.Core.Path.{_≡_, refl, sym, ap}
 use mathlib.Core.Logic.{_≢_}
 use mathlib.Core.Bool.{true}
 use mathlib.Core.List.{List, [], _∷_, _++_}
@@ -9,12 +9,12 @@ use lib.ListN.{length, replicate}
 use Rattle.cell.specs.Cell.{arity, isVar}
 use Rattle.cell.proofs.CellLaws.{var-small}
 use Rattle.term.specs.Terms.{Terms, more, root, close}
-use Rattle.term.specs.Unify.{Unifies, renamed}
+use Rattle.term.specs.Unify.{renamed}
 use Rattle.term.proofs.TermsLaws.{Terms-++}
 use Rattle.term.proofs.Step.{fresh-var}
 use Rattle.table.specs.All.{All}
 use Rattle.table.specs.Table.{upFrom, count}
-use Rattle.plan.specs.Runs.{Run, runs}
+use Rattle.plan.specs.Runs.{Run}
 use Rattle.plan.specs.Plans.{Plan, leaf, node, Branches, end, next}
 use Rattle.plan.proofs.RunsLaws.{Each, Sized, group-sizes}
 use Rattle.run.specs.Skeleton.{hole, fill, decide, opened}
@@ -81,9 +81,11 @@ module _ (w : ℕ) (few : w ≤ 32) where
         let q : count hole K ≡ i + suc (k - i) = omega arith in
         let o = cell-hole i k c K (g .rows) e l (s .0 .0) (a .0) in
         let d = holes-below i k c K (g .rows) e l (s .0 .0) (a .0) in
-        let F = fine-below i k c K (g .rows) e l (s .0 .0) (a .0) in
-        (y, all-++ (Tried (upFrom 0 w)) (skeletons p (decide i c K)) (skeletonsIn bs i K)
-        (all-tried p (decide i c K) (wide-decide K i c (k - i) o q W) d F (s .0 .0)) (all-triedIn bs i K W e l (a .1) z (s .1) y))
+        let F = fine-below i k c K (g .rows) e l (s .0 .0) (a .0) in (
+          y,
+          all-++ (Tried (upFrom 0 w)) (skeletons p (decide i c K)) (skeletonsIn bs i K)
+              (all-tried p (decide i c K) (wide-decide K i c (k - i) o q W) d F (s .0 .0)) (all-triedIn bs i K W e l (a .1) z (s .1) y),
+        )
 
   counts-all : (P : List ℕ → Type 0) (xs : List (List ℕ)) → All P xs → Counts P xs (length xs)
   counts-all P [] a = zero-of

@@ -4,8 +4,7 @@ use mathlib.Core.Path.{_≡_, refl, sym, _∙_, ap, subst}
 use mathlib.Core.List.{List, [], _∷_, _++_}
 use native.Mathlib.Omega.{arith}
 use lib.ListN.{length, drop, replicate}
-use Rattle.table.specs.Refusal.{Refused, told, Answer, answered, turned}
-use Rattle.table.specs.Read.{Read, read, refuse}
+use Rattle.table.specs.Refusal.{Refused, told, answered, turned}
 use Rattle.table.specs.Table.{Table}
 use Rattle.table.proofs.ReadLaws.{apart, read-one}
 use Rattle.table.proofs.RefusalLaws.{told-one}
@@ -13,7 +12,7 @@ use Rattle.term.specs.Unify.{Matches}
 use Rattle.plan.specs.Plans.{Plan, write}
 use Rattle.plan.proofs.PlansLaws.{plan-tells}
 use Rattle.run.specs.Skeleton.{hole}
-use Rattle.run.specs.Run.{Picks, none, hit, miss, Counts, zero-of, one-of, none-of, skeletons, Tried, runOf, runTold, Ran, refusal, ran}
+use Rattle.run.specs.Run.{Picks, none, hit, miss, Counts, zero-of, one-of, none-of, skeletons, Tried, runTold, Ran, refusal, ran}
 use Rattle.run.specs.declared.RunAnswer.{RunAnswer}
 use Rattle.run.specs.declared.RunAnswer.the-variants as run-answer
 

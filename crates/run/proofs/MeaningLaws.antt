@@ -19,7 +19,7 @@ use Rattle.plan.specs.Plans.{Plan, leaf, node, Branches, end, next}
 use Rattle.plan.proofs.RunsLaws.{agree-eq, Each, Sized, group-all, group-sizes}
 use Rattle.run.specs.Skeleton.{hole, fill, decide, opened}
 use Rattle.run.specs.Run.{Picks, none, hit, miss, Counts, zero-of, one-of, none-of, skeletons, skeletonsIn, Tried}
-use Rattle.run.specs.After.{Left, stuck, left, after}
+use Rattle.run.specs.After.{Left}
 use Rattle.run.specs.Link.{var}
 use Rattle.run.specs.Walk.{under, hits, hitsIn, tried, triedIn, Deep, DeepIn}
 use Rattle.run.proofs.CountLaws.{count-mem, mem-count, Linear}

@@ -1,35 +1,27 @@
 -- What a run's promise says: demand 2 and document 01, "A run".
-use Prim.Native.Nat.{ℕ, zero, suc, _+_, _-_, _^_, _≤_, _<_}
-use mathlib.Core.Path.{_≡_, refl, sym, _∙_, ap, ap₂, subst}
-use mathlib.Core.Logic.{_≢_, _↔_, ⊎-elim}
-use mathlib.Core.Bool.{Bool, true, false}
+use Prim.Native.Nat.{ℕ, zero, suc, _+_, _-_, _≤_, _<_}
+use mathlib.Core.Path.{_≡_, refl, sym, _∙_, ap, subst}
+use mathlib.Core.Logic.{_↔_, ⊎-elim}
 use mathlib.Core.List.{List, [], _∷_, _++_, List·Memᴰ, List·Memᴰ·head, List·Memᴰ·tail, List·Memᴰ·cases-cons, List·Memᴰ·not-nil}
 use native.Mathlib.Omega.{arith}
 use lib.Dec.{ltb}
-use borrow.Author.Tests.{le-ltb}
+use borrow.Author.Tests.{le-ltb, ltb-false}
 use lib.ListN.{length, getD, drop, replicate, length-append}
-use Rattle.cell.specs.Cell.{arity, isVar}
-use Rattle.term.specs.Terms.{Terms, more, root, close}
-use Rattle.term.specs.Unify.{Unifies, renamed, Matches}
-use Rattle.term.proofs.TermsLaws.{Terms-++}
-use Rattle.term.proofs.Step.{fresh-var}
-use Rattle.table.specs.All.{All}
-use Rattle.table.specs.Refusal.{Refused, refused, Answer, answered, turned}
-use Rattle.table.specs.Read.{Read, read, refuse, when, andThen}
-use Rattle.table.specs.Table.{Table, tableOf, goalOf, upFrom, count, Row}
+use Rattle.term.specs.Unify.{Matches}
+use Rattle.table.specs.Refusal.{refused, answered}
+use Rattle.table.specs.Read.{Read, read, when, andThen}
+use Rattle.table.specs.Table.{Table, tableOf, goalOf, upFrom, count}
 use Rattle.table.proofs.ReadLaws.{apart, read-one, passed, first}
-use Rattle.table.proofs.Accepted.{is-table, is-goal}
-use Rattle.plan.specs.Runs.{Run, runs}
+use Rattle.table.proofs.Accepted.{is-table}
+use Rattle.plan.specs.Runs.{Run}
 use Rattle.plan.specs.Plans.{Plan, leaf, node, Branches, end, next, write, branches, branchesIn}
-use Rattle.plan.specs.Check.{planOf, planFor}
+use Rattle.plan.specs.Check.{planOf}
 use Rattle.plan.proofs.CheckLaws.{accepted-one}
-use Rattle.plan.proofs.RunsLaws.{Each, Sized, group-sizes}
-use Rattle.run.specs.Skeleton.{hole, fill, decide, opened}
+use Rattle.run.specs.Skeleton.{hole, decide}
 use Rattle.run.specs.Run.{Picks, none, hit, miss, Counts, zero-of, one-of, none-of, skeletons, skeletonsIn, Tried, runOf, runTold, Ran, refusal, ran}
 use Rattle.run.specs.declared.RunAnswer.{RunAnswer}
-use Rattle.run.proofs.CountLaws.{up-mem, up-distinct}
-use Rattle.run.proofs.SkeletonLaws.{count-all, fill-all, three-of, Three, three, fill-decide, decide-count, vars-unify, opened-row}
-use Rattle.run.proofs.MeaningLaws.{Fine}
+use Rattle.run.proofs.AllLaws.{every-branch}
+use Rattle.run.proofs.AcceptedLaws.{table-fine}
 use Rattle.run.proofs.Fixed.{picks-one, counts-one}
 
 -- Hits: "exactly those .., from the top down, each once".
@@ -89,3 +81,117 @@ mutual
 
 pub tried-most : {P : List ℕ → Type 0} {k n : ℕ} {rows : List (List ℕ)} (p : Plan k rows) (K : List ℕ) → Counts P (skeletons p K) n → n ≤ branches p
 tried-most p K c = omega (arith, counts-most c, skeletons-length p K)
+
+-- A run of an accepted table, plan and goal with room for every row is none that is turned away, and the other way round.
+
+runIn : (t g room : List ℕ) → Read ℕ → Read Table
+runIn t g room plan =
+    andThen (tableOf t) (λ (T : Table).
+    andThen plan (λ (n : ℕ).
+    andThen (goalOf (T .width) g) (λ (v : ℕ).
+    when (ltb (length room) (length (T .rows))) (refused 16 4 (length (T .rows))) (read T))))
+
+run-in : (t p g room : List ℕ) → runOf t p g room ≡ runIn t g room (planOf t p)
+unfolding runOf runIn
+run-in t p g room = refl
+
+-- what a run takes: the table, the plan, the goal, the room
+pub record Takes (t p g room : List ℕ) (T : Table) : Type 0 where
+  pub table : tableOf t ≡ read T
+  pub branches : ℕ
+  pub plan : planOf t p ≡ read branches
+  pub variables : ℕ
+  pub goal : goalOf (T .width) g ≡ read variables
+  pub room-for : length (T .rows) ≤ length room
+
+pub run-takes : {t p g room : List ℕ} {T : Table} → runOf t p g room ≡ read T → Takes t p g room T
+unfolding runIn
+run-takes {t} {p} {g} {room} {T} e =
+    let e₁ = sym (run-in t p g room) ∙ e in
+    let a = first (tableOf t) _ e₁ in
+    let b = first (planOf t p) _ (a .2) in
+    let c = first (goalOf (a .0 .width) g) _ (b .2) in
+    let d = passed (ltb (length room) (length (a .0 .rows))) _ (read (a .0)) (c .2) in
+    let q : a .0 ≡ T = read-one (d .1) in
+    record {
+      table = a .1 ∙ ap read q;
+      branches = b .0;
+      plan = b .1;
+      variables = c .0;
+      goal = ap (λ (x : Table). goalOf (x .width) g) (sym q) ∙ c .1;
+      room-for = subst (λ (x : Table). length (x .rows) ≤ length room) q (ltb-false (length room) (length (a .0 .rows)) (d .0));
+    }
+
+pub takes-run : {t p g room : List ℕ} {T : Table} → Takes t p g room T → runOf t p g room ≡ read T
+unfolding runIn
+takes-run {t} {p} {g} {room} {T} k = run-in t p g room ∙ rw (k .plan, k .table, k .goal, le-ltb (length room) (length (T .rows)) (k .room-for))
+
+-- any two accepted plans are taken alike
+any-plan : (t p p′ g room : List ℕ) {b b′ : ℕ} → planOf t p ≡ read b → planOf t p′ ≡ read b′ → runOf t p g room ≡ runOf t p′ g room
+unfolding runIn
+any-plan t p p′ g room e e′ = run-in t p g room ∙ go (planOf t p) (planOf t p′) e e′ ∙ sym (run-in t p′ g room)
+  where
+    go : (x y : Read ℕ) {b b′ : ℕ} → x ≡ read b → y ≡ read b′ → runIn t g room x ≡ runIn t g room y
+    go x y e e′ = rw (e, e′)
+
+-- Demand 2: "For an accepted table, plan and goal, and room for every row of the table, the rows reported are exactly those whose heads unify with the goal,
+-- as Prolog means it, from the top down, each once." The rest of the room is untouched.
+pub record Reported (T : Table) (g room room′ : List ℕ) (r : RunAnswer) : Type 0 where
+  pub found : List ℕ
+  pub tried : ℕ
+  pub right : Picks (λ (row : List ℕ). Matches row g) (T .rows) 0 found
+  pub wrote : room′ ≡ found ++ drop (length found) room
+  pub counts : runTold r ≡ answered (length found) tried
+
+pub reports : {t p g room room′ : List ℕ} {T : Table} {r : RunAnswer} → Takes t p g room T → Ran t p g room room′ r → Reported T g room room′ r
+reports k (refusal f a b c) = apart (sym (takes-run k) ∙ a)
+reports {g = g} {T = T} k (ran T′ tree found n a e w u b c) =
+    let q : T′ ≡ T = read-one (sym a ∙ takes-run k) in
+    record { found = found; tried = n; right = subst (λ (x : Table). Picks (λ (row : List ℕ). Matches row g) (x .rows) 0 found) q w; wrote = c; counts = b }
+
+-- one of a table's rows is reported exactly when it unifies with the goal
+pub reports-row : {T : Table} {g room room′ : List ℕ} {r : RunAnswer} (o : Reported T g room room′ r) (j : ℕ) → j < length (T .rows)
+    → List·Memᴰ j (o .found) ↔ Matches (getD (T .rows) j []) g
+reports-row o j h = let e : 0 + j ≡ j = omega arith in rw e at (picked (o .right) j h)
+
+-- "Every accepted plan answers every accepted goal as 2 says": two accepted plans of a table give the same hits
+pub same-hits : {t p p′ g room room′ room″ : List ℕ} {r r′ : RunAnswer} {b b′ : ℕ} → planOf t p ≡ read b → planOf t p′ ≡ read b′
+    → Ran t p g room room′ r → Ran t p′ g room room″ r′
+    → (room′ ≡ room″) × ((h n h′ n′ : ℕ) → runTold r ≡ answered h n → runTold r′ ≡ answered h′ n′ → h ≡ h′)
+same-hits {t} {p} {p′} {g} {room} e e′ (refusal f a b c) (refusal f′ a′ b′ c′) =
+    (c ∙ sym c′, λ h n h′ n′ x x′. absurd (let z : _≡_ {A = ℕ} 0 1 = cc in let y : ⊥ = omega arith in y))
+same-hits {t} {p} {p′} {g} {room} e e′ (refusal f a b c) (ran T tree found n a′ w v u b′ c′) = apart (sym a′ ∙ sym (any-plan t p p′ g room e e′) ∙ a)
+same-hits {t} {p} {p′} {g} {room} e e′ (ran T tree found n a w v u b c) (refusal f′ a′ b′ c′) = apart (sym a ∙ any-plan t p p′ g room e e′ ∙ a′)
+same-hits {t} {p} {p′} {g} {room} e e′ (ran T tree found n a w v u b c) (ran T′ tree′ found′ n′ a′ w′ v′ u′ b′ c′) =
+    let q : T ≡ T′ = read-one (sym a ∙ any-plan t p p′ g room e e′ ∙ a′) in
+    let f : found ≡ found′ = picks-one v (subst (λ (x : Table). Picks (λ (row : List ℕ). Matches row g) (x .rows) 0 found′) (sym q) v′) in (
+      c ∙ ap (λ (l : List ℕ). l ++ drop (length l) room) f ∙ sym c′,
+      λ h m h′ m′ x x′. let l : length found ≡ h = cc in let l′ : length found′ ≡ h′ = cc in sym l ∙ ap length f ∙ l′,
+    )
+
+-- 01, "That number never exceeds the plan's cost": the tries are at most the branches that the check counts
+tree-branches : (t p : List ℕ) {T : Table} {b : ℕ} (tree : Plan (T .width) (T .rows)) → tableOf t ≡ read T → planOf t p ≡ read b → p ≡ write tree → branches tree ≡ b
+tree-branches t p {T} {b} tree e f w =
+    let i = is-table t e in
+    let a = accepted-one T i p b .0 (rw e at f) in
+    ap branches (a .3 tree (sym w)) ∙ a .2
+
+pub tries-at-most : {t p g room room′ : List ℕ} {r : RunAnswer} {b h n : ℕ} → planOf t p ≡ read b → Ran t p g room room′ r → runTold r ≡ answered h n → n ≤ b
+tries-at-most e (refusal f a x c) y = absurd (let z : _≡_ {A = ℕ} 0 1 = cc in let y : ⊥ = omega arith in y)
+tries-at-most {t} {p} {n = n} e (ran T tree found m a w v u x c) y =
+    let q : m ≡ n = cc in
+    let k = run-takes a in
+    omega (arith, tried-most tree (replicate (T .width) hole) u, tree-branches t p tree (k .table) e w)
+
+-- "and equals it for the goal of distinct variables"
+pub tries-every : {t p room room′ : List ℕ} {T : Table} {r : RunAnswer} {b h n : ℕ} → tableOf t ≡ read T → planOf t p ≡ read b → Ran t p (upFrom 0 (T .width)) room room′ r
+    → runTold r ≡ answered h n → n ≡ b
+tries-every d e (refusal f a x c) y = absurd (let z : _≡_ {A = ℕ} 0 1 = cc in let y : ⊥ = omega arith in y)
+tries-every {t} {p} {T = T} {n = n} d e (ran T′ tree found m a w v u x c) y =
+    let q : m ≡ n = cc in
+    let k = run-takes a in
+    let s : T ≡ T′ = read-one (sym d ∙ k .table) in
+    let i = is-table _ (k .table) in
+    let u′ : Counts (Tried (upFrom 0 (T′ .width))) (skeletons tree (replicate (T′ .width) hole)) m = subst (λ (x : Table). Counts (Tried (upFrom 0 (x .width))) (skeletons tree (replicate (T′ .width) hole)) m) s u in
+    let all = every-branch (T′ .width) (omega (arith, i .width)) tree (table-fine i) (omega (arith, i .count)) in
+    sym q ∙ counts-one u′ all ∙ skeletons-length tree (replicate (T′ .width) hole) ∙ tree-branches t p tree (k .table) e w
