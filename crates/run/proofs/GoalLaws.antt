@@ -7,14 +7,16 @@ use native.Mathlib.Nat.{add-zero, zero-add, suc-add, add-assoc}
 use native.Mathlib.Numerals.{one-add}
 use native.Mathlib.Omega.{arith}
 use native.Mathlib.Decide.{ℕ-discrete}
-use lib.ListN.{length, getD, take, drop, set, length-append, length-drop, length-set}
-use lib.Seq.{drop-cons, drop-drop, drop-at, length-take-le, getD-take, getD-set-same, getD-set-other}
+use lib.ListN.{length, getD, take, drop, set, replicate, length-append, length-drop, length-set, length-replicate, drop-of-length-le}
+use lib.Seq.{sets, sets-eq, drop-cons, drop-drop, drop-at, length-take-le, getD-take, getD-set-same, getD-set-other}
 use Rattle.cell.specs.Cell.{arity}
 use Rattle.term.specs.Terms.{Terms, none, more, front, back}
 use Rattle.term.proofs.TermsLaws.{Terms-1, nil-zero, front-back, back-terms, front-zero}
 use Rattle.table.specs.All.{All}
 use Rattle.table.specs.Table.{upFrom}
 use Rattle.run.specs.See.{steps, hopOf, Whole}
+use Rattle.plan.specs.Checked.{padded}
+use Rattle.run.proofs.SeeLaws.{store-next, store-end}
 use Rattle.run.proofs.CountLaws.{up-length, up-at}
 
 -- the first a + b terms
@@ -120,3 +122,23 @@ done-none gs n = record {
   places = λ x a b. absurd (let z : ⊥ = omega arith in z);
   numbers = λ r a b. up-at 1 64 r b ∙ omega arith;
 }
+
+-- the goal's cells, copied one after another into an array of zeros
+drop-zeros : (i n : ℕ) → drop {A = ℕ} i (replicate n 0) ≡ replicate (n - i) 0
+drop-zeros zero n = let e : n - 0 ≡ n = omega arith in rw e
+drop-zeros (suc i) zero = let e : 0 - suc i ≡ 0 = omega arith in rw e
+drop-zeros (suc i) (suc n) = let e : suc n - suc i ≡ n - i = omega arith in rw e (drop-zeros i n)
+
+pub copied-none : (g : List ℕ) → length g ≤ 32 → sets (replicate 32 0) 0 (drop 0 g) ≡ padded 32 g
+copied-none g h =
+    let e : length {A = ℕ} (replicate 32 0) ≡ 32 = length-replicate {A = ℕ} 32 0 in
+    let q : 0 + length g ≡ length g = omega arith in
+    sets-eq g (replicate 32 0) 0 (omega arith) ∙ ap (λ (l : List ℕ). g ++ l) (rw q (drop-zeros (length g) 32))
+
+pub copied-more : (g cells fin : List ℕ) (i : ℕ) → i < length g → sets cells i (drop i g) ≡ fin → sets (set cells i (getD g i 0)) (i + 1) (drop (i + 1) g) ≡ fin
+copied-more g cells fin i h e =
+    let q : i + 1 ≡ suc i = omega arith in
+    store-next cells fin (drop i g) (drop (i + 1) g) i (getD g i 0) (rw q (drop-cons g i 0 h)) e
+
+pub copied-all : (g cells fin : List ℕ) (i : ℕ) → length g ≤ i → sets cells i (drop i g) ≡ fin → cells ≡ fin
+copied-all g cells fin i h e = store-end cells fin (drop i g) i (drop-of-length-le g h) e

@@ -2,11 +2,12 @@
 // refers to a term of the goal by a number: below 32 it is a cell of the goal, from 32 on a variable made for an argument.
 ghost use mathlib.Core.Path.{_≡_};
 ghost use mathlib.Core.Bool.{true};
-ghost use Prim.Native.Nat.{_<_};
-ghost use lib.ListN.{getD};
+ghost use Prim.Native.Nat.{_≤_, _<_};
+ghost use lib.ListN.{length};
 ghost use Rattle.cell.specs.Cell.{isVar};
 ghost use Rattle.table.specs.All.{All};
 ghost use Rattle.table.specs.Table.{upFrom};
+ghost use Rattle.plan.specs.Checked.{padded};
 ghost use Rattle.run.specs.See.{viewVar, viewOf, Visible, steps, hopOf, Whole, Stepped};
 
 // What a term of the goal is found to be.
@@ -15,6 +16,20 @@ pub enum View {
     Loose(usize),
     // a symbol, and where its first argument is
     Symbol(u32, usize),
+}
+
+// The goal's cells in an array, 0 after them.
+pub fn cells_of(goal: &[u32]) -> [u32; 32]
+    requires { ⌜ length (now goal) ≤ 32 ⌝ }
+    ensures { λ r. ⌜ r ≡ padded 32 (now (goal .entry)) ⌝ }
+{
+    let mut cells = [0u32; 32];
+    let mut i = 0;
+    while i < goal.len() {
+        cells[i] = goal[i];
+        i += 1;
+    }
+    cells
 }
 
 pub fn wide(x: u8) -> usize
