@@ -11,4 +11,6 @@ pub mod MeaningLaws
 pub mod AllLaws
 pub mod AcceptedLaws
 pub mod Fixed
+pub mod TakesLaws
+pub mod EntryLaws
 pub mod Theorems

@@ -4,24 +4,23 @@ use mathlib.Core.Path.{_≡_, refl, sym, _∙_, ap, subst}
 use mathlib.Core.Logic.{_↔_, ⊎-elim}
 use mathlib.Core.List.{List, [], _∷_, _++_, List·Memᴰ, List·Memᴰ·head, List·Memᴰ·tail, List·Memᴰ·cases-cons, List·Memᴰ·not-nil}
 use native.Mathlib.Omega.{arith}
-use lib.Dec.{ltb}
-use borrow.Author.Tests.{le-ltb, ltb-false}
 use lib.ListN.{length, getD, drop, replicate, length-append}
 use Rattle.term.specs.Unify.{Matches}
-use Rattle.table.specs.Refusal.{refused, answered}
-use Rattle.table.specs.Read.{Read, read, when, andThen}
-use Rattle.table.specs.Table.{Table, tableOf, goalOf, upFrom, count}
-use Rattle.table.proofs.ReadLaws.{apart, read-one, passed, first}
+use Rattle.table.specs.Refusal.{answered}
+use Rattle.table.specs.Read.{read}
+use Rattle.table.specs.Table.{Table, tableOf, upFrom, count}
+use Rattle.table.proofs.ReadLaws.{apart, read-one}
 use Rattle.table.proofs.Accepted.{is-table}
 use Rattle.plan.specs.Runs.{Run}
 use Rattle.plan.specs.Plans.{Plan, leaf, node, Branches, end, next, write, branches, branchesIn}
 use Rattle.plan.specs.Check.{planOf}
 use Rattle.plan.proofs.CheckLaws.{accepted-one}
 use Rattle.run.specs.Skeleton.{hole, decide}
-use Rattle.run.specs.Run.{Picks, none, hit, miss, Counts, zero-of, one-of, none-of, skeletons, skeletonsIn, Tried, runOf, runTold, Ran, refusal, ran}
+use Rattle.run.specs.Run.{Picks, none, hit, miss, Counts, zero-of, one-of, none-of, skeletons, skeletonsIn, Tried, runTold, Ran, refusal, ran}
 use Rattle.run.specs.declared.RunAnswer.{RunAnswer}
 use Rattle.run.proofs.AllLaws.{every-branch}
 use Rattle.run.proofs.AcceptedLaws.{table-fine}
+use Rattle.run.proofs.TakesLaws.{Takes, run-takes, takes-run, any-plan}
 use Rattle.run.proofs.Fixed.{picks-one, counts-one}
 
 -- Hits: "exactly those .., from the top down, each once".
@@ -81,58 +80,6 @@ mutual
 
 pub tried-most : {P : List ℕ → Type 0} {k n : ℕ} {rows : List (List ℕ)} (p : Plan k rows) (K : List ℕ) → Counts P (skeletons p K) n → n ≤ branches p
 tried-most p K c = omega (arith, counts-most c, skeletons-length p K)
-
--- A run of an accepted table, plan and goal with room for every row is none that is turned away, and the other way round.
-
-runIn : (t g room : List ℕ) → Read ℕ → Read Table
-runIn t g room plan =
-    andThen (tableOf t) (λ (T : Table).
-    andThen plan (λ (n : ℕ).
-    andThen (goalOf (T .width) g) (λ (v : ℕ).
-    when (ltb (length room) (length (T .rows))) (refused 16 4 (length (T .rows))) (read T))))
-
-run-in : (t p g room : List ℕ) → runOf t p g room ≡ runIn t g room (planOf t p)
-unfolding runOf runIn
-run-in t p g room = refl
-
--- what a run takes: the table, the plan, the goal, the room
-pub record Takes (t p g room : List ℕ) (T : Table) : Type 0 where
-  pub table : tableOf t ≡ read T
-  pub branches : ℕ
-  pub plan : planOf t p ≡ read branches
-  pub variables : ℕ
-  pub goal : goalOf (T .width) g ≡ read variables
-  pub room-for : length (T .rows) ≤ length room
-
-pub run-takes : {t p g room : List ℕ} {T : Table} → runOf t p g room ≡ read T → Takes t p g room T
-unfolding runIn
-run-takes {t} {p} {g} {room} {T} e =
-    let e₁ = sym (run-in t p g room) ∙ e in
-    let a = first (tableOf t) _ e₁ in
-    let b = first (planOf t p) _ (a .2) in
-    let c = first (goalOf (a .0 .width) g) _ (b .2) in
-    let d = passed (ltb (length room) (length (a .0 .rows))) _ (read (a .0)) (c .2) in
-    let q : a .0 ≡ T = read-one (d .1) in
-    record {
-      table = a .1 ∙ ap read q;
-      branches = b .0;
-      plan = b .1;
-      variables = c .0;
-      goal = ap (λ (x : Table). goalOf (x .width) g) (sym q) ∙ c .1;
-      room-for = subst (λ (x : Table). length (x .rows) ≤ length room) q (ltb-false (length room) (length (a .0 .rows)) (d .0));
-    }
-
-pub takes-run : {t p g room : List ℕ} {T : Table} → Takes t p g room T → runOf t p g room ≡ read T
-unfolding runIn
-takes-run {t} {p} {g} {room} {T} k = run-in t p g room ∙ rw (k .plan, k .table, k .goal, le-ltb (length room) (length (T .rows)) (k .room-for))
-
--- any two accepted plans are taken alike
-any-plan : (t p p′ g room : List ℕ) {b b′ : ℕ} → planOf t p ≡ read b → planOf t p′ ≡ read b′ → runOf t p g room ≡ runOf t p′ g room
-unfolding runIn
-any-plan t p p′ g room e e′ = run-in t p g room ∙ go (planOf t p) (planOf t p′) e e′ ∙ sym (run-in t p′ g room)
-  where
-    go : (x y : Read ℕ) {b b′ : ℕ} → x ≡ read b → y ≡ read b′ → runIn t g room x ≡ runIn t g room y
-    go x y e e′ = rw (e, e′)
 
 -- Demand 2: "For an accepted table, plan and goal, and room for every row of the table, the rows reported are exactly those whose heads unify with the goal,
 -- as Prolog means it, from the top down, each once." The rest of the room is untouched.

@@ -57,7 +57,7 @@ under-number n (left R) f h = h R
 mutual
   unfolding hits
 
-  hits-few : {k : ℕ} {rows : List (List ℕ)} (p : Plan k rows) (m : ℕ) (R : List ℕ) (f : ℕ) → length (hits p m R f) ≤ length rows
+  pub hits-few : {k : ℕ} {rows : List (List ℕ)} (p : Plan k rows) (m : ℕ) (R : List ℕ) (f : ℕ) → length (hits p m R f) ≤ length rows
   hits-few (leaf {rows}) m R f = omega (arith, up-length f (length rows))
   hits-few (node {rows = rows} i h bs) m R f = omega (arith, hitsIn-few bs i m R f, group-rows (root i) (close i) rows)
 

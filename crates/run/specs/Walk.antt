@@ -9,9 +9,12 @@ use lib.ListN.{length, getD, take, drop}
 use lib.Seq.{sets}
 use Rattle.cell.specs.Cell.{arity, isVar}
 use Rattle.table.specs.All.{All}
-use Rattle.table.specs.Table.{upFrom}
+use Rattle.table.specs.Read.{read}
+use Rattle.table.specs.Table.{Table, tableOf, upFrom}
 use Rattle.plan.specs.Runs.{Run}
 use Rattle.plan.specs.Plans.{Plan, leaf, node, Branches, end, next, write}
+use Rattle.plan.specs.Marks.{endsIn, manyIn}
+use Rattle.plan.specs.Checked.{padded}
 use Rattle.plan.proofs.MarksLaws.{Noted}
 use Rattle.run.specs.After.{Left, stuck, left, after}
 use Rattle.run.specs.See.{viewOf, steps}
@@ -169,3 +172,18 @@ pub record Begun (plan ends many goal sib room : List ℕ) (w : ℕ) : Type 0 wh
   pub few : length rows ≤ 64
   pub roomy : length rows ≤ length room
   pub size : length plan ≤ 6082
+
+-- what the check hands on of a plan that it accepts for a table
+pub record Accepted (table plan ends many : List ℕ) (width rows : ℕ) : Type 0 where
+  pub T : Table
+  pub tree : Plan (T .width) (T .rows)
+  pub reads : tableOf table ≡ read T
+  pub cells : plan ≡ write tree
+  pub same-width : width ≡ T .width
+  pub same-rows : rows ≡ length (T .rows)
+  pub same-ends : ends ≡ padded 6082 (endsIn tree 0)
+  pub same-many : many ≡ padded 6082 (manyIn tree)
+
+pub record AcceptedSome (plan ends many : List ℕ) (width rows : ℕ) : Type 0 where
+  pub table : List ℕ
+  pub accepted : Accepted table plan ends many width rows
