@@ -4,3 +4,9 @@ pub mod SizeLaws
 pub mod CheckLaws
 pub mod MarksLaws
 pub mod Examples
+pub mod MaskLaws
+pub mod ColumnLaws
+pub mod RowsLaws
+pub mod StepLaws
+pub mod EntryLaws
+pub mod Fixed
