@@ -10,25 +10,27 @@ use Rattle.table.specs.Refusal.{Refused, refused, told, answered, turned}
 use Rattle.table.specs.declared.Refusal.{Refusal}
 use Rattle.table.specs.declared.Reason.the-variants.{Room}
 use Rattle.table.specs.declared.Input.the-variants.{Lent}
-use Rattle.table.specs.Read.{Read, read, refuse}
-use Rattle.table.specs.Table.{goalOf, goalSays, goalTold, IsTable, IsGoal}
+use Rattle.table.specs.Read.{Read, read, refuse, andThen}
+use Rattle.table.specs.Table.{Table, tableOf, goalOf, goalSays, goalTold, IsTable, IsGoal}
 use Rattle.table.specs.declared.GoalAnswer.{GoalAnswer}
 use Rattle.table.specs.declared.GoalAnswer.the-variants as goal-answer
 use Rattle.table.proofs.Accepted.{is-table, is-goal}
 use Rattle.plan.specs.Plans.{branches}
-use Rattle.plan.specs.Check.{planOf}
-use Rattle.plan.specs.Checked.{padded}
+use Rattle.plan.specs.Check.{planFor, planOf}
+use Rattle.plan.specs.Checked.{padded, planTold, Marks, marked}
+use Rattle.plan.specs.declared.Marked.{Marked}
+use Rattle.plan.specs.declared.PlanAnswer.the-variants as plan-answer
 use Rattle.plan.proofs.CheckLaws.{accepted-one, rows-fit}
 use Rattle.plan.proofs.PlansLaws.{write-one}
 use Rattle.plan.proofs.SizeLaws.{size-bound}
 use Rattle.plan.proofs.MarksLaws.{noted-marks}
-use Rattle.run.specs.Run.{Ran, refusal, ran}
+use Rattle.run.specs.Run.{runOf, Ran, refusal, ran}
 use Rattle.run.specs.See.{Whole, Stepped}
 use Rattle.run.specs.Walk.{hits, tried, Begun, Accepted}
 use Rattle.run.specs.declared.RunAnswer.the-variants as run-answer
 use Rattle.run.proofs.WalkLaws.{hits-few}
 use Rattle.run.proofs.AcceptedLaws.{goal-head, goal-whole, goal-lies, tree-deep, hits-right, tried-right}
-use Rattle.run.proofs.TakesLaws.{run-goal, run-room, takes-run}
+use Rattle.run.proofs.TakesLaws.{run-table, run-plan, run-goal, run-room, takes-run}
 
 -- what the goal's answer tells of its reading
 pub says-goal : (g : List ℕ) (x : Read ℕ) {a : GoalAnswer} {n v : ℕ} → goalTold a ≡ goalSays g x → a ≡ goal-answer.Accepted n v → (x ≡ read v) × (n ≡ length g)
@@ -108,3 +110,30 @@ module _ {t p es ms : List ℕ} {w n : ℕ} (A : Accepted t p es ms w n) where
             (takes-run (record { table = A .reads; branches = branches (A .tree); plan = plan-reads; variables = v; goal = at-width e; room-for = omega (arith, A .same-rows) }))
             (A .cells) (hits-right goal-is (is .each) (c .0) (A .tree)) (tried-right goal-is (is .each) (c .0) (A .tree))
             (ap₂ answered (x .1) (x .2)) (x .0 ∙ sets-eq found room 0 b ∙ ap (λ (i : ℕ). found ++ drop i room) q)
+
+-- What the check hands on: an accepted plan, or why the table or the plan is turned away.
+pub marked-accepted : {t p : List ℕ} {m : Marked} {b : ℕ} → Marks t p m → m .answer ≡ plan-answer.Accepted b → Accepted t p (m .ends) (m .many) (m .width) (m .rows)
+marked-accepted (marked T tree e c a w r x y) d = record { T = T; tree = tree; reads = e; cells = c; same-width = w; same-rows = r; same-ends = x; same-many = y }
+marked-accepted {m = m} {b} (Marks.refused f e a w r x y) d =
+    let q : planTold (m .answer) ≡ answered b 0 = ap planTold d in
+    absurd (let z : _≡_ {A = ℕ} 0 1 = cc in let y : ⊥ = omega arith in y)
+
+run-refused : (t p g room : List ℕ) {f : Refused} → planOf t p ≡ refuse f → runOf t p g room ≡ refuse f
+run-refused t p g room {f} e = go (tableOf t) refl
+  where
+    go : (x : Read Table) → tableOf t ≡ x → runOf t p g room ≡ refuse f
+    go (read T) d = run-plan t p g room d e
+    go (refuse h) d =
+        let q : _≡_ {A = Read ℕ} (refuse h) (refuse f) = sym (ap (λ (x : Read Table). andThen x (λ (T : Table). planFor T p)) d) ∙ e in
+        let k : h ≡ f = cc in
+        run-table t p g room d ∙ ap refuse k
+
+pub marked-refused : {t p : List ℕ} {m : Marked} {f : Refusal} (g room : List ℕ) → Marks t p m → m .answer ≡ plan-answer.Refused f → Ran t p g room room (run-answer.Refused f)
+marked-refused {m = m} {f} g room (marked T tree e c a w r x y) d =
+    let q : plan-answer.Refused f ≡ plan-answer.Accepted (branches tree) = sym d ∙ a in
+    let z : planTold (plan-answer.Refused f) ≡ planTold (plan-answer.Accepted (branches tree)) = ap planTold q in
+    absurd (let z : _≡_ {A = ℕ} 0 1 = cc in let y : ⊥ = omega arith in y)
+marked-refused {t} {p} {m} {f} g room (Marks.refused h e a w r x y) d =
+    let q : planTold (m .answer) ≡ turned (told f) = ap planTold d in
+    let k : h ≡ told f = cc in
+    refusal (told f) (run-refused t p g room e ∙ ap refuse k) refl refl

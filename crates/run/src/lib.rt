@@ -8,6 +8,7 @@ mod goal;
 mod places;
 mod walk;
 
+use plan::PlanAnswer;
 use table::GoalAnswer;
 use table::Input;
 use table::Reason;
@@ -20,10 +21,10 @@ pub enum RunAnswer {
 }
 
 // A run of a plan that the check has accepted, with what the check noted of it: the goal, the room, then the walk.
-fn run_accepted(
+fn run_accepted<'a>(
     plan: &[u32],
-    ends: &[u16; 6082],
-    many: &[u8; 6082],
+    ends: &'a [u16; 6082],
+    many: &'a [u8; 6082],
     width: usize,
     rows: usize,
     goal: &[u32],
@@ -46,6 +47,22 @@ fn run_accepted(
             let sib = goal::siblings(&cells, n);
             let o = walk::walk(plan, ends, many, &cells, &sib, width, room);
             RunAnswer::Ran(o.hits, o.tried)
+        }
+    }
+}
+
+// A run of any plan for any table on any goal. What is turned away, in this order: the table, the plan, the goal, the room.
+pub fn run_plan(table: &[u32], plan: &[u32], goal: &[u32], room: &mut [u8]) -> RunAnswer
+    ensures { λ r. ⌜ Ran (now (table .entry)) (now (plan .entry)) (now (goal .entry)) (now (room .entry)) (now (room .exit)) r ⌝ }
+{
+    let marked = plan::check_marked(table, plan);
+    let answer = marked.answer;
+    match answer {
+        PlanAnswer::Refused(f) => RunAnswer::Refused(f),
+        PlanAnswer::Accepted(_) => {
+            let width = marked.width;
+            let rows = marked.rows;
+            run_accepted(plan, &marked.ends, &marked.many, width, rows, goal, room)
         }
     }
 }
