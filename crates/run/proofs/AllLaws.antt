@@ -49,48 +49,59 @@ renamed-up n (suc a) h =
     let r : renamed (upFrom (suc n) a) ≡ upFrom (suc (2 ^ 16 + n)) a = rw q at (renamed-up (suc n) a (omega arith)) in
     rw v (ap (λ (l : List ℕ). (2 ^ 16 + n) ∷ l) r)
 
-module _ (w : ℕ) (few : w ≤ 32) where
-  one-tried : {K x : List ℕ} → Wide w K → Fine K x → Tried (upFrom 0 w) K
-  unfolding Tried opened
-  one-tried {K} W F =
-      let o = opened-fine F in
-      let X = upFrom (2 ^ 15) (count hole K) in
-      let f = up-distinct (2 ^ 16 + 0) w (omega arith) in
-      let u = vars-unify f (W .fills X (o .terms)) (λ c m q. let v = fresh-var f c q in let r = up-mem (2 ^ 16 + 0) w c q in let l = o .row .low c m v in omega arith) in
-      rw (renamed-up 0 w (omega arith)) (record { by = u .by; good = u .good; same = sym (u .same) })
+all-++ : (P : List ℕ → Type 0) (xs ys : List (List ℕ)) → All P xs → All P ys → All P (xs ++ ys)
+all-++ P [] ys a b = b
+all-++ P (x ∷ xs) ys a b = (a .0, all-++ P xs ys (a .1) b)
 
-  all-++ : (P : List ℕ → Type 0) (xs ys : List (List ℕ)) → All P xs → All P ys → All P (xs ++ ys)
-  all-++ P [] ys a b = b
-  all-++ P (x ∷ xs) ys a b = (a .0, all-++ P xs ys (a .1) b)
-
+-- what every skeleton of w arguments above a row has, all skeletons of a plan have
+module _ (w : ℕ) (Q : List ℕ → Type 0) (has : (K x : List ℕ) → Wide w K → Fine K x → Q K) where
   mutual
     unfolding skeletons
 
-    all-tried : {k : ℕ} {rows : List (List ℕ)} (p : Plan k rows) (K : List ℕ) → Wide w K → count hole K ≡ k → All (Fine K) rows → 0 < length rows → All (Tried (upFrom 0 w)) (skeletons p K)
-    all-tried leaf K W e a s = tt
-    all-tried (node {k} {rows} i h bs) K W e a s =
+    all-skeletons : {k : ℕ} {rows : List (List ℕ)} (p : Plan k rows) (K : List ℕ) → Wide w K → count hole K ≡ k → All (Fine K) rows → 0 < length rows → All Q (skeletons p K)
+    all-skeletons leaf K W e a s = tt
+    all-skeletons (node {k} {rows} i h bs) K W e a s =
         let q : count hole K ≡ i + suc (k - i) = omega arith in
         let x = some-row (Fine K) rows s a in
-        all-triedIn bs i K W e h (below-all K i (k - i) q rows a) (length rows) (group-sizes (root i) (close i) rows) (one-tried W (x .1))
+        all-skeletonsIn bs i K W e h (below-all K i (k - i) q rows a) (length rows) (group-sizes (root i) (close i) rows) (has K (x .0) W (x .1))
 
-    all-triedIn : {k : ℕ} {gs : List Run} (bs : Branches k gs) (i : ℕ) (K : List ℕ) → Wide w K → count hole K ≡ suc k → i ≤ k → Each (Below i K) gs → (z : ℕ) → Sized z gs → Tried (upFrom 0 w) K
-        → All (Tried (upFrom 0 w)) (skeletonsIn bs i K)
-    all-triedIn end i K W e l a z s y = tt
-    all-triedIn (next {k} {g} {gs} p bs) i K W e l a z s y =
+    all-skeletonsIn : {k : ℕ} {gs : List Run} (bs : Branches k gs) (i : ℕ) (K : List ℕ) → Wide w K → count hole K ≡ suc k → i ≤ k → Each (Below i K) gs → (z : ℕ) → Sized z gs → Q K
+        → All Q (skeletonsIn bs i K)
+    all-skeletonsIn end i K W e l a z s y = tt
+    all-skeletonsIn (next {k} {g} {gs} p bs) i K W e l a z s y =
         let c = g .cell in
         let q : count hole K ≡ i + suc (k - i) = omega arith in
         let o = cell-hole i k c K (g .rows) e l (s .0 .0) (a .0) in
         let d = holes-below i k c K (g .rows) e l (s .0 .0) (a .0) in
-        let F = fine-below i k c K (g .rows) e l (s .0 .0) (a .0) in (
-          y,
-          all-++ (Tried (upFrom 0 w)) (skeletons p (decide i c K)) (skeletonsIn bs i K)
-              (all-tried p (decide i c K) (wide-decide K i c (k - i) o q W) d F (s .0 .0)) (all-triedIn bs i K W e l (a .1) z (s .1) y),
-        )
+        let F = fine-below i k c K (g .rows) e l (s .0 .0) (a .0) in
+        let below = all-skeletons p (decide i c K) (wide-decide K i c (k - i) o q W) d F (s .0 .0) in
+        (y, all-++ Q (skeletons p (decide i c K)) (skeletonsIn bs i K) below (all-skeletonsIn bs i K W e l (a .1) z (s .1) y))
 
-  counts-all : (P : List ℕ → Type 0) (xs : List (List ℕ)) → All P xs → Counts P xs (length xs)
-  counts-all P [] a = zero-of
-  counts-all P (x ∷ xs) a = one-of (a .0) (counts-all P xs (a .1))
+-- each open place a variable, they are w terms
+opened-terms : (w : ℕ) (K x : List ℕ) → Wide w K → Fine K x → Terms w (opened K)
+unfolding opened
+opened-terms w K x W F = W .fills (upFrom (2 ^ 15) (count hole K)) (opened-fine F .terms)
 
-  pub every-branch : {rows : List (List ℕ)} (p : Plan w rows) → All (Fine (replicate w hole)) rows → 0 < length rows
-      → Counts (Tried (upFrom 0 w)) (skeletons p (replicate w hole)) (length (skeletons p (replicate w hole)))
-  every-branch p a s = counts-all (Tried (upFrom 0 w)) (skeletons p (replicate w hole)) (all-tried p (replicate w hole) (wide-first w) (count-all w) a s)
+pub skeletons-terms : (w : ℕ) {rows : List (List ℕ)} (p : Plan w rows) → All (Fine (replicate w hole)) rows → 0 < length rows
+    → All (λ (K : List ℕ). Terms w (opened K)) (skeletons p (replicate w hole))
+skeletons-terms w p a s = all-skeletons w (λ (K : List ℕ). Terms w (opened K)) (opened-terms w) p (replicate w hole) (wide-first w) (count-all w) a s
+
+-- the goal of distinct variables unifies with each
+one-tried : (w : ℕ) → w ≤ 32 → (K x : List ℕ) → Wide w K → Fine K x → Tried (upFrom 0 w) K
+unfolding Tried opened
+one-tried w few K x W F =
+    let o = opened-fine F in
+    let f = up-distinct (2 ^ 16 + 0) w (omega arith) in
+    let u = vars-unify f (W .fills (upFrom (2 ^ 15) (count hole K)) (o .terms))
+    (λ c m q. let v = fresh-var f c q in let r = up-mem (2 ^ 16 + 0) w c q in let l = o .row .low c m v in omega arith) in
+    rw (renamed-up 0 w (omega arith)) (record { by = u .by; good = u .good; same = sym (u .same) })
+
+counts-all : (P : List ℕ → Type 0) (xs : List (List ℕ)) → All P xs → Counts P xs (length xs)
+counts-all P [] a = zero-of
+counts-all P (x ∷ xs) a = one-of (a .0) (counts-all P xs (a .1))
+
+pub every-branch : (w : ℕ) → w ≤ 32 → {rows : List (List ℕ)} (p : Plan w rows) → All (Fine (replicate w hole)) rows → 0 < length rows
+    → Counts (Tried (upFrom 0 w)) (skeletons p (replicate w hole)) (length (skeletons p (replicate w hole)))
+every-branch w few p a s =
+    counts-all (Tried (upFrom 0 w)) (skeletons p (replicate w hole))
+    (all-skeletons w (Tried (upFrom 0 w)) (one-tried w few) p (replicate w hole) (wide-first w) (count-all w) a s)

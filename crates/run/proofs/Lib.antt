@@ -14,3 +14,5 @@ pub mod Fixed
 pub mod TakesLaws
 pub mod EntryLaws
 pub mod Theorems
+pub mod Decided
+pub mod Examples
