@@ -1,0 +1,73 @@
+use Prim.Native.Nat.{ℕ, _+_, _≤_, _<_}
+use mathlib.Core.Path.{_≡_}
+use borrow.Author.Needs.{needs}
+use native.Mathlib.Omega.{arith}
+use lib.Seq.{sets}
+use Rattle.table.specs.All.{All}
+use Rattle.run.specs.See.{steps}
+use Rattle.run.proofs.SeeLaws.{steps-all, steps-more, steps-none, store-next, store-end}
+use Rattle.run.proofs.places.put_terms.Statement.{statement}
+use Rattle.run.proofs.places.put_terms.Tie as tie
+
+abbrev Inv-loop : tie.InvT-loop
+Inv-loop places₀ to a p sib left₀ j₀ q₀ places left j q = (j + left ≤ 1024) × All (λ (x : ℕ). x < 64) (steps sib left q) × (sets places j (steps sib left q) ≡ sets places₀ to (steps sib a p))
+
+abbrev μ-loop : tie.MeasureT-loop
+μ-loop places₀ to a p sib left₀ j₀ q₀ places left j q = left
+
+loop-holds : tie.Need-loop-holds Inv-loop μ-loop
+loop-holds c = search needs
+
+cast-places : tie.Need-cast-places Inv-loop μ-loop
+cast-places c =
+    let l = c .before .loop in
+    let h = steps-all (c .before .before .args .sib .now) (l .left) (l .q) (omega arith) (l .inv .1) in
+    omega arith
+
+element-write-places : tie.Need-element-write-places Inv-loop μ-loop
+element-write-places c = search needs
+
+element-copy-out-wide : tie.Need-element-copy-out-wide Inv-loop μ-loop
+element-copy-out-wide c =
+    let l = c .before .loop in
+    let h = steps-all (c .before .before .args .sib .now) (l .left) (l .q) (omega arith) (l .inv .1) in
+    omega arith
+
+wide-requires : tie.Need-wide-requires Inv-loop μ-loop
+wide-requires c κs = search needs
+
+add-j : tie.Need-add-j Inv-loop μ-loop
+add-j c = search needs
+
+sub-left : tie.Need-sub-left Inv-loop μ-loop
+sub-left c = search needs
+
+loop-less : tie.Need-loop-less Inv-loop μ-loop
+loop-less c = search needs
+
+loop-again : tie.Need-loop-again Inv-loop μ-loop
+loop-again c =
+    let l = c .before .before .before .loop in
+    let s = c .before .before .before .before .args .sib .now in
+    let h = steps-all s (l .left) (l .q) (omega arith) (l .inv .1) in
+    rw (c .wide .ensures) (omega arith, h .1, store-next (l .places) _ _ _ (l .j) (l .q) (steps-more s (l .left) (l .q) (omega arith)) (l .inv .2))
+
+returns : tie.Need-returns Inv-loop μ-loop
+returns c = let l = c .before .loop in store-end (l .places) _ _ (l .j) (steps-none (c .before .before .args .sib .now) (l .left) (l .q) (omega arith)) (l .inv .2)
+
+pub put-terms-spec : {M : Type 1} → statement M
+put-terms-spec =
+    tie.close
+    (tie.spec
+    Inv-loop
+    μ-loop
+    loop-holds
+    cast-places
+    element-write-places
+    element-copy-out-wide
+    wide-requires
+    add-j
+    sub-left
+    loop-less
+    loop-again
+    returns)

@@ -1,0 +1,65 @@
+use Prim.Native.Nat.{_+_, _≤_}
+use mathlib.Core.Path.{_≡_}
+use borrow.Author.Needs.{needs}
+use native.Mathlib.Omega.{arith}
+use lib.ListN.{length, length-set}
+use lib.Seq.{sets}
+use Rattle.table.specs.Table.{upFrom}
+use Rattle.run.proofs.SeeLaws.{up-none, up-more, store-next, store-end}
+use Rattle.run.proofs.walk.put_rows.Statement.{statement}
+use Rattle.run.proofs.walk.put_rows.Tie as tie
+
+abbrev Inv-loop : tie.InvT-loop
+Inv-loop room₀ at n row left₀ j₀ q₀ room left j q = (length room ≡ length room₀) × (j + left ≤ length room₀) × (q + left ≤ 64) × (sets room j (upFrom q left) ≡ sets room₀ at (upFrom row n))
+
+abbrev μ-loop : tie.MeasureT-loop
+μ-loop room₀ at n row left₀ j₀ q₀ room left j q = left
+
+loop-holds : tie.Need-loop-holds Inv-loop μ-loop
+loop-holds c = search needs
+
+cast-room : tie.Need-cast-room Inv-loop μ-loop
+cast-room c = search needs
+
+slice-write-room : tie.Need-slice-write-room Inv-loop μ-loop
+slice-write-room c = search needs
+
+add-q : tie.Need-add-q Inv-loop μ-loop
+add-q c = search needs
+
+add-j : tie.Need-add-j Inv-loop μ-loop
+add-j c = omega arith
+
+sub-left : tie.Need-sub-left Inv-loop μ-loop
+sub-left c = search needs
+
+loop-less : tie.Need-loop-less Inv-loop μ-loop
+loop-less c = search needs
+
+loop-again : tie.Need-loop-again Inv-loop μ-loop
+loop-again c =
+    let l = c .before .loop in
+    (simp length-set (l .inv .0), omega arith, omega arith, store-next (l .room) _ _ _ (l .j) (l .q) (up-more (l .q) (l .left) (omega arith)) (l .inv .3))
+
+same-length : tie.Need-same-length Inv-loop μ-loop
+same-length c = c .before .loop .inv .0
+
+returns : tie.Need-returns Inv-loop μ-loop
+returns c = let l = c .before .loop in store-end (l .room) _ _ (l .j) (up-none (l .q) (l .left) (omega arith)) (l .inv .3)
+
+pub put-rows-spec : {M : Type 1} → statement M
+put-rows-spec =
+    tie.close
+    (tie.spec
+    Inv-loop
+    μ-loop
+    loop-holds
+    cast-room
+    slice-write-room
+    add-q
+    add-j
+    sub-left
+    loop-less
+    loop-again
+    same-length
+    returns)
