@@ -17,8 +17,13 @@ use Rattle.plan.specs.Check.{planFor, planOf}
 use Rattle.plan.specs.Checked.{planSays}
 use Rattle.plan.proofs.SizeLaws.{bound}
 use Rattle.plan.proofs.CheckLaws.{accepted-one, rows-fit}
+use Rattle.run.specs.declared.RunAnswer.{RunAnswer}
+use Rattle.run.specs.Skeleton.{hole}
+use Rattle.run.specs.Run.{Picks, none, hit, miss, runTold, Ran, refusal, ran}
+use Rattle.run.proofs.TakesLaws.{run-takes}
+use Rattle.run.proofs.Theorems.{tried-most}
 use Rattle.exports.specs.Coded.{Small}
-use Rattle.exports.proofs.Places.{placed-at, placed-table, placed-plan, placed-goal}
+use Rattle.exports.proofs.Places.{placed-at, placed-table, placed-plan, placed-run, placed-goal}
 
 -- an answer that is equal to a small one
 pub small-by : {a b : Answer} → a ≡ b → Small b → Small a
@@ -93,3 +98,16 @@ plan-small t p = go (tableOf t) refl
     go : (r : Read Table) → tableOf t ≡ r → Small (planSays (andThen r (λ (T : Table). planFor T p)))
     go (read T) e = with-table T e (planFor T p) refl
     go (refuse f) e = let l = placed-at (placed-table t) e in omega arith
+
+-- hits are rows of the table, and tries are branches of the plan
+hits-few : {P : List ℕ → Type 0} {rs : List (List ℕ)} {f : ℕ} {hs : List ℕ} → Picks P rs f hs → length hs ≤ length rs
+hits-few none = omega arith
+hits-few (hit p w) = let h = hits-few w in omega arith
+hits-few (miss p w) = let h = hits-few w in omega arith
+
+pub run-small : {t p g room room′ : List ℕ} {r : RunAnswer} → Ran t p g room room′ r → Small (runTold r)
+run-small {t} {p} {g} {room} (refusal f a b c) = let l = placed-at (placed-run t p g room) a in rw b (omega arith)
+run-small {t} {p} (ran T tree found n a e w u b c) =
+    let i = is-table t (run-takes a .table) in
+    let l = bound tree 32 (rows-fit (T .width) (T .rows) (i .each)) (i .count .0) in
+    rw b (omega (arith, hits-few w, i .count .1), omega (arith, tried-most tree (replicate (T .width) hole) u, i .count .1))

@@ -4,8 +4,10 @@ ghost use Prim.Native.Nat.{_≤_, _<_, _^_};
 ghost use Rattle.table.specs.Refusal.{numberOf, inputOf, told, answered, turned};
 ghost use Rattle.table.specs.Table.{tableTold, goalTold};
 ghost use Rattle.plan.specs.Checked.{planTold};
+ghost use Rattle.run.specs.Run.{runTold};
 ghost use Rattle.exports.specs.Coded.{coded, Small};
 use plan::PlanAnswer;
+use run::RunAnswer;
 use table::GoalAnswer;
 use table::Input;
 use table::Reason;
@@ -95,5 +97,15 @@ pub fn code_plan(a: PlanAnswer) -> u64
     match a {
         PlanAnswer::Accepted(branches) => code_answer(branches, 0),
         PlanAnswer::Refused(f) => code_refusal(f),
+    }
+}
+
+pub fn code_run(a: RunAnswer) -> u64
+    requires { ⌜ Small (runTold a) ⌝ }
+    ensures { λ r. ⌜ r ≡ coded (runTold a) ⌝ }
+{
+    match a {
+        RunAnswer::Ran(hits, tried) => code_answer(hits, tried),
+        RunAnswer::Refused(f) => code_refusal(f),
     }
 }

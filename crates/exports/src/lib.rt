@@ -5,7 +5,7 @@ ghost use Rattle.table.specs.Refusal.{answered};
 ghost use lib.ListN.{length, getD};
 ghost use Rattle.plan.specs.Check.{planOf};
 ghost use Rattle.plan.specs.Checked.{planSays};
-ghost use Rattle.exports.specs.Coded.{coded};
+ghost use Rattle.exports.specs.Coded.{coded, RunCoded};
 
 mod code;
 
@@ -44,4 +44,17 @@ pub extern "C" fn dudowiej_check_plan(cells: &[u32], plan: &[u32]) -> u64
     ensures { λ r. ⌜ r ≡ coded (planSays (planOf (now (cells .entry)) (now (plan .entry)))) ⌝ }
 {
     code::code_plan(plan::check_plan(cells, plan))
+}
+
+// A run's number of hits and of branches tried; the hits are the room's first bytes.
+#[no_mangle]
+pub extern "C" fn dudowiej_run_plan(
+    cells: &[u32],
+    plan: &[u32],
+    goal: &[u32],
+    room: &mut [u8],
+) -> u64
+    ensures { λ r. ⌜ RunCoded (now (cells .entry)) (now (plan .entry)) (now (goal .entry)) (now (room .entry)) (now (room .exit)) r ⌝ }
+{
+    code::code_run(run::run_plan(cells, plan, goal, room))
 }

@@ -1,0 +1,20 @@
+use Rattle.exports.proofs.Small.{run-small}
+use borrow.Author.Needs.{needs}
+use Rattle.exports.proofs.dudowiej_run_plan.Statement.{statement}
+use Rattle.exports.proofs.dudowiej_run_plan.Tie as tie
+
+run-plan-requires : tie.Need-run-plan-requires
+run-plan-requires c κs = search needs
+
+code-run-requires : tie.Need-code-run-requires
+code-run-requires c κs = run-small (c .run-plan .ensures)
+
+same-length : tie.Need-same-length
+same-length c = search needs
+
+returns : tie.Need-returns
+returns c = search needs
+
+pub dudowiej-run-plan-spec : {M : Type 1} → statement M
+dudowiej-run-plan-spec =
+    tie.close (tie.spec run-plan-requires code-run-requires same-length returns)
