@@ -1,2 +1,3 @@
 pub mod RunsLaws
 pub mod PlansLaws
+pub mod CheckLaws

@@ -3,16 +3,18 @@
 use mathlib.Core.Path.{_≡_, refl, sym, ap, subst, _∙_}
 use mathlib.Core.Bool.{Bool, true, false, not, _&&_}
 use mathlib.Core.Logic.{_⊎_, inl, inr}
-use mathlib.Core.List.{List, [], _∷_, map}
+use mathlib.Core.List.{List, [], _∷_, _++_, map, append-nil}
 use Prim.Native.Nat.{ℕ, suc, _+_, _≤_, _<_}
 use native.Mathlib.Omega.{arith}
 use lib.ListN.{length}
 use lib.Dec.{eqb}
 use borrow.Author.Tests.{eqb-true}
-use Rattle.cell.specs.Cell.{isVar}
+use Rattle.cell.specs.Cell.{arity, isVar}
+use Rattle.term.specs.Terms.{Terms, more, root, close}
 use Rattle.term.proofs.Tests.{eqb-same}
+use Rattle.term.proofs.PlaceLaws.{close-terms, close-length}
 use Rattle.table.specs.All.{All}
-use Rattle.plan.specs.Runs.{Run, run, agree, joinIf, join, group}
+use Rattle.plan.specs.Runs.{Run, run, agree, joinIf, join, group, runs}
 
 -- cells that agree are one symbol, and no variable
 pub agree-eq : (c d : ℕ) → agree c d ≡ true → c ≡ d
@@ -90,6 +92,15 @@ join-rows c r (g ∷ gs) = go (agree c (g .cell))
     go true = omega arith
     go false = omega arith
 
+-- the first run has the first row's cell
+join-head : (c : ℕ) (r : List ℕ) (gs : List Run) → (g : Run) × (hs : List Run) × (join c r gs ≡ g ∷ hs) × (g .cell ≡ c)
+join-head c r [] = (run c (r ∷ []), [], refl, refl)
+join-head c r (g ∷ gs) = go (agree c (g .cell)) refl
+  where
+    go : (b : Bool) → agree c (g .cell) ≡ b → (h : Run) × (hs : List Run) × (joinIf b c r g gs ≡ h ∷ hs) × (h .cell ≡ c)
+    go true e = (run (g .cell) (r ∷ g .rows), gs, refl, sym (agree-eq c (g .cell) e))
+    go false e = (run c (r ∷ []), g ∷ gs, refl, refl)
+
 join-map : (f : ℕ → List ℕ → List ℕ) (c : ℕ) (r : List ℕ) (gs : List Run) → join c (f c r) (mapRuns f gs) ≡ mapRuns f (join c r gs)
 join-map f c r [] = refl
 join-map f c r (g ∷ gs) = go (agree c (g .cell)) refl
@@ -120,15 +131,32 @@ module _ (cell : List ℕ → ℕ) (left : List ℕ → List ℕ) where
   group-rows [] = refl
   group-rows (r ∷ rs) = join-rows (cell r) (left r) (group cell left rs) ∙ ap suc (group-rows rs)
 
-  -- rows that agree are one run, and so is a single row
-  pub group-one : (c : ℕ) (r : List ℕ) (rs : List (List ℕ)) → All (λ (x : List ℕ). cell x ≡ c) (r ∷ rs) → (isVar c ≡ false) ⊎ (length (r ∷ rs) ≤ 1)
-      → group cell left (r ∷ rs) ≡ run c (map left (r ∷ rs)) ∷ []
-  group-one c r [] a v = rw (a .0)
-  group-one c r (x ∷ xs) a v = rw (group-one c x xs (a .1) (inl (fixed v)), a .0, agree-refl c (fixed v))
+  -- a run of c goes no further than these rows: there are none, or the first does not agree with c
+  abbrev pub Stops : ℕ → List (List ℕ) → Type 0
+  Stops c [] = Unit {0}
+  Stops c (y ∷ ys) = agree c (cell y) ≡ false
+
+  stopped : (c : ℕ) (r : List ℕ) (ys : List (List ℕ)) → cell r ≡ c → Stops c ys → group cell left (r ∷ ys) ≡ run c (left r ∷ []) ∷ group cell left ys
+  stopped c r [] e h = rw e
+  stopped c r (y ∷ ys) e h =
+      let j = join-head (cell y) (left y) (group cell left ys) in
+      let n : agree c (j .0 .cell) ≡ false = rw (j .3) h in
+      rw (e, j .2, n)
+
+  -- the first run: rows of one cell, as many as agree
+  pub group-first : (c : ℕ) (r : List ℕ) (rs ys : List (List ℕ)) → All (λ (x : List ℕ). cell x ≡ c) (r ∷ rs)
+      → (isVar c ≡ false) ⊎ (length (r ∷ rs) ≤ 1) → Stops c ys → group cell left (r ∷ (rs ++ ys)) ≡ run c (map left (r ∷ rs)) ∷ group cell left ys
+  group-first c r [] ys a v h = stopped c r ys (a .0) h
+  group-first c r (x ∷ xs) ys a v h = rw (group-first c x xs ys (a .1) (inl (fixed v)) h, a .0, agree-refl c (fixed v))
     where
       fixed : (isVar c ≡ false) ⊎ (length (r ∷ x ∷ xs) ≤ 1) → isVar c ≡ false
       fixed (inl e) = e
       fixed (inr e) = absurd (omega arith)
+
+  -- rows that agree are one run, and so is a single row
+  pub group-one : (c : ℕ) (r : List ℕ) (rs : List (List ℕ)) → All (λ (x : List ℕ). cell x ≡ c) (r ∷ rs) → (isVar c ≡ false) ⊎ (length (r ∷ rs) ≤ 1)
+      → group cell left (r ∷ rs) ≡ run c (map left (r ∷ rs)) ∷ []
+  group-one c r rs a v = ap (λ (l : List (List ℕ)). group cell left (r ∷ l)) (sym (append-nil rs)) ∙ group-first c r rs [] a v tt
 
 -- rows changed so that each keeps its cell are grouped as before
 pub group-map : (P : List ℕ → Type 0) (cell cell′ : List ℕ → ℕ) (left left′ : List ℕ → List ℕ) (f : List ℕ → List ℕ) (h : ℕ → List ℕ → List ℕ)
@@ -137,3 +165,22 @@ pub group-map : (P : List ℕ → Type 0) (cell cell′ : List ℕ → ℕ) (lef
 group-map P cell cell′ left left′ f h e [] a = refl
 group-map P cell cell′ left left′ f h e (r ∷ rs) a =
     rw ((e r (a .0)) .0, (e r (a .0)) .1, group-map P cell cell′ left left′ f h e rs (a .1)) (join-map h (cell r) (left r) (group cell left rs))
+
+-- Rows that fit a state: k terms in at most n cells.
+abbrev pub Fits : ℕ → ℕ → List ℕ → Type 0
+Fits n k r = Terms k r × (length r ≤ n)
+
+pub terms-length : {k : ℕ} {r : List ℕ} → Terms (suc k) r → 0 < length r
+terms-length (more t) = omega arith
+
+pub fits-close : (n k i : ℕ) → i ≤ k → (r : List ℕ) → Fits (suc n) (suc k) r → Fits n (arity (root i r) + k) (close i r)
+fits-close n k i h r f = (close-terms i (f .0) h, omega (arith, close-length i (f .0) (omega arith)))
+
+-- a row with an open place has a cell
+pub fits-some : (n k : ℕ) (rows : List (List ℕ)) → All (Fits n (suc k)) rows → 0 < length rows → 0 < n
+fits-some n k [] a h = absurd (omega arith)
+fits-some n k (r ∷ rs) a h = omega (arith, terms-length (a .0 .0))
+
+-- below each branch the rows fit with one cell less
+pub runs-fit : (n k i : ℕ) → i ≤ k → (rows : List (List ℕ)) → All (Fits (suc n) (suc k)) rows → Each (λ (c : ℕ). Fits n (arity c + k)) (runs i rows)
+runs-fit n k i h = group-all (root i) (close i) (Fits (suc n) (suc k)) (λ (c : ℕ). Fits n (arity c + k)) (fits-close n k i h)

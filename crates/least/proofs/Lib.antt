@@ -1,0 +1,7 @@
+pub mod Minimum
+pub mod Best
+pub mod Exchange
+pub mod AllLaws
+pub mod Closing
+pub mod Parts
+pub mod Counts
