@@ -5,3 +5,4 @@ pub mod AllLaws
 pub mod Closing
 pub mod Parts
 pub mod Counts
+pub mod SkipsLaws
