@@ -1,5 +1,5 @@
 -- The least cost of a pair of first and last row, from those of pairs in between: what document 001's equation 1 becomes once agreed places are closed.
-use mathlib.Core.Path.{_≡_, refl, sym, _∙_}
+use mathlib.Core.Path.{_≡_, _∙_}
 use mathlib.Core.List.{List, [], _∷_, map}
 use Prim.Native.Nat.{ℕ, zero, suc, pred, _+_, _-_, _≤_, _<_}
 use native.Mathlib.Omega.{arith}
@@ -11,8 +11,8 @@ use Rattle.plan.specs.Runs.{Run, runs}
 use Rattle.plan.specs.Plans.{Measure}
 use Rattle.least.specs.Least.{Stuck, Least}
 use Rattle.least.specs.Entries.{between, Closes, stop, step}
-use Rattle.least.proofs.Minimum.{argmin, minimum}
-use Rattle.least.proofs.Best.{least-one, LeastRuns, through, leaf-least, runs-nil, runs-cons, node-least}
+use Rattle.least.proofs.Minimum.{minimum}
+use Rattle.least.proofs.Best.{least-one, LeastRuns, runs-nil, runs-cons}
 use Rattle.least.proofs.Closing.{closes-least, closes-then, closes-length, confluent, order-does-not-matter}
 use Rattle.least.proofs.Parts.{slice-slice, closes-part, PartOf, Parts, group-parts, part-agree, part-proper}
 
@@ -89,8 +89,8 @@ module _ {m : Measure} (w : ℕ) (rows : List (List ℕ)) (agreed least : ℕ �
       let e′ : adds agreed least a (first + o) (pred (first + o + length (g .rows))) + n ≡ m .weight (g .cell) + (v .0 + n) = omega (arith, v .1) in
       rw e (rw (rw e at e′) (runs-cons m k (v .0) n g gs (v .2) (runs-least p (o + length (g .rows)) gs h (q .1))))
 
-  -- the least cost of the closed state: the least over its open places of the state's own figure and what each run adds
-  pub pair-least : Least m (suc k) left (minimum k (through m left (λ (p : ℕ). sums (adds agreed least a) first (runs p left))))
-  pair-least =
-      node-least m k left (λ (p : ℕ). sums (adds agreed least a) first (runs p left))
-      (λ p h. (let e : first + 0 ≡ first = omega arith in rw e at (runs-least p 0 (runs p left) h (group-parts (root p) (close p) left))))
+  -- what the branches of each open place cost at least
+  pub place-least : (p : ℕ) → p ≤ k → LeastRuns m k (runs p left) (sums (adds agreed least a) first (runs p left))
+  place-least p h =
+      let e : first + 0 ≡ first = omega arith in
+      rw e at (runs-least p 0 (runs p left) h (group-parts (root p) (close p) left))

@@ -1,8 +1,13 @@
+pub mod SkipsLaws
 pub mod Minimum
 pub mod Best
-pub mod Exchange
 pub mod AllLaws
-pub mod Closing
 pub mod Parts
+pub mod Agreed
+pub mod Exchange
+pub mod Closing
 pub mod Counts
-pub mod SkipsLaws
+pub mod Scan
+pub mod Building
+pub mod Builder
+pub mod Pairs

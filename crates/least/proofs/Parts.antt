@@ -7,13 +7,13 @@ use Prim.Native.Nat.{ℕ, zero, suc, _+_, _≤_, _<_}
 use native.Mathlib.Omega.{arith}
 use native.Mathlib.Nat.{zero-add, suc-add}
 use lib.ListN.{length, length-map, take, drop}
-use lib.Seq.{slice, length-slice, take-length, take-take, drop-drop, drop-nil, take-nil}
+use lib.Seq.{slice, length-slice, take-length, take-take, drop-drop, take-nil}
 use lib.Dec.{leb}
 use borrow.Author.Tests.{leb-true, leb-false}
 use Rattle.cell.specs.Cell.{isVar}
 use Rattle.term.specs.Terms.{root, close}
 use Rattle.table.specs.All.{All}
-use Rattle.plan.specs.Runs.{Run, run, agree, join, joinIf, group, runs}
+use Rattle.plan.specs.Runs.{Run, run, agree, join, joinIf, group}
 use Rattle.plan.specs.Plans.{Measure}
 use Rattle.plan.proofs.RunsLaws.{agree-eq, agree-fixed}
 use Rattle.least.specs.Least.{Agree}

@@ -1,3 +1,3 @@
+pub mod Skips
 pub mod Least
 pub mod Entries
-pub mod Skips
