@@ -1,3 +1,4 @@
+pub mod CursorsLaws
 pub mod SkipsLaws
 pub mod Minimum
 pub mod Best

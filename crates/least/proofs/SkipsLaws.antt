@@ -1,5 +1,5 @@
 -- The places after terms: each cell of a table's rows begins a term that ends within the table, and a hop over it is one look.
-use mathlib.Core.Path.{_≡_, refl, sym, ap, _∙_}
+use mathlib.Core.Path.{_≡_, sym, ap, _∙_}
 use mathlib.Core.Logic.{by-cases}
 use mathlib.Core.List.{List, [], _∷_, _++_}
 use Prim.Native.Nat.{ℕ, zero, suc, _+_, _-_, _≤_, _<_}
@@ -8,7 +8,7 @@ use native.Mathlib.Decide.{decLt}
 use native.Mathlib.Omega.{arith}
 use lib.ListN.{length, getD, drop, set, length-drop, length-append, length-set}
 use lib.Seq.{drop-drop, getD-set-same, getD-set-other}
-use Rattle.term.specs.Terms.{Terms, none, more, front, back}
+use Rattle.term.specs.Terms.{Terms, more, front, back}
 use Rattle.term.specs.declared.End.{End}
 use Rattle.term.specs.declared.End.the-variants.{At}
 use Rattle.term.specs.Ends.{Ends, at, short}
@@ -60,10 +60,10 @@ pub one-more : {t after : List ℕ} (q e : ℕ) → q < 2050 → Skips t after (
 one-more {t} {after} q e h s w = record {
   size = length-set after q e ∙ s .size;
   known = λ p f l v. by-cases (decLt q p)
-    (λ g. getD-set-other after q p e 0 (λ x. omega arith) ∙ s .known p f (omega arith) v)
-    (λ g. let x : p ≡ q = omega arith in
-    let y : At e ≡ At f = sym w ∙ rw x at v in
-    let z : e ≡ f = cc in rw x (getD-set-same after q e 0 (omega (arith, s .size)) ∙ z));
+      (λ g. getD-set-other after q p e 0 (λ x. omega arith) ∙ s .known p f (omega arith) v)
+      (λ g. let x : p ≡ q = omega arith in
+      let y : At e ≡ At f = sym w ∙ rw x at v in
+      let z : e ≡ f = cc in rw x (getD-set-same after q e 0 (omega (arith, s .size)) ∙ z));
 }
 
 pub from-less : {t after : List ℕ} {from : ℕ} (q : ℕ) → from ≤ q → Skips t after from → Skips t after q

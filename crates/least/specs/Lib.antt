@@ -1,3 +1,4 @@
+pub mod Cursors
 pub mod Skips
 pub mod Least
 pub mod Entries

@@ -1,2 +1,3 @@
 // The least plan (01, "The least plan"): the builder.
+mod columns;
 mod skips;

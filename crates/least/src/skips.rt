@@ -6,7 +6,7 @@ ghost use Rattle.term.specs.declared.End.the-variants.{At};
 ghost use Rattle.term.proofs.EndsLaws.{ends};
 ghost use Rattle.least.specs.Skips.{Skips, AllTerms};
 
-fn wide(x: u16) -> usize
+pub fn wide(x: u16) -> usize
     ensures { λ r. ⌜ r ≡ x ⌝ }
 {
     x as usize

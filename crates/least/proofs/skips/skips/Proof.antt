@@ -1,15 +1,12 @@
-use mathlib.Core.Path.{_≡_, refl, sym, _∙_}
-use Prim.Native.Nat.{_+_, _-_, _<_, _≤_}
+use mathlib.Core.Path.{_≡_, refl}
+use Prim.Native.Nat.{_+_, _-_, _≤_}
 use native.Mathlib.Omega.{arith}
 use borrow.Author.Needs.{needs}
-use lib.ListN.{length, drop, getD}
+use lib.ListN.{length}
 use Rattle.least.specs.Skips.{Skips}
 use Rattle.least.proofs.SkipsLaws.{none-known, one-more, from-less, ends-inside}
 use Rattle.least.proofs.skips.skips.Statement.{statement}
 use Rattle.least.proofs.skips.skips.Tie as tie
-use Rattle.least.proofs.skips.skips.Reads as reads
-use Rattle.least.proofs.skips.skips.Lts as lts
-use Rattle.least.proofs.skips.term_after.Reads as term-after-reads
 
 abbrev Inv-loop : tie.InvT-loop
 Inv-loop table after₀ at₀ after at = (at ≤ length table) × Skips table after at
@@ -17,45 +14,36 @@ Inv-loop table after₀ at₀ after at = (at ≤ length table) × Skips table af
 abbrev μ-loop : tie.MeasureT-loop
 μ-loop table after₀ at₀ after at = at
 
--- src/skips.rt:36:5
 loop-holds : tie.Need-loop-holds Inv-loop μ-loop
 loop-holds c = (omega arith, none-known _ _ refl)
 
--- src/skips.rt:37:9
 sub-at : tie.Need-sub-at Inv-loop μ-loop
 sub-at c = search needs
 
--- src/skips.rt:38:21
 term-after-requires : tie.Need-term-after-requires Inv-loop μ-loop
 term-after-requires c κs =
     let l = c .before .before .loop in
     let e : l .at - 1 + 1 ≡ l .at = omega arith in
     (omega arith, omega arith, c .before .before .before .before .pre, rw e (l .inv .1))
 
--- src/skips.rt:38:21
 cast-after : tie.Need-cast-after Inv-loop μ-loop
 cast-after c = omega (arith, ends-inside (c .before .before .before .before .before .args .table .now) (c .before .before .before .loop .at - 1) (c .term-after .result) (c .term-after .ensures), c .before .before .before .before .before .pre .size)
 
--- src/skips.rt:38:9
 mul-after : tie.Need-mul-after Inv-loop μ-loop
 mul-after c = search needs
 
--- src/skips.rt:38:9
 array-write-after : tie.Need-array-write-after Inv-loop μ-loop
 array-write-after c = search needs
 
--- src/skips.rt:36:5
 loop-less : tie.Need-loop-less Inv-loop μ-loop
 loop-less c = search needs
 
--- src/skips.rt:36:5
 loop-again : tie.Need-loop-again Inv-loop μ-loop
 loop-again c =
     let l = c .before .before .before .loop in
     let e : l .at - 1 + 1 ≡ l .at = omega arith in
     (omega arith, one-more {after = l .after} (l .at - 1) (c .term-after .result) (omega (arith, c .before .before .before .before .before .pre .size)) (rw e (l .inv .1)) (c .term-after .ensures))
 
--- src/skips.rt:30:1
 returns : tie.Need-returns Inv-loop μ-loop
 returns c = from-less 2 (omega arith) (c .before .loop .inv .1)
 
