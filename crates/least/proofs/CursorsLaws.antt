@@ -1,18 +1,21 @@
 -- Columns of cells at cursors: the loop over one, step by step, and that its count and sum are those of the rows' runs.
-use mathlib.Core.Path.{_≡_, refl, _∙_}
-use mathlib.Core.Bool.{true, false}
-use mathlib.Core.List.{List, [], _∷_}
-use Prim.Native.Nat.{ℕ, suc, _+_, _-_, _*_, _≤_, _<_}
-use native.Mathlib.Numerals.{add-one}
-use native.Mathlib.Omega.{arith}
-use native.Mathlib.Decide.{decLt}
+use mathlib.Core.Path.{_≡_, refl, sym, ap, _∙_}
+use mathlib.Core.Bool.{Bool, true, false, cond}
 use mathlib.Core.Logic.{by-cases}
-use lib.ListN.{length, getD, set, length-set}
+use mathlib.Core.List.{List, [], _∷_, map}
+use Prim.Native.Nat.{ℕ, suc, pred, _+_, _-_, _*_, _≤_, _<_}
+use native.Mathlib.Numerals.{add-one}
+use native.Mathlib.Decide.{decLt}
+use native.Mathlib.Omega.{arith}
+use lib.ListN.{length, getD, set, take, drop, length-set, length-map}
 use lib.Seq.{getD-set-same, getD-set-other}
+use Rattle.term.specs.Terms.{root, close}
 use Rattle.table.specs.Table.{upFrom}
-use Rattle.plan.specs.Runs.{agree}
-use Rattle.plan.specs.Column.{breaks, runCount}
+use Rattle.plan.specs.Runs.{Run, run, agree, runs}
+use Rattle.plan.specs.Column.{breaks, runLength, runCount, runsOn}
+use Rattle.plan.proofs.ColumnLaws.{group-on, first-run, count-runs}
 use Rattle.least.specs.Cursors.{cellsAt, Moved, keptIn, sumFrom, sumOver}
+use Rattle.least.proofs.Counts.{sums}
 
 module _ (t at : List ℕ) where
   pub cells-first : (first last : ℕ) → first ≤ last
@@ -130,3 +133,59 @@ module _ {f : ℕ → ℕ} {at : List ℕ} {first : ℕ} where
 
   pub moving-done : {at′ : List ℕ} {row last : ℕ} → Moving f at at′ first row → last < row → Moved f at at′ first last
   moving-done m h = record { size = m .size; each = λ r a b. m .moved r a (omega arith) }
+
+-- The column is that of the rows' runs: the sum over them, the first run having begun at row j, and row r being its first here.
+sum-runs : (value : ℕ → ℕ → ℕ) (j r c : ℕ) (cs : List ℕ) (rows : List (List ℕ)) (g : Run) (gs : List Run) → length (c ∷ cs) ≡ length rows
+    → runsOn (c ∷ cs) rows ≡ g ∷ gs → value j (pred (r + length (g .rows))) + sums value (r + length (g .rows)) gs ≡ sumFrom value j r c cs
+unfolding sumFrom
+sum-runs value j r c cs [] g gs h e = absurd (omega arith)
+sum-runs value j r c [] (x ∷ []) g gs h e =
+    let eg : run c (x ∷ []) ≡ g = cc in
+    let es : [] ≡ gs = cc in
+    let q : pred (r + 1) ≡ r = omega arith in
+    rw (← eg, ← es, q) (omega arith)
+sum-runs value j r c [] (x ∷ (y ∷ rows)) g gs h e = absurd (omega arith)
+sum-runs value j r c (d ∷ cs) (x ∷ []) g gs h e = absurd (omega arith)
+sum-runs value j r c (d ∷ cs) (x ∷ (y ∷ rows)) g gs h e =
+    go (sum-runs value j (suc r) d cs (y ∷ rows) g′ gs′ (omega arith) f) (sum-runs value (suc r) (suc r) d cs (y ∷ rows) g′ gs′ (omega arith) f)
+    (agree c d) refl
+  where
+    n : ℕ
+    n = runLength (d ∷ cs)
+
+    g′ : Run
+    g′ = run d (take n (y ∷ rows))
+
+    gs′ : List Run
+    gs′ = runsOn (drop n (d ∷ cs)) (drop n (y ∷ rows))
+
+    f : runsOn (d ∷ cs) (y ∷ rows) ≡ g′ ∷ gs′
+    f = first-run d cs (y ∷ rows) (omega arith)
+
+    go : value j (pred (suc r + length (g′ .rows))) + sums value (suc r + length (g′ .rows)) gs′ ≡ sumFrom value j (suc r) d cs
+        → value (suc r) (pred (suc r + length (g′ .rows))) + sums value (suc r + length (g′ .rows)) gs′ ≡ sumFrom value (suc r) (suc r) d cs
+        → (b : Bool) → agree c d ≡ b
+        → value j (pred (r + length (g .rows))) + sums value (r + length (g .rows)) gs ≡ cond b (sumFrom value j (suc r) d cs) (value j r + sumFrom value (suc r) (suc r) d cs)
+    go u v true a =
+        let w : run d (x ∷ g′ .rows) ∷ gs′ ≡ g ∷ gs = rw (f, a) at e in
+        let eg : run d (x ∷ g′ .rows) ≡ g = cc in
+        let es : gs′ ≡ gs = cc in
+        let q : r + suc (length (g′ .rows)) ≡ suc r + length (g′ .rows) = omega arith in
+        rw (← eg, ← es, q) u
+    go u v false a =
+        let w : run c (x ∷ []) ∷ (g′ ∷ gs′) ≡ g ∷ gs = rw (f, a) at e in
+        let eg : run c (x ∷ []) ≡ g = cc in
+        let es : g′ ∷ gs′ ≡ gs = cc in
+        let q : pred (r + 1) ≡ r = omega arith in
+        let q′ : r + 1 ≡ suc r = omega arith in
+        rw (← eg, ← es, q, q′) (ap (λ (z : ℕ). value j r + z) v)
+
+pub column-sum : (value : ℕ → ℕ → ℕ) (j p : ℕ) (rows : List (List ℕ)) → sums value j (runs p rows) ≡ sumOver value j (map (root p) rows)
+column-sum value j p [] = refl
+column-sum value j p (r ∷ rows) =
+    let f = first-run (root p r) (map (root p) rows) (map (close p) (r ∷ rows)) (simp length-map) in
+    rw (group-on (root p) (close p) (r ∷ rows), f)
+    (sum-runs value j j (root p r) (map (root p) rows) (map (close p) (r ∷ rows)) (run (root p r) _) _ (simp length-map) f)
+
+pub column-count : (p : ℕ) (rows : List (List ℕ)) → length (runs p rows) ≡ runCount (map (root p) rows)
+column-count p rows = rw (group-on (root p) (close p) rows) (count-runs (map (root p) rows) (map (close p) rows) (simp length-map))

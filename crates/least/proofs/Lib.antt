@@ -1,3 +1,6 @@
+pub mod KeptLaws
+pub mod ScanLaws
+pub mod StandLaws
 pub mod CursorsLaws
 pub mod SkipsLaws
 pub mod Minimum
