@@ -3,31 +3,30 @@
 use mathlib.Core.Path.{_≡_, refl, sym, ap, _∙_}
 use mathlib.Core.Bool.{Bool, true, false, cond}
 use mathlib.Core.Logic.{by-cases}
-use mathlib.Core.List.{List, [], _∷_, map}
+use mathlib.Core.List.{List, [], _∷_}
 use Prim.Native.Nat.{ℕ, zero, suc, pred, _+_, _-_, _*_, _≤_, _<_}
 use native.Mathlib.Decide.{decLt}
 use native.Mathlib.Nat.{suc-mul}
 use native.Mathlib.Omega.{arith}
 use lib.Dec.{leb}
 use lib.ListN.{length, getD, take}
-use lib.Seq.{slice, length-slice}
+use lib.Seq.{length-slice}
 use Rattle.term.specs.Terms.{root, close}
 use Rattle.table.specs.All.{All}
 use Rattle.plan.specs.Runs.{Run, runs}
 use Rattle.plan.specs.Plans.{plain, choice}
-use Rattle.plan.specs.Column.{runCount}
 use Rattle.plan.proofs.RunsLaws.{Fits}
 use Rattle.plan.proofs.PlansLaws.{cost-plain}
 use Rattle.plan.proofs.SizeLaws.{bound}
 use Rattle.least.specs.Least.{Least}
-use Rattle.least.specs.Entries.{between, Closes, Entry}
-use Rattle.least.specs.Cursors.{keptIn, sumOver}
-use Rattle.least.specs.Kept.{Placed, Shorter, Kept, Cheapest, nowhere, somewhere}
-use Rattle.least.proofs.Minimum.{First, argmin, minimum, argmin-first}
+use Rattle.least.specs.Entries.{between}
+use Rattle.least.specs.Cursors.{keptIn}
+use Rattle.least.specs.Kept.{Shorter, Kept, Cheapest, nowhere, somewhere}
+use Rattle.least.proofs.Minimum.{First, argmin, argmin-first}
 use Rattle.least.proofs.AllLaws.{all-take, all-drop}
-use Rattle.least.proofs.Best.{least-one, through}
+use Rattle.least.proofs.Best.{least-one}
 use Rattle.least.proofs.Closing.{closes-least, closes-length, confluent}
-use Rattle.least.proofs.Parts.{slice-slice, closes-part, PartOf, Parts, group-parts, part-proper}
+use Rattle.least.proofs.Parts.{slice-slice, closes-part, Parts, group-parts, part-proper}
 use Rattle.least.proofs.Counts.{sums, adds, leastOver}
 use Rattle.least.proofs.Pairs.{firstOver, closedOf, agreedOf, leastOf, branchesOf, costOf, placeOf, pair-closed, pair-counts, equation, pair-entry}
 use Rattle.least.proofs.CursorsLaws.{column-sum, column-count}
@@ -111,10 +110,10 @@ module _ (w : ℕ) (rows : List (List ℕ)) (fits : All (Fits 32 w) rows) where
 
           q : i ≡ m
           q = by-cases (decLt i m)
-            (λ l. absurd (omega (arith, f .before i l, b m (omega (arith, f .within)), same i a, same m (omega (arith, f .within)))))
-            (λ l. by-cases (decLt m i)
-            (λ l′. absurd (omega (arith, c m l′, f .least i (omega arith), same i a, same m (omega (arith, f .within)))))
-            (λ l′. omega arith))
+              (λ l. absurd (omega (arith, f .before i l, b m (omega (arith, f .within)), same i a, same m (omega (arith, f .within)))))
+              (λ l. by-cases (decLt m i)
+              (λ l′. absurd (omega (arith, c m l′, f .least i (omega arith), same i a, same m (omega (arith, f .within)))))
+              (λ l′. omega arith))
 
       pub kept-is : (v place : ℕ) → length rows ≤ 64 → Cheapest (λ p. getD sums′ p 0 - getD counts p 0 * agreed) i v place → Kept w rows first last v place (agreed + v)
       unfolding placeOf

@@ -1,3 +1,4 @@
+pub mod CheapLaws
 pub mod KeptLaws
 pub mod ScanLaws
 pub mod StandLaws

@@ -2,18 +2,18 @@
 -- of the scan finds, is the whole scan; for each place left of i the runs are counted and summed.
 use mathlib.Core.Path.{_≡_, refl, sym, ap, _∙_}
 use mathlib.Core.Logic.{by-cases}
-use mathlib.Core.List.{List, [], _∷_, _++_, map}
-use Prim.Native.Nat.{ℕ, zero, suc, pred, _+_, _-_, _≤_, _<_}
+use mathlib.Core.List.{List, [], _∷_, map}
+use Prim.Native.Nat.{ℕ, zero, suc, _+_, _-_, _≤_, _<_}
 use native.Mathlib.Decide.{decLt}
 use native.Mathlib.Omega.{arith}
-use lib.ListN.{length, getD, set, take, drop, length-map, length-set}
+use lib.ListN.{length, getD, set, take, length-map, length-set}
 use lib.Seq.{length-slice, getD-take, getD-drop, getD-set-same, getD-set-other}
 use Rattle.cell.specs.Cell.{arity}
-use Rattle.term.specs.Terms.{back, root, close}
+use Rattle.term.specs.Terms.{root, close}
 use Rattle.term.proofs.TermsLaws.{back-zero}
 use Rattle.term.proofs.PlaceLaws.{root-before}
 use Rattle.table.specs.All.{All}
-use Rattle.plan.specs.Runs.{Run, run, runs}
+use Rattle.plan.specs.Runs.{Run, runs}
 use Rattle.plan.specs.Plans.{plain}
 use Rattle.plan.specs.Column.{runCount}
 use Rattle.plan.proofs.RunsLaws.{Fits}
@@ -27,7 +27,7 @@ use Rattle.least.proofs.Agreed.{agree-runs, one-agrees}
 use Rattle.least.proofs.Scan.{scan, oneRun}
 use Rattle.least.proofs.Pairs.{closedOf}
 use Rattle.least.proofs.CursorsLaws.{column-count}
-use Rattle.least.proofs.StandLaws.{Row, row-cell, row-fuel, Stands, no-row, one-row, stands-cells, stands-inside, stands-closed, stands-passed}
+use Rattle.least.proofs.StandLaws.{row-cell, row-fuel, row-owed, Stands, no-row, one-row, stands-cells, stands-inside, stands-closed, stands-passed}
 
 pub record Scanning (t : List ℕ) (w : ℕ) (rows : List (List ℕ)) (first last : ℕ) (whole at sums counts : List ℕ) (owed agreed i : ℕ) : Type 0 where
   pub fuel : ℕ
@@ -89,9 +89,9 @@ scan-other n i r left h = go (runs i left) h
   where
     go : (gs : List Run) → (length gs ≡ 1 → ⊥)
         → oneRun gs (λ (g : Run). record {
-        agreed = 1 + (scan plain n i (arity (g .cell) + r) (g .rows)) .agreed;
-        opens = (scan plain n i (arity (g .cell) + r) (g .rows)) .opens;
-        left = (scan plain n i (arity (g .cell) + r) (g .rows)) .left;
+          agreed = 1 + (scan plain n i (arity (g .cell) + r) (g .rows)) .agreed;
+          opens = (scan plain n i (arity (g .cell) + r) (g .rows)) .opens;
+          left = (scan plain n i (arity (g .cell) + r) (g .rows)) .left;
         }) (scan plain n (suc i) r left) ≡ scan plain n (suc i) r left
     go [] h = refl
     go (g ∷ []) h = absurd (h refl)
@@ -130,12 +130,12 @@ module _ {t : List ℕ} {w : ℕ} {rows : List (List ℕ)} {first last : ℕ} {w
   first-row c no-row h a = absurd (omega arith)
   first-row c (one-row x w) h a = (row-fuel x, row-cell x ∙ a .0)
 
-  enough : {o fuel : ℕ} {left : List (List ℕ)} → Stands t at i (suc o) fuel first left → 0 < length left → 0 < fuel
+  enough : {o fuel : ℕ} {left : List (List ℕ)} → Stands t at i (suc o) fuel first left → 0 < length left → (0 < fuel) × (suc o ≤ fuel)
   enough no-row h = absurd (omega arith)
-  enough (one-row x w) h = row-fuel x
+  enough (one-row x w) h = (row-fuel x, row-owed x)
 
-  pub scanning-room : agreed + i < 32
-  scanning-room = omega (arith, s .spent, enough rows-stand (omega (arith, s .many)))
+  pub scanning-room : (agreed + i < 32) × (i + owed ≤ 32)
+  scanning-room = let f = enough rows-stand (omega (arith, s .many)) in (omega (arith, s .spent), omega (arith, s .spent))
 
   runs-are : length (runs i (s .left)) ≡ runCount (cellsAt t at first (suc last - first))
   runs-are = rw scanning-cells (column-count i (s .left))
@@ -169,7 +169,7 @@ module _ {t : List ℕ} {w : ℕ} {rows : List (List ℕ)} {first last : ℕ} {w
       → Moved (λ p. getD after p 0) at at′ first last
       → Scanning t w rows first last whole at′ (set sums i v) (set counts i n) (owed - 1) agreed (i + 1)
   scanning-passed at′ v n other k ev en m =
-      let f = enough rows-stand (omega (arith, s .many)) in
+      let f = enough rows-stand (omega (arith, s .many)) .0 in
       let z : suc (s .fuel - 1) ≡ s .fuel = omega arith in
       let y : i + 1 ≡ suc i = omega arith in
       let u = rw (z, one-less) at (scan-other (s .fuel - 1) i (owed - 1) (s .left) (λ q. other (sym runs-are ∙ q))) in
@@ -184,12 +184,12 @@ module _ {t : List ℕ} {w : ℕ} {rows : List (List ℕ)} {first last : ℕ} {w
         stands = rw y (stands-passed at′ k rows-stand (λ x h l. m .each x h (omega (arith, s .many))));
         sizes = (m .size, length-set sums i v ∙ s .sizes .1, length-set counts i n ∙ s .sizes .2);
         noted = λ p h. by-cases (decLt p i)
-          (λ l. (getD-set-other sums i p v 0 (λ x. omega arith) ∙ s .noted p l .0, getD-set-other counts i p n 0 (λ x. omega arith) ∙ s .noted p l .1))
-          (λ l. let x : p ≡ i = omega arith in
-          rw (x, ← scanning-cells) (
-            getD-set-same sums i v 0 (omega (arith, s .sizes .1, scanning-room)) ∙ ev,
-            getD-set-same counts i n 0 (omega (arith, s .sizes .2, scanning-room)) ∙ en,
-          ));
+            (λ l. (getD-set-other sums i p v 0 (λ x. omega arith) ∙ s .noted p l .0, getD-set-other counts i p n 0 (λ x. omega arith) ∙ s .noted p l .1))
+            (λ l. let x : p ≡ i = omega arith in
+            rw (x, ← scanning-cells) (
+              getD-set-same sums i v 0 (omega (arith, s .sizes .1, scanning-room .0)) ∙ ev,
+              getD-set-same counts i n 0 (omega (arith, s .sizes .2, scanning-room .0)) ∙ en,
+            ));
       }
 
 -- no place is left: the scan is done

@@ -4,10 +4,10 @@ use mathlib.Core.Path.{_≡_, refl, sym, ap, _∙_}
 use mathlib.Core.Logic.{by-cases}
 use mathlib.Core.List.{List, [], _∷_, _++_, map, append-assoc}
 use Prim.Native.Nat.{ℕ, zero, suc, _+_, _-_, _≤_, _<_}
-use native.Mathlib.Numerals.{add-one, one-add}
+use native.Mathlib.Numerals.{one-add}
 use native.Mathlib.Decide.{decLt}
 use native.Mathlib.Omega.{arith}
-use lib.ListN.{length, getD, drop, length-append, length-drop}
+use lib.ListN.{length, getD, drop, length-drop}
 use lib.Seq.{getD-drop, drop-drop, drop-append-seam}
 use Rattle.cell.specs.Cell.{arity}
 use Rattle.term.specs.Terms.{Terms, none, more, front, back, root, close}
@@ -18,7 +18,7 @@ use Rattle.term.proofs.EndsLaws.{ends, ends-found}
 use Rattle.table.specs.All.{All}
 use Rattle.table.specs.Table.{upFrom}
 use Rattle.least.specs.Skips.{Skips}
-use Rattle.least.specs.Cursors.{cellsAt, Moved}
+use Rattle.least.specs.Cursors.{cellsAt}
 use Rattle.least.specs.Kept.{Standing}
 
 -- what is left after i terms begins with the cell at place i, and goes on with what is left when that place is closed
@@ -57,12 +57,15 @@ module _ {t : List ℕ} {p i o fuel : ℕ} {s : List ℕ} (r : Row t p i (suc o)
       let e : p + 0 ≡ p = omega arith in
       sym (getD-drop p t 0 0 ∙ rw e) ∙ ap (λ (l : List ℕ). getD l 0 0) next-cell
 
-  pub row-fuel : 0 < fuel
-  row-fuel = omega (arith, terms-count (r .terms), r .short)
+  pub row-owed : suc o ≤ fuel
+  row-owed = omega (arith, terms-count (r .terms), r .short)
     where
       terms-count : {k : ℕ} {s : List ℕ} → Terms k s → k ≤ length s
       terms-count none = omega arith
       terms-count (more u) = omega (arith, terms-count u)
+
+  pub row-fuel : 0 < fuel
+  row-fuel = omega (arith, row-owed)
 
   pub row-closed : Row t (p + 1) i (arity (root i s) + o) (fuel - 1) (close i s)
   row-closed =
@@ -84,13 +87,15 @@ module _ {t : List ℕ} {p i o fuel : ℕ} {s : List ℕ} (r : Row t p i (suc o)
       let f : x ++ back (suc i) s ≡ back i s = rw (← back-one i s) (front-back 1 (back i s)) in
       let d : drop p t ≡ x ++ (back (suc i) s ++ r .here .rest) = r .here .is ∙ ap (λ (l : List ℕ). l ++ r .here .rest) (sym f) ∙ append-assoc x (back (suc i) s) (r .here .rest) in
       let w : ends (drop p t) 1 p ≡ At (p + length x) = rw d (ends-found u (back (suc i) s ++ r .here .rest) p) in
-      let v : getD after p 0 ≡ p + length x = k .known p (p + length x) (r .from) w in
-      (omega (arith, one-long u), rw v (record {
-        terms = rw e at (r .terms);
-        short = omega (arith, r .short, row-fuel);
-        from = omega (arith, r .from);
-        here = record { rest = r .here .rest; is = sym (drop-drop (length x) p t) ∙ ap (λ (l : List ℕ). drop (length x) l) d ∙ drop-append-seam x (back (suc i) s ++ r .here .rest) };
-      }))
+      let v : getD after p 0 ≡ p + length x = k .known p (p + length x) (r .from) w in (
+        omega (arith, one-long u),
+        rw v (record {
+          terms = rw e at (r .terms);
+          short = omega (arith, r .short, row-fuel);
+          from = omega (arith, r .from);
+          here = record { rest = r .here .rest; is = sym (drop-drop (length x) p t) ∙ ap (λ (l : List ℕ). drop (length x) l) d ∙ drop-append-seam x (back (suc i) s ++ r .here .rest) };
+        }),
+      )
     where
       one-long : {y : List ℕ} → Terms 1 y → 0 < length y
       one-long (more u) = omega arith
@@ -111,8 +116,8 @@ pub stands-inside : {t at : List ℕ} {i o fuel r : ℕ} {ss : List (List ℕ)} 
     → (x : ℕ) → r ≤ x → x < r + length ss → getD at x 0 < length t
 stands-inside no-row x h l = absurd (omega arith)
 stands-inside (one-row {r} y w) x h l = by-cases (decLt r x)
-  (λ g. stands-inside w x (omega arith) (omega arith))
-  (λ g. let e : x ≡ r = omega arith in rw e (row-inside y))
+    (λ g. stands-inside w x (omega arith) (omega arith))
+    (λ g. let e : x ≡ r = omega arith in rw e (row-inside y))
 
 -- all agree on c at the next open place: it is closed, and each cursor goes on by one cell
 pub stands-closed : {t at : List ℕ} {i o fuel r : ℕ} {ss : List (List ℕ)} (at′ : List ℕ) (c : ℕ) → All (λ (s : List ℕ). root i s ≡ c) ss

@@ -9,7 +9,7 @@ use Rattle.plan.specs.Plans.{plain}
 use Rattle.plan.proofs.RunsLaws.{Fits}
 use Rattle.least.specs.Least.{Least}
 use Rattle.least.specs.Entries.{between, Entry}
-use Rattle.least.specs.Skips.{AllTerms}
+use Rattle.least.specs.Skips.{AllTerms, Skips}
 use Rattle.least.specs.Cursors.{keptIn}
 
 -- the cells from place p on begin with these
@@ -39,3 +39,13 @@ pub record Kept (w : ℕ) (rows : List (List ℕ)) (first last cost place whole 
 pub data Cheapest (F : ℕ → ℕ) (n : ℕ) : ℕ → ℕ → Type 0 where
   nowhere : n ≡ 0 → Cheapest F n 0 0
   somewhere : {place : ℕ} → place < n → ((j : ℕ) → j < n → F place ≤ F j) → ((j : ℕ) → j < place → F place < F j) → Cheapest F n (F place) place
+
+-- a pair of first and last row of a table, every shorter pair being known
+pub record PairReady (t starts after whole : List ℕ) (w first last : ℕ) : Type 0 where
+  pub rows : List (List ℕ)
+  pub placed : Placed t w rows starts
+  pub order : first ≤ last
+  pub inside : last < length rows
+  pub skips : Skips t after 2
+  pub small : (x : ℕ) → getD whole x 0 ≤ 2048
+  pub shorter : Shorter w rows whole first last
