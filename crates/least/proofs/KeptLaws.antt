@@ -30,7 +30,7 @@ use Rattle.least.proofs.Parts.{slice-slice, closes-part, Parts, group-p
 use Rattle.least.proofs.Counts.{sums, adds, leastOver}
 use Rattle.least.proofs.Pairs.{firstOver, closedOf, agreedOf, leastOf, branchesOf, costOf, placeOf, pair-closed, pair-counts, equation, pair-entry}
 use Rattle.least.proofs.CursorsLaws.{column-sum, column-count}
-use Rattle.least.proofs.ScanLaws.{ScanDone}
+use Rattle.least.proofs.ScanningLaws.{ScanDone}
 
 module _ (w : ℕ) (rows : List (List ℕ)) (fits : All (Fits 32 w) rows) where
   -- what is kept of a pair is what its rows agree on and the least cost from there

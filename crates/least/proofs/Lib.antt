@@ -1,6 +1,6 @@
 pub mod CheapLaws
 pub mod KeptLaws
-pub mod ScanLaws
+pub mod ScanningLaws
 pub mod StandLaws
 pub mod CursorsLaws
 pub mod SkipsLaws

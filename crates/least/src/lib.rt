@@ -1,4 +1,4 @@
 // The least plan (01, "The least plan"): the builder.
-mod arrays;
 mod columns;
+mod kept;
 mod skips;

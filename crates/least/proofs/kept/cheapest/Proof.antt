@@ -5,8 +5,8 @@ use borrow.Author.Needs.{needs}
 use lib.ListN.{getD}
 use Rattle.least.specs.Kept.{nowhere}
 use Rattle.least.proofs.CheapLaws.{Sofar, sofar-start, sofar-old, sofar-new, sofar-all}
-use Rattle.least.proofs.arrays.cheapest.Statement.{statement}
-use Rattle.least.proofs.arrays.cheapest.Tie as tie
+use Rattle.least.proofs.kept.cheapest.Statement.{statement}
+use Rattle.least.proofs.kept.cheapest.Tie as tie
 
 abbrev Inv-loop : tie.InvT-loop
 Inv-loop sums counts agreed places cost₀ place₀ p₀ cost place p = (p ≤ places) × Sofar (λ q. getD sums q 0 - getD counts q 0 * agreed) p cost place

@@ -5,10 +5,10 @@ use borrow.Author.Needs.{needs}
 use Rattle.cell.specs.Cell.{arity}
 use Rattle.cell.proofs.CellLaws.{arity-small}
 use Rattle.least.specs.Kept.{PairReady}
-use Rattle.least.proofs.ScanLaws.{Scanning, ScanDone, scanning-start, scanning-inside, scanning-room, scanning-closed, scanning-passed, scanning-done}
+use Rattle.least.proofs.ScanningLaws.{Scanning, ScanDone, scanning-start, scanning-inside, scanning-room, scanning-closed, scanning-passed, scanning-done}
 use Rattle.least.proofs.KeptLaws.{enough, kept-is}
-use Rattle.least.proofs.arrays.pair.Statement.{statement}
-use Rattle.least.proofs.arrays.pair.Tie as tie
+use Rattle.least.proofs.kept.pair.Statement.{statement}
+use Rattle.least.proofs.kept.pair.Tie as tie
 
 abbrev Inv-loop : tie.InvT-loop
 Inv-loop table after whole width first last at₀ sums₀ counts₀ owed₀ agreed₀ passed₀ at sums counts owed agreed passed =
