@@ -1,0 +1,12 @@
+pub mod ReadLaws
+pub mod LooksLaws
+pub mod WholeLaws
+pub mod SoundLaws
+pub mod HeadLaws
+pub mod RowsLaws
+pub mod TableLaws
+pub mod PartLaws
+pub mod RefusalLaws
+pub mod Accepted
+pub mod Fixed
+pub mod Examples
