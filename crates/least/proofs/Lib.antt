@@ -1,3 +1,4 @@
+pub mod FilledLaws
 pub mod CheapLaws
 pub mod KeptLaws
 pub mod ScanningLaws

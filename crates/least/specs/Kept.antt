@@ -49,3 +49,27 @@ pub record PairReady (t starts after whole : List ℕ) (w first last : ℕ) : Ty
   pub skips : Skips t after 2
   pub small : (x : ℕ) → getD whole x 0 ≤ 2048
   pub shorter : Shorter w rows whole first last
+
+-- The arrays while they are worked out, shorter pairs first: every pair of rows that begins past the row first is there, and those that begin with it
+-- and end before the row last. Where there is no such pair of rows stands 0
+pub record Filled (w : ℕ) (rows : List (List ℕ)) (cost place whole : List ℕ) (first last : ℕ) : Type 0 where
+  pub sizes : (length cost ≡ 4096) × (length place ≡ 4096) × (length whole ≡ 4096)
+  pub small : (x : ℕ) → getD whole x 0 ≤ 2048
+  pub past : (j j′ : ℕ) → first < j → j ≤ j′ → j′ < length rows → Kept w rows j j′ (keptIn cost j j′) (keptIn place j j′) (keptIn whole j j′)
+  pub here : (j′ : ℕ) → first ≤ j′ → j′ < last → Kept w rows first j′ (keptIn cost first j′) (keptIn place first j′) (keptIn whole first j′)
+  pub bare : (j j′ : ℕ) → j < 64 → j′ < 64 → (j′ < j) ⊎ (length rows ≤ j′) → (keptIn cost j j′ ≡ 0) × (keptIn place j j′ ≡ 0)
+
+-- the pairs that begin with the row first are next
+pub record RowReady (t starts after cost place whole : List ℕ) (w count first : ℕ) : Type 0 where
+  pub rows : List (List ℕ)
+  pub placed : Placed t w rows starts
+  pub counted : count ≡ length rows
+  pub skips : Skips t after 2
+  pub inside : first < count
+  pub filled : Filled w rows cost place whole first first
+
+-- the rows of a table, none of whose pairs is worked out
+pub record FillReady (t starts : List ℕ) (w count : ℕ) : Type 0 where
+  pub rows : List (List ℕ)
+  pub placed : Placed t w rows starts
+  pub counted : count ≡ length rows

@@ -3,9 +3,10 @@
 // pair's rows counted from the table's first state.
 ghost use mathlib.Core.Path.{_≡_};
 ghost use Prim.Native.Nat.{ℕ, _+_, _-_, _*_, _≤_, _<_};
-ghost use lib.ListN.{length, getD};
-ghost use Rattle.least.specs.Kept.{Kept, Cheapest, PairReady};
+ghost use lib.ListN.{length, getD, set};
+ghost use Rattle.least.specs.Kept.{Kept, Cheapest, PairReady, Filled, RowReady, FillReady};
 use super::columns;
+use super::skips;
 
 // The first of some places that costs least, and its cost.
 pub struct Choice {
@@ -94,4 +95,70 @@ pub fn pair(
         place: choice.place,
         whole: agreed + choice.cost,
     }
+}
+
+fn store(a: &mut [u32; 4096], first: usize, last: usize, v: u32)
+    requires { ⌜ (first < 64) × (last < 64) ⌝ }
+    ensures { λ _. ⌜ now (a .exit) ≡ set (now (a .entry)) (64 * first + last) v ⌝ }
+{
+    a[64 * first + last] = v;
+}
+
+// The pairs that begin with one row, shorter ones first; those that begin with later rows are there.
+fn fill_row(
+    table: &[u32],
+    starts: [usize; 64],
+    after: &[u16; 2050],
+    cost: &mut [u32; 4096],
+    place: &mut [u32; 4096],
+    whole: &mut [u32; 4096],
+    width: usize,
+    count: usize,
+    first: usize,
+)
+    requires { ⌜ RowReady (now table) starts (now after) (now cost) (now place) (now whole) width count first ⌝ }
+    ensures { λ _. ⌜ ((q : RowReady (now (table .entry)) starts (now (after .entry)) (now (cost .entry)) (now (place .entry)) (now (whole .entry)) width count first) → Filled width (q .rows) (now (cost .exit)) (now (place .exit)) (now (whole .exit)) first count) ⌝ }
+{
+    let mut last = first;
+    while last < count {
+        let found = pair(table, starts, after, &*whole, width, first, last);
+        store(&mut *cost, first, last, found.cost);
+        store(&mut *place, first, last, found.place);
+        store(&mut *whole, first, last, found.whole);
+        last += 1;
+    }
+}
+
+// The arrays at 64 times the first row plus the last.
+pub struct Arrays {
+    pub cost: [u32; 4096],
+    pub place: [u32; 4096],
+    pub whole: [u32; 4096],
+}
+
+// First rows from the last to the first, so that every shorter pair is there first.
+pub fn fill(table: &[u32], starts: [usize; 64], width: usize, count: usize) -> Arrays
+    requires { ⌜ FillReady (now table) starts width count ⌝ }
+    ensures { λ r. ⌜ ((q : FillReady (now (table .entry)) starts width count) → Filled width (q .rows) (r .cost) (r .place) (r .whole) 0 count) ⌝ }
+{
+    let after = skips::skips(table);
+    let mut cost = [0u32; 4096];
+    let mut place = [0u32; 4096];
+    let mut whole = [0u32; 4096];
+    let mut first = count;
+    while 0 < first {
+        first -= 1;
+        fill_row(
+            table,
+            starts,
+            &after,
+            &mut cost,
+            &mut place,
+            &mut whole,
+            width,
+            count,
+            first,
+        );
+    }
+    Arrays { cost, place, whole }
 }
