@@ -1,20 +1,21 @@
 -- How the arrays fill.
-use mathlib.Core.Path.{_≡_, refl, sym, ap, _∙_}
+use mathlib.Core.Path.{_≡_, refl, _∙_}
 use mathlib.Core.Logic.{_⊎_, inl, inr, by-cases}
 use mathlib.Core.List.{List}
-use Prim.Native.Nat.{ℕ, suc, _+_, _-_, _*_, _≤_, _<_}
+use Prim.Native.Nat.{ℕ, zero, suc, _+_, _-_, _*_, _≤_, _<_}
 use native.Mathlib.Decide.{decLt, ℕ-discrete}
 use native.Mathlib.Omega.{arith}
 use lib.ListN.{length, getD, set, replicate, length-set, length-replicate, getD-replicate, List·getD-eq-default}
 use lib.Seq.{getD-set-same, getD-set-other}
-use Rattle.least.specs.Entries.{between}
+use Rattle.plan.specs.Plans.{plain}
+use Rattle.least.specs.Entries.{Entry, none}
 use Rattle.least.specs.Cursors.{keptIn}
 use Rattle.least.specs.Skips.{Skips}
 use Rattle.least.specs.Kept.{Kept, Shorter, PairReady, Filled, RowReady, FillReady}
 
 zeros : (n i : ℕ) → _≡_ {A = ℕ} (getD (replicate n 0) i 0) 0
 zeros n i = by-cases (decLt i n) (λ h. getD-replicate n i 0 0 h)
-  (λ h. let z : length (replicate {A = ℕ} n 0) ≡ n = length-replicate n 0 in List·getD-eq-default (replicate n 0) 0 (omega arith))
+    (λ h. let z : length (replicate {A = ℕ} n 0) ≡ n = length-replicate n 0 in List·getD-eq-default (replicate n 0) 0 (omega arith))
 
 -- nothing is there at first, and nothing is asked
 pub filled-none : (w : ℕ) (rows : List (List ℕ)) → Filled w rows (replicate 4096 0) (replicate 4096 0) (replicate 4096 0) (length rows) (length rows)
@@ -98,3 +99,16 @@ row-ready q s f h l = record {
   inside = omega arith;
   filled = filled-above f (q .counted) h;
 }
+
+-- all pairs are there: each has its entry
+pub filled-all : {w : ℕ} {rows : List (List ℕ)} {cost place whole : List ℕ} → Filled w rows cost place whole 0 (length rows)
+    → (first last : ℕ) → first < 64 → last < 64 → Entry plain w rows first last (keptIn cost first last) (keptIn place first last)
+filled-all {w} {rows} {cost} {place} {whole} f first last a b = by-cases (decLt last first) (λ h. nothing (inl h))
+    (λ h. by-cases (decLt last (length rows)) (λ l. here first (omega arith) l) (λ l. nothing (inr (omega arith))))
+  where
+    nothing : (last < first) ⊎ (length rows ≤ last) → Entry plain w rows first last (keptIn cost first last) (keptIn place first last)
+    nothing o = let z = f .bare first last a b o in rw (z .0, z .1) (none o)
+
+    here : (first : ℕ) → first ≤ last → last < length rows → Entry plain w rows first last (keptIn cost first last) (keptIn place first last)
+    here zero o l = f .here last o l .entry
+    here (suc j) o l = f .past (suc j) last (omega arith) o l .entry

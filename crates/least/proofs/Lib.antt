@@ -1,3 +1,5 @@
+pub mod WorkedLaws
+pub mod PlacedLaws
 pub mod FilledLaws
 pub mod CheapLaws
 pub mod KeptLaws

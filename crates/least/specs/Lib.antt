@@ -1,3 +1,4 @@
+pub mod Build
 pub mod Kept
 pub mod Cursors
 pub mod Skips

@@ -1,16 +1,10 @@
-use mathlib.Core.Path.{_≡_, refl, sym, ap, _∙_}
-use Prim.Native.Nat.{ℕ, _+_, _-_, _*_, _≤_, _<_}
+use mathlib.Core.Path.{_≡_}
+use Prim.Native.Nat.{_-_, _≤_}
 use native.Mathlib.Omega.{arith}
-use borrow.Author.Needs.{needs}
-use lib.ListN.{length, getD}
 use Rattle.least.specs.Kept.{FillReady, Filled}
 use Rattle.least.proofs.FilledLaws.{filled-none, row-ready}
 use Rattle.least.proofs.kept.fill.Statement.{statement}
 use Rattle.least.proofs.kept.fill.Tie as tie
-use Rattle.least.proofs.kept.fill.Reads as reads
-use Rattle.least.proofs.kept.fill.Lts as lts
-use Rattle.least.proofs.kept.fill_row.Reads as fill-row-reads
-use Rattle.least.proofs.skips.skips.Reads as skips-reads
 
 abbrev Inv-loop : tie.InvT-loop
 Inv-loop table starts width count after cost₀ place₀ whole₀ first₀ cost place whole first = (first ≤ count)
@@ -19,37 +13,30 @@ Inv-loop table starts width count after cost₀ place₀ whole₀ first₀ cost 
 abbrev μ-loop : tie.MeasureT-loop
 μ-loop table starts width count after cost₀ place₀ whole₀ first₀ cost place whole first = first
 
--- src/kept.rt:144:17
 skips-requires : tie.Need-skips-requires Inv-loop μ-loop
 skips-requires c κs = c .before .pre .placed .cells
 
--- src/kept.rt:149:5
 loop-holds : tie.Need-loop-holds Inv-loop μ-loop
 loop-holds c = (omega arith, λ q. rw (q .counted) (filled-none (c .before .before .args .width) (q .rows)))
 
--- src/kept.rt:150:9
 sub-first : tie.Need-sub-first Inv-loop μ-loop
 sub-first c = omega arith
 
--- src/kept.rt:151:9
 fill-row-requires : tie.Need-fill-row-requires Inv-loop μ-loop
 fill-row-requires c κs =
     let q = c .before .before .before .before .before .before .before .before .pre in
     let l = c .before .before .before .before .before .loop in
     row-ready q (c .before .before .before .before .before .before .skips .ensures) (l .inv .1 q) (omega arith) (l .inv .0)
 
--- src/kept.rt:149:5
 loop-less : tie.Need-loop-less Inv-loop μ-loop
 loop-less c = omega arith
 
--- src/kept.rt:149:5
 loop-again : tie.Need-loop-again Inv-loop μ-loop
 unfolding row-ready
 loop-again c =
     let l = c .before .before .before .before .before .before .loop in
     (omega arith, λ q. c .fill-row .ensures (row-ready q (c .before .before .before .before .before .before .before .skips .ensures) (l .inv .1 q) (omega arith) (l .inv .0)))
 
--- src/kept.rt:140:1
 returns : tie.Need-returns Inv-loop μ-loop
 returns c =
     λ q. let l = c .before .loop in

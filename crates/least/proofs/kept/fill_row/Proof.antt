@@ -1,16 +1,11 @@
-use mathlib.Core.Path.{_≡_, refl, sym, ap, _∙_}
-use Prim.Native.Nat.{ℕ, _+_, _-_, _*_, _≤_, _<_}
+use mathlib.Core.Path.{_≡_}
+use Prim.Native.Nat.{_-_, _≤_}
 use native.Mathlib.Omega.{arith}
 use borrow.Author.Needs.{needs}
-use lib.ListN.{length, getD}
-use Rattle.least.specs.Kept.{PairReady, RowReady, Filled}
+use Rattle.least.specs.Kept.{RowReady, Filled}
 use Rattle.least.proofs.FilledLaws.{filled-next, pair-ready}
 use Rattle.least.proofs.kept.fill_row.Statement.{statement}
 use Rattle.least.proofs.kept.fill_row.Tie as tie
-use Rattle.least.proofs.kept.fill_row.Reads as reads
-use Rattle.least.proofs.kept.fill_row.Lts as lts
-use Rattle.least.proofs.kept.pair.Reads as pair-reads
-use Rattle.least.proofs.kept.store.Reads as store-reads
 
 abbrev Inv-loop : tie.InvT-loop
 Inv-loop table starts after cost₀ place₀ whole₀ width count first last₀ cost place whole last = (first ≤ last) × (last ≤ count)
@@ -19,51 +14,45 @@ Inv-loop table starts after cost₀ place₀ whole₀ width count first last₀ 
 abbrev μ-loop : tie.MeasureT-loop
 μ-loop table starts after cost₀ place₀ whole₀ width count first last₀ cost place whole last = count - last
 
--- src/kept.rt:123:5
 loop-holds : tie.Need-loop-holds Inv-loop μ-loop
 loop-holds c = (omega arith, omega (arith, c .before .pre .inside), λ q. q .filled)
 
--- src/kept.rt:124:13
 pair-requires : tie.Need-pair-requires Inv-loop μ-loop
 pair-requires c κs =
     let q = c .before .before .before .before .pre in
     let l = c .before .before .loop in
     pair-ready q (l .inv .2 q) (l .inv .0) (omega arith)
 
--- src/kept.rt:125:9
 store-requires : tie.Need-store-requires Inv-loop μ-loop
 store-requires c κs = search needs
 
--- src/kept.rt:126:9
 store-requires-2 : tie.Need-store-requires-2 Inv-loop μ-loop
 store-requires-2 c κs = search needs
 
--- src/kept.rt:127:9
 store-requires-3 : tie.Need-store-requires-3 Inv-loop μ-loop
 store-requires-3 c κs = search needs
 
--- src/kept.rt:128:9
 add-last : tie.Need-add-last Inv-loop μ-loop
 add-last c = search needs
 
--- src/kept.rt:123:5
 loop-less : tie.Need-loop-less Inv-loop μ-loop
 loop-less c = search needs
 
--- src/kept.rt:123:5
 loop-again : tie.Need-loop-again Inv-loop μ-loop
 unfolding pair-ready
 loop-again c =
-    let l = c .before .before .before .before .before .before .before .before .before .loop in
-    (omega arith, omega arith, λ q.
-    let f = l .inv .2 q in
-    let p = pair-ready q f (l .inv .0) (omega arith) in
-    let k = c .before .before .before .before .before .before .pair .ensures p in
-    let z = q .counted in
-    rw (c .before .before .before .before .store .ensures, c .before .before .store2 .ensures, c .store3 .ensures)
-    (filled-next f _ _ _ (l .inv .0) (omega arith) (q .placed .many) k))
+    let l = c .before .before .before .before .before .before .before .before .before .loop in (
+      omega arith,
+      omega arith,
+      λ q.
+          let f = l .inv .2 q in
+          let p = pair-ready q f (l .inv .0) (omega arith) in
+          let k = c .before .before .before .before .before .before .pair .ensures p in
+          let z = q .counted in
+          rw (c .before .before .before .before .store .ensures, c .before .before .store2 .ensures, c .store3 .ensures)
+          (filled-next f _ _ _ (l .inv .0) (omega arith) (q .placed .many) k),
+    )
 
--- src/kept.rt:108:1
 returns : tie.Need-returns Inv-loop μ-loop
 returns c =
     λ q. let l = c .before .loop in
