@@ -19,3 +19,5 @@ pub mod Scan
 pub mod Building
 pub mod Builder
 pub mod Pairs
+pub mod Examples
+pub mod LeastPlan

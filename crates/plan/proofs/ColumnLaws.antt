@@ -82,6 +82,13 @@ pub count-first : (cs : List ℕ) → 0 < length cs → 1 + breaks (getD cs 0 0)
 count-first [] h = absurd (omega arith)
 count-first (c ∷ cs) h = omega arith
 
+-- a run has no more rows than there are
+pub run-few : (c : ℕ) (cs : List ℕ) → runLength (c ∷ cs) ≤ length (c ∷ cs)
+unfolding follow
+run-few c [] = omega arith
+run-few c (d ∷ cs) =
+    ⊎-elim (λ (e : agree c d ≡ true). rw e (omega (arith, run-few d cs))) (λ (e : agree c d ≡ false). rw e (omega arith)) (bool-cases (agree c d))
+
 -- The runs of rows are those of the column of their cells.
 pub group-on : (cell : List ℕ → ℕ) (left : List ℕ → List ℕ) (rows : List (List ℕ)) → group cell left rows ≡ runsOn (map cell rows) (map left rows)
 group-on cell left [] = refl

@@ -2,6 +2,9 @@ pub mod RunsLaws
 pub mod PlansLaws
 pub mod SizeLaws
 pub mod CheckLaws
+pub mod MarksLaws
+pub mod Examples
 pub mod MaskLaws
 pub mod ColumnLaws
+pub mod RowsLaws
 pub mod Fixed

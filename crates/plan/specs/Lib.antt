@@ -5,3 +5,4 @@ pub mod Marks
 pub mod Checked
 pub mod Mask
 pub mod Column
+pub mod States

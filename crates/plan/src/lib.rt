@@ -1,4 +1,5 @@
 // Plans (01, "Plans"): the check of any plan for a table.
+mod check;
 pub mod column;
 pub mod mask;
 
