@@ -7,4 +7,5 @@ pub mod Examples
 pub mod MaskLaws
 pub mod ColumnLaws
 pub mod RowsLaws
+pub mod StepLaws
 pub mod Fixed

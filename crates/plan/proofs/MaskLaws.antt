@@ -15,7 +15,8 @@ use lib.Count.{trailingZeros, under}
 use borrow.Author.Tests.{eq-eqb, ne-eqb, lt-ltb}
 use Rattle.cell.specs.Cell.{arity}
 use Rattle.term.specs.Terms.{root, close}
-use Rattle.plan.specs.Mask.{odd, kept, bitFrom, bitAt, without, full}
+use Rattle.plan.specs.Mask.{odd, kept, bitFrom, bitAt, without, full, ClosedAt}
+use Rattle.plan.specs.declared.mask.Closed.{Closed}
 
 set : (m : ℕ) → m % 2 ≡ 1 → odd m ≡ true
 set m h = eq-eqb _ _ h
@@ -122,6 +123,9 @@ module _ (i m : ℕ) (xs : List ℕ) where
       go : {b : ℕ} → Found i m xs 0 b → kept (without m b) xs ≡ close i (kept m xs)
       go (nowhere r l) = sym l
       go (there d s p r l) = rw (zero-add, lt-ltb d 32 (bit-small d m h p)) (sym l)
+
+  pub closed-at : m < 2 ^ 32 → (r : Closed) → r .cell ≡ root i (kept m xs) → r .mask ≡ without m (bitAt i m xs) → ClosedAt i m xs r
+  closed-at h r c e = record { cell = c; mask = e; list = rw e (kept-without h) }
 
 -- the bit as it is shifted into place
 pub bit-shifted : (b : ℕ) → b < 32 → 1 * 2 ^ b % 2 ^ 32 ≡ 2 ^ b

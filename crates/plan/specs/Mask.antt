@@ -3,7 +3,10 @@ use Prim.Native.Nat.{ℕ, zero, suc, _+_, _-_, _/_, _%_, _^_}
 use mathlib.Core.Bool.{Bool, cond}
 use mathlib.Core.List.{List, [], _∷_}
 use lib.Dec.{eqb, ltb}
+use mathlib.Core.Path.{_≡_}
 use Rattle.cell.specs.Cell.{arity}
+use Rattle.term.specs.Terms.{root, close}
+use Rattle.plan.specs.declared.mask.Closed.{Closed}
 
 -- the lowest bit is set
 abbrev pub odd : ℕ → Bool
@@ -30,3 +33,9 @@ without m b = cond (ltb b 32) (m - 2 ^ b) m
 -- the mask of a row of n cells, all of them open
 abbrev pub full : ℕ → ℕ
 full n = cond (ltb n 32) (2 ^ n) (2 ^ 32) - 1
+
+-- open place i of a row is closed: its cell is the definition's, its bit is out of the mask, and so the list that the mask stands for is the definition's
+pub record ClosedAt (i m : ℕ) (xs : List ℕ) (r : Closed) : Type 0 where
+  pub cell : r .cell ≡ root i (kept m xs)
+  pub mask : r .mask ≡ without m (bitAt i m xs)
+  pub list : kept (r .mask) xs ≡ close i (kept m xs)

@@ -1,8 +1,7 @@
 // A row's state as a mask of its open cells: bit j is set while cell j of the row is not yet looked at. A row has at most 32 cells.
 ghost use mathlib.Core.Path.{_≡_};
 ghost use lib.ListN.{drop};
-ghost use Rattle.term.specs.Terms.{root};
-ghost use Rattle.plan.specs.Mask.{kept, bitAt, without, full};
+ghost use Rattle.plan.specs.Mask.{bitAt, full, ClosedAt};
 
 // The mask of a row of n cells, all of them open.
 pub fn row_mask(n: usize) -> u32
@@ -45,7 +44,7 @@ pub struct Closed {
 }
 
 pub fn close_at(cells: &[u32], start: usize, mask: u32, i: u32) -> Closed
-    ensures { λ r. ⌜ (r .cell ≡ root i (kept mask (drop start (now (cells .entry))))) × (r .mask ≡ without mask (bitAt i mask (drop start (now (cells .entry))))) ⌝ }
+    ensures { λ r. ⌜ ClosedAt i mask (drop start (now (cells .entry))) r ⌝ }
 {
     let bit = root_at(cells, start, mask, i);
     if bit < 32 {
