@@ -1,3 +1,5 @@
+pub mod ChooseLaws
+pub mod AgreedLaws
 pub mod WorkedLaws
 pub mod PlacedLaws
 pub mod FilledLaws

@@ -1,3 +1,4 @@
+pub mod Writing
 pub mod Build
 pub mod Kept
 pub mod Cursors

@@ -2,6 +2,7 @@
 mod columns;
 mod kept;
 mod skips;
+mod writer;
 
 ghost use Rattle.least.specs.Build.{WorkedOut};
 use table::TableAnswer;

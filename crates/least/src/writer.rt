@@ -1,0 +1,67 @@
+// The builder's plan, written state by state from the entries of all pairs (01, "The builder's plan is fixed"). A row in a
+// state is a mask of its open cells, as in the check.
+ghost use mathlib.Core.Path.{_≡_};
+ghost use mathlib.Core.List.{map};
+ghost use Prim.Native.Nat.{ℕ, _+_, _-_, _≤_, _<_};
+ghost use lib.Dec.{eqb};
+ghost use lib.ListN.{length};
+ghost use Rattle.term.specs.Terms.{root};
+ghost use Rattle.plan.specs.Plans.{write, writes, plain};
+ghost use Rattle.plan.specs.Column.{runCount};
+ghost use Rattle.plan.specs.States.{rowsIn, Closes};
+ghost use Rattle.least.specs.Least.{Chosen};
+ghost use Rattle.least.specs.Writing.{State, ToWrite, ToWriteAll, Written};
+use super::columns::kept_in;
+use plan::column::run_count;
+use plan::column::run_length;
+use plan::column::same_symbol;
+use plan::mask::close_at;
+
+// All rows agree at place i: each holds the symbol of the row before it.
+fn agreed_at(
+    table: &[u32],
+    starts: &[usize; 64],
+    masks: &[u32; 64],
+    i: u32,
+    first: usize,
+    end: usize,
+) -> bool
+    requires { ⌜ (first < end) × (end ≤ 64) ⌝ }
+    ensures { λ r. ⌜ r ≡ eqb (runCount (map (root i) (rowsIn (now (table .entry)) (now (starts .entry)) (now (masks .entry)) first end))) 1 ⌝ }
+{
+    let mut row = first + 1;
+    let mut cell = close_at(table, starts[first], masks[first], i).cell;
+    while row < end {
+        let next = close_at(table, starts[row], masks[row], i).cell;
+        if !same_symbol(cell, next) {
+            return false;
+        }
+        cell = next;
+        row += 1;
+    }
+    true
+}
+
+// The place that the rule takes at a state with k open places: the leftmost that all rows agree on, otherwise the pair's.
+fn choose(
+    table: &[u32],
+    starts: &[usize; 64],
+    masks: &[u32; 64],
+    place: &[u32; 4096],
+    first: usize,
+    end: usize,
+    k: usize,
+) -> u32
+    requires { ⌜ (0 < k) × State (now place) first end k (rowsIn (now table) (now starts) (now masks) first end) ⌝ }
+    ensures { λ r. ⌜ (State (now (place .entry)) first end k (rowsIn (now (table .entry)) (now (starts .entry)) (now (masks .entry)) first end)
+        → (r < k) × Chosen plain (k - 1) (rowsIn (now (table .entry)) (now (starts .entry)) (now (masks .entry)) first end) r) ⌝ }
+{
+    let mut i: u32 = 0;
+    while (i as usize) < k {
+        if agreed_at(table, starts, masks, i, first, end) {
+            return i;
+        }
+        i += 1;
+    }
+    kept_in(place, first, end - 1)
+}
