@@ -1,22 +1,21 @@
 -- The place that is chosen at a state: the leftmost agreed, otherwise that of the pair's entry, which is counted from this very state.
-use mathlib.Core.Path.{_≡_, refl, sym, _∙_}
-use mathlib.Core.Logic.{by-cases, _⊎_, inl, inr}
+use mathlib.Core.Path.{_≡_, sym, _∙_}
+use mathlib.Core.Logic.{by-cases, inl, inr}
 use mathlib.Core.List.{List, [], _∷_, map}
-use Prim.Native.Nat.{ℕ, zero, suc, _+_, _-_, _≤_, _<_}
+use Prim.Native.Nat.{ℕ, suc, _+_, _-_, _≤_, _<_}
 use native.Mathlib.Decide.{decLt}
 use native.Mathlib.Omega.{arith}
 use lib.ListN.{length}
 use Rattle.term.specs.Terms.{Terms, root}
 use Rattle.term.specs.Terms as terms
 use Rattle.table.specs.All.{All}
-use Rattle.plan.specs.Runs.{runs}
 use Rattle.plan.specs.Plans.{plain}
 use Rattle.plan.specs.Column.{runCount}
 use Rattle.plan.specs.States.{rowsIn}
 use Rattle.plan.proofs.RunsLaws.{Fits}
 use Rattle.plan.proofs.RowsLaws.{rows-length}
-use Rattle.least.specs.Least.{Agree, Stuck, Chosen, shared}
-use Rattle.least.specs.Entries.{between, Closes, Entry, none, leaf, inner}
+use Rattle.least.specs.Least.{Stuck, Chosen, shared}
+use Rattle.least.specs.Entries.{Entry, none, leaf, inner}
 use Rattle.least.specs.Cursors.{keptIn}
 use Rattle.least.specs.Writing.{State}
 use Rattle.least.proofs.Agreed.{one-agrees, no-run}
@@ -28,8 +27,8 @@ none-stuck rows i c h a = omega arith
 
 pub one-stuck : (i : ℕ) (rows : List (List ℕ)) → (runCount (map (root i) rows) ≡ 1 → ⊥) → Stuck i rows → Stuck (i + 1) rows
 one-stuck i rows n s j c h a = by-cases (decLt j i)
-  (λ l. s j c l a)
-  (λ l. let e : j ≡ i = omega arith in no-run i c rows (λ q. n (sym (column-count i rows) ∙ q)) (rw e at a))
+    (λ l. s j c l a)
+    (λ l. let e : j ≡ i = omega arith in no-run i c rows (λ q. n (sym (column-count i rows) ∙ q)) (rw e at a))
 
 pub chosen-agreed : (k i : ℕ) (rows : List (List ℕ)) → runCount (map (root i) rows) ≡ 1 → Stuck i rows → Chosen plain k rows i
 chosen-agreed k i rows e s = let g = one-agrees i rows (column-count i rows ∙ e) in shared (g .0) (g .1) s

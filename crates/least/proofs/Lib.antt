@@ -1,3 +1,4 @@
+pub mod WritingLaws
 pub mod ChooseLaws
 pub mod AgreedLaws
 pub mod WorkedLaws

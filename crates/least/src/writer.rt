@@ -65,3 +65,111 @@ fn choose(
     }
     kept_in(place, first, end - 1)
 }
+
+// Closes place i of the rows from first to before end: the cell that each has there goes into the column, and its bit out
+// of its mask.
+fn close_rows(
+    table: &[u32],
+    starts: &[usize; 64],
+    masks: &mut [u32; 64],
+    column: &mut [u32; 64],
+    i: u32,
+    first: usize,
+    end: usize,
+)
+    requires { ⌜ (first ≤ end) × (end ≤ 64) × (length (now masks) ≡ 64) × (length (now column) ≡ 64) ⌝ }
+    ensures { λ r. ⌜ Closes (now (table .entry)) (now (starts .entry)) (now (masks .entry)) (now (column .entry)) (now (masks .exit)) (now (column .exit)) i first end ⌝ }
+{
+    let mut row = end;
+    while first < row {
+        row -= 1;
+        let closed = close_at(table, starts[row], masks[row], i);
+        column[row] = closed.cell;
+        masks[row] = closed.mask;
+    }
+}
+
+// The plan of the state of rows first to before end with k open places, from a place on; the place after it.
+pub fn state(
+    table: &[u32],
+    starts: &[usize; 64],
+    masks: &mut [u32; 64],
+    column: &mut [u32; 64],
+    place: &[u32; 4096],
+    out: &mut [u32; 6082],
+    first: usize,
+    end: usize,
+    k: usize,
+    at: usize,
+) -> usize
+    requires { ⌜ ToWrite (now table) (now starts) (now masks) (now column) (now place) (now out) first end k at ⌝ }
+    ensures { λ r. ⌜ ((q : ToWrite (now (table .entry)) (now (starts .entry)) (now (masks .entry)) (now (column .entry)) (now (place .entry)) (now (out .entry)) first end k at)
+        → Written (now (masks .entry)) (now (column .entry)) (now (out .entry)) (now (masks .exit)) (now (column .exit)) (now (out .exit)) (write (q .plan)) end at r) ⌝ }
+{
+    if k == 0 {
+        out[at] = (end - first) as u32;
+        return at + 1;
+    }
+    let i = choose(table, starts, &*masks, place, first, end, k);
+    close_rows(table, starts, masks, column, i, first, end);
+    let cells = &column[..];
+    let count = run_count(&cells[first..end]) as u32;
+    let next = at + 1;
+    out[at] = i;
+    out[next] = count;
+    branches(
+        table,
+        starts,
+        masks,
+        column,
+        place,
+        out,
+        first,
+        end,
+        k - 1,
+        at + 2,
+    )
+}
+
+// The branches from a place on, one for each run of the rows from first to before end; below each, k places are open beside
+// its symbol's arguments.
+fn branches(
+    table: &[u32],
+    starts: &[usize; 64],
+    masks: &mut [u32; 64],
+    column: &mut [u32; 64],
+    place: &[u32; 4096],
+    out: &mut [u32; 6082],
+    first: usize,
+    end: usize,
+    k: usize,
+    at: usize,
+) -> usize
+    requires { ⌜ ToWriteAll (now table) (now starts) (now masks) (now column) (now place) (now out) first end k at ⌝ }
+    ensures { λ r. ⌜ ((q : ToWriteAll (now (table .entry)) (now (starts .entry)) (now (masks .entry)) (now (column .entry)) (now (place .entry)) (now (out .entry)) first end k at)
+        → Written (now (masks .entry)) (now (column .entry)) (now (out .entry)) (now (masks .exit)) (now (column .exit)) (now (out .exit)) (writes (q .plans)) end at r) ⌝ }
+{
+    let mut row = first;
+    let mut next = at;
+    while row < end {
+        let cells = &column[..];
+        let n = run_length(&cells[row..end]);
+        let c = column[row];
+        out[next] = c;
+        let open = cell::arity_of(c) + k;
+        next = state(
+            table,
+            starts,
+            masks,
+            column,
+            place,
+            out,
+            row,
+            row + n,
+            open,
+            next + 1,
+        );
+        row += n;
+    }
+    next
+}
