@@ -8,4 +8,5 @@ pub mod MaskLaws
 pub mod ColumnLaws
 pub mod RowsLaws
 pub mod StepLaws
+pub mod EntryLaws
 pub mod Fixed

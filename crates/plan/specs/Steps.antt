@@ -2,18 +2,21 @@
 use Prim.Native.Nat.{ℕ, _+_, _≤_, _<_}
 use mathlib.Core.Path.{_≡_}
 use mathlib.Core.List.{List, _++_}
-use lib.ListN.{length, drop}
+use lib.ListN.{length, drop, replicate}
 use lib.Seq.{sets}
 use Rattle.cell.specs.Cell.{arity}
 use Rattle.term.specs.Terms.{Terms}
 use Rattle.table.specs.All.{All}
-use Rattle.table.specs.Refusal.{told}
+use Rattle.table.specs.Refusal.{Refused, told, turned}
 use Rattle.table.specs.Read.{Read, read, refuse}
+use Rattle.table.specs.Table.{Table, tableOf, startsIn}
 use Rattle.plan.specs.Runs.{Run}
 use Rattle.plan.specs.Plans.{Plan, Branches, write, writes, branches, branchesIn}
 use Rattle.plan.specs.Check.{Seen, seen, branchesFrom, stateFrom}
 use Rattle.plan.specs.Marks.{endsIn, endsOf, manyIn, manyOf}
 use Rattle.plan.specs.States.{rowsIn, runsIn, Same}
+use Rattle.plan.specs.Checked.{planTold}
+use Rattle.plan.specs.declared.Marked.{Marked}
 use Rattle.plan.specs.declared.check.Step.{Step}
 use Rattle.plan.specs.declared.check.Step.the-variants as step
 
@@ -84,3 +87,19 @@ pub record DoneIn (t ss ms hs ms′ hs′ p es ns es′ ns′ : List ℕ) (first
   pub notes : NotesIn k (runsIn t ss ms hs first end) p es ns es′ ns′ at r
   pub masks : Same end ms ms′
   pub column : Same end hs hs′
+
+-- a table that is read, as the code has it: where its rows start, its width, its number of rows
+pub record TableRows (t ss : List ℕ) (w n : ℕ) : Type 0 where
+  pub table : Table
+  pub here : tableOf t ≡ read table
+  pub starts : ss ≡ startsIn (read table)
+  pub width : w ≡ table .width
+  pub rows : n ≡ length (table .rows)
+
+-- what is handed on of a table or plan that is turned away
+pub record Turned (f : Refused) (m : Marked) : Type 0 where
+  pub answer : planTold (m .answer) ≡ turned f
+  pub width : m .width ≡ 0
+  pub rows : m .rows ≡ 0
+  pub ends : m .ends ≡ replicate 6082 0
+  pub many : m .many ≡ replicate 6082 0
