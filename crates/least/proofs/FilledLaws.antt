@@ -8,10 +8,12 @@ use native.Mathlib.Omega.{arith}
 use lib.ListN.{length, getD, set, replicate, length-set, length-replicate, getD-replicate, List·getD-eq-default}
 use lib.Seq.{getD-set-same, getD-set-other}
 use Rattle.plan.specs.Plans.{plain}
+use Rattle.plan.specs.Steps.{TableRows}
 use Rattle.least.specs.Entries.{Entry, none}
 use Rattle.least.specs.Cursors.{keptIn}
 use Rattle.least.specs.Skips.{Skips}
-use Rattle.least.specs.Kept.{Kept, Shorter, PairReady, Filled, RowReady, FillReady}
+use Rattle.least.specs.Kept.{Kept, Shorter, PairReady, Filled, RowReady}
+use Rattle.least.proofs.PlacedLaws.{placed}
 
 zeros : (n i : ℕ) → _≡_ {A = ℕ} (getD (replicate n 0) i 0) 0
 zeros n i = by-cases (decLt i n) (λ h. getD-replicate n i 0 0 h)
@@ -89,15 +91,15 @@ pair-ready q f o i = record {
 }
 
 -- what the next row above needs
-unfoldable pub row-ready : {t starts after cost place whole : List ℕ} {w count first : ℕ} (q : FillReady t starts w count) → Skips t after 2
-    → Filled w (q .rows) cost place whole first count → 0 < first → first ≤ count → RowReady t starts after cost place whole w count (first - 1)
+unfoldable pub row-ready : {t starts after cost place whole : List ℕ} {w count first : ℕ} (q : TableRows t starts w count) → Skips t after 2
+    → Filled w (q .table .rows) cost place whole first count → 0 < first → first ≤ count → RowReady t starts after cost place whole w count (first - 1)
 row-ready q s f h l = record {
-  rows = q .rows;
-  placed = q .placed;
-  counted = q .counted;
+  rows = q .table .rows;
+  placed = placed q;
+  counted = q .rows;
   skips = s;
   inside = omega arith;
-  filled = filled-above f (q .counted) h;
+  filled = filled-above f (q .rows) h;
 }
 
 -- all pairs are there: each has its entry

@@ -1,3 +1,5 @@
+pub mod BuildLaws
+pub mod PlannedLaws
 pub mod WritingLaws
 pub mod ChooseLaws
 pub mod AgreedLaws

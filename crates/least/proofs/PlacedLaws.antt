@@ -9,20 +9,12 @@ use lib.Seq.{drop-drop, drop-append-seam}
 use Rattle.term.specs.Terms.{Terms, none}
 use Rattle.term.proofs.TermsLaws.{Terms-++}
 use Rattle.table.specs.All.{All}
-use Rattle.table.specs.Read.{read, refuse}
-use Rattle.table.specs.Refusal.{told}
-use Rattle.table.specs.Table.{Table, tableOf, starts, startsIn, tableTold, TableReads, Row}
-use Rattle.table.specs.declared.TableRead.{TableRead}
-use Rattle.table.specs.declared.Refusal.{Refusal}
-use Rattle.table.specs.declared.TableAnswer.the-variants.{Accepted, Refused}
+use Rattle.table.specs.Table.{Table, starts}
 use Rattle.table.proofs.Accepted.{is-table}
-use Rattle.table.proofs.PartLaws.{says-read, says-turned}
+use Rattle.plan.specs.Steps.{TableRows}
 use Rattle.plan.proofs.RunsLaws.{Fits}
-use Rattle.least.specs.Kept.{Standing, Placed, FillReady}
-
-rows-fit : (w : ℕ) (rows : List (List ℕ)) → All (Row w) rows → All (Fits 32 w) rows
-rows-fit w [] a = tt
-rows-fit w (r ∷ rs) a = ((a .0 .head .terms, a .0 .head .short), rows-fit w rs (a .1))
+use Rattle.plan.proofs.CheckLaws.{rows-fit}
+use Rattle.least.specs.Kept.{Standing, Placed}
 
 rows-terms : (w : ℕ) (rows : List (List ℕ)) → All (Fits 32 w) rows → Terms (length rows * w) (flatten rows) × (length (flatten rows) ≤ 32 * length rows)
 unfolding flatten
@@ -46,13 +38,15 @@ row-stands t p (x ∷ xs) (suc r) h l e =
     row-stands t (p + length x) xs r (omega arith) (omega arith)
     (sym (drop-drop (length x) p t) ∙ ap (λ (y : List ℕ). drop (length x) y) e ∙ drop-append-seam x (flatten xs))
 
-pub placed : (t : List ℕ) (T : Table) → tableOf t ≡ read T → Placed t (T .width) (T .rows) (startsIn (read T))
-placed t T e =
-    let i = is-table t e in
+pub placed : {t ss : List ℕ} {w n : ℕ} (k : TableRows t ss w n) → Placed t w (k .table .rows) ss
+placed {t} {ss} {w} k =
+    let T : Table = k .table in
+    let i = is-table t (k .here) in
     let f = rows-fit (T .width) (T .rows) (i .each) in
     let u = rows-terms (T .width) (T .rows) f in
     let d : drop 2 t ≡ flatten (T .rows) = ap (λ (l : List ℕ). drop 2 l) (i .cells) in
-    record {
+    let z : length (replicate {A = ℕ} (64 - length (T .rows)) 0) ≡ 64 - length (T .rows) = length-replicate (64 - length (T .rows)) 0 in
+    rw (k .width, k .starts) (record {
       cells = record {
         many = length (T .rows) * T .width;
         terms = rw d (u .0);
@@ -60,32 +54,7 @@ placed t T e =
       };
       fits = f;
       many = i .count .1;
-      size =
-          (let z : length (replicate {A = ℕ} (64 - length (T .rows)) 0) ≡ 64 - length (T .rows) = length-replicate (64 - length (T .rows)) 0 in
-          omega (arith, length-append (starts 2 (T .rows)) (replicate (64 - length (T .rows)) 0), starts-length 2 (T .rows), i .count .1));
+      size = omega (arith, length-append (starts 2 (T .rows)) (replicate (64 - length (T .rows)) 0), starts-length 2 (T .rows), i .count .1);
       stand = λ r h. rw (List·getD-append (starts 2 (T .rows)) (replicate (64 - length (T .rows)) 0) 0 r (rw (starts-length 2 (T .rows)) h))
           (row-stands t 2 (T .rows) r h (omega arith) d);
-    }
-
--- what the reading of a table answers, as the rows
-pub record Accepting (t : List ℕ) (starts : List ℕ) (w n : ℕ) : Type 0 where
-  pub table : Table
-  pub is : tableOf t ≡ read table
-  pub width : table .width ≡ w
-  pub count : length (table .rows) ≡ n
-  pub places : starts ≡ startsIn (read table)
-
-pub accepting : (t : List ℕ) (r : TableRead) {w n : ℕ} → TableReads (tableOf t) r → r .answer ≡ Accepted w n → Accepting t (r .starts) w n
-accepting t r a e =
-    let s = says-read (tableOf t) (sym (ap tableTold e) ∙ a .answer) in
-    record { table = s .0; is = s .1; width = s .2; count = s .3; places = a .starts ∙ ap startsIn (s .1) }
-
-pub turning : (t : List ℕ) (r : TableRead) {f : Refusal} → TableReads (tableOf t) r → r .answer ≡ Refused f → tableOf t ≡ refuse (told f)
-turning t r a e = says-turned (tableOf t) (sym (ap tableTold e) ∙ a .answer)
-
-unfoldable pub fill-ready : {t starts : List ℕ} {w n : ℕ} (a : Accepting t starts w n) → FillReady t starts w n
-fill-ready {t} {starts} {w} {n} a = record {
-  rows = a .table .rows;
-  placed = rw (← (a .width), a .places) (placed t (a .table) (a .is));
-  counted = sym (a .count);
-}
+    })

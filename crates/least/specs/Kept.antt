@@ -67,9 +67,3 @@ pub record RowReady (t starts after cost place whole : List ℕ) (w count first 
   pub skips : Skips t after 2
   pub inside : first < count
   pub filled : Filled w rows cost place whole first first
-
--- the rows of a table, none of whose pairs is worked out
-pub record FillReady (t starts : List ℕ) (w count : ℕ) : Type 0 where
-  pub rows : List (List ℕ)
-  pub placed : Placed t w rows starts
-  pub counted : count ≡ length rows

@@ -3,17 +3,18 @@
 use Prim.Native.Nat.{ℕ, _+_, _≤_, _<_}
 use mathlib.Core.Path.{_≡_}
 use mathlib.Core.List.{List, [], _∷_, map}
-use lib.ListN.{length}
+use lib.ListN.{length, take}
 use lib.Seq.{sets, slice}
 use Rattle.cell.specs.Cell.{arity}
 use Rattle.term.specs.Terms.{root}
 use Rattle.table.specs.All.{All}
 use Rattle.plan.specs.Runs.{Run}
-use Rattle.plan.specs.Plans.{Plan, Branches, write, writes, plain}
+use Rattle.table.specs.Table.{Table}
+use Rattle.plan.specs.Plans.{Plan, Branches, write, writes, branches, plain}
 use Rattle.plan.specs.Column.{runCount}
 use Rattle.plan.specs.States.{rowsIn, runsIn, Same}
 use Rattle.plan.proofs.RunsLaws.{Fits}
-use Rattle.least.specs.Least.{Chosen, Built, Builts}
+use Rattle.least.specs.Least.{Least, Built, Builts}
 use Rattle.least.specs.Entries.{Closes, Entry}
 use Rattle.least.specs.Cursors.{keptIn}
 
@@ -73,3 +74,13 @@ pub record Written (ms hs out ms′ hs′ out′ cells : List ℕ) (end at next 
   pub out-is : out′ ≡ sets out at cells
   pub masks : Same end ms ms′
   pub column : Same end hs hs′
+
+-- the cells of the builder's plan for a table's rows, so many at the front, and its number of branches, which is the least
+pub record Planned (T : Table) (cells : List ℕ) (size count : ℕ) : Type 0 where
+  pub plan : Plan (T .width) (T .rows)
+  pub built : Built plain plan
+  pub least : Least plain (T .width) (T .rows) (branches plan)
+  pub cells-are : take size cells ≡ write plan
+  pub size-is : size ≡ length (write plan)
+  pub count-is : count ≡ branches plan
+  pub few : size ≤ 6082

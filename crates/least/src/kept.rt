@@ -4,7 +4,8 @@
 ghost use mathlib.Core.Path.{_≡_};
 ghost use Prim.Native.Nat.{ℕ, _+_, _-_, _*_, _≤_, _<_};
 ghost use lib.ListN.{length, getD, set};
-ghost use Rattle.least.specs.Kept.{Kept, Cheapest, PairReady, Filled, RowReady, FillReady};
+ghost use Rattle.plan.specs.Steps.{TableRows};
+ghost use Rattle.least.specs.Kept.{Kept, Cheapest, PairReady, Filled, RowReady};
 use super::columns;
 use super::skips;
 
@@ -138,8 +139,8 @@ pub struct Arrays {
 
 // First rows from the last to the first, so that every shorter pair is there first.
 pub fn fill(table: &[u32], starts: [usize; 64], width: usize, count: usize) -> Arrays
-    requires { ⌜ FillReady (now table) starts width count ⌝ }
-    ensures { λ r. ⌜ ((q : FillReady (now (table .entry)) starts width count) → Filled width (q .rows) (r .cost) (r .place) (r .whole) 0 count) ⌝ }
+    requires { ⌜ TableRows (now table) starts width count ⌝ }
+    ensures { λ r. ⌜ ((q : TableRows (now (table .entry)) starts width count) → Filled width (q .table .rows) (r .cost) (r .place) (r .whole) 0 count) ⌝ }
 {
     let after = skips::skips(table);
     let mut cost = [0u32; 4096];

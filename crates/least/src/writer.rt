@@ -9,13 +9,16 @@ ghost use Rattle.term.specs.Terms.{root};
 ghost use Rattle.plan.specs.Plans.{write, writes, plain};
 ghost use Rattle.plan.specs.Column.{runCount};
 ghost use Rattle.plan.specs.States.{rowsIn, Closes};
+ghost use Rattle.plan.specs.Steps.{TableRows};
 ghost use Rattle.least.specs.Least.{Chosen};
-ghost use Rattle.least.specs.Writing.{State, ToWrite, ToWriteAll, Written};
+ghost use Rattle.least.specs.Writing.{State, ToWrite, ToWriteAll, Written, Planned};
 use super::columns::kept_in;
+use super::kept;
 use plan::column::run_count;
 use plan::column::run_length;
 use plan::column::same_symbol;
 use plan::mask::close_at;
+use plan::mask::open_rows;
 
 // All rows agree at place i: each holds the symbol of the row before it.
 fn agreed_at(
@@ -172,4 +175,41 @@ fn branches(
         row += n;
     }
     next
+}
+
+// A plan's cells, so many at the front, and its number of branches.
+pub struct PlanCells {
+    pub cells: [u32; 6082],
+    pub size: usize,
+    pub count: usize,
+}
+
+// The plan of a table's rows: the entries of all pairs, then the first state with all rows and the width's arguments open.
+pub fn write_plan(table: &[u32], starts: [usize; 64], width: usize, count: usize) -> PlanCells
+    requires { ⌜ TableRows (now table) starts width count ⌝ }
+    ensures { λ r. ⌜ ((q : TableRows (now (table .entry)) starts width count) → Planned (q .table) (r .cells) (r .size) (r .count)) ⌝ }
+{
+    let arrays = kept::fill(table, starts, width, count);
+    let place = arrays.place;
+    let whole = arrays.whole;
+    let mut masks = open_rows(&starts, count, table.len());
+    let mut column = [0u32; 64];
+    let mut cells = [0u32; 6082];
+    let size = state(
+        table,
+        &starts,
+        &mut masks,
+        &mut column,
+        &place,
+        &mut cells,
+        0,
+        count,
+        width,
+        0,
+    );
+    PlanCells {
+        cells,
+        size,
+        count: kept_in(&whole, 0, count - 1) as usize,
+    }
 }

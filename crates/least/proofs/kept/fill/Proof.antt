@@ -1,23 +1,25 @@
 use mathlib.Core.Path.{_≡_}
 use Prim.Native.Nat.{_-_, _≤_}
 use native.Mathlib.Omega.{arith}
-use Rattle.least.specs.Kept.{FillReady, Filled}
+use Rattle.plan.specs.Steps.{TableRows}
+use Rattle.least.specs.Kept.{Filled}
+use Rattle.least.proofs.PlacedLaws.{placed}
 use Rattle.least.proofs.FilledLaws.{filled-none, row-ready}
 use Rattle.least.proofs.kept.fill.Statement.{statement}
 use Rattle.least.proofs.kept.fill.Tie as tie
 
 abbrev Inv-loop : tie.InvT-loop
 Inv-loop table starts width count after cost₀ place₀ whole₀ first₀ cost place whole first = (first ≤ count)
-    × ((q : FillReady table starts width count) → Filled width (q .rows) cost place whole first count)
+    × ((q : TableRows table starts width count) → Filled width (q .table .rows) cost place whole first count)
 
 abbrev μ-loop : tie.MeasureT-loop
 μ-loop table starts width count after cost₀ place₀ whole₀ first₀ cost place whole first = first
 
 skips-requires : tie.Need-skips-requires Inv-loop μ-loop
-skips-requires c κs = c .before .pre .placed .cells
+skips-requires c κs = placed (c .before .pre) .cells
 
 loop-holds : tie.Need-loop-holds Inv-loop μ-loop
-loop-holds c = (omega arith, λ q. rw (q .counted) (filled-none (c .before .before .args .width) (q .rows)))
+loop-holds c = (omega arith, λ q. rw (q .rows) (filled-none (c .before .before .args .width) (q .table .rows)))
 
 sub-first : tie.Need-sub-first Inv-loop μ-loop
 sub-first c = omega arith
