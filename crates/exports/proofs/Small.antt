@@ -15,7 +15,10 @@ use Rattle.table.proofs.HeadLaws.{head-few}
 use Rattle.table.proofs.ReadLaws.{passed, inside}
 use Rattle.plan.specs.Check.{planFor, planOf}
 use Rattle.plan.specs.Checked.{planSays}
-use Rattle.plan.proofs.SizeLaws.{bound}
+use Rattle.plan.specs.Plans.{Plan, write, branches}
+use Rattle.plan.proofs.SizeLaws.{bound, size-bound}
+use Rattle.least.specs.declared.BuildAnswer.{BuildAnswer}
+use Rattle.least.specs.Build.{BuiltInto, table-refused, room-refused, built, buildTold}
 use Rattle.plan.proofs.CheckLaws.{accepted-one, rows-fit}
 use Rattle.run.specs.declared.RunAnswer.{RunAnswer}
 use Rattle.run.specs.Skeleton.{hole}
@@ -99,6 +102,14 @@ plan-small t p = go (tableOf t) refl
     go (read T) e = with-table T e (planFor T p) refl
     go (refuse f) e = let l = placed-at (placed-table t) e in omega arith
 
+-- a plan of an accepted table has at most 6,082 cells and 2,048 branches
+plan-cells : (t : List ℕ) (T : Table) (plan : Plan (T .width) (T .rows)) → tableOf t ≡ read T → (length (write plan) ≤ 6082) × (branches plan ≤ 2048)
+plan-cells t T plan e =
+    let i = is-table t e in
+    let f = rows-fit (T .width) (T .rows) (i .each) in
+    let b = bound plan 32 f (i .count .0) in
+    (size-bound plan f (i .count .0) (i .count .1), omega (arith, i .count .1))
+
 -- hits are rows of the table, and tries are branches of the plan
 hits-few : {P : List ℕ → Type 0} {rs : List (List ℕ)} {f : ℕ} {hs : List ℕ} → Picks P rs f hs → length hs ≤ length rs
 hits-few none = omega arith
@@ -108,6 +119,12 @@ hits-few (miss p w) = let h = hits-few w in omega arith
 pub run-small : {t p g room room′ : List ℕ} {r : RunAnswer} → Ran t p g room room′ r → Small (runTold r)
 run-small {t} {p} {g} {room} (refusal f a b c) = let l = placed-at (placed-run t p g room) a in rw b (omega arith)
 run-small {t} {p} (ran T tree found n a e w u b c) =
-    let i = is-table t (run-takes a .table) in
-    let l = bound tree 32 (rows-fit (T .width) (T .rows) (i .each)) (i .count .0) in
-    rw b (omega (arith, hits-few w, i .count .1), omega (arith, tried-most tree (replicate (T .width) hole) u, i .count .1))
+    let k = run-takes a .table in
+    let l = plan-cells t T tree k in
+    rw b (omega (arith, hits-few w, is-table t k .count .1), omega (arith, tried-most tree (replicate (T .width) hole) u, l .1))
+
+-- a plan that is built has at most 6,082 cells
+pub build-small : {t room room′ : List ℕ} {r : BuildAnswer} → BuiltInto t room room′ r → Small (buildTold r)
+build-small {t} (table-refused f a b c) = let l = placed-at (placed-table t) a in rw b (omega arith)
+build-small {t} (room-refused T plan a b l c d) = rw c (omega (arith, plan-cells t T plan a .0))
+build-small {t} (built T plan a b l h c d) = let n = plan-cells t T plan a in rw c (omega (arith, n .0), omega (arith, n .1))

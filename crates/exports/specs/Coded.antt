@@ -4,6 +4,8 @@ use Prim.Native.Nat.{ℕ, _+_, _*_, _^_, _<_}
 use mathlib.Core.Path.{_≡_}
 use mathlib.Core.List.{List}
 use Rattle.table.specs.Refusal.{Answer, answered, turned}
+use Rattle.least.specs.declared.BuildAnswer.{BuildAnswer}
+use Rattle.least.specs.Build.{BuiltInto, buildTold}
 use Rattle.run.specs.declared.RunAnswer.{RunAnswer}
 use Rattle.run.specs.Run.{Ran, runTold}
 
@@ -21,3 +23,9 @@ pub record RunCoded (t p g room room′ : List ℕ) (n : ℕ) : Type 0 where
   pub answer : RunAnswer
   pub ran : Ran t p g room room′ answer
   pub code : n ≡ coded (runTold answer)
+
+-- what the entry of the builder answers and leaves in the room
+pub record BuildCoded (t room room′ : List ℕ) (n : ℕ) : Type 0 where
+  pub answer : BuildAnswer
+  pub built : BuiltInto t room room′ answer
+  pub code : n ≡ coded (buildTold answer)

@@ -4,8 +4,10 @@ ghost use Prim.Native.Nat.{_≤_, _<_, _^_};
 ghost use Rattle.table.specs.Refusal.{numberOf, inputOf, told, answered, turned};
 ghost use Rattle.table.specs.Table.{tableTold, goalTold};
 ghost use Rattle.plan.specs.Checked.{planTold};
+ghost use Rattle.least.specs.Build.{buildTold};
 ghost use Rattle.run.specs.Run.{runTold};
 ghost use Rattle.exports.specs.Coded.{coded, Small};
+use least::BuildAnswer;
 use plan::PlanAnswer;
 use run::RunAnswer;
 use table::GoalAnswer;
@@ -107,5 +109,15 @@ pub fn code_run(a: RunAnswer) -> u64
     match a {
         RunAnswer::Ran(hits, tried) => code_answer(hits, tried),
         RunAnswer::Refused(f) => code_refusal(f),
+    }
+}
+
+pub fn code_build(a: BuildAnswer) -> u64
+    requires { ⌜ Small (buildTold a) ⌝ }
+    ensures { λ r. ⌜ r ≡ coded (buildTold a) ⌝ }
+{
+    match a {
+        BuildAnswer::Built(cells, cost) => code_answer(cells, cost),
+        BuildAnswer::Refused(f) => code_refusal(f),
     }
 }

@@ -5,7 +5,7 @@ ghost use Rattle.table.specs.Refusal.{answered};
 ghost use lib.ListN.{length, getD};
 ghost use Rattle.plan.specs.Check.{planOf};
 ghost use Rattle.plan.specs.Checked.{planSays};
-ghost use Rattle.exports.specs.Coded.{coded, RunCoded};
+ghost use Rattle.exports.specs.Coded.{coded, BuildCoded, RunCoded};
 
 mod code;
 
@@ -44,6 +44,14 @@ pub extern "C" fn dudowiej_check_plan(cells: &[u32], plan: &[u32]) -> u64
     ensures { λ r. ⌜ r ≡ coded (planSays (planOf (now (cells .entry)) (now (plan .entry)))) ⌝ }
 {
     code::code_plan(plan::check_plan(cells, plan))
+}
+
+// The least plan's number of cells and its cost; its cells are the room's first.
+#[no_mangle]
+pub extern "C" fn dudowiej_build_plan(cells: &[u32], room: &mut [u32]) -> u64
+    ensures { λ r. ⌜ BuildCoded (now (cells .entry)) (now (room .entry)) (now (room .exit)) r ⌝ }
+{
+    code::code_build(least::build_plan(cells, room))
 }
 
 // A run's number of hits and of branches tried; the hits are the room's first bytes.

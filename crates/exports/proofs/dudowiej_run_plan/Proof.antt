@@ -7,7 +7,7 @@ run-plan-requires : tie.Need-run-plan-requires
 run-plan-requires c κs = search needs
 
 code-run-requires : tie.Need-code-run-requires
-code-run-requires c κs = run-small (c .before .run-plan .ensures)
+code-run-requires c κs = run-small (c .before .before .run-plan .ensures)
 
 same-length : tie.Need-same-length
 same-length c = search needs
