@@ -1,0 +1,4 @@
+pub mod RunsLaws
+pub mod PlansLaws
+pub mod SizeLaws
+pub mod CheckLaws
