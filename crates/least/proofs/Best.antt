@@ -1,0 +1,92 @@
+-- A state's least cost: it is one number, it is made of those of the states below, and each state of a table has one.
+use mathlib.Core.Path.{_≡_, refl, sym}
+use mathlib.Core.List.{List, [], _∷_}
+use Prim.Native.Nat.{ℕ, zero, suc, _+_, _≤_, _<_}
+use native.Mathlib.Omega.{arith}
+use lib.ListN.{length}
+use Rattle.cell.specs.Cell.{arity}
+use Rattle.term.specs.Terms.{root, close}
+use Rattle.table.specs.All.{All}
+use Rattle.plan.specs.Runs.{Run, runs}
+use Rattle.plan.specs.Plans.{Plan, leaf, node, Branches, end, next, Measure, choice, cost, costs}
+use Rattle.plan.proofs.RunsLaws.{Each, Sized, group-sizes, Fits, fits-some, runs-fit}
+use Rattle.least.specs.Least.{Least}
+use Rattle.least.proofs.Minimum.{argmin, minimum, argmin-first}
+
+-- two least costs of a state are one
+pub least-one : {m : Measure} {k : ℕ} {rows : List (List ℕ)} {n n′ : ℕ} → Least m k rows n → Least m k rows n′ → n ≡ n′
+least-one l r = omega (arith, l .none-less (r .plan), l .costs-it, r .none-less (l .plan), r .costs-it)
+
+-- the least cost of some branches together
+pub record LeastRuns (m : Measure) (k : ℕ) (gs : List Run) (n : ℕ) : Type 0 where
+  pub branches : Branches k gs
+  pub costs-it : costs m branches ≡ n
+  pub none-less : (bs : Branches k gs) → n ≤ costs m bs
+
+-- what a state costs that looks at place i first, where branches below cost F i
+abbrev pub through : Measure → List (List ℕ) → (ℕ → ℕ) → ℕ → ℕ
+through m rows F i = choice m (length (runs i rows)) + F i
+
+module _ (m : Measure) where
+  pub leaf-least : (rows : List (List ℕ)) → Least m 0 rows 0
+  unfolding cost
+  leaf-least rows = record { plan = leaf; costs-it = refl; none-less = λ q. omega arith }
+
+  pub runs-nil : (k : ℕ) → LeastRuns m k [] 0
+  unfolding costs
+  runs-nil k = record { branches = end; costs-it = refl; none-less = λ bs. omega arith }
+
+  pub runs-cons : (k v n : ℕ) (g : Run) (gs : List Run) → Least m (arity (g .cell) + k) (g .rows) v → LeastRuns m k gs n
+      → LeastRuns m k (g ∷ gs) (m .weight (g .cell) + (v + n))
+  unfolding costs
+  runs-cons k v n g gs l ls = record {
+    branches = next (l .plan) (ls .branches);
+    costs-it = omega (arith, l .costs-it, ls .costs-it);
+    none-less = λ bs. less bs;
+  }
+    where
+      less : (bs : Branches k (g ∷ gs)) → m .weight (g .cell) + (v + n) ≤ costs m bs
+      less (next p bs) = omega (arith, l .none-less p, ls .none-less bs)
+
+  -- a state's least cost is the least over its places
+  pub node-least : (k : ℕ) (rows : List (List ℕ)) (F : ℕ → ℕ) → ((i : ℕ) → i ≤ k → LeastRuns m k (runs i rows) (F i))
+      → Least m (suc k) rows (minimum k (through m rows F))
+  unfolding cost
+  node-least k rows F f =
+      let a = argmin-first k (through m rows F) in
+      let i : ℕ = argmin k (through m rows F) in
+      let b = f i (a .within) in
+      record { plan = node i (a .within) (b .branches); costs-it = omega (arith, b .costs-it); none-less = λ q. less q }
+    where
+      less : (q : Plan (suc k) rows) → minimum k (through m rows F) ≤ cost m q
+      less (node i h bs) = omega (arith, argmin-first k (through m rows F) .least i h, f i h .none-less bs)
+
+  -- the least cost as a function: what the branches of some runs cost, by what stands below each
+  unfoldable pub total : (ℕ → List (List ℕ) → ℕ) → List Run → ℕ
+  total f [] = 0
+  total f (g ∷ gs) = m .weight (g .cell) + (f (g .cell) (g .rows) + total f gs)
+
+  -- of a state. The first number bounds the depth and never decides: a row of n cells is looked at n times at most
+  unfoldable pub best : ℕ → ℕ → List (List ℕ) → ℕ
+  best zero k rows = 0
+  best (suc n) zero rows = 0
+  best (suc n) (suc k) rows = minimum k (through m rows (λ (i : ℕ). total (λ c g. best n (arity c + k) g) (runs i rows)))
+
+module _ (m : Measure) where
+  pub best-runs : (n k : ℕ) → ((k : ℕ) (rows : List (List ℕ)) → All (Fits n k) rows → 0 < length rows → Least m k rows (best m n k rows))
+      → (gs : List Run) → Each (λ (c : ℕ). Fits n (arity c + k)) gs → (s : ℕ) → Sized s gs → LeastRuns m k gs (total m (λ c g. best m n (arity c + k) g) gs)
+  unfolding total
+  best-runs n k ih [] a s b = runs-nil m k
+  best-runs n k ih (g ∷ gs) a s b =
+      runs-cons m k (best m n (arity (g .cell) + k) (g .rows)) (total m (λ c g. best m n (arity c + k) g) gs) g gs
+      (ih (arity (g .cell) + k) (g .rows) (a .0) (b .0 .0)) (best-runs n k ih gs (a .1) s (b .1))
+
+  -- each state with a row, whose rows are terms of at most n cells, has a least cost
+  pub best-least : (n k : ℕ) (rows : List (List ℕ)) → All (Fits n k) rows → 0 < length rows → Least m k rows (best m n k rows)
+  unfolding best
+  best-least zero zero rows a h = leaf-least m rows
+  best-least (suc n) zero rows a h = leaf-least m rows
+  best-least zero (suc k) rows a h = absurd (omega (arith, fits-some 0 k rows a h))
+  best-least (suc n) (suc k) rows a h =
+      node-least m k rows (λ (i : ℕ). total m (λ c g. best m n (arity c + k) g) (runs i rows))
+      (λ i l. best-runs n k (λ k rows a h. best-least n k rows a h) (runs i rows) (runs-fit n k i l rows a) (length rows) (group-sizes (root i) (close i) rows))

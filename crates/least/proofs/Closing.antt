@@ -1,0 +1,113 @@
+-- Closing agreed places: the order does not matter, neither for the state that is reached nor for what the closed cells weigh.
+use mathlib.Core.Path.{_≡_, refl, sym, _∙_}
+use mathlib.Core.List.{List, [], _∷_, map}
+use Prim.Native.Nat.{ℕ, zero, suc, pred, _+_, _≤_, _<_}
+use native.Mathlib.Omega.{arith}
+use native.Mathlib.Nat.{zero-add, add-assoc}
+use lib.ListN.{length, length-map}
+use Rattle.cell.specs.Cell.{arity}
+use Rattle.term.specs.Terms.{root, close}
+use Rattle.term.proofs.PlaceLaws.{close-close, root-after, root-before}
+use Rattle.table.specs.All.{All}
+use Rattle.plan.specs.Plans.{Measure}
+use Rattle.least.specs.Least.{Agree, Stuck, Least}
+use Rattle.least.specs.Entries.{Closes, stop, step}
+use Rattle.least.proofs.AllLaws.{all-map, all-both, map-map-same}
+use Rattle.least.proofs.Exchange.{Tri, before, equal, after, tri, agreed-least}
+
+-- a row that is agreed at i and at j
+abbrev Both : (i c j d : ℕ) → List ℕ → Type 0
+Both i c j d r = (root i r ≡ c) × (root j r ≡ d)
+
+agree-map : (P : List ℕ → Type 0) (i c j : ℕ) (f : List ℕ → List ℕ) (rows : List (List ℕ)) → ((r : List ℕ) → P r → root j (f r) ≡ c)
+    → All P rows → Agree i c rows → Agree j c (map f rows)
+agree-map P i c j f rows h b a = record {
+  cells = all-map P (λ (r : List ℕ). root j r ≡ c) f h rows b;
+  fixed = rw (length-map rows f) (a .fixed);
+  some = rw (length-map rows f) (a .some);
+}
+
+agree-cell : (i c d : ℕ) (rows : List (List ℕ)) → Agree i c rows → Agree i d rows → c ≡ d
+agree-cell i c d [] a b = absurd (omega (arith, a .some))
+agree-cell i c d (r ∷ rs) a b = sym (a .cells .0) ∙ b .cells .0
+
+module _ {m : Measure} where
+  -- the least cost is what the closed cells weigh, and the least cost of the state that is reached
+  pub closes-least : {n k k′ : ℕ} {rows rows′ : List (List ℕ)} (x : ℕ) → Closes m n k rows k′ rows′ → Least m k′ rows′ x → Least m k rows (n + x)
+  closes-least x stop l = rw zero-add l
+  closes-least x (step {n} {k} {rows = rows} i c h a s) l = rw add-assoc (agreed-least m k i c (n + x) rows h a (closes-least x s l))
+
+  pub closes-then : {n n′ k k′ k″ : ℕ} {rows rows′ rows″ : List (List ℕ)} → Closes m n k rows k′ rows′ → Closes m n′ k′ rows′ k″ rows″
+      → Closes m (n + n′) k rows k″ rows″
+  closes-then stop y = rw zero-add y
+  closes-then (step i c h a x) y = rw add-assoc (step i c h a (closes-then x y))
+
+  pub closes-length : {n k k′ : ℕ} {rows rows′ : List (List ℕ)} → Closes m n k rows k′ rows′ → length rows′ ≡ length rows
+  closes-length stop = refl
+  closes-length (step {rows = rows} i c h a x) = closes-length x ∙ length-map rows (close i)
+
+  -- an agreed place may be closed first, on the way to a state where none is agreed
+  closes-first : {n K k′ : ℕ} {rows rows′ : List (List ℕ)} → Closes m n K rows k′ rows′ → Stuck k′ rows′
+      → (k j d : ℕ) → K ≡ suc k → j ≤ k → Agree j d rows
+      → (n′ : ℕ) × (n ≡ m .weight d + n′) × Closes m n′ (arity d + k) (map (close j) rows) k′ rows′
+  closes-first stop s k j d e h a = absurd (s j d (omega arith) a)
+  closes-first {k′ = k′} {rows′ = rows′} (step {n} {k = k₁} {rows = rows} i c hi ai t) s k j d e h a =
+      go (tri i j) (λ k j d e h a. closes-first t s k j d e h a)
+    where
+      Answer : Type 0
+      Answer = (n′ : ℕ) × (m .weight c + n ≡ m .weight d + n′) × Closes m n′ (arity d + k) (map (close j) rows) k′ rows′
+
+      both : All (Both i c j d) rows
+      both = all-both (λ (r : List ℕ). root i r ≡ c) (λ (r : List ℕ). root j r ≡ d) rows (ai .cells) (a .cells)
+
+      rejoin : (k₀ i′ j′ : ℕ) → k ≡ suc k₀ → i′ ≤ arity d + k₀ → Agree i′ c (map (close j) rows)
+          → map (close j′) (map (close i) rows) ≡ map (close i′) (map (close j) rows)
+          → (n′ : ℕ) × (n ≡ m .weight d + n′) × Closes m n′ (arity d + (arity c + k₀)) (map (close j′) (map (close i) rows)) k′ rows′ → Answer
+      rejoin k₀ i′ j′ ek hi′ ai′ em x =
+          let e₁ : arity d + k ≡ suc (arity d + k₀) = omega arith in
+          let e₂ : arity d + (arity c + k₀) ≡ arity c + (arity d + k₀) = omega arith in
+          let y : Closes m (x .0) (arity c + (arity d + k₀)) (map (close i′) (map (close j) rows)) k′ rows′ = rw (em, e₂) at (x .2) in
+          (m .weight c + x .0, omega arith, rw e₁ (step i′ c hi′ ai′ y))
+
+      go : Tri i j → ((k j d : ℕ) → arity c + k₁ ≡ suc k → j ≤ k → Agree j d (map (close i) rows)
+          → (n′ : ℕ) × (n ≡ m .weight d + n′) × Closes m n′ (arity d + k) (map (close j) (map (close i) rows)) k′ rows′)
+          → Answer
+      go (equal q) ih =
+          let ec : c ≡ d = agree-cell j c d rows (rw q at ai) a in
+          let ek : k₁ ≡ k = omega arith in
+          (n, rw ec, rw (q, ec, ek) at t)
+      go (before x q l) ih =
+          rejoin (pred k) i (arity c + x) (omega arith) (omega arith)
+          (agree-map (Both i c j d) i c i (close j) rows (λ (r : List ℕ) (b : Both i c j d r). cc (root-before i x r l)) both ai)
+          (map-map-same (Both i c j d) (close (arity c + x)) (close i) (close i) (close j)
+          (λ (r : List ℕ) (b : Both i c j d r). cc (close-close i x r l)) rows both)
+          (ih (arity c + pred k) (arity c + x) d (omega arith) (omega arith)
+          (agree-map (Both i c j d) j d (arity c + x) (close i) rows (λ (r : List ℕ) (b : Both i c j d r). cc (root-after i x r l)) both a))
+      go (after x q l) ih =
+          rejoin (pred k) (arity d + x) j (omega arith) (omega arith)
+          (agree-map (Both i c j d) i c (arity d + x) (close j) rows (λ (r : List ℕ) (b : Both i c j d r). cc (root-after j x r l)) both ai)
+          (map-map-same (Both i c j d) (close j) (close i) (close (arity d + x)) (close j)
+          (λ (r : List ℕ) (b : Both i c j d r). cc (close-close j x r l)) rows both)
+          (ih (arity c + pred k) j d (omega arith) (omega arith)
+          (agree-map (Both i c j d) j d j (close i) rows (λ (r : List ℕ) (b : Both i c j d r). cc (root-before j x r l)) both a))
+
+  -- any other closing meets the one that goes as far as it can
+  pub confluent : {n n′ k k′ k″ : ℕ} {rows rows′ rows″ : List (List ℕ)} → Closes m n k rows k′ rows′ → Stuck k′ rows′ → Closes m n′ k rows k″ rows″
+      → (n″ : ℕ) × (n ≡ n′ + n″) × Closes m n″ k″ rows″ k′ rows′
+  confluent {n} x s stop = (n, omega arith, x)
+  confluent x s (step {k = k} i c h a y) =
+      let z = closes-first x s k i c refl h a in
+      let w = confluent (z .2) s y in
+      (w .0, omega arith, w .2)
+
+  stuck-stop : {n K k′ : ℕ} {rows rows′ : List (List ℕ)} → Closes m n K rows k′ rows′ → Stuck K rows → (n ≡ 0) × (k′ ≡ K) × (rows′ ≡ rows)
+  stuck-stop stop s = (refl, refl, refl)
+  stuck-stop (step i c h a x) s = absurd (s i c (omega arith) a)
+
+  -- THE ORDER DOES NOT MATTER: two closings after which no place is agreed reach the same state, and their cells weigh the same
+  pub order-does-not-matter : {n n′ k k′ k″ : ℕ} {rows rows′ rows″ : List (List ℕ)} → Closes m n k rows k′ rows′ → Stuck k′ rows′
+      → Closes m n′ k rows k″ rows″ → Stuck k″ rows″ → (n ≡ n′) × (k′ ≡ k″) × (rows′ ≡ rows″)
+  order-does-not-matter x s y t =
+      let z = confluent x s y in
+      let w = stuck-stop (z .2) t in
+      (omega arith, w .1, w .2)

@@ -1,0 +1,5 @@
+pub mod Minimum
+pub mod Best
+pub mod Exchange
+pub mod AllLaws
+pub mod Closing

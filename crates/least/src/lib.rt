@@ -1,0 +1,1 @@
+// The least plan (01, "The least plan"): the builder.
