@@ -2,3 +2,5 @@ pub mod RunsLaws
 pub mod PlansLaws
 pub mod SizeLaws
 pub mod CheckLaws
+pub mod MarksLaws
+pub mod Examples

@@ -131,6 +131,21 @@ module _ (cell : List ℕ → ℕ) (left : List ℕ → List ℕ) where
   group-rows [] = refl
   group-rows (r ∷ rs) = join-rows (cell r) (left r) (group cell left rs) ∙ ap suc (group-rows rs)
 
+  -- one row more is one run more, where it does not agree with the row after it
+  pub group-agrees : (r x : List ℕ) (rs : List (List ℕ)) → agree (cell r) (cell x) ≡ true
+      → length (group cell left (r ∷ x ∷ rs)) ≡ length (group cell left (x ∷ rs))
+  group-agrees r x rs e =
+      let j = join-head (cell x) (left x) (group cell left rs) in
+      let n : agree (cell r) (j .0 .cell) ≡ true = rw (j .3) e in
+      rw (j .2, n)
+
+  pub group-differs : (r x : List ℕ) (rs : List (List ℕ)) → agree (cell r) (cell x) ≡ false
+      → length (group cell left (r ∷ x ∷ rs)) ≡ length (group cell left (x ∷ rs)) + 1
+  group-differs r x rs e =
+      let j = join-head (cell x) (left x) (group cell left rs) in
+      let n : agree (cell r) (j .0 .cell) ≡ false = rw (j .3) e in
+      rw (j .2, n) (omega arith)
+
   -- a run of c goes no further than these rows: there are none, or the first does not agree with c
   abbrev pub Stops : ℕ → List (List ℕ) → Type 0
   Stops c [] = Unit {0}
@@ -180,6 +195,10 @@ fits-close n k i h r f = (close-terms i (f .0) h, omega (arith, close-length i (
 pub fits-some : (n k : ℕ) (rows : List (List ℕ)) → All (Fits n (suc k)) rows → 0 < length rows → 0 < n
 fits-some n k [] a h = absurd (omega arith)
 fits-some n k (r ∷ rs) a h = omega (arith, terms-length (a .0 .0))
+
+pub fits-more : (n k : ℕ) (rows : List (List ℕ)) → All (Fits n k) rows → All (Fits (suc n) k) rows
+fits-more n k [] a = tt
+fits-more n k (r ∷ rs) a = ((a .0 .0, omega arith), fits-more n k rs (a .1))
 
 -- below each branch the rows fit with one cell less
 pub runs-fit : (n k i : ℕ) → i ≤ k → (rows : List (List ℕ)) → All (Fits (suc n) (suc k)) rows → Each (λ (c : ℕ). Fits n (arity c + k)) (runs i rows)

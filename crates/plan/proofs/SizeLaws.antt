@@ -1,6 +1,6 @@
 -- How many cells a plan has (01, "A plan with B branches and L leaves has 3·B + 2 − L cells, at most 6,082").
 use mathlib.Core.Path.{_≡_, refl}
-use mathlib.Core.List.{List, []}
+use mathlib.Core.List.{List}
 use Prim.Native.Nat.{ℕ, suc, pred, _+_, _*_, _≤_, _<_}
 use native.Mathlib.Omega.{arith}
 use native.Mathlib.Nat.{mul-add, suc-mul}
@@ -8,7 +8,7 @@ use lib.ListN.{length, length-append}
 use Rattle.cell.specs.Cell.{arity}
 use Rattle.term.specs.Terms.{root, close}
 use Rattle.table.specs.All.{All}
-use Rattle.plan.specs.Runs.{Run, runs}
+use Rattle.plan.specs.Runs.{Run}
 use Rattle.plan.specs.Plans.{Plan, leaf, node, Branches, end, next, write, writes, branches, branchesIn, leaves, leavesIn}
 use Rattle.plan.proofs.RunsLaws.{Each, Sized, rowsIn, group-sizes, group-some, group-rows, Fits, fits-some, runs-fit}
 

@@ -1,0 +1,136 @@
+-- Worked examples of the check (01, "On both sides" and "What is turned away"), computed by the definitions: one table of cases under one theorem.
+use Prim.Native.Nat.{ℕ}
+use mathlib.Core.Path.{_≡_, refl}
+use mathlib.Core.List.{List, [], _∷_, map, flatten}
+use lib.ListN.{length, replicate}
+use Rattle.cell.specs.Cell.{nameCell, numberCell, variableCell, valuesAt, arity, isVar}
+use Rattle.term.specs.Terms.{root, close}
+use Rattle.table.specs.Refusal.{refused}
+use Rattle.table.specs.Read.{Read, read, refuse}
+use Rattle.table.specs.Table.{termsFrom, rowsFrom, tableOf}
+use Rattle.plan.specs.Runs.{agree}
+use Rattle.plan.specs.Check.{stateFrom, planFor, planOf}
+
+abbrev a : ℕ
+a = nameCell 0 1
+
+abbrev b : ℕ
+b = nameCell 0 2
+
+abbrev c : ℕ
+c = nameCell 0 3
+
+abbrev d : ℕ
+d = nameCell 0 4
+
+abbrev g : ℕ
+g = nameCell 0 7
+
+abbrev f1 : ℕ
+f1 = nameCell 1 6
+
+abbrev one : ℕ
+one = numberCell 1
+
+abbrev two : ℕ
+two = numberCell 2
+
+abbrev three : ℕ
+three = numberCell 3
+
+abbrev v0 : ℕ
+v0 = variableCell 0
+
+abbrev v1 : ℕ
+v1 = variableCell 1
+
+-- 01's tables, as cells
+table : ℕ → List (List ℕ) → List ℕ
+table w rows = w ∷ length rows ∷ flatten rows
+
+p1 : List ℕ
+p1 = table 3 ((a ∷ b ∷ c ∷ []) ∷ (a ∷ b ∷ d ∷ []) ∷ (a ∷ c ∷ c ∷ []) ∷ (b ∷ a ∷ c ∷ []) ∷ [])
+
+p2 : List ℕ
+p2 = table 2 ((a ∷ b ∷ []) ∷ (b ∷ c ∷ []) ∷ (a ∷ d ∷ []) ∷ [])
+
+p3 : List ℕ
+p3 =
+    table
+    3
+    ((g ∷ a ∷ one ∷ []) ∷ (g ∷ a ∷ two ∷ []) ∷ (g ∷ a ∷ three ∷ []) ∷ (g ∷ one ∷ b ∷ []) ∷ (g ∷ two ∷ b ∷ []) ∷ (g ∷ three ∷ b ∷ []) ∷ [])
+
+p4 : List ℕ
+p4 = table 1 ((v0 ∷ []) ∷ [])
+
+p5 : List ℕ
+p5 = table 1 ((a ∷ []) ∷ (a ∷ []) ∷ [])
+
+p6 : List ℕ
+p6 = table 1 ((v0 ∷ []) ∷ (v0 ∷ []) ∷ [])
+
+p7 : List ℕ
+p7 = table 2 ((a ∷ b ∷ []) ∷ (a ∷ a ∷ []) ∷ [])
+
+p8 : List ℕ
+p8 = table 1 ((f1 ∷ a ∷ []) ∷ (f1 ∷ b ∷ []) ∷ (g ∷ []) ∷ [])
+
+pub record Case : Type 0 where
+  pub cells : List ℕ
+  pub plan : List ℕ
+  pub says : Read ℕ
+
+abbrev case : List ℕ → List ℕ → Read ℕ → Case
+case t p r = record { cells = t; plan = p; says = r }
+
+-- a plan refused with this number at this place
+abbrev no : ℕ → ℕ → Read ℕ
+no n p = refuse (refused n 2 p)
+
+pub cases : List Case
+cases =
+    -- P1, P4, P5, P6, P8: the plans that 01 gives, with their branches
+    case p1 (0 ∷ 2 ∷ a ∷ 0 ∷ 2 ∷ b ∷ 0 ∷ 2 ∷ c ∷ 1 ∷ d ∷ 1 ∷ c ∷ 0 ∷ 1 ∷ c ∷ 1 ∷ b ∷ 0 ∷ 1 ∷ a ∷ 0 ∷ 1 ∷ c ∷ 1 ∷ []) (read 9)
+    ∷ case p4 (0 ∷ 1 ∷ v0 ∷ 1 ∷ []) (read 1)
+    ∷ case p5 (0 ∷ 1 ∷ a ∷ 2 ∷ []) (read 1)
+    ∷ case p6 (0 ∷ 2 ∷ v0 ∷ 1 ∷ v0 ∷ 1 ∷ []) (read 2)
+    ∷ case p8 (0 ∷ 2 ∷ f1 ∷ 0 ∷ 2 ∷ a ∷ 1 ∷ b ∷ 1 ∷ g ∷ 1 ∷ []) (read 4)
+    -- P2 and P3, with plans of the branches that 01 says
+    ∷ case p2 (0 ∷ 3 ∷ a ∷ 0 ∷ 1 ∷ b ∷ 1 ∷ b ∷ 0 ∷ 1 ∷ c ∷ 1 ∷ a ∷ 0 ∷ 1 ∷ d ∷ 1 ∷ []) (read 6)
+    ∷ case
+    p3
+    (0 ∷ 1 ∷ g ∷ 0 ∷ 4 ∷ a ∷ 0 ∷ 3 ∷ one ∷ 1 ∷ two ∷ 1 ∷ three ∷ 1 ∷ one ∷ 0 ∷ 1 ∷ b ∷ 1 ∷ two ∷ 0 ∷ 1 ∷ b ∷ 1 ∷ three ∷ 0 ∷ 1 ∷ b ∷ 1 ∷ [])
+    (read 11)
+    -- two plans of one table, P7's: by its first place, and by its second
+    ∷ case p7 (0 ∷ 1 ∷ a ∷ 0 ∷ 2 ∷ b ∷ 1 ∷ a ∷ 1 ∷ []) (read 3)
+    ∷ case p7 (1 ∷ 2 ∷ b ∷ 0 ∷ 1 ∷ a ∷ 1 ∷ a ∷ 0 ∷ 1 ∷ a ∷ 1 ∷ []) (read 4)
+    -- EDGES: P3 with two branches for g; P2 with a shared between rows 0 and 2; P6 with variables that agree
+    ∷ case p3 (0 ∷ 2 ∷ []) (no 13 1)
+    ∷ case p2 (0 ∷ 2 ∷ a ∷ 0 ∷ 2 ∷ b ∷ 1 ∷ d ∷ 1 ∷ b ∷ 0 ∷ 1 ∷ c ∷ 1 ∷ []) (no 13 1)
+    ∷ case p6 (0 ∷ 1 ∷ v0 ∷ 2 ∷ []) (no 13 1)
+    -- OPEN: an index equal to the number of open places, at the first state and below a branch
+    ∷ case p4 (1 ∷ 1 ∷ v0 ∷ 1 ∷ []) (no 12 0)
+    ∷ case p8 (0 ∷ 2 ∷ f1 ∷ 1 ∷ 2 ∷ a ∷ 1 ∷ b ∷ 1 ∷ g ∷ 1 ∷ []) (no 12 3)
+    -- LABEL: another symbol, also where the leaf below is wrong too; another variable than the row's own
+    ∷ case p5 (0 ∷ 1 ∷ b ∷ 1 ∷ []) (no 14 2)
+    ∷ case p6 (0 ∷ 2 ∷ v0 ∷ 1 ∷ v1 ∷ 1 ∷ []) (no 14 4)
+    -- ROWS: one row too few, one too many
+    ∷ case p5 (0 ∷ 1 ∷ a ∷ 1 ∷ []) (no 15 3)
+    ∷ case p5 (0 ∷ 1 ∷ a ∷ 3 ∷ []) (no 15 3)
+    -- ENDS: at each place
+    ∷ case p5 [] (no 11 0)
+    ∷ case p5 (0 ∷ []) (no 11 1)
+    ∷ case p5 (0 ∷ 1 ∷ []) (no 11 2)
+    ∷ case p5 (0 ∷ 1 ∷ a ∷ []) (no 11 3)
+    -- EXTRA
+    ∷ case p5 (0 ∷ 1 ∷ a ∷ 2 ∷ 2 ∷ []) (no 9 4)
+    -- SIZE, before anything else of the plan, and from 6,083 cells on
+    ∷ case p5 (replicate 6082 0) (no 13 1)
+    ∷ case p5 (replicate 6083 0) (no 10 0)
+    -- the table comes first
+    ∷ case (1 ∷ []) (1 ∷ []) (refuse (refused 1 1 0))
+    ∷ []
+
+pub computed : map (λ (k : Case). planOf (k .cells) (k .plan)) cases ≡ map (λ (k : Case). k .says) cases
+unfolding cases table p1 p2 p3 p4 p5 p6 p7 p8 planFor stateFrom agree root close tableOf rowsFrom termsFrom valuesAt arity isVar flatten
+computed = refl
