@@ -1,0 +1,3 @@
+// The listing of a table's least plan (01, "On both sides"), as bytes.
+mod text;
+mod walk;
