@@ -1,2 +1,4 @@
 pub mod TextLaws
 pub mod WalkLaws
+pub mod LengthLaws
+pub mod CellsLaws

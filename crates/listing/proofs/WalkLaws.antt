@@ -103,7 +103,7 @@ pub within : (i first : ℕ) (rows : List (List ℕ)) → first + length rows �
 within i first rows h =
     within-runs (length rows) first (runs i rows) (group-sizes (root i) (close i) rows) (omega (arith, group-rows (root i) (close i) rows))
 
-within-first : (first : ℕ) (gs : List Run) → Within first gs → first ≤ 64
+pub within-first : (first : ℕ) (gs : List Run) → Within first gs → first ≤ 64
 within-first first [] w = w
 within-first first (g ∷ gs) w = omega (arith, within-first (first + length (g .rows)) gs (w .1))
 

@@ -2,7 +2,7 @@
 use Prim.Native.Nat.{ℕ, _+_, _*_, _≤_, _<_}
 use mathlib.Core.Path.{_≡_}
 use mathlib.Core.List.{List, [], _∷_, _++_}
-use lib.ListN.{length, drop}
+use lib.ListN.{length, getD, drop}
 use lib.Seq.{sets}
 use Rattle.plan.specs.Runs.{Run}
 use Rattle.plan.specs.Plans.{Plan, Branches, write, writes}
@@ -18,6 +18,10 @@ pub record Room (out : List ℕ) (to : ℕ) (text : List ℕ) : Type 0 where
 pub record Put (old new : List ℕ) (to : ℕ) (text : List ℕ) (r : ℕ) : Type 0 where
   pub wrote : new ≡ sets old to text
   pub after : r ≡ to + length text
+
+-- the cell whose four bytes begin at a place, the least significant first
+abbrev pub cellAt : List ℕ → ℕ → ℕ
+cellAt bytes at = getD bytes at 0 + 256 * (getD bytes (at + 1) 0 + 256 * (getD bytes (at + 2) 0 + 256 * getD bytes (at + 3) 0))
 
 -- runs of which none is empty, the first beginning at row `first`, within 64 rows
 abbrev pub Within : ℕ → List Run → Type 0
