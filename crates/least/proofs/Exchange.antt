@@ -1,6 +1,6 @@
 -- The exchange: where all rows agree at a place, every plan can be turned into one that starts there and costs no more.
 use mathlib.Core.Path.{_≡_, refl, sym, ap, _∙_, subst}
-use mathlib.Core.Bool.{Bool, false}
+use mathlib.Core.Bool.{false}
 use mathlib.Core.Logic.{_⊎_, inl, inr}
 use mathlib.Core.List.{List, [], _∷_, map}
 use Prim.Native.Nat.{ℕ, zero, suc, pred, _+_, _*_, _≤_, _<_}
@@ -13,8 +13,9 @@ use Rattle.term.proofs.PlaceLaws.{close-close, root-after, root-before}
 use Rattle.table.specs.All.{All}
 use Rattle.plan.specs.Runs.{Run, run, runs}
 use Rattle.plan.specs.Plans.{Plan, leaf, node, Branches, end, next, Measure, choice, cost, costs}
-use Rattle.plan.proofs.RunsLaws.{Each, Sized, mapRuns, group-all, group-sizes, group-map, group-one, group-some}
+use Rattle.plan.proofs.RunsLaws.{Each, Sized, mapRuns, group-all, group-sizes, group-map, group-some}
 use Rattle.least.specs.Least.{Agree, Least}
+use Rattle.least.proofs.Agreed.{agree-runs}
 
 -- how two places stand to each other
 pub data Tri (i j : ℕ) : Type 0 where
@@ -32,11 +33,6 @@ tri (suc i) (suc j) = go (tri i j)
     go (before x e l) = before (suc x) (omega arith) (omega arith)
     go (equal e) = equal (omega arith)
     go (after x e l) = after (suc x) (omega arith) (omega arith)
-
--- rows that agree at i are one run there
-pub agree-runs : (i c : ℕ) (rows : List (List ℕ)) → Agree i c rows → runs i rows ≡ run c (map (close i) rows) ∷ []
-agree-runs i c [] a = absurd (omega (arith, a .some))
-agree-runs i c (r ∷ rs) a = group-one (root i) (close i) c r rs (a .cells) (a .fixed)
 
 -- what is agreed is agreed in each run at another place j, where the place is then h of the run's cell
 agree-down : (i c j : ℕ) (h : ℕ → ℕ) (rows : List (List ℕ)) → Agree i c rows

@@ -1,5 +1,14 @@
 pub mod Minimum
 pub mod Best
-pub mod Exchange
 pub mod AllLaws
+pub mod Parts
+pub mod Agreed
+pub mod Exchange
 pub mod Closing
+pub mod Counts
+pub mod Scan
+pub mod Building
+pub mod Builder
+pub mod Pairs
+pub mod Examples
+pub mod LeastPlan

@@ -1,9 +1,10 @@
 -- What is kept for every pair of first and last row (01, "The least plan": "a least count kept for every pair of first and last row").
 -- The pair fixes a state only once the places that its rows agree on are closed, so an entry counts from there.
-use Prim.Native.Nat.{ℕ, suc, _+_, _-_, _≤_, _<_}
+use Prim.Native.Nat.{ℕ, suc, _+_, _≤_, _<_}
 use mathlib.Core.Logic.{_⊎_}
 use mathlib.Core.List.{List, map}
-use lib.ListN.{length, take, drop}
+use lib.ListN.{length}
+use lib.Seq.{slice}
 use Rattle.cell.specs.Cell.{arity}
 use Rattle.term.specs.Terms.{close}
 use Rattle.plan.specs.Plans.{Measure}
@@ -11,7 +12,7 @@ use Rattle.least.specs.Least.{Agree, Stuck, Least, Chosen}
 
 -- the rows from the first to the last, both taken
 abbrev pub between : ℕ → ℕ → List (List ℕ) → List (List ℕ)
-between first last rows = take (suc last - first) (drop first rows)
+between first last rows = slice first (suc last) rows
 
 -- agreed places are closed one by one, from a state with k open places down to one with k′; n is what the closed cells weigh together
 pub data Closes (m : Measure) : ℕ → ℕ → List (List ℕ) → ℕ → List (List ℕ) → Type 0 where

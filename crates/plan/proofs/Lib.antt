@@ -4,3 +4,7 @@ pub mod SizeLaws
 pub mod CheckLaws
 pub mod MarksLaws
 pub mod Examples
+pub mod MaskLaws
+pub mod ColumnLaws
+pub mod RowsLaws
+pub mod Fixed

@@ -1,4 +1,8 @@
 // Plans (01, "Plans"): the check of any plan for a table.
+mod check;
+pub mod column;
+pub mod mask;
+
 use table::Refusal;
 
 // The number of branches of an accepted plan, or why the table or the plan is turned away.

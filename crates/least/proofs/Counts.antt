@@ -1,0 +1,96 @@
+-- The least cost of a pair of first and last row, from those of pairs in between: what document 001's equation 1 becomes once agreed places are closed.
+use mathlib.Core.Path.{_≡_, _∙_}
+use mathlib.Core.List.{List, [], _∷_, map}
+use Prim.Native.Nat.{ℕ, zero, suc, pred, _+_, _-_, _≤_, _<_}
+use native.Mathlib.Omega.{arith}
+use lib.ListN.{length}
+use lib.Seq.{slice, length-slice}
+use Rattle.cell.specs.Cell.{arity}
+use Rattle.term.specs.Terms.{root, close}
+use Rattle.plan.specs.Runs.{Run, runs}
+use Rattle.plan.specs.Plans.{Measure}
+use Rattle.least.specs.Least.{Stuck, Least}
+use Rattle.least.specs.Entries.{between, Closes, stop, step}
+use Rattle.least.proofs.Minimum.{minimum}
+use Rattle.least.proofs.Best.{least-one, LeastRuns, runs-nil, runs-cons}
+use Rattle.least.proofs.Closing.{closes-least, closes-then, closes-length, confluent, order-does-not-matter}
+use Rattle.least.proofs.Parts.{slice-slice, closes-part, PartOf, Parts, group-parts, part-agree, part-proper}
+
+-- a state with all agreed places closed: what they weigh, and the least cost from there
+pub record Solved (m : Measure) (k : ℕ) (rows : List (List ℕ)) (agreed least : ℕ) : Type 0 where
+  pub opens : ℕ
+  pub left : List (List ℕ)
+  pub closes : Closes m agreed k rows opens left
+  pub stuck : Stuck opens left
+  pub counts : Least m opens left least
+
+-- together they are the state's least cost
+pub solved-least : {m : Measure} {k : ℕ} {rows : List (List ℕ)} {a n : ℕ} → Solved m k rows a n → Least m k rows (a + n)
+solved-least {n = n} s = closes-least n (s .closes) (s .counts)
+
+-- and both are determined
+pub solved-one : {m : Measure} {k : ℕ} {rows : List (List ℕ)} {a a′ n n′ : ℕ} → Solved m k rows a n → Solved m k rows a′ n′ → (a ≡ a′) × (n ≡ n′)
+solved-one {m} {n = n} s t =
+    let u = order-does-not-matter (s .closes) (s .stuck) (t .closes) (t .stuck) in
+    let l : Least m (t .opens) (t .left) n = rw (u .1, u .2) at (s .counts) in
+    (u .0, least-one l (t .counts))
+
+-- and they tell the least cost of each state on the way: what is closed from there on, and the rest
+solved-below : {m : Measure} {k k′ : ℕ} {rows rows′ : List (List ℕ)} {a n c : ℕ} → Solved m k rows a n → Closes m c k rows k′ rows′
+    → (v : ℕ) × (c ≤ a) × (c + v ≡ a + n) × Least m k′ rows′ v
+solved-below {n = n} s x =
+    let u = confluent (s .closes) (s .stuck) x in
+    (u .0 + n, omega arith, omega arith, closes-least n (u .2) (s .counts))
+
+-- the sum over some runs, the first of them from row j on, of a value for the run's first and last row
+abbrev pub sums : (ℕ → ℕ → ℕ) → ℕ → List Run → ℕ
+sums value j [] = 0
+sums value j (g ∷ gs) = value j (pred (j + length (g .rows))) + sums value (j + length (g .rows)) gs
+
+-- the least over k places, 0 where there are none
+abbrev pub leastOver : ℕ → (ℕ → ℕ) → ℕ
+leastOver zero F = 0
+leastOver (suc k) F = minimum k F
+
+-- what a run of rows j to j′ adds to a state whose closed cells weigh a: what its rows agree on beyond that, its own branch with it, and its least cost
+abbrev pub adds : (agreed least : ℕ → ℕ → ℕ) → ℕ → ℕ → ℕ → ℕ
+adds agreed least a j j′ = agreed j j′ - a + least j j′
+
+module _ {m : Measure} (w : ℕ) (rows : List (List ℕ)) (agreed least : ℕ → ℕ → ℕ) (first last a k : ℕ) (left : List (List ℕ))
+    (inside : last < length rows) (x : Closes m a w (between first last rows) (suc k) left) (stuck : Stuck (suc k) left)
+    (table : (j j′ : ℕ) → first ≤ j → j ≤ j′ → j′ ≤ last → j′ - j < last - first → Solved m w (between j j′ rows) (agreed j j′) (least j j′)) where
+  -- a run's rows are reached by closing what the pair agrees on and then the run's own cell
+  run-closes : (p o : ℕ) (g : Run) → p ≤ k → PartOf (root p) (close p) left o g
+      → Closes m (a + (m .weight (g .cell) + 0)) w (slice (first + o) (first + (o + length (g .rows))) rows) (arity (g .cell) + k) (g .rows)
+  run-closes p o g h q =
+      let y₀ : Closes m 0 (arity (g .cell) + k) (map (close p) (slice o (o + length (g .rows)) left)) (arity (g .cell) + k) (g .rows) = rw (← (q .is)) stop in
+      let b : length (between first last rows) ≡ suc last - first = length-slice first (suc last) rows inside in
+      let l : length left ≡ length (between first last rows) = closes-length x in
+      rw (slice-slice first (suc last) o (o + length (g .rows)) rows (omega (arith, q .inside, q .some))) at
+      (closes-then (closes-part o (o + length (g .rows)) (omega (arith, q .some)) (omega (arith, q .inside)) x) (step p (g .cell) h (part-agree p o g left q) y₀))
+
+  -- so the table tells what the run adds
+  run-value : (p o : ℕ) (g : Run) → p ≤ k → PartOf (root p) (close p) left o g
+      → (v : ℕ) × (m .weight (g .cell) + v ≡ adds agreed least a (first + o) (pred (first + o + length (g .rows)))) × Least m (arity (g .cell) + k) (g .rows) v
+  run-value p o g h q =
+      let b : length left ≡ suc last - first = closes-length x ∙ length-slice first (suc last) rows inside in
+      let less : length (g .rows) < length left = part-proper p o g left q (stuck p (g .cell) (omega arith)) in
+      let e : first + (o + length (g .rows)) ≡ suc (pred (first + o + length (g .rows))) = omega (arith, q .some) in
+      let s = table (first + o) (pred (first + o + length (g .rows))) (omega arith) (omega (arith, q .some)) (omega (arith, q .inside, q .some)) (omega (arith, q .inside, q .some)) in
+      let v = solved-below s (rw e at (run-closes p o g h q)) in
+      (v .0, omega (arith, v .1, v .2), v .3)
+
+  runs-least : (p o : ℕ) (gs : List Run) → p ≤ k → Parts (root p) (close p) left o gs → LeastRuns m k gs (sums (adds agreed least a) (first + o) gs)
+  runs-least p o [] h q = runs-nil m k
+  runs-least p o (g ∷ gs) h q =
+      let v = run-value p o g h (q .0) in
+      let n : ℕ = sums (adds agreed least a) (first + (o + length (g .rows))) gs in
+      let e : first + o + length (g .rows) ≡ first + (o + length (g .rows)) = omega arith in
+      let e′ : adds agreed least a (first + o) (pred (first + o + length (g .rows))) + n ≡ m .weight (g .cell) + (v .0 + n) = omega (arith, v .1) in
+      rw e (rw (rw e at e′) (runs-cons m k (v .0) n g gs (v .2) (runs-least p (o + length (g .rows)) gs h (q .1))))
+
+  -- what the branches of each open place cost at least
+  pub place-least : (p : ℕ) → p ≤ k → LeastRuns m k (runs p left) (sums (adds agreed least a) first (runs p left))
+  place-least p h =
+      let e : first + 0 ≡ first = omega arith in
+      rw e at (runs-least p 0 (runs p left) h (group-parts (root p) (close p) left))

@@ -1,0 +1,151 @@
+-- What is kept for every pair of first and last row, as functions: the equation between them, and that they are the entries.
+use mathlib.Core.Path.{_≡_, refl}
+use mathlib.Core.Logic.{_⊎_, inl, inr}
+use mathlib.Core.List.{List}
+use Prim.Native.Nat.{ℕ, zero, suc, _-_, _≤_, _<_}
+use native.Mathlib.Omega.{arith}
+use lib.ListN.{length, take}
+use lib.Seq.{length-slice}
+use Rattle.table.specs.All.{All}
+use Rattle.plan.specs.Runs.{runs}
+use Rattle.plan.specs.Plans.{Measure}
+use Rattle.plan.proofs.RunsLaws.{Fits}
+use Rattle.least.specs.Least.{Least, Chosen}
+use Rattle.least.specs.Entries.{between, Closes, stop, step, Entry, none, leaf, inner}
+use Rattle.least.proofs.Minimum.{argmin, argmin-first}
+use Rattle.least.proofs.AllLaws.{all-each, all-take, all-drop}
+use Rattle.least.proofs.Best.{best, best-least, least-one, LeastRuns, through, leaf-least, node-least}
+use Rattle.least.proofs.Closing.{closes-length, order-does-not-matter}
+use Rattle.least.proofs.Counts.{Solved, sums, adds, leastOver, place-least}
+use Rattle.least.proofs.Scan.{Scan, scan, Scanned, scan-closes, fits-agreed}
+use Rattle.least.proofs.Building.{chosen-one, chosen-cheapest}
+
+-- rows that fit still do when agreed places are closed
+closes-fit : {m : Measure} {x k k′ : ℕ} {rows rows′ : List (List ℕ)} (n : ℕ) → Closes m x k rows k′ rows′ → All (Fits n k) rows → All (Fits n k′) rows′
+closes-fit n stop f = f
+closes-fit n (step {k = k} {rows = rows} i c h a x) f =
+    closes-fit n x
+    (fits-agreed n k i c rows h a (all-each (Fits n (suc k)) (Fits (suc n) (suc k)) (λ (r : List ℕ) (g : Fits n (suc k) r). (g .0, omega arith)) rows f))
+
+outside : {first last n : ℕ} → (last < first) ⊎ (n ≤ last) → first ≤ last → last < n → ⊥
+outside (inl l) h i = omega arith
+outside (inr l) h i = omega arith
+
+-- an entry is determined
+pub entry-one : {m : Measure} {w : ℕ} {rows : List (List ℕ)} {first last n n′ i i′ : ℕ} → Entry m w rows first last n i → Entry m w rows first last n′ i′
+    → (n ≡ n′) × (i ≡ i′)
+entry-one (none o) (none o′) = (refl, refl)
+entry-one (none o) (leaf h l x) = absurd (outside o h l)
+entry-one (none o) (inner h l x s c b d) = absurd (outside o h l)
+entry-one (leaf h l x) (none o) = absurd (outside o h l)
+entry-one (leaf h l x) (leaf h′ l′ y) = (refl, refl)
+entry-one (leaf h l x) (inner h′ l′ y s c b d) = absurd (omega (arith, order-does-not-matter x (λ i c h. absurd (omega arith)) y s .1))
+entry-one (inner h l x s c b d) (none o) = absurd (outside o h l)
+entry-one (inner h l x s c b d) (leaf h′ l′ y) = absurd (omega (arith, order-does-not-matter x s y (λ i c h. absurd (omega arith)) .1))
+entry-one {m} (inner {k = k} {left = left} {count = n} {place = i} h l x s c b d) (inner {k = k′} {left = left′} h′ l′ y t c′ b′ d′) =
+    let u = order-does-not-matter x s y t in
+    let ek : k ≡ k′ = omega (arith, u .1) in
+    let c″ : Least m (suc k′) left′ n = rw (ek, u .2) at c in
+    let d″ : Chosen m k′ left′ i = rw (ek, u .2) at d in
+    (least-one c″ c′, chosen-one m (omega arith) b′ d″ d′)
+
+-- the first place at which a function of k places is least, 0 where there are none
+abbrev pub firstOver : ℕ → (ℕ → ℕ) → ℕ
+firstOver zero F = 0
+firstOver (suc k) F = argmin k F
+
+-- rows of a table of width w, of at most n cells each
+module _ (m : Measure) (n w : ℕ) (rows : List (List ℕ)) where
+  -- the rows of a pair with all that they agree on closed
+  unfoldable pub closedOf : ℕ → ℕ → Scan
+  closedOf first last = scan m n 0 w (between first last rows)
+
+  -- what these rows agree on weighs so much
+  abbrev pub agreedOf : ℕ → ℕ → ℕ
+  agreedOf first last = (closedOf first last) .agreed
+
+  -- the least cost from there
+  unfoldable pub leastOf : ℕ → ℕ → ℕ
+  leastOf first last = best m n ((closedOf first last) .opens) ((closedOf first last) .left)
+
+  -- what the branches of place p there cost: over its runs, the sum of what each adds
+  unfoldable pub branchesOf : ℕ → ℕ → ℕ → ℕ
+  branchesOf first last p = sums (adds agreedOf leastOf (agreedOf first last)) first (runs p ((closedOf first last) .left))
+
+  -- with the state's own figure
+  abbrev pub costOf : ℕ → ℕ → ℕ → ℕ
+  costOf first last = through m ((closedOf first last) .left) (branchesOf first last)
+
+  -- the place that is taken there
+  unfoldable pub placeOf : ℕ → ℕ → ℕ
+  placeOf first last = firstOver ((closedOf first last) .opens) (costOf first last)
+
+  module _ (fits : All (Fits n w) rows) where
+    module _ (first last : ℕ) (order : first ≤ last) (inside : last < length rows) where
+      abbrev State : List (List ℕ) → Type 0
+      State r = All (Fits n w) r × (0 < length r)
+
+      state : State (between first last rows)
+      state = (
+        all-drop (Fits n w) first (take (suc last) rows) (all-take (Fits n w) (suc last) rows fits),
+        omega (arith, length-slice first (suc last) rows inside),
+      )
+
+      pub pair-closed : Scanned m w (between first last rows) (closedOf first last)
+      unfolding closedOf
+      pair-closed = scan-closes m n w (between first last rows) (state .0) (state .1)
+
+      pub pair-counts : Least m ((closedOf first last) .opens) ((closedOf first last) .left) (leastOf first last)
+      unfolding leastOf
+      pair-counts =
+          best-least m n ((closedOf first last) .opens) ((closedOf first last) .left) (closes-fit n (pair-closed .closes) (state .0))
+          (omega (arith, closes-length (pair-closed .closes), state .1))
+
+      pair-solved : Solved m w (between first last rows) (agreedOf first last) (leastOf first last)
+      pair-solved = record {
+        opens = (closedOf first last) .opens;
+        left = (closedOf first last) .left;
+        closes = pair-closed .closes;
+        stuck = pair-closed .stuck;
+        counts = pair-counts;
+      }
+
+    module _ (first last : ℕ) (order : first ≤ last) (inside : last < length rows) where
+      -- what the branches of each place of the closed state cost at least
+      branches-least : (k : ℕ) → (closedOf first last) .opens ≡ suc k → (p : ℕ) → p ≤ k
+          → LeastRuns m k (runs p ((closedOf first last) .left)) (branchesOf first last p)
+      unfolding branchesOf
+      branches-least k e =
+          let x = pair-closed first last order inside in
+          place-least w rows agreedOf leastOf first last (agreedOf first last) k ((closedOf first last) .left) inside
+          (rw e at (x .closes)) (rw e at (x .stuck)) (λ j j′ h h′ h″ l. pair-solved j j′ h′ (omega arith))
+
+      -- THE EQUATION OF LEAST COUNTS, for every pair of first and last row
+      pub equation : leastOf first last ≡ leastOver ((closedOf first last) .opens) (costOf first last)
+      equation = go ((closedOf first last) .opens) refl
+        where
+          go : (K : ℕ) → (closedOf first last) .opens ≡ K → leastOf first last ≡ leastOver K (costOf first last)
+          go zero e = least-one (rw e at (pair-counts first last order inside)) (leaf-least m ((closedOf first last) .left))
+          go (suc k) e =
+              least-one (rw e at (pair-counts first last order inside))
+              (node-least m k ((closedOf first last) .left) (branchesOf first last) (branches-least k e))
+
+      -- and the place is the rule's
+      place-chosen : (k : ℕ) → (closedOf first last) .opens ≡ suc k
+          → (argmin k (costOf first last) ≤ k) × Chosen m k ((closedOf first last) .left) (argmin k (costOf first last))
+      place-chosen k e =
+          let a = argmin-first k (costOf first last) in
+          (a .within, chosen-cheapest m (branchesOf first last) (branches-least k e) (rw e at (pair-closed first last order inside .stuck)) a)
+
+      -- so these are the pair's entry
+      pub pair-entry : Entry m w rows first last (leastOf first last) (placeOf first last)
+      unfolding placeOf
+      pair-entry = go ((closedOf first last) .opens) refl equation
+        where
+          go : (K : ℕ) → (closedOf first last) .opens ≡ K → leastOf first last ≡ leastOver K (costOf first last)
+              → Entry m w rows first last (leastOf first last) (firstOver K (costOf first last))
+          go zero e q = rw q (leaf order inside (rw e at (pair-closed first last order inside .closes)))
+          go (suc k) e q =
+              let x = pair-closed first last order inside in
+              let c = place-chosen k e in
+              inner order inside (rw e at (x .closes)) (rw e at (x .stuck)) (rw e at (pair-counts first last order inside)) (c .0) (c .1)

@@ -1,0 +1,149 @@
+-- The rows of a state by their masks, their column, and their runs, as the check goes through them.
+use mathlib.Core.Path.{_≡_, refl, sym, ap, _∙_}
+use mathlib.Core.List.{List, [], _∷_}
+use Prim.Native.Nat.{ℕ, zero, suc, _+_, _-_, _≤_, _<_, _^_}
+use native.Mathlib.Nat.{add-zero}
+use native.Mathlib.Omega.{arith}
+use lib.ListN.{length, getD, take, drop, set, length-set, length-drop}
+use lib.Seq.{take-nil, drop-cons, drop-drop, drop-set-lt, getD-set-same, getD-take, getD-drop, take-take, length-take-le}
+use Rattle.term.specs.Terms.{root, close}
+use Rattle.plan.specs.Runs.{run, runs}
+use Rattle.plan.specs.Mask.{bitAt, without}
+use Rattle.plan.specs.Column.{runLength, runCount, runsOn}
+use Rattle.plan.specs.States.{rowAt, rowsFrom, rowsIn, columnIn, runsIn, Closes}
+use Rattle.plan.proofs.MaskLaws.{kept-without}
+use Rattle.plan.proofs.ColumnLaws.{run-few, group-on, first-run, count-runs}
+
+-- the first row, and the others
+module _ (t ss ms : List ℕ) where
+  pub rows-none : (first : ℕ) → rowsIn t ss ms first first ≡ []
+  unfolding rowsFrom
+  rows-none first = let e : first - first ≡ 0 = omega arith in rw e
+
+  pub rows-first : (first end : ℕ) → first < end → rowsIn t ss ms first end ≡ rowAt t ss ms first ∷ rowsIn t ss ms (first + 1) end
+  unfolding rowsFrom
+  rows-first first end h = let e : end - first ≡ suc (end - (first + 1)) = omega arith in rw e
+
+  pub rows-length : (n r : ℕ) → length (rowsFrom t ss ms n r) ≡ n
+  unfolding rowsFrom
+  rows-length zero r = refl
+  rows-length (suc n) r = ap suc (rows-length n (r + 1))
+
+  rows-take : (n m r : ℕ) → take n (rowsFrom t ss ms (n + m) r) ≡ rowsFrom t ss ms n r
+  unfolding rowsFrom
+  rows-take zero m r = refl
+  rows-take (suc n) m r = let e : suc n + m ≡ suc (n + m) = omega arith in rw e (ap (λ (l : List (List ℕ)). rowAt t ss ms r ∷ l) (rows-take n m (r + 1)))
+
+  rows-drop : (n m r : ℕ) → drop n (rowsFrom t ss ms (n + m) r) ≡ rowsFrom t ss ms m (r + n)
+  unfolding rowsFrom
+  rows-drop zero m r = let e : 0 + m ≡ m = omega arith in rw (e, add-zero)
+  rows-drop (suc n) m r =
+      let e : suc n + m ≡ suc (n + m) = omega arith in
+      let d : r + suc n ≡ r + 1 + n = omega arith in
+      rw (e, d) (rows-drop n m (r + 1))
+
+-- rows whose masks are as they were
+at-drop : (l : List ℕ) (r : ℕ) → getD l r 0 ≡ getD (drop r l) 0 0
+at-drop l r = let e : r + 0 ≡ r = omega arith in sym (rw e at (getD-drop r l 0 0))
+
+pub rows-kept : (t ss ms ms′ : List ℕ) (n r : ℕ) → drop r ms′ ≡ drop r ms → rowsFrom t ss ms′ n r ≡ rowsFrom t ss ms n r
+unfolding rowsFrom
+rows-kept t ss ms ms′ zero r h = refl
+rows-kept t ss ms ms′ (suc n) r h =
+    let e = at-drop ms′ r ∙ ap (λ (l : List ℕ). getD l 0 0) h ∙ sym (at-drop ms r) in
+    let d : drop (r + 1) ms′ ≡ drop (r + 1) ms = sym (drop-drop 1 r ms′) ∙ ap (drop 1) h ∙ drop-drop 1 r ms in
+    rw (e, rows-kept t ss ms ms′ n (r + 1) d)
+
+-- the first cell of a column, and the others
+pub column-none : (hs : List ℕ) (first : ℕ) → columnIn hs first first ≡ []
+column-none hs first = let e : first - first ≡ 0 = omega arith in rw e
+
+pub column-first : (hs : List ℕ) (first end : ℕ) → first < end → end ≤ length hs → columnIn hs first end ≡ getD hs first 0 ∷ columnIn hs (first + 1) end
+column-first hs first end h l =
+    let e : end - first ≡ suc (end - (first + 1)) = omega arith in
+    let d : first + 1 ≡ suc first = omega arith in
+    rw (e, d, drop-cons hs first 0 (omega arith))
+
+drop-take : (n m : ℕ) (l : List ℕ) → drop n (take (n + m) l) ≡ take m (drop n l)
+drop-take zero m l = let e : 0 + m ≡ m = omega arith in rw e
+drop-take (suc n) m [] = let e : suc n + m ≡ suc (n + m) = omega arith in rw e (sym (take-nil m))
+drop-take (suc n) m (x ∷ l) = let e : suc n + m ≡ suc (n + m) = omega arith in rw e (drop-take n m l)
+
+column-drop : (hs : List ℕ) (first end n : ℕ) → first + n ≤ end → drop n (columnIn hs first end) ≡ columnIn hs (first + n) end
+column-drop hs first end n h =
+    let e : end - first ≡ n + (end - (first + n)) = omega arith in
+    rw e (drop-take n (end - (first + n)) (drop first hs) ∙ ap (take (end - (first + n))) (drop-drop n first hs))
+
+pub column-length : (hs : List ℕ) (first end : ℕ) → end ≤ length hs → length (columnIn hs first end) ≡ end - first
+column-length hs first end h = length-take-le (end - first) (drop first hs) (omega (arith, length-drop first hs))
+
+-- The first run of some rows, and the runs after it.
+pub record FirstRun (t ss ms hs : List ℕ) (row end n : ℕ) : Type 0 where
+  pub some : 0 < n
+  pub few : row + n ≤ end
+  pub runs : runsIn t ss ms hs row end ≡ run (getD hs row 0) (rowsIn t ss ms row (row + n)) ∷ runsIn t ss ms hs (row + n) end
+
+pub run-first : (t ss ms hs : List ℕ) (row end n : ℕ) → row < end → end ≤ length hs → n ≡ runLength (columnIn hs row end) → FirstRun t ss ms hs row end n
+run-first t ss ms hs row end n h l e =
+    let cs : List ℕ = columnIn hs (row + 1) end in
+    let c : ℕ = getD hs row 0 in
+    let col = column-first hs row end h l in
+    let q : n ≡ runLength (c ∷ cs) = e ∙ ap runLength col in
+    let f : runLength (c ∷ cs) ≤ length (c ∷ cs) = run-few c cs in
+    let len : length (c ∷ cs) ≡ end - row = ap length (sym col) ∙ column-length hs row end l in
+    let m : end - row ≡ n + (end - (row + n)) = omega arith in
+    let z : row + n - row ≡ n = omega arith in
+    let rl = rows-length t ss ms (end - row) row in
+    let r = first-run c cs (rowsIn t ss ms row end) (len ∙ sym rl) in
+    let tk : take n (rowsIn t ss ms row end) ≡ rowsIn t ss ms row (row + n) = rw (m, z) (rows-take t ss ms n (end - (row + n)) row) in
+    let dr : drop n (rowsIn t ss ms row end) ≡ rowsIn t ss ms (row + n) end = rw m (rows-drop t ss ms n (end - (row + n)) row) in
+    let dc : drop n (c ∷ cs) ≡ columnIn hs (row + n) end = ap (drop n) (sym col) ∙ column-drop hs row end n (omega arith) in
+    record { some = omega arith; few = omega arith; runs = ap (λ (l : List ℕ). runsOn l (rowsIn t ss ms row end)) col ∙ (rw (← q, tk, dr, dc) at r) }
+
+-- How many runs there are.
+pub run-number : (t ss ms hs : List ℕ) (first end : ℕ) → end ≤ length hs → length (runsIn t ss ms hs first end) ≡ runCount (columnIn hs first end)
+run-number t ss ms hs first end l =
+    count-runs (columnIn hs first end) (rowsIn t ss ms first end) (column-length hs first end l ∙ sym (rows-length t ss ms (end - first) first))
+
+-- Closing a place: the runs of the rows that are closed are the runs at that place.
+pub runs-closed : {t ss ms hs ms′ hs′ : List ℕ} {i first end : ℕ} → Closes t ss ms hs ms′ hs′ i first end
+    → runs i (rowsIn t ss ms first end) ≡ runsIn t ss ms′ hs′ first end
+runs-closed {t} {ss} {ms} {i = i} {first} {end} c = group-on (root i) (close i) (rowsIn t ss ms first end) ∙ rw (← (c .column), ← (c .rows))
+
+-- lists that are the same up to a place are so up to an earlier one, and there
+module _ (ns ms : List ℕ) (r row : ℕ) (h : r < row) (e : take row ns ≡ take row ms) where
+  pub same-before : take r ns ≡ take r ms
+  same-before = sym (take-take r row ns (omega arith)) ∙ ap (take r) e ∙ take-take r row ms (omega arith)
+
+  pub same-at : getD ns r 0 ≡ getD ms r 0
+  same-at = sym (getD-take row ns r 0 h) ∙ ap (λ (l : List ℕ). getD l r 0) e ∙ getD-take row ms r 0 h
+
+-- no row is closed, and one more before those that are
+module _ (t ss ms hs : List ℕ) (i : ℕ) where
+  pub closes-none : (end : ℕ) → Closes t ss ms hs ms hs i end end
+  closes-none end = record {
+    column = column-none hs end ∙ rw (rows-none t ss ms end);
+    rows = rw (rows-none t ss ms end);
+    masks-after = refl;
+    column-after = refl;
+  }
+
+  pub closes-one : (ns ks : List ℕ) (r row end x m : ℕ) → r + 1 ≡ row → row ≤ end → end ≤ length ns → end ≤ length ks → getD ns r 0 ≡ getD ms r 0
+      → getD ns r 0 < 2 ^ 32 → x ≡ root i (rowAt t ss ns r) → m ≡ without (getD ns r 0) (bitAt i (getD ns r 0) (drop (getD ss r 0) t))
+      → Closes t ss ms hs ns ks i row end → Closes t ss ms hs (set ns r m) (set ks r x) i r end
+  closes-one ns ks r row end x m q h l k same small ex em c =
+      let u = c .column in
+      let v = c .rows in
+      let lk : end ≤ length (set ks r x) = simp length-set k in
+      let kx = getD-set-same ks r x 0 (omega arith) in
+      let nm = getD-set-same ns r m 0 (omega arith) in
+      let dk = drop-set-lt (r + 1) ks r x (omega arith) in
+      let dn = drop-set-lt (r + 1) ns r m (omega arith) in
+      let rest = rows-kept t ss ns (set ns r m) (end - (r + 1)) (r + 1) dn in
+      let here = kept-without i (getD ns r 0) (drop (getD ss r 0) t) small in
+      record {
+        column = column-first (set ks r x) r end (omega arith) lk ∙ rw (kx, dk, q, u, rows-first t ss ms r end (omega arith), ex, same, q);
+        rows = rows-first t ss (set ns r m) r end (omega arith) ∙ rw (nm, rest, em, here, q, v, rows-first t ss ms r end (omega arith), same, q);
+        masks-after = drop-set-lt end ns r m (omega arith) ∙ c .masks-after;
+        column-after = drop-set-lt end ks r x (omega arith) ∙ c .column-after;
+      }

@@ -1,0 +1,35 @@
+-- How the check holds a state: its rows by the masks of their open cells, their cells at the chosen place as a column.
+use Prim.Native.Nat.{ℕ, zero, suc, _+_, _-_, _≤_, _<_}
+use mathlib.Core.Path.{_≡_}
+use mathlib.Core.List.{List, [], _∷_, map}
+use lib.ListN.{length, getD, take, drop}
+use Rattle.term.specs.Terms.{root, close}
+use Rattle.plan.specs.Runs.{Run}
+use Rattle.plan.specs.Mask.{kept}
+use Rattle.plan.specs.Column.{runsOn}
+
+-- row r: the open cells of the row that starts where ss says, by its mask in ms
+abbrev pub rowAt : (t ss ms : List ℕ) → ℕ → List ℕ
+rowAt t ss ms r = kept (getD ms r 0) (drop (getD ss r 0) t)
+
+-- n rows from row r on
+unfoldable pub rowsFrom : (t ss ms : List ℕ) → ℕ → ℕ → List (List ℕ)
+rowsFrom t ss ms zero r = []
+rowsFrom t ss ms (suc n) r = rowAt t ss ms r ∷ rowsFrom t ss ms n (r + 1)
+
+-- the rows from first to before end, the cells they have in a column, and their runs
+abbrev pub rowsIn : (t ss ms : List ℕ) → ℕ → ℕ → List (List ℕ)
+rowsIn t ss ms first end = rowsFrom t ss ms (end - first) first
+
+abbrev pub columnIn : List ℕ → ℕ → ℕ → List ℕ
+columnIn hs first end = take (end - first) (drop first hs)
+
+abbrev pub runsIn : (t ss ms hs : List ℕ) → ℕ → ℕ → List Run
+runsIn t ss ms hs first end = runsOn (columnIn hs first end) (rowsIn t ss ms first end)
+
+-- what closing place i of some rows makes of the masks ms and of the column hs; rows after them are as they were
+pub record Closes (t ss ms hs ms′ hs′ : List ℕ) (i first end : ℕ) : Type 0 where
+  pub column : columnIn hs′ first end ≡ map (root i) (rowsIn t ss ms first end)
+  pub rows : rowsIn t ss ms′ first end ≡ map (close i) (rowsIn t ss ms first end)
+  pub masks-after : drop end ms′ ≡ drop end ms
+  pub column-after : drop end hs′ ≡ drop end hs
