@@ -9,7 +9,9 @@ use lib.ListN.{length, getD, take, drop, replicate}
 use Rattle.cell.specs.Cell.{Cell, Values, valuesAt, isVar}
 use Rattle.term.specs.Terms.{Terms}
 use Rattle.table.specs.declared.TableAnswer.{TableAnswer}
+use Rattle.table.specs.declared.TableRead.{TableRead}
 use Rattle.table.specs.declared.GoalAnswer.{GoalAnswer}
+use Rattle.table.specs.declared.Part.{Part}
 use Rattle.table.specs.declared.TableAnswer.the-variants as table-answer
 use Rattle.table.specs.declared.GoalAnswer.the-variants as goal-answer
 use Rattle.table.specs.All.{All}
@@ -103,6 +105,15 @@ abbrev pub tableTold : TableAnswer → Answer
 tableTold (table-answer.Accepted w n) = answered w n
 tableTold (table-answer.Refused f) = turned (told f)
 
+-- what is answered for a table, in both parts of the code's answer
+pub record TableReads (t : Read Table) (r : TableRead) : Type 0 where
+  pub answer : tableTold (r .answer) ≡ tableSays t
+  pub starts : r .starts ≡ startsIn t
+
+-- 01, "A goal is read with its table": the table's refusal first, then the goal's
+abbrev pub goalWith : List ℕ → List ℕ → Read ℕ
+goalWith t g = andThen (tableOf t) (λ (T : Table). goalOf (T .width) g)
+
 abbrev pub goalSays : List ℕ → Read ℕ → Answer
 goalSays g (read n) = answered (length g) n
 goalSays g (refuse f) = turned f
@@ -115,6 +126,11 @@ goalTold (goal-answer.Refused f) = turned (told f)
 abbrev pub rowIn : Read Table → ℕ → List ℕ
 rowIn (read T) r = getD (T .rows) r []
 rowIn (refuse f) r = []
+
+-- where in the lent table that part is; both ends are 0 where there is no such row
+pub record RowPlace (t : Read Table) (r : ℕ) (p : Part) : Type 0 where
+  pub start : p .start ≡ getD (startsIn t) r 0
+  pub end : p .end ≡ p .start + length (rowIn t r)
 
 -- What a table and a goal are, by 01's words.
 

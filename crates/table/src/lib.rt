@@ -1,4 +1,15 @@
 // Tables, goals and rows (01, "Tables and goals"), and what is turned away.
+mod terms;
+
+ghost use mathlib.Core.Path.{_≡_};
+ghost use mathlib.Core.Bool.{_||_};
+ghost use Prim.Native.Nat.{_≤_};
+ghost use lib.Dec.{ltb};
+ghost use lib.ListN.{length, drop};
+ghost use Rattle.table.specs.Refusal.{numberOf, refused};
+ghost use Rattle.table.specs.Read.{read, refuse, andThen};
+ghost use Rattle.table.specs.Table.{table, rowsFrom, tableOf, goalOf, goalWith, rowIn, TableReads, RowPlace, goalTold, goalSays};
+use terms::TermsRead;
 
 // 01, "What is turned away": the names, in the order of their numbers.
 pub enum Reason {
@@ -50,4 +61,152 @@ pub struct TableRead {
 pub enum GoalAnswer {
     Accepted(usize, usize),
     Refused(Refusal),
+}
+
+// Where the cells of a row are in the table: from a start up to an end, both 0 where there is no such row.
+pub struct Part {
+    pub start: usize,
+    pub end: usize,
+}
+
+// A number that is not between two others, these included.
+fn outside(n: usize, low: usize, high: usize) -> bool
+    ensures { λ r. ⌜ r ≡ (ltb n low || ltb high n) ⌝ }
+{
+    n < low || high < n
+}
+
+fn wide(c: u32) -> usize
+    ensures { λ r. ⌜ r ≡ c ⌝ }
+{
+    c as usize
+}
+
+// A table that is turned away.
+fn turned(reason: Reason, place: usize) -> TableRead
+    ensures { λ r. ⌜ TableReads (refuse (refused (numberOf reason) 1 place)) r ⌝ }
+{
+    TableRead {
+        answer: TableAnswer::Refused(Refusal {
+            reason,
+            input: Input::Table,
+            place,
+        }),
+        starts: [0; 64],
+    }
+}
+
+// So many rows from the third cell on, and nothing after them.
+fn read_rows(cells: &[u32], width: usize, count: usize) -> TableRead
+    requires { ⌜ (2 ≤ length (now cells)) × (count ≤ 64) ⌝ }
+    ensures { λ r. ⌜ TableReads (andThen (rowsFrom width count (drop 2 (now (cells .entry))) 2) (λ rows. read (table width rows))) r ⌝ }
+{
+    let mut starts = [0; 64];
+    let mut at: usize = 2;
+    let mut n: usize = 0;
+    while n < count {
+        starts[n] = at;
+        match terms::read_row(cells, at, width) {
+            TermsRead::Whole(e, _) => {
+                at = e;
+            }
+            TermsRead::Turned(f) => {
+                return TableRead {
+                    answer: TableAnswer::Refused(f),
+                    starts: [0; 64],
+                };
+            }
+        }
+        n += 1;
+    }
+    if at < cells.len() {
+        return turned(Reason::Extra, at);
+    }
+    TableRead {
+        answer: TableAnswer::Accepted(width, count),
+        starts,
+    }
+}
+
+// A table: any cells at all. One pass: the two looks of `terms` at each cell of each row.
+pub fn read_table(cells: &[u32]) -> TableRead
+    ensures { λ r. ⌜ TableReads (tableOf (now (cells .entry))) r ⌝ }
+{
+    if outside(cells.len(), 2, 2050) {
+        return turned(Reason::Length, 0);
+    }
+    let width = wide(cells[0]);
+    if outside(width, 1, 8) {
+        return turned(Reason::Width, 0);
+    }
+    let count = wide(cells[1]);
+    if outside(count, 1, 64) {
+        return turned(Reason::Count, 1);
+    }
+    read_rows(cells, width, count)
+}
+
+// A goal for a table of a width: any width, any cells.
+pub fn goal_for(width: usize, goal: &[u32]) -> GoalAnswer
+    ensures { λ r. ⌜ goalTold r ≡ goalSays (now (goal .entry)) (goalOf width (now (goal .entry))) ⌝ }
+{
+    if outside(goal.len(), 1, 32) {
+        return GoalAnswer::Refused(terms::refusal(false, Reason::Length, 0));
+    }
+    match terms::read_terms(goal, 0, width, false) {
+        TermsRead::Whole(e, vars) => {
+            if e < goal.len() {
+                return GoalAnswer::Refused(terms::refusal(false, Reason::Extra, e));
+            }
+            GoalAnswer::Accepted(goal.len(), vars)
+        }
+        TermsRead::Turned(f) => GoalAnswer::Refused(f),
+    }
+}
+
+// A goal with its table: the table's refusal comes first.
+pub fn read_goal(table: &[u32], goal: &[u32]) -> GoalAnswer
+    ensures { λ r. ⌜ goalTold r ≡ goalSays (now (goal .entry)) (goalWith (now (table .entry)) (now (goal .entry))) ⌝ }
+{
+    let answer = read_table(table).answer;
+    match answer {
+        TableAnswer::Accepted(width, _) => goal_for(width, goal),
+        TableAnswer::Refused(f) => GoalAnswer::Refused(f),
+    }
+}
+
+// Where the r-th row is in its table. A row ends where the next one starts, and the last where the table ends.
+pub fn row_place(cells: &[u32], r: usize) -> Part
+    ensures { λ p. ⌜ RowPlace (tableOf (now (cells .entry))) r p ⌝ }
+{
+    let read = read_table(cells);
+    let answer = read.answer;
+    let starts = read.starts;
+    let TableAnswer::Accepted(_, count) = answer else {
+        return Part { start: 0, end: 0 };
+    };
+    if count <= r {
+        return Part { start: 0, end: 0 };
+    }
+    let start = starts[r];
+    let next = r + 1;
+    if next < count {
+        let end = starts[next];
+        Part { start, end }
+    } else {
+        Part {
+            start,
+            end: cells.len(),
+        }
+    }
+}
+
+// The r-th row: that part of the lent table and no copy, empty where there is no such row.
+pub fn row(cells: &[u32], r: usize) -> &[u32]
+    ensures { λ p. ⌜ now p ≡ rowIn (tableOf (now (cells .entry))) r ⌝ }
+{
+    let p = row_place(cells, r);
+    let a = p.start;
+    let e = p.end;
+    &cells[a..e]
 }

@@ -1,0 +1,101 @@
+-- A table and a goal are accepted exactly when they are what 01 calls a table and a goal, and a table's rows are then those that are read.
+use mathlib.Core.Path.{_≡_, refl, sym, _∙_, ap}
+use mathlib.Core.Logic.{_↔_}
+use mathlib.Core.Bool.{false, _||_}
+use mathlib.Core.List.{List, [], _∷_, _++_, flatten, append-nil}
+use Prim.Native.Nat.{ℕ, suc, _+_, _-_, _*_, _≤_}
+use native.Mathlib.Omega.{arith}
+use lib.Dec.{ltb}
+use lib.ListN.{length, getD, drop, length-append}
+use borrow.Author.Tests.{le-ltb, ltb-false}
+use Rattle.table.specs.All.{All}
+use Rattle.table.specs.Refusal.{refused}
+use Rattle.table.specs.Read.{read, when}
+use Rattle.table.specs.Table.{Met, met, Table, table, termsFrom, rowsFrom, tableOf, goalOf, appear, Head, Row, IsTable, IsGoal}
+use Rattle.table.proofs.ReadLaws.{passed, read-one, first, inside, within-bounds}
+use Rattle.table.proofs.WholeLaws.{terms-pass, Whole, whole}
+use Rattle.table.proofs.HeadLaws.{passed-head, head-passes}
+use Rattle.table.proofs.RowsLaws.{RowsAre, rows-are, are-rows}
+
+-- two cells, and what follows
+two-cells : (t : List ℕ) → 2 ≤ length t → t ≡ getD t 0 0 ∷ (getD t 1 0 ∷ drop 2 t)
+two-cells [] h = absurd (omega arith)
+two-cells (a ∷ []) h = absurd (omega arith)
+two-cells (a ∷ (b ∷ t)) h = refl
+
+-- a table that is read
+pub is-table : (t : List ℕ) {T : Table} → tableOf t ≡ read T → IsTable t (T .width) (T .rows)
+unfolding tableOf
+is-table t {T} e =
+    let a = passed (ltb (length t) 2 || ltb 2050 (length t)) _ _ e in
+    let b = passed (ltb (getD t 0 0) 1 || ltb 8 (getD t 0 0)) _ _ (a .1) in
+    let c = passed (ltb (getD t 1 0) 1 || ltb 64 (getD t 1 0)) _ _ (b .1) in
+    let f = first (rowsFrom (getD t 0 0) (getD t 1 0) (drop 2 t) 2) (λ (rows : List (List ℕ)). read (table (getD t 0 0) rows)) (c .1) in
+    rw (← read-one (f .2))
+    (by-rows t (inside (length t) 2 2050 (a .0) .0) (inside (getD t 0 0) 1 8 (b .0)) (inside (getD t 1 0) 1 64 (c .0)) (rows-are (getD t 0 0) (getD t 1 0) (drop 2 t) 2 (f .1)))
+  where
+    by-rows : (t : List ℕ) {rows : List (List ℕ)} → 2 ≤ length t → (1 ≤ getD t 0 0) × (getD t 0 0 ≤ 8) → (1 ≤ getD t 1 0) × (getD t 1 0 ≤ 64)
+        → RowsAre (getD t 0 0) (getD t 1 0) (drop 2 t) rows → IsTable t (getD t 0 0) rows
+    by-rows t l w n r = record {
+      cells = two-cells t l ∙ rw (r .cells, r .count);
+      width = w;
+      count = (omega (arith, r .count), omega (arith, r .count));
+      each = r .each;
+    }
+
+-- rows of at most 32 cells
+few-cells : (w : ℕ) (rows : List (List ℕ)) → All (Row w) rows → length (flatten rows) ≤ 32 * length rows
+unfolding flatten
+few-cells w [] a = omega arith
+few-cells w (r ∷ rs) a = omega (arith, few-cells w rs (a .1), a .0 .head .short, length-append r (flatten rs))
+
+table-is : (w : ℕ) (rows : List (List ℕ)) → (1 ≤ w) × (w ≤ 8) → (1 ≤ length rows) × (length rows ≤ 64) → All (Row w) rows
+    → tableOf (w ∷ (length rows ∷ flatten rows)) ≡ read (table w rows)
+unfolding tableOf
+table-is w rows b c a =
+    let l = few-cells w rows a in
+    rw (
+      within-bounds (suc (suc (length (flatten rows)))) 2 2050 (omega arith) (omega arith),
+      within-bounds w 1 8 (b .0) (b .1),
+      within-bounds (length rows) 1 64 (c .0) (c .1),
+      are-rows w rows 2 a,
+    )
+
+-- 01, "A table is: width (1 to 8), row count (1 to 64), then the rows": a table is accepted exactly when it is one, and then as these rows
+pub table-accepted : (t : List ℕ) (w : ℕ) (rows : List (List ℕ)) → (tableOf t ≡ read (table w rows)) ↔ IsTable t w rows
+table-accepted t w rows = (is-table t, λ i. ap tableOf (i .cells) ∙ table-is w rows (i .width) (i .count) (i .each))
+
+no-rest : (xs : List ℕ) → length xs ≤ 0 → xs ≡ []
+no-rest [] h = refl
+no-rest (c ∷ xs) h = absurd (omega arith)
+
+-- a goal that is read, with its number of variables
+pub is-goal : (w : ℕ) (g : List ℕ) {v : ℕ} → goalOf w g ≡ read v → IsGoal w g × (v ≡ length (appear [] g))
+unfolding goalOf
+is-goal w g {v} e =
+    let a = passed (ltb (length g) 1 || ltb 32 (length g)) _ _ e in
+    let b = inside (length g) 1 32 (a .0) in
+    let f = first (termsFrom false g w 0 0 0) (λ (m : Met). when (ltb (m .next) (length g)) (refused 9 3 (m .next)) (read (m .vars))) (a .1) in
+    let c = passed (ltb (f .0 .next) (length g)) _ _ (f .2) in
+    let o = whole false g w 0 (f .1) in
+    let h = by-whole o (ltb-false (f .0 .next) (length g) (c .0)) (b .1) in
+    (record { head = h .0; some = b .0 }, sym (read-one (c .1)) ∙ h .1)
+  where
+    by-whole : {w : ℕ} {g : List ℕ} {m : Met} → Whole false g w 0 m → length g ≤ m .next → length g ≤ 32 → Head w g × (m .vars ≡ length (appear [] g))
+    by-whole {w} {g} o l k =
+        let n = length-append (o .front .cells) (o .front .rest) in
+        let m = ap length (o .front .split) in
+        let z : o .front .rest ≡ [] = no-rest (o .front .rest) (omega (arith, o .next)) in
+        let q : g ≡ o .front .cells = o .front .split ∙ ap (λ (xs : List ℕ). o .front .cells ++ xs) z ∙ append-nil (o .front .cells) in
+        rw q (passed-head (o .front .terms) (omega arith) false 0 (o .tested))
+
+-- 01, "A goal is read with its table: width terms, 1 to 32 cells in all": a goal is accepted exactly when it is one
+goal-is : (w : ℕ) (g : List ℕ) → IsGoal w g → goalOf w g ≡ read (length (appear [] g))
+unfolding goalOf
+goal-is w g i =
+    let h : termsFrom false g w 0 0 0 ≡ read (met (0 + length g) (length (appear [] g))) =
+    rw append-nil at (terms-pass (i .head .terms) [] false 0 0 0 (λ r. absurd (let z : _≡_ {A = ℕ} 0 1 = cc in omega arith))) ∙ rw (head-passes 0 (i .head)) in
+    rw (within-bounds (length g) 1 32 (i .some) (i .head .short), h, le-ltb (0 + length g) (length g) (omega arith))
+
+pub goal-accepted : (w : ℕ) (g : List ℕ) → ((v : ℕ) × (goalOf w g ≡ read v)) ↔ IsGoal w g
+goal-accepted w g = (λ r. is-goal w g (r .1) .0, λ i. (length (appear [] g), goal-is w g i))

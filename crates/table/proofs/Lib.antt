@@ -1,0 +1,9 @@
+pub mod ReadLaws
+pub mod LooksLaws
+pub mod WholeLaws
+pub mod SoundLaws
+pub mod HeadLaws
+pub mod RowsLaws
+pub mod TableLaws
+pub mod Accepted
+pub mod PartLaws

@@ -1,0 +1,67 @@
+-- Laws of readings: how a refusal and a reading that goes on combine, and what a reading that succeeds says of its tests.
+use mathlib.Core.Path.{_≡_, refl}
+use mathlib.Core.Bool.{Bool, true, false, _&&_, _||_}
+use Prim.Native.Nat.{ℕ, _≤_}
+use native.Mathlib.Omega.{arith}
+use lib.Dec.{eqb, ltb}
+use borrow.Author.Tests.{ltb-false, le-ltb}
+use Rattle.cell.specs.Cell.{Values}
+use Rattle.table.specs.Refusal.{Refused}
+use Rattle.table.specs.Read.{Read, read, refuse, when, andThen}
+use Rattle.table.specs.Table.{bad, cellTests}
+
+module _ {A B : Type 0} where
+  pub then-both : (r : Read A) {f g : A → Read B} → ((x : A) → f x ≡ g x) → andThen r f ≡ andThen r g
+  then-both (read x) h = h x
+  then-both (refuse r) h = refl
+
+  pub then-assoc : {C : Type 0} (r : Read A) (f : A → Read B) (g : B → Read C) → andThen r (λ x. andThen (f x) g) ≡ andThen (andThen r f) g
+  then-assoc (read x) f g = refl
+  then-assoc (refuse r) f g = refl
+
+  -- three tests, and then a reading
+  three-then : (a b c : Bool) (r s t : Refused) (x : A) (f : A → Read B)
+      → when a r (when b s (when c t (f x))) ≡ andThen (when a r (when b s (when c t (read x)))) f
+  three-then true b c r s t x f = refl
+  three-then false true c r s t x f = refl
+  three-then false false true r s t x f = refl
+  three-then false false false r s t x f = refl
+
+  pub tests-then : (row : Bool) (v : Values) (vars p : ℕ) (x : A) (f : A → Read B) → cellTests row v vars p (f x) ≡ andThen (cellTests row v vars p (read x)) f
+  tests-then row v vars p x f =
+      three-then (eqb (v .kind) 3) (eqb (v .kind) 0 && ltb vars (v .number)) (row && (eqb (v .kind) 0 && ltb (v .number) vars))
+      (bad row 6 p) (bad row 7 p) (bad row 8 p) x f
+
+-- a refusal is not a value
+pub apart : {A B : Type 0} {x : A} {f : Refused} → read x ≡ refuse f → B
+apart e = absurd (let z : _≡_ {A = ℕ} 0 1 = cc in omega arith)
+
+pub read-one : {A : Type 0} {x y : A} → read x ≡ read y → x ≡ y
+read-one e = cc
+
+-- what is read has passed its test
+pub passed : {A : Type 0} (b : Bool) (f : Refused) (r : Read A) {x : A} → when b f r ≡ read x → (b ≡ false) × (r ≡ read x)
+passed true f r e = absurd (let z : _≡_ {A = ℕ} 0 1 = cc in omega arith)
+passed false f r e = (refl, e)
+
+pub passed-tests : {A : Type 0} (row : Bool) (v : Values) (vars p : ℕ) (r : Read A) {x : A} → cellTests row v vars p r ≡ read x → r ≡ read x
+passed-tests row v vars p r e =
+    let a = passed (eqb (v .kind) 3) _ _ e in
+    let b = passed (eqb (v .kind) 0 && ltb vars (v .number)) _ _ (a .1) in
+    passed (row && (eqb (v .kind) 0 && ltb (v .number) vars)) _ _ (b .1) .1
+
+-- and what is read after another reading has that one first
+pub first : {A B : Type 0} (r : Read A) (f : A → Read B) {y : B} → andThen r f ≡ read y → (x : A) × (r ≡ read x) × (f x ≡ read y)
+first (read x) f e = (x, refl, e)
+first (refuse s) f e = absurd (let z : _≡_ {A = ℕ} 0 1 = cc in omega arith)
+
+-- a number that is not outside its bounds
+pub inside : (n low high : ℕ) → (ltb n low || ltb high n) ≡ false → (low ≤ n) × (n ≤ high)
+inside n low high e = let p = both (ltb n low) (ltb high n) e in (ltb-false n low (p .0), ltb-false high n (p .1))
+  where
+    both : (a b : Bool) → (a || b) ≡ false → (a ≡ false) × (b ≡ false)
+    both true b h = absurd (let z : _≡_ {A = ℕ} 0 1 = cc in omega arith)
+    both false b h = (refl, h)
+
+pub within-bounds : (n low high : ℕ) → low ≤ n → n ≤ high → (ltb n low || ltb high n) ≡ false
+within-bounds n low high l h = rw (le-ltb n low l, le-ltb high n h)

@@ -1,0 +1,49 @@
+-- A table and a goal, by the first test that fails.
+use mathlib.Core.Path.{_≡_}
+use mathlib.Core.Bool.{true, false, _||_}
+use mathlib.Core.List.{List}
+use Prim.Native.Nat.{ℕ, _≤_, _<_}
+use lib.Dec.{ltb}
+use lib.ListN.{length, getD, drop}
+use borrow.Author.Tests.{lt-ltb, le-ltb}
+use Rattle.table.specs.Refusal.{Refused, refused}
+use Rattle.table.specs.Read.{read, refuse, andThen}
+use Rattle.table.specs.Table.{met, table, termsFrom, rowsFrom, tableOf, goalOf}
+
+module _ (t : List ℕ) where
+  pub table-length : (ltb (length t) 2 || ltb 2050 (length t)) ≡ true → tableOf t ≡ refuse (refused 1 1 0)
+  unfolding tableOf
+  table-length a = rw a
+
+  module _ (a : (ltb (length t) 2 || ltb 2050 (length t)) ≡ false) where
+    pub table-width : (ltb (getD t 0 0) 1 || ltb 8 (getD t 0 0)) ≡ true → tableOf t ≡ refuse (refused 2 1 0)
+    unfolding tableOf
+    table-width b = rw (a, b)
+
+    module _ (b : (ltb (getD t 0 0) 1 || ltb 8 (getD t 0 0)) ≡ false) where
+      pub table-count : (ltb (getD t 1 0) 1 || ltb 64 (getD t 1 0)) ≡ true → tableOf t ≡ refuse (refused 3 1 1)
+      unfolding tableOf
+      table-count c = rw (a, b, c)
+
+      pub table-rows : (ltb (getD t 1 0) 1 || ltb 64 (getD t 1 0)) ≡ false
+          → tableOf t ≡ andThen (rowsFrom (getD t 0 0) (getD t 1 0) (drop 2 t) 2) (λ (rows : List (List ℕ)). read (table (getD t 0 0) rows))
+      unfolding tableOf
+      table-rows c = rw (a, b, c)
+
+module _ (w : ℕ) (g : List ℕ) where
+  pub goal-length : (ltb (length g) 1 || ltb 32 (length g)) ≡ true → goalOf w g ≡ refuse (refused 1 3 0)
+  unfolding goalOf
+  goal-length a = rw a
+
+  module _ (a : (ltb (length g) 1 || ltb 32 (length g)) ≡ false) where
+    pub goal-turned : {f : Refused} → termsFrom false g w 0 0 0 ≡ refuse f → goalOf w g ≡ refuse f
+    unfolding goalOf
+    goal-turned e = rw (a, e)
+
+    pub goal-extra : {e v : ℕ} → termsFrom false g w 0 0 0 ≡ read (met e v) → e < length g → goalOf w g ≡ refuse (refused 9 3 e)
+    unfolding goalOf
+    goal-extra e h = rw (a, e, lt-ltb _ (length g) h)
+
+    pub goal-whole : {e v : ℕ} → termsFrom false g w 0 0 0 ≡ read (met e v) → length g ≤ e → goalOf w g ≡ read v
+    unfolding goalOf
+    goal-whole e h = rw (a, e, le-ltb _ (length g) h)

@@ -1,0 +1,86 @@
+use mathlib.Core.Path.{_≡_, sym, _∙_, ap}
+use native.Mathlib.Omega.{arith}
+use native.Mathlib.Numerals.{add-one}
+use Rattle.cell.specs.Cell.{values, valuesAt, valuesOf}
+use Rattle.table.specs.Read.{read, refuse}
+use Rattle.table.proofs.LooksLaws.{not-cell, a-name, a-number, fresh, new, twice, again}
+use borrow.Author.Needs.{needs}
+use Rattle.table.proofs.terms.test_cell.Statement.{statement}
+use Rattle.table.proofs.terms.test_cell.Tie as tie
+
+-- the cell is a variable
+variable : (c : tie.After-number) → valuesAt (c .before .before .before .args .c) ≡ values 0 0 (c .number .given .0 .0)
+variable c = sym (c .before .before .shape-of .ensures) ∙ ap valuesOf (c .number .given .1)
+
+shape-of-requires : tie.Need-shape-of-requires
+shape-of-requires c κs = search needs
+
+enum-known-number : tie.Need-enum-known-number
+enum-known-number c = search needs
+
+cast-n : tie.Need-cast-n
+cast-n c = search needs
+
+refusal-requires : tie.Need-refusal-requires
+refusal-requires c κs = search needs
+
+returns : tie.Need-returns
+returns c = ap refuse (c .refusal .ensures) ∙ sym (fresh _ _ _ _ (variable (c .before .before .before)) (c .before .if1 .taken))
+
+add-t12 : tie.Need-add-t12
+add-t12 c = search needs
+
+returns-2 : tie.Need-returns-2
+returns-2 c = ap read (add-one _) ∙ sym (new _ _ _ _ (variable (c .before .before .before)) (omega arith))
+
+refusal-requires-2 : tie.Need-refusal-requires-2
+refusal-requires-2 c κs = search needs
+
+returns-3 : tie.Need-returns-3
+returns-3 c = ap refuse (c .refusal2 .ensures) ∙ sym (twice _ _ _ _ (variable (c .before .before .before .before .before)) (omega arith) (c .before .if3 .taken))
+
+enum-told : tie.Need-enum-told
+enum-told c = search needs
+
+enum-told-2 : tie.Need-enum-told-2
+enum-told-2 c = search needs
+
+enum-told-3 : tie.Need-enum-told-3
+enum-told-3 c = search needs
+
+refusal-requires-3 : tie.Need-refusal-requires-3
+refusal-requires-3 c κs = search needs
+
+returns-4 : tie.Need-returns-4
+returns-4 c = sym (again _ _ _ _ (variable (c .before .before .before .before)) (omega arith) (c .if3 .left))
+
+returns-5 : tie.Need-returns-5
+returns-5 c = sym (a-name _ _ _ _ (sym (c .before .before .shape-of .ensures) ∙ ap valuesOf (c .enum-told .given .1)))
+
+returns-6 : tie.Need-returns-6
+returns-6 c = sym (a-number _ _ _ _ (sym (c .before .before .shape-of .ensures) ∙ ap valuesOf (c .enum-told2 .given .1)))
+
+returns-7 : tie.Need-returns-7
+returns-7 c = ap refuse (c .refusal3 .ensures) ∙ sym (not-cell _ _ _ _ (sym (c .before .before .before .shape-of .ensures) ∙ ap valuesOf (c .before .enum-told3 .given .1)))
+
+pub test-cell-spec : {M : Type 1} → statement M
+test-cell-spec =
+    tie.close
+    (tie.spec
+    shape-of-requires
+    enum-known-number
+    cast-n
+    refusal-requires
+    returns
+    add-t12
+    returns-2
+    refusal-requires-2
+    returns-3
+    enum-told
+    enum-told-2
+    enum-told-3
+    refusal-requires-3
+    returns-4
+    returns-5
+    returns-6
+    returns-7)
