@@ -20,7 +20,7 @@ use Rattle.plan.specs.Plans.{Plan, leaf, node, Branches, end, next, branches, b
 use Rattle.plan.proofs.RunsLaws.{Each, Fits, fits-some, runs-fit}
 use Rattle.plan.proofs.PlansLaws.{cost-plain}
 use Rattle.plan.proofs.SizeLaws.{bound}
-use Rattle.listing.specs.Listing.{decimal, symbolOf, symbol, field, line, linesIn, linesOf, header, refusal}
+use Rattle.listing.specs.Listing.{decimal, symbolOf, symbol, field, line, linesIn, linesOf, header, refusal, listingOf}
 use Rattle.listing.specs.Walk.{Within}
 use Rattle.listing.proofs.TextLaws.{decimal-small, decimal-more}
 use Rattle.listing.proofs.WalkLaws.{within, within-first}
@@ -58,6 +58,7 @@ symbol-few c = let v = values-small c in symbol-by c (reading c) (v .0) (v .1)
 
 -- a line has at most 21 bytes: `31 31 n65535/4 63-63`
 line-few : (depth index c first last : ℕ) → depth < 100 → index < 100 → first < 100 → last < 100 → length (line depth index c first last) ≤ 21
+unfolding line
 line-few depth index c first last hd hi hf hl =
     simp length-append (omega (arith, digits-few 1 depth hd, digits-few 1 index hi, symbol-few c, digits-few 1 first hf, digits-few 1 last hl))
 
@@ -99,12 +100,13 @@ mutual
 
 -- a header has at most 27 bytes: `rows 64 width 8 edges 2048`
 header-few : (rows width cost : ℕ) → rows < 100 → width < 10 → cost < 10000 → length (header rows width cost) ≤ 27
+unfolding header
 header-few rows width cost hr hw hc =
     simp length-append (omega (arith, digits-few 1 rows hr, digits-few 0 width hw, digits-few 3 cost hc))
 
 -- 01's longest listing, and any refusal of numbers of 64 bits
 pub listing-few : (T : Table) (p : Plan (T .width) (T .rows)) → All (Fits 32 (T .width)) (T .rows) → 0 < length (T .rows) → length (T .rows) ≤ 64 → T .width ≤ 8
-    → length (header (length (T .rows)) (T .width) (cost plain p) ++ linesIn p 0 0) ≤ 43035
+    → length (listingOf T p) ≤ 43035
 listing-few T p f h l w =
     let b = bound p 32 f h in
     let c : cost plain p ≤ 2048 = omega (arith, cost-plain p) in
@@ -113,4 +115,5 @@ listing-few T p f h l w =
     omega (arith, cost-plain p, length-append (header (length (T .rows)) (T .width) (cost plain p)) (linesIn p 0 0))
 
 pub refusal-few : (number place : ℕ) → number < 2 ^ 64 → place < 2 ^ 64 → length (refusal number place) ≤ 53
+unfolding refusal
 refusal-few number place hn hp = simp length-append (omega (arith, digits-few 19 number (omega arith), digits-few 19 place (omega arith)))

@@ -2,3 +2,4 @@ pub mod TextLaws
 pub mod WalkLaws
 pub mod LengthLaws
 pub mod CellsLaws
+pub mod Fixed

@@ -1,6 +1,6 @@
 -- The walk over a plan, case by case: what stands where in the plan, and what is written once the parts are.
 use mathlib.Core.Path.{_≡_, refl, sym, ap, _∙_}
-use mathlib.Core.List.{List, [], _∷_, _++_, append-assoc}
+use mathlib.Core.List.{List, [], _∷_, _++_, append-assoc, append-nil}
 use Prim.Native.Nat.{ℕ, suc, _+_, _-_, _≤_, _<_}
 use native.Mathlib.Nat.{add-zero}
 use native.Mathlib.Numerals.{add-one}
@@ -15,8 +15,8 @@ use Rattle.plan.specs.Plans.{Plan, leaf, node, Branches, end, next, write, writ
 use Rattle.plan.specs.Marks.{manyIn, manyOf}
 use Rattle.plan.proofs.RunsLaws.{Sized, rowsIn, group-sizes, group-rows}
 use Rattle.plan.proofs.MarksLaws.{many-length}
-use Rattle.listing.specs.Listing.{line, linesIn, linesOf}
-use Rattle.listing.specs.Walk.{Room, Put, Within, Ready, Readys, Walked}
+use Rattle.listing.specs.Listing.{line, linesIn, linesOf, header}
+use Rattle.listing.specs.Walk.{Room, Put, Within, Ready, Readys, Walked, Whole}
 use Rattle.listing.specs.declared.walk.Stand.{Stand}
 use Rattle.listing.proofs.TextLaws.{put-put, room-first, room-next}
 
@@ -242,4 +242,32 @@ module _ {plan many out : List ℕ} {places depth index left first at to : ℕ} 
           puts = rw lines (put-put p (put-put (q .puts) (x .puts)));
           past = omega (arith, x .past, q .past, ap length (f .cells), length-append (write (f .tree)) (writes (f .trees)));
         };
+      }
+
+-- the whole plan, once the header is put
+module _ {plan many out : List ℕ} {rows width cost : ℕ} where
+  pub record Begins (w : Whole plan many out rows width cost) (old : List ℕ) (to : ℕ) : Type 0 where
+    pub ready : Ready plan many old width 0 0 0 to
+    pub back : {new : List ℕ} {s : Stand} → Walked old new 0 to (write (ready .tree)) (linesIn (ready .tree) 0 0) s
+        → Put out new 0 (header rows width cost ++ linesIn (w .tree) 0 0) (s .to)
+
+  pub begins : {old : List ℕ} {to : ℕ} (w : Whole plan many out rows width cost) → Put out old 0 (header rows width cost) to → Begins w old to
+  begins w p =
+      record {
+        ready = record {
+          k = w .table .width;
+          rows = w .table .rows;
+          tree = w .tree;
+          rest = [];
+          marks = w .marks;
+          open-places = w .width-is;
+          cells = w .cells ∙ sym (append-nil (write (w .tree)));
+          marked = w .marked;
+          few = omega (arith, w .few);
+          deep = omega arith;
+          wide = omega (arith, w .width-is, w .narrow);
+          size = w .size;
+          room = room-next p (w .room);
+        };
+        back = λ x. put-put p (x .puts);
       }

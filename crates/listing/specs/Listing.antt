@@ -52,7 +52,7 @@ abbrev pub field : (n last : ℕ) → List ℕ
 field n last = decimal n ++ (last ∷ [])
 
 -- 01, "one line per branch ..: depth from 0, open place's index, symbol, first and last row", in the form of 01's example: `0 0 n1/0 0-1`
-abbrev pub line : (depth index cell first last : ℕ) → List ℕ
+unfoldable pub line : (depth index cell first last : ℕ) → List ℕ
 line depth index cell first last =
     field depth space ++ (field index space ++ (symbol cell ++ (space ∷ (field first dash ++ field last feed))))
 
@@ -85,12 +85,12 @@ abbrev pub atWord : List ℕ
 atWord = 32 ∷ 97 ∷ 116 ∷ 32 ∷ []
 
 -- 01, "It prints rows, width and cost": `rows 2 width 2 edges 3`
-abbrev pub header : (rows width cost : ℕ) → List ℕ
+unfoldable pub header : (rows width cost : ℕ) → List ℕ
 header rows width cost =
     rowsWord ++ (decimal rows ++ (widthWord ++ (decimal width ++ (edgesWord ++ field cost feed))))
 
 -- 01, "A refusal prints `refused N at K`"
-abbrev pub refusal : (number place : ℕ) → List ℕ
+unfoldable pub refusal : (number place : ℕ) → List ℕ
 refusal number place = refusedWord ++ (decimal number ++ (atWord ++ field place feed))
 
 -- 01, "reads a table as little-endian cells": four bytes to a cell, the least significant first
@@ -101,11 +101,15 @@ cellsOf (a ∷ b ∷ []) = []
 cellsOf (a ∷ b ∷ c ∷ []) = []
 cellsOf (a ∷ b ∷ c ∷ d ∷ bytes) = (a + 256 * (b + 256 * (c + 256 * d))) ∷ cellsOf bytes
 
+-- "It prints rows, width and cost, then one line per branch": the first state's branches are at depth 0, and its first row is row 0
+abbrev pub listingOf : (T : Table) → Plan (T .width) (T .rows) → List ℕ
+listingOf T tree = header (length (T .rows)) (T .width) (cost plain tree) ++ linesIn tree 0 0
+
 -- the listing of a table's cells: 01's line for a refusal; otherwise the header and the lines of the builder's plan, of which there is one
 pub data ListsTable (t : List ℕ) : List ℕ → Type 0 where
   refused : (f : Refused) → tableOf t ≡ refuse f → ListsTable t (refusal (f .number) (f .place))
   listed : (T : Table) (tree : Plan (T .width) (T .rows)) → tableOf t ≡ read T → Built plain tree
-      → ListsTable t (header (length (T .rows)) (T .width) (cost plain tree) ++ linesIn tree 0 0)
+      → ListsTable t (listingOf T tree)
 
 -- 01, "bytes not a multiple of four, or over 8,200"
 abbrev pub unread : List ℕ → Bool

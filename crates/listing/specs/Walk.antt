@@ -4,10 +4,11 @@ use mathlib.Core.Path.{_≡_}
 use mathlib.Core.List.{List, [], _∷_, _++_}
 use lib.ListN.{length, getD, drop}
 use lib.Seq.{sets}
+use Rattle.table.specs.Table.{Table}
 use Rattle.plan.specs.Runs.{Run}
 use Rattle.plan.specs.Plans.{Plan, Branches, write, writes}
 use Rattle.plan.specs.Marks.{manyIn, manyOf}
-use Rattle.listing.specs.Listing.{linesIn, linesOf}
+use Rattle.listing.specs.Listing.{linesIn, linesOf, header}
 use Rattle.listing.specs.declared.walk.Stand.{Stand}
 
 -- there is room for a text from a place on
@@ -66,3 +67,17 @@ pub record Readys (plan many out : List ℕ) (places depth index left first at t
 pub record Walked (old new : List ℕ) (at to : ℕ) (cells text : List ℕ) (r : Stand) : Type 0 where
   pub puts : Put old new to text (r .to)
   pub past : r .at ≡ at + length cells
+
+-- the plan of a table that is read, with its numbers of rows and what the header says, and room for the whole listing
+pub record Whole (plan many out : List ℕ) (rows width cost : ℕ) : Type 0 where
+  pub table : Table
+  pub tree : Plan (table .width) (table .rows)
+  pub marks : List ℕ
+  pub cells : plan ≡ write tree
+  pub marked : many ≡ manyIn tree ++ marks
+  pub rows-are : rows ≡ length (table .rows)
+  pub width-is : width ≡ table .width
+  pub few : length (table .rows) ≤ 64
+  pub narrow : table .width ≤ 8
+  pub size : length plan ≤ 6082
+  pub room : Room out 0 (header rows width cost ++ linesIn tree 0 0)

@@ -2,3 +2,53 @@
 mod cells;
 mod text;
 mod walk;
+
+ghost use mathlib.Core.Path.{_≡_};
+ghost use mathlib.Core.List.{_++_};
+ghost use Rattle.table.specs.Refusal.{numberOf};
+ghost use Rattle.listing.specs.Listing.{header, linesIn};
+ghost use Rattle.listing.specs.Walk.{Put, Whole};
+use crate::text::put_header;
+use crate::walk::state;
+use table::Reason;
+
+// 01's number of a refusal.
+fn number_of(reason: Reason) -> usize
+    ensures { λ r. ⌜ r ≡ numberOf reason ⌝ }
+{
+    match reason {
+        Reason::Length => 1,
+        Reason::Width => 2,
+        Reason::Count => 3,
+        Reason::Long => 4,
+        Reason::Short => 5,
+        Reason::Cell => 6,
+        Reason::Fresh => 7,
+        Reason::Twice => 8,
+        Reason::Extra => 9,
+        Reason::Size => 10,
+        Reason::Ends => 11,
+        Reason::Open => 12,
+        Reason::Edges => 13,
+        Reason::Label => 14,
+        Reason::Rows => 15,
+        Reason::Room => 16,
+    }
+}
+
+// The header and the lines of a plan.
+fn put_plan(
+    plan: &[u32],
+    many: &[u8; 6082],
+    out: &mut [u8],
+    rows: usize,
+    width: usize,
+    cost: usize,
+) -> usize
+    requires { ⌜ Whole (now plan) (now many) (now out) rows width cost ⌝ }
+    ensures { λ r. ⌜ ((w : Whole (now (plan .entry)) (now (many .entry)) (now (out .entry)) rows width cost) → Put (now (out .entry)) (now (out .exit)) 0 (header rows width cost ++ linesIn (w .tree) 0 0) r) ⌝ }
+{
+    let to = put_header(out, 0, rows, width, cost);
+    let s = state(plan, many, out, width, 0, 0, 0, to);
+    s.to
+}

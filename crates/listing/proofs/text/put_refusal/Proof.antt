@@ -1,3 +1,4 @@
+use Rattle.listing.specs.Listing.{refusal}
 use Rattle.listing.proofs.TextLaws.{put-put, room-first, room-next}
 use borrow.Author.Needs.{needs}
 use Rattle.listing.proofs.text.put_refusal.Statement.{statement}
@@ -7,9 +8,11 @@ slice-aggregate-put-word : tie.Need-slice-aggregate-put-word
 slice-aggregate-put-word c = search needs
 
 put-word-requires : tie.Need-put-word-requires
+unfolding refusal
 put-word-requires c κs = search needs
 
 put-decimal-requires : tie.Need-put-decimal-requires
+unfolding refusal
 put-decimal-requires c κs =
     let r0 = c .before .before .before .before .before .before .before .pre in
     let r1 = room-next (c .before .before .before .put-word .ensures) r0 in
@@ -19,6 +22,7 @@ slice-aggregate-put-word-2 : tie.Need-slice-aggregate-put-word-2
 slice-aggregate-put-word-2 c = search needs
 
 put-word-requires-2 : tie.Need-put-word-requires-2
+unfolding refusal
 put-word-requires-2 c κs =
     let r0 = c .before .before .before .before .before .before .before .before .before .before .before .before .pre in
     let r1 = room-next (c .before .before .before .before .before .before .before .before .put-word .ensures) r0 in
@@ -26,6 +30,7 @@ put-word-requires-2 c κs =
     room-first _ r2
 
 put-field-requires : tie.Need-put-field-requires
+unfolding refusal
 put-field-requires c κs =
     let r0 = c .before .before .before .before .before .before .before .before .before .before .before .before .before .before .before .before .pre in
     let r1 = room-next (c .before .before .before .before .before .before .before .before .before .before .before .before .put-word .ensures) r0 in
@@ -37,6 +42,7 @@ same-length : tie.Need-same-length
 same-length c = search needs
 
 returns : tie.Need-returns
+unfolding refusal
 returns c = put-put (c .before .before .before .before .before .before .before .before .before .before .before .before .before .before .before .put-word .ensures) (put-put (c .before .before .before .before .before .before .before .before .before .before .before .put-decimal .ensures) (put-put (c .before .before .before .before .before .before .put-word2 .ensures) (c .before .before .put-field .ensures)))
 
 pub put-refusal-spec : {M : Type 1} → statement M
