@@ -1,18 +1,15 @@
 -- Any bytes have one listing, and what is written of it is fixed: how many bytes, and every byte of the room.
 use mathlib.Core.Path.{_≡_, refl, sym, ap, pathJ, _∙_}
-use mathlib.Core.Bool.{true, false}
 use mathlib.Core.List.{List, _++_}
 use Prim.Native.Nat.{ℕ}
 use native.Mathlib.Omega.{arith}
 use lib.ListN.{length, drop}
-use Rattle.table.specs.Refusal.{Refused}
-use Rattle.table.specs.Read.{read, refuse}
-use Rattle.table.specs.Table.{Table, tableOf}
+use Rattle.table.specs.Table.{Table}
 use Rattle.table.proofs.ReadLaws.{apart, read-one}
 use Rattle.plan.specs.Plans.{Plan, plain}
 use Rattle.least.specs.Least.{Built}
 use Rattle.least.proofs.Building.{built-one}
-use Rattle.listing.specs.Listing.{refusal, listingOf, ListsTable, refused, listed, unread, Lists, no-cells, cells, Written}
+use Rattle.listing.specs.Listing.{listingOf, ListsTable, refused, listed, Lists, no-cells, cells, Written}
 
 listing-one : (T : Table) (p : Plan (T .width) (T .rows)) → Built plain p → (T′ : Table) → T ≡ T′ → (q : Plan (T′ .width) (T′ .rows)) → Built plain q
     → listingOf T p ≡ listingOf T′ q

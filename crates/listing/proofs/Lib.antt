@@ -3,3 +3,4 @@ pub mod WalkLaws
 pub mod LengthLaws
 pub mod CellsLaws
 pub mod Fixed
+pub mod Examples

@@ -3,24 +3,16 @@ use Rattle.listing.proofs.WalkLaws.{begins}
 use borrow.Author.Needs.{needs}
 use Rattle.listing.proofs.put_plan.Statement.{statement}
 use Rattle.listing.proofs.put_plan.Tie as tie
-use Rattle.listing.proofs.put_plan.Reads as reads
-use Rattle.listing.proofs.put_plan.Lts as lts
-use Rattle.listing.proofs.text.put_header.Reads as put-header-reads
-use Rattle.listing.proofs.walk.state.Reads as state-reads
 
--- src/lib.rt:51:9
 put-header-requires : tie.Need-put-header-requires
 put-header-requires c κs = room-first _ (c .before .before .before .pre .room)
 
--- src/lib.rt:52:9
 state-requires : tie.Need-state-requires
 state-requires c κs = begins (c .before .before .before .before .before .before .before .pre) (c .before .before .before .put-header .ensures) .ready
 
--- src/lib.rt:40:1
 same-length : tie.Need-same-length
 same-length c = search needs
 
--- src/lib.rt:40:1
 returns : tie.Need-returns
 returns c =
     λ w.
