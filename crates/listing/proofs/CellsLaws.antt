@@ -1,7 +1,7 @@
 -- Bytes as cells, four by four.
 use mathlib.Core.Path.{_≡_}
 use mathlib.Core.List.{List, [], _∷_}
-use Prim.Native.Nat.{ℕ, suc, _+_, _≤_}
+use Prim.Native.Nat.{ℕ, suc, _+_, _*_, _≤_}
 use native.Mathlib.Numerals.{add-one}
 use native.Mathlib.Omega.{arith}
 use lib.ListN.{length, getD, set, drop, drop-of-length-le}
@@ -32,3 +32,12 @@ put-step cells bytes n at r h e = rw (cells-step bytes at h, e, add-one n)
 
 pub put-end : (cells bytes : List ℕ) (n at : ℕ) → length bytes ≤ at → sets cells n (cellsOf (drop at bytes)) ≡ cells
 put-end cells bytes n at h = rw (cells-end bytes at h)
+
+-- a cell takes four bytes
+pub cells-length : (bytes : List ℕ) → 4 * length (cellsOf bytes) ≤ length bytes
+unfolding cellsOf
+cells-length [] = omega arith
+cells-length (a ∷ []) = omega arith
+cells-length (a ∷ b ∷ []) = omega arith
+cells-length (a ∷ b ∷ c ∷ []) = omega arith
+cells-length (a ∷ b ∷ c ∷ d ∷ bytes) = omega (arith, cells-length bytes)

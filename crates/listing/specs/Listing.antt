@@ -4,7 +4,7 @@ use mathlib.Core.Path.{_≡_}
 use mathlib.Core.Bool.{Bool, true, false, cond, not, _||_}
 use mathlib.Core.List.{List, [], _∷_, _++_}
 use lib.Dec.{eqb, ltb}
-use lib.ListN.{length, drop}
+use lib.ListN.{length, take, drop}
 use Rattle.cell.specs.Cell.{Values, valuesAt}
 use Rattle.table.specs.Refusal.{Refused}
 use Rattle.table.specs.Read.{read, refuse}
@@ -127,3 +127,7 @@ pub record Written (Is : List ℕ → Type 0) (room room′ : List ℕ) (n : ℕ
   pub count : n ≡ length text
   pub fits : length text ≤ length room
   pub front : room′ ≡ text ++ drop (length text) room
+
+-- n counts bytes at the front of a list, in the two forms that a part of an array asks for; the second follows from the first
+abbrev pub Counts : ℕ → List ℕ → Type 0
+Counts n xs = (n ≤ length xs) × (n ≡ length (take n xs))

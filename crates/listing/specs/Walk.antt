@@ -4,10 +4,12 @@ use mathlib.Core.Path.{_≡_}
 use mathlib.Core.List.{List, [], _∷_, _++_}
 use lib.ListN.{length, getD, drop}
 use lib.Seq.{sets}
-use Rattle.table.specs.Table.{Table}
+use Rattle.table.specs.Read.{read}
+use Rattle.table.specs.Table.{Table, tableOf}
 use Rattle.plan.specs.Runs.{Run}
-use Rattle.plan.specs.Plans.{Plan, Branches, write, writes}
+use Rattle.plan.specs.Plans.{Plan, Branches, write, writes, plain, cost}
 use Rattle.plan.specs.Marks.{manyIn, manyOf}
+use Rattle.least.specs.Least.{Built}
 use Rattle.listing.specs.Listing.{linesIn, linesOf, header}
 use Rattle.listing.specs.declared.walk.Stand.{Stand}
 
@@ -81,3 +83,13 @@ pub record Whole (plan many out : List ℕ) (rows width cost : ℕ) : Type 0 whe
   pub narrow : table .width ≤ 8
   pub size : length plan ≤ 6082
   pub room : Room out 0 (header rows width cost ++ linesIn tree 0 0)
+
+-- the builder's plan of a table that is read, and what it costs; room for any listing
+pub record Planned (t plan out : List ℕ) (costs : ℕ) : Type 0 where
+  pub table : Table
+  pub tree : Plan (table .width) (table .rows)
+  pub reads : tableOf t ≡ read table
+  pub built : Built plain tree
+  pub cells : plan ≡ write tree
+  pub costs-it : costs ≡ cost plain tree
+  pub room : 43035 ≤ length out

@@ -5,10 +5,13 @@ mod walk;
 
 ghost use mathlib.Core.Path.{_≡_};
 ghost use mathlib.Core.List.{_++_};
+ghost use Prim.Native.Nat.{_≤_};
+ghost use lib.ListN.{length};
 ghost use Rattle.table.specs.Refusal.{numberOf};
-ghost use Rattle.listing.specs.Listing.{header, linesIn};
+ghost use Rattle.listing.specs.Listing.{header, linesIn, refusal, Written};
 ghost use Rattle.listing.specs.Walk.{Put, Whole};
 use crate::text::put_header;
+use crate::text::put_refusal;
 use crate::walk::state;
 use table::Reason;
 
@@ -51,4 +54,12 @@ fn put_plan(
     let to = put_header(out, 0, rows, width, cost);
     let s = state(plan, many, out, width, 0, 0, 0, to);
     s.to
+}
+
+// The one line of a refusal.
+fn list_refusal(number: usize, place: usize, out: &mut [u8]) -> usize
+    requires { ⌜ 43035 ≤ length (now out) ⌝ }
+    ensures { λ r. ⌜ Written (_≡_ (refusal number place)) (now (out .entry)) (now (out .exit)) r ⌝ }
+{
+    put_refusal(out, 0, number, place)
 }
