@@ -7,4 +7,6 @@ pub mod Examples
 pub mod MaskLaws
 pub mod ColumnLaws
 pub mod RowsLaws
+pub mod StepLaws
+pub mod EntryLaws
 pub mod Fixed

@@ -3,25 +3,26 @@ use mathlib.Core.Path.{_≡_, refl, sym, ap, _∙_}
 use mathlib.Core.Logic.{_⊎_, inl, inr, ⊎-elim, by-cases}
 use mathlib.Core.Bool.{true, false, cond}
 use mathlib.Core.List.{List, [], _∷_}
-use Prim.Native.Nat.{ℕ, zero, suc, _+_, _-_, _*_, _/_, _%_, _^_, _≤_, _<_}
+use Prim.Native.Nat.{ℕ, zero, suc, _+_, _-_, _*_, _/_, _%_, _^_, _≤_, _<_, min}
 use native.Mathlib.Nat.{zero-add, add-zero, div-one}
 use native.Mathlib.Decide.{decLt}
 use native.Mathlib.Omega.{arith}
 use lib.Dec.{ltb}
-use lib.ListN.{length, getD, take, drop, drop-of-length-le}
-use lib.Seq.{drop-cons, drop-drop}
+use lib.ListN.{length, getD, take, drop, set, replicate, length-set, drop-of-length-le}
+use lib.Seq.{drop-cons, drop-drop, getD-set-same, getD-set-other}
 use lib.Pow.{pow-mono, pow-pos, shl-exact, shr-shr}
 use lib.Count.{trailingZeros, under}
-use borrow.Author.Tests.{eq-eqb, ne-eqb, lt-ltb}
+use borrow.Author.Tests.{eq-eqb, ne-eqb, lt-ltb, le-ltb}
 use Rattle.cell.specs.Cell.{arity}
 use Rattle.term.specs.Terms.{root, close}
-use Rattle.plan.specs.Mask.{odd, kept, bitFrom, bitAt, without, full}
+use Rattle.plan.specs.Mask.{odd, kept, bitFrom, bitAt, without, full, endAt, OpenRows, ClosedAt}
+use Rattle.plan.specs.declared.mask.Closed.{Closed}
 
-set : (m : ℕ) → m % 2 ≡ 1 → odd m ≡ true
-set m h = eq-eqb _ _ h
+is-odd : (m : ℕ) → m % 2 ≡ 1 → odd m ≡ true
+is-odd m h = eq-eqb _ _ h
 
-unset : (m : ℕ) → m % 2 ≡ 0 → odd m ≡ false
-unset m h = ne-eqb _ _ (λ (e : m % 2 ≡ 1). omega arith)
+is-even : (m : ℕ) → m % 2 ≡ 0 → odd m ≡ false
+is-even m h = ne-eqb _ _ (λ (e : m % 2 ≡ 1). omega arith)
 
 parity : (m : ℕ) → (m % 2 ≡ 1) ⊎ (m % 2 ≡ 0)
 parity m = go (m % 2) refl
@@ -32,11 +33,11 @@ parity m = go (m % 2) refl
 
 kept-set : (m c : ℕ) (xs : List ℕ) → m % 2 ≡ 1 → kept m (c ∷ xs) ≡ c ∷ kept (m / 2) xs
 unfolding kept
-kept-set m c xs h = rw (set m h)
+kept-set m c xs h = rw (is-odd m h)
 
 kept-unset : (m c : ℕ) (xs : List ℕ) → m % 2 ≡ 0 → kept m (c ∷ xs) ≡ kept (m / 2) xs
 unfolding kept
-kept-unset m c xs h = rw (unset m h)
+kept-unset m c xs h = rw (is-even m h)
 
 kept-nil : (m : ℕ) → kept m [] ≡ []
 unfolding kept
@@ -83,11 +84,11 @@ pub find : (i m : ℕ) (xs : List ℕ) (j : ℕ) → Found i m xs j (bitFrom j i
 unfolding bitFrom kept root close
 find i m [] j = nowhere refl refl
 find zero m (c ∷ xs) j =
-    ⊎-elim (λ h. rw (set m h) (here m c xs j h)) (λ h. rw (unset m h) (skip m c xs j h (find zero (m / 2) xs (j + 1)))) (parity m)
+    ⊎-elim (λ h. rw (is-odd m h) (here m c xs j h)) (λ h. rw (is-even m h) (skip m c xs j h (find zero (m / 2) xs (j + 1)))) (parity m)
 find (suc i) m (c ∷ xs) j =
     ⊎-elim
-    (λ h. rw (set m h) (pass m c xs j h (find (arity c + i) (m / 2) xs (j + 1))))
-    (λ h. rw (unset m h) (skip m c xs j h (find (suc i) (m / 2) xs (j + 1))))
+    (λ h. rw (is-odd m h) (pass m c xs j h (find (arity c + i) (m / 2) xs (j + 1))))
+    (λ h. rw (is-even m h) (skip m c xs j h (find (suc i) (m / 2) xs (j + 1))))
     (parity m)
 
 -- a bit of a mask is below 32
@@ -122,6 +123,9 @@ module _ (i m : ℕ) (xs : List ℕ) where
       go : {b : ℕ} → Found i m xs 0 b → kept (without m b) xs ≡ close i (kept m xs)
       go (nowhere r l) = sym l
       go (there d s p r l) = rw (zero-add, lt-ltb d 32 (bit-small d m h p)) (sym l)
+
+  pub closed-at : m < 2 ^ 32 → (r : Closed) → r .cell ≡ root i (kept m xs) → r .mask ≡ without m (bitAt i m xs) → ClosedAt i m xs r
+  closed-at h r c e = record { cell = c; mask = e; list = rw e (kept-without h) }
 
 -- the bit as it is shifted into place
 pub bit-shifted : (b : ℕ) → b < 32 → 1 * 2 ^ b % 2 ^ 32 ≡ 2 ^ b
@@ -162,8 +166,8 @@ bit-end i m xs start h = rw (drop-of-length-le xs h)
 bit-skip : (j i m : ℕ) (xs : List ℕ) → m % 2 ≡ 0 → bitFrom j i m xs ≡ bitFrom (j + 1) i (m / 2) (drop 1 xs)
 unfolding bitFrom
 bit-skip j i m [] h = refl
-bit-skip j zero m (c ∷ xs) h = rw (unset m h)
-bit-skip j (suc i) m (c ∷ xs) h = rw (unset m h)
+bit-skip j zero m (c ∷ xs) h = rw (is-even m h)
+bit-skip j (suc i) m (c ∷ xs) h = rw (is-even m h)
 
 -- all that are not open, before the next that is
 zeros : (n j i m : ℕ) (xs : List ℕ) → bitFrom j i m xs ≡ bitFrom (j + trailingZeros n m) i (m / 2 ^ trailingZeros n m) (drop (trailingZeros n m) xs)
@@ -220,7 +224,7 @@ module _ (xs : List ℕ) (start j i m : ℕ) (some : 0 < m) (small : m < 2 ^ 32)
   -- the open cell is the place
   pub bit-here : start + (j + z) < length xs → i ≡ 0 → bitFrom j i m (drop (start + j) xs) ≡ j + z
   unfolding bitFrom
-  bit-here h e = to-open ∙ rw (e, drop-cons xs (start + (j + z)) 0 h, set (m / 2 ^ z) is-open)
+  bit-here h e = to-open ∙ rw (e, drop-cons xs (start + (j + z)) 0 h, is-odd (m / 2 ^ z) is-open)
 
   -- the place is after it
   pub bit-more : start + (j + z) < length xs → 0 < i → bitFrom j i m (drop (start + j) xs)
@@ -233,4 +237,46 @@ module _ (xs : List ℕ) (start j i m : ℕ) (some : 0 < m) (small : m < 2 ^ 32)
       let c : a + (i - 1) ≡ i - 1 + a = omega arith in
       to-open
       ∙ ap (λ (i : ℕ). bitFrom (j + z) i (m / 2 ^ z) (drop (start + (j + z)) xs)) e
-      ∙ rw (drop-cons xs (start + (j + z)) 0 h, set (m / 2 ^ z) is-open, c, d)
+      ∙ rw (drop-cons xs (start + (j + z)) 0 h, is-odd (m / 2 ^ z) is-open, c, d)
+
+-- The loop that opens the rows, from the last of n to the first: the rows from `row` on have their masks, and the row before them ends at `end`.
+pub record Opening (ss : List ℕ) (n len : ℕ) (ms : List ℕ) (row end : ℕ) : Type 0 where
+  pub size : length ms ≡ 64
+  pub few : row ≤ n
+  pub here : end ≡ cond (ltb row n) (getD ss row 0) len
+  pub rows : (r : ℕ) → row ≤ r → r < n → getD ms r 0 ≡ full (endAt ss n len r - getD ss r 0)
+  pub others : (r : ℕ) → n ≤ r → getD ms r 0 ≡ 0
+
+module _ (ss : List ℕ) (n len : ℕ) where
+  pub opening-none : (row : ℕ) → row ≡ n → Opening ss n len (replicate 64 0) row len
+  opening-none row e = record {
+    size = refl;
+    few = omega arith;
+    here = rw (le-ltb row n (omega arith));
+    rows = λ r h l. absurd (omega arith);
+    others = λ r h. zero-at 64 r;
+  }
+    where
+      zero-at : (m r : ℕ) → _≡_ {A = ℕ} (getD (replicate m 0) r 0) 0
+      zero-at zero r = refl
+      zero-at (suc m) zero = refl
+      zero-at (suc m) (suc r) = zero-at m r
+
+  pub opening-one : (ms : List ℕ) (row end r m : ℕ) → r + 1 ≡ row → n ≤ 64 → m ≡ full (end - getD ss r 0) → Opening ss n len ms row end
+      → Opening ss n len (set ms r m) r (getD ss r 0)
+  opening-one ms row end r m q h e o = record {
+    size = length-set ms r m ∙ o .size;
+    few = omega (arith, o .few);
+    here = rw (lt-ltb r n (omega (arith, o .few)));
+    rows = at;
+    others = λ s l. getD-set-other ms r s m 0 (λ (z : s ≡ r). omega (arith, o .few)) ∙ o .others s l;
+  }
+    where
+      at : (s : ℕ) → r ≤ s → s < n → getD (set ms r m) s 0 ≡ full (endAt ss n len s - getD ss s 0)
+      at s a b =
+          by-cases (decLt r s)
+          (λ (l : r < s). getD-set-other ms r s m 0 (λ (z : s ≡ r). omega arith) ∙ o .rows s (omega arith) b)
+          (λ l. let z : s ≡ r = omega arith in rw z (getD-set-same ms r m 0 (omega (arith, o .size)) ∙ rw (e, o .here, q)))
+
+pub opening-all : {ss : List ℕ} {n len : ℕ} {ms : List ℕ} {row end : ℕ} → row ≡ 0 → Opening ss (min n 64) len ms row end → OpenRows ss n len ms
+opening-all e o = record { size = o .size; rows = λ r l. o .rows r (omega arith) l; others = o .others }

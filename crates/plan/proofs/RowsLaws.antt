@@ -1,17 +1,16 @@
 -- The rows of a state by their masks, their column, and their runs, as the check goes through them.
 use mathlib.Core.Path.{_≡_, refl, sym, ap, _∙_}
 use mathlib.Core.List.{List, [], _∷_}
-use Prim.Native.Nat.{ℕ, zero, suc, _+_, _-_, _≤_, _<_, _^_}
+use Prim.Native.Nat.{ℕ, zero, suc, _+_, _-_, _≤_, _<_}
 use native.Mathlib.Nat.{add-zero}
 use native.Mathlib.Omega.{arith}
 use lib.ListN.{length, getD, take, drop, set, length-set, length-drop}
 use lib.Seq.{take-nil, drop-cons, drop-drop, drop-set-lt, getD-set-same, getD-take, getD-drop, take-take, length-take-le}
 use Rattle.term.specs.Terms.{root, close}
 use Rattle.plan.specs.Runs.{run, runs}
-use Rattle.plan.specs.Mask.{bitAt, without}
+use Rattle.plan.specs.Mask.{kept}
 use Rattle.plan.specs.Column.{runLength, runCount, runsOn}
-use Rattle.plan.specs.States.{rowAt, rowsFrom, rowsIn, columnIn, runsIn, Closes}
-use Rattle.plan.proofs.MaskLaws.{kept-without}
+use Rattle.plan.specs.States.{rowAt, rowsFrom, rowsIn, columnIn, runsIn, Same, Closes}
 use Rattle.plan.proofs.ColumnLaws.{run-few, group-on, first-run, count-runs}
 
 -- the first row, and the others
@@ -108,7 +107,7 @@ run-number t ss ms hs first end l =
 -- Closing a place: the runs of the rows that are closed are the runs at that place.
 pub runs-closed : {t ss ms hs ms′ hs′ : List ℕ} {i first end : ℕ} → Closes t ss ms hs ms′ hs′ i first end
     → runs i (rowsIn t ss ms first end) ≡ runsIn t ss ms′ hs′ first end
-runs-closed {t} {ss} {ms} {i = i} {first} {end} c = group-on (root i) (close i) (rowsIn t ss ms first end) ∙ rw (← (c .column), ← (c .rows))
+runs-closed {t} {ss} {ms} {i = i} {first} {end} c = group-on (root i) (close i) (rowsIn t ss ms first end) ∙ rw (← (c .cells), ← (c .rows))
 
 -- lists that are the same up to a place are so up to an earlier one, and there
 module _ (ns ms : List ℕ) (r row : ℕ) (h : r < row) (e : take row ns ≡ take row ms) where
@@ -118,32 +117,46 @@ module _ (ns ms : List ℕ) (r row : ℕ) (h : r < row) (e : take row ns ≡ tak
   pub same-at : getD ns r 0 ≡ getD ms r 0
   same-at = sym (getD-take row ns r 0 h) ∙ ap (λ (l : List ℕ). getD l r 0) e ∙ getD-take row ms r 0 h
 
+-- a list is the same as itself, as one that is the same as it, and as one with a store before the place
+module _ (from : ℕ) where
+  pub same-self : (xs : List ℕ) → Same from xs xs
+  same-self xs = record { size = refl; after = refl }
+
+  pub same-then : {xs ys zs : List ℕ} → Same from xs ys → Same from ys zs → Same from xs zs
+  same-then a b = record { size = b .size ∙ a .size; after = b .after ∙ a .after }
+
+  pub same-store : {xs ys : List ℕ} (r x : ℕ) → r < from → Same from xs ys → Same from xs (set ys r x)
+  same-store {xs} {ys} r x h a = record { size = length-set ys r x ∙ a .size; after = drop-set-lt from ys r x h ∙ a .after }
+
+  pub same-later : {xs ys : List ℕ} (to : ℕ) → from ≤ to → Same from xs ys → Same to xs ys
+  same-later {xs} {ys} to h a =
+      let e : from + (to - from) ≡ to = omega arith in
+      record { size = a .size; after = rw e at (sym (drop-drop (to - from) from ys) ∙ ap (drop (to - from)) (a .after) ∙ drop-drop (to - from) from xs) }
+
 -- no row is closed, and one more before those that are
 module _ (t ss ms hs : List ℕ) (i : ℕ) where
   pub closes-none : (end : ℕ) → Closes t ss ms hs ms hs i end end
   closes-none end = record {
-    column = column-none hs end ∙ rw (rows-none t ss ms end);
+    cells = column-none hs end ∙ rw (rows-none t ss ms end);
     rows = rw (rows-none t ss ms end);
-    masks-after = refl;
-    column-after = refl;
+    masks = same-self end ms;
+    column = same-self end hs;
   }
 
-  pub closes-one : (ns ks : List ℕ) (r row end x m : ℕ) → r + 1 ≡ row → row ≤ end → end ≤ length ns → end ≤ length ks → getD ns r 0 ≡ getD ms r 0
-      → getD ns r 0 < 2 ^ 32 → x ≡ root i (rowAt t ss ns r) → m ≡ without (getD ns r 0) (bitAt i (getD ns r 0) (drop (getD ss r 0) t))
-      → Closes t ss ms hs ns ks i row end → Closes t ss ms hs (set ns r m) (set ks r x) i r end
-  closes-one ns ks r row end x m q h l k same small ex em c =
-      let u = c .column in
+  pub closes-one : (ns ks : List ℕ) (r row end x m : ℕ) → r + 1 ≡ row → row ≤ end → end ≤ length ms → end ≤ length hs → getD ns r 0 ≡ getD ms r 0
+      → x ≡ root i (rowAt t ss ns r) → kept m (drop (getD ss r 0) t) ≡ close i (rowAt t ss ns r) → Closes t ss ms hs ns ks i row end → Closes t ss ms hs (set ns r m) (set ks r x) i r end
+  closes-one ns ks r row end x m q h l k same ex here c =
+      let u = c .cells in
       let v = c .rows in
-      let lk : end ≤ length (set ks r x) = simp length-set k in
-      let kx = getD-set-same ks r x 0 (omega arith) in
-      let nm = getD-set-same ns r m 0 (omega arith) in
+      let lk : end ≤ length (set ks r x) = simp length-set (omega (arith, c .column .size)) in
+      let kx = getD-set-same ks r x 0 (omega (arith, c .column .size)) in
+      let nm = getD-set-same ns r m 0 (omega (arith, c .masks .size)) in
       let dk = drop-set-lt (r + 1) ks r x (omega arith) in
       let dn = drop-set-lt (r + 1) ns r m (omega arith) in
       let rest = rows-kept t ss ns (set ns r m) (end - (r + 1)) (r + 1) dn in
-      let here = kept-without i (getD ns r 0) (drop (getD ss r 0) t) small in
       record {
-        column = column-first (set ks r x) r end (omega arith) lk ∙ rw (kx, dk, q, u, rows-first t ss ms r end (omega arith), ex, same, q);
-        rows = rows-first t ss (set ns r m) r end (omega arith) ∙ rw (nm, rest, em, here, q, v, rows-first t ss ms r end (omega arith), same, q);
-        masks-after = drop-set-lt end ns r m (omega arith) ∙ c .masks-after;
-        column-after = drop-set-lt end ks r x (omega arith) ∙ c .column-after;
+        cells = column-first (set ks r x) r end (omega arith) lk ∙ rw (kx, dk, q, u, rows-first t ss ms r end (omega arith), ex, same, q);
+        rows = rows-first t ss (set ns r m) r end (omega arith) ∙ rw (nm, rest, here, q, v, rows-first t ss ms r end (omega arith), same, q);
+        masks = same-store end r m (omega arith) (c .masks);
+        column = same-store end r x (omega arith) (c .column);
       }

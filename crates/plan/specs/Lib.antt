@@ -6,3 +6,4 @@ pub mod Checked
 pub mod Mask
 pub mod Column
 pub mod States
+pub mod Steps

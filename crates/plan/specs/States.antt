@@ -27,9 +27,14 @@ columnIn hs first end = take (end - first) (drop first hs)
 abbrev pub runsIn : (t ss ms hs : List ℕ) → ℕ → ℕ → List Run
 runsIn t ss ms hs first end = runsOn (columnIn hs first end) (rowsIn t ss ms first end)
 
--- what closing place i of some rows makes of the masks ms and of the column hs; rows after them are as they were
+-- a list that has become another of its length, from a place on the same
+pub record Same (from : ℕ) (xs xs′ : List ℕ) : Type 0 where
+  pub size : length xs′ ≡ length xs
+  pub after : drop from xs′ ≡ drop from xs
+
+-- what closing place i of some rows makes of the masks ms and of the column hs
 pub record Closes (t ss ms hs ms′ hs′ : List ℕ) (i first end : ℕ) : Type 0 where
-  pub column : columnIn hs′ first end ≡ map (root i) (rowsIn t ss ms first end)
+  pub cells : columnIn hs′ first end ≡ map (root i) (rowsIn t ss ms first end)
   pub rows : rowsIn t ss ms′ first end ≡ map (close i) (rowsIn t ss ms first end)
-  pub masks-after : drop end ms′ ≡ drop end ms
-  pub column-after : drop end hs′ ≡ drop end hs
+  pub masks : Same end ms ms′
+  pub column : Same end hs hs′

@@ -2,14 +2,40 @@
 ghost use mathlib.Core.Path.{_≡_};
 ghost use Prim.Native.Nat.{_≤_};
 ghost use lib.ListN.{length};
+ghost use Rattle.table.specs.Refusal.{numberOf, told};
+ghost use Rattle.plan.specs.Check.{bad};
 ghost use Rattle.plan.specs.States.{Closes};
+ghost use Rattle.plan.specs.Steps.{Ready, ReadyIn, Done, DoneIn};
+use super::column::run_count;
+use super::column::run_length;
+use super::mask::close_at;
+use table::Input;
+use table::Reason;
+use table::Refusal;
+
+// A state that is read: its number of branches, and the place after it; or why the plan is turned away.
+pub enum Step {
+    Seen(usize, usize),
+    Refused(Refusal),
+}
+
+// A refusal of the plan.
+pub fn refusal(reason: Reason, place: usize) -> Refusal
+    ensures { λ r. ⌜ told r ≡ bad (numberOf reason) place ⌝ }
+{
+    Refusal {
+        reason,
+        input: Input::Plan,
+        place,
+    }
+}
 
 // Closes place i of the rows from first to before end: the cell that each has there goes into the column, and its bit out of its mask.
 fn close_rows(
     table: &[u32],
     starts: &[usize; 64],
-    masks: &mut [u32],
-    column: &mut [u32],
+    masks: &mut [u32; 64],
+    column: &mut [u32; 64],
     i: u32,
     first: usize,
     end: usize,
@@ -20,8 +46,125 @@ fn close_rows(
     let mut row = end;
     while first < row {
         row -= 1;
-        let closed = super::mask::close_at(table, starts[row], masks[row], i);
+        let closed = close_at(table, starts[row], masks[row], i);
         column[row] = closed.cell;
         masks[row] = closed.mask;
     }
+}
+
+// The state at place `at` of the plan, with k open places and the rows from first to before end. No cell of a state itself is a branch's: its marks are 0.
+pub fn state(
+    table: &[u32],
+    starts: &[usize; 64],
+    masks: &mut [u32; 64],
+    column: &mut [u32; 64],
+    plan: &[u32],
+    ends: &mut [u16; 6082],
+    many: &mut [u8; 6082],
+    first: usize,
+    end: usize,
+    k: usize,
+    at: usize,
+) -> Step
+    requires { ⌜ Ready (now table) (now starts) (now masks) (now column) (now plan) (now ends) (now many) first end k at ⌝ }
+    ensures { λ r. ⌜ Done (now (table .entry)) (now (starts .entry)) (now (masks .entry)) (now (column .entry)) (now (masks .exit)) (now (column .exit)) (now (plan .entry)) (now (ends .entry)) (now (many .entry)) (now (ends .exit)) (now (many .exit)) first end k at r ⌝ }
+{
+    if plan.len() <= at {
+        return Step::Refused(refusal(Reason::Ends, at));
+    }
+    ends[at] = 0;
+    many[at] = 0;
+    let next = at + 1;
+    let i = plan[at];
+    if k == 0 {
+        if i as usize != end - first {
+            return Step::Refused(refusal(Reason::Rows, at));
+        }
+        return Step::Seen(0, next);
+    }
+    if k <= i as usize {
+        return Step::Refused(refusal(Reason::Open, at));
+    }
+    if plan.len() <= next {
+        return Step::Refused(refusal(Reason::Ends, next));
+    }
+    ends[next] = 0;
+    many[next] = 0;
+    close_rows(table, starts, masks, column, i, first, end);
+    let cells = &column[..];
+    if plan[next] as usize != run_count(&cells[first..end]) {
+        return Step::Refused(refusal(Reason::Edges, next));
+    }
+    branches(
+        table,
+        starts,
+        masks,
+        column,
+        plan,
+        ends,
+        many,
+        first,
+        end,
+        k - 1,
+        at + 2,
+    )
+}
+
+// The branches from place `at` on, one for each run of the rows from first to before end; below each, k places are open beside its symbol's arguments.
+fn branches(
+    table: &[u32],
+    starts: &[usize; 64],
+    masks: &mut [u32; 64],
+    column: &mut [u32; 64],
+    plan: &[u32],
+    ends: &mut [u16; 6082],
+    many: &mut [u8; 6082],
+    first: usize,
+    end: usize,
+    k: usize,
+    at: usize,
+) -> Step
+    requires { ⌜ ReadyIn (now table) (now starts) (now masks) (now column) (now plan) (now ends) (now many) first end k at ⌝ }
+    ensures { λ r. ⌜ DoneIn (now (table .entry)) (now (starts .entry)) (now (masks .entry)) (now (column .entry)) (now (masks .exit)) (now (column .exit)) (now (plan .entry)) (now (ends .entry)) (now (many .entry)) (now (ends .exit)) (now (many .exit)) first end k at r ⌝ }
+{
+    let mut row = first;
+    let mut place = at;
+    let mut count = 0;
+    while row < end {
+        if plan.len() <= place {
+            return Step::Refused(refusal(Reason::Ends, place));
+        }
+        let c = column[row];
+        if plan[place] != c {
+            return Step::Refused(refusal(Reason::Label, place));
+        }
+        let cells = &column[..];
+        let n = run_length(&cells[row..end]);
+        let open = cell::arity_of(c) + k;
+        match state(
+            table,
+            starts,
+            masks,
+            column,
+            plan,
+            ends,
+            many,
+            row,
+            row + n,
+            open,
+            place + 1,
+        ) {
+            Step::Seen(below, next) => {
+                ends[place] = next as u16;
+                many[place] = n as u8;
+                count += 1 + below;
+                place = next;
+            }
+            Step::Refused(f) => {
+                return Step::Refused(f);
+            }
+        }
+        row += n;
+    }
+    Step::Seen(count, place)
 }

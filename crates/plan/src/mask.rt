@@ -1,14 +1,43 @@
 // A row's state as a mask of its open cells: bit j is set while cell j of the row is not yet looked at. A row has at most 32 cells.
 ghost use mathlib.Core.Path.{_≡_};
+ghost use Prim.Native.Nat.{_-_};
 ghost use lib.ListN.{drop};
-ghost use Rattle.term.specs.Terms.{root};
-ghost use Rattle.plan.specs.Mask.{kept, bitAt, without, full};
+ghost use Rattle.plan.specs.Mask.{bitAt, full, OpenRows, ClosedAt};
 
 // The mask of a row of n cells, all of them open.
 pub fn row_mask(n: usize) -> u32
     ensures { λ r. ⌜ r ≡ full n ⌝ }
 {
     if n < 32 { (1 << n) - 1 } else { 0xffffffff }
+}
+
+// How many cells there are from one place to another.
+fn between(start: usize, end: usize) -> usize
+    ensures { λ r. ⌜ r ≡ end - start ⌝ }
+{
+    if start < end {
+        return end - start;
+    }
+    0
+}
+
+// The masks of a table's rows, all of their cells open: at most 64 rows that start as given, in a table of `length` cells.
+pub fn open_rows(starts: &[usize; 64], rows: usize, length: usize) -> [u32; 64]
+    ensures { λ r. ⌜ OpenRows (now (starts .entry)) rows length r ⌝ }
+{
+    let mut masks = [0; 64];
+    let mut row = 64;
+    if rows < 64 {
+        row = rows;
+    }
+    let mut end = length;
+    while 0 < row {
+        row -= 1;
+        let start = starts[row];
+        masks[row] = row_mask(between(start, end));
+        end = start;
+    }
+    masks
 }
 
 // The bit of the cell at open place i of the row that begins at `start`; 32 where there is no such place.
@@ -45,7 +74,7 @@ pub struct Closed {
 }
 
 pub fn close_at(cells: &[u32], start: usize, mask: u32, i: u32) -> Closed
-    ensures { λ r. ⌜ (r .cell ≡ root i (kept mask (drop start (now (cells .entry))))) × (r .mask ≡ without mask (bitAt i mask (drop start (now (cells .entry))))) ⌝ }
+    ensures { λ r. ⌜ ClosedAt i mask (drop start (now (cells .entry))) r ⌝ }
 {
     let bit = root_at(cells, start, mask, i);
     if bit < 32 {

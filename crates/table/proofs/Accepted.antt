@@ -1,20 +1,21 @@
 -- A table and a goal are accepted exactly when they are what 01 calls a table and a goal, and a table's rows are then those that are read.
 use mathlib.Core.Path.{_≡_, refl, sym, _∙_, ap}
 use mathlib.Core.Logic.{_↔_}
-use mathlib.Core.Bool.{false, _||_}
-use mathlib.Core.List.{List, [], _∷_, _++_, flatten, append-nil}
-use Prim.Native.Nat.{ℕ, suc, _+_, _-_, _*_, _≤_}
+use mathlib.Core.Bool.{true, false, _||_}
+use mathlib.Core.List.{List, [], _∷_, _++_, flatten, append-nil, List·Memᴰ}
+use Prim.Native.Nat.{ℕ, zero, suc, _+_, _*_, _≤_, _<_}
 use native.Mathlib.Omega.{arith}
 use lib.Dec.{ltb}
 use lib.ListN.{length, getD, drop, length-append}
 use borrow.Author.Tests.{le-ltb, ltb-false}
+use Rattle.cell.specs.Cell.{isVar}
 use Rattle.table.specs.All.{All}
 use Rattle.table.specs.Refusal.{refused}
 use Rattle.table.specs.Read.{read, when}
 use Rattle.table.specs.Table.{Met, met, Table, table, termsFrom, rowsFrom, tableOf, goalOf, appear, Head, Row, IsTable, IsGoal}
 use Rattle.table.proofs.ReadLaws.{passed, read-one, first, inside, within-bounds}
 use Rattle.table.proofs.WholeLaws.{terms-pass, Whole, whole}
-use Rattle.table.proofs.HeadLaws.{passed-head, head-passes}
+use Rattle.table.proofs.HeadLaws.{passed-head, head-passes, head-below, head-few}
 use Rattle.table.proofs.RowsLaws.{RowsAre, rows-are, are-rows}
 
 -- two cells, and what follows
@@ -89,13 +90,34 @@ is-goal w g {v} e =
         let q : g ≡ o .front .cells = o .front .split ∙ ap (λ (xs : List ℕ). o .front .cells ++ xs) z ∙ append-nil (o .front .cells) in
         rw q (passed-head (o .front .terms) (omega arith) false 0 (o .tested))
 
--- 01, "A goal is read with its table: width terms, 1 to 32 cells in all": a goal is accepted exactly when it is one
-goal-is : (w : ℕ) (g : List ℕ) → IsGoal w g → goalOf w g ≡ read (length (appear [] g))
+pub goal-is : (w : ℕ) (g : List ℕ) → IsGoal w g → goalOf w g ≡ read (length (appear [] g))
 unfolding goalOf
 goal-is w g i =
     let h : termsFrom false g w 0 0 0 ≡ read (met (0 + length g) (length (appear [] g))) =
     rw append-nil at (terms-pass (i .head .terms) [] false 0 0 0 (λ r. absurd (let z : _≡_ {A = ℕ} 0 1 = cc in omega arith))) ∙ rw (head-passes 0 (i .head)) in
     rw (within-bounds (length g) 1 32 (i .some) (i .head .short), h, le-ltb (0 + length g) (length g) (omega arith))
 
+-- 01, "A goal is read with its table: width terms, 1 to 32 cells in all": a goal is accepted exactly when it is one
 pub goal-accepted : (w : ℕ) (g : List ℕ) → ((v : ℕ) × (goalOf w g ≡ read v)) ↔ IsGoal w g
 goal-accepted w g = (λ r. is-goal w g (r .1) .0, λ i. (length (appear [] g), goal-is w g i))
+
+-- What an accepted table and goal have, for those who go on with them.
+
+pub all-at : {A : Type 0} (P : A → Type 0) (xs : List A) (i : ℕ) (d : A) → All P xs → i < length xs → P (getD xs i d)
+all-at P [] i d a h = absurd (omega arith)
+all-at P (x ∷ xs) zero d a h = a .0
+all-at P (x ∷ xs) (suc i) d a h = all-at P xs i d (a .1) (omega arith)
+
+-- each row of an accepted table is a row of 01
+pub accepted-row : (t : List ℕ) {T : Table} → tableOf t ≡ read T → (r : ℕ) → r < length (T .rows) → Row (T .width) (getD (T .rows) r [])
+accepted-row t {T} e r h = all-at (Row (T .width)) (T .rows) r [] (is-table t e .each) h
+
+-- a variable of a row or goal is numbered below 32, since there are no more cells
+pub few-variables : {w : ℕ} {xs : List ℕ} → Head w xs → (c : ℕ) → List·Memᴰ c xs → isVar c ≡ true → c < 32
+few-variables h c m i = omega (arith, head-below h c m i, head-few h)
+
+-- a goal's variables are numbered below the number of variables that is answered
+pub goal-variables : (w : ℕ) (g : List ℕ) {v : ℕ} → goalOf w g ≡ read v → (v ≤ 32) × ((c : ℕ) → List·Memᴰ c g → isVar c ≡ true → c < v)
+goal-variables w g e =
+    let i = is-goal w g e in
+    (omega (arith, i .1, head-few (i .0 .head)), λ c m j. omega (arith, i .1, head-below (i .0 .head) c m j))

@@ -5,5 +5,8 @@ pub mod SoundLaws
 pub mod HeadLaws
 pub mod RowsLaws
 pub mod TableLaws
-pub mod Accepted
 pub mod PartLaws
+pub mod RefusalLaws
+pub mod Accepted
+pub mod Fixed
+pub mod Examples

@@ -4,7 +4,7 @@ use Prim.Native.Nat.{_+_, _<_}
 use lib.ListN.{length, drop, length-drop}
 use lib.Seq.{getD-drop}
 use borrow.Author.Tests.{lt-ltb, le-ltb}
-use Rattle.plan.proofs.MaskLaws.{Open, found, not-found, bit-shifted}
+use Rattle.plan.proofs.MaskLaws.{Open, found, not-found, closed-at, bit-shifted}
 use borrow.Author.Needs.{needs}
 use Rattle.plan.proofs.mask.close_at.Statement.{statement}
 use Rattle.plan.proofs.mask.close_at.Tie as tie
@@ -44,18 +44,19 @@ sub-t13 c = omega (arith, there (c .before) .bit, bit-shifted (c .before .before
 returns : tie.Need-returns
 returns c =
     let a = c .before .before .before .before .args in
-    let b = c .before .before .root-at in (
-      sym (there (c .before) .cell ∙ getD-drop (a .start) (a .cells .now) (b .result) 0),
-      rw (bit-shifted (b .result) (omega arith), ← (b .ensures), lt-ltb _ _ (c .before .if1 .taken)),
-    )
+    let b = c .before .before .root-at in
+    closed-at (a .i) (a .mask) (drop (a .start) (a .cells .now)) (omega arith) _
+    (sym (there (c .before) .cell ∙ getD-drop (a .start) (a .cells .now) (b .result) 0))
+    (rw (bit-shifted (b .result) (omega arith), ← (b .ensures), lt-ltb _ _ (c .before .if1 .taken)))
 
 returns-2 : tie.Need-returns-2
 returns-2 c =
     let a = c .before .before .before .args in
-    let b = c .before .root-at in (
-      sym (not-found (a .i) (a .mask) (drop (a .start) (a .cells .now)) (b .result) (b .ensures) (omega arith) (c .if1 .left)),
-      rw (← (b .ensures), le-ltb _ _ (c .if1 .left)),
-    )
+    let b = c .before .root-at in
+    let xs = drop (a .start) (a .cells .now) in
+    closed-at (a .i) (a .mask) xs (omega arith) _
+    (sym (not-found (a .i) (a .mask) xs (b .result) (b .ensures) (omega arith) (c .if1 .left)))
+    (rw (← (b .ensures), le-ltb _ _ (c .if1 .left)))
 
 pub close-at-spec : {M : Type 1} → statement M
 close-at-spec =

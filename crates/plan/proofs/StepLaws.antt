@@ -1,0 +1,396 @@
+-- The check of a state, step by step: what each answer of the code makes of the reading and of the marks.
+use mathlib.Core.Path.{_≡_, refl, sym, ap, _∙_}
+use mathlib.Core.Logic.{_≢_, by-cases}
+use mathlib.Core.List.{List, [], _∷_, _++_, append-assoc}
+use Prim.Native.Nat.{ℕ, suc, _+_, _-_, _≤_, _<_}
+use native.Mathlib.Nat.{add-zero}
+use native.Mathlib.Decide.{decLt}
+use native.Mathlib.Omega.{arith}
+use lib.ListN.{length, getD, drop, set, length-set, length-drop, length-append}
+use lib.Seq.{sets, length-sets, set-comm, drop-cons}
+use Rattle.cell.specs.Cell.{arity}
+use Rattle.term.specs.Terms.{Terms, none, more, root, close}
+use Rattle.term.proofs.PlaceLaws.{close-terms, close-length}
+use Rattle.table.specs.All.{All}
+use Rattle.table.specs.Refusal.{Refused, told}
+use Rattle.table.specs.Read.{read, refuse}
+use Rattle.table.specs.declared.Refusal.{Refusal}
+use Rattle.plan.specs.Runs.{Run, run, runs}
+use Rattle.plan.specs.Plans.{Plan, leaf, node, Branches, end, next, write, writes, branches, branchesIn}
+use Rattle.plan.specs.Check.{Seen, seen, bad, branchesFrom, nodeFrom, stateFrom}
+use Rattle.plan.specs.Marks.{endsIn, endsOf, manyIn, manyOf}
+use Rattle.plan.specs.Column.{runLength, runCount}
+use Rattle.plan.specs.States.{rowsIn, columnIn, runsIn, Same, Closes}
+use Rattle.plan.specs.Steps.{saidBy, Fitting, Ready, ReadyIn, Stood, StoodIn, Notes, NotesIn, Done, DoneIn}
+use Rattle.plan.specs.declared.check.Step.{Step}
+use Rattle.plan.specs.declared.check.Step.the-variants as step
+use Rattle.plan.proofs.RunsLaws.{group-all}
+use Rattle.plan.proofs.CheckLaws.{leaf-ends, leaf-rows, leaf-read, node-ends, node-open, node-ends-2, node-edges, node-on, state-leaf, state-again, after, after-none, after-after, branches-ends, branches-label, branches-refused, branches-on}
+use Rattle.plan.proofs.MarksLaws.{ends-length, many-length}
+use Rattle.plan.proofs.RowsLaws.{rows-first, rows-length, rows-kept, FirstRun, run-first, run-number, runs-closed, same-self, same-then, same-later}
+
+-- Stores: one before others, and some after others.
+set-sets : (l : List ℕ) (i j x : ℕ) (ys : List ℕ) → i < j → set (sets l j ys) i x ≡ sets (set l i x) j ys
+set-sets l i j x [] h = refl
+set-sets l i j x (y ∷ ys) h =
+    set-sets (set l j y) i (suc j) x ys (omega arith) ∙ ap (λ (m : List ℕ). sets m (suc j) ys) (set-comm l j i y x (λ e. omega arith))
+
+sets-sets : (l : List ℕ) (i : ℕ) (xs ys : List ℕ) → sets (sets l i xs) (i + length xs) ys ≡ sets l i (xs ++ ys)
+sets-sets l i [] ys = rw add-zero
+sets-sets l i (x ∷ xs) ys = let e : i + suc (length xs) ≡ suc i + length xs = omega arith in rw e (sets-sets (set l i x) (suc i) xs ys)
+
+-- a branch's mark is stored when the state below it is done, and the marks of the other branches after it
+marks-next : (l l₁ l₂ xs ys : List ℕ) (at n m : ℕ) → l₁ ≡ sets l (at + 1) xs → n ≡ at + 1 + length xs → l₂ ≡ sets (set l₁ at m) n ys → l₂ ≡ sets l at (m ∷ (xs ++ ys))
+marks-next l l₁ l₂ xs ys at n m a b c =
+    let e : at + 1 ≡ suc at = omega arith in
+    c ∙ rw (a, b, set-sets l at (at + 1) m xs (omega arith), e) (sets-sets (set l at m) (suc at) xs ys)
+
+-- a state's own cells have no mark
+marks-two : (l l₂ xs : List ℕ) (at : ℕ) → l₂ ≡ sets (set (set l at 0) (at + 1) 0) (at + 2) xs → l₂ ≡ sets l at (0 ∷ 0 ∷ xs)
+marks-two l l₂ xs at e =
+    let p : at + 1 ≡ suc at = omega arith in
+    let q : at + 2 ≡ suc (suc at) = omega arith in
+    rw (p, q) at e
+
+-- a plan has more cells than branches
+mutual
+  unfolding write branches
+
+  more-cells : {k : ℕ} {rows : List (List ℕ)} (t : Plan k rows) → branches t < length (write t)
+  more-cells leaf = omega arith
+  more-cells (node i h bs) = omega (arith, some-cells bs)
+
+  some-cells : {k : ℕ} {gs : List Run} (bs : Branches k gs) → branchesIn bs ≤ length (writes bs)
+  some-cells end = omega arith
+  some-cells (next t bs) = omega (arith, more-cells t, some-cells bs, length-append (write t) (writes bs))
+
+-- The tree of a leaf, of an inner state from its branches, and of branches from the first and the others.
+leaf-stood : (k : ℕ) (rows : List (List ℕ)) (p es ns : List ℕ) (at : ℕ) → k ≡ 0 → at < length p → getD p at 0 ≡ length rows
+    → Stood k rows p es ns (set es at 0) (set ns at 0) at 0 (at + 1)
+unfolding write branches endsIn manyIn
+leaf-stood k rows p es ns at e h c =
+    let q : at + 1 ≡ suc at = omega arith in
+    rw e (record { tree = leaf; cells = drop-cons p at 0 h ∙ rw (c, q); count = refl; place = refl; ends = refl; many = refl })
+
+node-stood : (k : ℕ) (rows : List (List ℕ)) (p es ns es′ ns′ : List ℕ) (at b n : ℕ) → 0 < k → at + 1 < length p → getD p at 0 < k
+    → getD p (at + 1) 0 ≡ length (runs (getD p at 0) rows)
+    → StoodIn (k - 1) (runs (getD p at 0) rows) p (set (set es at 0) (at + 1) 0) (set (set ns at 0) (at + 1) 0) es′ ns′ (at + 2) b n
+    → Stood k rows p es ns es′ ns′ at b n
+unfolding write branches endsIn manyIn
+node-stood k rows p es ns es′ ns′ at b n l h i c s =
+    let e : k ≡ suc (k - 1) = omega arith in
+    let q : at + 1 ≡ suc at = omega arith in
+    let z : at + 2 ≡ suc (at + 1) = omega arith in
+    let d : drop at p ≡ getD p at 0 ∷ getD p (at + 1) 0 ∷ drop (at + 2) p = drop-cons p at 0 (omega arith) ∙ rw (z, ← q, drop-cons p (at + 1) 0 h) in
+    let inside : getD p at 0 ≤ k - 1 = omega arith in
+    rw e
+    (record {
+      tree = node {k = k - 1} (getD p at 0) inside (s .trees);
+      cells = d ∙ rw (c, s .cells);
+      count = s .count;
+      place = omega (arith, s .place);
+      ends = marks-two es es′ (endsOf (s .trees) (at + 2)) at (s .ends);
+      many = marks-two ns ns′ (manyOf (s .trees)) at (s .many);
+    })
+
+next-stood : {k : ℕ} {g : Run} {gs : List Run} {p es ns es₁ ns₁ es₂ ns₂ : List ℕ} {at b m n c : ℕ} → at < length p → getD p at 0 ≡ g .cell
+    → Stood (arity (g .cell) + k) (g .rows) p es ns es₁ ns₁ (at + 1) b n
+    → StoodIn k gs p (set es₁ at n) (set ns₁ at (length (g .rows))) es₂ ns₂ n c m → StoodIn k (g ∷ gs) p es ns es₂ ns₂ at (1 + b + c) m
+unfolding write branches endsIn manyIn
+next-stood {g = g} {p = p} {es} {ns} {es₁} {ns₁} {es₂} {ns₂} {at} {b} {m} {n} {c} h e s t =
+    let q : at + 1 ≡ suc at = omega arith in
+    let el = ends-length (s .tree) (at + 1) in
+    let ml = many-length (s .tree) in
+    let d : drop at p ≡ g .cell ∷ drop (at + 1) p = drop-cons p at 0 h ∙ rw (e, q) in
+    let w = append-assoc (write (s .tree)) (writes (t .trees)) (drop m p) in
+    let to : ℕ = at + 1 + length (write (s .tree)) in
+    let later = rw (s .place) at (t .ends) in
+    record {
+      trees = next (s .tree) (t .trees);
+      cells = d ∙ rw (s .cells, t .cells, w);
+      count = omega (arith, s .count, t .count);
+      place = omega (arith, s .place, t .place, length-append (write (s .tree)) (writes (t .trees)));
+      ends = marks-next es es₁ es₂ (endsIn (s .tree) (at + 1)) (endsOf (t .trees) to) at to to (s .ends) (omega arith) later;
+      many = marks-next ns ns₁ ns₂ (manyIn (s .tree)) (manyOf (t .trees)) at n (length (g .rows)) (s .many) (omega (arith, s .place)) (t .many);
+    }
+
+-- a row has no more open places than cells
+terms-few : {k : ℕ} {r : List ℕ} → Terms k r → k ≤ length r
+terms-few none = omega arith
+terms-few (more t) = omega (arith, terms-few t)
+
+-- A state that is turned away, whatever its masks, column and marks have become.
+pub refused-done : {t ss ms hs ms′ hs′ p es ns es′ ns′ : List ℕ} {first last k at : ℕ} {f : Refusal} (x : Refused)
+    → stateFrom 32 k (rowsIn t ss ms first last) at (drop at p) ≡ refuse x → told f ≡ x → Same last ms ms′ → Same last hs hs′
+    → Done t ss ms hs ms′ hs′ p es ns es′ ns′ first last k at (step.Refused f)
+refused-done x e q a b = record { says = e ∙ rw q; notes = tt; masks = a; column = b }
+
+module _ {t ss ms hs p es ns : List ℕ} {first last k at : ℕ} (w : Ready t ss ms hs p es ns first last k at) where
+  abbrev rows : List (List ℕ)
+  rows = rowsIn t ss ms first last
+
+  pub few-open : k ≤ 32
+  few-open = let f = rw (rows-first t ss ms first last (w .row)) at (w .rows) in omega (arith, terms-few (f .0 .0))
+
+  some-row : 0 < length rows
+  some-row = omega (arith, rows-length t ss ms (last - first) first, w .row)
+
+  abbrev as-node : 0 < k → stateFrom 32 k rows at (drop at p) ≡ nodeFrom (stateFrom 32) (k - 1) rows at (drop at p)
+  as-node l = state-again 32 k rows (w .rows) some-row l at (drop at p)
+
+  -- ENDS, at the state's first cell
+  pub done-ends : {f : Refusal} → length p ≤ at → told f ≡ bad 11 at → Done t ss ms hs ms hs p es ns es ns first last k at (step.Refused f)
+  done-ends h q = refused-done (bad 11 at) (by-cases (decLt 0 k) (λ l. as-node l ∙ node-ends (stateFrom 32) (k - 1) rows p at h)
+      (λ l. state-leaf 32 k rows at (drop at p) (omega arith) ∙ leaf-ends rows p at h)) q (same-self last ms) (same-self last hs)
+
+  -- a leaf: ROWS, or read
+  pub done-rows : {es′ ns′ : List ℕ} {f : Refusal} → k ≡ 0 → at < length p → getD p at 0 ≢ last - first → told f ≡ bad 15 at
+      → Done t ss ms hs ms hs p es ns es′ ns′ first last k at (step.Refused f)
+  done-rows e h c q =
+      let n = rows-length t ss ms (last - first) first in
+      refused-done (bad 15 at) (state-leaf 32 k rows at (drop at p) e ∙ leaf-rows rows p at h (λ (d : getD p at 0 ≡ length rows). c (d ∙ n))) q (same-self last ms) (same-self last hs)
+
+  pub done-leaf : k ≡ 0 → at < length p → getD p at 0 ≡ last - first
+      → Done t ss ms hs ms hs p es ns (set es at 0) (set ns at 0) first last k at (step.Seen 0 (at + 1))
+  done-leaf e h c =
+      let n : getD p at 0 ≡ length rows = c ∙ sym (rows-length t ss ms (last - first) first) in
+      record {
+        says = state-leaf 32 k rows at (drop at p) e ∙ leaf-read rows p at h n;
+        notes = leaf-stood k rows p es ns at e h n;
+        masks = same-self last ms;
+        column = same-self last hs;
+      }
+
+  -- an inner state: OPEN, ENDS at its second cell, EDGES, or its branches
+  pub done-open : {es′ ns′ : List ℕ} {f : Refusal} → 0 < k → at < length p → k ≤ getD p at 0 → told f ≡ bad 12 at
+      → Done t ss ms hs ms hs p es ns es′ ns′ first last k at (step.Refused f)
+  done-open l h i q = refused-done (bad 12 at) (as-node l ∙ node-open (stateFrom 32) (k - 1) rows p at h (omega arith)) q (same-self last ms) (same-self last hs)
+
+  pub done-ends-2 : {es′ ns′ : List ℕ} {f : Refusal} → 0 < k → at < length p → getD p at 0 < k → length p ≤ at + 1 → told f ≡ bad 11 (at + 1)
+      → Done t ss ms hs ms hs p es ns es′ ns′ first last k at (step.Refused f)
+  done-ends-2 l h i n q =
+      refused-done (bad 11 (at + 1)) (as-node l ∙ node-ends-2 (stateFrom 32) (k - 1) rows p at h n (omega arith)) q (same-self last ms) (same-self last hs)
+
+  module _ {ms₁ hs₁ : List ℕ} (l : 0 < k) (h : at + 1 < length p) (i : getD p at 0 < k) (c : Closes t ss ms hs ms₁ hs₁ (getD p at 0) first last) where
+    number : (n : ℕ) → n ≡ runCount (columnIn hs₁ first last) → n ≡ length (runs (getD p at 0) rows)
+    number n e =
+        let z : last ≤ length hs₁ = omega (arith, c .column .size, w .room .column, w .room .few) in
+        e ∙ sym (run-number t ss ms₁ hs₁ first last z) ∙ ap length (sym (runs-closed c))
+
+    pub done-edges : {es′ ns′ : List ℕ} {f : Refusal} (n : ℕ) → n ≡ runCount (columnIn hs₁ first last) → getD p (at + 1) 0 ≢ n → told f ≡ bad 13 (at + 1)
+        → Done t ss ms hs ms₁ hs₁ p es ns es′ ns′ first last k at (step.Refused f)
+    done-edges n e d q =
+        refused-done (bad 13 (at + 1))
+        (as-node l ∙ node-edges (stateFrom 32) (k - 1) rows p at h (omega arith) (λ (x : getD p (at + 1) 0 ≡ length (runs (getD p at 0) rows)). d (x ∙ sym (number n e))))
+        q (c .masks) (c .column)
+
+    -- the rows below each branch fit
+    pub ready-branches : ReadyIn t ss ms₁ hs₁ p (set (set es at 0) (at + 1) 0) (set (set ns at 0) (at + 1) 0) first last (k - 1) (at + 2)
+    ready-branches = record {
+      room = record {
+        masks = c .masks .size ∙ w .room .masks;
+        column = c .column .size ∙ w .room .column;
+        ends = simp length-set (w .room .ends);
+        many = simp length-set (w .room .many);
+        size = w .room .size;
+        here = omega arith;
+        few = w .room .few;
+        some = w .room .some;
+      };
+      runs = rw (runs-closed c) at fit;
+    }
+      where
+        below : (r : List ℕ) → Fitting k r → Fitting (arity (root (getD p at 0) r) + (k - 1)) (close (getD p at 0) r)
+        below r f =
+            let e : k ≡ suc (k - 1) = omega arith in
+            (close-terms (getD p at 0) (rw e at (f .0)) (omega arith), omega (arith, close-length (getD p at 0) (f .0) i))
+
+        fit : All (λ (g : Run). All (Fitting (arity (g .cell) + (k - 1))) (g .rows)) (runs (getD p at 0) rows)
+        fit = group-all (root (getD p at 0)) (close (getD p at 0)) (Fitting k) (λ (c : ℕ). Fitting (arity c + (k - 1))) below rows (w .rows)
+
+    pub done-node : {ms₂ hs₂ es₂ ns₂ : List ℕ} {r : Step} (n : ℕ) → n ≡ runCount (columnIn hs₁ first last) → getD p (at + 1) 0 ≡ n
+        → DoneIn t ss ms₁ hs₁ ms₂ hs₂ p (set (set es at 0) (at + 1) 0) (set (set ns at 0) (at + 1) 0) es₂ ns₂ first last (k - 1) (at + 2) r
+        → Done t ss ms hs ms₂ hs₂ p es ns es₂ ns₂ first last k at r
+    done-node {es₂ = es₂} {ns₂} {r} n e d b =
+        let g = runs-closed c in
+        let m = d ∙ number n e in
+        let s = rw (← g) at (b .notes) in
+        record {
+          says = as-node l ∙ node-on (stateFrom 32) (k - 1) rows p at h (omega arith) m ∙ rw g (b .says);
+          notes = up m r s;
+          masks = same-then last (c .masks) (b .masks);
+          column = same-then last (c .column) (b .column);
+        }
+      where
+        up : getD p (at + 1) 0 ≡ length (runs (getD p at 0) rows) → (r : Step)
+            → NotesIn (k - 1) (runs (getD p at 0) rows) p (set (set es at 0) (at + 1) 0) (set (set ns at 0) (at + 1) 0) es₂ ns₂ (at + 2) r → Notes k rows p es ns es₂ ns₂ at r
+        up m (step.Seen b n) s = node-stood k rows p es ns es₂ ns₂ at b n l h i m s
+        up m (step.Refused f) s = tt
+
+-- The loop over the branches. Rows from first to before row are done: what is left of the work, from row and place on, is all of it, but for the
+-- branches counted so far. The lists are those where the loop begins, and as they are now.
+pub record Going (t ss p ms hs es ns : List ℕ) (first last k at : ℕ) (ms₁ hs₁ es₁ ns₁ : List ℕ) (row place count : ℕ) : Type 0 where
+  pub ready : ReadyIn t ss ms₁ hs₁ p es₁ ns₁ row last k place
+  pub later : at ≤ place
+  pub few : count ≤ place
+  pub masks : Same last ms ms₁
+  pub column : Same last hs hs₁
+  pub says : after count (branchesFrom (stateFrom 32) k (runsIn t ss ms₁ hs₁ row last) place (drop place p))
+      ≡ branchesFrom (stateFrom 32) k (runsIn t ss ms hs first last) at (drop at p)
+  pub notes : (es′ ns′ : List ℕ) (b n : ℕ) → StoodIn k (runsIn t ss ms₁ hs₁ row last) p es₁ ns₁ es′ ns′ place b n
+      → StoodIn k (runsIn t ss ms hs first last) p es ns es′ ns′ at (count + b) n
+
+pub going-start : {t ss ms hs p es ns : List ℕ} {first last k at : ℕ} → ReadyIn t ss ms hs p es ns first last k at
+    → Going t ss p ms hs es ns first last k at ms hs es ns first at 0
+going-start {t} {ss} {ms} {hs} {p} {first = first} {last} {k} {at} w = record {
+  ready = w;
+  later = omega arith;
+  few = omega arith;
+  masks = same-self last ms;
+  column = same-self last hs;
+  says = after-none (branchesFrom (stateFrom 32) k (runsIn t ss ms hs first last) at (drop at p));
+  notes = λ es′ ns′ b n s. let e : 0 + b ≡ b = omega arith in rw e s;
+}
+
+module _ {t ss p ms hs es ns : List ℕ} {first last k at : ℕ} {ms₁ hs₁ es₁ ns₁ : List ℕ} {row place count : ℕ}
+    (g : Going t ss p ms hs es ns first last k at ms₁ hs₁ es₁ ns₁ row place count) where
+  abbrev left : List Run
+  left = runsIn t ss ms₁ hs₁ row last
+
+  -- what is left is turned away
+  going-refused : {ms₂ hs₂ es₂ ns₂ : List ℕ} {f : Refusal} (x : Refused) → branchesFrom (stateFrom 32) k left place (drop place p) ≡ refuse x → told f ≡ x
+      → Same last ms₁ ms₂ → Same last hs₁ hs₂ → DoneIn t ss ms hs ms₂ hs₂ p es ns es₂ ns₂ first last k at (step.Refused f)
+  going-refused x e q a b = record {
+    says = sym (g .says) ∙ rw (e, q);
+    notes = tt;
+    masks = same-then last (g .masks) a;
+    column = same-then last (g .column) b;
+  }
+
+  -- no row is left
+  pub going-done : last ≤ row → DoneIn t ss ms hs ms₁ hs₁ p es ns es₁ ns₁ first last k at (step.Seen count place)
+  unfolding write branches endsIn manyIn
+  going-done h =
+      let e : last - row ≡ 0 = omega arith in
+      let none : left ≡ [] = rw e in
+      let z : count + 0 ≡ count = omega arith in
+      let here = rw none at (g .says) in
+      let nothing : StoodIn k left p es₁ ns₁ es₁ ns₁ place 0 place =
+      rw none (record { trees = end; cells = refl; count = refl; place = omega arith; ends = refl; many = refl }) in
+      record {
+        says = sym here ∙ ap (λ (b : ℕ). read (seen b place (drop place p))) z;
+        notes = rw z at (g .notes es₁ ns₁ 0 place nothing);
+        masks = g .masks;
+        column = g .column;
+      }
+
+  module _ (h : row < last) where
+    abbrev c : ℕ
+    c = getD hs₁ row 0
+
+    abbrev one : ℕ → Run
+    one n = run c (rowsIn t ss ms₁ row (row + n))
+
+    abbrev rest : ℕ → List Run
+    rest n = runsIn t ss ms₁ hs₁ (row + n) last
+
+    -- the first of the runs that are left
+    pub going-run : (n : ℕ) → n ≡ runLength (columnIn hs₁ row last) → FirstRun t ss ms₁ hs₁ row last n
+    going-run n e = run-first t ss ms₁ hs₁ row last n h (omega (arith, g .ready .room .column, g .ready .room .few)) e
+
+    abbrev size : ℕ
+    size = runLength (columnIn hs₁ row last)
+
+    whole : FirstRun t ss ms₁ hs₁ row last size
+    whole = going-run size refl
+
+    -- ENDS, LABEL
+    pub going-ends : {f : Refusal} → length p ≤ place → told f ≡ bad 11 place → DoneIn t ss ms hs ms₁ hs₁ p es ns es₁ ns₁ first last k at (step.Refused f)
+    going-ends l q = going-refused (bad 11 place) (rw (whole .runs) (branches-ends (stateFrom 32) k (one size) (rest size) p place l)) q (same-self last ms₁) (same-self last hs₁)
+
+    pub going-label : {f : Refusal} → place < length p → getD p place 0 ≢ c → told f ≡ bad 14 place
+        → DoneIn t ss ms hs ms₁ hs₁ p es ns es₁ ns₁ first last k at (step.Refused f)
+    going-label l d q = going-refused (bad 14 place) (rw (whole .runs) (branches-label (stateFrom 32) k (one size) (rest size) p place l d)) q (same-self last ms₁) (same-self last hs₁)
+
+    module _ (l : place < length p) (d : getD p place 0 ≡ c) (n : ℕ) (r : FirstRun t ss ms₁ hs₁ row last n) where
+      -- the state below the branch
+      pub ready-below : Ready t ss ms₁ hs₁ p es₁ ns₁ row (row + n) (arity c + k) (place + 1)
+      ready-below = record {
+        room = record {
+          masks = g .ready .room .masks;
+          column = g .ready .room .column;
+          ends = g .ready .room .ends;
+          many = g .ready .room .many;
+          size = g .ready .room .size;
+          here = omega arith;
+          few = omega (arith, r .few, g .ready .room .few);
+          some = omega arith;
+        };
+        row = omega (arith, r .some);
+        rows = (rw (r .runs) at (g .ready .runs)) .0;
+      }
+
+      -- it is turned away
+      pub going-below : {ms₂ hs₂ es₂ ns₂ : List ℕ} {f : Refusal} {s : Step} → Done t ss ms₁ hs₁ ms₂ hs₂ p es₁ ns₁ es₂ ns₂ row (row + n) (arity c + k) (place + 1) s
+          → s ≡ step.Refused f → DoneIn t ss ms hs ms₂ hs₂ p es ns es₂ ns₂ first last k at (step.Refused f)
+      going-below {f = f} b e =
+          going-refused (told f) (rw (r .runs) (branches-refused (stateFrom 32) k (one n) (rest n) p place (told f) l d (b .says ∙ ap (saidBy p) e))) refl
+          (same-later (row + n) last (r .few) (b .masks))
+          (same-later (row + n) last (r .few) (b .column))
+
+      -- it is read: on with the runs after it
+      module _ {ms₂ hs₂ es₂ ns₂ : List ℕ} {b m : ℕ} {s : Step} (a : Done t ss ms₁ hs₁ ms₂ hs₂ p es₁ ns₁ es₂ ns₂ row (row + n) (arity c + k) (place + 1) s)
+          (e : s ≡ step.Seen b m) where
+        rest-kept : runsIn t ss ms₂ hs₂ (row + n) last ≡ rest n
+        rest-kept = rw (a .column .after, rows-kept t ss ms₁ ms₂ (last - (row + n)) (row + n) (a .masks .after))
+
+        stood : Stood (arity c + k) (rowsIn t ss ms₁ row (row + n)) p es₁ ns₁ es₂ ns₂ (place + 1) b m
+        stood = rw e at (a .notes)
+
+        -- the place after it, and its branches, are within the plan
+        pub going-next : (place < m) × (m ≤ length p) × (b < m - place)
+        going-next =
+            let cells = ap length (stood .cells) in
+            omega (arith, stood .place, stood .count, more-cells (stood .tree), simp (length-drop, length-append) at cells)
+
+        ready-next : ReadyIn t ss ms₂ hs₂ p (set es₂ place m) (set ns₂ place n) (row + n) last k m
+        ready-next = record {
+          room = record {
+            masks = a .masks .size ∙ g .ready .room .masks;
+            column = a .column .size ∙ g .ready .room .column;
+            ends = length-set es₂ place m ∙ ap length (stood .ends) ∙ length-sets es₁ (place + 1) (endsIn (stood .tree) (place + 1)) ∙ g .ready .room .ends;
+            many = length-set ns₂ place n ∙ ap length (stood .many) ∙ length-sets ns₁ (place + 1) (manyIn (stood .tree)) ∙ g .ready .room .many;
+            size = g .ready .room .size;
+            here = going-next .1;
+            few = g .ready .room .few;
+            some = r .few;
+          };
+          runs = rw rest-kept ((rw (r .runs) at (g .ready .runs)) .1);
+        }
+
+        says-next : after (count + (1 + b)) (branchesFrom (stateFrom 32) k (runsIn t ss ms₂ hs₂ (row + n) last) m (drop m p))
+            ≡ branchesFrom (stateFrom 32) k (runsIn t ss ms hs first last) at (drop at p)
+        says-next =
+            let q : count + (1 + b) ≡ count + (b + 1) = omega arith in
+            let on = branches-on (stateFrom 32) k (one n) (rest n) p place (seen b m (drop m p)) l d (a .says ∙ ap (saidBy p) e) in
+            rw (rest-kept, q) (sym (after-after count (b + 1) (branchesFrom (stateFrom 32) k (rest n) m (drop m p))) ∙ ap (after count) (sym on) ∙ (rw (r .runs) at (g .says)))
+
+        notes-next : (es′ ns′ : List ℕ) (b′ n′ : ℕ) → StoodIn k (runsIn t ss ms₂ hs₂ (row + n) last) p (set es₂ place m) (set ns₂ place n) es′ ns′ m b′ n′
+            → StoodIn k (runsIn t ss ms hs first last) p es ns es′ ns′ at (count + (1 + b) + b′) n′
+        notes-next es′ ns′ b′ n′ s′ =
+            let z : n ≡ length (rowsIn t ss ms₁ row (row + n)) = omega (arith, rows-length t ss ms₁ (row + n - row) row) in
+            let q : count + (1 + b + b′) ≡ count + (1 + b) + b′ = omega arith in
+            let t′ = ap (λ (x : ℕ). set ns₂ place x) z in
+            let u = rw (rest-kept, t′) at s′ in
+            rw q at (g .notes es′ ns′ (1 + b + b′) n′ (rw (r .runs) (next-stood l d stood u)))
+
+        pub going-on : Going t ss p ms hs es ns first last k at ms₂ hs₂ (set es₂ place m) (set ns₂ place n) (row + n) m (count + (1 + b))
+        going-on = record {
+          ready = ready-next;
+          later = omega (arith, g .later, going-next);
+          few = omega (arith, g .few, going-next);
+          masks = same-then last (g .masks) (same-later (row + n) last (r .few) (a .masks));
+          column = same-then last (g .column) (same-later (row + n) last (r .few) (a .column));
+          says = says-next;
+          notes = notes-next;
+        }

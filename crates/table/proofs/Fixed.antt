@@ -1,0 +1,52 @@
+-- Two results that a promise allows are equal, for every public function of the crate.
+use mathlib.Core.Path.{_≡_, sym, _∙_, ap, ap₂}
+use mathlib.Core.List.{List}
+use Prim.Native.Nat.{ℕ}
+use native.Mathlib.Omega.{arith}
+use Rattle.table.specs.declared.TableAnswer.{TableAnswer}
+use Rattle.table.specs.declared.TableAnswer.the-variants as table-answer
+use Rattle.table.specs.declared.TableRead.{TableRead}
+use Rattle.table.specs.declared.GoalAnswer.{GoalAnswer}
+use Rattle.table.specs.declared.GoalAnswer.the-variants as goal-answer
+use Rattle.table.specs.declared.Part.{Part}
+use Rattle.table.specs.Refusal.{told}
+use Rattle.table.specs.Table.{tableOf, goalOf, goalWith, tableTold, goalTold, goalSays, rowIn, TableReads, RowPlace}
+use Rattle.table.proofs.RefusalLaws.{told-one}
+use Rattle.table.proofs.PartLaws.{part}
+
+pub tableTold-one : (a b : TableAnswer) → tableTold a ≡ tableTold b → a ≡ b
+tableTold-one (table-answer.Accepted w n) (table-answer.Accepted u m) e = cc
+tableTold-one (table-answer.Accepted w n) (table-answer.Refused g) e = absurd (let z : _≡_ {A = ℕ} 0 1 = cc in omega arith)
+tableTold-one (table-answer.Refused f) (table-answer.Accepted u m) e = absurd (let z : _≡_ {A = ℕ} 0 1 = cc in omega arith)
+tableTold-one (table-answer.Refused f) (table-answer.Refused g) e = let q : told f ≡ told g = cc in ap table-answer.Refused (told-one q)
+
+pub goalTold-one : (a b : GoalAnswer) → goalTold a ≡ goalTold b → a ≡ b
+goalTold-one (goal-answer.Accepted w n) (goal-answer.Accepted u m) e = cc
+goalTold-one (goal-answer.Accepted w n) (goal-answer.Refused g) e = absurd (let z : _≡_ {A = ℕ} 0 1 = cc in omega arith)
+goalTold-one (goal-answer.Refused f) (goal-answer.Accepted u m) e = absurd (let z : _≡_ {A = ℕ} 0 1 = cc in omega arith)
+goalTold-one (goal-answer.Refused f) (goal-answer.Refused g) e = let q : told f ≡ told g = cc in ap goal-answer.Refused (told-one q)
+
+-- read_table
+pub table-fixed : (t : List ℕ) {r s : TableRead} → TableReads (tableOf t) r → TableReads (tableOf t) s → r ≡ s
+table-fixed t {r} {s} p q = ap₂ table-read (tableTold-one (r .answer) (s .answer) (p .answer ∙ sym (q .answer))) (p .starts ∙ sym (q .starts))
+  where
+    table-read : TableAnswer → List ℕ → TableRead
+    table-read a n = record { answer = a; starts = n }
+
+-- goal_for
+pub goal-for-fixed : (w : ℕ) (g : List ℕ) {r s : GoalAnswer} → goalTold r ≡ goalSays g (goalOf w g) → goalTold s ≡ goalSays g (goalOf w g) → r ≡ s
+goal-for-fixed w g {r} {s} p q = goalTold-one r s (p ∙ sym q)
+
+-- read_goal
+pub goal-fixed : (t g : List ℕ) {r s : GoalAnswer} → goalTold r ≡ goalSays g (goalWith t g) → goalTold s ≡ goalSays g (goalWith t g) → r ≡ s
+goal-fixed t g {r} {s} p q = goalTold-one r s (p ∙ sym q)
+
+-- row_place
+pub place-fixed : (t : List ℕ) (r : ℕ) {p q : Part} → RowPlace (tableOf t) r p → RowPlace (tableOf t) r q → p ≡ q
+place-fixed t r {p} {q} l m =
+    let a : p .start ≡ q .start = l .start ∙ sym (m .start) in
+    ap₂ part a (l .end ∙ rw a (sym (m .end)))
+
+-- row: the cells of the part that is handed out
+pub row-fixed : (t : List ℕ) (r : ℕ) {p q : List ℕ} → p ≡ rowIn (tableOf t) r → q ≡ rowIn (tableOf t) r → p ≡ q
+row-fixed t r p q = p ∙ sym q
