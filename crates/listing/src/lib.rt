@@ -8,8 +8,8 @@ ghost use mathlib.Core.List.{_++_};
 ghost use Prim.Native.Nat.{_≤_};
 ghost use lib.ListN.{length};
 ghost use Rattle.table.specs.Refusal.{numberOf};
-ghost use Rattle.listing.specs.Listing.{header, linesIn, refusal, Written};
-ghost use Rattle.listing.specs.Walk.{Put, Whole};
+ghost use Rattle.listing.specs.Listing.{Written, header, linesIn, listingOf, refusal};
+ghost use Rattle.listing.specs.Walk.{Put, Whole, Planned};
 use crate::text::put_header;
 use crate::text::put_refusal;
 use crate::walk::state;
@@ -54,6 +54,17 @@ fn put_plan(
     let to = put_header(out, 0, rows, width, cost);
     let s = state(plan, many, out, width, 0, 0, 0, to);
     s.to
+}
+
+// The listing of a plan that was built for the table. The check notes how many rows each branch has.
+fn list_plan(table: &[u32], plan: &[u32], out: &mut [u8], cost: usize) -> usize
+    requires { ⌜ Planned (now table) (now plan) (now out) cost ⌝ }
+    ensures { λ r. ⌜ ((w : Planned (now (table .entry)) (now (plan .entry)) (now (out .entry)) cost) → Written (_≡_ (listingOf (w .table) (w .tree))) (now (out .entry)) (now (out .exit)) r) ⌝ }
+{
+    let marks = plan::check_marked(table, plan);
+    let rows = marks.rows;
+    let width = marks.width;
+    put_plan(plan, &marks.many, out, rows, width, cost)
 }
 
 // The one line of a refusal.
