@@ -1,3 +1,17 @@
+pub mod BuildLaws
+pub mod PlannedLaws
+pub mod WritingLaws
+pub mod ChooseLaws
+pub mod AgreedLaws
+pub mod WorkedLaws
+pub mod PlacedLaws
+pub mod FilledLaws
+pub mod CheapLaws
+pub mod KeptLaws
+pub mod ScanningLaws
+pub mod StandLaws
+pub mod CursorsLaws
+pub mod SkipsLaws
 pub mod Minimum
 pub mod Best
 pub mod AllLaws

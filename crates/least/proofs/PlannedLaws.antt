@@ -1,0 +1,130 @@
+-- From a table that is read and its entries to the first state, and from what is written there to the builder's plan.
+use mathlib.Core.Path.{_≡_, refl, sym, ap, _∙_}
+use mathlib.Core.List.{List, _++_}
+use Prim.Native.Nat.{ℕ, zero, suc, _+_, _-_, _≤_, _<_}
+use native.Mathlib.Omega.{arith}
+use lib.ListN.{length, drop, replicate}
+use lib.Seq.{sets, slice, sets-eq, take-at, take-length}
+use Rattle.table.specs.All.{All}
+use Rattle.table.specs.Table.{Table, IsTable}
+use Rattle.table.proofs.Accepted.{is-table}
+use Rattle.plan.specs.Plans.{Plan, write, branches, plain}
+use Rattle.plan.specs.Mask.{OpenRows}
+use Rattle.plan.specs.States.{rowsIn}
+use Rattle.plan.specs.Steps.{TableRows}
+use Rattle.plan.proofs.RunsLaws.{Fits}
+use Rattle.plan.proofs.PlansLaws.{cost-plain}
+use Rattle.plan.proofs.SizeLaws.{size-bound}
+use Rattle.plan.proofs.CheckLaws.{rows-fit}
+use Rattle.plan.proofs.EntryLaws.{few-rows, rows-open}
+use Rattle.least.specs.Least.{Least, Built}
+use Rattle.least.specs.Entries.{Closes, stop}
+use Rattle.least.specs.Cursors.{keptIn}
+use Rattle.least.specs.Kept.{Filled, Kept}
+use Rattle.least.specs.Writing.{Source, ToWrite, Written, Planned}
+use Rattle.least.proofs.Best.{least-one}
+use Rattle.least.proofs.Building.{built-least}
+use Rattle.least.proofs.Builder.{plan-built}
+
+-- what is known of a state, of an equal one
+module _ {w w′ : ℕ} {rows rows′ : List (List ℕ)} (e : w ≡ w′) (f : rows ≡ rows′) where
+  same-plan : (p : Plan w′ rows′) → Built plain p → (q : Plan w rows) × Built plain q × (write q ≡ write p)
+  same-plan p b = rw (e, f) (p, b, refl)
+
+  same-fits : All (Fits 32 w′) rows′ → All (Fits 32 w) rows
+  same-fits a = rw (e, f) a
+
+  same-least : {v : ℕ} → Least plain w rows v → Least plain w′ rows′ v
+  same-least l = rw (← e, ← f) l
+
+same-rows : {w : ℕ} {rows rows′ : List (List ℕ)} → rows ≡ rows′ → Closes plain 0 w rows w rows′
+same-rows e = rw e stop
+
+module _ {t ss : List ℕ} {w n : ℕ} (k : TableRows t ss w n) where
+  abbrev T : Table
+  T = k .table
+
+  is : IsTable t (T .width) (T .rows)
+  is = is-table t (k .here)
+
+  fits : All (Fits 32 (T .width)) (T .rows)
+  fits = rows-fit (T .width) (T .rows) (is .each)
+
+  -- the builder's plan
+  pub record Builders : Type 0 where
+    pub plan : Plan (T .width) (T .rows)
+    pub built : Built plain plan
+    pub few : length (write plan) ≤ 6082
+
+  pub builders : Builders
+  builders =
+      let b = plan-built plain 32 (T .width) (T .rows) fits (is .count .0) in
+      record { plan = b .plan; built = b .built; few = size-bound (b .plan) fits (is .count .0) (is .count .1) }
+
+  module _ {cost place whole : List ℕ} (f : Filled w (T .rows) cost place whole 0 n) where
+    kept-at : (first last : ℕ) → first ≤ last → last < length (T .rows) → Kept w (T .rows) first last (keptIn cost first last) (keptIn place first last) (keptIn whole first last)
+    kept-at zero last o h = f .here last o (omega (arith, k .rows))
+    kept-at (suc j) last o h = f .past (suc j) last (omega arith) o h
+
+    source : Source place
+    source = record { width = w; rows = T .rows; many = is .count .1; places = λ first last o h. (keptIn cost first last, kept-at first last o h .entry) }
+
+    all-rows : slice 0 n (T .rows) ≡ T .rows
+    all-rows = ap (λ (m : ℕ). slice 0 m (T .rows)) (k .rows) ∙ take-length (T .rows)
+
+    -- the first state, to be written from place 0 on
+    pub record First (ms hs out : List ℕ) : Type 0 where
+      pub state : ToWrite t ss ms hs place out 0 n w 0
+      pub same : write (state .plan) ≡ write (builders .plan)
+
+    pub first-state : {ms hs out : List ℕ} → OpenRows ss n (length t) ms → length hs ≡ 64 → length out ≡ 6082 → First ms hs out
+    unfolding source
+    first-state {ms} {hs} {out} o lh lo =
+        let r : rowsIn t ss ms 0 n ≡ T .rows = rows-open k o in
+        let b = builders in
+        let p = same-plan (k .width) r (b .plan) (b .built) in
+        let z : 0 + length (write (p .0)) ≡ length (write (builders .plan)) = omega (arith, ap length (p .2)) in
+        record {
+          state = record {
+            room = record { masks = o .size; column = lh; cells = lo };
+            state = record {
+              source = source;
+              some = few-rows k .0;
+              inside = omega (arith, k .rows);
+              fits = same-fits (k .width) r fits;
+              reached = record { weight = 0; closes = same-rows (all-rows ∙ sym r) };
+            };
+            plan = p .0;
+            built = p .1;
+            fits = omega (arith, b .few);
+          };
+          same = p .2;
+        }
+
+    -- the least cost of all rows is the plan's number of branches
+    pub count-is : keptIn whole 0 (n - 1) ≡ branches (builders .plan)
+    count-is =
+        let x = kept-at 0 (n - 1) (omega arith) (omega (arith, k .rows, few-rows k .0)) .all in
+        let e : suc (n - 1) ≡ n = omega (arith, few-rows k .0) in
+        let y = same-least (k .width) (ap (λ (m : ℕ). slice 0 m (T .rows)) e ∙ all-rows) x in
+        least-one y (built-least plain (builders .plan) (builders .built)) ∙ cost-plain (builders .plan)
+
+    pub planned : {ms hs ms′ hs′ out : List ℕ} {size count : ℕ} (s : First ms hs (replicate 6082 0))
+        → Written ms hs (replicate 6082 0) ms′ hs′ out (write (s .state .plan)) n 0 size → count ≡ keptIn whole 0 (n - 1) → Planned T out size count
+    planned {out = out} {size} {count} s x e =
+        let b = builders in
+        let l : List ℕ = write (builders .plan) in
+        let z : length (replicate {A = ℕ} 6082 0) ≡ 6082 = refl in
+        let q : 0 + length l ≡ length l = omega arith in
+        let n-is : size ≡ length l = omega (arith, x .next-is, ap length (s .same)) in
+        let o : out ≡ l ++ drop (length l) (replicate 6082 0) =
+        x .out-is ∙ ap (λ (xs : List ℕ). sets (replicate 6082 0) 0 xs) (s .same) ∙ sets-eq l (replicate 6082 0) 0 (omega (arith, b .few)) ∙ rw q in
+        record {
+          plan = b .plan;
+          built = b .built;
+          least = rw (cost-plain (b .plan)) at (built-least plain (b .plan) (b .built));
+          cells-are = rw (o, n-is) (take-at l (drop (length l) (replicate 6082 0)) (length l) refl);
+          size-is = n-is;
+          count-is = e ∙ count-is;
+          few = omega (arith, b .few);
+        }

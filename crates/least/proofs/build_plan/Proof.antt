@@ -1,0 +1,54 @@
+use native.Mathlib.Omega.{arith}
+use Rattle.plan.proofs.EntryLaws.{table-rows, table-turned}
+use Rattle.least.proofs.BuildLaws.{no-table, no-room, cells-there, all-built}
+use borrow.Author.Needs.{needs}
+use Rattle.least.proofs.build_plan.Statement.{statement}
+use Rattle.least.proofs.build_plan.Tie as tie
+
+read-table-requires : tie.Need-read-table-requires
+read-table-requires c κs = search needs
+
+enum-known-answer : tie.Need-enum-known-answer
+enum-known-answer c = search needs
+
+write-plan-requires : tie.Need-write-plan-requires
+write-plan-requires c κs = table-rows (c .before .before .before .before .before .before .before .args .cells .now) (c .before .before .before .before .read-table .ensures) (c .before .before .answer .given .1)
+
+returns : tie.Need-returns
+returns c =
+    let k = table-rows (c .before .before .before .before .before .before .before .before .before .args .cells .now) (c .before .before .before .before .before .before .read-table .ensures) (c .before .before .before .before .answer .given .1) in
+    no-room k (c .before .write-plan .ensures k) _ (c .if1 .taken)
+
+copy-requires : tie.Need-copy-requires
+copy-requires c κs =
+    let k = table-rows (c .before .before .before .before .before .before .before .before .before .before .before .before .args .cells .now) (c .before .before .before .before .before .before .before .before .before .read-table .ensures) (c .before .before .before .before .before .before .before .answer .given .1) in
+    let p = c .before .before .before .before .write-plan .ensures k in
+    (p .few, cells-there k p, omega (arith, c .before .before .before .if1 .left))
+
+enum-known-answer-2 : tie.Need-enum-known-answer-2
+enum-known-answer-2 c = search needs
+
+same-length : tie.Need-same-length
+same-length c = search needs
+
+returns-2 : tie.Need-returns-2
+returns-2 c =
+    let k = table-rows (c .before .before .before .before .before .before .before .before .before .before .before .before .before .before .before .args .cells .now) (c .before .before .before .before .before .before .before .before .before .before .before .before .read-table .ensures) (c .before .before .before .before .before .before .before .before .before .before .answer .given .1) in
+    all-built k (c .before .before .before .before .before .before .before .write-plan .ensures k) _ _ (c .before .before .before .before .before .before .if1 .left) (c .before .before .copy .ensures)
+
+returns-3 : tie.Need-returns-3
+returns-3 c = no-table _ (table-turned (c .before .before .before .before .before .before .args .cells .now) (c .before .before .before .read-table .ensures) (c .before .answer2 .given .1))
+
+pub build-plan-spec : {M : Type 1} → statement M
+build-plan-spec =
+    tie.close
+    (tie.spec
+    read-table-requires
+    enum-known-answer
+    write-plan-requires
+    returns
+    copy-requires
+    enum-known-answer-2
+    same-length
+    returns-2
+    returns-3)

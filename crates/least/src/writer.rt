@@ -1,0 +1,215 @@
+// The builder's plan, written state by state from the entries of all pairs (01, "The builder's plan is fixed"). A row in a
+// state is a mask of its open cells, as in the check.
+ghost use mathlib.Core.Path.{_≡_};
+ghost use mathlib.Core.List.{map};
+ghost use Prim.Native.Nat.{ℕ, _+_, _-_, _≤_, _<_};
+ghost use lib.Dec.{eqb};
+ghost use lib.ListN.{length};
+ghost use Rattle.term.specs.Terms.{root};
+ghost use Rattle.plan.specs.Plans.{write, writes, plain};
+ghost use Rattle.plan.specs.Column.{runCount};
+ghost use Rattle.plan.specs.States.{rowsIn, Closes};
+ghost use Rattle.plan.specs.Steps.{TableRows};
+ghost use Rattle.least.specs.Least.{Chosen};
+ghost use Rattle.least.specs.Writing.{State, ToWrite, ToWriteAll, Written, Planned};
+use super::columns::kept_in;
+use super::kept;
+use plan::column::run_count;
+use plan::column::run_length;
+use plan::column::same_symbol;
+use plan::mask::close_at;
+use plan::mask::open_rows;
+
+// All rows agree at place i: each holds the symbol of the row before it.
+fn agreed_at(
+    table: &[u32],
+    starts: &[usize; 64],
+    masks: &[u32; 64],
+    i: u32,
+    first: usize,
+    end: usize,
+) -> bool
+    requires { ⌜ (first < end) × (end ≤ 64) ⌝ }
+    ensures { λ r. ⌜ r ≡ eqb (runCount (map (root i) (rowsIn (now (table .entry)) (now (starts .entry)) (now (masks .entry)) first end))) 1 ⌝ }
+{
+    let mut row = first + 1;
+    let mut cell = close_at(table, starts[first], masks[first], i).cell;
+    while row < end {
+        let next = close_at(table, starts[row], masks[row], i).cell;
+        if !same_symbol(cell, next) {
+            return false;
+        }
+        cell = next;
+        row += 1;
+    }
+    true
+}
+
+// The place that the rule takes at a state with k open places: the leftmost that all rows agree on, otherwise the pair's.
+fn choose(
+    table: &[u32],
+    starts: &[usize; 64],
+    masks: &[u32; 64],
+    place: &[u32; 4096],
+    first: usize,
+    end: usize,
+    k: usize,
+) -> u32
+    requires { ⌜ (0 < k) × State (now place) first end k (rowsIn (now table) (now starts) (now masks) first end) ⌝ }
+    ensures { λ r. ⌜ (State (now (place .entry)) first end k (rowsIn (now (table .entry)) (now (starts .entry)) (now (masks .entry)) first end)
+        → (r < k) × Chosen plain (k - 1) (rowsIn (now (table .entry)) (now (starts .entry)) (now (masks .entry)) first end) r) ⌝ }
+{
+    let mut i: u32 = 0;
+    while (i as usize) < k {
+        if agreed_at(table, starts, masks, i, first, end) {
+            return i;
+        }
+        i += 1;
+    }
+    kept_in(place, first, end - 1)
+}
+
+// Closes place i of the rows from first to before end: the cell that each has there goes into the column, and its bit out
+// of its mask.
+fn close_rows(
+    table: &[u32],
+    starts: &[usize; 64],
+    masks: &mut [u32; 64],
+    column: &mut [u32; 64],
+    i: u32,
+    first: usize,
+    end: usize,
+)
+    requires { ⌜ (first ≤ end) × (end ≤ 64) × (length (now masks) ≡ 64) × (length (now column) ≡ 64) ⌝ }
+    ensures { λ r. ⌜ Closes (now (table .entry)) (now (starts .entry)) (now (masks .entry)) (now (column .entry)) (now (masks .exit)) (now (column .exit)) i first end ⌝ }
+{
+    let mut row = end;
+    while first < row {
+        row -= 1;
+        let closed = close_at(table, starts[row], masks[row], i);
+        column[row] = closed.cell;
+        masks[row] = closed.mask;
+    }
+}
+
+// The plan of the state of rows first to before end with k open places, from a place on; the place after it.
+pub fn state(
+    table: &[u32],
+    starts: &[usize; 64],
+    masks: &mut [u32; 64],
+    column: &mut [u32; 64],
+    place: &[u32; 4096],
+    out: &mut [u32; 6082],
+    first: usize,
+    end: usize,
+    k: usize,
+    at: usize,
+) -> usize
+    requires { ⌜ ToWrite (now table) (now starts) (now masks) (now column) (now place) (now out) first end k at ⌝ }
+    ensures { λ r. ⌜ ((q : ToWrite (now (table .entry)) (now (starts .entry)) (now (masks .entry)) (now (column .entry)) (now (place .entry)) (now (out .entry)) first end k at)
+        → Written (now (masks .entry)) (now (column .entry)) (now (out .entry)) (now (masks .exit)) (now (column .exit)) (now (out .exit)) (write (q .plan)) end at r) ⌝ }
+{
+    if k == 0 {
+        out[at] = (end - first) as u32;
+        return at + 1;
+    }
+    let i = choose(table, starts, &*masks, place, first, end, k);
+    close_rows(table, starts, masks, column, i, first, end);
+    let cells = &column[..];
+    let count = run_count(&cells[first..end]) as u32;
+    let next = at + 1;
+    out[at] = i;
+    out[next] = count;
+    branches(
+        table,
+        starts,
+        masks,
+        column,
+        place,
+        out,
+        first,
+        end,
+        k - 1,
+        at + 2,
+    )
+}
+
+// The branches from a place on, one for each run of the rows from first to before end; below each, k places are open beside
+// its symbol's arguments.
+fn branches(
+    table: &[u32],
+    starts: &[usize; 64],
+    masks: &mut [u32; 64],
+    column: &mut [u32; 64],
+    place: &[u32; 4096],
+    out: &mut [u32; 6082],
+    first: usize,
+    end: usize,
+    k: usize,
+    at: usize,
+) -> usize
+    requires { ⌜ ToWriteAll (now table) (now starts) (now masks) (now column) (now place) (now out) first end k at ⌝ }
+    ensures { λ r. ⌜ ((q : ToWriteAll (now (table .entry)) (now (starts .entry)) (now (masks .entry)) (now (column .entry)) (now (place .entry)) (now (out .entry)) first end k at)
+        → Written (now (masks .entry)) (now (column .entry)) (now (out .entry)) (now (masks .exit)) (now (column .exit)) (now (out .exit)) (writes (q .plans)) end at r) ⌝ }
+{
+    let mut row = first;
+    let mut next = at;
+    while row < end {
+        let cells = &column[..];
+        let n = run_length(&cells[row..end]);
+        let c = column[row];
+        out[next] = c;
+        let open = cell::arity_of(c) + k;
+        next = state(
+            table,
+            starts,
+            masks,
+            column,
+            place,
+            out,
+            row,
+            row + n,
+            open,
+            next + 1,
+        );
+        row += n;
+    }
+    next
+}
+
+// A plan's cells, so many at the front, and its number of branches.
+pub struct PlanCells {
+    pub cells: [u32; 6082],
+    pub size: usize,
+    pub count: usize,
+}
+
+// The plan of a table's rows: the entries of all pairs, then the first state with all rows and the width's arguments open.
+pub fn write_plan(table: &[u32], starts: [usize; 64], width: usize, count: usize) -> PlanCells
+    requires { ⌜ TableRows (now table) starts width count ⌝ }
+    ensures { λ r. ⌜ ((q : TableRows (now (table .entry)) starts width count) → Planned (q .table) (r .cells) (r .size) (r .count)) ⌝ }
+{
+    let arrays = kept::fill(table, starts, width, count);
+    let place = arrays.place;
+    let whole = arrays.whole;
+    let mut masks = open_rows(&starts, count, table.len());
+    let mut column = [0u32; 64];
+    let mut cells = [0u32; 6082];
+    let size = state(
+        table,
+        &starts,
+        &mut masks,
+        &mut column,
+        &place,
+        &mut cells,
+        0,
+        count,
+        width,
+        0,
+    );
+    PlanCells {
+        cells,
+        size,
+        count: kept_in(&whole, 0, count - 1) as usize,
+    }
+}
