@@ -6,9 +6,11 @@ use Prim.Native.Nat.{ℕ, _+_, _-_, _%_, _≤_, _<_}
 use native.Mathlib.Nat.{zero-add}
 use native.Mathlib.Omega.{arith}
 use lib.ListN.{length, take, drop, replicate, length-append}
-use lib.Seq.{sets-eq, take-at, length-take-le}
+use lib.Seq.{sets-eq, take-append-seam, take-at, length-take-le}
 use borrow.Author.Tests.{lt-ltb, le-ltb, eq-eqb, ne-eqb}
-use Rattle.table.specs.Read.{read}
+use Rattle.table.specs.Refusal.{Refused, told, answered, turned}
+use Rattle.table.specs.declared.Refusal.{Refusal}
+use Rattle.table.specs.Read.{read, refuse}
 use Rattle.table.specs.Table.{Table, tableOf}
 use Rattle.table.proofs.ReadLaws.{apart, read-one}
 use Rattle.table.proofs.Accepted.{is-table}
@@ -16,9 +18,13 @@ use Rattle.plan.specs.Plans.{Plan, write, branches, plain, cost}
 use Rattle.plan.specs.Marks.{manyIn}
 use Rattle.plan.specs.Checked.{Marks, marked, refused}
 use Rattle.plan.specs.declared.Marked.{Marked}
-use Rattle.plan.proofs.PlansLaws.{plan-tells}
+use Rattle.plan.proofs.PlansLaws.{plan-tells, cost-plain}
 use Rattle.plan.proofs.SizeLaws.{size-bound}
 use Rattle.plan.proofs.CheckLaws.{accepted, rows-fit}
+use Rattle.least.specs.Least.{Built}
+use Rattle.least.specs.Build.{BuiltInto, table-refused, room-refused, built, buildTold}
+use Rattle.least.specs.declared.BuildAnswer.{BuildAnswer}
+use Rattle.least.specs.declared.BuildAnswer.the-variants as build-answer
 use Rattle.listing.specs.Listing.{header, linesIn, listingOf, cellsOf, unread, Written, Counts}
 use Rattle.listing.specs.Walk.{Room, Put, Whole, Planned}
 use Rattle.listing.proofs.CellsLaws.{cells-length}
@@ -112,6 +118,47 @@ module _ {t plan out : List ℕ} {costs : ℕ} where
         };
         back = λ p. put-written (rw same at p) (listing-room t (w .table) (w .tree) (w .reads) (w .room)) refl;
       }
+
+-- the builder's answer, with room for any plan: the builder's plan of a table that is read, or the table's refusal
+module _ {t room room′ : List ℕ} {r : BuildAnswer} (b : BuiltInto t room room′ r) (enough : length room ≡ 6082) where
+  pub plan-built : (n costs : ℕ) → r ≡ build-answer.Built n costs → {out : List ℕ} → 43035 ≤ length out
+      → (n ≤ length room′) × Planned t (take n room′) out costs
+  plan-built n costs e {out} h = go b
+    where
+      go : BuiltInto t room room′ r → (n ≤ length room′) × Planned t (take n room′) out costs
+      go (table-refused f x a s) = let z : _≡_ {A = ℕ} 0 1 = cc in absurd (omega arith)
+      go (room-refused T tree x y l a s) = let z : _≡_ {A = ℕ} 0 1 = cc in absurd (omega arith)
+      go (built T tree x y least l a s) =
+          let d : answered n costs ≡ answered (length (write tree)) (branches tree) = ap buildTold (sym e) ∙ a in
+          let m : n ≡ length (write tree) = cc in
+          let c : costs ≡ branches tree = cc in (
+            omega (arith, ap length s, length-append (write tree) (drop (length (write tree)) room)),
+            record {
+              table = T;
+              tree = tree;
+              reads = x;
+              built = y;
+              cells = rw (m, s) (take-append-seam (write tree) (drop (length (write tree)) room));
+              costs-it = c ∙ sym (cost-plain tree);
+              room = h;
+            },
+          )
+
+  pub plan-refused : (f : Refusal) → r ≡ build-answer.Refused f → tableOf t ≡ refuse (told f)
+  plan-refused f e = go b
+    where
+      go : BuiltInto t room room′ r → tableOf t ≡ refuse (told f)
+      go (table-refused g x a s) =
+          let d : turned (told f) ≡ turned g = ap buildTold (sym e) ∙ a in
+          let q : told f ≡ g = cc in
+          x ∙ rw q
+      go (room-refused T tree x y l a s) =
+          let is = is-table t x in
+          absurd (omega (arith, size-bound tree (rows-fit (T .width) (T .rows) (is .each)) (is .count .0) (is .count .1)))
+      go (built T tree x y least l a s) =
+          let d : turned (told f) ≡ answered (length (write tree)) (branches tree) = ap buildTold (sym e) ∙ a in
+          let z : _≡_ {A = ℕ} 0 1 = cc in
+          absurd (omega arith)
 
 -- which bytes are cells, and that they are read to the front
 module _ (bytes : List ℕ) where

@@ -8,11 +8,13 @@ ghost use mathlib.Core.List.{_++_};
 ghost use Prim.Native.Nat.{_≤_};
 ghost use lib.ListN.{length};
 ghost use Rattle.table.specs.Refusal.{numberOf};
-ghost use Rattle.listing.specs.Listing.{Written, header, linesIn, listingOf, refusal};
+ghost use Rattle.listing.specs.Listing.{header, linesIn, refusal, listingOf, ListsTable, Lists, Written, Counts};
 ghost use Rattle.listing.specs.Walk.{Put, Whole, Planned};
+use crate::cells::read_cells;
 use crate::text::put_header;
 use crate::text::put_refusal;
 use crate::walk::state;
+use least::BuildAnswer;
 use table::Reason;
 
 // 01's number of a refusal.
@@ -73,4 +75,38 @@ fn list_refusal(number: usize, place: usize, out: &mut [u8]) -> usize
     ensures { λ r. ⌜ Written (_≡_ (refusal number place)) (now (out .entry)) (now (out .exit)) r ⌝ }
 {
     put_refusal(out, 0, number, place)
+}
+
+// The listing of a table's cells.
+fn list_cells(table: &[u32], out: &mut [u8]) -> usize
+    requires { ⌜ 43035 ≤ length (now out) ⌝ }
+    ensures { λ r. ⌜ Written (ListsTable (now (table .entry))) (now (out .entry)) (now (out .exit)) r ⌝ }
+{
+    let mut room = [0u32; 6082];
+    match least::build_plan(table, &mut room) {
+        BuildAnswer::Built(n, cost) => list_plan(table, &room[..n], out, cost),
+        BuildAnswer::Refused(f) => {
+            let reason = f.reason;
+            let place = f.place;
+            list_refusal(number_of(reason), place, out)
+        }
+    }
+}
+
+// The listing of any bytes at all, put at the front of `out`; how many bytes it has. 43,035 bytes are enough for every one: 27 for the header and 21
+// for each of at most 2,048 branches. (The longest there is has 39,707.)
+pub fn list_table(bytes: &[u8], out: &mut [u8; 43035]) -> usize
+    ensures { λ r. ⌜ Written (Lists (now (bytes .entry))) (now (out .entry)) (now (out .exit)) r ⌝ }
+    ensures { λ r. ⌜ Counts r (now (out .exit)) ⌝ }
+{
+    let n = bytes.len();
+    if 8200 < n {
+        return list_refusal(1, 0, out);
+    }
+    if n % 4 != 0 {
+        return list_refusal(1, 0, out);
+    }
+    let mut cells = [0u32; 2050];
+    let m = read_cells(bytes, &mut cells);
+    list_cells(&cells[..m], out)
 }

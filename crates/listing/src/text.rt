@@ -1,21 +1,8 @@
 // Text put into a lent room: each function puts its text from a place on and answers the place after it.
-ghost use mathlib.Core.Path.{_≡_};
 ghost use mathlib.Core.List.{[], _∷_};
 ghost use Rattle.listing.specs.Listing.{decimal, field, symbol, line, header, refusal};
 ghost use Rattle.listing.specs.Walk.{Room, Put};
 use cell::Shape;
-
-pub fn wide(x: u32) -> usize
-    ensures { λ r. ⌜ r ≡ x ⌝ }
-{
-    x as usize
-}
-
-pub fn wide8(x: u8) -> usize
-    ensures { λ r. ⌜ r ≡ x ⌝ }
-{
-    x as usize
-}
 
 pub fn put_byte(out: &mut [u8], to: usize, b: u8) -> usize
     requires { ⌜ Room (now out) to (b ∷ []) ⌝ }

@@ -1,15 +1,26 @@
 // The walk over a plan that writes its lines. It looks at the plan and at the marks that the check made of it, and at no row.
+ghost use mathlib.Core.Path.{_≡_};
 ghost use Rattle.plan.specs.Plans.{write, writes};
 ghost use Rattle.listing.specs.Listing.{linesIn, linesOf};
 ghost use Rattle.listing.specs.Walk.{Ready, Readys, Walked};
 use crate::text::put_line;
-use crate::text::wide;
-use crate::text::wide8;
 
 // Where the walk stands: the next cell of the plan, and the place of the next line.
 pub struct Stand {
     pub at: usize,
     pub to: usize,
+}
+
+fn wide(x: u32) -> usize
+    ensures { λ r. ⌜ r ≡ x ⌝ }
+{
+    x as usize
+}
+
+fn wide8(x: u8) -> usize
+    ensures { λ r. ⌜ r ≡ x ⌝ }
+{
+    x as usize
 }
 
 // The lines below a state with so many open places.

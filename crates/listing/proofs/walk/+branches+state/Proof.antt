@@ -17,8 +17,8 @@ use Rattle.listing.proofs.walk.state.Kinds as state-kinds
 use Rattle.listing.proofs.walk.+branches+state.Lts-state as state-lts
 use Rattle.cell.proofs.arity_of.Reads as arity-of-reads
 use Rattle.listing.proofs.text.put_line.Reads as put-line-reads
-use Rattle.listing.proofs.text.wide.Reads as wide-reads
-use Rattle.listing.proofs.text.wide8.Reads as wide8-reads
+use Rattle.listing.proofs.walk.wide.Reads as wide-reads
+use Rattle.listing.proofs.walk.wide8.Reads as wide8-reads
 use Rattle.listing.proofs.walk.+branches+state.{statement}
 use Rattle.listing.proofs.walk.+branches+state.Tie.{close}
 
