@@ -1,0 +1,119 @@
+-- How long a listing is: a line has at most 21 bytes, a header at most 27, and a plan of an accepted table at most 2,048 branches.
+use mathlib.Core.Path.{_≡_, ap}
+use mathlib.Core.Bool.{true, false}
+use mathlib.Core.Logic.{⊎-elim}
+use mathlib.Core.List.{List, [], _∷_, _++_}
+use Prim.Native.Nat.{ℕ, zero, suc, pred, _+_, _-_, _*_, _/_, _%_, _^_, _≤_, _<_}
+use native.Mathlib.Nat.{pow-suc, div-lt-iff-lt-mul}
+use native.Mathlib.Omega.{arith}
+use lib.Dec.{ltb}
+use lib.ListN.{length, length-append}
+use borrow.Author.Tests.{ltb-true, ltb-false}
+use Rattle.cell.specs.Cell.{numberOf, argsOf, Values, arity}
+use Rattle.cell.proofs.CellLaws.{Reading, a-variable, a-name, a-number, no-cell, reading, values-small}
+use Rattle.term.specs.Terms.{Terms, none, more}
+use Rattle.term.proofs.Tests.{bool-cases}
+use Rattle.table.specs.All.{All}
+use Rattle.table.specs.Table.{Table}
+use Rattle.plan.specs.Runs.{Run}
+use Rattle.plan.specs.Plans.{Plan, leaf, node, Branches, end, next, branches, branchesIn, plain, cost}
+use Rattle.plan.proofs.RunsLaws.{Each, Fits, fits-some, runs-fit}
+use Rattle.plan.proofs.PlansLaws.{cost-plain}
+use Rattle.plan.proofs.SizeLaws.{bound}
+use Rattle.listing.specs.Listing.{decimal, symbolOf, symbol, field, line, linesIn, linesOf, header, refusal, listingOf}
+use Rattle.listing.specs.Walk.{Within}
+use Rattle.listing.proofs.TextLaws.{decimal-small, decimal-more}
+use Rattle.listing.proofs.WalkLaws.{within, within-first}
+
+-- a number below 10^k has at most k digits
+digits-step : (k n : ℕ) → (n / 10 < 10 ^ suc k → length (decimal (n / 10)) ≤ suc k) → n < 10 ^ suc (suc k) → length (decimal n) ≤ suc (suc k)
+digits-step k n f h = ⊎-elim one some (bool-cases (ltb n 10))
+  where
+    one : ltb n 10 ≡ true → length (decimal n) ≤ suc (suc k)
+    one t = omega (arith, ap length (decimal-small n (ltb-true n 10 t)))
+
+    some : ltb n 10 ≡ false → length (decimal n) ≤ suc (suc k)
+    some t =
+        let l = f (div-lt-iff-lt-mul (omega arith) .1 (rw (pow-suc 10 (suc k)) at h)) in
+        omega (arith, ap length (decimal-more n (ltb-false n 10 t)), length-append (decimal (n / 10)) ((48 + n % 10) ∷ []))
+
+pub digits-few : (k n : ℕ) → n < 10 ^ suc k → length (decimal n) ≤ suc k
+digits-few zero n h = omega (arith, ap length (decimal-small n (omega arith)))
+digits-few (suc k) n h = digits-step k n (digits-few k (n / 10)) h
+
+field-few : (k n last : ℕ) → n < 10 ^ suc k → length (field n last) ≤ suc (suc k)
+field-few k n last h = omega (arith, digits-few k n h, length-append (decimal n) (last ∷ []))
+
+-- a symbol has at most 8 bytes: `n65535/4`
+symbol-by : (c : ℕ) {v : Values} → Reading c v → v .args ≤ 4 → v .number < 2 ^ 16 → length (symbolOf v) ≤ 8
+unfolding symbolOf
+symbol-by c (a-variable k m) h l = omega (arith, digits-few 4 (numberOf c) (omega arith))
+symbol-by c (a-name k m) h l =
+    omega (arith, digits-few 4 (numberOf c) (omega arith), digits-few 0 (argsOf c) (omega arith), length-append (decimal (numberOf c)) (47 ∷ decimal (argsOf c)))
+symbol-by c (a-number k m) h l = omega (arith, digits-few 4 (numberOf c) (omega arith))
+symbol-by c (no-cell n) h l = omega arith
+
+symbol-few : (c : ℕ) → length (symbol c) ≤ 8
+symbol-few c = let v = values-small c in symbol-by c (reading c) (v .0) (v .1)
+
+-- a line has at most 21 bytes: `31 31 n65535/4 63-63`
+line-few : (depth index c first last : ℕ) → depth < 100 → index < 100 → first < 100 → last < 100 → length (line depth index c first last) ≤ 21
+unfolding line
+line-few depth index c first last hd hi hf hl =
+    simp length-append (omega (arith, digits-few 1 depth hd, digits-few 1 index hi, symbol-few c, digits-few 1 first hf, digits-few 1 last hl))
+
+-- an open place of a row is a cell of it
+terms-few : {k : ℕ} {r : List ℕ} → Terms k r → k ≤ length r
+terms-few none = omega arith
+terms-few (more {c} {k} t) = omega (arith, terms-few t)
+
+open-few : (n k : ℕ) (rows : List (List ℕ)) → All (Fits n k) rows → 0 < length rows → k ≤ n
+open-few n k [] f h = absurd (omega arith)
+open-few n k (r ∷ rs) f h = omega (arith, terms-few (f .0 .0))
+
+-- so the lines of a plan have at most 21 bytes for each branch
+mutual
+  unfolding linesIn branches
+
+  lines-few : {k : ℕ} {rows : List (List ℕ)} (p : Plan k rows) (n depth first : ℕ) → All (Fits n k) rows → 0 < length rows → depth + n ≤ 32
+      → first + length rows ≤ 64 → length (linesIn p depth first) ≤ 21 * branches p
+  lines-few leaf n depth first f h d l = omega arith
+  lines-few (node {k} {rows} i g bs) n depth first f h d l =
+      let some = fits-some n k rows f h in
+      let e : n ≡ suc (pred n) = omega arith in
+      lines-fews bs (pred n) depth i first (runs-fit (pred n) k i g rows (rw e at f)) (within i first rows l) (omega (arith, open-few n (suc k) rows f h)) (omega arith)
+
+  lines-fews : {k : ℕ} {gs : List Run} (bs : Branches k gs) (n depth index first : ℕ) → Each (λ (c : ℕ). Fits n (arity c + k)) gs → Within first gs
+      → index < 100 → depth + suc n ≤ 32 → length (linesOf bs depth index first) ≤ 21 * branchesIn bs
+  lines-fews end n depth index first f w i d = omega arith
+  lines-fews (next {g = g} {gs = gs} p bs) n depth index first f w i d =
+      let rows = length (g .rows) in
+      let past = within-first (first + rows) gs (w .1) in
+      let here = line-few depth index (g .cell) first (first + rows - 1) (omega arith) i (omega arith) (omega arith) in
+      let below = lines-few p n (suc depth) first (f .0) (w .0) (omega arith) past in
+      let beside = lines-fews bs n depth index (first + rows) (f .1) (w .1) i d in
+      omega (
+        arith,
+        length-append (line depth index (g .cell) first (first + rows - 1)) (linesIn p (suc depth) first ++ linesOf bs depth index (first + rows)),
+        length-append (linesIn p (suc depth) first) (linesOf bs depth index (first + rows)),
+      )
+
+-- a header has at most 27 bytes: `rows 64 width 8 edges 2048`
+header-few : (rows width cost : ℕ) → rows < 100 → width < 10 → cost < 10000 → length (header rows width cost) ≤ 27
+unfolding header
+header-few rows width cost hr hw hc =
+    simp length-append (omega (arith, digits-few 1 rows hr, digits-few 0 width hw, digits-few 3 cost hc))
+
+-- 01's longest listing, and any refusal of numbers of 64 bits
+pub listing-few : (T : Table) (p : Plan (T .width) (T .rows)) → All (Fits 32 (T .width)) (T .rows) → 0 < length (T .rows) → length (T .rows) ≤ 64 → T .width ≤ 8
+    → length (listingOf T p) ≤ 43035
+listing-few T p f h l w =
+    let b = bound p 32 f h in
+    let c : cost plain p ≤ 2048 = omega (arith, cost-plain p) in
+    let first = header-few (length (T .rows)) (T .width) (cost plain p) (omega arith) (omega arith) (omega arith) in
+    let lines = lines-few p 32 0 0 f h (omega arith) (omega arith) in
+    omega (arith, cost-plain p, length-append (header (length (T .rows)) (T .width) (cost plain p)) (linesIn p 0 0))
+
+pub refusal-few : (number place : ℕ) → number < 2 ^ 64 → place < 2 ^ 64 → length (refusal number place) ≤ 53
+unfolding refusal
+refusal-few number place hn hp = simp length-append (omega (arith, digits-few 19 number (omega arith), digits-few 19 place (omega arith)))

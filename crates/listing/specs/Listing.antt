@@ -1,0 +1,133 @@
+-- The listing of a table (01, "On both sides", from "The listing program" on), as ASCII bytes.
+use Prim.Native.Nat.{ℕ, zero, suc, _+_, _-_, _*_, _/_, _%_, _≤_}
+use mathlib.Core.Path.{_≡_}
+use mathlib.Core.Bool.{Bool, true, false, cond, not, _||_}
+use mathlib.Core.List.{List, [], _∷_, _++_}
+use lib.Dec.{eqb, ltb}
+use lib.ListN.{length, take, drop}
+use Rattle.cell.specs.Cell.{Values, valuesAt}
+use Rattle.table.specs.Refusal.{Refused}
+use Rattle.table.specs.Read.{read, refuse}
+use Rattle.table.specs.Table.{Table, tableOf}
+use Rattle.plan.specs.Runs.{Run}
+use Rattle.plan.specs.Plans.{Plan, leaf, node, Branches, end, next, plain, cost}
+use Rattle.least.specs.Least.{Built}
+
+-- A number in decimal digits, the most significant first and none to spare: one digit below 10, otherwise those of n / 10 and then the last one.
+-- The first number bounds how many digits there are and never decides: n has at most n + 1
+unfoldable pub digitsOf : ℕ → ℕ → List ℕ
+digitsOf zero n = []
+digitsOf (suc k) n = cond (ltb n 10) ((48 + n) ∷ []) (digitsOf k (n / 10) ++ ((48 + n % 10) ∷ []))
+
+unfoldable pub decimal : ℕ → List ℕ
+decimal n = digitsOf (suc n) n
+
+-- the bytes between them: a space, `-`, `/`, and the line feed that ends every line
+abbrev pub space : ℕ
+space = 32
+
+abbrev pub dash : ℕ
+dash = 45
+
+abbrev pub slash : ℕ
+slash = 47
+
+abbrev pub feed : ℕ
+feed = 10
+
+-- 01, "symbol (n number/arguments, i value or v number)": `n`, `i` and `v` are 110, 105 and 118.
+-- The last case is that of a cell which is refused; no plan of an accepted table holds one
+unfoldable pub symbolOf : Values → List ℕ
+symbolOf v =
+    cond (eqb (v .kind) 0) (118 ∷ decimal (v .number))
+    (cond (eqb (v .kind) 1) (110 ∷ (decimal (v .number) ++ (slash ∷ decimal (v .args))))
+    (cond (eqb (v .kind) 2) (105 ∷ decimal (v .number))
+    []))
+
+abbrev pub symbol : ℕ → List ℕ
+symbol c = symbolOf (valuesAt c)
+
+-- a number and the byte that ends it
+abbrev pub field : (n last : ℕ) → List ℕ
+field n last = decimal n ++ (last ∷ [])
+
+-- 01, "one line per branch ..: depth from 0, open place's index, symbol, first and last row", in the form of 01's example: `0 0 n1/0 0-1`
+unfoldable pub line : (depth index cell first last : ℕ) → List ℕ
+line depth index cell first last =
+    field depth space ++ (field index space ++ (symbol cell ++ (space ∷ (field first dash ++ field last feed))))
+
+-- 01, "in plan order": a branch, then all lines below it, one deeper, then the next branch. `first` is the number of the state's first row
+unfoldable mutual
+  pub linesIn : {k : ℕ} {rows : List (List ℕ)} → Plan k rows → (depth first : ℕ) → List ℕ
+  linesIn leaf depth first = []
+  linesIn (node i h bs) depth first = linesOf bs depth i first
+
+  pub linesOf : {k : ℕ} {gs : List Run} → Branches k gs → (depth index first : ℕ) → List ℕ
+  linesOf end depth index first = []
+  linesOf (next {g = g} p bs) depth index first =
+      line depth index (g .cell) first (first + length (g .rows) - 1)
+      ++ (linesIn p (suc depth) first ++ linesOf bs depth index (first + length (g .rows)))
+
+-- `rows `, ` width `, ` edges `, `refused `, ` at `
+abbrev pub rowsWord : List ℕ
+rowsWord = 114 ∷ 111 ∷ 119 ∷ 115 ∷ 32 ∷ []
+
+abbrev pub widthWord : List ℕ
+widthWord = 32 ∷ 119 ∷ 105 ∷ 100 ∷ 116 ∷ 104 ∷ 32 ∷ []
+
+abbrev pub edgesWord : List ℕ
+edgesWord = 32 ∷ 101 ∷ 100 ∷ 103 ∷ 101 ∷ 115 ∷ 32 ∷ []
+
+abbrev pub refusedWord : List ℕ
+refusedWord = 114 ∷ 101 ∷ 102 ∷ 117 ∷ 115 ∷ 101 ∷ 100 ∷ 32 ∷ []
+
+abbrev pub atWord : List ℕ
+atWord = 32 ∷ 97 ∷ 116 ∷ 32 ∷ []
+
+-- 01, "It prints rows, width and cost": `rows 2 width 2 edges 3`
+unfoldable pub header : (rows width cost : ℕ) → List ℕ
+header rows width cost =
+    rowsWord ++ (decimal rows ++ (widthWord ++ (decimal width ++ (edgesWord ++ field cost feed))))
+
+-- 01, "A refusal prints `refused N at K`"
+unfoldable pub refusal : (number place : ℕ) → List ℕ
+refusal number place = refusedWord ++ (decimal number ++ (atWord ++ field place feed))
+
+-- 01, "reads a table as little-endian cells": four bytes to a cell, the least significant first
+unfoldable pub cellsOf : List ℕ → List ℕ
+cellsOf [] = []
+cellsOf (a ∷ []) = []
+cellsOf (a ∷ b ∷ []) = []
+cellsOf (a ∷ b ∷ c ∷ []) = []
+cellsOf (a ∷ b ∷ c ∷ d ∷ bytes) = (a + 256 * (b + 256 * (c + 256 * d))) ∷ cellsOf bytes
+
+-- "It prints rows, width and cost, then one line per branch": the first state's branches are at depth 0, and its first row is row 0
+abbrev pub listingOf : (T : Table) → Plan (T .width) (T .rows) → List ℕ
+listingOf T tree = header (length (T .rows)) (T .width) (cost plain tree) ++ linesIn tree 0 0
+
+-- the listing of a table's cells: 01's line for a refusal; otherwise the header and the lines of the builder's plan, of which there is one
+pub data ListsTable (t : List ℕ) : List ℕ → Type 0 where
+  refused : (f : Refused) → tableOf t ≡ refuse f → ListsTable t (refusal (f .number) (f .place))
+  listed : (T : Table) (tree : Plan (T .width) (T .rows)) → tableOf t ≡ read T → Built plain tree
+      → ListsTable t (listingOf T tree)
+
+-- 01, "bytes not a multiple of four, or over 8,200"
+abbrev pub unread : List ℕ → Bool
+unread bytes = ltb 8200 (length bytes) || not (eqb (length bytes % 4) 0)
+
+-- the listing of any bytes at all: those "print `refused 1 at 0`", and all others are a table's cells. No bytes are a table of no cells
+pub data Lists (bytes : List ℕ) : List ℕ → Type 0 where
+  no-cells : unread bytes ≡ true → Lists bytes (refusal 1 0)
+  cells : {text : List ℕ} → unread bytes ≡ false → ListsTable (cellsOf bytes) text → Lists bytes text
+
+-- what is written: a text with the property comes first, "and the rest of the room is untouched"; n is how many bytes it has
+pub record Written (Is : List ℕ → Type 0) (room room′ : List ℕ) (n : ℕ) : Type 0 where
+  pub text : List ℕ
+  pub right : Is text
+  pub count : n ≡ length text
+  pub fits : length text ≤ length room
+  pub front : room′ ≡ text ++ drop (length text) room
+
+-- n counts bytes at the front of a list, in the two forms that a part of an array asks for; the second follows from the first
+abbrev pub Counts : ℕ → List ℕ → Type 0
+Counts n xs = (n ≤ length xs) × (n ≡ length (take n xs))
