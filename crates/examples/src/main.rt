@@ -1,2 +1,205 @@
-// Every example of 01.
-fn main() {}
+// Every example of 01, marked or not, on the functions themselves. What is printed is compared with the file stdout; cells are printed as numbers.
+use least::BuildAnswer;
+use libc::STDOUT_FILENO;
+use plan::PlanAnswer;
+use run::RunAnswer;
+use table::Refusal;
+use table::TableAnswer;
+
+// 01's letters: names without arguments, f1 with one. The letter's place in the alphabet is its number.
+const A: u32 = 0x40000001;
+const B: u32 = 0x40000002;
+const C: u32 = 0x40000003;
+const D: u32 = 0x40000004;
+const F1: u32 = 0x40010006;
+const G: u32 = 0x40000007;
+const X: u32 = 0x40000018;
+const Y: u32 = 0x40000019;
+const Z: u32 = 0x4000001a;
+// The whole numbers 1, 2, 3.
+const ONE: u32 = 0x80000001;
+const TWO: u32 = 0x80000002;
+const THREE: u32 = 0x80000003;
+
+fn say(text: &[u8]) {
+    io::write_all(STDOUT_FILENO, text);
+}
+
+fn number(n: usize) {
+    io::print_decimal(STDOUT_FILENO, n as u64);
+}
+
+fn pair(first: usize, middle: &[u8], second: usize) {
+    number(first);
+    say(middle);
+    number(second);
+}
+
+fn refused(f: Refusal) {
+    let reason = f.reason;
+    say(b"refused ");
+    pair(table::number_of(reason), b" at ", f.place);
+    say(b"\n");
+}
+
+// The first n of some cells, or of some bytes.
+fn cells(xs: &[u32], n: usize) {
+    let mut i = 0;
+    while i < xs.len() && i < n {
+        say(b" ");
+        number(xs[i] as usize);
+        i += 1;
+    }
+    say(b"\n");
+}
+
+fn bytes(xs: &[u8], n: usize) {
+    let mut i = 0;
+    while i < xs.len() && i < n {
+        say(b" ");
+        number(xs[i] as usize);
+        i += 1;
+    }
+    say(b"\n");
+}
+
+// A table's reading.
+fn read(table: &[u32]) {
+    let answer = table::read_table(table).answer;
+    match answer {
+        TableAnswer::Accepted(width, rows) => {
+            say(b"accepted: width ");
+            pair(width, b", rows ", rows);
+            say(b"\n");
+        }
+        TableAnswer::Refused(f) => refused(f),
+    }
+}
+
+// The builder's plan.
+fn build(table: &[u32]) {
+    let mut room = [0u32; 128];
+    match least::build_plan(table, &mut room) {
+        BuildAnswer::Built(n, cost) => {
+            say(b"cost ");
+            number(cost);
+            say(b", plan");
+            cells(&room, n);
+        }
+        BuildAnswer::Refused(f) => refused(f),
+    }
+}
+
+// The check of a plan that is handed in.
+fn check(table: &[u32], plan: &[u32]) {
+    match plan::check_plan(table, plan) {
+        PlanAnswer::Accepted(branches) => {
+            say(b"accepted: branches ");
+            number(branches);
+            say(b"\n");
+        }
+        PlanAnswer::Refused(f) => refused(f),
+    }
+}
+
+// The builder's plan run on a goal.
+fn ask(table: &[u32], goal: &[u32]) {
+    let mut room = [0u32; 128];
+    match least::build_plan(table, &mut room) {
+        BuildAnswer::Built(n, _) => {
+            if n <= room.len() {
+                ask_plan(table, &room[..n], goal);
+            }
+        }
+        BuildAnswer::Refused(f) => refused(f),
+    }
+}
+
+fn ask_plan(table: &[u32], plan: &[u32], goal: &[u32]) {
+    let mut hits = [255u8; 64];
+    match run::run_plan(table, plan, goal, &mut hits) {
+        RunAnswer::Ran(n, tried) => {
+            say(b"tried ");
+            number(tried);
+            say(b", rows");
+            bytes(&hits, n);
+        }
+        RunAnswer::Refused(f) => refused(f),
+    }
+}
+
+fn marked() {
+    say(b"P1 ");
+    build(&[3, 4, A, B, C, A, B, D, A, C, C, B, A, C]);
+    let p2 = [2, 3, A, B, B, C, A, D];
+    say(b"P2 ");
+    build(&p2);
+    say(b"P2 (a,v0) ");
+    ask(&p2, &[A, 0]);
+    say(b"P2 (v0,v1) ");
+    ask(&p2, &[0, 1]);
+    let p3 = [
+        3, 6, G, A, ONE, G, A, TWO, G, A, THREE, G, ONE, B, G, TWO, B, G, THREE, B,
+    ];
+    say(b"P3 ");
+    build(&p3);
+    say(b"P3 0 2 ");
+    check(&p3, &[0, 2]);
+    say(b"P4 ");
+    build(&[1, 1, 0]);
+    say(b"P5 ");
+    build(&[1, 2, A, A]);
+    say(b"P5 (a) ");
+    ask(&[1, 2, A, A], &[A]);
+    say(b"P6 ");
+    build(&[1, 2, 0, 0]);
+    say(b"P7 (v0,v0) ");
+    ask(&[2, 2, A, B, A, A], &[0, 0]);
+    say(b"P8 ");
+    build(&[1, 3, F1, A, F1, B, G]);
+    say(b"P8 (g) ");
+    ask(&[1, 3, F1, A, F1, B, G], &[G]);
+    say(b"P9 ");
+    read(&[2, 1, 0, 0]);
+    say(b"P9 ");
+    read(&[1, 1, 1]);
+    say(b"P10 ");
+    read(&[2, 1, A]);
+}
+
+// So many times f1, then a, as a table of one row.
+fn nested(times: usize) {
+    let mut t = [F1; 40];
+    t[0] = 1;
+    t[1] = 1;
+    let end = times + 2;
+    if end < 40 {
+        t[end] = A;
+        let n = end + 1;
+        read(&t[..n]);
+    }
+}
+
+fn unmarked() {
+    say(b"31 times f1 then a ");
+    nested(31);
+    say(b"32 times f1 then a ");
+    nested(32);
+    say(b"5 arguments ");
+    read(&[1, 1, 0x40050001]);
+    let p2 = [2, 3, A, B, B, C, A, D];
+    say(b"P2 with a shared between rows 0 and 2 ");
+    check(&p2, &[0, 2, A, 0, 2, B, 1, D, 1, B, 0, 1, C, 1]);
+    say(b"P6 with agreeing variables ");
+    check(&[1, 2, 0, 0], &[0, 1, 0, 2]);
+    let six = [
+        4, 6, A, X, X, X, A, X, X, X, A, Y, Y, Y, B, Y, Y, Y, B, Z, Z, Z, B, Z, Z, Z,
+    ];
+    say(b"fewest runs first ");
+    build(&six);
+}
+
+fn main() {
+    marked();
+    unmarked();
+}

@@ -1,7 +1,7 @@
 // An answer as one number: number + 2^8 · input + 2^16 · first + 2^32 · second.
 ghost use mathlib.Core.Path.{_≡_};
 ghost use Prim.Native.Nat.{_≤_, _<_, _^_};
-ghost use Rattle.table.specs.Refusal.{numberOf, inputOf, told, answered, turned};
+ghost use Rattle.table.specs.Refusal.{told, answered, turned};
 ghost use Rattle.table.specs.Table.{tableTold, goalTold};
 ghost use Rattle.plan.specs.Checked.{planTold};
 ghost use Rattle.least.specs.Build.{buildTold};
@@ -11,44 +11,8 @@ use least::BuildAnswer;
 use plan::PlanAnswer;
 use run::RunAnswer;
 use table::GoalAnswer;
-use table::Input;
-use table::Reason;
 use table::Refusal;
 use table::TableAnswer;
-
-fn number_of(reason: Reason) -> u64
-    ensures { λ r. ⌜ (r ≡ numberOf reason) × (r ≤ 16) ⌝ }
-{
-    match reason {
-        Reason::Length => 1,
-        Reason::Width => 2,
-        Reason::Count => 3,
-        Reason::Long => 4,
-        Reason::Short => 5,
-        Reason::Cell => 6,
-        Reason::Fresh => 7,
-        Reason::Twice => 8,
-        Reason::Extra => 9,
-        Reason::Size => 10,
-        Reason::Ends => 11,
-        Reason::Open => 12,
-        Reason::Edges => 13,
-        Reason::Label => 14,
-        Reason::Rows => 15,
-        Reason::Room => 16,
-    }
-}
-
-fn input_of(input: Input) -> u64
-    ensures { λ r. ⌜ (r ≡ inputOf input) × (r ≤ 4) ⌝ }
-{
-    match input {
-        Input::Table => 1,
-        Input::Plan => 2,
-        Input::Goal => 3,
-        Input::Lent => 4,
-    }
-}
 
 pub fn code_answer(first: usize, second: usize) -> u64
     requires { ⌜ (first < 2 ^ 16) × (second < 2 ^ 32) ⌝ }
@@ -65,8 +29,8 @@ fn code_refusal(f: Refusal) -> u64
 {
     let reason = f.reason;
     let input = f.input;
-    let n = number_of(reason);
-    let i = input_of(input);
+    let n = table::number_of(reason) as u64;
+    let i = table::input_of(input) as u64;
     let p = f.place as u64;
     n + 256 * i + 65536 * p
 }

@@ -7,7 +7,6 @@ ghost use mathlib.Core.Path.{_≡_};
 ghost use mathlib.Core.List.{_++_};
 ghost use Prim.Native.Nat.{_≤_};
 ghost use lib.ListN.{length};
-ghost use Rattle.table.specs.Refusal.{numberOf};
 ghost use Rattle.listing.specs.Listing.{header, linesIn, refusal, listingOf, ListsTable, Lists, Written, Counts};
 ghost use Rattle.listing.specs.Walk.{Put, Whole, Planned};
 use crate::cells::read_cells;
@@ -15,31 +14,6 @@ use crate::text::put_header;
 use crate::text::put_refusal;
 use crate::walk::state;
 use least::BuildAnswer;
-use table::Reason;
-
-// 01's number of a refusal.
-fn number_of(reason: Reason) -> usize
-    ensures { λ r. ⌜ r ≡ numberOf reason ⌝ }
-{
-    match reason {
-        Reason::Length => 1,
-        Reason::Width => 2,
-        Reason::Count => 3,
-        Reason::Long => 4,
-        Reason::Short => 5,
-        Reason::Cell => 6,
-        Reason::Fresh => 7,
-        Reason::Twice => 8,
-        Reason::Extra => 9,
-        Reason::Size => 10,
-        Reason::Ends => 11,
-        Reason::Open => 12,
-        Reason::Edges => 13,
-        Reason::Label => 14,
-        Reason::Rows => 15,
-        Reason::Room => 16,
-    }
-}
 
 // The header and the lines of a plan.
 fn put_plan(
@@ -88,7 +62,7 @@ fn list_cells(table: &[u32], out: &mut [u8]) -> usize
         BuildAnswer::Refused(f) => {
             let reason = f.reason;
             let place = f.place;
-            list_refusal(number_of(reason), place, out)
+            list_refusal(table::number_of(reason), place, out)
         }
     }
 }

@@ -6,7 +6,7 @@ ghost use mathlib.Core.Bool.{_||_};
 ghost use Prim.Native.Nat.{_≤_};
 ghost use lib.Dec.{ltb};
 ghost use lib.ListN.{length, drop};
-ghost use Rattle.table.specs.Refusal.{numberOf, refused};
+ghost use Rattle.table.specs.Refusal.{numberOf, inputOf, refused};
 ghost use Rattle.table.specs.Read.{read, refuse, andThen};
 ghost use Rattle.table.specs.Table.{table, rowsFrom, tableOf, goalOf, goalWith, rowIn, TableReads, RowPlace, goalTold, goalSays};
 use terms::TermsRead;
@@ -43,6 +43,42 @@ pub struct Refusal {
     pub reason: Reason,
     pub input: Input,
     pub place: usize,
+}
+
+// 01's number of a reason. A reason added later is one line here, one above and one in specs/Refusal.
+pub fn number_of(reason: Reason) -> usize
+    ensures { λ r. ⌜ (r ≡ numberOf reason) × (r ≤ 16) ⌝ }
+{
+    match reason {
+        Reason::Length => 1,
+        Reason::Width => 2,
+        Reason::Count => 3,
+        Reason::Long => 4,
+        Reason::Short => 5,
+        Reason::Cell => 6,
+        Reason::Fresh => 7,
+        Reason::Twice => 8,
+        Reason::Extra => 9,
+        Reason::Size => 10,
+        Reason::Ends => 11,
+        Reason::Open => 12,
+        Reason::Edges => 13,
+        Reason::Label => 14,
+        Reason::Rows => 15,
+        Reason::Room => 16,
+    }
+}
+
+// The number of an input.
+pub fn input_of(input: Input) -> usize
+    ensures { λ r. ⌜ (r ≡ inputOf input) × (r ≤ 4) ⌝ }
+{
+    match input {
+        Input::Table => 1,
+        Input::Plan => 2,
+        Input::Goal => 3,
+        Input::Lent => 4,
+    }
 }
 
 // A table that is read: its width and its number of rows; or why it is turned away.

@@ -58,7 +58,7 @@ returns-2 c =
     let n = c .before .before .before .before .number-of in
     let turned = plan-refused (c .before .before .before .before .before .before .before .before .before .build-plan .ensures) (length-replicate {A = ℕ} 6082 0) f (c .before .before .before .before .before .before .f .given .1) in
     written-as (c .before .before .list-refusal .ensures)
-    (λ text e. subst (ListsTable _) (ap (λ (m : ℕ). refusal m (f .place)) (sym (n .ensures)) ∙ e) (refused (told f) turned))
+    (λ text e. subst (ListsTable _) (ap (λ (m : ℕ). refusal m (f .place)) (sym (n .ensures .0)) ∙ e) (refused (told f) turned))
 
 pub list-cells-spec : {M : Type 1} → statement M
 list-cells-spec =
