@@ -1,12 +1,12 @@
 -- The check of a state, step by step: what each answer of the code makes of the reading and of the marks.
 use mathlib.Core.Path.{_≡_, refl, sym, ap, _∙_}
 use mathlib.Core.Logic.{_≢_, by-cases}
-use mathlib.Core.List.{List, [], _∷_, _++_, append-assoc}
-use Prim.Native.Nat.{ℕ, suc, _+_, _-_, _≤_, _<_}
+use mathlib.Core.List.{List, [], _∷_, _++_, map, append-assoc}
+use Prim.Native.Nat.{ℕ, zero, suc, _+_, _-_, _≤_, _<_, max}
 use native.Mathlib.Nat.{add-zero}
 use native.Mathlib.Decide.{decLt}
 use native.Mathlib.Omega.{arith}
-use lib.ListN.{length, getD, drop, set, length-set, length-drop, length-append}
+use lib.ListN.{length, getD, take, drop, set, length-set, length-drop, length-append}
 use lib.Seq.{sets, length-sets, set-comm, drop-cons}
 use Rattle.cell.specs.Cell.{arity}
 use Rattle.term.specs.Terms.{Terms, none, more, root, close}
@@ -119,6 +119,27 @@ terms-few : {k : ℕ} {r : List ℕ} → Terms k r → k ≤ length r
 terms-few none = omega arith
 terms-few (more t) = omega (arith, terms-few t)
 
+-- How deep the check can still go: the cells of the longest row.
+abbrev pub longest : List (List ℕ) → ℕ
+longest [] = 0
+longest (r ∷ rows) = max (length r) (longest rows)
+
+longest-take : (n : ℕ) (rows : List (List ℕ)) → longest (take n rows) ≤ longest rows
+longest-take zero rows = omega arith
+longest-take (suc n) [] = omega arith
+longest-take (suc n) (r ∷ rows) = omega (arith, longest-take n rows)
+
+longest-drop : (n : ℕ) (rows : List (List ℕ)) → longest (drop n rows) ≤ longest rows
+longest-drop zero rows = omega arith
+longest-drop (suc n) [] = omega arith
+longest-drop (suc n) (r ∷ rows) = omega (arith, longest-drop n rows)
+
+-- closing a place takes a cell from each row
+longest-close : (i k : ℕ) → i < k → (rows : List (List ℕ)) → All (Fitting k) rows → 0 < length rows → longest (map (close i) rows) < longest rows
+longest-close i k h [] f l = absurd (omega arith)
+longest-close i k h (r ∷ []) f l = omega (arith, close-length i (f .0 .0) h)
+longest-close i k h (r ∷ s ∷ rows) f l = omega (arith, close-length i (f .0 .0) h, longest-close i k h (s ∷ rows) (f .1) (omega arith))
+
 -- A state that is turned away, whatever its masks, column and marks have become.
 pub refused-done : {t ss ms hs ms′ hs′ p es ns es′ ns′ : List ℕ} {first last k at : ℕ} {f : Refusal} (x : Refused)
     → stateFrom 32 k (rowsIn t ss ms first last) at (drop at p) ≡ refuse x → told f ≡ x → Same last ms ms′ → Same last hs hs′
@@ -184,7 +205,10 @@ module _ {t ss ms hs p es ns : List ℕ} {first last k at : ℕ} (w : Ready t ss
         (as-node l ∙ node-edges (stateFrom 32) (k - 1) rows p at h (omega arith) (λ (x : getD p (at + 1) 0 ≡ length (runs (getD p at 0) rows)). d (x ∙ sym (number n e))))
         q (c .masks) (c .column)
 
-    -- the rows below each branch fit
+    -- the rows are shorter, and fit, below each branch
+    pub shorter : longest (rowsIn t ss ms₁ first last) < longest rows
+    shorter = rw (c .rows) (longest-close (getD p at 0) k i rows (w .rows) some-row)
+
     pub ready-branches : ReadyIn t ss ms₁ hs₁ p (set (set es at 0) (at + 1) 0) (set (set ns at 0) (at + 1) 0) first last (k - 1) (at + 2)
     ready-branches = record {
       room = record {
@@ -231,7 +255,7 @@ module _ {t ss ms hs p es ns : List ℕ} {first last k at : ℕ} (w : Ready t ss
 -- branches counted so far. The lists are those where the loop begins, and as they are now.
 pub record Going (t ss p ms hs es ns : List ℕ) (first last k at : ℕ) (ms₁ hs₁ es₁ ns₁ : List ℕ) (row place count : ℕ) : Type 0 where
   pub ready : ReadyIn t ss ms₁ hs₁ p es₁ ns₁ row last k place
-  pub later : at ≤ place
+  pub deep : longest (rowsIn t ss ms₁ row last) ≤ longest (rowsIn t ss ms first last)
   pub few : count ≤ place
   pub masks : Same last ms ms₁
   pub column : Same last hs hs₁
@@ -244,7 +268,7 @@ pub going-start : {t ss ms hs p es ns : List ℕ} {first last k at : ℕ} → Re
     → Going t ss p ms hs es ns first last k at ms hs es ns first at 0
 going-start {t} {ss} {ms} {hs} {p} {first = first} {last} {k} {at} w = record {
   ready = w;
-  later = omega arith;
+  deep = omega arith;
   few = omega arith;
   masks = same-self last ms;
   column = same-self last hs;
@@ -330,6 +354,9 @@ module _ {t ss p ms hs es ns : List ℕ} {first last k at : ℕ} {ms₁ hs₁ es
         rows = (rw (r .runs) at (g .ready .runs)) .0;
       }
 
+      pub shorter-below : longest (rowsIn t ss ms₁ row (row + n)) ≤ longest (rowsIn t ss ms first last)
+      shorter-below = omega (arith, g .deep, ap longest (r .front), longest-take n (rowsIn t ss ms₁ row last))
+
       -- it is turned away
       pub going-below : {ms₂ hs₂ es₂ ns₂ : List ℕ} {f : Refusal} {s : Step} → Done t ss ms₁ hs₁ ms₂ hs₂ p es₁ ns₁ es₂ ns₂ row (row + n) (arity c + k) (place + 1) s
           → s ≡ step.Refused f → DoneIn t ss ms hs ms₂ hs₂ p es ns es₂ ns₂ first last k at (step.Refused f)
@@ -387,7 +414,13 @@ module _ {t ss p ms hs es ns : List ℕ} {first last k at : ℕ} {ms₁ hs₁ es
         pub going-on : Going t ss p ms hs es ns first last k at ms₂ hs₂ (set es₂ place m) (set ns₂ place n) (row + n) m (count + (1 + b))
         going-on = record {
           ready = ready-next;
-          later = omega (arith, g .later, going-next);
+          deep = omega (
+            arith,
+            g .deep,
+            ap longest (rows-kept t ss ms₁ ms₂ (last - (row + n)) (row + n) (a .masks .after)),
+            ap longest (r .back),
+            longest-drop n (rowsIn t ss ms₁ row last),
+          );
           few = omega (arith, g .few, going-next);
           masks = same-then last (g .masks) (same-later (row + n) last (r .few) (a .masks));
           column = same-then last (g .column) (same-later (row + n) last (r .few) (a .column));
