@@ -1,14 +1,12 @@
-use mathlib.Core.Path.{_≡_}
 use native.Mathlib.Omega.{arith}
 use borrow.Author.Needs.{needs}
-use lib.ListN.{length, getD}
+use lib.ListN.{getD}
 use Rattle.cell.specs.Cell.{arity}
 use Rattle.plan.specs.States.{rowsIn}
-use Rattle.plan.specs.Steps.{Ready, Done}
-use Rattle.plan.specs.declared.check.Step.the-variants as step
-use Rattle.plan.proofs.RowsLaws.{FirstRun}
-use Rattle.plan.proofs.StepLaws.{longest, few-open, shorter, shorter-below, Going, going-start, going-done, going-run, going-ends, going-label, ready-below, going-below, going-next, going-on, done-ends, done-rows, done-leaf, done-open, done-ends-2, done-edges, ready-branches, done-node}
-use Prim.Native.Nat.{ℕ, _+_, _-_, _*_, _≤_, _<_}
+use Rattle.plan.specs.Steps.{Done}
+use Rattle.plan.proofs.StateLaws.{longest, few-open, shorter, done-ends, done-rows, done-leaf, done-open, done-ends-2, done-edges, ready-branches, done-node}
+use Rattle.plan.proofs.LoopLaws.{Going, going-start, going-done, going-ends, going-label, Turn, turn-of, ready-below, shorter-below, turn-refused, turn-next, turn-on}
+use Prim.Native.Nat.{ℕ, _+_, _-_, _*_, _<_}
 use borrow.Fn.Kinds.{In}
 use borrow.Fn.PlainCycle.{Measures, is, falls, and}
 use Rattle.plan.proofs.check.branches.Reads as branches
@@ -60,26 +58,30 @@ abbrev branches-μ-loop : branches-lts.MeasureT-loop
 branches-μ-loop table starts masks₀ column₀ plan ends₀ many₀ first end k at row₀ place₀ count₀ masks column ends many row place count =
     end - row
 
--- the first run of the rows that are left, the state below its branch, and what is done there
-run-here : (t : ℕ) (c : branches-lts.After-run-length (branches-with t) (branches-at t) branches.Post branches-Inv-loop branches-μ-loop)
-    → FirstRun (c .before .before .before .before .before .before .before .before .before .before .before .before .args .table .now) (c .before .before .before .before .before .before .before .before .before .before .before .before .args .starts .now) (c .before .before .before .before .before .before .before .before .before .loop .masks) (c .before .before .before .before .before .before .before .before .before .loop .column) (c .before .before .before .before .before .before .before .before .before .loop .row) (c .before .before .before .before .before .before .before .before .before .before .before .before .args .end) (c .run-length .result)
-run-here t c = going-run (c .before .before .before .before .before .before .before .before .before .loop .inv) (c .before .before .before .before .before .before .before .before .loop-test .taken) (c .run-length .result) (c .run-length .ensures)
+-- the places of `branches` that its answers go back to: where the run's length is known, the turn of the loop before that, and the call before that
+abbrev At-run : ℕ → Type 0
+At-run t = branches-lts.After-run-length (branches-with t) (branches-at t) branches.Post branches-Inv-loop branches-μ-loop
 
-below : (t : ℕ) (c : branches-lts.After-run-length (branches-with t) (branches-at t) branches.Post branches-Inv-loop branches-μ-loop)
-    → Ready (c .before .before .before .before .before .before .before .before .before .before .before .before .args .table .now) (c .before .before .before .before .before .before .before .before .before .before .before .before .args .starts .now) (c .before .before .before .before .before .before .before .before .before .loop .masks) (c .before .before .before .before .before .before .before .before .before .loop .column) (c .before .before .before .before .before .before .before .before .before .before .before .before .args .plan .now) (c .before .before .before .before .before .before .before .before .before .loop .ends) (c .before .before .before .before .before .before .before .before .before .loop .many)
-    (c .before .before .before .before .before .before .before .before .before .loop .row) (c .before .before .before .before .before .before .before .before .before .loop .row + c .run-length .result) (arity (getD (c .before .before .before .before .before .before .before .before .before .loop .column) (c .before .before .before .before .before .before .before .before .before .loop .row) 0) + c .before .before .before .before .before .before .before .before .before .before .before .before .args .k) (c .before .before .before .before .before .before .before .before .before .loop .place + 1)
-below t c = ready-below (c .before .before .before .before .before .before .before .before .before .loop .inv) (c .before .before .before .before .before .before .before .before .loop-test .taken) (c .before .before .before .before .before .before .before .if1 .left) (c .before .before .before .before .if2 .left) (c .run-length .result) (run-here t c)
+abbrev turn-at : (t : ℕ) → At-run t → branches-lts.At-loop (branches-with t) (branches-at t) branches.Post branches-Inv-loop branches-μ-loop
+turn-at t c = c .before .before .before .before .before .before .before .before .before
 
-done-below : (t : ℕ) (c : branches-lts.After-state (branches-with t) (branches-at t) branches.Post branches-Inv-loop branches-μ-loop)
-    → Done (c .before .before .before .before .before .before .before .before .before .before .before .before .before .before .before .before .before .before .args .table .now) (c .before .before .before .before .before .before .before .before .before .before .before .before .before .before .before .before .before .before .args .starts .now) (c .before .before .before .before .before .before .before .before .before .before .before .before .before .before .before .loop .masks) (c .before .before .before .before .before .before .before .before .before .before .before .before .before .before .before .loop .column) (c .state .last .1 .1 .0) (c .state .last .1 .1 .1 .0) (c .before .before .before .before .before .before .before .before .before .before .before .before .before .before .before .before .before .before .args .plan .now)
-    (c .before .before .before .before .before .before .before .before .before .before .before .before .before .before .before .loop .ends) (c .before .before .before .before .before .before .before .before .before .before .before .before .before .before .before .loop .many) (c .state .last .1 .1 .1 .1 .1 .0) (c .state .last .1 .1 .1 .1 .1 .1 .0) (c .before .before .before .before .before .before .before .before .before .before .before .before .before .before .before .loop .row) (c .before .before .before .before .before .before .before .before .before .before .before .before .before .before .before .loop .row + c .before .before .before .before .before .before .run-length .result)
-    (arity (getD (c .before .before .before .before .before .before .before .before .before .before .before .before .before .before .before .loop .column) (c .before .before .before .before .before .before .before .before .before .before .before .before .before .before .before .loop .row) 0) + c .before .before .before .before .before .before .before .before .before .before .before .before .before .before .before .before .before .before .args .k) (c .before .before .before .before .before .before .before .before .before .before .before .before .before .before .before .loop .place + 1) (c .state .result)
-done-below t c = rw (c .before .before .before .before .before .arity-of .ensures) at (c .state .ensures)
+abbrev call-at : (t : ℕ) → At-run t → branches-lts.Start (branches-with t) (branches-at t) branches.Post branches-Inv-loop branches-μ-loop
+call-at t c = c .before .before .before .before .before .before .before .before .before .before .before .before
 
-next-here : (t : ℕ) (c : branches-lts.After-state (branches-with t) (branches-at t) branches.Post branches-Inv-loop branches-μ-loop) {b m : ℕ} → c .state .result ≡ step.Seen b m
-    → (c .before .before .before .before .before .before .before .before .before .before .before .before .before .before .before .loop .place < m) × (m ≤ length (c .before .before .before .before .before .before .before .before .before .before .before .before .before .before .before .before .before .before .args .plan .now)) × (b < m - c .before .before .before .before .before .before .before .before .before .before .before .before .before .before .before .loop .place)
-next-here t c e =
-    going-next (c .before .before .before .before .before .before .before .before .before .before .before .before .before .before .before .loop .inv) (c .before .before .before .before .before .before .before .before .before .before .before .before .before .before .loop-test .taken) (c .before .before .before .before .before .before .before .before .before .before .before .before .before .if1 .left) (c .before .before .before .before .before .before .before .before .before .before .if2 .left) (c .before .before .before .before .before .before .run-length .result) (run-here t (c .before .before .before .before .before .before)) (done-below t c) e
+-- the turn
+turn : (t : ℕ) (c : At-run t) → let l = turn-at t c .loop in let a = call-at t c .args in
+    Turn (a .table .now) (a .starts .now) (a .plan .now) (a .masks .now) (a .column .now) (a .ends .now) (a .many .now) (a .first) (a .end) (a .k) (a .at)
+    (l .masks) (l .column) (l .ends) (l .many) (l .row) (l .place) (l .count) (c .run-length .result)
+turn t c = turn-of (c .run-length .result) (c .before .before .before .before .before .before .before .before .before .loop .inv) (c .before .before .before .before .before .before .before .before .loop-test .taken) (c .before .before .before .before .before .before .before .if1 .left) (c .before .before .before .before .if2 .left) (c .run-length .ensures)
+
+-- the state below the branch, and its answer
+abbrev At-state : ℕ → Type 0
+At-state t = branches-lts.After-state (branches-with t) (branches-at t) branches.Post branches-Inv-loop branches-μ-loop
+
+below : (t : ℕ) (s : At-state t) → let c = s .before .before .before .before .before .before in let l = turn-at t c .loop in let a = call-at t c .args in let z = s .state .last in
+    Done (a .table .now) (a .starts .now) (l .masks) (l .column) (z .1 .1 .0) (z .1 .1 .1 .0) (a .plan .now) (l .ends) (l .many) (z .1 .1 .1 .1 .1 .0) (z .1 .1 .1 .1 .1 .1 .0)
+    (l .row) (l .row + c .run-length .result) (arity (getD (l .column) (l .row) 0) + a .k) (l .place + 1) (s .state .result)
+below t s = rw (s .before .before .before .before .before .arity-of .ensures) at (s .state .ensures)
 
 branches-loop-holds : (t : ℕ) → branches-lts.Need-loop-holds (branches-with t) (branches-at t) branches.Post branches-Inv-loop branches-μ-loop
 branches-loop-holds t c = going-start (c .before .before .pre .1)
@@ -127,54 +129,47 @@ branches-arity-of-requires : (t : ℕ) → branches-lts.Need-arity-of-requires (
 branches-arity-of-requires t c κs = search needs
 
 branches-add-open : (t : ℕ) → branches-lts.Need-add-open (branches-with t) (branches-at t) branches.Post branches-Inv-loop branches-μ-loop
-branches-add-open t c = record { fits = omega (arith, few-open (below t (c .before)), c .arity-of .ensures) }
+branches-add-open t c = record { fits = omega (arith, few-open (ready-below (turn t (c .before))), c .arity-of .ensures) }
 
 branches-add-state : (t : ℕ) → branches-lts.Need-add-state (branches-with t) (branches-at t) branches.Post branches-Inv-loop branches-μ-loop
-branches-add-state t c = record { fits = omega (arith, below t (c .before .before .before .before .before) .room .few) }
+branches-add-state t c = record { fits = omega (arith, ready-below (turn t (c .before .before .before .before .before)) .room .few) }
 
 branches-add-state-2 : (t : ℕ) → branches-lts.Need-add-state-2 (branches-with t) (branches-at t) branches.Post branches-Inv-loop branches-μ-loop
 branches-add-state-2 t c = search needs
 
 branches-state-requires : (t : ℕ) → branches-lts.Need-state-requires (branches-with t) (branches-at t) branches.Post branches-Inv-loop branches-μ-loop
-branches-state-requires t c κs =
-    let r = c .before .before .before .before .before in (
-      omega (arith, shorter-below (r .before .before .before .before .before .before .before .before .before .loop .inv) (r .before .before .before .before .before .before .before .before .loop-test .taken) (r .before .before .before .before .before .before .before .if1 .left) (r .before .before .before .before .if2 .left) (r .run-length .result) (run-here t r)),
-      rw (c .before .before .before .before .arity-of .ensures) (below t r),
-    )
+branches-state-requires t c κs = let w = turn t (c .before .before .before .before .before) in (omega (arith, shorter-below w), rw (c .before .before .before .before .arity-of .ensures) (ready-below w))
 
 branches-enum-known-below : (t : ℕ) → branches-lts.Need-enum-known-below (branches-with t) (branches-at t) branches.Post branches-Inv-loop branches-μ-loop
 branches-enum-known-below t c = search needs
 
 branches-mark-requires : (t : ℕ) → branches-lts.Need-mark-requires (branches-with t) (branches-at t) branches.Post branches-Inv-loop branches-μ-loop
-branches-mark-requires t c κs = omega (arith, next-here t (c .before .before .before .before .before) (c .before .before .before .below .given .1), below t (c .before .before .before .before .before .before .before .before .before .before .before) .room .size, below t (c .before .before .before .before .before .before .before .before .before .before .before) .room .few)
+branches-mark-requires t c κs =
+    let w = turn t (c .before .before .before .before .before .before .before .before .before .before .before) in
+    omega (arith, turn-next w (below t (c .before .before .before .before .before)) (c .before .before .before .below .given .1), w .here, ready-below w .room .size, ready-below w .room .few)
 
 branches-add-count : (t : ℕ) → branches-lts.Need-add-count (branches-with t) (branches-at t) branches.Post branches-Inv-loop branches-μ-loop
-branches-add-count t c = record { fits = omega (arith, next-here t (c .before .before .before .before .before .before) (c .before .before .before .before .below .given .1), below t (c .before .before .before .before .before .before .before .before .before .before .before .before) .room .size) }
+branches-add-count t c = let w = turn t (c .before .before .before .before .before .before .before .before .before .before .before .before) in record { fits = omega (arith, turn-next w (below t (c .before .before .before .before .before .before)) (c .before .before .before .before .below .given .1), ready-below w .room .size) }
 
 branches-add-count-2 : (t : ℕ) → branches-lts.Need-add-count-2 (branches-with t) (branches-at t) branches.Post branches-Inv-loop branches-μ-loop
-branches-add-count-2 t c = record { fits = omega (arith, next-here t (c .before .before .before .before .before .before) (c .before .before .before .before .below .given .1), below t (c .before .before .before .before .before .before .before .before .before .before .before .before) .room .size, c .before .before .before .before .before .before .before .before .before .before .before .before .before .before .before .before .before .before .before .before .before .loop .inv .few) }
+branches-add-count-2 t c =
+    let w = turn t (c .before .before .before .before .before .before .before .before .before .before .before .before) in
+    record { fits = omega (arith, turn-next w (below t (c .before .before .before .before .before .before)) (c .before .before .before .before .below .given .1), ready-below w .room .size, w .going .few) }
 
 branches-enum-known-f : (t : ℕ) → branches-lts.Need-enum-known-f (branches-with t) (branches-at t) branches.Post branches-Inv-loop branches-μ-loop
 branches-enum-known-f t c = search needs
 
 branches-returns-3 : (t : ℕ) → branches-lts.Need-returns-3 (branches-with t) (branches-at t) branches.Post branches-Inv-loop branches-μ-loop
-branches-returns-3 t c =
-    let s = c .before .before .before in
-    going-below (s .before .before .before .before .before .before .before .before .before .before .before .before .before .before .before .loop .inv) (s .before .before .before .before .before .before .before .before .before .before .before .before .before .before .loop-test .taken) (s .before .before .before .before .before .before .before .before .before .before .before .before .before .if1 .left) (s .before .before .before .before .before .before .before .before .before .before .if2 .left) (s .before .before .before .before .before .before .run-length .result) (run-here t (s .before .before .before .before .before .before)) (done-below t s)
-    (c .before .f .given .1)
+branches-returns-3 t c = turn-refused (turn t (c .before .before .before .before .before .before .before .before .before)) (below t (c .before .before .before)) (c .before .f .given .1)
 
 branches-add-row : (t : ℕ) → branches-lts.Need-add-row (branches-with t) (branches-at t) branches.Post branches-Inv-loop branches-μ-loop
-branches-add-row t c = record { fits = omega (arith, below t (c .before .before .before .before .before .before .before .before .before .before .before .before) .room .few) }
+branches-add-row t c = record { fits = omega (arith, ready-below (turn t (c .before .before .before .before .before .before .before .before .before .before .before .before)) .room .few) }
 
 branches-loop-less : (t : ℕ) → branches-lts.Need-loop-less (branches-with t) (branches-at t) branches.Post branches-Inv-loop branches-μ-loop
-branches-loop-less t c = omega (arith, run-here t (c .before .before .before .before .before .before .before .before .before .before .before .before) .some)
+branches-loop-less t c = omega (arith, turn t (c .before .before .before .before .before .before .before .before .before .before .before .before) .run .some)
 
 branches-loop-again : (t : ℕ) → branches-lts.Need-loop-again (branches-with t) (branches-at t) branches.Post branches-Inv-loop branches-μ-loop
-branches-loop-again t c =
-    let s = c .before .before .before .before .before .before in
-    rw (c .mark .ensures .0, c .mark .ensures .1)
-    (going-on (s .before .before .before .before .before .before .before .before .before .before .before .before .before .before .before .loop .inv) (s .before .before .before .before .before .before .before .before .before .before .before .before .before .before .loop-test .taken) (s .before .before .before .before .before .before .before .before .before .before .before .before .before .if1 .left) (s .before .before .before .before .before .before .before .before .before .before .if2 .left) (s .before .before .before .before .before .before .run-length .result) (run-here t (s .before .before .before .before .before .before)) (done-below t s)
-    (c .before .before .before .before .below .given .1))
+branches-loop-again t c = rw (c .mark .ensures .0, c .mark .ensures .1) (turn-on (turn t (c .before .before .before .before .before .before .before .before .before .before .before .before)) (below t (c .before .before .before .before .before .before)) (c .before .before .before .before .below .given .1))
 
 branches-returns-4 : (t : ℕ) → branches-lts.Need-returns-4 (branches-with t) (branches-at t) branches.Post branches-Inv-loop branches-μ-loop
 branches-returns-4 t c = going-done (c .before .loop .inv) (c .loop-test .left)
@@ -262,27 +257,30 @@ state-refusal-requires-5 t c κs = search needs
 
 state-returns-6 : (t : ℕ) → state-lts.Need-returns-6 (state-with t) (state-at t) state.Post
 state-returns-6 t c =
-    done-edges (c .before .before .before .before .before .before .before .before .before .before .before .before .before .before .before .before .before .before .before .before .before .before .before .pre .1) (omega arith) (c .before .before .before .before .before .before .before .before .before .before .before .before .before .if5 .left) (c .before .before .before .before .before .before .before .before .before .before .before .before .before .before .if4 .left) (c .before .before .before .before .before .before .before .close-rows .ensures) (c .before .before .run-count .result) (c .before .before .run-count .ensures)
+    let e = c .before .before .before .before .before .before .before .before .before .before .before .before .before in
+    done-edges (e .before .before .before .before .before .before .before .before .before .before .pre .1) (omega arith) (e .if5 .left) (e .before .if4 .left) (c .before .before .before .before .before .before .before .close-rows .ensures) (c .before .before .run-count .result) (c .before .before .run-count .ensures)
     (c .before .if6 .taken) (c .refusal5 .ensures)
 
 state-sub-branches : (t : ℕ) → state-lts.Need-sub-branches (state-with t) (state-at t) state.Post
 state-sub-branches t c = search needs
 
 state-add-branches : (t : ℕ) → state-lts.Need-add-branches (state-with t) (state-at t) state.Post
-state-add-branches t c = let room = c .before .before .before .before .before .before .before .before .before .before .before .before .before .before .before .before .before .before .before .before .before .before .before .before .before .before .pre .1 .room in let next = c .before .before .before .before .before .before .before .before .before .before .before .before .before .before .before .before .if5 .left in record { fits = omega (arith, room .size, next) }
+state-add-branches t c = let e = c .before .before .before .before .before .before .before .before .before .before .before .before .before .before .before .before in record { fits = omega (arith, e .before .before .before .before .before .before .before .before .before .before .pre .1 .room .size, e .if5 .left) }
 
 state-branches-requires : (t : ℕ) → state-lts.Need-branches-requires (state-with t) (state-at t) state.Post
 state-branches-requires t c κs =
+    let e = c .before .before .before .before .before .before .before .before .before .before .before .before .before .before .before .before in
     let k = c .before .before .before .before .before .before .before .before .before .before .close-rows .ensures in (
-      omega (arith, shorter (c .before .before .before .before .before .before .before .before .before .before .before .before .before .before .before .before .before .before .before .before .before .before .before .before .before .before .pre .1) (omega arith) (c .before .before .before .before .before .before .before .before .before .before .before .before .before .before .before .before .if5 .left) (c .before .before .before .before .before .before .before .before .before .before .before .before .before .before .before .before .before .if4 .left) k),
-      rw (c .before .before .before .before .before .before .before .before .before .before .before .before .before .mark2 .ensures .0, c .before .before .before .before .before .before .before .before .before .before .before .before .before .mark2 .ensures .1, c .before .before .before .before .before .before .before .before .before .before .before .before .before .before .before .before .before .before .before .before .mark .ensures .0, c .before .before .before .before .before .before .before .before .before .before .before .before .before .before .before .before .before .before .before .before .mark .ensures .1)
-          (ready-branches (c .before .before .before .before .before .before .before .before .before .before .before .before .before .before .before .before .before .before .before .before .before .before .before .before .before .before .pre .1) (omega arith) (c .before .before .before .before .before .before .before .before .before .before .before .before .before .before .before .before .if5 .left) (c .before .before .before .before .before .before .before .before .before .before .before .before .before .before .before .before .before .if4 .left) k),
+      omega (arith, shorter (e .before .before .before .before .before .before .before .before .before .before .pre .1) (omega arith) (e .if5 .left) (e .before .if4 .left) k),
+      rw (c .before .before .before .before .before .before .before .before .before .before .before .before .before .mark2 .ensures .0, c .before .before .before .before .before .before .before .before .before .before .before .before .before .mark2 .ensures .1, e .before .before .before .before .mark .ensures .0, e .before .before .before .before .mark .ensures .1)
+          (ready-branches (e .before .before .before .before .before .before .before .before .before .before .pre .1) (omega arith) (e .if5 .left) (e .before .if4 .left) k),
     )
 
 state-returns-7 : (t : ℕ) → state-lts.Need-returns-7 (state-with t) (state-at t) state.Post
 state-returns-7 t c =
-    let b = rw (c .before .before .before .before .before .before .before .before .before .before .before .before .before .before .mark2 .ensures .0, c .before .before .before .before .before .before .before .before .before .before .before .before .before .before .mark2 .ensures .1, c .before .before .before .before .before .before .before .before .before .before .before .before .before .before .before .before .before .before .before .before .before .mark .ensures .0, c .before .before .before .before .before .before .before .before .before .before .before .before .before .before .before .before .before .before .before .before .before .mark .ensures .1) at (c .branches .ensures) in
-    done-node (c .before .before .before .before .before .before .before .before .before .before .before .before .before .before .before .before .before .before .before .before .before .before .before .before .before .before .before .pre .1) (omega arith) (c .before .before .before .before .before .before .before .before .before .before .before .before .before .before .before .before .before .if5 .left) (c .before .before .before .before .before .before .before .before .before .before .before .before .before .before .before .before .before .before .if4 .left) (c .before .before .before .before .before .before .before .before .before .before .before .close-rows .ensures) (c .before .before .before .before .before .before .run-count .result) (c .before .before .before .before .before .before .run-count .ensures)
+    let e = c .before .before .before .before .before .before .before .before .before .before .before .before .before .before .before .before .before in
+    let b = rw (c .before .before .before .before .before .before .before .before .before .before .before .before .before .before .mark2 .ensures .0, c .before .before .before .before .before .before .before .before .before .before .before .before .before .before .mark2 .ensures .1, e .before .before .before .before .mark .ensures .0, e .before .before .before .before .mark .ensures .1) at (c .branches .ensures) in
+    done-node (e .before .before .before .before .before .before .before .before .before .before .pre .1) (omega arith) (e .if5 .left) (e .before .if4 .left) (c .before .before .before .before .before .before .before .before .before .before .before .close-rows .ensures) (c .before .before .before .before .before .before .run-count .result) (c .before .before .before .before .before .before .run-count .ensures)
     (c .before .before .before .before .before .if6 .left) b
 
 pub +branches+state-spec : {M : Type 1} → statement M
