@@ -10,4 +10,5 @@ pub mod RowsLaws
 pub mod StateLaws
 pub mod LoopLaws
 pub mod EntryLaws
+pub mod Accepts
 pub mod Fixed

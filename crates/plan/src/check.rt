@@ -150,6 +150,7 @@ fn branches(
         let cells = &column[..];
         let n = run_length(&cells[row..end]);
         let open = cell::arity_of(c) + k;
+        let under = place + 1;
         match state(
             table,
             starts,
@@ -161,7 +162,7 @@ fn branches(
             row,
             row + n,
             open,
-            place + 1,
+            under,
         ) {
             Step::Seen(below, next) => {
                 mark(ends, many, place, next, n);

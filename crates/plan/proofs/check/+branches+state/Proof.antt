@@ -131,11 +131,11 @@ branches-arity-of-requires t c κs = search needs
 branches-add-open : (t : ℕ) → branches-lts.Need-add-open (branches-with t) (branches-at t) branches.Post branches-Inv-loop branches-μ-loop
 branches-add-open t c = record { fits = omega (arith, few-open (ready-below (turn t (c .before))), c .arity-of .ensures) }
 
+branches-add-under : (t : ℕ) → branches-lts.Need-add-under (branches-with t) (branches-at t) branches.Post branches-Inv-loop branches-μ-loop
+branches-add-under t c = search needs
+
 branches-add-state : (t : ℕ) → branches-lts.Need-add-state (branches-with t) (branches-at t) branches.Post branches-Inv-loop branches-μ-loop
 branches-add-state t c = record { fits = omega (arith, ready-below (turn t (c .before .before .before .before .before)) .room .few) }
-
-branches-add-state-2 : (t : ℕ) → branches-lts.Need-add-state-2 (branches-with t) (branches-at t) branches.Post branches-Inv-loop branches-μ-loop
-branches-add-state-2 t c = search needs
 
 branches-state-requires : (t : ℕ) → branches-lts.Need-state-requires (branches-with t) (branches-at t) branches.Post branches-Inv-loop branches-μ-loop
 branches-state-requires t c κs = let w = turn t (c .before .before .before .before .before) in (omega (arith, shorter-below w), rw (c .before .before .before .before .arity-of .ensures) (ready-below w))
@@ -304,8 +304,8 @@ pub +branches+state-spec : {M : Type 1} → statement M
     (branches-run-length-requires t)
     (branches-arity-of-requires t)
     (branches-add-open t)
+    (branches-add-under t)
     (branches-add-state t)
-    (branches-add-state-2 t)
     (branches-state-requires t)
     (branches-enum-known-below t)
     (branches-mark-requires t)
