@@ -7,6 +7,8 @@ pub mod Examples
 pub mod MaskLaws
 pub mod ColumnLaws
 pub mod RowsLaws
-pub mod StepLaws
+pub mod StateLaws
+pub mod LoopLaws
 pub mod EntryLaws
+pub mod Accepts
 pub mod Fixed

@@ -1,7 +1,7 @@
 // The check of a plan, state by state (01, "Plans" and the plan's rows of "What is turned away").
 ghost use mathlib.Core.Path.{_≡_};
-ghost use Prim.Native.Nat.{_≤_};
-ghost use lib.ListN.{length};
+ghost use Prim.Native.Nat.{_≤_, _<_};
+ghost use lib.ListN.{length, set};
 ghost use Rattle.table.specs.Refusal.{numberOf, told};
 ghost use Rattle.plan.specs.Check.{bad};
 ghost use Rattle.plan.specs.States.{Closes};
@@ -52,7 +52,17 @@ fn close_rows(
     }
 }
 
-// The state at place `at` of the plan, with k open places and the rows from first to before end. No cell of a state itself is a branch's: its marks are 0.
+// Notes at a place of the plan where the branch there ends and how many rows it has; both are 0 where no branch's cell is.
+fn mark(ends: &mut [u16; 6082], many: &mut [u8; 6082], place: usize, end: usize, rows: usize)
+    requires { ⌜ (place < 6082) × (end ≤ 6082) × (rows ≤ 64) ⌝ }
+    ensures { λ r. ⌜ (now (ends .exit) ≡ set (now (ends .entry)) place end) × (now (many .exit) ≡ set (now (many .entry)) place rows) ⌝ }
+{
+    ends[place] = end as u16;
+    many[place] = rows as u8;
+}
+
+// The state at place `at` of the plan, with k open places and the rows from first to before end. It goes no deeper than 32: each state closes one cell
+// of each of its rows.
 pub fn state(
     table: &[u32],
     starts: &[usize; 64],
@@ -72,8 +82,7 @@ pub fn state(
     if plan.len() <= at {
         return Step::Refused(refusal(Reason::Ends, at));
     }
-    ends[at] = 0;
-    many[at] = 0;
+    mark(ends, many, at, 0, 0);
     let next = at + 1;
     let i = plan[at];
     if k == 0 {
@@ -88,8 +97,7 @@ pub fn state(
     if plan.len() <= next {
         return Step::Refused(refusal(Reason::Ends, next));
     }
-    ends[next] = 0;
-    many[next] = 0;
+    mark(ends, many, next, 0, 0);
     close_rows(table, starts, masks, column, i, first, end);
     let cells = &column[..];
     if plan[next] as usize != run_count(&cells[first..end]) {
@@ -134,13 +142,15 @@ fn branches(
         if plan.len() <= place {
             return Step::Refused(refusal(Reason::Ends, place));
         }
+        let label = plan[place];
         let c = column[row];
-        if plan[place] != c {
+        if label != c {
             return Step::Refused(refusal(Reason::Label, place));
         }
         let cells = &column[..];
         let n = run_length(&cells[row..end]);
         let open = cell::arity_of(c) + k;
+        let under = place + 1;
         match state(
             table,
             starts,
@@ -152,11 +162,10 @@ fn branches(
             row,
             row + n,
             open,
-            place + 1,
+            under,
         ) {
             Step::Seen(below, next) => {
-                ends[place] = next as u16;
-                many[place] = n as u8;
+                mark(ends, many, place, next, n);
                 count += 1 + below;
                 place = next;
             }

@@ -1,33 +1,33 @@
--- The check of a state, step by step: what each answer of the code makes of the reading and of the marks.
+-- A state of the check: the tree that stands at its place with its marks, and what each answer of the code makes of the reading.
 use mathlib.Core.Path.{_≡_, refl, sym, ap, _∙_}
 use mathlib.Core.Logic.{_≢_, by-cases}
-use mathlib.Core.List.{List, [], _∷_, _++_, append-assoc}
-use Prim.Native.Nat.{ℕ, suc, _+_, _-_, _≤_, _<_}
+use mathlib.Core.List.{List, [], _∷_, _++_, map, append-assoc}
+use Prim.Native.Nat.{ℕ, zero, suc, _+_, _-_, _≤_, _<_, max}
 use native.Mathlib.Nat.{add-zero}
 use native.Mathlib.Decide.{decLt}
 use native.Mathlib.Omega.{arith}
-use lib.ListN.{length, getD, drop, set, length-set, length-drop, length-append}
-use lib.Seq.{sets, length-sets, set-comm, drop-cons}
+use lib.ListN.{length, getD, take, drop, set, length-set, length-append}
+use lib.Seq.{sets, set-comm, drop-cons}
 use Rattle.cell.specs.Cell.{arity}
 use Rattle.term.specs.Terms.{Terms, none, more, root, close}
 use Rattle.term.proofs.PlaceLaws.{close-terms, close-length}
 use Rattle.table.specs.All.{All}
 use Rattle.table.specs.Refusal.{Refused, told}
-use Rattle.table.specs.Read.{read, refuse}
+use Rattle.table.specs.Read.{refuse}
 use Rattle.table.specs.declared.Refusal.{Refusal}
-use Rattle.plan.specs.Runs.{Run, run, runs}
+use Rattle.plan.specs.Runs.{Run, runs}
 use Rattle.plan.specs.Plans.{Plan, leaf, node, Branches, end, next, write, writes, branches, branchesIn}
-use Rattle.plan.specs.Check.{Seen, seen, bad, branchesFrom, nodeFrom, stateFrom}
+use Rattle.plan.specs.Check.{Seen, bad, nodeFrom, stateFrom}
 use Rattle.plan.specs.Marks.{endsIn, endsOf, manyIn, manyOf}
-use Rattle.plan.specs.Column.{runLength, runCount}
-use Rattle.plan.specs.States.{rowsIn, columnIn, runsIn, Same, Closes}
-use Rattle.plan.specs.Steps.{saidBy, Fitting, Ready, ReadyIn, Stood, StoodIn, Notes, NotesIn, Done, DoneIn}
+use Rattle.plan.specs.Column.{runCount}
+use Rattle.plan.specs.States.{rowsIn, columnIn, Same, Closes}
+use Rattle.plan.specs.Steps.{Fitting, Ready, ReadyIn, Stood, StoodIn, Notes, NotesIn, Done, DoneIn}
 use Rattle.plan.specs.declared.check.Step.{Step}
 use Rattle.plan.specs.declared.check.Step.the-variants as step
 use Rattle.plan.proofs.RunsLaws.{group-all}
-use Rattle.plan.proofs.CheckLaws.{leaf-ends, leaf-rows, leaf-read, node-ends, node-open, node-ends-2, node-edges, node-on, state-leaf, state-again, after, after-none, after-after, branches-ends, branches-label, branches-refused, branches-on}
+use Rattle.plan.proofs.CheckLaws.{leaf-ends, leaf-rows, leaf-read, node-ends, node-open, node-ends-2, node-edges, node-on, state-leaf, state-again}
 use Rattle.plan.proofs.MarksLaws.{ends-length, many-length}
-use Rattle.plan.proofs.RowsLaws.{rows-first, rows-length, rows-kept, FirstRun, run-first, run-number, runs-closed, same-self, same-then, same-later}
+use Rattle.plan.proofs.RowsLaws.{rows-first, rows-length, run-number, runs-closed, same-self, same-then}
 
 -- Stores: one before others, and some after others.
 set-sets : (l : List ℕ) (i j x : ℕ) (ys : List ℕ) → i < j → set (sets l j ys) i x ≡ sets (set l i x) j ys
@@ -56,7 +56,7 @@ marks-two l l₂ xs at e =
 mutual
   unfolding write branches
 
-  more-cells : {k : ℕ} {rows : List (List ℕ)} (t : Plan k rows) → branches t < length (write t)
+  pub more-cells : {k : ℕ} {rows : List (List ℕ)} (t : Plan k rows) → branches t < length (write t)
   more-cells leaf = omega arith
   more-cells (node i h bs) = omega (arith, some-cells bs)
 
@@ -93,7 +93,7 @@ node-stood k rows p es ns es′ ns′ at b n l h i c s =
       many = marks-two ns ns′ (manyOf (s .trees)) at (s .many);
     })
 
-next-stood : {k : ℕ} {g : Run} {gs : List Run} {p es ns es₁ ns₁ es₂ ns₂ : List ℕ} {at b m n c : ℕ} → at < length p → getD p at 0 ≡ g .cell
+pub next-stood : {k : ℕ} {g : Run} {gs : List Run} {p es ns es₁ ns₁ es₂ ns₂ : List ℕ} {at b m n c : ℕ} → at < length p → getD p at 0 ≡ g .cell
     → Stood (arity (g .cell) + k) (g .rows) p es ns es₁ ns₁ (at + 1) b n
     → StoodIn k gs p (set es₁ at n) (set ns₁ at (length (g .rows))) es₂ ns₂ n c m → StoodIn k (g ∷ gs) p es ns es₂ ns₂ at (1 + b + c) m
 unfolding write branches endsIn manyIn
@@ -118,6 +118,27 @@ next-stood {g = g} {p = p} {es} {ns} {es₁} {ns₁} {es₂} {ns₂} {at} {b} {m
 terms-few : {k : ℕ} {r : List ℕ} → Terms k r → k ≤ length r
 terms-few none = omega arith
 terms-few (more t) = omega (arith, terms-few t)
+
+-- How deep the check can still go: the cells of the longest row.
+abbrev pub longest : List (List ℕ) → ℕ
+longest [] = 0
+longest (r ∷ rows) = max (length r) (longest rows)
+
+pub longest-take : (n : ℕ) (rows : List (List ℕ)) → longest (take n rows) ≤ longest rows
+longest-take zero rows = omega arith
+longest-take (suc n) [] = omega arith
+longest-take (suc n) (r ∷ rows) = omega (arith, longest-take n rows)
+
+pub longest-drop : (n : ℕ) (rows : List (List ℕ)) → longest (drop n rows) ≤ longest rows
+longest-drop zero rows = omega arith
+longest-drop (suc n) [] = omega arith
+longest-drop (suc n) (r ∷ rows) = omega (arith, longest-drop n rows)
+
+-- closing a place takes a cell from each row
+longest-close : (i k : ℕ) → i < k → (rows : List (List ℕ)) → All (Fitting k) rows → 0 < length rows → longest (map (close i) rows) < longest rows
+longest-close i k h [] f l = absurd (omega arith)
+longest-close i k h (r ∷ []) f l = omega (arith, close-length i (f .0 .0) h)
+longest-close i k h (r ∷ s ∷ rows) f l = omega (arith, close-length i (f .0 .0) h, longest-close i k h (s ∷ rows) (f .1) (omega arith))
 
 -- A state that is turned away, whatever its masks, column and marks have become.
 pub refused-done : {t ss ms hs ms′ hs′ p es ns es′ ns′ : List ℕ} {first last k at : ℕ} {f : Refusal} (x : Refused)
@@ -184,7 +205,10 @@ module _ {t ss ms hs p es ns : List ℕ} {first last k at : ℕ} (w : Ready t ss
         (as-node l ∙ node-edges (stateFrom 32) (k - 1) rows p at h (omega arith) (λ (x : getD p (at + 1) 0 ≡ length (runs (getD p at 0) rows)). d (x ∙ sym (number n e))))
         q (c .masks) (c .column)
 
-    -- the rows below each branch fit
+    -- the rows are shorter, and fit, below each branch
+    pub shorter : longest (rowsIn t ss ms₁ first last) < longest rows
+    shorter = rw (c .rows) (longest-close (getD p at 0) k i rows (w .rows) some-row)
+
     pub ready-branches : ReadyIn t ss ms₁ hs₁ p (set (set es at 0) (at + 1) 0) (set (set ns at 0) (at + 1) 0) first last (k - 1) (at + 2)
     ready-branches = record {
       room = record {
@@ -226,171 +250,3 @@ module _ {t ss ms hs p es ns : List ℕ} {first last k at : ℕ} (w : Ready t ss
             → NotesIn (k - 1) (runs (getD p at 0) rows) p (set (set es at 0) (at + 1) 0) (set (set ns at 0) (at + 1) 0) es₂ ns₂ (at + 2) r → Notes k rows p es ns es₂ ns₂ at r
         up m (step.Seen b n) s = node-stood k rows p es ns es₂ ns₂ at b n l h i m s
         up m (step.Refused f) s = tt
-
--- The loop over the branches. Rows from first to before row are done: what is left of the work, from row and place on, is all of it, but for the
--- branches counted so far. The lists are those where the loop begins, and as they are now.
-pub record Going (t ss p ms hs es ns : List ℕ) (first last k at : ℕ) (ms₁ hs₁ es₁ ns₁ : List ℕ) (row place count : ℕ) : Type 0 where
-  pub ready : ReadyIn t ss ms₁ hs₁ p es₁ ns₁ row last k place
-  pub later : at ≤ place
-  pub few : count ≤ place
-  pub masks : Same last ms ms₁
-  pub column : Same last hs hs₁
-  pub says : after count (branchesFrom (stateFrom 32) k (runsIn t ss ms₁ hs₁ row last) place (drop place p))
-      ≡ branchesFrom (stateFrom 32) k (runsIn t ss ms hs first last) at (drop at p)
-  pub notes : (es′ ns′ : List ℕ) (b n : ℕ) → StoodIn k (runsIn t ss ms₁ hs₁ row last) p es₁ ns₁ es′ ns′ place b n
-      → StoodIn k (runsIn t ss ms hs first last) p es ns es′ ns′ at (count + b) n
-
-pub going-start : {t ss ms hs p es ns : List ℕ} {first last k at : ℕ} → ReadyIn t ss ms hs p es ns first last k at
-    → Going t ss p ms hs es ns first last k at ms hs es ns first at 0
-going-start {t} {ss} {ms} {hs} {p} {first = first} {last} {k} {at} w = record {
-  ready = w;
-  later = omega arith;
-  few = omega arith;
-  masks = same-self last ms;
-  column = same-self last hs;
-  says = after-none (branchesFrom (stateFrom 32) k (runsIn t ss ms hs first last) at (drop at p));
-  notes = λ es′ ns′ b n s. let e : 0 + b ≡ b = omega arith in rw e s;
-}
-
-module _ {t ss p ms hs es ns : List ℕ} {first last k at : ℕ} {ms₁ hs₁ es₁ ns₁ : List ℕ} {row place count : ℕ}
-    (g : Going t ss p ms hs es ns first last k at ms₁ hs₁ es₁ ns₁ row place count) where
-  abbrev left : List Run
-  left = runsIn t ss ms₁ hs₁ row last
-
-  -- what is left is turned away
-  going-refused : {ms₂ hs₂ es₂ ns₂ : List ℕ} {f : Refusal} (x : Refused) → branchesFrom (stateFrom 32) k left place (drop place p) ≡ refuse x → told f ≡ x
-      → Same last ms₁ ms₂ → Same last hs₁ hs₂ → DoneIn t ss ms hs ms₂ hs₂ p es ns es₂ ns₂ first last k at (step.Refused f)
-  going-refused x e q a b = record {
-    says = sym (g .says) ∙ rw (e, q);
-    notes = tt;
-    masks = same-then last (g .masks) a;
-    column = same-then last (g .column) b;
-  }
-
-  -- no row is left
-  pub going-done : last ≤ row → DoneIn t ss ms hs ms₁ hs₁ p es ns es₁ ns₁ first last k at (step.Seen count place)
-  unfolding write branches endsIn manyIn
-  going-done h =
-      let e : last - row ≡ 0 = omega arith in
-      let none : left ≡ [] = rw e in
-      let z : count + 0 ≡ count = omega arith in
-      let here = rw none at (g .says) in
-      let nothing : StoodIn k left p es₁ ns₁ es₁ ns₁ place 0 place =
-      rw none (record { trees = end; cells = refl; count = refl; place = omega arith; ends = refl; many = refl }) in
-      record {
-        says = sym here ∙ ap (λ (b : ℕ). read (seen b place (drop place p))) z;
-        notes = rw z at (g .notes es₁ ns₁ 0 place nothing);
-        masks = g .masks;
-        column = g .column;
-      }
-
-  module _ (h : row < last) where
-    abbrev c : ℕ
-    c = getD hs₁ row 0
-
-    abbrev one : ℕ → Run
-    one n = run c (rowsIn t ss ms₁ row (row + n))
-
-    abbrev rest : ℕ → List Run
-    rest n = runsIn t ss ms₁ hs₁ (row + n) last
-
-    -- the first of the runs that are left
-    pub going-run : (n : ℕ) → n ≡ runLength (columnIn hs₁ row last) → FirstRun t ss ms₁ hs₁ row last n
-    going-run n e = run-first t ss ms₁ hs₁ row last n h (omega (arith, g .ready .room .column, g .ready .room .few)) e
-
-    abbrev size : ℕ
-    size = runLength (columnIn hs₁ row last)
-
-    whole : FirstRun t ss ms₁ hs₁ row last size
-    whole = going-run size refl
-
-    -- ENDS, LABEL
-    pub going-ends : {f : Refusal} → length p ≤ place → told f ≡ bad 11 place → DoneIn t ss ms hs ms₁ hs₁ p es ns es₁ ns₁ first last k at (step.Refused f)
-    going-ends l q = going-refused (bad 11 place) (rw (whole .runs) (branches-ends (stateFrom 32) k (one size) (rest size) p place l)) q (same-self last ms₁) (same-self last hs₁)
-
-    pub going-label : {f : Refusal} → place < length p → getD p place 0 ≢ c → told f ≡ bad 14 place
-        → DoneIn t ss ms hs ms₁ hs₁ p es ns es₁ ns₁ first last k at (step.Refused f)
-    going-label l d q = going-refused (bad 14 place) (rw (whole .runs) (branches-label (stateFrom 32) k (one size) (rest size) p place l d)) q (same-self last ms₁) (same-self last hs₁)
-
-    module _ (l : place < length p) (d : getD p place 0 ≡ c) (n : ℕ) (r : FirstRun t ss ms₁ hs₁ row last n) where
-      -- the state below the branch
-      pub ready-below : Ready t ss ms₁ hs₁ p es₁ ns₁ row (row + n) (arity c + k) (place + 1)
-      ready-below = record {
-        room = record {
-          masks = g .ready .room .masks;
-          column = g .ready .room .column;
-          ends = g .ready .room .ends;
-          many = g .ready .room .many;
-          size = g .ready .room .size;
-          here = omega arith;
-          few = omega (arith, r .few, g .ready .room .few);
-          some = omega arith;
-        };
-        row = omega (arith, r .some);
-        rows = (rw (r .runs) at (g .ready .runs)) .0;
-      }
-
-      -- it is turned away
-      pub going-below : {ms₂ hs₂ es₂ ns₂ : List ℕ} {f : Refusal} {s : Step} → Done t ss ms₁ hs₁ ms₂ hs₂ p es₁ ns₁ es₂ ns₂ row (row + n) (arity c + k) (place + 1) s
-          → s ≡ step.Refused f → DoneIn t ss ms hs ms₂ hs₂ p es ns es₂ ns₂ first last k at (step.Refused f)
-      going-below {f = f} b e =
-          going-refused (told f) (rw (r .runs) (branches-refused (stateFrom 32) k (one n) (rest n) p place (told f) l d (b .says ∙ ap (saidBy p) e))) refl
-          (same-later (row + n) last (r .few) (b .masks))
-          (same-later (row + n) last (r .few) (b .column))
-
-      -- it is read: on with the runs after it
-      module _ {ms₂ hs₂ es₂ ns₂ : List ℕ} {b m : ℕ} {s : Step} (a : Done t ss ms₁ hs₁ ms₂ hs₂ p es₁ ns₁ es₂ ns₂ row (row + n) (arity c + k) (place + 1) s)
-          (e : s ≡ step.Seen b m) where
-        rest-kept : runsIn t ss ms₂ hs₂ (row + n) last ≡ rest n
-        rest-kept = rw (a .column .after, rows-kept t ss ms₁ ms₂ (last - (row + n)) (row + n) (a .masks .after))
-
-        stood : Stood (arity c + k) (rowsIn t ss ms₁ row (row + n)) p es₁ ns₁ es₂ ns₂ (place + 1) b m
-        stood = rw e at (a .notes)
-
-        -- the place after it, and its branches, are within the plan
-        pub going-next : (place < m) × (m ≤ length p) × (b < m - place)
-        going-next =
-            let cells = ap length (stood .cells) in
-            omega (arith, stood .place, stood .count, more-cells (stood .tree), simp (length-drop, length-append) at cells)
-
-        ready-next : ReadyIn t ss ms₂ hs₂ p (set es₂ place m) (set ns₂ place n) (row + n) last k m
-        ready-next = record {
-          room = record {
-            masks = a .masks .size ∙ g .ready .room .masks;
-            column = a .column .size ∙ g .ready .room .column;
-            ends = length-set es₂ place m ∙ ap length (stood .ends) ∙ length-sets es₁ (place + 1) (endsIn (stood .tree) (place + 1)) ∙ g .ready .room .ends;
-            many = length-set ns₂ place n ∙ ap length (stood .many) ∙ length-sets ns₁ (place + 1) (manyIn (stood .tree)) ∙ g .ready .room .many;
-            size = g .ready .room .size;
-            here = going-next .1;
-            few = g .ready .room .few;
-            some = r .few;
-          };
-          runs = rw rest-kept ((rw (r .runs) at (g .ready .runs)) .1);
-        }
-
-        says-next : after (count + (1 + b)) (branchesFrom (stateFrom 32) k (runsIn t ss ms₂ hs₂ (row + n) last) m (drop m p))
-            ≡ branchesFrom (stateFrom 32) k (runsIn t ss ms hs first last) at (drop at p)
-        says-next =
-            let q : count + (1 + b) ≡ count + (b + 1) = omega arith in
-            let on = branches-on (stateFrom 32) k (one n) (rest n) p place (seen b m (drop m p)) l d (a .says ∙ ap (saidBy p) e) in
-            rw (rest-kept, q) (sym (after-after count (b + 1) (branchesFrom (stateFrom 32) k (rest n) m (drop m p))) ∙ ap (after count) (sym on) ∙ (rw (r .runs) at (g .says)))
-
-        notes-next : (es′ ns′ : List ℕ) (b′ n′ : ℕ) → StoodIn k (runsIn t ss ms₂ hs₂ (row + n) last) p (set es₂ place m) (set ns₂ place n) es′ ns′ m b′ n′
-            → StoodIn k (runsIn t ss ms hs first last) p es ns es′ ns′ at (count + (1 + b) + b′) n′
-        notes-next es′ ns′ b′ n′ s′ =
-            let z : n ≡ length (rowsIn t ss ms₁ row (row + n)) = omega (arith, rows-length t ss ms₁ (row + n - row) row) in
-            let q : count + (1 + b + b′) ≡ count + (1 + b) + b′ = omega arith in
-            let t′ = ap (λ (x : ℕ). set ns₂ place x) z in
-            let u = rw (rest-kept, t′) at s′ in
-            rw q at (g .notes es′ ns′ (1 + b + b′) n′ (rw (r .runs) (next-stood l d stood u)))
-
-        pub going-on : Going t ss p ms hs es ns first last k at ms₂ hs₂ (set es₂ place m) (set ns₂ place n) (row + n) m (count + (1 + b))
-        going-on = record {
-          ready = ready-next;
-          later = omega (arith, g .later, going-next);
-          few = omega (arith, g .few, going-next);
-          masks = same-then last (g .masks) (same-later (row + n) last (r .few) (a .masks));
-          column = same-then last (g .column) (same-later (row + n) last (r .few) (a .column));
-          says = says-next;
-          notes = notes-next;
-        }
