@@ -1,3 +1,5 @@
+pub mod Fixed
+pub mod Joined
 pub mod BuildLaws
 pub mod PlannedLaws
 pub mod WritingLaws
