@@ -12,3 +12,8 @@ pub mod Builder
 pub mod Pairs
 pub mod Examples
 pub mod LeastPlan
+pub mod NoteLaws
+pub mod Suffixes
+pub mod NotedLaws
+pub mod ScanLaws
+pub mod ShownLaws

@@ -1,2 +1,3 @@
 pub mod Least
 pub mod Entries
+pub mod Notes

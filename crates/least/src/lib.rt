@@ -1,1 +1,2 @@
 // The least plan (01, "The least plan"): the builder.
+mod arrays;

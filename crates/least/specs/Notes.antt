@@ -1,0 +1,48 @@
+-- What the code notes while it works the entries out. For a fixed first row the rows after it are added one by one, and what is known of each place
+-- of the rows so far is noted at the cell that the last of them has there.
+use Prim.Native.Nat.{ℕ, suc, _+_, _*_, _<_}
+use mathlib.Core.Path.{_≡_}
+use mathlib.Core.Bool.{cond}
+use mathlib.Core.List.{List, [], _∷_, _++_, map}
+use lib.ListN.{length, getD}
+use Rattle.cell.specs.Cell.{arity}
+use Rattle.term.specs.Terms.{front, back, root, close}
+use Rattle.plan.specs.Runs.{agree}
+use Rattle.least.specs.declared.arrays.Note.{Note}
+
+abbrev pub note : ℕ → ℕ → ℕ → Note
+note n s f = record { runs = n; sum = s; from = f }
+
+-- one row more after the row `last`: at this place it has the cell d, and that row c. W is what a run costs, by its first and last row
+abbrev pub noteNext : (ℕ → ℕ → ℕ) → Note → ℕ → ℕ → ℕ → Note
+noteNext W s last c d = cond (agree c d) s (note (suc (s .runs)) (s .sum + W (s .from) last) (suc last))
+
+-- the note of a column of cells, the first of them in row j
+unfoldable pub noteFrom : (ℕ → ℕ → ℕ) → Note → ℕ → ℕ → List ℕ → Note
+noteFrom W s j c [] = s
+noteFrom W s j c (d ∷ cs) = noteFrom W (noteNext W s j c d) (suc j) d cs
+
+abbrev pub noteOf : (ℕ → ℕ → ℕ) → ℕ → List ℕ → Note
+noteOf W j [] = note 0 0 j
+noteOf W j (c ∷ cs) = noteFrom W (note 1 0 j) j c cs
+
+-- the notes as they are kept: three numbers for each cell of the table
+abbrev pub noteIn : List ℕ → ℕ → Note
+noteIn notes q = note (getD notes (3 * q) 0) (getD notes (3 * q + 1) 0) (getD notes (3 * q + 2) 0)
+
+-- The notes N at the cells of a row, from cell q on, are right: at each place they say what the column there says, of the older rows, in order, and
+-- this one, all of them from that place on. r terms are left. Where there is one run the place is closed, and its arguments come next; where there are
+-- more the whole term is passed
+pub data Noted (W : ℕ → ℕ → ℕ) (first : ℕ) (N : ℕ → Note) : ℕ → ℕ → List (List ℕ) → List ℕ → Type 0 where
+  done : {q : ℕ} {olds : List (List ℕ)} {y : List ℕ} → Noted W first N q 0 olds y
+  closed : {q r : ℕ} {olds : List (List ℕ)} {y : List ℕ} → N q ≡ noteOf W first (map (root 0) (olds ++ (y ∷ []))) → (N q) .runs ≡ 1
+      → Noted W first N (suc q) (arity (root 0 y) + r) (map (close 0) olds) (close 0 y) → Noted W first N q (suc r) olds y
+  opened : {q r : ℕ} {olds : List (List ℕ)} {y : List ℕ} → N q ≡ noteOf W first (map (root 0) (olds ++ (y ∷ []))) → 1 < (N q) .runs
+      → Noted W first N (q + length (front 1 y)) r (map (back 1) olds) (back 1 y) → Noted W first N q (suc r) olds y
+
+-- The notes N at a row's cells as they are read, from cell q on, where i open places are passed, up to the stop, where there are k in all; E is where the
+-- term at a cell ends. a cells are closed on the way, and the note of each open place is what it has to be
+pub data Shown (N : ℕ → Note) (E : ℕ → ℕ) (Is : ℕ → Note → Type 0) (stop k : ℕ) : ℕ → ℕ → ℕ → Type 0 where
+  at-end : Shown N E Is stop k stop k 0
+  at-closed : {q i a : ℕ} → q < stop → (N q) .runs ≡ 1 → Shown N E Is stop k (suc q) i a → Shown N E Is stop k q i (suc a)
+  at-open : {q i a : ℕ} → q < stop → 1 < (N q) .runs → Is i (N q) → Shown N E Is stop k (E q) (suc i) a → Shown N E Is stop k q i a
