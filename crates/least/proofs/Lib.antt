@@ -17,3 +17,4 @@ pub mod Suffixes
 pub mod NotedLaws
 pub mod ScanLaws
 pub mod ShownLaws
+pub mod PairNotes

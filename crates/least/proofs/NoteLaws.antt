@@ -1,15 +1,14 @@
 -- A column's note is what its runs say: how many there are, and the sum of what they cost. One row more is one step.
-use mathlib.Core.Path.{_≡_, refl, sym, ap, _∙_}
-use mathlib.Core.Logic.{_⊎_, inl, inr, ⊎-elim}
+use mathlib.Core.Path.{_≡_, refl, sym, _∙_}
 use mathlib.Core.Bool.{Bool, true, false, cond}
 use mathlib.Core.List.{List, [], _∷_, _++_, map}
-use Prim.Native.Nat.{ℕ, zero, suc, pred, _+_, _*_, _≤_, _<_}
+use Prim.Native.Nat.{ℕ, suc, pred, _+_, _≤_, _<_}
 use native.Mathlib.Omega.{arith}
-use lib.ListN.{length, length-append}
+use lib.ListN.{length}
 use Rattle.plan.specs.Runs.{Run, run, agree, join, joinIf, group}
 use Rattle.plan.proofs.RunsLaws.{agree-eq}
 use Rattle.least.specs.declared.arrays.Note.{Note}
-use Rattle.least.specs.Notes.{note, noteNext, noteFrom, noteOf}
+use Rattle.least.specs.Notes.{note, noteNext, noteFrom, noteOf, Fair}
 use Rattle.least.proofs.Counts.{sums}
 
 -- the first run has the first row's cell
@@ -93,16 +92,6 @@ module _ (W : ℕ → ℕ → ℕ) where
   unfolding noteFrom
   note-more j [] c d = let e : j + 0 ≡ j = omega arith in rw e
   note-more j (b ∷ cs) c d = from-more (note 1 0 j) j b cs c d
-
--- what is true of a note of the rows from the first to the last: there is a run, the last one begins at one of these rows, and after the first where
--- there are more; and the sum is small
-pub record Fair (first last : ℕ) (n : Note) : Type 0 where
-  pub some : 1 ≤ n .runs
-  pub few : n .runs + first ≤ suc last
-  pub low : first ≤ n .from
-  pub high : n .from ≤ last
-  pub later : 1 < n .runs → first < n .from
-  pub small : n .sum ≤ 2048 * n .runs
 
 module _ (W : ℕ → ℕ → ℕ) (count : ℕ) (bound : (i k : ℕ) → i ≤ k → k < count → W i k ≤ 2048) where
   next-fair : (first last c d : ℕ) (n : Note) → suc last < count → Fair first last n → Fair first (suc last) (noteNext W n last c d)

@@ -1,12 +1,10 @@
 -- The notes at the cells of a row: of a row alone, past some terms, and with one row more.
 use mathlib.Core.Path.{_≡_, refl, sym, ap, _∙_}
-use mathlib.Core.Logic.{_⊎_, inl, inr}
 use mathlib.Core.Bool.{Bool, true, false, cond}
 use mathlib.Core.List.{List, [], _∷_, _++_, map}
 use Prim.Native.Nat.{ℕ, zero, suc, _+_, _≤_, _<_}
 use native.Mathlib.Omega.{arith}
 use native.Mathlib.Numerals.{one-add}
-use native.Mathlib.Nat.{zero-add, add-zero, suc-add}
 use lib.ListN.{length, length-map, length-append}
 use Rattle.cell.specs.Cell.{arity}
 use Rattle.term.specs.Terms.{Terms, none, more, front, back, root, close}
@@ -17,7 +15,7 @@ use Rattle.plan.specs.Runs.{agree, runs}
 use Rattle.plan.proofs.RunsLaws.{agree-eq, group-some}
 use Rattle.least.specs.declared.arrays.Note.{Note}
 use Rattle.least.specs.Notes.{note, noteNext, noteFrom, noteOf, Noted, done, closed, opened}
-use Rattle.least.proofs.AllLaws.{all-front, all-back, map-++, map-map-same, map-same}
+use Rattle.least.proofs.AllLaws.{all-front, all-back, map-++}
 use Rattle.least.proofs.Agreed.{one-agrees}
 use Rattle.least.proofs.NoteLaws.{note-says, note-more}
 use Rattle.least.proofs.Suffixes.{back-back, front-back-length, back-close}
@@ -31,7 +29,7 @@ one-cell-all W first olds y e =
     let c : root 0 y ≡ a .0 = all-back (λ (r : List ℕ). root 0 r ≡ a .0) olds (y ∷ []) (a .1 .cells) .0 in
     rw c (all-front (λ (r : List ℕ). root 0 r ≡ a .0) olds (y ∷ []) (a .1 .cells))
 
-map-id : (olds : List (List ℕ)) → map (back 0) olds ≡ olds
+pub map-id : (olds : List (List ℕ)) → map (back 0) olds ≡ olds
 map-id [] = refl
 map-id (r ∷ rs) = rw (back-zero r, map-id rs)
 

@@ -4,7 +4,7 @@ use mathlib.Core.List.{List, [], _∷_, _++_, map}
 use Prim.Native.Nat.{ℕ, zero, suc, pred, _+_, _-_, _≤_, _<_}
 use native.Mathlib.Omega.{arith}
 use native.Mathlib.Numerals.{one-add}
-use lib.ListN.{length, getD, drop, length-map, length-append, length-drop}
+use lib.ListN.{length, drop, length-map, length-append, length-drop}
 use lib.Seq.{drop-cons, drop-drop}
 use Rattle.cell.specs.Cell.{arity}
 use Rattle.term.specs.Terms.{Terms, front, back, root, close}
@@ -13,13 +13,12 @@ use Rattle.table.specs.All.{All}
 use Rattle.plan.specs.Runs.{Run, runs}
 use Rattle.plan.specs.Plans.{plain}
 use Rattle.plan.proofs.RunsLaws.{Fits, terms-length}
-use Rattle.least.specs.Least.{Agree}
 use Rattle.least.specs.declared.arrays.Note.{Note}
-use Rattle.least.specs.Notes.{noteOf, Noted, done, closed, opened, Shown, at-end, at-closed, at-open}
+use Rattle.least.specs.Notes.{noteOf, Fair, Noted, closed, opened, Shown, at-end, at-closed, at-open}
 use Rattle.least.proofs.AllLaws.{all-back, map-++}
 use Rattle.least.proofs.Agreed.{run-agrees, run-is}
 use Rattle.least.proofs.Counts.{sums}
-use Rattle.least.proofs.NoteLaws.{Says, note-says}
+use Rattle.least.proofs.NoteLaws.{Says, note-says, note-fair}
 use Rattle.least.proofs.Scan.{Scan, found, plus, oneRun, scan, terms-count, fits-agreed}
 use Rattle.least.proofs.ScanLaws.{sums-sizes, length-sizes, scan-sizes}
 use Rattle.least.proofs.Suffixes.{root-back, close-back, back-back, drop-front}
@@ -48,12 +47,13 @@ front-short : (k : ℕ) (xs : List ℕ) → length (front k xs) ≤ length xs
 front-short k xs = omega (arith, ap length (front-back k xs), length-append (front k xs) (back k xs))
 
 -- what a note has to be at open place i of the state that is left
-abbrev pub Is : (ℕ → ℕ → ℕ) → ℕ → ℕ → List (List ℕ) → ℕ → Note → Type 0
-Is W first last left i s = Says W s last (length (runs i left)) (sums W first (runs i left))
+pub record Is (W : ℕ → ℕ → ℕ) (first last : ℕ) (left : List (List ℕ)) (i : ℕ) (s : Note) : Type 0 where
+  pub says : Says W s last (length (runs i left)) (sums W first (runs i left))
+  pub fair : Fair first last s
 
-module _ (W : ℕ → ℕ → ℕ) (first last : ℕ) (N : ℕ → Note) (E : ℕ → ℕ) (zs : List ℕ) (at : ℕ)
+module _ (W : ℕ → ℕ → ℕ) (count : ℕ) (bound : (i k : ℕ) → i ≤ k → k < count → W i k ≤ 2048) (first last : ℕ) (below : last < count)
+    (N : ℕ → Note) (E : ℕ → ℕ) (zs : List ℕ) (at : ℕ)
     (ends : (j : ℕ) → at ≤ j → j < length zs → E j ≡ j + length (front 1 (drop j zs))) where
-
   pub record Reached (n i r q : ℕ) (olds : List (List ℕ)) (y : List ℕ) : Type 0 where
     pub fits : All (Fits (n + i) (i + r)) (olds ++ (y ∷ []))
     pub rows : pred (first + length (olds ++ (y ∷ []))) ≡ last
@@ -93,6 +93,12 @@ module _ (W : ℕ → ℕ → ℕ) (first last : ℕ) (N : ℕ → Note) (E : �
 
     says : N q ≡ noteOf W first (map (root 0) (map (back i) olds ++ (back i y ∷ []))) → Says W (N q) last (length (runs i here)) (sums W first (runs i here))
     says e = rw (e, column i olds y, ← (x .rows)) (note-says W (root i) (close i) first here some)
+
+    fair : N q ≡ noteOf W first (map (root 0) (map (back i) olds ++ (back i y ∷ []))) → Fair first last (N q)
+    fair e =
+        let l : length (map (root i) here) ≡ length here = length-map here (root i) in
+        let f = note-fair W count bound first (map (root i) here) (omega (arith, some)) (omega (arith, some, x .rows)) in
+        rw (e, column i olds y, ← (x .rows), ← l) f
 
     shut-here : (g : Run) → runs i here ≡ g ∷ [] → (N q) .runs ≡ 1
         → Noted W first N (suc q) (arity (root 0 (back i y)) + r) (map (close 0) (map (back i) olds)) (close 0 (back i y))
@@ -134,11 +140,12 @@ module _ (W : ℕ → ℕ → ℕ) (first last : ℕ) (N : ℕ → Note) (E : �
         }) in
         let k = scan-sizes plain n (suc i) r here i (omega arith) in
         let w = says e in
+        let f = fair e in
         let now : List Run = runs i ((scan plain n (suc i) r here) .left) in
         at-open inside o
         (record {
-          number = w .number ∙ sym (length-sizes now (runs i here) k);
-          costs = w .costs ∙ sym (sums-sizes W first now (runs i here) k);
+          says = record { number = w .number ∙ sym (length-sizes now (runs i here) k); costs = w .costs ∙ sym (sums-sizes W first now (runs i here) k) };
+          fair = f;
         }) s
 
     shown-step : Shows q i (scan plain (suc n) i (suc r) here)
@@ -164,7 +171,7 @@ module _ (W : ℕ → ℕ → ℕ) (first last : ℕ) (N : ℕ → Note) (E : �
         go (opened e o d) = open-up (open-here o e d) (omega (arith, says e .number)) (runs i here) refl
 
   -- from a place on
-  shown-from : (n : ℕ) → All-shown n
+  pub shown-from : (n : ℕ) → All-shown n
   unfolding scan
   shown-from zero i zero q olds y x = shown-end zero i q olds y x
   shown-from zero i (suc r) q olds y x =

@@ -1,13 +1,12 @@
 -- A list of terms from an open place on: what it begins with is the cell there, and closing the place takes that cell away.
-use mathlib.Core.Path.{_≡_, refl, ap, _∙_}
-use mathlib.Core.List.{List, [], _∷_, _++_}
+use mathlib.Core.Path.{_≡_, refl}
+use mathlib.Core.List.{List, [], _∷_}
 use Prim.Native.Nat.{ℕ, zero, suc, _+_}
 use native.Mathlib.Nat.{add-assoc, zero-add, suc-add}
 use native.Mathlib.Omega.{arith}
 use lib.ListN.{length, drop}
 use Rattle.cell.specs.Cell.{arity}
 use Rattle.term.specs.Terms.{front, back, root, close}
-use Rattle.term.proofs.TermsLaws.{front-zero, back-zero}
 
 pub root-back : (i : ℕ) (xs : List ℕ) → root 0 (back i xs) ≡ root i xs
 unfolding root back
@@ -32,7 +31,7 @@ pub front-back-length : (a b : ℕ) (xs : List ℕ) → length (front (a + b) xs
 unfolding front back
 front-back-length a b [] = refl
 front-back-length zero b (c ∷ xs) = rw (zero-add b) (omega arith)
-front-back-length (suc a) b (c ∷ xs) = rw (suc-add, ← add-assoc) (omega (arith, front-back-length (arity c + a) b xs))
+front-back-length (suc a) b (c ∷ xs) = rw (suc-add a b, ← add-assoc) (omega (arith, front-back-length (arity c + a) b xs))
 
 -- what the first terms leave is what follows their cells
 pub drop-front : (k : ℕ) (xs : List ℕ) → drop (length (front k xs)) xs ≡ back k xs

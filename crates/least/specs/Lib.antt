@@ -1,3 +1,4 @@
 pub mod Least
+pub mod Best
 pub mod Entries
 pub mod Notes

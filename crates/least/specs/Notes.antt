@@ -1,6 +1,6 @@
 -- What the code notes while it works the entries out. For a fixed first row the rows after it are added one by one, and what is known of each place
 -- of the rows so far is noted at the cell that the last of them has there.
-use Prim.Native.Nat.{ℕ, suc, _+_, _*_, _<_}
+use Prim.Native.Nat.{ℕ, suc, _+_, _*_, _≤_, _<_}
 use mathlib.Core.Path.{_≡_}
 use mathlib.Core.Bool.{cond}
 use mathlib.Core.List.{List, [], _∷_, _++_, map}
@@ -26,6 +26,16 @@ abbrev pub noteOf : (ℕ → ℕ → ℕ) → ℕ → List ℕ → Note
 noteOf W j [] = note 0 0 j
 noteOf W j (c ∷ cs) = noteFrom W (note 1 0 j) j c cs
 
+-- what is true of a note of the rows from the first to the last: there is a run, the last one begins at one of these rows, and after the first where
+-- there are more; and the sum is small
+pub record Fair (first last : ℕ) (n : Note) : Type 0 where
+  pub some : 1 ≤ n .runs
+  pub few : n .runs + first ≤ suc last
+  pub low : first ≤ n .from
+  pub high : n .from ≤ last
+  pub later : 1 < n .runs → first < n .from
+  pub small : n .sum ≤ 2048 * n .runs
+
 -- the notes as they are kept: three numbers for each cell of the table
 abbrev pub noteIn : List ℕ → ℕ → Note
 noteIn notes q = note (getD notes (3 * q) 0) (getD notes (3 * q + 1) 0) (getD notes (3 * q + 2) 0)
@@ -46,3 +56,8 @@ pub data Shown (N : ℕ → Note) (E : ℕ → ℕ) (Is : ℕ → Note → Type 
   at-end : Shown N E Is stop k stop k 0
   at-closed : {q i a : ℕ} → q < stop → (N q) .runs ≡ 1 → Shown N E Is stop k (suc q) i a → Shown N E Is stop k q i (suc a)
   at-open : {q i a : ℕ} → q < stop → 1 < (N q) .runs → Is i (N q) → Shown N E Is stop k (E q) (suc i) a → Shown N E Is stop k q i a
+
+-- the note of open place i, where a cells are closed: what its runs cost together is F of the place, and a for each run
+pub record Priced (W : ℕ → ℕ → ℕ) (first last a : ℕ) (F : ℕ → ℕ) (i : ℕ) (s : Note) : Type 0 where
+  pub price : s .sum + W (s .from) last ≡ F i + s .runs * a
+  pub fair : Fair first last s
