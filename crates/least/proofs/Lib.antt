@@ -18,3 +18,4 @@ pub mod NotedLaws
 pub mod ScanLaws
 pub mod ShownLaws
 pub mod PairNotes
+pub mod RowLaws

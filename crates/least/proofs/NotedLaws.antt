@@ -46,10 +46,10 @@ front-close : (a : ℕ) {r : ℕ} {y : List ℕ} → Terms (suc r) y → length 
 unfolding front root close
 front-close a (more t) = refl
 
-close-first : {r : ℕ} {y : List ℕ} → Terms (suc r) y → Terms (arity (root 0 y) + r) (close 0 y)
+pub close-first : {r : ℕ} {y : List ℕ} → Terms (suc r) y → Terms (arity (root 0 y) + r) (close 0 y)
 close-first {r} t = close-terms 0 t (omega arith)
 
-back-first : {r : ℕ} {y : List ℕ} → Terms (suc r) y → Terms r (back 1 y)
+pub back-first : {r : ℕ} {y : List ℕ} → Terms (suc r) y → Terms r (back 1 y)
 back-first {r} {y} t = back-terms 1 r y (rw one-add t)
 
 module _ {W : ℕ → ℕ → ℕ} {first : ℕ} {N : ℕ → Note} where
@@ -93,7 +93,7 @@ module _ {W : ℕ → ℕ → ℕ} {first : ℕ} {N : ℕ → Note} {p r : ℕ} 
   abbrev pub noteWith : Note
   noteWith = noteNext W (N p) (first + length olds) (root 0 y) (root 0 x)
 
-  note-is : N p ≡ noteOf W first (map (root 0) (olds ++ (y ∷ [])))
+  pub note-is : N p ≡ noteOf W first (map (root 0) (olds ++ (y ∷ [])))
   note-is = go d
     where
       go : Noted W first N p (suc r) olds y → N p ≡ noteOf W first (map (root 0) (olds ++ (y ∷ [])))

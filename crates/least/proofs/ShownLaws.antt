@@ -21,7 +21,7 @@ use Rattle.least.proofs.Counts.{sums}
 use Rattle.least.proofs.NoteLaws.{Says, note-says, note-fair}
 use Rattle.least.proofs.Scan.{Scan, found, plus, oneRun, scan, terms-count, fits-agreed}
 use Rattle.least.proofs.ScanLaws.{sums-sizes, length-sizes, scan-sizes}
-use Rattle.least.proofs.Suffixes.{root-back, close-back, back-back, drop-front}
+use Rattle.least.proofs.Suffixes.{root-back, close-back, back-back, drop-front, front-short}
 
 -- the rows from place i on, and the cells that they begin with
 column : (i : ℕ) (olds : List (List ℕ)) (y : List ℕ) → map (root 0) (map (back i) olds ++ (back i y ∷ [])) ≡ map (root i) (olds ++ (y ∷ []))
@@ -42,9 +42,6 @@ close-drop q zs h = rw (drop-cons zs q 0 h)
 
 back-drop : (q : ℕ) (zs : List ℕ) → back 1 (drop q zs) ≡ drop (q + length (front 1 (drop q zs))) zs
 back-drop q zs = sym (drop-front 1 (drop q zs)) ∙ drop-drop (length (front 1 (drop q zs))) q zs
-
-front-short : (k : ℕ) (xs : List ℕ) → length (front k xs) ≤ length xs
-front-short k xs = omega (arith, ap length (front-back k xs), length-append (front k xs) (back k xs))
 
 -- what a note has to be at open place i of the state that is left
 pub record Is (W : ℕ → ℕ → ℕ) (first last : ℕ) (left : List (List ℕ)) (i : ℕ) (s : Note) : Type 0 where

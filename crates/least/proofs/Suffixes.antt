@@ -1,12 +1,13 @@
 -- A list of terms from an open place on: what it begins with is the cell there, and closing the place takes that cell away.
-use mathlib.Core.Path.{_≡_, refl}
-use mathlib.Core.List.{List, [], _∷_}
-use Prim.Native.Nat.{ℕ, zero, suc, _+_}
+use mathlib.Core.Path.{_≡_, refl, ap}
+use mathlib.Core.List.{List, [], _∷_, _++_}
+use Prim.Native.Nat.{ℕ, zero, suc, _+_, _≤_}
 use native.Mathlib.Nat.{add-assoc, zero-add, suc-add}
 use native.Mathlib.Omega.{arith}
-use lib.ListN.{length, drop}
+use lib.ListN.{length, length-append, drop}
 use Rattle.cell.specs.Cell.{arity}
 use Rattle.term.specs.Terms.{front, back, root, close}
+use Rattle.term.proofs.TermsLaws.{front-back}
 
 pub root-back : (i : ℕ) (xs : List ℕ) → root 0 (back i xs) ≡ root i xs
 unfolding root back
@@ -45,3 +46,6 @@ pub back-close : (a c : ℕ) (xs : List ℕ) → root 0 xs ≡ c → back (arity
 unfolding root close back
 back-close a c [] e = refl
 back-close a c (d ∷ xs) e = rw (← e)
+
+pub front-short : (k : ℕ) (xs : List ℕ) → length (front k xs) ≤ length xs
+front-short k xs = omega (arith, ap length (front-back k xs), length-append (front k xs) (back k xs))

@@ -4,9 +4,10 @@ use Prim.Native.Nat.{ℕ, suc, _+_, _*_, _≤_, _<_}
 use mathlib.Core.Path.{_≡_}
 use mathlib.Core.Bool.{cond}
 use mathlib.Core.List.{List, [], _∷_, _++_, map}
-use lib.ListN.{length, getD}
+use lib.ListN.{length, getD, set, drop}
+use lib.Seq.{slice}
 use Rattle.cell.specs.Cell.{arity}
-use Rattle.term.specs.Terms.{front, back, root, close}
+use Rattle.term.specs.Terms.{Terms, front, back, root, close}
 use Rattle.plan.specs.Runs.{agree}
 use Rattle.least.specs.declared.arrays.Note.{Note}
 
@@ -40,6 +41,13 @@ pub record Fair (first last : ℕ) (n : Note) : Type 0 where
 abbrev pub noteIn : List ℕ → ℕ → Note
 noteIn notes q = note (getD notes (3 * q) 0) (getD notes (3 * q + 1) 0) (getD notes (3 * q + 2) 0)
 
+abbrev pub putNote : List ℕ → ℕ → Note → List ℕ
+putNote notes q s = set (set (set notes (3 * q) (s .runs)) (3 * q + 1) (s .sum)) (3 * q + 2) (s .from)
+
+-- what is kept for a pair of rows, 64 times the first and the last
+abbrev pub inWhole : List ℕ → ℕ → ℕ → ℕ
+inWhole whole first last = getD whole (64 * first + last) 0
+
 -- The notes N at the cells of a row, from cell q on, are right: at each place they say what the column there says, of the older rows, in order, and
 -- this one, all of them from that place on. r terms are left. Where there is one run the place is closed, and its arguments come next; where there are
 -- more the whole term is passed
@@ -61,3 +69,31 @@ pub data Shown (N : ℕ → Note) (E : ℕ → ℕ) (Is : ℕ → Note → Type 
 pub record Priced (W : ℕ → ℕ → ℕ) (first last a : ℕ) (F : ℕ → ℕ) (i : ℕ) (s : Note) : Type 0 where
   pub price : s .sum + W (s .from) last ≡ F i + s .runs * a
   pub fair : Fair first last s
+
+-- where the term ends that begins at each cell
+pub record Ended (cells ends : List ℕ) : Type 0 where
+  pub size : length ends ≡ 2050
+  pub at : (j : ℕ) (t rest : List ℕ) → Terms 1 t → drop j cells ≡ t ++ rest → getD ends j 0 ≡ j + length t
+
+-- What is given where one row more is noted, its cells from `new` up to a stop: the row before it, `last`, is noted at its cells from `old` up to `new`, after
+-- the older rows, and what a run costs is kept for each that ends at that row
+pub record NextRow (cells ends whole notes : List ℕ) (last old new stop : ℕ) : Type 0 where
+  pub W : ℕ → ℕ → ℕ
+  pub count : ℕ
+  pub first : ℕ
+  pub w : ℕ
+  pub olds : List (List ℕ)
+  pub noted : Noted W first (noteIn notes) old w olds (slice old new cells)
+  pub old-terms : Terms w (slice old new cells)
+  pub new-terms : Terms w (slice new stop cells)
+  pub order : (old ≤ new) × (new ≤ stop) × (stop ≤ length cells) × (length cells ≤ 2050)
+  pub rows : (first + length olds ≡ last) × (suc last < count) × (count ≤ 64)
+  pub ended : Ended cells ends
+  pub kept : (j : ℕ) → first ≤ j → j ≤ last → inWhole whole j last ≡ W j last
+  pub small : (i k : ℕ) → i ≤ k → k < count → W i k ≤ 2048
+  pub room : length notes ≡ 6150
+
+-- with it the new row is noted
+pub record RowNoted {cells ends whole notes : List ℕ} {last old new stop : ℕ} (g : NextRow cells ends whole notes last old new stop) (after : List ℕ) : Type 0 where
+  pub noted : Noted (g .W) (g .first) (noteIn after) new (g .w) (g .olds ++ (slice old new cells ∷ [])) (slice new stop cells)
+  pub room : length after ≡ 6150
