@@ -16,7 +16,7 @@ use Rattle.term.proofs.TermsLaws.{front-back, front-terms, zero-nil}
 use Rattle.plan.specs.Runs.{agree}
 use Rattle.plan.proofs.RunsLaws.{terms-length}
 use Rattle.least.specs.declared.arrays.Note.{Note}
-use Rattle.least.specs.Notes.{note, noteNext, noteOf, noteIn, putNote, inWhole, Fair, Noted, done, closed, opened, Ended, NextRow, RowNoted}
+use Rattle.least.specs.Notes.{note, noteNext, noteOf, noteIn, putNote, inWhole, Small, Fair, Noted, done, closed, opened, Ended, NextRow, RowNoted}
 use Rattle.least.proofs.AllLaws.{map-++}
 use Rattle.least.proofs.NoteLaws.{note-fair}
 use Rattle.least.proofs.NotedLaws.{close-first, back-first, note-is, noteWith, next-note, next-closed, next-opened}
@@ -46,9 +46,11 @@ module _ (notes : List ℕ) (q : ℕ) (s : Note) where
 
   pub put-other : (j : ℕ) → j ≢ q → noteIn (putNote notes q s) j ≡ noteIn notes j
   put-other j h =
-      rw (put-elsewhere (3 * j) (λ e. h (omega arith)) (λ e. omega arith) (λ e. omega arith),
-      put-elsewhere (3 * j + 1) (λ e. omega arith) (λ e. h (omega arith)) (λ e. omega arith),
-      put-elsewhere (3 * j + 2) (λ e. omega arith) (λ e. omega arith) (λ e. h (omega arith)))
+      rw (
+        put-elsewhere (3 * j) (λ e. h (omega arith)) (λ e. omega arith) (λ e. omega arith),
+        put-elsewhere (3 * j + 1) (λ e. omega arith) (λ e. h (omega arith)) (λ e. omega arith),
+        put-elsewhere (3 * j + 2) (λ e. omega arith) (λ e. omega arith) (λ e. h (omega arith)),
+      )
 
 put-room : (notes : List ℕ) (q : ℕ) (s : Note) → length (putNote notes q s) ≡ length notes
 put-room notes q s = simp length-set
@@ -77,6 +79,10 @@ ended-at {cells} {r = r} p e x h l t =
     let f : slice p e cells ≡ front 1 (slice p e cells) ++ back 1 (slice p e cells) = sym (front-back 1 (slice p e cells)) in
     x .at p (front 1 (slice p e cells)) (back 1 (slice p e cells) ++ drop e cells) (front-terms 1 r (slice p e cells) (rw one-add t))
     (s ∙ ap (λ (l : List ℕ). l ++ drop e cells) f ∙ append-assoc (front 1 (slice p e cells)) (back 1 (slice p e cells)) (drop e cells))
+
+-- the note that one step of the walk puts
+abbrev pub noteStep : (cells whole notes : List ℕ) → ℕ → ℕ → ℕ → Note
+noteStep cells whole notes last p q = noteNext (inWhole whole) (noteIn notes p) last (getD cells p 0) (getD cells q 0)
 
 next-some : (W : ℕ → ℕ → ℕ) (s : Note) (last c d : ℕ) → 1 ≤ s .runs → 1 ≤ (noteNext W s last c d) .runs
 next-some W s last c d h = go (agree c d)
@@ -130,8 +136,8 @@ module _ {cells ends whole notes₀ : List ℕ} {last old new stop : ℕ} (g : N
       no-terms (more t) e = absurd (omega arith)
 
   module _ (notes : List ℕ) (p q : ℕ) (x : RowAt notes p q) (h : q < stop) where
-    abbrev pub stepNote : Note
-    stepNote = noteNext (inWhole whole) (noteIn notes p) last (getD cells p 0) (getD cells q 0)
+    abbrev stepNote : Note
+    stepNote = noteStep cells whole notes last p q
 
     abbrev y : List ℕ
     y = slice p new cells
@@ -258,3 +264,40 @@ module _ {cells ends whole notes₀ : List ℕ} {last old new stop : ℕ} (g : N
           where
             ne : stepNote .runs ≢ 1
             ne = eqb-false (stepNote .runs) 1 e
+
+    -- what the step asks: the cells are there, and the numbers are small
+    pub record RowSafe : Type 0 where
+      pub p-small : p < 2050
+      pub q-small : q < 2050
+      pub p-in : p < length cells
+      pub q-in : q < length cells
+      pub small : Small whole last (noteIn notes p)
+
+    pub row-safe : RowSafe
+    row-safe =
+        let f = row-fair in
+        let b = row-before in
+        let k = g .kept ((noteIn notes p) .from) (f .low) (f .high) in
+        let s = g .small ((noteIn notes p) .from) last (f .high) (omega (arith, g .rows .1)) in
+        record {
+          p-small = omega (arith, new-in, g .order .3);
+          q-small = omega (arith, stop-in, g .order .3);
+          p-in = omega (arith, new-in);
+          q-in = omega (arith, stop-in);
+          small = record {
+            runs = omega (arith, f .few, g .rows .1, g .rows .2);
+            sum = omega (arith, f .small, f .few, g .rows .1, g .rows .2);
+            from = omega (arith, f .high, g .rows .1, g .rows .2);
+            row = omega (arith, g .rows .1, g .rows .2);
+            cost = omega (arith, k, s);
+          };
+        }
+
+    -- the walk goes on
+    pub row-more : q < cond (eqb (stepNote .runs) 1) (q + 1) (getD ends q 0)
+    row-more = go (eqb (stepNote .runs) 1)
+      where
+        go : (b : Bool) → q < cond b (q + 1) (getD ends q 0)
+        go true = omega arith
+        go false =
+            omega (arith, ended-at q stop (g .ended) (omega arith) stop-in z-terms, terms-length (front-terms 1 (pred (x .r)) z (rw one-add z-terms)))

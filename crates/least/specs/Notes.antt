@@ -48,6 +48,14 @@ putNote notes q s = set (set (set notes (3 * q) (s .runs)) (3 * q + 1) (s .sum))
 abbrev pub inWhole : List ℕ → ℕ → ℕ → ℕ
 inWhole whole first last = getD whole (64 * first + last) 0
 
+-- the numbers of a note are small, and so is what is kept for its last run up to the row `last`
+pub record Small (whole : List ℕ) (last : ℕ) (s : Note) : Type 0 where
+  pub runs : s .runs ≤ 64
+  pub sum : s .sum ≤ 131072
+  pub from : s .from < 64
+  pub row : last < 64
+  pub cost : inWhole whole (s .from) last ≤ 2048
+
 -- The notes N at the cells of a row, from cell q on, are right: at each place they say what the column there says, of the older rows, in order, and
 -- this one, all of them from that place on. r terms are left. Where there is one run the place is closed, and its arguments come next; where there are
 -- more the whole term is passed

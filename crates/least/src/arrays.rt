@@ -5,7 +5,7 @@ ghost use mathlib.Core.Bool.{cond};
 ghost use Prim.Native.Nat.{_+_, _*_, _≤_, _<_};
 ghost use lib.Dec.{eqb};
 ghost use lib.ListN.{getD};
-ghost use Rattle.least.specs.Notes.{noteIn, noteNext, putNote, inWhole, NextRow, RowNoted};
+ghost use Rattle.least.specs.Notes.{noteIn, noteNext, putNote, inWhole, Small, NextRow, RowNoted};
 
 // How many runs the rows so far have at this place, the sum of what each of them costs, all but the last, and where the
 // last of them begins. One run: all agree, and the place is closed.
@@ -41,7 +41,7 @@ fn put_note(notes: &mut [usize; 6150], q: usize, s: Note)
 
 // The place noted with one row more, whose cell there is d, after the row `last`, whose cell is c.
 fn next_note(s: Note, whole: &[usize; 4096], last: usize, c: u32, d: u32) -> Note
-    requires { ⌜ (s .runs ≤ 64) × (s .from < 64) × (last < 64) × (s .sum ≤ 131072) × (inWhole (now whole) (s .from) last ≤ 2048) ⌝ }
+    requires { ⌜ Small (now whole) last s ⌝ }
     ensures { λ r. ⌜ r ≡ noteNext (inWhole (now (whole .entry))) s last c d ⌝ }
 {
     if plan::column::same_symbol(c, d) {
