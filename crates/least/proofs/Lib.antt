@@ -19,3 +19,4 @@ pub mod ScanLaws
 pub mod ShownLaws
 pub mod PairNotes
 pub mod RowLaws
+pub mod ReadLaws

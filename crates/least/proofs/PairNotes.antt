@@ -43,13 +43,13 @@ sums-same U W n s e j (g ∷ gs) z h =
 shown-within : {N : ℕ → Note} {E : ℕ → ℕ} {P : ℕ → Note → Type 0} {stop k q i a : ℕ} → Shown N E P stop k q i a → i ≤ k
 shown-within at-end = omega arith
 shown-within (at-closed h o s) = shown-within s
-shown-within (at-open h o p s) = omega (arith, shown-within s)
+shown-within (at-open h l o p s) = omega (arith, shown-within s)
 
 shown-map : {N : ℕ → Note} {E : ℕ → ℕ} {P Q : ℕ → Note → Type 0} {stop k q i a : ℕ} → ((j : ℕ) (s : Note) → j < k → P j s → Q j s)
     → Shown N E P stop k q i a → Shown N E Q stop k q i a
 shown-map f at-end = at-end
 shown-map f (at-closed h o s) = at-closed h o (shown-map f s)
-shown-map {N} {i = i} f (at-open {q} h o p s) = at-open h o (f i (N q) (omega (arith, shown-within s)) p) (shown-map f s)
+shown-map {N} {i = i} f (at-open {q} h l o p s) = at-open h l o (f i (N q) (omega (arith, shown-within s)) p) (shown-map f s)
 
 no-figure : (b : Bool) → _≡_ {A = ℕ} (cond b 0 0) 0
 no-figure true = refl

@@ -16,7 +16,7 @@ use Rattle.term.proofs.TermsLaws.{front-back, front-terms, zero-nil}
 use Rattle.plan.specs.Runs.{agree}
 use Rattle.plan.proofs.RunsLaws.{terms-length}
 use Rattle.least.specs.declared.arrays.Note.{Note}
-use Rattle.least.specs.Notes.{note, noteNext, noteOf, noteIn, putNote, inWhole, Small, Fair, Noted, done, closed, opened, Ended, NextRow, RowNoted}
+use Rattle.least.specs.Notes.{note, noteNext, noteOf, noteIn, putNote, inWhole, Small, Fair, Noted, done, closed, opened, Ended, NextRow, RowNoted, Alone}
 use Rattle.least.proofs.AllLaws.{map-++}
 use Rattle.least.proofs.NoteLaws.{note-fair}
 use Rattle.least.proofs.NotedLaws.{close-first, back-first, note-is, noteWith, next-note, next-closed, next-opened}
@@ -301,3 +301,22 @@ module _ {cells ends whole notes₀ : List ℕ} {last old new stop : ℕ} (g : N
         go true = omega arith
         go false =
             omega (arith, ended-at q stop (g .ended) (omega arith) stop-in z-terms, terms-length (front-terms 1 (pred (x .r)) z (rw one-add z-terms)))
+
+-- A row by itself is noted cell by cell.
+pub alone-start : (first at : ℕ) (notes : List ℕ) → length notes ≡ 6150 → Alone first at at notes
+alone-start first at notes l = record { each = λ j h h′. absurd (omega arith); room = l }
+
+pub alone-step : (first at q : ℕ) (notes : List ℕ) → q < 2050 → Alone first at q notes → Alone first at (q + 1) (putNote notes q (note 1 0 first))
+alone-step first at q notes h x = record {
+  each = λ j l m. go j l m (eqb j q) refl;
+  room = put-room notes q (note 1 0 first) ∙ x .room;
+}
+  where
+    go : (j : ℕ) → at ≤ j → j < q + 1 → (b : Bool) → eqb j q ≡ b → noteIn (putNote notes q (note 1 0 first)) j ≡ note 1 0 first
+    go j l m true e = subst (λ (i : ℕ). noteIn (putNote notes q (note 1 0 first)) i ≡ note 1 0 first) (sym (eqb-true j q e)) (put-same notes q (note 1 0 first) h (x .room))
+    go j l m false e =
+        let ne : j ≢ q = eqb-false j q e in
+        put-other notes q (note 1 0 first) j ne ∙ x .each j l (omega (arith, ne))
+
+pub alone-end : (first at q stop : ℕ) (notes : List ℕ) → stop ≤ q → Alone first at q notes → Alone first at stop notes
+alone-end first at q stop notes h x = record { each = λ j l m. x .each j l (omega arith); room = x .room }

@@ -8,7 +8,7 @@ use lib.ListN.{length, drop, length-map, length-append, length-drop}
 use lib.Seq.{drop-cons, drop-drop}
 use Rattle.cell.specs.Cell.{arity}
 use Rattle.term.specs.Terms.{Terms, front, back, root, close}
-use Rattle.term.proofs.TermsLaws.{front-back, back-terms, zero-nil}
+use Rattle.term.proofs.TermsLaws.{front-back, back-terms, zero-nil, front-terms}
 use Rattle.table.specs.All.{All}
 use Rattle.plan.specs.Runs.{Run, runs}
 use Rattle.plan.specs.Plans.{plain}
@@ -139,7 +139,8 @@ module _ (W : ℕ → ℕ → ℕ) (count : ℕ) (bound : (i k : ℕ) → i ≤ 
         let w = says e in
         let f = fair e in
         let now : List Run = runs i ((scan plain n (suc i) r here) .left) in
-        at-open inside o
+        let on : q < E q = omega (arith, q′, terms-length (front-terms 1 r (back i y) (rw one-add first-terms))) in
+        at-open inside on o
         (record {
           says = record { number = w .number ∙ sym (length-sizes now (runs i here) k); costs = w .costs ∙ sym (sums-sizes W first now (runs i here) k) };
           fair = f;

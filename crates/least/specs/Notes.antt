@@ -10,9 +10,13 @@ use Rattle.cell.specs.Cell.{arity}
 use Rattle.term.specs.Terms.{Terms, front, back, root, close}
 use Rattle.plan.specs.Runs.{agree}
 use Rattle.least.specs.declared.arrays.Note.{Note}
+use Rattle.least.specs.declared.arrays.Choice.{Choice}
 
 abbrev pub note : ℕ → ℕ → ℕ → Note
 note n s f = record { runs = n; sum = s; from = f }
+
+abbrev pub choiceOf : ℕ → ℕ → Choice
+choiceOf c i = record { cost = c; place = i }
 
 -- one row more after the row `last`: at this place it has the cell d, and that row c. W is what a run costs, by its first and last row
 abbrev pub noteNext : (ℕ → ℕ → ℕ) → Note → ℕ → ℕ → ℕ → Note
@@ -71,7 +75,7 @@ pub data Noted (W : ℕ → ℕ → ℕ) (first : ℕ) (N : ℕ → Note) : ℕ 
 pub data Shown (N : ℕ → Note) (E : ℕ → ℕ) (Is : ℕ → Note → Type 0) (stop k : ℕ) : ℕ → ℕ → ℕ → Type 0 where
   at-end : Shown N E Is stop k stop k 0
   at-closed : {q i a : ℕ} → q < stop → (N q) .runs ≡ 1 → Shown N E Is stop k (suc q) i a → Shown N E Is stop k q i (suc a)
-  at-open : {q i a : ℕ} → q < stop → 1 < (N q) .runs → Is i (N q) → Shown N E Is stop k (E q) (suc i) a → Shown N E Is stop k q i a
+  at-open : {q i a : ℕ} → q < stop → q < E q → 1 < (N q) .runs → Is i (N q) → Shown N E Is stop k (E q) (suc i) a → Shown N E Is stop k q i a
 
 -- the note of open place i, where a cells are closed: what its runs cost together is F of the place, and a for each run
 pub record Priced (W : ℕ → ℕ → ℕ) (first last a : ℕ) (F : ℕ → ℕ) (i : ℕ) (s : Note) : Type 0 where
@@ -105,3 +109,28 @@ pub record NextRow (cells ends whole notes : List ℕ) (last old new stop : ℕ)
 pub record RowNoted {cells ends whole notes : List ℕ} {last old new stop : ℕ} (g : NextRow cells ends whole notes last old new stop) (after : List ℕ) : Type 0 where
   pub noted : Noted (g .W) (g .first) (noteIn after) new (g .w) (g .olds ++ (slice old new cells ∷ [])) (slice new stop cells)
   pub room : length after ≡ 6150
+
+-- every cell of a row by itself is closed
+pub record Alone (first at stop : ℕ) (notes : List ℕ) : Type 0 where
+  pub each : (j : ℕ) → at ≤ j → j < stop → noteIn notes j ≡ note 1 0 first
+  pub room : length notes ≡ 6150
+
+-- what is given where the closed cells of a row are counted
+pub record Walk (ends notes : List ℕ) (at stop : ℕ) : Type 0 where
+  pub k : ℕ
+  pub a : ℕ
+  pub shown : Shown (noteIn notes) (λ (q : ℕ). getD ends q 0) (λ (i : ℕ) (s : Note). Unit {0}) stop k at 0 a
+  pub within : stop ≤ 2050
+
+-- What is given where the entry of a pair is read off the notes at the cells of its last row, from `at` up to a stop: a cells are closed, each open place
+-- costs F of it, and what a run costs is kept for each that ends at that row and begins after the first
+pub record Pair (ends whole notes : List ℕ) (last at stop a : ℕ) : Type 0 where
+  pub W : ℕ → ℕ → ℕ
+  pub first : ℕ
+  pub F : ℕ → ℕ
+  pub k : ℕ
+  pub shown : Shown (noteIn notes) (λ (q : ℕ). getD ends q 0) (Priced W first last a F) stop k at 0 a
+  pub kept : (j : ℕ) → first < j → j ≤ last → inWhole whole j last ≡ W j last
+  pub small : (j : ℕ) → first ≤ j → j ≤ last → W j last ≤ 2048
+  pub row : last < 64
+  pub within : stop ≤ 2050

@@ -1,11 +1,12 @@
 // What is kept for every pair of first and last row (01, "The least plan"). For a fixed first row the rows after it are
 // added one by one. What is known of a place of the rows so far is noted at the cell that the last of them has there.
 ghost use mathlib.Core.Path.{_≡_};
-ghost use mathlib.Core.Bool.{cond};
-ghost use Prim.Native.Nat.{_+_, _*_, _≤_, _<_};
-ghost use lib.Dec.{eqb};
-ghost use lib.ListN.{getD};
-ghost use Rattle.least.specs.Notes.{noteIn, noteNext, putNote, inWhole, Small, NextRow, RowNoted};
+ghost use mathlib.Core.Bool.{cond, _||_};
+ghost use Prim.Native.Nat.{_+_, _-_, _*_, _≤_, _<_};
+ghost use lib.Dec.{eqb, ltb};
+ghost use lib.ListN.{length, getD};
+ghost use Rattle.least.specs.Best.{firstOver, leastOver};
+ghost use Rattle.least.specs.Notes.{choiceOf, noteIn, noteNext, putNote, inWhole, Small, NextRow, RowNoted, Alone, Walk, Pair};
 
 // How many runs the rows so far have at this place, the sum of what each of them costs, all but the last, and where the
 // last of them begins. One run: all agree, and the place is closed.
@@ -86,4 +87,101 @@ fn note_row(
         p = after(ends, s, p);
         q = after(ends, s, q);
     }
+}
+
+// A row by itself: every place is closed.
+fn note_first(notes: &mut [usize; 6150], at: usize, stop: usize, first: usize)
+    requires { ⌜ (stop ≤ 2050) × (length (now notes) ≡ 6150) ⌝ }
+    ensures { λ _. ⌜ Alone first at stop (now (notes .exit)) ⌝ }
+{
+    let mut q = at;
+    while q < stop {
+        put_note(
+            &mut *notes,
+            q,
+            Note {
+                runs: 1,
+                sum: 0,
+                from: first,
+            },
+        );
+        q += 1;
+    }
+}
+
+// How many cells are closed, in the row whose cells are those from a place up to a stop.
+fn agreed_in(ends: &[usize; 2050], notes: &[usize; 6150], at: usize, stop: usize) -> usize
+    requires { ⌜ Walk (now ends) (now notes) at stop ⌝ }
+    ensures { λ r. ⌜ ((g : Walk (now (ends .entry)) (now (notes .entry)) at stop) → r ≡ g .a) ⌝ }
+{
+    let mut n = 0;
+    let mut q = at;
+    while q < stop {
+        let s = note_at(notes, q);
+        n = with_closed(n, s);
+        q = after(ends, s, q);
+    }
+    n
+}
+
+fn with_closed(n: usize, s: Note) -> usize
+    requires { ⌜ n < 2050 ⌝ }
+    ensures { λ r. ⌜ r ≡ n + cond (eqb (s .runs) 1) 1 0 ⌝ }
+{
+    if s.runs == 1 { n + 1 } else { n }
+}
+
+// The cheapest open place so far, and what it costs; 0 and 0 where there is none.
+pub struct Choice {
+    pub cost: usize,
+    pub place: usize,
+}
+
+// With one open place more, the first to cost less.
+fn consider(best: Choice, place: usize, cost: usize) -> Choice
+    ensures { λ r. ⌜ r ≡ cond (eqb place 0 || ltb cost (best .cost)) (choiceOf cost place) best ⌝ }
+{
+    if place == 0 {
+        return Choice { cost, place };
+    }
+    if cost < best.cost {
+        return Choice { cost, place };
+    }
+    best
+}
+
+// What an open place costs, where so many cells are closed.
+fn open_cost(s: Note, whole: &[usize; 4096], last: usize, agreed: usize) -> usize
+    requires { ⌜ Small (now whole) last s × (agreed ≤ 2050) × (s .runs * agreed ≤ s .sum + inWhole (now whole) (s .from) last) ⌝ }
+    ensures { λ r. ⌜ r ≡ s .sum + inWhole (now (whole .entry)) (s .from) last - s .runs * agreed ⌝ }
+{
+    let from = s.from;
+    s.sum + whole[64 * from + last] - s.runs * agreed
+}
+
+// The cheapest open place of a pair's last row, whose cells are those from a place up to a stop; the first of them.
+fn cheapest(
+    ends: &[usize; 2050],
+    whole: &[usize; 4096],
+    notes: &[usize; 6150],
+    last: usize,
+    agreed: usize,
+    at: usize,
+    stop: usize,
+) -> Choice
+    requires { ⌜ Pair (now ends) (now whole) (now notes) last at stop agreed ⌝ }
+    ensures { λ r. ⌜ ((g : Pair (now (ends .entry)) (now (whole .entry)) (now (notes .entry)) last at stop agreed) → r ≡ choiceOf (leastOver (g .k) (g .F)) (firstOver (g .k) (g .F))) ⌝ }
+{
+    let mut best = Choice { cost: 0, place: 0 };
+    let mut place = 0;
+    let mut q = at;
+    while q < stop {
+        let s = note_at(notes, q);
+        if s.runs != 1 {
+            best = consider(best, place, open_cost(s, whole, last, agreed));
+            place += 1;
+        }
+        q = after(ends, s, q);
+    }
+    best
 }
