@@ -1,8 +1,9 @@
 -- What holds of each element of a list holds of each of a changed list, of a part of it, and together with what else holds.
 use mathlib.Core.Path.{_≡_, refl, ap, ap₂}
 use mathlib.Core.List.{List, [], _∷_, _++_, map}
-use Prim.Native.Nat.{ℕ, zero, suc}
-use lib.ListN.{take, drop}
+use Prim.Native.Nat.{ℕ, zero, suc, _<_}
+use native.Mathlib.Omega.{arith}
+use lib.ListN.{length, getD, take, drop}
 use Rattle.table.specs.All.{All}
 
 module _ {A : Type 0} where
@@ -54,3 +55,8 @@ module _ {A : Type 0} where
   pub map-same : (P : A → Type 0) {B : Type 0} (f g : A → B) → ((x : A) → P x → f x ≡ g x) → (xs : List A) → All P xs → map f xs ≡ map g xs
   map-same P f g h [] a = refl
   map-same P {B} f g h (x ∷ xs) a = ap₂ (λ (y : B) (ys : List B). y ∷ ys) (h x (a .0)) (map-same P f g h xs (a .1))
+
+  pub all-at : (P : A → Type 0) (d : A) (xs : List A) (i : ℕ) → i < length xs → All P xs → P (getD xs i d)
+  all-at P d [] i h a = absurd (omega arith)
+  all-at P d (x ∷ xs) zero h a = a .0
+  all-at P d (x ∷ xs) (suc i) h a = all-at P d xs i (omega arith) (a .1)

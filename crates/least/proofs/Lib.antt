@@ -20,3 +20,5 @@ pub mod ShownLaws
 pub mod PairNotes
 pub mod RowLaws
 pub mod ReadLaws
+pub mod EndedLaws
+pub mod KeepLaws

@@ -45,7 +45,7 @@ shown-within at-end = omega arith
 shown-within (at-closed h o s) = shown-within s
 shown-within (at-open h l o p s) = omega (arith, shown-within s)
 
-shown-map : {N : ℕ → Note} {E : ℕ → ℕ} {P Q : ℕ → Note → Type 0} {stop k q i a : ℕ} → ((j : ℕ) (s : Note) → j < k → P j s → Q j s)
+pub shown-map : {N : ℕ → Note} {E : ℕ → ℕ} {P Q : ℕ → Note → Type 0} {stop k q i a : ℕ} → ((j : ℕ) (s : Note) → j < k → P j s → Q j s)
     → Shown N E P stop k q i a → Shown N E Q stop k q i a
 shown-map f at-end = at-end
 shown-map f (at-closed h o s) = at-closed h o (shown-map f s)

@@ -82,10 +82,14 @@ pub record Priced (W : ℕ → ℕ → ℕ) (first last a : ℕ) (F : ℕ → �
   pub price : s .sum + W (s .from) last ≡ F i + s .runs * a
   pub fair : Fair first last s
 
--- where the term ends that begins at each cell
+-- e is the place after the term that begins at cell j, if one does
+abbrev pub EndsAt : List ℕ → ℕ → ℕ → Type 0
+EndsAt cells j e = (t rest : List ℕ) → Terms 1 t → drop j cells ≡ t ++ rest → e ≡ j + length t
+
+-- the same of each cell
 pub record Ended (cells ends : List ℕ) : Type 0 where
   pub size : length ends ≡ 2050
-  pub at : (j : ℕ) (t rest : List ℕ) → Terms 1 t → drop j cells ≡ t ++ rest → getD ends j 0 ≡ j + length t
+  pub at : (j : ℕ) → EndsAt cells j (getD ends j 0)
 
 -- What is given where one row more is noted, its cells from `new` up to a stop: the row before it, `last`, is noted at its cells from `old` up to `new`, after
 -- the older rows, and what a run costs is kept for each that ends at that row

@@ -6,7 +6,9 @@ ghost use Prim.Native.Nat.{_+_, _-_, _*_, _≤_, _<_};
 ghost use lib.Dec.{eqb, ltb};
 ghost use lib.ListN.{length, getD};
 ghost use Rattle.least.specs.Best.{firstOver, leastOver};
-ghost use Rattle.least.specs.Notes.{choiceOf, noteIn, noteNext, putNote, inWhole, Small, NextRow, RowNoted, Alone, Walk, Pair};
+ghost use Rattle.least.specs.Notes.{choiceOf, noteIn, noteNext, putNote, inWhole, Small, NextRow, RowNoted, Alone, Walk, Pair, EndsAt, Ended};
+ghost use Rattle.least.specs.Filling.{PairAt, Keeps, arrays};
+use term::End;
 
 // How many runs the rows so far have at this place, the sum of what each of them costs, all but the last, and where the
 // last of them begins. One run: all agree, and the place is closed.
@@ -184,4 +186,52 @@ fn cheapest(
         q = after(ends, s, q);
     }
     best
+}
+
+// The place after the term that begins at a cell.
+fn end_at(cells: &[u32], j: usize) -> usize
+    ensures { λ r. ⌜ EndsAt (now (cells .entry)) j r ⌝ }
+{
+    match term::term_end(cells, j) {
+        End::At(e) => e,
+        End::Short => 0,
+    }
+}
+
+// The same for each cell.
+fn term_ends(cells: &[u32]) -> [usize; 2050]
+    requires { ⌜ length (now cells) ≤ 2050 ⌝ }
+    ensures { λ r. ⌜ Ended (now (cells .entry)) r ⌝ }
+{
+    let mut ends = [0; 2050];
+    let mut j = 0;
+    while j < cells.len() {
+        ends[j] = end_at(cells, j);
+        j += 1;
+    }
+    ends
+}
+
+// The entry of a pair, read off the notes at its last row.
+fn keep_pair(
+    ends: &[usize; 2050],
+    whole: &mut [usize; 4096],
+    notes: &[usize; 6150],
+    cost: &mut [u32; 4096],
+    place: &mut [u32; 4096],
+    first: usize,
+    last: usize,
+    at: usize,
+    stop: usize,
+)
+    requires { ⌜ PairAt (now ends) (now whole) (now notes) first last at stop ⌝ }
+    ensures { λ _. ⌜ ((g : PairAt (now (ends .entry)) (now (whole .entry)) (now (notes .entry)) first last at stop) → Keeps (g .w) (g .rows) first last (arrays (now (whole .entry)) (now (cost .entry)) (now (place .entry))) (arrays (now (whole .exit)) (now (cost .exit)) (now (place .exit)))) ⌝ }
+{
+    let agreed = agreed_in(ends, notes, at, stop);
+    let best = cheapest(ends, &*whole, notes, last, agreed, at, stop);
+    let count = best.cost;
+    let chosen = best.place;
+    whole[64 * first + last] = agreed + count;
+    cost[64 * first + last] = count as u32;
+    place[64 * first + last] = chosen as u32;
 }
