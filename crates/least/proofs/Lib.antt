@@ -22,3 +22,4 @@ pub mod RowLaws
 pub mod ReadLaws
 pub mod EndedLaws
 pub mod KeepLaws
+pub mod FillLaws

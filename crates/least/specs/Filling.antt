@@ -69,3 +69,42 @@ pub record Filled (w : ℕ) (rows : List (List ℕ)) (first last : ℕ) (a : Arr
   pub entry : (j j′ : ℕ) → j ≤ j′ → j′ < length rows → Done first last j j′ → Entry plain w rows j j′ (inWhole (a .cost) j j′) (inWhole (a .place) j j′)
   pub none : (j j′ : ℕ) → j < 64 → j′ < 64 → (j′ < j) ⊎ (length rows ≤ j′) → (inWhole (a .cost) j j′ ≡ 0) × (inWhole (a .place) j j′ ≡ 0)
   pub room : (length (a .whole) ≡ 4096) × (length (a .cost) ≡ 4096) × (length (a .place) ≡ 4096)
+
+-- the rows of a table, and one of them that is a first row
+pub record Ready (cells ends starts : List ℕ) (count first w : ℕ) (rows : List (List ℕ)) : Type 0 where
+  pub laid : Laid cells starts count w rows
+  pub ended : Ended cells ends
+  pub inside : first < count
+
+-- the row `last` stands in its cells, from `old` up to `new`
+pub record RowHere (cells starts : List ℕ) (count first last old new : ℕ) : Type 0 where
+  pub order : first ≤ last
+  pub inside : last < count
+  pub old-is : old ≡ getD starts last 0
+  pub new-is : new ≡ stopOf cells starts count last
+
+-- it is noted, and the pairs of this first row up to it are done
+pub record Kept (cells starts : List ℕ) (count first w : ℕ) (rows : List (List ℕ)) (last old new : ℕ) (notes : List ℕ) (a : Arrays) : Type 0 where
+  pub row : RowHere cells starts count first last old new
+  pub noted : Noted (wholeOf w rows) first (noteIn notes) old w (slice first last rows) (getD rows last [])
+  pub filled : Filled w rows first (suc last) a
+  pub room : length notes ≡ 6150
+
+-- what is given where the pairs of a first row are worked out from a last row on, and what is so then
+pub record RowsAt (cells ends starts notes : List ℕ) (a : Arrays) (count first last old new : ℕ) : Type 0 where
+  pub w : ℕ
+  pub rows : List (List ℕ)
+  pub ready : Ready cells ends starts count first w rows
+  pub kept : Kept cells starts count first w rows last old new notes a
+
+pub record RowsDone (w : ℕ) (rows : List (List ℕ)) (count first : ℕ) (notes : List ℕ) (a : Arrays) : Type 0 where
+  pub filled : Filled w rows first count a
+  pub room : length notes ≡ 6150
+
+-- what is given where all pairs of a first row are worked out: those of later first rows are
+pub record FirstAt (cells ends starts notes : List ℕ) (a : Arrays) (count first : ℕ) : Type 0 where
+  pub w : ℕ
+  pub rows : List (List ℕ)
+  pub ready : Ready cells ends starts count first w rows
+  pub filled : Filled w rows (suc first) count a
+  pub room : length notes ≡ 6150

@@ -7,7 +7,7 @@ ghost use lib.Dec.{eqb, ltb};
 ghost use lib.ListN.{length, getD};
 ghost use Rattle.least.specs.Best.{firstOver, leastOver};
 ghost use Rattle.least.specs.Notes.{choiceOf, noteIn, noteNext, putNote, inWhole, Small, NextRow, RowNoted, Alone, Walk, Pair, EndsAt, Ended};
-ghost use Rattle.least.specs.Filling.{PairAt, Keeps, arrays};
+ghost use Rattle.least.specs.Filling.{stopOf, PairAt, Keeps, arrays, RowsAt, RowsDone, FirstAt};
 use term::End;
 
 // How many runs the rows so far have at this place, the sum of what each of them costs, all but the last, and where the
@@ -234,4 +234,78 @@ fn keep_pair(
     whole[64 * first + last] = agreed + count;
     cost[64 * first + last] = count as u32;
     place[64 * first + last] = chosen as u32;
+}
+
+// Where a row's cells end: where the next row's begin, and the last row's where the table's end.
+fn row_end(cells: &[u32], starts: &[usize; 64], count: usize, r: usize) -> usize
+    requires { ⌜ (r < 64) × (count ≤ 64) ⌝ }
+    ensures { λ e. ⌜ e ≡ stopOf (now (cells .entry)) (now (starts .entry)) count r ⌝ }
+{
+    if r + 1 < count { starts[r + 1] } else { cells.len() }
+}
+
+// The pairs with a first row and the rows after a last one, whose cells are those from `old` up to `new`.
+fn more_pairs(
+    cells: &[u32],
+    ends: &[usize; 2050],
+    starts: &[usize; 64],
+    whole: &mut [usize; 4096],
+    notes: &mut [usize; 6150],
+    cost: &mut [u32; 4096],
+    place: &mut [u32; 4096],
+    count: usize,
+    first: usize,
+    from: usize,
+    begin: usize,
+    end: usize,
+)
+    requires { ⌜ RowsAt (now cells) (now ends) (now starts) (now notes) (arrays (now whole) (now cost) (now place)) count first from begin end ⌝ }
+    ensures { λ _. ⌜ ((g : RowsAt (now (cells .entry)) (now (ends .entry)) (now (starts .entry)) (now (notes .entry)) (arrays (now (whole .entry)) (now (cost .entry)) (now (place .entry))) count first from begin end) → RowsDone (g .w) (g .rows) count first (now (notes .exit)) (arrays (now (whole .exit)) (now (cost .exit)) (now (place .exit)))) ⌝ }
+{
+    let mut last = from;
+    let mut old = begin;
+    let mut new = end;
+    while last + 1 < count {
+        let stop = row_end(cells, starts, count, last + 1);
+        note_row(cells, ends, &*whole, &mut *notes, last, old, new, stop);
+        last += 1;
+        old = new;
+        new = stop;
+        keep_pair(ends, &mut *whole, &*notes, &mut *cost, &mut *place, first, last, old, new);
+    }
+}
+
+// All pairs with a first row: the row by itself, and then with one row more after another.
+fn pairs_from(
+    cells: &[u32],
+    ends: &[usize; 2050],
+    starts: &[usize; 64],
+    whole: &mut [usize; 4096],
+    notes: &mut [usize; 6150],
+    cost: &mut [u32; 4096],
+    place: &mut [u32; 4096],
+    count: usize,
+    first: usize,
+)
+    requires { ⌜ FirstAt (now cells) (now ends) (now starts) (now notes) (arrays (now whole) (now cost) (now place)) count first ⌝ }
+    ensures { λ _. ⌜ ((g : FirstAt (now (cells .entry)) (now (ends .entry)) (now (starts .entry)) (now (notes .entry)) (arrays (now (whole .entry)) (now (cost .entry)) (now (place .entry))) count first) → RowsDone (g .w) (g .rows) count first (now (notes .exit)) (arrays (now (whole .exit)) (now (cost .exit)) (now (place .exit)))) ⌝ }
+{
+    let old = starts[first];
+    let new = row_end(cells, starts, count, first);
+    note_first(&mut *notes, old, new, first);
+    keep_pair(ends, &mut *whole, &*notes, &mut *cost, &mut *place, first, first, old, new);
+    more_pairs(
+        cells,
+        ends,
+        starts,
+        &mut *whole,
+        &mut *notes,
+        &mut *cost,
+        &mut *place,
+        count,
+        first,
+        first,
+        old,
+        new,
+    );
 }
