@@ -6,17 +6,17 @@ use mathlib.Core.List.{List, [], _∷_, _++_}
 use Prim.Native.Nat.{ℕ, zero, suc, _+_, _-_, _*_, _≤_, _<_}
 use native.Mathlib.Omega.{arith}
 use native.Mathlib.Numerals.{add-one}
-use lib.ListN.{length, getD, set, take, drop, length-set}
+use lib.ListN.{length, getD, set, take, drop, replicate, length-set, length-replicate, getD-replicate}
 use lib.Seq.{slice, length-slice, getD-set-same, getD-set-other, slice-empty}
-use lib.Dec.{eqb, ltb}
-use borrow.Author.Tests.{eqb-true, eqb-false, lt-ltb}
+use lib.Dec.{eqb, leb, ltb}
+use borrow.Author.Tests.{eqb-true, eqb-false, leb-true, leb-false, ltb-true, ltb-false, lt-ltb}
 use Rattle.term.specs.Terms.{Terms}
 use Rattle.table.specs.All.{All}
 use Rattle.plan.specs.Plans.{plain}
 use Rattle.plan.proofs.RunsLaws.{Fits}
-use Rattle.least.specs.Entries.{wholeOf, Entry, none}
+use Rattle.least.specs.Entries.{wholeOf, Entry, none, Entries}
 use Rattle.least.specs.Notes.{note, noteIn, inWhole, Noted, Ended, NextRow, RowNoted, Alone}
-use Rattle.least.specs.Filling.{stopOf, Laid, PairAt, Arrays, arrays, Keeps, Done, Filled, Ready, RowHere, Kept, RowsDone}
+use Rattle.least.specs.Filling.{stopOf, Laid, PairAt, Arrays, arrays, Keeps, Done, Filled, Ready, RowHere, Kept, RowsDone, FirstAt, Rows}
 use Rattle.least.proofs.AllLaws.{all-at}
 use Rattle.least.proofs.NotedLaws.{noted-alone}
 use Rattle.least.proofs.PairNotes.{between-last, whole-small}
@@ -204,3 +204,54 @@ module _ {cells ends starts : List ℕ} {count first w : ℕ} {rows : List (List
   pub rows-done : {last old new : ℕ} {notes : List ℕ} {a : Arrays} → Kept cells starts count first w rows last old new notes a → count ≤ last + 1
       → RowsDone w rows count first notes a
   rows-done {last} x h = let e : suc last ≡ count = omega (arith, x .row .inside) in record { filled = rw e at (x .filled); room = x .room }
+
+-- no pair is done yet
+pub filled-start : (w : ℕ) (rows : List (List ℕ)) (count : ℕ) → length rows ≡ count
+    → Filled w rows count count (arrays (replicate 4096 0) (replicate 4096 0) (replicate 4096 0))
+filled-start w rows count l = record {
+  whole = λ j j′ h m d. absurd (early j j′ h m d);
+  entry = λ j j′ h m d. absurd (early j j′ h m d);
+  none = λ j j′ h m o. (getD-replicate 4096 (64 * j + j′) 0 0 (omega arith), getD-replicate 4096 (64 * j + j′) 0 0 (omega arith));
+  room = (length-replicate {A = ℕ} 4096 0, length-replicate {A = ℕ} 4096 0, length-replicate {A = ℕ} 4096 0);
+}
+  where
+    early : (j j′ : ℕ) → j ≤ j′ → j′ < length rows → Done count count j j′ → ⊥
+    early j j′ h m (inl d) = omega arith
+    early j j′ h m (inr d) = omega (arith, d .0)
+
+-- all are
+pub filled-all : (w : ℕ) (rows : List (List ℕ)) (count : ℕ) (a : Arrays) → length rows ≡ count → Filled w rows 0 count a → Entries w rows (a .cost) (a .place)
+filled-all w rows count a l f = record { size = (f .room .1, f .room .2); entry = λ j j′ h m. go j j′ h m (leb j j′) refl }
+  where
+    outside : (j j′ : ℕ) → j < 64 → j′ < 64 → (j′ < j) ⊎ (length rows ≤ j′) → Entry plain w rows j j′ (inWhole (a .cost) j j′) (inWhole (a .place) j j′)
+    outside j j′ h m o = let z = f .none j j′ h m o in rw (z .0, z .1) (none o)
+
+    at : (j j′ : ℕ) → j′ < count → (b : Bool) → eqb j 0 ≡ b → Done 0 count j j′
+    at j j′ h true e = inr (eqb-true j 0 e, h)
+    at j j′ h false e = let n : j ≢ 0 = eqb-false j 0 e in inl (omega (arith, n))
+
+    within : (j j′ : ℕ) → j < 64 → j′ < 64 → j ≤ j′ → (b : Bool) → ltb j′ (length rows) ≡ b
+        → Entry plain w rows j j′ (inWhole (a .cost) j j′) (inWhole (a .place) j j′)
+    within j j′ h m o true e = let q = ltb-true j′ (length rows) e in f .entry j j′ o q (at j j′ (omega arith) (eqb j 0) refl)
+    within j j′ h m o false e = outside j j′ h m (inr (ltb-false j′ (length rows) e))
+
+    go : (j j′ : ℕ) → j < 64 → j′ < 64 → (b : Bool) → leb j j′ ≡ b → Entry plain w rows j j′ (inWhole (a .cost) j j′) (inWhole (a .place) j j′)
+    go j j′ h m true e = within j j′ h m (leb-true j j′ e) (ltb j′ (length rows)) refl
+    go j j′ h m false e = outside j j′ h m (inl (leb-false j j′ e))
+
+-- the next first row
+abbrev pub first-at : {cells ends starts notes : List ℕ} {a : Arrays} {count : ℕ} (g : Rows cells starts count) → Ended cells ends
+    → (first : ℕ) → 0 < first → first ≤ count → RowsDone (g .w) (g .rows) count first notes a → FirstAt cells ends starts notes a count (first - 1)
+first-at {count = count} g e first h l x =
+    let q : first ≡ suc (first - 1) = omega arith in
+    record {
+      w = g .w;
+      rows = g .rows;
+      ready = record { laid = g .laid; ended = e; inside = omega arith };
+      filled = rw q at (x .filled);
+      room = x .room;
+    }
+
+pub all-done : {cells starts notes : List ℕ} {a : Arrays} {count : ℕ} (g : Rows cells starts count) (first : ℕ) → first ≤ 0 → RowsDone (g .w) (g .rows) count first notes a
+    → Entries (g .w) (g .rows) (a .cost) (a .place)
+all-done {a = a} {count} g first h x = let e : first ≡ 0 = omega arith in filled-all (g .w) (g .rows) count a (g .laid .number) (rw e at (x .filled))

@@ -108,3 +108,9 @@ pub record FirstAt (cells ends starts notes : List ℕ) (a : Arrays) (count firs
   pub ready : Ready cells ends starts count first w rows
   pub filled : Filled w rows (suc first) count a
   pub room : length notes ≡ 6150
+
+-- the rows of a table
+pub record Rows (cells starts : List ℕ) (count : ℕ) : Type 0 where
+  pub w : ℕ
+  pub rows : List (List ℕ)
+  pub laid : Laid cells starts count w rows

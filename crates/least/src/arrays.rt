@@ -6,8 +6,9 @@ ghost use Prim.Native.Nat.{_+_, _-_, _*_, _≤_, _<_};
 ghost use lib.Dec.{eqb, ltb};
 ghost use lib.ListN.{length, getD};
 ghost use Rattle.least.specs.Best.{firstOver, leastOver};
+ghost use Rattle.least.specs.Entries.{Entries};
 ghost use Rattle.least.specs.Notes.{choiceOf, noteIn, noteNext, putNote, inWhole, Small, NextRow, RowNoted, Alone, Walk, Pair, EndsAt, Ended};
-ghost use Rattle.least.specs.Filling.{stopOf, PairAt, Keeps, arrays, RowsAt, RowsDone, FirstAt};
+ghost use Rattle.least.specs.Filling.{stopOf, PairAt, Keeps, arrays, RowsAt, RowsDone, FirstAt, Rows};
 use term::End;
 
 // How many runs the rows so far have at this place, the sum of what each of them costs, all but the last, and where the
@@ -241,7 +242,11 @@ fn row_end(cells: &[u32], starts: &[usize; 64], count: usize, r: usize) -> usize
     requires { ⌜ (r < 64) × (count ≤ 64) ⌝ }
     ensures { λ e. ⌜ e ≡ stopOf (now (cells .entry)) (now (starts .entry)) count r ⌝ }
 {
-    if r + 1 < count { starts[r + 1] } else { cells.len() }
+    if r + 1 < count {
+        starts[r + 1]
+    } else {
+        cells.len()
+    }
 }
 
 // The pairs with a first row and the rows after a last one, whose cells are those from `old` up to `new`.
@@ -271,7 +276,17 @@ fn more_pairs(
         last += 1;
         old = new;
         new = stop;
-        keep_pair(ends, &mut *whole, &*notes, &mut *cost, &mut *place, first, last, old, new);
+        keep_pair(
+            ends,
+            &mut *whole,
+            &*notes,
+            &mut *cost,
+            &mut *place,
+            first,
+            last,
+            old,
+            new,
+        );
     }
 }
 
@@ -293,7 +308,17 @@ fn pairs_from(
     let old = starts[first];
     let new = row_end(cells, starts, count, first);
     note_first(&mut *notes, old, new, first);
-    keep_pair(ends, &mut *whole, &*notes, &mut *cost, &mut *place, first, first, old, new);
+    keep_pair(
+        ends,
+        &mut *whole,
+        &*notes,
+        &mut *cost,
+        &mut *place,
+        first,
+        first,
+        old,
+        new,
+    );
     more_pairs(
         cells,
         ends,
@@ -308,4 +333,38 @@ fn pairs_from(
         old,
         new,
     );
+}
+
+// The entries for every pair of first and last row, at 64 times the first and the last.
+pub struct Counts {
+    pub cost: [u32; 4096],
+    pub place: [u32; 4096],
+}
+
+// All pairs: first rows from the last to the first, so that a run's costs are there before they are asked for.
+pub fn all_pairs(cells: &[u32], starts: &[usize; 64], count: usize) -> Counts
+    requires { ⌜ Rows (now cells) (now starts) count ⌝ }
+    ensures { λ r. ⌜ ((g : Rows (now (cells .entry)) (now (starts .entry)) count) → Entries (g .w) (g .rows) (r .cost) (r .place)) ⌝ }
+{
+    let ends = term_ends(cells);
+    let mut whole = [0; 4096];
+    let mut notes = [0; 6150];
+    let mut cost = [0; 4096];
+    let mut place = [0; 4096];
+    let mut first = count;
+    while 0 < first {
+        first -= 1;
+        pairs_from(
+            cells,
+            &ends,
+            starts,
+            &mut whole,
+            &mut notes,
+            &mut cost,
+            &mut place,
+            count,
+            first,
+        );
+    }
+    Counts { cost, place }
 }
