@@ -1,8 +1,9 @@
 -- What holds of each element of a list holds of each of a changed list, of a part of it, and together with what else holds.
-use mathlib.Core.Path.{_≡_, refl, ap₂}
-use mathlib.Core.List.{List, [], _∷_, map}
-use Prim.Native.Nat.{ℕ, zero, suc}
-use lib.ListN.{take, drop}
+use mathlib.Core.Path.{_≡_, refl, ap, ap₂}
+use mathlib.Core.List.{List, [], _∷_, _++_, map}
+use Prim.Native.Nat.{ℕ, zero, suc, _<_}
+use native.Mathlib.Omega.{arith}
+use lib.ListN.{length, getD, take, drop}
 use Rattle.table.specs.All.{All}
 
 module _ {A : Type 0} where
@@ -37,3 +38,25 @@ module _ {A : Type 0} where
       → map f (map g xs) ≡ map f′ (map g′ xs)
   map-map-same P f g f′ g′ h [] a = refl
   map-map-same P f g f′ g′ h (x ∷ xs) a = ap₂ (λ (y : A) (ys : List A). y ∷ ys) (h x (a .0)) (map-map-same P f g f′ g′ h xs (a .1))
+
+  pub all-front : (P : A → Type 0) (xs ys : List A) → All P (xs ++ ys) → All P xs
+  all-front P [] ys a = tt
+  all-front P (x ∷ xs) ys a = (a .0, all-front P xs ys (a .1))
+
+  pub all-back : (P : A → Type 0) (xs ys : List A) → All P (xs ++ ys) → All P ys
+  all-back P [] ys a = a
+  all-back P (x ∷ xs) ys a = all-back P xs ys (a .1)
+
+  pub map-++ : {B : Type 0} (f : A → B) (xs ys : List A) → map f (xs ++ ys) ≡ map f xs ++ map f ys
+  map-++ f [] ys = refl
+  map-++ {B} f (x ∷ xs) ys = ap (λ (zs : List B). f x ∷ zs) (map-++ f xs ys)
+
+  -- a change of each element, and two after another, equal to one
+  pub map-same : (P : A → Type 0) {B : Type 0} (f g : A → B) → ((x : A) → P x → f x ≡ g x) → (xs : List A) → All P xs → map f xs ≡ map g xs
+  map-same P f g h [] a = refl
+  map-same P {B} f g h (x ∷ xs) a = ap₂ (λ (y : B) (ys : List B). y ∷ ys) (h x (a .0)) (map-same P f g h xs (a .1))
+
+  pub all-at : (P : A → Type 0) (d : A) (xs : List A) (i : ℕ) → i < length xs → All P xs → P (getD xs i d)
+  all-at P d [] i h a = absurd (omega arith)
+  all-at P d (x ∷ xs) zero h a = a .0
+  all-at P d (x ∷ xs) (suc i) h a = all-at P d xs i (omega arith) (a .1)

@@ -8,10 +8,11 @@ use Rattle.cell.specs.Cell.{arity}
 use Rattle.term.specs.Terms.{root, close}
 use Rattle.table.specs.All.{All}
 use Rattle.plan.specs.Runs.{Run, runs}
-use Rattle.plan.specs.Plans.{Plan, leaf, node, Branches, end, next, Measure, choice, cost, costs}
+use Rattle.plan.specs.Plans.{Plan, leaf, node, Branches, end, next, Measure, cost, costs}
 use Rattle.plan.proofs.RunsLaws.{Each, Sized, group-sizes, Fits, fits-some, runs-fit}
+use Rattle.least.specs.Best.{argmin, minimum, through, total, best}
 use Rattle.least.specs.Least.{Least}
-use Rattle.least.proofs.Minimum.{argmin, minimum, argmin-first}
+use Rattle.least.proofs.Minimum.{argmin-first}
 
 -- two least costs of a state are one
 pub least-one : {m : Measure} {k : ℕ} {rows : List (List ℕ)} {n n′ : ℕ} → Least m k rows n → Least m k rows n′ → n ≡ n′
@@ -22,10 +23,6 @@ pub record LeastRuns (m : Measure) (k : ℕ) (gs : List Run) (n : ℕ) : Type 0 
   pub branches : Branches k gs
   pub costs-it : costs m branches ≡ n
   pub none-less : (bs : Branches k gs) → n ≤ costs m bs
-
--- what a state costs that looks at place i first, where branches below cost F i
-abbrev pub through : Measure → List (List ℕ) → (ℕ → ℕ) → ℕ → ℕ
-through m rows F i = choice m (length (runs i rows)) + F i
 
 module _ (m : Measure) where
   pub leaf-least : (rows : List (List ℕ)) → Least m 0 rows 0
@@ -60,17 +57,6 @@ module _ (m : Measure) where
     where
       less : (q : Plan (suc k) rows) → minimum k (through m rows F) ≤ cost m q
       less (node i h bs) = omega (arith, argmin-first k (through m rows F) .least i h, f i h .none-less bs)
-
-  -- the least cost as a function: what the branches of some runs cost, by what stands below each
-  unfoldable pub total : (ℕ → List (List ℕ) → ℕ) → List Run → ℕ
-  total f [] = 0
-  total f (g ∷ gs) = m .weight (g .cell) + (f (g .cell) (g .rows) + total f gs)
-
-  -- of a state. The first number bounds the depth and never decides: a row of n cells is looked at n times at most
-  unfoldable pub best : ℕ → ℕ → List (List ℕ) → ℕ
-  best zero k rows = 0
-  best (suc n) zero rows = 0
-  best (suc n) (suc k) rows = minimum k (through m rows (λ (i : ℕ). total (λ c g. best n (arity c + k) g) (runs i rows)))
 
 module _ (m : Measure) where
   pub best-runs : (n k : ℕ) → ((k : ℕ) (rows : List (List ℕ)) → All (Fits n k) rows → 0 < length rows → Least m k rows (best m n k rows))

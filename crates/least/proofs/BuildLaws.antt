@@ -1,5 +1,5 @@
 -- The three answers of the builder.
-use mathlib.Core.Path.{_≡_, refl, ap, ap₂, _∙_}
+use mathlib.Core.Path.{_≡_, refl, sym, ap, ap₂, _∙_}
 use mathlib.Core.List.{List, _++_}
 use Prim.Native.Nat.{ℕ, _≤_, _<_}
 use native.Mathlib.Omega.{arith}
@@ -13,7 +13,10 @@ use Rattle.table.specs.declared.Input.the-variants.{Lent}
 use Rattle.plan.specs.Steps.{TableRows}
 use Rattle.least.specs.declared.BuildAnswer.the-variants as build-answer
 use Rattle.least.specs.Writing.{Planned}
-use Rattle.least.specs.Build.{BuiltInto, table-refused, room-refused, built}
+use Rattle.least.specs.Entries.{Entries}
+use Rattle.least.specs.Filling.{arrays, Filled}
+use Rattle.least.specs.Build.{WorkedOut, worked, BuiltInto, table-refused, room-refused, built}
+use Rattle.least.proofs.FillLaws.{all-entries}
 
 pub no-table : {t : List ℕ} (room : List ℕ) {f : Refusal} → tableOf t ≡ refuse (told f) → BuiltInto t room room (build-answer.Refused f)
 no-table room {f} e = table-refused (told f) e refl refl
@@ -29,3 +32,11 @@ module _ {t ss : List ℕ} {w n : ℕ} (k : TableRows t ss w n) {cells : List �
   all-built room room′ h e =
       built (k .table) (p .plan) (k .here) (p .built) (p .least) (omega (arith, p .size-is)) (ap₂ answered (p .size-is) (p .count-is))
       (e ∙ ap₂ (λ (xs : List ℕ) (x : ℕ). xs ++ drop x room) (p .cells-are) (p .size-is))
+
+-- the entries of a table that is read
+entries-width : {w v : ℕ} {rows : List (List ℕ)} {cost place : List ℕ} → w ≡ v → Entries w rows cost place → Entries v rows cost place
+entries-width e f = rw (← e) f
+
+pub all-worked : {t ss whole cost place : List ℕ} {w n : ℕ} (k : TableRows t ss w n) → Filled w (k .table .rows) 0 n (arrays whole cost place)
+    → WorkedOut t (record { cost = cost; place = place })
+all-worked k f = worked (k .table) (k .here) (entries-width (k .width) (all-entries (sym (k .rows)) f))

@@ -10,9 +10,10 @@ use Rattle.table.specs.All.{All}
 use Rattle.plan.specs.Runs.{Run, runs}
 use Rattle.plan.specs.Plans.{Plan, leaf, node, Branches, end, next, write, writes, Measure}
 use Rattle.plan.proofs.RunsLaws.{Each, Sized, group-sizes, Fits, fits-some, runs-fit}
+use Rattle.least.specs.Best.{argmin, total, best}
 use Rattle.least.specs.Least.{Chosen, Built, Builts}
-use Rattle.least.proofs.Minimum.{argmin, argmin-first}
-use Rattle.least.proofs.Best.{total, best, best-runs, best-least}
+use Rattle.least.proofs.Minimum.{argmin-first}
+use Rattle.least.proofs.Best.{best-runs, best-least}
 use Rattle.least.proofs.Building.{rank, chosen-first}
 
 -- what the branches of each place cost at least

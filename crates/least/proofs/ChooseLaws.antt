@@ -2,25 +2,29 @@
 use mathlib.Core.Path.{_≡_, sym, _∙_}
 use mathlib.Core.Logic.{by-cases, inl, inr}
 use mathlib.Core.List.{List, [], _∷_, map}
-use Prim.Native.Nat.{ℕ, suc, _+_, _-_, _≤_, _<_}
+use Prim.Native.Nat.{ℕ, suc, _+_, _-_, _*_, _≤_, _<_}
 use native.Mathlib.Decide.{decLt}
 use native.Mathlib.Omega.{arith}
-use lib.ListN.{length}
-use Rattle.term.specs.Terms.{Terms, root}
+use lib.ListN.{length, getD, length-map}
+use Rattle.term.specs.Terms.{Terms, root, close}
 use Rattle.term.specs.Terms as terms
 use Rattle.table.specs.All.{All}
+use Rattle.plan.specs.Runs.{runs}
 use Rattle.plan.specs.Plans.{plain}
 use Rattle.plan.specs.Column.{runCount}
 use Rattle.plan.specs.States.{rowsIn}
 use Rattle.plan.proofs.RunsLaws.{Fits}
 use Rattle.plan.proofs.RowsLaws.{rows-length}
+use Rattle.plan.proofs.ColumnLaws.{group-on, count-runs}
 use Rattle.least.specs.Least.{Stuck, Chosen, shared}
 use Rattle.least.specs.Entries.{Entry, none, leaf, inner}
-use Rattle.least.specs.Cursors.{keptIn}
 use Rattle.least.specs.Writing.{State}
 use Rattle.least.proofs.Agreed.{one-agrees, no-run}
 use Rattle.least.proofs.Closing.{order-does-not-matter}
-use Rattle.least.proofs.CursorsLaws.{column-count}
+
+-- how many runs there are at a place, by the column of cells there
+column-count : (p : ℕ) (rows : List (List ℕ)) → length (runs p rows) ≡ runCount (map (root p) rows)
+column-count p rows = rw (group-on (root p) (close p) rows) (count-runs (map (root p) rows) (map (close p) rows) (simp length-map))
 
 pub none-stuck : (rows : List (List ℕ)) → Stuck 0 rows
 none-stuck rows i c h a = omega arith
@@ -47,7 +51,7 @@ module _ {place : List ℕ} {first end k : ℕ} {left : List (List ℕ)} (s : St
       let ek : k - 1 ≡ k′ = omega (arith, u .1) in
       (omega (arith, u .1), rw (ek, u .2) d)
 
-  pub chosen-entry : (keptIn place first (end - 1) < k) × Chosen plain (k - 1) left (keptIn place first (end - 1))
+  pub chosen-entry : (getD place (64 * first + (end - 1)) 0 < k) × Chosen plain (k - 1) left (getD place (64 * first + (end - 1)) 0)
   chosen-entry = by-entry (s .source .places first (end - 1) (omega (arith, s .some)) (omega (arith, s .some, s .inside)) .1)
 
 -- a state has no more open places than a row has cells

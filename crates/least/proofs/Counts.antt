@@ -1,7 +1,8 @@
 -- The least cost of a pair of first and last row, from those of pairs in between: what document 001's equation 1 becomes once agreed places are closed.
 use mathlib.Core.Path.{_≡_, _∙_}
 use mathlib.Core.List.{List, [], _∷_, map}
-use Prim.Native.Nat.{ℕ, zero, suc, pred, _+_, _-_, _≤_, _<_}
+use Prim.Native.Nat.{ℕ, suc, pred, _+_, _-_, _*_, _≤_, _<_}
+use native.Mathlib.Nat.{suc-mul}
 use native.Mathlib.Omega.{arith}
 use lib.ListN.{length}
 use lib.Seq.{slice, length-slice}
@@ -11,7 +12,6 @@ use Rattle.plan.specs.Runs.{Run, runs}
 use Rattle.plan.specs.Plans.{Measure}
 use Rattle.least.specs.Least.{Stuck, Least}
 use Rattle.least.specs.Entries.{between, Closes, stop, step}
-use Rattle.least.proofs.Minimum.{minimum}
 use Rattle.least.proofs.Best.{least-one, LeastRuns, runs-nil, runs-cons}
 use Rattle.least.proofs.Closing.{closes-least, closes-then, closes-length, confluent, order-does-not-matter}
 use Rattle.least.proofs.Parts.{slice-slice, closes-part, PartOf, Parts, group-parts, part-agree, part-proper}
@@ -47,11 +47,6 @@ abbrev pub sums : (ℕ → ℕ → ℕ) → ℕ → List Run → ℕ
 sums value j [] = 0
 sums value j (g ∷ gs) = value j (pred (j + length (g .rows))) + sums value (j + length (g .rows)) gs
 
--- the least over k places, 0 where there are none
-abbrev pub leastOver : ℕ → (ℕ → ℕ) → ℕ
-leastOver zero F = 0
-leastOver (suc k) F = minimum k F
-
 -- what a run of rows j to j′ adds to a state whose closed cells weigh a: what its rows agree on beyond that, its own branch with it, and its least cost
 abbrev pub adds : (agreed least : ℕ → ℕ → ℕ) → ℕ → ℕ → ℕ → ℕ
 adds agreed least a j j′ = agreed j j′ - a + least j j′
@@ -72,13 +67,14 @@ module _ {m : Measure} (w : ℕ) (rows : List (List ℕ)) (agreed least : ℕ �
   -- so the table tells what the run adds
   run-value : (p o : ℕ) (g : Run) → p ≤ k → PartOf (root p) (close p) left o g
       → (v : ℕ) × (m .weight (g .cell) + v ≡ adds agreed least a (first + o) (pred (first + o + length (g .rows)))) × Least m (arity (g .cell) + k) (g .rows) v
+      × (a ≤ agreed (first + o) (pred (first + o + length (g .rows))))
   run-value p o g h q =
       let b : length left ≡ suc last - first = closes-length x ∙ length-slice first (suc last) rows inside in
       let less : length (g .rows) < length left = part-proper p o g left q (stuck p (g .cell) (omega arith)) in
       let e : first + (o + length (g .rows)) ≡ suc (pred (first + o + length (g .rows))) = omega (arith, q .some) in
       let s = table (first + o) (pred (first + o + length (g .rows))) (omega arith) (omega (arith, q .some)) (omega (arith, q .inside, q .some)) (omega (arith, q .inside, q .some)) in
       let v = solved-below s (rw e at (run-closes p o g h q)) in
-      (v .0, omega (arith, v .1, v .2), v .3)
+      (v .0, omega (arith, v .1, v .2), v .3, omega (arith, v .1))
 
   runs-least : (p o : ℕ) (gs : List Run) → p ≤ k → Parts (root p) (close p) left o gs → LeastRuns m k gs (sums (adds agreed least a) (first + o) gs)
   runs-least p o [] h q = runs-nil m k
@@ -94,3 +90,19 @@ module _ {m : Measure} (w : ℕ) (rows : List (List ℕ)) (agreed least : ℕ �
   place-least p h =
       let e : first + 0 ≡ first = omega arith in
       rw e at (runs-least p 0 (runs p left) h (group-parts (root p) (close p) left))
+
+  whole-from : (p o : ℕ) (gs : List Run) → p ≤ k → Parts (root p) (close p) left o gs
+      → sums (adds agreed least a) (first + o) gs + length gs * a ≡ sums (λ (j j′ : ℕ). agreed j j′ + least j j′) (first + o) gs
+  whole-from p o [] h q = omega arith
+  whole-from p o (g ∷ gs) h q =
+      let e : first + o + length (g .rows) ≡ first + (o + length (g .rows)) = omega arith in
+      let v = run-value p o g h (q .0) in
+      let ih = rw (← e) at (whole-from p (o + length (g .rows)) gs h (q .1)) in
+      omega (arith, suc-mul (length gs) a, v .3, ih)
+
+  -- the same from what each run's rows cost with nothing closed
+  pub place-whole : (p : ℕ) → p ≤ k
+      → sums (adds agreed least a) first (runs p left) + length (runs p left) * a ≡ sums (λ (j j′ : ℕ). agreed j j′ + least j j′) first (runs p left)
+  place-whole p h =
+      let e : first + 0 ≡ first = omega arith in
+      rw e at (whole-from p 0 (runs p left) h (group-parts (root p) (close p) left))

@@ -14,9 +14,9 @@ use Rattle.table.specs.All.{All}
 use Rattle.plan.specs.Runs.{agree}
 use Rattle.plan.specs.Plans.{plain}
 use Rattle.plan.proofs.RunsLaws.{Fits}
+use Rattle.least.specs.Best.{argmin, through, total, best}
 use Rattle.least.specs.Least.{Least}
-use Rattle.least.proofs.Minimum.{argmin}
-use Rattle.least.proofs.Best.{through, total, best, best-least}
+use Rattle.least.proofs.Best.{best-least}
 use Rattle.least.proofs.Builder.{below, place, runCells, planCells, Builds, plan-built}
 
 -- letters stand for names without arguments, f1 for a name with one

@@ -1,3 +1,4 @@
+pub mod LaidLaws
 pub mod Fixed
 pub mod Joined
 pub mod BuildLaws
@@ -5,15 +6,6 @@ pub mod PlannedLaws
 pub mod WritingLaws
 pub mod ChooseLaws
 pub mod AgreedLaws
-pub mod WorkedLaws
-pub mod PlacedLaws
-pub mod FilledLaws
-pub mod CheapLaws
-pub mod KeptLaws
-pub mod ScanningLaws
-pub mod StandLaws
-pub mod CursorsLaws
-pub mod SkipsLaws
 pub mod Minimum
 pub mod Best
 pub mod AllLaws
@@ -28,3 +20,14 @@ pub mod Builder
 pub mod Pairs
 pub mod Examples
 pub mod LeastPlan
+pub mod NoteLaws
+pub mod Suffixes
+pub mod NotedLaws
+pub mod ScanLaws
+pub mod ShownLaws
+pub mod PairNotes
+pub mod RowLaws
+pub mod ReadLaws
+pub mod EndedLaws
+pub mod KeepLaws
+pub mod FillLaws

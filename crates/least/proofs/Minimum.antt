@@ -5,13 +5,7 @@ use Prim.Native.Nat.{ℕ, zero, suc, _≤_, _<_}
 use native.Mathlib.Omega.{arith}
 use lib.Dec.{leb}
 use borrow.Author.Tests.{leb-true, leb-false}
-
-unfoldable pub argmin : ℕ → (ℕ → ℕ) → ℕ
-argmin zero F = 0
-argmin (suc k) F = let i : ℕ = argmin k F in cond (leb (F i) (F (suc k))) i (suc k)
-
-abbrev pub minimum : ℕ → (ℕ → ℕ) → ℕ
-minimum k F = F (argmin k F)
+use Rattle.least.specs.Best.{argmin}
 
 -- the place i of 0 .. k is the first at which F is least
 pub record First (k : ℕ) (F : ℕ → ℕ) (i : ℕ) : Type 0 where

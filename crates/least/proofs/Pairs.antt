@@ -2,7 +2,7 @@
 use mathlib.Core.Path.{_≡_, refl}
 use mathlib.Core.Logic.{_⊎_, inl, inr}
 use mathlib.Core.List.{List}
-use Prim.Native.Nat.{ℕ, zero, suc, _-_, _≤_, _<_}
+use Prim.Native.Nat.{ℕ, zero, suc, _+_, _-_, _*_, _≤_, _<_}
 use native.Mathlib.Omega.{arith}
 use lib.ListN.{length, take}
 use lib.Seq.{length-slice}
@@ -10,13 +10,14 @@ use Rattle.table.specs.All.{All}
 use Rattle.plan.specs.Runs.{runs}
 use Rattle.plan.specs.Plans.{Measure}
 use Rattle.plan.proofs.RunsLaws.{Fits}
+use Rattle.least.specs.Best.{argmin, firstOver, leastOver, through, best}
 use Rattle.least.specs.Least.{Least, Chosen}
 use Rattle.least.specs.Entries.{between, Closes, stop, step, Entry, none, leaf, inner}
-use Rattle.least.proofs.Minimum.{argmin, argmin-first}
+use Rattle.least.proofs.Minimum.{argmin-first}
 use Rattle.least.proofs.AllLaws.{all-each, all-take, all-drop}
-use Rattle.least.proofs.Best.{best, best-least, least-one, LeastRuns, through, leaf-least, node-least}
+use Rattle.least.proofs.Best.{best-least, least-one, LeastRuns, leaf-least, node-least}
 use Rattle.least.proofs.Closing.{closes-length, order-does-not-matter}
-use Rattle.least.proofs.Counts.{Solved, sums, adds, leastOver, place-least}
+use Rattle.least.proofs.Counts.{Solved, sums, adds, place-least, place-whole}
 use Rattle.least.proofs.Scan.{Scan, scan, Scanned, scan-closes, fits-agreed}
 use Rattle.least.proofs.Building.{chosen-one, chosen-cheapest}
 
@@ -49,11 +50,6 @@ entry-one {m} (inner {k = k} {left = left} {count = n} {place = i} h l x s c b d
     let d″ : Chosen m k′ left′ i = rw (ek, u .2) at d in
     (least-one c″ c′, chosen-one m (omega arith) b′ d″ d′)
 
--- the first place at which a function of k places is least, 0 where there are none
-abbrev pub firstOver : ℕ → (ℕ → ℕ) → ℕ
-firstOver zero F = 0
-firstOver (suc k) F = argmin k F
-
 -- rows of a table of width w, of at most n cells each
 module _ (m : Measure) (n w : ℕ) (rows : List (List ℕ)) where
   -- the rows of a pair with all that they agree on closed
@@ -82,26 +78,23 @@ module _ (m : Measure) (n w : ℕ) (rows : List (List ℕ)) where
 
   module _ (fits : All (Fits n w) rows) where
     module _ (first last : ℕ) (order : first ≤ last) (inside : last < length rows) where
-      abbrev State : List (List ℕ) → Type 0
-      State r = All (Fits n w) r × (0 < length r)
-
-      state : State (between first last rows)
-      state = (
+      pub pair-state : All (Fits n w) (between first last rows) × (0 < length (between first last rows))
+      pair-state = (
         all-drop (Fits n w) first (take (suc last) rows) (all-take (Fits n w) (suc last) rows fits),
         omega (arith, length-slice first (suc last) rows inside),
       )
 
       pub pair-closed : Scanned m w (between first last rows) (closedOf first last)
       unfolding closedOf
-      pair-closed = scan-closes m n w (between first last rows) (state .0) (state .1)
+      pair-closed = scan-closes m n w (between first last rows) (pair-state .0) (pair-state .1)
 
       pub pair-counts : Least m ((closedOf first last) .opens) ((closedOf first last) .left) (leastOf first last)
       unfolding leastOf
       pair-counts =
-          best-least m n ((closedOf first last) .opens) ((closedOf first last) .left) (closes-fit n (pair-closed .closes) (state .0))
-          (omega (arith, closes-length (pair-closed .closes), state .1))
+          best-least m n ((closedOf first last) .opens) ((closedOf first last) .left) (closes-fit n (pair-closed .closes) (pair-state .0))
+          (omega (arith, closes-length (pair-closed .closes), pair-state .1))
 
-      pair-solved : Solved m w (between first last rows) (agreedOf first last) (leastOf first last)
+      pub pair-solved : Solved m w (between first last rows) (agreedOf first last) (leastOf first last)
       pair-solved = record {
         opens = (closedOf first last) .opens;
         left = (closedOf first last) .left;
@@ -118,6 +111,16 @@ module _ (m : Measure) (n w : ℕ) (rows : List (List ℕ)) where
       branches-least k e =
           let x = pair-closed first last order inside in
           place-least w rows agreedOf leastOf first last (agreedOf first last) k ((closedOf first last) .left) inside
+          (rw e at (x .closes)) (rw e at (x .stuck)) (λ j j′ h h′ h″ l. pair-solved j j′ h′ (omega arith))
+
+      -- and with what the pair's rows agree on, once for each run, what the runs' rows cost with nothing closed
+      pub branches-whole : (k : ℕ) → (closedOf first last) .opens ≡ suc k → (p : ℕ) → p ≤ k
+          → branchesOf first last p + length (runs p ((closedOf first last) .left)) * agreedOf first last
+          ≡ sums (λ (j j′ : ℕ). agreedOf j j′ + leastOf j j′) first (runs p ((closedOf first last) .left))
+      unfolding branchesOf
+      branches-whole k e =
+          let x = pair-closed first last order inside in
+          place-whole w rows agreedOf leastOf first last (agreedOf first last) k ((closedOf first last) .left) inside
           (rw e at (x .closes)) (rw e at (x .stuck)) (λ j j′ h h′ h″ l. pair-solved j j′ h′ (omega arith))
 
       -- THE EQUATION OF LEAST COUNTS, for every pair of first and last row

@@ -1,9 +1,10 @@
 -- From a table that is read and its entries to the first state, and from what is written there to the builder's plan.
 use mathlib.Core.Path.{_≡_, refl, sym, ap, _∙_}
+use mathlib.Core.Logic.{inr}
 use mathlib.Core.List.{List, _++_}
-use Prim.Native.Nat.{ℕ, zero, suc, _+_, _-_, _≤_, _<_}
+use Prim.Native.Nat.{ℕ, suc, _+_, _-_, _*_, _≤_}
 use native.Mathlib.Omega.{arith}
-use lib.ListN.{length, drop, replicate}
+use lib.ListN.{length, getD, drop, replicate}
 use lib.Seq.{sets, slice, sets-eq, take-at, take-length}
 use Rattle.table.specs.All.{All}
 use Rattle.table.specs.Table.{Table, IsTable}
@@ -18,13 +19,13 @@ use Rattle.plan.proofs.SizeLaws.{size-bound}
 use Rattle.plan.proofs.CheckLaws.{rows-fit}
 use Rattle.plan.proofs.EntryLaws.{few-rows, rows-open}
 use Rattle.least.specs.Least.{Least, Built}
-use Rattle.least.specs.Entries.{Closes, stop}
-use Rattle.least.specs.Cursors.{keptIn}
-use Rattle.least.specs.Kept.{Filled, Kept}
+use Rattle.least.specs.Entries.{between, wholeOf, Closes, stop}
+use Rattle.least.specs.Filling.{arrays, Filled}
 use Rattle.least.specs.Writing.{Source, ToWrite, Written, Planned}
-use Rattle.least.proofs.Best.{least-one}
+use Rattle.least.proofs.Best.{least-one, best-least}
 use Rattle.least.proofs.Building.{built-least}
 use Rattle.least.proofs.Builder.{plan-built}
+use Rattle.least.proofs.FillLaws.{all-entries}
 
 -- what is known of a state, of an equal one
 module _ {w w′ : ℕ} {rows rows′ : List (List ℕ)} (e : w ≡ w′) (f : rows ≡ rows′) where
@@ -61,13 +62,14 @@ module _ {t ss : List ℕ} {w n : ℕ} (k : TableRows t ss w n) where
       let b = plan-built plain 32 (T .width) (T .rows) fits (is .count .0) in
       record { plan = b .plan; built = b .built; few = size-bound (b .plan) fits (is .count .0) (is .count .1) }
 
-  module _ {cost place whole : List ℕ} (f : Filled w (T .rows) cost place whole 0 n) where
-    kept-at : (first last : ℕ) → first ≤ last → last < length (T .rows) → Kept w (T .rows) first last (keptIn cost first last) (keptIn place first last) (keptIn whole first last)
-    kept-at zero last o h = f .here last o (omega (arith, k .rows))
-    kept-at (suc j) last o h = f .past (suc j) last (omega arith) o h
-
+  module _ {whole cost place : List ℕ} (f : Filled w (T .rows) 0 n (arrays whole cost place)) where
     source : Source place
-    source = record { width = w; rows = T .rows; many = is .count .1; places = λ first last o h. (keptIn cost first last, kept-at first last o h .entry) }
+    source = record {
+      width = w;
+      rows = T .rows;
+      many = is .count .1;
+      places = λ first last o h. (getD cost (64 * first + last) 0, all-entries (sym (k .rows)) f .entry first last (omega (arith, is .count .1)) (omega (arith, is .count .1)));
+    }
 
     all-rows : slice 0 n (T .rows) ≡ T .rows
     all-rows = ap (λ (m : ℕ). slice 0 m (T .rows)) (k .rows) ∙ take-length (T .rows)
@@ -101,16 +103,20 @@ module _ {t ss : List ℕ} {w n : ℕ} (k : TableRows t ss w n) where
           same = p .2;
         }
 
-    -- the least cost of all rows is the plan's number of branches
-    pub count-is : keptIn whole 0 (n - 1) ≡ branches (builders .plan)
+    -- the least cost of all rows, nothing being closed, is the plan's number of branches
+    pub count-is : getD whole (n - 1) 0 ≡ branches (builders .plan)
     count-is =
-        let x = kept-at 0 (n - 1) (omega arith) (omega (arith, k .rows, few-rows k .0)) .all in
-        let e : suc (n - 1) ≡ n = omega (arith, few-rows k .0) in
-        let y = same-least (k .width) (ap (λ (m : ℕ). slice 0 m (T .rows)) e ∙ all-rows) x in
-        least-one y (built-least plain (builders .plan) (builders .built)) ∙ cost-plain (builders .plan)
+        let h = few-rows k in
+        let e : suc (n - 1) ≡ n = omega arith in
+        let z : 64 * 0 + (n - 1) ≡ n - 1 = omega arith in
+        let v : getD whole (n - 1) 0 ≡ wholeOf w (T .rows) 0 (n - 1) = rw z at (f .whole 0 (n - 1) (omega arith) (omega (arith, k .rows)) (inr (refl, omega arith))) in
+        let r : between 0 (n - 1) (T .rows) ≡ T .rows = ap (λ (m : ℕ). slice 0 m (T .rows)) e ∙ all-rows in
+        let x : Least plain w (T .rows) (wholeOf w (T .rows) 0 (n - 1)) =
+        rw r (best-least plain 32 w (T .rows) (same-fits {rows = T .rows} (k .width) refl fits) (is .count .0)) in
+        v ∙ least-one (same-least (k .width) refl x) (built-least plain (builders .plan) (builders .built)) ∙ cost-plain (builders .plan)
 
     pub planned : {ms hs ms′ hs′ out : List ℕ} {size count : ℕ} (s : First ms hs (replicate 6082 0))
-        → Written ms hs (replicate 6082 0) ms′ hs′ out (write (s .state .plan)) n 0 size → count ≡ keptIn whole 0 (n - 1) → Planned T out size count
+        → Written ms hs (replicate 6082 0) ms′ hs′ out (write (s .state .plan)) n 0 size → count ≡ getD whole (n - 1) 0 → Planned T out size count
     planned {out = out} {size} {count} s x e =
         let b = builders in
         let l : List ℕ = write (builders .plan) in

@@ -26,10 +26,10 @@ pub record Scan : Type 0 where
   pub opens : ℕ
   pub left : List (List ℕ)
 
-abbrev found : ℕ → ℕ → List (List ℕ) → Scan
+abbrev pub found : ℕ → ℕ → List (List ℕ) → Scan
 found a k rows = record { agreed = a; opens = k; left = rows }
 
-abbrev plus : ℕ → Scan → Scan
+abbrev pub plus : ℕ → Scan → Scan
 plus w s = found (w + s .agreed) (s .opens) (s .left)
 
 -- by whether there is one run
@@ -49,7 +49,7 @@ pub record Scanned (m : Measure) (k : ℕ) (rows : List (List ℕ)) (s : Scan) :
   pub closes : Closes m (s .agreed) k rows (s .opens) (s .left)
   pub stuck : Stuck (s .opens) (s .left)
 
-terms-count : {k : ℕ} {r : List ℕ} → Terms k r → k ≤ length r
+pub terms-count : {k : ℕ} {r : List ℕ} → Terms k r → k ≤ length r
 terms-count none = omega arith
 terms-count (more t) = omega (arith, terms-count t)
 

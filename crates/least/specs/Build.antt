@@ -8,8 +8,7 @@ use Rattle.table.specs.Read.{Read, read, refuse}
 use Rattle.table.specs.Table.{Table, tableOf}
 use Rattle.plan.specs.Plans.{Plan, write, branches, plain}
 use Rattle.least.specs.Least.{Least, Built}
-use Rattle.least.specs.Entries.{Entry}
-use Rattle.least.specs.Cursors.{keptIn}
+use Rattle.least.specs.Entries as entries
 use Rattle.least.specs.declared.Entries.{Entries}
 use Rattle.least.specs.declared.BuildAnswer.{BuildAnswer}
 use Rattle.least.specs.declared.BuildAnswer.the-variants as build-answer
@@ -17,9 +16,7 @@ use Rattle.least.specs.declared.BuildAnswer.the-variants as build-answer
 -- 01, "a least count kept for every pair of first and last row": of an accepted table each pair's entry, by 01's measure;
 -- of a table that is turned away 0 everywhere
 pub data WorkedOut (t : List ℕ) (r : Entries) : Type 0 where
-  worked : (T : Table) → tableOf t ≡ read T → length (r .cost) ≡ 4096 → length (r .place) ≡ 4096
-      → ((first last : ℕ) → first < 64 → last < 64 → Entry plain (T .width) (T .rows) first last (keptIn (r .cost) first last) (keptIn (r .place) first last))
-      → WorkedOut t r
+  worked : (T : Table) → tableOf t ≡ read T → entries.Entries (T .width) (T .rows) (r .cost) (r .place) → WorkedOut t r
   all-zero : (f : Refused) → tableOf t ≡ refuse f → r .cost ≡ replicate 4096 0 → r .place ≡ replicate 4096 0 → WorkedOut t r
 
 -- 01, "Building returns the number of cells written and the cost"; a refusal "its number, which input it concerns and a place"

@@ -1,18 +1,24 @@
 -- What is kept for every pair of first and last row (01, "The least plan": "a least count kept for every pair of first and last row").
 -- The pair fixes a state only once the places that its rows agree on are closed, so an entry counts from there.
-use Prim.Native.Nat.{ℕ, suc, _+_, _≤_, _<_}
+use mathlib.Core.Path.{_≡_}
+use Prim.Native.Nat.{ℕ, suc, _+_, _*_, _≤_, _<_}
 use mathlib.Core.Logic.{_⊎_}
 use mathlib.Core.List.{List, map}
-use lib.ListN.{length}
+use lib.ListN.{length, getD}
 use lib.Seq.{slice}
 use Rattle.cell.specs.Cell.{arity}
 use Rattle.term.specs.Terms.{close}
-use Rattle.plan.specs.Plans.{Measure}
+use Rattle.plan.specs.Plans.{Measure, plain}
 use Rattle.least.specs.Least.{Agree, Stuck, Least, Chosen}
+use Rattle.least.specs.Best.{best}
 
 -- the rows from the first to the last, both taken
 abbrev pub between : ℕ → ℕ → List (List ℕ) → List (List ℕ)
 between first last rows = slice first (suc last) rows
+
+-- what the rows from the first to the last cost at least, with no place closed. A row has at most 32 cells
+abbrev pub wholeOf : ℕ → List (List ℕ) → ℕ → ℕ → ℕ
+wholeOf w rows first last = best plain 32 w (between first last rows)
 
 -- agreed places are closed one by one, from a state with k open places down to one with k′; n is what the closed cells weigh together
 pub data Closes (m : Measure) : ℕ → ℕ → List (List ℕ) → ℕ → List (List ℕ) → Type 0 where
@@ -29,3 +35,8 @@ pub data Entry (m : Measure) (w : ℕ) (rows : List (List ℕ)) (first last : �
   inner : {n k : ℕ} {left : List (List ℕ)} {count place : ℕ} → first ≤ last → last < length rows
       → Closes m n w (between first last rows) (suc k) left → Stuck (suc k) left → Least m (suc k) left count
       → place ≤ k → Chosen m k left place → Entry m w rows first last count place
+
+-- the arrays, indexed by 64 times the first row and the last: an entry for every pair of numbers below 64
+pub record Entries (w : ℕ) (rows : List (List ℕ)) (cost place : List ℕ) : Type 0 where
+  pub size : (length cost ≡ 4096) × (length place ≡ 4096)
+  pub entry : (first last : ℕ) → first < 64 → last < 64 → Entry plain w rows first last (getD cost (64 * first + last) 0) (getD place (64 * first + last) 0)

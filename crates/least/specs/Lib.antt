@@ -1,7 +1,7 @@
 pub mod Writing
 pub mod Build
-pub mod Kept
-pub mod Cursors
-pub mod Skips
 pub mod Least
+pub mod Best
 pub mod Entries
+pub mod Notes
+pub mod Filling

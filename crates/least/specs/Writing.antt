@@ -1,9 +1,9 @@
 -- How the builder's plan is written, state by state (01, "As cells, a plan is written state by state, parents first"). A state's rows are held as the
 -- check holds them: by the masks of their open cells.
-use Prim.Native.Nat.{ℕ, _+_, _≤_, _<_}
+use Prim.Native.Nat.{ℕ, _+_, _*_, _≤_, _<_}
 use mathlib.Core.Path.{_≡_}
 use mathlib.Core.List.{List, [], _∷_, map}
-use lib.ListN.{length, take}
+use lib.ListN.{length, getD, take}
 use lib.Seq.{sets, slice}
 use Rattle.cell.specs.Cell.{arity}
 use Rattle.term.specs.Terms.{root}
@@ -16,7 +16,6 @@ use Rattle.plan.specs.States.{rowsIn, runsIn, Same}
 use Rattle.plan.proofs.RunsLaws.{Fits}
 use Rattle.least.specs.Least.{Least, Built, Builts}
 use Rattle.least.specs.Entries.{Closes, Entry}
-use Rattle.least.specs.Cursors.{keptIn}
 
 -- a state of rows first to before end of a table: it is reached from these rows, nothing of them being closed, by closing what they agree on
 pub record Reached (w : ℕ) (rows : List (List ℕ)) (first end k : ℕ) (left : List (List ℕ)) : Type 0 where
@@ -33,7 +32,7 @@ pub record Source (place : List ℕ) : Type 0 where
   pub width : ℕ
   pub rows : List (List ℕ)
   pub many : length rows ≤ 64
-  pub places : (first last : ℕ) → first ≤ last → last < length rows → (cost : ℕ) × Entry plain width rows first last cost (keptIn place first last)
+  pub places : (first last : ℕ) → first ≤ last → last < length rows → (cost : ℕ) × Entry plain width rows first last cost (getD place (64 * first + last) 0)
 
 -- the rows of a state, with k open places
 pub record State (place : List ℕ) (first end k : ℕ) (left : List (List ℕ)) : Type 0 where

@@ -1,7 +1,5 @@
 // The least plan (01, "The least plan"): the builder.
-mod columns;
-mod kept;
-mod skips;
+mod arrays;
 mod writer;
 
 ghost use mathlib.Core.Path.{_≡_};
@@ -27,11 +25,11 @@ pub fn work_out(cells: &[u32]) -> Entries
     let read = table::read_table(cells);
     let answer = read.answer;
     match answer {
-        TableAnswer::Accepted(width, count) => {
+        TableAnswer::Accepted(_, count) => {
             let starts = read.starts;
-            let arrays = kept::fill(cells, starts, width, count);
-            let cost = arrays.cost;
-            let place = arrays.place;
+            let worked = arrays::all_pairs(cells, &starts, count);
+            let cost = worked.cost;
+            let place = worked.place;
             Entries { cost, place }
         }
         TableAnswer::Refused(_) => Entries {

@@ -12,8 +12,7 @@ ghost use Rattle.plan.specs.States.{rowsIn, Closes};
 ghost use Rattle.plan.specs.Steps.{TableRows};
 ghost use Rattle.least.specs.Least.{Chosen};
 ghost use Rattle.least.specs.Writing.{State, ToWrite, ToWriteAll, Written, Planned};
-use super::columns::kept_in;
-use super::kept;
+use super::arrays::all_pairs;
 use plan::column::run_count;
 use plan::column::run_length;
 use plan::column::same_symbol;
@@ -66,7 +65,8 @@ fn choose(
         }
         i += 1;
     }
-    kept_in(place, first, end - 1)
+    let last = end - 1;
+    place[64 * first + last]
 }
 
 // Closes place i of the rows from first to before end: the cell that each has there goes into the column, and its bit out
@@ -189,9 +189,9 @@ pub fn write_plan(table: &[u32], starts: [usize; 64], width: usize, count: usize
     requires { ⌜ TableRows (now table) starts width count ⌝ }
     ensures { λ r. ⌜ ((q : TableRows (now (table .entry)) starts width count) → Planned (q .table) (r .cells) (r .size) (r .count)) ⌝ }
 {
-    let arrays = kept::fill(table, starts, width, count);
-    let place = arrays.place;
-    let whole = arrays.whole;
+    let worked = all_pairs(table, &starts, count);
+    let place = worked.place;
+    let whole = worked.whole;
     let mut masks = open_rows(&starts, count, table.len());
     let mut column = [0u32; 64];
     let mut cells = [0u32; 6082];
@@ -210,6 +210,6 @@ pub fn write_plan(table: &[u32], starts: [usize; 64], width: usize, count: usize
     PlanCells {
         cells,
         size,
-        count: kept_in(&whole, 0, count - 1) as usize,
+        count: whole[count - 1],
     }
 }

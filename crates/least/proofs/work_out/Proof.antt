@@ -1,7 +1,8 @@
 use mathlib.Core.Path.{refl}
 use Rattle.least.specs.Build.{all-zero}
-use Rattle.least.proofs.WorkedLaws.{all-worked}
 use Rattle.plan.proofs.EntryLaws.{table-rows, table-turned}
+use Rattle.least.proofs.LaidLaws.{laid-rows}
+use Rattle.least.proofs.BuildLaws.{all-worked}
 use borrow.Author.Needs.{needs}
 use Rattle.least.proofs.work_out.Statement.{statement}
 use Rattle.least.proofs.work_out.Tie as tie
@@ -12,27 +13,22 @@ read-table-requires c κs = search needs
 enum-known-answer : tie.Need-enum-known-answer
 enum-known-answer c = search needs
 
-fill-requires : tie.Need-fill-requires
-fill-requires c κs =
-    let r = c .before .before .before .before .read-table in
-    table-rows (c .before .before .before .before .before .before .args .cells .now) (r .ensures) (c .before .before .answer .given .1)
+all-pairs-requires : tie.Need-all-pairs-requires
+all-pairs-requires c κs = laid-rows (table-rows (c .before .before .before .before .before .before .before .args .cells .now) (c .before .before .before .before .before .read-table .ensures) (c .before .before .before .answer .given .1))
 
 enum-told : tie.Need-enum-told
 enum-told c = search needs
 
 returns : tie.Need-returns
+unfolding laid-rows
 returns c =
-    let r = c .before .before .before .before .before .before .before .read-table in
-    let t = c .before .before .before .before .before .before .before .before .before .args .cells .now in
-    let a = table-rows t (r .ensures) (c .before .before .before .before .before .answer .given .1) in
-    all-worked a (c .before .before .fill .ensures a)
+    let k = table-rows (c .before .before .before .before .before .before .before .before .before .before .args .cells .now) (c .before .before .before .before .before .before .before .before .read-table .ensures) (c .before .before .before .before .before .before .answer .given .1) in
+    all-worked k (c .before .before .all-pairs .ensures (laid-rows k))
 
 returns-2 : tie.Need-returns-2
-returns-2 c =
-    let r = c .before .before .read-table in
-    all-zero _ (table-turned _ (r .ensures) (c .enum-told .given .1)) refl refl
+returns-2 c = all-zero _ (table-turned (c .before .before .before .before .args .cells .now) (c .before .before .read-table .ensures) (c .enum-told .given .1)) refl refl
 
 pub work-out-spec : {M : Type 1} → statement M
 work-out-spec =
     tie.close
-    (tie.spec read-table-requires enum-known-answer fill-requires enum-told returns returns-2)
+    (tie.spec read-table-requires enum-known-answer all-pairs-requires enum-told returns returns-2)

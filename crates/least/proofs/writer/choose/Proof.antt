@@ -42,17 +42,25 @@ loop-again c =
     let l = c .before .before .before .loop in
     (omega arith, one-stuck (l .i) _ (eqb-false _ _ (sym (c .before .agreed-at .ensures) ∙ c .if1 .left)) (l .inv .1))
 
-sub-kept-in : tie.Need-sub-kept-in Inv-loop μ-loop
-sub-kept-in c = search needs
+sub-last : tie.Need-sub-last Inv-loop μ-loop
+sub-last c = search needs
 
-kept-in-requires : tie.Need-kept-in-requires Inv-loop μ-loop
-kept-in-requires c κs = search needs
+mul-result : tie.Need-mul-result Inv-loop μ-loop
+mul-result c = search needs
+
+add-result : tie.Need-add-result Inv-loop μ-loop
+add-result c = search needs
+
+mul-result-2 : tie.Need-mul-result-2 Inv-loop μ-loop
+mul-result-2 c = search needs
+
+element-copy-out-result : tie.Need-element-copy-out-result Inv-loop μ-loop
+element-copy-out-result c = search needs
 
 returns-2 : tie.Need-returns-2 Inv-loop μ-loop
 returns-2 c =
     let l = c .before .before .loop in
-    λ s. (let e : l .i ≡ c .before .before .before .before .args .k = omega arith in
-    rw (c .kept-in .ensures) (chosen-entry s (rw e at (l .inv .1)) (omega arith)))
+    λ s. (let e : l .i ≡ c .before .before .before .before .args .k = omega arith in chosen-entry s (rw e at (l .inv .1)) (omega arith))
 
 pub choose-spec : {M : Type 1} → statement M
 choose-spec =
@@ -67,6 +75,9 @@ choose-spec =
     add-i
     loop-less
     loop-again
-    sub-kept-in
-    kept-in-requires
+    sub-last
+    mul-result
+    add-result
+    mul-result-2
+    element-copy-out-result
     returns-2)

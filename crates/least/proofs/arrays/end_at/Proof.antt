@@ -1,0 +1,22 @@
+use Rattle.least.proofs.EndedLaws.{ends-found, ends-short}
+use borrow.Author.Needs.{needs}
+use Rattle.least.proofs.arrays.end_at.Statement.{statement}
+use Rattle.least.proofs.arrays.end_at.Tie as tie
+
+term-end-requires : tie.Need-term-end-requires
+term-end-requires c κs = search needs
+
+enum-known-e : tie.Need-enum-known-e
+enum-known-e c = search needs
+
+enum-told : tie.Need-enum-told
+enum-told c = search needs
+
+returns : tie.Need-returns
+returns c = ends-found (c .before .e .given .0 .0) (c .before .before .before .term-end .ensures) (c .before .e .given .1)
+
+returns-2 : tie.Need-returns-2
+returns-2 c = ends-short (c .before .before .term-end .ensures) (c .enum-told .given .1)
+
+pub end-at-spec : {M : Type 1} → statement M
+end-at-spec = tie.close (tie.spec term-end-requires enum-known-e enum-told returns returns-2)
