@@ -18,7 +18,7 @@ use Rattle.cell.specs.declared.Shape.the-variants.{Variable, Name, Number, Refu
 use Rattle.listing.specs.Listing.{digitsOf, decimal, symbolOf, symbol}
 use Rattle.listing.specs.Walk.{Room, Put}
 
-pub sets-sets : (l : List ℕ) (i : ℕ) (xs ys : List ℕ) → sets (sets l i xs) (i + length xs) ys ≡ sets l i (xs ++ ys)
+sets-sets : (l : List ℕ) (i : ℕ) (xs ys : List ℕ) → sets (sets l i xs) (i + length xs) ys ≡ sets l i (xs ++ ys)
 sets-sets l i [] ys = rw add-zero
 sets-sets l i (a ∷ xs) ys =
     let e : i + suc (length xs) ≡ suc i + length xs = omega arith in

@@ -20,11 +20,11 @@ use Rattle.listing.specs.Walk.{Room, Put, Within, Ready, Readys, Walked,
 use Rattle.listing.specs.declared.walk.Stand.{Stand}
 use Rattle.listing.proofs.TextLaws.{put-put, room-first, room-next}
 
-abbrev pub stand : ℕ → ℕ → Stand
+abbrev stand : ℕ → ℕ → Stand
 stand at to = record { at = at; to = to }
 
 -- what stands at a place, and after a part
-pub head-at : (xs : List ℕ) (at c : ℕ) (ys : List ℕ) → drop at xs ≡ c ∷ ys → (at < length xs) × (getD xs at 0 ≡ c) × (drop (at + 1) xs ≡ ys)
+head-at : (xs : List ℕ) (at c : ℕ) (ys : List ℕ) → drop at xs ≡ c ∷ ys → (at < length xs) × (getD xs at 0 ≡ c) × (drop (at + 1) xs ≡ ys)
 head-at xs at c ys e =
     let h : at < length xs = omega (arith, length-drop at xs, ap length e) in
     let d = drop-cons xs at 0 h in
