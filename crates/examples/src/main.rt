@@ -8,17 +8,27 @@ use table::TableAnswer;
 
 // 01's letters: names without arguments, f1 with one. The letter's place in the alphabet is its number.
 const A: u32 = 0x40000001;
+
 const B: u32 = 0x40000002;
+
 const C: u32 = 0x40000003;
+
 const D: u32 = 0x40000004;
+
 const F1: u32 = 0x40010006;
+
 const G: u32 = 0x40000007;
+
 const X: u32 = 0x40000018;
+
 const Y: u32 = 0x40000019;
+
 const Z: u32 = 0x4000001a;
 // The whole numbers 1, 2, 3.
 const ONE: u32 = 0x80000001;
+
 const TWO: u32 = 0x80000002;
+
 const THREE: u32 = 0x80000003;
 
 fn say(text: &[u8]) {
@@ -42,22 +52,30 @@ fn refused(f: Refusal) {
     say(b"\n");
 }
 
-// The first n of some cells, or of some bytes.
-fn cells(xs: &[u32], n: usize) {
+fn wide(c: u32) -> usize {
+    c as usize
+}
+
+fn wide8(b: u8) -> usize {
+    b as usize
+}
+
+// Some cells, or some bytes.
+fn cells(xs: &[u32]) {
     let mut i = 0;
-    while i < xs.len() && i < n {
+    while i < xs.len() {
         say(b" ");
-        number(xs[i] as usize);
+        number(wide(xs[i]));
         i += 1;
     }
     say(b"\n");
 }
 
-fn bytes(xs: &[u8], n: usize) {
+fn bytes(xs: &[u8]) {
     let mut i = 0;
-    while i < xs.len() && i < n {
+    while i < xs.len() {
         say(b" ");
-        number(xs[i] as usize);
+        number(wide8(xs[i]));
         i += 1;
     }
     say(b"\n");
@@ -79,12 +97,18 @@ fn read(table: &[u32]) {
 // The builder's plan.
 fn build(table: &[u32]) {
     let mut room = [0u32; 128];
-    match least::build_plan(table, &mut room) {
+    build_into(table, &mut room);
+}
+
+fn build_into(table: &[u32], room: &mut [u32]) {
+    match least::build_plan(table, room) {
         BuildAnswer::Built(n, cost) => {
             say(b"cost ");
             number(cost);
             say(b", plan");
-            cells(&room, n);
+            if n <= room.len() {
+                cells(&room[..n]);
+            }
         }
         BuildAnswer::Refused(f) => refused(f),
     }
@@ -105,24 +129,30 @@ fn check(table: &[u32], plan: &[u32]) {
 // The builder's plan run on a goal.
 fn ask(table: &[u32], goal: &[u32]) {
     let mut room = [0u32; 128];
-    match least::build_plan(table, &mut room) {
+    let mut hits = [255u8; 64];
+    ask_with(table, goal, &mut room, &mut hits);
+}
+
+fn ask_with(table: &[u32], goal: &[u32], room: &mut [u32], hits: &mut [u8]) {
+    match least::build_plan(table, room) {
         BuildAnswer::Built(n, _) => {
             if n <= room.len() {
-                ask_plan(table, &room[..n], goal);
+                ask_plan(table, &room[..n], goal, hits);
             }
         }
         BuildAnswer::Refused(f) => refused(f),
     }
 }
 
-fn ask_plan(table: &[u32], plan: &[u32], goal: &[u32]) {
-    let mut hits = [255u8; 64];
-    match run::run_plan(table, plan, goal, &mut hits) {
+fn ask_plan(table: &[u32], plan: &[u32], goal: &[u32], hits: &mut [u8]) {
+    match run::run_plan(table, plan, goal, hits) {
         RunAnswer::Ran(n, tried) => {
             say(b"tried ");
             number(tried);
             say(b", rows");
-            bytes(&hits, n);
+            if n <= hits.len() {
+                bytes(&hits[..n]);
+            }
         }
         RunAnswer::Refused(f) => refused(f),
     }
@@ -139,7 +169,26 @@ fn marked() {
     say(b"P2 (v0,v1) ");
     ask(&p2, &[0, 1]);
     let p3 = [
-        3, 6, G, A, ONE, G, A, TWO, G, A, THREE, G, ONE, B, G, TWO, B, G, THREE, B,
+        3,
+        6,
+        G,
+        A,
+        ONE,
+        G,
+        A,
+        TWO,
+        G,
+        A,
+        THREE,
+        G,
+        ONE,
+        B,
+        G,
+        TWO,
+        B,
+        G,
+        THREE,
+        B,
     ];
     say(b"P3 ");
     build(&p3);
@@ -167,24 +216,86 @@ fn marked() {
     read(&[2, 1, A]);
 }
 
-// So many times f1, then a, as a table of one row.
-fn nested(times: usize) {
-    let mut t = [F1; 40];
-    t[0] = 1;
-    t[1] = 1;
-    let end = times + 2;
-    if end < 40 {
-        t[end] = A;
-        let n = end + 1;
-        read(&t[..n]);
-    }
-}
-
 fn unmarked() {
     say(b"31 times f1 then a ");
-    nested(31);
+    read(
+        &[
+            1,
+            1,
+            F1,
+            F1,
+            F1,
+            F1,
+            F1,
+            F1,
+            F1,
+            F1,
+            F1,
+            F1,
+            F1,
+            F1,
+            F1,
+            F1,
+            F1,
+            F1,
+            F1,
+            F1,
+            F1,
+            F1,
+            F1,
+            F1,
+            F1,
+            F1,
+            F1,
+            F1,
+            F1,
+            F1,
+            F1,
+            F1,
+            F1,
+            A,
+        ],
+    );
     say(b"32 times f1 then a ");
-    nested(32);
+    read(
+        &[
+            1,
+            1,
+            F1,
+            F1,
+            F1,
+            F1,
+            F1,
+            F1,
+            F1,
+            F1,
+            F1,
+            F1,
+            F1,
+            F1,
+            F1,
+            F1,
+            F1,
+            F1,
+            F1,
+            F1,
+            F1,
+            F1,
+            F1,
+            F1,
+            F1,
+            F1,
+            F1,
+            F1,
+            F1,
+            F1,
+            F1,
+            F1,
+            F1,
+            F1,
+            A,
+        ],
+    );
     say(b"5 arguments ");
     read(&[1, 1, 0x40050001]);
     let p2 = [2, 3, A, B, B, C, A, D];
@@ -193,7 +304,32 @@ fn unmarked() {
     say(b"P6 with agreeing variables ");
     check(&[1, 2, 0, 0], &[0, 1, 0, 2]);
     let six = [
-        4, 6, A, X, X, X, A, X, X, X, A, Y, Y, Y, B, Y, Y, Y, B, Z, Z, Z, B, Z, Z, Z,
+        4,
+        6,
+        A,
+        X,
+        X,
+        X,
+        A,
+        X,
+        X,
+        X,
+        A,
+        Y,
+        Y,
+        Y,
+        B,
+        Y,
+        Y,
+        Y,
+        B,
+        Z,
+        Z,
+        Z,
+        B,
+        Z,
+        Z,
+        Z,
     ];
     say(b"fewest runs first ");
     build(&six);
