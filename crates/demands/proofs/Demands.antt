@@ -42,7 +42,7 @@ use Rattle.run.proofs.TakesLaws.{takes-run}
 use Rattle.run.proofs.Theorems.{same-hits, tries-at-most, tries-every}
 
 -- two refusals that are read alike
-refuse-one : {A : Type 0} {x y : Refused} → refuse {A = A} x ≡ refuse y → x ≡ y
+refuse-one : {A : Type 0} {x y : Refused} → _≡_ {A = Read A} (refuse x) (refuse y) → x ≡ y
 refuse-one k = cc
 
 -- DEMAND 1. "A bad table, plan or goal is refused by the number and place document 01 fixes, with nothing written to what the caller lent."
@@ -65,10 +65,10 @@ demand-1-goal = goal-accepted
 
 -- DEMAND 3, first sentence. "The check accepts it exactly when, written as document 01 sets out, each step names one place not yet looked at and splits its rows there into
 -- the longest runs of neighbours that agree, down to rows with no place left": exactly when a plan of the table's rows writes these cells, and then one only.
-pub demand-3-check : {t : List ℕ} (T : Table) → tableOf t ≡ read T → (cells : List ℕ) (b : ℕ)
+pub demand-3-check : (t : List ℕ) (T : Table) → tableOf t ≡ read T → (cells : List ℕ) (b : ℕ)
     → (planFor T cells ≡ read b)
     ↔ ((p : Plan (T .width) (T .rows)) × (write p ≡ cells) × (branches p ≡ b) × ((q : Plan (T .width) (T .rows)) → write q ≡ cells → q ≡ p))
-demand-3-check {t} T e = accepted-one T (is-table t e)
+demand-3-check t T e = accepted-one T (is-table t e)
 
 -- DEMAND 2. "For an accepted table, plan and goal, and room for every row of the table, the rows reported are exactly those whose heads unify with the goal, as Prolog means it,
 -- from the top down, each once. The number of branches tried is the number document 01 defines." The rest of the room is untouched.
@@ -85,7 +85,7 @@ pub demand-2 : {t p g room room′ : List ℕ} {r : RunAnswer} (T : Table) (tree
 demand-2 {t} {p} {g} {room} T tree e w i l = go
   where
     read-plan : planOf t p ≡ read (branches tree)
-    read-plan = rw e (demand-3-check T e p (branches tree) .1 (tree, w, refl, λ q v. write-one q tree (v ∙ sym w)))
+    read-plan = rw e (demand-3-check t T e p (branches tree) .1 (tree, w, refl, λ q v. write-one q tree (v ∙ sym w)))
 
     goal : (v : ℕ) × (goalOf (T .width) g ≡ read v)
     goal = goal-accepted (T .width) g .1 i
