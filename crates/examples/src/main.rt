@@ -8,17 +8,27 @@ use table::TableAnswer;
 
 // 01's letters: names without arguments, f1 with one. The letter's place in the alphabet is its number.
 const A: u32 = 0x40000001;
+
 const B: u32 = 0x40000002;
+
 const C: u32 = 0x40000003;
+
 const D: u32 = 0x40000004;
+
 const F1: u32 = 0x40010006;
+
 const G: u32 = 0x40000007;
+
 const X: u32 = 0x40000018;
+
 const Y: u32 = 0x40000019;
+
 const Z: u32 = 0x4000001a;
 // The whole numbers 1, 2, 3.
 const ONE: u32 = 0x80000001;
+
 const TWO: u32 = 0x80000002;
+
 const THREE: u32 = 0x80000003;
 
 fn say(text: &[u8]) {
@@ -139,7 +149,26 @@ fn marked() {
     say(b"P2 (v0,v1) ");
     ask(&p2, &[0, 1]);
     let p3 = [
-        3, 6, G, A, ONE, G, A, TWO, G, A, THREE, G, ONE, B, G, TWO, B, G, THREE, B,
+        3,
+        6,
+        G,
+        A,
+        ONE,
+        G,
+        A,
+        TWO,
+        G,
+        A,
+        THREE,
+        G,
+        ONE,
+        B,
+        G,
+        TWO,
+        B,
+        G,
+        THREE,
+        B,
     ];
     say(b"P3 ");
     build(&p3);
@@ -193,7 +222,32 @@ fn unmarked() {
     say(b"P6 with agreeing variables ");
     check(&[1, 2, 0, 0], &[0, 1, 0, 2]);
     let six = [
-        4, 6, A, X, X, X, A, X, X, X, A, Y, Y, Y, B, Y, Y, Y, B, Z, Z, Z, B, Z, Z, Z,
+        4,
+        6,
+        A,
+        X,
+        X,
+        X,
+        A,
+        X,
+        X,
+        X,
+        A,
+        Y,
+        Y,
+        Y,
+        B,
+        Y,
+        Y,
+        Y,
+        B,
+        Z,
+        Z,
+        Z,
+        B,
+        Z,
+        Z,
+        Z,
     ];
     say(b"fewest runs first ");
     build(&six);
