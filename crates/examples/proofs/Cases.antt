@@ -21,8 +21,7 @@ use Rattle.plan.specs.Plans.{branches, plain}
 use Rattle.plan.specs.Check.{stateFrom, planFor, planOf}
 use Rattle.plan.proofs.RunsLaws.{Fits}
 use Rattle.plan.proofs.CheckLaws.{accepted-one, rows-fit}
-use Rattle.least.proofs.Minimum.{argmin}
-use Rattle.least.proofs.Best.{total, best}
+use Rattle.least.specs.Best.{argmin, total, best}
 use Rattle.least.proofs.Builder.{place, runCells, planCells, plan-built}
 use Rattle.run.specs.Skeleton.{hole, fill, decide, opened}
 use Rattle.run.specs.Run.{skeletons, Tried}

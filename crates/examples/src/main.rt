@@ -52,22 +52,30 @@ fn refused(f: Refusal) {
     say(b"\n");
 }
 
-// The first n of some cells, or of some bytes.
-fn cells(xs: &[u32], n: usize) {
+fn wide(c: u32) -> usize {
+    c as usize
+}
+
+fn wide8(b: u8) -> usize {
+    b as usize
+}
+
+// Some cells, or some bytes.
+fn cells(xs: &[u32]) {
     let mut i = 0;
-    while i < xs.len() && i < n {
+    while i < xs.len() {
         say(b" ");
-        number(xs[i] as usize);
+        number(wide(xs[i]));
         i += 1;
     }
     say(b"\n");
 }
 
-fn bytes(xs: &[u8], n: usize) {
+fn bytes(xs: &[u8]) {
     let mut i = 0;
-    while i < xs.len() && i < n {
+    while i < xs.len() {
         say(b" ");
-        number(xs[i] as usize);
+        number(wide8(xs[i]));
         i += 1;
     }
     say(b"\n");
@@ -89,12 +97,18 @@ fn read(table: &[u32]) {
 // The builder's plan.
 fn build(table: &[u32]) {
     let mut room = [0u32; 128];
-    match least::build_plan(table, &mut room) {
+    build_into(table, &mut room);
+}
+
+fn build_into(table: &[u32], room: &mut [u32]) {
+    match least::build_plan(table, room) {
         BuildAnswer::Built(n, cost) => {
             say(b"cost ");
             number(cost);
             say(b", plan");
-            cells(&room, n);
+            if n <= room.len() {
+                cells(&room[..n]);
+            }
         }
         BuildAnswer::Refused(f) => refused(f),
     }
@@ -115,24 +129,30 @@ fn check(table: &[u32], plan: &[u32]) {
 // The builder's plan run on a goal.
 fn ask(table: &[u32], goal: &[u32]) {
     let mut room = [0u32; 128];
-    match least::build_plan(table, &mut room) {
+    let mut hits = [255u8; 64];
+    ask_with(table, goal, &mut room, &mut hits);
+}
+
+fn ask_with(table: &[u32], goal: &[u32], room: &mut [u32], hits: &mut [u8]) {
+    match least::build_plan(table, room) {
         BuildAnswer::Built(n, _) => {
             if n <= room.len() {
-                ask_plan(table, &room[..n], goal);
+                ask_plan(table, &room[..n], goal, hits);
             }
         }
         BuildAnswer::Refused(f) => refused(f),
     }
 }
 
-fn ask_plan(table: &[u32], plan: &[u32], goal: &[u32]) {
-    let mut hits = [255u8; 64];
-    match run::run_plan(table, plan, goal, &mut hits) {
+fn ask_plan(table: &[u32], plan: &[u32], goal: &[u32], hits: &mut [u8]) {
+    match run::run_plan(table, plan, goal, hits) {
         RunAnswer::Ran(n, tried) => {
             say(b"tried ");
             number(tried);
             say(b", rows");
-            bytes(&hits, n);
+            if n <= hits.len() {
+                bytes(&hits[..n]);
+            }
         }
         RunAnswer::Refused(f) => refused(f),
     }
@@ -196,24 +216,86 @@ fn marked() {
     read(&[2, 1, A]);
 }
 
-// So many times f1, then a, as a table of one row.
-fn nested(times: usize) {
-    let mut t = [F1; 40];
-    t[0] = 1;
-    t[1] = 1;
-    let end = times + 2;
-    if end < 40 {
-        t[end] = A;
-        let n = end + 1;
-        read(&t[..n]);
-    }
-}
-
 fn unmarked() {
     say(b"31 times f1 then a ");
-    nested(31);
+    read(
+        &[
+            1,
+            1,
+            F1,
+            F1,
+            F1,
+            F1,
+            F1,
+            F1,
+            F1,
+            F1,
+            F1,
+            F1,
+            F1,
+            F1,
+            F1,
+            F1,
+            F1,
+            F1,
+            F1,
+            F1,
+            F1,
+            F1,
+            F1,
+            F1,
+            F1,
+            F1,
+            F1,
+            F1,
+            F1,
+            F1,
+            F1,
+            F1,
+            F1,
+            A,
+        ],
+    );
     say(b"32 times f1 then a ");
-    nested(32);
+    read(
+        &[
+            1,
+            1,
+            F1,
+            F1,
+            F1,
+            F1,
+            F1,
+            F1,
+            F1,
+            F1,
+            F1,
+            F1,
+            F1,
+            F1,
+            F1,
+            F1,
+            F1,
+            F1,
+            F1,
+            F1,
+            F1,
+            F1,
+            F1,
+            F1,
+            F1,
+            F1,
+            F1,
+            F1,
+            F1,
+            F1,
+            F1,
+            F1,
+            F1,
+            F1,
+            A,
+        ],
+    );
     say(b"5 arguments ");
     read(&[1, 1, 0x40050001]);
     let p2 = [2, 3, A, B, B, C, A, D];

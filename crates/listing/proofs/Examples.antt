@@ -15,8 +15,7 @@ use Rattle.plan.specs.Plans.{Plan, leaf, node, end, next, write, plain, cost}
 use Rattle.plan.proofs.RunsLaws.{Fits}
 use Rattle.plan.proofs.PlansLaws.{write-one}
 use Rattle.least.specs.Least.{Built}
-use Rattle.least.proofs.Minimum.{argmin}
-use Rattle.least.proofs.Best.{total, best}
+use Rattle.least.specs.Best.{argmin, total, best}
 use Rattle.least.proofs.Builder.{place, runCells, planCells, plan-built}
 use Rattle.listing.specs.Listing.{digitsOf, decimal, symbolOf, line, linesIn, header, listingOf, cellsOf, listed, unread, Lists, cells}
 

@@ -1,0 +1,66 @@
+use Prim.Native.Nat.{_≤_, _-_}
+use lib.ListN.{length}
+use borrow.Author.Needs.{needs}
+use Rattle.examples.proofs.bytes.Statement.{statement}
+use Rattle.examples.proofs.bytes.Tie as tie
+
+abbrev Inv-loop : tie.InvT-loop
+Inv-loop xs i₀ t3 t4 i = i ≤ length xs
+
+abbrev μ-loop : tie.MeasureT-loop
+μ-loop xs i₀ t3 t4 i = length xs - i
+
+loop-holds : tie.Need-loop-holds Inv-loop μ-loop
+loop-holds c = search needs
+
+slice-aggregate-say : tie.Need-slice-aggregate-say Inv-loop μ-loop
+slice-aggregate-say c = search needs
+
+say-requires : tie.Need-say-requires Inv-loop μ-loop
+say-requires c κs = search needs
+
+shared-slice-read-wide8 : tie.Need-shared-slice-read-wide8 Inv-loop μ-loop
+shared-slice-read-wide8 c = search needs
+
+wide8-requires : tie.Need-wide8-requires Inv-loop μ-loop
+wide8-requires c κs = search needs
+
+number-requires : tie.Need-number-requires Inv-loop μ-loop
+number-requires c κs = search needs
+
+add-i : tie.Need-add-i Inv-loop μ-loop
+add-i c = search needs
+
+loop-less : tie.Need-loop-less Inv-loop μ-loop
+loop-less c = search needs
+
+loop-again : tie.Need-loop-again Inv-loop μ-loop
+loop-again c = search needs
+
+slice-aggregate-say-2 : tie.Need-slice-aggregate-say-2 Inv-loop μ-loop
+slice-aggregate-say-2 c = search needs
+
+say-requires-2 : tie.Need-say-requires-2 Inv-loop μ-loop
+say-requires-2 c κs = search needs
+
+returns : tie.Need-returns Inv-loop μ-loop
+returns c = search needs
+
+pub bytes-spec : {M : Type 1} → statement M
+bytes-spec =
+    tie.close
+    (tie.spec
+    Inv-loop
+    μ-loop
+    loop-holds
+    slice-aggregate-say
+    say-requires
+    shared-slice-read-wide8
+    wide8-requires
+    number-requires
+    add-i
+    loop-less
+    loop-again
+    slice-aggregate-say-2
+    say-requires-2
+    returns)
