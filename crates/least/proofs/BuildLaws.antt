@@ -1,9 +1,10 @@
 -- The three answers of the builder.
 use mathlib.Core.Path.{_≡_, refl, sym, ap, ap₂, _∙_}
+use mathlib.Core.Bool.{Bool, true, false}
 use mathlib.Core.List.{List, _++_}
-use Prim.Native.Nat.{ℕ, _≤_, _<_}
+use Prim.Native.Nat.{ℕ, _≤_}
 use native.Mathlib.Omega.{arith}
-use lib.ListN.{length, take, drop, length-take}
+use lib.ListN.{length, drop, length-take}
 use Rattle.table.specs.Refusal.{Refused, refused, told, answered, turned}
 use Rattle.table.specs.Read.{refuse}
 use Rattle.table.specs.Table.{tableOf}
@@ -15,23 +16,26 @@ use Rattle.least.specs.declared.BuildAnswer.the-variants as build-answer
 use Rattle.least.specs.Writing.{Planned}
 use Rattle.least.specs.Entries.{Entries}
 use Rattle.least.specs.Filling.{arrays, Filled}
-use Rattle.least.specs.Build.{WorkedOut, worked, BuiltInto, table-refused, room-refused, built}
+use Rattle.least.specs.Build.{WorkedOut, worked, Put, fitted, short, BuiltInto, table-refused, room-refused, built}
 use Rattle.least.proofs.FillLaws.{all-entries}
 
 pub no-table : {t : List ℕ} (room : List ℕ) {f : Refusal} → tableOf t ≡ refuse (told f) → BuiltInto t room room (build-answer.Refused f)
 no-table room {f} e = table-refused (told f) e refl refl
 
 module _ {t ss : List ℕ} {w n : ℕ} (k : TableRows t ss w n) {cells : List ℕ} {size count : ℕ} (p : Planned (k .table) cells size count) where
-  pub no-room : (room : List ℕ) → length room < size → BuiltInto t room room (build-answer.Refused (record { reason = Room; input = Lent; place = size }))
-  no-room room h = room-refused (k .table) (p .plan) (k .here) (p .built) (omega (arith, p .size-is)) (ap (λ (x : ℕ). turned (refused 16 4 x)) (p .size-is)) refl
+  pub no-room : {room room′ : List ℕ} {b : Bool} → Put cells size room room′ b → b ≡ false
+      → BuiltInto t room room′ (build-answer.Refused (record { reason = Room; input = Lent; place = size }))
+  no-room (fitted h e) q = absurd (let z : _≡_ {A = ℕ} 0 1 = cc in omega arith)
+  no-room (short h e) q = room-refused (k .table) (p .plan) (k .here) (p .built) (omega (arith, p .size-is)) (ap (λ (x : ℕ). turned (refused 16 4 x)) (p .size-is)) e
 
   pub cells-there : size ≤ length cells
   cells-there = omega (arith, ap length (p .cells-are), p .size-is, length-take size cells)
 
-  pub all-built : (room room′ : List ℕ) → size ≤ length room → room′ ≡ take size cells ++ drop size room → BuiltInto t room room′ (build-answer.Built size count)
-  all-built room room′ h e =
+  pub all-built : {room room′ : List ℕ} {b : Bool} → Put cells size room room′ b → b ≡ true → BuiltInto t room room′ (build-answer.Built size count)
+  all-built {room} (fitted h e) q =
       built (k .table) (p .plan) (k .here) (p .built) (p .least) (omega (arith, p .size-is)) (ap₂ answered (p .size-is) (p .count-is))
       (e ∙ ap₂ (λ (xs : List ℕ) (x : ℕ). xs ++ drop x room) (p .cells-are) (p .size-is))
+  all-built (short h e) q = absurd (let z : _≡_ {A = ℕ} 0 1 = cc in omega arith)
 
 -- the entries of a table that is read
 entries-width : {w v : ℕ} {rows : List (List ℕ)} {cost place : List ℕ} → w ≡ v → Entries w rows cost place → Entries v rows cost place

@@ -6,7 +6,7 @@ ghost use mathlib.Core.Path.{_≡_};
 ghost use mathlib.Core.List.{_++_};
 ghost use Prim.Native.Nat.{_≤_};
 ghost use lib.ListN.{length, take, drop};
-ghost use Rattle.least.specs.Build.{WorkedOut, BuiltInto};
+ghost use Rattle.least.specs.Build.{WorkedOut, Put, BuiltInto};
 use table::Input;
 use table::Reason;
 use table::Refusal;
@@ -57,6 +57,18 @@ fn copy(from: &[u32; 6082], size: usize, room: &mut [u32])
     }
 }
 
+// The same where there is room for them; where there is not, nothing is written.
+fn put(from: &[u32; 6082], size: usize, room: &mut [u32]) -> bool
+    requires { ⌜ (size ≤ 6082) × (size ≤ length (now from)) ⌝ }
+    ensures { λ r. ⌜ Put (now (from .entry)) size (now (room .entry)) (now (room .exit)) r ⌝ }
+{
+    if room.len() < size {
+        return false;
+    }
+    copy(from, size, room);
+    true
+}
+
 // The builder's plan for any cells, into any room. It is written beside the room first, since its size is known only then.
 pub fn build_plan(cells: &[u32], room: &mut [u32]) -> BuildAnswer
     ensures { λ r. ⌜ BuiltInto (now (cells .entry)) (now (room .entry)) (now (room .exit)) r ⌝ }
@@ -69,16 +81,16 @@ pub fn build_plan(cells: &[u32], room: &mut [u32]) -> BuildAnswer
             let plan = writer::write_plan(cells, starts, width, count);
             let size = plan.size;
             let branches = plan.count;
-            if room.len() < size {
-                return BuildAnswer::Refused(Refusal {
+            let written = plan.cells;
+            if put(&written, size, room) {
+                BuildAnswer::Built(size, branches)
+            } else {
+                BuildAnswer::Refused(Refusal {
                     reason: Reason::Room,
                     input: Input::Lent,
                     place: size,
-                });
+                })
             }
-            let written = plan.cells;
-            copy(&written, size, room);
-            BuildAnswer::Built(size, branches)
         }
         TableAnswer::Refused(f) => BuildAnswer::Refused(f),
     }

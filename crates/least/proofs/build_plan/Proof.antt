@@ -1,4 +1,3 @@
-use native.Mathlib.Omega.{arith}
 use Rattle.plan.proofs.EntryLaws.{table-rows, table-turned}
 use Rattle.least.proofs.BuildLaws.{no-table, no-room, cells-there, all-built}
 use borrow.Author.Needs.{needs}
@@ -14,16 +13,11 @@ enum-known-answer c = search needs
 write-plan-requires : tie.Need-write-plan-requires
 write-plan-requires c κs = table-rows (c .before .before .before .before .before .before .before .args .cells .now) (c .before .before .before .before .read-table .ensures) (c .before .before .answer .given .1)
 
-returns : tie.Need-returns
-returns c =
-    let k = table-rows (c .before .before .before .before .before .before .before .before .before .args .cells .now) (c .before .before .before .before .before .before .read-table .ensures) (c .before .before .before .before .answer .given .1) in
-    no-room k (c .before .write-plan .ensures k) _ (c .if1 .taken)
-
-copy-requires : tie.Need-copy-requires
-copy-requires c κs =
-    let k = table-rows (c .before .before .before .before .before .before .before .before .before .before .before .before .args .cells .now) (c .before .before .before .before .before .before .before .before .before .read-table .ensures) (c .before .before .before .before .before .before .before .answer .given .1) in
-    let p = c .before .before .before .before .write-plan .ensures k in
-    (p .few, cells-there k p, omega (arith, c .before .before .before .if1 .left))
+put-requires : tie.Need-put-requires
+put-requires c κs =
+    let k = table-rows (c .before .before .before .before .before .before .before .before .before .before .before .args .cells .now) (c .before .before .before .before .before .before .before .before .read-table .ensures) (c .before .before .before .before .before .before .answer .given .1) in
+    let p = c .before .before .before .write-plan .ensures k in
+    (p .few, cells-there k p)
 
 enum-known-answer-2 : tie.Need-enum-known-answer-2
 enum-known-answer-2 c = search needs
@@ -31,10 +25,18 @@ enum-known-answer-2 c = search needs
 same-length : tie.Need-same-length
 same-length c = search needs
 
+returns : tie.Need-returns
+returns c =
+    let k = table-rows (c .before .before .before .before .before .before .before .before .before .before .before .before .before .before .before .args .cells .now) (c .before .before .before .before .before .before .before .before .before .before .before .before .read-table .ensures) (c .before .before .before .before .before .before .before .before .before .before .answer .given .1) in
+    all-built k (c .before .before .before .before .before .before .before .write-plan .ensures k) (c .before .before .before .put .ensures) (c .if1 .taken)
+
+same-length-2 : tie.Need-same-length-2
+same-length-2 c = search needs
+
 returns-2 : tie.Need-returns-2
 returns-2 c =
     let k = table-rows (c .before .before .before .before .before .before .before .before .before .before .before .before .before .before .before .args .cells .now) (c .before .before .before .before .before .before .before .before .before .before .before .before .read-table .ensures) (c .before .before .before .before .before .before .before .before .before .before .answer .given .1) in
-    all-built k (c .before .before .before .before .before .before .before .write-plan .ensures k) _ _ (c .before .before .before .before .before .before .if1 .left) (c .before .before .copy .ensures)
+    no-room k (c .before .before .before .before .before .before .before .write-plan .ensures k) (c .before .before .before .put .ensures) (c .if1 .left)
 
 returns-3 : tie.Need-returns-3
 returns-3 c = no-table _ (table-turned (c .before .before .before .before .before .before .args .cells .now) (c .before .before .before .read-table .ensures) (c .before .answer2 .given .1))
@@ -46,9 +48,10 @@ build-plan-spec =
     read-table-requires
     enum-known-answer
     write-plan-requires
-    returns
-    copy-requires
+    put-requires
     enum-known-answer-2
     same-length
+    returns
+    same-length-2
     returns-2
     returns-3)
