@@ -1,0 +1,22 @@
+-- Two results that a promise allows are equal, for every entry. Where the promise is an equation with what the arguments give (reading a table and a goal, a row, the check, and `number_of` and `input_of` of
+-- crate table) this is `given-fixed` of crate cell.
+use Prim.Native.Nat.{ℕ}
+use mathlib.Core.Path.{_≡_, sym, ap, _∙_}
+use mathlib.Core.List.{List}
+use Rattle.least.specs.Build.{buildTold}
+use Rattle.least.specs.declared.BuildAnswer.{BuildAnswer}
+use Rattle.least.proofs.Fixed.{build-fixed}
+use Rattle.run.specs.Run.{runTold}
+use Rattle.run.specs.declared.RunAnswer.{RunAnswer}
+use Rattle.run.proofs.Fixed.{run-fixed}
+use Rattle.exports.specs.Coded.{coded, BuildCoded, RunCoded}
+
+pub build-coded-fixed : {t room room′ room″ : List ℕ} {m n : ℕ} → BuildCoded t room room′ m → BuildCoded t room room″ n → (m ≡ n) × (room′ ≡ room″)
+build-coded-fixed a b =
+    let f = build-fixed (a .built) (b .built) in
+    (a .code ∙ ap (λ (x : BuildAnswer). coded (buildTold x)) (f .0) ∙ sym (b .code), f .1)
+
+pub run-coded-fixed : {t p g room room′ room″ : List ℕ} {m n : ℕ} → RunCoded t p g room room′ m → RunCoded t p g room room″ n → (m ≡ n) × (room′ ≡ room″)
+run-coded-fixed a b =
+    let f = run-fixed (a .ran) (b .ran) in
+    (a .code ∙ ap (λ (x : RunAnswer). coded (runTold x)) (f .0) ∙ sym (b .code), f .1)
