@@ -83,6 +83,7 @@ module _ {t p es ms : List ℕ} {w n : ℕ} (A : Accepted t p es ms w n) where
               deep = tree-deep goal-is (is .each) (c .0) (A .tree);
               whole = renamed g;
               head = goal-head goal-is;
+              narrow = is .width .1;
               lies = goal-lies goal-is sib s;
               few = c .1;
               roomy = omega (arith, A .same-rows);

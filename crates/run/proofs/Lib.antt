@@ -6,6 +6,7 @@ pub mod PlacesLaws
 pub mod GoalLaws
 pub mod LinkLaws
 pub mod WalkLaws
+pub mod DownLaws
 pub mod StartLaws
 pub mod MeaningLaws
 pub mod AllLaws

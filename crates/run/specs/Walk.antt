@@ -18,11 +18,10 @@ use Rattle.plan.specs.Checked.{padded}
 use Rattle.plan.proofs.MarksLaws.{Noted}
 use Rattle.run.specs.After.{Left, stuck, left, after}
 use Rattle.run.specs.See.{viewOf, steps}
+use Rattle.run.specs.Places.{held, Open, Spot}
 use Rattle.run.specs.Link.{var, Goal, Lies, Linked}
 use Rattle.run.specs.declared.goal.View.{View}
 use Rattle.run.specs.declared.goal.View.the-variants.{Loose, Symbol}
-use Rattle.run.specs.declared.walk.Here.{Here}
-use Rattle.run.specs.declared.walk.Out.{Out}
 use Rattle.run.specs.declared.walk.Found.{Found}
 use Rattle.run.specs.declared.walk.Found.the-variants.{Other, Same, Unbound}
 
@@ -60,18 +59,32 @@ hitsAt p i c m R f = under [] (after (var m) i c R) (λ R′. hits p (m + arity 
 abbrev pub triedAt : {k : ℕ} {rows : List (List ℕ)} → Plan k rows → (i c m : ℕ) (R : List ℕ) → ℕ
 triedAt p i c m R = under 0 (after (var m) i c R) (λ R′. tried p (m + arity c) R′)
 
--- rows hs and s branches more than at h: the rows are written, and both are counted
-pub record Walked (room room′ hs : List ℕ) (s : ℕ) (h : Here) (o : Out) : Type 0 where
-  pub rows : o .hits ≡ h .hits + length hs
-  pub tries : o .tried ≡ h .tried + s
-  pub wrote : room′ ≡ sets room (h .hits) hs
+-- what the code counts: the rows passed, the hits, the branches tried
+abbrev pub passed : List ℕ → ℕ
+passed cs = getD cs 0 0
 
--- what was lent is as it was found; of the array of places that goes for what is below top
-pub record Restored (bound bound′ args args′ places places′ : List ℕ) (top : ℕ) : Type 0 where
+abbrev pub found : List ℕ → ℕ
+found cs = getD cs 1 0
+
+abbrev pub tries : List ℕ → ℕ
+tries cs = getD cs 2 0
+
+-- z cells of the plan, n rows and s branches on, the rows hs written
+pub record Walked (room room′ hs : List ℕ) (s n z : ℕ) (counts counts′ : List ℕ) (at at′ : ℕ) : Type 0 where
+  pub cells : at′ ≡ at + z
+  pub rows : passed counts′ ≡ passed counts + n
+  pub more : found counts′ ≡ found counts + length hs
+  pub count : tries counts′ ≡ tries counts + s
+  pub wrote : room′ ≡ sets room (found counts) hs
+
+-- what was lent is as it was found; of the references that goes for those of the slots below m
+pub record Restored (bound bound′ args args′ refs refs′ links links′ counts counts′ : List ℕ) (m : ℕ) : Type 0 where
   pub bound-same : bound′ ≡ bound
   pub args-same : args′ ≡ args
-  pub size : length places′ ≡ length places
-  pub kept : take top places′ ≡ take top places
+  pub links-same : links′ ≡ links
+  pub size : length refs′ ≡ length refs
+  pub kept : take m refs′ ≡ take m refs
+  pub size-counts : length counts′ ≡ length counts
 
 -- a branch's cell against what was seen
 unfoldable pub foundOf : ℕ → View → Found
@@ -90,74 +103,93 @@ unfoldable mutual
   DeepIn end n = Unit {0}
   DeepIn (next {k} {g} p bs) n = (arity (g .cell) + k < n) × Deep p (n - 1) × DeepIn bs n
 
--- at most n cells are left in each row: there are numbers and room enough for as many decisions
-pub record Space (places : List ℕ) (h : Here) (n : ℕ) : Type 0 where
-  pub wide : h .width ≤ n
+-- k places are open, variables below m are made, and at most n cells are left in each row: there are numbers enough for as many decisions
+pub record Space (k m n : ℕ) : Type 0 where
+  pub wide : k ≤ n
   pub deep : n ≤ 32
-  pub numbers : h .next + n ≤ 64 + h .width
-  pub below : h .base + h .width ≤ h .top
-  pub above : h .top + 31 * n ≤ 1024
-  pub size : length places ≡ 1024
+  pub numbers : m + n ≤ 64 + k
 
 -- n rows are left: their numbers are bytes, and there is room for them; there are no more hits than rows so far, nor more tries than cells
-pub record Counted (plan room : List ℕ) (h : Here) (n at : ℕ) : Type 0 where
-  pub few : h .row + n ≤ 64
-  pub roomy : h .row + n ≤ length room
-  pub found : h .hits ≤ h .row
+pub record Counted (plan room counts : List ℕ) (n at : ℕ) : Type 0 where
+  pub few : passed counts + n ≤ 64
+  pub roomy : passed counts + n ≤ length room
+  pub fewer : found counts ≤ passed counts
   pub size : length plan ≤ 6082
-  pub count : h .tried ≤ at
+  pub least : tries counts ≤ at
+  pub three : length counts ≡ 3
 
--- a state, and R left of the goal there
-pub record Ready (plan ends many goal sib bound args places room : List ℕ) (h : Here) : Type 0 where
+-- a state at a cell of the plan, and R left of the goal there
+pub record Ready (plan ends many goal sib bound args refs links room counts : List ℕ) (at k m : ℕ) : Type 0 where
   pub rows : List (List ℕ)
-  pub tree : Plan (h .width) rows
+  pub tree : Plan k rows
   pub behind : List ℕ
-  pub cells : drop (h .at) plan ≡ write tree ++ behind
-  pub noted : Noted tree ends many (h .at)
+  pub cells : drop at plan ≡ write tree ++ behind
+  pub noted : Noted tree ends many at
   pub left : ℕ
   pub deep : Deep tree left
-  pub space : Space places h left
+  pub space : Space k m left
+  pub slots : List ℕ
+  pub number : length slots ≡ k
+  pub opens : Open refs links m slots
   pub R : List ℕ
-  pub linked : Linked goal sib bound args (take (h .width) (drop (h .base) places)) (h .next) R
-  pub counted : Counted plan room h (length rows) (h .at)
+  pub linked : Linked goal sib bound args (held refs slots) m R
+  pub counted : Counted plan room counts (length rows) at
 
--- one of its branches, at place i where v was seen; the count of it is made already
-pub record ReadyAt (plan ends many goal sib bound args places room : List ℕ) (h : Here) (v : View) (i : ℕ) : Type 0 where
+-- a branch at a cell of the plan, at a place of a state
+pub record OneBranch (plan ends many : List ℕ) (at k m : ℕ) : Type 0 where
   pub group : Run
-  pub tree : Plan (arity (group .cell) + (h .width - 1)) (group .rows)
+  pub tree : Plan (arity (group .cell) + (k - 1)) (group .rows)
   pub behind : List ℕ
-  pub cells : drop (h .at) plan ≡ group .cell ∷ (write tree ++ behind)
-  pub noted : Noted tree ends many (h .at + 1)
+  pub cells : drop at plan ≡ group .cell ∷ (write tree ++ behind)
+  pub noted : Noted tree ends many (at + 1)
   pub left : ℕ
-  pub less : arity (group .cell) + (h .width - 1) < left
+  pub less : arity (group .cell) + (k - 1) < left
   pub deep : Deep tree (left - 1)
-  pub space : Space places h left
-  pub R : List ℕ
-  pub linked : Linked goal sib bound args (take (h .width) (drop (h .base) places)) (h .next) R
-  pub place : i < h .width
-  pub view : v ≡ viewOf goal bound args (getD places (h .base + i) 0)
-  pub counted : Counted plan room h (length (group .rows)) (h .at + 1)
+  pub space : Space k m left
 
--- the places open below a branch: those of a arguments from p on for the one at place i
-abbrev pub reopened : (sib places : List ℕ) (h : Here) (i a p : ℕ) → List ℕ
-reopened sib places h i a p = take i (drop (h .base) places) ++ (steps sib a p ++ take (h .width - 1 - i) (drop (h .base + i + 1) places))
-
--- a branch whose test has succeeded: the arguments of its cell are at p, and R is left of the goal below it
-pub record ReadyBelow (plan ends many goal sib bound args places room : List ℕ) (h : Here) (i p : ℕ) : Type 0 where
-  pub group : Run
-  pub tree : Plan (arity (group .cell) + (h .width - 1)) (group .rows)
-  pub behind : List ℕ
-  pub cells : drop (h .at) plan ≡ group .cell ∷ (write tree ++ behind)
-  pub noted : Noted tree ends many (h .at + 1)
-  pub left : ℕ
-  pub less : arity (group .cell) + (h .width - 1) < left
-  pub deep : Deep tree (left - 1)
-  pub space : Space places h left
+-- the place, with R left of the goal at its state; v was seen there
+pub record Looked (goal sib bound args refs links : List ℕ) (k m before slot : ℕ) (v : View) : Type 0 where
+  pub spot : Spot refs links k m before slot
   pub R : List ℕ
-  pub linked : Linked goal sib bound args (reopened sib places h i (arity (group .cell)) p) (h .next + arity (group .cell)) R
-  pub place : i < h .width
-  pub terms : All (λ x. x < 64) (steps sib (arity (group .cell)) p)
-  pub counted : Counted plan room h (length (group .rows)) (h .at + 1)
+  pub linked : Linked goal sib bound args (held refs (spot .A) ++ (getD refs slot 0 ∷ held refs (spot .B))) m R
+  pub view : v ≡ viewOf goal bound args (getD refs slot 0)
+
+-- the branch is to be tested there
+pub record ReadyAt (plan ends many goal sib bound args refs links room counts : List ℕ) (at k m before slot : ℕ) (v : View) : Type 0 where
+  pub branch : OneBranch plan ends many at k m
+  pub ends-at : getD ends at 0 ≡ at + 1 + length (write (branch .tree))
+  pub rows-at : getD many at 0 ≡ length (branch .group .rows)
+  pub looked : Looked goal sib bound args refs links k m before slot v
+  pub counted : Counted plan room counts (length (branch .group .rows)) at
+
+-- its test has succeeded, and it is counted: the arguments of its cell are at p, and R is left of the goal below it
+pub record ReadyBelow (plan ends many goal sib bound args refs links room counts : List ℕ) (at k m before slot p : ℕ) : Type 0 where
+  pub branch : OneBranch plan ends many at k m
+  pub spot : Spot refs links k m before slot
+  pub R : List ℕ
+  pub linked : Linked goal sib bound args (held refs (spot .A) ++ (steps sib (arity (branch .group .cell)) p ++ held refs (spot .B))) (m + arity (branch .group .cell)) R
+  pub terms : All (λ x. x < 64) (steps sib (arity (branch .group .cell)) p)
+  pub counted : Counted plan room counts (length (branch .group .rows)) (at + 1)
+
+-- What is then walked: a state; one of its branches, with the count of it; what is below a branch.
+module _ {plan ends many goal sib bound args refs links room counts : List ℕ} {at k m : ℕ} where
+  abbrev pub StateWalked : Ready plan ends many goal sib bound args refs links room counts at k m → (room′ counts′ : List ℕ) (at′ : ℕ) → Type 0
+  StateWalked w room′ counts′ at′ =
+      Walked room room′ (hits (w .tree) m (w .R) (passed counts)) (tried (w .tree) m (w .R)) (length (w .rows)) (length (write (w .tree))) counts counts′ at at′
+
+  abbrev pub BranchWalked : {before slot : ℕ} {v : View} → ReadyAt plan ends many goal sib bound args refs links room counts at k m before slot v → (room′ counts′ : List ℕ) (at′ : ℕ) → Type 0
+  BranchWalked w room′ counts′ at′ =
+      let b = w .branch in
+      let i = length (w .looked .spot .A) in
+      let R = w .looked .R in
+      Walked room room′ (hitsAt (b .tree) i (b .group .cell) m R (passed counts)) (suc (triedAt (b .tree) i (b .group .cell) m R)) (length (b .group .rows)) (suc (length (write (b .tree))))
+      counts counts′ at at′
+
+  abbrev pub BelowWalked : {before slot p : ℕ} → ReadyBelow plan ends many goal sib bound args refs links room counts at k m before slot p → (room′ counts′ : List ℕ) (at′ : ℕ) → Type 0
+  BelowWalked w room′ counts′ at′ =
+      let b = w .branch in
+      let n = m + arity (b .group .cell) in
+      Walked room room′ (hits (b .tree) n (w .R) (passed counts)) (tried (b .tree) n (w .R)) (length (b .group .rows)) (suc (length (write (b .tree)))) counts counts′ at at′
 
 -- an accepted plan with the check's notes, and a goal with its table of steps; `whole` is the goal renamed apart
 pub record Begun (plan ends many goal sib room : List ℕ) (w : ℕ) : Type 0 where
@@ -168,6 +200,7 @@ pub record Begun (plan ends many goal sib room : List ℕ) (w : ℕ) : Type 0 wh
   pub deep : Deep tree 32
   pub whole : List ℕ
   pub head : Goal w whole
+  pub narrow : w ≤ 8
   pub lies : Lies whole goal sib
   pub few : length rows ≤ 64
   pub roomy : length rows ≤ length room

@@ -65,8 +65,8 @@ pub fn look(goal: &[u32; 32], bound: &[u32; 64], args: &[u8; 64], r: usize) -> V
     }
 }
 
-// The table of steps before any cell: for each number the next one.
-fn numbers() -> [u8; 64]
+// For each number the next one: the table of steps before any cell, and the links before any place is closed.
+pub fn numbers() -> [u8; 64]
     ensures { λ r. ⌜ r ≡ upFrom 1 64 ⌝ }
 {
     let mut sib = [0u8; 64];
@@ -79,8 +79,8 @@ fn numbers() -> [u8; 64]
     sib
 }
 
-// Where `a` terms end that stand one after another from `from` on.
-fn hop(sib: &[u8; 64], from: usize, a: usize) -> usize
+// Where `a` steps lead from a number: past so many terms, or along so many links.
+pub fn hop(sib: &[u8; 64], from: usize, a: usize) -> usize
     requires { ⌜ All (λ x. x < 64) (steps (now sib) a from) ⌝ }
     ensures { λ r. ⌜ r ≡ hopOf (now (sib .entry)) a from ⌝ }
 {

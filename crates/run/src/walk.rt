@@ -4,27 +4,22 @@ ghost use mathlib.Core.Path.{_≡_};
 ghost use Prim.Native.Nat.{_+_, _≤_};
 ghost use lib.ListN.{length};
 ghost use lib.Seq.{sets};
-ghost use Rattle.cell.specs.Cell.{arity};
 ghost use Rattle.table.specs.Table.{upFrom};
-ghost use Rattle.run.specs.Walk.{Begun, Ready, ReadyAt, ReadyBelow, Restored, Walked, foundOf, hits, hitsAt, tried, triedAt};
+ghost use Rattle.run.specs.Walk.{Begun, BelowWalked, BranchWalked, Ready, ReadyAt, ReadyBelow, Restored, StateWalked, foundOf, hits, tried};
 use super::goal::View;
+use super::goal::hop;
 use super::goal::look;
+use super::goal::numbers;
 use super::goal::wide;
+use super::places::last_new;
 use super::places::put_terms;
-use super::places::reopen;
 
-// Where the walk is: the plan's cell; how many places are open, where they begin and from where on their array is free; the next variable's
-// number; the first row; how many hits there are and how many branches were tried so far.
-pub struct Here {
-    pub at: usize,
-    pub width: usize,
-    pub base: usize,
-    pub top: usize,
-    pub next: usize,
-    pub row: usize,
-    pub hits: usize,
-    pub tried: usize,
-}
+// What is counted on the way: the rows passed, the hits, the branches tried.
+const ROW: usize = 0;
+
+const HITS: usize = 1;
+
+const TRIED: usize = 2;
 
 // How many hits there are, and how many branches were tried.
 pub struct Out {
@@ -74,7 +69,7 @@ fn test(c: u32, seen: View) -> Found
     }
 }
 
-// A state. At a leaf its rows are hits. At any other its place is looked at, and its branches are walked one after another.
+// A state: the plan's cell after it. At a leaf its rows are hits. At any other its place is looked at, and its branches are walked one after another.
 fn state(
     plan: &[u32],
     ends: &[u16; 6082],
@@ -83,32 +78,34 @@ fn state(
     sib: &[u8; 64],
     bound: &mut [u32; 64],
     args: &mut [u8; 64],
-    places: &mut [u8; 1024],
+    refs: &mut [u8; 64],
+    links: &mut [u8; 64],
     room: &mut [u8],
-    here: Here,
-) -> Out
-    requires { ⌜ Ready (now plan) (now ends) (now many) (now goal) (now sib) (now bound) (now args) (now places) (now room) here ⌝ }
-    ensures { λ o. ⌜ Restored (now (bound .entry)) (now (bound .exit)) (now (args .entry)) (now (args .exit)) (now (places .entry)) (now (places .exit)) (here .top) × ((w : Ready (now (plan .entry)) (now (ends .entry)) (now (many .entry)) (now (goal .entry)) (now (sib .entry)) (now (bound .entry)) (now (args .entry)) (now (places .entry)) (now (room .entry)) here) → Walked (now (room .entry)) (now (room .exit)) (hits (w .tree) (here .next) (w .R) (here .row)) (tried (w .tree) (here .next) (w .R)) here o) ⌝ }
+    counts: &mut [usize; 3],
+    at: usize,
+    width: usize,
+    next: usize,
+) -> usize
+    requires { ⌜ Ready (now plan) (now ends) (now many) (now goal) (now sib) (now bound) (now args) (now refs) (now links) (now room) (now counts) at width next ⌝ }
+    ensures { λ r. ⌜ Restored (now (bound .entry)) (now (bound .exit)) (now (args .entry)) (now (args .exit)) (now (refs .entry)) (now (refs .exit)) (now (links .entry)) (now (links .exit)) (now (counts .entry)) (now (counts .exit)) next × ((w : Ready (now (plan .entry)) (now (ends .entry)) (now (many .entry)) (now (goal .entry)) (now (sib .entry)) (now (bound .entry)) (now (args .entry)) (now (refs .entry)) (now (links .entry)) (now (room .entry)) (now (counts .entry)) at width next) → StateWalked w (now (room .exit)) (now (counts .exit)) r) ⌝ }
 {
-    let at = here.at;
     let n = plan[at] as usize;
-    if here.width == 0 {
-        put_rows(room, here.hits, n, here.row);
-        return Out {
-            hits: here.hits + n,
-            tried: here.tried,
-        };
+    if width == 0 {
+        let row = counts[ROW];
+        let hits = counts[HITS];
+        put_rows(room, hits, n, row);
+        counts[ROW] = row + n;
+        counts[HITS] = hits + n;
+        return at + 1;
     }
-    let place = here.base + n;
-    let seen = look(goal, bound, args, wide(places[place]));
+    let before = hop(&*links, 0, n);
+    let slot = wide(links[before]);
+    let seen = look(goal, &*bound, &*args, wide(refs[slot]));
     let first = at + 1;
     let mut left = plan[first];
-    let mut now = here;
-    now.at = at + 2;
+    let mut place = at + 2;
     while 0 < left {
-        let branch_at = now.at;
-        now.tried += 1;
-        let o = branch(
+        place = branch(
             plan,
             ends,
             many,
@@ -116,25 +113,23 @@ fn state(
             sib,
             bound,
             args,
-            places,
+            refs,
+            links,
             room,
-            now,
+            counts,
+            place,
+            width,
+            next,
+            before,
+            slot,
             seen,
-            n,
         );
-        now.hits = o.hits;
-        now.tried = o.tried;
-        now.row += wide(many[branch_at]);
-        now.at = wide16(ends[branch_at]);
         left -= 1;
     }
-    Out {
-        hits: now.hits,
-        tried: now.tried,
-    }
+    place
 }
 
-// One branch of a state, at its place `i`: its test and, where that succeeds, what is below it. It is counted already.
+// One branch of a state, whose place has `slot`, after the slot `before`: its test and, where that succeeds, what is below it. The plan's cell after both.
 fn branch(
     plan: &[u32],
     ends: &[u16; 6082],
@@ -143,22 +138,27 @@ fn branch(
     sib: &[u8; 64],
     bound: &mut [u32; 64],
     args: &mut [u8; 64],
-    places: &mut [u8; 1024],
+    refs: &mut [u8; 64],
+    links: &mut [u8; 64],
     room: &mut [u8],
-    here: Here,
+    counts: &mut [usize; 3],
+    at: usize,
+    width: usize,
+    next: usize,
+    before: usize,
+    slot: usize,
     seen: View,
-    i: usize,
-) -> Out
-    requires { ⌜ ReadyAt (now plan) (now ends) (now many) (now goal) (now sib) (now bound) (now args) (now places) (now room) here seen i ⌝ }
-    ensures { λ o. ⌜ Restored (now (bound .entry)) (now (bound .exit)) (now (args .entry)) (now (args .exit)) (now (places .entry)) (now (places .exit)) (here .top) × ((w : ReadyAt (now (plan .entry)) (now (ends .entry)) (now (many .entry)) (now (goal .entry)) (now (sib .entry)) (now (bound .entry)) (now (args .entry)) (now (places .entry)) (now (room .entry)) here seen i) → Walked (now (room .entry)) (now (room .exit)) (hitsAt (w .tree) i (w .group .cell) (here .next) (w .R) (here .row)) (triedAt (w .tree) i (w .group .cell) (here .next) (w .R)) here o) ⌝ }
+) -> usize
+    requires { ⌜ ReadyAt (now plan) (now ends) (now many) (now goal) (now sib) (now bound) (now args) (now refs) (now links) (now room) (now counts) at width next before slot seen ⌝ }
+    ensures { λ r. ⌜ Restored (now (bound .entry)) (now (bound .exit)) (now (args .entry)) (now (args .exit)) (now (refs .entry)) (now (refs .exit)) (now (links .entry)) (now (links .exit)) (now (counts .entry)) (now (counts .exit)) next × ((w : ReadyAt (now (plan .entry)) (now (ends .entry)) (now (many .entry)) (now (goal .entry)) (now (sib .entry)) (now (bound .entry)) (now (args .entry)) (now (refs .entry)) (now (links .entry)) (now (room .entry)) (now (counts .entry)) at width next before slot seen) → BranchWalked w (now (room .exit)) (now (counts .exit)) r) ⌝ }
 {
-    let at = here.at;
     let c = plan[at];
+    counts[TRIED] += 1;
     match test(c, seen) {
-        Found::Other => Out {
-            hits: here.hits,
-            tried: here.tried,
-        },
+        Found::Other => {
+            counts[ROW] += wide(many[at]);
+            wide16(ends[at])
+        }
         Found::Same(p) => below(
             plan,
             ends,
@@ -167,18 +167,22 @@ fn branch(
             sib,
             bound,
             args,
-            places,
+            refs,
+            links,
             room,
-            here,
-            i,
+            counts,
+            at,
+            width,
+            next,
+            before,
+            slot,
             p,
         ),
         Found::Unbound(v) => {
-            let next = here.next;
             let was = args[v];
             bound[v] = c;
             args[v] = next as u8;
-            let o = below(
+            let end = below(
                 plan,
                 ends,
                 many,
@@ -186,20 +190,25 @@ fn branch(
                 sib,
                 bound,
                 args,
-                places,
+                refs,
+                links,
                 room,
-                here,
-                i,
+                counts,
+                at,
+                width,
+                next,
+                before,
+                slot,
                 next,
             );
             bound[v] = 0;
             args[v] = was;
-            o
+            end
         }
     }
 }
 
-// The state below a branch, whose symbol's arguments are at `p`: their places stand for place `i`.
+// What is below a branch, whose symbol's arguments are at `p`: their slots, the new ones from `next` on, stand where its place did.
 fn below(
     plan: &[u32],
     ends: &[u16; 6082],
@@ -208,30 +217,46 @@ fn below(
     sib: &[u8; 64],
     bound: &mut [u32; 64],
     args: &mut [u8; 64],
-    places: &mut [u8; 1024],
+    refs: &mut [u8; 64],
+    links: &mut [u8; 64],
     room: &mut [u8],
-    here: Here,
-    i: usize,
+    counts: &mut [usize; 3],
+    at: usize,
+    width: usize,
+    next: usize,
+    before: usize,
+    slot: usize,
     p: usize,
-) -> Out
-    requires { ⌜ ReadyBelow (now plan) (now ends) (now many) (now goal) (now sib) (now bound) (now args) (now places) (now room) here i p ⌝ }
-    ensures { λ o. ⌜ Restored (now (bound .entry)) (now (bound .exit)) (now (args .entry)) (now (args .exit)) (now (places .entry)) (now (places .exit)) (here .top) × ((w : ReadyBelow (now (plan .entry)) (now (ends .entry)) (now (many .entry)) (now (goal .entry)) (now (sib .entry)) (now (bound .entry)) (now (args .entry)) (now (places .entry)) (now (room .entry)) here i p) → Walked (now (room .entry)) (now (room .exit)) (hits (w .tree) (here .next + arity (w .group .cell)) (w .R) (here .row)) (tried (w .tree) (here .next + arity (w .group .cell)) (w .R)) here o) ⌝ }
+) -> usize
+    requires { ⌜ ReadyBelow (now plan) (now ends) (now many) (now goal) (now sib) (now bound) (now args) (now refs) (now links) (now room) (now counts) at width next before slot p ⌝ }
+    ensures { λ r. ⌜ Restored (now (bound .entry)) (now (bound .exit)) (now (args .entry)) (now (args .exit)) (now (refs .entry)) (now (refs .exit)) (now (links .entry)) (now (links .exit)) (now (counts .entry)) (now (counts .exit)) next × ((w : ReadyBelow (now (plan .entry)) (now (ends .entry)) (now (many .entry)) (now (goal .entry)) (now (sib .entry)) (now (bound .entry)) (now (args .entry)) (now (refs .entry)) (now (links .entry)) (now (room .entry)) (now (counts .entry)) at width next before slot p) → BelowWalked w (now (room .exit)) (now (counts .exit)) r) ⌝ }
 {
-    let at = here.at;
     let a = cell::arity_of(plan[at]);
-    let others = here.width - 1;
-    let base = reopen(places, here.base, here.top, i, others, a, p, sib);
-    let down = Here {
-        at: at + 1,
-        width: a + others,
-        base,
-        top: here.top + (a + others),
-        next: here.next + a,
-        row: here.row,
-        hits: here.hits,
-        tried: here.tried,
-    };
-    state(plan, ends, many, goal, sib, bound, args, places, room, down)
+    put_terms(refs, next, a, p, sib);
+    let past = links[slot];
+    let last = last_new(before, next, a);
+    links[before] = next as u8;
+    let was = links[last];
+    links[last] = past;
+    let end = state(
+        plan,
+        ends,
+        many,
+        goal,
+        sib,
+        bound,
+        args,
+        refs,
+        links,
+        room,
+        counts,
+        at + 1,
+        a + (width - 1),
+        next + a,
+    );
+    links[last] = was;
+    links[before] = slot as u8;
+    end
 }
 
 // A run of an accepted plan on a goal whose `width` arguments stand open: the hits as bytes from the room's first on, and how many branches were tried.
@@ -249,18 +274,10 @@ pub fn walk(
 {
     let mut bound = [0u32; 64];
     let mut args = [0u8; 64];
-    let mut places = [0u8; 1024];
-    put_terms(&mut places, 0, width, 0, sib);
-    let here = Here {
-        at: 0,
-        width,
-        base: 0,
-        top: width,
-        next: 32,
-        row: 0,
-        hits: 0,
-        tried: 0,
-    };
+    let mut refs = [0u8; 64];
+    let mut links = numbers();
+    let mut counts = [0; 3];
+    put_terms(&mut refs, 1, width, 0, sib);
     state(
         plan,
         ends,
@@ -269,8 +286,16 @@ pub fn walk(
         sib,
         &mut bound,
         &mut args,
-        &mut places,
+        &mut refs,
+        &mut links,
         room,
-        here,
-    )
+        &mut counts,
+        0,
+        width,
+        32,
+    );
+    Out {
+        hits: counts[HITS],
+        tried: counts[TRIED],
+    }
 }

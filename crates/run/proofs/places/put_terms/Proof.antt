@@ -10,22 +10,22 @@ use Rattle.run.proofs.places.put_terms.Statement.{statement}
 use Rattle.run.proofs.places.put_terms.Tie as tie
 
 abbrev Inv-loop : tie.InvT-loop
-Inv-loop places₀ to a p sib left₀ j₀ q₀ places left j q = (j + left ≤ 1024) × All (λ (x : ℕ). x < 64) (steps sib left q) × (sets places j (steps sib left q) ≡ sets places₀ to (steps sib a p))
+Inv-loop refs₀ to a p sib left₀ j₀ q₀ refs left j q = (j + left ≤ 64) × All (λ (x : ℕ). x < 64) (steps sib left q) × (sets refs j (steps sib left q) ≡ sets refs₀ to (steps sib a p))
 
 abbrev μ-loop : tie.MeasureT-loop
-μ-loop places₀ to a p sib left₀ j₀ q₀ places left j q = left
+μ-loop refs₀ to a p sib left₀ j₀ q₀ refs left j q = left
 
 loop-holds : tie.Need-loop-holds Inv-loop μ-loop
 loop-holds c = search needs
 
-cast-places : tie.Need-cast-places Inv-loop μ-loop
-cast-places c =
+cast-refs : tie.Need-cast-refs Inv-loop μ-loop
+cast-refs c =
     let l = c .before .loop in
     let h = steps-all (c .before .before .args .sib .now) (l .left) (l .q) (omega arith) (l .inv .1) in
     omega arith
 
-element-write-places : tie.Need-element-write-places Inv-loop μ-loop
-element-write-places c = search needs
+element-write-refs : tie.Need-element-write-refs Inv-loop μ-loop
+element-write-refs c = search needs
 
 element-copy-out-wide : tie.Need-element-copy-out-wide Inv-loop μ-loop
 element-copy-out-wide c =
@@ -50,10 +50,10 @@ loop-again c =
     let l = c .before .before .before .loop in
     let s = c .before .before .before .before .args .sib .now in
     let h = steps-all s (l .left) (l .q) (omega arith) (l .inv .1) in
-    rw (c .wide .ensures) (omega arith, h .1, store-next (l .places) _ _ _ (l .j) (l .q) (steps-more s (l .left) (l .q) (omega arith)) (l .inv .2))
+    rw (c .wide .ensures) (omega arith, h .1, store-next (l .refs) _ _ _ (l .j) (l .q) (steps-more s (l .left) (l .q) (omega arith)) (l .inv .2))
 
 returns : tie.Need-returns Inv-loop μ-loop
-returns c = let l = c .before .loop in store-end (l .places) _ _ (l .j) (steps-none (c .before .before .args .sib .now) (l .left) (l .q) (omega arith)) (l .inv .2)
+returns c = let l = c .before .loop in store-end (l .refs) _ _ (l .j) (steps-none (c .before .before .args .sib .now) (l .left) (l .q) (omega arith)) (l .inv .2)
 
 pub put-terms-spec : {M : Type 1} → statement M
 put-terms-spec =
@@ -62,8 +62,8 @@ put-terms-spec =
     Inv-loop
     μ-loop
     loop-holds
-    cast-places
-    element-write-places
+    cast-refs
+    element-write-refs
     element-copy-out-wide
     wide-requires
     add-j
