@@ -1,7 +1,7 @@
 -- From an accepted table, plan and goal to what the walk takes for granted, and from what it gives to what a run is to report.
 use Prim.Native.Nat.{ℕ, zero, suc, _+_, _-_, _^_, _≤_, _<_}
 use mathlib.Core.Path.{_≡_, refl, sym, _∙_, ap, subst}
-use mathlib.Core.Logic.{_≢_, _⊎_, ⊎-elim}
+use mathlib.Core.Logic.{⊎-elim}
 use mathlib.Core.Bool.{Bool, true, false, true≢false}
 use mathlib.Core.List.{List, [], _∷_, List·Memᴰ, List·Memᴰ·head, List·Memᴰ·tail, List·Memᴰ·cases-cons, List·Memᴰ·not-nil}
 use native.Mathlib.Omega.{arith}
@@ -29,7 +29,7 @@ use Rattle.run.specs.Link.{var, Goal, lift, Lies}
 use Rattle.run.specs.Walk.{hits, tried, Deep, DeepIn}
 use Rattle.run.proofs.AfterLaws.{GoalLike}
 use Rattle.run.proofs.SkeletonLaws.{fill-all, count-all, start}
-use Rattle.run.proofs.LinkLaws.{lift-var, lift-symbol}
+use Rattle.run.proofs.RefLaws.{lift-var, lift-symbol}
 use Rattle.run.proofs.StartLaws.{terms-long, getD-zeros}
 use Rattle.run.proofs.MeaningLaws.{Fine, Numbers, hits-mean, tried-mean, all-map}
 

@@ -1,5 +1,5 @@
 -- From a branch to the state below it, and back.
-use Prim.Native.Nat.{ℕ, zero, suc, _+_, _-_, _≤_, _<_}
+use Prim.Native.Nat.{ℕ, _+_, _-_, _≤_, _<_}
 use mathlib.Core.Path.{_≡_, refl, sym, _∙_, ap, subst, subst⁻¹}
 use mathlib.Core.Logic.{_≢_}
 use mathlib.Core.Bool.{Bool, true, false, cond}
@@ -14,11 +14,11 @@ use Rattle.cell.proofs.CellLaws.{var-arity}
 use Rattle.table.specs.All.{All}
 use Rattle.table.specs.Table.{upFrom}
 use Rattle.plan.specs.Plans.{write}
-use Rattle.run.specs.After.{Left, stuck, left, after}
-use Rattle.run.specs.See.{viewOf, steps, Visible}
-use Rattle.run.specs.Places.{lastOf, held, lastNew, Open, Spot}
-use Rattle.run.specs.Link.{var, Linked}
-use Rattle.run.specs.Walk.{under, hits, hitsAt, tried, triedAt, passed, found, tries, Walked, Restored, foundOf, Space, Counted, Ready, OneBranch, Looked, ReadyAt, ReadyBelow, StateWalked, BranchWalked, BelowWalked}
+use Rattle.run.specs.After.{stuck, left, after}
+use Rattle.run.specs.See.{viewOf, steps}
+use Rattle.run.specs.Places.{held, lastNew, Open}
+use Rattle.run.specs.Link.{var}
+use Rattle.run.specs.Walk.{passed, found, tries, Restored, foundOf, Ready, ReadyAt, ReadyBelow, StateWalked, BranchWalked, BelowWalked}
 use Rattle.run.specs.declared.goal.View.{View}
 use Rattle.run.specs.declared.goal.View.the-variants.{Loose, Symbol}
 use Rattle.run.specs.declared.walk.Found.{Found}

@@ -28,7 +28,7 @@ use Rattle.run.specs.Run.{runOf, Ran, refusal, ran}
 use Rattle.run.specs.See.{Whole, Stepped}
 use Rattle.run.specs.Walk.{hits, tried, Begun, Accepted}
 use Rattle.run.specs.declared.RunAnswer.the-variants as run-answer
-use Rattle.run.proofs.WalkLaws.{hits-few}
+use Rattle.run.proofs.FewLaws.{hits-few}
 use Rattle.run.proofs.AcceptedLaws.{goal-head, goal-whole, goal-lies, tree-deep, hits-right, tried-right}
 use Rattle.run.proofs.TakesLaws.{run-table, run-plan, run-goal, run-room, takes-run}
 

@@ -1,5 +1,5 @@
 -- 01's examples of runs ("On both sides": P2, P5, P7 and P8), in one table under one theorem: what a run answers and writes is what is printed there.
-use Prim.Native.Nat.{ℕ, _+_, _≤_}
+use Prim.Native.Nat.{ℕ, _≤_}
 use mathlib.Core.Path.{_≡_, refl, ap}
 use mathlib.Core.List.{List, [], _∷_, _++_, map}
 use native.Mathlib.Omega.{arith}

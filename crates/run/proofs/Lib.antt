@@ -4,7 +4,9 @@ pub mod SkeletonLaws
 pub mod SeeLaws
 pub mod PlacesLaws
 pub mod GoalLaws
+pub mod RefLaws
 pub mod LinkLaws
+pub mod FewLaws
 pub mod WalkLaws
 pub mod DownLaws
 pub mod StartLaws

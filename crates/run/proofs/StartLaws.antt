@@ -5,7 +5,7 @@ use mathlib.Core.Logic.{_≢_}
 use mathlib.Core.List.{List, [], append-nil}
 use native.Mathlib.Nat.{add-zero, zero-add}
 use native.Mathlib.Omega.{arith}
-use lib.ListN.{length, getD, take, drop, replicate, length-replicate}
+use lib.ListN.{length, getD, drop, replicate, length-replicate}
 use lib.Seq.{sets, length-sets}
 use Rattle.term.specs.Terms.{Terms, none, more, front}
 use Rattle.term.proofs.TermsLaws.{front-++}
@@ -16,10 +16,10 @@ use Rattle.plan.specs.Plans.{write}
 use Rattle.run.specs.See.{steps}
 use Rattle.run.specs.Link.{Bound}
 use Rattle.run.specs.Places.{Path, Apart, held, Open}
-use Rattle.run.specs.Walk.{hits, tried, found, tries, Walked, Ready, StateWalked, Begun}
+use Rattle.run.specs.Walk.{hits, tried, found, tries, Ready, StateWalked, Begun}
 use Rattle.run.proofs.CountLaws.{up-length}
 use Rattle.run.proofs.PlacesLaws.{steps-length, held-put, up-at, up-range, up-apart, up-path, all-each}
-use Rattle.run.proofs.LinkLaws.{Stand, steps-refs}
+use Rattle.run.proofs.RefLaws.{Stand, steps-refs}
 
 pub terms-long : {k : ℕ} {xs : List ℕ} → Terms k xs → k ≤ length xs
 terms-long none = omega arith

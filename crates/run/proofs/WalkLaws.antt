@@ -3,9 +3,8 @@ use Prim.Native.Nat.{ℕ, zero, suc, _+_, _-_, _*_, _≤_, _<_}
 use mathlib.Core.Path.{_≡_, refl, sym, _∙_, ap, subst}
 use mathlib.Core.List.{List, [], _∷_, _++_, append-assoc}
 use native.Mathlib.Omega.{arith}
-use lib.ListN.{length, getD, take, drop, set, length-set, length-append, length-drop}
-use lib.Seq.{sets, drop-drop, drop-at, split-at, length-take-le, getD-set-same, getD-set-other}
-use Rattle.cell.specs.Cell.{arity}
+use lib.ListN.{length, getD, take, drop, set, length-append, length-drop}
+use lib.Seq.{sets, drop-drop, drop-at, split-at, length-take-le}
 use Rattle.table.specs.All.{All}
 use Rattle.table.specs.Table.{upFrom}
 use Rattle.plan.specs.Runs.{Run, runs}
@@ -13,15 +12,16 @@ use Rattle.plan.specs.Plans.{Plan, leaf, node, Branches, end, next, write, writ
 use Rattle.plan.proofs.MarksLaws.{Noted, NotedIn}
 use Rattle.plan.proofs.RunsLaws.{rowsIn, group-rows}
 use Rattle.term.specs.Terms.{root, close}
-use Rattle.run.specs.After.{Left, stuck, left, after}
+use Rattle.run.specs.After.{left, after}
 use Rattle.run.specs.See.{viewOf, steps, hopOf, Visible}
 use Rattle.run.specs.Places.{lastOf, held, Open, Spot}
-use Rattle.run.specs.Link.{var, Ok, cell, number, Linked}
-use Rattle.run.specs.Walk.{under, hits, hitsIn, hitsAt, tried, triedIn, triedAt, passed, found, tries, Walked, Restored, Deep, DeepIn, Space, Counted, Ready, OneBranch, Looked, ReadyAt, StateWalked, BranchWalked}
+use Rattle.run.specs.Link.{Ok, cell, number, Linked}
+use Rattle.run.specs.Walk.{hits, hitsIn, hitsAt, tried, triedIn, passed, found, tries, Walked, Restored, Deep, DeepIn, Space, Counted, Ready, Looked, ReadyAt, StateWalked, BranchWalked}
 use Rattle.run.specs.declared.goal.View.{View}
 use Rattle.run.proofs.CountLaws.{up-length}
+use Rattle.run.proofs.FewLaws.{hitsAt-few, triedAt-few}
 use Rattle.run.proofs.PlacesLaws.{sets-sets, before-made, slot-made, before-leads, held-parts, held-same, same-below, open-same, slots-made, hop-path, hop-safe, all-each}
-use Rattle.run.proofs.LinkLaws.{Oks-split}
+use Rattle.run.proofs.RefLaws.{Oks-split}
 
 -- what stands at a place of a list
 pub read : (l : List ℕ) (at x : ℕ) (xs : List ℕ) → drop at l ≡ x ∷ xs → (at < length l) × (getD l at 0 ≡ x) × (drop (at + 1) l ≡ xs)
@@ -32,56 +32,6 @@ read (y ∷ l) (suc at) x xs e =
     let r = read l at x xs e in
     let q : suc at + 1 ≡ suc (at + 1) = omega arith in
     (omega arith, r .1, rw q (r .2))
-
--- Never more hits than rows, nor more tries than cells.
-
-under-length : (n : ℕ) (x : Left) (f : List ℕ → List ℕ) → ((R : List ℕ) → length (f R) ≤ n) → length (under [] x f) ≤ n
-under-length n stuck f h = omega arith
-under-length n (left R) f h = h R
-
-under-number : (n : ℕ) (x : Left) (f : List ℕ → ℕ) → ((R : List ℕ) → f R ≤ n) → under 0 x f ≤ n
-under-number n stuck f h = omega arith
-under-number n (left R) f h = h R
-
-mutual
-  unfolding hits
-
-  pub hits-few : {k : ℕ} {rows : List (List ℕ)} (p : Plan k rows) (m : ℕ) (R : List ℕ) (f : ℕ) → length (hits p m R f) ≤ length rows
-  hits-few (leaf {rows}) m R f = omega (arith, up-length f (length rows))
-  hits-few (node {rows = rows} i h bs) m R f = omega (arith, hitsIn-few bs i m R f, group-rows (root i) (close i) rows)
-
-  hitsIn-few : {k : ℕ} {gs : List Run} (bs : Branches k gs) (i m : ℕ) (R : List ℕ) (f : ℕ) → length (hitsIn bs i m R f) ≤ rowsIn gs
-  hitsIn-few end i m R f = omega arith
-  hitsIn-few (next {g = g} p bs) i m R f =
-      omega (
-        arith,
-        length-append (hitsAt p i (g .cell) m R f) (hitsIn bs i m R (f + length (g .rows))),
-        under-length (length (g .rows)) (after (var m) i (g .cell) R) (λ R′. hits p (m + arity (g .cell)) R′ f) (λ R′. hits-few p (m + arity (g .cell)) R′ f),
-        hitsIn-few bs i m R (f + length (g .rows)),
-      )
-
-pub hitsAt-few : {k : ℕ} {rows : List (List ℕ)} (p : Plan k rows) (i c m : ℕ) (R : List ℕ) (f : ℕ) → length (hitsAt p i c m R f) ≤ length rows
-hitsAt-few {rows = rows} p i c m R f = under-length (length rows) (after (var m) i c R) (λ R′. hits p (m + arity c) R′ f) (λ R′. hits-few p (m + arity c) R′ f)
-
-mutual
-  unfolding tried write
-
-  tried-few : {k : ℕ} {rows : List (List ℕ)} (p : Plan k rows) (m : ℕ) (R : List ℕ) → tried p m R ≤ length (write p)
-  tried-few (leaf {rows}) m R = omega arith
-  tried-few (node {rows = rows} i h bs) m R = omega (arith, triedIn-few bs i m R)
-
-  triedIn-few : {k : ℕ} {gs : List Run} (bs : Branches k gs) (i m : ℕ) (R : List ℕ) → triedIn bs i m R ≤ length (writes bs)
-  triedIn-few end i m R = omega arith
-  triedIn-few (next {g = g} p bs) i m R =
-      omega (
-        arith,
-        length-append (write p) (writes bs),
-        under-number (length (write p)) (after (var m) i (g .cell) R) (λ R′. tried p (m + arity (g .cell)) R′) (λ R′. tried-few p (m + arity (g .cell)) R′),
-        triedIn-few bs i m R,
-      )
-
-pub triedAt-few : {k : ℕ} {rows : List (List ℕ)} (p : Plan k rows) (i c m : ℕ) (R : List ℕ) → triedAt p i c m R ≤ length (write p)
-triedAt-few p i c m R = under-number (length (write p)) (after (var m) i c R) (λ R′. tried p (m + arity c) R′) (λ R′. tried-few p (m + arity c) R′)
 
 -- A leaf.
 

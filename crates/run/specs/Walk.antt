@@ -1,6 +1,6 @@
 -- The walk along a plan (src/walk.rt): what it takes for granted and what it does, by the decisions that `after` describes. These definitions describe the code's
 -- own state; no promise of a public function cites them. That they mean what specs/Run says is proved (proofs/MeaningLaws).
-use Prim.Native.Nat.{ℕ, suc, _+_, _-_, _*_, _≤_, _<_}
+use Prim.Native.Nat.{ℕ, suc, _+_, _-_, _≤_, _<_}
 use mathlib.Core.Path.{_≡_}
 use mathlib.Core.Bool.{cond}
 use mathlib.Core.List.{List, [], _∷_, _++_}

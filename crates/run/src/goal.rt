@@ -60,7 +60,10 @@ pub fn look(goal: &[u32; 32], bound: &[u32; 64], args: &[u8; 64], r: usize) -> V
     }
     let g = goal[r];
     match cell::kind(g) {
-        0 => look_var(bound, args, g as usize),
+        0 => {
+            let v = g as usize;
+            look_var(bound, args, v)
+        }
         _ => View::Symbol(g, r + 1),
     }
 }

@@ -45,14 +45,14 @@ fn put_rows(room: &mut [u8], at: usize, n: usize, row: usize)
     requires { ⌜ (at + n ≤ length (now room)) × (row + n ≤ 64) ⌝ }
     ensures { λ r. ⌜ now (room .exit) ≡ sets (now (room .entry)) at (upFrom row n) ⌝ }
 {
-    let mut left = n;
+    let mut more = n;
     let mut j = at;
     let mut q = row;
-    while 0 < left {
+    while 0 < more {
         room[j] = q as u8;
         q += 1;
         j += 1;
-        left -= 1;
+        more -= 1;
     }
 }
 

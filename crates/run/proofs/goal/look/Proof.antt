@@ -20,8 +20,8 @@ element-copy-out-g c = search needs
 kind-requires : tie.Need-kind-requires
 kind-requires c κs = search needs
 
-cast-look-var : tie.Need-cast-look-var
-cast-look-var c = search needs
+cast-v : tie.Need-cast-v
+cast-v c = search needs
 
 look-var-requires-2 : tie.Need-look-var-requires-2
 look-var-requires-2 c κs = let p = c .before .before .before .before .pre in omega (arith, p .vars (omega arith) (is-var _ (sym (c .before .kind .ensures) ∙ c .match .keys1)))
@@ -44,7 +44,7 @@ look-spec =
     mul-g
     element-copy-out-g
     kind-requires
-    cast-look-var
+    cast-v
     look-var-requires-2
     add-t14
     returns-2

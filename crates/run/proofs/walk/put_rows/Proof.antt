@@ -10,10 +10,10 @@ use Rattle.run.proofs.walk.put_rows.Statement.{statement}
 use Rattle.run.proofs.walk.put_rows.Tie as tie
 
 abbrev Inv-loop : tie.InvT-loop
-Inv-loop room₀ at n row left₀ j₀ q₀ room left j q = (length room ≡ length room₀) × (j + left ≤ length room₀) × (q + left ≤ 64) × (sets room j (upFrom q left) ≡ sets room₀ at (upFrom row n))
+Inv-loop room₀ at n row more₀ j₀ q₀ room more j q = (length room ≡ length room₀) × (j + more ≤ length room₀) × (q + more ≤ 64) × (sets room j (upFrom q more) ≡ sets room₀ at (upFrom row n))
 
 abbrev μ-loop : tie.MeasureT-loop
-μ-loop room₀ at n row left₀ j₀ q₀ room left j q = left
+μ-loop room₀ at n row more₀ j₀ q₀ room more j q = more
 
 loop-holds : tie.Need-loop-holds Inv-loop μ-loop
 loop-holds c = search needs
@@ -30,8 +30,8 @@ add-q c = search needs
 add-j : tie.Need-add-j Inv-loop μ-loop
 add-j c = omega arith
 
-sub-left : tie.Need-sub-left Inv-loop μ-loop
-sub-left c = search needs
+sub-more : tie.Need-sub-more Inv-loop μ-loop
+sub-more c = search needs
 
 loop-less : tie.Need-loop-less Inv-loop μ-loop
 loop-less c = search needs
@@ -39,13 +39,13 @@ loop-less c = search needs
 loop-again : tie.Need-loop-again Inv-loop μ-loop
 loop-again c =
     let l = c .before .loop in
-    (simp length-set (l .inv .0), omega arith, omega arith, store-next (l .room) _ _ _ (l .j) (l .q) (up-more (l .q) (l .left) (omega arith)) (l .inv .3))
+    (simp length-set (l .inv .0), omega arith, omega arith, store-next (l .room) _ _ _ (l .j) (l .q) (up-more (l .q) (l .more) (omega arith)) (l .inv .3))
 
 same-length : tie.Need-same-length Inv-loop μ-loop
 same-length c = c .before .loop .inv .0
 
 returns : tie.Need-returns Inv-loop μ-loop
-returns c = let l = c .before .loop in store-end (l .room) _ _ (l .j) (up-none (l .q) (l .left) (omega arith)) (l .inv .3)
+returns c = let l = c .before .loop in store-end (l .room) _ _ (l .j) (up-none (l .q) (l .more) (omega arith)) (l .inv .3)
 
 pub put-rows-spec : {M : Type 1} → statement M
 put-rows-spec =
@@ -58,7 +58,7 @@ put-rows-spec =
     slice-write-room
     add-q
     add-j
-    sub-left
+    sub-more
     loop-less
     loop-again
     same-length
