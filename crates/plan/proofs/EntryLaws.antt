@@ -5,9 +5,10 @@ use mathlib.Core.List.{List, [], append-nil}
 use Prim.Native.Nat.{ℕ, zero, suc, _+_, _-_, _≤_, _<_, min}
 use native.Mathlib.Decide.{decLt}
 use native.Mathlib.Omega.{arith}
-use lib.ListN.{length, getD, drop, replicate, length-replicate, drop-of-length-le}
-use lib.Seq.{sets, sets-eq, ext-getD}
+use lib.ListN.{length, getD, drop, replicate, drop-of-length-le}
+use lib.Seq.{ext-getD}
 use borrow.Author.Tests.{lt-ltb, le-ltb}
+use Rattle.term.proofs.Lists.{sets-replicate}
 use Rattle.table.specs.Refusal.{Refused, told, turned}
 use Rattle.table.specs.declared.Refusal.{Refusal}
 use Rattle.table.specs.Read.{refuse}
@@ -21,7 +22,7 @@ use Rattle.plan.specs.Check.{bad, stateFrom, planFor, planOf}
 use Rattle.plan.specs.Marks.{endsIn, manyIn}
 use Rattle.plan.specs.Mask.{full, endAt, OpenRows}
 use Rattle.plan.specs.States.{rowAt, rowsFrom, rowsIn}
-use Rattle.plan.specs.Checked.{planSays, planTold, padded, Marks, marked, refused}
+use Rattle.plan.specs.Checked.{planSays, planTold, Marks, marked, refused}
 use Rattle.plan.specs.Steps.{saidBy, Ready, Stood, Done, TableRows, Turned}
 use Rattle.plan.specs.declared.Marked.{Marked}
 use Rattle.plan.specs.declared.PlanAnswer.the-variants as plan-answer
@@ -93,17 +94,6 @@ module _ {t ss : List ℕ} {w n : ℕ} (k : TableRows t ss w n) where
       rows = rw (k .width, rows-open) (rows-fit (T .width) (T .rows) (is .each));
     }
 
--- Marks laid into a list of zeros.
-drop-zeros : (n m : ℕ) → drop {A = ℕ} n (replicate (n + m) 0) ≡ replicate m 0
-drop-zeros zero m = let e : 0 + m ≡ m = omega arith in rw e
-drop-zeros (suc n) m = let e : suc n + m ≡ suc (n + m) = omega arith in rw e (drop-zeros n m)
-
-laid : (n : ℕ) (xs : List ℕ) → length xs ≤ n → sets (replicate n 0) 0 xs ≡ padded n xs
-laid n xs h =
-    let e : n ≡ length xs + (n - length xs) = omega arith in
-    let z : 0 + length xs ≡ length xs = omega arith in
-    sets-eq xs (replicate n 0) 0 (omega (arith, length-replicate {A = ℕ} n 0)) ∙ rw (z, ap (λ (m : ℕ). drop {A = ℕ} (length xs) (replicate m 0)) e, drop-zeros (length xs) (n - length xs))
-
 -- What is handed on.
 module _ {t ss : List ℕ} {w n : ℕ} (k : TableRows t ss w n) {p : List ℕ} where
   -- the plan is turned away
@@ -142,8 +132,8 @@ module _ {t ss : List ℕ} {w n : ℕ} (k : TableRows t ss w n) {p : List ℕ} {
           let c : p ≡ write (s .tree) = s .cells ∙ rw (drop-of-length-le p l) (append-nil (write (s .tree))) in
           let z : length (write (s .tree)) ≤ 6082 = omega (arith, ap length c) in
           marked (k .table) (s .tree) (k .here) c (ap plan-answer.Accepted (s .count)) (k .width) (k .rows)
-          (s .ends ∙ laid 6082 (endsIn (s .tree) 0) (omega (arith, ends-length (s .tree) 0)))
-          (s .many ∙ laid 6082 (manyIn (s .tree)) (omega (arith, many-length (s .tree))))
+          (s .ends ∙ sets-replicate 6082 0 (endsIn (s .tree) 0) (omega (arith, ends-length (s .tree) 0)))
+          (s .many ∙ sets-replicate 6082 0 (manyIn (s .tree)) (omega (arith, many-length (s .tree))))
 
 -- The table is turned away.
 pub marks-table : {t p : List ℕ} {m : Marked} (f : Refused) → tableOf t ≡ refuse f → Turned f m → Marks t p m

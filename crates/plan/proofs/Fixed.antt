@@ -1,4 +1,5 @@
--- Two results that a promise allows are equal, for every public function of the crate.
+-- Two results that a promise allows are equal, for every public function of the crate. The promises of mask::row_mask, mask::root_at, column::same_symbol,
+-- column::run_length and column::run_count are equations with what the arguments give: for them this is `given-fixed` of crate cell.
 use mathlib.Core.Path.{_≡_, sym, ap, ap₂, _∙_}
 use mathlib.Core.Logic.{by-cases}
 use Prim.Native.Nat.{ℕ, _<_, min}
@@ -21,10 +22,6 @@ use Rattle.plan.specs.declared.PlanAnswer.the-variants as plan-answer
 use Rattle.plan.specs.declared.Marked.{Marked}
 use Rattle.plan.proofs.PlansLaws.{plan-tells}
 use Rattle.plan.proofs.EntryLaws.{marks-say}
-
--- mask::row_mask, mask::root_at, column::same_symbol, column::run_length, column::run_count: the promise is an equation with what the arguments give
-pub given-fixed : {A : Type 0} {x r s : A} → r ≡ x → s ≡ x → r ≡ s
-given-fixed p q = p ∙ sym q
 
 -- mask::close_at: each of the two values is given
 pub closed-fixed : {i m : ℕ} {xs : List ℕ} {r s : Closed} → ClosedAt i m xs r → ClosedAt i m xs s → r ≡ s

@@ -3,13 +3,14 @@ use mathlib.Core.Path.{_≡_, refl, sym, ap, _∙_}
 use mathlib.Core.Logic.{_≢_, by-cases}
 use mathlib.Core.List.{List, [], _∷_, _++_, map, append-assoc}
 use Prim.Native.Nat.{ℕ, zero, suc, _+_, _-_, _≤_, _<_, max}
-use native.Mathlib.Nat.{add-zero}
 use native.Mathlib.Decide.{decLt}
 use native.Mathlib.Omega.{arith}
 use lib.ListN.{length, getD, take, drop, set, length-set, length-append}
-use lib.Seq.{sets, set-comm, drop-cons}
+use lib.Seq.{sets, drop-cons}
 use Rattle.cell.specs.Cell.{arity}
-use Rattle.term.specs.Terms.{Terms, none, more, root, close}
+use Rattle.term.specs.Terms.{root, close}
+use Rattle.term.proofs.Lists.{sets-sets, set-sets}
+use Rattle.term.proofs.TermsLaws.{terms-long}
 use Rattle.term.proofs.PlaceLaws.{close-terms, close-length}
 use Rattle.table.specs.All.{All}
 use Rattle.table.specs.Refusal.{Refused, told}
@@ -28,16 +29,6 @@ use Rattle.plan.proofs.RunsLaws.{group-all}
 use Rattle.plan.proofs.CheckLaws.{leaf-ends, leaf-rows, leaf-read, node-ends, node-open, node-ends-2, node-edges, node-on, state-leaf, state-again}
 use Rattle.plan.proofs.MarksLaws.{ends-length, many-length}
 use Rattle.plan.proofs.RowsLaws.{rows-first, rows-length, run-number, runs-closed, same-self, same-then}
-
--- Stores: one before others, and some after others.
-set-sets : (l : List ℕ) (i j x : ℕ) (ys : List ℕ) → i < j → set (sets l j ys) i x ≡ sets (set l i x) j ys
-set-sets l i j x [] h = refl
-set-sets l i j x (y ∷ ys) h =
-    set-sets (set l j y) i (suc j) x ys (omega arith) ∙ ap (λ (m : List ℕ). sets m (suc j) ys) (set-comm l j i y x (λ e. omega arith))
-
-sets-sets : (l : List ℕ) (i : ℕ) (xs ys : List ℕ) → sets (sets l i xs) (i + length xs) ys ≡ sets l i (xs ++ ys)
-sets-sets l i [] ys = rw add-zero
-sets-sets l i (x ∷ xs) ys = let e : i + suc (length xs) ≡ suc i + length xs = omega arith in rw e (sets-sets (set l i x) (suc i) xs ys)
 
 -- a branch's mark is stored when the state below it is done, and the marks of the other branches after it
 marks-next : (l l₁ l₂ xs ys : List ℕ) (at n m : ℕ) → l₁ ≡ sets l (at + 1) xs → n ≡ at + 1 + length xs → l₂ ≡ sets (set l₁ at m) n ys → l₂ ≡ sets l at (m ∷ (xs ++ ys))
@@ -114,11 +105,6 @@ next-stood {g = g} {p = p} {es} {ns} {es₁} {ns₁} {es₂} {ns₂} {at} {b} {m
       many = marks-next ns ns₁ ns₂ (manyIn (s .tree)) (manyOf (t .trees)) at n (length (g .rows)) (s .many) (omega (arith, s .place)) (t .many);
     }
 
--- a row has no more open places than cells
-terms-few : {k : ℕ} {r : List ℕ} → Terms k r → k ≤ length r
-terms-few none = omega arith
-terms-few (more t) = omega (arith, terms-few t)
-
 -- How deep the check can still go: the cells of the longest row.
 abbrev pub longest : List (List ℕ) → ℕ
 longest [] = 0
@@ -151,7 +137,7 @@ module _ {t ss ms hs p es ns : List ℕ} {first last k at : ℕ} (w : Ready t ss
   rows = rowsIn t ss ms first last
 
   pub few-open : k ≤ 32
-  few-open = let f = rw (rows-first t ss ms first last (w .row)) at (w .rows) in omega (arith, terms-few (f .0 .0))
+  few-open = let f = rw (rows-first t ss ms first last (w .row)) at (w .rows) in omega (arith, terms-long (f .0 .0))
 
   some-row : 0 < length rows
   some-row = omega (arith, rows-length t ss ms (last - first) first, w .row)

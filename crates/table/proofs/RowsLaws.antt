@@ -4,10 +4,11 @@ use mathlib.Core.Bool.{true}
 use mathlib.Core.List.{List, [], _∷_, _++_, flatten}
 use Prim.Native.Nat.{ℕ, zero, suc, _+_, _-_, _≤_, _<_}
 use native.Mathlib.Numerals.{add-one}
-use native.Mathlib.Nat.{add-zero, zero-add}
+use native.Mathlib.Nat.{add-zero}
 use native.Mathlib.Omega.{arith}
 use lib.ListN.{length, take, drop, set, replicate, length-drop, drop-of-length-le}
-use lib.Seq.{take-at, drop-at, drop-cons, drop-drop, sets, sets-eq, length-take-le}
+use lib.Seq.{take-at, drop-at, drop-cons, drop-drop, sets, length-take-le}
+use Rattle.term.proofs.Lists.{sets-replicate}
 use Rattle.table.specs.Refusal.{Refused, refused, Answer, answered, turned}
 use Rattle.table.specs.Read.{Read, read, refuse, andThen}
 use Rattle.table.specs.Table.{Met, met, table, before, termsFrom, rowsFrom, Row, appear, starts, tableTold, TableReads}
@@ -121,15 +122,8 @@ unfolding starts
 length-starts p [] = refl
 length-starts p (r ∷ rs) = ap suc (length-starts (p + length r) rs)
 
-drop-replicate : (k n x : ℕ) → drop k (replicate n x) ≡ replicate (n - k) x
-drop-replicate zero n x = let e : n - 0 ≡ n = omega arith in rw e
-drop-replicate (suc k) zero x = let e : 0 - suc k ≡ 0 = omega arith in rw e
-drop-replicate (suc k) (suc n) x = let e : suc n - suc k ≡ n - k = omega arith in rw e (drop-replicate k n x)
-
 starts-placed : (rows : List (List ℕ)) → length rows ≤ 64 → sets (replicate 64 0) 0 (starts 2 rows) ≡ starts 2 rows ++ replicate (64 - length rows) 0
-starts-placed rows h =
-    let l = length-starts 2 rows in
-    sets-eq (starts 2 rows) (replicate 64 0) 0 (omega arith) ∙ ap (λ (s : List ℕ). starts 2 rows ++ s) (rw (zero-add, l) (drop-replicate (length rows) 64 0))
+starts-placed rows h = let l = length-starts 2 rows in rw l at (sets-replicate 64 0 (starts 2 rows) (omega arith))
 
 pub rows-answer : (w n : ℕ) (xs : List ℕ) (r : TableRead) → n ≤ 64 → outcome r ≡ after w 0 (replicate 64 0) 2 (rowsFrom w n xs 2)
     → TableReads (andThen (rowsFrom w n xs 2) (λ (rows : List (List ℕ)). read (table w rows))) r

@@ -1,3 +1,4 @@
+pub mod Lists
 pub mod TermsLaws
 pub mod PlaceLaws
 pub mod EndsLaws

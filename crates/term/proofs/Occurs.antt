@@ -8,19 +8,15 @@ use native.Mathlib.Omega.{arith}
 use lib.ListN.{length, length-append}
 use Rattle.cell.specs.Cell.{isVar}
 use Rattle.term.proofs.Tests.{bool-cases}
-use Rattle.term.specs.Terms.{Terms}
-use Rattle.term.proofs.TermsLaws.{one-cell}
+use Rattle.term.proofs.TermsLaws.{terms-long}
 use Rattle.term.specs.Unify.{inst, Subst}
-
-pub one-long : {xs : List ℕ} → Terms 1 xs → 1 ≤ length xs
-one-long t = let o = one-cell t in rw (o .2) (omega arith)
 
 -- every cell goes to at least one
 pub cell-long : {σ : ℕ → List ℕ} → Subst σ → (c : ℕ) → 1 ≤ length (σ c)
 cell-long {σ} s c = go (bool-cases (isVar c))
   where
     go : (isVar c ≡ true) ⊎ (isVar c ≡ false) → 1 ≤ length (σ c)
-    go (inl v) = one-long (s .vars c v)
+    go (inl v) = terms-long (s .vars c v)
     go (inr v) = rw (s .symbols c v) (omega arith)
 
 pub inst-long : {σ : ℕ → List ℕ} → Subst σ → (xs : List ℕ) → length xs ≤ length (inst σ xs)

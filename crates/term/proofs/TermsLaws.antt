@@ -1,9 +1,10 @@
 -- Lists of k terms: splitting, putting together, and that no list of k terms is the start of another.
-use Prim.Native.Nat.{ℕ, zero, suc, _+_}
+use Prim.Native.Nat.{ℕ, zero, suc, _+_, _≤_}
 use mathlib.Core.Path.{_≡_, refl, sym, _∙_, ap}
 use mathlib.Core.List.{List, [], _∷_, _++_}
 use native.Mathlib.Nat.{zero-add, suc-add, add-assoc}
 use native.Mathlib.Omega.{arith}
+use lib.ListN.{length}
 use Rattle.cell.specs.Cell.{arity}
 use Rattle.term.specs.Terms.{Terms, none, more, front, back}
 
@@ -65,6 +66,11 @@ one-cell (more {c} {k} {xs} t) = (c, xs, refl, t)
 
 pub zero-nil : {xs : List ℕ} → Terms 0 xs → xs ≡ []
 zero-nil none = refl
+
+-- a list of terms has at least as many cells
+pub terms-long : {k : ℕ} {xs : List ℕ} → Terms k xs → k ≤ length xs
+terms-long none = omega arith
+terms-long (more t) = omega (arith, terms-long t)
 
 -- the number of terms is the list's
 pub Terms-number : {j k : ℕ} {xs : List ℕ} → Terms j xs → Terms k xs → j ≡ k
