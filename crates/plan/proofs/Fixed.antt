@@ -9,6 +9,7 @@ use lib.Seq.{ext-getD}
 use mathlib.Core.List.{List, [], _++_}
 use lib.ListN.{length}
 use Rattle.plan.specs.Mask.{OpenRows, ClosedAt}
+use Rattle.plan.specs.States.{ClosedRows}
 use Rattle.table.specs.Refusal.{Refused, told, turned}
 use Rattle.table.specs.Table.{Table}
 use Rattle.table.proofs.RefusalLaws.{told-one}
@@ -26,6 +27,11 @@ use Rattle.plan.proofs.EntryLaws.{marks-say}
 -- mask::close_at: each of the two values is given
 pub closed-fixed : {i m : ℕ} {xs : List ℕ} {r s : Closed} → ClosedAt i m xs r → ClosedAt i m xs s → r ≡ s
 closed-fixed p q = ap₂ (λ (c n : ℕ). record { cell = c; mask = n }) (p .cell ∙ sym (q .cell)) (p .mask ∙ sym (q .mask))
+
+-- mask::close_rows: both lists that are left are given
+pub closed-rows-fixed : {t ss ms hs ms′ hs′ ms″ hs″ : List ℕ} {i first end : ℕ} → ClosedRows t ss ms hs ms′ hs′ i first end → ClosedRows t ss ms hs ms″ hs″ i first end
+    → (ms′ ≡ ms″) × (hs′ ≡ hs″)
+closed-rows-fixed p q = (p .masks ∙ sym (q .masks), p .column ∙ sym (q .column))
 
 -- mask::open_rows: each mask is given
 pub open-fixed : {ss : List ℕ} {n len : ℕ} {ms ns : List ℕ} → OpenRows ss n len ms → OpenRows ss n len ns → ms ≡ ns

@@ -1,16 +1,19 @@
 -- The rows of a state by their masks, their column, and their runs, as the check goes through them.
 use mathlib.Core.Path.{_≡_, refl, sym, ap, _∙_}
-use mathlib.Core.List.{List, [], _∷_}
-use Prim.Native.Nat.{ℕ, zero, suc, _+_, _-_, _≤_, _<_}
+use mathlib.Core.Logic.{by-cases}
+use mathlib.Core.List.{List, [], _∷_, map}
+use Prim.Native.Nat.{ℕ, zero, suc, _+_, _-_, _≤_, _<_, min}
 use native.Mathlib.Nat.{add-zero}
+use native.Mathlib.Decide.{decLt}
 use native.Mathlib.Omega.{arith}
-use lib.ListN.{length, getD, take, drop, set, length-set, length-drop}
-use lib.Seq.{take-nil, drop-cons, drop-drop, drop-set-lt, getD-set-same, getD-take, getD-drop, take-take, length-take-le}
+use lib.ListN.{length, getD, take, drop, set, length-set, length-drop, length-map}
+use lib.Seq.{take-nil, drop-cons, drop-drop, drop-set-lt, getD-set-same, getD-take, getD-drop, take-take, length-take-le, sets, length-sets}
 use Rattle.term.specs.Terms.{root, close}
+use Rattle.term.proofs.Lists.{set-sets, sets-found, getD-sets, drop-sets}
 use Rattle.plan.specs.Runs.{run, runs}
 use Rattle.plan.specs.Mask.{kept}
 use Rattle.plan.specs.Column.{runLength, runCount, runsOn}
-use Rattle.plan.specs.States.{rowAt, rowsFrom, rowsIn, columnIn, runsIn, Same, Closes}
+use Rattle.plan.specs.States.{rowAt, rowsFrom, rowsIn, columnIn, runsIn, maskAt, masksFrom, masksIn, ClosedRows, Same, Closes}
 use Rattle.plan.proofs.ColumnLaws.{run-few, group-on, first-run, count-runs}
 
 -- the first row, and the others
@@ -134,6 +137,85 @@ module _ (from : ℕ) where
   same-later {xs} {ys} to h a =
       let e : from + (to - from) ≡ to = omega arith in
       record { size = a .size; after = rw e at (sym (drop-drop (to - from) from ys) ∙ ap (drop (to - from)) (a .after) ∙ drop-drop (to - from) from xs) }
+
+-- The loop that closes a place of the rows, from the last to the first: no row is closed, one more before those that are, and all are.
+module _ (t ss ms hs : List ℕ) (i : ℕ) where
+  masks-first : (first end : ℕ) → first < end → masksIn t ss ms i first end ≡ maskAt t ss ms i first ∷ masksIn t ss ms i (first + 1) end
+  unfolding masksFrom
+  masks-first first end h = let e : end - first ≡ suc (end - (first + 1)) = omega arith in rw e
+
+  pub closed-none : (first end : ℕ) → end ≤ first → ClosedRows t ss ms hs ms hs i first end
+  unfolding rowsFrom masksFrom
+  closed-none first end h =
+      let e : end - first ≡ 0 = omega arith in
+      record { column = rw e; masks = rw e; lists = λ r a b. absurd (let z : ⊥ = omega arith in z) }
+
+  pub closed-one : (ns ks : List ℕ) (r row end x m : ℕ) → r + 1 ≡ row → row ≤ end → x ≡ root i (rowAt t ss ns r)
+      → m ≡ maskAt t ss ns i r → kept m (drop (getD ss r 0) t) ≡ close i (rowAt t ss ns r)
+      → ClosedRows t ss ms hs ns ks i row end → ClosedRows t ss ms hs (set ns r m) (set ks r x) i r end
+  closed-one ns ks r row end x m q h ex em here c =
+      let s : row ≡ suc r = omega arith in
+      let same : getD ns r 0 ≡ getD ms r 0 = rw (c .masks) (getD-sets ms (masksIn t ss ms i row end) r row (omega arith)) in
+      record {
+        column = ap (λ (k : List ℕ). set k r x) (c .column)
+            ∙ set-sets hs r row x (map (root i) (rowsIn t ss ms row end)) (omega arith)
+            ∙ rw (ex, same, rows-first t ss ms r end (omega arith), q, s);
+        masks = ap (λ (n : List ℕ). set n r m) (c .masks)
+            ∙ set-sets ms r row m (masksIn t ss ms i row end) (omega arith)
+            ∙ rw (em, same, masks-first r end (omega arith), q, s);
+        lists = at same;
+      }
+    where
+      at : getD ns r 0 ≡ getD ms r 0 → (s : ℕ) → r ≤ s → s < end → kept (maskAt t ss ms i s) (drop (getD ss s 0) t) ≡ close i (rowAt t ss ms s)
+      at same s a b =
+          by-cases (decLt r s)
+          (λ (l : r < s). c .lists s (omega arith) b)
+          (λ l. let z : s ≡ r = omega arith in rw (z, ← same, ← em) here)
+
+  pub closed-all : {ns ks : List ℕ} (first row end : ℕ) → row ≤ end → min first end ≤ row → row ≤ first → ClosedRows t ss ms hs ns ks i row end
+      → ClosedRows t ss ms hs ns ks i first end
+  unfolding rowsFrom masksFrom
+  closed-all first row end a b d c =
+      by-cases (decLt end first)
+      (λ (l : end < first). let e : end - first ≡ 0 = omega arith in let z : end - row ≡ 0 = omega arith in
+      record { column = rw e (rw z at (c .column)); masks = rw e (rw z at (c .masks)); lists = λ r x y. absurd (let z : ⊥ = omega arith in z) })
+      (λ l. let e : row ≡ first = omega arith in rw e at c)
+
+  -- what is used of it: the rows by the masks that are left are those of the definition
+  masks-length : (n r : ℕ) → length (masksFrom t ss ms i n r) ≡ n
+  unfolding masksFrom
+  masks-length zero r = refl
+  masks-length (suc n) r = ap suc (masks-length n (r + 1))
+
+  rows-closed : (n r : ℕ) → r + n ≤ length ms → ((s : ℕ) → r ≤ s → s < r + n → kept (maskAt t ss ms i s) (drop (getD ss s 0) t) ≡ close i (rowAt t ss ms s))
+      → rowsFrom t ss (sets ms r (masksFrom t ss ms i n r)) n r ≡ map (close i) (rowsFrom t ss ms n r)
+  unfolding rowsFrom masksFrom
+  rows-closed zero r h f = refl
+  rows-closed (suc n) r h f =
+      let m : ℕ = maskAt t ss ms i r in
+      let rest : List ℕ = masksFrom t ss ms i n (r + 1) in
+      let ns : List ℕ = sets ms (r + 1) rest in
+      let q : suc r ≡ r + 1 = omega arith in
+      let e : sets (set ms r m) (suc r) rest ≡ set ns r m = rw q (sym (set-sets ms r (r + 1) m rest (omega arith))) in
+      let here = getD-set-same ns r m 0 (omega (arith, length-sets ms (r + 1) rest)) in
+      let others = rows-kept t ss ns (set ns r m) n (r + 1) (drop-set-lt (r + 1) ns r m (omega arith)) in
+      rw (e, here, others, f r (omega arith) (omega arith), rows-closed n (r + 1) (omega arith) (λ s a b. f s (omega arith) (omega arith)))
+
+  pub closes : {ns ks : List ℕ} {first end : ℕ} → first ≤ end → end ≤ 64 → length ms ≡ 64 → length hs ≡ 64 → ClosedRows t ss ms hs ns ks i first (min end 64)
+      → Closes t ss ms hs ns ks i first end
+  closes {ns} {ks} {first} {end} h l j k d =
+      let e : min end 64 ≡ end = omega arith in
+      let c = rw e at d in
+      let xs : List ℕ = map (root i) (rowsIn t ss ms first end) in
+      let x : length xs ≡ end - first = length-map (rowsIn t ss ms first end) (root i) ∙ rows-length t ss ms (end - first) first in
+      let ys : List ℕ = masksIn t ss ms i first end in
+      let y : length ys ≡ end - first = masks-length (end - first) first in
+      record {
+        cells = rw (c .column) (sets-found hs xs first (end - first) (omega arith) (omega arith));
+        rows = rw (c .masks) (rows-closed (end - first) first (omega arith) (λ r a b. c .lists r a (omega arith)));
+        masks = record { size = rw (c .masks) (length-sets ms first ys); after = rw (c .masks) (drop-sets ms ys end first (omega arith)) };
+        column = record { size = rw (c .column) (length-sets hs first xs); after = rw (c .column) (drop-sets hs xs end first (omega arith)) };
+      }
 
 -- no row is closed, and one more before those that are
 module _ (t ss ms hs : List ℕ) (i : ℕ) where

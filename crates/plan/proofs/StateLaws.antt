@@ -2,7 +2,7 @@
 use mathlib.Core.Path.{_≡_, refl, sym, ap, _∙_}
 use mathlib.Core.Logic.{_≢_, by-cases}
 use mathlib.Core.List.{List, [], _∷_, _++_, map, append-assoc}
-use Prim.Native.Nat.{ℕ, zero, suc, _+_, _-_, _≤_, _<_, max}
+use Prim.Native.Nat.{ℕ, zero, suc, _+_, _-_, _≤_, _<_, min, max}
 use native.Mathlib.Decide.{decLt}
 use native.Mathlib.Omega.{arith}
 use lib.ListN.{length, getD, take, drop, set, length-set, length-append}
@@ -21,14 +21,14 @@ use Rattle.plan.specs.Plans.{Plan, leaf, node, Branches, end, next, writ
 use Rattle.plan.specs.Check.{Seen, bad, nodeFrom, stateFrom}
 use Rattle.plan.specs.Marks.{endsIn, endsOf, manyIn, manyOf}
 use Rattle.plan.specs.Column.{runCount}
-use Rattle.plan.specs.States.{rowsIn, columnIn, Same, Closes}
+use Rattle.plan.specs.States.{rowsIn, columnIn, ClosedRows, Same, Closes}
 use Rattle.plan.specs.Steps.{Fitting, Ready, ReadyIn, Stood, StoodIn, Notes, NotesIn, Done, DoneIn}
 use Rattle.plan.specs.declared.check.Step.{Step}
 use Rattle.plan.specs.declared.check.Step.the-variants as step
 use Rattle.plan.proofs.RunsLaws.{group-all}
 use Rattle.plan.proofs.CheckLaws.{leaf-ends, leaf-rows, leaf-read, node-ends, node-open, node-ends-2, node-edges, node-on, state-leaf, state-again}
 use Rattle.plan.proofs.MarksLaws.{ends-length, many-length}
-use Rattle.plan.proofs.RowsLaws.{rows-first, rows-length, run-number, runs-closed, same-self, same-then}
+use Rattle.plan.proofs.RowsLaws.{rows-first, rows-length, run-number, runs-closed, same-self, same-then, closes}
 
 -- a branch's mark is stored when the state below it is done, and the marks of the other branches after it
 marks-next : (l l₁ l₂ xs ys : List ℕ) (at n m : ℕ) → l₁ ≡ sets l (at + 1) xs → n ≡ at + 1 + length xs → l₂ ≡ sets (set l₁ at m) n ys → l₂ ≡ sets l at (m ∷ (xs ++ ys))
@@ -178,7 +178,10 @@ module _ {t ss ms hs p es ns : List ℕ} {first last k at : ℕ} (w : Ready t ss
   done-ends-2 l h i n q =
       refused-done (bad 11 (at + 1)) (as-node l ∙ node-ends-2 (stateFrom 32) (k - 1) rows p at h n (omega arith)) q (same-self last ms) (same-self last hs)
 
-  module _ {ms₁ hs₁ : List ℕ} (l : 0 < k) (h : at + 1 < length p) (i : getD p at 0 < k) (c : Closes t ss ms hs ms₁ hs₁ (getD p at 0) first last) where
+  module _ {ms₁ hs₁ : List ℕ} (l : 0 < k) (h : at + 1 < length p) (i : getD p at 0 < k) (done : ClosedRows t ss ms hs ms₁ hs₁ (getD p at 0) first (min last 64)) where
+    abbrev c : Closes t ss ms hs ms₁ hs₁ (getD p at 0) first last
+    c = closes t ss ms hs (getD p at 0) (w .room .some) (w .room .few) (w .room .masks) (w .room .column) done
+
     number : (n : ℕ) → n ≡ runCount (columnIn hs₁ first last) → n ≡ length (runs (getD p at 0) rows)
     number n e =
         let z : last ≤ length hs₁ = omega (arith, c .column .size, w .room .column, w .room .few) in

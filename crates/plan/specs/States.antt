@@ -3,9 +3,10 @@ use Prim.Native.Nat.{ℕ, zero, suc, _+_, _-_, _≤_, _<_}
 use mathlib.Core.Path.{_≡_}
 use mathlib.Core.List.{List, [], _∷_, map}
 use lib.ListN.{length, getD, take, drop}
+use lib.Seq.{sets}
 use Rattle.term.specs.Terms.{root, close}
 use Rattle.plan.specs.Runs.{Run}
-use Rattle.plan.specs.Mask.{kept}
+use Rattle.plan.specs.Mask.{kept, bitAt, without}
 use Rattle.plan.specs.Column.{runsOn}
 
 -- row r: the open cells of the row that starts where ss says, by its mask in ms
@@ -27,12 +28,30 @@ columnIn hs first end = take (end - first) (drop first hs)
 abbrev pub runsIn : (t ss ms hs : List ℕ) → ℕ → ℕ → List Run
 runsIn t ss ms hs first end = runsOn (columnIn hs first end) (rowsIn t ss ms first end)
 
+-- the mask of row r once its open place i is closed; of n rows from row r on; and of the rows from first to before end
+abbrev pub maskAt : (t ss ms : List ℕ) → ℕ → ℕ → ℕ
+maskAt t ss ms i r = without (getD ms r 0) (bitAt i (getD ms r 0) (drop (getD ss r 0) t))
+
+unfoldable pub masksFrom : (t ss ms : List ℕ) → ℕ → ℕ → ℕ → List ℕ
+masksFrom t ss ms i zero r = []
+masksFrom t ss ms i (suc n) r = maskAt t ss ms i r ∷ masksFrom t ss ms i n (r + 1)
+
+abbrev pub masksIn : (t ss ms : List ℕ) → ℕ → ℕ → ℕ → List ℕ
+masksIn t ss ms i first end = masksFrom t ss ms i (end - first) first
+
+-- place i of the rows from first to before end is closed: the cell that each has there is in the column hs, and its bit out of its mask in ms; and so the
+-- list that the mask stands for is the definition's. All else in both lists is as it was
+pub record ClosedRows (t ss ms hs ms′ hs′ : List ℕ) (i first end : ℕ) : Type 0 where
+  pub column : hs′ ≡ sets hs first (map (root i) (rowsIn t ss ms first end))
+  pub masks : ms′ ≡ sets ms first (masksIn t ss ms i first end)
+  pub lists : (r : ℕ) → first ≤ r → r < end → kept (maskAt t ss ms i r) (drop (getD ss r 0) t) ≡ close i (rowAt t ss ms r)
+
 -- a list that has become another of its length, from a place on the same
 pub record Same (from : ℕ) (xs xs′ : List ℕ) : Type 0 where
   pub size : length xs′ ≡ length xs
   pub after : drop from xs′ ≡ drop from xs
 
--- what closing place i of some rows makes of the masks ms and of the column hs
+-- what the check and the builder use of it: the rows before first do not count any more
 pub record Closes (t ss ms hs ms′ hs′ : List ℕ) (i first end : ℕ) : Type 0 where
   pub cells : columnIn hs′ first end ≡ map (root i) (rowsIn t ss ms first end)
   pub rows : rowsIn t ss ms′ first end ≡ map (close i) (rowsIn t ss ms first end)

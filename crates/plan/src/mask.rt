@@ -1,8 +1,9 @@
 // A row's state as a mask of its open cells: bit j is set while cell j of the row is not yet looked at. A row has at most 32 cells.
 ghost use mathlib.Core.Path.{_≡_};
-ghost use Prim.Native.Nat.{_-_};
+ghost use Prim.Native.Nat.{_-_, min};
 ghost use lib.ListN.{drop};
 ghost use Rattle.plan.specs.Mask.{bitAt, full, OpenRows, ClosedAt};
+ghost use Rattle.plan.specs.States.{ClosedRows};
 
 // The mask of a row of n cells, all of them open.
 pub fn row_mask(n: usize) -> u32
@@ -85,4 +86,29 @@ pub fn close_at(cells: &[u32], start: usize, mask: u32, i: u32) -> Closed
         };
     }
     Closed { cell: 0, mask }
+}
+
+// Closes place i of the rows from first to before end, of 64 at most: the cell that each has there goes into the column, and its bit out of its mask.
+// Where end is not after first there is no such row, and nothing changes.
+pub fn close_rows(
+    cells: &[u32],
+    starts: &[usize; 64],
+    masks: &mut [u32; 64],
+    column: &mut [u32; 64],
+    i: u32,
+    first: usize,
+    end: usize,
+)
+    ensures { λ r. ⌜ ClosedRows (now (cells .entry)) (now (starts .entry)) (now (masks .entry)) (now (column .entry)) (now (masks .exit)) (now (column .exit)) i first (min end 64) ⌝ }
+{
+    let mut row = 64;
+    if end < 64 {
+        row = end;
+    }
+    while first < row {
+        row -= 1;
+        let closed = close_at(cells, starts[row], masks[row], i);
+        column[row] = closed.cell;
+        masks[row] = closed.mask;
+    }
 }

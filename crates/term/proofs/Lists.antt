@@ -1,16 +1,35 @@
 -- Lists with several elements stored one after another (`sets`, of the library), and lists of one element repeated.
 use Prim.Native.Nat.{ℕ, zero, suc, _+_, _-_, _≤_, _<_}
-use mathlib.Core.Path.{_≡_, refl, ap, _∙_}
-use mathlib.Core.List.{List, [], _∷_, _++_}
+use mathlib.Core.Path.{_≡_, refl, sym, ap, _∙_}
+use mathlib.Core.List.{List, [], _∷_, _++_, append-assoc}
 use native.Mathlib.Nat.{add-zero, zero-add}
 use native.Mathlib.Omega.{arith}
-use lib.ListN.{length, set, drop, replicate, length-replicate}
-use lib.Seq.{sets, sets-eq, set-comm}
+use lib.ListN.{length, getD, set, take, drop, replicate, length-replicate}
+use lib.Seq.{sets, sets-eq, set-comm, length-take-le, take-at, drop-at, take-set-le, drop-set-lt, getD-set-other}
 
 -- what is stored twice in a row is stored at once
 pub sets-sets : (l : List ℕ) (i : ℕ) (xs ys : List ℕ) → sets (sets l i xs) (i + length xs) ys ≡ sets l i (xs ++ ys)
 sets-sets l i [] ys = rw add-zero
 sets-sets l i (x ∷ xs) ys = let e : i + suc (length xs) ≡ suc i + length xs = omega arith in rw e (sets-sets (set l i x) (suc i) xs ys)
+
+-- they are found where they were stored, and nothing before or after them is changed
+pub sets-found : (l xs : List ℕ) (i n : ℕ) → i + length xs ≤ length l → n ≡ length xs → take n (drop i (sets l i xs)) ≡ xs
+sets-found l xs i n b e =
+    let p : length (take i l) ≡ i = length-take-le i l (omega arith) in
+    rw (sets-eq xs l i b, append-assoc (take i l) xs (drop (i + length xs) l), drop-at (take i l) (xs ++ drop (i + length xs) l) i p)
+    (take-at xs (drop (i + length xs) l) n (sym e))
+
+pub take-sets : (l xs : List ℕ) (n i : ℕ) → n ≤ i → take n (sets l i xs) ≡ take n l
+take-sets l [] n i h = refl
+take-sets l (x ∷ xs) n i h = take-sets (set l i x) xs n (suc i) (omega arith) ∙ take-set-le n l i x h
+
+pub getD-sets : (l xs : List ℕ) (j i : ℕ) → j < i → getD (sets l i xs) j 0 ≡ getD l j 0
+getD-sets l [] j i h = refl
+getD-sets l (x ∷ xs) j i h = getD-sets (set l i x) xs j (suc i) (omega arith) ∙ getD-set-other l i j x 0 (λ e. omega arith)
+
+pub drop-sets : (l xs : List ℕ) (n i : ℕ) → i + length xs ≤ n → drop n (sets l i xs) ≡ drop n l
+drop-sets l [] n i h = refl
+drop-sets l (x ∷ xs) n i h = drop-sets (set l i x) xs n (suc i) (omega arith) ∙ drop-set-lt n l i x (omega arith)
 
 -- one store before others
 pub set-sets : (l : List ℕ) (i j x : ℕ) (ys : List ℕ) → i < j → set (sets l j ys) i x ≡ sets (set l i x) j ys

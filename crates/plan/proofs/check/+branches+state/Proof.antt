@@ -16,7 +16,7 @@ use Rattle.plan.proofs.check.state.Reads as state
 use Rattle.plan.proofs.check.state.Kinds as state-kinds
 use Rattle.plan.proofs.check.+branches+state.Lts-state as state-lts
 use Rattle.cell.proofs.arity_of.Reads as arity-of-reads
-use Rattle.plan.proofs.check.close_rows.Reads as close-rows-reads
+use Rattle.plan.proofs.mask.close_rows.Reads as close-rows-reads
 use Rattle.plan.proofs.check.mark.Reads as mark-reads
 use Rattle.plan.proofs.check.refusal.Reads as refusal-reads
 use Rattle.plan.proofs.column.run_count.Reads as run-count-reads
