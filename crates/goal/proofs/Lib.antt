@@ -1,5 +1,4 @@
 pub mod Shared
 pub mod Apart
 pub mod Made
-pub mod ReadLaws
 pub mod Fixed

@@ -1,6 +1,7 @@
 pub mod RunsLaws
 pub mod PlansLaws
 pub mod SizeLaws
+pub mod ReadingLaws
 pub mod CheckLaws
 pub mod MarksLaws
 pub mod Examples

@@ -20,7 +20,7 @@ use Rattle.plan.specs.States.{rowsIn, columnIn, runsIn, Same}
 use Rattle.plan.specs.Steps.{saidBy, Ready, ReadyIn, Stood, StoodIn, Done, DoneIn}
 use Rattle.plan.specs.declared.check.Step.{Step}
 use Rattle.plan.specs.declared.check.Step.the-variants as step
-use Rattle.plan.proofs.CheckLaws.{after, after-none, after-after, branches-ends, branches-label, branches-refused, branches-on}
+use Rattle.plan.proofs.ReadingLaws.{after, after-none, after-after, branches-ends, branches-label, branches-refused, branches-on}
 use Rattle.plan.proofs.RowsLaws.{rows-length, rows-kept, FirstRun, run-first, same-self, same-then, same-later}
 use Rattle.plan.proofs.StateLaws.{next-stood, more-cells, longest, longest-take, longest-drop}
 

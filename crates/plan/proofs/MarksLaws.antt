@@ -1,16 +1,12 @@
 -- The marks of a plan, at any place of a list that holds them: at each branch's cell the place after the branch, and its number of rows.
-use mathlib.Core.Path.{_≡_, refl, sym, ap, _∙_, pathJ}
-use mathlib.Core.Bool.{Bool, true, false}
-use mathlib.Core.List.{List, [], _∷_, _++_}
-use Prim.Native.Nat.{ℕ, zero, suc, _+_, _-_, _≤_, _<_}
+use mathlib.Core.Path.{_≡_, refl, ap, _∙_}
+use mathlib.Core.List.{List, _∷_, _++_}
+use Prim.Native.Nat.{ℕ, suc, _+_, _<_}
 use native.Mathlib.Omega.{arith}
-use lib.Dec.{ltb}
-use borrow.Author.Tests.{ltb-true, ltb-false}
-use lib.ListN.{length, getD, length-append, List·getD-append, replicate, length-replicate, getD-replicate}
-use lib.Seq.{getD-append-add, ext-getD}
-use Rattle.cell.specs.Cell.{arity}
-use Rattle.plan.specs.Runs.{Run, runs}
-use Rattle.plan.specs.Plans.{Plan, leaf, node, Branches, end, next, write, writes, branches, branchesIn}
+use lib.ListN.{length, getD, length-append, List·getD-append}
+use lib.Seq.{getD-append-add}
+use Rattle.plan.specs.Runs.{Run}
+use Rattle.plan.specs.Plans.{Plan, leaf, node, Branches, end, next, write, writes}
 use Rattle.plan.specs.Marks.{endsIn, endsOf, manyIn, manyOf}
 use Rattle.plan.specs.Checked.{padded}
 
@@ -38,42 +34,6 @@ mutual
   manyOf-length end = refl
   manyOf-length (next b bs) = simp length-append (omega (arith, many-length b, manyOf-length bs))
 
--- A plan by its cells and marks, as the check meets it: of a leaf, of an inner state with b + 1 open places, and of the first of some branches.
-pub leaf-marks : {k : ℕ} {rows : List (List ℕ)} (t : Plan k rows) → k ≡ 0
-    → (write t ≡ length rows ∷ []) × (branches t ≡ 0) × ((p : ℕ) → endsIn t p ≡ 0 ∷ []) × (manyIn t ≡ 0 ∷ [])
-unfolding write branches endsIn manyIn
-leaf-marks leaf e = (refl, refl, (λ p. refl), refl)
-leaf-marks (node i h bs) e = absurd (omega arith)
-
-pub record Inner (b : ℕ) {k : ℕ} {rows : List (List ℕ)} (t : Plan k rows) : Type 0 where
-  pub place : ℕ
-  pub inside : place ≤ b
-  pub below : Branches b (runs place rows)
-  pub cells : write t ≡ place ∷ length (runs place rows) ∷ writes below
-  pub count : branches t ≡ branchesIn below
-  pub ends : (p : ℕ) → endsIn t p ≡ 0 ∷ 0 ∷ endsOf below (p + 2)
-  pub many : manyIn t ≡ 0 ∷ 0 ∷ manyOf below
-
-pub node-marks : {k : ℕ} {rows : List (List ℕ)} (t : Plan k rows) (b : ℕ) → k ≡ suc b → Inner b t
-unfolding write branches endsIn manyIn
-node-marks leaf b e = absurd (omega arith)
-node-marks (node {k} {rows} i h bs) b e =
-    let t : Plan (suc k) rows = node i h bs in
-    let q : k ≡ b = omega arith in
-    pathJ (λ (b : ℕ) (_ : k ≡ b). Inner b t) (record { place = i; inside = h; below = bs; cells = refl; count = refl; ends = λ p. refl; many = refl }) q
-
-pub record First {k : ℕ} {g : Run} {gs : List Run} (bs : Branches k (g ∷ gs)) : Type 0 where
-  pub plan : Plan (arity (g .cell) + k) (g .rows)
-  pub others : Branches k gs
-  pub cells : writes bs ≡ g .cell ∷ (write plan ++ writes others)
-  pub count : branchesIn bs ≡ suc (branches plan + branchesIn others)
-  pub ends : (p : ℕ) → endsOf bs p ≡ (p + 1 + length (write plan)) ∷ (endsIn plan (p + 1) ++ endsOf others (p + 1 + length (write plan)))
-  pub many : manyOf bs ≡ length (g .rows) ∷ (manyIn plan ++ manyOf others)
-
-pub next-marks : {k : ℕ} {g : Run} {gs : List Run} (bs : Branches k (g ∷ gs)) → First bs
-unfolding write branches endsIn manyIn
-next-marks (next b bs) = record { plan = b; others = bs; cells = refl; count = refl; ends = λ p. refl; many = refl }
-
 -- a list that has another from a place on, whatever stands before and after it
 pub record Holds (xs : List ℕ) (p : ℕ) (ys : List ℕ) : Type 0 where
   pub at : (j : ℕ) → j < length ys → getD xs (p + j) 0 ≡ getD ys j 0
@@ -94,44 +54,8 @@ module _ (xs : List ℕ) (p : ℕ) where
         rw e (h .at (length ys + j) (simp length-append (omega arith)) ∙ getD-append-add ys zs j 0);
   }
 
-  pub holds-cons : (y : ℕ) (ys : List ℕ) → getD xs p 0 ≡ y → Holds xs (p + 1) ys → Holds xs p (y ∷ ys)
-  holds-cons y ys e h = record { at = go }
-    where
-      go : (j : ℕ) → j < length (y ∷ ys) → getD xs (p + j) 0 ≡ getD (y ∷ ys) j 0
-      go zero l = let z : p + 0 ≡ p = omega arith in rw z e
-      go (suc j) l = let z : p + suc j ≡ p + 1 + j = omega arith in rw z (h .at j (omega arith))
-
-  pub holds-append : (ys zs : List ℕ) → Holds xs p ys → Holds xs (p + length ys) zs → Holds xs p (ys ++ zs)
-  holds-append ys zs h k = record { at = λ j l. go j l (ltb j (length ys)) refl }
-    where
-      go : (j : ℕ) → j < length (ys ++ zs) → (b : Bool) → ltb j (length ys) ≡ b → getD xs (p + j) 0 ≡ getD (ys ++ zs) j 0
-      go j l true e = let m = ltb-true j (length ys) e in h .at j m ∙ sym (List·getD-append ys zs 0 j m)
-      go j l false e =
-          let m = ltb-false j (length ys) e in
-          let z : p + j ≡ p + length ys + (j - length ys) = omega arith in
-          let y : length ys + (j - length ys) ≡ j = omega arith in
-          let u = k .at (j - length ys) (omega (arith, length-append ys zs)) in
-          let v = rw y at (getD-append-add ys zs (j - length ys) 0) in
-          rw z (u ∙ sym v)
-
-  -- a list that is the same there holds it too
-  pub holds-kept : (xs′ ys : List ℕ) → ((j : ℕ) → p ≤ j → j < p + length ys → getD xs′ j 0 ≡ getD xs j 0) → Holds xs p ys → Holds xs′ p ys
-  holds-kept xs′ ys e h = record { at = λ j l. e (p + j) (omega arith) (omega arith) ∙ h .at j l }
-
 pub holds-front : (ys zs : List ℕ) → Holds (ys ++ zs) 0 ys
 holds-front ys zs = record { at = λ j h. let e : 0 + j ≡ j = omega arith in rw e (List·getD-append ys zs 0 j h) }
-
--- a list of n numbers that holds some from 0 on, and 0 after them
-pub holds-padded : (n : ℕ) (xs ys : List ℕ) → length xs ≡ n → length ys ≤ n → Holds xs 0 ys → ((j : ℕ) → length ys ≤ j → getD xs j 0 ≡ 0) → xs ≡ padded n ys
-holds-padded n xs ys e l h z =
-    let len : length (padded n ys) ≡ n = simp (length-append, length-replicate) (omega arith) in
-    let all = holds-append xs 0 ys (replicate (n - length ys) 0) h after in
-    ext-getD 0 xs (padded n ys) (e ∙ sym len) (λ j m. let q : 0 + j ≡ j = omega arith in rw q at (all .at j (omega arith)))
-  where
-    after : Holds xs (0 + length ys) (replicate (n - length ys) 0)
-    after = record {
-      at = λ j m. z (0 + length ys + j) (omega arith) ∙ sym (getD-replicate (n - length ys) j 0 0 (omega (arith, length-replicate {A = ℕ} (n - length ys) 0)));
-    }
 
 -- What a run takes for granted of a plan's marks, the plan's first cell being at p: at each branch's cell stands in es the place after the branch,
 -- and in ms its number of rows.

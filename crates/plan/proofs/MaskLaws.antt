@@ -15,6 +15,7 @@ use lib.Count.{trailingZeros, under}
 use borrow.Author.Tests.{eq-eqb, ne-eqb, lt-ltb, le-ltb}
 use Rattle.cell.specs.Cell.{arity}
 use Rattle.term.specs.Terms.{root, close}
+use Rattle.term.proofs.Lists.{getD-zeros}
 use Rattle.plan.specs.Mask.{odd, kept, bitFrom, bitAt, without, full, endAt, OpenRows, ClosedAt}
 use Rattle.plan.specs.declared.mask.Closed.{Closed}
 
@@ -44,7 +45,7 @@ unfolding kept
 kept-nil m = refl
 
 -- The bit of an open place, j being the first cell's: there is no such place; or it is cell d, and the mask without bit d is the list with the place closed.
-pub data Found (i m : ℕ) (xs : List ℕ) (j : ℕ) : ℕ → Type 0 where
+data Found (i m : ℕ) (xs : List ℕ) (j : ℕ) : ℕ → Type 0 where
   nowhere : root i (kept m xs) ≡ 0 → close i (kept m xs) ≡ kept m xs → Found i m xs j 32
   there : (d : ℕ) → d < length xs → 2 ^ d ≤ m → root i (kept m xs) ≡ getD xs d 0 → close i (kept m xs) ≡ kept (m - 2 ^ d) xs → Found i m xs j (j + d)
 
@@ -80,7 +81,7 @@ module _ (m c : ℕ) (xs : List ℕ) (j : ℕ) where
       (rw (kept-set m c xs h, kept-set (m - 2 ^ suc d) c xs e, f) (ap (λ (ys : List ℕ). c ∷ ys) l)) in
       rw q at g
 
-pub find : (i m : ℕ) (xs : List ℕ) (j : ℕ) → Found i m xs j (bitFrom j i m xs)
+find : (i m : ℕ) (xs : List ℕ) (j : ℕ) → Found i m xs j (bitFrom j i m xs)
 unfolding bitFrom kept root close
 find i m [] j = nowhere refl refl
 find zero m (c ∷ xs) j =
@@ -92,7 +93,7 @@ find (suc i) m (c ∷ xs) j =
     (parity m)
 
 -- a bit of a mask is below 32
-pub bit-small : (d m : ℕ) → m < 2 ^ 32 → 2 ^ d ≤ m → d < 32
+bit-small : (d m : ℕ) → m < 2 ^ 32 → 2 ^ d ≤ m → d < 32
 bit-small d m h l = by-cases (decLt d 32) (λ w. w) (λ w. absurd (let w′ : 32 ≤ d = omega arith in let q = pow-mono w′ in omega arith))
 
 -- What is found at a bit, and where there is none.
@@ -117,7 +118,7 @@ module _ (i m : ℕ) (xs : List ℕ) where
       go (there d t p r l) q = absurd (omega (arith, bit-small d m s p))
 
   -- The one lemma that links: the mask without the bit of an open place is the list with the place closed.
-  pub kept-without : m < 2 ^ 32 → kept (without m (bitAt i m xs)) xs ≡ close i (kept m xs)
+  kept-without : m < 2 ^ 32 → kept (without m (bitAt i m xs)) xs ≡ close i (kept m xs)
   kept-without h = go (find i m xs 0)
     where
       go : {b : ℕ} → Found i m xs 0 b → kept (without m b) xs ≡ close i (kept m xs)
@@ -254,13 +255,8 @@ module _ (ss : List ℕ) (n len : ℕ) where
     few = omega arith;
     here = rw (le-ltb row n (omega arith));
     rows = λ r h l. absurd (omega arith);
-    others = λ r h. zero-at 64 r;
+    others = λ r h. getD-zeros 64 r;
   }
-    where
-      zero-at : (m r : ℕ) → _≡_ {A = ℕ} (getD (replicate m 0) r 0) 0
-      zero-at zero r = refl
-      zero-at (suc m) zero = refl
-      zero-at (suc m) (suc r) = zero-at m r
 
   pub opening-one : (ms : List ℕ) (row end r m : ℕ) → r + 1 ≡ row → n ≤ 64 → m ≡ full (end - getD ss r 0) → Opening ss n len ms row end
       → Opening ss n len (set ms r m) r (getD ss r 0)

@@ -1,15 +1,15 @@
--- Plans: what is written determines the plan and where it ends. So all that is defined by a plan, its branches, its cost by any measure, its leaves and
--- its marks, is determined by the cells; and 01's cost is the number of branches.
+-- Plans: what is written determines the plan and where it ends. So all that is defined by a plan, as its branches and its marks, is determined by the cells;
+-- and 01's cost is the number of branches.
 use mathlib.Core.Path.{_≡_, refl, ap, ap₂, pathJ}
 use mathlib.Core.Bool.{Bool, true, false, cond}
 use mathlib.Core.List.{List, [], _++_, append-assoc}
-use Prim.Native.Nat.{ℕ, suc, _+_, _≤_, _<_}
+use Prim.Native.Nat.{ℕ, suc, _≤_, _<_}
 use native.Mathlib.Bridge.{le-prop}
 use native.Mathlib.Omega.{arith}
 use lib.ListN.{length}
 use lib.Dec.{leb}
 use Rattle.plan.specs.Runs.{Run, runs}
-use Rattle.plan.specs.Plans.{Plan, leaf, node, Branches, end, next, write, writes, branches, branchesIn, leaves, Measure, plain, cost, costs}
+use Rattle.plan.specs.Plans.{Plan, leaf, node, Branches, end, next, write, writes, branches, branchesIn, plain, cost, costs}
 
 -- a plan has a cell
 pub write-some : {k : ℕ} {rows : List (List ℕ)} (p : Plan k rows) → 0 < length (write p)
@@ -64,14 +64,6 @@ plan-tells f {k} {k′} {rows} {rows′} ek er p =
     (λ q xs ys w. let d = plan-one p q xs ys w in (ap (f k rows) (d .0), d .1))
     er)
     ek
-
--- its branches, its leaves, its cost by every measure, and where it ends
-pub det : {k k′ : ℕ} {rows rows′ : List (List ℕ)} → k ≡ k′ → rows ≡ rows′ → (p : Plan k rows) (q : Plan k′ rows′) (xs ys : List ℕ)
-    → write p ++ xs ≡ write q ++ ys → (branches p ≡ branches q) × (leaves p ≡ leaves q) × ((m : Measure) → cost m p ≡ cost m q) × (xs ≡ ys)
-det ek er p q xs ys w =
-    let b = plan-tells (λ k rows p. branches p) ek er p q xs ys w in
-    let l = plan-tells (λ k rows p. leaves p) ek er p q xs ys w in
-    (b .0, l .0, (λ m. plan-tells (λ k rows p. cost m p) ek er p q xs ys w .0), b .1)
 
 -- 01, "A plan's cost is its number of branches"
 choice-plain : (b : Bool) → _≡_ {A = ℕ} (cond b 0 0) 0

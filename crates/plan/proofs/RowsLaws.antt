@@ -7,9 +7,9 @@ use native.Mathlib.Nat.{add-zero}
 use native.Mathlib.Decide.{decLt}
 use native.Mathlib.Omega.{arith}
 use lib.ListN.{length, getD, take, drop, set, length-set, length-drop, length-map}
-use lib.Seq.{take-nil, drop-cons, drop-drop, drop-set-lt, getD-set-same, getD-take, getD-drop, take-take, length-take-le, sets, length-sets}
+use lib.Seq.{drop-cons, drop-drop, drop-set-lt, getD-set-same, getD-take, getD-drop, take-take, length-take-le, sets, length-sets}
 use Rattle.term.specs.Terms.{root, close}
-use Rattle.term.proofs.Lists.{set-sets, sets-found, getD-sets, drop-sets}
+use Rattle.term.proofs.Lists.{set-sets, sets-found, getD-sets, drop-sets, slice-take}
 use Rattle.plan.specs.Runs.{run, runs}
 use Rattle.plan.specs.Mask.{kept}
 use Rattle.plan.specs.Column.{runLength, runCount, runsOn}
@@ -66,15 +66,10 @@ column-first hs first end h l =
     let d : first + 1 ≡ suc first = omega arith in
     rw (e, d, drop-cons hs first 0 (omega arith))
 
-drop-take : (n m : ℕ) (l : List ℕ) → drop n (take (n + m) l) ≡ take m (drop n l)
-drop-take zero m l = let e : 0 + m ≡ m = omega arith in rw e
-drop-take (suc n) m [] = let e : suc n + m ≡ suc (n + m) = omega arith in rw e (sym (take-nil m))
-drop-take (suc n) m (x ∷ l) = let e : suc n + m ≡ suc (n + m) = omega arith in rw e (drop-take n m l)
-
 column-drop : (hs : List ℕ) (first end n : ℕ) → first + n ≤ end → drop n (columnIn hs first end) ≡ columnIn hs (first + n) end
 column-drop hs first end n h =
     let e : end - first ≡ n + (end - (first + n)) = omega arith in
-    rw e (drop-take n (end - (first + n)) (drop first hs) ∙ ap (take (end - (first + n))) (drop-drop n first hs))
+    rw e (slice-take n (end - (first + n)) (drop first hs) ∙ ap (take (end - (first + n))) (drop-drop n first hs))
 
 pub column-length : (hs : List ℕ) (first end : ℕ) → end ≤ length hs → length (columnIn hs first end) ≡ end - first
 column-length hs first end h = length-take-le (end - first) (drop first hs) (omega (arith, length-drop first hs))

@@ -34,7 +34,7 @@ agree-fixed c d h = go (eqb c d) (isVar c) h
     go true false e = refl
     go false v e = let z : _≡_ {A = ℕ} 0 1 = cc in absurd (omega arith)
 
-pub agree-refl : (c : ℕ) → isVar c ≡ false → agree c c ≡ true
+agree-refl : (c : ℕ) → isVar c ≡ false → agree c c ≡ true
 unfolding agree
 agree-refl c v = rw (eqb-same c, v)
 
@@ -130,21 +130,6 @@ module _ (cell : List ℕ → ℕ) (left : List ℕ → List ℕ) where
   pub group-rows : (rows : List (List ℕ)) → rowsIn (group cell left rows) ≡ length rows
   group-rows [] = refl
   group-rows (r ∷ rs) = join-rows (cell r) (left r) (group cell left rs) ∙ ap suc (group-rows rs)
-
-  -- one row more is one run more, where it does not agree with the row after it
-  pub group-agrees : (r x : List ℕ) (rs : List (List ℕ)) → agree (cell r) (cell x) ≡ true
-      → length (group cell left (r ∷ x ∷ rs)) ≡ length (group cell left (x ∷ rs))
-  group-agrees r x rs e =
-      let j = join-head (cell x) (left x) (group cell left rs) in
-      let n : agree (cell r) (j .0 .cell) ≡ true = rw (j .3) e in
-      rw (j .2, n)
-
-  pub group-differs : (r x : List ℕ) (rs : List (List ℕ)) → agree (cell r) (cell x) ≡ false
-      → length (group cell left (r ∷ x ∷ rs)) ≡ length (group cell left (x ∷ rs)) + 1
-  group-differs r x rs e =
-      let j = join-head (cell x) (left x) (group cell left rs) in
-      let n : agree (cell r) (j .0 .cell) ≡ false = rw (j .3) e in
-      rw (j .2, n) (omega arith)
 
   -- a run of c goes no further than these rows: there are none, or the first does not agree with c
   abbrev pub Stops : ℕ → List (List ℕ) → Type 0

@@ -26,7 +26,7 @@ use Rattle.plan.specs.Steps.{Fitting, Ready, ReadyIn, Stood, StoodIn, No
 use Rattle.plan.specs.declared.check.Step.{Step}
 use Rattle.plan.specs.declared.check.Step.the-variants as step
 use Rattle.plan.proofs.RunsLaws.{group-all}
-use Rattle.plan.proofs.CheckLaws.{leaf-ends, leaf-rows, leaf-read, node-ends, node-open, node-ends-2, node-edges, node-on, state-leaf, state-again}
+use Rattle.plan.proofs.ReadingLaws.{leaf-ends, leaf-rows, leaf-read, node-ends, node-open, node-ends-2, node-edges, node-on, state-leaf, state-again}
 use Rattle.plan.proofs.MarksLaws.{ends-length, many-length}
 use Rattle.plan.proofs.RowsLaws.{rows-first, rows-length, run-number, runs-closed, same-self, same-then, closes}
 
@@ -127,7 +127,7 @@ longest-close i k h (r ∷ []) f l = omega (arith, close-length i (f .0 .0) h)
 longest-close i k h (r ∷ s ∷ rows) f l = omega (arith, close-length i (f .0 .0) h, longest-close i k h (s ∷ rows) (f .1) (omega arith))
 
 -- A state that is turned away, whatever its masks, column and marks have become.
-pub refused-done : {t ss ms hs ms′ hs′ p es ns es′ ns′ : List ℕ} {first last k at : ℕ} {f : Refusal} (x : Refused)
+refused-done : {t ss ms hs ms′ hs′ p es ns es′ ns′ : List ℕ} {first last k at : ℕ} {f : Refusal} (x : Refused)
     → stateFrom 32 k (rowsIn t ss ms first last) at (drop at p) ≡ refuse x → told f ≡ x → Same last ms ms′ → Same last hs hs′
     → Done t ss ms hs ms′ hs′ p es ns es′ ns′ first last k at (step.Refused f)
 refused-done x e q a b = record { says = e ∙ rw q; notes = tt; masks = a; column = b }

@@ -20,6 +20,7 @@ pub record Seen : Type 0 where
 abbrev pub seen : ℕ → ℕ → List ℕ → Seen
 seen b p xs = record { branches = b; next = p; rest = xs }
 
+-- a refusal of the plan
 abbrev pub bad : ℕ → ℕ → Refused
 bad n p = refused n 2 p
 

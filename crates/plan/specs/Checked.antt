@@ -13,6 +13,7 @@ use Rattle.plan.specs.declared.PlanAnswer.{PlanAnswer}
 use Rattle.plan.specs.declared.PlanAnswer.the-variants as plan-answer
 use Rattle.plan.specs.declared.Marked.{Marked}
 
+-- the check has one value: the plan's number of branches. The second is 0
 abbrev pub planSays : Read ℕ → Answer
 planSays (read n) = answered n 0
 planSays (refuse f) = turned f

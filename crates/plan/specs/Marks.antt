@@ -1,6 +1,6 @@
 -- What the check notes of a plan for the run (01, "A run": "it tests the goal only at the branches it counts"): at each branch's cell where what stands
 -- below that branch ends, and how many rows it has, so that a branch whose test fails is left at once. At every other cell stands 0.
-use Prim.Native.Nat.{ℕ, suc, _+_}
+use Prim.Native.Nat.{ℕ, _+_}
 use mathlib.Core.List.{List, [], _∷_, _++_}
 use lib.ListN.{length}
 use Rattle.plan.specs.Runs.{Run}

@@ -1,4 +1,5 @@
 -- A row's state as the code keeps it: a mask of its open cells. Bit j is set while cell j of the row is not yet looked at; a row has at most 32 cells.
+-- That a mask with a bit taken out is the row with the place closed is `kept-without` of proofs/MaskLaws.
 use Prim.Native.Nat.{ℕ, zero, suc, _+_, _-_, _/_, _%_, _^_, _≤_, _<_, min}
 use mathlib.Core.Bool.{Bool, cond}
 use mathlib.Core.List.{List, [], _∷_}

@@ -1,4 +1,4 @@
--- How the check holds a state: its rows by the masks of their open cells, their cells at the chosen place as a column.
+-- How the code holds a state: its rows by the masks of their open cells, their cells at the chosen place as a column.
 use Prim.Native.Nat.{ℕ, zero, suc, _+_, _-_, _≤_, _<_}
 use mathlib.Core.Path.{_≡_}
 use mathlib.Core.List.{List, [], _∷_, map}

@@ -1,4 +1,5 @@
--- What the check of a state is given, and what it answers: the reading of the definition, and for the run the marks of the plan that stands there.
+-- The code's own steps: what the check of a state is given, and what it answers, which is the reading of the definition, and for the run the marks of the plan
+-- that stands there.
 use Prim.Native.Nat.{ℕ, _+_, _≤_, _<_}
 use mathlib.Core.Path.{_≡_}
 use mathlib.Core.List.{List, _++_}
@@ -67,6 +68,7 @@ pub record StoodIn (k : ℕ) (gs : List Run) (p es ns es′ ns′ : List ℕ) (a
   pub ends : es′ ≡ sets es at (endsOf trees at)
   pub many : ns′ ≡ sets ns at (manyOf trees)
 
+-- what is noted where the code answers so: nothing where it refuses
 abbrev pub Notes : (k : ℕ) (rows : List (List ℕ)) (p es ns es′ ns′ : List ℕ) (at : ℕ) → Step → Type 0
 Notes k rows p es ns es′ ns′ at (step.Seen b next) = Stood k rows p es ns es′ ns′ at b next
 Notes k rows p es ns es′ ns′ at (step.Refused f) = Unit {0}
@@ -75,7 +77,7 @@ abbrev pub NotesIn : (k : ℕ) (gs : List Run) (p es ns es′ ns′ : List ℕ) 
 NotesIn k gs p es ns es′ ns′ at (step.Seen b next) = StoodIn k gs p es ns es′ ns′ at b next
 NotesIn k gs p es ns es′ ns′ at (step.Refused f) = Unit {0}
 
--- a state is done: its reading, its marks; masks and column of the rows after it are as they were
+-- a state is done, and some branches are: their reading, their marks; masks and column of the rows after them are as they were
 pub record Done (t ss ms hs ms′ hs′ p es ns es′ ns′ : List ℕ) (first end k at : ℕ) (r : Step) : Type 0 where
   pub says : stateFrom 32 k (rowsIn t ss ms first end) at (drop at p) ≡ saidBy p r
   pub notes : Notes k (rowsIn t ss ms first end) p es ns es′ ns′ at r

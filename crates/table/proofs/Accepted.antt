@@ -9,6 +9,7 @@ use lib.Dec.{ltb}
 use lib.ListN.{length, getD, drop, length-append}
 use borrow.Author.Tests.{le-ltb, ltb-false}
 use Rattle.cell.specs.Cell.{isVar}
+use Rattle.term.proofs.Lists.{nil-of-length}
 use Rattle.table.specs.All.{All}
 use Rattle.table.specs.Refusal.{refused}
 use Rattle.table.specs.Read.{read, when}
@@ -66,10 +67,6 @@ table-is w rows b c a =
 pub table-accepted : (t : List ℕ) (w : ℕ) (rows : List (List ℕ)) → (tableOf t ≡ read (table w rows)) ↔ IsTable t w rows
 table-accepted t w rows = (is-table t, λ i. ap tableOf (i .cells) ∙ table-is w rows (i .width) (i .count) (i .each))
 
-no-rest : (xs : List ℕ) → length xs ≤ 0 → xs ≡ []
-no-rest [] h = refl
-no-rest (c ∷ xs) h = absurd (omega arith)
-
 -- a goal that is read, with its number of variables
 pub is-goal : (w : ℕ) (g : List ℕ) {v : ℕ} → goalOf w g ≡ read v → IsGoal w g × (v ≡ length (appear [] g))
 unfolding goalOf
@@ -86,7 +83,7 @@ is-goal w g {v} e =
     by-whole {w} {g} o l k =
         let n = length-append (o .front .cells) (o .front .rest) in
         let m = ap length (o .front .split) in
-        let z : o .front .rest ≡ [] = no-rest (o .front .rest) (omega (arith, o .next)) in
+        let z : o .front .rest ≡ [] = nil-of-length (o .front .rest) (omega (arith, o .next)) in
         let q : g ≡ o .front .cells = o .front .split ∙ ap (λ (xs : List ℕ). o .front .cells ++ xs) z ∙ append-nil (o .front .cells) in
         rw q (passed-head (o .front .terms) (omega arith) false 0 (o .tested))
 
@@ -115,9 +112,3 @@ accepted-row t {T} e r h = all-at (Row (T .width)) (T .rows) r [] (is-table t e 
 -- a variable of a row or goal is numbered below 32, since there are no more cells
 pub few-variables : {w : ℕ} {xs : List ℕ} → Head w xs → (c : ℕ) → List·Memᴰ c xs → isVar c ≡ true → c < 32
 few-variables h c m i = omega (arith, head-below h c m i, head-few h)
-
--- a goal's variables are numbered below the number of variables that is answered
-pub goal-variables : (w : ℕ) (g : List ℕ) {v : ℕ} → goalOf w g ≡ read v → (v ≤ 32) × ((c : ℕ) → List·Memᴰ c g → isVar c ≡ true → c < v)
-goal-variables w g e =
-    let i = is-goal w g e in
-    (omega (arith, i .1, head-few (i .0 .head)), λ c m j. omega (arith, i .1, head-below (i .0 .head) c m j))

@@ -1,7 +1,7 @@
 -- 01's examples of what is turned away ("On both sides": P9, P10 and the last two), and readings of its table of refusals, computed by the definitions.
 use mathlib.Core.Path.{_≡_, refl}
 use mathlib.Core.List.{List, [], _∷_, _++_, map}
-use Prim.Native.Nat.{ℕ, _+_, _*_, _^_}
+use Prim.Native.Nat.{ℕ, _*_, _^_}
 use lib.ListN.{replicate}
 use Rattle.cell.specs.Cell.{nameCell, numberCell, variableCell, valuesAt}
 use Rattle.table.specs.Refusal.{refused, Answer, answered, turned}

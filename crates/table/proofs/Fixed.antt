@@ -14,13 +14,13 @@ use Rattle.table.specs.Table.{tableOf, goalOf, goalWith, tableTold, goal
 use Rattle.table.proofs.RefusalLaws.{told-one}
 use Rattle.table.proofs.PartLaws.{part}
 
-pub tableTold-one : (a b : TableAnswer) → tableTold a ≡ tableTold b → a ≡ b
+tableTold-one : (a b : TableAnswer) → tableTold a ≡ tableTold b → a ≡ b
 tableTold-one (table-answer.Accepted w n) (table-answer.Accepted u m) e = cc
 tableTold-one (table-answer.Accepted w n) (table-answer.Refused g) e = absurd (let z : _≡_ {A = ℕ} 0 1 = cc in omega arith)
 tableTold-one (table-answer.Refused f) (table-answer.Accepted u m) e = absurd (let z : _≡_ {A = ℕ} 0 1 = cc in omega arith)
 tableTold-one (table-answer.Refused f) (table-answer.Refused g) e = let q : told f ≡ told g = cc in ap table-answer.Refused (told-one q)
 
-pub goalTold-one : (a b : GoalAnswer) → goalTold a ≡ goalTold b → a ≡ b
+goalTold-one : (a b : GoalAnswer) → goalTold a ≡ goalTold b → a ≡ b
 goalTold-one (goal-answer.Accepted w n) (goal-answer.Accepted u m) e = cc
 goalTold-one (goal-answer.Accepted w n) (goal-answer.Refused g) e = absurd (let z : _≡_ {A = ℕ} 0 1 = cc in omega arith)
 goalTold-one (goal-answer.Refused f) (goal-answer.Accepted u m) e = absurd (let z : _≡_ {A = ℕ} 0 1 = cc in omega arith)

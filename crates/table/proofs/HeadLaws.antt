@@ -1,7 +1,7 @@
 -- A row and a goal in 01's words, and the tests that their cells pass.
 use mathlib.Core.Path.{_≡_, refl, _∙_, ap}
 use mathlib.Core.Logic.{⊎-elim}
-use mathlib.Core.Bool.{Bool, true, false, cond, _&&_}
+use mathlib.Core.Bool.{Bool, true, false, _&&_}
 use mathlib.Core.List.{List, [], _∷_, List·Memᴰ, List·Memᴰ·head, List·Memᴰ·tail, List·Memᴰ·cases-cons, List·Memᴰ·not-nil}
 use Prim.Native.Nat.{ℕ, zero, suc, _+_, _≤_, _<_}
 use native.Mathlib.Omega.{arith}
@@ -10,24 +10,25 @@ use lib.ListN.{length}
 use borrow.Author.Tests.{eqb-true}
 use Rattle.cell.specs.Cell.{isVar}
 use Rattle.term.specs.Terms.{Terms}
-use Rattle.term.proofs.Tests.{bool-cases}
+use Rattle.term.proofs.Tests.{bool-cases, cond-case}
 use Rattle.table.specs.Read.{read}
 use Rattle.table.specs.Table.{count, appear, upFrom, Head, Row}
 use Rattle.table.specs.Looks.{cellsFrom}
 use Rattle.table.proofs.ReadLaws.{not-both}
 use Rattle.table.proofs.SoundLaws.{Sound, down, cells-sound, sound-cells}
 
-length-up : (n a : ℕ) → length (upFrom n a) ≡ a
+-- so many numbers are as many
+pub up-length : (n a : ℕ) → length (upFrom n a) ≡ a
 unfolding upFrom
-length-up n zero = refl
-length-up n (suc a) = ap suc (length-up (suc n) a)
+up-length n zero = refl
+up-length n (suc a) = ap suc (up-length (suc n) a)
 
 -- cells that pass the tests of a row or goal from its start on are a head, and the other way round
 module _ {w : ℕ} {ys : List ℕ} (t : Terms w ys) (l : length ys ≤ 32) where
   sound-head : {row : Bool} {v : ℕ} → Sound row ys 0 v → Head w ys × (v ≡ length (appear [] ys))
   unfolding down
   sound-head s =
-      let n : length (appear [] ys) ≡ s .more = ap length (s .order) ∙ length-up 0 (s .more) in
+      let n : length (appear [] ys) ≡ s .more = ap length (s .order) ∙ up-length 0 (s .more) in
       (record { terms = t; short = l; cells = s .cells; order = rw n (s .order) }, omega (arith, s .total))
 
   pub passed-head : (row : Bool) (p : ℕ) {v : ℕ} → cellsFrom row ys 0 p ≡ read v → Head w ys × (v ≡ length (appear [] ys))
@@ -56,10 +57,6 @@ pub row-passes : {w : ℕ} {ys : List ℕ} (p : ℕ) → Row w ys → cellsFrom 
 row-passes {w} {ys} p r = sound-cells true ys 0 p (head-sound true (r .head) (λ _. r .once))
 
 -- Every variable of a row or goal is among those that appear, so it is numbered below their number, and that is at most the number of cells.
-cond-case : (b : Bool) {x y : List ℕ} (P : List ℕ → Type 0) → (b ≡ true → P x) → (b ≡ false → P y) → P (cond b x y)
-cond-case true P f g = f refl
-cond-case false P f g = g refl
-
 appear-short : (ms ys : List ℕ) → length (appear ms ys) ≤ length ys
 unfolding appear
 appear-short ms [] = omega arith

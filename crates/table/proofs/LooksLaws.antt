@@ -1,10 +1,10 @@
 -- The two looks at the cells of a row or goal are the reading of its terms; each look's laws, in the form in which the code steps.
 use mathlib.Core.Path.{_≡_, refl, ap, _∙_, sym}
-use mathlib.Core.Bool.{Bool, true, false, cond, _&&_}
+use mathlib.Core.Bool.{Bool, true, false, cond, _&&_, and-false}
 use mathlib.Core.List.{List, [], _∷_}
 use Prim.Native.Nat.{ℕ, zero, suc, _+_, _-_, _≤_, _<_}
 use native.Mathlib.Numerals.{add-one}
-use native.Mathlib.Nat.{add-zero, zero-add, suc-add}
+use native.Mathlib.Nat.{add-zero}
 use native.Mathlib.Omega.{arith}
 use lib.Dec.{eqb, leb}
 use lib.ListN.{length, getD, take, drop, length-drop}
@@ -18,14 +18,11 @@ use Rattle.term.specs.Terms.{front}
 use Rattle.term.proofs.EndsLaws.{ends, not-before}
 use Rattle.term.proofs.EndsLaws as ends-laws
 use Rattle.term.proofs.Tests.{eqb-same}
+use Rattle.term.proofs.Lists.{slice-take}
 use Rattle.table.specs.Read.{Read, read, refuse, when, andThen}
 use Rattle.table.specs.Table.{Met, met, bad, counted, cellTests, termsFrom}
 use Rattle.table.specs.Looks.{cellFrom, cellsFrom, notWhole}
 use Rattle.table.proofs.ReadLaws.{then-both, then-assoc, tests-then, passed-tests}
-
-and-false : (b : Bool) → (b && false) ≡ false
-and-false true = refl
-and-false false = refl
 
 -- One cell, by what it is and the first test that fails.
 module _ (row : Bool) (c vars p : ℕ) where
@@ -120,12 +117,6 @@ within [] (suc k) p e h = ends-laws.apart (sym h)
 within (c ∷ ys) zero p e h = let q : p ≡ e = cc in omega arith
 within (c ∷ ys) (suc k) p e h = omega (arith, within ys (arity c + k) (p + 1) e h)
 
--- a part, counted from its start
-pub part : (f n : ℕ) (l : List ℕ) → slice f (f + n) l ≡ take n (drop f l)
-part zero n l = rw zero-add
-part (suc f) n [] = rw (take-nil (suc f + n), take-nil n)
-part (suc f) n (x ∷ xs) = rw suc-add (part f n xs)
-
 -- the reading of a whole part of a list, by what the first look found
 module _ (row : Bool) (xs : List ℕ) (from k : ℕ) (a : from ≤ length xs) where
   pub ended : {e : ℕ} → ends (drop from xs) k from ≡ At e → (from ≤ e) × (e ≤ length xs)
@@ -144,7 +135,7 @@ module _ (row : Bool) (xs : List ℕ) (from k : ℕ) (a : from ≤ length xs) wh
     looks-at {e} h t =
         let l = not-before (drop from xs) k from e h in
         let q : from + (e - from) ≡ e = omega arith in
-        let f : front k (drop from xs) ≡ slice from e xs = front-at (drop from xs) k from e h ∙ rw q at (sym (part from (e - from) xs)) in
+        let f : front k (drop from xs) ≡ slice from e xs = front-at (drop from xs) k from e h ∙ rw q at (sym (slice-take from (e - from) xs)) in
         sym (looks ∙ rw (h, f, t))
 
     pub looks-short : {r : Read ℕ} → ends (drop from xs) k from ≡ Short → cellsFrom row (slice from (length xs) xs) 0 from ≡ r
@@ -165,7 +156,7 @@ row-window (suc m) (c ∷ xs) (suc owed) used vars p h =
     (row-window m xs (valuesAt c .args + owed) (suc used) (counted (valuesAt c) vars) (suc p) (omega arith))
 
 pub window : (xs : List ℕ) (from w : ℕ) → termsFrom true (slice from (from + 32) xs) w 0 0 from ≡ termsFrom true (drop from xs) w 0 0 from
-window xs from w = rw part (row-window 32 (drop from xs) w 0 0 from (omega arith))
+window xs from w = rw slice-take (row-window 32 (drop from xs) w 0 0 from (omega arith))
 
 -- a cell adds one variable at most
 pub one-more : (row : Bool) (c vars p : ℕ) {v : ℕ} → cellFrom row c vars p ≡ read v → v ≤ vars + 1

@@ -8,6 +8,7 @@ use mathlib.Core.Logic.{by-cases}
 use native.Mathlib.Omega.{arith}
 use lib.ListN.{length, getD, take, drop, replicate, length-append, List·getD-append, List·getD-eq-default}
 use lib.Seq.{take-append-seam, drop-append-seam, getD-append-add}
+use Rattle.term.proofs.Lists.{getD-zeros}
 use Rattle.table.specs.declared.Part.{Part}
 use Rattle.table.specs.Refusal.{Refused, answered, turned}
 use Rattle.table.specs.Read.{Read, read, refuse}
@@ -15,14 +16,15 @@ use Rattle.table.specs.Table.{Table, tableOf, starts, startsIn, tableSay
 use Rattle.table.proofs.RowsLaws.{length-starts}
 use Rattle.table.proofs.Accepted.{is-table}
 
-pub start-next : (p : ℕ) (rows : List (List ℕ)) (r : ℕ) → suc r < length rows → getD (starts p rows) (suc r) 0 ≡ getD (starts p rows) r 0 + length (getD rows r [])
+-- where a row starts, and where the last one ends
+start-next : (p : ℕ) (rows : List (List ℕ)) (r : ℕ) → suc r < length rows → getD (starts p rows) (suc r) 0 ≡ getD (starts p rows) r 0 + length (getD rows r [])
 unfolding starts
 start-next p [] r h = absurd (omega arith)
 start-next p (x ∷ []) r h = absurd (omega arith)
 start-next p (x ∷ (y ∷ rows)) zero h = refl
 start-next p (x ∷ (y ∷ rows)) (suc r) h = start-next (p + length x) (y ∷ rows) r (omega arith)
 
-pub start-last : (p : ℕ) (rows : List (List ℕ)) (r : ℕ) → suc r ≡ length rows → getD (starts p rows) r 0 + length (getD rows r []) ≡ p + length (flatten rows)
+start-last : (p : ℕ) (rows : List (List ℕ)) (r : ℕ) → suc r ≡ length rows → getD (starts p rows) r 0 + length (getD rows r []) ≡ p + length (flatten rows)
 unfolding starts flatten
 start-last p [] r h = absurd (omega arith)
 start-last p (x ∷ []) zero h = omega (arith, length-append x [])
@@ -30,7 +32,7 @@ start-last p (x ∷ []) (suc r) h = absurd (omega arith)
 start-last p (x ∷ (y ∷ rows)) zero h = absurd (omega arith)
 start-last p (x ∷ (y ∷ rows)) (suc r) h = omega (arith, start-last (p + length x) (y ∷ rows) r (omega arith), length-append x (flatten (y ∷ rows)))
 
-pub start-within : (p : ℕ) (rows : List (List ℕ)) (r : ℕ) → r < length rows → getD (starts p rows) r 0 + length (getD rows r []) ≤ p + length (flatten rows)
+start-within : (p : ℕ) (rows : List (List ℕ)) (r : ℕ) → r < length rows → getD (starts p rows) r 0 + length (getD rows r []) ≤ p + length (flatten rows)
 unfolding starts flatten
 start-within p [] r h = absurd (omega arith)
 start-within p (x ∷ rows) zero h = omega (arith, length-append x (flatten rows))
@@ -46,21 +48,16 @@ row-at pre (x ∷ rows) (suc r) h =
     let n = length-append pre x in
     rw (← append-assoc pre x (flatten rows), ← n) (row-at (pre ++ x) rows r (omega arith))
 
-zeros : (n i : ℕ) → _≡_ {A = ℕ} (getD (replicate n 0) i 0) 0
-zeros zero i = refl
-zeros (suc n) zero = refl
-zeros (suc n) (suc i) = zeros n i
-
 -- a start that is noted is a row's, and beyond the rows 0 is noted
 module _ (T : Table) (r : ℕ) where
-  pub noted : r < length (T .rows) → getD (startsIn (read T)) r 0 ≡ getD (starts 2 (T .rows)) r 0
+  noted : r < length (T .rows) → getD (startsIn (read T)) r 0 ≡ getD (starts 2 (T .rows)) r 0
   noted h = List·getD-append (starts 2 (T .rows)) _ 0 r (omega (arith, length-starts 2 (T .rows)))
 
-  pub none : length (T .rows) ≤ r → getD (startsIn (read T)) r 0 ≡ 0
+  none : length (T .rows) ≤ r → getD (startsIn (read T)) r 0 ≡ 0
   none h =
       let l = length-starts 2 (T .rows) in
       let e : length (starts 2 (T .rows)) + (r - length (T .rows)) ≡ r = omega arith in
-      rw e at (getD-append-add (starts 2 (T .rows)) (replicate (64 - length (T .rows)) 0) (r - length (T .rows)) 0) ∙ zeros (64 - length (T .rows)) (r - length (T .rows))
+      rw e at (getD-append-add (starts 2 (T .rows)) (replicate (64 - length (T .rows)) 0) (r - length (T .rows)) 0) ∙ getD-zeros (64 - length (T .rows)) (r - length (T .rows))
 
 -- what an answer for a table tells of its reading
 pub says-read : (t : Read Table) {w n : ℕ} → answered w n ≡ tableSays t → (T : Table) × (t ≡ read T) × (T .width ≡ w) × (length (T .rows) ≡ n)
@@ -76,7 +73,7 @@ abbrev pub part : ℕ → ℕ → Part
 part s e = record { start = s; end = e }
 
 pub place-turned : (t : Read Table) (r : ℕ) {f : Refused} → t ≡ refuse f → RowPlace t r (part 0 0)
-place-turned t r e = rw e (record { start = sym (zeros 64 r); end = refl })
+place-turned t r e = rw e (record { start = sym (getD-zeros 64 r); end = refl })
 
 module _ (t : List ℕ) {T : Table} (g : tableOf t ≡ read T) (r : ℕ) where
   -- the table's cells: two, and the rows
@@ -99,13 +96,13 @@ module _ (t : List ℕ) {T : Table} (g : tableOf t ≡ read T) (r : ℕ) where
         rw (s, g) (record { start = refl; end = l ∙ sym (rw (noted T r (omega arith)) (start-last 2 (T .rows) r (omega arith))) })
 
   -- the cells of a row are those at its place
-  pub cells-at : take (length (getD (T .rows) r [])) (drop (getD (startsIn (read T)) r 0) t) ≡ getD (T .rows) r []
+  cells-at : take (length (getD (T .rows) r [])) (drop (getD (startsIn (read T)) r 0) t) ≡ getD (T .rows) r []
   cells-at =
       by-cases (decLt r (length (T .rows)))
       (λ (h : r < length (T .rows)). rw (noted T r h) (rw (← all-cells) at (row-at (T .width ∷ (length (T .rows) ∷ [])) (T .rows) r h)))
       (λ h. rw (beyond (omega arith)))
 
-  pub place-within : getD (startsIn (read T)) r 0 + length (getD (T .rows) r []) ≤ length t
+  place-within : getD (startsIn (read T)) r 0 + length (getD (T .rows) r []) ≤ length t
   place-within =
       let l : length t ≡ 2 + length (flatten (T .rows)) = ap length all-cells ∙ omega arith in
       by-cases (decLt r (length (T .rows)))
@@ -125,7 +122,7 @@ part-within t r = go (tableOf t) refl
   where
     go : (R : Read Table) → tableOf t ≡ R → getD (startsIn R) r 0 + length (rowIn R r) ≤ length t
     go (read T) g = place-within t g r
-    go (refuse f) g = omega (arith, zeros 64 r)
+    go (refuse f) g = omega (arith, getD-zeros 64 r)
 
 module _ (t : List ℕ) (r : ℕ) {p : Part} (l : RowPlace (tableOf t) r p) where
   pub place-inside : (p .start ≤ p .end) × (p .end ≤ length t)

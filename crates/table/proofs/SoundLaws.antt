@@ -1,9 +1,9 @@
 -- Cells pass the tests exactly when they are cells of 01 whose variables are numbered 0, 1, 2 in order of first appearance, in a row each once.
 use mathlib.Core.Path.{_≡_, refl, sym, _∙_, ap}
-use mathlib.Core.Logic.{_≢_, _⊎_, ⊎-elim, by-cases}
+use mathlib.Core.Logic.{_≢_, ⊎-elim, by-cases}
 use mathlib.Core.Bool.{Bool, true, false}
 use mathlib.Core.List.{List, [], _∷_, List·Memᴰ, List·Memᴰ·head, List·Memᴰ·tail, List·Memᴰ·cases-cons, List·Memᴰ·not-nil}
-use Prim.Native.Nat.{ℕ, zero, suc, _+_, _-_, _≤_, _<_}
+use Prim.Native.Nat.{ℕ, zero, suc, _+_, _≤_, _<_}
 use native.Mathlib.Decide.{decLt}
 use native.Mathlib.Omega.{arith}
 use lib.Dec.{eqb}
@@ -128,29 +128,29 @@ unfolding upFrom
 up-none n zero e = refl
 up-none n (suc a) e = absurd (let z : _≡_ {A = ℕ} 0 1 = cc in omega arith)
 
-one-cell : {c : ℕ} {ys : List ℕ} → Cell c → ((d : ℕ) → List·Memᴰ d ys → Cell d) → (d : ℕ) → List·Memᴰ d (c ∷ ys) → Cell d
-one-cell l h d m = ⊎-elim (λ e. rw e l) (h d) (List·Memᴰ·cases-cons m)
+good-cells : {c : ℕ} {ys : List ℕ} → Cell c → ((d : ℕ) → List·Memᴰ d ys → Cell d) → (d : ℕ) → List·Memᴰ d (c ∷ ys) → Cell d
+good-cells l h d m = ⊎-elim (λ e. rw e l) (h d) (List·Memᴰ·cases-cons m)
 
 module _ {row : Bool} {c : ℕ} {ys : List ℕ} {vars : ℕ} where
   -- a cell that passes, put in front of sound cells, and taken off
   sound-put : {v u : ℕ} → Seen row c vars (read u) → Sound row ys u v → Sound row (c ∷ ys) vars v
   unfolding upFrom
   sound-put (symbol l i) s = record {
-    cells = one-cell l (s .cells);
+    cells = good-cells l (s .cells);
     more = s .more;
     total = s .total;
     order = appear-symbol c ys (down vars) i ∙ s .order;
     once = λ r x j. rw (count-symbol c ys x i j) (s .once r x j);
   }
   sound-put (new l i e) s = record {
-    cells = one-cell l (s .cells);
+    cells = good-cells l (s .cells);
     more = suc (s .more);
     total = omega (arith, s .total);
     order = appear-new c ys vars i e ∙ ap (λ (q : List ℕ). vars ∷ q) (s .order);
     once = λ r x j. omega (arith, count-met c ys x vars e, s .once r x j);
   }
   sound-put (old l i h r) s = record {
-    cells = one-cell l (s .cells);
+    cells = good-cells l (s .cells);
     more = s .more;
     total = s .total;
     order = appear-old c ys vars i h ∙ s .order;

@@ -1,4 +1,4 @@
--- The steps in which the cells of a row or of a goal are looked at: one to find where the terms end (`ends` of term), one to test the cells.
+-- The code's own steps, in which the cells of a row or of a goal are looked at: one to find where the terms end (`ends` of term), one to test the cells.
 -- That the two together are `termsFrom` is `two-looks` of proofs/LooksLaws.
 use Prim.Native.Nat.{ℕ, suc}
 use mathlib.Core.Bool.{Bool, cond, _&&_}

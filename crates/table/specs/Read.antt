@@ -1,5 +1,4 @@
 -- Reading, as a value or a refusal: the form in which 01's tests are written down, one under the other, the first that holds deciding.
-use Prim.Native.Nat.{ℕ}
 use mathlib.Core.Bool.{Bool, cond}
 use Rattle.table.specs.Refusal.{Refused}
 

@@ -1,8 +1,8 @@
 -- Tables and goals (01, "Tables and goals"): how they are read, in 01's order of tests ("1, 2, 3 come first; then cells are read left to right,
 -- and at each place 4, 5, 6, 7, 8 in that order; 9 last"), and what they are.
-use Prim.Native.Nat.{ℕ, zero, suc, _+_, _-_, _≤_, _<_}
+use Prim.Native.Nat.{ℕ, zero, suc, _+_, _-_, _≤_}
 use mathlib.Core.Path.{_≡_}
-use mathlib.Core.Bool.{Bool, true, false, cond, not, _&&_, _||_}
+use mathlib.Core.Bool.{Bool, true, false, cond, _&&_, _||_}
 use mathlib.Core.List.{List, [], _∷_, _++_, flatten, List·Memᴰ}
 use lib.Dec.{eqb, leb, ltb}
 use lib.ListN.{length, getD, take, drop, replicate}
@@ -18,7 +18,7 @@ use Rattle.table.specs.All.{All}
 use Rattle.table.specs.Refusal.{Refused, refused, told, Answer, answered, turned}
 use Rattle.table.specs.Read.{Read, read, refuse, when, andThen}
 
--- The terms of a row or of a goal. LONG and TWICE are given in a row only.
+-- The terms of a row or of a goal. LONG and TWICE are given in a row only. A refusal of a row concerns the table, and one of a goal the goal
 abbrev pub bad : Bool → ℕ → ℕ → Refused
 bad row n p = refused n (cond row 1 3) p
 
@@ -42,7 +42,8 @@ cellTests row v vars p rest =
     (when (row && (eqb (v .kind) 0 && ltb (v .number) vars)) (bad row 8 p)
     rest))
 
--- the cells left, the terms owed, the cells used so far, the variables met, the next cell's place
+-- 01, "cells are read left to right, and at each place 4, 5, 6, 7, 8 in that order": of the cells left, the terms owed, the cells used so far, the variables
+-- met and the next cell's place
 unfoldable pub termsFrom : Bool → List ℕ → ℕ → ℕ → ℕ → ℕ → Read Met
 termsFrom row [] zero used vars p = read (met p vars)
 termsFrom row [] (suc owed) used vars p = when (row && leb 32 used) (bad row 4 p) (refuse (bad row 5 p))
@@ -52,6 +53,7 @@ termsFrom row (c ∷ xs) (suc owed) used vars p =
     (cellTests row (valuesAt c) vars p
     (termsFrom row xs (valuesAt c .args + owed) (suc used) (counted (valuesAt c) vars) (suc p)))
 
+-- a table that is read
 pub record Table : Type 0 where
   pub width : ℕ
   pub rows : List (List ℕ)
@@ -64,7 +66,7 @@ abbrev pub before : List ℕ → Read (List (List ℕ)) → Read (List (List ℕ
 before r (read rs) = read (r ∷ rs)
 before r (refuse f) = refuse f
 
--- so many rows of a width from the place p on, and nothing after them: EXTRA
+-- so many rows of a width, the first at place p, and nothing after them: EXTRA
 unfoldable pub rowsFrom : ℕ → ℕ → List ℕ → ℕ → Read (List (List ℕ))
 rowsFrom w zero [] p = read []
 rowsFrom w zero (c ∷ xs) p = refuse (refused 9 1 p)
@@ -93,10 +95,12 @@ unfoldable pub starts : ℕ → List (List ℕ) → List ℕ
 starts p [] = []
 starts p (r ∷ rs) = p ∷ starts (p + length r) rs
 
+-- so many of the 64 that the code hands out; the rest is 0, and all of them where the table is turned away
 abbrev pub startsIn : Read Table → List ℕ
 startsIn (read T) = starts 2 (T .rows) ++ replicate (64 - length (T .rows)) 0
 startsIn (refuse f) = replicate 64 0
 
+-- what is answered for a table: its width and number of rows
 abbrev pub tableSays : Read Table → Answer
 tableSays (read T) = answered (T .width) (length (T .rows))
 tableSays (refuse f) = turned f
@@ -114,6 +118,7 @@ pub record TableReads (t : Read Table) (r : TableRead) : Type 0 where
 abbrev pub goalWith : List ℕ → List ℕ → Read ℕ
 goalWith t g = andThen (tableOf t) (λ (T : Table). goalOf (T .width) g)
 
+-- what is answered for a goal: its number of cells and of variables
 abbrev pub goalSays : List ℕ → Read ℕ → Answer
 goalSays g (read n) = answered (length g) n
 goalSays g (refuse f) = turned f
@@ -122,7 +127,7 @@ abbrev pub goalTold : GoalAnswer → Answer
 goalTold (goal-answer.Accepted n v) = answered n v
 goalTold (goal-answer.Refused f) = turned (told f)
 
--- 01, "The row handed out by number is that part of the lent table; where the table is refused or has no such row, that part is empty"
+-- 01, "The row handed out by number is that part of the lent table and no copy; where the table is refused or has no such row, that part is empty"
 abbrev pub rowIn : Read Table → ℕ → List ℕ
 rowIn (read T) r = getD (T .rows) r []
 rowIn (refuse f) r = []
@@ -161,12 +166,14 @@ pub record Row (w : ℕ) (xs : List ℕ) : Type 0 where
   pub head : Head w xs
   pub once : (v : ℕ) → isVar v ≡ true → count v xs ≤ 1
 
+-- 01, "A table is: width (1 to 8), row count (1 to 64), then the rows"
 pub record IsTable (t : List ℕ) (w : ℕ) (rows : List (List ℕ)) : Type 0 where
   pub cells : t ≡ w ∷ length rows ∷ flatten rows
   pub width : (1 ≤ w) × (w ≤ 8)
   pub count : (1 ≤ length rows) × (length rows ≤ 64)
   pub each : All (Row w) rows
 
+-- 01, "A goal .. width terms, 1 to 32 cells in all"
 pub record IsGoal (w : ℕ) (g : List ℕ) : Type 0 where
   pub head : Head w g
   pub some : 1 ≤ length g

@@ -12,7 +12,7 @@ use lib.ListN.{length}
 use Rattle.cell.specs.Cell.{arity, isVar}
 use Rattle.cell.proofs.CellLaws.{var-arity}
 use borrow.Author.Tests.{eqb-true, eqb-false}
-use Rattle.term.proofs.Tests.{bool-cases}
+use Rattle.term.proofs.Tests.{bool-cases, cond-case}
 use Rattle.term.specs.Terms.{Terms, none, more, front, back}
 use Rattle.term.proofs.TermsLaws.{front-back, front-terms, back-terms}
 use Rattle.term.specs.Unify.{inst, Unifies}
@@ -74,10 +74,6 @@ pub record Within (vs xs : List ℕ) : Type 0 where
 unfoldable pub remove : ℕ → List ℕ → List ℕ
 remove v [] = []
 remove v (w ∷ ws) = cond (eqb w v) (remove v ws) (w ∷ remove v ws)
-
-cond-case : (b : Bool) {A : Type 0} {x y : A} (P : A → Type 0) → (b ≡ true → P x) → (b ≡ false → P y) → P (cond b x y)
-cond-case true P f g = f refl
-cond-case false P f g = g refl
 
 remove-keeps : (v : ℕ) (ws : List ℕ) (x : ℕ) → List·Memᴰ x ws → x ≢ v → List·Memᴰ x (remove v ws)
 unfolding remove

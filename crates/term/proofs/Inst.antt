@@ -9,8 +9,8 @@ use native.Mathlib.Numerals.{one-add}
 use lib.Dec.{eqb}
 use Rattle.cell.specs.Cell.{arity, isVar}
 use Rattle.cell.proofs.CellLaws.{var-arity}
-use borrow.Author.Tests.{eqb-true, eqb-false}
-use Rattle.term.proofs.Tests.{bool-cases, eqb-same, eqb-other}
+use borrow.Author.Tests.{eqb-true, eqb-false, ne-eqb}
+use Rattle.term.proofs.Tests.{bool-cases, eqb-same}
 use Rattle.term.specs.Unify.{inst, Subst}
 use Rattle.term.specs.Terms.{Terms, none, more}
 use Rattle.term.proofs.TermsLaws.{Terms-++}
@@ -61,7 +61,7 @@ bind-same v t σ = rw (eqb-same v)
 
 pub bind-other : (v : ℕ) (t : List ℕ) (σ : ℕ → List ℕ) (c : ℕ) → c ≢ v → bind v t σ c ≡ σ c
 unfolding bind
-bind-other v t σ c h = rw (eqb-other c v h)
+bind-other v t σ c h = rw (ne-eqb c v h)
 
 pub inst-id : (xs : List ℕ) → inst idS xs ≡ xs
 unfolding inst idS
@@ -83,7 +83,7 @@ Subst-id = record { vars = λ c v. Terms-var v; symbols = λ c v. refl }
 
 pub Subst-bind : (v : ℕ) {t : List ℕ} {σ : ℕ → List ℕ} → isVar v ≡ true → Terms 1 t → Subst σ → Subst (bind v t σ)
 unfolding bind
-Subst-bind v {t} {σ} hv u s = record { vars = λ c e. go c e (eqb c v) refl; symbols = λ c e. rw (eqb-other c v (λ p. true≢false (sym hv ∙ ap isVar (sym p) ∙ e))) (s .symbols c e) }
+Subst-bind v {t} {σ} hv u s = record { vars = λ c e. go c e (eqb c v) refl; symbols = λ c e. rw (ne-eqb c v (λ p. true≢false (sym hv ∙ ap isVar (sym p) ∙ e))) (s .symbols c e) }
   where
     go : (c : ℕ) → isVar c ≡ true → (b : Bool) → eqb c v ≡ b → Terms 1 (cond b t (σ c))
     go c e true p = u

@@ -1,11 +1,16 @@
--- Lists with several elements stored one after another (`sets`, of the library), and lists of one element repeated.
+-- Laws of lists that the library has not and several crates use: several elements stored one after another (`sets`), a part in the middle (`slice`), one
+-- element repeated (`replicate`).
 use Prim.Native.Nat.{ℕ, zero, suc, _+_, _-_, _≤_, _<_}
 use mathlib.Core.Path.{_≡_, refl, sym, ap, _∙_}
 use mathlib.Core.List.{List, [], _∷_, _++_, append-assoc}
-use native.Mathlib.Nat.{add-zero, zero-add}
+use native.Mathlib.Nat.{add-zero, zero-add, suc-add}
 use native.Mathlib.Omega.{arith}
 use lib.ListN.{length, getD, set, take, drop, replicate, length-replicate}
-use lib.Seq.{sets, sets-eq, set-comm, length-take-le, take-at, drop-at, take-set-le, drop-set-lt, getD-set-other}
+use lib.Seq.{slice, take-nil, sets, sets-eq, set-comm, length-take-le, take-at, drop-at, take-set-le, drop-set-lt, getD-set-other}
+
+pub nil-of-length : (xs : List ℕ) → length xs ≡ 0 → xs ≡ []
+nil-of-length [] h = refl
+nil-of-length (x ∷ xs) h = absurd (omega arith)
 
 -- what is stored twice in a row is stored at once
 pub sets-sets : (l : List ℕ) (i : ℕ) (xs ys : List ℕ) → sets (sets l i xs) (i + length xs) ys ≡ sets l i (xs ++ ys)
@@ -36,6 +41,18 @@ pub set-sets : (l : List ℕ) (i j x : ℕ) (ys : List ℕ) → i < j → set (s
 set-sets l i j x [] h = refl
 set-sets l i j x (y ∷ ys) h =
     set-sets (set l j y) i (suc j) x ys (omega arith) ∙ ap (λ (m : List ℕ). sets m (suc j) ys) (set-comm l j i y x (λ e. omega arith))
+
+-- a part in the middle, counted from its start
+pub slice-take : (f n : ℕ) (l : List ℕ) → slice f (f + n) l ≡ take n (drop f l)
+slice-take zero n l = rw zero-add
+slice-take (suc f) n [] = rw (take-nil (suc f + n), take-nil n)
+slice-take (suc f) n (x ∷ xs) = rw suc-add (slice-take f n xs)
+
+-- one element repeated
+pub getD-zeros : (n i : ℕ) → _≡_ {A = ℕ} (getD (replicate n 0) i 0) 0
+getD-zeros zero i = refl
+getD-zeros (suc n) zero = refl
+getD-zeros (suc n) (suc i) = getD-zeros n i
 
 pub drop-replicate : (k n x : ℕ) → drop k (replicate n x) ≡ replicate (n - k) x
 drop-replicate zero n x = let e : n - 0 ≡ n = omega arith in rw e

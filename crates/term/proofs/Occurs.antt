@@ -24,11 +24,12 @@ unfolding inst
 inst-long s [] = omega arith
 inst-long {σ} s (c ∷ xs) = let h = inst-long s xs in let l = cell-long s c in simp length-append (omega arith)
 
+-- a list that holds v is at least as long, once v is replaced, as the image of v and the other cells
 pub occurs-long : {σ : ℕ → List ℕ} {v : ℕ} {xs : List ℕ} → Subst σ → List·Memᴰ v xs → length (σ v) + length xs ≤ suc (length (inst σ xs))
 unfolding inst
 occurs-long {σ} {v} s (List·Memᴰ·head {x} {xs} e) = let h = inst-long s xs in rw e (simp length-append (omega arith))
 occurs-long {σ} {v} s (List·Memᴰ·tail {x} {xs} m) = let h = occurs-long s m in let l = cell-long s x in simp length-append (omega arith)
 
--- (5)
+-- no substitution makes a variable equal to a longer term in which it occurs
 pub occurs-check : {σ : ℕ → List ℕ} {v : ℕ} {t : List ℕ} → Subst σ → List·Memᴰ v t → 2 ≤ length t → σ v ≢ inst σ t
 occurs-check s m h e = let l = occurs-long s m in omega (arith, ap length e)

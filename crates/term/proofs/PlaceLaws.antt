@@ -7,6 +7,7 @@ use lib.ListN.{length}
 use Rattle.cell.specs.Cell.{arity}
 use Rattle.term.specs.Terms.{Terms, none, more, root, close}
 
+-- a place is closed, and one after it: in either order
 pub close-close : (i j : ℕ) (xs : List ℕ) → i ≤ j → close (arity (root i xs) + j) (close i xs) ≡ close i (close (suc j) xs)
 unfolding close root
 close-close i j [] h = refl
@@ -20,6 +21,7 @@ close-close (suc i) (suc j) (c ∷ xs) h =
     let e″ : arity c + (arity r + j) ≡ arity r + (arity c + j) = omega arith in
     rw (e, e′, e″) (ap (λ (l : List ℕ). c ∷ l) ih)
 
+-- the cell at a place after one that is closed, and before it
 pub root-after : (i j : ℕ) (xs : List ℕ) → i ≤ j → root (arity (root i xs) + j) (close i xs) ≡ root (suc j) xs
 unfolding close root
 root-after i j [] h = refl
@@ -41,6 +43,7 @@ root-before (suc i) (suc j) (c ∷ xs) h =
     let e′ : arity c + suc j ≡ suc (arity c + j) = omega arith in
     rw e′ (root-before (arity c + i) (arity c + j) xs (omega arith))
 
+-- what closing leaves are the other terms and the cell's arguments, one cell less
 close-terms′ : {n : ℕ} {xs : List ℕ} (i k : ℕ) → Terms n xs → n ≡ suc k → i ≤ k → Terms (arity (root i xs) + k) (close i xs)
 unfolding close root
 close-terms′ i k none e h = absurd (omega arith)

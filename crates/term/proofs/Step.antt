@@ -1,7 +1,7 @@
 -- The elementary steps of a run: one open place of the row against one term of the goal.
 use Prim.Native.Nat.{ℕ, suc, _+_}
 use mathlib.Core.Path.{_≡_, refl, sym, _∙_, ap, ap₂}
-use mathlib.Core.Logic.{_≢_, _↔_, _⊎_, ⊎-elim}
+use mathlib.Core.Logic.{_≢_, _↔_, ⊎-elim}
 use mathlib.Core.Bool.{true, false}
 use mathlib.Core.List.{List, [], _∷_, _++_, List·Memᴰ, List·Memᴰ·head, List·Memᴰ·tail, Memᴰ·append-left, Memᴰ·append-right, List·Memᴰ·not-nil, List·Memᴰ·cases-cons, head-eq-of-cons-eq, tail-eq-of-cons-eq}
 use native.Mathlib.Nat.{add-zero}
@@ -27,7 +27,7 @@ pub inst-symbol : {σ : ℕ → List ℕ} (c : ℕ) (xs : List ℕ) → Subst σ
 unfolding inst
 inst-symbol c xs s e = rw (s .symbols c e)
 
--- (1) the same symbol
+-- the same symbol
 pub same-symbol : (c : ℕ) {i : ℕ} {A A′ : List ℕ} (B D : List ℕ) → isVar c ≡ false → Terms i A → Terms i A′
     → Unifies (A ++ (c ∷ B)) (A′ ++ (c ∷ D)) ↔ Unifies (A ++ B) (A′ ++ D)
 same-symbol c {i} {A} {A′} B D hc t t′ = (
@@ -37,14 +37,14 @@ same-symbol c {i} {A} {A′} B D hc t t′ = (
       mk (u .by) (u .good) (at-place (c ∷ B) (c ∷ D) (u .good) t t′ .1 (p .0, inst-symbol c B (u .good) hc ∙ ap (λ (l : List ℕ). c ∷ l) (p .1) ∙ sym (inst-symbol c D (u .good) hc))),
 )
 
--- (2) two symbols
+-- two symbols
 pub other-symbol : (c d : ℕ) {i : ℕ} {A A′ : List ℕ} (B D : List ℕ) → isVar c ≡ false → isVar d ≡ false → c ≢ d → Terms i A → Terms i A′
     → ¬ Unifies (A ++ (c ∷ B)) (A′ ++ (d ∷ D))
 other-symbol c d B D hc hd h t t′ u =
     let p = at-place (c ∷ B) (d ∷ D) (u .good) t t′ .0 (u .same) in
     h (head-eq-of-cons-eq (sym (inst-symbol c B (u .good) hc) ∙ p .1 ∙ inst-symbol d D (u .good) hd))
 
--- (3) the row's variable, which occurs nowhere else
+-- the row's variable, which occurs nowhere else
 pub row-variable : (c : ℕ) {i : ℕ} {A A′ t : List ℕ} (B B′ : List ℕ) → isVar c ≡ true → Terms i A → Terms i A′ → Terms 1 t
     → ¬ List·Memᴰ c (A ++ B) → ¬ List·Memᴰ c (A′ ++ (t ++ B′))
     → Unifies (A ++ (c ∷ B)) (A′ ++ (t ++ B′)) ↔ Unifies (A ++ B) (A′ ++ B′)
@@ -84,7 +84,7 @@ eliminate v {t} xs ys hv ht n = (
       mk (then ρ σ) s (at-place xs ys s (Terms-var hv) ht .1 (here, sym (inst-then ρ σ xs) ∙ u .same ∙ inst-then ρ σ ys)),
 )
 
--- distinct variables
+-- distinct variables, so many of them; and variables that do not occur in a list
 pub data Fresh : ℕ → List ℕ → Type 0 where
   nil : Fresh 0 []
   cons : {w k : ℕ} {ws : List ℕ} → isVar w ≡ true → ¬ List·Memᴰ w ws → Fresh k ws → Fresh (suc k) (w ∷ ws)
@@ -130,7 +130,7 @@ symbol-value {σ} c v B B′ s hc hv e =
     let cd = head-eq-of-cons-eq q in
     (o .1, rw cd (o .2), rw cd (rw add-zero at (o .3)), tail-eq-of-cons-eq q)
 
--- (4) a symbol against a variable of the goal
+-- a symbol against a variable of the goal
 pub goal-variable : (c v : ℕ) {i : ℕ} {A A′ ws : List ℕ} (B B′ : List ℕ) → isVar c ≡ false → isVar v ≡ true → Terms i A → Terms i A′ → Fresh (arity c) ws
     → ¬ List·Memᴰ v (A ++ B) → Apart ws (v ∷ A ++ B) → Apart ws (A′ ++ B′)
     → Unifies (A ++ (c ∷ B)) (A′ ++ (v ∷ B′)) ↔ Unifies (A ++ B) (inst (bind v (c ∷ ws) idS) A′ ++ (ws ++ inst (bind v (c ∷ ws) idS) B′))
