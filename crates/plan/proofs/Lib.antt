@@ -4,7 +4,6 @@ pub mod SizeLaws
 pub mod ReadingLaws
 pub mod CheckLaws
 pub mod MarksLaws
-pub mod Examples
 pub mod MaskLaws
 pub mod ColumnLaws
 pub mod RowsLaws
@@ -13,3 +12,4 @@ pub mod LoopLaws
 pub mod EntryLaws
 pub mod Accepts
 pub mod Fixed
+pub mod Examples

@@ -41,12 +41,12 @@ pub fn run_count(column: &[u32]) -> usize
         return 0;
     }
     let mut count = 1;
-    let mut n = 1;
-    while n < column.len() {
-        if !same_symbol(column[n - 1], column[n]) {
+    let mut row = 1;
+    while row < column.len() {
+        if !same_symbol(column[row - 1], column[row]) {
             count += 1;
         }
-        n += 1;
+        row += 1;
     }
     count
 }

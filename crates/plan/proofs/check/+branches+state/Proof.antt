@@ -174,6 +174,29 @@ branches-loop-again t c = rw (c .mark .ensures .0, c .mark .ensures .1) (turn-on
 branches-returns-4 : (t : ℕ) → branches-lts.Need-returns-4 (branches-with t) (branches-at t) branches.Post branches-Inv-loop branches-μ-loop
 branches-returns-4 t c = going-done (c .before .loop .inv) (c .loop-test .left)
 
+-- the places of `state` that its answers go back to: where its first cell is read, with the call and the test before that
+abbrev At-cell : ℕ → Type 0
+At-cell t = state-lts.After-shared-slice-known3 (state-with t) (state-at t) state.Post
+
+abbrev asked : (t : ℕ) → At-cell t → state-lts.Start (state-with t) (state-at t) state.Post
+asked t c = c .before .before .before .before .before .before .before
+
+abbrev there : (t : ℕ) → At-cell t → state-lts.Else1 (state-with t) (state-at t) state.Post
+there t c = c .before .before .before .before
+
+-- and where its runs are counted, with the second cell's mark and test before that, and the first cell
+abbrev At-runs : ℕ → Type 0
+At-runs t = state-lts.After-run-count (state-with t) (state-at t) state.Post
+
+abbrev closed : (t : ℕ) → At-runs t → state-lts.After-close-rows (state-with t) (state-at t) state.Post
+closed t c = c .before .before .before .before .before
+
+abbrev second : (t : ℕ) → At-runs t → state-lts.Else5 (state-with t) (state-at t) state.Post
+second t c = closed t c .before .before .before .before .before .before
+
+abbrev cell : (t : ℕ) → At-runs t → At-cell t
+cell t c = second t c .before .before .before
+
 state-refusal-requires : (t : ℕ) → state-lts.Need-refusal-requires (state-with t) (state-at t) state.Post
 state-refusal-requires t c κs = search needs
 
@@ -202,10 +225,14 @@ state-refusal-requires-2 : (t : ℕ) → state-lts.Need-refusal-requires-2 (stat
 state-refusal-requires-2 t c κs = search needs
 
 state-returns-2 : (t : ℕ) → state-lts.Need-returns-2 (state-with t) (state-at t) state.Post
-state-returns-2 t c = done-rows (c .before .before .before .before .before .before .before .before .before .before .pre .1) (c .before .before .if2 .taken) (c .before .before .before .before .before .before .before .if1 .left) (c .before .if3 .taken) (c .refusal2 .ensures)
+state-returns-2 t c =
+    let s = c .before .before .before in
+    done-rows (asked t s .pre .1) (c .before .before .if2 .taken) (there t s .if1 .left) (c .before .if3 .taken) (c .refusal2 .ensures)
 
 state-returns-3 : (t : ℕ) → state-lts.Need-returns-3 (state-with t) (state-at t) state.Post
-state-returns-3 t c = rw (c .before .before .before .mark .ensures .0, c .before .before .before .mark .ensures .1) (done-leaf (c .before .before .before .before .before .before .before .before .before .pre .1) (c .before .if2 .taken) (c .before .before .before .before .before .before .if1 .left) (c .if3 .left))
+state-returns-3 t c =
+    let s = c .before .before in
+    rw (s .before .mark .ensures .0, s .before .mark .ensures .1) (done-leaf (asked t s .pre .1) (c .before .if2 .taken) (there t s .if1 .left) (c .if3 .left))
 
 state-cast-if4 : (t : ℕ) → state-lts.Need-cast-if4 (state-with t) (state-at t) state.Post
 state-cast-if4 t c = record { fits = omega (arith, c .before .shared-slice-known3 .given (c .before .before .before .before .before .before .before .before .args .at)) }
@@ -214,13 +241,17 @@ state-refusal-requires-3 : (t : ℕ) → state-lts.Need-refusal-requires-3 (stat
 state-refusal-requires-3 t c κs = search needs
 
 state-returns-4 : (t : ℕ) → state-lts.Need-returns-4 (state-with t) (state-at t) state.Post
-state-returns-4 t c = done-open (c .before .before .before .before .before .before .before .before .before .before .pre .1) (omega arith) (c .before .before .before .before .before .before .before .if1 .left) (c .before .if4 .taken) (c .refusal3 .ensures)
+state-returns-4 t c =
+    let s = c .before .before .before in
+    done-open (asked t s .pre .1) (omega arith) (there t s .if1 .left) (c .before .if4 .taken) (c .refusal3 .ensures)
 
 state-refusal-requires-4 : (t : ℕ) → state-lts.Need-refusal-requires-4 (state-with t) (state-at t) state.Post
 state-refusal-requires-4 t c κs = search needs
 
 state-returns-5 : (t : ℕ) → state-lts.Need-returns-5 (state-with t) (state-at t) state.Post
-state-returns-5 t c = done-ends-2 (c .before .before .before .before .before .before .before .before .before .before .before .pre .1) (omega arith) (c .before .before .before .before .before .before .before .before .if1 .left) (c .before .before .if4 .left) (c .before .if5 .taken) (c .refusal4 .ensures)
+state-returns-5 t c =
+    let s = c .before .before .before .before in
+    done-ends-2 (asked t s .pre .1) (omega arith) (there t s .if1 .left) (c .before .before .if4 .left) (c .before .if5 .taken) (c .refusal4 .ensures)
 
 state-mark-requires-2 : (t : ℕ) → state-lts.Need-mark-requires-2 (state-with t) (state-at t) state.Post
 state-mark-requires-2 t c κs = search needs
@@ -257,15 +288,18 @@ state-refusal-requires-5 t c κs = search needs
 
 state-returns-6 : (t : ℕ) → state-lts.Need-returns-6 (state-with t) (state-at t) state.Post
 state-returns-6 t c =
-    let e = c .before .before .before .before .before .before .before .before .before .before .before .before .before in
-    done-edges (e .before .before .before .before .before .before .before .before .before .before .pre .1) (omega arith) (e .if5 .left) (e .before .if4 .left) (c .before .before .before .before .before .before .before .close-rows .ensures) (c .before .before .run-count .result) (c .before .before .run-count .ensures)
+    let r = c .before .before in
+    let e = second t r in
+    done-edges (asked t (cell t r) .pre .1) (omega arith) (e .if5 .left) (e .before .if4 .left) (closed t r .close-rows .ensures) (r .run-count .result) (r .run-count .ensures)
     (c .before .if6 .taken) (c .refusal5 .ensures)
 
 state-sub-branches : (t : ℕ) → state-lts.Need-sub-branches (state-with t) (state-at t) state.Post
 state-sub-branches t c = search needs
 
 state-add-branches : (t : ℕ) → state-lts.Need-add-branches (state-with t) (state-at t) state.Post
-state-add-branches t c = let e = c .before .before .before .before .before .before .before .before .before .before .before .before .before .before .before .before in record { fits = omega (arith, e .before .before .before .before .before .before .before .before .before .before .pre .1 .room .size, e .if5 .left) }
+state-add-branches t c =
+    let r = c .before .before .before .before .before in
+    record { fits = omega (arith, asked t (cell t r) .pre .1 .room .size, second t r .if5 .left) }
 
 state-branches-requires : (t : ℕ) → state-lts.Need-branches-requires (state-with t) (state-at t) state.Post
 state-branches-requires t c κs =

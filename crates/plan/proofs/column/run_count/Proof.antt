@@ -11,11 +11,11 @@ use Rattle.plan.proofs.column.run_count.Statement.{statement}
 use Rattle.plan.proofs.column.run_count.Tie as tie
 
 abbrev Inv-loop : tie.InvT-loop
-Inv-loop column count₀ n₀ count n =
-    (1 ≤ n) × (n ≤ length column) × (count ≤ n) × (count + breaks (getD column (n - 1) 0) (drop n column) ≡ runCount column)
+Inv-loop column count₀ row₀ count row =
+    (1 ≤ row) × (row ≤ length column) × (count ≤ row) × (count + breaks (getD column (row - 1) 0) (drop row column) ≡ runCount column)
 
 abbrev μ-loop : tie.MeasureT-loop
-μ-loop column count₀ n₀ count n = length column - n
+μ-loop column count₀ row₀ count row = length column - row
 
 returns : tie.Need-returns Inv-loop μ-loop
 returns c = sym (count-none (c .before .before .args .column .now) (omega arith))
@@ -44,8 +44,8 @@ same-symbol-requires c κs = search needs
 add-count : tie.Need-add-count Inv-loop μ-loop
 add-count c = search needs
 
-add-n : tie.Need-add-n Inv-loop μ-loop
-add-n c = search needs
+add-row : tie.Need-add-row Inv-loop μ-loop
+add-row c = search needs
 
 loop-less : tie.Need-loop-less Inv-loop μ-loop
 loop-less c = search needs
@@ -56,12 +56,12 @@ loop-again c =
     let l = c .before .before .before .before .before .loop in
     let e = sym (c .before .same-symbol .ensures) in
     ⊎-elim
-    (λ w. (omega arith, omega arith, omega arith, omega (arith, l .inv .3, breaks-one cs (l .n) (omega arith) (e ∙ not-true _ (w .0 .taken)))))
-    (λ w. (omega arith, omega arith, omega arith, omega (arith, l .inv .3, breaks-none cs (l .n) (omega arith) (e ∙ not-false _ (w .0 .left)))))
+    (λ w. (omega arith, omega arith, omega arith, omega (arith, l .inv .3, breaks-one cs (l .row) (omega arith) (e ∙ not-true _ (w .0 .taken)))))
+    (λ w. (omega arith, omega arith, omega arith, omega (arith, l .inv .3, breaks-none cs (l .row) (omega arith) (e ∙ not-false _ (w .0 .left)))))
     (c .if2 .came)
 
 returns-2 : tie.Need-returns-2 Inv-loop μ-loop
-returns-2 c = let l = c .before .loop in omega (arith, l .inv .3, breaks-all (c .before .before .before .before .args .column .now) (l .n) (omega arith))
+returns-2 c = let l = c .before .loop in omega (arith, l .inv .3, breaks-all (c .before .before .before .before .args .column .now) (l .row) (omega arith))
 
 pub run-count-spec : {M : Type 1} → statement M
 run-count-spec =
@@ -78,7 +78,7 @@ run-count-spec =
     shared-slice-read-same-symbol-2
     same-symbol-requires
     add-count
-    add-n
+    add-row
     loop-less
     loop-again
     returns-2)
