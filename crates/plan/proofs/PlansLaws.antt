@@ -2,7 +2,7 @@
 -- and 01's cost is the number of branches.
 use mathlib.Core.Path.{_≡_, refl, ap, ap₂, pathJ}
 use mathlib.Core.Bool.{Bool, true, false, cond}
-use mathlib.Core.List.{List, [], _++_, append-assoc}
+use mathlib.Core.List.{List, [], _∷_, _++_, append-assoc}
 use Prim.Native.Nat.{ℕ, suc, _≤_, _<_}
 use native.Mathlib.Bridge.{le-prop}
 use native.Mathlib.Omega.{arith}
@@ -52,6 +52,12 @@ mutual
 -- at most one plan of a state writes given cells
 pub write-one : {k : ℕ} {rows : List (List ℕ)} (p q : Plan k rows) → write p ≡ write q → p ≡ q
 write-one p q e = plan-one p q [] [] (ap (λ (l : List ℕ). l ++ []) e) .0
+
+-- a state with no open place is a leaf
+pub leaf-cells : {k : ℕ} {rows : List (List ℕ)} (p : Plan k rows) → k ≡ 0 → write p ≡ length rows ∷ []
+unfolding write
+leaf-cells leaf e = refl
+leaf-cells (node i h bs) e = absurd (omega arith)
 
 -- so whatever is defined by a plan is the same of two plans that write the same cells for the same state
 pub plan-tells : {A : Type 0} (f : (k : ℕ) (rows : List (List ℕ)) → Plan k rows → A) {k k′ : ℕ} {rows rows′ : List (List ℕ)} → k ≡ k′ → rows ≡ rows′

@@ -13,8 +13,11 @@ use Rattle.cell.specs.Cell.{arity, isVar, valuesAt}
 use Rattle.cell.proofs.CellLaws.{var-arity, var-small, cell-accepted}
 use Rattle.term.specs.Terms.{Terms, none, more, front, root, close}
 use Rattle.term.specs.Unify.{Unifies, renamed, Matches}
+use Rattle.term.proofs.Lists.{getD-zeros}
+use Rattle.term.proofs.TermsLaws.{terms-long}
 use Rattle.term.proofs.Tests.{bool-cases}
 use Rattle.table.specs.All.{All}
+use Rattle.table.proofs.AllLaws.{all-each}
 use Rattle.table.specs.Table.{Row, IsTable, IsGoal}
 use Rattle.table.proofs.Accepted.{few-variables}
 use Rattle.plan.specs.Runs.{Run}
@@ -30,8 +33,7 @@ use Rattle.run.specs.Walk.{hits, tried, Deep, DeepIn}
 use Rattle.run.proofs.AfterLaws.{GoalLike}
 use Rattle.run.proofs.SkeletonLaws.{fill-all, count-all, start}
 use Rattle.run.proofs.RefLaws.{lift-var, lift-symbol}
-use Rattle.run.proofs.StartLaws.{terms-long, getD-zeros}
-use Rattle.run.proofs.MeaningLaws.{Fine, Numbers, hits-mean, tried-mean, all-map}
+use Rattle.run.proofs.MeaningLaws.{Fine, Numbers, hits-mean, tried-mean}
 
 -- The rows.
 
@@ -52,7 +54,7 @@ fine-row w r h =
     }
 
 pub table-fine : {t : List ℕ} {w : ℕ} {rows : List (List ℕ)} → IsTable t w rows → All (Fine (replicate w hole)) rows
-table-fine {w = w} {rows = rows} i = all-map (Row w) (Fine (replicate w hole)) (fine-row w) rows (i .each)
+table-fine {w = w} {rows = rows} i = all-each (Row w) (Fine (replicate w hole)) (fine-row w) rows (i .each)
 
 -- rows that fit: at most so many cells, so what is open below a branch is less
 fits-wide : (n k : ℕ) (rows : List (List ℕ)) → 0 < length rows → All (Fits n k) rows → k ≤ n
@@ -200,7 +202,7 @@ picks-map F g h a (miss {r} p w) = miss (λ q. p (h r (a .0) q)) (picks-map F g 
 
 module _ {w : ℕ} {g : List ℕ} {rows : List (List ℕ)} (h : IsGoal w g) (a : All (Row w) rows) (s : 0 < length rows) (tree : Plan w rows) where
   fine : All (Fine (replicate w hole)) rows
-  fine = all-map (Row w) (Fine (replicate w hole)) (fine-row w) rows a
+  fine = all-each (Row w) (Fine (replicate w hole)) (fine-row w) rows a
 
   fits : All (Fits 32 w) rows
   fits = rows-fit w rows a

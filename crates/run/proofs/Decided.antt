@@ -18,7 +18,7 @@ use Rattle.run.specs.Skeleton.{hole, opened}
 use Rattle.run.specs.Run.{Picks, none, hit, miss, Counts, zero-of, one-of, none-of, skeletons, Tried, runTold, Ran, refusal, ran}
 use Rattle.run.specs.declared.RunAnswer.{RunAnswer}
 use Rattle.run.proofs.AcceptedLaws.{goal-head, table-fine}
-use Rattle.run.proofs.AllLaws.{skeletons-terms}
+use Rattle.run.proofs.OpenGoalLaws.{skeletons-terms}
 use Rattle.run.proofs.TakesLaws.{Takes, takes-run}
 use Rattle.run.proofs.Fixed.{picks-one, counts-one, skeletons-one}
 

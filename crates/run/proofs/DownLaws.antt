@@ -11,6 +11,7 @@ use lib.ListN.{length, getD, take, drop, set, length-set, length-append}
 use lib.Seq.{sets, length-sets, set-set, set-getD, take-take}
 use Rattle.cell.specs.Cell.{arity, isVar}
 use Rattle.cell.proofs.CellLaws.{var-arity}
+use Rattle.term.proofs.Lists.{take-sets}
 use Rattle.table.specs.All.{All}
 use Rattle.table.specs.Table.{upFrom}
 use Rattle.plan.specs.Plans.{write}
@@ -25,7 +26,7 @@ use Rattle.run.specs.declared.walk.Found.{Found}
 use Rattle.run.specs.declared.walk.Found.the-variants.{Other, Same, Unbound}
 use Rattle.run.proofs.CountLaws.{up-length}
 use Rattle.run.proofs.SeeLaws.{steps-none}
-use Rattle.run.proofs.PlacesLaws.{reset, sets-below, steps-length, before-made, slot-made, before-leads, last-small, held-length, held-opened, opened}
+use Rattle.run.proofs.PlacesLaws.{reset, steps-length, before-made, slot-made, before-leads, last-small, held-length, held-opened, opened}
 use Rattle.run.proofs.LinkLaws.{Down, down-variable, down-symbol, down-bind, symbol-safe, new-safe, loose-safe, stuck-symbol}
 use Rattle.run.proofs.WalkLaws.{read}
 
@@ -275,7 +276,7 @@ module _ {plan es ms gs sib bs ns rs ls room cs : List ℕ} {at k m before slot 
         links-same = rw x (set-set ls before m slot ∙ ap (set ls before) (sym leads) ∙ set-getD ls before 0);
         size = r .size ∙ rw er (length-sets rs m (steps sib a p));
         kept = sym (take-take m (m + a) rs″ (omega arith)) ∙ ap (take m) (r .kept) ∙ take-take m (m + a) _ (omega arith)
-            ∙ rw er (sets-below rs (steps sib a p) m m (omega arith) (omega (arith, steps-length sib a p, o .size-refs, bounds a e)));
+            ∙ rw er (take-sets rs (steps sib a p) m m (omega arith));
         size-counts = r .size-counts;
       }
 

@@ -11,7 +11,7 @@ pub mod WalkLaws
 pub mod DownLaws
 pub mod StartLaws
 pub mod MeaningLaws
-pub mod AllLaws
+pub mod OpenGoalLaws
 pub mod AcceptedLaws
 pub mod Fixed
 pub mod TakesLaws

@@ -10,9 +10,10 @@ use lib.ListN.{length, length-append}
 use Rattle.cell.specs.Cell.{arity, isVar}
 use Rattle.term.specs.Terms.{Terms, front, back, root, close}
 use Rattle.term.specs.Unify.{inst, Unifies, renamed}
-use Rattle.term.proofs.TermsLaws.{front-back, front-terms, back-terms, one-cell, Terms-++, zero-nil}
+use Rattle.term.proofs.TermsLaws.{front-back, front-terms, back-terms, one-cell, Terms-++, zero-nil, terms-long}
 use Rattle.term.proofs.Inst.{idS, Subst-id}
 use Rattle.table.specs.All.{All}
+use Rattle.table.proofs.AllLaws.{all-each}
 use Rattle.table.specs.Table.{count, upFrom}
 use Rattle.plan.specs.Runs.{Run, agree, joinIf, join, runs}
 use Rattle.plan.specs.Plans.{Plan, leaf, node, Branches, end, next}
@@ -25,7 +26,6 @@ use Rattle.run.specs.Walk.{under, hits, hitsIn, tried, triedIn, Deep, De
 use Rattle.run.proofs.CountLaws.{count-mem, mem-count, Linear}
 use Rattle.run.proofs.AfterLaws.{RowLike}
 use Rattle.run.proofs.SkeletonLaws.{Holds, Decided, goes, ends, step, reached, fill-decide, decide-count, count-fill, var-no-hole, three-of, one-row, Opened, opened-row}
-use Rattle.run.proofs.StartLaws.{terms-long}
 
 -- A row under a skeleton: its open terms x.
 pub record Fine (K x : List ℕ) : Type 0 where
@@ -155,10 +155,6 @@ picks-none : (P : List ℕ → Type 0) (rs : List (List ℕ)) (f : ℕ) → All 
 picks-none P [] f a = none
 picks-none P (r ∷ rs) f a = miss (a .0) (picks-none P rs (suc f) (a .1))
 
-pub all-map : (P Q : List ℕ → Type 0) → ((x : List ℕ) → P x → Q x) → (rs : List (List ℕ)) → All P rs → All Q rs
-all-map P Q h [] a = tt
-all-map P Q h (r ∷ rs) a = (h r (a .0), all-map P Q h rs (a .1))
-
 -- a row of a run, under the skeleton below the branch
 abbrev pub Below : ℕ → List ℕ → ℕ → List ℕ → Type 0
 Below i K c x = Fine (decide i c K) x × (c ≢ hole)
@@ -179,7 +175,7 @@ module _ (i k c : ℕ) (K : List ℕ) (rows : List (List ℕ)) (e : count hole K
   holes-below = let z = decide-count i c K cell-hole (omega arith) in omega arith
 
   pub fine-below : All (Fine (decide i c K)) rows
-  fine-below = all-map (Below i K c) (Fine (decide i c K)) (λ x y. y .0) rows a
+  fine-below = all-each (Below i K c) (Fine (decide i c K)) (λ x y. y .0) rows a
 
 -- numbers of variables: m is the next one, n cells are left in each row
 pub record Numbers (k m n : ℕ) : Type 0 where
@@ -201,7 +197,7 @@ module _ (G : List ℕ) where
   one-mean i c K m rows f h F (goes {R} H) ih = ih R H
   one-mean i c K m rows f h F (ends n) ih =
       picks-none (Fills (decide i c K)) rows f
-      (all-map (Fine (decide i c K)) (λ (x : List ℕ). ¬ Fills (decide i c K) x) (λ x y. n x (y .terms) (row-like y) (y .lin)) rows F)
+      (all-each (Fine (decide i c K)) (λ (x : List ℕ). ¬ Fills (decide i c K) x) (λ x y. n x (y .terms) (row-like y) (y .lin)) rows F)
 
   -- the hits are the rows that unify
   mutual
@@ -211,7 +207,7 @@ module _ (G : List ℕ) where
         → Picks (Fills K) rows f (hits p m R f)
     hits-mean (leaf {rows}) K R m n f H e a u t =
         picks-all (Fills K) rows f
-        (all-map (Fine K) (Fills K) (λ x F. H .same x (F .terms) (row-like F) (F .lin) .1 (Unify-none (rw e at (F .terms)) (rw e at (H .terms)))) rows a)
+        (all-each (Fine K) (Fills K) (λ x F. H .same x (F .terms) (row-like F) (F .lin) .1 (Unify-none (rw e at (F .terms)) (rw e at (H .terms)))) rows a)
     hits-mean (node {k} {rows} i h bs) K R m n f H e a u t =
         let q : count hole K ≡ i + suc (k - i) = omega arith in
         picks-runs (λ c x. Fills (decide i c K) x) (Fills K) (Fine K) i

@@ -2,41 +2,22 @@
 use Prim.Native.Nat.{ℕ, zero, suc, _+_, _-_, _≤_, _<_}
 use mathlib.Core.Path.{_≡_, refl, sym, _∙_, ap, ap₂, subst, subst⁻¹}
 use mathlib.Core.Logic.{_≢_, _⊎_, inl, inr, ⊎-elim}
-use mathlib.Core.List.{List, [], _∷_, _++_, map-append, append-assoc}
-use native.Mathlib.Nat.{add-zero}
+use mathlib.Core.List.{List, [], _∷_, _++_, map-append}
 use native.Mathlib.Omega.{arith}
 use borrow.Author.Tests.{eq-eqb, ne-eqb}
 use lib.ListN.{length, getD, take, drop, set, length-set}
-use lib.Seq.{sets, sets-eq, length-sets, length-take-le, getD-take, drop-cons, take-at, drop-at, take-take, take-append-le, getD-set-same, getD-set-other, set-set, set-getD}
+use lib.Seq.{sets, length-sets, getD-take, drop-cons, getD-set-same, getD-set-other, set-set, set-getD}
+use Rattle.term.proofs.Lists.{sets-found, take-sets}
 use Rattle.table.specs.All.{All}
+use Rattle.table.proofs.AllLaws.{all-each, all-both, all-front, all-back, all-++}
 use Rattle.table.specs.Table.{upFrom}
 use Rattle.run.specs.See.{steps, hopOf}
 use Rattle.run.proofs.SeeLaws.{up-none, up-more}
 use Rattle.run.specs.Places.{Path, lastOf, Apart, held, lastNew, Open}
 
--- Writing several cells.
-
 -- below an index two lists agree: so do their elements there
 pub same-below : (l l′ : List ℕ) (n j : ℕ) → take n l ≡ take n l′ → j < n → getD l j 0 ≡ getD l′ j 0
 same-below l l′ n j e h = sym (getD-take n l j 0 h) ∙ ap (λ (x : List ℕ). getD x j 0) e ∙ getD-take n l′ j 0 h
-
--- several stores from an index on leave what is below, and are found from there on
-pub sets-below : (l xs : List ℕ) (n i : ℕ) → n ≤ i → i + length xs ≤ length l → take n (sets l i xs) ≡ take n l
-sets-below l xs n i h b =
-    rw (sets-eq xs l i b, append-assoc (take i l) xs (drop (i + length xs) l), take-append-le n (take i l) (xs ++ drop (i + length xs) l) (omega (arith, length-take-le i l (omega arith))))
-    (take-take n i l h)
-
-sets-found : (l xs : List ℕ) (i : ℕ) → i + length xs ≤ length l → take (length xs) (drop i (sets l i xs)) ≡ xs
-sets-found l xs i b =
-    let p : length (take i l) ≡ i = length-take-le i l (omega arith) in
-    rw (sets-eq xs l i b, append-assoc (take i l) xs (drop (i + length xs) l), drop-at (take i l) (xs ++ drop (i + length xs) l) i p)
-    (take-at xs (drop (i + length xs) l) (length xs) refl)
-
-pub sets-sets : (l : List ℕ) (i : ℕ) (xs ys : List ℕ) → sets (sets l i xs) (i + length xs) ys ≡ sets l i (xs ++ ys)
-sets-sets l i [] ys = rw add-zero
-sets-sets l i (a ∷ xs) ys =
-    let e : i + suc (length xs) ≡ suc i + length xs = omega arith in
-    rw e (sets-sets (set l i a) (suc i) xs ys)
 
 -- a store taken back
 pub reset : (l l′ : List ℕ) (v c : ℕ) → l′ ≡ set l v c → set l′ v (getD l v 0) ≡ l
@@ -47,30 +28,12 @@ unfolding steps
 steps-length sib zero p = refl
 steps-length sib (suc a) p = ap suc (steps-length sib a (getD sib p 0))
 
--- What holds of all.
-
-pub all-each : (P Q : ℕ → Type 0) → ((x : ℕ) → P x → Q x) → (xs : List ℕ) → All P xs → All Q xs
-all-each P Q h [] a = tt
-all-each P Q h (x ∷ xs) a = (h x (a .0), all-each P Q h xs (a .1))
-
-all-++ : (P : ℕ → Type 0) (xs ys : List ℕ) → All P xs → All P ys → All P (xs ++ ys)
-all-++ P [] ys a b = b
-all-++ P (x ∷ xs) ys a b = (a .0, all-++ P xs ys (a .1) b)
-
-all-split : (P : ℕ → Type 0) (xs ys : List ℕ) → All P (xs ++ ys) → All P xs × All P ys
-all-split P [] ys a = (tt, a)
-all-split P (x ∷ xs) ys a = let r = all-split P xs ys (a .1) in ((a .0, r .0), r .1)
-
-all-both : (P Q : ℕ → Type 0) (xs : List ℕ) → All P xs → All Q xs → All (λ (x : ℕ). P x × Q x) xs
-all-both P Q [] a b = tt
-all-both P Q (x ∷ xs) a b = ((a .0, b .0), all-both P Q xs (a .1) (b .1))
+-- Where the links lead.
 
 all-last : (P : ℕ → Type 0) (h : ℕ) (xs : List ℕ) → All P (h ∷ xs) → P (lastOf h xs)
 unfolding lastOf
 all-last P h [] a = a .0
 all-last P h (x ∷ xs) a = all-last P x xs (a .1)
-
--- Paths.
 
 path-split : (l : List ℕ) (h : ℕ) (xs ys : List ℕ) → Path l h (xs ++ ys) → Path l h xs × Path l (lastOf h xs) ys
 unfolding Path lastOf
@@ -121,8 +84,8 @@ unfolding Apart
 apart-split [] ys a = (tt, a, tt)
 apart-split (x ∷ xs) ys a =
     let r = apart-split xs ys (a .1) in
-    let s = all-split (λ (y : ℕ). x ≢ y) xs ys (a .0) in
-    ((s .0, r .0), r .1, (s .1, r .2))
+    let P : ℕ → Type 0 = λ (y : ℕ). x ≢ y in
+    ((all-front P xs ys (a .0), r .0), r .1, (all-back P xs ys (a .0), r .2))
 
 apart-join : (xs ys : List ℕ) → Apart xs → Apart ys → All (λ (x : ℕ). All (λ (y : ℕ). x ≢ y) ys) xs → Apart (xs ++ ys)
 unfolding Apart
@@ -184,13 +147,13 @@ held-up l m (suc a) b =
 
 pub held-put : (refs xs : List ℕ) (m a : ℕ) → m + a ≤ length refs → length xs ≡ a → held (sets refs m xs) (upFrom m a) ≡ xs
 held-put refs xs m a b e =
-    held-up (sets refs m xs) m a (omega (arith, length-sets refs m xs)) ∙ ap (λ (k : ℕ). take k (drop m (sets refs m xs))) (sym e) ∙ sets-found refs xs m (omega arith)
+    held-up (sets refs m xs) m a (omega (arith, length-sets refs m xs)) ∙ ap (λ (k : ℕ). take k (drop m (sets refs m xs))) (sym e) ∙ sets-found refs xs m (length xs) (omega arith) refl
 
 held-new : (refs xs A B : List ℕ) (m a : ℕ) → m + a ≤ length refs → length xs ≡ a → All (λ (s : ℕ). s < m) A → All (λ (s : ℕ). s < m) B
     → held (sets refs m xs) (A ++ (upFrom m a ++ B)) ≡ held refs A ++ (xs ++ held refs B)
 held-new refs xs A B m a b e p q =
     let l : List ℕ = sets refs m xs in
-    let low : take m l ≡ take m refs = sets-below refs xs m m (omega arith) (omega arith) in
+    let low : take m l ≡ take m refs = take-sets refs xs m m (omega arith) in
     let n : held l (upFrom m a) ≡ xs = held-put refs xs m a b e in
     map-append (λ (s : ℕ). getD l s 0) A (upFrom m a ++ B) ∙ ap₂ _++_ (held-same refs l m A low p) (map-append (λ (s : ℕ). getD l s 0) (upFrom m a) B ∙ ap₂ _++_ n (held-same refs l m B low q))
 
@@ -218,7 +181,7 @@ module _ {refs links : List ℕ} {m : ℕ} (A : List ℕ) (s : ℕ) (B : List �
   b = lastOf 0 A
 
   pub slots-made : All (λ (x : ℕ). x < m) (0 ∷ A) × All (λ (x : ℕ). x < m) (s ∷ B)
-  slots-made = all-split (λ (x : ℕ). x < m) (0 ∷ A) (s ∷ B) (o .made)
+  slots-made = (all-front (λ (x : ℕ). x < m) (0 ∷ A) (s ∷ B) (o .made), all-back (λ (x : ℕ). x < m) (0 ∷ A) (s ∷ B) (o .made))
 
   slots-apart : Apart (0 ∷ A) × Apart (s ∷ B) × All (λ (x : ℕ). All (λ (y : ℕ). x ≢ y) (s ∷ B)) (0 ∷ A)
   slots-apart = apart-split (0 ∷ A) (s ∷ B) (o .apart)

@@ -1,16 +1,18 @@
 -- Where a walk begins.
-use Prim.Native.Nat.{ℕ, zero, suc, _+_, _≤_, _<_}
+use Prim.Native.Nat.{ℕ, _+_, _≤_, _<_}
 use mathlib.Core.Path.{_≡_, refl, sym, _∙_, ap}
 use mathlib.Core.Logic.{_≢_}
 use mathlib.Core.List.{List, [], append-nil}
 use native.Mathlib.Nat.{add-zero, zero-add}
 use native.Mathlib.Omega.{arith}
-use lib.ListN.{length, getD, drop, replicate, length-replicate}
+use lib.ListN.{length, drop, replicate, length-replicate}
 use lib.Seq.{sets, length-sets}
-use Rattle.term.specs.Terms.{Terms, none, more, front}
+use Rattle.term.specs.Terms.{Terms, more, front}
+use Rattle.term.proofs.Lists.{getD-zeros}
 use Rattle.term.proofs.TermsLaws.{front-++}
 use Rattle.term.proofs.Inst.{idS, Subst-id, inst-id}
 use Rattle.table.specs.All.{All}
+use Rattle.table.proofs.AllLaws.{all-each}
 use Rattle.table.specs.Table.{upFrom}
 use Rattle.plan.specs.Plans.{write}
 use Rattle.run.specs.See.{steps}
@@ -18,20 +20,11 @@ use Rattle.run.specs.Link.{Bound}
 use Rattle.run.specs.Places.{Path, Apart, held, Open}
 use Rattle.run.specs.Walk.{hits, tried, found, tries, Ready, StateWalked, Begun}
 use Rattle.run.proofs.CountLaws.{up-length}
-use Rattle.run.proofs.PlacesLaws.{steps-length, held-put, up-at, up-range, up-apart, up-path, all-each}
+use Rattle.run.proofs.PlacesLaws.{steps-length, held-put, up-at, up-range, up-apart, up-path}
 use Rattle.run.proofs.RefLaws.{Stand, steps-refs}
 
-pub terms-long : {k : ℕ} {xs : List ℕ} → Terms k xs → k ≤ length xs
-terms-long none = omega arith
-terms-long (more {c} {k} t) = let h = terms-long t in omega arith
-
-abbrev pub zeros : ℕ → List ℕ
+abbrev zeros : ℕ → List ℕ
 zeros n = replicate n 0
-
-pub getD-zeros : (n v : ℕ) → getD (zeros n) v 0 ≡ 0
-getD-zeros zero v = refl
-getD-zeros (suc n) zero = refl
-getD-zeros (suc n) (suc v) = getD-zeros n v
 
 -- nothing is bound
 unbound : Bound (zeros 64) (zeros 64) 32 idS

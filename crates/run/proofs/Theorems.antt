@@ -18,7 +18,7 @@ use Rattle.plan.proofs.CheckLaws.{accepted-one}
 use Rattle.run.specs.Skeleton.{hole, decide}
 use Rattle.run.specs.Run.{Picks, none, hit, miss, Counts, zero-of, one-of, none-of, skeletons, skeletonsIn, Tried, runTold, Ran, refusal, ran}
 use Rattle.run.specs.declared.RunAnswer.{RunAnswer}
-use Rattle.run.proofs.AllLaws.{every-branch}
+use Rattle.run.proofs.OpenGoalLaws.{every-branch}
 use Rattle.run.proofs.AcceptedLaws.{table-fine}
 use Rattle.run.proofs.TakesLaws.{Takes, run-takes, takes-run, any-plan}
 use Rattle.run.proofs.Fixed.{picks-one, counts-one}

@@ -6,12 +6,15 @@ use native.Mathlib.Omega.{arith}
 use lib.ListN.{length, getD, take, drop, set, length-append, length-drop}
 use lib.Seq.{sets, drop-drop, drop-at, split-at, length-take-le}
 use Rattle.table.specs.All.{All}
+use Rattle.table.proofs.AllLaws.{all-each}
 use Rattle.table.specs.Table.{upFrom}
 use Rattle.plan.specs.Runs.{Run, runs}
 use Rattle.plan.specs.Plans.{Plan, leaf, node, Branches, end, next, write, writes}
+use Rattle.plan.proofs.PlansLaws.{leaf-cells}
 use Rattle.plan.proofs.MarksLaws.{Noted, NotedIn}
 use Rattle.plan.proofs.RunsLaws.{rowsIn, group-rows}
 use Rattle.term.specs.Terms.{root, close}
+use Rattle.term.proofs.Lists.{sets-sets}
 use Rattle.run.specs.After.{left, after}
 use Rattle.run.specs.See.{viewOf, steps, hopOf, Visible}
 use Rattle.run.specs.Places.{lastOf, held, Open, Spot}
@@ -20,7 +23,7 @@ use Rattle.run.specs.Walk.{hits, hitsIn, hitsAt, tried, triedIn, passed,
 use Rattle.run.specs.declared.goal.View.{View}
 use Rattle.run.proofs.CountLaws.{up-length}
 use Rattle.run.proofs.FewLaws.{hitsAt-few, triedAt-few}
-use Rattle.run.proofs.PlacesLaws.{sets-sets, before-made, slot-made, before-leads, held-parts, held-same, same-below, open-same, slots-made, hop-path, hop-safe, all-each}
+use Rattle.run.proofs.PlacesLaws.{before-made, slot-made, before-leads, held-parts, held-same, same-below, open-same, slots-made, hop-path, hop-safe}
 use Rattle.run.proofs.RefLaws.{Oks-split}
 
 -- what stands at a place of a list
@@ -34,11 +37,6 @@ read (y ∷ l) (suc at) x xs e =
     (omega arith, r .1, rw q (r .2))
 
 -- A leaf.
-
-leaf-cells : {k : ℕ} {rows : List (List ℕ)} (p : Plan k rows) → k ≡ 0 → write p ≡ length rows ∷ []
-unfolding write
-leaf-cells leaf e = refl
-leaf-cells (node i h bs) e = absurd (let z : ⊥ = omega arith in z)
 
 leaf-hits : {k : ℕ} {rows : List (List ℕ)} (p : Plan k rows) (m : ℕ) (R : List ℕ) (f : ℕ) → k ≡ 0 → hits p m R f ≡ upFrom f (length rows)
 unfolding hits

@@ -1,3 +1,4 @@
+pub mod AllLaws
 pub mod ReadLaws
 pub mod LooksLaws
 pub mod WholeLaws

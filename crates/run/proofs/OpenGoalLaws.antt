@@ -13,6 +13,7 @@ use Rattle.term.specs.Unify.{renamed}
 use Rattle.term.proofs.TermsLaws.{Terms-++}
 use Rattle.term.proofs.Step.{fresh-var}
 use Rattle.table.specs.All.{All}
+use Rattle.table.proofs.AllLaws.{all-++}
 use Rattle.table.specs.Table.{upFrom, count}
 use Rattle.plan.specs.Runs.{Run}
 use Rattle.plan.specs.Plans.{Plan, leaf, node, Branches, end, next}
@@ -48,10 +49,6 @@ renamed-up n (suc a) h =
     let v : isVar n ≡ true = var-small n (omega arith) in
     let r : renamed (upFrom (suc n) a) ≡ upFrom (suc (2 ^ 16 + n)) a = rw q at (renamed-up (suc n) a (omega arith)) in
     rw v (ap (λ (l : List ℕ). (2 ^ 16 + n) ∷ l) r)
-
-all-++ : (P : List ℕ → Type 0) (xs ys : List (List ℕ)) → All P xs → All P ys → All P (xs ++ ys)
-all-++ P [] ys a b = b
-all-++ P (x ∷ xs) ys a b = (a .0, all-++ P xs ys (a .1) b)
 
 -- what every skeleton of w arguments above a row has, all skeletons of a plan have
 module _ (w : ℕ) (Q : List ℕ → Type 0) (has : (K x : List ℕ) → Wide w K → Fine K x → Q K) where
