@@ -41,7 +41,7 @@ pub record Open (refs links : List ℕ) (m : ℕ) (slots : List ℕ) : Type 0 wh
   pub size-refs : length refs ≡ 64
   pub size-links : length links ≡ 64
 
--- one of k open places: A are the slots before its own, the last of them with the head before it; B are those after it
+-- one of k open places: A are the slots before its own, `before` is the last of them or, where there is none, the head; B are those after it
 pub record Spot (refs links : List ℕ) (k m before slot : ℕ) : Type 0 where
   pub A : List ℕ
   pub B : List ℕ

@@ -66,6 +66,19 @@ branch-with t = (test-reads.Asked, test-reads.Learnt, wide-reads.Asked, wide-rea
 abbrev state-with : ℕ → state-lts.Claims
 state-with t = (put-rows-reads.Asked, put-rows-reads.Learnt, hop-reads.Asked, hop-reads.Learnt, wide-reads.Asked, wide-reads.Learnt, look-reads.Asked, look-reads.Learnt, branch-below t, branch.Post)
 
+-- the places of `below` that its answers go back to: where the last new slot is known, and from there the call, the number of arguments and their references
+abbrev Below : ℕ → Type 0
+Below t = below-lts.After-last-new (below-with t) (below-at t) below.Post
+
+abbrev below-begin : (t : ℕ) → Below t → below-lts.Start (below-with t) (below-at t) below.Post
+below-begin t c = c .before .before .before .before .before .before .before .before
+
+abbrev below-counted : (t : ℕ) → Below t → below-lts.After-arity-of (below-with t) (below-at t) below.Post
+below-counted t c = c .before .before .before .before
+
+abbrev below-put : (t : ℕ) → Below t → below-lts.After-put-terms (below-with t) (below-at t) below.Post
+below-put t c = c .before .before
+
 below-mul-arity-of : (t : ℕ) → below-lts.Need-mul-arity-of (below-with t) (below-at t) below.Post
 below-mul-arity-of t c = let w = c .before .before .pre .1 in omega (arith, below-read w .0, w .counted .size)
 
@@ -78,74 +91,73 @@ below-arity-of-requires t c κs = search needs
 below-put-terms-requires : (t : ℕ) → below-lts.Need-put-terms-requires (below-with t) (below-at t) below.Post
 below-put-terms-requires t c κs =
     let w = c .before .before .before .before .before .pre .1 in
-    let b = c .before .arity-of in
-    (omega (arith, bounds w (b .result) (b .ensures)), terms-small w (b .result) (b .ensures))
+    let a = c .before .arity-of in
+    (omega (arith, bounds w (a .result) (a .ensures)), terms-small w (a .result) (a .ensures))
 
 below-element-copy-out-past : (t : ℕ) → below-lts.Need-element-copy-out-past (below-with t) (below-at t) below.Post
 below-element-copy-out-past t c = slots-small (c .before .before .before .before .before .before .pre .1) .1
 
 below-last-new-requires : (t : ℕ) → below-lts.Need-last-new-requires (below-with t) (below-at t) below.Post
-below-last-new-requires t c κs = let b = c .before .before .before .arity-of in omega (arith, bounds (c .before .before .before .before .before .before .before .pre .1) (b .result) (b .ensures))
+below-last-new-requires t c κs = let a = c .before .before .before .arity-of in omega (arith, bounds (c .before .before .before .before .before .before .before .pre .1) (a .result) (a .ensures))
 
 below-cast-links : (t : ℕ) → below-lts.Need-cast-links (below-with t) (below-at t) below.Post
 below-cast-links t c = search needs
 
 below-element-write-links : (t : ℕ) → below-lts.Need-element-write-links (below-with t) (below-at t) below.Post
-below-element-write-links t c = slots-small (c .before .before .before .before .before .before .before .before .pre .1) .0
+below-element-write-links t c = let l = c in slots-small (below-begin t l .pre .1) .0
 
 below-element-copy-out-was : (t : ℕ) → below-lts.Need-element-copy-out-was (below-with t) (below-at t) below.Post
-below-element-copy-out-was t c =
-    let b = c .before .before .before .before .arity-of in
-    let l = c .last-new in
-    last-fits (c .before .before .before .before .before .before .before .before .pre .1) (b .result) (l .result) (b .ensures) (l .ensures)
+below-element-copy-out-was t c = let l = c in last-fits (below-begin t l .pre .1) (below-counted t l .arity-of .result) (l .last-new .result) (below-counted t l .arity-of .ensures) (l .last-new .ensures)
 
 below-element-write-links-2 : (t : ℕ) → below-lts.Need-element-write-links-2 (below-with t) (below-at t) below.Post
-below-element-write-links-2 t c =
-    let b = c .before .before .before .before .before .arity-of in
-    let l = c .before .last-new in
-    last-fits (c .before .before .before .before .before .before .before .before .before .pre .1) (b .result) (l .result) (b .ensures) (l .ensures)
+below-element-write-links-2 t c = let l = c .before in last-fits (below-begin t l .pre .1) (below-counted t l .arity-of .result) (l .last-new .result) (below-counted t l .arity-of .ensures) (l .last-new .ensures)
 
 below-add-state : (t : ℕ) → below-lts.Need-add-state (below-with t) (below-at t) below.Post
-below-add-state t c = let w = c .before .before .before .before .before .before .before .before .before .before .before .before .before .before .before .pre .1 in omega (arith, below-read w .0, w .counted .size)
+below-add-state t c = let l = c .before .before .before .before .before .before .before in omega (arith, below-read (below-begin t l .pre .1) .0, below-begin t l .pre .1 .counted .size)
 
 below-sub-state : (t : ℕ) → below-lts.Need-sub-state (below-with t) (below-at t) below.Post
 below-sub-state t c = search needs
 
 below-add-state-2 : (t : ℕ) → below-lts.Need-add-state-2 (below-with t) (below-at t) below.Post
-below-add-state-2 t c = let b = c .before .before .before .before .before .before .before .before .before .before .before .arity-of in omega (arith, bounds (c .before .before .before .before .before .before .before .before .before .before .before .before .before .before .before .pre .1) (b .result) (b .ensures))
+below-add-state-2 t c = let l = c .before .before .before .before .before .before .before in omega (arith, bounds (below-begin t l .pre .1) (below-counted t l .arity-of .result) (below-counted t l .arity-of .ensures))
 
 below-add-state-3 : (t : ℕ) → below-lts.Need-add-state-3 (below-with t) (below-at t) below.Post
-below-add-state-3 t c = let b = c .before .before .before .before .before .before .before .before .before .before .before .arity-of in omega (arith, bounds (c .before .before .before .before .before .before .before .before .before .before .before .before .before .before .before .pre .1) (b .result) (b .ensures))
+below-add-state-3 t c = let l = c .before .before .before .before .before .before .before in omega (arith, bounds (below-begin t l .pre .1) (below-counted t l .arity-of .result) (below-counted t l .arity-of .ensures))
 
 below-state-requires : (t : ℕ) → below-lts.Need-state-requires (below-with t) (below-at t) below.Post
 below-state-requires t c κs =
-    let w = c .before .before .before .before .before .before .before .before .before .before .before .before .before .before .before .pre .1 in
-    let b = c .before .before .before .before .before .before .before .before .before .before .before .arity-of in
-    (omega (arith, below-read w .0), lower w (b .result) (c .before .before .before .before .before .before .before .last-new .result) _ (b .ensures) (c .before .before .before .before .before .before .before .last-new .ensures) (c .before .before .before .before .before .before .before .before .before .put-terms .ensures) .down)
+    let l = c .before .before .before .before .before .before .before in
+    let w = below-begin t l .pre .1 in
+    let a = below-counted t l .arity-of in
+    (omega (arith, below-read w .0), lower w (a .result) (l .last-new .result) _ (a .ensures) (l .last-new .ensures) (below-put t l .put-terms .ensures) .down)
 
 below-element-write-links-3 : (t : ℕ) → below-lts.Need-element-write-links-3 (below-with t) (below-at t) below.Post
-below-element-write-links-3 t c =
-    let b = c .before .before .before .before .before .before .before .before .before .before .before .before .before .before .arity-of in
-    let l = c .before .before .before .before .before .before .before .before .before .before .last-new in
-    last-fits (c .before .before .before .before .before .before .before .before .before .before .before .before .before .before .before .before .before .before .pre .1) (b .result) (l .result) (b .ensures) (l .ensures)
+below-element-write-links-3 t c = let l = c .before .before .before .before .before .before .before .before .before .before in last-fits (below-begin t l .pre .1) (below-counted t l .arity-of .result) (l .last-new .result) (below-counted t l .arity-of .ensures) (l .last-new .ensures)
 
 below-cast-links-2 : (t : ℕ) → below-lts.Need-cast-links-2 (below-with t) (below-at t) below.Post
-below-cast-links-2 t c = omega (arith, slots-small (c .before .before .before .before .before .before .before .before .before .before .before .before .before .before .before .before .before .before .pre .1))
+below-cast-links-2 t c = let l = c .before .before .before .before .before .before .before .before .before .before in omega (arith, slots-small (below-begin t l .pre .1))
 
 below-element-write-links-4 : (t : ℕ) → below-lts.Need-element-write-links-4 (below-with t) (below-at t) below.Post
-below-element-write-links-4 t c = slots-small (c .before .before .before .before .before .before .before .before .before .before .before .before .before .before .before .before .before .before .pre .1) .0
+below-element-write-links-4 t c = let l = c .before .before .before .before .before .before .before .before .before .before in slots-small (below-begin t l .pre .1) .0
 
 below-same-length : (t : ℕ) → below-lts.Need-same-length (below-with t) (below-at t) below.Post
 below-same-length t c = search needs
 
 below-returns : (t : ℕ) → below-lts.Need-returns (below-with t) (below-at t) below.Post
 below-returns t c =
-    let w = c .before .before .before .before .before .before .before .before .before .before .before .before .before .before .before .before .before .before .pre .1 in
-    let b = c .before .before .before .before .before .before .before .before .before .before .before .before .before .before .arity-of in
+    let l = c .before .before .before .before .before .before .before .before .before .before in
+    let a = below-counted t l .arity-of in
     let s = c .before .before .state in (
-      put-back w (b .result) (c .before .before .before .before .before .before .before .before .before .before .last-new .result) (b .ensures) (c .before .before .before .before .before .before .before .before .before .before .before .before .put-terms .ensures) refl (s .ensures .0),
-      λ w. let l = lower w (b .result) (c .before .before .before .before .before .before .before .before .before .before .last-new .result) _ (b .ensures) (c .before .before .before .before .before .before .before .before .before .before .last-new .ensures) (c .before .before .before .before .before .before .before .before .before .before .before .before .put-terms .ensures) in l .rises _ _ _ (s .ensures .1 (l .down)),
+      put-back (below-begin t l .pre .1) (a .result) (l .last-new .result) (a .ensures) (below-put t l .put-terms .ensures) refl (s .ensures .0),
+      λ w. let d = lower w (a .result) (l .last-new .result) _ (a .ensures) (l .last-new .ensures) (below-put t l .put-terms .ensures) in d .rises _ _ _ (s .ensures .1 (d .down)),
     )
+
+-- those of `branch`: where the test has answered, and from there the call
+abbrev Tested : ℕ → Type 0
+Tested t = branch-lts.After-test (branch-with t) (branch-at t) branch.Post
+
+abbrev branch-begin : (t : ℕ) → Tested t → branch-lts.Start (branch-with t) (branch-at t) branch.Post
+branch-begin t c = c .before .before .before .before .before
 
 branch-mul-c : (t : ℕ) → branch-lts.Need-mul-c (branch-with t) (branch-at t) branch.Post
 branch-mul-c t c = let w = c .before .before .pre .1 in omega (arith, branch-read w .0, w .counted .size)
@@ -169,7 +181,7 @@ branch-enum-told : (t : ℕ) → branch-lts.Need-enum-told (branch-with t) (bran
 branch-enum-told t c = search needs
 
 branch-element-copy-out-wide : (t : ℕ) → branch-lts.Need-element-copy-out-wide (branch-with t) (branch-at t) branch.Post
-branch-element-copy-out-wide t c = let w = c .before .before .before .before .before .before .before .pre .1 in omega (arith, branch-read w .0, w .counted .size)
+branch-element-copy-out-wide t c = let w = branch-begin t (c .before .before) .pre .1 in omega (arith, branch-read w .0, w .counted .size)
 
 branch-wide-requires : (t : ℕ) → branch-lts.Need-wide-requires (branch-with t) (branch-at t) branch.Post
 branch-wide-requires t c κs = search needs
@@ -178,16 +190,16 @@ branch-element-copy-out-counts-2 : (t : ℕ) → branch-lts.Need-element-copy-ou
 branch-element-copy-out-counts-2 t c = search needs
 
 branch-add-counts-2 : (t : ℕ) → branch-lts.Need-add-counts-2 (branch-with t) (branch-at t) branch.Post
-branch-add-counts-2 t c = let w = c .before .before .before .before .before .before .before .before .before .before .pre .1 in omega (arith, c .before .wide .ensures, w .rows-at, w .counted, counts-kept w)
+branch-add-counts-2 t c = let w = branch-begin t (c .before .before .before .before .before) .pre .1 in omega (arith, c .before .wide .ensures, w .rows-at, w .counted, counts-kept w)
 
 branch-element-write-counts-2 : (t : ℕ) → branch-lts.Need-element-write-counts-2 (branch-with t) (branch-at t) branch.Post
 branch-element-write-counts-2 t c = search needs
 
 branch-mul-wide16 : (t : ℕ) → branch-lts.Need-mul-wide16 (branch-with t) (branch-at t) branch.Post
-branch-mul-wide16 t c = let w = c .before .before .before .before .before .before .before .before .before .before .pre .1 in omega (arith, branch-read w .0, w .counted .size)
+branch-mul-wide16 t c = let w = branch-begin t (c .before .before .before .before .before) .pre .1 in omega (arith, branch-read w .0, w .counted .size)
 
 branch-element-copy-out-wide16 : (t : ℕ) → branch-lts.Need-element-copy-out-wide16 (branch-with t) (branch-at t) branch.Post
-branch-element-copy-out-wide16 t c = let w = c .before .before .before .before .before .before .before .before .before .before .pre .1 in omega (arith, branch-read w .0, w .counted .size)
+branch-element-copy-out-wide16 t c = let w = branch-begin t (c .before .before .before .before .before) .pre .1 in omega (arith, branch-read w .0, w .counted .size)
 
 branch-wide16-requires : (t : ℕ) → branch-lts.Need-wide16-requires (branch-with t) (branch-at t) branch.Post
 branch-wide16-requires t c κs = search needs
@@ -197,40 +209,42 @@ branch-enum-known-p t c = search needs
 
 branch-below-requires : (t : ℕ) → branch-lts.Need-below-requires (branch-with t) (branch-at t) branch.Post
 branch-below-requires t c κs =
-    let w = c .before .before .before .before .before .before .before .before .before .before .before .before .before .before .pre .1 in
-    (omega (arith, branch-read w .0), same-down w (c .before .before .before .before .before .before .before .p .given .0 .0) (sym (c .before .before .before .before .before .before .before .before .before .test .ensures) ∙ c .before .before .before .before .before .before .before .p .given .1) .ready)
+    let s = c .before .before .before .before .before .before .before in
+    let w = branch-begin t (s .before .before) .pre .1 in
+    (omega (arith, branch-read w .0), same-down w (s .p .given .0 .0) (sym (s .before .before .test .ensures) ∙ s .p .given .1) .ready)
 
 branch-enum-known-v : (t : ℕ) → branch-lts.Need-enum-known-v (branch-with t) (branch-at t) branch.Post
 branch-enum-known-v t c = search needs
 
 branch-element-copy-out-was : (t : ℕ) → branch-lts.Need-element-copy-out-was (branch-with t) (branch-at t) branch.Post
-branch-element-copy-out-was t c = bind-down (c .before .before .before .before .before .before .before .before .pre .1) (c .before .v .given .0 .0) (sym (c .before .before .before .test .ensures) ∙ c .before .v .given .1) .0
+branch-element-copy-out-was t c = let s = c .before in bind-down (branch-begin t (s .before .before) .pre .1) (s .v .given .0 .0) (sym (s .before .before .test .ensures) ∙ s .v .given .1) .0
 
 branch-mul-bound : (t : ℕ) → branch-lts.Need-mul-bound (branch-with t) (branch-at t) branch.Post
-branch-mul-bound t c = omega (arith, bind-down (c .before .before .before .before .before .before .before .before .before .pre .1) (c .before .before .v .given .0 .0) (sym (c .before .before .before .before .test .ensures) ∙ c .before .before .v .given .1) .0)
+branch-mul-bound t c = let s = c .before .before in omega (arith, bind-down (branch-begin t (s .before .before) .pre .1) (s .v .given .0 .0) (sym (s .before .before .test .ensures) ∙ s .v .given .1) .0)
 
 branch-element-write-bound : (t : ℕ) → branch-lts.Need-element-write-bound (branch-with t) (branch-at t) branch.Post
-branch-element-write-bound t c = bind-down (c .before .before .before .before .before .before .before .before .before .pre .1) (c .before .before .v .given .0 .0) (sym (c .before .before .before .before .test .ensures) ∙ c .before .before .v .given .1) .0
+branch-element-write-bound t c = let s = c .before .before in bind-down (branch-begin t (s .before .before) .pre .1) (s .v .given .0 .0) (sym (s .before .before .test .ensures) ∙ s .v .given .1) .0
 
 branch-cast-args : (t : ℕ) → branch-lts.Need-cast-args (branch-with t) (branch-at t) branch.Post
 branch-cast-args t c = search needs
 
 branch-element-write-args : (t : ℕ) → branch-lts.Need-element-write-args (branch-with t) (branch-at t) branch.Post
-branch-element-write-args t c = bind-down (c .before .before .before .before .before .before .before .before .before .pre .1) (c .before .before .v .given .0 .0) (sym (c .before .before .before .before .test .ensures) ∙ c .before .before .v .given .1) .0
+branch-element-write-args t c = let s = c .before .before in bind-down (branch-begin t (s .before .before) .pre .1) (s .v .given .0 .0) (sym (s .before .before .test .ensures) ∙ s .v .given .1) .0
 
 branch-below-requires-2 : (t : ℕ) → branch-lts.Need-below-requires-2 (branch-with t) (branch-at t) branch.Post
 branch-below-requires-2 t c κs =
-    let w = c .before .before .before .before .before .before .before .before .before .before .before .before .before .before .before .pre .1 in
-    (omega (arith, branch-read w .0), bind-down w (c .before .before .before .before .before .before .before .before .v .given .0 .0) (sym (c .before .before .before .before .before .before .before .before .before .before .test .ensures) ∙ c .before .before .before .before .before .before .before .before .v .given .1) .2 .ready)
+    let s = c .before .before .before .before .before .before .before .before in
+    let w = branch-begin t (s .before .before) .pre .1 in
+    (omega (arith, branch-read w .0), bind-down w (s .v .given .0 .0) (sym (s .before .before .test .ensures) ∙ s .v .given .1) .2 .ready)
 
 branch-mul-bound-2 : (t : ℕ) → branch-lts.Need-mul-bound-2 (branch-with t) (branch-at t) branch.Post
-branch-mul-bound-2 t c = omega (arith, bind-down (c .before .before .before .before .before .before .before .before .before .before .before .before .before .before .before .before .before .before .pre .1) (c .before .before .before .before .before .before .before .before .before .before .before .v .given .0 .0) (sym (c .before .before .before .before .before .before .before .before .before .before .before .before .before .test .ensures) ∙ c .before .before .before .before .before .before .before .before .before .before .before .v .given .1) .0)
+branch-mul-bound-2 t c = let s = c .before .before .before .before .before .before .before .before .before .before .before in omega (arith, bind-down (branch-begin t (s .before .before) .pre .1) (s .v .given .0 .0) (sym (s .before .before .test .ensures) ∙ s .v .given .1) .0)
 
 branch-element-write-bound-2 : (t : ℕ) → branch-lts.Need-element-write-bound-2 (branch-with t) (branch-at t) branch.Post
-branch-element-write-bound-2 t c = bind-down (c .before .before .before .before .before .before .before .before .before .before .before .before .before .before .before .before .before .before .pre .1) (c .before .before .before .before .before .before .before .before .before .before .before .v .given .0 .0) (sym (c .before .before .before .before .before .before .before .before .before .before .before .before .before .test .ensures) ∙ c .before .before .before .before .before .before .before .before .before .before .before .v .given .1) .0
+branch-element-write-bound-2 t c = let s = c .before .before .before .before .before .before .before .before .before .before .before in bind-down (branch-begin t (s .before .before) .pre .1) (s .v .given .0 .0) (sym (s .before .before .test .ensures) ∙ s .v .given .1) .0
 
 branch-element-write-args-2 : (t : ℕ) → branch-lts.Need-element-write-args-2 (branch-with t) (branch-at t) branch.Post
-branch-element-write-args-2 t c = bind-down (c .before .before .before .before .before .before .before .before .before .before .before .before .before .before .before .before .before .before .pre .1) (c .before .before .before .before .before .before .before .before .before .before .before .v .given .0 .0) (sym (c .before .before .before .before .before .before .before .before .before .before .before .before .before .test .ensures) ∙ c .before .before .before .before .before .before .before .before .before .before .before .v .given .1) .0
+branch-element-write-args-2 t c = let s = c .before .before .before .before .before .before .before .before .before .before .before in bind-down (branch-begin t (s .before .before) .pre .1) (s .v .given .0 .0) (sym (s .before .before .test .ensures) ∙ s .v .given .1) .0
 
 branch-returns : (t : ℕ) → branch-lts.Need-returns (branch-with t) (branch-at t) branch.Post
 branch-returns t c = (
@@ -243,9 +257,10 @@ branch-same-length t c = search needs
 
 branch-returns-2 : (t : ℕ) → branch-lts.Need-returns-2 (branch-with t) (branch-at t) branch.Post
 branch-returns-2 t c =
-    let b = c .before .before .below in (
+    let b = c .before .before .below in
+    let s = c .before .before .before .before .before .before .before .before .before .before in (
       counted-restored _ (b .ensures .0),
-      λ w. let d = same-down w (c .before .before .before .before .before .before .before .before .before .before .p .given .0 .0) (sym (c .before .before .before .before .before .before .before .before .before .before .before .before .test .ensures) ∙ c .before .before .before .before .before .before .before .before .before .before .p .given .1) in d .rises _ _ _ (b .ensures .1 (d .ready)),
+      λ w. let d = same-down w (s .p .given .0 .0) (sym (s .before .before .test .ensures) ∙ s .p .given .1) in d .rises _ _ _ (b .ensures .1 (d .ready)),
     )
 
 branch-same-length-2 : (t : ℕ) → branch-lts.Need-same-length-2 (branch-with t) (branch-at t) branch.Post
@@ -254,18 +269,18 @@ branch-same-length-2 t c = search needs
 branch-returns-3 : (t : ℕ) → branch-lts.Need-returns-3 (branch-with t) (branch-at t) branch.Post
 branch-returns-3 t c =
     let b = c .before .before .below2 in
-    let v = c .before .before .before .before .before .before .before .before .before .before .before .v .given .0 .0 in
-    let d = bind-down (c .before .before .before .before .before .before .before .before .before .before .before .before .before .before .before .before .before .before .pre .1) v (sym (c .before .before .before .before .before .before .before .before .before .before .before .before .before .test .ensures) ∙ c .before .before .before .before .before .before .before .before .before .before .before .v .given .1) in
+    let s = c .before .before .before .before .before .before .before .before .before .before .before in
+    let v = s .v .given .0 .0 in
     let r = b .ensures .0 in (
       record {
-        bound-same = unset _ _ v _ (d .1) (r .bound-same);
+        bound-same = unset _ _ v _ (bind-down (branch-begin t (s .before .before) .pre .1) (s .v .given .0 .0) (sym (s .before .before .test .ensures) ∙ s .v .given .1) .1) (r .bound-same);
         args-same = reset _ _ v _ (r .args-same);
         links-same = r .links-same;
         size = r .size;
         kept = r .kept;
         size-counts = simp length-set at (r .size-counts);
       },
-      λ w. let d = bind-down w v (sym (c .before .before .before .before .before .before .before .before .before .before .before .before .before .test .ensures) ∙ c .before .before .before .before .before .before .before .before .before .before .before .v .given .1) .2 in d .rises _ _ _ (b .ensures .1 (d .ready)),
+      λ w. let d = bind-down w v (sym (s .before .before .test .ensures) ∙ s .v .given .1) .2 in d .rises _ _ _ (b .ensures .1 (d .ready)),
     )
 
 abbrev state-Inv-loop : state-lts.InvT-loop
@@ -275,6 +290,16 @@ state-Inv-loop plan ends many goal sib bound₀ args₀ refs₀ links₀ room₀
 abbrev state-μ-loop : state-lts.MeasureT-loop
 state-μ-loop plan ends many goal sib bound₀ args₀ refs₀ links₀ room₀ counts₀ at width next n before slot seen first left₀ place₀ bound args refs links room counts left place =
     left
+
+-- those of `state`: where its first cell is read, and from there the call; and the same from the loop
+abbrev First : ℕ → Type 0
+First t = state-lts.After-shared-slice-known2 (state-with t) (state-at t) state.Post state-Inv-loop state-μ-loop
+
+abbrev state-begin : (t : ℕ) → First t → state-lts.Start (state-with t) (state-at t) state.Post state-Inv-loop state-μ-loop
+state-begin t c = c .before .before .before
+
+abbrev loop-from : (t : ℕ) → state-lts.At-loop (state-with t) (state-at t) state.Post state-Inv-loop state-μ-loop → First t
+loop-from t c = c .before .before .before .before .before .before .before .before .before .before .before .before
 
 state-mul-n : (t : ℕ) → state-lts.Need-mul-n (state-with t) (state-at t) state.Post state-Inv-loop state-μ-loop
 state-mul-n t c = let w = c .before .before .pre .1 in omega (arith, state-read w, w .counted .size)
@@ -293,13 +318,13 @@ state-element-copy-out-hits t c = search needs
 
 state-put-rows-requires : (t : ℕ) → state-lts.Need-put-rows-requires (state-with t) (state-at t) state.Post state-Inv-loop state-μ-loop
 state-put-rows-requires t c κs =
-    let w = c .before .before .before .before .before .before .before .pre .1 in
+    let w = state-begin t (c .before .before .before .before) .pre .1 in
     let n = leaf-read w (c .before .before .before .if1 .taken) in
     (omega (arith, w .counted), omega (arith, w .counted))
 
 state-add-counts : (t : ℕ) → state-lts.Need-add-counts (state-with t) (state-at t) state.Post state-Inv-loop state-μ-loop
 state-add-counts t c =
-    let w = c .before .before .before .before .before .before .before .before .before .before .pre .1 in
+    let w = state-begin t (c .before .before .before .before .before .before .before) .pre .1 in
     let n = leaf-read w (c .before .before .before .before .before .before .if1 .taken) in
     omega (arith, w .counted)
 
@@ -308,7 +333,7 @@ state-element-write-counts t c = search needs
 
 state-add-counts-2 : (t : ℕ) → state-lts.Need-add-counts-2 (state-with t) (state-at t) state.Post state-Inv-loop state-μ-loop
 state-add-counts-2 t c =
-    let w = c .before .before .before .before .before .before .before .before .before .before .pre .1 in
+    let w = state-begin t (c .before .before .before .before .before .before .before) .pre .1 in
     let n = leaf-read w (c .before .before .before .before .before .before .if1 .taken) in
     omega (arith, w .counted)
 
@@ -316,7 +341,7 @@ state-element-write-counts-2 : (t : ℕ) → state-lts.Need-element-write-counts
 state-element-write-counts-2 t c = search needs
 
 state-add-result : (t : ℕ) → state-lts.Need-add-result (state-with t) (state-at t) state.Post state-Inv-loop state-μ-loop
-state-add-result t c = let w = c .before .before .before .before .before .before .before .before .before .before .pre .1 in omega (arith, state-read w, w .counted .size)
+state-add-result t c = let w = state-begin t (c .before .before .before .before .before .before .before) .pre .1 in omega (arith, state-read w, w .counted .size)
 
 state-same-length : (t : ℕ) → state-lts.Need-same-length (state-with t) (state-at t) state.Post state-Inv-loop state-μ-loop
 state-same-length t c = search needs
@@ -328,44 +353,44 @@ state-returns t c = (
 )
 
 state-hop-requires : (t : ℕ) → state-lts.Need-hop-requires (state-with t) (state-at t) state.Post state-Inv-loop state-μ-loop
-state-hop-requires t c κs = inside (c .before .before .before .before .before .pre .1) (omega arith) .place .hops
+state-hop-requires t c κs = inside (state-begin t (c .before .before) .pre .1) (omega arith) .place .hops
 
 state-element-copy-out-wide : (t : ℕ) → state-lts.Need-element-copy-out-wide (state-with t) (state-at t) state.Post state-Inv-loop state-μ-loop
-state-element-copy-out-wide t c = rw (c .hop .ensures) (inside (c .before .before .before .before .before .before .pre .1) (omega arith) .place .small .0)
+state-element-copy-out-wide t c = rw (c .hop .ensures) (inside (state-begin t (c .before .before .before) .pre .1) (omega arith) .place .small .0)
 
 state-wide-requires : (t : ℕ) → state-lts.Need-wide-requires (state-with t) (state-at t) state.Post state-Inv-loop state-μ-loop
 state-wide-requires t c κs = search needs
 
 state-element-copy-out-wide-2 : (t : ℕ) → state-lts.Need-element-copy-out-wide-2 (state-with t) (state-at t) state.Post state-Inv-loop state-μ-loop
-state-element-copy-out-wide-2 t c = place-small (c .before .before .before .before .before .before .before .before .before .before .pre .1) (omega arith) _ _ (c .before .before .before .before .hop .ensures) (c .before .before .wide .ensures) .1
+state-element-copy-out-wide-2 t c = place-small (state-begin t (c .before .before .before .before .before .before .before) .pre .1) (omega arith) _ _ (c .before .before .before .before .hop .ensures) (c .before .before .wide .ensures) .1
 
 state-wide-requires-2 : (t : ℕ) → state-lts.Need-wide-requires-2 (state-with t) (state-at t) state.Post state-Inv-loop state-μ-loop
 state-wide-requires-2 t c κs = search needs
 
 state-look-requires : (t : ℕ) → state-lts.Need-look-requires (state-with t) (state-at t) state.Post state-Inv-loop state-μ-loop
-state-look-requires t c κs = visible (c .before .before .before .before .before .before .before .before .before .before .before .before .pre .1) (omega arith) _ _ (c .before .before .before .before .before .before .hop .ensures) (c .before .before .before .before .wide .ensures) _ (c .wide2 .ensures)
+state-look-requires t c κs = visible (state-begin t (c .before .before .before .before .before .before .before .before .before) .pre .1) (omega arith) _ _ (c .before .before .before .before .before .before .hop .ensures) (c .before .before .before .before .wide .ensures) _ (c .wide2 .ensures)
 
 state-add-first : (t : ℕ) → state-lts.Need-add-first (state-with t) (state-at t) state.Post state-Inv-loop state-μ-loop
-state-add-first t c = let w = c .before .before .before .before .before .before .before .before .before .before .before .before .before .pre .1 in omega (arith, state-read w, w .counted .size)
+state-add-first t c = let w = state-begin t (c .before .before .before .before .before .before .before .before .before .before) .pre .1 in omega (arith, state-read w, w .counted .size)
 
 state-mul-left : (t : ℕ) → state-lts.Need-mul-left (state-with t) (state-at t) state.Post state-Inv-loop state-μ-loop
-state-mul-left t c = let w = c .before .before .before .before .before .before .before .before .before .before .before .before .before .pre .1 in omega (arith, state-read w, w .counted .size)
+state-mul-left t c = let w = state-begin t (c .before .before .before .before .before .before .before .before .before .before) .pre .1 in omega (arith, state-read w, w .counted .size)
 
 state-shared-slice-read-left : (t : ℕ) → state-lts.Need-shared-slice-read-left (state-with t) (state-at t) state.Post state-Inv-loop state-μ-loop
-state-shared-slice-read-left t c = inside (c .before .before .before .before .before .before .before .before .before .before .before .before .before .before .pre .1) (omega arith) .reads
+state-shared-slice-read-left t c = inside (state-begin t (c .before .before .before .before .before .before .before .before .before .before .before) .pre .1) (omega arith) .reads
 
 state-add-place : (t : ℕ) → state-lts.Need-add-place (state-with t) (state-at t) state.Post state-Inv-loop state-μ-loop
-state-add-place t c = let w = c .before .before .before .before .before .before .before .before .before .before .before .before .before .before .pre .1 in omega (arith, state-read w, w .counted .size)
+state-add-place t c = let w = state-begin t (c .before .before .before .before .before .before .before .before .before .before .before) .pre .1 in omega (arith, state-read w, w .counted .size)
 
 state-loop-holds : (t : ℕ) → state-lts.Need-loop-holds (state-with t) (state-at t) state.Post state-Inv-loop state-μ-loop
 state-loop-holds t c = begin _ _ _ (c .before .before .before .before .before .before .before .before .hop .ensures) (c .before .before .before .before .before .before .wide .ensures) (c .before .look .ensures ∙ ap (viewOf _ _ _) (c .before .before .wide2 .ensures)) (omega arith)
 
 state-branch-requires : (t : ℕ) → state-lts.Need-branch-requires (state-with t) (state-at t) state.Post state-Inv-loop state-μ-loop
 state-branch-requires t c κs =
-    let l = c .before .before .before .before .before .before .before .loop in
-    let w = c .before .before .before .before .before .before .before .before .before .before .before .before .before .before .before .before .before .before .before .before .before .before .pre .1 in
-    let f = now-first (l .inv) w (c .before .before .before .before .before .before .loop-test .taken) in
-    (branch-falls t (length (c .before .before .before .before .before .before .before .before .before .before .before .before .before .before .before .before .before .before .before .before .before .before .args .plan .now)) (c .before .before .before .before .before .before .before .before .before .before .before .before .before .before .before .before .before .before .before .before .before .before .args .at) (l .place) (c .before .before .before .before .before .before .before .before .before .before .before .before .before .before .before .before .before .before .before .before .before .before .pre .0) (l .inv .later) (f .reads), f .one)
+    let l = c .before .before .before .before .before .before .before in
+    let s = state-begin t (loop-from t l) in
+    let f = now-first (l .loop .inv) (s .pre .1) (c .before .before .before .before .before .before .loop-test .taken) in
+    (branch-falls t (length (s .args .plan .now)) (s .args .at) (l .loop .place) (s .pre .0) (l .loop .inv .later) (f .reads), f .one)
 
 state-sub-left : (t : ℕ) → state-lts.Need-sub-left (state-with t) (state-at t) state.Post state-Inv-loop state-μ-loop
 state-sub-left t c = search needs
@@ -375,8 +400,9 @@ state-loop-less t c = search needs
 
 state-loop-again : (t : ℕ) → state-lts.Need-loop-again (state-with t) (state-at t) state.Post state-Inv-loop state-μ-loop
 state-loop-again t c =
+    let l = c .before .before .before .before .before .before .before .before .before .before in
     let b = c .before .before .branch in
-    again (c .before .before .before .before .before .before .before .before .before .before .loop .inv) (c .before .before .before .before .before .before .before .before .before .before .before .before .before .before .before .before .before .before .before .before .before .before .before .before .before .pre .1) (c .before .before .before .before .before .before .before .before .before .loop-test .taken) _ _ _ _ _ _ _ (b .kept .1 .1 .1 .1 .1 .1 .1 .1 .1 .0) (b .ensures .0) (b .ensures .1)
+    again (l .loop .inv) (state-begin t (loop-from t l) .pre .1) (c .before .before .before .before .before .before .before .before .before .loop-test .taken) _ _ _ _ _ _ _ (b .kept .1 .1 .1 .1 .1 .1 .1 .1 .1 .0) (b .ensures .0) (b .ensures .1)
 
 state-same-length-2 : (t : ℕ) → state-lts.Need-same-length-2 (state-with t) (state-at t) state.Post state-Inv-loop state-μ-loop
 state-same-length-2 t c = c .before .loop .inv .same-room
