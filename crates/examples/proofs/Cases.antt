@@ -6,27 +6,29 @@ use mathlib.Core.List.{List, [], _∷_, _++_, map, flatten}
 use native.Mathlib.Omega.{arith}
 use lib.ListN.{replicate}
 use Rattle.cell.specs.Cell.{valuesAt, arity, isVar}
-use Rattle.term.specs.Terms.{Terms, front, back, root, close}
-use Rattle.term.specs.Unify.{Unifies, inst, renamed}
+use Rattle.term.specs.Terms.{front, back, root, close}
+use Rattle.term.specs.Unify.{inst, renamed}
 use Rattle.term.proofs.Inst.{bind, idS}
-use Rattle.term.proofs.Decide.{Decides, unifiable, unifiable-correct, unify, walk, bindTest, occurs}
+use Rattle.term.proofs.Decide.{unifiable, unify, walk, bindTest, occurs}
 use Rattle.table.specs.All.{All}
 use Rattle.table.specs.Refusal.{refused}
 use Rattle.table.specs.Read.{Read, read, refuse}
 use Rattle.table.specs.Table.{Table, tableOf, termsFrom, rowsFrom, goalOf, count, upFrom}
 use Rattle.table.proofs.ReadLaws.{first}
-use Rattle.table.proofs.Accepted.{is-table}
+use Rattle.table.proofs.Accepted.{is-table, is-goal}
 use Rattle.plan.specs.Runs.{agree}
 use Rattle.plan.specs.Plans.{branches, plain}
 use Rattle.plan.specs.Check.{stateFrom, planFor, planOf}
-use Rattle.plan.proofs.RunsLaws.{Fits}
 use Rattle.plan.proofs.CheckLaws.{accepted-one, rows-fit}
 use Rattle.least.specs.Best.{argmin, total, best}
 use Rattle.least.proofs.Builder.{place, runCells, planCells, plan-built}
 use Rattle.run.specs.Skeleton.{hole, fill, decide, opened}
-use Rattle.run.specs.Run.{skeletons, Tried}
+use Rattle.run.specs.Run.{skeletons}
+use Rattle.run.proofs.AcceptedLaws.{goal-head, table-fine}
+use Rattle.run.proofs.AllLaws.{skeletons-terms}
+use Rattle.run.proofs.Decided.{hitsBy, hits-by, triedBy, tried-by, row-terms}
 use Rattle.examples.specs.Examples.{Example, turned, planTurned, built, ran, BuiltSays, RanSays, Says, P, tableCells, p1, p2, plan2, p3, plan3, p5, p7, p8, plan8, marked}
-use Rattle.examples.proofs.Decided.{hitsBy, hits-right, countBy, count-right, whole, allWhole, all-terms, Got, above, above-right}
+use Rattle.examples.proofs.Above.{Got, above, above-right}
 
 -- Computed: the definitions' own functions, and decisions where they speak of substitutions.
 abbrev pub rowsIn : Read Table → List (List ℕ)
@@ -47,7 +49,7 @@ pub data Outcome : Type 0 where
   of-table : Read Table → Outcome
   of-plan : Read ℕ → Outcome
   of-built : Read ℕ → List ℕ → Outcome
-  of-run : Read ℕ → List ℕ → Bool → Bool → List ℕ → ℕ → Outcome
+  of-run : Read ℕ → List ℕ → Bool → List ℕ → ℕ → Outcome
 
 abbrev pub isRead : Read ℕ → Bool
 isRead (read n) = true
@@ -59,15 +61,13 @@ computed (planTurned t q n p) = of-plan (planOf t q)
 computed (built t p cost) = of-built (planOf t p) (planned (tableOf t))
 computed (ran t p cost g hits tried) =
     of-run (planOf t p) (planned (tableOf t)) (isRead (goalOf (widthIn (tableOf t)) g))
-    (allWhole (widthIn (tableOf t)) (renamed g ∷ map opened (aboveAll (tableOf t) p)))
-    (hitsBy (λ (r : List ℕ). unifiable r (renamed g)) (rowsIn (tableOf t)) 0)
-    (countBy (λ (K : List ℕ). unifiable (opened K) (renamed g)) (aboveAll (tableOf t) p))
+    (hitsBy g (rowsIn (tableOf t)) 0) (triedBy g (aboveAll (tableOf t) p))
 
 unfoldable pub printed : Example → Outcome
 printed (turned t n p) = of-table (refuse (refused n 1 p))
 printed (planTurned t q n p) = of-plan (refuse (refused n 2 p))
 printed (built t p cost) = of-built (read cost) p
-printed (ran t p cost g hits tried) = of-run (read cost) p true true hits tried
+printed (ran t p cost g hits tried) = of-run (read cost) p true hits tried
 
 -- What is computed is what is said.
 module _ (t p : List ℕ) (cost : ℕ) (e : planOf t p ≡ read cost) (q : planned (tableOf t) ≡ p) where
@@ -82,30 +82,15 @@ module _ (t p : List ℕ) (cost : ℕ) (e : planOf t p ≡ read cost) (q : plann
       let w : planCells plain 32 (T .width) (T .rows) ≡ p = rw (f .1) at q in
       record { table = T; reads = f .1; tree = b .plan; cells = b .writes-it ∙ w; rule = b .built; count = ap branches (a .3 (b .plan) (b .writes-it ∙ w)) ∙ a .2 }
 
-decide-all : {w : ℕ} (ys : List ℕ) (xs : List (List ℕ)) → Terms w ys → All (Terms w) xs → All (λ (x : List ℕ). Decides (Unifies x ys) (unifiable x ys)) xs
-decide-all ys [] u a = tt
-decide-all ys (x ∷ xs) u a = (unifiable-correct x ys (a .0) u, decide-all ys xs u (a .1))
-
-decide-opened : {w : ℕ} (g : List ℕ) (Ks : List (List ℕ)) → Terms w (renamed g) → All (Terms w) (map opened Ks) → All (λ (K : List ℕ). Decides (Tried g K) (unifiable (opened K) (renamed g))) Ks
-unfolding Tried
-decide-opened g [] u a = tt
-decide-opened g (K ∷ Ks) u a = (unifiable-correct (opened K) (renamed g) (a .0) u, decide-opened g Ks u (a .1))
-
-rows-terms : (w : ℕ) (rows : List (List ℕ)) → All (Fits 32 w) rows → All (Terms w) rows
-rows-terms w [] a = tt
-rows-terms w (r ∷ rs) a = (a .0 .0, rows-terms w rs (a .1))
-
 is-read : (r : Read ℕ) → isRead r ≡ true → (v : ℕ) × (r ≡ read v)
 is-read (read v) e = (v, refl)
 is-read (refuse f) e = let z : _≡_ {A = ℕ} 0 1 = cc in absurd (omega arith)
 
 module _ (t p : List ℕ) (cost : ℕ) (g hits : List ℕ) (tried : ℕ) (e : planOf t p ≡ read cost) (q : planned (tableOf t) ≡ p) where
-  ran-says : isRead (goalOf (widthIn (tableOf t)) g) ≡ true
-      → allWhole (widthIn (tableOf t)) (renamed g ∷ map opened (aboveAll (tableOf t) p)) ≡ true
-      → hitsBy (λ (r : List ℕ). unifiable r (renamed g)) (rowsIn (tableOf t)) 0 ≡ hits
-      → countBy (λ (K : List ℕ). unifiable (opened K) (renamed g)) (aboveAll (tableOf t) p) ≡ tried → RanSays t p cost g hits tried
+  ran-says : isRead (goalOf (widthIn (tableOf t)) g) ≡ true → hitsBy g (rowsIn (tableOf t)) 0 ≡ hits → triedBy g (aboveAll (tableOf t) p) ≡ tried
+      → RanSays t p cost g hits tried
   unfolding aboveAll
-  ran-says r w h c =
+  ran-says r h c =
       let B = built-says t p cost e q in
       let T = B .table in
       let i = is-table t (B .reads) in
@@ -114,14 +99,14 @@ module _ (t p : List ℕ) (cost : ℕ) (g hits : List ℕ) (tried : ℕ) (e : pl
       let s : above 32 (T .width) (T .rows) K (p ++ []) ≡ record { above = skeletons (B .tree) K; rest = [] } =
       sym (ap (λ (xs : List ℕ). above 32 (T .width) (T .rows) K (xs ++ [])) (B .cells)) ∙ above-right 32 (T .width) (T .rows) fit (i .count .0) (B .tree) K [] in
       let v = is-read (goalOf (T .width) g) (rw (B .reads) at r) in
-      let a = all-terms (T .width) (renamed g ∷ map opened (skeletons (B .tree) K)) (rw (ap (λ (x : Got). x .above) s) at (rw (B .reads) at w)) in
+      let u = goal-head (is-goal (T .width) g (v .1) .0) .terms in
+      let tries = tried-by (T .width) g u (skeletons (B .tree) K) (skeletons-terms (T .width) (B .tree) (table-fine i) (i .count .0)) in
       record {
         builds = B;
         vars = v .0;
         goal = v .1;
-        found = rw (rw (B .reads) at h) at (hits-right (λ (x : List ℕ). unifiable x (renamed g)) (T .rows) 0 (decide-all (renamed g) (T .rows) (a .0) (rows-terms (T .width) (T .rows) fit)));
-        tries = rw (rw (ap (λ (x : Got). x .above) s) at (rw (B .reads) at c)) at
-            (count-right (λ (x : List ℕ). unifiable (opened x) (renamed g)) (skeletons (B .tree) K) (decide-opened g (skeletons (B .tree) K) (a .0) (a .1)));
+        found = rw (rw (B .reads) at h) at (hits-by (T .width) g u (T .rows) 0 (row-terms (T .width) (T .rows) (i .each)));
+        tries = rw (rw (ap (λ (x : Got). x .above) s) at (rw (B .reads) at c)) at tries;
       }
 
 says : (x : Example) → computed x ≡ printed x → Says x
@@ -129,7 +114,7 @@ unfolding computed printed
 says (turned t n p) e = cc
 says (planTurned t r n p) e = cc
 says (built t p cost) e = built-says t p cost (cc) (cc)
-says (ran t p cost g hits tried) e = ran-says t p cost g hits tried (cc) (cc) (cc) (cc) (cc) (cc)
+says (ran t p cost g hits tried) e = ran-says t p cost g hits tried (cc) (cc) (cc) (cc) (cc)
 
 each : {A B : Type 0} (f h : A → B) (xs : List A) → map f xs ≡ map h xs → All (λ (x : A). f x ≡ h x) xs
 each f h [] e = tt
@@ -140,7 +125,7 @@ all-say [] a = tt
 all-say (x ∷ xs) a = (says (x .example) (a .0), all-say xs (a .1))
 
 all-computed : map (λ (x : P). computed (x .example)) marked ≡ map (λ (x : P). printed (x .example)) marked
-unfolding marked computed printed planned aboveAll tableCells p1 p2 plan2 p3 plan3 p5 p7 p8 plan8 tableOf rowsFrom termsFrom goalOf planFor stateFrom planCells place runCells best total argmin root close agree arity valuesAt isVar flatten hitsBy countBy whole allWhole above unifiable unify walk bindTest occurs renamed inst bind idS front back opened fill decide hole count upFrom
+unfolding marked computed printed planned aboveAll tableCells p1 p2 plan2 p3 plan3 p5 p7 p8 plan8 tableOf rowsFrom termsFrom goalOf planFor stateFrom planCells place runCells best total argmin root close agree arity valuesAt isVar flatten hitsBy triedBy above unifiable unify walk bindTest occurs renamed inst bind idS front back opened fill decide hole count upFrom
 all-computed = refl
 
 -- P1 to P10: each says what is so, and none is left out

@@ -36,7 +36,7 @@ module _ (w : ℕ) (g : List ℕ) (t : Terms w (renamed g)) where
   pick (says-yes p) w = hit p w
   pick (says-no p) w = miss p w
 
-  hits-by : (rs : List (List ℕ)) (f : ℕ) → All (Terms w) rs → Picks (λ (x : List ℕ). Matches x g) rs f (hitsBy g rs f)
+  pub hits-by : (rs : List (List ℕ)) (f : ℕ) → All (Terms w) rs → Picks (λ (x : List ℕ). Matches x g) rs f (hitsBy g rs f)
   unfolding hitsBy
   hits-by [] f a = none
   hits-by (r ∷ rs) f a = pick (unifiable-correct r (renamed g) (a .0) t) (hits-by rs (suc f) (a .1))
@@ -46,13 +46,13 @@ module _ (w : ℕ) (g : List ℕ) (t : Terms w (renamed g)) where
   tally (says-yes p) c = one-of p c
   tally (says-no p) c = none-of p c
 
-  tried-by : (Ks : List (List ℕ)) → All (λ (K : List ℕ). Terms w (opened K)) Ks → Counts (Tried g) Ks (triedBy g Ks)
+  pub tried-by : (Ks : List (List ℕ)) → All (λ (K : List ℕ). Terms w (opened K)) Ks → Counts (Tried g) Ks (triedBy g Ks)
   unfolding triedBy
   tried-by [] a = zero-of
   tried-by (K ∷ Ks) a = tally (unifiable-correct (opened K) (renamed g) (a .0) t) (tried-by Ks (a .1))
 
 -- so what a run of an accepted table, plan and goal answers and writes is computed
-row-terms : (w : ℕ) (rows : List (List ℕ)) → All (Row w) rows → All (Terms w) rows
+pub row-terms : (w : ℕ) (rows : List (List ℕ)) → All (Row w) rows → All (Terms w) rows
 row-terms w [] a = tt
 row-terms w (r ∷ rs) a = (a .0 .head .terms, row-terms w rs (a .1))
 
