@@ -6,7 +6,7 @@ use native.Mathlib.Omega.{arith}
 use mathlib.Core.Bool.{_||_}
 use lib.Dec.{ltb}
 use lib.ListN.{length, getD, replicate, length-append}
-use Rattle.table.specs.Refusal.{Answer, answered}
+use Rattle.table.specs.Refusal.{Answer}
 use Rattle.table.specs.Read.{Read, read, refuse, andThen}
 use Rattle.table.specs.Table.{Table, tableOf, tableSays, goalOf, goalSays, goalWith, rowIn, startsIn, starts, Row}
 use Rattle.table.specs.All.{All}
@@ -75,15 +75,16 @@ table-length : (t : List ℕ) {T : Table} → tableOf t ≡ read T → length t 
 unfolding tableOf
 table-length t e = inside (length t) 2 2050 (passed (ltb (length t) 2 || ltb 2050 (length t)) _ _ e .0) .1
 
-pub row-small : (t : List ℕ) (r : ℕ) → Small (answered (getD (startsIn (tableOf t)) r 0) (length (rowIn (tableOf t) r)))
+-- where a row starts in the table and how many cells it has, both 0 where there is no such row
+pub row-small : (t : List ℕ) (r : ℕ) → (getD (startsIn (tableOf t)) r 0 ≤ 2050) × (length (rowIn (tableOf t) r) ≤ 32)
 row-small t r = go (tableOf t) refl
   where
-    go : (x : Read Table) → tableOf t ≡ x → Small (answered (getD (startsIn x) r 0) (length (rowIn x r)))
+    go : (x : Read Table) → tableOf t ≡ x → (getD (startsIn x) r 0 ≤ 2050) × (length (rowIn x r) ≤ 32)
     go (read T) e =
         let i = is-table t e in
         let l = table-length t e in
         let f : length t ≡ 2 + length (flatten (T .rows)) = ap length (i .cells) ∙ omega arith in
-        (omega (arith, starts-within 2 (T .rows) (64 - length (T .rows)) r), omega (arith, row-short (T .width) (T .rows) r (i .each)))
+        (omega (arith, starts-within 2 (T .rows) (64 - length (T .rows)) r), row-short (T .width) (T .rows) r (i .each))
     go (refuse f) e = (omega (arith, zeros-at 64 r), omega arith)
 
 -- a plan of an accepted table has at most 2,048 branches

@@ -14,7 +14,7 @@ code-answer-requires : tie.Need-code-answer-requires
 code-answer-requires c κs =
     let s = row-small (c .before .before .args .cells .now) (c .before .before .args .r) in
     let p = c .row-place .ensures in
-    (omega (arith, p .start, s), omega (arith, p .end, s))
+    (omega (arith, p .start, p .end, s), omega (arith, p .start, p .end, s))
 
 returns : tie.Need-returns
 returns c = search needs

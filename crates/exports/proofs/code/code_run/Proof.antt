@@ -1,3 +1,4 @@
+use native.Mathlib.Omega.{arith}
 use borrow.Author.Needs.{needs}
 use Rattle.exports.proofs.code.code_run.Statement.{statement}
 use Rattle.exports.proofs.code.code_run.Tie as tie
@@ -6,7 +7,9 @@ enum-known-a : tie.Need-enum-known-a
 enum-known-a c = search needs
 
 code-answer-requires : tie.Need-code-answer-requires
-code-answer-requires c κs = rw (c .before .a .given .1) at (c .before .before .before .pre)
+code-answer-requires c κs =
+    let s = rw (c .before .a .given .1) at (c .before .before .before .pre) in
+    (omega (arith, s), omega (arith, s))
 
 enum-known-a-2 : tie.Need-enum-known-a-2
 enum-known-a-2 c = search needs
