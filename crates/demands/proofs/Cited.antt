@@ -1,0 +1,226 @@
+-- How the demands follow from the theorems of the crates: the steps that proofs/Demands cites.
+use Prim.Native.Nat.{ℕ, _+_, _≤_, _<_}
+use mathlib.Core.Path.{_≡_, refl, sym, _∙_, ap, subst}
+use mathlib.Core.Logic.{_↔_}
+use mathlib.Core.Bool.{Bool, true, false}
+use mathlib.Core.List.{List, [], List·Memᴰ}
+use native.Mathlib.Omega.{arith}
+use lib.Dec.{ltb}
+use lib.ListN.{length, getD}
+use borrow.Author.Tests.{ltb-true, ltb-false}
+use Rattle.term.specs.Unify.{Matches}
+use Rattle.table.specs.declared.Reason.the-variants as reason
+use Rattle.table.specs.declared.Input.the-variants as input
+use Rattle.table.specs.Refusal.{Refused, Answer, answered, turned}
+use Rattle.table.specs.Read.{Read, read, refuse}
+use Rattle.table.specs.Table.{Table, tableOf, tableSays, goalOf, goalSays, IsGoal}
+use Rattle.table.proofs.ReadLaws.{apart, read-one}
+use Rattle.table.proofs.Accepted.{is-table, goal-accepted}
+use Rattle.plan.specs.declared.PlanAnswer.{PlanAnswer}
+use Rattle.plan.specs.declared.PlanAnswer.the-variants as plan-answer
+use Rattle.plan.specs.Plans.{Plan, write, branches}
+use Rattle.plan.specs.Check.{planFor, planOf}
+use Rattle.plan.specs.Checked.{planTold, planSays}
+use Rattle.plan.proofs.SizeLaws.{size-bound}
+use Rattle.plan.proofs.PlansLaws.{write-one}
+use Rattle.plan.proofs.CheckLaws.{accepted-one, rows-fit}
+use Rattle.plan.proofs.Fixed.{plan-fixed}
+use Rattle.least.specs.declared.BuildAnswer.{BuildAnswer}
+use Rattle.least.specs.declared.BuildAnswer.the-variants as build-answer
+use Rattle.least.specs.Build.{BuiltInto, table-refused, room-refused, built, buildTold}
+use Rattle.least.proofs.Fixed.{build-fixed}
+use Rattle.run.specs.declared.RunAnswer.{RunAnswer}
+use Rattle.run.specs.Run.{Picks, Counts, Tried, runOf, runTold, Ran, refusal, ran}
+use Rattle.run.proofs.Fixed.{skeletons-one}
+use Rattle.run.proofs.Theorems.{Ascends, picked, picks-ascend}
+use Rattle.run.proofs.TakesLaws.{takes-run, run-table, run-plan, run-goal, run-room}
+use Rattle.demands.specs.Said.{BuildTurned, no-table, no-room, RunTurned, bad-table, bad-plan, bad-goal, bad-room, Answers}
+
+-- Refusals.
+
+clash : {A : Type 0} {a b : ℕ} {f : Refused} → answered a b ≡ turned f → A
+clash e = absurd (let z : _≡_ {A = ℕ} 0 1 = cc in omega arith)
+
+turned-one : {f h : Refused} → turned f ≡ turned h → f ≡ h
+turned-one e = cc
+
+refuse-one : {A : Type 0} {f h : Refused} → _≡_ {A = Read A} (refuse f) (refuse h) → f ≡ h
+refuse-one e = cc
+
+-- what is answered is a refusal exactly when what is read is
+pub table-turned : (x : Read Table) (f : Refused) → (tableSays x ≡ turned f) ↔ (x ≡ refuse f)
+table-turned (read T) f = (λ e. clash e, λ e. apart e)
+table-turned (refuse h) f = (λ e. ap refuse (turned-one e), λ e. ap turned (refuse-one e))
+
+pub goal-turned : (g : List ℕ) (x : Read ℕ) (f : Refused) → (goalSays g x ≡ turned f) ↔ (x ≡ refuse f)
+goal-turned g (read v) f = (λ e. clash e, λ e. apart e)
+goal-turned g (refuse h) f = (λ e. ap refuse (turned-one e), λ e. ap turned (refuse-one e))
+
+pub plan-turned : (x : Read ℕ) (f : Refused) → (planSays x ≡ turned f) ↔ (x ≡ refuse f)
+plan-turned (read b) f = (λ e. clash e, λ e. apart e)
+plan-turned (refuse h) f = (λ e. ap refuse (turned-one e), λ e. ap turned (refuse-one e))
+
+-- and so for an answer that says the same
+pub by-answer : {a b : Answer} {f : Refused} {C : Type 0} → a ≡ b → (b ≡ turned f) ↔ C → (a ≡ turned f) ↔ C
+by-answer e i = (λ x. i .0 (sym e ∙ x), λ c. e ∙ i .1 c)
+
+-- Building.
+
+module _ {t room room′ : List ℕ} {r : BuildAnswer} where
+  pub build-is-turned : BuiltInto t room room′ r → (f : Refused) → (buildTold r ≡ turned f) ↔ BuildTurned t room f
+  build-is-turned b f = (why b, gets)
+    where
+      why : BuiltInto t room room′ r → buildTold r ≡ turned f → BuildTurned t room f
+      why (table-refused h a x c) e = no-table (a ∙ ap refuse (turned-one (sym x ∙ e)))
+      why (room-refused T plan a u l x c) e = no-room T plan a u l (turned-one (sym e ∙ x))
+      why (built T plan a u m l x c) e = clash (sym x ∙ e)
+
+      gets : BuildTurned t room f → buildTold r ≡ turned f
+      gets (no-table a) = go b
+        where
+          go : BuiltInto t room room′ r → buildTold r ≡ turned f
+          go (table-refused h d x c) = x ∙ ap turned (refuse-one (sym d ∙ a))
+          go (room-refused T plan d u l x c) = apart (sym d ∙ a)
+          go (built T plan d u m l x c) = apart (sym d ∙ a)
+      gets (no-room T plan a u l q) =
+          let no = build-answer.Refused (record { reason = reason.Room; input = input.Lent; place = length (write plan) }) in
+          let short : BuiltInto t room room no = room-refused T plan a u l refl refl in
+          ap buildTold (build-fixed b short .0) ∙ ap turned (sym q)
+
+  pub build-writes-nothing : BuiltInto t room room′ r → (f : Refused) → buildTold r ≡ turned f → room′ ≡ room
+  build-writes-nothing (table-refused h a x c) f e = c
+  build-writes-nothing (room-refused T plan a u l x c) f e = c
+  build-writes-nothing (built T plan a u m l x c) f e = clash (sym x ∙ e)
+
+is-built : (r : BuildAnswer) {n cost : ℕ} → buildTold r ≡ answered n cost → r ≡ build-answer.Built n cost
+is-built (build-answer.Built m c) e = cc
+is-built (build-answer.Refused f) e = clash (sym e)
+
+pub builds : {t room room′ : List ℕ} {r : BuildAnswer} (T : Table) → tableOf t ≡ read T → 6082 ≤ length room → BuiltInto t room room′ r
+    → (n : ℕ) × (cost : ℕ) × (r ≡ build-answer.Built n cost)
+builds T e l (table-refused h a x c) = apart (sym e ∙ a)
+builds {t} T e l (room-refused T′ plan a u s x c) =
+    let i = is-table t a in
+    absurd (omega (arith, size-bound plan (rows-fit (T′ .width) (T′ .rows) (i .each)) (i .count .0) (i .count .1)))
+builds {r = r} T e l (built T′ plan a u m s x c) = (length (write plan), branches plan, is-built r x)
+
+-- The check.
+
+says-read : (x : Read ℕ) (b : ℕ) → planSays x ≡ answered b 0 → x ≡ read b
+says-read (read c) b q = let s : c ≡ b = cc in ap read s
+says-read (refuse f) b q = clash (sym q)
+
+pub check-accepts : (t p : List ℕ) (T : Table) → tableOf t ≡ read T → (r : PlanAnswer) → planTold r ≡ planSays (planOf t p) → (b : ℕ) → (r ≡ plan-answer.Accepted b)
+    ↔ ((tree : Plan (T .width) (T .rows)) × (write tree ≡ p) × (branches tree ≡ b) × ((other : Plan (T .width) (T .rows)) → write other ≡ p → other ≡ tree))
+check-accepts t p T e r says b =
+    let one = accepted-one T (is-table t e) p b in (
+      λ q. one .0 (rw e at (says-read (planOf t p) b (sym says ∙ ap planTold q))),
+      λ q. (let reads : planOf t p ≡ read b = rw e (one .1 q) in plan-fixed t p says (sym (ap planSays reads))),
+    )
+
+-- A run.
+
+-- a plan of a table that is read
+with-table : (t p : List ℕ) {T : Table} {x : Read ℕ} → tableOf t ≡ read T → planFor T p ≡ x → planOf t p ≡ x
+with-table t p d k = rw d k
+
+module _ {t p g room : List ℕ} {f : Refused} where
+  -- what turns it away gives its refusal
+  turns : RunTurned t p g room f → runOf t p g room ≡ refuse f
+  turns (bad-table d) = run-table t p g room d
+  turns (bad-plan T d k) = run-plan t p g room d (with-table t p d k)
+  turns (bad-goal T b d k m) = run-goal t p g room d (with-table t p d k) m
+  turns (bad-room T b v d k m l q) = run-room t p g room d (with-table t p d k) m l ∙ ap refuse (sym q)
+
+  -- and what is refused was turned away by the first of the four that is bad
+  turned-by : runOf t p g room ≡ refuse f → RunTurned t p g room f
+  turned-by e = by-table (tableOf t) refl
+    where
+      same : {h : Refused} → runOf t p g room ≡ refuse h → h ≡ f
+      same a = refuse-one (sym a ∙ e)
+
+      by-room : (T : Table) (b v : ℕ) → tableOf t ≡ read T → planFor T p ≡ read b → goalOf (T .width) g ≡ read v → (full : Bool)
+          → ltb (length room) (length (T .rows)) ≡ full → RunTurned t p g room f
+      by-room T b v d k m true l =
+          let less = ltb-true (length room) (length (T .rows)) l in
+          bad-room T b v d k m less (sym (same (run-room t p g room d (with-table t p d k) m less)))
+      by-room T b v d k m false l =
+          let enough = ltb-false (length room) (length (T .rows)) l in
+          apart (sym (takes-run (record { table = d; branches = b; plan = with-table t p d k; variables = v; goal = m; room-for = enough })) ∙ e)
+
+      by-goal : (T : Table) (b : ℕ) → tableOf t ≡ read T → planFor T p ≡ read b → (x : Read ℕ) → goalOf (T .width) g ≡ x → RunTurned t p g room f
+      by-goal T b d k (read v) m = by-room T b v d k m (ltb (length room) (length (T .rows))) refl
+      by-goal T b d k (refuse h) m = bad-goal T b d k (m ∙ ap refuse (same (run-goal t p g room d (with-table t p d k) m)))
+
+      by-plan : (T : Table) → tableOf t ≡ read T → (x : Read ℕ) → planFor T p ≡ x → RunTurned t p g room f
+      by-plan T d (read b) k = by-goal T b d k (goalOf (T .width) g) refl
+      by-plan T d (refuse h) k = bad-plan T d (k ∙ ap refuse (same (run-plan t p g room d (with-table t p d k))))
+
+      by-table : (x : Read Table) → tableOf t ≡ x → RunTurned t p g room f
+      by-table (read T) d = by-plan T d (planFor T p) refl
+      by-table (refuse h) d = bad-table (d ∙ ap refuse (same (run-table t p g room d)))
+
+module _ {t p g room room′ : List ℕ} {r : RunAnswer} where
+  pub run-is-turned : Ran t p g room room′ r → (f : Refused) → (runTold r ≡ turned f) ↔ RunTurned t p g room f
+  run-is-turned b f = (why b, λ k. gets b (turns k))
+    where
+      why : Ran t p g room room′ r → runTold r ≡ turned f → RunTurned t p g room f
+      why (refusal h a x c) e = turned-by (a ∙ ap refuse (turned-one (sym x ∙ e)))
+      why (ran T tree found n a w v u x c) e = clash (sym x ∙ e)
+
+      gets : Ran t p g room room′ r → runOf t p g room ≡ refuse f → runTold r ≡ turned f
+      gets (refusal h a x c) e = x ∙ ap turned (refuse-one (sym a ∙ e))
+      gets (ran T tree found n a w v u x c) e = apart (sym a ∙ e)
+
+  pub run-writes-nothing : Ran t p g room room′ r → (f : Refused) → runTold r ≡ turned f → room′ ≡ room
+  run-writes-nothing (refusal h a x c) f e = c
+  run-writes-nothing (ran T tree found n a w v u x c) f e = clash (sym x ∙ e)
+
+  -- with any tree that writes the plan's cells
+  pub run-answers : (T : Table) (tree : Plan (T .width) (T .rows)) → tableOf t ≡ read T → write tree ≡ p → IsGoal (T .width) g → length (T .rows) ≤ length room
+      → Ran t p g room room′ r → Answers T tree g room room′ r
+  run-answers T tree e w i l b = go b
+    where
+      read-plan : planOf t p ≡ read (branches tree)
+      read-plan = rw e (accepted-one T (is-table t e) p (branches tree) .1 (tree, w, refl, λ q v. write-one q tree (v ∙ sym w)))
+
+      takes : runOf t p g room ≡ read T
+      takes =
+          let v = goal-accepted (T .width) g .1 i in
+          takes-run (record { table = e; branches = branches tree; plan = read-plan; variables = v .0; goal = v .1; room-for = l })
+
+      go : Ran t p g room room′ r → Answers T tree g room room′ r
+      go (refusal f a x c) = apart (sym takes ∙ a)
+      go (ran T′ tree′ found n a d v u x c) =
+          let q : T′ ≡ T = read-one (sym a ∙ takes) in
+          let s = skeletons-one (ap (λ (y : Table). y .width) q) (ap (λ (y : Table). y .rows) q) tree′ tree (sym d ∙ sym w) in
+          record {
+            found = found;
+            rows = subst (λ (y : Table). Picks (λ (row : List ℕ). Matches row g) (y .rows) 0 found) q v;
+            tried = n;
+            branches = subst (λ (ks : List (List ℕ)). Counts (Tried g) ks n) s u;
+            told = x;
+            wrote = c;
+          }
+
+  -- and so with any cells that the check accepts
+  pub any-plan-answers : (T : Table) (b : ℕ) → tableOf t ≡ read T → planOf t p ≡ read b → IsGoal (T .width) g → length (T .rows) ≤ length room
+      → Ran t p g room room′ r → (tree : Plan (T .width) (T .rows)) × (write tree ≡ p) × Answers T tree g room room′ r
+  any-plan-answers T b e k i l x =
+      let a = accepted-one T (is-table t e) p b .0 (rw e at k) in
+      (a .0, a .1, run-answers T (a .0) e (a .1) i l x)
+
+-- the rows in words: each of the table's rows that unifies and no other number, ascending
+pub rows-reported : {g room room′ : List ℕ} {r : RunAnswer} {T : Table} {tree : Plan (T .width) (T .rows)} (a : Answers T tree g room room′ r)
+    → ((j : ℕ) → List·Memᴰ j (a .found) ↔ ((j < length (T .rows)) × Matches (getD (T .rows) j []) g)) × Ascends 0 (a .found)
+rows-reported {g} {T = T} a =
+    let up = picks-ascend (a .rows) in (
+      λ j. (
+        λ m. (let l : j < length (T .rows) = omega (arith, up .1 j m) in (l, at-row j l .0 m)),
+        λ h. at-row j (h .0) .1 (h .1),
+      ),
+      up .0,
+    )
+  where
+    at-row : (j : ℕ) → j < length (T .rows) → List·Memᴰ j (a .found) ↔ Matches (getD (T .rows) j []) g
+    at-row j l = let e : 0 + j ≡ j = omega arith in rw e at (picked (a .rows) j l)
