@@ -7,24 +7,18 @@ use Rattle.listing.proofs.EntryLaws.{put-written}
 use borrow.Author.Needs.{needs}
 use Rattle.listing.proofs.list_refusal.Statement.{statement}
 use Rattle.listing.proofs.list_refusal.Tie as tie
-use Rattle.listing.proofs.list_refusal.Reads as reads
-use Rattle.listing.proofs.list_refusal.Lts as lts
-use Rattle.listing.proofs.text.put_refusal.Reads as put-refusal-reads
 
 enough : (c : tie.Start) → Room (c .args .out .now) 0 (refusal (c .args .number) (c .args .place))
 enough c =
     let f = refusal-few (c .args .number) (c .args .place) (omega arith) (omega arith) in
     record { enough = omega arith }
 
--- src/lib.rt:80:5
 put-refusal-requires : tie.Need-put-refusal-requires
 put-refusal-requires c κs = enough (c .before .before)
 
--- src/lib.rt:76:1
 same-length : tie.Need-same-length
 same-length c = search needs
 
--- src/lib.rt:76:1
 returns : tie.Need-returns
 returns c = put-written (c .before .before .put-refusal .ensures) (enough (c .before .before .before .before .before)) refl
 
