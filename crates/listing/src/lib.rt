@@ -68,7 +68,7 @@ fn list_cells(table: &[u32], out: &mut [u8]) -> usize
 }
 
 // The listing of any bytes at all, put at the front of `out`; how many bytes it has. 43,035 bytes are enough for every one: 27 for the header and 21
-// for each of at most 2,048 branches. (The longest that was seen has 39,707.)
+// for each of at most 2,048 branches.
 pub fn list_table(bytes: &[u8], out: &mut [u8; 43035]) -> usize
     ensures { λ r. ⌜ Written (Lists (now (bytes .entry))) (now (out .entry)) (now (out .exit)) r ⌝ }
     ensures { λ r. ⌜ Counts r (now (out .exit)) ⌝ }
