@@ -217,85 +217,16 @@ fn marked() {
 }
 
 fn unmarked() {
+    let mut nested = [F1; 35];
+    nested[0] = 1;
+    nested[1] = 1;
+    nested[33] = A;
     say(b"31 times f1 then a ");
-    read(
-        &[
-            1,
-            1,
-            F1,
-            F1,
-            F1,
-            F1,
-            F1,
-            F1,
-            F1,
-            F1,
-            F1,
-            F1,
-            F1,
-            F1,
-            F1,
-            F1,
-            F1,
-            F1,
-            F1,
-            F1,
-            F1,
-            F1,
-            F1,
-            F1,
-            F1,
-            F1,
-            F1,
-            F1,
-            F1,
-            F1,
-            F1,
-            F1,
-            F1,
-            A,
-        ],
-    );
+    read(&nested[..34]);
+    nested[33] = F1;
+    nested[34] = A;
     say(b"32 times f1 then a ");
-    read(
-        &[
-            1,
-            1,
-            F1,
-            F1,
-            F1,
-            F1,
-            F1,
-            F1,
-            F1,
-            F1,
-            F1,
-            F1,
-            F1,
-            F1,
-            F1,
-            F1,
-            F1,
-            F1,
-            F1,
-            F1,
-            F1,
-            F1,
-            F1,
-            F1,
-            F1,
-            F1,
-            F1,
-            F1,
-            F1,
-            F1,
-            F1,
-            F1,
-            F1,
-            F1,
-            A,
-        ],
-    );
+    read(&nested);
     say(b"5 arguments ");
     read(&[1, 1, 0x40050001]);
     let p2 = [2, 3, A, B, B, C, A, D];

@@ -22,11 +22,11 @@ pub data Placed {A : Type 0} (n : ℕ) (P : A → Type 0) : Read A → Type 0 wh
   good : {x : A} → P x → Placed n P (read x)
   turned : {f : Refused} → f .place ≤ n → Placed n P (refuse f)
 
-pub placed-when : {A : Type 0} {n : ℕ} {P : A → Type 0} (b : Bool) (f : Refused) {r : Read A} → f .place ≤ n → (b ≡ false → Placed n P r) → Placed n P (when b f r)
+placed-when : {A : Type 0} {n : ℕ} {P : A → Type 0} (b : Bool) (f : Refused) {r : Read A} → f .place ≤ n → (b ≡ false → Placed n P r) → Placed n P (when b f r)
 placed-when true f l h = turned l
 placed-when false f l h = h refl
 
-pub placed-then : {A B : Type 0} {n : ℕ} {P : A → Type 0} {Q : B → Type 0} {r : Read A} (f : A → Read B) → Placed n P r → ((x : A) → P x → Placed n Q (f x)) → Placed n Q (andThen r f)
+placed-then : {A B : Type 0} {n : ℕ} {P : A → Type 0} {Q : B → Type 0} {r : Read A} (f : A → Read B) → Placed n P r → ((x : A) → P x → Placed n Q (f x)) → Placed n Q (andThen r f)
 placed-then f (good {x} p) h = h x p
 placed-then f (turned l) h = turned l
 
@@ -151,7 +151,7 @@ placed-plan T cells =
     narrow l (turned {f} q) = turned {f = f} (omega arith)
 
 -- a run: the table's, the plan's and the goal's refusals, and ROOM at the number of rows
-pub placed-checked : (t p : List ℕ) → Placed 6082 (Any {A = ℕ}) (planOf t p)
+placed-checked : (t p : List ℕ) → Placed 6082 (Any {A = ℕ}) (planOf t p)
 placed-checked t p = placed-then (λ (T : Table). planFor T p) (widen (omega arith) (placed-table t)) (λ T _. placed-plan T p)
 
 pub placed-run : (t p g room : List ℕ) → Placed 6082 (Any {A = Table}) (runOf t p g room)

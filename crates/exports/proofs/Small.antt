@@ -39,7 +39,7 @@ table-small t = go (tableOf t) refl
     go (read T) e = let i = is-table t e in (omega (arith, i .width .1), omega (arith, i .count .1))
     go (refuse f) e = let l = placed-at (placed-table t) e in omega arith
 
-pub goal-small : (w : ℕ) (g : List ℕ) → Small (goalSays g (goalOf w g))
+goal-small : (w : ℕ) (g : List ℕ) → Small (goalSays g (goalOf w g))
 goal-small w g = go (goalOf w g) refl
   where
     go : (r : Read ℕ) → goalOf w g ≡ r → Small (goalSays g r)

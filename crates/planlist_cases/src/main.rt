@@ -4,99 +4,25 @@ ghost use Prim.Native.Nat.{_+_, _≤_};
 ghost use lib.ListN.{length};
 use libc::STDOUT_FILENO;
 
-// Width 2, one row (v0, v0): a variable used twice.
-const TWICE: [u32; 4] = [2, 1, 0, 0];
+// Names by their letters, with as many arguments as the last digit says.
+const A0: u32 = 0x40000001;
 
-// 01's example with one byte more.
-const ODD: [u8; 25] = [
-    2,
-    0,
-    0,
-    0,
-    2,
-    0,
-    0,
-    0,
-    1,
-    0,
-    0,
-    64,
-    2,
-    0,
-    0,
-    64,
-    1,
-    0,
-    0,
-    64,
-    9,
-    0,
-    0,
-    128,
-    0,
-];
+const B0: u32 = 0x40000002;
 
-// Width 2, five rows, with a = n1/0, b = n2/0, f = n7/2, g = n8/1, h = n9/4:
-// (f(g(a), v0), 7) (f(g(b), v0), v1) (f(g(b), 65535), 7) (v0, 7) (h(v0, a, v1, 0), g(v2)).
-const NESTED: [u32; 26] = [
-    2,
-    5,
-    1073872903,
-    1073807368,
-    1073741825,
-    0,
-    2147483655,
-    1073872903,
-    1073807368,
-    1073741826,
-    0,
-    1,
-    1073872903,
-    1073807368,
-    1073741826,
-    2147549183,
-    2147483655,
-    0,
-    2147483655,
-    1074003977,
-    0,
-    1073741825,
-    1,
-    2147483648,
-    1073807368,
-    2,
-];
+const F2: u32 = 0x40020007;
 
-// 01's six rows whose least plan looks at the second place first:
-// (a,x,x,x) (a,x,x,x) (a,y,y,y) (b,y,y,y) (b,z,z,z) (b,z,z,z), with a = n1/0, b = n2/0, x = n24/0, y = n25/0, z = n26/0.
-const SECOND: [u32; 26] = [
-    4,
-    6,
-    1073741825,
-    1073741848,
-    1073741848,
-    1073741848,
-    1073741825,
-    1073741848,
-    1073741848,
-    1073741848,
-    1073741825,
-    1073741849,
-    1073741849,
-    1073741849,
-    1073741826,
-    1073741849,
-    1073741849,
-    1073741849,
-    1073741826,
-    1073741850,
-    1073741850,
-    1073741850,
-    1073741826,
-    1073741850,
-    1073741850,
-    1073741850,
-];
+const G1: u32 = 0x40010008;
+
+const H4: u32 = 0x40040009;
+
+const X0: u32 = 0x40000018;
+
+const Y0: u32 = 0x40000019;
+
+const Z0: u32 = 0x4000001a;
+
+// The whole number 0; a number n is n more.
+const ZERO: u32 = 0x80000000;
 
 // Prints the listing of any bytes.
 fn show(bytes: &[u8]) {
@@ -130,6 +56,78 @@ fn show_cells(cells: &[u32])
     show(&bytes[..e]);
 }
 
+// Nested names, variables, and numbers from the least to the greatest.
+fn nested() {
+    let seven = ZERO + 7;
+    let most = ZERO + 65535;
+    // (f(g(a), v0), 7) (f(g(b), v0), v1) (f(g(b), 65535), 7) (v0, 7) (h(v0, a, v1, 0), g(v2))
+    show_cells(
+        &[
+            2,
+            5,
+            F2,
+            G1,
+            A0,
+            0,
+            seven,
+            F2,
+            G1,
+            B0,
+            0,
+            1,
+            F2,
+            G1,
+            B0,
+            most,
+            seven,
+            0,
+            seven,
+            H4,
+            0,
+            A0,
+            1,
+            ZERO,
+            G1,
+            2,
+        ],
+    );
+}
+
+// 01's six rows whose least plan looks at the second place first.
+fn second_place() {
+    // (a,x,x,x) (a,x,x,x) (a,y,y,y) (b,y,y,y) (b,z,z,z) (b,z,z,z)
+    show_cells(
+        &[
+            4,
+            6,
+            A0,
+            X0,
+            X0,
+            X0,
+            A0,
+            X0,
+            X0,
+            X0,
+            A0,
+            Y0,
+            Y0,
+            Y0,
+            B0,
+            Y0,
+            Y0,
+            Y0,
+            B0,
+            Z0,
+            Z0,
+            Z0,
+            B0,
+            Z0,
+            Z0,
+            Z0,
+        ],
+    );
+}
+
 // Width 2, 64 rows: sixteen with n1/0 first, sixteen with n2/0, and so on; each has its own number second.
 fn sixty_four() -> [u32; 130] {
     let mut cells = [0u32; 130];
@@ -138,21 +136,22 @@ fn sixty_four() -> [u32; 130] {
     let mut r = 0;
     while r < 64 {
         let row = r as usize;
-        cells[2 * row + 2] = 1073741825 + r / 16;
-        cells[2 * row + 3] = 2147483648 + r;
+        cells[2 * row + 2] = A0 + r / 16;
+        cells[2 * row + 3] = ZERO + r;
         r += 1;
     }
     cells
 }
 
 fn main() {
-    show_cells(&TWICE);
+    // a variable used twice in a row
+    show_cells(&[2, 1, 0, 0]);
+    // no bytes, a cell and one byte more, one cell too many, and as many as may be
     show(b"");
-    show(&ODD);
-    // one cell too many, and as many as may be
+    show(&[2u8, 0, 0, 0, 2]);
     show(&[0u8; 8204]);
     show(&[0u8; 8200]);
-    show_cells(&NESTED);
-    show_cells(&SECOND);
+    nested();
+    second_place();
     show_cells(&sixty_four());
 }
