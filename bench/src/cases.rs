@@ -19,33 +19,54 @@ pub const KINDS: [(&str, Kind); 5] =
 /// The numbers of rows, the last one for the ratios.
 pub const ROWS: [usize; 4] = [8, 16, 32, 64];
 
-/// A table with its least plan and goals of three sorts: instances of rows, rows with some parts blank, and the goal of distinct variables.
+/// A table with its least plan, and goals by their sorts.
 pub struct Case {
     table: Vec<u32>,
     plan: Vec<u32>,
-    goals: [(&'static str, Vec<Vec<u32>>); 3],
+    goals: Vec<(&'static str, Vec<Vec<u32>>)>,
     read: Table,
     tree: Plan,
 }
 
 impl Case {
+    /// Goals of three sorts: instances of rows, rows with some parts blank, and the goal of distinct variables.
     pub fn new(kind: Kind, rows: usize) -> Case {
         let random = &mut Random::new(SEED);
-        let table = table(random, kind, rows);
+        Case::of(table(random, kind, rows), |table| {
+            vec![
+                ("instances", (0..16).map(|_| goals::instance(random, table)).collect()),
+                ("part blank", (0..16).map(|_| goals::general(random, table)).collect()),
+                ("open", vec![goals::open(table.width)]),
+            ]
+        })
+    }
+
+    /// One goal alone.
+    pub fn with_goal(table: Vec<u32>, goal: Vec<u32>) -> Case {
+        Case::of(table, |_| vec![("one goal", vec![goal])])
+    }
+
+    fn of(table: Vec<u32>, goals: impl FnOnce(&Table) -> Vec<(&'static str, Vec<Vec<u32>>)>) -> Case {
         let read = read_table(&table).expect("a sound table");
         let tree = least(&read);
-        let goals = [
-            ("instances", (0..16).map(|_| goals::instance(random, &read)).collect()),
-            ("part blank", (0..16).map(|_| goals::general(random, &read)).collect()),
-            ("open", vec![goals::open(read.width)]),
-        ];
-        Case { plan: tree.write(), table, goals, read, tree }
+        Case { plan: tree.write(), table, goals: goals(&read), read, tree }
     }
 
     /// The case in one line.
     pub fn title(&self) -> String {
         let (rows, width) = (self.read.rows.len(), self.read.width);
         format!("{rows} rows of width {width}, {} cells; plan of {} branches, {} cells", self.table.len(), self.tree.branches.len(), self.plan.len())
+    }
+
+    /// The branches that the walks of its goals try together.
+    pub fn tried(&self) -> usize {
+        let goals = self.goals.iter().flat_map(|(_, goals)| goals);
+        goals.map(|goal| walk(&self.tree, &self.goal(goal), &mut Vec::new())).sum()
+    }
+
+    /// The walks alone, for each sort of goals.
+    pub fn walks(&self) -> Vec<Measure<'_>> {
+        self.goals.iter().map(|(sort, goals)| self.walking(sort, goals)).collect()
     }
 
     pub fn measures(&self) -> Vec<Measure<'_>> {

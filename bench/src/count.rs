@@ -3,7 +3,8 @@
 
 use std::path::Path;
 
-use crate::cases::{Case, KINDS, ROWS};
+use crate::branches::sorts;
+use crate::cases::{Case, Measure, KINDS, ROWS};
 
 /// What callgrind counts.
 #[no_mangle]
@@ -14,31 +15,39 @@ pub fn measured(work: &mut dyn FnMut()) {
 
 /// Does every work of every measure, in the order in which `instructions` takes the files.
 pub fn count() {
-    each_case(|_, case| {
-        for mut measure in case.measures() {
-            measure.figures(|work| {
-                (work.work)();
-                measured(&mut *work.work);
-                0.0
-            });
-        }
-    });
+    let mut once = |mut measure: Measure| {
+        measure.figures(|work| {
+            (work.work)();
+            measured(&mut *work.work);
+            0.0
+        });
+    };
+    each_case(|_, case| case.measures().into_iter().for_each(&mut once));
+    sorts().iter().for_each(|sort| once(sort.walk()));
 }
 
 /// Prints the instructions of every measure from callgrind's files FOLDER/count.1, count.2, ..
 pub fn instructions(folder: &Path) {
     let mut files = 0;
+    let mut line = |mut measure: Measure, parts: usize| {
+        let (exported, independent) = measure.figures(|_| {
+            files += 1;
+            total(&folder.join(format!("count.{files}"))) as f64 / parts as f64
+        });
+        println!("{:<34}{exported:>12.0}{independent:>13.0}{:>8.2}", measure.name, exported / independent);
+    };
     each_case(|name, case| {
         println!("\n{name}: {}", case.title());
-        println!("{:<34}{:>12}{:>13}{:>8}", "instructions for a call", "exported", "independent", "ratio");
-        for mut measure in case.measures() {
-            let (exported, independent) = measure.figures(|_| {
-                files += 1;
-                total(&folder.join(format!("count.{files}"))) as f64
-            });
-            println!("{:<34}{exported:>12.0}{independent:>13.0}{:>8.2}", measure.name, exported / independent);
-        }
+        heading("instructions for a call");
+        case.measures().into_iter().for_each(|measure| line(measure, 1));
     });
+    println!("\nOne branch: run less check by the number of branches tried; 64 rows, every branch of one sort");
+    heading("instructions for a branch");
+    sorts().iter().for_each(|sort| line(sort.walk(), sort.tried()));
+}
+
+fn heading(first: &str) {
+    println!("{first:<34}{:>12}{:>13}{:>8}", "exported", "independent", "ratio");
 }
 
 fn each_case(mut visit: impl FnMut(&str, &Case)) {
