@@ -106,9 +106,7 @@ fn build_into(table: &[u32], room: &mut [u32]) {
             say(b"cost ");
             number(cost);
             say(b", plan");
-            if n <= room.len() {
-                cells(&room[..n]);
-            }
+            cells(&room[..n]);
         }
         BuildAnswer::Refused(f) => refused(f),
     }
@@ -135,11 +133,7 @@ fn ask(table: &[u32], goal: &[u32]) {
 
 fn ask_with(table: &[u32], goal: &[u32], room: &mut [u32], hits: &mut [u8]) {
     match least::build_plan(table, room) {
-        BuildAnswer::Built(n, _) => {
-            if n <= room.len() {
-                ask_plan(table, &room[..n], goal, hits);
-            }
-        }
+        BuildAnswer::Built(n, _) => ask_plan(table, &room[..n], goal, hits),
         BuildAnswer::Refused(f) => refused(f),
     }
 }
@@ -150,9 +144,7 @@ fn ask_plan(table: &[u32], plan: &[u32], goal: &[u32], hits: &mut [u8]) {
             say(b"tried ");
             number(tried);
             say(b", rows");
-            if n <= hits.len() {
-                bytes(&hits[..n]);
-            }
+            bytes(&hits[..n]);
         }
         RunAnswer::Refused(f) => refused(f),
     }

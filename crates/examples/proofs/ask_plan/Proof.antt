@@ -1,8 +1,15 @@
+use Prim.Native.Nat.{_≤_}
+use lib.ListN.{length}
+use Rattle.examples.proofs.Fits.{ran-fits}
 use mathlib.Core.Path.{sym}
 use lib.Seq.{length-take-le}
 use borrow.Author.Needs.{needs}
 use Rattle.examples.proofs.ask_plan.Statement.{statement}
 use Rattle.examples.proofs.ask_plan.Tie as tie
+
+-- the hits fit the room
+fits : (c : tie.After-n) → c .n .given .0 .0 ≤ length (c .before .before .before .before .run-plan .last .1 .1 .1 .0)
+fits c = ran-fits (c .before .before .before .before .run-plan .ensures) (c .n .given .1)
 
 run-plan-requires : tie.Need-run-plan-requires
 run-plan-requires c κs = search needs
@@ -26,10 +33,10 @@ say-requires-2 : tie.Need-say-requires-2
 say-requires-2 c κs = search needs
 
 slice-reshare-prefix-bytes : tie.Need-slice-reshare-prefix-bytes
-slice-reshare-prefix-bytes c = search needs
+slice-reshare-prefix-bytes c = fits (c .before .before .before .before .before .before)
 
 slice-aggregate-bytes : tie.Need-slice-aggregate-bytes
-slice-aggregate-bytes c = sym (length-take-le _ _ (search needs))
+slice-aggregate-bytes c = sym (length-take-le _ _ (fits (c .before .before .before .before .before .before .before)))
 
 bytes-requires : tie.Need-bytes-requires
 bytes-requires c κs = search needs
@@ -52,12 +59,6 @@ same-length-2 c = search needs
 returns-2 : tie.Need-returns-2
 returns-2 c = search needs
 
-same-length-3 : tie.Need-same-length-3
-same-length-3 c = search needs
-
-returns-3 : tie.Need-returns-3
-returns-3 c = search needs
-
 pub ask-plan-spec : {M : Type 1} → statement M
 ask-plan-spec =
     tie.close
@@ -77,6 +78,4 @@ ask-plan-spec =
     same-length
     returns
     same-length-2
-    returns-2
-    same-length-3
-    returns-3)
+    returns-2)

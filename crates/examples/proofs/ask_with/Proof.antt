@@ -1,8 +1,15 @@
+use Prim.Native.Nat.{_≤_}
+use lib.ListN.{length}
+use Rattle.examples.proofs.Fits.{built-fits}
 use mathlib.Core.Path.{sym}
 use lib.Seq.{length-take-le}
 use borrow.Author.Needs.{needs}
 use Rattle.examples.proofs.ask_with.Statement.{statement}
 use Rattle.examples.proofs.ask_with.Tie as tie
+
+-- what was built fits the room
+fits : (c : tie.After-n) → c .n .given .0 .0 ≤ length (c .before .before .before .before .build-plan .last .1 .0)
+fits c = built-fits (c .before .before .before .before .build-plan .ensures) (c .n .given .1)
 
 build-plan-requires : tie.Need-build-plan-requires
 build-plan-requires c κs = search needs
@@ -11,10 +18,10 @@ enum-known-n : tie.Need-enum-known-n
 enum-known-n c = search needs
 
 slice-reshare-prefix-ask-plan : tie.Need-slice-reshare-prefix-ask-plan
-slice-reshare-prefix-ask-plan c = search needs
+slice-reshare-prefix-ask-plan c = fits (c .before)
 
 slice-aggregate-ask-plan : tie.Need-slice-aggregate-ask-plan
-slice-aggregate-ask-plan c = sym (length-take-le _ _ (search needs))
+slice-aggregate-ask-plan c = sym (length-take-le _ _ (fits (c .before .before)))
 
 ask-plan-requires : tie.Need-ask-plan-requires
 ask-plan-requires c κs = search needs
@@ -40,12 +47,6 @@ same-length-3 c = search needs
 returns-2 : tie.Need-returns-2
 returns-2 c = search needs
 
-same-length-4 : tie.Need-same-length-4
-same-length-4 c = search needs
-
-returns-3 : tie.Need-returns-3
-returns-3 c = search needs
-
 pub ask-with-spec : {M : Type 1} → statement M
 ask-with-spec =
     tie.close
@@ -61,6 +62,4 @@ ask-with-spec =
     same-length-2
     returns
     same-length-3
-    returns-2
-    same-length-4
-    returns-3)
+    returns-2)

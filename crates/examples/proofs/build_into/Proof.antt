@@ -1,8 +1,15 @@
+use Prim.Native.Nat.{_≤_}
+use lib.ListN.{length}
+use Rattle.examples.proofs.Fits.{built-fits}
 use mathlib.Core.Path.{sym}
 use lib.Seq.{length-take-le}
 use borrow.Author.Needs.{needs}
 use Rattle.examples.proofs.build_into.Statement.{statement}
 use Rattle.examples.proofs.build_into.Tie as tie
+
+-- what was built fits the room
+fits : (c : tie.After-n) → c .n .given .0 .0 ≤ length (c .before .before .before .before .build-plan .last .1 .0)
+fits c = built-fits (c .before .before .before .before .build-plan .ensures) (c .n .given .1)
 
 build-plan-requires : tie.Need-build-plan-requires
 build-plan-requires c κs = search needs
@@ -26,10 +33,10 @@ say-requires-2 : tie.Need-say-requires-2
 say-requires-2 c κs = search needs
 
 slice-reshare-prefix-cells : tie.Need-slice-reshare-prefix-cells
-slice-reshare-prefix-cells c = search needs
+slice-reshare-prefix-cells c = fits (c .before .before .before .before .before .before)
 
 slice-aggregate-cells : tie.Need-slice-aggregate-cells
-slice-aggregate-cells c = sym (length-take-le _ _ (search needs))
+slice-aggregate-cells c = sym (length-take-le _ _ (fits (c .before .before .before .before .before .before .before)))
 
 cells-requires : tie.Need-cells-requires
 cells-requires c κs = search needs
@@ -52,12 +59,6 @@ same-length-2 c = search needs
 returns-2 : tie.Need-returns-2
 returns-2 c = search needs
 
-same-length-3 : tie.Need-same-length-3
-same-length-3 c = search needs
-
-returns-3 : tie.Need-returns-3
-returns-3 c = search needs
-
 pub build-into-spec : {M : Type 1} → statement M
 build-into-spec =
     tie.close
@@ -77,6 +78,4 @@ build-into-spec =
     same-length
     returns
     same-length-2
-    returns-2
-    same-length-3
-    returns-3)
+    returns-2)
