@@ -49,7 +49,8 @@ use Rattle.exports.proofs.Fixed.{build-coded-fixed, run-coded-fixed}
 use Rattle.demands.specs.Said.{BuildTurned, RunTurned, Answers}
 use Rattle.demands.proofs.Cited.{table-turned, goal-turned, plan-turned, by-answer, build-is-turned, build-writes-nothing, builds, check-accepts, run-is-turned, run-writes-nothing, run-answers, any-plan-answers, rows-reported}
 
--- DEMAND 1. "Every entry takes any cells at all and ends." No public function has a `requires`, and that a function returns is part of what the checker proves of it.
+-- DEMAND 1. "Every entry takes any cells at all and ends. .. Nobody has to check first." No public function has a `requires`, and that a function returns is part of what the
+-- checker proves of it.
 
 -- "A bad table, plan or goal is refused by the number and place document 01 fixes": what is read, by 01's tests in 01's order, is a table exactly when 01 calls it one, and so
 -- for a goal (for a plan see demand 3); and each entry gives exactly the refusal that is read.
@@ -166,6 +167,8 @@ held-exported-build = build-coded-fixed
 
 pub held-exported-run : {t p g room room′ room″ : List ℕ} {r s : ℕ} → RunCoded t p g room room′ r → RunCoded t p g room room″ s → (r ≡ s) × (room′ ≡ room″)
 held-exported-run = run-coded-fixed
+
+-- "None is public unless its result is promised": docs/PROMISES.md lists every public function with its promise.
 
 -- "These must be unprovable:"
 -- "an entry that refuses everything": what 01 calls a table and a goal is accepted. For the other entries this is demand-3-check, demand-3-builds and demand-2

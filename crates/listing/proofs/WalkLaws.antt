@@ -171,6 +171,37 @@ module _ {plan many out : List ℕ} {places depth index left first at to : ℕ} 
       let l = none-is (w .trees) (sym (w .count) ∙ z) depth index first in
       nothing at (l .0) (omega (arith, ap length (l .1)))
 
+  -- where the first of the branches stands: in the plan, in the marks and among the rows, and how the lines begin with its own
+  record Stands (w : Readys plan many out places depth index left first at to) (n : ℕ) : Type 0 where
+    branch : First (w .trees)
+    inside : at < length plan
+    cell : getD plan at 0 ≡ branch .run .cell
+    after : drop (at + 1) plan ≡ write (branch .tree) ++ (writes (branch .trees) ++ w .rest)
+    noted : drop (at + 1) many ≡ manyIn (branch .tree) ++ (manyOf (branch .trees) ++ w .marks)
+    rows : n ≡ length (branch .run .rows)
+    some : 0 < length (branch .run .rows)
+    others : Within (first + n) (branch .others)
+    lines : linesOf (w .trees) depth index first
+        ≡ line depth index (getD plan at 0) first (first + n - 1) ++ (linesIn (branch .tree) (depth + 1) first ++ linesOf (branch .trees) depth index (first + n))
+
+  stands : (w : Readys plan many out places depth index left first at to) (n : ℕ) → 0 < left → n ≡ getD many at 0 → Stands w n
+  stands w n h e =
+      let f = first-is (w .trees) (omega (arith, w .count)) in
+      let cells = head-at plan at (f .run .cell) ((write (f .tree) ++ writes (f .trees)) ++ w .rest) (w .cells ∙ rw (f .cells)) in
+      let marks = head-at many at (length (f .run .rows)) ((manyIn (f .tree) ++ manyOf (f .trees)) ++ w .marks) (w .marked ∙ rw (f .marks)) in
+      let within = rw (f .runs-are) at (w .within) in
+      record {
+        branch = f;
+        inside = cells .0;
+        cell = cells .1;
+        after = cells .2 ∙ append-assoc (write (f .tree)) (writes (f .trees)) (w .rest);
+        noted = marks .2 ∙ append-assoc (manyIn (f .tree)) (manyOf (f .trees)) (w .marks);
+        rows = e ∙ marks .1;
+        some = within .0;
+        others = rw (e ∙ marks .1) (within .1);
+        lines = f .lines depth index first (getD plan at 0) n (cells .1) (e ∙ marks .1);
+      }
+
   -- a branch with n rows and a arguments: its line, the state below it, the branches beside it
   pub record Goes (w : Readys plan many out places depth index left first at to) (n a : ℕ) (text : List ℕ) : Type 0 where
     pub inside : at < length plan
@@ -190,21 +221,15 @@ module _ {plan many out : List ℕ} {places depth index left first at to : ℕ} 
   pub goes : (w : Readys plan many out places depth index left first at to) (n a : ℕ) → 0 < left → n ≡ getD many at 0 → a ≡ arity (getD plan at 0)
       → Goes w n a (line depth index (getD plan at 0) first (first + n - 1))
   goes w n a h en ea =
-      let f = first-is (w .trees) (omega (arith, w .count)) in
-      let cells = head-at plan at (f .run .cell) ((write (f .tree) ++ writes (f .trees)) ++ w .rest) (w .cells ∙ rw (f .cells)) in
-      let marks = head-at many at (length (f .run .rows)) ((manyIn (f .tree) ++ manyOf (f .trees)) ++ w .marks) (w .marked ∙ rw (f .marks)) in
-      let rows : n ≡ length (f .run .rows) = en ∙ marks .1 in
-      let lines = f .lines depth index first (getD plan at 0) n (cells .1) rows in
-      let in-them = rw (f .runs-are) at (w .within) in
-      let last = within-first (first + length (f .run .rows)) (f .others) (in-them .1) in
+      let s = stands w n h en in
+      let f = s .branch in
+      let last = within-first (first + n) (f .others) (s .others) in
       let few-args : a ≤ 4 = omega (arith, ea, arity-small (getD plan at 0)) in
-      let room = rw lines at (w .room) in
-      let cells-below = cells .2 ∙ append-assoc (write (f .tree)) (writes (f .trees)) (w .rest) in
-      let marks-below = marks .2 ∙ append-assoc (manyIn (f .tree)) (manyOf (f .trees)) (w .marks) in
+      let room = rw (s .lines) at (w .room) in
       record {
-        inside = cells .0;
-        some = omega (arith, rows, in-them .0);
-        few = omega (arith, rows, last);
+        inside = s .inside;
+        some = omega (arith, s .rows, s .some);
+        few = last;
         few-args = few-args;
         line-room = room-first _ room;
         below = λ p. record {
@@ -213,10 +238,10 @@ module _ {plan many out : List ℕ} {places depth index left first at to : ℕ} 
           tree = f .tree;
           rest = writes (f .trees) ++ w .rest;
           marks = manyOf (f .trees) ++ w .marks;
-          open-places = rw (ea, cells .1, w .open-places);
-          cells = cells-below;
-          marked = marks-below;
-          few = last;
+          open-places = omega (arith, ea, ap arity (s .cell), w .open-places);
+          cells = s .after;
+          marked = s .noted;
+          few = omega (arith, s .rows, last);
           deep = omega (arith, w .deep);
           wide = omega (arith, w .wide);
           size = w .size;
@@ -230,16 +255,16 @@ module _ {plan many out : List ℕ} {places depth index left first at to : ℕ} 
           marks = w .marks;
           open-places = w .open-places;
           count = omega (arith, w .count, ap length (f .runs-are));
-          cells = rw (q .past) (part-at plan (at + 1) (write (f .tree)) (writes (f .trees) ++ w .rest) cells-below);
-          marked = rw (q .past, ← many-length (f .tree)) (part-at many (at + 1) (manyIn (f .tree)) (manyOf (f .trees) ++ w .marks) marks-below);
-          within = rw rows (in-them .1);
+          cells = rw (q .past) (part-at plan (at + 1) (write (f .tree)) (writes (f .trees) ++ w .rest) (s .after));
+          marked = rw (q .past, ← many-length (f .tree)) (part-at many (at + 1) (manyIn (f .tree)) (manyOf (f .trees) ++ w .marks) (s .noted));
+          within = s .others;
           deep = omega (arith, w .deep, q .past);
           wide = omega (arith, w .wide, q .past);
           size = w .size;
           room = room-next (q .puts) (room-next p room);
         };
         back = λ p q x. record {
-          puts = rw lines (put-put p (put-put (q .puts) (x .puts)));
+          puts = rw (s .lines) (put-put p (put-put (q .puts) (x .puts)));
           past = omega (arith, x .past, q .past, ap length (f .cells), length-append (write (f .tree)) (writes (f .trees)));
         };
       }
