@@ -30,32 +30,35 @@ use Rattle.run.proofs.Decided.{hitsBy, hits-by, triedBy, tried-by, row-terms}
 use Rattle.examples.specs.Examples.{Example, turned, planTurned, built, ran, BuiltSays, RanSays, Says, P, tableCells, p1, p2, plan2, p3, plan3, p5, p7, p8, plan8, marked}
 use Rattle.examples.proofs.Above.{Got, above, above-right}
 
--- Computed: the definitions' own functions, and decisions where they speak of substitutions.
-abbrev pub rowsIn : Read Table → List (List ℕ)
+-- What is computed: by the definitions' own functions, and where they speak of substitutions by decisions that are proved right.
+abbrev rowsIn : Read Table → List (List ℕ)
 rowsIn (read T) = T .rows
 rowsIn (refuse f) = []
 
-abbrev pub widthIn : Read Table → ℕ
+abbrev widthIn : Read Table → ℕ
 widthIn (read T) = T .width
 widthIn (refuse f) = 0
 
-unfoldable pub planned : Read Table → List ℕ
+-- the cells of the builder's plan
+unfoldable planned : Read Table → List ℕ
 planned r = planCells plain 32 (widthIn r) (rowsIn r)
 
-unfoldable pub aboveAll : Read Table → List ℕ → List (List ℕ)
+-- what is decided above each branch of a plan
+unfoldable aboveAll : Read Table → List ℕ → List (List ℕ)
 aboveAll r p = above 32 (widthIn r) (rowsIn r) (replicate (widthIn r) hole) (p ++ []) .above
 
-pub data Outcome : Type 0 where
+-- an example's outcome: the reading of the table, the check of the plan, the builder's cells, whether the goal is read, the hits and the branches tried
+data Outcome : Type 0 where
   of-table : Read Table → Outcome
   of-plan : Read ℕ → Outcome
   of-built : Read ℕ → List ℕ → Outcome
   of-run : Read ℕ → List ℕ → Bool → List ℕ → ℕ → Outcome
 
-abbrev pub isRead : Read ℕ → Bool
+abbrev isRead : Read ℕ → Bool
 isRead (read n) = true
 isRead (refuse f) = false
 
-unfoldable pub computed : Example → Outcome
+unfoldable computed : Example → Outcome
 computed (turned t n p) = of-table (tableOf t)
 computed (planTurned t q n p) = of-plan (planOf t q)
 computed (built t p cost) = of-built (planOf t p) (planned (tableOf t))
@@ -63,7 +66,8 @@ computed (ran t p cost g hits tried) =
     of-run (planOf t p) (planned (tableOf t)) (isRead (goalOf (widthIn (tableOf t)) g))
     (hitsBy g (rowsIn (tableOf t)) 0) (triedBy g (aboveAll (tableOf t) p))
 
-unfoldable pub printed : Example → Outcome
+-- what 01 prints
+unfoldable printed : Example → Outcome
 printed (turned t n p) = of-table (refuse (refused n 1 p))
 printed (planTurned t q n p) = of-plan (refuse (refused n 2 p))
 printed (built t p cost) = of-built (read cost) p

@@ -1,6 +1,6 @@
 // An answer as one number: number + 2^8 · input + 2^16 · first + 2^32 · second.
 ghost use mathlib.Core.Path.{_≡_};
-ghost use Prim.Native.Nat.{_≤_, _<_, _^_};
+ghost use Prim.Native.Nat.{_<_, _^_};
 ghost use Rattle.table.specs.Refusal.{told, answered, turned};
 ghost use Rattle.table.specs.Table.{tableTold, goalTold};
 ghost use Rattle.plan.specs.Checked.{planTold};

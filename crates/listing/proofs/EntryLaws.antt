@@ -25,7 +25,7 @@ use Rattle.least.specs.Least.{Built}
 use Rattle.least.specs.Build.{BuiltInto, table-refused, room-refused, built, buildTold}
 use Rattle.least.specs.declared.BuildAnswer.{BuildAnswer}
 use Rattle.least.specs.declared.BuildAnswer.the-variants as build-answer
-use Rattle.listing.specs.Listing.{header, linesIn, listingOf, cellsOf, unread, Written, Counts}
+use Rattle.listing.specs.Listing.{header, linesIn, listingOf, cellsOf, unread, Written, AtFront}
 use Rattle.listing.specs.Walk.{Room, Put, Whole, Planned}
 use Rattle.listing.proofs.CellsLaws.{cells-length}
 use Rattle.listing.proofs.LengthLaws.{listing-few}
@@ -52,8 +52,8 @@ written-inside {room = room} w =
 written-front : {Is : List ℕ → Type 0} {room room′ : List ℕ} {n : ℕ} (w : Written Is room room′ n) → take n room′ ≡ w .text
 written-front {room = room} {n = n} w = ap (take n) (w .front) ∙ take-at (w .text) (drop (length (w .text)) room) n (sym (w .count))
 
-pub written-counts : {Is : List ℕ → Type 0} {room room′ : List ℕ} {n : ℕ} → Written Is room room′ n → Counts n room′
-written-counts {room′ = room′} {n = n} w = (written-inside w, sym (length-take-le n room′ (written-inside w)))
+pub written-at-front : {Is : List ℕ → Type 0} {room room′ : List ℕ} {n : ℕ} → Written Is room room′ n → AtFront n room′
+written-at-front {room′ = room′} {n = n} w = (written-inside w, sym (length-take-le n room′ (written-inside w)))
 
 -- the numbers of rows do not depend on which plan wrote the cells
 same-marks : (T T′ : Table) → T ≡ T′ → (p : Plan (T .width) (T .rows)) (q : Plan (T′ .width) (T′ .rows)) → write p ≡ write q → manyIn p ≡ manyIn q

@@ -129,5 +129,5 @@ pub record Written (Is : List ℕ → Type 0) (room room′ : List ℕ) (n : ℕ
   pub front : room′ ≡ text ++ drop (length text) room
 
 -- n counts bytes at the front of a list, in the two forms that a part of an array asks for; the second follows from the first
-abbrev pub Counts : ℕ → List ℕ → Type 0
-Counts n xs = (n ≤ length xs) × (n ≡ length (take n xs))
+abbrev pub AtFront : ℕ → List ℕ → Type 0
+AtFront n xs = (n ≤ length xs) × (n ≡ length (take n xs))

@@ -7,7 +7,7 @@ ghost use mathlib.Core.Path.{_≡_};
 ghost use mathlib.Core.List.{_++_};
 ghost use Prim.Native.Nat.{_≤_};
 ghost use lib.ListN.{length};
-ghost use Rattle.listing.specs.Listing.{header, linesIn, refusal, listingOf, ListsTable, Lists, Written, Counts};
+ghost use Rattle.listing.specs.Listing.{header, linesIn, refusal, listingOf, ListsTable, Lists, Written, AtFront};
 ghost use Rattle.listing.specs.Walk.{Put, Whole, Planned};
 use crate::cells::read_cells;
 use crate::text::put_header;
@@ -71,7 +71,7 @@ fn list_cells(table: &[u32], out: &mut [u8]) -> usize
 // for each of at most 2,048 branches.
 pub fn list_table(bytes: &[u8], out: &mut [u8; 43035]) -> usize
     ensures { λ r. ⌜ Written (Lists (now (bytes .entry))) (now (out .entry)) (now (out .exit)) r ⌝ }
-    ensures { λ r. ⌜ Counts r (now (out .exit)) ⌝ }
+    ensures { λ r. ⌜ AtFront r (now (out .exit)) ⌝ }
 {
     let n = bytes.len();
     if 8200 < n {

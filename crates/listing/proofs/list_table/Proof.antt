@@ -5,7 +5,7 @@ use native.Mathlib.Omega.{arith}
 use lib.ListN.{length, take, length-replicate}
 use lib.Seq.{length-take-le}
 use Rattle.listing.specs.Listing.{cellsOf, ListsTable, Lists, no-cells, cells}
-use Rattle.listing.proofs.EntryLaws.{written-as, written-counts, too-long, not-fours, in-fours, cells-front}
+use Rattle.listing.proofs.EntryLaws.{written-as, written-at-front, too-long, not-fours, in-fours, cells-front}
 use borrow.Author.Needs.{needs}
 use Rattle.listing.proofs.list_table.Statement.{statement}
 use Rattle.listing.proofs.list_table.Tie as tie
@@ -20,7 +20,7 @@ list-refusal-requires c κs = search needs
 returns : tie.Need-returns
 returns c =
     let w = written-as {Q = Lists _} (c .list-refusal .ensures) (λ text e. subst (Lists _) e (no-cells (too-long (c .before .before .before .before .args .bytes .now) (omega arith)))) in
-    (w, written-counts w)
+    (w, written-at-front w)
 
 list-refusal-requires-2 : tie.Need-list-refusal-requires-2
 list-refusal-requires-2 c κs = search needs
@@ -28,7 +28,7 @@ list-refusal-requires-2 c κs = search needs
 returns-2 : tie.Need-returns-2
 returns-2 c =
     let w = written-as {Q = Lists _} (c .list-refusal2 .ensures) (λ text e. subst (Lists _) e (no-cells (not-fours (c .before .before .before .before .before .args .bytes .now) (omega arith) (λ z. omega arith)))) in
-    (w, written-counts w)
+    (w, written-at-front w)
 
 slice-aggregate-read-cells : tie.Need-slice-aggregate-read-cells
 slice-aggregate-read-cells c = search needs
@@ -52,7 +52,7 @@ returns-3 c =
     let bytes = c .before .before .before .before .before .before .before .before .before .args .bytes .now in
     let w = written-as {Q = Lists bytes} (c .list-cells .ensures)
     (λ text l. cells (in-fours bytes (omega arith) (omega arith)) (subst (λ (t : List ℕ). ListsTable t text) (front (c .before .before .before .before) .1) l)) in
-    (w, written-counts w)
+    (w, written-at-front w)
 
 pub list-table-spec : {M : Type 1} → statement M
 list-table-spec =
