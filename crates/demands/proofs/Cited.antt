@@ -1,20 +1,22 @@
 -- How the demands follow from the theorems of the crates: the steps that proofs/Demands cites.
-use Prim.Native.Nat.{ℕ, _+_, _≤_, _<_}
+use Prim.Native.Nat.{ℕ, zero, suc, _+_, _^_, _≤_, _<_}
 use mathlib.Core.Path.{_≡_, refl, sym, _∙_, ap, subst}
 use mathlib.Core.Logic.{_↔_}
 use mathlib.Core.Bool.{Bool, true, false}
 use mathlib.Core.List.{List, [], List·Memᴰ}
+use native.Mathlib.Nat.{add-zero, zero-add}
 use native.Mathlib.Omega.{arith}
 use lib.Dec.{ltb}
 use lib.ListN.{length, getD}
-use borrow.Author.Tests.{ltb-true, ltb-false}
+use borrow.Author.Tests.{ltb-true, ltb-false, le-ltb, eq-eqb}
+use Rattle.cell.proofs.CellLaws.{built-variable}
 use Rattle.term.specs.Unify.{Matches}
 use Rattle.table.specs.declared.Reason.the-variants as reason
 use Rattle.table.specs.declared.Input.the-variants as input
 use Rattle.table.specs.Refusal.{Refused, Answer, answered, turned}
 use Rattle.table.specs.Read.{Read, read, refuse}
-use Rattle.table.specs.Table.{Table, tableOf, tableSays, goalOf, goalSays, IsGoal}
-use Rattle.table.proofs.ReadLaws.{apart, read-one}
+use Rattle.table.specs.Table.{Table, tableOf, tableSays, met, termsFrom, goalOf, goalSays, upFrom, IsGoal}
+use Rattle.table.proofs.ReadLaws.{apart, read-one, within-bounds}
 use Rattle.table.proofs.Accepted.{is-table, goal-accepted}
 use Rattle.plan.specs.declared.PlanAnswer.{PlanAnswer}
 use Rattle.plan.specs.declared.PlanAnswer.the-variants as plan-answer
@@ -32,7 +34,8 @@ use Rattle.least.proofs.Fixed.{build-fixed}
 use Rattle.run.specs.declared.RunAnswer.{RunAnswer}
 use Rattle.run.specs.Run.{Picks, Counts, Tried, runOf, runTold, Ran, refusal, ran}
 use Rattle.run.proofs.Fixed.{skeletons-one}
-use Rattle.run.proofs.Theorems.{Ascends, picked, picks-ascend}
+use Rattle.run.proofs.CountLaws.{up-length}
+use Rattle.run.proofs.Theorems.{Ascends, picked, picks-ascend, tries-every}
 use Rattle.run.proofs.TakesLaws.{takes-run, run-table, run-plan, run-goal, run-room}
 use Rattle.demands.specs.Said.{BuildTurned, no-table, no-room, RunTurned, bad-table, bad-plan, bad-goal, bad-room, Answers}
 
@@ -224,3 +227,29 @@ rows-reported {g} {T = T} a =
   where
     at-row : (j : ℕ) → j < length (T .rows) → List·Memᴰ j (a .found) ↔ Matches (getD (T .rows) j []) g
     at-row j l = let e : 0 + j ≡ j = omega arith in rw e at (picked (a .rows) j l)
+
+-- The goal of distinct variables.
+
+-- cell by cell each variable is the next one
+variables-read : (w v used p : ℕ) → v + w < 2 ^ 16 → termsFrom false (upFrom v w) w used v p ≡ read (met (p + w) (v + w))
+unfolding termsFrom upFrom
+variables-read zero v used p h = rw (add-zero p, add-zero v)
+variables-read (suc w) v used p h =
+    let on : p + suc w ≡ suc p + w = omega arith in
+    let more : v + suc w ≡ suc v + w = omega arith in
+    rw (built-variable v (omega arith), le-ltb v v (omega arith), eq-eqb v v refl, zero-add w, on, more) (variables-read w (suc v) (suc used) (suc p) (omega arith))
+
+variables-goal : (w : ℕ) → 1 ≤ w → w ≤ 8 → IsGoal w (upFrom 0 w)
+unfolding goalOf
+variables-goal w h l =
+    let n = up-length 0 w in
+    goal-accepted w (upFrom 0 w) .0
+    (0 + w, rw (within-bounds (length (upFrom 0 w)) 1 32 (omega arith) (omega arith), variables-read w 0 0 0 (omega arith), le-ltb (0 + w) (length (upFrom 0 w)) (omega arith)))
+
+-- its run answers, and every branch is tried
+pub tries-all : {t p room room′ : List ℕ} {r : RunAnswer} (T : Table) (b : ℕ) → tableOf t ≡ read T → planOf t p ≡ read b → length (T .rows) ≤ length room
+    → Ran t p (upFrom 0 (T .width)) room room′ r → (h : ℕ) × (runTold r ≡ answered h b)
+tries-all {t} T b e k l x =
+    let w = is-table t e .width in
+    let a = any-plan-answers T b e k (variables-goal (T .width) (w .0) (w .1)) l x .2 in
+    (length (a .found), a .told ∙ ap (answered (length (a .found))) (tries-every e k x (a .told)))

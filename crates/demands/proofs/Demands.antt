@@ -41,13 +41,13 @@ use Rattle.least.proofs.Joined.{built-accepted}
 use Rattle.run.specs.declared.RunAnswer.{RunAnswer}
 use Rattle.run.specs.Run.{runTold, Ran}
 use Rattle.run.proofs.Fixed.{run-fixed}
-use Rattle.run.proofs.Theorems.{Ascends, same-hits, tries-at-most, tries-every}
+use Rattle.run.proofs.Theorems.{Ascends, same-hits, tries-at-most}
 use Rattle.listing.specs.Listing.{Lists, Written}
 use Rattle.listing.proofs.Fixed.{written-one}
 use Rattle.exports.specs.Coded.{BuildCoded, RunCoded}
 use Rattle.exports.proofs.Fixed.{build-coded-fixed, run-coded-fixed}
 use Rattle.demands.specs.Said.{BuildTurned, RunTurned, Answers}
-use Rattle.demands.proofs.Cited.{table-turned, goal-turned, plan-turned, by-answer, build-is-turned, build-writes-nothing, builds, check-accepts, run-is-turned, run-writes-nothing, run-answers, any-plan-answers, rows-reported}
+use Rattle.demands.proofs.Cited.{table-turned, goal-turned, plan-turned, by-answer, build-is-turned, build-writes-nothing, builds, check-accepts, run-is-turned, run-writes-nothing, run-answers, any-plan-answers, rows-reported, tries-all}
 
 -- DEMAND 1. "Every entry takes any cells at all and ends. .. Nobody has to check first." No public function has a `requires`, and that a function returns is part of what the
 -- checker proves of it.
@@ -185,8 +185,8 @@ accepts-goal t g {T} r e i a = a ∙ rw (e, goal-is (T .width) g i)
 pub tried-bound : {t p g room room′ : List ℕ} {r : RunAnswer} {b h n : ℕ} → planOf t p ≡ read b → Ran t p g room room′ r → runTold r ≡ answered h n → n ≤ b
 tried-bound = tries-at-most
 
-pub tried-open : {t p room room′ : List ℕ} {T : Table} {r : RunAnswer} {b h n : ℕ} → tableOf t ≡ read T → planOf t p ≡ read b → Ran t p (upFrom 0 (T .width)) room room′ r
-    → runTold r ≡ answered h n → n ≡ b
-tried-open = tries-every
+pub tried-open : {t p room room′ : List ℕ} {r : RunAnswer} (T : Table) (b : ℕ) → tableOf t ≡ read T → planOf t p ≡ read b → length (T .rows) ≤ length room
+    → Ran t p (upFrom 0 (T .width)) room room′ r → (h : ℕ) × (runTold r ≡ answered h b)
+tried-open = tries-all
 
 -- "A check that accepts only the builder's own plan breaks demand 3": demand-3-check accepts what any plan writes.
