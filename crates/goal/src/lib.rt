@@ -17,7 +17,7 @@ pub enum Step {
     End,
 }
 
-// The work.
+// The work, on plain cells and a place: the cell there, the place after it, and how many cells are left.
 
 fn step_at(cells: &[u32], at: usize) -> Step
     ensures { λ r. ⌜ r ≡ stepAt (now (cells .entry)) at ⌝ }

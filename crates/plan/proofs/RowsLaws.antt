@@ -196,9 +196,9 @@ module _ (t ss ms hs : List ℕ) (i : ℕ) where
       let others = rows-kept t ss ns (set ns r m) n (r + 1) (drop-set-lt (r + 1) ns r m (omega arith)) in
       rw (e, here, others, f r (omega arith) (omega arith), rows-closed n (r + 1) (omega arith) (λ s a b. f s (omega arith) (omega arith)))
 
-  pub closes : {ns ks : List ℕ} {first end : ℕ} → first ≤ end → end ≤ 64 → length ms ≡ 64 → length hs ≡ 64 → ClosedRows t ss ms hs ns ks i first (min end 64)
+  pub closes-of : {ns ks : List ℕ} {first end : ℕ} → first ≤ end → end ≤ 64 → length ms ≡ 64 → length hs ≡ 64 → ClosedRows t ss ms hs ns ks i first (min end 64)
       → Closes t ss ms hs ns ks i first end
-  closes {ns} {ks} {first} {end} h l j k d =
+  closes-of {ns} {ks} {first} {end} h l j k d =
       let e : min end 64 ≡ end = omega arith in
       let c = rw e at d in
       let xs : List ℕ = map (root i) (rowsIn t ss ms first end) in

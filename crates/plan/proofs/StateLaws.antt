@@ -28,7 +28,7 @@ use Rattle.plan.specs.declared.check.Step.the-variants as step
 use Rattle.plan.proofs.RunsLaws.{group-all}
 use Rattle.plan.proofs.ReadingLaws.{leaf-ends, leaf-rows, leaf-read, node-ends, node-open, node-ends-2, node-edges, node-on, state-leaf, state-again}
 use Rattle.plan.proofs.MarksLaws.{ends-length, many-length}
-use Rattle.plan.proofs.RowsLaws.{rows-first, rows-length, run-number, runs-closed, same-self, same-then, closes}
+use Rattle.plan.proofs.RowsLaws.{rows-first, rows-length, run-number, runs-closed, same-self, same-then, closes-of}
 
 -- a branch's mark is stored when the state below it is done, and the marks of the other branches after it
 marks-next : (l l₁ l₂ xs ys : List ℕ) (at n m : ℕ) → l₁ ≡ sets l (at + 1) xs → n ≡ at + 1 + length xs → l₂ ≡ sets (set l₁ at m) n ys → l₂ ≡ sets l at (m ∷ (xs ++ ys))
@@ -180,7 +180,7 @@ module _ {t ss ms hs p es ns : List ℕ} {first last k at : ℕ} (w : Ready t ss
 
   module _ {ms₁ hs₁ : List ℕ} (l : 0 < k) (h : at + 1 < length p) (i : getD p at 0 < k) (done : ClosedRows t ss ms hs ms₁ hs₁ (getD p at 0) first (min last 64)) where
     abbrev c : Closes t ss ms hs ms₁ hs₁ (getD p at 0) first last
-    c = closes t ss ms hs (getD p at 0) (w .room .some) (w .room .few) (w .room .masks) (w .room .column) done
+    c = closes-of t ss ms hs (getD p at 0) (w .room .some) (w .room .few) (w .room .masks) (w .room .column) done
 
     number : (n : ℕ) → n ≡ runCount (columnIn hs₁ first last) → n ≡ length (runs (getD p at 0) rows)
     number n e =

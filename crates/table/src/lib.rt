@@ -31,7 +31,7 @@ pub enum Reason {
     Room,
 }
 
-// The input that a refusal concerns.
+// 01, "which input it concerns (table, plan, goal or lent room)".
 pub enum Input {
     Table,
     Plan,
@@ -39,6 +39,7 @@ pub enum Input {
     Lent,
 }
 
+// What a refusal returns: its reason, by which it has 01's number, the input that it concerns, and a place.
 pub struct Refusal {
     pub reason: Reason,
     pub input: Input,
