@@ -4,25 +4,20 @@ use mathlib.Core.Bool.{true, false}
 use mathlib.Core.Logic.{⊎-elim}
 use mathlib.Core.List.{List, [], _∷_, _++_}
 use Prim.Native.Nat.{ℕ, zero, suc, _+_, _/_, _%_, _≤_, _<_}
-use native.Mathlib.Nat.{add-zero, div-lt-self}
+use native.Mathlib.Nat.{div-lt-self}
 use native.Mathlib.Numerals.{add-one}
 use native.Mathlib.Omega.{arith}
 use lib.Dec.{ltb}
 use lib.ListN.{length, getD, set, drop, length-append, drop-of-length-le}
 use lib.Seq.{sets, length-sets, drop-cons}
 use borrow.Author.Tests.{lt-ltb, le-ltb, ltb-false}
+use Rattle.term.proofs.Lists.{sets-sets}
 use Rattle.term.proofs.Tests.{bool-cases}
 use Rattle.cell.specs.Cell.{valuesAt, valuesOf}
 use Rattle.cell.specs.declared.Shape.{Shape}
 use Rattle.cell.specs.declared.Shape.the-variants.{Variable, Name, Number, Refused}
 use Rattle.listing.specs.Listing.{digitsOf, decimal, symbolOf, symbol}
 use Rattle.listing.specs.Walk.{Room, Put}
-
-sets-sets : (l : List ℕ) (i : ℕ) (xs ys : List ℕ) → sets (sets l i xs) (i + length xs) ys ≡ sets l i (xs ++ ys)
-sets-sets l i [] ys = rw add-zero
-sets-sets l i (a ∷ xs) ys =
-    let e : i + suc (length xs) ≡ suc i + length xs = omega arith in
-    rw e (sets-sets (set l i a) (suc i) xs ys)
 
 -- two texts one after the other are one text
 pub put-put : {a b c xs ys : List ℕ} {to m r : ℕ} → Put a b to xs m → Put b c m ys r → Put a c to (xs ++ ys) r

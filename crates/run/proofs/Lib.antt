@@ -8,6 +8,7 @@ pub mod RefLaws
 pub mod LinkLaws
 pub mod FewLaws
 pub mod WalkLaws
+pub mod LoopLaws
 pub mod DownLaws
 pub mod StartLaws
 pub mod MeaningLaws

@@ -54,7 +54,7 @@ record Split (i c j : ℕ) (x y : List ℕ) : Type 0 where
   pub closed : y ≡ A ++ (args ++ B)
   pub tA : Terms i A
   pub targs : Terms (arity c) args
-  pub tB : Terms j B
+  tB : Terms j B
 
 split : (i j : ℕ) (x : List ℕ) → Terms (i + suc j) x → Split i (root i x) j x (close i x)
 split i j x t =

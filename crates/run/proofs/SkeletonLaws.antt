@@ -139,7 +139,7 @@ pub var-no-hole : (v : ℕ) → isVar v ≡ true → v ≢ hole
 unfolding hole
 var-no-hole v h e = let l = small-var v h in omega arith
 
-pub Linear-at : (c : ℕ) {A B : List ℕ} → RowLike (A ++ (c ∷ B)) → Linear (A ++ (c ∷ B)) → RowAt c A B
+Linear-at : (c : ℕ) {A B : List ℕ} → RowLike (A ++ (c ∷ B)) → Linear (A ++ (c ∷ B)) → RowAt c A B
 unfolding count
 Linear-at c {A} {B} r l = record {
   row = r;
@@ -147,10 +147,10 @@ Linear-at c {A} {B} r l = record {
       let o : _≡_ {A = ℕ} (cond (eqb c c) 1 0) 1 = rw (eqb-same c) in omega arith;
 }
 
-pub part-row : (K X : List ℕ) → Terms (count hole K) X → RowLike (fill K X) → RowLike X
+part-row : (K X : List ℕ) → Terms (count hole K) X → RowLike (fill K X) → RowLike X
 part-row K X t r = record { low = λ c m v. r .low c (mem-count c (fill K X) (let e = count-fill c K X (var-no-hole c v) t in let o = count-mem c m in omega arith)) v }
 
-pub part-linear : (K X : List ℕ) → Terms (count hole K) X → Linear (fill K X) → Linear X
+part-linear : (K X : List ℕ) → Terms (count hole K) X → Linear (fill K X) → Linear X
 part-linear K X t l = record { once = λ v h. let e = count-fill v K X (var-no-hole v h) t in let o = l .once v h in omega arith }
 
 -- what is left of the goal G under the skeleton K

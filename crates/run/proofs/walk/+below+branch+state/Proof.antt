@@ -5,7 +5,8 @@ use borrow.Author.Needs.{needs}
 use lib.ListN.{length, length-set}
 use Rattle.run.specs.See.{viewOf}
 use Rattle.run.proofs.PlacesLaws.{reset}
-use Rattle.run.proofs.WalkLaws.{leaf-read, leaf-walked, state-read, inside, place-small, visible, Loop, begin, now-first, again, over, branch-falls}
+use Rattle.run.proofs.WalkLaws.{leaf-read, leaf-walked, state-read, inside, place-small, visible}
+use Rattle.run.proofs.LoopLaws.{Loop, begin, now-first, again, over, branch-falls}
 use Rattle.run.proofs.DownLaws.{counts-kept, branch-read, same-down, bind-down, test-fails, unset, below-read, bounds, terms-small, slots-small, last-fits, lower, put-back, counted-restored}
 use borrow.Fn.Kinds.{In}
 use borrow.Fn.PlainCycle.{Measures, is, falls, and}
