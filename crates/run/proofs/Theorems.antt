@@ -20,7 +20,7 @@ use Rattle.run.specs.Run.{Picks, none, hit, miss, Counts, zero-of, one-o
 use Rattle.run.specs.declared.RunAnswer.{RunAnswer}
 use Rattle.run.proofs.OpenGoalLaws.{every-branch}
 use Rattle.run.proofs.AcceptedLaws.{table-fine}
-use Rattle.run.proofs.TakesLaws.{Takes, run-takes, takes-run, any-plan}
+use Rattle.run.proofs.TakesLaws.{run-takes, any-plan}
 use Rattle.run.proofs.Fixed.{picks-one, counts-one}
 
 -- Hits: "exactly those .., from the top down, each once".
@@ -80,26 +80,6 @@ mutual
 
 pub tried-most : {P : List ℕ → Type 0} {k n : ℕ} {rows : List (List ℕ)} (p : Plan k rows) (K : List ℕ) → Counts P (skeletons p K) n → n ≤ branches p
 tried-most p K c = omega (arith, counts-most c, skeletons-length p K)
-
--- Demand 2: "For an accepted table, plan and goal, and room for every row of the table, the rows reported are exactly those whose heads unify with the goal,
--- as Prolog means it, from the top down, each once." The rest of the room is untouched.
-pub record Reported (T : Table) (g room room′ : List ℕ) (r : RunAnswer) : Type 0 where
-  pub found : List ℕ
-  pub tried : ℕ
-  pub right : Picks (λ (row : List ℕ). Matches row g) (T .rows) 0 found
-  pub wrote : room′ ≡ found ++ drop (length found) room
-  pub counts : runTold r ≡ answered (length found) tried
-
-pub reports : {t p g room room′ : List ℕ} {T : Table} {r : RunAnswer} → Takes t p g room T → Ran t p g room room′ r → Reported T g room room′ r
-reports k (refusal f a b c) = apart (sym (takes-run k) ∙ a)
-reports {g = g} {T = T} k (ran T′ tree found n a e w u b c) =
-    let q : T′ ≡ T = read-one (sym a ∙ takes-run k) in
-    record { found = found; tried = n; right = subst (λ (x : Table). Picks (λ (row : List ℕ). Matches row g) (x .rows) 0 found) q w; wrote = c; counts = b }
-
--- one of a table's rows is reported exactly when it unifies with the goal
-pub reports-row : {T : Table} {g room room′ : List ℕ} {r : RunAnswer} (o : Reported T g room room′ r) (j : ℕ) → j < length (T .rows)
-    → List·Memᴰ j (o .found) ↔ Matches (getD (T .rows) j []) g
-reports-row o j h = let e : 0 + j ≡ j = omega arith in rw e at (picked (o .right) j h)
 
 -- "Every accepted plan answers every accepted goal as 2 says": two accepted plans of a table give the same hits
 pub same-hits : {t p p′ g room room′ room″ : List ℕ} {r r′ : RunAnswer} {b b′ : ℕ} → planOf t p ≡ read b → planOf t p′ ≡ read b′
