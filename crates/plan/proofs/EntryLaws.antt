@@ -21,7 +21,7 @@ use Rattle.plan.specs.Plans.{write, branches}
 use Rattle.plan.specs.Check.{bad, stateFrom, planFor, planOf}
 use Rattle.plan.specs.Marks.{endsIn, manyIn}
 use Rattle.plan.specs.Mask.{full, endAt, OpenRows}
-use Rattle.plan.specs.States.{rowAt, rowsFrom, rowsIn}
+use Rattle.plan.specs.States.{rowAt, rowsAt, rowsIn}
 use Rattle.plan.specs.Checked.{planSays, planTold, Marks, marked, refused}
 use Rattle.plan.specs.Steps.{saidBy, Ready, Stood, Done, TableRows, Turned}
 use Rattle.plan.specs.declared.Marked.{Marked}
@@ -44,8 +44,8 @@ module _ (t : List ℕ) {r : TableRead} (a : TableReads (tableOf t) r) where
   table-turned e = says-turned (tableOf t) (ap tableTold (sym e) ∙ a .answer)
 
 -- a row of a list of rows, by its number
-row-in : (t ss ms : List ℕ) (n r i : ℕ) → i < n → getD (rowsFrom t ss ms n r) i [] ≡ rowAt t ss ms (r + i)
-unfolding rowsFrom
+row-in : (t ss ms : List ℕ) (n r i : ℕ) → i < n → getD (rowsAt t ss ms n r) i [] ≡ rowAt t ss ms (r + i)
+unfolding rowsAt
 row-in t ss ms zero r i h = absurd (omega arith)
 row-in t ss ms (suc n) r zero h = let e : r + 0 ≡ r = omega arith in rw e
 row-in t ss ms (suc n) r (suc i) h = let e : r + suc i ≡ r + 1 + i = omega arith in rw e (row-in t ss ms n (r + 1) i (omega arith))
@@ -84,7 +84,7 @@ module _ {t ss : List ℕ} {w n : ℕ} (k : TableRows t ss w n) where
     rows-open =
         let z : n - 0 ≡ n = omega arith in
         let l = rows-length t ss ms n 0 in
-        rw z (ext-getD [] (rowsFrom t ss ms n 0) (T .rows) (l ∙ k .rows) (λ i h. row-in t ss ms n 0 i (omega arith) ∙ (let q : 0 + i ≡ i = omega arith in rw q (row-open i (omega arith)))))
+        rw z (ext-getD [] (rowsAt t ss ms n 0) (T .rows) (l ∙ k .rows) (λ i h. row-in t ss ms n 0 i (omega arith) ∙ (let q : 0 + i ≡ i = omega arith in rw q (row-open i (omega arith)))))
 
     -- the first state
     pub ready-first : {hs p es ns : List ℕ} → length hs ≡ 64 → length es ≡ 6082 → length ns ≡ 6082 → length p ≤ 6082 → Ready t ss ms hs p es ns 0 n w 0

@@ -13,31 +13,31 @@ use Rattle.term.proofs.Lists.{set-sets, sets-found, getD-sets, drop-sets, slice
 use Rattle.plan.specs.Runs.{run, runs}
 use Rattle.plan.specs.Mask.{kept}
 use Rattle.plan.specs.Column.{runLength, runCount, runsOn}
-use Rattle.plan.specs.States.{rowAt, rowsFrom, rowsIn, columnIn, runsIn, maskAt, masksFrom, masksIn, ClosedRows, Same, Closes}
+use Rattle.plan.specs.States.{rowAt, rowsAt, rowsIn, columnIn, runsIn, maskAt, masksAt, masksIn, ClosedRows, Same, Closes}
 use Rattle.plan.proofs.ColumnLaws.{run-few, group-on, first-run, count-runs}
 
 -- the first row, and the others
 module _ (t ss ms : List ℕ) where
   pub rows-none : (first : ℕ) → rowsIn t ss ms first first ≡ []
-  unfolding rowsFrom
+  unfolding rowsAt
   rows-none first = let e : first - first ≡ 0 = omega arith in rw e
 
   pub rows-first : (first end : ℕ) → first < end → rowsIn t ss ms first end ≡ rowAt t ss ms first ∷ rowsIn t ss ms (first + 1) end
-  unfolding rowsFrom
+  unfolding rowsAt
   rows-first first end h = let e : end - first ≡ suc (end - (first + 1)) = omega arith in rw e
 
-  pub rows-length : (n r : ℕ) → length (rowsFrom t ss ms n r) ≡ n
-  unfolding rowsFrom
+  pub rows-length : (n r : ℕ) → length (rowsAt t ss ms n r) ≡ n
+  unfolding rowsAt
   rows-length zero r = refl
   rows-length (suc n) r = ap suc (rows-length n (r + 1))
 
-  rows-take : (n m r : ℕ) → take n (rowsFrom t ss ms (n + m) r) ≡ rowsFrom t ss ms n r
-  unfolding rowsFrom
+  rows-take : (n m r : ℕ) → take n (rowsAt t ss ms (n + m) r) ≡ rowsAt t ss ms n r
+  unfolding rowsAt
   rows-take zero m r = refl
   rows-take (suc n) m r = let e : suc n + m ≡ suc (n + m) = omega arith in rw e (ap (λ (l : List (List ℕ)). rowAt t ss ms r ∷ l) (rows-take n m (r + 1)))
 
-  rows-drop : (n m r : ℕ) → drop n (rowsFrom t ss ms (n + m) r) ≡ rowsFrom t ss ms m (r + n)
-  unfolding rowsFrom
+  rows-drop : (n m r : ℕ) → drop n (rowsAt t ss ms (n + m) r) ≡ rowsAt t ss ms m (r + n)
+  unfolding rowsAt
   rows-drop zero m r = let e : 0 + m ≡ m = omega arith in rw (e, add-zero)
   rows-drop (suc n) m r =
       let e : suc n + m ≡ suc (n + m) = omega arith in
@@ -48,8 +48,8 @@ module _ (t ss ms : List ℕ) where
 at-drop : (l : List ℕ) (r : ℕ) → getD l r 0 ≡ getD (drop r l) 0 0
 at-drop l r = let e : r + 0 ≡ r = omega arith in sym (rw e at (getD-drop r l 0 0))
 
-pub rows-kept : (t ss ms ms′ : List ℕ) (n r : ℕ) → drop r ms′ ≡ drop r ms → rowsFrom t ss ms′ n r ≡ rowsFrom t ss ms n r
-unfolding rowsFrom
+pub rows-kept : (t ss ms ms′ : List ℕ) (n r : ℕ) → drop r ms′ ≡ drop r ms → rowsAt t ss ms′ n r ≡ rowsAt t ss ms n r
+unfolding rowsAt
 rows-kept t ss ms ms′ zero r h = refl
 rows-kept t ss ms ms′ (suc n) r h =
     let e = at-drop ms′ r ∙ ap (λ (l : List ℕ). getD l 0 0) h ∙ sym (at-drop ms r) in
@@ -136,11 +136,11 @@ module _ (from : ℕ) where
 -- The loop that closes a place of the rows, from the last to the first: no row is closed, one more before those that are, and all are.
 module _ (t ss ms hs : List ℕ) (i : ℕ) where
   masks-first : (first end : ℕ) → first < end → masksIn t ss ms i first end ≡ maskAt t ss ms i first ∷ masksIn t ss ms i (first + 1) end
-  unfolding masksFrom
+  unfolding masksAt
   masks-first first end h = let e : end - first ≡ suc (end - (first + 1)) = omega arith in rw e
 
   pub closed-none : (first end : ℕ) → end ≤ first → ClosedRows t ss ms hs ms hs i first end
-  unfolding rowsFrom masksFrom
+  unfolding rowsAt masksAt
   closed-none first end h =
       let e : end - first ≡ 0 = omega arith in
       record { column = rw e; masks = rw e; lists = λ r a b. absurd (let z : ⊥ = omega arith in z) }
@@ -169,7 +169,7 @@ module _ (t ss ms hs : List ℕ) (i : ℕ) where
 
   pub closed-all : {ns ks : List ℕ} (first row end : ℕ) → row ≤ end → min first end ≤ row → row ≤ first → ClosedRows t ss ms hs ns ks i row end
       → ClosedRows t ss ms hs ns ks i first end
-  unfolding rowsFrom masksFrom
+  unfolding rowsAt masksAt
   closed-all first row end a b d c =
       by-cases (decLt end first)
       (λ (l : end < first). let e : end - first ≡ 0 = omega arith in let z : end - row ≡ 0 = omega arith in
@@ -177,18 +177,18 @@ module _ (t ss ms hs : List ℕ) (i : ℕ) where
       (λ l. let e : row ≡ first = omega arith in rw e at c)
 
   -- what is used of it: the rows by the masks that are left are those of the definition
-  masks-length : (n r : ℕ) → length (masksFrom t ss ms i n r) ≡ n
-  unfolding masksFrom
+  masks-length : (n r : ℕ) → length (masksAt t ss ms i n r) ≡ n
+  unfolding masksAt
   masks-length zero r = refl
   masks-length (suc n) r = ap suc (masks-length n (r + 1))
 
   rows-closed : (n r : ℕ) → r + n ≤ length ms → ((s : ℕ) → r ≤ s → s < r + n → kept (maskAt t ss ms i s) (drop (getD ss s 0) t) ≡ close i (rowAt t ss ms s))
-      → rowsFrom t ss (sets ms r (masksFrom t ss ms i n r)) n r ≡ map (close i) (rowsFrom t ss ms n r)
-  unfolding rowsFrom masksFrom
+      → rowsAt t ss (sets ms r (masksAt t ss ms i n r)) n r ≡ map (close i) (rowsAt t ss ms n r)
+  unfolding rowsAt masksAt
   rows-closed zero r h f = refl
   rows-closed (suc n) r h f =
       let m : ℕ = maskAt t ss ms i r in
-      let rest : List ℕ = masksFrom t ss ms i n (r + 1) in
+      let rest : List ℕ = masksAt t ss ms i n (r + 1) in
       let ns : List ℕ = sets ms (r + 1) rest in
       let q : suc r ≡ r + 1 = omega arith in
       let e : sets (set ms r m) (suc r) rest ≡ set ns r m = rw q (sym (set-sets ms r (r + 1) m rest (omega arith))) in

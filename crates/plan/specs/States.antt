@@ -14,13 +14,13 @@ abbrev pub rowAt : (t ss ms : List ℕ) → ℕ → List ℕ
 rowAt t ss ms r = kept (getD ms r 0) (drop (getD ss r 0) t)
 
 -- n rows from row r on
-unfoldable pub rowsFrom : (t ss ms : List ℕ) → ℕ → ℕ → List (List ℕ)
-rowsFrom t ss ms zero r = []
-rowsFrom t ss ms (suc n) r = rowAt t ss ms r ∷ rowsFrom t ss ms n (r + 1)
+unfoldable pub rowsAt : (t ss ms : List ℕ) → ℕ → ℕ → List (List ℕ)
+rowsAt t ss ms zero r = []
+rowsAt t ss ms (suc n) r = rowAt t ss ms r ∷ rowsAt t ss ms n (r + 1)
 
 -- the rows from first to before end, the cells they have in a column, and their runs
 abbrev pub rowsIn : (t ss ms : List ℕ) → ℕ → ℕ → List (List ℕ)
-rowsIn t ss ms first end = rowsFrom t ss ms (end - first) first
+rowsIn t ss ms first end = rowsAt t ss ms (end - first) first
 
 abbrev pub columnIn : List ℕ → ℕ → ℕ → List ℕ
 columnIn hs first end = take (end - first) (drop first hs)
@@ -32,12 +32,12 @@ runsIn t ss ms hs first end = runsOn (columnIn hs first end) (rowsIn t ss ms fir
 abbrev pub maskAt : (t ss ms : List ℕ) → ℕ → ℕ → ℕ
 maskAt t ss ms i r = without (getD ms r 0) (bitAt i (getD ms r 0) (drop (getD ss r 0) t))
 
-unfoldable pub masksFrom : (t ss ms : List ℕ) → ℕ → ℕ → ℕ → List ℕ
-masksFrom t ss ms i zero r = []
-masksFrom t ss ms i (suc n) r = maskAt t ss ms i r ∷ masksFrom t ss ms i n (r + 1)
+unfoldable pub masksAt : (t ss ms : List ℕ) → ℕ → ℕ → ℕ → List ℕ
+masksAt t ss ms i zero r = []
+masksAt t ss ms i (suc n) r = maskAt t ss ms i r ∷ masksAt t ss ms i n (r + 1)
 
 abbrev pub masksIn : (t ss ms : List ℕ) → ℕ → ℕ → ℕ → List ℕ
-masksIn t ss ms i first end = masksFrom t ss ms i (end - first) first
+masksIn t ss ms i first end = masksAt t ss ms i (end - first) first
 
 -- place i of the rows from first to before end is closed: the cell that each has there is in the column hs, and its bit out of its mask in ms; and so the
 -- list that the mask stands for is the definition's. All else in both lists is as it was
