@@ -16,7 +16,7 @@ use Rattle.plan.specs.Plans.{plain}
 use Rattle.plan.proofs.RunsLaws.{Fits}
 use Rattle.least.specs.Entries.{wholeOf, Entry, none, Entries}
 use Rattle.least.specs.Notes.{note, noteIn, inWhole, Noted, Ended, NextRow, RowNoted, Alone}
-use Rattle.least.specs.Filling.{stopOf, Laid, PairAt, Arrays, arrays, Keeps, Done, Filled, Ready, RowHere, Kept, RowsDone, FirstAt, Rows}
+use Rattle.least.specs.Filling.{stopOf, Laid, PairAt, Arrays, cleared, Keeps, Done, Filled, Ready, RowHere, Kept, RowsDone, FirstAt, Rows}
 use Rattle.least.proofs.AllLaws.{all-at}
 use Rattle.least.proofs.NotedLaws.{noted-alone}
 use Rattle.least.proofs.PairNotes.{between-last, whole-small}
@@ -207,7 +207,7 @@ module _ {cells ends starts : List ℕ} {count first w : ℕ} {rows : List (List
 
 -- no pair is done yet
 pub filled-start : (w : ℕ) (rows : List (List ℕ)) (count : ℕ) → length rows ≡ count
-    → Filled w rows count count (arrays (replicate 4096 0) (replicate 4096 0) (replicate 4096 0))
+    → Filled w rows count count cleared
 filled-start w rows count l = record {
   whole = λ j j′ h m d. absurd (early j j′ h m d);
   entry = λ j j′ h m d. absurd (early j j′ h m d);
@@ -219,9 +219,9 @@ filled-start w rows count l = record {
     early j j′ h m (inl d) = omega arith
     early j j′ h m (inr d) = omega (arith, d .0)
 
--- all are
-pub filled-all : (w : ℕ) (rows : List (List ℕ)) (count : ℕ) (a : Arrays) → length rows ≡ count → Filled w rows 0 count a → Entries w rows (a .cost) (a .place)
-filled-all w rows count a l f = record { size = (f .room .1, f .room .2); entry = λ j j′ h m. go j j′ h m (leb j j′) refl }
+-- all are: there is an entry for every pair of numbers below 64
+pub all-entries : {w : ℕ} {rows : List (List ℕ)} {count : ℕ} {a : Arrays} → length rows ≡ count → Filled w rows 0 count a → Entries w rows (a .cost) (a .place)
+all-entries {w} {rows} {count} {a} l f = record { size = (f .room .1, f .room .2); entry = λ j j′ h m. go j j′ h m (leb j j′) refl }
   where
     outside : (j j′ : ℕ) → j < 64 → j′ < 64 → (j′ < j) ⊎ (length rows ≤ j′) → Entry plain w rows j j′ (inWhole (a .cost) j j′) (inWhole (a .place) j j′)
     outside j j′ h m o = let z = f .none j j′ h m o in rw (z .0, z .1) (none o)
@@ -255,7 +255,3 @@ first-at {count = count} g e first h l x =
 pub all-done : {cells starts notes : List ℕ} {a : Arrays} {count : ℕ} (g : Rows cells starts count) (first : ℕ) → first ≤ 0 → RowsDone (g .w) (g .rows) count first notes a
     → Filled (g .w) (g .rows) 0 count a
 all-done g first h x = let e : first ≡ 0 = omega arith in rw e at (x .filled)
-
--- all pairs are done: an entry for every pair of numbers below 64
-pub all-entries : {w : ℕ} {rows : List (List ℕ)} {count : ℕ} {a : Arrays} → length rows ≡ count → Filled w rows 0 count a → Entries w rows (a .cost) (a .place)
-all-entries {w} {rows} {count} {a} e f = filled-all w rows count a e f

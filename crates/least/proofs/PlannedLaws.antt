@@ -4,7 +4,7 @@ use mathlib.Core.Logic.{inr}
 use mathlib.Core.List.{List, _++_}
 use Prim.Native.Nat.{ℕ, suc, _+_, _-_, _*_, _≤_}
 use native.Mathlib.Omega.{arith}
-use lib.ListN.{length, getD, drop, replicate}
+use lib.ListN.{length, getD, drop}
 use lib.Seq.{sets, slice, sets-eq, take-at, take-length}
 use Rattle.table.specs.All.{All}
 use Rattle.table.specs.Table.{Table, IsTable}
@@ -115,21 +115,20 @@ module _ {t ss : List ℕ} {w n : ℕ} (k : TableRows t ss w n) where
         rw r (best-least plain 32 w (T .rows) (same-fits {rows = T .rows} (k .width) refl fits) (is .count .0)) in
         v ∙ least-one (same-least (k .width) refl x) (built-least plain (builders .plan) (builders .built)) ∙ cost-plain (builders .plan)
 
-    pub planned : {ms hs ms′ hs′ out : List ℕ} {size count : ℕ} (s : First ms hs (replicate 6082 0))
-        → Written ms hs (replicate 6082 0) ms′ hs′ out (write (s .state .plan)) n 0 size → count ≡ getD whole (n - 1) 0 → Planned T out size count
-    planned {out = out} {size} {count} s x e =
+    pub planned : {ms hs out ms′ hs′ out′ : List ℕ} {size count : ℕ} → length out ≡ 6082 → (s : First ms hs out)
+        → Written ms hs out ms′ hs′ out′ (write (s .state .plan)) n 0 size → count ≡ getD whole (n - 1) 0 → Planned T out′ size count
+    planned {out = out} {out′ = out′} {size} {count} lo s x e =
         let b = builders in
         let l : List ℕ = write (builders .plan) in
-        let z : length (replicate {A = ℕ} 6082 0) ≡ 6082 = refl in
         let q : 0 + length l ≡ length l = omega arith in
         let n-is : size ≡ length l = omega (arith, x .next-is, ap length (s .same)) in
-        let o : out ≡ l ++ drop (length l) (replicate 6082 0) =
-        x .out-is ∙ ap (λ (xs : List ℕ). sets (replicate 6082 0) 0 xs) (s .same) ∙ sets-eq l (replicate 6082 0) 0 (omega (arith, b .few)) ∙ rw q in
+        let o : out′ ≡ l ++ drop (length l) out =
+        x .out-is ∙ ap (λ (xs : List ℕ). sets out 0 xs) (s .same) ∙ sets-eq l out 0 (omega (arith, b .few)) ∙ rw q in
         record {
           plan = b .plan;
           built = b .built;
           least = rw (cost-plain (b .plan)) at (built-least plain (b .plan) (b .built));
-          cells-are = rw (o, n-is) (take-at l (drop (length l) (replicate 6082 0)) (length l) refl);
+          cells-are = rw (o, n-is) (take-at l (drop (length l) out) (length l) refl);
           size-is = n-is;
           count-is = e ∙ count-is;
           few = omega (arith, b .few);

@@ -5,7 +5,7 @@ use mathlib.Core.Logic.{_⊎_}
 use mathlib.Core.Bool.{cond}
 use mathlib.Core.List.{List, []}
 use lib.Dec.{ltb}
-use lib.ListN.{length, getD, set}
+use lib.ListN.{length, getD, set, replicate}
 use lib.Seq.{slice}
 use Rattle.term.specs.Terms.{Terms}
 use Rattle.table.specs.All.{All}
@@ -49,6 +49,10 @@ pub record Arrays : Type 0 where
 
 abbrev pub arrays : List ℕ → List ℕ → List ℕ → Arrays
 arrays w c p = record { whole = w; cost = c; place = p }
+
+-- before any pair is kept
+abbrev pub cleared : Arrays
+cleared = arrays (replicate 4096 0) (replicate 4096 0) (replicate 4096 0)
 
 -- a pair's values are kept, and nothing else is changed
 pub record Keeps (w : ℕ) (rows : List (List ℕ)) (first last : ℕ) (old new : Arrays) : Type 0 where

@@ -7,7 +7,7 @@ ghost use lib.Dec.{eqb, ltb};
 ghost use lib.ListN.{length, getD};
 ghost use Rattle.least.specs.Best.{firstOver, leastOver};
 ghost use Rattle.least.specs.Notes.{choiceOf, noteIn, noteNext, putNote, inWhole, Small, NextRow, RowNoted, Alone, Walk, Pair, EndsAt, Ended};
-ghost use Rattle.least.specs.Filling.{stopOf, PairAt, Keeps, arrays, RowsAt, RowsDone, FirstAt, Rows, Filled};
+ghost use Rattle.least.specs.Filling.{stopOf, PairAt, Keeps, arrays, cleared, RowsAt, RowsDone, FirstAt, Rows, Filled};
 use term::End;
 
 // How many runs the rows so far have at this place, the sum of what each of them costs, all but the last, and where the
@@ -334,23 +334,21 @@ fn pairs_from(
     );
 }
 
-// The arrays, at 64 times the first row and the last: what the rows of each pair cost with nothing closed, and the entries.
-pub struct Worked {
-    pub whole: [usize; 4096],
-    pub cost: [u32; 4096],
-    pub place: [u32; 4096],
-}
-
-// All pairs: first rows from the last to the first, so that a run's costs are there before they are asked for.
-pub fn all_pairs(cells: &[u32], starts: &[usize; 64], count: usize) -> Worked
-    requires { ⌜ Rows (now cells) (now starts) count ⌝ }
-    ensures { λ r. ⌜ ((g : Rows (now (cells .entry)) (now (starts .entry)) count) → Filled (g .w) (g .rows) 0 count (arrays (r .whole) (r .cost) (r .place))) ⌝ }
+// All pairs: first rows from the last to the first, so that a run's costs are there before they are asked for. The arrays
+// are lent, all of them 0: `whole` for what the rows of each pair cost with nothing closed, the other two for the entries.
+pub fn all_pairs(
+    cells: &[u32],
+    starts: &[usize; 64],
+    whole: &mut [usize; 4096],
+    cost: &mut [u32; 4096],
+    place: &mut [u32; 4096],
+    count: usize,
+)
+    requires { ⌜ Rows (now cells) (now starts) count × (arrays (now whole) (now cost) (now place) ≡ cleared) ⌝ }
+    ensures { λ _. ⌜ ((g : Rows (now (cells .entry)) (now (starts .entry)) count) → Filled (g .w) (g .rows) 0 count (arrays (now (whole .exit)) (now (cost .exit)) (now (place .exit)))) ⌝ }
 {
     let ends = term_ends(cells);
-    let mut whole = [0; 4096];
     let mut notes = [0; 6150];
-    let mut cost = [0; 4096];
-    let mut place = [0; 4096];
     let mut first = count;
     while 0 < first {
         first -= 1;
@@ -358,13 +356,12 @@ pub fn all_pairs(cells: &[u32], starts: &[usize; 64], count: usize) -> Worked
             cells,
             &ends,
             starts,
-            &mut whole,
+            &mut *whole,
             &mut notes,
-            &mut cost,
-            &mut place,
+            &mut *cost,
+            &mut *place,
             count,
             first,
         );
     }
-    Worked { whole, cost, place }
 }

@@ -27,9 +27,10 @@ pub fn work_out(cells: &[u32]) -> Entries
     match answer {
         TableAnswer::Accepted(_, count) => {
             let starts = read.starts;
-            let worked = arrays::all_pairs(cells, &starts, count);
-            let cost = worked.cost;
-            let place = worked.place;
+            let mut whole = [0; 4096];
+            let mut cost = [0; 4096];
+            let mut place = [0; 4096];
+            arrays::all_pairs(cells, &starts, &mut whole, &mut cost, &mut place, count);
             Entries { cost, place }
         }
         TableAnswer::Refused(_) => Entries {
@@ -78,10 +79,10 @@ pub fn build_plan(cells: &[u32], room: &mut [u32]) -> BuildAnswer
     match answer {
         TableAnswer::Accepted(width, count) => {
             let starts = read.starts;
-            let plan = writer::write_plan(cells, starts, width, count);
-            let size = plan.size;
-            let branches = plan.count;
-            let written = plan.cells;
+            let mut written = [0; 6082];
+            let plan = writer::write_plan(cells, &starts, &mut written, width, count);
+            let size = plan.cells;
+            let branches = plan.branches;
             if put(&written, size, room) {
                 BuildAnswer::Built(size, branches)
             } else {

@@ -177,39 +177,44 @@ fn branches(
     next
 }
 
-// A plan's cells, so many at the front, and its number of branches.
-pub struct PlanCells {
-    pub cells: [u32; 6082],
-    pub size: usize,
-    pub count: usize,
+// How many cells and how many branches a plan has.
+pub struct Extent {
+    pub cells: usize,
+    pub branches: usize,
 }
 
-// The plan of a table's rows: the entries of all pairs, then the first state with all rows and the width's arguments open.
-pub fn write_plan(table: &[u32], starts: [usize; 64], width: usize, count: usize) -> PlanCells
-    requires { ⌜ TableRows (now table) starts width count ⌝ }
-    ensures { λ r. ⌜ ((q : TableRows (now (table .entry)) starts width count) → Planned (q .table) (r .cells) (r .size) (r .count)) ⌝ }
+// The plan of a table's rows, to the front of the cells lent: the entries of all pairs, then the first state with all rows
+// and the width's arguments open.
+pub fn write_plan(
+    table: &[u32],
+    starts: &[usize; 64],
+    out: &mut [u32; 6082],
+    width: usize,
+    count: usize,
+) -> Extent
+    requires { ⌜ TableRows (now table) (now starts) width count × (length (now out) ≡ 6082) ⌝ }
+    ensures { λ r. ⌜ ((q : TableRows (now (table .entry)) (now (starts .entry)) width count) → Planned (q .table) (now (out .exit)) (r .cells) (r .branches)) ⌝ }
 {
-    let worked = all_pairs(table, &starts, count);
-    let place = worked.place;
-    let whole = worked.whole;
-    let mut masks = open_rows(&starts, count, table.len());
+    let mut whole = [0; 4096];
+    let mut cost = [0; 4096];
+    let mut place = [0; 4096];
+    all_pairs(table, starts, &mut whole, &mut cost, &mut place, count);
+    let mut masks = open_rows(starts, count, table.len());
     let mut column = [0u32; 64];
-    let mut cells = [0u32; 6082];
-    let size = state(
+    let cells = state(
         table,
-        &starts,
+        starts,
         &mut masks,
         &mut column,
         &place,
-        &mut cells,
+        &mut *out,
         0,
         count,
         width,
         0,
     );
-    PlanCells {
+    Extent {
         cells,
-        size,
-        count: whole[count - 1],
+        branches: whole[count - 1],
     }
 }

@@ -14,7 +14,7 @@ enum-known-answer : tie.Need-enum-known-answer
 enum-known-answer c = search needs
 
 all-pairs-requires : tie.Need-all-pairs-requires
-all-pairs-requires c κs = laid-rows (table-rows (c .before .before .before .before .before .before .before .args .cells .now) (c .before .before .before .before .before .read-table .ensures) (c .before .before .before .answer .given .1))
+all-pairs-requires c κs = (laid-rows (table-rows (c .before .before .before .before .before .before .before .before .before .before .args .cells .now) (c .before .before .before .before .before .before .before .before .read-table .ensures) (c .before .before .before .before .before .before .answer .given .1)), refl)
 
 enum-told : tie.Need-enum-told
 enum-told c = search needs
@@ -22,8 +22,8 @@ enum-told c = search needs
 returns : tie.Need-returns
 unfolding laid-rows
 returns c =
-    let k = table-rows (c .before .before .before .before .before .before .before .before .before .before .args .cells .now) (c .before .before .before .before .before .before .before .before .read-table .ensures) (c .before .before .before .before .before .before .answer .given .1) in
-    all-worked k (c .before .before .all-pairs .ensures (laid-rows k))
+    let k = table-rows (c .before .before .before .before .before .before .before .before .before .before .before .args .cells .now) (c .before .before .before .before .before .before .before .before .before .read-table .ensures) (c .before .before .before .before .before .before .before .answer .given .1) in
+    all-worked k (c .all-pairs .ensures (laid-rows k))
 
 returns-2 : tie.Need-returns-2
 returns-2 c = all-zero _ (table-turned (c .before .before .before .before .args .cells .now) (c .before .before .read-table .ensures) (c .enum-told .given .1)) refl refl

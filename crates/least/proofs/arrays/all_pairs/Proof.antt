@@ -7,18 +7,18 @@ use Rattle.least.proofs.arrays.all_pairs.Statement.{statement}
 use Rattle.least.proofs.arrays.all_pairs.Tie as tie
 
 abbrev Inv-loop : tie.InvT-loop
-Inv-loop cells starts count ends whole₀ notes₀ cost₀ place₀ first₀ whole notes cost place first =
+Inv-loop cells starts whole₀ cost₀ place₀ count ends notes₀ first₀ whole cost place notes first =
     (first ≤ count) × ((g : Rows cells starts count) → RowsDone (g .w) (g .rows) count first notes (arrays whole cost place))
 
 abbrev μ-loop : tie.MeasureT-loop
-μ-loop cells starts count ends whole₀ notes₀ cost₀ place₀ first₀ whole notes cost place first = first
+μ-loop cells starts whole₀ cost₀ place₀ count ends notes₀ first₀ whole cost place notes first = first
 
 term-ends-requires : tie.Need-term-ends-requires Inv-loop μ-loop
-term-ends-requires c κs = c .before .pre .laid .size
+term-ends-requires c κs = c .before .pre .0 .laid .size
 
 loop-holds : tie.Need-loop-holds Inv-loop μ-loop
 loop-holds c =
-    (omega arith, λ g. record { filled = filled-start (g .w) (g .rows) (c .before .before .args .count) (g .laid .number); room = length-replicate {A = ℕ} 6150 0 })
+    (omega arith, λ g. record { filled = rw (c .before .before .pre .1) (filled-start (g .w) (g .rows) (c .before .before .args .count) (g .laid .number)); room = length-replicate {A = ℕ} 6150 0 })
 
 sub-first : tie.Need-sub-first Inv-loop μ-loop
 sub-first c = omega (arith, c .loop-test .taken)
@@ -26,7 +26,7 @@ sub-first c = omega (arith, c .loop-test .taken)
 pairs-from-requires : tie.Need-pairs-from-requires Inv-loop μ-loop
 pairs-from-requires c κs =
     let i = c .before .before .before .before .before in
-    let g = i .before .before .before .before .pre in
+    let g = i .before .before .before .before .pre .0 in
     first-at g (i .before .before .term-ends .ensures) (i .before .loop .first) (i .loop-test .taken) (i .before .loop .inv .0) (i .before .loop .inv .1 g)
 
 loop-less : tie.Need-loop-less Inv-loop μ-loop

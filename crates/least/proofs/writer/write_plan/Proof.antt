@@ -7,7 +7,7 @@ use Rattle.least.proofs.writer.write_plan.Statement.{statement}
 use Rattle.least.proofs.writer.write_plan.Tie as tie
 
 all-pairs-requires : tie.Need-all-pairs-requires
-all-pairs-requires c κs = laid-rows (c .before .before .pre)
+all-pairs-requires c κs = (laid-rows (c .before .before .before .before .pre .0), refl)
 
 open-rows-requires : tie.Need-open-rows-requires
 open-rows-requires c κs = tt
@@ -15,24 +15,25 @@ open-rows-requires c κs = tt
 state-requires : tie.Need-state-requires
 unfolding laid-rows
 state-requires c κs =
-    let q = c .before .before .before .before .before .before .before .before .before .before .before .before .pre in
-    first-state q (c .before .before .before .before .before .before .before .before .before .all-pairs .ensures (laid-rows q)) (c .before .before .before .before .before .open-rows .ensures) refl refl .state
+    let q = c .before .before .before .before .before .before .before .before .before .before .pre in
+    first-state (q .0) (c .before .before .before .before .before .all-pairs .ensures (laid-rows (q .0))) (c .before .before .before .before .open-rows .ensures) refl (q .1) .state
 
-sub-t16 : tie.Need-sub-t16
-sub-t16 c = omega (arith, few-rows (c .before .before .before .before .before .before .before .before .before .before .before .before .before .pre))
+sub-t17 : tie.Need-sub-t17
+sub-t17 c = omega (arith, few-rows (c .before .before .before .before .before .before .before .before .before .before .before .pre .0))
 
-mul-t23 : tie.Need-mul-t23
-mul-t23 c = omega (arith, few-rows (c .before .before .before .before .before .before .before .before .before .before .before .before .before .pre))
+mul-t22 : tie.Need-mul-t22
+mul-t22 c = omega (arith, few-rows (c .before .before .before .before .before .before .before .before .before .before .before .pre .0))
 
-array-read-t26 : tie.Need-array-read-t26
-array-read-t26 c = omega (arith, few-rows (c .before .before .before .before .before .before .before .before .before .before .before .before .before .pre))
+array-read-t25 : tie.Need-array-read-t25
+array-read-t25 c = omega (arith, few-rows (c .before .before .before .before .before .before .before .before .before .before .before .pre .0))
 
 returns : tie.Need-returns
 unfolding laid-rows
 returns c =
-    λ q. let f = c .before .before .before .before .before .before .before .before .before .before .all-pairs .ensures (laid-rows q) in
-    let s = first-state q f (c .before .before .before .before .before .before .open-rows .ensures) refl refl in
-    planned q f s (c .state .ensures (s .state)) refl
+    λ q. let f = c .before .before .before .before .before .before .all-pairs .ensures (laid-rows q) in
+    let l = c .before .before .before .before .before .before .before .before .before .before .before .pre .1 in
+    let s = first-state q f (c .before .before .before .before .before .open-rows .ensures) refl l in
+    planned q f l s (c .state .ensures (s .state)) refl
 
 pub write-plan-spec : {M : Type 1} → statement M
 write-plan-spec =
@@ -41,7 +42,7 @@ write-plan-spec =
     all-pairs-requires
     open-rows-requires
     state-requires
-    sub-t16
-    mul-t23
-    array-read-t26
+    sub-t17
+    mul-t22
+    array-read-t25
     returns)
