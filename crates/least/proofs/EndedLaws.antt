@@ -5,7 +5,7 @@ use mathlib.Core.Bool.{Bool, true, false}
 use mathlib.Core.List.{List, [], _∷_, _++_}
 use Prim.Native.Nat.{ℕ, suc, _+_, _≤_, _<_}
 use native.Mathlib.Omega.{arith}
-use lib.ListN.{length, getD, set, drop, length-set, length-append, drop-of-length-le}
+use lib.ListN.{length, getD, set, drop, length-set, length-append, length-drop, drop-of-length-le}
 use lib.Seq.{getD-set-same, getD-set-other}
 use lib.Dec.{eqb, ltb}
 use borrow.Author.Tests.{eqb-true, eqb-false, ltb-true, ltb-false}
@@ -23,6 +23,12 @@ ends-found {xs} {p} e (at {t} rest u d) q t′ rest′ u′ d′ =
     let f : p + length t ≡ e = cc in
     omega (arith, ap length (same .0))
 ends-found e (short n) q t′ rest′ u′ d′ = let z : _≡_ {A = ℕ} 0 1 = cc in absurd (omega arith)
+
+pub ends-inside : {xs : List ℕ} {p : ℕ} {r : End} (e : ℕ) → Ends xs p r → r ≡ At e → e ≤ length xs
+ends-inside {xs} {p} e (at {t} rest u d) q =
+    let f : p + length t ≡ e = cc in
+    omega (arith, terms-length u, length-append t rest, ap length d, length-drop p xs)
+ends-inside e (short n) q = let z : _≡_ {A = ℕ} 0 1 = cc in absurd (omega arith)
 
 pub ends-short : {xs : List ℕ} {p : ℕ} {r : End} → Ends xs p r → r ≡ Short → EndsAt xs p 0
 ends-short (at rest u d) q t′ rest′ u′ d′ = let z : _≡_ {A = ℕ} 0 1 = cc in absurd (omega arith)

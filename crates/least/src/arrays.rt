@@ -13,13 +13,13 @@ use term::End;
 // How many runs the rows so far have at this place, the sum of what each of them costs, all but the last, and where the
 // last of them begins. One run: all agree, and the place is closed.
 pub struct Note {
-    pub runs: usize,
-    pub sum: usize,
-    pub from: usize,
+    pub runs: u32,
+    pub sum: u32,
+    pub from: u32,
 }
 
 // Three numbers for each cell of the table.
-fn note_at(notes: &[usize; 6150], q: usize) -> Note
+fn note_at(notes: &[u32; 6150], q: usize) -> Note
     requires { ⌜ q < 2050 ⌝ }
     ensures { λ r. ⌜ r ≡ noteIn (now (notes .entry)) q ⌝ }
 {
@@ -30,7 +30,7 @@ fn note_at(notes: &[usize; 6150], q: usize) -> Note
     }
 }
 
-fn put_note(notes: &mut [usize; 6150], q: usize, s: Note)
+fn put_note(notes: &mut [u32; 6150], q: usize, s: Note)
     requires { ⌜ q < 2050 ⌝ }
     ensures { λ _. ⌜ now (notes .exit) ≡ putNote (now (notes .entry)) q s ⌝ }
 {
@@ -43,36 +43,43 @@ fn put_note(notes: &mut [usize; 6150], q: usize, s: Note)
 }
 
 // The place noted with one row more, whose cell there is d, after the row `last`, whose cell is c.
-fn next_note(s: Note, whole: &[usize; 4096], last: usize, c: u32, d: u32) -> Note
+fn next_note(s: Note, whole: &[u32; 4096], last: usize, c: u32, d: u32) -> Note
     requires { ⌜ Small (now whole) last s ⌝ }
     ensures { λ r. ⌜ r ≡ noteNext (inWhole (now (whole .entry))) s last c d ⌝ }
 {
     if plan::column::same_symbol(c, d) {
         return s;
     }
-    let from = s.from;
+    let from = s.from as usize;
     Note {
         runs: s.runs + 1,
         sum: s.sum + whole[64 * from + last],
-        from: last + 1,
+        from: (last + 1) as u32,
     }
 }
 
+// A place as it is kept.
+fn wide(e: u16) -> usize
+    ensures { λ r. ⌜ r ≡ e ⌝ }
+{
+    e as usize
+}
+
 // The next place: a closed one's first argument, or what follows the term at an open one.
-fn after(ends: &[usize; 2050], s: Note, q: usize) -> usize
+fn after(ends: &[u16; 2050], s: Note, q: usize) -> usize
     requires { ⌜ q < 2050 ⌝ }
     ensures { λ r. ⌜ r ≡ cond (eqb (s .runs) 1) (q + 1) (getD (now (ends .entry)) q 0) ⌝ }
 {
-    if s.runs == 1 { q + 1 } else { ends[q] }
+    if s.runs == 1 { q + 1 } else { wide(ends[q]) }
 }
 
 // One row more, its cells from `new` up to a stop, after the row `last`, whose cells are those from `old` up to `new`. The
 // two are walked side by side: a place that stays closed leads to its arguments, and at any other the term is passed.
 fn note_row(
     cells: &[u32],
-    ends: &[usize; 2050],
-    whole: &[usize; 4096],
-    notes: &mut [usize; 6150],
+    ends: &[u16; 2050],
+    whole: &[u32; 4096],
+    notes: &mut [u32; 6150],
     last: usize,
     old: usize,
     new: usize,
@@ -92,8 +99,8 @@ fn note_row(
 }
 
 // A row by itself: every place is closed.
-fn note_first(notes: &mut [usize; 6150], at: usize, stop: usize, first: usize)
-    requires { ⌜ (stop ≤ 2050) × (length (now notes) ≡ 6150) ⌝ }
+fn note_first(notes: &mut [u32; 6150], at: usize, stop: usize, first: usize)
+    requires { ⌜ (stop ≤ 2050) × (first < 64) × (length (now notes) ≡ 6150) ⌝ }
     ensures { λ _. ⌜ Alone first at stop (now (notes .exit)) ⌝ }
 {
     let mut q = at;
@@ -104,7 +111,7 @@ fn note_first(notes: &mut [usize; 6150], at: usize, stop: usize, first: usize)
             Note {
                 runs: 1,
                 sum: 0,
-                from: first,
+                from: first as u32,
             },
         );
         q += 1;
@@ -112,7 +119,7 @@ fn note_first(notes: &mut [usize; 6150], at: usize, stop: usize, first: usize)
 }
 
 // How many cells are closed, in the row whose cells are those from a place up to a stop.
-fn agreed_in(ends: &[usize; 2050], notes: &[usize; 6150], at: usize, stop: usize) -> usize
+fn agreed_in(ends: &[u16; 2050], notes: &[u32; 6150], at: usize, stop: usize) -> u32
     requires { ⌜ Walk (now ends) (now notes) at stop ⌝ }
     ensures { λ r. ⌜ ((g : Walk (now (ends .entry)) (now (notes .entry)) at stop) → r ≡ g .a) ⌝ }
 {
@@ -126,7 +133,7 @@ fn agreed_in(ends: &[usize; 2050], notes: &[usize; 6150], at: usize, stop: usize
     n
 }
 
-fn with_closed(n: usize, s: Note) -> usize
+fn with_closed(n: u32, s: Note) -> u32
     requires { ⌜ n < 2050 ⌝ }
     ensures { λ r. ⌜ r ≡ n + cond (eqb (s .runs) 1) 1 0 ⌝ }
 {
@@ -135,12 +142,12 @@ fn with_closed(n: usize, s: Note) -> usize
 
 // The cheapest open place so far, and what it costs; 0 and 0 where there is none.
 pub struct Choice {
-    pub cost: usize,
-    pub place: usize,
+    pub cost: u32,
+    pub place: u32,
 }
 
 // With one open place more, the first to cost less.
-fn consider(best: Choice, place: usize, cost: usize) -> Choice
+fn consider(best: Choice, place: u32, cost: u32) -> Choice
     ensures { λ r. ⌜ r ≡ cond (eqb place 0 || ltb cost (best .cost)) (choiceOf cost place) best ⌝ }
 {
     if place == 0 {
@@ -153,21 +160,21 @@ fn consider(best: Choice, place: usize, cost: usize) -> Choice
 }
 
 // What an open place costs, where so many cells are closed.
-fn open_cost(s: Note, whole: &[usize; 4096], last: usize, agreed: usize) -> usize
+fn open_cost(s: Note, whole: &[u32; 4096], last: usize, agreed: u32) -> u32
     requires { ⌜ Small (now whole) last s × (agreed ≤ 2050) × (s .runs * agreed ≤ s .sum + inWhole (now whole) (s .from) last) ⌝ }
     ensures { λ r. ⌜ r ≡ s .sum + inWhole (now (whole .entry)) (s .from) last - s .runs * agreed ⌝ }
 {
-    let from = s.from;
+    let from = s.from as usize;
     s.sum + whole[64 * from + last] - s.runs * agreed
 }
 
 // The cheapest open place of a pair's last row, whose cells are those from a place up to a stop; the first of them.
 fn cheapest(
-    ends: &[usize; 2050],
-    whole: &[usize; 4096],
-    notes: &[usize; 6150],
+    ends: &[u16; 2050],
+    whole: &[u32; 4096],
+    notes: &[u32; 6150],
     last: usize,
-    agreed: usize,
+    agreed: u32,
     at: usize,
     stop: usize,
 ) -> Choice
@@ -189,17 +196,18 @@ fn cheapest(
 }
 
 // The place after the term that begins at a cell.
-fn end_at(cells: &[u32], j: usize) -> usize
+fn end_at(cells: &[u32], j: usize) -> u16
+    requires { ⌜ length (now cells) ≤ 2050 ⌝ }
     ensures { λ r. ⌜ EndsAt (now (cells .entry)) j r ⌝ }
 {
     match term::term_end(cells, j) {
-        End::At(e) => e,
+        End::At(e) => e as u16,
         End::Short => 0,
     }
 }
 
 // The same for each cell.
-fn term_ends(cells: &[u32]) -> [usize; 2050]
+fn term_ends(cells: &[u32]) -> [u16; 2050]
     requires { ⌜ length (now cells) ≤ 2050 ⌝ }
     ensures { λ r. ⌜ Ended (now (cells .entry)) r ⌝ }
 {
@@ -214,9 +222,9 @@ fn term_ends(cells: &[u32]) -> [usize; 2050]
 
 // The entry of a pair, read off the notes at its last row.
 fn keep_pair(
-    ends: &[usize; 2050],
-    whole: &mut [usize; 4096],
-    notes: &[usize; 6150],
+    ends: &[u16; 2050],
+    whole: &mut [u32; 4096],
+    notes: &[u32; 6150],
     cost: &mut [u32; 4096],
     place: &mut [u32; 4096],
     first: usize,
@@ -232,8 +240,8 @@ fn keep_pair(
     let count = best.cost;
     let chosen = best.place;
     whole[64 * first + last] = agreed + count;
-    cost[64 * first + last] = count as u32;
-    place[64 * first + last] = chosen as u32;
+    cost[64 * first + last] = count;
+    place[64 * first + last] = chosen;
 }
 
 // Where a row's cells end: where the next row's begin, and the last row's where the table's end.
@@ -251,10 +259,10 @@ fn row_end(cells: &[u32], starts: &[usize; 64], count: usize, r: usize) -> usize
 // The pairs with a first row and the rows after a last one, whose cells are those from `old` up to `new`.
 fn more_pairs(
     cells: &[u32],
-    ends: &[usize; 2050],
+    ends: &[u16; 2050],
     starts: &[usize; 64],
-    whole: &mut [usize; 4096],
-    notes: &mut [usize; 6150],
+    whole: &mut [u32; 4096],
+    notes: &mut [u32; 6150],
     cost: &mut [u32; 4096],
     place: &mut [u32; 4096],
     count: usize,
@@ -292,10 +300,10 @@ fn more_pairs(
 // All pairs with a first row: the row by itself, and then with one row more after another.
 fn pairs_from(
     cells: &[u32],
-    ends: &[usize; 2050],
+    ends: &[u16; 2050],
     starts: &[usize; 64],
-    whole: &mut [usize; 4096],
-    notes: &mut [usize; 6150],
+    whole: &mut [u32; 4096],
+    notes: &mut [u32; 6150],
     cost: &mut [u32; 4096],
     place: &mut [u32; 4096],
     count: usize,
@@ -339,7 +347,7 @@ fn pairs_from(
 pub fn all_pairs(
     cells: &[u32],
     starts: &[usize; 64],
-    whole: &mut [usize; 4096],
+    whole: &mut [u32; 4096],
     cost: &mut [u32; 4096],
     place: &mut [u32; 4096],
     count: usize,

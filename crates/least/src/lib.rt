@@ -82,7 +82,7 @@ pub fn build_plan(cells: &[u32], room: &mut [u32]) -> BuildAnswer
             let mut written = [0; 6082];
             let plan = writer::write_plan(cells, &starts, &mut written, width, count);
             let size = plan.cells;
-            let branches = plan.branches;
+            let branches = plan.branches as usize;
             if put(&written, size, room) {
                 BuildAnswer::Built(size, branches)
             } else {

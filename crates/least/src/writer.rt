@@ -180,7 +180,7 @@ fn branches(
 // How many cells and how many branches a plan has.
 pub struct Extent {
     pub cells: usize,
-    pub branches: usize,
+    pub branches: u32,
 }
 
 // The plan of a table's rows, to the front of the cells lent: the entries of all pairs, then the first state with all rows

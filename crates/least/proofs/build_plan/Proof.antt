@@ -14,10 +14,13 @@ enum-known-answer c = search needs
 write-plan-requires : tie.Need-write-plan-requires
 write-plan-requires c κs = (table-rows (c .before .before .before .before .before .before .before .before .before .args .cells .now) (c .before .before .before .before .before .before .read-table .ensures) (c .before .before .before .before .answer .given .1), refl)
 
+cast-branches : tie.Need-cast-branches
+cast-branches c = search needs
+
 put-requires : tie.Need-put-requires
 put-requires c κs =
-    let k = table-rows (c .before .before .before .before .before .before .before .before .before .before .before .before .args .cells .now) (c .before .before .before .before .before .before .before .before .before .read-table .ensures) (c .before .before .before .before .before .before .before .answer .given .1) in
-    let p = c .before .before .write-plan .ensures k in
+    let k = table-rows (c .before .before .before .before .before .before .before .before .before .before .before .before .before .args .cells .now) (c .before .before .before .before .before .before .before .before .before .before .read-table .ensures) (c .before .before .before .before .before .before .before .before .answer .given .1) in
+    let p = c .before .before .before .write-plan .ensures k in
     (p .few, cells-there k p)
 
 enum-known-answer-2 : tie.Need-enum-known-answer-2
@@ -28,16 +31,16 @@ same-length c = search needs
 
 returns : tie.Need-returns
 returns c =
-    let k = table-rows (c .before .before .before .before .before .before .before .before .before .before .before .before .before .before .before .before .args .cells .now) (c .before .before .before .before .before .before .before .before .before .before .before .before .before .read-table .ensures) (c .before .before .before .before .before .before .before .before .before .before .before .answer .given .1) in
-    all-built k (c .before .before .before .before .before .before .write-plan .ensures k) (c .before .before .before .put .ensures) (c .if1 .taken)
+    let k = table-rows (c .before .before .before .before .before .before .before .before .before .before .before .before .before .before .before .before .before .args .cells .now) (c .before .before .before .before .before .before .before .before .before .before .before .before .before .before .read-table .ensures) (c .before .before .before .before .before .before .before .before .before .before .before .before .answer .given .1) in
+    all-built k (c .before .before .before .before .before .before .before .write-plan .ensures k) (c .before .before .before .put .ensures) (c .if1 .taken)
 
 same-length-2 : tie.Need-same-length-2
 same-length-2 c = search needs
 
 returns-2 : tie.Need-returns-2
 returns-2 c =
-    let k = table-rows (c .before .before .before .before .before .before .before .before .before .before .before .before .before .before .before .before .args .cells .now) (c .before .before .before .before .before .before .before .before .before .before .before .before .before .read-table .ensures) (c .before .before .before .before .before .before .before .before .before .before .before .answer .given .1) in
-    no-room k (c .before .before .before .before .before .before .write-plan .ensures k) (c .before .before .before .put .ensures) (c .if1 .left)
+    let k = table-rows (c .before .before .before .before .before .before .before .before .before .before .before .before .before .before .before .before .before .args .cells .now) (c .before .before .before .before .before .before .before .before .before .before .before .before .before .before .read-table .ensures) (c .before .before .before .before .before .before .before .before .before .before .before .before .answer .given .1) in
+    no-room k (c .before .before .before .before .before .before .before .write-plan .ensures k) (c .before .before .before .put .ensures) (c .if1 .left)
 
 returns-3 : tie.Need-returns-3
 returns-3 c = no-table _ (table-turned (c .before .before .before .before .before .before .args .cells .now) (c .before .before .before .read-table .ensures) (c .before .answer2 .given .1))
@@ -49,6 +52,7 @@ build-plan-spec =
     read-table-requires
     enum-known-answer
     write-plan-requires
+    cast-branches
     put-requires
     enum-known-answer-2
     same-length

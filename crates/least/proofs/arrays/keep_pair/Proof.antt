@@ -48,9 +48,6 @@ mul-whole-2 c = search needs
 element-write-whole : tie.Need-element-write-whole
 element-write-whole c = search needs
 
-cast-cost : tie.Need-cast-cost
-cast-cost c = record { fits = omega (arith, least c (c .before .before .before .pre), keep-small (c .before .before .before .pre)) }
-
 mul-cost : tie.Need-mul-cost
 mul-cost c = search needs
 
@@ -62,9 +59,6 @@ mul-cost-2 c = search needs
 
 element-write-cost : tie.Need-element-write-cost
 element-write-cost c = search needs
-
-cast-place : tie.Need-cast-place
-cast-place c = record { fits = omega (arith, chosen c (c .before .before .before .pre), keep-place (c .before .before .before .pre)) }
 
 mul-place : tie.Need-mul-place
 mul-place c = search needs
@@ -96,12 +90,10 @@ keep-pair-spec =
     add-whole-2
     mul-whole-2
     element-write-whole
-    cast-cost
     mul-cost
     add-cost
     mul-cost-2
     element-write-cost
-    cast-place
     mul-place
     add-place
     mul-place-2

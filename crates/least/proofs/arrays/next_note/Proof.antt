@@ -9,6 +9,9 @@ same-symbol-requires c κs = search needs
 returns : tie.Need-returns
 returns c = rw (← (c .before .same-symbol .ensures), c .if1 .taken)
 
+cast-from : tie.Need-cast-from
+cast-from c = search needs
+
 add-t8 : tie.Need-add-t8
 add-t8 c = search needs
 
@@ -30,8 +33,11 @@ add-t15 c = search needs
 add-t16 : tie.Need-add-t16
 add-t16 c = search needs
 
+cast-t17 : tie.Need-cast-t17
+cast-t17 c = search needs
+
 returns-2 : tie.Need-returns-2
-returns-2 c = rw (← (c .before .before .before .before .same-symbol .ensures), c .before .before .before .if1 .left, add-one (c .before .before .before .before .before .args .s .runs), add-one (c .before .before .before .before .before .args .last))
+returns-2 c = rw (← (c .before .before .before .before .before .same-symbol .ensures), c .before .before .before .before .if1 .left, add-one (c .before .before .before .before .before .before .args .s .runs), add-one (c .before .before .before .before .before .before .args .last))
 
 pub next-note-spec : {M : Type 1} → statement M
 next-note-spec =
@@ -39,6 +45,7 @@ next-note-spec =
     (tie.spec
     same-symbol-requires
     returns
+    cast-from
     add-t8
     mul-t9
     add-t10
@@ -46,4 +53,5 @@ next-note-spec =
     element-copy-out-t14
     add-t15
     add-t16
+    cast-t17
     returns-2)

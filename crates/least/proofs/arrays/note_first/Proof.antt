@@ -1,5 +1,6 @@
 use Prim.Native.Nat.{_-_}
 use native.Mathlib.Omega.{arith}
+use borrow.Author.Needs.{needs}
 use Rattle.least.specs.Notes.{Alone}
 use Rattle.least.proofs.RowLaws.{alone-start, alone-step, alone-end}
 use Rattle.least.proofs.arrays.note_first.Statement.{statement}
@@ -12,7 +13,10 @@ abbrev μ-loop : tie.MeasureT-loop
 μ-loop notes₀ at stop first q₀ notes q = stop - q
 
 loop-holds : tie.Need-loop-holds Inv-loop μ-loop
-loop-holds c = alone-start _ _ _ (c .pre .1)
+loop-holds c = alone-start _ _ _ (c .pre .2)
+
+cast-t9 : tie.Need-cast-t9 Inv-loop μ-loop
+cast-t9 c = search needs
 
 put-note-requires : tie.Need-put-note-requires Inv-loop μ-loop
 put-note-requires c κs = omega arith
@@ -32,4 +36,4 @@ returns c = alone-end _ _ _ _ _ (c .loop-test .left) (c .before .loop .inv)
 pub note-first-spec : {M : Type 1} → statement M
 note-first-spec =
     tie.close
-    (tie.spec Inv-loop μ-loop loop-holds put-note-requires add-q loop-less loop-again returns)
+    (tie.spec Inv-loop μ-loop loop-holds cast-t9 put-note-requires add-q loop-less loop-again returns)

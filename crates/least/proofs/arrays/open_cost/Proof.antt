@@ -2,6 +2,9 @@ use borrow.Author.Needs.{needs}
 use Rattle.least.proofs.arrays.open_cost.Statement.{statement}
 use Rattle.least.proofs.arrays.open_cost.Tie as tie
 
+cast-from : tie.Need-cast-from
+cast-from c = search needs
+
 mul-result : tie.Need-mul-result
 mul-result c = search needs
 
@@ -27,4 +30,4 @@ returns : tie.Need-returns
 returns c = search needs
 
 pub open-cost-spec : {M : Type 1} → statement M
-open-cost-spec = tie.close (tie.spec mul-result add-result mul-result-2 element-copy-out-result add-result-2 mul-result-3 sub-result returns)
+open-cost-spec = tie.close (tie.spec cast-from mul-result add-result mul-result-2 element-copy-out-result add-result-2 mul-result-3 sub-result returns)

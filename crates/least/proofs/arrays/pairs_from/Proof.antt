@@ -1,4 +1,5 @@
 use mathlib.Core.Path.{refl}
+use native.Mathlib.Omega.{arith}
 use lib.ListN.{getD}
 use Rattle.least.specs.Filling.{arrays, FirstAt, RowsAt}
 use Rattle.least.proofs.FillLaws.{NotedAt, first-bounds, first-noted, pair-at, pair-kept}
@@ -36,7 +37,7 @@ row-end-requires c κs = search needs
 note-first-requires : tie.Need-note-first-requires
 note-first-requires c κs =
     let g = c .before .before .before .before .pre in
-    (first-bounds (g .ready) _ _ refl (c .before .row-end .ensures), g .room)
+    (first-bounds (g .ready) _ _ refl (c .before .row-end .ensures), omega (arith, g .ready .inside, g .ready .laid .few), g .room)
 
 keep-pair-requires : tie.Need-keep-pair-requires
 keep-pair-requires c κs =
