@@ -51,11 +51,6 @@ module _ {A : Type 0} where
   map-++ f [] ys = refl
   map-++ {B} f (x ∷ xs) ys = ap (λ (zs : List B). f x ∷ zs) (map-++ f xs ys)
 
-  -- a change of each element, and two after another, equal to one
-  pub map-same : (P : A → Type 0) {B : Type 0} (f g : A → B) → ((x : A) → P x → f x ≡ g x) → (xs : List A) → All P xs → map f xs ≡ map g xs
-  map-same P f g h [] a = refl
-  map-same P {B} f g h (x ∷ xs) a = ap₂ (λ (y : B) (ys : List B). y ∷ ys) (h x (a .0)) (map-same P f g h xs (a .1))
-
   pub all-at : (P : A → Type 0) (d : A) (xs : List A) (i : ℕ) → i < length xs → All P xs → P (getD xs i d)
   all-at P d [] i h a = absurd (omega arith)
   all-at P d (x ∷ xs) zero h a = a .0

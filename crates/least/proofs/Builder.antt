@@ -43,7 +43,7 @@ pub record Builds (m : Measure) (k : ℕ) (rows : List (List ℕ)) (cells : List
   pub built : Built m plan
   pub writes-it : write plan ≡ cells
 
-pub record BuildsAll (m : Measure) (k : ℕ) (gs : List Run) (cells : List ℕ) : Type 0 where
+record BuildsAll (m : Measure) (k : ℕ) (gs : List Run) (cells : List ℕ) : Type 0 where
   pub plans : Branches k gs
   pub built : Builts m plans
   pub writes-it : writes plans ≡ cells

@@ -51,7 +51,7 @@ module _ (m : Measure) where
     built-least (leaf {rows}) b = leaf-least m rows
     built-least (node {k} {rows} i h bs) b = chosen-least k i rows h bs (b .0) (builts-least bs (b .1))
 
-    pub builts-least : {k : ℕ} {gs : List Run} (bs : Branches k gs) → Builts m bs → LeastRuns m k gs (costs m bs)
+    builts-least : {k : ℕ} {gs : List Run} (bs : Branches k gs) → Builts m bs → LeastRuns m k gs (costs m bs)
     builts-least (end {k}) b = runs-nil m k
     builts-least (next {k} {g} {gs} p bs) b = runs-cons m k (cost m p) (costs m bs) g gs (built-least p (b .0)) (builts-least bs (b .1))
 
@@ -89,7 +89,7 @@ module _ (m : Measure) where
     built-one (node i h bs) (node j l cs) b c =
         node-same h bs (λ ds d. builts-one bs ds (b .1) d) (chosen-one h l (b .0) (c .0)) l cs (c .1)
 
-    pub builts-one : {k : ℕ} {gs : List Run} (bs cs : Branches k gs) → Builts m bs → Builts m cs → bs ≡ cs
+    builts-one : {k : ℕ} {gs : List Run} (bs cs : Branches k gs) → Builts m bs → Builts m cs → bs ≡ cs
     builts-one end end b c = refl
     builts-one (next p bs) (next q cs) b c = ap₂ next (built-one p q (b .0) (c .0)) (builts-one bs cs (b .1) (c .1))
 

@@ -12,8 +12,8 @@ use Rattle.plan.specs.Runs.{Run, runs}
 use Rattle.plan.specs.Plans.{Measure}
 use Rattle.least.specs.Least.{Stuck, Least}
 use Rattle.least.specs.Entries.{between, Closes, stop, step}
-use Rattle.least.proofs.Best.{least-one, LeastRuns, runs-nil, runs-cons}
-use Rattle.least.proofs.Closing.{closes-least, closes-then, closes-length, confluent, order-does-not-matter}
+use Rattle.least.proofs.Best.{LeastRuns, runs-nil, runs-cons}
+use Rattle.least.proofs.Closing.{closes-least, closes-then, closes-length, confluent}
 use Rattle.least.proofs.Parts.{slice-slice, closes-part, PartOf, Parts, group-parts, part-agree, part-proper}
 
 -- a state with all agreed places closed: what they weigh, and the least cost from there
@@ -27,13 +27,6 @@ pub record Solved (m : Measure) (k : ℕ) (rows : List (List ℕ)) (agreed least
 -- together they are the state's least cost
 pub solved-least : {m : Measure} {k : ℕ} {rows : List (List ℕ)} {a n : ℕ} → Solved m k rows a n → Least m k rows (a + n)
 solved-least {n = n} s = closes-least n (s .closes) (s .counts)
-
--- and both are determined
-pub solved-one : {m : Measure} {k : ℕ} {rows : List (List ℕ)} {a a′ n n′ : ℕ} → Solved m k rows a n → Solved m k rows a′ n′ → (a ≡ a′) × (n ≡ n′)
-solved-one {m} {n = n} s t =
-    let u = order-does-not-matter (s .closes) (s .stuck) (t .closes) (t .stuck) in
-    let l : Least m (t .opens) (t .left) n = rw (u .1, u .2) at (s .counts) in
-    (u .0, least-one l (t .counts))
 
 -- and they tell the least cost of each state on the way: what is closed from there on, and the rest
 solved-below : {m : Measure} {k k′ : ℕ} {rows rows′ : List (List ℕ)} {a n c : ℕ} → Solved m k rows a n → Closes m c k rows k′ rows′

@@ -1,22 +1,21 @@
 -- The arrays are filled pair by pair: one pair more, the pairs of one first row, and all of them.
-use mathlib.Core.Path.{_≡_, refl, sym, ap, subst, _∙_}
+use mathlib.Core.Path.{_≡_, refl, ap, _∙_}
 use mathlib.Core.Logic.{_≢_, _⊎_, inl, inr}
-use mathlib.Core.Bool.{Bool, true, false, cond}
+use mathlib.Core.Bool.{Bool, true, false}
 use mathlib.Core.List.{List, [], _∷_, _++_}
-use Prim.Native.Nat.{ℕ, zero, suc, _+_, _-_, _*_, _≤_, _<_}
+use Prim.Native.Nat.{ℕ, suc, _+_, _-_, _*_, _≤_, _<_}
 use native.Mathlib.Omega.{arith}
 use native.Mathlib.Numerals.{add-one}
-use lib.ListN.{length, getD, set, take, drop, replicate, length-set, length-replicate, getD-replicate}
+use lib.ListN.{length, getD, set, length-set, length-replicate, getD-replicate}
 use lib.Seq.{slice, length-slice, getD-set-same, getD-set-other, slice-empty}
 use lib.Dec.{eqb, leb, ltb}
 use borrow.Author.Tests.{eqb-true, eqb-false, leb-true, leb-false, ltb-true, ltb-false, lt-ltb}
 use Rattle.term.specs.Terms.{Terms}
-use Rattle.table.specs.All.{All}
 use Rattle.plan.specs.Plans.{plain}
 use Rattle.plan.proofs.RunsLaws.{Fits}
 use Rattle.least.specs.Entries.{wholeOf, Entry, none, Entries}
-use Rattle.least.specs.Notes.{note, noteIn, inWhole, Noted, Ended, NextRow, RowNoted, Alone}
-use Rattle.least.specs.Filling.{stopOf, Laid, PairAt, Arrays, cleared, Keeps, Done, Filled, Ready, RowHere, Kept, RowsDone, FirstAt, Rows}
+use Rattle.least.specs.Notes.{noteIn, inWhole, Noted, Ended, NextRow, RowNoted, Alone}
+use Rattle.least.specs.Filling.{stopOf, PairAt, Arrays, cleared, Keeps, Done, Filled, Ready, RowHere, Kept, RowsDone, FirstAt, Rows}
 use Rattle.least.proofs.AllLaws.{all-at}
 use Rattle.least.proofs.NotedLaws.{noted-alone}
 use Rattle.least.proofs.PairNotes.{between-last, whole-small}
@@ -44,7 +43,7 @@ module _ {w : ℕ} {rows : List (List ℕ)} {first last : ℕ} {a b : Arrays} (f
   earlier j j′ n (inl h) = inl h
   earlier j j′ n (inr h) = inr (h .0, omega (arith, n, h .0, h .1))
 
-  pub filled-keep : Filled w rows first (suc last) b
+  filled-keep : Filled w rows first (suc last) b
   filled-keep = record {
     whole = λ j j′ h l d. whole j j′ h l d (where-is (a .whole) first last (wholeOf w rows first last) j j′ (f .room .0) (omega arith) (omega arith) (omega arith));
     entry = λ j j′ h l d. entry j j′ h l d (where-is (a .cost) first last (k .count) j j′ (f .room .1) (omega arith) (omega arith) (omega arith))

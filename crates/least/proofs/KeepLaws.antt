@@ -1,23 +1,19 @@
 -- The entry of a pair is kept: what is asked of the notes at its last row, and what they give.
-use mathlib.Core.Path.{_≡_, refl, sym, ap, _∙_}
+use mathlib.Core.Path.{_≡_, ap, _∙_}
 use mathlib.Core.List.{List, [], _∷_}
 use Prim.Native.Nat.{ℕ, zero, suc, _+_, _-_, _*_, _≤_, _<_}
 use native.Mathlib.Omega.{arith}
 use lib.ListN.{length, getD, set, take, drop}
 use lib.Seq.{slice, length-slice, length-take-le, drop-drop}
 use Rattle.cell.specs.Cell.{arity}
-use Rattle.term.specs.Terms.{Terms, none, more, front}
-use Rattle.table.specs.All.{All}
+use Rattle.term.specs.Terms.{Terms, more, front}
 use Rattle.plan.specs.Plans.{plain}
 use Rattle.plan.proofs.RunsLaws.{Fits}
-use Rattle.least.specs.declared.arrays.Note.{Note}
-use Rattle.least.specs.declared.arrays.Choice.{Choice}
 use Rattle.least.specs.Best.{leastOver, firstOver}
-use Rattle.least.specs.Entries.{wholeOf, Entry}
-use Rattle.least.specs.Notes.{choiceOf, noteIn, inWhole, Noted, Shown, at-end, at-closed, at-open, Priced, Walk, Pair}
+use Rattle.least.specs.Entries.{wholeOf}
+use Rattle.least.specs.Notes.{noteIn, Shown, Priced, Walk, Pair}
 use Rattle.least.specs.Filling.{PairAt, arrays, Keeps}
 use Rattle.least.proofs.AllLaws.{all-at}
-use Rattle.least.proofs.Minimum.{argmin-first}
 use Rattle.least.proofs.Pairs.{closedOf, agreedOf, leastOf, costOf, placeOf, equation, pair-entry}
 use Rattle.least.proofs.PairNotes.{whole-splits, whole-small, shown-map, pair-shown}
 use Rattle.least.proofs.RowLaws.{ended-at}
@@ -28,15 +24,6 @@ terms-drop n zero [] t h = absurd (omega arith)
 terms-drop n (suc k) [] t h = absurd (omega arith)
 terms-drop zero k (c ∷ xs) (more {k = r} t) h = (r, more t)
 terms-drop (suc n) k (c ∷ xs) (more {k = r} t) h = terms-drop n (arity c + r) xs t (omega arith)
-
-shown-places : {N : ℕ → Note} {E : ℕ → ℕ} {Is : ℕ → Note → Type 0} {stop k q i a : ℕ} → Shown N E Is stop k q i a → k + q ≤ stop + i
-shown-places at-end = omega arith
-shown-places (at-closed l o s) = omega (arith, shown-places s)
-shown-places (at-open l m o p s) = omega (arith, shown-places s)
-
-first-within : (k : ℕ) (F : ℕ → ℕ) → firstOver k F ≤ k
-first-within zero F = omega arith
-first-within (suc k) F = omega (arith, argmin-first k F .within)
 
 module _ {ends whole notes : List ℕ} {first last at stop : ℕ} (g : PairAt ends whole notes first last at stop) where
   abbrev w : ℕ
@@ -99,9 +86,6 @@ module _ {ends whole notes : List ℕ} {first last at stop : ℕ} (g : PairAt en
         whole-splits (g .w) (g .rows) (g .fits) (g .few) first last (g .order) (g .inside),
         whole-small (g .w) (g .rows) (g .fits) (g .few) first last (g .order) (g .inside),
       )
-
-  pub keep-place : firstOver k F ≤ 2050
-  keep-place = omega (arith, first-within k F, shown-places shown, g .part .1, g .part .2)
 
   -- what is kept
   pub keeps : (W C P W′ C′ P′ : List ℕ) → W′ ≡ set W (64 * first + last) (a + leastOver k F) → C′ ≡ set C (64 * first + last) (leastOver k F)

@@ -1,13 +1,11 @@
 -- What is asked of the builder's plan (demand 3; 01, "The least plan"): it is there, it is the only one, and none costs less.
-use mathlib.Core.Path.{_≡_, ap}
+use mathlib.Core.Path.{_≡_}
 use mathlib.Core.List.{List}
 use Prim.Native.Nat.{ℕ, _≤_, _<_}
-use native.Mathlib.Omega.{arith}
 use lib.ListN.{length}
 use Rattle.table.specs.All.{All}
-use Rattle.plan.specs.Plans.{Plan, write, branches, Measure, plain, cost}
+use Rattle.plan.specs.Plans.{Plan, Measure, cost}
 use Rattle.plan.proofs.RunsLaws.{Fits}
-use Rattle.plan.proofs.PlansLaws.{cost-plain}
 use Rattle.least.specs.Least.{Built}
 use Rattle.least.proofs.Building.{built-least, built-one}
 use Rattle.least.proofs.Builder.{plan-built}
@@ -28,11 +26,3 @@ the-least m n k rows a h =
       only = λ q c. built-one m (b .plan) q (b .built) c;
       least = built-least m (b .plan) (b .built) .none-less;
     }
-
--- two plans that follow the rule write the same cells
-pub same-cells : (m : Measure) {k : ℕ} {rows : List (List ℕ)} (p q : Plan k rows) → Built m p → Built m q → write p ≡ write q
-same-cells m p q b c = ap write (built-one m p q b c)
-
--- by 01's measure: no plan of the state has fewer branches
-pub fewest-branches : {k : ℕ} {rows : List (List ℕ)} (p : Plan k rows) → Built plain p → (q : Plan k rows) → branches p ≤ branches q
-fewest-branches p b q = omega (arith, built-least plain p b .none-less q, cost-plain p, cost-plain q)

@@ -61,7 +61,7 @@ module _ {W : ℕ → ℕ → ℕ} {first : ℕ} {N : ℕ → Note} where
       rw (f, front-zero y, z, map-id olds, back-zero y) d
 
   -- past a terms: where they are closed, past all that is noted below them
-  pub noted-past : {q R : ℕ} {olds : List (List ℕ)} {y : List ℕ} → Noted W first N q R olds y → (a r : ℕ) → R ≡ a + r → Terms R y
+  noted-past : {q R : ℕ} {olds : List (List ℕ)} {y : List ℕ} → Noted W first N q R olds y → (a r : ℕ) → R ≡ a + r → Terms R y
       → Noted W first N (q + length (front a y)) r (map (back a) olds) (back a y)
   noted-past (done {q} {olds} {y}) zero r e t = past-none {olds = olds} {y = y} done r e
   noted-past (closed {q} {r = r₀} {olds} {y} n o d) zero r e t = past-none {olds = olds} {y = y} (closed n o d) r e

@@ -2,7 +2,7 @@
 use mathlib.Core.Path.{_≡_, refl}
 use mathlib.Core.Logic.{_⊎_, inl, inr}
 use mathlib.Core.List.{List}
-use Prim.Native.Nat.{ℕ, zero, suc, _+_, _-_, _*_, _≤_, _<_}
+use Prim.Native.Nat.{ℕ, zero, suc, _+_, _*_, _≤_, _<_}
 use native.Mathlib.Omega.{arith}
 use lib.ListN.{length, take}
 use lib.Seq.{length-slice}
@@ -88,7 +88,7 @@ module _ (m : Measure) (n w : ℕ) (rows : List (List ℕ)) where
       unfolding closedOf
       pair-closed = scan-closes m n w (between first last rows) (pair-state .0) (pair-state .1)
 
-      pub pair-counts : Least m ((closedOf first last) .opens) ((closedOf first last) .left) (leastOf first last)
+      pair-counts : Least m ((closedOf first last) .opens) ((closedOf first last) .left) (leastOf first last)
       unfolding leastOf
       pair-counts =
           best-least m n ((closedOf first last) .opens) ((closedOf first last) .left) (closes-fit n (pair-closed .closes) (pair-state .0))

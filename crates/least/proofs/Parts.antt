@@ -31,7 +31,7 @@ module _ {A : Type 0} where
   drop-map f (suc n) [] = refl
   drop-map f (suc n) (x ∷ xs) = drop-map f n xs
 
-  pub slice-map : (f : A → A) (o t : ℕ) (xs : List A) → slice o t (map f xs) ≡ map f (slice o t xs)
+  slice-map : (f : A → A) (o t : ℕ) (xs : List A) → slice o t (map f xs) ≡ map f (slice o t xs)
   slice-map f o t xs = rw (take-map f t xs) (drop-map f o (take t xs))
 
   take-drop : (o n : ℕ) (xs : List A) → take n (drop o xs) ≡ drop o (take (o + n) xs)

@@ -105,7 +105,7 @@ module _ {ends whole notes : List ℕ} {last at stop a : ℕ} (g : Pair ends who
       go (one b e l o s) = absurd (omega arith)
       go (many l m o p s) = absurd (omega arith)
 
-  pub agreed-few : a ≤ 2050
+  agreed-few : a ≤ 2050
   agreed-few = omega (arith, shown-few (g .shown), g .within)
 
   module _ {best : Choice} {i q : ℕ} (h : q < stop) (x : CheapAt best i q) where
@@ -123,7 +123,7 @@ module _ {ends whole notes : List ℕ} {last at stop a : ℕ} (g : Pair ends who
       pub fits : s .runs * a ≤ s .sum + inWhole whole (s .from) last
       pub is : price ≡ g .F i
 
-    pub opened-at : s .runs ≢ 1 → Opened
+    opened-at : s .runs ≢ 1 → Opened
     opened-at ne = go (here (x .shown))
       where
         go : Here (noteIn notes) (λ (q : ℕ). getD ends q 0) (Priced (g .W) (g .first) last a (g .F)) stop (g .k) q i (x .left) → Opened
@@ -147,12 +147,12 @@ module _ {ends whole notes : List ℕ} {last at stop a : ℕ} (g : Pair ends who
               is = omega (arith, k, p .price);
             }
 
-    pub cheap-open : s .runs ≢ 1 → CheapAt (cond (eqb i 0 || ltb price (best .cost)) (choiceOf price i) best) (i + 1) (getD ends q 0)
+    cheap-open : s .runs ≢ 1 → CheapAt (cond (eqb i 0 || ltb price (best .cost)) (choiceOf price i) best) (i + 1) (getD ends q 0)
     cheap-open ne =
         let o = opened-at ne in
         rw (add-one i) (record { left = x .left; shown = o .next; is = over-step (g .F) i price best (o .is) (x .is); small = omega (arith, o .on, x .small) })
 
-    pub cheap-closed : s .runs ≡ 1 → CheapAt best i (q + 1)
+    cheap-closed : s .runs ≡ 1 → CheapAt best i (q + 1)
     cheap-closed o = go (here (x .shown))
       where
         go : Here (noteIn notes) (λ (q : ℕ). getD ends q 0) (Priced (g .W) (g .first) last a (g .F)) stop (g .k) q i (x .left) → CheapAt best i (q + 1)

@@ -1,15 +1,15 @@
 -- One row more is noted: where the walk begins, one step of it, and its end.
 use mathlib.Core.Path.{_≡_, refl, sym, ap, subst, _∙_}
-use mathlib.Core.Logic.{_⊎_, inl, inr, _≢_}
+use mathlib.Core.Logic.{_≢_}
 use mathlib.Core.Bool.{Bool, true, false, cond}
 use mathlib.Core.List.{List, [], _∷_, _++_, map, append-assoc}
 use Prim.Native.Nat.{ℕ, zero, suc, pred, _+_, _-_, _*_, _≤_, _<_}
 use native.Mathlib.Omega.{arith}
 use native.Mathlib.Numerals.{add-one, one-add}
-use lib.ListN.{length, getD, set, take, drop, length-set, length-map, length-append, length-drop, take-append-drop}
+use lib.ListN.{length, getD, set, take, drop, length-set, length-map, length-append, take-append-drop}
 use lib.Seq.{slice, slice-cons, length-slice, getD-set-same, getD-set-other, drop-drop, drop-append-le, length-take-le}
 use lib.Dec.{eqb}
-use borrow.Author.Tests.{eq-eqb, ne-eqb, eqb-true, eqb-false}
+use borrow.Author.Tests.{eqb-true, eqb-false}
 use Rattle.cell.specs.Cell.{arity}
 use Rattle.term.specs.Terms.{Terms, none, more, front, back, root, close}
 use Rattle.term.proofs.TermsLaws.{front-back, front-terms, zero-nil}
@@ -24,7 +24,7 @@ use Rattle.least.proofs.Suffixes.{drop-front, front-short}
 
 -- three numbers for each cell: what is put is there, and nothing else is changed
 module _ (notes : List ℕ) (q : ℕ) (s : Note) where
-  pub put-same : q < 2050 → length notes ≡ 6150 → noteIn (putNote notes q s) q ≡ s
+  put-same : q < 2050 → length notes ≡ 6150 → noteIn (putNote notes q s) q ≡ s
   put-same h l =
       let one : List ℕ = set notes (3 * q) (s .runs) in
       let two : List ℕ = set one (3 * q + 1) (s .sum) in
@@ -44,7 +44,7 @@ module _ (notes : List ℕ) (q : ℕ) (s : Note) where
       let two : List ℕ = set one (3 * q + 1) (s .sum) in
       getD-set-other two (3 * q + 2) i (s .from) 0 c ∙ getD-set-other one (3 * q + 1) i (s .sum) 0 b ∙ getD-set-other notes (3 * q) i (s .runs) 0 a
 
-  pub put-other : (j : ℕ) → j ≢ q → noteIn (putNote notes q s) j ≡ noteIn notes j
+  put-other : (j : ℕ) → j ≢ q → noteIn (putNote notes q s) j ≡ noteIn notes j
   put-other j h =
       rw (
         put-elsewhere (3 * j) (λ e. h (omega arith)) (λ e. omega arith) (λ e. omega arith),
@@ -161,10 +161,10 @@ module _ {cells ends whole notes₀ : List ℕ} {last old new stop : ℕ} (g : N
     z-terms : Terms (suc (pred (x .r))) z
     z-terms = rw some-terms at (x .new-terms)
 
-    pub row-before : p < new
+    row-before : p < new
     row-before = part-some p new cells (omega (arith, g .order .1, g .order .2)) y-terms
 
-    pub row-fair : Fair (g .first) last (noteIn notes p)
+    row-fair : Fair (g .first) last (noteIn notes p)
     row-fair =
         let col : List ℕ = map (root 0) (x .olds ++ (y ∷ [])) in
         let l : length (map (root 0) (x .olds ++ (y ∷ []))) ≡ length (g .olds) + 1 =

@@ -1,14 +1,14 @@
 -- The notes at a row's cells show the closed state of the rows up to it: how many cells are closed, and the runs of each open place.
 use mathlib.Core.Path.{_≡_, refl, sym, ap, _∙_}
 use mathlib.Core.List.{List, [], _∷_, _++_, map}
-use Prim.Native.Nat.{ℕ, zero, suc, pred, _+_, _-_, _≤_, _<_}
+use Prim.Native.Nat.{ℕ, zero, suc, pred, _+_, _≤_, _<_}
 use native.Mathlib.Omega.{arith}
 use native.Mathlib.Numerals.{one-add}
 use lib.ListN.{length, drop, length-map, length-append, length-drop}
 use lib.Seq.{drop-cons, drop-drop}
 use Rattle.cell.specs.Cell.{arity}
 use Rattle.term.specs.Terms.{Terms, front, back, root, close}
-use Rattle.term.proofs.TermsLaws.{front-back, back-terms, zero-nil, front-terms}
+use Rattle.term.proofs.TermsLaws.{back-terms, zero-nil, front-terms}
 use Rattle.table.specs.All.{All}
 use Rattle.plan.specs.Runs.{Run, runs}
 use Rattle.plan.specs.Plans.{plain}

@@ -99,7 +99,7 @@ module _ {w : ℕ} {rows : List (List ℕ)} {first last k i : ℕ} {left : List 
       let e : first + (o + length (g .rows)) ≡ first + o + length (g .rows) = omega arith in
       (run-reached o g (q .0), rw e at (runs-reached (o + length (g .rows)) gs (q .1)))
 
-  pub all-reached : AllReached w rows k first (runs i left)
+  all-reached : AllReached w rows k first (runs i left)
   all-reached = let e : first + 0 ≡ first = omega arith in rw e at (runs-reached 0 (runs i left) (group-parts (root i) (close i) left))
 
 runs-fit : (k i : ℕ) (left : List (List ℕ)) → i ≤ k → All (Fits 32 (suc k)) left → All (λ (g : Run). All (Fits 32 (arity (g .cell) + k)) (g .rows)) (runs i left)

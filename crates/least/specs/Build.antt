@@ -5,7 +5,7 @@ use mathlib.Core.Bool.{Bool, true, false}
 use mathlib.Core.List.{List, _++_}
 use lib.ListN.{length, take, drop, replicate}
 use Rattle.table.specs.Refusal.{Refused, refused, told, Answer, answered, turned}
-use Rattle.table.specs.Read.{Read, read, refuse}
+use Rattle.table.specs.Read.{read, refuse}
 use Rattle.table.specs.Table.{Table, tableOf}
 use Rattle.plan.specs.Plans.{Plan, write, branches, plain}
 use Rattle.least.specs.Least.{Least, Built}

@@ -2,16 +2,14 @@
 -- check holds them: by the masks of their open cells.
 use Prim.Native.Nat.{ℕ, _+_, _*_, _≤_, _<_}
 use mathlib.Core.Path.{_≡_}
-use mathlib.Core.List.{List, [], _∷_, map}
+use mathlib.Core.List.{List, [], _∷_}
 use lib.ListN.{length, getD, take}
 use lib.Seq.{sets, slice}
 use Rattle.cell.specs.Cell.{arity}
-use Rattle.term.specs.Terms.{root}
 use Rattle.table.specs.All.{All}
 use Rattle.plan.specs.Runs.{Run}
 use Rattle.table.specs.Table.{Table}
 use Rattle.plan.specs.Plans.{Plan, Branches, write, writes, branches, plain}
-use Rattle.plan.specs.Column.{runCount}
 use Rattle.plan.specs.States.{rowsIn, runsIn, Same}
 use Rattle.plan.proofs.RunsLaws.{Fits}
 use Rattle.least.specs.Least.{Least, Built, Builts}

@@ -2,7 +2,7 @@
 // state is a mask of its open cells, as in the check.
 ghost use mathlib.Core.Path.{_≡_};
 ghost use mathlib.Core.List.{map};
-ghost use Prim.Native.Nat.{ℕ, _+_, _-_, _≤_, _<_};
+ghost use Prim.Native.Nat.{_+_, _-_, _≤_, _<_};
 ghost use lib.Dec.{eqb};
 ghost use lib.ListN.{length};
 ghost use Rattle.term.specs.Terms.{root};
@@ -93,7 +93,7 @@ fn close_rows(
 }
 
 // The plan of the state of rows first to before end with k open places, from a place on; the place after it.
-pub fn state(
+fn state(
     table: &[u32],
     starts: &[usize; 64],
     masks: &mut [u32; 64],

@@ -6,7 +6,7 @@ use Rattle.least.specs.declared.arrays.Choice.{Choice}
 use Rattle.least.specs.Best.{leastOver, firstOver}
 use Rattle.least.specs.Notes.{choiceOf}
 use Rattle.least.specs.Filling.{PairAt}
-use Rattle.least.proofs.KeepLaws.{a, k, F, keep-walk, keep-pair, keep-small, keep-place, keeps}
+use Rattle.least.proofs.KeepLaws.{a, k, F, keep-walk, keep-pair, keep-small, keeps}
 use borrow.Author.Needs.{needs}
 use Rattle.least.proofs.arrays.keep_pair.Statement.{statement}
 use Rattle.least.proofs.arrays.keep_pair.Tie as tie
