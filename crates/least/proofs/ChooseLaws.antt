@@ -1,9 +1,9 @@
 -- The place that is chosen at a state: the leftmost agreed, otherwise that of the pair's entry, which is counted from this very state.
 use mathlib.Core.Path.{_≡_, sym, _∙_}
-use mathlib.Core.Logic.{by-cases, inl, inr}
+use mathlib.Core.Logic.{inl, inr}
 use mathlib.Core.List.{List, [], _∷_, map}
 use Prim.Native.Nat.{ℕ, suc, _+_, _-_, _*_, _≤_, _<_}
-use native.Mathlib.Decide.{decLt}
+use native.Mathlib.Numerals.{add-one}
 use native.Mathlib.Omega.{arith}
 use lib.ListN.{length, getD, length-map}
 use Rattle.term.specs.Terms.{Terms, root, close}
@@ -21,6 +21,7 @@ use Rattle.least.specs.Entries.{Entry, none, leaf, inner}
 use Rattle.least.specs.Writing.{State}
 use Rattle.least.proofs.Agreed.{one-agrees, no-run}
 use Rattle.least.proofs.Closing.{order-does-not-matter}
+use Rattle.least.proofs.Scan.{stuck-next}
 
 -- how many runs there are at a place, by the column of cells there
 column-count : (p : ℕ) (rows : List (List ℕ)) → length (runs p rows) ≡ runCount (map (root p) rows)
@@ -30,9 +31,7 @@ none-stuck : (rows : List (List ℕ)) → Stuck 0 rows
 none-stuck rows i c h a = omega arith
 
 pub one-stuck : (i : ℕ) (rows : List (List ℕ)) → (runCount (map (root i) rows) ≡ 1 → ⊥) → Stuck i rows → Stuck (i + 1) rows
-one-stuck i rows n s j c h a = by-cases (decLt j i)
-    (λ l. s j c l a)
-    (λ l. let e : j ≡ i = omega arith in no-run i c rows (λ q. n (sym (column-count i rows) ∙ q)) (rw e at a))
+one-stuck i rows n s = rw (add-one i) (stuck-next i rows s (λ c a. no-run i c rows (λ q. n (sym (column-count i rows) ∙ q)) a))
 
 pub chosen-agreed : (k i : ℕ) (rows : List (List ℕ)) → runCount (map (root i) rows) ≡ 1 → Stuck i rows → Chosen plain k rows i
 chosen-agreed k i rows e s = let g = one-agrees i rows (column-count i rows ∙ e) in shared (g .0) (g .1) s

@@ -35,6 +35,17 @@ solved-below {n = n} s x =
     let u = confluent (s .closes) (s .stuck) x in
     (u .0 + n, omega arith, omega arith, closes-least n (u .2) (s .counts))
 
+-- a run's rows are reached by closing what all the rows agree on and then the run's own cell
+pub run-closes : {m : Measure} {w a k : ℕ} {left : List (List ℕ)} (first end : ℕ) (rows : List (List ℕ)) (p o : ℕ) (g : Run) → Closes m a w (slice first end rows) (suc k) left
+    → end ≤ length rows → p ≤ k → PartOf (root p) (close p) left o g
+    → Closes m (a + (m .weight (g .cell) + 0)) w (slice (first + o) (first + (o + length (g .rows))) rows) (arity (g .cell) + k) (g .rows)
+run-closes {m} {k = k} {left} first end rows p o g x inside h q =
+    let y₀ : Closes m 0 (arity (g .cell) + k) (map (close p) (slice o (o + length (g .rows)) left)) (arity (g .cell) + k) (g .rows) = rw (← (q .is)) stop in
+    let b : length (slice first end rows) ≡ end - first = length-slice first end rows inside in
+    let l : length left ≡ length (slice first end rows) = closes-length x in
+    rw (slice-slice first end o (o + length (g .rows)) rows (omega (arith, q .inside, q .some))) at
+    (closes-then (closes-part o (o + length (g .rows)) (omega (arith, q .some)) (omega (arith, q .inside)) x) (step p (g .cell) h (part-agree p o g left q) y₀))
+
 -- the sum over some runs, the first of them from row j on, of a value for the run's first and last row
 abbrev pub sums : (ℕ → ℕ → ℕ) → ℕ → List Run → ℕ
 sums value j [] = 0
@@ -47,16 +58,6 @@ adds agreed least a j j′ = agreed j j′ - a + least j j′
 module _ {m : Measure} (w : ℕ) (rows : List (List ℕ)) (agreed least : ℕ → ℕ → ℕ) (first last a k : ℕ) (left : List (List ℕ))
     (inside : last < length rows) (x : Closes m a w (between first last rows) (suc k) left) (stuck : Stuck (suc k) left)
     (table : (j j′ : ℕ) → first ≤ j → j ≤ j′ → j′ ≤ last → j′ - j < last - first → Solved m w (between j j′ rows) (agreed j j′) (least j j′)) where
-  -- a run's rows are reached by closing what the pair agrees on and then the run's own cell
-  run-closes : (p o : ℕ) (g : Run) → p ≤ k → PartOf (root p) (close p) left o g
-      → Closes m (a + (m .weight (g .cell) + 0)) w (slice (first + o) (first + (o + length (g .rows))) rows) (arity (g .cell) + k) (g .rows)
-  run-closes p o g h q =
-      let y₀ : Closes m 0 (arity (g .cell) + k) (map (close p) (slice o (o + length (g .rows)) left)) (arity (g .cell) + k) (g .rows) = rw (← (q .is)) stop in
-      let b : length (between first last rows) ≡ suc last - first = length-slice first (suc last) rows inside in
-      let l : length left ≡ length (between first last rows) = closes-length x in
-      rw (slice-slice first (suc last) o (o + length (g .rows)) rows (omega (arith, q .inside, q .some))) at
-      (closes-then (closes-part o (o + length (g .rows)) (omega (arith, q .some)) (omega (arith, q .inside)) x) (step p (g .cell) h (part-agree p o g left q) y₀))
-
   -- so the table tells what the run adds
   run-value : (p o : ℕ) (g : Run) → p ≤ k → PartOf (root p) (close p) left o g
       → (v : ℕ) × (m .weight (g .cell) + v ≡ adds agreed least a (first + o) (pred (first + o + length (g .rows)))) × Least m (arity (g .cell) + k) (g .rows) v
@@ -66,7 +67,7 @@ module _ {m : Measure} (w : ℕ) (rows : List (List ℕ)) (agreed least : ℕ �
       let less : length (g .rows) < length left = part-proper p o g left q (stuck p (g .cell) (omega arith)) in
       let e : first + (o + length (g .rows)) ≡ suc (pred (first + o + length (g .rows))) = omega (arith, q .some) in
       let s = table (first + o) (pred (first + o + length (g .rows))) (omega arith) (omega (arith, q .some)) (omega (arith, q .inside, q .some)) (omega (arith, q .inside, q .some)) in
-      let v = solved-below s (rw e at (run-closes p o g h q)) in
+      let v = solved-below s (rw e at (run-closes first (suc last) rows p o g x inside h q)) in
       (v .0, omega (arith, v .1, v .2), v .3, omega (arith, v .1))
 
   runs-least : (p o : ℕ) (gs : List Run) → p ≤ k → Parts (root p) (close p) left o gs → LeastRuns m k gs (sums (adds agreed least a) (first + o) gs)

@@ -2,11 +2,10 @@
 use mathlib.Core.Path.{_≡_, sym, ap, _∙_}
 use mathlib.Core.Logic.{by-cases}
 use mathlib.Core.List.{List, [], _∷_, flatten}
-use Prim.Native.Nat.{ℕ, zero, suc, _+_, _-_, _*_, _≤_, _<_}
+use Prim.Native.Nat.{ℕ, _+_, _-_, _*_, _≤_, _<_}
 use native.Mathlib.Decide.{decLt}
 use native.Mathlib.Omega.{arith}
 use lib.ListN.{length, getD, take, drop, length-append}
-use lib.Seq.{take-nil}
 use borrow.Author.Tests.{lt-ltb, le-ltb}
 use Rattle.table.specs.All.{All}
 use Rattle.table.specs.Table.{tableOf, startsIn, RowPlace}
@@ -16,16 +15,12 @@ use Rattle.plan.specs.Steps.{TableRows}
 use Rattle.plan.proofs.RunsLaws.{Fits}
 use Rattle.plan.proofs.CheckLaws.{rows-fit}
 use Rattle.least.specs.Filling.{stopOf, Laid, Rows}
+use Rattle.least.proofs.Parts.{take-drop}
 
 flatten-short : (w : ℕ) (rows : List (List ℕ)) → All (Fits 32 w) rows → length (flatten rows) ≤ 32 * length rows
 unfolding flatten
 flatten-short w [] f = omega arith
 flatten-short w (r ∷ rs) f = omega (arith, f .0 .1, length-append r (flatten rs), flatten-short w rs (f .1))
-
-take-drop : (o n : ℕ) (xs : List ℕ) → take n (drop o xs) ≡ drop o (take (o + n) xs)
-take-drop zero n xs = let e : 0 + n ≡ n = omega arith in rw e
-take-drop (suc o) n [] = let e : suc o + n ≡ suc (o + n) = omega arith in rw e (take-nil n)
-take-drop (suc o) n (x ∷ xs) = let e : suc o + n ≡ suc (o + n) = omega arith in rw e (take-drop o n xs)
 
 module _ {t ss : List ℕ} {w n : ℕ} (k : TableRows t ss w n) where
   place : (r : ℕ) → r < n → RowPlace (tableOf t) r (part (getD ss r 0) (stopOf t ss n r))

@@ -18,7 +18,7 @@ use Rattle.least.specs.Notes.{note, noteNext, noteFrom, noteOf, Noted, d
 use Rattle.least.proofs.AllLaws.{all-front, all-back, map-++}
 use Rattle.least.proofs.Agreed.{one-agrees}
 use Rattle.least.proofs.NoteLaws.{note-says, note-more}
-use Rattle.least.proofs.Suffixes.{back-back, front-back-length, back-close}
+use Rattle.least.proofs.Suffixes.{back-back, backs, front-back-length, back-close}
 
 -- one run: all rows have the last one's cell
 one-cell-all : (W : ℕ → ℕ → ℕ) (first : ℕ) (olds : List (List ℕ)) (y : List ℕ) → (noteOf W first (map (root 0) (olds ++ (y ∷ [])))) .runs ≡ 1
@@ -36,10 +36,6 @@ map-id (r ∷ rs) = rw (back-zero r, map-id rs)
 map-past : (a c : ℕ) (olds : List (List ℕ)) → All (λ (r : List ℕ). root 0 r ≡ c) olds → map (back (arity c + a)) (map (close 0) olds) ≡ map (back (suc a)) olds
 map-past a c [] h = refl
 map-past a c (r ∷ rs) h = rw (back-close a c r (h .0), map-past a c rs (h .1))
-
-map-back : (a : ℕ) (olds : List (List ℕ)) → map (back a) (map (back 1) olds) ≡ map (back (suc a)) olds
-map-back a [] = refl
-map-back a (r ∷ rs) = let e : 1 + a ≡ suc a = omega arith in rw (back-back 1 a r, e, map-back a rs)
 
 -- past the first cell, where it is closed
 front-close : (a : ℕ) {r : ℕ} {y : List ℕ} → Terms (suc r) y → length (front (suc a) y) ≡ suc (length (front (arity (root 0 y) + a) (close 0 y)))
@@ -78,7 +74,7 @@ module _ {W : ℕ → ℕ → ℕ} {first : ℕ} {N : ℕ → Note} where
       let f : length (front (1 + a) y) ≡ length (front 1 y) + length (front a (back 1 y)) = front-back-length 1 a y in
       let l : q + length (front (suc a) y) ≡ q + length (front 1 y) + length (front a (back 1 y)) = rw (← s) (omega arith) in
       let b : back a (back 1 y) ≡ back (suc a) y = back-back 1 a y ∙ ap (λ (n : ℕ). back n y) s in
-      rw l (rw (map-back a olds, b) at x)
+      rw l (rw (backs 1 a olds, s, b) at x)
 
   -- a row alone: every place is closed
   pub noted-alone : {r : ℕ} {y : List ℕ} (q : ℕ) → Terms r y → ((j : ℕ) → q ≤ j → j < q + length y → N j ≡ note 1 0 first) → Noted W first N q r [] y

@@ -14,11 +14,11 @@ use Rattle.least.specs.Best.{argmin, firstOver, leastOver, through, best
 use Rattle.least.specs.Least.{Least, Chosen}
 use Rattle.least.specs.Entries.{between, Closes, stop, step, Entry, none, leaf, inner}
 use Rattle.least.proofs.Minimum.{argmin-first}
-use Rattle.least.proofs.AllLaws.{all-each, all-take, all-drop}
+use Rattle.least.proofs.AllLaws.{all-take, all-drop}
 use Rattle.least.proofs.Best.{best-least, least-one, LeastRuns, leaf-least, node-least}
 use Rattle.least.proofs.Closing.{closes-length, order-does-not-matter}
 use Rattle.least.proofs.Counts.{Solved, sums, adds, place-least, place-whole}
-use Rattle.least.proofs.Scan.{Scan, scan, Scanned, scan-closes, fits-agreed}
+use Rattle.least.proofs.Scan.{Scan, scan, Scanned, scan-closes, fits-more, fits-agreed}
 use Rattle.least.proofs.Building.{chosen-one, chosen-cheapest}
 
 -- rows that fit still do when agreed places are closed
@@ -26,7 +26,7 @@ closes-fit : {m : Measure} {x k k′ : ℕ} {rows rows′ : List (List ℕ)} (n 
 closes-fit n stop f = f
 closes-fit n (step {k = k} {rows = rows} i c h a x) f =
     closes-fit n x
-    (fits-agreed n k i c rows h a (all-each (Fits n (suc k)) (Fits (suc n) (suc k)) (λ (r : List ℕ) (g : Fits n (suc k) r). (g .0, omega arith)) rows f))
+    (fits-agreed n k i c rows h a (fits-more n (suc k) rows f))
 
 outside : {first last n : ℕ} → (last < first) ⊎ (n ≤ last) → first ≤ last → last < n → ⊥
 outside (inl l) h i = omega arith

@@ -34,7 +34,7 @@ module _ {A : Type 0} where
   slice-map : (f : A → A) (o t : ℕ) (xs : List A) → slice o t (map f xs) ≡ map f (slice o t xs)
   slice-map f o t xs = rw (take-map f t xs) (drop-map f o (take t xs))
 
-  take-drop : (o n : ℕ) (xs : List A) → take n (drop o xs) ≡ drop o (take (o + n) xs)
+  pub take-drop : (o n : ℕ) (xs : List A) → take n (drop o xs) ≡ drop o (take (o + n) xs)
   take-drop zero n xs = rw zero-add
   take-drop (suc o) n [] = rw (take-nil n, take-nil (suc o + n))
   take-drop (suc o) n (x ∷ xs) = rw suc-add (take-drop o n xs)

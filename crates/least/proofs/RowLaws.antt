@@ -7,7 +7,7 @@ use Prim.Native.Nat.{ℕ, zero, suc, pred, _+_, _-_, _*_, _≤_, _<_}
 use native.Mathlib.Omega.{arith}
 use native.Mathlib.Numerals.{add-one, one-add}
 use lib.ListN.{length, getD, set, take, drop, length-set, length-map, length-append, take-append-drop}
-use lib.Seq.{slice, slice-cons, length-slice, getD-set-same, getD-set-other, drop-drop, drop-append-le, length-take-le}
+use lib.Seq.{slice, slice-cons, length-slice, getD-set-same, getD-set-other, drop-append-le, length-take-le}
 use lib.Dec.{eqb}
 use borrow.Author.Tests.{eqb-true, eqb-false}
 use Rattle.cell.specs.Cell.{arity}
@@ -20,7 +20,7 @@ use Rattle.least.specs.Notes.{note, noteNext, noteOf, noteIn, putNote, i
 use Rattle.least.proofs.AllLaws.{map-++}
 use Rattle.least.proofs.NoteLaws.{note-fair}
 use Rattle.least.proofs.NotedLaws.{close-first, back-first, note-is, noteWith, next-note, next-closed, next-opened}
-use Rattle.least.proofs.Suffixes.{drop-front, front-short}
+use Rattle.least.proofs.Suffixes.{front-short, close-drop, back-drop}
 
 -- three numbers for each cell: what is put is there, and nothing else is changed
 module _ (notes : List ℕ) (q : ℕ) (s : Note) where
@@ -61,11 +61,7 @@ unfolding root
 part-root p e cells h l = rw (slice-cons p e cells 0 h l)
 
 part-close : (p e : ℕ) (cells : List ℕ) → p < e → e ≤ length cells → close 0 (slice p e cells) ≡ slice (suc p) e cells
-unfolding close
-part-close p e cells h l = rw (slice-cons p e cells 0 h l)
-
-part-back : (p e : ℕ) (cells : List ℕ) → back 1 (slice p e cells) ≡ slice (p + length (front 1 (slice p e cells))) e cells
-part-back p e cells = sym (drop-front 1 (slice p e cells)) ∙ drop-drop (length (front 1 (slice p e cells))) p (take e cells)
+part-close p e cells h l = close-drop p (take e cells) (omega (arith, length-take-le e cells l))
 
 part-some : {r : ℕ} (p e : ℕ) (cells : List ℕ) → e ≤ length cells → Terms (suc r) (slice p e cells) → p < e
 part-some p e cells l t = omega (arith, terms-length t, length-slice p e cells l)
@@ -229,8 +225,8 @@ module _ {cells ends whole notes₀ : List ℕ} {last old new stop : ℕ} (g : N
     step-opened o =
         let py : getD ends p 0 ≡ p + length (front 1 y) = ended-at p new (g .ended) (omega (arith, row-before)) new-in y-terms in
         let qz : getD ends q 0 ≡ q + length (front 1 z) = ended-at q stop (g .ended) (omega arith) stop-in z-terms in
-        let yb : back 1 y ≡ slice (getD ends p 0) new cells = part-back p new cells ∙ ap (λ (j : ℕ). slice j new cells) (sym py) in
-        let zb : back 1 z ≡ slice (getD ends q 0) stop cells = part-back q stop cells ∙ ap (λ (j : ℕ). slice j stop cells) (sym qz) in
+        let yb : back 1 y ≡ slice (getD ends p 0) new cells = back-drop p (take new cells) ∙ ap (λ (j : ℕ). slice j new cells) (sym py) in
+        let zb : back 1 z ≡ slice (getD ends q 0) stop cells = back-drop q (take stop cells) ∙ ap (λ (j : ℕ). slice j stop cells) (sym qz) in
         let ol : map (back 1) (x .olds ++ (y ∷ [])) ≡ map (back 1) (x .olds) ++ (slice (getD ends p 0) new cells ∷ []) =
         map-++ (back 1) (x .olds) (y ∷ []) ∙ ap (λ (v : List ℕ). map (back 1) (x .olds) ++ (v ∷ [])) yb in
         let fy : length (front 1 y) ≤ length y = front-short 1 y in

@@ -5,7 +5,6 @@ use Prim.Native.Nat.{ℕ, zero, suc, pred, _+_, _≤_, _<_}
 use native.Mathlib.Omega.{arith}
 use native.Mathlib.Numerals.{one-add}
 use lib.ListN.{length, drop, length-map, length-append, length-drop}
-use lib.Seq.{drop-cons, drop-drop}
 use Rattle.cell.specs.Cell.{arity}
 use Rattle.term.specs.Terms.{Terms, front, back, root, close}
 use Rattle.term.proofs.TermsLaws.{back-terms, zero-nil, front-terms}
@@ -21,7 +20,7 @@ use Rattle.least.proofs.Counts.{sums}
 use Rattle.least.proofs.NoteLaws.{Says, note-says, note-fair}
 use Rattle.least.proofs.Scan.{Scan, found, plus, oneRun, scan, terms-count, fits-agreed}
 use Rattle.least.proofs.ScanLaws.{sums-sizes, length-sizes, scan-sizes}
-use Rattle.least.proofs.Suffixes.{root-back, close-back, back-back, drop-front, front-short}
+use Rattle.least.proofs.Suffixes.{root-back, close-back, back-back, backs, front-short, close-drop, back-drop}
 
 -- the rows from place i on, and the cells that they begin with
 column : (i : ℕ) (olds : List (List ℕ)) (y : List ℕ) → map (root 0) (map (back i) olds ++ (back i y ∷ [])) ≡ map (root i) (olds ++ (y ∷ []))
@@ -31,17 +30,6 @@ column i (x ∷ olds) y = rw (root-back i x, column i olds y)
 closing : (i : ℕ) (olds : List (List ℕ)) → map (close 0) (map (back i) olds) ≡ map (back i) (map (close i) olds)
 closing i [] = refl
 closing i (x ∷ olds) = rw (close-back i x, closing i olds)
-
-passing : (i : ℕ) (olds : List (List ℕ)) → map (back 1) (map (back i) olds) ≡ map (back (suc i)) olds
-passing i [] = refl
-passing i (x ∷ olds) = let e : i + 1 ≡ suc i = omega arith in rw (back-back i 1 x, e, passing i olds)
-
-close-drop : (q : ℕ) (zs : List ℕ) → q < length zs → close 0 (drop q zs) ≡ drop (suc q) zs
-unfolding close
-close-drop q zs h = rw (drop-cons zs q 0 h)
-
-back-drop : (q : ℕ) (zs : List ℕ) → back 1 (drop q zs) ≡ drop (q + length (front 1 (drop q zs))) zs
-back-drop q zs = sym (drop-front 1 (drop q zs)) ∙ drop-drop (length (front 1 (drop q zs))) q zs
 
 -- what a note has to be at open place i of the state that is left
 pub record Is (W : ℕ → ℕ → ℕ) (first last : ℕ) (left : List (List ℕ)) (i : ℕ) (s : Note) : Type 0 where
@@ -133,7 +121,7 @@ module _ (W : ℕ → ℕ → ℕ) (count : ℕ) (bound : (i k : ℕ) → i ≤ 
           low = omega (arith, x .low);
           high = omega (arith, inside, ap length (x .cells), length-drop q zs, front-short 1 (back i y));
           cells = sym b ∙ ap (back 1) (x .cells) ∙ back-drop q zs ∙ ap (λ (j : ℕ). drop j zs) (sym (ends q (x .low) inside));
-          noted = rw (passing i olds, b, ← q′) at d;
+          noted = rw (backs i 1 olds, e₃, b, ← q′) at d;
         }) in
         let k = scan-sizes plain n (suc i) r here i (omega arith) in
         let w = says e in

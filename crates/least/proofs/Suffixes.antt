@@ -1,10 +1,11 @@
 -- A list of terms from an open place on: what it begins with is the cell there, and closing the place takes that cell away.
-use mathlib.Core.Path.{_≡_, refl, ap}
-use mathlib.Core.List.{List, [], _∷_}
-use Prim.Native.Nat.{ℕ, zero, suc, _+_, _≤_}
+use mathlib.Core.Path.{_≡_, refl, sym, ap, _∙_}
+use mathlib.Core.List.{List, [], _∷_, map}
+use Prim.Native.Nat.{ℕ, zero, suc, _+_, _≤_, _<_}
 use native.Mathlib.Nat.{add-assoc, zero-add, suc-add}
 use native.Mathlib.Omega.{arith}
 use lib.ListN.{length, length-append, drop}
+use lib.Seq.{drop-cons, drop-drop}
 use Rattle.cell.specs.Cell.{arity}
 use Rattle.term.specs.Terms.{front, back, root, close}
 use Rattle.term.proofs.TermsLaws.{front-back}
@@ -28,6 +29,10 @@ back-back a b [] = refl
 back-back zero b (c ∷ xs) = rw zero-add
 back-back (suc a) b (c ∷ xs) = rw (suc-add, ← add-assoc) (back-back (arity c + a) b xs)
 
+pub backs : (a b : ℕ) (rows : List (List ℕ)) → map (back b) (map (back a) rows) ≡ map (back (a + b)) rows
+backs a b [] = refl
+backs a b (r ∷ rs) = rw (back-back a b r, backs a b rs)
+
 pub front-back-length : (a b : ℕ) (xs : List ℕ) → length (front (a + b) xs) ≡ length (front a xs) + length (front b (back a xs))
 unfolding front back
 front-back-length a b [] = refl
@@ -40,6 +45,14 @@ unfolding front back
 drop-front k [] = refl
 drop-front zero (c ∷ xs) = refl
 drop-front (suc k) (c ∷ xs) = drop-front (arity c + k) xs
+
+-- the cells from a place on: without the first cell, and without the first term
+pub close-drop : (p : ℕ) (xs : List ℕ) → p < length xs → close 0 (drop p xs) ≡ drop (suc p) xs
+unfolding close
+close-drop p xs h = rw (drop-cons xs p 0 h)
+
+pub back-drop : (p : ℕ) (xs : List ℕ) → back 1 (drop p xs) ≡ drop (p + length (front 1 (drop p xs))) xs
+back-drop p xs = sym (drop-front 1 (drop p xs)) ∙ drop-drop (length (front 1 (drop p xs))) p xs
 
 -- past a cell that is closed
 pub back-close : (a c : ℕ) (xs : List ℕ) → root 0 xs ≡ c → back (arity c + a) (close 0 xs) ≡ back (suc a) xs

@@ -1,12 +1,12 @@
 -- The writing of a plan, state by state: what is written is what the plan by the rule writes.
 use mathlib.Core.Path.{_≡_, refl, sym, ap, subst, _∙_}
 use mathlib.Core.Bool.{Bool, true, false, cond}
-use mathlib.Core.List.{List, [], _∷_, _++_, map}
+use mathlib.Core.List.{List, [], _∷_, _++_}
 use Prim.Native.Nat.{ℕ, suc, _+_, _-_, _≤_, _<_}
 use native.Mathlib.Nat.{add-zero}
 use native.Mathlib.Omega.{arith}
 use lib.ListN.{length, getD, set, length-set, length-append}
-use lib.Seq.{sets, slice, length-sets, length-slice}
+use lib.Seq.{sets, length-sets}
 use Rattle.cell.specs.Cell.{arity}
 use Rattle.term.specs.Terms.{root, close}
 use Rattle.table.specs.All.{All}
@@ -15,13 +15,14 @@ use Rattle.plan.specs.Plans.{Plan, leaf, node, Branches, end, next, write, writ
 use Rattle.plan.specs.Column.{breaks, runLength, runCount}
 use Rattle.plan.specs.States.{rowsIn, columnIn, runsIn, Same}
 use Rattle.plan.specs.States as states
-use Rattle.plan.proofs.RunsLaws.{Fits, fits-close, group-all}
+use Rattle.plan.proofs.RunsLaws.{Fits, runs-fit}
 use Rattle.plan.proofs.RowsLaws.{rows-length, rows-kept, column-none, run-first, run-number, runs-closed, same-self, same-then, same-later}
 use Rattle.least.specs.Least.{Chosen, Built, Builts}
-use Rattle.least.specs.Entries.{Closes, stop, step}
+use Rattle.least.specs.Entries.{Closes}
 use Rattle.least.specs.Writing.{Reached, AllReached, Source, Room, ToWrite, ToWriteAll, Written}
-use Rattle.least.proofs.Closing.{closes-then, closes-length}
-use Rattle.least.proofs.Parts.{slice-slice, closes-part, PartOf, Parts, group-parts, part-agree}
+use Rattle.least.proofs.Parts.{PartOf, Parts, group-parts}
+use Rattle.least.proofs.Counts.{run-closes}
+use Rattle.least.proofs.Scan.{fits-more}
 use Rattle.least.proofs.Building.{chosen-one}
 
 -- stores after others
@@ -85,13 +86,8 @@ no-plan (next p bs) e = let z : _≡_ {A = ℕ} 0 1 = cc in absurd (omega arith)
 module _ {w : ℕ} {rows : List (List ℕ)} {first last k i : ℕ} {left : List (List ℕ)} (r : Reached w rows first last (suc k) left) (h : i ≤ k) (inside : last ≤ length rows) where
   run-reached : (o : ℕ) (g : Run) → PartOf (root i) (close i) left o g → Reached w rows (first + o) (first + o + length (g .rows)) (arity (g .cell) + k) (g .rows)
   run-reached o g q =
-      let t : ℕ = o + length (g .rows) in
-      let n : length left ≡ last - first = closes-length (r .closes) ∙ length-slice first last rows inside in
-      let y₀ : Closes plain 0 (arity (g .cell) + k) (map (close i) (slice o (o + length (g .rows)) left)) (arity (g .cell) + k) (g .rows) = rw (← (q .is)) stop in
-      let x = closes-part o t (omega (arith, q .some)) (omega (arith, q .inside, n, length-slice first last rows inside)) (r .closes) in
-      let y = closes-then x (step i (g .cell) h (part-agree i o g left q) y₀) in
       let e : first + (o + length (g .rows)) ≡ first + o + length (g .rows) = omega arith in
-      record { weight = _; closes = rw (slice-slice first last o t rows (omega (arith, q .inside, q .some, n)), e) at y }
+      record { weight = _; closes = rw e at (run-closes first last rows i o g (r .closes) inside h q) }
 
   runs-reached : (o : ℕ) (gs : List Run) → Parts (root i) (close i) left o gs → AllReached w rows k (first + o) gs
   runs-reached o [] q = tt
@@ -101,11 +97,6 @@ module _ {w : ℕ} {rows : List (List ℕ)} {first last k i : ℕ} {left : List 
 
   all-reached : AllReached w rows k first (runs i left)
   all-reached = let e : first + 0 ≡ first = omega arith in rw e at (runs-reached 0 (runs i left) (group-parts (root i) (close i) left))
-
-runs-fit : (k i : ℕ) (left : List (List ℕ)) → i ≤ k → All (Fits 32 (suc k)) left → All (λ (g : Run). All (Fits 32 (arity (g .cell) + k)) (g .rows)) (runs i left)
-runs-fit k i left h f =
-    group-all (root i) (close i) (Fits 32 (suc k)) (λ (c : ℕ). Fits 32 (arity c + k))
-    (λ (r : List ℕ) (x : Fits 32 (suc k) r). (let y = fits-close 31 k i h r x in (y .0, omega (arith, y .1)))) left f
 
 -- A leaf.
 module _ {t ss ms hs place out : List ℕ} {first last k at : ℕ} (q : ToWrite t ss ms hs place out first last k at) (z : k ≡ 0) where
@@ -162,7 +153,7 @@ inner {t} {ss} {ms} {hs} {place} {out} {first} {last} {k} {at} q ms₁ hs₁ i n
       column = cl .column .size ∙ q .room .column;
       cells = length-set (set out at i) (at + 1) n ∙ length-set out at i ∙ q .room .cells;
     }) (q .state .source) (omega (arith, q .state .some)) (q .state .inside)
-    (runs-fit (k - 1) i (rowsIn t ss ms first last) (omega arith) fits) (all-reached reached (omega arith) (q .state .inside)) (b .plans) (b .built)
+    (runs-fit 32 (k - 1) i (omega arith) (rowsIn t ss ms first last) (fits-more 32 (suc (k - 1)) (rowsIn t ss ms first last) fits)) (all-reached reached (omega arith) (q .state .inside)) (b .plans) (b .built)
     (omega (arith, q .fits, ap length (b .cells-are))) in
     record {
       room = omega (arith, q .fits, ap length (b .cells-are));
