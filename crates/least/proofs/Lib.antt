@@ -1,27 +1,23 @@
-pub mod LaidLaws
-pub mod Fixed
-pub mod Joined
-pub mod BuildLaws
-pub mod PlannedLaws
-pub mod WritingLaws
-pub mod ChooseLaws
-pub mod AgreedLaws
-pub mod Minimum
-pub mod Best
+-- rows, their parts and what they agree on
 pub mod AllLaws
 pub mod Parts
 pub mod Agreed
+-- the least cost, and the builder's plan
+pub mod Minimum
+pub mod Best
 pub mod Exchange
 pub mod Closing
-pub mod Counts
-pub mod Scan
 pub mod Building
 pub mod Builder
-pub mod Pairs
-pub mod Examples
 pub mod LeastPlan
-pub mod NoteLaws
+pub mod Examples
+-- what is kept for every pair of rows
+pub mod Scan
+pub mod Counts
+pub mod Pairs
+-- how it is worked out: the notes at the cells of a row, and the arrays
 pub mod Suffixes
+pub mod NoteLaws
 pub mod NotedLaws
 pub mod ScanLaws
 pub mod ShownLaws
@@ -30,4 +26,13 @@ pub mod RowLaws
 pub mod ReadLaws
 pub mod EndedLaws
 pub mod KeepLaws
+pub mod LaidLaws
 pub mod FillLaws
+-- how the plan is written, and what is answered
+pub mod AgreedLaws
+pub mod ChooseLaws
+pub mod WritingLaws
+pub mod PlannedLaws
+pub mod BuildLaws
+pub mod Fixed
+pub mod Joined

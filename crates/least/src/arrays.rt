@@ -1,5 +1,6 @@
 // What is kept for every pair of first and last row (01, "The least plan"). For a fixed first row the rows after it are
-// added one by one. What is known of a place of the rows so far is noted at the cell that the last of them has there.
+// added one by one. What is known of a place of the rows so far is noted at the cell that the last of them has there. The
+// arrays are as narrow as their numbers allow: of a small table, clearing them is most of the work.
 ghost use mathlib.Core.Path.{_≡_};
 ghost use mathlib.Core.Bool.{cond, _||_};
 ghost use Prim.Native.Nat.{_+_, _-_, _*_, _≤_, _<_};
@@ -18,7 +19,7 @@ pub struct Note {
     pub from: u32,
 }
 
-// Three numbers for each cell of the table.
+// The notes are three numbers for each cell of the table.
 fn note_at(notes: &[u32; 6150], q: usize) -> Note
     requires { ⌜ q < 2050 ⌝ }
     ensures { λ r. ⌜ r ≡ noteIn (now (notes .entry)) q ⌝ }
@@ -42,6 +43,46 @@ fn put_note(notes: &mut [u32; 6150], q: usize, s: Note)
     notes[3 * q + 2] = from;
 }
 
+// The place after the term that begins at a cell.
+fn end_at(cells: &[u32], j: usize) -> u16
+    requires { ⌜ length (now cells) ≤ 2050 ⌝ }
+    ensures { λ r. ⌜ EndsAt (now (cells .entry)) j r ⌝ }
+{
+    match term::term_end(cells, j) {
+        End::At(e) => e as u16,
+        End::Short => 0,
+    }
+}
+
+// The same for each cell. A table has at most 2,050 of them, so 16 bits are enough, and there is less to clear.
+fn term_ends(cells: &[u32]) -> [u16; 2050]
+    requires { ⌜ length (now cells) ≤ 2050 ⌝ }
+    ensures { λ r. ⌜ Ended (now (cells .entry)) r ⌝ }
+{
+    let mut ends = [0; 2050];
+    let mut j = 0;
+    while j < cells.len() {
+        ends[j] = end_at(cells, j);
+        j += 1;
+    }
+    ends
+}
+
+// An end that is kept there.
+fn wide(e: u16) -> usize
+    ensures { λ r. ⌜ r ≡ e ⌝ }
+{
+    e as usize
+}
+
+// The next place: a closed one's first argument, or what follows the term at an open one.
+fn after(ends: &[u16; 2050], s: Note, q: usize) -> usize
+    requires { ⌜ q < 2050 ⌝ }
+    ensures { λ r. ⌜ r ≡ cond (eqb (s .runs) 1) (q + 1) (getD (now (ends .entry)) q 0) ⌝ }
+{
+    if s.runs == 1 { q + 1 } else { wide(ends[q]) }
+}
+
 // The place noted with one row more, whose cell there is d, after the row `last`, whose cell is c.
 fn next_note(s: Note, whole: &[u32; 4096], last: usize, c: u32, d: u32) -> Note
     requires { ⌜ Small (now whole) last s ⌝ }
@@ -56,21 +97,6 @@ fn next_note(s: Note, whole: &[u32; 4096], last: usize, c: u32, d: u32) -> Note
         sum: s.sum + whole[64 * from + last],
         from: (last + 1) as u32,
     }
-}
-
-// A place as it is kept.
-fn wide(e: u16) -> usize
-    ensures { λ r. ⌜ r ≡ e ⌝ }
-{
-    e as usize
-}
-
-// The next place: a closed one's first argument, or what follows the term at an open one.
-fn after(ends: &[u16; 2050], s: Note, q: usize) -> usize
-    requires { ⌜ q < 2050 ⌝ }
-    ensures { λ r. ⌜ r ≡ cond (eqb (s .runs) 1) (q + 1) (getD (now (ends .entry)) q 0) ⌝ }
-{
-    if s.runs == 1 { q + 1 } else { wide(ends[q]) }
 }
 
 // One row more, its cells from `new` up to a stop, after the row `last`, whose cells are those from `old` up to `new`. The
@@ -118,6 +144,14 @@ fn note_first(notes: &mut [u32; 6150], at: usize, stop: usize, first: usize)
     }
 }
 
+// One closed cell more, where the place is closed.
+fn with_closed(n: u32, s: Note) -> u32
+    requires { ⌜ n < 2050 ⌝ }
+    ensures { λ r. ⌜ r ≡ n + cond (eqb (s .runs) 1) 1 0 ⌝ }
+{
+    if s.runs == 1 { n + 1 } else { n }
+}
+
 // How many cells are closed, in the row whose cells are those from a place up to a stop.
 fn agreed_in(ends: &[u16; 2050], notes: &[u32; 6150], at: usize, stop: usize) -> u32
     requires { ⌜ Walk (now ends) (now notes) at stop ⌝ }
@@ -131,13 +165,6 @@ fn agreed_in(ends: &[u16; 2050], notes: &[u32; 6150], at: usize, stop: usize) ->
         q = after(ends, s, q);
     }
     n
-}
-
-fn with_closed(n: u32, s: Note) -> u32
-    requires { ⌜ n < 2050 ⌝ }
-    ensures { λ r. ⌜ r ≡ n + cond (eqb (s .runs) 1) 1 0 ⌝ }
-{
-    if s.runs == 1 { n + 1 } else { n }
 }
 
 // The cheapest open place so far, and what it costs; 0 and 0 where there is none.
@@ -193,31 +220,6 @@ fn cheapest(
         q = after(ends, s, q);
     }
     best
-}
-
-// The place after the term that begins at a cell.
-fn end_at(cells: &[u32], j: usize) -> u16
-    requires { ⌜ length (now cells) ≤ 2050 ⌝ }
-    ensures { λ r. ⌜ EndsAt (now (cells .entry)) j r ⌝ }
-{
-    match term::term_end(cells, j) {
-        End::At(e) => e as u16,
-        End::Short => 0,
-    }
-}
-
-// The same for each cell.
-fn term_ends(cells: &[u32]) -> [u16; 2050]
-    requires { ⌜ length (now cells) ≤ 2050 ⌝ }
-    ensures { λ r. ⌜ Ended (now (cells .entry)) r ⌝ }
-{
-    let mut ends = [0; 2050];
-    let mut j = 0;
-    while j < cells.len() {
-        ends[j] = end_at(cells, j);
-        j += 1;
-    }
-    ends
 }
 
 // The entry of a pair, read off the notes at its last row.
