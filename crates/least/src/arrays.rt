@@ -13,10 +13,10 @@ use term::End;
 
 // How many runs the rows so far have at this place, the sum of what each of them costs, all but the last, and where the
 // last of them begins. One run: all agree, and the place is closed.
-pub struct Note {
-    pub runs: u32,
-    pub sum: u32,
-    pub from: u32,
+struct Note {
+    runs: u32,
+    sum: u32,
+    from: u32,
 }
 
 // The notes are three numbers for each cell of the table.
@@ -168,9 +168,9 @@ fn agreed_in(ends: &[u16; 2050], notes: &[u32; 6150], at: usize, stop: usize) ->
 }
 
 // The cheapest open place so far, and what it costs; 0 and 0 where there is none.
-pub struct Choice {
-    pub cost: u32,
-    pub place: u32,
+struct Choice {
+    cost: u32,
+    place: u32,
 }
 
 // With one open place more, the first to cost less.
