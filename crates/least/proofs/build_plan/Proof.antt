@@ -1,4 +1,5 @@
 use mathlib.Core.Path.{refl}
+use Rattle.plan.specs.Steps.{TableRows}
 use Rattle.plan.proofs.EntryLaws.{table-rows, table-turned}
 use Rattle.least.proofs.BuildLaws.{no-table, no-room, cells-there, all-built}
 use borrow.Author.Needs.{needs}
@@ -11,16 +12,21 @@ read-table-requires c κs = search needs
 enum-known-answer : tie.Need-enum-known-answer
 enum-known-answer c = search needs
 
+-- the table's rows, where it is accepted
+table-here : (c : tie.After-answer) → TableRows (c .before .before .before .before .before .args .cells .now) (c .before .before .read-table .result .starts) (c .answer .given .0 .0) (c .answer .given .0 .1 .0)
+table-here c = table-rows (c .before .before .before .before .before .args .cells .now) (c .before .before .read-table .ensures) (c .answer .given .1)
+
 write-plan-requires : tie.Need-write-plan-requires
-write-plan-requires c κs = (table-rows (c .before .before .before .before .before .before .before .before .before .args .cells .now) (c .before .before .before .before .before .before .read-table .ensures) (c .before .before .before .before .answer .given .1), refl)
+write-plan-requires c κs = (table-here (c .before .before .before .before), refl)
 
 cast-branches : tie.Need-cast-branches
 cast-branches c = search needs
 
 put-requires : tie.Need-put-requires
 put-requires c κs =
-    let k = table-rows (c .before .before .before .before .before .before .before .before .before .before .before .before .before .args .cells .now) (c .before .before .before .before .before .before .before .before .before .before .read-table .ensures) (c .before .before .before .before .before .before .before .before .answer .given .1) in
-    let p = c .before .before .before .write-plan .ensures k in
+    let w = c .before .before .before in
+    let k = table-here (w .before .before .before .before .before) in
+    let p = w .write-plan .ensures k in
     (p .few, cells-there k p)
 
 enum-known-answer-2 : tie.Need-enum-known-answer-2
@@ -31,16 +37,18 @@ same-length c = search needs
 
 returns : tie.Need-returns
 returns c =
-    let k = table-rows (c .before .before .before .before .before .before .before .before .before .before .before .before .before .before .before .before .before .args .cells .now) (c .before .before .before .before .before .before .before .before .before .before .before .before .before .before .read-table .ensures) (c .before .before .before .before .before .before .before .before .before .before .before .before .answer .given .1) in
-    all-built k (c .before .before .before .before .before .before .before .write-plan .ensures k) (c .before .before .before .put .ensures) (c .if1 .taken)
+    let w = c .before .before .before .before .before .before .before in
+    let k = table-here (w .before .before .before .before .before) in
+    all-built k (w .write-plan .ensures k) (c .before .before .before .put .ensures) (c .if1 .taken)
 
 same-length-2 : tie.Need-same-length-2
 same-length-2 c = search needs
 
 returns-2 : tie.Need-returns-2
 returns-2 c =
-    let k = table-rows (c .before .before .before .before .before .before .before .before .before .before .before .before .before .before .before .before .before .args .cells .now) (c .before .before .before .before .before .before .before .before .before .before .before .before .before .before .read-table .ensures) (c .before .before .before .before .before .before .before .before .before .before .before .before .answer .given .1) in
-    no-room k (c .before .before .before .before .before .before .before .write-plan .ensures k) (c .before .before .before .put .ensures) (c .if1 .left)
+    let w = c .before .before .before .before .before .before .before in
+    let k = table-here (w .before .before .before .before .before) in
+    no-room k (w .write-plan .ensures k) (c .before .before .before .put .ensures) (c .if1 .left)
 
 returns-3 : tie.Need-returns-3
 returns-3 c = no-table _ (table-turned (c .before .before .before .before .before .before .args .cells .now) (c .before .before .before .read-table .ensures) (c .before .answer2 .given .1))

@@ -1,5 +1,6 @@
 use mathlib.Core.Path.{refl}
 use Rattle.least.specs.Build.{all-zero}
+use Rattle.plan.specs.Steps.{TableRows}
 use Rattle.plan.proofs.EntryLaws.{table-rows, table-turned}
 use Rattle.least.proofs.LaidLaws.{laid-rows}
 use Rattle.least.proofs.BuildLaws.{all-worked}
@@ -13,8 +14,12 @@ read-table-requires c κs = search needs
 enum-known-answer : tie.Need-enum-known-answer
 enum-known-answer c = search needs
 
+-- the table's rows, where it is accepted
+table-here : (c : tie.After-answer) → TableRows (c .before .before .before .before .args .cells .now) (c .before .before .read-table .result .starts) (c .answer .given .0 .0) (c .answer .given .0 .1 .0)
+table-here c = table-rows (c .before .before .before .before .args .cells .now) (c .before .before .read-table .ensures) (c .answer .given .1)
+
 all-pairs-requires : tie.Need-all-pairs-requires
-all-pairs-requires c κs = (laid-rows (table-rows (c .before .before .before .before .before .before .before .before .before .before .args .cells .now) (c .before .before .before .before .before .before .before .before .read-table .ensures) (c .before .before .before .before .before .before .answer .given .1)), refl)
+all-pairs-requires c κs = (laid-rows (table-here (c .before .before .before .before .before .before)), refl)
 
 enum-told : tie.Need-enum-told
 enum-told c = search needs
@@ -22,7 +27,7 @@ enum-told c = search needs
 returns : tie.Need-returns
 unfolding laid-rows
 returns c =
-    let k = table-rows (c .before .before .before .before .before .before .before .before .before .before .before .args .cells .now) (c .before .before .before .before .before .before .before .before .before .read-table .ensures) (c .before .before .before .before .before .before .before .answer .given .1) in
+    let k = table-here (c .before .before .before .before .before .before .before) in
     all-worked k (c .all-pairs .ensures (laid-rows k))
 
 returns-2 : tie.Need-returns-2

@@ -14,23 +14,27 @@ abbrev μ-loop : tie.MeasureT-loop
 μ-loop cells ends starts whole₀ notes₀ cost₀ place₀ count first from begin end last₀ old₀ new₀ whole notes cost place last old new =
     count - last
 
+-- what is given
+abbrev Given : tie.Start Inv-loop μ-loop → Type 0
+Given s = RowsAt (s .args .cells .now) (s .args .ends .now) (s .args .starts .now) (s .args .notes .now) (arrays (s .args .whole .now) (s .args .cost .now) (s .args .place .now))
+    (s .args .count) (s .args .first) (s .args .from) (s .args .begin) (s .args .end)
+
 -- after the call of `note_row`
-row-noted : (c : tie.After-note-row Inv-loop μ-loop) (g : RowsAt (c .before .before .before .before .before .before .before .args .cells .now)
-    (c .before .before .before .before .before .before .before .args .ends .now) (c .before .before .before .before .before .before .before .args .starts .now)
-    (c .before .before .before .before .before .before .before .args .notes .now)
-    (arrays (c .before .before .before .before .before .before .before .args .whole .now) (c .before .before .before .before .before .before .before .args .cost .now)
-    (c .before .before .before .before .before .before .before .args .place .now))
-    (c .before .before .before .before .before .before .before .args .count) (c .before .before .before .before .before .before .before .args .first)
-    (c .before .before .before .before .before .before .before .args .from) (c .before .before .before .before .before .before .before .args .begin)
-    (c .before .before .before .before .before .before .before .args .end))
-    → NotedAt (g .ready) (c .before .before .before .before .before .loop .last + 1) (c .before .before .before .before .before .loop .new) (c .before .before .before .row-end .result)
-    (c .note-row .last .1 .1 .1 .0)
-    (arrays (c .before .before .before .before .before .loop .whole) (c .before .before .before .before .before .loop .cost) (c .before .before .before .before .before .loop .place))
-row-noted c g =
-    let i = c .before .before .before .before in
-    let e = c .before .before .before .row-end in
-    next-noted (g .ready) (i .before .loop .inv g) (i .loop-test .taken) (e .result) (e .ensures) (c .note-row .last .1 .1 .1 .0)
-    (c .note-row .ensures (next-row (g .ready) (i .before .loop .inv g) (i .loop-test .taken) (e .result) (e .ensures)))
+module _ (c : tie.After-note-row Inv-loop μ-loop) where
+  abbrev turn : tie.In-loop Inv-loop μ-loop
+  turn = c .before .before .before .before
+
+  abbrev start : tie.Start Inv-loop μ-loop
+  start = turn .before .before .before
+
+  row-noted : (g : Given start)
+      → NotedAt (g .ready) (turn .before .loop .last + 1) (turn .before .loop .new) (c .before .before .before .row-end .result) (c .note-row .last .1 .1 .1 .0)
+      (arrays (turn .before .loop .whole) (turn .before .loop .cost) (turn .before .loop .place))
+  row-noted g =
+      let k = turn .before .loop .inv g in
+      let e = c .before .before .before .row-end in
+      next-noted (g .ready) k (turn .loop-test .taken) (e .result) (e .ensures) (c .note-row .last .1 .1 .1 .0)
+      (c .note-row .ensures (next-row (g .ready) k (turn .loop-test .taken) (e .result) (e .ensures)))
 
 loop-holds : tie.Need-loop-holds Inv-loop μ-loop
 loop-holds c = λ g. g .kept
@@ -57,7 +61,7 @@ add-last c = record { fits = omega (arith, c .before .before .before .before .lo
 keep-pair-requires : tie.Need-keep-pair-requires Inv-loop μ-loop
 keep-pair-requires c κs =
     let n = c .before .before .before .before in
-    let g = n .before .before .before .before .before .before .before .pre in
+    let g = start n .pre in
     pair-at (g .ready) (row-noted n g)
 
 loop-less : tie.Need-loop-less Inv-loop μ-loop
