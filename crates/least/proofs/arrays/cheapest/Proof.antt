@@ -18,20 +18,23 @@ loop-holds : tie.Need-loop-holds Inv-loop μ-loop
 loop-holds c = λ g. cheap-start g
 
 -- what one turn does
-turned : (c : tie.After-after Inv-loop μ-loop) (g : Pair (c .before .before .before .before .before .before .args .ends .now)
-    (c .before .before .before .before .before .before .args .whole .now) (c .before .before .before .before .before .before .args .notes .now)
-    (c .before .before .before .before .before .before .args .last) (c .before .before .before .before .before .before .args .at)
-    (c .before .before .before .before .before .before .args .stop) (c .before .before .before .before .before .before .args .agreed))
-    → CheapAt g (c .before .if1 .best) (c .before .if1 .place) (c .after .result) × (c .before .before .before .before .before .loop .q < c .after .result)
-turned c g =
-    let i = c .before .before .before .before in
-    let n = c .before .before .before .note-at in
-    ⊎-elim
-    (λ w. turn-open g (i .loop-test .taken) (i .before .loop .inv g) (n .result) (n .ensures) (c .after .result) (c .after .ensures)
-    (w .0 .taken) (w .1 .result) (w .1 .ensures) (c .before .if1 .best) (w .3 ∙ w .2 .ensures) (c .before .if1 .place) (w .4))
-    (λ w. turn-closed g (i .loop-test .taken) (i .before .loop .inv g) (n .result) (n .ensures) (c .after .result) (c .after .ensures)
-    (w .0 .left) (c .before .if1 .best) (w .1) (c .before .if1 .place) (w .2))
-    (c .before .if1 .came)
+module _ (c : tie.After-after Inv-loop μ-loop) where
+  abbrev turn : tie.In-loop Inv-loop μ-loop
+  turn = c .before .before .before .before
+
+  abbrev start : tie.Start Inv-loop μ-loop
+  start = c .before .before .before .before .before .before
+
+  turned : (g : Pair (start .args .ends .now) (start .args .whole .now) (start .args .notes .now) (start .args .last) (start .args .at) (start .args .stop) (start .args .agreed))
+      → CheapAt g (c .before .if1 .best) (c .before .if1 .place) (c .after .result) × (turn .before .loop .q < c .after .result)
+  turned g =
+      let n = c .before .before .before .note-at in
+      ⊎-elim
+      (λ w. turn-open g (turn .loop-test .taken) (turn .before .loop .inv g) (n .result) (n .ensures) (c .after .result) (c .after .ensures)
+      (w .0 .taken) (w .1 .result) (w .1 .ensures) (c .before .if1 .best) (w .3 ∙ w .2 .ensures) (c .before .if1 .place) (w .4))
+      (λ w. turn-closed g (turn .loop-test .taken) (turn .before .loop .inv g) (n .result) (n .ensures) (c .after .result) (c .after .ensures)
+      (w .0 .left) (c .before .if1 .best) (w .1) (c .before .if1 .place) (w .2))
+      (c .before .if1 .came)
 
 note-at-requires : tie.Need-note-at-requires Inv-loop μ-loop
 note-at-requires c κs = omega (arith, c .before .before .pre .within)
@@ -46,13 +49,16 @@ consider-requires : tie.Need-consider-requires Inv-loop μ-loop
 consider-requires c κs = tt
 
 add-place : tie.Need-add-place Inv-loop μ-loop
-add-place c = record { fits = omega (arith, c .before .before .before .before .before .loop-test .taken, c .before .before .before .before .before .before .before .pre .within, c .before .before .before .before .before .before .loop .inv (c .before .before .before .before .before .before .before .pre) .small) }
+add-place c =
+    let i = c .before .before .before .before .before in
+    let g = i .before .before .pre in
+    record { fits = omega (arith, i .loop-test .taken, g .within, i .before .loop .inv g .small) }
 
 after-requires : tie.Need-after-requires Inv-loop μ-loop
 after-requires c κs = omega (arith, c .before .before .before .before .before .pre .within)
 
 loop-less : tie.Need-loop-less Inv-loop μ-loop
-loop-less c = omega (arith, c .before .before .before .before .loop-test .taken, turned c (c .before .before .before .before .before .before .pre) .1)
+loop-less c = omega (arith, turn c .loop-test .taken, turned c (start c .pre) .1)
 
 loop-again : tie.Need-loop-again Inv-loop μ-loop
 loop-again c = λ g. turned c g .0

@@ -1,4 +1,5 @@
 use mathlib.Core.Path.{_≡_, ap, ap₂}
+use mathlib.Core.List.{List}
 use Prim.Native.Nat.{ℕ, _+_, _*_}
 use native.Mathlib.Omega.{arith}
 use lib.ListN.{set}
@@ -11,10 +12,19 @@ use borrow.Author.Needs.{needs}
 use Rattle.least.proofs.arrays.keep_pair.Statement.{statement}
 use Rattle.least.proofs.arrays.keep_pair.Tie as tie
 
+-- where the entry goes
+abbrev put : tie.Start → List ℕ → ℕ → List ℕ
+put s xs v = set xs (64 * s .args .first + s .args .last) v
+
 -- what the two calls give, for rows that the pair stands for
-module _ (c : tie.After-cheapest) (g : PairAt (c .before .before .before .args .ends .now) (c .before .before .before .args .whole .now)
-    (c .before .before .before .args .notes .now) (c .before .before .before .args .first) (c .before .before .before .args .last)
-    (c .before .before .before .args .at) (c .before .before .before .args .stop)) where
+module _ (c : tie.After-cheapest) where
+  abbrev start : tie.Start
+  start = c .before .before .before
+
+  abbrev Given : Type 0
+  Given = PairAt (start .args .ends .now) (start .args .whole .now) (start .args .notes .now) (start .args .first) (start .args .last) (start .args .at) (start .args .stop)
+
+module _ (c : tie.After-cheapest) (g : Given c) where
   agreed : c .before .before .agreed-in .result ≡ a g
   agreed = c .before .before .agreed-in .ensures (keep-walk g)
 
@@ -34,7 +44,7 @@ cheapest-requires : tie.Need-cheapest-requires
 cheapest-requires c κs = keep-pair (c .before .before .pre) (c .before .agreed-in .result) (c .before .agreed-in .ensures (keep-walk (c .before .before .pre)))
 
 add-whole : tie.Need-add-whole
-add-whole c = record { fits = omega (arith, agreed c (c .before .before .before .pre), least c (c .before .before .before .pre), keep-small (c .before .before .before .pre)) }
+add-whole c = record { fits = omega (arith, agreed c (start c .pre), least c (start c .pre), keep-small (start c .pre)) }
 
 mul-whole : tie.Need-mul-whole
 mul-whole c = search needs
@@ -74,10 +84,9 @@ element-write-place c = search needs
 
 returns : tie.Need-returns
 returns c = λ g.
-    keeps g _ _ _ _ _ _
-    (ap₂ (λ (x y : ℕ). set (c .before .before .before .args .whole .now) (64 * c .before .before .before .args .first + c .before .before .before .args .last) (x + y)) (agreed c g) (least c g))
-    (ap (λ (x : ℕ). set (c .before .before .before .args .cost .now) (64 * c .before .before .before .args .first + c .before .before .before .args .last) x) (least c g))
-    (ap (λ (x : ℕ). set (c .before .before .before .args .place .now) (64 * c .before .before .before .args .first + c .before .before .before .args .last) x) (chosen c g))
+    (let s = start c in
+    keeps g _ _ _ _ _ _ (ap₂ (λ (x y : ℕ). put s (s .args .whole .now) (x + y)) (agreed c g) (least c g))
+    (ap (put s (s .args .cost .now)) (least c g)) (ap (put s (s .args .place .now)) (chosen c g)))
 
 pub keep-pair-spec : {M : Type 1} → statement M
 keep-pair-spec =

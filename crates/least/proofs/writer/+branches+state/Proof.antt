@@ -1,5 +1,5 @@
 use mathlib.Core.Path.{_≡_, refl}
-use Prim.Native.Nat.{_+_, _-_}
+use Prim.Native.Nat.{ℕ, _+_, _-_, _<_}
 use native.Mathlib.Omega.{arith}
 use borrow.Author.Needs.{needs}
 use lib.ListN.{getD, set}
@@ -10,7 +10,6 @@ use Rattle.plan.proofs.RowsLaws.{column-length}
 use Rattle.least.specs.Writing.{ToWrite, ToWriteAll}
 use Rattle.least.proofs.ChooseLaws.{few-open}
 use Rattle.least.proofs.WritingLaws.{leaf-room, leaf-written, Inner, inner, Going, going-start, going-done, Branch, branch, count-few}
-use Prim.Native.Nat.{ℕ, _<_}
 use borrow.Fn.Kinds.{In}
 use borrow.Fn.PlainCycle.{Measures, is, falls, and}
 use Rattle.least.proofs.writer.branches.Reads as branches
@@ -60,10 +59,20 @@ abbrev branches-μ-loop : branches-lts.MeasureT-loop
 branches-μ-loop table starts masks₀ column₀ place out₀ first end k at row₀ next₀ masks column out row next = end - row
 
 -- the branch of a turn
-branch-here : (t : ℕ) (c : branches-lts.After-run-length (branches-with t) (branches-at t) branches.Post branches-Inv-loop branches-μ-loop) (a : ℕ)
-    → a ≡ arity (getD (c .before .before .before .before .before .loop .column) (c .before .before .before .before .before .loop .row) 0) → (q : ToWriteAll (c .before .before .before .before .before .before .before .args .table .now) (c .before .before .before .before .before .before .before .args .starts .now) (c .before .before .before .before .before .before .before .args .masks .now) (c .before .before .before .before .before .before .before .args .column .now) (c .before .before .before .before .before .before .before .args .place .now) (c .before .before .before .before .before .before .before .args .out .now) (c .before .before .before .before .before .before .before .args .first) (c .before .before .before .before .before .before .before .args .end) (c .before .before .before .before .before .before .before .args .k) (c .before .before .before .before .before .before .before .args .at))
-    → Branch (c .before .before .before .before .before .before .before .args .table .now) (c .before .before .before .before .before .before .before .args .starts .now) (c .before .before .before .before .before .before .before .args .place .now) (c .before .before .before .before .before .before .before .args .masks .now) (c .before .before .before .before .before .before .before .args .column .now) (c .before .before .before .before .before .before .before .args .out .now) (c .before .before .before .before .before .before .before .args .end) (c .before .before .before .before .before .before .before .args .k) (c .before .before .before .before .before .before .before .args .at) (writes (q .plans)) (c .before .before .before .before .before .loop .masks) (c .before .before .before .before .before .loop .column) (c .before .before .before .before .before .loop .out) (c .before .before .before .before .before .loop .row) (c .before .before .before .before .before .loop .next) (c .run-length .result) (getD (c .before .before .before .before .before .loop .column) (c .before .before .before .before .before .loop .row) 0) (a)
-branch-here t c a e q = branch (c .before .before .before .before .before .loop .inv q) (c .run-length .result) _ a (c .before .before .before .before .loop-test .taken) refl (c .run-length .ensures) e
+module _ (t : ℕ) (c : branches-lts.After-run-length (branches-with t) (branches-at t) branches.Post branches-Inv-loop branches-μ-loop) where
+  abbrev turn : branches-lts.At-loop (branches-with t) (branches-at t) branches.Post branches-Inv-loop branches-μ-loop
+  turn = c .before .before .before .before .before
+
+  abbrev begun : branches-lts.Start (branches-with t) (branches-at t) branches.Post branches-Inv-loop branches-μ-loop
+  begun = c .before .before .before .before .before .before .before
+
+  abbrev here : ℕ
+  here = getD (turn .loop .column) (turn .loop .row) 0
+
+  branch-here : (a : ℕ) → a ≡ arity here
+      → (q : ToWriteAll (begun .args .table .now) (begun .args .starts .now) (begun .args .masks .now) (begun .args .column .now) (begun .args .place .now) (begun .args .out .now) (begun .args .first) (begun .args .end) (begun .args .k) (begun .args .at))
+      → Branch (begun .args .table .now) (begun .args .starts .now) (begun .args .place .now) (begun .args .masks .now) (begun .args .column .now) (begun .args .out .now) (begun .args .end) (begun .args .k) (begun .args .at) (writes (q .plans)) (turn .loop .masks) (turn .loop .column) (turn .loop .out) (turn .loop .row) (turn .loop .next) (c .run-length .result) here a
+  branch-here a e q = branch (turn .loop .inv q) (c .run-length .result) _ a (c .before .before .before .before .loop-test .taken) refl (c .run-length .ensures) e
 
 branches-loop-holds : (t : ℕ) → branches-lts.Need-loop-holds (branches-with t) (branches-at t) branches.Post branches-Inv-loop branches-μ-loop
 branches-loop-holds t c = λ q. going-start q
@@ -90,48 +99,48 @@ branches-element-copy-out-c : (t : ℕ) → branches-lts.Need-element-copy-out-c
 branches-element-copy-out-c t c = search needs
 
 branches-mul-out : (t : ℕ) → branches-lts.Need-mul-out (branches-with t) (branches-at t) branches.Post branches-Inv-loop branches-μ-loop
-branches-mul-out t c = omega (arith, branch-here t (c .before) _ refl (c .before .before .before .before .before .before .before .before .pre .1) .room)
+branches-mul-out t c = omega (arith, branch-here t (c .before) _ refl (begun t (c .before) .pre .1) .room)
 
 branches-element-write-out : (t : ℕ) → branches-lts.Need-element-write-out (branches-with t) (branches-at t) branches.Post branches-Inv-loop branches-μ-loop
-branches-element-write-out t c = branch-here t (c .before) _ refl (c .before .before .before .before .before .before .before .before .pre .1) .room
+branches-element-write-out t c = branch-here t (c .before) _ refl (begun t (c .before) .pre .1) .room
 
 branches-arity-of-requires : (t : ℕ) → branches-lts.Need-arity-of-requires (branches-with t) (branches-at t) branches.Post branches-Inv-loop branches-μ-loop
 branches-arity-of-requires t c κs = search needs
 
 branches-add-open : (t : ℕ) → branches-lts.Need-add-open (branches-with t) (branches-at t) branches.Post branches-Inv-loop branches-μ-loop
 branches-add-open t c =
-    let h = branch-here t (c .before .before) (c .arity-of .result) (c .arity-of .ensures) (c .before .before .before .before .before .before .before .before .before .pre .1) in
+    let h = branch-here t (c .before .before) (c .arity-of .result) (c .arity-of .ensures) (begun t (c .before .before) .pre .1) in
     omega (arith, few-open (c .before .before .before .before .before .before .before .before .before .args .table .now) (c .before .before .before .before .before .before .before .before .before .args .starts .now) (c .before .before .before .before .before .before .before .loop .masks) (h .below .state))
 
 branches-add-state : (t : ℕ) → branches-lts.Need-add-state (branches-with t) (branches-at t) branches.Post branches-Inv-loop branches-μ-loop
 branches-add-state t c =
-    let q = c .before .before .before .before .before .before .before .before .before .before .before .before .pre .1 in
+    let q = begun t (c .before .before .before .before .before) .pre .1 in
     let h = branch-here t (c .before .before .before .before .before) _ refl q in
     let w = h .few in
     omega (arith, q .inside, q .source .many)
 
 branches-add-state-2 : (t : ℕ) → branches-lts.Need-add-state-2 (branches-with t) (branches-at t) branches.Post branches-Inv-loop branches-μ-loop
 branches-add-state-2 t c =
-    let h = branch-here t (c .before .before .before .before .before) _ refl (c .before .before .before .before .before .before .before .before .before .before .before .before .pre .1) in
+    let h = branch-here t (c .before .before .before .before .before) _ refl (begun t (c .before .before .before .before .before) .pre .1) in
     omega (arith, h .room)
 
 branches-state-requires : (t : ℕ) → branches-lts.Need-state-requires (branches-with t) (branches-at t) branches.Post branches-Inv-loop branches-μ-loop
 branches-state-requires t c κs =
-    let q = c .before .before .before .before .before .before .before .before .before .before .before .before .pre .1 in
+    let q = begun t (c .before .before .before .before .before) .pre .1 in
     let h = branch-here t (c .before .before .before .before .before) (c .before .before .before .arity-of .result) (c .before .before .before .arity-of .ensures) q in
     let g = c .before .before .before .before .before .before .before .before .before .before .loop .inv q in
-    (omega (arith, c .before .before .before .before .before .before .before .before .before .before .before .before .pre .0, h .room, g .later), h .below)
+    (omega (arith, begun t (c .before .before .before .before .before) .pre .0, h .room, g .later), h .below)
 
 branches-add-row : (t : ℕ) → branches-lts.Need-add-row (branches-with t) (branches-at t) branches.Post branches-Inv-loop branches-μ-loop
 branches-add-row t c =
-    let q = c .before .before .before .before .before .before .before .before .before .before .before .before .before .pre .1 in
+    let q = begun t (c .before .before .before .before .before .before) .pre .1 in
     let h = branch-here t (c .before .before .before .before .before .before) _ refl q in
     let w = h .few in
     omega (arith, q .inside, q .source .many)
 
 branches-loop-less : (t : ℕ) → branches-lts.Need-loop-less (branches-with t) (branches-at t) branches.Post branches-Inv-loop branches-μ-loop
 branches-loop-less t c =
-    let q = c .before .before .before .before .before .before .before .before .before .before .before .before .before .pre .1 in
+    let q = begun t (c .before .before .before .before .before .before) .pre .1 in
     let h = branch-here t (c .before .before .before .before .before .before) _ refl q in
     omega (arith, h .few, h .some)
 
@@ -144,11 +153,19 @@ branches-returns : (t : ℕ) → branches-lts.Need-returns (branches-with t) (br
 branches-returns t c = λ q. going-done (c .before .loop .inv q) (omega arith)
 
 -- the inner state, its place chosen and closed
-inner-here : (t : ℕ) (c : state-lts.After-run-count (state-with t) (state-at t) state.Post) (q : ToWrite (c .before .before .before .before .before .before .before .before .before .before .before .args .table .now) (c .before .before .before .before .before .before .before .before .before .before .before .args .starts .now) (c .before .before .before .before .before .before .before .before .before .before .before .args .masks .now) (c .before .before .before .before .before .before .before .before .before .before .before .args .column .now) (c .before .before .before .before .before .before .before .before .before .before .before .args .place .now) (c .before .before .before .before .before .before .before .before .before .before .before .args .out .now) (c .before .before .before .before .before .before .before .before .before .before .before .args .first) (c .before .before .before .before .before .before .before .before .before .before .before .args .end) (c .before .before .before .before .before .before .before .before .before .before .before .args .k) (c .before .before .before .before .before .before .before .before .before .before .before .args .at))
-    → Inner (c .before .before .before .before .before .before .before .before .before .before .before .args .table .now) (c .before .before .before .before .before .before .before .before .before .before .before .args .starts .now) (c .before .before .before .before .before .before .before .before .before .before .before .args .masks .now) (c .before .before .before .before .before .before .before .before .before .before .before .args .column .now) (c .before .before .before .before .before .before .before .before .before .before .before .args .place .now) (c .before .before .before .before .before .before .before .before .before .before .before .args .out .now) (c .before .before .before .before .before .before .before .before .before .before .before .args .first) (c .before .before .before .before .before .before .before .before .before .before .before .args .end) (c .before .before .before .before .before .before .before .before .before .before .before .args .k) (c .before .before .before .before .before .before .before .before .before .before .before .args .at) (c .before .before .before .before .close-rows .last .1 .1 .0) (c .before .before .before .before .close-rows .last .1 .1 .1 .0) (set (set (c .before .before .before .before .before .before .before .before .before .before .before .args .out .now) (c .before .before .before .before .before .before .before .before .before .before .before .args .at) (c .before .before .before .before .before .before .before .choose .result)) (c .before .before .before .before .before .before .before .before .before .before .before .args .at + 1) (c .run-count .result)) (write (q .plan))
-inner-here t c q =
-    let p = c .before .before .before .before .before .before .before .choose .ensures (q .state) in
-    inner q _ _ (c .before .before .before .before .before .before .before .choose .result) (c .run-count .result) (p .0) (p .1) (c .before .before .before .before .close-rows .ensures) (c .run-count .ensures)
+module _ (t : ℕ) (c : state-lts.After-run-count (state-with t) (state-at t) state.Post) where
+  abbrev entered : state-lts.Start (state-with t) (state-at t) state.Post
+  entered = c .before .before .before .before .before .before .before .before .before .before .before
+
+  abbrev chosen : ℕ
+  chosen = c .before .before .before .before .before .before .before .choose .result
+
+  inner-here : (q : ToWrite (entered .args .table .now) (entered .args .starts .now) (entered .args .masks .now) (entered .args .column .now) (entered .args .place .now) (entered .args .out .now) (entered .args .first) (entered .args .end) (entered .args .k) (entered .args .at))
+      → Inner (entered .args .table .now) (entered .args .starts .now) (entered .args .masks .now) (entered .args .column .now) (entered .args .place .now) (entered .args .out .now) (entered .args .first) (entered .args .end) (entered .args .k) (entered .args .at) (c .before .before .before .before .close-rows .last .1 .1 .0) (c .before .before .before .before .close-rows .last .1 .1 .1 .0)
+      (set (set (entered .args .out .now) (entered .args .at) chosen) (entered .args .at + 1) (c .run-count .result)) (write (q .plan))
+  inner-here q =
+      let p = c .before .before .before .before .before .before .before .choose .ensures (q .state) in
+      inner q _ _ chosen (c .run-count .result) (p .0) (p .1) (c .before .before .before .before .close-rows .ensures) (c .run-count .ensures)
 
 state-sub-out : (t : ℕ) → state-lts.Need-sub-out (state-with t) (state-at t) state.Post
 state-sub-out t c = search needs
@@ -191,7 +208,7 @@ state-run-count-requires t c κs = search needs
 
 state-cast-count : (t : ℕ) → state-lts.Need-cast-count (state-with t) (state-at t) state.Post
 state-cast-count t c =
-    let q = c .before .before .before .before .before .before .before .before .before .before .before .pre .1 in
+    let q = entered t c .pre .1 in
     let h = c .before .before .before .before .close-rows .last .1 .1 .1 .0 in
     let a = c .before .before .before .before .before .before .before .before .before .before .before .args in
     let z = inner-here t c q .ready .room .column in
@@ -204,13 +221,13 @@ state-mul-out-2 : (t : ℕ) → state-lts.Need-mul-out-2 (state-with t) (state-a
 state-mul-out-2 t c = search needs
 
 state-element-write-out-2 : (t : ℕ) → state-lts.Need-element-write-out-2 (state-with t) (state-at t) state.Post
-state-element-write-out-2 t c = omega (arith, inner-here t c (c .before .before .before .before .before .before .before .before .before .before .before .pre .1) .room)
+state-element-write-out-2 t c = omega (arith, inner-here t c (entered t c .pre .1) .room)
 
 state-mul-out-3 : (t : ℕ) → state-lts.Need-mul-out-3 (state-with t) (state-at t) state.Post
 state-mul-out-3 t c = search needs
 
 state-element-write-out-3 : (t : ℕ) → state-lts.Need-element-write-out-3 (state-with t) (state-at t) state.Post
-state-element-write-out-3 t c = omega (arith, inner-here t c (c .before .before .before .before .before .before .before .before .before .before .before .pre .1) .room)
+state-element-write-out-3 t c = omega (arith, inner-here t c (entered t c .pre .1) .room)
 
 state-sub-branches : (t : ℕ) → state-lts.Need-sub-branches (state-with t) (state-at t) state.Post
 state-sub-branches t c = search needs
@@ -220,8 +237,8 @@ state-add-branches t c = search needs
 
 state-branches-requires : (t : ℕ) → state-lts.Need-branches-requires (state-with t) (state-at t) state.Post
 state-branches-requires t c κs =
-    let i = inner-here t (c .before .before .before) (c .before .before .before .before .before .before .before .before .before .before .before .before .before .before .pre .1) in
-    (omega (arith, c .before .before .before .before .before .before .before .before .before .before .before .before .before .before .pre .0, i .room), i .ready)
+    let i = inner-here t (c .before .before .before) (entered t (c .before .before .before) .pre .1) in
+    (omega (arith, entered t (c .before .before .before) .pre .0, i .room), i .ready)
 
 state-returns-2 : (t : ℕ) → state-lts.Need-returns-2 (state-with t) (state-at t) state.Post
 state-returns-2 t c =
