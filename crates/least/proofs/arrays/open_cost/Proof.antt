@@ -1,3 +1,4 @@
+use native.Mathlib.Omega.{arith}
 use borrow.Author.Needs.{needs}
 use Rattle.least.proofs.arrays.open_cost.Statement.{statement}
 use Rattle.least.proofs.arrays.open_cost.Tie as tie
@@ -24,7 +25,7 @@ mul-result-3 : tie.Need-mul-result-3
 mul-result-3 c = search needs
 
 sub-result : tie.Need-sub-result
-sub-result c = search needs
+sub-result c = omega (arith, c .before .before .before .before .pre .2)
 
 returns : tie.Need-returns
 returns c = search needs
