@@ -1,5 +1,8 @@
+use mathlib.Core.Path.{_≡_, sym, _∙_}
+use mathlib.Core.Bool.{true, false}
 use borrow.Author.Needs.{needs}
 use native.Mathlib.Numerals.{add-one}
+use Rattle.plan.specs.Runs.{agree}
 use Rattle.least.proofs.arrays.next_note.Statement.{statement}
 use Rattle.least.proofs.arrays.next_note.Tie as tie
 
@@ -7,7 +10,9 @@ same-symbol-requires : tie.Need-same-symbol-requires
 same-symbol-requires c κs = search needs
 
 returns : tie.Need-returns
-returns c = rw (← (c .before .same-symbol .ensures), c .if1 .taken)
+returns c =
+    let e : agree (c .before .before .args .c) (c .before .before .args .d) ≡ true = sym (c .before .same-symbol .ensures) ∙ c .if1 .taken in
+    rw e
 
 cast-from : tie.Need-cast-from
 cast-from c = search needs
@@ -37,7 +42,10 @@ cast-t17 : tie.Need-cast-t17
 cast-t17 c = search needs
 
 returns-2 : tie.Need-returns-2
-returns-2 c = rw (← (c .before .before .before .before .before .same-symbol .ensures), c .before .before .before .before .if1 .left, add-one (c .before .before .before .before .before .before .args .s .runs), add-one (c .before .before .before .before .before .before .args .last))
+returns-2 c =
+    let a = c .before .before .before .before .before .before .args in
+    let e : agree (a .c) (a .d) ≡ false = sym (c .before .before .before .before .before .same-symbol .ensures) ∙ c .before .before .before .before .if1 .left in
+    rw (e, add-one (a .s .runs), add-one (a .last))
 
 pub next-note-spec : {M : Type 1} → statement M
 next-note-spec =
