@@ -27,7 +27,7 @@ use Rattle.least.proofs.Scan.{stuck-next}
 column-count : (p : ℕ) (rows : List (List ℕ)) → length (runs p rows) ≡ runCount (map (root p) rows)
 column-count p rows = rw (group-on (root p) (close p) rows) (count-runs (map (root p) rows) (map (close p) rows) (simp length-map))
 
-none-stuck : (rows : List (List ℕ)) → Stuck 0 rows
+pub none-stuck : (rows : List (List ℕ)) → Stuck 0 rows
 none-stuck rows i c h a = omega arith
 
 pub one-stuck : (i : ℕ) (rows : List (List ℕ)) → (runCount (map (root i) rows) ≡ 1 → ⊥) → Stuck i rows → Stuck (i + 1) rows

@@ -5,7 +5,7 @@ use borrow.Author.Needs.{needs}
 use borrow.Author.Tests.{eqb-true, eqb-false}
 use Rattle.plan.specs.States.{rowsIn}
 use Rattle.least.specs.Least.{Stuck}
-use Rattle.least.proofs.ChooseLaws.{one-stuck, chosen-agreed, chosen-entry, few-open}
+use Rattle.least.proofs.ChooseLaws.{none-stuck, one-stuck, chosen-agreed, chosen-entry, few-open}
 use Rattle.least.proofs.writer.choose.Statement.{statement}
 use Rattle.least.proofs.writer.choose.Tie as tie
 
@@ -16,7 +16,7 @@ abbrev μ-loop : tie.MeasureT-loop
 μ-loop table starts masks place first end k i₀ i = k - i
 
 loop-holds : tie.Need-loop-holds Inv-loop μ-loop
-loop-holds c = search needs
+loop-holds c = (omega arith, none-stuck _)
 
 cast-loop : tie.Need-cast-loop Inv-loop μ-loop
 cast-loop c = search needs
