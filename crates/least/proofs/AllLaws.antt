@@ -7,10 +7,6 @@ use lib.ListN.{length, getD, take, drop}
 use Rattle.table.specs.All.{All}
 
 module _ {A : Type 0} where
-  pub all-each : (P Q : A → Type 0) → ((x : A) → P x → Q x) → (xs : List A) → All P xs → All Q xs
-  all-each P Q h [] a = tt
-  all-each P Q h (x ∷ xs) a = (h x (a .0), all-each P Q h xs (a .1))
-
   pub all-map : (P Q : A → Type 0) (f : A → A) → ((x : A) → P x → Q (f x)) → (xs : List A) → All P xs → All Q (map f xs)
   all-map P Q f h [] a = tt
   all-map P Q f h (x ∷ xs) a = (h x (a .0), all-map P Q f h xs (a .1))

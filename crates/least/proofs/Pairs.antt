@@ -9,7 +9,7 @@ use lib.Seq.{length-slice}
 use Rattle.table.specs.All.{All}
 use Rattle.plan.specs.Runs.{runs}
 use Rattle.plan.specs.Plans.{Measure}
-use Rattle.plan.proofs.RunsLaws.{Fits}
+use Rattle.plan.proofs.RunsLaws.{Fits, fits-more}
 use Rattle.least.specs.Best.{argmin, firstOver, leastOver, through, best}
 use Rattle.least.specs.Least.{Least, Chosen}
 use Rattle.least.specs.Entries.{between, Closes, stop, step, Entry, none, leaf, inner}
@@ -18,7 +18,7 @@ use Rattle.least.proofs.AllLaws.{all-take, all-drop}
 use Rattle.least.proofs.Best.{best-least, least-one, LeastRuns, leaf-least, node-least}
 use Rattle.least.proofs.Closing.{closes-length, order-does-not-matter}
 use Rattle.least.proofs.Counts.{Solved, sums, adds, place-least, place-whole}
-use Rattle.least.proofs.Scan.{Scan, scan, Scanned, scan-closes, fits-more, fits-agreed}
+use Rattle.least.proofs.Scan.{Scan, scan, Scanned, scan-closes, fits-agreed}
 use Rattle.least.proofs.Building.{chosen-one, chosen-cheapest}
 
 -- rows that fit still do when agreed places are closed

@@ -17,7 +17,7 @@ use Rattle.plan.specs.Plans.{Measure}
 use Rattle.plan.proofs.RunsLaws.{Fits, fits-close}
 use Rattle.least.specs.Least.{Agree, Stuck}
 use Rattle.least.specs.Entries.{Closes, stop, step}
-use Rattle.least.proofs.AllLaws.{all-each, all-map, all-both, all-unmap}
+use Rattle.least.proofs.AllLaws.{all-map, all-both, all-unmap}
 use Rattle.least.proofs.Agreed.{run-agrees, run-is, no-run}
 
 -- what a scan has found: what the closed cells weigh, the open places left, and the rows
@@ -69,10 +69,6 @@ stuck-close (suc i) rows s j c h a = s j c h (record {
   fixed = rw (length-map rows (close (suc i))) at (a .fixed);
   some = rw (length-map rows (close (suc i))) at (a .some);
 })
-
--- rows that fit still do where one cell more is allowed
-pub fits-more : (n k : ℕ) (rows : List (List ℕ)) → All (Fits n k) rows → All (Fits (suc n) k) rows
-fits-more n k = all-each (Fits n k) (Fits (suc n) k) (λ (r : List ℕ) (f : Fits n k r). (f .0, omega arith))
 
 -- rows that agree fit below with one cell less
 pub fits-agreed : (n k i c : ℕ) (rows : List (List ℕ)) → i ≤ k → Agree i c rows → All (Fits (suc n) (suc k)) rows

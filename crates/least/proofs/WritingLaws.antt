@@ -15,14 +15,13 @@ use Rattle.plan.specs.Plans.{Plan, leaf, node, Branches, end, next, write, writ
 use Rattle.plan.specs.Column.{breaks, runLength, runCount}
 use Rattle.plan.specs.States.{rowsIn, columnIn, runsIn, Same}
 use Rattle.plan.specs.States as states
-use Rattle.plan.proofs.RunsLaws.{Fits, runs-fit}
+use Rattle.plan.proofs.RunsLaws.{Fits, fits-more, runs-fit}
 use Rattle.plan.proofs.RowsLaws.{rows-length, rows-kept, column-none, run-first, run-number, runs-closed, same-self, same-then, same-later}
 use Rattle.least.specs.Least.{Chosen, Built, Builts}
 use Rattle.least.specs.Entries.{Closes}
 use Rattle.least.specs.Writing.{Reached, AllReached, Source, Room, ToWrite, ToWriteAll, Written}
 use Rattle.least.proofs.Parts.{PartOf, Parts, group-parts}
 use Rattle.least.proofs.Counts.{run-closes}
-use Rattle.least.proofs.Scan.{fits-more}
 use Rattle.least.proofs.Building.{chosen-one}
 
 -- stores after others
