@@ -6,7 +6,8 @@ use Prim.Native.Nat.{ℕ, suc, _+_, _-_, _*_, _≤_, _<_}
 use native.Mathlib.Numerals.{add-one}
 use native.Mathlib.Omega.{arith}
 use lib.ListN.{length, getD, length-map}
-use Rattle.term.specs.Terms.{Terms, root, close}
+use Rattle.term.proofs.TermsLaws.{terms-long}
+use Rattle.term.specs.Terms.{root, close}
 use Rattle.term.specs.Terms as terms
 use Rattle.table.specs.All.{All}
 use Rattle.plan.specs.Runs.{runs}
@@ -54,13 +55,9 @@ module _ {place : List ℕ} {first end k : ℕ} {left : List (List ℕ)} (s : St
   chosen-entry = by-entry (s .source .places first (end - 1) (omega (arith, s .some)) (omega (arith, s .some, s .inside)) .1)
 
 -- a state has no more open places than a row has cells
-terms-count : {k : ℕ} {r : List ℕ} → Terms k r → k ≤ length r
-terms-count terms.none = omega arith
-terms-count (terms.more t) = omega (arith, terms-count t)
-
 few-places : (k : ℕ) (left : List (List ℕ)) → All (Fits 32 k) left → 0 < length left → k ≤ 32
 few-places k [] f h = absurd (omega arith)
-few-places k (r ∷ rs) f h = omega (arith, terms-count (f .0 .0), f .0 .1)
+few-places k (r ∷ rs) f h = omega (arith, terms-long (f .0 .0), f .0 .1)
 
 pub few-open : (t ss ms : List ℕ) {place : List ℕ} {first end k : ℕ} → State place first end k (rowsIn t ss ms first end) → k ≤ 32
 few-open t ss ms {place} {first} {end} {k} s = few-places k (rowsIn t ss ms first end) (s .fits) (omega (arith, rows-length t ss ms (end - first) first, s .some))

@@ -12,7 +12,7 @@ use Rattle.table.specs.All.{All}
 use Rattle.plan.specs.Plans.{Measure}
 use Rattle.least.specs.Least.{Agree, Stuck, Least}
 use Rattle.least.specs.Entries.{Closes, stop, step}
-use Rattle.least.proofs.AllLaws.{all-map, all-both, map-map-same}
+use Rattle.table.proofs.AllLaws.{all-map, all-both, map-map-same}
 use Rattle.least.proofs.Exchange.{Tri, before, equal, after, tri, agreed-least}
 
 -- a row that is agreed at i and at j

@@ -16,7 +16,7 @@ use Rattle.plan.proofs.RunsLaws.{Fits}
 use Rattle.least.specs.Entries.{wholeOf, Entry, none, Entries}
 use Rattle.least.specs.Notes.{noteIn, inWhole, Noted, Ended, NextRow, RowNoted, Alone}
 use Rattle.least.specs.Filling.{stopOf, PairAt, Arrays, cleared, Keeps, Done, Filled, Ready, RowHere, Kept, RowsDone, FirstAt, Rows}
-use Rattle.least.proofs.AllLaws.{all-at}
+use Rattle.table.proofs.AllLaws.{all-at}
 use Rattle.least.proofs.NotedLaws.{noted-alone}
 use Rattle.least.proofs.PairNotes.{between-last, whole-small}
 

@@ -1,5 +1,4 @@
 -- rows, their parts and what they agree on
-pub mod AllLaws
 pub mod Parts
 pub mod Agreed
 -- the least cost, and the builder's plan

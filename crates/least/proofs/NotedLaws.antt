@@ -1,7 +1,7 @@
 -- The notes at the cells of a row: of a row alone, past some terms, and with one row more.
 use mathlib.Core.Path.{_≡_, refl, sym, ap, _∙_}
 use mathlib.Core.Bool.{Bool, true, false, cond}
-use mathlib.Core.List.{List, [], _∷_, _++_, map}
+use mathlib.Core.List.{List, [], _∷_, _++_, map, map-append}
 use Prim.Native.Nat.{ℕ, zero, suc, _+_, _≤_, _<_}
 use native.Mathlib.Omega.{arith}
 use native.Mathlib.Numerals.{one-add}
@@ -15,7 +15,7 @@ use Rattle.plan.specs.Runs.{agree, runs}
 use Rattle.plan.proofs.RunsLaws.{agree-eq, group-some}
 use Rattle.least.specs.declared.arrays.Note.{Note}
 use Rattle.least.specs.Notes.{note, noteNext, noteFrom, noteOf, Noted, done, closed, opened}
-use Rattle.least.proofs.AllLaws.{all-front, all-back, map-++}
+use Rattle.table.proofs.AllLaws.{all-front, all-back}
 use Rattle.least.proofs.Agreed.{one-agrees}
 use Rattle.least.proofs.NoteLaws.{note-says, note-more}
 use Rattle.least.proofs.Suffixes.{back-back, backs, front-back-length, back-close}
@@ -99,9 +99,9 @@ module _ {W : ℕ → ℕ → ℕ} {first : ℕ} {N : ℕ → Note} {p r : ℕ} 
   -- it is the column's note
   pub next-note : noteWith ≡ noteOf W first (map (root 0) ((olds ++ (y ∷ [])) ++ (x ∷ [])))
   next-note =
-      let e : map (root 0) (olds ++ (y ∷ [])) ≡ map (root 0) olds ++ (root 0 y ∷ []) = map-++ (root 0) olds (y ∷ []) in
+      let e : map (root 0) (olds ++ (y ∷ [])) ≡ map (root 0) olds ++ (root 0 y ∷ []) = map-append (root 0) olds (y ∷ []) in
       let f : map (root 0) ((olds ++ (y ∷ [])) ++ (x ∷ [])) ≡ (map (root 0) olds ++ (root 0 y ∷ [])) ++ (root 0 x ∷ []) =
-      map-++ (root 0) (olds ++ (y ∷ [])) (x ∷ []) ∙ ap (λ (l : List ℕ). l ++ (root 0 x ∷ [])) e in
+      map-append (root 0) (olds ++ (y ∷ [])) (x ∷ []) ∙ ap (λ (l : List ℕ). l ++ (root 0 x ∷ [])) e in
       let n : N p ≡ noteOf W first (map (root 0) olds ++ (root 0 y ∷ [])) = rw e at note-is in
       rw (n, f, ← (length-map olds (root 0))) (sym (note-more W first (map (root 0) olds) (root 0 y) (root 0 x)))
 

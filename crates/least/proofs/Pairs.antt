@@ -14,7 +14,7 @@ use Rattle.least.specs.Best.{argmin, firstOver, leastOver, through, best
 use Rattle.least.specs.Least.{Least, Chosen}
 use Rattle.least.specs.Entries.{between, Closes, stop, step, Entry, none, leaf, inner}
 use Rattle.least.proofs.Minimum.{argmin-first}
-use Rattle.least.proofs.AllLaws.{all-take, all-drop}
+use Rattle.table.proofs.AllLaws.{all-take, all-drop}
 use Rattle.least.proofs.Best.{best-least, least-one, LeastRuns, leaf-least, node-least}
 use Rattle.least.proofs.Closing.{closes-length, order-does-not-matter}
 use Rattle.least.proofs.Counts.{Solved, sums, adds, place-least, place-whole}

@@ -18,7 +18,7 @@ use Rattle.plan.specs.Plans.{Measure}
 use Rattle.plan.proofs.RunsLaws.{agree-eq, agree-fixed}
 use Rattle.least.specs.Least.{Agree}
 use Rattle.least.specs.Entries.{Closes, stop, step}
-use Rattle.least.proofs.AllLaws.{all-take, all-drop}
+use Rattle.table.proofs.AllLaws.{all-take, all-drop}
 
 module _ {A : Type 0} where
   take-map : (f : A → A) (n : ℕ) (xs : List A) → take n (map f xs) ≡ map f (take n xs)

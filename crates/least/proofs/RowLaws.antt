@@ -2,7 +2,7 @@
 use mathlib.Core.Path.{_≡_, refl, sym, ap, subst, _∙_}
 use mathlib.Core.Logic.{_≢_}
 use mathlib.Core.Bool.{Bool, true, false, cond}
-use mathlib.Core.List.{List, [], _∷_, _++_, map, append-assoc}
+use mathlib.Core.List.{List, [], _∷_, _++_, map, append-assoc, map-append}
 use Prim.Native.Nat.{ℕ, zero, suc, pred, _+_, _-_, _*_, _≤_, _<_}
 use native.Mathlib.Omega.{arith}
 use native.Mathlib.Numerals.{add-one, one-add}
@@ -17,7 +17,6 @@ use Rattle.plan.specs.Runs.{agree}
 use Rattle.plan.proofs.RunsLaws.{terms-length}
 use Rattle.least.specs.declared.arrays.Note.{Note}
 use Rattle.least.specs.Notes.{note, noteNext, noteOf, noteIn, putNote, inWhole, Small, Fair, Noted, done, closed, opened, Ended, NextRow, RowNoted, Alone}
-use Rattle.least.proofs.AllLaws.{map-++}
 use Rattle.least.proofs.NoteLaws.{note-fair}
 use Rattle.least.proofs.NotedLaws.{close-first, back-first, note-is, noteWith, next-note, next-closed, next-opened}
 use Rattle.least.proofs.Suffixes.{front-short, close-drop, back-drop}
@@ -204,7 +203,7 @@ module _ {cells ends whole notes₀ : List ℕ} {last old new stop : ℕ} (g : N
         let yc : close 0 y ≡ slice (suc p) new cells = part-close p new cells row-before new-in in
         let zc : close 0 z ≡ slice (suc q) stop cells = part-close q stop cells h stop-in in
         let ol : map (close 0) (x .olds ++ (y ∷ [])) ≡ map (close 0) (x .olds) ++ (slice (suc p) new cells ∷ []) =
-        map-++ (close 0) (x .olds) (y ∷ []) ∙ ap (λ (v : List ℕ). map (close 0) (x .olds) ++ (v ∷ [])) yc in
+        map-append (close 0) (x .olds) (y ∷ []) ∙ ap (λ (v : List ℕ). map (close 0) (x .olds) ++ (v ∷ [])) yc in
         record {
           r = arity (root 0 y) + pred (x .r);
           olds = map (close 0) (x .olds);
@@ -228,7 +227,7 @@ module _ {cells ends whole notes₀ : List ℕ} {last old new stop : ℕ} (g : N
         let yb : back 1 y ≡ slice (getD ends p 0) new cells = back-drop p (take new cells) ∙ ap (λ (j : ℕ). slice j new cells) (sym py) in
         let zb : back 1 z ≡ slice (getD ends q 0) stop cells = back-drop q (take stop cells) ∙ ap (λ (j : ℕ). slice j stop cells) (sym qz) in
         let ol : map (back 1) (x .olds ++ (y ∷ [])) ≡ map (back 1) (x .olds) ++ (slice (getD ends p 0) new cells ∷ []) =
-        map-++ (back 1) (x .olds) (y ∷ []) ∙ ap (λ (v : List ℕ). map (back 1) (x .olds) ++ (v ∷ [])) yb in
+        map-append (back 1) (x .olds) (y ∷ []) ∙ ap (λ (v : List ℕ). map (back 1) (x .olds) ++ (v ∷ [])) yb in
         let fy : length (front 1 y) ≤ length y = front-short 1 y in
         let fz : length (front 1 z) ≤ length z = front-short 1 z in
         let ly : length y ≡ new - p = length-slice p new cells new-in in

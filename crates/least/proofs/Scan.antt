@@ -9,7 +9,8 @@ use lib.ListN.{length, length-map}
 use lib.Dec.{ltb}
 use borrow.Author.Tests.{ltb-true, ltb-false}
 use Rattle.cell.specs.Cell.{arity}
-use Rattle.term.specs.Terms.{Terms, none, more, root, close}
+use Rattle.term.proofs.TermsLaws.{terms-long}
+use Rattle.term.specs.Terms.{none, root, close}
 use Rattle.term.proofs.PlaceLaws.{root-before}
 use Rattle.table.specs.All.{All}
 use Rattle.plan.specs.Runs.{Run, runs}
@@ -17,7 +18,7 @@ use Rattle.plan.specs.Plans.{Measure}
 use Rattle.plan.proofs.RunsLaws.{Fits, fits-close}
 use Rattle.least.specs.Least.{Agree, Stuck}
 use Rattle.least.specs.Entries.{Closes, stop, step}
-use Rattle.least.proofs.AllLaws.{all-map, all-both, all-unmap}
+use Rattle.table.proofs.AllLaws.{all-map, all-both, all-unmap}
 use Rattle.least.proofs.Agreed.{run-agrees, run-is, no-run}
 
 -- what a scan has found: what the closed cells weigh, the open places left, and the rows
@@ -48,10 +49,6 @@ scan m (suc n) i (suc r) rows =
 pub record Scanned (m : Measure) (k : ℕ) (rows : List (List ℕ)) (s : Scan) : Type 0 where
   pub closes : Closes m (s .agreed) k rows (s .opens) (s .left)
   pub stuck : Stuck (s .opens) (s .left)
-
-pub terms-count : {k : ℕ} {r : List ℕ} → Terms k r → k ≤ length r
-terms-count none = omega arith
-terms-count (more t) = omega (arith, terms-count t)
 
 pub stuck-next : (i : ℕ) (rows : List (List ℕ)) → Stuck i rows → ((c : ℕ) → Agree i c rows → ⊥) → Stuck (suc i) rows
 stuck-next i rows s n j c h a = go (ltb j i) refl
@@ -123,7 +120,7 @@ module _ (m : Measure) where
   unfolding scan
   scan-is zero i zero rows f h s = ends i rows s
   scan-is zero i (suc r) [] f h s = absurd (omega arith)
-  scan-is zero i (suc r) (x ∷ xs) f h s = absurd (omega (arith, terms-count (f .0 .0)))
+  scan-is zero i (suc r) (x ∷ xs) f h s = absurd (omega (arith, terms-long (f .0 .0)))
   scan-is (suc n) i zero rows f h s = ends i rows s
   scan-is (suc n) i (suc r) rows f h s = scan-step n (scan-is n) i r rows f h s (runs i rows) refl
 

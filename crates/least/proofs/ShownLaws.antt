@@ -1,24 +1,24 @@
 -- The notes at a row's cells show the closed state of the rows up to it: how many cells are closed, and the runs of each open place.
 use mathlib.Core.Path.{_≡_, refl, sym, ap, _∙_}
-use mathlib.Core.List.{List, [], _∷_, _++_, map}
+use mathlib.Core.List.{List, [], _∷_, _++_, map, map-append}
 use Prim.Native.Nat.{ℕ, zero, suc, pred, _+_, _≤_, _<_}
 use native.Mathlib.Omega.{arith}
 use native.Mathlib.Numerals.{one-add}
 use lib.ListN.{length, drop, length-map, length-append, length-drop}
 use Rattle.cell.specs.Cell.{arity}
 use Rattle.term.specs.Terms.{Terms, front, back, root, close}
-use Rattle.term.proofs.TermsLaws.{back-terms, zero-nil, front-terms}
+use Rattle.term.proofs.TermsLaws.{back-terms, zero-nil, front-terms, terms-long}
 use Rattle.table.specs.All.{All}
 use Rattle.plan.specs.Runs.{Run, runs}
 use Rattle.plan.specs.Plans.{plain}
 use Rattle.plan.proofs.RunsLaws.{Fits, terms-length}
 use Rattle.least.specs.declared.arrays.Note.{Note}
 use Rattle.least.specs.Notes.{noteOf, Fair, Noted, closed, opened, Shown, at-end, at-closed, at-open}
-use Rattle.least.proofs.AllLaws.{all-back, map-++}
+use Rattle.table.proofs.AllLaws.{all-back}
 use Rattle.least.proofs.Agreed.{run-agrees, run-is}
 use Rattle.least.proofs.Counts.{sums}
 use Rattle.least.proofs.NoteLaws.{Says, note-says, note-fair}
-use Rattle.least.proofs.Scan.{Scan, found, plus, oneRun, scan, terms-count, fits-agreed}
+use Rattle.least.proofs.Scan.{Scan, found, plus, oneRun, scan, fits-agreed}
 use Rattle.least.proofs.ScanLaws.{sums-sizes, length-sizes, scan-sizes}
 use Rattle.least.proofs.Suffixes.{root-back, close-back, back-back, backs, front-short, close-drop, back-drop}
 
@@ -91,7 +91,7 @@ module _ (W : ℕ → ℕ → ℕ) (count : ℕ) (bound : (i k : ℕ) → i ≤ 
     shut-here g e o d =
         let a = run-agrees i g here e in
         let c : root i y ≡ g .cell = all-back (λ (s : List ℕ). root i s ≡ g .cell) olds (y ∷ []) (a .cells) .0 in
-        let rest : map (close i) here ≡ map (close i) olds ++ (close i y ∷ []) = map-++ (close i) olds (y ∷ []) in
+        let rest : map (close i) here ≡ map (close i) olds ++ (close i y ∷ []) = map-append (close i) olds (y ∷ []) in
         let gr : g .rows ≡ map (close i) olds ++ (close i y ∷ []) = ap (λ (g : Run). g .rows) (run-is i g here e) ∙ rest in
         let e₁ : suc n + i ≡ suc (n + i) = omega arith in
         let e₂ : i + suc r ≡ suc (i + r) = omega arith in
@@ -162,6 +162,6 @@ module _ (W : ℕ → ℕ → ℕ) (count : ℕ) (bound : (i k : ℕ) → i ≤ 
   shown-from zero i zero q olds y x = shown-end zero i q olds y x
   shown-from zero i (suc r) q olds y x =
       let f = last-terms olds y (x .fits) in
-      absurd (omega (arith, terms-count (f .0)))
+      absurd (omega (arith, terms-long (f .0)))
   shown-from (suc n) i zero q olds y x = shown-end (suc n) i q olds y x
   shown-from (suc n) i (suc r) q olds y x = shown-step n (shown-from n) i r q olds y x

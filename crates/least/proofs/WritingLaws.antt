@@ -2,13 +2,13 @@
 use mathlib.Core.Path.{_≡_, refl, sym, ap, subst, _∙_}
 use mathlib.Core.Bool.{Bool, true, false, cond}
 use mathlib.Core.List.{List, [], _∷_, _++_}
-use Prim.Native.Nat.{ℕ, suc, _+_, _-_, _≤_, _<_}
-use native.Mathlib.Nat.{add-zero}
+use Prim.Native.Nat.{ℕ, suc, _+_, _-_, _≤_, _<_, min}
 use native.Mathlib.Omega.{arith}
 use lib.ListN.{length, getD, set, length-set, length-append}
 use lib.Seq.{sets, length-sets}
 use Rattle.cell.specs.Cell.{arity}
 use Rattle.term.specs.Terms.{root, close}
+use Rattle.term.proofs.Lists.{sets-sets}
 use Rattle.table.specs.All.{All}
 use Rattle.plan.specs.Runs.{Run, run, agree, runs}
 use Rattle.plan.specs.Plans.{Plan, leaf, node, Branches, end, next, write, writes, plain}
@@ -16,7 +16,8 @@ use Rattle.plan.specs.Column.{breaks, runLength, runCount}
 use Rattle.plan.specs.States.{rowsIn, columnIn, runsIn, Same}
 use Rattle.plan.specs.States as states
 use Rattle.plan.proofs.RunsLaws.{Fits, fits-more, runs-fit}
-use Rattle.plan.proofs.RowsLaws.{rows-length, rows-kept, column-none, run-first, run-number, runs-closed, same-self, same-then, same-later}
+use Rattle.plan.proofs.PlansLaws.{leaf-cells}
+use Rattle.plan.proofs.RowsLaws.{rows-length, rows-kept, column-none, run-first, run-number, runs-closed, closes-of, same-self, same-then, same-later}
 use Rattle.least.specs.Least.{Chosen, Built, Builts}
 use Rattle.least.specs.Entries.{Closes}
 use Rattle.least.specs.Writing.{Reached, AllReached, Source, Room, ToWrite, ToWriteAll, Written}
@@ -25,10 +26,6 @@ use Rattle.least.proofs.Counts.{run-closes}
 use Rattle.least.proofs.Building.{chosen-one}
 
 -- stores after others
-sets-sets : (l : List ℕ) (i : ℕ) (xs ys : List ℕ) → sets (sets l i xs) (i + length xs) ys ≡ sets l i (xs ++ ys)
-sets-sets l i [] ys = rw add-zero
-sets-sets l i (x ∷ xs) ys = let e : i + suc (length xs) ≡ suc i + length xs = omega arith in rw e (sets-sets (set l i x) (suc i) xs ys)
-
 -- a state's own two cells, and those of its branches
 two-cells : (l xs ys cells : List ℕ) (at i n : ℕ) → xs ≡ ys → cells ≡ i ∷ (n ∷ ys) → sets (set (set l at i) (at + 1) n) (at + 2) xs ≡ sets l at cells
 two-cells l xs ys cells at i n e c =
@@ -43,11 +40,6 @@ three-cells l l₁ xs ys cells at m c e em ec =
     rw (e, em, ec, p) (sets-sets (set l at c) (suc at) xs ys)
 
 -- The plan by the rule, by its first state: a leaf, or the chosen place with the plans below its branches.
-leaf-cells : {k : ℕ} {rows : List (List ℕ)} (p : Plan k rows) → k ≡ 0 → write p ≡ length rows ∷ []
-unfolding write
-leaf-cells leaf e = refl
-leaf-cells (node i h bs) e = absurd (omega arith)
-
 record Below (k i : ℕ) (rows : List (List ℕ)) (cells : List ℕ) : Type 0 where
   plans : Branches k (runs i rows)
   built : Builts plain plans
@@ -136,9 +128,11 @@ inner-ready t ss ms₁ hs₁ place out first last k at i n left rc room s o h f 
     )
 
 pub inner : {t ss ms hs place out : List ℕ} {first last k at : ℕ} (q : ToWrite t ss ms hs place out first last k at) (ms₁ hs₁ : List ℕ) (i n : ℕ)
-    → i < k → Chosen plain (k - 1) (rowsIn t ss ms first last) i → states.Closes t ss ms hs ms₁ hs₁ i first last → n ≡ runCount (columnIn hs₁ first last)
+    → i < k → Chosen plain (k - 1) (rowsIn t ss ms first last) i → states.ClosedRows t ss ms hs ms₁ hs₁ i first (min last 64) → n ≡ runCount (columnIn hs₁ first last)
     → Inner t ss ms hs place out first last k at ms₁ hs₁ (set (set out at i) (at + 1) n) (write (q .plan))
-inner {t} {ss} {ms} {hs} {place} {out} {first} {last} {k} {at} q ms₁ hs₁ i n h c cl en =
+inner {t} {ss} {ms} {hs} {place} {out} {first} {last} {k} {at} q ms₁ hs₁ i n h c closed en =
+    let cl : states.Closes t ss ms hs ms₁ hs₁ i first last
+    = closes-of t ss ms hs i (omega (arith, q .state .some)) (omega (arith, q .state .inside, q .state .source .many)) (q .room .masks) (q .room .column) closed in
     let ek : k ≡ suc (k - 1) = omega arith in
     let b = node-cells (q .plan) (k - 1) i ek (q .built) (omega arith) c in
     let rc : runs i (rowsIn t ss ms first last) ≡ runsIn t ss ms₁ hs₁ first last = runs-closed cl in

@@ -8,7 +8,7 @@ ghost use lib.ListN.{length};
 ghost use Rattle.term.specs.Terms.{root};
 ghost use Rattle.plan.specs.Plans.{write, writes, plain};
 ghost use Rattle.plan.specs.Column.{runCount};
-ghost use Rattle.plan.specs.States.{rowsIn, Closes};
+ghost use Rattle.plan.specs.States.{rowsIn};
 ghost use Rattle.plan.specs.Steps.{TableRows};
 ghost use Rattle.least.specs.Least.{Chosen};
 ghost use Rattle.least.specs.Writing.{State, ToWrite, ToWriteAll, Written, Planned};
@@ -17,6 +17,7 @@ use plan::column::run_count;
 use plan::column::run_length;
 use plan::column::same_symbol;
 use plan::mask::close_at;
+use plan::mask::close_rows;
 use plan::mask::open_rows;
 
 // All rows agree at place i: each holds the symbol of the row before it.
@@ -67,29 +68,6 @@ fn choose(
     }
     let last = end - 1;
     place[64 * first + last]
-}
-
-// Closes place i of the rows from first to before end: the cell that each has there goes into the column, and its bit out
-// of its mask.
-fn close_rows(
-    table: &[u32],
-    starts: &[usize; 64],
-    masks: &mut [u32; 64],
-    column: &mut [u32; 64],
-    i: u32,
-    first: usize,
-    end: usize,
-)
-    requires { ⌜ (first ≤ end) × (end ≤ 64) × (length (now masks) ≡ 64) × (length (now column) ≡ 64) ⌝ }
-    ensures { λ r. ⌜ Closes (now (table .entry)) (now (starts .entry)) (now (masks .entry)) (now (column .entry)) (now (masks .exit)) (now (column .exit)) i first end ⌝ }
-{
-    let mut row = end;
-    while first < row {
-        row -= 1;
-        let closed = close_at(table, starts[row], masks[row], i);
-        column[row] = closed.cell;
-        masks[row] = closed.mask;
-    }
 }
 
 // The plan of the state of rows first to before end with k open places, from a place on; the place after it.

@@ -6,8 +6,8 @@ use Prim.Native.Nat.{ℕ, zero, suc, _+_, _-_, _≤_, _<_, min}
 use native.Mathlib.Nat.{add-zero}
 use native.Mathlib.Decide.{decLt}
 use native.Mathlib.Omega.{arith}
-use lib.ListN.{length, getD, take, drop, set, length-set, length-drop, length-map}
-use lib.Seq.{drop-cons, drop-drop, drop-set-lt, getD-set-same, getD-take, getD-drop, take-take, length-take-le, sets, length-sets}
+use lib.ListN.{length, getD, take, drop, set, length-drop, length-map}
+use lib.Seq.{drop-cons, drop-drop, drop-set-lt, getD-set-same, getD-drop, length-take-le, sets, length-sets}
 use Rattle.term.specs.Terms.{root, close}
 use Rattle.term.proofs.Lists.{set-sets, sets-found, getD-sets, drop-sets, slice-take}
 use Rattle.plan.specs.Runs.{run, runs}
@@ -60,7 +60,7 @@ rows-kept t ss ms ms′ (suc n) r h =
 pub column-none : (hs : List ℕ) (first : ℕ) → columnIn hs first first ≡ []
 column-none hs first = let e : first - first ≡ 0 = omega arith in rw e
 
-pub column-first : (hs : List ℕ) (first end : ℕ) → first < end → end ≤ length hs → columnIn hs first end ≡ getD hs first 0 ∷ columnIn hs (first + 1) end
+column-first : (hs : List ℕ) (first end : ℕ) → first < end → end ≤ length hs → columnIn hs first end ≡ getD hs first 0 ∷ columnIn hs (first + 1) end
 column-first hs first end h l =
     let e : end - first ≡ suc (end - (first + 1)) = omega arith in
     let d : first + 1 ≡ suc first = omega arith in
@@ -109,14 +109,6 @@ pub runs-closed : {t ss ms hs ms′ hs′ : List ℕ} {i first end : ℕ} → Cl
     → runs i (rowsIn t ss ms first end) ≡ runsIn t ss ms′ hs′ first end
 runs-closed {t} {ss} {ms} {i = i} {first} {end} c = group-on (root i) (close i) (rowsIn t ss ms first end) ∙ rw (← (c .cells), ← (c .rows))
 
--- lists that are the same up to a place are so up to an earlier one, and there
-module _ (ns ms : List ℕ) (r row : ℕ) (h : r < row) (e : take row ns ≡ take row ms) where
-  pub same-before : take r ns ≡ take r ms
-  same-before = sym (take-take r row ns (omega arith)) ∙ ap (take r) e ∙ take-take r row ms (omega arith)
-
-  pub same-at : getD ns r 0 ≡ getD ms r 0
-  same-at = sym (getD-take row ns r 0 h) ∙ ap (λ (l : List ℕ). getD l r 0) e ∙ getD-take row ms r 0 h
-
 -- a list is the same as itself, as one that is the same as it, and as one with a store before the place
 module _ (from : ℕ) where
   pub same-self : (xs : List ℕ) → Same from xs xs
@@ -124,9 +116,6 @@ module _ (from : ℕ) where
 
   pub same-then : {xs ys zs : List ℕ} → Same from xs ys → Same from ys zs → Same from xs zs
   same-then a b = record { size = b .size ∙ a .size; after = b .after ∙ a .after }
-
-  pub same-store : {xs ys : List ℕ} (r x : ℕ) → r < from → Same from xs ys → Same from xs (set ys r x)
-  same-store {xs} {ys} r x h a = record { size = length-set ys r x ∙ a .size; after = drop-set-lt from ys r x h ∙ a .after }
 
   pub same-later : {xs ys : List ℕ} (to : ℕ) → from ≤ to → Same from xs ys → Same to xs ys
   same-later {xs} {ys} to h a =
@@ -210,32 +199,4 @@ module _ (t ss ms hs : List ℕ) (i : ℕ) where
         rows = rw (c .masks) (rows-closed (end - first) first (omega arith) (λ r a b. c .lists r a (omega arith)));
         masks = record { size = rw (c .masks) (length-sets ms first ys); after = rw (c .masks) (drop-sets ms ys end first (omega arith)) };
         column = record { size = rw (c .column) (length-sets hs first xs); after = rw (c .column) (drop-sets hs xs end first (omega arith)) };
-      }
-
--- no row is closed, and one more before those that are
-module _ (t ss ms hs : List ℕ) (i : ℕ) where
-  pub closes-none : (end : ℕ) → Closes t ss ms hs ms hs i end end
-  closes-none end = record {
-    cells = column-none hs end ∙ rw (rows-none t ss ms end);
-    rows = rw (rows-none t ss ms end);
-    masks = same-self end ms;
-    column = same-self end hs;
-  }
-
-  pub closes-one : (ns ks : List ℕ) (r row end x m : ℕ) → r + 1 ≡ row → row ≤ end → end ≤ length ms → end ≤ length hs → getD ns r 0 ≡ getD ms r 0
-      → x ≡ root i (rowAt t ss ns r) → kept m (drop (getD ss r 0) t) ≡ close i (rowAt t ss ns r) → Closes t ss ms hs ns ks i row end → Closes t ss ms hs (set ns r m) (set ks r x) i r end
-  closes-one ns ks r row end x m q h l k same ex here c =
-      let u = c .cells in
-      let v = c .rows in
-      let lk : end ≤ length (set ks r x) = simp length-set (omega (arith, c .column .size)) in
-      let kx = getD-set-same ks r x 0 (omega (arith, c .column .size)) in
-      let nm = getD-set-same ns r m 0 (omega (arith, c .masks .size)) in
-      let dk = drop-set-lt (r + 1) ks r x (omega arith) in
-      let dn = drop-set-lt (r + 1) ns r m (omega arith) in
-      let rest = rows-kept t ss ns (set ns r m) (end - (r + 1)) (r + 1) dn in
-      record {
-        cells = column-first (set ks r x) r end (omega arith) lk ∙ rw (kx, dk, q, u, rows-first t ss ms r end (omega arith), ex, same, q);
-        rows = rows-first t ss (set ns r m) r end (omega arith) ∙ rw (nm, rest, here, q, v, rows-first t ss ms r end (omega arith), same, q);
-        masks = same-store end r m (omega arith) (c .masks);
-        column = same-store end r x (omega arith) (c .column);
       }

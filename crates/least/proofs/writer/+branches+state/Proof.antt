@@ -20,7 +20,7 @@ use Rattle.least.proofs.writer.state.Kinds as state-kinds
 use Rattle.least.proofs.writer.+branches+state.Lts-state as state-lts
 use Rattle.cell.proofs.arity_of.Reads as arity-of-reads
 use Rattle.least.proofs.writer.choose.Reads as choose-reads
-use Rattle.least.proofs.writer.close_rows.Reads as close-rows-reads
+use Rattle.plan.proofs.mask.close_rows.Reads as close-rows-reads
 use Rattle.plan.proofs.column.run_count.Reads as run-count-reads
 use Rattle.plan.proofs.column.run_length.Reads as run-length-reads
 use Rattle.least.proofs.writer.+branches+state.{statement}
