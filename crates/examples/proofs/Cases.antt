@@ -25,7 +25,7 @@ use Rattle.least.proofs.Builder.{place, runCells, planCells, plan-built}
 use Rattle.run.specs.Skeleton.{hole, fill, decide, opened}
 use Rattle.run.specs.Run.{skeletons}
 use Rattle.run.proofs.AcceptedLaws.{goal-head, table-fine}
-use Rattle.run.proofs.AllLaws.{skeletons-terms}
+use Rattle.run.proofs.OpenGoalLaws.{skeletons-terms}
 use Rattle.run.proofs.Decided.{hitsBy, hits-by, triedBy, tried-by, row-terms}
 use Rattle.examples.specs.Examples.{Example, turned, planTurned, built, ran, BuiltSays, RanSays, Says, P, tableCells, p1, p2, plan2, p3, plan3, p5, p7, p8, plan8, marked}
 use Rattle.examples.proofs.Above.{Got, above, above-right}
