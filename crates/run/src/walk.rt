@@ -1,5 +1,9 @@
 // The walk along a plan. It goes from state to state; at a state it looks at one place of the goal, once, and tests what it found there at each of the state's
 // branches. A branch whose test fails is left at once, by what the check noted of it. What one branch binds is unbound before the next is tried.
+//
+// Its functions hand on the plan with the check's notes (`ends`, `many`), the goal's cells with their table of steps (`sib`), what variables are bound to (`bound`,
+// `args`), the open places (`refs`, `links`), the room, and what is counted. `at` is a cell of the plan, `width` how many places are open, `next` the next variable's
+// number, which is the next slot's too.
 ghost use mathlib.Core.Path.{_≡_};
 ghost use Prim.Native.Nat.{_+_, _≤_};
 ghost use lib.ListN.{length};
@@ -208,7 +212,8 @@ fn branch(
     }
 }
 
-// What is below a branch, whose symbol's arguments are at `p`: their slots, the new ones from `next` on, stand where its place did.
+// What is below a branch, whose symbol's arguments are at `p`: their slots, the new ones from `next` on, stand where its place did. Two links change, one to the first
+// new slot and one from the last. Where there is none they are the same link: the second decides where it leads, and the first is put back last.
 fn below(
     plan: &[u32],
     ends: &[u16; 6082],
