@@ -3,19 +3,13 @@
 use mathlib.Core.Path.{_≡_, refl, ap, ap₂, pathJ}
 use mathlib.Core.Bool.{Bool, true, false, cond}
 use mathlib.Core.List.{List, [], _∷_, _++_, append-assoc}
-use Prim.Native.Nat.{ℕ, suc, _≤_, _<_}
+use Prim.Native.Nat.{ℕ, suc, _≤_}
 use native.Mathlib.Bridge.{le-prop}
 use native.Mathlib.Omega.{arith}
 use lib.ListN.{length}
 use lib.Dec.{leb}
 use Rattle.plan.specs.Runs.{Run, runs}
 use Rattle.plan.specs.Plans.{Plan, leaf, node, Branches, end, next, write, writes, branches, branchesIn, plain, cost, costs}
-
--- a plan has a cell
-pub write-some : {k : ℕ} {rows : List (List ℕ)} (p : Plan k rows) → 0 < length (write p)
-unfolding write
-write-some leaf = omega arith
-write-some (node i h bs) = omega arith
 
 -- two inner states whose indices are equal, and whose branches are equal once they stand at one index
 node-one : {k : ℕ} {rows : List (List ℕ)} {i : ℕ} (h : i ≤ k) (bs : Branches k (runs i rows)) (xs ys : List ℕ)
