@@ -34,7 +34,7 @@ use Rattle.least.proofs.Fixed.{build-fixed}
 use Rattle.run.specs.declared.RunAnswer.{RunAnswer}
 use Rattle.run.specs.Run.{Picks, Counts, Tried, runOf, runTold, Ran, refusal, ran}
 use Rattle.run.proofs.Fixed.{skeletons-one}
-use Rattle.run.proofs.CountLaws.{up-length}
+use Rattle.table.proofs.HeadLaws.{up-length}
 use Rattle.run.proofs.Theorems.{Ascends, picked, picks-ascend, tries-every}
 use Rattle.run.proofs.TakesLaws.{takes-run, run-table, run-plan, run-goal, run-room}
 use Rattle.demands.specs.Said.{BuildTurned, no-table, no-room, RunTurned, bad-table, bad-plan, bad-goal, bad-room, Answers}

@@ -6,6 +6,7 @@ use native.Mathlib.Omega.{arith}
 use mathlib.Core.Bool.{_||_}
 use lib.Dec.{ltb}
 use lib.ListN.{length, getD, replicate, length-append}
+use Rattle.term.proofs.Lists.{getD-zeros}
 use Rattle.table.specs.Refusal.{Answer}
 use Rattle.table.specs.Read.{Read, read, refuse, andThen}
 use Rattle.table.specs.Table.{Table, tableOf, tableSays, goalOf, goalSays, goalWith, rowIn, startsIn, starts, Row}
@@ -54,14 +55,9 @@ goal-with-small t g = go (tableOf t) refl
     go (refuse f) e = let l = placed-at (placed-table t) e in omega arith
 
 -- a row starts within the table
-zeros-at : (m r : ℕ) → _≡_ {A = ℕ} (getD (replicate m 0) r 0) 0
-zeros-at zero r = refl
-zeros-at (suc m) zero = refl
-zeros-at (suc m) (suc r) = zeros-at m r
-
 starts-within : (p : ℕ) (rows : List (List ℕ)) (m r : ℕ) → getD (starts p rows ++ replicate m 0) r 0 ≤ p + length (flatten rows)
 unfolding starts flatten
-starts-within p [] m r = let e = zeros-at m r in omega arith
+starts-within p [] m r = let e = getD-zeros m r in omega arith
 starts-within p (x ∷ rows) m zero = omega arith
 starts-within p (x ∷ rows) m (suc r) = omega (arith, starts-within (p + length x) rows m r, length-append x (flatten rows))
 
@@ -85,7 +81,7 @@ row-small t r = go (tableOf t) refl
         let l = table-length t e in
         let f : length t ≡ 2 + length (flatten (T .rows)) = ap length (i .cells) ∙ omega arith in
         (omega (arith, starts-within 2 (T .rows) (64 - length (T .rows)) r), row-short (T .width) (T .rows) r (i .each))
-    go (refuse f) e = (omega (arith, zeros-at 64 r), omega arith)
+    go (refuse f) e = (omega (arith, getD-zeros 64 r), omega arith)
 
 -- a plan of an accepted table has at most 2,048 branches
 pub plan-small : (t p : List ℕ) → Small (planSays (planOf t p))

@@ -11,7 +11,7 @@ use lib.ListN.{length, length-append}
 use borrow.Author.Tests.{ltb-true, ltb-false}
 use Rattle.cell.specs.Cell.{numberOf, argsOf, Values, arity}
 use Rattle.cell.proofs.CellLaws.{Reading, a-variable, a-name, a-number, no-cell, reading, values-small}
-use Rattle.term.specs.Terms.{Terms, none, more}
+use Rattle.term.proofs.TermsLaws.{terms-long}
 use Rattle.term.proofs.Tests.{bool-cases}
 use Rattle.table.specs.All.{All}
 use Rattle.table.specs.Table.{Table}
@@ -63,13 +63,9 @@ line-few depth index c first last hd hi hf hl =
     simp length-append (omega (arith, digits-few 1 depth hd, digits-few 1 index hi, symbol-few c, digits-few 1 first hf, digits-few 1 last hl))
 
 -- an open place of a row is a cell of it
-terms-few : {k : ℕ} {r : List ℕ} → Terms k r → k ≤ length r
-terms-few none = omega arith
-terms-few (more {c} {k} t) = omega (arith, terms-few t)
-
 open-few : (n k : ℕ) (rows : List (List ℕ)) → All (Fits n k) rows → 0 < length rows → k ≤ n
 open-few n k [] f h = absurd (omega arith)
-open-few n k (r ∷ rs) f h = omega (arith, terms-few (f .0 .0))
+open-few n k (r ∷ rs) f h = omega (arith, terms-long (f .0 .0))
 
 -- so the lines of a plan have at most 21 bytes for each branch
 mutual

@@ -1,17 +1,17 @@
 -- How often a cell stands in a list; cells numbered one after another.
 use Prim.Native.Nat.{ℕ, zero, suc, _+_, _^_, _≤_, _<_}
-use mathlib.Core.Path.{_≡_, refl, sym, ap, _∙_}
+use mathlib.Core.Path.{_≡_, refl, sym, _∙_}
 use mathlib.Core.Logic.{_≢_, _⊎_, inl, inr, ⊎-elim}
 use mathlib.Core.Bool.{true, false}
 use mathlib.Core.List.{List, [], _∷_, _++_, List·Memᴰ, List·Memᴰ·head, List·Memᴰ·tail, List·Memᴰ·cases-cons, List·Memᴰ·not-nil}
 use native.Mathlib.Nat.{add-zero}
 use native.Mathlib.Omega.{arith}
 use lib.Dec.{eqb}
-use lib.ListN.{length, getD}
-use borrow.Author.Tests.{eqb-true, eqb-false}
+use lib.ListN.{getD}
+use borrow.Author.Tests.{eqb-true, eqb-false, ne-eqb}
 use Rattle.cell.specs.Cell.{isVar}
 use Rattle.cell.proofs.CellLaws.{var-small}
-use Rattle.term.proofs.Tests.{bool-cases, eqb-same, eqb-other}
+use Rattle.term.proofs.Tests.{bool-cases, eqb-same}
 use Rattle.term.proofs.Step.{Fresh, nil, cons}
 use Rattle.table.specs.Table.{count, upFrom}
 
@@ -21,7 +21,7 @@ count-same v xs = rw (eqb-same v) (omega arith)
 
 pub count-other : (v c : ℕ) (xs : List ℕ) → v ≢ c → count v (c ∷ xs) ≡ count v xs
 unfolding count
-count-other v c xs h = rw (eqb-other v c h) (omega arith)
+count-other v c xs h = rw (ne-eqb v c h) (omega arith)
 
 pub count-++ : (v : ℕ) (xs ys : List ℕ) → count v (xs ++ ys) ≡ count v xs + count v ys
 unfolding count
@@ -65,11 +65,6 @@ pub up-distinct : (n a : ℕ) → n + a ≤ 2 ^ 30 → Fresh a (upFrom n a)
 unfolding upFrom
 up-distinct n zero h = nil
 up-distinct n (suc a) h = cons (var-small n (omega arith)) (λ m. let r = up-mem (suc n) a n m in omega arith) (up-distinct (suc n) a (omega arith))
-
-pub up-length : (n a : ℕ) → length (upFrom n a) ≡ a
-unfolding upFrom
-up-length n zero = refl
-up-length n (suc a) = ap suc (up-length (suc n) a)
 
 pub up-at : (n a r : ℕ) → r < a → getD (upFrom n a) r 0 ≡ n + r
 unfolding upFrom

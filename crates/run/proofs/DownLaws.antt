@@ -24,7 +24,7 @@ use Rattle.run.specs.declared.goal.View.{View}
 use Rattle.run.specs.declared.goal.View.the-variants.{Loose, Symbol}
 use Rattle.run.specs.declared.walk.Found.{Found}
 use Rattle.run.specs.declared.walk.Found.the-variants.{Other, Same, Unbound}
-use Rattle.run.proofs.CountLaws.{up-length}
+use Rattle.table.proofs.HeadLaws.{up-length}
 use Rattle.run.proofs.SeeLaws.{steps-none}
 use Rattle.run.proofs.PlacesLaws.{reset, steps-length, before-made, slot-made, before-leads, last-small, held-length, held-opened, opened}
 use Rattle.run.proofs.LinkLaws.{Down, down-variable, down-symbol, down-bind, symbol-safe, new-safe, loose-safe, stuck-symbol}

@@ -11,7 +11,7 @@ use Rattle.plan.proofs.RunsLaws.{rowsIn, group-rows}
 use Rattle.run.specs.After.{Left, stuck, left, after}
 use Rattle.run.specs.Link.{var}
 use Rattle.run.specs.Walk.{under, hits, hitsIn, hitsAt, tried, triedIn, triedAt}
-use Rattle.run.proofs.CountLaws.{up-length}
+use Rattle.table.proofs.HeadLaws.{up-length}
 
 under-length : (n : ℕ) (x : Left) (f : List ℕ → List ℕ) → ((R : List ℕ) → length (f R) ≤ n) → length (under [] x f) ≤ n
 under-length n stuck f h = omega arith

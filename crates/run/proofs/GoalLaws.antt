@@ -1,5 +1,5 @@
 -- The goal's table of steps, filled from the last cell to the first.
-use Prim.Native.Nat.{ℕ, zero, suc, _+_, _-_, _≤_, _<_}
+use Prim.Native.Nat.{ℕ, zero, suc, _+_, _≤_, _<_}
 use mathlib.Core.Path.{_≡_, refl, sym, _∙_, ap}
 use mathlib.Core.Logic.{_≢_, by-cases}
 use mathlib.Core.List.{List, [], _∷_, _++_}
@@ -7,8 +7,9 @@ use native.Mathlib.Nat.{add-zero, zero-add, suc-add, add-assoc}
 use native.Mathlib.Numerals.{one-add}
 use native.Mathlib.Omega.{arith}
 use native.Mathlib.Decide.{ℕ-discrete}
-use lib.ListN.{length, getD, take, drop, set, replicate, length-append, length-drop, length-set, length-replicate, drop-of-length-le}
-use lib.Seq.{sets, sets-eq, drop-cons, drop-drop, drop-at, length-take-le, getD-take, getD-set-same, getD-set-other}
+use lib.ListN.{length, getD, take, drop, set, replicate, length-append, length-drop, length-set, drop-of-length-le}
+use lib.Seq.{sets, drop-cons, drop-drop, drop-at, length-take-le, getD-take, getD-set-same, getD-set-other}
+use Rattle.term.proofs.Lists.{sets-replicate}
 use Rattle.cell.specs.Cell.{arity}
 use Rattle.term.specs.Terms.{Terms, none, more, front, back}
 use Rattle.term.proofs.TermsLaws.{Terms-1, nil-zero, front-back, back-terms, front-zero}
@@ -17,7 +18,8 @@ use Rattle.table.specs.Table.{upFrom}
 use Rattle.run.specs.See.{steps, hopOf, Whole}
 use Rattle.plan.specs.Checked.{padded}
 use Rattle.run.proofs.SeeLaws.{store-next, store-end}
-use Rattle.run.proofs.CountLaws.{up-length, up-at}
+use Rattle.table.proofs.HeadLaws.{up-length}
+use Rattle.run.proofs.CountLaws.{up-at}
 
 -- the first a + b terms
 pub front-add : (a b : ℕ) (xs : List ℕ) → front (a + b) xs ≡ front a xs ++ front b (back a xs)
@@ -124,16 +126,8 @@ done-none gs n = record {
 }
 
 -- the goal's cells, copied one after another into an array of zeros
-drop-zeros : (i n : ℕ) → drop {A = ℕ} i (replicate n 0) ≡ replicate (n - i) 0
-drop-zeros zero n = let e : n - 0 ≡ n = omega arith in rw e
-drop-zeros (suc i) zero = let e : 0 - suc i ≡ 0 = omega arith in rw e
-drop-zeros (suc i) (suc n) = let e : suc n - suc i ≡ n - i = omega arith in rw e (drop-zeros i n)
-
 pub copied-none : (g : List ℕ) → length g ≤ 32 → sets (replicate 32 0) 0 (drop 0 g) ≡ padded 32 g
-copied-none g h =
-    let e : length {A = ℕ} (replicate 32 0) ≡ 32 = length-replicate {A = ℕ} 32 0 in
-    let q : 0 + length g ≡ length g = omega arith in
-    sets-eq g (replicate 32 0) 0 (omega arith) ∙ ap (λ (l : List ℕ). g ++ l) (rw q (drop-zeros (length g) 32))
+copied-none g h = sets-replicate 32 0 g h
 
 pub copied-more : (g cells fin : List ℕ) (i : ℕ) → i < length g → sets cells i (drop i g) ≡ fin → sets (set cells i (getD g i 0)) (i + 1) (drop (i + 1) g) ≡ fin
 copied-more g cells fin i h e =

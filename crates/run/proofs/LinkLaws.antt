@@ -9,12 +9,12 @@ use native.Mathlib.Decide.{ℕ-discrete}
 use lib.Dec.{eqb}
 use lib.ListN.{length, getD, set, length-set}
 use lib.Seq.{getD-set-same, getD-set-other}
-use borrow.Author.Tests.{eqb-true, eqb-false}
+use borrow.Author.Tests.{eqb-true, eqb-false, ne-eqb}
 use Rattle.cell.specs.Cell.{arity, isVar}
 use Rattle.cell.proofs.CellLaws.{var-arity, var-small}
 use Rattle.term.specs.Terms.{Terms}
 use Rattle.term.specs.Unify.{inst, Subst}
-use Rattle.term.proofs.Tests.{bool-cases, eqb-same, eqb-other}
+use Rattle.term.proofs.Tests.{bool-cases, eqb-same}
 use Rattle.term.proofs.TermsLaws.{front-++, back-++}
 use Rattle.term.proofs.Inst.{inst-++, then, inst-then, Terms-inst, Subst-then, idS, bind, bind-same, bind-other, Subst-id, Subst-bind, Terms-symbol, inst-var}
 use Rattle.term.proofs.Step.{inst-symbol, Terms-fresh}
@@ -138,7 +138,7 @@ module _ (P : List ℕ) (r : ℕ) (Q : List ℕ) {gs sib bs ns : List ℕ} {m : 
   -- (3) another symbol
   after-other : (n c d : ℕ) (xs : List ℕ) → isVar c ≡ false → isVar d ≡ false → c ≢ d → inst Θ (ref G r) ≡ d ∷ inst Θ xs → after n (length P) c R ≡ stuck
   unfolding meet
-  after-other n c d xs h k o e = at-after n c ∙ rw (h, e, k, eqb-other c d o)
+  after-other n c d xs h k o e = at-after n c ∙ rw (h, e, k, ne-eqb c d o)
 
   -- (4) an unbound variable: the new binding, and the substitution followed by it
   module _ (c v : ℕ) (hc : isVar c ≡ false) (hv : getD bs v 0 ≡ 0) (lv : v < m) (fits : m + arity c ≤ 64) (e : inst Θ (ref G r) ≡ var v ∷ []) where

@@ -8,12 +8,12 @@ use native.Mathlib.Numerals.{one-add}
 use native.Mathlib.Omega.{arith}
 use lib.Dec.{eqb}
 use lib.ListN.{replicate}
-use borrow.Author.Tests.{eqb-true, eqb-false}
+use borrow.Author.Tests.{eqb-true, eqb-false, ne-eqb}
 use Rattle.cell.specs.Cell.{arity, isVar}
 use Rattle.cell.proofs.CellLaws.{small-var}
 use Rattle.term.specs.Terms.{Terms, more, front, back}
 use Rattle.term.specs.Unify.{Unifies}
-use Rattle.term.proofs.Tests.{bool-cases, eqb-same, eqb-other}
+use Rattle.term.proofs.Tests.{bool-cases, eqb-same}
 use Rattle.term.proofs.TermsLaws.{Terms-++, zero-nil, front-back, front-terms, back-terms, front-++, back-++}
 use Rattle.term.proofs.Inst.{inst-agree, inst-id, idS, Subst-id, Terms-symbol}
 use Rattle.term.proofs.Step.{Fresh, spread, Terms-fresh, fresh-var}
@@ -40,7 +40,7 @@ fill-hole K X = rw (eqb-same hole)
 
 pub fill-cell : (c : ℕ) (K X : List ℕ) → c ≢ hole → fill (c ∷ K) X ≡ c ∷ fill K X
 unfolding fill
-fill-cell c K X h = rw (eqb-other c hole h)
+fill-cell c K X h = rw (ne-eqb c hole h)
 
 -- a hole filled, as terms
 fill-first : (K X : List ℕ) → Terms (count hole (hole ∷ K)) X → Terms 1 (front 1 X) × Terms (count hole K) (back 1 X)
@@ -93,8 +93,8 @@ decide-later j c K = rw (eqb-same hole)
 
 decide-cell : (i c d : ℕ) (K : List ℕ) → d ≢ hole → decide i c (d ∷ K) ≡ d ∷ decide i c K
 unfolding decide
-decide-cell zero c d K h = rw (eqb-other d hole h)
-decide-cell (suc j) c d K h = rw (eqb-other d hole h)
+decide-cell zero c d K h = rw (ne-eqb d hole h)
+decide-cell (suc j) c d K h = rw (ne-eqb d hole h)
 
 pub fill-decide : (i c : ℕ) (K : List ℕ) {A args : List ℕ} (B : List ℕ) → c ≢ hole → Terms i A → Terms (arity c) args
     → fill (decide i c K) (A ++ (args ++ B)) ≡ fill K (A ++ (c ∷ (args ++ B)))

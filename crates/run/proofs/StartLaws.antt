@@ -19,7 +19,7 @@ use Rattle.run.specs.See.{steps}
 use Rattle.run.specs.Link.{Bound}
 use Rattle.run.specs.Places.{Path, Apart, held, Open}
 use Rattle.run.specs.Walk.{hits, tried, found, tries, Ready, StateWalked, Begun}
-use Rattle.run.proofs.CountLaws.{up-length}
+use Rattle.table.proofs.HeadLaws.{up-length}
 use Rattle.run.proofs.PlacesLaws.{steps-length, held-put, up-at, up-range, up-apart, up-path}
 use Rattle.run.proofs.RefLaws.{Stand, steps-refs}
 

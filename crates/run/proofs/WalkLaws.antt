@@ -21,7 +21,7 @@ use Rattle.run.specs.Places.{lastOf, held, Open, Spot}
 use Rattle.run.specs.Link.{Ok, cell, number, Linked}
 use Rattle.run.specs.Walk.{hits, hitsIn, hitsAt, tried, triedIn, passed, found, tries, Walked, Deep, DeepIn, Space, Counted, Ready, Looked, ReadyAt, StateWalked, BranchWalked}
 use Rattle.run.specs.declared.goal.View.{View}
-use Rattle.run.proofs.CountLaws.{up-length}
+use Rattle.table.proofs.HeadLaws.{up-length}
 use Rattle.run.proofs.FewLaws.{hitsAt-few, triedAt-few}
 use Rattle.run.proofs.PlacesLaws.{before-made, slot-made, before-leads, held-parts, hop-path, hop-safe}
 use Rattle.run.proofs.RefLaws.{Oks-split}
