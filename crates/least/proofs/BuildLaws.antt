@@ -13,10 +13,10 @@ use Rattle.table.specs.declared.Reason.the-variants.{Room}
 use Rattle.table.specs.declared.Input.the-variants.{Lent}
 use Rattle.plan.specs.Steps.{TableRows}
 use Rattle.least.specs.declared.BuildAnswer.the-variants as build-answer
-use Rattle.least.specs.Writing.{Planned}
+use Rattle.least.specs.Writing.{Planned, Put, fitted, short}
 use Rattle.least.specs.Entries.{Entries}
 use Rattle.least.specs.Filling.{arrays, Filled}
-use Rattle.least.specs.Build.{WorkedOut, worked, Put, fitted, short, BuiltInto, table-refused, room-refused, built}
+use Rattle.least.specs.Build.{WorkedOut, worked, BuiltInto, table-refused, room-refused, built}
 use Rattle.least.proofs.FillLaws.{all-entries}
 
 pub no-table : {t : List ℕ} (room : List ℕ) {f : Refusal} → tableOf t ≡ refuse (told f) → BuiltInto t room room (build-answer.Refused f)

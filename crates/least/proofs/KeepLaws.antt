@@ -10,9 +10,8 @@ use Rattle.term.specs.Terms.{Terms, more, front}
 use Rattle.plan.specs.Plans.{plain}
 use Rattle.plan.proofs.RunsLaws.{Fits}
 use Rattle.least.specs.Best.{leastOver, firstOver}
-use Rattle.least.specs.Entries.{wholeOf}
 use Rattle.least.specs.Notes.{noteIn, Shown, Priced, Walk, Pair}
-use Rattle.least.specs.Filling.{PairAt, arrays, Keeps}
+use Rattle.least.specs.Filling.{wholeOf, PairAt, arrays, Keeps}
 use Rattle.table.proofs.AllLaws.{all-at}
 use Rattle.least.proofs.Pairs.{closedOf, agreedOf, leastOf, costOf, placeOf, equation, pair-entry}
 use Rattle.least.proofs.PairNotes.{whole-splits, whole-small, shown-map, pair-shown}

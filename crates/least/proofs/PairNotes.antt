@@ -16,7 +16,8 @@ use Rattle.plan.specs.Plans.{plain, choice}
 use Rattle.plan.proofs.RunsLaws.{Fits, Sized, rowsIn, group-sizes, group-rows}
 use Rattle.plan.proofs.PlansLaws.{cost-plain}
 use Rattle.plan.proofs.SizeLaws.{bound}
-use Rattle.least.specs.Entries.{between, wholeOf}
+use Rattle.least.specs.Filling.{wholeOf}
+use Rattle.least.specs.Entries.{between}
 use Rattle.least.specs.declared.arrays.Note.{Note}
 use Rattle.least.specs.Notes.{Noted, Shown, at-end, at-closed, at-open, Priced}
 use Rattle.least.proofs.Best.{best-least, least-one}

@@ -19,8 +19,8 @@ use Rattle.plan.proofs.SizeLaws.{size-bound}
 use Rattle.plan.proofs.CheckLaws.{rows-fit}
 use Rattle.plan.proofs.EntryLaws.{few-rows, rows-open}
 use Rattle.least.specs.Least.{Least, Built}
-use Rattle.least.specs.Entries.{between, wholeOf, Closes, stop}
-use Rattle.least.specs.Filling.{arrays, Filled}
+use Rattle.least.specs.Entries.{between, Closes, stop}
+use Rattle.least.specs.Filling.{wholeOf, arrays, Filled}
 use Rattle.least.specs.Writing.{Source, ToWrite, Written, Planned}
 use Rattle.least.proofs.Best.{least-one, best-least}
 use Rattle.least.proofs.Building.{built-least}

@@ -17,6 +17,7 @@ use Rattle.plan.specs.States.{rowsIn, columnIn, runsIn, Same}
 use Rattle.plan.specs.States as states
 use Rattle.plan.proofs.RunsLaws.{Fits, fits-more, runs-fit}
 use Rattle.plan.proofs.PlansLaws.{leaf-cells}
+use Rattle.plan.proofs.RowsLaws as rows-laws
 use Rattle.plan.proofs.RowsLaws.{rows-length, rows-kept, column-none, run-first, run-number, runs-closed, closes-of, same-self, same-then, same-later}
 use Rattle.least.specs.Least.{Chosen, Built, Builts}
 use Rattle.least.specs.Entries.{Closes}
@@ -131,7 +132,7 @@ pub inner : {t ss ms hs place out : List ℕ} {first last k at : ℕ} (q : ToWri
     → i < k → Chosen plain (k - 1) (rowsIn t ss ms first last) i → states.ClosedRows t ss ms hs ms₁ hs₁ i first (min last 64) → n ≡ runCount (columnIn hs₁ first last)
     → Inner t ss ms hs place out first last k at ms₁ hs₁ (set (set out at i) (at + 1) n) (write (q .plan))
 inner {t} {ss} {ms} {hs} {place} {out} {first} {last} {k} {at} q ms₁ hs₁ i n h c closed en =
-    let cl : states.Closes t ss ms hs ms₁ hs₁ i first last
+    let cl : rows-laws.Closes t ss ms hs ms₁ hs₁ i first last
     = closes-of t ss ms hs i (omega (arith, q .state .some)) (omega (arith, q .state .inside, q .state .source .many)) (q .room .masks) (q .room .column) closed in
     let ek : k ≡ suc (k - 1) = omega arith in
     let b = node-cells (q .plan) (k - 1) i ek (q .built) (omega arith) c in

@@ -1,9 +1,8 @@
 -- What the entries of this crate answer.
 use Prim.Native.Nat.{ℕ, _≤_, _<_}
 use mathlib.Core.Path.{_≡_}
-use mathlib.Core.Bool.{Bool, true, false}
 use mathlib.Core.List.{List, _++_}
-use lib.ListN.{length, take, drop, replicate}
+use lib.ListN.{length, drop, replicate}
 use Rattle.table.specs.Refusal.{Refused, refused, told, Answer, answered, turned}
 use Rattle.table.specs.Read.{read, refuse}
 use Rattle.table.specs.Table.{Table, tableOf}
@@ -24,11 +23,6 @@ pub data WorkedOut (t : List ℕ) (r : Entries) : Type 0 where
 abbrev pub buildTold : BuildAnswer → Answer
 buildTold (build-answer.Built n c) = answered n c
 buildTold (build-answer.Refused f) = turned (told f)
-
--- some cells are put at the front of the room where they fit, and otherwise nothing is written
-pub data Put (cells : List ℕ) (size : ℕ) (room room′ : List ℕ) : Bool → Type 0 where
-  fitted : size ≤ length room → room′ ≡ take size cells ++ drop size room → Put cells size room room′ true
-  short : length room < size → room′ ≡ room → Put cells size room room′ false
 
 -- What building answers for a table and a room, and what the room then holds. 01, "Building checks the table, then ROOM (fewer cells lent than the plan has)",
 -- ROOM's place being the cells needed; "a refusal .. writes nothing"; "On success the cells written come first and the rest of the room is untouched"

@@ -10,15 +10,10 @@ use Rattle.cell.specs.Cell.{arity}
 use Rattle.term.specs.Terms.{close}
 use Rattle.plan.specs.Plans.{Measure, plain}
 use Rattle.least.specs.Least.{Agree, Stuck, Least, Chosen}
-use Rattle.least.specs.Best.{best}
 
 -- the rows from the first to the last, both taken
 abbrev pub between : ℕ → ℕ → List (List ℕ) → List (List ℕ)
 between first last rows = slice first (suc last) rows
-
--- what the rows from the first to the last cost at least, with no place closed. A row has at most 32 cells
-abbrev pub wholeOf : ℕ → List (List ℕ) → ℕ → ℕ → ℕ
-wholeOf w rows first last = best plain 32 w (between first last rows)
 
 -- agreed places are closed one by one, from a state with k open places down to one with k′; n is what the closed cells weigh together
 pub data Closes (m : Measure) : ℕ → ℕ → List (List ℕ) → ℕ → List (List ℕ) → Type 0 where

@@ -10,8 +10,13 @@ use lib.Seq.{slice}
 use Rattle.term.specs.Terms.{Terms}
 use Rattle.table.specs.All.{All}
 use Rattle.plan.specs.Plans.{plain}
-use Rattle.least.specs.Entries.{wholeOf, Entry}
+use Rattle.least.specs.Best.{best}
+use Rattle.least.specs.Entries.{between, Entry}
 use Rattle.least.specs.Notes.{noteIn, inWhole, Noted, Ended}
+
+-- what the rows from the first to the last cost at least, with no place closed. A row has at most 32 cells
+abbrev pub wholeOf : ℕ → List (List ℕ) → ℕ → ℕ → ℕ
+wholeOf w rows first last = best plain 32 w (between first last rows)
 
 -- a row's cells end where the next row's begin, and the last row's where the table's end
 abbrev pub stopOf : List ℕ → List ℕ → ℕ → ℕ → ℕ

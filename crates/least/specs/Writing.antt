@@ -2,8 +2,9 @@
 -- check holds them: by the masks of their open cells.
 use Prim.Native.Nat.{ℕ, _+_, _*_, _≤_, _<_}
 use mathlib.Core.Path.{_≡_}
-use mathlib.Core.List.{List, [], _∷_}
-use lib.ListN.{length, getD, take}
+use mathlib.Core.Bool.{Bool, true, false}
+use mathlib.Core.List.{List, [], _∷_, _++_}
+use lib.ListN.{length, getD, take, drop}
 use lib.Seq.{sets, slice}
 use Rattle.cell.specs.Cell.{arity}
 use Rattle.table.specs.All.{All}
@@ -81,3 +82,8 @@ pub record Planned (T : Table) (cells : List ℕ) (size count : ℕ) : Type 0 wh
   pub size-is : size ≡ length (write plan)
   pub count-is : count ≡ branches plan
   pub few : size ≤ 6082
+
+-- some cells are put at the front of the room where they fit, and otherwise nothing is written
+pub data Put (cells : List ℕ) (size : ℕ) (room room′ : List ℕ) : Bool → Type 0 where
+  fitted : size ≤ length room → room′ ≡ take size cells ++ drop size room → Put cells size room room′ true
+  short : length room < size → room′ ≡ room → Put cells size room room′ false

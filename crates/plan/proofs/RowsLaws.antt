@@ -13,7 +13,7 @@ use Rattle.term.proofs.Lists.{set-sets, sets-found, getD-sets, drop-sets, slice
 use Rattle.plan.specs.Runs.{run, runs}
 use Rattle.plan.specs.Mask.{kept}
 use Rattle.plan.specs.Column.{runLength, runCount, runsOn}
-use Rattle.plan.specs.States.{rowAt, rowsAt, rowsIn, columnIn, runsIn, maskAt, masksAt, masksIn, ClosedRows, Same, Closes}
+use Rattle.plan.specs.States.{rowAt, rowsAt, rowsIn, columnIn, runsIn, maskAt, masksAt, masksIn, ClosedRows, Same}
 use Rattle.plan.proofs.ColumnLaws.{run-few, group-on, first-run, count-runs}
 
 -- the first row, and the others
@@ -103,6 +103,13 @@ run-first t ss ms hs row end n h l e =
 pub run-number : (t ss ms hs : List ℕ) (first end : ℕ) → end ≤ length hs → length (runsIn t ss ms hs first end) ≡ runCount (columnIn hs first end)
 run-number t ss ms hs first end l =
     count-runs (columnIn hs first end) (rowsIn t ss ms first end) (column-length hs first end l ∙ sym (rows-length t ss ms (end - first) first))
+
+-- What the check and the builder use of rows that are closed: those before first do not count any more.
+pub record Closes (t ss ms hs ms′ hs′ : List ℕ) (i first end : ℕ) : Type 0 where
+  pub cells : columnIn hs′ first end ≡ map (root i) (rowsIn t ss ms first end)
+  pub rows : rowsIn t ss ms′ first end ≡ map (close i) (rowsIn t ss ms first end)
+  pub masks : Same end ms ms′
+  pub column : Same end hs hs′
 
 -- Closing a place: the runs of the rows that are closed are the runs at that place.
 pub runs-closed : {t ss ms hs ms′ hs′ : List ℕ} {i first end : ℕ} → Closes t ss ms hs ms′ hs′ i first end

@@ -21,14 +21,14 @@ use Rattle.plan.specs.Plans.{Plan, leaf, node, Branches, end, next, writ
 use Rattle.plan.specs.Check.{Seen, bad, nodeFrom, stateFrom}
 use Rattle.plan.specs.Marks.{endsIn, endsOf, manyIn, manyOf}
 use Rattle.plan.specs.Column.{runCount}
-use Rattle.plan.specs.States.{rowsIn, columnIn, ClosedRows, Same, Closes}
+use Rattle.plan.specs.States.{rowsIn, columnIn, ClosedRows, Same}
 use Rattle.plan.specs.Steps.{Fitting, Ready, ReadyIn, Stood, StoodIn, Notes, NotesIn, Done, DoneIn}
 use Rattle.plan.specs.declared.check.Step.{Step}
 use Rattle.plan.specs.declared.check.Step.the-variants as step
 use Rattle.plan.proofs.RunsLaws.{group-all}
 use Rattle.plan.proofs.ReadingLaws.{leaf-ends, leaf-rows, leaf-read, node-ends, node-open, node-ends-2, node-edges, node-on, state-leaf, state-again}
 use Rattle.plan.proofs.MarksLaws.{ends-length, many-length}
-use Rattle.plan.proofs.RowsLaws.{rows-first, rows-length, run-number, runs-closed, same-self, same-then, closes-of}
+use Rattle.plan.proofs.RowsLaws.{Closes, rows-first, rows-length, run-number, runs-closed, same-self, same-then, closes-of}
 
 -- a branch's mark is stored when the state below it is done, and the marks of the other branches after it
 marks-next : (l l₁ l₂ xs ys : List ℕ) (at n m : ℕ) → l₁ ≡ sets l (at + 1) xs → n ≡ at + 1 + length xs → l₂ ≡ sets (set l₁ at m) n ys → l₂ ≡ sets l at (m ∷ (xs ++ ys))

@@ -50,10 +50,3 @@ pub record ClosedRows (t ss ms hs ms′ hs′ : List ℕ) (i first end : ℕ) : 
 pub record Same (from : ℕ) (xs xs′ : List ℕ) : Type 0 where
   pub size : length xs′ ≡ length xs
   pub after : drop from xs′ ≡ drop from xs
-
--- what the check and the builder use of it: the rows before first do not count any more
-pub record Closes (t ss ms hs ms′ hs′ : List ℕ) (i first end : ℕ) : Type 0 where
-  pub cells : columnIn hs′ first end ≡ map (root i) (rowsIn t ss ms first end)
-  pub rows : rowsIn t ss ms′ first end ≡ map (close i) (rowsIn t ss ms first end)
-  pub masks : Same end ms ms′
-  pub column : Same end hs hs′

@@ -26,7 +26,7 @@ pub record Visible (goal : List ℕ) (r : ℕ) : Type 0 where
   pub few : r < 64
   pub vars : r < 32 → isVar (getD goal r 0) ≡ true → getD goal r 0 < 32
 
--- the places of a terms that stand one after another from p on; sib has for each place the one after its term
+-- a steps from p on, by a table that has for each number the next: the places of as many terms that stand one after another, or slots along their links
 unfoldable pub steps : (sib : List ℕ) → ℕ → ℕ → List ℕ
 steps sib zero p = []
 steps sib (suc a) p = p ∷ steps sib a (getD sib p 0)

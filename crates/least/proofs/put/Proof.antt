@@ -1,6 +1,6 @@
 use mathlib.Core.Path.{refl}
 use native.Mathlib.Omega.{arith}
-use Rattle.least.specs.Build.{fitted, short}
+use Rattle.least.specs.Writing.{fitted, short}
 use borrow.Author.Needs.{needs}
 use Rattle.least.proofs.put.Statement.{statement}
 use Rattle.least.proofs.put.Tie as tie
