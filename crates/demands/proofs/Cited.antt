@@ -11,32 +11,32 @@ use lib.ListN.{length, getD}
 use borrow.Author.Tests.{ltb-true, ltb-false, le-ltb, eq-eqb}
 use Rattle.cell.proofs.CellLaws.{built-variable}
 use Rattle.term.specs.Unify.{Matches}
-use Rattle.table.specs.declared.Reason.the-variants as reason
-use Rattle.table.specs.declared.Input.the-variants as input
-use Rattle.table.specs.Refusal.{Refused, Answer, answered, turned}
-use Rattle.table.specs.Read.{Read, read, refuse}
+use Rattle.refusal.specs.declared.Reason.the-variants as reason
+use Rattle.refusal.specs.declared.Input.the-variants as input
+use Rattle.refusal.specs.Refusal.{Refused, Answer, answered, turned}
+use Rattle.refusal.specs.Read.{Read, read, refuse}
 use Rattle.table.specs.Table.{Table, tableOf, tableSays, met, termsFrom, goalOf, goalSays, upFrom, IsGoal}
 use Rattle.table.proofs.ReadLaws.{apart, read-one, within-bounds}
 use Rattle.table.proofs.Accepted.{is-table, goal-accepted}
-use Rattle.plan.specs.declared.PlanAnswer.{PlanAnswer}
-use Rattle.plan.specs.declared.PlanAnswer.the-variants as plan-answer
+use Rattle.checker.specs.declared.PlanAnswer.{PlanAnswer}
+use Rattle.checker.specs.declared.PlanAnswer.the-variants as plan-answer
 use Rattle.plan.specs.Plans.{Plan, write, branches}
 use Rattle.plan.specs.Check.{planFor, planOf}
-use Rattle.plan.specs.Checked.{planTold, planSays}
+use Rattle.checker.specs.Checked.{planTold, planSays}
 use Rattle.plan.proofs.SizeLaws.{size-bound}
 use Rattle.plan.proofs.PlansLaws.{write-one}
 use Rattle.plan.proofs.CheckLaws.{accepted-one, rows-fit}
-use Rattle.plan.proofs.Fixed.{plan-fixed}
-use Rattle.least.specs.declared.BuildAnswer.{BuildAnswer}
-use Rattle.least.specs.declared.BuildAnswer.the-variants as build-answer
-use Rattle.least.specs.Build.{BuiltInto, table-refused, room-refused, built, buildTold}
-use Rattle.least.proofs.Fixed.{build-fixed}
-use Rattle.run.specs.declared.RunAnswer.{RunAnswer}
-use Rattle.run.specs.Run.{Picks, Counts, Tried, runOf, runTold, Ran, refusal, ran}
-use Rattle.run.proofs.Fixed.{skeletons-one}
+use Rattle.checker.proofs.Fixed.{plan-fixed}
+use Rattle.builder.specs.declared.BuildAnswer.{BuildAnswer}
+use Rattle.builder.specs.declared.BuildAnswer.the-variants as build-answer
+use Rattle.builder.specs.Build.{BuiltInto, table-refused, room-refused, built, buildTold}
+use Rattle.builder.proofs.Fixed.{build-fixed}
+use Rattle.answer.specs.declared.RunAnswer.{RunAnswer}
+use Rattle.answer.specs.Run.{Picks, Counts, Tried, runOf, runTold, Ran, refusal, ran, Ascends}
+use Rattle.answer.proofs.Fixed.{skeletons-one}
 use Rattle.table.proofs.HeadLaws.{up-length}
-use Rattle.run.proofs.Theorems.{Ascends, picked, picks-ascend, tries-every}
-use Rattle.run.proofs.TakesLaws.{takes-run, run-table, run-plan, run-goal, run-room}
+use Rattle.answer.proofs.Theorems.{picked, picks-ascend, tries-every}
+use Rattle.answer.proofs.TakesLaws.{takes-run, run-table, run-plan, run-goal, run-room}
 use Rattle.demands.specs.Said.{BuildTurned, no-table, no-room, RunTurned, bad-table, bad-plan, bad-goal, bad-room, Answers}
 
 -- Refusals.

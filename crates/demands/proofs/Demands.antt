@@ -20,28 +20,28 @@ use Rattle.term.proofs.Finite.{finite-unifier}
 use Rattle.table.specs.declared.TableRead.{TableRead}
 use Rattle.table.specs.declared.GoalAnswer.{GoalAnswer}
 use Rattle.table.specs.declared.Part.{Part}
-use Rattle.table.specs.Refusal.{Refused, answered, turned}
-use Rattle.table.specs.Read.{read, refuse}
+use Rattle.refusal.specs.Refusal.{Refused, answered, turned}
+use Rattle.refusal.specs.Read.{read, refuse}
 use Rattle.table.specs.Table.{Table, table, tableOf, tableSays, goalOf, goalWith, TableReads, tableTold, goalTold, goalSays, rowIn, RowPlace, IsTable, IsGoal, count, appear, upFrom}
 use Rattle.table.proofs.Accepted.{table-accepted, goal-accepted, goal-is, accepted-row}
 use Rattle.table.proofs.Fixed.{table-fixed, goal-for-fixed, goal-fixed, place-fixed, row-fixed}
-use Rattle.plan.specs.declared.PlanAnswer.{PlanAnswer}
-use Rattle.plan.specs.declared.PlanAnswer.the-variants as plan-answer
-use Rattle.plan.specs.declared.Marked.{Marked}
+use Rattle.checker.specs.declared.PlanAnswer.{PlanAnswer}
+use Rattle.checker.specs.declared.PlanAnswer.the-variants as plan-answer
+use Rattle.checker.specs.declared.Marked.{Marked}
 use Rattle.plan.specs.Plans.{Plan, write, branches}
 use Rattle.plan.specs.Check.{planOf}
-use Rattle.plan.specs.Checked.{planTold, planSays, Marks}
-use Rattle.plan.proofs.Fixed.{plan-fixed, marks-fixed}
-use Rattle.least.specs.declared.BuildAnswer.{BuildAnswer}
-use Rattle.least.specs.declared.BuildAnswer.the-variants as build-answer
-use Rattle.least.specs.declared.Entries.{Entries}
-use Rattle.least.specs.Build.{WorkedOut, BuiltInto, buildTold}
-use Rattle.least.proofs.Fixed.{worked-fixed, build-fixed}
-use Rattle.least.proofs.Joined.{built-accepted}
-use Rattle.run.specs.declared.RunAnswer.{RunAnswer}
-use Rattle.run.specs.Run.{runTold, Ran}
-use Rattle.run.proofs.Fixed.{run-fixed}
-use Rattle.run.proofs.Theorems.{Ascends, same-hits, tries-at-most}
+use Rattle.checker.specs.Checked.{planTold, planSays, Marks}
+use Rattle.checker.proofs.Fixed.{plan-fixed, marks-fixed}
+use Rattle.builder.specs.declared.BuildAnswer.{BuildAnswer}
+use Rattle.builder.specs.declared.BuildAnswer.the-variants as build-answer
+use Rattle.builder.specs.declared.Entries.{Entries}
+use Rattle.builder.specs.Build.{WorkedOut, BuiltInto, buildTold}
+use Rattle.builder.proofs.Fixed.{worked-fixed, build-fixed}
+use Rattle.builder.proofs.Joined.{built-accepted}
+use Rattle.answer.specs.declared.RunAnswer.{RunAnswer}
+use Rattle.answer.specs.Run.{runTold, Ran, Ascends}
+use Rattle.answer.proofs.Fixed.{run-fixed}
+use Rattle.answer.proofs.Theorems.{same-hits, tries-at-most}
 use Rattle.listing.specs.Listing.{Lists, Written}
 use Rattle.listing.proofs.Fixed.{written-one}
 use Rattle.exports.specs.Coded.{BuildCoded, RunCoded}

@@ -4,14 +4,14 @@ use mathlib.Core.Path.{_≡_, ap, sym, _∙_}
 use mathlib.Core.List.{List, _++_}
 use native.Mathlib.Omega.{arith}
 use lib.ListN.{length, drop, length-append}
-use Rattle.table.specs.Refusal.{answered}
+use Rattle.refusal.specs.Refusal.{answered}
 use Rattle.plan.specs.Plans.{write, branches}
-use Rattle.least.specs.Build.{BuiltInto, table-refused, room-refused, built, buildTold}
-use Rattle.least.specs.declared.BuildAnswer.{BuildAnswer}
-use Rattle.least.specs.declared.BuildAnswer.the-variants as build-answer
-use Rattle.run.specs.Run.{Ran, refusal, ran, runTold}
-use Rattle.run.specs.declared.RunAnswer.{RunAnswer}
-use Rattle.run.specs.declared.RunAnswer.the-variants as run-answer
+use Rattle.builder.specs.Build.{BuiltInto, table-refused, room-refused, built, buildTold}
+use Rattle.builder.specs.declared.BuildAnswer.{BuildAnswer}
+use Rattle.builder.specs.declared.BuildAnswer.the-variants as build-answer
+use Rattle.answer.specs.Run.{Ran, refusal, ran, runTold}
+use Rattle.answer.specs.declared.RunAnswer.{RunAnswer}
+use Rattle.answer.specs.declared.RunAnswer.the-variants as run-answer
 
 at-front : (front room : List ℕ) {room′ : List ℕ} → room′ ≡ front ++ drop (length front) room → length front ≤ length room′
 at-front front room e = omega (arith, ap length e, length-append front (drop (length front) room))

@@ -1,3 +1,1 @@
-pub mod Above
-pub mod Cases
 pub mod Fits

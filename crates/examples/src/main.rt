@@ -1,9 +1,9 @@
 // Every example of 01, marked or not, on the functions themselves. What is printed is compared with the file stdout; cells are printed as numbers.
-use least::BuildAnswer;
+use answer::RunAnswer;
+use builder::BuildAnswer;
+use checker::PlanAnswer;
 use libc::STDOUT_FILENO;
-use plan::PlanAnswer;
-use run::RunAnswer;
-use table::Refusal;
+use refusal::Refusal;
 use table::TableAnswer;
 
 // 01's letters: names without arguments, f1 with one. The letter's place in the alphabet is its number.
@@ -48,7 +48,7 @@ fn pair(first: usize, middle: &[u8], second: usize) {
 fn refused(f: Refusal) {
     let reason = f.reason;
     say(b"refused ");
-    pair(table::number_of(reason), b" at ", f.place);
+    pair(refusal::number_of(reason), b" at ", f.place);
     say(b"\n");
 }
 
@@ -101,7 +101,7 @@ fn build(table: &[u32]) {
 }
 
 fn build_into(table: &[u32], room: &mut [u32]) {
-    match least::build_plan(table, room) {
+    match builder::build_plan(table, room) {
         BuildAnswer::Built(n, cost) => {
             say(b"cost ");
             number(cost);
@@ -114,7 +114,7 @@ fn build_into(table: &[u32], room: &mut [u32]) {
 
 // The check of a plan that is handed in.
 fn check(table: &[u32], plan: &[u32]) {
-    match plan::check_plan(table, plan) {
+    match checker::check_plan(table, plan) {
         PlanAnswer::Accepted(branches) => {
             say(b"accepted: branches ");
             number(branches);
@@ -132,7 +132,7 @@ fn ask(table: &[u32], goal: &[u32]) {
 }
 
 fn ask_with(table: &[u32], goal: &[u32], room: &mut [u32], hits: &mut [u8]) {
-    match least::build_plan(table, room) {
+    match builder::build_plan(table, room) {
         BuildAnswer::Built(n, _) => ask_plan(table, &room[..n], goal, hits),
         BuildAnswer::Refused(f) => refused(f),
     }

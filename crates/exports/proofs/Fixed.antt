@@ -3,12 +3,12 @@
 use Prim.Native.Nat.{ℕ}
 use mathlib.Core.Path.{_≡_, sym, ap, _∙_}
 use mathlib.Core.List.{List}
-use Rattle.least.specs.Build.{buildTold}
-use Rattle.least.specs.declared.BuildAnswer.{BuildAnswer}
-use Rattle.least.proofs.Fixed.{build-fixed}
-use Rattle.run.specs.Run.{runTold}
-use Rattle.run.specs.declared.RunAnswer.{RunAnswer}
-use Rattle.run.proofs.Fixed.{run-fixed}
+use Rattle.builder.specs.Build.{buildTold}
+use Rattle.builder.specs.declared.BuildAnswer.{BuildAnswer}
+use Rattle.builder.proofs.Fixed.{build-fixed}
+use Rattle.answer.specs.Run.{runTold}
+use Rattle.answer.specs.declared.RunAnswer.{RunAnswer}
+use Rattle.answer.proofs.Fixed.{run-fixed}
 use Rattle.exports.specs.Coded.{coded, BuildCoded, RunCoded}
 
 pub build-coded-fixed : {t room room′ room″ : List ℕ} {m n : ℕ} → BuildCoded t room room′ m → BuildCoded t room room″ n → (m ≡ n) × (room′ ≡ room″)

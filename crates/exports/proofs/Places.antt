@@ -8,13 +8,15 @@ use lib.Dec.{eqb, leb, ltb}
 use lib.ListN.{length, getD, take, drop, length-drop}
 use borrow.Author.Tests.{ltb-false}
 use Rattle.cell.specs.Cell.{arity, valuesAt}
-use Rattle.table.specs.Refusal.{Refused, refused}
+use Rattle.refusal.specs.Refusal.{Refused, refused}
+use Rattle.refusal.specs.declared.Reason.{Reason}
+use Rattle.refusal.specs.declared.Reason.the-variants as reason
+use Rattle.refusal.specs.declared.Input.the-variants as input
 use Rattle.plan.specs.Runs.{Run, runs}
-use Rattle.plan.specs.Check.{bad as plan-bad}
-use Rattle.plan.specs.Check.{Seen, seen, cellThen, Reader, branchesFrom, leafFrom, stateFrom, nothingAfter, planFor, planOf}
-use Rattle.run.specs.Run.{runOf}
+use Rattle.plan.specs.Check.{bad as plan-bad, Seen, seen, cellThen, Reader, branchesFrom, leafFrom, stateFrom, nothingAfter, planFor, planOf}
+use Rattle.answer.specs.Run.{runOf}
 use Rattle.table.proofs.Accepted.{is-table}
-use Rattle.table.specs.Read.{Read, read, refuse, when, andThen}
+use Rattle.refusal.specs.Read.{Read, read, refuse, when, andThen}
 use Rattle.table.specs.Table.{Table, Met, met, counted, bad, termsFrom, before, rowsFrom, tableOf, table, goalOf}
 
 -- the place of a refusal is at most n; what is read has P
@@ -41,14 +43,14 @@ Within p n m = (p ≤ m .next) × (m .next ≤ n)
 placed-terms : (row : Bool) (xs : List ℕ) (owed used vars p n : ℕ) → p + length xs ≡ n → Placed n (Within p n) (termsFrom row xs owed used vars p)
 unfolding termsFrom Within
 placed-terms row [] zero used vars p n e = good {x = met p vars} (omega arith)
-placed-terms row [] (suc owed) used vars p n e = placed-when (row && leb 32 used) (bad row 4 p) (omega arith) (λ _. turned {f = bad row 5 p} (omega arith))
+placed-terms row [] (suc owed) used vars p n e = placed-when (row && leb 32 used) (bad row reason.Long p) (omega arith) (λ _. turned {f = bad row reason.Short p} (omega arith))
 placed-terms row (c ∷ xs) zero used vars p n e = good {x = met p vars} (omega arith)
 placed-terms row (c ∷ xs) (suc owed) used vars p n e =
     let v = valuesAt c in
-    placed-when (row && leb 32 used) (bad row 4 p) (omega arith) (λ _.
-    placed-when (eqb (v .kind) 3) (bad row 6 p) (omega arith) (λ _.
-    placed-when (eqb (v .kind) 0 && ltb vars (v .number)) (bad row 7 p) (omega arith) (λ _.
-    placed-when (row && (eqb (v .kind) 0 && ltb (v .number) vars)) (bad row 8 p) (omega arith) (λ _.
+    placed-when (row && leb 32 used) (bad row reason.Long p) (omega arith) (λ _.
+    placed-when (eqb (v .kind) 3) (bad row reason.Cell p) (omega arith) (λ _.
+    placed-when (eqb (v .kind) 0 && ltb vars (v .number)) (bad row reason.Fresh p) (omega arith) (λ _.
+    placed-when (row && (eqb (v .kind) 0 && ltb (v .number) vars)) (bad row reason.Twice p) (omega arith) (λ _.
     later (placed-terms row xs (v .args + owed) (suc used) (counted v vars) (suc p) n (omega arith))))))
   where
     later : {r : Read Met} → Placed n (Within (suc p) n) r → Placed n (Within p n) r
@@ -65,7 +67,7 @@ placed-before r (turned l) = turned l
 placed-rows : (w k : ℕ) (xs : List ℕ) (p n : ℕ) → p + length xs ≡ n → Placed n Any (rowsFrom w k xs p)
 unfolding rowsFrom Within
 placed-rows w zero [] p n e = good tt
-placed-rows w zero (c ∷ xs) p n e = turned {f = refused 9 1 p} (omega arith)
+placed-rows w zero (c ∷ xs) p n e = turned {f = refused reason.Extra input.Table p} (omega arith)
 placed-rows w (suc k) xs p n e =
     placed-then (λ (m : Met). before (take (m .next - p) xs) (rowsFrom w k (drop (m .next - p) xs) (m .next))) (placed-terms true xs w 0 0 p n e)
     (λ m i. placed-before (take (m .next - p) xs) (placed-rows w k (drop (m .next - p) xs) (m .next) n (omega (arith, length-drop (m .next - p) xs))))
@@ -83,22 +85,22 @@ or-false false b e = (refl, e)
 pub placed-table : (t : List ℕ) → Placed 2050 (Any {A = Table}) (tableOf t)
 unfolding tableOf
 placed-table t =
-    placed-when (ltb (length t) 2 || ltb 2050 (length t)) (refused 1 1 0) (omega arith) (λ h.
+    placed-when (ltb (length t) 2 || ltb 2050 (length t)) (refused reason.Length input.Table 0) (omega arith) (λ h.
     let e = or-false (ltb (length t) 2) (ltb 2050 (length t)) h in
     let lo = ltb-false (length t) 2 (e .0) in
     let hi = ltb-false 2050 (length t) (e .1) in
-    placed-when (ltb (getD t 0 0) 1 || ltb 8 (getD t 0 0)) (refused 2 1 0) (omega arith) (λ _.
-    placed-when (ltb (getD t 1 0) 1 || ltb 64 (getD t 1 0)) (refused 3 1 1) (omega arith) (λ _.
+    placed-when (ltb (getD t 0 0) 1 || ltb 8 (getD t 0 0)) (refused reason.Width input.Table 0) (omega arith) (λ _.
+    placed-when (ltb (getD t 1 0) 1 || ltb 64 (getD t 1 0)) (refused reason.Count input.Table 1) (omega arith) (λ _.
     placed-then (λ (rows : List (List ℕ)). read (table (getD t 0 0) rows)) (widen hi (placed-rows (getD t 0 0) (getD t 1 0) (drop 2 t) 2 (length t) (omega (arith, length-drop 2 t)))) (λ x _. good tt))))
 
 pub placed-goal : (w : ℕ) (g : List ℕ) → Placed 32 (Any {A = ℕ}) (goalOf w g)
 unfolding goalOf Within
 placed-goal w g =
-    placed-when (ltb (length g) 1 || ltb 32 (length g)) (refused 1 3 0) (omega arith) (λ h.
+    placed-when (ltb (length g) 1 || ltb 32 (length g)) (refused reason.Length input.Goal 0) (omega arith) (λ h.
     let hi = ltb-false 32 (length g) (or-false (ltb (length g) 1) (ltb 32 (length g)) h .1) in
-    placed-then (λ (m : Met). when (ltb (m .next) (length g)) (refused 9 3 (m .next)) (read (m .vars)))
+    placed-then (λ (m : Met). when (ltb (m .next) (length g)) (refused reason.Extra input.Goal (m .next)) (read (m .vars)))
     (narrow hi (placed-terms false g w 0 0 0 (length g) (omega arith)))
-    (λ m i. placed-when (ltb (m .next) (length g)) (refused 9 3 (m .next)) i (λ _. good tt)))
+    (λ m i. placed-when (ltb (m .next) (length g)) (refused reason.Extra input.Goal (m .next)) i (λ _. good tt)))
   where
     narrow : {n : ℕ} {r : Read Met} → n ≤ 32 → Placed n (Within 0 n) r → Placed 32 (λ (m : Met). m .next ≤ 32) r
     narrow l (good {x} w) = good {x = x} (omega arith)
@@ -109,9 +111,9 @@ abbrev Left : ℕ → Seen → Type 0
 Left n s = s .next + length (s .rest) ≡ n
 
 module _ (n : ℕ) where
-  placed-cell : {A : Type 0} {P : A → Type 0} (ok : ℕ → Bool) (k p : ℕ) (f : ℕ → List ℕ → Read A) (xs : List ℕ) → p + length xs ≡ n
+  placed-cell : {A : Type 0} {P : A → Type 0} (ok : ℕ → Bool) (k : Reason) (p : ℕ) (f : ℕ → List ℕ → Read A) (xs : List ℕ) → p + length xs ≡ n
       → ((c : ℕ) (ys : List ℕ) → suc p + length ys ≡ n → Placed n P (f c ys)) → Placed n P (cellThen ok k p f xs)
-  placed-cell ok k p f [] e h = turned {f = plan-bad 11 p} (omega arith)
+  placed-cell ok k p f [] e h = turned {f = plan-bad reason.Ends p} (omega arith)
   placed-cell ok k p f (c ∷ xs) e h = placed-when (not (ok c)) (plan-bad k p) (omega arith) (λ _. h c xs (omega arith))
 
   abbrev Reads : Reader → Type 0
@@ -120,31 +122,31 @@ module _ (n : ℕ) where
   placed-branches : (below : Reader) → Reads below → (k : ℕ) (gs : List Run) (p : ℕ) (xs : List ℕ) → p + length xs ≡ n → Placed n (Left n) (branchesFrom below k gs p xs)
   placed-branches below r k [] p xs e = good {x = seen 0 p xs} e
   placed-branches below r k (g ∷ gs) p xs e =
-      placed-cell (λ c. eqb c (g .cell)) 14 p _ xs e (λ c ys l.
+      placed-cell (λ c. eqb c (g .cell)) reason.Label p _ xs e (λ c ys l.
       placed-then _ (r (arity (g .cell) + k) (g .rows) (suc p) ys l) (λ s m.
       placed-then _ (placed-branches below r k gs (s .next) (s .rest) m) (λ t o.
       good {x = seen (suc (s .branches + t .branches)) (t .next) (t .rest)} o)))
 
   placed-leaf : (rows : List (List ℕ)) (p : ℕ) (xs : List ℕ) → p + length xs ≡ n → Placed n (Left n) (leafFrom rows p xs)
-  placed-leaf rows p xs e = placed-cell (λ c. eqb c (length rows)) 15 p _ xs e (λ c ys l. good {x = seen 0 (suc p) ys} l)
+  placed-leaf rows p xs e = placed-cell (λ c. eqb c (length rows)) reason.Rows p _ xs e (λ c ys l. good {x = seen 0 (suc p) ys} l)
 
   placed-state : (m : ℕ) → Reads (stateFrom m)
   unfolding stateFrom
   placed-state zero zero rows p xs e = placed-leaf rows p xs e
-  placed-state zero (suc k) rows p xs e = turned {f = plan-bad 11 p} (omega arith)
+  placed-state zero (suc k) rows p xs e = turned {f = plan-bad reason.Ends p} (omega arith)
   placed-state (suc m) zero rows p xs e = placed-leaf rows p xs e
   placed-state (suc m) (suc k) rows p xs e =
-      placed-cell (λ c. leb c k) 12 p _ xs e (λ i ys l.
-      placed-cell (λ c. eqb c (length (runs i rows))) 13 (suc p) _ ys l (λ b zs o.
+      placed-cell (λ c. leb c k) reason.Open p _ xs e (λ i ys l.
+      placed-cell (λ c. eqb c (length (runs i rows))) reason.Edges (suc p) _ ys l (λ b zs o.
       placed-branches (λ j rs q us. stateFrom m j rs q us) (placed-state m) k (runs i rows) (suc (suc p)) zs o))
 
 pub placed-plan : (T : Table) (cells : List ℕ) → Placed 6082 (Any {A = ℕ}) (planFor T cells)
 unfolding planFor
 placed-plan T cells =
-    placed-when (ltb 6082 (length cells)) (plan-bad 10 0) (omega arith) (λ h.
+    placed-when (ltb 6082 (length cells)) (plan-bad reason.Size 0) (omega arith) (λ h.
     let hi = ltb-false 6082 (length cells) h in
     placed-then nothingAfter (narrow hi (placed-state (length cells) 32 (T .width) (T .rows) 0 cells (omega arith)))
-    (λ s l. placed-when (ltb 0 (length (s .rest))) (plan-bad 9 (s .next)) l (λ _. good tt)))
+    (λ s l. placed-when (ltb 0 (length (s .rest))) (plan-bad reason.Extra (s .next)) l (λ _. good tt)))
   where
     narrow : {n : ℕ} {r : Read Seen} → n ≤ 6082 → Placed n (Left n) r → Placed 6082 (λ (s : Seen). s .next ≤ 6082) r
     narrow l (good {x} w) = good {x = x} (omega arith)
@@ -160,15 +162,15 @@ placed-run t p g room = go (tableOf t) refl
   where
     rest : (T : Table) → length (T .rows) ≤ 64 → Placed 6082 Any (andThen (planOf t p) (λ (n : ℕ).
         andThen (goalOf (T .width) g) (λ (v : ℕ).
-        when (ltb (length room) (length (T .rows))) (refused 16 4 (length (T .rows))) (read T))))
+        when (ltb (length room) (length (T .rows))) (refused reason.Room input.Lent (length (T .rows))) (read T))))
     rest T l =
         placed-then _ (placed-checked t p) (λ n _.
         placed-then _ (widen (omega arith) (placed-goal (T .width) g)) (λ v _.
-        placed-when (ltb (length room) (length (T .rows))) (refused 16 4 (length (T .rows))) (omega arith) (λ _. good tt)))
+        placed-when (ltb (length room) (length (T .rows))) (refused reason.Room input.Lent (length (T .rows))) (omega arith) (λ _. good tt)))
 
     go : (r : Read Table) → tableOf t ≡ r → Placed 6082 Any (andThen r (λ (T : Table).
         andThen (planOf t p) (λ (n : ℕ).
         andThen (goalOf (T .width) g) (λ (v : ℕ).
-        when (ltb (length room) (length (T .rows))) (refused 16 4 (length (T .rows))) (read T)))))
+        when (ltb (length room) (length (T .rows))) (refused reason.Room input.Lent (length (T .rows))) (read T)))))
     go (read T) e = rest T (is-table t e .count .1)
     go (refuse f) e = let l = placed-at (placed-table t) e in turned {f = f} (omega arith)

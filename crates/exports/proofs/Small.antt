@@ -7,25 +7,25 @@ use mathlib.Core.Bool.{_||_}
 use lib.Dec.{ltb}
 use lib.ListN.{length, getD, replicate, length-append}
 use Rattle.term.proofs.Lists.{getD-zeros}
-use Rattle.table.specs.Refusal.{Answer}
-use Rattle.table.specs.Read.{Read, read, refuse, andThen}
+use Rattle.refusal.specs.Refusal.{Answer}
+use Rattle.refusal.specs.Read.{Read, read, refuse, andThen}
 use Rattle.table.specs.Table.{Table, tableOf, tableSays, goalOf, goalSays, goalWith, rowIn, startsIn, starts, Row}
 use Rattle.table.specs.All.{All}
 use Rattle.table.proofs.Accepted.{is-table, is-goal}
 use Rattle.table.proofs.HeadLaws.{head-few}
 use Rattle.table.proofs.ReadLaws.{passed, inside}
 use Rattle.plan.specs.Check.{planFor, planOf}
-use Rattle.plan.specs.Checked.{planSays}
+use Rattle.checker.specs.Checked.{planSays}
 use Rattle.plan.specs.Plans.{Plan, write, branches}
 use Rattle.plan.proofs.SizeLaws.{bound, size-bound}
-use Rattle.least.specs.declared.BuildAnswer.{BuildAnswer}
-use Rattle.least.specs.Build.{BuiltInto, table-refused, room-refused, built, buildTold}
+use Rattle.builder.specs.declared.BuildAnswer.{BuildAnswer}
+use Rattle.builder.specs.Build.{BuiltInto, table-refused, room-refused, built, buildTold}
 use Rattle.plan.proofs.CheckLaws.{accepted-one, rows-fit}
-use Rattle.run.specs.declared.RunAnswer.{RunAnswer}
-use Rattle.run.specs.Skeleton.{hole}
-use Rattle.run.specs.Run.{Picks, none, hit, miss, runTold, Ran, refusal, ran}
-use Rattle.run.proofs.TakesLaws.{run-takes}
-use Rattle.run.proofs.Theorems.{tried-most}
+use Rattle.answer.specs.declared.RunAnswer.{RunAnswer}
+use Rattle.answer.specs.Skeleton.{hole}
+use Rattle.answer.specs.Run.{Picks, none, hit, miss, runTold, Ran, refusal, ran}
+use Rattle.answer.proofs.TakesLaws.{run-takes}
+use Rattle.answer.proofs.Theorems.{tried-most}
 use Rattle.exports.specs.Coded.{Small}
 use Rattle.exports.proofs.Places.{placed-at, placed-table, placed-plan, placed-run, placed-goal}
 

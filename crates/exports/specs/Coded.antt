@@ -3,11 +3,11 @@
 use Prim.Native.Nat.{ℕ, _+_, _*_, _^_, _<_}
 use mathlib.Core.Path.{_≡_}
 use mathlib.Core.List.{List}
-use Rattle.table.specs.Refusal.{Answer, answered, turned}
-use Rattle.least.specs.declared.BuildAnswer.{BuildAnswer}
-use Rattle.least.specs.Build.{BuiltInto, buildTold}
-use Rattle.run.specs.declared.RunAnswer.{RunAnswer}
-use Rattle.run.specs.Run.{Ran, runTold}
+use Rattle.refusal.specs.Refusal.{Answer, answered, turned}
+use Rattle.builder.specs.declared.BuildAnswer.{BuildAnswer}
+use Rattle.builder.specs.Build.{BuiltInto, buildTold}
+use Rattle.answer.specs.declared.RunAnswer.{RunAnswer}
+use Rattle.answer.specs.Run.{Ran, runTold}
 
 abbrev pub coded : Answer → ℕ
 coded (answered a b) = 2 ^ 16 * a + 2 ^ 32 * b

@@ -1,17 +1,17 @@
 // An answer as one number: number + 2^8 · input + 2^16 · first + 2^32 · second.
 ghost use mathlib.Core.Path.{_≡_};
 ghost use Prim.Native.Nat.{_<_, _^_};
-ghost use Rattle.table.specs.Refusal.{told, answered, turned};
+ghost use Rattle.refusal.specs.Refusal.{told, answered, turned};
 ghost use Rattle.table.specs.Table.{tableTold, goalTold};
-ghost use Rattle.plan.specs.Checked.{planTold};
-ghost use Rattle.least.specs.Build.{buildTold};
-ghost use Rattle.run.specs.Run.{runTold};
+ghost use Rattle.checker.specs.Checked.{planTold};
+ghost use Rattle.builder.specs.Build.{buildTold};
+ghost use Rattle.answer.specs.Run.{runTold};
 ghost use Rattle.exports.specs.Coded.{coded, Small};
-use least::BuildAnswer;
-use plan::PlanAnswer;
-use run::RunAnswer;
+use answer::RunAnswer;
+use builder::BuildAnswer;
+use checker::PlanAnswer;
+use refusal::Refusal;
 use table::GoalAnswer;
-use table::Refusal;
 use table::TableAnswer;
 
 pub fn code_answer(first: usize, second: usize) -> u64
@@ -29,8 +29,8 @@ fn code_refusal(f: Refusal) -> u64
 {
     let reason = f.reason;
     let input = f.input;
-    let n = table::number_of(reason) as u64;
-    let i = table::input_of(input) as u64;
+    let n = refusal::number_of(reason) as u64;
+    let i = refusal::input_of(input) as u64;
     let p = f.place as u64;
     n + 256 * i + 65536 * p
 }

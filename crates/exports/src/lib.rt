@@ -1,10 +1,10 @@
 // What other programs call. Each entry takes any cells at all and answers one number of 64 bits (specs/Coded): the refusal, or its two values.
 ghost use mathlib.Core.Path.{_≡_};
 ghost use Rattle.table.specs.Table.{tableOf, tableSays, goalWith, goalSays, startsIn, rowIn};
-ghost use Rattle.table.specs.Refusal.{answered};
+ghost use Rattle.refusal.specs.Refusal.{answered};
 ghost use lib.ListN.{length, getD};
 ghost use Rattle.plan.specs.Check.{planOf};
-ghost use Rattle.plan.specs.Checked.{planSays};
+ghost use Rattle.checker.specs.Checked.{planSays};
 ghost use Rattle.exports.specs.Coded.{coded, BuildCoded, RunCoded};
 
 mod code;
@@ -43,7 +43,7 @@ pub extern "C" fn dudowiej_row(cells: &[u32], r: usize) -> u64
 pub extern "C" fn dudowiej_check_plan(cells: &[u32], plan: &[u32]) -> u64
     ensures { λ r. ⌜ r ≡ coded (planSays (planOf (now (cells .entry)) (now (plan .entry)))) ⌝ }
 {
-    code::code_plan(plan::check_plan(cells, plan))
+    code::code_plan(checker::check_plan(cells, plan))
 }
 
 // The least plan's number of cells and its cost; its cells are the room's first.
@@ -51,7 +51,7 @@ pub extern "C" fn dudowiej_check_plan(cells: &[u32], plan: &[u32]) -> u64
 pub extern "C" fn dudowiej_build_plan(cells: &[u32], room: &mut [u32]) -> u64
     ensures { λ r. ⌜ BuildCoded (now (cells .entry)) (now (room .entry)) (now (room .exit)) r ⌝ }
 {
-    code::code_build(least::build_plan(cells, room))
+    code::code_build(builder::build_plan(cells, room))
 }
 
 // A run's number of hits and of branches tried; the hits are the room's first bytes.

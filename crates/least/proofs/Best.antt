@@ -9,8 +9,9 @@ use Rattle.term.specs.Terms.{root, close}
 use Rattle.table.specs.All.{All}
 use Rattle.plan.specs.Runs.{Run, runs}
 use Rattle.plan.specs.Plans.{Plan, leaf, node, Branches, end, next, Measure, cost, costs}
-use Rattle.plan.proofs.RunsLaws.{Each, Sized, group-sizes, Fits, fits-some, runs-fit}
-use Rattle.least.specs.Best.{argmin, minimum, through, total, best}
+use Rattle.plan.proofs.RunsLaws.{Each, Sized, group-sizes, fits-some, runs-fit}
+use Rattle.plan.specs.code.Fits.{Fits}
+use Rattle.least.specs.code.Best.{argmin, minimum, through, total, best}
 use Rattle.least.specs.Least.{Least}
 use Rattle.least.proofs.Minimum.{argmin-first}
 

@@ -10,7 +10,7 @@ use lib.Dec.{eqb}
 use borrow.Author.Tests.{eqb-true, eq-eqb, ne-eqb}
 use Rattle.plan.specs.Runs.{Run, runs}
 use Rattle.plan.specs.Plans.{Plan, leaf, node, Branches, end, next, Measure, choice, cost, costs}
-use Rattle.least.specs.Best.{through, best}
+use Rattle.least.specs.code.Best.{through, best}
 use Rattle.least.specs.Least.{Agree, Stuck, Least, first, Chosen, shared, cheapest, Built, Builts}
 use Rattle.least.proofs.Minimum.{First}
 use Rattle.least.proofs.Best.{least-one, LeastRuns, leaf-least, runs-nil, runs-cons}

@@ -10,8 +10,8 @@ use Rattle.term.specs.Terms.{none, more, root, close}
 use Rattle.table.specs.All.{All}
 use Rattle.plan.specs.Runs.{agree, runs}
 use Rattle.plan.specs.Plans.{plain}
-use Rattle.plan.proofs.RunsLaws.{Fits}
-use Rattle.least.specs.Best.{argmin, through, total, best}
+use Rattle.plan.specs.code.Fits.{Fits}
+use Rattle.least.specs.code.Best.{argmin, through, total, best}
 use Rattle.least.specs.Least.{Least}
 use Rattle.least.proofs.Best.{best-least}
 use Rattle.least.proofs.Builder.{below, place, runCells, planCells, Builds, plan-built}

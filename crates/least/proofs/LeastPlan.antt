@@ -5,7 +5,7 @@ use Prim.Native.Nat.{ℕ, _≤_, _<_}
 use lib.ListN.{length}
 use Rattle.table.specs.All.{All}
 use Rattle.plan.specs.Plans.{Plan, Measure, cost}
-use Rattle.plan.proofs.RunsLaws.{Fits}
+use Rattle.plan.specs.code.Fits.{Fits}
 use Rattle.least.specs.Least.{Built}
 use Rattle.least.proofs.Building.{built-least, built-one}
 use Rattle.least.proofs.Builder.{plan-built}

@@ -5,7 +5,7 @@ use Prim.Native.Nat.{ℕ, zero, suc, _≤_, _<_}
 use native.Mathlib.Omega.{arith}
 use lib.Dec.{leb}
 use borrow.Author.Tests.{leb-true, leb-false}
-use Rattle.least.specs.Best.{argmin}
+use Rattle.least.specs.code.Best.{argmin}
 
 -- the place i of 0 .. k is the first at which F is least
 pub record First (k : ℕ) (F : ℕ → ℕ) (i : ℕ) : Type 0 where

@@ -9,8 +9,9 @@ use lib.Seq.{length-slice}
 use Rattle.table.specs.All.{All}
 use Rattle.plan.specs.Runs.{runs}
 use Rattle.plan.specs.Plans.{Measure}
-use Rattle.plan.proofs.RunsLaws.{Fits, fits-more}
-use Rattle.least.specs.Best.{argmin, firstOver, leastOver, through, best}
+use Rattle.plan.proofs.RunsLaws.{fits-more}
+use Rattle.plan.specs.code.Fits.{Fits}
+use Rattle.least.specs.code.Best.{argmin, firstOver, leastOver, through, best}
 use Rattle.least.specs.Least.{Least, Chosen}
 use Rattle.least.specs.Entries.{between, Closes, stop, step, Entry, none, leaf, inner}
 use Rattle.least.proofs.Minimum.{argmin-first}

@@ -10,12 +10,13 @@ use lib.Dec.{ltb}
 use borrow.Author.Tests.{ltb-true, ltb-false}
 use Rattle.cell.specs.Cell.{arity}
 use Rattle.term.proofs.TermsLaws.{terms-long}
-use Rattle.term.specs.Terms.{none, root, close}
+use Rattle.term.specs.Terms.{root, close}
 use Rattle.term.proofs.PlaceLaws.{root-before}
 use Rattle.table.specs.All.{All}
 use Rattle.plan.specs.Runs.{Run, runs}
 use Rattle.plan.specs.Plans.{Measure}
-use Rattle.plan.proofs.RunsLaws.{Fits, fits-close}
+use Rattle.plan.proofs.RunsLaws.{fits-close}
+use Rattle.plan.specs.code.Fits.{Fits}
 use Rattle.least.specs.Least.{Agree, Stuck}
 use Rattle.least.specs.Entries.{Closes, stop, step}
 use Rattle.table.proofs.AllLaws.{all-map, all-both, all-unmap}

@@ -7,7 +7,7 @@ use native.Mathlib.Omega.{arith}
 use lib.ListN.{length, getD, set, drop, drop-of-length-le}
 use lib.Seq.{sets, drop-cons}
 use Rattle.listing.specs.Listing.{cellsOf}
-use Rattle.listing.specs.Walk.{cellAt}
+use Rattle.listing.specs.code.Walk.{cellAt}
 
 one-more : (bytes : List ℕ) (at next : ℕ) → next ≡ suc at → next ≤ length bytes → drop at bytes ≡ getD bytes at 0 ∷ drop next bytes
 one-more bytes at next e h = rw e (drop-cons bytes at 0 (omega arith))

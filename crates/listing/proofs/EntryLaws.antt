@@ -8,25 +8,25 @@ use native.Mathlib.Omega.{arith}
 use lib.ListN.{length, take, drop, replicate, length-append}
 use lib.Seq.{sets-eq, take-append-seam, take-at, length-take-le}
 use borrow.Author.Tests.{lt-ltb, le-ltb, eq-eqb, ne-eqb}
-use Rattle.table.specs.Refusal.{Refused, told, answered, turned}
-use Rattle.table.specs.declared.Refusal.{Refusal}
-use Rattle.table.specs.Read.{read, refuse}
+use Rattle.refusal.specs.Refusal.{Refused, told, answered, turned}
+use Rattle.refusal.specs.declared.Refusal.{Refusal}
+use Rattle.refusal.specs.Read.{read, refuse}
 use Rattle.table.specs.Table.{Table, tableOf}
 use Rattle.table.proofs.ReadLaws.{apart, read-one}
 use Rattle.table.proofs.Accepted.{is-table}
 use Rattle.plan.specs.Plans.{Plan, write, branches, plain, cost}
 use Rattle.plan.specs.Marks.{manyIn}
-use Rattle.plan.specs.Checked.{Marks, marked, refused}
-use Rattle.plan.specs.declared.Marked.{Marked}
+use Rattle.checker.specs.Checked.{Marks, marked, refused}
+use Rattle.checker.specs.declared.Marked.{Marked}
 use Rattle.plan.proofs.PlansLaws.{plan-tells, cost-plain}
 use Rattle.plan.proofs.SizeLaws.{size-bound}
 use Rattle.plan.proofs.CheckLaws.{accepted, rows-fit}
 use Rattle.least.specs.Least.{Built}
-use Rattle.least.specs.Build.{BuiltInto, table-refused, room-refused, built, buildTold}
-use Rattle.least.specs.declared.BuildAnswer.{BuildAnswer}
-use Rattle.least.specs.declared.BuildAnswer.the-variants as build-answer
+use Rattle.builder.specs.Build.{BuiltInto, table-refused, room-refused, built, buildTold}
+use Rattle.builder.specs.declared.BuildAnswer.{BuildAnswer}
+use Rattle.builder.specs.declared.BuildAnswer.the-variants as build-answer
 use Rattle.listing.specs.Listing.{header, linesIn, listingOf, cellsOf, unread, Written, AtFront}
-use Rattle.listing.specs.Walk.{Room, Put, Whole, Planned}
+use Rattle.listing.specs.code.Walk.{Room, Put, Whole, Planned}
 use Rattle.listing.proofs.CellsLaws.{cells-length}
 use Rattle.listing.proofs.LengthLaws.{listing-few}
 

@@ -8,14 +8,14 @@ use lib.ListN.{length}
 use Rattle.cell.specs.Cell.{valuesAt, arity, isVar}
 use Rattle.term.specs.Terms.{none, more, root, close}
 use Rattle.table.specs.All.{All}
-use Rattle.table.specs.Read.{read}
+use Rattle.refusal.specs.Read.{read}
 use Rattle.table.specs.Table.{Table, table, termsFrom, rowsFrom, tableOf}
 use Rattle.plan.specs.Runs.{agree}
 use Rattle.plan.specs.Plans.{Plan, leaf, node, end, next, write, plain, cost}
-use Rattle.plan.proofs.RunsLaws.{Fits}
+use Rattle.plan.specs.code.Fits.{Fits}
 use Rattle.plan.proofs.PlansLaws.{write-one}
 use Rattle.least.specs.Least.{Built}
-use Rattle.least.specs.Best.{argmin, total, best}
+use Rattle.least.specs.code.Best.{argmin, total, best}
 use Rattle.least.proofs.Builder.{place, runCells, planCells, plan-built}
 use Rattle.listing.specs.Listing.{digitsOf, decimal, symbolOf, line, linesIn, header, listingOf, cellsOf, listed, unread, Lists, cells}
 

@@ -17,11 +17,12 @@ use Rattle.table.specs.All.{All}
 use Rattle.table.specs.Table.{Table}
 use Rattle.plan.specs.Runs.{Run}
 use Rattle.plan.specs.Plans.{Plan, leaf, node, Branches, end, next, branches, branchesIn, plain, cost}
-use Rattle.plan.proofs.RunsLaws.{Each, Fits, fits-some, runs-fit}
+use Rattle.plan.proofs.RunsLaws.{Each, fits-some, runs-fit}
+use Rattle.plan.specs.code.Fits.{Fits}
 use Rattle.plan.proofs.PlansLaws.{cost-plain}
 use Rattle.plan.proofs.SizeLaws.{bound}
 use Rattle.listing.specs.Listing.{decimal, symbolOf, symbol, field, line, linesIn, linesOf, header, refusal, listingOf}
-use Rattle.listing.specs.Walk.{Within}
+use Rattle.listing.specs.code.Walk.{Within}
 use Rattle.listing.proofs.TextLaws.{decimal-small, decimal-more}
 use Rattle.listing.proofs.WalkLaws.{within, within-first}
 

@@ -17,7 +17,7 @@ use Rattle.cell.specs.Cell.{valuesAt, valuesOf}
 use Rattle.cell.specs.declared.Shape.{Shape}
 use Rattle.cell.specs.declared.Shape.the-variants.{Variable, Name, Number, Refused}
 use Rattle.listing.specs.Listing.{digitsOf, decimal, symbolOf, symbol}
-use Rattle.listing.specs.Walk.{Room, Put}
+use Rattle.listing.specs.code.Walk.{Room, Put}
 
 -- two texts one after the other are one text
 pub put-put : {a b c xs ys : List ℕ} {to m r : ℕ} → Put a b to xs m → Put b c m ys r → Put a c to (xs ++ ys) r

@@ -16,7 +16,7 @@ use Rattle.plan.specs.Marks.{manyIn, manyOf}
 use Rattle.plan.proofs.RunsLaws.{Sized, rowsIn, group-sizes, group-rows}
 use Rattle.plan.proofs.MarksLaws.{many-length}
 use Rattle.listing.specs.Listing.{line, linesIn, linesOf, header}
-use Rattle.listing.specs.Walk.{Room, Put, Within, Ready, Readys, Walked, Whole}
+use Rattle.listing.specs.code.Walk.{Room, Put, Within, Ready, Readys, Walked, Whole}
 use Rattle.listing.specs.declared.walk.Stand.{Stand}
 use Rattle.listing.proofs.TextLaws.{put-put, room-first, room-next}
 

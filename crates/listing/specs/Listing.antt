@@ -6,8 +6,8 @@ use mathlib.Core.List.{List, [], _∷_, _++_}
 use lib.Dec.{eqb, ltb}
 use lib.ListN.{length, take, drop}
 use Rattle.cell.specs.Cell.{Values, valuesAt}
-use Rattle.table.specs.Refusal.{Refused}
-use Rattle.table.specs.Read.{read, refuse}
+use Rattle.refusal.specs.Refusal.{Refused}
+use Rattle.refusal.specs.Read.{read, refuse}
 use Rattle.table.specs.Table.{Table, tableOf}
 use Rattle.plan.specs.Runs.{Run}
 use Rattle.plan.specs.Plans.{Plan, leaf, node, Branches, end, next, plain, cost}

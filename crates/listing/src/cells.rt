@@ -3,7 +3,7 @@ ghost use mathlib.Core.Path.{_≡_};
 ghost use Prim.Native.Nat.{_+_, _*_, _%_, _≤_, _<_};
 ghost use lib.ListN.{length};
 ghost use Rattle.listing.specs.Listing.{cellsOf};
-ghost use Rattle.listing.specs.Walk.{Put, cellAt};
+ghost use Rattle.listing.specs.code.Walk.{Put, cellAt};
 
 fn low(x: u8) -> u32
     ensures { λ r. ⌜ (r ≡ x) × (r < 256) ⌝ }

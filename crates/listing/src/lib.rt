@@ -8,12 +8,12 @@ ghost use mathlib.Core.List.{_++_};
 ghost use Prim.Native.Nat.{_≤_};
 ghost use lib.ListN.{length};
 ghost use Rattle.listing.specs.Listing.{header, linesIn, refusal, listingOf, ListsTable, Lists, Written, AtFront};
-ghost use Rattle.listing.specs.Walk.{Put, Whole, Planned};
+ghost use Rattle.listing.specs.code.Walk.{Put, Whole, Planned};
 use crate::cells::read_cells;
 use crate::text::put_header;
 use crate::text::put_refusal;
 use crate::walk::state;
-use least::BuildAnswer;
+use builder::BuildAnswer;
 
 // The header and the lines of a plan.
 fn put_plan(
@@ -37,7 +37,7 @@ fn list_plan(table: &[u32], plan: &[u32], out: &mut [u8], cost: usize) -> usize
     requires { ⌜ Planned (now table) (now plan) (now out) cost ⌝ }
     ensures { λ r. ⌜ ((w : Planned (now (table .entry)) (now (plan .entry)) (now (out .entry)) cost) → Written (_≡_ (listingOf (w .table) (w .tree))) (now (out .entry)) (now (out .exit)) r) ⌝ }
 {
-    let marks = plan::check_marked(table, plan);
+    let marks = checker::check_marked(table, plan);
     let rows = marks.rows;
     let width = marks.width;
     put_plan(plan, &marks.many, out, rows, width, cost)
@@ -57,12 +57,12 @@ fn list_cells(table: &[u32], out: &mut [u8]) -> usize
     ensures { λ r. ⌜ Written (ListsTable (now (table .entry))) (now (out .entry)) (now (out .exit)) r ⌝ }
 {
     let mut room = [0u32; 6082];
-    match least::build_plan(table, &mut room) {
+    match builder::build_plan(table, &mut room) {
         BuildAnswer::Built(n, cost) => list_plan(table, &room[..n], out, cost),
         BuildAnswer::Refused(f) => {
             let reason = f.reason;
             let place = f.place;
-            list_refusal(table::number_of(reason), place, out)
+            list_refusal(refusal::number_of(reason), place, out)
         }
     }
 }

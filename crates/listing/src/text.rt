@@ -1,7 +1,7 @@
 // Text put into a lent room: each function puts its text from a place on and answers the place after it.
 ghost use mathlib.Core.List.{[], _∷_};
 ghost use Rattle.listing.specs.Listing.{decimal, field, symbol, line, header, refusal};
-ghost use Rattle.listing.specs.Walk.{Room, Put};
+ghost use Rattle.listing.specs.code.Walk.{Room, Put};
 use cell::Shape;
 
 pub fn put_byte(out: &mut [u8], to: usize, b: u8) -> usize

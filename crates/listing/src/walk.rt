@@ -2,7 +2,7 @@
 ghost use mathlib.Core.Path.{_≡_};
 ghost use Rattle.plan.specs.Plans.{write, writes};
 ghost use Rattle.listing.specs.Listing.{linesIn, linesOf};
-ghost use Rattle.listing.specs.Walk.{Ready, Readys, Walked};
+ghost use Rattle.listing.specs.code.Walk.{Ready, Readys, Walked};
 use crate::text::put_line;
 
 // Where the walk stands: the next cell of the plan, and the place of the next line.

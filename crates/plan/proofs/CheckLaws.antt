@@ -13,19 +13,22 @@ use Rattle.term.specs.Terms.{Terms, root, close}
 use Rattle.term.proofs.Tests.{eqb-same}
 use Rattle.term.proofs.Lists.{nil-of-length}
 use Rattle.table.specs.All.{All}
-use Rattle.table.specs.Refusal.{Refused}
-use Rattle.table.specs.Read.{Read, read, refuse}
+use Rattle.refusal.specs.Refusal.{Refused}
+use Rattle.refusal.specs.declared.Reason.{Reason}
+use Rattle.refusal.specs.declared.Reason.the-variants as reason
+use Rattle.refusal.specs.Read.{Read, read, refuse}
 use Rattle.table.specs.Table.{Table, Row, IsTable}
 use Rattle.table.proofs.ReadLaws.{apart, passed, first}
 use Rattle.plan.specs.Runs.{Run, runs}
 use Rattle.plan.specs.Plans.{Plan, leaf, node, Branches, end, next, write, writes, branches, branchesIn}
 use Rattle.plan.specs.Check.{Seen, seen, bad, cellThen, Reader, branchesFrom, leafFrom, nodeFrom, stateFrom, nothingAfter, planFor}
-use Rattle.plan.proofs.RunsLaws.{Each, Sized, group-sizes, Fits, fits-some, runs-fit}
+use Rattle.plan.proofs.RunsLaws.{Each, Sized, group-sizes, fits-some, runs-fit}
+use Rattle.plan.specs.code.Fits.{Fits}
 use Rattle.plan.proofs.PlansLaws.{write-one}
 use Rattle.plan.proofs.SizeLaws.{size-bound}
 
 -- a cell that is read is there, and has passed its test
-cell-read : {A : Type 0} (ok : ℕ → Bool) (n p : ℕ) (f : ℕ → List ℕ → Read A) (xs : List ℕ) (x : A) → cellThen ok n p f xs ≡ read x
+cell-read : {A : Type 0} (ok : ℕ → Bool) (n : Reason) (p : ℕ) (f : ℕ → List ℕ → Read A) (xs : List ℕ) (x : A) → cellThen ok n p f xs ≡ read x
     → (c : ℕ) × (ys : List ℕ) × (xs ≡ c ∷ ys) × (ok c ≡ true) × (f c ys ≡ read x)
 cell-read ok n p f [] x e = apart (sym e)
 cell-read ok n p f (c ∷ ys) x e = let w = passed (not (ok c)) _ (f c ys) e in (c, ys, refl, not-false (ok c) (w .0), w .1)
@@ -56,7 +59,7 @@ branches-sound below h k [] p xs s e =
     let f : seen 0 p xs ≡ s = cc in
     rw (← f) (record { plans = end; cells = refl; count = refl; ends = omega arith })
 branches-sound below h k (g ∷ gs) p xs s e =
-    let c = cell-read (λ c. eqb c (g .cell)) 14 p _ xs s e in
+    let c = cell-read (λ c. eqb c (g .cell)) reason.Label p _ xs s e in
     let t = first (below (arity (g .cell) + k) (g .rows) (suc p) (c .1)) _ (c .4) in
     let u = first (branchesFrom below k gs (t .0 .next) (t .0 .rest)) _ (t .2) in
     let b = h (arity (g .cell) + k) (g .rows) (suc p) (c .1) (t .0) (t .1) in
@@ -74,7 +77,7 @@ branches-sound below h k (g ∷ gs) p xs s e =
 leaf-sound : (rows : List (List ℕ)) (p : ℕ) (xs : List ℕ) (s : Seen) → leafFrom rows p xs ≡ read s → Stands 0 rows p xs s
 unfolding write branches
 leaf-sound rows p xs s e =
-    let c = cell-read (λ c. eqb c (length rows)) 15 p _ xs s e in
+    let c = cell-read (λ c. eqb c (length rows)) reason.Rows p _ xs s e in
     let f : seen 0 (suc p) (c .1) ≡ s = cc (c .4) in
     let l : c .0 ≡ length rows = eqb-true (c .0) (length rows) (c .3) in
     rw (← f) (record { plan = leaf; cells = cc (c .2); count = refl; ends = omega arith })
@@ -83,9 +86,9 @@ node-sound : (below : Reader) → Sound below → (k : ℕ) (rows : List (List �
     → Stands (suc k) rows p xs s
 unfolding write branches
 node-sound below h k rows p xs s e =
-    let c = cell-read (λ c. leb c k) 12 p _ xs s e in
+    let c = cell-read (λ c. leb c k) reason.Open p _ xs s e in
     let i : ℕ = c .0 in
-    let m = cell-read (λ c. eqb c (length (runs i rows))) 13 (suc p) _ (c .1) s (c .4) in
+    let m = cell-read (λ c. eqb c (length (runs i rows))) reason.Edges (suc p) _ (c .1) s (c .4) in
     let l : m .0 ≡ length (runs i rows) = eqb-true (m .0) (length (runs i rows)) (m .3) in
     let bs = branches-sound below h k (runs i rows) (suc (suc p)) (m .1) s (m .4) in
     record { plan = node i (leb-true i k (c .3)) (bs .plans); cells = cc (c .2, m .2, bs .cells); count = bs .count; ends = omega (arith, bs .ends) }
@@ -137,7 +140,7 @@ nothing-read s b e =
 
 module _ (T : Table) (cells : List ℕ) where
   -- SIZE; what the first state is refused for; EXTRA
-  pub plan-size : 6082 < length cells → planFor T cells ≡ refuse (bad 10 0)
+  pub plan-size : 6082 < length cells → planFor T cells ≡ refuse (bad reason.Size 0)
   unfolding planFor
   plan-size h = rw (lt-ltb 6082 (length cells) h)
 
@@ -146,7 +149,7 @@ module _ (T : Table) (cells : List ℕ) where
   plan-refused f h e = rw (le-ltb 6082 (length cells) h, e)
 
   pub plan-extra : (b e : ℕ) → length cells ≤ 6082 → stateFrom 32 (T .width) (T .rows) 0 cells ≡ read (seen b e (drop e cells)) → e < length cells
-      → planFor T cells ≡ refuse (bad 9 e)
+      → planFor T cells ≡ refuse (bad reason.Extra e)
   unfolding planFor
   plan-extra b e h r l =
       let m : 0 < length (drop e cells) = omega (arith, length-drop e cells) in

@@ -5,8 +5,11 @@ use mathlib.Core.List.{List, [], _∷_, map, flatten}
 use lib.ListN.{length, replicate}
 use Rattle.cell.specs.Cell.{nameCell, numberCell, variableCell, valuesAt, arity, isVar}
 use Rattle.term.specs.Terms.{root, close}
-use Rattle.table.specs.Refusal.{refused}
-use Rattle.table.specs.Read.{Read, read, refuse}
+use Rattle.refusal.specs.Refusal.{refused}
+use Rattle.refusal.specs.declared.Reason.{Reason}
+use Rattle.refusal.specs.declared.Reason.the-variants as reason
+use Rattle.refusal.specs.declared.Input.the-variants as input
+use Rattle.refusal.specs.Read.{Read, read, refuse}
 use Rattle.table.specs.Table.{termsFrom, rowsFrom, tableOf}
 use Rattle.plan.specs.Runs.{agree}
 use Rattle.plan.specs.Check.{stateFrom, planFor, planOf}
@@ -83,9 +86,9 @@ pub record Case : Type 0 where
 abbrev case : List ℕ → List ℕ → Read ℕ → Case
 case t p r = record { cells = t; plan = p; says = r }
 
--- a plan refused with this number at this place
-abbrev no : ℕ → ℕ → Read ℕ
-no n p = refuse (refused n 2 p)
+-- a plan refused for this reason at this place
+abbrev no : Reason → ℕ → Read ℕ
+no r p = refuse (refused r input.Plan p)
 
 pub cases : List Case
 cases =
@@ -105,30 +108,30 @@ cases =
     ∷ case p7 (0 ∷ 1 ∷ a ∷ 0 ∷ 2 ∷ b ∷ 1 ∷ a ∷ 1 ∷ []) (read 3)
     ∷ case p7 (1 ∷ 2 ∷ b ∷ 0 ∷ 1 ∷ a ∷ 1 ∷ a ∷ 0 ∷ 1 ∷ a ∷ 1 ∷ []) (read 4)
     -- EDGES: P3 with two branches for g; P2 with a shared between rows 0 and 2; P6 with variables that agree
-    ∷ case p3 (0 ∷ 2 ∷ []) (no 13 1)
-    ∷ case p2 (0 ∷ 2 ∷ a ∷ 0 ∷ 2 ∷ b ∷ 1 ∷ d ∷ 1 ∷ b ∷ 0 ∷ 1 ∷ c ∷ 1 ∷ []) (no 13 1)
-    ∷ case p6 (0 ∷ 1 ∷ v0 ∷ 2 ∷ []) (no 13 1)
+    ∷ case p3 (0 ∷ 2 ∷ []) (no reason.Edges 1)
+    ∷ case p2 (0 ∷ 2 ∷ a ∷ 0 ∷ 2 ∷ b ∷ 1 ∷ d ∷ 1 ∷ b ∷ 0 ∷ 1 ∷ c ∷ 1 ∷ []) (no reason.Edges 1)
+    ∷ case p6 (0 ∷ 1 ∷ v0 ∷ 2 ∷ []) (no reason.Edges 1)
     -- OPEN: an index equal to the number of open places, at the first state and below a branch
-    ∷ case p4 (1 ∷ 1 ∷ v0 ∷ 1 ∷ []) (no 12 0)
-    ∷ case p8 (0 ∷ 2 ∷ f1 ∷ 1 ∷ 2 ∷ a ∷ 1 ∷ b ∷ 1 ∷ g ∷ 1 ∷ []) (no 12 3)
+    ∷ case p4 (1 ∷ 1 ∷ v0 ∷ 1 ∷ []) (no reason.Open 0)
+    ∷ case p8 (0 ∷ 2 ∷ f1 ∷ 1 ∷ 2 ∷ a ∷ 1 ∷ b ∷ 1 ∷ g ∷ 1 ∷ []) (no reason.Open 3)
     -- LABEL: another symbol, also where the leaf below is wrong too; another variable than the row's own
-    ∷ case p5 (0 ∷ 1 ∷ b ∷ 1 ∷ []) (no 14 2)
-    ∷ case p6 (0 ∷ 2 ∷ v0 ∷ 1 ∷ v1 ∷ 1 ∷ []) (no 14 4)
+    ∷ case p5 (0 ∷ 1 ∷ b ∷ 1 ∷ []) (no reason.Label 2)
+    ∷ case p6 (0 ∷ 2 ∷ v0 ∷ 1 ∷ v1 ∷ 1 ∷ []) (no reason.Label 4)
     -- ROWS: one row too few, one too many
-    ∷ case p5 (0 ∷ 1 ∷ a ∷ 1 ∷ []) (no 15 3)
-    ∷ case p5 (0 ∷ 1 ∷ a ∷ 3 ∷ []) (no 15 3)
+    ∷ case p5 (0 ∷ 1 ∷ a ∷ 1 ∷ []) (no reason.Rows 3)
+    ∷ case p5 (0 ∷ 1 ∷ a ∷ 3 ∷ []) (no reason.Rows 3)
     -- ENDS: at each place
-    ∷ case p5 [] (no 11 0)
-    ∷ case p5 (0 ∷ []) (no 11 1)
-    ∷ case p5 (0 ∷ 1 ∷ []) (no 11 2)
-    ∷ case p5 (0 ∷ 1 ∷ a ∷ []) (no 11 3)
+    ∷ case p5 [] (no reason.Ends 0)
+    ∷ case p5 (0 ∷ []) (no reason.Ends 1)
+    ∷ case p5 (0 ∷ 1 ∷ []) (no reason.Ends 2)
+    ∷ case p5 (0 ∷ 1 ∷ a ∷ []) (no reason.Ends 3)
     -- EXTRA
-    ∷ case p5 (0 ∷ 1 ∷ a ∷ 2 ∷ 2 ∷ []) (no 9 4)
+    ∷ case p5 (0 ∷ 1 ∷ a ∷ 2 ∷ 2 ∷ []) (no reason.Extra 4)
     -- SIZE, before anything else of the plan, and from 6,083 cells on
-    ∷ case p5 (replicate 6082 0) (no 13 1)
-    ∷ case p5 (replicate 6083 0) (no 10 0)
+    ∷ case p5 (replicate 6082 0) (no reason.Edges 1)
+    ∷ case p5 (replicate 6083 0) (no reason.Size 0)
     -- the table comes first
-    ∷ case (1 ∷ []) (1 ∷ []) (refuse (refused 1 1 0))
+    ∷ case (1 ∷ []) (1 ∷ []) (refuse (refused reason.Length input.Table 0))
     ∷ []
 
 pub computed : map (λ (k : Case). planOf (k .cells) (k .plan)) cases ≡ map (λ (k : Case). k .says) cases

@@ -4,12 +4,4 @@ pub mod SizeLaws
 pub mod ReadingLaws
 pub mod CheckLaws
 pub mod MarksLaws
-pub mod MaskLaws
-pub mod ColumnLaws
-pub mod RowsLaws
-pub mod StateLaws
-pub mod LoopLaws
-pub mod EntryLaws
-pub mod Accepts
-pub mod Fixed
 pub mod Examples

@@ -7,8 +7,8 @@ use lib.ListN.{length, getD, length-append, List·getD-append}
 use lib.Seq.{getD-append-add}
 use Rattle.plan.specs.Runs.{Run}
 use Rattle.plan.specs.Plans.{Plan, leaf, node, Branches, end, next, write, writes}
-use Rattle.plan.specs.Marks.{endsIn, endsOf, manyIn, manyOf}
-use Rattle.plan.specs.Checked.{padded}
+use Rattle.plan.specs.Marks.{endsIn, endsOf, manyIn, manyOf, padded}
+use Rattle.plan.specs.code.Noted.{Noted, NotedIn}
 
 -- there is a mark for each cell
 mutual
@@ -56,18 +56,6 @@ module _ (xs : List ℕ) (p : ℕ) where
 
 pub holds-front : (ys zs : List ℕ) → Holds (ys ++ zs) 0 ys
 holds-front ys zs = record { at = λ j h. let e : 0 + j ≡ j = omega arith in rw e (List·getD-append ys zs 0 j h) }
-
--- What a run takes for granted of a plan's marks, the plan's first cell being at p: at each branch's cell stands in es the place after the branch,
--- and in ms its number of rows.
-unfoldable mutual
-  pub Noted : {k : ℕ} {rows : List (List ℕ)} → Plan k rows → (es ms : List ℕ) → ℕ → Type 0
-  Noted leaf es ms p = Unit {0}
-  Noted (node i h bs) es ms p = NotedIn bs es ms (p + 2)
-
-  pub NotedIn : {k : ℕ} {gs : List Run} → Branches k gs → (es ms : List ℕ) → ℕ → Type 0
-  NotedIn end es ms p = Unit {0}
-  NotedIn (next {g = g} b bs) es ms p =
-      (getD es p 0 ≡ p + 1 + length (write b)) × (getD ms p 0 ≡ length (g .rows)) × Noted b es ms (p + 1) × NotedIn bs es ms (p + 1 + length (write b))
 
 -- it holds wherever the plan's marks stand in the two lists
 mutual

@@ -13,16 +13,19 @@ use borrow.Author.Tests.{leb-true, le-leb, lt-leb, eq-eqb, ne-eqb}
 use Rattle.cell.specs.Cell.{arity}
 use Rattle.term.specs.Terms.{root, close}
 use Rattle.table.specs.All.{All}
-use Rattle.table.specs.Refusal.{Refused}
-use Rattle.table.specs.Read.{Read, read, refuse, when, andThen}
+use Rattle.refusal.specs.Refusal.{Refused}
+use Rattle.refusal.specs.declared.Reason.{Reason}
+use Rattle.refusal.specs.declared.Reason.the-variants as reason
+use Rattle.refusal.specs.Read.{Read, read, refuse, when, andThen}
 use Rattle.table.proofs.ReadLaws.{then-both}
 use Rattle.plan.specs.Runs.{Run, runs}
 use Rattle.plan.specs.Check.{Seen, seen, bad, cellThen, Reader, branchesFrom, leafFrom, nodeFrom, stateFrom}
-use Rattle.plan.proofs.RunsLaws.{Each, Sized, group-sizes, Fits, fits-some, fits-more, runs-fit}
+use Rattle.plan.proofs.RunsLaws.{Each, Sized, group-sizes, fits-some, fits-more, runs-fit}
+use Rattle.plan.specs.code.Fits.{Fits}
 
 -- one cell: ENDS, the test it fails, or on with the cells after it
-module _ {A : Type 0} (ok : ℕ → Bool) (n : ℕ) (f : ℕ → List ℕ → Read A) (xs : List ℕ) (i : ℕ) where
-  cell-ends : length xs ≤ i → cellThen ok n i f (drop i xs) ≡ refuse (bad 11 i)
+module _ {A : Type 0} (ok : ℕ → Bool) (n : Reason) (f : ℕ → List ℕ → Read A) (xs : List ℕ) (i : ℕ) where
+  cell-ends : length xs ≤ i → cellThen ok n i f (drop i xs) ≡ refuse (bad reason.Ends i)
   cell-ends h = rw (drop-of-length-le xs h)
 
   cell-bad : i < length xs → ok (getD xs i 0) ≡ false → cellThen ok n i f (drop i xs) ≡ refuse (bad n i)
@@ -33,40 +36,40 @@ module _ {A : Type 0} (ok : ℕ → Bool) (n : ℕ) (f : ℕ → List ℕ → Re
 
 -- a leaf: ENDS, ROWS, or read
 module _ (rows : List (List ℕ)) (xs : List ℕ) (i : ℕ) where
-  pub leaf-ends : length xs ≤ i → leafFrom rows i (drop i xs) ≡ refuse (bad 11 i)
-  leaf-ends h = cell-ends _ 15 _ xs i h
+  pub leaf-ends : length xs ≤ i → leafFrom rows i (drop i xs) ≡ refuse (bad reason.Ends i)
+  leaf-ends h = cell-ends _ reason.Rows _ xs i h
 
-  pub leaf-rows : i < length xs → getD xs i 0 ≢ length rows → leafFrom rows i (drop i xs) ≡ refuse (bad 15 i)
-  leaf-rows h e = cell-bad _ 15 _ xs i h (ne-eqb _ _ e)
+  pub leaf-rows : i < length xs → getD xs i 0 ≢ length rows → leafFrom rows i (drop i xs) ≡ refuse (bad reason.Rows i)
+  leaf-rows h e = cell-bad _ reason.Rows _ xs i h (ne-eqb _ _ e)
 
   pub leaf-read : i < length xs → getD xs i 0 ≡ length rows → leafFrom rows i (drop i xs) ≡ read (seen 0 (i + 1) (drop (i + 1) xs))
-  leaf-read h e = cell-on _ 15 (λ c ys. read (seen 0 (suc i) ys)) xs i h (eq-eqb _ _ e) ∙ rw (add-one i)
+  leaf-read h e = cell-on _ reason.Rows (λ c ys. read (seen 0 (suc i) ys)) xs i h (eq-eqb _ _ e) ∙ rw (add-one i)
 
 -- an inner state with k + 1 open places: ENDS, OPEN, ENDS, EDGES, or on with the branches
 module _ (below : Reader) (k : ℕ) (rows : List (List ℕ)) (xs : List ℕ) (i : ℕ) where
-  pub node-ends : length xs ≤ i → nodeFrom below k rows i (drop i xs) ≡ refuse (bad 11 i)
-  node-ends h = cell-ends _ 12 _ xs i h
+  pub node-ends : length xs ≤ i → nodeFrom below k rows i (drop i xs) ≡ refuse (bad reason.Ends i)
+  node-ends h = cell-ends _ reason.Open _ xs i h
 
-  pub node-open : i < length xs → k < getD xs i 0 → nodeFrom below k rows i (drop i xs) ≡ refuse (bad 12 i)
-  node-open h e = cell-bad _ 12 _ xs i h (lt-leb _ _ e)
+  pub node-open : i < length xs → k < getD xs i 0 → nodeFrom below k rows i (drop i xs) ≡ refuse (bad reason.Open i)
+  node-open h e = cell-bad _ reason.Open _ xs i h (lt-leb _ _ e)
 
   node-edge : i < length xs → getD xs i 0 ≤ k → nodeFrom below k rows i (drop i xs)
-      ≡ cellThen (λ c. eqb c (length (runs (getD xs i 0) rows))) 13 (i + 1) (λ m zs. branchesFrom below k (runs (getD xs i 0) rows) (i + 2) zs) (drop (i + 1) xs)
-  node-edge h e = let z : i + 2 ≡ suc (suc i) = omega arith in cell-on _ 12 _ xs i h (le-leb _ _ e) ∙ rw (add-one i, z)
+      ≡ cellThen (λ c. eqb c (length (runs (getD xs i 0) rows))) reason.Edges (i + 1) (λ m zs. branchesFrom below k (runs (getD xs i 0) rows) (i + 2) zs) (drop (i + 1) xs)
+  node-edge h e = let z : i + 2 ≡ suc (suc i) = omega arith in cell-on _ reason.Open _ xs i h (le-leb _ _ e) ∙ rw (add-one i, z)
 
-  pub node-ends-2 : i < length xs → length xs ≤ i + 1 → getD xs i 0 ≤ k → nodeFrom below k rows i (drop i xs) ≡ refuse (bad 11 (i + 1))
-  node-ends-2 h l e = node-edge h e ∙ cell-ends _ 13 _ xs (i + 1) l
+  pub node-ends-2 : i < length xs → length xs ≤ i + 1 → getD xs i 0 ≤ k → nodeFrom below k rows i (drop i xs) ≡ refuse (bad reason.Ends (i + 1))
+  node-ends-2 h l e = node-edge h e ∙ cell-ends _ reason.Edges _ xs (i + 1) l
 
   pub node-edges : i + 1 < length xs → getD xs i 0 ≤ k → getD xs (i + 1) 0 ≢ length (runs (getD xs i 0) rows)
-      → nodeFrom below k rows i (drop i xs) ≡ refuse (bad 13 (i + 1))
-  node-edges h e m = node-edge (omega arith) e ∙ cell-bad _ 13 _ xs (i + 1) h (ne-eqb _ _ m)
+      → nodeFrom below k rows i (drop i xs) ≡ refuse (bad reason.Edges (i + 1))
+  node-edges h e m = node-edge (omega arith) e ∙ cell-bad _ reason.Edges _ xs (i + 1) h (ne-eqb _ _ m)
 
   pub node-on : i + 1 < length xs → getD xs i 0 ≤ k → getD xs (i + 1) 0 ≡ length (runs (getD xs i 0) rows)
       → nodeFrom below k rows i (drop i xs) ≡ branchesFrom below k (runs (getD xs i 0) rows) (i + 2) (drop (i + 2) xs)
   node-on h e m =
       let z : i + 1 + 1 ≡ i + 2 = omega arith in
       node-edge (omega arith) e
-      ∙ cell-on _ 13 (λ m zs. branchesFrom below k (runs (getD xs i 0) rows) (i + 2) zs) xs (i + 1) h (eq-eqb _ _ m)
+      ∙ cell-on _ reason.Edges (λ m zs. branchesFrom below k (runs (getD xs i 0) rows) (i + 2) zs) xs (i + 1) h (eq-eqb _ _ m)
       ∙ ap (λ (j : ℕ). branchesFrom below k (runs (getD xs i 0) rows) (i + 2) (drop j xs)) z
 
 -- a state by its number of open places: a leaf where there is none
@@ -103,16 +106,16 @@ after-each (refuse g) f = refl
 
 -- the branches of some runs: ENDS, LABEL, what the state below is refused for, or on with the other runs
 module _ (below : Reader) (k : ℕ) (g : Run) (gs : List Run) (xs : List ℕ) (i : ℕ) where
-  pub branches-ends : length xs ≤ i → branchesFrom below k (g ∷ gs) i (drop i xs) ≡ refuse (bad 11 i)
-  branches-ends h = cell-ends _ 14 _ xs i h
+  pub branches-ends : length xs ≤ i → branchesFrom below k (g ∷ gs) i (drop i xs) ≡ refuse (bad reason.Ends i)
+  branches-ends h = cell-ends _ reason.Label _ xs i h
 
-  pub branches-label : i < length xs → getD xs i 0 ≢ g .cell → branchesFrom below k (g ∷ gs) i (drop i xs) ≡ refuse (bad 14 i)
-  branches-label h e = cell-bad _ 14 _ xs i h (ne-eqb _ _ e)
+  pub branches-label : i < length xs → getD xs i 0 ≢ g .cell → branchesFrom below k (g ∷ gs) i (drop i xs) ≡ refuse (bad reason.Label i)
+  branches-label h e = cell-bad _ reason.Label _ xs i h (ne-eqb _ _ e)
 
   branches-below : i < length xs → getD xs i 0 ≡ g .cell → branchesFrom below k (g ∷ gs) i (drop i xs)
       ≡ andThen (below (arity (g .cell) + k) (g .rows) (i + 1) (drop (i + 1) xs)) (λ (s : Seen). after (s .branches + 1) (branchesFrom below k gs (s .next) (s .rest)))
   branches-below h e =
-      cell-on _ 14 _ xs i h (eq-eqb _ _ e)
+      cell-on _ reason.Label _ xs i h (eq-eqb _ _ e)
       ∙ rw (add-one i)
       (after-each (below (arity (g .cell) + k) (g .rows) (suc i) (drop (suc i) xs)) (λ (s : Seen). branchesFrom below k gs (s .next) (s .rest)))
 
@@ -135,7 +138,7 @@ branches-alike : (m n : ℕ) (below other : Reader) → Alike m n below other �
 branches-alike m n below other h k z [] f f′ s p xs = refl
 branches-alike m n below other h k z (g ∷ gs) f f′ s p [] = refl
 branches-alike m n below other h k z (g ∷ gs) f f′ s p (c ∷ ys) =
-    ap (when (not (eqb c (g .cell))) (bad 14 p))
+    ap (when (not (eqb c (g .cell))) (bad reason.Label p))
     (rw (h (arity (g .cell) + k) (g .rows) (f .0) (f′ .0) (s .0 .0) (suc p) ys)
     (then-both (other (arity (g .cell) + k) (g .rows) (suc p) ys) (λ (t : Seen). rw (branches-alike m n below other h k z gs (f .1) (f′ .1) (s .1) (t .next) (t .rest)))))
 
@@ -146,11 +149,11 @@ node-alike m n below other h k rows f f′ p (i ∷ []) = refl
 node-alike m n below other h k rows f f′ p (i ∷ c ∷ zs) = go (leb i k) refl
   where
     go : (b : Bool) → leb i k ≡ b
-        → when (not b) (bad 12 p) (when (not (eqb c (length (runs i rows)))) (bad 13 (suc p)) (branchesFrom below k (runs i rows) (suc (suc p)) zs))
-        ≡ when (not b) (bad 12 p) (when (not (eqb c (length (runs i rows)))) (bad 13 (suc p)) (branchesFrom other k (runs i rows) (suc (suc p)) zs))
+        → when (not b) (bad reason.Open p) (when (not (eqb c (length (runs i rows)))) (bad reason.Edges (suc p)) (branchesFrom below k (runs i rows) (suc (suc p)) zs))
+        ≡ when (not b) (bad reason.Open p) (when (not (eqb c (length (runs i rows)))) (bad reason.Edges (suc p)) (branchesFrom other k (runs i rows) (suc (suc p)) zs))
     go true e =
         let l : i ≤ k = leb-true i k e in
-        ap (when (not (eqb c (length (runs i rows)))) (bad 13 (suc p)))
+        ap (when (not (eqb c (length (runs i rows)))) (bad reason.Edges (suc p)))
         (branches-alike m n below other h k (length rows) (runs i rows) (runs-fit m k i l rows f) (runs-fit n k i l rows f′) (group-sizes (root i) (close i) rows)
         (suc (suc p)) zs)
     go false e = refl

@@ -15,6 +15,7 @@ use Rattle.term.proofs.Tests.{eqb-same}
 use Rattle.term.proofs.PlaceLaws.{close-terms, close-length}
 use Rattle.table.specs.All.{All}
 use Rattle.plan.specs.Runs.{Run, run, agree, joinIf, join, group, runs}
+use Rattle.plan.specs.code.Fits.{Fits}
 
 -- cells that agree are one symbol, and no variable
 pub agree-eq : (c d : ℕ) → agree c d ≡ true → c ≡ d
@@ -165,10 +166,6 @@ pub group-map : (P : List ℕ → Type 0) (cell cell′ : List ℕ → ℕ) (lef
 group-map P cell cell′ left left′ f h e [] a = refl
 group-map P cell cell′ left left′ f h e (r ∷ rs) a =
     rw ((e r (a .0)) .0, (e r (a .0)) .1, group-map P cell cell′ left left′ f h e rs (a .1)) (join-map h (cell r) (left r) (group cell left rs))
-
--- Rows that fit a state: k terms in at most n cells.
-abbrev pub Fits : ℕ → ℕ → List ℕ → Type 0
-Fits n k r = Terms k r × (length r ≤ n)
 
 pub terms-length : {k : ℕ} {r : List ℕ} → Terms (suc k) r → 0 < length r
 terms-length (more t) = omega arith

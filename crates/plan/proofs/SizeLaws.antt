@@ -10,7 +10,8 @@ use Rattle.term.specs.Terms.{root, close}
 use Rattle.table.specs.All.{All}
 use Rattle.plan.specs.Runs.{Run}
 use Rattle.plan.specs.Plans.{Plan, leaf, node, Branches, end, next, write, writes, branches, branchesIn, leaves, leavesIn}
-use Rattle.plan.proofs.RunsLaws.{Each, Sized, rowsIn, group-sizes, group-some, group-rows, Fits, fits-some, runs-fit}
+use Rattle.plan.proofs.RunsLaws.{Each, Sized, rowsIn, group-sizes, group-some, group-rows, fits-some, runs-fit}
+use Rattle.plan.specs.code.Fits.{Fits}
 
 -- 01's number of cells
 mutual

@@ -6,8 +6,11 @@ use mathlib.Core.List.{List, [], _∷_}
 use lib.Dec.{eqb, leb, ltb}
 use lib.ListN.{length}
 use Rattle.cell.specs.Cell.{arity}
-use Rattle.table.specs.Refusal.{Refused, refused}
-use Rattle.table.specs.Read.{Read, read, refuse, when, andThen}
+use Rattle.refusal.specs.Refusal.{Refused, refused}
+use Rattle.refusal.specs.declared.Reason.{Reason}
+use Rattle.refusal.specs.declared.Reason.the-variants as reason
+use Rattle.refusal.specs.declared.Input.the-variants as input
+use Rattle.refusal.specs.Read.{Read, read, refuse, when, andThen}
 use Rattle.table.specs.Table.{Table, tableOf}
 use Rattle.plan.specs.Runs.{Run, runs}
 
@@ -21,12 +24,12 @@ abbrev pub seen : ℕ → ℕ → List ℕ → Seen
 seen b p xs = record { branches = b; next = p; rest = xs }
 
 -- a refusal of the plan
-abbrev pub bad : ℕ → ℕ → Refused
-bad n p = refused n 2 p
+abbrev pub bad : Reason → ℕ → Refused
+bad r p = refused r input.Plan p
 
 -- one cell: ENDS where there is none, the given refusal where it fails the test, otherwise on with the cells after it
-abbrev pub cellThen : {A : Type 0} → (ℕ → Bool) → ℕ → ℕ → (ℕ → List ℕ → Read A) → List ℕ → Read A
-cellThen ok n p f [] = refuse (bad 11 p)
+abbrev pub cellThen : {A : Type 0} → (ℕ → Bool) → Reason → ℕ → (ℕ → List ℕ → Read A) → List ℕ → Read A
+cellThen ok n p f [] = refuse (bad reason.Ends p)
 cellThen ok n p f (c ∷ xs) = when (not (ok c)) (bad n p) (f c xs)
 
 -- how a state is read: k open places, its rows, the place, the cells from there on
@@ -37,36 +40,36 @@ Reader = ℕ → List (List ℕ) → ℕ → List ℕ → Read Seen
 abbrev pub branchesFrom : Reader → ℕ → List Run → ℕ → List ℕ → Read Seen
 branchesFrom below k [] p xs = read (seen 0 p xs)
 branchesFrom below k (g ∷ gs) p xs =
-    cellThen (λ c. eqb c (g .cell)) 14 p (λ c ys.
+    cellThen (λ c. eqb c (g .cell)) reason.Label p (λ c ys.
     andThen (below (arity (g .cell) + k) (g .rows) (suc p) ys) (λ (s : Seen).
     andThen (branchesFrom below k gs (s .next) (s .rest)) (λ (t : Seen).
     read (seen (suc (s .branches + t .branches)) (t .next) (t .rest))))) xs
 
 -- a leaf: ROWS
 abbrev pub leafFrom : List (List ℕ) → ℕ → List ℕ → Read Seen
-leafFrom rows p xs = cellThen (λ c. eqb c (length rows)) 15 p (λ c ys. read (seen 0 (suc p) ys)) xs
+leafFrom rows p xs = cellThen (λ c. eqb c (length rows)) reason.Rows p (λ c ys. read (seen 0 (suc p) ys)) xs
 
 -- an inner state with k + 1 open places: OPEN, EDGES, the branches
 abbrev pub nodeFrom : Reader → ℕ → List (List ℕ) → ℕ → List ℕ → Read Seen
 nodeFrom below k rows p xs =
-    cellThen (λ c. leb c k) 12 p (λ i ys.
-    cellThen (λ c. eqb c (length (runs i rows))) 13 (suc p) (λ m zs.
+    cellThen (λ c. leb c k) reason.Open p (λ i ys.
+    cellThen (λ c. eqb c (length (runs i rows))) reason.Edges (suc p) (λ m zs.
     branchesFrom below k (runs i rows) (suc (suc p)) zs) ys) xs
 
 -- a state. The first number bounds the depth and never decides: a row of n cells is looked at n times at most
 unfoldable pub stateFrom : ℕ → Reader
 stateFrom zero zero rows p xs = leafFrom rows p xs
-stateFrom zero (suc k) rows p xs = refuse (bad 11 p)
+stateFrom zero (suc k) rows p xs = refuse (bad reason.Ends p)
 stateFrom (suc n) zero rows p xs = leafFrom rows p xs
 stateFrom (suc n) (suc k) rows p xs = nodeFrom (λ j rs q ys. stateFrom n j rs q ys) k rows p xs
 
 -- 01, EXTRA: "cells after the last row, goal or plan", at the first such
 abbrev pub nothingAfter : Seen → Read ℕ
-nothingAfter s = when (ltb 0 (length (s .rest))) (bad 9 (s .next)) (read (s .branches))
+nothingAfter s = when (ltb 0 (length (s .rest))) (bad reason.Extra (s .next)) (read (s .branches))
 
 -- a plan for a table that is read: SIZE, the first state, EXTRA. A row has at most 32 cells
 unfoldable pub planFor : Table → List ℕ → Read ℕ
-planFor T p = when (ltb 6082 (length p)) (bad 10 0) (andThen (stateFrom 32 (T .width) (T .rows) 0 p) nothingAfter)
+planFor T p = when (ltb 6082 (length p)) (bad reason.Size 0) (andThen (stateFrom 32 (T .width) (T .rows) 0 p) nothingAfter)
 
 -- 01, "Checking takes the table, then the plan"
 abbrev pub planOf : List ℕ → List ℕ → Read ℕ

@@ -2,8 +2,4 @@ pub mod Runs
 pub mod Plans
 pub mod Check
 pub mod Marks
-pub mod Checked
-pub mod Mask
-pub mod Column
-pub mod States
-pub mod Steps
+pub mod code

@@ -1,8 +1,8 @@
 -- What the check notes of a plan for the run (01, "A run": "it tests the goal only at the branches it counts"): at each branch's cell where what stands
 -- below that branch ends, and how many rows it has, so that a branch whose test fails is left at once. At every other cell stands 0.
-use Prim.Native.Nat.{ℕ, _+_}
+use Prim.Native.Nat.{ℕ, _+_, _-_}
 use mathlib.Core.List.{List, [], _∷_, _++_}
-use lib.ListN.{length}
+use lib.ListN.{length, replicate}
 use Rattle.plan.specs.Runs.{Run}
 use Rattle.plan.specs.Plans.{Plan, leaf, node, Branches, end, next, write}
 
@@ -25,3 +25,7 @@ unfoldable mutual
   pub manyOf : {k : ℕ} {gs : List Run} → Branches k gs → List ℕ
   manyOf end = []
   manyOf (next {g = g} b bs) = length (g .rows) ∷ (manyIn b ++ manyOf bs)
+
+-- the room beyond a list, up to the size of an array, holds 0
+abbrev pub padded : ℕ → List ℕ → List ℕ
+padded n xs = xs ++ replicate (n - length xs) 0

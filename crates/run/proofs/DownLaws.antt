@@ -15,13 +15,13 @@ use Rattle.term.proofs.Lists.{take-sets}
 use Rattle.table.specs.All.{All}
 use Rattle.table.specs.Table.{upFrom}
 use Rattle.plan.specs.Plans.{write}
-use Rattle.run.specs.After.{stuck, left, after}
-use Rattle.run.specs.See.{viewOf, steps}
-use Rattle.run.specs.Places.{held, lastNew, Open}
-use Rattle.run.specs.Link.{var}
-use Rattle.run.specs.Walk.{passed, found, tries, Restored, foundOf, Ready, ReadyAt, ReadyBelow, StateWalked, BranchWalked, BelowWalked}
-use Rattle.run.specs.declared.goal.View.{View}
-use Rattle.run.specs.declared.goal.View.the-variants.{Loose, Symbol}
+use Rattle.answer.specs.code.After.{stuck, left, after}
+use Rattle.run.specs.code.See.{viewOf, steps}
+use Rattle.run.specs.code.Places.{held, lastNew, Open}
+use Rattle.answer.specs.code.Renamed.{var}
+use Rattle.run.specs.code.Walk.{passed, found, tries, Restored, foundOf, Ready, ReadyAt, ReadyBelow, StateWalked, BranchWalked, BelowWalked}
+use Rattle.run.specs.declared.seen.View.{View}
+use Rattle.run.specs.declared.seen.View.the-variants.{Loose, Symbol}
 use Rattle.run.specs.declared.walk.Found.{Found}
 use Rattle.run.specs.declared.walk.Found.the-variants.{Other, Same, Unbound}
 use Rattle.table.proofs.HeadLaws.{up-length}

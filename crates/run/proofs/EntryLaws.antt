@@ -6,31 +6,36 @@ use native.Mathlib.Omega.{arith}
 use lib.ListN.{length, drop}
 use lib.Seq.{sets, sets-eq}
 use Rattle.term.specs.Unify.{renamed}
-use Rattle.table.specs.Refusal.{Refused, refused, told, answered, turned}
-use Rattle.table.specs.declared.Refusal.{Refusal}
-use Rattle.table.specs.declared.Reason.the-variants.{Room}
-use Rattle.table.specs.declared.Input.the-variants.{Lent}
-use Rattle.table.specs.Read.{Read, read, refuse, andThen}
+use Rattle.refusal.specs.Refusal.{Refused, refused, told, answered, turned}
+use Rattle.refusal.specs.declared.Reason.the-variants as reason
+use Rattle.refusal.specs.declared.Input.the-variants as input
+use Rattle.refusal.specs.declared.Refusal.{Refusal}
+use Rattle.refusal.specs.declared.Reason.the-variants.{Room}
+use Rattle.refusal.specs.declared.Input.the-variants.{Lent}
+use Rattle.refusal.specs.Read.{Read, read, refuse, andThen}
 use Rattle.table.specs.Table.{Table, tableOf, goalOf, goalSays, goalTold, IsTable, IsGoal}
 use Rattle.table.specs.declared.GoalAnswer.{GoalAnswer}
 use Rattle.table.specs.declared.GoalAnswer.the-variants as goal-answer
 use Rattle.table.proofs.Accepted.{is-table, is-goal}
 use Rattle.plan.specs.Plans.{branches}
 use Rattle.plan.specs.Check.{planFor, planOf}
-use Rattle.plan.specs.Checked.{padded, planTold, Marks, marked}
-use Rattle.plan.specs.declared.Marked.{Marked}
-use Rattle.plan.specs.declared.PlanAnswer.the-variants as plan-answer
+use Rattle.checker.specs.Checked.{planTold, Marks, marked}
+use Rattle.plan.specs.Marks.{padded}
+use Rattle.checker.specs.declared.Marked.{Marked}
+use Rattle.checker.specs.declared.PlanAnswer.the-variants as plan-answer
 use Rattle.plan.proofs.CheckLaws.{accepted-one, rows-fit}
 use Rattle.plan.proofs.PlansLaws.{write-one}
 use Rattle.plan.proofs.SizeLaws.{size-bound}
 use Rattle.plan.proofs.MarksLaws.{noted-marks}
-use Rattle.run.specs.Run.{runOf, Ran, refusal, ran}
-use Rattle.run.specs.See.{Whole, Stepped}
-use Rattle.run.specs.Walk.{hits, tried, Begun, Accepted}
-use Rattle.run.specs.declared.RunAnswer.the-variants as run-answer
-use Rattle.run.proofs.FewLaws.{hits-few}
-use Rattle.run.proofs.AcceptedLaws.{goal-head, goal-whole, goal-lies, tree-deep, hits-right, tried-right}
-use Rattle.run.proofs.TakesLaws.{run-table, run-plan, run-goal, run-room, takes-run}
+use Rattle.answer.specs.Run.{runOf, Ran, refusal, ran}
+use Rattle.run.specs.code.See.{Whole, Stepped}
+use Rattle.run.specs.code.Walk.{Begun, Accepted}
+use Rattle.answer.specs.code.Tree.{hits, tried}
+use Rattle.answer.specs.declared.RunAnswer.the-variants as run-answer
+use Rattle.answer.proofs.FewLaws.{hits-few}
+use Rattle.answer.proofs.AcceptedLaws.{goal-head, tree-deep, hits-right, tried-right}
+use Rattle.run.proofs.GoalLies.{goal-whole, goal-lies}
+use Rattle.answer.proofs.TakesLaws.{run-table, run-plan, run-goal, run-room, takes-run}
 
 -- what the goal's answer tells of its reading
 pub says-goal : (g : List ℕ) (x : Read ℕ) {a : GoalAnswer} {n v : ℕ} → goalTold a ≡ goalSays g x → a ≡ goal-answer.Accepted n v → (x ≡ read v) × (n ≡ length g)
@@ -58,7 +63,7 @@ module _ {t p es ms : List ℕ} {w n : ℕ} (A : Accepted t p es ms w n) where
 
     pub no-room : (room : List ℕ) {v : ℕ} → goalOf w g ≡ read v → length room < n → Ran t p g room room (run-answer.Refused (record { reason = Room; input = Lent; place = n }))
     no-room room e l =
-        refusal (refused 16 4 n) (run-room t p g room (A .reads) plan-reads (at-width e) (rw (A .same-rows) at l) ∙ ap (λ (x : ℕ). refuse (refused 16 4 x)) (sym (A .same-rows))) refl refl
+        refusal (refused reason.Room input.Lent n) (run-room t p g room (A .reads) plan-reads (at-width e) (rw (A .same-rows) at l) ∙ ap (λ (x : ℕ). refuse (refused reason.Room input.Lent x)) (sym (A .same-rows))) refl refl
 
     -- the walk, where neither is
     module _ {v : ℕ} (e : goalOf w g ≡ read v) where

@@ -15,11 +15,11 @@ use Rattle.term.specs.Terms.{Terms, none, more, front, back}
 use Rattle.term.proofs.TermsLaws.{Terms-1, nil-zero, front-back, back-terms, front-zero}
 use Rattle.table.specs.All.{All}
 use Rattle.table.specs.Table.{upFrom}
-use Rattle.run.specs.See.{steps, hopOf, Whole}
-use Rattle.plan.specs.Checked.{padded}
+use Rattle.run.specs.code.See.{steps, hopOf, Whole}
+use Rattle.plan.specs.Marks.{padded}
 use Rattle.run.proofs.SeeLaws.{store-next, store-end}
 use Rattle.table.proofs.HeadLaws.{up-length}
-use Rattle.run.proofs.CountLaws.{up-at}
+use Rattle.answer.proofs.CountLaws.{up-at}
 
 -- the first a + b terms
 pub front-add : (a b : ℕ) (xs : List ℕ) → front (a + b) xs ≡ front a xs ++ front b (back a xs)

@@ -16,16 +16,18 @@ use Rattle.term.specs.Terms.{Terms}
 use Rattle.term.specs.Unify.{inst, Subst}
 use Rattle.term.proofs.Tests.{bool-cases, eqb-same}
 use Rattle.term.proofs.TermsLaws.{front-++, back-++}
-use Rattle.term.proofs.Inst.{inst-++, then, inst-then, Terms-inst, Subst-then, idS, bind, bind-same, bind-other, Subst-id, Subst-bind, Terms-symbol, inst-var}
+use Rattle.term.proofs.Inst.{inst-++, then, inst-then, Terms-inst, Subst-then, bind-same, bind-other, Subst-id, Subst-bind, Terms-symbol, inst-var}
+use Rattle.term.specs.code.Bind.{idS, bind}
 use Rattle.term.proofs.Step.{inst-symbol, Terms-fresh}
 use Rattle.table.specs.All.{All}
 use Rattle.table.specs.Table.{upFrom}
-use Rattle.run.specs.After.{stuck, left, meet, after}
-use Rattle.run.specs.See.{viewVar, viewOf, steps}
-use Rattle.run.specs.Link.{var, ref, refs, Ok, cell, number, Oks, nil, Goal, Lies, Bound, Linked}
-use Rattle.run.specs.declared.goal.View.{View}
-use Rattle.run.specs.declared.goal.View.the-variants.{Loose, Symbol}
-use Rattle.run.proofs.CountLaws.{up-distinct}
+use Rattle.answer.specs.code.After.{stuck, left, meet, after}
+use Rattle.run.specs.code.See.{viewVar, viewOf, steps}
+use Rattle.run.specs.code.Link.{ref, refs, Ok, cell, number, Oks, nil, Lies, Bound, Linked}
+use Rattle.answer.specs.code.Renamed.{var, Goal}
+use Rattle.run.specs.declared.seen.View.{View}
+use Rattle.run.specs.declared.seen.View.the-variants.{Loose, Symbol}
+use Rattle.answer.proofs.CountLaws.{up-distinct}
 use Rattle.run.proofs.SeeLaws.{var-loose, var-held, of-var, of-cell, of-number, is-var}
 use Rattle.run.proofs.RefLaws.{Oks-++, Oks-more, Oks-split, Stand, Terms-ref, Terms-refs, ref-number, ref-symbol, ref-var, refs-++, steps-up, up-all, up-oks, up-refs}
 

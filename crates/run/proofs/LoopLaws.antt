@@ -4,9 +4,9 @@ use mathlib.Core.Path.{_≡_, refl, sym, _∙_, ap}
 use mathlib.Core.List.{List}
 use native.Mathlib.Omega.{arith}
 use lib.ListN.{length, getD}
-use Rattle.run.specs.See.{viewOf, hopOf}
-use Rattle.run.specs.Walk.{Restored, Ready, Looked, ReadyAt, StateWalked, BranchWalked}
-use Rattle.run.specs.declared.goal.View.{View}
+use Rattle.run.specs.code.See.{viewOf, hopOf}
+use Rattle.run.specs.code.Walk.{Restored, Ready, Looked, ReadyAt, StateWalked, BranchWalked}
+use Rattle.run.specs.declared.seen.View.{View}
 use Rattle.run.proofs.PlacesLaws.{same-below, open-same, slots-made, held-same}
 use Rattle.run.proofs.WalkLaws.{ReadyIn, inside, none-left, InWalked, Firstly, firstly}
 

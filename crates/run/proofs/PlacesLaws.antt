@@ -11,9 +11,9 @@ use Rattle.term.proofs.Lists.{sets-found, take-sets}
 use Rattle.table.specs.All.{All}
 use Rattle.table.proofs.AllLaws.{all-each, all-both, all-front, all-back, all-++}
 use Rattle.table.specs.Table.{upFrom}
-use Rattle.run.specs.See.{steps, hopOf}
+use Rattle.run.specs.code.See.{steps, hopOf}
 use Rattle.run.proofs.SeeLaws.{up-none, up-more}
-use Rattle.run.specs.Places.{Path, lastOf, Apart, held, lastNew, Open}
+use Rattle.run.specs.code.Places.{Path, lastOf, Apart, held, lastNew, Open}
 
 -- below an index two lists agree: so do their elements there
 pub same-below : (l l′ : List ℕ) (n j : ℕ) → take n l ≡ take n l′ → j < n → getD l j 0 ≡ getD l′ j 0

@@ -16,9 +16,11 @@ use Rattle.term.proofs.TermsLaws.{Terms-++, Terms-1, front-terms, back-terms, f
 use Rattle.term.proofs.Inst.{Terms-var}
 use Rattle.table.specs.All.{All}
 use Rattle.table.specs.Table.{upFrom}
-use Rattle.run.specs.See.{steps}
-use Rattle.run.specs.Link.{var, ref, refs, Ok, cell, number, Oks, nil, cons, Goal, lift, Lies}
+use Rattle.run.specs.code.See.{steps}
+use Rattle.run.specs.code.Link.{ref, refs, Ok, cell, number, Oks, nil, cons, Lies}
+use Rattle.answer.specs.code.Renamed.{var, Goal, lift}
 use Rattle.run.proofs.GoalLaws.{front-add, back-drop, drop-in, suffix}
+use Rattle.answer.proofs.RenamedLaws.{lift-var, lift-symbol}
 
 ref-cell : (G : List ℕ) (r : ℕ) → r < 32 → ref G r ≡ front 1 (drop r G)
 unfolding ref
@@ -99,14 +101,6 @@ steps-up L u (suc a) h l =
     ap (λ (x : List ℕ). u ∷ x) (rw (e, q) (steps-up L (suc u) a (omega arith) (omega arith)))
 
 -- Cells of the goal.
-
-pub lift-var : (c : ℕ) → isVar c ≡ true → lift c ≡ var c
-unfolding lift
-lift-var c h = rw h
-
-pub lift-symbol : (c : ℕ) → isVar c ≡ false → lift c ≡ c
-unfolding lift
-lift-symbol c h = rw h
 
 -- terms of the goal, as references to where they begin
 pub record Stand (G sib : List ℕ) (m a p : ℕ) (xs : List ℕ) : Type 0 where

@@ -10,10 +10,10 @@ use borrow.Author.Tests.{lt-leb, le-leb, eq-eqb, ne-eqb}
 use Rattle.cell.specs.Cell.{isVar, kindOf}
 use Rattle.table.specs.All.{All}
 use Rattle.table.specs.Table.{upFrom}
-use Rattle.run.specs.See.{viewVar, viewOf, steps, hopOf}
-use Rattle.run.specs.Walk.{foundOf}
-use Rattle.run.specs.declared.goal.View.{View}
-use Rattle.run.specs.declared.goal.View.the-variants.{Loose, Symbol}
+use Rattle.run.specs.code.See.{viewVar, viewOf, steps, hopOf}
+use Rattle.run.specs.code.Walk.{foundOf}
+use Rattle.run.specs.declared.seen.View.{View}
+use Rattle.run.specs.declared.seen.View.the-variants.{Loose, Symbol}
 use Rattle.run.specs.declared.walk.Found.the-variants.{Other, Same, Unbound}
 
 -- a cell's kind tells whether it is a variable

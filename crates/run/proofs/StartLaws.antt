@@ -10,15 +10,17 @@ use lib.Seq.{sets, length-sets}
 use Rattle.term.specs.Terms.{Terms, more, front}
 use Rattle.term.proofs.Lists.{getD-zeros}
 use Rattle.term.proofs.TermsLaws.{front-++}
-use Rattle.term.proofs.Inst.{idS, Subst-id, inst-id}
+use Rattle.term.proofs.Inst.{Subst-id, inst-id}
+use Rattle.term.specs.code.Bind.{idS}
 use Rattle.table.specs.All.{All}
 use Rattle.table.proofs.AllLaws.{all-each}
 use Rattle.table.specs.Table.{upFrom}
 use Rattle.plan.specs.Plans.{write}
-use Rattle.run.specs.See.{steps}
-use Rattle.run.specs.Link.{Bound}
-use Rattle.run.specs.Places.{Path, Apart, held, Open}
-use Rattle.run.specs.Walk.{hits, tried, found, tries, Ready, StateWalked, Begun}
+use Rattle.run.specs.code.See.{steps}
+use Rattle.run.specs.code.Link.{Bound}
+use Rattle.run.specs.code.Places.{Path, Apart, held, Open}
+use Rattle.run.specs.code.Walk.{found, tries, Ready, StateWalked, Begun}
+use Rattle.answer.specs.code.Tree.{hits, tried}
 use Rattle.table.proofs.HeadLaws.{up-length}
 use Rattle.run.proofs.PlacesLaws.{steps-length, held-put, up-at, up-range, up-apart, up-path}
 use Rattle.run.proofs.RefLaws.{Stand, steps-refs}

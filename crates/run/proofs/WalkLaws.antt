@@ -11,18 +11,19 @@ use Rattle.table.specs.Table.{upFrom}
 use Rattle.plan.specs.Runs.{Run, runs}
 use Rattle.plan.specs.Plans.{Plan, leaf, node, Branches, end, next, write, writes}
 use Rattle.plan.proofs.PlansLaws.{leaf-cells}
-use Rattle.plan.proofs.MarksLaws.{Noted, NotedIn}
+use Rattle.plan.specs.code.Noted.{Noted, NotedIn}
 use Rattle.plan.proofs.RunsLaws.{rowsIn, group-rows}
 use Rattle.term.specs.Terms.{root, close}
 use Rattle.term.proofs.Lists.{sets-sets}
-use Rattle.run.specs.After.{left, after}
-use Rattle.run.specs.See.{viewOf, steps, hopOf, Visible}
-use Rattle.run.specs.Places.{lastOf, held, Open, Spot}
-use Rattle.run.specs.Link.{Ok, cell, number, Linked}
-use Rattle.run.specs.Walk.{hits, hitsIn, hitsAt, tried, triedIn, passed, found, tries, Walked, Deep, DeepIn, Space, Counted, Ready, Looked, ReadyAt, StateWalked, BranchWalked}
-use Rattle.run.specs.declared.goal.View.{View}
+use Rattle.answer.specs.code.After.{left}
+use Rattle.run.specs.code.See.{viewOf, steps, hopOf, Visible}
+use Rattle.run.specs.code.Places.{lastOf, held, Open, Spot}
+use Rattle.run.specs.code.Link.{Ok, cell, number, Linked}
+use Rattle.run.specs.code.Walk.{passed, found, tries, Walked, Space, Counted, Ready, Looked, ReadyAt, StateWalked, BranchWalked}
+use Rattle.answer.specs.code.Tree.{hits, hitsIn, hitsAt, tried, triedIn, Deep, DeepIn}
+use Rattle.run.specs.declared.seen.View.{View}
 use Rattle.table.proofs.HeadLaws.{up-length}
-use Rattle.run.proofs.FewLaws.{hitsAt-few, triedAt-few}
+use Rattle.answer.proofs.FewLaws.{hitsAt-few, triedAt-few}
 use Rattle.run.proofs.PlacesLaws.{before-made, slot-made, before-leads, held-parts, hop-path, hop-safe}
 use Rattle.run.proofs.RefLaws.{Oks-split}
 

@@ -1,24 +1,19 @@
 // A run (01, "A run"): the rows that unify with a goal, from the top, and the number of branches tried.
 ghost use mathlib.Core.List.{List};
 ghost use Prim.Native.Nat.{ℕ};
-ghost use Rattle.run.specs.Run.{Ran};
-ghost use Rattle.run.specs.Walk.{Accepted, AcceptedSome};
+ghost use Rattle.answer.specs.Run.{Ran};
+ghost use Rattle.run.specs.code.Walk.{Accepted, AcceptedSome};
 
-mod goal;
 mod places;
+mod seen;
 mod walk;
 
-use plan::PlanAnswer;
+use answer::RunAnswer;
+use checker::PlanAnswer;
+use refusal::Input;
+use refusal::Reason;
+use refusal::Refusal;
 use table::GoalAnswer;
-use table::Input;
-use table::Reason;
-use table::Refusal;
-
-// How many hits there are and how many branches were tried, or why the table, the plan, the goal or the room is turned away.
-pub enum RunAnswer {
-    Ran(usize, usize),
-    Refused(Refusal),
-}
 
 // A run of a plan that the check has accepted, with what the check noted of it: the goal, the room, then the walk.
 fn run_accepted<'a>(
@@ -43,8 +38,8 @@ fn run_accepted<'a>(
                     place: rows,
                 });
             }
-            let cells = goal::cells_of(goal);
-            let sib = goal::siblings(&cells, n);
+            let cells = seen::cells_of(goal);
+            let sib = seen::siblings(&cells, n);
             let o = walk::walk(plan, ends, many, &cells, &sib, width, room);
             RunAnswer::Ran(o.hits, o.tried)
         }
@@ -55,7 +50,7 @@ fn run_accepted<'a>(
 pub fn run_plan(table: &[u32], plan: &[u32], goal: &[u32], room: &mut [u8]) -> RunAnswer
     ensures { λ r. ⌜ Ran (now (table .entry)) (now (plan .entry)) (now (goal .entry)) (now (room .entry)) (now (room .exit)) r ⌝ }
 {
-    let marked = plan::check_marked(table, plan);
+    let marked = checker::check_marked(table, plan);
     let answer = marked.answer;
     match answer {
         PlanAnswer::Refused(f) => RunAnswer::Refused(f),

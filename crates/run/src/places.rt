@@ -4,9 +4,9 @@ ghost use mathlib.Core.Path.{_≡_};
 ghost use Prim.Native.Nat.{_+_, _≤_, _<_};
 ghost use lib.Seq.{sets};
 ghost use Rattle.table.specs.All.{All};
-ghost use Rattle.run.specs.See.{steps};
-ghost use Rattle.run.specs.Places.{lastNew};
-use super::goal::wide;
+ghost use Rattle.run.specs.code.See.{steps};
+ghost use Rattle.run.specs.code.Places.{lastNew};
+use super::seen::wide;
 
 // References to `a` terms that stand one after another, the first at `p`, for the slots from `to` on.
 pub fn put_terms(refs: &mut [u8; 64], to: usize, a: usize, p: usize, sib: &[u8; 64])

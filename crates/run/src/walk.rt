@@ -9,14 +9,15 @@ ghost use Prim.Native.Nat.{_+_, _≤_};
 ghost use lib.ListN.{length};
 ghost use lib.Seq.{sets};
 ghost use Rattle.table.specs.Table.{upFrom};
-ghost use Rattle.run.specs.Walk.{Begun, BelowWalked, BranchWalked, Ready, ReadyAt, ReadyBelow, Restored, StateWalked, foundOf, hits, tried};
-use super::goal::View;
-use super::goal::hop;
-use super::goal::look;
-use super::goal::numbers;
-use super::goal::wide;
+ghost use Rattle.run.specs.code.Walk.{Begun, BelowWalked, BranchWalked, Ready, ReadyAt, ReadyBelow, Restored, StateWalked, foundOf};
+ghost use Rattle.answer.specs.code.Tree.{hits, tried};
 use super::places::last_new;
 use super::places::put_terms;
+use super::seen::View;
+use super::seen::hop;
+use super::seen::look;
+use super::seen::numbers;
+use super::seen::wide;
 
 // What is counted on the way: the rows passed, the hits, the branches tried.
 const ROW: usize = 0;

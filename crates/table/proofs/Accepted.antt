@@ -11,8 +11,10 @@ use borrow.Author.Tests.{le-ltb, ltb-false}
 use Rattle.cell.specs.Cell.{isVar}
 use Rattle.term.proofs.Lists.{nil-of-length}
 use Rattle.table.specs.All.{All}
-use Rattle.table.specs.Refusal.{refused}
-use Rattle.table.specs.Read.{read, when}
+use Rattle.refusal.specs.Refusal.{refused}
+use Rattle.refusal.specs.declared.Reason.the-variants as reason
+use Rattle.refusal.specs.declared.Input.the-variants as input
+use Rattle.refusal.specs.Read.{read, when}
 use Rattle.table.specs.Table.{Met, met, Table, table, termsFrom, rowsFrom, tableOf, goalOf, appear, Head, Row, IsTable, IsGoal}
 use Rattle.table.proofs.ReadLaws.{not-both, passed, read-one, first, inside, within-bounds}
 use Rattle.table.proofs.WholeLaws.{terms-pass, Whole, whole}
@@ -73,7 +75,7 @@ unfolding goalOf
 is-goal w g {v} e =
     let a = passed (ltb (length g) 1 || ltb 32 (length g)) _ _ e in
     let b = inside (length g) 1 32 (a .0) in
-    let f = first (termsFrom false g w 0 0 0) (λ (m : Met). when (ltb (m .next) (length g)) (refused 9 3 (m .next)) (read (m .vars))) (a .1) in
+    let f = first (termsFrom false g w 0 0 0) (λ (m : Met). when (ltb (m .next) (length g)) (refused reason.Extra input.Goal (m .next)) (read (m .vars))) (a .1) in
     let c = passed (ltb (f .0 .next) (length g)) _ _ (f .2) in
     let o = whole false g w 0 (f .1) in
     let h = by-whole o (ltb-false (f .0 .next) (length g) (c .0)) (b .1) in

@@ -4,7 +4,11 @@ use mathlib.Core.List.{List, [], _∷_, _++_, map}
 use Prim.Native.Nat.{ℕ, _*_, _^_}
 use lib.ListN.{replicate}
 use Rattle.cell.specs.Cell.{nameCell, numberCell, variableCell, valuesAt}
-use Rattle.table.specs.Refusal.{refused, Answer, answered, turned}
+use Rattle.refusal.specs.Refusal.{refused, Answer, answered, turned}
+use Rattle.refusal.specs.declared.Reason.{Reason}
+use Rattle.refusal.specs.declared.Reason.the-variants as reason
+use Rattle.refusal.specs.declared.Input.{Input}
+use Rattle.refusal.specs.declared.Input.the-variants as input
 use Rattle.table.specs.Table.{termsFrom, rowsFrom, tableOf, goalOf, goalWith, tableSays, goalSays, starts, startsIn, rowIn}
 
 abbrev a : ℕ
@@ -39,8 +43,8 @@ pub record Case : Type 0 where
   pub got : Said
   pub wanted : Said
 
-abbrev no : (number input place : ℕ) → Answer
-no n i p = turned (refused n i p)
+abbrev no : Reason → Input → (place : ℕ) → Answer
+no r i p = turned (refused r i p)
 
 abbrev of-table : List ℕ → Answer → Case
 of-table t w = record { got = says (tableSays (tableOf t)); wanted = says w }
@@ -57,46 +61,46 @@ of-row t r w = record { got = cells (rowIn (tableOf t) r); wanted = cells w }
 pub cases : List Case
 cases =
     -- P9: TWICE at 3; FRESH at 2
-    of-table (2 ∷ 1 ∷ 0 ∷ 0 ∷ []) (no 8 1 3)
-    ∷ of-table (1 ∷ 1 ∷ 1 ∷ []) (no 7 1 2)
+    of-table (2 ∷ 1 ∷ 0 ∷ 0 ∷ []) (no reason.Twice input.Table 3)
+    ∷ of-table (1 ∷ 1 ∷ 1 ∷ []) (no reason.Fresh input.Table 2)
     -- P10: width 2, one row, the cells end after a: SHORT at 3
-    ∷ of-table (2 ∷ 1 ∷ a ∷ []) (no 5 1 3)
+    ∷ of-table (2 ∷ 1 ∷ a ∷ []) (no reason.Short input.Table 3)
     -- width 1, 31 times f1 then a: accepted; 32 times: LONG at 34
     ∷ of-table (1 ∷ 1 ∷ replicate 31 f1 ++ a ∷ []) (answered 1 1)
-    ∷ of-table (1 ∷ 1 ∷ replicate 32 f1 ++ a ∷ []) (no 4 1 34)
+    ∷ of-table (1 ∷ 1 ∷ replicate 32 f1 ++ a ∷ []) (no reason.Long input.Table 34)
     -- a name cell with 5 arguments: CELL
-    ∷ of-table (1 ∷ 1 ∷ nameCell 5 1 ∷ []) (no 6 1 2)
+    ∷ of-table (1 ∷ 1 ∷ nameCell 5 1 ∷ []) (no reason.Cell input.Table 2)
     -- the cells end after a row's 32nd, and it is not complete: LONG at the number of cells; after its 31st: SHORT
-    ∷ of-table (1 ∷ 1 ∷ replicate 32 f1) (no 4 1 34)
-    ∷ of-table (1 ∷ 1 ∷ replicate 31 f1) (no 5 1 33)
+    ∷ of-table (1 ∷ 1 ∷ replicate 32 f1) (no reason.Long input.Table 34)
+    ∷ of-table (1 ∷ 1 ∷ replicate 31 f1) (no reason.Short input.Table 33)
     -- LENGTH comes before WIDTH, WIDTH before COUNT, COUNT before the rows
-    ∷ of-table [] (no 1 1 0)
-    ∷ of-table (1 ∷ []) (no 1 1 0)
-    ∷ of-table (replicate 2051 0) (no 1 1 0)
-    ∷ of-table (0 ∷ 0 ∷ []) (no 2 1 0)
-    ∷ of-table (9 ∷ 1 ∷ []) (no 2 1 0)
-    ∷ of-table (8 ∷ 65 ∷ bad ∷ []) (no 3 1 1)
-    ∷ of-table (1 ∷ 1 ∷ []) (no 5 1 2)
+    ∷ of-table [] (no reason.Length input.Table 0)
+    ∷ of-table (1 ∷ []) (no reason.Length input.Table 0)
+    ∷ of-table (replicate 2051 0) (no reason.Length input.Table 0)
+    ∷ of-table (0 ∷ 0 ∷ []) (no reason.Width input.Table 0)
+    ∷ of-table (9 ∷ 1 ∷ []) (no reason.Width input.Table 0)
+    ∷ of-table (8 ∷ 65 ∷ bad ∷ []) (no reason.Count input.Table 1)
+    ∷ of-table (1 ∷ 1 ∷ []) (no reason.Short input.Table 2)
     -- a full table of 2,050 cells; a bad cell before its end, in a row and after the last
-    ∷ of-table (1 ∷ 64 ∷ replicate 2048 a) (no 9 1 66)
-    ∷ of-table (1 ∷ 2 ∷ a ∷ bad ∷ []) (no 6 1 3)
-    ∷ of-table (1 ∷ 1 ∷ a ∷ bad ∷ []) (no 9 1 3)
+    ∷ of-table (1 ∷ 64 ∷ replicate 2048 a) (no reason.Extra input.Table 66)
+    ∷ of-table (1 ∷ 2 ∷ a ∷ bad ∷ []) (no reason.Cell input.Table 3)
+    ∷ of-table (1 ∷ 1 ∷ a ∷ bad ∷ []) (no reason.Extra input.Table 3)
     -- the first refusal is that of the first bad cell; the count of variables starts anew in each row
-    ∷ of-table (2 ∷ 1 ∷ f1 ∷ v1 ∷ bad ∷ []) (no 7 1 3)
+    ∷ of-table (2 ∷ 1 ∷ f1 ∷ v1 ∷ bad ∷ []) (no reason.Fresh input.Table 3)
     ∷ of-table (1 ∷ 2 ∷ v0 ∷ v0 ∷ []) (answered 1 2)
     ∷ of-table two-rows (answered 2 2)
     -- goals: LENGTH, SHORT where a row would be LONG, FRESH, CELL, EXTRA; a variable may be repeated
-    ∷ of-goal 1 [] (no 1 3 0)
-    ∷ of-goal 1 (replicate 33 bad) (no 1 3 0)
-    ∷ of-goal 1 (replicate 32 f1) (no 5 3 32)
-    ∷ of-goal 2 (v0 ∷ a ∷ b ∷ []) (no 9 3 2)
-    ∷ of-goal 2 (v1 ∷ v0 ∷ []) (no 7 3 0)
-    ∷ of-goal 1 (f1 ∷ bad ∷ []) (no 6 3 1)
+    ∷ of-goal 1 [] (no reason.Length input.Goal 0)
+    ∷ of-goal 1 (replicate 33 bad) (no reason.Length input.Goal 0)
+    ∷ of-goal 1 (replicate 32 f1) (no reason.Short input.Goal 32)
+    ∷ of-goal 2 (v0 ∷ a ∷ b ∷ []) (no reason.Extra input.Goal 2)
+    ∷ of-goal 2 (v1 ∷ v0 ∷ []) (no reason.Fresh input.Goal 0)
+    ∷ of-goal 1 (f1 ∷ bad ∷ []) (no reason.Cell input.Goal 1)
     ∷ of-goal 2 (v0 ∷ v0 ∷ []) (answered 2 1)
     ∷ of-goal 3 (v0 ∷ f1 ∷ v1 ∷ v0 ∷ []) (answered 4 2)
     -- with its table: the table's refusal first
-    ∷ of-both (0 ∷ 1 ∷ a ∷ []) [] (no 2 1 0)
-    ∷ of-both two-rows (a ∷ []) (no 5 3 1)
+    ∷ of-both (0 ∷ 1 ∷ a ∷ []) [] (no reason.Width input.Table 0)
+    ∷ of-both two-rows (a ∷ []) (no reason.Short input.Goal 1)
     ∷ of-both two-rows (v0 ∷ v0 ∷ []) (answered 2 1)
     -- rows by their numbers; none where the table is refused or has no such row
     ∷ of-row two-rows 0 (f1 ∷ a ∷ v0 ∷ [])

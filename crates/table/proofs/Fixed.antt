@@ -9,9 +9,9 @@ use Rattle.table.specs.declared.TableRead.{TableRead}
 use Rattle.table.specs.declared.GoalAnswer.{GoalAnswer}
 use Rattle.table.specs.declared.GoalAnswer.the-variants as goal-answer
 use Rattle.table.specs.declared.Part.{Part}
-use Rattle.table.specs.Refusal.{told}
+use Rattle.refusal.specs.Refusal.{told}
 use Rattle.table.specs.Table.{tableOf, goalOf, goalWith, tableTold, goalTold, goalSays, rowIn, TableReads, RowPlace}
-use Rattle.table.proofs.RefusalLaws.{told-one}
+use Rattle.refusal.proofs.RefusalLaws.{told-one}
 use Rattle.table.proofs.PartLaws.{part}
 
 tableTold-one : (a b : TableAnswer) → tableTold a ≡ tableTold b → a ≡ b

@@ -11,9 +11,9 @@ use borrow.Author.Tests.{eqb-true}
 use Rattle.cell.specs.Cell.{isVar}
 use Rattle.term.specs.Terms.{Terms}
 use Rattle.term.proofs.Tests.{bool-cases, cond-case}
-use Rattle.table.specs.Read.{read}
+use Rattle.refusal.specs.Read.{read}
 use Rattle.table.specs.Table.{count, appear, upFrom, Head, Row}
-use Rattle.table.specs.Looks.{cellsFrom}
+use Rattle.table.specs.code.Looks.{cellsFrom}
 use Rattle.table.proofs.ReadLaws.{not-both}
 use Rattle.table.proofs.SoundLaws.{Sound, down, cells-sound, sound-cells}
 

@@ -7,7 +7,6 @@ pub mod HeadLaws
 pub mod RowsLaws
 pub mod TableLaws
 pub mod PartLaws
-pub mod RefusalLaws
 pub mod Accepted
 pub mod Fixed
 pub mod Examples

@@ -15,18 +15,20 @@ use Rattle.cell.specs.Cell as cell-specs
 use Rattle.term.specs.declared.End.{End}
 use Rattle.term.specs.declared.End.the-variants.{At, Short}
 use Rattle.term.specs.Terms.{front}
-use Rattle.term.proofs.EndsLaws.{ends, not-before}
+use Rattle.term.proofs.EndsLaws.{not-before}
+use Rattle.term.specs.code.Owed.{ends}
 use Rattle.term.proofs.EndsLaws as ends-laws
 use Rattle.term.proofs.Tests.{eqb-same}
 use Rattle.term.proofs.Lists.{slice-take}
-use Rattle.table.specs.Read.{Read, read, refuse, when, andThen}
+use Rattle.refusal.specs.Read.{Read, read, refuse, when, andThen}
 use Rattle.table.specs.Table.{Met, met, bad, counted, cellTests, termsFrom}
-use Rattle.table.specs.Looks.{cellFrom, cellsFrom, notWhole}
+use Rattle.refusal.specs.declared.Reason.the-variants as reason
+use Rattle.table.specs.code.Looks.{cellFrom, cellsFrom, notWhole}
 use Rattle.table.proofs.ReadLaws.{then-both, then-assoc, tests-then, passed-tests}
 
 -- One cell, by what it is and the first test that fails.
 module _ (row : Bool) (c vars p : ℕ) where
-  pub not-cell : valuesAt c ≡ cell-specs.refused → cellFrom row c vars p ≡ refuse (bad row 6 p)
+  pub not-cell : valuesAt c ≡ cell-specs.refused → cellFrom row c vars p ≡ refuse (bad row reason.Cell p)
   unfolding cellFrom
   not-cell e = rw e
 
@@ -39,7 +41,7 @@ module _ (row : Bool) (c vars p : ℕ) where
   a-number e = rw (e, and-false row)
 
   module _ {n : ℕ} (e : valuesAt c ≡ values 0 0 n) where
-    pub fresh : vars < n → cellFrom row c vars p ≡ refuse (bad row 7 p)
+    pub fresh : vars < n → cellFrom row c vars p ≡ refuse (bad row reason.Fresh p)
     unfolding cellFrom
     fresh h = rw (e, lt-ltb vars n h)
 
@@ -47,7 +49,7 @@ module _ (row : Bool) (c vars p : ℕ) where
     unfolding cellFrom
     new h = rw (e, h, le-ltb vars vars (omega arith), and-false row, eqb-same vars)
 
-    pub twice : n < vars → row ≡ true → cellFrom row c vars p ≡ refuse (bad row 8 p)
+    pub twice : n < vars → row ≡ true → cellFrom row c vars p ≡ refuse (bad row reason.Twice p)
     unfolding cellFrom
     twice h r = rw (e, le-ltb vars n (omega arith), lt-ltb n vars h, r)
 
@@ -71,7 +73,7 @@ seen row used p (At e) v = read (met e v)
 seen row used p Short v = refuse (notWhole row used p)
 
 -- nothing is left, and terms are owed
-used-up : (b row : Bool) (p : ℕ) → _≡_ {A = Read Met} (when b (bad row 4 p) (refuse (bad row 5 p))) (refuse (bad row (cond b 4 5) p))
+used-up : (b row : Bool) (p : ℕ) → _≡_ {A = Read Met} (when b (bad row reason.Long p) (refuse (bad row reason.Short p))) (refuse (bad row (cond b reason.Long reason.Short) p))
 used-up true row p = refl
 used-up false row p = refl
 
@@ -152,7 +154,7 @@ row-window zero (c ∷ xs) zero used vars p h = refl
 row-window zero (c ∷ xs) (suc owed) used vars p h = rw (le-leb 32 used (omega arith))
 row-window (suc m) (c ∷ xs) zero used vars p h = refl
 row-window (suc m) (c ∷ xs) (suc owed) used vars p h =
-    ap (λ (r : Read Met). when (leb 32 used) (bad true 4 p) (cellTests true (valuesAt c) vars p r))
+    ap (λ (r : Read Met). when (leb 32 used) (bad true reason.Long p) (cellTests true (valuesAt c) vars p r))
     (row-window m xs (valuesAt c .args + owed) (suc used) (counted (valuesAt c) vars) (suc p) (omega arith))
 
 pub window : (xs : List ℕ) (from w : ℕ) → termsFrom true (slice from (from + 32) xs) w 0 0 from ≡ termsFrom true (drop from xs) w 0 0 from

@@ -10,8 +10,8 @@ use lib.ListN.{length, getD, take, drop, replicate, length-append, List·getD-ap
 use lib.Seq.{take-append-seam, drop-append-seam, getD-append-add}
 use Rattle.term.proofs.Lists.{getD-zeros}
 use Rattle.table.specs.declared.Part.{Part}
-use Rattle.table.specs.Refusal.{Refused, answered, turned}
-use Rattle.table.specs.Read.{Read, read, refuse}
+use Rattle.refusal.specs.Refusal.{Refused, answered, turned}
+use Rattle.refusal.specs.Read.{Read, read, refuse}
 use Rattle.table.specs.Table.{Table, tableOf, starts, startsIn, tableSays, rowIn, RowPlace}
 use Rattle.table.proofs.RowsLaws.{length-starts}
 use Rattle.table.proofs.Accepted.{is-table}

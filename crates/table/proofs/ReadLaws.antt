@@ -6,8 +6,9 @@ use native.Mathlib.Omega.{arith}
 use lib.Dec.{eqb, ltb}
 use borrow.Author.Tests.{ltb-false, le-ltb}
 use Rattle.cell.specs.Cell.{Values}
-use Rattle.table.specs.Refusal.{Refused}
-use Rattle.table.specs.Read.{Read, read, refuse, when, andThen}
+use Rattle.refusal.specs.Refusal.{Refused}
+use Rattle.refusal.specs.declared.Reason.the-variants as reason
+use Rattle.refusal.specs.Read.{Read, read, refuse, when, andThen}
 use Rattle.table.specs.Table.{bad, cellTests}
 
 module _ {A B : Type 0} where
@@ -30,7 +31,7 @@ module _ {A B : Type 0} where
   pub tests-then : (row : Bool) (v : Values) (vars p : ℕ) (x : A) (f : A → Read B) → cellTests row v vars p (f x) ≡ andThen (cellTests row v vars p (read x)) f
   tests-then row v vars p x f =
       three-then (eqb (v .kind) 3) (eqb (v .kind) 0 && ltb vars (v .number)) (row && (eqb (v .kind) 0 && ltb (v .number) vars))
-      (bad row 6 p) (bad row 7 p) (bad row 8 p) x f
+      (bad row reason.Cell p) (bad row reason.Fresh p) (bad row reason.Twice p) x f
 
 -- a refusal is not a value, and a test has one answer
 pub apart : {A B : Type 0} {x : A} {f : Refused} → read x ≡ refuse f → B

@@ -9,8 +9,10 @@ use native.Mathlib.Omega.{arith}
 use lib.ListN.{length, take, drop, set, replicate, length-drop, drop-of-length-le}
 use lib.Seq.{take-at, drop-at, drop-cons, drop-drop, sets, length-take-le}
 use Rattle.term.proofs.Lists.{sets-replicate}
-use Rattle.table.specs.Refusal.{Refused, refused, Answer, answered, turned}
-use Rattle.table.specs.Read.{Read, read, refuse, andThen}
+use Rattle.refusal.specs.Refusal.{Refused, refused, Answer, answered, turned}
+use Rattle.refusal.specs.declared.Reason.the-variants as reason
+use Rattle.refusal.specs.declared.Input.the-variants as input
+use Rattle.refusal.specs.Read.{Read, read, refuse, andThen}
 use Rattle.table.specs.Table.{Met, met, table, before, termsFrom, rowsFrom, Row, appear, starts, tableTold, TableReads}
 use Rattle.table.specs.declared.TableRead.{TableRead}
 use Rattle.table.specs.All.{All}
@@ -24,7 +26,7 @@ module _ (w : ℕ) (t : List ℕ) (p : ℕ) where
   unfolding rowsFrom
   rows-end z h = rw (z, drop-of-length-le t h)
 
-  pub rows-extra : {n : ℕ} → n ≡ 0 → p < length t → rowsFrom w n (drop p t) p ≡ refuse (refused 9 1 p)
+  pub rows-extra : {n : ℕ} → n ≡ 0 → p < length t → rowsFrom w n (drop p t) p ≡ refuse (refused reason.Extra input.Table p)
   unfolding rowsFrom
   rows-extra z h = rw (z, drop-cons t p 0 h)
 

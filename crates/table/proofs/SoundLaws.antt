@@ -13,10 +13,10 @@ use Rattle.cell.specs.Cell as cell-specs
 use Rattle.cell.proofs.CellLaws.{Reading, a-variable, no-cell, reading, cell-accepted, isVar-kind}
 use Rattle.cell.proofs.CellLaws as cell-laws
 use Rattle.term.proofs.Tests.{bool-cases, eqb-same}
-use Rattle.table.specs.Refusal.{Refused}
-use Rattle.table.specs.Read.{Read, read, refuse, andThen}
+use Rattle.refusal.specs.Refusal.{Refused}
+use Rattle.refusal.specs.Read.{Read, read, refuse, andThen}
 use Rattle.table.specs.Table.{count, appear, upFrom}
-use Rattle.table.specs.Looks.{cellFrom, cellsFrom}
+use Rattle.table.specs.code.Looks.{cellFrom, cellsFrom}
 use Rattle.table.proofs.ReadLaws.{not-both, first}
 use Rattle.table.proofs.LooksLaws as looks
 

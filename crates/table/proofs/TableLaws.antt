@@ -6,22 +6,24 @@ use Prim.Native.Nat.{ℕ, _≤_, _<_}
 use lib.Dec.{ltb}
 use lib.ListN.{length, getD, drop}
 use borrow.Author.Tests.{lt-ltb, le-ltb}
-use Rattle.table.specs.Refusal.{Refused, refused}
-use Rattle.table.specs.Read.{read, refuse, andThen}
+use Rattle.refusal.specs.Refusal.{Refused, refused}
+use Rattle.refusal.specs.declared.Reason.the-variants as reason
+use Rattle.refusal.specs.declared.Input.the-variants as input
+use Rattle.refusal.specs.Read.{read, refuse, andThen}
 use Rattle.table.specs.Table.{met, table, termsFrom, rowsFrom, tableOf, goalOf}
 
 module _ (t : List ℕ) where
-  pub table-length : (ltb (length t) 2 || ltb 2050 (length t)) ≡ true → tableOf t ≡ refuse (refused 1 1 0)
+  pub table-length : (ltb (length t) 2 || ltb 2050 (length t)) ≡ true → tableOf t ≡ refuse (refused reason.Length input.Table 0)
   unfolding tableOf
   table-length a = rw a
 
   module _ (a : (ltb (length t) 2 || ltb 2050 (length t)) ≡ false) where
-    pub table-width : (ltb (getD t 0 0) 1 || ltb 8 (getD t 0 0)) ≡ true → tableOf t ≡ refuse (refused 2 1 0)
+    pub table-width : (ltb (getD t 0 0) 1 || ltb 8 (getD t 0 0)) ≡ true → tableOf t ≡ refuse (refused reason.Width input.Table 0)
     unfolding tableOf
     table-width b = rw (a, b)
 
     module _ (b : (ltb (getD t 0 0) 1 || ltb 8 (getD t 0 0)) ≡ false) where
-      pub table-count : (ltb (getD t 1 0) 1 || ltb 64 (getD t 1 0)) ≡ true → tableOf t ≡ refuse (refused 3 1 1)
+      pub table-count : (ltb (getD t 1 0) 1 || ltb 64 (getD t 1 0)) ≡ true → tableOf t ≡ refuse (refused reason.Count input.Table 1)
       unfolding tableOf
       table-count c = rw (a, b, c)
 
@@ -31,7 +33,7 @@ module _ (t : List ℕ) where
       table-rows c = rw (a, b, c)
 
 module _ (w : ℕ) (g : List ℕ) where
-  pub goal-length : (ltb (length g) 1 || ltb 32 (length g)) ≡ true → goalOf w g ≡ refuse (refused 1 3 0)
+  pub goal-length : (ltb (length g) 1 || ltb 32 (length g)) ≡ true → goalOf w g ≡ refuse (refused reason.Length input.Goal 0)
   unfolding goalOf
   goal-length a = rw a
 
@@ -40,7 +42,7 @@ module _ (w : ℕ) (g : List ℕ) where
     unfolding goalOf
     goal-turned e = rw (a, e)
 
-    pub goal-extra : {e v : ℕ} → termsFrom false g w 0 0 0 ≡ read (met e v) → e < length g → goalOf w g ≡ refuse (refused 9 3 e)
+    pub goal-extra : {e v : ℕ} → termsFrom false g w 0 0 0 ≡ read (met e v) → e < length g → goalOf w g ≡ refuse (refused reason.Extra input.Goal e)
     unfolding goalOf
     goal-extra e h = rw (a, e, lt-ltb _ (length g) h)
 

@@ -11,9 +11,9 @@ use lib.Seq.{take-at, drop-at}
 use borrow.Author.Tests.{lt-leb, leb-false}
 use Rattle.cell.specs.Cell.{valuesAt, arity}
 use Rattle.term.specs.Terms.{Terms, none, more}
-use Rattle.table.specs.Read.{read, andThen}
+use Rattle.refusal.specs.Read.{read, andThen}
 use Rattle.table.specs.Table.{Met, met, counted, termsFrom}
-use Rattle.table.specs.Looks.{cellFrom, cellsFrom}
+use Rattle.table.specs.code.Looks.{cellFrom, cellsFrom}
 use Rattle.table.proofs.ReadLaws.{not-both, then-both, then-assoc, tests-then, passed, passed-tests, apart, read-one, first}
 
 -- a row that is not yet full

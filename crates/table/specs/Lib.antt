@@ -1,5 +1,3 @@
 pub mod All
-pub mod Refusal
-pub mod Read
 pub mod Table
-pub mod Looks
+pub mod code

@@ -15,12 +15,15 @@ use Rattle.table.specs.declared.Part.{Part}
 use Rattle.table.specs.declared.TableAnswer.the-variants as table-answer
 use Rattle.table.specs.declared.GoalAnswer.the-variants as goal-answer
 use Rattle.table.specs.All.{All}
-use Rattle.table.specs.Refusal.{Refused, refused, told, Answer, answered, turned}
-use Rattle.table.specs.Read.{Read, read, refuse, when, andThen}
+use Rattle.refusal.specs.Refusal.{Refused, refused, told, Answer, answered, turned}
+use Rattle.refusal.specs.declared.Reason.{Reason}
+use Rattle.refusal.specs.declared.Reason.the-variants as reason
+use Rattle.refusal.specs.declared.Input.the-variants as input
+use Rattle.refusal.specs.Read.{Read, read, refuse, when, andThen}
 
 -- The terms of a row or of a goal. LONG and TWICE are given in a row only. A refusal of a row concerns the table, and one of a goal the goal
-abbrev pub bad : Bool → ℕ → ℕ → Refused
-bad row n p = refused n (cond row 1 3) p
+abbrev pub bad : Bool → Reason → ℕ → Refused
+bad row r p = refused r (cond row input.Table input.Goal) p
 
 -- what has been read: the place after it, and how many variables it has
 pub record Met : Type 0 where
@@ -37,19 +40,19 @@ counted v vars = cond (eqb (v .kind) 0 && eqb (v .number) vars) (suc vars) vars
 -- one cell: CELL, FRESH, and in a row TWICE
 abbrev pub cellTests : {A : Type 0} → Bool → Values → ℕ → ℕ → Read A → Read A
 cellTests row v vars p rest =
-    when (eqb (v .kind) 3) (bad row 6 p)
-    (when (eqb (v .kind) 0 && ltb vars (v .number)) (bad row 7 p)
-    (when (row && (eqb (v .kind) 0 && ltb (v .number) vars)) (bad row 8 p)
+    when (eqb (v .kind) 3) (bad row reason.Cell p)
+    (when (eqb (v .kind) 0 && ltb vars (v .number)) (bad row reason.Fresh p)
+    (when (row && (eqb (v .kind) 0 && ltb (v .number) vars)) (bad row reason.Twice p)
     rest))
 
 -- 01, "cells are read left to right, and at each place 4, 5, 6, 7, 8 in that order": of the cells left, the terms owed, the cells used so far, the variables
 -- met and the next cell's place
 unfoldable pub termsFrom : Bool → List ℕ → ℕ → ℕ → ℕ → ℕ → Read Met
 termsFrom row [] zero used vars p = read (met p vars)
-termsFrom row [] (suc owed) used vars p = when (row && leb 32 used) (bad row 4 p) (refuse (bad row 5 p))
+termsFrom row [] (suc owed) used vars p = when (row && leb 32 used) (bad row reason.Long p) (refuse (bad row reason.Short p))
 termsFrom row (c ∷ xs) zero used vars p = read (met p vars)
 termsFrom row (c ∷ xs) (suc owed) used vars p =
-    when (row && leb 32 used) (bad row 4 p)
+    when (row && leb 32 used) (bad row reason.Long p)
     (cellTests row (valuesAt c) vars p
     (termsFrom row xs (valuesAt c .args + owed) (suc used) (counted (valuesAt c) vars) (suc p)))
 
@@ -69,24 +72,24 @@ before r (refuse f) = refuse f
 -- so many rows of a width, the first at place p, and nothing after them: EXTRA
 unfoldable pub rowsFrom : ℕ → ℕ → List ℕ → ℕ → Read (List (List ℕ))
 rowsFrom w zero [] p = read []
-rowsFrom w zero (c ∷ xs) p = refuse (refused 9 1 p)
+rowsFrom w zero (c ∷ xs) p = refuse (refused reason.Extra input.Table p)
 rowsFrom w (suc n) xs p =
     andThen (termsFrom true xs w 0 0 p) (λ (m : Met). before (take (m .next - p) xs) (rowsFrom w n (drop (m .next - p) xs) (m .next)))
 
 -- 01, "A table is: width (1 to 8), row count (1 to 64), then the rows": LENGTH, WIDTH, COUNT, then the rows
 unfoldable pub tableOf : List ℕ → Read Table
 tableOf t =
-    when (ltb (length t) 2 || ltb 2050 (length t)) (refused 1 1 0)
-    (when (ltb (getD t 0 0) 1 || ltb 8 (getD t 0 0)) (refused 2 1 0)
-    (when (ltb (getD t 1 0) 1 || ltb 64 (getD t 1 0)) (refused 3 1 1)
+    when (ltb (length t) 2 || ltb 2050 (length t)) (refused reason.Length input.Table 0)
+    (when (ltb (getD t 0 0) 1 || ltb 8 (getD t 0 0)) (refused reason.Width input.Table 0)
+    (when (ltb (getD t 1 0) 1 || ltb 64 (getD t 1 0)) (refused reason.Count input.Table 1)
     (andThen (rowsFrom (getD t 0 0) (getD t 1 0) (drop 2 t) 2) (λ (rows : List (List ℕ)). read (table (getD t 0 0) rows)))))
 
 -- 01, "A goal is read with its table: width terms, 1 to 32 cells in all": LENGTH, the terms, EXTRA
 unfoldable pub goalOf : ℕ → List ℕ → Read ℕ
 goalOf w g =
-    when (ltb (length g) 1 || ltb 32 (length g)) (refused 1 3 0)
+    when (ltb (length g) 1 || ltb 32 (length g)) (refused reason.Length input.Goal 0)
     (andThen (termsFrom false g w 0 0 0) (λ (m : Met).
-    when (ltb (m .next) (length g)) (refused 9 3 (m .next)) (read (m .vars))))
+    when (ltb (m .next) (length g)) (refused reason.Extra input.Goal (m .next)) (read (m .vars))))
 
 -- What the entries answer.
 

@@ -1,4 +1,4 @@
-// Tables, goals and rows (01, "Tables and goals"), and what is turned away.
+// Tables, goals and rows (01, "Tables and goals").
 mod terms;
 
 ghost use mathlib.Core.Path.{_≡_};
@@ -6,81 +6,14 @@ ghost use mathlib.Core.Bool.{_||_};
 ghost use Prim.Native.Nat.{_≤_};
 ghost use lib.Dec.{ltb};
 ghost use lib.ListN.{length, drop};
-ghost use Rattle.table.specs.Refusal.{numberOf, inputOf, refused};
-ghost use Rattle.table.specs.Read.{read, refuse, andThen};
+ghost use Rattle.refusal.specs.Refusal.{refused};
+ghost use Rattle.refusal.specs.declared.Input.the-variants as input;
+ghost use Rattle.refusal.specs.Read.{read, refuse, andThen};
 ghost use Rattle.table.specs.Table.{table, rowsFrom, tableOf, goalOf, goalWith, rowIn, TableReads, RowPlace, goalTold, goalSays};
+use refusal::Input;
+use refusal::Reason;
+use refusal::Refusal;
 use terms::TermsRead;
-
-// 01, "What is turned away": the names, in the order of their numbers.
-pub enum Reason {
-    Length,
-    Width,
-    Count,
-    Long,
-    Short,
-    Cell,
-    Fresh,
-    Twice,
-    Extra,
-    Size,
-    Ends,
-    Open,
-    Edges,
-    Label,
-    Rows,
-    Room,
-}
-
-// 01, "which input it concerns (table, plan, goal or lent room)".
-pub enum Input {
-    Table,
-    Plan,
-    Goal,
-    Lent,
-}
-
-// What a refusal returns: its reason, by which it has 01's number, the input that it concerns, and a place.
-pub struct Refusal {
-    pub reason: Reason,
-    pub input: Input,
-    pub place: usize,
-}
-
-// 01's number of a reason. A reason added later is one line here, one above and one in specs/Refusal.
-pub fn number_of(reason: Reason) -> usize
-    ensures { λ r. ⌜ (r ≡ numberOf reason) × (r ≤ 16) ⌝ }
-{
-    match reason {
-        Reason::Length => 1,
-        Reason::Width => 2,
-        Reason::Count => 3,
-        Reason::Long => 4,
-        Reason::Short => 5,
-        Reason::Cell => 6,
-        Reason::Fresh => 7,
-        Reason::Twice => 8,
-        Reason::Extra => 9,
-        Reason::Size => 10,
-        Reason::Ends => 11,
-        Reason::Open => 12,
-        Reason::Edges => 13,
-        Reason::Label => 14,
-        Reason::Rows => 15,
-        Reason::Room => 16,
-    }
-}
-
-// The number of an input.
-pub fn input_of(input: Input) -> usize
-    ensures { λ r. ⌜ (r ≡ inputOf input) × (r ≤ 4) ⌝ }
-{
-    match input {
-        Input::Table => 1,
-        Input::Plan => 2,
-        Input::Goal => 3,
-        Input::Lent => 4,
-    }
-}
 
 // A table that is read: its width and its number of rows; or why it is turned away.
 pub enum TableAnswer {
@@ -122,7 +55,7 @@ fn wide(c: u32) -> usize
 
 // A table that is turned away.
 fn turned(reason: Reason, place: usize) -> TableRead
-    ensures { λ r. ⌜ TableReads (refuse (refused (numberOf reason) 1 place)) r ⌝ }
+    ensures { λ r. ⌜ TableReads (refuse (refused reason input.Table place)) r ⌝ }
 {
     TableRead {
         answer: TableAnswer::Refused(Refusal {

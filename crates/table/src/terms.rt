@@ -5,14 +5,14 @@ ghost use mathlib.Core.Bool.{true};
 ghost use Prim.Native.Nat.{_+_, _≤_};
 ghost use lib.ListN.{length, drop};
 ghost use lib.Seq.{slice};
-ghost use Rattle.term.proofs.EndsLaws.{ends};
-ghost use Rattle.table.specs.Refusal.{numberOf, told};
+ghost use Rattle.term.specs.code.Owed.{ends};
+ghost use Rattle.refusal.specs.Refusal.{told};
 ghost use Rattle.table.specs.Table.{bad, termsFrom};
-ghost use Rattle.table.specs.Looks.{cellFrom, cellsFrom, testedTold, termsTold, notWhole};
-use super::Input;
-use super::Reason;
-use super::Refusal;
+ghost use Rattle.table.specs.code.Looks.{cellFrom, cellsFrom, testedTold, termsTold, notWhole};
 use cell::Shape;
+use refusal::Input;
+use refusal::Reason;
+use refusal::Refusal;
 use term::End;
 
 // Cells that are tested: the variables met so far; or why one is turned away.
@@ -29,7 +29,7 @@ pub enum TermsRead {
 
 // A refusal of a row, which is part of the table, or of a goal.
 pub fn refusal(row: bool, reason: Reason, place: usize) -> Refusal
-    ensures { λ r. ⌜ told r ≡ bad row (numberOf reason) place ⌝ }
+    ensures { λ r. ⌜ told r ≡ bad row reason place ⌝ }
 {
     if row {
         Refusal {

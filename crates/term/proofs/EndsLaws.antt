@@ -15,13 +15,7 @@ use Rattle.term.specs.declared.End.{End}
 use Rattle.term.specs.declared.End.the-variants.{At, Short}
 use Rattle.term.specs.Terms.{Terms, none, more}
 use Rattle.term.specs.Ends.{Ends, at, short}
-
--- `k` terms are still owed, the cells left are the list, and `p` is the next cell's place
-unfoldable pub ends : List ℕ → ℕ → ℕ → End
-ends [] zero p = At p
-ends [] (suc k) p = Short
-ends (c ∷ xs) zero p = At p
-ends (c ∷ xs) (suc k) p = ends xs (arity c + k) (p + 1)
+use Rattle.term.specs.code.Owed.{ends}
 
 pub ends-none : (xs : List ℕ) (p : ℕ) → ends xs 0 p ≡ At p
 unfolding ends

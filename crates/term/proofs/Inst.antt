@@ -14,6 +14,7 @@ use Rattle.term.proofs.Tests.{bool-cases, eqb-same}
 use Rattle.term.specs.Unify.{inst, Subst}
 use Rattle.term.specs.Terms.{Terms, none, more}
 use Rattle.term.proofs.TermsLaws.{Terms-++}
+use Rattle.term.specs.code.Bind.{bind, idS}
 
 pub inst-++ : (σ : ℕ → List ℕ) (xs ys : List ℕ) → inst σ (xs ++ ys) ≡ inst σ xs ++ inst σ ys
 unfolding inst
@@ -47,13 +48,6 @@ Terms-inst {σ} s (more {c} {k} {xs} t) = go (bool-cases (isVar c)) (Terms-inst 
 pub Subst-then : {σ τ : ℕ → List ℕ} → Subst σ → Subst τ → Subst (then σ τ)
 unfolding then inst
 Subst-then {σ} {τ} s t = record { vars = λ c v. Terms-inst t (s .vars c v); symbols = λ c v. rw (s .symbols c v) (append-nil (τ c) ∙ t .symbols c v) }
-
--- the identity, and one with a variable bound
-unfoldable pub idS : ℕ → List ℕ
-idS c = c ∷ []
-
-unfoldable pub bind : ℕ → List ℕ → (ℕ → List ℕ) → ℕ → List ℕ
-bind v t σ c = cond (eqb c v) t (σ c)
 
 pub bind-same : (v : ℕ) (t : List ℕ) (σ : ℕ → List ℕ) → bind v t σ v ≡ t
 unfolding bind

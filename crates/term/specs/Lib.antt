@@ -1,3 +1,4 @@
 pub mod Terms
 pub mod Unify
 pub mod Ends
+pub mod code

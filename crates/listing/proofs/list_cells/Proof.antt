@@ -3,8 +3,8 @@ use Prim.Native.Nat.{ℕ, _≤_}
 use lib.ListN.{length, take, length-replicate}
 use lib.Seq.{length-take-le}
 use Rattle.listing.specs.Listing.{refusal, ListsTable, refused, listed}
-use Rattle.table.specs.Refusal.{told}
-use Rattle.listing.specs.Walk.{Planned}
+use Rattle.refusal.specs.Refusal.{told}
+use Rattle.listing.specs.code.Walk.{Planned}
 use Rattle.listing.proofs.EntryLaws.{plan-built, plan-refused, written-as}
 use borrow.Author.Needs.{needs}
 use Rattle.listing.proofs.list_cells.Statement.{statement}

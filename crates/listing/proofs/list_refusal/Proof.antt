@@ -1,7 +1,7 @@
 use mathlib.Core.Path.{refl}
 use native.Mathlib.Omega.{arith}
 use Rattle.listing.specs.Listing.{refusal}
-use Rattle.listing.specs.Walk.{Room}
+use Rattle.listing.specs.code.Walk.{Room}
 use Rattle.listing.proofs.LengthLaws.{refusal-few}
 use Rattle.listing.proofs.EntryLaws.{put-written}
 use borrow.Author.Needs.{needs}

@@ -3,10 +3,10 @@ use mathlib.Core.Bool.{false, _||_}
 use native.Mathlib.Omega.{arith}
 use lib.Dec.{ltb}
 use lib.ListN.{length}
-use Rattle.table.specs.Refusal.{turned}
-use Rattle.table.specs.Read.{read}
+use Rattle.refusal.specs.Refusal.{turned}
+use Rattle.refusal.specs.Read.{read}
 use Rattle.table.specs.Table.{met, termsFrom, goalSays}
-use Rattle.table.specs.Looks.{termsTold}
+use Rattle.table.specs.code.Looks.{termsTold}
 use Rattle.table.proofs.ReadLaws.{inside}
 use Rattle.table.proofs.TableLaws.{goal-length, goal-turned, goal-extra, goal-whole}
 use borrow.Author.Needs.{needs}

@@ -4,10 +4,10 @@ use Prim.Native.Nat.{_+_, _-_, _≤_}
 use native.Mathlib.Omega.{arith}
 use borrow.Author.Needs.{needs}
 use lib.ListN.{length, drop, replicate, length-set}
-use Rattle.table.specs.Read.{read, refuse}
-use Rattle.table.specs.Refusal.{told}
+use Rattle.refusal.specs.Read.{read, refuse}
+use Rattle.refusal.specs.Refusal.{told}
 use Rattle.table.specs.Table.{met, termsFrom, rowsFrom}
-use Rattle.table.specs.Looks.{termsTold}
+use Rattle.table.specs.code.Looks.{termsTold}
 use Rattle.table.proofs.WholeLaws.{whole-within}
 use Rattle.table.proofs.RowsLaws.{after, outcome-turned, after-end, next-row, rows-end, rows-extra, rows-turned, rows-answer}
 use Rattle.table.proofs.read_rows.Statement.{statement}

@@ -2,7 +2,7 @@ use mathlib.Core.Path.{_≡_, sym, _∙_, ap}
 use Prim.Native.Nat.{_≤_}
 use native.Mathlib.Omega.{arith}
 use lib.ListN.{length}
-use Rattle.table.specs.Read.{read}
+use Rattle.refusal.specs.Read.{read}
 use Rattle.table.specs.Table.{Table, tableTold, tableOf}
 use Rattle.table.proofs.Accepted.{is-table}
 use Rattle.table.proofs.PartLaws.{says-read, says-turned, place-turned, place-none, place-next, place-last}

@@ -1,11 +1,11 @@
 use mathlib.Core.Path.{_≡_, sym, _∙_}
-use Prim.Native.Nat.{_+_, _-_}
+use Prim.Native.Nat.{_+_, _-_, ℕ, _<_}
 use native.Mathlib.Omega.{arith}
 use borrow.Author.Needs.{needs}
 use lib.ListN.{length, drop, getD}
 use Rattle.cell.specs.Cell.{arity}
-use Rattle.term.proofs.EndsLaws.{ends, ends-is, ends-meant, ends-none, ends-short, ends-more, both-at, both-short, after}
-use Prim.Native.Nat.{ℕ, _<_}
+use Rattle.term.proofs.EndsLaws.{ends-is, ends-meant, ends-none, ends-short, ends-more, both-at, both-short, after}
+use Rattle.term.specs.code.Owed.{ends}
 use borrow.Fn.Kinds.{In}
 use borrow.Fn.PlainCycle.{Measures, is, falls, and}
 use Rattle.term.proofs.term_end.Reads as term-end

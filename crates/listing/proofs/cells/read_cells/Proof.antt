@@ -1,4 +1,4 @@
-use Rattle.listing.proofs.CellsLaws.{put-step, put-end}
+use Rattle.listing.proofs.CellsLaws.{put-step, put-end, cells-step, cells-end}
 use mathlib.Core.Path.{_≡_, refl, sym, ap, _∙_}
 use Prim.Native.Nat.{_+_, _-_, _*_, _≤_}
 use native.Mathlib.Omega.{arith}
@@ -6,7 +6,6 @@ use borrow.Author.Needs.{needs}
 use lib.ListN.{length, drop, length-set}
 use lib.Seq.{sets}
 use Rattle.listing.specs.Listing.{cellsOf}
-use Rattle.listing.proofs.CellsLaws.{cells-step, cells-end}
 use Rattle.listing.proofs.cells.read_cells.Statement.{statement}
 use Rattle.listing.proofs.cells.read_cells.Tie as tie
 

@@ -1,13 +1,12 @@
 use mathlib.Core.Path.{ap}
 use mathlib.Core.List.{[], _∷_}
-use Prim.Native.Nat.{_+_, _/_, _%_}
+use Prim.Native.Nat.{_+_, _/_, _%_, ℕ, _<_}
 use native.Mathlib.Omega.{arith}
 use native.Mathlib.Nat.{div-lt-self}
 use borrow.Author.Needs.{needs}
 use lib.ListN.{length, length-append}
 use Rattle.listing.specs.Listing.{decimal}
 use Rattle.listing.proofs.TextLaws.{put-put, put-length, decimal-small, decimal-more}
-use Prim.Native.Nat.{ℕ, _<_}
 use borrow.Fn.Kinds.{In}
 use borrow.Fn.PlainCycle.{Measures, is, falls, and}
 use Rattle.listing.proofs.text.put_decimal.Reads as put-decimal

@@ -1,12 +1,11 @@
 use mathlib.Core.Path.{refl}
-use Prim.Native.Nat.{_+_, _-_, _≤_}
+use Prim.Native.Nat.{_+_, _-_, _≤_, ℕ, _<_}
 use native.Mathlib.Omega.{arith}
 use borrow.Author.Needs.{needs}
 use lib.ListN.{length, getD}
 use Rattle.cell.specs.Cell.{arity}
 use Rattle.listing.specs.Listing.{line}
 use Rattle.listing.proofs.WalkLaws.{leaf-walked, leaf-inside, enters, none-walked, Goes, goes}
-use Prim.Native.Nat.{ℕ, _<_}
 use borrow.Fn.Kinds.{In}
 use borrow.Fn.PlainCycle.{Measures, is, falls, and}
 use Rattle.listing.proofs.walk.branches.Reads as branches

@@ -4,7 +4,7 @@ use borrow.Author.Needs.{needs}
 use native.Mathlib.Omega.{arith}
 use lib.Seq.{sets}
 use Rattle.table.specs.All.{All}
-use Rattle.run.specs.See.{steps}
+use Rattle.run.specs.code.See.{steps}
 use Rattle.run.proofs.SeeLaws.{steps-all, steps-more, steps-none, store-next, store-end}
 use Rattle.run.proofs.places.put_terms.Statement.{statement}
 use Rattle.run.proofs.places.put_terms.Tie as tie

@@ -3,7 +3,7 @@ use mathlib.Core.Path.{refl, sym, ap, _∙_}
 use native.Mathlib.Omega.{arith}
 use borrow.Author.Needs.{needs}
 use lib.ListN.{length, length-set}
-use Rattle.run.specs.See.{viewOf}
+use Rattle.run.specs.code.See.{viewOf}
 use Rattle.run.proofs.PlacesLaws.{reset}
 use Rattle.run.proofs.WalkLaws.{leaf-read, leaf-walked, state-read, inside, place-small, visible}
 use Rattle.run.proofs.LoopLaws.{Loop, begin, now-first, again, over, branch-falls}
@@ -20,9 +20,9 @@ use Rattle.run.proofs.walk.state.Reads as state
 use Rattle.run.proofs.walk.state.Kinds as state-kinds
 use Rattle.run.proofs.walk.+below+branch+state.Lts-state as state-lts
 use Rattle.cell.proofs.arity_of.Reads as arity-of-reads
-use Rattle.run.proofs.goal.hop.Reads as hop-reads
-use Rattle.run.proofs.goal.look.Reads as look-reads
-use Rattle.run.proofs.goal.wide.Reads as wide-reads
+use Rattle.run.proofs.seen.hop.Reads as hop-reads
+use Rattle.run.proofs.seen.look.Reads as look-reads
+use Rattle.run.proofs.seen.wide.Reads as wide-reads
 use Rattle.run.proofs.places.last_new.Reads as last-new-reads
 use Rattle.run.proofs.places.put_terms.Reads as put-terms-reads
 use Rattle.run.proofs.walk.put_rows.Reads as put-rows-reads

@@ -1,5 +1,5 @@
 use mathlib.Core.Path.{sym, ap, _∙_}
-use Rattle.run.specs.Walk.{foundOf}
+use Rattle.run.specs.code.Walk.{foundOf}
 use Rattle.run.proofs.SeeLaws.{is-var, not-var, found-variable, found-loose, found-same, found-other}
 use borrow.Author.Needs.{needs}
 use Rattle.run.proofs.walk.test.Statement.{statement}

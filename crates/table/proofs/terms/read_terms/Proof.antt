@@ -3,11 +3,11 @@ use Prim.Native.Nat.{ℕ, _-_}
 use native.Mathlib.Omega.{arith}
 use lib.ListN.{length, drop}
 use Rattle.term.specs.declared.End.the-variants.{At, Short}
-use Rattle.term.proofs.EndsLaws.{ends}
+use Rattle.term.specs.code.Owed.{ends}
 use Rattle.table.specs.declared.terms.Tested.{Tested}
-use Rattle.table.specs.Read.{read, refuse, andThen}
+use Rattle.refusal.specs.Read.{read, refuse, andThen}
 use Rattle.table.specs.Table.{met, termsFrom}
-use Rattle.table.specs.Looks.{notWhole, testedTold}
+use Rattle.table.specs.code.Looks.{notWhole, testedTold}
 use Rattle.table.proofs.LooksLaws.{ended, looks-at, looks-short}
 use borrow.Author.Needs.{needs}
 use Rattle.table.proofs.terms.read_terms.Statement.{statement}

@@ -3,7 +3,8 @@ use Prim.Native.Nat.{_+_, _-_}
 use native.Mathlib.Omega.{arith}
 use borrow.Author.Needs.{needs}
 use lib.ListN.{drop}
-use Rattle.term.proofs.EndsLaws.{ends, ends-is, ends-none, both-at, both-short}
+use Rattle.term.proofs.EndsLaws.{ends-is, ends-none, both-at, both-short}
+use Rattle.term.specs.code.Owed.{ends}
 use Rattle.table.proofs.terms.terms_end.Statement.{statement}
 use Rattle.table.proofs.terms.terms_end.Tie as tie
 

@@ -2,7 +2,7 @@ use mathlib.Core.Path.{_≡_, sym, _∙_, ap}
 use native.Mathlib.Omega.{arith}
 use native.Mathlib.Numerals.{add-one}
 use Rattle.cell.specs.Cell.{values, valuesAt, valuesOf}
-use Rattle.table.specs.Read.{read, refuse}
+use Rattle.refusal.specs.Read.{read, refuse}
 use Rattle.table.proofs.LooksLaws.{not-cell, a-name, a-number, fresh, new, twice, again}
 use borrow.Author.Needs.{needs}
 use Rattle.table.proofs.terms.test_cell.Statement.{statement}

@@ -4,9 +4,9 @@ use native.Mathlib.Omega.{arith}
 use borrow.Author.Needs.{needs}
 use lib.ListN.{getD}
 use lib.Seq.{slice}
-use Rattle.table.specs.Read.{read, refuse}
-use Rattle.table.specs.Refusal.{told}
-use Rattle.table.specs.Looks.{cellFrom, cellsFrom, testedTold}
+use Rattle.refusal.specs.Read.{read, refuse}
+use Rattle.refusal.specs.Refusal.{told}
+use Rattle.table.specs.code.Looks.{cellFrom, cellsFrom, testedTold}
 use Rattle.table.proofs.LooksLaws.{cells-next, cells-done, one-more}
 use Rattle.table.proofs.terms.test_cells.Statement.{statement}
 use Rattle.table.proofs.terms.test_cells.Tie as tie

@@ -1,0 +1,13 @@
+pub mod CountLaws
+pub mod AfterLaws
+pub mod SkeletonLaws
+pub mod MeaningLaws
+pub mod OpenGoalLaws
+pub mod RenamedLaws
+pub mod AcceptedLaws
+pub mod FewLaws
+pub mod Fixed
+pub mod TakesLaws
+pub mod Theorems
+pub mod Decided
+pub mod Examples

@@ -1,0 +1,104 @@
+-- The goal of distinct variables: every branch is tried.
+use Prim.Native.Nat.{ℕ, zero, suc, _+_, _-_, _^_, _≤_, _<_}
+use mathlib.Core.Path.{_≡_, refl, sym, ap}
+use mathlib.Core.Logic.{_≢_}
+use mathlib.Core.Bool.{true}
+use mathlib.Core.List.{List, [], _∷_, _++_}
+use native.Mathlib.Omega.{arith}
+use lib.ListN.{length, replicate}
+use Rattle.cell.specs.Cell.{arity, isVar}
+use Rattle.cell.proofs.CellLaws.{var-small}
+use Rattle.term.specs.Terms.{Terms, more, root, close}
+use Rattle.term.specs.Unify.{renamed}
+use Rattle.term.proofs.TermsLaws.{Terms-++}
+use Rattle.term.proofs.Step.{fresh-var}
+use Rattle.table.specs.All.{All}
+use Rattle.table.proofs.AllLaws.{all-++}
+use Rattle.table.specs.Table.{upFrom, count}
+use Rattle.plan.specs.Runs.{Run}
+use Rattle.plan.specs.Plans.{Plan, leaf, node, Branches, end, next}
+use Rattle.plan.proofs.RunsLaws.{Each, Sized, group-sizes}
+use Rattle.answer.specs.Skeleton.{hole, fill, decide, opened}
+use Rattle.answer.specs.Run.{Counts, zero-of, one-of, skeletons, skeletonsIn, Tried}
+use Rattle.answer.proofs.CountLaws.{up-mem, up-distinct}
+use Rattle.answer.proofs.SkeletonLaws.{count-all, fill-all, Three, three, three-of, fill-decide, decide-count, vars-unify}
+use Rattle.answer.proofs.MeaningLaws.{Fine, Below, below-all, some-row, cell-hole, holes-below, fine-below, opened-fine}
+
+-- a skeleton of w arguments: filled with terms it is w terms
+pub record Wide (w : ℕ) (K : List ℕ) : Type 0 where
+  pub fills : (X : List ℕ) → Terms (count hole K) X → Terms w (fill K X)
+
+wide-first : (w : ℕ) → Wide w (replicate w hole)
+wide-first w = record { fills = λ X t. let u = rw (count-all w) at t in rw (fill-all w u) u }
+
+wide-decide : {w : ℕ} (K : List ℕ) (i c j : ℕ) → c ≢ hole → count hole K ≡ i + suc j → Wide w K → Wide w (decide i c K)
+wide-decide {w} K i c j h e W = record {
+  fills = λ X t. let z : count hole (decide i c K) ≡ i + (arity c + j) = (let q = decide-count i c K h (omega arith) in omega arith) in
+      go (three-of i (arity c) j (rw z at t));
+}
+  where
+    go : {X : List ℕ} → Three i (arity c) j X → Terms w (fill (decide i c K) X)
+    go (three {A} {args} {B} ta tg tb) = rw (fill-decide i c K B h ta tg) (W .fills (A ++ (c ∷ (args ++ B))) (rw e (Terms-++ ta (more (Terms-++ tg tb)))))
+
+-- the goal renamed apart
+renamed-up : (n a : ℕ) → n + a ≤ 2 ^ 30 → renamed (upFrom n a) ≡ upFrom (2 ^ 16 + n) a
+unfolding renamed upFrom
+renamed-up n zero h = refl
+renamed-up n (suc a) h =
+    let q : 2 ^ 16 + suc n ≡ suc (2 ^ 16 + n) = omega arith in
+    let v : isVar n ≡ true = var-small n (omega arith) in
+    let r : renamed (upFrom (suc n) a) ≡ upFrom (suc (2 ^ 16 + n)) a = rw q at (renamed-up (suc n) a (omega arith)) in
+    rw v (ap (λ (l : List ℕ). (2 ^ 16 + n) ∷ l) r)
+
+-- what every skeleton of w arguments above a row has, all skeletons of a plan have
+module _ (w : ℕ) (Q : List ℕ → Type 0) (has : (K x : List ℕ) → Wide w K → Fine K x → Q K) where
+  mutual
+    unfolding skeletons
+
+    all-skeletons : {k : ℕ} {rows : List (List ℕ)} (p : Plan k rows) (K : List ℕ) → Wide w K → count hole K ≡ k → All (Fine K) rows → 0 < length rows → All Q (skeletons p K)
+    all-skeletons leaf K W e a s = tt
+    all-skeletons (node {k} {rows} i h bs) K W e a s =
+        let q : count hole K ≡ i + suc (k - i) = omega arith in
+        let x = some-row (Fine K) rows s a in
+        all-skeletonsIn bs i K W e h (below-all K i (k - i) q rows a) (length rows) (group-sizes (root i) (close i) rows) (has K (x .0) W (x .1))
+
+    all-skeletonsIn : {k : ℕ} {gs : List Run} (bs : Branches k gs) (i : ℕ) (K : List ℕ) → Wide w K → count hole K ≡ suc k → i ≤ k → Each (Below i K) gs → (z : ℕ) → Sized z gs → Q K
+        → All Q (skeletonsIn bs i K)
+    all-skeletonsIn end i K W e l a z s y = tt
+    all-skeletonsIn (next {k} {g} {gs} p bs) i K W e l a z s y =
+        let c = g .cell in
+        let q : count hole K ≡ i + suc (k - i) = omega arith in
+        let o = cell-hole i k c K (g .rows) e l (s .0 .0) (a .0) in
+        let d = holes-below i k c K (g .rows) e l (s .0 .0) (a .0) in
+        let F = fine-below i k c K (g .rows) e l (s .0 .0) (a .0) in
+        let below = all-skeletons p (decide i c K) (wide-decide K i c (k - i) o q W) d F (s .0 .0) in
+        (y, all-++ Q (skeletons p (decide i c K)) (skeletonsIn bs i K) below (all-skeletonsIn bs i K W e l (a .1) z (s .1) y))
+
+-- each open place a variable, they are w terms
+opened-terms : (w : ℕ) (K x : List ℕ) → Wide w K → Fine K x → Terms w (opened K)
+unfolding opened
+opened-terms w K x W F = W .fills (upFrom (2 ^ 15) (count hole K)) (opened-fine F .terms)
+
+pub skeletons-terms : (w : ℕ) {rows : List (List ℕ)} (p : Plan w rows) → All (Fine (replicate w hole)) rows → 0 < length rows
+    → All (λ (K : List ℕ). Terms w (opened K)) (skeletons p (replicate w hole))
+skeletons-terms w p a s = all-skeletons w (λ (K : List ℕ). Terms w (opened K)) (opened-terms w) p (replicate w hole) (wide-first w) (count-all w) a s
+
+-- the goal of distinct variables unifies with each
+one-tried : (w : ℕ) → w ≤ 32 → (K x : List ℕ) → Wide w K → Fine K x → Tried (upFrom 0 w) K
+unfolding Tried opened
+one-tried w few K x W F =
+    let o = opened-fine F in
+    let f = up-distinct (2 ^ 16 + 0) w (omega arith) in
+    let u = vars-unify f (W .fills (upFrom (2 ^ 15) (count hole K)) (o .terms))
+    (λ c m q. let v = fresh-var f c q in let r = up-mem (2 ^ 16 + 0) w c q in let l = o .row .low c m v in omega arith) in
+    rw (renamed-up 0 w (omega arith)) (record { by = u .by; good = u .good; same = sym (u .same) })
+
+counts-all : (P : List ℕ → Type 0) (xs : List (List ℕ)) → All P xs → Counts P xs (length xs)
+counts-all P [] a = zero-of
+counts-all P (x ∷ xs) a = one-of (a .0) (counts-all P xs (a .1))
+
+pub every-branch : (w : ℕ) → w ≤ 32 → {rows : List (List ℕ)} (p : Plan w rows) → All (Fine (replicate w hole)) rows → 0 < length rows
+    → Counts (Tried (upFrom 0 w)) (skeletons p (replicate w hole)) (length (skeletons p (replicate w hole)))
+every-branch w few p a s =
+    counts-all (Tried (upFrom 0 w)) (skeletons p (replicate w hole))
+    (all-skeletons w (Tried (upFrom 0 w)) (one-tried w few) p (replicate w hole) (wide-first w) (count-all w) a s)

@@ -1,0 +1,3 @@
+pub mod Skeleton
+pub mod Run
+pub mod code

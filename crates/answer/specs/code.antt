@@ -1,0 +1,4 @@
+-- what only private functions need
+pub mod After
+pub mod Renamed
+pub mod Tree

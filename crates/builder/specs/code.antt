@@ -1,0 +1,4 @@
+-- what only private functions need
+pub mod Notes
+pub mod Filling
+pub mod Writing

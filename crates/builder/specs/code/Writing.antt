@@ -1,0 +1,89 @@
+-- How the builder's plan is written, state by state (01, "As cells, a plan is written state by state, parents first"). A state's rows are held as the
+-- check holds them: by the masks of their open cells.
+use Prim.Native.Nat.{ℕ, _+_, _*_, _≤_, _<_}
+use mathlib.Core.Path.{_≡_}
+use mathlib.Core.Bool.{Bool, true, false}
+use mathlib.Core.List.{List, [], _∷_, _++_}
+use lib.ListN.{length, getD, take, drop}
+use lib.Seq.{sets, slice}
+use Rattle.cell.specs.Cell.{arity}
+use Rattle.table.specs.All.{All}
+use Rattle.plan.specs.Runs.{Run}
+use Rattle.table.specs.Table.{Table}
+use Rattle.plan.specs.Plans.{Plan, Branches, write, writes, branches, plain}
+use Rattle.state.specs.States.{rowsIn, runsIn, Same}
+use Rattle.plan.specs.code.Fits.{Fits}
+use Rattle.least.specs.Least.{Least, Built, Builts}
+use Rattle.least.specs.Entries.{Closes, Entry}
+
+-- a state of rows first to before end of a table: it is reached from these rows, nothing of them being closed, by closing what they agree on
+pub record Reached (w : ℕ) (rows : List (List ℕ)) (first end k : ℕ) (left : List (List ℕ)) : Type 0 where
+  pub weight : ℕ
+  pub closes : Closes plain weight w (slice first end rows) k left
+
+-- runs of neighbouring rows, the first of them from row j on: each of them is such a state, with k open places beside its cell's arguments
+abbrev pub AllReached : (w : ℕ) (rows : List (List ℕ)) (k j : ℕ) → List Run → Type 0
+AllReached w rows k j [] = Unit {0}
+AllReached w rows k j (g ∷ gs) = Reached w rows j (j + length (g .rows)) (arity (g .cell) + k) (g .rows) × AllReached w rows k (j + length (g .rows)) gs
+
+-- a table's rows, and the chosen place of each pair of them
+pub record Source (place : List ℕ) : Type 0 where
+  pub width : ℕ
+  pub rows : List (List ℕ)
+  pub many : length rows ≤ 64
+  pub places : (first last : ℕ) → first ≤ last → last < length rows → (cost : ℕ) × Entry plain width rows first last cost (getD place (64 * first + last) 0)
+
+-- the rows of a state, with k open places
+pub record State (place : List ℕ) (first end k : ℕ) (left : List (List ℕ)) : Type 0 where
+  pub source : Source place
+  pub some : first < end
+  pub inside : end ≤ length (source .rows)
+  pub fits : All (Fits 32 k) left
+  pub reached : Reached (source .width) (source .rows) first end k left
+
+-- masks ms and a column hs for 64 rows, and the cells that are written
+pub record Room (ms hs out : List ℕ) : Type 0 where
+  pub masks : length ms ≡ 64
+  pub column : length hs ≡ 64
+  pub cells : length out ≡ 6082
+
+-- a state whose plan by the rule is to be written at a place, and the branches of the runs of rows whose place is closed
+pub record ToWrite (t ss ms hs place out : List ℕ) (first end k at : ℕ) : Type 0 where
+  pub room : Room ms hs out
+  pub state : State place first end k (rowsIn t ss ms first end)
+  pub plan : Plan k (rowsIn t ss ms first end)
+  pub built : Built plain plan
+  pub fits : at + length (write plan) ≤ 6082
+
+pub record ToWriteAll (t ss ms hs place out : List ℕ) (first end k at : ℕ) : Type 0 where
+  pub room : Room ms hs out
+  pub source : Source place
+  pub order : first ≤ end
+  pub inside : end ≤ length (source .rows)
+  pub each : All (λ (g : Run). All (Fits 32 (arity (g .cell) + k)) (g .rows)) (runsIn t ss ms hs first end)
+  pub reached : AllReached (source .width) (source .rows) k first (runsIn t ss ms hs first end)
+  pub plans : Branches k (runsIn t ss ms hs first end)
+  pub built : Builts plain plans
+  pub fits : at + length (writes plans) ≤ 6082
+
+-- these cells are written from a place on, up to the next; masks and column of the rows after these are as they were
+pub record Written (ms hs out ms′ hs′ out′ cells : List ℕ) (end at next : ℕ) : Type 0 where
+  pub next-is : next ≡ at + length cells
+  pub out-is : out′ ≡ sets out at cells
+  pub masks : Same end ms ms′
+  pub column : Same end hs hs′
+
+-- the cells of the builder's plan for a table's rows, so many at the front, and its number of branches, which is the least
+pub record Planned (T : Table) (cells : List ℕ) (size count : ℕ) : Type 0 where
+  pub plan : Plan (T .width) (T .rows)
+  pub built : Built plain plan
+  pub least : Least plain (T .width) (T .rows) (branches plan)
+  pub cells-are : take size cells ≡ write plan
+  pub size-is : size ≡ length (write plan)
+  pub count-is : count ≡ branches plan
+  pub few : size ≤ 6082
+
+-- some cells are put at the front of the room where they fit, and otherwise nothing is written
+pub data Put (cells : List ℕ) (size : ℕ) (room room′ : List ℕ) : Bool → Type 0 where
+  fitted : size ≤ length room → room′ ≡ take size cells ++ drop size room → Put cells size room room′ true
+  short : length room < size → room′ ≡ room → Put cells size room room′ false

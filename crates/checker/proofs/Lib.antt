@@ -1,0 +1,5 @@
+pub mod StateLaws
+pub mod LoopLaws
+pub mod EntryLaws
+pub mod Accepts
+pub mod Fixed

@@ -1,0 +1,2 @@
+-- what only private functions and laws need
+pub mod Best

@@ -1,0 +1,2 @@
+pub mod Above
+pub mod Cases

@@ -1,0 +1,51 @@
+-- What is turned away, in 01's numbers (01, "What is turned away").
+use Prim.Native.Nat.{ℕ}
+use Rattle.refusal.specs.declared.Reason.{Reason}
+use Rattle.refusal.specs.declared.Reason.the-variants.{Length, Width, Count, Long, Short, Cell, Fresh, Twice, Extra, Size, Ends, Open, Edges, Label, Rows, Room}
+use Rattle.refusal.specs.declared.Input.{Input}
+use Rattle.refusal.specs.declared.Input.the-variants.{Table, Plan, Goal, Lent}
+use Rattle.refusal.specs.declared.Refusal.{Refusal}
+
+-- 01, the column "no." of the table of refusals
+abbrev pub numberOf : Reason → ℕ
+numberOf Length = 1
+numberOf Width = 2
+numberOf Count = 3
+numberOf Long = 4
+numberOf Short = 5
+numberOf Cell = 6
+numberOf Fresh = 7
+numberOf Twice = 8
+numberOf Extra = 9
+numberOf Size = 10
+numberOf Ends = 11
+numberOf Open = 12
+numberOf Edges = 13
+numberOf Label = 14
+numberOf Rows = 15
+numberOf Room = 16
+
+-- 01, "which input it concerns (table, plan, goal or lent room)", in that order
+abbrev pub inputOf : Input → ℕ
+inputOf Table = 1
+inputOf Plan = 2
+inputOf Goal = 3
+inputOf Lent = 4
+
+-- 01, "A refusal returns its number, which input it concerns and a place"
+pub record Refused : Type 0 where
+  pub number : ℕ
+  pub input : ℕ
+  pub place : ℕ
+
+abbrev pub refused : Reason → Input → ℕ → Refused
+refused r i p = record { number = numberOf r; input = inputOf i; place = p }
+
+-- what a refusal of the code says
+abbrev pub told : Refusal → Refused
+told f = refused (f .reason) (f .input) (f .place)
+
+-- what an entry answers: its two values, or a refusal
+pub data Answer : Type 0 where
+  answered : (first second : ℕ) → Answer
+  turned : Refused → Answer

@@ -1,0 +1,75 @@
+// What is turned away (01, "What is turned away"): why, which input, where.
+ghost use mathlib.Core.Path.{_≡_};
+ghost use Prim.Native.Nat.{_≤_};
+ghost use Rattle.refusal.specs.Refusal.{numberOf, inputOf};
+
+// 01, "What is turned away": the names, in the order of their numbers.
+pub enum Reason {
+    Length,
+    Width,
+    Count,
+    Long,
+    Short,
+    Cell,
+    Fresh,
+    Twice,
+    Extra,
+    Size,
+    Ends,
+    Open,
+    Edges,
+    Label,
+    Rows,
+    Room,
+}
+
+// 01, "which input it concerns (table, plan, goal or lent room)".
+pub enum Input {
+    Table,
+    Plan,
+    Goal,
+    Lent,
+}
+
+// What a refusal returns: its reason, by which it has 01's number, the input that it concerns, and a place.
+pub struct Refusal {
+    pub reason: Reason,
+    pub input: Input,
+    pub place: usize,
+}
+
+// 01's number of a reason. A reason added later is one line here, one above and one in specs/Refusal.
+pub fn number_of(reason: Reason) -> usize
+    ensures { λ r. ⌜ (r ≡ numberOf reason) × (r ≤ 16) ⌝ }
+{
+    match reason {
+        Reason::Length => 1,
+        Reason::Width => 2,
+        Reason::Count => 3,
+        Reason::Long => 4,
+        Reason::Short => 5,
+        Reason::Cell => 6,
+        Reason::Fresh => 7,
+        Reason::Twice => 8,
+        Reason::Extra => 9,
+        Reason::Size => 10,
+        Reason::Ends => 11,
+        Reason::Open => 12,
+        Reason::Edges => 13,
+        Reason::Label => 14,
+        Reason::Rows => 15,
+        Reason::Room => 16,
+    }
+}
+
+// The number of an input.
+pub fn input_of(input: Input) -> usize
+    ensures { λ r. ⌜ (r ≡ inputOf input) × (r ≤ 4) ⌝ }
+{
+    match input {
+        Input::Table => 1,
+        Input::Plan => 2,
+        Input::Goal => 3,
+        Input::Lent => 4,
+    }
+}

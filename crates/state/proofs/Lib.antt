@@ -1,0 +1,5 @@
+pub mod MaskLaws
+pub mod ColumnLaws
+pub mod RowsLaws
+pub mod FirstLaws
+pub mod Fixed

@@ -1,0 +1,4 @@
+pub mod Mask
+pub mod Column
+pub mod States
+pub mod code
