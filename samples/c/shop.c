@@ -1,6 +1,6 @@
 /* A shop's table in C: loads it, builds its plan, checks the plan, and asks which rules fit some jobs.
  *
- * usage: shop FILE    (samples/shop.cells; samples/README.md has the numbers of the names) */
+ * usage: shop FILE    (samples/shop.cells; samples/README.md has the numbers of the names, and what is said of other files) */
 
 #include <stdio.h>
 
@@ -56,80 +56,105 @@ static void print_row(const uint32_t *cells, uint32_t width) {
     printf("\n");
 }
 
-/* Prints a refusal, if the answer is one. */
-static bool refused(const char *what, uint64_t answer) {
+/* Prints a refusal after a word, if the answer is one. */
+static bool refused(FILE *to, const char *word, uint64_t answer) {
     static const char *const inputs[] = {"?", "table", "plan", "goal", "room"};
     if (!dudowiej_refused(answer)) return false;
     unsigned input = dudowiej_input(answer);
-    printf("%s: %s refused, %u at %u\n", what, inputs[input < 5 ? input : 0], dudowiej_number(answer), dudowiej_place(answer));
+    unsigned long long place = dudowiej_place(answer);
+    fprintf(to, "%s: %s refused, %u at %llu\n", word, inputs[input < 5 ? input : 0], dudowiej_number(answer), place);
     return true;
 }
 
-/* Loads up to `room` cells, little-endian; -1 where the file cannot be read or is not whole cells. */
-static long load(const char *path, uint32_t *cells, size_t room) {
+/* Reads the first bytes of a file, as many as there is room for; -1 where it cannot be read. */
+static long load(const char *path, unsigned char *bytes, size_t room) {
     FILE *file = fopen(path, "rb");
     if (!file) return -1;
-    unsigned char bytes[4];
-    size_t count = 0, got = 0;
-    while (count < room && (got = fread(bytes, 1, 4, file)) == 4)
-        cells[count++] = bytes[0] | (uint32_t)bytes[1] << 8 | (uint32_t)bytes[2] << 16 | (uint32_t)bytes[3] << 24;
+    size_t size = fread(bytes, 1, room, file);
+    bool failed = ferror(file);
     fclose(file);
-    return got % 4 == 0 ? (long)count : -1;
+    return failed ? -1 : (long)size;
 }
 
-int main(int argc, char **argv) {
-    static uint32_t table[DUDOWIEJ_TABLE_CELLS + 1];
-    static uint32_t plan[DUDOWIEJ_PLAN_CELLS];
-    uint8_t rows[DUDOWIEJ_ROWS];
+/* Bytes as little-endian cells, and how many they are. Bytes that are not whole cells are none, as in planlist, and so no table: 1 at 0. */
+static size_t cells_of(const unsigned char *bytes, size_t size, uint32_t *cells) {
+    if (size % 4 != 0) return 0;
+    for (size_t i = 0; i < size / 4; i++, bytes += 4)
+        cells[i] = bytes[0] | (uint32_t)bytes[1] << 8 | (uint32_t)bytes[2] << 16 | (uint32_t)bytes[3] << 24;
+    return size / 4;
+}
 
-    long loaded = argc == 2 ? load(argv[1], table, DUDOWIEJ_TABLE_CELLS + 1) : -1;
-    if (loaded < 0) {
-        fprintf(stderr, "usage: shop FILE, a table as little-endian cells\n");
+/* A table and a plan for it. Of cells there is room for one more than a table may have, so that too long a file is seen to be one. */
+static unsigned char bytes[4 * (DUDOWIEJ_TABLE_CELLS + 1)];
+static uint32_t table[DUDOWIEJ_TABLE_CELLS + 1];
+static uint32_t plan[DUDOWIEJ_PLAN_CELLS];
+static size_t table_cells, plan_cells;
+static uint32_t width, branches;
+
+/* Loads the table, builds its plan and checks the plan; gives the exit status. */
+static int prepare(const char *path) {
+    long size = load(path, bytes, sizeof bytes);
+    if (size < 0) {
+        fprintf(stderr, "shop: cannot read %s\n", path);
         return 2;
     }
-    size_t cells = (size_t)loaded;
+    table_cells = cells_of(bytes, (size_t)size, table);
 
-    uint64_t read = dudowiej_read_table(table, cells);
-    if (refused("read", read)) return 1;
-    uint32_t width = dudowiej_first(read);
+    uint64_t read = dudowiej_read_table(table, table_cells);
+    if (refused(stderr, "shop", read)) return 1;
+    width = dudowiej_first(read);
     printf("table: %u rules of %u columns\n", dudowiej_second(read), width);
 
-    uint64_t built = dudowiej_build_plan(table, cells, plan, DUDOWIEJ_PLAN_CELLS);
-    if (refused("build", built)) return 1;
-    size_t plan_cells = dudowiej_first(built);
-    printf("plan: %u branches in %zu cells\n", dudowiej_second(built), plan_cells);
+    uint64_t built = dudowiej_build_plan(table, table_cells, plan, DUDOWIEJ_PLAN_CELLS);
+    if (refused(stderr, "shop", built)) return 1;
+    plan_cells = dudowiej_first(built);
+    branches = dudowiej_second(built);
+    printf("plan: %u branches in %zu cells\n", branches, plan_cells);
 
-    uint64_t checked = dudowiej_check_plan(table, cells, plan, plan_cells);
-    if (refused("check", checked)) return 1;
+    uint64_t checked = dudowiej_check_plan(table, table_cells, plan, plan_cells);
+    if (refused(stderr, "shop", checked)) return 1;
     printf("checked: %u branches\n", dudowiej_first(checked));
+    return 0;
+}
 
-    static const struct {
-        uint32_t cells[5];
-        size_t count;
-    } jobs[] = {
-        /* urgency 10, red, a ring: which firing? */
-        {{NUMBER(10), NAME(RED, 0), NAME(RING, 0), VARIABLE(0)}, 4},
-        /* a red ring of any urgency: the rules for 9 come first, as printed */
-        {{VARIABLE(0), NAME(RED, 0), NAME(RING, 0), VARIABLE(1)}, 4},
-        /* a blue bowl of any size */
-        {{NUMBER(9), NAME(BLUE, 0), NAME(BOWL, 1), VARIABLE(0), VARIABLE(1)}, 5},
-        /* a black ring that is not urgent */
-        {{NUMBER(1), NAME(BLACK, 0), NAME(RING, 0), VARIABLE(0)}, 4},
-        /* a goal with a column too few */
-        {{NUMBER(9), NAME(BLUE, 0), NAME(RING, 0)}, 3},
-    };
-    for (size_t job = 0; job < sizeof jobs / sizeof jobs[0]; job++) {
-        const uint32_t *goal = jobs[job].cells;
-        uint64_t run = dudowiej_run_plan(table, cells, plan, plan_cells, goal, jobs[job].count, rows, sizeof rows);
-        if (refused("\njob", run)) continue;
-        printf("\njob: ");
-        print_row(goal, width);
-        for (uint32_t hit = 0; hit < dudowiej_first(run); hit++) {
-            uint64_t row = dudowiej_row(table, cells, rows[hit]);
-            printf("  rule %u: ", rows[hit]);
-            print_row(table + dudowiej_first(row), width);
-        }
-        printf("  %u of %u branches tried\n", dudowiej_second(run), dudowiej_second(built));
+/* Prints the rules that fit a job. */
+static void ask(const uint32_t *goal, size_t goal_cells) {
+    uint8_t rows[DUDOWIEJ_ROWS];
+    uint64_t run = dudowiej_run_plan(table, table_cells, plan, plan_cells, goal, goal_cells, rows, sizeof rows);
+    if (refused(stdout, "\njob", run)) return;
+    printf("\njob: ");
+    print_row(goal, width);
+    for (uint32_t hit = 0; hit < dudowiej_first(run); hit++) {
+        uint64_t row = dudowiej_row(table, table_cells, rows[hit]);
+        printf("  rule %u: ", rows[hit]);
+        print_row(table + dudowiej_first(row), width);
     }
+    printf("  %u of %u branches tried\n", dudowiej_second(run), branches);
+}
+
+static const struct {
+    uint32_t cells[5];
+    size_t count;
+} jobs[] = {
+    /* urgency 10, red, a ring: which firing? */
+    {{NUMBER(10), NAME(RED, 0), NAME(RING, 0), VARIABLE(0)}, 4},
+    /* a red ring of any urgency: the rules for 9 come first, as printed */
+    {{VARIABLE(0), NAME(RED, 0), NAME(RING, 0), VARIABLE(1)}, 4},
+    /* a blue bowl of any size */
+    {{NUMBER(9), NAME(BLUE, 0), NAME(BOWL, 1), VARIABLE(0), VARIABLE(1)}, 5},
+    /* a black ring that is not urgent */
+    {{NUMBER(1), NAME(BLACK, 0), NAME(RING, 0), VARIABLE(0)}, 4},
+    /* a goal with a column too few */
+    {{NUMBER(9), NAME(BLUE, 0), NAME(RING, 0)}, 3},
+};
+
+int main(int argc, char **argv) {
+    if (argc != 2) {
+        fprintf(stderr, "usage: shop FILE\n");
+        return 2;
+    }
+    int status = prepare(argv[1]);
+    if (status != 0) return status;
+    for (size_t job = 0; job < sizeof jobs / sizeof jobs[0]; job++) ask(jobs[job].cells, jobs[job].count);
     return 0;
 }

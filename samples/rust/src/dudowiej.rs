@@ -1,11 +1,24 @@
 //! The exported functions as safe ones: slices in, an answer or a refusal out. They take any cells at all.
 
+use std::fmt;
+
+/// What no table and no plan exceeds, and the rows of a table.
+pub const TABLE_CELLS: usize = 2050;
+pub const PLAN_CELLS: usize = 6082;
+pub const ROWS: usize = 64;
+
 /// Why an input is refused (include/dudowiej.h): number, input and place.
 #[derive(Debug, Clone, Copy, PartialEq, Eq)]
 pub struct Refusal {
     pub number: u8,
     pub input: &'static str,
-    pub place: u16,
+    pub place: u64,
+}
+
+impl fmt::Display for Refusal {
+    fn fmt(&self, to: &mut fmt::Formatter) -> fmt::Result {
+        write!(to, "{} refused, {} at {}", self.input, self.number, self.place)
+    }
 }
 
 extern "C" {
@@ -25,19 +38,19 @@ extern "C" {
     ) -> u64;
 }
 
-/// number + 2^8 · input + 2^16 · first + 2^32 · second, taken apart.
+/// An answer taken apart: 2^16 · first + 2^32 · second, or of a refusal number + 2^8 · input + 2^16 · place.
 fn apart(answer: u64) -> Result<(usize, usize), Refusal> {
-    let first = (answer >> 16) as u16;
     match answer as u8 {
-        0 => Ok((first as usize, (answer >> 32) as usize)),
+        0 => Ok(((answer >> 16) as u16 as usize, (answer >> 32) as usize)),
         number => {
             let input = match answer >> 8 & 0xff {
                 1 => "table",
                 2 => "plan",
                 3 => "goal",
-                _ => "room",
+                4 => "room",
+                _ => "?",
             };
-            Err(Refusal { number, input, place: first })
+            Err(Refusal { number, input, place: answer >> 16 })
         }
     }
 }
@@ -61,7 +74,7 @@ pub fn check_plan(table: &[u32], plan: &[u32]) -> Result<usize, Refusal> {
 
 /// The least plan and its branches.
 pub fn build_plan(table: &[u32]) -> Result<(Vec<u32>, usize), Refusal> {
-    let mut plan = vec![0; 6082];
+    let mut plan = vec![0; PLAN_CELLS];
     let (cells, branches) = build_plan_in(table, &mut plan)?;
     plan.truncate(cells);
     Ok((plan, branches))
@@ -74,7 +87,7 @@ pub fn build_plan_in(table: &[u32], room: &mut [u32]) -> Result<(usize, usize), 
 
 /// The rows that unify with the goal, from the top, and the branches tried.
 pub fn run_plan(table: &[u32], plan: &[u32], goal: &[u32]) -> Result<(Vec<u8>, usize), Refusal> {
-    let mut rows = vec![0; 64];
+    let mut rows = vec![0; ROWS];
     let answer = unsafe {
         dudowiej_run_plan(table.as_ptr(), table.len(), plan.as_ptr(), plan.len(), goal.as_ptr(), goal.len(), rows.as_mut_ptr(), rows.len())
     };

@@ -1,10 +1,14 @@
-//! A shop's table in Rust: loads it, builds its plan, checks that plan and another one, asks which rules fit some jobs, and shows some refusals.
+//! A shop's table in Rust: loads it, builds its plan, checks the plan, asks which rules fit some jobs, and shows some refusals.
 //!
-//! usage: shop FILE    (samples/shop.cells; samples/README.md has the numbers of the names)
+//! usage: shop FILE    (samples/shop.cells; samples/README.md has the numbers of the names, and what is said of other files)
 
 mod dudowiej;
 
 use dudowiej::Refusal;
+use std::fs::File;
+use std::io::Read;
+use std::path::{Path, PathBuf};
+use std::process::ExitCode;
 
 const fn variable(number: u32) -> u32 {
     number
@@ -25,20 +29,36 @@ const RING: u32 = name(11, 0);
 const BOWL: u32 = name(13, 1);
 const LARGE: u32 = name(22, 0);
 
-fn main() {
-    let Some(bytes) = std::env::args().nth(1).and_then(|path| std::fs::read(path).ok()) else {
-        eprintln!("usage: shop FILE, a table as little-endian cells");
-        std::process::exit(2);
+fn main() -> ExitCode {
+    let paths: Vec<PathBuf> = std::env::args_os().skip(1).map(PathBuf::from).collect();
+    let [path] = &paths[..] else {
+        eprintln!("usage: shop FILE");
+        return ExitCode::from(2);
     };
-    let table: Vec<u32> = bytes.chunks_exact(4).map(|cell| u32::from_le_bytes(cell.try_into().expect("four bytes"))).collect();
-    if let Err(refusal) = shop(&table) {
-        println!("{}", said(refusal));
-        std::process::exit(1);
+    let Ok(bytes) = load(path) else {
+        eprintln!("shop: cannot read {}", path.display());
+        return ExitCode::from(2);
+    };
+    if let Err(refusal) = shop(&cells_of(&bytes)) {
+        eprintln!("shop: {refusal}");
+        return ExitCode::from(1);
     }
+    ExitCode::SUCCESS
 }
 
-fn said(refusal: Refusal) -> String {
-    format!("{} refused, {} at {}", refusal.input, refusal.number, refusal.place)
+/// The first bytes of a file: one cell more than a table may have, so that too long a file is seen to be one.
+fn load(path: &Path) -> std::io::Result<Vec<u8>> {
+    let mut bytes = Vec::new();
+    File::open(path)?.take(4 * (dudowiej::TABLE_CELLS as u64 + 1)).read_to_end(&mut bytes)?;
+    Ok(bytes)
+}
+
+/// Bytes as little-endian cells. Bytes that are not whole cells are none, as in planlist, and so no table: 1 at 0.
+fn cells_of(bytes: &[u8]) -> Vec<u32> {
+    if bytes.len() % 4 != 0 {
+        return Vec::new();
+    }
+    bytes.chunks_exact(4).map(|cell| u32::from_le_bytes(cell.try_into().expect("four bytes"))).collect()
 }
 
 fn shop(table: &[u32]) -> Result<(), Refusal> {
@@ -61,21 +81,37 @@ fn shop(table: &[u32]) -> Result<(), Refusal> {
         &[variable(0), variable(1), variable(1), variable(2)],
     ];
     for goal in jobs {
-        let (hits, tried) = dudowiej::run_plan(table, &plan, goal)?;
-        println!("\njob: {}", terms(goal));
-        for hit in hits {
-            println!("  rule {hit}: {}", terms(dudowiej::row(table, hit as usize)));
-        }
-        println!("  {tried} of {branches} branches tried");
+        ask(table, &plan, branches, goal);
     }
-
-    println!("\nrefusals:");
-    let short = &table[..table.len() - 1];
-    println!("  a table without its last cell: {}", said(dudowiej::build_plan(short).unwrap_err()));
-    println!("  a plan without its last cell: {}", said(dudowiej::check_plan(table, &plan[..plan.len() - 1]).unwrap_err()));
-    println!("  a goal with a column too few: {}", said(dudowiej::run_plan(table, &plan, &[RED]).unwrap_err()));
-    println!("  no room for the plan: {}", said(dudowiej::build_plan_in(table, &mut [0; 10]).unwrap_err()));
+    refusals(table, &plan, width);
     Ok(())
+}
+
+/// Prints the rules that fit a job.
+fn ask(table: &[u32], plan: &[u32], branches: usize, goal: &[u32]) {
+    match dudowiej::run_plan(table, plan, goal) {
+        Err(refusal) => println!("\njob: {refusal}"),
+        Ok((hits, tried)) => {
+            println!("\njob: {}", terms(goal));
+            for hit in hits {
+                println!("  rule {hit}: {}", terms(dudowiej::row(table, hit as usize)));
+            }
+            println!("  {tried} of {branches} branches tried");
+        }
+    }
+}
+
+/// Prints four refusals. Each is given for every table that is accepted.
+fn refusals(table: &[u32], plan: &[u32], width: usize) {
+    let short_table = &table[..table.len() - 1];
+    let short_plan = &plan[..plan.len() - 1];
+    let short_goal: Vec<u32> = (0..width as u32 - 1).map(variable).collect();
+    let mut short_room = vec![0; plan.len() - 1];
+    println!("\nrefusals:");
+    println!("  a table without its last cell: {}", dudowiej::build_plan(short_table).unwrap_err());
+    println!("  a plan without its last cell: {}", dudowiej::check_plan(table, short_plan).unwrap_err());
+    println!("  a goal with a column too few: {}", dudowiej::run_plan(table, plan, &short_goal).unwrap_err());
+    println!("  a cell too few for the plan: {}", dudowiej::build_plan_in(table, &mut short_room).unwrap_err());
 }
 
 /// Terms as a shop would read them.
