@@ -2,14 +2,15 @@
 // end (`terms_end`), and once where the cells up to there are tested (`test_cells`).
 ghost use mathlib.Core.Path.{_≡_};
 ghost use mathlib.Core.Bool.{true};
-ghost use Prim.Native.Nat.{_+_, _≤_};
-ghost use lib.ListN.{length, drop};
+ghost use Prim.Native.Nat.{_+_, _≤_, _<_};
+ghost use lib.ListN.{length, getD, drop};
 ghost use lib.Seq.{slice};
 ghost use Rattle.term.specs.code.Owed.{ends};
 ghost use Rattle.refusal.specs.Refusal.{told};
 ghost use Rattle.table.specs.Table.{bad, termsFrom};
 ghost use Rattle.table.specs.code.Looks.{cellFrom, cellsFrom, testedTold, termsTold, notWhole};
 use cell::Shape;
+use goal::Step;
 use refusal::Input;
 use refusal::Reason;
 use refusal::Refusal;
@@ -71,6 +72,20 @@ fn test_cell(c: u32, vars: usize, place: usize, row: bool) -> Tested
     }
 }
 
+// The cell at a place: a row's from the table, a goal's through the reader over it (01, "A reader over the goal").
+fn cell_in(cells: &[u32], at: usize, row: bool) -> u32
+    requires { ⌜ at < length (now cells) ⌝ }
+    ensures { λ r. ⌜ r ≡ getD (now (cells .entry)) at 0 ⌝ }
+{
+    if row {
+        return cells[at];
+    }
+    match goal::cell_at(cells, at) {
+        Step::Cell(c) => c,
+        Step::End => 0,
+    }
+}
+
 // The cells from a place up to another, from left to right.
 fn test_cells(cells: &[u32], from: usize, to: usize, row: bool) -> Tested
     requires { ⌜ (from ≤ to) × (to ≤ length (now cells)) × (to ≤ from + 32) ⌝ }
@@ -79,7 +94,8 @@ fn test_cells(cells: &[u32], from: usize, to: usize, row: bool) -> Tested
     let mut at = from;
     let mut vars: usize = 0;
     while at < to {
-        match test_cell(cells[at], vars, at, row) {
+        let c = cell_in(cells, at, row);
+        match test_cell(c, vars, at, row) {
             Tested::Good(v) => {
                 vars = v;
             }

@@ -1,5 +1,5 @@
 use mathlib.Core.Path.{_≡_, refl, sym, _∙_, ap}
-use Prim.Native.Nat.{_+_, _-_, _≤_}
+use Prim.Native.Nat.{ℕ, _+_, _-_, _≤_}
 use native.Mathlib.Omega.{arith}
 use borrow.Author.Needs.{needs}
 use lib.ListN.{getD}
@@ -20,11 +20,8 @@ abbrev μ-loop : tie.MeasureT-loop
 loop-holds : tie.Need-loop-holds Inv-loop μ-loop
 loop-holds c = (omega arith, omega arith, omega arith, refl)
 
-mul-test-cell : tie.Need-mul-test-cell Inv-loop μ-loop
-mul-test-cell c = search needs
-
-shared-slice-read-test-cell : tie.Need-shared-slice-read-test-cell Inv-loop μ-loop
-shared-slice-read-test-cell c = search needs
+cell-in-requires : tie.Need-cell-in-requires Inv-loop μ-loop
+cell-in-requires c κs = search needs
 
 test-cell-requires : tie.Need-test-cell-requires Inv-loop μ-loop
 test-cell-requires c κs = search needs
@@ -39,7 +36,8 @@ returns : tie.Need-returns Inv-loop μ-loop
 returns c =
     let a = c .before .before .before .before .before .before .before .before .args in
     let l = c .before .before .before .before .before .before .loop in
-    let e : cellFrom (a .row) (getD (a .cells .now) (l .at) 0) (l .vars) (l .at) ≡ refuse (told (c .before .f .given .0 .0)) = sym (c .before .before .before .test-cell .ensures) ∙ ap testedTold (c .before .f .given .1) in
+    let e : cellFrom (a .row) (getD (a .cells .now) (l .at) 0) (l .vars) (l .at) ≡ refuse (told (c .before .f .given .0 .0)) =
+    ap (λ (x : ℕ). cellFrom (a .row) x (l .vars) (l .at)) (sym (c .before .before .before .before .cell-in .ensures)) ∙ sym (c .before .before .before .test-cell .ensures) ∙ ap testedTold (c .before .f .given .1) in
     sym (cells-next (a .row) (a .cells .now) (l .at) (a .to) (l .vars) (omega arith) (omega arith) ∙ rw e) ∙ l .inv .3
 
 add-at : tie.Need-add-at Inv-loop μ-loop
@@ -52,7 +50,8 @@ loop-again : tie.Need-loop-again Inv-loop μ-loop
 loop-again c =
     let a = c .before .before .before .before .before .before .before .before .args in
     let l = c .before .before .before .before .before .before .loop in
-    let e : cellFrom (a .row) (getD (a .cells .now) (l .at) 0) (l .vars) (l .at) ≡ read (c .before .v .given .0 .0) = sym (c .before .before .before .test-cell .ensures) ∙ ap testedTold (c .before .v .given .1) in
+    let e : cellFrom (a .row) (getD (a .cells .now) (l .at) 0) (l .vars) (l .at) ≡ read (c .before .v .given .0 .0) =
+    ap (λ (x : ℕ). cellFrom (a .row) x (l .vars) (l .at)) (sym (c .before .before .before .before .cell-in .ensures)) ∙ sym (c .before .before .before .test-cell .ensures) ∙ ap testedTold (c .before .v .given .1) in
     let m = one-more (a .row) (getD (a .cells .now) (l .at) 0) (l .vars) (l .at) e in
     (omega arith, omega arith, omega arith, sym (cells-next (a .row) (a .cells .now) (l .at) (a .to) (l .vars) (omega arith) (omega arith) ∙ rw e) ∙ l .inv .3)
 
@@ -69,8 +68,7 @@ test-cells-spec =
     Inv-loop
     μ-loop
     loop-holds
-    mul-test-cell
-    shared-slice-read-test-cell
+    cell-in-requires
     test-cell-requires
     enum-known-v
     enum-known-f
