@@ -49,11 +49,11 @@ unfoldable pub Tried : List ℕ → List ℕ → Type 0
 Tried g K = Unifies (opened K) (renamed g)
 
 -- 01, "A run takes table, plan, goal, then ROOM (fewer bytes lent than the table has rows)"; its place: "cells or bytes needed"
-unfoldable pub runOf : (t p g room : List ℕ) → Read Table
-runOf t p g room =
-    andThen (tableOf t) (λ (T : Table).
-    andThen (planOf t p) (λ (n : ℕ).
-    andThen (goalOf (T .width) g) (λ (v : ℕ).
+unfoldable pub runOf : (table plan goal room : List ℕ) → Read Table
+runOf table plan goal room =
+    andThen (tableOf table) (λ (T : Table).
+    andThen (planOf table plan) (λ (branches : ℕ).
+    andThen (goalOf (T .width) goal) (λ (vars : ℕ).
     when (ltb (length room) (length (T .rows))) (refused reason.Room input.Lent (length (T .rows))) (read T))))
 
 abbrev pub runTold : RunAnswer → Answer
@@ -62,9 +62,9 @@ runTold (run-answer.Refused f) = turned (told f)
 
 -- what a run of a table, a plan and a goal answers, and what the room then holds.
 -- Refused: nothing is written. Otherwise the hits come first, "and the rest of the room is untouched"
-pub data Ran (t p g room room′ : List ℕ) (r : RunAnswer) : Type 0 where
-  refusal : (f : Refused) → runOf t p g room ≡ refuse f → runTold r ≡ turned f → room′ ≡ room → Ran t p g room room′ r
-  ran : (T : Table) (tree : Plan (T .width) (T .rows)) (found : List ℕ) (tried : ℕ) → runOf t p g room ≡ read T → p ≡ write tree
-      → Picks (λ (row : List ℕ). Matches row g) (T .rows) 0 found
-      → Counts (Tried g) (skeletons tree (replicate (T .width) hole)) tried
-      → runTold r ≡ answered (length found) tried → room′ ≡ found ++ drop (length found) room → Ran t p g room room′ r
+pub data Ran (table plan goal room room′ : List ℕ) (result : RunAnswer) : Type 0 where
+  refusal : (f : Refused) → runOf table plan goal room ≡ refuse f → runTold result ≡ turned f → room′ ≡ room → Ran table plan goal room room′ result
+  ran : (T : Table) (tree : Plan (T .width) (T .rows)) (found : List ℕ) (tried : ℕ) → runOf table plan goal room ≡ read T → plan ≡ write tree
+      → Picks (λ (row : List ℕ). Matches row goal) (T .rows) 0 found
+      → Counts (Tried goal) (skeletons tree (replicate (T .width) hole)) tried
+      → runTold result ≡ answered (length found) tried → room′ ≡ found ++ drop (length found) room → Ran table plan goal room room′ result

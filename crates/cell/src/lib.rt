@@ -32,7 +32,8 @@ pub fn middle(c: u32) -> u32
     (c >> 16) & 0x3fff
 }
 
-// A cell is built from the low bits of its parts, as many as its fields have.
+// A cell is built from the low bits of its parts, as many as its fields have. 01 asks for these three ("masks and shifts take kind, argument
+// count and number out of a 32-bit cell and build it again"); nothing in the base calls them.
 pub fn variable_cell(n: u32) -> u32
     ensures { λ r. ⌜ r ≡ variableCell (n % 2 ^ 16) ⌝ }
 {

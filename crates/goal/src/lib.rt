@@ -2,7 +2,8 @@
 // any cells and any place, past the end too.
 //
 // A function over a struct that holds a slice is proved by a walk of its code by hand. So these are few and thin: each takes
-// the reader apart, or makes one, and leaves the work to a function on plain cells and a place.
+// the reader apart, or makes one, and leaves the work to a function on plain cells and a place. Crate table reads every goal by the two
+// functions at the end, `cell_at` and `cells_left`; `taken` and `place` are what a caller that keeps a reader needs, and 01 asks for it.
 ghost use mathlib.Core.Path.{_≡_};
 ghost use Rattle.goal.specs.Read.{stepAt, placeAfter, leftFrom};
 

@@ -39,11 +39,11 @@ Reader = ℕ → List (List ℕ) → ℕ → List ℕ → Read Seen
 -- the branches of some runs, one after another: LABEL, then the state below, then the others
 abbrev pub branchesFrom : Reader → ℕ → List Run → ℕ → List ℕ → Read Seen
 branchesFrom below k [] p xs = read (seen 0 p xs)
-branchesFrom below k (g ∷ gs) p xs =
-    cellThen (λ c. eqb c (g .cell)) reason.Label p (λ c ys.
-    andThen (below (arity (g .cell) + k) (g .rows) (suc p) ys) (λ (s : Seen).
-    andThen (branchesFrom below k gs (s .next) (s .rest)) (λ (t : Seen).
-    read (seen (suc (s .branches + t .branches)) (t .next) (t .rest))))) xs
+branchesFrom below places (run ∷ more) place cells =
+    cellThen (λ c. eqb c (run .cell)) reason.Label place (λ c after.
+    andThen (below (arity (run .cell) + places) (run .rows) (suc place) after) (λ (state : Seen).
+    andThen (branchesFrom below places more (state .next) (state .rest)) (λ (others : Seen).
+    read (seen (suc (state .branches + others .branches)) (others .next) (others .rest))))) cells
 
 -- a leaf: ROWS
 abbrev pub leafFrom : List (List ℕ) → ℕ → List ℕ → Read Seen
@@ -51,10 +51,10 @@ leafFrom rows p xs = cellThen (λ c. eqb c (length rows)) reason.Rows p (λ c ys
 
 -- an inner state with k + 1 open places: OPEN, EDGES, the branches
 abbrev pub nodeFrom : Reader → ℕ → List (List ℕ) → ℕ → List ℕ → Read Seen
-nodeFrom below k rows p xs =
-    cellThen (λ c. leb c k) reason.Open p (λ i ys.
-    cellThen (λ c. eqb c (length (runs i rows))) reason.Edges (suc p) (λ m zs.
-    branchesFrom below k (runs i rows) (suc (suc p)) zs) ys) xs
+nodeFrom below places rows place cells =
+    cellThen (λ c. leb c places) reason.Open place (λ index after.
+    cellThen (λ c. eqb c (length (runs index rows))) reason.Edges (suc place) (λ count rest.
+    branchesFrom below places (runs index rows) (suc (suc place)) rest) after) cells
 
 -- a state. The first number bounds the depth and never decides: a row of n cells is looked at n times at most
 unfoldable pub stateFrom : ℕ → Reader

@@ -35,14 +35,14 @@ met p v = record { next = p; vars = v }
 
 -- the variables met once a cell is read: 01, "numbered 0, 1, 2 in order of first appearance"
 abbrev pub counted : Values → ℕ → ℕ
-counted v vars = cond (eqb (v .kind) 0 && eqb (v .number) vars) (suc vars) vars
+counted cell vars = cond (eqb (cell .kind) 0 && eqb (cell .number) vars) (suc vars) vars
 
 -- one cell: CELL, FRESH, and in a row TWICE
 abbrev pub cellTests : {A : Type 0} → Bool → Values → ℕ → ℕ → Read A → Read A
-cellTests row v vars p rest =
-    when (eqb (v .kind) 3) (bad row reason.Cell p)
-    (when (eqb (v .kind) 0 && ltb vars (v .number)) (bad row reason.Fresh p)
-    (when (row && (eqb (v .kind) 0 && ltb (v .number) vars)) (bad row reason.Twice p)
+cellTests row cell vars place rest =
+    when (eqb (cell .kind) 3) (bad row reason.Cell place)
+    (when (eqb (cell .kind) 0 && ltb vars (cell .number)) (bad row reason.Fresh place)
+    (when (row && (eqb (cell .kind) 0 && ltb (cell .number) vars)) (bad row reason.Twice place)
     rest))
 
 -- 01, "cells are read left to right, and at each place 4, 5, 6, 7, 8 in that order": of the cells left, the terms owed, the cells used so far, the variables
@@ -51,10 +51,10 @@ unfoldable pub termsFrom : Bool → List ℕ → ℕ → ℕ → ℕ → ℕ →
 termsFrom row [] zero used vars p = read (met p vars)
 termsFrom row [] (suc owed) used vars p = when (row && leb 32 used) (bad row reason.Long p) (refuse (bad row reason.Short p))
 termsFrom row (c ∷ xs) zero used vars p = read (met p vars)
-termsFrom row (c ∷ xs) (suc owed) used vars p =
-    when (row && leb 32 used) (bad row reason.Long p)
-    (cellTests row (valuesAt c) vars p
-    (termsFrom row xs (valuesAt c .args + owed) (suc used) (counted (valuesAt c) vars) (suc p)))
+termsFrom row (cell ∷ cells) (suc owed) used vars place =
+    when (row && leb 32 used) (bad row reason.Long place)
+    (cellTests row (valuesAt cell) vars place
+    (termsFrom row cells (valuesAt cell .args + owed) (suc used) (counted (valuesAt cell) vars) (suc place)))
 
 -- a table that is read
 pub record Table : Type 0 where
@@ -73,23 +73,25 @@ before r (refuse f) = refuse f
 unfoldable pub rowsFrom : ℕ → ℕ → List ℕ → ℕ → Read (List (List ℕ))
 rowsFrom w zero [] p = read []
 rowsFrom w zero (c ∷ xs) p = refuse (refused reason.Extra input.Table p)
-rowsFrom w (suc n) xs p =
-    andThen (termsFrom true xs w 0 0 p) (λ (m : Met). before (take (m .next - p) xs) (rowsFrom w n (drop (m .next - p) xs) (m .next)))
+rowsFrom width (suc more) cells place =
+    andThen (termsFrom true cells width 0 0 place) (λ (m : Met).
+    before (take (m .next - place) cells) (rowsFrom width more (drop (m .next - place) cells) (m .next)))
 
 -- 01, "A table is: width (1 to 8), row count (1 to 64), then the rows": LENGTH, WIDTH, COUNT, then the rows
 unfoldable pub tableOf : List ℕ → Read Table
-tableOf t =
-    when (ltb (length t) 2 || ltb 2050 (length t)) (refused reason.Length input.Table 0)
-    (when (ltb (getD t 0 0) 1 || ltb 8 (getD t 0 0)) (refused reason.Width input.Table 0)
-    (when (ltb (getD t 1 0) 1 || ltb 64 (getD t 1 0)) (refused reason.Count input.Table 1)
-    (andThen (rowsFrom (getD t 0 0) (getD t 1 0) (drop 2 t) 2) (λ (rows : List (List ℕ)). read (table (getD t 0 0) rows)))))
+tableOf cells =
+    when (ltb (length cells) 2 || ltb 2050 (length cells)) (refused reason.Length input.Table 0)
+    (when (ltb (getD cells 0 0) 1 || ltb 8 (getD cells 0 0)) (refused reason.Width input.Table 0)
+    (when (ltb (getD cells 1 0) 1 || ltb 64 (getD cells 1 0)) (refused reason.Count input.Table 1)
+    (andThen (rowsFrom (getD cells 0 0) (getD cells 1 0) (drop 2 cells) 2) (λ (rows : List (List ℕ)).
+    read (table (getD cells 0 0) rows)))))
 
 -- 01, "A goal is read with its table: width terms, 1 to 32 cells in all": LENGTH, the terms, EXTRA
 unfoldable pub goalOf : ℕ → List ℕ → Read ℕ
-goalOf w g =
-    when (ltb (length g) 1 || ltb 32 (length g)) (refused reason.Length input.Goal 0)
-    (andThen (termsFrom false g w 0 0 0) (λ (m : Met).
-    when (ltb (m .next) (length g)) (refused reason.Extra input.Goal (m .next)) (read (m .vars))))
+goalOf width goal =
+    when (ltb (length goal) 1 || ltb 32 (length goal)) (refused reason.Length input.Goal 0)
+    (andThen (termsFrom false goal width 0 0 0) (λ (m : Met).
+    when (ltb (m .next) (length goal)) (refused reason.Extra input.Goal (m .next)) (read (m .vars))))
 
 -- What the entries answer.
 
@@ -113,9 +115,9 @@ tableTold (table-answer.Accepted w n) = answered w n
 tableTold (table-answer.Refused f) = turned (told f)
 
 -- what is answered for a table, in both parts of the code's answer
-pub record TableReads (t : Read Table) (r : TableRead) : Type 0 where
-  pub answer : tableTold (r .answer) ≡ tableSays t
-  pub starts : r .starts ≡ startsIn t
+pub record TableReads (reading : Read Table) (result : TableRead) : Type 0 where
+  pub answer : tableTold (result .answer) ≡ tableSays reading
+  pub starts : result .starts ≡ startsIn reading
 
 -- 01, "A goal is read with its table": the table's refusal first, then the goal's
 abbrev pub goalWith : List ℕ → List ℕ → Read ℕ
@@ -136,9 +138,9 @@ rowIn (read T) r = getD (T .rows) r []
 rowIn (refuse f) r = []
 
 -- where in the lent table that part is; both ends are 0 where there is no such row
-pub record RowPlace (t : Read Table) (r : ℕ) (p : Part) : Type 0 where
-  pub start : p .start ≡ getD (startsIn t) r 0
-  pub end : p .end ≡ p .start + length (rowIn t r)
+pub record RowPlace (reading : Read Table) (row : ℕ) (part : Part) : Type 0 where
+  pub start : part .start ≡ getD (startsIn reading) row 0
+  pub end : part .end ≡ part .start + length (rowIn reading row)
 
 -- What a table and a goal are, by 01's words.
 
@@ -158,25 +160,25 @@ upFrom n zero = []
 upFrom n (suc a) = n ∷ upFrom (suc n) a
 
 -- what a row and a goal have in common: width terms, good cells, "variables are numbered 0, 1, 2 in order of first appearance"
-pub record Head (w : ℕ) (xs : List ℕ) : Type 0 where
-  pub terms : Terms w xs
-  pub short : length xs ≤ 32
-  pub cells : (c : ℕ) → List·Memᴰ c xs → Cell c
-  pub order : appear [] xs ≡ upFrom 0 (length (appear [] xs))
+pub record Head (width : ℕ) (head : List ℕ) : Type 0 where
+  pub terms : Terms width head
+  pub short : length head ≤ 32
+  pub cells : (c : ℕ) → List·Memᴰ c head → Cell c
+  pub order : appear [] head ≡ upFrom 0 (length (appear [] head))
 
 -- "A row uses each of its variables once"
-pub record Row (w : ℕ) (xs : List ℕ) : Type 0 where
-  pub head : Head w xs
-  pub once : (v : ℕ) → isVar v ≡ true → count v xs ≤ 1
+pub record Row (width : ℕ) (row : List ℕ) : Type 0 where
+  pub head : Head width row
+  pub once : (v : ℕ) → isVar v ≡ true → count v row ≤ 1
 
 -- 01, "A table is: width (1 to 8), row count (1 to 64), then the rows"
-pub record IsTable (t : List ℕ) (w : ℕ) (rows : List (List ℕ)) : Type 0 where
-  pub cells : t ≡ w ∷ length rows ∷ flatten rows
-  pub width : (1 ≤ w) × (w ≤ 8)
+pub record IsTable (table : List ℕ) (columns : ℕ) (rows : List (List ℕ)) : Type 0 where
+  pub cells : table ≡ columns ∷ length rows ∷ flatten rows
+  pub width : (1 ≤ columns) × (columns ≤ 8)
   pub count : (1 ≤ length rows) × (length rows ≤ 64)
-  pub each : All (Row w) rows
+  pub each : All (Row columns) rows
 
 -- 01, "A goal .. width terms, 1 to 32 cells in all"
-pub record IsGoal (w : ℕ) (g : List ℕ) : Type 0 where
-  pub head : Head w g
-  pub some : 1 ≤ length g
+pub record IsGoal (width : ℕ) (goal : List ℕ) : Type 0 where
+  pub head : Head width goal
+  pub some : 1 ≤ length goal
