@@ -15,16 +15,17 @@ use Rattle.refusal.specs.declared.Reason.the-variants.{Room}
 use Rattle.refusal.specs.declared.Input.the-variants.{Lent}
 use Rattle.state.specs.code.First.{TableRows}
 use Rattle.builder.specs.declared.BuildAnswer.the-variants as build-answer
-use Rattle.builder.specs.code.Writing.{Planned, Put, fitted, short}
-use Rattle.least.specs.Entries.{Entries}
-use Rattle.builder.specs.code.Filling.{arrays, Filled}
-use Rattle.builder.specs.Build.{WorkedOut, worked, BuiltInto, table-refused, room-refused, built}
-use Rattle.builder.proofs.FillLaws.{all-entries}
+use Rattle.builder.specs.code.Writing.{Given, Planned, Put, fitted, short}
+use Rattle.builder.specs.Build.{BuiltInto, table-refused, room-refused, built}
 
 pub no-table : {t : List ℕ} (room : List ℕ) {f : Refusal} → tableOf t ≡ refuse (told f) → BuiltInto t room room (build-answer.Refused f)
 no-table room {f} e = table-refused (told f) e refl refl
 
-module _ {t ss : List ℕ} {w n : ℕ} (k : TableRows t ss w n) {cells : List ℕ} {size count : ℕ} (p : Planned (k .table) cells size count) where
+module _ {t ss whole place : List ℕ} {w n : ℕ} (g : Given t ss whole place w n) {cells : List ℕ} {size count : ℕ}
+    (p : Planned (g .rows .table) cells size count) where
+  abbrev k : TableRows t ss w n
+  k = g .rows
+
   pub no-room : {room room′ : List ℕ} {b : Bool} → Put cells size room room′ b → b ≡ false
       → BuiltInto t room room′ (build-answer.Refused (record { reason = Room; input = Lent; place = size }))
   no-room (fitted h e) q = absurd (let z : _≡_ {A = ℕ} 0 1 = cc in omega arith)
@@ -38,11 +39,3 @@ module _ {t ss : List ℕ} {w n : ℕ} (k : TableRows t ss w n) {cells : List �
       built (k .table) (p .plan) (k .here) (p .built) (p .least) (omega (arith, p .size-is)) (ap₂ answered (p .size-is) (p .count-is))
       (e ∙ ap₂ (λ (xs : List ℕ) (x : ℕ). xs ++ drop x room) (p .cells-are) (p .size-is))
   all-built (short h e) q = absurd (let z : _≡_ {A = ℕ} 0 1 = cc in omega arith)
-
--- the entries of a table that is read
-entries-width : {w v : ℕ} {rows : List (List ℕ)} {cost place : List ℕ} → w ≡ v → Entries w rows cost place → Entries v rows cost place
-entries-width e f = rw (← e) f
-
-pub all-worked : {t ss whole cost place : List ℕ} {w n : ℕ} (k : TableRows t ss w n) → Filled w (k .table .rows) 0 n (arrays whole cost place)
-    → WorkedOut t (record { cost = cost; place = place })
-all-worked k f = worked (k .table) (k .here) (entries-width (k .width) (all-entries (sym (k .rows)) f))

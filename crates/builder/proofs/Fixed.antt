@@ -1,39 +1,19 @@
 -- Two results that a promise allows are equal, for every public function of the crate.
-use mathlib.Core.Path.{_≡_, sym, ap, ap₂, subst, _∙_}
+use mathlib.Core.Path.{_≡_, sym, ap, subst, _∙_}
 use mathlib.Core.List.{List}
-use Prim.Native.Nat.{ℕ, _+_, _*_, _/_, _%_, _<_}
+use Prim.Native.Nat.{ℕ}
 use native.Mathlib.Omega.{arith}
-use lib.ListN.{length, getD}
-use lib.Seq.{ext-getD}
-use Rattle.refusal.specs.Refusal.{Refused, told, turned}
+use lib.ListN.{length}
+use Rattle.refusal.specs.Refusal.{told, turned}
 use Rattle.table.specs.Table.{Table}
 use Rattle.table.proofs.ReadLaws.{apart, read-one}
 use Rattle.refusal.proofs.RefusalLaws.{told-one}
 use Rattle.plan.specs.Plans.{Plan, write, branches, plain}
 use Rattle.least.specs.Least.{Built}
-use Rattle.least.specs.Entries as entries
-use Rattle.builder.specs.Build.{WorkedOut, worked, all-zero, buildTold, BuiltInto, table-refused, room-refused, built}
-use Rattle.builder.specs.declared.Entries.{Entries}
+use Rattle.builder.specs.Build.{buildTold, BuiltInto, table-refused, room-refused, built}
 use Rattle.builder.specs.declared.BuildAnswer.{BuildAnswer}
 use Rattle.builder.specs.declared.BuildAnswer.the-variants as build-answer
-use Rattle.least.proofs.Pairs.{entry-one}
 use Rattle.least.proofs.Building.{built-one}
-
--- work_out: two arrays that hold the same entry for every pair are one
-same-array : (a b : List ℕ) → length a ≡ 4096 → length b ≡ 4096 → ((first last : ℕ) → first < 64 → last < 64 → getD a (64 * first + last) 0 ≡ getD b (64 * first + last) 0) → a ≡ b
-same-array a b la lb e =
-    ext-getD 0 a b (la ∙ sym lb) (λ i h. (let q : 64 * (i / 64) + i % 64 ≡ i = omega arith in rw q at (e (i / 64) (i % 64) (omega arith) (omega arith))))
-
-pub worked-fixed : {t : List ℕ} {r s : Entries} → WorkedOut t r → WorkedOut t s → r ≡ s
-worked-fixed {r = r} {s} (worked T e f) (worked T′ e′ f′) =
-    let q : T′ ≡ T = read-one (sym e′ ∙ e) in
-    let g : entries.Entries (T .width) (T .rows) (s .cost) (s .place) = subst (λ (X : Table). entries.Entries (X .width) (X .rows) (s .cost) (s .place)) q f′ in
-    ap₂ (λ (c p : List ℕ). record { cost = c; place = p })
-    (same-array (r .cost) (s .cost) (f .size .0) (g .size .0) (λ first last a b. entry-one (f .entry first last a b) (g .entry first last a b) .0))
-    (same-array (r .place) (s .place) (f .size .1) (g .size .1) (λ first last a b. entry-one (f .entry first last a b) (g .entry first last a b) .1))
-worked-fixed (worked T e f) (all-zero x e′ c p) = apart (sym e ∙ e′)
-worked-fixed (all-zero x e c p) (worked T e′ f) = apart (sym e′ ∙ e)
-worked-fixed (all-zero x e c p) (all-zero x′ e′ c′ p′) = ap₂ (λ (c p : List ℕ). record { cost = c; place = p }) (c ∙ sym c′) (p ∙ sym p′)
 
 -- build_plan: the answer tells the case, and the rule the plan
 buildTold-one : (a b : BuildAnswer) → buildTold a ≡ buildTold b → a ≡ b

@@ -1,8 +1,8 @@
--- What the entries of this crate answer.
+-- What building answers.
 use Prim.Native.Nat.{ℕ, _≤_, _<_}
 use mathlib.Core.Path.{_≡_}
 use mathlib.Core.List.{List, _++_}
-use lib.ListN.{length, drop, replicate}
+use lib.ListN.{length, drop}
 use Rattle.refusal.specs.Refusal.{Refused, refused, told, Answer, answered, turned}
 use Rattle.refusal.specs.declared.Reason.the-variants as reason
 use Rattle.refusal.specs.declared.Input.the-variants as input
@@ -10,16 +10,8 @@ use Rattle.refusal.specs.Read.{read, refuse}
 use Rattle.table.specs.Table.{Table, tableOf}
 use Rattle.plan.specs.Plans.{Plan, write, branches, plain}
 use Rattle.least.specs.Least.{Least, Built}
-use Rattle.least.specs.Entries as entries
-use Rattle.builder.specs.declared.Entries.{Entries}
 use Rattle.builder.specs.declared.BuildAnswer.{BuildAnswer}
 use Rattle.builder.specs.declared.BuildAnswer.the-variants as build-answer
-
--- 01, "a least count kept for every pair of first and last row": of an accepted table each pair's entry, by 01's measure;
--- of a table that is turned away 0 everywhere
-pub data WorkedOut (t : List ℕ) (r : Entries) : Type 0 where
-  worked : (T : Table) → tableOf t ≡ read T → entries.Entries (T .width) (T .rows) (r .cost) (r .place) → WorkedOut t r
-  all-zero : (f : Refused) → tableOf t ≡ refuse f → r .cost ≡ replicate 4096 0 → r .place ≡ replicate 4096 0 → WorkedOut t r
 
 -- 01, "Building returns the number of cells written and the cost"; a refusal "its number, which input it concerns and a place"
 abbrev pub buildTold : BuildAnswer → Answer

@@ -1,4 +1,2 @@
 -- what only private functions need
-pub mod Notes
-pub mod Filling
 pub mod Writing

@@ -9,10 +9,8 @@ ghost use Rattle.term.specs.Terms.{root};
 ghost use Rattle.plan.specs.Plans.{write, writes, plain};
 ghost use Rattle.state.specs.Column.{runCount};
 ghost use Rattle.state.specs.States.{rowsIn};
-ghost use Rattle.state.specs.code.First.{TableRows};
 ghost use Rattle.least.specs.Least.{Chosen};
-ghost use Rattle.builder.specs.code.Writing.{State, ToWrite, ToWriteAll, Written, Planned};
-use super::arrays::all_pairs;
+ghost use Rattle.builder.specs.code.Writing.{State, ToWrite, ToWriteAll, Written, Given, Planned};
 use state::column::run_count;
 use state::column::run_length;
 use state::column::same_symbol;
@@ -161,22 +159,20 @@ pub struct Extent {
     pub branches: u32,
 }
 
-// The plan of a table's rows, to the front of the cells lent: the entries of all pairs, then the first state with all rows
-// and the width's arguments open.
+// The plan of a table's rows, to the front of the cells lent: the first state, with all rows and the width's arguments open.
+// Its number of branches is kept already, for the pair of the first row and the last.
 pub fn write_plan(
     table: &[u32],
     starts: &[usize; 64],
+    whole: &[u32; 4096],
+    place: &[u32; 4096],
     out: &mut [u32; 6082],
     width: usize,
     count: usize,
 ) -> Extent
-    requires { ⌜ TableRows (now table) (now starts) width count × (length (now out) ≡ 6082) ⌝ }
-    ensures { λ r. ⌜ ((q : TableRows (now (table .entry)) (now (starts .entry)) width count) → Planned (q .table) (now (out .exit)) (r .cells) (r .branches)) ⌝ }
+    requires { ⌜ Given (now table) (now starts) (now whole) (now place) width count × (length (now out) ≡ 6082) ⌝ }
+    ensures { λ r. ⌜ ((g : Given (now (table .entry)) (now (starts .entry)) (now (whole .entry)) (now (place .entry)) width count) → Planned (g .rows .table) (now (out .exit)) (r .cells) (r .branches)) ⌝ }
 {
-    let mut whole = [0; 4096];
-    let mut cost = [0; 4096];
-    let mut place = [0; 4096];
-    all_pairs(table, starts, &mut whole, &mut cost, &mut place, count);
     let mut masks = open_rows(starts, count, table.len());
     let mut column = [0u32; 64];
     let cells = state(
@@ -184,7 +180,7 @@ pub fn write_plan(
         starts,
         &mut masks,
         &mut column,
-        &place,
+        place,
         &mut *out,
         0,
         count,

@@ -34,9 +34,11 @@ use Rattle.checker.specs.Checked.{planTold, planSays, Marks}
 use Rattle.checker.proofs.Fixed.{plan-fixed, marks-fixed}
 use Rattle.builder.specs.declared.BuildAnswer.{BuildAnswer}
 use Rattle.builder.specs.declared.BuildAnswer.the-variants as build-answer
-use Rattle.builder.specs.declared.Entries.{Entries}
-use Rattle.builder.specs.Build.{WorkedOut, BuiltInto, buildTold}
-use Rattle.builder.proofs.Fixed.{worked-fixed, build-fixed}
+use Rattle.entries.specs.declared.Entries.{Entries}
+use Rattle.entries.specs.Fill.{WorkedOut}
+use Rattle.entries.proofs.Fixed.{worked-fixed}
+use Rattle.builder.specs.Build.{BuiltInto, buildTold}
+use Rattle.builder.proofs.Fixed.{build-fixed}
 use Rattle.builder.proofs.Joined.{built-accepted}
 use Rattle.answer.specs.declared.RunAnswer.{RunAnswer}
 use Rattle.answer.specs.Run.{runTold, Ran, Ascends}

@@ -1,23 +1,24 @@
 use mathlib.Core.Path.{refl}
-use Rattle.state.specs.code.First.{TableRows}
-use Rattle.state.proofs.FirstLaws.{table-rows, table-turned}
+use Rattle.state.proofs.FirstLaws.{table-turned}
+use Rattle.builder.proofs.PlannedLaws.{given-read}
 use Rattle.builder.proofs.BuildLaws.{no-table, no-room, cells-there, all-built}
 use borrow.Author.Needs.{needs}
 use Rattle.builder.proofs.build_plan.Statement.{statement}
 use Rattle.builder.proofs.build_plan.Tie as tie
 
-read-table-requires : tie.Need-read-table-requires
-read-table-requires c κs = search needs
+slice-aggregate-fill : tie.Need-slice-aggregate-fill
+slice-aggregate-fill c = search needs
+
+fill-requires : tie.Need-fill-requires
+fill-requires c κs = search needs
 
 enum-known-answer : tie.Need-enum-known-answer
 enum-known-answer c = search needs
 
--- the table's rows, where it is accepted
-table-here : (c : tie.After-answer) → TableRows (c .before .before .before .before .before .args .cells .now) (c .before .before .read-table .result .starts) (c .answer .given .0 .0) (c .answer .given .0 .1 .0)
-table-here c = table-rows (c .before .before .before .before .before .args .cells .now) (c .before .before .read-table .ensures) (c .answer .given .1)
-
 write-plan-requires : tie.Need-write-plan-requires
-write-plan-requires c κs = (table-here (c .before .before .before .before), refl)
+write-plan-requires c κs =
+    let a = c .before .before .before .before .before .before in
+    (given-read (a .before .before .before .fill .ensures) (a .answer .given .1), refl)
 
 cast-branches : tie.Need-cast-branches
 cast-branches c = search needs
@@ -25,9 +26,10 @@ cast-branches c = search needs
 put-requires : tie.Need-put-requires
 put-requires c κs =
     let w = c .before .before .before in
-    let k = table-here (w .before .before .before .before .before) in
-    let p = w .write-plan .ensures k in
-    (p .few, cells-there k p)
+    let a = w .before .before .before .before .before .before .before in
+    let g = given-read (a .before .before .before .fill .ensures) (a .answer .given .1) in
+    let p = w .write-plan .ensures g in
+    (p .few, cells-there g p)
 
 enum-known-answer-2 : tie.Need-enum-known-answer-2
 enum-known-answer-2 c = search needs
@@ -37,27 +39,32 @@ same-length c = search needs
 
 returns : tie.Need-returns
 returns c =
-    let w = c .before .before .before .before .before .before .before in
-    let k = table-here (w .before .before .before .before .before) in
-    all-built k (w .write-plan .ensures k) (c .before .before .before .put .ensures) (c .if1 .taken)
+    let u = c .before .before .before in
+    let w = u .before .before .before .before in
+    let a = w .before .before .before .before .before .before .before in
+    let g = given-read (a .before .before .before .fill .ensures) (a .answer .given .1) in
+    all-built g (w .write-plan .ensures g) (u .put .ensures) (c .if1 .taken)
 
 same-length-2 : tie.Need-same-length-2
 same-length-2 c = search needs
 
 returns-2 : tie.Need-returns-2
 returns-2 c =
-    let w = c .before .before .before .before .before .before .before in
-    let k = table-here (w .before .before .before .before .before) in
-    no-room k (w .write-plan .ensures k) (c .before .before .before .put .ensures) (c .if1 .left)
+    let u = c .before .before .before in
+    let w = u .before .before .before .before in
+    let a = w .before .before .before .before .before .before .before in
+    let g = given-read (a .before .before .before .fill .ensures) (a .answer .given .1) in
+    no-room g (w .write-plan .ensures g) (u .put .ensures) (c .if1 .left)
 
 returns-3 : tie.Need-returns-3
-returns-3 c = no-table _ (table-turned (c .before .before .before .before .before .before .args .cells .now) (c .before .before .before .read-table .ensures) (c .before .answer2 .given .1))
+returns-3 c = let a = c .before in no-table _ (table-turned _ (a .before .before .before .fill .ensures .reads) (a .answer2 .given .1))
 
 pub build-plan-spec : {M : Type 1} → statement M
 build-plan-spec =
     tie.close
     (tie.spec
-    read-table-requires
+    slice-aggregate-fill
+    fill-requires
     enum-known-answer
     write-plan-requires
     cast-branches

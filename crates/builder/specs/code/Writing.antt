@@ -1,6 +1,6 @@
 -- How the builder's plan is written, state by state (01, "As cells, a plan is written state by state, parents first"). A state's rows are held as the
 -- check holds them: by the masks of their open cells.
-use Prim.Native.Nat.{ℕ, _+_, _*_, _≤_, _<_}
+use Prim.Native.Nat.{ℕ, _+_, _-_, _*_, _≤_, _<_}
 use mathlib.Core.Path.{_≡_}
 use mathlib.Core.Bool.{Bool, true, false}
 use mathlib.Core.List.{List, [], _∷_, _++_}
@@ -12,6 +12,7 @@ use Rattle.plan.specs.Runs.{Run}
 use Rattle.table.specs.Table.{Table}
 use Rattle.plan.specs.Plans.{Plan, Branches, write, writes, branches, plain}
 use Rattle.state.specs.States.{rowsIn, runsIn, Same}
+use Rattle.state.specs.code.First.{TableRows}
 use Rattle.plan.specs.code.Fits.{Fits}
 use Rattle.least.specs.Least.{Least, Built, Builts}
 use Rattle.least.specs.Entries.{Closes, Entry}
@@ -72,6 +73,13 @@ pub record Written (ms hs out ms′ hs′ out′ cells : List ℕ) (end at next 
   pub out-is : out′ ≡ sets out at cells
   pub masks : Same end ms ms′
   pub column : Same end hs hs′
+
+-- What is given where a table's plan is written: its rows, what they cost with nothing closed, and the chosen place of each pair of them
+pub record Given (t ss whole place : List ℕ) (width count : ℕ) : Type 0 where
+  pub rows : TableRows t ss width count
+  pub cost : Least plain width (rows .table .rows) (getD whole (count - 1) 0)
+  pub places : (first last : ℕ) → first ≤ last → last < count
+      → (cost : ℕ) × Entry plain width (rows .table .rows) first last cost (getD place (64 * first + last) 0)
 
 -- the cells of the builder's plan for a table's rows, so many at the front, and its number of branches, which is the least
 pub record Planned (T : Table) (cells : List ℕ) (size count : ℕ) : Type 0 where

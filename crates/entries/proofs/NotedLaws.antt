@@ -1,0 +1,127 @@
+-- The notes at the cells of a row: of a row alone, past some terms, and with one row more.
+use mathlib.Core.Path.{_≡_, refl, sym, ap, _∙_}
+use mathlib.Core.Bool.{Bool, true, false, cond}
+use mathlib.Core.List.{List, [], _∷_, _++_, map, map-append}
+use Prim.Native.Nat.{ℕ, zero, suc, _+_, _≤_, _<_}
+use native.Mathlib.Omega.{arith}
+use native.Mathlib.Numerals.{one-add}
+use lib.ListN.{length, length-map, length-append}
+use Rattle.cell.specs.Cell.{arity}
+use Rattle.term.specs.Terms.{Terms, none, more, front, back, root, close}
+use Rattle.term.proofs.TermsLaws.{front-zero, back-zero, back-terms}
+use Rattle.term.proofs.PlaceLaws.{close-terms}
+use Rattle.table.specs.All.{All}
+use Rattle.plan.specs.Runs.{agree, runs}
+use Rattle.plan.proofs.RunsLaws.{agree-eq, group-some}
+use Rattle.entries.specs.declared.arrays.Note.{Note}
+use Rattle.entries.specs.code.Notes.{note, noteNext, noteFrom, noteOf, Noted, done, closed, opened}
+use Rattle.table.proofs.AllLaws.{all-front, all-back}
+use Rattle.least.proofs.Agreed.{one-agrees}
+use Rattle.entries.proofs.NoteLaws.{note-says, note-more}
+use Rattle.least.proofs.Suffixes.{back-back, backs, front-back-length, back-close}
+
+-- one run: all rows have the last one's cell
+one-cell-all : (W : ℕ → ℕ → ℕ) (first : ℕ) (olds : List (List ℕ)) (y : List ℕ) → (noteOf W first (map (root 0) (olds ++ (y ∷ [])))) .runs ≡ 1
+    → All (λ (r : List ℕ). root 0 r ≡ root 0 y) olds
+one-cell-all W first olds y e =
+    let n = note-says W (root 0) (close 0) first (olds ++ (y ∷ [])) (omega (arith, length-append olds (y ∷ []))) in
+    let a = one-agrees 0 (olds ++ (y ∷ [])) (sym (n .number) ∙ e) in
+    let c : root 0 y ≡ a .0 = all-back (λ (r : List ℕ). root 0 r ≡ a .0) olds (y ∷ []) (a .1 .cells) .0 in
+    rw c (all-front (λ (r : List ℕ). root 0 r ≡ a .0) olds (y ∷ []) (a .1 .cells))
+
+pub map-id : (olds : List (List ℕ)) → map (back 0) olds ≡ olds
+map-id [] = refl
+map-id (r ∷ rs) = rw (back-zero r, map-id rs)
+
+map-past : (a c : ℕ) (olds : List (List ℕ)) → All (λ (r : List ℕ). root 0 r ≡ c) olds → map (back (arity c + a)) (map (close 0) olds) ≡ map (back (suc a)) olds
+map-past a c [] h = refl
+map-past a c (r ∷ rs) h = rw (back-close a c r (h .0), map-past a c rs (h .1))
+
+-- past the first cell, where it is closed
+front-close : (a : ℕ) {r : ℕ} {y : List ℕ} → Terms (suc r) y → length (front (suc a) y) ≡ suc (length (front (arity (root 0 y) + a) (close 0 y)))
+unfolding front root close
+front-close a (more t) = refl
+
+pub close-first : {r : ℕ} {y : List ℕ} → Terms (suc r) y → Terms (arity (root 0 y) + r) (close 0 y)
+close-first {r} t = close-terms 0 t (omega arith)
+
+pub back-first : {r : ℕ} {y : List ℕ} → Terms (suc r) y → Terms r (back 1 y)
+back-first {r} {y} t = back-terms 1 r y (rw one-add t)
+
+module _ {W : ℕ → ℕ → ℕ} {first : ℕ} {N : ℕ → Note} where
+  past-none : {q R : ℕ} {olds : List (List ℕ)} {y : List ℕ} → Noted W first N q R olds y → (r : ℕ) → R ≡ 0 + r
+      → Noted W first N (q + length (front 0 y)) r (map (back 0) olds) (back 0 y)
+  past-none {q} {R} {olds} {y} d r e =
+      let f : r ≡ R = omega arith in
+      let z : q + 0 ≡ q = omega arith in
+      rw (f, front-zero y, z, map-id olds, back-zero y) d
+
+  -- past a terms: where they are closed, past all that is noted below them
+  noted-past : {q R : ℕ} {olds : List (List ℕ)} {y : List ℕ} → Noted W first N q R olds y → (a r : ℕ) → R ≡ a + r → Terms R y
+      → Noted W first N (q + length (front a y)) r (map (back a) olds) (back a y)
+  noted-past (done {q} {olds} {y}) zero r e t = past-none {olds = olds} {y = y} done r e
+  noted-past (closed {q} {r = r₀} {olds} {y} n o d) zero r e t = past-none {olds = olds} {y = y} (closed n o d) r e
+  noted-past (opened {q} {r = r₀} {olds} {y} n o d) zero r e t = past-none {olds = olds} {y = y} (opened n o d) r e
+  noted-past done (suc a) r e t = absurd (omega arith)
+  noted-past (closed {q} {r = r₀} {olds} {y} n o d) (suc a) r e t =
+      let c : ℕ = root 0 y in
+      let x = noted-past d (arity c + a) r (omega arith) (close-first t) in
+      let l : q + length (front (suc a) y) ≡ suc q + length (front (arity c + a) (close 0 y)) = omega (arith, front-close a t) in
+      rw l (rw (map-past a c olds (one-cell-all W first olds y (ap (λ (n : Note). n .runs) (sym n) ∙ o)), back-close a c y refl) at x)
+  noted-past (opened {q} {r = r₀} {olds} {y} n o d) (suc a) r e t =
+      let x = noted-past d a r (omega arith) (back-first t) in
+      let s : 1 + a ≡ suc a = omega arith in
+      let f : length (front (1 + a) y) ≡ length (front 1 y) + length (front a (back 1 y)) = front-back-length 1 a y in
+      let l : q + length (front (suc a) y) ≡ q + length (front 1 y) + length (front a (back 1 y)) = rw (← s) (omega arith) in
+      let b : back a (back 1 y) ≡ back (suc a) y = back-back 1 a y ∙ ap (λ (n : ℕ). back n y) s in
+      rw l (rw (backs 1 a olds, s, b) at x)
+
+  -- a row alone: every place is closed
+  pub noted-alone : {r : ℕ} {y : List ℕ} (q : ℕ) → Terms r y → ((j : ℕ) → q ≤ j → j < q + length y → N j ≡ note 1 0 first) → Noted W first N q r [] y
+  unfolding noteFrom root close
+  noted-alone q none h = done
+  noted-alone q (more {c} {k} {xs} t) h =
+      let e : N q ≡ note 1 0 first = h q (omega arith) (omega arith) in
+      closed e (rw e) (noted-alone (suc q) t (λ j l m. h j (omega arith) (omega arith)))
+
+-- One row more, x after y, at a place that has the note N p.
+module _ {W : ℕ → ℕ → ℕ} {first : ℕ} {N : ℕ → Note} {p r : ℕ} {olds : List (List ℕ)} {y : List ℕ} (d : Noted W first N p (suc r) olds y) (x : List ℕ) where
+  abbrev pub noteWith : Note
+  noteWith = noteNext W (N p) (first + length olds) (root 0 y) (root 0 x)
+
+  pub note-is : N p ≡ noteOf W first (map (root 0) (olds ++ (y ∷ [])))
+  note-is = go d
+    where
+      go : Noted W first N p (suc r) olds y → N p ≡ noteOf W first (map (root 0) (olds ++ (y ∷ [])))
+      go (closed n o t) = n
+      go (opened n o t) = n
+
+  -- it is the column's note
+  pub next-note : noteWith ≡ noteOf W first (map (root 0) ((olds ++ (y ∷ [])) ++ (x ∷ [])))
+  next-note =
+      let e : map (root 0) (olds ++ (y ∷ [])) ≡ map (root 0) olds ++ (root 0 y ∷ []) = map-append (root 0) olds (y ∷ []) in
+      let f : map (root 0) ((olds ++ (y ∷ [])) ++ (x ∷ [])) ≡ (map (root 0) olds ++ (root 0 y ∷ [])) ++ (root 0 x ∷ []) =
+      map-append (root 0) (olds ++ (y ∷ [])) (x ∷ []) ∙ ap (λ (l : List ℕ). l ++ (root 0 x ∷ [])) e in
+      let n : N p ≡ noteOf W first (map (root 0) olds ++ (root 0 y ∷ [])) = rw e at note-is in
+      rw (n, f, ← (length-map olds (root 0))) (sym (note-more W first (map (root 0) olds) (root 0 y) (root 0 x)))
+
+  has-run : 1 ≤ (N p) .runs
+  has-run =
+      let l : 0 < length (olds ++ (y ∷ [])) = omega (arith, length-append olds (y ∷ [])) in
+      let n = note-says W (root 0) (close 0) first (olds ++ (y ∷ [])) l in
+      omega (arith, ap (λ (n : Note). n .runs) note-is, n .number, group-some (root 0) (close 0) (olds ++ (y ∷ [])) l)
+
+  -- still one run: the place was closed, and the cells are the same
+  pub next-closed : noteWith .runs ≡ 1 → (root 0 y ≡ root 0 x) × Noted W first N (suc p) (arity (root 0 y) + r) (map (close 0) olds) (close 0 y)
+  next-closed e = go (agree (root 0 y) (root 0 x)) refl e d
+    where
+      go : (b : Bool) → agree (root 0 y) (root 0 x) ≡ b
+          → (cond b (N p) (note (suc ((N p) .runs)) ((N p) .sum + W ((N p) .from) (first + length olds)) (suc (first + length olds)))) .runs ≡ 1
+          → Noted W first N p (suc r) olds y → (root 0 y ≡ root 0 x) × Noted W first N (suc p) (arity (root 0 y) + r) (map (close 0) olds) (close 0 y)
+      go true a e (closed n o t) = (agree-eq (root 0 y) (root 0 x) a, t)
+      go true a e (opened n o t) = absurd (omega arith)
+      go false a e t = absurd (omega (arith, has-run))
+
+  -- more than one: the term is passed in each row
+  pub next-opened : Terms (suc r) y → Noted W first N (p + length (front 1 y)) r (map (back 1) olds) (back 1 y)
+  next-opened t = noted-past d 1 r (omega arith) t

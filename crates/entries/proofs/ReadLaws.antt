@@ -1,0 +1,183 @@
+-- The entry of a pair is read off the notes at its last row: how many cells are closed, and the cheapest open place.
+use mathlib.Core.Path.{_≡_, refl, sym, ap, subst, _∙_}
+use mathlib.Core.Logic.{_≢_}
+use mathlib.Core.Bool.{Bool, true, false, cond, _||_}
+use mathlib.Core.List.{List}
+use Prim.Native.Nat.{ℕ, zero, suc, _+_, _-_, _*_, _≤_, _<_}
+use native.Mathlib.Omega.{arith}
+use native.Mathlib.Numerals.{add-one}
+use lib.ListN.{getD}
+use lib.Dec.{eqb, ltb, leb}
+use borrow.Author.Tests.{eq-eqb, ne-eqb, leb-true, leb-false, lt-ltb, le-ltb}
+use Rattle.entries.specs.declared.arrays.Note.{Note}
+use Rattle.entries.specs.declared.arrays.Choice.{Choice}
+use Rattle.least.specs.code.Best.{argmin, firstOver, leastOver}
+use Rattle.entries.specs.code.Notes.{choiceOf, noteIn, inWhole, Small, Shown, at-end, at-closed, at-open, Priced, Walk, Pair}
+
+-- the next place
+abbrev pub nextAt : List ℕ → List ℕ → ℕ → ℕ
+nextAt ends notes q = cond (eqb ((noteIn notes q) .runs) 1) (q + 1) (getD ends q 0)
+
+-- what is at a cell of the walk
+pub data Here (N : ℕ → Note) (E : ℕ → ℕ) (Is : ℕ → Note → Type 0) (stop k q i a : ℕ) : Type 0 where
+  ended : q ≡ stop → i ≡ k → a ≡ 0 → Here N E Is stop k q i a
+  one : (b : ℕ) → a ≡ suc b → q < stop → (N q) .runs ≡ 1 → Shown N E Is stop k (suc q) i b → Here N E Is stop k q i a
+  many : q < stop → q < E q → 1 < (N q) .runs → Is i (N q) → Shown N E Is stop k (E q) (suc i) a → Here N E Is stop k q i a
+
+pub here : {N : ℕ → Note} {E : ℕ → ℕ} {Is : ℕ → Note → Type 0} {stop k q i a : ℕ} → Shown N E Is stop k q i a → Here N E Is stop k q i a
+here at-end = ended refl refl refl
+here (at-closed {a = a} l o s) = one a refl l o s
+here (at-open l m o p s) = many l m o p s
+
+module _ {ends notes : List ℕ} {at stop : ℕ} (g : Walk ends notes at stop) where
+  abbrev Any : ℕ → Note → Type 0
+  Any i s = Unit {0}
+
+  -- n cells are counted, and the others are still to come
+  pub record CountAt (n q : ℕ) : Type 0 where
+    pub i : ℕ
+    pub left : ℕ
+    pub shown : Shown (noteIn notes) (λ (q : ℕ). getD ends q 0) Any stop (g .k) q i left
+    pub sum : n + left ≡ g .a
+    pub small : n ≤ q
+
+  pub count-start : CountAt 0 at
+  count-start = record { i = 0; left = g .a; shown = g .shown; sum = omega arith; small = omega arith }
+
+  pub count-end : {n q : ℕ} → stop ≤ q → CountAt n q → n ≡ g .a
+  count-end {n} {q} h x = go (here (x .shown))
+    where
+      go : Here (noteIn notes) (λ (q : ℕ). getD ends q 0) Any stop (g .k) q (x .i) (x .left) → n ≡ g .a
+      go (ended e f z) = omega (arith, x .sum)
+      go (one b e l o s) = absurd (omega arith)
+      go (many l m o p s) = absurd (omega arith)
+
+  pub count-step : {n q : ℕ} → q < stop → CountAt n q
+      → CountAt (n + cond (eqb ((noteIn notes q) .runs) 1) 1 0) (nextAt ends notes q) × (q < nextAt ends notes q)
+  count-step {n} {q} h x = go (here (x .shown))
+    where
+      go : Here (noteIn notes) (λ (q : ℕ). getD ends q 0) Any stop (g .k) q (x .i) (x .left)
+          → CountAt (n + cond (eqb ((noteIn notes q) .runs) 1) 1 0) (nextAt ends notes q) × (q < nextAt ends notes q)
+      go (ended e f z) = absurd (omega arith)
+      go (one b e l o s) =
+          rw (eq-eqb ((noteIn notes q) .runs) 1 o)
+          (record { i = x .i; left = b; shown = rw (add-one q) s; sum = omega (arith, x .sum); small = omega (arith, x .small) }, omega arith)
+      go (many l m o p s) =
+          rw (ne-eqb ((noteIn notes q) .runs) 1 (λ w. omega arith))
+          (record { i = suc (x .i); left = x .left; shown = s; sum = omega (arith, x .sum); small = omega (arith, x .small) }, m)
+
+-- no more cells are closed than there are
+shown-few : {N : ℕ → Note} {E : ℕ → ℕ} {Is : ℕ → Note → Type 0} {stop k q i a : ℕ} → Shown N E Is stop k q i a → a + q ≤ stop
+shown-few at-end = omega arith
+shown-few (at-closed l o s) = omega (arith, shown-few s)
+shown-few (at-open l m o p s) = omega (arith, shown-few s)
+
+-- the least over one place more
+over-step : (F : ℕ → ℕ) (i c : ℕ) (best : Choice) → c ≡ F i → best ≡ choiceOf (leastOver i F) (firstOver i F)
+    → cond (eqb i 0 || ltb c (best .cost)) (choiceOf c i) best ≡ choiceOf (leastOver (suc i) F) (firstOver (suc i) F)
+unfolding argmin
+over-step F zero c best e b = rw e
+over-step F (suc i) c best e b = rw (b, e, ne-eqb (suc i) 0 (λ z. omega arith)) (go (leb (F (argmin i F)) (F (suc i))) refl)
+  where
+    go : (t : Bool) → leb (F (argmin i F)) (F (suc i)) ≡ t
+        → cond (ltb (F (suc i)) (F (argmin i F))) (choiceOf (F (suc i)) (suc i)) (choiceOf (F (argmin i F)) (argmin i F))
+        ≡ choiceOf (F (cond t (argmin i F) (suc i))) (cond t (argmin i F) (suc i))
+    go true t = rw (le-ltb (F (suc i)) (F (argmin i F)) (leb-true (F (argmin i F)) (F (suc i)) t))
+    go false t = rw (lt-ltb (F (suc i)) (F (argmin i F)) (leb-false (F (argmin i F)) (F (suc i)) t))
+
+module _ {ends whole notes : List ℕ} {last at stop a : ℕ} (g : Pair ends whole notes last at stop a) where
+  -- the first i open places are looked at
+  pub record CheapAt (best : Choice) (i q : ℕ) : Type 0 where
+    pub left : ℕ
+    pub shown : Shown (noteIn notes) (λ (q : ℕ). getD ends q 0) (Priced (g .W) (g .first) last a (g .F)) stop (g .k) q i left
+    pub is : best ≡ choiceOf (leastOver i (g .F)) (firstOver i (g .F))
+    pub small : i ≤ q
+
+  pub cheap-start : CheapAt (choiceOf 0 0) 0 at
+  cheap-start = record { left = a; shown = g .shown; is = refl; small = omega arith }
+
+  pub cheap-end : {best : Choice} {i q : ℕ} → stop ≤ q → CheapAt best i q → best ≡ choiceOf (leastOver (g .k) (g .F)) (firstOver (g .k) (g .F))
+  cheap-end {best} {i} {q} h x = go (here (x .shown))
+    where
+      go : Here (noteIn notes) (λ (q : ℕ). getD ends q 0) (Priced (g .W) (g .first) last a (g .F)) stop (g .k) q i (x .left)
+          → best ≡ choiceOf (leastOver (g .k) (g .F)) (firstOver (g .k) (g .F))
+      go (ended e f z) = rw f at (x .is)
+      go (one b e l o s) = absurd (omega arith)
+      go (many l m o p s) = absurd (omega arith)
+
+  agreed-few : a ≤ 2050
+  agreed-few = omega (arith, shown-few (g .shown), g .within)
+
+  module _ {best : Choice} {i q : ℕ} (h : q < stop) (x : CheapAt best i q) where
+    abbrev s : Note
+    s = noteIn notes q
+
+    -- what the pair's open place costs
+    abbrev price : ℕ
+    price = s .sum + inWhole whole (s .from) last - s .runs * a
+
+    pub record Opened : Type 0 where
+      pub next : Shown (noteIn notes) (λ (q : ℕ). getD ends q 0) (Priced (g .W) (g .first) last a (g .F)) stop (g .k) (getD ends q 0) (suc i) (x .left)
+      pub on : q < getD ends q 0
+      pub small : Small whole last s
+      pub fits : s .runs * a ≤ s .sum + inWhole whole (s .from) last
+      pub is : price ≡ g .F i
+
+    opened-at : s .runs ≢ 1 → Opened
+    opened-at ne = go (here (x .shown))
+      where
+        go : Here (noteIn notes) (λ (q : ℕ). getD ends q 0) (Priced (g .W) (g .first) last a (g .F)) stop (g .k) q i (x .left) → Opened
+        go (ended e f z) = absurd (omega arith)
+        go (one b e l o t) = absurd (ne o)
+        go (many l m o p t) =
+            let f = p .fair in
+            let k : inWhole whole (s .from) last ≡ g .W (s .from) last = g .kept (s .from) (f .later o) (f .high) in
+            let w = g .small (s .from) (f .low) (f .high) in
+            record {
+              next = t;
+              on = m;
+              small = record {
+                runs = omega (arith, f .few, g .row);
+                sum = omega (arith, f .small, f .few, g .row);
+                from = omega (arith, f .high, g .row);
+                row = g .row;
+                cost = omega (arith, k, w);
+              };
+              fits = omega (arith, k, p .price);
+              is = omega (arith, k, p .price);
+            }
+
+    cheap-open : s .runs ≢ 1 → CheapAt (cond (eqb i 0 || ltb price (best .cost)) (choiceOf price i) best) (i + 1) (getD ends q 0)
+    cheap-open ne =
+        let o = opened-at ne in
+        rw (add-one i) (record { left = x .left; shown = o .next; is = over-step (g .F) i price best (o .is) (x .is); small = omega (arith, o .on, x .small) })
+
+    cheap-closed : s .runs ≡ 1 → CheapAt best i (q + 1)
+    cheap-closed o = go (here (x .shown))
+      where
+        go : Here (noteIn notes) (λ (q : ℕ). getD ends q 0) (Priced (g .W) (g .first) last a (g .F)) stop (g .k) q i (x .left) → CheapAt best i (q + 1)
+        go (ended e f z) = absurd (omega arith)
+        go (one b e l o t) = record { left = b; shown = rw (add-one q) t; is = x .is; small = omega (arith, x .small) }
+        go (many l m o′ p t) = absurd (omega arith)
+
+    -- the two ways of one turn of the loop, by what its calls give
+    module _ (t : Note) (n : t ≡ noteIn notes q) (q′ : ℕ) (eq : q′ ≡ cond (eqb (t .runs) 1) (q + 1) (getD ends q 0)) where
+      pub turn-open : t .runs ≢ 1 → (cost : ℕ) → cost ≡ t .sum + inWhole whole (t .from) last - t .runs * a
+          → (best′ : Choice) → best′ ≡ cond (eqb i 0 || ltb cost (best .cost)) (choiceOf cost i) best → (i′ : ℕ) → i′ ≡ i + 1
+          → CheapAt best′ i′ q′ × (q < q′)
+      turn-open ne cost ec best′ eb i′ ei =
+          let ne′ : s .runs ≢ 1 = λ o. ne (ap (λ (t : Note). t .runs) n ∙ o) in
+          let c : cost ≡ price = ec ∙ ap (λ (t : Note). t .sum + inWhole whole (t .from) last - t .runs * a) n in
+          let e : q′ ≡ getD ends q 0 = eq ∙ rw (ne-eqb (t .runs) 1 ne) in
+          (rw (eb, c, ei, e) (cheap-open ne′), rw e (opened-at ne′ .on))
+
+      pub turn-closed : t .runs ≡ 1 → (best′ : Choice) → best′ ≡ best → (i′ : ℕ) → i′ ≡ i → CheapAt best′ i′ q′ × (q < q′)
+      turn-closed o best′ eb i′ ei =
+          let e : q′ ≡ q + 1 = eq ∙ rw (eq-eqb (t .runs) 1 o) in
+          (rw (eb, ei, e) (cheap-closed (ap (λ (t : Note). t .runs) (sym n) ∙ o)), omega arith)
+
+      -- what the open place's cost asks
+      pub turn-asks : t .runs ≢ 1 → Small whole last t × (a ≤ 2050) × (t .runs * a ≤ t .sum + inWhole whole (t .from) last)
+      turn-asks ne =
+          let o = opened-at (λ o. ne (ap (λ (t : Note). t .runs) n ∙ o)) in
+          subst (λ (t : Note). Small whole last t × (a ≤ 2050) × (t .runs * a ≤ t .sum + inWhole whole (t .from) last)) (sym n) (o .small, agreed-few, o .fits)

@@ -1,0 +1,83 @@
+use mathlib.Core.Path.{refl, _∙_}
+use mathlib.Core.Logic.{⊎-elim}
+use Prim.Native.Nat.{_-_, _<_}
+use native.Mathlib.Omega.{arith}
+use Rattle.entries.specs.code.Notes.{Pair}
+use Rattle.entries.proofs.ReadLaws.{CheapAt, cheap-start, cheap-end, turn-open, turn-closed, turn-asks}
+use Rattle.entries.proofs.arrays.cheapest.Statement.{statement}
+use Rattle.entries.proofs.arrays.cheapest.Tie as tie
+
+abbrev Inv-loop : tie.InvT-loop
+Inv-loop ends whole notes last agreed at stop best₀ place₀ q₀ best place q =
+    (g : Pair ends whole notes last at stop agreed) → CheapAt g best place q
+
+abbrev μ-loop : tie.MeasureT-loop
+μ-loop ends whole notes last agreed at stop best₀ place₀ q₀ best place q = stop - q
+
+loop-holds : tie.Need-loop-holds Inv-loop μ-loop
+loop-holds c = λ g. cheap-start g
+
+-- what one turn does
+module _ (c : tie.After-after Inv-loop μ-loop) where
+  abbrev turn : tie.In-loop Inv-loop μ-loop
+  turn = c .before .before .before .before
+
+  abbrev start : tie.Start Inv-loop μ-loop
+  start = c .before .before .before .before .before .before
+
+  turned : (g : Pair (start .args .ends .now) (start .args .whole .now) (start .args .notes .now) (start .args .last) (start .args .at) (start .args .stop) (start .args .agreed))
+      → CheapAt g (c .before .if1 .best) (c .before .if1 .place) (c .after .result) × (turn .before .loop .q < c .after .result)
+  turned g =
+      let n = c .before .before .before .note-at in
+      ⊎-elim
+      (λ w. turn-open g (turn .loop-test .taken) (turn .before .loop .inv g) (n .result) (n .ensures) (c .after .result) (c .after .ensures)
+      (w .0 .taken) (w .1 .result) (w .1 .ensures) (c .before .if1 .best) (w .3 ∙ w .2 .ensures) (c .before .if1 .place) (w .4))
+      (λ w. turn-closed g (turn .loop-test .taken) (turn .before .loop .inv g) (n .result) (n .ensures) (c .after .result) (c .after .ensures)
+      (w .0 .left) (c .before .if1 .best) (w .1) (c .before .if1 .place) (w .2))
+      (c .before .if1 .came)
+
+note-at-requires : tie.Need-note-at-requires Inv-loop μ-loop
+note-at-requires c κs = omega (arith, c .before .before .pre .within)
+
+open-cost-requires : tie.Need-open-cost-requires Inv-loop μ-loop
+open-cost-requires c κs =
+    let i = c .before .before .before in
+    let g = i .before .before .pre in
+    turn-asks g (i .loop-test .taken) (i .before .loop .inv g) (c .before .before .note-at .result) (c .before .before .note-at .ensures) _ refl (c .if1 .taken)
+
+consider-requires : tie.Need-consider-requires Inv-loop μ-loop
+consider-requires c κs = tt
+
+add-place : tie.Need-add-place Inv-loop μ-loop
+add-place c =
+    let i = c .before .before .before .before .before in
+    let g = i .before .before .pre in
+    record { fits = omega (arith, i .loop-test .taken, g .within, i .before .loop .inv g .small) }
+
+after-requires : tie.Need-after-requires Inv-loop μ-loop
+after-requires c κs = omega (arith, c .before .before .before .before .before .pre .within)
+
+loop-less : tie.Need-loop-less Inv-loop μ-loop
+loop-less c = omega (arith, turn c .loop-test .taken, turned c (start c .pre) .1)
+
+loop-again : tie.Need-loop-again Inv-loop μ-loop
+loop-again c = λ g. turned c g .0
+
+returns : tie.Need-returns Inv-loop μ-loop
+returns c = λ g. cheap-end g (c .loop-test .left) (c .before .loop .inv g)
+
+pub cheapest-spec : {M : Type 1} → statement M
+cheapest-spec =
+    tie.close
+    (tie.spec
+    Inv-loop
+    μ-loop
+    loop-holds
+    note-at-requires
+    open-cost-requires
+    consider-requires
+    add-place
+    after-requires
+    loop-less
+    loop-again
+    returns)

@@ -1,0 +1,17 @@
+use native.Mathlib.Omega.{arith}
+use borrow.Author.Needs.{needs}
+use borrow.Author.Tests.{eq-eqb, ne-eqb}
+use Rattle.entries.proofs.arrays.with_closed.Statement.{statement}
+use Rattle.entries.proofs.arrays.with_closed.Tie as tie
+
+add-result : tie.Need-add-result
+add-result c = search needs
+
+returns : tie.Need-returns
+returns c = rw (eq-eqb (c .before .before .args .s .runs) 1 (c .if1 .taken))
+
+returns-2 : tie.Need-returns-2
+returns-2 c = rw (ne-eqb (c .before .before .args .s .runs) 1 (c .if1 .left)) (omega arith)
+
+pub with-closed-spec : {M : Type 1} → statement M
+with-closed-spec = tie.close (tie.spec add-result returns returns-2)
