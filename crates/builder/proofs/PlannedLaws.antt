@@ -60,7 +60,7 @@ pub given-read : {t : List ℕ} {old new : Arrays} {r : TableRead} {w n : ℕ} �
     → Given t (r .starts) (new .whole) (new .place) w n
 given-read {t} f e = let k = table-rows t (f .reads) e in given k (f .accepted (k .table) (k .here))
 
-same-rows : {w : ℕ} {rows rows′ : List (List ℕ)} → rows ≡ rows′ → Closes plain 0 w rows w rows′
+same-rows : {w : ℕ} {rows rows′ : List (List ℕ)} → rows ≡ rows′ → Closes w rows w rows′
 same-rows e = rw e stop
 
 module _ {t ss whole place : List ℕ} {w n : ℕ} (g : Given t ss whole place w n) where
@@ -115,7 +115,7 @@ module _ {t ss whole place : List ℕ} {w n : ℕ} (g : Given t ss whole place w
             some = few-rows k .0;
             inside = omega (arith, k .rows);
             fits = same-fits (k .width) r fits;
-            reached = record { weight = 0; closes = same-rows (all-rows k ∙ sym r) };
+            reached = record { closes = same-rows (all-rows k ∙ sym r) };
           };
           plan = p .0;
           built = p .1;

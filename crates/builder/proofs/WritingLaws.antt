@@ -21,9 +21,9 @@ use Rattle.plan.proofs.PlansLaws.{leaf-cells}
 use Rattle.state.proofs.RowsLaws as rows-laws
 use Rattle.state.proofs.RowsLaws.{rows-length, rows-kept, column-none, run-first, run-number, runs-closed, closes-of, same-self, same-then, same-later}
 use Rattle.least.specs.Least.{Chosen, Built, Builts}
-use Rattle.least.specs.Entries.{Closes}
 use Rattle.builder.specs.code.Writing.{Reached, AllReached, Source, Room, ToWrite, ToWriteAll, Written}
 use Rattle.least.proofs.Parts.{PartOf, Parts, group-parts}
+use Rattle.least.proofs.Closing.{weighed}
 use Rattle.least.proofs.Counts.{run-closes}
 use Rattle.least.proofs.Building.{chosen-one}
 
@@ -80,7 +80,7 @@ module _ {w : ℕ} {rows : List (List ℕ)} {first last k i : ℕ} {left : List 
   run-reached : (o : ℕ) (g : Run) → PartOf (root i) (close i) left o g → Reached w rows (first + o) (first + o + length (g .rows)) (arity (g .cell) + k) (g .rows)
   run-reached o g q =
       let e : first + (o + length (g .rows)) ≡ first + o + length (g .rows) = omega arith in
-      record { weight = _; closes = rw e at (run-closes first last rows i o g (r .closes) inside h q) }
+      record { closes = rw e at (run-closes first last rows i o g (weighed {m = plain} (r .closes)) inside h q .closes) }
 
   runs-reached : (o : ℕ) (gs : List Run) → Parts (root i) (close i) left o gs → AllReached w rows k (first + o) gs
   runs-reached o [] q = tt

@@ -83,7 +83,7 @@ module _ (w : ℕ) (rows : List (List ℕ)) (fits : All (Fits 32 w) rows) (few :
         let k : ℕ = (closedOf plain 32 w rows first last) .opens in
         let gs : List Run = runs i Left in
         let l : length Left ≡ suc last - first =
-        closes-length (pair-closed plain 32 w rows fits first last order inside .closes) ∙ length-slice first (suc last) rows inside in
+        closes-length (pair-closed plain 32 w rows fits first last order inside .closes .closes) ∙ length-slice first (suc last) rows inside in
         let x : sums (wholeOf w rows) first (runs i Left) ≡ sums (λ (j j′ : ℕ). agreedOf plain 32 w rows j j′ + leastOf plain 32 w rows j j′) first (runs i Left) =
         sums-same (wholeOf w rows) (λ (j j′ : ℕ). agreedOf plain 32 w rows j j′ + leastOf plain 32 w rows j j′) (length rows) (length Left)
         whole-splits first (runs i Left) (group-sizes (root i) (close i) Left) (omega (arith, group-rows (root i) (close i) Left)) in

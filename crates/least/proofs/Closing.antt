@@ -1,10 +1,11 @@
 -- Closing agreed places: the order does not matter, neither for the state that is reached nor for what the closed cells weigh.
-use mathlib.Core.Path.{_≡_, refl, sym, _∙_}
+use mathlib.Core.Path.{_≡_, refl, sym, ap, _∙_}
 use mathlib.Core.List.{List, [], _∷_, map}
-use Prim.Native.Nat.{ℕ, suc, pred, _+_, _≤_}
+use Prim.Native.Nat.{ℕ, suc, pred, _+_, _≤_, _<_}
 use native.Mathlib.Omega.{arith}
 use native.Mathlib.Nat.{zero-add, add-assoc}
 use lib.ListN.{length, length-map}
+use lib.Seq.{slice}
 use Rattle.cell.specs.Cell.{arity}
 use Rattle.term.specs.Terms.{root, close}
 use Rattle.term.proofs.PlaceLaws.{close-close, root-after, root-before}
@@ -13,6 +14,7 @@ use Rattle.plan.specs.Plans.{Measure}
 use Rattle.least.specs.Least.{Agree, Stuck, Least}
 use Rattle.least.specs.Entries.{Closes, stop, step}
 use Rattle.table.proofs.AllLaws.{all-map, all-both, map-map-same}
+use Rattle.least.proofs.Parts.{slice-map, agree-slice}
 use Rattle.least.proofs.Exchange.{Tri, before, equal, after, tri, agreed-least}
 
 -- a row that is agreed at i and at j
@@ -31,51 +33,99 @@ agree-cell : (i c d : ℕ) (rows : List (List ℕ)) → Agree i c rows → Agree
 agree-cell i c d [] a b = absurd (omega (arith, a .some))
 agree-cell i c d (r ∷ rs) a b = sym (a .cells .0) ∙ b .cells .0
 
+pub closes-length : {k k′ : ℕ} {rows rows′ : List (List ℕ)} → Closes k rows k′ rows′ → length rows′ ≡ length rows
+closes-length stop = refl
+closes-length (step {rows = rows} i c h a x) = closes-length x ∙ length-map rows (close i)
+
+-- what the closed cells weigh together
+unfoldable pub weighs : (m : Measure) {k k′ : ℕ} {rows rows′ : List (List ℕ)} → Closes k rows k′ rows′ → ℕ
+weighs m stop = 0
+weighs m (step i c h a x) = m .weight c + weighs m x
+
+-- agreed places are closed, and their cells weigh n
+pub record Closing (m : Measure) (n k : ℕ) (rows : List (List ℕ)) (k′ : ℕ) (rows′ : List (List ℕ)) : Type 0 where
+  pub closes : Closes k rows k′ rows′
+  pub weight : weighs m closes ≡ n
+
 module _ {m : Measure} where
+  pub weighed : {k k′ : ℕ} {rows rows′ : List (List ℕ)} (x : Closes k rows k′ rows′) → Closing m (weighs m x) k rows k′ rows′
+  weighed x = record { closes = x; weight = refl }
+
+  pub none-closed : {k : ℕ} {rows : List (List ℕ)} → Closing m 0 k rows k rows
+  unfolding weighs
+  none-closed = record { closes = stop; weight = refl }
+
+  pub one-closed : {n k k′ : ℕ} {rows rows′ : List (List ℕ)} (i c : ℕ) → i ≤ k → Agree i c rows → Closing m n (arity c + k) (map (close i) rows) k′ rows′
+      → Closing m (m .weight c + n) (suc k) rows k′ rows′
+  unfolding weighs
+  one-closed i c h a x = record { closes = step i c h a (x .closes); weight = ap (λ (w : ℕ). m .weight c + w) (x .weight) }
+
   -- the least cost is what the closed cells weigh, and the least cost of the state that is reached
-  pub closes-least : {n k k′ : ℕ} {rows rows′ : List (List ℕ)} (x : ℕ) → Closes m n k rows k′ rows′ → Least m k′ rows′ x → Least m k rows (n + x)
-  closes-least x stop l = rw zero-add l
-  closes-least x (step {n} {k} {rows = rows} i c h a s) l = rw add-assoc (agreed-least m k i c (n + x) rows h a (closes-least x s l))
+  least-before : {k k′ : ℕ} {rows rows′ : List (List ℕ)} (x : ℕ) (s : Closes k rows k′ rows′) → Least m k′ rows′ x → Least m k rows (weighs m s + x)
+  unfolding weighs
+  least-before x stop l = rw zero-add l
+  least-before x (step {k} {rows = rows} i c h a s) l = rw add-assoc (agreed-least m k i c (weighs m s + x) rows h a (least-before x s l))
 
-  pub closes-then : {n n′ k k′ k″ : ℕ} {rows rows′ rows″ : List (List ℕ)} → Closes m n k rows k′ rows′ → Closes m n′ k′ rows′ k″ rows″
-      → Closes m (n + n′) k rows k″ rows″
-  closes-then stop y = rw zero-add y
-  closes-then (step i c h a x) y = rw add-assoc (step i c h a (closes-then x y))
+  pub closes-least : {n k k′ : ℕ} {rows rows′ : List (List ℕ)} (x : ℕ) → Closing m n k rows k′ rows′ → Least m k′ rows′ x → Least m k rows (n + x)
+  closes-least x s l = rw (s .weight) at (least-before x (s .closes) l)
 
-  pub closes-length : {n k k′ : ℕ} {rows rows′ : List (List ℕ)} → Closes m n k rows k′ rows′ → length rows′ ≡ length rows
-  closes-length stop = refl
-  closes-length (step {rows = rows} i c h a x) = closes-length x ∙ length-map rows (close i)
+  -- one closing after another
+  then-closed : {n k k′ k″ : ℕ} {rows rows′ rows″ : List (List ℕ)} (x : Closes k rows k′ rows′) → Closing m n k′ rows′ k″ rows″
+      → Closing m (weighs m x + n) k rows k″ rows″
+  unfolding weighs
+  then-closed stop y = rw zero-add y
+  then-closed (step i c h a x) y = rw add-assoc (one-closed i c h a (then-closed x y))
+
+  pub closes-then : {n n′ k k′ k″ : ℕ} {rows rows′ rows″ : List (List ℕ)} → Closing m n k rows k′ rows′ → Closing m n′ k′ rows′ k″ rows″
+      → Closing m (n + n′) k rows k″ rows″
+  closes-then x y = rw (x .weight) at (then-closed (x .closes) y)
+
+  -- what is closed in the whole is closed in a part of it
+  part-closed : {k k′ : ℕ} {rows rows′ : List (List ℕ)} (o t : ℕ) → o < t → t ≤ length rows → (x : Closes k rows k′ rows′)
+      → Closing m (weighs m x) k (slice o t rows) k′ (slice o t rows′)
+  unfolding weighs
+  part-closed o t h b stop = none-closed
+  part-closed o t h b (step {rows = rows} i c hi a x) =
+      one-closed i c hi (agree-slice i c o t rows h b a) (rw slice-map at (part-closed o t h (rw (length-map rows (close i)) b) x))
+
+  pub closes-part : {n k k′ : ℕ} {rows rows′ : List (List ℕ)} (o t : ℕ) → o < t → t ≤ length rows → Closing m n k rows k′ rows′
+      → Closing m n k (slice o t rows) k′ (slice o t rows′)
+  closes-part o t h b x = rw (x .weight) at (part-closed o t h b (x .closes))
 
   -- an agreed place may be closed first, on the way to a state where none is agreed
-  closes-first : {n K k′ : ℕ} {rows rows′ : List (List ℕ)} → Closes m n K rows k′ rows′ → Stuck k′ rows′
+  closes-first : {K k′ : ℕ} {rows rows′ : List (List ℕ)} (x : Closes K rows k′ rows′) → Stuck k′ rows′
       → (k j d : ℕ) → K ≡ suc k → j ≤ k → Agree j d rows
-      → (n′ : ℕ) × (n ≡ m .weight d + n′) × Closes m n′ (arity d + k) (map (close j) rows) k′ rows′
+      → (n : ℕ) × (weighs m x ≡ m .weight d + n) × Closing m n (arity d + k) (map (close j) rows) k′ rows′
+  unfolding weighs
   closes-first stop s k j d e h a = absurd (s j d (omega arith) a)
-  closes-first {k′ = k′} {rows′ = rows′} (step {n} {k = k₁} {rows = rows} i c hi ai t) s k j d e h a =
+  closes-first {k′ = k′} {rows′ = rows′} (step {k = k₁} {rows = rows} i c hi ai t) s k j d e h a =
       go (tri i j) (λ k j d e h a. closes-first t s k j d e h a)
     where
       Answer : Type 0
-      Answer = (n′ : ℕ) × (m .weight c + n ≡ m .weight d + n′) × Closes m n′ (arity d + k) (map (close j) rows) k′ rows′
+      Answer = (n : ℕ) × (m .weight c + weighs m t ≡ m .weight d + n) × Closing m n (arity d + k) (map (close j) rows) k′ rows′
 
       both : All (Both i c j d) rows
       both = all-both (λ (r : List ℕ). root i r ≡ c) (λ (r : List ℕ). root j r ≡ d) rows (ai .cells) (a .cells)
 
+      same : {n : ℕ} → i ≡ j → c ≡ d → k₁ ≡ k → Closing m n (arity c + k₁) (map (close i) rows) k′ rows′ → Closing m n (arity d + k) (map (close j) rows) k′ rows′
+      same ei ec ek x = rw (ei, ec, ek) at x
+
       rejoin : (k₀ i′ j′ : ℕ) → k ≡ suc k₀ → i′ ≤ arity d + k₀ → Agree i′ c (map (close j) rows)
           → map (close j′) (map (close i) rows) ≡ map (close i′) (map (close j) rows)
-          → (n′ : ℕ) × (n ≡ m .weight d + n′) × Closes m n′ (arity d + (arity c + k₀)) (map (close j′) (map (close i) rows)) k′ rows′ → Answer
+          → (n : ℕ) × (weighs m t ≡ m .weight d + n) × Closing m n (arity d + (arity c + k₀)) (map (close j′) (map (close i) rows)) k′ rows′ → Answer
       rejoin k₀ i′ j′ ek hi′ ai′ em x =
           let e₁ : arity d + k ≡ suc (arity d + k₀) = omega arith in
           let e₂ : arity d + (arity c + k₀) ≡ arity c + (arity d + k₀) = omega arith in
-          let y : Closes m (x .0) (arity c + (arity d + k₀)) (map (close i′) (map (close j) rows)) k′ rows′ = rw (em, e₂) at (x .2) in
-          (m .weight c + x .0, omega arith, rw e₁ (step i′ c hi′ ai′ y))
+          let y : Closing m (x .0) (arity c + (arity d + k₀)) (map (close i′) (map (close j) rows)) k′ rows′ = rw (em, e₂) at (x .2) in
+          (m .weight c + x .0, omega arith, rw e₁ (one-closed i′ c hi′ ai′ y))
 
       go : Tri i j → ((k j d : ℕ) → arity c + k₁ ≡ suc k → j ≤ k → Agree j d (map (close i) rows)
-          → (n′ : ℕ) × (n ≡ m .weight d + n′) × Closes m n′ (arity d + k) (map (close j) (map (close i) rows)) k′ rows′)
+          → (n : ℕ) × (weighs m t ≡ m .weight d + n) × Closing m n (arity d + k) (map (close j) (map (close i) rows)) k′ rows′)
           → Answer
       go (equal q) ih =
           let ec : c ≡ d = agree-cell j c d rows (rw q at ai) a in
           let ek : k₁ ≡ k = omega arith in
-          (n, rw ec, rw (q, ec, ek) at t)
+          (weighs m t, ap (λ (x : ℕ). m .weight x + weighs m t) ec, same q ec ek (weighed t))
       go (before x q l) ih =
           rejoin (pred k) i (arity c + x) (omega arith) (omega arith)
           (agree-map (Both i c j d) i c i (close j) rows (λ (r : List ℕ) (b : Both i c j d r). cc (root-before i x r l)) both ai)
@@ -92,22 +142,24 @@ module _ {m : Measure} where
           (agree-map (Both i c j d) j d j (close i) rows (λ (r : List ℕ) (b : Both i c j d r). cc (root-before j x r l)) both a))
 
   -- any other closing meets the one that goes as far as it can
-  pub confluent : {n n′ k k′ k″ : ℕ} {rows rows′ rows″ : List (List ℕ)} → Closes m n k rows k′ rows′ → Stuck k′ rows′ → Closes m n′ k rows k″ rows″
-      → (n″ : ℕ) × (n ≡ n′ + n″) × Closes m n″ k″ rows″ k′ rows′
-  confluent {n} x s stop = (n, omega arith, x)
+  pub confluent : {k k′ k″ : ℕ} {rows rows′ rows″ : List (List ℕ)} (x : Closes k rows k′ rows′) → Stuck k′ rows′ → (y : Closes k rows k″ rows″)
+      → (n : ℕ) × (weighs m x ≡ weighs m y + n) × Closing m n k″ rows″ k′ rows′
+  unfolding weighs
+  confluent x s stop = (weighs m x, omega arith, weighed x)
   confluent x s (step {k = k} i c h a y) =
       let z = closes-first x s k i c refl h a in
-      let w = confluent (z .2) s y in
-      (w .0, omega arith, w .2)
+      let w = confluent (z .2 .closes) s y in
+      (w .0, omega (arith, z .2 .weight), w .2)
 
-  stuck-stop : {n K k′ : ℕ} {rows rows′ : List (List ℕ)} → Closes m n K rows k′ rows′ → Stuck K rows → (n ≡ 0) × (k′ ≡ K) × (rows′ ≡ rows)
-  stuck-stop stop s = (refl, refl, refl)
-  stuck-stop (step i c h a x) s = absurd (s i c (omega arith) a)
+stuck-stop : (m : Measure) {K k′ : ℕ} {rows rows′ : List (List ℕ)} (x : Closes K rows k′ rows′) → Stuck K rows → (weighs m x ≡ 0) × (k′ ≡ K) × (rows′ ≡ rows)
+unfolding weighs
+stuck-stop m stop s = (refl, refl, refl)
+stuck-stop m (step i c h a x) s = absurd (s i c (omega arith) a)
 
-  -- THE ORDER DOES NOT MATTER: two closings after which no place is agreed reach the same state, and their cells weigh the same
-  pub order-does-not-matter : {n n′ k k′ k″ : ℕ} {rows rows′ rows″ : List (List ℕ)} → Closes m n k rows k′ rows′ → Stuck k′ rows′
-      → Closes m n′ k rows k″ rows″ → Stuck k″ rows″ → (n ≡ n′) × (k′ ≡ k″) × (rows′ ≡ rows″)
-  order-does-not-matter x s y t =
-      let z = confluent x s y in
-      let w = stuck-stop (z .2) t in
-      (omega arith, w .1, w .2)
+-- THE ORDER DOES NOT MATTER: two closings after which no place is agreed reach the same state, and their cells weigh the same
+pub order-does-not-matter : (m : Measure) {k k′ k″ : ℕ} {rows rows′ rows″ : List (List ℕ)} (x : Closes k rows k′ rows′) → Stuck k′ rows′
+    → (y : Closes k rows k″ rows″) → Stuck k″ rows″ → (weighs m x ≡ weighs m y) × (k′ ≡ k″) × (rows′ ≡ rows″)
+order-does-not-matter m x s y t =
+    let z = confluent {m = m} x s y in
+    let w = stuck-stop m (z .2 .closes) t in
+    (omega (arith, z .2 .weight), w .1, w .2)

@@ -11,16 +11,16 @@ use Rattle.term.specs.Terms.{root, close}
 use Rattle.plan.specs.Runs.{Run, runs}
 use Rattle.plan.specs.Plans.{Measure}
 use Rattle.least.specs.Least.{Stuck, Least}
-use Rattle.least.specs.Entries.{between, Closes, stop, step}
+use Rattle.least.specs.Entries.{between}
 use Rattle.least.proofs.Best.{LeastRuns, runs-nil, runs-cons}
-use Rattle.least.proofs.Closing.{closes-least, closes-then, closes-length, confluent}
-use Rattle.least.proofs.Parts.{slice-slice, closes-part, PartOf, Parts, group-parts, part-agree, part-proper}
+use Rattle.least.proofs.Closing.{closes-length, Closing, none-closed, one-closed, closes-least, closes-then, closes-part, confluent}
+use Rattle.least.proofs.Parts.{slice-slice, PartOf, Parts, group-parts, part-agree, part-proper}
 
 -- a state with all agreed places closed: what they weigh, and the least cost from there
 pub record Solved (m : Measure) (k : ℕ) (rows : List (List ℕ)) (agreed least : ℕ) : Type 0 where
   pub opens : ℕ
   pub left : List (List ℕ)
-  pub closes : Closes m agreed k rows opens left
+  pub closes : Closing m agreed k rows opens left
   pub stuck : Stuck opens left
   pub counts : Least m opens left least
 
@@ -29,22 +29,24 @@ pub solved-least : {m : Measure} {k : ℕ} {rows : List (List ℕ)} {a n : ℕ} 
 solved-least {n = n} s = closes-least n (s .closes) (s .counts)
 
 -- and they tell the least cost of each state on the way: what is closed from there on, and the rest
-solved-below : {m : Measure} {k k′ : ℕ} {rows rows′ : List (List ℕ)} {a n c : ℕ} → Solved m k rows a n → Closes m c k rows k′ rows′
+solved-below : {m : Measure} {k k′ : ℕ} {rows rows′ : List (List ℕ)} {a n c : ℕ} → Solved m k rows a n → Closing m c k rows k′ rows′
     → (v : ℕ) × (c ≤ a) × (c + v ≡ a + n) × Least m k′ rows′ v
-solved-below {n = n} s x =
-    let u = confluent (s .closes) (s .stuck) x in
+solved-below {m} {a = a} {n} {c} s x =
+    let u = confluent {m = m} (s .closes .closes) (s .stuck) (x .closes) in
+    let e : a ≡ c + u .0 = omega (arith, s .closes .weight, x .weight, u .1) in
     (u .0 + n, omega arith, omega arith, closes-least n (u .2) (s .counts))
 
 -- a run's rows are reached by closing what all the rows agree on and then the run's own cell
-pub run-closes : {m : Measure} {w a k : ℕ} {left : List (List ℕ)} (first end : ℕ) (rows : List (List ℕ)) (p o : ℕ) (g : Run) → Closes m a w (slice first end rows) (suc k) left
+pub run-closes : {m : Measure} {w a k : ℕ} {left : List (List ℕ)} (first end : ℕ) (rows : List (List ℕ)) (p o : ℕ) (g : Run)
+    → Closing m a w (slice first end rows) (suc k) left
     → end ≤ length rows → p ≤ k → PartOf (root p) (close p) left o g
-    → Closes m (a + (m .weight (g .cell) + 0)) w (slice (first + o) (first + (o + length (g .rows))) rows) (arity (g .cell) + k) (g .rows)
+    → Closing m (a + (m .weight (g .cell) + 0)) w (slice (first + o) (first + (o + length (g .rows))) rows) (arity (g .cell) + k) (g .rows)
 run-closes {m} {k = k} {left} first end rows p o g x inside h q =
-    let y₀ : Closes m 0 (arity (g .cell) + k) (map (close p) (slice o (o + length (g .rows)) left)) (arity (g .cell) + k) (g .rows) = rw (← (q .is)) stop in
+    let y₀ : Closing m 0 (arity (g .cell) + k) (map (close p) (slice o (o + length (g .rows)) left)) (arity (g .cell) + k) (g .rows) = rw (← (q .is)) none-closed in
     let b : length (slice first end rows) ≡ end - first = length-slice first end rows inside in
-    let l : length left ≡ length (slice first end rows) = closes-length x in
+    let l : length left ≡ length (slice first end rows) = closes-length (x .closes) in
     rw (slice-slice first end o (o + length (g .rows)) rows (omega (arith, q .inside, q .some))) at
-    (closes-then (closes-part o (o + length (g .rows)) (omega (arith, q .some)) (omega (arith, q .inside)) x) (step p (g .cell) h (part-agree p o g left q) y₀))
+    (closes-then (closes-part o (o + length (g .rows)) (omega (arith, q .some)) (omega (arith, q .inside)) x) (one-closed p (g .cell) h (part-agree p o g left q) y₀))
 
 -- the sum over some runs, the first of them from row j on, of a value for the run's first and last row
 abbrev pub sums : (ℕ → ℕ → ℕ) → ℕ → List Run → ℕ
@@ -56,14 +58,14 @@ abbrev pub adds : (agreed least : ℕ → ℕ → ℕ) → ℕ → ℕ → ℕ �
 adds agreed least a j j′ = agreed j j′ - a + least j j′
 
 module _ {m : Measure} (w : ℕ) (rows : List (List ℕ)) (agreed least : ℕ → ℕ → ℕ) (first last a k : ℕ) (left : List (List ℕ))
-    (inside : last < length rows) (x : Closes m a w (between first last rows) (suc k) left) (stuck : Stuck (suc k) left)
+    (inside : last < length rows) (x : Closing m a w (between first last rows) (suc k) left) (stuck : Stuck (suc k) left)
     (table : (j j′ : ℕ) → first ≤ j → j ≤ j′ → j′ ≤ last → j′ - j < last - first → Solved m w (between j j′ rows) (agreed j j′) (least j j′)) where
   -- so the table tells what the run adds
   run-value : (p o : ℕ) (g : Run) → p ≤ k → PartOf (root p) (close p) left o g
       → (v : ℕ) × (m .weight (g .cell) + v ≡ adds agreed least a (first + o) (pred (first + o + length (g .rows)))) × Least m (arity (g .cell) + k) (g .rows) v
       × (a ≤ agreed (first + o) (pred (first + o + length (g .rows))))
   run-value p o g h q =
-      let b : length left ≡ suc last - first = closes-length x ∙ length-slice first (suc last) rows inside in
+      let b : length left ≡ suc last - first = closes-length (x .closes) ∙ length-slice first (suc last) rows inside in
       let less : length (g .rows) < length left = part-proper p o g left q (stuck p (g .cell) (omega arith)) in
       let e : first + (o + length (g .rows)) ≡ suc (pred (first + o + length (g .rows))) = omega (arith, q .some) in
       let s = table (first + o) (pred (first + o + length (g .rows))) (omega arith) (omega (arith, q .some)) (omega (arith, q .inside, q .some)) (omega (arith, q .inside, q .some)) in

@@ -23,7 +23,7 @@ use Rattle.least.proofs.Scan.{Scan, scan, Scanned, scan-closes, fits-ag
 use Rattle.least.proofs.Building.{chosen-one, chosen-cheapest}
 
 -- rows that fit still do when agreed places are closed
-closes-fit : {m : Measure} {x k k′ : ℕ} {rows rows′ : List (List ℕ)} (n : ℕ) → Closes m x k rows k′ rows′ → All (Fits n k) rows → All (Fits n k′) rows′
+closes-fit : {k k′ : ℕ} {rows rows′ : List (List ℕ)} (n : ℕ) → Closes k rows k′ rows′ → All (Fits n k) rows → All (Fits n k′) rows′
 closes-fit n stop f = f
 closes-fit n (step {k = k} {rows = rows} i c h a x) f =
     closes-fit n x
@@ -41,11 +41,11 @@ entry-one (none o) (leaf h l x) = absurd (outside o h l)
 entry-one (none o) (inner h l x s c b d) = absurd (outside o h l)
 entry-one (leaf h l x) (none o) = absurd (outside o h l)
 entry-one (leaf h l x) (leaf h′ l′ y) = (refl, refl)
-entry-one (leaf h l x) (inner h′ l′ y s c b d) = absurd (omega (arith, order-does-not-matter x (λ i c h. absurd (omega arith)) y s .1))
+entry-one {m} (leaf h l x) (inner h′ l′ y s c b d) = absurd (omega (arith, order-does-not-matter m x (λ i c h. absurd (omega arith)) y s .1))
 entry-one (inner h l x s c b d) (none o) = absurd (outside o h l)
-entry-one (inner h l x s c b d) (leaf h′ l′ y) = absurd (omega (arith, order-does-not-matter x s y (λ i c h. absurd (omega arith)) .1))
+entry-one {m} (inner h l x s c b d) (leaf h′ l′ y) = absurd (omega (arith, order-does-not-matter m x s y (λ i c h. absurd (omega arith)) .1))
 entry-one {m} (inner {k = k} {left = left} {count = n} {place = i} h l x s c b d) (inner {k = k′} {left = left′} h′ l′ y t c′ b′ d′) =
-    let u = order-does-not-matter x s y t in
+    let u = order-does-not-matter m x s y t in
     let ek : k ≡ k′ = omega (arith, u .1) in
     let c″ : Least m (suc k′) left′ n = rw (ek, u .2) at c in
     let d″ : Chosen m k′ left′ i = rw (ek, u .2) at d in
@@ -92,8 +92,8 @@ module _ (m : Measure) (n w : ℕ) (rows : List (List ℕ)) where
       pair-counts : Least m ((closedOf first last) .opens) ((closedOf first last) .left) (leastOf first last)
       unfolding leastOf
       pair-counts =
-          best-least m n ((closedOf first last) .opens) ((closedOf first last) .left) (closes-fit n (pair-closed .closes) (pair-state .0))
-          (omega (arith, closes-length (pair-closed .closes), pair-state .1))
+          best-least m n ((closedOf first last) .opens) ((closedOf first last) .left) (closes-fit n (pair-closed .closes .closes) (pair-state .0))
+          (omega (arith, closes-length (pair-closed .closes .closes), pair-state .1))
 
       pub pair-solved : Solved m w (between first last rows) (agreedOf first last) (leastOf first last)
       pair-solved = record {
@@ -148,8 +148,8 @@ module _ (m : Measure) (n w : ℕ) (rows : List (List ℕ)) where
         where
           go : (K : ℕ) → (closedOf first last) .opens ≡ K → leastOf first last ≡ leastOver K (costOf first last)
               → Entry m w rows first last (leastOf first last) (firstOver K (costOf first last))
-          go zero e q = rw q (leaf order inside (rw e at (pair-closed first last order inside .closes)))
+          go zero e q = rw q (leaf order inside (rw e at (pair-closed first last order inside .closes .closes)))
           go (suc k) e q =
               let x = pair-closed first last order inside in
               let c = place-chosen k e in
-              inner order inside (rw e at (x .closes)) (rw e at (x .stuck)) (rw e at (pair-counts first last order inside)) (c .0) (c .1)
+              inner order inside (rw e at (x .closes .closes)) (rw e at (x .stuck)) (rw e at (pair-counts first last order inside)) (c .0) (c .1)

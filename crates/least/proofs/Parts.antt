@@ -14,10 +14,8 @@ use Rattle.cell.specs.Cell.{isVar}
 use Rattle.term.specs.Terms.{root, close}
 use Rattle.table.specs.All.{All}
 use Rattle.plan.specs.Runs.{Run, run, agree, join, joinIf, group}
-use Rattle.plan.specs.Plans.{Measure}
 use Rattle.plan.proofs.RunsLaws.{agree-eq, agree-fixed}
 use Rattle.least.specs.Least.{Agree}
-use Rattle.least.specs.Entries.{Closes, stop, step}
 use Rattle.table.proofs.AllLaws.{all-take, all-drop}
 
 module _ {A : Type 0} where
@@ -31,7 +29,7 @@ module _ {A : Type 0} where
   drop-map f (suc n) [] = refl
   drop-map f (suc n) (x ∷ xs) = drop-map f n xs
 
-  slice-map : (f : A → A) (o t : ℕ) (xs : List A) → slice o t (map f xs) ≡ map f (slice o t xs)
+  pub slice-map : (f : A → A) (o t : ℕ) (xs : List A) → slice o t (map f xs) ≡ map f (slice o t xs)
   slice-map f o t xs = rw (take-map f t xs) (drop-map f o (take t xs))
 
   pub take-drop : (o n : ℕ) (xs : List A) → take n (drop o xs) ≡ drop o (take (o + n) xs)
@@ -43,7 +41,7 @@ module _ {A : Type 0} where
   pub slice-slice : (o t o′ t′ : ℕ) (xs : List A) → o + t′ ≤ t → slice o′ t′ (slice o t xs) ≡ slice (o + o′) (o + t′) xs
   slice-slice o t o′ t′ xs h = rw (take-drop o t′ (take t xs), take-take (o + t′) t xs h, drop-drop o′ o (take (o + t′) xs))
 
-agree-slice : (i c o t : ℕ) (rows : List (List ℕ)) → o < t → t ≤ length rows → Agree i c rows → Agree i c (slice o t rows)
+pub agree-slice : (i c o t : ℕ) (rows : List (List ℕ)) → o < t → t ≤ length rows → Agree i c rows → Agree i c (slice o t rows)
 agree-slice i c o t rows h b a = record {
   cells = all-drop (λ (r : List ℕ). root i r ≡ c) o (take t rows) (all-take (λ (r : List ℕ). root i r ≡ c) t rows (a .cells));
   fixed = fix (a .fixed);
@@ -53,13 +51,6 @@ agree-slice i c o t rows h b a = record {
     fix : (isVar c ≡ false) ⊎ (length rows ≤ 1) → (isVar c ≡ false) ⊎ (length (slice o t rows) ≤ 1)
     fix (inl e) = inl e
     fix (inr e) = inr (omega (arith, length-slice o t rows b))
-
--- what is closed in the whole is closed in a part of it
-pub closes-part : {m : Measure} {n k k′ : ℕ} {rows rows′ : List (List ℕ)} (o t : ℕ) → o < t → t ≤ length rows → Closes m n k rows k′ rows′
-    → Closes m n k (slice o t rows) k′ (slice o t rows′)
-closes-part o t h b stop = stop
-closes-part o t h b (step {rows = rows} i c hi a x) =
-    step i c hi (agree-slice i c o t rows h b a) (rw slice-map at (closes-part o t h (rw (length-map rows (close i)) b) x))
 
 -- a run stands on the rows from o on, as many as it has
 pub record PartOf (cell : List ℕ → ℕ) (left : List ℕ → List ℕ) (rows : List (List ℕ)) (o : ℕ) (g : Run) : Type 0 where

@@ -18,8 +18,8 @@ use Rattle.plan.specs.Plans.{Measure}
 use Rattle.plan.proofs.RunsLaws.{fits-close}
 use Rattle.plan.specs.code.Fits.{Fits}
 use Rattle.least.specs.Least.{Agree, Stuck}
-use Rattle.least.specs.Entries.{Closes, stop, step}
 use Rattle.table.proofs.AllLaws.{all-map, all-both, all-unmap}
+use Rattle.least.proofs.Closing.{Closing, none-closed, one-closed}
 use Rattle.least.proofs.Agreed.{run-agrees, run-is, no-run}
 
 -- what a scan has found: what the closed cells weigh, the open places left, and the rows
@@ -48,7 +48,7 @@ scan m (suc n) i (suc r) rows =
     oneRun (runs i rows) (λ (g : Run). plus (m .weight (g .cell)) (scan m n i (arity (g .cell) + r) (g .rows))) (scan m n (suc i) r rows)
 
 pub record Scanned (m : Measure) (k : ℕ) (rows : List (List ℕ)) (s : Scan) : Type 0 where
-  pub closes : Closes m (s .agreed) k rows (s .opens) (s .left)
+  pub closes : Closing m (s .agreed) k rows (s .opens) (s .left)
   pub stuck : Stuck (s .opens) (s .left)
 
 pub stuck-next : (i : ℕ) (rows : List (List ℕ)) → Stuck i rows → ((c : ℕ) → Agree i c rows → ⊥) → Stuck (suc i) rows
@@ -81,7 +81,7 @@ module _ (m : Measure) where
   Scans n = (i r : ℕ) (rows : List (List ℕ)) → All (Fits (n + i) (i + r)) rows → 0 < length rows → Stuck i rows → Scanned m (i + r) rows (scan m n i r rows)
 
   ends : (i : ℕ) (rows : List (List ℕ)) → Stuck i rows → Scanned m (i + 0) rows (found 0 i rows)
-  ends i rows s = let e : i + 0 ≡ i = omega arith in rw e (record { closes = stop; stuck = s })
+  ends i rows s = let e : i + 0 ≡ i = omega arith in rw e (record { closes = none-closed; stuck = s })
 
   scan-step : (n : ℕ) → Scans n → (i r : ℕ) (rows : List (List ℕ)) → All (Fits (suc n + i) (i + suc r)) rows → 0 < length rows → Stuck i rows
       → (gs : List Run) → runs i rows ≡ gs
@@ -108,7 +108,7 @@ module _ (m : Measure) where
           let f′ : All (Fits (n + i) (i + (arity (g .cell) + r))) (map (close i) rows) =
           rw e₄ at (fits-agreed (n + i) (i + r) i (g .cell) rows (omega arith) a (rw (e₂, e₃) at f)) in
           let x = ih i (arity (g .cell) + r) (map (close i) rows) f′ (rw (length-map rows (close i)) h) (stuck-close i rows s) in
-          rw (e₂, q) (record { closes = step {k = i + r} i (g .cell) (omega arith) a (rw (← e₄) at (x .closes)); stuck = x .stuck })
+          rw (e₂, q) (record { closes = one-closed {k = i + r} i (g .cell) (omega arith) a (rw (← e₄) at (x .closes)); stuck = x .stuck })
 
       go : (gs : List Run) → runs i rows ≡ gs
           → Scanned m (i + suc r) rows (oneRun gs (λ (g : Run). plus (m .weight (g .cell)) (scan m n i (arity (g .cell) + r) (g .rows))) (scan m n (suc i) r rows))

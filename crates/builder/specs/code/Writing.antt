@@ -19,8 +19,7 @@ use Rattle.least.specs.Entries.{Closes, Entry}
 
 -- a state of rows first to before end of a table: it is reached from these rows, nothing of them being closed, by closing what they agree on
 pub record Reached (w : ℕ) (rows : List (List ℕ)) (first end k : ℕ) (left : List (List ℕ)) : Type 0 where
-  pub weight : ℕ
-  pub closes : Closes plain weight w (slice first end rows) k left
+  pub closes : Closes w (slice first end rows) k left
 
 -- runs of neighbouring rows, the first of them from row j on: each of them is such a state, with k open places beside its cell's arguments
 abbrev pub AllReached : (w : ℕ) (rows : List (List ℕ)) (k j : ℕ) → List Run → Type 0
