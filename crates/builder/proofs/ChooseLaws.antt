@@ -45,7 +45,7 @@ module _ {place : List ℕ} {first end k : ℕ} {left : List (List ℕ)} (s : St
   by-entry (leaf h l x) =
       let e : suc (end - 1) ≡ end = omega (arith, s .some) in
       absurd (omega (arith, order-does-not-matter plain (s .reached .closes) stuck (rw e at x) (none-stuck _) .1))
-  by-entry (inner {k = k′} {left = left′} {place = p} h l x t c b d) =
+  by-entry (inner {others = k′} {left = left′} {place = p} h l x t c b d) =
       let e : suc (end - 1) ≡ end = omega (arith, s .some) in
       let u = order-does-not-matter plain (s .reached .closes) stuck (rw e at x) t in
       let ek : k - 1 ≡ k′ = omega (arith, u .1) in

@@ -18,12 +18,15 @@ abbrev pub buildTold : BuildAnswer → Answer
 buildTold (build-answer.Built n c) = answered n c
 buildTold (build-answer.Refused f) = turned (told f)
 
--- What building answers for a table and a room, and what the room then holds. 01, "Building checks the table, then ROOM (fewer cells lent than the plan has)",
--- ROOM's place being the cells needed; "a refusal .. writes nothing"; "On success the cells written come first and the rest of the room is untouched"
-pub data BuiltInto (t room room′ : List ℕ) (r : BuildAnswer) : Type 0 where
-  table-refused : (f : Refused) → tableOf t ≡ refuse f → buildTold r ≡ turned f → room′ ≡ room → BuiltInto t room room′ r
-  room-refused : (T : Table) (plan : Plan (T .width) (T .rows)) → tableOf t ≡ read T → Built plain plan → length room < length (write plan)
-      → buildTold r ≡ turned (refused reason.Room input.Lent (length (write plan))) → room′ ≡ room → BuiltInto t room room′ r
-  built : (T : Table) (plan : Plan (T .width) (T .rows)) → tableOf t ≡ read T → Built plain plan → Least plain (T .width) (T .rows) (branches plan)
-      → length (write plan) ≤ length room → buildTold r ≡ answered (length (write plan)) (branches plan)
-      → room′ ≡ write plan ++ drop (length (write plan)) room → BuiltInto t room room′ r
+-- What building answers for a table and a room, and what the room then holds. 01, "Building checks the table, then ROOM (fewer cells
+-- lent than the plan has)", ROOM's place being the cells needed; "a refusal .. writes nothing"; "On success the cells written come first
+-- and the rest of the room is untouched"
+pub data BuiltInto (cells room room′ : List ℕ) (answer : BuildAnswer) : Type 0 where
+  table-refused : (f : Refused) → tableOf cells ≡ refuse f → buildTold answer ≡ turned f → room′ ≡ room → BuiltInto cells room room′ answer
+  room-refused : (table : Table) (plan : Plan (table .width) (table .rows)) → tableOf cells ≡ read table → Built plain plan
+      → length room < length (write plan) → buildTold answer ≡ turned (refused reason.Room input.Lent (length (write plan)))
+      → room′ ≡ room → BuiltInto cells room room′ answer
+  built : (table : Table) (plan : Plan (table .width) (table .rows)) → tableOf cells ≡ read table → Built plain plan
+      → Least plain (table .width) (table .rows) (branches plan) → length (write plan) ≤ length room
+      → buildTold answer ≡ answered (length (write plan)) (branches plan)
+      → room′ ≡ write plan ++ drop (length (write plan)) room → BuiltInto cells room room′ answer

@@ -28,7 +28,8 @@ fn agreed_at(
     end: usize,
 ) -> bool
     requires { ⌜ (first < end) × (end ≤ 64) ⌝ }
-    ensures { λ r. ⌜ r ≡ eqb (runCount (map (root i) (rowsIn (now (table .entry)) (now (starts .entry)) (now (masks .entry)) first end))) 1 ⌝ }
+    ensures { λ r. ⌜ r ≡ eqb (runCount (map (root i)
+        (rowsIn (now (table .entry)) (now (starts .entry)) (now (masks .entry)) first end))) 1 ⌝ }
 {
     let mut row = first + 1;
     let mut cell = close_at(table, starts[first], masks[first], i).cell;
@@ -54,7 +55,8 @@ fn choose(
     k: usize,
 ) -> u32
     requires { ⌜ (0 < k) × State (now place) first end k (rowsIn (now table) (now starts) (now masks) first end) ⌝ }
-    ensures { λ r. ⌜ (State (now (place .entry)) first end k (rowsIn (now (table .entry)) (now (starts .entry)) (now (masks .entry)) first end)
+    ensures { λ r. ⌜ (State (now (place .entry)) first end k
+        (rowsIn (now (table .entry)) (now (starts .entry)) (now (masks .entry)) first end)
         → (r < k) × Chosen plain (k - 1) (rowsIn (now (table .entry)) (now (starts .entry)) (now (masks .entry)) first end) r) ⌝ }
 {
     let mut i: u32 = 0;
@@ -82,8 +84,10 @@ fn state(
     at: usize,
 ) -> usize
     requires { ⌜ ToWrite (now table) (now starts) (now masks) (now column) (now place) (now out) first end k at ⌝ }
-    ensures { λ r. ⌜ ((q : ToWrite (now (table .entry)) (now (starts .entry)) (now (masks .entry)) (now (column .entry)) (now (place .entry)) (now (out .entry)) first end k at)
-        → Written (now (masks .entry)) (now (column .entry)) (now (out .entry)) (now (masks .exit)) (now (column .exit)) (now (out .exit)) (write (q .plan)) end at r) ⌝ }
+    ensures { λ r. ⌜ ((q : ToWrite (now (table .entry)) (now (starts .entry)) (now (masks .entry)) (now (column .entry))
+        (now (place .entry)) (now (out .entry)) first end k at)
+        → Written (now (masks .entry)) (now (column .entry)) (now (out .entry))
+        (now (masks .exit)) (now (column .exit)) (now (out .exit)) (write (q .plan)) end at r) ⌝ }
 {
     if k == 0 {
         out[at] = (end - first) as u32;
@@ -125,8 +129,10 @@ fn branches(
     at: usize,
 ) -> usize
     requires { ⌜ ToWriteAll (now table) (now starts) (now masks) (now column) (now place) (now out) first end k at ⌝ }
-    ensures { λ r. ⌜ ((q : ToWriteAll (now (table .entry)) (now (starts .entry)) (now (masks .entry)) (now (column .entry)) (now (place .entry)) (now (out .entry)) first end k at)
-        → Written (now (masks .entry)) (now (column .entry)) (now (out .entry)) (now (masks .exit)) (now (column .exit)) (now (out .exit)) (writes (q .plans)) end at r) ⌝ }
+    ensures { λ r. ⌜ ((q : ToWriteAll (now (table .entry)) (now (starts .entry)) (now (masks .entry)) (now (column .entry))
+        (now (place .entry)) (now (out .entry)) first end k at)
+        → Written (now (masks .entry)) (now (column .entry)) (now (out .entry))
+        (now (masks .exit)) (now (column .exit)) (now (out .exit)) (writes (q .plans)) end at r) ⌝ }
 {
     let mut row = first;
     let mut next = at;
@@ -171,7 +177,8 @@ pub fn write_plan(
     count: usize,
 ) -> Extent
     requires { ⌜ Given (now table) (now starts) (now whole) (now place) width count × (length (now out) ≡ 6082) ⌝ }
-    ensures { λ r. ⌜ ((g : Given (now (table .entry)) (now (starts .entry)) (now (whole .entry)) (now (place .entry)) width count) → Planned (g .rows .table) (now (out .exit)) (r .cells) (r .branches)) ⌝ }
+    ensures { λ r. ⌜ ((g : Given (now (table .entry)) (now (starts .entry)) (now (whole .entry)) (now (place .entry)) width count)
+        → Planned (g .rows .table) (now (out .exit)) (r .cells) (r .branches)) ⌝ }
 {
     let mut masks = open_rows(starts, count, table.len());
     let mut column = [0u32; 64];

@@ -162,7 +162,7 @@ module _ {cells ends starts : List ℕ} {count first w : ℕ} {rows : List (List
   abbrev pub pair-at : {lent : Arrays} {last old new : ℕ} {notes : List ℕ} {a : Arrays} → NotedAt lent last old new notes a → PairAt ends (a .whole) notes first last old new
   pair-at {last} {a = a} x = record {
     cells = cells;
-    w = w;
+    width = w;
     rows = rows;
     few = omega (arith, g .laid .number, g .laid .few);
     fits = g .laid .fits;
@@ -199,10 +199,10 @@ module _ {cells ends starts : List ℕ} {count first w : ℕ} {rows : List (List
 
     abbrev pub next-row : NextRow cells ends (a .whole) notes last old new stop
     next-row = record {
-      W = wholeOf w rows;
+      costs = wholeOf w rows;
       count = count;
       first = first;
-      w = w;
+      width = w;
       olds = slice first last rows;
       noted = rw (row-part (x .row)) at (x .noted);
       old-terms = row-terms (x .row);
@@ -247,11 +247,11 @@ filled-start w rows lent count l room = record {
 
 -- the next first row
 abbrev pub first-at : {cells ends starts notes : List ℕ} {lent a : Arrays} {count : ℕ} (g : Rows cells starts count) → Ended cells ends
-    → (first : ℕ) → 0 < first → first ≤ count → RowsDone (g .w) (g .rows) lent count first notes a → FirstAt cells ends starts notes a count (first - 1)
+    → (first : ℕ) → 0 < first → first ≤ count → RowsDone (g .width) (g .rows) lent count first notes a → FirstAt cells ends starts notes a count (first - 1)
 first-at {lent = lent} {count = count} g e first h l x =
     let q : first ≡ suc (first - 1) = omega arith in
     record {
-      w = g .w;
+      width = g .width;
       rows = g .rows;
       lent = lent;
       ready = record { laid = g .laid; ended = e; inside = omega arith };
@@ -260,7 +260,7 @@ first-at {lent = lent} {count = count} g e first h l x =
     }
 
 pub all-done : {cells starts notes : List ℕ} {lent a : Arrays} {count : ℕ} (g : Rows cells starts count) (first : ℕ) → first ≤ 0
-    → RowsDone (g .w) (g .rows) lent count first notes a → FilledTo (g .w) (g .rows) lent 0 count a
+    → RowsDone (g .width) (g .rows) lent count first notes a → FilledTo (g .width) (g .rows) lent 0 count a
 all-done g first h x = let e : first ≡ 0 = omega arith in rw e at (x .filled)
 
 -- all are done

@@ -27,52 +27,52 @@ terms-drop (suc n) k (c ∷ xs) (more {k = r} t) h = terms-drop n (arity c + r) 
 
 module _ {ends whole notes : List ℕ} {first last at stop : ℕ} (g : PairAt ends whole notes first last at stop) where
   abbrev w : ℕ
-  w = g .w
+  w = g .width
 
   abbrev rows : List (List ℕ)
   rows = g .rows
 
   abbrev pub k : ℕ
-  k = (closedOf plain 32 (g .w) (g .rows) first last) .opens
+  k = (closedOf plain 32 (g .width) (g .rows) first last) .opens
 
   abbrev pub a : ℕ
-  a = agreedOf plain 32 (g .w) (g .rows) first last
+  a = agreedOf plain 32 (g .width) (g .rows) first last
 
   abbrev pub F : ℕ → ℕ
-  F = costOf plain 32 (g .w) (g .rows) first last
+  F = costOf plain 32 (g .width) (g .rows) first last
 
   zs-length : length (take stop (g .cells)) ≡ stop
   zs-length = length-take-le stop (g .cells) (g .part .1)
 
-  row-terms : Terms (g .w) (slice at stop (g .cells))
-  row-terms = rw (g .row) at (all-at (Fits 32 (g .w)) [] (g .rows) last (g .inside) (g .fits) .0)
+  row-terms : Terms (g .width) (slice at stop (g .cells))
+  row-terms = rw (g .row) at (all-at (Fits 32 (g .width)) [] (g .rows) last (g .inside) (g .fits) .0)
 
   ends-right : (j : ℕ) → at ≤ j → j < length (take stop (g .cells)) → getD ends j 0 ≡ j + length (front 1 (drop j (take stop (g .cells))))
   ends-right j h l =
       let n : at + (j - at) ≡ j = omega arith in
       let d : drop (j - at) (slice at stop (g .cells)) ≡ slice j stop (g .cells) =
       drop-drop (j - at) at (take stop (g .cells)) ∙ ap (λ (i : ℕ). drop i (take stop (g .cells))) n in
-      let t = terms-drop (j - at) (g .w) (slice at stop (g .cells)) row-terms (omega (arith, zs-length, length-slice at stop (g .cells) (g .part .1))) in
+      let t = terms-drop (j - at) (g .width) (slice at stop (g .cells)) row-terms (omega (arith, zs-length, length-slice at stop (g .cells) (g .part .1))) in
       ended-at {r = t .0} j stop (g .ended) (omega (arith, zs-length)) (g .part .1) (rw d at (t .1))
 
-  pub shown : Shown (noteIn notes) (λ (q : ℕ). getD ends q 0) (Priced (wholeOf (g .w) (g .rows)) first last a F) stop k at 0 a
+  pub shown : Shown (noteIn notes) (λ (q : ℕ). getD ends q 0) (Priced (wholeOf (g .width) (g .rows)) first last a F) stop k at 0 a
   shown =
       rw zs-length at
-      (pair-shown (g .w) (g .rows) (g .fits) (g .few) first last (g .order) (g .inside) (noteIn notes) (λ (q : ℕ). getD ends q 0) (take stop (g .cells)) at
+      (pair-shown (g .width) (g .rows) (g .fits) (g .few) first last (g .order) (g .inside) (noteIn notes) (λ (q : ℕ). getD ends q 0) (take stop (g .cells)) at
       ends-right (omega (arith, zs-length, g .part .0)) (g .row) (g .noted))
 
   abbrev pub keep-walk : Walk ends notes at stop
-  keep-walk = record { k = k; a = a; shown = shown-map (λ j s h p. tt) shown; within = omega (arith, g .part .1, g .part .2) }
+  keep-walk = record { opens = k; agreed = a; shown = shown-map (λ j s h p. tt) shown; within = omega (arith, g .part .1, g .part .2) }
 
   abbrev pub keep-pair : (agreed : ℕ) → agreed ≡ a → Pair ends whole notes last at stop agreed
   keep-pair agreed e = record {
-    W = wholeOf (g .w) (g .rows);
+    costs = wholeOf (g .width) (g .rows);
     first = first;
-    F = F;
-    k = k;
+    prices = F;
+    opens = k;
     shown = rw e shown;
     kept = g .kept;
-    small = λ j h l. whole-small (g .w) (g .rows) (g .fits) (g .few) j last l (g .inside);
+    small = λ j h l. whole-small (g .width) (g .rows) (g .fits) (g .few) j last l (g .inside);
     row = omega (arith, g .inside, g .few);
     within = omega (arith, g .part .1, g .part .2);
   }
@@ -82,23 +82,23 @@ module _ {ends whole notes : List ℕ} {first last at stop : ℕ} (g : PairAt en
   keep-small =
       omega (
         arith,
-        equation plain 32 (g .w) (g .rows) (g .fits) first last (g .order) (g .inside),
-        whole-splits (g .w) (g .rows) (g .fits) (g .few) first last (g .order) (g .inside),
-        whole-small (g .w) (g .rows) (g .fits) (g .few) first last (g .order) (g .inside),
+        equation plain 32 (g .width) (g .rows) (g .fits) first last (g .order) (g .inside),
+        whole-splits (g .width) (g .rows) (g .fits) (g .few) first last (g .order) (g .inside),
+        whole-small (g .width) (g .rows) (g .fits) (g .few) first last (g .order) (g .inside),
       )
 
   -- what is kept
   pub keeps : (W C P W′ C′ P′ : List ℕ) → W′ ≡ set W (64 * first + last) (a + leastOver k F) → C′ ≡ set C (64 * first + last) (leastOver k F)
-      → P′ ≡ set P (64 * first + last) (firstOver k F) → Keeps (g .w) (g .rows) first last (arrays W C P) (arrays W′ C′ P′)
+      → P′ ≡ set P (64 * first + last) (firstOver k F) → Keeps (g .width) (g .rows) first last (arrays W C P) (arrays W′ C′ P′)
   unfolding placeOf
   keeps W C P W′ C′ P′ ew ec ep =
-      let q : leastOf plain 32 (g .w) (g .rows) first last ≡ leastOver k F = equation plain 32 (g .w) (g .rows) (g .fits) first last (g .order) (g .inside) in
-      let s = whole-splits (g .w) (g .rows) (g .fits) (g .few) first last (g .order) (g .inside) in
-      let v : a + leastOver k F ≡ wholeOf (g .w) (g .rows) first last = omega arith in
+      let q : leastOf plain 32 (g .width) (g .rows) first last ≡ leastOver k F = equation plain 32 (g .width) (g .rows) (g .fits) first last (g .order) (g .inside) in
+      let s = whole-splits (g .width) (g .rows) (g .fits) (g .few) first last (g .order) (g .inside) in
+      let v : a + leastOver k F ≡ wholeOf (g .width) (g .rows) first last = omega arith in
       record {
         count = leastOver k F;
         chosen = firstOver k F;
-        entry = rw q at (pair-entry plain 32 (g .w) (g .rows) (g .fits) first last (g .order) (g .inside));
+        entry = rw q at (pair-entry plain 32 (g .width) (g .rows) (g .fits) first last (g .order) (g .inside));
         whole = rw v at ew;
         cost = ec;
         place = ep;

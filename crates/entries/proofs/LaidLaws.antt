@@ -50,4 +50,4 @@ module _ {t ss : List ℕ} {w n : ℕ} (k : TableRows t ss w n) where
       fits-width e f = rw (← e) f
 
   unfoldable pub laid-rows : Rows t ss n
-  laid-rows = record { w = w; rows = k .table .rows; laid = laid }
+  laid-rows = record { width = w; rows = k .table .rows; laid = laid }

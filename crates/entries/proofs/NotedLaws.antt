@@ -59,16 +59,16 @@ module _ {W : ℕ → ℕ → ℕ} {first : ℕ} {N : ℕ → Note} where
   -- past a terms: where they are closed, past all that is noted below them
   noted-past : {q R : ℕ} {olds : List (List ℕ)} {y : List ℕ} → Noted W first N q R olds y → (a r : ℕ) → R ≡ a + r → Terms R y
       → Noted W first N (q + length (front a y)) r (map (back a) olds) (back a y)
-  noted-past (done {q} {olds} {y}) zero r e t = past-none {olds = olds} {y = y} done r e
-  noted-past (closed {q} {r = r₀} {olds} {y} n o d) zero r e t = past-none {olds = olds} {y = y} (closed n o d) r e
-  noted-past (opened {q} {r = r₀} {olds} {y} n o d) zero r e t = past-none {olds = olds} {y = y} (opened n o d) r e
+  noted-past (done {at = q} {olds} {row = y}) zero r e t = past-none {olds = olds} {y = y} done r e
+  noted-past (closed {at = q} {terms = r₀} {olds} {row = y} n o d) zero r e t = past-none {olds = olds} {y = y} (closed n o d) r e
+  noted-past (opened {at = q} {terms = r₀} {olds} {row = y} n o d) zero r e t = past-none {olds = olds} {y = y} (opened n o d) r e
   noted-past done (suc a) r e t = absurd (omega arith)
-  noted-past (closed {q} {r = r₀} {olds} {y} n o d) (suc a) r e t =
+  noted-past (closed {at = q} {terms = r₀} {olds} {row = y} n o d) (suc a) r e t =
       let c : ℕ = root 0 y in
       let x = noted-past d (arity c + a) r (omega arith) (close-first t) in
       let l : q + length (front (suc a) y) ≡ suc q + length (front (arity c + a) (close 0 y)) = omega (arith, front-close a t) in
       rw l (rw (map-past a c olds (one-cell-all W first olds y (ap (λ (n : Note). n .runs) (sym n) ∙ o)), back-close a c y refl) at x)
-  noted-past (opened {q} {r = r₀} {olds} {y} n o d) (suc a) r e t =
+  noted-past (opened {at = q} {terms = r₀} {olds} {row = y} n o d) (suc a) r e t =
       let x = noted-past d a r (omega arith) (back-first t) in
       let s : 1 + a ≡ suc a = omega arith in
       let f : length (front (1 + a) y) ≡ length (front 1 y) + length (front a (back 1 y)) = front-back-length 1 a y in

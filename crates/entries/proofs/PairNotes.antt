@@ -51,7 +51,7 @@ pub shown-map : {N : ℕ → Note} {E : ℕ → ℕ} {P Q : ℕ → Note → Typ
     → Shown N E P stop k q i a → Shown N E Q stop k q i a
 shown-map f at-end = at-end
 shown-map f (at-closed h o s) = at-closed h o (shown-map f s)
-shown-map {N} {i = i} f (at-open {q} h l o p s) = at-open h l o (f i (N q) (omega (arith, shown-within s)) p) (shown-map f s)
+shown-map {N} {i = i} f (at-open {at = q} h l o p s) = at-open h l o (f i (N q) (omega (arith, shown-within s)) p) (shown-map f s)
 
 no-figure : (b : Bool) → _≡_ {A = ℕ} (cond b 0 0) 0
 no-figure true = refl

@@ -26,7 +26,7 @@ pub data Here (N : ℕ → Note) (E : ℕ → ℕ) (Is : ℕ → Note → Type 0
 
 pub here : {N : ℕ → Note} {E : ℕ → ℕ} {Is : ℕ → Note → Type 0} {stop k q i a : ℕ} → Shown N E Is stop k q i a → Here N E Is stop k q i a
 here at-end = ended refl refl refl
-here (at-closed {a = a} l o s) = one a refl l o s
+here (at-closed {agreed = a} l o s) = one a refl l o s
 here (at-open l m o p s) = many l m o p s
 
 module _ {ends notes : List ℕ} {at stop : ℕ} (g : Walk ends notes at stop) where
@@ -37,17 +37,17 @@ module _ {ends notes : List ℕ} {at stop : ℕ} (g : Walk ends notes at stop) w
   pub record CountAt (n q : ℕ) : Type 0 where
     pub i : ℕ
     pub left : ℕ
-    pub shown : Shown (noteIn notes) (λ (q : ℕ). getD ends q 0) Any stop (g .k) q i left
-    pub sum : n + left ≡ g .a
+    pub shown : Shown (noteIn notes) (λ (q : ℕ). getD ends q 0) Any stop (g .opens) q i left
+    pub sum : n + left ≡ g .agreed
     pub small : n ≤ q
 
   pub count-start : CountAt 0 at
-  count-start = record { i = 0; left = g .a; shown = g .shown; sum = omega arith; small = omega arith }
+  count-start = record { i = 0; left = g .agreed; shown = g .shown; sum = omega arith; small = omega arith }
 
-  pub count-end : {n q : ℕ} → stop ≤ q → CountAt n q → n ≡ g .a
+  pub count-end : {n q : ℕ} → stop ≤ q → CountAt n q → n ≡ g .agreed
   count-end {n} {q} h x = go (here (x .shown))
     where
-      go : Here (noteIn notes) (λ (q : ℕ). getD ends q 0) Any stop (g .k) q (x .i) (x .left) → n ≡ g .a
+      go : Here (noteIn notes) (λ (q : ℕ). getD ends q 0) Any stop (g .opens) q (x .i) (x .left) → n ≡ g .agreed
       go (ended e f z) = omega (arith, x .sum)
       go (one b e l o s) = absurd (omega arith)
       go (many l m o p s) = absurd (omega arith)
@@ -56,7 +56,7 @@ module _ {ends notes : List ℕ} {at stop : ℕ} (g : Walk ends notes at stop) w
       → CountAt (n + cond (eqb ((noteIn notes q) .runs) 1) 1 0) (nextAt ends notes q) × (q < nextAt ends notes q)
   count-step {n} {q} h x = go (here (x .shown))
     where
-      go : Here (noteIn notes) (λ (q : ℕ). getD ends q 0) Any stop (g .k) q (x .i) (x .left)
+      go : Here (noteIn notes) (λ (q : ℕ). getD ends q 0) Any stop (g .opens) q (x .i) (x .left)
           → CountAt (n + cond (eqb ((noteIn notes q) .runs) 1) 1 0) (nextAt ends notes q) × (q < nextAt ends notes q)
       go (ended e f z) = absurd (omega arith)
       go (one b e l o s) =
@@ -89,18 +89,18 @@ module _ {ends whole notes : List ℕ} {last at stop a : ℕ} (g : Pair ends who
   -- the first i open places are looked at
   pub record CheapAt (best : Choice) (i q : ℕ) : Type 0 where
     pub left : ℕ
-    pub shown : Shown (noteIn notes) (λ (q : ℕ). getD ends q 0) (Priced (g .W) (g .first) last a (g .F)) stop (g .k) q i left
-    pub is : best ≡ choiceOf (leastOver i (g .F)) (firstOver i (g .F))
+    pub shown : Shown (noteIn notes) (λ (q : ℕ). getD ends q 0) (Priced (g .costs) (g .first) last a (g .prices)) stop (g .opens) q i left
+    pub is : best ≡ choiceOf (leastOver i (g .prices)) (firstOver i (g .prices))
     pub small : i ≤ q
 
   pub cheap-start : CheapAt (choiceOf 0 0) 0 at
   cheap-start = record { left = a; shown = g .shown; is = refl; small = omega arith }
 
-  pub cheap-end : {best : Choice} {i q : ℕ} → stop ≤ q → CheapAt best i q → best ≡ choiceOf (leastOver (g .k) (g .F)) (firstOver (g .k) (g .F))
+  pub cheap-end : {best : Choice} {i q : ℕ} → stop ≤ q → CheapAt best i q → best ≡ choiceOf (leastOver (g .opens) (g .prices)) (firstOver (g .opens) (g .prices))
   cheap-end {best} {i} {q} h x = go (here (x .shown))
     where
-      go : Here (noteIn notes) (λ (q : ℕ). getD ends q 0) (Priced (g .W) (g .first) last a (g .F)) stop (g .k) q i (x .left)
-          → best ≡ choiceOf (leastOver (g .k) (g .F)) (firstOver (g .k) (g .F))
+      go : Here (noteIn notes) (λ (q : ℕ). getD ends q 0) (Priced (g .costs) (g .first) last a (g .prices)) stop (g .opens) q i (x .left)
+          → best ≡ choiceOf (leastOver (g .opens) (g .prices)) (firstOver (g .opens) (g .prices))
       go (ended e f z) = rw f at (x .is)
       go (one b e l o s) = absurd (omega arith)
       go (many l m o p s) = absurd (omega arith)
@@ -117,21 +117,21 @@ module _ {ends whole notes : List ℕ} {last at stop a : ℕ} (g : Pair ends who
     price = s .sum + inWhole whole (s .from) last - s .runs * a
 
     pub record Opened : Type 0 where
-      pub next : Shown (noteIn notes) (λ (q : ℕ). getD ends q 0) (Priced (g .W) (g .first) last a (g .F)) stop (g .k) (getD ends q 0) (suc i) (x .left)
+      pub next : Shown (noteIn notes) (λ (q : ℕ). getD ends q 0) (Priced (g .costs) (g .first) last a (g .prices)) stop (g .opens) (getD ends q 0) (suc i) (x .left)
       pub on : q < getD ends q 0
       pub small : Small whole last s
       pub fits : s .runs * a ≤ s .sum + inWhole whole (s .from) last
-      pub is : price ≡ g .F i
+      pub is : price ≡ g .prices i
 
     opened-at : s .runs ≢ 1 → Opened
     opened-at ne = go (here (x .shown))
       where
-        go : Here (noteIn notes) (λ (q : ℕ). getD ends q 0) (Priced (g .W) (g .first) last a (g .F)) stop (g .k) q i (x .left) → Opened
+        go : Here (noteIn notes) (λ (q : ℕ). getD ends q 0) (Priced (g .costs) (g .first) last a (g .prices)) stop (g .opens) q i (x .left) → Opened
         go (ended e f z) = absurd (omega arith)
         go (one b e l o t) = absurd (ne o)
         go (many l m o p t) =
             let f = p .fair in
-            let k : inWhole whole (s .from) last ≡ g .W (s .from) last = g .kept (s .from) (f .later o) (f .high) in
+            let k : inWhole whole (s .from) last ≡ g .costs (s .from) last = g .kept (s .from) (f .later o) (f .high) in
             let w = g .small (s .from) (f .low) (f .high) in
             record {
               next = t;
@@ -150,12 +150,12 @@ module _ {ends whole notes : List ℕ} {last at stop a : ℕ} (g : Pair ends who
     cheap-open : s .runs ≢ 1 → CheapAt (cond (eqb i 0 || ltb price (best .cost)) (choiceOf price i) best) (i + 1) (getD ends q 0)
     cheap-open ne =
         let o = opened-at ne in
-        rw (add-one i) (record { left = x .left; shown = o .next; is = over-step (g .F) i price best (o .is) (x .is); small = omega (arith, o .on, x .small) })
+        rw (add-one i) (record { left = x .left; shown = o .next; is = over-step (g .prices) i price best (o .is) (x .is); small = omega (arith, o .on, x .small) })
 
     cheap-closed : s .runs ≡ 1 → CheapAt best i (q + 1)
     cheap-closed o = go (here (x .shown))
       where
-        go : Here (noteIn notes) (λ (q : ℕ). getD ends q 0) (Priced (g .W) (g .first) last a (g .F)) stop (g .k) q i (x .left) → CheapAt best i (q + 1)
+        go : Here (noteIn notes) (λ (q : ℕ). getD ends q 0) (Priced (g .costs) (g .first) last a (g .prices)) stop (g .opens) q i (x .left) → CheapAt best i (q + 1)
         go (ended e f z) = absurd (omega arith)
         go (one b e l o t) = record { left = b; shown = rw (add-one q) t; is = x .is; small = omega (arith, x .small) }
         go (many l m o′ p t) = absurd (omega arith)

@@ -95,20 +95,20 @@ module _ {cells ends whole notes₀ : List ℕ} {last old new stop : ℕ} (g : N
   pub record RowAt (notes : List ℕ) (p q : ℕ) : Type 0 where
     pub r : ℕ
     pub olds : List (List ℕ)
-    pub noted : Noted (g .W) (g .first) (noteIn notes₀) p r olds (slice p new cells)
+    pub noted : Noted (g .costs) (g .first) (noteIn notes₀) p r olds (slice p new cells)
     pub old-terms : Terms r (slice p new cells)
     pub new-terms : Terms r (slice q stop cells)
     pub rows : length olds ≡ length (g .olds)
     pub order : (p ≤ new) × (new ≤ q) × (q ≤ stop)
     pub same : (j : ℕ) → j < new → noteIn notes j ≡ noteIn notes₀ j
     pub then : (N : ℕ → Note) → ((j : ℕ) → new ≤ j → j < q → N j ≡ noteIn notes j)
-        → Noted (g .W) (g .first) N q r (olds ++ (slice p new cells ∷ [])) (slice q stop cells)
-        → Noted (g .W) (g .first) N new (g .w) (g .olds ++ (slice old new cells ∷ [])) (slice new stop cells)
+        → Noted (g .costs) (g .first) N q r (olds ++ (slice p new cells ∷ [])) (slice q stop cells)
+        → Noted (g .costs) (g .first) N new (g .width) (g .olds ++ (slice old new cells ∷ [])) (slice new stop cells)
     pub room : length notes ≡ 6150
 
   pub row-start : RowAt notes₀ old new
   row-start = record {
-    r = g .w;
+    r = g .width;
     olds = g .olds;
     noted = g .noted;
     old-terms = g .old-terms;
@@ -147,7 +147,7 @@ module _ {cells ends whole notes₀ : List ℕ} {last old new stop : ℕ} (g : N
         go zero t = absurd (omega (arith, ap length (zero-nil t), length-slice q stop cells (g .order .2)))
         go (suc r) t = refl
 
-    old-at : Noted (g .W) (g .first) (noteIn notes₀) p (suc (pred (x .r))) (x .olds) y
+    old-at : Noted (g .costs) (g .first) (noteIn notes₀) p (suc (pred (x .r))) (x .olds) y
     old-at = rw some-terms at (x .noted)
 
     y-terms : Terms (suc (pred (x .r))) y
@@ -164,7 +164,7 @@ module _ {cells ends whole notes₀ : List ℕ} {last old new stop : ℕ} (g : N
         let col : List ℕ = map (root 0) (x .olds ++ (y ∷ [])) in
         let l : length (map (root 0) (x .olds ++ (y ∷ []))) ≡ length (g .olds) + 1 =
         length-map (x .olds ++ (y ∷ [])) (root 0) ∙ length-append (x .olds) (y ∷ []) ∙ ap (λ (n : ℕ). n + 1) (x .rows) in
-        let f = note-fair (g .W) (g .count) (g .small) (g .first) (map (root 0) (x .olds ++ (y ∷ []))) (omega arith) (omega (arith, g .rows .0, g .rows .1)) in
+        let f = note-fair (g .costs) (g .count) (g .small) (g .first) (map (root 0) (x .olds ++ (y ∷ []))) (omega arith) (omega (arith, g .rows .0, g .rows .1)) in
         let e : pred (g .first + length (map (root 0) (x .olds ++ (y ∷ [])))) ≡ last = omega (arith, g .rows .0) in
         rw (x .same p row-before, note-is old-at z) (rw e at f)
 
@@ -184,7 +184,7 @@ module _ {cells ends whole notes₀ : List ℕ} {last old new stop : ℕ} (g : N
         let f : Fair (g .first) last (noteIn notes₀ p) = subst (λ (n : Note). Fair (g .first) last n) n row-fair in
         let e : g .first + length (x .olds) ≡ last = omega (arith, x .rows, g .rows .0) in
         ap (λ (n : Note). noteNext (inWhole whole) n last (getD cells p 0) (getD cells q 0)) n
-        ∙ next-same (inWhole whole) (g .W) (noteIn notes₀ p) last (getD cells p 0) (getD cells q 0) (g .kept ((noteIn notes₀ p) .from) (f .low) (f .high))
+        ∙ next-same (inWhole whole) (g .costs) (noteIn notes₀ p) last (getD cells p 0) (getD cells q 0) (g .kept ((noteIn notes₀ p) .from) (f .low) (f .high))
         ∙ rw (part-root p new cells row-before new-in, part-root q stop cells h stop-in, e)
 
     put-is : noteIn notes′ q ≡ stepNote
@@ -194,7 +194,7 @@ module _ {cells ends whole notes₀ : List ℕ} {last old new stop : ℕ} (g : N
     unchanged : (j : ℕ) → j < q → noteIn notes′ j ≡ noteIn notes j
     unchanged j l = put-other notes q stepNote j (λ e. omega arith)
 
-    column-is : (N : ℕ → Note) → N q ≡ noteIn notes′ q → N q ≡ noteOf (g .W) (g .first) (map (root 0) ((x .olds ++ (y ∷ [])) ++ (z ∷ [])))
+    column-is : (N : ℕ → Note) → N q ≡ noteIn notes′ q → N q ≡ noteOf (g .costs) (g .first) (map (root 0) ((x .olds ++ (y ∷ [])) ++ (z ∷ [])))
     column-is N e = e ∙ put-is ∙ step-is ∙ next-note old-at z
 
     step-closed : stepNote .runs ≡ 1 → RowAt notes′ (suc p) (suc q)
@@ -215,7 +215,7 @@ module _ {cells ends whole notes₀ : List ℕ} {last old new stop : ℕ} (g : N
           same = λ j l. unchanged j (omega (arith, x .order .1)) ∙ x .same j l;
           then = λ N e d.
               x .then N (λ j l m. e j l (omega arith) ∙ unchanged j m)
-              (rw some-terms (closed {r = pred (x .r)} {olds = x .olds ++ (y ∷ [])} {y = z} (column-is N (e q (x .order .1) (omega arith)))
+              (rw some-terms (closed {terms = pred (x .r)} {olds = x .olds ++ (y ∷ [])} {row = z} (column-is N (e q (x .order .1) (omega arith)))
               (ap (λ (n : Note). n .runs) (e q (x .order .1) (omega arith) ∙ put-is) ∙ o) (rw (← (c .0), zc, ol) d)));
           room = put-room notes q stepNote ∙ x .room;
         }
@@ -244,7 +244,7 @@ module _ {cells ends whole notes₀ : List ℕ} {last old new stop : ℕ} (g : N
           same = λ j l. unchanged j (omega (arith, x .order .1)) ∙ x .same j l;
           then = λ N e d.
               x .then N (λ j l m. e j l (omega arith) ∙ unchanged j m)
-              (rw some-terms (opened {r = pred (x .r)} {olds = x .olds ++ (y ∷ [])} {y = z} (column-is N (e q (x .order .1) (omega arith)))
+              (rw some-terms (opened {terms = pred (x .r)} {olds = x .olds ++ (y ∷ [])} {row = z} (column-is N (e q (x .order .1) (omega arith)))
               (omega (arith, ap (λ (n : Note). n .runs) (e q (x .order .1) (omega arith) ∙ put-is))) (rw (← qz, zb, ol) d)));
           room = put-room notes q stepNote ∙ x .room;
         }

@@ -13,8 +13,8 @@ use Rattle.least.specs.Least.{Least}
 use Rattle.least.specs.Entries as entries
 use Rattle.entries.specs.declared.Entries.{Entries}
 
--- The three arrays that are lent, each with one number for a pair of first and last row, at 64 times the first plus the last: what the pair's rows cost
--- with nothing closed; and the pair's entry, its least cost and its place
+-- The three arrays that are lent, each with a number for every pair of first and last row, at 64 times the first plus the last:
+-- what the pair's rows cost with nothing closed; and the pair's entry, its least cost and its place
 pub record Arrays : Type 0 where
   pub whole : List ℕ
   pub cost : List ℕ
@@ -23,7 +23,7 @@ pub record Arrays : Type 0 where
 abbrev pub arrays : List ℕ → List ℕ → List ℕ → Arrays
 arrays whole cost place = record { whole = whole; cost = cost; place = place }
 
--- the entry of a pair, as it is kept: the cost where there is room for it
+-- the entry of a pair as it is kept: the place, and the cost where there is room for it
 pub record EntryAt (width : ℕ) (rows : List (List ℕ)) (first last : ℕ) (cost place : List ℕ) : Type 0 where
   pub count : ℕ
   pub entry : entries.Entry plain width rows first last count (getD place (64 * first + last) 0)
@@ -40,8 +40,8 @@ pub record SameSize (old new : Arrays) : Type 0 where
   pub cost : length (new .cost) ≡ length (old .cost)
   pub place : length (new .place) ≡ length (old .place)
 
--- the arrays are filled for a table's rows: where the last row is neither before the first nor past the table's, what the pair's rows cost at least and
--- the pair's entry; everywhere else what was there
+-- The arrays are filled for a table's rows: at each pair of them, the last not before the first, what its rows cost at least and its
+-- entry; everywhere else what was there
 pub record Filled (width : ℕ) (rows : List (List ℕ)) (old new : Arrays) : Type 0 where
   pub whole : (first last : ℕ) → first ≤ last → last < length rows
       → Least plain width (entries.between first last rows) (getD (new .whole) (64 * first + last) 0)
@@ -49,15 +49,16 @@ pub record Filled (width : ℕ) (rows : List (List ℕ)) (old new : Arrays) : Ty
   pub other : (first last : ℕ) → last < 64 → (last < first) ⊎ (length rows ≤ last) → SameAt first last old new
   pub size : SameSize old new
 
--- What is answered for a table and the arrays that are lent: what reading the table answers. Where it is accepted the arrays are filled; where it is
--- turned away they are as they were
-pub record Fills (t : List ℕ) (old new : Arrays) (r : TableRead) : Type 0 where
-  pub reads : TableReads (tableOf t) r
-  pub accepted : (T : Table) → tableOf t ≡ read T → Filled (T .width) (T .rows) old new
-  pub turned-away : (f : Refused) → tableOf t ≡ refuse f → new ≡ old
+-- What is answered for a table and the arrays that are lent: what reading the table answers. Where it is accepted the arrays are
+-- filled; where it is turned away they are as they were
+pub record Fills (cells : List ℕ) (old new : Arrays) (answer : TableRead) : Type 0 where
+  pub reads : TableReads (tableOf cells) answer
+  pub accepted : (T : Table) → tableOf cells ≡ read T → Filled (T .width) (T .rows) old new
+  pub turned-away : (f : Refused) → tableOf cells ≡ refuse f → new ≡ old
 
 -- 01, "a least count kept for every pair of first and last row": of an accepted table each pair's entry, by 01's measure;
 -- of a table that is turned away 0 everywhere
-pub data WorkedOut (t : List ℕ) (r : Entries) : Type 0 where
-  worked : (T : Table) → tableOf t ≡ read T → entries.Entries (T .width) (T .rows) (r .cost) (r .place) → WorkedOut t r
-  all-zero : (f : Refused) → tableOf t ≡ refuse f → r .cost ≡ replicate 4096 0 → r .place ≡ replicate 4096 0 → WorkedOut t r
+pub data WorkedOut (cells : List ℕ) (kept : Entries) : Type 0 where
+  worked : (T : Table) → tableOf cells ≡ read T → entries.Entries (T .width) (T .rows) (kept .cost) (kept .place) → WorkedOut cells kept
+  all-zero : (f : Refused) → tableOf cells ≡ refuse f → kept .cost ≡ replicate 4096 0 → kept .place ≡ replicate 4096 0
+      → WorkedOut cells kept

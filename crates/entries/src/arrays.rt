@@ -7,7 +7,8 @@ ghost use lib.Dec.{eqb, ltb};
 ghost use lib.ListN.{length, getD, set};
 ghost use Rattle.least.specs.code.Best.{firstOver, leastOver};
 ghost use Rattle.entries.specs.Fill.{arrays};
-ghost use Rattle.entries.specs.code.Notes.{choiceOf, noteIn, noteNext, putNote, inWhole, Small, NextRow, RowNoted, Alone, Walk, Pair, EndsAt, Ended};
+ghost use Rattle.entries.specs.code.Notes.{choiceOf, noteIn, noteNext, putNote, inWhole};
+ghost use Rattle.entries.specs.code.Notes.{Small, NextRow, RowNoted, Alone, Walk, Pair, EndsAt, Ended};
 ghost use Rattle.entries.specs.code.Filling.{stopOf, PairAt, Keeps, RowsAt, RowsDone, FirstAt, Rows, FilledTo};
 use term::End;
 
@@ -68,7 +69,7 @@ fn term_ends(cells: &[u32]) -> [u16; 2050]
     ends
 }
 
-// An end that is kept there.
+// An end that is kept there. (That a parameter fits the wider type is known; of an array's element it would be asked.)
 fn wide(e: u16) -> usize
     ensures { λ r. ⌜ r ≡ e ⌝ }
 {
@@ -112,7 +113,8 @@ fn note_row(
     stop: usize,
 )
     requires { ⌜ NextRow (now cells) (now ends) (now whole) (now notes) last old new stop ⌝ }
-    ensures { λ _. ⌜ ((g : NextRow (now (cells .entry)) (now (ends .entry)) (now (whole .entry)) (now (notes .entry)) last old new stop) → RowNoted g (now (notes .exit))) ⌝ }
+    ensures { λ _. ⌜ ((g : NextRow (now (cells .entry)) (now (ends .entry)) (now (whole .entry)) (now (notes .entry)) last old new stop)
+        → RowNoted g (now (notes .exit))) ⌝ }
 {
     let mut p = old;
     let mut q = new;
@@ -155,7 +157,7 @@ fn with_closed(n: u32, s: Note) -> u32
 // How many cells are closed, in the row whose cells are those from a place up to a stop.
 fn agreed_in(ends: &[u16; 2050], notes: &[u32; 6150], at: usize, stop: usize) -> u32
     requires { ⌜ Walk (now ends) (now notes) at stop ⌝ }
-    ensures { λ r. ⌜ ((g : Walk (now (ends .entry)) (now (notes .entry)) at stop) → r ≡ g .a) ⌝ }
+    ensures { λ r. ⌜ ((g : Walk (now (ends .entry)) (now (notes .entry)) at stop) → r ≡ g .agreed) ⌝ }
 {
     let mut n = 0;
     let mut q = at;
@@ -186,13 +188,16 @@ fn consider(best: Choice, place: u32, cost: u32) -> Choice
     best
 }
 
-// What an open place costs, where so many cells are closed.
+// What an open place costs, where so many cells are closed: the sum of what its runs cost, without these cells, which each
+// run's cost has in it.
 fn open_cost(s: Note, whole: &[u32; 4096], last: usize, agreed: u32) -> u32
     requires { ⌜ Small (now whole) last s × (agreed ≤ 2050) × (s .runs * agreed ≤ s .sum + inWhole (now whole) (s .from) last) ⌝ }
     ensures { λ r. ⌜ r ≡ s .sum + inWhole (now (whole .entry)) (s .from) last - s .runs * agreed ⌝ }
 {
     let from = s.from as usize;
-    s.sum + whole[64 * from + last] - s.runs * agreed
+    let last_run = whole[64 * from + last];
+    let closed = s.runs * agreed;
+    s.sum + last_run - closed
 }
 
 // The cheapest open place of a pair's last row, whose cells are those from a place up to a stop; the first of them.
@@ -206,7 +211,8 @@ fn cheapest(
     stop: usize,
 ) -> Choice
     requires { ⌜ Pair (now ends) (now whole) (now notes) last at stop agreed ⌝ }
-    ensures { λ r. ⌜ ((g : Pair (now (ends .entry)) (now (whole .entry)) (now (notes .entry)) last at stop agreed) → r ≡ choiceOf (leastOver (g .k) (g .F)) (firstOver (g .k) (g .F))) ⌝ }
+    ensures { λ r. ⌜ ((g : Pair (now (ends .entry)) (now (whole .entry)) (now (notes .entry)) last at stop agreed)
+        → r ≡ choiceOf (leastOver (g .opens) (g .prices)) (firstOver (g .opens) (g .prices))) ⌝ }
 {
     let mut best = Choice { cost: 0, place: 0 };
     let mut place = 0;
@@ -244,7 +250,10 @@ fn keep_pair(
     stop: usize,
 )
     requires { ⌜ PairAt (now ends) (now whole) (now notes) first last at stop ⌝ }
-    ensures { λ _. ⌜ ((g : PairAt (now (ends .entry)) (now (whole .entry)) (now (notes .entry)) first last at stop) → Keeps (g .w) (g .rows) first last (arrays (now (whole .entry)) (now (cost .entry)) (now (place .entry))) (arrays (now (whole .exit)) (now (cost .exit)) (now (place .exit)))) ⌝ }
+    ensures { λ _. ⌜ ((g : PairAt (now (ends .entry)) (now (whole .entry)) (now (notes .entry)) first last at stop)
+        → Keeps (g .width) (g .rows) first last
+        (arrays (now (whole .entry)) (now (cost .entry)) (now (place .entry)))
+        (arrays (now (whole .exit)) (now (cost .exit)) (now (place .exit)))) ⌝ }
 {
     let agreed = agreed_in(ends, notes, at, stop);
     let best = cheapest(ends, &*whole, notes, last, agreed, at, stop);
@@ -283,8 +292,12 @@ fn more_pairs(
     begin: usize,
     end: usize,
 )
-    requires { ⌜ RowsAt (now cells) (now ends) (now starts) (now notes) (arrays (now whole) (now cost) (now place)) count first from begin end ⌝ }
-    ensures { λ _. ⌜ ((g : RowsAt (now (cells .entry)) (now (ends .entry)) (now (starts .entry)) (now (notes .entry)) (arrays (now (whole .entry)) (now (cost .entry)) (now (place .entry))) count first from begin end) → RowsDone (g .w) (g .rows) (g .lent) count first (now (notes .exit)) (arrays (now (whole .exit)) (now (cost .exit)) (now (place .exit)))) ⌝ }
+    requires { ⌜ RowsAt (now cells) (now ends) (now starts) (now notes)
+        (arrays (now whole) (now cost) (now place)) count first from begin end ⌝ }
+    ensures { λ _. ⌜ ((g : RowsAt (now (cells .entry)) (now (ends .entry)) (now (starts .entry)) (now (notes .entry))
+        (arrays (now (whole .entry)) (now (cost .entry)) (now (place .entry))) count first from begin end)
+        → RowsDone (g .width) (g .rows) (g .lent) count first (now (notes .exit))
+        (arrays (now (whole .exit)) (now (cost .exit)) (now (place .exit)))) ⌝ }
 {
     let mut last = from;
     let mut old = begin;
@@ -322,7 +335,10 @@ fn pairs_from(
     first: usize,
 )
     requires { ⌜ FirstAt (now cells) (now ends) (now starts) (now notes) (arrays (now whole) (now cost) (now place)) count first ⌝ }
-    ensures { λ _. ⌜ ((g : FirstAt (now (cells .entry)) (now (ends .entry)) (now (starts .entry)) (now (notes .entry)) (arrays (now (whole .entry)) (now (cost .entry)) (now (place .entry))) count first) → RowsDone (g .w) (g .rows) (g .lent) count first (now (notes .exit)) (arrays (now (whole .exit)) (now (cost .exit)) (now (place .exit)))) ⌝ }
+    ensures { λ _. ⌜ ((g : FirstAt (now (cells .entry)) (now (ends .entry)) (now (starts .entry)) (now (notes .entry))
+        (arrays (now (whole .entry)) (now (cost .entry)) (now (place .entry))) count first)
+        → RowsDone (g .width) (g .rows) (g .lent) count first (now (notes .exit))
+        (arrays (now (whole .exit)) (now (cost .exit)) (now (place .exit)))) ⌝ }
 {
     let old = starts[first];
     let new = row_end(cells, starts, count, first);
@@ -364,7 +380,9 @@ pub fn all_pairs(
     count: usize,
 )
     requires { ⌜ Rows (now cells) (now starts) count × (length (now whole) ≡ 4096) × (length (now place) ≡ 4096) ⌝ }
-    ensures { λ _. ⌜ ((g : Rows (now (cells .entry)) (now (starts .entry)) count) → FilledTo (g .w) (g .rows) (arrays (now (whole .entry)) (now (cost .entry)) (now (place .entry))) 0 count (arrays (now (whole .exit)) (now (cost .exit)) (now (place .exit)))) ⌝ }
+    ensures { λ _. ⌜ ((g : Rows (now (cells .entry)) (now (starts .entry)) count)
+        → FilledTo (g .width) (g .rows) (arrays (now (whole .entry)) (now (cost .entry)) (now (place .entry))) 0 count
+        (arrays (now (whole .exit)) (now (cost .exit)) (now (place .exit)))) ⌝ }
 {
     let ends = term_ends(cells);
     let mut notes = [0; 6150];

@@ -15,7 +15,9 @@ pub fn fill(
     cost: &mut [u32],
     place: &mut [u32; 4096],
 ) -> TableRead
-    ensures { λ r. ⌜ Fills (now (cells .entry)) (arrays (now (whole .entry)) (now (cost .entry)) (now (place .entry))) (arrays (now (whole .exit)) (now (cost .exit)) (now (place .exit))) r ⌝ }
+    ensures { λ r. ⌜ Fills (now (cells .entry))
+        (arrays (now (whole .entry)) (now (cost .entry)) (now (place .entry)))
+        (arrays (now (whole .exit)) (now (cost .exit)) (now (place .exit))) r ⌝ }
 {
     // Taken as a slice, an array is known to have all its elements.
     let _whole = &whole[..];

@@ -36,7 +36,7 @@ module _ (m : Measure) where
           let x = exchange m i c h a q in
           let y = agreed-branch m i c h a (x .0) in
           omega (arith, l .none-less (y .0))
-  chosen-least k i rows h bs (cheapest {n} s best e f) l = record { plan = node i h bs; costs-it = refl; none-less = λ q. less q }
+  chosen-least k i rows h bs (cheapest {count = n} s best e f) l = record { plan = node i h bs; costs-it = refl; none-less = λ q. less q }
     where
       less : (q : Plan (suc k) rows) → choice m (length (runs i rows)) + costs m bs ≤ cost m q
       less q =
@@ -100,7 +100,7 @@ module _ (m : Measure) where
   unfolding cost
   chosen-cheapest {k} {i} {rows} F f s a =
       let b = f i (a .within) in
-      cheapest {n = through m rows F i} s
+      cheapest {count = through m rows F i} s
       (record { plan = node i (a .within) (b .branches); costs-it = omega (arith, b .costs-it); none-less = λ q. less q }) refl
       (λ q h. more q h)
     where

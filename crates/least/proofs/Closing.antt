@@ -64,7 +64,7 @@ module _ {m : Measure} where
   least-before : {k k′ : ℕ} {rows rows′ : List (List ℕ)} (x : ℕ) (s : Closes k rows k′ rows′) → Least m k′ rows′ x → Least m k rows (weighs m s + x)
   unfolding weighs
   least-before x stop l = rw zero-add l
-  least-before x (step {k} {rows = rows} i c h a s) l = rw add-assoc (agreed-least m k i c (weighs m s + x) rows h a (least-before x s l))
+  least-before x (step {others = k} {rows = rows} i c h a s) l = rw add-assoc (agreed-least m k i c (weighs m s + x) rows h a (least-before x s l))
 
   pub closes-least : {n k k′ : ℕ} {rows rows′ : List (List ℕ)} (x : ℕ) → Closing m n k rows k′ rows′ → Least m k′ rows′ x → Least m k rows (n + x)
   closes-least x s l = rw (s .weight) at (least-before x (s .closes) l)
@@ -98,7 +98,7 @@ module _ {m : Measure} where
       → (n : ℕ) × (weighs m x ≡ m .weight d + n) × Closing m n (arity d + k) (map (close j) rows) k′ rows′
   unfolding weighs
   closes-first stop s k j d e h a = absurd (s j d (omega arith) a)
-  closes-first {k′ = k′} {rows′ = rows′} (step {k = k₁} {rows = rows} i c hi ai t) s k j d e h a =
+  closes-first {k′ = k′} {rows′ = rows′} (step {others = k₁} {rows = rows} i c hi ai t) s k j d e h a =
       go (tri i j) (λ k j d e h a. closes-first t s k j d e h a)
     where
       Answer : Type 0
@@ -146,7 +146,7 @@ module _ {m : Measure} where
       → (n : ℕ) × (weighs m x ≡ weighs m y + n) × Closing m n k″ rows″ k′ rows′
   unfolding weighs
   confluent x s stop = (weighs m x, omega arith, weighed x)
-  confluent x s (step {k = k} i c h a y) =
+  confluent x s (step {others = k} i c h a y) =
       let z = closes-first x s k i c refl h a in
       let w = confluent (z .2 .closes) s y in
       (w .0, omega (arith, z .2 .weight), w .2)

@@ -25,7 +25,7 @@ use Rattle.least.proofs.Building.{chosen-one, chosen-cheapest}
 -- rows that fit still do when agreed places are closed
 closes-fit : {k k′ : ℕ} {rows rows′ : List (List ℕ)} (n : ℕ) → Closes k rows k′ rows′ → All (Fits n k) rows → All (Fits n k′) rows′
 closes-fit n stop f = f
-closes-fit n (step {k = k} {rows = rows} i c h a x) f =
+closes-fit n (step {others = k} {rows = rows} i c h a x) f =
     closes-fit n x
     (fits-agreed n k i c rows h a (fits-more n (suc k) rows f))
 
@@ -44,7 +44,7 @@ entry-one (leaf h l x) (leaf h′ l′ y) = (refl, refl)
 entry-one {m} (leaf h l x) (inner h′ l′ y s c b d) = absurd (omega (arith, order-does-not-matter m x (λ i c h. absurd (omega arith)) y s .1))
 entry-one (inner h l x s c b d) (none o) = absurd (outside o h l)
 entry-one {m} (inner h l x s c b d) (leaf h′ l′ y) = absurd (omega (arith, order-does-not-matter m x s y (λ i c h. absurd (omega arith)) .1))
-entry-one {m} (inner {k = k} {left = left} {count = n} {place = i} h l x s c b d) (inner {k = k′} {left = left′} h′ l′ y t c′ b′ d′) =
+entry-one {m} (inner {others = k} {left = left} {count = n} {place = i} h l x s c b d) (inner {others = k′} {left = left′} h′ l′ y t c′ b′ d′) =
     let u = order-does-not-matter m x s y t in
     let ek : k ≡ k′ = omega (arith, u .1) in
     let c″ : Least m (suc k′) left′ n = rw (ek, u .2) at c in

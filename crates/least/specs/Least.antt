@@ -11,38 +11,38 @@ use Rattle.table.specs.All.{All}
 use Rattle.plan.specs.Runs.{Run}
 use Rattle.plan.specs.Plans.{Plan, leaf, node, Branches, end, next, Measure, cost}
 
--- 01, an open place "agreed by all the state's rows (a single row agrees with itself everywhere)": all hold the cell c at place i,
+-- 01, an open place "agreed by all the state's rows (a single row agrees with itself everywhere)": all hold this cell there,
 -- a name or a number, or there is a single row
-pub record Agree (i c : ℕ) (rows : List (List ℕ)) : Type 0 where
-  pub cells : All (λ (r : List ℕ). root i r ≡ c) rows
-  pub fixed : (isVar c ≡ false) ⊎ (length rows ≤ 1)
+pub record Agree (place cell : ℕ) (rows : List (List ℕ)) : Type 0 where
+  pub cells : All (λ (r : List ℕ). root place r ≡ cell) rows
+  pub fixed : (isVar cell ≡ false) ⊎ (length rows ≤ 1)
   pub some : 0 < length rows
 
 -- none of the first k open places is agreed
 abbrev pub Stuck : ℕ → List (List ℕ) → Type 0
 Stuck k rows = (i c : ℕ) → i < k → Agree i c rows → ⊥
 
--- a state's least cost: a plan that costs n, and that none costs less
-pub record Least (m : Measure) (k : ℕ) (rows : List (List ℕ)) (n : ℕ) : Type 0 where
-  pub plan : Plan k rows
-  pub costs-it : cost m plan ≡ n
-  pub none-less : (q : Plan k rows) → n ≤ cost m q
+-- a state's least cost: a plan that costs so much, and that none costs less
+pub record Least (measure : Measure) (opens : ℕ) (rows : List (List ℕ)) (count : ℕ) : Type 0 where
+  pub plan : Plan opens rows
+  pub costs-it : cost measure plan ≡ count
+  pub none-less : (q : Plan opens rows) → count ≤ cost measure q
 
 -- the place that a plan looks at first
 abbrev pub first : {k : ℕ} {rows : List (List ℕ)} → Plan k rows → ℕ
 first leaf = 0
 first (node i h bs) = i
 
--- 01, "The builder's plan is fixed": the place i that is taken at a state with k + 1 open places
-pub data Chosen (m : Measure) (k : ℕ) (rows : List (List ℕ)) (i : ℕ) : Type 0 where
+-- 01, "The builder's plan is fixed": the place that is taken at a state with one open place and so many others
+pub data Chosen (measure : Measure) (others : ℕ) (rows : List (List ℕ)) (place : ℕ) : Type 0 where
   -- "where some open place is agreed by all the state's rows, it takes the leftmost such"
-  shared : (c : ℕ) → Agree i c rows → Stuck i rows → Chosen m k rows i
+  shared : (c : ℕ) → Agree place c rows → Stuck place rows → Chosen measure others rows place
   -- "otherwise, among the open places whose best plan, counted from this state with its own branches, costs least, the leftmost":
-  -- a least plan of the state looks at i first, and each plan that first looks at a place left of i costs more
-  cheapest : {n : ℕ} → Stuck (suc k) rows → (best : Least m (suc k) rows n) → first (best .plan) ≡ i
-      → ((q : Plan (suc k) rows) → first q < i → n < cost m q) → Chosen m k rows i
+  -- a least plan of the state looks there first, and each plan that first looks at a place left of it costs more
+  cheapest : {count : ℕ} → Stuck (suc others) rows → (best : Least measure (suc others) rows count) → first (best .plan) ≡ place
+      → ((q : Plan (suc others) rows) → first q < place → count < cost measure q) → Chosen measure others rows place
 
--- the builder's plan: at each of its states the place is the one so chosen
+-- The builder's plan: at each of its states the place is the one so chosen. So it is of a plan, and of each of some branches
 unfoldable mutual
   pub Built : Measure → {k : ℕ} {rows : List (List ℕ)} → Plan k rows → Type 0
   Built m leaf = Unit {0}

@@ -1,5 +1,5 @@
--- How the builder's plan is written, state by state (01, "As cells, a plan is written state by state, parents first"). A state's rows are held as the
--- check holds them: by the masks of their open cells.
+-- How the builder's plan is written, state by state (01, "As cells, a plan is written state by state, parents first"). A state's rows
+-- are held as the check holds them: by the masks of their open cells.
 use Prim.Native.Nat.{ℕ, _+_, _-_, _*_, _≤_, _<_}
 use mathlib.Core.Path.{_≡_}
 use mathlib.Core.Bool.{Bool, true, false}
@@ -17,29 +17,32 @@ use Rattle.plan.specs.code.Fits.{Fits}
 use Rattle.least.specs.Least.{Least, Built, Builts}
 use Rattle.least.specs.Entries.{Closes, Entry}
 
--- a state of rows first to before end of a table: it is reached from these rows, nothing of them being closed, by closing what they agree on
-pub record Reached (w : ℕ) (rows : List (List ℕ)) (first end k : ℕ) (left : List (List ℕ)) : Type 0 where
-  pub closes : Closes w (slice first end rows) k left
+-- a state of rows first to before end of a table of this width: it is reached from these rows, nothing of them being closed, by closing
+-- what they agree on
+pub record Reached (width : ℕ) (rows : List (List ℕ)) (first end opens : ℕ) (left : List (List ℕ)) : Type 0 where
+  pub closes : Closes width (slice first end rows) opens left
 
 -- runs of neighbouring rows, the first of them from row j on: each of them is such a state, with k open places beside its cell's arguments
-abbrev pub AllReached : (w : ℕ) (rows : List (List ℕ)) (k j : ℕ) → List Run → Type 0
-AllReached w rows k j [] = Unit {0}
-AllReached w rows k j (g ∷ gs) = Reached w rows j (j + length (g .rows)) (arity (g .cell) + k) (g .rows) × AllReached w rows k (j + length (g .rows)) gs
+abbrev pub AllReached : (width : ℕ) (rows : List (List ℕ)) (k j : ℕ) → List Run → Type 0
+AllReached width rows k j [] = Unit {0}
+AllReached width rows k j (g ∷ gs) =
+    Reached width rows j (j + length (g .rows)) (arity (g .cell) + k) (g .rows) × AllReached width rows k (j + length (g .rows)) gs
 
 -- a table's rows, and the chosen place of each pair of them
 pub record Source (place : List ℕ) : Type 0 where
   pub width : ℕ
   pub rows : List (List ℕ)
   pub many : length rows ≤ 64
-  pub places : (first last : ℕ) → first ≤ last → last < length rows → (cost : ℕ) × Entry plain width rows first last cost (getD place (64 * first + last) 0)
+  pub places : (first last : ℕ) → first ≤ last → last < length rows
+      → (cost : ℕ) × Entry plain width rows first last cost (getD place (64 * first + last) 0)
 
--- the rows of a state, with k open places
-pub record State (place : List ℕ) (first end k : ℕ) (left : List (List ℕ)) : Type 0 where
+-- the rows of a state, with so many open places
+pub record State (place : List ℕ) (first end opens : ℕ) (left : List (List ℕ)) : Type 0 where
   pub source : Source place
   pub some : first < end
   pub inside : end ≤ length (source .rows)
-  pub fits : All (Fits 32 k) left
-  pub reached : Reached (source .width) (source .rows) first end k left
+  pub fits : All (Fits 32 opens) left
+  pub reached : Reached (source .width) (source .rows) first end opens left
 
 -- masks ms and a column hs for 64 rows, and the cells that are written
 pub record Room (ms hs out : List ℕ) : Type 0 where
@@ -47,22 +50,23 @@ pub record Room (ms hs out : List ℕ) : Type 0 where
   pub column : length hs ≡ 64
   pub cells : length out ≡ 6082
 
--- a state whose plan by the rule is to be written at a place, and the branches of the runs of rows whose place is closed
-pub record ToWrite (t ss ms hs place out : List ℕ) (first end k at : ℕ) : Type 0 where
+-- A state whose plan by the rule is to be written at a place; and the branches of the runs of rows whose place is closed. `ss` is where
+-- the table's rows start
+pub record ToWrite (table ss ms hs place out : List ℕ) (first end opens at : ℕ) : Type 0 where
   pub room : Room ms hs out
-  pub state : State place first end k (rowsIn t ss ms first end)
-  pub plan : Plan k (rowsIn t ss ms first end)
+  pub state : State place first end opens (rowsIn table ss ms first end)
+  pub plan : Plan opens (rowsIn table ss ms first end)
   pub built : Built plain plan
   pub fits : at + length (write plan) ≤ 6082
 
-pub record ToWriteAll (t ss ms hs place out : List ℕ) (first end k at : ℕ) : Type 0 where
+pub record ToWriteAll (table ss ms hs place out : List ℕ) (first end others at : ℕ) : Type 0 where
   pub room : Room ms hs out
   pub source : Source place
   pub order : first ≤ end
   pub inside : end ≤ length (source .rows)
-  pub each : All (λ (g : Run). All (Fits 32 (arity (g .cell) + k)) (g .rows)) (runsIn t ss ms hs first end)
-  pub reached : AllReached (source .width) (source .rows) k first (runsIn t ss ms hs first end)
-  pub plans : Branches k (runsIn t ss ms hs first end)
+  pub each : All (λ (g : Run). All (Fits 32 (arity (g .cell) + others)) (g .rows)) (runsIn table ss ms hs first end)
+  pub reached : AllReached (source .width) (source .rows) others first (runsIn table ss ms hs first end)
+  pub plans : Branches others (runsIn table ss ms hs first end)
   pub built : Builts plain plans
   pub fits : at + length (writes plans) ≤ 6082
 
@@ -73,18 +77,18 @@ pub record Written (ms hs out ms′ hs′ out′ cells : List ℕ) (end at next 
   pub masks : Same end ms ms′
   pub column : Same end hs hs′
 
--- What is given where a table's plan is written: its rows, what they cost with nothing closed, and the chosen place of each pair of them
-pub record Given (t ss whole place : List ℕ) (width count : ℕ) : Type 0 where
-  pub rows : TableRows t ss width count
+-- what is given where a table's plan is written: its rows, what they cost with nothing closed, and the chosen place of each pair of them
+pub record Given (cells ss whole place : List ℕ) (width count : ℕ) : Type 0 where
+  pub rows : TableRows cells ss width count
   pub cost : Least plain width (rows .table .rows) (getD whole (count - 1) 0)
   pub places : (first last : ℕ) → first ≤ last → last < count
       → (cost : ℕ) × Entry plain width (rows .table .rows) first last cost (getD place (64 * first + last) 0)
 
 -- the cells of the builder's plan for a table's rows, so many at the front, and its number of branches, which is the least
-pub record Planned (T : Table) (cells : List ℕ) (size count : ℕ) : Type 0 where
-  pub plan : Plan (T .width) (T .rows)
+pub record Planned (table : Table) (cells : List ℕ) (size count : ℕ) : Type 0 where
+  pub plan : Plan (table .width) (table .rows)
   pub built : Built plain plan
-  pub least : Least plain (T .width) (T .rows) (branches plan)
+  pub least : Least plain (table .width) (table .rows) (branches plan)
   pub cells-are : take size cells ≡ write plan
   pub size-is : size ≡ length (write plan)
   pub count-is : count ≡ branches plan

@@ -1,5 +1,5 @@
--- What the code notes while it works the entries out. For a fixed first row the rows after it are added one by one, and what is known of each place
--- of the rows so far is noted at the cell that the last of them has there.
+-- What the code notes while it works the entries out. For a fixed first row the rows after it are added one by one, and what is known of
+-- each place of the rows so far is noted at the cell that the last of them has there.
 use Prim.Native.Nat.{ℕ, suc, _+_, _*_, _≤_, _<_}
 use mathlib.Core.Path.{_≡_}
 use mathlib.Core.Bool.{cond}
@@ -31,15 +31,15 @@ abbrev pub noteOf : (ℕ → ℕ → ℕ) → ℕ → List ℕ → Note
 noteOf W j [] = note 0 0 j
 noteOf W j (c ∷ cs) = noteFrom W (note 1 0 j) j c cs
 
--- what is true of a note of the rows from the first to the last: there is a run, the last one begins at one of these rows, and after the first where
--- there are more; and the sum is small
-pub record Fair (first last : ℕ) (n : Note) : Type 0 where
-  pub some : 1 ≤ n .runs
-  pub few : n .runs + first ≤ suc last
-  pub low : first ≤ n .from
-  pub high : n .from ≤ last
-  pub later : 1 < n .runs → first < n .from
-  pub small : n .sum ≤ 2048 * n .runs
+-- what is true of a note of the rows from the first to the last: there is a run, the last one begins at one of these rows, and after
+-- the first where there are more; and the sum is small
+pub record Fair (first last : ℕ) (noted : Note) : Type 0 where
+  pub some : 1 ≤ noted .runs
+  pub few : noted .runs + first ≤ suc last
+  pub low : first ≤ noted .from
+  pub high : noted .from ≤ last
+  pub later : 1 < noted .runs → first < noted .from
+  pub small : noted .sum ≤ 2048 * noted .runs
 
 -- the notes as they are kept: three numbers for each cell of the table
 abbrev pub noteIn : List ℕ → ℕ → Note
@@ -53,34 +53,39 @@ abbrev pub inWhole : List ℕ → ℕ → ℕ → ℕ
 inWhole whole first last = getD whole (64 * first + last) 0
 
 -- the numbers of a note are small, and so is what is kept for its last run up to the row `last`
-pub record Small (whole : List ℕ) (last : ℕ) (s : Note) : Type 0 where
-  pub runs : s .runs ≤ 64
-  pub sum : s .sum ≤ 131072
-  pub from : s .from < 64
+pub record Small (whole : List ℕ) (last : ℕ) (noted : Note) : Type 0 where
+  pub runs : noted .runs ≤ 64
+  pub sum : noted .sum ≤ 131072
+  pub from : noted .from < 64
   pub row : last < 64
-  pub cost : inWhole whole (s .from) last ≤ 2048
+  pub cost : inWhole whole (noted .from) last ≤ 2048
 
--- The notes N at the cells of a row, from cell q on, are right: at each place they say what the column there says, of the older rows, in order, and
--- this one, all of them from that place on. r terms are left. Where there is one run the place is closed, and its arguments come next; where there are
--- more the whole term is passed
-pub data Noted (W : ℕ → ℕ → ℕ) (first : ℕ) (N : ℕ → Note) : ℕ → ℕ → List (List ℕ) → List ℕ → Type 0 where
-  done : {q : ℕ} {olds : List (List ℕ)} {y : List ℕ} → Noted W first N q 0 olds y
-  closed : {q r : ℕ} {olds : List (List ℕ)} {y : List ℕ} → N q ≡ noteOf W first (map (root 0) (olds ++ (y ∷ []))) → (N q) .runs ≡ 1
-      → Noted W first N (suc q) (arity (root 0 y) + r) (map (close 0) olds) (close 0 y) → Noted W first N q (suc r) olds y
-  opened : {q r : ℕ} {olds : List (List ℕ)} {y : List ℕ} → N q ≡ noteOf W first (map (root 0) (olds ++ (y ∷ []))) → 1 < (N q) .runs
-      → Noted W first N (q + length (front 1 y)) r (map (back 1) olds) (back 1 y) → Noted W first N q (suc r) olds y
+-- The notes at the cells of a row, from a cell on, are right: at each place they say what the column there says, of the older rows, in
+-- order, and this one, all of them from that place on; so many terms are left. Where there is one run the place is closed, and its
+-- arguments come next; where there are more the whole term is passed
+pub data Noted (costs : ℕ → ℕ → ℕ) (first : ℕ) (notes : ℕ → Note) : (at terms : ℕ) (olds : List (List ℕ)) (row : List ℕ) → Type 0 where
+  done : {at : ℕ} {olds : List (List ℕ)} {row : List ℕ} → Noted costs first notes at 0 olds row
+  closed : {at terms : ℕ} {olds : List (List ℕ)} {row : List ℕ} → notes at ≡ noteOf costs first (map (root 0) (olds ++ (row ∷ [])))
+      → (notes at) .runs ≡ 1 → Noted costs first notes (suc at) (arity (root 0 row) + terms) (map (close 0) olds) (close 0 row)
+      → Noted costs first notes at (suc terms) olds row
+  opened : {at terms : ℕ} {olds : List (List ℕ)} {row : List ℕ} → notes at ≡ noteOf costs first (map (root 0) (olds ++ (row ∷ [])))
+      → 1 < (notes at) .runs → Noted costs first notes (at + length (front 1 row)) terms (map (back 1) olds) (back 1 row)
+      → Noted costs first notes at (suc terms) olds row
 
--- The notes N at a row's cells as they are read, from cell q on, where i open places are passed, up to the stop, where there are k in all; E is where the
--- term at a cell ends. a cells are closed on the way, and the note of each open place is what it has to be
-pub data Shown (N : ℕ → Note) (E : ℕ → ℕ) (Is : ℕ → Note → Type 0) (stop k : ℕ) : ℕ → ℕ → ℕ → Type 0 where
-  at-end : Shown N E Is stop k stop k 0
-  at-closed : {q i a : ℕ} → q < stop → (N q) .runs ≡ 1 → Shown N E Is stop k (suc q) i a → Shown N E Is stop k q i (suc a)
-  at-open : {q i a : ℕ} → q < stop → q < E q → 1 < (N q) .runs → Is i (N q) → Shown N E Is stop k (E q) (suc i) a → Shown N E Is stop k q i a
+-- The notes at a row's cells as they are read, from a cell on, where so many open places are passed, up to the stop, where there are
+-- `opens` in all; `ends` is where the term at a cell ends. So many cells are closed on the way, and the note of each open place is what
+-- it has to be
+pub data Shown (notes : ℕ → Note) (ends : ℕ → ℕ) (Is : ℕ → Note → Type 0) (stop opens : ℕ) : (at passed agreed : ℕ) → Type 0 where
+  at-end : Shown notes ends Is stop opens stop opens 0
+  at-closed : {at passed agreed : ℕ} → at < stop → (notes at) .runs ≡ 1 → Shown notes ends Is stop opens (suc at) passed agreed
+      → Shown notes ends Is stop opens at passed (suc agreed)
+  at-open : {at passed agreed : ℕ} → at < stop → at < ends at → 1 < (notes at) .runs → Is passed (notes at)
+      → Shown notes ends Is stop opens (ends at) (suc passed) agreed → Shown notes ends Is stop opens at passed agreed
 
--- the note of open place i, where a cells are closed: what its runs cost together is F of the place, and a for each run
-pub record Priced (W : ℕ → ℕ → ℕ) (first last a : ℕ) (F : ℕ → ℕ) (i : ℕ) (s : Note) : Type 0 where
-  pub price : s .sum + W (s .from) last ≡ F i + s .runs * a
-  pub fair : Fair first last s
+-- the note of an open place, where so many cells are closed: what its runs cost together is the place's price, and `agreed` for each run
+pub record Priced (costs : ℕ → ℕ → ℕ) (first last agreed : ℕ) (prices : ℕ → ℕ) (place : ℕ) (noted : Note) : Type 0 where
+  pub price : noted .sum + costs (noted .from) last ≡ prices place + noted .runs * agreed
+  pub fair : Fair first last noted
 
 -- e is the place after the term that begins at cell j, if one does
 abbrev pub EndsAt : List ℕ → ℕ → ℕ → Type 0
@@ -91,27 +96,29 @@ pub record Ended (cells ends : List ℕ) : Type 0 where
   pub size : length ends ≡ 2050
   pub at : (j : ℕ) → EndsAt cells j (getD ends j 0)
 
--- What is given where one row more is noted, its cells from `new` up to a stop: the row before it, `last`, is noted at its cells from `old` up to `new`, after
--- the older rows, and what a run costs is kept for each that ends at that row
+-- What is given where one row more is noted, its cells from `new` up to a stop: the row before it, `last`, is noted at its cells from
+-- `old` up to `new`, after the older rows, and what a run costs is kept for each that ends at that row
 pub record NextRow (cells ends whole notes : List ℕ) (last old new stop : ℕ) : Type 0 where
-  pub W : ℕ → ℕ → ℕ
+  pub costs : ℕ → ℕ → ℕ
   pub count : ℕ
   pub first : ℕ
-  pub w : ℕ
+  pub width : ℕ
   pub olds : List (List ℕ)
-  pub noted : Noted W first (noteIn notes) old w olds (slice old new cells)
-  pub old-terms : Terms w (slice old new cells)
-  pub new-terms : Terms w (slice new stop cells)
+  pub noted : Noted costs first (noteIn notes) old width olds (slice old new cells)
+  pub old-terms : Terms width (slice old new cells)
+  pub new-terms : Terms width (slice new stop cells)
   pub order : (old ≤ new) × (new ≤ stop) × (stop ≤ length cells) × (length cells ≤ 2050)
   pub rows : (first + length olds ≡ last) × (suc last < count) × (count ≤ 64)
   pub ended : Ended cells ends
-  pub kept : (j : ℕ) → first ≤ j → j ≤ last → inWhole whole j last ≡ W j last
-  pub small : (i k : ℕ) → i ≤ k → k < count → W i k ≤ 2048
+  pub kept : (j : ℕ) → first ≤ j → j ≤ last → inWhole whole j last ≡ costs j last
+  pub small : (i k : ℕ) → i ≤ k → k < count → costs i k ≤ 2048
   pub room : length notes ≡ 6150
 
 -- with it the new row is noted
-pub record RowNoted {cells ends whole notes : List ℕ} {last old new stop : ℕ} (g : NextRow cells ends whole notes last old new stop) (after : List ℕ) : Type 0 where
-  pub noted : Noted (g .W) (g .first) (noteIn after) new (g .w) (g .olds ++ (slice old new cells ∷ [])) (slice new stop cells)
+pub record RowNoted {cells ends whole notes : List ℕ} {last old new stop : ℕ} (given : NextRow cells ends whole notes last old new stop)
+    (after : List ℕ) : Type 0 where
+  pub noted : Noted (given .costs) (given .first) (noteIn after) new (given .width) (given .olds ++ (slice old new cells ∷ []))
+      (slice new stop cells)
   pub room : length after ≡ 6150
 
 -- every cell of a row by itself is closed
@@ -121,20 +128,20 @@ pub record Alone (first at stop : ℕ) (notes : List ℕ) : Type 0 where
 
 -- what is given where the closed cells of a row are counted
 pub record Walk (ends notes : List ℕ) (at stop : ℕ) : Type 0 where
-  pub k : ℕ
-  pub a : ℕ
-  pub shown : Shown (noteIn notes) (λ (q : ℕ). getD ends q 0) (λ (i : ℕ) (s : Note). Unit {0}) stop k at 0 a
+  pub opens : ℕ
+  pub agreed : ℕ
+  pub shown : Shown (noteIn notes) (λ (q : ℕ). getD ends q 0) (λ (i : ℕ) (s : Note). Unit {0}) stop opens at 0 agreed
   pub within : stop ≤ 2050
 
--- What is given where the entry of a pair is read off the notes at the cells of its last row, from `at` up to a stop: a cells are closed, each open place
--- costs F of it, and what a run costs is kept for each that ends at that row and begins after the first
-pub record Pair (ends whole notes : List ℕ) (last at stop a : ℕ) : Type 0 where
-  pub W : ℕ → ℕ → ℕ
+-- What is given where the entry of a pair is read off the notes at the cells of its last row, from `at` up to a stop: so many cells are
+-- closed, each open place has its price, and what a run costs is kept for each that ends at that row and begins after the first
+pub record Pair (ends whole notes : List ℕ) (last at stop agreed : ℕ) : Type 0 where
+  pub costs : ℕ → ℕ → ℕ
   pub first : ℕ
-  pub F : ℕ → ℕ
-  pub k : ℕ
-  pub shown : Shown (noteIn notes) (λ (q : ℕ). getD ends q 0) (Priced W first last a F) stop k at 0 a
-  pub kept : (j : ℕ) → first < j → j ≤ last → inWhole whole j last ≡ W j last
-  pub small : (j : ℕ) → first ≤ j → j ≤ last → W j last ≤ 2048
+  pub prices : ℕ → ℕ
+  pub opens : ℕ
+  pub shown : Shown (noteIn notes) (λ (q : ℕ). getD ends q 0) (Priced costs first last agreed prices) stop opens at 0 agreed
+  pub kept : (j : ℕ) → first < j → j ≤ last → inWhole whole j last ≡ costs j last
+  pub small : (j : ℕ) → first ≤ j → j ≤ last → costs j last ≤ 2048
   pub row : last < 64
   pub within : stop ≤ 2050

@@ -1,4 +1,5 @@
--- The least cost of a state as a function, and the first place at which it is reached. That it is the least cost is `best-least` of proofs/Best.
+-- The least cost of a state as a function, and the first place at which it is reached. That it is the least cost is `best-least` of
+-- proofs/Best.
 use Prim.Native.Nat.{ℕ, zero, suc, _+_}
 use mathlib.Core.Bool.{cond}
 use mathlib.Core.List.{List, [], _∷_}

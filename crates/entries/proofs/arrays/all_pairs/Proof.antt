@@ -9,7 +9,7 @@ use Rattle.entries.proofs.arrays.all_pairs.Tie as tie
 
 abbrev Inv-loop : tie.InvT-loop
 Inv-loop cells starts whole₀ cost₀ place₀ count ends notes₀ first₀ whole cost place notes first =
-    (first ≤ count) × ((g : Rows cells starts count) → RowsDone (g .w) (g .rows) (arrays whole₀ cost₀ place₀) count first notes (arrays whole cost place))
+    (first ≤ count) × ((g : Rows cells starts count) → RowsDone (g .width) (g .rows) (arrays whole₀ cost₀ place₀) count first notes (arrays whole cost place))
 
 abbrev μ-loop : tie.MeasureT-loop
 μ-loop cells starts whole₀ cost₀ place₀ count ends notes₀ first₀ whole cost place notes first = first
@@ -19,7 +19,7 @@ term-ends-requires c κs = c .before .before .pre .0 .laid .size
 
 loop-holds : tie.Need-loop-holds Inv-loop μ-loop
 loop-holds c =
-    (omega arith, λ g. record { filled = filled-start (g .w) (g .rows) (arrays (c .before .before .before .args .whole .now) (c .before .before .before .args .cost .now) (c .before .before .before .args .place .now)) (c .before .before .before .args .count) (g .laid .number) (c .before .before .before .pre .1, c .before .before .before .pre .2); room = length-replicate {A = ℕ} 6150 0 })
+    (omega arith, λ g. record { filled = filled-start (g .width) (g .rows) (arrays (c .before .before .before .args .whole .now) (c .before .before .before .args .cost .now) (c .before .before .before .args .place .now)) (c .before .before .before .args .count) (g .laid .number) (c .before .before .before .pre .1, c .before .before .before .pre .2); room = length-replicate {A = ℕ} 6150 0 })
 
 sub-first : tie.Need-sub-first Inv-loop μ-loop
 sub-first c = omega (arith, c .loop-test .taken)

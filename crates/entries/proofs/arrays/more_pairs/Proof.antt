@@ -10,7 +10,7 @@ use Rattle.entries.proofs.arrays.more_pairs.Tie as tie
 abbrev Inv-loop : tie.InvT-loop
 Inv-loop cells ends starts whole₀ notes₀ cost₀ place₀ count first from begin end last₀ old₀ new₀ whole notes cost place last old new =
     (g : RowsAt cells ends starts notes₀ (arrays whole₀ cost₀ place₀) count first from begin end)
-    → Kept cells starts count first (g .w) (g .rows) (g .lent) last old new notes (arrays whole cost place)
+    → Kept cells starts count first (g .width) (g .rows) (g .lent) last old new notes (arrays whole cost place)
 
 abbrev μ-loop : tie.MeasureT-loop
 μ-loop cells ends starts whole₀ notes₀ cost₀ place₀ count first from begin end last₀ old₀ new₀ whole notes cost place last old new =

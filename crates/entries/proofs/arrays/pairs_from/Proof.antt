@@ -35,7 +35,7 @@ module _ (c : tie.After-keep-pair) where
       (start noted .args .first) (getD (start noted .args .starts .now) (start noted .args .first) 0) (noted .before .before .row-end .result)
   rows-at g =
       let x = row-noted noted g in
-      record { w = g .w; rows = g .rows; lent = g .lent; ready = g .ready; kept = pair-kept (g .ready) x (c .keep-pair .ensures (pair-at (g .ready) x)) }
+      record { width = g .width; rows = g .rows; lent = g .lent; ready = g .ready; kept = pair-kept (g .ready) x (c .keep-pair .ensures (pair-at (g .ready) x)) }
 
 mul-old : tie.Need-mul-old
 mul-old c = search needs
