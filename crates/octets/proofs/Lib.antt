@@ -1,0 +1,4 @@
+pub mod PutLaws
+pub mod DecimalLaws
+pub mod CellsLaws
+pub mod Fixed
