@@ -1,18 +1,14 @@
 -- How long a listing is: a line has at most 21 bytes, a header at most 27, and a plan of an accepted table at most 2,048 branches.
-use mathlib.Core.Path.{_≡_, ap}
-use mathlib.Core.Bool.{true, false}
-use mathlib.Core.Logic.{⊎-elim}
+use mathlib.Core.Path.{_≡_}
 use mathlib.Core.List.{List, [], _∷_, _++_}
-use Prim.Native.Nat.{ℕ, zero, suc, pred, _+_, _-_, _*_, _/_, _%_, _^_, _≤_, _<_}
-use native.Mathlib.Nat.{pow-suc, div-lt-iff-lt-mul}
+use Prim.Native.Nat.{ℕ, suc, pred, _+_, _-_, _*_, _^_, _≤_, _<_}
 use native.Mathlib.Omega.{arith}
-use lib.Dec.{ltb}
 use lib.ListN.{length, length-append}
-use borrow.Author.Tests.{ltb-true, ltb-false}
 use Rattle.cell.specs.Cell.{numberOf, argsOf, Values, arity}
 use Rattle.cell.proofs.CellLaws.{Reading, a-variable, a-name, a-number, no-cell, reading, values-small}
 use Rattle.term.proofs.TermsLaws.{terms-long}
-use Rattle.term.proofs.Tests.{bool-cases}
+use Rattle.octets.specs.Octets.{decimal}
+use Rattle.octets.proofs.DecimalLaws.{digits-few}
 use Rattle.table.specs.All.{All}
 use Rattle.table.specs.Table.{Table}
 use Rattle.plan.specs.Runs.{Run}
@@ -21,29 +17,8 @@ use Rattle.plan.proofs.RunsLaws.{Each, fits-some, runs-fit}
 use Rattle.plan.specs.code.Fits.{Fits}
 use Rattle.plan.proofs.PlansLaws.{cost-plain}
 use Rattle.plan.proofs.SizeLaws.{bound}
-use Rattle.listing.specs.Listing.{decimal, symbolOf, symbol, field, line, linesIn, linesOf, header, refusal, listingOf}
-use Rattle.listing.specs.code.Walk.{Within}
-use Rattle.listing.proofs.TextLaws.{decimal-small, decimal-more}
-use Rattle.listing.proofs.WalkLaws.{within, within-first}
-
--- a number below 10^k has at most k digits
-digits-step : (k n : ℕ) → (n / 10 < 10 ^ suc k → length (decimal (n / 10)) ≤ suc k) → n < 10 ^ suc (suc k) → length (decimal n) ≤ suc (suc k)
-digits-step k n f h = ⊎-elim one some (bool-cases (ltb n 10))
-  where
-    one : ltb n 10 ≡ true → length (decimal n) ≤ suc (suc k)
-    one t = omega (arith, ap length (decimal-small n (ltb-true n 10 t)))
-
-    some : ltb n 10 ≡ false → length (decimal n) ≤ suc (suc k)
-    some t =
-        let l = f (div-lt-iff-lt-mul (omega arith) .1 (rw (pow-suc 10 (suc k)) at h)) in
-        omega (arith, ap length (decimal-more n (ltb-false n 10 t)), length-append (decimal (n / 10)) ((48 + n % 10) ∷ []))
-
-pub digits-few : (k n : ℕ) → n < 10 ^ suc k → length (decimal n) ≤ suc k
-digits-few zero n h = omega (arith, ap length (decimal-small n (omega arith)))
-digits-few (suc k) n h = digits-step k n (digits-few k (n / 10)) h
-
-field-few : (k n last : ℕ) → n < 10 ^ suc k → length (field n last) ≤ suc (suc k)
-field-few k n last h = omega (arith, digits-few k n h, length-append (decimal n) (last ∷ []))
+use Rattle.listing.specs.Listing.{symbolOf, symbol, line, linesIn, linesOf, header, refusal, listingOf}
+use Rattle.listing.proofs.WalkLaws.{Within, within, within-first}
 
 -- a symbol has at most 8 bytes: `n65535/4`
 symbol-by : (c : ℕ) {v : Values} → Reading c v → v .args ≤ 4 → v .number < 2 ^ 16 → length (symbolOf v) ≤ 8

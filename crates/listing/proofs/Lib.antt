@@ -1,7 +1,7 @@
 pub mod TextLaws
 pub mod WalkLaws
 pub mod LengthLaws
-pub mod CellsLaws
 pub mod EntryLaws
+pub mod FrontLaws
 pub mod Fixed
 pub mod Examples

@@ -1,28 +1,21 @@
 -- The listing of a table (01, "On both sides", from "The listing program" on), as ASCII bytes.
-use Prim.Native.Nat.{ℕ, zero, suc, _+_, _-_, _*_, _/_, _%_, _≤_}
+use Prim.Native.Nat.{ℕ, suc, _+_, _-_, _%_, _≤_}
 use mathlib.Core.Path.{_≡_}
 use mathlib.Core.Bool.{Bool, true, false, cond, not, _||_}
 use mathlib.Core.List.{List, [], _∷_, _++_}
 use lib.Dec.{eqb, ltb}
-use lib.ListN.{length, take, drop}
+use lib.ListN.{length, drop}
 use Rattle.cell.specs.Cell.{Values, valuesAt}
-use Rattle.refusal.specs.Refusal.{Refused}
+use Rattle.refusal.specs.Refusal.{Refused, numberOf}
+use Rattle.refusal.specs.declared.Reason.the-variants.{Length}
 use Rattle.refusal.specs.Read.{read, refuse}
+use Rattle.octets.specs.Octets.{decimal, field, cellsOf}
 use Rattle.table.specs.Table.{Table, tableOf}
 use Rattle.plan.specs.Runs.{Run}
 use Rattle.plan.specs.Plans.{Plan, leaf, node, Branches, end, next, plain, cost}
 use Rattle.least.specs.Least.{Built}
 
--- A number in decimal digits, the most significant first and none to spare: one digit below 10, otherwise those of n / 10 and then the last one.
--- The first number bounds how many digits there are and never decides: n has at most n + 1
-unfoldable pub digitsOf : ℕ → ℕ → List ℕ
-digitsOf zero n = []
-digitsOf (suc k) n = cond (ltb n 10) ((48 + n) ∷ []) (digitsOf k (n / 10) ++ ((48 + n % 10) ∷ []))
-
-unfoldable pub decimal : ℕ → List ℕ
-decimal n = digitsOf (suc n) n
-
--- the bytes between them: a space, `-`, `/`, and the line feed that ends every line
+-- the bytes between numbers: a space, `-`, `/`, and the line feed that ends every line
 abbrev pub space : ℕ
 space = 32
 
@@ -46,10 +39,6 @@ symbolOf v =
 
 abbrev pub symbol : ℕ → List ℕ
 symbol c = symbolOf (valuesAt c)
-
--- a number and the byte that ends it
-abbrev pub field : (n last : ℕ) → List ℕ
-field n last = decimal n ++ (last ∷ [])
 
 -- 01, "one line per branch ..: depth from 0, open place's index, symbol, first and last row", in the form of 01's example: `0 0 n1/0 0-1`
 unfoldable pub line : (depth index cell first last : ℕ) → List ℕ
@@ -93,14 +82,6 @@ header rows width cost =
 unfoldable pub refusal : (number place : ℕ) → List ℕ
 refusal number place = refusedWord ++ (decimal number ++ (atWord ++ field place feed))
 
--- 01, "reads a table as little-endian cells": four bytes to a cell, the least significant first
-unfoldable pub cellsOf : List ℕ → List ℕ
-cellsOf [] = []
-cellsOf (a ∷ []) = []
-cellsOf (a ∷ b ∷ []) = []
-cellsOf (a ∷ b ∷ c ∷ []) = []
-cellsOf (a ∷ b ∷ c ∷ d ∷ bytes) = (a + 256 * (b + 256 * (c + 256 * d))) ∷ cellsOf bytes
-
 -- "It prints rows, width and cost, then one line per branch": the first state's branches are at depth 0, and its first row is row 0
 abbrev pub listingOf : (T : Table) → Plan (T .width) (T .rows) → List ℕ
 listingOf T tree = header (length (T .rows)) (T .width) (cost plain tree) ++ linesIn tree 0 0
@@ -115,9 +96,10 @@ pub data ListsTable (t : List ℕ) : List ℕ → Type 0 where
 abbrev pub unread : List ℕ → Bool
 unread bytes = ltb 8200 (length bytes) || not (eqb (length bytes % 4) 0)
 
--- the listing of any bytes at all: those "print `refused 1 at 0`", and all others are a table's cells. No bytes are a table of no cells
+-- the listing of any bytes at all: those "print `refused 1 at 0`", and all others, read "as little-endian cells", are a table's
+-- cells. No bytes are a table of no cells
 pub data Lists (bytes : List ℕ) : List ℕ → Type 0 where
-  no-cells : unread bytes ≡ true → Lists bytes (refusal 1 0)
+  no-cells : unread bytes ≡ true → Lists bytes (refusal (numberOf Length) 0)
   cells : {text : List ℕ} → unread bytes ≡ false → ListsTable (cellsOf bytes) text → Lists bytes text
 
 -- what is written: a text with the property comes first, "and the rest of the room is untouched"; n is how many bytes it has
@@ -127,7 +109,3 @@ pub record Written (Is : List ℕ → Type 0) (room room′ : List ℕ) (n : ℕ
   pub count : n ≡ length text
   pub fits : length text ≤ length room
   pub front : room′ ≡ text ++ drop (length text) room
-
--- n counts bytes at the front of a list, in the two forms that a part of an array asks for; the second follows from the first
-abbrev pub AtFront : ℕ → List ℕ → Type 0
-AtFront n xs = (n ≤ length xs) × (n ≡ length (take n xs))

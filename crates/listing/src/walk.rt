@@ -1,29 +1,15 @@
 // The walk over a plan that writes its lines. It looks at the plan and at the marks that the check made of it, and at no row.
-ghost use mathlib.Core.Path.{_≡_};
-ghost use Rattle.plan.specs.Plans.{write, writes};
-ghost use Rattle.listing.specs.Listing.{linesIn, linesOf};
-ghost use Rattle.listing.specs.code.Walk.{Ready, Readys, Walked};
+ghost use Rattle.listing.specs.code.Walk.{Ready, Walks};
 use crate::text::put_line;
 
-// Where the walk stands: the next cell of the plan, and the place of the next line.
+// Where the walk stands: the next cell of the plan, the number of the next branch in plan order, and the place of the next line.
 pub struct Stand {
     pub at: usize,
+    pub number: usize,
     pub to: usize,
 }
 
-fn wide(x: u32) -> usize
-    ensures { λ r. ⌜ r ≡ x ⌝ }
-{
-    x as usize
-}
-
-fn wide8(x: u8) -> usize
-    ensures { λ r. ⌜ r ≡ x ⌝ }
-{
-    x as usize
-}
-
-// The lines below a state with so many open places.
+// The lines below a state with so many open places: for each of its branches the branch's own line, then those below it.
 pub fn state(
     plan: &[u32],
     many: &[u8; 6082],
@@ -31,67 +17,43 @@ pub fn state(
     places: usize,
     depth: usize,
     first: usize,
-    at: usize,
-    to: usize,
+    from: Stand,
 ) -> Stand
-    requires { ⌜ Ready (now plan) (now many) (now out) places depth first at to ⌝ }
-    ensures { λ r. ⌜ ((w : Ready (now (plan .entry)) (now (many .entry)) (now (out .entry)) places depth first at to) → Walked (now (out .entry)) (now (out .exit)) at to (write (w .tree)) (linesIn (w .tree) depth first) r) ⌝ }
+    requires { ⌜ Ready (now plan) (now many) places depth first from ⌝ }
+    ensures { λ r. ⌜ Walks (now (plan .entry)) (now (many .entry)) (now (out .entry)) (now (out .exit)) places depth first from r ⌝ }
 {
+    let at = from.at;
+    let number = from.number;
+    let to = from.to;
     if places == 0 {
-        return Stand { at: at + 1, to };
+        return Stand {
+            at: at + 1,
+            number,
+            to,
+        };
     }
-    let index = wide(plan[at]);
-    let left = wide(plan[at + 1]);
-    branches(
-        plan,
-        many,
-        out,
-        places - 1,
-        depth,
-        index,
-        left,
-        first,
-        at + 2,
+    let index = plan[at];
+    let mut left = plan[at + 1];
+    let mut row = first;
+    let mut here = Stand {
+        at: at + 2,
+        number,
         to,
-    )
-}
-
-// The lines of the branches that are left of a state, each with those below it.
-fn branches(
-    plan: &[u32],
-    many: &[u8; 6082],
-    out: &mut [u8],
-    places: usize,
-    depth: usize,
-    index: usize,
-    left: usize,
-    first: usize,
-    at: usize,
-    to: usize,
-) -> Stand
-    requires { ⌜ Readys (now plan) (now many) (now out) places depth index left first at to ⌝ }
-    ensures { λ r. ⌜ ((w : Readys (now (plan .entry)) (now (many .entry)) (now (out .entry)) places depth index left first at to) → Walked (now (out .entry)) (now (out .exit)) at to (writes (w .trees)) (linesOf (w .trees) depth index first) r) ⌝ }
-{
-    if left == 0 {
-        return Stand { at, to };
+    };
+    while 0 < left {
+        let p = here.at;
+        let c = plan[p];
+        let after = row + many[p] as usize;
+        let on = put_line(out, here.to, depth, index, c, row, after - 1);
+        let wider = cell::arity_of(c) + places - 1;
+        let below = Stand {
+            at: p + 1,
+            number: here.number + 1,
+            to: on,
+        };
+        here = state(plan, many, out, wider, depth + 1, row, below);
+        row = after;
+        left -= 1;
     }
-    let c = plan[at];
-    let after = first + wide8(many[at]);
-    let on = put_line(out, to, depth, index, c, first, after - 1);
-    let wider = cell::arity_of(c) + places;
-    let s = state(plan, many, out, wider, depth + 1, first, at + 1, on);
-    let next = s.at;
-    let more = s.to;
-    branches(
-        plan,
-        many,
-        out,
-        places,
-        depth,
-        index,
-        left - 1,
-        after,
-        next,
-        more,
-    )
+    here
 }

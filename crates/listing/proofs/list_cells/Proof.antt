@@ -1,18 +1,21 @@
-use mathlib.Core.Path.{sym, ap, subst, _∙_}
+use mathlib.Core.Path.{sym, subst}
 use Prim.Native.Nat.{ℕ, _≤_}
 use lib.ListN.{length, take, length-replicate}
 use lib.Seq.{length-take-le}
-use Rattle.listing.specs.Listing.{refusal, ListsTable, refused, listed}
 use Rattle.refusal.specs.Refusal.{told}
+use Rattle.listing.specs.Listing.{listingOf, ListsTable, refused, listed}
 use Rattle.listing.specs.code.Walk.{Planned}
-use Rattle.listing.proofs.EntryLaws.{plan-built, plan-refused, written-as}
+use Rattle.listing.proofs.EntryLaws.{plan-built, plan-refused, planned-few, listed-as}
 use borrow.Author.Needs.{needs}
 use Rattle.listing.proofs.list_cells.Statement.{statement}
 use Rattle.listing.proofs.list_cells.Tie as tie
 
 -- what was built
-built : (c : tie.After-n) → (c .n .given .0 .0 ≤ length (c .before .before .before .build-plan .last .1 .0)) × Planned (c .before .before .before .before .before .before .before .args .table .now) (take (c .n .given .0 .0) (c .before .before .before .build-plan .last .1 .0)) (c .before .before .before .before .before .before .before .args .out .now) (c .n .given .0 .1 .0)
-built c = plan-built (c .before .before .before .build-plan .ensures) (length-replicate {A = ℕ} 6082 0) _ _ (c .n .given .1) (c .before .before .before .before .before .before .before .pre)
+built : (c : tie.After-n)
+    → (c .n .given .0 .0 ≤ length (c .before .before .before .build-plan .last .1 .0))
+    × Planned (c .before .before .before .before .before .before .before .args .table .now)
+    (take (c .n .given .0 .0) (c .before .before .before .build-plan .last .1 .0)) (c .n .given .0 .1 .0)
+built c = plan-built (c .before .before .before .build-plan .ensures) (length-replicate {A = ℕ} 6082 0) _ _ (c .n .given .1)
 
 slice-aggregate-build-plan : tie.Need-slice-aggregate-build-plan
 slice-aggregate-build-plan c = search needs
@@ -35,11 +38,8 @@ list-plan-requires c κs = built (c .before .before .before) .1
 enum-known-f : tie.Need-enum-known-f
 enum-known-f c = search needs
 
-number-of-requires : tie.Need-number-of-requires
-number-of-requires c κs = search needs
-
-list-refusal-requires : tie.Need-list-refusal-requires
-list-refusal-requires c κs = search needs
+put-refusal-requires : tie.Need-put-refusal-requires
+put-refusal-requires c κs = search needs
 
 same-length : tie.Need-same-length
 same-length c = search needs
@@ -47,18 +47,22 @@ same-length c = search needs
 returns : tie.Need-returns
 returns c =
     let w = built (c .before .before .before .before .before .before) .1 in
-    written-as (c .before .before .list-plan .ensures w) (λ text e. subst (ListsTable _) e (listed (w .table) (w .tree) (w .reads) (w .built)))
+    record {
+      text = listingOf (w .table) (w .tree);
+      right = listed (w .table) (w .tree) (w .reads) (w .built);
+      few = planned-few w;
+      puts = c .before .before .list-plan .ensures w;
+    }
 
 same-length-2 : tie.Need-same-length-2
 same-length-2 c = search needs
 
 returns-2 : tie.Need-returns-2
 returns-2 c =
-    let f = c .before .before .before .before .before .before .f .given .0 .0 in
-    let n = c .before .before .before .before .number-of in
-    let turned = plan-refused (c .before .before .before .before .before .before .before .before .before .build-plan .ensures) (length-replicate {A = ℕ} 6082 0) f (c .before .before .before .before .before .before .f .given .1) in
-    written-as (c .before .before .list-refusal .ensures)
-    (λ text e. subst (ListsTable _) (ap (λ (m : ℕ). refusal m (f .place)) (sym (n .ensures .0)) ∙ e) (refused (told f) turned))
+    let x = c .before .before .before .before .before in
+    let f = x .f .given .0 .0 in
+    let turned = plan-refused (x .before .before .before .build-plan .ensures) (length-replicate {A = ℕ} 6082 0) f (x .f .given .1) in
+    listed-as (c .before .before .put-refusal .ensures) (λ text e. subst (ListsTable _) e (refused (told f) turned))
 
 pub list-cells-spec : {M : Type 1} → statement M
 list-cells-spec =
@@ -71,8 +75,7 @@ list-cells-spec =
     slice-aggregate-list-plan
     list-plan-requires
     enum-known-f
-    number-of-requires
-    list-refusal-requires
+    put-refusal-requires
     same-length
     returns
     same-length-2

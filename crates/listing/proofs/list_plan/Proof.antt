@@ -1,4 +1,4 @@
-use Rattle.listing.proofs.EntryLaws.{listable}
+use Rattle.listing.proofs.EntryLaws.{begins}
 use borrow.Author.Needs.{needs}
 use Rattle.listing.proofs.list_plan.Statement.{statement}
 use Rattle.listing.proofs.list_plan.Tie as tie
@@ -6,8 +6,14 @@ use Rattle.listing.proofs.list_plan.Tie as tie
 check-marked-requires : tie.Need-check-marked-requires
 check-marked-requires c κs = search needs
 
-put-plan-requires : tie.Need-put-plan-requires
-put-plan-requires c κs = listable (c .before .before .before .before .before .before .before .pre) (c .before .before .before .check-marked .result) (c .before .before .before .check-marked .ensures) .whole
+put-header-requires : tie.Need-put-header-requires
+put-header-requires c κs = search needs
+
+state-requires : tie.Need-state-requires
+state-requires c κs =
+    let h = c .before .before .before .before .before in
+    let m = h .before .before in
+    begins (m .before .before .before .before .pre) (m .check-marked .result) (m .check-marked .ensures) (h .put-header .ensures) .ready
 
 same-length : tie.Need-same-length
 same-length c = search needs
@@ -15,8 +21,13 @@ same-length c = search needs
 returns : tie.Need-returns
 returns c =
     λ w.
-    let l = listable w (c .before .before .before .before .before .before .check-marked .result) (c .before .before .before .before .before .before .check-marked .ensures) in
-    l .back (c .before .before .put-plan .ensures (l .whole))
+    let s = c .before .before in
+    let h = s .before .before .before .before .before .before in
+    let m = h .before .before in
+    let b = begins w (m .check-marked .result) (m .check-marked .ensures) (h .put-header .ensures) in
+    b .back (s .state .ensures (b .ready))
 
 pub list-plan-spec : {M : Type 1} → statement M
-list-plan-spec = tie.close (tie.spec check-marked-requires put-plan-requires same-length returns)
+list-plan-spec =
+    tie.close
+    (tie.spec check-marked-requires put-header-requires state-requires same-length returns)

@@ -1,95 +1,60 @@
 -- What the listing's private functions ask and answer.
-use Prim.Native.Nat.{ℕ, _+_, _*_, _≤_, _<_}
+use Prim.Native.Nat.{ℕ, _+_, _*_, _≤_}
 use mathlib.Core.Path.{_≡_}
-use mathlib.Core.List.{List, [], _∷_, _++_}
-use lib.ListN.{length, getD, drop}
-use lib.Seq.{sets}
+use mathlib.Core.List.{List, _++_}
+use lib.ListN.{length, drop}
 use Rattle.refusal.specs.Read.{read}
+use Rattle.octets.specs.Octets.{Put}
 use Rattle.table.specs.Table.{Table, tableOf}
-use Rattle.plan.specs.Runs.{Run}
-use Rattle.plan.specs.Plans.{Plan, Branches, write, writes, plain, cost}
-use Rattle.plan.specs.Marks.{manyIn, manyOf}
+use Rattle.plan.specs.Plans.{Plan, write, branches, plain, cost}
+use Rattle.plan.specs.Marks.{manyIn}
 use Rattle.least.specs.Least.{Built}
-use Rattle.listing.specs.Listing.{linesIn, linesOf, header}
+use Rattle.listing.specs.Listing.{linesIn, listingOf}
 use Rattle.listing.specs.declared.walk.Stand.{Stand}
 
--- there is room for a text from a place on
-pub record Room (out : List ℕ) (to : ℕ) (text : List ℕ) : Type 0 where
-  pub enough : to + length text ≤ length out
-
--- the text is put there, all else is as it was, and r is the place after it
-pub record Put (old new : List ℕ) (to : ℕ) (text : List ℕ) (r : ℕ) : Type 0 where
-  pub wrote : new ≡ sets old to text
-  pub after : r ≡ to + length text
-
--- the cell whose four bytes begin at a place, the least significant first
-abbrev pub cellAt : List ℕ → ℕ → ℕ
-cellAt bytes at = getD bytes at 0 + 256 * (getD bytes (at + 1) 0 + 256 * (getD bytes (at + 2) 0 + 256 * getD bytes (at + 3) 0))
-
--- runs of which none is empty, the first beginning at row `first`, within 64 rows
-abbrev pub Within : ℕ → List Run → Type 0
-Within first [] = first ≤ 64
-Within first (g ∷ gs) = (0 < length (g .rows)) × Within (first + length (g .rows)) gs
-
--- a state stands in the plan at `at`, with its numbers of rows in `many`: `places` open places, `depth` branches above it, its rows from `first` on;
--- there is room for its lines at `to`. A branch takes a cell of the plan and opens at most 4 places, so both numbers are bounded by `at`
-pub record Ready (plan many out : List ℕ) (places depth first at to : ℕ) : Type 0 where
+-- A state stands in the plan where the walk does, with its numbers of rows in `many`: `places` open places, `depth` branches above
+-- it, its rows from `first` on. The last five bound the numbers: each branch takes a cell of the plan and opens at most 4 places
+pub record Ready (plan many : List ℕ) (places depth first : ℕ) (from : Stand) : Type 0 where
   pub k : ℕ
   pub rows : List (List ℕ)
   pub tree : Plan k rows
   pub rest : List ℕ
   pub marks : List ℕ
   pub open-places : places ≡ k
-  pub cells : drop at plan ≡ write tree ++ rest
-  pub marked : drop at many ≡ manyIn tree ++ marks
+  pub cells : drop (from .at) plan ≡ write tree ++ rest
+  pub marked : drop (from .at) many ≡ manyIn tree ++ marks
   pub few : first + length rows ≤ 64
-  pub deep : depth ≤ at
-  pub wide : places ≤ 4 * at + 8
+  pub deep : depth ≤ from .at
+  pub numbered : from .number + branches tree ≤ 2048
+  pub wide : places ≤ 4 * from .at + 8
   pub size : length plan ≤ 6082
-  pub room : Room out to (linesIn tree depth first)
 
--- some branches of a state stand there, `left` of them, at the open place `index` of places + 1
-pub record Readys (plan many out : List ℕ) (places depth index left first at to : ℕ) : Type 0 where
-  pub k : ℕ
-  pub gs : List Run
-  pub trees : Branches k gs
-  pub rest : List ℕ
-  pub marks : List ℕ
-  pub open-places : places ≡ k
-  pub count : left ≡ length gs
-  pub cells : drop at plan ≡ writes trees ++ rest
-  pub marked : drop at many ≡ manyOf trees ++ marks
-  pub within : Within first gs
-  pub deep : depth ≤ at
-  pub wide : places ≤ 4 * at + 8
-  pub size : length plan ≤ 6082
-  pub room : Room out to (linesOf trees depth index first)
+-- the state's lines are put, and the walk stands after its cells and its branches
+pub record Walked (old new : List ℕ) (depth first : ℕ) (from : Stand) {k : ℕ} {rows : List (List ℕ)} (tree : Plan k rows) (r : Stand) : Type 0 where
+  pub puts : Put old new (from .to) (linesIn tree depth first) (r .to)
+  pub past : r .at ≡ from .at + length (write tree)
+  pub counted : r .number ≡ from .number + branches tree
 
--- the lines are written, and the walk stands after the cells
-pub record Walked (old new : List ℕ) (at to : ℕ) (cells text : List ℕ) (r : Stand) : Type 0 where
-  pub puts : Put old new to text (r .to)
-  pub past : r .at ≡ at + length cells
+abbrev pub Walks : (plan many old new : List ℕ) (places depth first : ℕ) (from r : Stand) → Type 0
+Walks plan many old new places depth first from r =
+    (w : Ready plan many places depth first from) → Walked old new depth first from (w .tree) r
 
--- the plan of a table that is read, with its numbers of rows and what the header says, and room for the whole listing
-pub record Whole (plan many out : List ℕ) (rows width cost : ℕ) : Type 0 where
-  pub table : Table
-  pub tree : Plan (table .width) (table .rows)
-  pub marks : List ℕ
-  pub cells : plan ≡ write tree
-  pub marked : many ≡ manyIn tree ++ marks
-  pub rows-are : rows ≡ length (table .rows)
-  pub width-is : width ≡ table .width
-  pub few : length (table .rows) ≤ 64
-  pub narrow : table .width ≤ 8
-  pub size : length plan ≤ 6082
-  pub room : Room out 0 (header rows width cost ++ linesIn tree 0 0)
-
--- the builder's plan of a table that is read, and what it costs; room for any listing
-pub record Planned (t plan out : List ℕ) (costs : ℕ) : Type 0 where
+-- the builder's plan of a table that is read, and what it costs
+pub record Planned (t plan : List ℕ) (costs : ℕ) : Type 0 where
   pub table : Table
   pub tree : Plan (table .width) (table .rows)
   pub reads : tableOf t ≡ read table
   pub built : Built plain tree
   pub cells : plan ≡ write tree
   pub costs-it : costs ≡ cost plain tree
-  pub room : 43035 ≤ length out
+
+-- its listing is put
+abbrev pub PutsPlan : (t plan old new : List ℕ) (costs r : ℕ) → Type 0
+PutsPlan t plan old new costs r = (w : Planned t plan costs) → Put old new 0 (listingOf (w .table) (w .tree)) r
+
+-- a text with the property is put at the front, one for which 43,035 bytes are enough
+pub record Listed (Is : List ℕ → Type 0) (old new : List ℕ) (r : ℕ) : Type 0 where
+  pub text : List ℕ
+  pub right : Is text
+  pub few : length text ≤ 43035
+  pub puts : Put old new 0 text r

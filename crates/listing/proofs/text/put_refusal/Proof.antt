@@ -1,54 +1,58 @@
+use mathlib.Core.Path.{_≡_, refl}
+use native.Mathlib.Omega.{arith}
+use Rattle.refusal.specs.Refusal.{numberOf}
+use Rattle.octets.proofs.PutLaws.{put-put}
 use Rattle.listing.specs.Listing.{refusal}
-use Rattle.listing.proofs.TextLaws.{put-put, room-first, room-next}
+use Rattle.listing.proofs.LengthLaws.{refusal-few}
 use borrow.Author.Needs.{needs}
 use Rattle.listing.proofs.text.put_refusal.Statement.{statement}
 use Rattle.listing.proofs.text.put_refusal.Tie as tie
+
+number-of-requires : tie.Need-number-of-requires
+number-of-requires c κs = search needs
 
 slice-aggregate-put-word : tie.Need-slice-aggregate-put-word
 slice-aggregate-put-word c = search needs
 
 put-word-requires : tie.Need-put-word-requires
-unfolding refusal
 put-word-requires c κs = search needs
 
 put-decimal-requires : tie.Need-put-decimal-requires
-unfolding refusal
-put-decimal-requires c κs =
-    let r0 = c .before .before .before .before .before .before .before .pre in
-    let r1 = room-next (c .before .before .before .put-word .ensures) r0 in
-    room-first _ r1
+put-decimal-requires c κs = search needs
 
 slice-aggregate-put-word-2 : tie.Need-slice-aggregate-put-word-2
 slice-aggregate-put-word-2 c = search needs
 
 put-word-requires-2 : tie.Need-put-word-requires-2
-unfolding refusal
-put-word-requires-2 c κs =
-    let r0 = c .before .before .before .before .before .before .before .before .before .before .before .before .pre in
-    let r1 = room-next (c .before .before .before .before .before .before .before .before .put-word .ensures) r0 in
-    let r2 = room-next (c .before .before .before .before .put-decimal .ensures) r1 in
-    room-first _ r2
+put-word-requires-2 c κs = search needs
 
 put-field-requires : tie.Need-put-field-requires
-unfolding refusal
-put-field-requires c κs =
-    let r0 = c .before .before .before .before .before .before .before .before .before .before .before .before .before .before .before .before .pre in
-    let r1 = room-next (c .before .before .before .before .before .before .before .before .before .before .before .before .put-word .ensures) r0 in
-    let r2 = room-next (c .before .before .before .before .before .before .before .before .put-decimal .ensures) r1 in
-    let r3 = room-next (c .before .before .before .put-word2 .ensures) r2 in
-    r3
+put-field-requires c κs = search needs
 
 same-length : tie.Need-same-length
 same-length c = search needs
 
 returns : tie.Need-returns
 unfolding refusal
-returns c = put-put (c .before .before .before .before .before .before .before .before .before .before .before .before .before .before .before .put-word .ensures) (put-put (c .before .before .before .before .before .before .before .before .before .before .before .put-decimal .ensures) (put-put (c .before .before .before .before .before .before .put-word2 .ensures) (c .before .before .put-field .ensures)))
+returns c =
+    let c4 = c .before .before in
+    let c3 = c4 .before .before .before .before in
+    let c2 = c3 .before .before .before .before .before in
+    let c1 = c2 .before .before .before .before in
+    let n = c1 .before .before .before .number-of in
+    let start = c1 .before .before .before .before .before in
+    let reason = start .args .reason in
+    let place = start .args .place in
+    let number : n .result ≡ numberOf reason = n .ensures .0 in
+    let few = refusal-few (numberOf reason) place (omega (arith, n .ensures)) (omega (arith, start .fits .place)) in
+    let line = put-put (c1 .put-word .ensures) (put-put (c2 .put-decimal .ensures) (put-put (c3 .put-word2 .ensures) (c4 .put-field .ensures))) in
+    record { text = refusal (numberOf reason) place; right = refl; few = omega arith; puts = rw number at line }
 
 pub put-refusal-spec : {M : Type 1} → statement M
 put-refusal-spec =
     tie.close
     (tie.spec
+    number-of-requires
     slice-aggregate-put-word
     put-word-requires
     put-decimal-requires

@@ -1,8 +1,10 @@
-use mathlib.Core.Path.{_≡_, refl, sym}
+use mathlib.Core.Path.{_≡_}
 use mathlib.Core.List.{_∷_, _++_}
-use native.Mathlib.Nat.{add-zero}
-use Rattle.listing.specs.Listing.{decimal, symbol}
-use Rattle.listing.proofs.TextLaws.{put-put, room-first, room-next, symbol-variable, symbol-name, symbol-number, symbol-none}
+use native.Mathlib.Omega.{arith}
+use Rattle.octets.specs.Octets.{decimal}
+use Rattle.octets.proofs.PutLaws.{put-put, put-nothing}
+use Rattle.listing.specs.Listing.{symbol}
+use Rattle.listing.proofs.TextLaws.{symbol-variable, symbol-name, symbol-number, symbol-none, name-few}
 use borrow.Author.Needs.{needs}
 use Rattle.listing.proofs.text.put_symbol.Statement.{statement}
 use Rattle.listing.proofs.text.put_symbol.Tie as tie
@@ -24,22 +26,22 @@ enum-known-n : tie.Need-enum-known-n
 enum-known-n c = search needs
 
 put-tagged-requires : tie.Need-put-tagged-requires
-put-tagged-requires c κs = rw (variable (c .before .before)) at (c .before .before .before .before .before .before .pre)
+put-tagged-requires c κs = search needs
 
 enum-known-a : tie.Need-enum-known-a
 enum-known-a c = search needs
 
 put-tagged-requires-2 : tie.Need-put-tagged-requires-2
-put-tagged-requires-2 c κs = room-first _ (rw (name (c .before .before)) at (c .before .before .before .before .before .before .pre))
+put-tagged-requires-2 c κs = search needs
 
 put-tagged-requires-3 : tie.Need-put-tagged-requires-3
-put-tagged-requires-3 c κs = room-next (c .before .before .before .put-tagged2 .ensures) (rw (name (c .before .before .before .before .before .before)) at (c .before .before .before .before .before .before .before .before .before .before .pre))
+put-tagged-requires-3 c κs = search needs
 
 enum-known-n-2 : tie.Need-enum-known-n-2
 enum-known-n-2 c = search needs
 
 put-tagged-requires-4 : tie.Need-put-tagged-requires-4
-put-tagged-requires-4 c κs = rw (number (c .before .before)) at (c .before .before .before .before .before .before .pre)
+put-tagged-requires-4 c κs = search needs
 
 enum-told : tie.Need-enum-told
 enum-told c = search needs
@@ -54,16 +56,24 @@ same-length-2 : tie.Need-same-length-2
 same-length-2 c = search needs
 
 returns-2 : tie.Need-returns-2
-returns-2 c = rw (name (c .before .before .before .before .before .before .before .before .before)) (put-put (c .before .before .before .before .before .before .put-tagged2 .ensures) (c .before .before .put-tagged3 .ensures))
+returns-2 c =
+    let c3 = c .before .before in
+    let c2 = c3 .before .before .before .before in
+    rw (name (c2 .before .before .before .before)) (put-put (c2 .put-tagged2 .ensures) (c3 .put-tagged3 .ensures))
+
+returns-3 : tie.Need-returns-3
+returns-3 c =
+    let few = name-few _ _ (c .before .before .before .before .shape-of .ensures) _ _ (c .before .before .a .given .1) in
+    absurd (omega arith)
 
 same-length-3 : tie.Need-same-length-3
 same-length-3 c = search needs
 
-returns-3 : tie.Need-returns-3
-returns-3 c = rw (number (c .before .before .before .before .before)) (c .before .before .put-tagged4 .ensures)
-
 returns-4 : tie.Need-returns-4
-returns-4 c = rw (symbol-none _ _ (c .before .before .shape-of .ensures) (c .enum-told .given .1)) (record { wrote = refl; after = sym (add-zero _) })
+returns-4 c = rw (number (c .before .before .before .before .before)) (c .before .before .put-tagged4 .ensures)
+
+returns-5 : tie.Need-returns-5
+returns-5 c = rw (symbol-none _ _ (c .before .before .shape-of .ensures) (c .enum-told .given .1)) put-nothing
 
 pub put-symbol-spec : {M : Type 1} → statement M
 put-symbol-spec =
@@ -82,6 +92,7 @@ put-symbol-spec =
     returns
     same-length-2
     returns-2
-    same-length-3
     returns-3
-    returns-4)
+    same-length-3
+    returns-4
+    returns-5)

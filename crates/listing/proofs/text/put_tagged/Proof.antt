@@ -1,4 +1,4 @@
-use Rattle.listing.proofs.TextLaws.{put-put}
+use Rattle.octets.proofs.PutLaws.{put-put}
 use borrow.Author.Needs.{needs}
 use Rattle.listing.proofs.text.put_tagged.Statement.{statement}
 use Rattle.listing.proofs.text.put_tagged.Tie as tie
