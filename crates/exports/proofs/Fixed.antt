@@ -1,5 +1,5 @@
--- Two results that a promise allows are equal, for every entry. Where the promise is an equation with what the arguments give (reading a table and a goal, a row, the check, and `number_of` and `input_of` of
--- crate table) this is `given-fixed` of crate cell.
+-- Two results that a promise allows are equal, for the entries with a lent room. The other entries promise an equation with what the arguments give, and for
+-- them this is `given-fixed` of crate cell.
 use Prim.Native.Nat.{ℕ}
 use mathlib.Core.Path.{_≡_, sym, ap, _∙_}
 use mathlib.Core.List.{List}
@@ -9,7 +9,8 @@ use Rattle.builder.proofs.Fixed.{build-fixed}
 use Rattle.answer.specs.Run.{runTold}
 use Rattle.answer.specs.declared.RunAnswer.{RunAnswer}
 use Rattle.answer.proofs.Fixed.{run-fixed}
-use Rattle.exports.specs.Coded.{coded, BuildCoded, RunCoded}
+use Rattle.refusal.specs.Coded.{coded}
+use Rattle.exports.specs.Coded.{BuildCoded, RunCoded}
 
 pub build-coded-fixed : {t room room′ room″ : List ℕ} {m n : ℕ} → BuildCoded t room room′ m → BuildCoded t room room″ n → (m ≡ n) × (room′ ≡ room″)
 build-coded-fixed a b =

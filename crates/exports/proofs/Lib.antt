@@ -1,3 +1,4 @@
 pub mod Places
 pub mod Small
 pub mod Fixed
+pub mod Back

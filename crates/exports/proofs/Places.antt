@@ -1,40 +1,50 @@
--- Every refusal's place lies within what is read, hence below 2^16.
-use mathlib.Core.Path.{_≡_, refl}
-use mathlib.Core.Bool.{Bool, true, false, not, _&&_, _||_}
+-- Every refusal has a reason and an input by name, and its place lies within what is read.
+use mathlib.Core.Path.{_≡_, refl, ap}
+use mathlib.Core.Bool.{Bool, true, false, cond, not, _&&_, _||_}
 use mathlib.Core.List.{List, [], _∷_}
-use Prim.Native.Nat.{ℕ, zero, suc, _+_, _-_, _≤_}
+use Prim.Native.Nat.{ℕ, zero, suc, _+_, _-_, _^_, _≤_, _<_}
 use native.Mathlib.Omega.{arith}
 use lib.Dec.{eqb, leb, ltb}
 use lib.ListN.{length, getD, take, drop, length-drop}
 use borrow.Author.Tests.{ltb-false}
 use Rattle.cell.specs.Cell.{arity, valuesAt}
 use Rattle.refusal.specs.Refusal.{Refused, refused}
+use Rattle.refusal.specs.Refusal as answer
+use Rattle.refusal.specs.Coded.{Small}
+use Rattle.refusal.proofs.CodedLaws.{refused-small, small-by}
 use Rattle.refusal.specs.declared.Reason.{Reason}
 use Rattle.refusal.specs.declared.Reason.the-variants as reason
+use Rattle.refusal.specs.declared.Input.{Input}
 use Rattle.refusal.specs.declared.Input.the-variants as input
 use Rattle.plan.specs.Runs.{Run, runs}
-use Rattle.plan.specs.Check.{bad as plan-bad, Seen, seen, cellThen, Reader, branchesFrom, leafFrom, stateFrom, nothingAfter, planFor, planOf}
+use Rattle.plan.specs.Check.{Seen, seen, cellThen, Reader, branchesFrom, leafFrom, stateFrom, nothingAfter, planFor, planOf}
 use Rattle.answer.specs.Run.{runOf}
 use Rattle.table.proofs.Accepted.{is-table}
 use Rattle.refusal.specs.Read.{Read, read, refuse, when, andThen}
-use Rattle.table.specs.Table.{Table, Met, met, counted, bad, termsFrom, before, rowsFrom, tableOf, table, goalOf}
+use Rattle.table.specs.Table.{Table, Met, met, counted, termsFrom, before, rowsFrom, tableOf, table, goalOf}
 
--- the place of a refusal is at most n; what is read has P
+-- a refusal has its names and a place of at most n; what is read has P
 pub data Placed {A : Type 0} (n : ℕ) (P : A → Type 0) : Read A → Type 0 where
   good : {x : A} → P x → Placed n P (read x)
-  turned : {f : Refused} → f .place ≤ n → Placed n P (refuse f)
+  turned : (k : Reason) (i : Input) (p : ℕ) → p ≤ n → Placed n P (refuse (refused k i p))
 
-placed-when : {A : Type 0} {n : ℕ} {P : A → Type 0} (b : Bool) (f : Refused) {r : Read A} → f .place ≤ n → (b ≡ false → Placed n P r) → Placed n P (when b f r)
-placed-when true f l h = turned l
-placed-when false f l h = h refl
+placed-when : {A : Type 0} {n : ℕ} {P : A → Type 0} (b : Bool) (k : Reason) (i : Input) (p : ℕ) {r : Read A} → p ≤ n → (b ≡ false → Placed n P r)
+    → Placed n P (when b (refused k i p) r)
+placed-when true k i p l h = turned k i p l
+placed-when false k i p l h = h refl
 
 placed-then : {A B : Type 0} {n : ℕ} {P : A → Type 0} {Q : B → Type 0} {r : Read A} (f : A → Read B) → Placed n P r → ((x : A) → P x → Placed n Q (f x)) → Placed n Q (andThen r f)
 placed-then f (good {x} p) h = h x p
-placed-then f (turned l) h = turned l
+placed-then f (turned k i p l) h = turned k i p l
 
-pub placed-at : {A : Type 0} {n : ℕ} {P : A → Type 0} {f : Refused} {r : Read A} → Placed n P r → r ≡ refuse f → f .place ≤ n
-placed-at (good p) e = let z : _≡_ {A = ℕ} 0 1 = cc in absurd (omega arith)
-placed-at {f = f} (turned {f = g} l) e = let q : g ≡ f = cc in rw q at l
+-- so it fits its bits
+pub placed-small : {A : Type 0} {n : ℕ} {P : A → Type 0} {f : Refused} {r : Read A} → n < 2 ^ 48 → Placed n P r → r ≡ refuse f → Small (answer.turned f)
+placed-small b (good p) e = let z : _≡_ {A = ℕ} 0 1 = cc in absurd (omega arith)
+placed-small {f = f} b (turned k i p l) e = let q : f ≡ refused k i p = cc in small-by (ap answer.turned q) (refused-small k i p (omega arith))
+
+-- the input whose terms are read
+abbrev of : Bool → Input
+of row = cond row input.Table input.Goal
 
 -- what a row or a goal reads ends within it
 Within : ℕ → ℕ → Met → Type 0
@@ -43,31 +53,31 @@ Within p n m = (p ≤ m .next) × (m .next ≤ n)
 placed-terms : (row : Bool) (xs : List ℕ) (owed used vars p n : ℕ) → p + length xs ≡ n → Placed n (Within p n) (termsFrom row xs owed used vars p)
 unfolding termsFrom Within
 placed-terms row [] zero used vars p n e = good {x = met p vars} (omega arith)
-placed-terms row [] (suc owed) used vars p n e = placed-when (row && leb 32 used) (bad row reason.Long p) (omega arith) (λ _. turned {f = bad row reason.Short p} (omega arith))
+placed-terms row [] (suc owed) used vars p n e = placed-when (row && leb 32 used) reason.Long (of row) p (omega arith) (λ _. turned reason.Short (of row) p (omega arith))
 placed-terms row (c ∷ xs) zero used vars p n e = good {x = met p vars} (omega arith)
 placed-terms row (c ∷ xs) (suc owed) used vars p n e =
     let v = valuesAt c in
-    placed-when (row && leb 32 used) (bad row reason.Long p) (omega arith) (λ _.
-    placed-when (eqb (v .kind) 3) (bad row reason.Cell p) (omega arith) (λ _.
-    placed-when (eqb (v .kind) 0 && ltb vars (v .number)) (bad row reason.Fresh p) (omega arith) (λ _.
-    placed-when (row && (eqb (v .kind) 0 && ltb (v .number) vars)) (bad row reason.Twice p) (omega arith) (λ _.
+    placed-when (row && leb 32 used) reason.Long (of row) p (omega arith) (λ _.
+    placed-when (eqb (v .kind) 3) reason.Cell (of row) p (omega arith) (λ _.
+    placed-when (eqb (v .kind) 0 && ltb vars (v .number)) reason.Fresh (of row) p (omega arith) (λ _.
+    placed-when (row && (eqb (v .kind) 0 && ltb (v .number) vars)) reason.Twice (of row) p (omega arith) (λ _.
     later (placed-terms row xs (v .args + owed) (suc used) (counted v vars) (suc p) n (omega arith))))))
   where
     later : {r : Read Met} → Placed n (Within (suc p) n) r → Placed n (Within p n) r
     later (good {x} w) = good {x = x} (omega arith)
-    later (turned l) = turned l
+    later (turned k i q l) = turned k i q l
 
 abbrev pub Any : {A : Type 0} → A → Type 0
 Any x = Unit {0}
 
 placed-before : {n : ℕ} (r : List ℕ) {rs : Read (List (List ℕ))} → Placed n Any rs → Placed n Any (before r rs)
 placed-before r (good p) = good tt
-placed-before r (turned l) = turned l
+placed-before r (turned k i p l) = turned k i p l
 
 placed-rows : (w k : ℕ) (xs : List ℕ) (p n : ℕ) → p + length xs ≡ n → Placed n Any (rowsFrom w k xs p)
 unfolding rowsFrom Within
 placed-rows w zero [] p n e = good tt
-placed-rows w zero (c ∷ xs) p n e = turned {f = refused reason.Extra input.Table p} (omega arith)
+placed-rows w zero (c ∷ xs) p n e = turned reason.Extra input.Table p (omega arith)
 placed-rows w (suc k) xs p n e =
     placed-then (λ (m : Met). before (take (m .next - p) xs) (rowsFrom w k (drop (m .next - p) xs) (m .next))) (placed-terms true xs w 0 0 p n e)
     (λ m i. placed-before (take (m .next - p) xs) (placed-rows w k (drop (m .next - p) xs) (m .next) n (omega (arith, length-drop (m .next - p) xs))))
@@ -75,7 +85,7 @@ placed-rows w (suc k) xs p n e =
 -- a bound may be larger
 pub widen : {A : Type 0} {n m : ℕ} {r : Read A} → n ≤ m → Placed n Any r → Placed m Any r
 widen l (good p) = good tt
-widen l (turned {f} q) = turned {f = f} (omega arith)
+widen l (turned k i p q) = turned k i p (omega arith)
 
 -- both sides of a test with two ways to fail
 or-false : (a b : Bool) → (a || b) ≡ false → (a ≡ false) × (b ≡ false)
@@ -85,26 +95,26 @@ or-false false b e = (refl, e)
 pub placed-table : (t : List ℕ) → Placed 2050 (Any {A = Table}) (tableOf t)
 unfolding tableOf
 placed-table t =
-    placed-when (ltb (length t) 2 || ltb 2050 (length t)) (refused reason.Length input.Table 0) (omega arith) (λ h.
+    placed-when (ltb (length t) 2 || ltb 2050 (length t)) reason.Length input.Table 0 (omega arith) (λ h.
     let e = or-false (ltb (length t) 2) (ltb 2050 (length t)) h in
     let lo = ltb-false (length t) 2 (e .0) in
     let hi = ltb-false 2050 (length t) (e .1) in
-    placed-when (ltb (getD t 0 0) 1 || ltb 8 (getD t 0 0)) (refused reason.Width input.Table 0) (omega arith) (λ _.
-    placed-when (ltb (getD t 1 0) 1 || ltb 64 (getD t 1 0)) (refused reason.Count input.Table 1) (omega arith) (λ _.
+    placed-when (ltb (getD t 0 0) 1 || ltb 8 (getD t 0 0)) reason.Width input.Table 0 (omega arith) (λ _.
+    placed-when (ltb (getD t 1 0) 1 || ltb 64 (getD t 1 0)) reason.Count input.Table 1 (omega arith) (λ _.
     placed-then (λ (rows : List (List ℕ)). read (table (getD t 0 0) rows)) (widen hi (placed-rows (getD t 0 0) (getD t 1 0) (drop 2 t) 2 (length t) (omega (arith, length-drop 2 t)))) (λ x _. good tt))))
 
 pub placed-goal : (w : ℕ) (g : List ℕ) → Placed 32 (Any {A = ℕ}) (goalOf w g)
 unfolding goalOf Within
 placed-goal w g =
-    placed-when (ltb (length g) 1 || ltb 32 (length g)) (refused reason.Length input.Goal 0) (omega arith) (λ h.
+    placed-when (ltb (length g) 1 || ltb 32 (length g)) reason.Length input.Goal 0 (omega arith) (λ h.
     let hi = ltb-false 32 (length g) (or-false (ltb (length g) 1) (ltb 32 (length g)) h .1) in
     placed-then (λ (m : Met). when (ltb (m .next) (length g)) (refused reason.Extra input.Goal (m .next)) (read (m .vars)))
     (narrow hi (placed-terms false g w 0 0 0 (length g) (omega arith)))
-    (λ m i. placed-when (ltb (m .next) (length g)) (refused reason.Extra input.Goal (m .next)) i (λ _. good tt)))
+    (λ m i. placed-when (ltb (m .next) (length g)) reason.Extra input.Goal (m .next) i (λ _. good tt)))
   where
     narrow : {n : ℕ} {r : Read Met} → n ≤ 32 → Placed n (Within 0 n) r → Placed 32 (λ (m : Met). m .next ≤ 32) r
     narrow l (good {x} w) = good {x = x} (omega arith)
-    narrow l (turned {f} q) = turned {f = f} (omega arith)
+    narrow l (turned k i p q) = turned k i p (omega arith)
 
 -- a plan's cells: what is read and what is left of it make up the whole
 abbrev Left : ℕ → Seen → Type 0
@@ -113,8 +123,8 @@ Left n s = s .next + length (s .rest) ≡ n
 module _ (n : ℕ) where
   placed-cell : {A : Type 0} {P : A → Type 0} (ok : ℕ → Bool) (k : Reason) (p : ℕ) (f : ℕ → List ℕ → Read A) (xs : List ℕ) → p + length xs ≡ n
       → ((c : ℕ) (ys : List ℕ) → suc p + length ys ≡ n → Placed n P (f c ys)) → Placed n P (cellThen ok k p f xs)
-  placed-cell ok k p f [] e h = turned {f = plan-bad reason.Ends p} (omega arith)
-  placed-cell ok k p f (c ∷ xs) e h = placed-when (not (ok c)) (plan-bad k p) (omega arith) (λ _. h c xs (omega arith))
+  placed-cell ok k p f [] e h = turned reason.Ends input.Plan p (omega arith)
+  placed-cell ok k p f (c ∷ xs) e h = placed-when (not (ok c)) k input.Plan p (omega arith) (λ _. h c xs (omega arith))
 
   abbrev Reads : Reader → Type 0
   Reads below = (k : ℕ) (rows : List (List ℕ)) (p : ℕ) (xs : List ℕ) → p + length xs ≡ n → Placed n (Left n) (below k rows p xs)
@@ -133,7 +143,7 @@ module _ (n : ℕ) where
   placed-state : (m : ℕ) → Reads (stateFrom m)
   unfolding stateFrom
   placed-state zero zero rows p xs e = placed-leaf rows p xs e
-  placed-state zero (suc k) rows p xs e = turned {f = plan-bad reason.Ends p} (omega arith)
+  placed-state zero (suc k) rows p xs e = turned reason.Ends input.Plan p (omega arith)
   placed-state (suc m) zero rows p xs e = placed-leaf rows p xs e
   placed-state (suc m) (suc k) rows p xs e =
       placed-cell (λ c. leb c k) reason.Open p _ xs e (λ i ys l.
@@ -143,14 +153,14 @@ module _ (n : ℕ) where
 pub placed-plan : (T : Table) (cells : List ℕ) → Placed 6082 (Any {A = ℕ}) (planFor T cells)
 unfolding planFor
 placed-plan T cells =
-    placed-when (ltb 6082 (length cells)) (plan-bad reason.Size 0) (omega arith) (λ h.
+    placed-when (ltb 6082 (length cells)) reason.Size input.Plan 0 (omega arith) (λ h.
     let hi = ltb-false 6082 (length cells) h in
     placed-then nothingAfter (narrow hi (placed-state (length cells) 32 (T .width) (T .rows) 0 cells (omega arith)))
-    (λ s l. placed-when (ltb 0 (length (s .rest))) (plan-bad reason.Extra (s .next)) l (λ _. good tt)))
+    (λ s l. placed-when (ltb 0 (length (s .rest))) reason.Extra input.Plan (s .next) l (λ _. good tt)))
   where
     narrow : {n : ℕ} {r : Read Seen} → n ≤ 6082 → Placed n (Left n) r → Placed 6082 (λ (s : Seen). s .next ≤ 6082) r
     narrow l (good {x} w) = good {x = x} (omega arith)
-    narrow l (turned {f} q) = turned {f = f} (omega arith)
+    narrow l (turned k i p q) = turned k i p (omega arith)
 
 -- a run: the table's, the plan's and the goal's refusals, and ROOM at the number of rows
 placed-checked : (t p : List ℕ) → Placed 6082 (Any {A = ℕ}) (planOf t p)
@@ -166,11 +176,11 @@ placed-run t p g room = go (tableOf t) refl
     rest T l =
         placed-then _ (placed-checked t p) (λ n _.
         placed-then _ (widen (omega arith) (placed-goal (T .width) g)) (λ v _.
-        placed-when (ltb (length room) (length (T .rows))) (refused reason.Room input.Lent (length (T .rows))) (omega arith) (λ _. good tt)))
+        placed-when (ltb (length room) (length (T .rows))) reason.Room input.Lent (length (T .rows)) (omega arith) (λ _. good tt)))
 
     go : (r : Read Table) → tableOf t ≡ r → Placed 6082 Any (andThen r (λ (T : Table).
         andThen (planOf t p) (λ (n : ℕ).
         andThen (goalOf (T .width) g) (λ (v : ℕ).
         when (ltb (length room) (length (T .rows))) (refused reason.Room input.Lent (length (T .rows))) (read T)))))
     go (read T) e = rest T (is-table t e .count .1)
-    go (refuse f) e = let l = placed-at (placed-table t) e in turned {f = f} (omega arith)
+    go (refuse f) e = widen (omega arith) (rw e at (placed-table t))

@@ -1,4 +1,4 @@
--- Every answer fits the number it is coded as: the values below 2^16 and 2^32, a refusal's place below 2^16.
+-- Every answer of every entry fits the number that it is coded as.
 use mathlib.Core.Path.{_≡_, refl, ap, _∙_}
 use mathlib.Core.List.{List, [], _∷_, _++_, flatten}
 use Prim.Native.Nat.{ℕ, zero, suc, _+_, _-_, _≤_}
@@ -7,7 +7,10 @@ use mathlib.Core.Bool.{_||_}
 use lib.Dec.{ltb}
 use lib.ListN.{length, getD, replicate, length-append}
 use Rattle.term.proofs.Lists.{getD-zeros}
-use Rattle.refusal.specs.Refusal.{Answer}
+use Rattle.refusal.specs.Coded.{Small}
+use Rattle.refusal.specs.declared.Reason.the-variants as reason
+use Rattle.refusal.specs.declared.Input.the-variants as input
+use Rattle.refusal.proofs.CodedLaws.{refused-small}
 use Rattle.refusal.specs.Read.{Read, read, refuse, andThen}
 use Rattle.table.specs.Table.{Table, tableOf, tableSays, goalOf, goalSays, goalWith, rowIn, startsIn, starts, Row}
 use Rattle.table.specs.All.{All}
@@ -26,33 +29,28 @@ use Rattle.answer.specs.Skeleton.{hole}
 use Rattle.answer.specs.Run.{Picks, none, hit, miss, runTold, Ran, refusal, ran}
 use Rattle.answer.proofs.TakesLaws.{run-takes}
 use Rattle.answer.proofs.Theorems.{tried-most}
-use Rattle.exports.specs.Coded.{Small}
-use Rattle.exports.proofs.Places.{placed-at, placed-table, placed-plan, placed-run, placed-goal}
-
--- an answer that is equal to a small one
-pub small-by : {a b : Answer} → a ≡ b → Small b → Small a
-small-by e s = rw e s
+use Rattle.exports.proofs.Places.{placed-small, placed-table, placed-plan, placed-run, placed-goal}
 
 pub table-small : (t : List ℕ) → Small (tableSays (tableOf t))
 table-small t = go (tableOf t) refl
   where
     go : (r : Read Table) → tableOf t ≡ r → Small (tableSays r)
     go (read T) e = let i = is-table t e in (omega (arith, i .width .1), omega (arith, i .count .1))
-    go (refuse f) e = let l = placed-at (placed-table t) e in omega arith
+    go (refuse f) e = placed-small (omega arith) (placed-table t) e
 
 goal-small : (w : ℕ) (g : List ℕ) → Small (goalSays g (goalOf w g))
 goal-small w g = go (goalOf w g) refl
   where
     go : (r : Read ℕ) → goalOf w g ≡ r → Small (goalSays g r)
     go (read v) e = let i = is-goal w g e in (omega (arith, i .0 .head .short), omega (arith, i .1, head-few (i .0 .head)))
-    go (refuse f) e = let l = placed-at (placed-goal w g) e in omega arith
+    go (refuse f) e = placed-small (omega arith) (placed-goal w g) e
 
 pub goal-with-small : (t g : List ℕ) → Small (goalSays g (goalWith t g))
 goal-with-small t g = go (tableOf t) refl
   where
     go : (r : Read Table) → tableOf t ≡ r → Small (goalSays g (andThen r (λ (T : Table). goalOf (T .width) g)))
     go (read T) e = goal-small (T .width) g
-    go (refuse f) e = let l = placed-at (placed-table t) e in omega arith
+    go (refuse f) e = placed-small (omega arith) (placed-table t) e
 
 -- a row starts within the table
 starts-within : (p : ℕ) (rows : List (List ℕ)) (m r : ℕ) → getD (starts p rows ++ replicate m 0) r 0 ≤ p + length (flatten rows)
@@ -93,11 +91,11 @@ plan-small t p = go (tableOf t) refl
         let a = accepted-one T i p n .0 f in
         let b = bound (a .0) 32 (rows-fit (T .width) (T .rows) (i .each)) (i .count .0) in
         (omega (arith, i .count .1, a .2), omega arith)
-    with-table T e (refuse f) h = let l = placed-at (placed-plan T p) h in omega arith
+    with-table T e (refuse f) h = placed-small (omega arith) (placed-plan T p) h
 
     go : (r : Read Table) → tableOf t ≡ r → Small (planSays (andThen r (λ (T : Table). planFor T p)))
     go (read T) e = with-table T e (planFor T p) refl
-    go (refuse f) e = let l = placed-at (placed-table t) e in omega arith
+    go (refuse f) e = placed-small (omega arith) (placed-table t) e
 
 -- a plan of an accepted table has at most 6,082 cells and 2,048 branches
 plan-cells : (t : List ℕ) (T : Table) (plan : Plan (T .width) (T .rows)) → tableOf t ≡ read T → (length (write plan) ≤ 6082) × (branches plan ≤ 2048)
@@ -114,7 +112,7 @@ hits-few (hit p w) = let h = hits-few w in omega arith
 hits-few (miss p w) = let h = hits-few w in omega arith
 
 pub run-small : {t p g room room′ : List ℕ} {r : RunAnswer} → Ran t p g room room′ r → Small (runTold r)
-run-small {t} {p} {g} {room} (refusal f a b c) = let l = placed-at (placed-run t p g room) a in rw b (omega arith)
+run-small {t} {p} {g} {room} (refusal f a b c) = rw b (placed-small (omega arith) (placed-run t p g room) a)
 run-small {t} {p} (ran T tree found n a e w u b c) =
     let k = run-takes a .table in
     let l = plan-cells t T tree k in
@@ -122,6 +120,6 @@ run-small {t} {p} (ran T tree found n a e w u b c) =
 
 -- a plan that is built has at most 6,082 cells
 pub build-small : {t room room′ : List ℕ} {r : BuildAnswer} → BuiltInto t room room′ r → Small (buildTold r)
-build-small {t} (table-refused f a b c) = let l = placed-at (placed-table t) a in rw b (omega arith)
-build-small {t} (room-refused T plan a b l c d) = rw c (omega (arith, plan-cells t T plan a .0))
+build-small {t} (table-refused f a b c) = rw b (placed-small (omega arith) (placed-table t) a)
+build-small {t} (room-refused T plan a b l c d) = rw c (refused-small reason.Room input.Lent (length (write plan)) (omega (arith, plan-cells t T plan a .0)))
 build-small {t} (built T plan a b l h c d) = let n = plan-cells t T plan a in rw c (omega (arith, n .0), omega (arith, n .1))

@@ -1,12 +1,11 @@
-// An answer as one number: number + 2^8 · input + 2^16 · first + 2^32 · second.
+// An answer as one number: 2^16 · first + 2^32 · second, or of a refusal number + 2^8 · input + 2^16 · place (crate refusal, specs/Coded).
 ghost use mathlib.Core.Path.{_≡_};
-ghost use Prim.Native.Nat.{_<_, _^_};
 ghost use Rattle.refusal.specs.Refusal.{told, answered, turned};
+ghost use Rattle.refusal.specs.Coded.{coded, Small};
 ghost use Rattle.table.specs.Table.{tableTold, goalTold};
 ghost use Rattle.checker.specs.Checked.{planTold};
 ghost use Rattle.builder.specs.Build.{buildTold};
 ghost use Rattle.answer.specs.Run.{runTold};
-ghost use Rattle.exports.specs.Coded.{coded, Small};
 use answer::RunAnswer;
 use builder::BuildAnswer;
 use checker::PlanAnswer;
@@ -15,7 +14,7 @@ use table::GoalAnswer;
 use table::TableAnswer;
 
 pub fn code_answer(first: usize, second: usize) -> u64
-    requires { ⌜ (first < 2 ^ 16) × (second < 2 ^ 32) ⌝ }
+    requires { ⌜ Small (answered first second) ⌝ }
     ensures { λ r. ⌜ r ≡ coded (answered first second) ⌝ }
 {
     let a = first as u64;
@@ -24,7 +23,7 @@ pub fn code_answer(first: usize, second: usize) -> u64
 }
 
 fn code_refusal(f: Refusal) -> u64
-    requires { ⌜ f .place < 2 ^ 16 ⌝ }
+    requires { ⌜ Small (turned (told f)) ⌝ }
     ensures { λ r. ⌜ r ≡ coded (turned (told f)) ⌝ }
 {
     let reason = f.reason;

@@ -1,11 +1,12 @@
-// What other programs call. Each entry takes any cells at all and answers one number of 64 bits (specs/Coded): the refusal, or its two values.
+// What other programs call. Each entry takes any cells at all and answers one number of 64 bits (crate refusal, specs/Coded): the refusal, or its two values.
 ghost use mathlib.Core.Path.{_≡_};
 ghost use Rattle.table.specs.Table.{tableOf, tableSays, goalWith, goalSays, startsIn, rowIn};
 ghost use Rattle.refusal.specs.Refusal.{answered};
 ghost use lib.ListN.{length, getD};
 ghost use Rattle.plan.specs.Check.{planOf};
 ghost use Rattle.checker.specs.Checked.{planSays};
-ghost use Rattle.exports.specs.Coded.{coded, BuildCoded, RunCoded};
+ghost use Rattle.refusal.specs.Coded.{coded};
+ghost use Rattle.exports.specs.Coded.{BuildCoded, RunCoded};
 
 mod code;
 

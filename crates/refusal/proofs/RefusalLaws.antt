@@ -1,8 +1,11 @@
--- 01's numbers tell refusals apart: each refusal is found again from what it tells.
+-- 01's numbers tell refusals apart: each reason and each input is found again by its number, and the number fits eight bits. A reason or an input more is
+-- a line in its list and a line in its law.
 use mathlib.Core.Path.{_≡_, refl, sym, _∙_, ap}
+use mathlib.Core.Bool.{cond}
 use mathlib.Core.List.{List, [], _∷_}
-use Prim.Native.Nat.{_-_}
-use lib.ListN.{getD}
+use Prim.Native.Nat.{ℕ, _≤_, _<_, _^_}
+use native.Mathlib.Omega.{arith}
+use lib.Dec.{eqb}
 use Rattle.refusal.specs.declared.Reason.{Reason}
 use Rattle.refusal.specs.declared.Reason.the-variants.{Length, Width, Count, Long, Short, Cell, Fresh, Twice, Extra, Size, Ends, Open, Edges, Label, Rows, Room}
 use Rattle.refusal.specs.declared.Input.{Input}
@@ -10,7 +13,11 @@ use Rattle.refusal.specs.declared.Input.the-variants.{Table, Plan, Goal,
 use Rattle.refusal.specs.declared.Refusal.{Refusal}
 use Rattle.refusal.specs.Refusal.{numberOf, inputOf, Refused, told}
 
--- the names in the order of their numbers, the first of which is 1
+-- the first of a list that has this number
+firstWith : {A : Type 0} → (A → ℕ) → A → List A → ℕ → A
+firstWith number other [] n = other
+firstWith number other (x ∷ xs) n = cond (eqb (number x) n) x (firstWith number other xs n)
+
 reasons : List Reason
 reasons =
     Length
@@ -31,41 +38,62 @@ reasons =
     ∷ Room
     ∷ []
 
-reason-found : (r : Reason) → getD reasons (numberOf r - 1) Length ≡ r
-unfolding reasons
-reason-found Length = refl
-reason-found Width = refl
-reason-found Count = refl
-reason-found Long = refl
-reason-found Short = refl
-reason-found Cell = refl
-reason-found Fresh = refl
-reason-found Twice = refl
-reason-found Extra = refl
-reason-found Size = refl
-reason-found Ends = refl
-reason-found Open = refl
-reason-found Edges = refl
-reason-found Label = refl
-reason-found Rows = refl
-reason-found Room = refl
+reasonAt : ℕ → Reason
+reasonAt = firstWith numberOf Length reasons
+
+reason-found : (r : Reason) → (reasonAt (numberOf r) ≡ r) × (1 ≤ numberOf r) × (numberOf r < 2 ^ 8)
+unfolding reasonAt reasons firstWith
+reason-found Length = (refl, omega arith, omega arith)
+reason-found Width = (refl, omega arith, omega arith)
+reason-found Count = (refl, omega arith, omega arith)
+reason-found Long = (refl, omega arith, omega arith)
+reason-found Short = (refl, omega arith, omega arith)
+reason-found Cell = (refl, omega arith, omega arith)
+reason-found Fresh = (refl, omega arith, omega arith)
+reason-found Twice = (refl, omega arith, omega arith)
+reason-found Extra = (refl, omega arith, omega arith)
+reason-found Size = (refl, omega arith, omega arith)
+reason-found Ends = (refl, omega arith, omega arith)
+reason-found Open = (refl, omega arith, omega arith)
+reason-found Edges = (refl, omega arith, omega arith)
+reason-found Label = (refl, omega arith, omega arith)
+reason-found Rows = (refl, omega arith, omega arith)
+reason-found Room = (refl, omega arith, omega arith)
 
 inputs : List Input
 inputs = Table ∷ Plan ∷ Goal ∷ Lent ∷ []
 
-input-found : (i : Input) → getD inputs (inputOf i - 1) Table ≡ i
-unfolding inputs
-input-found Table = refl
-input-found Plan = refl
-input-found Goal = refl
-input-found Lent = refl
+inputAt : ℕ → Input
+inputAt = firstWith inputOf Table inputs
 
+input-found : (i : Input) → (inputAt (inputOf i) ≡ i) × (inputOf i < 2 ^ 8)
+unfolding inputAt inputs firstWith
+input-found Table = (refl, omega arith)
+input-found Plan = (refl, omega arith)
+input-found Goal = (refl, omega arith)
+input-found Lent = (refl, omega arith)
+
+-- so refusals that tell the same are the same
 found : Refused → Refusal
-found f = record { reason = getD reasons (f .number - 1) Length; input = getD inputs (f .input - 1) Table; place = f .place }
+found f = record { reason = reasonAt (f .number); input = inputAt (f .input); place = f .place }
 
 told-found : (f : Refusal) → found (told f) ≡ f
 unfolding found
-told-found f = rw (reason-found (f .reason), input-found (f .input))
+told-found f = rw (reason-found (f .reason) .0, input-found (f .input) .0)
 
 pub told-one : {f g : Refusal} → told f ≡ told g → f ≡ g
 told-one {f} {g} e = sym (told-found f) ∙ ap found e ∙ told-found g
+
+-- and their numbers fit eight bits
+pub number-small : (r : Reason) → (1 ≤ numberOf r) × (numberOf r < 2 ^ 8)
+number-small r = let f = reason-found r in (f .1, f .2)
+
+pub input-small : (i : Input) → inputOf i < 2 ^ 8
+input-small i = input-found i .1
+
+-- what an arm of `number_of` or `input_of` answers
+pub number-arm : {r s : Reason} {n : ℕ} → r ≡ s → n ≡ numberOf s → (n ≡ numberOf r) × (n < 2 ^ 8)
+number-arm {s = s} q e = (e ∙ ap numberOf (sym q), rw e (number-small s .1))
+
+pub input-arm : {i j : Input} {n : ℕ} → i ≡ j → n ≡ inputOf j → (n ≡ inputOf i) × (n < 2 ^ 8)
+input-arm {j = j} q e = (e ∙ ap inputOf (sym q), rw e (input-small j))

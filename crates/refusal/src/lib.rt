@@ -1,6 +1,6 @@
 // What is turned away (01, "What is turned away"): why, which input, where.
 ghost use mathlib.Core.Path.{_≡_};
-ghost use Prim.Native.Nat.{_≤_};
+ghost use Prim.Native.Nat.{_<_, _^_};
 ghost use Rattle.refusal.specs.Refusal.{numberOf, inputOf};
 
 // 01, "What is turned away": the names, in the order of their numbers.
@@ -38,9 +38,10 @@ pub struct Refusal {
     pub place: usize,
 }
 
-// 01's number of a reason. A reason added later is one line here, one above and one in specs/Refusal.
+// 01's number of a reason; it fits eight bits (specs/Coded). A reason added later is a line above, a line here, a line in specs/Refusal, and in proofs/
+// two lines of RefusalLaws and two of number_of/Proof; an input likewise.
 pub fn number_of(reason: Reason) -> usize
-    ensures { λ r. ⌜ (r ≡ numberOf reason) × (r ≤ 16) ⌝ }
+    ensures { λ r. ⌜ (r ≡ numberOf reason) × (r < 2 ^ 8) ⌝ }
 {
     match reason {
         Reason::Length => 1,
@@ -62,9 +63,9 @@ pub fn number_of(reason: Reason) -> usize
     }
 }
 
-// The number of an input.
+// The number of an input; it fits eight bits.
 pub fn input_of(input: Input) -> usize
-    ensures { λ r. ⌜ (r ≡ inputOf input) × (r ≤ 4) ⌝ }
+    ensures { λ r. ⌜ (r ≡ inputOf input) × (r < 2 ^ 8) ⌝ }
 {
     match input {
         Input::Table => 1,

@@ -1,6 +1,7 @@
 use mathlib.Core.Path.{_∙_, ap}
-use Rattle.exports.specs.Coded.{coded}
-use Rattle.exports.proofs.Small.{small-by, goal-with-small}
+use Rattle.refusal.specs.Coded.{coded}
+use Rattle.refusal.proofs.CodedLaws.{small-by}
+use Rattle.exports.proofs.Small.{goal-with-small}
 use borrow.Author.Needs.{needs}
 use Rattle.exports.proofs.dudowiej_read_goal.Statement.{statement}
 use Rattle.exports.proofs.dudowiej_read_goal.Tie as tie
