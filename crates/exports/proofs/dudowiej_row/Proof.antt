@@ -17,7 +17,7 @@ code-answer-requires c κs =
     (omega (arith, p .start, p .end, s), omega (arith, p .start, p .end, s))
 
 returns : tie.Need-returns
-returns c = search needs
+returns c = omega arith
 
 pub dudowiej-row-spec : {M : Type 1} → statement M
 dudowiej-row-spec =

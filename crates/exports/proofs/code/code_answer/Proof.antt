@@ -1,3 +1,4 @@
+use native.Mathlib.Omega.{arith}
 use borrow.Author.Needs.{needs}
 use Rattle.exports.proofs.code.code_answer.Statement.{statement}
 use Rattle.exports.proofs.code.code_answer.Tie as tie
@@ -12,7 +13,7 @@ add-result : tie.Need-add-result
 add-result c = search needs
 
 returns : tie.Need-returns
-returns c = search needs
+returns c = omega arith
 
 pub code-answer-spec : {M : Type 1} → statement M
 code-answer-spec = tie.close (tie.spec mul-result mul-result-2 add-result returns)

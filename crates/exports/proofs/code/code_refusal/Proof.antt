@@ -1,3 +1,4 @@
+use native.Mathlib.Omega.{arith}
 use borrow.Author.Needs.{needs}
 use Rattle.exports.proofs.code.code_refusal.Statement.{statement}
 use Rattle.exports.proofs.code.code_refusal.Tie as tie
@@ -21,7 +22,7 @@ add-result-2 : tie.Need-add-result-2
 add-result-2 c = search needs
 
 returns : tie.Need-returns
-returns c = search needs
+returns c = omega arith
 
 pub code-refusal-spec : {M : Type 1} → statement M
 code-refusal-spec =
