@@ -2,9 +2,9 @@
  *
  * Link target/staticlib/libexports.a, which `rt staticlib exports` writes (x86-64).
  *
- * Every function takes any cells at all, and ends; nobody has to check first. It answers one number, which the inline functions below take apart.
- * Either it answered, and there are two values, or the input is refused: then there is the refusal's number, the input that it concerns and a place
- * in it, and nothing was written to the lent room.
+ * Every function takes any cells at all, and ends; nobody has to check first. It answers one number, which the inline functions below take
+ * apart. Either it answered, and there are two values, or the input is refused: then there is the refusal's number, the input that it
+ * concerns and a place in it, and nothing was written to the lent room.
  *
  * A list is passed as a pointer and a length. The pointer is aligned for its type and not null, even where the length is 0. A lent room shares no
  * memory with the inputs. The functions keep nothing between calls, and allocate nothing. */
@@ -58,23 +58,25 @@ uint64_t dudowiej_read_table(const uint32_t *table, size_t table_cells);
 /* Reads a goal for a table; the table's refusal comes first. First: the goal's cells. Second: its variables. */
 uint64_t dudowiej_read_goal(const uint32_t *table, size_t table_cells, const uint32_t *goal, size_t goal_cells);
 
-/* The row of this number, from 0. First: where its cells start in the table. Second: how many they are. Both are 0 where the table is refused or
- * has no such row; this function never refuses. */
+/* The row of this number, from 0. First: where its cells start in the table. Second: how many they are. Both are 0 where the table is
+ * refused or has no such row; this function never refuses. */
 uint64_t dudowiej_row(const uint32_t *table, size_t table_cells, size_t row);
 
 /* Checks any plan for a table. First: the plan's branches. Second: 0. */
 uint64_t dudowiej_check_plan(const uint32_t *table, size_t table_cells, const uint32_t *plan, size_t plan_cells);
 
-/* Writes the least plan to the front of the room; the rest of it is untouched. First: the cells written. Second: the plan's branches. A room of
- * DUDOWIEJ_PLAN_CELLS cells is always large enough. */
+/* Writes the least plan to the front of the room; the rest of it is untouched. First: the cells written. Second: the plan's branches. A
+ * room of DUDOWIEJ_PLAN_CELLS cells is always large enough. */
 uint64_t dudowiej_build_plan(const uint32_t *table, size_t table_cells, uint32_t *room, size_t room_cells);
 
-/* Runs a plan on a goal and writes the numbers of the rows that unify with it, from the top, to the front of the room; the rest of it is untouched.
- * The room has a byte for every row of the table. First: the rows written. Second: the branches tried. */
+/* Runs a plan on a goal and writes the numbers of the rows that unify with it, from the top, to the front of the room; the rest of it is
+ * untouched. The room has a byte for every row of the table. First: the rows written. Second: the branches tried. */
 uint64_t dudowiej_run_plan(const uint32_t *table, size_t table_cells, const uint32_t *plan, size_t plan_cells, const uint32_t *goal,
                            size_t goal_cells, uint8_t *room, size_t room_bytes);
 
-/* An answer taken apart: number + 2^8 * input + 2^16 * first + 2^32 * second. */
+/* An answer taken apart. Bits 0 to 7 are 0 exactly where it is no refusal:
+ *   answered:  2^16 * first + 2^32 * second           first < 2^16, second < 2^32
+ *   refused:   number + 2^8 * input + 2^16 * place    1 <= number < 2^8, input < 2^8, place < 2^48 */
 
 /* The refusal's number (enum dudowiej_refusal), or 0 where there is none. */
 static inline unsigned dudowiej_number(uint64_t answer) { return (unsigned)(answer & 0xff); }
@@ -85,7 +87,7 @@ static inline bool dudowiej_refused(uint64_t answer) { return dudowiej_number(an
 static inline unsigned dudowiej_input(uint64_t answer) { return (unsigned)(answer >> 8 & 0xff); }
 
 /* A refusal's place. */
-static inline uint32_t dudowiej_place(uint64_t answer) { return (uint32_t)(answer >> 16 & 0xffff); }
+static inline uint64_t dudowiej_place(uint64_t answer) { return answer >> 16; }
 
 /* The two values of an answer that is no refusal. */
 static inline uint32_t dudowiej_first(uint64_t answer) { return (uint32_t)(answer >> 16 & 0xffff); }

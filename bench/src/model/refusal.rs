@@ -44,7 +44,7 @@ pub struct Refusal {
 /// An entry's two values, or its refusal.
 pub type Answer = Result<(usize, usize), Refusal>;
 
-/// The answer as the exported functions give it: number + 2^8 · input + 2^16 · first + 2^32 · second.
+/// The answer as the exported functions give it: 2^16 · first + 2^32 · second, or of a refusal number + 2^8 · input + 2^16 · place.
 pub fn packed(answer: Answer) -> u64 {
     match answer {
         Ok((first, second)) => (first as u64) << 16 | (second as u64) << 32,
