@@ -3,16 +3,14 @@ use Prim.Native.Nat.{ℕ}
 use mathlib.Core.Path.{_≡_}
 use mathlib.Core.List.{List}
 use native.Mathlib.Omega.{arith}
-use lib.ListN.{length, getD}
-use Rattle.refusal.specs.Refusal.{answered}
 use Rattle.refusal.specs.Coded.{coded, decoded}
 use Rattle.refusal.proofs.CodedLaws.{read-back}
-use Rattle.table.specs.Table.{tableOf, tableSays, goalWith, goalSays, startsIn, rowIn}
+use Rattle.table.specs.Table.{tableOf, tableSays, goalWith, goalSays}
 use Rattle.plan.specs.Check.{planOf}
 use Rattle.checker.specs.Checked.{planSays}
 use Rattle.builder.specs.Build.{buildTold}
 use Rattle.answer.specs.Run.{runTold}
-use Rattle.exports.specs.Coded.{BuildCoded, RunCoded}
+use Rattle.exports.specs.Coded.{rowSays, BuildCoded, RunCoded}
 use Rattle.exports.proofs.Small.{table-small, goal-with-small, row-small, plan-small, build-small, run-small}
 
 pub table-back : (t : List ℕ) {n : ℕ} → n ≡ coded (tableSays (tableOf t)) → decoded n ≡ tableSays (tableOf t)
@@ -21,8 +19,7 @@ table-back t = read-back (table-small t)
 pub goal-back : (t g : List ℕ) {n : ℕ} → n ≡ coded (goalSays g (goalWith t g)) → decoded n ≡ goalSays g (goalWith t g)
 goal-back t g = read-back (goal-with-small t g)
 
-pub row-back : (t : List ℕ) (r : ℕ) {n : ℕ} → n ≡ coded (answered (getD (startsIn (tableOf t)) r 0) (length (rowIn (tableOf t) r)))
-    → decoded n ≡ answered (getD (startsIn (tableOf t)) r 0) (length (rowIn (tableOf t) r))
+pub row-back : (t : List ℕ) (r : ℕ) {n : ℕ} → n ≡ coded (rowSays (tableOf t) r) → decoded n ≡ rowSays (tableOf t) r
 row-back t r = let s = row-small t r in read-back (omega arith, omega arith)
 
 pub plan-back : (t p : List ℕ) {n : ℕ} → n ≡ coded (planSays (planOf t p)) → decoded n ≡ planSays (planOf t p)

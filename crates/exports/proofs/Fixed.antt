@@ -1,5 +1,5 @@
--- Two results that a promise allows are equal, for the entries with a lent room. The other entries promise an equation with what the arguments give, and for
--- them this is `given-fixed` of crate cell.
+-- Two results that a promise allows are equal, for the entries with a lent room. The other entries promise an equation with what the
+-- arguments give, and for them this is `given-fixed` of crate cell.
 use Prim.Native.Nat.{ℕ}
 use mathlib.Core.Path.{_≡_, sym, ap, _∙_}
 use mathlib.Core.List.{List}
@@ -12,12 +12,14 @@ use Rattle.answer.proofs.Fixed.{run-fixed}
 use Rattle.refusal.specs.Coded.{coded}
 use Rattle.exports.specs.Coded.{BuildCoded, RunCoded}
 
-pub build-coded-fixed : {t room room′ room″ : List ℕ} {m n : ℕ} → BuildCoded t room room′ m → BuildCoded t room room″ n → (m ≡ n) × (room′ ≡ room″)
+pub build-coded-fixed : {t room room′ room″ : List ℕ} {m n : ℕ} → BuildCoded t room room′ m → BuildCoded t room room″ n
+    → (m ≡ n) × (room′ ≡ room″)
 build-coded-fixed a b =
     let f = build-fixed (a .built) (b .built) in
     (a .code ∙ ap (λ (x : BuildAnswer). coded (buildTold x)) (f .0) ∙ sym (b .code), f .1)
 
-pub run-coded-fixed : {t p g room room′ room″ : List ℕ} {m n : ℕ} → RunCoded t p g room room′ m → RunCoded t p g room room″ n → (m ≡ n) × (room′ ≡ room″)
+pub run-coded-fixed : {t p g room room′ room″ : List ℕ} {m n : ℕ} → RunCoded t p g room room′ m → RunCoded t p g room room″ n
+    → (m ≡ n) × (room′ ≡ room″)
 run-coded-fixed a b =
     let f = run-fixed (a .ran) (b .ran) in
     (a .code ∙ ap (λ (x : RunAnswer). coded (runTold x)) (f .0) ∙ sym (b .code), f .1)

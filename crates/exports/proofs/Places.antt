@@ -28,19 +28,24 @@ pub data Placed {A : Type 0} (n : ℕ) (P : A → Type 0) : Read A → Type 0 wh
   good : {x : A} → P x → Placed n P (read x)
   turned : (k : Reason) (i : Input) (p : ℕ) → p ≤ n → Placed n P (refuse (refused k i p))
 
-placed-when : {A : Type 0} {n : ℕ} {P : A → Type 0} (b : Bool) (k : Reason) (i : Input) (p : ℕ) {r : Read A} → p ≤ n → (b ≡ false → Placed n P r)
+placed-when : {A : Type 0} {n : ℕ} {P : A → Type 0} (b : Bool) (k : Reason) (i : Input) (p : ℕ) {r : Read A} → p ≤ n
+    → (b ≡ false → Placed n P r)
     → Placed n P (when b (refused k i p) r)
 placed-when true k i p l h = turned k i p l
 placed-when false k i p l h = h refl
 
-placed-then : {A B : Type 0} {n : ℕ} {P : A → Type 0} {Q : B → Type 0} {r : Read A} (f : A → Read B) → Placed n P r → ((x : A) → P x → Placed n Q (f x)) → Placed n Q (andThen r f)
+placed-then : {A B : Type 0} {n : ℕ} {P : A → Type 0} {Q : B → Type 0} {r : Read A} (f : A → Read B) → Placed n P r
+    → ((x : A) → P x → Placed n Q (f x)) → Placed n Q (andThen r f)
 placed-then f (good {x} p) h = h x p
 placed-then f (turned k i p l) h = turned k i p l
 
 -- so it fits its bits
-pub placed-small : {A : Type 0} {n : ℕ} {P : A → Type 0} {f : Refused} {r : Read A} → n < 2 ^ 48 → Placed n P r → r ≡ refuse f → Small (answer.turned f)
+pub placed-small : {A : Type 0} {n : ℕ} {P : A → Type 0} {f : Refused} {r : Read A} → n < 2 ^ 48 → Placed n P r → r ≡ refuse f
+    → Small (answer.turned f)
 placed-small b (good p) e = let z : _≡_ {A = ℕ} 0 1 = cc in absurd (omega arith)
-placed-small {f = f} b (turned k i p l) e = let q : f ≡ refused k i p = cc in small-by (ap answer.turned q) (refused-small k i p (omega arith))
+placed-small {f = f} b (turned k i p l) e =
+    let q : f ≡ refused k i p = cc in
+    small-by (ap answer.turned q) (refused-small k i p (omega arith))
 
 -- the input whose terms are read
 abbrev of : Bool → Input
@@ -50,10 +55,12 @@ of row = cond row input.Table input.Goal
 Within : ℕ → ℕ → Met → Type 0
 Within p n m = (p ≤ m .next) × (m .next ≤ n)
 
-placed-terms : (row : Bool) (xs : List ℕ) (owed used vars p n : ℕ) → p + length xs ≡ n → Placed n (Within p n) (termsFrom row xs owed used vars p)
+placed-terms : (row : Bool) (xs : List ℕ) (owed used vars p n : ℕ) → p + length xs ≡ n
+    → Placed n (Within p n) (termsFrom row xs owed used vars p)
 unfolding termsFrom Within
 placed-terms row [] zero used vars p n e = good {x = met p vars} (omega arith)
-placed-terms row [] (suc owed) used vars p n e = placed-when (row && leb 32 used) reason.Long (of row) p (omega arith) (λ _. turned reason.Short (of row) p (omega arith))
+placed-terms row [] (suc owed) used vars p n e =
+    placed-when (row && leb 32 used) reason.Long (of row) p (omega arith) (λ _. turned reason.Short (of row) p (omega arith))
 placed-terms row (c ∷ xs) zero used vars p n e = good {x = met p vars} (omega arith)
 placed-terms row (c ∷ xs) (suc owed) used vars p n e =
     let v = valuesAt c in
@@ -79,8 +86,10 @@ unfolding rowsFrom Within
 placed-rows w zero [] p n e = good tt
 placed-rows w zero (c ∷ xs) p n e = turned reason.Extra input.Table p (omega arith)
 placed-rows w (suc k) xs p n e =
-    placed-then (λ (m : Met). before (take (m .next - p) xs) (rowsFrom w k (drop (m .next - p) xs) (m .next))) (placed-terms true xs w 0 0 p n e)
-    (λ m i. placed-before (take (m .next - p) xs) (placed-rows w k (drop (m .next - p) xs) (m .next) n (omega (arith, length-drop (m .next - p) xs))))
+    placed-then (λ (m : Met). before (take (m .next - p) xs) (rowsFrom w k (drop (m .next - p) xs) (m .next)))
+    (placed-terms true xs w 0 0 p n e)
+    (λ m i. placed-before (take (m .next - p) xs)
+    (placed-rows w k (drop (m .next - p) xs) (m .next) n (omega (arith, length-drop (m .next - p) xs))))
 
 -- a bound may be larger
 pub widen : {A : Type 0} {n m : ℕ} {r : Read A} → n ≤ m → Placed n Any r → Placed m Any r
@@ -101,7 +110,8 @@ placed-table t =
     let hi = ltb-false 2050 (length t) (e .1) in
     placed-when (ltb (getD t 0 0) 1 || ltb 8 (getD t 0 0)) reason.Width input.Table 0 (omega arith) (λ _.
     placed-when (ltb (getD t 1 0) 1 || ltb 64 (getD t 1 0)) reason.Count input.Table 1 (omega arith) (λ _.
-    placed-then (λ (rows : List (List ℕ)). read (table (getD t 0 0) rows)) (widen hi (placed-rows (getD t 0 0) (getD t 1 0) (drop 2 t) 2 (length t) (omega (arith, length-drop 2 t)))) (λ x _. good tt))))
+    let rows = placed-rows (getD t 0 0) (getD t 1 0) (drop 2 t) 2 (length t) (omega (arith, length-drop 2 t)) in
+    placed-then (λ (rs : List (List ℕ)). read (table (getD t 0 0) rs)) (widen hi rows) (λ x _. good tt))))
 
 pub placed-goal : (w : ℕ) (g : List ℕ) → Placed 32 (Any {A = ℕ}) (goalOf w g)
 unfolding goalOf Within
@@ -121,7 +131,8 @@ abbrev Left : ℕ → Seen → Type 0
 Left n s = s .next + length (s .rest) ≡ n
 
 module _ (n : ℕ) where
-  placed-cell : {A : Type 0} {P : A → Type 0} (ok : ℕ → Bool) (k : Reason) (p : ℕ) (f : ℕ → List ℕ → Read A) (xs : List ℕ) → p + length xs ≡ n
+  placed-cell : {A : Type 0} {P : A → Type 0} (ok : ℕ → Bool) (k : Reason) (p : ℕ) (f : ℕ → List ℕ → Read A) (xs : List ℕ)
+      → p + length xs ≡ n
       → ((c : ℕ) (ys : List ℕ) → suc p + length ys ≡ n → Placed n P (f c ys)) → Placed n P (cellThen ok k p f xs)
   placed-cell ok k p f [] e h = turned reason.Ends input.Plan p (omega arith)
   placed-cell ok k p f (c ∷ xs) e h = placed-when (not (ok c)) k input.Plan p (omega arith) (λ _. h c xs (omega arith))
@@ -129,7 +140,8 @@ module _ (n : ℕ) where
   abbrev Reads : Reader → Type 0
   Reads below = (k : ℕ) (rows : List (List ℕ)) (p : ℕ) (xs : List ℕ) → p + length xs ≡ n → Placed n (Left n) (below k rows p xs)
 
-  placed-branches : (below : Reader) → Reads below → (k : ℕ) (gs : List Run) (p : ℕ) (xs : List ℕ) → p + length xs ≡ n → Placed n (Left n) (branchesFrom below k gs p xs)
+  placed-branches : (below : Reader) → Reads below → (k : ℕ) (gs : List Run) (p : ℕ) (xs : List ℕ) → p + length xs ≡ n
+      → Placed n (Left n) (branchesFrom below k gs p xs)
   placed-branches below r k [] p xs e = good {x = seen 0 p xs} e
   placed-branches below r k (g ∷ gs) p xs e =
       placed-cell (λ c. eqb c (g .cell)) reason.Label p _ xs e (λ c ys l.

@@ -98,7 +98,8 @@ plan-small t p = go (tableOf t) refl
     go (refuse f) e = placed-small (omega arith) (placed-table t) e
 
 -- a plan of an accepted table has at most 6,082 cells and 2,048 branches
-plan-cells : (t : List ℕ) (T : Table) (plan : Plan (T .width) (T .rows)) → tableOf t ≡ read T → (length (write plan) ≤ 6082) × (branches plan ≤ 2048)
+plan-cells : (t : List ℕ) (T : Table) (plan : Plan (T .width) (T .rows)) → tableOf t ≡ read T
+    → (length (write plan) ≤ 6082) × (branches plan ≤ 2048)
 plan-cells t T plan e =
     let i = is-table t e in
     let f = rows-fit (T .width) (T .rows) (i .each) in
@@ -121,5 +122,6 @@ run-small {t} {p} (ran T tree found n a e w u b c) =
 -- a plan that is built has at most 6,082 cells
 pub build-small : {t room room′ : List ℕ} {r : BuildAnswer} → BuiltInto t room room′ r → Small (buildTold r)
 build-small {t} (table-refused f a b c) = rw b (placed-small (omega arith) (placed-table t) a)
-build-small {t} (room-refused T plan a b l c d) = rw c (refused-small reason.Room input.Lent (length (write plan)) (omega (arith, plan-cells t T plan a .0)))
+build-small {t} (room-refused T plan a b l c d) =
+    rw c (refused-small reason.Room input.Lent (length (write plan)) (omega (arith, plan-cells t T plan a .0)))
 build-small {t} (built T plan a b l h c d) = let n = plan-cells t T plan a in rw c (omega (arith, n .0), omega (arith, n .1))

@@ -1,21 +1,29 @@
--- What the entries with a lent room answer, as one number (crate refusal, specs/Coded), and leave in the room.
+-- What the entries answer as one number (crate refusal, specs/Coded), where the crates that they call do not say it.
 use Prim.Native.Nat.{ℕ}
 use mathlib.Core.Path.{_≡_}
 use mathlib.Core.List.{List}
+use lib.ListN.{length, getD}
+use Rattle.refusal.specs.Refusal.{Answer, answered}
+use Rattle.refusal.specs.Read.{Read}
 use Rattle.refusal.specs.Coded.{coded}
+use Rattle.table.specs.Table.{Table, startsIn, rowIn}
 use Rattle.builder.specs.declared.BuildAnswer.{BuildAnswer}
 use Rattle.builder.specs.Build.{BuiltInto, buildTold}
 use Rattle.answer.specs.declared.RunAnswer.{RunAnswer}
 use Rattle.answer.specs.Run.{Ran, runTold}
 
+-- where a row's cells start in the table, and how many they are; both 0 where there is no such row
+abbrev pub rowSays : Read Table → ℕ → Answer
+rowSays t r = answered (getD (startsIn t) r 0) (length (rowIn t r))
+
 -- what the entry of a run answers and leaves in the room
-pub record RunCoded (t p g room room′ : List ℕ) (n : ℕ) : Type 0 where
+pub record RunCoded (cells plan goal room after : List ℕ) (number : ℕ) : Type 0 where
   pub answer : RunAnswer
-  pub ran : Ran t p g room room′ answer
-  pub code : n ≡ coded (runTold answer)
+  pub ran : Ran cells plan goal room after answer
+  pub code : number ≡ coded (runTold answer)
 
 -- what the entry of the builder answers and leaves in the room
-pub record BuildCoded (t room room′ : List ℕ) (n : ℕ) : Type 0 where
+pub record BuildCoded (cells room after : List ℕ) (number : ℕ) : Type 0 where
   pub answer : BuildAnswer
-  pub built : BuiltInto t room room′ answer
-  pub code : n ≡ coded (buildTold answer)
+  pub built : BuiltInto cells room after answer
+  pub code : number ≡ coded (buildTold answer)

@@ -1,12 +1,11 @@
-// What other programs call. Each entry takes any cells at all and answers one number of 64 bits (crate refusal, specs/Coded): the refusal, or its two values.
+// What other programs call. Each entry takes any cells at all and answers one number of 64 bits: the refusal, or its two values (crate
+// refusal, specs/Coded).
 ghost use mathlib.Core.Path.{_≡_};
-ghost use Rattle.table.specs.Table.{tableOf, tableSays, goalWith, goalSays, startsIn, rowIn};
-ghost use Rattle.refusal.specs.Refusal.{answered};
-ghost use lib.ListN.{length, getD};
+ghost use Rattle.table.specs.Table.{tableOf, tableSays, goalWith, goalSays};
 ghost use Rattle.plan.specs.Check.{planOf};
 ghost use Rattle.checker.specs.Checked.{planSays};
 ghost use Rattle.refusal.specs.Coded.{coded};
-ghost use Rattle.exports.specs.Coded.{BuildCoded, RunCoded};
+ghost use Rattle.exports.specs.Coded.{rowSays, BuildCoded, RunCoded};
 
 mod code;
 
@@ -31,7 +30,7 @@ pub extern "C" fn dudowiej_read_goal(cells: &[u32], goal: &[u32]) -> u64
 // Where the r-th row's cells start in the table, and how many they are; both 0 where there is no such row.
 #[no_mangle]
 pub extern "C" fn dudowiej_row(cells: &[u32], r: usize) -> u64
-    ensures { λ n. ⌜ n ≡ coded (answered (getD (startsIn (tableOf (now (cells .entry)))) r 0) (length (rowIn (tableOf (now (cells .entry))) r))) ⌝ }
+    ensures { λ n. ⌜ n ≡ coded (rowSays (tableOf (now (cells .entry))) r) ⌝ }
 {
     let part = table::row_place(cells, r);
     let start = part.start;

@@ -1,5 +1,5 @@
--- 01's numbers tell refusals apart: each reason and each input is found again by its number, and the number fits eight bits. A reason or an input more is
--- a line in its list and a line in its law.
+-- 01's numbers tell refusals apart: each reason and each input is found again by its number, and the number fits eight bits. A reason or
+-- an input more is a line in its list and a line in its law.
 use mathlib.Core.Path.{_≡_, refl, sym, _∙_, ap}
 use mathlib.Core.Bool.{cond}
 use mathlib.Core.List.{List, [], _∷_}
@@ -7,7 +7,8 @@ use Prim.Native.Nat.{ℕ, _≤_, _<_, _^_}
 use native.Mathlib.Omega.{arith}
 use lib.Dec.{eqb}
 use Rattle.refusal.specs.declared.Reason.{Reason}
-use Rattle.refusal.specs.declared.Reason.the-variants.{Length, Width, Count, Long, Short, Cell, Fresh, Twice, Extra, Size, Ends, Open, Edges, Label, Rows, Room}
+use Rattle.refusal.specs.declared.Reason.the-variants.{Length, Width, Count, Long, Short, Cell, Fresh, Twice}
+use Rattle.refusal.specs.declared.Reason.the-variants.{Extra, Size, Ends, Open, Edges, Label, Rows, Room}
 use Rattle.refusal.specs.declared.Input.{Input}
 use Rattle.refusal.specs.declared.Input.the-variants.{Table, Plan, Goal, Lent}
 use Rattle.refusal.specs.declared.Refusal.{Refusal}

@@ -16,7 +16,8 @@ abbrev pub Small : Answer → Type 0
 Small (answered first second) = (first < 2 ^ 16) × (second < 2 ^ 32)
 Small (turned f) = (1 ≤ f .number) × (f .number < 2 ^ 8) × (f .input < 2 ^ 8) × (f .place < 2 ^ 48)
 
--- the header's own masks and shifts
+-- The header's own masks and shifts: `& 0xff` is `% 2 ^ 8`, and `>> 8` is `/ 2 ^ 8`.
+
 -- dudowiej_number: `answer & 0xff`
 abbrev pub numberIn : ℕ → ℕ
 numberIn n = n % 2 ^ 8
@@ -39,6 +40,6 @@ secondIn n = n / 2 ^ 32
 
 -- no refusal has the number 0
 abbrev pub decoded : ℕ → Answer
-decoded n =
-    cond (eqb (numberIn n) 0) (answered (firstIn n) (secondIn n))
-    (turned (record { number = numberIn n; input = inputIn n; place = placeIn n }))
+decoded code =
+    cond (eqb (numberIn code) 0) (answered (firstIn code) (secondIn code))
+    (turned (record { number = numberIn code; input = inputIn code; place = placeIn code }))

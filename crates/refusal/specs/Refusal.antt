@@ -1,7 +1,8 @@
 -- What is turned away, in 01's numbers (01, "What is turned away").
 use Prim.Native.Nat.{ℕ}
 use Rattle.refusal.specs.declared.Reason.{Reason}
-use Rattle.refusal.specs.declared.Reason.the-variants.{Length, Width, Count, Long, Short, Cell, Fresh, Twice, Extra, Size, Ends, Open, Edges, Label, Rows, Room}
+use Rattle.refusal.specs.declared.Reason.the-variants.{Length, Width, Count, Long, Short, Cell, Fresh, Twice}
+use Rattle.refusal.specs.declared.Reason.the-variants.{Extra, Size, Ends, Open, Edges, Label, Rows, Room}
 use Rattle.refusal.specs.declared.Input.{Input}
 use Rattle.refusal.specs.declared.Input.the-variants.{Table, Plan, Goal, Lent}
 use Rattle.refusal.specs.declared.Refusal.{Refusal}

@@ -38,8 +38,8 @@ pub struct Refusal {
     pub place: usize,
 }
 
-// 01's number of a reason; it fits eight bits (specs/Coded). A reason added later is a line above, a line here, a line in specs/Refusal, and in proofs/
-// two lines of RefusalLaws and two of number_of/Proof; an input likewise.
+// 01's number of a reason; it fits eight bits (specs/Coded). A reason added later is a line above, a line here, a line in specs/Refusal,
+// and in proofs/ two lines of RefusalLaws and two of number_of/Proof; an input likewise.
 pub fn number_of(reason: Reason) -> usize
     ensures { λ r. ⌜ (r ≡ numberOf reason) × (r < 2 ^ 8) ⌝ }
 {

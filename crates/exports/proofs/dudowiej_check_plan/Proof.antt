@@ -10,7 +10,9 @@ check-plan-requires : tie.Need-check-plan-requires
 check-plan-requires c κs = search needs
 
 code-plan-requires : tie.Need-code-plan-requires
-code-plan-requires c κs = small-by (c .check-plan .ensures) (plan-small (c .before .before .before .args .cells .now) (c .before .before .before .args .plan .now))
+code-plan-requires c κs =
+    let a = c .before .before .before .args in
+    small-by (c .check-plan .ensures) (plan-small (a .cells .now) (a .plan .now))
 
 returns : tie.Need-returns
 returns c = c .code-plan .ensures ∙ ap coded (c .before .check-plan .ensures)

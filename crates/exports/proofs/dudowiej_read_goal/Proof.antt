@@ -10,7 +10,9 @@ read-goal-requires : tie.Need-read-goal-requires
 read-goal-requires c κs = search needs
 
 code-goal-requires : tie.Need-code-goal-requires
-code-goal-requires c κs = small-by (c .read-goal .ensures) (goal-with-small (c .before .before .before .args .cells .now) (c .before .before .before .args .goal .now))
+code-goal-requires c κs =
+    let a = c .before .before .before .args in
+    small-by (c .read-goal .ensures) (goal-with-small (a .cells .now) (a .goal .now))
 
 returns : tie.Need-returns
 returns c = c .code-goal .ensures ∙ ap coded (c .before .read-goal .ensures)
