@@ -71,4 +71,5 @@ above-right zero zero rows f h leaf K rest = refl
 above-right (suc n) zero rows f h leaf K rest = refl
 above-right zero (suc k) rows f h p K rest = absurd (omega (arith, fits-some zero k rows f h))
 above-right (suc n) (suc k) rows f h (node i l bs) K rest =
-    above-in n (above n) (above-right n) k (length rows) (runs i rows) (runs-fit n k i l rows f) (group-sizes (root i) (close i) rows) bs i K rest
+    let sized = group-sizes (root i) (close i) rows in
+    above-in n (above n) (above-right n) k (length rows) (runs i rows) (runs-fit n k i l rows f) sized bs i K rest

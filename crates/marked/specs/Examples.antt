@@ -1,48 +1,53 @@
 -- 01's examples ("On both sides"): those marked P as one table, and what each says by the definitions that the promises are made of.
-use Prim.Native.Nat.{ℕ}
+use Prim.Native.Nat.{ℕ, _≤_}
 use mathlib.Core.Path.{_≡_}
-use mathlib.Core.List.{List, [], _∷_, flatten}
-use lib.ListN.{length, replicate}
+use mathlib.Core.List.{List, [], _∷_, _++_, flatten}
+use lib.ListN.{length, drop, replicate}
 use Rattle.cell.specs.Cell.{nameCell, numberCell, variableCell}
 use Rattle.term.specs.Unify.{Matches}
 use Rattle.refusal.specs.declared.Reason.{Reason}
 use Rattle.refusal.specs.declared.Reason.the-variants as reason
 use Rattle.refusal.specs.declared.Input.the-variants as input
-use Rattle.refusal.specs.Refusal.{refused}
+use Rattle.refusal.specs.Refusal.{refused, answered}
 use Rattle.refusal.specs.Read.{read, refuse}
 use Rattle.table.specs.Table.{Table, tableOf, goalOf}
 use Rattle.plan.specs.Plans.{Plan, write, branches, plain}
 use Rattle.plan.specs.Check.{planOf}
 use Rattle.least.specs.Least.{Built}
 use Rattle.answer.specs.Skeleton.{hole}
-use Rattle.answer.specs.Run.{Picks, Counts, skeletons, Tried}
+use Rattle.answer.specs.declared.RunAnswer.{RunAnswer}
+use Rattle.answer.specs.Run.{Picks, Counts, skeletons, Tried, runTold, Ran}
 
--- an example: a table that is turned away; a plan that is; a table with the builder's plan and its cost; and a run of that plan on a goal
+-- an example: a table that is turned away; every plan that starts so is; a table with the builder's plan and its cost; and a run of that
+-- plan on a goal
 pub data Example : Type 0 where
   turned : (cells : List ℕ) (why : Reason) (place : ℕ) → Example
-  planTurned : (cells plan : List ℕ) (why : Reason) (place : ℕ) → Example
+  planTurned : (cells start : List ℕ) (why : Reason) (place : ℕ) → Example
   built : (cells plan : List ℕ) (cost : ℕ) → Example
   ran : (cells plan : List ℕ) (cost : ℕ) (goal hits : List ℕ) (tried : ℕ) → Example
 
 -- what it says, by the definitions that the promises are made of
-pub record BuiltSays (t p : List ℕ) (cost : ℕ) : Type 0 where
+pub record BuiltSays (cells plan : List ℕ) (cost : ℕ) : Type 0 where
   pub table : Table
-  pub reads : tableOf t ≡ read table
+  pub reads : tableOf cells ≡ read table
   pub tree : Plan (table .width) (table .rows)
-  pub cells : write tree ≡ p
+  pub writes : write tree ≡ plan
   pub rule : Built plain tree
   pub count : branches tree ≡ cost
 
-pub record RanSays (t p : List ℕ) (cost : ℕ) (g hits : List ℕ) (tried : ℕ) : Type 0 where
-  pub builds : BuiltSays t p cost
+-- the rows that unify, the branches tried, and so what every run answers and writes that the promise of `run_plan` allows
+pub record RanSays (cells plan : List ℕ) (cost : ℕ) (goal hits : List ℕ) (tried : ℕ) : Type 0 where
+  pub builds : BuiltSays cells plan cost
   pub vars : ℕ
-  pub goal : goalOf (builds .table .width) g ≡ read vars
-  pub found : Picks (λ (row : List ℕ). Matches row g) (builds .table .rows) 0 hits
-  pub tries : Counts (Tried g) (skeletons (builds .tree) (replicate (builds .table .width) hole)) tried
+  pub reads : goalOf (builds .table .width) goal ≡ read vars
+  pub found : Picks (λ (row : List ℕ). Matches row goal) (builds .table .rows) 0 hits
+  pub tries : Counts (Tried goal) (skeletons (builds .tree) (replicate (builds .table .width) hole)) tried
+  pub answers : (room after : List ℕ) (r : RunAnswer) → length (builds .table .rows) ≤ length room → Ran cells plan goal room after r
+      → (runTold r ≡ answered (length hits) tried) × (after ≡ hits ++ drop (length hits) room)
 
 abbrev pub Says : Example → Type 0
 Says (turned t r p) = tableOf t ≡ refuse (refused r input.Table p)
-Says (planTurned t q r p) = planOf t q ≡ refuse (refused r input.Plan p)
+Says (planTurned t start r p) = (rest : List ℕ) → length (start ++ rest) ≤ 6082 → planOf t (start ++ rest) ≡ refuse (refused r input.Plan p)
 Says (built t p cost) = BuiltSays t p cost
 Says (ran t p cost g hits tried) = RanSays t p cost g hits tried
 
@@ -93,7 +98,9 @@ unfoldable pub plan2 : List ℕ
 plan2 = 0 ∷ 3 ∷ a ∷ 0 ∷ 1 ∷ b ∷ 1 ∷ b ∷ 0 ∷ 1 ∷ c ∷ 1 ∷ a ∷ 0 ∷ 1 ∷ d ∷ 1 ∷ []
 
 unfoldable pub p3 : List ℕ
-p3 = tableCells 3 ((g ∷ a ∷ i 1 ∷ []) ∷ (g ∷ a ∷ i 2 ∷ []) ∷ (g ∷ a ∷ i 3 ∷ []) ∷ (g ∷ i 1 ∷ b ∷ []) ∷ (g ∷ i 2 ∷ b ∷ []) ∷ (g ∷ i 3 ∷ b ∷ []) ∷ [])
+p3 =
+    tableCells 3
+    ((g ∷ a ∷ i 1 ∷ []) ∷ (g ∷ a ∷ i 2 ∷ []) ∷ (g ∷ a ∷ i 3 ∷ []) ∷ (g ∷ i 1 ∷ b ∷ []) ∷ (g ∷ i 2 ∷ b ∷ []) ∷ (g ∷ i 3 ∷ b ∷ []) ∷ [])
 
 unfoldable pub plan3 : List ℕ
 plan3 = 0 ∷ 1 ∷ g ∷ 0 ∷ 4 ∷ a ∷ 0 ∷ 3 ∷ i 1 ∷ 1 ∷ i 2 ∷ 1 ∷ i 3 ∷ 1 ∷ i 1 ∷ 0 ∷ 1 ∷ b ∷ 1 ∷ i 2 ∷ 0 ∷ 1 ∷ b ∷ 1 ∷ i 3 ∷ 0 ∷ 1 ∷ b ∷ 1 ∷ []
