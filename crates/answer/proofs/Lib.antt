@@ -10,4 +10,3 @@ pub mod Fixed
 pub mod TakesLaws
 pub mod Theorems
 pub mod Decided
-pub mod Examples

@@ -1,9 +1,10 @@
--- Worked examples of the check (01, "On both sides" and "What is turned away"), computed by the definitions: one table of cases under one theorem.
+-- Worked examples of the check (01, "What is turned away"), computed by the definitions: one table of cases under one theorem. The plans that 01's marked
+-- examples print are in crate marked.
 use Prim.Native.Nat.{ℕ}
 use mathlib.Core.Path.{_≡_, refl}
 use mathlib.Core.List.{List, [], _∷_, map, flatten}
 use lib.ListN.{length, replicate}
-use Rattle.cell.specs.Cell.{nameCell, numberCell, variableCell, valuesAt, arity, isVar}
+use Rattle.cell.specs.Cell.{nameCell, variableCell, valuesAt, arity, isVar}
 use Rattle.term.specs.Terms.{root, close}
 use Rattle.refusal.specs.Refusal.{refused}
 use Rattle.refusal.specs.declared.Reason.{Reason}
@@ -32,15 +33,6 @@ g = nameCell 0 7
 abbrev f1 : ℕ
 f1 = nameCell 1 6
 
-abbrev one : ℕ
-one = numberCell 1
-
-abbrev two : ℕ
-two = numberCell 2
-
-abbrev three : ℕ
-three = numberCell 3
-
 abbrev v0 : ℕ
 v0 = variableCell 0
 
@@ -51,17 +43,8 @@ v1 = variableCell 1
 table : ℕ → List (List ℕ) → List ℕ
 table w rows = w ∷ length rows ∷ flatten rows
 
-p1 : List ℕ
-p1 = table 3 ((a ∷ b ∷ c ∷ []) ∷ (a ∷ b ∷ d ∷ []) ∷ (a ∷ c ∷ c ∷ []) ∷ (b ∷ a ∷ c ∷ []) ∷ [])
-
 p2 : List ℕ
 p2 = table 2 ((a ∷ b ∷ []) ∷ (b ∷ c ∷ []) ∷ (a ∷ d ∷ []) ∷ [])
-
-p3 : List ℕ
-p3 =
-    table
-    3
-    ((g ∷ a ∷ one ∷ []) ∷ (g ∷ a ∷ two ∷ []) ∷ (g ∷ a ∷ three ∷ []) ∷ (g ∷ one ∷ b ∷ []) ∷ (g ∷ two ∷ b ∷ []) ∷ (g ∷ three ∷ b ∷ []) ∷ [])
 
 p4 : List ℕ
 p4 = table 1 ((v0 ∷ []) ∷ [])
@@ -92,23 +75,10 @@ no r p = refuse (refused r input.Plan p)
 
 pub cases : List Case
 cases =
-    -- P1, P4, P5, P6, P8: the plans that 01 gives, with their branches
-    case p1 (0 ∷ 2 ∷ a ∷ 0 ∷ 2 ∷ b ∷ 0 ∷ 2 ∷ c ∷ 1 ∷ d ∷ 1 ∷ c ∷ 0 ∷ 1 ∷ c ∷ 1 ∷ b ∷ 0 ∷ 1 ∷ a ∷ 0 ∷ 1 ∷ c ∷ 1 ∷ []) (read 9)
-    ∷ case p4 (0 ∷ 1 ∷ v0 ∷ 1 ∷ []) (read 1)
-    ∷ case p5 (0 ∷ 1 ∷ a ∷ 2 ∷ []) (read 1)
-    ∷ case p6 (0 ∷ 2 ∷ v0 ∷ 1 ∷ v0 ∷ 1 ∷ []) (read 2)
-    ∷ case p8 (0 ∷ 2 ∷ f1 ∷ 0 ∷ 2 ∷ a ∷ 1 ∷ b ∷ 1 ∷ g ∷ 1 ∷ []) (read 4)
-    -- P2 and P3, with plans of the branches that 01 says
-    ∷ case p2 (0 ∷ 3 ∷ a ∷ 0 ∷ 1 ∷ b ∷ 1 ∷ b ∷ 0 ∷ 1 ∷ c ∷ 1 ∷ a ∷ 0 ∷ 1 ∷ d ∷ 1 ∷ []) (read 6)
-    ∷ case
-    p3
-    (0 ∷ 1 ∷ g ∷ 0 ∷ 4 ∷ a ∷ 0 ∷ 3 ∷ one ∷ 1 ∷ two ∷ 1 ∷ three ∷ 1 ∷ one ∷ 0 ∷ 1 ∷ b ∷ 1 ∷ two ∷ 0 ∷ 1 ∷ b ∷ 1 ∷ three ∷ 0 ∷ 1 ∷ b ∷ 1 ∷ [])
-    (read 11)
     -- two plans of one table, P7's: by its first place, and by its second
-    ∷ case p7 (0 ∷ 1 ∷ a ∷ 0 ∷ 2 ∷ b ∷ 1 ∷ a ∷ 1 ∷ []) (read 3)
+    case p7 (0 ∷ 1 ∷ a ∷ 0 ∷ 2 ∷ b ∷ 1 ∷ a ∷ 1 ∷ []) (read 3)
     ∷ case p7 (1 ∷ 2 ∷ b ∷ 0 ∷ 1 ∷ a ∷ 1 ∷ a ∷ 0 ∷ 1 ∷ a ∷ 1 ∷ []) (read 4)
-    -- EDGES: P3 with two branches for g; P2 with a shared between rows 0 and 2; P6 with variables that agree
-    ∷ case p3 (0 ∷ 2 ∷ []) (no reason.Edges 1)
+    -- EDGES: P2 with a shared between rows 0 and 2; P6 with variables that agree
     ∷ case p2 (0 ∷ 2 ∷ a ∷ 0 ∷ 2 ∷ b ∷ 1 ∷ d ∷ 1 ∷ b ∷ 0 ∷ 1 ∷ c ∷ 1 ∷ []) (no reason.Edges 1)
     ∷ case p6 (0 ∷ 1 ∷ v0 ∷ 2 ∷ []) (no reason.Edges 1)
     -- OPEN: an index equal to the number of open places, at the first state and below a branch
@@ -135,5 +105,5 @@ cases =
     ∷ []
 
 pub computed : map (λ (k : Case). planOf (k .cells) (k .plan)) cases ≡ map (λ (k : Case). k .says) cases
-unfolding cases table p1 p2 p3 p4 p5 p6 p7 p8 planFor stateFrom agree root close tableOf rowsFrom termsFrom valuesAt arity isVar flatten
+unfolding cases table p2 p4 p5 p6 p7 p8 planFor stateFrom agree root close tableOf rowsFrom termsFrom valuesAt arity isVar flatten
 computed = refl
