@@ -15,9 +15,12 @@ use Rattle.refusal.specs.declared.Reason.the-variants as reason
 use Rattle.refusal.specs.declared.Input.the-variants as input
 use Rattle.refusal.specs.Refusal.{Refused, Answer, answered, turned}
 use Rattle.refusal.specs.Read.{Read, read, refuse}
-use Rattle.table.specs.Table.{Table, tableOf, tableSays, met, termsFrom, goalOf, goalSays, upFrom, IsGoal}
+use Rattle.table.specs.declared.TableRead.{TableRead}
+use Rattle.table.specs.declared.GoalAnswer.{GoalAnswer}
+use Rattle.table.specs.Table.{Table, tableOf, tableSays, TableReads, goalOf, goalWith, goalTold, goalSays, rowIn, IsGoal}
+use Rattle.table.specs.Table.{met, termsFrom, upFrom}
 use Rattle.table.proofs.ReadLaws.{apart, read-one, within-bounds}
-use Rattle.table.proofs.Accepted.{is-table, goal-accepted}
+use Rattle.table.proofs.Accepted.{is-table, table-accepted, goal-accepted, goal-is}
 use Rattle.checker.specs.declared.PlanAnswer.{PlanAnswer}
 use Rattle.checker.specs.declared.PlanAnswer.the-variants as plan-answer
 use Rattle.plan.specs.Plans.{Plan, write, branches}
@@ -31,13 +34,15 @@ use Rattle.builder.specs.declared.BuildAnswer.{BuildAnswer}
 use Rattle.builder.specs.declared.BuildAnswer.the-variants as build-answer
 use Rattle.builder.specs.Build.{BuiltInto, table-refused, room-refused, built, buildTold}
 use Rattle.builder.proofs.Fixed.{build-fixed}
+use Rattle.builder.proofs.Joined.{built-accepted}
 use Rattle.answer.specs.declared.RunAnswer.{RunAnswer}
 use Rattle.answer.specs.Run.{Picks, Counts, Tried, runOf, runTold, Ran, refusal, ran, Ascends}
 use Rattle.answer.proofs.Fixed.{skeletons-one}
 use Rattle.table.proofs.HeadLaws.{up-length}
 use Rattle.answer.proofs.Theorems.{picked, picks-ascend, tries-every}
-use Rattle.answer.proofs.TakesLaws.{takes-run, run-table, run-plan, run-goal, run-room}
-use Rattle.demands.specs.Said.{BuildTurned, no-table, no-room, RunTurned, bad-table, bad-plan, bad-goal, bad-room, Answers}
+use Rattle.answer.proofs.TakesLaws.{Takes, takes-run, run-table, run-plan, run-goal, run-room}
+use Rattle.demands.specs.Demands.{Demand1Table, Demand1Goal, Demand1Row, Demand1Check, Demand1Build, Demand1Run, Demand3Build}
+use Rattle.demands.specs.Demands.{BuildTurned, no-table, no-room, RunTurned, bad-table, bad-plan, bad-goal, bad-room, Answers, Writes}
 
 -- Refusals.
 
@@ -51,26 +56,46 @@ refuse-one : {A : Type 0} {f h : Refused} → _≡_ {A = Read A} (refuse f) (ref
 refuse-one e = cc
 
 -- what is answered is a refusal exactly when what is read is
-pub table-turned : (x : Read Table) (f : Refused) → (tableSays x ≡ turned f) ↔ (x ≡ refuse f)
+table-turned : (x : Read Table) (f : Refused) → (tableSays x ≡ turned f) ↔ (x ≡ refuse f)
 table-turned (read T) f = (λ e. clash e, λ e. apart e)
 table-turned (refuse h) f = (λ e. ap refuse (turned-one e), λ e. ap turned (refuse-one e))
 
-pub goal-turned : (g : List ℕ) (x : Read ℕ) (f : Refused) → (goalSays g x ≡ turned f) ↔ (x ≡ refuse f)
+goal-turned : (g : List ℕ) (x : Read ℕ) (f : Refused) → (goalSays g x ≡ turned f) ↔ (x ≡ refuse f)
 goal-turned g (read v) f = (λ e. clash e, λ e. apart e)
 goal-turned g (refuse h) f = (λ e. ap refuse (turned-one e), λ e. ap turned (refuse-one e))
 
-pub plan-turned : (x : Read ℕ) (f : Refused) → (planSays x ≡ turned f) ↔ (x ≡ refuse f)
+plan-turned : (x : Read ℕ) (f : Refused) → (planSays x ≡ turned f) ↔ (x ≡ refuse f)
 plan-turned (read b) f = (λ e. clash e, λ e. apart e)
 plan-turned (refuse h) f = (λ e. ap refuse (turned-one e), λ e. ap turned (refuse-one e))
 
 -- and so for an answer that says the same
-pub by-answer : {a b : Answer} {f : Refused} {C : Type 0} → a ≡ b → (b ≡ turned f) ↔ C → (a ≡ turned f) ↔ C
+by-answer : {a b : Answer} {f : Refused} {C : Type 0} → a ≡ b → (b ≡ turned f) ↔ C → (a ≡ turned f) ↔ C
 by-answer e i = (λ x. i .0 (sym e ∙ x), λ c. e ∙ i .1 c)
+
+-- Reading.
+
+pub table-kept : (t : List ℕ) (r : TableRead) → TableReads (tableOf t) r → Demand1Table t r
+table-kept t r a = record {
+  refuses = λ f. by-answer (a .answer) (table-turned (tableOf t) f);
+  accepts = λ w rows i. a .answer ∙ ap tableSays (table-accepted t w rows .1 i);
+}
+
+pub goal-kept : (t g : List ℕ) (r : GoalAnswer) → goalTold r ≡ goalSays g (goalWith t g) → Demand1Goal t g r
+goal-kept t g r a = record {
+  refuses = λ f. by-answer a (goal-turned g (goalWith t g) f);
+  accepts = λ T e i. a ∙ rw (e, goal-is (T .width) g i);
+}
+
+pub row-kept : (t : List ℕ) (j : ℕ) (row : List ℕ) → row ≡ rowIn (tableOf t) j → Demand1Row t j row
+row-kept t j row a = record { none = λ f e. rw e at a; some = λ T e. rw e at a }
+
+pub plan-kept : (t p : List ℕ) (r : PlanAnswer) → planTold r ≡ planSays (planOf t p) → Demand1Check t p r
+plan-kept t p r a = record { refuses = λ f. by-answer a (plan-turned (planOf t p) f) }
 
 -- Building.
 
 module _ {t room room′ : List ℕ} {r : BuildAnswer} where
-  pub build-is-turned : BuiltInto t room room′ r → (f : Refused) → (buildTold r ≡ turned f) ↔ BuildTurned t room f
+  build-is-turned : BuiltInto t room room′ r → (f : Refused) → (buildTold r ≡ turned f) ↔ BuildTurned t room f
   build-is-turned b f = (why b, gets)
     where
       why : BuiltInto t room room′ r → buildTold r ≡ turned f → BuildTurned t room f
@@ -90,16 +115,19 @@ module _ {t room room′ : List ℕ} {r : BuildAnswer} where
           let short : BuiltInto t room room no = room-refused T plan a u l refl refl in
           ap buildTold (build-fixed b short .0) ∙ ap turned (sym q)
 
-  pub build-writes-nothing : BuiltInto t room room′ r → (f : Refused) → buildTold r ≡ turned f → room′ ≡ room
+  build-writes-nothing : BuiltInto t room room′ r → (f : Refused) → buildTold r ≡ turned f → room′ ≡ room
   build-writes-nothing (table-refused h a x c) f e = c
   build-writes-nothing (room-refused T plan a u l x c) f e = c
   build-writes-nothing (built T plan a u m l x c) f e = clash (sym x ∙ e)
+
+  pub build-kept : BuiltInto t room room′ r → Demand1Build t room room′ r
+  build-kept b = record { refuses = build-is-turned b; untouched = build-writes-nothing b }
 
 is-built : (r : BuildAnswer) {n cost : ℕ} → buildTold r ≡ answered n cost → r ≡ build-answer.Built n cost
 is-built (build-answer.Built m c) e = cc
 is-built (build-answer.Refused f) e = clash (sym e)
 
-pub builds : {t room room′ : List ℕ} {r : BuildAnswer} (T : Table) → tableOf t ≡ read T → 6082 ≤ length room → BuiltInto t room room′ r
+builds : {t room room′ : List ℕ} {r : BuildAnswer} (T : Table) → tableOf t ≡ read T → 6082 ≤ length room → BuiltInto t room room′ r
     → (n : ℕ) × (cost : ℕ) × (r ≡ build-answer.Built n cost)
 builds T e l (table-refused h a x c) = apart (sym e ∙ a)
 builds {t} T e l (room-refused T′ plan a u s x c) =
@@ -107,19 +135,37 @@ builds {t} T e l (room-refused T′ plan a u s x c) =
     absurd (omega (arith, size-bound plan (rows-fit (T′ .width) (T′ .rows) (i .each)) (i .count .0) (i .count .1)))
 builds {r = r} T e l (built T′ plan a u m s x c) = (length (write plan), branches plan, is-built r x)
 
+pub least-built : {t room room′ : List ℕ} {r : BuildAnswer} → BuiltInto t room room′ r → Demand3Build t room room′ r
+least-built {t} {room} {room′} {r} x = record {
+  builds = λ T e l. builds T e l x;
+  accepted = λ n cost q. built-accepted (with-answer n cost q) .accepts;
+  fewest = λ n cost q. built-accepted (with-answer n cost q) .none-fewer;
+}
+  where
+    with-answer : (n cost : ℕ) → r ≡ build-answer.Built n cost → BuiltInto t room room′ (build-answer.Built n cost)
+    with-answer n cost q = subst (BuiltInto t room room′) q x
+
 -- The check.
 
 says-read : (x : Read ℕ) (b : ℕ) → planSays x ≡ answered b 0 → x ≡ read b
 says-read (read c) b q = let s : c ≡ b = cc in ap read s
 says-read (refuse f) b q = clash (sym q)
 
-pub check-accepts : (t p : List ℕ) (T : Table) → tableOf t ≡ read T → (r : PlanAnswer) → planTold r ≡ planSays (planOf t p) → (b : ℕ) → (r ≡ plan-answer.Accepted b)
-    ↔ ((tree : Plan (T .width) (T .rows)) × (write tree ≡ p) × (branches tree ≡ b) × ((other : Plan (T .width) (T .rows)) → write other ≡ p → other ≡ tree))
-check-accepts t p T e r says b =
-    let one = accepted-one T (is-table t e) p b in (
-      λ q. one .0 (rw e at (says-read (planOf t p) b (sym says ∙ ap planTold q))),
-      λ q. (let reads : planOf t p ≡ read b = rw e (one .1 q) in plan-fixed t p says (sym (ap planSays reads))),
-    )
+module _ (t p : List ℕ) (T : Table) (e : tableOf t ≡ read T) where
+  -- cells that the check accepts are written by one plan
+  writes : (b : ℕ) → planOf t p ≡ read b → Writes T p b
+  writes b k =
+      let a = accepted-one T (is-table t e) p b .0 (rw e at k) in
+      record { tree = a .0; cells = a .1; count = a .2; only = a .3 }
+
+  written : (b : ℕ) → Writes T p b → planOf t p ≡ read b
+  written b w = rw e (accepted-one T (is-table t e) p b .1 (w .tree, w .cells, w .count, w .only))
+
+  pub check-accepts : (r : PlanAnswer) → planTold r ≡ planSays (planOf t p) → (b : ℕ) → (r ≡ plan-answer.Accepted b) ↔ Writes T p b
+  check-accepts r says b = (
+    λ q. writes b (says-read (planOf t p) b (sym says ∙ ap planTold q)),
+    λ w. plan-fixed t p says (sym (ap planSays (written b w))),
+  )
 
 -- A run.
 
@@ -149,9 +195,12 @@ module _ {t p g room : List ℕ} {f : Refused} where
           bad-room T b v d k m less (sym (same (run-room t p g room d (with-table t p d k) m less)))
       by-room T b v d k m false l =
           let enough = ltb-false (length room) (length (T .rows)) l in
-          apart (sym (takes-run (record { table = d; branches = b; plan = with-table t p d k; variables = v; goal = m; room-for = enough })) ∙ e)
+          let all : Takes t p g room T =
+          record { table = d; branches = b; plan = with-table t p d k; variables = v; goal = m; room-for = enough } in
+          apart (sym (takes-run all) ∙ e)
 
-      by-goal : (T : Table) (b : ℕ) → tableOf t ≡ read T → planFor T p ≡ read b → (x : Read ℕ) → goalOf (T .width) g ≡ x → RunTurned t p g room f
+      by-goal : (T : Table) (b : ℕ) → tableOf t ≡ read T → planFor T p ≡ read b → (x : Read ℕ) → goalOf (T .width) g ≡ x
+          → RunTurned t p g room f
       by-goal T b d k (read v) m = by-room T b v d k m (ltb (length room) (length (T .rows))) refl
       by-goal T b d k (refuse h) m = bad-goal T b d k (m ∙ ap refuse (same (run-goal t p g room d (with-table t p d k) m)))
 
@@ -163,8 +212,23 @@ module _ {t p g room : List ℕ} {f : Refused} where
       by-table (read T) d = by-plan T d (planFor T p) refl
       by-table (refuse h) d = bad-table (d ∙ ap refuse (same (run-table t p g room d)))
 
+-- the rows in words: each of the table's rows that unifies and no other number, ascending
+rows-reported : (g : List ℕ) {rows : List (List ℕ)} {found : List ℕ} → Picks (λ (row : List ℕ). Matches row g) rows 0 found
+    → ((j : ℕ) → List·Memᴰ j found ↔ ((j < length rows) × Matches (getD rows j []) g)) × Ascends 0 found
+rows-reported g {rows} {found} p =
+    let up = picks-ascend p in (
+      λ j. (
+        λ m. (let l : j < length rows = omega (arith, up .1 j m) in (l, at-row j l .0 m)),
+        λ h. at-row j (h .0) .1 (h .1),
+      ),
+      up .0,
+    )
+  where
+    at-row : (j : ℕ) → j < length rows → List·Memᴰ j found ↔ Matches (getD rows j []) g
+    at-row j l = let e : 0 + j ≡ j = omega arith in rw e at (picked p j l)
+
 module _ {t p g room room′ : List ℕ} {r : RunAnswer} where
-  pub run-is-turned : Ran t p g room room′ r → (f : Refused) → (runTold r ≡ turned f) ↔ RunTurned t p g room f
+  run-is-turned : Ran t p g room room′ r → (f : Refused) → (runTold r ≡ turned f) ↔ RunTurned t p g room f
   run-is-turned b f = (why b, λ k. gets b (turns k))
     where
       why : Ran t p g room room′ r → runTold r ≡ turned f → RunTurned t p g room f
@@ -175,17 +239,22 @@ module _ {t p g room room′ : List ℕ} {r : RunAnswer} where
       gets (refusal h a x c) e = x ∙ ap turned (refuse-one (sym a ∙ e))
       gets (ran T tree found n a w v u x c) e = apart (sym a ∙ e)
 
-  pub run-writes-nothing : Ran t p g room room′ r → (f : Refused) → runTold r ≡ turned f → room′ ≡ room
+  run-writes-nothing : Ran t p g room room′ r → (f : Refused) → runTold r ≡ turned f → room′ ≡ room
   run-writes-nothing (refusal h a x c) f e = c
   run-writes-nothing (ran T tree found n a w v u x c) f e = clash (sym x ∙ e)
 
+  pub run-kept : Ran t p g room room′ r → Demand1Run t p g room room′ r
+  run-kept b = record { refuses = run-is-turned b; untouched = run-writes-nothing b }
+
   -- with any tree that writes the plan's cells
-  pub run-answers : (T : Table) (tree : Plan (T .width) (T .rows)) → tableOf t ≡ read T → write tree ≡ p → IsGoal (T .width) g → length (T .rows) ≤ length room
-      → Ran t p g room room′ r → Answers T tree g room room′ r
+  pub run-answers : (T : Table) (tree : Plan (T .width) (T .rows)) → tableOf t ≡ read T → write tree ≡ p → IsGoal (T .width) g
+      → length (T .rows) ≤ length room → Ran t p g room room′ r → Answers T tree g room room′ r
   run-answers T tree e w i l b = go b
     where
       read-plan : planOf t p ≡ read (branches tree)
-      read-plan = rw e (accepted-one T (is-table t e) p (branches tree) .1 (tree, w, refl, λ q v. write-one q tree (v ∙ sym w)))
+      read-plan =
+          written t p T e (branches tree)
+          (record { tree = tree; cells = w; count = refl; only = λ q v. write-one q tree (v ∙ sym w) })
 
       takes : runOf t p g room ≡ read T
       takes =
@@ -197,9 +266,11 @@ module _ {t p g room room′ : List ℕ} {r : RunAnswer} where
       go (ran T′ tree′ found n a d v u x c) =
           let q : T′ ≡ T = read-one (sym a ∙ takes) in
           let s = skeletons-one (ap (λ (y : Table). y .width) q) (ap (λ (y : Table). y .rows) q) tree′ tree (sym d ∙ sym w) in
+          let rows = rows-reported g (subst (λ (y : Table). Picks (λ (row : List ℕ). Matches row g) (y .rows) 0 found) q v) in
           record {
             found = found;
-            rows = subst (λ (y : Table). Picks (λ (row : List ℕ). Matches row g) (y .rows) 0 found) q v;
+            exactly = rows .0;
+            ascends = rows .1;
             tried = n;
             branches = subst (λ (ks : List (List ℕ)). Counts (Tried g) ks n) s u;
             told = x;
@@ -207,26 +278,10 @@ module _ {t p g room room′ : List ℕ} {r : RunAnswer} where
           }
 
   -- and so with any cells that the check accepts
-  pub any-plan-answers : (T : Table) (b : ℕ) → tableOf t ≡ read T → planOf t p ≡ read b → IsGoal (T .width) g → length (T .rows) ≤ length room
-      → Ran t p g room room′ r → (tree : Plan (T .width) (T .rows)) × (write tree ≡ p) × Answers T tree g room room′ r
-  any-plan-answers T b e k i l x =
-      let a = accepted-one T (is-table t e) p b .0 (rw e at k) in
-      (a .0, a .1, run-answers T (a .0) e (a .1) i l x)
-
--- the rows in words: each of the table's rows that unifies and no other number, ascending
-pub rows-reported : {g room room′ : List ℕ} {r : RunAnswer} {T : Table} {tree : Plan (T .width) (T .rows)} (a : Answers T tree g room room′ r)
-    → ((j : ℕ) → List·Memᴰ j (a .found) ↔ ((j < length (T .rows)) × Matches (getD (T .rows) j []) g)) × Ascends 0 (a .found)
-rows-reported {g} {T = T} a =
-    let up = picks-ascend (a .rows) in (
-      λ j. (
-        λ m. (let l : j < length (T .rows) = omega (arith, up .1 j m) in (l, at-row j l .0 m)),
-        λ h. at-row j (h .0) .1 (h .1),
-      ),
-      up .0,
-    )
-  where
-    at-row : (j : ℕ) → j < length (T .rows) → List·Memᴰ j (a .found) ↔ Matches (getD (T .rows) j []) g
-    at-row j l = let e : 0 + j ≡ j = omega arith in rw e at (picked (a .rows) j l)
+  pub any-plan-answers : (T : Table) (b : ℕ) → tableOf t ≡ read T → planOf t p ≡ read b → IsGoal (T .width) g
+      → length (T .rows) ≤ length room
+      → Ran t p g room room′ r → (w : Writes T p b) × Answers T (w .tree) g room room′ r
+  any-plan-answers T b e k i l x = let w = writes t p T e b k in (w, run-answers T (w .tree) e (w .cells) i l x)
 
 -- The goal of distinct variables.
 
@@ -237,19 +292,22 @@ variables-read zero v used p h = rw (add-zero p, add-zero v)
 variables-read (suc w) v used p h =
     let on : p + suc w ≡ suc p + w = omega arith in
     let more : v + suc w ≡ suc v + w = omega arith in
-    rw (built-variable v (omega arith), le-ltb v v (omega arith), eq-eqb v v refl, zero-add w, on, more) (variables-read w (suc v) (suc used) (suc p) (omega arith))
+    let rest = variables-read w (suc v) (suc used) (suc p) (omega arith) in
+    rw (built-variable v (omega arith), le-ltb v v (omega arith), eq-eqb v v refl, zero-add w, on, more) rest
 
 variables-goal : (w : ℕ) → 1 ≤ w → w ≤ 8 → IsGoal w (upFrom 0 w)
 unfolding goalOf
 variables-goal w h l =
     let n = up-length 0 w in
-    goal-accepted w (upFrom 0 w) .0
-    (0 + w, rw (within-bounds (length (upFrom 0 w)) 1 32 (omega arith) (omega arith), variables-read w 0 0 0 (omega arith), le-ltb (0 + w) (length (upFrom 0 w)) (omega arith)))
+    let bounds = within-bounds (length (upFrom 0 w)) 1 32 (omega arith) (omega arith) in
+    let whole = le-ltb (0 + w) (length (upFrom 0 w)) (omega arith) in
+    goal-accepted w (upFrom 0 w) .0 (0 + w, rw (bounds, variables-read w 0 0 0 (omega arith), whole))
 
 -- its run answers, and every branch is tried
-pub tries-all : {t p room room′ : List ℕ} {r : RunAnswer} (T : Table) (b : ℕ) → tableOf t ≡ read T → planOf t p ≡ read b → length (T .rows) ≤ length room
+pub tries-all : {t p room room′ : List ℕ} {r : RunAnswer} (T : Table) (b : ℕ) → tableOf t ≡ read T → planOf t p ≡ read b
+    → length (T .rows) ≤ length room
     → Ran t p (upFrom 0 (T .width)) room room′ r → (h : ℕ) × (runTold r ≡ answered h b)
 tries-all {t} T b e k l x =
     let w = is-table t e .width in
-    let a = any-plan-answers T b e k (variables-goal (T .width) (w .0) (w .1)) l x .2 in
+    let a = any-plan-answers T b e k (variables-goal (T .width) (w .0) (w .1)) l x .1 in
     (length (a .found), a .told ∙ ap (answered (length (a .found))) (tries-every e k x (a .told)))

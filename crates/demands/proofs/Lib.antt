@@ -1,2 +1,3 @@
 pub mod Cited
 pub mod Demands
+pub mod Held

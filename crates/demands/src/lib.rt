@@ -1,1 +1,50 @@
-// The demands, stated as theorems: proofs/Demands.antt. There is no code here.
+// The demands (document 00), tied to the entries: each function calls one entry and ensures what the demands say of it (specs/Demands), by
+// the theorem of proofs/Demands. So a contract that no longer gives the demands is an error here. Nothing calls these functions; they are
+// private, since what they ensure is less than what the entries promise.
+ghost use Rattle.demands.specs.Demands.{Demand1Table, Demand1Goal, Demand1Row, Demand1Check, Demand1Build, Demand1Run};
+ghost use Rattle.demands.specs.Demands.{Demand2, Demand3Check, Demand3Run, Demand3Build};
+use answer::RunAnswer;
+use builder::BuildAnswer;
+use checker::PlanAnswer;
+use table::GoalAnswer;
+use table::TableRead;
+
+fn demand_read_table(cells: &[u32]) -> TableRead
+    ensures { λ r. ⌜ Demand1Table (now (cells .entry)) r ⌝ }
+{
+    table::read_table(cells)
+}
+
+fn demand_read_goal(cells: &[u32], goal: &[u32]) -> GoalAnswer
+    ensures { λ r. ⌜ Demand1Goal (now (cells .entry)) (now (goal .entry)) r ⌝ }
+{
+    table::read_goal(cells, goal)
+}
+
+fn demand_row(cells: &[u32], number: usize) -> &[u32]
+    ensures { λ r. ⌜ Demand1Row (now (cells .entry)) number (now r) ⌝ }
+{
+    table::row(cells, number)
+}
+
+fn demand_check(cells: &[u32], plan: &[u32]) -> PlanAnswer
+    ensures { λ r. ⌜ Demand1Check (now (cells .entry)) (now (plan .entry)) r ⌝ }
+    ensures { λ r. ⌜ Demand3Check (now (cells .entry)) (now (plan .entry)) r ⌝ }
+{
+    checker::check_plan(cells, plan)
+}
+
+fn demand_build(cells: &[u32], room: &mut [u32]) -> BuildAnswer
+    ensures { λ r. ⌜ Demand1Build (now (cells .entry)) (now (room .entry)) (now (room .exit)) r ⌝ }
+    ensures { λ r. ⌜ Demand3Build (now (cells .entry)) (now (room .entry)) (now (room .exit)) r ⌝ }
+{
+    builder::build_plan(cells, room)
+}
+
+fn demand_run(cells: &[u32], plan: &[u32], goal: &[u32], room: &mut [u8]) -> RunAnswer
+    ensures { λ r. ⌜ Demand1Run (now (cells .entry)) (now (plan .entry)) (now (goal .entry)) (now (room .entry)) (now (room .exit)) r ⌝ }
+    ensures { λ r. ⌜ Demand2 (now (cells .entry)) (now (plan .entry)) (now (goal .entry)) (now (room .entry)) (now (room .exit)) r ⌝ }
+    ensures { λ r. ⌜ Demand3Run (now (cells .entry)) (now (plan .entry)) (now (goal .entry)) (now (room .entry)) (now (room .exit)) r ⌝ }
+{
+    run::run_plan(cells, plan, goal, room)
+}

@@ -1,0 +1,127 @@
+-- "How closely it is held" (document 01), sentence by sentence, of what the entries promise. The promises are listed in proofs/Demands.
+use Prim.Native.Nat.{ℕ, _≤_}
+use mathlib.Core.Path.{_≡_}
+use mathlib.Core.List.{List}
+use lib.ListN.{length}
+use Rattle.refusal.specs.Refusal.{Answer, answered}
+use Rattle.refusal.specs.Coded.{coded, Small, decoded}
+use Rattle.refusal.specs.Read.{read}
+use Rattle.refusal.proofs.CodedLaws.{coded-one}
+use Rattle.table.specs.declared.TableRead.{TableRead}
+use Rattle.table.specs.declared.GoalAnswer.{GoalAnswer}
+use Rattle.table.specs.declared.Part.{Part}
+use Rattle.table.specs.Table.{Table, tableOf, tableSays, goalOf, goalWith, goalTold, goalSays, TableReads, rowIn, RowPlace, upFrom}
+use Rattle.table.proofs.Fixed.{table-fixed, goal-for-fixed, goal-fixed, place-fixed, row-fixed}
+use Rattle.plan.specs.Check.{planOf}
+use Rattle.checker.specs.declared.PlanAnswer.{PlanAnswer}
+use Rattle.checker.specs.Checked.{planTold, planSays}
+use Rattle.checker.proofs.Fixed.{plan-fixed}
+use Rattle.checker.specs.declared.Marked.{Marked}
+use Rattle.checker.specs.Checked.{Marks}
+use Rattle.checker.proofs.Fixed.{marks-fixed}
+use Rattle.builder.specs.declared.BuildAnswer.{BuildAnswer}
+use Rattle.entries.specs.declared.Entries.{Entries}
+use Rattle.entries.specs.Fill.{WorkedOut}
+use Rattle.builder.specs.Build.{BuiltInto, buildTold}
+use Rattle.entries.proofs.Fixed.{worked-fixed}
+use Rattle.builder.proofs.Fixed.{build-fixed}
+use Rattle.answer.specs.declared.RunAnswer.{RunAnswer}
+use Rattle.answer.specs.Run.{runTold, Ran}
+use Rattle.answer.proofs.Fixed.{run-fixed}
+use Rattle.answer.proofs.Theorems.{tries-at-most}
+use Rattle.listing.specs.Listing.{Lists, Written}
+use Rattle.listing.proofs.Fixed.{written-one}
+use Rattle.exports.specs.Coded.{rowSays, BuildCoded, RunCoded}
+use Rattle.exports.proofs.Fixed.{build-coded-fixed, run-coded-fixed}
+use Rattle.exports.proofs.Back.{table-back, goal-back, row-back, plan-back, build-back, run-back}
+use Rattle.demands.proofs.Cited.{tries-all}
+
+-- "For all inputs, refused ones too, the promise of a public function determines the result and the final contents of the lent room; the
+-- team proves that two results allowed by it are equal". The small functions of cell, term, goal and state have theirs in proofs/Fixed of
+-- those crates; an exported entry without room promises an equation.
+pub held-table : (t : List ℕ) {r s : TableRead} → TableReads (tableOf t) r → TableReads (tableOf t) s → r ≡ s
+held-table = table-fixed
+
+pub held-row-place : (t : List ℕ) (j : ℕ) {r s : Part} → RowPlace (tableOf t) j r → RowPlace (tableOf t) j s → r ≡ s
+held-row-place = place-fixed
+
+pub held-row : (t : List ℕ) (j : ℕ) {r s : List ℕ} → r ≡ rowIn (tableOf t) j → s ≡ rowIn (tableOf t) j → r ≡ s
+held-row = row-fixed
+
+pub held-goal : (t g : List ℕ) {r s : GoalAnswer} → goalTold r ≡ goalSays g (goalWith t g) → goalTold s ≡ goalSays g (goalWith t g) → r ≡ s
+held-goal = goal-fixed
+
+pub held-goal-for : (w : ℕ) (g : List ℕ) {r s : GoalAnswer} → goalTold r ≡ goalSays g (goalOf w g) → goalTold s ≡ goalSays g (goalOf w g)
+    → r ≡ s
+held-goal-for = goal-for-fixed
+
+pub held-check : (t p : List ℕ) {r s : PlanAnswer} → planTold r ≡ planSays (planOf t p) → planTold s ≡ planSays (planOf t p) → r ≡ s
+held-check = plan-fixed
+
+pub held-marks : {t p : List ℕ} {r s : Marked} → Marks t p r → Marks t p s → r ≡ s
+held-marks = marks-fixed
+
+pub held-entries : {t : List ℕ} {r s : Entries} → WorkedOut t r → WorkedOut t s → r ≡ s
+held-entries = worked-fixed
+
+pub held-build : {t room room′ room″ : List ℕ} {r s : BuildAnswer} → BuiltInto t room room′ r → BuiltInto t room room″ s
+    → (r ≡ s) × (room′ ≡ room″)
+held-build = build-fixed
+
+pub held-run : {t p g room room′ room″ : List ℕ} {r s : RunAnswer} → Ran t p g room room′ r → Ran t p g room room″ s
+    → (r ≡ s) × (room′ ≡ room″)
+held-run = run-fixed
+
+pub held-listing : (bytes room : List ℕ) {room′ room″ : List ℕ} {r s : ℕ} → Written (Lists bytes) room room′ r
+    → Written (Lists bytes) room room″ s
+    → (r ≡ s) × (room′ ≡ room″)
+held-listing = written-one
+
+pub held-exported-build : {t room room′ room″ : List ℕ} {r s : ℕ} → BuildCoded t room room′ r → BuildCoded t room room″ s
+    → (r ≡ s) × (room′ ≡ room″)
+held-exported-build = build-coded-fixed
+
+pub held-exported-run : {t p g room room′ room″ : List ℕ} {r s : ℕ} → RunCoded t p g room room′ r → RunCoded t p g room room″ s
+    → (r ≡ s) × (room′ ≡ room″)
+held-exported-run = run-coded-fixed
+
+-- The number that an exported entry answers tells its answer: two answers with one code are equal, and the header's masks and shifts
+-- (`decoded`) read back what was answered.
+pub held-code : {a b : Answer} → Small a → Small b → coded a ≡ coded b → a ≡ b
+held-code = coded-one
+
+pub back-table : (t : List ℕ) {n : ℕ} → n ≡ coded (tableSays (tableOf t)) → decoded n ≡ tableSays (tableOf t)
+back-table = table-back
+
+pub back-goal : (t g : List ℕ) {n : ℕ} → n ≡ coded (goalSays g (goalWith t g)) → decoded n ≡ goalSays g (goalWith t g)
+back-goal = goal-back
+
+pub back-row : (t : List ℕ) (r : ℕ) {n : ℕ} → n ≡ coded (rowSays (tableOf t) r) → decoded n ≡ rowSays (tableOf t) r
+back-row = row-back
+
+pub back-check : (t p : List ℕ) {n : ℕ} → n ≡ coded (planSays (planOf t p)) → decoded n ≡ planSays (planOf t p)
+back-check = plan-back
+
+pub back-build : {t room room′ : List ℕ} {n : ℕ} (x : BuildCoded t room room′ n) → decoded n ≡ buildTold (x .answer)
+back-build = build-back
+
+pub back-run : {t p g room room′ : List ℕ} {n : ℕ} (x : RunCoded t p g room room′ n) → decoded n ≡ runTold (x .answer)
+back-run = run-back
+
+-- "None is public unless its result is promised": docs/PROMISES.md lists every public function with its promise.
+
+-- "These must be unprovable:"
+-- "an entry that refuses everything": what 01 calls a table, a goal or a plan is accepted: `accepts` of Demand1Table and Demand1Goal,
+-- demand-3-check, `builds` of Demand3Build, demand-2. "a run that names row 0 or no row always, or writes nothing", "a run that walks to
+-- the first leaf and invents the rest": demand-2, for every row. "a tried count or cost made up": the count is `branches` of demand-2, the
+-- cost that of demand-3-build. 01, "A run": "That number never exceeds the plan's cost, and equals it for the goal of distinct variables."
+pub tried-bound : {t p g room room′ : List ℕ} {r : RunAnswer} {b h n : ℕ} → planOf t p ≡ read b → Ran t p g room room′ r
+    → runTold r ≡ answered h n
+    → n ≤ b
+tried-bound = tries-at-most
+
+pub tried-open : {t p room room′ : List ℕ} {r : RunAnswer} (T : Table) (b : ℕ) → tableOf t ≡ read T → planOf t p ≡ read b
+    → length (T .rows) ≤ length room → Ran t p (upFrom 0 (T .width)) room room′ r → (h : ℕ) × (runTold r ≡ answered h b)
+tried-open = tries-all
+
+-- "A check that accepts only the builder's own plan breaks demand 3": demand-3-check accepts what any plan writes.
