@@ -5,8 +5,6 @@ use mathlib.Core.List.{List, [], _∷_, _++_}
 use Prim.Native.Nat.{ℕ, zero, suc, _+_, _-_, _<_, _≤_}
 use native.Mathlib.Numerals.{add-one}
 use native.Mathlib.Nat.{suc-add, zero-add, add-assoc}
-use native.Mathlib.Decide.{decLt}
-use mathlib.Core.Logic.{by-cases}
 use native.Mathlib.Omega.{arith}
 use lib.ListN.{length, getD, drop, drop-of-length-le}
 use lib.Seq.{drop-cons, drop-drop, drop-nil}
@@ -38,19 +36,13 @@ ends-more xs i (suc k) p h l =
 pub apart : {A : Type 0} {e : ℕ} → At e ≡ Short → A
 apart h = absurd (let z : _≡_ {A = ℕ} 0 1 = cc in omega arith)
 
--- an end is not before the place where the run starts, and after it where a term is owed
+-- an end is not before the place where the run starts
 pub not-before : (xs : List ℕ) (k p e : ℕ) → ends xs k p ≡ At e → p ≤ e
 unfolding ends
 not-before [] zero p e h = let q : p ≡ e = cc in omega arith
 not-before [] (suc k) p e h = apart (sym h)
 not-before (c ∷ xs) zero p e h = let q : p ≡ e = cc in omega arith
 not-before (c ∷ xs) (suc k) p e h = omega (arith, not-before xs (arity c + k) (p + 1) e h)
-
-pub after : (xs : List ℕ) (k p e : ℕ) → 0 < k → ends xs k p ≡ At e → p < e
-unfolding ends
-after xs zero p e l h = absurd (omega arith)
-after [] (suc k) p e l h = apart (sym h)
-after (c ∷ xs) (suc k) p e l h = omega (arith, not-before xs (arity c + k) (p + 1) e h)
 
 -- j terms and then k: where the j have no end, neither have all
 pub both-short : (xs : List ℕ) (j k p : ℕ) → ends xs j p ≡ Short → ends xs (j + k) p ≡ Short
@@ -80,10 +72,6 @@ both-at xs i j k e h =
     let l : i ≤ e = not-before (drop i xs) j i e h in
     let q : i + (e - i) ≡ e = omega arith in
     both (drop i xs) j k i e h ∙ rw (drop-drop, q)
-
--- a term that ends has a cell
-pub room : (xs : List ℕ) (i k e : ℕ) → 0 < k → ends (drop i xs) k i ≡ At e → i < length xs
-room xs i k e l h = by-cases (decLt i (length xs)) (λ w. w) (λ w. apart (sym h ∙ ends-short xs i k i (omega arith) l))
 
 -- k terms at the front of a list, or none
 data Found (ys : List ℕ) (k p : ℕ) : End → Type 0 where
