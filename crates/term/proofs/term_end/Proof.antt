@@ -55,7 +55,7 @@ loop-again c =
     let l = c .before .before .before .before .loop in
     let a = c .before .before .before .before .before .before .args in
     let m = ends-more (a .cells .now) (l .at) (l .owed) (l .at) (omega arith) (omega arith) in
-    (omega (arith, arity-small (getD (a .cells .now) (l .at) 0)), cc m)
+    (omega (arith, arity-small (getD (a .cells .now) (l .at) 0)), rw (c .arity-of .ensures) (sym m ∙ l .inv .1))
 
 returns-2 : tie.Need-returns-2 Inv-loop μ-loop
 returns-2 c =
