@@ -36,11 +36,11 @@ pub fn sorts() -> [Sort; 4] {
     ]
 }
 
-fn flat(number: u32) -> u32 {
+pub fn flat(number: u32) -> u32 {
     1 << 30 | number
 }
 
-fn with_argument(number: u32) -> u32 {
+pub fn with_argument(number: u32) -> u32 {
     1 << 30 | 1 << 16 | number
 }
 

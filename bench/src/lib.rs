@@ -8,4 +8,5 @@ pub mod engine;
 pub mod make;
 pub mod model;
 pub mod random;
+pub mod stack;
 pub mod time;

@@ -7,13 +7,14 @@ use std::process::ExitCode;
 use dudowiej_bench::compare::{self, listings, ROUNDS, SEED};
 use dudowiej_bench::engine::Exported;
 use dudowiej_bench::model::listing::listing;
-use dudowiej_bench::{count, time};
+use dudowiej_bench::{count, stack, time};
 
 const USAGE: &str = "usage:
   compare [ROUNDS [SEED]]   the exported functions against the independent implementation
   time                      both side by side, in nanoseconds
   count                     every call that bench/instructions.sh counts, once
   instructions FOLDER       what callgrind counted
+  stack                     the bytes of stack that each entry touches
   list                      the independent listing of the table on standard input";
 
 fn main() -> ExitCode {
@@ -32,6 +33,7 @@ fn main() -> ExitCode {
         ["time"] => done(time::time),
         ["count"] => done(count::count),
         ["instructions", folder] => done(|| count::instructions(Path::new(folder))),
+        ["stack"] => done(stack::stack),
         ["list"] => done(list),
         _ => usage(),
     }

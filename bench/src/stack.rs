@@ -1,0 +1,130 @@
+//! Stack: the most that each entry touches, over the inputs that take it deepest and inputs that are refused on the way.
+
+mod touched;
+
+use std::hint::black_box;
+
+use crate::branches::{flat, with_argument};
+use crate::cases::SEED;
+use crate::engine::{Engine, Exported};
+use crate::make::goals;
+use crate::make::tables::{table, Kind};
+use crate::model::least::least;
+use crate::model::plan::{grow, PLAN_CELLS};
+use crate::model::read::{read_table, Table, ROW_CELLS};
+use crate::random::Random;
+use touched::touched;
+
+const ROWS: usize = 64;
+
+/// Measures every entry on every input and prints the most of each.
+pub fn stack() {
+    let mut most = Most(Vec::new());
+    for table in full_tables() {
+        let read = read_table(&table).expect("a sound table");
+        let (plans, goals) = (plans(&read), goals(&read, &table));
+        for table in refused_too(table) {
+            most.of_table(&table, &plans, &goals);
+        }
+    }
+    println!("Bytes of stack that a call touches below its caller's frame, the most over all inputs");
+    for (entry, bytes) in most.0 {
+        println!("{entry:<22}{bytes:>8}");
+    }
+}
+
+/// Each entry with the most that was seen of it.
+struct Most(Vec<(&'static str, usize)>);
+
+impl Most {
+    fn of_table(&mut self, table: &[u32], plans: &[Vec<u32>], goals: &[Vec<u32>]) {
+        self.note("dudowiej_read_table", || Exported.read_table(table));
+        for goal in goals {
+            self.note("dudowiej_read_goal", || Exported.read_goal(table, goal));
+        }
+        for row in [0, ROWS - 1, ROWS] {
+            self.note("dudowiej_row", || Exported.row(table, row));
+        }
+        for plan in plans {
+            self.note("dudowiej_check_plan", || Exported.check_plan(table, plan));
+        }
+        for cells in [PLAN_CELLS, 0] {
+            let mut room = vec![0; cells];
+            self.note("dudowiej_build_plan", || Exported.build_plan(table, &mut room));
+        }
+        for (plan, goal) in plans.iter().flat_map(|plan| goals.iter().map(move |goal| (plan, goal))) {
+            for bytes in [ROWS, 0] {
+                let mut room = vec![0; bytes];
+                self.note("dudowiej_run_plan", || Exported.run_plan(table, plan, goal, &mut room));
+            }
+        }
+    }
+
+    fn note(&mut self, entry: &'static str, mut call: impl FnMut() -> u64) {
+        let bytes = touched(|| {
+            black_box(call());
+        });
+        match self.0.iter_mut().find(|(other, _)| *other == entry) {
+            None => self.0.push((entry, bytes)),
+            Some((_, most)) => *most = bytes.max(*most),
+        }
+    }
+}
+
+/// Tables of 64 rows of 32 cells. A plan closes one cell of a row at a time, so every plan for them is 32 branches deep, and none is deeper.
+fn full_tables() -> [Vec<u32>; 4] {
+    let random = |width| table(&mut Random::new(SEED), Kind::Full(width), ROWS);
+    [chains(|_| 0), chains(|row| row), random(8), random(1)]
+}
+
+/// One column of names nested one in another, named by the row's number, and in each row another leaf.
+fn chains(name: fn(u32) -> u32) -> Vec<u32> {
+    let mut cells = vec![1, ROWS as u32];
+    for row in 0..ROWS as u32 {
+        cells.extend([with_argument(name(row)); ROW_CELLS - 1]);
+        cells.push(flat(row));
+    }
+    cells
+}
+
+/// The cells as they are; with one less, with one more and with the last one changed; and none.
+fn refused_too(cells: Vec<u32>) -> [Vec<u32>; 5] {
+    let [mut cut, mut longer, mut changed] = [(); 3].map(|()| cells.clone());
+    cut.pop();
+    longer.push(0);
+    *changed.last_mut().expect("there are cells") ^= 1 << 29;
+    [cells, cut, longer, changed, Vec::new()]
+}
+
+/// The builder's plan, that of the first open places and that of the last, each refused too; and one that is too long.
+fn plans(table: &Table) -> Vec<Vec<u32>> {
+    let sound = [least(table), grow(table, |_, _| 0), grow(table, |open, rows| open.places(rows) - 1)];
+    let mut plans: Vec<Vec<u32>> = sound.iter().flat_map(|plan| refused_too(plan.write())).collect();
+    plans.push(vec![0; PLAN_CELLS + 1]);
+    plans
+}
+
+/// The goal of distinct variables, the last row, and the first, which is refused too.
+fn goals(table: &Table, cells: &[u32]) -> Vec<Vec<u32>> {
+    let row = |number: usize| cells[table.rows[number].start..][..table.rows[number].cells].to_vec();
+    let mut goals = vec![goals::open(table.width), row(ROWS - 1)];
+    goals.extend(refused_too(row(0)));
+    goals
+}
+
+#[cfg(test)]
+mod tests {
+    use super::*;
+    use crate::model::plan::check;
+
+    #[test]
+    fn plans_are_as_deep_as_can_be() {
+        for table in full_tables() {
+            let read = read_table(&table).expect("a sound table");
+            let deepest = |plan: &Vec<u32>| check(&read, plan).ok().and_then(|plan| plan.branches.iter().map(|branch| branch.depth() + 1).max());
+            let depths: Vec<Option<usize>> = plans(&read).iter().map(deepest).collect();
+            let [sound, refused] = [Some(ROW_CELLS), None];
+            assert_eq!(depths, [[sound, refused, refused, refused, refused].repeat(3), vec![refused]].concat());
+        }
+    }
+}
