@@ -1,4 +1,5 @@
 pub mod StateLaws
+pub mod AloneLaws
 pub mod LoopLaws
 pub mod EntryLaws
 pub mod Accepts

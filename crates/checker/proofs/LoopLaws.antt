@@ -1,45 +1,39 @@
--- The branches of a state: what one turn of the loop over them makes of the reading and of the marks.
+-- The branches of a state: what one turn of the loop over them makes of the reading.
 use mathlib.Core.Path.{_≡_, refl, sym, ap, _∙_}
 use mathlib.Core.Logic.{_≢_}
 use mathlib.Core.List.{List, []}
 use Prim.Native.Nat.{ℕ, _+_, _-_, _≤_, _<_}
 use native.Mathlib.Omega.{arith}
-use lib.ListN.{length, getD, drop, set, length-set, length-drop, length-append}
-use lib.Seq.{length-sets}
+use lib.ListN.{length, getD, drop}
 use Rattle.cell.specs.Cell.{arity}
-use Rattle.term.specs.Terms.{none}
 use Rattle.refusal.specs.Refusal.{Refused, told}
 use Rattle.refusal.specs.declared.Reason.the-variants as reason
 use Rattle.refusal.specs.Read.{read, refuse}
 use Rattle.refusal.specs.declared.Refusal.{Refusal}
-use Rattle.plan.specs.Runs.{Run, run, runs}
-use Rattle.plan.specs.Plans.{end, write, branches}
-use Rattle.plan.specs.Check.{Seen, seen, bad, branchesFrom, stateFrom}
-use Rattle.plan.specs.Marks.{endsIn, manyIn}
+use Rattle.plan.specs.Runs.{Run, run}
+use Rattle.plan.specs.Check.{seen, bad, branchesFrom, stateFrom}
 use Rattle.state.specs.Column.{runLength}
 use Rattle.state.specs.States.{rowsIn, columnIn, runsIn, Same}
-use Rattle.checker.specs.code.Steps.{saidBy, Ready, ReadyIn, Stood, StoodIn, Done, DoneIn}
+use Rattle.checker.specs.code.Steps.{saidBy, Ready, ReadyIn, Done, DoneIn}
 use Rattle.checker.specs.declared.check.Step.{Step}
 use Rattle.checker.specs.declared.check.Step.the-variants as step
 use Rattle.plan.proofs.ReadingLaws.{after, after-none, after-after, branches-ends, branches-label, branches-refused, branches-on}
-use Rattle.state.proofs.RowsLaws.{rows-length, rows-kept, FirstRun, run-first, same-self, same-then, same-later}
-use Rattle.checker.proofs.StateLaws.{next-stood, more-cells, longest, longest-take, longest-drop}
+use Rattle.state.proofs.RowsLaws.{rows-kept, FirstRun, run-first, same-self, same-then, same-later}
+use Rattle.checker.proofs.StateLaws.{longest, longest-take, longest-drop}
 
 -- The loop over the branches. Rows from first to before row are done: what is left of the work, from row and place on, is all of it, but for the
 -- branches counted so far. The lists are those where the loop begins, and as they are now.
-pub record Going (t ss p ms hs es ns : List ℕ) (first last k at : ℕ) (ms₁ hs₁ es₁ ns₁ : List ℕ) (row place count : ℕ) : Type 0 where
-  pub ready : ReadyIn t ss ms₁ hs₁ p es₁ ns₁ row last k place
+pub record Going (t ss p ms hs : List ℕ) (first last k at : ℕ) (ms₁ hs₁ : List ℕ) (row place count : ℕ) : Type 0 where
+  pub ready : ReadyIn t ss ms₁ hs₁ p row last k place
   pub deep : longest (rowsIn t ss ms₁ row last) ≤ longest (rowsIn t ss ms first last)
-  pub few : count ≤ place
+  pub few : at + count ≤ place
   pub masks : Same last ms ms₁
   pub column : Same last hs hs₁
   pub says : after count (branchesFrom (stateFrom 32) k (runsIn t ss ms₁ hs₁ row last) place (drop place p))
       ≡ branchesFrom (stateFrom 32) k (runsIn t ss ms hs first last) at (drop at p)
-  pub notes : (es′ ns′ : List ℕ) (b n : ℕ) → StoodIn k (runsIn t ss ms₁ hs₁ row last) p es₁ ns₁ es′ ns′ place b n
-      → StoodIn k (runsIn t ss ms hs first last) p es ns es′ ns′ at (count + b) n
 
-pub going-start : {t ss ms hs p es ns : List ℕ} {first last k at : ℕ} → ReadyIn t ss ms hs p es ns first last k at
-    → Going t ss p ms hs es ns first last k at ms hs es ns first at 0
+pub going-start : {t ss ms hs p : List ℕ} {first last k at : ℕ} → ReadyIn t ss ms hs p first last k at
+    → Going t ss p ms hs first last k at ms hs first at 0
 going-start {t} {ss} {ms} {hs} {p} {first = first} {last} {k} {at} w = record {
   ready = w;
   deep = omega arith;
@@ -47,37 +41,32 @@ going-start {t} {ss} {ms} {hs} {p} {first = first} {last} {k} {at} w = record {
   masks = same-self last ms;
   column = same-self last hs;
   says = after-none (branchesFrom (stateFrom 32) k (runsIn t ss ms hs first last) at (drop at p));
-  notes = λ es′ ns′ b n s. let e : 0 + b ≡ b = omega arith in rw e s;
 }
 
-module _ {t ss p ms hs es ns : List ℕ} {first last k at : ℕ} {ms₁ hs₁ es₁ ns₁ : List ℕ} {row place count : ℕ}
-    (g : Going t ss p ms hs es ns first last k at ms₁ hs₁ es₁ ns₁ row place count) where
+module _ {t ss p ms hs : List ℕ} {first last k at : ℕ} {ms₁ hs₁ : List ℕ} {row place count : ℕ}
+    (g : Going t ss p ms hs first last k at ms₁ hs₁ row place count) where
   abbrev left : List Run
   left = runsIn t ss ms₁ hs₁ row last
 
   -- what is left is turned away
-  going-refused : {ms₂ hs₂ es₂ ns₂ : List ℕ} {f : Refusal} (x : Refused) → branchesFrom (stateFrom 32) k left place (drop place p) ≡ refuse x → told f ≡ x
-      → Same last ms₁ ms₂ → Same last hs₁ hs₂ → DoneIn t ss ms hs ms₂ hs₂ p es ns es₂ ns₂ first last k at (step.Refused f)
+  going-refused : {ms₂ hs₂ : List ℕ} {f : Refusal} (x : Refused) → branchesFrom (stateFrom 32) k left place (drop place p) ≡ refuse x → told f ≡ x
+      → Same last ms₁ ms₂ → Same last hs₁ hs₂ → DoneIn t ss ms hs ms₂ hs₂ p first last k at (step.Refused f)
   going-refused x e q a b = record {
     says = sym (g .says) ∙ rw (e, q);
-    notes = tt;
+    inside = tt;
     masks = same-then last (g .masks) a;
     column = same-then last (g .column) b;
   }
 
   -- no row is left
-  pub going-done : last ≤ row → DoneIn t ss ms hs ms₁ hs₁ p es ns es₁ ns₁ first last k at (step.Seen count place)
-  unfolding write branches endsIn manyIn
+  pub going-done : last ≤ row → DoneIn t ss ms hs ms₁ hs₁ p first last k at (step.Seen count place)
   going-done h =
       let e : last - row ≡ 0 = omega arith in
       let none : left ≡ [] = rw e in
       let z : count + 0 ≡ count = omega arith in
-      let here = rw none at (g .says) in
-      let nothing : StoodIn k left p es₁ ns₁ es₁ ns₁ place 0 place =
-      rw none (record { trees = end; cells = refl; count = refl; place = omega arith; ends = refl; many = refl }) in
       record {
-        says = sym here ∙ ap (λ (b : ℕ). read (seen b place (drop place p))) z;
-        notes = rw z at (g .notes es₁ ns₁ 0 place nothing);
+        says = sym (rw none at (g .says)) ∙ ap (λ (b : ℕ). read (seen b place (drop place p))) z;
+        inside = (g .few, g .ready .room .here);
         masks = g .masks;
         column = g .column;
       }
@@ -96,27 +85,27 @@ module _ {t ss p ms hs es ns : List ℕ} {first last k at : ℕ} {ms₁ hs₁ es
     abbrev runs-after : List Run
     runs-after = runsIn t ss ms₁ hs₁ (row + size) last
 
-    pub going-ends : {f : Refusal} → length p ≤ place → told f ≡ bad reason.Ends place → DoneIn t ss ms hs ms₁ hs₁ p es ns es₁ ns₁ first last k at (step.Refused f)
+    pub going-ends : {f : Refusal} → length p ≤ place → told f ≡ bad reason.Ends place → DoneIn t ss ms hs ms₁ hs₁ p first last k at (step.Refused f)
     going-ends l q =
         let e = branches-ends (stateFrom 32) k first-run runs-after p place l in
         going-refused (bad reason.Ends place) (rw (first-left .runs) e) q (same-self last ms₁) (same-self last hs₁)
 
     pub going-label : {f : Refusal} → place < length p → getD p place 0 ≢ getD hs₁ row 0 → told f ≡ bad reason.Label place
-        → DoneIn t ss ms hs ms₁ hs₁ p es ns es₁ ns₁ first last k at (step.Refused f)
+        → DoneIn t ss ms hs ms₁ hs₁ p first last k at (step.Refused f)
     going-label l d q =
         let e = branches-label (stateFrom 32) k first-run runs-after p place l d in
         going-refused (bad reason.Label place) (rw (first-left .runs) e) q (same-self last ms₁) (same-self last hs₁)
 
 -- One turn: a branch's cell is there and is the first row's, and n rows are its run.
-pub record Turn (t ss p ms hs es ns : List ℕ) (first last k at : ℕ) (ms₁ hs₁ es₁ ns₁ : List ℕ) (row place count n : ℕ) : Type 0 where
-  pub going : Going t ss p ms hs es ns first last k at ms₁ hs₁ es₁ ns₁ row place count
+pub record Turn (t ss p ms hs : List ℕ) (first last k at : ℕ) (ms₁ hs₁ : List ℕ) (row place count n : ℕ) : Type 0 where
+  pub going : Going t ss p ms hs first last k at ms₁ hs₁ row place count
   pub here : place < length p
   pub label : getD p place 0 ≡ getD hs₁ row 0
   pub run : FirstRun t ss ms₁ hs₁ row last n
 
-pub turn-of : {t ss p ms hs es ns : List ℕ} {first last k at : ℕ} {ms₁ hs₁ es₁ ns₁ : List ℕ} {row place count : ℕ} (n : ℕ)
-    → Going t ss p ms hs es ns first last k at ms₁ hs₁ es₁ ns₁ row place count → row < last → place < length p → getD p place 0 ≡ getD hs₁ row 0
-    → n ≡ runLength (columnIn hs₁ row last) → Turn t ss p ms hs es ns first last k at ms₁ hs₁ es₁ ns₁ row place count n
+pub turn-of : {t ss p ms hs : List ℕ} {first last k at : ℕ} {ms₁ hs₁ : List ℕ} {row place count : ℕ} (n : ℕ)
+    → Going t ss p ms hs first last k at ms₁ hs₁ row place count → row < last → place < length p → getD p place 0 ≡ getD hs₁ row 0
+    → n ≡ runLength (columnIn hs₁ row last) → Turn t ss p ms hs first last k at ms₁ hs₁ row place count n
 turn-of {t} {ss} {last = last} {ms₁ = ms₁} {hs₁} {row = row} n g h l d e = record {
   going = g;
   here = l;
@@ -124,9 +113,9 @@ turn-of {t} {ss} {last = last} {ms₁ = ms₁} {hs₁} {row = row} n g h l d e =
   run = run-first t ss ms₁ hs₁ row last n h (omega (arith, g .ready .room .column, g .ready .room .few)) e;
 }
 
-module _ {t ss p ms hs es ns : List ℕ} {first last k at : ℕ} {ms₁ hs₁ es₁ ns₁ : List ℕ} {row place count n : ℕ}
-    (w : Turn t ss p ms hs es ns first last k at ms₁ hs₁ es₁ ns₁ row place count n) where
-  abbrev g : Going t ss p ms hs es ns first last k at ms₁ hs₁ es₁ ns₁ row place count
+module _ {t ss p ms hs : List ℕ} {first last k at : ℕ} {ms₁ hs₁ : List ℕ} {row place count n : ℕ}
+    (w : Turn t ss p ms hs first last k at ms₁ hs₁ row place count n) where
+  abbrev g : Going t ss p ms hs first last k at ms₁ hs₁ row place count
   g = w .going
 
   abbrev r : FirstRun t ss ms₁ hs₁ row last n
@@ -142,14 +131,11 @@ module _ {t ss p ms hs es ns : List ℕ} {first last k at : ℕ} {ms₁ hs₁ es
   others = runsIn t ss ms₁ hs₁ (row + n) last
 
   -- the state below the branch: its rows fit, and are no longer than all were
-  pub ready-below : Ready t ss ms₁ hs₁ p es₁ ns₁ row (row + n) (arity c + k) (place + 1)
+  pub ready-below : Ready t ss ms₁ hs₁ p row (row + n) (arity c + k) (place + 1)
   ready-below = record {
     room = record {
       masks = g .ready .room .masks;
       column = g .ready .room .column;
-      ends = g .ready .room .ends;
-      many = g .ready .room .many;
-      size = g .ready .room .size;
       here = omega (arith, w .here);
       few = omega (arith, r .few, g .ready .room .few);
       some = omega arith;
@@ -161,9 +147,9 @@ module _ {t ss p ms hs es ns : List ℕ} {first last k at : ℕ} {ms₁ hs₁ es
   pub shorter-below : longest (rowsIn t ss ms₁ row (row + n)) ≤ longest (rowsIn t ss ms first last)
   shorter-below = omega (arith, g .deep, ap longest (r .front), longest-take n (rowsIn t ss ms₁ row last))
 
-  module _ {ms₂ hs₂ es₂ ns₂ : List ℕ} {s : Step} (a : Done t ss ms₁ hs₁ ms₂ hs₂ p es₁ ns₁ es₂ ns₂ row (row + n) (arity c + k) (place + 1) s) where
+  module _ {ms₂ hs₂ : List ℕ} {s : Step} (a : Done t ss ms₁ hs₁ ms₂ hs₂ p row (row + n) (arity c + k) (place + 1) s) where
     -- it is turned away
-    pub turn-refused : {f : Refusal} → s ≡ step.Refused f → DoneIn t ss ms hs ms₂ hs₂ p es ns es₂ ns₂ first last k at (step.Refused f)
+    pub turn-refused : {f : Refusal} → s ≡ step.Refused f → DoneIn t ss ms hs ms₂ hs₂ p first last k at (step.Refused f)
     turn-refused {f} e =
         going-refused g (told f) (rw (r .runs) (branches-refused (stateFrom 32) k one others p place (told f) (w .here) (w .label) (a .says ∙ ap (saidBy p) e))) refl
         (same-later (row + n) last (r .few) (a .masks))
@@ -171,26 +157,18 @@ module _ {t ss p ms hs es ns : List ℕ} {first last k at : ℕ} {ms₁ hs₁ es
 
     -- it is read: on with the runs after it
     module _ {b m : ℕ} (e : s ≡ step.Seen b m) where
+      -- the place after it, and its branches, are within the plan
+      pub turn-next : (place + 1 + b ≤ m) × (m ≤ length p)
+      turn-next = rw e at (a .inside)
+
       others-kept : runsIn t ss ms₂ hs₂ (row + n) last ≡ others
       others-kept = rw (a .column .after, rows-kept t ss ms₁ ms₂ (last - (row + n)) (row + n) (a .masks .after))
 
-      stood : Stood (arity c + k) (rowsIn t ss ms₁ row (row + n)) p es₁ ns₁ es₂ ns₂ (place + 1) b m
-      stood = rw e at (a .notes)
-
-      -- the place after it, and its branches, are within the plan
-      pub turn-next : (place < m) × (m ≤ length p) × (b < m - place)
-      turn-next =
-          let cells = ap length (stood .cells) in
-          omega (arith, w .here, stood .place, stood .count, more-cells (stood .tree), simp (length-drop, length-append) at cells)
-
-      ready-next : ReadyIn t ss ms₂ hs₂ p (set es₂ place m) (set ns₂ place n) (row + n) last k m
+      ready-next : ReadyIn t ss ms₂ hs₂ p (row + n) last k m
       ready-next = record {
         room = record {
           masks = a .masks .size ∙ g .ready .room .masks;
           column = a .column .size ∙ g .ready .room .column;
-          ends = length-set es₂ place m ∙ ap length (stood .ends) ∙ length-sets es₁ (place + 1) (endsIn (stood .tree) (place + 1)) ∙ g .ready .room .ends;
-          many = length-set ns₂ place n ∙ ap length (stood .many) ∙ length-sets ns₁ (place + 1) (manyIn (stood .tree)) ∙ g .ready .room .many;
-          size = g .ready .room .size;
           here = turn-next .1;
           few = g .ready .room .few;
           some = r .few;
@@ -206,16 +184,7 @@ module _ {t ss p ms hs es ns : List ℕ} {first last k at : ℕ} {ms₁ hs₁ es
           rw (others-kept, q)
           (sym (after-after count (b + 1) (branchesFrom (stateFrom 32) k others m (drop m p))) ∙ ap (after count) (sym on) ∙ (rw (r .runs) at (g .says)))
 
-      notes-next : (es′ ns′ : List ℕ) (b′ n′ : ℕ) → StoodIn k (runsIn t ss ms₂ hs₂ (row + n) last) p (set es₂ place m) (set ns₂ place n) es′ ns′ m b′ n′
-          → StoodIn k (runsIn t ss ms hs first last) p es ns es′ ns′ at (count + (1 + b) + b′) n′
-      notes-next es′ ns′ b′ n′ s′ =
-          let z : n ≡ length (rowsIn t ss ms₁ row (row + n)) = omega (arith, rows-length t ss ms₁ (row + n - row) row) in
-          let q : count + (1 + b + b′) ≡ count + (1 + b) + b′ = omega arith in
-          let t′ = ap (λ (x : ℕ). set ns₂ place x) z in
-          let u = rw (others-kept, t′) at s′ in
-          rw q at (g .notes es′ ns′ (1 + b + b′) n′ (rw (r .runs) (next-stood (w .here) (w .label) stood u)))
-
-      pub turn-on : Going t ss p ms hs es ns first last k at ms₂ hs₂ (set es₂ place m) (set ns₂ place n) (row + n) m (count + (1 + b))
+      pub turn-on : Going t ss p ms hs first last k at ms₂ hs₂ (row + n) m (count + (1 + b))
       turn-on = record {
         ready = ready-next;
         deep = omega (
@@ -229,5 +198,4 @@ module _ {t ss p ms hs es ns : List ℕ} {first last k at : ℕ} {ms₁ hs₁ es
         masks = same-then last (g .masks) (same-later (row + n) last (r .few) (a .masks));
         column = same-then last (g .column) (same-later (row + n) last (r .few) (a .column));
         says = says-next;
-        notes = notes-next;
       }

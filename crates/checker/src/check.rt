@@ -1,15 +1,17 @@
 // The check of a plan, state by state (01, "Plans" and the plan's rows of "What is turned away").
 ghost use mathlib.Core.Path.{_≡_};
-ghost use Prim.Native.Nat.{_≤_, _<_};
-ghost use lib.ListN.{set};
 ghost use Rattle.refusal.specs.Refusal.{told};
+ghost use lib.ListN.{drop};
 ghost use Rattle.plan.specs.Check.{bad};
-ghost use Rattle.checker.specs.code.Steps.{Ready, ReadyIn, Done, DoneIn};
+ghost use Rattle.plan.specs.code.Fits.{Fits};
+ghost use Rattle.state.specs.Mask.{kept};
+ghost use Rattle.checker.specs.code.Steps.{LeafDone, AloneDone, Ready, ReadyIn, Done, DoneIn};
 use refusal::Input;
 use refusal::Reason;
 use refusal::Refusal;
 use state::column::run_count;
 use state::column::run_length;
+use state::mask::close_at;
 use state::mask::close_rows;
 
 // A state that is read: its number of branches, and the place after it; or why the plan is turned away.
@@ -29,13 +31,59 @@ pub fn refusal(reason: Reason, place: usize) -> Refusal
     }
 }
 
-// Notes at a place of the plan where the branch there ends and how many rows it has; both are 0 where no branch's cell is.
-fn mark(ends: &mut [u16; 6082], many: &mut [u8; 6082], place: usize, end: usize, rows: usize)
-    requires { ⌜ (place < 6082) × (end ≤ 6082) × (rows ≤ 64) ⌝ }
-    ensures { λ r. ⌜ (now (ends .exit) ≡ set (now (ends .entry)) place end) × (now (many .exit) ≡ set (now (many .entry)) place rows) ⌝ }
+// A leaf at place `at` of the plan: the number of its rows. So many branches are counted above it.
+fn leaf(plan: &[u32], rows: usize, count: usize, at: usize) -> Step
+    ensures { λ r. ⌜ LeafDone (now (plan .entry)) rows count at r ⌝ }
 {
-    ends[place] = end as u16;
-    many[place] = rows as u8;
+    if plan.len() <= at {
+        return Step::Refused(refusal(Reason::Ends, at));
+    }
+    if plan[at] as usize != rows {
+        return Step::Refused(refusal(Reason::Rows, at));
+    }
+    Step::Seen(count, at + 1)
+}
+
+// A state with one row, at place `at` of the plan, with k open places: a chain of single branches, one for each cell that the row still has, down to its leaf.
+// A row that is alone needs no column and no run, and goes down with no call.
+fn alone(table: &[u32], start: usize, mask: u32, plan: &[u32], k: usize, at: usize) -> Step
+    requires { ⌜ Fits 32 k (kept mask (drop start (now table))) ⌝ }
+    ensures { λ r. ⌜ AloneDone (now (table .entry)) start mask (now (plan .entry)) k at r ⌝ }
+{
+    let mut left = mask;
+    let mut owed = k;
+    let mut place = at;
+    let mut count = 0;
+    while 0 < owed {
+        if plan.len() <= place {
+            return Step::Refused(refusal(Reason::Ends, place));
+        }
+        let i = plan[place];
+        if owed <= i as usize {
+            return Step::Refused(refusal(Reason::Open, place));
+        }
+        let second = place + 1;
+        if plan.len() <= second {
+            return Step::Refused(refusal(Reason::Ends, second));
+        }
+        if plan[second] != 1 {
+            return Step::Refused(refusal(Reason::Edges, second));
+        }
+        let third = place + 2;
+        if plan.len() <= third {
+            return Step::Refused(refusal(Reason::Ends, third));
+        }
+        let closed = close_at(table, start, left, i);
+        let c = closed.cell;
+        if plan[third] != c {
+            return Step::Refused(refusal(Reason::Label, third));
+        }
+        left = closed.mask;
+        owed = cell::arity_of(c) + (owed - 1);
+        place += 3;
+        count += 1;
+    }
+    leaf(plan, 1, count, place)
 }
 
 // The state at place `at` of the plan, with k open places and the rows from first to before end. It goes no deeper than 32: each state closes one cell
@@ -46,35 +94,32 @@ pub fn state(
     masks: &mut [u32; 64],
     column: &mut [u32; 64],
     plan: &[u32],
-    ends: &mut [u16; 6082],
-    many: &mut [u8; 6082],
     first: usize,
     end: usize,
     k: usize,
     at: usize,
 ) -> Step
-    requires { ⌜ Ready (now table) (now starts) (now masks) (now column) (now plan) (now ends) (now many) first end k at ⌝ }
-    ensures { λ r. ⌜ Done (now (table .entry)) (now (starts .entry)) (now (masks .entry)) (now (column .entry)) (now (masks .exit)) (now (column .exit)) (now (plan .entry)) (now (ends .entry)) (now (many .entry)) (now (ends .exit)) (now (many .exit)) first end k at r ⌝ }
+    requires { ⌜ Ready (now table) (now starts) (now masks) (now column) (now plan) first end k at ⌝ }
+    ensures { λ r. ⌜ Done (now (table .entry)) (now (starts .entry)) (now (masks .entry)) (now (column .entry)) (now (masks .exit)) (now (column .exit)) (now (plan .entry)) first end k at r ⌝ }
 {
+    let rows = end - first;
+    if rows == 1 {
+        return alone(table, starts[first], masks[first], plan, k, at);
+    }
+    if k == 0 {
+        return leaf(plan, rows, 0, at);
+    }
     if plan.len() <= at {
         return Step::Refused(refusal(Reason::Ends, at));
     }
-    mark(ends, many, at, 0, 0);
-    let next = at + 1;
     let i = plan[at];
-    if k == 0 {
-        if i as usize != end - first {
-            return Step::Refused(refusal(Reason::Rows, at));
-        }
-        return Step::Seen(0, next);
-    }
     if k <= i as usize {
         return Step::Refused(refusal(Reason::Open, at));
     }
+    let next = at + 1;
     if plan.len() <= next {
         return Step::Refused(refusal(Reason::Ends, next));
     }
-    mark(ends, many, next, 0, 0);
     close_rows(table, starts, masks, column, i, first, end);
     let cells = &column[..];
     if plan[next] as usize != run_count(&cells[first..end]) {
@@ -86,8 +131,6 @@ pub fn state(
         masks,
         column,
         plan,
-        ends,
-        many,
         first,
         end,
         k - 1,
@@ -102,15 +145,13 @@ fn branches(
     masks: &mut [u32; 64],
     column: &mut [u32; 64],
     plan: &[u32],
-    ends: &mut [u16; 6082],
-    many: &mut [u8; 6082],
     first: usize,
     end: usize,
     k: usize,
     at: usize,
 ) -> Step
-    requires { ⌜ ReadyIn (now table) (now starts) (now masks) (now column) (now plan) (now ends) (now many) first end k at ⌝ }
-    ensures { λ r. ⌜ DoneIn (now (table .entry)) (now (starts .entry)) (now (masks .entry)) (now (column .entry)) (now (masks .exit)) (now (column .exit)) (now (plan .entry)) (now (ends .entry)) (now (many .entry)) (now (ends .exit)) (now (many .exit)) first end k at r ⌝ }
+    requires { ⌜ ReadyIn (now table) (now starts) (now masks) (now column) (now plan) first end k at ⌝ }
+    ensures { λ r. ⌜ DoneIn (now (table .entry)) (now (starts .entry)) (now (masks .entry)) (now (column .entry)) (now (masks .exit)) (now (column .exit)) (now (plan .entry)) first end k at r ⌝ }
 {
     let mut row = first;
     let mut place = at;
@@ -134,15 +175,12 @@ fn branches(
             masks,
             column,
             plan,
-            ends,
-            many,
             row,
             row + n,
             open,
             under,
         ) {
             Step::Seen(below, next) => {
-                mark(ends, many, place, next, n);
                 count += 1 + below;
                 place = next;
             }

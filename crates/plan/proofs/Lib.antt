@@ -3,5 +3,5 @@ pub mod PlansLaws
 pub mod SizeLaws
 pub mod ReadingLaws
 pub mod CheckLaws
-pub mod MarksLaws
+pub mod NotesLaws
 pub mod Examples

@@ -1,5 +1,5 @@
 pub mod Runs
 pub mod Plans
 pub mod Check
-pub mod Marks
+pub mod Notes
 pub mod code

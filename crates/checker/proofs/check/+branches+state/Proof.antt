@@ -4,7 +4,7 @@ use lib.ListN.{getD}
 use Rattle.cell.specs.Cell.{arity}
 use Rattle.state.specs.States.{rowsIn}
 use Rattle.checker.specs.code.Steps.{Done}
-use Rattle.checker.proofs.StateLaws.{longest, few-open, shorter, done-ends, done-rows, done-leaf, done-open, done-ends-2, done-edges, ready-branches, done-node}
+use Rattle.checker.proofs.StateLaws.{longest, few-open, shorter, fits-alone, done-alone, done-leaf, done-ends, done-open, done-ends-2, done-edges, ready-branches, done-node}
 use Rattle.checker.proofs.LoopLaws.{Going, going-start, going-done, going-ends, going-label, Turn, turn-of, ready-below, shorter-below, turn-refused, turn-next, turn-on}
 use Prim.Native.Nat.{ℕ, _+_, _-_, _*_, _<_}
 use borrow.Fn.Kinds.{In}
@@ -16,46 +16,47 @@ use Rattle.checker.proofs.check.state.Reads as state
 use Rattle.checker.proofs.check.state.Kinds as state-kinds
 use Rattle.checker.proofs.check.+branches+state.Lts-state as state-lts
 use Rattle.cell.proofs.arity_of.Reads as arity-of-reads
-use Rattle.state.proofs.mask.close_rows.Reads as close-rows-reads
-use Rattle.checker.proofs.check.mark.Reads as mark-reads
+use Rattle.checker.proofs.check.alone.Reads as alone-reads
+use Rattle.checker.proofs.check.leaf.Reads as leaf-reads
 use Rattle.checker.proofs.check.refusal.Reads as refusal-reads
 use Rattle.state.proofs.column.run_count.Reads as run-count-reads
 use Rattle.state.proofs.column.run_length.Reads as run-length-reads
+use Rattle.state.proofs.mask.close_rows.Reads as close-rows-reads
 use Rattle.checker.proofs.check.+branches+state.{statement}
 use Rattle.checker.proofs.check.+branches+state.Tie.{close}
 
 -- two calls for each cell that the longest row still has: at most 64
-abbrev μ-branches : Measures 7 branches-kinds.ps ℕ
-μ-branches κs a = 2 * longest (rowsIn (a .0 .now) (a .1 .0 .now) (a .1 .1 .0 .now) (a .1 .1 .1 .1 .1 .1 .1 .0) (a .1 .1 .1 .1 .1 .1 .1 .1 .0)) + 1
+abbrev μ-branches : Measures 5 branches-kinds.ps ℕ
+μ-branches κs a = 2 * longest (rowsIn (a .0 .now) (a .1 .0 .now) (a .1 .1 .0 .now) (a .1 .1 .1 .1 .1 .0) (a .1 .1 .1 .1 .1 .1 .0)) + 1
 
-abbrev μ-state : Measures 7 state-kinds.ps ℕ
-μ-state κs a = 2 * longest (rowsIn (a .0 .now) (a .1 .0 .now) (a .1 .1 .0 .now) (a .1 .1 .1 .1 .1 .1 .1 .0) (a .1 .1 .1 .1 .1 .1 .1 .1 .0))
+abbrev μ-state : Measures 5 state-kinds.ps ℕ
+μ-state κs a = 2 * longest (rowsIn (a .0 .now) (a .1 .0 .now) (a .1 .1 .0 .now) (a .1 .1 .1 .1 .1 .0) (a .1 .1 .1 .1 .1 .1 .0))
 
-abbrev branches-at : ℕ → In 7 branches-kinds.ps
-branches-at t = and 7 branches-kinds.ps (is 7 branches-kinds.ps μ-branches t) branches.Pre
+abbrev branches-at : ℕ → In 5 branches-kinds.ps
+branches-at t = and 5 branches-kinds.ps (is 5 branches-kinds.ps μ-branches t) branches.Pre
 
-abbrev branches-below : ℕ → In 7 branches-kinds.ps
+abbrev branches-below : ℕ → In 5 branches-kinds.ps
 branches-below t =
-    and 7 branches-kinds.ps (falls 7 branches-kinds.ps _<_ μ-branches t) branches.Pre
+    and 5 branches-kinds.ps (falls 5 branches-kinds.ps _<_ μ-branches t) branches.Pre
 
-abbrev state-at : ℕ → In 7 state-kinds.ps
-state-at t = and 7 state-kinds.ps (is 7 state-kinds.ps μ-state t) state.Pre
+abbrev state-at : ℕ → In 5 state-kinds.ps
+state-at t = and 5 state-kinds.ps (is 5 state-kinds.ps μ-state t) state.Pre
 
-abbrev state-below : ℕ → In 7 state-kinds.ps
-state-below t = and 7 state-kinds.ps (falls 7 state-kinds.ps _<_ μ-state t) state.Pre
+abbrev state-below : ℕ → In 5 state-kinds.ps
+state-below t = and 5 state-kinds.ps (falls 5 state-kinds.ps _<_ μ-state t) state.Pre
 
 abbrev branches-with : ℕ → branches-lts.Claims
-branches-with t = (refusal-reads.Asked, refusal-reads.Learnt, run-length-reads.Asked, run-length-reads.Learnt, arity-of-reads.Asked, arity-of-reads.Learnt, state-below t, state.Post, mark-reads.Asked, mark-reads.Learnt)
+branches-with t = (refusal-reads.Asked, refusal-reads.Learnt, run-length-reads.Asked, run-length-reads.Learnt, arity-of-reads.Asked, arity-of-reads.Learnt, state-below t, state.Post)
 
 abbrev state-with : ℕ → state-lts.Claims
-state-with t = (refusal-reads.Asked, refusal-reads.Learnt, mark-reads.Asked, mark-reads.Learnt, close-rows-reads.Asked, close-rows-reads.Learnt, run-count-reads.Asked, run-count-reads.Learnt, branches-below t, branches.Post)
+state-with t = (alone-reads.Asked, alone-reads.Learnt, leaf-reads.Asked, leaf-reads.Learnt, refusal-reads.Asked, refusal-reads.Learnt, close-rows-reads.Asked, close-rows-reads.Learnt, run-count-reads.Asked, run-count-reads.Learnt, branches-below t, branches.Post)
 
 abbrev branches-Inv-loop : branches-lts.InvT-loop
-branches-Inv-loop table starts masks₀ column₀ plan ends₀ many₀ first end k at row₀ place₀ count₀ masks column ends many row place count =
-    Going table starts plan masks₀ column₀ ends₀ many₀ first end k at masks column ends many row place count
+branches-Inv-loop table starts masks₀ column₀ plan first end k at row₀ place₀ count₀ masks column row place count =
+    Going table starts plan masks₀ column₀ first end k at masks column row place count
 
 abbrev branches-μ-loop : branches-lts.MeasureT-loop
-branches-μ-loop table starts masks₀ column₀ plan ends₀ many₀ first end k at row₀ place₀ count₀ masks column ends many row place count =
+branches-μ-loop table starts masks₀ column₀ plan first end k at row₀ place₀ count₀ masks column row place count =
     end - row
 
 -- the places of `branches` that its answers go back to: where the run's length is known, the turn of the loop before that, and the call before that
@@ -70,18 +71,18 @@ call-at t c = c .before .before .before .before .before .before .before .before 
 
 -- the turn
 turn : (t : ℕ) (c : At-run t) → let l = turn-at t c .loop in let a = call-at t c .args in
-    Turn (a .table .now) (a .starts .now) (a .plan .now) (a .masks .now) (a .column .now) (a .ends .now) (a .many .now) (a .first) (a .end) (a .k) (a .at)
-    (l .masks) (l .column) (l .ends) (l .many) (l .row) (l .place) (l .count) (c .run-length .result)
+    Turn (a .table .now) (a .starts .now) (a .plan .now) (a .masks .now) (a .column .now) (a .first) (a .end) (a .k) (a .at)
+    (l .masks) (l .column) (l .row) (l .place) (l .count) (c .run-length .result)
 turn t c = turn-of (c .run-length .result) (c .before .before .before .before .before .before .before .before .before .loop .inv) (c .before .before .before .before .before .before .before .before .loop-test .taken) (c .before .before .before .before .before .before .before .if1 .left) (c .before .before .before .before .if2 .left) (c .run-length .ensures)
 
 -- the state below the branch, and its answer
 abbrev At-state : ℕ → Type 0
 At-state t = branches-lts.After-state (branches-with t) (branches-at t) branches.Post branches-Inv-loop branches-μ-loop
 
-below : (t : ℕ) (s : At-state t) → let c = s .before .before .before .before .before .before in let l = turn-at t c .loop in let a = call-at t c .args in let z = s .state .last in
-    Done (a .table .now) (a .starts .now) (l .masks) (l .column) (z .1 .1 .0) (z .1 .1 .1 .0) (a .plan .now) (l .ends) (l .many) (z .1 .1 .1 .1 .1 .0) (z .1 .1 .1 .1 .1 .1 .0)
+below : (t : ℕ) (s : At-state t) → let c = s .before .before .before .before in let l = turn-at t c .loop in let a = call-at t c .args in let z = s .state .last in
+    Done (a .table .now) (a .starts .now) (l .masks) (l .column) (z .1 .1 .0) (z .1 .1 .1 .0) (a .plan .now)
     (l .row) (l .row + c .run-length .result) (arity (getD (l .column) (l .row) 0) + a .k) (l .place + 1) (s .state .result)
-below t s = rw (s .before .before .before .before .before .arity-of .ensures) at (s .state .ensures)
+below t s = rw (s .before .before .before .arity-of .ensures) at (s .state .ensures)
 
 branches-loop-holds : (t : ℕ) → branches-lts.Need-loop-holds (branches-with t) (branches-at t) branches.Post branches-Inv-loop branches-μ-loop
 branches-loop-holds t c = going-start (c .before .before .pre .1)
@@ -135,79 +136,80 @@ branches-add-under : (t : ℕ) → branches-lts.Need-add-under (branches-with t)
 branches-add-under t c = search needs
 
 branches-add-state : (t : ℕ) → branches-lts.Need-add-state (branches-with t) (branches-at t) branches.Post branches-Inv-loop branches-μ-loop
-branches-add-state t c = record { fits = omega (arith, ready-below (turn t (c .before .before .before .before .before)) .room .few) }
+branches-add-state t c = record { fits = omega (arith, ready-below (turn t (c .before .before .before)) .room .few) }
 
 branches-state-requires : (t : ℕ) → branches-lts.Need-state-requires (branches-with t) (branches-at t) branches.Post branches-Inv-loop branches-μ-loop
-branches-state-requires t c κs = let w = turn t (c .before .before .before .before .before) in (omega (arith, shorter-below w), rw (c .before .before .before .before .arity-of .ensures) (ready-below w))
+branches-state-requires t c κs = let w = turn t (c .before .before .before) in (omega (arith, shorter-below w), rw (c .before .before .arity-of .ensures) (ready-below w))
 
 branches-enum-known-below : (t : ℕ) → branches-lts.Need-enum-known-below (branches-with t) (branches-at t) branches.Post branches-Inv-loop branches-μ-loop
 branches-enum-known-below t c = search needs
 
-branches-mark-requires : (t : ℕ) → branches-lts.Need-mark-requires (branches-with t) (branches-at t) branches.Post branches-Inv-loop branches-μ-loop
-branches-mark-requires t c κs =
-    let w = turn t (c .before .before .before .before .before .before .before .before .before .before .before) in
-    omega (arith, turn-next w (below t (c .before .before .before .before .before)) (c .before .before .before .below .given .1), w .here, ready-below w .room .size, ready-below w .room .few)
-
 branches-add-count : (t : ℕ) → branches-lts.Need-add-count (branches-with t) (branches-at t) branches.Post branches-Inv-loop branches-μ-loop
-branches-add-count t c = let w = turn t (c .before .before .before .before .before .before .before .before .before .before .before .before) in record { fits = omega (arith, turn-next w (below t (c .before .before .before .before .before .before)) (c .before .before .before .before .below .given .1), ready-below w .room .size) }
+branches-add-count t c = record { fits = omega (arith, turn-next (turn t (c .before .before .before .before .before .before .before)) (below t (c .before .before .before)) (c .before .below .given .1)) }
 
 branches-add-count-2 : (t : ℕ) → branches-lts.Need-add-count-2 (branches-with t) (branches-at t) branches.Post branches-Inv-loop branches-μ-loop
-branches-add-count-2 t c =
-    let w = turn t (c .before .before .before .before .before .before .before .before .before .before .before .before) in
-    record { fits = omega (arith, turn-next w (below t (c .before .before .before .before .before .before)) (c .before .before .before .before .below .given .1), ready-below w .room .size, w .going .few) }
+branches-add-count-2 t c = let w = turn t (c .before .before .before .before .before .before .before) in record { fits = omega (arith, turn-next w (below t (c .before .before .before)) (c .before .below .given .1), w .going .few) }
 
 branches-enum-known-f : (t : ℕ) → branches-lts.Need-enum-known-f (branches-with t) (branches-at t) branches.Post branches-Inv-loop branches-μ-loop
 branches-enum-known-f t c = search needs
 
 branches-returns-3 : (t : ℕ) → branches-lts.Need-returns-3 (branches-with t) (branches-at t) branches.Post branches-Inv-loop branches-μ-loop
-branches-returns-3 t c = turn-refused (turn t (c .before .before .before .before .before .before .before .before .before)) (below t (c .before .before .before)) (c .before .f .given .1)
+branches-returns-3 t c = turn-refused (turn t (c .before .before .before .before .before .before .before)) (below t (c .before .before .before)) (c .before .f .given .1)
 
 branches-add-row : (t : ℕ) → branches-lts.Need-add-row (branches-with t) (branches-at t) branches.Post branches-Inv-loop branches-μ-loop
-branches-add-row t c = record { fits = omega (arith, ready-below (turn t (c .before .before .before .before .before .before .before .before .before .before .before .before)) .room .few) }
+branches-add-row t c = record { fits = omega (arith, ready-below (turn t (c .before .before .before .before .before .before .before)) .room .few) }
 
 branches-loop-less : (t : ℕ) → branches-lts.Need-loop-less (branches-with t) (branches-at t) branches.Post branches-Inv-loop branches-μ-loop
-branches-loop-less t c = omega (arith, turn t (c .before .before .before .before .before .before .before .before .before .before .before .before) .run .some)
+branches-loop-less t c = omega (arith, turn t (c .before .before .before .before .before .before .before) .run .some)
 
 branches-loop-again : (t : ℕ) → branches-lts.Need-loop-again (branches-with t) (branches-at t) branches.Post branches-Inv-loop branches-μ-loop
-branches-loop-again t c = rw (c .mark .ensures .0, c .mark .ensures .1) (turn-on (turn t (c .before .before .before .before .before .before .before .before .before .before .before .before)) (below t (c .before .before .before .before .before .before)) (c .before .before .before .before .below .given .1))
+branches-loop-again t c = turn-on (turn t (c .before .before .before .before .before .before .before)) (below t (c .before .before .before)) (c .before .below .given .1)
 
 branches-returns-4 : (t : ℕ) → branches-lts.Need-returns-4 (branches-with t) (branches-at t) branches.Post branches-Inv-loop branches-μ-loop
 branches-returns-4 t c = going-done (c .before .loop .inv) (c .loop-test .left)
 
--- the places of `state` that its answers go back to: where its first cell is read, with the call and the test before that
-abbrev At-cell : ℕ → Type 0
-At-cell t = state-lts.After-shared-slice-known3 (state-with t) (state-at t) state.Post
-
-abbrev asked : (t : ℕ) → At-cell t → state-lts.Start (state-with t) (state-at t) state.Post
-asked t c = c .before .before .before .before .before .before .before
-
-abbrev there : (t : ℕ) → At-cell t → state-lts.Else1 (state-with t) (state-at t) state.Post
-there t c = c .before .before .before .before
-
--- and where its runs are counted, with the second cell's mark and test before that, and the first cell
+-- the place of `state` where its runs are counted, with those before it that its answers go back to: where its rows are closed, and the call
 abbrev At-runs : ℕ → Type 0
 At-runs t = state-lts.After-run-count (state-with t) (state-at t) state.Post
 
 abbrev closed : (t : ℕ) → At-runs t → state-lts.After-close-rows (state-with t) (state-at t) state.Post
 closed t c = c .before .before .before .before .before
 
-abbrev second : (t : ℕ) → At-runs t → state-lts.Else5 (state-with t) (state-at t) state.Post
-second t c = closed t c .before .before .before .before .before .before
+abbrev asked : (t : ℕ) → At-runs t → state-lts.Start (state-with t) (state-at t) state.Post
+asked t c = closed t c .before .before .before .before .before .before .before .before .before .before .before
 
-abbrev cell : (t : ℕ) → At-runs t → At-cell t
-cell t c = second t c .before .before .before
+state-sub-rows : (t : ℕ) → state-lts.Need-sub-rows (state-with t) (state-at t) state.Post
+state-sub-rows t c = search needs
+
+state-mul-alone : (t : ℕ) → state-lts.Need-mul-alone (state-with t) (state-at t) state.Post
+state-mul-alone t c = search needs
+
+state-element-copy-out-alone : (t : ℕ) → state-lts.Need-element-copy-out-alone (state-with t) (state-at t) state.Post
+state-element-copy-out-alone t c = search needs
+
+state-mul-alone-2 : (t : ℕ) → state-lts.Need-mul-alone-2 (state-with t) (state-at t) state.Post
+state-mul-alone-2 t c = search needs
+
+state-element-copy-out-alone-2 : (t : ℕ) → state-lts.Need-element-copy-out-alone-2 (state-with t) (state-at t) state.Post
+state-element-copy-out-alone-2 t c = search needs
+
+state-alone-requires : (t : ℕ) → state-lts.Need-alone-requires (state-with t) (state-at t) state.Post
+state-alone-requires t c κs = fits-alone (c .before .before .before .before .before .pre .1) (c .before .before .if1 .taken)
+
+state-returns : (t : ℕ) → state-lts.Need-returns (state-with t) (state-at t) state.Post
+state-returns t c = done-alone (c .before .before .before .before .before .before .pre .1) (c .before .before .before .if1 .taken) (c .alone .ensures)
+
+state-leaf-requires : (t : ℕ) → state-lts.Need-leaf-requires (state-with t) (state-at t) state.Post
+state-leaf-requires t c κs = search needs
+
+state-returns-2 : (t : ℕ) → state-lts.Need-returns-2 (state-with t) (state-at t) state.Post
+state-returns-2 t c = done-leaf (c .before .before .before .before .before .pre .1) (c .before .if2 .taken) (c .leaf .ensures)
 
 state-refusal-requires : (t : ℕ) → state-lts.Need-refusal-requires (state-with t) (state-at t) state.Post
 state-refusal-requires t c κs = search needs
 
-state-returns : (t : ℕ) → state-lts.Need-returns (state-with t) (state-at t) state.Post
-state-returns t c = done-ends (c .before .before .before .before .pre .1) (c .before .if1 .taken) (c .refusal .ensures)
-
-state-mark-requires : (t : ℕ) → state-lts.Need-mark-requires (state-with t) (state-at t) state.Post
-state-mark-requires t c κs = search needs
-
-state-add-next : (t : ℕ) → state-lts.Need-add-next (state-with t) (state-at t) state.Post
-state-add-next t c = search needs
+state-returns-3 : (t : ℕ) → state-lts.Need-returns-3 (state-with t) (state-at t) state.Post
+state-returns-3 t c = done-ends (c .before .before .before .before .before .before .pre .1) (omega arith) (c .before .if3 .taken) (c .refusal .ensures)
 
 state-mul-i : (t : ℕ) → state-lts.Need-mul-i (state-with t) (state-at t) state.Post
 state-mul-i t c = search needs
@@ -215,46 +217,23 @@ state-mul-i t c = search needs
 state-shared-slice-read-i : (t : ℕ) → state-lts.Need-shared-slice-read-i (state-with t) (state-at t) state.Post
 state-shared-slice-read-i t c = search needs
 
-state-cast-if3 : (t : ℕ) → state-lts.Need-cast-if3 (state-with t) (state-at t) state.Post
-state-cast-if3 t c = record { fits = omega (arith, c .before .shared-slice-known3 .given (c .before .before .before .before .before .before .before .before .args .at)) }
-
-state-sub-if3 : (t : ℕ) → state-lts.Need-sub-if3 (state-with t) (state-at t) state.Post
-state-sub-if3 t c = search needs
+state-cast-if4 : (t : ℕ) → state-lts.Need-cast-if4 (state-with t) (state-at t) state.Post
+state-cast-if4 t c = record { fits = omega (arith, c .shared-slice-known3 .given (c .before .before .before .before .before .before .args .at)) }
 
 state-refusal-requires-2 : (t : ℕ) → state-lts.Need-refusal-requires-2 (state-with t) (state-at t) state.Post
 state-refusal-requires-2 t c κs = search needs
 
-state-returns-2 : (t : ℕ) → state-lts.Need-returns-2 (state-with t) (state-at t) state.Post
-state-returns-2 t c =
-    let s = c .before .before .before in
-    done-rows (asked t s .pre .1) (c .before .before .if2 .taken) (there t s .if1 .left) (c .before .if3 .taken) (c .refusal2 .ensures)
+state-returns-4 : (t : ℕ) → state-lts.Need-returns-4 (state-with t) (state-at t) state.Post
+state-returns-4 t c = done-open (c .before .before .before .before .before .before .before .before .pre .1) (omega arith) (omega arith) (c .before .if4 .taken) (c .refusal2 .ensures)
 
-state-returns-3 : (t : ℕ) → state-lts.Need-returns-3 (state-with t) (state-at t) state.Post
-state-returns-3 t c =
-    let s = c .before .before in
-    rw (s .before .mark .ensures .0, s .before .mark .ensures .1) (done-leaf (asked t s .pre .1) (c .before .if2 .taken) (there t s .if1 .left) (c .if3 .left))
-
-state-cast-if4 : (t : ℕ) → state-lts.Need-cast-if4 (state-with t) (state-at t) state.Post
-state-cast-if4 t c = record { fits = omega (arith, c .before .shared-slice-known3 .given (c .before .before .before .before .before .before .before .before .args .at)) }
+state-add-next : (t : ℕ) → state-lts.Need-add-next (state-with t) (state-at t) state.Post
+state-add-next t c = search needs
 
 state-refusal-requires-3 : (t : ℕ) → state-lts.Need-refusal-requires-3 (state-with t) (state-at t) state.Post
 state-refusal-requires-3 t c κs = search needs
 
-state-returns-4 : (t : ℕ) → state-lts.Need-returns-4 (state-with t) (state-at t) state.Post
-state-returns-4 t c =
-    let s = c .before .before .before in
-    done-open (asked t s .pre .1) (omega arith) (there t s .if1 .left) (c .before .if4 .taken) (c .refusal3 .ensures)
-
-state-refusal-requires-4 : (t : ℕ) → state-lts.Need-refusal-requires-4 (state-with t) (state-at t) state.Post
-state-refusal-requires-4 t c κs = search needs
-
 state-returns-5 : (t : ℕ) → state-lts.Need-returns-5 (state-with t) (state-at t) state.Post
-state-returns-5 t c =
-    let s = c .before .before .before .before in
-    done-ends-2 (asked t s .pre .1) (omega arith) (there t s .if1 .left) (c .before .before .if4 .left) (c .before .if5 .taken) (c .refusal4 .ensures)
-
-state-mark-requires-2 : (t : ℕ) → state-lts.Need-mark-requires-2 (state-with t) (state-at t) state.Post
-state-mark-requires-2 t c κs = search needs
+state-returns-5 t c = done-ends-2 (c .before .before .before .before .before .before .before .before .before .pre .1) (omega arith) (c .before .before .if4 .left) (omega arith) (c .before .if5 .taken) (c .refusal3 .ensures)
 
 state-close-rows-requires : (t : ℕ) → state-lts.Need-close-rows-requires (state-with t) (state-at t) state.Post
 state-close-rows-requires t c κs = search needs
@@ -266,7 +245,7 @@ state-shared-slice-read-if6 : (t : ℕ) → state-lts.Need-shared-slice-read-if6
 state-shared-slice-read-if6 t c = search needs
 
 state-cast-if6 : (t : ℕ) → state-lts.Need-cast-if6 (state-with t) (state-at t) state.Post
-state-cast-if6 t c = record { fits = omega (arith, c .shared-slice-known4 .given (c .before .before .before .before .before .before .before .before .before .before .before .before .before .before .before .before .before .before .before .args .at + 1)) }
+state-cast-if6 t c = record { fits = omega (arith, c .shared-slice-known4 .given (c .before .before .before .before .before .before .before .before .before .before .before .before .before .before .args .at + 1)) }
 
 state-mul-run-count : (t : ℕ) → state-lts.Need-mul-run-count (state-with t) (state-at t) state.Post
 state-mul-run-count t c = search needs
@@ -283,39 +262,34 @@ state-part-run-count-end t c = search needs
 state-run-count-requires : (t : ℕ) → state-lts.Need-run-count-requires (state-with t) (state-at t) state.Post
 state-run-count-requires t c κs = search needs
 
-state-refusal-requires-5 : (t : ℕ) → state-lts.Need-refusal-requires-5 (state-with t) (state-at t) state.Post
-state-refusal-requires-5 t c κs = search needs
+state-refusal-requires-4 : (t : ℕ) → state-lts.Need-refusal-requires-4 (state-with t) (state-at t) state.Post
+state-refusal-requires-4 t c κs = search needs
 
 state-returns-6 : (t : ℕ) → state-lts.Need-returns-6 (state-with t) (state-at t) state.Post
 state-returns-6 t c =
     let r = c .before .before in
-    let e = second t r in
-    done-edges (asked t (cell t r) .pre .1) (omega arith) (e .if5 .left) (e .before .if4 .left) (closed t r .close-rows .ensures) (r .run-count .result) (r .run-count .ensures)
-    (c .before .if6 .taken) (c .refusal5 .ensures)
+    done-edges (asked t r .pre .1) (omega arith) (omega arith) (omega arith) (closed t r .close-rows .ensures) (r .run-count .result) (r .run-count .ensures)
+    (c .before .if6 .taken) (c .refusal4 .ensures)
 
 state-sub-branches : (t : ℕ) → state-lts.Need-sub-branches (state-with t) (state-at t) state.Post
 state-sub-branches t c = search needs
 
 state-add-branches : (t : ℕ) → state-lts.Need-add-branches (state-with t) (state-at t) state.Post
-state-add-branches t c =
-    let r = c .before .before .before .before .before in
-    record { fits = omega (arith, asked t (cell t r) .pre .1 .room .size, second t r .if5 .left) }
+state-add-branches t c = search needs
 
 state-branches-requires : (t : ℕ) → state-lts.Need-branches-requires (state-with t) (state-at t) state.Post
 state-branches-requires t c κs =
-    let e = c .before .before .before .before .before .before .before .before .before .before .before .before .before .before .before .before in
-    let k = c .before .before .before .before .before .before .before .before .before .before .close-rows .ensures in (
-      omega (arith, shorter (e .before .before .before .before .before .before .before .before .before .before .pre .1) (omega arith) (e .if5 .left) (e .before .if4 .left) k),
-      rw (c .before .before .before .before .before .before .before .before .before .before .before .before .before .mark2 .ensures .0, c .before .before .before .before .before .before .before .before .before .before .before .before .before .mark2 .ensures .1, e .before .before .before .before .mark .ensures .0, e .before .before .before .before .mark .ensures .1)
-          (ready-branches (e .before .before .before .before .before .before .before .before .before .before .pre .1) (omega arith) (e .if5 .left) (e .before .if4 .left) k),
+    let r = c .before .before .before in
+    let k = closed t r .close-rows .ensures in (
+      omega (arith, asked t r .pre .0, shorter (asked t r .pre .1) (omega arith) (omega arith) (omega arith) k),
+      ready-branches (asked t r .pre .1) (omega arith) (omega arith) (omega arith) k,
     )
 
 state-returns-7 : (t : ℕ) → state-lts.Need-returns-7 (state-with t) (state-at t) state.Post
 state-returns-7 t c =
-    let e = c .before .before .before .before .before .before .before .before .before .before .before .before .before .before .before .before .before in
-    let b = rw (c .before .before .before .before .before .before .before .before .before .before .before .before .before .before .mark2 .ensures .0, c .before .before .before .before .before .before .before .before .before .before .before .before .before .before .mark2 .ensures .1, e .before .before .before .before .mark .ensures .0, e .before .before .before .before .mark .ensures .1) at (c .branches .ensures) in
-    done-node (e .before .before .before .before .before .before .before .before .before .before .pre .1) (omega arith) (e .if5 .left) (e .before .if4 .left) (c .before .before .before .before .before .before .before .before .before .before .before .close-rows .ensures) (c .before .before .before .before .before .before .run-count .result) (c .before .before .before .before .before .before .run-count .ensures)
-    (c .before .before .before .before .before .if6 .left) b
+    let r = c .before .before .before .before in
+    done-node (asked t r .pre .1) (omega arith) (omega arith) (omega arith) (closed t r .close-rows .ensures) (r .run-count .result) (r .run-count .ensures)
+    (c .before .before .before .if6 .left) (c .branches .ensures)
 
 pub +branches+state-spec : {M : Type 1} → statement M
 +branches+state-spec = close μ-branches μ-state (λ t. branches-lts.spec (branches-with t) (branches-at t)
@@ -342,7 +316,6 @@ pub +branches+state-spec : {M : Type 1} → statement M
     (branches-add-state t)
     (branches-state-requires t)
     (branches-enum-known-below t)
-    (branches-mark-requires t)
     (branches-add-count t)
     (branches-add-count-2 t)
     (branches-enum-known-f t)
@@ -353,23 +326,25 @@ pub +branches+state-spec : {M : Type 1} → statement M
     (branches-returns-4 t))
     λ t. state-lts.spec (state-with t) (state-at t)
     state.Post
-    (state-refusal-requires t)
+    (state-sub-rows t)
+    (state-mul-alone t)
+    (state-element-copy-out-alone t)
+    (state-mul-alone-2 t)
+    (state-element-copy-out-alone-2 t)
+    (state-alone-requires t)
     (state-returns t)
-    (state-mark-requires t)
-    (state-add-next t)
+    (state-leaf-requires t)
+    (state-returns-2 t)
+    (state-refusal-requires t)
+    (state-returns-3 t)
     (state-mul-i t)
     (state-shared-slice-read-i t)
-    (state-cast-if3 t)
-    (state-sub-if3 t)
-    (state-refusal-requires-2 t)
-    (state-returns-2 t)
-    (state-returns-3 t)
     (state-cast-if4 t)
-    (state-refusal-requires-3 t)
+    (state-refusal-requires-2 t)
     (state-returns-4 t)
-    (state-refusal-requires-4 t)
+    (state-add-next t)
+    (state-refusal-requires-3 t)
     (state-returns-5 t)
-    (state-mark-requires-2 t)
     (state-close-rows-requires t)
     (state-mul-if6 t)
     (state-shared-slice-read-if6 t)
@@ -379,7 +354,7 @@ pub +branches+state-spec : {M : Type 1} → statement M
     (state-part-run-count-start t)
     (state-part-run-count-end t)
     (state-run-count-requires t)
-    (state-refusal-requires-5 t)
+    (state-refusal-requires-4 t)
     (state-returns-6 t)
     (state-sub-branches t)
     (state-add-branches t)

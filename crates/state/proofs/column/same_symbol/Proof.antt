@@ -12,10 +12,14 @@ kind-requires : tie.Need-kind-requires
 kind-requires c κs = search needs
 
 returns-2 : tie.Need-returns-2
-returns-2 c = let a = c .before .before .before .args in sym (agree-variable (a .c) (a .d) (c .before .before .if1 .left) (omega arith))
+returns-2 c = let a = c .before .before .before .before .args in sym (agree-symbol (a .c) (a .d) (c .before .before .before .if1 .left) (λ k. omega arith))
 
 returns-3 : tie.Need-returns-3
-returns-3 c = let a = c .before .before .before .args in sym (agree-symbol (a .c) (a .d) (c .before .before .if1 .left) (λ k. c .match .rest .1 (omega arith)))
+returns-3 c = let a = c .before .before .before .args in sym (agree-variable (a .c) (a .d) (c .before .before .if1 .left) (omega arith))
+
+-- a cell has 32 bits, so no kind is above 3
+returns-4 : tie.Need-returns-4
+returns-4 c = absurd (omega arith)
 
 pub same-symbol-spec : {M : Type 1} → statement M
-same-symbol-spec = tie.close (tie.spec returns kind-requires returns-2 returns-3)
+same-symbol-spec = tie.close (tie.spec returns kind-requires returns-2 returns-3 returns-4)

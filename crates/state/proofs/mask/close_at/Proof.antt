@@ -13,7 +13,7 @@ use Rattle.state.proofs.mask.close_at.Tie as tie
 there : (c : tie.Then1) → Open (c .before .before .before .args .i) (c .before .before .before .args .mask) (drop (c .before .before .before .args .start) (c .before .before .before .args .cells .now)) (c .before .root-at .result)
 there c =
     let a = c .before .before .before .args in
-    found (a .i) (a .mask) (drop (a .start) (a .cells .now)) (c .before .root-at .result) (c .before .root-at .ensures) (c .if1 .taken)
+    found (a .i) (a .mask) (drop (a .start) (a .cells .now)) (c .before .root-at .result) (c .before .root-at .ensures) (omega arith)
 
 inside : (c : tie.Then1) → c .before .before .before .args .start + c .before .root-at .result < length (c .before .before .before .args .cells .now)
 inside c =
@@ -47,7 +47,7 @@ returns c =
     let b = c .before .before .root-at in
     closed-at (a .i) (a .mask) (drop (a .start) (a .cells .now)) (omega arith) _
     (sym (there (c .before) .cell ∙ getD-drop (a .start) (a .cells .now) (b .result) 0))
-    (rw (bit-shifted (b .result) (omega arith), ← (b .ensures), lt-ltb _ _ (c .before .if1 .taken)))
+    (rw (bit-shifted (b .result) (omega arith), ← (b .ensures), lt-ltb (b .result) 32 (omega arith)))
 
 returns-2 : tie.Need-returns-2
 returns-2 c =
@@ -55,8 +55,8 @@ returns-2 c =
     let b = c .before .root-at in
     let xs = drop (a .start) (a .cells .now) in
     closed-at (a .i) (a .mask) xs (omega arith) _
-    (sym (not-found (a .i) (a .mask) xs (b .result) (b .ensures) (omega arith) (c .if1 .left)))
-    (rw (← (b .ensures), le-ltb _ _ (c .if1 .left)))
+    (sym (not-found (a .i) (a .mask) xs (b .result) (b .ensures) (omega arith) (omega arith)))
+    (rw (← (b .ensures), le-ltb (b .result) 32 (omega arith)))
 
 pub close-at-spec : {M : Type 1} → statement M
 close-at-spec =

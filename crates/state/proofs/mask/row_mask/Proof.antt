@@ -16,10 +16,10 @@ sub-result : tie.Need-sub-result
 sub-result c = omega (arith, pow-pos (c .before .args .n), bit-shifted (c .before .args .n) (omega arith))
 
 returns : tie.Need-returns
-returns c = rw (bit-shifted (c .before .args .n) (omega arith), lt-ltb _ _ (c .if1 .taken))
+returns c = rw (bit-shifted (c .before .args .n) (omega arith), lt-ltb (c .before .args .n) 32 (omega arith))
 
 returns-2 : tie.Need-returns-2
-returns-2 c = simp (le-ltb _ _ (c .if1 .left))
+returns-2 c = simp (le-ltb (c .before .args .n) 32 (omega arith))
 
 pub row-mask-spec : {M : Type 1} → statement M
 row-mask-spec = tie.close (tie.spec cast-result shl-result sub-result returns returns-2)

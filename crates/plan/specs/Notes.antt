@@ -1,0 +1,70 @@
+-- What the check notes of a plan for a run (01, "A run": "it tests the goal only at the branches it counts"): one number for each branch, in plan order,
+-- that is a branch, then all below it, then the next. A run needs nothing else of the plan, neither its cells nor the table.
+use Prim.Native.Nat.{ℕ, suc, _+_, _*_, _/_, _%_, _^_, _<_}
+use mathlib.Core.List.{List, [], _∷_, _++_}
+use lib.ListN.{length, getD, take, drop}
+use Rattle.cell.specs.Cell.{arity}
+use Rattle.table.specs.Table.{upFrom}
+use Rattle.plan.specs.Runs.{Run}
+use Rattle.plan.specs.Plans.{Plan, leaf, node, Branches, end, next, branches}
+
+-- What is noted of one branch. Slots are numbers for open places, given out on the way down: the arguments of a branch's cell get new ones, whatever the
+-- goal is.
+pub record Branch : Type 0 where
+  -- its cell
+  pub cell : ℕ
+  -- the number of the first branch that is not below it; where that is the number after its own, there is a leaf below it
+  pub skip : ℕ
+  -- its number of rows
+  pub rows : ℕ
+  -- the slot of the place that its state looks at
+  pub slot : ℕ
+  -- the first slot that is free below it
+  pub next : ℕ
+
+abbrev pub branch : (cell skip rows slot next : ℕ) → Branch
+branch c s r l n = record { cell = c; skip = s; rows = r; slot = l; next = n }
+
+-- the slots of the open places below a branch at place i, whose cell has a arguments: new ones from `free` on for the arguments
+abbrev pub below : (i a free : ℕ) → List ℕ → List ℕ
+below i a free slots = take i slots ++ (upFrom free a ++ drop (suc i) slots)
+
+-- the branches of a plan whose open places have these slots; `made` branches stand before them, and slots from `free` on are free
+unfoldable mutual
+  pub notes : {k : ℕ} {rows : List (List ℕ)} → Plan k rows → (slots : List ℕ) (made free : ℕ) → List Branch
+  notes leaf slots made free = []
+  notes (node i h bs) slots made free = notesIn bs i slots made free
+
+  pub notesIn : {k : ℕ} {gs : List Run} → Branches k gs → (i : ℕ) (slots : List ℕ) (made free : ℕ) → List Branch
+  notesIn end i slots made free = []
+  notesIn (next {g = g} p bs) i slots made free =
+      branch (g .cell) (made + 1 + branches p) (length (g .rows)) (getD slots i 0) free
+      ∷ (notes p (below i (arity (g .cell)) free slots) (made + 1) (free + arity (g .cell)) ++ notesIn bs i slots (made + 1 + branches p) free)
+
+-- One number for it: the cell in bits 31..0, skip in 43..32, rows in 50..44, slot in 56..51, next in 62..57.
+unfoldable pub word : Branch → ℕ
+word b = b .cell + b .skip * 2 ^ 32 + b .rows * 2 ^ 44 + b .slot * 2 ^ 51 + b .next * 2 ^ 57
+
+-- and the parts of a number
+abbrev pub cellIn : ℕ → ℕ
+cellIn w = w % 2 ^ 32
+
+abbrev pub skipIn : ℕ → ℕ
+skipIn w = w / 2 ^ 32 % 2 ^ 12
+
+abbrev pub rowsIn : ℕ → ℕ
+rowsIn w = w / 2 ^ 44 % 2 ^ 7
+
+abbrev pub slotIn : ℕ → ℕ
+slotIn w = w / 2 ^ 51 % 2 ^ 6
+
+abbrev pub nextIn : ℕ → ℕ
+nextIn w = w / 2 ^ 57 % 2 ^ 6
+
+-- every part has the bits that it needs, and the slots of the cell's arguments are below 64
+pub record Fits (b : Branch) : Type 0 where
+  pub cell : b .cell < 2 ^ 32
+  pub skip : b .skip < 2 ^ 12
+  pub rows : b .rows < 2 ^ 7
+  pub slot : b .slot < 2 ^ 6
+  pub next : b .next + arity (b .cell) < 2 ^ 6
