@@ -57,7 +57,7 @@ pub row-passes : {w : ℕ} {ys : List ℕ} (p : ℕ) → Row w ys → cellsFrom 
 row-passes {w} {ys} p r = sound-cells true ys 0 p (head-sound true (r .head) (λ _. r .once))
 
 -- Every variable of a row or goal is among those that appear, so it is numbered below their number, and that is at most the number of cells.
-appear-short : (ms ys : List ℕ) → length (appear ms ys) ≤ length ys
+pub appear-short : (ms ys : List ℕ) → length (appear ms ys) ≤ length ys
 unfolding appear
 appear-short ms [] = omega arith
 appear-short ms (c ∷ ys) =

@@ -1,0 +1,214 @@
+-- Single branches that lead from one state to the next, and the end of them.
+use Prim.Native.Nat.{ℕ, suc, _+_, _-_, _^_, _≤_, _<_}
+use mathlib.Core.Path.{_≡_, refl, sym, _∙_, ap, ap₂}
+use mathlib.Core.Bool.{Bool, true, false, _&&_}
+use mathlib.Core.List.{List, [], _∷_, _++_, map, append-assoc, append-nil, map-append}
+use native.Mathlib.Omega.{arith}
+use lib.Dec.{eqb, ltb}
+use borrow.Author.Tests.{ltb-true, eqb-true}
+use lib.ListN.{length, getD, set, take, drop, length-set, length-append, length-map}
+use lib.Seq.{sets, slice, length-sets, set-set, take-take, take-append-seam}
+use Rattle.cell.specs.Cell.{arity}
+use Rattle.term.proofs.Lists.{sets-sets, sets-found, set-sets, slice-take}
+use Rattle.table.specs.All.{All}
+use Rattle.table.proofs.AllLaws.{all-++}
+use Rattle.plan.specs.Runs.{Run}
+use Rattle.plan.specs.Plans.{Plan, Branches, end, next, write, writes, branches, branchesIn}
+use Rattle.plan.specs.Notes.{Branch, branch, below, notes, notesIn, word}
+use Rattle.plan.proofs.RunsLaws.{rowsIn}
+use Rattle.notes.specs.code.Steps.{partOf, ended, Parts, Ending, Met, Begun}
+use Rattle.notes.specs.code.Tree.{Ready, ReadyAt, notesAt, Done, StateDone, BranchDone, Went}
+use Rattle.notes.specs.declared.tree.Past.{Past}
+use Rattle.notes.proofs.TreeLaws.{ReadyIn, Inside, inside, first-of, met, arity-is, number-is, number-low, lower-of, words-count, done-long}
+
+-- the number of a branch that has ended
+word-is : (c s r l n : ℕ) → word (branch c s r l n) ≡ ended s r (partOf c l n)
+unfolding word
+word-is c s r l n = omega arith
+
+-- one more number
+added : (l l′ : List ℕ) (i j : ℕ) (xs : List ℕ) (y : ℕ) → l′ ≡ sets l i xs → j ≡ i + length xs → set l′ j y ≡ sets l i (xs ++ (y ∷ []))
+added l l′ i j xs y e q = rw (e, q) (sets-sets l i xs (y ∷ []))
+
+moved : (E : ℕ → ℕ) (xs : List ℕ) (y : ℕ) (zs : List ℕ) → map E xs ++ (E y ∷ zs) ≡ map E (xs ++ (y ∷ [])) ++ zs
+moved E [] y zs = refl
+moved E (x ∷ xs) y zs = ap (λ (l : List ℕ). E x ∷ l) (moved E xs y zs)
+
+-- what the code asks to see that a state has one branch
+pub single-is : (k x : ℕ) (b : Bool) → b ≡ (ltb 0 k && eqb x 1) → b ≡ true → (0 < k) × (x ≡ 1)
+single-is k x b e t = go (ltb 0 k) (eqb x 1) refl refl (sym e ∙ t)
+  where
+    go : (p q : Bool) → ltb 0 k ≡ p → eqb x 1 ≡ q → (p && q) ≡ true → (0 < k) × (x ≡ 1)
+    go true true h l z = (ltb-true 0 k h, eqb-true x 1 l)
+    go true false h l z = absurd (let y : _≡_ {A = ℕ} 0 1 = cc in omega arith)
+    go false q h l z = absurd (let y : _≡_ {A = ℕ} 0 1 = cc in omega arith)
+
+-- A state with one branch.
+module _ {plan links noted : List ℕ} {at k made free : ℕ} (w : Ready plan links noted at k made free) where
+  pub record Only : Type 0 where
+    pub one : ReadyAt plan links noted (getD plan at 0) (at + 2) k made free
+    pub same-notes : notes (w .tree) (w .slots) made free ≡ notesAt (one .tree) (one .group .cell) (getD plan at 0) (one .slots) made free
+    pub count : branches (w .tree) ≡ suc (branches (one .tree))
+    pub cells : length (write (w .tree)) ≡ 3 + length (write (one .tree))
+    pub rows : length (w .rows) ≡ length (one .group .rows)
+
+  only-by : {groups : List Run} (trees : Branches (k - 1) groups) → length groups ≡ 1 → ReadyIn plan links noted (w .slots) (getD plan at 0) (at + 2) k made free trees
+      → notes (w .tree) (w .slots) made free ≡ notesIn trees (getD plan at 0) (w .slots) made free → branches (w .tree) ≡ branchesIn trees
+      → length (write (w .tree)) ≡ suc (suc (length (writes trees))) → length (w .rows) ≡ rowsIn groups → Only
+  unfolding notes branches write first-of
+  only-by end e x n c l r = absurd (omega arith)
+  only-by (next {g = g} p end) e x n c l r = record {
+    one = first-of x;
+    same-notes = n ∙ append-nil (notesAt p (g .cell) (getD plan at 0) (w .slots) made free);
+    count = omega arith;
+    cells = omega (arith, length-append (write p) []);
+    rows = omega arith;
+  }
+  only-by (next p (next q bs)) e x n c l r = absurd (omega arith)
+
+  pub only : 0 < k → getD plan (at + 1) 0 ≡ 1 → Only
+  only l e = by (inside w l)
+    where
+      by : Inside w → Only
+      by x = only-by (x .trees) (sym (x .number) ∙ e) (x .within) (x .same-notes) (x .count) (x .cells) (x .rows)
+
+-- Along single branches: so far none is passed, or one more.
+module _ {plan links noted : List ℕ} {at k made free : ℕ} (w : Ready plan links noted at k made free) where
+  pub went-none : Went w links noted at k made free
+  went-none = record {
+    lower = w;
+    parts = [];
+    low = tt;
+    wrote = refl;
+    next = omega arith;
+    whole = refl;
+    count = refl;
+    same-rows = refl;
+    after = refl;
+    later = omega arith;
+  }
+
+  module _ {links′ noted′ : List ℕ} {at′ k′ made′ free′ : ℕ} (g : Went w links′ noted′ at′ k′ made′ free′) where
+    went-by : (o : Only (g .lower)) → {links″ noted″ : List ℕ} {a : ℕ} → Begun (met (o .one)) links″ noted″ a
+        → Went w links″ noted″ (at′ + 3) (a + (k′ - 1)) (made′ + 1) (free′ + a)
+    unfolding lower-of
+    went-by o {links″} {noted″} {a} b =
+        let x = o .one in
+        let c : ℕ = x .group .cell in
+        let l : ℕ = getD (x .slots) (getD plan at′ 0) 0 in
+        let y : ℕ = partOf c l free′ in
+        let q : at′ + 3 ≡ at′ + 2 + 1 = omega arith in
+        let s : made′ + 1 + branches (x .tree) ≡ made + branches (w .tree) = omega (arith, g .count, o .count) in
+        let r : length (x .group .rows) ≡ length (w .rows) = sym (o .rows) ∙ g .same-rows in
+        let E : ℕ → ℕ = ended (made + branches (w .tree)) (length (w .rows)) in
+        let W : List ℕ = map word (notes (x .tree) (below (getD plan at′ 0) (arity c) free′ (x .slots)) (made′ + 1) (free′ + arity c)) in
+        let n : word (branch c (made′ + 1 + branches (x .tree)) (length (x .group .rows)) l free′) ≡ E y =
+        word-is c (made′ + 1 + branches (x .tree)) (length (x .group .rows)) l free′ ∙ ap₂ (λ (s r : ℕ). ended s r y) s r in
+        rw (q, arity-is x b)
+        (record {
+          lower = lower-of x b;
+          parts = g .parts ++ (y ∷ []);
+          low = all-++ (λ (w : ℕ). w < 2 ^ 63) (g .parts) (y ∷ []) (g .low) (number-low x b, tt);
+          wrote = number-is x b ∙ added noted noted′ made made′ (g .parts) y (g .wrote) (g .next);
+          next = omega (arith, g .next, length-append (g .parts) (y ∷ []));
+          whole = g .whole ∙ ap (λ (t : List Branch). map E (g .parts) ++ map word t) (o .same-notes) ∙ ap (λ (z : ℕ). map E (g .parts) ++ (z ∷ W)) n ∙ moved E (g .parts) y W;
+          count = s;
+          same-rows = r;
+          after = omega (arith, g .after, o .cells);
+          later = omega (arith, g .later);
+        })
+
+    pub went-on : 0 < k′ → getD plan (at′ + 1) 0 ≡ 1 → {links″ noted″ : List ℕ} {a : ℕ}
+        → ((x : Met plan links′ noted′ (getD plan at′ 0) (at′ + 2) made′ free′) → Begun x links″ noted″ a) → Went w links″ noted″ (at′ + 3) (a + (k′ - 1)) (made′ + 1) (free′ + a)
+    went-on l e f = let o = only (g .lower) l e in went-by o (f (met (o .one)))
+
+-- A branch and all below it: numbers that are written over, and the end.
+
+-- the front of what was stored is found, and is stored over
+front-found : (l l′ A B : List ℕ) (i j : ℕ) → l′ ≡ sets l i (A ++ B) → j ≡ i + length A → i + length (A ++ B) ≤ length l → slice i j l′ ≡ A
+front-found l l′ A B i j e q h =
+    let X = drop i (sets l i (A ++ B)) in
+    rw (e, q)
+    (slice-take i (length A) (sets l i (A ++ B))
+    ∙ sym (take-take (length A) (length (A ++ B)) X (omega (arith, length-append A B)))
+    ∙ ap (take (length A)) (sets-found l (A ++ B) i (length (A ++ B)) h refl)
+    ∙ take-append-seam A B)
+
+stored-over : (l : List ℕ) (i : ℕ) (A A′ B : List ℕ) → length A′ ≡ length A → sets (sets l i (A ++ B)) i A′ ≡ sets l i (A′ ++ B)
+stored-over l i [] [] B e = refl
+stored-over l i [] (a′ ∷ A′) B e = absurd (omega arith)
+stored-over l i (a ∷ A) [] B e = absurd (omega arith)
+stored-over l i (a ∷ A) (a′ ∷ A′) B e =
+    ap (λ (x : List ℕ). sets x (suc i) A′) (set-sets (set l i a) i (suc i) a′ (A ++ B) (omega arith) ∙ ap (λ (x : List ℕ). sets x (suc i) (A ++ B)) (set-set l i a a′))
+    ∙ stored-over (set l i a′) (suc i) A A′ B (omega arith)
+
+-- three stores one after another
+all-stored : (l l₁ l₂ l₃ : List ℕ) (i j y : ℕ) (ps W : List ℕ) → l₁ ≡ set l i y → l₂ ≡ sets l₁ (i + 1) ps → j ≡ i + 1 + length ps → l₃ ≡ sets l₂ j W
+    → l₃ ≡ sets l i ((y ∷ ps) ++ W)
+all-stored l l₁ l₂ l₃ i j y ps W e₁ e₂ q e₃ =
+    let z : i + 1 ≡ suc i = omega arith in
+    e₃ ∙ rw (e₂, e₁, q, z) (sets-sets (set l i y) (suc i) ps W)
+
+module _ {plan links noted : List ℕ} {i place k made free : ℕ} (w : ReadyAt plan links noted i place k made free)
+    {links₁ noted₁ : List ℕ} {a : ℕ} (b : Begun (met w) links₁ noted₁ a) where
+  -- the state below it, with the number of arguments that the code counts
+  pub under : Ready plan links₁ noted₁ (place + 1) (a + (k - 1)) (made + 1) (free + a)
+  under = rw (arity-is w b) (lower-of w b)
+
+  module _ {links₂ noted₂ : List ℕ} {at′ k′ made′ free′ : ℕ}
+      (f : (v : Ready plan links₁ noted₁ (place + 1) (a + (k - 1)) (made + 1) (free + a)) → Went v links₂ noted₂ at′ k′ made′ free′) where
+    -- the state that single branches lead to
+    pub went : Went (lower-of w b) links₂ noted₂ at′ k′ made′ free′
+    went = (rw (arity-is w b) at f) (lower-of w b)
+
+    module _ {noted₃ : List ℕ} {p : Past} (d : StateDone (went .lower) noted₃ p) where
+      abbrev y : ℕ
+      y = partOf (w .group .cell) (getD (w .slots) i 0) free
+
+      abbrev W : List ℕ
+      W = map word (notes (went .lower .tree) (went .lower .slots) made′ free′)
+
+      stored : noted₃ ≡ sets noted made ((y ∷ went .parts) ++ W)
+      stored = all-stored noted noted₁ noted₂ noted₃ made made′ y (went .parts) W (number-is w b) (went .wrote) (went .next) (d .wrote)
+
+      skip-is : p .made ≡ made + 1 + branches (w .tree)
+      unfolding lower-of
+      skip-is = d .next ∙ went .count
+
+      rows-are : p .rows ≡ length (w .group .rows)
+      unfolding lower-of
+      rows-are = d .has ∙ went .same-rows
+
+      words-fit : made + length ((y ∷ went .parts) ++ W) ≤ length noted
+      words-fit =
+          omega (arith, length-append (went .parts) W, words-count (went .lower .tree) (went .lower .slots) made′ free′, went .lower .room, went .next, w .array)
+
+      sliced : slice made made′ noted₃ ≡ y ∷ went .parts
+      sliced = front-found noted noted₃ (y ∷ went .parts) W made made′ stored (omega (arith, went .next)) words-fit
+
+      pub ending : Ending noted₃ made made′ (p .made) (p .rows)
+      ending = record {
+        up = omega (arith, went .next);
+        few = omega (arith, went .lower .room);
+        skips = omega (arith, skip-is, w .room);
+        has = omega (arith, rows-are, w .few);
+        parts = rw sliced (number-low w b, went .low);
+        size = done-long d ∙ went .lower .array;
+      }
+
+      pub branch-done : {noted₄ : List ℕ} → noted₄ ≡ sets noted₃ made (map (ended (p .made) (p .rows)) (slice made made′ noted₃)) → BranchDone w noted₄ p
+      unfolding lower-of
+      branch-done {noted₄} e =
+          let c : ℕ = w .group .cell in
+          let s : ℕ = made + 1 + branches (w .tree) in
+          let r : ℕ = length (w .group .rows) in
+          let E : ℕ → ℕ = ended s r in
+          let n : map word (notesAt (w .tree) c i (w .slots) made free) ≡ map E (y ∷ went .parts) ++ W =
+          ap₂ (λ (x : ℕ) (xs : List ℕ). x ∷ xs) (word-is c s r (getD (w .slots) i 0) free) (went .whole) in
+          let z : noted₄ ≡ sets noted₃ made (map E (y ∷ went .parts)) = rw (skip-is, rows-are, sliced) at e in
+          record {
+            wrote = z ∙ rw stored (stored-over noted made (y ∷ went .parts) (map E (y ∷ went .parts)) W (length-map (y ∷ went .parts) E)) ∙ ap (sets noted made) (sym n);
+            after = omega (arith, d .after, went .after);
+            next = omega (arith, skip-is);
+            has = rows-are;
+          }

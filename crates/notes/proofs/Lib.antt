@@ -1,0 +1,7 @@
+pub mod PlacesLaws
+pub mod BranchLaws
+pub mod TreeLaws
+pub mod ChainLaws
+pub mod EntryLaws
+pub mod HandedLaws
+pub mod Fixed

@@ -1,0 +1,10 @@
+use Prim.Native.Nat.{_/_, _^_}
+use lib.Bits.{and-mask}
+use Rattle.notes.proofs.words.slot_of.Statement.{statement}
+use Rattle.notes.proofs.words.slot_of.Tie as tie
+
+returns : tie.Need-returns
+returns c = and-mask (c .args .w / 2 ^ 51) 6
+
+pub slot-of-spec : {M : Type 1} → statement M
+slot-of-spec = tie.close (tie.spec returns)

@@ -1,0 +1,48 @@
+-- The code's own steps (src/branch.rt, src/tree.rt).
+use Prim.Native.Nat.{ℕ, suc, _+_, _-_, _*_, _^_, _≤_, _<_}
+use mathlib.Core.Path.{_≡_}
+use mathlib.Core.List.{List, _∷_, _++_, map}
+use lib.ListN.{length, getD, drop, set}
+use lib.Seq.{sets, slice}
+use Rattle.cell.specs.Cell.{arity}
+use Rattle.table.specs.All.{All}
+use Rattle.plan.specs.Notes.{below}
+use Rattle.notes.specs.code.Places.{Open, Spot}
+
+-- The number of a branch that is met, and of one that has ended.
+abbrev pub partOf : (cell slot next : ℕ) → ℕ
+partOf c l n = c + l * 2 ^ 51 + n * 2 ^ 57
+
+abbrev pub endOf : (skip rows : ℕ) → ℕ
+endOf s r = s * 2 ^ 32 + r * 2 ^ 44
+
+abbrev pub ended : (skip rows : ℕ) → ℕ → ℕ
+ended s r w = w + endOf s r
+
+-- numbers of branches that are met
+abbrev pub Parts : List ℕ → Type 0
+Parts ws = All (λ (w : ℕ). w < 2 ^ 63) ws
+
+-- some branches end
+pub record Ending (notes : List ℕ) (from to skip rows : ℕ) : Type 0 where
+  pub up : from ≤ to
+  pub few : to ≤ 2048
+  pub skips : skip < 2 ^ 12
+  pub has : rows < 2 ^ 7
+  pub parts : Parts (slice from to notes)
+  pub size : length notes ≡ 2048
+
+-- a branch is met at a cell of the plan
+pub record Met (plan links notes : List ℕ) (i place made free : ℕ) : Type 0 where
+  pub here : place < length plan
+  pub spot : Spot links i (arity (getD plan place 0)) free
+  pub few : made < 2048
+  pub size : length notes ≡ 2048
+
+-- what it leaves
+pub record Begun {plan links notes : List ℕ} {i place made free : ℕ} (w : Met plan links notes i place made free) (links′ notes′ : List ℕ)
+    (a : ℕ) : Type 0 where
+  pub count : a ≡ arity (getD plan place 0)
+  pub wrote : notes′ ≡ set notes made (partOf (getD plan place 0) (getD (w .spot .slots) i 0) free)
+  pub low : partOf (getD plan place 0) (getD (w .spot .slots) i 0) free < 2 ^ 63
+  pub opens : Open links′ (free + a) (below i a free (w .spot .slots))

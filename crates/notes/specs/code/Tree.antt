@@ -1,0 +1,106 @@
+-- States and branches of a plan, as the code goes through them (src/tree.rt): what it takes for granted and what it notes.
+use Prim.Native.Nat.{ℕ, suc, _+_, _-_, _≤_, _<_}
+use mathlib.Core.Path.{_≡_}
+use mathlib.Core.List.{List, _∷_, _++_, map}
+use lib.ListN.{length, getD, drop}
+use lib.Seq.{sets}
+use Rattle.cell.specs.Cell.{arity}
+use Rattle.table.specs.All.{All}
+use Rattle.table.specs.Table.{upFrom, IsTable}
+use Rattle.plan.specs.Runs.{Run}
+use Rattle.plan.specs.Plans.{Plan, write, branches}
+use Rattle.plan.specs.Notes.{Branch, branch, below, notes, word}
+use Rattle.plan.specs.code.Fits.{Fits}
+use Rattle.notes.specs.code.Places.{Open}
+use Rattle.notes.specs.code.Steps.{ended, Parts}
+use Rattle.notes.specs.declared.tree.Past.{Past}
+
+-- a state at a cell of the plan. Its rows have at most `left` cells each, so that there are slots enough below it
+pub record Ready (plan links noted : List ℕ) (at k made free : ℕ) : Type 0 where
+  pub rows : List (List ℕ)
+  pub tree : Plan k rows
+  pub behind : List ℕ
+  pub cells : drop at plan ≡ write tree ++ behind
+  pub size : length plan ≤ 6082
+  pub some : 0 < length rows
+  pub few : length rows ≤ 64
+  pub left : ℕ
+  pub deep : left ≤ 32
+  pub fit : All (Fits left k) rows
+  pub enough : free + left ≤ 63 + k
+  pub slots : List ℕ
+  pub number : length slots ≡ k
+  pub opens : Open links free slots
+  pub room : made + branches tree ≤ 2048
+  pub array : length noted ≡ 2048
+
+-- a branch of a state, at a cell of the plan; the state looks at its open place with index i
+pub record ReadyAt (plan links noted : List ℕ) (i place k made free : ℕ) : Type 0 where
+  pub group : Run
+  pub tree : Plan (arity (group .cell) + (k - 1)) (group .rows)
+  pub behind : List ℕ
+  pub cells : drop place plan ≡ group .cell ∷ (write tree ++ behind)
+  pub size : length plan ≤ 6082
+  pub some : 0 < length (group .rows)
+  pub few : length (group .rows) ≤ 64
+  pub left : ℕ
+  pub deep : left ≤ 32
+  pub fit : All (Fits left (arity (group .cell) + (k - 1))) (group .rows)
+  pub enough : free + suc left ≤ 63 + k
+  pub here : i < k
+  pub slots : List ℕ
+  pub number : length slots ≡ k
+  pub opens : Open links free slots
+  pub room : made + suc (branches tree) ≤ 2048
+  pub array : length noted ≡ 2048
+
+-- what is noted of it and of all below it
+abbrev pub notesAt : {k : ℕ} {rows : List (List ℕ)} → Plan k rows → (cell i : ℕ) (slots : List ℕ) (made free : ℕ) → List Branch
+notesAt {rows = rows} p c i slots made free =
+    branch c (made + 1 + branches p) (length rows) (getD slots i 0) free
+    ∷ notes p (below i (arity c) free slots) (made + 1) (free + arity c)
+
+-- words are noted from the number `made` on, so many cells of the plan are passed, and so many rows
+pub record Done (noted noted′ words : List ℕ) (place cells made count rows : ℕ) (p : Past) : Type 0 where
+  pub wrote : noted′ ≡ sets noted made words
+  pub after : p .place ≡ place + cells
+  pub next : p .made ≡ made + count
+  pub has : p .rows ≡ rows
+
+module _ {plan links noted : List ℕ} where
+  abbrev pub StateDone : {at k made free : ℕ} → Ready plan links noted at k made free → List ℕ → Past → Type 0
+  StateDone {at} {k} {made} {free} w noted′ p =
+      Done noted noted′ (map word (notes (w .tree) (w .slots) made free)) at (length (write (w .tree))) made (branches (w .tree))
+      (length (w .rows)) p
+
+  abbrev pub BranchDone : {i place k made free : ℕ} → ReadyAt plan links noted i place k made free → List ℕ → Past → Type 0
+  BranchDone {i} {place} {k} {made} {free} w noted′ p =
+      Done noted noted′ (map word (notesAt (w .tree) (w .group .cell) i (w .slots) made free)) place (suc (length (write (w .tree)))) made
+      (suc (branches (w .tree))) (length (w .group .rows)) p
+
+  -- single branches lead from a state to a lower one: they end where the state does and have all its rows. They are met and have not ended
+  pub record Went {at k made free : ℕ} (w : Ready plan links noted at k made free) (links′ noted′ : List ℕ)
+      (at′ k′ made′ free′ : ℕ) : Type 0 where
+    pub lower : Ready plan links′ noted′ at′ k′ made′ free′
+    pub parts : List ℕ
+    pub low : Parts parts
+    pub wrote : noted′ ≡ sets noted made parts
+    pub next : made′ ≡ made + length parts
+    pub whole : map word (notes (w .tree) (w .slots) made free)
+        ≡ map (ended (made + branches (w .tree)) (length (w .rows))) parts ++ map word (notes (lower .tree) (lower .slots) made′ free′)
+    pub count : made′ + branches (lower .tree) ≡ made + branches (w .tree)
+    pub same-rows : length (lower .rows) ≡ length (w .rows)
+    pub after : at′ + length (write (lower .tree)) ≡ at + length (write (w .tree))
+    pub later : at ≤ at′
+
+-- an accepted plan, for a table of this width
+pub record Accepted (plan noted : List ℕ) (width : ℕ) : Type 0 where
+  pub table : List ℕ
+  pub rows : List (List ℕ)
+  pub is : IsTable table width rows
+  pub tree : Plan width rows
+  pub cells : plan ≡ write tree
+  pub array : length noted ≡ 2048
+
+abbrev pub AllNoted : {plan noted : List ℕ} {width : ℕ} → Accepted plan noted width → List ℕ → Type 0
+AllNoted {noted = noted} {width = width} w noted′ = noted′ ≡ sets noted 0 (map word (notes (w .tree) (upFrom 1 width) 0 32))

@@ -1,0 +1,50 @@
+// The number that is noted of a branch, taken apart (specs/Notes).
+ghost use mathlib.Core.Path.{_≡_};
+ghost use Rattle.plan.specs.Notes.{cellIn, skipIn, rowsIn, slotIn, nextIn};
+
+pub fn wide(x: u8) -> usize
+    ensures { λ r. ⌜ r ≡ x ⌝ }
+{
+    x as usize
+}
+
+pub fn wide16(x: u16) -> usize
+    ensures { λ r. ⌜ r ≡ x ⌝ }
+{
+    x as usize
+}
+
+// Bits 31..0: the branch's cell.
+pub fn cell_of(w: u64) -> u32
+    ensures { λ r. ⌜ r ≡ cellIn w ⌝ }
+{
+    (w & 0xffffffff) as u32
+}
+
+// Bits 43..32: the number of the first branch that is not below it.
+pub fn skip_of(w: u64) -> u16
+    ensures { λ r. ⌜ r ≡ skipIn w ⌝ }
+{
+    ((w >> 32) & 0xfff) as u16
+}
+
+// Bits 50..44: its number of rows.
+pub fn rows_of(w: u64) -> usize
+    ensures { λ r. ⌜ r ≡ rowsIn w ⌝ }
+{
+    ((w >> 44) & 0x7f) as usize
+}
+
+// Bits 56..51: the slot of the place that its state looks at.
+pub fn slot_of(w: u64) -> usize
+    ensures { λ r. ⌜ r ≡ slotIn w ⌝ }
+{
+    ((w >> 51) & 0x3f) as usize
+}
+
+// Bits 62..57: the first slot that is free below it.
+pub fn next_of(w: u64) -> usize
+    ensures { λ r. ⌜ r ≡ nextIn w ⌝ }
+{
+    ((w >> 57) & 0x3f) as usize
+}
