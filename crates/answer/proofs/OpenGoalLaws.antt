@@ -1,25 +1,29 @@
--- The goal of distinct variables: every branch is tried.
+-- The goal of distinct variables: every branch is tried, and every row is a hit.
 use Prim.Native.Nat.{ℕ, zero, suc, _+_, _-_, _^_, _≤_, _<_}
-use mathlib.Core.Path.{_≡_, refl, sym, ap}
+use mathlib.Core.Path.{_≡_, refl, sym, _∙_, ap, subst}
 use mathlib.Core.Logic.{_≢_}
-use mathlib.Core.Bool.{true}
-use mathlib.Core.List.{List, [], _∷_, _++_}
+use mathlib.Core.Bool.{true, _&&_}
+use mathlib.Core.List.{List, [], _∷_, _++_, List·Memᴰ, List·Memᴰ·head, List·Memᴰ·tail}
 use native.Mathlib.Omega.{arith}
+use lib.Dec.{eqb}
 use lib.ListN.{length, replicate}
 use Rattle.cell.specs.Cell.{arity, isVar}
-use Rattle.cell.proofs.CellLaws.{var-small}
-use Rattle.term.specs.Terms.{Terms, more, root, close}
-use Rattle.term.specs.Unify.{renamed}
+use Rattle.cell.proofs.CellLaws.{var-arity, var-small}
+use Rattle.term.specs.Terms.{Terms, none, more, root, close}
+use Rattle.term.specs.Unify.{renamed, Matches}
 use Rattle.term.proofs.TermsLaws.{Terms-++}
 use Rattle.term.proofs.Step.{fresh-var}
+use Rattle.term.proofs.Tests.{cond-case}
 use Rattle.table.specs.All.{All}
-use Rattle.table.proofs.AllLaws.{all-++}
-use Rattle.table.specs.Table.{upFrom, count}
+use Rattle.table.proofs.AllLaws.{all-++, all-each}
+use Rattle.table.proofs.HeadLaws.{appear-short}
+use Rattle.table.proofs.Accepted.{few-variables}
+use Rattle.table.specs.Table.{upFrom, count, appear, Row, IsGoal}
 use Rattle.plan.specs.Runs.{Run}
 use Rattle.plan.specs.Plans.{Plan, leaf, node, Branches, end, next}
 use Rattle.plan.proofs.RunsLaws.{Each, Sized, group-sizes}
 use Rattle.answer.specs.Skeleton.{hole, fill, decide, opened}
-use Rattle.answer.specs.Run.{Counts, zero-of, one-of, skeletons, skeletonsIn, Tried}
+use Rattle.answer.specs.Run.{Picks, hit, Counts, zero-of, one-of, skeletons, skeletonsIn, Tried}
 use Rattle.answer.proofs.CountLaws.{up-mem, up-distinct}
 use Rattle.answer.proofs.SkeletonLaws.{count-all, fill-all, Three, three, three-of, fill-decide, decide-count, vars-unify}
 use Rattle.answer.proofs.MeaningLaws.{Fine, Below, below-all, some-row, cell-hole, holes-below, fine-below, opened-fine}
@@ -102,3 +106,43 @@ pub every-branch : (w : ℕ) → w ≤ 32 → {rows : List (List ℕ)} (p : Plan
 every-branch w few p a s =
     counts-all (Tried (upFrom 0 w)) (skeletons p (replicate w hole))
     (all-skeletons w (Tried (upFrom 0 w)) (one-tried w few) p (replicate w hole) (wide-first w) (count-all w) a s)
+
+-- A goal with as many variables as cells is the goal of distinct variables.
+
+-- where as many variables appear as there are cells, each cell is one that appears
+appear-all : (ms ys : List ℕ) → length (appear ms ys) ≡ length ys → appear ms ys ≡ ys
+unfolding appear
+appear-all ms [] e = refl
+appear-all ms (c ∷ ys) e =
+    cond-case (isVar c && eqb (count c ms) 0) (λ (l : List ℕ). length l ≡ suc (length ys) → l ≡ c ∷ ys)
+    (λ b d. ap (λ (l : List ℕ). c ∷ l) (appear-all (c ∷ ms) ys (omega arith)))
+    (λ b d. absurd (let z : ⊥ = omega (arith, appear-short ms ys) in z)) e
+
+-- terms that are variables have a cell each
+only-variables : {k : ℕ} {xs : List ℕ} → Terms k xs → ((c : ℕ) → List·Memᴰ c xs → isVar c ≡ true) → length xs ≡ k
+only-variables none h = refl
+only-variables (more {c} t) h = omega (arith, only-variables t (λ d m. h d (List·Memᴰ·tail m)), var-arity c (h c (List·Memᴰ·head refl)))
+
+pub distinct : {w : ℕ} {g : List ℕ} → IsGoal w g → length (appear [] g) ≡ length g → g ≡ upFrom 0 w
+distinct {w} {g} i e =
+    let u : g ≡ upFrom 0 (length g) = sym (appear-all [] g e) ∙ i .head .order ∙ ap (upFrom 0) e in
+    let v : (c : ℕ) → List·Memᴰ c g → isVar c ≡ true =
+    λ c m. let r = up-mem 0 (length g) c (subst (λ (l : List ℕ). List·Memᴰ c l) u m) in var-small c (omega (arith, i .head .short)) in
+    u ∙ ap (upFrom 0) (only-variables (i .head .terms) v)
+
+-- it unifies with every row
+every-row : (w : ℕ) → w ≤ 32 → (row : List ℕ) → Row w row → Matches row (upFrom 0 w)
+every-row w few row r =
+    let f = up-distinct (2 ^ 16 + 0) w (omega arith) in
+    let u = vars-unify f (r .head .terms)
+    (λ c m q. let v = fresh-var f c q in let x = up-mem (2 ^ 16 + 0) w c q in let y = few-variables (r .head) c m v in omega arith) in
+    rw (renamed-up 0 w (omega arith)) (record { by = u .by; good = u .good; same = sym (u .same) })
+
+picks-all : (P : List ℕ → Type 0) (rows : List (List ℕ)) (f : ℕ) → All P rows → Picks P rows f (upFrom f (length rows))
+unfolding upFrom
+picks-all P [] f a = Picks.none
+picks-all P (r ∷ rs) f a = hit (a .0) (picks-all P rs (suc f) (a .1))
+
+pub every-hit : (w : ℕ) → w ≤ 32 → (rows : List (List ℕ)) → All (Row w) rows → Picks (λ (row : List ℕ). Matches row (upFrom 0 w)) rows 0 (upFrom 0 (length rows))
+every-hit w few rows a =
+    picks-all (λ (row : List ℕ). Matches row (upFrom 0 w)) rows 0 (all-each (Row w) (λ (row : List ℕ). Matches row (upFrom 0 w)) (every-row w few) rows a)

@@ -8,7 +8,7 @@ use lib.ListN.{length, getD, drop, replicate, length-append}
 use Rattle.term.specs.Unify.{Matches}
 use Rattle.refusal.specs.Refusal.{answered}
 use Rattle.refusal.specs.Read.{read}
-use Rattle.table.specs.Table.{Table, tableOf, upFrom, count}
+use Rattle.table.specs.Table.{Table, tableOf, upFrom, count, IsTable}
 use Rattle.table.proofs.ReadLaws.{apart, read-one}
 use Rattle.table.proofs.Accepted.{is-table}
 use Rattle.plan.specs.Runs.{Run}
@@ -76,6 +76,12 @@ mutual
 
 pub tried-most : {P : List ℕ → Type 0} {k n : ℕ} {rows : List (List ℕ)} (p : Plan k rows) (K : List ℕ) → Counts P (skeletons p K) n → n ≤ branches p
 tried-most p K c = omega (arith, counts-most c, skeletons-length p K)
+
+-- the goal of distinct variables tries them all
+pub every-try : {t : List ℕ} {w : ℕ} {rows : List (List ℕ)} → IsTable t w rows → (tree : Plan w rows)
+    → Counts (Tried (upFrom 0 w)) (skeletons tree (replicate w hole)) (branches tree)
+every-try {w = w} i tree =
+    rw (skeletons-length tree (replicate w hole)) at (every-branch w (omega (arith, i .width)) tree (table-fine i) (omega (arith, i .count)))
 
 -- "Every accepted plan answers every accepted goal as 2 says": two accepted plans of a table give the same hits
 pub same-hits : {t p p′ g room room′ room″ : List ℕ} {r r′ : RunAnswer} {b b′ : ℕ} → planOf t p ≡ read b → planOf t p′ ≡ read b′

@@ -1,5 +1,5 @@
--- what only private functions need
-pub mod See
-pub mod Places
 pub mod Link
+pub mod Steps
+pub mod Frames
+pub mod Goal
 pub mod Walk

@@ -2,10 +2,10 @@
 ghost use mathlib.Core.List.{List};
 ghost use Prim.Native.Nat.{ℕ};
 ghost use Rattle.answer.specs.Run.{Ran};
-ghost use Rattle.run.specs.code.Walk.{Accepted, AcceptedSome};
+ghost use Rattle.notes.specs.code.ForRun.{ForRun, ForSome};
 
-mod places;
-mod seen;
+mod nodes;
+mod step;
 mod walk;
 
 use answer::RunAnswer;
@@ -15,22 +15,22 @@ use refusal::Reason;
 use refusal::Refusal;
 use table::GoalAnswer;
 
-// A run of a plan that the check has accepted, with what the check noted of it: the goal, the room, then the walk.
-fn run_accepted<'a>(
-    plan: &[u32],
-    ends: &'a [u16; 6082],
-    many: &'a [u8; 6082],
+// A run of a plan that the check has accepted, with what is noted of it: the goal, the room, then the walk. The goal of distinct variables,
+// which has as many variables as cells, hits every row and tries every branch: it is answered without a walk.
+fn run_noted(
+    noted: &[u64; 2048],
+    branches: usize,
     width: usize,
     rows: usize,
     goal: &[u32],
     room: &mut [u8],
 ) -> RunAnswer
-    requires { ⌜ AcceptedSome (now plan) (now ends) (now many) width rows ⌝ }
-    ensures { λ r. ⌜ ((t : List ℕ) → Accepted t (now (plan .entry)) (now (ends .entry)) (now (many .entry)) width rows → Ran t (now (plan .entry)) (now (goal .entry)) (now (room .entry)) (now (room .exit)) r) ⌝ }
+    requires { ⌜ ForSome (now noted) branches width rows ⌝ }
+    ensures { λ r. ⌜ ((table plan : List ℕ) → ForRun table plan (now (noted .entry)) branches width rows → Ran table plan (now (goal .entry)) (now (room .entry)) (now (room .exit)) r) ⌝ }
 {
     match table::goal_for(width, goal) {
         GoalAnswer::Refused(f) => RunAnswer::Refused(f),
-        GoalAnswer::Accepted(n, _) => {
+        GoalAnswer::Accepted(cells, variables) => {
             if room.len() < rows {
                 return RunAnswer::Refused(Refusal {
                     reason: Reason::Room,
@@ -38,9 +38,11 @@ fn run_accepted<'a>(
                     place: rows,
                 });
             }
-            let cells = seen::cells_of(goal);
-            let sib = seen::siblings(&cells, n);
-            let o = walk::walk(plan, ends, many, &cells, &sib, width, room);
+            if variables == cells {
+                walk::put_rows(room, 0, rows, 0);
+                return RunAnswer::Ran(rows, branches);
+            }
+            let o = walk::walk(noted, branches, goal, width, room);
             RunAnswer::Ran(o.hits, o.tried)
         }
     }
@@ -50,14 +52,15 @@ fn run_accepted<'a>(
 pub fn run_plan(table: &[u32], plan: &[u32], goal: &[u32], room: &mut [u8]) -> RunAnswer
     ensures { λ r. ⌜ Ran (now (table .entry)) (now (plan .entry)) (now (goal .entry)) (now (room .entry)) (now (room .exit)) r ⌝ }
 {
-    let marked = checker::check_marked(table, plan);
-    let answer = marked.answer;
+    let mut numbers = [0u64; 2048];
+    let noted = notes::check_noted(table, plan, &mut numbers);
+    let answer = noted.answer;
     match answer {
         PlanAnswer::Refused(f) => RunAnswer::Refused(f),
-        PlanAnswer::Accepted(_) => {
-            let width = marked.width;
-            let rows = marked.rows;
-            run_accepted(plan, &marked.ends, &marked.many, width, rows, goal, room)
+        PlanAnswer::Accepted(branches) => {
+            let width = noted.width;
+            let rows = noted.rows;
+            run_noted(&numbers, branches, width, rows, goal, room)
         }
     }
 }

@@ -1,19 +1,19 @@
--- The walk's references and bindings, and what is left of the goal that they stand for. The link is a substitution: the bindings one after another, in the
--- order in which they were made. These definitions describe the code's own state; no promise of a public function cites them.
-use Prim.Native.Nat.{ℕ, _+_, _≤_, _<_}
+-- The walk's nodes and what is left of the goal that they stand for. A node below 32 is a cell of the goal, from 32 on an argument made on
+-- the way. The link is a substitution: the bindings one after another, in the order in which they were made. These definitions describe the
+-- code's own state; no promise of a public function cites them.
+use Prim.Native.Nat.{ℕ, zero, suc, _+_, _≤_, _<_}
 use mathlib.Core.Path.{_≡_}
-use mathlib.Core.Logic.{_≢_}
-use mathlib.Core.Bool.{true, false, cond}
-use mathlib.Core.List.{List, [], _∷_, _++_}
+use mathlib.Core.Bool.{false, cond}
+use mathlib.Core.List.{List, [], _∷_, _++_, map}
 use lib.Dec.{leb}
 use lib.ListN.{length, getD, drop}
 use Rattle.cell.specs.Cell.{arity, isVar}
 use Rattle.term.specs.Terms.{front}
 use Rattle.term.specs.Unify.{inst, Subst}
-use Rattle.table.specs.Table.{upFrom}
-use Rattle.answer.specs.code.Renamed.{var, Goal, lift}
+use Rattle.table.specs.All.{All}
+use Rattle.answer.specs.code.Renamed.{var}
 
--- what a reference stands for: from 32 on a variable, below that a cell of the goal with the term that begins there
+-- what a node stands for: from 32 on a variable, below that a cell of the goal with the term that begins there
 unfoldable pub ref : (goal : List ℕ) → ℕ → List ℕ
 ref G r = cond (leb 32 r) (var r ∷ []) (front 1 (drop r G))
 
@@ -21,42 +21,60 @@ unfoldable pub refs : (goal : List ℕ) → List ℕ → List ℕ
 refs G [] = []
 refs G (r ∷ rs) = ref G r ++ refs G rs
 
--- a reference to a cell of the goal, or to one of the variables made so far
-pub data Ok (G : List ℕ) (m : ℕ) : ℕ → Type 0 where
-  cell : {r : ℕ} → r < length G → Ok G m r
-  number : {r : ℕ} → 32 ≤ r → r < m → Ok G m r
+-- a steps from p on, by a table that has for each number the next: where as many terms begin that stand one after another
+unfoldable pub steps : (sib : List ℕ) → ℕ → ℕ → List ℕ
+steps sib zero p = []
+steps sib (suc a) p = p ∷ steps sib a (getD sib p 0)
 
-pub data Oks (G : List ℕ) (m : ℕ) : List ℕ → Type 0 where
-  nil : Oks G m []
-  cons : {r : ℕ} {rs : List ℕ} → Ok G m r → Oks G m rs → Oks G m (r ∷ rs)
+-- what a table has at some numbers
+abbrev pub entries : (table : List ℕ) → List ℕ → List ℕ
+entries table xs = map (λ (x : ℕ). getD table x 0) xs
 
--- the goal's cells as the code has them, and its table of steps
-pub record Lies (G goal sib : List ℕ) : Type 0 where
-  pub cells : (p : ℕ) → p < length G → getD G p 0 ≡ lift (getD goal p 0)
+-- the nodes of a terms, the first of which begins at p
+abbrev pub nodes : (rep sib : List ℕ) → ℕ → ℕ → List ℕ
+nodes rep sib a p = entries rep (steps sib a p)
+
+-- a node that stands for its term: a cell of the goal that no other cell is named instead of, or an argument made so far
+pub data Node (G rep : List ℕ) (m : ℕ) : ℕ → Type 0 where
+  cell : {r : ℕ} → r < length G → getD rep r 0 ≡ r → Node G rep m r
+  made : {r : ℕ} → 32 ≤ r → r < m → Node G rep m r
+
+pub data Nodes (G rep : List ℕ) (m : ℕ) : List ℕ → Type 0 where
+  nil : Nodes G rep m []
+  cons : {r : ℕ} {rs : List ℕ} → Node G rep m r → Nodes G rep m rs → Nodes G rep m (r ∷ rs)
+
+-- the goal's tables: the place after each cell's term, and the node that stands for it; for an argument the next number, and itself
+pub record Tables (G sib rep : List ℕ) : Type 0 where
   pub sibs : (p : ℕ) → p < length G → getD sib p 0 ≡ p + length (front 1 (drop p G))
-  pub numbers : (r : ℕ) → 32 ≤ r → r < 64 → getD sib r 0 ≡ r + 1
-  pub vars : (p : ℕ) → p < 32 → isVar (getD goal p 0) ≡ true → getD goal p 0 < 32
+  pub up : (r : ℕ) → 32 ≤ r → r < 64 → (getD sib r 0 ≡ r + 1) × (getD rep r 0 ≡ r)
+  pub inside : (p : ℕ) → p < length G → getD rep p 0 < length G
+  pub kept : (p : ℕ) → p < length G → getD rep (getD rep p 0) 0 ≡ getD rep p 0
+  pub same : (p : ℕ) → p < length G → ref G (getD rep p 0) ≡ ref G p
+  pub vars : (r x : ℕ) → x < 64 → r < length G → ref G r ≡ var x ∷ [] → x < 32
+  pub one : (r s x : ℕ) → x < 64 → r < length G → s < length G → getD rep r 0 ≡ r → getD rep s 0 ≡ s → ref G r ≡ var x ∷ [] → ref G s ≡ var x ∷ []
+      → r ≡ s
 
--- the bindings and the substitution Θ: a variable whose entry is 0 is unbound, any other is its symbol over variables
-pub record Bound (bound args : List ℕ) (m : ℕ) (Θ : ℕ → List ℕ) : Type 0 where
+-- what a node is, for the branches from n to e: bound to a symbol all along, or unbound all along
+pub data Is (G rep sib bound args until : List ℕ) (n e m : ℕ) (Θ : ℕ → List ℕ) (r : ℕ) : Type 0 where
+  held : e ≤ getD until r 0 → isVar (getD bound r 0) ≡ false
+      → inst Θ (ref G r) ≡ getD bound r 0 ∷ inst Θ (refs G (nodes rep sib (arity (getD bound r 0)) (getD args r 0)))
+      → Nodes G rep m (nodes rep sib (arity (getD bound r 0)) (getD args r 0))
+      → All (λ x. x < 64) (steps sib (arity (getD bound r 0)) (getD args r 0)) → Is G rep sib bound args until n e m Θ r
+  free : (x : ℕ) → x < 64 → getD until r 0 ≤ n → ref G r ≡ var x ∷ [] → Θ (var x) ≡ var x ∷ [] → Is G rep sib bound args until n e m Θ r
+
+-- the bindings and the substitution Θ; nodes from m on are not made yet
+pub record Bound (G rep sib bound args until : List ℕ) (n e m : ℕ) (Θ : ℕ → List ℕ) : Type 0 where
   pub good : Subst Θ
-  pub free : (v : ℕ) → getD bound v 0 ≡ 0 → Θ (var v) ≡ var v ∷ []
-  pub held : (v : ℕ) → getD bound v 0 ≢ 0 → Θ (var v) ≡ getD bound v 0 ∷ inst Θ (upFrom (var (getD args v 0)) (arity (getD bound v 0)))
-  pub symbol : (v : ℕ) → getD bound v 0 ≢ 0 → isVar (getD bound v 0) ≡ false
-  pub below : (v : ℕ) → getD bound v 0 ≢ 0 → (32 ≤ getD args v 0) × (getD args v 0 + arity (getD bound v 0) ≤ m)
-  pub above : (v : ℕ) → m ≤ v → getD bound v 0 ≡ 0
-  pub few : m ≤ 64
-  pub some : 32 ≤ m
-  pub size-bound : length bound ≡ 64
-  pub size-args : length args ≡ 64
+  pub is : (r : ℕ) → Node G rep m r → Is G rep sib bound args until n e m Θ r
+  pub fresh : (u : ℕ) → m ≤ u → Θ (var u) ≡ var u ∷ []
+  pub later : (u : ℕ) → m ≤ u → getD until u 0 ≤ n
 
--- R is left of the goal: what the references at the open places stand for, under the bindings. Variables below m are made
-pub record Linked (goal sib bound args places : List ℕ) (m : ℕ) (R : List ℕ) : Type 0 where
-  pub width : ℕ
-  pub whole : List ℕ
-  pub head : Goal width whole
-  pub lies : Lies whole goal sib
+-- R is left of the goal for the branches from n to e: what the references in the slots stand for, under the bindings
+pub record Linked (G rep sib bound args until refers : List ℕ) (n e m : ℕ) (slots R : List ℕ) : Type 0 where
   pub by : ℕ → List ℕ
-  pub binds : Bound bound args m by
-  pub oks : Oks whole m places
-  pub same : R ≡ inst by (refs whole places)
+  pub binds : Bound G rep sib bound args until n e m by
+  pub slots-made : All (λ s. s < m) slots
+  pub stand : Nodes G rep m (entries refers slots)
+  pub same : R ≡ inst by (refs G (entries refers slots))
+  pub some : 32 ≤ m
+  pub few : m < 64

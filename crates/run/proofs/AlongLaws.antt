@@ -1,0 +1,266 @@
+-- The walk's invariant: what is done with what is left is the whole. One branch keeps it.
+use Prim.Native.Nat.{ℕ, suc, _+_, _≤_, _<_}
+use mathlib.Core.Path.{_≡_, sym, _∙_, ap}
+use mathlib.Core.Logic.{_≢_}
+use mathlib.Core.Bool.{true, false}
+use mathlib.Core.List.{List, [], _∷_, _++_, map, map-append, append-assoc}
+use native.Mathlib.Omega.{arith}
+use lib.ListN.{length, getD, drop, length-append, length-drop, length-map}
+use lib.Seq.{sets, drop-drop, drop-at, drop-cons}
+use Rattle.cell.specs.Cell.{arity}
+use Rattle.term.proofs.Lists.{sets-sets}
+use Rattle.table.specs.All.{All}
+use Rattle.table.proofs.AllLaws.{all-back}
+use Rattle.table.proofs.HeadLaws.{up-length}
+use Rattle.table.specs.Table.{upFrom}
+use Rattle.plan.specs.Plans.{branches, branchesIn}
+use Rattle.plan.proofs.RunsLaws.{rowsIn}
+use Rattle.answer.specs.code.After.{Left, after}
+use Rattle.answer.specs.code.Renamed.{var, Goal}
+use Rattle.answer.specs.code.Tree.{under, hits, tried}
+use Rattle.plan.specs.Notes.{Branch, branch, below, notes, notesIn, word, cellIn, skipIn, slotIn, nextIn}
+use Rattle.plan.specs.Notes as note
+use Rattle.run.specs.code.Link.{Tables}
+use Rattle.run.specs.code.Steps.{Safe, Step}
+use Rattle.run.specs.code.Frames.{Frame, notesOf, hitsOf, triedOf, rowsOf, Stands}
+use Rattle.plan.proofs.NotesLaws.{Parts, word-parts, notes-count}
+use Rattle.plan.specs.Notes.{Fits}
+use Rattle.run.proofs.FrameLaws.{Top, top-of, none-of, leaf-all, Below, below-frame, some-open, below-stands}
+use Rattle.run.proofs.StepLaws.{Sizes, Goes, frames, node, below-width, safe, fails, goes}
+
+-- At the branch number i, `words` being what is noted: the rows before `row` are done, `found` hits are in the room and `count` branches are tried. With what
+-- the frames still give, the room is `final`, and there are h hits, t branches tried and r rows.
+pub record Along (G rep sib words final : List ℕ) (h t r : ℕ) (bs ns us rs room : List ℕ) (i row found count : ℕ) : Type 0 where
+  pub left-over : List Frame
+  pub top : ℕ
+  pub stands : Stands G rep sib bs ns us rs left-over i top
+  pub noted : map word (notesOf left-over i) ≡ drop i words
+  pub fit : All Fits (notesOf left-over i)
+  pub sizes : Sizes bs ns us rs
+  pub wrote : sets room found (hitsOf left-over row) ≡ final
+  pub more : found + length (hitsOf left-over row) ≡ h
+  pub tries : count + triedOf left-over ≡ t
+  pub rows : row + rowsOf left-over ≡ r
+  pub fewer : found ≤ row
+  pub least : count ≤ i
+  pub reach : i ≤ length words
+
+-- what stands at a place of a list
+read : (l : List ℕ) (at x : ℕ) (xs : List ℕ) → at < length l → drop at l ≡ x ∷ xs → getD l at 0 ≡ x
+read l at x xs h e = let q : getD l at 0 ∷ drop (suc at) l ≡ x ∷ xs = sym (drop-cons l at 0 h) ∙ e in cc
+
+next-words : (l xs : List ℕ) (at x : ℕ) → drop at l ≡ x ∷ xs → xs ≡ drop (at + 1) l
+next-words l xs at x e = sym (ap (drop 1) e) ∙ drop-drop 1 at l
+
+drop-past : (l xs ys : List ℕ) (at x n : ℕ) → drop at l ≡ x ∷ (xs ++ ys) → length xs ≡ n → drop (at + 1 + n) l ≡ ys
+drop-past l xs ys at x n e z =
+    let q : at + 1 + n ≡ at + suc n = omega arith in
+    rw q (sym (drop-drop (suc n) at l) ∙ ap (drop (suc n)) e ∙ drop-at (x ∷ xs) ys (suc n) (ap suc z))
+
+sets-next : (l : List ℕ) {l′ : List ℕ} (xs ys : List ℕ) (at n : ℕ) → l′ ≡ sets l at xs → length xs ≡ n → sets l′ (at + n) ys ≡ sets l at (xs ++ ys)
+sets-next l xs ys at n e z = rw (e, ← z) (sets-sets l at xs ys)
+
+module _ {w : ℕ} {G sib rep : List ℕ} (G-goal : Goal w G) (T : Tables G sib rep) {words final : List ℕ} {h t r : ℕ} {bs ns us rs room : List ℕ} {i row found count : ℕ}
+    (A : Along G rep sib words final h t r bs ns us rs room i row found count) where
+  -- no branch is left
+  pub ended : length words ≤ i → (room ≡ final) × (found ≡ h) × (count ≡ t)
+  ended l =
+      let z : length (notesOf (A .left-over) i) ≡ 0 = sym (length-map (notesOf (A .left-over) i) word) ∙ ap length (A .noted) ∙ length-drop i words ∙ omega arith in
+      let n = none-of (A .left-over) i row z in
+      (rw (n .0) at (A .wrote), omega (arith, A .more, ap length (n .0)), omega (arith, A .tries, n .1))
+
+  module _ (l : i < length words) where
+    first : Top G rep sib bs ns us rs (A .left-over) i (A .top) row
+    first =
+        let z : length (notesOf (A .left-over) i) ≡ length (drop i words) = sym (length-map (notesOf (A .left-over) i) word) ∙ ap length (A .noted) in
+        top-of (A .left-over) i (A .top) row (omega (arith, z, length-drop i words)) (A .stands)
+
+    abbrev c : ℕ
+    c = first .group .cell
+
+    abbrev m : ℕ
+    m = first .free
+
+    abbrev n : ℕ
+    n = length (first .group .rows)
+
+    abbrev sk : ℕ
+    sk = i + 1 + branches (first .tree)
+
+    abbrev others : List Frame
+    others = frames G-goal T first
+
+    -- what is noted of it, and of what is below it
+    b : Branch
+    b = branch c sk n (getD (first .slots) (first .place) 0) m
+
+    abbrev under-it : List Branch
+    under-it = notes (first .tree) (below (first .place) (arity c) m (first .slots)) (i + 1) (m + arity c)
+
+    split-notes : notesOf (A .left-over) i ≡ b ∷ (under-it ++ notesOf others sk)
+    unfolding b notes branches
+    split-notes =
+        let q : i + suc (branches (first .tree) + branchesIn (first .trees)) ≡ sk + branchesIn (first .trees) = omega arith in
+        first .same-notes ∙ rw q (ap (λ (xs : List Branch). b ∷ xs) (append-assoc under-it (notesIn (first .trees) (first .place) (first .slots) sk m) (notesOf (first .others) (sk + branchesIn (first .trees)))))
+
+    split-words : drop i words ≡ word b ∷ (map word under-it ++ map word (notesOf others sk))
+    split-words = sym (A .noted) ∙ ap (map word) split-notes ∙ ap (λ (xs : List ℕ). word b ∷ xs) (map-append word under-it (notesOf others sk))
+
+    fit-here : All Fits (b ∷ (under-it ++ notesOf others sk))
+    fit-here = rw split-notes at (A .fit)
+
+    parts : Parts b (getD words i 0)
+    parts = rw (read words i (word b) _ l split-words) (word-parts b (fit-here .0))
+
+    room-enough : m + arity c < 64
+    unfolding b
+    room-enough = fit-here .0 .next
+
+    -- what the branch gives, with what `after` leaves of the goal
+    abbrev leaves : Left
+    leaves = after (var m) (first .place) c (first .R)
+
+    abbrev hits-here : Left → List ℕ
+    hits-here x = under [] x (λ R′. hits (first .tree) (m + arity c) R′ row)
+
+    abbrev tried-here : Left → ℕ
+    tried-here x = under 0 x (λ R′. tried (first .tree) (m + arity c) R′)
+
+    split-hits : hitsOf (A .left-over) row ≡ hits-here leaves ++ hitsOf others (row + n)
+    unfolding hits
+    split-hits =
+        let q : row + (n + rowsIn (first .groups)) ≡ row + n + rowsIn (first .groups) = omega arith in
+        first .same-hits ∙ rw q (append-assoc (hits-here leaves) _ _)
+
+    split-tried : triedOf (A .left-over) ≡ suc (tried-here leaves + triedOf others)
+    unfolding tried
+    split-tried = first .same-tried ∙ omega arith
+
+    split-rows : rowsOf (A .left-over) ≡ n + rowsOf others
+    split-rows = first .same-rows ∙ omega arith
+
+    -- the code's own numbers for it
+    abbrev W : ℕ
+    W = getD words i 0
+
+    same-node : node G-goal T first ≡ getD rs (slotIn W) 0
+    unfolding b
+    same-node = ap (λ (x : ℕ). getD rs x 0) (sym (parts .slot))
+
+    pub safe-here : Safe sib bs ns us i (cellIn W) (getD rs (slotIn W) 0) (nextIn W)
+    unfolding b
+    safe-here = rw (parts .cell, parts .next, ← same-node) (safe G-goal T first room-enough)
+
+    pub rows-here : row + note.rowsIn W ≤ r
+    unfolding b
+    rows-here = omega (arith, parts .rows, A .rows, split-rows)
+
+    pub skip-here : (i < skipIn W) × (skipIn W ≤ length words)
+    unfolding b
+    skip-here =
+        let d = ap length split-words ∙ ap suc (length-append (map word under-it) (map word (notesOf others sk))) in
+        let e = length-map under-it word ∙ notes-count (first .tree) (below (first .place) (arity c) m (first .slots)) (i + 1) (m + arity c) in
+        (omega (arith, parts .skip), omega (arith, parts .skip, d, e, length-drop i words))
+
+    -- the branches after all that is below it
+    past-words : map word (notesOf others sk) ≡ drop sk words
+    past-words =
+        sym (drop-past words (map word under-it) (map word (notesOf others sk)) i (word b) (branches (first .tree)) split-words
+        (length-map under-it word ∙ notes-count (first .tree) (below (first .place) (arity c) m (first .slots)) (i + 1) (m + arity c)))
+
+    past-fit : All Fits (notesOf others sk)
+    past-fit = all-back Fits under-it (notesOf others sk) (fit-here .1)
+
+    module _ {bs′ ns′ us′ rs′ : List ℕ} where
+      pub on-fail : Step rep sib i (cellIn W) (getD rs (slotIn W) 0) (nextIn W) (skipIn W) bs ns us rs bs′ ns′ us′ rs′ false
+          → Along G rep sib words final h t r bs′ ns′ us′ rs′ room (skipIn W) (row + note.rowsIn W) found (count + 1)
+      unfolding b
+      on-fail x =
+          let x′ : Step rep sib i c (node G-goal T first) m sk bs ns us rs bs′ ns′ us′ rs′ false = rw (parts .cell, parts .next, parts .skip, ← same-node) at x in
+          let f = fails G-goal T first room-enough (A .sizes) x′ in
+          let hs : hitsOf (A .left-over) row ≡ hitsOf others (row + n) = split-hits ∙ rw (f .0) in
+          let ts : triedOf (A .left-over) ≡ suc (triedOf others) = split-tried ∙ rw (f .0) (omega arith) in
+          rw (parts .skip, parts .rows)
+          (record {
+            left-over = others;
+            top = m;
+            stands = f .1;
+            noted = past-words;
+            fit = past-fit;
+            sizes = f .2;
+            wrote = rw hs at (A .wrote);
+            more = rw hs at (A .more);
+            tries = omega (arith, A .tries, ts);
+            rows = omega (arith, A .rows, split-rows);
+            fewer = omega (arith, A .fewer);
+            least = omega (arith, A .least);
+            reach = omega (arith, skip-here .1, parts .skip);
+          })
+
+      module _ (x : Step rep sib i (cellIn W) (getD rs (slotIn W) 0) (nextIn W) (skipIn W) bs ns us rs bs′ ns′ us′ rs′ true) where
+        gone : Goes G-goal T first room-enough (A .sizes) bs′ ns′ us′ rs′
+        unfolding b
+        gone = goes G-goal T first room-enough (A .sizes) (rw (parts .cell, parts .next, parts .skip, ← same-node) at x)
+
+        -- a leaf is below it: its rows are hits
+        pub on-leaf : {room′ : List ℕ} → i + 1 ≡ skipIn W → room′ ≡ sets room found (upFrom row (note.rowsIn W))
+            → Along G rep sib words final h t r bs′ ns′ us′ rs′ room′ (i + 1) (row + note.rowsIn W) (found + note.rowsIn W) (count + 1)
+        unfolding b
+        on-leaf {room′} e y =
+            let z : branches (first .tree) ≡ 0 = omega (arith, parts .skip) in
+            let d = gone .down in
+            let f = leaf-all (first .tree) z (m + arity c) (d .rest) row in
+            let hs : hitsOf (A .left-over) row ≡ upFrom row n ++ hitsOf others (row + n) = split-hits ∙ rw (d .leaves, f .0) in
+            let ts : triedOf (A .left-over) ≡ suc (triedOf others) = split-tried ∙ rw (d .leaves, f .1) (omega arith) in
+            let q : sk ≡ i + 1 = omega arith in
+            let y′ : room′ ≡ sets room found (upFrom row n) = y ∙ rw (parts .rows) in
+            let u = up-length row n in
+            let v = length-append (upFrom row n) (hitsOf others (row + n)) in
+            rw (parts .rows)
+            (record {
+              left-over = others;
+              top = m;
+              stands = rw q at (gone .rest);
+              noted = rw q at past-words;
+              fit = rw q at past-fit;
+              sizes = gone .sizes;
+              wrote = sets-next room (upFrom row n) (hitsOf others (row + n)) found n y′ u ∙ ap (sets room found) (sym hs) ∙ A .wrote;
+              more = omega (arith, A .more, ap length hs);
+              tries = omega (arith, A .tries, ts);
+              rows = omega (arith, A .rows, split-rows);
+              fewer = omega (arith, A .fewer);
+              least = omega (arith, A .least);
+              reach = omega arith;
+            })
+
+        -- a state is below it: its frame comes first
+        down-with : Below (first .tree) (m + arity c) (below (first .place) (arity c) m (first .slots)) (gone .down .rest) → 0 < branches (first .tree)
+            → Along G rep sib words final h t r bs′ ns′ us′ rs′ room (i + 1) row found (count + 1)
+        down-with F z =
+            let d = gone .down in
+            let q : i + 1 + branchesIn (F .first .trees) ≡ sk = omega (arith, F .count) in
+            let hs : hitsOf (A .left-over) row ≡ hitsOf (F .first ∷ others) row = split-hits ∙ rw (d .leaves, F .same-hits row, F .same-rows) in
+            let ts : triedOf (A .left-over) ≡ suc (triedOf (F .first ∷ others)) = split-tried ∙ rw (d .leaves) (omega (arith, F .same-tried)) in
+            let ns : notesOf (F .first ∷ others) (i + 1) ≡ under-it ++ notesOf others sk = rw (F .same-notes (i + 1), q) in
+            let ws : map word under-it ++ map word (notesOf others sk) ≡ drop (i + 1) words = next-words words (map word under-it ++ map word (notesOf others sk)) i (word b) split-words in
+            record {
+              left-over = F .first ∷ others;
+              top = m + arity c;
+              stands = below-stands (first .tree) (m + arity c) (below (first .place) (arity c) m (first .slots)) (d .rest) F others (i + 1) (d .linked) (below-width G-goal T first) (omega arith) (gone .rest);
+              noted = ap (map word) ns ∙ map-append word under-it (notesOf others sk) ∙ ws;
+              fit = rw ns (fit-here .1);
+              sizes = gone .sizes;
+              wrote = rw hs at (A .wrote);
+              more = rw hs at (A .more);
+              tries = omega (arith, A .tries, ts);
+              rows = omega (arith, A .rows, split-rows, F .same-rows);
+              fewer = A .fewer;
+              least = omega (arith, A .least);
+              reach = omega arith;
+            }
+
+        pub on-down : i + 1 ≢ skipIn W → Along G rep sib words final h t r bs′ ns′ us′ rs′ room (i + 1) row found (count + 1)
+        unfolding b
+        on-down e =
+            let z : 0 < branches (first .tree) = omega (arith, parts .skip, e) in
+            down-with (below-frame (first .tree) (m + arity c) (below (first .place) (arity c) m (first .slots)) (gone .down .rest) (some-open (first .tree) z)) z

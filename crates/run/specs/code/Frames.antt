@@ -1,0 +1,57 @@
+-- What is still to be walked: frames, the innermost first. These definitions describe the code's own state; no promise of a public function
+-- cites them.
+use Prim.Native.Nat.{ℕ, suc, _+_, _≤_}
+use mathlib.Core.Path.{_≡_}
+use mathlib.Core.List.{List, [], _∷_, _++_}
+use lib.ListN.{length}
+use Rattle.plan.specs.Runs.{Run}
+use Rattle.plan.specs.Plans.{Branches, branchesIn}
+use Rattle.plan.proofs.RunsLaws.{rowsIn}
+use Rattle.answer.specs.code.Tree.{hitsIn, triedIn}
+use Rattle.plan.specs.Notes.{Branch, notesIn}
+use Rattle.run.specs.code.Link.{Linked}
+
+-- the rest of a state's branches: k places are open beside the one looked at, slots from `free` on are free, R is left of the goal
+pub record Frame : Type 0 where
+  pub k : ℕ
+  pub groups : List Run
+  pub trees : Branches k groups
+  pub place : ℕ
+  pub free : ℕ
+  pub slots : List ℕ
+  pub R : List ℕ
+
+abbrev pub frame : {k : ℕ} {groups : List Run} → Branches k groups → (place free : ℕ) (slots R : List ℕ) → Frame
+frame {k} {groups} trees i m slots R = record { k = k; groups = groups; trees = trees; place = i; free = m; slots = slots; R = R }
+
+-- their notes, the first of them being number n
+abbrev pub notesOf : List Frame → ℕ → List Branch
+notesOf [] n = []
+notesOf (f ∷ fs) n = notesIn (f .trees) (f .place) (f .slots) n (f .free) ++ notesOf fs (n + branchesIn (f .trees))
+
+-- their hits, the first row being `row`
+abbrev pub hitsOf : List Frame → ℕ → List ℕ
+hitsOf [] row = []
+hitsOf (f ∷ fs) row = hitsIn (f .trees) (f .place) (f .free) (f .R) row ++ hitsOf fs (row + rowsIn (f .groups))
+
+-- how many of their branches are tried
+abbrev pub triedOf : List Frame → ℕ
+triedOf [] = 0
+triedOf (f ∷ fs) = triedIn (f .trees) (f .place) (f .free) (f .R) + triedOf fs
+
+-- how many rows they have
+abbrev pub rowsOf : List Frame → ℕ
+rowsOf [] = 0
+rowsOf (f ∷ fs) = rowsIn (f .groups) + rowsOf fs
+
+-- The arrays stand for what is left of the goal at a frame, for its branches, from n to e.
+pub record Held (G rep sib bound args until refers : List ℕ) (n e : ℕ) (f : Frame) : Type 0 where
+  pub linked : Linked G rep sib bound args until refers n e (f .free) (f .slots) (f .R)
+  pub width : length (f .slots) ≡ suc (f .k)
+  pub low : f .place ≤ f .k
+
+-- for all frames, the first branch being number n; slots from `top` on are free
+pub data Stands (G rep sib bound args until refers : List ℕ) : List Frame → (n top : ℕ) → Type 0 where
+  nothing : {n top : ℕ} → Stands G rep sib bound args until refers [] n top
+  within : {f : Frame} {fs : List Frame} {n top : ℕ} → Held G rep sib bound args until refers n (n + branchesIn (f .trees)) f → f .free ≤ top
+      → Stands G rep sib bound args until refers fs (n + branchesIn (f .trees)) (f .free) → Stands G rep sib bound args until refers (f ∷ fs) n top

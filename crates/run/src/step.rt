@@ -1,0 +1,97 @@
+// One branch of the walk: the node that it looks at, its test, and what it writes. What a branch binds is bound for the branches below it,
+// that is before the branch number `skip`; after them it is unbound by itself, and nothing is undone.
+ghost use mathlib.Core.Path.{_≡_};
+ghost use Prim.Native.Nat.{_+_, _≤_, _<_};
+ghost use lib.ListN.{getD};
+ghost use lib.Seq.{sets};
+ghost use Rattle.table.specs.All.{All};
+ghost use Rattle.plan.specs.Notes.{cellIn, skipIn, slotIn, nextIn};
+ghost use Rattle.run.specs.code.Link.{steps, nodes};
+ghost use Rattle.run.specs.code.Steps.{Finds, Safe, Step};
+use notes::words::cell_of;
+use notes::words::next_of;
+use notes::words::skip_of;
+use notes::words::slot_of;
+use notes::words::wide;
+use notes::words::wide16;
+
+// What a test finds: a row's variable; another symbol; the same one, and where its arguments are; a node that is to be bound.
+pub enum Found {
+    Any,
+    Other,
+    Same(usize),
+    Unbound(usize),
+}
+
+// The branch number `i`, with the cell `c`, against the node `v`. It is bound exactly when its binding ends after this branch.
+fn test(bound: &[u32; 64], args: &[u8; 64], until: &[u16; 64], i: usize, c: u32, v: usize) -> Found
+    requires { ⌜ v < 64 ⌝ }
+    ensures { λ r. ⌜ Finds (now (bound .entry)) (now (args .entry)) (now (until .entry)) i c v r ⌝ }
+{
+    match cell::kind(c) {
+        1..=3 => {
+            if i < wide16(until[v]) {
+                if bound[v] == c {
+                    Found::Same(wide(args[v]))
+                } else {
+                    Found::Other
+                }
+            } else {
+                Found::Unbound(v)
+            }
+        }
+        _ => Found::Any,
+    }
+}
+
+// References to `a` terms that stand one after another, the first at `p`, for the slots from `to` on.
+pub fn put_terms(refs: &mut [u8; 64], to: usize, a: usize, p: usize, rep: &[u8; 64], sib: &[u8; 64])
+    requires { ⌜ (to + a ≤ 64) × All (λ x. x < 64) (steps (now sib) a p) ⌝ }
+    ensures { λ r. ⌜ now (refs .exit) ≡ sets (now (refs .entry)) to (nodes (now (rep .entry)) (now (sib .entry)) a p) ⌝ }
+{
+    let mut left = a;
+    let mut j = to;
+    let mut q = p;
+    while 0 < left {
+        refs[j] = rep[q];
+        q = wide(sib[q]);
+        j += 1;
+        left -= 1;
+    }
+}
+
+// Whether the branch number `i`, noted by `w`, succeeds. An unbound node is bound to the branch's symbol, and its arguments get their slots.
+pub fn meets(
+    w: u64,
+    i: usize,
+    rep: &[u8; 64],
+    sib: &[u8; 64],
+    bound: &mut [u32; 64],
+    args: &mut [u8; 64],
+    until: &mut [u16; 64],
+    refs: &mut [u8; 64],
+) -> bool
+    requires { ⌜ Safe (now sib) (now bound) (now args) (now until) i (cellIn w) (getD (now refs) (slotIn w) 0) (nextIn w) ⌝ }
+    ensures { λ r. ⌜ Step (now (rep .entry)) (now (sib .entry)) i (cellIn w) (getD (now (refs .entry)) (slotIn w) 0) (nextIn w) (skipIn w) (now (bound .entry)) (now (args .entry)) (now (until .entry)) (now (refs .entry)) (now (bound .exit)) (now (args .exit)) (now (until .exit)) (now (refs .exit)) r ⌝ }
+{
+    let c = cell_of(w);
+    let slot = slot_of(w);
+    let seen = test(&*bound, &*args, &*until, i, c, wide(refs[slot]));
+    match seen {
+        Found::Any => true,
+        Found::Other => false,
+        Found::Same(p) => {
+            put_terms(refs, next_of(w), cell::arity_of(c), p, rep, sib);
+            true
+        }
+        Found::Unbound(v) => {
+            let next = next_of(w);
+            let skip = skip_of(w);
+            bound[v] = c;
+            args[v] = next as u8;
+            until[v] = skip;
+            put_terms(refs, next, cell::arity_of(c), next, rep, sib);
+            true
+        }
+    }
+}
