@@ -16,9 +16,9 @@ use Rattle.plan.specs.Check.{planOf}
 use Rattle.checker.specs.declared.PlanAnswer.{PlanAnswer}
 use Rattle.checker.specs.Checked.{planTold, planSays}
 use Rattle.checker.proofs.Fixed.{plan-fixed}
-use Rattle.checker.specs.declared.Marked.{Marked}
-use Rattle.checker.specs.Checked.{Marks}
-use Rattle.checker.proofs.Fixed.{marks-fixed}
+use Rattle.notes.specs.declared.Noted.{Noted}
+use Rattle.notes.specs.Noted.{Handed}
+use Rattle.notes.proofs.Fixed.{handed-fixed}
 use Rattle.builder.specs.declared.BuildAnswer.{BuildAnswer}
 use Rattle.entries.specs.declared.Entries.{Entries}
 use Rattle.entries.specs.Fill.{WorkedOut}
@@ -58,8 +58,9 @@ held-goal-for = goal-for-fixed
 pub held-check : (t p : List ℕ) {r s : PlanAnswer} → planTold r ≡ planSays (planOf t p) → planTold s ≡ planSays (planOf t p) → r ≡ s
 held-check = plan-fixed
 
-pub held-marks : {t p : List ℕ} {r s : Marked} → Marks t p r → Marks t p s → r ≡ s
-held-marks = marks-fixed
+pub held-noted : {t p before after after′ : List ℕ} {r s : Noted} → Handed t p before after r → Handed t p before after′ s
+    → (r ≡ s) × (after ≡ after′)
+held-noted = handed-fixed
 
 pub held-entries : {t : List ℕ} {r s : Entries} → WorkedOut t r → WorkedOut t s → r ≡ s
 held-entries = worked-fixed

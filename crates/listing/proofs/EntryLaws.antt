@@ -1,7 +1,7 @@
 -- The way from any bytes to what is written: a table that is read, its plan with the marks, and the front of the room.
 use mathlib.Core.Path.{_≡_, refl, sym, ap, _∙_}
 use mathlib.Core.Bool.{true, false}
-use mathlib.Core.List.{List, [], _++_, append-nil}
+use mathlib.Core.List.{List, [], _++_, map, append-nil, map-append}
 use Prim.Native.Nat.{ℕ, _-_, _%_, _≤_, _<_}
 use native.Mathlib.Omega.{arith}
 use lib.ListN.{length, take, drop, replicate, length-append}
@@ -14,14 +14,15 @@ use Rattle.octets.specs.Octets.{Put, cellsOf}
 use Rattle.octets.proofs.PutLaws.{put-put, put-length, put-front}
 use Rattle.octets.proofs.CellsLaws.{cells-count}
 use Rattle.table.specs.All.{All}
-use Rattle.table.specs.Table.{Table, tableOf}
+use Rattle.table.specs.Table.{Table, tableOf, upFrom}
 use Rattle.table.proofs.ReadLaws.{apart, read-one}
 use Rattle.table.proofs.Accepted.{is-table}
 use Rattle.plan.specs.Plans.{Plan, write, branches, plain, cost}
-use Rattle.plan.specs.Marks.{manyIn}
+use Rattle.plan.specs.Notes.{notes, word, rowsIn}
 use Rattle.plan.specs.code.Fits.{Fits}
-use Rattle.checker.specs.Checked.{Marks, marked, refused}
-use Rattle.checker.specs.declared.Marked.{Marked}
+use Rattle.notes.specs.Noted.{Handed, refused}
+use Rattle.notes.specs.declared.Noted as handed
+use Rattle.plan.proofs.NotesLaws.{notes-fit}
 use Rattle.plan.proofs.PlansLaws.{plan-tells, cost-plain}
 use Rattle.plan.proofs.SizeLaws.{bound, size-bound}
 use Rattle.plan.proofs.CheckLaws.{accepted, rows-fit}
@@ -29,9 +30,10 @@ use Rattle.builder.specs.Build.{BuiltInto, table-refused, room-refused, built, 
 use Rattle.builder.specs.declared.BuildAnswer.{BuildAnswer}
 use Rattle.builder.specs.declared.BuildAnswer.the-variants as build-answer
 use Rattle.listing.specs.Listing.{header, listingOf, unread, Written}
-use Rattle.listing.specs.code.Walk.{Ready, Walked, Planned, Listed}
+use Rattle.listing.specs.code.Walk.{sizes, Ready, Walked, Planned, Listed}
 use Rattle.listing.specs.declared.walk.Stand.{Stand}
 use Rattle.listing.proofs.LengthLaws.{listing-few}
+use Rattle.listing.proofs.SizesLaws.{noted-sizes}
 use Rattle.listing.proofs.WalkLaws.{stand}
 
 -- a text that is put for one reason is put for another
@@ -46,9 +48,9 @@ listed-written {room = room} h l =
     record { text = l .text; right = l .right; count = front .0; fits = fits; front = front .1 }
 
 -- the numbers of rows do not depend on which plan wrote the cells
-same-marks : (T T′ : Table) → T ≡ T′ → (p : Plan (T .width) (T .rows)) (q : Plan (T′ .width) (T′ .rows)) → write p ≡ write q → manyIn p ≡ manyIn q
-same-marks T T′ e p q w =
-    plan-tells (λ k rows p. manyIn p) (ap (λ (T : Table). T .width) e) (ap (λ (T : Table). T .rows) e) p q [] [] (ap (λ (l : List ℕ). l ++ []) w) .0
+same-sizes : (T T′ : Table) → T ≡ T′ → (p : Plan (T .width) (T .rows)) (q : Plan (T′ .width) (T′ .rows)) → write p ≡ write q → sizes p ≡ sizes q
+same-sizes T T′ e p q w =
+    plan-tells (λ k rows p. sizes p) (ap (λ (T : Table). T .width) e) (ap (λ (T : Table). T .rows) e) p q [] [] (ap (λ (l : List ℕ). l ++ []) w) .0
 
 -- a table that is read, as the laws of plans want it
 few : (t : List ℕ) {T : Table} → tableOf t ≡ read T
@@ -59,35 +61,37 @@ pub planned-few : {t plan : List ℕ} {costs : ℕ} (w : Planned t plan costs) �
 planned-few {t} w = let f = few t (w .reads) in listing-few (w .table) (w .tree) (f .0) (f .1) (f .2) (f .3)
 
 module _ {t plan : List ℕ} {costs : ℕ} where
-  -- the check accepts the plan, and its marks are the plan's
-  record Noted (w : Planned t plan costs) (m : Marked) : Type 0 where
+  -- the check accepts the plan, and what is noted are the numbers of rows of the plan's branches
+  record Noted (w : Planned t plan costs) (after : List ℕ) (m : handed.Noted) : Type 0 where
     rows : m .rows ≡ length (w .table .rows)
     width : m .width ≡ w .table .width
     marks : List ℕ
-    many : m .many ≡ manyIn (w .tree) ++ marks
+    many : map rowsIn after ≡ sizes (w .tree) ++ marks
 
-  noted : (w : Planned t plan costs) (m : Marked) → Marks t plan m → Noted w m
-  noted w m (marked T tree r c a wide rows ends many) =
+  noted : {before after : List ℕ} (w : Planned t plan costs) (m : handed.Noted) → Handed t plan before after m → Noted w after m
+  noted {before} w m (Handed.noted T tree r c a wide rows k) =
       let e : T ≡ w .table = read-one (sym r ∙ w .reads) in
-      let rest : List ℕ = replicate (6082 - length (manyIn tree)) 0 in
+      let rest : List ℕ = map rowsIn (drop (branches tree) before) in
+      let s : List ℕ = upFrom 1 (T .width) in
       record {
         rows = rows ∙ ap (λ (T : Table). length (T .rows)) e;
         width = wide ∙ ap (λ (T : Table). T .width) e;
         marks = rest;
-        many = many ∙ ap (λ (l : List ℕ). l ++ rest) (same-marks T (w .table) e tree (w .tree) (sym c ∙ w .cells));
+        many = ap (map rowsIn) k ∙ map-append rowsIn (map word (notes tree s 0 32)) (drop (branches tree) before)
+            ∙ ap (λ (l : List ℕ). l ++ rest) (noted-sizes tree s 0 32 (notes-fit (is-table t r) tree) ∙ same-sizes T (w .table) e tree (w .tree) (sym c ∙ w .cells));
       }
-  noted w m (refused f e a wide rows ends many) =
+  noted w m (refused f e a wide rows k) =
       let x = few t (w .reads) in
       let yes = accepted (w .table) (x .0) (x .1) (x .2) plan (branches (w .tree)) .1 (w .tree, sym (w .cells), refl) in
       apart (sym yes ∙ (rw (w .reads) at e))
 
   -- so the walk may begin once the header is put, and with its lines the listing is
-  pub record Begins (w : Planned t plan costs) (m : Marked) (old mid : List ℕ) (to : ℕ) : Type 0 where
-    pub ready : Ready plan (m .many) (m .width) 0 0 (stand 0 0 to)
+  pub record Begins (w : Planned t plan costs) (after : List ℕ) (m : handed.Noted) (old mid : List ℕ) (to : ℕ) : Type 0 where
+    pub ready : Ready plan after (m .width) 0 0 (stand 0 0 to)
     pub back : {new : List ℕ} {r : Stand} → Walked mid new 0 0 (stand 0 0 to) (ready .tree) r → Put old new 0 (listingOf (w .table) (w .tree)) (r .to)
 
-  pub begins : {old mid : List ℕ} {to : ℕ} (w : Planned t plan costs) (m : Marked) → Marks t plan m
-      → Put old mid 0 (header (m .rows) (m .width) costs) to → Begins w m old mid to
+  pub begins : {before after old mid : List ℕ} {to : ℕ} (w : Planned t plan costs) (m : handed.Noted) → Handed t plan before after m
+      → Put old mid 0 (header (m .rows) (m .width) costs) to → Begins w after m old mid to
   begins w m k p =
       let n = noted w m k in
       let f = few t (w .reads) in

@@ -1,4 +1,5 @@
 pub mod TextLaws
+pub mod SizesLaws
 pub mod WalkLaws
 pub mod LengthLaws
 pub mod EntryLaws

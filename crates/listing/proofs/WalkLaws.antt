@@ -1,6 +1,6 @@
 -- The walk over a plan, case by case: what stands where in the plan, and what is written once the parts are.
 use mathlib.Core.Path.{_≡_, refl, sym, ap, _∙_}
-use mathlib.Core.List.{List, [], _∷_, _++_, append-assoc, append-nil}
+use mathlib.Core.List.{List, [], _∷_, _++_, map, append-assoc, append-nil}
 use Prim.Native.Nat.{ℕ, suc, _+_, _-_, _*_, _≤_, _<_}
 use native.Mathlib.Nat.{add-zero}
 use native.Mathlib.Numerals.{add-one}
@@ -14,11 +14,12 @@ use Rattle.octets.specs.Octets.{Put}
 use Rattle.octets.proofs.PutLaws.{put-put, put-nothing}
 use Rattle.plan.specs.Runs.{Run, runs}
 use Rattle.plan.specs.Plans.{Plan, leaf, node, Branches, end, next, write, writes, branches, branchesIn}
-use Rattle.plan.specs.Marks.{manyIn, manyOf}
-use Rattle.plan.proofs.RunsLaws.{Sized, rowsIn, group-sizes, group-rows}
-use Rattle.plan.proofs.MarksLaws.{many-length}
+use Rattle.plan.specs.Notes.{rowsIn}
+use Rattle.plan.proofs.RunsLaws as runs-laws
+use Rattle.plan.proofs.RunsLaws.{Sized, group-sizes, group-rows}
 use Rattle.listing.specs.Listing.{line, linesIn, linesOf}
-use Rattle.listing.specs.code.Walk.{Ready, Walked}
+use Rattle.listing.specs.code.Walk.{sizes, sizesOf, Ready, Walked}
+use Rattle.listing.proofs.SizesLaws.{sizes-length, row-noted}
 use Rattle.listing.specs.declared.walk.Stand.{Stand}
 
 abbrev pub stand : (at number to : ℕ) → Stand
@@ -39,7 +40,7 @@ abbrev pub Within : ℕ → List Run → Type 0
 Within first [] = first ≤ 64
 Within first (g ∷ gs) = (0 < length (g .rows)) × Within (first + length (g .rows)) gs
 
-within-runs : (n first : ℕ) (gs : List Run) → Sized n gs → first + rowsIn gs ≤ 64 → Within first gs
+within-runs : (n first : ℕ) (gs : List Run) → Sized n gs → first + runs-laws.rowsIn gs ≤ 64 → Within first gs
 within-runs n first [] s h = omega arith
 within-runs n first (g ∷ gs) s h = (s .0 .0, within-runs n (first + length (g .rows)) gs (s .1) (omega arith))
 
@@ -69,12 +70,12 @@ record Inner {k : ℕ} {rows : List (List ℕ)} (p : Plan k rows) : Type 0 where
   index : ℕ
   trees : Branches below (runs index rows)
   cells : write p ≡ index ∷ (length (runs index rows) ∷ writes trees)
-  marks : manyIn p ≡ 0 ∷ (0 ∷ manyOf trees)
+  marks : sizes p ≡ sizesOf trees
   count : branches p ≡ branchesIn trees
   lines : (depth first i : ℕ) → i ≡ index → linesIn p depth first ≡ linesOf trees depth i first
 
 inner-is : {k : ℕ} {rows : List (List ℕ)} (p : Plan k rows) → 0 < k → Inner p
-unfolding linesIn write manyIn branches
+unfolding linesIn write sizes branches
 inner-is leaf h = absurd (omega arith)
 inner-is (node {k} i l bs) h =
     record {
@@ -106,13 +107,13 @@ record First {k : ℕ} {gs : List Run} (bs : Branches k gs) : Type 0 where
   trees : Branches k others
   runs-are : gs ≡ run ∷ others
   cells : writes bs ≡ run .cell ∷ (write tree ++ writes trees)
-  marks : manyOf bs ≡ length (run .rows) ∷ (manyIn tree ++ manyOf trees)
+  marks : sizesOf bs ≡ length (run .rows) ∷ (sizes tree ++ sizesOf trees)
   count : branchesIn bs ≡ suc (branches tree + branchesIn trees)
   lines : (depth index first c n : ℕ) → c ≡ run .cell → n ≡ length (run .rows) → linesOf bs depth index first
       ≡ line depth index c first (first + n - 1) ++ (linesIn tree (depth + 1) first ++ linesOf trees depth index (first + n))
 
 first-is : {k : ℕ} {gs : List Run} (bs : Branches k gs) → 0 < length gs → First bs
-unfolding linesIn write manyIn branches
+unfolding linesIn write sizes branches
 first-is end h = absurd (omega arith)
 first-is (next {g = g} {gs = gs} p bs) h =
     record {
@@ -127,14 +128,14 @@ first-is (next {g = g} {gs = gs} p bs) h =
       lines = λ depth index first c n ec en. rw (ec, en, add-one depth);
     }
 
-module _ {plan many : List ℕ} {places depth first : ℕ} {from : Stand} where
+module _ {plan noted : List ℕ} {places depth first : ℕ} {from : Stand} where
   -- a leaf
-  pub leaf-inside : (w : Ready plan many places depth first from) → places ≡ 0 → from .at < length plan
+  pub leaf-inside : (w : Ready plan noted places depth first from) → places ≡ 0 → from .at < length plan
   leaf-inside w z =
       let l = leaf-is (w .tree) (sym (w .open-places) ∙ z) in
       head-at plan (from .at) (length (w .rows)) (w .rest) (w .cells ∙ rw (l .cells)) .0
 
-  pub leaf-walked : {out : List ℕ} (w : Ready plan many places depth first from) → places ≡ 0
+  pub leaf-walked : {out : List ℕ} (w : Ready plan noted places depth first from) → places ≡ 0
       → Walked out out depth first from (w .tree) (stand (from .at + 1) (from .number) (from .to))
   leaf-walked w z =
       let l = leaf-is (w .tree) (sym (w .open-places) ∙ z) in
@@ -146,7 +147,7 @@ module _ {plan many : List ℕ} {places depth first : ℕ} {from : Stand} where
 
   -- An inner state part of the way: the branches that are left of it, `left` of them at the open place `index`, from row `row` on,
   -- stand in the plan where the walk does; `done` is put, and what is done and what is left are the whole
-  pub record Left (w : Ready plan many places depth first from) (old new : List ℕ) (index left row : ℕ) (here : Stand) : Type 0 where
+  pub record Left (w : Ready plan noted places depth first from) (old new : List ℕ) (index left row : ℕ) (here : Stand) : Type 0 where
     pub k : ℕ
     pub gs : List Run
     pub trees : Branches k gs
@@ -156,7 +157,7 @@ module _ {plan many : List ℕ} {places depth first : ℕ} {from : Stand} where
     pub open-places : places ≡ suc k
     pub count : left ≡ length gs
     pub cells : drop (here .at) plan ≡ writes trees ++ rest
-    pub marked : drop (here .at) many ≡ manyOf trees ++ marks
+    pub marked : drop (here .number) (map rowsIn noted) ≡ sizesOf trees ++ marks
     pub within : Within row gs
     pub after : from .at < here .at
     pub puts : Put old new (from .to) done (here .to)
@@ -165,20 +166,18 @@ module _ {plan many : List ℕ} {places depth first : ℕ} {from : Stand} where
     pub counted : here .number + branchesIn trees ≡ from .number + branches (w .tree)
 
   -- it begins with its index and its number of branches
-  pub enters-inside : (w : Ready plan many places depth first from) → 0 < places → from .at + 1 < length plan
+  pub enters-inside : (w : Ready plan noted places depth first from) → 0 < places → from .at + 1 < length plan
   enters-inside w h =
       let i = inner-is (w .tree) (omega (arith, w .open-places)) in
       omega (arith, length-drop (from .at) plan, ap length (w .cells), length-append (write (w .tree)) (w .rest), ap length (i .cells))
 
-  pub enters : {out : List ℕ} (w : Ready plan many places depth first from) → 0 < places
+  pub enters : {out : List ℕ} (w : Ready plan noted places depth first from) → 0 < places
       → Left w out out (getD plan (from .at) 0) (getD plan (from .at + 1) 0) first (stand (from .at + 2) (from .number) (from .to))
   enters w h =
       let at = from .at in
       let i = inner-is (w .tree) (omega (arith, w .open-places)) in
       let here = head-at plan at (i .index) (length (runs (i .index) (w .rows)) ∷ (writes (i .trees) ++ w .rest)) (w .cells ∙ rw (i .cells)) in
       let two = head-at plan (at + 1) (length (runs (i .index) (w .rows))) (writes (i .trees) ++ w .rest) (here .2) in
-      let marks = head-at many at 0 (0 ∷ (manyOf (i .trees) ++ w .marks)) (w .marked ∙ rw (i .marks)) in
-      let marks2 = head-at many (at + 1) 0 (manyOf (i .trees) ++ w .marks) (marks .2) in
       let e : at + 1 + 1 ≡ at + 2 = omega arith in
       record {
         k = i .below;
@@ -190,7 +189,7 @@ module _ {plan many : List ℕ} {places depth first : ℕ} {from : Stand} where
         open-places = w .open-places ∙ i .one-more;
         count = two .1;
         cells = rw e at (two .2);
-        marked = rw e at (marks2 .2);
+        marked = w .marked ∙ rw (i .marks);
         within = within (i .index) first (w .rows) (w .few);
         after = omega arith;
         puts = put-nothing;
@@ -200,7 +199,7 @@ module _ {plan many : List ℕ} {places depth first : ℕ} {from : Stand} where
       }
 
   -- no branch is left
-  pub none-left : {old new : List ℕ} {index left row : ℕ} {here : Stand} (w : Ready plan many places depth first from)
+  pub none-left : {old new : List ℕ} {index left row : ℕ} {here : Stand} (w : Ready plan noted places depth first from)
       → Left w old new index left row here → left ≡ 0 → Walked old new depth first from (w .tree) here
   none-left {index = index} {row = row} w l z =
       let n = none-is (l .trees) (sym (l .count) ∙ z) in
@@ -212,7 +211,7 @@ module _ {plan many : List ℕ} {places depth first : ℕ} {from : Stand} where
       }
 
   -- the next branch, with n rows and a arguments: its line, the state below it, the branches beside it
-  pub record Goes {w : Ready plan many places depth first from} {old new : List ℕ} {index left row : ℕ} {here : Stand}
+  pub record Goes {w : Ready plan noted places depth first from} {old new : List ℕ} {index left row : ℕ} {here : Stand}
       (l : Left w old new index left row here) (n a : ℕ) : Type 0 where
     pub inside : here .at < length plan
     pub size : length plan ≤ 6082
@@ -224,21 +223,22 @@ module _ {plan many : List ℕ} {places depth first : ℕ} {from : Stand} where
     pub few : row + n ≤ 64
     pub few-args : a ≤ 4
     pub numbered : here .number < 2048
-    pub below : (to : ℕ) → Ready plan many (a + places - 1) (depth + 1) row (stand (here .at + 1) (here .number + 1) to)
+    pub below : (to : ℕ) → Ready plan noted (a + places - 1) (depth + 1) row (stand (here .at + 1) (here .number + 1) to)
     pub beside : {mid last : List ℕ} {to : ℕ} {s : Stand} → Put new mid (here .to) (line depth index (getD plan (here .at) 0) row (row + n - 1)) to
         → Walked mid last (depth + 1) row (stand (here .at + 1) (here .number + 1) to) (below to .tree) s
         → Left w old last index (left - 1) (row + n) s
 
-  pub goes : {w : Ready plan many places depth first from} {old new : List ℕ} {index left row : ℕ} {here : Stand}
-      (l : Left w old new index left row here) (n a : ℕ) → 0 < left → n ≡ getD many (here .at) 0 → a ≡ arity (getD plan (here .at) 0) → Goes l n a
+  pub goes : {w : Ready plan noted places depth first from} {old new : List ℕ} {index left row : ℕ} {here : Stand}
+      (l : Left w old new index left row here) (n a : ℕ) → 0 < left → n ≡ rowsIn (getD noted (here .number) 0) → a ≡ arity (getD plan (here .at) 0) → Goes l n a
   goes {w = w} {old} {new} {index} {left} {row} {here} l n a h en ea =
       let at = here .at in
       let f = first-is (l .trees) (omega (arith, l .count)) in
       let cells = head-at plan at (f .run .cell) ((write (f .tree) ++ writes (f .trees)) ++ l .rest) (l .cells ∙ rw (f .cells)) in
-      let marks = head-at many at (length (f .run .rows)) ((manyIn (f .tree) ++ manyOf (f .trees)) ++ l .marks) (l .marked ∙ rw (f .marks)) in
+      let many = map rowsIn noted in
+      let marks = head-at many (here .number) (length (f .run .rows)) ((sizes (f .tree) ++ sizesOf (f .trees)) ++ l .marks) (l .marked ∙ rw (f .marks)) in
       let after : drop (at + 1) plan ≡ write (f .tree) ++ (writes (f .trees) ++ l .rest) = cells .2 ∙ append-assoc (write (f .tree)) (writes (f .trees)) (l .rest) in
-      let noted : drop (at + 1) many ≡ manyIn (f .tree) ++ (manyOf (f .trees) ++ l .marks) = marks .2 ∙ append-assoc (manyIn (f .tree)) (manyOf (f .trees)) (l .marks) in
-      let rows : n ≡ length (f .run .rows) = en ∙ marks .1 in
+      let sized : drop (here .number + 1) many ≡ sizes (f .tree) ++ (sizesOf (f .trees) ++ l .marks) = marks .2 ∙ append-assoc (sizes (f .tree)) (sizesOf (f .trees)) (l .marks) in
+      let rows : n ≡ length (f .run .rows) = en ∙ row-noted noted (here .number) ∙ marks .1 in
       let within = rw (f .runs-are) at (l .within) in
       let others : Within (row + n) (f .others) = rw rows (within .1) in
       let last = within-first (row + n) (f .others) others in
@@ -259,10 +259,10 @@ module _ {plan many : List ℕ} {places depth first : ℕ} {from : Stand} where
           rows = f .run .rows;
           tree = f .tree;
           rest = writes (f .trees) ++ l .rest;
-          marks = manyOf (f .trees) ++ l .marks;
+          marks = sizesOf (f .trees) ++ l .marks;
           open-places = omega (arith, ea, ap arity (cells .1), l .open-places);
           cells = after;
-          marked = noted;
+          marked = sized;
           few = omega (arith, rows, last);
           deep = omega (arith, w .deep, l .after);
           numbered = omega (arith, w .numbered, l .counted, f .count);
@@ -279,7 +279,7 @@ module _ {plan many : List ℕ} {places depth first : ℕ} {from : Stand} where
           open-places = l .open-places;
           count = omega (arith, l .count, ap length (f .runs-are));
           cells = rw (q .past) (part-at plan (at + 1) (write (f .tree)) (writes (f .trees) ++ l .rest) after);
-          marked = rw (q .past, ← many-length (f .tree)) (part-at many (at + 1) (manyIn (f .tree)) (manyOf (f .trees) ++ l .marks) noted);
+          marked = rw (q .counted, ← sizes-length (f .tree)) (part-at many (here .number + 1) (sizes (f .tree)) (sizesOf (f .trees) ++ l .marks) sized);
           within = others;
           after = omega (arith, l .after, q .past);
           puts = put-put (l .puts) (put-put p (q .puts));

@@ -11,21 +11,22 @@ use crate::walk::state;
 use builder::BuildAnswer;
 use refusal::Reason;
 
-// The listing of a plan that was built for the table. The check notes how many rows each branch has.
+// The listing of a plan that was built for the table. How many rows a branch has is noted for the asking.
 fn list_plan(table: &[u32], plan: &[u32], out: &mut [u8], cost: usize) -> usize
     requires { ⌜ Planned (now table) (now plan) cost ⌝ }
     ensures { λ r. ⌜ PutsPlan (now (table .entry)) (now (plan .entry)) (now (out .entry)) (now (out .exit)) cost r ⌝ }
 {
-    let marks = checker::check_marked(table, plan);
-    let rows = marks.rows;
-    let width = marks.width;
+    let mut numbers = [0u64; 2048];
+    let noted = notes::check_noted(table, plan, &mut numbers);
+    let rows = noted.rows;
+    let width = noted.width;
     let to = put_header(out, rows, width, cost);
     let from = Stand {
         at: 0,
         number: 0,
         to,
     };
-    let s = state(plan, &marks.many, out, width, 0, 0, from);
+    let s = state(plan, &numbers, out, width, 0, 0, from);
     s.to
 }
 
