@@ -7,8 +7,8 @@
  * concerns and a place in it, and nothing was written to the lent room.
  *
  * A list is passed as a pointer and a length. The pointer is aligned for its type and not null, even where the length is 0. A lent room shares no
- * memory with the inputs. The functions keep nothing between calls, and allocate nothing. Of its caller's stack a call touches at most 97,408 bytes
- * to build a plan, 64,840 to run one, 63,912 to check one and 2,344 to read (measured: docs/BENCH.md, "Stack"). */
+ * memory with the inputs. The functions keep nothing between calls, and allocate nothing. Of its caller's stack a call touches at most 93,280 bytes
+ * to build a plan, 31,608 to run one, 14,520 to check one and 1,288 to read (measured: docs/BENCH.md, "Stack"). */
 #ifndef DUDOWIEJ_H
 #define DUDOWIEJ_H
 

@@ -101,6 +101,12 @@ impl Case {
         each(goals, move |goal| Exported.run_plan(&self.table, &self.plan, goal, &mut room))
     }
 
+    /// What a run does before it reads the goal: table and plan are checked, the plan's branches noted. A goal of no cells is refused then.
+    fn prepare(&self) -> Work<'_> {
+        let mut room = [0; 64];
+        once(move || Exported.run_plan(&self.table, &self.plan, &[], &mut room))
+    }
+
     fn read_goal<'c>(&'c self, goals: &'c [Vec<u32>]) -> Work<'c> {
         each(goals, |goal| Exported.read_goal(&self.table, goal))
     }
@@ -139,11 +145,11 @@ impl Case {
         Measure::new(format!("run, {sort}"), vec![self.run(goals)], vec![], independent)
     }
 
-    /// The run less the check of the same table and plan, against reading the goal and walking down the same plan.
+    /// The run less what it does before it reads the goal, against reading the goal and walking down the same plan.
     fn walking<'c>(&'c self, sort: &str, goals: &'c [Vec<u32>]) -> Measure<'c> {
         let mut hits = Vec::with_capacity(64);
         let independent = each(goals, move |goal| walked(&self.tree, &self.goal(goal), &mut hits));
-        Measure::new(format!("walk, {sort}"), vec![self.run(goals)], vec![self.check()], independent)
+        Measure::new(format!("walk, {sort}"), vec![self.run(goals)], vec![self.prepare()], independent)
     }
 
     /// The same without the reading of the goal: for the exported side, read_goal less read_table is taken off too.
@@ -156,11 +162,11 @@ impl Case {
             }
         };
         let independent = Work { calls: goals.len(), work: Box::new(work) };
-        let (more, less) = (vec![self.run(goals), self.read()], vec![self.check(), self.read_goal(goals)]);
+        let (more, less) = (vec![self.run(goals), self.read()], vec![self.prepare(), self.read_goal(goals)]);
         Measure::new(format!("walk less goal, {sort}"), more, less, independent)
     }
 
-    /// The run less the check, against reading the goal and unifying every row of a table that is read.
+    /// The same, against reading the goal and unifying every row of a table that is read.
     fn against_rows_in_turn<'c>(&'c self, sort: &str, goals: &'c [Vec<u32>]) -> Measure<'c> {
         let mut hits = Vec::with_capacity(64);
         let independent = each(goals, move |goal| {
@@ -168,7 +174,7 @@ impl Case {
             in_turn(&self.read.rows, &self.goal(goal), &mut hits);
             hits.len() as u64
         });
-        Measure::new(format!("walk to rows in turn, {sort}"), vec![self.run(goals)], vec![self.check()], independent)
+        Measure::new(format!("walk to rows in turn, {sort}"), vec![self.run(goals)], vec![self.prepare()], independent)
     }
 
     /// The whole call, against reading table and goal and unifying every row.

@@ -41,7 +41,7 @@ pub fn instructions(folder: &Path) {
         heading("instructions for a call");
         case.measures().into_iter().for_each(|measure| line(measure, 1));
     });
-    println!("\nOne branch: run less check by the number of branches tried; 64 rows, every branch of one sort");
+    println!("\nOne branch: the walk by the number of branches tried; 64 rows, every branch of one sort");
     heading("instructions for a branch");
     sorts().iter().for_each(|sort| line(sort.walk(), sort.tried()));
 }
