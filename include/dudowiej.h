@@ -6,9 +6,9 @@
  * apart. Either it answered, and there are two values, or the input is refused: then there is the refusal's number, the input that it
  * concerns and a place in it, and nothing was written to the lent room.
  *
- * A list is passed as a pointer and a length. The pointer is aligned for its type and not null, even where the length is 0. A lent room shares no
- * memory with the inputs. The functions keep nothing between calls, and allocate nothing. Of its caller's stack a call touches at most 93,280 bytes
- * to build a plan, 31,608 to run one, 14,520 to check one and 1,288 to read (measured: docs/BENCH.md, "Stack"). */
+ * A list is passed as a pointer and a length. The pointer is aligned for its type and not null, even where the length is 0. A lent room
+ * shares no memory with the inputs. The functions keep nothing between calls, and allocate nothing. Of its caller's stack a call touches at
+ * most 93,280 bytes to build a plan, 31,608 to run one, 14,520 to check one and 1,288 to read (measured: docs/BENCH.md, "Stack"). */
 #ifndef DUDOWIEJ_H
 #define DUDOWIEJ_H
 

@@ -44,7 +44,8 @@ unfoldable mutual
   skeletonsIn end i K = []
   skeletonsIn (next {g = g} p bs) i K = K ∷ (skeletons p (decide i (g .cell) K) ++ skeletonsIn bs i K)
 
--- 01, "A branch is tried when the goal unifies with everything decided above that branch, each open place there counting as a fresh variable"
+-- 01, "A branch is tried when the goal unifies with everything decided above that branch, each open place there counting as a fresh
+-- variable"
 unfoldable pub Tried : List ℕ → List ℕ → Type 0
 Tried g K = Unifies (opened K) (renamed g)
 

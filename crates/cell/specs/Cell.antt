@@ -69,6 +69,7 @@ valuesOf Refused = refused
 unfoldable pub arity : ℕ → ℕ
 arity c = valuesAt c .args
 
--- 01, kind 0: a variable. Of kind 0 are also the numbers that a goal's variables are moved to (`renamed` of term/specs/Unify), which are no cells of 01
+-- 01, kind 0: a variable. Of kind 0 are also the numbers that a goal's variables are moved to (`renamed` of term/specs/Unify), which are no
+-- cells of 01
 unfoldable pub isVar : ℕ → Bool
 isVar c = eqb (kindOf c) 0

@@ -44,8 +44,8 @@ fn leaf(plan: &[u32], rows: usize, count: usize, at: usize) -> Step
     Step::Seen(count, at + 1)
 }
 
-// A state with one row, at place `at` of the plan, with k open places: a chain of single branches, one for each cell that the row still has, down to its leaf.
-// A row that is alone needs no column and no run, and goes down with no call.
+// A state with one row, at place `at` of the plan, with k open places: a chain of single branches, one for each cell that the row still
+// has, down to its leaf. A row that is alone needs no column and no run, and goes down with no call.
 fn alone(table: &[u32], start: usize, mask: u32, plan: &[u32], k: usize, at: usize) -> Step
     requires { ⌜ Fits 32 k (kept mask (drop start (now table))) ⌝ }
     ensures { λ r. ⌜ AloneDone (now (table .entry)) start mask (now (plan .entry)) k at r ⌝ }
@@ -86,8 +86,8 @@ fn alone(table: &[u32], start: usize, mask: u32, plan: &[u32], k: usize, at: usi
     leaf(plan, 1, count, place)
 }
 
-// The state at place `at` of the plan, with k open places and the rows from first to before end. It goes no deeper than 32: each state closes one cell
-// of each of its rows.
+// The state at place `at` of the plan, with k open places and the rows from first to before end. It goes no deeper than 32: each state
+// closes one cell of each of its rows.
 pub fn state(
     table: &[u32],
     starts: &[usize; 64],
@@ -100,7 +100,8 @@ pub fn state(
     at: usize,
 ) -> Step
     requires { ⌜ Ready (now table) (now starts) (now masks) (now column) (now plan) first end k at ⌝ }
-    ensures { λ r. ⌜ Done (now (table .entry)) (now (starts .entry)) (now (masks .entry)) (now (column .entry)) (now (masks .exit)) (now (column .exit)) (now (plan .entry)) first end k at r ⌝ }
+    ensures { λ r. ⌜ Done (now (table .entry)) (now (starts .entry)) (now (masks .entry)) (now (column .entry)) (now (masks .exit))
+        (now (column .exit)) (now (plan .entry)) first end k at r ⌝ }
 {
     let rows = end - first;
     if rows == 1 {
@@ -138,7 +139,8 @@ pub fn state(
     )
 }
 
-// The branches from place `at` on, one for each run of the rows from first to before end; below each, k places are open beside its symbol's arguments.
+// The branches from place `at` on, one for each run of the rows from first to before end; below each, k places are open beside its symbol's
+// arguments.
 fn branches(
     table: &[u32],
     starts: &[usize; 64],
@@ -151,7 +153,8 @@ fn branches(
     at: usize,
 ) -> Step
     requires { ⌜ ReadyIn (now table) (now starts) (now masks) (now column) (now plan) first end k at ⌝ }
-    ensures { λ r. ⌜ DoneIn (now (table .entry)) (now (starts .entry)) (now (masks .entry)) (now (column .entry)) (now (masks .exit)) (now (column .exit)) (now (plan .entry)) first end k at r ⌝ }
+    ensures { λ r. ⌜ DoneIn (now (table .entry)) (now (starts .entry)) (now (masks .entry)) (now (column .entry)) (now (masks .exit))
+        (now (column .exit)) (now (plan .entry)) first end k at r ⌝ }
 {
     let mut row = first;
     let mut place = at;

@@ -1,4 +1,5 @@
--- What a reader finds (01, "A reader over the goal holds its cells with the place it has reached"): of the cells and the place, which may lie past their end.
+-- What a reader finds (01, "A reader over the goal holds its cells with the place it has reached"): of the cells and the place, which may
+-- lie past their end.
 use Prim.Native.Nat.{ℕ, _+_, _-_}
 use mathlib.Core.Bool.{cond}
 use mathlib.Core.List.{List}

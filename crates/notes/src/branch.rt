@@ -1,5 +1,5 @@
-// What is noted of a branch, in two steps: its cell, its slot and the first slot free below it when it is met; where it ends and how many rows
-// it has when all below it is noted.
+// What is noted of a branch, in two steps: its cell, its slot and the first slot free below it when it is met; where it ends and how many
+// rows it has when all below it is noted.
 ghost use mathlib.Core.Path.{_≡_};
 ghost use mathlib.Core.List.{map};
 ghost use Prim.Native.Nat.{_^_, _<_};
@@ -23,8 +23,8 @@ fn end(skip: usize, rows: usize) -> u64
     ((skip as u64) << 32) + ((rows as u64) << 44)
 }
 
-// Meets the branch number `made`, whose cell is at `place` of the plan and whose state looks at the open place with index `i`. Its arguments get
-// the slots from `free` on; how many they are is answered.
+// Meets the branch number `made`, whose cell is at `place` of the plan and whose state looks at the open place with index `i`. Its
+// arguments get the slots from `free` on; how many they are is answered.
 pub fn begin(
     plan: &[u32],
     links: &mut [u8; 64],
@@ -35,7 +35,8 @@ pub fn begin(
     free: usize,
 ) -> usize
     requires { ⌜ Met (now plan) (now links) (now notes) i place made free ⌝ }
-    ensures { λ a. ⌜ ((w : Met (now (plan .entry)) (now (links .entry)) (now (notes .entry)) i place made free) → Begun w (now (links .exit)) (now (notes .exit)) a) ⌝ }
+    ensures { λ a. ⌜ ((w : Met (now (plan .entry)) (now (links .entry)) (now (notes .entry)) i place made free) → Begun w
+        (now (links .exit)) (now (notes .exit)) a) ⌝ }
 {
     let c = plan[place];
     let a = cell::arity_of(c);

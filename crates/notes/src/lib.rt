@@ -24,8 +24,8 @@ fn note_plan(plan: &[u32], width: usize, notes: &mut [u64])
     tree::state(plan, &links, notes, 0, width, 0, 32);
 }
 
-// The check of any plan for a table. Of an accepted plan, what a run needs is noted in the first of the lent numbers, one for each branch. Where
-// the table or the plan is turned away, none of them is changed.
+// The check of any plan for a table. Of an accepted plan, what a run needs is noted in the first of the lent numbers, one for each branch.
+// Where the table or the plan is turned away, none of them is changed.
 pub fn check_noted(table: &[u32], plan: &[u32], notes: &mut [u64; 2048]) -> Noted
     ensures { λ r. ⌜ Handed (now (table .entry)) (now (plan .entry)) (now (notes .entry)) (now (notes .exit)) r ⌝ }
 {

@@ -3,8 +3,8 @@
 // In most plans most states have one branch. Such branches are followed by a loop, with no call for each: those that follow one another end
 // together and have the same rows, and are finished together.
 //
-// `at` is a state's first cell in the plan and `place` a branch's own; `width` is how many places are open, `made` the next branch's number, `free`
-// the first free slot.
+// `at` is a state's first cell in the plan and `place` a branch's own; `width` is how many places are open, `made` the next branch's
+// number, `free` the first free slot.
 ghost use mathlib.Core.Path.{_≡_};
 ghost use mathlib.Core.Bool.{_&&_};
 ghost use Prim.Native.Nat.{_+_, _^_, _<_};
@@ -51,7 +51,8 @@ fn follow(
     free: usize,
 ) -> Reached
     requires { ⌜ Ready (now plan) (now links) (now notes) at width made free ⌝ }
-    ensures { λ r. ⌜ ((w : Ready (now (plan .entry)) (now (links .entry)) (now (notes .entry)) at width made free) → Went w (now (links .exit)) (now (notes .exit)) (r .at) (r .width) (r .made) (r .free)) ⌝ }
+    ensures { λ r. ⌜ ((w : Ready (now (plan .entry)) (now (links .entry)) (now (notes .entry)) at width made free) → Went w
+        (now (links .exit)) (now (notes .exit)) (r .at) (r .width) (r .made) (r .free)) ⌝ }
 {
     let mut here = at;
     let mut k = width;
@@ -85,7 +86,8 @@ fn branch(
     free: usize,
 ) -> Past
     requires { ⌜ ReadyAt (now plan) (now links) (now notes) i place width made free ⌝ }
-    ensures { λ p. ⌜ ((w : ReadyAt (now (plan .entry)) (now (links .entry)) (now (notes .entry)) i place width made free) → BranchDone w (now (notes .exit)) p) ⌝ }
+    ensures { λ p. ⌜ ((w : ReadyAt (now (plan .entry)) (now (links .entry)) (now (notes .entry)) i place width made free) → BranchDone w
+        (now (notes .exit)) p) ⌝ }
 {
     let mut own = *links;
     let a = begin(plan, &mut own, notes, i, place, made, free);
@@ -114,7 +116,8 @@ pub fn state(
     free: usize,
 ) -> Past
     requires { ⌜ Ready (now plan) (now links) (now notes) at width made free ⌝ }
-    ensures { λ p. ⌜ ((w : Ready (now (plan .entry)) (now (links .entry)) (now (notes .entry)) at width made free) → StateDone w (now (notes .exit)) p) ⌝ }
+    ensures { λ p. ⌜ ((w : Ready (now (plan .entry)) (now (links .entry)) (now (notes .entry)) at width made free) → StateDone w
+        (now (notes .exit)) p) ⌝ }
 {
     let n = plan[at] as usize;
     let first = at + 1;

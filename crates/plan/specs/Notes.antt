@@ -1,5 +1,5 @@
--- What the check notes of a plan for a run (01, "A run": "it tests the goal only at the branches it counts"): one number for each branch, in plan order,
--- that is a branch, then all below it, then the next. A run needs nothing else of the plan, neither its cells nor the table.
+-- What the check notes of a plan for a run (01, "A run": "it tests the goal only at the branches it counts"): one number for each branch,
+-- in plan order, that is a branch, then all below it, then the next. A run needs nothing else of the plan, neither its cells nor the table.
 use Prim.Native.Nat.{ℕ, suc, _+_, _*_, _/_, _%_, _^_, _<_}
 use mathlib.Core.List.{List, [], _∷_, _++_}
 use lib.ListN.{length, getD, take, drop}
@@ -8,8 +8,8 @@ use Rattle.table.specs.Table.{upFrom}
 use Rattle.plan.specs.Runs.{Run}
 use Rattle.plan.specs.Plans.{Plan, leaf, node, Branches, end, next, branches}
 
--- What is noted of one branch. Slots are numbers for open places, given out on the way down: the arguments of a branch's cell get new ones, whatever the
--- goal is.
+-- What is noted of one branch. Slots are numbers for open places, given out on the way down: the arguments of a branch's cell get new ones,
+-- whatever the goal is.
 pub record Branch : Type 0 where
   -- its cell
   pub cell : ℕ

@@ -1,4 +1,5 @@
--- Plans as trees that are valid by construction (01, "Plans"; document 001, definitions 2.1 to 2.4 and 3.1), what they write, and what they cost.
+-- Plans as trees that are valid by construction (01, "Plans"; document 001, definitions 2.1 to 2.4 and 3.1), what they write, and what they
+-- cost.
 use Prim.Native.Nat.{ℕ, suc, _+_, _≤_}
 use mathlib.Core.Bool.{cond}
 use mathlib.Core.List.{List, [], _∷_, _++_}

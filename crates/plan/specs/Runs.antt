@@ -1,5 +1,5 @@
--- The longest runs of neighbouring rows that agree at a place (01, "Plans"). A row in a state is the flat list of its cells not yet looked at:
--- the terms that stand open in it are its open places, left to right.
+-- The longest runs of neighbouring rows that agree at a place (01, "Plans"). A row in a state is the flat list of its cells not yet looked
+-- at: the terms that stand open in it are its open places, left to right.
 use Prim.Native.Nat.{ℕ}
 use mathlib.Core.Bool.{Bool, true, false, not, _&&_}
 use mathlib.Core.List.{List, [], _∷_}

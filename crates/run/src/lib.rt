@@ -26,7 +26,8 @@ fn run_noted(
     room: &mut [u8],
 ) -> RunAnswer
     requires { ⌜ ForSome (now noted) branches width rows ⌝ }
-    ensures { λ r. ⌜ ((table plan : List ℕ) → ForRun table plan (now (noted .entry)) branches width rows → Ran table plan (now (goal .entry)) (now (room .entry)) (now (room .exit)) r) ⌝ }
+    ensures { λ r. ⌜ ((table plan : List ℕ) → ForRun table plan (now (noted .entry)) branches width rows → Ran table plan
+        (now (goal .entry)) (now (room .entry)) (now (room .exit)) r) ⌝ }
 {
     match table::goal_for(width, goal) {
         GoalAnswer::Refused(f) => RunAnswer::Refused(f),

@@ -1,5 +1,5 @@
-// The goal as nodes: its cells are the nodes 0 to 31, and the arguments that the walk makes are those from 32 to 63. A symbol of the goal is
-// a node that is bound for good. A variable of the goal is the node of its first cell; its other cells name that node.
+// The goal as nodes: its cells are the nodes 0 to 31, and the arguments that the walk makes are those from 32 to 63. A symbol of the goal
+// is a node that is bound for good. A variable of the goal is the node of its first cell; its other cells name that node.
 ghost use mathlib.Core.Path.{_≡_};
 ghost use Prim.Native.Nat.{_≤_, _<_};
 ghost use lib.ListN.{length, replicate, set};
@@ -63,7 +63,8 @@ pub fn siblings(goal: &[u32]) -> [u8; 64]
 // The first cell of the variable `v`: `p` where it has none so far.
 fn first_cell(first: &mut [u8; 32], v: usize, p: usize) -> u8
     requires { ⌜ (v < 32) × (p < 32) × (length (now first) ≡ 32) ⌝ }
-    ensures { λ r. ⌜ (r ≡ firstOf (now (first .entry)) v p) × (now (first .exit) ≡ set (now (first .entry)) v (firstOf (now (first .entry)) v p)) ⌝ }
+    ensures { λ r. ⌜ (r ≡ firstOf (now (first .entry)) v p) × (now (first .exit) ≡ set (now (first .entry)) v (firstOf
+        (now (first .entry)) v p)) ⌝ }
 {
     let f = first[v];
     if f == NONE {

@@ -60,7 +60,8 @@ pub fn put_terms(refs: &mut [u8; 64], to: usize, a: usize, p: usize, rep: &[u8; 
     }
 }
 
-// Whether the branch number `i`, noted by `w`, succeeds. An unbound node is bound to the branch's symbol, and its arguments get their slots.
+// Whether the branch number `i`, noted by `w`, succeeds. An unbound node is bound to the branch's symbol, and its arguments get their
+// slots.
 pub fn meets(
     w: u64,
     i: usize,
@@ -72,7 +73,9 @@ pub fn meets(
     refs: &mut [u8; 64],
 ) -> bool
     requires { ⌜ Safe (now sib) (now bound) (now args) (now until) i (cellIn w) (getD (now refs) (slotIn w) 0) (nextIn w) ⌝ }
-    ensures { λ r. ⌜ Step (now (rep .entry)) (now (sib .entry)) i (cellIn w) (getD (now (refs .entry)) (slotIn w) 0) (nextIn w) (skipIn w) (now (bound .entry)) (now (args .entry)) (now (until .entry)) (now (refs .entry)) (now (bound .exit)) (now (args .exit)) (now (until .exit)) (now (refs .exit)) r ⌝ }
+    ensures { λ r. ⌜ Step (now (rep .entry)) (now (sib .entry)) i (cellIn w) (getD (now (refs .entry)) (slotIn w) 0) (nextIn w) (skipIn w)
+        (now (bound .entry)) (now (args .entry)) (now (until .entry)) (now (refs .entry)) (now (bound .exit)) (now (args .exit))
+        (now (until .exit)) (now (refs .exit)) r ⌝ }
 {
     let c = cell_of(w);
     let slot = slot_of(w);

@@ -1,5 +1,6 @@
 // The walk along a plan: one loop over what the check notes of each branch, in plan order. A branch whose test fails is left with all below
-// it, by the number of the branch after them; one that succeeds is followed by the branches below it, or, where there is none, its rows are hits.
+// it, by the number of the branch after them; one that succeeds is followed by the branches below it, or, where there is none, its rows are
+// hits.
 ghost use mathlib.Core.Path.{_≡_};
 ghost use Prim.Native.Nat.{_+_, _≤_};
 ghost use lib.ListN.{length};
@@ -45,7 +46,8 @@ pub fn walk(
     room: &mut [u8],
 ) -> Out
     requires { ⌜ Begun (now notes) branches (now goal) (now room) width ⌝ }
-    ensures { λ o. ⌜ ((b : Begun (now (notes .entry)) branches (now (goal .entry)) (now (room .entry)) width) → Walked b (now (room .exit)) (o .hits) (o .tried)) ⌝ }
+    ensures { λ o. ⌜ ((b : Begun (now (notes .entry)) branches (now (goal .entry)) (now (room .entry)) width) → Walked b
+        (now (room .exit)) (o .hits) (o .tried)) ⌝ }
 {
     let sib = siblings(goal);
     let mut bound = [0u32; 64];

@@ -1,5 +1,5 @@
--- The runs as the code finds them: in a column, the cells that a state's rows have at the chosen place, in row order. That they are those of 01 is `group-on`,
--- `first-run` and `count-runs` of proofs/ColumnLaws.
+-- The runs as the code finds them: in a column, the cells that a state's rows have at the chosen place, in row order. That they are those
+-- of 01 is `group-on`, `first-run` and `count-runs` of proofs/ColumnLaws.
 use Prim.Native.Nat.{ℕ, suc}
 use mathlib.Core.Bool.{cond}
 use mathlib.Core.List.{List, [], _∷_}

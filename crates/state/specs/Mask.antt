@@ -1,5 +1,5 @@
--- A row's state as the code keeps it: a mask of its open cells. Bit j is set while cell j of the row is not yet looked at; a row has at most 32 cells.
--- That a mask with a bit taken out is the row with the place closed is `kept-without` of proofs/MaskLaws.
+-- A row's state as the code keeps it: a mask of its open cells. Bit j is set while cell j of the row is not yet looked at; a row has at
+-- most 32 cells. That a mask with a bit taken out is the row with the place closed is `kept-without` of proofs/MaskLaws.
 use Prim.Native.Nat.{ℕ, zero, suc, _+_, _-_, _/_, _%_, _^_, _≤_, _<_, min}
 use mathlib.Core.Bool.{Bool, cond}
 use mathlib.Core.List.{List, [], _∷_}
@@ -36,7 +36,8 @@ without m b = cond (ltb b 32) (m - 2 ^ b) m
 abbrev pub full : ℕ → ℕ
 full n = cond (ltb n 32) (2 ^ n) (2 ^ 32) - 1
 
--- 01, "Rows carry no lengths; a row ends when its last argument does": row r of n ends where the next one starts, and the last where the table's cells end
+-- 01, "Rows carry no lengths; a row ends when its last argument does": row r of n ends where the next one starts, and the last where the
+-- table's cells end
 abbrev pub endAt : List ℕ → ℕ → ℕ → ℕ → ℕ
 endAt ss n len r = cond (ltb (r + 1) n) (getD ss (r + 1) 0) len
 
@@ -46,7 +47,8 @@ pub record OpenRows (ss : List ℕ) (n len : ℕ) (ms : List ℕ) : Type 0 where
   pub rows : (r : ℕ) → r < min n 64 → getD ms r 0 ≡ full (endAt ss (min n 64) len r - getD ss r 0)
   pub others : (r : ℕ) → min n 64 ≤ r → getD ms r 0 ≡ 0
 
--- open place i of a row is closed: its cell is the definition's, its bit is out of the mask, and so the list that the mask stands for is the definition's
+-- open place i of a row is closed: its cell is the definition's, its bit is out of the mask, and so the list that the mask stands for is
+-- the definition's
 pub record ClosedAt (i m : ℕ) (xs : List ℕ) (r : Closed) : Type 0 where
   pub cell : r .cell ≡ root i (kept m xs)
   pub mask : r .mask ≡ without m (bitAt i m xs)

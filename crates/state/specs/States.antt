@@ -39,8 +39,8 @@ masksAt t ss ms i (suc n) r = maskAt t ss ms i r ∷ masksAt t ss ms i n (r + 1)
 abbrev pub masksIn : (t ss ms : List ℕ) → ℕ → ℕ → ℕ → List ℕ
 masksIn t ss ms i first end = masksAt t ss ms i (end - first) first
 
--- place i of the rows from first to before end is closed: the cell that each has there is in the column hs, and its bit out of its mask in ms; and so the
--- list that the mask stands for is the definition's. All else in both lists is as it was
+-- place i of the rows from first to before end is closed: the cell that each has there is in the column hs, and its bit out of its mask in
+-- ms; and so the list that the mask stands for is the definition's. All else in both lists is as it was
 pub record ClosedRows (t ss ms hs ms′ hs′ : List ℕ) (i first end : ℕ) : Type 0 where
   pub column : hs′ ≡ sets hs first (map (root i) (rowsIn t ss ms first end))
   pub masks : ms′ ≡ sets ms first (masksIn t ss ms i first end)

@@ -3,7 +3,8 @@ ghost use mathlib.Core.Path.{_≡_};
 ghost use Rattle.plan.specs.Runs.{agree};
 ghost use Rattle.state.specs.Column.{runLength, runCount};
 
-// The same name or the same number; variables of two rows, of kind 0, never agree. Kind 3 is in no table that is read, and is one symbol with itself.
+// The same name or the same number; variables of two rows, of kind 0, never agree. Kind 3 is in no table that is read, and is one symbol
+// with itself.
 pub fn same_symbol(c: u32, d: u32) -> bool
     ensures { λ r. ⌜ r ≡ agree c d ⌝ }
 {

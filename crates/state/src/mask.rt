@@ -88,8 +88,8 @@ pub fn close_at(cells: &[u32], start: usize, mask: u32, i: u32) -> Closed
     Closed { cell: 0, mask }
 }
 
-// Closes place i of the rows from first to before end, of 64 at most: the cell that each has there goes into the column, and its bit out of its mask.
-// Where end is not after first there is no such row, and nothing changes.
+// Closes place i of the rows from first to before end, of 64 at most: the cell that each has there goes into the column, and its bit out of
+// its mask. Where end is not after first there is no such row, and nothing changes.
 pub fn close_rows(
     cells: &[u32],
     starts: &[usize; 64],
@@ -99,7 +99,8 @@ pub fn close_rows(
     first: usize,
     end: usize,
 )
-    ensures { λ r. ⌜ ClosedRows (now (cells .entry)) (now (starts .entry)) (now (masks .entry)) (now (column .entry)) (now (masks .exit)) (now (column .exit)) i first (min end 64) ⌝ }
+    ensures { λ r. ⌜ ClosedRows (now (cells .entry)) (now (starts .entry)) (now (masks .entry)) (now (column .entry)) (now (masks .exit))
+        (now (column .exit)) i first (min end 64) ⌝ }
 {
     let mut row = 64;
     if end < 64 {

@@ -1,5 +1,5 @@
--- Tables and goals (01, "Tables and goals"): how they are read, in 01's order of tests ("1, 2, 3 come first; then cells are read left to right,
--- and at each place 4, 5, 6, 7, 8 in that order; 9 last"), and what they are.
+-- Tables and goals (01, "Tables and goals"): how they are read, in 01's order of tests ("1, 2, 3 come first; then cells are read left to
+-- right, and at each place 4, 5, 6, 7, 8 in that order; 9 last"), and what they are.
 use Prim.Native.Nat.{ℕ, zero, suc, _+_, _-_, _≤_}
 use mathlib.Core.Path.{_≡_}
 use mathlib.Core.Bool.{Bool, true, false, cond, _&&_, _||_}
@@ -21,7 +21,8 @@ use Rattle.refusal.specs.declared.Reason.the-variants as reason
 use Rattle.refusal.specs.declared.Input.the-variants as input
 use Rattle.refusal.specs.Read.{Read, read, refuse, when, andThen}
 
--- The terms of a row or of a goal. LONG and TWICE are given in a row only. A refusal of a row concerns the table, and one of a goal the goal
+-- The terms of a row or of a goal. LONG and TWICE are given in a row only. A refusal of a row concerns the table, and one of a goal the
+-- goal
 abbrev pub bad : Bool → Reason → ℕ → Refused
 bad row r p = refused r (cond row input.Table input.Goal) p
 
@@ -45,8 +46,8 @@ cellTests row cell vars place rest =
     (when (row && (eqb (cell .kind) 0 && ltb (cell .number) vars)) (bad row reason.Twice place)
     rest))
 
--- 01, "cells are read left to right, and at each place 4, 5, 6, 7, 8 in that order": of the cells left, the terms owed, the cells used so far, the variables
--- met and the next cell's place
+-- 01, "cells are read left to right, and at each place 4, 5, 6, 7, 8 in that order": of the cells left, the terms owed, the cells used so
+-- far, the variables met and the next cell's place
 unfoldable pub termsFrom : Bool → List ℕ → ℕ → ℕ → ℕ → ℕ → Read Met
 termsFrom row [] zero used vars p = read (met p vars)
 termsFrom row [] (suc owed) used vars p = when (row && leb 32 used) (bad row reason.Long p) (refuse (bad row reason.Short p))
@@ -132,7 +133,8 @@ abbrev pub goalTold : GoalAnswer → Answer
 goalTold (goal-answer.Accepted n v) = answered n v
 goalTold (goal-answer.Refused f) = turned (told f)
 
--- 01, "The row handed out by number is that part of the lent table and no copy; where the table is refused or has no such row, that part is empty"
+-- 01, "The row handed out by number is that part of the lent table and no copy; where the table is refused or has no such row, that part is
+-- empty"
 abbrev pub rowIn : Read Table → ℕ → List ℕ
 rowIn (read T) r = getD (T .rows) r []
 rowIn (refuse f) r = []

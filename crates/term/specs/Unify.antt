@@ -1,4 +1,5 @@
--- Unification (01, first paragraph): "a finite substitution makes the two terms equal, the goal's variables and a row's variables being renamed apart".
+-- Unification (01, first paragraph): "a finite substitution makes the two terms equal, the goal's variables and a row's variables being
+-- renamed apart".
 use Prim.Native.Nat.{ℕ, _+_, _^_}
 use mathlib.Core.Path.{_≡_}
 use mathlib.Core.Bool.{true, false, cond}

@@ -1,5 +1,5 @@
--- The code's own steps, in which the cells of a row or of a goal are looked at: one to find where the terms end (`ends` of term), one to test the cells.
--- That the two together are `termsFrom` is `two-looks` of proofs/LooksLaws.
+-- The code's own steps, in which the cells of a row or of a goal are looked at: one to find where the terms end (`ends` of term), one to
+-- test the cells. That the two together are `termsFrom` is `two-looks` of proofs/LooksLaws.
 use Prim.Native.Nat.{ℕ, suc}
 use mathlib.Core.Bool.{Bool, cond, _&&_}
 use mathlib.Core.List.{List, [], _∷_}

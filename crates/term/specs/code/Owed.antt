@@ -1,5 +1,5 @@
--- Where a run of terms ends, by computation, with a count of the terms still owed. Contracts of private functions cite it; that it is what `Ends` says is
--- `ends-meant` of proofs/EndsLaws.
+-- Where a run of terms ends, by computation, with a count of the terms still owed. Contracts of private functions cite it; that it is what
+-- `Ends` says is `ends-meant` of proofs/EndsLaws.
 use Prim.Native.Nat.{ℕ, zero, suc, _+_}
 use mathlib.Core.List.{List, [], _∷_}
 use Rattle.cell.specs.Cell.{arity}
