@@ -7,7 +7,8 @@ use Rattle.cell.specs.Cell.{arity}
 use Rattle.term.specs.Terms.{root, close}
 use Rattle.plan.specs.Runs.{Run}
 use Rattle.plan.specs.Plans.{Plan, leaf, node, Branches, end, next, write, writes}
-use Rattle.plan.proofs.RunsLaws.{rowsIn, group-rows}
+use Rattle.plan.proofs.RunsLaws.{group-rows}
+use Rattle.plan.specs.code.Rows.{rowCount}
 use Rattle.answer.specs.code.After.{Left, stuck, left, after}
 use Rattle.answer.specs.code.Renamed.{var}
 use Rattle.answer.specs.code.Tree.{under, hits, hitsIn, hitsAt, tried, triedIn, triedAt}
@@ -28,7 +29,7 @@ mutual
   hits-few (leaf {rows}) m R f = omega (arith, up-length f (length rows))
   hits-few (node {rows = rows} i h bs) m R f = omega (arith, hitsIn-few bs i m R f, group-rows (root i) (close i) rows)
 
-  hitsIn-few : {k : ℕ} {gs : List Run} (bs : Branches k gs) (i m : ℕ) (R : List ℕ) (f : ℕ) → length (hitsIn bs i m R f) ≤ rowsIn gs
+  hitsIn-few : {k : ℕ} {gs : List Run} (bs : Branches k gs) (i m : ℕ) (R : List ℕ) (f : ℕ) → length (hitsIn bs i m R f) ≤ rowCount gs
   hitsIn-few end i m R f = omega arith
   hitsIn-few (next {g = g} p bs) i m R f =
       omega (

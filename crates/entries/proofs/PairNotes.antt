@@ -13,7 +13,8 @@ use Rattle.term.proofs.TermsLaws.{back-zero}
 use Rattle.table.specs.All.{All}
 use Rattle.plan.specs.Runs.{Run, runs}
 use Rattle.plan.specs.Plans.{plain, choice}
-use Rattle.plan.proofs.RunsLaws.{Sized, rowsIn, group-sizes, group-rows}
+use Rattle.plan.proofs.RunsLaws.{Sized, group-sizes, group-rows}
+use Rattle.plan.specs.code.Rows.{rowCount}
 use Rattle.plan.specs.code.Fits.{Fits}
 use Rattle.plan.proofs.PlansLaws.{cost-plain}
 use Rattle.plan.proofs.SizeLaws.{bound}
@@ -35,7 +36,7 @@ between-last first last rows h l =
     rw (take-suc rows last [] l) (drop-append-le first (take last rows) (getD rows last [] ∷ []) (omega (arith, length-take-le last rows (omega arith))))
 
 -- sums of values that are the same for each pair in range
-sums-same : (U W : ℕ → ℕ → ℕ) (n s : ℕ) → ((j j′ : ℕ) → j ≤ j′ → j′ < n → U j j′ ≡ W j j′) → (j : ℕ) (gs : List Run) → Sized s gs → j + rowsIn gs ≤ n
+sums-same : (U W : ℕ → ℕ → ℕ) (n s : ℕ) → ((j j′ : ℕ) → j ≤ j′ → j′ < n → U j j′ ≡ W j j′) → (j : ℕ) (gs : List Run) → Sized s gs → j + rowCount gs ≤ n
     → sums U j gs ≡ sums W j gs
 sums-same U W n s e j [] z h = refl
 sums-same U W n s e j (g ∷ gs) z h =

@@ -15,7 +15,7 @@ use Rattle.octets.proofs.PutLaws.{put-put, put-nothing}
 use Rattle.plan.specs.Runs.{Run, runs}
 use Rattle.plan.specs.Plans.{Plan, leaf, node, Branches, end, next, write, writes, branches, branchesIn}
 use Rattle.plan.specs.Notes.{rowsIn}
-use Rattle.plan.proofs.RunsLaws as runs-laws
+use Rattle.plan.specs.code.Rows.{rowCount}
 use Rattle.plan.proofs.RunsLaws.{Sized, group-sizes, group-rows}
 use Rattle.listing.specs.Listing.{line, linesIn, linesOf}
 use Rattle.listing.specs.code.Walk.{sizes, sizesOf, Ready, Walked}
@@ -40,7 +40,7 @@ abbrev pub Within : ℕ → List Run → Type 0
 Within first [] = first ≤ 64
 Within first (g ∷ gs) = (0 < length (g .rows)) × Within (first + length (g .rows)) gs
 
-within-runs : (n first : ℕ) (gs : List Run) → Sized n gs → first + runs-laws.rowsIn gs ≤ 64 → Within first gs
+within-runs : (n first : ℕ) (gs : List Run) → Sized n gs → first + rowCount gs ≤ 64 → Within first gs
 within-runs n first [] s h = omega arith
 within-runs n first (g ∷ gs) s h = (s .0 .0, within-runs n (first + length (g .rows)) gs (s .1) (omega arith))
 

@@ -15,7 +15,7 @@ use Rattle.table.proofs.AllLaws.{all-++}
 use Rattle.plan.specs.Runs.{Run}
 use Rattle.plan.specs.Plans.{Plan, Branches, end, next, write, writes, branches, branchesIn}
 use Rattle.plan.specs.Notes.{Branch, branch, below, notes, notesIn, word}
-use Rattle.plan.proofs.RunsLaws.{rowsIn}
+use Rattle.plan.specs.code.Rows.{rowCount}
 use Rattle.notes.specs.code.Steps.{partOf, ended, Parts, Ending, Met, Begun}
 use Rattle.notes.specs.code.Tree.{Ready, ReadyAt, notesAt, Done, StateDone, BranchDone, Went}
 use Rattle.notes.specs.declared.tree.Past.{Past}
@@ -54,7 +54,7 @@ module _ {plan links noted : List ℕ} {at k made free : ℕ} (w : Ready plan li
 
   only-by : {groups : List Run} (trees : Branches (k - 1) groups) → length groups ≡ 1 → ReadyIn plan links noted (w .slots) (getD plan at 0) (at + 2) k made free trees
       → notes (w .tree) (w .slots) made free ≡ notesIn trees (getD plan at 0) (w .slots) made free → branches (w .tree) ≡ branchesIn trees
-      → length (write (w .tree)) ≡ suc (suc (length (writes trees))) → length (w .rows) ≡ rowsIn groups → Only
+      → length (write (w .tree)) ≡ suc (suc (length (writes trees))) → length (w .rows) ≡ rowCount groups → Only
   unfolding notes branches write first-of
   only-by end e x n c l r = absurd (omega arith)
   only-by (next {g = g} p end) e x n c l r = record {

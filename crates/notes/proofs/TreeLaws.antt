@@ -18,7 +18,8 @@ use Rattle.plan.specs.Notes.{Branch, below, notes, notesIn, word}
 use Rattle.plan.specs.code.Fits.{Fits}
 use Rattle.plan.proofs.NotesLaws.{notes-count}
 use Rattle.plan.proofs.PlansLaws.{leaf-cells}
-use Rattle.plan.proofs.RunsLaws.{Each, Sized, rowsIn, group-rows, group-sizes, fits-some, runs-fit}
+use Rattle.plan.proofs.RunsLaws.{Each, Sized, group-rows, group-sizes, fits-some, runs-fit}
+use Rattle.plan.specs.code.Rows.{rowCount}
 use Rattle.notes.specs.code.Places.{Open}
 use Rattle.notes.specs.code.Steps.{partOf, Met, Begun}
 use Rattle.notes.specs.code.Tree.{Ready, ReadyAt, notesAt, Done, StateDone, BranchDone, Went}
@@ -101,7 +102,7 @@ pub record ReadyIn (plan links noted slots : List ℕ) (i place k made free : �
   pub size : length plan ≤ 6082
   pub most : ℕ
   pub some : Sized most groups
-  pub few : rowsIn groups ≤ 64
+  pub few : rowCount groups ≤ 64
   pub left : ℕ
   pub deep : left ≤ 32
   pub fit : Each (λ (c : ℕ). Fits left (arity c + (k - 1))) groups
@@ -137,7 +138,7 @@ module _ {plan links noted : List ℕ} {at k made free : ℕ} (w : Ready plan li
     pub same-notes : notes (w .tree) (w .slots) made free ≡ notesIn trees (getD plan at 0) (w .slots) made free
     pub count : branches (w .tree) ≡ branchesIn trees
     pub cells : length (write (w .tree)) ≡ suc (suc (length (writes trees)))
-    pub rows : length (w .rows) ≡ rowsIn groups
+    pub rows : length (w .rows) ≡ rowCount groups
 
   inside-by : Inner (w .tree) (k - 1) → 0 < k → Inside
   inside-by n l =
@@ -299,7 +300,7 @@ module _ {plan links noted₀ : List ℕ} {at k made₀ free : ℕ} (w : Ready p
     pub wrote : sets noted made (map word (notesIn trees (getD plan at 0) (w .slots) made free)) ≡ sets noted₀ made₀ (map word (notes (w .tree) (w .slots) made₀ free))
     pub after : place + length (writes trees) ≡ at + length (write (w .tree))
     pub count : made + branchesIn trees ≡ made₀ + branches (w .tree)
-    pub has : rows + rowsIn groups ≡ length (w .rows)
+    pub has : rows + rowCount groups ≡ length (w .rows)
     pub later : at < place
 
   pub record Rest (noted : List ℕ) (place made rows left : ℕ) : Type 0 where

@@ -16,6 +16,7 @@ use Rattle.term.proofs.PlaceLaws.{close-terms, close-length}
 use Rattle.table.specs.All.{All}
 use Rattle.plan.specs.Runs.{Run, run, agree, joinIf, join, group, runs}
 use Rattle.plan.specs.code.Fits.{Fits}
+use Rattle.plan.specs.code.Rows.{rowCount}
 
 -- cells that agree are one symbol, and no variable
 pub agree-eq : (c d : ℕ) → agree c d ≡ true → c ≡ d
@@ -46,11 +47,6 @@ Each Q gs = All (λ (g : Run). All (Q (g .cell)) (g .rows)) gs
 -- each run has a row, and at most n
 abbrev pub Sized : ℕ → List Run → Type 0
 Sized n gs = All (λ (g : Run). (0 < length (g .rows)) × (length (g .rows) ≤ n)) gs
-
--- the number of rows in some runs
-abbrev pub rowsIn : List Run → ℕ
-rowsIn [] = 0
-rowsIn (g ∷ gs) = length (g .rows) + rowsIn gs
 
 -- each row of each run changed by its run's cell
 abbrev pub mapRuns : (ℕ → List ℕ → List ℕ) → List Run → List Run
@@ -85,11 +81,11 @@ join-some c r (g ∷ gs) = go (agree c (g .cell))
     go true = omega arith
     go false = omega arith
 
-join-rows : (c : ℕ) (r : List ℕ) (gs : List Run) → rowsIn (join c r gs) ≡ suc (rowsIn gs)
+join-rows : (c : ℕ) (r : List ℕ) (gs : List Run) → rowCount (join c r gs) ≡ suc (rowCount gs)
 join-rows c r [] = refl
 join-rows c r (g ∷ gs) = go (agree c (g .cell))
   where
-    go : (b : Bool) → rowsIn (joinIf b c r g gs) ≡ suc (rowsIn (g ∷ gs))
+    go : (b : Bool) → rowCount (joinIf b c r g gs) ≡ suc (rowCount (g ∷ gs))
     go true = omega arith
     go false = omega arith
 
@@ -128,7 +124,7 @@ module _ (cell : List ℕ → ℕ) (left : List ℕ → List ℕ) where
   group-some (r ∷ rs) h = join-some (cell r) (left r) (group cell left rs)
 
   -- each row is in one run
-  pub group-rows : (rows : List (List ℕ)) → rowsIn (group cell left rows) ≡ length rows
+  pub group-rows : (rows : List (List ℕ)) → rowCount (group cell left rows) ≡ length rows
   group-rows [] = refl
   group-rows (r ∷ rs) = join-rows (cell r) (left r) (group cell left rs) ∙ ap suc (group-rows rs)
 

@@ -10,7 +10,8 @@ use Rattle.term.specs.Terms.{root, close}
 use Rattle.table.specs.All.{All}
 use Rattle.plan.specs.Runs.{Run}
 use Rattle.plan.specs.Plans.{Plan, leaf, node, Branches, end, next, write, writes, branches, branchesIn, leaves, leavesIn}
-use Rattle.plan.proofs.RunsLaws.{Each, Sized, rowsIn, group-sizes, group-some, group-rows, fits-some, runs-fit}
+use Rattle.plan.proofs.RunsLaws.{Each, Sized, group-sizes, group-some, group-rows, fits-some, runs-fit}
+use Rattle.plan.specs.code.Rows.{rowCount}
 use Rattle.plan.specs.code.Fits.{Fits}
 
 -- 01's number of cells
@@ -38,7 +39,7 @@ mutual
       (rw e (x .0), omega (arith, group-rows (root i) (close i) rows), omega (arith, group-some (root i) (close i) rows h))
 
   pub bounds : {k : ℕ} {gs : List Run} (bs : Branches k gs) (n m : ℕ) → Each (λ (c : ℕ). Fits n (arity c + k)) gs → Sized m gs
-      → (branchesIn bs ≤ suc n * leavesIn bs) × (leavesIn bs ≤ rowsIn gs) × (length gs ≤ leavesIn bs)
+      → (branchesIn bs ≤ suc n * leavesIn bs) × (leavesIn bs ≤ rowCount gs) × (length gs ≤ leavesIn bs)
   bounds end n m f z = (omega arith, omega arith, omega arith)
   bounds (next p bs) n m f z =
       let x = bound p n (f .0) (z .0 .0) in

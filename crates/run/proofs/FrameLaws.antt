@@ -11,7 +11,8 @@ use Rattle.term.specs.Terms.{root, close}
 use Rattle.table.specs.Table.{upFrom}
 use Rattle.plan.specs.Runs.{Run}
 use Rattle.plan.specs.Plans.{Plan, leaf, node, Branches, end, next, branches, branchesIn}
-use Rattle.plan.proofs.RunsLaws.{rowsIn, group-rows}
+use Rattle.plan.proofs.RunsLaws.{group-rows}
+use Rattle.plan.specs.code.Rows.{rowCount}
 use Rattle.answer.specs.code.Renamed.{Goal}
 use Rattle.answer.specs.code.Tree.{hits, hitsIn, tried, triedIn}
 use Rattle.plan.specs.Notes.{notes, notesIn}
@@ -22,7 +23,7 @@ use Rattle.run.proofs.LinkLaws.{refs-past, binding-past}
 
 -- No branch is left in a state.
 
-pub none-in : {k : ℕ} {gs : List Run} (bs : Branches k gs) → branchesIn bs ≡ 0 → (i m : ℕ) (R : List ℕ) (f : ℕ) → (hitsIn bs i m R f ≡ []) × (triedIn bs i m R ≡ 0) × (rowsIn gs ≡ 0)
+pub none-in : {k : ℕ} {gs : List Run} (bs : Branches k gs) → branchesIn bs ≡ 0 → (i m : ℕ) (R : List ℕ) (f : ℕ) → (hitsIn bs i m R f ≡ []) × (triedIn bs i m R ≡ 0) × (rowCount gs ≡ 0)
 unfolding branches hits tried
 none-in end z i m R f = (refl, refl, refl)
 none-in (next p bs) z i m R f = absurd (let y : ⊥ = omega arith in y)
@@ -43,7 +44,7 @@ none-of (f ∷ fs) n row z =
     let l = length-append (notesIn (f .trees) (f .place) (f .slots) n (f .free)) (notesOf fs (n + branchesIn (f .trees))) in
     let c = notesIn-count (f .trees) (f .place) (f .slots) n (f .free) in
     let h = none-in (f .trees) (omega arith) (f .place) (f .free) (f .R) row in
-    let t = none-of fs (n + branchesIn (f .trees)) (row + rowsIn (f .groups)) (omega arith) in
+    let t = none-of fs (n + branchesIn (f .trees)) (row + rowCount (f .groups)) (omega arith) in
     (ap₂ _++_ (h .0) (t .0), omega (arith, h .1, t .1))
 
 -- The state below a branch, as a frame.
@@ -59,7 +60,7 @@ pub record Below {k : ℕ} {rows : List (List ℕ)} (p : Plan k rows) (m : ℕ) 
   pub same-notes : (n : ℕ) → notesIn (first .trees) (first .place) (first .slots) n (first .free) ≡ notes p slots n m
   pub same-hits : (f : ℕ) → hitsIn (first .trees) (first .place) (first .free) (first .R) f ≡ hits p m R f
   pub same-tried : triedIn (first .trees) (first .place) (first .free) (first .R) ≡ tried p m R
-  pub same-rows : rowsIn (first .groups) ≡ length rows
+  pub same-rows : rowCount (first .groups) ≡ length rows
 
 pub below-frame : {k : ℕ} {rows : List (List ℕ)} (p : Plan k rows) (m : ℕ) (slots R : List ℕ) → 0 < k → Below p m slots R
 unfolding branches notes hits tried

@@ -6,7 +6,7 @@ use mathlib.Core.List.{List, [], _∷_, _++_}
 use lib.ListN.{length}
 use Rattle.plan.specs.Runs.{Run}
 use Rattle.plan.specs.Plans.{Branches, branchesIn}
-use Rattle.plan.proofs.RunsLaws.{rowsIn}
+use Rattle.plan.specs.code.Rows.{rowCount}
 use Rattle.answer.specs.code.Tree.{hitsIn, triedIn}
 use Rattle.plan.specs.Notes.{Branch, notesIn}
 use Rattle.run.specs.code.Link.{Linked}
@@ -32,7 +32,7 @@ notesOf (f ∷ fs) n = notesIn (f .trees) (f .place) (f .slots) n (f .free) ++ n
 -- their hits, the first row being `row`
 abbrev pub hitsOf : List Frame → ℕ → List ℕ
 hitsOf [] row = []
-hitsOf (f ∷ fs) row = hitsIn (f .trees) (f .place) (f .free) (f .R) row ++ hitsOf fs (row + rowsIn (f .groups))
+hitsOf (f ∷ fs) row = hitsIn (f .trees) (f .place) (f .free) (f .R) row ++ hitsOf fs (row + rowCount (f .groups))
 
 -- how many of their branches are tried
 abbrev pub triedOf : List Frame → ℕ
@@ -42,7 +42,7 @@ triedOf (f ∷ fs) = triedIn (f .trees) (f .place) (f .free) (f .R) + triedOf fs
 -- how many rows they have
 abbrev pub rowsOf : List Frame → ℕ
 rowsOf [] = 0
-rowsOf (f ∷ fs) = rowsIn (f .groups) + rowsOf fs
+rowsOf (f ∷ fs) = rowCount (f .groups) + rowsOf fs
 
 -- The arrays stand for what is left of the goal at a frame, for its branches, from n to e.
 pub record Held (G rep sib bound args until refers : List ℕ) (n e : ℕ) (f : Frame) : Type 0 where
