@@ -9,7 +9,6 @@ use Rattle.notes.proofs.check_noted.Lts as lts
 use Rattle.checker.proofs.check_plan.Reads as check-plan-reads
 use Rattle.notes.proofs.note_plan.Reads as note-plan-reads
 
--- src/lib.rt:30:11
 abbrev with : lts.Claims
 with = (check-plan-reads.Asked, check-plan-reads.Learnt, note-plan-reads.Asked, note-plan-reads.Learnt)
 
@@ -26,39 +25,30 @@ plan-for c = check-accepts _ _ _ (c .before .before .check-plan .ensures) .0 (c 
 check-plan-requires : tie.Need-check-plan-requires
 check-plan-requires c κs = search needs
 
--- src/lib.rt:31:30
 enum-known-branches : tie.Need-enum-known-branches
 enum-known-branches c = search needs
 
--- src/lib.rt:32:25
 shared-slice-read-width : tie.Need-shared-slice-read-width
 shared-slice-read-width c = omega (arith, two-cells (plan-for (c .before .before)))
 
--- src/lib.rt:32:25
 cast-width : tie.Need-cast-width
 cast-width c = omega (arith, c .shared-slice-known3 .given 0)
 
--- src/lib.rt:33:24
 shared-slice-read-rows : tie.Need-shared-slice-read-rows
 shared-slice-read-rows c = omega (arith, two-cells (plan-for (c .before .before .before)))
 
--- src/lib.rt:33:24
 cast-rows : tie.Need-cast-rows
 cast-rows c = omega (arith, c .shared-slice-known4 .given 1)
 
--- src/lib.rt:34:13
 note-plan-requires : tie.Need-note-plan-requires
 note-plan-requires c κs = accepted-plan (plan-for (c .before .before .before .before)) (search needs)
 
--- src/lib.rt:41:29
 enum-known-f : tie.Need-enum-known-f
 enum-known-f c = search needs
 
--- src/lib.rt:27:1
 returns : tie.Need-returns
 returns c = let k = c .before .before .before .before .before in handed-on (plan-for k) (search needs) (c .note-plan .ensures)
 
--- src/lib.rt:27:1
 returns-2 : tie.Need-returns-2
 returns-2 c = turned-away _ _ _ (c .before .before .before .check-plan .ensures) (c .before .f .given .1)
 

@@ -8,39 +8,30 @@ use Rattle.notes.proofs.places.hop.Reads as hop-reads
 use Rattle.notes.proofs.places.last_new.Reads as last-new-reads
 use Rattle.notes.proofs.places.wide.Reads as wide-reads
 
--- src/places.rt:59:9
 hop-requires : tie.Need-hop-requires
 hop-requires c κs = hops-small (c .before .pre)
 
--- src/places.rt:60:21
 element-copy-out-wide : tie.Need-element-copy-out-wide
 element-copy-out-wide c = before-small (c .before .before .pre) _ (c .hop .ensures)
 
--- src/places.rt:60:9
 wide-requires : tie.Need-wide-requires
 wide-requires c κs = search needs
 
--- src/places.rt:61:16
 element-copy-out-past : tie.Need-element-copy-out-past
 element-copy-out-past c = rw (c .wide .ensures) (slot-small (c .before .before .before .before .pre) _ (c .before .before .hop .ensures))
 
--- src/places.rt:62:9
 last-new-requires : tie.Need-last-new-requires
 last-new-requires c κs = search needs
 
--- src/places.rt:63:21
 cast-links : tie.Need-cast-links
 cast-links c = search needs
 
--- src/places.rt:63:5
 element-write-links : tie.Need-element-write-links
 element-write-links c = before-small (c .before .before .before .before .before .before .pre) _ (c .before .before .before .before .hop .ensures)
 
--- src/places.rt:64:5
 element-write-links-2 : tie.Need-element-write-links-2
 element-write-links-2 c = last-fits (c .before .before .before .before .before .before .pre) _ (c .before .before .before .before .hop .ensures) _ (c .last-new .ensures)
 
--- src/places.rt:55:1
 returns : tie.Need-returns
 returns c = λ w. closed w _ (c .before .before .before .before .hop .ensures) _ (c .last-new .ensures) _ (c .before .before .wide .ensures)
 
