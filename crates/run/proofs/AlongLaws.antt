@@ -151,7 +151,7 @@ module _ {w : ℕ} {G sib rep : List ℕ} (G-goal : Goal w G) (T : Tables G sib 
     unfolding b
     safe-here = rw (parts .cell, parts .next, ← same-node) (safe G-goal T first room-enough)
 
-    pub rows-here : row + note.rowCount W ≤ r
+    pub rows-here : row + note.rowsIn W ≤ r
     unfolding b
     rows-here = omega (arith, parts .rows, A .rows, split-rows)
 
@@ -173,7 +173,7 @@ module _ {w : ℕ} {G sib rep : List ℕ} (G-goal : Goal w G) (T : Tables G sib 
 
     module _ {bs′ ns′ us′ rs′ : List ℕ} where
       pub on-fail : Step rep sib i (cellIn W) (getD rs (slotIn W) 0) (nextIn W) (skipIn W) bs ns us rs bs′ ns′ us′ rs′ false
-          → Along G rep sib words final h t r bs′ ns′ us′ rs′ room (skipIn W) (row + note.rowCount W) found (count + 1)
+          → Along G rep sib words final h t r bs′ ns′ us′ rs′ room (skipIn W) (row + note.rowsIn W) found (count + 1)
       unfolding b
       on-fail x =
           let x′ : Step rep sib i c (node G-goal T first) m sk bs ns us rs bs′ ns′ us′ rs′ false = rw (parts .cell, parts .next, parts .skip, ← same-node) at x in
@@ -203,8 +203,8 @@ module _ {w : ℕ} {G sib rep : List ℕ} (G-goal : Goal w G) (T : Tables G sib 
         gone = goes G-goal T first room-enough (A .sizes) (rw (parts .cell, parts .next, parts .skip, ← same-node) at x)
 
         -- a leaf is below it: its rows are hits
-        pub on-leaf : {room′ : List ℕ} → i + 1 ≡ skipIn W → room′ ≡ sets room found (upFrom row (note.rowCount W))
-            → Along G rep sib words final h t r bs′ ns′ us′ rs′ room′ (i + 1) (row + note.rowCount W) (found + note.rowCount W) (count + 1)
+        pub on-leaf : {room′ : List ℕ} → i + 1 ≡ skipIn W → room′ ≡ sets room found (upFrom row (note.rowsIn W))
+            → Along G rep sib words final h t r bs′ ns′ us′ rs′ room′ (i + 1) (row + note.rowsIn W) (found + note.rowsIn W) (count + 1)
         unfolding b
         on-leaf {room′} e y =
             let z : branches (first .tree) ≡ 0 = omega (arith, parts .skip) in
