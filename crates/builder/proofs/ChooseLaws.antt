@@ -8,7 +8,6 @@ use native.Mathlib.Omega.{arith}
 use lib.ListN.{length, getD, length-map}
 use Rattle.term.proofs.TermsLaws.{terms-long}
 use Rattle.term.specs.Terms.{root, close}
-use Rattle.term.specs.Terms as terms
 use Rattle.table.specs.All.{All}
 use Rattle.plan.specs.Runs.{runs}
 use Rattle.plan.specs.Plans.{plain}

@@ -26,12 +26,6 @@ terms-drop zero k (c ∷ xs) (more {k = r} t) h = (r, more t)
 terms-drop (suc n) k (c ∷ xs) (more {k = r} t) h = terms-drop n (arity c + r) xs t (omega arith)
 
 module _ {ends whole notes : List ℕ} {first last at stop : ℕ} (g : PairAt ends whole notes first last at stop) where
-  abbrev w : ℕ
-  w = g .width
-
-  abbrev rows : List (List ℕ)
-  rows = g .rows
-
   abbrev pub k : ℕ
   k = (closedOf plain 32 (g .width) (g .rows) first last) .opens
 
