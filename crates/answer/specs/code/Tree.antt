@@ -34,13 +34,6 @@ unfoldable mutual
   triedIn end i m R = 0
   triedIn (next {g = g} p bs) i m R = suc (under 0 (after (var m) i (g .cell) R) (λ R′. tried p (m + arity (g .cell)) R′) + triedIn bs i m R)
 
--- the same below one branch, with the cell c
-abbrev pub hitsAt : {k : ℕ} {rows : List (List ℕ)} → Plan k rows → (i c m : ℕ) (R : List ℕ) (f : ℕ) → List ℕ
-hitsAt p i c m R f = under [] (after (var m) i c R) (λ R′. hits p (m + arity c) R′ f)
-
-abbrev pub triedAt : {k : ℕ} {rows : List (List ℕ)} → Plan k rows → (i c m : ℕ) (R : List ℕ) → ℕ
-triedAt p i c m R = under 0 (after (var m) i c R) (λ R′. tried p (m + arity c) R′)
-
 -- a state's rows have at most n cells left: what is open below a branch is less than that
 unfoldable mutual
   pub Deep : {k : ℕ} {rows : List (List ℕ)} → Plan k rows → ℕ → Type 0
