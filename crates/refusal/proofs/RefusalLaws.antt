@@ -9,8 +9,10 @@ use lib.Dec.{eqb}
 use Rattle.refusal.specs.declared.Reason.{Reason}
 use Rattle.refusal.specs.declared.Reason.the-variants.{Length, Width, Count, Long, Short, Cell, Fresh, Twice}
 use Rattle.refusal.specs.declared.Reason.the-variants.{Extra, Size, Ends, Open, Edges, Label, Rows, Room}
+use Rattle.refusal.specs.declared.Reason.the-variants.{Bytes, Text, Other}
 use Rattle.refusal.specs.declared.Input.{Input}
 use Rattle.refusal.specs.declared.Input.the-variants.{Table, Plan, Goal, Lent}
+use Rattle.refusal.specs.declared.Input.the-variants as input
 use Rattle.refusal.specs.declared.Refusal.{Refusal}
 use Rattle.refusal.specs.Refusal.{numberOf, inputOf, Refused, told}
 
@@ -37,6 +39,9 @@ reasons =
     ∷ Label
     ∷ Rows
     ∷ Room
+    ∷ Bytes
+    ∷ Text
+    ∷ Other
     ∷ []
 
 reasonAt : ℕ → Reason
@@ -60,9 +65,12 @@ reason-found Edges = (refl, omega arith, omega arith)
 reason-found Label = (refl, omega arith, omega arith)
 reason-found Rows = (refl, omega arith, omega arith)
 reason-found Room = (refl, omega arith, omega arith)
+reason-found Bytes = (refl, omega arith, omega arith)
+reason-found Text = (refl, omega arith, omega arith)
+reason-found Other = (refl, omega arith, omega arith)
 
 inputs : List Input
-inputs = Table ∷ Plan ∷ Goal ∷ Lent ∷ []
+inputs = Table ∷ Plan ∷ Goal ∷ Lent ∷ input.Text ∷ []
 
 inputAt : ℕ → Input
 inputAt = firstWith inputOf Table inputs
@@ -73,6 +81,7 @@ input-found Table = (refl, omega arith)
 input-found Plan = (refl, omega arith)
 input-found Goal = (refl, omega arith)
 input-found Lent = (refl, omega arith)
+input-found input.Text = (refl, omega arith)
 
 -- so refusals that tell the same are the same
 found : Refused → Refusal

@@ -3,7 +3,7 @@ ghost use mathlib.Core.Path.{_≡_};
 ghost use Prim.Native.Nat.{_<_, _^_};
 ghost use Rattle.refusal.specs.Refusal.{numberOf, inputOf};
 
-// 01, "What is turned away": the names, in the order of their numbers.
+// 01, "What is turned away", and 02, W-201, "BYTES; TEXT; OTHER": the names, in the order of their numbers.
 pub enum Reason {
     Length,
     Width,
@@ -21,14 +21,18 @@ pub enum Reason {
     Label,
     Rows,
     Room,
+    Bytes,
+    Text,
+    Other,
 }
 
-// 01, "which input it concerns (table, plan, goal or lent room)".
+// 01, "which input it concerns (table, plan, goal or lent room)"; or a text (02, W-201).
 pub enum Input {
     Table,
     Plan,
     Goal,
     Lent,
+    Text,
 }
 
 // What a refusal returns: its reason, by which it has 01's number, the input that it concerns, and a place.
@@ -60,6 +64,9 @@ pub fn number_of(reason: Reason) -> usize
         Reason::Label => 14,
         Reason::Rows => 15,
         Reason::Room => 16,
+        Reason::Bytes => 17,
+        Reason::Text => 18,
+        Reason::Other => 19,
     }
 }
 
@@ -72,5 +79,6 @@ pub fn input_of(input: Input) -> usize
         Input::Plan => 2,
         Input::Goal => 3,
         Input::Lent => 4,
+        Input::Text => 5,
     }
 }
