@@ -1,0 +1,10 @@
+pub mod Complete
+pub mod Sound
+pub mod Viable
+pub mod Accepted
+pub mod Fixed
+pub mod SameLaws
+pub mod LongLaws
+pub mod HeldLaws
+pub mod NumberLaws
+pub mod Examples
