@@ -1,0 +1,5 @@
+pub mod ByteLaws
+pub mod TurnLaws
+pub mod FactLaws
+pub mod NameLaws
+pub mod Fixed

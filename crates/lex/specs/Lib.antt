@@ -1,0 +1,4 @@
+pub mod Turns
+pub mod Heads
+pub mod Names
+pub mod code
