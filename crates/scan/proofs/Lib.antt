@@ -1,0 +1,4 @@
+pub mod MoveLaws
+pub mod FactLaws
+pub mod CountLaws
+pub mod Fixed
