@@ -1,0 +1,5 @@
+pub mod ItemLaws
+pub mod CountLaws
+pub mod KeepLaws
+pub mod Fixed
+pub mod WideLaws
