@@ -1,0 +1,221 @@
+use Prim.Native.Nat.{ℕ, _+_, _-_, _≤_, _<_}
+use mathlib.Core.Path.{_≡_, sym, ap, _∙_}
+use mathlib.Core.List.{List}
+use native.Mathlib.Omega.{arith}
+use borrow.Author.Needs.{needs}
+use lib.ListN.{length}
+use Rattle.loading.specs.code.Items.{Item}
+use Rattle.symbols.specs.Left.{Left}
+use Rattle.symbols.proofs.LeftLaws.{spot, turn-is, name-ahead, open-ahead, variable-ahead, number-ahead, comma-on, close-on, row-ahead, stop-ahead}
+use Rattle.symbols.proofs.next_item.Statement.{statement}
+use Rattle.symbols.proofs.next_item.Tie as tie
+use Rattle.symbols.proofs.next_item.Reads as reads
+use Rattle.symbols.proofs.next_item.Lts as lts
+use Rattle.lex.proofs.turn.next_turn.Reads as next-turn-reads
+use Rattle.symbols.proofs.row_ahead.Reads as row-ahead-reads
+
+abbrev Inv-loop : tie.InvT-loop
+Inv-loop text at₀ past₀ depth₀ at past depth = (depth ≤ length text) × (at₀ ≤ at) × ((rest : List Item) → Left text (spot at₀ past₀ depth₀) rest → Left text (spot at past depth) rest)
+
+abbrev μ-loop : tie.MeasureT-loop
+μ-loop text at₀ past₀ depth₀ at past depth = length text - at
+
+-- src/lib.rt:80:9
+returns : tie.Need-returns Inv-loop μ-loop
+returns c = λ rest L. absurd (omega (arith, L .few, L .within, c .if1 .taken))
+
+-- src/lib.rt:82:5
+loop-holds : tie.Need-loop-holds Inv-loop μ-loop
+loop-holds c = (omega arith, omega arith, λ rest L. L)
+
+-- src/lib.rt:83:15
+next-turn-requires : tie.Need-next-turn-requires Inv-loop μ-loop
+next-turn-requires c κs = search needs
+
+-- src/lib.rt:84:24
+enum-known-s : tie.Need-enum-known-s Inv-loop μ-loop
+enum-known-s c = search needs
+
+-- src/lib.rt:85:17
+returns-2 : tie.Need-returns-2 Inv-loop μ-loop
+returns-2 c =
+    let l = c .before .before .before .before .loop in
+    let st = c .before .before .before .before .before .before .before .args in
+    let x = c .before .s .given in
+    let T = turn-is (st .text .now) (l .at) (l .past) (c .before .before .before .next-turn .ensures) (x .1) in
+    name-ahead (st .text .now) (st .sp) (l .at) (l .past) (l .depth) (l .inv .1) (l .inv .2) (x .0 .0) (x .0 .1 .0) T
+
+-- src/lib.rt:87:24
+enum-known-s-2 : tie.Need-enum-known-s-2 Inv-loop μ-loop
+enum-known-s-2 c = search needs
+
+-- src/lib.rt:88:53
+add-t20 : tie.Need-add-t20 Inv-loop μ-loop
+add-t20 c =
+    let l = c .before .before .before .before .loop in
+    let st = c .before .before .before .before .before .before .before .args in
+    let x = c .before .s2 .given in
+    let T = turn-is (st .text .now) (l .at) (l .past) (c .before .before .before .next-turn .ensures) (x .1) in
+    omega (arith, T .leads .2)
+
+-- src/lib.rt:88:80
+add-t21 : tie.Need-add-t21 Inv-loop μ-loop
+add-t21 c = search needs
+
+-- src/lib.rt:88:17
+returns-3 : tie.Need-returns-3 Inv-loop μ-loop
+returns-3 c =
+    let l = c .before .before .before .before .loop in
+    let st = c .before .before .before .before .before .before .before .args in
+    let x = c .before .s2 .given in
+    let T = turn-is (st .text .now) (l .at) (l .past) (c .before .before .before .next-turn .ensures) (x .1) in
+    open-ahead (st .text .now) (st .sp) (l .at) (l .past) (l .depth) (l .inv .1) (l .inv .2) (x .0 .0) (x .0 .1 .0) T
+
+-- src/lib.rt:90:28
+enum-known-s-3 : tie.Need-enum-known-s-3 Inv-loop μ-loop
+enum-known-s-3 c = search needs
+
+-- src/lib.rt:91:17
+returns-4 : tie.Need-returns-4 Inv-loop μ-loop
+returns-4 c =
+    let l = c .before .before .before .before .loop in
+    let st = c .before .before .before .before .before .before .before .args in
+    let x = c .before .s3 .given in
+    let T = turn-is (st .text .now) (l .at) (l .past) (c .before .before .before .next-turn .ensures) (x .1) in
+    variable-ahead (st .text .now) (st .sp) (l .at) (l .past) (l .depth) (l .inv .1) (l .inv .2) (x .0 .0) (x .0 .1 .0) T
+
+-- src/lib.rt:93:26
+enum-known-v : tie.Need-enum-known-v Inv-loop μ-loop
+enum-known-v c = search needs
+
+-- src/lib.rt:94:17
+returns-5 : tie.Need-returns-5 Inv-loop μ-loop
+returns-5 c =
+    let l = c .before .before .before .before .loop in
+    let st = c .before .before .before .before .before .before .before .args in
+    let x = c .before .v .given in
+    let T = turn-is (st .text .now) (l .at) (l .past) (c .before .before .before .next-turn .ensures) (x .1) in
+    number-ahead (st .text .now) (st .sp) (l .at) (l .past) (l .depth) (l .inv .1) (l .inv .2) (x .0 .0) (x .0 .1 .0) T
+
+-- src/lib.rt:96:25
+enum-known-p : tie.Need-enum-known-p Inv-loop μ-loop
+enum-known-p c = search needs
+
+-- src/lib.rt:97:22
+add-at : tie.Need-add-at Inv-loop μ-loop
+add-at c =
+    let l = c .before .before .before .before .loop in
+    let st = c .before .before .before .before .before .before .before .args in
+    let x = c .before .p .given in
+    let T = turn-is (st .text .now) (l .at) (l .past) (c .before .before .before .next-turn .ensures) (x .1) in
+    record { fits = search needs }
+
+-- src/lib.rt:82:5
+loop-less : tie.Need-loop-less Inv-loop μ-loop
+loop-less c =
+    let l = c .before .before .before .before .loop in
+    let st = c .before .before .before .before .before .before .before .args in
+    let x = c .before .p .given in
+    let T = turn-is (st .text .now) (l .at) (l .past) (c .before .before .before .next-turn .ensures) (x .1) in
+    omega (arith, T .leads .0, T .leads .1)
+
+-- src/lib.rt:82:5
+loop-again : tie.Need-loop-again Inv-loop μ-loop
+loop-again c =
+    let l = c .before .before .before .before .loop in
+    let st = c .before .before .before .before .before .before .before .args in
+    let x = c .before .p .given in
+    let T = turn-is (st .text .now) (l .at) (l .past) (c .before .before .before .next-turn .ensures) (x .1) in
+    (l .inv .0, omega (arith, l .inv .1, T .leads .0), comma-on (st .text .now) (st .sp) (l .at) (l .past) (l .depth) (l .inv .1) (l .inv .2) (x .0 .0) T)
+
+-- src/lib.rt:100:25
+enum-known-p-2 : tie.Need-enum-known-p-2 Inv-loop μ-loop
+enum-known-p-2 c = search needs
+
+-- src/lib.rt:101:22
+add-at-2 : tie.Need-add-at-2 Inv-loop μ-loop
+add-at-2 c =
+    let l = c .before .before .before .before .loop in
+    let st = c .before .before .before .before .before .before .before .args in
+    let x = c .before .p2 .given in
+    let T = turn-is (st .text .now) (l .at) (l .past) (c .before .before .before .next-turn .ensures) (x .1) in
+    record { fits = search needs }
+
+-- src/lib.rt:103:21
+row-ahead-requires : tie.Need-row-ahead-requires Inv-loop μ-loop
+row-ahead-requires c κs = search needs
+
+-- src/lib.rt:103:21
+returns-6 : tie.Need-returns-6 Inv-loop μ-loop
+returns-6 c =
+    let l = c .before .before .before .before .before .before .loop in
+    let st = c .before .before .before .before .before .before .before .before .before .args in
+    let x = c .before .before .before .p2 .given in
+    let T = turn-is (st .text .now) (l .at) (l .past) (c .before .before .before .before .before .next-turn .ensures) (x .1) in
+    row-ahead (st .text .now) (st .sp) (l .at) (l .past) (l .depth) (l .inv .1) (l .inv .2) (x .0 .0) T (c .before .if2 .taken) (c .row-ahead .result) (c .row-ahead .ensures)
+
+-- src/lib.rt:106:17
+sub-depth : tie.Need-sub-depth Inv-loop μ-loop
+sub-depth c = search needs
+
+-- src/lib.rt:82:5
+loop-less-2 : tie.Need-loop-less-2 Inv-loop μ-loop
+loop-less-2 c =
+    let l = c .before .before .before .before .before .loop in
+    let st = c .before .before .before .before .before .before .before .before .args in
+    let x = c .before .before .p2 .given in
+    let T = turn-is (st .text .now) (l .at) (l .past) (c .before .before .before .before .next-turn .ensures) (x .1) in
+    omega (arith, T .leads .0, T .leads .1)
+
+-- src/lib.rt:82:5
+loop-again-2 : tie.Need-loop-again-2 Inv-loop μ-loop
+loop-again-2 c =
+    let l = c .before .before .before .before .before .loop in
+    let st = c .before .before .before .before .before .before .before .before .args in
+    let x = c .before .before .p2 .given in
+    let T = turn-is (st .text .now) (l .at) (l .past) (c .before .before .before .before .next-turn .ensures) (x .1) in
+    (omega (arith, l .inv .0), omega (arith, l .inv .1, T .leads .0), close-on (st .text .now) (st .sp) (l .at) (l .past) (l .depth) (l .inv .1) (l .inv .2) (x .0 .0) T (c .if2 .left))
+
+-- src/lib.rt:109:17
+enum-told : tie.Need-enum-told Inv-loop μ-loop
+enum-told c = search needs
+
+-- src/lib.rt:109:17
+returns-7 : tie.Need-returns-7 Inv-loop μ-loop
+returns-7 c =
+    let l = c .before .before .before .loop in
+    let st = c .before .before .before .before .before .before .args in
+    stop-ahead (st .text .now) (st .sp) (l .at) (l .past) (l .depth) (l .inv .1) (l .inv .2) (c .enum-told .given .0 .0) (turn-is (st .text .now) (l .at) (l .past) (c .before .before .next-turn .ensures) (c .enum-told .given .1))
+
+pub next-item-spec : {M : Type 1} → statement M
+next-item-spec =
+    tie.close
+    (tie.spec
+    Inv-loop
+    μ-loop
+    returns
+    loop-holds
+    next-turn-requires
+    enum-known-s
+    returns-2
+    enum-known-s-2
+    add-t20
+    add-t21
+    returns-3
+    enum-known-s-3
+    returns-4
+    enum-known-v
+    returns-5
+    enum-known-p
+    add-at
+    loop-less
+    loop-again
+    enum-known-p-2
+    add-at-2
+    row-ahead-requires
+    returns-6
+    sub-depth
+    loop-less-2
+    loop-again-2
+    enum-told
+    returns-7)

@@ -1,0 +1,36 @@
+use mathlib.Core.Path.{refl}
+use borrow.Author.Needs.{needs}
+use Rattle.symbols.proofs.LeftLaws.{row-end-is}
+use Rattle.symbols.proofs.row_ahead.Statement.{statement}
+use Rattle.symbols.proofs.row_ahead.Tie as tie
+use Rattle.symbols.proofs.row_ahead.Reads as reads
+use Rattle.symbols.proofs.row_ahead.Lts as lts
+use Rattle.symbols.proofs.row_end.Reads as row-end-reads
+
+-- src/lib.rt:64:11
+row-end-requires : tie.Need-row-end-requires
+row-end-requires c κs = search needs
+
+-- src/lib.rt:65:22
+enum-known-q : tie.Need-enum-known-q
+enum-known-q c = search needs
+
+-- src/lib.rt:70:25
+enum-told : tie.Need-enum-told
+enum-told c = search needs
+
+-- src/lib.rt:61:1
+returns : tie.Need-returns
+returns c =
+    let st = c .before .before .before .before .before .args in
+    let x = c .before .q .given in
+    (row-end-is (st .text .now) (st .at) (c .before .before .before .row-end .ensures) (x .1), refl)
+
+-- src/lib.rt:61:1
+returns-2 : tie.Need-returns-2
+returns-2 c =
+    let st = c .before .before .before .before .args in
+    row-end-is (st .text .now) (st .at) (c .before .before .row-end .ensures) (c .enum-told .given .1)
+
+pub row-ahead-spec : {M : Type 1} → statement M
+row-ahead-spec = tie.close (tie.spec row-end-requires enum-known-q enum-told returns returns-2)

@@ -1,0 +1,102 @@
+use mathlib.Core.Bool.{false}
+use native.Mathlib.Omega.{arith}
+use Rattle.symbols.proofs.LeftLaws.{end-is, head-is, next-row-is, last-row-is, stopped-head, stopped-end}
+use borrow.Author.Needs.{needs}
+use Rattle.symbols.proofs.row_end.Statement.{statement}
+use Rattle.symbols.proofs.row_end.Tie as tie
+use Rattle.symbols.proofs.row_end.Reads as reads
+use Rattle.symbols.proofs.row_end.Lts as lts
+use Rattle.lex.proofs.fact.fact_end.Reads as fact-end-reads
+use Rattle.lex.proofs.fact.next_fact.Reads as next-fact-reads
+
+-- src/lib.rt:24:11
+fact-end-requires : tie.Need-fact-end-requires
+fact-end-requires c κs = search needs
+
+-- src/lib.rt:25:23
+enum-known-q : tie.Need-enum-known-q
+enum-known-q c = search needs
+
+-- src/lib.rt:25:35
+next-fact-requires : tie.Need-next-fact-requires
+next-fact-requires c κs = search needs
+
+-- src/lib.rt:26:27
+enum-known-e : tie.Need-enum-known-e
+enum-known-e c = search needs
+
+-- src/lib.rt:26:46
+add-t9 : tie.Need-add-t9
+add-t9 c =
+    let st = c .before .before .before .before .before .before .before .before .before .args in
+    let q = c .before .before .before .before .before .q .given in
+    let C = end-is (st .text .now) (st .at) (c .before .before .before .before .before .before .before .fact-end .ensures) (q .1) in
+    let x = c .before .e .given in
+    let H = head-is (st .text .now) (q .0 .0) false (c .before .before .before .next-fact .ensures) (x .1) in
+    record { fits = search needs }
+
+-- src/lib.rt:27:26
+enum-told : tie.Need-enum-told
+enum-told c = search needs
+
+-- src/lib.rt:28:30
+enum-told-2 : tie.Need-enum-told-2
+enum-told-2 c = search needs
+
+-- src/lib.rt:30:29
+enum-told-3 : tie.Need-enum-told-3
+enum-told-3 c = search needs
+
+-- src/lib.rt:21:1
+returns : tie.Need-returns
+returns c =
+    let st = c .before .before .before .before .before .before .before .before .before .args in
+    let q = c .before .before .before .before .before .q .given in
+    let C = end-is (st .text .now) (st .at) (c .before .before .before .before .before .before .before .fact-end .ensures) (q .1) in
+    let x = c .before .e .given in
+    let H = head-is (st .text .now) (q .0 .0) false (c .before .before .before .next-fact .ensures) (x .1) in
+    next-row-is (st .text .now) (st .at) (q .0 .0) C (x .0 .0) (x .0 .1 .0) H
+
+-- src/lib.rt:21:1
+returns-2 : tie.Need-returns-2
+returns-2 c =
+    let st = c .before .before .before .before .before .before .before .before .args in
+    let q = c .before .before .before .before .q .given in
+    let C = end-is (st .text .now) (st .at) (c .before .before .before .before .before .before .fact-end .ensures) (q .1) in
+    let x = c .enum-told .given in
+    let H = head-is (st .text .now) (q .0 .0) false (c .before .before .next-fact .ensures) (x .1) in
+    last-row-is (st .text .now) (st .at) (q .0 .0) C H
+
+-- src/lib.rt:21:1
+returns-3 : tie.Need-returns-3
+returns-3 c =
+    let st = c .before .before .before .before .before .before .before .before .args in
+    let q = c .before .before .before .before .q .given in
+    let C = end-is (st .text .now) (st .at) (c .before .before .before .before .before .before .fact-end .ensures) (q .1) in
+    let x = c .enum-told2 .given in
+    let H = head-is (st .text .now) (q .0 .0) false (c .before .before .next-fact .ensures) (x .1) in
+    stopped-head (st .text .now) (st .at) (q .0 .0) C (x .0 .0) H
+
+-- src/lib.rt:21:1
+returns-4 : tie.Need-returns-4
+returns-4 c =
+    let st = c .before .before .before .before .args in
+    let x = c .enum-told3 .given in
+    stopped-end (st .text .now) (st .at) (x .0 .0) (end-is (st .text .now) (st .at) (c .before .before .fact-end .ensures) (x .1))
+
+pub row-end-spec : {M : Type 1} → statement M
+row-end-spec =
+    tie.close
+    (tie.spec
+    fact-end-requires
+    enum-known-q
+    next-fact-requires
+    enum-known-e
+    add-t9
+    enum-told
+    enum-told-2
+    enum-told-3
+    returns
+    returns-2
+    returns-3
+    returns-4)
