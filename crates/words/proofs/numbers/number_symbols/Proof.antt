@@ -1,0 +1,115 @@
+use Rattle.words.proofs.NumberLaws.{numbers-text}
+use Rattle.words.proofs.TreeLaws.{no-words, zero-at, empty-tree}
+use lib.ListN.{length, replicate}
+use Prim.Native.Nat.{_≤_}
+use mathlib.Core.Path.{refl}
+use native.Mathlib.Omega.{arith}
+use borrow.Author.Needs.{needs}
+use Rattle.words.proofs.numbers.number_symbols.Statement.{statement}
+use Rattle.words.proofs.numbers.number_symbols.Tie as tie
+use Rattle.words.proofs.numbers.number_symbols.Reads as reads
+use Rattle.words.proofs.numbers.number_symbols.Lts as lts
+use Rattle.symbols.proofs.begin.Reads as begin-reads
+use Rattle.words.proofs.numbers.number_all.Reads as number-all-reads
+
+-- src/numbers.rt:137:9
+returns : tie.Need-returns
+returns c =
+    let a = c .before .before .before .before .args in
+    record {
+      few = omega arith;
+      text = λ facts h k l e few. (
+          let k′ : length (a .list .now) ≤ 2048 = k in
+          let l′ : length (a .numbers .now) ≤ length (a .list .now) = l in
+          absurd (omega arith));
+    }
+
+-- src/numbers.rt:140:9
+returns-2 : tie.Need-returns-2
+returns-2 c =
+    let a = c .before .before .before .before .before .args in
+    record {
+      few = omega arith;
+      text = λ facts h k l e few. (
+          let k′ : length (a .list .now) ≤ 2048 = k in
+          let l′ : length (a .numbers .now) ≤ length (a .list .now) = l in
+          absurd (omega arith));
+    }
+
+-- src/numbers.rt:143:9
+returns-3 : tie.Need-returns-3
+returns-3 c =
+    let a = c .before .before .before .before .before .before .args in
+    record {
+      few = omega arith;
+      text = λ facts h k l e few. (
+          let k′ : length (a .list .now) ≤ 2048 = k in
+          let l′ : length (a .numbers .now) ≤ length (a .list .now) = l in
+          absurd (omega arith));
+    }
+
+-- src/numbers.rt:149:9
+begin-requires : tie.Need-begin-requires
+begin-requires c κs = search needs
+
+-- src/numbers.rt:151:27
+slice-aggregate-number-all : tie.Need-slice-aggregate-number-all
+slice-aggregate-number-all c = search needs
+
+-- src/numbers.rt:151:39
+slice-aggregate-number-all-2 : tie.Need-slice-aggregate-number-all-2
+slice-aggregate-number-all-2 c = search needs
+
+-- src/numbers.rt:151:51
+slice-aggregate-number-all-3 : tie.Need-slice-aggregate-number-all-3
+slice-aggregate-number-all-3 c = search needs
+
+-- src/numbers.rt:151:62
+slice-aggregate-number-all-4 : tie.Need-slice-aggregate-number-all-4
+slice-aggregate-number-all-4 c = search needs
+
+-- src/numbers.rt:150:5
+number-all-requires : tie.Need-number-all-requires
+number-all-requires c κs =
+    let a = c .before .before .before .before .before .before .before .before .before .before .before .before .before .args in
+    let t = a .text .now in
+    record {
+      text = search needs;
+      names = no-words t (a .list .now) (replicate 4097 0) (omega arith) (zero-at 4097);
+      vars = empty-tree t 2048 4097 (omega arith);
+      size = refl;
+      room = (omega arith, omega arith);
+      few = (omega arith, omega arith);
+    }
+
+-- src/numbers.rt:133:1
+same-length : tie.Need-same-length
+same-length c = search needs
+
+-- src/numbers.rt:133:1
+same-length-2 : tie.Need-same-length-2
+same-length-2 c = search needs
+
+-- src/numbers.rt:133:1
+returns-4 : tie.Need-returns-4
+returns-4 c =
+    let a = c .before .before .before .before .before .before .before .before .before .before .before .before .before .before .before .before .before .before .before .before .before .before .args in
+    let n = c .before .before .before .before .before .before .before .before .number-all in
+    numbers-text (a .text .now) _ (n .last .1 .1 .0) (n .last .1 .1 .1 .1 .1 .1 .1 .0) (a .numbers .now) (n .result) (c .before .before .before .before .before .before .before .before .before .before .before .before .before .before .before .begin .ensures) (n .ensures)
+
+pub number-symbols-spec : {M : Type 1} → statement M
+number-symbols-spec =
+    tie.close
+    (tie.spec
+    returns
+    returns-2
+    returns-3
+    begin-requires
+    slice-aggregate-number-all
+    slice-aggregate-number-all-2
+    slice-aggregate-number-all-3
+    slice-aggregate-number-all-4
+    number-all-requires
+    same-length
+    same-length-2
+    returns-4)

@@ -1,0 +1,4 @@
+-- what only private functions need
+pub mod Tree
+pub mod Names
+pub mod Numbers

@@ -1,0 +1,92 @@
+-- The numbers of a text's symbols as the code has them (src/numbers.rt): the variables of the row under way, and what is numbered so far. These definitions
+-- describe the code's own state.
+use Prim.Native.Nat.{ℕ, _+_, _-_, _*_, _^_, _≤_, _<_}
+use mathlib.Core.Path.{_≡_}
+use mathlib.Core.Bool.{Bool, true, false}
+use mathlib.Core.List.{List, [], _∷_, map}
+use lib.ListN.{length, getD, take}
+use lib.Seq.{sets}
+use Rattle.grammar.specs.Grammar.{Fact}
+use Rattle.grammar.specs.code.Reader.{reads, textOf}
+use Rattle.grammar.specs.Meaning.{Place, place, bytesOf, same, position, symbolsOf, namesOf, variableNumber, variablesWith, nameList}
+use Rattle.loading.specs.code.Items.{Item, itemsOf, symbolsAmong, namesMet, numbering}
+use Rattle.symbols.specs.Left.{Left}
+use Rattle.symbols.specs.declared.Spot.{Spot}
+use Rattle.words.specs.code.Tree.{wordOf, listed, Tree}
+use Rattle.words.specs.code.Names.{Shown}
+use Rattle.words.specs.declared.numbers.Row.{Row}
+use Rattle.words.specs.declared.numbers.Numbered.{Numbered}
+
+-- `_` is 95: a variable that is fresh each time
+abbrev pub isFresh : List ℕ → Bool
+isFresh w = same w (95 ∷ [])
+
+-- the variables of a row: those with a name are listed, and have the number that they were given; `_` is counted only
+pub record RowVars (t words ways given : List ℕ) (row : Row) : Type 0 where
+  pub places : List Place
+  pub all : length places ≡ row .all
+  pub few : row .named ≤ row .all
+  pub tree : Tree t words ways (row .named)
+  pub size : length given ≡ length words
+  pub found : (j : ℕ) → j < row .named → (position t (wordOf t (getD words j 0)) places ≡ getD given j 0) × (getD given j 0 < row .all)
+  pub missing : (w : List ℕ) → ((j : ℕ) → j < row .named → wordOf t (getD words j 0) ≡ w → ⊥) → isFresh w ≡ false → position t w places ≡ length places
+
+-- one variable more
+pub record VariableIs (t : List ℕ) (places : List Place) (w : Place) (words ways given : List ℕ) (r : Numbered) : Type 0 where
+  pub vars : RowVars t words ways given (r .row)
+  pub with′ : vars .places ≡ variablesWith t places w
+  pub number : r .number ≡ variableNumber t places w
+  pub low : r .number < r .row .all
+
+-- what a name is listed as
+abbrev pub entry : Place → ℕ
+entry w = listed (w .start) (w .end)
+
+-- so much is left of what was left once, with these names and variables met and so many symbols numbered
+pub record Numbers (t : List ℕ) (ns vs : List Place) (sp : Spot) (k : ℕ) (out out₀ : List ℕ) (rest₀ : List Item) : Type 0 where
+  pub rest : List Item
+  pub left : Left t sp rest
+  pub names : namesMet t ns rest ≡ namesMet t [] rest₀
+  pub numbers : sets out k (numbering t ns vs rest) ≡ sets out₀ 0 (numbering t [] [] rest₀)
+  pub among : k + symbolsAmong rest ≡ symbolsAmong rest₀
+
+pub record Numbering (t : List ℕ) (from : Spot) (list links words ways given : List ℕ) (row : Row) (count k : ℕ) (to : Spot) (out out₀ : List ℕ) : Type 0 where
+  pub names : List Place
+  pub number : length names ≡ count
+  pub shown : Shown t list links names
+  pub entries : take count list ≡ map entry names
+  pub vars : RowVars t words ways given row
+  pub few : (count ≤ k) × (row .all ≤ k)
+  pub still : (rest : List Item) → Left t from rest → Numbers t names (vars .places) to k out out₀ rest
+
+-- before the first symbol: nothing is listed yet, and there is room
+pub record NumbersReady (t list links words ways given out : List ℕ) : Type 0 where
+  pub text : length t ≤ 65535
+  pub names : Tree t list links 0
+  pub vars : Tree t words ways 0
+  pub size : length given ≡ length words
+  pub room : (length out ≤ length list) × (length out ≤ length words)
+  pub few : (length list < 65535) × (length words < 65535)
+
+-- so many symbols from a place on are numbered, where there are so few, and the names are listed
+pub record NumbersOf (t : List ℕ) (rest : List Item) (list out out₀ : List ℕ) (r : ℕ) : Type 0 where
+  pub names : List Place
+  pub met : names ≡ namesMet t [] rest
+  pub count : length names ≡ r
+  pub entries : take r list ≡ map entry names
+  pub numbers : out ≡ sets out₀ 0 (numbering t [] [] rest)
+
+pub record NumbersFrom (t : List ℕ) (from : Spot) (list out out₀ : List ℕ) (r : ℕ) : Type 0 where
+  pub few : r ≤ length out₀
+  pub numbers : (rest : List Item) → symbolsAmong rest ≤ length out₀ → Left t from rest → NumbersOf t rest list out out₀ r
+
+-- the numbers of all the symbols of an accepted text that has so few, and its list of names
+pub record TextNumbers (t : List ℕ) (facts : List Fact) (list out out₀ : List ℕ) (r : ℕ) : Type 0 where
+  pub count : r ≡ length (namesOf t facts)
+  pub names : take r list ≡ nameList t facts
+  pub numbers : out ≡ sets out₀ 0 (numbering t [] [] (itemsOf facts))
+
+pub record NumbersIs (t list out out₀ : List ℕ) (r : ℕ) : Type 0 where
+  pub few : r ≤ length out₀
+  pub text : (facts : List Fact) → length t ≤ 65535 → length list ≤ 2048 → length out₀ ≤ length list → textOf t ≡ reads facts → length (symbolsOf facts) ≤ length out₀
+      → TextNumbers t facts list out out₀ r
