@@ -1,0 +1,3 @@
+pub mod MakeLaws
+pub mod CellLaws
+pub mod EntryLaws

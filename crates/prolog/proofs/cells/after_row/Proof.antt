@@ -1,0 +1,45 @@
+use Rattle.prolog.specs.code.Cells.{RowMade}
+use Rattle.symbols.proofs.LeftLaws.{row-end-is}
+use native.Mathlib.Omega.{arith}
+use mathlib.Core.Path.{_≡_, refl, sym, ap, subst, _∙_}
+use Prim.Native.Nat.{ℕ, _+_, _-_, _≤_, _<_}
+use borrow.Author.Needs.{needs}
+use Rattle.prolog.proofs.cells.after_row.Statement.{statement}
+use Rattle.prolog.proofs.cells.after_row.Tie as tie
+use Rattle.prolog.proofs.cells.after_row.Reads as reads
+use Rattle.prolog.proofs.cells.after_row.Lts as lts
+use Rattle.prolog.proofs.cells.go.Reads as go-reads
+use Rattle.symbols.proofs.row_end.Reads as row-end-reads
+
+-- src/cells.rt:73:11
+row-end-requires : tie.Need-row-end-requires
+row-end-requires c κs = search needs
+
+-- src/cells.rt:74:22
+enum-known-q : tie.Need-enum-known-q
+enum-known-q c = search needs
+
+-- src/cells.rt:74:28
+go-requires : tie.Need-go-requires
+go-requires c κs = search needs
+
+-- src/cells.rt:75:25
+enum-told : tie.Need-enum-told
+enum-told c = search needs
+
+-- src/cells.rt:70:1
+returns : tie.Need-returns
+returns c =
+    let a = c .before .before .before .before .before .before .args in
+    let x = c .before .before .q .given in
+    subst (RowMade (a .text .now) (a .at) (a .count)) (sym (c .go .ensures)) (row-end-is (a .text .now) (a .at) (c .before .before .before .before .row-end .ensures) (x .1), refl)
+
+-- src/cells.rt:70:1
+returns-2 : tie.Need-returns-2
+returns-2 c =
+    let a = c .before .before .before .before .args in
+    (row-end-is (a .text .now) (a .at) (c .before .before .row-end .ensures) (c .enum-told .given .1), refl)
+
+pub after-row-spec : {M : Type 1} → statement M
+after-row-spec =
+    tie.close (tie.spec row-end-requires enum-known-q go-requires enum-told returns returns-2)
