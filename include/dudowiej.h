@@ -1,4 +1,5 @@
-/* The rule tables as a C library: reading tables and goals, the least plan, the check of any plan, the run of a plan on a goal.
+/* The rule tables as a C library: tables from Prolog text, reading tables and goals, the least plan, the check of any plan, the run of a
+ * plan on a goal.
  *
  * Link target/staticlib/libexports.a, which `rt staticlib exports` writes (x86-64).
  *
@@ -27,7 +28,9 @@ enum {
     DUDOWIEJ_ROW_CELLS = 32,
     DUDOWIEJ_GOAL_CELLS = 32,
     DUDOWIEJ_TABLE_CELLS = 2050,
-    DUDOWIEJ_PLAN_CELLS = 6082
+    DUDOWIEJ_PLAN_CELLS = 6082,
+    DUDOWIEJ_TEXT_BYTES = 65535,
+    DUDOWIEJ_NAMES = 2048
 };
 
 /* Why an input is refused. */
@@ -47,11 +50,14 @@ enum dudowiej_refusal {
     DUDOWIEJ_REFUSED_EDGES = 13, /* a branch count that is not the number of runs: that cell */
     DUDOWIEJ_REFUSED_LABEL = 14, /* a branch cell that is not the run's symbol: that cell */
     DUDOWIEJ_REFUSED_ROWS = 15,  /* a leaf cell that is not its number of rows: that cell */
-    DUDOWIEJ_REFUSED_ROOM = 16   /* the lent room is too small: cells or bytes needed */
+    DUDOWIEJ_REFUSED_ROOM = 16,  /* the lent room is too small: cells or bytes needed */
+    DUDOWIEJ_REFUSED_BYTES = 17, /* text over 65,535 bytes: place 0 */
+    DUDOWIEJ_REFUSED_TEXT = 18,  /* no text goes on so: that byte, or the number of bytes */
+    DUDOWIEJ_REFUSED_OTHER = 19  /* a fact of another predicate or width than the first: the first byte of its name */
 };
 
 /* Which input a refusal concerns. */
-enum dudowiej_input { DUDOWIEJ_TABLE = 1, DUDOWIEJ_PLAN = 2, DUDOWIEJ_GOAL = 3, DUDOWIEJ_ROOM = 4 };
+enum dudowiej_input { DUDOWIEJ_TABLE = 1, DUDOWIEJ_PLAN = 2, DUDOWIEJ_GOAL = 3, DUDOWIEJ_ROOM = 4, DUDOWIEJ_TEXT = 5 };
 
 /* Reads a table. First: its width. Second: its rows. */
 uint64_t dudowiej_read_table(const uint32_t *table, size_t table_cells);
@@ -74,6 +80,14 @@ uint64_t dudowiej_build_plan(const uint32_t *table, size_t table_cells, uint32_t
  * untouched. The room has a byte for every row of the table. First: the rows written. Second: the branches tried. */
 uint64_t dudowiej_run_plan(const uint32_t *table, size_t table_cells, const uint32_t *plan, size_t plan_cells, const uint32_t *goal,
                            size_t goal_cells, uint8_t *room, size_t room_bytes);
+
+/* Makes a table of a text of Prolog facts. Its cells are written to the front of one room; the list of its names to the front of the
+ * other: for each name, in the order of their numbers, where it first stands in the text, its start in bits 15 to 0 and its bytes in bits
+ * 31 to 16. The rest of both rooms is untouched. First: the cells. Second: the names. Refused in this order: the text; the room for the
+ * cells, the place being the cells needed, then that for the names likewise (both DUDOWIEJ_ROOM: the place is above the cells lent exactly
+ * where it is the first); then the table, with places in its cells. Rooms of DUDOWIEJ_TABLE_CELLS cells and DUDOWIEJ_NAMES names are
+ * enough for every table. */
+uint64_t dudowiej_read_text(const uint8_t *text, size_t text_bytes, uint32_t *cells, size_t cells_room, uint32_t *names, size_t names_room);
 
 /* An answer taken apart. Bits 0 to 7 are 0 exactly where it is no refusal:
  *   answered:  2^16 * first + 2^32 * second           first < 2^16, second < 2^32

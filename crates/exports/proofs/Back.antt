@@ -10,8 +10,8 @@ use Rattle.plan.specs.Check.{planOf}
 use Rattle.checker.specs.Checked.{planSays}
 use Rattle.builder.specs.Build.{buildTold}
 use Rattle.answer.specs.Run.{runTold}
-use Rattle.exports.specs.Coded.{rowSays, BuildCoded, RunCoded}
-use Rattle.exports.proofs.Small.{table-small, goal-with-small, row-small, plan-small, build-small, run-small}
+use Rattle.exports.specs.Coded.{rowSays, BuildCoded, RunCoded, TextCoded}
+use Rattle.exports.proofs.Small.{table-small, goal-with-small, row-small, plan-small, build-small, run-small, text-small}
 
 pub table-back : (t : List ℕ) {n : ℕ} → n ≡ coded (tableSays (tableOf t)) → decoded n ≡ tableSays (tableOf t)
 table-back t = read-back (table-small t)
@@ -30,3 +30,6 @@ build-back x = read-back (build-small (x .built)) (x .code)
 
 pub run-back : {t p g room room′ : List ℕ} {n : ℕ} (x : RunCoded t p g room room′ n) → decoded n ≡ runTold (x .answer)
 run-back x = read-back (run-small (x .ran)) (x .code)
+
+pub text-back : {t cells names cells′ names′ : List ℕ} {n : ℕ} (x : TextCoded t cells names cells′ names′ n) → decoded n ≡ x .answer
+text-back x = read-back (text-small (x .loaded)) (x .code)

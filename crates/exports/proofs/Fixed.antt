@@ -9,8 +9,9 @@ use Rattle.builder.proofs.Fixed.{build-fixed}
 use Rattle.answer.specs.Run.{runTold}
 use Rattle.answer.specs.declared.RunAnswer.{RunAnswer}
 use Rattle.answer.proofs.Fixed.{run-fixed}
+use Rattle.loading.proofs.Fixed.{text-fixed}
 use Rattle.refusal.specs.Coded.{coded}
-use Rattle.exports.specs.Coded.{BuildCoded, RunCoded}
+use Rattle.exports.specs.Coded.{BuildCoded, RunCoded, TextCoded}
 
 pub build-coded-fixed : {t room room′ room″ : List ℕ} {m n : ℕ} → BuildCoded t room room′ m → BuildCoded t room room″ n
     → (m ≡ n) × (room′ ≡ room″)
@@ -23,3 +24,9 @@ pub run-coded-fixed : {t p g room room′ room″ : List ℕ} {m n : ℕ} → Ru
 run-coded-fixed a b =
     let f = run-fixed (a .ran) (b .ran) in
     (a .code ∙ ap (λ (x : RunAnswer). coded (runTold x)) (f .0) ∙ sym (b .code), f .1)
+
+pub text-coded-fixed : {t cells names cells′ names′ cells″ names″ : List ℕ} {m n : ℕ} → TextCoded t cells names cells′ names′ m
+    → TextCoded t cells names cells″ names″ n → (m ≡ n) × (cells′ ≡ cells″) × (names′ ≡ names″)
+text-coded-fixed a b =
+    let f = text-fixed (a .loaded) (b .loaded) in
+    (a .code ∙ ap coded (f .0) ∙ sym (b .code), f .1, f .2)

@@ -1,7 +1,7 @@
 -- Every answer of every entry fits the number that it is coded as.
 use mathlib.Core.Path.{_≡_, refl, ap, _∙_}
 use mathlib.Core.List.{List, [], _∷_, _++_, flatten}
-use Prim.Native.Nat.{ℕ, zero, suc, _+_, _-_, _≤_}
+use Prim.Native.Nat.{ℕ, zero, suc, _+_, _-_, _^_, _≤_, _<_}
 use native.Mathlib.Omega.{arith}
 use mathlib.Core.Bool.{_||_}
 use lib.Dec.{ltb}
@@ -10,7 +10,8 @@ use Rattle.term.proofs.Lists.{getD-zeros}
 use Rattle.refusal.specs.Coded.{Small}
 use Rattle.refusal.specs.declared.Reason.the-variants as reason
 use Rattle.refusal.specs.declared.Input.the-variants as input
-use Rattle.refusal.proofs.CodedLaws.{refused-small}
+use Rattle.refusal.specs.Refusal.{Refused, Answer, turned}
+use Rattle.refusal.proofs.CodedLaws.{refused-small, small-by}
 use Rattle.refusal.specs.Read.{Read, read, refuse, andThen}
 use Rattle.table.specs.Table.{Table, tableOf, tableSays, goalOf, goalSays, goalWith, rowIn, startsIn, starts, Row}
 use Rattle.table.specs.All.{All}
@@ -29,6 +30,13 @@ use Rattle.answer.specs.Skeleton.{hole}
 use Rattle.answer.specs.Run.{Picks, none, hit, miss, runTold, Ran, refusal, ran}
 use Rattle.answer.proofs.TakesLaws.{run-takes}
 use Rattle.answer.proofs.Theorems.{tried-most}
+use Rattle.grammar.specs.Grammar.{Fact}
+use Rattle.grammar.specs.Stops.{Stops, at-byte, at-end}
+use Rattle.grammar.specs.Meaning.{symbolsOf, tableCells, nameList}
+use Rattle.grammar.specs.Taken.{Taken, too-long, no-text, other-fact, taken}
+use Rattle.grammar.proofs.LongLaws.{text-long, other-place, names-few}
+use Rattle.loading.specs.Load.{Loaded, Loads, not-taken, no-cells, no-names, no-table, loads, loadSays, TextLoads}
+use Rattle.prolog.proofs.EntryLaws.{cells-long, names-long}
 use Rattle.exports.proofs.Places.{placed-small, placed-table, placed-plan, placed-run, placed-goal}
 
 pub table-small : (t : List ℕ) → Small (tableSays (tableOf t))
@@ -125,3 +133,30 @@ build-small {t} (table-refused f a b c) = rw b (placed-small (omega arith) (plac
 build-small {t} (room-refused T plan a b l c d) =
     rw c (refused-small reason.Room input.Lent (length (write plan)) (omega (arith, plan-cells t T plan a .0)))
 build-small {t} (built T plan a b l h c d) = let n = plan-cells t T plan a in rw c (omega (arith, n .0), omega (arith, n .1))
+
+-- a text has at most 65,535 bytes and 32,766 symbols, and a place in it is at most its end
+stops-small : {t : List ℕ} {k : ℕ} → Stops t k → length t ≤ 65535 → k < 2 ^ 48
+stops-small (at-byte l a b) h = omega arith
+stops-small (at-end a b) h = omega arith
+
+taken-small : {t : List ℕ} {f : Refused} → Taken t (refuse f) → Small (turned f)
+taken-small (too-long h) = refused-small reason.Bytes input.Text 0 (omega arith)
+taken-small (no-text {k = k} h s) = refused-small reason.Text input.Text k (stops-small s h)
+taken-small {t} (other-fact {k = k} h x o) = refused-small reason.Other input.Text k (omega (arith, other-place t x o))
+
+symbols-few : {t : List ℕ} {fs : List Fact} → Taken t (read fs) → length (symbolsOf fs) ≤ 32766
+symbols-few {t} (taken h x o) = omega (arith, text-long t x)
+
+load-small : {t : List ℕ} {c n : ℕ} {o : Read Loaded} → Loads t c n o → Small (loadSays o)
+load-small (not-taken x) = taken-small x
+load-small {t} (no-cells {facts = fs} x l) =
+    refused-small reason.Room input.Lent (length (tableCells t fs)) (omega (arith, symbols-few x, cells-long t fs))
+load-small {t} (no-names {facts = fs} x l m) =
+    refused-small reason.Room input.Lent (length (nameList t fs)) (omega (arith, symbols-few x, names-long t fs, names-few t [] (symbolsOf fs)))
+load-small {t} (no-table {facts = fs} x l m e) = placed-small (omega arith) (placed-table (tableCells t fs)) e
+load-small {t} (loads {facts = fs} x l m e) =
+    let n = names-few t [] (symbolsOf fs) in
+    (omega (arith, symbols-few x, cells-long t fs), omega (arith, symbols-few x, names-long t fs, n))
+
+pub text-small : {t cells names cells′ names′ : List ℕ} {a : Answer} → TextLoads t cells names cells′ names′ a → Small a
+text-small x = small-by (x .told) (load-small (x .rule))

@@ -9,6 +9,7 @@ use Rattle.refusal.specs.Coded.{coded}
 use Rattle.table.specs.Table.{Table, startsIn, rowIn}
 use Rattle.builder.specs.declared.BuildAnswer.{BuildAnswer}
 use Rattle.builder.specs.Build.{BuiltInto, buildTold}
+use Rattle.loading.specs.Load.{TextLoads}
 use Rattle.answer.specs.declared.RunAnswer.{RunAnswer}
 use Rattle.answer.specs.Run.{Ran, runTold}
 
@@ -27,3 +28,9 @@ pub record BuildCoded (cells room after : List ℕ) (number : ℕ) : Type 0 wher
   pub answer : BuildAnswer
   pub built : BuiltInto cells room after answer
   pub code : number ≡ coded (buildTold answer)
+
+-- what the entry for a text answers and leaves in the two rooms
+pub record TextCoded (text cells names cells′ names′ : List ℕ) (number : ℕ) : Type 0 where
+  pub answer : Answer
+  pub loaded : TextLoads text cells names cells′ names′ answer
+  pub code : number ≡ coded answer

@@ -6,9 +6,11 @@ ghost use Rattle.table.specs.Table.{tableTold, goalTold};
 ghost use Rattle.checker.specs.Checked.{planTold};
 ghost use Rattle.builder.specs.Build.{buildTold};
 ghost use Rattle.answer.specs.Run.{runTold};
+ghost use Rattle.prolog.specs.Entry.{textTold};
 use answer::RunAnswer;
 use builder::BuildAnswer;
 use checker::PlanAnswer;
+use prolog::TextAnswer;
 use refusal::Refusal;
 use table::GoalAnswer;
 use table::TableAnswer;
@@ -82,5 +84,15 @@ pub fn code_build(a: BuildAnswer) -> u64
     match a {
         BuildAnswer::Built(cells, cost) => code_answer(cells, cost),
         BuildAnswer::Refused(f) => code_refusal(f),
+    }
+}
+
+pub fn code_text(a: TextAnswer) -> u64
+    requires { ⌜ Small (textTold a) ⌝ }
+    ensures { λ r. ⌜ r ≡ coded (textTold a) ⌝ }
+{
+    match a {
+        TextAnswer::Read(cells, names) => code_answer(cells, names),
+        TextAnswer::Refused(f) => code_refusal(f),
     }
 }

@@ -5,7 +5,7 @@ ghost use Rattle.table.specs.Table.{tableOf, tableSays, goalWith, goalSays};
 ghost use Rattle.plan.specs.Check.{planOf};
 ghost use Rattle.checker.specs.Checked.{planSays};
 ghost use Rattle.refusal.specs.Coded.{coded};
-ghost use Rattle.exports.specs.Coded.{rowSays, BuildCoded, RunCoded};
+ghost use Rattle.exports.specs.Coded.{rowSays, BuildCoded, RunCoded, TextCoded};
 
 mod code;
 
@@ -65,4 +65,13 @@ pub extern "C" fn dudowiej_run_plan(
     ensures { λ r. ⌜ RunCoded (now (cells .entry)) (now (plan .entry)) (now (goal .entry)) (now (room .entry)) (now (room .exit)) r ⌝ }
 {
     code::code_run(run::run_plan(cells, plan, goal, room))
+}
+
+// A table from Prolog text: the number of its cells and of its names. The cells are the first of one room, the list of names is the first
+// of the other.
+#[no_mangle]
+pub extern "C" fn dudowiej_read_text(text: &[u8], cells: &mut [u32], names: &mut [u32]) -> u64
+    ensures { λ r. ⌜ TextCoded (now (text .entry)) (now (cells .entry)) (now (names .entry)) (now (cells .exit)) (now (names .exit)) r ⌝ }
+{
+    code::code_text(prolog::read_text(text, cells, names))
 }

@@ -1,12 +1,14 @@
 -- How long a text is for its symbols: two bytes each. So a text of 65,535 bytes has at most 32,766, and with them the table's cells and the names are bounded.
-use Prim.Native.Nat.{ℕ, _+_, _*_, _≤_}
+use Prim.Native.Nat.{ℕ, suc, _+_, _*_, _≤_}
 use mathlib.Core.Path.{_≡_, refl, ap, _∙_}
-use mathlib.Core.List.{List, [], flatten}
+use mathlib.Core.Bool.{Bool, true, false, cond}
+use mathlib.Core.List.{List, [], _∷_, _++_, flatten}
+use lib.Dec.{ltb}
 use native.Mathlib.Omega.{arith}
 use lib.ListN.{length, length-append}
 use Rattle.grammar.specs.Grammar as G
 use Rattle.grammar.specs.Grammar.{Line, Gap, Word, Digits, Symbol, Term, Args, Fact, OneFact, Facts, Text}
-use Rattle.grammar.specs.Meaning.{symbolsOf}
+use Rattle.grammar.specs.Meaning.{Place, place, bytesOf, position, meet, namesFrom, symbolsOf, none, found, alike, otherThan, otherIn}
 
 -- places and the bytes left go together
 line-place : {p q : ℕ} {xs ys : List ℕ} → Line p xs q ys → p + length xs ≡ q + length ys
@@ -70,3 +72,48 @@ facts-long (G.more {f = f} {fs = fs} o g h r) =
 -- TWO BYTES A SYMBOL
 pub text-long : (t : List ℕ) {fs : List Fact} → Text t fs → 3 + 2 * length (symbolsOf fs) ≤ length t
 text-long t x = omega (arith, facts-long (x .facts), gap-on (x .layout), gap-place (x .layout))
+
+-- OTHER'S PLACE lies in the text: a fact starts where it is read
+fact-start : {p q : ℕ} {xs ys : List ℕ} {f : Fact} → OneFact p xs q ys f → f .start ≡ p
+fact-start (G.one e l as′ g) = refl
+
+other-within : {p : ℕ} {xs : List ℕ} {fs : List Fact} (t : List ℕ) (g : Fact) (k : ℕ) → Facts p xs fs → otherThan t g fs ≡ found k
+    → k ≤ p + length xs
+unfolding otherThan
+other-within {p} {xs} t g k (G.last {f = f} o h) e = go (alike t f g) e
+  where
+    go : (b : Bool) → cond b none (found (f .start)) ≡ found k → k ≤ p + length xs
+    go true q = absurd (let z : _≡_ {A = ℕ} 0 1 = cc in omega arith)
+    go false q = let z : f .start ≡ k = cc in omega (arith, fact-start o)
+other-within {p} {xs} t g k (G.more {r = r} {zs = zs} {f = f} {fs = fs} o h l fs′) e = go (alike t f g) (other-within t g k fs′) e
+  where
+    go : (b : Bool) → (otherThan t g fs ≡ found k → k ≤ r + length zs) → cond b (otherThan t g fs) (found (f .start)) ≡ found k
+        → k ≤ p + length xs
+    go true later q = omega (arith, later q, fact-long o .1, gap-place h)
+    go false later q = let z : f .start ≡ k = cc in omega (arith, fact-start o)
+
+pub other-place : (t : List ℕ) {fs : List Fact} {k : ℕ} → Text t fs → otherIn t fs ≡ found k → k ≤ length t
+unfolding otherIn otherThan
+other-place t {fs} {k} x e = by fs (x .facts) e
+  where
+    by : (gs : List Fact) → Facts (x .at) (x .rest) gs → otherIn t gs ≡ found k → k ≤ length t
+    by [] f q = absurd (let z : _≡_ {A = ℕ} 0 1 = cc in omega arith)
+    by (g ∷ gs) (G.last o h) q = absurd (let z : _≡_ {A = ℕ} 0 1 = cc in omega arith)
+    by (g ∷ gs) (G.more o h l r) q =
+        omega (arith, other-within t g k r q, fact-long o .1, gap-place h, gap-place (x .layout))
+
+-- AT MOST ONE NAME A SYMBOL
+met-few : (t : List ℕ) (ns : List Place) (w : Place) → length (meet t ns w) ≤ suc (length ns)
+unfolding meet
+met-few t ns w = go (ltb (position t (bytesOf t w) ns) (length ns))
+  where
+    go : (b : Bool) → length (cond b ns (ns ++ (w ∷ []))) ≤ suc (length ns)
+    go true = omega arith
+    go false = omega (arith, length-append ns (w ∷ []))
+
+pub names-few : (t : List ℕ) (ns : List Place) (ss : List Symbol) → length (namesFrom t ns ss) ≤ length ns + length ss
+unfolding namesFrom
+names-few t ns [] = omega arith
+names-few t ns (G.name s e a ∷ ss) = omega (arith, names-few t (meet t ns (place s e)) ss, met-few t ns (place s e))
+names-few t ns (G.variable s e ∷ ss) = omega (arith, names-few t ns ss)
+names-few t ns (G.number v ∷ ss) = omega (arith, names-few t ns ss)

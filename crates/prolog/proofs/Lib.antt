@@ -1,3 +1,4 @@
 pub mod MakeLaws
 pub mod CellLaws
 pub mod EntryLaws
+pub mod Fixed
