@@ -31,9 +31,13 @@ use Rattle.answer.proofs.Fixed.{run-fixed}
 use Rattle.answer.proofs.Theorems.{tries-at-most}
 use Rattle.listing.specs.Listing.{Lists, Written}
 use Rattle.listing.proofs.Fixed.{written-one}
-use Rattle.exports.specs.Coded.{rowSays, BuildCoded, RunCoded}
-use Rattle.exports.proofs.Fixed.{build-coded-fixed, run-coded-fixed}
-use Rattle.exports.proofs.Back.{table-back, goal-back, row-back, plan-back, build-back, run-back}
+use Rattle.loading.specs.Load.{TextLoads}
+use Rattle.prolog.specs.Entry.{textTold}
+use Rattle.prolog.specs.declared.TextAnswer.{TextAnswer}
+use Rattle.prolog.proofs.Fixed.{read-text-fixed}
+use Rattle.exports.specs.Coded.{rowSays, BuildCoded, RunCoded, TextCoded}
+use Rattle.exports.proofs.Fixed.{build-coded-fixed, run-coded-fixed, text-coded-fixed}
+use Rattle.exports.proofs.Back.{table-back, goal-back, row-back, plan-back, build-back, run-back, text-back}
 use Rattle.demands.proofs.Cited.{tries-all}
 
 -- "For all inputs, refused ones too, the promise of a public function determines the result and the final contents of the lent room; the
@@ -78,6 +82,15 @@ pub held-listing : (bytes room : List ℕ) {room′ room″ : List ℕ} {r s : �
     → (r ≡ s) × (room′ ≡ room″)
 held-listing = written-one
 
+pub held-text : {t cells names cells′ names′ cells″ names″ : List ℕ} {r s : TextAnswer}
+    → TextLoads t cells names cells′ names′ (textTold r) → TextLoads t cells names cells″ names″ (textTold s)
+    → (r ≡ s) × (cells′ ≡ cells″) × (names′ ≡ names″)
+held-text = read-text-fixed
+
+pub held-exported-text : {t cells names cells′ names′ cells″ names″ : List ℕ} {r s : ℕ} → TextCoded t cells names cells′ names′ r
+    → TextCoded t cells names cells″ names″ s → (r ≡ s) × (cells′ ≡ cells″) × (names′ ≡ names″)
+held-exported-text = text-coded-fixed
+
 pub held-exported-build : {t room room′ room″ : List ℕ} {r s : ℕ} → BuildCoded t room room′ r → BuildCoded t room room″ s
     → (r ≡ s) × (room′ ≡ room″)
 held-exported-build = build-coded-fixed
@@ -108,6 +121,9 @@ back-build = build-back
 
 pub back-run : {t p g room room′ : List ℕ} {n : ℕ} (x : RunCoded t p g room room′ n) → decoded n ≡ runTold (x .answer)
 back-run = run-back
+
+pub back-text : {t cells names cells′ names′ : List ℕ} {n : ℕ} (x : TextCoded t cells names cells′ names′ n) → decoded n ≡ x .answer
+back-text = text-back
 
 -- "None is public unless its result is promised": docs/PROMISES.md lists every public function with its promise.
 

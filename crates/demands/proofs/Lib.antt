@@ -1,3 +1,4 @@
 pub mod Cited
 pub mod Demands
 pub mod Held
+pub mod Texts

@@ -1,11 +1,13 @@
-// The demands (document 00), tied to the entries: each function calls one entry and ensures what the demands say of it (specs/Demands), by
-// the theorem of proofs/Demands. So a contract that no longer gives the demands is an error here. Nothing calls these functions; they are
+// The demands (document 00) and the requests (document 02), tied to the entries: each function calls one entry and ensures what they say of
+// it (specs/), by the theorem of proofs/. So a contract that no longer gives them is an error here. Nothing calls these functions; they are
 // private, since what they ensure is less than what the entries promise.
 ghost use Rattle.demands.specs.Demands.{Demand1Table, Demand1Goal, Demand1Row, Demand1Check, Demand1Build, Demand1Run};
 ghost use Rattle.demands.specs.Demands.{Demand2, Demand3Check, Demand3Run, Demand3Build};
+ghost use Rattle.demands.specs.Texts.{Request201};
 use answer::RunAnswer;
 use builder::BuildAnswer;
 use checker::PlanAnswer;
+use prolog::TextAnswer;
 use table::GoalAnswer;
 use table::TableRead;
 
@@ -47,4 +49,10 @@ fn demand_run(cells: &[u32], plan: &[u32], goal: &[u32], room: &mut [u8]) -> Run
     ensures { λ r. ⌜ Demand3Run (now (cells .entry)) (now (plan .entry)) (now (goal .entry)) (now (room .entry)) (now (room .exit)) r ⌝ }
 {
     run::run_plan(cells, plan, goal, room)
+}
+
+fn request_read_text(text: &[u8], cells: &mut [u32], names: &mut [u32]) -> TextAnswer
+    ensures { λ r. ⌜ Request201 (now (text .entry)) (now (cells .entry)) (now (names .entry)) (now (cells .exit)) (now (names .exit)) r ⌝ }
+{
+    prolog::read_text(text, cells, names)
 }
