@@ -70,7 +70,8 @@ pub data RunTurned (cells plan goal room : List ℕ) (refusal : Refused) : Type 
   bad-goal : (T : Table) (b : ℕ) → tableOf cells ≡ read T → planFor T plan ≡ read b → goalOf (T .width) goal ≡ refuse refusal
       → RunTurned cells plan goal room refusal
   bad-room : (T : Table) (b v : ℕ) → tableOf cells ≡ read T → planFor T plan ≡ read b → goalOf (T .width) goal ≡ read v
-      → length room < length (T .rows) → refusal ≡ refused reason.Room input.Lent (length (T .rows)) → RunTurned cells plan goal room refusal
+      → length room < length (T .rows) → refusal ≡ refused reason.Room input.Lent (length (T .rows))
+      → RunTurned cells plan goal room refusal
 
 pub record Demand1Run (cells plan goal room after : List ℕ) (answer : RunAnswer) : Type 0 where
   pub refuses : (f : Refused) → (runTold answer ≡ turned f) ↔ RunTurned cells plan goal room f

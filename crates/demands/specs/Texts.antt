@@ -46,7 +46,8 @@ pub data TextTurned (text cells names : List ℕ) : Refused → Type 0 where
 -- "A text of facts for one predicate becomes a table", and "a list of where each name first stands in the text, start and bytes, is given
 -- back"; refused as above, with nothing written to either room
 pub record Request201 (text cells names cells′ names′ : List ℕ) (answer : TextAnswer) : Type 0 where
-  pub loads : (facts : List Fact) (width : ℕ) (rows : List (List ℕ)) → Fits text cells names facts → IsTable (tableCells text facts) width rows
+  pub loads : (facts : List Fact) (width : ℕ) (rows : List (List ℕ)) → Fits text cells names facts
+      → IsTable (tableCells text facts) width rows
       → (textTold answer ≡ answered (length (tableCells text facts)) (length (nameList text facts)))
       × (cells′ ≡ tableCells text facts ++ drop (length (tableCells text facts)) cells)
       × (names′ ≡ nameList text facts ++ drop (length (nameList text facts)) names)

@@ -10,7 +10,8 @@
 --     variable = ( A-Z | "_" ) { a-z | A-Z | 0-9 | "_" }             6.4.3
 --     number   = 0-9 { 0-9 }                                         6.4.4, at most 65,535
 --
--- Each relation below says how one of these is read: `R p xs q ys` goes from place p, where the bytes xs are left, to place q, where ys are.
+-- Each relation below says how one of these is read: `R p xs q ys` goes from place p, where the bytes xs are left, to place q, where ys
+-- are.
 use Prim.Native.Nat.{ℕ, suc, _+_, _-_, _*_, _≤_, _<_}
 use mathlib.Core.Path.{_≡_}
 use mathlib.Core.Bool.{Bool, true, false, _&&_, _||_}

@@ -74,7 +74,8 @@ widthOf (f ∷ fs) = f .width
 unfoldable pub tableCells : List ℕ → List Fact → List ℕ
 tableCells t fs = widthOf fs ∷ length fs ∷ flatten (map (λ (f : Fact). cellsFrom t (namesOf t fs) [] (f .symbols)) fs)
 
--- "a list of where each name first stands in the text, start and bytes": a number for each name, its start in bits 15..0, its bytes in 31..16
+-- "a list of where each name first stands in the text, start and bytes": a number for each name, its start in bits 15..0, its bytes in
+-- 31..16
 unfoldable pub nameList : List ℕ → List Fact → List ℕ
 nameList t fs = map (λ (w : Place). (w .end - w .start) * 2 ^ 16 + w .start) (namesOf t fs)
 

@@ -1,5 +1,5 @@
--- What the next turn inside a fact is: a symbol or a mark, layout passed over. Said twice: as a function of the text, and by the reader, for
--- which the text from here on is the turn and then the text after it, whatever has been read before.
+-- What the next turn inside a fact is: a symbol or a mark, layout passed over. Said twice: as a function of the text, and by the reader,
+-- for which the text from here on is the turn and then the text after it, whatever has been read before.
 use Prim.Native.Nat.{ℕ, suc, _+_, _-_, _*_, _≤_, _<_}
 use mathlib.Core.Path.{_≡_}
 use mathlib.Core.Bool.{Bool, true, false, not, cond}

@@ -1,4 +1,5 @@
--- What the entry answers for a text and two rooms, and what it writes (02, W-201): "Refusals in order: BYTES; TEXT; OTHER; ROOM; then 01's".
+-- What the entry answers for a text and two rooms, and what it writes (02, W-201): "Refusals in order: BYTES; TEXT; OTHER; ROOM; then
+-- 01's".
 use Prim.Native.Nat.{ℕ, _≤_, _<_}
 use mathlib.Core.Path.{_≡_}
 use mathlib.Core.List.{List, _++_}
@@ -20,17 +21,19 @@ pub record Loaded : Type 0 where
 abbrev pub loaded : List ℕ → List Fact → Loaded
 loaded text facts = record { cells = tableCells text facts; names = nameList text facts }
 
--- For a text, so many cells of room for the table and so many for the list: BYTES, TEXT and OTHER are those of Taken. ROOM concerns a lent room, and its
--- place is what is needed: of the cells first, then of the list. Then the cells are read as a table, with 01's refusals
+-- For a text, so many cells of room for the table and so many for the list: BYTES, TEXT and OTHER are those of Taken. ROOM concerns a lent
+-- room, and its place is what is needed: of the cells first, then of the list. Then the cells are read as a table, with 01's refusals
 pub data Loads (text : List ℕ) (cells names : ℕ) : Read Loaded → Type 0 where
   not-taken : {f : Refused} → Taken text (refuse f) → Loads text cells names (refuse f)
   no-cells : {facts : List Fact} → Taken text (read facts) → cells < length (tableCells text facts)
       → Loads text cells names (refuse (refused reason.Room input.Lent (length (tableCells text facts))))
   no-names : {facts : List Fact} → Taken text (read facts) → length (tableCells text facts) ≤ cells → names < length (nameList text facts)
       → Loads text cells names (refuse (refused reason.Room input.Lent (length (nameList text facts))))
-  no-table : {facts : List Fact} {f : Refused} → Taken text (read facts) → length (tableCells text facts) ≤ cells → length (nameList text facts) ≤ names
+  no-table : {facts : List Fact} {f : Refused} → Taken text (read facts) → length (tableCells text facts) ≤ cells
+      → length (nameList text facts) ≤ names
       → tableOf (tableCells text facts) ≡ refuse f → Loads text cells names (refuse f)
-  loads : {facts : List Fact} {T : Table} → Taken text (read facts) → length (tableCells text facts) ≤ cells → length (nameList text facts) ≤ names
+  loads : {facts : List Fact} {T : Table} → Taken text (read facts) → length (tableCells text facts) ≤ cells
+      → length (nameList text facts) ≤ names
       → tableOf (tableCells text facts) ≡ read T → Loads text cells names (read (loaded text facts))
 
 -- the entry's two values: cells written and names listed

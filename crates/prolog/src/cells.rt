@@ -1,5 +1,5 @@
-// The cells of an accepted text's symbols. The text is read once more; a name that is open has its complete arguments in its own cell, and each comma and
-// bracket adds one there, so that nothing is kept but which cell is whose.
+// The cells of an accepted text's symbols. The text is read once more; a name that is open has its complete arguments in its own cell, and
+// each comma and bracket adds one there, so that nothing is kept but which cell is whose.
 ghost use mathlib.Core.Path.{_≡_};
 ghost use mathlib.Core.Bool.{false};
 ghost use Prim.Native.Nat.{_+_, _*_, _^_, _≤_, _<_};
@@ -70,8 +70,10 @@ fn put_number(numbers: &[u16], cells: &mut [u32], k: usize)
 
 // One more argument is complete, of the name that is open at this depth.
 fn add_argument(cells: &mut [u32], owners: &[u16], depth: usize)
-    requires { ⌜ (depth < length (now owners)) × (getD (now owners) depth 0 < length (now cells)) × (getD (now cells) (getD (now owners) depth 0) 0 + 65536 < 2 ^ 32) ⌝ }
-    ensures { λ r. ⌜ now (cells .exit) ≡ set (now (cells .entry)) (getD (now (owners .entry)) depth 0) (getD (now (cells .entry)) (getD (now (owners .entry)) depth 0) 0 + 65536) ⌝ }
+    requires { ⌜ (depth < length (now owners)) × (getD (now owners) depth 0 < length (now cells))
+        × (getD (now cells) (getD (now owners) depth 0) 0 + 65536 < 2 ^ 32) ⌝ }
+    ensures { λ r. ⌜ now (cells .exit) ≡ set (now (cells .entry)) (getD (now (owners .entry)) depth 0)
+        (getD (now (cells .entry)) (getD (now (owners .entry)) depth 0) 0 + 65536) ⌝ }
 {
     let own = owner(owners[depth]);
     cells[own] = cells[own] + 65536;
@@ -101,7 +103,8 @@ fn after_row(text: &[u8], at: usize, count: usize) -> Made
 // One turn.
 fn make_on(text: &[u8], numbers: &[u16], m: Making, cells: &mut [u32], owners: &mut [u16]) -> Made
     requires { ⌜ Ready (now text) (now numbers) (now cells) (now owners) m ⌝ }
-    ensures { λ r. ⌜ ((R : Ready (now (text .entry)) (now (numbers .entry)) (now (cells .entry)) (now (owners .entry)) m) → MadeIs (now (text .entry)) (R .facts) (now (numbers .entry)) (R .start) m (now (cells .exit)) (now (owners .exit)) r) ⌝ }
+    ensures { λ r. ⌜ ((R : Ready (now (text .entry)) (now (numbers .entry)) (now (cells .entry)) (now (owners .entry)) m)
+        → MadeIs (now (text .entry)) (R .facts) (now (numbers .entry)) (R .start) m (now (cells .exit)) (now (owners .exit)) r) ⌝ }
 {
     let depth = m.depth;
     let count = m.count;
@@ -150,7 +153,8 @@ fn make_all(
     owners: &mut [u16],
 ) -> usize
     requires { ⌜ Ready (now text) (now numbers) (now cells) (now owners) (making from false 0 0) ⌝ }
-    ensures { λ r. ⌜ ((R : Ready (now (text .entry)) (now (numbers .entry)) (now (cells .entry)) (now (owners .entry)) (making from false 0 0)) → Written (R .facts) (now (numbers .entry)) (R .start) (now (cells .exit)) r) ⌝ }
+    ensures { λ r. ⌜ ((R : Ready (now (text .entry)) (now (numbers .entry)) (now (cells .entry)) (now (owners .entry))
+        (making from false 0 0)) → Written (R .facts) (now (numbers .entry)) (R .start) (now (cells .exit)) r) ⌝ }
 {
     let mut m = Making {
         at: from,
@@ -173,7 +177,8 @@ fn make_all(
 // The cells of an accepted text's symbols, by their numbers, put at the front of `cells`; how many there are.
 pub fn write_cells(text: &[u8], numbers: &[u16], cells: &mut [u32]) -> usize
     requires { ⌜ Writes (now text) (now numbers) (now cells) ⌝ }
-    ensures { λ r. ⌜ ((R : Writes (now (text .entry)) (now (numbers .entry)) (now (cells .entry))) → Written (R .facts) (now (numbers .entry)) (now (cells .entry)) (now (cells .exit)) r) ⌝ }
+    ensures { λ r. ⌜ ((R : Writes (now (text .entry)) (now (numbers .entry)) (now (cells .entry)))
+        → Written (R .facts) (now (numbers .entry)) (now (cells .entry)) (now (cells .exit)) r) ⌝ }
 {
     let mut owners = [0u16; 2048];
     let first = symbols::begin(text);

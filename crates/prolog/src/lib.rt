@@ -1,5 +1,6 @@
-// Tables from Prolog text (02, W-201): the entry. Nothing is written to a lent room before everything is decided: the cells and the list of names are made in
-// arrays of this side, for at most 2,048 symbols; where there are more, the table is too long, and names are only counted.
+// Tables from Prolog text (02, W-201): the entry. Nothing is written to a lent room before everything is decided: the cells and the list of
+// names are made in arrays of this side, for at most 2,048 symbols; where there are more, the table is too long, and names are only
+// counted.
 mod cells;
 
 ghost use mathlib.Core.Path.{_≡_};
@@ -51,7 +52,8 @@ fn put_front(from: &[u32], room: &mut [u32])
 // The cells and the list as they are made: the table is read, and only then are they copied.
 fn give(made: &[u32], list: &[u32], cells: &mut [u32], names: &mut [u32]) -> TextAnswer
     requires { ⌜ (length (now made) ≤ length (now cells)) × (length (now list) ≤ length (now names)) ⌝ }
-    ensures { λ r. ⌜ Gives (now (made .entry)) (now (list .entry)) (now (cells .entry)) (now (names .entry)) (now (cells .exit)) (now (names .exit)) r ⌝ }
+    ensures { λ r. ⌜ Gives (now (made .entry)) (now (list .entry)) (now (cells .entry)) (now (names .entry)) (now (cells .exit))
+        (now (names .exit)) r ⌝ }
 {
     let answer = table::read_table(made).answer;
     match answer {
@@ -67,7 +69,8 @@ fn give(made: &[u32], list: &[u32], cells: &mut [u32], names: &mut [u32]) -> Tex
 // The table's cells: width, number of rows, rows.
 fn make_table(text: &[u8], c: Counted, numbers: &[u16], made: &mut [u32]) -> usize
     requires { ⌜ Tables (now text) c (now numbers) (now made) ⌝ }
-    ensures { λ r. ⌜ ((T : Tables (now (text .entry)) c (now (numbers .entry)) (now (made .entry))) → TableIs (now (text .entry)) (T .counts .facts) (now (made .exit)) r) ⌝ }
+    ensures { λ r. ⌜ ((T : Tables (now (text .entry)) c (now (numbers .entry)) (now (made .entry)))
+        → TableIs (now (text .entry)) (T .counts .facts) (now (made .exit)) r) ⌝ }
 {
     made[0] = c.width as u32;
     made[1] = c.facts as u32;
@@ -78,7 +81,8 @@ fn make_table(text: &[u8], c: Counted, numbers: &[u16], made: &mut [u32]) -> usi
 // At most 2,048 symbols: the cells and the list are made here.
 fn write(text: &[u8], c: Counted, cells: &mut [u32], names: &mut [u32]) -> TextAnswer
     requires { ⌜ Fits (now text) c (now cells) ⌝ }
-    ensures { λ r. ⌜ TextLoads (now (text .entry)) (now (cells .entry)) (now (names .entry)) (now (cells .exit)) (now (names .exit)) (textTold r) ⌝ }
+    ensures { λ r. ⌜ TextLoads (now (text .entry)) (now (cells .entry)) (now (names .entry)) (now (cells .exit)) (now (names .exit))
+        (textTold r) ⌝ }
 {
     let mut list = [0u32; 2048];
     let mut numbers = [0u16; 2048];
@@ -94,7 +98,8 @@ fn write(text: &[u8], c: Counted, cells: &mut [u32], names: &mut [u32]) -> TextA
 // A text that is one, its facts counted.
 fn load(text: &[u8], c: Counted, cells: &mut [u32], names: &mut [u32]) -> TextAnswer
     requires { ⌜ Counts (now text) c ⌝ }
-    ensures { λ r. ⌜ TextLoads (now (text .entry)) (now (cells .entry)) (now (names .entry)) (now (cells .exit)) (now (names .exit)) (textTold r) ⌝ }
+    ensures { λ r. ⌜ TextLoads (now (text .entry)) (now (cells .entry)) (now (names .entry)) (now (cells .exit)) (now (names .exit))
+        (textTold r) ⌝ }
 {
     let symbols = c.symbols;
     let need = symbols + 2;
@@ -116,7 +121,8 @@ fn load(text: &[u8], c: Counted, cells: &mut [u32], names: &mut [u32]) -> TextAn
 }
 
 pub fn read_text(text: &[u8], cells: &mut [u32], names: &mut [u32]) -> TextAnswer
-    ensures { λ r. ⌜ TextLoads (now (text .entry)) (now (cells .entry)) (now (names .entry)) (now (cells .exit)) (now (names .exit)) (textTold r) ⌝ }
+    ensures { λ r. ⌜ TextLoads (now (text .entry)) (now (cells .entry)) (now (names .entry)) (now (cells .exit)) (now (names .exit))
+        (textTold r) ⌝ }
 {
     match scan::scan_text(text) {
         Scan::Facts(c) => load(text, c, cells, names),

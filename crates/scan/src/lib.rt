@@ -1,5 +1,5 @@
-// A text read once (02, W-201): BYTES, TEXT and OTHER are decided here, and the facts of a text that is taken are counted. Nothing is kept of
-// it but a number for each open name.
+// A text read once (02, W-201): BYTES, TEXT and OTHER are decided here, and the facts of a text that is taken are counted. Nothing is kept
+// of it but a number for each open name.
 mod arguments;
 mod facts;
 

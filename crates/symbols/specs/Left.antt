@@ -1,5 +1,5 @@
--- What is left of an accepted text from a place on: its symbols, in their order. By the reader: the text from there on is read to the end, and what it is
--- read as begins with what has been met.
+-- What is left of an accepted text from a place on: its symbols, in their order. By the reader: the text from there on is read to the end,
+-- and what it is read as begins with what has been met.
 use Prim.Native.Nat.{ℕ, suc, _+_, _≤_, _<_}
 use mathlib.Core.Path.{_≡_}
 use mathlib.Core.Bool.{false}
@@ -29,7 +29,8 @@ pub record NextRow (t : List ℕ) (w : Work) (q : ℕ) (facts : List Fact) : Typ
   pub same : run (drop q t) arg (work start end 0 [] []) q ≡ reads later
 
 abbrev pub RowEnds : List ℕ → ℕ → RowEnd → Type 0
-RowEnds t at (row-end.Next q) = (at < q) × (q ≤ length t) × ((w : Work) (facts : List Fact) → run (drop at t) closed w at ≡ reads facts → NextRow t w q facts)
+RowEnds t at (row-end.Next q) = (at < q) × (q ≤ length t) × ((w : Work) (facts : List Fact) → run (drop at t) closed w at ≡ reads facts
+    → NextRow t w q facts)
 RowEnds t at row-end.Last = (w : Work) (facts : List Fact) → run (drop at t) closed w at ≡ reads facts → facts ≡ factOf w ∷ []
 
 -- these items are left at a place inside a fact. `facts` are the fact under way and those after it

@@ -1,5 +1,5 @@
-// The symbols of an accepted text, one after another (02, W-201). The text is read once more, by someone who knows that it is one: nothing is kept but how
-// many names are open.
+// The symbols of an accepted text, one after another (02, W-201). The text is read once more, by someone who knows that it is one: nothing
+// is kept but how many names are open.
 ghost use Rattle.symbols.specs.Left.{RowEnds, AheadIs, RowAhead, Begins};
 use lex::fact::FactEnd;
 use lex::fact::Head;
@@ -47,8 +47,8 @@ pub fn begin(text: &[u8]) -> Spot
     }
 }
 
-// What stands next, marks passed over: a name's start and the place after it, with its bracket or without; a variable's; a number; that another row
-// begins; or nothing.
+// What stands next, marks passed over: a name's start and the place after it, with its bracket or without; a variable's; a number; that
+// another row begins; or nothing.
 pub enum Ahead {
     Name(usize, usize, Spot),
     Variable(usize, usize, Spot),

@@ -1,6 +1,6 @@
-// How many different names a text has, for a text with more of them than can be listed at once. They are counted in batches: the names from a place on are
-// listed until the list is full; those that are met again after that are struck out; what is left of the list is counted, and the next batch begins where
-// this one ended. So each name is counted in the batch in which it stands last.
+// How many different names a text has, for a text with more of them than can be listed at once. They are counted in batches: the names from
+// a place on are listed until the list is full; those that are met again after that are struck out; what is left of the list is counted,
+// and the next batch begins where this one ended. So each name is counted in the batch in which it stands last.
 ghost use mathlib.Core.Path.{_≡_};
 ghost use Prim.Native.Nat.{_≤_, _<_};
 ghost use lib.ListN.{length};
@@ -79,7 +79,8 @@ fn fill(text: &[u8], from: Spot, list: &mut [u32], links: &mut [u16]) -> Filled
 // The listed names that are met from a place on are marked.
 fn strike(text: &[u8], from: Spot, list: &[u32], links: &[u16], count: usize, marks: &mut [u8])
     requires { ⌜ (count ≤ length (now marks)) × Tree (now text) (now list) (now links) count ⌝ }
-    ensures { λ r. ⌜ Strikes (now (text .entry)) from (now (list .entry)) (now (links .entry)) count (now (marks .entry)) (now (marks .exit)) ⌝ }
+    ensures { λ r. ⌜ Strikes (now (text .entry)) from (now (list .entry)) (now (links .entry)) count (now (marks .entry))
+        (now (marks .exit)) ⌝ }
 {
     let mut at = from;
     while let NextName::Name(s, e, next) = next_name(text, at) {

@@ -33,7 +33,8 @@ fn is_fresh(text: &[u8], start: usize, end: usize) -> bool
     text[start] == 95
 }
 
-// One variable more. Those with a name are listed in `words`, found by `ways`, and each has the number that it was given when it was first met.
+// One variable more. Those with a name are listed in `words`, found by `ways`, and each has the number that it was given when it was first
+// met.
 fn number_variable(
     text: &[u8],
     words: &mut [u32],
@@ -43,8 +44,10 @@ fn number_variable(
     start: usize,
     end: usize,
 ) -> Numbered
-    requires { ⌜ (start < end) × (end ≤ length (now text)) × (length (now text) ≤ 65535) × (row .all < length (now words)) × (length (now words) < 65535) × RowVars (now text) (now words) (now ways) (now given) row ⌝ }
-    ensures { λ r. ⌜ ((v : RowVars (now (text .entry)) (now (words .entry)) (now (ways .entry)) (now (given .entry)) row) → VariableIs (now (text .entry)) (v .places) (place start end) (now (words .exit)) (now (ways .exit)) (now (given .exit)) r) ⌝ }
+    requires { ⌜ (start < end) × (end ≤ length (now text)) × (length (now text) ≤ 65535) × (row .all < length (now words))
+        × (length (now words) < 65535) × RowVars (now text) (now words) (now ways) (now given) row ⌝ }
+    ensures { λ r. ⌜ ((v : RowVars (now (text .entry)) (now (words .entry)) (now (ways .entry)) (now (given .entry)) row)
+        → VariableIs (now (text .entry)) (v .places) (place start end) (now (words .exit)) (now (ways .exit)) (now (given .exit)) r) ⌝ }
 {
     let named = row.named;
     let all = row.all;
@@ -128,8 +131,8 @@ fn number_all(
     count
 }
 
-// The numbers of an accepted text's symbols, where there is room for them, and the list of its names, as many as it answers. The list has room for as many
-// names as there is room for numbers, and for 2,048 at most.
+// The numbers of an accepted text's symbols, where there is room for them, and the list of its names, as many as it answers. The list has
+// room for as many names as there is room for numbers, and for 2,048 at most.
 pub fn number_symbols(text: &[u8], list: &mut [u32], numbers: &mut [u16]) -> usize
     ensures { λ r. ⌜ NumbersIs (now (text .entry)) (now (list .exit)) (now (numbers .exit)) (now (numbers .entry)) r ⌝ }
 {

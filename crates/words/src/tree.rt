@@ -1,5 +1,6 @@
-// Words told apart by their bytes: each is listed where it first stands, as `bytes * 2^16 + start`, and found again by a tree over the bits of the words.
-// Slot 0 leads to the first word; 1 + 2 * j + b leads on from word j for words whose next bit is b. A slot holds a word's number plus 1, or 0.
+// Words told apart by their bytes: each is listed where it first stands, as `bytes * 2^16 + start`, and found again by a tree over the bits
+// of the words. Slot 0 leads to the first word; 1 + 2 * j + b leads on from word j for words whose next bit is b. A slot holds a word's
+// number plus 1, or 0.
 ghost use mathlib.Core.Path.{_≡_};
 ghost use Prim.Native.Nat.{_+_, _*_, _≤_, _<_};
 ghost use lib.ListN.{length, getD};
@@ -25,8 +26,8 @@ pub fn number(x: u16) -> usize
     x as usize
 }
 
-// The d-th bit of a word, from its last byte backwards, the lowest bit of a byte first; 0 past its first byte. Last bytes first, since names that are
-// numbered part there.
+// The d-th bit of a word, from its last byte backwards, the lowest bit of a byte first; 0 past its first byte. Last bytes first, since
+// names that are numbered part there.
 fn bit(word: &[u8], d: usize) -> usize
     ensures { λ r. ⌜ (r ≡ bitOf (now (word .entry)) d) × (r ≤ 1) ⌝ }
 {
@@ -82,8 +83,10 @@ pub fn meet(
     start: usize,
     end: usize,
 ) -> usize
-    requires { ⌜ (start ≤ end) × (end ≤ length (now text)) × (length (now text) < 65536) × (count < length (now list)) × (count < 65535) × Tree (now text) (now list) (now links) count ⌝ }
-    ensures { λ r. ⌜ Met (now (text .entry)) (now (list .entry)) (now (links .entry)) count start end (now (list .exit)) (now (links .exit)) r ⌝ }
+    requires { ⌜ (start ≤ end) × (end ≤ length (now text)) × (length (now text) < 65536) × (count < length (now list)) × (count < 65535)
+        × Tree (now text) (now list) (now links) count ⌝ }
+    ensures { λ r. ⌜ Met (now (text .entry)) (now (list .entry)) (now (links .entry)) count start end (now (list .exit))
+        (now (links .exit)) r ⌝ }
 {
     match find(text, list, links, count, &text[start..end]) {
         Slot::Listed(j) => j,

@@ -1,5 +1,5 @@
--- The text read byte by byte: what the code does. That it reads the texts of Grammar, and stops where no such text could go on, is proved in
--- proofs/Accepted.
+-- The text read byte by byte: what the code does. That it reads the texts of Grammar, and stops where no such text could go on, is proved
+-- in proofs/Accepted.
 use Prim.Native.Nat.{ℕ, suc, _+_, _-_, _*_, _<_}
 use mathlib.Core.Path.{_≡_}
 use mathlib.Core.Bool.{Bool, true, false, cond, _&&_, _||_}
@@ -9,8 +9,8 @@ use lib.ListN.{length, getD, set}
 use Rattle.grammar.specs.Grammar.{isLower, isUpper, isDigit, isWord, Blank, Symbol, name, variable, number, Fact, fact}
 
 -- what the reader is in: before the first fact; a fact's name, from a place on; before a term; a name (true) or a variable (false), from a
--- place on; a number, its value so far; after a term; after a fact's last bracket; just after its full stop; after layout that follows a full
--- stop; a comment, and what it stands in
+-- place on; a number, its value so far; after a term; after a fact's last bracket; just after its full stop; after layout that follows a
+-- full stop; a comment, and what it stands in
 pub data Mode : Type 0 where
   first : Mode
   head : ℕ → Mode

@@ -1,5 +1,5 @@
--- The symbols of a text in their order, what numbers they get, and how the names among them are counted. These definitions describe what the code goes
--- by; no promise of the entry cites them.
+-- The symbols of a text in their order, what numbers they get, and how the names among them are counted. These definitions describe what
+-- the code goes by; no promise of the entry cites them.
 use Prim.Native.Nat.{ℕ, suc, _+_}
 use mathlib.Core.Path.{_≡_}
 use mathlib.Core.Bool.{Bool, true, false, cond, _||_}

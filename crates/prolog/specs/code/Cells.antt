@@ -1,5 +1,6 @@
--- The writing of the cells (src/cells.rt), beside the reader: a cell for each symbol that is met, a name's with the arguments that are complete, and for each
--- name that is open which cell is its own. These definitions describe the code's own state; no promise of the entry cites them.
+-- The writing of the cells (src/cells.rt), beside the reader: a cell for each symbol that is met, a name's with the arguments that are
+-- complete, and for each name that is open which cell is its own. These definitions describe the code's own state; no promise of the entry
+-- cites them.
 use Prim.Native.Nat.{ℕ, _+_, _*_, _^_, _≤_, _<_}
 use mathlib.Core.Path.{_≡_}
 use mathlib.Core.Bool.{Bool, true, false}

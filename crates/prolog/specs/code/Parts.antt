@@ -1,4 +1,5 @@
--- What the entry's parts hand to one another (src/lib.rt). These definitions describe the code's own state; no promise of the entry cites them.
+-- What the entry's parts hand to one another (src/lib.rt). These definitions describe the code's own state; no promise of the entry cites
+-- them.
 use Prim.Native.Nat.{ℕ, suc, _+_, _≤_}
 use mathlib.Core.Path.{_≡_}
 use mathlib.Core.List.{List, []}

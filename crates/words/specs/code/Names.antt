@@ -1,5 +1,5 @@
--- The names of a text as the code has them (src/names.rt): those that are listed, what is left of the text, which of them are met again. These definitions
--- describe the code's own state.
+-- The names of a text as the code has them (src/names.rt): those that are listed, what is left of the text, which of them are met again.
+-- These definitions describe the code's own state.
 use Prim.Native.Nat.{ℕ, zero, suc, _+_, _-_, _≤_, _<_}
 use mathlib.Core.Path.{_≡_}
 use mathlib.Core.Bool.{Bool, true, false, not, cond, _||_}
@@ -87,7 +87,8 @@ pub record Striking (t : List ℕ) (ns : List Place) (sp : Spot) (marks : List �
 -- the words of the list that are met from a place on are marked, where none was before
 abbrev pub Strikes : List ℕ → Spot → List ℕ → List ℕ → ℕ → List ℕ → List ℕ → Type 0
 Strikes t sp list links count marks marks′ =
-    (ns : List Place) (rest rest₀ : List Item) → length ns ≡ count → Shown t list links ns → Left t sp rest → Struck t ns marks rest rest₀ → Struck t ns marks′ [] rest₀
+    (ns : List Place) (rest rest₀ : List Item) → length ns ≡ count → Shown t list links ns → Left t sp rest
+    → Struck t ns marks rest rest₀ → Struck t ns marks′ [] rest₀
 
 -- how many of the first marks are 0
 unfoldable pub blankOf : ℕ → ℕ

@@ -1,5 +1,5 @@
--- The numbers of a text's symbols as the code has them (src/numbers.rt): the variables of the row under way, and what is numbered so far. These definitions
--- describe the code's own state.
+-- The numbers of a text's symbols as the code has them (src/numbers.rt): the variables of the row under way, and what is numbered so far.
+-- These definitions describe the code's own state.
 use Prim.Native.Nat.{ℕ, _+_, _-_, _*_, _^_, _≤_, _<_}
 use mathlib.Core.Path.{_≡_}
 use mathlib.Core.Bool.{Bool, true, false}
@@ -29,7 +29,8 @@ pub record RowVars (t words ways given : List ℕ) (row : Row) : Type 0 where
   pub tree : Tree t words ways (row .named)
   pub size : length given ≡ length words
   pub found : (j : ℕ) → j < row .named → (position t (wordOf t (getD words j 0)) places ≡ getD given j 0) × (getD given j 0 < row .all)
-  pub missing : (w : List ℕ) → ((j : ℕ) → j < row .named → wordOf t (getD words j 0) ≡ w → ⊥) → isFresh w ≡ false → position t w places ≡ length places
+  pub missing : (w : List ℕ) → ((j : ℕ) → j < row .named → wordOf t (getD words j 0) ≡ w → ⊥) → isFresh w ≡ false
+      → position t w places ≡ length places
 
 -- one variable more
 pub record VariableIs (t : List ℕ) (places : List Place) (w : Place) (words ways given : List ℕ) (r : Numbered) : Type 0 where
@@ -50,7 +51,8 @@ pub record Numbers (t : List ℕ) (ns vs : List Place) (sp : Spot) (k : ℕ) (ou
   pub numbers : sets out k (numbering t ns vs rest) ≡ sets out₀ 0 (numbering t [] [] rest₀)
   pub among : k + symbolsAmong rest ≡ symbolsAmong rest₀
 
-pub record Numbering (t : List ℕ) (from : Spot) (list links words ways given : List ℕ) (row : Row) (count k : ℕ) (to : Spot) (out out₀ : List ℕ) : Type 0 where
+pub record Numbering (t : List ℕ) (from : Spot) (list links words ways given : List ℕ) (row : Row) (count k : ℕ) (to : Spot)
+    (out out₀ : List ℕ) : Type 0 where
   pub names : List Place
   pub number : length names ≡ count
   pub shown : Shown t list links names
@@ -88,5 +90,6 @@ pub record TextNumbers (t : List ℕ) (facts : List Fact) (list out out₀ : Lis
 
 pub record NumbersIs (t list out out₀ : List ℕ) (r : ℕ) : Type 0 where
   pub few : r ≤ length out₀
-  pub text : (facts : List Fact) → length t ≤ 65535 → length list ≤ 2048 → length out₀ ≤ length list → textOf t ≡ reads facts → length (symbolsOf facts) ≤ length out₀
+  pub text : (facts : List Fact) → length t ≤ 65535 → length list ≤ 2048 → length out₀ ≤ length list → textOf t ≡ reads facts
+      → length (symbolsOf facts) ≤ length out₀
       → TextNumbers t facts list out out₀ r

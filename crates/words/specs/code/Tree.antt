@@ -1,5 +1,5 @@
--- Words told apart by their bytes, and the tree in which they are found again (src/tree.rt). These definitions describe the code's own state; no promise of a
--- public function cites them.
+-- Words told apart by their bytes, and the tree in which they are found again (src/tree.rt). These definitions describe the code's own
+-- state; no promise of a public function cites them.
 use Prim.Native.Nat.{ℕ, zero, suc, _+_, _-_, _*_, _/_, _%_, _^_, _≤_, _<_}
 use mathlib.Core.Path.{_≡_}
 use mathlib.Core.Bool.{Bool, true, false, cond, _&&_}
@@ -65,8 +65,10 @@ listed from to = (to - from) * 65536 + from
 
 -- a word is met, from a place up to another: its number, and the list and the tree with it
 pub data Met (t list links : List ℕ) (count from to : ℕ) (list′ links′ : List ℕ) : ℕ → Type 0 where
-  old : {r : ℕ} → r < count → wordOf t (getD list r 0) ≡ slice from to t → list′ ≡ list → links′ ≡ links → Met t list links count from to list′ links′ r
-  new : ((i : ℕ) → i < count → wordOf t (getD list i 0) ≡ slice from to t → ⊥) → list′ ≡ set list count (listed from to) → Tree t list′ links′ (suc count)
+  old : {r : ℕ} → r < count → wordOf t (getD list r 0) ≡ slice from to t → list′ ≡ list → links′ ≡ links
+      → Met t list links count from to list′ links′ r
+  new : ((i : ℕ) → i < count → wordOf t (getD list i 0) ≡ slice from to t → ⊥) → list′ ≡ set list count (listed from to)
+      → Tree t list′ links′ (suc count)
       → Met t list links count from to list′ links′ count
 
 -- the slots before a place are free again, and the others as they were
