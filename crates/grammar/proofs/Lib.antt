@@ -7,4 +7,9 @@ pub mod SameLaws
 pub mod LongLaws
 pub mod HeldLaws
 pub mod NumberLaws
+pub mod NthLaws
+pub mod FirstLaws
+pub mod RowLaws
+pub mod Numbered
+pub mod Other
 pub mod Examples

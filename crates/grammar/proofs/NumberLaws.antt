@@ -7,7 +7,7 @@ use native.Mathlib.Omega.{arith}
 use lib.ListN.{length, getD}
 use borrow.Author.Tests.{lt-ltb, le-ltb}
 use Rattle.grammar.specs.Grammar.{Symbol, name, variable, number}
-use Rattle.grammar.specs.Meaning.{Place, place, bytesOf, same, position, meet, namesFrom, variablesWith}
+use Rattle.grammar.specs.Meaning.{Place, place, bytesOf, same, position, meet, namesFrom, variableNumber, variablesWith}
 use Rattle.grammar.proofs.SameLaws.{same-refl, same-no}
 
 -- POSITIONS
@@ -75,6 +75,24 @@ names-more t ns [] us = refl
 names-more t ns (name s e a ∷ ss) us = names-more t (meet t ns (place s e)) ss us
 names-more t ns (variable s e ∷ ss) us = names-more t ns ss us
 names-more t ns (number v ∷ ss) us = names-more t ns ss us
+
+-- A VARIABLE IS MET. `_` is 95
+module _ (t : List ℕ) (vs : List Place) (w : Place) where
+  pub fresh-number : same (bytesOf t w) (95 ∷ []) ≡ true → variableNumber t vs w ≡ length vs
+  unfolding variableNumber
+  fresh-number e = rw e
+
+  pub named-number : same (bytesOf t w) (95 ∷ []) ≡ false → variableNumber t vs w ≡ position t (bytesOf t w) vs
+  unfolding variableNumber
+  named-number e = rw e
+
+  pub with-new : length vs ≤ variableNumber t vs w → variablesWith t vs w ≡ vs ++ (w ∷ [])
+  unfolding variablesWith
+  with-new h = rw (le-ltb (variableNumber t vs w) (length vs) h)
+
+  pub with-old : variableNumber t vs w < length vs → variablesWith t vs w ≡ vs
+  unfolding variablesWith
+  with-old h = rw (lt-ltb (variableNumber t vs w) (length vs) h)
 
 -- the variables of some symbols, some being listed before
 unfoldable pub variablesIn : List ℕ → List Place → List Symbol → List Place

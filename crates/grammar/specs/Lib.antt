@@ -1,5 +1,7 @@
 pub mod Grammar
 pub mod Stops
 pub mod Meaning
+pub mod Numbering
+pub mod Other
 pub mod Taken
 pub mod code

@@ -8,7 +8,7 @@ use lib.Dec.{eqb, ltb}
 use lib.ListN.{length, length-append}
 use borrow.Author.Tests.{lt-ltb, le-ltb, ltb-true, ltb-false}
 use Rattle.grammar.specs.Meaning.{Place, place, bytesOf, same, position, meet}
-use Rattle.grammar.proofs.SameLaws.{same-refl, same-eq, same-no}
+use Rattle.grammar.proofs.SameLaws.{same-eq, same-differ, same-no}
 use Rattle.grammar.proofs.NumberLaws.{position-bound, meet-old, meet-new}
 use Rattle.loading.specs.code.Items.{Item, of-name, of-variable, of-number, next-row, namesMet, metIn, unmet}
 
@@ -39,7 +39,7 @@ head-differs t w b bs h = go (same w (bytesOf t b)) refl h
     go false e l = (refl, omega arith)
 
 same-sym : (xs ys : List ℕ) → same xs ys ≡ false → same ys xs ≡ false
-same-sym xs ys e = same-no ys xs (λ q. (let a : true ≡ false = sym (same-refl xs) ∙ ap (same xs) (sym q) ∙ e in let b : _≡_ {A = ℕ} 0 1 = cc in omega arith))
+same-sym xs ys e = same-no ys xs (λ q. same-differ xs ys e (sym q))
 
 apart-added : (t : List ℕ) (ns : List Place) (v : Place) → Apart t ns → length ns ≤ position t (bytesOf t v) ns → Apart t (ns ++ (v ∷ []))
 unfolding Apart position

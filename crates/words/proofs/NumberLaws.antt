@@ -9,12 +9,11 @@ use native.Mathlib.Decide.{ℕ-discrete}
 use lib.Dec.{eqb, ltb}
 use lib.ListN.{length, getD, set, take, length-append, length-set}
 use lib.Seq.{slice, sets, slice-cons, slice-empty, length-slice, take-suc-set, getD-set-same, getD-set-other}
-use borrow.Author.Tests.{eq-eqb, lt-ltb, le-ltb}
 use Rattle.grammar.specs.Grammar.{Fact}
 use Rattle.grammar.specs.code.Reader.{reads, textOf}
 use Rattle.grammar.specs.Meaning.{Place, place, bytesOf, same, position, meet, symbolsOf, variableNumber, variablesWith, nameList}
 use Rattle.grammar.proofs.SameLaws.{same-refl, same-eq, same-no}
-use Rattle.grammar.proofs.NumberLaws.{position-bound, position-kept, position-added}
+use Rattle.grammar.proofs.NumberLaws.{position-bound, position-kept, position-added, fresh-number, named-number, with-new, with-old}
 use Rattle.loading.specs.code.Items.{Item, of-name, of-variable, of-number, next-row, itemsOf, symbolsAmong, namesMet, numbering}
 use Rattle.loading.proofs.ItemLaws.{names-items, among-items, none-numbered, none-named}
 use Rattle.symbols.specs.Left.{Left, Meets, AheadIs, Begins}
@@ -52,23 +51,6 @@ position-passed t w (b ∷ bs) v h e = go (same w (bytesOf t b)) (position-passe
         → cond x 0 (suc (position t w bs)) ≡ suc (length bs) → cond x 0 (suc (position t w (bs ++ (v ∷ [])))) ≡ suc (length (bs ++ (v ∷ [])))
     go true f q = absurd (omega arith)
     go false f q = ap suc (f (omega arith) e)
-
-module _ (t : List ℕ) (vs : List Place) (w : Place) where
-  fresh-number : isFresh (bytesOf t w) ≡ true → variableNumber t vs w ≡ length vs
-  unfolding variableNumber
-  fresh-number e = rw e
-
-  named-number : isFresh (bytesOf t w) ≡ false → variableNumber t vs w ≡ position t (bytesOf t w) vs
-  unfolding variableNumber
-  named-number e = rw e
-
-  with-new : length vs ≤ variableNumber t vs w → variablesWith t vs w ≡ vs ++ (w ∷ [])
-  unfolding variablesWith
-  with-new h = rw (le-ltb (variableNumber t vs w) (length vs) h)
-
-  with-old : variableNumber t vs w < length vs → variablesWith t vs w ≡ vs
-  unfolding variablesWith
-  with-old h = rw (lt-ltb (variableNumber t vs w) (length vs) h)
 
 abbrev row : ℕ → ℕ → Row
 row named all = record { named = named; all = all }
