@@ -3,6 +3,7 @@
 pub mod listings;
 mod small;
 mod tally;
+mod texts;
 
 use crate::engine::{Definition, Engine, Plain};
 use crate::make::{damage, goals, plans, tables};
@@ -24,6 +25,8 @@ pub fn compare<E: Engine>(exported: &E, rounds: usize, seed: u64) -> Tally {
     for _ in 0..rounds {
         comparison.round();
     }
+    comparison.fixed_texts();
+    comparison.random_texts(2 * rounds);
     comparison.tally
 }
 

@@ -1,4 +1,4 @@
-//! The six entries, as the library exports them and as the independent implementation answers them.
+//! The entries, as the library exports them and as the independent implementation answers them.
 
 use crate::model::{self, refusal::packed};
 
@@ -10,6 +10,7 @@ pub trait Engine {
     fn check_plan(&self, table: &[u32], plan: &[u32]) -> u64;
     fn build_plan(&self, table: &[u32], room: &mut [u32]) -> u64;
     fn run_plan(&self, table: &[u32], plan: &[u32], goal: &[u32], room: &mut [u8]) -> u64;
+    fn read_text(&self, text: &[u8], cells: &mut [u32], names: &mut [u32]) -> u64;
 }
 
 /// The independent implementation with runs by the definitions.
@@ -38,6 +39,9 @@ macro_rules! independent {
             }
             fn run_plan(&self, table: &[u32], plan: &[u32], goal: &[u32], room: &mut [u8]) -> u64 {
                 packed($run_plan(table, plan, goal, room))
+            }
+            fn read_text(&self, text: &[u8], cells: &mut [u32], names: &mut [u32]) -> u64 {
+                packed(model::text::read_text(text, cells, names))
             }
         }
     };
@@ -75,6 +79,7 @@ mod exported {
             room: *mut u8,
             room_bytes: usize,
         ) -> u64;
+        fn dudowiej_read_text(text: *const u8, text_bytes: usize, cells: *mut u32, cells_room: usize, names: *mut u32, names_room: usize) -> u64;
     }
 
     // Each pointer and length below is one slice's, and a lent room is borrowed alone.
@@ -98,6 +103,9 @@ mod exported {
             unsafe {
                 dudowiej_run_plan(table.as_ptr(), table.len(), plan.as_ptr(), plan.len(), goal.as_ptr(), goal.len(), room.as_mut_ptr(), room.len())
             }
+        }
+        fn read_text(&self, text: &[u8], cells: &mut [u32], names: &mut [u32]) -> u64 {
+            unsafe { dudowiej_read_text(text.as_ptr(), text.len(), cells.as_mut_ptr(), cells.len(), names.as_mut_ptr(), names.len()) }
         }
     }
 }

@@ -4,6 +4,7 @@ pub mod damage;
 pub mod goals;
 pub mod plans;
 pub mod tables;
+pub mod texts;
 
 use crate::model::term::Term;
 use crate::random::Random;

@@ -1,6 +1,7 @@
-//! Document 01 ("Tables, plans and runs") in plain Rust: terms as trees and a textbook unifier. It was written from the document alone and shares
-//! nothing with the library.
+//! Document 01 ("Tables, plans and runs") in plain Rust: terms as trees and a textbook unifier; and of 02 the requests that have landed. It was
+//! written from the documents alone and shares nothing with the library.
 
+pub mod grammar;
 pub mod least;
 pub mod listing;
 pub mod plan;
@@ -8,6 +9,7 @@ pub mod read;
 pub mod refusal;
 pub mod run;
 pub mod term;
+pub mod text;
 pub mod unify;
 pub mod walk;
 

@@ -12,9 +12,11 @@ struct Altered {
     check_plan: fn(&[u32], &[u32]) -> u64,
     build_plan: fn(&[u32], &mut [u32]) -> u64,
     run_plan: RunPlan,
+    read_text: ReadText,
 }
 
 type RunPlan = fn(&[u32], &[u32], &[u32], &mut [u8]) -> u64;
+type ReadText = fn(&[u8], &mut [u32], &mut [u32]) -> u64;
 
 const RIGHT: Altered = Altered {
     read_table: |table| Plain.read_table(table),
@@ -22,6 +24,7 @@ const RIGHT: Altered = Altered {
     check_plan: |table, plan| Plain.check_plan(table, plan),
     build_plan: |table, room| Plain.build_plan(table, room),
     run_plan: |table, plan, goal, room| Plain.run_plan(table, plan, goal, room),
+    read_text: |text, cells, names| Plain.read_text(text, cells, names),
 };
 
 impl Engine for Altered {
@@ -42,6 +45,9 @@ impl Engine for Altered {
     }
     fn run_plan(&self, table: &[u32], plan: &[u32], goal: &[u32], room: &mut [u8]) -> u64 {
         (self.run_plan)(table, plan, goal, room)
+    }
+    fn read_text(&self, text: &[u8], cells: &mut [u32], names: &mut [u32]) -> u64 {
+        (self.read_text)(text, cells, names)
     }
 }
 

@@ -95,9 +95,9 @@ impl<E: Engine> Comparison<'_, E> {
     }
 }
 
-/// Every list of up to so many cells of an alphabet.
-fn words(alphabet: &[u32], most: usize, visit: &mut impl FnMut(&[u32])) {
-    fn longer(alphabet: &[u32], left: usize, word: &mut Vec<u32>, visit: &mut impl FnMut(&[u32])) {
+/// Every list of up to so many cells or bytes of an alphabet.
+pub(super) fn words<T: Copy>(alphabet: &[T], most: usize, visit: &mut impl FnMut(&[T])) {
+    fn longer<T: Copy>(alphabet: &[T], left: usize, word: &mut Vec<T>, visit: &mut impl FnMut(&[T])) {
         visit(word);
         if left == 0 {
             return;

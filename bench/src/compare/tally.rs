@@ -13,9 +13,10 @@ pub enum Entry {
     CheckPlan,
     BuildPlan,
     RunPlan,
+    ReadText,
 }
 
-const ENTRIES: [&str; 6] = ["read_table", "read_goal", "row", "check_plan", "build_plan", "run_plan"];
+const ENTRIES: [&str; 7] = ["read_table", "read_goal", "row", "check_plan", "build_plan", "run_plan", "read_text"];
 
 /// How many differences are shown with their inputs.
 const SHOWN: u64 = 5;
@@ -23,11 +24,13 @@ const SHOWN: u64 = 5;
 #[derive(Default)]
 pub struct Tally {
     /// By the number of the refusal, 0 where the entry answered, and by entry.
-    counts: [[u64; 6]; 17],
+    counts: [[u64; ENTRIES.len()]; NAMES.len() + 1],
     differ: u64,
     /// Hits and branches tried of all runs that were answered.
     hits: u64,
     tried: u64,
+    /// Of the texts refused for want of room: for the cells, for the names.
+    text_rooms: [u64; 2],
     /// The independent implementation's parts among themselves: compared, and how many differed.
     own: BTreeMap<&'static str, (u64, u64)>,
 }
@@ -47,6 +50,13 @@ impl Tally {
                 let room = if same_room { "" } else { ", another room" };
                 eprintln!("{}: {answer:#x} and not {expected:#x}{room}: {}", ENTRIES[entry as usize], inputs());
             }
+        }
+    }
+
+    /// What a text's room was wanted for: the place is above the cells lent exactly where it is the cells.
+    pub fn text(&mut self, expected: u64, cells: usize) {
+        if expected & 0xff == 16 {
+            self.text_rooms[usize::from(expected >> 16 <= cells as u64)] += 1;
         }
     }
 
@@ -72,12 +82,23 @@ impl Tally {
 
     /// The refusals that no input met.
     pub fn never_met(&self) -> Vec<usize> {
-        (1..=16).filter(|&number| self.counts[number].iter().all(|&count| count == 0)).collect()
+        (1..=NAMES.len()).filter(|&number| self.counts[number].iter().all(|&count| count == 0)).collect()
+    }
+
+    /// What a text can be answered with, and how often it was.
+    fn texts(&self) -> Vec<(&'static str, u64)> {
+        const GIVEN: [usize; 8] = [17, 18, 19, 1, 2, 3, 4, 8];
+        let mut met: Vec<_> = GIVEN.iter().map(|&number| (NAMES[number - 1], self.counts[number][Entry::ReadText as usize])).collect();
+        met.extend([("ROOM for cells", self.text_rooms[0]), ("ROOM for names", self.text_rooms[1])]);
+        met
     }
 
     /// Nothing differs, here or within the independent implementation, and every refusal was met.
     pub fn passed(&self) -> bool {
-        self.differ == 0 && self.own.values().all(|&(_, differ)| differ == 0) && self.never_met().is_empty()
+        self.differ == 0
+            && self.own.values().all(|&(_, differ)| differ == 0)
+            && self.never_met().is_empty()
+            && self.texts().iter().all(|&(_, met)| met > 0)
     }
 }
 
@@ -97,9 +118,12 @@ impl fmt::Display for Tally {
             writeln!(f)?;
         }
         writeln!(f, "hits {} tried {}", self.hits, self.tried)?;
+        let texts: Vec<String> = self.texts().iter().map(|(name, met)| format!("{name} {met}")).collect();
+        writeln!(f, "texts refused: {}", texts.join(", "))?;
         for (what, (compared, differ)) in &self.own {
             writeln!(f, "{what}: {compared}, {differ} differ")?;
         }
+        writeln!(f, "refusals met: {} of {}", NAMES.len() - self.never_met().len(), NAMES.len())?;
         for number in self.never_met() {
             writeln!(f, "refusal {number} {} was never met", NAMES[number - 1])?;
         }

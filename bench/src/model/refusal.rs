@@ -1,6 +1,6 @@
 //! What is turned away (01, "What is turned away"), and an entry's answer as one number.
 
-/// 01's numbers 1 to 16.
+/// 01's numbers 1 to 16, then those of 02.
 #[derive(Clone, Copy, Debug, PartialEq, Eq)]
 pub enum Number {
     Length = 1,
@@ -19,11 +19,16 @@ pub enum Number {
     Label,
     Rows,
     Room,
+    Bytes,
+    Text,
+    Other,
 }
 
-/// 01's names, by number from 1.
-pub const NAMES: [&str; 16] =
-    ["LENGTH", "WIDTH", "COUNT", "LONG", "SHORT", "CELL", "FRESH", "TWICE", "EXTRA", "SIZE", "ENDS", "OPEN", "EDGES", "LABEL", "ROWS", "ROOM"];
+/// Their names, by number from 1.
+pub const NAMES: [&str; 19] = [
+    "LENGTH", "WIDTH", "COUNT", "LONG", "SHORT", "CELL", "FRESH", "TWICE", "EXTRA", "SIZE", "ENDS", "OPEN", "EDGES", "LABEL", "ROWS", "ROOM",
+    "BYTES", "TEXT", "OTHER",
+];
 
 /// Which input a refusal concerns.
 #[derive(Clone, Copy, Debug, PartialEq, Eq)]
@@ -32,6 +37,7 @@ pub enum Input {
     Plan,
     Goal,
     Room,
+    Text,
 }
 
 #[derive(Clone, Copy, Debug, PartialEq, Eq)]
