@@ -2,7 +2,7 @@
 use Prim.Native.Nat.{ℕ}
 use mathlib.Core.Path.{_≡_, refl, sym, _∙_, ap, subst}
 use mathlib.Core.Logic.{_⊎_, _↔_}
-use mathlib.Core.List.{List}
+use mathlib.Core.List.{List, [], _∷_}
 use native.Mathlib.Omega.{arith}
 use lib.ListN.{length}
 use Rattle.refusal.specs.Refusal.{Refused, Answer, answered, turned}
@@ -11,6 +11,9 @@ use Rattle.table.specs.Table.{Table, table, tableOf, IsTable}
 use Rattle.table.proofs.Accepted.{table-accepted}
 use Rattle.grammar.specs.Grammar.{Fact, Text}
 use Rattle.grammar.specs.Stops.{Stops}
+use Rattle.grammar.specs.Meaning.{Place, symbolsOf, namesOf, widthOf, tableCells}
+use Rattle.grammar.specs.Numbering.{Firsts, Rows}
+use Rattle.grammar.proofs.Numbered.{names-are, cells-are}
 use Rattle.grammar.specs.Taken.{Taken, too-long, no-text, other-fact, taken}
 use Rattle.grammar.proofs.Accepted as grammar
 use Rattle.loading.specs.Load as load
@@ -34,6 +37,16 @@ no-reading-with-place = grammar.not-both
 
 pub one-place : (text : List ℕ) {j k : ℕ} → Stops text j → Stops text k → j ≡ k
 one-place = grammar.one-place
+
+-- "Names are numbered from 0 in order of first appearance, and a list of where each name first stands in the text": the list is that one
+pub names-listed : (text : List ℕ) (facts : List Fact) (ns : List Place) → Firsts text [] (symbolsOf facts) ns ↔ (namesOf text facts ≡ ns)
+names-listed = names-are
+
+-- a cell for each symbol: a name's number is where the list has its bytes, a variable's is that of its first appearance in its row, "`_` as
+-- a fresh variable each time", a number's its value
+pub cells-meant : (text : List ℕ) (facts : List Fact) (cells : List ℕ)
+    → Rows text (namesOf text facts) facts cells ↔ (tableCells text facts ≡ widthOf facts ∷ length facts ∷ cells)
+cells-meant = cells-are
 
 -- the refusals, as the promise has them and as the request lists them
 turned-as : {text cells names : List ℕ} {f : Refused} → Loads text (length cells) (length names) (refuse f) → TextTurned text cells names f
