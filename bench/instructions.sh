@@ -1,5 +1,6 @@
 #!/bin/sh
-# Instructions of the exported and of the independent functions, counted by callgrind. Arguments go to cargo, as `--features stand-in`.
+# Instructions of the exported and of the independent functions, counted by callgrind. With TEXTS=1 those of texts alone. Arguments go to cargo,
+# as `--features stand-in`.
 set -eu
 cd "$(dirname "$0")"
 if ! command -v valgrind >/dev/null; then
@@ -10,5 +11,5 @@ cargo build --quiet --release "$@"
 counts=$(mktemp -d)
 trap 'rm -r "$counts"' EXIT
 valgrind --quiet --tool=callgrind --toggle-collect=measured --dump-after=measured --callgrind-out-file="$counts/count" \
-    target/release/dudowiej-bench count
-target/release/dudowiej-bench instructions "$counts"
+    target/release/dudowiej-bench "count${TEXTS:+-texts}"
+target/release/dudowiej-bench "${TEXTS:+text-}instructions" "$counts"

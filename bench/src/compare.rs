@@ -25,8 +25,14 @@ pub fn compare<E: Engine>(exported: &E, rounds: usize, seed: u64) -> Tally {
     for _ in 0..rounds {
         comparison.round();
     }
+    comparison.tally
+}
+
+/// Goes on with texts: those that are fixed, then so many random ones.
+pub fn texts<E: Engine>(exported: &E, tally: Tally, count: usize, seed: u64) -> Tally {
+    let mut comparison = Comparison { exported, random: Random::new(seed), tally };
     comparison.fixed_texts();
-    comparison.random_texts(2 * rounds);
+    comparison.random_texts(count);
     comparison.tally
 }
 

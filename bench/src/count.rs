@@ -5,6 +5,7 @@ use std::path::Path;
 
 use crate::branches::sorts;
 use crate::cases::{Case, Measure, KINDS, ROWS};
+use crate::texts::{measured_texts, reading};
 
 /// What callgrind counts.
 #[no_mangle]
@@ -24,6 +25,16 @@ pub fn count() {
     };
     each_case(|_, case| case.measures().into_iter().for_each(&mut once));
     sorts().iter().for_each(|sort| once(sort.walk()));
+    count_texts();
+}
+
+/// The same for texts alone.
+pub fn count_texts() {
+    for (_, text) in measured_texts() {
+        let mut work = reading(&text);
+        (work.work)();
+        measured(&mut *work.work);
+    }
 }
 
 /// Prints the instructions of every measure from callgrind's files FOLDER/count.1, count.2, ..
@@ -44,6 +55,17 @@ pub fn instructions(folder: &Path) {
     println!("\nOne branch: the walk by the number of branches tried; 64 rows, every branch of one sort");
     heading("instructions for a branch");
     sorts().iter().for_each(|sort| line(sort.walk(), sort.tried()));
+    text_instructions(folder, files);
+}
+
+/// Prints the instructions of every text from the files after the first so many.
+pub fn text_instructions(folder: &Path, before: usize) {
+    println!("\nTables from text, exported");
+    println!("{:<52}{:>8}{:>14}{:>12}", "", "bytes", "instructions", "for a byte");
+    for (number, (name, text)) in measured_texts().iter().enumerate() {
+        let count = total(&folder.join(format!("count.{}", before + number + 1)));
+        println!("{name:<52}{:>8}{count:>14}{:>12.1}", text.len(), count as f64 / text.len() as f64);
+    }
 }
 
 fn heading(first: &str) {

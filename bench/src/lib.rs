@@ -9,4 +9,5 @@ pub mod make;
 pub mod model;
 pub mod random;
 pub mod stack;
+pub mod texts;
 pub mod time;

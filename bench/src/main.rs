@@ -14,6 +14,7 @@ const USAGE: &str = "usage:
   time                      both side by side, in nanoseconds
   count                     every call that bench/instructions.sh counts, once
   instructions FOLDER       what callgrind counted
+  count-texts, text-instructions FOLDER    the same for texts alone
   stack                     the bytes of stack that each entry touches
   list                      the independent listing of the table on standard input";
 
@@ -33,6 +34,8 @@ fn main() -> ExitCode {
         ["time"] => done(time::time),
         ["count"] => done(count::count),
         ["instructions", folder] => done(|| count::instructions(Path::new(folder))),
+        ["count-texts"] => done(count::count_texts),
+        ["text-instructions", folder] => done(|| count::text_instructions(Path::new(folder), 0)),
         ["stack"] => done(stack::stack),
         ["list"] => done(list),
         _ => usage(),
@@ -57,6 +60,7 @@ fn compared(rounds: usize, seed: u64) -> ExitCode {
     println!("seed {seed}, {rounds} rounds");
     let listings_differ = compared_listings(rounds / 20, seed);
     let tally = compare::compare(&Exported, rounds, seed);
+    let tally = compare::texts(&Exported, tally, 2 * rounds, seed);
     println!("{tally}");
     if tally.passed() && listings_differ == 0 {
         ExitCode::SUCCESS

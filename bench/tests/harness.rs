@@ -1,6 +1,6 @@
 //! The comparison finds what it should: engines that are wrong in one thing each are found, and one that is right passes.
 
-use dudowiej_bench::compare::compare;
+use dudowiej_bench::compare::{compare, texts, Tally};
 use dudowiej_bench::engine::{Engine, Plain};
 use dudowiej_bench::model::plan::{check, grow};
 use dudowiej_bench::model::read::read_table;
@@ -67,7 +67,7 @@ fn hits(answer: u64) -> usize {
 
 #[test]
 fn a_right_one_passes() {
-    let tally = compare(&RIGHT, 2000, 1);
+    let tally = texts(&RIGHT, compare(&RIGHT, 2000, 1), 2000, 1);
     assert!(tally.passed(), "{tally}");
 }
 
@@ -209,5 +209,86 @@ fn every_branch_counted_as_tried() {
             }
         },
         ..RIGHT
+    });
+}
+
+/// A wrong reading of texts.
+fn found_in_texts(read_text: ReadText) {
+    let tally = texts(&Altered { read_text, ..RIGHT }, Tally::default(), 200, 1);
+    assert!(tally.differ() > 0);
+    assert!(!tally.passed());
+}
+
+fn number(answer: u64) -> u64 {
+    answer & 0xff
+}
+
+#[test]
+fn tabs_as_layout() {
+    found_in_texts(|text, cells, names| {
+        let spaces: Vec<u8> = text.iter().map(|&byte| if byte == b'\t' { b' ' } else { byte }).collect();
+        Plain.read_text(&spaces, cells, names)
+    });
+}
+
+#[test]
+fn a_comment_that_ends_at_a_carriage_return() {
+    found_in_texts(|text, cells, names| {
+        let lines: Vec<u8> = text.iter().map(|&byte| if byte == 13 { 10 } else { byte }).collect();
+        Plain.read_text(&lines, cells, names)
+    });
+}
+
+#[test]
+fn the_place_after_the_byte() {
+    found_in_texts(|text, cells, names| {
+        let answer = Plain.read_text(text, cells, names);
+        answer + if number(answer) == 18 { 1 << 16 } else { 0 }
+    });
+}
+
+#[test]
+fn the_room_for_names_first() {
+    found_in_texts(|text, cells, names| {
+        let (mut all, mut listed) = (vec![0; 40_000], vec![0; names.len()]);
+        let answer = Plain.read_text(text, &mut all, &mut listed);
+        if number(answer) == 16 {
+            answer
+        } else {
+            Plain.read_text(text, cells, names)
+        }
+    });
+}
+
+#[test]
+fn cells_written_before_the_table_is_read() {
+    found_in_texts(|text, cells, names| {
+        let answer = Plain.read_text(text, cells, names);
+        if let (8, [width, ..]) = (number(answer), cells) {
+            *width = 2;
+        }
+        answer
+    });
+}
+
+#[test]
+fn start_and_bytes_exchanged() {
+    found_in_texts(|text, cells, names| {
+        let answer = Plain.read_text(text, cells, names);
+        if answered(answer) {
+            names[..(answer >> 32) as usize].iter_mut().for_each(|name| *name = name.rotate_left(16));
+        }
+        answer
+    });
+}
+
+#[test]
+fn a_blank_that_is_always_the_same_variable() {
+    found_in_texts(|text, cells, names| {
+        let mut named = text.to_vec();
+        (1..text.len().saturating_sub(1))
+            .filter(|&at| matches!(text[at - 1..=at + 1], [b'(' | b',', b'_', b')' | b',']))
+            .for_each(|at| named[at] = b'Z');
+        Plain.read_text(&named, cells, names)
     });
 }

@@ -1,11 +1,13 @@
 //! The texts of 02's W-201, as a grammar in rules and all its derivations followed at once: a set of stacks of what is still to come.
 //!
-//!     text     = gap fact { gap1 fact } gap                     gap1: a gap of at least one byte
-//!     fact     = name "(" args ")" gap "."
-//!     args     = gap term gap { "," gap term gap }
-//!     term     = name | name "(" args ")" | variable | number   inside at most 4 arguments; a fact has any number of them
-//!     gap      = { space | line feed | carriage return | "%" { any byte but a line feed } ( line feed | the end of the text ) }
-//!     name     = a-z { a-z | A-Z | 0-9 | "_" }    variable = ( A-Z | "_" ) { the same }    number = 0-9 { 0-9 }, at most 65,535
+//! ```text
+//! text     = gap fact { gap1 fact } gap                     gap1: a gap of at least one byte
+//! fact     = name "(" args ")" gap "."
+//! args     = gap term gap { "," gap term gap }
+//! term     = name | name "(" args ")" | variable | number   inside at most 4 arguments; a fact has any number of them
+//! gap      = { space | line feed | carriage return | "%" { any byte but a line feed } ( line feed | the end of the text ) }
+//! name     = a-z { a-z | A-Z | 0-9 | "_" }    variable = ( A-Z | "_" ) { the same }    number = 0-9 { 0-9 }, at most 65,535
+//! ```
 //!
 //! Every stack that is kept can be completed, or stands beside one that can: so some text begins with the bytes read exactly where a stack is left.
 
@@ -57,25 +59,50 @@ const STOP: Part = One(Class::This(b'.'));
 const LINE_FEED: Part = One(Class::This(10));
 
 /// The ways in which a part that is not one byte and not the end can go on.
-fn ways(part: Part) -> Vec<Vec<Part>> {
+fn ways(part: Part, way: &mut dyn FnMut(&[Part])) {
     let lower = One(Class::Lower);
     match part {
-        Fact => vec![vec![lower, Word, OPEN, Args(None), CLOSE, Gap, STOP]],
-        Facts => vec![vec![Blank, Gap, Fact, Facts], vec![Gap, End]],
-        Args(most) => vec![vec![Gap, Term, Gap, MoreArgs(most.map(|most| most - 1))]],
-        MoreArgs(Some(0)) => vec![vec![]],
-        MoreArgs(most) => vec![vec![], vec![COMMA, Args(most)]],
-        Term => vec![
-            vec![lower, Word],
-            vec![lower, Word, OPEN, Args(INSIDE), CLOSE],
-            vec![One(Class::UpperOrUnderline), Word],
-            vec![One(Class::Digit(0))],
-        ],
-        Word => vec![vec![], vec![One(Class::WordByte), Word]],
-        Digits(value) => vec![vec![], vec![One(Class::Digit(value))]],
-        Gap => vec![vec![], vec![Blank, Gap]],
-        Blank => vec![vec![One(Class::This(b' '))], vec![LINE_FEED], vec![One(Class::This(13))], vec![One(Class::This(b'%')), Comment]],
-        Comment => vec![vec![One(Class::NotLineFeed), Comment], vec![LINE_FEED], vec![End]],
+        Fact => way(&[lower, Word, OPEN, Args(None), CLOSE, Gap, STOP]),
+        Facts => {
+            way(&[Blank, Gap, Fact, Facts]);
+            way(&[Gap, End]);
+        }
+        Args(most) => way(&[Gap, Term, Gap, MoreArgs(most.map(|most| most - 1))]),
+        MoreArgs(most) => {
+            way(&[]);
+            if most != Some(0) {
+                way(&[COMMA, Args(most)]);
+            }
+        }
+        Term => {
+            way(&[lower, Word]);
+            way(&[lower, Word, OPEN, Args(INSIDE), CLOSE]);
+            way(&[One(Class::UpperOrUnderline), Word]);
+            way(&[One(Class::Digit(0))]);
+        }
+        Word => {
+            way(&[]);
+            way(&[One(Class::WordByte), Word]);
+        }
+        Digits(value) => {
+            way(&[]);
+            way(&[One(Class::Digit(value))]);
+        }
+        Gap => {
+            way(&[]);
+            way(&[Blank, Gap]);
+        }
+        Blank => {
+            way(&[One(Class::This(b' '))]);
+            way(&[LINE_FEED]);
+            way(&[One(Class::This(13))]);
+            way(&[One(Class::This(b'%')), Comment]);
+        }
+        Comment => {
+            way(&[One(Class::NotLineFeed), Comment]);
+            way(&[LINE_FEED]);
+            way(&[End]);
+        }
         One(_) | End => unreachable!("a byte or the end"),
     }
 }
@@ -113,12 +140,10 @@ impl Stacks {
     fn unfold(&mut self, stack: Stack, tops: &mut Vec<Stack>) {
         match stack.map(|top| self.0[top]) {
             None | Some((One(_) | End, _)) => tops.push(stack),
-            Some((part, below)) => {
-                for way in ways(part) {
-                    let stack = way.into_iter().rev().fold(below, |stack, part| self.push(part, stack));
-                    self.unfold(stack, tops);
-                }
-            }
+            Some((part, below)) => ways(part, &mut |way| {
+                let stack = way.iter().rev().fold(below, |stack, &part| self.push(part, stack));
+                self.unfold(stack, tops);
+            }),
         }
     }
 
