@@ -1,6 +1,6 @@
 #!/bin/sh
-# Instructions of the exported and of the independent functions, counted by callgrind. With TEXTS=1 those of texts alone. Arguments go to cargo,
-# as `--features stand-in`.
+# Instructions of the exported and of the independent functions, counted by callgrind. With TEXTS=1 those of texts alone. Arguments go to
+# cargo, as `--features stand-in`.
 set -eu
 cd "$(dirname "$0")"
 if ! command -v valgrind >/dev/null; then

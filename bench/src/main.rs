@@ -7,7 +7,7 @@ use std::process::ExitCode;
 use dudowiej_bench::compare::{self, listings, ROUNDS, SEED};
 use dudowiej_bench::engine::Exported;
 use dudowiej_bench::model::listing::listing;
-use dudowiej_bench::{count, stack, time};
+use dudowiej_bench::{count, prolog, stack, time};
 
 const USAGE: &str = "usage:
   compare [ROUNDS [SEED]]   the exported functions against the independent implementation
@@ -15,6 +15,7 @@ const USAGE: &str = "usage:
   count                     every call that bench/instructions.sh counts, once
   instructions FOLDER       what callgrind counted
   count-texts, text-instructions FOLDER    the same for texts alone
+  texts FOLDER COUNT SEED   accepted texts with their facts, and kinds of refused ones, as files
   stack                     the bytes of stack that each entry touches
   list                      the independent listing of the table on standard input";
 
@@ -36,6 +37,10 @@ fn main() -> ExitCode {
         ["instructions", folder] => done(|| count::instructions(Path::new(folder))),
         ["count-texts"] => done(count::count_texts),
         ["text-instructions", folder] => done(|| count::text_instructions(Path::new(folder), 0)),
+        ["texts", folder, count, seed] => match (number(count), number(seed)) {
+            (Some(count), Some(seed)) => done(|| prolog::write_texts(Path::new(folder), count as usize, seed)),
+            _ => usage(),
+        },
         ["stack"] => done(stack::stack),
         ["list"] => done(list),
         _ => usage(),

@@ -11,8 +11,9 @@ use crate::make::goals;
 use crate::make::tables::{table, Kind};
 use crate::model::least::least;
 use crate::model::plan::{grow, PLAN_CELLS};
-use crate::model::read::{read_table, Table, ROW_CELLS};
+use crate::model::read::{read_table, Table, ROW_CELLS, TABLE_CELLS};
 use crate::random::Random;
+use crate::texts::{measured_texts, ROOM};
 use touched::touched;
 
 const ROWS: usize = 64;
@@ -26,6 +27,9 @@ pub fn stack() {
         for table in refused_too(table) {
             most.of_table(&table, &plans, &goals);
         }
+    }
+    for (_, text) in measured_texts() {
+        most.of_text(&text);
     }
     println!("Bytes of stack that a call touches below its caller's frame, the most over all inputs");
     for (entry, bytes) in most.0 {
@@ -56,6 +60,17 @@ impl Most {
             for bytes in [ROWS, 0] {
                 let mut room = vec![0; bytes];
                 self.note("dudowiej_run_plan", || Exported.run_plan(table, plan, goal, &mut room));
+            }
+        }
+    }
+
+    /// The text as it is, cut, and with a byte at its end that no text has; rooms of no size, of one cell, of a table's and larger than all.
+    fn of_text(&mut self, text: &[u8]) {
+        let damaged = [&text[..text.len() - 1], b"\t"].concat();
+        for text in [text, &text[..text.len() - 1], &damaged] {
+            for (cells, names) in [(0, 0), (TABLE_CELLS, 0), (TABLE_CELLS, TABLE_CELLS), (ROOM, 0), (ROOM, 1), (ROOM, TABLE_CELLS), (ROOM, ROOM)] {
+                let (mut cells, mut names) = (vec![0; cells], vec![0; names]);
+                self.note("dudowiej_read_text", || Exported.read_text(text, &mut cells, &mut names));
             }
         }
     }

@@ -1,0 +1,102 @@
+//! Accepted texts as files, each with its facts as the exported entry gave them, for other Prologs to read; and texts that are refused here
+//! although they are Prolog. bench/prolog.sh does it all.
+
+use std::fs::write;
+use std::path::Path;
+
+use crate::engine::{Engine, Exported};
+use crate::make::texts;
+use crate::model::read::TABLE_CELLS;
+use crate::model::term::Symbol;
+use crate::random::Random;
+
+/// Writes FOLDER/t0.pl, t0.facts, .. for so many accepted texts, with their names in FOLDER/list; FOLDER/r0.pl, .. for the kinds of texts that are
+/// refused, with `name kind` lines in FOLDER/kinds and their names in FOLDER/refused.
+pub fn write_texts(folder: &Path, count: usize, seed: u64) {
+    let put = |name: String, bytes: &[u8]| write(folder.join(&name), bytes).unwrap_or_else(|error| panic!("{name}: {error}"));
+    let random = &mut Random::new(seed);
+    for number in 0..count {
+        let (text, facts) = loop {
+            let text = texts::any(random);
+            if let Some(facts) = facts(&text) {
+                break (text, facts);
+            }
+        };
+        put(format!("t{number}.pl"), &text);
+        put(format!("t{number}.facts"), facts.as_bytes());
+    }
+    put("list".into(), (0..count).map(|number| format!("t{number}.\n")).collect::<String>().as_bytes());
+    for (number, (kind, text)) in REFUSED.iter().enumerate() {
+        assert!(facts(text).is_none(), "{kind} is accepted");
+        put(format!("r{number}.pl"), text);
+    }
+    let kinds = REFUSED.iter().enumerate();
+    put("kinds".into(), kinds.clone().map(|(number, (kind, _))| format!("r{number} {kind}\n")).collect::<String>().as_bytes());
+    put("refused".into(), kinds.map(|(number, _)| format!("r{number}.\n")).collect::<String>().as_bytes());
+}
+
+/// Texts that are refused, by kind; most of them are Prolog by ISO/IEC 13211-1.
+const REFUSED: [(&str, &[u8]); 31] = [
+    ("a fact without arguments", b"p.\n"),
+    ("a rule", b"p(a) :- q(b).\n"),
+    ("a directive", b":- dynamic(p/1).\np(a).\n"),
+    ("facts of two predicates", b"p(a).\nq(b).\n"),
+    ("facts of two widths", b"p(a).\np(a,b).\n"),
+    ("a quoted name", b"p('Red').\n"),
+    ("a quoted name that needs no quotes", b"p('red').\n"),
+    ("a name of graphic characters", b"p(+).\n"),
+    ("an operator between arguments", b"p(a-b).\n"),
+    ("an operator in front", b"p(- a).\n"),
+    ("a number below zero", b"p(-1).\n"),
+    ("a number over 65,535", b"p(65536).\n"),
+    ("a number with a point", b"p(1.5).\n"),
+    ("a number of another base", b"p(0x1F).\n"),
+    ("a character's code", b"p(0'a).\n"),
+    ("digits in groups", b"p(1_000).\n"),
+    ("a list", b"p([a,b]).\n"),
+    ("an empty list", b"p([]).\n"),
+    ("curly brackets", b"p({a}).\n"),
+    ("a string in double quotes", b"p(\"a\").\n"),
+    ("brackets around a term", b"p((a)).\n"),
+    ("a name with five arguments inside", b"p(f(a,b,c,d,e)).\n"),
+    ("nine arguments", b"p(a,b,c,d,e,f,g,h,i).\n"),
+    ("a variable twice in a row", b"p(X,X).\n"),
+    ("a comment between /* and */", b"p(a). /* c */\n"),
+    ("a tab", b"p(\ta).\n"),
+    ("a form feed", b"p(a).\x0c\n"),
+    ("no layout between two facts", b"p(a).p(b).\n"),
+    ("a space between name and bracket", b"p (a).\n"),
+    ("a letter beyond ASCII in a name", b"p(caf\xe9).\n"),
+    ("nothing but a comment", b"% p(a).\n"),
+];
+
+/// The facts of an accepted text, from cells and names: for each its width and its symbols, each before its arguments.
+fn facts(text: &[u8]) -> Option<String> {
+    let (mut cells, mut names) = (vec![0; TABLE_CELLS], vec![0; TABLE_CELLS]);
+    let answer = Exported.read_text(text, &mut cells, &mut names);
+    if answer & 0xff != 0 {
+        return None;
+    }
+    let mut rest = &cells[2..(answer >> 16 & 0xffff) as usize];
+    let mut facts = String::new();
+    while !rest.is_empty() {
+        facts += &format!("{}:", cells[0]);
+        let mut owed = cells[0] as usize;
+        while owed > 0 {
+            let symbol = Symbol::of(rest[0]).expect("a table's cell");
+            rest = &rest[1..];
+            owed -= 1;
+            facts += &match symbol {
+                Symbol::Variable(number) => format!(" _{number}"),
+                Symbol::Number(value) => format!(" {value}"),
+                Symbol::Name { number, arguments } => {
+                    owed += arguments;
+                    let (start, bytes) = (names[number as usize] & 0xffff, names[number as usize] >> 16);
+                    format!(" {}/{arguments}", text[start as usize..][..bytes as usize].escape_ascii())
+                }
+            };
+        }
+        facts.push('\n');
+    }
+    Some(facts)
+}
