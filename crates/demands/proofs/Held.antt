@@ -29,7 +29,8 @@ use Rattle.answer.specs.declared.RunAnswer.{RunAnswer}
 use Rattle.answer.specs.Run.{runTold, Ran}
 use Rattle.answer.proofs.Fixed.{run-fixed}
 use Rattle.answer.proofs.Theorems.{tries-at-most}
-use Rattle.listing.specs.Listing.{Lists, Written}
+use Rattle.printing.specs.Printing.{Written}
+use Rattle.listing.specs.Listing.{Lists}
 use Rattle.listing.proofs.Fixed.{written-one}
 use Rattle.loading.specs.Load.{TextLoads}
 use Rattle.prolog.specs.Entry.{textTold}

@@ -29,23 +29,12 @@ use Rattle.plan.proofs.CheckLaws.{accepted, rows-fit}
 use Rattle.builder.specs.Build.{BuiltInto, table-refused, room-refused, built, buildTold}
 use Rattle.builder.specs.declared.BuildAnswer.{BuildAnswer}
 use Rattle.builder.specs.declared.BuildAnswer.the-variants as build-answer
-use Rattle.listing.specs.Listing.{header, listingOf, unread, Written}
-use Rattle.listing.specs.code.Walk.{sizes, Ready, Walked, Planned, Listed}
+use Rattle.listing.specs.Listing.{header, listingOf, unread}
+use Rattle.listing.specs.code.Walk.{sizes, Ready, Walked, Planned}
 use Rattle.listing.specs.declared.walk.Stand.{Stand}
 use Rattle.listing.proofs.LengthLaws.{listing-few}
 use Rattle.listing.proofs.SizesLaws.{noted-sizes}
 use Rattle.listing.proofs.WalkLaws.{stand}
-
--- a text that is put for one reason is put for another
-pub listed-as : {P Q : List ℕ → Type 0} {old new : List ℕ} {n : ℕ} → Listed P old new n → ((text : List ℕ) → P text → Q text) → Listed Q old new n
-listed-as l f = record { text = l .text; right = f (l .text) (l .right); few = l .few; puts = l .puts }
-
--- with 43,035 bytes of room it is written, all of it
-pub listed-written : {Is : List ℕ → Type 0} {room room′ : List ℕ} {n : ℕ} → length room ≡ 43035 → Listed Is room room′ n → Written Is room room′ n
-listed-written {room = room} h l =
-    let fits : length (l .text) ≤ length room = omega (arith, l .few) in
-    let front = put-front (l .puts) fits in
-    record { text = l .text; right = l .right; count = front .0; fits = fits; front = front .1 }
 
 -- the numbers of rows do not depend on which plan wrote the cells
 same-sizes : (T T′ : Table) → T ≡ T′ → (p : Plan (T .width) (T .rows)) (q : Plan (T′ .width) (T′ .rows)) → write p ≡ write q → sizes p ≡ sizes q

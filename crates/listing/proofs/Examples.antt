@@ -10,6 +10,7 @@ use Rattle.term.specs.Terms.{none, more, root, close}
 use Rattle.table.specs.All.{All}
 use Rattle.refusal.specs.Read.{read}
 use Rattle.octets.specs.Octets.{digitsOf, decimal, cellsOf}
+use Rattle.printing.specs.Printing.{symbolOf}
 use Rattle.table.specs.Table.{Table, table, termsFrom, rowsFrom, tableOf}
 use Rattle.plan.specs.Runs.{agree}
 use Rattle.plan.specs.Plans.{Plan, leaf, node, end, next, write, plain, cost}
@@ -18,7 +19,7 @@ use Rattle.plan.proofs.PlansLaws.{write-one}
 use Rattle.least.specs.Least.{Built}
 use Rattle.least.specs.code.Best.{argmin, total, best}
 use Rattle.least.proofs.Builder.{place, runCells, planCells, plan-built}
-use Rattle.listing.specs.Listing.{symbolOf, line, linesIn, header, listingOf, listed, unread, Lists, cells}
+use Rattle.listing.specs.Listing.{line, linesIn, header, listingOf, listed, unread, Lists, cells}
 
 -- cells 2, 2, 1073741825, 1073741826, 1073741825, 2147483657
 unfoldable pub bytes : List ℕ

@@ -1,15 +1,16 @@
 -- Any bytes have one listing, and what is written of it is fixed: how many bytes, and every byte of the room.
 use mathlib.Core.Path.{_≡_, refl, sym, ap, pathJ, _∙_}
-use mathlib.Core.List.{List, _++_}
+use mathlib.Core.List.{List}
 use Prim.Native.Nat.{ℕ}
 use native.Mathlib.Omega.{arith}
-use lib.ListN.{length, drop}
 use Rattle.table.specs.Table.{Table}
 use Rattle.table.proofs.ReadLaws.{apart, read-one}
 use Rattle.plan.specs.Plans.{Plan, plain}
 use Rattle.least.specs.Least.{Built}
 use Rattle.least.proofs.Building.{built-one}
-use Rattle.listing.specs.Listing.{listingOf, ListsTable, refused, listed, Lists, no-cells, cells, Written}
+use Rattle.printing.specs.Printing.{Written}
+use Rattle.printing.proofs.Fixed.{written-fixed}
+use Rattle.listing.specs.Listing.{listingOf, ListsTable, refused, listed, Lists, no-cells, cells}
 
 listing-one : (T : Table) (p : Plan (T .width) (T .rows)) → Built plain p → (T′ : Table) → T ≡ T′ → (q : Plan (T′ .width) (T′ .rows)) → Built plain q
     → listingOf T p ≡ listingOf T′ q
@@ -35,6 +36,4 @@ lists-one bytes (cells u l) (cells v m) = table-one _ l m
 -- two results that `list_table` allows are equal
 pub written-one : (bytes room : List ℕ) {room′ room″ : List ℕ} {m n : ℕ} → Written (Lists bytes) room room′ m → Written (Lists bytes) room room″ n
     → (m ≡ n) × (room′ ≡ room″)
-written-one bytes room v w =
-    let e = lists-one bytes (v .right) (w .right) in
-    (v .count ∙ ap length e ∙ sym (w .count), v .front ∙ ap (λ (l : List ℕ). l ++ drop (length l) room) e ∙ sym (w .front))
+written-one bytes room = written-fixed (λ x y a b. lists-one bytes a b)

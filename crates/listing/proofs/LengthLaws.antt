@@ -4,11 +4,10 @@ use mathlib.Core.List.{List, [], _∷_, _++_}
 use Prim.Native.Nat.{ℕ, suc, pred, _+_, _-_, _*_, _^_, _≤_, _<_}
 use native.Mathlib.Omega.{arith}
 use lib.ListN.{length, length-append}
-use Rattle.cell.specs.Cell.{numberOf, argsOf, Values, arity}
-use Rattle.cell.proofs.CellLaws.{Reading, a-variable, a-name, a-number, no-cell, reading, values-small}
+use Rattle.cell.specs.Cell.{arity}
 use Rattle.term.proofs.TermsLaws.{terms-long}
-use Rattle.octets.specs.Octets.{decimal}
 use Rattle.octets.proofs.DecimalLaws.{digits-few}
+use Rattle.printing.proofs.LengthLaws.{symbol-few}
 use Rattle.table.specs.All.{All}
 use Rattle.table.specs.Table.{Table}
 use Rattle.plan.specs.Runs.{Run}
@@ -17,20 +16,8 @@ use Rattle.plan.proofs.RunsLaws.{Each, fits-some, runs-fit}
 use Rattle.plan.specs.code.Fits.{Fits}
 use Rattle.plan.proofs.PlansLaws.{cost-plain}
 use Rattle.plan.proofs.SizeLaws.{bound}
-use Rattle.listing.specs.Listing.{symbolOf, symbol, line, linesIn, linesOf, header, refusal, listingOf}
+use Rattle.listing.specs.Listing.{line, linesIn, linesOf, header, listingOf}
 use Rattle.listing.proofs.WalkLaws.{Within, within, within-first}
-
--- a symbol has at most 8 bytes: `n65535/4`
-symbol-by : (c : ℕ) {v : Values} → Reading c v → v .args ≤ 4 → v .number < 2 ^ 16 → length (symbolOf v) ≤ 8
-unfolding symbolOf
-symbol-by c (a-variable k m) h l = omega (arith, digits-few 4 (numberOf c) (omega arith))
-symbol-by c (a-name k m) h l =
-    omega (arith, digits-few 4 (numberOf c) (omega arith), digits-few 0 (argsOf c) (omega arith), length-append (decimal (numberOf c)) (47 ∷ decimal (argsOf c)))
-symbol-by c (a-number k m) h l = omega (arith, digits-few 4 (numberOf c) (omega arith))
-symbol-by c (no-cell n) h l = omega arith
-
-symbol-few : (c : ℕ) → length (symbol c) ≤ 8
-symbol-few c = let v = values-small c in symbol-by c (reading c) (v .0) (v .1)
 
 -- a line has at most 21 bytes: `31 31 n65535/4 63-63`
 line-few : (depth index c first last : ℕ) → depth < 100 → index < 100 → first < 100 → last < 100 → length (line depth index c first last) ≤ 21
@@ -76,7 +63,7 @@ unfolding header
 header-few rows width cost hr hw hc =
     simp length-append (omega (arith, digits-few 1 rows hr, digits-few 0 width hw, digits-few 3 cost hc))
 
--- 01's longest listing, and any refusal of numbers of 64 bits
+-- 01's longest listing
 pub listing-few : (T : Table) (p : Plan (T .width) (T .rows)) → All (Fits 32 (T .width)) (T .rows) → 0 < length (T .rows) → length (T .rows) ≤ 64 → T .width ≤ 8
     → length (listingOf T p) ≤ 43035
 listing-few T p f h l w =
@@ -85,7 +72,3 @@ listing-few T p f h l w =
     let first = header-few (length (T .rows)) (T .width) (cost plain p) (omega arith) (omega arith) (omega arith) in
     let lines = lines-few p 32 0 0 f h (omega arith) (omega arith) in
     omega (arith, cost-plain p, length-append (header (length (T .rows)) (T .width) (cost plain p)) (linesIn p 0 0))
-
-pub refusal-few : (number place : ℕ) → number < 2 ^ 64 → place < 2 ^ 64 → length (refusal number place) ≤ 53
-unfolding refusal
-refusal-few number place hn hp = simp length-append (omega (arith, digits-few 19 number (omega arith), digits-few 19 place (omega arith)))

@@ -1,44 +1,23 @@
 -- The listing of a table (01, "On both sides", from "The listing program" on), as ASCII bytes.
-use Prim.Native.Nat.{ℕ, suc, _+_, _-_, _%_, _≤_}
+use Prim.Native.Nat.{ℕ, suc, _+_, _-_, _%_}
 use mathlib.Core.Path.{_≡_}
-use mathlib.Core.Bool.{Bool, true, false, cond, not, _||_}
+use mathlib.Core.Bool.{Bool, true, false, not, _||_}
 use mathlib.Core.List.{List, [], _∷_, _++_}
 use lib.Dec.{eqb, ltb}
-use lib.ListN.{length, drop}
-use Rattle.cell.specs.Cell.{Values, valuesAt}
+use lib.ListN.{length}
 use Rattle.refusal.specs.Refusal.{Refused, numberOf}
 use Rattle.refusal.specs.declared.Reason.the-variants.{Length}
 use Rattle.refusal.specs.Read.{read, refuse}
 use Rattle.octets.specs.Octets.{decimal, field, cellsOf}
+use Rattle.printing.specs.Printing.{space, feed, symbol, refusal}
 use Rattle.table.specs.Table.{Table, tableOf}
 use Rattle.plan.specs.Runs.{Run}
 use Rattle.plan.specs.Plans.{Plan, leaf, node, Branches, end, next, plain, cost}
 use Rattle.least.specs.Least.{Built}
 
--- the bytes between numbers: a space, `-`, `/`, and the line feed that ends every line
-abbrev pub space : ℕ
-space = 32
-
+-- the byte between a first and a last row
 abbrev pub dash : ℕ
 dash = 45
-
-abbrev pub slash : ℕ
-slash = 47
-
-abbrev pub feed : ℕ
-feed = 10
-
--- 01, "symbol (n number/arguments, i value or v number)": `n`, `i` and `v` are 110, 105 and 118.
--- The last case is that of a cell which is refused; no plan of an accepted table holds one
-unfoldable pub symbolOf : Values → List ℕ
-symbolOf v =
-    cond (eqb (v .kind) 0) (118 ∷ decimal (v .number))
-    (cond (eqb (v .kind) 1) (110 ∷ (decimal (v .number) ++ (slash ∷ decimal (v .args))))
-    (cond (eqb (v .kind) 2) (105 ∷ decimal (v .number))
-    []))
-
-abbrev pub symbol : ℕ → List ℕ
-symbol c = symbolOf (valuesAt c)
 
 -- 01, "one line per branch ..: depth from 0, open place's index, symbol, first and last row", in the form of 01's example: `0 0 n1/0 0-1`
 unfoldable pub line : (depth index cell first last : ℕ) → List ℕ
@@ -57,7 +36,7 @@ unfoldable mutual
       line depth index (g .cell) first (first + length (g .rows) - 1)
       ++ (linesIn p (suc depth) first ++ linesOf bs depth index (first + length (g .rows)))
 
--- `rows `, ` width `, ` edges `, `refused `, ` at `
+-- `rows `, ` width `, ` edges `
 abbrev pub rowsWord : List ℕ
 rowsWord = 114 ∷ 111 ∷ 119 ∷ 115 ∷ 32 ∷ []
 
@@ -67,20 +46,10 @@ widthWord = 32 ∷ 119 ∷ 105 ∷ 100 ∷ 116 ∷ 104 ∷ 32 ∷ []
 abbrev pub edgesWord : List ℕ
 edgesWord = 32 ∷ 101 ∷ 100 ∷ 103 ∷ 101 ∷ 115 ∷ 32 ∷ []
 
-abbrev pub refusedWord : List ℕ
-refusedWord = 114 ∷ 101 ∷ 102 ∷ 117 ∷ 115 ∷ 101 ∷ 100 ∷ 32 ∷ []
-
-abbrev pub atWord : List ℕ
-atWord = 32 ∷ 97 ∷ 116 ∷ 32 ∷ []
-
 -- 01, "It prints rows, width and cost": `rows 2 width 2 edges 3`
 unfoldable pub header : (rows width cost : ℕ) → List ℕ
 header rows width cost =
     rowsWord ++ (decimal rows ++ (widthWord ++ (decimal width ++ (edgesWord ++ field cost feed))))
-
--- 01, "A refusal prints `refused N at K`"
-unfoldable pub refusal : (number place : ℕ) → List ℕ
-refusal number place = refusedWord ++ (decimal number ++ (atWord ++ field place feed))
 
 -- "It prints rows, width and cost, then one line per branch": the first state's branches are at depth 0, and its first row is row 0
 abbrev pub listingOf : (T : Table) → Plan (T .width) (T .rows) → List ℕ
@@ -101,11 +70,3 @@ unread bytes = ltb 8200 (length bytes) || not (eqb (length bytes % 4) 0)
 pub data Lists (bytes : List ℕ) : List ℕ → Type 0 where
   no-cells : unread bytes ≡ true → Lists bytes (refusal (numberOf Length) 0)
   cells : {text : List ℕ} → unread bytes ≡ false → ListsTable (cellsOf bytes) text → Lists bytes text
-
--- what is written: a text with the property comes first, "and the rest of the room is untouched"; n is how many bytes it has
-pub record Written (Is : List ℕ → Type 0) (room room′ : List ℕ) (n : ℕ) : Type 0 where
-  pub text : List ℕ
-  pub right : Is text
-  pub count : n ≡ length text
-  pub fits : length text ≤ length room
-  pub front : room′ ≡ text ++ drop (length text) room

@@ -2,13 +2,15 @@
 mod text;
 mod walk;
 
-ghost use Rattle.listing.specs.Listing.{ListsTable, Lists, Written};
-ghost use Rattle.listing.specs.code.Walk.{Planned, PutsPlan, Listed};
+ghost use Rattle.printing.specs.Printing.{Written};
+ghost use Rattle.printing.specs.code.Listed.{Listed};
+ghost use Rattle.listing.specs.Listing.{ListsTable, Lists};
+ghost use Rattle.listing.specs.code.Walk.{Planned, PutsPlan, most};
 use crate::text::put_header;
-use crate::text::put_refusal;
 use crate::walk::Stand;
 use crate::walk::state;
 use builder::BuildAnswer;
+use printing::put_refusal;
 use refusal::Reason;
 
 // The listing of a plan that was built for the table. How many rows a branch has is noted for the asking.
@@ -32,7 +34,7 @@ fn list_plan(table: &[u32], plan: &[u32], out: &mut [u8], cost: usize) -> usize
 
 // The listing of a table's cells.
 fn list_cells(table: &[u32], out: &mut [u8]) -> usize
-    ensures { λ r. ⌜ Listed (ListsTable (now (table .entry))) (now (out .entry)) (now (out .exit)) r ⌝ }
+    ensures { λ r. ⌜ Listed most (ListsTable (now (table .entry))) (now (out .entry)) (now (out .exit)) r ⌝ }
 {
     let mut room = [0u32; 6082];
     match builder::build_plan(table, &mut room) {

@@ -1,11 +1,13 @@
-use mathlib.Core.Path.{sym, subst}
+use mathlib.Core.Path.{sym}
 use Prim.Native.Nat.{ℕ, _≤_}
+use native.Mathlib.Omega.{arith}
 use lib.ListN.{length, take, length-replicate}
 use lib.Seq.{length-take-le}
 use Rattle.refusal.specs.Refusal.{told}
-use Rattle.listing.specs.Listing.{listingOf, ListsTable, refused, listed}
+use Rattle.printing.proofs.ListedLaws.{listed-text}
+use Rattle.listing.specs.Listing.{listingOf, refused, listed}
 use Rattle.listing.specs.code.Walk.{Planned}
-use Rattle.listing.proofs.EntryLaws.{plan-built, plan-refused, planned-few, listed-as}
+use Rattle.listing.proofs.EntryLaws.{plan-built, plan-refused, planned-few}
 use borrow.Author.Needs.{needs}
 use Rattle.listing.proofs.list_cells.Statement.{statement}
 use Rattle.listing.proofs.list_cells.Tie as tie
@@ -62,7 +64,8 @@ returns-2 c =
     let x = c .before .before .before .before .before in
     let f = x .f .given .0 .0 in
     let turned = plan-refused (x .before .before .before .build-plan .ensures) (length-replicate {A = ℕ} 6082 0) f (x .f .given .1) in
-    listed-as (c .before .before .put-refusal .ensures) (λ text e. subst (ListsTable _) e (refused (told f) turned))
+    let line = c .before .before .put-refusal .ensures in
+    listed-text (line .0) (omega arith) (refused (told f) turned)
 
 pub list-cells-spec : {M : Type 1} → statement M
 list-cells-spec =

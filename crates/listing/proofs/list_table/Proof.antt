@@ -5,8 +5,10 @@ use native.Mathlib.Omega.{arith}
 use lib.ListN.{length, take, length-replicate}
 use lib.Seq.{length-take-le}
 use Rattle.octets.specs.Octets.{cellsOf}
+use Rattle.printing.proofs.ListedLaws.{listed-text, listed-as, listed-written}
 use Rattle.listing.specs.Listing.{ListsTable, Lists, no-cells, cells}
-use Rattle.listing.proofs.EntryLaws.{listed-as, listed-written, too-long, not-fours, in-fours, cells-front}
+use Rattle.listing.specs.code.Walk.{most}
+use Rattle.listing.proofs.EntryLaws.{too-long, not-fours, in-fours, cells-front}
 use borrow.Author.Needs.{needs}
 use Rattle.listing.proofs.list_table.Statement.{statement}
 use Rattle.listing.proofs.list_table.Tie as tie
@@ -23,7 +25,8 @@ put-refusal-requires c κs = search needs
 returns : tie.Need-returns
 returns c =
     let unread = too-long (c .before .before .before .before .args .bytes .now) (omega arith) in
-    listed-written (omega arith) (listed-as (c .put-refusal .ensures) (λ text e. subst (Lists _) e (no-cells unread)))
+    let line = c .put-refusal .ensures in
+    listed-written {most = most} (omega arith) (listed-text (line .0) (omega arith) (no-cells unread))
 
 put-refusal-requires-2 : tie.Need-put-refusal-requires-2
 put-refusal-requires-2 c κs = search needs
@@ -31,7 +34,8 @@ put-refusal-requires-2 c κs = search needs
 returns-2 : tie.Need-returns-2
 returns-2 c =
     let unread = not-fours (c .before .before .before .before .before .args .bytes .now) (omega arith) (λ z. omega arith) in
-    listed-written (omega arith) (listed-as (c .put-refusal2 .ensures) (λ text e. subst (Lists _) e (no-cells unread)))
+    let line = c .put-refusal2 .ensures in
+    listed-written {most = most} (omega arith) (listed-text (line .0) (omega arith) (no-cells unread))
 
 slice-aggregate-read-cells : tie.Need-slice-aggregate-read-cells
 slice-aggregate-read-cells c = search needs

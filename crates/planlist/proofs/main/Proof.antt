@@ -1,4 +1,4 @@
-use Rattle.listing.proofs.FrontLaws.{written-inside, written-part}
+use Rattle.printing.proofs.FrontLaws.{written-inside, written-part}
 use borrow.Author.Needs.{needs}
 use Rattle.planlist.proofs.main.Statement.{statement}
 use Rattle.planlist.proofs.main.Tie as tie

@@ -1,4 +1,4 @@
-use Rattle.listing.proofs.FrontLaws.{written-inside, written-part}
+use Rattle.printing.proofs.FrontLaws.{written-inside, written-part}
 use borrow.Author.Needs.{needs}
 use Rattle.planlist_cases.proofs.show.Statement.{statement}
 use Rattle.planlist_cases.proofs.show.Tie as tie

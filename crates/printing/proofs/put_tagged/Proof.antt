@@ -1,7 +1,7 @@
 use Rattle.octets.proofs.PutLaws.{put-put}
 use borrow.Author.Needs.{needs}
-use Rattle.listing.proofs.text.put_tagged.Statement.{statement}
-use Rattle.listing.proofs.text.put_tagged.Tie as tie
+use Rattle.printing.proofs.put_tagged.Statement.{statement}
+use Rattle.printing.proofs.put_tagged.Tie as tie
 
 put-byte-requires : tie.Need-put-byte-requires
 put-byte-requires c κs = search needs

@@ -1,12 +1,12 @@
-use mathlib.Core.Path.{_≡_, refl}
+use mathlib.Core.Path.{_≡_}
 use native.Mathlib.Omega.{arith}
 use Rattle.refusal.specs.Refusal.{numberOf}
 use Rattle.octets.proofs.PutLaws.{put-put}
-use Rattle.listing.specs.Listing.{refusal}
-use Rattle.listing.proofs.LengthLaws.{refusal-few}
+use Rattle.printing.specs.Printing.{refusal}
+use Rattle.printing.proofs.LengthLaws.{refusal-few}
 use borrow.Author.Needs.{needs}
-use Rattle.listing.proofs.text.put_refusal.Statement.{statement}
-use Rattle.listing.proofs.text.put_refusal.Tie as tie
+use Rattle.printing.proofs.put_refusal.Statement.{statement}
+use Rattle.printing.proofs.put_refusal.Tie as tie
 
 number-of-requires : tie.Need-number-of-requires
 number-of-requires c κs = search needs
@@ -46,7 +46,7 @@ returns c =
     let number : n .result ≡ numberOf reason = n .ensures .0 in
     let few = refusal-few (numberOf reason) place (omega (arith, n .ensures)) (omega (arith, start .fits .place)) in
     let line = put-put (c1 .put-word .ensures) (put-put (c2 .put-decimal .ensures) (put-put (c3 .put-word2 .ensures) (c4 .put-field .ensures))) in
-    record { text = refusal (numberOf reason) place; right = refl; few = omega arith; puts = rw number at line }
+    (rw number at line, few)
 
 pub put-refusal-spec : {M : Type 1} → statement M
 put-refusal-spec =

@@ -8,7 +8,7 @@ use Rattle.cell.specs.declared.Shape.{Shape}
 use Rattle.cell.specs.declared.Shape.the-variants.{Variable, Name, Number, Refused}
 use Rattle.cell.proofs.CellLaws.{values-small}
 use Rattle.octets.specs.Octets.{decimal}
-use Rattle.listing.specs.Listing.{symbolOf, symbol}
+use Rattle.printing.specs.Printing.{symbolOf, symbol}
 
 module _ (c : ℕ) (s : Shape) (v : valuesOf s ≡ valuesAt c) where
   pub symbol-variable : (n : ℕ) → s ≡ Variable n → symbol c ≡ 118 ∷ decimal n

@@ -3,11 +3,11 @@ use mathlib.Core.List.{_∷_, _++_}
 use native.Mathlib.Omega.{arith}
 use Rattle.octets.specs.Octets.{decimal}
 use Rattle.octets.proofs.PutLaws.{put-put, put-nothing}
-use Rattle.listing.specs.Listing.{symbol}
-use Rattle.listing.proofs.TextLaws.{symbol-variable, symbol-name, symbol-number, symbol-none, name-few}
+use Rattle.printing.specs.Printing.{symbol}
+use Rattle.printing.proofs.SymbolLaws.{symbol-variable, symbol-name, symbol-number, symbol-none, name-few}
 use borrow.Author.Needs.{needs}
-use Rattle.listing.proofs.text.put_symbol.Statement.{statement}
-use Rattle.listing.proofs.text.put_symbol.Tie as tie
+use Rattle.printing.proofs.put_symbol.Statement.{statement}
+use Rattle.printing.proofs.put_symbol.Tie as tie
 
 -- the cell's symbol in each arm
 variable : (c : tie.After-n) → symbol (c .before .before .before .before .args .c) ≡ 118 ∷ decimal (c .n .given .0 .0)

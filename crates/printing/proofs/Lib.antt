@@ -1,0 +1,5 @@
+pub mod SymbolLaws
+pub mod LengthLaws
+pub mod FrontLaws
+pub mod ListedLaws
+pub mod Fixed
