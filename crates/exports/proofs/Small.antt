@@ -3,8 +3,6 @@ use mathlib.Core.Path.{_≡_, refl, ap, _∙_}
 use mathlib.Core.List.{List, [], _∷_, _++_, flatten}
 use Prim.Native.Nat.{ℕ, zero, suc, _+_, _-_, _^_, _≤_, _<_}
 use native.Mathlib.Omega.{arith}
-use mathlib.Core.Bool.{_||_}
-use lib.Dec.{ltb}
 use lib.ListN.{length, getD, replicate, length-append}
 use Rattle.term.proofs.Lists.{getD-zeros}
 use Rattle.refusal.specs.Coded.{Small}
@@ -15,9 +13,8 @@ use Rattle.refusal.proofs.CodedLaws.{refused-small, small-by}
 use Rattle.refusal.specs.Read.{Read, read, refuse, andThen}
 use Rattle.table.specs.Table.{Table, tableOf, tableSays, goalOf, goalSays, goalWith, rowIn, startsIn, starts, Row}
 use Rattle.table.specs.All.{All}
-use Rattle.table.proofs.Accepted.{is-table, is-goal}
+use Rattle.table.proofs.Accepted.{is-table, is-goal, table-short}
 use Rattle.table.proofs.HeadLaws.{head-few}
-use Rattle.table.proofs.ReadLaws.{passed, inside}
 use Rattle.plan.specs.Check.{planFor, planOf}
 use Rattle.checker.specs.Checked.{planSays}
 use Rattle.plan.specs.Plans.{Plan, write, branches}
@@ -73,10 +70,6 @@ row-short w [] r a = omega arith
 row-short w (x ∷ rows) zero a = a .0 .head .short
 row-short w (x ∷ rows) (suc r) a = row-short w rows r (a .1)
 
-table-length : (t : List ℕ) {T : Table} → tableOf t ≡ read T → length t ≤ 2050
-unfolding tableOf
-table-length t e = inside (length t) 2 2050 (passed (ltb (length t) 2 || ltb 2050 (length t)) _ _ e .0) .1
-
 -- where a row starts in the table and how many cells it has, both 0 where there is no such row
 pub row-small : (t : List ℕ) (r : ℕ) → (getD (startsIn (tableOf t)) r 0 ≤ 2050) × (length (rowIn (tableOf t) r) ≤ 32)
 row-small t r = go (tableOf t) refl
@@ -84,7 +77,7 @@ row-small t r = go (tableOf t) refl
     go : (x : Read Table) → tableOf t ≡ x → (getD (startsIn x) r 0 ≤ 2050) × (length (rowIn x r) ≤ 32)
     go (read T) e =
         let i = is-table t e in
-        let l = table-length t e in
+        let l = table-short t e in
         let f : length t ≡ 2 + length (flatten (T .rows)) = ap length (i .cells) ∙ omega arith in
         (omega (arith, starts-within 2 (T .rows) (64 - length (T .rows)) r), row-short (T .width) (T .rows) r (i .each))
     go (refuse f) e = (omega (arith, getD-zeros 64 r), omega arith)

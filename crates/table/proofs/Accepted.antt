@@ -47,6 +47,11 @@ is-table t {T} e =
       each = r .each;
     }
 
+-- and has at most 2,050 cells
+pub table-short : (t : List ℕ) {T : Table} → tableOf t ≡ read T → length t ≤ 2050
+unfolding tableOf
+table-short t e = inside (length t) 2 2050 (passed (ltb (length t) 2 || ltb 2050 (length t)) _ _ e .0) .1
+
 -- rows of at most 32 cells
 few-cells : (w : ℕ) (rows : List (List ℕ)) → All (Row w) rows → length (flatten rows) ≤ 32 * length rows
 unfolding flatten
