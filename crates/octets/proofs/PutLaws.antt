@@ -1,6 +1,6 @@
 -- Texts put into a room: one after another they are one text, whatever room there is.
-use mathlib.Core.Path.{_≡_, refl, sym, ap, _∙_}
-use mathlib.Core.List.{List, [], _∷_, _++_}
+use mathlib.Core.Path.{_≡_, refl, sym, ap, subst, _∙_}
+use mathlib.Core.List.{List, [], _∷_, _++_, append-nil, append-assoc}
 use Prim.Native.Nat.{ℕ, zero, suc, _+_, _-_, _≤_, _<_}
 use native.Mathlib.Nat.{add-zero, zero-add}
 use native.Mathlib.Numerals.{add-one}
@@ -66,6 +66,22 @@ pub put-full : {old new : List ℕ} {r : ℕ} (text : List ℕ) (i : ℕ) → le
 put-full {old} {new} {r} text i h p =
     let e : fitting old 0 (take i text) ≡ fitting old 0 text = take-take (length old - 0) i text (omega arith) in
     record { wrote = rw e at (p .wrote); after = rw e at (p .after) }
+
+-- a text put part by part: what is put so far and what is left are the whole
+pub record Putting (old new : List ℕ) (to on : ℕ) (left whole : List ℕ) : Type 0 where
+  pub done : List ℕ
+  pub puts : Put old new to done on
+  pub both : done ++ left ≡ whole
+
+pub put-begins : {out whole : List ℕ} {to : ℕ} → Putting out out to to whole whole
+put-begins = record { done = []; puts = put-nothing; both = refl }
+
+pub put-part : {a b c xs left whole : List ℕ} {to on r : ℕ} → Putting a b to on (xs ++ left) whole → Put b c on xs r → Putting a c to r left whole
+put-part {xs = xs} {left = left} p q =
+    record { done = p .done ++ xs; puts = put-put (p .puts) q; both = append-assoc (p .done) xs left ∙ p .both }
+
+pub put-ends : {old new whole : List ℕ} {to r : ℕ} → Putting old new to r [] whole → Put old new to whole r
+put-ends {old} {new} {to = to} {r} p = subst (λ (l : List ℕ). Put old new to l r) (sym (append-nil (p .done)) ∙ p .both) (p .puts)
 
 -- at the front of a room that is enough
 pub put-front : {old new text : List ℕ} {r : ℕ} → Put old new 0 text r → length text ≤ length old
