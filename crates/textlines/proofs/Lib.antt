@@ -1,3 +1,6 @@
 pub mod LineLaws
-pub mod LengthLaws
 pub mod RowLaws
+pub mod LengthLaws
+pub mod Enough
+pub mod EntryLaws
+pub mod Fixed

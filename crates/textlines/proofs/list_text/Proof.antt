@@ -1,63 +1,69 @@
+use mathlib.Core.Path.{sym}
+use Prim.Native.Nat.{ℕ}
+use native.Mathlib.Omega.{arith}
+use lib.ListN.{length, length-replicate}
+use lib.Seq.{length-take-le}
+use Rattle.refusal.specs.Refusal.{told}
+use Rattle.printing.proofs.ListedLaws.{listed-text, listed-written}
+use Rattle.textlines.specs.Lines.{refused}
+use Rattle.textlines.specs.code.Puts.{most}
+use Rattle.textlines.proofs.EntryLaws.{Came, came-read, came-refused, table-listed}
 use borrow.Author.Needs.{needs}
 use Rattle.textlines.proofs.list_text.Statement.{statement}
 use Rattle.textlines.proofs.list_text.Tie as tie
-use Rattle.textlines.proofs.list_text.Reads as reads
-use Rattle.textlines.proofs.list_text.Lts as lts
-use Rattle.printing.proofs.put_refusal.Reads as put-refusal-reads
-use Rattle.prolog.proofs.read_text.Reads as read-text-reads
-use Rattle.textlines.proofs.lines.put_table.Reads as put-table-reads
 
--- src/lib.rt:18:35
+-- a text that is read
+came : (c : tie.After-n)
+    → Came (c .before .before .before .before .before .before .before .before .args .text .now)
+    (c .before .before .before .before .read-text .last .1 .0) (c .before .before .before .before .read-text .last .1 .1 .0)
+    (c .n .given .0 .0) (c .n .given .0 .1 .0)
+came c =
+    came-read _ (c .before .before .before .before .read-text .ensures) (length-replicate {A = ℕ} 32768 0) (length-replicate {A = ℕ} 32766 0)
+    _ _ (c .n .given .1)
+
 slice-aggregate-read-text : tie.Need-slice-aggregate-read-text
 slice-aggregate-read-text c = search needs
 
--- src/lib.rt:18:47
 slice-aggregate-read-text-2 : tie.Need-slice-aggregate-read-text-2
 slice-aggregate-read-text-2 c = search needs
 
--- src/lib.rt:18:11
 read-text-requires : tie.Need-read-text-requires
 read-text-requires c κs = search needs
 
--- src/lib.rt:19:26
 enum-known-n : tie.Need-enum-known-n
 enum-known-n c = search needs
 
--- src/lib.rt:19:50
 array-share-prefix-cells : tie.Need-array-share-prefix-cells
-array-share-prefix-cells c = ?
+array-share-prefix-cells c = came (c .before .before) .inside .0
 
--- src/lib.rt:19:50
 slice-aggregate-put-table : tie.Need-slice-aggregate-put-table
-slice-aggregate-put-table c = ?
+slice-aggregate-put-table c = sym (length-take-le _ _ (came (c .before .before .before) .inside .0))
 
--- src/lib.rt:19:63
 array-share-prefix-names : tie.Need-array-share-prefix-names
-array-share-prefix-names c = ?
+array-share-prefix-names c = came (c .before .before .before) .inside .1
 
--- src/lib.rt:19:63
 slice-aggregate-put-table-2 : tie.Need-slice-aggregate-put-table-2
-slice-aggregate-put-table-2 c = ?
+slice-aggregate-put-table-2 c = sym (length-take-le _ _ (came (c .before .before .before .before) .inside .1))
 
--- src/lib.rt:19:35
 put-table-requires : tie.Need-put-table-requires
 put-table-requires c κs = search needs
 
--- src/lib.rt:20:29
 enum-known-f : tie.Need-enum-known-f
 enum-known-f c = search needs
 
--- src/lib.rt:23:13
 put-refusal-requires : tie.Need-put-refusal-requires
 put-refusal-requires c κs = search needs
 
--- src/lib.rt:13:1
 returns : tie.Need-returns
-returns c = ?
+returns c = listed-written (omega arith) (table-listed (came (c .before .before .before .before .before)) (c .put-table .ensures))
 
--- src/lib.rt:13:1
 returns-2 : tie.Need-returns-2
-returns-2 c = ?
+returns-2 c =
+    let x = c .before .before .before in
+    let turned = came-refused _ (x .before .before .before .before .read-text .ensures) (length-replicate {A = ℕ} 32768 0) (length-replicate {A = ℕ} 32766 0)
+    (x .f .given .0 .0) (x .f .given .1) in
+    let line = c .put-refusal .ensures in
+    listed-written {most = most} (omega arith) (listed-text (line .0) (omega arith) (refused (told (x .f .given .0 .0)) turned))
 
 pub list-text-spec : {M : Type 1} → statement M
 list-text-spec =

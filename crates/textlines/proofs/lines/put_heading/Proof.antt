@@ -27,7 +27,7 @@ same-length c = search needs
 
 returns : tie.Need-returns
 unfolding heading
-returns c = 
+returns c =
     let c4 = c .before .before in
     let c3 = c4 .before .before .before .before in
     let c2 = c3 .before .before .before .before .before in
