@@ -76,7 +76,8 @@ pub record Putting (old new : List ℕ) (to on : ℕ) (left whole : List ℕ) : 
 pub put-begins : {out whole : List ℕ} {to : ℕ} → Putting out out to to whole whole
 put-begins = record { done = []; puts = put-nothing; both = refl }
 
-pub put-part : {a b c xs left whole : List ℕ} {to on r : ℕ} → Putting a b to on (xs ++ left) whole → Put b c on xs r → Putting a c to r left whole
+pub put-part : {a b c xs left whole : List ℕ} {to on r : ℕ} → Putting a b to on (xs ++ left) whole → Put b c on xs r
+    → Putting a c to r left whole
 put-part {xs = xs} {left = left} p q =
     record { done = p .done ++ xs; puts = put-put (p .puts) q; both = append-assoc (p .done) xs left ∙ p .both }
 

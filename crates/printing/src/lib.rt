@@ -41,7 +41,8 @@ pub fn put_symbol(out: &mut [u8], to: usize, c: u32) -> usize
 
 // The one line of a refusal, at the front of the room. 53 bytes are enough for it.
 pub fn put_refusal(out: &mut [u8], reason: Reason, place: usize) -> usize
-    ensures { λ r. ⌜ Put (now (out .entry)) (now (out .exit)) 0 (refusal (numberOf reason) place) r × (length (refusal (numberOf reason) place) ≤ 53) ⌝ }
+    ensures { λ r. ⌜ Put (now (out .entry)) (now (out .exit)) 0 (refusal (numberOf reason) place) r
+        × (length (refusal (numberOf reason) place) ≤ 53) ⌝ }
 {
     let number = refusal::number_of(reason);
     let p = put_word(out, 0, b"refused ");

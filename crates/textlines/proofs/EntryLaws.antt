@@ -11,7 +11,8 @@ use Rattle.refusal.specs.declared.Refusal.{Refusal}
 use Rattle.printing.specs.code.Listed.{Listed}
 use Rattle.table.specs.Table.{Table, tableOf}
 use Rattle.table.proofs.ReadLaws.{apart, read-one}
-use Rattle.loading.specs.Load.{Loaded, loaded, Loads, not-taken, no-cells, no-names, no-table, loads, TextLoads, loadSays, cellsAfter, namesAfter}
+use Rattle.loading.specs.Load.{Loaded, loaded, Loads, not-taken, no-cells, no-names, no-table, loads}
+use Rattle.loading.specs.Load.{TextLoads, loadSays, cellsAfter, namesAfter}
 use Rattle.prolog.specs.Entry.{textTold}
 use Rattle.prolog.specs.declared.TextAnswer.{TextAnswer}
 use Rattle.prolog.specs.declared.TextAnswer.the-variants as text-answer
@@ -43,7 +44,8 @@ pub record Came (t cells names : List ℕ) (n m : ℕ) : Type 0 where
   pub inside : (n ≤ length cells) × (m ≤ length names)
 
 -- the front of a room
-front : (xs room : List ℕ) {room′ : List ℕ} (n : ℕ) → n ≡ length xs → room′ ≡ xs ++ drop (length xs) room → (take n room′ ≡ xs) × (n ≤ length room′)
+front : (xs room : List ℕ) {room′ : List ℕ} (n : ℕ) → n ≡ length xs → room′ ≡ xs ++ drop (length xs) room
+    → (take n room′ ≡ xs) × (n ≤ length room′)
 front xs room n e w =
     let tail = drop (length xs) room in
     (ap (take n) w ∙ take-at xs tail n (sym e), omega (arith, ap length w, length-append xs tail))
@@ -56,8 +58,8 @@ module _ {t cells names cells′ names′ : List ℕ} (r : TextAnswer) (x : Text
   pub came-read : (n m : ℕ) → r ≡ text-answer.Read n m → Came t cells′ names′ n m
   came-read n m e = go (x .says) rule (x .told) (x .wrote) (x .listed)
     where
-      go : (o : Read Loaded) → Loads t cellRoom nameRoom o → textTold r ≡ loadSays o → cells′ ≡ cellsAfter o cells → names′ ≡ namesAfter o names
-          → Came t cells′ names′ n m
+      go : (o : Read Loaded) → Loads t cellRoom nameRoom o → textTold r ≡ loadSays o → cells′ ≡ cellsAfter o cells
+          → names′ ≡ namesAfter o names → Came t cells′ names′ n m
       go (read y) l a w s =
           let d : answered n m ≡ answered (length (y .cells)) (length (y .names)) = ap textTold (sym e) ∙ a in
           let many : n ≡ length (y .cells) = cc in
@@ -94,8 +96,8 @@ module _ {t cells names cells′ names′ : List ℕ} (r : TextAnswer) (x : Text
           rw q l
 
 -- its lines are put
-pub table-listed : {t cells names old new : List ℕ} {n m r : ℕ} (C : Came t cells names n m) → PutsTable (take n cells) (take m names) old new r
-    → Listed most (Prints t) old new r
+pub table-listed : {t cells names old new : List ℕ} {n m r : ℕ} (C : Came t cells names n m)
+    → PutsTable (take n cells) (take m names) old new r → Listed most (Prints t) old new r
 table-listed C p = record {
   text = linesOf (C .what) (C .table);
   right = printed (C .what) (C .table) (C .rule) (C .reads);

@@ -4,3 +4,4 @@ pub mod LengthLaws
 pub mod Enough
 pub mod EntryLaws
 pub mod Fixed
+pub mod Examples

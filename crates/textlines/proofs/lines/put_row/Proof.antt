@@ -43,10 +43,10 @@ loop-less c = search needs
 
 loop-again : tie.Need-loop-again Inv-loop μ-loop
 loop-again c =
-    let l = c .before .before .before .before .before .before .before .before .before .before .before .loop in
-    let row = c .before .before .before .before .before .before .before .before .before .before .before .before .before .before .args .row .now in
-    let next = row-on row (l .i) (omega arith) in
-    let here = put-part (rw next at (l .inv .1)) (c .before .before .before .before .before .before .before .put-symbol .ensures) in
+    let s = c .before .before .before .before .before .before .before in
+    let l = s .before .before .before .before .loop in
+    let next = row-on (s .before .before .before .before .before .before .before .args .row .now) (l .i) (omega arith) in
+    let here = put-part (rw next at (l .inv .1)) (s .put-symbol .ensures) in
     (omega arith, put-part here (rw (c .before .before .before .mark .ensures) at (c .before .before .put-byte .ensures)))
 
 same-length : tie.Need-same-length Inv-loop μ-loop

@@ -1,7 +1,7 @@
 use mathlib.Core.Path.{_≡_, sym, ap, _∙_}
 use mathlib.Core.Logic.{⊎-elim, inl, inr}
 use mathlib.Core.List.{[], flatten}
-use Prim.Native.Nat.{_-_, _≤_}
+use Prim.Native.Nat.{ℕ, _-_, _≤_}
 use native.Mathlib.Omega.{arith}
 use lib.ListN.{length, getD, drop}
 use Rattle.octets.proofs.PutLaws.{Putting, put-begins, put-part, put-ends, put-length, put-nothing}
@@ -23,28 +23,33 @@ Inv-loop out₀ to cells starts count on₀ r₀ out on r =
 abbrev μ-loop : tie.MeasureT-loop
 μ-loop out₀ to cells starts count on₀ r₀ out on r = count - r
 
+-- where the function starts
+abbrev start : tie.After-known-told Inv-loop μ-loop → tie.Start Inv-loop μ-loop
+start c = c .before .before .before .before .before .before .before
+
 -- the table is accepted, with as many rows as are counted
 accepted : (c : tie.After-known-told Inv-loop μ-loop)
-    → answered (c .before .answer .given .0 .0) (c .before .answer .given .0 .1 .0)
-    ≡ tableSays (tableOf (c .before .before .before .before .before .before .before .args .cells .now))
+    → answered (c .before .answer .given .0 .0) (c .before .answer .given .0 .1 .0) ≡ tableSays (tableOf (start c .args .cells .now))
 accepted c = ap tableTold (sym (c .before .answer .given .1)) ∙ c .before .before .before .before .read-table .ensures .answer
 
 small : (c : tie.In-loop Inv-loop μ-loop) → c .before .before .before .answer .given .0 .1 .0 ≤ 64
-small c = rows-few (c .before .before .before .before .before .before .before .before .before .args .cells .now) (accepted (c .before .before))
+small c = let k = c .before .before in rows-few (start k .args .cells .now) (accepted k)
 
--- where the row is
+-- where the row is: from its start to where it ends
+abbrev from : tie.Joined1 Inv-loop μ-loop → ℕ
+from c = getD (c .before .before .before .before .before .before .before .read-table .result .starts) (c .before .before .loop .r) 0
+
 placed : (c : tie.Joined1 Inv-loop μ-loop)
-    → RowPlace (tableOf (c .before .before .before .before .before .before .before .before .before .before .args .cells .now)) (c .before .before .loop .r)
-    (part (getD (c .before .before .before .before .before .before .before .read-table .result .starts) (c .before .before .loop .r) 0) (c .if1 .end))
+    → RowPlace (tableOf (start (c .before .before .before) .args .cells .now)) (c .before .before .loop .r) (part (from c) (c .if1 .end))
 placed c =
-    row-between (c .before .before .before .before .before .before .before .before .before .before .args .cells .now) (accepted (c .before .before .before))
-    (c .before .before .before .before .before .before .before .read-table .ensures .starts) (c .before .before .loop .r) (c .if1 .end) (omega arith)
+    let k = c .before .before .before in
+    row-between (start k .args .cells .now) (accepted k) (k .before .before .before .before .read-table .ensures .starts)
+    (c .before .before .loop .r) (c .if1 .end) (omega arith)
     (⊎-elim (λ x. inl (x .0 .taken, x .1)) (λ x. inr (x .0 .left, x .1)) (c .if1 .came))
 
 inside : (c : tie.Joined1 Inv-loop μ-loop)
-    → (getD (c .before .before .before .before .before .before .before .read-table .result .starts) (c .before .before .loop .r) 0 ≤ c .if1 .end)
-    × (c .if1 .end ≤ length (c .before .before .before .before .before .before .before .before .before .before .args .cells .now))
-inside c = place-inside (c .before .before .before .before .before .before .before .before .before .before .args .cells .now) (c .before .before .loop .r) (placed c)
+    → (from c ≤ c .if1 .end) × (c .if1 .end ≤ length (start (c .before .before .before) .args .cells .now))
+inside c = place-inside (start (c .before .before .before) .args .cells .now) (c .before .before .loop .r) (placed c)
 
 read-table-requires : tie.Need-read-table-requires Inv-loop μ-loop
 read-table-requires c κs = search needs
@@ -59,7 +64,8 @@ returns : tie.Need-returns Inv-loop μ-loop
 unfolding flatten
 returns c =
     let t = c .before .before .before .before .before .before .args .cells .now in
-    let none = none-turned (tableOf t) (ap tableTold (sym (c .enum-told .given .1)) ∙ c .before .before .before .read-table .ensures .answer) in
+    let turned = ap tableTold (sym (c .enum-told .given .1)) ∙ c .before .before .before .read-table .ensures .answer in
+    let none = none-turned (tableOf t) turned in
     rw none put-nothing
 
 loop-holds : tie.Need-loop-holds Inv-loop μ-loop
@@ -102,7 +108,7 @@ loop-again : tie.Need-loop-again Inv-loop μ-loop
 loop-again c =
     let j = c .before .before .before .before .before .before in
     let l = j .before .before .loop in
-    let t = j .before .before .before .before .before .before .before .before .before .before .args .cells .now in
+    let t = start (j .before .before .before) .args .cells .now in
     let n = rows-counted t (accepted (j .before .before .before)) in
     let next = lines-on rowLine [] (rowsOf (tableOf t)) (l .r) (omega arith) in
     let row = place-cells t (l .r) (placed j) ∙ row-is (tableOf t) (l .r) in
@@ -113,7 +119,7 @@ same-length c = put-length (c .before .loop .inv .1 .puts)
 
 returns-2 : tie.Need-returns-2 Inv-loop μ-loop
 returns-2 c =
-    let t = c .before .before .before .before .before .before .before .before .before .args .cells .now in
+    let t = start (c .before .before) .args .cells .now in
     let n = rows-counted t (accepted (c .before .before)) in
     put-ends (rw (lines-done rowLine [] (rowsOf (tableOf t)) (c .before .loop .r) (omega arith)) at (c .before .loop .inv .1))
 
