@@ -32,6 +32,8 @@ use Rattle.answer.proofs.Theorems.{tries-at-most}
 use Rattle.printing.specs.Printing.{Written}
 use Rattle.listing.specs.Listing.{Lists}
 use Rattle.listing.proofs.Fixed.{written-one}
+use Rattle.textlines.specs.Lines.{Prints}
+use Rattle.textlines.proofs.Fixed.{printed-one}
 use Rattle.loading.specs.Load.{TextLoads}
 use Rattle.prolog.specs.Entry.{textTold}
 use Rattle.prolog.specs.declared.TextAnswer.{TextAnswer}
@@ -82,6 +84,11 @@ pub held-listing : (bytes room : List ℕ) {room′ room″ : List ℕ} {r s : �
     → Written (Lists bytes) room room″ s
     → (r ≡ s) × (room′ ≡ room″)
 held-listing = written-one
+
+pub held-textlines : (text room : List ℕ) {room′ room″ : List ℕ} {r s : ℕ} → Written (Prints text) room room′ r
+    → Written (Prints text) room room″ s
+    → (r ≡ s) × (room′ ≡ room″)
+held-textlines = printed-one
 
 pub held-text : {t cells names cells′ names′ cells″ names″ : List ℕ} {r s : TextAnswer}
     → TextLoads t cells names cells′ names′ (textTold r) → TextLoads t cells names cells″ names″ (textTold s)
