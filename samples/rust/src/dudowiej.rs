@@ -6,6 +6,9 @@ use std::fmt;
 pub const TABLE_CELLS: usize = 2050;
 pub const PLAN_CELLS: usize = 6082;
 pub const ROWS: usize = 64;
+/// What no text exceeds, and the names of a table.
+pub const TEXT_BYTES: usize = 65_535;
+pub const NAMES: usize = 2048;
 
 /// Why an input is refused (include/dudowiej.h): number, input and place.
 #[derive(Debug, Clone, Copy, PartialEq, Eq)]
@@ -36,6 +39,14 @@ extern "C" {
         room: *mut u8,
         room_bytes: usize,
     ) -> u64;
+    fn dudowiej_read_text(
+        text: *const u8,
+        text_bytes: usize,
+        cells: *mut u32,
+        cells_room: usize,
+        names: *mut u32,
+        names_room: usize,
+    ) -> u64;
 }
 
 /// An answer taken apart: 2^16 · first + 2^32 · second, or of a refusal number + 2^8 · input + 2^16 · place.
@@ -48,6 +59,7 @@ fn apart(answer: u64) -> Result<(usize, usize), Refusal> {
                 2 => "plan",
                 3 => "goal",
                 4 => "room",
+                5 => "text",
                 _ => "?",
             };
             Err(Refusal { number, input, place: answer >> 16 })
@@ -94,4 +106,21 @@ pub fn run_plan(table: &[u32], plan: &[u32], goal: &[u32]) -> Result<(Vec<u8>, u
     let (hits, tried) = apart(answer)?;
     rows.truncate(hits);
     Ok((rows, tried))
+}
+
+/// A table made of a text.
+pub struct Loaded {
+    pub table: Vec<u32>,
+    /// Where each name first stands in the text, by its number: start and bytes.
+    pub names: Vec<(usize, usize)>,
+}
+
+/// The table of a text of Prolog facts, with its names.
+pub fn read_text(text: &[u8]) -> Result<Loaded, Refusal> {
+    let (mut table, mut names) = (vec![0; TABLE_CELLS], vec![0u32; NAMES]);
+    let answer = unsafe { dudowiej_read_text(text.as_ptr(), text.len(), table.as_mut_ptr(), table.len(), names.as_mut_ptr(), names.len()) };
+    let (cells, count) = apart(answer)?;
+    table.truncate(cells);
+    let names = names[..count].iter().map(|&name| ((name & 0xffff) as usize, (name >> 16) as usize)).collect();
+    Ok(Loaded { table, names })
 }

@@ -2,6 +2,8 @@
 //!
 //! usage: shop FILE    (samples/shop.cells; samples/README.md has the numbers of the names, and what is said of other files)
 
+// Each program of this folder calls some of the functions.
+#[allow(dead_code)]
 mod dudowiej;
 
 use dudowiej::Refusal;

@@ -1,0 +1,124 @@
+/* A shop's table from Prolog text in C: loads the facts, builds the plan, and prints the rules that fit some jobs, in the text's own names.
+ *
+ * usage: text FILE    (samples/shop.pl) */
+
+#include <stdio.h>
+#include <string.h>
+
+#include "dudowiej.h"
+
+/* A text, its table with the list of names, and a plan. Of bytes there is room for one more than a text may have, so that too long a file
+ * is seen to be one. */
+static uint8_t text[DUDOWIEJ_TEXT_BYTES + 1];
+static uint32_t table[DUDOWIEJ_TABLE_CELLS];
+static uint32_t names[DUDOWIEJ_NAMES];
+static uint32_t plan[DUDOWIEJ_PLAN_CELLS];
+static size_t table_cells, names_count, plan_cells;
+
+/* A name of the list: where it starts in the text, and its bytes. */
+static const char *name_start(uint32_t number) { return (const char *)text + (names[number] & 0xffff); }
+
+static size_t name_bytes(uint32_t number) { return names[number] >> 16; }
+
+static uint32_t variable(uint32_t number) { return number; }
+
+static uint32_t number(uint32_t value) { return 2u << 30 | value; }
+
+/* The cell of a name; a name that the text does not have takes a number that no row has. */
+static uint32_t name(const char *word, uint32_t arguments) {
+    uint32_t n = 0;
+    while (n < names_count && (name_bytes(n) != strlen(word) || memcmp(name_start(n), word, name_bytes(n)) != 0)) n++;
+    return 1u << 30 | arguments << 16 | n;
+}
+
+/* Prints the term at the first of the cells and gives what follows it. */
+static const uint32_t *print_term(const uint32_t *cells) {
+    uint32_t cell = *cells++, n = cell & 0xffff;
+    switch (cell >> 30) {
+    case 0: printf("_"); return cells;
+    case 2: printf("%u", n); return cells;
+    }
+    if (n < names_count) printf("%.*s", (int)name_bytes(n), name_start(n));
+    else printf("?");
+    uint32_t arguments = cell >> 16 & 7;
+    for (uint32_t i = 0; i < arguments; i++) {
+        printf(i == 0 ? "(" : ", ");
+        cells = print_term(cells);
+    }
+    if (arguments > 0) printf(")");
+    return cells;
+}
+
+static void print_terms(const uint32_t *cells, size_t count) {
+    for (const uint32_t *end = cells + count; cells < end;) {
+        cells = print_term(cells);
+        printf(cells < end ? ", " : "\n");
+    }
+}
+
+/* Says a refusal, if the answer is one. */
+static bool refused(FILE *to, const char *word, uint64_t answer) {
+    static const char *const inputs[] = {"?", "table", "plan", "goal", "room", "text"};
+    if (!dudowiej_refused(answer)) return false;
+    unsigned input = dudowiej_input(answer);
+    unsigned long long place = dudowiej_place(answer);
+    fprintf(to, "%s: %s refused, %u at %llu\n", word, inputs[input < 6 ? input : 0], dudowiej_number(answer), place);
+    return true;
+}
+
+/* Loads the text, makes its table and builds the plan; gives the exit status. */
+static int prepare(const char *path) {
+    FILE *file = fopen(path, "rb");
+    size_t bytes = file ? fread(text, 1, sizeof text, file) : 0;
+    bool failed = !file || ferror(file);
+    if (file) fclose(file);
+    if (failed) {
+        fprintf(stderr, "text: cannot read %s\n", path);
+        return 2;
+    }
+
+    uint64_t read = dudowiej_read_text(text, bytes, table, DUDOWIEJ_TABLE_CELLS, names, DUDOWIEJ_NAMES);
+    if (refused(stderr, "text", read)) return 1;
+    table_cells = dudowiej_first(read);
+    names_count = dudowiej_second(read);
+    printf("text: %u rules of %u columns, %zu names\n", table[1], table[0], names_count);
+
+    uint64_t built = dudowiej_build_plan(table, table_cells, plan, DUDOWIEJ_PLAN_CELLS);
+    if (refused(stderr, "text", built)) return 1;
+    plan_cells = dudowiej_first(built);
+    printf("plan: %u branches\n", dudowiej_second(built));
+    return 0;
+}
+
+/* Prints the rules that fit a job. */
+static void ask(const uint32_t *goal, size_t goal_cells) {
+    uint8_t rows[DUDOWIEJ_ROWS];
+    uint64_t run = dudowiej_run_plan(table, table_cells, plan, plan_cells, goal, goal_cells, rows, sizeof rows);
+    if (refused(stdout, "\njob", run)) return;
+    printf("\njob: ");
+    print_terms(goal, goal_cells);
+    for (uint32_t hit = 0; hit < dudowiej_first(run); hit++) {
+        uint64_t row = dudowiej_row(table, table_cells, rows[hit]);
+        printf("  rule %u: ", rows[hit]);
+        print_terms(table + dudowiej_first(row), dudowiej_second(row));
+    }
+}
+
+int main(int argc, char **argv) {
+    if (argc != 2) {
+        fprintf(stderr, "usage: text FILE\n");
+        return 2;
+    }
+    int status = prepare(argv[1]);
+    if (status != 0) return status;
+    /* Urgency 10, red, a ring: which firing? */
+    const uint32_t ring[] = {number(10), name("red", 0), name("ring", 0), variable(0)};
+    /* A blue bowl of any size. */
+    const uint32_t bowl[] = {number(9), name("blue", 0), name("bowl", 1), variable(0), variable(1)};
+    /* A black tray: no rule names a tray. */
+    const uint32_t tray[] = {number(1), name("black", 0), name("tray", 0), variable(0)};
+    ask(ring, sizeof ring / sizeof ring[0]);
+    ask(bowl, sizeof bowl / sizeof bowl[0]);
+    ask(tray, sizeof tray / sizeof tray[0]);
+    return 0;
+}
