@@ -1,3 +1,4 @@
+pub mod LevelLaws
 pub mod MoveLaws
 pub mod FactLaws
 pub mod CountLaws

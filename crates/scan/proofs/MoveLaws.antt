@@ -16,24 +16,16 @@ use Rattle.lex.specs.declared.turn.Turn.the-variants as turn
 use Rattle.scan.specs.declared.arguments.Move.{Move}
 use Rattle.scan.specs.declared.arguments.Move.the-variants as move
 use Rattle.scan.specs.declared.arguments.Spot.{Spot}
-use Rattle.scan.specs.code.Arguments.{spot, levelsOf, doneIn, Ready, Under, Goes, Moved, argumentsAt}
-
--- levels: those below a place are kept by a store there
-levels-kept : (dones : List ℕ) (i v d : ℕ) → d ≤ i → levelsOf (set dones i v) d ≡ levelsOf dones d
-unfolding levelsOf
-levels-kept dones i v zero h = refl
-levels-kept dones i v (suc d) h = rw (getD-set-other dones i d v 0 (λ e. omega arith), levels-kept dones i v d (omega arith))
-
-levels-set : (dones : List ℕ) (d v : ℕ) → d < length dones → levelsOf (set dones d v) (suc d) ≡ v ∷ levelsOf dones d
-unfolding levelsOf
-levels-set dones d v h = rw (getD-set-same dones d v 0 h, levels-kept dones d v d (omega arith))
+use Rattle.scan.specs.code.Levels.{levelAt, stored, levelsOf}
+use Rattle.scan.proofs.LevelLaws.{levels-set}
+use Rattle.scan.specs.code.Arguments.{spot, doneIn, Ready, Under, Goes, Moved, argumentsAt}
 
 -- the innermost open name
 record Innermost (dones : List ℕ) (d : ℕ) (opened : List Frame) : Type 0 where
   top : Frame
   rest : List Frame
   is : opened ≡ top ∷ rest
-  done : top .done ≡ getD dones d 0
+  done : top .done ≡ levelAt dones d
   levels : levelsOf dones d ≡ doneIn rest
 
 innermost : (dones : List ℕ) (d : ℕ) (opened : List Frame) → levelsOf dones (suc d) ≡ doneIn opened → Innermost dones d opened
@@ -94,7 +86,7 @@ module _ (t dones : List ℕ) (sp : Spot) (R : Ready t dones sp) {r : Turn} (T :
 
   -- a name with its bracket
   pub open-moves : {s e : ℕ} {v : Spot} → v ≡ spot (e + 1) false (sp .depth + 1) (sp .done) (sp .symbols + 1) → r ≡ turn.Open s e
-      → (F : ℕ → ℕ → Out) → Under F t dones sp → Moved F t (set dones (sp .depth) 0) sp (move.Go v)
+      → (F : ℕ → ℕ → Out) → Under F t dones sp → Moved F t (stored dones (sp .depth) 0) sp (move.Go v)
   unfolding push
   open-moves {s} {e} made q F U =
       let x = is-turn q in
@@ -114,8 +106,8 @@ module _ (t dones : List ℕ) (sp : Spot) (R : Ready t dones sp) {r : Turn} (T :
           opened = frame (length (U .out)) s e 0 ∷ U .opened;
           out = U .out ++ (name s e 0 ∷ []);
           levels =
-              ap (levelsOf (set dones (sp .depth) 0)) (add-one (sp .depth))
-              ∙ levels-set dones (sp .depth) 0 (omega (arith, R .room, R .deep, R .text, R .place))
+              ap (levelsOf (stored dones (sp .depth) 0)) (add-one (sp .depth))
+              ∙ levels-set dones (sp .depth) 0 (omega (arith, R .room, R .deep, R .text, R .place)) (omega arith)
               ∙ ap (λ (ds : List ℕ). 0 ∷ ds) (U .levels);
           count = length-append (U .out) (name s e 0 ∷ []) ∙ ap (λ (n : ℕ). n + 1) (U .count);
           same = λ s′ e′. U .same s′ e′ ∙ x .same (work s′ e′ (sp .done) (U .opened) (U .out));
@@ -165,7 +157,7 @@ module _ (t dones : List ℕ) (sp : Spot) (R : Ready t dones sp) {r : Turn} (T :
         })
 
     -- of a name that has four arguments
-    pub comma-full : (sp .depth ≡ 0 → ⊥) → 3 ≤ getD dones (sp .depth - 1) 0
+    pub comma-full : (sp .depth ≡ 0 → ⊥) → 3 ≤ levelAt dones (sp .depth - 1)
         → (F : ℕ → ℕ → Out) → Under F t dones sp → Moved F t dones sp (move.Stop p)
     unfolding comma
     comma-full n k F U =
@@ -174,15 +166,15 @@ module _ (t dones : List ℕ) (sp : Spot) (R : Ready t dones sp) {r : Turn} (T :
 
     -- of a name that has fewer
     pub comma-inside : {v : Spot} → v ≡ spot (p + 1) false (sp .depth) (sp .done) (sp .symbols) → (sp .depth ≡ 0 → ⊥)
-        → getD dones (sp .depth - 1) 0 < 3
-        → (F : ℕ → ℕ → Out) → Under F t dones sp → Moved F t (set dones (sp .depth - 1) (getD dones (sp .depth - 1) 0 + 1)) sp (move.Go v)
+        → levelAt dones (sp .depth - 1) < 3
+        → (F : ℕ → ℕ → Out) → Under F t dones sp → Moved F t (stored dones (sp .depth - 1) (levelAt dones (sp .depth - 1) + 1)) sp (move.Go v)
     unfolding comma
     comma-inside made n k F U =
         let i = inner U n in
         let g = i .top in
         let l = is-turn q .leads in
         let e : suc (sp .depth - 1) ≡ sp .depth = omega arith in
-        let v : getD dones (sp .depth - 1) 0 + 1 ≡ suc (g .done) = omega (arith, i .done) in
+        let v : levelAt dones (sp .depth - 1) + 1 ≡ suc (g .done) = omega (arith, i .done) in
         to made
         (record {
           on = omega (arith, l .0);
@@ -198,8 +190,8 @@ module _ (t dones : List ℕ) (sp : Spot) (R : Ready t dones sp) {r : Turn} (T :
             opened = oneMore g ∷ i .rest;
             out = oneMoreIn g (U .out);
             levels =
-                ap (levelsOf (set dones (sp .depth - 1) (getD dones (sp .depth - 1) 0 + 1))) (sym e)
-                ∙ levels-set dones (sp .depth - 1) (getD dones (sp .depth - 1) 0 + 1) (omega (arith, R .room, R .deep, R .text, R .place))
+                ap (levelsOf (stored dones (sp .depth - 1) (levelAt dones (sp .depth - 1) + 1))) (sym e)
+                ∙ levels-set dones (sp .depth - 1) (levelAt dones (sp .depth - 1) + 1) (omega (arith, R .room, R .deep, R .text, R .place)) (omega arith)
                 ∙ ap₂ (λ (x : ℕ) (ds : List ℕ). x ∷ ds) v (i .levels);
             count = length-set (U .out) (g .owner) (name (g .start) (g .end) (suc (g .done))) ∙ U .count;
             same = λ s e′. commas U (i .is) s e′ ∙ rw (lt-ltb (g .done) 3 (omega (arith, i .done)));
@@ -253,7 +245,7 @@ module _ (t dones : List ℕ) (sp : Spot) (R : Ready t dones sp) {r : Turn} (T :
         })
 
 -- the start
-pub none-yet : (t dones : List ℕ) (at : ℕ) {v : Spot} → v ≡ spot at false 0 0 0 → at ≤ length t → length t ≤ 65535 → 32768 ≤ length dones
+pub none-yet : (t dones : List ℕ) (at : ℕ) {v : Spot} → v ≡ spot at false 0 0 0 → at ≤ length t → length t ≤ 65535 → 8192 ≤ length dones
     → Ready t dones v × Under (argumentsAt t at) t dones v
 unfolding levelsOf
 none-yet t dones at q h k l =

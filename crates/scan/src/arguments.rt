@@ -3,6 +3,7 @@ ghost use mathlib.Core.Path.{_≡_};
 ghost use Prim.Native.Nat.{_≤_};
 ghost use lib.ListN.{length};
 ghost use Rattle.scan.specs.code.Arguments.{spot, Ready, MoveIs, Reads};
+use super::levels;
 use lex::turn;
 use turn::Turn;
 
@@ -48,7 +49,7 @@ fn move_on(text: &[u8], sp: Spot, dones: &mut [u8]) -> Move
     match turn::next_turn(text, at, past) {
         Turn::Name(_, e) => Move::Go(spot_at(e, true, depth, done, symbols + 1)),
         Turn::Open(_, e) => {
-            dones[depth] = 0;
+            levels::put_level(dones, depth, 0);
             Move::Go(spot_at(e + 1, false, depth + 1, done, symbols + 1))
         }
         Turn::Variable(_, e) => Move::Go(spot_at(e, true, depth, done, symbols + 1)),
@@ -58,11 +59,11 @@ fn move_on(text: &[u8], sp: Spot, dones: &mut [u8]) -> Move
                 return Move::Go(spot_at(p + 1, false, depth, done + 1, symbols));
             }
             let top = depth - 1;
-            let k = dones[top];
+            let k = levels::level(dones, top);
             if 3 <= k {
                 return Move::Stop(p);
             }
-            dones[top] = k + 1;
+            levels::put_level(dones, top, k + 1);
             Move::Go(spot_at(p + 1, false, depth, done, symbols))
         }
         Turn::Close(p) => {
@@ -82,7 +83,7 @@ pub enum Arguments {
 }
 
 pub fn read_arguments(text: &[u8], at: usize, dones: &mut [u8]) -> Arguments
-    requires { ⌜ (at ≤ length (now text)) × (length (now text) ≤ 65535) × (32768 ≤ length (now dones)) ⌝ }
+    requires { ⌜ (at ≤ length (now text)) × (length (now text) ≤ 65535) × (8192 ≤ length (now dones)) ⌝ }
     ensures { λ r. ⌜ Reads (now (text .entry)) at r ⌝ }
 {
     let mut sp = spot_at(at, false, 0, 0, 0);

@@ -2,6 +2,7 @@
 // of it but a number for each open name.
 mod arguments;
 mod facts;
+mod levels;
 
 ghost use mathlib.Core.Path.{_≡_};
 ghost use Prim.Native.Nat.{_≤_};
@@ -58,7 +59,7 @@ fn verdict(tally: Tally) -> Scan
 
 // All facts, one after another. `dones` is room for a number for each open name.
 fn read_facts(text: &[u8], dones: &mut [u8]) -> Scan
-    requires { ⌜ (length (now text) ≤ 65535) × (32768 ≤ length (now dones)) ⌝ }
+    requires { ⌜ (length (now text) ≤ 65535) × (8192 ≤ length (now dones)) ⌝ }
     ensures { λ r. ⌜ ScanIs (now (text .entry)) r ⌝ }
 {
     let mut at = 0;
@@ -87,6 +88,6 @@ pub fn scan_text(text: &[u8]) -> Scan
     if 65535 < text.len() {
         return turned(Reason::Bytes, 0);
     }
-    let mut dones = [0u8; 32768];
+    let mut dones = [0u8; 8192];
     read_facts(text, &mut dones)
 }

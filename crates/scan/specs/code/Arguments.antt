@@ -1,13 +1,14 @@
 -- A fact's arguments, read once, by the reader. Of the work under way the code keeps only counts: of the open names' complete arguments, of
 -- the fact's, of its symbols.
-use Prim.Native.Nat.{ℕ, zero, suc, _*_, _≤_, _<_}
+use Prim.Native.Nat.{ℕ, _*_, _≤_, _<_}
 use mathlib.Core.Path.{_≡_}
 use mathlib.Core.Bool.{Bool}
-use mathlib.Core.List.{List, [], _∷_, map}
-use lib.ListN.{length, getD, drop}
+use mathlib.Core.List.{List, [], map}
+use lib.ListN.{length, drop}
 use Rattle.grammar.specs.Grammar.{Symbol}
 use Rattle.grammar.specs.code.Reader.{arg, closed, Frame, work, Out, stops, run}
 use Rattle.lex.specs.Turns.{termMode}
+use Rattle.scan.specs.code.Levels.{levelsOf}
 use Rattle.scan.specs.declared.arguments.Spot.{Spot}
 use Rattle.scan.specs.declared.arguments.Move.{Move}
 use Rattle.scan.specs.declared.arguments.Move.the-variants as move
@@ -17,18 +18,13 @@ use Rattle.scan.specs.declared.arguments.Arguments.the-variants as argum
 abbrev pub spot : ℕ → Bool → ℕ → ℕ → ℕ → Spot
 spot at past depth done symbols = record { at = at; past = past; depth = depth; done = done; symbols = symbols }
 
--- the counts of so many levels, the innermost first
-unfoldable pub levelsOf : List ℕ → ℕ → List ℕ
-levelsOf dones zero = []
-levelsOf dones (suc d) = getD dones d 0 ∷ levelsOf dones d
-
 abbrev pub doneIn : List Frame → List ℕ
 doneIn fs = map (λ (f : Frame). f .done) fs
 
 -- the numbers: nothing is out of range
 pub record Ready (t dones : List ℕ) (sp : Spot) : Type 0 where
   pub text : length t ≤ 65535
-  pub room : 32768 ≤ length dones
+  pub room : 8192 ≤ length dones
   pub place : sp .at ≤ length t
   pub deep : 2 * sp .depth ≤ sp .at
   pub few : sp .symbols ≤ sp .at
