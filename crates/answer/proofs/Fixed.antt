@@ -37,7 +37,7 @@ pub skeletons-one : {k k′ : ℕ} {rows rows′ : List (List ℕ)} → k ≡ k�
     → skeletons p (replicate k hole) ≡ skeletons q (replicate k′ hole)
 skeletons-one ek er p q e = plan-tells (λ k rows p. skeletons p (replicate k hole)) ek er p q [] [] (ap (λ (l : List ℕ). l ++ []) e) .0
 
-runTold-one : (a b : RunAnswer) → runTold a ≡ runTold b → a ≡ b
+pub runTold-one : (a b : RunAnswer) → runTold a ≡ runTold b → a ≡ b
 runTold-one (run-answer.Ran h t) (run-answer.Ran i u) e = cc
 runTold-one (run-answer.Ran h t) (run-answer.Refused g) e = absurd (let z : _≡_ {A = ℕ} 0 1 = cc in omega arith)
 runTold-one (run-answer.Refused f) (run-answer.Ran i u) e = absurd (let z : _≡_ {A = ℕ} 0 1 = cc in omega arith)

@@ -10,3 +10,5 @@ pub mod Fixed
 pub mod TakesLaws
 pub mod Theorems
 pub mod Decided
+pub mod BitsLaws
+pub mod JobsLaws

@@ -9,6 +9,7 @@ use Rattle.term.specs.Unify.{Matches}
 use Rattle.refusal.specs.Refusal.{answered}
 use Rattle.refusal.specs.Read.{read}
 use Rattle.table.specs.Table.{Table, tableOf, upFrom, count, IsTable}
+use Rattle.table.specs.All.{All}
 use Rattle.table.proofs.ReadLaws.{apart, read-one}
 use Rattle.table.proofs.Accepted.{is-table}
 use Rattle.plan.specs.Runs.{Run}
@@ -53,6 +54,18 @@ picks-ascend (hit {f = f} p w) =
     let z : f ≤ f = omega arith in
     (more-of z (i .0), λ x m. ⊎-elim (λ e. omega arith) (λ q. let h = i .1 x q in omega arith) (List·Memᴰ·cases-cons m))
 picks-ascend (miss {f = f} p w) = let i = picks-ascend w in (ascends-from (omega arith) (i .0), λ x m. let h = i .1 x m in omega arith)
+
+-- all below what the rows' numbers are below
+pub picks-low : {P : List ℕ → Type 0} {rs : List (List ℕ)} {f : ℕ} {hs : List ℕ} (n : ℕ) → f + length rs ≤ n → Picks P rs f hs → All (λ x. x < n) hs
+picks-low n l none = tt
+picks-low n l (hit p w) = (omega arith, picks-low n (omega arith) w)
+picks-low n l (miss p w) = picks-low n (omega arith) w
+
+-- and no more than there are rows
+pub picks-few : {P : List ℕ → Type 0} {rs : List (List ℕ)} {f : ℕ} {hs : List ℕ} → Picks P rs f hs → length hs ≤ length rs
+picks-few none = omega arith
+picks-few (hit p w) = let h = picks-few w in omega arith
+picks-few (miss p w) = let h = picks-few w in omega arith
 
 -- Tries: "That number never exceeds the plan's cost".
 

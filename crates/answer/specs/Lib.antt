@@ -1,3 +1,4 @@
 pub mod Skeleton
 pub mod Run
+pub mod Jobs
 pub mod code

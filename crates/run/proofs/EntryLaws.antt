@@ -32,7 +32,7 @@ use Rattle.answer.proofs.AcceptedLaws.{hits-right, tried-right}
 use Rattle.answer.proofs.OpenGoalLaws.{distinct, every-hit}
 use Rattle.answer.proofs.Theorems.{every-try}
 use Rattle.answer.proofs.TakesLaws.{run-table, run-plan, run-goal, run-room, takes-run}
-use Rattle.run.specs.code.Walk.{Begun, Walked}
+use Rattle.walking.specs.code.Walk.{Begun, Walked}
 use Rattle.notes.specs.code.ForRun.{ForRun}
 use Rattle.notes.proofs.HandedLaws.{no-run}
 

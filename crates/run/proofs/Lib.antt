@@ -1,12 +1,5 @@
-pub mod ListLaws
-pub mod GoalLaws
-pub mod NodeLaws
 pub mod TestLaws
-pub mod RefLaws
-pub mod LinkLaws
-pub mod FrameLaws
-pub mod StepLaws
-pub mod AlongLaws
-pub mod StartLaws
-pub mod WalkLaws
 pub mod EntryLaws
+pub mod JobsLaws
+pub mod UptoLaws
+pub mod Fixed

@@ -8,7 +8,7 @@ use native.Mathlib.Omega.{arith}
 use lib.ListN.{getD}
 use borrow.Author.Tests.{eq-eqb, ne-eqb}
 use Rattle.cell.specs.Cell.{isVar, kindOf}
-use Rattle.run.specs.code.Steps.{Finds, any, other, same, unbound}
+use Rattle.run.specs.code.Finds.{Finds, any, other, same, unbound}
 use Rattle.run.specs.declared.step.Found.{Found}
 use Rattle.run.specs.declared.step.Found.the-variants.{Any, Other, Same, Unbound}
 

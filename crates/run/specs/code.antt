@@ -1,5 +1,4 @@
-pub mod Link
-pub mod Steps
-pub mod Frames
-pub mod Goal
-pub mod Walk
+-- what only private functions need
+pub mod Finds
+pub mod Checked
+pub mod Upto

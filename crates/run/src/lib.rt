@@ -1,15 +1,23 @@
-// A run (01, "A run"): the rows that unify with a goal, from the top, and the number of branches tried.
+// A run (01, "A run"): the rows that unify with a goal, from the top, and the number of branches tried. And a list of goals (02, W-202),
+// each answered in its record.
 ghost use mathlib.Core.List.{List};
 ghost use Prim.Native.Nat.{ℕ};
 ghost use Rattle.answer.specs.Run.{Ran};
+ghost use Rattle.answer.specs.Jobs.{JobsRun};
+ghost use Rattle.checker.specs.Checked.{planTold};
+ghost use Rattle.notes.specs.Noted.{Handed};
 ghost use Rattle.notes.specs.code.ForRun.{ForRun, ForSome};
+ghost use Rattle.run.specs.code.Checked.{Checked};
 
+mod jobs;
 mod nodes;
 mod step;
 mod walk;
 
+use answer::Job;
 use answer::RunAnswer;
 use checker::PlanAnswer;
+use notes::Noted;
 use refusal::Input;
 use refusal::Reason;
 use refusal::Refusal;
@@ -17,7 +25,7 @@ use table::GoalAnswer;
 
 // A run of a plan that the check has accepted, with what is noted of it: the goal, the room, then the walk. The goal of distinct variables,
 // which has as many variables as cells, hits every row and tries every branch: it is answered without a walk.
-fn run_noted(
+fn run_accepted(
     noted: &[u64; 2048],
     branches: usize,
     width: usize,
@@ -49,19 +57,42 @@ fn run_noted(
     }
 }
 
-// A run of any plan for any table on any goal. What is turned away, in this order: the table, the plan, the goal, the room.
-pub fn run_plan(table: &[u32], plan: &[u32], goal: &[u32], room: &mut [u8]) -> RunAnswer
-    ensures { λ r. ⌜ Ran (now (table .entry)) (now (plan .entry)) (now (goal .entry)) (now (room .entry)) (now (room .exit)) r ⌝ }
+// A run of a plan by what the check has answered and noted of it.
+fn run_noted(numbers: &[u64; 2048], noted: Noted, goal: &[u32], room: &mut [u8]) -> RunAnswer
+    requires { ⌜ Checked (now numbers) noted ⌝ }
+    ensures { λ r. ⌜ ((table plan before : List ℕ) → Handed table plan before (now (numbers .entry)) noted → Ran table plan
+        (now (goal .entry)) (now (room .entry)) (now (room .exit)) r) ⌝ }
 {
-    let mut numbers = [0u64; 2048];
-    let noted = notes::check_noted(table, plan, &mut numbers);
     let answer = noted.answer;
     match answer {
         PlanAnswer::Refused(f) => RunAnswer::Refused(f),
         PlanAnswer::Accepted(branches) => {
             let width = noted.width;
             let rows = noted.rows;
-            run_noted(&numbers, branches, width, rows, goal, room)
+            run_accepted(numbers, branches, width, rows, goal, room)
         }
     }
+}
+
+// A run of any plan for any table on any goal. What is turned away, in this order: the table, the plan, the goal, the room.
+pub fn run_plan(table: &[u32], plan: &[u32], goal: &[u32], room: &mut [u8]) -> RunAnswer
+    ensures { λ r. ⌜ Ran (now (table .entry)) (now (plan .entry)) (now (goal .entry)) (now (room .entry)) (now (room .exit)) r ⌝ }
+{
+    let mut numbers = [0u64; 2048];
+    let noted = notes::check_noted(table, plan, &mut numbers);
+    run_noted(&numbers, noted, goal, room)
+}
+
+// A run of any plan for any table on every goal of a list. The table and the plan are checked once; where one of them is turned away, no
+// record is touched. The goals' cells lie among the lent ones.
+pub fn run_jobs(table: &[u32], plan: &[u32], cells: &[u32], jobs: &mut [Job]) -> PlanAnswer
+    ensures { λ r. ⌜ JobsRun (now (table .entry)) (now (plan .entry)) (now (cells .entry)) (now (jobs .entry)) (now (jobs .exit)) (planTold
+        r) ⌝ }
+{
+    let mut numbers = [0u64; 2048];
+    let noted = notes::check_noted(table, plan, &mut numbers);
+    if jobs::accepted(noted) {
+        jobs::ask_all(&numbers, noted, cells, jobs);
+    }
+    jobs::answer_of(noted)
 }

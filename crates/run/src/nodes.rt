@@ -5,8 +5,8 @@ ghost use Prim.Native.Nat.{_≤_, _<_};
 ghost use lib.ListN.{length, replicate, set};
 ghost use Rattle.table.specs.All.{All};
 ghost use Rattle.table.specs.Table.{upFrom};
-ghost use Rattle.run.specs.code.Link.{steps};
-ghost use Rattle.run.specs.code.Goal.{hopOf, Whole, Stepped, Named, firstOf};
+ghost use Rattle.walking.specs.code.Link.{steps};
+ghost use Rattle.walking.specs.code.Goal.{hopOf, Whole, Stepped, Named, firstOf};
 use notes::words::wide;
 
 // Past the number of every branch.

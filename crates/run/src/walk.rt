@@ -6,7 +6,7 @@ ghost use Prim.Native.Nat.{_+_, _≤_};
 ghost use lib.ListN.{length};
 ghost use lib.Seq.{sets};
 ghost use Rattle.table.specs.Table.{upFrom};
-ghost use Rattle.run.specs.code.Walk.{Begun, Walked};
+ghost use Rattle.walking.specs.code.Walk.{Begun, Walked};
 use super::nodes::name_cells;
 use super::nodes::siblings;
 use super::step::meets;

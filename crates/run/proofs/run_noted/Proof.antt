@@ -1,83 +1,40 @@
-use mathlib.Core.Path.{_≡_, sym, _∙_}
-use Prim.Native.Nat.{ℕ}
-use native.Mathlib.Omega.{arith}
-use lib.ListN.{length}
-use Rattle.refusal.specs.Read.{read}
-use Rattle.table.specs.Table.{goalOf}
-use Rattle.run.proofs.EntryLaws.{says-goal, says-no-goal, no-goal, no-room, few-rows, opened, begun, walked}
+use Rattle.notes.proofs.HandedLaws.{for-run}
+use Rattle.run.proofs.EntryLaws.{handed-refused}
 use borrow.Author.Needs.{needs}
 use Rattle.run.proofs.run_noted.Statement.{statement}
 use Rattle.run.proofs.run_noted.Tie as tie
 
--- the goal is accepted: what its answer tells
-told : (c : tie.After-cells) → let a = c .before .before .before .before .before .args in
-    (goalOf (a .width) (a .goal .now) ≡ read (c .cells .given .0 .1 .0)) × (c .cells .given .0 .0 ≡ length (a .goal .now))
-told c =
-    let a = c .before .before .before .before .before .args in
-    says-goal (a .goal .now) (goalOf (a .width) (a .goal .now)) (c .before .before .goal-for .ensures) (c .cells .given .1)
+enum-known-answer : tie.Need-enum-known-answer
+enum-known-answer c = search needs
 
-goal-for-requires : tie.Need-goal-for-requires
-goal-for-requires c κs = search needs
+enum-known-answer-2 : tie.Need-enum-known-answer-2
+enum-known-answer-2 c = search needs
 
-enum-known-f : tie.Need-enum-known-f
-enum-known-f c = search needs
-
-enum-known-cells : tie.Need-enum-known-cells
-enum-known-cells c = search needs
+run-accepted-requires : tie.Need-run-accepted-requires
+run-accepted-requires c κs =
+    let s = c .before .before .before .before .before .before in
+    record { cells = s .pre .table; plan = s .pre .plan; accepted = for-run (s .pre .handed) (c .before .before .answer2 .given .1) }
 
 returns : tie.Need-returns
 returns c =
-    let k = c .before .before in
-    let a = k .before .before .before .before .before .args in
-    λ t p A. no-room A (a .goal .now) (a .room .now) (told k .0) (c .if1 .taken)
-
-put-rows-requires : tie.Need-put-rows-requires
-put-rows-requires c κs =
-    let s = c .before .before .before .before .before .before .before .before .before in
-    (omega arith, omega (arith, few-rows (s .pre .accepted)))
+    let a = c .before .before .before .before .before .args in
+    λ t p ns h. handed-refused (a .goal .now) (a .room .now) h (c .before .answer .given .1)
 
 same-length : tie.Need-same-length
 same-length c = search needs
 
 returns-2 : tie.Need-returns-2
 returns-2 c =
-    let k = c .before .before .before .before .before .before .before in
-    let a = k .before .before .before .before .before .args in
-    λ t p A. opened A (a .goal .now) (told k .0) (a .room .now) (omega arith) (omega (arith, told k .1)) _ (c .before .before .put-rows .ensures)
-
-walk-requires : tie.Need-walk-requires
-walk-requires c κs =
-    let k = c .before .before .before .before in
-    let s = k .before .before .before .before .before in
-    begun (s .pre .accepted) (s .args .goal .now) (told k .0) (s .args .room .now) (omega arith)
-
-returns-3 : tie.Need-returns-3
-returns-3 c =
-    let k = c .before in
-    let a = k .before .before .before .before .before .args in
-    λ t p A. no-goal A (a .goal .now) (a .room .now) (says-no-goal (a .goal .now) (goalOf (a .width) (a .goal .now)) (k .before .before .goal-for .ensures) (k .f .given .1))
-
-same-length-2 : tie.Need-same-length-2
-same-length-2 c = search needs
-
-returns-4 : tie.Need-returns-4
-returns-4 c =
-    let k = c .before .before .before .before .before .before .before in
-    let a = k .before .before .before .before .before .args in
-    λ t p A. walked A (a .goal .now) (told k .0) (a .room .now) (omega arith) _ _ _ (c .before .before .walk .ensures)
+    let k = c .before .before .before .before .before in
+    λ t p ns h. c .before .before .run-accepted .ensures t p (for-run h (k .answer2 .given .1))
 
 pub run-noted-spec : {M : Type 1} → statement M
 run-noted-spec =
     tie.close
     (tie.spec
-    goal-for-requires
-    enum-known-f
-    enum-known-cells
+    enum-known-answer
+    enum-known-answer-2
+    run-accepted-requires
     returns
-    put-rows-requires
     same-length
-    returns-2
-    walk-requires
-    returns-3
-    same-length-2
-    returns-4)
+    returns-2)

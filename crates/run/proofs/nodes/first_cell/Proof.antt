@@ -1,7 +1,7 @@
 use mathlib.Core.Path.{sym, _∙_, ap}
 use lib.ListN.{set}
 use lib.Seq.{set-getD}
-use Rattle.run.proofs.NodeLaws.{first-none, first-some}
+use Rattle.walking.proofs.NodeLaws.{first-none, first-some}
 use borrow.Author.Needs.{needs}
 use Rattle.run.proofs.nodes.first_cell.Statement.{statement}
 use Rattle.run.proofs.nodes.first_cell.Tie as tie

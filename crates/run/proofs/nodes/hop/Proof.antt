@@ -3,10 +3,10 @@ use mathlib.Core.Path.{_≡_, sym, _∙_}
 use borrow.Author.Needs.{needs}
 use native.Mathlib.Omega.{arith}
 use Rattle.table.specs.All.{All}
-use Rattle.run.specs.code.Link.{steps}
-use Rattle.run.specs.code.Goal.{hopOf}
-use Rattle.run.proofs.ListLaws.{steps-all}
-use Rattle.run.proofs.GoalLaws.{hop-none, hop-more}
+use Rattle.walking.specs.code.Link.{steps}
+use Rattle.walking.specs.code.Goal.{hopOf}
+use Rattle.walking.proofs.ListLaws.{steps-all}
+use Rattle.walking.proofs.GoalLaws.{hop-none, hop-more}
 use Rattle.run.proofs.nodes.hop.Statement.{statement}
 use Rattle.run.proofs.nodes.hop.Tie as tie
 

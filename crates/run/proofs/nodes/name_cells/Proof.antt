@@ -3,7 +3,7 @@ use mathlib.Core.Path.{_≡_, refl}
 use native.Mathlib.Omega.{arith}
 use borrow.Author.Needs.{needs}
 use lib.ListN.{length}
-use Rattle.run.proofs.NodeLaws.{Naming, naming-none, number-small, naming-variable, naming-symbol}
+use Rattle.walking.proofs.NodeLaws.{Naming, naming-none, number-small, naming-variable, naming-symbol}
 use Rattle.run.proofs.TestLaws.{kind-var, kind-symbol}
 use Rattle.run.proofs.nodes.name_cells.Statement.{statement}
 use Rattle.run.proofs.nodes.name_cells.Tie as tie

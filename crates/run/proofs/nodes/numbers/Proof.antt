@@ -5,7 +5,7 @@ use borrow.Author.Needs.{needs}
 use native.Mathlib.Omega.{arith}
 use lib.Seq.{sets}
 use Rattle.table.specs.Table.{upFrom}
-use Rattle.run.proofs.ListLaws.{up-none, up-more, store-next, store-end}
+use Rattle.walking.proofs.ListLaws.{up-none, up-more, store-next, store-end}
 use Rattle.run.proofs.nodes.numbers.Statement.{statement}
 use Rattle.run.proofs.nodes.numbers.Tie as tie
 

@@ -2,7 +2,7 @@ use Prim.Native.Nat.{_-_}
 use mathlib.Core.Path.{_∙_}
 use borrow.Author.Needs.{needs}
 use native.Mathlib.Omega.{arith}
-use Rattle.run.proofs.GoalLaws.{Done, hop-here, hop-small, step-done, done-none}
+use Rattle.walking.proofs.GoalLaws.{Done, hop-here, hop-small, step-done, done-none}
 use Rattle.run.proofs.nodes.siblings.Statement.{statement}
 use Rattle.run.proofs.nodes.siblings.Tie as tie
 

@@ -4,7 +4,8 @@ use native.Mathlib.Omega.{arith}
 use lib.ListN.{getD, set}
 use Rattle.cell.specs.Cell.{arity}
 use Rattle.plan.specs.Notes.{cellIn, slotIn}
-use Rattle.run.specs.code.Steps.{Finds, step-any, step-other, step-same, step-binds}
+use Rattle.walking.specs.code.Steps.{step-any, step-other, step-same, step-binds}
+use Rattle.run.specs.code.Finds.{Finds}
 use Rattle.run.proofs.TestLaws.{is-any, is-other, is-same, is-unbound}
 use borrow.Author.Needs.{needs}
 use Rattle.run.proofs.step.meets.Statement.{statement}

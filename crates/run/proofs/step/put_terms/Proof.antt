@@ -5,8 +5,8 @@ use native.Mathlib.Omega.{arith}
 use lib.ListN.{getD}
 use lib.Seq.{sets}
 use Rattle.table.specs.All.{All}
-use Rattle.run.specs.code.Link.{steps, nodes}
-use Rattle.run.proofs.ListLaws.{steps-all, nodes-more, nodes-none, store-next, store-end}
+use Rattle.walking.specs.code.Link.{steps, nodes}
+use Rattle.walking.proofs.ListLaws.{steps-all, nodes-more, nodes-none, store-next, store-end}
 use Rattle.run.proofs.step.put_terms.Statement.{statement}
 use Rattle.run.proofs.step.put_terms.Tie as tie
 

@@ -7,11 +7,11 @@ use lib.ListN.{length, getD}
 use Rattle.term.specs.Unify.{renamed}
 use Rattle.answer.proofs.AcceptedLaws.{goal-head}
 use Rattle.plan.specs.Notes.{skipIn, rowsIn}
-use Rattle.run.specs.code.Link.{Tables}
-use Rattle.run.specs.code.Walk.{Begun}
-use Rattle.run.proofs.StartLaws.{whole, tables, arguments}
-use Rattle.run.proofs.AlongLaws.{ended}
-use Rattle.run.proofs.WalkLaws.{Walking, words-count, count-small, began, safe-now, rows-now, skip-now, fail-now, leaf-now, down-now}
+use Rattle.walking.specs.code.Link.{Tables}
+use Rattle.walking.specs.code.Walk.{Begun}
+use Rattle.walking.proofs.StartLaws.{whole, tables, arguments}
+use Rattle.walking.proofs.AlongLaws.{ended}
+use Rattle.walking.proofs.WalkLaws.{Walking, words-count, count-small, began, safe-now, rows-now, skip-now, fail-now, leaf-now, down-now}
 use Rattle.run.proofs.walk.walk.Statement.{statement}
 use Rattle.run.proofs.walk.walk.Tie as tie
 

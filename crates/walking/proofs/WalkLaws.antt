@@ -14,16 +14,16 @@ use Rattle.plan.specs.Plans.{branches}
 use Rattle.answer.specs.code.Tree.{hits, tried}
 use Rattle.answer.proofs.AcceptedLaws.{goal-head}
 use Rattle.plan.specs.Notes.{notes, word, cellIn, skipIn, rowsIn, slotIn, nextIn}
-use Rattle.run.specs.code.Link.{nodes, Tables}
-use Rattle.run.specs.code.Steps.{Safe, Step}
-use Rattle.run.specs.code.Goal.{Stepped, Named}
-use Rattle.run.specs.code.Frames.{notesOf, hitsOf, nothing}
-use Rattle.run.specs.code.Walk.{Begun}
+use Rattle.walking.specs.code.Link.{nodes, Tables}
+use Rattle.walking.specs.code.Steps.{Safe, Step}
+use Rattle.walking.specs.code.Goal.{Stepped, Named}
+use Rattle.walking.specs.code.Frames.{notesOf, hitsOf, nothing}
+use Rattle.walking.specs.code.Walk.{Begun}
 use Rattle.plan.proofs.NotesLaws.{notes-count}
 use Rattle.plan.proofs.NotesLaws.{branches-few, notes-fit}
-use Rattle.run.proofs.FrameLaws.{Below, below-frame, below-stands}
-use Rattle.run.proofs.AlongLaws.{Along, safe-here, rows-here, skip-here, on-fail, on-leaf, on-down}
-use Rattle.run.proofs.StartLaws.{linked}
+use Rattle.walking.proofs.FrameLaws.{Below, below-frame, below-stands}
+use Rattle.walking.proofs.AlongLaws.{Along, safe-here, rows-here, skip-here, on-fail, on-leaf, on-down}
+use Rattle.walking.proofs.StartLaws.{linked}
 
 module _ {noted goal room : List ℕ} {count w : ℕ} (b : Begun noted count goal room w) where
   -- at the branch number i

@@ -1,5 +1,5 @@
--- The goal's tables as the code makes them (src/goal.rt). These definitions describe the code's own state; no promise of a public function
--- cites them.
+-- The goal's tables as the code makes them (crates/run/src/nodes.rt). These definitions describe the code's own state; no promise of a
+-- public function cites them.
 use Prim.Native.Nat.{ℕ, zero, suc, _+_, _≤_, _<_}
 use mathlib.Core.Path.{_≡_}
 use mathlib.Core.Logic.{_≢_}

@@ -26,9 +26,9 @@ use Rattle.table.proofs.HeadLaws.{up-length}
 use Rattle.answer.specs.code.After.{stuck, left, meet, after}
 use Rattle.answer.specs.code.Renamed.{var, Goal}
 use Rattle.answer.proofs.CountLaws.{up-distinct}
-use Rattle.run.specs.code.Link.{ref, refs, steps, entries, nodes, Node, cell, made, Nodes, nil, Tables, Is, held, free, Bound, Linked}
-use Rattle.run.proofs.ListLaws.{entries-++, entries-below, entries-stored, entries-length, steps-length, new-made}
-use Rattle.run.proofs.RefLaws.{ref-made, refs-++, nodes-split, nodes-++, nodes-more, up-nodes, steps-up, nodes-up, up-all, up-refs, Terms-ref, Terms-refs, one-node}
+use Rattle.walking.specs.code.Link.{ref, refs, steps, entries, nodes, Node, cell, made, Nodes, nil, Tables, Is, held, free, Bound, Linked}
+use Rattle.walking.proofs.ListLaws.{entries-++, entries-below, entries-stored, entries-length, steps-length, new-made}
+use Rattle.walking.proofs.RefLaws.{ref-made, refs-++, nodes-split, nodes-++, nodes-more, up-nodes, steps-up, nodes-up, up-all, up-refs, Terms-ref, Terms-refs, one-node}
 
 -- a node that was made before, or one that was not
 older : {G rep : List ℕ} (m : ℕ) {n r : ℕ} → 32 ≤ m → Node G rep n r → Node G rep m r ⊎ ((m ≤ r) × (32 ≤ r))

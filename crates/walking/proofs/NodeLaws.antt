@@ -15,7 +15,7 @@ use Rattle.term.proofs.Lists.{getD-zeros}
 use Rattle.table.specs.Table.{upFrom}
 use Rattle.table.proofs.HeadLaws.{up-length}
 use Rattle.answer.proofs.CountLaws.{up-at}
-use Rattle.run.specs.code.Goal.{Whole, firstOf, NamedTo}
+use Rattle.walking.specs.code.Goal.{Whole, firstOf, NamedTo}
 
 pub first-none : (first : List ℕ) (v p : ℕ) → getD first v 0 ≡ 64 → firstOf first v p ≡ p
 unfolding firstOf

@@ -9,7 +9,7 @@ use Rattle.plan.specs.Plans.{Branches, branchesIn}
 use Rattle.plan.specs.code.Rows.{rowCount}
 use Rattle.answer.specs.code.Tree.{hitsIn, triedIn}
 use Rattle.plan.specs.Notes.{Branch, notesIn}
-use Rattle.run.specs.code.Link.{Linked}
+use Rattle.walking.specs.code.Link.{Linked}
 
 -- the rest of a state's branches: k places are open beside the one looked at, slots from `free` on are free, R is left of the goal
 pub record Frame : Type 0 where

@@ -13,7 +13,7 @@ use Rattle.term.proofs.Lists.{getD-sets}
 use Rattle.table.specs.All.{All}
 use Rattle.table.proofs.AllLaws.{all-each, all-++}
 use Rattle.table.specs.Table.{upFrom}
-use Rattle.run.specs.code.Link.{steps, entries, nodes}
+use Rattle.walking.specs.code.Link.{steps, entries, nodes}
 
 pub up-none : (n a : ℕ) → a ≡ 0 → upFrom n a ≡ []
 unfolding upFrom

@@ -15,8 +15,8 @@ use Rattle.term.proofs.Inst.{Terms-var}
 use Rattle.table.specs.All.{All}
 use Rattle.table.specs.Table.{upFrom}
 use Rattle.answer.specs.code.Renamed.{var, Goal}
-use Rattle.run.specs.code.Link.{ref, refs, steps, entries, nodes, Node, cell, made, Nodes, nil, cons, Tables}
-use Rattle.run.proofs.ListLaws.{front-add, back-drop, drop-in, suffix}
+use Rattle.walking.specs.code.Link.{ref, refs, steps, entries, nodes, Node, cell, made, Nodes, nil, cons, Tables}
+use Rattle.walking.proofs.ListLaws.{front-add, back-drop, drop-in, suffix}
 
 pub ref-cell : (G : List ℕ) (r : ℕ) → r < 32 → ref G r ≡ front 1 (drop r G)
 unfolding ref

@@ -16,9 +16,9 @@ use Rattle.table.specs.All.{All}
 use Rattle.table.specs.Table.{upFrom}
 use Rattle.table.proofs.HeadLaws.{up-length}
 use Rattle.answer.proofs.CountLaws.{up-at}
-use Rattle.run.specs.code.Link.{steps}
-use Rattle.run.specs.code.Goal.{hopOf, Whole}
-use Rattle.run.proofs.ListLaws.{front-add, back-drop, drop-in, suffix}
+use Rattle.walking.specs.code.Link.{steps}
+use Rattle.walking.specs.code.Goal.{hopOf, Whole}
+use Rattle.walking.proofs.ListLaws.{front-add, back-drop, drop-in, suffix}
 
 pub hop-none : (sib : List ℕ) (a p : ℕ) → a ≡ 0 → hopOf sib a p ≡ p
 unfolding hopOf

@@ -11,13 +11,13 @@ use Rattle.plan.specs.Plans.{next, branches, branchesIn}
 use Rattle.answer.specs.code.After.{stuck, after}
 use Rattle.answer.specs.code.Renamed.{var, Goal}
 use Rattle.plan.specs.Notes.{below}
-use Rattle.run.specs.code.Link.{nodes, Tables, Linked}
-use Rattle.run.specs.code.Steps.{Safe, Step, step-any, step-same, step-other, step-binds}
-use Rattle.run.specs.code.Frames.{Frame, frame, Stands, within}
+use Rattle.walking.specs.code.Link.{nodes, Tables, Linked}
+use Rattle.walking.specs.code.Steps.{Safe, Step, step-any, step-same, step-other, step-binds}
+use Rattle.walking.specs.code.Frames.{Frame, frame, Stands, within}
 use Rattle.plan.proofs.NotesLaws.{below-length}
-use Rattle.run.proofs.RefLaws.{steps-up, up-all}
-use Rattle.run.proofs.LinkLaws.{linked-rest, Down, node-small, down-variable, down-same, same-safe, stuck-other, down-bind}
-use Rattle.run.proofs.FrameLaws.{Top, stands-refs, stands-binding}
+use Rattle.walking.proofs.RefLaws.{steps-up, up-all}
+use Rattle.walking.proofs.LinkLaws.{linked-rest, Down, node-small, down-variable, down-same, same-safe, stuck-other, down-bind}
+use Rattle.walking.proofs.FrameLaws.{Top, stands-refs, stands-binding}
 
 -- the arrays have 64 entries each
 pub record Sizes (bs ns us rs : List ℕ) : Type 0 where

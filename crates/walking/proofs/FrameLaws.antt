@@ -16,10 +16,10 @@ use Rattle.plan.specs.code.Rows.{rowCount}
 use Rattle.answer.specs.code.Renamed.{Goal}
 use Rattle.answer.specs.code.Tree.{hits, hitsIn, tried, triedIn}
 use Rattle.plan.specs.Notes.{notes, notesIn}
-use Rattle.run.specs.code.Link.{Tables, Linked}
-use Rattle.run.specs.code.Frames.{Frame, frame, notesOf, hitsOf, triedOf, rowsOf, Stands, nothing, within}
+use Rattle.walking.specs.code.Link.{Tables, Linked}
+use Rattle.walking.specs.code.Frames.{Frame, frame, notesOf, hitsOf, triedOf, rowsOf, Stands, nothing, within}
 use Rattle.plan.proofs.NotesLaws.{notesIn-count}
-use Rattle.run.proofs.LinkLaws.{refs-past, binding-past}
+use Rattle.walking.proofs.LinkLaws.{refs-past, binding-past}
 
 -- No branch is left in a state.
 

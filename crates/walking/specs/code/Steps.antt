@@ -1,6 +1,6 @@
--- What one branch of the walk does to the arrays (src/step.rt): the branch number i, with the cell c, looks at the node v; the slots from
--- `next` on are new, and what it binds is bound before the branch number `skip`. These definitions describe the code's own state; no promise
--- of a public function cites them.
+-- What one branch of the walk does to the arrays (crates/run/src/step.rt): the branch number i, with the cell c, looks at the node v; the
+-- slots from `next` on are new, and what it binds is bound before the branch number `skip`. These definitions describe the code's own
+-- state; no promise of a public function cites them.
 use Prim.Native.Nat.{ℕ, _+_, _≤_, _<_}
 use mathlib.Core.Path.{_≡_}
 use mathlib.Core.Logic.{_≢_}
@@ -10,9 +10,7 @@ use lib.ListN.{getD, set}
 use lib.Seq.{sets}
 use Rattle.cell.specs.Cell.{arity, isVar}
 use Rattle.table.specs.All.{All}
-use Rattle.run.specs.code.Link.{steps, nodes}
-use Rattle.run.specs.declared.step.Found.{Found}
-use Rattle.run.specs.declared.step.Found.the-variants.{Any, Other, Same, Unbound}
+use Rattle.walking.specs.code.Link.{steps, nodes}
 
 -- it can be tested: what it reads and writes is in the arrays
 pub record Safe (sib bound args until : List ℕ) (i c v next : ℕ) : Type 0 where
@@ -20,13 +18,6 @@ pub record Safe (sib bound args until : List ℕ) (i c v next : ℕ) : Type 0 wh
   pub room : next + arity c ≤ 64
   pub same : i < getD until v 0 → getD bound v 0 ≡ c → All (λ x. x < 64) (steps sib (arity c) (getD args v 0))
   pub new : All (λ x. x < 64) (steps sib (arity c) next)
-
--- what its test finds
-pub data Finds (bound args until : List ℕ) (i c v : ℕ) : Found → Type 0 where
-  any : isVar c ≡ true → Finds bound args until i c v Any
-  other : isVar c ≡ false → i < getD until v 0 → getD bound v 0 ≢ c → Finds bound args until i c v Other
-  same : isVar c ≡ false → i < getD until v 0 → getD bound v 0 ≡ c → Finds bound args until i c v (Same (getD args v 0))
-  unbound : isVar c ≡ false → getD until v 0 ≤ i → Finds bound args until i c v (Unbound v)
 
 -- whether it succeeds, and the arrays after it
 pub data Step (rep sib : List ℕ) (i c v next skip : ℕ) (bound args until refers bound′ args′ until′ refers′ : List ℕ) : Bool → Type 0 where

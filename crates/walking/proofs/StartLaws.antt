@@ -24,10 +24,10 @@ use Rattle.answer.specs.code.Renamed.{var, lift}
 use Rattle.answer.proofs.RenamedLaws.{lift-var, lift-symbol}
 use Rattle.answer.proofs.RenamedLaws.{renamed-length, renamed-drop, renamed-at, renamed-front, small-drop, getD-mem}
 use Rattle.answer.proofs.AcceptedLaws.{small, goal-head}
-use Rattle.run.specs.code.Link.{ref, steps, entries, nodes, Node, cell, made, Tables, Is, held, free, Bound, Linked}
-use Rattle.run.specs.code.Goal.{Whole, Stepped, Named}
-use Rattle.run.proofs.ListLaws.{suffix, entries-stored, entries-length, steps-length, up-range}
-use Rattle.run.proofs.RefLaws.{ref-cell, Stand, stand-at}
+use Rattle.walking.specs.code.Link.{ref, steps, entries, nodes, Node, cell, made, Tables, Is, held, free, Bound, Linked}
+use Rattle.walking.specs.code.Goal.{Whole, Stepped, Named}
+use Rattle.walking.proofs.ListLaws.{suffix, entries-stored, entries-length, steps-length, up-range}
+use Rattle.walking.proofs.RefLaws.{ref-cell, Stand, stand-at}
 
 module _ {w : ℕ} {goal : List ℕ} (h : IsGoal w goal) where
   abbrev G : List ℕ

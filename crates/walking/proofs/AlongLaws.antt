@@ -20,13 +20,13 @@ use Rattle.answer.specs.code.Renamed.{var, Goal}
 use Rattle.answer.specs.code.Tree.{under, hits, tried}
 use Rattle.plan.specs.Notes.{Branch, branch, below, notes, notesIn, word, cellIn, skipIn, slotIn, nextIn}
 use Rattle.plan.specs.Notes as note
-use Rattle.run.specs.code.Link.{Tables}
-use Rattle.run.specs.code.Steps.{Safe, Step}
-use Rattle.run.specs.code.Frames.{Frame, notesOf, hitsOf, triedOf, rowsOf, Stands}
+use Rattle.walking.specs.code.Link.{Tables}
+use Rattle.walking.specs.code.Steps.{Safe, Step}
+use Rattle.walking.specs.code.Frames.{Frame, notesOf, hitsOf, triedOf, rowsOf, Stands}
 use Rattle.plan.proofs.NotesLaws.{Parts, word-parts, notes-count}
 use Rattle.plan.specs.Notes.{Fits}
-use Rattle.run.proofs.FrameLaws.{Top, top-of, none-of, leaf-all, Below, below-frame, some-open, below-stands}
-use Rattle.run.proofs.StepLaws.{Sizes, Goes, frames, node, below-width, safe, fails, goes}
+use Rattle.walking.proofs.FrameLaws.{Top, top-of, none-of, leaf-all, Below, below-frame, some-open, below-stands}
+use Rattle.walking.proofs.StepLaws.{Sizes, Goes, frames, node, below-width, safe, fails, goes}
 
 -- At the branch number i, `words` being what is noted: the rows before `row` are done, `found` hits are in the room and `count` branches are tried. With what
 -- the frames still give, the room is `final`, and there are h hits, t branches tried and r rows.

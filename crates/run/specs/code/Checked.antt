@@ -1,0 +1,36 @@
+-- What the check has answered and noted of a plan (crate notes), for the runs of it.
+use Prim.Native.Nat.{ℕ, _≤_, _<_}
+use mathlib.Core.Path.{_≡_}
+use mathlib.Core.Bool.{Bool, true, false}
+use mathlib.Core.List.{List}
+use lib.ListN.{length, take}
+use Rattle.table.specs.All.{All}
+use Rattle.checker.specs.declared.PlanAnswer.{PlanAnswer}
+use Rattle.checker.specs.declared.PlanAnswer.the-variants as plan-answer
+use Rattle.notes.specs.Noted.{Handed}
+use Rattle.notes.specs.declared.Noted.{Noted}
+use Rattle.answer.specs.Run.{Ascends}
+use Rattle.answer.specs.Jobs.{Asked}
+use Rattle.answer.specs.declared.Job.{Job}
+
+abbrev pub isAccepted : PlanAnswer → Bool
+isAccepted (plan-answer.Accepted n) = true
+isAccepted (plan-answer.Refused f) = false
+
+-- of some plan for some table
+pub record Checked (numbers : List ℕ) (noted : Noted) : Type 0 where
+  pub table : List ℕ
+  pub plan : List ℕ
+  pub before : List ℕ
+  pub handed : Handed table plan before numbers noted
+
+-- what a record becomes, for the table and the plan of which this is noted
+abbrev pub AskedBy : (numbers : List ℕ) (noted : Noted) (cells : List ℕ) → Job → Job → Type 0
+AskedBy numbers noted cells j j′ = (table plan before : List ℕ) → Handed table plan before numbers noted → Asked table plan cells j j′
+
+-- the first n of 64 bytes are numbers of rows, from the top down
+pub record Hits (room : List ℕ) (n : ℕ) : Type 0 where
+  pub size : length room ≡ 64
+  pub few : n ≤ 64
+  pub ascends : Ascends 0 (take n room)
+  pub low : All (λ x. x < 64) (take n room)

@@ -1,0 +1,101 @@
+// A list of goals, each answered in its record (02, W-202). A slice of records is beyond what is proved without a walk of the code by hand:
+// so `ask_all` and `run_jobs` do nothing but call, and what there is to do for a goal is done on a record by value.
+ghost use mathlib.Core.Path.{_≡_};
+ghost use lib.ListN.{take};
+ghost use Rattle.refusal.specs.Refusal.{numberOf};
+ghost use Rattle.answer.specs.Jobs.{bitsOf, filled, Each};
+ghost use Rattle.run.specs.code.Checked.{isAccepted, Checked, AskedBy, Hits};
+use answer::Job;
+use answer::RunAnswer;
+use checker::PlanAnswer;
+use notes::Noted;
+use notes::words::wide;
+use refusal::Reason;
+
+pub fn accepted(noted: Noted) -> bool
+    ensures { λ r. ⌜ r ≡ isAccepted (noted .answer) ⌝ }
+{
+    let answer = noted.answer;
+    match answer {
+        PlanAnswer::Accepted(_) => true,
+        PlanAnswer::Refused(_) => false,
+    }
+}
+
+pub fn answer_of(noted: Noted) -> PlanAnswer
+    ensures { λ r. ⌜ r ≡ noted .answer ⌝ }
+{
+    noted.answer
+}
+
+// The first `n` bytes, numbers of rows, as bits.
+fn bits(room: &[u8; 64], n: usize) -> u64
+    requires { ⌜ Hits (now room) n ⌝ }
+    ensures { λ r. ⌜ r ≡ bitsOf (take n (now (room .entry))) ⌝ }
+{
+    let mut rows = 0u64;
+    let mut i = 0;
+    while i < n {
+        rows = rows | (1 << wide(room[i]));
+        i += 1;
+    }
+    rows
+}
+
+// The record of a goal that is turned away.
+fn refused(j: Job, reason: Reason, place: usize) -> Job
+    ensures { λ r. ⌜ r ≡ filled j (numberOf reason) place 0 0 ⌝ }
+{
+    Job {
+        start: j.start,
+        count: j.count,
+        number: refusal::number_of(reason),
+        place,
+        hits: 0,
+        tried: 0,
+    }
+}
+
+// One goal, asked by itself: LENGTH where its cells are not all lent, otherwise what a run of it answers. Neither test adds, so that no
+// start and no count is too large.
+fn ask_one(numbers: &[u64; 2048], noted: Noted, cells: &[u32], j: Job) -> Job
+    requires { ⌜ Checked (now numbers) noted ⌝ }
+    ensures { λ r. ⌜ AskedBy (now (numbers .entry)) noted (now (cells .entry)) j r ⌝ }
+{
+    let start = j.start;
+    let count = j.count;
+    if cells.len() < start {
+        return refused(j, Reason::Length, 0);
+    }
+    if cells.len() - start < count {
+        return refused(j, Reason::Length, 0);
+    }
+    let end = start + count;
+    let mut room = [0u8; 64];
+    match super::run_noted(numbers, noted, &cells[start..end], &mut room) {
+        RunAnswer::Refused(f) => {
+            let reason = f.reason;
+            refused(j, reason, f.place)
+        }
+        RunAnswer::Ran(hits, tried) => Job {
+            start,
+            count,
+            number: 0,
+            place: 0,
+            hits: bits(&room, hits),
+            tried,
+        },
+    }
+}
+
+// Every record of the list, in place.
+pub fn ask_all(numbers: &[u64; 2048], noted: Noted, cells: &[u32], jobs: &mut [Job])
+    requires { ⌜ Checked (now numbers) noted ⌝ }
+    ensures { λ _. ⌜ Each (AskedBy (now (numbers .entry)) noted (now (cells .entry))) (now (jobs .entry)) (now (jobs .exit)) ⌝ }
+{
+    let mut i = 0;
+    while i < jobs.len() {
+        jobs[i] = ask_one(numbers, noted, cells, jobs[i]);
+        i += 1;
+    }
+}

@@ -1,0 +1,10 @@
+pub mod ListLaws
+pub mod GoalLaws
+pub mod NodeLaws
+pub mod RefLaws
+pub mod LinkLaws
+pub mod FrameLaws
+pub mod StepLaws
+pub mod AlongLaws
+pub mod StartLaws
+pub mod WalkLaws
