@@ -5,11 +5,12 @@
  *
  * Every function takes any cells at all, and ends; nobody has to check first. It answers one number, which the inline functions below take
  * apart. Either it answered, and there are two values, or the input is refused: then there is the refusal's number, the input that it
- * concerns and a place in it, and nothing was written to the lent room.
+ * concerns and a place in it, and nothing was written to the lent room. The one exception is a goal of a list (dudowiej_run_jobs): where
+ * the goal is refused, its record says so.
  *
  * A list is passed as a pointer and a length. The pointer is aligned for its type and not null, even where the length is 0. A lent room
  * shares no memory with the inputs. The functions keep nothing between calls, and allocate nothing. Of its caller's stack a call touches at
- * most 93,280 bytes to build a plan, 31,608 to run one, 14,520 to check one and 1,288 to read (measured: docs/BENCH.md, "Stack"). */
+ * most 93,280 bytes to build a plan, 31,352 to run one, 14,520 to check one and 1,288 to read (measured: docs/BENCH.md, "Stack"). */
 #ifndef DUDOWIEJ_H
 #define DUDOWIEJ_H
 
@@ -88,6 +89,27 @@ uint64_t dudowiej_run_plan(const uint32_t *table, size_t table_cells, const uint
  * where it is the first); then the table, with places in its cells. Rooms of DUDOWIEJ_TABLE_CELLS cells and DUDOWIEJ_NAMES names are
  * enough for every table. */
 uint64_t dudowiej_read_text(const uint8_t *text, size_t text_bytes, uint32_t *cells, size_t cells_room, uint32_t *names, size_t names_room);
+
+/* One goal of a list. Before the call start and count say where its cells lie among the lent cells; they stay. After the call number and
+ * place hold the goal's refusal (enum dudowiej_refusal; places count from the goal's own first cell), or 0 and 0; hits has bit r set when
+ * row r unifies with the goal; tried is the number of branches tried. A refused goal has hits and tried 0. What the last four held before
+ * is never read. */
+struct dudowiej_job {
+    size_t start, count, number, place;
+    uint64_t hits;
+    size_t tried;
+};
+
+#ifndef __cplusplus
+_Static_assert(sizeof(struct dudowiej_job) == 48, "six words of 64 bits");
+_Static_assert(offsetof(struct dudowiej_job, number) == 16 && offsetof(struct dudowiej_job, hits) == 32, "with no gaps");
+#endif
+
+/* Runs a plan on every goal of a list, each as dudowiej_run_plan would by itself. The table and the plan are checked once; where one of
+ * them is refused, no record is written. A goal whose start or count reaches past the lent cells is refused by itself, with LENGTH at 0.
+ * Goals may share cells. First: the plan's branches. Second: 0. */
+uint64_t dudowiej_run_jobs(const uint32_t *table, size_t table_cells, const uint32_t *plan, size_t plan_cells, const uint32_t *cells,
+                           size_t cells_count, struct dudowiej_job *jobs, size_t jobs_count);
 
 /* An answer taken apart. Bits 0 to 7 are 0 exactly where it is no refusal:
  *   answered:  2^16 * first + 2^32 * second           first < 2^16, second < 2^32

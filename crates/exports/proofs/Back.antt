@@ -10,8 +10,9 @@ use Rattle.plan.specs.Check.{planOf}
 use Rattle.checker.specs.Checked.{planSays}
 use Rattle.builder.specs.Build.{buildTold}
 use Rattle.answer.specs.Run.{runTold}
-use Rattle.exports.specs.Coded.{rowSays, BuildCoded, RunCoded, TextCoded}
-use Rattle.exports.proofs.Small.{table-small, goal-with-small, row-small, plan-small, build-small, run-small, text-small}
+use Rattle.exports.specs.Coded.{rowSays, BuildCoded, RunCoded, TextCoded, JobsCoded}
+use Rattle.exports.proofs.Small.{table-small, goal-with-small, row-small, plan-small, build-small, run-small, text-small, jobs-small}
+use Rattle.answer.specs.declared.Job.{Job}
 
 pub table-back : (t : List ℕ) {n : ℕ} → n ≡ coded (tableSays (tableOf t)) → decoded n ≡ tableSays (tableOf t)
 table-back t = read-back (table-small t)
@@ -33,3 +34,6 @@ run-back x = read-back (run-small (x .ran)) (x .code)
 
 pub text-back : {t cells names cells′ names′ : List ℕ} {n : ℕ} (x : TextCoded t cells names cells′ names′ n) → decoded n ≡ x .answer
 text-back x = read-back (text-small (x .loaded)) (x .code)
+
+pub jobs-back : {t p cells : List ℕ} {jobs jobs′ : List Job} {n : ℕ} (x : JobsCoded t p cells jobs jobs′ n) → decoded n ≡ x .told
+jobs-back x = read-back (jobs-small (x .ran)) (x .code)

@@ -11,7 +11,9 @@ use Rattle.answer.specs.declared.RunAnswer.{RunAnswer}
 use Rattle.answer.proofs.Fixed.{run-fixed}
 use Rattle.loading.proofs.Fixed.{text-fixed}
 use Rattle.refusal.specs.Coded.{coded}
-use Rattle.exports.specs.Coded.{BuildCoded, RunCoded, TextCoded}
+use Rattle.exports.specs.Coded.{BuildCoded, RunCoded, TextCoded, JobsCoded}
+use Rattle.answer.specs.declared.Job.{Job}
+use Rattle.answer.proofs.JobsLaws.{jobs-fixed}
 
 pub build-coded-fixed : {t room room′ room″ : List ℕ} {m n : ℕ} → BuildCoded t room room′ m → BuildCoded t room room″ n
     → (m ≡ n) × (room′ ≡ room″)
@@ -30,3 +32,7 @@ pub text-coded-fixed : {t cells names cells′ names′ cells″ names″ : List
 text-coded-fixed a b =
     let f = text-fixed (a .loaded) (b .loaded) in
     (a .code ∙ ap coded (f .0) ∙ sym (b .code), f .1, f .2)
+
+pub jobs-coded-fixed : {t p cells : List ℕ} {jobs jobs′ jobs″ : List Job} {m n : ℕ} → JobsCoded t p cells jobs jobs′ m → JobsCoded t p cells jobs jobs″ n
+    → (m ≡ n) × (jobs′ ≡ jobs″)
+jobs-coded-fixed a b = let f = jobs-fixed (a .ran) (b .ran) in (a .code ∙ ap coded (f .0) ∙ sym (b .code), f .1)

@@ -23,10 +23,12 @@ use Rattle.builder.specs.declared.BuildAnswer.{BuildAnswer}
 use Rattle.builder.specs.Build.{BuiltInto, table-refused, room-refused, built, buildTold}
 use Rattle.plan.proofs.CheckLaws.{accepted-one, rows-fit}
 use Rattle.answer.specs.declared.RunAnswer.{RunAnswer}
+use Rattle.answer.specs.declared.Job.{Job}
+use Rattle.answer.specs.Jobs.{JobsRun}
 use Rattle.answer.specs.Skeleton.{hole}
-use Rattle.answer.specs.Run.{Picks, none, hit, miss, runTold, Ran, refusal, ran}
+use Rattle.answer.specs.Run.{runTold, Ran, refusal, ran}
 use Rattle.answer.proofs.TakesLaws.{run-takes}
-use Rattle.answer.proofs.Theorems.{tried-most}
+use Rattle.answer.proofs.Theorems.{tried-most, picks-few}
 use Rattle.grammar.specs.Grammar.{Fact}
 use Rattle.grammar.specs.Stops.{Stops, at-byte, at-end}
 use Rattle.grammar.specs.Meaning.{symbolsOf, tableCells, nameList}
@@ -34,6 +36,7 @@ use Rattle.grammar.specs.Taken.{Taken, too-long, no-text, other-fact, taken}
 use Rattle.grammar.proofs.LongLaws.{text-long, other-place, names-few}
 use Rattle.loading.specs.Load.{Loaded, Loads, not-taken, no-cells, no-names, no-table, loads, loadSays, TextLoads}
 use Rattle.prolog.proofs.EntryLaws.{cells-long, names-long}
+use Rattle.run.proofs.Fixed.{jobs-told}
 use Rattle.exports.proofs.Places.{placed-small, placed-table, placed-plan, placed-run, placed-goal}
 
 pub table-small : (t : List ℕ) → Small (tableSays (tableOf t))
@@ -108,17 +111,12 @@ plan-cells t T plan e =
     (size-bound plan f (i .count .0) (i .count .1), omega (arith, i .count .1))
 
 -- hits are rows of the table, and tries are branches of the plan
-hits-few : {P : List ℕ → Type 0} {rs : List (List ℕ)} {f : ℕ} {hs : List ℕ} → Picks P rs f hs → length hs ≤ length rs
-hits-few none = omega arith
-hits-few (hit p w) = let h = hits-few w in omega arith
-hits-few (miss p w) = let h = hits-few w in omega arith
-
 pub run-small : {t p g room room′ : List ℕ} {r : RunAnswer} → Ran t p g room room′ r → Small (runTold r)
 run-small {t} {p} {g} {room} (refusal f a b c) = rw b (placed-small (omega arith) (placed-run t p g room) a)
 run-small {t} {p} (ran T tree found n a e w u b c) =
     let k = run-takes a .table in
     let l = plan-cells t T tree k in
-    rw b (omega (arith, hits-few w, is-table t k .count .1), omega (arith, tried-most tree (replicate (T .width) hole) u, l .1))
+    rw b (omega (arith, picks-few w, is-table t k .count .1), omega (arith, tried-most tree (replicate (T .width) hole) u, l .1))
 
 -- a plan that is built has at most 6,082 cells
 pub build-small : {t room room′ : List ℕ} {r : BuildAnswer} → BuiltInto t room room′ r → Small (buildTold r)
@@ -153,3 +151,7 @@ load-small {t} (loads {facts = fs} x l m e) =
 
 pub text-small : {t cells names cells′ names′ : List ℕ} {a : Answer} → TextLoads t cells names cells′ names′ a → Small a
 text-small x = small-by (x .told) (load-small (x .rule))
+
+-- a list of goals answers what the check of the plan does
+pub jobs-small : {t p cells : List ℕ} {jobs jobs′ : List Job} {a : Answer} → JobsRun t p cells jobs jobs′ a → Small a
+jobs-small {t} {p} x = small-by (jobs-told x) (plan-small t p)

@@ -12,6 +12,8 @@ use Rattle.builder.specs.Build.{BuiltInto, buildTold}
 use Rattle.loading.specs.Load.{TextLoads}
 use Rattle.answer.specs.declared.RunAnswer.{RunAnswer}
 use Rattle.answer.specs.Run.{Ran, runTold}
+use Rattle.answer.specs.declared.Job.{Job}
+use Rattle.answer.specs.Jobs.{JobsRun}
 
 -- where a row's cells start in the table, and how many they are; both 0 where there is no such row
 abbrev pub rowSays : Read Table → ℕ → Answer
@@ -34,3 +36,9 @@ pub record TextCoded (text cells names cells′ names′ : List ℕ) (number : �
   pub answer : Answer
   pub loaded : TextLoads text cells names cells′ names′ answer
   pub code : number ≡ coded answer
+
+-- what the entry of a list of goals answers and leaves in the records
+pub record JobsCoded (cells plan lent : List ℕ) (jobs after : List Job) (number : ℕ) : Type 0 where
+  pub told : Answer
+  pub ran : JobsRun cells plan lent jobs after told
+  pub code : number ≡ coded told

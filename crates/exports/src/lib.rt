@@ -5,9 +5,11 @@ ghost use Rattle.table.specs.Table.{tableOf, tableSays, goalWith, goalSays};
 ghost use Rattle.plan.specs.Check.{planOf};
 ghost use Rattle.checker.specs.Checked.{planSays};
 ghost use Rattle.refusal.specs.Coded.{coded};
-ghost use Rattle.exports.specs.Coded.{rowSays, BuildCoded, RunCoded, TextCoded};
+ghost use Rattle.exports.specs.Coded.{rowSays, BuildCoded, RunCoded, TextCoded, JobsCoded};
 
 mod code;
+
+use answer::Job;
 
 // A table's width and number of rows.
 #[no_mangle]
@@ -74,4 +76,17 @@ pub extern "C" fn dudowiej_read_text(text: &[u8], cells: &mut [u32], names: &mut
     ensures { λ r. ⌜ TextCoded (now (text .entry)) (now (cells .entry)) (now (names .entry)) (now (cells .exit)) (now (names .exit)) r ⌝ }
 {
     code::code_text(prolog::read_text(text, cells, names))
+}
+
+// The plan's number of branches; each goal of the list is answered in its record.
+#[no_mangle]
+pub extern "C" fn dudowiej_run_jobs(
+    table: &[u32],
+    plan: &[u32],
+    cells: &[u32],
+    jobs: &mut [Job],
+) -> u64
+    ensures { λ r. ⌜ JobsCoded (now (table .entry)) (now (plan .entry)) (now (cells .entry)) (now (jobs .entry)) (now (jobs .exit)) r ⌝ }
+{
+    code::code_plan(run::run_jobs(table, plan, cells, jobs))
 }

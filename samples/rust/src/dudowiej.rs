@@ -24,6 +24,23 @@ impl fmt::Display for Refusal {
     }
 }
 
+/// One goal of a list. Its cells are `count` from `start` on among the lent ones; the rest is written by [`run_jobs`]: the refusal's number
+/// and place, or 0 and 0; the rows that unify with it, row r as bit r; the branches tried.
+#[repr(C)]
+#[derive(Debug, Clone, Copy, Default, PartialEq, Eq)]
+pub struct Job {
+    pub start: usize,
+    pub count: usize,
+    pub number: usize,
+    pub place: usize,
+    pub hits: u64,
+    pub tried: usize,
+}
+
+// Six words with no gaps, as in include/dudowiej.h.
+const _: () = assert!(std::mem::size_of::<Job>() == 48);
+const _: () = assert!(std::mem::offset_of!(Job, number) == 16 && std::mem::offset_of!(Job, hits) == 32);
+
 extern "C" {
     fn dudowiej_read_table(table: *const u32, table_cells: usize) -> u64;
     fn dudowiej_row(table: *const u32, table_cells: usize, row: usize) -> u64;
@@ -46,6 +63,16 @@ extern "C" {
         cells_room: usize,
         names: *mut u32,
         names_room: usize,
+    ) -> u64;
+    fn dudowiej_run_jobs(
+        table: *const u32,
+        table_cells: usize,
+        plan: *const u32,
+        plan_cells: usize,
+        cells: *const u32,
+        cells_count: usize,
+        jobs: *mut Job,
+        jobs_count: usize,
     ) -> u64;
 }
 
@@ -123,4 +150,21 @@ pub fn read_text(text: &[u8]) -> Result<Loaded, Refusal> {
     table.truncate(cells);
     let names = names[..count].iter().map(|&name| ((name & 0xffff) as usize, (name >> 16) as usize)).collect();
     Ok(Loaded { table, names })
+}
+
+/// The plan's branches; each goal of the list is answered in its record.
+pub fn run_jobs(table: &[u32], plan: &[u32], cells: &[u32], jobs: &mut [Job]) -> Result<usize, Refusal> {
+    let answer = unsafe {
+        dudowiej_run_jobs(
+            table.as_ptr(),
+            table.len(),
+            plan.as_ptr(),
+            plan.len(),
+            cells.as_ptr(),
+            cells.len(),
+            jobs.as_mut_ptr(),
+            jobs.len(),
+        )
+    };
+    Ok(apart(answer)?.0)
 }

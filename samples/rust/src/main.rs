@@ -1,4 +1,5 @@
-//! A shop's table in Rust: loads it, builds its plan, checks the plan, asks which rules fit some jobs, and shows some refusals.
+//! A shop's table in Rust: loads it, builds its plan, checks the plan, asks which rules fit some jobs, then a whole shift of jobs in one
+//! call, and shows some refusals.
 //!
 //! usage: shop FILE    (samples/shop.cells; samples/README.md has the numbers of the names, and what is said of other files)
 
@@ -6,7 +7,7 @@
 #[allow(dead_code)]
 mod dudowiej;
 
-use dudowiej::Refusal;
+use dudowiej::{Job, Refusal};
 use std::fs::File;
 use std::io::Read;
 use std::path::{Path, PathBuf};
@@ -85,6 +86,7 @@ fn shop(table: &[u32]) -> Result<(), Refusal> {
     for goal in jobs {
         ask(table, &plan, branches, goal);
     }
+    shift(table, &plan, rows)?;
     refusals(table, &plan, width);
     Ok(())
 }
@@ -101,6 +103,51 @@ fn ask(table: &[u32], plan: &[u32], branches: usize, goal: &[u32]) {
             println!("  {tried} of {branches} branches tried");
         }
     }
+}
+
+/// Asks, in one call, for every row with any of its columns left blank. Prints how many of these jobs each rule fits, and what they tried.
+fn shift(table: &[u32], plan: &[u32], rows: usize) -> Result<(), Refusal> {
+    let mut cells = Vec::new();
+    let mut jobs = Vec::new();
+    for row in (0..rows).map(|row| dudowiej::row(table, row)) {
+        let columns = arguments(row);
+        for blanks in 0..1 << columns.len() {
+            let start = cells.len();
+            let mut variables = 0;
+            for (column, argument) in columns.iter().enumerate() {
+                let blank = [variable(0)];
+                for &cell in if blanks >> column & 1 == 1 { &blank } else { *argument } {
+                    cells.push(if cell >> 30 == 0 { variable(variables) } else { cell });
+                    variables += u32::from(cell >> 30 == 0);
+                }
+            }
+            jobs.push(Job { start, count: cells.len() - start, ..Job::default() });
+        }
+    }
+    // A job that reaches past the cells is turned away, and the others are not.
+    jobs.push(Job { start: cells.len() - 1, count: 2, ..Job::default() });
+    dudowiej::run_jobs(table, plan, &cells, &mut jobs)?;
+    let tried: usize = jobs.iter().map(|job| job.tried).sum();
+    println!("\na shift of {} jobs: {tried} branches tried", jobs.len());
+    for row in 0..rows {
+        println!("  rule {row} fits {}", jobs.iter().filter(|job| job.hits >> row & 1 == 1).count());
+    }
+    for (number, job) in jobs.iter().enumerate().filter(|(_, job)| job.number != 0) {
+        println!("  job {number}: refused, {} at {}", job.number, job.place);
+    }
+    Ok(())
+}
+
+/// The arguments of a row, each as its cells.
+fn arguments(row: &[u32]) -> Vec<&[u32]> {
+    let mut rest = row;
+    let mut all = Vec::new();
+    while !rest.is_empty() {
+        let before = rest;
+        term(&mut rest);
+        all.push(&before[..before.len() - rest.len()]);
+    }
+    all
 }
 
 /// Prints four refusals. Each is given for every table that is accepted.

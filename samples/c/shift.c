@@ -1,0 +1,100 @@
+/* A shift's jobs in C: some hundred goals for a shop's table, answered in one call; then some that are turned away.
+ *
+ * usage: shift FILE    (samples/shop.cells; samples/README.md has the numbers of the names) */
+
+#include <stdio.h>
+
+#include "dudowiej.h"
+
+#define VARIABLE(n) ((uint32_t)(n))
+#define NAME(n, arguments) (1u << 30 | (uint32_t)(arguments) << 16 | (uint32_t)(n))
+#define NUMBER(n) (2u << 30 | (uint32_t)(n))
+
+enum { GOALS = 360, GOAL_CELLS = 4 };
+
+static uint32_t table[DUDOWIEJ_TABLE_CELLS + 1];
+static uint32_t plan[DUDOWIEJ_PLAN_CELLS];
+static uint32_t cells[GOALS * GOAL_CELLS];
+static struct dudowiej_job jobs[GOALS];
+
+/* Cells of a file; the library is for x86-64, where they lie in memory as in the file. */
+static size_t load(const char *path, uint32_t *to, size_t room) {
+    FILE *file = fopen(path, "rb");
+    if (!file) return 0;
+    size_t count = fread(to, sizeof *to, room, file);
+    fclose(file);
+    return count;
+}
+
+/* A goal for each urgency, enamel, piece and firing, any of them blank: its cells one after another, its record beside them. */
+static void ask_everything(void) {
+    static const uint32_t urgencies[] = {NUMBER(9), NUMBER(10), NUMBER(1), VARIABLE(0)};
+    static const uint32_t enamels[] = {NAME(1, 0), NAME(2, 0), NAME(3, 0), NAME(4, 0), VARIABLE(0)};
+    static const uint32_t pieces[] = {NAME(11, 0), NAME(12, 0), VARIABLE(0)};
+    static const uint32_t firings[] = {NAME(31, 0), NAME(32, 0), NAME(33, 0), NUMBER(820), NAME(34, 0), VARIABLE(0)};
+    const uint32_t *columns[] = {urgencies, enamels, pieces, firings};
+    const size_t sizes[] = {4, 5, 3, 6};
+    for (size_t goal = 0; goal < GOALS; goal++) {
+        size_t rest = goal;
+        uint32_t variables = 0;
+        for (size_t column = 0; column < GOAL_CELLS; column++) {
+            uint32_t cell = columns[column][rest % sizes[column]];
+            cells[goal * GOAL_CELLS + column] = cell == VARIABLE(0) ? VARIABLE(variables++) : cell;
+            rest /= sizes[column];
+        }
+        jobs[goal].start = goal * GOAL_CELLS;
+        jobs[goal].count = GOAL_CELLS;
+    }
+}
+
+/* How many of the jobs hit each row, and the branches tried. */
+static void print_shift(size_t rows) {
+    size_t tried = 0;
+    for (size_t goal = 0; goal < GOALS; goal++) tried += jobs[goal].tried;
+    printf("%d jobs, %zu branches tried\n", GOALS, tried);
+    for (size_t row = 0; row < rows; row++) {
+        size_t hits = 0;
+        for (size_t goal = 0; goal < GOALS; goal++) hits += jobs[goal].hits >> row & 1;
+        printf("  rule %zu: %zu\n", row, hits);
+    }
+}
+
+/* Records by themselves: cells that others use too, and jobs that are turned away. */
+static void print_some(size_t table_cells, size_t plan_cells) {
+    struct dudowiej_job some[] = {
+        {.start = 0, .count = 4},
+        {.start = 4, .count = 4},
+        {.start = 0, .count = 5},
+        {.start = 0, .count = 3},
+        {.start = GOALS * GOAL_CELLS - 3, .count = 4},
+        {.start = SIZE_MAX, .count = SIZE_MAX},
+    };
+    size_t count = sizeof some / sizeof some[0];
+    dudowiej_run_jobs(table, table_cells, plan, plan_cells, cells, GOALS * GOAL_CELLS, some, count);
+    for (size_t job = 0; job < count; job++) {
+        if (some[job].number != 0)
+            printf("job %zu: refused, %zu at %zu\n", job, some[job].number, some[job].place);
+        else
+            printf("job %zu: hits %#llx, %zu tried\n", job, (unsigned long long)some[job].hits, some[job].tried);
+    }
+}
+
+int main(int argc, char **argv) {
+    if (argc != 2) {
+        fprintf(stderr, "usage: shift FILE\n");
+        return 2;
+    }
+    size_t table_cells = load(argv[1], table, DUDOWIEJ_TABLE_CELLS + 1);
+    uint64_t built = dudowiej_build_plan(table, table_cells, plan, DUDOWIEJ_PLAN_CELLS);
+    size_t plan_cells = dudowiej_first(built);
+    ask_everything();
+    uint64_t ran = dudowiej_run_jobs(table, table_cells, plan, plan_cells, cells, GOALS * GOAL_CELLS, jobs, GOALS);
+    if (dudowiej_refused(built) || dudowiej_refused(ran)) {
+        fprintf(stderr, "shift: no table of a shop in %s\n", argv[1]);
+        return 1;
+    }
+    printf("plan: %u branches\n", dudowiej_first(ran));
+    print_shift(dudowiej_second(dudowiej_read_table(table, table_cells)));
+    print_some(table_cells, plan_cells);
+    return 0;
+}
