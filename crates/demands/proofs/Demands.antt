@@ -9,6 +9,7 @@
 --   planTold r ≡ planSays (planOf t p)        checker::check_plan
 --   BuiltInto t room room′ r                  builder::build_plan
 --   Ran t p g room room′ r                    run::run_plan
+--   JobsRun t p cells jobs jobs′ (planTold r) run::run_jobs
 use Prim.Native.Nat.{ℕ, _≤_, _<_}
 use mathlib.Core.Path.{_≡_}
 use mathlib.Core.Bool.{true}
@@ -33,7 +34,11 @@ use Rattle.answer.specs.declared.RunAnswer.{RunAnswer}
 use Rattle.answer.specs.Run.{runTold, Ran}
 use Rattle.answer.proofs.Theorems.{same-hits}
 use Rattle.demands.specs.Demands.{Demand1Table, Demand1Goal, Demand1Row, Demand1Check, Demand1Build, Demand1Run, Demand2}
+use Rattle.answer.specs.declared.Job.{Job}
+use Rattle.answer.specs.Jobs.{JobsRun}
 use Rattle.demands.specs.Demands.{Demand3Check, Demand3Run, Demand3Build}
+use Rattle.demands.specs.Shift.{Shift}
+use Rattle.demands.proofs.Shift.{w-202}
 use Rattle.demands.proofs.Cited.{table-kept, goal-kept, row-kept, plan-kept, build-kept, run-kept}
 use Rattle.demands.proofs.Cited.{check-accepts, run-answers, any-plan-answers, least-built}
 
@@ -91,3 +96,8 @@ demand-3-build = least-built
 pub demand-3-once : (t : List ℕ) {T : Table} → tableOf t ≡ read T → (j : ℕ) → j < length (T .rows) → (v : ℕ) → isVar v ≡ true
     → count v (getD (T .rows) j []) ≤ 1
 demand-3-once t e j l = accepted-row t e j l .once
+
+-- W-202 (02). Every goal of a list is answered in its record as by itself, refused ones too; a bad table or plan touches no record.
+pub request-202 : {t p cells : List ℕ} {jobs jobs′ : List Job} {r : PlanAnswer} → JobsRun t p cells jobs jobs′ (planTold r)
+    → Shift t p cells jobs jobs′ r
+request-202 = w-202

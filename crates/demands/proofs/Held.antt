@@ -38,9 +38,12 @@ use Rattle.loading.specs.Load.{TextLoads}
 use Rattle.prolog.specs.Entry.{textTold}
 use Rattle.prolog.specs.declared.TextAnswer.{TextAnswer}
 use Rattle.prolog.proofs.Fixed.{read-text-fixed}
-use Rattle.exports.specs.Coded.{rowSays, BuildCoded, RunCoded, TextCoded}
-use Rattle.exports.proofs.Fixed.{build-coded-fixed, run-coded-fixed, text-coded-fixed}
-use Rattle.exports.proofs.Back.{table-back, goal-back, row-back, plan-back, build-back, run-back, text-back}
+use Rattle.exports.specs.Coded.{rowSays, BuildCoded, RunCoded, TextCoded, JobsCoded}
+use Rattle.exports.proofs.Fixed.{build-coded-fixed, run-coded-fixed, text-coded-fixed, jobs-coded-fixed}
+use Rattle.exports.proofs.Back.{table-back, goal-back, row-back, plan-back, build-back, run-back, text-back, jobs-back}
+use Rattle.answer.specs.declared.Job.{Job}
+use Rattle.answer.specs.Jobs.{JobsRun}
+use Rattle.run.proofs.Fixed.{run-jobs-fixed}
 use Rattle.demands.proofs.Cited.{tries-all}
 
 -- "For all inputs, refused ones too, the promise of a public function determines the result and the final contents of the lent room; the
@@ -80,6 +83,10 @@ pub held-run : {t p g room room′ room″ : List ℕ} {r s : RunAnswer} → Ran
     → (r ≡ s) × (room′ ≡ room″)
 held-run = run-fixed
 
+pub held-jobs : {t p cells : List ℕ} {jobs jobs′ jobs″ : List Job} {r s : PlanAnswer} → JobsRun t p cells jobs jobs′ (planTold r)
+    → JobsRun t p cells jobs jobs″ (planTold s) → (r ≡ s) × (jobs′ ≡ jobs″)
+held-jobs = run-jobs-fixed
+
 pub held-listing : (bytes room : List ℕ) {room′ room″ : List ℕ} {r s : ℕ} → Written (Lists bytes) room room′ r
     → Written (Lists bytes) room room″ s
     → (r ≡ s) × (room′ ≡ room″)
@@ -107,6 +114,10 @@ pub held-exported-run : {t p g room room′ room″ : List ℕ} {r s : ℕ} → 
     → (r ≡ s) × (room′ ≡ room″)
 held-exported-run = run-coded-fixed
 
+pub held-exported-jobs : {t p cells : List ℕ} {jobs jobs′ jobs″ : List Job} {r s : ℕ} → JobsCoded t p cells jobs jobs′ r
+    → JobsCoded t p cells jobs jobs″ s → (r ≡ s) × (jobs′ ≡ jobs″)
+held-exported-jobs = jobs-coded-fixed
+
 -- The number that an exported entry answers tells its answer: two answers with one code are equal, and the header's masks and shifts
 -- (`decoded`) read back what was answered.
 pub held-code : {a b : Answer} → Small a → Small b → coded a ≡ coded b → a ≡ b
@@ -132,6 +143,9 @@ back-run = run-back
 
 pub back-text : {t cells names cells′ names′ : List ℕ} {n : ℕ} (x : TextCoded t cells names cells′ names′ n) → decoded n ≡ x .answer
 back-text = text-back
+
+pub back-jobs : {t p cells : List ℕ} {jobs jobs′ : List Job} {n : ℕ} (x : JobsCoded t p cells jobs jobs′ n) → decoded n ≡ x .told
+back-jobs = jobs-back
 
 -- "None is public unless its result is promised": docs/PROMISES.md lists every public function with its promise.
 

@@ -4,6 +4,8 @@
 ghost use Rattle.demands.specs.Demands.{Demand1Table, Demand1Goal, Demand1Row, Demand1Check, Demand1Build, Demand1Run};
 ghost use Rattle.demands.specs.Demands.{Demand2, Demand3Check, Demand3Run, Demand3Build};
 ghost use Rattle.demands.specs.Texts.{Request201};
+ghost use Rattle.demands.specs.Shift.{Shift};
+use answer::Job;
 use answer::RunAnswer;
 use builder::BuildAnswer;
 use checker::PlanAnswer;
@@ -55,4 +57,10 @@ fn request_read_text(text: &[u8], cells: &mut [u32], names: &mut [u32]) -> TextA
     ensures { λ r. ⌜ Request201 (now (text .entry)) (now (cells .entry)) (now (names .entry)) (now (cells .exit)) (now (names .exit)) r ⌝ }
 {
     prolog::read_text(text, cells, names)
+}
+
+fn demand_jobs(cells: &[u32], plan: &[u32], lent: &[u32], jobs: &mut [Job]) -> PlanAnswer
+    ensures { λ r. ⌜ Shift (now (cells .entry)) (now (plan .entry)) (now (lent .entry)) (now (jobs .entry)) (now (jobs .exit)) r ⌝ }
+{
+    run::run_jobs(cells, plan, lent, jobs)
 }
