@@ -9,7 +9,13 @@ if ! command -v valgrind >/dev/null; then
 fi
 cargo build --quiet --release "$@"
 counts=$(mktemp -d)
+mkdir "$counts/shift"
 trap 'rm -r "$counts"' EXIT
 valgrind --quiet --tool=callgrind --toggle-collect=measured --dump-after=measured --callgrind-out-file="$counts/count" \
     target/release/dudowiej-bench "count${TEXTS:+-texts}"
 target/release/dudowiej-bench "${TEXTS:+text-}instructions" "$counts"
+if [ -z "${TEXTS:-}" ]; then
+    valgrind --quiet --tool=callgrind --toggle-collect=measured --dump-after=measured --callgrind-out-file="$counts/shift/count" \
+        target/release/dudowiej-bench count-shift
+    target/release/dudowiej-bench instructions-shift "$counts/shift"
+fi

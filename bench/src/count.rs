@@ -81,7 +81,7 @@ fn each_case(mut visit: impl FnMut(&str, &Case)) {
 }
 
 /// The number on the line `summary:` of a file of callgrind.
-fn total(file: &Path) -> u64 {
+pub fn total(file: &Path) -> u64 {
     let text = std::fs::read_to_string(file).unwrap_or_else(|error| panic!("{}: {error}", file.display()));
     let line = text.lines().find_map(|line| line.strip_prefix("summary: "));
     line.and_then(|number| number.trim().parse().ok()).unwrap_or_else(|| panic!("{}: no summary", file.display()))

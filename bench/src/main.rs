@@ -7,7 +7,7 @@ use std::process::ExitCode;
 use dudowiej_bench::compare::{self, listings, ROUNDS, SEED};
 use dudowiej_bench::engine::Exported;
 use dudowiej_bench::model::listing::listing;
-use dudowiej_bench::{count, prolog, stack, time};
+use dudowiej_bench::{count, prolog, shift, stack, time};
 
 const USAGE: &str = "usage:
   compare [ROUNDS [SEED]]   the exported functions against the independent implementation
@@ -16,6 +16,7 @@ const USAGE: &str = "usage:
   instructions FOLDER       what callgrind counted
   count-texts, text-instructions FOLDER    the same for texts alone
   texts FOLDER COUNT SEED   accepted texts with their facts, and kinds of refused ones, as files
+  count-shift, instructions-shift FOLDER   the same for a list of goals
   stack                     the bytes of stack that each entry touches
   list                      the independent listing of the table on standard input";
 
@@ -41,6 +42,8 @@ fn main() -> ExitCode {
             (Some(count), Some(seed)) => done(|| prolog::write_texts(Path::new(folder), count as usize, seed)),
             _ => usage(),
         },
+        ["count-shift"] => done(shift::count::count),
+        ["instructions-shift", folder] => done(|| shift::count::instructions(Path::new(folder))),
         ["stack"] => done(stack::stack),
         ["list"] => done(list),
         _ => usage(),
@@ -64,10 +67,12 @@ fn number(word: &str) -> Option<u64> {
 fn compared(rounds: usize, seed: u64) -> ExitCode {
     println!("seed {seed}, {rounds} rounds");
     let listings_differ = compared_listings(rounds / 20, seed);
+    let lists = shift::compare::compare(&Exported, rounds / 4, seed);
+    println!("{lists}");
     let tally = compare::compare(&Exported, rounds, seed);
     let tally = compare::texts(&Exported, tally, 2 * rounds, seed);
     println!("{tally}");
-    if tally.passed() && listings_differ == 0 {
+    if tally.passed() && lists.passed() && listings_differ == 0 {
         ExitCode::SUCCESS
     } else {
         ExitCode::FAILURE

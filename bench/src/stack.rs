@@ -13,6 +13,7 @@ use crate::model::least::least;
 use crate::model::plan::{grow, PLAN_CELLS};
 use crate::model::read::{read_table, Table, ROW_CELLS, TABLE_CELLS};
 use crate::random::Random;
+use crate::shift::{Job, Shift};
 use crate::texts::{measured_texts, ROOM};
 use touched::touched;
 
@@ -61,6 +62,8 @@ impl Most {
                 let mut room = vec![0; bytes];
                 self.note("dudowiej_run_plan", || Exported.run_plan(table, plan, goal, &mut room));
             }
+            let mut jobs = [Job { count: goal.len(), ..Job::default() }];
+            self.note("dudowiej_run_jobs", || Exported.run_jobs(table, plan, goal, &mut jobs));
         }
     }
 
