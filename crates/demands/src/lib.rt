@@ -5,11 +5,11 @@ ghost use Rattle.demands.specs.Demands.{Demand1Table, Demand1Goal, Deman
 ghost use Rattle.demands.specs.Demands.{Demand2, Demand3Check, Demand3Run, Demand3Build};
 ghost use Rattle.demands.specs.Texts.{Request201};
 ghost use Rattle.demands.specs.Shift.{Shift};
-use answer::Job;
 use answer::RunAnswer;
 use builder::BuildAnswer;
 use checker::PlanAnswer;
 use prolog::TextAnswer;
+use run::Job;
 use table::GoalAnswer;
 use table::TableRead;
 

@@ -9,7 +9,7 @@ ghost use Rattle.exports.specs.Coded.{rowSays, BuildCoded, RunCoded, Tex
 
 mod code;
 
-use answer::Job;
+use run::Job;
 
 // A table's width and number of rows.
 #[no_mangle]

@@ -14,7 +14,7 @@ mod nodes;
 mod step;
 mod walk;
 
-use answer::Job;
+pub use answer::Job;
 use answer::RunAnswer;
 use checker::PlanAnswer;
 use notes::Noted;
