@@ -293,16 +293,16 @@ shown-apart t (b ∷ bs) f = (
 
 -- a batch
 module _ (t : List ℕ) (from : Spot) (list links : List ℕ) (r : Filled) (marks : List ℕ) (names : ℕ) (F : FilledTo t from list links r)
-    (K : Strikes t (r .to) list links (r .count) (replicate 4096 0) marks) (e : names ≡ zeros (r .count) marks) (few : names ≤ r .count) (size : length list ≡ 4096)
-    (size′ : length marks ≡ 4096) where
-  none-marked : (i : ℕ) → i < r .count → _≡_ {A = ℕ} (getD (replicate 4096 0) i 0) 0
-  none-marked i l = getD-replicate 4096 i 0 0 (omega (arith, F .few))
+    (K : Strikes t (r .to) list links (r .count) (replicate 3500 0) marks) (e : names ≡ zeros (r .count) marks) (few : names ≤ r .count) (size : length list ≡ 3500)
+    (size′ : length marks ≡ 3500) where
+  none-marked : (i : ℕ) → i < r .count → _≡_ {A = ℕ} (getD (replicate 3500 0) i 0) 0
+  none-marked i l = getD-replicate 3500 i 0 0 (omega (arith, F .few))
 
   not-again : (rest : List Item) → Left t (r .to) rest → names ≡ unmet t rest (F .filling .names)
   not-again rest L =
       let G = F .filling in
       let ns = G .names in
-      let k = K ns rest rest (G .number) (G .shown) L (none-struck t ns (replicate 4096 0) rest (λ i l. none-marked i (omega (arith, G .number)))) in
+      let k = K ns rest rest (G .number) (G .shown) L (none-struck t ns (replicate 3500 0) rest (λ i l. none-marked i (omega (arith, G .number)))) in
       e ∙ ap (λ (n : ℕ). zeros n marks) (sym (G .number)) ∙ zeros-unmet t ns marks rest (omega (arith, G .number, F .few)) (k .word)
 
   apart : Apart t (F .filling .names)

@@ -123,13 +123,13 @@ fn count_batch(text: &[u8], from: Spot) -> Batch
     requires { ⌜ length (now text) ≤ 65535 ⌝ }
     ensures { λ r. ⌜ Batched (now (text .entry)) from r ⌝ }
 {
-    let mut list = [0u32; 4096];
-    let mut links = [0u16; 8193];
+    let mut list = [0u32; 3500];
+    let mut links = [0u16; 7001];
     let filled = fill(text, from, &mut list, &mut links);
     let count = filled.count;
     let to = filled.to;
     let more = filled.more;
-    let mut marks = [0u8; 4096];
+    let mut marks = [0u8; 3500];
     strike(text, to, &list, &links, count, &mut marks);
     let names = unmarked(&marks, count);
     Batch { names, to, more }

@@ -22,7 +22,7 @@ slice-aggregate-fill-2 c = search needs
 
 -- src/names.rt:134:9
 fill-requires : tie.Need-fill-requires
-fill-requires c κs = (omega arith, omega arith, empty-tree (c .before .before .before .args .text .now) 4096 8193 (omega arith))
+fill-requires c κs = (omega arith, omega arith, empty-tree (c .before .before .before .args .text .now) 3500 7001 (omega arith))
 
 -- src/names.rt:139:22
 slice-aggregate-strike : tie.Need-slice-aggregate-strike
@@ -40,7 +40,7 @@ slice-aggregate-strike-3 c = search needs
 strike-requires : tie.Need-strike-requires
 strike-requires c κs =
     let f = c .before .before .before .before .before .before .fill in
-    let e : length (f .last .1 .1 .0) ≡ 4096 = search needs in
+    let e : length (f .last .1 .1 .0) ≡ 3500 = search needs in
     (omega (arith, f .ensures .few, e), filling-tree (f .ensures .filling))
 
 -- src/names.rt:140:26
