@@ -17,7 +17,7 @@ use Rattle.term.specs.Terms.{Terms, none, more, front, back}
 use Rattle.term.proofs.TermsLaws.{front-back, front-terms, back-terms}
 use Rattle.term.specs.Unify.{inst, Unifies}
 use Rattle.term.proofs.Inst.{Terms-inst, Subst-id, Subst-bind, bind-same, bind-other, inst-var, Terms-var}
-use Rattle.term.specs.code.Bind.{idS, bind}
+use Rattle.term.specs.code.Bind.{idS, bind, Within}
 use Rattle.term.proofs.Step.{at-place, eliminate, other-symbol}
 use Rattle.term.proofs.Occurs.{occurs-check}
 
@@ -68,15 +68,11 @@ unfoldable pub unify : ℕ → List ℕ → List ℕ → Bool
 unify zero = walk (λ xs ys. false)
 unify (suc n) = walk (unify n)
 
--- the variables of xs are in vs
-pub record Within (vs xs : List ℕ) : Type 0 where
-  pub found : (c : ℕ) → List·Memᴰ c xs → isVar c ≡ true → List·Memᴰ c vs
-
 unfoldable pub remove : ℕ → List ℕ → List ℕ
 remove v [] = []
 remove v (w ∷ ws) = cond (eqb w v) (remove v ws) (w ∷ remove v ws)
 
-remove-keeps : (v : ℕ) (ws : List ℕ) (x : ℕ) → List·Memᴰ x ws → x ≢ v → List·Memᴰ x (remove v ws)
+pub remove-keeps : (v : ℕ) (ws : List ℕ) (x : ℕ) → List·Memᴰ x ws → x ≢ v → List·Memᴰ x (remove v ws)
 unfolding remove
 remove-keeps v [] x m h = absurd (List·Memᴰ·not-nil m)
 remove-keeps v (w ∷ ws) x m h =
@@ -92,7 +88,7 @@ remove-short v (w ∷ ws) =
     let ih = remove-short v ws in
     cond-case (eqb w v) (λ (l : List ℕ). length l ≤ suc (length ws)) (λ e. omega arith) (λ e. omega arith)
 
-remove-shorter : (v : ℕ) (ws : List ℕ) → List·Memᴰ v ws → length (remove v ws) < length ws
+pub remove-shorter : (v : ℕ) (ws : List ℕ) → List·Memᴰ v ws → length (remove v ws) < length ws
 unfolding remove
 remove-shorter v [] m = absurd (List·Memᴰ·not-nil m)
 remove-shorter v (w ∷ ws) m =
@@ -118,7 +114,7 @@ inst-mem v t (c ∷ xs) x m = ⊎-elim (here (bool-cases (eqb c v))) (λ q. belo
     below (inl q) = inl q
     below (inr q) = inr (List·Memᴰ·tail (q .0), q .1)
 
-Within-inst : (v : ℕ) {t xs vs : List ℕ} → ¬ List·Memᴰ v t → Within vs t → Within vs xs → Within (remove v vs) (inst (bind v t idS) xs)
+pub Within-inst : (v : ℕ) {t xs vs : List ℕ} → ¬ List·Memᴰ v t → Within vs t → Within vs xs → Within (remove v vs) (inst (bind v t idS) xs)
 Within-inst v {t} {xs} {vs} n wt wx = record {
   found = λ c m hc. ⊎-elim
       (λ q. remove-keeps v vs c (wt .found c q hc) (λ p. n (Memᴰ·cast (sym p) q)))
@@ -126,10 +122,10 @@ Within-inst v {t} {xs} {vs} n wt wx = record {
       (inst-mem v t xs c m);
 }
 
-Within-part : (vs xs ys : List ℕ) → Within vs (xs ++ ys) → Within vs xs × Within vs ys
+pub Within-part : (vs xs ys : List ℕ) → Within vs (xs ++ ys) → Within vs xs × Within vs ys
 Within-part vs xs ys w = (record { found = λ c m. w .found c (Memᴰ·append-left ys m) }, record { found = λ c m. w .found c (Memᴰ·append-right xs m) })
 
-Within-tail : {c : ℕ} {vs xs : List ℕ} → Within vs (c ∷ xs) → Within vs xs
+pub Within-tail : {c : ℕ} {vs xs : List ℕ} → Within vs (c ∷ xs) → Within vs xs
 Within-tail w = record { found = λ x m. w .found x (List·Memᴰ·tail m) }
 
 Unifies-sym : {xs ys : List ℕ} → Unifies xs ys → Unifies ys xs
@@ -143,12 +139,12 @@ by-decides (says-no p) f g = g p
 pub record Correct (rec : List ℕ → List ℕ → Bool) (n : ℕ) : Type 0 where
   pub decides : {k : ℕ} {xs ys us : List ℕ} → Terms k xs → Terms k ys → Within us xs → Within us ys → length us < n → Decides (Unifies xs ys) (rec xs ys)
 
-two-long : {v d : ℕ} (xs : List ℕ) → List·Memᴰ v (d ∷ xs) → v ≢ d → 2 ≤ length (d ∷ xs)
+pub two-long : {v d : ℕ} (xs : List ℕ) → List·Memᴰ v (d ∷ xs) → v ≢ d → 2 ≤ length (d ∷ xs)
 two-long [] m h = absurd (h (List·Memᴰ·eq-of-singleton m))
 two-long (x ∷ xs) m h = omega arith
 
 -- a variable that occurs in the term that it meets
-occurs-apart : (v d : ℕ) (xs zs : List ℕ) → isVar v ≡ true → v ≢ d → Terms 1 (front 1 (d ∷ zs)) → List·Memᴰ v (front 1 (d ∷ zs)) → ¬ Unifies (v ∷ xs) (front 1 (d ∷ zs) ++ back 1 (d ∷ zs))
+pub occurs-apart : (v d : ℕ) (xs zs : List ℕ) → isVar v ≡ true → v ≢ d → Terms 1 (front 1 (d ∷ zs)) → List·Memᴰ v (front 1 (d ∷ zs)) → ¬ Unifies (v ∷ xs) (front 1 (d ∷ zs) ++ back 1 (d ∷ zs))
 unfolding front
 occurs-apart v d xs zs hv h t m u =
     let p = at-place xs (back 1 (d ∷ zs)) (u .good) (Terms-var hv) t .0 (u .same) in

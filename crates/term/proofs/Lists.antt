@@ -17,6 +17,18 @@ pub sets-sets : (l : List ℕ) (i : ℕ) (xs ys : List ℕ) → sets (sets l i x
 sets-sets l i [] ys = rw add-zero
 sets-sets l i (x ∷ xs) ys = let e : i + suc (length xs) ≡ suc i + length xs = omega arith in rw e (sets-sets (set l i x) (suc i) xs ys)
 
+-- a store that was still to be done
+pub store-next : (new fin xs ys : List ℕ) (j x : ℕ) → xs ≡ x ∷ ys → sets new j xs ≡ fin → sets (set new j x) (j + 1) ys ≡ fin
+store-next new fin xs ys j x e h = let f : j + 1 ≡ suc j = omega arith in rw f (ap (sets new j) (sym e) ∙ h)
+
+pub store-end : (new fin xs : List ℕ) (j : ℕ) → xs ≡ [] → sets new j xs ≡ fin → new ≡ fin
+store-end new fin xs j e h = ap (sets new j) (sym e) ∙ h
+
+-- several of them
+pub stores-next : (old new fin xs ys zs : List ℕ) (j k : ℕ) → xs ≡ ys ++ zs → new ≡ sets old j ys → k ≡ j + length ys → sets old j xs ≡ fin
+    → sets new k zs ≡ fin
+stores-next old new fin xs ys zs j k e n l h = rw (n, l) (sets-sets old j ys zs ∙ ap (sets old j) (sym e) ∙ h)
+
 -- they are found where they were stored, and nothing before or after them is changed
 pub sets-found : (l xs : List ℕ) (i n : ℕ) → i + length xs ≤ length l → n ≡ length xs → take n (drop i (sets l i xs)) ≡ xs
 sets-found l xs i n b e =

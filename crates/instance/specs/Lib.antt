@@ -1,0 +1,5 @@
+pub mod Instance
+pub mod Reply
+pub mod Replied
+pub mod Rewrite
+pub mod code

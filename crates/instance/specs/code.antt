@@ -1,0 +1,4 @@
+-- what only private functions and proofs need
+pub mod Left
+pub mod Meet
+pub mod Passes
