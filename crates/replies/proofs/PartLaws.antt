@@ -1,0 +1,34 @@
+-- Three parts put one after the other in another list, and put back at the front.
+use Prim.Native.Nat.{ℕ, _+_, _-_, _≤_}
+use mathlib.Core.Path.{_≡_, sym, _∙_, ap}
+use mathlib.Core.List.{List, _++_}
+use native.Mathlib.Omega.{arith}
+use lib.ListN.{length, take, drop, length-append}
+use lib.Seq.{slice}
+use Rattle.term.proofs.Lists.{slice-take}
+use Rattle.octets.specs.Octets.{Put}
+use Rattle.octets.proofs.PutLaws.{put-put, put-found, put-length}
+
+-- a part of a list, as the code takes it
+pub part-slice : (xs : List ℕ) (a e : ℕ) → a ≤ e → take (e - a) (drop a xs) ≡ slice a e xs
+part-slice xs a e h = let n : a + (e - a) ≡ e = omega arith in sym (slice-take a (e - a) xs) ∙ ap (λ (k : ℕ). slice a k xs) n
+
+module _ {other other₁ other₂ other₃ A B D : List ℕ} {q l m : ℕ} (h : length A + length B + length D ≤ length other)
+    (a : Put other other₁ 0 A q) (b : Put other₁ other₂ q B l) (d : Put other₂ other₃ l D m) where
+  whole : (m ≡ length ((A ++ B) ++ D)) × (take m other₃ ≡ (A ++ B) ++ D)
+  whole = put-found (put-put (put-put a b) d) (omega (arith, length-append (A ++ B) D, length-append A B, h))
+
+  pub put-three : (q ≡ length A) × (l ≡ length A + length B) × (m ≡ l + length D)
+  put-three =
+      let x = put-found a (omega (arith, h)) .0 in
+      let y = put-found (put-put a b) (omega (arith, length-append A B, h)) .0 ∙ length-append A B in
+      (x, y, omega (arith, whole .0, length-append (A ++ B) D, length-append A B, y))
+
+  pub put-held : m ≤ length other₃
+  put-held = omega (arith, put-three .1, put-three .2, h, put-length a, put-length b, put-length d)
+
+  pub put-back : {list list′ : List ℕ} {c : ℕ} → length list ≡ length other → Put list list′ 0 (take m other₃) c → take m list′ ≡ (A ++ B) ++ D
+  put-back {list′ = list′} g p =
+      let w = whole .1 in
+      let x = put-found p (omega (arith, ap length w, length-append (A ++ B) D, length-append A B, g, h)) in
+      ap (λ (n : ℕ). take n list′) (whole .0 ∙ sym (x .0 ∙ ap length w)) ∙ x .1 ∙ w

@@ -1,0 +1,54 @@
+-- Where the making of one reply stands (crate instance, specs/code/Meet), by the code's own struct.
+use Prim.Native.Nat.{ℕ, _+_, _-_, _*_, _≤_, _<_}
+use mathlib.Core.Path.{_≡_}
+use mathlib.Core.List.{List}
+use lib.ListN.{length}
+use Rattle.instance.specs.code.Meet.{Meeting, After}
+use Rattle.replies.specs.declared.meet.Stand.{Stand}
+
+abbrev pub MeetingAt : (row goal cells : List ℕ) → Stand → Type 0
+MeetingAt row goal cells k = Meeting row goal cells (k .i) (k .n) (k .at) (k .len) (k .turns)
+
+-- a row and a goal that it is the meeting of
+pub record MeetingSome (cells : List ℕ) (k : Stand) : Type 0 where
+  pub row : List ℕ
+  pub goal : List ℕ
+  pub meeting : MeetingAt row goal cells k
+
+-- a variable v is about to be replaced by a term t
+abbrev pub AfterAt : (row goal cells : List ℕ) (v : ℕ) (t : List ℕ) → Stand → Type 0
+AfterAt row goal cells v t k = After row goal cells v t (k .i) (k .n) (k .at) (k .len) (k .turns - 1)
+
+-- before it is replaced
+pub record Binding (cells other : List ℕ) (v : ℕ) (t : List ℕ) (k : Stand) : Type 0 where
+  pub inside : k .at ≤ k .len
+  pub within : k .len ≤ length cells
+  pub started : k .i ≤ k .n
+  pub held : k .n ≤ length cells
+  pub turn : 0 < k .turns
+  pub long : length cells ≡ 2048
+  pub other-long : length other ≡ 2048
+  pub row : List ℕ
+  pub goal : List ℕ
+  pub after : AfterAt row goal cells v t k
+
+-- what the loop goes down by: a variable less, or a cell less of the row
+abbrev pub toDo : Stand → ℕ
+toDo k = k .turns * 1025 + (k .n - k .i)
+
+-- before a step: cells are left of the row
+pub record Stepping (cells other term : List ℕ) (k : Stand) : Type 0 where
+  pub more : k .i < k .n
+  pub other-long : length other ≡ 2048
+  pub term-long : length term ≡ 1024
+  pub some : MeetingSome cells k
+
+-- after it: less is to be done
+pub record Stepped (cells cells′ : List ℕ) (k r : Stand) : Type 0 where
+  pub meeting : (row goal : List ℕ) → MeetingAt row goal cells k → MeetingAt row goal cells′ r
+  pub less : toDo r < toDo k
+  pub turn : r .turns ≤ k .turns
+
+-- the start: nothing is passed
+abbrev pub atStart : (len n : ℕ) → Stand
+atStart len n = record { i = len; n = n; at = 0; len = len; turns = 64 }

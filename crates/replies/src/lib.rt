@@ -1,0 +1,94 @@
+// What a run's hits say (02, W-203): for each the goal with the row's bindings filled in. The run decides by its plan which rows are hits;
+// what follows it tests nothing.
+ghost use mathlib.Core.List.{List};
+ghost use Prim.Native.Nat.{ℕ};
+ghost use Rattle.instance.specs.Replied.{Replied};
+ghost use Rattle.instance.specs.code.Passes.{Held, Found};
+ghost use Rattle.replies.specs.code.Asked.{FoundSome};
+
+mod meet;
+mod pass;
+
+use answer::RunAnswer;
+use instance::RepliesAnswer;
+use pass::pass;
+use refusal::Input;
+use refusal::Reason;
+use refusal::Refusal;
+use table::TableAnswer;
+
+// The replies of the hits of an accepted table. The first pass writes nothing that counts: it says how many cells are needed.
+fn put_replies(
+    table: &[u32],
+    starts: &[usize; 64],
+    rows: usize,
+    goal: &[u32],
+    hits: &[u8],
+    room: &mut [u32],
+) -> RepliesAnswer
+    requires { ⌜ Held (now table) (now starts) rows × FoundSome (now table) (now goal) (now hits) ⌝ }
+    ensures { λ r. ⌜ ((plan : List ℕ) → Found (now (table .entry)) plan (now (goal .entry)) (now (hits .entry)) → Replied
+        (now (table .entry)) plan (now (goal .entry)) (now (room .entry)) (now (room .exit)) r) ⌝ }
+{
+    let mut cells = [0u32; 2048];
+    let mut other = [0u32; 2048];
+    let mut term = [0u32; 1024];
+    let mut none = [0u32; 1];
+    let needed = pass(
+        table,
+        starts,
+        rows,
+        goal,
+        hits,
+        &mut cells,
+        &mut other,
+        &mut term,
+        &mut none,
+    );
+    if room.len() < needed {
+        return RepliesAnswer::Refused(Refusal {
+            reason: Reason::Room,
+            input: Input::Lent,
+            place: needed,
+        });
+    }
+    let written = pass(
+        table,
+        starts,
+        rows,
+        goal,
+        hits,
+        &mut cells,
+        &mut other,
+        &mut term,
+        room,
+    );
+    RepliesAnswer::Replied(hits.len(), written)
+}
+
+// The replies of what a run has found.
+fn reply_all(table: &[u32], goal: &[u32], hits: &[u8], room: &mut [u32]) -> RepliesAnswer
+    requires { ⌜ FoundSome (now table) (now goal) (now hits) ⌝ }
+    ensures { λ r. ⌜ ((plan : List ℕ) → Found (now (table .entry)) plan (now (goal .entry)) (now (hits .entry)) → Replied
+        (now (table .entry)) plan (now (goal .entry)) (now (room .entry)) (now (room .exit)) r) ⌝ }
+{
+    let read = table::read_table(table);
+    let answer = read.answer;
+    let starts = read.starts;
+    match answer {
+        TableAnswer::Accepted(_, rows) => put_replies(table, &starts, rows, goal, hits, room),
+        TableAnswer::Refused(f) => RepliesAnswer::Refused(f),
+    }
+}
+
+// Runs a plan on a goal and writes the reply of each hit, one after another, from the room's first cell on. What is turned away, in this
+// order: the table, the plan, the goal, the room.
+pub fn replies(table: &[u32], plan: &[u32], goal: &[u32], room: &mut [u32]) -> RepliesAnswer
+    ensures { λ r. ⌜ Replied (now (table .entry)) (now (plan .entry)) (now (goal .entry)) (now (room .entry)) (now (room .exit)) r ⌝ }
+{
+    let mut hits = [0u8; 64];
+    match run::run_plan(table, plan, goal, &mut hits) {
+        RunAnswer::Refused(f) => RepliesAnswer::Refused(f),
+        RunAnswer::Ran(n, _) => reply_all(table, goal, &hits[..n], room),
+    }
+}
