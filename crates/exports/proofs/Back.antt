@@ -10,9 +10,10 @@ use Rattle.plan.specs.Check.{planOf}
 use Rattle.checker.specs.Checked.{planSays}
 use Rattle.builder.specs.Build.{buildTold}
 use Rattle.answer.specs.Run.{runTold}
-use Rattle.exports.specs.Coded.{rowSays, BuildCoded, RunCoded, TextCoded, JobsCoded}
-use Rattle.exports.proofs.Small.{table-small, goal-with-small, row-small, plan-small, build-small, run-small, text-small, jobs-small}
+use Rattle.exports.specs.Coded.{rowSays, BuildCoded, RunCoded, TextCoded, JobsCoded, RepliesCoded}
+use Rattle.exports.proofs.Small.{table-small, goal-with-small, row-small, plan-small, build-small, run-small, text-small, jobs-small, replies-small}
 use Rattle.answer.specs.declared.Job.{Job}
+use Rattle.instance.specs.Replied.{repliesTold}
 
 pub table-back : (t : List ℕ) {n : ℕ} → n ≡ coded (tableSays (tableOf t)) → decoded n ≡ tableSays (tableOf t)
 table-back t = read-back (table-small t)
@@ -37,3 +38,6 @@ text-back x = read-back (text-small (x .loaded)) (x .code)
 
 pub jobs-back : {t p cells : List ℕ} {jobs jobs′ : List Job} {n : ℕ} (x : JobsCoded t p cells jobs jobs′ n) → decoded n ≡ x .told
 jobs-back x = read-back (jobs-small (x .ran)) (x .code)
+
+pub replies-back : {t p g room room′ : List ℕ} {n : ℕ} (x : RepliesCoded t p g room room′ n) → decoded n ≡ repliesTold (x .answer)
+replies-back x = read-back (replies-small (x .replied)) (x .code)

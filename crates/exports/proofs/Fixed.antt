@@ -11,9 +11,12 @@ use Rattle.answer.specs.declared.RunAnswer.{RunAnswer}
 use Rattle.answer.proofs.Fixed.{run-fixed}
 use Rattle.loading.proofs.Fixed.{text-fixed}
 use Rattle.refusal.specs.Coded.{coded}
-use Rattle.exports.specs.Coded.{BuildCoded, RunCoded, TextCoded, JobsCoded}
+use Rattle.exports.specs.Coded.{BuildCoded, RunCoded, TextCoded, JobsCoded, RepliesCoded}
 use Rattle.answer.specs.declared.Job.{Job}
 use Rattle.answer.proofs.JobsLaws.{jobs-fixed}
+use Rattle.instance.specs.Replied.{repliesTold}
+use Rattle.instance.specs.declared.RepliesAnswer.{RepliesAnswer}
+use Rattle.instance.proofs.Fixed.{replied-fixed}
 
 pub build-coded-fixed : {t room room′ room″ : List ℕ} {m n : ℕ} → BuildCoded t room room′ m → BuildCoded t room room″ n
     → (m ≡ n) × (room′ ≡ room″)
@@ -36,3 +39,9 @@ text-coded-fixed a b =
 pub jobs-coded-fixed : {t p cells : List ℕ} {jobs jobs′ jobs″ : List Job} {m n : ℕ} → JobsCoded t p cells jobs jobs′ m → JobsCoded t p cells jobs jobs″ n
     → (m ≡ n) × (jobs′ ≡ jobs″)
 jobs-coded-fixed a b = let f = jobs-fixed (a .ran) (b .ran) in (a .code ∙ ap coded (f .0) ∙ sym (b .code), f .1)
+
+pub replies-coded-fixed : {t p g room room′ room″ : List ℕ} {m n : ℕ} → RepliesCoded t p g room room′ m → RepliesCoded t p g room room″ n
+    → (m ≡ n) × (room′ ≡ room″)
+replies-coded-fixed a b =
+    let f = replied-fixed (a .replied) (b .replied) in
+    (a .code ∙ ap (λ (x : RepliesAnswer). coded (repliesTold x)) (f .0) ∙ sym (b .code), f .1)

@@ -19,6 +19,7 @@ use Rattle.refusal.specs.declared.Input.the-variants as input
 use Rattle.plan.specs.Runs.{Run, runs}
 use Rattle.plan.specs.Check.{Seen, seen, cellThen, Reader, branchesFrom, leafFrom, stateFrom, nothingAfter, planFor, planOf}
 use Rattle.answer.specs.Run.{runOf}
+use Rattle.instance.specs.Replied.{repliesOf}
 use Rattle.table.proofs.Accepted.{is-table}
 use Rattle.refusal.specs.Read.{Read, read, refuse, when, andThen}
 use Rattle.table.specs.Table.{Table, Met, met, counted, termsFrom, before, rowsFrom, tableOf, table, goalOf}
@@ -196,3 +197,11 @@ placed-run t p g room = go (tableOf t) refl
         when (ltb (length room) (length (T .rows))) (refused reason.Room input.Lent (length (T .rows))) (read T)))))
     go (read T) e = rest T (is-table t e .count .1)
     go (refuse f) e = widen (omega arith) (rw e at (placed-table t))
+
+-- the replies: the same without the room
+pub placed-replies : (t p g : List ℕ) → Placed 6082 (Any {A = Table}) (repliesOf t p g)
+unfolding repliesOf
+placed-replies t p g =
+    placed-then _ (widen (omega arith) (placed-table t)) (λ T _.
+    placed-then _ (placed-checked t p) (λ n _.
+    placed-then _ (widen (omega arith) (placed-goal (T .width) g)) (λ v _. good tt)))

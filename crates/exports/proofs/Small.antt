@@ -25,6 +25,10 @@ use Rattle.plan.proofs.CheckLaws.{accepted-one, rows-fit}
 use Rattle.answer.specs.declared.RunAnswer.{RunAnswer}
 use Rattle.answer.specs.declared.Job.{Job}
 use Rattle.answer.specs.Jobs.{JobsRun}
+use Rattle.instance.specs.declared.RepliesAnswer.{RepliesAnswer}
+use Rattle.instance.specs.Replied.{Replied, repliesTold}
+use Rattle.instance.specs.Replied as replies
+use Rattle.instance.proofs.RoomLaws.{replies-room}
 use Rattle.answer.specs.Skeleton.{hole}
 use Rattle.answer.specs.Run.{runTold, Ran, refusal, ran}
 use Rattle.answer.proofs.TakesLaws.{run-takes}
@@ -37,7 +41,7 @@ use Rattle.grammar.proofs.LongLaws.{text-long, other-place, names-few}
 use Rattle.loading.specs.Load.{Loaded, Loads, not-taken, no-cells, no-names, no-table, loads, loadSays, TextLoads}
 use Rattle.prolog.proofs.EntryLaws.{cells-long, names-long}
 use Rattle.run.proofs.Fixed.{jobs-told}
-use Rattle.exports.proofs.Places.{placed-small, placed-table, placed-plan, placed-run, placed-goal}
+use Rattle.exports.proofs.Places.{placed-small, placed-table, placed-plan, placed-run, placed-goal, placed-replies}
 
 pub table-small : (t : List ℕ) → Small (tableSays (tableOf t))
 table-small t = go (tableOf t) refl
@@ -155,3 +159,11 @@ text-small x = small-by (x .told) (load-small (x .rule))
 -- a list of goals answers what the check of the plan does
 pub jobs-small : {t p cells : List ℕ} {jobs jobs′ : List Job} {a : Answer} → JobsRun t p cells jobs jobs′ a → Small a
 jobs-small {t} {p} x = small-by (jobs-told x) (plan-small t p)
+
+-- the replies of at most 64 rows have at most 1,024 cells each
+pub replies-small : {t p g room room′ : List ℕ} {r : RepliesAnswer} → Replied t p g room room′ r → Small (repliesTold r)
+replies-small {t} {p} {g} (replies.refusal f a b c) = rw b (placed-small (omega arith) (placed-replies t p g) a)
+replies-small {t} {p} {g} (replies.no-room T all a w l b c) =
+    let n = replies-room t p g a w in
+    rw b (refused-small reason.Room input.Lent (length (flatten all)) (omega (arith, n .1)))
+replies-small {t} {p} {g} (replies.replied T all a w l b c) = let n = replies-room t p g a w in rw b (omega (arith, n .0), omega (arith, n .1))

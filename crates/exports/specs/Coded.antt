@@ -14,6 +14,8 @@ use Rattle.answer.specs.declared.RunAnswer.{RunAnswer}
 use Rattle.answer.specs.Run.{Ran, runTold}
 use Rattle.answer.specs.declared.Job.{Job}
 use Rattle.answer.specs.Jobs.{JobsRun}
+use Rattle.instance.specs.declared.RepliesAnswer.{RepliesAnswer}
+use Rattle.instance.specs.Replied.{Replied, repliesTold}
 
 -- where a row's cells start in the table, and how many they are; both 0 where there is no such row
 abbrev pub rowSays : Read Table → ℕ → Answer
@@ -42,3 +44,9 @@ pub record JobsCoded (cells plan lent : List ℕ) (jobs after : List Job) (numbe
   pub told : Answer
   pub ran : JobsRun cells plan lent jobs after told
   pub code : number ≡ coded told
+
+-- what the entry for replies answers and leaves in the room
+pub record RepliesCoded (cells plan goal room after : List ℕ) (number : ℕ) : Type 0 where
+  pub answer : RepliesAnswer
+  pub replied : Replied cells plan goal room after answer
+  pub code : number ≡ coded (repliesTold answer)

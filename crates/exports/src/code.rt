@@ -7,9 +7,11 @@ ghost use Rattle.checker.specs.Checked.{planTold};
 ghost use Rattle.builder.specs.Build.{buildTold};
 ghost use Rattle.answer.specs.Run.{runTold};
 ghost use Rattle.prolog.specs.Entry.{textTold};
+ghost use Rattle.instance.specs.Replied.{repliesTold};
 use answer::RunAnswer;
 use builder::BuildAnswer;
 use checker::PlanAnswer;
+use instance::RepliesAnswer;
 use prolog::TextAnswer;
 use refusal::Refusal;
 use table::GoalAnswer;
@@ -94,5 +96,15 @@ pub fn code_text(a: TextAnswer) -> u64
     match a {
         TextAnswer::Read(cells, names) => code_answer(cells, names),
         TextAnswer::Refused(f) => code_refusal(f),
+    }
+}
+
+pub fn code_replies(a: RepliesAnswer) -> u64
+    requires { ⌜ Small (repliesTold a) ⌝ }
+    ensures { λ r. ⌜ r ≡ coded (repliesTold a) ⌝ }
+{
+    match a {
+        RepliesAnswer::Replied(replies, cells) => code_answer(replies, cells),
+        RepliesAnswer::Refused(f) => code_refusal(f),
     }
 }

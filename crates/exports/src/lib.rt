@@ -5,7 +5,7 @@ ghost use Rattle.table.specs.Table.{tableOf, tableSays, goalWith, goalSays};
 ghost use Rattle.plan.specs.Check.{planOf};
 ghost use Rattle.checker.specs.Checked.{planSays};
 ghost use Rattle.refusal.specs.Coded.{coded};
-ghost use Rattle.exports.specs.Coded.{rowSays, BuildCoded, RunCoded, TextCoded, JobsCoded};
+ghost use Rattle.exports.specs.Coded.{rowSays, BuildCoded, RunCoded, TextCoded, JobsCoded, RepliesCoded};
 
 mod code;
 
@@ -89,4 +89,17 @@ pub extern "C" fn dudowiej_run_jobs(
     ensures { λ r. ⌜ JobsCoded (now (table .entry)) (now (plan .entry)) (now (cells .entry)) (now (jobs .entry)) (now (jobs .exit)) r ⌝ }
 {
     code::code_plan(run::run_jobs(table, plan, cells, jobs))
+}
+
+// How many replies there are and how many cells they have together; they are the room's first cells.
+#[no_mangle]
+pub extern "C" fn dudowiej_replies(
+    cells: &[u32],
+    plan: &[u32],
+    goal: &[u32],
+    room: &mut [u32],
+) -> u64
+    ensures { λ r. ⌜ RepliesCoded (now (cells .entry)) (now (plan .entry)) (now (goal .entry)) (now (room .entry)) (now (room .exit)) r ⌝ }
+{
+    code::code_replies(replies::replies(cells, plan, goal, room))
 }
