@@ -46,13 +46,13 @@ use Rattle.demands.specs.Demands.{BuildTurned, no-table, no-room, RunTur
 
 -- Refusals.
 
-clash : {A : Type 0} {a b : ℕ} {f : Refused} → answered a b ≡ turned f → A
+pub clash : {A : Type 0} {a b : ℕ} {f : Refused} → answered a b ≡ turned f → A
 clash e = absurd (let z : _≡_ {A = ℕ} 0 1 = cc in omega arith)
 
-turned-one : {f h : Refused} → turned f ≡ turned h → f ≡ h
+pub turned-one : {f h : Refused} → turned f ≡ turned h → f ≡ h
 turned-one e = cc
 
-refuse-one : {A : Type 0} {f h : Refused} → _≡_ {A = Read A} (refuse f) (refuse h) → f ≡ h
+pub refuse-one : {A : Type 0} {f h : Refused} → _≡_ {A = Read A} (refuse f) (refuse h) → f ≡ h
 refuse-one e = cc
 
 -- what is answered is a refusal exactly when what is read is

@@ -38,12 +38,15 @@ use Rattle.loading.specs.Load.{TextLoads}
 use Rattle.prolog.specs.Entry.{textTold}
 use Rattle.prolog.specs.declared.TextAnswer.{TextAnswer}
 use Rattle.prolog.proofs.Fixed.{read-text-fixed}
-use Rattle.exports.specs.Coded.{rowSays, BuildCoded, RunCoded, TextCoded, JobsCoded}
-use Rattle.exports.proofs.Fixed.{build-coded-fixed, run-coded-fixed, text-coded-fixed, jobs-coded-fixed}
-use Rattle.exports.proofs.Back.{table-back, goal-back, row-back, plan-back, build-back, run-back, text-back, jobs-back}
+use Rattle.exports.specs.Coded.{rowSays, BuildCoded, RunCoded, TextCoded, JobsCoded, RepliesCoded}
+use Rattle.exports.proofs.Fixed.{build-coded-fixed, run-coded-fixed, text-coded-fixed, jobs-coded-fixed, replies-coded-fixed}
+use Rattle.exports.proofs.Back.{table-back, goal-back, row-back, plan-back, build-back, run-back, text-back, jobs-back, replies-back}
 use Rattle.answer.specs.declared.Job.{Job}
 use Rattle.answer.specs.Jobs.{JobsRun}
 use Rattle.run.proofs.Fixed.{run-jobs-fixed}
+use Rattle.instance.specs.declared.RepliesAnswer.{RepliesAnswer}
+use Rattle.instance.specs.Replied.{repliesTold, Replied}
+use Rattle.instance.proofs.Fixed.{replied-fixed}
 use Rattle.demands.proofs.Cited.{tries-all}
 
 -- "For all inputs, refused ones too, the promise of a public function determines the result and the final contents of the lent room; the
@@ -87,6 +90,10 @@ pub held-jobs : {t p cells : List ℕ} {jobs jobs′ jobs″ : List Job} {r s : 
     → JobsRun t p cells jobs jobs″ (planTold s) → (r ≡ s) × (jobs′ ≡ jobs″)
 held-jobs = run-jobs-fixed
 
+pub held-replies : {t p g room room′ room″ : List ℕ} {r s : RepliesAnswer} → Replied t p g room room′ r → Replied t p g room room″ s
+    → (r ≡ s) × (room′ ≡ room″)
+held-replies = replied-fixed
+
 pub held-listing : (bytes room : List ℕ) {room′ room″ : List ℕ} {r s : ℕ} → Written (Lists bytes) room room′ r
     → Written (Lists bytes) room room″ s
     → (r ≡ s) × (room′ ≡ room″)
@@ -118,6 +125,10 @@ pub held-exported-jobs : {t p cells : List ℕ} {jobs jobs′ jobs″ : List Job
     → JobsCoded t p cells jobs jobs″ s → (r ≡ s) × (jobs′ ≡ jobs″)
 held-exported-jobs = jobs-coded-fixed
 
+pub held-exported-replies : {t p g room room′ room″ : List ℕ} {r s : ℕ} → RepliesCoded t p g room room′ r → RepliesCoded t p g room room″ s
+    → (r ≡ s) × (room′ ≡ room″)
+held-exported-replies = replies-coded-fixed
+
 -- The number that an exported entry answers tells its answer: two answers with one code are equal, and the header's masks and shifts
 -- (`decoded`) read back what was answered.
 pub held-code : {a b : Answer} → Small a → Small b → coded a ≡ coded b → a ≡ b
@@ -146,6 +157,9 @@ back-text = text-back
 
 pub back-jobs : {t p cells : List ℕ} {jobs jobs′ : List Job} {n : ℕ} (x : JobsCoded t p cells jobs jobs′ n) → decoded n ≡ x .told
 back-jobs = jobs-back
+
+pub back-replies : {t p g room room′ : List ℕ} {n : ℕ} (x : RepliesCoded t p g room room′ n) → decoded n ≡ repliesTold (x .answer)
+back-replies = replies-back
 
 -- "None is public unless its result is promised": docs/PROMISES.md lists every public function with its promise.
 

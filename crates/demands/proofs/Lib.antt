@@ -1,5 +1,6 @@
 pub mod Cited
 pub mod Demands
+pub mod Replies
 pub mod Held
 pub mod Texts
 pub mod Shift

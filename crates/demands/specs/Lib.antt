@@ -1,3 +1,4 @@
 pub mod Demands
 pub mod Texts
 pub mod Shift
+pub mod Replies

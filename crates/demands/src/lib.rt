@@ -5,9 +5,11 @@ ghost use Rattle.demands.specs.Demands.{Demand1Table, Demand1Goal, Deman
 ghost use Rattle.demands.specs.Demands.{Demand2, Demand3Check, Demand3Run, Demand3Build};
 ghost use Rattle.demands.specs.Texts.{Request201};
 ghost use Rattle.demands.specs.Shift.{Shift};
+ghost use Rattle.demands.specs.Replies.{RepliesRefused, Says};
 use answer::RunAnswer;
 use builder::BuildAnswer;
 use checker::PlanAnswer;
+use instance::RepliesAnswer;
 use prolog::TextAnswer;
 use run::Job;
 use table::GoalAnswer;
@@ -63,4 +65,12 @@ fn demand_jobs(cells: &[u32], plan: &[u32], lent: &[u32], jobs: &mut [Job]) -> P
     ensures { λ r. ⌜ Shift (now (cells .entry)) (now (plan .entry)) (now (lent .entry)) (now (jobs .entry)) (now (jobs .exit)) r ⌝ }
 {
     run::run_jobs(cells, plan, lent, jobs)
+}
+
+// W-203 (specs/Replies)
+fn request_replies(cells: &[u32], plan: &[u32], goal: &[u32], room: &mut [u32]) -> RepliesAnswer
+    ensures { λ r. ⌜ RepliesRefused (now (cells .entry)) (now (plan .entry)) (now (goal .entry)) (now (room .entry)) (now (room .exit)) r ⌝ }
+    ensures { λ r. ⌜ Says (now (cells .entry)) (now (plan .entry)) (now (goal .entry)) (now (room .entry)) (now (room .exit)) r ⌝ }
+{
+    replies::replies(cells, plan, goal, room)
 }

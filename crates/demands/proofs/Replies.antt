@@ -1,0 +1,191 @@
+-- W-203 of what the entry promises: `Replied t p g room room′ r` for replies::replies. The statements are in specs/Replies.
+use Prim.Native.Nat.{ℕ, suc, _≤_, _<_}
+use mathlib.Core.Path.{_≡_, refl, sym, _∙_, ap, subst}
+use mathlib.Core.Logic.{_↔_}
+use mathlib.Core.List.{List, _++_, flatten}
+use native.Mathlib.Omega.{arith}
+use lib.ListN.{length, drop}
+use Rattle.term.specs.Unify.{Matches}
+use Rattle.refusal.specs.Refusal.{Refused, refused, answered, turned}
+use Rattle.refusal.specs.declared.Reason.the-variants as reason
+use Rattle.refusal.specs.declared.Input.the-variants as input
+use Rattle.refusal.specs.Read.{Read, read, refuse, andThen}
+use Rattle.table.specs.Table.{Table, tableOf, goalOf, Row, IsGoal}
+use Rattle.table.proofs.ReadLaws.{apart, read-one, first}
+use Rattle.table.proofs.Accepted.{is-table, goal-accepted}
+use Rattle.plan.specs.Check.{planOf}
+use Rattle.answer.specs.declared.RunAnswer.{RunAnswer}
+use Rattle.answer.specs.Run.{Picks, Ran, runTold}
+use Rattle.answer.specs.Run as runs
+use Rattle.answer.proofs.TakesLaws.{run-takes}
+use Rattle.instance.specs.declared.RepliesAnswer.{RepliesAnswer}
+use Rattle.instance.specs.Instance.{Common}
+use Rattle.instance.specs.Reply.{Reply, Replies, none, hit, miss}
+use Rattle.instance.specs.Replied.{repliesOf, repliesTold, Replied, refusal, no-room, replied}
+use Rattle.instance.proofs.Apart.{matches-common, common-matches}
+use Rattle.instance.proofs.Variants.{reply-one, replies-one}
+use Rattle.instance.proofs.StartLaws.{head-below}
+use Rattle.instance.proofs.RepliesLaws.{replies-take}
+use Rattle.instance.proofs.RoomLaws.{replies-few, replies-each}
+use Rattle.demands.specs.Replies.{RepliesTurned, bad-table, bad-plan, bad-goal, bad-room, RepliesRefused, Said, Says}
+use Rattle.demands.proofs.Cited.{clash, turned-one, refuse-one}
+
+-- what turns the entry away before the room
+asked-turned : {t p g room : List ℕ} {f : Refused} → repliesOf t p g ≡ refuse f → RepliesTurned t p g room f
+unfolding repliesOf
+asked-turned {t} {p} {g} {room} {f} = go (tableOf t) refl
+  where
+    in-goal : (T : Table) (b : ℕ) → tableOf t ≡ read T → planOf t p ≡ read b → (x : Read ℕ) → goalOf (T .width) g ≡ x
+        → andThen x (λ (v : ℕ). read T) ≡ refuse f → RepliesTurned t p g room f
+    in-goal T b e h (read v) k q = apart q
+    in-goal T b e h (refuse z) k q = bad-goal T b e h (k ∙ ap refuse (refuse-one q))
+
+    in-plan : (T : Table) → tableOf t ≡ read T → (x : Read ℕ) → planOf t p ≡ x
+        → andThen x (λ (b : ℕ). andThen (goalOf (T .width) g) (λ (v : ℕ). read T)) ≡ refuse f → RepliesTurned t p g room f
+    in-plan T e (read b) k q = in-goal T b e k (goalOf (T .width) g) refl q
+    in-plan T e (refuse z) k q = bad-plan T e (k ∙ ap refuse (refuse-one q))
+
+    go : (x : Read Table) → tableOf t ≡ x
+        → andThen x (λ (T : Table). andThen (planOf t p) (λ (b : ℕ). andThen (goalOf (T .width) g) (λ (v : ℕ). read T))) ≡ refuse f
+        → RepliesTurned t p g room f
+    go (read T) e q = in-plan T e (planOf t p) refl q
+    go (refuse z) e q = bad-table (e ∙ ap refuse (refuse-one q))
+
+-- what is asked, the plan's reading as an argument
+askedIn : (t g : List ℕ) → Read ℕ → Read Table
+askedIn t g plan = andThen (tableOf t) (λ (T : Table). andThen plan (λ (b : ℕ). andThen (goalOf (T .width) g) (λ (v : ℕ). read T)))
+
+module _ (t p g : List ℕ) where
+  asked-in : repliesOf t p g ≡ askedIn t g (planOf t p)
+  unfolding repliesOf askedIn
+  asked-in = refl
+
+  asked-table : {f : Refused} → tableOf t ≡ refuse f → repliesOf t p g ≡ refuse f
+  unfolding askedIn
+  asked-table e = asked-in ∙ rw e
+
+  asked-plan : {T : Table} {f : Refused} → tableOf t ≡ read T → planOf t p ≡ refuse f → repliesOf t p g ≡ refuse f
+  unfolding askedIn
+  asked-plan e h = asked-in ∙ rw (h, e)
+
+  asked-goal : {T : Table} {b : ℕ} {f : Refused} → tableOf t ≡ read T → planOf t p ≡ read b → goalOf (T .width) g ≡ refuse f
+      → repliesOf t p g ≡ refuse f
+  unfolding askedIn
+  asked-goal e h k = asked-in ∙ rw (h, e, k)
+
+  asked-read : {T : Table} {b v : ℕ} → tableOf t ≡ read T → planOf t p ≡ read b → goalOf (T .width) g ≡ read v → repliesOf t p g ≡ read T
+  unfolding askedIn
+  asked-read e h k = asked-in ∙ rw (h, e, k)
+
+  -- the replies of one table are one list
+  rows-of : {T T′ : Table} {all : List (List ℕ)} → repliesOf t p g ≡ read T → repliesOf t p g ≡ read T′ → Replies g (T .rows) all
+      → Replies g (T′ .rows) all
+  rows-of {all = all} a b w = subst (λ (X : Table). Replies g (X .rows) all) (read-one (sym a ∙ b)) w
+
+  same-replies : {T T′ : Table} {all all′ : List (List ℕ)} → repliesOf t p g ≡ read T → repliesOf t p g ≡ read T′ → Replies g (T .rows) all
+      → Replies g (T′ .rows) all′ → all ≡ all′
+  same-replies a b w w′ = replies-one (rows-of a b w) w′
+
+module _ {t p g room room′ : List ℕ} {r : RepliesAnswer} where
+  turned-why : Replied t p g room room′ r → (f : Refused) → repliesTold r ≡ turned f → RepliesTurned t p g room f
+  unfolding repliesOf
+  turned-why (refusal h a x c) f e = asked-turned (a ∙ ap refuse (turned-one (sym x ∙ e)))
+  turned-why (no-room T all a w l x c) f e =
+      let y = first (tableOf t) _ a in
+      let z = first (planOf t p) _ (y .2) in
+      let k = first (goalOf (y .0 .width) g) _ (z .2) in
+      let q : y .0 ≡ T = read-one (k .2) in
+      bad-room T (z .0) (k .0) all (y .1 ∙ ap read q) (z .1) (ap (λ (X : Table). goalOf (X .width) g) (sym q) ∙ k .1) w l (sym (turned-one (sym x ∙ e)))
+  turned-why (replied T all a w l x c) f e = clash (sym x ∙ e)
+
+  -- as it is asked, so it is answered
+  as-refused : {h : Refused} → repliesOf t p g ≡ refuse h → Replied t p g room room′ r → repliesTold r ≡ turned h
+  as-refused e (refusal h a x c) = x ∙ ap turned (refuse-one (sym a ∙ e))
+  as-refused e (no-room T all a w l x c) = apart (sym a ∙ e)
+  as-refused e (replied T all a w l x c) = apart (sym a ∙ e)
+
+  as-full : (T : Table) (all : List (List ℕ)) → repliesOf t p g ≡ read T → Replies g (T .rows) all → length room < length (flatten all)
+      → Replied t p g room room′ r → repliesTold r ≡ turned (refused reason.Room input.Lent (length (flatten all)))
+  as-full T all e w l (refusal h a x c) = apart (sym e ∙ a)
+  as-full T all e w l (no-room T′ all′ a w′ l′ x c) =
+      x ∙ ap (λ (y : List (List ℕ)). turned (refused reason.Room input.Lent (length (flatten y)))) (same-replies t p g a e w′ w)
+  as-full T all e w l (replied T′ all′ a w′ l′ x c) =
+      let q = ap (λ (y : List (List ℕ)). length (flatten y)) (same-replies t p g a e w′ w) in
+      absurd (let z : ⊥ = omega arith in z)
+
+  turned-gets : Replied t p g room room′ r → (f : Refused) → RepliesTurned t p g room f → repliesTold r ≡ turned f
+  turned-gets x f (bad-table e) = as-refused (asked-table t p g e) x
+  turned-gets x f (bad-plan T e h) = as-refused (asked-plan t p g e h) x
+  turned-gets x f (bad-goal T b e h k) = as-refused (asked-goal t p g e h k) x
+  turned-gets x f (bad-room T b v all e h k w l q) = as-full T all (asked-read t p g e h k) w l x ∙ ap turned (sym q)
+
+  untouched-by : Replied t p g room room′ r → (f : Refused) → repliesTold r ≡ turned f → room′ ≡ room
+  untouched-by (refusal h a x c) f e = c
+  untouched-by (no-room T all a w l x c) f e = c
+  untouched-by (replied T all a w l x c) f e = clash (sym x ∙ e)
+
+  pub request-203-refuses : Replied t p g room room′ r → RepliesRefused t p g room room′ r
+  request-203-refuses x = record { refuses = λ f. (turned-why x f, turned-gets x f); untouched = untouched-by x }
+
+  pub request-203-says : Replied t p g room room′ r → Says t p g room room′ r
+  request-203-says x T b e h i = go x
+    where
+      v : (n : ℕ) × (goalOf (T .width) g ≡ read n)
+      v = goal-accepted (T .width) g .1 i
+
+      asked : repliesOf t p g ≡ read T
+      asked = asked-read t p g e h (v .1)
+
+      with-replies : {all : List (List ℕ)} → Replies g (T .rows) all
+          → (length (flatten all) ≤ length room → repliesTold r ≡ answered (length all) (length (flatten all)))
+          → (length (flatten all) ≤ length room → room′ ≡ flatten all ++ drop (length (flatten all)) room) → Said T g room room′ r
+      with-replies {all} w f k =
+          let j = is-table t e in
+          record {
+            all = all;
+            each = w;
+            fixed = λ others o. replies-one o w;
+            told = f;
+            wrote = k;
+            small = replies-each i (j .width .0) (j .each) w;
+            enough = replies-few i (j .width .0) (j .each) w .1;
+          }
+
+      go : Replied t p g room room′ r → Said T g room room′ r
+      go (refusal z a y c) = apart (sym asked ∙ a)
+      go (no-room T′ all a w l y c) =
+          with-replies (rows-of t p g a asked w) (λ m. absurd (let z : ⊥ = omega arith in z)) (λ m. absurd (let z : ⊥ = omega arith in z))
+      go (replied T′ all a w l y c) = with-replies (rows-of t p g a asked w) (λ m. y) (λ m. c)
+
+-- "fixed as cells": a row and a goal have one reply
+pub request-203-fixed : {row goal xs ys : List ℕ} → Reply row goal xs → Reply row goal ys → xs ≡ ys
+request-203-fixed = reply-one
+
+-- a row of a table and a goal have something in common exactly when they unify
+pub request-203-common : {w : ℕ} {row goal : List ℕ} → Row w row → IsGoal w goal → Matches row goal ↔ ((cells : List ℕ) × Common row goal cells)
+request-203-common r g = (matches-common (head-below (g .head)), λ c. common-matches (head-below (r .head)) (head-below (g .head)) (c .1))
+
+-- "For each hit": as many replies as a run reports rows
+replies-many : {goal : List ℕ} {rows all : List (List ℕ)} {f : ℕ} {found : List ℕ} → Picks (λ (row : List ℕ). Matches row goal) rows f found
+    → Replies goal rows all → length found ≡ length all
+replies-many runs.none none = refl
+replies-many (runs.hit m p) (hit k r a) = ap suc (replies-many p a)
+replies-many (runs.hit m p) (miss k a) = absurd (k m)
+replies-many (runs.miss m p) (hit k r a) = absurd (m k)
+replies-many (runs.miss m p) (miss k a) = replies-many p a
+
+pub request-203-hits : {t p g bytes bytes′ room room′ : List ℕ} {a : RunAnswer} {r : RepliesAnswer} → Ran t p g bytes bytes′ a
+    → Replied t p g room room′ r → (h n k m : ℕ) → runTold a ≡ answered h n → repliesTold r ≡ answered k m → h ≡ k
+request-203-hits (runs.refusal f e x c) y h n k m q s = clash (sym q ∙ x)
+request-203-hits (runs.ran T tree found n′ e w x u y c) (refusal f e′ y′ c′) h n k m q s = clash (sym s ∙ y′)
+request-203-hits (runs.ran T tree found n′ e w x u y c) (no-room T′ all e′ w′ l y′ c′) h n k m q s = clash (sym s ∙ y′)
+request-203-hits {t} {p} {g} (runs.ran T tree found n′ e w x u y c) (replied T′ all e′ w′ l y′ c′) h n k m q s =
+    let i = run-takes e .table in
+    let j = replies-take t p g e′ .0 in
+    let z = ap (λ (X : Table). X .rows) (read-one (sym j ∙ i)) in
+    let a : h ≡ length found = first-one (sym q ∙ y) in
+    let b : k ≡ length all = first-one (sym s ∙ y′) in
+    a ∙ replies-many x (subst (λ (rows : List (List ℕ)). Replies g rows all) z w′) ∙ sym b
+  where
+    first-one : {a b c d : ℕ} → answered a b ≡ answered c d → a ≡ c
+    first-one e = cc
