@@ -1,6 +1,7 @@
 //! The exported functions against the independent implementation, input by input: the whole answer and the whole of the lent room.
 
 pub mod listings;
+mod replies;
 mod small;
 mod tally;
 mod texts;
@@ -73,6 +74,7 @@ impl<E: Engine> Comparison<'_, E> {
         for _ in 0..4 {
             let (plan, goal) = (self.plan(&read), self.goal(&read));
             self.run(&table, &plan, &goal, read.rows.len());
+            self.replies(&table, &plan, &goal);
         }
     }
 

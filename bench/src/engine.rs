@@ -11,6 +11,7 @@ pub trait Engine {
     fn build_plan(&self, table: &[u32], room: &mut [u32]) -> u64;
     fn run_plan(&self, table: &[u32], plan: &[u32], goal: &[u32], room: &mut [u8]) -> u64;
     fn read_text(&self, text: &[u8], cells: &mut [u32], names: &mut [u32]) -> u64;
+    fn replies(&self, table: &[u32], plan: &[u32], goal: &[u32], room: &mut [u32]) -> u64;
 }
 
 /// The independent implementation with runs by the definitions.
@@ -42,6 +43,10 @@ macro_rules! independent {
             }
             fn read_text(&self, text: &[u8], cells: &mut [u32], names: &mut [u32]) -> u64 {
                 packed(model::text::read_text(text, cells, names))
+            }
+
+            fn replies(&self, table: &[u32], plan: &[u32], goal: &[u32], room: &mut [u32]) -> u64 {
+                packed(model::replies::replies(table, plan, goal, room))
             }
         }
     };
@@ -80,6 +85,16 @@ mod exported {
             room_bytes: usize,
         ) -> u64;
         fn dudowiej_read_text(text: *const u8, text_bytes: usize, cells: *mut u32, cells_room: usize, names: *mut u32, names_room: usize) -> u64;
+        fn dudowiej_replies(
+            table: *const u32,
+            table_cells: usize,
+            plan: *const u32,
+            plan_cells: usize,
+            goal: *const u32,
+            goal_cells: usize,
+            room: *mut u32,
+            room_cells: usize,
+        ) -> u64;
     }
 
     // Each pointer and length below is one slice's, and a lent room is borrowed alone.
@@ -106,6 +121,12 @@ mod exported {
         }
         fn read_text(&self, text: &[u8], cells: &mut [u32], names: &mut [u32]) -> u64 {
             unsafe { dudowiej_read_text(text.as_ptr(), text.len(), cells.as_mut_ptr(), cells.len(), names.as_mut_ptr(), names.len()) }
+        }
+
+        fn replies(&self, table: &[u32], plan: &[u32], goal: &[u32], room: &mut [u32]) -> u64 {
+            unsafe {
+                dudowiej_replies(table.as_ptr(), table.len(), plan.as_ptr(), plan.len(), goal.as_ptr(), goal.len(), room.as_mut_ptr(), room.len())
+            }
         }
     }
 }

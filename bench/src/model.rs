@@ -7,6 +7,7 @@ pub mod listing;
 pub mod plan;
 pub mod read;
 pub mod refusal;
+pub mod replies;
 pub mod run;
 pub mod term;
 pub mod text;

@@ -13,10 +13,12 @@ struct Altered {
     build_plan: fn(&[u32], &mut [u32]) -> u64,
     run_plan: RunPlan,
     read_text: ReadText,
+    replies: Replies,
 }
 
 type RunPlan = fn(&[u32], &[u32], &[u32], &mut [u8]) -> u64;
 type ReadText = fn(&[u8], &mut [u32], &mut [u32]) -> u64;
+type Replies = fn(&[u32], &[u32], &[u32], &mut [u32]) -> u64;
 
 const RIGHT: Altered = Altered {
     read_table: |table| Plain.read_table(table),
@@ -25,6 +27,7 @@ const RIGHT: Altered = Altered {
     build_plan: |table, room| Plain.build_plan(table, room),
     run_plan: |table, plan, goal, room| Plain.run_plan(table, plan, goal, room),
     read_text: |text, cells, names| Plain.read_text(text, cells, names),
+    replies: |table, plan, goal, room| Plain.replies(table, plan, goal, room),
 };
 
 impl Engine for Altered {
@@ -48,6 +51,10 @@ impl Engine for Altered {
     }
     fn read_text(&self, text: &[u8], cells: &mut [u32], names: &mut [u32]) -> u64 {
         (self.read_text)(text, cells, names)
+    }
+
+    fn replies(&self, table: &[u32], plan: &[u32], goal: &[u32], room: &mut [u32]) -> u64 {
+        (self.replies)(table, plan, goal, room)
     }
 }
 

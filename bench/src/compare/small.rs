@@ -37,6 +37,7 @@ impl<E: Engine> Comparison<'_, E> {
                 self.check_plan(&table, &plan);
                 self.run(&table, &plan, &goals::open(read.width), read.rows.len());
                 self.run(&table, &plan, &vec![0; read.width], read.rows.len());
+                self.replies(&table, &plan, &vec![0; read.width]);
             });
         }
         words(&[0, 1, 2, u32::MAX], 2, &mut |table| self.read_table(table));
@@ -50,6 +51,7 @@ impl<E: Engine> Comparison<'_, E> {
         words(&[0, 1, 2, A, F1, NINE, NONE], 5, &mut |goal| {
             self.read_goal(&table, goal);
             self.run(&table, &plan, goal, read.rows.len());
+            self.replies(&table, &plan, goal);
         });
     }
 

@@ -14,9 +14,10 @@ pub enum Entry {
     BuildPlan,
     RunPlan,
     ReadText,
+    Replies,
 }
 
-const ENTRIES: [&str; 7] = ["read_table", "read_goal", "row", "check_plan", "build_plan", "run_plan", "read_text"];
+const ENTRIES: [&str; 8] = ["read_table", "read_goal", "row", "check_plan", "build_plan", "run_plan", "read_text", "replies"];
 
 /// How many differences are shown with their inputs.
 const SHOWN: u64 = 5;
