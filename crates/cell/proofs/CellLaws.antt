@@ -171,6 +171,15 @@ pub var-arity : (c : ℕ) → isVar c ≡ true → arity c ≡ 0
 unfolding isVar
 var-arity c e = let k = eqb-true (kindOf c) 0 e in arity-other c (λ q. omega arith)
 
+-- the kind tells a variable
+pub is-var : (c : ℕ) → kindOf c ≡ 0 → isVar c ≡ true
+unfolding isVar
+is-var c k = rw k
+
+pub not-var : (c : ℕ) → kindOf c ≢ 0 → isVar c ≡ false
+unfolding isVar
+not-var c h = ne-eqb (kindOf c) 0 h
+
 -- a variable is a cell below 2^30
 pub var-small : (c : ℕ) → c < 2 ^ 30 → isVar c ≡ true
 unfolding isVar

@@ -32,13 +32,6 @@ unfolding hopOf
 hop-more links zero s h = absurd (omega arith)
 hop-more links (suc a) s h = let e : suc a - 1 ≡ a = omega arith in rw e
 
--- A store that was still to be done.
-pub store-next : (new fin xs ys : List ℕ) (j x : ℕ) → xs ≡ x ∷ ys → sets new j xs ≡ fin → sets (set new j x) (j + 1) ys ≡ fin
-store-next new fin xs ys j x e h = let f : j + 1 ≡ suc j = omega arith in rw f (ap (sets new j) (sym e) ∙ h)
-
-pub store-end : (new fin xs : List ℕ) (j : ℕ) → xs ≡ [] → sets new j xs ≡ fin → new ≡ fin
-store-end new fin xs j e h = ap (sets new j) (sym e) ∙ h
-
 -- Numbers one after another.
 
 pub up-none : (n a : ℕ) → a ≡ 0 → upFrom n a ≡ []

@@ -69,7 +69,7 @@ count-other : (c d : ℕ) (ms : List ℕ) → eqb c d ≡ false → count c (d �
 unfolding count
 count-other c d ms b = rw b (omega arith)
 
-appear-has : (c : ℕ) (ms ys : List ℕ) → List·Memᴰ c ys → isVar c ≡ true → count c ms ≡ 0 → List·Memᴰ c (appear ms ys)
+pub appear-has : (c : ℕ) (ms ys : List ℕ) → List·Memᴰ c ys → isVar c ≡ true → count c ms ≡ 0 → List·Memᴰ c (appear ms ys)
 unfolding appear
 appear-has c ms [] m i z = absurd (List·Memᴰ·not-nil m)
 appear-has c ms (d ∷ ys) m i z =

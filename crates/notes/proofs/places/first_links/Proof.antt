@@ -3,8 +3,9 @@ use mathlib.Core.Path.{_≡_, refl}
 use borrow.Author.Needs.{needs}
 use native.Mathlib.Omega.{arith}
 use lib.Seq.{sets}
+use Rattle.term.proofs.Lists.{store-next, store-end}
 use Rattle.table.specs.Table.{upFrom}
-use Rattle.notes.proofs.PlacesLaws.{up-none, up-more, store-next, store-end}
+use Rattle.notes.proofs.PlacesLaws.{up-none, up-more}
 use Rattle.notes.proofs.places.first_links.Statement.{statement}
 use Rattle.notes.proofs.places.first_links.Tie as tie
 
