@@ -1,5 +1,5 @@
 /* The rule tables as a C library: tables from Prolog text, reading tables and goals, the least plan, the check of any plan, the run of a
- * plan on a goal.
+ * plan on a goal, and what the rows say to it.
  *
  * Link target/staticlib/libexports.a, which `rt staticlib exports` writes (x86-64).
  *
@@ -22,7 +22,7 @@
 extern "C" {
 #endif
 
-/* What no table, row, goal or plan exceeds. */
+/* What no table, row, goal, plan, text or reply exceeds. */
 enum {
     DUDOWIEJ_COLUMNS = 8,
     DUDOWIEJ_ROWS = 64,
@@ -31,7 +31,8 @@ enum {
     DUDOWIEJ_TABLE_CELLS = 2050,
     DUDOWIEJ_PLAN_CELLS = 6082,
     DUDOWIEJ_TEXT_BYTES = 65535,
-    DUDOWIEJ_NAMES = 2048
+    DUDOWIEJ_NAMES = 2048,
+    DUDOWIEJ_REPLY_CELLS = 1024
 };
 
 /* Why an input is refused. */
@@ -110,6 +111,14 @@ _Static_assert(offsetof(struct dudowiej_job, number) == 16 && offsetof(struct du
  * Goals may share cells. First: the plan's branches. Second: 0. */
 uint64_t dudowiej_run_jobs(const uint32_t *table, size_t table_cells, const uint32_t *plan, size_t plan_cells, const uint32_t *cells,
                            size_t cells_count, struct dudowiej_job *jobs, size_t jobs_count);
+
+/* Runs a plan on a goal and writes for each row that unifies with it what the two have in common: the goal with the row's bindings filled
+ * in, its variables numbered anew from 0. The replies stand one after another in row order at the front of the room, each as many terms as
+ * the table has columns; they carry no lengths, and the rest of the room is untouched. Where no row unifies there is none. First: the
+ * replies. Second: the cells written. Refused in this order: the table, the plan, the goal; then the room, the place being the cells of all
+ * replies together. DUDOWIEJ_REPLY_CELLS cells for each row of the table are always enough. */
+uint64_t dudowiej_replies(const uint32_t *table, size_t table_cells, const uint32_t *plan, size_t plan_cells, const uint32_t *goal,
+                          size_t goal_cells, uint32_t *room, size_t room_cells);
 
 /* An answer taken apart. Bits 0 to 7 are 0 exactly where it is no refusal:
  *   answered:  2^16 * first + 2^32 * second           first < 2^16, second < 2^32

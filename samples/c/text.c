@@ -1,4 +1,5 @@
-/* A shop's table from Prolog text in C: loads the facts, builds the plan, and prints the rules that fit some jobs, in the text's own names.
+/* A shop's table from Prolog text in C: loads the facts, builds the plan, and prints the rules that fit some jobs and what each rule says
+ * to the job, in the text's own names.
  *
  * usage: text FILE    (samples/shop.pl) */
 
@@ -14,6 +15,10 @@ static uint32_t table[DUDOWIEJ_TABLE_CELLS];
 static uint32_t names[DUDOWIEJ_NAMES];
 static uint32_t plan[DUDOWIEJ_PLAN_CELLS];
 static size_t table_cells, names_count, plan_cells;
+
+/* What the rules say to a job: enough for every job of every table. */
+enum { REPLIES_CELLS = DUDOWIEJ_ROWS * DUDOWIEJ_REPLY_CELLS };
+static uint32_t replies[REPLIES_CELLS];
 
 /* A name of the list: where it starts in the text, and its bytes. */
 static const char *name_start(uint32_t number) { return (const char *)text + (names[number] & 0xffff); }
@@ -35,7 +40,7 @@ static uint32_t name(const char *word, uint32_t arguments) {
 static const uint32_t *print_term(const uint32_t *cells) {
     uint32_t cell = *cells++, n = cell & 0xffff;
     switch (cell >> 30) {
-    case 0: printf("_"); return cells;
+    case 0: printf("_%u", n); return cells;
     case 2: printf("%u", n); return cells;
     }
     if (n < names_count) printf("%.*s", (int)name_bytes(n), name_start(n));
@@ -49,11 +54,13 @@ static const uint32_t *print_term(const uint32_t *cells) {
     return cells;
 }
 
-static void print_terms(const uint32_t *cells, size_t count) {
-    for (const uint32_t *end = cells + count; cells < end;) {
+/* Prints a term for each column and gives what follows them. */
+static const uint32_t *print_columns(const uint32_t *cells) {
+    for (uint32_t left = table[0]; left > 0; left--) {
         cells = print_term(cells);
-        printf(cells < end ? ", " : "\n");
+        printf(left > 1 ? ", " : "\n");
     }
+    return cells;
 }
 
 /* Says a refusal, if the answer is one. */
@@ -90,17 +97,23 @@ static int prepare(const char *path) {
     return 0;
 }
 
-/* Prints the rules that fit a job. */
+/* Prints the rules that fit a job, and below each what it says: the job with the rule's bindings filled in. */
 static void ask(const uint32_t *goal, size_t goal_cells) {
     uint8_t rows[DUDOWIEJ_ROWS];
     uint64_t run = dudowiej_run_plan(table, table_cells, plan, plan_cells, goal, goal_cells, rows, sizeof rows);
     if (refused(stdout, "\njob", run)) return;
+    uint64_t said = dudowiej_replies(table, table_cells, plan, plan_cells, goal, goal_cells, replies, REPLIES_CELLS);
+    if (refused(stdout, "\njob", said)) return;
     printf("\njob: ");
-    print_terms(goal, goal_cells);
+    print_columns(goal);
+    /* There is a reply for each hit, in the same order. */
+    const uint32_t *reply = replies;
     for (uint32_t hit = 0; hit < dudowiej_first(run); hit++) {
         uint64_t row = dudowiej_row(table, table_cells, rows[hit]);
         printf("  rule %u: ", rows[hit]);
-        print_terms(table + dudowiej_first(row), dudowiej_second(row));
+        print_columns(table + dudowiej_first(row));
+        printf("    says: ");
+        reply = print_columns(reply);
     }
 }
 
@@ -117,8 +130,14 @@ int main(int argc, char **argv) {
     const uint32_t bowl[] = {number(9), name("blue", 0), name("bowl", 1), variable(0), variable(1)};
     /* A black tray: no rule names a tray. */
     const uint32_t tray[] = {number(1), name("black", 0), name("tray", 0), variable(0)};
+    /* Anything black. */
+    const uint32_t black[] = {variable(0), name("black", 0), variable(1), variable(2)};
+    /* A blue bowl whose size is called as its firing: one variable twice. */
+    const uint32_t alike[] = {number(9), name("blue", 0), name("bowl", 1), variable(0), variable(0)};
     ask(ring, sizeof ring / sizeof ring[0]);
     ask(bowl, sizeof bowl / sizeof bowl[0]);
     ask(tray, sizeof tray / sizeof tray[0]);
+    ask(black, sizeof black / sizeof black[0]);
+    ask(alike, sizeof alike / sizeof alike[0]);
     return 0;
 }

@@ -9,6 +9,8 @@ pub const ROWS: usize = 64;
 /// What no text exceeds, and the names of a table.
 pub const TEXT_BYTES: usize = 65_535;
 pub const NAMES: usize = 2048;
+/// What no reply exceeds.
+pub const REPLY_CELLS: usize = 1024;
 
 /// Why an input is refused (include/dudowiej.h): number, input and place.
 #[derive(Debug, Clone, Copy, PartialEq, Eq)]
@@ -73,6 +75,16 @@ extern "C" {
         cells_count: usize,
         jobs: *mut Job,
         jobs_count: usize,
+    ) -> u64;
+    fn dudowiej_replies(
+        table: *const u32,
+        table_cells: usize,
+        plan: *const u32,
+        plan_cells: usize,
+        goal: *const u32,
+        goal_cells: usize,
+        room: *mut u32,
+        room_cells: usize,
     ) -> u64;
 }
 
@@ -167,4 +179,15 @@ pub fn run_jobs(table: &[u32], plan: &[u32], cells: &[u32], jobs: &mut [Job]) ->
         )
     };
     Ok(apart(answer)?.0)
+}
+
+/// What the rows that unify with the goal say: how many replies, and their cells one after another, each a term for each column.
+pub fn replies(table: &[u32], plan: &[u32], goal: &[u32]) -> Result<(usize, Vec<u32>), Refusal> {
+    let mut room = vec![0; ROWS * REPLY_CELLS];
+    let answer = unsafe {
+        dudowiej_replies(table.as_ptr(), table.len(), plan.as_ptr(), plan.len(), goal.as_ptr(), goal.len(), room.as_mut_ptr(), room.len())
+    };
+    let (count, cells) = apart(answer)?;
+    room.truncate(cells);
+    Ok((count, room))
 }

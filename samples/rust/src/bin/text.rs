@@ -1,5 +1,5 @@
-//! A shop's table from Prolog text in Rust: loads the facts, builds the plan, and prints the rules that fit some jobs, in the text's own
-//! names.
+//! A shop's table from Prolog text in Rust: loads the facts, builds the plan, and prints the rules that fit some jobs and what each rule
+//! says to the job, in the text's own names.
 //!
 //! usage: text FILE    (samples/shop.pl)
 
@@ -52,6 +52,10 @@ fn shop(text: &[u8]) -> Result<(), Refusal> {
     shop.ask(&[number(9), name("blue"), shop.name("bowl", 1), variable(0), variable(1)]);
     // A black tray: no rule names a tray.
     shop.ask(&[number(1), name("black"), name("tray"), variable(0)]);
+    // Anything black.
+    shop.ask(&[variable(0), name("black"), variable(1), variable(2)]);
+    // A blue bowl whose size is called as its firing: one variable twice.
+    shop.ask(&[number(9), name("blue"), shop.name("bowl", 1), variable(0), variable(0)]);
     Ok(())
 }
 
@@ -81,26 +85,31 @@ impl Shop<'_> {
         1 << 30 | arguments << 16 | listed.unwrap_or(self.loaded.names.len()) as u32
     }
 
-    /// Prints the rules that fit a job.
+    /// Prints the rules that fit a job, and below each what it says: the job with the rule's bindings filled in.
     fn ask(&self, goal: &[u32]) {
-        match dudowiej::run_plan(&self.loaded.table, &self.plan, goal) {
-            Err(refusal) => println!("\njob: {refusal}"),
-            Ok((hits, _)) => {
-                println!("\njob: {}", self.terms(goal));
-                for hit in hits {
-                    println!("  rule {hit}: {}", self.terms(dudowiej::row(&self.loaded.table, hit as usize)));
-                }
-            }
+        if let Err(refusal) = self.answered(goal) {
+            println!("\njob: {refusal}");
         }
     }
 
-    fn terms(&self, cells: &[u32]) -> String {
-        let mut rest = cells;
-        let mut text = Vec::new();
-        while !rest.is_empty() {
-            text.push(self.term(&mut rest));
+    fn answered(&self, goal: &[u32]) -> Result<(), Refusal> {
+        let table = &self.loaded.table;
+        let (hits, _) = dudowiej::run_plan(table, &self.plan, goal)?;
+        let (_, replies) = dudowiej::replies(table, &self.plan, goal)?;
+        println!("\njob: {}", self.columns(&mut &goal[..]));
+        // There is a reply for each hit, in the same order.
+        let mut reply = &replies[..];
+        for hit in hits {
+            println!("  rule {hit}: {}", self.columns(&mut dudowiej::row(table, hit as usize)));
+            println!("    says: {}", self.columns(&mut reply));
         }
-        text.join(", ")
+        Ok(())
+    }
+
+    /// A term for each column, taken off the cells.
+    fn columns(&self, rest: &mut &[u32]) -> String {
+        let terms: Vec<String> = (0..self.loaded.table[0]).map(|_| self.term(rest)).collect();
+        terms.join(", ")
     }
 
     /// The first of the terms, taken off the cells.
@@ -108,7 +117,7 @@ impl Shop<'_> {
         let cell = rest[0];
         *rest = &rest[1..];
         match cell >> 30 {
-            0 => "_".to_string(),
+            0 => format!("_{cell}"),
             1 => {
                 let name = String::from_utf8_lossy(self.word(cell as u16 as usize).unwrap_or(b"?"));
                 let arguments: Vec<String> = (0..cell >> 16 & 7).map(|_| self.term(rest)).collect();
