@@ -21,10 +21,10 @@ pub const ROWS: [usize; 4] = [8, 16, 32, 64];
 
 /// A table with its least plan, and goals by their sorts.
 pub struct Case {
-    table: Vec<u32>,
-    plan: Vec<u32>,
-    goals: Vec<(&'static str, Vec<Vec<u32>>)>,
-    read: Table,
+    pub table: Vec<u32>,
+    pub plan: Vec<u32>,
+    pub goals: Vec<(&'static str, Vec<Vec<u32>>)>,
+    pub read: Table,
     tree: Plan,
 }
 

@@ -5,6 +5,7 @@ use std::path::Path;
 
 use crate::branches::sorts;
 use crate::cases::{Case, Measure, KINDS, ROWS};
+use crate::replies;
 use crate::texts::{measured_texts, reading};
 
 /// What callgrind counts.
@@ -25,7 +26,21 @@ pub fn count() {
     };
     each_case(|_, case| case.measures().into_iter().for_each(&mut once));
     sorts().iter().for_each(|sort| once(sort.walk()));
+    count_replies();
     count_texts();
+}
+
+/// The same for replies alone.
+pub fn count_replies() {
+    each_case(|_, case| {
+        for mut sort in replies::sorts(case) {
+            sort.figures(|work| {
+                (work.work)();
+                measured(&mut *work.work);
+                0.0
+            });
+        }
+    });
 }
 
 /// The same for texts alone.
@@ -55,7 +70,27 @@ pub fn instructions(folder: &Path) {
     println!("\nOne branch: the walk by the number of branches tried; 64 rows, every branch of one sort");
     heading("instructions for a branch");
     sorts().iter().for_each(|sort| line(sort.walk(), sort.tried()));
+    let files = reply_instructions(folder, files);
     text_instructions(folder, files);
+}
+
+/// Prints what a reply takes, from the files after the first so many; the number of the last one.
+pub fn reply_instructions(folder: &Path, before: usize) -> usize {
+    let mut files = before;
+    println!("\nOne reply, and the walk that found the replies of a goal");
+    println!("{:<26}{:>6}{:>10}{:>13}{:>10}{:>16}", "", "hits", "reply", "independent", "walk", "reply to walk");
+    each_case(|name, case| {
+        println!("{name}: {}", case.title());
+        for mut sort in replies::sorts(case) {
+            let of = sort.figures(|_| {
+                files += 1;
+                total(&folder.join(format!("count.{files}"))) as f64
+            });
+            let ratio = of.reply / of.walk;
+            println!("{:<26}{:>6}{:>10.0}{:>13.0}{:>10.0}{ratio:>16.2}", sort.name, sort.hits, of.reply, of.independent, of.walk);
+        }
+    });
+    files
 }
 
 /// Prints the instructions of every text from the files after the first so many.

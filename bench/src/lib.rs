@@ -9,6 +9,7 @@ pub mod make;
 pub mod model;
 pub mod prolog;
 pub mod random;
+pub mod replies;
 pub mod shift;
 pub mod stack;
 pub mod texts;

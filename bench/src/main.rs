@@ -17,6 +17,7 @@ const USAGE: &str = "usage:
   count-texts, text-instructions FOLDER    the same for texts alone
   texts FOLDER COUNT SEED   accepted texts with their facts, and kinds of refused ones, as files
   count-shift, instructions-shift FOLDER   the same for a list of goals
+  count-replies, instructions-replies FOLDER   the same for replies alone
   stack                     the bytes of stack that each entry touches
   list                      the independent listing of the table on standard input";
 
@@ -44,6 +45,10 @@ fn main() -> ExitCode {
         },
         ["count-shift"] => done(shift::count::count),
         ["instructions-shift", folder] => done(|| shift::count::instructions(Path::new(folder))),
+        ["count-replies"] => done(count::count_replies),
+        ["instructions-replies", folder] => done(|| {
+            count::reply_instructions(Path::new(folder), 0);
+        }),
         ["stack"] => done(stack::stack),
         ["list"] => done(list),
         _ => usage(),

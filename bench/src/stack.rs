@@ -62,6 +62,10 @@ impl Most {
                 let mut room = vec![0; bytes];
                 self.note("dudowiej_run_plan", || Exported.run_plan(table, plan, goal, &mut room));
             }
+            for cells in [ROWS * 1024, 0] {
+                let mut room = vec![0; cells];
+                self.note("dudowiej_replies", || Exported.replies(table, plan, goal, &mut room));
+            }
             let mut jobs = [Job { count: goal.len(), ..Job::default() }];
             self.note("dudowiej_run_jobs", || Exported.run_jobs(table, plan, goal, &mut jobs));
         }

@@ -299,3 +299,41 @@ fn a_blank_that_is_always_the_same_variable() {
         Plain.read_text(&named, cells, names)
     });
 }
+
+#[test]
+fn replies_that_are_wrong_in_one_thing() {
+    // The goal's cells as they came, for each hit.
+    found(Altered {
+        replies: |table, plan, goal, room| {
+            let answer = Plain.replies(table, plan, goal, room);
+            for reply in room.chunks_mut(goal.len().max(1)).take(if answered(answer) { hits(answer) } else { 0 }) {
+                reply.copy_from_slice(&goal[..reply.len()]);
+            }
+            answer
+        },
+        ..RIGHT
+    });
+    // Always 0 and 0.
+    found(Altered { replies: |_, _, _, _| 0, ..RIGHT });
+    // ROOM at the number of replies.
+    found(Altered {
+        replies: |table, plan, goal, room| match Plain.replies(table, plan, goal, room) {
+            room if room & 0xff == 16 => 16 | 4 << 8 | 1 << 16,
+            answer => answer,
+        },
+        ..RIGHT
+    });
+    // A cell more than is answered.
+    found(Altered {
+        replies: |table, plan, goal, room| {
+            let answer = Plain.replies(table, plan, goal, room);
+            if answered(answer) {
+                if let Some(cell) = room.get_mut((answer >> 32) as usize) {
+                    *cell = 0;
+                }
+            }
+            answer
+        },
+        ..RIGHT
+    });
+}
