@@ -12,7 +12,7 @@ files(List) :-
 each(Names) :-
     read_term(Names, Name, []),
     (   Name == end_of_file -> true
-    ;   one(Name), each(Names)
+    ;   \+ \+ one(Name), each(Names)
     ).
 
 one(Name) :-

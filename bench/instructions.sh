@@ -9,13 +9,14 @@ if ! command -v valgrind >/dev/null; then
 fi
 cargo build --quiet --release "$@"
 counts=$(mktemp -d)
-mkdir "$counts/shift"
+mkdir "$counts/shift" "$counts/replies"
 trap 'rm -r "$counts"' EXIT
 valgrind --quiet --tool=callgrind --toggle-collect=measured --dump-after=measured --callgrind-out-file="$counts/count" \
     target/release/dudowiej-bench "count${TEXTS:+-texts}"
 target/release/dudowiej-bench "${TEXTS:+text-}instructions" "$counts"
-if [ -z "${TEXTS:-}" ]; then
-    valgrind --quiet --tool=callgrind --toggle-collect=measured --dump-after=measured --callgrind-out-file="$counts/shift/count" \
-        target/release/dudowiej-bench count-shift
-    target/release/dudowiej-bench instructions-shift "$counts/shift"
-fi
+[ -z "${TEXTS:-}" ] || exit 0
+for part in shift replies; do
+    valgrind --quiet --tool=callgrind --toggle-collect=measured --dump-after=measured --callgrind-out-file="$counts/$part/count" \
+        target/release/dudowiej-bench "count-$part"
+    target/release/dudowiej-bench "instructions-$part" "$counts/$part"
+done

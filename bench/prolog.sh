@@ -13,7 +13,8 @@ target/release/dudowiej-bench texts "$folder" "${1:-1000}" "${2:-1995}"
 cd "$folder"
 
 swi() { swipl -q -g "set_prolog_flag(encoding,iso_latin_1)" -g "$1" -t halt "$bench/facts.pl" </dev/null; }
-gnu() { gprolog --consult-file "$bench/facts.pl" --query-goal "$1,halt" </dev/null >gnu.log 2>&1; }
+# Its table of atoms is small unless it is told.
+gnu() { MAX_ATOM=1000000 gprolog --consult-file "$bench/facts.pl" --query-goal "$1,halt" </dev/null >gnu.log 2>&1; }
 
 # The first argument reads a list, the second is the Prolog's name.
 compare() {
