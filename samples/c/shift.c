@@ -10,6 +10,12 @@
 #define NAME(n, arguments) (1u << 30 | (uint32_t)(arguments) << 16 | (uint32_t)(n))
 #define NUMBER(n) (2u << 30 | (uint32_t)(n))
 
+/* The record lies in memory as the library writes it. */
+_Static_assert(sizeof(struct dudowiej_job) == 48, "six words of 64 bits");
+_Static_assert(offsetof(struct dudowiej_job, start) == 0 && offsetof(struct dudowiej_job, count) == 8, "where the goal's cells are");
+_Static_assert(offsetof(struct dudowiej_job, number) == 16 && offsetof(struct dudowiej_job, place) == 24, "its refusal");
+_Static_assert(offsetof(struct dudowiej_job, hits) == 32 && offsetof(struct dudowiej_job, tried) == 40, "its answer");
+
 enum { GOALS = 360, GOAL_CELLS = 4 };
 
 static uint32_t table[DUDOWIEJ_TABLE_CELLS + 1];
