@@ -37,6 +37,16 @@ pub fn texts<E: Engine>(exported: &E, tally: Tally, count: usize, seed: u64) -> 
     comparison.tally
 }
 
+/// Goes on with what the rules say: fixed cases, then so many random tables.
+pub fn replies<E: Engine>(exported: &E, tally: Tally, count: usize, seed: u64) -> Tally {
+    let mut comparison = Comparison { exported, random: Random::new(seed), tally };
+    comparison.fixed_replies();
+    for _ in 0..count {
+        comparison.random_replies();
+    }
+    comparison.tally
+}
+
 struct Comparison<'e, E: Engine> {
     exported: &'e E,
     random: Random,

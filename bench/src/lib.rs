@@ -7,6 +7,7 @@ pub mod count;
 pub mod engine;
 pub mod make;
 pub mod model;
+pub mod notation;
 pub mod prolog;
 pub mod random;
 pub mod replies;

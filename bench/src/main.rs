@@ -76,6 +76,7 @@ fn compared(rounds: usize, seed: u64) -> ExitCode {
     println!("{lists}");
     let tally = compare::compare(&Exported, rounds, seed);
     let tally = compare::texts(&Exported, tally, 2 * rounds, seed);
+    let tally = compare::replies(&Exported, tally, 2 * rounds, seed);
     println!("{tally}");
     if tally.passed() && lists.passed() && listings_differ == 0 {
         ExitCode::SUCCESS

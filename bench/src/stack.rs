@@ -8,7 +8,7 @@ use crate::branches::{flat, with_argument};
 use crate::cases::SEED;
 use crate::engine::{Engine, Exported};
 use crate::make::goals;
-use crate::make::tables::{table, Kind};
+use crate::make::tables::{longest_replies, table, Kind};
 use crate::model::least::least;
 use crate::model::plan::{grow, PLAN_CELLS};
 use crate::model::read::{read_table, Table, ROW_CELLS, TABLE_CELLS};
@@ -29,6 +29,8 @@ pub fn stack() {
             most.of_table(&table, &plans, &goals);
         }
     }
+    let (table, goal) = longest_replies();
+    most.of_table(&table, &plans(&read_table(&table).expect("a sound table")), &[goal]);
     for (_, text) in measured_texts() {
         most.of_text(&text);
     }

@@ -1,9 +1,10 @@
 //! The comparison finds what it should: engines that are wrong in one thing each are found, and one that is right passes.
 
-use dudowiej_bench::compare::{compare, texts, Tally};
+use dudowiej_bench::compare::{compare, replies, texts, Tally};
 use dudowiej_bench::engine::{Engine, Plain};
 use dudowiej_bench::model::plan::{check, grow};
 use dudowiej_bench::model::read::read_table;
+use dudowiej_bench::model::replies::all;
 
 /// An engine whose entries can be replaced one by one.
 struct Altered {
@@ -52,7 +53,6 @@ impl Engine for Altered {
     fn read_text(&self, text: &[u8], cells: &mut [u32], names: &mut [u32]) -> u64 {
         (self.read_text)(text, cells, names)
     }
-
     fn replies(&self, table: &[u32], plan: &[u32], goal: &[u32], room: &mut [u32]) -> u64 {
         (self.replies)(table, plan, goal, room)
     }
@@ -75,6 +75,7 @@ fn hits(answer: u64) -> usize {
 #[test]
 fn a_right_one_passes() {
     let tally = texts(&RIGHT, compare(&RIGHT, 2000, 1), 2000, 1);
+    let tally = replies(&RIGHT, tally, 2000, 1);
     assert!(tally.passed(), "{tally}");
 }
 
@@ -335,5 +336,203 @@ fn replies_that_are_wrong_in_one_thing() {
             answer
         },
         ..RIGHT
+    });
+}
+
+/// A wrong way to what the rules say.
+fn found_in_replies(wrong: Replies) {
+    let tally = replies(&Altered { replies: wrong, ..RIGHT }, Tally::default(), 200, 1);
+    assert!(tally.differ() > 0);
+    assert!(!tally.passed());
+}
+
+/// The right refusals of table, plan and goal, but other replies.
+fn with_replies(table: &[u32], plan: &[u32], goal: &[u32], room: &mut [u32], change: impl FnOnce(Vec<Vec<u32>>) -> Vec<Vec<u32>>) -> u64 {
+    let Ok(right) = all(table, plan, goal) else {
+        return Plain.replies(table, plan, goal, room);
+    };
+    let changed = change(right);
+    let cells = changed.concat();
+    if room.len() < cells.len() {
+        return 0x410 | (cells.len() as u64) << 16;
+    }
+    room[..cells.len()].copy_from_slice(&cells);
+    (changed.len() as u64) << 16 | (cells.len() as u64) << 32
+}
+
+fn is_variable(cell: u32) -> bool {
+    cell >> 16 == 0
+}
+
+#[test]
+fn variables_not_numbered_anew() {
+    // Numbered from one, through all replies, and each time another.
+    found_in_replies(|table, plan, goal, room| {
+        with_replies(table, plan, goal, room, |mut replies| {
+            replies.iter_mut().flatten().filter(|cell| is_variable(**cell)).for_each(|cell| *cell += 1);
+            replies
+        })
+    });
+    found_in_replies(|table, plan, goal, room| {
+        with_replies(table, plan, goal, room, |mut replies| {
+            let mut before = 0;
+            for reply in &mut replies {
+                let variables = reply.iter().filter(|cell| is_variable(**cell)).max().map_or(0, |last| last + 1);
+                reply.iter_mut().filter(|cell| is_variable(**cell)).for_each(|cell| *cell += before);
+                before += variables;
+            }
+            replies
+        })
+    });
+    found_in_replies(|table, plan, goal, room| {
+        with_replies(table, plan, goal, room, |mut replies| {
+            for reply in &mut replies {
+                reply.iter_mut().filter(|cell| is_variable(**cell)).zip(0..).for_each(|(cell, number)| *cell = number);
+            }
+            replies
+        })
+    });
+}
+
+#[test]
+fn only_the_first_hits_reply() {
+    found_in_replies(|table, plan, goal, room| with_replies(table, plan, goal, room, |replies| replies.into_iter().take(1).collect()));
+}
+
+#[test]
+fn the_last_hit_first() {
+    found_in_replies(|table, plan, goal, room| with_replies(table, plan, goal, room, |replies| replies.into_iter().rev().collect()));
+}
+
+#[test]
+fn one_reply_for_equal_rows() {
+    found_in_replies(|table, plan, goal, room| {
+        with_replies(table, plan, goal, room, |mut replies| {
+            replies.dedup();
+            replies
+        })
+    });
+}
+
+#[test]
+fn the_rows_cells_for_the_reply() {
+    found_in_replies(|table, plan, goal, room| {
+        with_replies(table, plan, goal, room, |_| {
+            let read = read_table(table).expect("the table was accepted");
+            let mut hits = [0; 64];
+            let answer = Plain.run_plan(table, plan, goal, &mut hits);
+            let rows = hits[..self::hits(answer)].iter().map(|&hit| &read.rows[hit as usize]);
+            rows.map(|row| table[row.start..row.start + row.cells].to_vec()).collect()
+        })
+    });
+}
+
+#[test]
+fn the_goal_as_it_came() {
+    found_in_replies(|table, plan, goal, room| with_replies(table, plan, goal, room, |replies| replies.iter().map(|_| goal.to_vec()).collect()));
+}
+
+#[test]
+fn a_name_for_a_free_variable() {
+    found_in_replies(|table, plan, goal, room| {
+        with_replies(table, plan, goal, room, |mut replies| {
+            replies.iter_mut().flatten().filter(|cell| is_variable(**cell)).for_each(|cell| *cell = 1 << 30);
+            replies
+        })
+    });
+}
+
+#[test]
+fn a_reply_for_every_row() {
+    found_in_replies(|table, plan, goal, room| {
+        with_replies(table, plan, goal, room, |mut replies| {
+            replies.resize(table[1] as usize, goal.to_vec());
+            replies
+        })
+    });
+}
+
+#[test]
+fn the_two_values_exchanged() {
+    found_in_replies(|table, plan, goal, room| {
+        let answer = Plain.replies(table, plan, goal, room);
+        if answered(answer) {
+            (answer >> 32 & 0xffff) << 16 | (answer >> 16 & 0xffff) << 32
+        } else {
+            answer
+        }
+    });
+}
+
+#[test]
+fn a_place_that_is_not_the_sum() {
+    // The number of replies, the largest reply, and the sum's last 8 bits.
+    found_in_replies(|table, plan, goal, room| {
+        let answer = Plain.replies(table, plan, goal, room);
+        if number(answer) == 16 {
+            0x410 | (all(table, plan, goal).map_or(0, |replies| replies.len()) as u64) << 16
+        } else {
+            answer
+        }
+    });
+    found_in_replies(|table, plan, goal, room| {
+        let answer = Plain.replies(table, plan, goal, room);
+        let largest = all(table, plan, goal).ok().and_then(|replies| replies.iter().map(Vec::len).max());
+        if number(answer) == 16 {
+            0x410 | (largest.unwrap_or(0) as u64) << 16
+        } else {
+            answer
+        }
+    });
+    found_in_replies(|table, plan, goal, room| {
+        let answer = Plain.replies(table, plan, goal, room);
+        answer & if number(answer) == 16 { 0xff_ffff } else { u64::MAX }
+    });
+}
+
+#[test]
+fn replies_written_before_the_room_is_known() {
+    found_in_replies(|table, plan, goal, room| {
+        let answer = Plain.replies(table, plan, goal, room);
+        if number(answer) == 16 {
+            let cells = all(table, plan, goal).expect("only the room was refused").concat();
+            room.copy_from_slice(&cells[..room.len()]);
+        }
+        answer
+    });
+}
+
+#[test]
+fn a_room_cleared_behind_the_replies() {
+    found_in_replies(|table, plan, goal, room| {
+        let answer = Plain.replies(table, plan, goal, room);
+        if answered(answer) {
+            room[(answer >> 32) as usize..].fill(0);
+        }
+        answer
+    });
+}
+
+#[test]
+fn a_room_that_is_wanted_whole() {
+    found_in_replies(|table, plan, goal, room| {
+        let needed = all(table, plan, goal).map_or(0, |replies| replies.concat().len());
+        if needed > 0 && room.len() == needed {
+            0x410 | (needed as u64) << 16
+        } else {
+            Plain.replies(table, plan, goal, room)
+        }
+    });
+}
+
+#[test]
+fn the_goal_refused_before_the_plan() {
+    found_in_replies(|table, plan, goal, room| {
+        let read = Plain.read_goal(table, goal);
+        if answered(read) {
+            Plain.replies(table, plan, goal, room)
+        } else {
+            read
+        }
     });
 }

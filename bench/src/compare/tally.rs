@@ -19,6 +19,10 @@ pub enum Entry {
 
 const ENTRIES: [&str; 8] = ["read_table", "read_goal", "row", "check_plan", "build_plan", "run_plan", "read_text", "replies"];
 
+/// What replies can be refused with, by input: table, plan, goal, room.
+const OF_REPLIES: [(&str, &[usize]); 4] =
+    [("table", &[1, 2, 3, 4, 5, 6, 7, 8, 9]), ("plan", &[9, 10, 11, 12, 13, 14, 15]), ("goal", &[1, 5, 6, 7, 9]), ("room", &[16])];
+
 /// How many differences are shown with their inputs.
 const SHOWN: u64 = 5;
 
@@ -32,8 +36,21 @@ pub struct Tally {
     tried: u64,
     /// Of the texts refused for want of room: for the cells, for the names.
     text_rooms: [u64; 2],
+    /// How often replies were refused, by input from 1 and number.
+    replies_refused: [[u64; NAMES.len() + 1]; OF_REPLIES.len() + 1],
+    replies: Replies,
     /// The independent implementation's parts among themselves: compared, and how many differed.
     own: BTreeMap<&'static str, (u64, u64)>,
+}
+
+/// Of replies that were written: how many, their cells, the largest; calls with 64 of them, and with a goal of 32 cells.
+#[derive(Default)]
+struct Replies {
+    count: u64,
+    cells: usize,
+    largest: usize,
+    with_64: u64,
+    goals_of_32: u64,
 }
 
 impl Tally {
@@ -58,6 +75,23 @@ impl Tally {
     pub fn text(&mut self, expected: u64, cells: usize) {
         if expected & 0xff == 16 {
             self.text_rooms[usize::from(expected >> 16 <= cells as u64)] += 1;
+        }
+    }
+
+    /// What came of a call for replies, and those that were expected.
+    pub fn replied(&mut self, expected: u64, goal_cells: usize, replies: &[Vec<u32>]) {
+        let (number, input) = ((expected & 0xff) as usize, (expected >> 8 & 0xff) as usize);
+        if number > 0 {
+            self.replies_refused[input][number] += 1;
+            return;
+        }
+        let seen = &mut self.replies;
+        seen.count += replies.len() as u64;
+        seen.with_64 += u64::from(replies.len() == 64);
+        seen.goals_of_32 += u64::from(goal_cells == 32);
+        for reply in replies {
+            seen.cells += reply.len();
+            seen.largest = seen.largest.max(reply.len());
         }
     }
 
@@ -94,12 +128,19 @@ impl Tally {
         met
     }
 
+    /// What replies can be refused with, by input, and how often they were.
+    fn replies(&self) -> Vec<(&'static str, Vec<(&'static str, u64)>)> {
+        let met = |input: usize, numbers: &[usize]| numbers.iter().map(|&number| (NAMES[number - 1], self.replies_refused[input][number])).collect();
+        OF_REPLIES.iter().enumerate().map(|(place, &(input, numbers))| (input, met(place + 1, numbers))).collect()
+    }
+
     /// Nothing differs, here or within the independent implementation, and every refusal was met.
     pub fn passed(&self) -> bool {
         self.differ == 0
             && self.own.values().all(|&(_, differ)| differ == 0)
             && self.never_met().is_empty()
             && self.texts().iter().all(|&(_, met)| met > 0)
+            && self.replies().iter().flat_map(|(_, refused)| refused).all(|&(_, met)| met > 0)
     }
 }
 
@@ -121,6 +162,15 @@ impl fmt::Display for Tally {
         writeln!(f, "hits {} tried {}", self.hits, self.tried)?;
         let texts: Vec<String> = self.texts().iter().map(|(name, met)| format!("{name} {met}")).collect();
         writeln!(f, "texts refused: {}", texts.join(", "))?;
+        let Replies { count, cells, largest, with_64, goals_of_32 } = &self.replies;
+        writeln!(
+            f,
+            "replies {count}, cells {cells}, the largest {largest}; calls with 64 replies {with_64}, answered goals of 32 cells {goals_of_32}"
+        )?;
+        for (input, refused) in self.replies() {
+            let refused: Vec<String> = refused.iter().map(|(name, met)| format!("{name} {met}")).collect();
+            writeln!(f, "replies refused, {input}: {}", refused.join(", "))?;
+        }
         for (what, (compared, differ)) in &self.own {
             writeln!(f, "{what}: {compared}, {differ} differ")?;
         }

@@ -59,6 +59,15 @@ fn mixed(random: &mut Random, table: &Table) -> Vec<u32> {
     cells(terms)
 }
 
+/// A goal of 32 cells: a variable for the first row's largest argument, and the same at most leaves of the others. For two columns and more.
+pub fn repeating(random: &mut Random, table: &Table) -> Vec<u32> {
+    let largest = (0..table.width).max_by_key(|&column| table.rows[0].arguments[column].size()).expect("a row has an argument");
+    let mut terms = Alphabet { symbols: 3, variable: 1 }.terms(random, table.width - 1, ROW_CELLS - 1);
+    each_variable(&mut terms, &mut |_| Term::Var(if random.one_in(6) { random.within(1..=3) as u16 } else { 0 }));
+    terms.insert(largest, Term::Var(0));
+    cells(terms)
+}
+
 /// Gives each variable one of few numbers, or of many.
 fn shared(random: &mut Random, terms: &mut [Term]) {
     let few = *random.pick(&[2, 4, 1000]);

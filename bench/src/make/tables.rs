@@ -75,6 +75,31 @@ fn cells(rows: &[Row]) -> Vec<u32> {
     cells
 }
 
+/// Rows of 32 cells with a large term in one column, the others blank: what a goal repeats of that column makes replies long.
+pub fn heavy(random: &mut Random, rows: usize) -> Vec<u32> {
+    let width = random.within(2..=8);
+    let column = random.below(width);
+    let alphabet = Alphabet { symbols: 3, variable: *random.pick(&[0, 3, 12]) };
+    let row = |_| {
+        let mut row = vec![Term::Var(0); width];
+        row[column] = alphabet.term(random, ROW_CELLS + 1 - width);
+        row
+    };
+    cells(&(0..rows).map(row).collect::<Vec<Row>>())
+}
+
+/// 64 rows of a chain of 31 cells and a blank, and a goal of 32 cells with 24 times the chain's variable: 64 replies of 752 cells.
+pub fn longest_replies() -> (Vec<u32>, Vec<u32>) {
+    let name = |number: u32, arguments: u32| 1 << 30 | arguments << 16 | number;
+    let mut table = vec![2, 64];
+    for row in 0..64 {
+        table.extend([name(1, 1); ROW_CELLS - 2]);
+        table.extend([name(row, 0), 0]);
+    }
+    let goal = [&[0, name(2, 2), 0][..], &[name(3, 4), 0, 0, 0].repeat(7), &[0]].concat();
+    (table, goal)
+}
+
 fn shop(random: &mut Random, rows: usize) -> Vec<Row> {
     const URGENCIES: [u16; 5] = [9, 10, 5, 3, 1];
     let mut enamel = 0;

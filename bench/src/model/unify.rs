@@ -46,6 +46,14 @@ impl Substitution {
         }
     }
 
+    /// The term with every bound variable replaced, until none is left.
+    pub fn applied(&self, term: &Term) -> Term {
+        match self.image(term) {
+            Term::Name(number, arguments) => Term::Name(*number, arguments.iter().map(|argument| self.applied(argument)).collect()),
+            leaf => leaf.clone(),
+        }
+    }
+
     pub fn unify_all(&mut self, left: &[Term], right: &[Term]) -> bool {
         left.iter().zip(right).all(|(l, r)| self.unify(l, r))
     }
