@@ -41,13 +41,6 @@ new-made m a A B h k =
     all-++ P A (upFrom m a ++ B) (more A h)
     (all-++ P (upFrom m a) B (all-each (λ (s : ℕ). (m ≤ s) × (s < m + a)) P (λ s k. k .1) (upFrom m a) (up-range m a)) (more B k))
 
--- a store that was still to be done
-pub store-next : (new fin xs ys : List ℕ) (j x : ℕ) → xs ≡ x ∷ ys → sets new j xs ≡ fin → sets (set new j x) (j + 1) ys ≡ fin
-store-next new fin xs ys j x e h = let f : j + 1 ≡ suc j = omega arith in rw f (ap (sets new j) (sym e) ∙ h)
-
-pub store-end : (new fin xs : List ℕ) (j : ℕ) → xs ≡ [] → sets new j xs ≡ fin → new ≡ fin
-store-end new fin xs j e h = ap (sets new j) (sym e) ∙ h
-
 -- Steps.
 
 pub steps-none : (sib : List ℕ) (a p : ℕ) → a ≡ 0 → steps sib a p ≡ []

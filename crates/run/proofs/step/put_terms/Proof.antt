@@ -6,7 +6,8 @@ use lib.ListN.{getD}
 use lib.Seq.{sets}
 use Rattle.table.specs.All.{All}
 use Rattle.walking.specs.code.Link.{steps, nodes}
-use Rattle.walking.proofs.ListLaws.{steps-all, nodes-more, nodes-none, store-next, store-end}
+use Rattle.term.proofs.Lists.{store-next, store-end}
+use Rattle.walking.proofs.ListLaws.{steps-all, nodes-more, nodes-none}
 use Rattle.run.proofs.step.put_terms.Statement.{statement}
 use Rattle.run.proofs.step.put_terms.Tie as tie
 

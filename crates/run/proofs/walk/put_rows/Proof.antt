@@ -5,7 +5,8 @@ use native.Mathlib.Omega.{arith}
 use lib.ListN.{length, length-set}
 use lib.Seq.{sets}
 use Rattle.table.specs.Table.{upFrom}
-use Rattle.walking.proofs.ListLaws.{up-none, up-more, store-next, store-end}
+use Rattle.term.proofs.Lists.{store-next, store-end}
+use Rattle.walking.proofs.ListLaws.{up-none, up-more}
 use Rattle.run.proofs.walk.put_rows.Statement.{statement}
 use Rattle.run.proofs.walk.put_rows.Tie as tie
 
