@@ -9,7 +9,7 @@ use lib.Dec.{eqb}
 use Rattle.refusal.specs.declared.Reason.{Reason}
 use Rattle.refusal.specs.declared.Reason.the-variants.{Length, Width, Count, Long, Short, Cell, Fresh, Twice}
 use Rattle.refusal.specs.declared.Reason.the-variants.{Extra, Size, Ends, Open, Edges, Label, Rows, Room}
-use Rattle.refusal.specs.declared.Reason.the-variants.{Bytes, Text, Other}
+use Rattle.refusal.specs.declared.Reason.the-variants.{Bytes, Text, Other, Figure}
 use Rattle.refusal.specs.declared.Input.{Input}
 use Rattle.refusal.specs.declared.Input.the-variants.{Table, Plan, Goal, Lent}
 use Rattle.refusal.specs.declared.Input.the-variants as input
@@ -42,6 +42,7 @@ reasons =
     ∷ Bytes
     ∷ Text
     ∷ Other
+    ∷ Figure
     ∷ []
 
 reasonAt : ℕ → Reason
@@ -68,9 +69,10 @@ reason-found Room = (refl, omega arith, omega arith)
 reason-found Bytes = (refl, omega arith, omega arith)
 reason-found Text = (refl, omega arith, omega arith)
 reason-found Other = (refl, omega arith, omega arith)
+reason-found Figure = (refl, omega arith, omega arith)
 
 inputs : List Input
-inputs = Table ∷ Plan ∷ Goal ∷ Lent ∷ input.Text ∷ []
+inputs = Table ∷ Plan ∷ Goal ∷ Lent ∷ input.Text ∷ input.Figure ∷ []
 
 inputAt : ℕ → Input
 inputAt = firstWith inputOf Table inputs
@@ -82,6 +84,7 @@ input-found Plan = (refl, omega arith)
 input-found Goal = (refl, omega arith)
 input-found Lent = (refl, omega arith)
 input-found input.Text = (refl, omega arith)
+input-found input.Figure = (refl, omega arith)
 
 -- so refusals that tell the same are the same
 found : Refused → Refusal

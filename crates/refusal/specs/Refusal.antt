@@ -3,13 +3,13 @@ use Prim.Native.Nat.{ℕ}
 use Rattle.refusal.specs.declared.Reason.{Reason}
 use Rattle.refusal.specs.declared.Reason.the-variants.{Length, Width, Count, Long, Short, Cell, Fresh, Twice}
 use Rattle.refusal.specs.declared.Reason.the-variants.{Extra, Size, Ends, Open, Edges, Label, Rows, Room}
-use Rattle.refusal.specs.declared.Reason.the-variants.{Bytes, Text, Other}
+use Rattle.refusal.specs.declared.Reason.the-variants.{Bytes, Text, Other, Figure}
 use Rattle.refusal.specs.declared.Input.{Input}
 use Rattle.refusal.specs.declared.Input.the-variants.{Table, Plan, Goal, Lent}
 use Rattle.refusal.specs.declared.Input.the-variants as input
 use Rattle.refusal.specs.declared.Refusal.{Refusal}
 
--- 01, the column "no." of the table of refusals, and W-201's after them
+-- 01, the column "no." of the table of refusals, and those of 02 after them: W-201's and W-204's
 abbrev pub numberOf : Reason → ℕ
 numberOf Length = 1
 numberOf Width = 2
@@ -30,14 +30,16 @@ numberOf Room = 16
 numberOf Bytes = 17
 numberOf Text = 18
 numberOf Other = 19
+numberOf Figure = 20
 
--- 01, "which input it concerns (table, plan, goal or lent room)", in that order, and then a text (02, W-201)
+-- 01, "which input it concerns (table, plan, goal or lent room)", in that order, and then a text and a figure (02, W-201 and W-204)
 abbrev pub inputOf : Input → ℕ
 inputOf Table = 1
 inputOf Plan = 2
 inputOf Goal = 3
 inputOf Lent = 4
 inputOf input.Text = 5
+inputOf input.Figure = 6
 
 -- 01, "A refusal returns its number, which input it concerns and a place"
 pub record Refused : Type 0 where

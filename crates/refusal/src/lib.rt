@@ -3,7 +3,7 @@ ghost use mathlib.Core.Path.{_≡_};
 ghost use Prim.Native.Nat.{_<_, _^_};
 ghost use Rattle.refusal.specs.Refusal.{numberOf, inputOf};
 
-// 01, "What is turned away", and 02, W-201, "BYTES; TEXT; OTHER": the names, in the order of their numbers.
+// 01, "What is turned away", and 02, W-201, "BYTES; TEXT; OTHER", W-204, "FIGURE": the names, in the order of their numbers.
 pub enum Reason {
     Length,
     Width,
@@ -24,15 +24,17 @@ pub enum Reason {
     Bytes,
     Text,
     Other,
+    Figure,
 }
 
-// 01, "which input it concerns (table, plan, goal or lent room)"; or a text (02, W-201).
+// 01, "which input it concerns (table, plan, goal or lent room)"; or a text (02, W-201), or a figure (W-204).
 pub enum Input {
     Table,
     Plan,
     Goal,
     Lent,
     Text,
+    Figure,
 }
 
 // What a refusal returns: its reason, by which it has 01's number, the input that it concerns, and a place.
@@ -67,6 +69,7 @@ pub fn number_of(reason: Reason) -> usize
         Reason::Bytes => 17,
         Reason::Text => 18,
         Reason::Other => 19,
+        Reason::Figure => 20,
     }
 }
 
@@ -80,5 +83,6 @@ pub fn input_of(input: Input) -> usize
         Input::Goal => 3,
         Input::Lent => 4,
         Input::Text => 5,
+        Input::Figure => 6,
     }
 }

@@ -10,7 +10,8 @@ use Rattle.table.specs.declared.GoalAnswer.{GoalAnswer}
 use Rattle.table.specs.declared.GoalAnswer.the-variants as goal-answer
 use Rattle.table.specs.declared.Part.{Part}
 use Rattle.refusal.specs.Refusal.{told}
-use Rattle.table.specs.Table.{tableOf, goalOf, goalWith, tableTold, goalTold, goalSays, rowIn, TableReads, RowPlace}
+use Rattle.refusal.specs.Read.{Read}
+use Rattle.table.specs.Table.{Table, tableOf, goalOf, goalWith, tableTold, goalTold, goalSays, rowIn, TableReads, RowPlace}
 use Rattle.refusal.proofs.RefusalLaws.{told-one}
 use Rattle.table.proofs.PartLaws.{part}
 
@@ -26,12 +27,16 @@ goalTold-one (goal-answer.Accepted w n) (goal-answer.Refused g) e = absurd (let 
 goalTold-one (goal-answer.Refused f) (goal-answer.Accepted u m) e = absurd (let z : _≡_ {A = ℕ} 0 1 = cc in omega arith)
 goalTold-one (goal-answer.Refused f) (goal-answer.Refused g) e = let q : told f ≡ told g = cc in ap goal-answer.Refused (told-one q)
 
--- read_table
-pub table-fixed : (t : List ℕ) {r s : TableRead} → TableReads (tableOf t) r → TableReads (tableOf t) s → r ≡ s
-table-fixed t {r} {s} p q = ap₂ table-read (tableTold-one (r .answer) (s .answer) (p .answer ∙ sym (q .answer))) (p .starts ∙ sym (q .starts))
+-- what is answered for a reading of a table
+pub reads-fixed : {x : Read Table} {r s : TableRead} → TableReads x r → TableReads x s → r ≡ s
+reads-fixed {r = r} {s} p q = ap₂ table-read (tableTold-one (r .answer) (s .answer) (p .answer ∙ sym (q .answer))) (p .starts ∙ sym (q .starts))
   where
     table-read : TableAnswer → List ℕ → TableRead
     table-read a n = record { answer = a; starts = n }
+
+-- read_table
+pub table-fixed : (t : List ℕ) {r s : TableRead} → TableReads (tableOf t) r → TableReads (tableOf t) s → r ≡ s
+table-fixed t p q = reads-fixed p q
 
 -- goal_for
 pub goal-for-fixed : (w : ℕ) (g : List ℕ) {r s : GoalAnswer} → goalTold r ≡ goalSays g (goalOf w g) → goalTold s ≡ goalSays g (goalOf w g) → r ≡ s
