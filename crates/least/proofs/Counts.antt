@@ -12,6 +12,7 @@ use Rattle.plan.specs.Runs.{Run, runs}
 use Rattle.plan.specs.Plans.{Measure}
 use Rattle.least.specs.Least.{Stuck, Least}
 use Rattle.least.specs.Entries.{between}
+use Rattle.least.specs.code.Pairs.{sums}
 use Rattle.least.proofs.Best.{LeastRuns, runs-nil, runs-cons}
 use Rattle.least.proofs.Closing.{closes-length, Closing, none-closed, one-closed, closes-least, closes-then, closes-part, confluent}
 use Rattle.least.proofs.Parts.{slice-slice, PartOf, Parts, group-parts, part-agree, part-proper}
@@ -47,11 +48,6 @@ run-closes {m} {k = k} {left} first end rows p o g x inside h q =
     let l : length left ≡ length (slice first end rows) = closes-length (x .closes) in
     rw (slice-slice first end o (o + length (g .rows)) rows (omega (arith, q .inside, q .some))) at
     (closes-then (closes-part o (o + length (g .rows)) (omega (arith, q .some)) (omega (arith, q .inside)) x) (one-closed p (g .cell) h (part-agree p o g left q) y₀))
-
--- the sum over some runs, the first of them from row j on, of a value for the run's first and last row
-abbrev pub sums : (ℕ → ℕ → ℕ) → ℕ → List Run → ℕ
-sums value j [] = 0
-sums value j (g ∷ gs) = value j (pred (j + length (g .rows))) + sums value (j + length (g .rows)) gs
 
 -- what a run of rows j to j′ adds to a state whose closed cells weigh a: what its rows agree on beyond that, its own branch with it, and its least cost
 abbrev pub adds : (agreed least : ℕ → ℕ → ℕ) → ℕ → ℕ → ℕ → ℕ

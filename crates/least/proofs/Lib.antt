@@ -10,9 +10,14 @@ pub mod Building
 pub mod Builder
 pub mod LeastPlan
 pub mod Examples
+pub mod WorkExamples
 -- what is kept for every pair of rows
 pub mod Scan
 pub mod Counts
 pub mod Pairs
 pub mod Suffixes
 pub mod ScanLaws
+-- the measures of the code, and what the arrays come to hold
+pub mod Measured
+pub mod Weighed
+pub mod Again

@@ -12,14 +12,15 @@ use Rattle.plan.specs.Plans.{Measure}
 use Rattle.plan.proofs.RunsLaws.{fits-more}
 use Rattle.plan.specs.code.Fits.{Fits}
 use Rattle.least.specs.code.Best.{argmin, firstOver, leastOver, through, best}
+use Rattle.least.specs.code.Pairs.{sums, closedOf, agreedOf}
 use Rattle.least.specs.Least.{Least, Chosen}
 use Rattle.least.specs.Entries.{between, Closes, stop, step, Entry, none, leaf, inner}
 use Rattle.least.proofs.Minimum.{argmin-first}
 use Rattle.table.proofs.AllLaws.{all-take, all-drop}
 use Rattle.least.proofs.Best.{best-least, least-one, LeastRuns, leaf-least, node-least}
 use Rattle.least.proofs.Closing.{closes-length, order-does-not-matter}
-use Rattle.least.proofs.Counts.{Solved, sums, adds, place-least, place-whole}
-use Rattle.least.proofs.Scan.{Scan, scan, Scanned, scan-closes, fits-agreed}
+use Rattle.least.proofs.Counts.{Solved, adds, place-least, place-whole}
+use Rattle.least.proofs.Scan.{Scanned, scan-closes, fits-agreed}
 use Rattle.least.proofs.Building.{chosen-one, chosen-cheapest}
 
 -- rows that fit still do when agreed places are closed
@@ -53,29 +54,21 @@ entry-one {m} (inner {others = k} {left = left} {count = n} {place = i} h l x s 
 
 -- rows of a table of width w, of at most n cells each
 module _ (m : Measure) (n w : ℕ) (rows : List (List ℕ)) where
-  -- the rows of a pair with all that they agree on closed
-  unfoldable pub closedOf : ℕ → ℕ → Scan
-  closedOf first last = scan m n 0 w (between first last rows)
-
-  -- what these rows agree on weighs so much
-  abbrev pub agreedOf : ℕ → ℕ → ℕ
-  agreedOf first last = (closedOf first last) .agreed
-
   -- the least cost from there
   unfoldable pub leastOf : ℕ → ℕ → ℕ
-  leastOf first last = best m n ((closedOf first last) .opens) ((closedOf first last) .left)
+  leastOf first last = best m n ((closedOf m n w rows first last) .opens) ((closedOf m n w rows first last) .left)
 
   -- what the branches of place p there cost: over its runs, the sum of what each adds
   unfoldable pub branchesOf : ℕ → ℕ → ℕ → ℕ
-  branchesOf first last p = sums (adds agreedOf leastOf (agreedOf first last)) first (runs p ((closedOf first last) .left))
+  branchesOf first last p = sums (adds (agreedOf m n w rows) leastOf (agreedOf m n w rows first last)) first (runs p ((closedOf m n w rows first last) .left))
 
   -- with the state's own figure
   abbrev pub costOf : ℕ → ℕ → ℕ → ℕ
-  costOf first last = through m ((closedOf first last) .left) (branchesOf first last)
+  costOf first last = through m ((closedOf m n w rows first last) .left) (branchesOf first last)
 
   -- the place that is taken there
   unfoldable pub placeOf : ℕ → ℕ → ℕ
-  placeOf first last = firstOver ((closedOf first last) .opens) (costOf first last)
+  placeOf first last = firstOver ((closedOf m n w rows first last) .opens) (costOf first last)
 
   module _ (fits : All (Fits n w) rows) where
     module _ (first last : ℕ) (order : first ≤ last) (inside : last < length rows) where
@@ -85,20 +78,20 @@ module _ (m : Measure) (n w : ℕ) (rows : List (List ℕ)) where
         omega (arith, length-slice first (suc last) rows inside),
       )
 
-      pub pair-closed : Scanned m w (between first last rows) (closedOf first last)
+      pub pair-closed : Scanned m w (between first last rows) (closedOf m n w rows first last)
       unfolding closedOf
       pair-closed = scan-closes m n w (between first last rows) (pair-state .0) (pair-state .1)
 
-      pair-counts : Least m ((closedOf first last) .opens) ((closedOf first last) .left) (leastOf first last)
+      pair-counts : Least m ((closedOf m n w rows first last) .opens) ((closedOf m n w rows first last) .left) (leastOf first last)
       unfolding leastOf
       pair-counts =
-          best-least m n ((closedOf first last) .opens) ((closedOf first last) .left) (closes-fit n (pair-closed .closes .closes) (pair-state .0))
+          best-least m n ((closedOf m n w rows first last) .opens) ((closedOf m n w rows first last) .left) (closes-fit n (pair-closed .closes .closes) (pair-state .0))
           (omega (arith, closes-length (pair-closed .closes .closes), pair-state .1))
 
-      pub pair-solved : Solved m w (between first last rows) (agreedOf first last) (leastOf first last)
+      pub pair-solved : Solved m w (between first last rows) (agreedOf m n w rows first last) (leastOf first last)
       pair-solved = record {
-        opens = (closedOf first last) .opens;
-        left = (closedOf first last) .left;
+        opens = (closedOf m n w rows first last) .opens;
+        left = (closedOf m n w rows first last) .left;
         closes = pair-closed .closes;
         stuck = pair-closed .stuck;
         counts = pair-counts;
@@ -106,37 +99,37 @@ module _ (m : Measure) (n w : ℕ) (rows : List (List ℕ)) where
 
     module _ (first last : ℕ) (order : first ≤ last) (inside : last < length rows) where
       -- what the branches of each place of the closed state cost at least
-      branches-least : (k : ℕ) → (closedOf first last) .opens ≡ suc k → (p : ℕ) → p ≤ k
-          → LeastRuns m k (runs p ((closedOf first last) .left)) (branchesOf first last p)
+      branches-least : (k : ℕ) → (closedOf m n w rows first last) .opens ≡ suc k → (p : ℕ) → p ≤ k
+          → LeastRuns m k (runs p ((closedOf m n w rows first last) .left)) (branchesOf first last p)
       unfolding branchesOf
       branches-least k e =
           let x = pair-closed first last order inside in
-          place-least w rows agreedOf leastOf first last (agreedOf first last) k ((closedOf first last) .left) inside
+          place-least w rows (agreedOf m n w rows) leastOf first last (agreedOf m n w rows first last) k ((closedOf m n w rows first last) .left) inside
           (rw e at (x .closes)) (rw e at (x .stuck)) (λ j j′ h h′ h″ l. pair-solved j j′ h′ (omega arith))
 
       -- and with what the pair's rows agree on, once for each run, what the runs' rows cost with nothing closed
-      pub branches-whole : (k : ℕ) → (closedOf first last) .opens ≡ suc k → (p : ℕ) → p ≤ k
-          → branchesOf first last p + length (runs p ((closedOf first last) .left)) * agreedOf first last
-          ≡ sums (λ (j j′ : ℕ). agreedOf j j′ + leastOf j j′) first (runs p ((closedOf first last) .left))
+      pub branches-whole : (k : ℕ) → (closedOf m n w rows first last) .opens ≡ suc k → (p : ℕ) → p ≤ k
+          → branchesOf first last p + length (runs p ((closedOf m n w rows first last) .left)) * agreedOf m n w rows first last
+          ≡ sums (λ (j j′ : ℕ). agreedOf m n w rows j j′ + leastOf j j′) first (runs p ((closedOf m n w rows first last) .left))
       unfolding branchesOf
       branches-whole k e =
           let x = pair-closed first last order inside in
-          place-whole w rows agreedOf leastOf first last (agreedOf first last) k ((closedOf first last) .left) inside
+          place-whole w rows (agreedOf m n w rows) leastOf first last (agreedOf m n w rows first last) k ((closedOf m n w rows first last) .left) inside
           (rw e at (x .closes)) (rw e at (x .stuck)) (λ j j′ h h′ h″ l. pair-solved j j′ h′ (omega arith))
 
       -- THE EQUATION OF LEAST COUNTS, for every pair of first and last row
-      pub equation : leastOf first last ≡ leastOver ((closedOf first last) .opens) (costOf first last)
-      equation = go ((closedOf first last) .opens) refl
+      pub equation : leastOf first last ≡ leastOver ((closedOf m n w rows first last) .opens) (costOf first last)
+      equation = go ((closedOf m n w rows first last) .opens) refl
         where
-          go : (K : ℕ) → (closedOf first last) .opens ≡ K → leastOf first last ≡ leastOver K (costOf first last)
-          go zero e = least-one (rw e at (pair-counts first last order inside)) (leaf-least m ((closedOf first last) .left))
+          go : (K : ℕ) → (closedOf m n w rows first last) .opens ≡ K → leastOf first last ≡ leastOver K (costOf first last)
+          go zero e = least-one (rw e at (pair-counts first last order inside)) (leaf-least m ((closedOf m n w rows first last) .left))
           go (suc k) e =
               least-one (rw e at (pair-counts first last order inside))
-              (node-least m k ((closedOf first last) .left) (branchesOf first last) (branches-least k e))
+              (node-least m k ((closedOf m n w rows first last) .left) (branchesOf first last) (branches-least k e))
 
       -- and the place is the rule's
-      place-chosen : (k : ℕ) → (closedOf first last) .opens ≡ suc k
-          → (argmin k (costOf first last) ≤ k) × Chosen m k ((closedOf first last) .left) (argmin k (costOf first last))
+      place-chosen : (k : ℕ) → (closedOf m n w rows first last) .opens ≡ suc k
+          → (argmin k (costOf first last) ≤ k) × Chosen m k ((closedOf m n w rows first last) .left) (argmin k (costOf first last))
       place-chosen k e =
           let a = argmin-first k (costOf first last) in
           (a .within, chosen-cheapest m (branchesOf first last) (branches-least k e) (rw e at (pair-closed first last order inside .stuck)) a)
@@ -144,9 +137,9 @@ module _ (m : Measure) (n w : ℕ) (rows : List (List ℕ)) where
       -- so these are the pair's entry
       pub pair-entry : Entry m w rows first last (leastOf first last) (placeOf first last)
       unfolding placeOf
-      pair-entry = go ((closedOf first last) .opens) refl equation
+      pair-entry = go ((closedOf m n w rows first last) .opens) refl equation
         where
-          go : (K : ℕ) → (closedOf first last) .opens ≡ K → leastOf first last ≡ leastOver K (costOf first last)
+          go : (K : ℕ) → (closedOf m n w rows first last) .opens ≡ K → leastOf first last ≡ leastOver K (costOf first last)
               → Entry m w rows first last (leastOf first last) (firstOver K (costOf first last))
           go zero e q = rw q (leaf order inside (rw e at (pair-closed first last order inside .closes .closes)))
           go (suc k) e q =

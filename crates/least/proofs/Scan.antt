@@ -18,34 +18,10 @@ use Rattle.plan.specs.Plans.{Measure}
 use Rattle.plan.proofs.RunsLaws.{fits-close}
 use Rattle.plan.specs.code.Fits.{Fits}
 use Rattle.least.specs.Least.{Agree, Stuck}
+use Rattle.least.specs.code.Pairs.{Scan, found, plus, oneRun, scan}
 use Rattle.table.proofs.AllLaws.{all-map, all-both, all-unmap}
 use Rattle.least.proofs.Closing.{Closing, none-closed, one-closed}
 use Rattle.least.proofs.Agreed.{run-agrees, run-is, no-run}
-
--- what a scan has found: what the closed cells weigh, the open places left, and the rows
-pub record Scan : Type 0 where
-  pub agreed : ℕ
-  pub opens : ℕ
-  pub left : List (List ℕ)
-
-abbrev pub found : ℕ → ℕ → List (List ℕ) → Scan
-found a k rows = record { agreed = a; opens = k; left = rows }
-
-abbrev pub plus : ℕ → Scan → Scan
-plus w s = found (w + s .agreed) (s .opens) (s .left)
-
--- by whether there is one run
-abbrev pub oneRun : {A : Type 0} → List Run → (Run → A) → A → A
-oneRun [] f x = x
-oneRun (g ∷ []) f x = f g
-oneRun (g ∷ (h ∷ gs)) f x = x
-
--- from place i on, where r places are still to be looked at; the first number bounds the cells still to be looked at
-unfoldable pub scan : Measure → ℕ → ℕ → ℕ → List (List ℕ) → Scan
-scan m zero i r rows = found 0 i rows
-scan m (suc n) i zero rows = found 0 i rows
-scan m (suc n) i (suc r) rows =
-    oneRun (runs i rows) (λ (g : Run). plus (m .weight (g .cell)) (scan m n i (arity (g .cell) + r) (g .rows))) (scan m n (suc i) r rows)
 
 pub record Scanned (m : Measure) (k : ℕ) (rows : List (List ℕ)) (s : Scan) : Type 0 where
   pub closes : Closing m (s .agreed) k rows (s .opens) (s .left)

@@ -12,8 +12,7 @@ use Rattle.plan.specs.Runs.{Run, runs}
 use Rattle.plan.specs.Plans.{Measure}
 use Rattle.plan.proofs.RunsLaws.{mapRuns, group-map}
 use Rattle.least.proofs.Agreed.{run-is}
-use Rattle.least.proofs.Counts.{sums}
-use Rattle.least.proofs.Scan.{plus, oneRun, scan}
+use Rattle.least.specs.code.Pairs.{plus, oneRun, scan, sums}
 
 -- how many rows each run has
 abbrev pub sizes : List Run → List ℕ

@@ -8,7 +8,7 @@ use lib.ListN.{length, getD}
 use lib.Seq.{slice}
 use Rattle.cell.specs.Cell.{arity}
 use Rattle.term.specs.Terms.{close}
-use Rattle.plan.specs.Plans.{Measure, plain}
+use Rattle.plan.specs.Plans.{Measure}
 use Rattle.least.specs.Least.{Agree, Stuck, Least, Chosen}
 
 -- the rows from the first to the last, both taken
@@ -33,7 +33,7 @@ pub data Entry (measure : Measure) (width : ℕ) (rows : List (List ℕ)) (first
       → place ≤ others → Chosen measure others left place → Entry measure width rows first last count place
 
 -- the arrays, indexed by 64 times the first row and the last: an entry for every pair of numbers below 64
-pub record Entries (width : ℕ) (rows : List (List ℕ)) (cost place : List ℕ) : Type 0 where
+pub record Entries (measure : Measure) (width : ℕ) (rows : List (List ℕ)) (cost place : List ℕ) : Type 0 where
   pub size : (length cost ≡ 4096) × (length place ≡ 4096)
   pub entry : (first last : ℕ) → first < 64 → last < 64
-      → Entry plain width rows first last (getD cost (64 * first + last) 0) (getD place (64 * first + last) 0)
+      → Entry measure width rows first last (getD cost (64 * first + last) 0) (getD place (64 * first + last) 0)

@@ -1,3 +1,4 @@
 pub mod Least
+pub mod Measures
 pub mod Entries
 pub mod code

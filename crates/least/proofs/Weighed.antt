@@ -1,0 +1,71 @@
+-- What a plan costs by a measure with small weights and a small figure, from its number of branches; and what an open place of a state adds
+-- at which nothing is agreed.
+use mathlib.Core.Path.{_≡_, refl, ap}
+use mathlib.Core.Bool.{Bool, true, false, cond}
+use mathlib.Core.List.{List, []}
+use Prim.Native.Nat.{ℕ, zero, suc, _+_, _*_, _≤_, _<_}
+use native.Mathlib.Omega.{arith}
+use native.Mathlib.Nat.{mul-add}
+use lib.Dec.{leb}
+use lib.ListN.{length}
+use borrow.Author.Tests.{leb-true, le-leb}
+use Rattle.cell.specs.Cell.{arity, isVar}
+use Rattle.cell.proofs.CellLaws.{arity-small}
+use Rattle.term.specs.Terms.{root, close}
+use Rattle.plan.specs.Runs.{Run, runs}
+use Rattle.plan.specs.Plans.{Plan, leaf, node, Branches, end, next, branches, branchesIn, Measure, plain, choice, cost, costs}
+use Rattle.plan.proofs.RunsLaws.{group-some}
+use Rattle.least.specs.Least.{Stuck}
+use Rattle.least.specs.Measures.{workOf, work, measureOf}
+use Rattle.least.specs.code.Low.{Low}
+use Rattle.least.specs.declared.By.{By}
+use Rattle.least.specs.declared.By.the-variants as by
+use Rattle.least.proofs.Agreed.{one-agrees}
+
+plain-low : Low plain
+plain-low = record { weight = λ c. omega arith; figure = omega arith }
+
+work-small : (c : ℕ) → workOf c ≤ 5
+unfolding workOf
+work-small c = go (isVar c)
+  where
+    go : (b : Bool) → cond b 0 (suc (arity c)) ≤ 5
+    go true = omega arith
+    go false = omega (arith, arity-small c)
+
+work-low : (f : ℕ) → f ≤ 15 → Low (work f)
+work-low f h = record { weight = work-small; figure = h }
+
+-- each measure that is asked for, where the figure is not refused
+pub by-low : (b : By) → measureOf b .figure ≤ 15 → Low (measureOf b)
+by-low by.Branches h = plain-low
+by-low (by.Work f) h = work-low f h
+
+module _ (m : Measure) (l : Low m) where
+  choice-few : (n : ℕ) → choice m n ≤ 15 * n
+  choice-few n = go (leb 2 n) refl
+    where
+      go : (b : Bool) → leb 2 n ≡ b → cond b (m .figure) 0 ≤ 15 * n
+      go true e = omega (arith, l .figure, leb-true 2 n e)
+      go false e = omega arith
+
+  mutual
+    unfolding cost branches
+
+    -- so 2,048 branches cost at most 40,960
+    pub cost-few : {k : ℕ} {rows : List (List ℕ)} (p : Plan k rows) → cost m p ≤ 20 * branches p
+    cost-few leaf = omega arith
+    cost-few (node {rows = rows} i h bs) = omega (arith, choice-few (length (runs i rows)), costs-few bs)
+
+    costs-few : {k : ℕ} {gs : List Run} (bs : Branches k gs) → costs m bs + 15 * length gs ≤ 20 * branchesIn bs
+    costs-few end = omega arith
+    costs-few (next {g = g} p bs) = omega (arith, l .weight (g .cell), cost-few p, costs-few bs)
+
+-- at a state at which nothing is agreed every open place has several runs, so that each adds the figure
+pub choice-stuck : (m : Measure) (k i : ℕ) (rows : List (List ℕ)) → 0 < length rows → Stuck k rows → i < k → choice m (length (runs i rows)) ≡ m .figure
+choice-stuck m k i rows h s l = go (length (runs i rows)) refl
+  where
+    go : (n : ℕ) → length (runs i rows) ≡ n → choice m n ≡ m .figure
+    go zero e = absurd (omega (arith, group-some (root i) (close i) rows h))
+    go (suc zero) e = absurd (let g = one-agrees i rows e in s i (g .0) l (g .1))
+    go (suc (suc n)) e = let q : leb 2 (suc (suc n)) ≡ true = le-leb 2 (suc (suc n)) (omega arith) in rw q
