@@ -1,280 +1,341 @@
--- The arrays are filled pair by pair: one pair more, the pairs of one first row, and all of them.
-use mathlib.Core.Path.{_≡_, refl, ap, _∙_}
+-- The array is filled pair by pair: one pair more, the pairs of one last row, and all of them.
+use mathlib.Core.Path.{_≡_, refl, sym, ap, _∙_}
 use mathlib.Core.Logic.{_≢_, _⊎_, inl, inr}
 use mathlib.Core.Bool.{Bool, true, false}
-use mathlib.Core.List.{List, [], _∷_, _++_}
-use Prim.Native.Nat.{ℕ, suc, _+_, _-_, _*_, _≤_, _<_}
+use mathlib.Core.List.{List, [], _∷_}
+use Prim.Native.Nat.{ℕ, suc, _+_, _-_, _*_, _≤_, _<_, min}
 use native.Mathlib.Omega.{arith}
 use native.Mathlib.Numerals.{add-one}
-use lib.ListN.{length, getD, length-set}
-use lib.Seq.{slice, length-slice, getD-set-same, getD-set-other, slice-empty}
-use lib.Dec.{eqb}
-use borrow.Author.Tests.{eqb-true, eqb-false, lt-ltb}
+use lib.ListN.{length, getD, set, length-set}
+use lib.Seq.{slice, slice-cons, length-slice, getD-set-same, getD-set-other, slice-empty}
+use lib.Dec.{eqb, leb, ltb}
+use borrow.Author.Tests.{eqb-true, eqb-false, leb-true, leb-false, ltb-true, ltb-false, lt-ltb}
 use Rattle.term.specs.Terms.{Terms}
-use Rattle.plan.specs.Plans.{plain}
 use Rattle.plan.specs.code.Fits.{Fits}
-use Rattle.least.specs.Entries.{between}
-use Rattle.entries.specs.Fill.{Arrays, EntryAt, SameAt, SameSize, Filled}
-use Rattle.entries.specs.code.Notes.{noteIn, inWhole, Noted, Ended, NextRow, RowNoted, Alone}
-use Rattle.entries.specs.code.Filling.{wholeOf, stopOf, Laid, PairAt, Keeps, Done, FilledTo, Ready, RowHere, Kept, RowsDone, FirstAt, Rows}
 use Rattle.table.proofs.AllLaws.{all-at}
-use Rattle.least.proofs.Best.{best-least}
-use Rattle.least.proofs.Pairs.{pair-state}
+use Rattle.least.specs.code.Pairs.{agreedOf, leastBy, placeBy, wholeBy}
+use Rattle.entries.specs.declared.arrays.Asked.{Asked}
+use Rattle.entries.specs.declared.arrays.Row.{Row}
+use Rattle.entries.specs.Fill.{wholeIn, costIn, placeIn, SameAt}
+use Rattle.entries.specs.code.Notes.{noteIn, readIn, Noted, NextRow, RowNoted, Alone}
+use Rattle.entries.specs.code.Filling.{stopOf, rowOf, PairAt, putPair, Keeps, KeepsBefore, keeps, passes, Task, Worked}
+use Rattle.entries.specs.code.Filling.{Stands, worked, left, FilledTo, RowHere, NotedTo, LastAt, Finished}
 use Rattle.entries.proofs.NotedLaws.{noted-alone}
-use Rattle.entries.proofs.PairNotes.{between-last, whole-small}
 
--- two pairs are one, or they stand at different places
-data Pairs (first last j j′ : ℕ) : Type 0 where
-  one : j ≡ first → j′ ≡ last → Pairs first last j j′
-  two : (64 * j + j′ ≢ 64 * first + last) → Pairs first last j j′
+-- the three values that are put for one pair: they are there, and for every other pair what was there
+data Where (kept : List ℕ) (first last u v w j j′ : ℕ) : Type 0 where
+  here : j ≡ first → j′ ≡ last → wholeIn (putPair kept (64 * first + last) u v w) j j′ ≡ u → costIn (putPair kept (64 * first + last) u v w) j j′ ≡ v
+      → placeIn (putPair kept (64 * first + last) u v w) j j′ ≡ w → Where kept first last u v w j j′
+  there : (64 * j + j′ ≢ 64 * first + last) → SameAt j j′ kept (putPair kept (64 * first + last) u v w) → Where kept first last u v w j j′
 
-pairs : (first last j j′ : ℕ) → last < 64 → j′ < 64 → Pairs first last j j′
-pairs first last j j′ hl hj = go (eqb (64 * j + j′) (64 * first + last)) refl
+module _ (kept : List ℕ) (p u v w : ℕ) (room : length kept ≡ 12288) (low : p < 4096) where
+  abbrev one : List ℕ
+  one = set kept p u
+
+  abbrev two : List ℕ
+  two = set one (4096 + p) v
+
+  put-same : (getD (putPair kept p u v w) p 0 ≡ u) × (getD (putPair kept p u v w) (4096 + p) 0 ≡ v) × (getD (putPair kept p u v w) (8192 + p) 0 ≡ w)
+  put-same =
+      let l₁ : length one ≡ 12288 = length-set kept p u ∙ room in
+      let l₂ : length two ≡ 12288 = length-set one (4096 + p) v ∙ l₁ in (
+        getD-set-other two (8192 + p) p w 0 (λ e. omega arith) ∙ getD-set-other one (4096 + p) p v 0 (λ e. omega arith) ∙ getD-set-same kept p u 0 (omega arith),
+        getD-set-other two (8192 + p) (4096 + p) w 0 (λ e. omega arith) ∙ getD-set-same one (4096 + p) v 0 (omega arith),
+        getD-set-same two (8192 + p) w 0 (omega arith),
+      )
+
+  put-elsewhere : (k : ℕ) → k ≢ p → k ≢ 4096 + p → k ≢ 8192 + p → getD (putPair kept p u v w) k 0 ≡ getD kept k 0
+  put-elsewhere k a b c = getD-set-other two (8192 + p) k w 0 c ∙ getD-set-other one (4096 + p) k v 0 b ∙ getD-set-other kept p k u 0 a
+
+where-is : (kept : List ℕ) (first last u v w j j′ : ℕ) → length kept ≡ 12288 → first < 64 → last < 64 → j < 64 → j′ < 64 → Where kept first last u v w j j′
+where-is kept first last u v w j j′ l hf hl hj hj′ = go (eqb (64 * j + j′) (64 * first + last)) refl
   where
-    go : (b : Bool) → eqb (64 * j + j′) (64 * first + last) ≡ b → Pairs first last j j′
-    go true e = let q : 64 * j + j′ ≡ 64 * first + last = eqb-true (64 * j + j′) (64 * first + last) e in one (omega arith) (omega arith)
-    go false e = two (eqb-false (64 * j + j′) (64 * first + last) e)
+    go : (b : Bool) → eqb (64 * j + j′) (64 * first + last) ≡ b → Where kept first last u v w j j′
+    go true e =
+        let q : 64 * j + j′ ≡ 64 * first + last = eqb-true (64 * j + j′) (64 * first + last) e in
+        let s = put-same kept (64 * first + last) u v w l (omega arith) in
+        here (omega arith) (omega arith) (rw q (s .0)) (rw q (s .1)) (rw q (s .2))
+    go false e =
+        let q : 64 * j + j′ ≢ 64 * first + last = eqb-false (64 * j + j′) (64 * first + last) e in
+        let s = put-elsewhere kept (64 * first + last) u v w l (omega arith) in
+        there q (record {
+          whole = s (64 * j + j′) q (λ r. omega arith) (λ r. omega arith);
+          cost = s (4096 + (64 * j + j′)) (λ r. omega arith) (λ r. q (omega arith)) (λ r. omega arith);
+          place = s (8192 + (64 * j + j′)) (λ r. omega arith) (λ r. omega arith) (λ r. q (omega arith));
+        })
 
--- one pair more
-module _ {w : ℕ} {rows : List (List ℕ)} {lent : Arrays} {first last : ℕ} {a b : Arrays} (f : FilledTo w rows lent first last a)
-    (k : Keeps w rows first last a b) (order : first ≤ last) (inside : last < length rows) (few : length rows ≤ 64) where
-  earlier : (j j′ : ℕ) → (64 * j + j′ ≢ 64 * first + last) → Done first (suc last) j j′ → Done first last j j′
-  earlier j j′ n (inl h) = inl h
-  earlier j j′ n (inr h) = inr (h .0, omega (arith, n, h .0, h .1))
+-- which of two is so
+data Either (j j′ top since : ℕ) : Type 0 where
+  again-pair : j < top → since ≤ j′ → Either j j′ top since
+  kept-pair : (top ≤ j) ⊎ (j′ < since) → Either j j′ top since
 
-  same-elsewhere : (j j′ : ℕ) → (64 * j + j′ ≢ 64 * first + last) → SameAt j j′ a b
-  same-elsewhere j j′ n = record {
-    whole = rw (k .whole) (getD-set-other (a .whole) (64 * first + last) (64 * j + j′) (wholeOf w rows first last) 0 n);
-    cost = rw (k .cost) (getD-set-other (a .cost) (64 * first + last) (64 * j + j′) (k .count) 0 n);
-    place = rw (k .place) (getD-set-other (a .place) (64 * first + last) (64 * j + j′) (k .chosen) 0 n);
-  }
+either : (j j′ top since : ℕ) → Either j j′ top since
+either j j′ top since = go (ltb j top) refl
+  where
+    end : (b : Bool) → leb since j′ ≡ b → j < top → Either j j′ top since
+    end true e h = again-pair h (leb-true since j′ e)
+    end false e h = kept-pair (inr (leb-false since j′ e))
 
-  same-size : SameSize a b
-  same-size = record {
-    whole = ap length (k .whole) ∙ length-set (a .whole) (64 * first + last) (wholeOf w rows first last);
-    cost = ap length (k .cost) ∙ length-set (a .cost) (64 * first + last) (k .count);
-    place = ap length (k .place) ∙ length-set (a .place) (64 * first + last) (k .chosen);
-  }
+    go : (b : Bool) → ltb j top ≡ b → Either j j′ top since
+    go true e = end (leb since j′) refl (ltb-true j top e)
+    go false e = kept-pair (inl (ltb-false j top e))
 
-  whole-here : inWhole (b .whole) first last ≡ wholeOf w rows first last
-  whole-here = rw (k .whole) (getD-set-same (a .whole) (64 * first + last) (wholeOf w rows first last) 0 (omega (arith, f .size .whole, f .room .0)))
+module _ {cells marks starts : List ℕ} {asked : Asked} {old : List ℕ} (t : Task cells marks starts asked old) where
+  abbrev Done : ℕ → ℕ → ℕ → ℕ → Type 0
+  Done first last j j′ = Worked (length (t .rows)) asked first last j j′
 
-  entry-here : EntryAt w rows first last (b .cost) (b .place)
-  entry-here =
-      let p : getD (b .place) (64 * first + last) 0 ≡ k .chosen =
-      rw (k .place) (getD-set-same (a .place) (64 * first + last) (k .chosen) 0 (omega (arith, f .size .place, f .room .1))) in
-      record {
-        count = k .count;
-        entry = rw p (k .entry);
-        kept = λ h. rw (k .cost) (getD-set-same (a .cost) (64 * first + last) (k .count) 0 (omega (arith, same-size .cost)));
-      }
+  few : length (t .rows) ≤ 64
+  few = omega (arith, t .laid .number, t .laid .few)
 
-  filled-keep : FilledTo w rows lent first (suc last) b
-  filled-keep = record {
-    whole = λ j j′ h l d. whole j j′ h l d (pairs first last j j′ (omega arith) (omega arith));
-    entry = λ j j′ h l d. entry j j′ h l d (pairs first last j j′ (omega arith) (omega arith));
-    other = λ j j′ l o. other j j′ l o (pairs first last j j′ (omega arith) l);
-    size = record {
-      whole = same-size .whole ∙ f .size .whole;
-      cost = same-size .cost ∙ f .size .cost;
-      place = same-size .place ∙ f .size .place;
-    };
-    room = f .room;
-  }
+  done-as : {first last first′ last′ j j′ : ℕ} → (x : Done first last j j′) → (j′ < last′) ⊎ ((j′ ≡ last′) × (first′ ≤ j)) → Done first′ last′ j j′
+  done-as x d = record { order = x .order; inside = x .inside; begins = x .begins; ends = x .ends; done = d }
+
+  stands-map : {first last first′ last′ : ℕ} {a : List ℕ} {j j′ : ℕ} → (Done first last j j′ → Done first′ last′ j j′) → (Done first′ last′ j j′ → Done first last j j′)
+      → Stands t first last a j j′ → Stands t first′ last′ a j j′
+  stands-map f g (worked w e c p) = worked (f w) e c p
+  stands-map f g (left w e) = left (λ x. w (g x)) e
+
+  -- nothing is worked out yet
+  pub filled-start : FilledTo t (suc (asked .since)) (asked .since) old
+  filled-start = record { each = λ j j′ h h′. left (λ x. early j j′ x (x .done)) (record { whole = refl; cost = refl; place = refl }); room = t .room }
     where
-      whole : (j j′ : ℕ) → j ≤ j′ → j′ < length rows → Done first (suc last) j j′ → Pairs first last j j′ → inWhole (b .whole) j j′ ≡ wholeOf w rows j j′
-      whole j j′ h l d (one e e′) = rw (e, e′) whole-here
-      whole j j′ h l d (two n) = same-elsewhere j j′ n .whole ∙ f .whole j j′ h l (earlier j j′ n d)
+      early : (j j′ : ℕ) → Done (suc (asked .since)) (asked .since) j j′ → (j′ < asked .since) ⊎ ((j′ ≡ asked .since) × (suc (asked .since) ≤ j)) → ⊥
+      early j j′ x (inl d) = omega (arith, x .ends)
+      early j j′ x (inr d) = omega (arith, x .order, d .0, d .1)
 
-      entry : (j j′ : ℕ) → j ≤ j′ → j′ < length rows → Done first (suc last) j j′ → Pairs first last j j′ → EntryAt w rows j j′ (b .cost) (b .place)
-      entry j j′ h l d (one e e′) = rw (e, e′) entry-here
-      entry j j′ h l d (two n) =
-          let x = f .entry j j′ h l (earlier j j′ n d) in
-          let s = same-elsewhere j j′ n in
-          record { count = x .count; entry = rw (s .place) (x .entry); kept = λ q. s .cost ∙ x .kept (omega (arith, same-size .cost)) }
+  -- the pairs that end at a row, and then those that end at the next
+  pub filled-after : {last : ℕ} {a : List ℕ} → FilledTo t 0 last a → FilledTo t (suc (suc last)) (suc last) a
+  filled-after {last} {a} f = record { each = λ j j′ h h′. stands-map (λ x. done-as x (to (x .done))) (λ x. done-as x (back x (x .done))) (f .each j j′ h h′); room = f .room }
+    where
+      to : {j j′ : ℕ} → (j′ < last) ⊎ ((j′ ≡ last) × (0 ≤ j)) → (j′ < suc last) ⊎ ((j′ ≡ suc last) × (suc (suc last) ≤ j))
+      to (inl d) = inl (omega arith)
+      to (inr d) = inl (omega (arith, d .0))
 
-      other : (j j′ : ℕ) → j′ < 64 → (j′ < j) ⊎ (length rows ≤ j′) → Pairs first last j j′ → SameAt j j′ lent b
-      other j j′ l (inl o) (one e e′) = absurd (omega arith)
-      other j j′ l (inr o) (one e e′) = absurd (omega arith)
-      other j j′ l o (two n) =
-          let s = same-elsewhere j j′ n in
-          let t = f .other j j′ l o in
-          record { whole = s .whole ∙ t .whole; cost = s .cost ∙ t .cost; place = s .place ∙ t .place }
+      at : (j j′ : ℕ) → j′ < suc last → (b : Bool) → eqb j′ last ≡ b → (j′ < last) ⊎ ((j′ ≡ last) × (0 ≤ j))
+      at j j′ h true e = inr (eqb-true j′ last e, omega arith)
+      at j j′ h false e = let z : j′ ≢ last = eqb-false j′ last e in inl (omega (arith, z))
 
--- the pairs of later first rows, and then those of this one
-filled-before : {w : ℕ} {rows : List (List ℕ)} {lent : Arrays} {first count : ℕ} {a : Arrays} → length rows ≡ count → FilledTo w rows lent (suc first) count a
-    → FilledTo w rows lent first first a
-filled-before {first = first} {count} l f = record {
-  whole = λ j j′ h m d. f .whole j j′ h m (later j j′ h (omega arith) d);
-  entry = λ j j′ h m d. f .entry j j′ h m (later j j′ h (omega arith) d);
-  other = f .other;
-  size = f .size;
-  room = f .room;
-}
-  where
-    next : (j j′ : ℕ) → first < j → j′ < count → (b : Bool) → eqb j (suc first) ≡ b → Done (suc first) count j j′
-    next j j′ h m true e = inr (eqb-true j (suc first) e, m)
-    next j j′ h m false e = let n : j ≢ suc first = eqb-false j (suc first) e in inl (omega (arith, n))
+      back : {j j′ : ℕ} → Done (suc (suc last)) (suc last) j j′ → (j′ < suc last) ⊎ ((j′ ≡ suc last) × (suc (suc last) ≤ j)) → (j′ < last) ⊎ ((j′ ≡ last) × (0 ≤ j))
+      back {j} {j′} x (inl d) = at j j′ d (eqb j′ last) refl
+      back {j} {j′} x (inr d) = absurd (omega (arith, d .0, d .1, x .order))
 
-    later : (j j′ : ℕ) → j ≤ j′ → j′ < count → Done first first j j′ → Done (suc first) count j j′
-    later j j′ h m (inl d) = next j j′ d m (eqb j (suc first)) refl
-    later j j′ h m (inr d) = absurd (omega (arith, d .0, d .1))
+  -- what is read at a pair that is done, or kept
+  pub whole-there : {first last : ℕ} {a : List ℕ} → FilledTo t first last a → (j j′ : ℕ) → j ≤ j′ → j′ < length (t .rows) → (j′ < last) ⊎ ((j′ ≡ last) × (first ≤ j))
+      → readIn a j j′ ≡ t .N j j′
+  whole-there {first} {last} {a} f j j′ h l d = go (f .each j j′ (omega (arith, few)) (omega (arith, few)))
+    where
+      stays : (Done first last j j′ → ⊥) → Either j j′ (asked .top) (asked .since) → t .N j j′ ≡ readIn old j j′
+      stays w (again-pair b e) = absurd (w (record { order = h; inside = l; begins = b; ends = e; done = d }))
+      stays w (kept-pair o) = t .known j j′ h l o
 
-module _ {cells ends starts : List ℕ} {count first w : ℕ} {rows : List (List ℕ)} (g : Ready cells ends starts count first w rows) where
-  abbrev W : ℕ → ℕ → ℕ
-  W = wholeOf w rows
+      go : Stands t first last a j j′ → readIn a j j′ ≡ t .N j j′
+      go (worked w e c p) = e
+      go (left w e) = ap (λ (x : ℕ). min x 65535) (e .whole) ∙ sym (stays w (either j j′ (asked .top) (asked .since)))
 
-  pub row-part : {last old new : ℕ} → RowHere cells starts count first last old new → getD rows last [] ≡ slice old new cells
-  row-part {last} h = rw (h .old-is, h .new-is) (g .laid .row last (h .inside))
+  -- one pair more
+  module _ {first last : ℕ} {a : List ℕ} (f : FilledTo t (suc first) last a) (order : first ≤ last) (inside : last < length (t .rows)) (late : asked .since ≤ last) where
+    later : {j j′ : ℕ} → Done (suc first) last j j′ → Done first last j j′
+    later {j} {j′} x = done-as x (go (x .done))
+      where
+        go : (j′ < last) ⊎ ((j′ ≡ last) × (suc first ≤ j)) → (j′ < last) ⊎ ((j′ ≡ last) × (first ≤ j))
+        go (inl d) = inl d
+        go (inr d) = inr (d .0, omega (arith, d .1))
 
-  pub row-bounds : {last old new : ℕ} → RowHere cells starts count first last old new → (old ≤ new) × (new ≤ length cells)
-  row-bounds {last} h = rw (h .old-is, h .new-is) (g .laid .order last (h .inside))
+    earlier : {j j′ : ℕ} → ((j ≡ first) → (j′ ≡ last) → ⊥) → Done first last j j′ → Done (suc first) last j j′
+    earlier {j} {j′} ne x = done-as x (go (x .done))
+      where
+        above : j′ ≡ last → first ≤ j → (q : Bool) → eqb j first ≡ q → suc first ≤ j
+        above e l true q = absurd (ne (eqb-true j first q) e)
+        above e l false q = let z : j ≢ first = eqb-false j first q in omega (arith, z)
 
-  pub row-terms : {last old new : ℕ} → RowHere cells starts count first last old new → Terms w (slice old new cells)
-  row-terms {last} h = rw (row-part h) at (all-at (Fits 32 w) [] rows last (omega (arith, g .laid .number, h .inside)) (g .laid .fits) .0)
+        go : (j′ < last) ⊎ ((j′ ≡ last) × (first ≤ j)) → (j′ < last) ⊎ ((j′ ≡ last) × (suc first ≤ j))
+        go (inl d) = inl d
+        go (inr d) = inr (d .0, above (d .0) (d .1) (eqb j first) refl)
 
-  -- a row is noted, and the pairs before its own are done
-  pub record NotedAt (lent : Arrays) (last old new : ℕ) (notes : List ℕ) (a : Arrays) : Type 0 where
-    pub row : RowHere cells starts count first last old new
-    pub noted : Noted W first (noteIn notes) old w (slice first last rows) (getD rows last [])
-    pub filled : FilledTo w rows lent first last a
-    pub room : length notes ≡ 6150
+    filled-pass : {b : List ℕ} → asked .top ≤ first → b ≡ a → FilledTo t first last b
+    filled-pass h e = rw e (record { each = λ j j′ u v. pass (f .each j j′ u v); room = f .room })
+      where
+        pass : {j j′ : ℕ} → Stands t (suc first) last a j j′ → Stands t first last a j j′
+        pass (worked w e c p) = worked (later w) e c p
+        pass (left w e) = left (λ x. w (earlier (λ q q′. omega (arith, x .begins)) x)) e
 
-  first-here : (old new : ℕ) → old ≡ getD starts first 0 → new ≡ stopOf cells starts count first → RowHere cells starts count first first old new
-  first-here old new eo en = record { order = omega arith; inside = g .inside; old-is = eo; new-is = en }
+    abbrev u : ℕ
+    u = agreedOf (t .m) 32 (t .width) (t .rows) first last + leastBy (t .m) (t .width) (t .rows) (t .N) first last
 
-  pub first-bounds : (old new : ℕ) → old ≡ getD starts first 0 → new ≡ stopOf cells starts count first → new ≤ 2050
-  first-bounds old new eo en = omega (arith, row-bounds (first-here old new eo en) .1, g .laid .size)
+    abbrev v : ℕ
+    v = leastBy (t .m) (t .width) (t .rows) (t .N) first last
 
-  pub first-noted : {lent : Arrays} (notes : List ℕ) (a : Arrays) (old new : ℕ) → old ≡ getD starts first 0 → new ≡ stopOf cells starts count first
-      → FilledTo w rows lent (suc first) count a → Alone first old new notes → NotedAt lent first old new notes a
-  first-noted notes a old new eo en f x =
-      let h = first-here old new eo en in
+    abbrev w : ℕ
+    w = placeBy (t .m) (t .width) (t .rows) (t .N) first last
+
+    abbrev put : List ℕ
+    put = putPair a (64 * first + last) u v w
+
+    filled-put : first < asked .top → FilledTo t first last put
+    filled-put low = record {
+      each = λ j j′ h h′. each j j′ (where-is a first last u v w j j′ (f .room) (omega (arith, few)) (omega (arith, few)) h h′) (f .each j j′ h h′);
+      room = (let e : length put ≡ length a = simp length-set in e ∙ f .room);
+    }
+      where
+        each : (j j′ : ℕ) → Where a first last u v w j j′ → Stands t (suc first) last a j j′ → Stands t first last put j j′
+        each j j′ (here e e′ x y z) s =
+            worked (record { order = omega arith; inside = omega arith; begins = omega arith; ends = omega arith; done = inr (e′, omega arith) })
+            (ap (λ (n : ℕ). min n 65535) x ∙ rw (e, e′) (sym (t .again first last order inside low late)))
+            (y ∙ rw (e, e′)) (z ∙ rw (e, e′))
+        each j j′ (there n x) (worked d e c p) = worked (later d) (ap (λ (n : ℕ). min n 65535) (x .whole) ∙ e) (x .cost ∙ c) (x .place ∙ p)
+        each j j′ (there n x) (left d e) =
+            left (λ y. d (earlier (λ q q′. n (omega arith)) y)) (record { whole = x .whole ∙ e .whole; cost = x .cost ∙ e .cost; place = x .place ∙ e .place })
+
+    filled-next : {b : List ℕ} → KeepsBefore (t .m) (t .width) (t .rows) (t .N) (asked .top) first last a b → FilledTo t first last b
+    filled-next (keeps h k) = rw (k .is) (filled-put h)
+    filled-next (passes h e) = filled-pass h e
+
+  -- a row as it stands in its cells
+  module _ {row : Row} (h : RowHere cells starts (asked .count) row) where
+    pub row-part : getD (t .rows) (row .number) [] ≡ slice (row .start) (row .end) cells
+    row-part = rw (h .start-is, h .end-is) (t .laid .row (row .number) (h .inside))
+
+    pub row-bounds : (row .start ≤ row .end) × (row .end ≤ length cells)
+    row-bounds = rw (h .start-is, h .end-is) (t .laid .order (row .number) (h .inside))
+
+    pub row-fits : Fits 32 (t .width) (slice (row .start) (row .end) cells)
+    row-fits = rw row-part at (all-at (Fits 32 (t .width)) [] (t .rows) (row .number) (omega (arith, t .laid .number, h .inside)) (t .laid .fits))
+
+    pub row-short : row .end ≤ row .start + 32
+    row-short = omega (arith, row-fits .1, length-slice (row .start) (row .end) cells (row-bounds .1))
+
+  pub row-small : {row : Row} → RowHere cells starts (asked .count) row → (row .number < 64) × (row .end ≤ 2050)
+  row-small h = (omega (arith, h .inside, t .laid .few), omega (arith, row-bounds h .1, t .laid .size))
+
+  -- the last row by itself
+  pub last-noted : {row : Row} {notes kept : List ℕ} → RowHere cells starts (asked .count) row → asked .since ≤ row .number
+      → FilledTo t (suc (row .number)) (row .number) kept → Alone (row .number) (row .start) (row .end) notes → NotedTo t (suc (row .number)) (row .number) row notes kept
+  last-noted {row} h late f x =
       let b = row-bounds h in
-      let l : length (slice old new cells) ≡ new - old = length-slice old new cells (b .1) in
+      let l : length (slice (row .start) (row .end) cells) ≡ row .end - row .start = length-slice (row .start) (row .end) cells (b .1) in
       record {
-        row = h;
-        noted = rw (slice-empty first rows, row-part h) (noted-alone old (row-terms h) (λ j m n. x .each j m (omega (arith, l, b .0))));
-        filled = filled-before (g .laid .number) f;
+        here = h;
+        order = omega arith;
+        inside = h .inside;
+        late = late;
+        noted = rw (slice-empty (suc (row .number)) (t .rows), row-part h) (noted-alone (row .start) (row-fits h .0) (λ j m n. x .each j m (omega (arith, l, b .0))));
+        filled = f;
         room = x .room;
       }
 
-  abbrev pub pair-at : {lent : Arrays} {last old new : ℕ} {notes : List ℕ} {a : Arrays} → NotedAt lent last old new notes a → PairAt ends (a .whole) notes first last old new
-  pair-at {last} {a = a} x = record {
+  abbrev pub pair-at : {last : ℕ} {row : Row} {notes kept : List ℕ} → NotedTo t (suc (row .number)) last row notes kept
+      → PairAt marks kept notes (asked .figure) (row .number) last (row .start) (row .end)
+  pair-at {last} {row} x = record {
+    m = t .m;
+    low = t .low;
+    figure-is = t .figure-is;
     cells = cells;
-    width = w;
-    rows = rows;
-    few = omega (arith, g .laid .number, g .laid .few);
-    fits = g .laid .fits;
-    order = x .row .order;
-    inside = omega (arith, g .laid .number, x .row .inside);
-    part = (row-bounds (x .row) .0, row-bounds (x .row) .1, g .laid .size);
-    row = row-part (x .row);
-    ended = g .ended;
+    width = t .width;
+    rows = t .rows;
+    few = omega (arith, t .laid .number, t .laid .few);
+    fits = t .laid .fits;
+    order = x .order;
+    inside = omega (arith, t .laid .number, x .inside);
+    part = (row-bounds (x .here) .0, row-bounds (x .here) .1, t .laid .size);
+    row = row-part (x .here);
+    marked = t .marked;
+    N = t .N;
+    small = t .small;
     noted = x .noted;
-    kept = λ j h l. x .filled .whole j last l (omega (arith, g .laid .number, x .row .inside)) (inl h);
+    known = λ j h l. whole-there (x .filled) (row .number) j h (omega (arith, t .laid .number, x .inside)) (inl l);
+    room = x .filled .room;
   }
 
-  pub pair-kept : {lent : Arrays} {last old new : ℕ} {notes : List ℕ} {a b : Arrays} → NotedAt lent last old new notes a → Keeps w rows first last a b
-      → Kept cells starts count first w rows lent last old new notes b
+  pub pair-kept : {last : ℕ} {row : Row} {notes a b : List ℕ} → NotedTo t (suc (row .number)) last row notes a
+      → KeepsBefore (t .m) (t .width) (t .rows) (t .N) (asked .top) (row .number) last a b → NotedTo t (row .number) last row notes b
   pair-kept x k = record {
-    row = x .row;
+    here = x .here;
+    order = x .order;
+    inside = x .inside;
+    late = x .late;
     noted = x .noted;
-    filled = filled-keep (x .filled) k (x .row .order) (omega (arith, g .laid .number, x .row .inside)) (omega (arith, g .laid .number, g .laid .few));
+    filled = filled-next (x .filled) (x .order) (omega (arith, t .laid .number, x .inside)) (x .late) k;
     room = x .room;
   }
 
-  -- from one row to the next
-  module _ {lent : Arrays} {last old new : ℕ} {notes : List ℕ} {a : Arrays} (x : Kept cells starts count first w rows lent last old new notes a) (l : last + 1 < count)
-      (stop : ℕ) (e : stop ≡ stopOf cells starts count (last + 1)) where
-    pub next-here : RowHere cells starts count first (last + 1) new stop
-    next-here = record { order = omega (arith, x .row .order); inside = l; old-is = x .row .new-is ∙ rw (lt-ltb (last + 1) count l); new-is = e }
+  -- from one row to the one before it
+  module _ {last : ℕ} {row : Row} {notes kept : List ℕ} (x : NotedTo t (row .number) last row notes kept) (some : 0 < row .number) (row′ : Row)
+      (is : row′ ≡ rowOf (row .number - 1) (getD starts (row .number - 1) 0) (row .start)) where
+    pub number-is : suc (row′ .number) ≡ row .number
+    number-is = omega (arith, ap (λ (r : Row). r .number) is)
 
-    pub pair-done : (j : ℕ) → first ≤ j → Done first (suc last) j last
-    pair-done j h = go (eqb j first) refl
+    pub end-is : row′ .end ≡ row .start
+    end-is = ap (λ (r : Row). r .end) is
+
+    start-is : row′ .start ≡ getD starts (row′ .number) 0
+    start-is = ap (λ (r : Row). r .start) is ∙ ap (λ (n : ℕ). getD starts n 0) (sym (ap (λ (r : Row). r .number) is))
+
+    pub next-here : RowHere cells starts (asked .count) row′
+    next-here =
+        let l : row′ .number + 1 < asked .count = omega (arith, number-is, x .here .inside) in
+        let n : row′ .number + 1 ≡ row .number = omega (arith, number-is) in
+        record {
+          inside = omega arith;
+          start-is = start-is;
+          end-is = end-is ∙ x .here .start-is ∙ rw (lt-ltb (row′ .number + 1) (asked .count) l, n);
+        }
+
+    pub pair-done : (j : ℕ) → j ≤ last → (j < last) ⊎ ((j ≡ last) × (row .number ≤ row .number))
+    pair-done j h = go (eqb j last) refl
       where
-        go : (b : Bool) → eqb j first ≡ b → Done first (suc last) j last
-        go true q = inr (eqb-true j first q, omega arith)
-        go false q = let n : j ≢ first = eqb-false j first q in inl (omega (arith, n))
+        go : (b : Bool) → eqb j last ≡ b → (j < last) ⊎ ((j ≡ last) × (row .number ≤ row .number))
+        go true q = inr (eqb-true j last q, omega arith)
+        go false q = let z : j ≢ last = eqb-false j last q in inl (omega (arith, z))
 
-    abbrev pub next-row : NextRow cells ends (a .whole) notes last old new stop
+    abbrev pub next-row : NextRow cells marks kept notes (row′ .number) (row′ .start) (row′ .end)
     next-row = record {
-      costs = wholeOf w rows;
-      count = count;
-      first = first;
-      width = w;
-      olds = slice first last rows;
-      noted = rw (row-part (x .row)) at (x .noted);
-      old-terms = row-terms (x .row);
-      new-terms = row-terms next-here;
-      order = (row-bounds (x .row) .0, row-bounds next-here .0, row-bounds next-here .1, g .laid .size);
-      rows = (omega (arith, length-slice first last rows (omega (arith, g .laid .number)), x .row .order), omega arith, g .laid .few);
-      ended = g .ended;
-      kept = λ j h m. x .filled .whole j last m (omega (arith, g .laid .number)) (pair-done j h);
-      small = λ i k h m. whole-small w rows (g .laid .fits) (omega (arith, g .laid .number, g .laid .few)) i k h (omega (arith, g .laid .number));
+      m = t .m;
+      costs = t .N;
+      count = asked .count;
+      last = last;
+      width = t .width;
+      stop = row .end;
+      rest = slice (suc (row .number)) (suc last) (t .rows);
+      noted = rw (number-is, end-is, ← (row-part (x .here))) (x .noted);
+      old-terms = rw end-is (row-fits (x .here) .0);
+      new-terms = row-fits next-here .0;
+      order = (row-bounds next-here .0, rw end-is (row-bounds (x .here) .0), row-bounds (x .here) .1, t .laid .size);
+      short = (row-short next-here, rw end-is (row-short (x .here)));
+      rows = (
+        omega (arith, number-is, length-slice (suc (row .number)) (suc last) (t .rows) (omega (arith, t .laid .number, x .inside)), x .order),
+        x .inside,
+        t .laid .few,
+      );
+      marked = t .marked;
+      known = λ j h l. rw number-is (whole-there (x .filled) (row .number) j (omega (arith, number-is)) (omega (arith, t .laid .number, x .inside)) (pair-done j l));
+      small = λ i k h m. t .small i k h (omega (arith, t .laid .number));
       room = x .room;
     }
 
-    pub next-noted : (notes′ : List ℕ) → RowNoted next-row notes′ → NotedAt lent (last + 1) new stop notes′ a
+    pub next-noted : (notes′ : List ℕ) → RowNoted next-row notes′ → NotedTo t (suc (row′ .number)) last row′ notes′ kept
     next-noted notes′ y =
-        let b : slice first (last + 1) rows ≡ slice first last rows ++ (slice old new cells ∷ []) =
-        rw (add-one last, ← (row-part (x .row))) (between-last first last rows (x .row .order) (omega (arith, g .laid .number))) in
+        let c : slice (row .number) (suc last) (t .rows) ≡ getD (t .rows) (row .number) [] ∷ slice (suc (row .number)) (suc last) (t .rows) =
+        slice-cons (row .number) (suc last) (t .rows) [] (omega (arith, x .order)) (omega (arith, t .laid .number, x .inside)) in
+        let b : slice (suc (row′ .number)) (suc last) (t .rows) ≡ slice (row′ .end) (row .end) cells ∷ slice (suc (row .number)) (suc last) (t .rows) =
+        ap (λ (n : ℕ). slice n (suc last) (t .rows)) number-is ∙ c
+        ∙ ap (λ (r : List ℕ). r ∷ slice (suc (row .number)) (suc last) (t .rows)) (row-part (x .here) ∙ ap (λ (n : ℕ). slice n (row .end) cells) (sym end-is)) in
         record {
-          row = next-here;
+          here = next-here;
+          order = omega (arith, number-is, x .order);
+          inside = x .inside;
+          late = x .late;
           noted = rw (b, row-part next-here) (y .noted);
-          filled = rw (add-one last) (x .filled);
+          filled = rw number-is (x .filled);
           room = y .room;
         }
 
-  pub rows-done : {lent : Arrays} {last old new : ℕ} {notes : List ℕ} {a : Arrays} → Kept cells starts count first w rows lent last old new notes a → count ≤ last + 1
-      → RowsDone w rows lent count first notes a
-  rows-done {last} x h = let e : suc last ≡ count = omega (arith, x .row .inside) in record { filled = rw e at (x .filled); room = x .room }
+  pub rows-done : {last : ℕ} {row : Row} {notes kept : List ℕ} → NotedTo t (row .number) last row notes kept → row .number ≤ 0 → FilledTo t 0 last kept
+  rows-done {row = row} x h = let e : row .number ≡ 0 = omega arith in rw e at (x .filled)
 
--- no pair is done yet
-pub filled-start : (w : ℕ) (rows : List (List ℕ)) (lent : Arrays) (count : ℕ) → length rows ≡ count → (length (lent .whole) ≡ 4096) × (length (lent .place) ≡ 4096)
-    → FilledTo w rows lent count count lent
-filled-start w rows lent count l room = record {
-  whole = λ j j′ h m d. absurd (early j j′ h m d);
-  entry = λ j j′ h m d. absurd (early j j′ h m d);
-  other = λ j j′ m o. record { whole = refl; cost = refl; place = refl };
-  size = record { whole = refl; cost = refl; place = refl };
-  room = room;
-}
-  where
-    early : (j j′ : ℕ) → j ≤ j′ → j′ < length rows → Done count count j j′ → ⊥
-    early j j′ h m (inl d) = omega arith
-    early j j′ h m (inr d) = omega (arith, d .0)
+  -- the row at which the next pairs end
+  abbrev pub last-at : {last end : ℕ} {kept : List ℕ} → last < asked .count → end ≡ stopOf cells starts (asked .count) last → asked .since ≤ last
+      → FilledTo t (suc last) last kept → LastAt cells marks starts kept asked (rowOf last (getD starts last 0) end)
+  last-at h e late f = record { old = old; task = t; here = record { inside = h; start-is = refl; end-is = e }; late = late; filled = f }
 
--- the next first row
-abbrev pub first-at : {cells ends starts notes : List ℕ} {lent a : Arrays} {count : ℕ} (g : Rows cells starts count) → Ended cells ends
-    → (first : ℕ) → 0 < first → first ≤ count → RowsDone (g .width) (g .rows) lent count first notes a → FirstAt cells ends starts notes a count (first - 1)
-first-at {lent = lent} {count = count} g e first h l x =
-    let q : first ≡ suc (first - 1) = omega arith in
-    record {
-      width = g .width;
-      rows = g .rows;
-      lent = lent;
-      ready = record { laid = g .laid; ended = e; inside = omega arith };
-      filled = rw q at (x .filled);
-      room = x .room;
-    }
-
-pub all-done : {cells starts notes : List ℕ} {lent a : Arrays} {count : ℕ} (g : Rows cells starts count) (first : ℕ) → first ≤ 0
-    → RowsDone (g .width) (g .rows) lent count first notes a → FilledTo (g .width) (g .rows) lent 0 count a
-all-done g first h x = let e : first ≡ 0 = omega arith in rw e at (x .filled)
-
--- all are done
-pub all-filled : {cells starts : List ℕ} {count w : ℕ} {rows : List (List ℕ)} {lent a : Arrays} → Laid cells starts count w rows → FilledTo w rows lent 0 count a
-    → Filled w rows lent a
-all-filled {count = count} {w} {rows} g f = record {
-  whole = λ first last h l.
-      (let s = pair-state plain 32 w rows (g .fits) first last h l in
-      rw (f .whole first last h l (at first last (omega (arith, g .number)) (eqb first 0) refl)) (best-least plain 32 w (between first last rows) (s .0) (s .1)));
-  entry = λ first last h l. f .entry first last h l (at first last (omega (arith, g .number)) (eqb first 0) refl);
-  other = f .other;
-  size = f .size;
-}
-  where
-    at : (j j′ : ℕ) → j′ < count → (b : Bool) → eqb j 0 ≡ b → Done 0 count j j′
-    at j j′ h true e = inr (eqb-true j 0 e, h)
-    at j j′ h false e = let n : j ≢ 0 = eqb-false j 0 e in inl (omega (arith, n))
+  pub finished : {last : ℕ} {kept : List ℕ} → asked .count ≤ last → FilledTo t (suc last) last kept → Finished t kept
+  finished {last} h f = record { upto = last; far = h; filled = f }

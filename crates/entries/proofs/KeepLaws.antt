@@ -1,21 +1,26 @@
--- The entry of a pair is kept: what is asked of the notes at its last row, and what they give.
-use mathlib.Core.Path.{_≡_, ap, _∙_}
+-- The values of a pair are kept: what is asked of the notes at its first row, and what they give.
+use mathlib.Core.Path.{_≡_, refl, sym, ap, _∙_}
+use mathlib.Core.Bool.{Bool, true, false}
+use mathlib.Core.Logic.{_≢_}
 use mathlib.Core.List.{List, [], _∷_}
+use lib.Dec.{eqb}
+use borrow.Author.Tests.{eqb-true, eqb-false}
 use Prim.Native.Nat.{ℕ, zero, suc, _+_, _-_, _*_, _≤_, _<_}
 use native.Mathlib.Omega.{arith}
-use lib.ListN.{length, getD, set, take, drop}
-use lib.Seq.{slice, length-slice, length-take-le, drop-drop}
+use lib.ListN.{length, getD, take, drop}
+use lib.Seq.{slice, length-slice, length-take-le, drop-drop, drop-cons, getD-take}
 use Rattle.cell.specs.Cell.{arity}
-use Rattle.term.specs.Terms.{Terms, more, front}
-use Rattle.plan.specs.Plans.{plain}
+use Rattle.term.specs.Terms.{Terms, more, front, root}
 use Rattle.plan.specs.code.Fits.{Fits}
-use Rattle.least.specs.code.Best.{leastOver, firstOver}
-use Rattle.entries.specs.Fill.{arrays}
-use Rattle.entries.specs.code.Notes.{noteIn, Shown, Priced, Walk, Pair}
-use Rattle.entries.specs.code.Filling.{wholeOf, PairAt, Keeps}
+use Rattle.least.specs.code.Best.{argmin, leastOver, firstOver}
+use Rattle.least.specs.code.Pairs.{closedOf, agreedOf, priceBy}
+use Rattle.least.proofs.Minimum.{argmin-first}
+use Rattle.entries.specs.declared.arrays.Note.{Note}
+use Rattle.entries.specs.code.Notes.{noteIn, endIn, weightIn, Shown, at-end, at-closed, at-open, Priced, Walk, Pair}
+use Rattle.entries.specs.code.Filling.{PairAt, putPair}
 use Rattle.table.proofs.AllLaws.{all-at}
-use Rattle.least.proofs.Pairs.{closedOf, agreedOf, leastOf, costOf, placeOf, equation, pair-entry}
-use Rattle.entries.proofs.PairNotes.{whole-splits, whole-small, shown-map, pair-shown}
+use Rattle.entries.proofs.PairNotes.{shown-map, pair-shown}
+use Rattle.entries.proofs.ReadLaws.{shown-few}
 use Rattle.entries.proofs.RowLaws.{ended-at}
 
 -- a row from any of its cells on begins with a term
@@ -25,75 +30,98 @@ terms-drop n (suc k) [] t h = absurd (omega arith)
 terms-drop zero k (c ∷ xs) (more {k = r} t) h = (r, more t)
 terms-drop (suc n) k (c ∷ xs) (more {k = r} t) h = terms-drop n (arity c + r) xs t (omega arith)
 
-module _ {ends whole notes : List ℕ} {first last at stop : ℕ} (g : PairAt ends whole notes first last at stop) where
+pub shown-at : {N : ℕ → Note} {E G : ℕ → ℕ} {W : ℕ → ℕ → ℕ} {F : ℕ → ℕ} {first last stop k at a a′ f f′ : ℕ} → a′ ≡ a → f′ ≡ f
+    → Shown N E G (Priced W first last a f F) stop k at 0 a → Shown N E G (Priced W first last a′ f′ F) stop k at 0 a′
+shown-at e e′ x = rw (e, e′) x
+
+-- no open place costs much, whatever the runs cost
+module _ {N : ℕ → Note} {E G : ℕ → ℕ} {W : ℕ → ℕ → ℕ} {F : ℕ → ℕ} {first last stop k f b : ℕ} (small : (j : ℕ) → first ≤ j → j ≤ last → W first j ≤ 65535)
+    (row : last < 64) (low : f ≤ 15) where
+  shown-cost : {q i a : ℕ} → Shown N E G (Priced W first last b f F) stop k q i a → (j : ℕ) → i ≤ j → j < k → F j ≤ 4300000
+  shown-cost at-end j h l = absurd (omega arith)
+  shown-cost (at-closed m o s) j h l = shown-cost s j h l
+  shown-cost {i = i} (at-open {at = q} m n o p s) j h l = go (eqb j i) refl (λ u v. shown-cost s j u v)
+    where
+      go : (t : Bool) → eqb j i ≡ t → (suc i ≤ j → j < k → F j ≤ 4300000) → F j ≤ 4300000
+      go true e ih =
+          let z : j ≡ i = eqb-true j i e in
+          let x = p .fair in
+          let v = small ((N q) .to) (x .low) (x .high) in
+          rw z (omega (arith, p .price, x .small, x .few))
+      go false e ih = let z : j ≢ i = eqb-false j i e in ih (omega (arith, z)) l
+
+least-small : (k : ℕ) (F : ℕ → ℕ) → ((j : ℕ) → j < k → F j ≤ 4300000) → leastOver k F ≤ 4300000
+least-small zero F h = omega arith
+least-small (suc k) F h = h (argmin k F) (omega (arith, argmin-first k F .within))
+
+-- the first cell of a part
+root-at : (j : ℕ) (xs : List ℕ) → j < length xs → root 0 (drop j xs) ≡ getD xs j 0
+unfolding root
+root-at j xs h = rw (drop-cons xs j 0 h)
+
+module _ {marks kept notes : List ℕ} {figure first last at stop : ℕ} (g : PairAt marks kept notes figure first last at stop) where
   abbrev pub k : ℕ
-  k = (closedOf plain 32 (g .width) (g .rows) first last) .opens
+  k = (closedOf (g .m) 32 (g .width) (g .rows) first last) .opens
 
   abbrev pub a : ℕ
-  a = agreedOf plain 32 (g .width) (g .rows) first last
+  a = agreedOf (g .m) 32 (g .width) (g .rows) first last
 
   abbrev pub F : ℕ → ℕ
-  F = costOf plain 32 (g .width) (g .rows) first last
+  F = priceBy (g .m) (g .width) (g .rows) (g .N) first last
 
   zs-length : length (take stop (g .cells)) ≡ stop
   zs-length = length-take-le stop (g .cells) (g .part .1)
 
   row-terms : Terms (g .width) (slice at stop (g .cells))
-  row-terms = rw (g .row) at (all-at (Fits 32 (g .width)) [] (g .rows) last (g .inside) (g .fits) .0)
+  row-terms = rw (g .row) at (all-at (Fits 32 (g .width)) [] (g .rows) first (omega (arith, g .order, g .inside)) (g .fits) .0)
 
-  ends-right : (j : ℕ) → at ≤ j → j < length (take stop (g .cells)) → getD ends j 0 ≡ j + length (front 1 (drop j (take stop (g .cells))))
+  ends-right : (j : ℕ) → at ≤ j → j < length (take stop (g .cells)) → endIn marks j ≡ j + length (front 1 (drop j (take stop (g .cells))))
   ends-right j h l =
       let n : at + (j - at) ≡ j = omega arith in
       let d : drop (j - at) (slice at stop (g .cells)) ≡ slice j stop (g .cells) =
       drop-drop (j - at) at (take stop (g .cells)) ∙ ap (λ (i : ℕ). drop i (take stop (g .cells))) n in
       let t = terms-drop (j - at) (g .width) (slice at stop (g .cells)) row-terms (omega (arith, zs-length, length-slice at stop (g .cells) (g .part .1))) in
-      ended-at {r = t .0} j stop (g .ended) (omega (arith, zs-length)) (g .part .1) (rw d at (t .1))
+      ended-at {r = t .0} j stop (g .marked) (omega (arith, zs-length)) (g .part .1) (rw d at (t .1))
 
-  pub shown : Shown (noteIn notes) (λ (q : ℕ). getD ends q 0) (Priced (wholeOf (g .width) (g .rows)) first last a F) stop k at 0 a
+  weights-right : (j : ℕ) → at ≤ j → j < length (take stop (g .cells)) → weightIn marks j ≡ g .m .weight (root 0 (drop j (take stop (g .cells))))
+  weights-right j h l =
+      g .marked .at j (omega (arith, zs-length, g .part .1)) .weight
+      ∙ ap (g .m .weight) (sym (getD-take stop (g .cells) j 0 (omega (arith, zs-length))) ∙ sym (root-at j (take stop (g .cells)) l))
+
+  pub shown : Shown (noteIn notes) (endIn marks) (weightIn marks) (Priced (g .N) first last a (g .m .figure) F) stop k at 0 a
   shown =
       rw zs-length at
-      (pair-shown (g .width) (g .rows) (g .fits) (g .few) first last (g .order) (g .inside) (noteIn notes) (λ (q : ℕ). getD ends q 0) (take stop (g .cells)) at
-      ends-right (omega (arith, zs-length, g .part .0)) (g .row) (g .noted))
+      (pair-shown (g .m) (g .width) (g .rows) (g .fits) (g .N) (g .small) first last (g .order) (g .inside) (noteIn notes) (endIn marks) (weightIn marks)
+      (take stop (g .cells)) at ends-right weights-right (omega (arith, zs-length, g .part .0)) (g .row) (g .noted))
 
-  abbrev pub keep-walk : Walk ends notes at stop
-  keep-walk = record { opens = k; agreed = a; shown = shown-map (λ j s h p. tt) shown; within = omega (arith, g .part .1, g .part .2) }
+  pub light : (q : ℕ) → q < stop → weightIn marks q ≤ 5
+  light q h = rw (g .marked .at q (omega (arith, g .part .1)) .weight) (g .low .weight (getD (g .cells) q 0))
 
-  abbrev pub keep-pair : (agreed : ℕ) → agreed ≡ a → Pair ends whole notes last at stop agreed
+  abbrev pub keep-walk : Walk marks notes at stop
+  keep-walk = record { opens = k; agreed = a; shown = shown-map (λ j s h p. tt) shown; light = light; within = omega (arith, g .part .1, g .part .2) }
+
+  pub agreed-few : a ≤ 10250
+  agreed-few = omega (arith, shown-few light shown, g .part .1, g .part .2)
+
+  abbrev pub keep-pair : (agreed : ℕ) → agreed ≡ a → Pair marks kept notes first at stop agreed figure
   keep-pair agreed e = record {
-    costs = wholeOf (g .width) (g .rows);
-    first = first;
+    costs = g .N;
+    last = last;
     prices = F;
     opens = k;
-    shown = rw e shown;
-    kept = g .kept;
-    small = λ j h l. whole-small (g .width) (g .rows) (g .fits) (g .few) j last l (g .inside);
-    row = omega (arith, g .inside, g .few);
+    shown = shown-at e (g .figure-is) shown;
+    known = g .known;
+    small = λ j h l. g .small first j h (omega (arith, g .inside));
+    few = (omega (arith, agreed-few), omega (arith, g .figure-is, g .low .figure));
+    rows = (g .order, omega (arith, g .inside, g .few));
     within = omega (arith, g .part .1, g .part .2);
   }
 
   -- the numbers are small
-  pub keep-small : a + leastOver k F ≤ 2048
+  pub keep-small : a + leastOver k F ≤ 4400000
   keep-small =
-      omega (
-        arith,
-        equation plain 32 (g .width) (g .rows) (g .fits) first last (g .order) (g .inside),
-        whole-splits (g .width) (g .rows) (g .fits) (g .few) first last (g .order) (g .inside),
-        whole-small (g .width) (g .rows) (g .fits) (g .few) first last (g .order) (g .inside),
-      )
+      omega (arith, agreed-few, least-small k F (λ j h. shown-cost (λ i m n. g .small first i m (omega (arith, g .inside))) (omega (arith, g .inside, g .few)) (g .low .figure) shown j (omega arith) h))
 
-  -- what is kept
-  pub keeps : (W C P W′ C′ P′ : List ℕ) → W′ ≡ set W (64 * first + last) (a + leastOver k F) → C′ ≡ set C (64 * first + last) (leastOver k F)
-      → P′ ≡ set P (64 * first + last) (firstOver k F) → Keeps (g .width) (g .rows) first last (arrays W C P) (arrays W′ C′ P′)
-  unfolding placeOf
-  keeps W C P W′ C′ P′ ew ec ep =
-      let q : leastOf plain 32 (g .width) (g .rows) first last ≡ leastOver k F = equation plain 32 (g .width) (g .rows) (g .fits) first last (g .order) (g .inside) in
-      let s = whole-splits (g .width) (g .rows) (g .fits) (g .few) first last (g .order) (g .inside) in
-      let v : a + leastOver k F ≡ wholeOf (g .width) (g .rows) first last = omega arith in
-      record {
-        count = leastOver k F;
-        chosen = firstOver k F;
-        entry = rw q at (pair-entry plain 32 (g .width) (g .rows) (g .fits) first last (g .order) (g .inside));
-        whole = rw v at ew;
-        cost = ec;
-        place = ep;
-      }
+pub put-same-values : (kept : List ℕ) (pair : ℕ) {x y z x′ y′ z′ : ℕ} → x ≡ x′ → y ≡ y′ → z ≡ z′
+    → putPair kept pair (x + y) y z ≡ putPair kept pair (x′ + y′) y′ z′
+put-same-values kept pair e f g = rw (e, f, g)

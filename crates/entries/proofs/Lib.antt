@@ -3,13 +3,15 @@ pub mod NoteLaws
 pub mod NotedLaws
 pub mod ShownLaws
 pub mod PairNotes
+pub mod RingLaws
 pub mod RowLaws
 pub mod ReadLaws
-pub mod EndedLaws
--- the arrays
+pub mod MarkLaws
+-- the array
 pub mod KeepLaws
-pub mod LaidLaws
 pub mod FillLaws
+pub mod RightLaws
+pub mod LaidLaws
 -- and what is answered
 pub mod WorkedLaws
 pub mod Fixed

@@ -1,15 +1,16 @@
--- A column's note is what its runs say: how many there are, and the sum of what they cost. One row more is one step.
+-- A column's note is what its runs say: how many there are, and the sum of what they cost. One row more in front is one step, as the runs
+-- are made.
 use mathlib.Core.Path.{_≡_, refl, sym, _∙_}
 use mathlib.Core.Bool.{Bool, true, false, cond}
-use mathlib.Core.List.{List, [], _∷_, _++_, map}
+use mathlib.Core.List.{List, [], _∷_, map}
 use Prim.Native.Nat.{ℕ, suc, pred, _+_, _≤_, _<_}
 use native.Mathlib.Omega.{arith}
 use lib.ListN.{length}
 use Rattle.plan.specs.Runs.{Run, run, agree, join, joinIf, group}
 use Rattle.plan.proofs.RunsLaws.{agree-eq}
+use Rattle.least.specs.code.Pairs.{sums}
 use Rattle.entries.specs.declared.arrays.Note.{Note}
 use Rattle.entries.specs.code.Notes.{note, noteNext, noteFrom, noteOf, Fair}
-use Rattle.least.proofs.Counts.{sums}
 
 -- the first run has the first row's cell
 group-head : (cell : List ℕ → ℕ) (left : List ℕ → List ℕ) (r : List ℕ) (rs : List (List ℕ))
@@ -25,99 +26,78 @@ group-head cell left r rs = go (group cell left rs)
     go [] = (run (cell r) (left r ∷ []), [], refl, refl)
     go (g ∷ gs) = both g gs (agree (cell r) (g .cell)) refl
 
--- the sum over some runs that stand from row j on, where the first of them began before, at row s
-abbrev sumsWith : (ℕ → ℕ → ℕ) → ℕ → ℕ → List Run → ℕ
-sumsWith W s j [] = 0
-sumsWith W s j (g ∷ gs) = W s (pred (j + length (g .rows))) + sums W (j + length (g .rows)) gs
+-- what a note says of runs, the first of them from row j on: their number, where the first of them ends, and what the others cost
+abbrev firstSize : List Run → ℕ
+firstSize [] = 0
+firstSize (g ∷ gs) = length (g .rows)
 
--- what a note says of runs after k and t, the last run having begun at s: their number and the sum of what they cost
-pub record Says (W : ℕ → ℕ → ℕ) (n : Note) (last : ℕ) (count total : ℕ) : Type 0 where
+abbrev others : List Run → List Run
+others [] = []
+others (g ∷ gs) = gs
+
+record Tells (W : ℕ → ℕ → ℕ) (n : Note) (j : ℕ) (gs : List Run) : Type 0 where
+  pub number : n .runs ≡ length gs
+  pub to : n .to ≡ pred (j + firstSize gs)
+  pub sum : n .sum ≡ sums W (j + firstSize gs) (others gs)
+
+-- and so what they cost together
+pub record Says (W : ℕ → ℕ → ℕ) (n : Note) (first : ℕ) (count total : ℕ) : Type 0 where
   pub number : n .runs ≡ count
-  pub costs : n .sum + W (n .from) last ≡ total
+  pub costs : n .sum + W first (n .to) ≡ total
 
 module _ (W : ℕ → ℕ → ℕ) (cell : List ℕ → ℕ) (left : List ℕ → List ℕ) where
-  note-from : (k t s j : ℕ) (r : List ℕ) (rs : List (List ℕ))
-      → Says W (noteFrom W (note (suc k) t s) j (cell r) (map cell rs)) (j + length rs) (k + length (group cell left (r ∷ rs))) (t + sumsWith W s j (group cell left (r ∷ rs)))
+  note-from : (j : ℕ) (r : List ℕ) (rs : List (List ℕ)) → Tells W (noteFrom W j (cell r) (map cell rs)) j (group cell left (r ∷ rs))
   unfolding noteFrom
-  note-from k t s j r [] =
-      let e : j + 0 ≡ pred (j + 1) = omega arith in
-      record { number = omega arith; costs = rw e (omega arith) }
-  note-from k t s j r (r₂ ∷ rs) =
+  note-from j r [] = record { number = refl; to = omega arith; sum = refl }
+  note-from j r (r₂ ∷ rs) =
       let h = group-head cell left r₂ rs in
-      rw (h .2, h .3)
-      (step (h .0) (h .1) (rw (h .2) at (note-from k t s (suc j) r₂ rs)) (rw (h .2) at (note-from (suc k) (t + W s j) (suc j) (suc j) r₂ rs))
-      (agree (cell r) (cell r₂)))
+      rw (h .2, h .3) (step (h .0) (h .1) (rw (h .2) at (note-from (suc j) r₂ rs)) (agree (cell r) (cell r₂)))
     where
-      step : (g : Run) (gs : List Run)
-          → Says W (noteFrom W (note (suc k) t s) (suc j) (cell r₂) (map cell rs)) (suc j + length rs) (k + length (g ∷ gs)) (t + sumsWith W s (suc j) (g ∷ gs))
-          → Says W (noteFrom W (note (suc (suc k)) (t + W s j) (suc j)) (suc j) (cell r₂) (map cell rs)) (suc j + length rs) (suc k + length (g ∷ gs)) (t + W s j + sumsWith W (suc j) (suc j) (g ∷ gs))
-          → (b : Bool)
-          → Says W (noteFrom W (cond b (note (suc k) t s) (note (suc (suc k)) (t + W s j) (suc j))) (suc j) (cell r₂) (map cell rs)) (j + suc (length rs))
-          (k + length (joinIf b (cell r) (left r) g gs)) (t + sumsWith W s j (joinIf b (cell r) (left r) g gs))
-      step g gs old new true =
-          let e : j + suc (length rs) ≡ suc j + length rs = omega arith in
+      step : (g : Run) (gs : List Run) → Tells W (noteFrom W (suc j) (cell r₂) (map cell rs)) (suc j) (g ∷ gs) → (b : Bool)
+          → Tells W (cond b (noteFrom W (suc j) (cell r₂) (map cell rs))
+          (note (suc ((noteFrom W (suc j) (cell r₂) (map cell rs)) .runs))
+          ((noteFrom W (suc j) (cell r₂) (map cell rs)) .sum + W (suc j) ((noteFrom W (suc j) (cell r₂) (map cell rs)) .to)) j))
+          j (joinIf b (cell r) (left r) g gs)
+      step g gs x true =
           let f : j + suc (length (g .rows)) ≡ suc j + length (g .rows) = omega arith in
-          rw (e, f) old
-      step g gs old new false =
-          let e : j + suc (length rs) ≡ suc j + length rs = omega arith in
-          let f : pred (j + 1) ≡ j = omega arith in
-          let f′ : j + 1 ≡ suc j = omega arith in
-          record { number = omega (arith, new .number); costs = rw (e, f, f′) (omega (arith, new .costs)) }
+          record { number = x .number; to = rw f (x .to); sum = rw f (x .sum) }
+      step g gs x false =
+          let f : j + 1 ≡ suc j = omega arith in
+          record { number = omega (arith, x .number); to = omega arith; sum = rw (f, x .to, x .sum) (omega arith) }
 
   -- the note of a column is its runs' number, and what they cost together
   pub note-says : (j : ℕ) (rows : List (List ℕ)) → 0 < length rows
-      → Says W (noteOf W j (map cell rows)) (pred (j + length rows)) (length (group cell left rows)) (sums W j (group cell left rows))
+      → Says W (noteOf W j (map cell rows)) j (length (group cell left rows)) (sums W j (group cell left rows))
   note-says j [] h = absurd (omega arith)
   note-says j (r ∷ rs) h =
-      let x = note-from 0 0 j j r rs in
-      let e : pred (j + suc (length rs)) ≡ j + length rs = omega arith in
-      rw e (record { number = omega (arith, x .number); costs = x .costs ∙ whole (group cell left (r ∷ rs)) })
+      let g = group-head cell left r rs in
+      rw (g .2) (both (g .0) (g .1) (rw (g .2) at (note-from j r rs)))
     where
-      whole : (gs : List Run) → 0 + sumsWith W j j gs ≡ sums W j gs
-      whole [] = refl
-      whole (g ∷ gs) = omega arith
+      both : (g : Run) (gs : List Run) → Tells W (noteFrom W j (cell r) (map cell rs)) j (g ∷ gs)
+          → Says W (noteFrom W j (cell r) (map cell rs)) j (length (g ∷ gs)) (sums W j (g ∷ gs))
+      both g gs x = record { number = x .number; costs = rw (x .to, x .sum) (omega arith) }
 
-module _ (W : ℕ → ℕ → ℕ) where
-  from-more : (s : Note) (j b : ℕ) (ds : List ℕ) (c d : ℕ)
-      → noteFrom W s j b ((ds ++ (c ∷ [])) ++ (d ∷ [])) ≡ noteNext W (noteFrom W s j b (ds ++ (c ∷ []))) (j + suc (length ds)) c d
-  unfolding noteFrom
-  from-more s j b [] c d = let e : j + 1 ≡ suc j = omega arith in rw e
-  from-more s j b (a ∷ ds) c d =
-      let e : j + suc (suc (length ds)) ≡ suc j + suc (length ds) = omega arith in
-      rw e (from-more (noteNext W s j b a) (suc j) a ds c d)
-
-  -- one row more
-  pub note-more : (j : ℕ) (cs : List ℕ) (c d : ℕ)
-      → noteOf W j ((cs ++ (c ∷ [])) ++ (d ∷ [])) ≡ noteNext W (noteOf W j (cs ++ (c ∷ []))) (j + length cs) c d
-  unfolding noteFrom
-  note-more j [] c d = let e : j + 0 ≡ j = omega arith in rw e
-  note-more j (b ∷ cs) c d = from-more (note 1 0 j) j b cs c d
-
-module _ (W : ℕ → ℕ → ℕ) (count : ℕ) (bound : (i k : ℕ) → i ≤ k → k < count → W i k ≤ 2048) where
-  next-fair : (first last c d : ℕ) (n : Note) → suc last < count → Fair first last n → Fair first (suc last) (noteNext W n last c d)
-  next-fair first last c d n h f = go (agree c d)
+module _ (W : ℕ → ℕ → ℕ) (count : ℕ) (bound : (i k : ℕ) → i ≤ k → k < count → W i k ≤ 65535) where
+  next-fair : (row last c d : ℕ) (n : Note) → last < count → Fair (suc row) last n → Fair row last (noteNext W n row c d)
+  next-fair row last c d n h f = go (agree c d)
     where
-      go : (b : Bool) → Fair first (suc last) (cond b n (note (suc (n .runs)) (n .sum + W (n .from) last) (suc last)))
-      go true = record { some = f .some; few = omega (arith, f .few); low = f .low; high = omega (arith, f .high); later = f .later; small = f .small }
+      go : (b : Bool) → Fair row last (cond b n (note (suc (n .runs)) (n .sum + W (suc row) (n .to)) row))
+      go true = record { some = f .some; few = omega (arith, f .few); low = omega (arith, f .low); high = f .high; earlier = f .earlier; small = f .small }
       go false = record {
         some = omega arith;
         few = omega (arith, f .few);
-        low = omega (arith, f .low, f .high);
-        high = omega arith;
-        later = λ l. omega (arith, f .low, f .high);
-        small = omega (arith, f .small, bound (n .from) last (f .high) (omega arith));
+        low = omega arith;
+        high = omega (arith, f .low, f .high);
+        earlier = λ l. omega (arith, f .low, f .high);
+        small = omega (arith, f .small, bound (suc row) (n .to) (f .low) (omega (arith, f .high)));
       }
 
-  from-fair : (first last c : ℕ) (n : Note) (ds : List ℕ) → last + length ds < count → Fair first last n → Fair first (last + length ds) (noteFrom W n last c ds)
+  from-fair : (j c : ℕ) (cs : List ℕ) → j + length cs < count → Fair j (j + length cs) (noteFrom W j c cs)
   unfolding noteFrom
-  from-fair first last c n [] h f = let e : last + 0 ≡ last = omega arith in rw e f
-  from-fair first last c n (d ∷ ds) h f =
-      let e : last + suc (length ds) ≡ suc last + length ds = omega arith in
-      rw e (from-fair first (suc last) d (noteNext W n last c d) ds (omega arith) (next-fair first last c d n (omega arith) f))
+  from-fair j c [] h = record { some = omega arith; few = omega arith; low = omega arith; high = omega arith; earlier = λ l. absurd (omega arith); small = omega arith }
+  from-fair j c (d ∷ cs) h =
+      let e : j + suc (length cs) ≡ suc j + length cs = omega arith in
+      rw e (next-fair j (suc j + length cs) c d (noteFrom W (suc j) d cs) (omega arith) (from-fair (suc j) d cs (omega arith)))
 
-  pub note-fair : (j : ℕ) (cs : List ℕ) → 0 < length cs → j + length cs ≤ count → Fair j (pred (j + length cs)) (noteOf W j cs)
-  note-fair j [] h l = absurd (omega arith)
-  note-fair j (c ∷ cs) h l =
-      let e : pred (j + suc (length cs)) ≡ j + length cs = omega arith in
-      rw e (from-fair j j c (note 1 0 j) cs (omega arith)
-      (record { some = omega arith; few = omega arith; low = omega arith; high = omega arith; later = λ l. absurd (omega arith); small = omega arith }))
+  pub note-fair : (j : ℕ) (c : ℕ) (cs : List ℕ) → j + length cs < count → Fair j (j + length cs) (noteOf W j (c ∷ cs))
+  note-fair j c cs h = from-fair j c cs h

@@ -1,53 +1,56 @@
-// What is kept for every pair of first and last row (01, "The least plan"). For a fixed first row the rows after it are
-// added one by one. What is known of a place of the rows so far is noted at the cell that the last of them has there.
+// What is kept for every pair of first and last row (01, "The least plan"). For a fixed last row the rows before it are
+// added one by one, in front. What is known of a place of the rows so far is noted at the cell that the first of them has
+// there. A pair's numbers stand at 64 times its first row plus its last, in each of the three parts of one lent array.
 ghost use mathlib.Core.Path.{_≡_};
 ghost use mathlib.Core.Bool.{cond, _||_};
-ghost use Prim.Native.Nat.{_+_, _-_, _*_, _≤_, _<_};
+ghost use Prim.Native.Nat.{_+_, _-_, _*_, _/_, _%_, _≤_, _<_};
 ghost use lib.Dec.{eqb, ltb};
-ghost use lib.ListN.{length, getD, set};
+ghost use lib.ListN.{length, getD};
+ghost use Rattle.least.specs.Measures.{workOf, measureOf};
 ghost use Rattle.least.specs.code.Best.{firstOver, leastOver};
-ghost use Rattle.entries.specs.Fill.{arrays};
-ghost use Rattle.entries.specs.code.Notes.{choiceOf, noteIn, noteNext, putNote, inWhole};
-ghost use Rattle.entries.specs.code.Notes.{Small, NextRow, RowNoted, Alone, Walk, Pair, EndsAt, Ended};
-ghost use Rattle.entries.specs.code.Filling.{stopOf, PairAt, Keeps, RowsAt, RowsDone, FirstAt, Rows, FilledTo};
+ghost use Rattle.entries.specs.Fill.{Filled};
+ghost use Rattle.entries.specs.code.Notes.{choiceOf, noteIn, noteNext, putNote, readIn, endIn, weightIn};
+ghost use Rattle.entries.specs.code.Notes.{Small, NextRow, RowNoted, Alone, Walk, Pair, EndsAt, MarkOf, MarkedTo};
+ghost use Rattle.entries.specs.code.Filling.{stopOf, rowOf, PairAt, Keeps, KeepsBefore, LastAt, FilledTo, Task, Finished, Rows};
+use least::By;
 use term::End;
 
-// How many runs the rows so far have at this place, the sum of what each of them costs, all but the last, and where the
-// last of them begins. One run: all agree, and the place is closed.
+// How many runs the rows so far have at this place, the sum of what each of them costs, all but the first, and the row at
+// which the first of them ends. One run: all agree, and the place is closed.
 struct Note {
     runs: u32,
     sum: u32,
-    from: u32,
+    to: u32,
 }
 
-// The notes are three numbers for each cell of the table.
-fn note_at(notes: &[u32; 6150], q: usize) -> Note
-    requires { ⌜ q < 2050 ⌝ }
+// The notes are three numbers for each cell of two neighbouring rows: 64 at most, told apart by their places modulo 64.
+fn note_at(notes: &[u32; 192], q: usize) -> Note
     ensures { λ r. ⌜ r ≡ noteIn (now (notes .entry)) q ⌝ }
 {
+    let at = q % 64;
     Note {
-        runs: notes[3 * q],
-        sum: notes[3 * q + 1],
-        from: notes[3 * q + 2],
+        runs: notes[at],
+        sum: notes[64 + at],
+        to: notes[128 + at],
     }
 }
 
-fn put_note(notes: &mut [u32; 6150], q: usize, s: Note)
-    requires { ⌜ q < 2050 ⌝ }
+fn put_note(notes: &mut [u32; 192], q: usize, s: Note)
     ensures { λ _. ⌜ now (notes .exit) ≡ putNote (now (notes .entry)) q s ⌝ }
 {
+    let at = q % 64;
     let runs = s.runs;
     let sum = s.sum;
-    let from = s.from;
-    notes[3 * q] = runs;
-    notes[3 * q + 1] = sum;
-    notes[3 * q + 2] = from;
+    let to = s.to;
+    notes[at] = runs;
+    notes[64 + at] = sum;
+    notes[128 + at] = to;
 }
 
 // The place after the term that begins at a cell.
 fn end_at(cells: &[u32], j: usize) -> u16
     requires { ⌜ length (now cells) ≤ 2050 ⌝ }
-    ensures { λ r. ⌜ EndsAt (now (cells .entry)) j r ⌝ }
+    ensures { λ r. ⌜ EndsAt (now (cells .entry)) j r × (r ≤ 2050) ⌝ }
 {
     match term::term_end(cells, j) {
         End::At(e) => e as u16,
@@ -55,83 +58,145 @@ fn end_at(cells: &[u32], j: usize) -> u16
     }
 }
 
-// The same for each cell. A table has at most 2,050 of them, so 16 bits are enough, and there is less to clear.
-fn term_ends(cells: &[u32]) -> [u16; 2050]
-    requires { ⌜ length (now cells) ≤ 2050 ⌝ }
-    ensures { λ r. ⌜ Ended (now (cells .entry)) r ⌝ }
+// W-204, "a variable's branch costs 0, a number 1, a name 1 plus its arguments".
+fn work_of(c: u32) -> u16
+    ensures { λ r. ⌜ (r ≡ workOf c) × (r ≤ 5) ⌝ }
 {
-    let mut ends = [0; 2050];
-    let mut j = 0;
-    while j < cells.len() {
-        ends[j] = end_at(cells, j);
-        j += 1;
+    match cell::kind(c) {
+        0 => 0,
+        _ => (cell::arity_of(c) + 1) as u16,
     }
-    ends
 }
 
-// An end that is kept there. (That a parameter fits the wider type is known; of an array's element it would be asked.)
-fn wide(e: u16) -> usize
-    ensures { λ r. ⌜ r ≡ e ⌝ }
+// What the branch of a cell weighs. This function and the next alone know the measure.
+fn weight_of(by: By, c: u32) -> u16
+    ensures { λ r. ⌜ (r ≡ measureOf by .weight c) × (r ≤ 5) ⌝ }
 {
-    e as usize
+    match by {
+        By::Branches => 1,
+        By::Work(_) => work_of(c),
+    }
+}
+
+// What a state with two or more branches adds.
+pub fn figure_of(by: By) -> u32
+    ensures { λ r. ⌜ r ≡ measureOf by .figure ⌝ }
+{
+    match by {
+        By::Branches => 0,
+        By::Work(figure) => figure,
+    }
+}
+
+// A cell's mark: 8 times where its term ends, and what the cell weighs.
+fn mark_of(by: By, cells: &[u32], j: usize) -> u16
+    requires { ⌜ (length (now cells) ≤ 2050) × (j < length (now cells)) ⌝ }
+    ensures { λ r. ⌜ MarkOf (measureOf by) (now (cells .entry)) j r ⌝ }
+{
+    let end = end_at(cells, j);
+    let weight = weight_of(by, cells[j]);
+    8 * end + weight
+}
+
+// The marks of all cells. A table has at most 2,050 of them, so 16 bits are enough, and there is less to clear.
+fn mark_cells(by: By, cells: &[u32], marks: &mut [u16; 2050])
+    requires { ⌜ (length (now cells) ≤ 2050) × (length (now marks) ≡ 2050) ⌝ }
+    ensures { λ _. ⌜ MarkedTo (measureOf by) (now (cells .entry)) (now (marks .exit)) (length (now (cells .entry))) ⌝ }
+{
+    let mut j = 0;
+    while j < cells.len() {
+        marks[j] = mark_of(by, cells, j);
+        j += 1;
+    }
+}
+
+// A mark's two parts. (That a parameter fits the wider type is known; of an array's element it would be asked.)
+fn end_in(mark: u16) -> usize
+    ensures { λ r. ⌜ r ≡ mark / 8 ⌝ }
+{
+    (mark / 8) as usize
+}
+
+fn weight_in(mark: u16) -> u32
+    ensures { λ r. ⌜ r ≡ mark % 8 ⌝ }
+{
+    (mark % 8) as u32
 }
 
 // The next place: a closed one's first argument, or what follows the term at an open one.
-fn after(ends: &[u16; 2050], s: Note, q: usize) -> usize
+fn after(marks: &[u16; 2050], s: Note, q: usize) -> usize
     requires { ⌜ q < 2050 ⌝ }
-    ensures { λ r. ⌜ r ≡ cond (eqb (s .runs) 1) (q + 1) (getD (now (ends .entry)) q 0) ⌝ }
+    ensures { λ r. ⌜ r ≡ cond (eqb (s .runs) 1) (q + 1) (endIn (now (marks .entry)) q) ⌝ }
 {
-    if s.runs == 1 { q + 1 } else { wide(ends[q]) }
+    if s.runs == 1 { q + 1 } else { end_in(marks[q]) }
 }
 
-// The place noted with one row more, whose cell there is d, after the row `last`, whose cell is c.
-fn next_note(s: Note, whole: &[u32; 4096], last: usize, c: u32, d: u32) -> Note
-    requires { ⌜ Small (now whole) last s ⌝ }
-    ensures { λ r. ⌜ r ≡ noteNext (inWhole (now (whole .entry))) s last c d ⌝ }
+// What is kept for a pair, and no more than any pair of a table costs: whatever stands there, sums of it fit.
+fn cost_in(kept: &[u32; 12288], first: usize, last: usize) -> u32
+    requires { ⌜ (first < 64) × (last < 64) ⌝ }
+    ensures { λ r. ⌜ r ≡ readIn (now (kept .entry)) first last ⌝ }
+{
+    let n = kept[64 * first + last];
+    if n < 65535 { n } else { 65535 }
+}
+
+// The place noted with one row more in front, whose cell there is c, the cell of the row after it being d.
+fn next_note(s: Note, kept: &[u32; 12288], row: usize, c: u32, d: u32) -> Note
+    requires { ⌜ Small (row + 1) s ⌝ }
+    ensures { λ r. ⌜ r ≡ noteNext (readIn (now (kept .entry))) s row c d ⌝ }
 {
     if state::column::same_symbol(c, d) {
         return s;
     }
-    let from = s.from as usize;
+    let to = s.to as usize;
+    let ended = cost_in(kept, row + 1, to);
     Note {
         runs: s.runs + 1,
-        sum: s.sum + whole[64 * from + last],
-        from: (last + 1) as u32,
+        sum: s.sum + ended,
+        to: row as u32,
     }
 }
 
-// One row more, its cells from `new` up to a stop, after the row `last`, whose cells are those from `old` up to `new`. The
-// two are walked side by side: a place that stays closed leads to its arguments, and at any other the term is passed.
+// A row by its number, and where its cells are in the table.
+struct Row {
+    number: usize,
+    start: usize,
+    end: usize,
+}
+
+// One row more in front of those that are noted. Its cells and those of the row after it, which begin where its own end,
+// are walked side by side: a place that stays closed leads to its arguments, and at any other the term is passed.
 fn note_row(
     cells: &[u32],
-    ends: &[u16; 2050],
-    whole: &[u32; 4096],
-    notes: &mut [u32; 6150],
-    last: usize,
-    old: usize,
-    new: usize,
-    stop: usize,
+    marks: &[u16; 2050],
+    kept: &[u32; 12288],
+    notes: &mut [u32; 192],
+    row: Row,
 )
-    requires { ⌜ NextRow (now cells) (now ends) (now whole) (now notes) last old new stop ⌝ }
-    ensures { λ _. ⌜ ((g : NextRow (now (cells .entry)) (now (ends .entry)) (now (whole .entry)) (now (notes .entry)) last old new stop)
-        → RowNoted g (now (notes .exit))) ⌝ }
+    requires { ⌜ NextRow (now cells) (now marks) (now kept) (now notes) (row .number) (row .start) (row .end) ⌝ }
+    ensures { λ _. ⌜ ((g : NextRow (now (cells .entry)) (now (marks .entry)) (now (kept .entry)) (now (notes .entry))
+        (row .number) (row .start) (row .end)) → RowNoted g (now (notes .exit))) ⌝ }
 {
-    let mut p = old;
-    let mut q = new;
+    let number = row.number;
+    let stop = row.end;
+    let mut p = stop;
+    let mut q = row.start;
     while q < stop {
-        let s = next_note(note_at(&*notes, p), whole, last, cells[p], cells[q]);
+        let s = next_note(note_at(&*notes, p), kept, number, cells[q], cells[p]);
         put_note(&mut *notes, q, s);
-        p = after(ends, s, p);
-        q = after(ends, s, q);
+        p = after(marks, s, p);
+        q = after(marks, s, q);
     }
 }
 
 // A row by itself: every place is closed.
-fn note_first(notes: &mut [u32; 6150], at: usize, stop: usize, first: usize)
-    requires { ⌜ (stop ≤ 2050) × (first < 64) × (length (now notes) ≡ 6150) ⌝ }
-    ensures { λ _. ⌜ Alone first at stop (now (notes .exit)) ⌝ }
+fn note_last(notes: &mut [u32; 192], row: Row)
+    requires { ⌜ (row .number < 64) × (row .end ≤ 2050) × (length (now notes) ≡ 192) ⌝ }
+    ensures { λ _. ⌜ Alone (row .number) (row .start) (row .end) (now (notes .exit)) ⌝ }
 {
-    let mut q = at;
+    let number = row.number;
+    let stop = row.end;
+    let mut q = row.start;
     while q < stop {
         put_note(
             &mut *notes,
@@ -139,7 +204,7 @@ fn note_first(notes: &mut [u32; 6150], at: usize, stop: usize, first: usize)
             Note {
                 runs: 1,
                 sum: 0,
-                from: first as u32,
+                to: number as u32,
             },
         );
         q += 1;
@@ -147,24 +212,25 @@ fn note_first(notes: &mut [u32; 6150], at: usize, stop: usize, first: usize)
 }
 
 // One closed cell more, where the place is closed.
-fn with_closed(n: u32, s: Note) -> u32
-    requires { ⌜ n < 2050 ⌝ }
-    ensures { λ r. ⌜ r ≡ n + cond (eqb (s .runs) 1) 1 0 ⌝ }
+fn with_closed(n: u32, s: Note, weight: u32) -> u32
+    requires { ⌜ (n ≤ 10250) × (weight ≤ 5) ⌝ }
+    ensures { λ r. ⌜ r ≡ n + cond (eqb (s .runs) 1) weight 0 ⌝ }
 {
-    if s.runs == 1 { n + 1 } else { n }
+    if s.runs == 1 { n + weight } else { n }
 }
 
-// How many cells are closed, in the row whose cells are those from a place up to a stop.
-fn agreed_in(ends: &[u16; 2050], notes: &[u32; 6150], at: usize, stop: usize) -> u32
-    requires { ⌜ Walk (now ends) (now notes) at stop ⌝ }
-    ensures { λ r. ⌜ ((g : Walk (now (ends .entry)) (now (notes .entry)) at stop) → r ≡ g .agreed) ⌝ }
+// What the closed cells of a row weigh.
+fn agreed_in(marks: &[u16; 2050], notes: &[u32; 192], row: Row) -> u32
+    requires { ⌜ Walk (now marks) (now notes) (row .start) (row .end) ⌝ }
+    ensures { λ r. ⌜ ((g : Walk (now (marks .entry)) (now (notes .entry)) (row .start) (row .end)) → r ≡ g .agreed) ⌝ }
 {
+    let stop = row.end;
     let mut n = 0;
-    let mut q = at;
+    let mut q = row.start;
     while q < stop {
         let s = note_at(notes, q);
-        n = with_closed(n, s);
-        q = after(ends, s, q);
+        n = with_closed(n, s, weight_in(marks[q]));
+        q = after(marks, s, q);
     }
     n
 }
@@ -188,81 +254,102 @@ fn consider(best: Choice, place: u32, cost: u32) -> Choice
     best
 }
 
-// What an open place costs, where so many cells are closed: the sum of what its runs cost, without these cells, which each
-// run's cost has in it.
-fn open_cost(s: Note, whole: &[u32; 4096], last: usize, agreed: u32) -> u32
-    requires { ⌜ Small (now whole) last s × (agreed ≤ 2050) × (s .runs * agreed ≤ s .sum + inWhole (now whole) (s .from) last) ⌝ }
-    ensures { λ r. ⌜ r ≡ s .sum + inWhole (now (whole .entry)) (s .from) last - s .runs * agreed ⌝ }
+// What an open place costs, where the closed cells weigh so much: the sum of what its runs cost, without these cells, which
+// each run's cost has in it, and the figure. Of a table no run costs less than they weigh.
+fn open_cost(s: Note, kept: &[u32; 12288], first: usize, agreed: u32, figure: u32) -> u32
+    requires { ⌜ Small first s × (agreed ≤ 10250) × (figure ≤ 15) ⌝ }
+    ensures { λ r. ⌜ r ≡ figure + (s .sum + readIn (now (kept .entry)) first (s .to) - s .runs * agreed) ⌝ }
 {
-    let from = s.from as usize;
-    let last_run = whole[64 * from + last];
+    let to = s.to as usize;
+    let all = s.sum + cost_in(kept, first, to);
     let closed = s.runs * agreed;
-    s.sum + last_run - closed
+    if all < closed {
+        return figure;
+    }
+    figure + (all - closed)
 }
 
-// The cheapest open place of a pair's last row, whose cells are those from a place up to a stop; the first of them.
+// The cheapest open place of a pair's first row; the leftmost of them.
 fn cheapest(
-    ends: &[u16; 2050],
-    whole: &[u32; 4096],
-    notes: &[u32; 6150],
-    last: usize,
+    marks: &[u16; 2050],
+    kept: &[u32; 12288],
+    notes: &[u32; 192],
+    row: Row,
     agreed: u32,
-    at: usize,
-    stop: usize,
+    figure: u32,
 ) -> Choice
-    requires { ⌜ Pair (now ends) (now whole) (now notes) last at stop agreed ⌝ }
-    ensures { λ r. ⌜ ((g : Pair (now (ends .entry)) (now (whole .entry)) (now (notes .entry)) last at stop agreed)
+    requires { ⌜ Pair (now marks) (now kept) (now notes) (row .number) (row .start) (row .end) agreed figure ⌝ }
+    ensures { λ r. ⌜ ((g : Pair (now (marks .entry)) (now (kept .entry)) (now (notes .entry))
+        (row .number) (row .start) (row .end) agreed figure)
         → r ≡ choiceOf (leastOver (g .opens) (g .prices)) (firstOver (g .opens) (g .prices))) ⌝ }
 {
+    let number = row.number;
+    let stop = row.end;
     let mut best = Choice { cost: 0, place: 0 };
     let mut place = 0;
-    let mut q = at;
+    let mut q = row.start;
     while q < stop {
         let s = note_at(notes, q);
         if s.runs != 1 {
-            best = consider(best, place, open_cost(s, whole, last, agreed));
+            best = consider(best, place, open_cost(s, kept, number, agreed, figure));
             place += 1;
         }
-        q = after(ends, s, q);
+        q = after(marks, s, q);
     }
     best
 }
 
-// A pair's cost is kept where there is room for it: the builder asks for none.
-fn put_cost(cost: &mut [u32], at: usize, n: u32)
-    ensures { λ _. ⌜ now (cost .exit) ≡ set (now (cost .entry)) at n ⌝ }
-{
-    if at < cost.len() {
-        cost[at] = n;
-    }
-}
-
-// The entry of a pair, read off the notes at its last row.
+// The values of a pair, read off the notes at its first row.
 fn keep_pair(
-    ends: &[u16; 2050],
-    whole: &mut [u32; 4096],
-    notes: &[u32; 6150],
-    cost: &mut [u32],
-    place: &mut [u32; 4096],
-    first: usize,
+    marks: &[u16; 2050],
+    kept: &mut [u32; 12288],
+    notes: &[u32; 192],
+    row: Row,
     last: usize,
-    at: usize,
-    stop: usize,
+    figure: u32,
 )
-    requires { ⌜ PairAt (now ends) (now whole) (now notes) first last at stop ⌝ }
-    ensures { λ _. ⌜ ((g : PairAt (now (ends .entry)) (now (whole .entry)) (now (notes .entry)) first last at stop)
-        → Keeps (g .width) (g .rows) first last
-        (arrays (now (whole .entry)) (now (cost .entry)) (now (place .entry)))
-        (arrays (now (whole .exit)) (now (cost .exit)) (now (place .exit)))) ⌝ }
+    requires { ⌜ PairAt (now marks) (now kept) (now notes) figure (row .number) last (row .start) (row .end) ⌝ }
+    ensures { λ _. ⌜ ((g : PairAt (now (marks .entry)) (now (kept .entry)) (now (notes .entry))
+        figure (row .number) last (row .start) (row .end))
+        → Keeps (g .m) (g .width) (g .rows) (g .N) (row .number) last (now (kept .entry)) (now (kept .exit))) ⌝ }
 {
-    let agreed = agreed_in(ends, notes, at, stop);
-    let best = cheapest(ends, &*whole, notes, last, agreed, at, stop);
+    let agreed = agreed_in(marks, notes, row);
+    let best = cheapest(marks, &*kept, notes, row, agreed, figure);
     let count = best.cost;
     let chosen = best.place;
-    let pair = 64 * first + last;
-    whole[pair] = agreed + count;
-    put_cost(&mut *cost, pair, count);
-    place[pair] = chosen;
+    let pair = 64 * row.number + last;
+    kept[pair] = agreed + count;
+    kept[4096 + pair] = count;
+    kept[8192 + pair] = chosen;
+}
+
+// Which pairs are worked out, of a table with so many rows: those that begin before row `top` and end at row `since` or
+// later. All others are kept as they stand. With the figure of the measure.
+struct Asked {
+    figure: u32,
+    count: usize,
+    top: usize,
+    since: usize,
+}
+
+// A pair's values, where it begins before row `top`.
+fn keep_before(
+    marks: &[u16; 2050],
+    kept: &mut [u32; 12288],
+    notes: &[u32; 192],
+    row: Row,
+    last: usize,
+    asked: Asked,
+)
+    requires { ⌜ PairAt (now marks) (now kept) (now notes) (asked .figure) (row .number) last (row .start) (row .end) ⌝ }
+    ensures { λ _. ⌜ ((g : PairAt (now (marks .entry)) (now (kept .entry)) (now (notes .entry))
+        (asked .figure) (row .number) last (row .start) (row .end))
+        → KeepsBefore (g .m) (g .width) (g .rows) (g .N) (asked .top) (row .number) last (now (kept .entry)) (now (kept .exit))) ⌝ }
+{
+    if asked.top <= row.number {
+        return;
+    }
+    keep_pair(marks, &mut *kept, notes, row, last, asked.figure);
 }
 
 // Where a row's cells end: where the next row's begin, and the last row's where the table's end.
@@ -277,128 +364,86 @@ fn row_end(cells: &[u32], starts: &[usize; 64], count: usize, r: usize) -> usize
     }
 }
 
-// The pairs with a first row and the rows after a last one, whose cells are those from `old` up to `new`.
-fn more_pairs(
-    cells: &[u32],
-    ends: &[u16; 2050],
-    starts: &[usize; 64],
-    whole: &mut [u32; 4096],
-    notes: &mut [u32; 6150],
-    cost: &mut [u32],
-    place: &mut [u32; 4096],
-    count: usize,
-    first: usize,
-    from: usize,
-    begin: usize,
-    end: usize,
-)
-    requires { ⌜ RowsAt (now cells) (now ends) (now starts) (now notes)
-        (arrays (now whole) (now cost) (now place)) count first from begin end ⌝ }
-    ensures { λ _. ⌜ ((g : RowsAt (now (cells .entry)) (now (ends .entry)) (now (starts .entry)) (now (notes .entry))
-        (arrays (now (whole .entry)) (now (cost .entry)) (now (place .entry))) count first from begin end)
-        → RowsDone (g .width) (g .rows) (g .lent) count first (now (notes .exit))
-        (arrays (now (whole .exit)) (now (cost .exit)) (now (place .exit)))) ⌝ }
+// The row before a row.
+fn row_before(starts: &[usize; 64], row: Row) -> Row
+    requires { ⌜ (0 < row .number) × (row .number < 64) ⌝ }
+    ensures { λ r. ⌜ r ≡ rowOf (row .number - 1) (getD (now (starts .entry)) (row .number - 1) 0) (row .start) ⌝ }
 {
-    let mut last = from;
-    let mut old = begin;
-    let mut new = end;
-    while last + 1 < count {
-        let stop = row_end(cells, starts, count, last + 1);
-        note_row(cells, ends, &*whole, &mut *notes, last, old, new, stop);
+    let number = row.number - 1;
+    let end = row.start;
+    Row {
+        number,
+        start: starts[number],
+        end,
+    }
+}
+
+// All pairs that end at a row: the row by itself, and then with one row more in front after another. The rows from `top` on
+// are only noted again.
+fn pairs_to(
+    cells: &[u32],
+    marks: &[u16; 2050],
+    starts: &[usize; 64],
+    kept: &mut [u32; 12288],
+    row: Row,
+    asked: Asked,
+)
+    requires { ⌜ LastAt (now cells) (now marks) (now starts) (now kept) asked row ⌝ }
+    ensures { λ _. ⌜ ((g : LastAt (now (cells .entry)) (now (marks .entry)) (now (starts .entry)) (now (kept .entry)) asked row)
+        → FilledTo (g .task) 0 (row .number) (now (kept .exit))) ⌝ }
+{
+    let last = row.number;
+    let mut notes = [0; 192];
+    note_last(&mut notes, row);
+    keep_before(marks, &mut *kept, &notes, row, last, asked);
+    let mut first = row;
+    while 0 < first.number {
+        first = row_before(starts, first);
+        note_row(cells, marks, &*kept, &mut notes, first);
+        keep_before(marks, &mut *kept, &notes, first, last, asked);
+    }
+}
+
+// The pairs that are asked for: last rows from the first to the last, so that a run's costs are there before they are asked
+// for.
+fn pairs_again(
+    cells: &[u32],
+    marks: &[u16; 2050],
+    starts: &[usize; 64],
+    kept: &mut [u32; 12288],
+    asked: Asked,
+)
+    requires { ⌜ Task (now cells) (now marks) (now starts) asked (now kept) ⌝ }
+    ensures { λ _. ⌜ ((t : Task (now (cells .entry)) (now (marks .entry)) (now (starts .entry)) asked (now (kept .entry)))
+        → Finished t (now (kept .exit))) ⌝ }
+{
+    let count = asked.count;
+    let mut last = asked.since;
+    while last < count {
+        let end = row_end(cells, starts, count, last);
+        let row = Row {
+            number: last,
+            start: starts[last],
+            end,
+        };
+        pairs_to(cells, marks, starts, &mut *kept, row, asked);
         last += 1;
-        old = new;
-        new = stop;
-        keep_pair(
-            ends,
-            &mut *whole,
-            &*notes,
-            &mut *cost,
-            &mut *place,
-            first,
-            last,
-            old,
-            new,
-        );
     }
 }
 
-// All pairs with a first row: the row by itself, and then with one row more after another.
-fn pairs_from(
-    cells: &[u32],
-    ends: &[u16; 2050],
-    starts: &[usize; 64],
-    whole: &mut [u32; 4096],
-    notes: &mut [u32; 6150],
-    cost: &mut [u32],
-    place: &mut [u32; 4096],
-    count: usize,
-    first: usize,
-)
-    requires { ⌜ FirstAt (now cells) (now ends) (now starts) (now notes) (arrays (now whole) (now cost) (now place)) count first ⌝ }
-    ensures { λ _. ⌜ ((g : FirstAt (now (cells .entry)) (now (ends .entry)) (now (starts .entry)) (now (notes .entry))
-        (arrays (now (whole .entry)) (now (cost .entry)) (now (place .entry))) count first)
-        → RowsDone (g .width) (g .rows) (g .lent) count first (now (notes .exit))
-        (arrays (now (whole .exit)) (now (cost .exit)) (now (place .exit)))) ⌝ }
-{
-    let old = starts[first];
-    let new = row_end(cells, starts, count, first);
-    note_first(&mut *notes, old, new, first);
-    keep_pair(
-        ends,
-        &mut *whole,
-        &*notes,
-        &mut *cost,
-        &mut *place,
-        first,
-        first,
-        old,
-        new,
-    );
-    more_pairs(
-        cells,
-        ends,
-        starts,
-        &mut *whole,
-        &mut *notes,
-        &mut *cost,
-        &mut *place,
-        count,
-        first,
-        first,
-        old,
-        new,
-    );
-}
-
-// All pairs: first rows from the last to the first, so that a run's costs are there before they are asked for.
-pub fn all_pairs(
-    cells: &[u32],
-    starts: &[usize; 64],
-    whole: &mut [u32; 4096],
-    cost: &mut [u32],
-    place: &mut [u32; 4096],
-    count: usize,
-)
-    requires { ⌜ Rows (now cells) (now starts) count × (length (now whole) ≡ 4096) × (length (now place) ≡ 4096) ⌝ }
+// All pairs of a table.
+pub fn all_pairs(by: By, cells: &[u32], starts: &[usize; 64], kept: &mut [u32; 12288], count: usize)
+    requires { ⌜ Rows (now cells) (now starts) count × (length (now kept) ≡ 12288) × (measureOf by .figure ≤ 15) ⌝ }
     ensures { λ _. ⌜ ((g : Rows (now (cells .entry)) (now (starts .entry)) count)
-        → FilledTo (g .width) (g .rows) (arrays (now (whole .entry)) (now (cost .entry)) (now (place .entry))) 0 count
-        (arrays (now (whole .exit)) (now (cost .exit)) (now (place .exit)))) ⌝ }
+        → Filled (measureOf by) (g .width) (g .rows) (now (kept .entry)) (now (kept .exit))) ⌝ }
 {
-    let ends = term_ends(cells);
-    let mut notes = [0; 6150];
-    let mut first = count;
-    while 0 < first {
-        first -= 1;
-        pairs_from(
-            cells,
-            &ends,
-            starts,
-            &mut *whole,
-            &mut notes,
-            &mut *cost,
-            &mut *place,
-            count,
-            first,
-        );
-    }
+    let mut marks = [0; 2050];
+    mark_cells(by, cells, &mut marks);
+    let asked = Asked {
+        figure: figure_of(by),
+        count,
+        top: count,
+        since: 0,
+    };
+    pairs_again(cells, &marks, starts, kept, asked);
 }

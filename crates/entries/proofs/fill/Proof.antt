@@ -1,56 +1,47 @@
+use Prim.Native.Nat.{_≤_}
+use Rattle.least.specs.Measures.{measureOf}
 use Rattle.state.specs.code.First.{TableRows}
-use Rattle.state.proofs.FirstLaws.{table-rows, table-turned}
 use Rattle.entries.proofs.LaidLaws.{laid-rows}
-use Rattle.entries.proofs.WorkedLaws.{table-filled, none-filled}
+use Rattle.entries.proofs.WorkedLaws.{figure-small, rows-by, turned-by, table-filled, none-filled}
 use borrow.Author.Needs.{needs}
 use Rattle.entries.proofs.fill.Statement.{statement}
 use Rattle.entries.proofs.fill.Tie as tie
 
--- where it begins
-abbrev start : tie.After-read-table → tie.Start
-start c = c .before .before .before .before .before .before .before
-
-read-table-requires : tie.Need-read-table-requires
-read-table-requires c κs = search needs
+read-by-requires : tie.Need-read-by-requires
+read-by-requires c κs = search needs
 
 enum-known-answer : tie.Need-enum-known-answer
 enum-known-answer c = search needs
 
--- the table's rows, where it is accepted
-table-here : (c : tie.After-answer)
-    → TableRows (start (c .before .before) .args .cells .now) (c .before .before .read-table .result .starts) (c .answer .given .0 .0) (c .answer .given .0 .1 .0)
-table-here c = table-rows (start (c .before .before) .args .cells .now) (c .before .before .read-table .ensures) (c .answer .given .1)
+-- where the table is accepted
+module _ (c : tie.After-answer) where
+  abbrev start : tie.Start
+  start = c .before .before .before .before .before .before
+
+  table-here : TableRows (start .args .cells .now) (c .before .before .read-by .result .starts) (c .answer .given .0 .0) (c .answer .given .0 .1 .0)
+  table-here = rows-by (start .args .by) (start .args .cells .now) (c .before .before .read-by .ensures) (c .answer .given .1)
+
+  small : measureOf (start .args .by) .figure ≤ 15
+  small = figure-small (start .args .by) (start .args .cells .now) (c .before .before .read-by .ensures) (c .answer .given .1)
 
 all-pairs-requires : tie.Need-all-pairs-requires
-all-pairs-requires c κs = (laid-rows (table-here (c .before .before .before .before .before .before)), search needs, search needs)
+all-pairs-requires c κs = (let a = c .before .before .before .before in (laid-rows (table-here a), search needs, small a))
 
 enum-told : tie.Need-enum-told
 enum-told c = search needs
 
-same-length : tie.Need-same-length
-same-length c = search needs
-
 returns : tie.Need-returns
 unfolding laid-rows
 returns c =
-    let p = c .before .before in
-    let a = p .before .before .before .before .before .before .before in
+    let a = c .before .before .before .before .before in
     let k = table-here a in
-    table-filled k (a .before .before .read-table .ensures) (p .all-pairs .ensures (laid-rows k))
+    table-filled (start a .args .by) k (small a) (a .before .before .read-by .ensures) (c .all-pairs .ensures (laid-rows k))
 
 returns-2 : tie.Need-returns-2
 returns-2 c =
     let r = c .before .before in
-    none-filled (table-turned (start r .args .cells .now) (r .read-table .ensures) (c .enum-told .given .1)) (r .read-table .ensures)
+    let s = r .before .before .before .before in
+    none-filled (turned-by (s .args .by) (s .args .cells .now) (r .read-by .ensures) (c .enum-told .given .1)) (r .read-by .ensures)
 
 pub fill-spec : {M : Type 1} → statement M
-fill-spec =
-    tie.close
-    (tie.spec
-    read-table-requires
-    enum-known-answer
-    all-pairs-requires
-    enum-told
-    same-length
-    returns
-    returns-2)
+fill-spec = tie.close (tie.spec read-by-requires enum-known-answer all-pairs-requires enum-told returns returns-2)

@@ -1,4 +1,6 @@
--- How the arrays are filled: the rows of a table as they stand in its cells, one pair, and all pairs so far.
+-- How the array is filled: the rows of a table as they stand in its cells, one pair, and all pairs that are worked out. Whatever stands at
+-- the pairs that are kept, there are values that the array comes to hold (`held` of least/proofs/Again); where the kept ones are a
+-- table's, so are all.
 use Prim.Native.Nat.{ℕ, suc, _+_, _*_, _≤_, _<_}
 use mathlib.Core.Path.{_≡_}
 use mathlib.Core.Logic.{_⊎_}
@@ -7,112 +9,145 @@ use mathlib.Core.List.{List, []}
 use lib.Dec.{ltb}
 use lib.ListN.{length, getD, set}
 use lib.Seq.{slice}
-use Rattle.term.specs.Terms.{Terms}
 use Rattle.table.specs.All.{All}
-use Rattle.plan.specs.Plans.{plain}
-use Rattle.least.specs.code.Best.{best}
-use Rattle.least.specs.Entries.{between, Entry}
-use Rattle.entries.specs.Fill.{Arrays, EntryAt, SameAt, SameSize}
-use Rattle.entries.specs.code.Notes.{noteIn, inWhole, Noted, Ended}
-
--- what the rows from the first to the last cost at least, with no place closed. A row has at most 32 cells
-abbrev pub wholeOf : ℕ → List (List ℕ) → ℕ → ℕ → ℕ
-wholeOf width rows first last = best plain 32 width (between first last rows)
+use Rattle.plan.specs.Plans.{Measure}
+use Rattle.plan.specs.code.Fits.{Fits}
+use Rattle.least.specs.code.Low.{Low}
+use Rattle.least.specs.code.Pairs.{agreedOf, leastBy, placeBy, wholeBy}
+use Rattle.entries.specs.declared.arrays.Asked.{Asked}
+use Rattle.entries.specs.declared.arrays.Row.{Row}
+use Rattle.entries.specs.Fill.{wholeIn, costIn, placeIn, SameAt}
+use Rattle.entries.specs.code.Notes.{noteIn, readIn, Noted, MarkedTo}
 
 -- a row's cells end where the next row's begin, and the last row's where the table's end
 abbrev pub stopOf : List ℕ → List ℕ → ℕ → ℕ → ℕ
 stopOf cells starts count r = cond (ltb (r + 1) count) (getD starts (r + 1) 0) (length cells)
+
+abbrev pub rowOf : ℕ → ℕ → ℕ → Row
+rowOf number start end = record { number = number; start = start; end = end }
 
 -- the rows of a table of this width stand in its cells, each from its start on
 pub record Laid (cells starts : List ℕ) (count width : ℕ) (rows : List (List ℕ)) : Type 0 where
   pub number : length rows ≡ count
   pub few : count ≤ 64
   pub size : length cells ≤ 2050
-  pub fits : All (λ (r : List ℕ). Terms width r × (length r ≤ 32)) rows
+  pub fits : All (Fits 32 width) rows
   pub order : (r : ℕ) → r < count → (getD starts r 0 ≤ stopOf cells starts count r) × (stopOf cells starts count r ≤ length cells)
   pub row : (r : ℕ) → r < count → getD rows r [] ≡ slice (getD starts r 0) (stopOf cells starts count r) cells
 
--- what is given where the entry of a pair is kept: the notes at its last row, whose cells are those from `at` up to a stop
-pub record PairAt (ends whole notes : List ℕ) (first last at stop : ℕ) : Type 0 where
+-- what is given where the values of a pair are kept: the notes at its first row, whose cells are those from `at` up to a stop. What a run
+-- of rows costs is N
+pub record PairAt (marks kept notes : List ℕ) (figure first last at stop : ℕ) : Type 0 where
+  pub m : Measure
+  pub low : Low m
+  pub figure-is : figure ≡ m .figure
   pub cells : List ℕ
   pub width : ℕ
   pub rows : List (List ℕ)
   pub few : length rows ≤ 64
-  pub fits : All (λ (r : List ℕ). Terms width r × (length r ≤ 32)) rows
+  pub fits : All (Fits 32 width) rows
   pub order : first ≤ last
   pub inside : last < length rows
   pub part : (at ≤ stop) × (stop ≤ length cells) × (length cells ≤ 2050)
-  pub row : getD rows last [] ≡ slice at stop cells
-  pub ended : Ended cells ends
-  pub noted : Noted (wholeOf width rows) first (noteIn notes) at width (slice first last rows) (getD rows last [])
-  pub kept : (j : ℕ) → first < j → j ≤ last → inWhole whole j last ≡ wholeOf width rows j last
+  pub row : getD rows first [] ≡ slice at stop cells
+  pub marked : MarkedTo m cells marks (length cells)
+  pub N : ℕ → ℕ → ℕ
+  pub small : (j j′ : ℕ) → j ≤ j′ → j′ < length rows → N j j′ ≤ 65535
+  pub noted : Noted N first (noteIn notes) at width (getD rows first []) (slice (suc first) (suc last) rows)
+  pub known : (j : ℕ) → first ≤ j → j < last → readIn kept first j ≡ N first j
+  pub room : length kept ≡ 12288
+
+-- the three values of a pair, put at its places
+abbrev pub putPair : List ℕ → ℕ → ℕ → ℕ → ℕ → List ℕ
+putPair kept pair whole cost place = set (set (set kept pair whole) (4096 + pair) cost) (8192 + pair) place
 
 -- a pair's values are kept, and nothing else is changed
-pub record Keeps (width : ℕ) (rows : List (List ℕ)) (first last : ℕ) (old new : Arrays) : Type 0 where
-  pub count : ℕ
-  pub chosen : ℕ
-  pub entry : Entry plain width rows first last count chosen
-  pub whole : new .whole ≡ set (old .whole) (64 * first + last) (wholeOf width rows first last)
-  pub cost : new .cost ≡ set (old .cost) (64 * first + last) count
-  pub place : new .place ≡ set (old .place) (64 * first + last) chosen
+pub record Keeps (m : Measure) (width : ℕ) (rows : List (List ℕ)) (N : ℕ → ℕ → ℕ) (first last : ℕ) (old new : List ℕ) : Type 0 where
+  pub is : new
+      ≡ putPair old (64 * first + last) (agreedOf m 32 width rows first last + leastBy m width rows N first last)
+      (leastBy m width rows N first last) (placeBy m width rows N first last)
 
--- which pairs are done: those of later first rows, and those of this one up to a last row, which is not yet done
-abbrev pub Done : (first last j j′ : ℕ) → Type 0
-Done first last j j′ = (first < j) ⊎ ((j ≡ first) × (j′ < last))
+-- where it begins before row `top`; otherwise nothing is changed
+pub data KeepsBefore (m : Measure) (width : ℕ) (rows : List (List ℕ)) (N : ℕ → ℕ → ℕ) (top first last : ℕ) (old new : List ℕ) : Type 0 where
+  keeps : first < top → Keeps m width rows N first last old new → KeepsBefore m width rows N top first last old new
+  passes : top ≤ first → new ≡ old → KeepsBefore m width rows N top first last old new
 
--- the arrays with these pairs done. Where there is no pair stands what was there
-pub record FilledTo (width : ℕ) (rows : List (List ℕ)) (old : Arrays) (first last : ℕ) (held : Arrays) : Type 0 where
-  pub whole : (j j′ : ℕ) → j ≤ j′ → j′ < length rows → Done first last j j′ → inWhole (held .whole) j j′ ≡ wholeOf width rows j j′
-  pub entry : (j j′ : ℕ) → j ≤ j′ → j′ < length rows → Done first last j j′ → EntryAt width rows j j′ (held .cost) (held .place)
-  pub other : (j j′ : ℕ) → j′ < 64 → (j′ < j) ⊎ (length rows ≤ j′) → SameAt j j′ old held
-  pub size : SameSize old held
-  pub room : (length (old .whole) ≡ 4096) × (length (old .place) ≡ 4096)
-
--- the rows of a table, and one of them that is a first row
-pub record Ready (cells ends starts : List ℕ) (count first width : ℕ) (rows : List (List ℕ)) : Type 0 where
-  pub laid : Laid cells starts count width rows
-  pub ended : Ended cells ends
-  pub inside : first < count
-
--- the row `last` stands in its cells, from `old` up to `new`
-pub record RowHere (cells starts : List ℕ) (count first last old new : ℕ) : Type 0 where
-  pub order : first ≤ last
-  pub inside : last < count
-  pub old-is : old ≡ getD starts last 0
-  pub new-is : new ≡ stopOf cells starts count last
-
--- it is noted, and the pairs of this first row up to it are done
-pub record Kept (cells starts : List ℕ) (count first width : ℕ) (rows : List (List ℕ)) (lent : Arrays) (last old new : ℕ)
-    (notes : List ℕ) (held : Arrays) : Type 0 where
-  pub row : RowHere cells starts count first last old new
-  pub noted : Noted (wholeOf width rows) first (noteIn notes) old width (slice first last rows) (getD rows last [])
-  pub filled : FilledTo width rows lent first (suc last) held
-  pub room : length notes ≡ 6150
-
--- What is given where the pairs of a first row are worked out from a last row on, and what is so then: of the arrays that were lent,
--- what they hold
-pub record RowsAt (cells ends starts notes : List ℕ) (held : Arrays) (count first last old new : ℕ) : Type 0 where
+-- A task: the rows of a table, the array as it stands, and which pairs are worked out: those that begin before row `top` and end at row
+-- `since` or later. N are the values in the end: at those pairs what their runs' values give, at all others what stands there
+pub record Task (cells marks starts : List ℕ) (asked : Asked) (old : List ℕ) : Type 0 where
+  pub m : Measure
+  pub low : Low m
+  pub figure-is : asked .figure ≡ m .figure
   pub width : ℕ
   pub rows : List (List ℕ)
-  pub lent : Arrays
-  pub ready : Ready cells ends starts count first width rows
-  pub kept : Kept cells starts count first width rows lent last old new notes held
+  pub laid : Laid cells starts (asked .count) width rows
+  pub marked : MarkedTo m cells marks (length cells)
+  pub N : ℕ → ℕ → ℕ
+  pub again : (j j′ : ℕ) → j ≤ j′ → j′ < length rows → j < asked .top → asked .since ≤ j′ → N j j′ ≡ wholeBy m width rows N j j′
+  pub known : (j j′ : ℕ) → j ≤ j′ → j′ < length rows → (asked .top ≤ j) ⊎ (j′ < asked .since) → N j j′ ≡ readIn old j j′
+  pub small : (j j′ : ℕ) → j ≤ j′ → j′ < length rows → N j j′ ≤ 65535
+  pub room : length old ≡ 12288
 
-pub record RowsDone (width : ℕ) (rows : List (List ℕ)) (lent : Arrays) (count first : ℕ) (notes : List ℕ) (held : Arrays) : Type 0 where
-  pub filled : FilledTo width rows lent first count held
-  pub room : length notes ≡ 6150
+-- which pairs are worked out so far: those with an earlier last row, and those with this one that begin at the first row or later
+pub record Worked (count : ℕ) (asked : Asked) (first last j j′ : ℕ) : Type 0 where
+  pub order : j ≤ j′
+  pub inside : j′ < count
+  pub begins : j < asked .top
+  pub ends : asked .since ≤ j′
+  pub done : (j′ < last) ⊎ ((j′ ≡ last) × (first ≤ j))
 
--- what is given where all pairs of a first row are worked out: those of later first rows are
-pub record FirstAt (cells ends starts notes : List ℕ) (held : Arrays) (count first : ℕ) : Type 0 where
-  pub width : ℕ
-  pub rows : List (List ℕ)
-  pub lent : Arrays
-  pub ready : Ready cells ends starts count first width rows
-  pub filled : FilledTo width rows lent (suc first) count held
-  pub room : length notes ≡ 6150
+module _ {cells marks starts : List ℕ} {asked : Asked} {old : List ℕ} (t : Task cells marks starts asked old) where
+  -- what stands at a pair
+  pub data Stands (first last : ℕ) (kept : List ℕ) (j j′ : ℕ) : Type 0 where
+    worked : Worked (length (t .rows)) asked first last j j′ → readIn kept j j′ ≡ t .N j j′
+        → costIn kept j j′ ≡ leastBy (t .m) (t .width) (t .rows) (t .N) j j′ → placeIn kept j j′ ≡ placeBy (t .m) (t .width) (t .rows) (t .N) j j′
+        → Stands first last kept j j′
+    left : (Worked (length (t .rows)) asked first last j j′ → ⊥) → SameAt j j′ old kept → Stands first last kept j j′
+
+  pub record FilledTo (first last : ℕ) (kept : List ℕ) : Type 0 where
+    pub each : (j j′ : ℕ) → j < 64 → j′ < 64 → Stands first last kept j j′
+    pub room : length kept ≡ 12288
+
+-- a row stands in its cells
+pub record RowHere (cells starts : List ℕ) (count : ℕ) (row : Row) : Type 0 where
+  pub inside : row .number < count
+  pub start-is : row .start ≡ getD starts (row .number) 0
+  pub end-is : row .end ≡ stopOf cells starts count (row .number)
+
+module _ {cells marks starts : List ℕ} {asked : Asked} {old : List ℕ} (t : Task cells marks starts asked old) where
+  -- a row is noted with those after it up to the last one, and the pairs that end there are done from a first row on
+  pub record NotedTo (first last : ℕ) (row : Row) (notes kept : List ℕ) : Type 0 where
+    pub here : RowHere cells starts (asked .count) row
+    pub order : row .number ≤ last
+    pub inside : last < asked .count
+    pub late : asked .since ≤ last
+    pub noted : Noted (t .N) (row .number) (noteIn notes) (row .start) (t .width) (getD (t .rows) (row .number) [])
+        (slice (suc (row .number)) (suc last) (t .rows))
+    pub filled : FilledTo t first last kept
+    pub room : length notes ≡ 192
+
+-- what is given where the pairs that end at a row are worked out: those that end before it are done
+pub record LastAt (cells marks starts kept : List ℕ) (asked : Asked) (row : Row) : Type 0 where
+  pub old : List ℕ
+  pub task : Task cells marks starts asked old
+  pub here : RowHere cells starts (asked .count) row
+  pub late : asked .since ≤ row .number
+  pub filled : FilledTo task (suc (row .number)) (row .number) kept
+
+-- all pairs that were asked for are done
+pub record Finished {cells marks starts : List ℕ} {asked : Asked} {old : List ℕ} (t : Task cells marks starts asked old) (kept : List ℕ)
+    : Type 0 where
+  pub upto : ℕ
+  pub far : asked .count ≤ upto
+  pub filled : FilledTo t (suc upto) upto kept
 
 -- the rows of a table
 pub record Rows (cells starts : List ℕ) (count : ℕ) : Type 0 where
   pub width : ℕ
   pub rows : List (List ℕ)
   pub laid : Laid cells starts count width rows
+
+-- the first numbers of an array are those of a part of another, from a place on
+pub record Taken (kept : List ℕ) (at upto : ℕ) (part : List ℕ) : Type 0 where
+  pub size : length part ≡ 4096
+  pub each : (i : ℕ) → i < upto → getD part i 0 ≡ getD kept (at + i) 0

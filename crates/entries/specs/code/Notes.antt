@@ -1,6 +1,6 @@
--- What the code notes while it works the entries out. For a fixed first row the rows after it are added one by one, and what is known of
--- each place of the rows so far is noted at the cell that the last of them has there.
-use Prim.Native.Nat.{ℕ, suc, _+_, _*_, _≤_, _<_}
+-- What the code notes while it works the entries out. For a fixed last row the rows before it are added one by one, in front, and what is
+-- known of each place of the rows so far is noted at the cell that the first of them has there.
+use Prim.Native.Nat.{ℕ, suc, _+_, _-_, _*_, _/_, _%_, _≤_, _<_, min}
 use mathlib.Core.Path.{_≡_}
 use mathlib.Core.Bool.{cond}
 use mathlib.Core.List.{List, [], _∷_, _++_, map}
@@ -9,139 +9,159 @@ use lib.Seq.{slice}
 use Rattle.cell.specs.Cell.{arity}
 use Rattle.term.specs.Terms.{Terms, front, back, root, close}
 use Rattle.plan.specs.Runs.{agree}
+use Rattle.plan.specs.Plans.{Measure}
+use Rattle.least.specs.code.Pairs.{limit}
+use Rattle.entries.specs.Fill.{wholeIn}
 use Rattle.entries.specs.declared.arrays.Note.{Note}
 use Rattle.entries.specs.declared.arrays.Choice.{Choice}
 
 abbrev pub note : ℕ → ℕ → ℕ → Note
-note n s f = record { runs = n; sum = s; from = f }
+note n s t = record { runs = n; sum = s; to = t }
 
 abbrev pub choiceOf : ℕ → ℕ → Choice
 choiceOf c i = record { cost = c; place = i }
 
--- one row more after the row `last`: at this place it has the cell d, and that row c. W is what a run costs, by its first and last row
+-- one row more, in front: at this place it has the cell c, and the row after it d. W is what a run costs, by its first and last row
 abbrev pub noteNext : (ℕ → ℕ → ℕ) → Note → ℕ → ℕ → ℕ → Note
-noteNext W s last c d = cond (agree c d) s (note (suc (s .runs)) (s .sum + W (s .from) last) (suc last))
+noteNext W s row c d = cond (agree c d) s (note (suc (s .runs)) (s .sum + W (suc row) (s .to)) row)
 
 -- the note of a column of cells, the first of them in row j
-unfoldable pub noteFrom : (ℕ → ℕ → ℕ) → Note → ℕ → ℕ → List ℕ → Note
-noteFrom W s j c [] = s
-noteFrom W s j c (d ∷ cs) = noteFrom W (noteNext W s j c d) (suc j) d cs
+unfoldable pub noteFrom : (ℕ → ℕ → ℕ) → ℕ → ℕ → List ℕ → Note
+noteFrom W j c [] = note 1 0 j
+noteFrom W j c (d ∷ cs) = noteNext W (noteFrom W (suc j) d cs) j c d
 
 abbrev pub noteOf : (ℕ → ℕ → ℕ) → ℕ → List ℕ → Note
 noteOf W j [] = note 0 0 j
-noteOf W j (c ∷ cs) = noteFrom W (note 1 0 j) j c cs
+noteOf W j (c ∷ cs) = noteFrom W j c cs
 
--- what is true of a note of the rows from the first to the last: there is a run, the last one begins at one of these rows, and after
--- the first where there are more; and the sum is small
+-- what is true of a note of the rows from the first to the last: there is a run, the first one ends at one of these rows, and before the
+-- last where there are more; and the sum is small
 pub record Fair (first last : ℕ) (noted : Note) : Type 0 where
   pub some : 1 ≤ noted .runs
   pub few : noted .runs + first ≤ suc last
-  pub low : first ≤ noted .from
-  pub high : noted .from ≤ last
-  pub later : 1 < noted .runs → first < noted .from
-  pub small : noted .sum ≤ 2048 * noted .runs
+  pub low : first ≤ noted .to
+  pub high : noted .to ≤ last
+  pub earlier : 1 < noted .runs → noted .to < last
+  pub small : noted .sum ≤ 65535 * noted .runs
 
--- the notes as they are kept: three numbers for each cell of the table
+-- The notes as they are kept: three numbers for each of 64 cells. Two neighbouring rows have no more cells than that, so that a cell's
+-- place modulo 64 tells it from all others that are looked at
 abbrev pub noteIn : List ℕ → ℕ → Note
-noteIn notes q = note (getD notes (3 * q) 0) (getD notes (3 * q + 1) 0) (getD notes (3 * q + 2) 0)
+noteIn notes q = note (getD notes (q % 64) 0) (getD notes (64 + q % 64) 0) (getD notes (128 + q % 64) 0)
 
 abbrev pub putNote : List ℕ → ℕ → Note → List ℕ
-putNote notes q s = set (set (set notes (3 * q) (s .runs)) (3 * q + 1) (s .sum)) (3 * q + 2) (s .from)
+putNote notes q s = set (set (set notes (q % 64) (s .runs)) (64 + q % 64) (s .sum)) (128 + q % 64) (s .to)
 
--- what is kept for a pair of rows, 64 times the first and the last
-abbrev pub inWhole : List ℕ → ℕ → ℕ → ℕ
-inWhole whole first last = getD whole (64 * first + last) 0
+-- what is read of a pair: whatever stands there, no more than any pair of a table costs
+abbrev pub readIn : List ℕ → ℕ → ℕ → ℕ
+readIn kept first last = min (wholeIn kept first last) limit
 
--- the numbers of a note are small, and so is what is kept for its last run up to the row `last`
-pub record Small (whole : List ℕ) (last : ℕ) (noted : Note) : Type 0 where
+-- the numbers of a note of rows from the first on are small
+pub record Small (first : ℕ) (noted : Note) : Type 0 where
   pub runs : noted .runs ≤ 64
-  pub sum : noted .sum ≤ 131072
-  pub from : noted .from < 64
-  pub row : last < 64
-  pub cost : inWhole whole (noted .from) last ≤ 2048
+  pub sum : noted .sum ≤ 4194240
+  pub to : noted .to < 64
+  pub row : first < 64
 
--- The notes at the cells of a row, from a cell on, are right: at each place they say what the column there says, of the older rows, in
--- order, and this one, all of them from that place on; so many terms are left. Where there is one run the place is closed, and its
+-- The notes at the cells of a row, from a cell on, are right: at each place they say what the column there says, of this row and those
+-- after it, in order, all of them from that place on; so many terms are left. Where there is one run the place is closed, and its
 -- arguments come next; where there are more the whole term is passed
-pub data Noted (costs : ℕ → ℕ → ℕ) (first : ℕ) (notes : ℕ → Note) : (at terms : ℕ) (olds : List (List ℕ)) (row : List ℕ) → Type 0 where
-  done : {at : ℕ} {olds : List (List ℕ)} {row : List ℕ} → Noted costs first notes at 0 olds row
-  closed : {at terms : ℕ} {olds : List (List ℕ)} {row : List ℕ} → notes at ≡ noteOf costs first (map (root 0) (olds ++ (row ∷ [])))
-      → (notes at) .runs ≡ 1 → Noted costs first notes (suc at) (arity (root 0 row) + terms) (map (close 0) olds) (close 0 row)
-      → Noted costs first notes at (suc terms) olds row
-  opened : {at terms : ℕ} {olds : List (List ℕ)} {row : List ℕ} → notes at ≡ noteOf costs first (map (root 0) (olds ++ (row ∷ [])))
-      → 1 < (notes at) .runs → Noted costs first notes (at + length (front 1 row)) terms (map (back 1) olds) (back 1 row)
-      → Noted costs first notes at (suc terms) olds row
+pub data Noted (costs : ℕ → ℕ → ℕ) (first : ℕ) (notes : ℕ → Note) : (at terms : ℕ) (row : List ℕ) (rest : List (List ℕ)) → Type 0 where
+  done : {at : ℕ} {row : List ℕ} {rest : List (List ℕ)} → Noted costs first notes at 0 row rest
+  closed : {at terms : ℕ} {row : List ℕ} {rest : List (List ℕ)} → notes at ≡ noteOf costs first (map (root 0) (row ∷ rest))
+      → (notes at) .runs ≡ 1 → Noted costs first notes (suc at) (arity (root 0 row) + terms) (close 0 row) (map (close 0) rest)
+      → Noted costs first notes at (suc terms) row rest
+  opened : {at terms : ℕ} {row : List ℕ} {rest : List (List ℕ)} → notes at ≡ noteOf costs first (map (root 0) (row ∷ rest))
+      → 1 < (notes at) .runs → Noted costs first notes (at + length (front 1 row)) terms (back 1 row) (map (back 1) rest)
+      → Noted costs first notes at (suc terms) row rest
 
 -- The notes at a row's cells as they are read, from a cell on, where so many open places are passed, up to the stop, where there are
--- `opens` in all; `ends` is where the term at a cell ends. So many cells are closed on the way, and the note of each open place is what
--- it has to be
-pub data Shown (notes : ℕ → Note) (ends : ℕ → ℕ) (Is : ℕ → Note → Type 0) (stop opens : ℕ) : (at passed agreed : ℕ) → Type 0 where
-  at-end : Shown notes ends Is stop opens stop opens 0
-  at-closed : {at passed agreed : ℕ} → at < stop → (notes at) .runs ≡ 1 → Shown notes ends Is stop opens (suc at) passed agreed
-      → Shown notes ends Is stop opens at passed (suc agreed)
+-- `opens` in all; `ends` is where the term at a cell ends, and `weighs` what the cell weighs. The cells that are closed on the way weigh
+-- `agreed`, and the note of each open place is what it has to be
+pub data Shown (notes : ℕ → Note) (ends weighs : ℕ → ℕ) (Is : ℕ → Note → Type 0) (stop opens : ℕ) : (at passed agreed : ℕ) → Type 0 where
+  at-end : Shown notes ends weighs Is stop opens stop opens 0
+  at-closed : {at passed agreed : ℕ} → at < stop → (notes at) .runs ≡ 1 → Shown notes ends weighs Is stop opens (suc at) passed agreed
+      → Shown notes ends weighs Is stop opens at passed (weighs at + agreed)
   at-open : {at passed agreed : ℕ} → at < stop → at < ends at → 1 < (notes at) .runs → Is passed (notes at)
-      → Shown notes ends Is stop opens (ends at) (suc passed) agreed → Shown notes ends Is stop opens at passed agreed
+      → Shown notes ends weighs Is stop opens (ends at) (suc passed) agreed → Shown notes ends weighs Is stop opens at passed agreed
 
--- the note of an open place, where so many cells are closed: what its runs cost together is the place's price, and `agreed` for each run
-pub record Priced (costs : ℕ → ℕ → ℕ) (first last agreed : ℕ) (prices : ℕ → ℕ) (place : ℕ) (noted : Note) : Type 0 where
-  pub price : noted .sum + costs (noted .from) last ≡ prices place + noted .runs * agreed
+-- the note of an open place, where the closed cells weigh `agreed`: its price is what its runs cost together, less `agreed` for each run,
+-- and the state's own figure
+pub record Priced (costs : ℕ → ℕ → ℕ) (first last agreed figure : ℕ) (prices : ℕ → ℕ) (place : ℕ) (noted : Note) : Type 0 where
+  pub price : prices place ≡ figure + (noted .sum + costs first (noted .to) - noted .runs * agreed)
   pub fair : Fair first last noted
 
 -- e is the place after the term that begins at cell j, if one does
 abbrev pub EndsAt : List ℕ → ℕ → ℕ → Type 0
 EndsAt cells j e = (t rest : List ℕ) → Terms 1 t → drop j cells ≡ t ++ rest → e ≡ j + length t
 
--- the same of each cell
-pub record Ended (cells ends : List ℕ) : Type 0 where
-  pub size : length ends ≡ 2050
-  pub at : (j : ℕ) → EndsAt cells j (getD ends j 0)
+-- of each cell there is a mark: 8 times where its term ends, and what it weighs
+abbrev pub endIn : List ℕ → ℕ → ℕ
+endIn marks q = getD marks q 0 / 8
 
--- What is given where one row more is noted, its cells from `new` up to a stop: the row before it, `last`, is noted at its cells from
--- `old` up to `new`, after the older rows, and what a run costs is kept for each that ends at that row
-pub record NextRow (cells ends whole notes : List ℕ) (last old new stop : ℕ) : Type 0 where
+abbrev pub weightIn : List ℕ → ℕ → ℕ
+weightIn marks q = getD marks q 0 % 8
+
+pub record MarkOf (m : Measure) (cells : List ℕ) (j mark : ℕ) : Type 0 where
+  pub end : EndsAt cells j (mark / 8)
+  pub weight : mark % 8 ≡ m .weight (getD cells j 0)
+
+-- the first j cells are marked
+pub record MarkedTo (m : Measure) (cells marks : List ℕ) (j : ℕ) : Type 0 where
+  pub size : length marks ≡ 2050
+  pub at : (i : ℕ) → i < j → MarkOf m cells i (getD marks i 0)
+
+-- What is given where one row more is noted, in front, its cells from `new` up to `old`: the row after it is noted at its cells from
+-- `old` on, with the rows after that up to the last one, and what a run costs is kept for each that begins at that row. No row has more
+-- than 32 cells
+pub record NextRow (cells marks kept notes : List ℕ) (row new old : ℕ) : Type 0 where
+  pub m : Measure
   pub costs : ℕ → ℕ → ℕ
   pub count : ℕ
-  pub first : ℕ
+  pub last : ℕ
   pub width : ℕ
-  pub olds : List (List ℕ)
-  pub noted : Noted costs first (noteIn notes) old width olds (slice old new cells)
-  pub old-terms : Terms width (slice old new cells)
-  pub new-terms : Terms width (slice new stop cells)
-  pub order : (old ≤ new) × (new ≤ stop) × (stop ≤ length cells) × (length cells ≤ 2050)
-  pub rows : (first + length olds ≡ last) × (suc last < count) × (count ≤ 64)
-  pub ended : Ended cells ends
-  pub kept : (j : ℕ) → first ≤ j → j ≤ last → inWhole whole j last ≡ costs j last
-  pub small : (i k : ℕ) → i ≤ k → k < count → costs i k ≤ 2048
-  pub room : length notes ≡ 6150
+  pub stop : ℕ
+  pub rest : List (List ℕ)
+  pub noted : Noted costs (suc row) (noteIn notes) old width (slice old stop cells) rest
+  pub old-terms : Terms width (slice old stop cells)
+  pub new-terms : Terms width (slice new old cells)
+  pub order : (new ≤ old) × (old ≤ stop) × (stop ≤ length cells) × (length cells ≤ 2050)
+  pub short : (old ≤ new + 32) × (stop ≤ old + 32)
+  pub rows : (suc row + length rest ≡ last) × (last < count) × (count ≤ 64)
+  pub marked : MarkedTo m cells marks (length cells)
+  pub known : (j : ℕ) → suc row ≤ j → j ≤ last → readIn kept (suc row) j ≡ costs (suc row) j
+  pub small : (i k : ℕ) → i ≤ k → k < count → costs i k ≤ 65535
+  pub room : length notes ≡ 192
 
 -- with it the new row is noted
-pub record RowNoted {cells ends whole notes : List ℕ} {last old new stop : ℕ} (given : NextRow cells ends whole notes last old new stop)
+pub record RowNoted {cells marks kept notes : List ℕ} {row new old : ℕ} (given : NextRow cells marks kept notes row new old)
     (after : List ℕ) : Type 0 where
-  pub noted : Noted (given .costs) (given .first) (noteIn after) new (given .width) (given .olds ++ (slice old new cells ∷ []))
-      (slice new stop cells)
-  pub room : length after ≡ 6150
+  pub noted : Noted (given .costs) row (noteIn after) new (given .width) (slice new old cells) (slice old (given .stop) cells ∷ given .rest)
+  pub room : length after ≡ 192
 
 -- every cell of a row by itself is closed
-pub record Alone (first at stop : ℕ) (notes : List ℕ) : Type 0 where
-  pub each : (j : ℕ) → at ≤ j → j < stop → noteIn notes j ≡ note 1 0 first
-  pub room : length notes ≡ 6150
+pub record Alone (row at stop : ℕ) (notes : List ℕ) : Type 0 where
+  pub each : (j : ℕ) → at ≤ j → j < stop → noteIn notes j ≡ note 1 0 row
+  pub room : length notes ≡ 192
 
--- what is given where the closed cells of a row are counted
-pub record Walk (ends notes : List ℕ) (at stop : ℕ) : Type 0 where
+-- what is given where the closed cells of a row are weighed
+pub record Walk (marks notes : List ℕ) (at stop : ℕ) : Type 0 where
   pub opens : ℕ
   pub agreed : ℕ
-  pub shown : Shown (noteIn notes) (λ (q : ℕ). getD ends q 0) (λ (i : ℕ) (s : Note). Unit {0}) stop opens at 0 agreed
+  pub shown : Shown (noteIn notes) (endIn marks) (weightIn marks) (λ (i : ℕ) (s : Note). Unit {0}) stop opens at 0 agreed
+  pub light : (q : ℕ) → q < stop → weightIn marks q ≤ 5
   pub within : stop ≤ 2050
 
--- What is given where the entry of a pair is read off the notes at the cells of its last row, from `at` up to a stop: so many cells are
--- closed, each open place has its price, and what a run costs is kept for each that ends at that row and begins after the first
-pub record Pair (ends whole notes : List ℕ) (last at stop agreed : ℕ) : Type 0 where
+-- What is given where the entry of a pair is read off the notes at the cells of its first row, from `at` up to a stop: the closed cells
+-- weigh `agreed`, each open place has its price, and what a run costs is kept for each that begins at that row and ends before the last
+pub record Pair (marks kept notes : List ℕ) (first at stop agreed figure : ℕ) : Type 0 where
   pub costs : ℕ → ℕ → ℕ
-  pub first : ℕ
+  pub last : ℕ
   pub prices : ℕ → ℕ
   pub opens : ℕ
-  pub shown : Shown (noteIn notes) (λ (q : ℕ). getD ends q 0) (Priced costs first last agreed prices) stop opens at 0 agreed
-  pub kept : (j : ℕ) → first < j → j ≤ last → inWhole whole j last ≡ costs j last
-  pub small : (j : ℕ) → first ≤ j → j ≤ last → costs j last ≤ 2048
-  pub row : last < 64
+  pub shown : Shown (noteIn notes) (endIn marks) (weightIn marks) (Priced costs first last agreed figure prices) stop opens at 0 agreed
+  pub known : (j : ℕ) → first ≤ j → j < last → readIn kept first j ≡ costs first j
+  pub small : (j : ℕ) → first ≤ j → j ≤ last → costs first j ≤ 65535
+  pub few : (agreed ≤ 10250) × (figure ≤ 15)
+  pub rows : (first ≤ last) × (last < 64)
   pub within : stop ≤ 2050

@@ -1,64 +1,48 @@
-use Prim.Native.Nat.{ℕ, _≤_}
-use lib.ListN.{length-replicate}
+use mathlib.Core.Path.{_≡_, refl}
+use Prim.Native.Nat.{ℕ}
 use native.Mathlib.Omega.{arith}
-use Rattle.entries.specs.Fill.{arrays}
-use Rattle.entries.specs.code.Filling.{Rows, RowsDone}
-use Rattle.entries.proofs.FillLaws.{filled-start, first-at, all-done}
+use lib.ListN.{length-replicate}
+use Rattle.least.specs.Measures.{measureOf}
+use Rattle.least.proofs.Weighed.{by-low}
+use Rattle.entries.specs.declared.arrays.Asked.{Asked}
+use Rattle.entries.specs.code.Filling.{Rows, Task}
+use Rattle.entries.proofs.RightLaws.{task, all-filled, none-kept}
+use borrow.Author.Needs.{needs}
 use Rattle.entries.proofs.arrays.all_pairs.Statement.{statement}
 use Rattle.entries.proofs.arrays.all_pairs.Tie as tie
 
-abbrev Inv-loop : tie.InvT-loop
-Inv-loop cells starts whole₀ cost₀ place₀ count ends notes₀ first₀ whole cost place notes first =
-    (first ≤ count) × ((g : Rows cells starts count) → RowsDone (g .width) (g .rows) (arrays whole₀ cost₀ place₀) count first notes (arrays whole cost place))
+-- what is asked, and that there is such a task
+module _ (c : tie.After-figure-of) where
+  abbrev start : tie.Start
+  start = c .before .before .before .before
 
-abbrev μ-loop : tie.MeasureT-loop
-μ-loop cells starts whole₀ cost₀ place₀ count ends notes₀ first₀ whole cost place notes first = first
+  abbrev asked : Asked
+  asked = record { figure = c .figure-of .result; count = start .args .count; top = start .args .count; since = 0 }
 
-term-ends-requires : tie.Need-term-ends-requires Inv-loop μ-loop
-term-ends-requires c κs = c .before .before .pre .0 .laid .size
+  abbrev all : (g : Rows (start .args .cells .now) (start .args .starts .now) (start .args .count))
+      → Task (start .args .cells .now) (c .before .mark-cells .last .1 .1 .0) (start .args .starts .now) asked (start .args .kept .now)
+  all g =
+      task (measureOf (start .args .by)) (by-low (start .args .by) (start .pre .2)) asked (c .figure-of .ensures) (g .laid) (c .before .mark-cells .ensures)
+      (start .args .kept .now) (start .pre .1)
 
-loop-holds : tie.Need-loop-holds Inv-loop μ-loop
-loop-holds c =
-    (omega arith, λ g. record { filled = filled-start (g .width) (g .rows) (arrays (c .before .before .before .args .whole .now) (c .before .before .before .args .cost .now) (c .before .before .before .args .place .now)) (c .before .before .before .args .count) (g .laid .number) (c .before .before .before .pre .1, c .before .before .before .pre .2); room = length-replicate {A = ℕ} 6150 0 })
+mark-cells-requires : tie.Need-mark-cells-requires
+mark-cells-requires c κs = (c .before .before .pre .0 .laid .size, length-replicate {A = ℕ} 2050 0)
 
-sub-first : tie.Need-sub-first Inv-loop μ-loop
-sub-first c = omega (arith, c .loop-test .taken)
+figure-of-requires : tie.Need-figure-of-requires
+figure-of-requires c κs = tt
 
-pairs-from-requires : tie.Need-pairs-from-requires Inv-loop μ-loop
-pairs-from-requires c κs =
-    let i = c .before .before .before .before .before in
-    let g = i .before .before .before .before .before .pre .0 in
-    first-at g (i .before .before .term-ends .ensures) (i .before .loop .first) (i .loop-test .taken) (i .before .loop .inv .0) (i .before .loop .inv .1 g)
+pairs-again-requires : tie.Need-pairs-again-requires
+pairs-again-requires c κs = (let f = c .before .before in all f (start f .pre .0))
 
-loop-less : tie.Need-loop-less Inv-loop μ-loop
-loop-less c = omega (arith, c .before .before .before .before .before .before .before .before .loop-test .taken)
-
-loop-again : tie.Need-loop-again Inv-loop μ-loop
-loop-again c =
-    let p = c .before .before in
-    let i = p .before .before .before .before .before .before in (
-      omega (arith, i .before .loop .inv .0),
-      λ g. p .pairs-from .ensures
-          (first-at g (i .before .before .term-ends .ensures) (i .before .loop .first) (i .loop-test .taken) (i .before .loop .inv .0) (i .before .loop .inv .1 g)),
-    )
-
-same-length : tie.Need-same-length Inv-loop μ-loop
-same-length c = c .before .loop .inv .1 (c .before .before .before .before .before .pre .0) .filled .size .cost
-
-returns : tie.Need-returns Inv-loop μ-loop
-returns c = λ g. all-done g (c .before .loop .first) (c .loop-test .left) (c .before .loop .inv .1 g)
+returns : tie.Need-returns
+returns c = λ g.
+    (let f = c .before .before .before in
+    let s = start f in
+    all-filled (measureOf (s .args .by)) (by-low (s .args .by) (s .pre .2)) (asked f) (f .figure-of .ensures) (g .laid) (f .before .mark-cells .ensures)
+    (s .args .kept .now) (s .pre .1)
+    (none-kept (measureOf (s .args .by)) (by-low (s .args .by) (s .pre .2)) (asked f) (f .figure-of .ensures) (g .laid) (f .before .mark-cells .ensures)
+    (s .args .kept .now) (s .pre .1) refl refl)
+    (c .pairs-again .ensures (all f g)))
 
 pub all-pairs-spec : {M : Type 1} → statement M
-all-pairs-spec =
-    tie.close
-    (tie.spec
-    Inv-loop
-    μ-loop
-    term-ends-requires
-    loop-holds
-    sub-first
-    pairs-from-requires
-    loop-less
-    loop-again
-    same-length
-    returns)
+all-pairs-spec = tie.close (tie.spec mark-cells-requires figure-of-requires pairs-again-requires returns)

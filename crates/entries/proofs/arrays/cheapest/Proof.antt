@@ -8,11 +8,11 @@ use Rattle.entries.proofs.arrays.cheapest.Statement.{statement}
 use Rattle.entries.proofs.arrays.cheapest.Tie as tie
 
 abbrev Inv-loop : tie.InvT-loop
-Inv-loop ends whole notes last agreed at stop best₀ place₀ q₀ best place q =
-    (g : Pair ends whole notes last at stop agreed) → CheapAt g best place q
+Inv-loop marks kept notes agreed figure number stop best₀ place₀ q₀ best place q =
+    (g : Pair marks kept notes number q₀ stop agreed figure) → CheapAt g best place q
 
 abbrev μ-loop : tie.MeasureT-loop
-μ-loop ends whole notes last agreed at stop best₀ place₀ q₀ best place q = stop - q
+μ-loop marks kept notes agreed figure number stop best₀ place₀ q₀ best place q = stop - q
 
 loop-holds : tie.Need-loop-holds Inv-loop μ-loop
 loop-holds c = λ g. cheap-start g
@@ -25,7 +25,8 @@ module _ (c : tie.After-after Inv-loop μ-loop) where
   abbrev start : tie.Start Inv-loop μ-loop
   start = c .before .before .before .before .before .before
 
-  turned : (g : Pair (start .args .ends .now) (start .args .whole .now) (start .args .notes .now) (start .args .last) (start .args .at) (start .args .stop) (start .args .agreed))
+  turned : (g : Pair (start .args .marks .now) (start .args .kept .now) (start .args .notes .now) (start .args .row .number) (start .args .row .start) (start .args .row .end)
+      (start .args .agreed) (start .args .figure))
       → CheapAt g (c .before .if1 .best) (c .before .if1 .place) (c .after .result) × (turn .before .loop .q < c .after .result)
   turned g =
       let n = c .before .before .before .note-at in
@@ -37,7 +38,7 @@ module _ (c : tie.After-after Inv-loop μ-loop) where
       (c .before .if1 .came)
 
 note-at-requires : tie.Need-note-at-requires Inv-loop μ-loop
-note-at-requires c κs = omega (arith, c .before .before .pre .within)
+note-at-requires c κs = tt
 
 open-cost-requires : tie.Need-open-cost-requires Inv-loop μ-loop
 open-cost-requires c κs =

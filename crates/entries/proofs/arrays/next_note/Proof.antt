@@ -1,8 +1,8 @@
 use mathlib.Core.Path.{_≡_, sym, _∙_}
 use mathlib.Core.Bool.{true, false}
-use borrow.Author.Needs.{needs}
 use native.Mathlib.Numerals.{add-one}
 use Rattle.plan.specs.Runs.{agree}
+use borrow.Author.Needs.{needs}
 use Rattle.entries.proofs.arrays.next_note.Statement.{statement}
 use Rattle.entries.proofs.arrays.next_note.Tie as tie
 
@@ -14,38 +14,30 @@ returns c =
     let e : agree (c .before .before .args .c) (c .before .before .args .d) ≡ true = sym (c .before .same-symbol .ensures) ∙ c .if1 .taken in
     rw e
 
-cast-from : tie.Need-cast-from
-cast-from c = search needs
+cast-to : tie.Need-cast-to
+cast-to c = search needs
 
-add-t8 : tie.Need-add-t8
-add-t8 c = search needs
+add-cost-in : tie.Need-add-cost-in
+add-cost-in c = search needs
 
-mul-t9 : tie.Need-mul-t9
-mul-t9 c = search needs
+cost-in-requires : tie.Need-cost-in-requires
+cost-in-requires c κs = search needs
 
 add-t10 : tie.Need-add-t10
 add-t10 c = search needs
 
-mul-t11 : tie.Need-mul-t11
-mul-t11 c = search needs
+add-t11 : tie.Need-add-t11
+add-t11 c = search needs
 
-element-copy-out-t14 : tie.Need-element-copy-out-t14
-element-copy-out-t14 c = search needs
-
-add-t15 : tie.Need-add-t15
-add-t15 c = search needs
-
-add-t16 : tie.Need-add-t16
-add-t16 c = search needs
-
-cast-t17 : tie.Need-cast-t17
-cast-t17 c = search needs
+cast-t12 : tie.Need-cast-t12
+cast-t12 c = search needs
 
 returns-2 : tie.Need-returns-2
 returns-2 c =
     let a = c .before .before .before .before .before .before .args in
-    let e : agree (a .c) (a .d) ≡ false = sym (c .before .before .before .before .before .same-symbol .ensures) ∙ c .before .before .before .before .if1 .left in
-    rw (e, add-one (a .s .runs), add-one (a .last))
+    let e : agree (a .c) (a .d) ≡ false =
+    sym (c .before .before .before .before .before .same-symbol .ensures) ∙ c .before .before .before .before .if1 .left in
+    rw (e, c .before .before .cost-in .ensures, add-one (a .s .runs), add-one (a .row))
 
 pub next-note-spec : {M : Type 1} → statement M
 next-note-spec =
@@ -53,13 +45,10 @@ next-note-spec =
     (tie.spec
     same-symbol-requires
     returns
-    cast-from
-    add-t8
-    mul-t9
+    cast-to
+    add-cost-in
+    cost-in-requires
     add-t10
-    mul-t11
-    element-copy-out-t14
-    add-t15
-    add-t16
-    cast-t17
+    add-t11
+    cast-t12
     returns-2)

@@ -5,17 +5,17 @@ use lib.Dec.{eqb}
 use lib.ListN.{getD}
 use native.Mathlib.Omega.{arith}
 use Rattle.entries.specs.declared.arrays.Note.{Note}
-use Rattle.entries.specs.code.Notes.{noteNext, inWhole, NextRow, Small}
+use Rattle.entries.specs.code.Notes.{noteNext, readIn, endIn, NextRow, Small}
 use Rattle.entries.proofs.RowLaws.{RowAt, row-start, row-end, RowSafe, row-safe, noteStep, row-more, row-step}
 use Rattle.entries.proofs.arrays.note_row.Statement.{statement}
 use Rattle.entries.proofs.arrays.note_row.Tie as tie
 
 abbrev Inv-loop : tie.InvT-loop
-Inv-loop cells ends whole notes₀ last old new stop p₀ q₀ notes p q =
-    (g : NextRow cells ends whole notes₀ last old new stop) → RowAt g notes p q
+Inv-loop cells marks kept notes₀ number stop p₀ q₀ notes p q =
+    (g : NextRow cells marks kept notes₀ number q₀ stop) → RowAt g notes p q
 
 abbrev μ-loop : tie.MeasureT-loop
-μ-loop cells ends whole notes₀ last old new stop p₀ q₀ notes p q = stop - q
+μ-loop cells marks kept notes₀ number stop p₀ q₀ notes p q = stop - q
 
 loop-holds : tie.Need-loop-holds Inv-loop μ-loop
 loop-holds c = λ g. row-start g
@@ -33,34 +33,34 @@ module _ (c : tie.After-after2 Inv-loop μ-loop) where
   here = c .before .before .before .before .before .before .before .before .before
 
   stepped : c .before .before .before .before .next-note .result
-      ≡ noteStep (here .before .before .before .args .cells .now) (here .before .before .before .args .whole .now) (here .before .loop .notes)
-      (here .before .before .before .args .last) (here .before .loop .p) (here .before .loop .q)
+      ≡ noteStep (here .before .before .before .args .cells .now) (here .before .before .before .args .kept .now) (here .before .loop .notes)
+      (here .before .before .before .args .row .number) (here .before .loop .p) (here .before .loop .q)
   stepped =
       c .before .before .before .before .next-note .ensures
-      ∙ ap (λ (n : Note). noteNext (inWhole (here .before .before .before .args .whole .now)) n (here .before .before .before .args .last)
-      (getD (here .before .before .before .args .cells .now) (here .before .loop .p) 0) (getD (here .before .before .before .args .cells .now) (here .before .loop .q) 0))
+      ∙ ap (λ (n : Note). noteNext (readIn (here .before .before .before .args .kept .now)) n (here .before .before .before .args .row .number)
+      (getD (here .before .before .before .args .cells .now) (here .before .loop .q) 0) (getD (here .before .before .before .args .cells .now) (here .before .loop .p) 0))
       (c .before .before .before .before .before .before .before .note-at .ensures)
 
 note-at-requires : tie.Need-note-at-requires Inv-loop μ-loop
-note-at-requires c κs = safe (c .before) .p-small
+note-at-requires c κs = tt
 
 mul-next-note : tie.Need-mul-next-note Inv-loop μ-loop
-mul-next-note c = record { fits = omega (arith, safe (c .before .before) .p-small) }
+mul-next-note c = record { fits = omega (arith, safe (c .before .before) .q-small) }
 
 shared-slice-read-next-note : tie.Need-shared-slice-read-next-note Inv-loop μ-loop
-shared-slice-read-next-note c = safe (c .before .before .before) .p-in
+shared-slice-read-next-note c = safe (c .before .before .before) .q-in
 
 mul-next-note-2 : tie.Need-mul-next-note-2 Inv-loop μ-loop
-mul-next-note-2 c = record { fits = omega (arith, safe (c .before .before .before) .q-small) }
+mul-next-note-2 c = record { fits = omega (arith, safe (c .before .before .before) .p-small) }
 
 shared-slice-read-next-note-2 : tie.Need-shared-slice-read-next-note-2 Inv-loop μ-loop
-shared-slice-read-next-note-2 c = safe (c .before .before .before .before) .q-in
+shared-slice-read-next-note-2 c = safe (c .before .before .before .before) .p-in
 
 next-note-requires : tie.Need-next-note-requires Inv-loop μ-loop
-next-note-requires c κs = subst (λ (n : Note). Small (c .before .before .before .before .before .before .before .args .whole .now) (c .before .before .before .before .before .before .before .args .last) n) (sym (c .before .before .note-at .ensures)) (safe (c .before .before .before .before) .small)
+next-note-requires c κs = subst (λ (n : Note). Small (c .before .before .before .before .before .before .before .args .row .number + 1) n) (sym (c .before .before .note-at .ensures)) (safe (c .before .before .before .before) .small)
 
 put-note-requires : tie.Need-put-note-requires Inv-loop μ-loop
-put-note-requires c κs = safe (c .before .before .before .before .before .before) .q-small
+put-note-requires c κs = tt
 
 after-requires : tie.Need-after-requires Inv-loop μ-loop
 after-requires c κs = safe (c .before .before .before .before .before .before .before) .p-small
@@ -76,7 +76,7 @@ loop-less c =
       arith,
       i .loop-test .taken,
       c .after2 .ensures,
-      ap (λ (n : Note). cond (eqb (n .runs) 1) (i .before .loop .q + 1) (getD (i .before .before .before .args .ends .now) (i .before .loop .q) 0)) (stepped c),
+      ap (λ (n : Note). cond (eqb (n .runs) 1) (i .before .loop .q + 1) (endIn (i .before .before .before .args .marks .now) (i .before .loop .q))) (stepped c),
       row-more g (i .before .loop .notes) (i .before .loop .p) (i .before .loop .q) (i .before .loop .inv g) (i .loop-test .taken),
     )
 

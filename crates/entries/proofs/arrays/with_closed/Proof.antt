@@ -1,6 +1,6 @@
 use native.Mathlib.Omega.{arith}
-use borrow.Author.Needs.{needs}
 use borrow.Author.Tests.{eq-eqb, ne-eqb}
+use borrow.Author.Needs.{needs}
 use Rattle.entries.proofs.arrays.with_closed.Statement.{statement}
 use Rattle.entries.proofs.arrays.with_closed.Tie as tie
 
