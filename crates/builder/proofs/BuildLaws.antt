@@ -8,34 +8,32 @@ use lib.ListN.{length, drop, length-take}
 use Rattle.refusal.specs.Refusal.{Refused, refused, told, answered, turned}
 use Rattle.refusal.specs.declared.Reason.the-variants as reason
 use Rattle.refusal.specs.declared.Input.the-variants as input
-use Rattle.refusal.specs.Read.{refuse}
-use Rattle.table.specs.Table.{tableOf}
+use Rattle.refusal.specs.Read.{read, refuse}
+use Rattle.table.specs.Table.{Table}
+use Rattle.plan.specs.Plans.{Measure}
+use Rattle.least.specs.Measures.{measureOf, tableBy}
+use Rattle.least.specs.declared.By.{By}
 use Rattle.refusal.specs.declared.Refusal.{Refusal}
 use Rattle.refusal.specs.declared.Reason.the-variants.{Room}
 use Rattle.refusal.specs.declared.Input.the-variants.{Lent}
-use Rattle.state.specs.code.First.{TableRows}
 use Rattle.builder.specs.declared.BuildAnswer.the-variants as build-answer
-use Rattle.builder.specs.code.Writing.{Given, Planned, Put, fitted, short}
+use Rattle.builder.specs.code.Writing.{Planned, Put, fitted, short}
 use Rattle.builder.specs.Build.{BuiltInto, table-refused, room-refused, built}
 
-pub no-table : {t : List ℕ} (room : List ℕ) {f : Refusal} → tableOf t ≡ refuse (told f) → BuiltInto t room room (build-answer.Refused f)
+pub no-table : {by : By} {t : List ℕ} (room : List ℕ) {f : Refusal} → tableBy by t ≡ refuse (told f) → BuiltInto by t room room (build-answer.Refused f)
 no-table room {f} e = table-refused (told f) e refl refl
 
-module _ {t ss whole place : List ℕ} {w n : ℕ} (g : Given t ss whole place w n) {cells : List ℕ} {size count : ℕ}
-    (p : Planned (g .rows .table) cells size count) where
-  abbrev k : TableRows t ss w n
-  k = g .rows
+pub cells-there : {m : Measure} {T : Table} {cells : List ℕ} {size count : ℕ} → Planned m T cells size count → size ≤ length cells
+cells-there {cells = cells} {size} p = omega (arith, ap length (p .cells-are), p .size-is, length-take size cells)
 
+module _ (by : By) (t : List ℕ) {T : Table} (here : tableBy by t ≡ read T) {cells : List ℕ} {size count : ℕ} (p : Planned (measureOf by) T cells size count) where
   pub no-room : {room room′ : List ℕ} {b : Bool} → Put cells size room room′ b → b ≡ false
-      → BuiltInto t room room′ (build-answer.Refused (record { reason = Room; input = Lent; place = size }))
+      → BuiltInto by t room room′ (build-answer.Refused (record { reason = Room; input = Lent; place = size }))
   no-room (fitted h e) q = absurd (let z : _≡_ {A = ℕ} 0 1 = cc in omega arith)
-  no-room (short h e) q = room-refused (k .table) (p .plan) (k .here) (p .built) (omega (arith, p .size-is)) (ap (λ (x : ℕ). turned (refused reason.Room input.Lent x)) (p .size-is)) e
+  no-room (short h e) q = room-refused T (p .plan) here (p .built) (omega (arith, p .size-is)) (ap (λ (x : ℕ). turned (refused reason.Room input.Lent x)) (p .size-is)) e
 
-  pub cells-there : size ≤ length cells
-  cells-there = omega (arith, ap length (p .cells-are), p .size-is, length-take size cells)
-
-  pub all-built : {room room′ : List ℕ} {b : Bool} → Put cells size room room′ b → b ≡ true → BuiltInto t room room′ (build-answer.Built size count)
+  pub all-built : {room room′ : List ℕ} {b : Bool} → Put cells size room room′ b → b ≡ true → BuiltInto by t room room′ (build-answer.Built size count)
   all-built {room} (fitted h e) q =
-      built (k .table) (p .plan) (k .here) (p .built) (p .least) (omega (arith, p .size-is)) (ap₂ answered (p .size-is) (p .count-is))
+      built T (p .plan) here (p .built) (p .least) (omega (arith, p .size-is)) (ap₂ answered (p .size-is) (p .count-is))
       (e ∙ ap₂ (λ (xs : List ℕ) (x : ℕ). xs ++ drop x room) (p .cells-are) (p .size-is))
   all-built (short h e) q = absurd (let z : _≡_ {A = ℕ} 0 1 = cc in omega arith)

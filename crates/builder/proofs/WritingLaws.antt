@@ -11,7 +11,7 @@ use Rattle.term.specs.Terms.{root, close}
 use Rattle.term.proofs.Lists.{sets-sets}
 use Rattle.table.specs.All.{All}
 use Rattle.plan.specs.Runs.{Run, run, agree, runs}
-use Rattle.plan.specs.Plans.{Plan, leaf, node, Branches, end, next, write, writes, plain}
+use Rattle.plan.specs.Plans.{Plan, leaf, node, Branches, end, next, write, writes, Measure, plain}
 use Rattle.state.specs.Column.{breaks, runLength, runCount}
 use Rattle.state.specs.States.{rowsIn, columnIn, runsIn, Same}
 use Rattle.state.specs.States as states
@@ -27,7 +27,6 @@ use Rattle.least.proofs.Closing.{weighed}
 use Rattle.least.proofs.Counts.{run-closes}
 use Rattle.least.proofs.Building.{chosen-one}
 
--- stores after others
 -- a state's own two cells, and those of its branches
 two-cells : (l xs ys cells : List ℕ) (at i n : ℕ) → xs ≡ ys → cells ≡ i ∷ (n ∷ ys) → sets (set (set l at i) (at + 1) n) (at + 2) xs ≡ sets l at cells
 two-cells l xs ys cells at i n e c =
@@ -42,30 +41,30 @@ three-cells l l₁ xs ys cells at m c e em ec =
     rw (e, em, ec, p) (sets-sets (set l at c) (suc at) xs ys)
 
 -- The plan by the rule, by its first state: a leaf, or the chosen place with the plans below its branches.
-record Below (k i : ℕ) (rows : List (List ℕ)) (cells : List ℕ) : Type 0 where
+record Below (m : Measure) (k i : ℕ) (rows : List (List ℕ)) (cells : List ℕ) : Type 0 where
   plans : Branches k (runs i rows)
-  built : Builts plain plans
+  built : Builts m plans
   cells-are : cells ≡ i ∷ (length (runs i rows) ∷ writes plans)
 
-node-cells : {K : ℕ} {rows : List (List ℕ)} (p : Plan K rows) (k i : ℕ) → K ≡ suc k → Built plain p → i ≤ k → Chosen plain k rows i → Below k i rows (write p)
+node-cells : (m : Measure) {K : ℕ} {rows : List (List ℕ)} (p : Plan K rows) (k i : ℕ) → K ≡ suc k → Built m p → i ≤ k → Chosen m k rows i → Below m k i rows (write p)
 unfolding write Built
-node-cells leaf k i e b h c = absurd (omega arith)
-node-cells (node {k = k′} {rows} j l bs) k i e b h c =
+node-cells m leaf k i e b h c = absurd (omega arith)
+node-cells m (node {k = k′} {rows} j l bs) k i e b h c =
     let ek : k′ ≡ k = omega arith in
-    let ij : j ≡ i = chosen-one plain (rw ek at l) h (rw ek at (b .0)) c in
-    subst (λ (i : ℕ). Below k i rows (j ∷ (length (runs j rows) ∷ writes bs))) ij (rw (← ek) (record { plans = bs; built = b .1; cells-are = refl }))
+    let ij : j ≡ i = chosen-one m (rw ek at l) h (rw ek at (b .0)) c in
+    subst (λ (i : ℕ). Below m k i rows (j ∷ (length (runs j rows) ∷ writes bs))) ij (rw (← ek) (record { plans = bs; built = b .1; cells-are = refl }))
 
-record NextPlan (k : ℕ) (g : Run) (gs : List Run) (cells : List ℕ) : Type 0 where
+record NextPlan (m : Measure) (k : ℕ) (g : Run) (gs : List Run) (cells : List ℕ) : Type 0 where
   plan : Plan (arity (g .cell) + k) (g .rows)
-  built : Built plain plan
+  built : Built m plan
   plans : Branches k gs
-  all-built : Builts plain plans
+  all-built : Builts m plans
   cells-are : cells ≡ g .cell ∷ (write plan ++ writes plans)
 
-next-plan : {k : ℕ} {gs : List Run} (bs : Branches k gs) (g : Run) (gs′ : List Run) → gs ≡ g ∷ gs′ → Builts plain bs → NextPlan k g gs′ (writes bs)
+next-plan : (m : Measure) {k : ℕ} {gs : List Run} (bs : Branches k gs) (g : Run) (gs′ : List Run) → gs ≡ g ∷ gs′ → Builts m bs → NextPlan m k g gs′ (writes bs)
 unfolding write Built
-next-plan end g gs′ e b = let z : _≡_ {A = ℕ} 0 1 = cc in absurd (omega arith)
-next-plan {k} (next {g = h} {gs = hs} p bs) g gs′ e b =
+next-plan m end g gs′ e b = let z : _≡_ {A = ℕ} 0 1 = cc in absurd (omega arith)
+next-plan m {k} (next {g = h} {gs = hs} p bs) g gs′ e b =
     let eg : h ≡ g = cc in
     let es : hs ≡ gs′ = cc in
     rw (← eg, ← es) (record { plan = p; built = b .0; plans = bs; all-built = b .1; cells-are = refl })
@@ -111,10 +110,10 @@ pub record Inner (t ss ms hs place out : List ℕ) (first last k at : ℕ) (ms�
 inner-ready : (t ss ms₁ hs₁ place out : List ℕ) (first last k at i n : ℕ) (left : List (List ℕ)) → runs i left ≡ runsIn t ss ms₁ hs₁ first last
     → Room ms₁ hs₁ (set (set out at i) (at + 1) n) → (s : Source place) → first ≤ last → last ≤ length (s .rows)
     → All (λ (g : Run). All (Fits 32 (arity (g .cell) + k)) (g .rows)) (runs i left) → AllReached (s .width) (s .rows) k first (runs i left)
-    → (bs : Branches k (runs i left)) → Builts plain bs → at + 2 + length (writes bs) ≤ 6082
+    → (bs : Branches k (runs i left)) → Builts (s .measure) bs → at + 2 + length (writes bs) ≤ 6082
     → (r : ToWriteAll t ss ms₁ hs₁ place (set (set out at i) (at + 1) n) first last k (at + 2)) × (writes (r .plans) ≡ writes bs)
 inner-ready t ss ms₁ hs₁ place out first last k at i n left rc room s o h f a bs b w =
-    let x : (cs : Branches k (runsIn t ss ms₁ hs₁ first last)) × Builts plain cs × (writes cs ≡ writes bs) = rw (← rc) (bs, b, refl) in (
+    let x : (cs : Branches k (runsIn t ss ms₁ hs₁ first last)) × Builts (s .measure) cs × (writes cs ≡ writes bs) = rw (← rc) (bs, b, refl) in (
       record {
         room = room;
         source = s;
@@ -130,13 +129,13 @@ inner-ready t ss ms₁ hs₁ place out first last k at i n left rc room s o h f 
     )
 
 pub inner : {t ss ms hs place out : List ℕ} {first last k at : ℕ} (q : ToWrite t ss ms hs place out first last k at) (ms₁ hs₁ : List ℕ) (i n : ℕ)
-    → i < k → Chosen plain (k - 1) (rowsIn t ss ms first last) i → states.ClosedRows t ss ms hs ms₁ hs₁ i first (min last 64) → n ≡ runCount (columnIn hs₁ first last)
+    → i < k → Chosen (q .state .source .measure) (k - 1) (rowsIn t ss ms first last) i → states.ClosedRows t ss ms hs ms₁ hs₁ i first (min last 64) → n ≡ runCount (columnIn hs₁ first last)
     → Inner t ss ms hs place out first last k at ms₁ hs₁ (set (set out at i) (at + 1) n) (write (q .plan))
 inner {t} {ss} {ms} {hs} {place} {out} {first} {last} {k} {at} q ms₁ hs₁ i n h c closed en =
     let cl : rows-laws.Closes t ss ms hs ms₁ hs₁ i first last
     = closes-of t ss ms hs i (omega (arith, q .state .some)) (omega (arith, q .state .inside, q .state .source .many)) (q .room .masks) (q .room .column) closed in
     let ek : k ≡ suc (k - 1) = omega arith in
-    let b = node-cells (q .plan) (k - 1) i ek (q .built) (omega arith) c in
+    let b = node-cells (q .state .source .measure) (q .plan) (k - 1) i ek (q .built) (omega arith) c in
     let rc : runs i (rowsIn t ss ms first last) ≡ runsIn t ss ms₁ hs₁ first last = runs-closed cl in
     let nr : length (runs i (rowsIn t ss ms first last)) ≡ n =
     ap length rc ∙ run-number t ss ms₁ hs₁ first last (omega (arith, q .room .column, cl .column .size, q .state .inside, q .state .source .many)) ∙ sym en in
@@ -207,7 +206,7 @@ module _ {t ss place ms hs out : List ℕ} {last k at : ℕ} {cells ms₁ hs₁ 
       let g₁ : Run = run c (rowsIn t ss ms₁ row (row + n)) in
       let gs : List Run = runsIn t ss ms₁ hs₁ (row + n) last in
       let rs : runsIn t ss ms₁ hs₁ row last ≡ g₁ ∷ gs = rw ec (f .runs) in
-      let p = next-plan (q .plans) g₁ gs rs (q .built) in
+      let p = next-plan (q .source .measure) (q .plans) g₁ gs rs (q .built) in
       let each = rw rs at (q .each) in
       let len : length (rowsIn t ss ms₁ row (row + n)) ≡ n = rows-length t ss ms₁ (row + n - row) row ∙ omega arith in
       let reached = rw (rs, len) at (q .reached) in
@@ -231,7 +230,7 @@ module _ {t ss place ms hs out : List ℕ} {last k at : ℕ} {cells ms₁ hs₁ 
         on = λ ms₂ hs₂ out₂ m x. (
             let kept : runsIn t ss ms₂ hs₂ (row + n) last ≡ gs =
             rw (x .column .after, rows-kept t ss ms₁ ms₂ (last - (row + n)) (row + n) (x .masks .after)) in
-            let y : (cs : Branches k (runsIn t ss ms₂ hs₂ (row + n) last)) × Builts plain cs × (writes cs ≡ writes (p .plans)) =
+            let y : (cs : Branches k (runsIn t ss ms₂ hs₂ (row + n) last)) × Builts (q .source .measure) cs × (writes cs ≡ writes (p .plans)) =
             rw kept (p .plans, p .all-built, refl) in
             let size : length out₂ ≡ 6082 = ap length (x .out-is) ∙ length-sets (set out₁ next c) (next + 1) (write (p .plan)) ∙ length-set out₁ next c ∙ q .room .cells in
             let w = length-append (write (p .plan)) (writes (p .plans)) in

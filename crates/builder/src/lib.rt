@@ -7,12 +7,13 @@ ghost use Prim.Native.Nat.{_≤_};
 ghost use lib.ListN.{length, take, drop};
 ghost use Rattle.builder.specs.Build.{BuiltInto};
 ghost use Rattle.builder.specs.code.Writing.{Put};
+use least::By;
 use refusal::Input;
 use refusal::Reason;
 use refusal::Refusal;
 use table::TableAnswer;
 
-// The number of cells and of branches of the plan that is built, or why the table or the room is turned away.
+// The number of cells of the plan that is built and its cost, or why the figure, the table or the room is turned away.
 pub enum BuildAnswer {
     Built(usize, usize),
     Refused(Refusal),
@@ -42,33 +43,23 @@ fn put(from: &[u32; 6082], size: usize, room: &mut [u32]) -> bool
     true
 }
 
-// The builder's plan for any cells, into any room. It is written beside the room first, since its size is known only then.
-// The plan needs the place of every pair, and its cost is what all rows cost with nothing closed; so there is no room for
-// the costs of the entries.
-pub fn build_plan(cells: &[u32], room: &mut [u32]) -> BuildAnswer
-    ensures { λ r. ⌜ BuiltInto (now (cells .entry)) (now (room .entry)) (now (room .exit)) r ⌝ }
+// The builder's plan by a measure for any cells, into any room. It is written beside the room first, since its size is known
+// only then. Its cost is what all rows cost with nothing closed.
+pub fn build_plan(by: By, cells: &[u32], room: &mut [u32]) -> BuildAnswer
+    ensures { λ r. ⌜ BuiltInto by (now (cells .entry)) (now (room .entry)) (now (room .exit)) r ⌝ }
 {
-    let mut whole = [0; 4096];
-    let mut place = [0; 4096];
-    let read = entries::fill(cells, &mut whole, &mut [], &mut place);
+    let mut kept = [0; 12288];
+    let read = entries::fill(by, cells, &mut kept);
     let answer = read.answer;
     match answer {
         TableAnswer::Accepted(width, count) => {
             let starts = read.starts;
             let mut written = [0; 6082];
-            let plan = writer::write_plan(
-                cells,
-                &starts,
-                &whole,
-                &place,
-                &mut written,
-                width,
-                count,
-            );
+            let plan = writer::write_plan(cells, &starts, &kept, &mut written, width, count);
             let size = plan.cells;
-            let branches = plan.branches as usize;
+            let cost = plan.cost as usize;
             if put(&written, size, room) {
-                BuildAnswer::Built(size, branches)
+                BuildAnswer::Built(size, cost)
             } else {
                 BuildAnswer::Refused(Refusal {
                     reason: Reason::Room,

@@ -6,7 +6,7 @@ ghost use Prim.Native.Nat.{_+_, _-_, _≤_, _<_};
 ghost use lib.Dec.{eqb};
 ghost use lib.ListN.{length};
 ghost use Rattle.term.specs.Terms.{root};
-ghost use Rattle.plan.specs.Plans.{write, writes, plain};
+ghost use Rattle.plan.specs.Plans.{write, writes};
 ghost use Rattle.state.specs.Column.{runCount};
 ghost use Rattle.state.specs.States.{rowsIn};
 ghost use Rattle.least.specs.Least.{Chosen};
@@ -49,15 +49,16 @@ fn choose(
     table: &[u32],
     starts: &[usize; 64],
     masks: &[u32; 64],
-    place: &[u32; 4096],
+    kept: &[u32; 12288],
     first: usize,
     end: usize,
     k: usize,
 ) -> u32
-    requires { ⌜ (0 < k) × State (now place) first end k (rowsIn (now table) (now starts) (now masks) first end) ⌝ }
-    ensures { λ r. ⌜ (State (now (place .entry)) first end k
-        (rowsIn (now (table .entry)) (now (starts .entry)) (now (masks .entry)) first end)
-        → (r < k) × Chosen plain (k - 1) (rowsIn (now (table .entry)) (now (starts .entry)) (now (masks .entry)) first end) r) ⌝ }
+    requires { ⌜ (0 < k) × State (now kept) first end k (rowsIn (now table) (now starts) (now masks) first end) ⌝ }
+    ensures { λ r. ⌜ ((s : State (now (kept .entry)) first end k
+        (rowsIn (now (table .entry)) (now (starts .entry)) (now (masks .entry)) first end))
+        → (r < k) × Chosen (s .source .measure) (k - 1)
+        (rowsIn (now (table .entry)) (now (starts .entry)) (now (masks .entry)) first end) r) ⌝ }
 {
     let mut i: u32 = 0;
     while (i as usize) < k {
@@ -67,7 +68,8 @@ fn choose(
         i += 1;
     }
     let last = end - 1;
-    place[64 * first + last]
+    let pair = 64 * first + last;
+    kept[8192 + pair]
 }
 
 // The plan of the state of rows first to before end with k open places, from a place on; the place after it.
@@ -76,16 +78,16 @@ fn state(
     starts: &[usize; 64],
     masks: &mut [u32; 64],
     column: &mut [u32; 64],
-    place: &[u32; 4096],
+    kept: &[u32; 12288],
     out: &mut [u32; 6082],
     first: usize,
     end: usize,
     k: usize,
     at: usize,
 ) -> usize
-    requires { ⌜ ToWrite (now table) (now starts) (now masks) (now column) (now place) (now out) first end k at ⌝ }
+    requires { ⌜ ToWrite (now table) (now starts) (now masks) (now column) (now kept) (now out) first end k at ⌝ }
     ensures { λ r. ⌜ ((q : ToWrite (now (table .entry)) (now (starts .entry)) (now (masks .entry)) (now (column .entry))
-        (now (place .entry)) (now (out .entry)) first end k at)
+        (now (kept .entry)) (now (out .entry)) first end k at)
         → Written (now (masks .entry)) (now (column .entry)) (now (out .entry))
         (now (masks .exit)) (now (column .exit)) (now (out .exit)) (write (q .plan)) end at r) ⌝ }
 {
@@ -93,7 +95,7 @@ fn state(
         out[at] = (end - first) as u32;
         return at + 1;
     }
-    let i = choose(table, starts, &*masks, place, first, end, k);
+    let i = choose(table, starts, &*masks, kept, first, end, k);
     close_rows(table, starts, masks, column, i, first, end);
     let cells = &column[..];
     let count = run_count(&cells[first..end]) as u32;
@@ -105,7 +107,7 @@ fn state(
         starts,
         masks,
         column,
-        place,
+        kept,
         out,
         first,
         end,
@@ -121,16 +123,16 @@ fn branches(
     starts: &[usize; 64],
     masks: &mut [u32; 64],
     column: &mut [u32; 64],
-    place: &[u32; 4096],
+    kept: &[u32; 12288],
     out: &mut [u32; 6082],
     first: usize,
     end: usize,
     k: usize,
     at: usize,
 ) -> usize
-    requires { ⌜ ToWriteAll (now table) (now starts) (now masks) (now column) (now place) (now out) first end k at ⌝ }
+    requires { ⌜ ToWriteAll (now table) (now starts) (now masks) (now column) (now kept) (now out) first end k at ⌝ }
     ensures { λ r. ⌜ ((q : ToWriteAll (now (table .entry)) (now (starts .entry)) (now (masks .entry)) (now (column .entry))
-        (now (place .entry)) (now (out .entry)) first end k at)
+        (now (kept .entry)) (now (out .entry)) first end k at)
         → Written (now (masks .entry)) (now (column .entry)) (now (out .entry))
         (now (masks .exit)) (now (column .exit)) (now (out .exit)) (writes (q .plans)) end at r) ⌝ }
 {
@@ -147,7 +149,7 @@ fn branches(
             starts,
             masks,
             column,
-            place,
+            kept,
             out,
             row,
             row + n,
@@ -159,26 +161,25 @@ fn branches(
     next
 }
 
-// How many cells and how many branches a plan has.
+// How many cells a plan has, and what it costs.
 pub struct Extent {
     pub cells: usize,
-    pub branches: u32,
+    pub cost: u32,
 }
 
 // The plan of a table's rows, to the front of the cells lent: the first state, with all rows and the width's arguments open.
-// Its number of branches is kept already, for the pair of the first row and the last.
+// Its cost is kept already, for the pair of the first row and the last.
 pub fn write_plan(
     table: &[u32],
     starts: &[usize; 64],
-    whole: &[u32; 4096],
-    place: &[u32; 4096],
+    kept: &[u32; 12288],
     out: &mut [u32; 6082],
     width: usize,
     count: usize,
 ) -> Extent
-    requires { ⌜ Given (now table) (now starts) (now whole) (now place) width count × (length (now out) ≡ 6082) ⌝ }
-    ensures { λ r. ⌜ ((g : Given (now (table .entry)) (now (starts .entry)) (now (whole .entry)) (now (place .entry)) width count)
-        → Planned (g .rows .table) (now (out .exit)) (r .cells) (r .branches)) ⌝ }
+    requires { ⌜ Given (now table) (now starts) (now kept) width count × (length (now out) ≡ 6082) ⌝ }
+    ensures { λ r. ⌜ ((g : Given (now (table .entry)) (now (starts .entry)) (now (kept .entry)) width count)
+        → Planned (g .measure) (g .rows .table) (now (out .exit)) (r .cells) (r .cost)) ⌝ }
 {
     let mut masks = open_rows(starts, count, table.len());
     let mut column = [0u32; 64];
@@ -187,7 +188,7 @@ pub fn write_plan(
         starts,
         &mut masks,
         &mut column,
-        place,
+        kept,
         &mut *out,
         0,
         count,
@@ -196,6 +197,6 @@ pub fn write_plan(
     );
     Extent {
         cells,
-        branches: whole[count - 1],
+        cost: kept[count - 1],
     }
 }

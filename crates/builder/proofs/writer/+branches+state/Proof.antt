@@ -70,8 +70,8 @@ module _ (t : ℕ) (c : branches-lts.After-run-length (branches-with t) (branche
   here = getD (turn .loop .column) (turn .loop .row) 0
 
   branch-here : (a : ℕ) → a ≡ arity here
-      → (q : ToWriteAll (begun .args .table .now) (begun .args .starts .now) (begun .args .masks .now) (begun .args .column .now) (begun .args .place .now) (begun .args .out .now) (begun .args .first) (begun .args .end) (begun .args .k) (begun .args .at))
-      → Branch (begun .args .table .now) (begun .args .starts .now) (begun .args .place .now) (begun .args .masks .now) (begun .args .column .now) (begun .args .out .now) (begun .args .end) (begun .args .k) (begun .args .at) (writes (q .plans)) (turn .loop .masks) (turn .loop .column) (turn .loop .out) (turn .loop .row) (turn .loop .next) (c .run-length .result) here a
+      → (q : ToWriteAll (begun .args .table .now) (begun .args .starts .now) (begun .args .masks .now) (begun .args .column .now) (begun .args .kept .now) (begun .args .out .now) (begun .args .first) (begun .args .end) (begun .args .k) (begun .args .at))
+      → Branch (begun .args .table .now) (begun .args .starts .now) (begun .args .kept .now) (begun .args .masks .now) (begun .args .column .now) (begun .args .out .now) (begun .args .end) (begun .args .k) (begun .args .at) (writes (q .plans)) (turn .loop .masks) (turn .loop .column) (turn .loop .out) (turn .loop .row) (turn .loop .next) (c .run-length .result) here a
   branch-here a e q = branch (turn .loop .inv q) (c .run-length .result) _ a (c .before .before .before .before .loop-test .taken) refl (c .run-length .ensures) e
 
 branches-loop-holds : (t : ℕ) → branches-lts.Need-loop-holds (branches-with t) (branches-at t) branches.Post branches-Inv-loop branches-μ-loop
@@ -160,8 +160,8 @@ module _ (t : ℕ) (c : state-lts.After-run-count (state-with t) (state-at t) st
   abbrev chosen : ℕ
   chosen = c .before .before .before .before .before .before .before .choose .result
 
-  inner-here : (q : ToWrite (entered .args .table .now) (entered .args .starts .now) (entered .args .masks .now) (entered .args .column .now) (entered .args .place .now) (entered .args .out .now) (entered .args .first) (entered .args .end) (entered .args .k) (entered .args .at))
-      → Inner (entered .args .table .now) (entered .args .starts .now) (entered .args .masks .now) (entered .args .column .now) (entered .args .place .now) (entered .args .out .now) (entered .args .first) (entered .args .end) (entered .args .k) (entered .args .at) (c .before .before .before .before .close-rows .last .1 .1 .0) (c .before .before .before .before .close-rows .last .1 .1 .1 .0)
+  inner-here : (q : ToWrite (entered .args .table .now) (entered .args .starts .now) (entered .args .masks .now) (entered .args .column .now) (entered .args .kept .now) (entered .args .out .now) (entered .args .first) (entered .args .end) (entered .args .k) (entered .args .at))
+      → Inner (entered .args .table .now) (entered .args .starts .now) (entered .args .masks .now) (entered .args .column .now) (entered .args .kept .now) (entered .args .out .now) (entered .args .first) (entered .args .end) (entered .args .k) (entered .args .at) (c .before .before .before .before .close-rows .last .1 .1 .0) (c .before .before .before .before .close-rows .last .1 .1 .1 .0)
       (set (set (entered .args .out .now) (entered .args .at) chosen) (entered .args .at + 1) (c .run-count .result)) (write (q .plan))
   inner-here q =
       let p = c .before .before .before .before .before .before .before .choose .ensures (q .state) in

@@ -10,10 +10,10 @@ use Rattle.builder.proofs.writer.choose.Statement.{statement}
 use Rattle.builder.proofs.writer.choose.Tie as tie
 
 abbrev Inv-loop : tie.InvT-loop
-Inv-loop table starts masks place first end k i₀ i = (i ≤ k) × Stuck i (rowsIn table starts masks first end)
+Inv-loop table starts masks kept first end k i₀ i = (i ≤ k) × Stuck i (rowsIn table starts masks first end)
 
 abbrev μ-loop : tie.MeasureT-loop
-μ-loop table starts masks place first end k i₀ i = k - i
+μ-loop table starts masks kept first end k i₀ i = k - i
 
 loop-holds : tie.Need-loop-holds Inv-loop μ-loop
 loop-holds c = (omega arith, none-stuck _)
@@ -27,7 +27,7 @@ agreed-at-requires c κs = search needs
 returns : tie.Need-returns Inv-loop μ-loop
 returns c =
     let l = c .before .before .before .loop in
-    λ s. (omega arith, chosen-agreed _ (l .i) _ (eqb-true _ _ (sym (c .before .agreed-at .ensures) ∙ c .if1 .taken)) (l .inv .1))
+    λ s. (omega arith, chosen-agreed (s .source .measure) _ (l .i) _ (eqb-true _ _ (sym (c .before .agreed-at .ensures) ∙ c .if1 .taken)) (l .inv .1))
 
 add-i : tie.Need-add-i Inv-loop μ-loop
 add-i c =
@@ -45,14 +45,17 @@ loop-again c =
 sub-last : tie.Need-sub-last Inv-loop μ-loop
 sub-last c = search needs
 
-mul-result : tie.Need-mul-result Inv-loop μ-loop
-mul-result c = search needs
+mul-pair : tie.Need-mul-pair Inv-loop μ-loop
+mul-pair c = search needs
+
+add-pair : tie.Need-add-pair Inv-loop μ-loop
+add-pair c = search needs
 
 add-result : tie.Need-add-result Inv-loop μ-loop
 add-result c = search needs
 
-mul-result-2 : tie.Need-mul-result-2 Inv-loop μ-loop
-mul-result-2 c = search needs
+mul-result : tie.Need-mul-result Inv-loop μ-loop
+mul-result c = search needs
 
 element-copy-out-result : tie.Need-element-copy-out-result Inv-loop μ-loop
 element-copy-out-result c = search needs
@@ -76,8 +79,9 @@ choose-spec =
     loop-less
     loop-again
     sub-last
-    mul-result
+    mul-pair
+    add-pair
     add-result
-    mul-result-2
+    mul-result
     element-copy-out-result
     returns-2)

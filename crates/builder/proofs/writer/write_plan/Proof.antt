@@ -16,14 +16,14 @@ state-requires c κs =
     first-state (q .0) (o .open-rows .ensures) refl (q .1) .state
 
 -- there is a row
-sub-t12 : tie.Need-sub-t12
-sub-t12 c = omega (arith, few-rows (c .before .before .before .before .before .before .pre .0 .rows))
+sub-t11 : tie.Need-sub-t11
+sub-t11 c = omega (arith, few-rows (c .before .before .before .before .before .before .pre .0 .rows))
 
-mul-t16 : tie.Need-mul-t16
-mul-t16 c = omega (arith, few-rows (c .before .before .before .before .before .before .pre .0 .rows))
+mul-t15 : tie.Need-mul-t15
+mul-t15 c = omega (arith, few-rows (c .before .before .before .before .before .before .pre .0 .rows))
 
-element-copy-out-t19 : tie.Need-element-copy-out-t19
-element-copy-out-t19 c = omega (arith, few-rows (c .before .before .before .before .before .before .pre .0 .rows))
+element-copy-out-t18 : tie.Need-element-copy-out-t18
+element-copy-out-t18 c = omega (arith, few-rows (c .before .before .before .before .before .before .pre .0 .rows))
 
 returns : tie.Need-returns
 returns c =
@@ -33,6 +33,4 @@ returns c =
     planned g l s (c .before .state .ensures (s .state)) refl
 
 pub write-plan-spec : {M : Type 1} → statement M
-write-plan-spec =
-    tie.close
-    (tie.spec open-rows-requires state-requires sub-t12 mul-t16 element-copy-out-t19 returns)
+write-plan-spec = tie.close (tie.spec open-rows-requires state-requires sub-t11 mul-t15 element-copy-out-t18 returns)
