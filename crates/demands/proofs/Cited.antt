@@ -6,14 +6,14 @@ use mathlib.Core.Bool.{Bool, true, false}
 use mathlib.Core.List.{List, [], List·Memᴰ}
 use native.Mathlib.Nat.{add-zero, zero-add}
 use native.Mathlib.Omega.{arith}
-use lib.Dec.{ltb}
+use lib.Dec.{leb, ltb}
 use lib.ListN.{length, getD}
-use borrow.Author.Tests.{ltb-true, ltb-false, le-ltb, eq-eqb}
+use borrow.Author.Tests.{leb-true, leb-false, ltb-true, ltb-false, le-ltb, eq-eqb}
 use Rattle.cell.proofs.CellLaws.{built-variable}
 use Rattle.term.specs.Unify.{Matches}
 use Rattle.refusal.specs.declared.Reason.the-variants as reason
 use Rattle.refusal.specs.declared.Input.the-variants as input
-use Rattle.refusal.specs.Refusal.{Refused, Answer, answered, turned}
+use Rattle.refusal.specs.Refusal.{Refused, refused, Answer, answered, turned}
 use Rattle.refusal.specs.Read.{Read, read, refuse}
 use Rattle.table.specs.declared.TableRead.{TableRead}
 use Rattle.table.specs.declared.GoalAnswer.{GoalAnswer}
@@ -34,15 +34,19 @@ use Rattle.builder.specs.declared.BuildAnswer.{BuildAnswer}
 use Rattle.builder.specs.declared.BuildAnswer.the-variants as build-answer
 use Rattle.builder.specs.Build.{BuiltInto, table-refused, room-refused, built, buildTold}
 use Rattle.builder.proofs.Fixed.{build-fixed}
-use Rattle.builder.proofs.Joined.{built-accepted}
+use Rattle.builder.proofs.Joined.{built-least, built-accepted}
+use Rattle.least.specs.Measures.{measureOf, costBy, tableBy}
+use Rattle.least.specs.declared.By.{By}
+use Rattle.least.specs.declared.By.the-variants.{Branches}
+use Rattle.least.proofs.Measured.{by-table, by-figure}
 use Rattle.answer.specs.declared.RunAnswer.{RunAnswer}
 use Rattle.answer.specs.Run.{Picks, Counts, Tried, runOf, runTold, Ran, refusal, ran, Ascends}
 use Rattle.answer.proofs.Fixed.{skeletons-one}
 use Rattle.table.proofs.HeadLaws.{up-length}
 use Rattle.answer.proofs.Theorems.{picked, picks-ascend, tries-every}
 use Rattle.answer.proofs.TakesLaws.{Takes, takes-run, run-table, run-plan, run-goal, run-room}
-use Rattle.demands.specs.Demands.{Demand1Table, Demand1Goal, Demand1Row, Demand1Check, Demand1Build, Demand1Run, Demand3Build}
-use Rattle.demands.specs.Demands.{BuildTurned, no-table, no-room, RunTurned, bad-table, bad-plan, bad-goal, bad-room, Answers, Writes}
+use Rattle.demands.specs.Demands.{Demand1Table, Demand1Goal, Demand1Row, Demand1Check, Demand1Build, Demand1Run, Demand3Build, Demand3Fewest}
+use Rattle.demands.specs.Demands.{BuildTurned, no-figure, no-table, no-room, RunTurned, bad-table, bad-plan, bad-goal, bad-room, Answers, Writes}
 
 -- Refusals.
 
@@ -94,56 +98,81 @@ plan-kept t p r a = record { refuses = λ f. by-answer a (plan-turned (planOf t 
 
 -- Building.
 
-module _ {t room room′ : List ℕ} {r : BuildAnswer} where
-  build-is-turned : BuiltInto t room room′ r → (f : Refused) → (buildTold r ≡ turned f) ↔ BuildTurned t room f
-  build-is-turned b f = (why b, gets)
-    where
-      why : BuiltInto t room room′ r → buildTold r ≡ turned f → BuildTurned t room f
-      why (table-refused h a x c) e = no-table (a ∙ ap refuse (turned-one (sym x ∙ e)))
-      why (room-refused T plan a u l x c) e = no-room T plan a u l (turned-one (sym e ∙ x))
-      why (built T plan a u m l x c) e = clash (sym x ∙ e)
+-- a table for which a plan is asked by a measure: where the figure is small, what reading the table says
+data TakenBy (b : By) (t : List ℕ) : Type 0 where
+  too-much : 15 < measureOf b .figure → tableBy b t ≡ refuse (refused reason.Figure input.Figure 0) → TakenBy b t
+  small : measureOf b .figure ≤ 15 → tableBy b t ≡ tableOf t → TakenBy b t
 
-      gets : BuildTurned t room f → buildTold r ≡ turned f
-      gets (no-table a) = go b
+taken-by : (b : By) (t : List ℕ) → TakenBy b t
+taken-by b t = go (leb (measureOf b .figure) 15) refl
+  where
+    go : (x : Bool) → leb (measureOf b .figure) 15 ≡ x → TakenBy b t
+    go true e = small (leb-true (measureOf b .figure) 15 e) (by-table b t (leb-true (measureOf b .figure) 15 e))
+    go false e = too-much (leb-false (measureOf b .figure) 15 e) (by-figure b t (leb-false (measureOf b .figure) 15 e))
+
+module _ {by : By} {t room room′ : List ℕ} {r : BuildAnswer} where
+  build-is-turned : BuiltInto by t room room′ r → (f : Refused) → (buildTold r ≡ turned f) ↔ BuildTurned by t room f
+  build-is-turned b f = (why b (taken-by by t), gets)
+    where
+      why : BuiltInto by t room room′ r → TakenBy by t → buildTold r ≡ turned f → BuildTurned by t room f
+      why (table-refused h a x c) (too-much l k) e = no-figure l (turned-one (sym e ∙ x) ∙ refuse-one (sym a ∙ k))
+      why (table-refused h a x c) (small l k) e = no-table l (sym k ∙ a ∙ ap refuse (turned-one (sym x ∙ e)))
+      why (room-refused T plan a u l x c) (too-much s k) e = apart (sym a ∙ k)
+      why (room-refused T plan a u l x c) (small s k) e = no-room s T plan (sym k ∙ a) u l (turned-one (sym e ∙ x))
+      why (built T plan a u m l x c) k e = clash (sym x ∙ e)
+
+      as-read : tableBy by t ≡ refuse f → buildTold r ≡ turned f
+      as-read a = go b
         where
-          go : BuiltInto t room room′ r → buildTold r ≡ turned f
+          go : BuiltInto by t room room′ r → buildTold r ≡ turned f
           go (table-refused h d x c) = x ∙ ap turned (refuse-one (sym d ∙ a))
           go (room-refused T plan d u l x c) = apart (sym d ∙ a)
           go (built T plan d u m l x c) = apart (sym d ∙ a)
-      gets (no-room T plan a u l q) =
+
+      gets : BuildTurned by t room f → buildTold r ≡ turned f
+      gets (no-figure l q) = as-read (by-figure by t l ∙ ap refuse (sym q))
+      gets (no-table l a) = as-read (by-table by t l ∙ a)
+      gets (no-room s T plan a u l q) =
           let no = build-answer.Refused (record { reason = reason.Room; input = input.Lent; place = length (write plan) }) in
-          let short : BuiltInto t room room no = room-refused T plan a u l refl refl in
+          let short : BuiltInto by t room room no = room-refused T plan (by-table by t s ∙ a) u l refl refl in
           ap buildTold (build-fixed b short .0) ∙ ap turned (sym q)
 
-  build-writes-nothing : BuiltInto t room room′ r → (f : Refused) → buildTold r ≡ turned f → room′ ≡ room
+  build-writes-nothing : BuiltInto by t room room′ r → (f : Refused) → buildTold r ≡ turned f → room′ ≡ room
   build-writes-nothing (table-refused h a x c) f e = c
   build-writes-nothing (room-refused T plan a u l x c) f e = c
   build-writes-nothing (built T plan a u m l x c) f e = clash (sym x ∙ e)
 
-  pub build-kept : BuiltInto t room room′ r → Demand1Build t room room′ r
+  pub build-kept : BuiltInto by t room room′ r → Demand1Build by t room room′ r
   build-kept b = record { refuses = build-is-turned b; untouched = build-writes-nothing b }
 
 is-built : (r : BuildAnswer) {n cost : ℕ} → buildTold r ≡ answered n cost → r ≡ build-answer.Built n cost
 is-built (build-answer.Built m c) e = cc
 is-built (build-answer.Refused f) e = clash (sym e)
 
-builds : {t room room′ : List ℕ} {r : BuildAnswer} (T : Table) → tableOf t ≡ read T → 6082 ≤ length room → BuiltInto t room room′ r
+builds : (b : By) {t room room′ : List ℕ} {r : BuildAnswer} (T : Table) → measureOf b .figure ≤ 15 → tableOf t ≡ read T → 6082 ≤ length room → BuiltInto b t room room′ r
     → (n : ℕ) × (cost : ℕ) × (r ≡ build-answer.Built n cost)
-builds T e l (table-refused h a x c) = apart (sym e ∙ a)
-builds {t} T e l (room-refused T′ plan a u s x c) =
-    let i = is-table t a in
+builds b {t} T s e l (table-refused h a x c) = apart (sym (by-table b t s ∙ e) ∙ a)
+builds b {t} T s e l (room-refused T′ plan a u w x c) =
+    let i = is-table t (sym (by-table b t s) ∙ a) in
     absurd (omega (arith, size-bound plan (rows-fit (T′ .width) (T′ .rows) (i .each)) (i .count .0) (i .count .1)))
-builds {r = r} T e l (built T′ plan a u m s x c) = (length (write plan), branches plan, is-built r x)
+builds b {r = r} T s e l (built T′ plan a u m w x c) = (length (write plan), costBy b plan, is-built r x)
 
-pub least-built : {t room room′ : List ℕ} {r : BuildAnswer} → BuiltInto t room room′ r → Demand3Build t room room′ r
-least-built {t} {room} {room′} {r} x = record {
-  builds = λ T e l. builds T e l x;
-  accepted = λ n cost q. built-accepted (with-answer n cost q) .accepts;
-  fewest = λ n cost q. built-accepted (with-answer n cost q) .none-fewer;
+with-answer : (b : By) {t room room′ : List ℕ} {r : BuildAnswer} → BuiltInto b t room room′ r → (n cost : ℕ) → r ≡ build-answer.Built n cost
+    → BuiltInto b t room room′ (build-answer.Built n cost)
+with-answer b {t} {room} {room′} x n cost q = subst (BuiltInto b t room room′) q x
+
+pub least-built : {by : By} {t room room′ : List ℕ} {r : BuildAnswer} → BuiltInto by t room room′ r → Demand3Build by t room room′ r
+least-built {by} x = record {
+  builds = λ T s e l. builds by T s e l x;
+  least = λ n cost q. (let l = built-least by (with-answer by x n cost q) in
+      record { table = l .table; is-read = l .is-read; tree = l .plan; written = l .written; checked = l .checked; costs = l .costs; none-less = l .none-less });
 }
-  where
-    with-answer : (n cost : ℕ) → r ≡ build-answer.Built n cost → BuiltInto t room room′ (build-answer.Built n cost)
-    with-answer n cost q = subst (BuiltInto t room room′) q x
+
+pub fewest-built : {t room room′ : List ℕ} {r : BuildAnswer} → BuiltInto Branches t room room′ r → Demand3Fewest t room room′ r
+fewest-built x = record {
+  accepted = λ n cost q. built-accepted (with-answer Branches x n cost q) .accepts;
+  fewest = λ n cost q. built-accepted (with-answer Branches x n cost q) .none-fewer;
+}
 
 -- The check.
 

@@ -7,7 +7,7 @@
 --   goalTold r ≡ goalSays g (goalWith t g)    table::read_goal
 --   row ≡ rowIn (tableOf t) j                 table::row
 --   planTold r ≡ planSays (planOf t p)        checker::check_plan
---   BuiltInto t room room′ r                  builder::build_plan
+--   BuiltInto by t room room′ r               builder::build_plan
 --   Ran t p g room room′ r                    run::run_plan
 --   JobsRun t p cells jobs jobs′ (planTold r) run::run_jobs
 use Prim.Native.Nat.{ℕ, _≤_, _<_}
@@ -28,6 +28,8 @@ use Rattle.table.proofs.Accepted.{table-accepted, goal-accepted, accepted-row}
 use Rattle.checker.specs.declared.PlanAnswer.{PlanAnswer}
 use Rattle.checker.specs.Checked.{planTold, planSays}
 use Rattle.plan.specs.Check.{planOf}
+use Rattle.least.specs.declared.By.{By}
+use Rattle.least.specs.declared.By.the-variants.{Branches}
 use Rattle.builder.specs.declared.BuildAnswer.{BuildAnswer}
 use Rattle.builder.specs.Build.{BuiltInto}
 use Rattle.answer.specs.declared.RunAnswer.{RunAnswer}
@@ -36,11 +38,11 @@ use Rattle.answer.proofs.Theorems.{same-hits}
 use Rattle.demands.specs.Demands.{Demand1Table, Demand1Goal, Demand1Row, Demand1Check, Demand1Build, Demand1Run, Demand2}
 use Rattle.answer.specs.declared.Job.{Job}
 use Rattle.answer.specs.Jobs.{JobsRun}
-use Rattle.demands.specs.Demands.{Demand3Check, Demand3Run, Demand3Build}
+use Rattle.demands.specs.Demands.{Demand3Check, Demand3Run, Demand3Build, Demand3Fewest}
 use Rattle.demands.specs.Shift.{Shift}
 use Rattle.demands.proofs.Shift.{w-202}
 use Rattle.demands.proofs.Cited.{table-kept, goal-kept, row-kept, plan-kept, build-kept, run-kept}
-use Rattle.demands.proofs.Cited.{check-accepts, run-answers, any-plan-answers, least-built}
+use Rattle.demands.proofs.Cited.{check-accepts, run-answers, any-plan-answers, least-built, fewest-built}
 
 -- DEMAND 1. Refused by the number and place that 01 fixes, with nothing written.
 pub demand-1-read-table : (t : List ℕ) (r : TableRead) → TableReads (tableOf t) r → Demand1Table t r
@@ -55,7 +57,7 @@ demand-1-row = row-kept
 pub demand-1-check : (t p : List ℕ) (r : PlanAnswer) → planTold r ≡ planSays (planOf t p) → Demand1Check t p r
 demand-1-check = plan-kept
 
-pub demand-1-build : {t room room′ : List ℕ} {r : BuildAnswer} → BuiltInto t room room′ r → Demand1Build t room room′ r
+pub demand-1-build : {by : By} {t room room′ : List ℕ} {r : BuildAnswer} → BuiltInto by t room room′ r → Demand1Build by t room room′ r
 demand-1-build = build-kept
 
 pub demand-1-run : {t p g room room′ : List ℕ} {r : RunAnswer} → Ran t p g room room′ r → Demand1Run t p g room room′ r
@@ -76,7 +78,8 @@ demand-2 x T tree e w i l = run-answers T tree e w i l x
 pub demand-2-finite : (row g : List ℕ) → Matches row g → (u : Matches row g) × Finite (u .by)
 demand-2-finite row g = finite-unifier
 
--- DEMAND 3. The check accepts what a plan of the rows writes, every such plan answers as 2 says, and the builder's has the fewest branches.
+-- DEMAND 3. The check accepts what a plan of the rows writes, every such plan answers as 2 says, and the builder's costs least by every
+-- measure, so that by 01's it has the fewest branches.
 pub demand-3-check : (t p : List ℕ) (r : PlanAnswer) → planTold r ≡ planSays (planOf t p) → Demand3Check t p r
 demand-3-check t p r says T e b = check-accepts t p T e r says b
 
@@ -89,8 +92,11 @@ pub demand-3-same-rows : {t p p′ g room room′ room″ : List ℕ} {r r′ : 
     → (room′ ≡ room″) × ((h n h′ n′ : ℕ) → runTold r ≡ answered h n → runTold r′ ≡ answered h′ n′ → h ≡ h′)
 demand-3-same-rows = same-hits
 
-pub demand-3-build : {t room room′ : List ℕ} {r : BuildAnswer} → BuiltInto t room room′ r → Demand3Build t room room′ r
+pub demand-3-build : {by : By} {t room room′ : List ℕ} {r : BuildAnswer} → BuiltInto by t room room′ r → Demand3Build by t room room′ r
 demand-3-build = least-built
+
+pub demand-3-fewest : {t room room′ : List ℕ} {r : BuildAnswer} → BuiltInto Branches t room room′ r → Demand3Fewest t room room′ r
+demand-3-fewest = fewest-built
 
 -- "In the base, no row uses one variable twice."
 pub demand-3-once : (t : List ℕ) {T : Table} → tableOf t ≡ read T → (j : ℕ) → j < length (T .rows) → (v : ℕ) → isVar v ≡ true

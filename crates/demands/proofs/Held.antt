@@ -20,6 +20,7 @@ use Rattle.notes.specs.declared.Noted.{Noted}
 use Rattle.notes.specs.Noted.{Handed}
 use Rattle.notes.proofs.Fixed.{handed-fixed}
 use Rattle.builder.specs.declared.BuildAnswer.{BuildAnswer}
+use Rattle.least.specs.declared.By.{By}
 use Rattle.entries.specs.declared.Entries.{Entries}
 use Rattle.entries.specs.Fill.{WorkedOut}
 use Rattle.builder.specs.Build.{BuiltInto, buildTold}
@@ -75,10 +76,10 @@ pub held-noted : {t p before after after′ : List ℕ} {r s : Noted} → Handed
     → (r ≡ s) × (after ≡ after′)
 held-noted = handed-fixed
 
-pub held-entries : {t : List ℕ} {r s : Entries} → WorkedOut t r → WorkedOut t s → r ≡ s
+pub held-entries : {by : By} {t : List ℕ} {r s : Entries} → WorkedOut by t r → WorkedOut by t s → r ≡ s
 held-entries = worked-fixed
 
-pub held-build : {t room room′ room″ : List ℕ} {r s : BuildAnswer} → BuiltInto t room room′ r → BuiltInto t room room″ s
+pub held-build : {by : By} {t room room′ room″ : List ℕ} {r s : BuildAnswer} → BuiltInto by t room room′ r → BuiltInto by t room room″ s
     → (r ≡ s) × (room′ ≡ room″)
 held-build = build-fixed
 
@@ -113,7 +114,7 @@ pub held-exported-text : {t cells names cells′ names′ cells″ names″ : Li
     → TextCoded t cells names cells″ names″ s → (r ≡ s) × (cells′ ≡ cells″) × (names′ ≡ names″)
 held-exported-text = text-coded-fixed
 
-pub held-exported-build : {t room room′ room″ : List ℕ} {r s : ℕ} → BuildCoded t room room′ r → BuildCoded t room room″ s
+pub held-exported-build : {t room room′ room″ : List ℕ} {figure r s : ℕ} → BuildCoded t figure room room′ r → BuildCoded t figure room room″ s
     → (r ≡ s) × (room′ ≡ room″)
 held-exported-build = build-coded-fixed
 
@@ -146,7 +147,7 @@ back-row = row-back
 pub back-check : (t p : List ℕ) {n : ℕ} → n ≡ coded (planSays (planOf t p)) → decoded n ≡ planSays (planOf t p)
 back-check = plan-back
 
-pub back-build : {t room room′ : List ℕ} {n : ℕ} (x : BuildCoded t room room′ n) → decoded n ≡ buildTold (x .answer)
+pub back-build : {t room room′ : List ℕ} {figure n : ℕ} (x : BuildCoded t figure room room′ n) → decoded n ≡ buildTold (x .answer)
 back-build = build-back
 
 pub back-run : {t p g room room′ : List ℕ} {n : ℕ} (x : RunCoded t p g room room′ n) → decoded n ≡ runTold (x .answer)
@@ -167,7 +168,9 @@ back-replies = replies-back
 -- "an entry that refuses everything": what 01 calls a table, a goal or a plan is accepted: `accepts` of Demand1Table and Demand1Goal,
 -- demand-3-check, `builds` of Demand3Build, demand-2. "a run that names row 0 or no row always, or writes nothing", "a run that walks to
 -- the first leaf and invents the rest": demand-2, for every row. "a tried count or cost made up": the count is `branches` of demand-2, the
--- cost that of demand-3-build. 01, "A run": "That number never exceeds the plan's cost, and equals it for the goal of distinct variables."
+-- cost that of demand-3-build. 01, "A run": "That number never exceeds the plan's cost, and equals it for the goal of distinct variables",
+-- where the cost is the number of branches, which the check answers. 02, W-204: "bounded by the plan's branch count, not by its cost". By
+-- the work of W-204 one row (v0) has a plan of cost 0 with one branch (least/proofs/WorkExamples), and tried-open tries it
 pub tried-bound : {t p g room room′ : List ℕ} {r : RunAnswer} {b h n : ℕ} → planOf t p ≡ read b → Ran t p g room room′ r
     → runTold r ≡ answered h n
     → n ≤ b

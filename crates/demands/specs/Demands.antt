@@ -17,12 +17,14 @@ use Rattle.refusal.specs.Read.{read, refuse}
 use Rattle.table.specs.declared.TableRead.{TableRead}
 use Rattle.table.specs.declared.GoalAnswer.{GoalAnswer}
 use Rattle.table.specs.Table.{Table, tableOf, goalOf, goalWith, tableTold, goalTold, IsTable, IsGoal, appear}
-use Rattle.plan.specs.Plans.{Plan, write, branches, plain}
+use Rattle.plan.specs.Plans.{Plan, write, branches}
 use Rattle.plan.specs.Check.{planFor, planOf}
 use Rattle.checker.specs.declared.PlanAnswer.{PlanAnswer}
 use Rattle.checker.specs.declared.PlanAnswer.the-variants as plan-answer
 use Rattle.checker.specs.Checked.{planTold}
 use Rattle.least.specs.Least.{Built}
+use Rattle.least.specs.Measures.{measureOf, costBy}
+use Rattle.least.specs.declared.By.{By}
 use Rattle.builder.specs.declared.BuildAnswer.{BuildAnswer}
 use Rattle.builder.specs.declared.BuildAnswer.the-variants as build-answer
 use Rattle.builder.specs.Build.{buildTold}
@@ -51,15 +53,17 @@ pub record Demand1Row (cells : List ℕ) (number : ℕ) (row : List ℕ) : Type 
 pub record Demand1Check (cells plan : List ℕ) (answer : PlanAnswer) : Type 0 where
   pub refuses : (f : Refused) → (planTold answer ≡ turned f) ↔ (planOf cells plan ≡ refuse f)
 
--- 01, "Building checks the table, then ROOM (fewer cells lent than the plan has)": what turns a building away, and the refusal that it
--- gets. The place of ROOM is the number of cells needed
-pub data BuildTurned (cells room : List ℕ) (refusal : Refused) : Type 0 where
-  no-table : tableOf cells ≡ refuse refusal → BuildTurned cells room refusal
-  no-room : (T : Table) (tree : Plan (T .width) (T .rows)) → tableOf cells ≡ read T → Built plain tree → length room < length (write tree)
-      → refusal ≡ refused reason.Room input.Lent (length (write tree)) → BuildTurned cells room refusal
+-- 02, W-204, "FIGURE for a figure above 15, before the table's", and 01, "Building checks the table, then ROOM (fewer cells lent than the
+-- plan has)": what turns a building by a measure away, and the refusal that it gets. The place of ROOM is the number of cells needed
+pub data BuildTurned (by : By) (cells room : List ℕ) (refusal : Refused) : Type 0 where
+  no-figure : 15 < measureOf by .figure → refusal ≡ refused reason.Figure input.Figure 0 → BuildTurned by cells room refusal
+  no-table : measureOf by .figure ≤ 15 → tableOf cells ≡ refuse refusal → BuildTurned by cells room refusal
+  no-room : measureOf by .figure ≤ 15 → (T : Table) (tree : Plan (T .width) (T .rows)) → tableOf cells ≡ read T → Built (measureOf by) tree
+      → length room < length (write tree) → refusal ≡ refused reason.Room input.Lent (length (write tree))
+      → BuildTurned by cells room refusal
 
-pub record Demand1Build (cells room after : List ℕ) (answer : BuildAnswer) : Type 0 where
-  pub refuses : (f : Refused) → (buildTold answer ≡ turned f) ↔ BuildTurned cells room f
+pub record Demand1Build (by : By) (cells room after : List ℕ) (answer : BuildAnswer) : Type 0 where
+  pub refuses : (f : Refused) → (buildTold answer ≡ turned f) ↔ BuildTurned by cells room f
   pub untouched : (f : Refused) → buildTold answer ≡ turned f → after ≡ room
 
 -- 01, "A run takes table, plan, goal, then ROOM (fewer bytes lent than the table has rows)": what turns a run away, and the refusal that it
@@ -113,9 +117,25 @@ Demand3Run cells plan goal room after answer =
     (T : Table) (b : ℕ) → tableOf cells ≡ read T → planOf cells plan ≡ read b → IsGoal (T .width) goal → length (T .rows) ≤ length room
     → (w : Writes T plan b) × Answers T (w .tree) goal room after answer
 
--- "The plan our builder writes has the fewest branches of all plans the check accepts for that table": given room for any plan it writes
--- one; the check accepts what is written, with the cost that is answered; and whatever else the check accepts has no fewer
-pub record Demand3Build (cells room after : List ℕ) (answer : BuildAnswer) : Type 0 where
-  pub builds : (T : Table) → tableOf cells ≡ read T → 6082 ≤ length room → (n : ℕ) × (cost : ℕ) × (answer ≡ build-answer.Built n cost)
+-- "The plan our builder writes has the fewest branches of all plans the check accepts for that table", and 02, W-204, "Least in demand 3
+-- now reads by this measure", with 01's number of branches as one more: given a small figure and room for any plan it writes one; the check
+-- accepts what is written and answers its number of branches; the cost that is answered is that plan's, and no plan of the table costs
+-- less. By demand 3's check these are all that the check accepts
+pub record LeastBy (by : By) (cells plan : List ℕ) (cost : ℕ) : Type 0 where
+  pub table : Table
+  pub is-read : tableOf cells ≡ read table
+  pub tree : Plan (table .width) (table .rows)
+  pub written : write tree ≡ plan
+  pub checked : planOf cells plan ≡ read (branches tree)
+  pub costs : costBy by tree ≡ cost
+  pub none-less : (other : Plan (table .width) (table .rows)) → cost ≤ costBy by other
+
+pub record Demand3Build (by : By) (cells room after : List ℕ) (answer : BuildAnswer) : Type 0 where
+  pub builds : (T : Table) → measureOf by .figure ≤ 15 → tableOf cells ≡ read T → 6082 ≤ length room
+      → (n : ℕ) × (cost : ℕ) × (answer ≡ build-answer.Built n cost)
+  pub least : (n cost : ℕ) → answer ≡ build-answer.Built n cost → LeastBy by cells (take n after) cost
+
+-- by 01's measure the cost is the number of branches: whatever else the check accepts has no fewer
+pub record Demand3Fewest (cells room after : List ℕ) (answer : BuildAnswer) : Type 0 where
   pub accepted : (n cost : ℕ) → answer ≡ build-answer.Built n cost → planOf cells (take n after) ≡ read cost
   pub fewest : (n cost : ℕ) → answer ≡ build-answer.Built n cost → (other : List ℕ) (b : ℕ) → planOf cells other ≡ read b → cost ≤ b

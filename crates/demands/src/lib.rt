@@ -2,7 +2,7 @@
 // it (specs/), by the theorem of proofs/. So a contract that no longer gives them is an error here. Nothing calls these functions; they are
 // private, since what they ensure is less than what the entries promise.
 ghost use Rattle.demands.specs.Demands.{Demand1Table, Demand1Goal, Demand1Row, Demand1Check, Demand1Build, Demand1Run};
-ghost use Rattle.demands.specs.Demands.{Demand2, Demand3Check, Demand3Run, Demand3Build};
+ghost use Rattle.demands.specs.Demands.{Demand2, Demand3Check, Demand3Run, Demand3Build, Demand3Fewest};
 ghost use Rattle.demands.specs.Texts.{Request201};
 ghost use Rattle.demands.specs.Shift.{Shift};
 ghost use Rattle.demands.specs.Replies.{RepliesRefused, Says};
@@ -10,6 +10,7 @@ use answer::RunAnswer;
 use builder::BuildAnswer;
 use checker::PlanAnswer;
 use instance::RepliesAnswer;
+use least::By;
 use prolog::TextAnswer;
 use run::Job;
 use table::GoalAnswer;
@@ -40,11 +41,17 @@ fn demand_check(cells: &[u32], plan: &[u32]) -> PlanAnswer
     checker::check_plan(cells, plan)
 }
 
-fn demand_build(cells: &[u32], room: &mut [u32]) -> BuildAnswer
-    ensures { λ r. ⌜ Demand1Build (now (cells .entry)) (now (room .entry)) (now (room .exit)) r ⌝ }
-    ensures { λ r. ⌜ Demand3Build (now (cells .entry)) (now (room .entry)) (now (room .exit)) r ⌝ }
+fn demand_build(by: By, cells: &[u32], room: &mut [u32]) -> BuildAnswer
+    ensures { λ r. ⌜ Demand1Build by (now (cells .entry)) (now (room .entry)) (now (room .exit)) r ⌝ }
+    ensures { λ r. ⌜ Demand3Build by (now (cells .entry)) (now (room .entry)) (now (room .exit)) r ⌝ }
 {
-    builder::build_plan(cells, room)
+    builder::build_plan(by, cells, room)
+}
+
+fn demand_build_fewest(cells: &[u32], room: &mut [u32]) -> BuildAnswer
+    ensures { λ r. ⌜ Demand3Fewest (now (cells .entry)) (now (room .entry)) (now (room .exit)) r ⌝ }
+{
+    builder::build_plan(By::Branches, cells, room)
 }
 
 fn demand_run(cells: &[u32], plan: &[u32], goal: &[u32], room: &mut [u8]) -> RunAnswer

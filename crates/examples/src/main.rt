@@ -1,8 +1,9 @@
-// Every example of 01, marked or not, on the functions themselves. What is printed is compared with the file stdout; cells are printed as
+// Every example of 01, marked or not, and some of 02's W-204, on the functions themselves. What is printed is compared with the file stdout; cells are printed as
 // numbers.
 use answer::RunAnswer;
 use builder::BuildAnswer;
 use checker::PlanAnswer;
+use least::By;
 use libc::STDOUT_FILENO;
 use refusal::Refusal;
 use table::TableAnswer;
@@ -20,17 +21,21 @@ const F1: u32 = 0x40010006;
 
 const G: u32 = 0x40000007;
 
+const G2: u32 = 0x40020007;
+
 const X: u32 = 0x40000018;
 
 const Y: u32 = 0x40000019;
 
 const Z: u32 = 0x4000001a;
-// The whole numbers 1, 2, 3.
+// The whole numbers 1, 2, 3 and 9.
 const ONE: u32 = 0x80000001;
 
 const TWO: u32 = 0x80000002;
 
 const THREE: u32 = 0x80000003;
+
+const NINE: u32 = 0x80000009;
 
 fn say(text: &[u8]) {
     io::write_all(STDOUT_FILENO, text);
@@ -95,14 +100,22 @@ fn read(table: &[u32]) {
     }
 }
 
-// The builder's plan.
+// The builder's plan by 01's measure, and by the work with a figure.
 fn build(table: &[u32]) {
     let mut room = [0u32; 128];
-    build_into(table, &mut room);
+    build_into(By::Branches, table, &mut room);
 }
 
-fn build_into(table: &[u32], room: &mut [u32]) {
-    match builder::build_plan(table, room) {
+fn build_work(figure: u32, table: &[u32]) {
+    let mut room = [0u32; 128];
+    say(b"figure ");
+    number(wide(figure));
+    say(b" ");
+    build_into(By::Work(figure), table, &mut room);
+}
+
+fn build_into(by: By, table: &[u32], room: &mut [u32]) {
+    match builder::build_plan(by, table, room) {
         BuildAnswer::Built(n, cost) => {
             say(b"cost ");
             number(cost);
@@ -133,7 +146,7 @@ fn ask(table: &[u32], goal: &[u32]) {
 }
 
 fn ask_with(table: &[u32], goal: &[u32], room: &mut [u32], hits: &mut [u8]) {
-    match builder::build_plan(table, room) {
+    match builder::build_plan(By::Branches, table, room) {
         BuildAnswer::Built(n, _) => ask_plan(table, &room[..n], goal, hits),
         BuildAnswer::Refused(f) => refused(f),
     }
@@ -259,7 +272,41 @@ fn unmarked() {
     build(&six);
 }
 
+// 02, W-204: plans that change with the figure, or with the weight of a name's arguments.
+fn work() {
+    say(b"(v0) ");
+    build_work(15, &[1, 1, 0]);
+    say(b"(v0) (v0) ");
+    build_work(15, &[1, 2, 0, 0]);
+    say(b"(f1(a),9) ");
+    build_work(3, &[2, 1, F1, A, NINE]);
+    let p1 = [3, 4, A, B, C, A, B, D, A, C, C, B, A, C];
+    say(b"P1 ");
+    build_work(0, &p1);
+    say(b"P1 ");
+    build_work(1, &p1);
+    say(b"P1 ");
+    build_work(2, &p1);
+    say(b"P1 ");
+    build_work(15, &p1);
+    say(b"P1 ");
+    build_work(16, &p1);
+    let blank = [2, 3, B, A, 0, B, 0, B];
+    say(b"blank ");
+    build_work(0, &blank);
+    say(b"blank ");
+    build_work(1, &blank);
+    let names = [2, 3, A, A, A, G2, B, 0, 0, G2, A, 1];
+    say(b"names ");
+    build(&names);
+    say(b"names ");
+    build_work(0, &names);
+    say(b"no cells ");
+    build_work(16, &[]);
+}
+
 fn main() {
     marked();
     unmarked();
+    work();
 }

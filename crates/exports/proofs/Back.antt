@@ -8,6 +8,7 @@ use Rattle.refusal.proofs.CodedLaws.{read-back}
 use Rattle.table.specs.Table.{tableOf, tableSays, goalWith, goalSays}
 use Rattle.plan.specs.Check.{planOf}
 use Rattle.checker.specs.Checked.{planSays}
+use Rattle.least.specs.declared.By.the-variants.{Work}
 use Rattle.builder.specs.Build.{buildTold}
 use Rattle.answer.specs.Run.{runTold}
 use Rattle.exports.specs.Coded.{rowSays, BuildCoded, RunCoded, TextCoded, JobsCoded, RepliesCoded}
@@ -27,8 +28,8 @@ row-back t r = let s = row-small t r in read-back (omega arith, omega arith)
 pub plan-back : (t p : List ℕ) {n : ℕ} → n ≡ coded (planSays (planOf t p)) → decoded n ≡ planSays (planOf t p)
 plan-back t p = read-back (plan-small t p)
 
-pub build-back : {t room room′ : List ℕ} {n : ℕ} (x : BuildCoded t room room′ n) → decoded n ≡ buildTold (x .answer)
-build-back x = read-back (build-small (x .built)) (x .code)
+pub build-back : {t room room′ : List ℕ} {figure n : ℕ} (x : BuildCoded t figure room room′ n) → decoded n ≡ buildTold (x .answer)
+build-back {figure = figure} x = read-back (build-small (Work figure) (x .built)) (x .code)
 
 pub run-back : {t p g room room′ : List ℕ} {n : ℕ} (x : RunCoded t p g room room′ n) → decoded n ≡ runTold (x .answer)
 run-back x = read-back (run-small (x .ran)) (x .code)

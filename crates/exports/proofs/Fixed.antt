@@ -18,7 +18,7 @@ use Rattle.instance.specs.Replied.{repliesTold}
 use Rattle.instance.specs.declared.RepliesAnswer.{RepliesAnswer}
 use Rattle.instance.proofs.Fixed.{replied-fixed}
 
-pub build-coded-fixed : {t room room′ room″ : List ℕ} {m n : ℕ} → BuildCoded t room room′ m → BuildCoded t room room″ n
+pub build-coded-fixed : {t room room′ room″ : List ℕ} {figure m n : ℕ} → BuildCoded t figure room room′ m → BuildCoded t figure room room″ n
     → (m ≡ n) × (room′ ≡ room″)
 build-coded-fixed a b =
     let f = build-fixed (a .built) (b .built) in

@@ -1,14 +1,17 @@
 -- Every answer of every entry fits the number that it is coded as.
-use mathlib.Core.Path.{_≡_, refl, ap, _∙_}
+use mathlib.Core.Path.{_≡_, refl, sym, ap, _∙_}
 use mathlib.Core.List.{List, [], _∷_, _++_, flatten}
 use Prim.Native.Nat.{ℕ, zero, suc, _+_, _-_, _^_, _≤_, _<_}
 use native.Mathlib.Omega.{arith}
+use mathlib.Core.Bool.{Bool, true, false, _||_}
+use lib.Dec.{leb, ltb}
+use borrow.Author.Tests.{leb-true, leb-false}
 use lib.ListN.{length, getD, replicate, length-append}
 use Rattle.term.proofs.Lists.{getD-zeros}
 use Rattle.refusal.specs.Coded.{Small}
 use Rattle.refusal.specs.declared.Reason.the-variants as reason
 use Rattle.refusal.specs.declared.Input.the-variants as input
-use Rattle.refusal.specs.Refusal.{Refused, Answer, turned}
+use Rattle.refusal.specs.Refusal.{Refused, refused, Answer, turned}
 use Rattle.refusal.proofs.CodedLaws.{refused-small, small-by}
 use Rattle.refusal.specs.Read.{Read, read, refuse, andThen}
 use Rattle.table.specs.Table.{Table, tableOf, tableSays, goalOf, goalSays, goalWith, rowIn, startsIn, starts, Row}
@@ -20,6 +23,10 @@ use Rattle.checker.specs.Checked.{planSays}
 use Rattle.plan.specs.Plans.{Plan, write, branches}
 use Rattle.plan.proofs.SizeLaws.{bound, size-bound}
 use Rattle.builder.specs.declared.BuildAnswer.{BuildAnswer}
+use Rattle.least.specs.Measures.{measureOf, tableBy}
+use Rattle.least.specs.declared.By.{By}
+use Rattle.least.proofs.Measured.{by-table, by-figure, by-read}
+use Rattle.least.proofs.Weighed.{by-low, cost-few}
 use Rattle.builder.specs.Build.{BuiltInto, table-refused, room-refused, built, buildTold}
 use Rattle.plan.proofs.CheckLaws.{accepted-one, rows-fit}
 use Rattle.answer.specs.declared.RunAnswer.{RunAnswer}
@@ -114,6 +121,12 @@ plan-cells t T plan e =
     let b = bound plan 32 f (i .count .0) in
     (size-bound plan f (i .count .0) (i .count .1), omega (arith, i .count .1))
 
+refuse-same : {f g : Refused} → _≡_ {A = Read Table} (refuse f) (refuse g) → f ≡ g
+refuse-same e = cc
+
+read-by : (b : By) (t : List ℕ) {T : Table} → tableBy b t ≡ read T → tableOf t ≡ read T
+read-by b t e = sym (by-table b t (by-read b t e)) ∙ e
+
 -- hits are rows of the table, and tries are branches of the plan
 pub run-small : {t p g room room′ : List ℕ} {r : RunAnswer} → Ran t p g room room′ r → Small (runTold r)
 run-small {t} {p} {g} {room} (refusal f a b c) = rw b (placed-small (omega arith) (placed-run t p g room) a)
@@ -122,12 +135,25 @@ run-small {t} {p} (ran T tree found n a e w u b c) =
     let l = plan-cells t T tree k in
     rw b (omega (arith, picks-few w, is-table t k .count .1), omega (arith, tried-most tree (replicate (T .width) hole) u, l .1))
 
--- a plan that is built has at most 6,082 cells
-pub build-small : {t room room′ : List ℕ} {r : BuildAnswer} → BuiltInto t room room′ r → Small (buildTold r)
-build-small {t} (table-refused f a b c) = rw b (placed-small (omega arith) (placed-table t) a)
-build-small {t} (room-refused T plan a b l c d) =
-    rw c (refused-small reason.Room input.Lent (length (write plan)) (omega (arith, plan-cells t T plan a .0)))
-build-small {t} (built T plan a b l h c d) = let n = plan-cells t T plan a in rw c (omega (arith, n .0), omega (arith, n .1))
+-- a table that is turned away for a measure: by its figure, or by 01
+turned-small : (b : By) (t : List ℕ) {f : Refused} → tableBy b t ≡ refuse f → Small (turned f)
+turned-small b t {f} e = go (leb (measureOf b .figure) 15) refl
+  where
+    go : (x : Bool) → leb (measureOf b .figure) 15 ≡ x → Small (turned f)
+    go true q = placed-small (omega arith) (placed-table t) (sym (by-table b t (leb-true (measureOf b .figure) 15 q)) ∙ e)
+    go false q =
+        let x : refuse (refused reason.Figure input.Figure 0) ≡ refuse f = sym (by-figure b t (leb-false (measureOf b .figure) 15 q)) ∙ e in
+        let y : refused reason.Figure input.Figure 0 ≡ f = refuse-same x in
+        rw (← y) (refused-small reason.Figure input.Figure 0 (omega arith))
+
+-- a plan that is built has at most 6,082 cells, and costs at most 20 for each of 2,048 branches
+pub build-small : (b : By) {t room room′ : List ℕ} {r : BuildAnswer} → BuiltInto b t room room′ r → Small (buildTold r)
+build-small b {t} (table-refused f a e c) = rw e (turned-small b t a)
+build-small b {t} (room-refused T plan a e l c d) =
+    rw c (refused-small reason.Room input.Lent (length (write plan)) (omega (arith, plan-cells t T plan (read-by b t a) .0)))
+build-small b {t} (built T plan a e l h c d) =
+    let n = plan-cells t T plan (read-by b t a) in
+    rw c (omega (arith, n .0), omega (arith, n .1, cost-few (measureOf b) (by-low b (by-read b t a)) plan))
 
 -- a text has at most 65,535 bytes and 32,766 symbols, and a place in it is at most its end
 stops-small : {t : List ℕ} {k : ℕ} → Stops t k → length t ≤ 65535 → k < 2 ^ 48

@@ -7,6 +7,7 @@ use Rattle.refusal.specs.Refusal.{Answer, answered}
 use Rattle.refusal.specs.Read.{Read}
 use Rattle.refusal.specs.Coded.{coded}
 use Rattle.table.specs.Table.{Table, startsIn, rowIn}
+use Rattle.least.specs.declared.By.the-variants.{Work}
 use Rattle.builder.specs.declared.BuildAnswer.{BuildAnswer}
 use Rattle.builder.specs.Build.{BuiltInto, buildTold}
 use Rattle.loading.specs.Load.{TextLoads}
@@ -27,10 +28,10 @@ pub record RunCoded (cells plan goal room after : List ℕ) (number : ℕ) : Typ
   pub ran : Ran cells plan goal room after answer
   pub code : number ≡ coded (runTold answer)
 
--- what the entry of the builder answers and leaves in the room
-pub record BuildCoded (cells room after : List ℕ) (number : ℕ) : Type 0 where
+-- what the entry of the builder answers and leaves in the room, by the work of W-204 with a figure
+pub record BuildCoded (cells : List ℕ) (figure : ℕ) (room after : List ℕ) (number : ℕ) : Type 0 where
   pub answer : BuildAnswer
-  pub built : BuiltInto cells room after answer
+  pub built : BuiltInto (Work figure) cells room after answer
   pub code : number ≡ coded (buildTold answer)
 
 -- what the entry for a text answers and leaves in the two rooms

@@ -9,6 +9,7 @@ ghost use Rattle.exports.specs.Coded.{rowSays, BuildCoded, RunCoded, Tex
 
 mod code;
 
+use least::By;
 use run::Job;
 
 // A table's width and number of rows.
@@ -48,12 +49,12 @@ pub extern "C" fn dudowiej_check_plan(cells: &[u32], plan: &[u32]) -> u64
     code::code_plan(checker::check_plan(cells, plan))
 }
 
-// The least plan's number of cells and its cost; its cells are the room's first.
+// The number of cells of the least plan by the work of W-204 with a figure, and its cost; its cells are the room's first.
 #[no_mangle]
-pub extern "C" fn dudowiej_build_plan(cells: &[u32], room: &mut [u32]) -> u64
-    ensures { λ r. ⌜ BuildCoded (now (cells .entry)) (now (room .entry)) (now (room .exit)) r ⌝ }
+pub extern "C" fn dudowiej_build_plan(cells: &[u32], figure: u32, room: &mut [u32]) -> u64
+    ensures { λ r. ⌜ BuildCoded (now (cells .entry)) figure (now (room .entry)) (now (room .exit)) r ⌝ }
 {
-    code::code_build(builder::build_plan(cells, room))
+    code::code_build(builder::build_plan(By::Work(figure), cells, room))
 }
 
 // A run's number of hits and of branches tried; the hits are the room's first bytes.

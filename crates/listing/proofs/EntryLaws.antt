@@ -26,6 +26,9 @@ use Rattle.plan.proofs.NotesLaws.{notes-fit}
 use Rattle.plan.proofs.PlansLaws.{plan-tells, cost-plain}
 use Rattle.plan.proofs.SizeLaws.{bound, size-bound}
 use Rattle.plan.proofs.CheckLaws.{accepted, rows-fit}
+use Rattle.least.specs.Measures.{tableBy}
+use Rattle.least.specs.declared.By.the-variants as by
+use Rattle.least.proofs.Measured.{by-table}
 use Rattle.builder.specs.Build.{BuiltInto, table-refused, room-refused, built, buildTold}
 use Rattle.builder.specs.declared.BuildAnswer.{BuildAnswer}
 use Rattle.builder.specs.declared.BuildAnswer.the-variants as build-answer
@@ -105,41 +108,45 @@ module _ {t plan : List ℕ} {costs : ℕ} where
       }
 
 -- the builder's answer, with room for any plan: the builder's plan of a table that is read, or the table's refusal
-module _ {t room room′ : List ℕ} {r : BuildAnswer} (b : BuiltInto t room room′ r) (enough : length room ≡ 6082) where
+module _ {t room room′ : List ℕ} {r : BuildAnswer} (b : BuiltInto by.Branches t room room′ r) (enough : length room ≡ 6082) where
+  -- 01's measure has no figure to refuse
+  reads : tableOf t ≡ tableBy by.Branches t
+  reads = sym (by-table by.Branches t (omega arith))
+
   pub plan-built : (n costs : ℕ) → r ≡ build-answer.Built n costs → (n ≤ length room′) × Planned t (take n room′) costs
   plan-built n costs e = go b
     where
-      go : BuiltInto t room room′ r → (n ≤ length room′) × Planned t (take n room′) costs
+      go : BuiltInto by.Branches t room room′ r → (n ≤ length room′) × Planned t (take n room′) costs
       go (table-refused f x a s) = let z : _≡_ {A = ℕ} 0 1 = cc in absurd (omega arith)
       go (room-refused T tree x y l a s) = let z : _≡_ {A = ℕ} 0 1 = cc in absurd (omega arith)
       go (built T tree x y least l a s) =
-          let d : answered n costs ≡ answered (length (write tree)) (branches tree) = ap buildTold (sym e) ∙ a in
+          let d : answered n costs ≡ answered (length (write tree)) (cost plain tree) = ap buildTold (sym e) ∙ a in
           let m : n ≡ length (write tree) = cc in
-          let c : costs ≡ branches tree = cc in (
+          let c : costs ≡ cost plain tree = cc in (
             omega (arith, ap length s, length-append (write tree) (drop (length (write tree)) room)),
             record {
               table = T;
               tree = tree;
-              reads = x;
+              reads = reads ∙ x;
               built = y;
               cells = rw (m, s) (take-append-seam (write tree) (drop (length (write tree)) room));
-              costs-it = c ∙ sym (cost-plain tree);
+              costs-it = c;
             },
           )
 
   pub plan-refused : (f : Refusal) → r ≡ build-answer.Refused f → tableOf t ≡ refuse (told f)
   plan-refused f e = go b
     where
-      go : BuiltInto t room room′ r → tableOf t ≡ refuse (told f)
+      go : BuiltInto by.Branches t room room′ r → tableOf t ≡ refuse (told f)
       go (table-refused g x a s) =
           let d : turned (told f) ≡ turned g = ap buildTold (sym e) ∙ a in
           let q : told f ≡ g = cc in
-          x ∙ rw q
+          reads ∙ x ∙ rw q
       go (room-refused T tree x y l a s) =
-          let f = few t x in
+          let f = few t (reads ∙ x) in
           absurd (omega (arith, size-bound tree (f .0) (f .1) (f .2)))
       go (built T tree x y least l a s) =
-          let d : turned (told f) ≡ answered (length (write tree)) (branches tree) = ap buildTold (sym e) ∙ a in
+          let d : turned (told f) ≡ answered (length (write tree)) (cost plain tree) = ap buildTold (sym e) ∙ a in
           let z : _≡_ {A = ℕ} 0 1 = cc in
           absurd (omega arith)
 

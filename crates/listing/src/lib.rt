@@ -10,6 +10,7 @@ use crate::text::put_header;
 use crate::walk::Stand;
 use crate::walk::state;
 use builder::BuildAnswer;
+use least::By;
 use printing::put_refusal;
 use refusal::Reason;
 
@@ -32,12 +33,12 @@ fn list_plan(table: &[u32], plan: &[u32], out: &mut [u8], cost: usize) -> usize
     s.to
 }
 
-// The listing of a table's cells.
+// The listing of a table's cells: of its least plan by 01's measure (02, W-204, "the listing keeps 01's measure").
 fn list_cells(table: &[u32], out: &mut [u8]) -> usize
     ensures { λ r. ⌜ Listed most (ListsTable (now (table .entry))) (now (out .entry)) (now (out .exit)) r ⌝ }
 {
     let mut room = [0u32; 6082];
-    match builder::build_plan(table, &mut room) {
+    match builder::build_plan(By::Branches, table, &mut room) {
         BuildAnswer::Built(n, cost) => list_plan(table, &room[..n], out, cost),
         BuildAnswer::Refused(f) => {
             let reason = f.reason;

@@ -8,8 +8,8 @@ use Rattle.examples.proofs.ask_with.Statement.{statement}
 use Rattle.examples.proofs.ask_with.Tie as tie
 
 -- what was built fits the room
-fits : (c : tie.After-n) → c .n .given .0 .0 ≤ length (c .before .before .before .before .build-plan .last .1 .0)
-fits c = built-fits (c .before .before .before .before .build-plan .ensures) (c .n .given .1)
+fits : (c : tie.After-n) → c .n .given .0 .0 ≤ length (c .before .before .before .before .build-plan .last .1 .1 .0)
+fits c = built-fits _ (c .before .before .before .before .build-plan .ensures) (c .n .given .1)
 
 build-plan-requires : tie.Need-build-plan-requires
 build-plan-requires c κs = search needs

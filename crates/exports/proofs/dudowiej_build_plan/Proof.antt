@@ -7,7 +7,7 @@ build-plan-requires : tie.Need-build-plan-requires
 build-plan-requires c κs = search needs
 
 code-build-requires : tie.Need-code-build-requires
-code-build-requires c κs = build-small (c .before .before .build-plan .ensures)
+code-build-requires c κs = build-small _ (c .before .before .build-plan .ensures)
 
 same-length : tie.Need-same-length
 same-length c = search needs

@@ -14,9 +14,9 @@ use Rattle.listing.proofs.list_cells.Tie as tie
 
 -- what was built
 built : (c : tie.After-n)
-    → (c .n .given .0 .0 ≤ length (c .before .before .before .build-plan .last .1 .0))
+    → (c .n .given .0 .0 ≤ length (c .before .before .before .build-plan .last .1 .1 .0))
     × Planned (c .before .before .before .before .before .before .before .args .table .now)
-    (take (c .n .given .0 .0) (c .before .before .before .build-plan .last .1 .0)) (c .n .given .0 .1 .0)
+    (take (c .n .given .0 .0) (c .before .before .before .build-plan .last .1 .1 .0)) (c .n .given .0 .1 .0)
 built c = plan-built (c .before .before .before .build-plan .ensures) (length-replicate {A = ℕ} 6082 0) _ _ (c .n .given .1)
 
 slice-aggregate-build-plan : tie.Need-slice-aggregate-build-plan
