@@ -11,7 +11,8 @@
  * A list is passed as a pointer and a length. The pointer is aligned for its type and not null, even where the length is 0. A lent room
  * shares no memory with the inputs. The functions keep nothing between calls, and allocate nothing. Of its caller's stack a call touches at
  * most 93,280 bytes to build a plan, 61,208 to load a text, 44,104 for replies, 31,352 to run a plan, 14,520 to check one and 1,288 to
- * read (measured: docs/BENCH.md, "Stack"). */
+ * read (measured: docs/BENCH.md, "Stack"). */,
+ * most 85,856 bytes to build a plan, 31,608 to run one, 14,520 to check one and 1,288 to read (measured: docs/BENCH.md, "Stack"). */
 #ifndef DUDOWIEJ_H
 #define DUDOWIEJ_H
 
@@ -33,7 +34,8 @@ enum {
     DUDOWIEJ_PLAN_CELLS = 6082,
     DUDOWIEJ_TEXT_BYTES = 65535,
     DUDOWIEJ_NAMES = 2048,
-    DUDOWIEJ_REPLY_CELLS = 1024
+    DUDOWIEJ_REPLY_CELLS = 1024,
+    DUDOWIEJ_MOST_FIGURE = 15
 };
 
 /* Why an input is refused. */
@@ -56,11 +58,12 @@ enum dudowiej_refusal {
     DUDOWIEJ_REFUSED_ROOM = 16,  /* the lent room is too small: cells or bytes needed */
     DUDOWIEJ_REFUSED_BYTES = 17, /* text over 65,535 bytes: place 0 */
     DUDOWIEJ_REFUSED_TEXT = 18,  /* no text goes on so: that byte, or the number of bytes */
-    DUDOWIEJ_REFUSED_OTHER = 19  /* a fact of another predicate or width than the first: the first byte of its name */
+    DUDOWIEJ_REFUSED_OTHER = 19, /* a fact of another predicate or width than the first: the first byte of its name */
+    DUDOWIEJ_REFUSED_FIGURE = 20 /* a figure above 15: place 0 */
 };
 
 /* Which input a refusal concerns. */
-enum dudowiej_input { DUDOWIEJ_TABLE = 1, DUDOWIEJ_PLAN = 2, DUDOWIEJ_GOAL = 3, DUDOWIEJ_ROOM = 4, DUDOWIEJ_TEXT = 5 };
+enum dudowiej_input { DUDOWIEJ_TABLE = 1, DUDOWIEJ_PLAN = 2, DUDOWIEJ_GOAL = 3, DUDOWIEJ_ROOM = 4, DUDOWIEJ_TEXT = 5, DUDOWIEJ_FIGURE = 6 };
 
 /* Reads a table. First: its width. Second: its rows. */
 uint64_t dudowiej_read_table(const uint32_t *table, size_t table_cells);
@@ -75,9 +78,11 @@ uint64_t dudowiej_row(const uint32_t *table, size_t table_cells, size_t row);
 /* Checks any plan for a table. First: the plan's branches. Second: 0. */
 uint64_t dudowiej_check_plan(const uint32_t *table, size_t table_cells, const uint32_t *plan, size_t plan_cells);
 
-/* Writes the least plan to the front of the room; the rest of it is untouched. First: the cells written. Second: the plan's branches. A
- * room of DUDOWIEJ_PLAN_CELLS cells is always large enough. */
-uint64_t dudowiej_build_plan(const uint32_t *table, size_t table_cells, uint32_t *room, size_t room_cells);
+/* Writes the least plan to the front of the room; the rest of it is untouched. Least is by work: the branch of a variable costs 0, of a
+ * number 1, of a name 1 plus its arguments, and a state with two or more branches costs the figure, 0 to 15, once. A figure above 15 is
+ * refused before the table. First: the cells written. Second: the plan's cost; dudowiej_check_plan answers its branches. A room of
+ * DUDOWIEJ_PLAN_CELLS cells is always large enough. */
+uint64_t dudowiej_build_plan(const uint32_t *table, size_t table_cells, uint32_t figure, uint32_t *room, size_t room_cells);
 
 /* Runs a plan on a goal and writes the numbers of the rows that unify with it, from the top, to the front of the room; the rest of it is
  * untouched. The room has a byte for every row of the table. First: the rows written. Second: the branches tried. */

@@ -5,7 +5,7 @@ use std::hint::black_box;
 use crate::engine::{Engine, Exported, Plain};
 use crate::make::goals;
 use crate::make::tables::{table, Kind};
-use crate::model::least::least;
+use crate::model::least::{least, least_by, Measure as By};
 use crate::model::plan::{check, Plan, PLAN_CELLS};
 use crate::model::read::{read_goal, read_table, Goal, Table};
 use crate::model::walk::{in_turn, walk};
@@ -15,6 +15,9 @@ pub const SEED: u64 = 64;
 
 pub const KINDS: [(&str, Kind); 5] =
     [("shop", Kind::Shop), ("nested", Kind::Nested), ("blank", Kind::Blank), ("full, 8 columns", Kind::Full(8)), ("full, 1 column", Kind::Full(1))];
+
+/// The figure that plans are built with where that is measured.
+const FIGURE: u32 = 0;
 
 /// The numbers of rows, the last one for the ratios.
 pub const ROWS: [usize; 4] = [8, 16, 32, 64];
@@ -93,7 +96,7 @@ impl Case {
 
     fn build(&self) -> Work<'_> {
         let mut room = vec![0; PLAN_CELLS];
-        once(move || Exported.build_plan(&self.table, &mut room))
+        once(move || Exported.build_plan(&self.table, FIGURE, &mut room))
     }
 
     fn run<'c>(&'c self, goals: &'c [Vec<u32>]) -> Work<'c> {
@@ -129,12 +132,12 @@ impl Case {
 
     fn building(&self) -> Measure<'_> {
         let mut room = vec![0; PLAN_CELLS];
-        Measure::new("build", vec![self.build()], vec![], once(move || Plain.build_plan(&self.table, &mut room)))
+        Measure::new("build", vec![self.build()], vec![], once(move || Plain.build_plan(&self.table, FIGURE, &mut room)))
     }
 
     /// The same for building.
     fn building_read(&self) -> Measure<'_> {
-        let independent = once(|| least(&self.read).write().len() as u64);
+        let independent = once(|| least_by(&self.read, By::Work(FIGURE)).write().len() as u64);
         Measure::new("build less read", vec![self.build()], vec![self.read()], independent)
     }
 

@@ -8,7 +8,7 @@ mod texts;
 
 use crate::engine::{Definition, Engine, Plain};
 use crate::make::{damage, goals, plans, tables};
-use crate::model::least::{least, least_by_search};
+use crate::model::least::{least_by, least_by_search, Measure};
 use crate::model::plan::{Plan, PLAN_CELLS};
 use crate::model::read::{read_table, Table};
 use crate::random::Random;
@@ -52,6 +52,9 @@ struct Comparison<'e, E: Engine> {
     random: Random,
     tally: Tally,
 }
+
+/// The figures at which building is compared; the last one is refused. By 01's measure the listings are compared.
+const FIGURES: [u32; 5] = [0, 1, 2, 15, 16];
 
 /// Cells or bytes on either side of a lent room, which no call may touch.
 const MARGIN: usize = 8;
@@ -142,13 +145,14 @@ impl<E: Engine> Comparison<'_, E> {
     }
 
     fn build(&mut self, table: &[u32]) {
-        let needed = read_table(table).map_or(20, |table| least(&table).write().len());
-        for _ in 0..2 {
+        for figure in FIGURES {
+            let needed = read_table(table).map_or(20, |table| least_by(&table, Measure::Work(figure)).write().len());
             let room = self.room(needed, PLAN_CELLS + 7);
             let lent: Vec<u32> = (0..room + 2 * MARGIN).map(|_| self.random.number() as u32).collect();
-            let (answer, left) = lend(&lent, |room| self.exported.build_plan(table, room));
-            let (expected, wanted) = lend(&lent, |room| Definition.build_plan(table, room));
-            self.tally.settle(Entry::BuildPlan, answer, expected, left == wanted, &|| format!("table {table:?} room {room}"));
+            let (answer, left) = lend(&lent, |room| self.exported.build_plan(table, figure, room));
+            let (expected, wanted) = lend(&lent, |room| Definition.build_plan(table, figure, room));
+            let describe = || format!("table {table:?} figure {figure} room {room}");
+            self.tally.settle(Entry::BuildPlan, answer, expected, left == wanted, &describe);
         }
     }
 
@@ -180,8 +184,12 @@ impl<E: Engine> Comparison<'_, E> {
     /// The independent builder against a search through every plan, where the table is small enough for it.
     fn search(&mut self, table: &Table) {
         if table.rows.iter().all(|row| row.cells <= 7) && table.rows.len() <= 8 {
-            let (built, found): (Plan, Plan) = (least(table), least_by_search(table));
-            self.tally.own("least plans against a search through all plans", built == found, &|| format!("{built:?} {found:?}"));
+            let works = FIGURES.iter().filter(|&&figure| figure <= 15).map(|&figure| Measure::Work(figure));
+            for measure in works.chain([Measure::Branches]) {
+                let (built, found): (Plan, Plan) = (least_by(table, measure), least_by_search(table, measure));
+                let describe = || format!("{measure:?} {built:?} {found:?}");
+                self.tally.own("least plans against a search through all plans", built == found, &describe);
+            }
         }
     }
 }

@@ -8,7 +8,7 @@ pub trait Engine {
     fn read_goal(&self, table: &[u32], goal: &[u32]) -> u64;
     fn row(&self, table: &[u32], row: usize) -> u64;
     fn check_plan(&self, table: &[u32], plan: &[u32]) -> u64;
-    fn build_plan(&self, table: &[u32], room: &mut [u32]) -> u64;
+    fn build_plan(&self, table: &[u32], figure: u32, room: &mut [u32]) -> u64;
     fn run_plan(&self, table: &[u32], plan: &[u32], goal: &[u32], room: &mut [u8]) -> u64;
     fn read_text(&self, text: &[u8], cells: &mut [u32], names: &mut [u32]) -> u64;
     fn replies(&self, table: &[u32], plan: &[u32], goal: &[u32], room: &mut [u32]) -> u64;
@@ -35,8 +35,8 @@ macro_rules! independent {
             fn check_plan(&self, table: &[u32], plan: &[u32]) -> u64 {
                 packed(model::check_plan(table, plan))
             }
-            fn build_plan(&self, table: &[u32], room: &mut [u32]) -> u64 {
-                packed(model::build_plan(table, room))
+            fn build_plan(&self, table: &[u32], figure: u32, room: &mut [u32]) -> u64 {
+                packed(model::build_plan(table, figure, room))
             }
             fn run_plan(&self, table: &[u32], plan: &[u32], goal: &[u32], room: &mut [u8]) -> u64 {
                 packed($run_plan(table, plan, goal, room))
@@ -73,7 +73,7 @@ mod exported {
         fn dudowiej_read_goal(table: *const u32, table_cells: usize, goal: *const u32, goal_cells: usize) -> u64;
         fn dudowiej_row(table: *const u32, table_cells: usize, row: usize) -> u64;
         fn dudowiej_check_plan(table: *const u32, table_cells: usize, plan: *const u32, plan_cells: usize) -> u64;
-        fn dudowiej_build_plan(table: *const u32, table_cells: usize, room: *mut u32, room_cells: usize) -> u64;
+        fn dudowiej_build_plan(table: *const u32, table_cells: usize, figure: u32, room: *mut u32, room_cells: usize) -> u64;
         fn dudowiej_run_plan(
             table: *const u32,
             table_cells: usize,
@@ -111,8 +111,8 @@ mod exported {
         fn check_plan(&self, table: &[u32], plan: &[u32]) -> u64 {
             unsafe { dudowiej_check_plan(table.as_ptr(), table.len(), plan.as_ptr(), plan.len()) }
         }
-        fn build_plan(&self, table: &[u32], room: &mut [u32]) -> u64 {
-            unsafe { dudowiej_build_plan(table.as_ptr(), table.len(), room.as_mut_ptr(), room.len()) }
+        fn build_plan(&self, table: &[u32], figure: u32, room: &mut [u32]) -> u64 {
+            unsafe { dudowiej_build_plan(table.as_ptr(), table.len(), figure, room.as_mut_ptr(), room.len()) }
         }
         fn run_plan(&self, table: &[u32], plan: &[u32], goal: &[u32], room: &mut [u8]) -> u64 {
             unsafe {

@@ -14,6 +14,7 @@ pub mod text;
 pub mod unify;
 pub mod walk;
 
+use least::{least_by, Measure};
 use plan::Plan;
 use read::{Goal, Table};
 use refusal::{Answer, Input, Number, Refusal};
@@ -43,13 +44,17 @@ pub fn check_plan(table: &[u32], plan: &[u32]) -> Answer {
     Ok((plan::check(&table, plan)?.branches.len(), 0))
 }
 
-/// Writes the least plan; its cells and its cost.
-pub fn build_plan(table: &[u32], room: &mut [u32]) -> Answer {
+/// Writes the least plan by the work of W-204 with a figure; its cells and its cost.
+pub fn build_plan(table: &[u32], figure: u32, room: &mut [u32]) -> Answer {
+    if figure > 15 {
+        return Err(Refusal { number: Number::Figure, input: Input::Figure, place: 0 });
+    }
     let table = read::read_table(table)?;
-    let plan = least::least(&table);
+    let measure = Measure::Work(figure);
+    let plan = least_by(&table, measure);
     let cells = plan.write();
     written(room, &cells)?;
-    Ok((cells.len(), plan.branches.len()))
+    Ok((cells.len(), measure.cost(&plan)))
 }
 
 /// Writes the hit rows, by a walk down the plan; their number and the branches tried.

@@ -57,7 +57,7 @@ impl Most {
         }
         for cells in [PLAN_CELLS, 0] {
             let mut room = vec![0; cells];
-            self.note("dudowiej_build_plan", || Exported.build_plan(table, &mut room));
+            self.note("dudowiej_build_plan", || Exported.build_plan(table, 15, &mut room));
         }
         for (plan, goal) in plans.iter().flat_map(|plan| goals.iter().map(move |goal| (plan, goal))) {
             for bytes in [ROWS, 0] {

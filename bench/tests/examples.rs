@@ -3,7 +3,7 @@
 mod notation;
 
 use dudowiej_bench::engine::{Definition, Engine, Exported, Plain};
-use dudowiej_bench::model::least::{least, least_by_search};
+use dudowiej_bench::model::least::{least, least_by_search, Measure};
 use dudowiej_bench::model::listing::listing;
 use dudowiej_bench::model::plan::grow;
 use dudowiej_bench::model::read;
@@ -16,8 +16,11 @@ const FRESH: u64 = 7;
 const TWICE: u64 = 8;
 const EDGES: u64 = 13;
 
+const FIGURE: u64 = 20;
+
 const TABLE: u64 = 1;
 const PLAN: u64 = 2;
+const FIGURE_INPUT: u64 = 6;
 
 fn engines() -> [&'static dyn Engine; 3] {
     [&Exported, &Plain, &Definition]
@@ -31,10 +34,10 @@ fn answered(first: u64, second: u64) -> u64 {
     first << 16 | second << 32
 }
 
-/// Builds the plan in a room larger than it is.
-fn built(engine: &dyn Engine, table: &[u32]) -> (Vec<u32>, u64) {
+/// Builds the plan by the work with a figure in a room larger than it is.
+fn built_with(engine: &dyn Engine, table: &[u32], figure: u32) -> (Vec<u32>, u64) {
     let mut room = vec![7; 7000];
-    let answer = engine.build_plan(table, &mut room);
+    let answer = engine.build_plan(table, figure, &mut room);
     let cells = (answer >> 16 & 0xffff) as usize;
     assert_eq!(answer & 0xffff, 0);
     assert!(room[cells..].iter().all(|&cell| cell == 7));
@@ -42,21 +45,54 @@ fn built(engine: &dyn Engine, table: &[u32]) -> (Vec<u32>, u64) {
     (room, answer >> 32)
 }
 
-/// The table's least cost and plan.
-fn builds(rows: &str, cost: u64, written: &str) {
+/// The same with no figure, and the plan's branches. Of 01's examples the plan is 01's.
+fn built(engine: &dyn Engine, table: &[u32]) -> (Vec<u32>, u64) {
+    let cells = built_with(engine, table, 0).0;
+    let checked = engine.check_plan(table, &cells);
+    assert_eq!(checked & 0xff, 0);
+    (cells, checked >> 16)
+}
+
+/// The table's least number of branches, and its plan.
+fn builds(rows: &str, branches: u64, written: &str) {
     for engine in engines() {
-        let (cells, least) = built(engine, &table(rows));
-        assert_eq!((least, &cells), (cost, &plan(written)), "{rows}");
-        assert_eq!(engine.check_plan(&table(rows), &cells), answered(cost, 0));
+        assert_eq!(built(engine, &table(rows)), (plan(written), branches), "{rows}");
+    }
+    let read = read::read_table(&table(rows)).unwrap();
+    assert_eq!(least(&read).write(), plan(written), "{rows}");
+}
+
+fn costs(rows: &str, branches: u64) {
+    for engine in engines() {
+        assert_eq!(built(engine, &table(rows)).1, branches, "{rows}");
+    }
+    let read = read::read_table(&table(rows)).unwrap();
+    assert_eq!(least_by_search(&read, Measure::Branches), least(&read));
+}
+
+/// W-204: the plan by the work with a figure, and its cost.
+fn works(rows: &str, figure: u32, cost: u64, written: &str) {
+    for engine in engines() {
+        assert_eq!(built_with(engine, &table(rows), figure), (plan(written), cost), "{rows} {figure}");
     }
 }
 
-fn costs(rows: &str, cost: u64) {
+#[test]
+fn work() {
+    const P1: &str = "(a,b,c) (a,b,d) (a,c,c) (b,a,c)";
+    const PLAIN: &str = "0 2 a 0 2 b 0 2 c 1 d 1 c 0 1 c 1 b 0 1 a 0 1 c 1";
+    const WIDE: &str = "0 2 a 1 3 c 0 1 b 1 d 0 1 b 1 c 0 1 c 1 b 0 1 a 0 1 c 1";
+    works("(v0)", 15, 0, "0 1 v0 1");
+    works("(v0) (v0)", 15, 15, "0 2 v0 1 v0 1");
+    works("(f1(a),b)", 3, 4, "0 1 f1 0 1 a 0 1 b 1");
+    works(P1, 0, 9, PLAIN);
+    works(P1, 1, 12, PLAIN);
+    works(P1, 2, 14, WIDE);
+    works(P1, 15, 40, WIDE);
     for engine in engines() {
-        assert_eq!(built(engine, &table(rows)).1, cost, "{rows}");
+        assert_eq!(engine.build_plan(&[], 16, &mut [7]), refused(FIGURE, FIGURE_INPUT, 0));
+        assert_eq!(engine.build_plan(&table(P1), u32::MAX, &mut [7]), refused(FIGURE, FIGURE_INPUT, 0));
     }
-    let read = read::read_table(&table(rows)).unwrap();
-    assert_eq!(least_by_search(&read), least(&read));
 }
 
 /// Runs the least plan on the goal.

@@ -2,6 +2,7 @@
 
 use dudowiej_bench::compare::{compare, replies, texts, Tally};
 use dudowiej_bench::engine::{Engine, Plain};
+use dudowiej_bench::model::least::Measure;
 use dudowiej_bench::model::plan::{check, grow};
 use dudowiej_bench::model::read::read_table;
 use dudowiej_bench::model::replies::all;
@@ -11,7 +12,7 @@ struct Altered {
     read_table: fn(&[u32]) -> u64,
     row: fn(&[u32], usize) -> u64,
     check_plan: fn(&[u32], &[u32]) -> u64,
-    build_plan: fn(&[u32], &mut [u32]) -> u64,
+    build_plan: fn(&[u32], u32, &mut [u32]) -> u64,
     run_plan: RunPlan,
     read_text: ReadText,
     replies: Replies,
@@ -25,7 +26,7 @@ const RIGHT: Altered = Altered {
     read_table: |table| Plain.read_table(table),
     row: |table, row| Plain.row(table, row),
     check_plan: |table, plan| Plain.check_plan(table, plan),
-    build_plan: |table, room| Plain.build_plan(table, room),
+    build_plan: |table, figure, room| Plain.build_plan(table, figure, room),
     run_plan: |table, plan, goal, room| Plain.run_plan(table, plan, goal, room),
     read_text: |text, cells, names| Plain.read_text(text, cells, names),
     replies: |table, plan, goal, room| Plain.replies(table, plan, goal, room),
@@ -44,8 +45,8 @@ impl Engine for Altered {
     fn check_plan(&self, table: &[u32], plan: &[u32]) -> u64 {
         (self.check_plan)(table, plan)
     }
-    fn build_plan(&self, table: &[u32], room: &mut [u32]) -> u64 {
-        (self.build_plan)(table, room)
+    fn build_plan(&self, table: &[u32], figure: u32, room: &mut [u32]) -> u64 {
+        (self.build_plan)(table, figure, room)
     }
     fn run_plan(&self, table: &[u32], plan: &[u32], goal: &[u32], room: &mut [u8]) -> u64 {
         (self.run_plan)(table, plan, goal, room)
@@ -102,7 +103,7 @@ fn a_check_that_accepts_only_the_builders_plan() {
     found(Altered {
         check_plan: |table, plan| {
             let mut room = vec![0; plan.len()];
-            let same = answered(Plain.build_plan(table, &mut room)) && room == plan;
+            let same = answered(Plain.build_plan(table, 0, &mut room)) && room == plan;
             let answer = Plain.check_plan(table, plan);
             if answered(answer) && !same {
                 0x20e
@@ -117,9 +118,9 @@ fn a_check_that_accepts_only_the_builders_plan() {
 #[test]
 fn the_place_with_the_fewest_runs() {
     found(Altered {
-        build_plan: |table, room| {
+        build_plan: |table, figure, room| {
             let Ok(read) = read_table(table) else {
-                return Plain.build_plan(table, room);
+                return Plain.build_plan(table, figure, room);
             };
             let plan = grow(&read, |open, rows| (0..open.places(rows)).min_by_key(|&place| open.runs(rows, place)).expect("an open place"));
             let cells = plan.write();
@@ -127,7 +128,7 @@ fn the_place_with_the_fewest_runs() {
                 return 0x410 | (cells.len() as u64) << 16;
             }
             room[..cells.len()].copy_from_slice(&cells);
-            (cells.len() as u64) << 16 | (plan.branches.len() as u64) << 32
+            (cells.len() as u64) << 16 | (Measure::Work(figure).cost(&plan) as u64) << 32
         },
         ..RIGHT
     });
@@ -136,8 +137,8 @@ fn the_place_with_the_fewest_runs() {
 #[test]
 fn a_refusal_that_writes() {
     found(Altered {
-        build_plan: |table, room| {
-            let answer = Plain.build_plan(table, room);
+        build_plan: |table, figure, room| {
+            let answer = Plain.build_plan(table, figure, room);
             if let (false, Some(cell)) = (answered(answer), room.first_mut()) {
                 *cell = 0;
             }

@@ -58,11 +58,11 @@ static void print_row(const uint32_t *cells, uint32_t width) {
 
 /* Prints a refusal after a word, if the answer is one. */
 static bool refused(FILE *to, const char *word, uint64_t answer) {
-    static const char *const inputs[] = {"?", "table", "plan", "goal", "room"};
+    static const char *const inputs[] = {"?", "table", "plan", "goal", "room", "text", "figure"};
     if (!dudowiej_refused(answer)) return false;
     unsigned input = dudowiej_input(answer);
     unsigned long long place = dudowiej_place(answer);
-    fprintf(to, "%s: %s refused, %u at %llu\n", word, inputs[input < 5 ? input : 0], dudowiej_number(answer), place);
+    fprintf(to, "%s: %s refused, %u at %llu\n", word, inputs[input < 7 ? input : 0], dudowiej_number(answer), place);
     return true;
 }
 
@@ -105,15 +105,16 @@ static int prepare(const char *path) {
     width = dudowiej_first(read);
     printf("table: %u rules of %u columns\n", dudowiej_second(read), width);
 
-    uint64_t built = dudowiej_build_plan(table, table_cells, plan, DUDOWIEJ_PLAN_CELLS);
+    /* A choice between branches costs as much as two tests. */
+    uint64_t built = dudowiej_build_plan(table, table_cells, 2, plan, DUDOWIEJ_PLAN_CELLS);
     if (refused(stderr, "shop", built)) return 1;
     plan_cells = dudowiej_first(built);
-    branches = dudowiej_second(built);
-    printf("plan: %u branches in %zu cells\n", branches, plan_cells);
+    printf("plan: cost %u with figure 2, %zu cells\n", dudowiej_second(built), plan_cells);
 
     uint64_t checked = dudowiej_check_plan(table, table_cells, plan, plan_cells);
     if (refused(stderr, "shop", checked)) return 1;
-    printf("checked: %u branches\n", dudowiej_first(checked));
+    branches = dudowiej_first(checked);
+    printf("checked: %u branches\n", branches);
     return 0;
 }
 

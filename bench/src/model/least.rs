@@ -1,15 +1,62 @@
-//! The least plan (01, "The least plan").
+//! The least plan (01, "The least plan"), by 01's measure and by that of 02, W-204.
 
 use std::collections::HashMap;
 use std::ops::Range;
 
 use super::plan::{grow, Open, Plan};
 use super::read::Table;
-use super::term::Term;
+use super::term::{Symbol, Term};
 
-/// The builder's plan, by document 001's equation 1: a least count for every pair of first and last row that is met.
+/// What a plan costs: its number of branches, or the work of W-204 with a figure.
+#[derive(Clone, Copy, Debug, PartialEq, Eq)]
+pub enum Measure {
+    Branches,
+    Work(u32),
+}
+
+impl Measure {
+    /// What a branch for this cell adds: nothing for a variable, one for a number, one and its arguments for a name.
+    fn weight(self, cell: u32) -> usize {
+        match (self, Symbol::of(cell)) {
+            (Measure::Branches, _) | (_, Some(Symbol::Number(_))) => 1,
+            (_, Some(Symbol::Name { arguments, .. })) => 1 + arguments,
+            (_, Some(Symbol::Variable(_)) | None) => 0,
+        }
+    }
+
+    /// What a state with so many branches adds.
+    fn figure(self, branches: usize) -> usize {
+        match self {
+            Measure::Work(figure) if branches >= 2 => figure as usize,
+            _ => 0,
+        }
+    }
+
+    /// The cells of a term, each with its weight.
+    fn whole(self, term: &Term) -> usize {
+        self.weight(term.cell()) + term.arguments().iter().map(|argument| self.whole(argument)).sum::<usize>()
+    }
+
+    /// The cost of a plan.
+    pub fn cost(self, plan: &Plan) -> usize {
+        self.below(plan, plan.top())
+    }
+
+    fn below(self, plan: &Plan, state: Range<usize>) -> usize {
+        let branches = plan.at(state).collect::<Vec<_>>();
+        let sum: usize = branches.iter().map(|(branch, state)| self.weight(branch.cell) + self.below(plan, state.clone())).sum();
+        self.figure(branches.len()) + sum
+    }
+}
+
+/// The builder's plan by 01's measure.
 pub fn least(table: &Table) -> Plan {
-    let mut counts = Counts { table, known: vec![None; table.rows.len() * table.rows.len()] };
+    least_by(table, Measure::Branches)
+}
+
+/// The builder's plan, by document 001's equations 1 and 2: a least count for every pair of first and last row that is met.
+pub fn least_by(table: &Table, measure: Measure) -> Plan {
+    let mut counts = Counts { table, measure, known: vec![None; table.rows.len() * table.rows.len()] };
     grow(table, |open, rows| leftmost_agreed(open, rows).unwrap_or_else(|| counts.best(rows.clone()).place))
 }
 
@@ -18,60 +65,65 @@ fn leftmost_agreed(open: &Open, rows: &Range<usize>) -> Option<usize> {
     (0..open.places(rows)).find(|&place| open.run(rows.clone(), place).len() == rows.len())
 }
 
-/// What is known of a run of rows: the branches of its least plan when all places are open, and the place to take, as an index among the places
+/// What is known of a run of rows: the cost of its least plan when all places are open, and the place to take, as an index among the places
 /// that are open when those agreed by all the rows are closed.
 #[derive(Clone, Copy)]
 struct Best {
-    branches: usize,
+    cost: usize,
     place: usize,
 }
 
 struct Counts<'t> {
     table: &'t Table,
+    measure: Measure,
     known: Vec<Option<Best>>,
 }
 
 impl<'t> Counts<'t> {
     fn best(&mut self, rows: Range<usize>) -> Best {
         if rows.len() == 1 {
-            return Best { branches: self.table.rows[rows.start].cells, place: 0 };
+            let cost = self.table.rows[rows.start].arguments.iter().map(|term| self.measure.whole(term)).sum();
+            return Best { cost, place: 0 };
         }
         let key = rows.start * self.table.rows.len() + rows.end - 1;
         if let Some(best) = self.known[key] {
             return best;
         }
-        let mut settled = Settled { agreed: 0, open: Vec::new() };
+        let mut settled = Settled { measure: self.measure, agreed: 0, open: Vec::new() };
         for argument in 0..self.table.width {
             settled.settle(self.table.rows[rows.clone()].iter().map(|row| &row.arguments[argument]).collect());
         }
         // Rows that agree on everything have no place left: one leaf.
-        let mut best = Best { branches: settled.agreed, place: 0 };
+        let mut best = Best { cost: settled.agreed, place: 0 };
         for (place, column) in settled.open.iter().enumerate() {
-            let branches = settled.agreed + self.split(column, rows.start, settled.agreed);
-            if place == 0 || branches < best.branches {
-                best = Best { branches, place };
+            let cost = settled.agreed + self.split(column, rows.start, settled.agreed);
+            if place == 0 || cost < best.cost {
+                best = Best { cost, place };
             }
         }
         self.known[key] = Some(best);
         best
     }
 
-    /// The branches at and below a state whose rows hold `column` at the chosen place, `above` branches being above it.
+    /// What a state costs whose rows hold `column` at the chosen place, the branches above it costing `above`.
     fn split(&mut self, column: &[&Term], first: usize, above: usize) -> usize {
         let mut sum = 0;
         let mut start = 0;
+        let mut runs = 0;
         for end in 1..=column.len() {
             if end == column.len() || !column[end - 1].agrees(column[end]) {
-                sum += self.best(first + start..first + end).branches - above;
+                sum += self.best(first + start..first + end).cost - above;
+                runs += 1;
                 start = end;
             }
         }
-        sum
+        self.measure.figure(runs) + sum
     }
 }
 
-/// A run of rows with all the places that its rows agree on closed: their number, and each open place's column of terms, left to right.
+/// A run of rows with all the places that its rows agree on closed: what they weigh, and each open place's column of terms, left to right.
 struct Settled<'t> {
+    measure: Measure,
     agreed: usize,
     open: Vec<Vec<&'t Term>>,
 }
@@ -82,7 +134,7 @@ impl<'t> Settled<'t> {
             self.open.push(column);
             return;
         }
-        self.agreed += 1;
+        self.agreed += self.measure.weight(column[0].cell());
         for argument in 0..column[0].arguments().len() {
             self.settle(column.iter().map(|term| &term.arguments()[argument]).collect());
         }
@@ -90,8 +142,8 @@ impl<'t> Settled<'t> {
 }
 
 /// The builder's plan by 01's words alone: every place of every state is tried, whatever its rows agree on. For small tables.
-pub fn least_by_search(table: &Table) -> Plan {
-    let mut search = Search { known: HashMap::new() };
+pub fn least_by_search(table: &Table, measure: Measure) -> Plan {
+    let mut search = Search { measure, known: HashMap::new() };
     grow(table, |open, rows| {
         leftmost_agreed(open, rows).unwrap_or_else(|| {
             let lists = rows.clone().map(|row| (0..open.places(rows)).map(|place| open.at(row, place)).collect()).collect();
@@ -104,6 +156,7 @@ pub fn least_by_search(table: &Table) -> Plan {
 type Lists<'t> = Vec<Vec<&'t Term>>;
 
 struct Search {
+    measure: Measure,
     /// The least cost of a state and its leftmost place, by the addresses of the terms that are open in its first row, and its number of rows.
     known: HashMap<(Vec<*const Term>, usize), (usize, usize)>,
 }
@@ -125,8 +178,10 @@ impl Search {
     }
 
     fn cost(&mut self, rows: &Lists, place: usize) -> usize {
-        let runs = rows.chunk_by(|above, below| above[place].agrees(below[place]));
-        runs.map(|run| 1 + self.cheapest(&run.iter().map(|row| closed(row, place)).collect()).0).sum()
+        let runs = rows.chunk_by(|above, below| above[place].agrees(below[place])).collect::<Vec<_>>();
+        let branch = |run: &&[Vec<&Term>]| self.measure.weight(run[0][place].cell());
+        let own: usize = self.measure.figure(runs.len()) + runs.iter().map(branch).sum::<usize>();
+        own + runs.iter().map(|run| self.cheapest(&run.iter().map(|row| closed(row, place)).collect()).0).sum::<usize>()
     }
 }
 

@@ -22,12 +22,13 @@ pub enum Number {
     Bytes,
     Text,
     Other,
+    Figure,
 }
 
 /// Their names, by number from 1.
-pub const NAMES: [&str; 19] = [
+pub const NAMES: [&str; 20] = [
     "LENGTH", "WIDTH", "COUNT", "LONG", "SHORT", "CELL", "FRESH", "TWICE", "EXTRA", "SIZE", "ENDS", "OPEN", "EDGES", "LABEL", "ROWS", "ROOM",
-    "BYTES", "TEXT", "OTHER",
+    "BYTES", "TEXT", "OTHER", "FIGURE",
 ];
 
 /// Which input a refusal concerns.
@@ -38,6 +39,7 @@ pub enum Input {
     Goal,
     Room,
     Text,
+    Figure,
 }
 
 #[derive(Clone, Copy, Debug, PartialEq, Eq)]

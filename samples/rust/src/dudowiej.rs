@@ -47,7 +47,7 @@ extern "C" {
     fn dudowiej_read_table(table: *const u32, table_cells: usize) -> u64;
     fn dudowiej_row(table: *const u32, table_cells: usize, row: usize) -> u64;
     fn dudowiej_check_plan(table: *const u32, table_cells: usize, plan: *const u32, plan_cells: usize) -> u64;
-    fn dudowiej_build_plan(table: *const u32, table_cells: usize, room: *mut u32, room_cells: usize) -> u64;
+    fn dudowiej_build_plan(table: *const u32, table_cells: usize, figure: u32, room: *mut u32, room_cells: usize) -> u64;
     fn dudowiej_run_plan(
         table: *const u32,
         table_cells: usize,
@@ -99,6 +99,7 @@ fn apart(answer: u64) -> Result<(usize, usize), Refusal> {
                 3 => "goal",
                 4 => "room",
                 5 => "text",
+                6 => "figure",
                 _ => "?",
             };
             Err(Refusal { number, input, place: answer >> 16 })
@@ -123,17 +124,17 @@ pub fn check_plan(table: &[u32], plan: &[u32]) -> Result<usize, Refusal> {
     Ok(apart(answer)?.0)
 }
 
-/// The least plan and its branches.
-pub fn build_plan(table: &[u32]) -> Result<(Vec<u32>, usize), Refusal> {
+/// The least plan by the work with a figure, and its cost.
+pub fn build_plan(table: &[u32], figure: u32) -> Result<(Vec<u32>, usize), Refusal> {
     let mut plan = vec![0; PLAN_CELLS];
-    let (cells, branches) = build_plan_in(table, &mut plan)?;
+    let (cells, cost) = build_plan_in(table, figure, &mut plan)?;
     plan.truncate(cells);
-    Ok((plan, branches))
+    Ok((plan, cost))
 }
 
-/// The least plan in a lent room: its cells and its branches.
-pub fn build_plan_in(table: &[u32], room: &mut [u32]) -> Result<(usize, usize), Refusal> {
-    apart(unsafe { dudowiej_build_plan(table.as_ptr(), table.len(), room.as_mut_ptr(), room.len()) })
+/// The same in a lent room: its cells and its cost.
+pub fn build_plan_in(table: &[u32], figure: u32, room: &mut [u32]) -> Result<(usize, usize), Refusal> {
+    apart(unsafe { dudowiej_build_plan(table.as_ptr(), table.len(), figure, room.as_mut_ptr(), room.len()) })
 }
 
 /// The rows that unify with the goal, from the top, and the branches tried.

@@ -32,6 +32,9 @@ const RING: u32 = name(11, 0);
 const BOWL: u32 = name(13, 1);
 const LARGE: u32 = name(22, 0);
 
+/// The figures whose plans are shown.
+const FIGURES: [u32; 4] = [0, 1, 2, 15];
+
 fn main() -> ExitCode {
     let paths: Vec<PathBuf> = std::env::args_os().skip(1).map(PathBuf::from).collect();
     let [path] = &paths[..] else {
@@ -67,9 +70,13 @@ fn cells_of(bytes: &[u8]) -> Vec<u32> {
 fn shop(table: &[u32]) -> Result<(), Refusal> {
     let (width, rows) = dudowiej::read_table(table)?;
     println!("table: {rows} rules of {width} columns");
-    let (plan, branches) = dudowiej::build_plan(table)?;
-    println!("plan: {branches} branches in {} cells", plan.len());
-    println!("checked: {} branches", dudowiej::check_plan(table, &plan)?);
+    for figure in FIGURES {
+        let (plan, cost) = dudowiej::build_plan(table, figure)?;
+        println!("figure {figure}: cost {cost}, {} branches in {} cells", dudowiej::check_plan(table, &plan)?, plan.len());
+    }
+    // A choice between branches costs as much as two tests.
+    let (plan, _) = dudowiej::build_plan(table, 2)?;
+    let branches = dudowiej::check_plan(table, &plan)?;
 
     let jobs: [&[u32]; 5] = [
         // Urgency 10, red, a ring: which firing?
@@ -150,17 +157,18 @@ fn arguments(row: &[u32]) -> Vec<&[u32]> {
     all
 }
 
-/// Prints four refusals. Each is given for every table that is accepted.
+/// Prints five refusals. Each is given for every table that is accepted.
 fn refusals(table: &[u32], plan: &[u32], width: usize) {
     let short_table = &table[..table.len() - 1];
     let short_plan = &plan[..plan.len() - 1];
     let short_goal: Vec<u32> = (0..width as u32 - 1).map(variable).collect();
     let mut short_room = vec![0; plan.len() - 1];
     println!("\nrefusals:");
-    println!("  a table without its last cell: {}", dudowiej::build_plan(short_table).unwrap_err());
+    println!("  a table without its last cell: {}", dudowiej::build_plan(short_table, 2).unwrap_err());
     println!("  a plan without its last cell: {}", dudowiej::check_plan(table, short_plan).unwrap_err());
     println!("  a goal with a column too few: {}", dudowiej::run_plan(table, plan, &short_goal).unwrap_err());
-    println!("  a cell too few for the plan: {}", dudowiej::build_plan_in(table, &mut short_room).unwrap_err());
+    println!("  a cell too few for the plan: {}", dudowiej::build_plan_in(table, 2, &mut short_room).unwrap_err());
+    println!("  a figure above 15: {}", dudowiej::build_plan(table, 16).unwrap_err());
 }
 
 /// Terms as a shop would read them.
