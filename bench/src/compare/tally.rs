@@ -151,9 +151,8 @@ impl fmt::Display for Tally {
             write!(f, "{entry:>12}")?;
         }
         writeln!(f)?;
-        for (number, name) in [(0, "")].into_iter().chain(NAMES) {
-            let counts = &self.counts[number];
-            let name = if number == 0 { "answered".to_string() } else { format!("{number} {name}") };
+        for (number, counts) in self.counts.iter().enumerate() {
+            let name = if number == 0 { "answered".to_string() } else { format!("{number} {}", NAMES[number - 1]) };
             write!(f, "{name:<12}")?;
             for count in counts {
                 write!(f, "{count:>12}")?;
@@ -177,7 +176,7 @@ impl fmt::Display for Tally {
         }
         writeln!(f, "refusals met: {} of {}", NAMES.len() - self.never_met().len(), NAMES.len())?;
         for number in self.never_met() {
-            writeln!(f, "refusal {number} was never met")?;
+            writeln!(f, "refusal {number} {} was never met", NAMES[number - 1])?;
         }
         write!(f, "{} compared, {} differ", self.compared(), self.differ)
     }
