@@ -17,7 +17,7 @@ use Rattle.least.specs.code.Pairs.{agreedOf, leastBy, placeBy, wholeBy}
 use Rattle.entries.specs.declared.arrays.Asked.{Asked}
 use Rattle.entries.specs.declared.arrays.Row.{Row}
 use Rattle.entries.specs.Fill.{wholeIn, costIn, placeIn, SameAt}
-use Rattle.entries.specs.code.Notes.{noteIn, readIn, Noted, NextRow, RowNoted, Alone}
+use Rattle.entries.specs.code.Notes.{noteIn, readIn, weightOf, Noted, NextRow, RowNoted, LastRow, Alone}
 use Rattle.entries.specs.code.Filling.{stopOf, rowOf, PairAt, putPair, Keeps, KeepsBefore, keeps, passes, Task, Worked}
 use Rattle.entries.specs.code.Filling.{Stands, worked, left, FilledTo, RowHere, NotedTo, LastAt, Finished}
 use Rattle.entries.proofs.NotedLaws.{noted-alone}
@@ -204,28 +204,40 @@ module _ {cells marks starts : List ℕ} {asked : Asked} {old : List ℕ} (t : T
     pub row-short : row .end ≤ row .start + 32
     row-short = omega (arith, row-fits .1, length-slice (row .start) (row .end) cells (row-bounds .1))
 
-  pub row-small : {row : Row} → RowHere cells starts (asked .count) row → (row .number < 64) × (row .end ≤ 2050)
-  row-small h = (omega (arith, h .inside, t .laid .few), omega (arith, row-bounds h .1, t .laid .size))
+  abbrev pub last-row : {row : Row} {notes : List ℕ} → RowHere cells starts (asked .count) row → length notes ≡ 192
+      → LastRow marks notes (row .number) (row .start) (row .end)
+  last-row h room = record {
+    m = t .m;
+    cells = cells;
+    marked = t .marked;
+    part = (row-bounds h .0, row-bounds h .1, t .laid .size);
+    number = omega (arith, h .inside, t .laid .few);
+    room = room;
+  }
 
   -- the last row by itself
-  pub last-noted : {row : Row} {notes kept : List ℕ} → RowHere cells starts (asked .count) row → asked .since ≤ row .number
-      → FilledTo t (suc (row .number)) (row .number) kept → Alone (row .number) (row .start) (row .end) notes → NotedTo t (suc (row .number)) (row .number) row notes kept
-  last-noted {row} h late f x =
+  pub last-noted : {row : Row} {notes₀ notes kept : List ℕ} {agreed : ℕ} (h : RowHere cells starts (asked .count) row) → asked .since ≤ row .number
+      → FilledTo t (suc (row .number)) (row .number) kept → (room : length notes₀ ≡ 192) → Alone (last-row {row = row} {notes = notes₀} h room) (row .end) notes agreed
+      → NotedTo t (suc (row .number)) (row .number) row notes kept agreed
+  last-noted {row} {agreed = agreed} h late f room x =
       let b = row-bounds h in
+      let a : agreed ≡ weightOf (t .m) (slice (row .start) (row .end) cells) =
+      (let z : weightOf (t .m) (slice (row .end) (row .end) cells) ≡ 0 = rw (slice-empty (row .end) cells) in omega (arith, x .sum)) in
       let l : length (slice (row .start) (row .end) cells) ≡ row .end - row .start = length-slice (row .start) (row .end) cells (b .1) in
       record {
         here = h;
         order = omega arith;
         inside = h .inside;
         late = late;
-        noted = rw (slice-empty (suc (row .number)) (t .rows), row-part h) (noted-alone (row .start) (row-fits h .0) (λ j m n. x .each j m (omega (arith, l, b .0))));
+        noted = rw (slice-empty (suc (row .number)) (t .rows), row-part h, a) (noted-alone (row .start) (row-fits h .0) (λ j m n. x .each j m (omega (arith, l, b .0))));
+        light = omega (arith, x .light, b .1, t .laid .size);
         filled = f;
         room = x .room;
       }
 
-  abbrev pub pair-at : {last : ℕ} {row : Row} {notes kept : List ℕ} → NotedTo t (suc (row .number)) last row notes kept
-      → PairAt marks kept notes (asked .figure) (row .number) last (row .start) (row .end)
-  pair-at {last} {row} x = record {
+  abbrev pub pair-at : {last agreed : ℕ} {row : Row} {notes kept : List ℕ} → NotedTo t (suc (row .number)) last row notes kept agreed
+      → PairAt marks kept notes (asked .figure) (row .number) last agreed (row .start) (row .end)
+  pair-at {row = row} x = record {
     m = t .m;
     low = t .low;
     figure-is = t .figure-is;
@@ -242,24 +254,26 @@ module _ {cells marks starts : List ℕ} {asked : Asked} {old : List ℕ} (t : T
     N = t .N;
     small = t .small;
     noted = x .noted;
+    light = x .light;
     known = λ j h l. whole-there (x .filled) (row .number) j h (omega (arith, t .laid .number, x .inside)) (inl l);
     room = x .filled .room;
   }
 
-  pub pair-kept : {last : ℕ} {row : Row} {notes a b : List ℕ} → NotedTo t (suc (row .number)) last row notes a
-      → KeepsBefore (t .m) (t .width) (t .rows) (t .N) (asked .top) (row .number) last a b → NotedTo t (row .number) last row notes b
+  pub pair-kept : {last agreed : ℕ} {row : Row} {notes a b : List ℕ} → NotedTo t (suc (row .number)) last row notes a agreed
+      → KeepsBefore (t .m) (t .width) (t .rows) (t .N) (asked .top) (row .number) last a b → NotedTo t (row .number) last row notes b agreed
   pair-kept x k = record {
     here = x .here;
     order = x .order;
     inside = x .inside;
     late = x .late;
     noted = x .noted;
+    light = x .light;
     filled = filled-next (x .filled) (x .order) (omega (arith, t .laid .number, x .inside)) (x .late) k;
     room = x .room;
   }
 
   -- from one row to the one before it
-  module _ {last : ℕ} {row : Row} {notes kept : List ℕ} (x : NotedTo t (row .number) last row notes kept) (some : 0 < row .number) (row′ : Row)
+  module _ {last agreed : ℕ} {row : Row} {notes kept : List ℕ} (x : NotedTo t (row .number) last row notes kept agreed) (some : 0 < row .number) (row′ : Row)
       (is : row′ ≡ rowOf (row .number - 1) (getD starts (row .number - 1) 0) (row .start)) where
     pub number-is : suc (row′ .number) ≡ row .number
     number-is = omega (arith, ap (λ (r : Row). r .number) is)
@@ -296,6 +310,7 @@ module _ {cells marks starts : List ℕ} {asked : Asked} {old : List ℕ} (t : T
       width = t .width;
       stop = row .end;
       rest = slice (suc (row .number)) (suc last) (t .rows);
+      shared = agreed;
       noted = rw (number-is, end-is, ← (row-part (x .here))) (x .noted);
       old-terms = rw end-is (row-fits (x .here) .0);
       new-terms = row-fits next-here .0;
@@ -312,8 +327,8 @@ module _ {cells marks starts : List ℕ} {asked : Asked} {old : List ℕ} (t : T
       room = x .room;
     }
 
-    pub next-noted : (notes′ : List ℕ) → RowNoted next-row notes′ → NotedTo t (suc (row′ .number)) last row′ notes′ kept
-    next-noted notes′ y =
+    pub next-noted : (notes′ : List ℕ) (agreed′ : ℕ) → RowNoted next-row notes′ agreed′ → NotedTo t (suc (row′ .number)) last row′ notes′ kept agreed′
+    next-noted notes′ agreed′ y =
         let c : slice (row .number) (suc last) (t .rows) ≡ getD (t .rows) (row .number) [] ∷ slice (suc (row .number)) (suc last) (t .rows) =
         slice-cons (row .number) (suc last) (t .rows) [] (omega (arith, x .order)) (omega (arith, t .laid .number, x .inside)) in
         let b : slice (suc (row′ .number)) (suc last) (t .rows) ≡ slice (row′ .end) (row .end) cells ∷ slice (suc (row .number)) (suc last) (t .rows) =
@@ -325,11 +340,12 @@ module _ {cells marks starts : List ℕ} {asked : Asked} {old : List ℕ} (t : T
           inside = x .inside;
           late = x .late;
           noted = rw (b, row-part next-here) (y .noted);
+          light = y .light;
           filled = rw number-is (x .filled);
           room = y .room;
         }
 
-  pub rows-done : {last : ℕ} {row : Row} {notes kept : List ℕ} → NotedTo t (row .number) last row notes kept → row .number ≤ 0 → FilledTo t 0 last kept
+  pub rows-done : {last agreed : ℕ} {row : Row} {notes kept : List ℕ} → NotedTo t (row .number) last row notes kept agreed → row .number ≤ 0 → FilledTo t 0 last kept
   rows-done {row = row} x h = let e : row .number ≡ 0 = omega arith in rw e at (x .filled)
 
   -- the row at which the next pairs end

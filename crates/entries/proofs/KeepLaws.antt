@@ -1,5 +1,5 @@
 -- The values of a pair are kept: what is asked of the notes at its first row, and what they give.
-use mathlib.Core.Path.{_≡_, refl, sym, ap, _∙_}
+use mathlib.Core.Path.{_≡_, refl, ap, _∙_}
 use mathlib.Core.Bool.{Bool, true, false}
 use mathlib.Core.Logic.{_≢_}
 use mathlib.Core.List.{List, [], _∷_}
@@ -7,20 +7,19 @@ use lib.Dec.{eqb}
 use borrow.Author.Tests.{eqb-true, eqb-false}
 use Prim.Native.Nat.{ℕ, zero, suc, _+_, _-_, _*_, _≤_, _<_}
 use native.Mathlib.Omega.{arith}
-use lib.ListN.{length, getD, take, drop}
-use lib.Seq.{slice, length-slice, length-take-le, drop-drop, drop-cons, getD-take}
+use lib.ListN.{length, take, drop}
+use lib.Seq.{slice, length-slice, length-take-le, drop-drop}
 use Rattle.cell.specs.Cell.{arity}
-use Rattle.term.specs.Terms.{Terms, more, front, root}
+use Rattle.term.specs.Terms.{Terms, more, front}
 use Rattle.plan.specs.code.Fits.{Fits}
 use Rattle.least.specs.code.Best.{argmin, leastOver, firstOver}
 use Rattle.least.specs.code.Pairs.{closedOf, agreedOf, priceBy}
 use Rattle.least.proofs.Minimum.{argmin-first}
 use Rattle.entries.specs.declared.arrays.Note.{Note}
-use Rattle.entries.specs.code.Notes.{noteIn, endIn, weightIn, Shown, at-end, at-closed, at-open, Priced, Walk, Pair}
+use Rattle.entries.specs.code.Notes.{noteIn, endIn, Shown, at-end, at-closed, at-open, Priced, Pair}
 use Rattle.entries.specs.code.Filling.{PairAt, putPair}
 use Rattle.table.proofs.AllLaws.{all-at}
-use Rattle.entries.proofs.PairNotes.{shown-map, pair-shown}
-use Rattle.entries.proofs.ReadLaws.{shown-few}
+use Rattle.entries.proofs.PairNotes.{pair-shown}
 use Rattle.entries.proofs.RowLaws.{ended-at}
 
 -- a row from any of its cells on begins with a term
@@ -30,14 +29,14 @@ terms-drop n (suc k) [] t h = absurd (omega arith)
 terms-drop zero k (c ∷ xs) (more {k = r} t) h = (r, more t)
 terms-drop (suc n) k (c ∷ xs) (more {k = r} t) h = terms-drop n (arity c + r) xs t (omega arith)
 
-pub shown-at : {N : ℕ → Note} {E G : ℕ → ℕ} {W : ℕ → ℕ → ℕ} {F : ℕ → ℕ} {first last stop k at a a′ f f′ : ℕ} → a′ ≡ a → f′ ≡ f
-    → Shown N E G (Priced W first last a f F) stop k at 0 a → Shown N E G (Priced W first last a′ f′ F) stop k at 0 a′
+pub shown-at : {N : ℕ → Note} {E : ℕ → ℕ} {W : ℕ → ℕ → ℕ} {F : ℕ → ℕ} {first last stop k at a a′ f f′ : ℕ} → a′ ≡ a → f′ ≡ f
+    → Shown N E (Priced W first last a f F) stop k at 0 → Shown N E (Priced W first last a′ f′ F) stop k at 0
 shown-at e e′ x = rw (e, e′) x
 
 -- no open place costs much, whatever the runs cost
-module _ {N : ℕ → Note} {E G : ℕ → ℕ} {W : ℕ → ℕ → ℕ} {F : ℕ → ℕ} {first last stop k f b : ℕ} (small : (j : ℕ) → first ≤ j → j ≤ last → W first j ≤ 65535)
+module _ {N : ℕ → Note} {E : ℕ → ℕ} {W : ℕ → ℕ → ℕ} {F : ℕ → ℕ} {first last stop k f b : ℕ} (small : (j : ℕ) → first ≤ j → j ≤ last → W first j ≤ 65535)
     (row : last < 64) (low : f ≤ 15) where
-  shown-cost : {q i a : ℕ} → Shown N E G (Priced W first last b f F) stop k q i a → (j : ℕ) → i ≤ j → j < k → F j ≤ 4300000
+  shown-cost : {q i : ℕ} → Shown N E (Priced W first last b f F) stop k q i → (j : ℕ) → i ≤ j → j < k → F j ≤ 4300000
   shown-cost at-end j h l = absurd (omega arith)
   shown-cost (at-closed m o s) j h l = shown-cost s j h l
   shown-cost {i = i} (at-open {at = q} m n o p s) j h l = go (eqb j i) refl (λ u v. shown-cost s j u v)
@@ -54,12 +53,7 @@ least-small : (k : ℕ) (F : ℕ → ℕ) → ((j : ℕ) → j < k → F j ≤ 4
 least-small zero F h = omega arith
 least-small (suc k) F h = h (argmin k F) (omega (arith, argmin-first k F .within))
 
--- the first cell of a part
-root-at : (j : ℕ) (xs : List ℕ) → j < length xs → root 0 (drop j xs) ≡ getD xs j 0
-unfolding root
-root-at j xs h = rw (drop-cons xs j 0 h)
-
-module _ {marks kept notes : List ℕ} {figure first last at stop : ℕ} (g : PairAt marks kept notes figure first last at stop) where
+module _ {marks kept notes : List ℕ} {figure first last agreed at stop : ℕ} (g : PairAt marks kept notes figure first last agreed at stop) where
   abbrev pub k : ℕ
   k = (closedOf (g .m) 32 (g .width) (g .rows) first last) .opens
 
@@ -83,44 +77,33 @@ module _ {marks kept notes : List ℕ} {figure first last at stop : ℕ} (g : Pa
       let t = terms-drop (j - at) (g .width) (slice at stop (g .cells)) row-terms (omega (arith, zs-length, length-slice at stop (g .cells) (g .part .1))) in
       ended-at {r = t .0} j stop (g .marked) (omega (arith, zs-length)) (g .part .1) (rw d at (t .1))
 
-  weights-right : (j : ℕ) → at ≤ j → j < length (take stop (g .cells)) → weightIn marks j ≡ g .m .weight (root 0 (drop j (take stop (g .cells))))
-  weights-right j h l =
-      g .marked .at j (omega (arith, zs-length, g .part .1)) .weight
-      ∙ ap (g .m .weight) (sym (getD-take stop (g .cells) j 0 (omega (arith, zs-length))) ∙ sym (root-at j (take stop (g .cells)) l))
-
-  pub shown : Shown (noteIn notes) (endIn marks) (weightIn marks) (Priced (g .N) first last a (g .m .figure) F) stop k at 0 a
-  shown =
+  pub shows : Shown (noteIn notes) (endIn marks) (Priced (g .N) first last a (g .m .figure) F) stop k at 0 × (agreed ≡ a)
+  shows =
       rw zs-length at
-      (pair-shown (g .m) (g .width) (g .rows) (g .fits) (g .N) (g .small) first last (g .order) (g .inside) (noteIn notes) (endIn marks) (weightIn marks)
-      (take stop (g .cells)) at ends-right weights-right (omega (arith, zs-length, g .part .0)) (g .row) (g .noted))
+      (pair-shown (g .m) (g .width) (g .rows) (g .fits) (g .N) (g .small) first last (g .order) (g .inside) (noteIn notes) (endIn marks)
+      (take stop (g .cells)) at ends-right (omega (arith, zs-length, g .part .0)) (g .row) (g .noted))
 
-  pub light : (q : ℕ) → q < stop → weightIn marks q ≤ 5
-  light q h = rw (g .marked .at q (omega (arith, g .part .1)) .weight) (g .low .weight (getD (g .cells) q 0))
+  pub agreed-is : agreed ≡ a
+  agreed-is = shows .1
 
-  abbrev pub keep-walk : Walk marks notes at stop
-  keep-walk = record { opens = k; agreed = a; shown = shown-map (λ j s h p. tt) shown; light = light; within = omega (arith, g .part .1, g .part .2) }
-
-  pub agreed-few : a ≤ 10250
-  agreed-few = omega (arith, shown-few light shown, g .part .1, g .part .2)
-
-  abbrev pub keep-pair : (agreed : ℕ) → agreed ≡ a → Pair marks kept notes first at stop agreed figure
-  keep-pair agreed e = record {
+  abbrev pub keep-pair : Pair marks kept notes first at stop agreed figure
+  keep-pair = record {
     costs = g .N;
     last = last;
     prices = F;
     opens = k;
-    shown = shown-at e (g .figure-is) shown;
+    shown = shown-at agreed-is (g .figure-is) (shows .0);
     known = g .known;
     small = λ j h l. g .small first j h (omega (arith, g .inside));
-    few = (omega (arith, agreed-few), omega (arith, g .figure-is, g .low .figure));
+    few = (g .light, omega (arith, g .figure-is, g .low .figure));
     rows = (g .order, omega (arith, g .inside, g .few));
     within = omega (arith, g .part .1, g .part .2);
   }
 
   -- the numbers are small
-  pub keep-small : a + leastOver k F ≤ 4400000
+  pub keep-small : agreed + leastOver k F ≤ 4400000
   keep-small =
-      omega (arith, agreed-few, least-small k F (λ j h. shown-cost (λ i m n. g .small first i m (omega (arith, g .inside))) (omega (arith, g .inside, g .few)) (g .low .figure) shown j (omega arith) h))
+      omega (arith, g .light, least-small k F (λ j h. shown-cost (λ i m n. g .small first i m (omega (arith, g .inside))) (omega (arith, g .inside, g .few)) (g .low .figure) (shows .0) j (omega arith) h))
 
 pub put-same-values : (kept : List ℕ) (pair : ℕ) {x y z x′ y′ z′ : ℕ} → x ≡ x′ → y ≡ y′ → z ≡ z′
     → putPair kept pair (x + y) y z ≡ putPair kept pair (x′ + y′) y′ z′

@@ -1,4 +1,4 @@
--- The entry of a pair is read off the notes at its first row: how many cells are closed, and the cheapest open place.
+-- The entry of a pair is read off the notes at its first row: the cheapest open place.
 use mathlib.Core.Path.{_≡_, refl, sym, ap, subst, _∙_}
 use mathlib.Core.Logic.{_≢_}
 use mathlib.Core.Bool.{Bool, true, false, cond, _||_}
@@ -12,65 +12,18 @@ use borrow.Author.Tests.{eq-eqb, ne-eqb, leb-true, leb-false, lt-ltb, le-ltb}
 use Rattle.entries.specs.declared.arrays.Note.{Note}
 use Rattle.entries.specs.declared.arrays.Choice.{Choice}
 use Rattle.least.specs.code.Best.{argmin, firstOver, leastOver}
-use Rattle.entries.specs.code.Notes.{choiceOf, noteIn, readIn, endIn, weightIn, Small, Shown, at-end, at-closed, at-open, Priced, Walk, Pair}
-
--- the next place
-abbrev pub nextAt : List ℕ → List ℕ → ℕ → ℕ
-nextAt marks notes q = cond (eqb ((noteIn notes q) .runs) 1) (q + 1) (endIn marks q)
+use Rattle.entries.specs.code.Notes.{choiceOf, noteIn, readIn, endIn, mostAgreed, Small, Shown, at-end, at-closed, at-open, Priced, Pair}
 
 -- what is at a cell of the walk
-pub data Here (N : ℕ → Note) (E G : ℕ → ℕ) (Is : ℕ → Note → Type 0) (stop k q i a : ℕ) : Type 0 where
-  ended : q ≡ stop → i ≡ k → a ≡ 0 → Here N E G Is stop k q i a
-  one : (b : ℕ) → a ≡ G q + b → q < stop → (N q) .runs ≡ 1 → Shown N E G Is stop k (suc q) i b → Here N E G Is stop k q i a
-  many : q < stop → q < E q → 1 < (N q) .runs → Is i (N q) → Shown N E G Is stop k (E q) (suc i) a → Here N E G Is stop k q i a
+data Here (N : ℕ → Note) (E : ℕ → ℕ) (Is : ℕ → Note → Type 0) (stop k q i : ℕ) : Type 0 where
+  ended : q ≡ stop → i ≡ k → Here N E Is stop k q i
+  one : q < stop → (N q) .runs ≡ 1 → Shown N E Is stop k (suc q) i → Here N E Is stop k q i
+  many : q < stop → q < E q → 1 < (N q) .runs → Is i (N q) → Shown N E Is stop k (E q) (suc i) → Here N E Is stop k q i
 
-pub here : {N : ℕ → Note} {E G : ℕ → ℕ} {Is : ℕ → Note → Type 0} {stop k q i a : ℕ} → Shown N E G Is stop k q i a → Here N E G Is stop k q i a
-here at-end = ended refl refl refl
-here (at-closed {agreed = a} l o s) = one a refl l o s
+here : {N : ℕ → Note} {E : ℕ → ℕ} {Is : ℕ → Note → Type 0} {stop k q i : ℕ} → Shown N E Is stop k q i → Here N E Is stop k q i
+here at-end = ended refl refl
+here (at-closed l o s) = one l o s
 here (at-open l m o p s) = many l m o p s
-
-module _ {marks notes : List ℕ} {at stop : ℕ} (g : Walk marks notes at stop) where
-  abbrev Any : ℕ → Note → Type 0
-  Any i s = Unit {0}
-
-  -- the cells so far weigh n, and the others are still to come
-  pub record CountAt (n q : ℕ) : Type 0 where
-    pub i : ℕ
-    pub left : ℕ
-    pub shown : Shown (noteIn notes) (endIn marks) (weightIn marks) Any stop (g .opens) q i left
-    pub sum : n + left ≡ g .agreed
-    pub small : n ≤ 5 * q
-
-  pub count-start : CountAt 0 at
-  count-start = record { i = 0; left = g .agreed; shown = g .shown; sum = omega arith; small = omega arith }
-
-  pub count-end : {n q : ℕ} → stop ≤ q → CountAt n q → n ≡ g .agreed
-  count-end {n} {q} h x = go (here (x .shown))
-    where
-      go : Here (noteIn notes) (endIn marks) (weightIn marks) Any stop (g .opens) q (x .i) (x .left) → n ≡ g .agreed
-      go (ended e f z) = omega (arith, x .sum)
-      go (one b e l o s) = absurd (omega arith)
-      go (many l m o p s) = absurd (omega arith)
-
-  pub count-step : {n q : ℕ} → q < stop → CountAt n q
-      → CountAt (n + cond (eqb ((noteIn notes q) .runs) 1) (weightIn marks q) 0) (nextAt marks notes q) × (q < nextAt marks notes q)
-  count-step {n} {q} h x = go (here (x .shown))
-    where
-      go : Here (noteIn notes) (endIn marks) (weightIn marks) Any stop (g .opens) q (x .i) (x .left)
-          → CountAt (n + cond (eqb ((noteIn notes q) .runs) 1) (weightIn marks q) 0) (nextAt marks notes q) × (q < nextAt marks notes q)
-      go (ended e f z) = absurd (omega arith)
-      go (one b e l o s) =
-          rw (eq-eqb ((noteIn notes q) .runs) 1 o)
-          (record { i = x .i; left = b; shown = rw (add-one q) s; sum = omega (arith, x .sum); small = omega (arith, x .small, g .light q l) }, omega arith)
-      go (many l m o p s) =
-          rw (ne-eqb ((noteIn notes q) .runs) 1 (λ w. omega arith))
-          (record { i = suc (x .i); left = x .left; shown = s; sum = omega (arith, x .sum); small = omega (arith, x .small) }, m)
-
--- the closed cells weigh at most 5 each
-pub shown-few : {N : ℕ → Note} {E G : ℕ → ℕ} {Is : ℕ → Note → Type 0} {stop k q i a : ℕ} → ((q : ℕ) → q < stop → G q ≤ 5) → Shown N E G Is stop k q i a → a + 5 * q ≤ 5 * stop
-shown-few f at-end = omega arith
-shown-few f (at-closed {at = q} l o s) = omega (arith, shown-few f s, f q l)
-shown-few f (at-open l m o p s) = omega (arith, shown-few f s)
 
 -- the least over one place more
 over-step : (F : ℕ → ℕ) (i c : ℕ) (best : Choice) → c ≡ F i → best ≡ choiceOf (leastOver i F) (firstOver i F)
@@ -88,21 +41,20 @@ over-step F (suc i) c best e b = rw (b, e, ne-eqb (suc i) 0 (λ z. omega arith))
 module _ {marks kept notes : List ℕ} {first at stop a figure : ℕ} (g : Pair marks kept notes first at stop a figure) where
   -- the first i open places are looked at
   pub record CheapAt (best : Choice) (i q : ℕ) : Type 0 where
-    pub left : ℕ
-    pub shown : Shown (noteIn notes) (endIn marks) (weightIn marks) (Priced (g .costs) first (g .last) a figure (g .prices)) stop (g .opens) q i left
+    pub shown : Shown (noteIn notes) (endIn marks) (Priced (g .costs) first (g .last) a figure (g .prices)) stop (g .opens) q i
     pub is : best ≡ choiceOf (leastOver i (g .prices)) (firstOver i (g .prices))
     pub small : i ≤ q
 
   pub cheap-start : CheapAt (choiceOf 0 0) 0 at
-  cheap-start = record { left = a; shown = g .shown; is = refl; small = omega arith }
+  cheap-start = record { shown = g .shown; is = refl; small = omega arith }
 
   pub cheap-end : {best : Choice} {i q : ℕ} → stop ≤ q → CheapAt best i q → best ≡ choiceOf (leastOver (g .opens) (g .prices)) (firstOver (g .opens) (g .prices))
   cheap-end {best} {i} {q} h x = go (here (x .shown))
     where
-      go : Here (noteIn notes) (endIn marks) (weightIn marks) (Priced (g .costs) first (g .last) a figure (g .prices)) stop (g .opens) q i (x .left)
+      go : Here (noteIn notes) (endIn marks) (Priced (g .costs) first (g .last) a figure (g .prices)) stop (g .opens) q i
           → best ≡ choiceOf (leastOver (g .opens) (g .prices)) (firstOver (g .opens) (g .prices))
-      go (ended e f z) = rw f at (x .is)
-      go (one b e l o s) = absurd (omega arith)
+      go (ended e f) = rw f at (x .is)
+      go (one l o s) = absurd (omega arith)
       go (many l m o p s) = absurd (omega arith)
 
   module _ {best : Choice} {i q : ℕ} (h : q < stop) (x : CheapAt best i q) where
@@ -114,7 +66,7 @@ module _ {marks kept notes : List ℕ} {first at stop a figure : ℕ} (g : Pair 
     price = figure + (s .sum + readIn kept first (s .to) - s .runs * a)
 
     pub record Opened : Type 0 where
-      pub next : Shown (noteIn notes) (endIn marks) (weightIn marks) (Priced (g .costs) first (g .last) a figure (g .prices)) stop (g .opens) (endIn marks q) (suc i) (x .left)
+      pub next : Shown (noteIn notes) (endIn marks) (Priced (g .costs) first (g .last) a figure (g .prices)) stop (g .opens) (endIn marks q) (suc i)
       pub on : q < endIn marks q
       pub small : Small first s
       pub is : price ≡ g .prices i
@@ -122,9 +74,9 @@ module _ {marks kept notes : List ℕ} {first at stop a figure : ℕ} (g : Pair 
     opened-at : s .runs ≢ 1 → Opened
     opened-at ne = go (here (x .shown))
       where
-        go : Here (noteIn notes) (endIn marks) (weightIn marks) (Priced (g .costs) first (g .last) a figure (g .prices)) stop (g .opens) q i (x .left) → Opened
-        go (ended e f z) = absurd (omega arith)
-        go (one b e l o t) = absurd (ne o)
+        go : Here (noteIn notes) (endIn marks) (Priced (g .costs) first (g .last) a figure (g .prices)) stop (g .opens) q i → Opened
+        go (ended e f) = absurd (omega arith)
+        go (one l o t) = absurd (ne o)
         go (many l m o p t) =
             let f = p .fair in
             let k : readIn kept first (s .to) ≡ g .costs first (s .to) = g .known (s .to) (f .low) (f .earlier o) in
@@ -143,14 +95,14 @@ module _ {marks kept notes : List ℕ} {first at stop a figure : ℕ} (g : Pair 
     cheap-open : s .runs ≢ 1 → CheapAt (cond (eqb i 0 || ltb price (best .cost)) (choiceOf price i) best) (i + 1) (endIn marks q)
     cheap-open ne =
         let o = opened-at ne in
-        rw (add-one i) (record { left = x .left; shown = o .next; is = over-step (g .prices) i price best (o .is) (x .is); small = omega (arith, o .on, x .small) })
+        rw (add-one i) (record { shown = o .next; is = over-step (g .prices) i price best (o .is) (x .is); small = omega (arith, o .on, x .small) })
 
     cheap-closed : s .runs ≡ 1 → CheapAt best i (q + 1)
     cheap-closed o = go (here (x .shown))
       where
-        go : Here (noteIn notes) (endIn marks) (weightIn marks) (Priced (g .costs) first (g .last) a figure (g .prices)) stop (g .opens) q i (x .left) → CheapAt best i (q + 1)
-        go (ended e f z) = absurd (omega arith)
-        go (one b e l o t) = record { left = b; shown = rw (add-one q) t; is = x .is; small = omega (arith, x .small) }
+        go : Here (noteIn notes) (endIn marks) (Priced (g .costs) first (g .last) a figure (g .prices)) stop (g .opens) q i → CheapAt best i (q + 1)
+        go (ended e f) = absurd (omega arith)
+        go (one l o t) = record { shown = rw (add-one q) t; is = x .is; small = omega (arith, x .small) }
         go (many l m o′ p t) = absurd (omega arith)
 
     -- the two ways of one turn of the loop, by what its calls give
@@ -170,7 +122,7 @@ module _ {marks kept notes : List ℕ} {first at stop a figure : ℕ} (g : Pair 
           (rw (eb, ei, e) (cheap-closed (ap (λ (t : Note). t .runs) (sym n) ∙ o)), omega arith)
 
       -- what the open place's cost asks
-      pub turn-asks : t .runs ≢ 1 → Small first t × (a ≤ 10250) × (figure ≤ 15)
+      pub turn-asks : t .runs ≢ 1 → Small first t × (a ≤ mostAgreed) × (figure ≤ 15)
       turn-asks ne =
           let o = opened-at (λ o. ne (ap (λ (t : Note). t .runs) n ∙ o)) in
-          subst (λ (t : Note). Small first t × (a ≤ 10250) × (figure ≤ 15)) (sym n) (o .small, g .few .0, g .few .1)
+          subst (λ (t : Note). Small first t × (a ≤ mostAgreed) × (figure ≤ 15)) (sym n) (o .small, g .few .0, g .few .1)

@@ -5,6 +5,7 @@ use mathlib.Core.Bool.{Bool, true, false, cond}
 use mathlib.Core.List.{List, [], _∷_, _++_, map, append-assoc}
 use Prim.Native.Nat.{ℕ, zero, suc, pred, _+_, _-_, _*_, _%_, _≤_, _<_}
 use native.Mathlib.Omega.{arith}
+use native.Mathlib.Nat.{zero-add}
 use native.Mathlib.Numerals.{add-one, one-add}
 use lib.ListN.{length, getD, take, drop, length-map, take-append-drop}
 use lib.Seq.{slice, slice-cons, length-slice, drop-append-le, length-take-le}
@@ -18,9 +19,9 @@ use Rattle.plan.specs.Plans.{Measure}
 use Rattle.plan.proofs.RunsLaws.{terms-length}
 use Rattle.entries.specs.declared.arrays.Note.{Note}
 use Rattle.entries.specs.code.Notes.{note, noteNext, noteOf, noteIn, putNote, readIn, endIn, Small, Fair, Noted, done, closed, opened}
-use Rattle.entries.specs.code.Notes.{MarkOf, MarkedTo, NextRow, RowNoted, Alone}
+use Rattle.entries.specs.code.Notes.{weightIn, mostAgreed, weightOf, MarkOf, MarkedTo, NextRow, RowNoted, LastRow, Alone}
 use Rattle.entries.proofs.NoteLaws.{note-fair}
-use Rattle.entries.proofs.NotedLaws.{close-first, back-first, note-is, noteWith, next-note, next-closed, next-opened}
+use Rattle.entries.proofs.NotedLaws.{From, close-first, back-first, note-is, noteWith, next-note, next-closed, next-opened}
 use Rattle.entries.proofs.RingLaws.{put-same, put-other, put-alike, put-room, put-later, put-earlier}
 use Rattle.least.proofs.Suffixes.{front-short, close-drop, back-drop}
 
@@ -63,50 +64,53 @@ module _ {cells marks kept notes₀ : List ℕ} {row new old : ℕ} (g : NextRow
   abbrev stop : ℕ
   stop = g .stop
 
-  -- the walk has come to cell q of the new row and to cell p of the row after it: what is left of each row begins there, and what is noted
-  -- from q on completes what has been noted so far
-  pub record RowAt (notes : List ℕ) (p q : ℕ) : Type 0 where
+  -- the walk has come to cell q of the new row and to cell p of the row after it: what is left of each row begins there, what is noted
+  -- from q on completes what has been noted so far, and what is closed from q on adds to what is closed so far
+  pub record RowAt (notes : List ℕ) (agreed p q : ℕ) : Type 0 where
     pub r : ℕ
     pub rest : List (List ℕ)
-    pub noted : Noted (g .costs) (suc row) (noteIn notes₀) p r (slice p stop cells) rest
+    pub noted : From (g .m) (g .costs) (suc row) (noteIn notes₀) p r (slice p stop cells) rest
     pub old-terms : Terms r (slice p stop cells)
     pub new-terms : Terms r (slice q old cells)
     pub rows : length rest ≡ length (g .rest)
     pub order : (old ≤ p) × (p ≤ stop) × (new ≤ q) × (q ≤ old)
     pub same : (j : ℕ) → old ≤ j → j < stop → noteIn notes j ≡ noteIn notes₀ j
     pub then : (N : ℕ → Note) → ((j : ℕ) → new ≤ j → j < q → N j ≡ noteIn notes j)
-        → Noted (g .costs) row N q r (slice q old cells) (slice p stop cells ∷ rest)
-        → Noted (g .costs) row N new (g .width) (slice new old cells) (slice old stop cells ∷ g .rest)
+        → (b : ℕ) → Noted (g .m) (g .costs) row N q r (slice q old cells) (slice p stop cells ∷ rest) b
+        → Noted (g .m) (g .costs) row N new (g .width) (slice new old cells) (slice old stop cells ∷ g .rest) (agreed + b)
+    pub light : agreed ≤ 7 * q
     pub room : length notes ≡ 192
 
-  pub row-start : RowAt notes₀ old new
+  pub row-start : RowAt notes₀ 0 old new
   row-start = record {
     r = g .width;
     rest = g .rest;
-    noted = g .noted;
+    noted = (g .shared, g .noted);
     old-terms = g .old-terms;
     new-terms = g .new-terms;
     rows = refl;
     order = (omega arith, g .order .1, omega arith, g .order .0);
     same = λ j h l. refl;
-    then = λ N e d. d;
+    then = λ N e b d. rw zero-add d;
+    light = omega arith;
     room = g .room;
   }
 
   old-in : old ≤ length cells
   old-in = omega (arith, g .order .1, g .order .2)
 
-  pub row-end : {notes : List ℕ} {p q : ℕ} → RowAt notes p q → old ≤ q → RowNoted g notes
-  row-end {notes} {p} {q} x h =
+  pub row-end : {notes : List ℕ} {n p q : ℕ} → RowAt notes n p q → old ≤ q → RowNoted g notes n
+  row-end {notes} {n} {p} {q} x h =
       let l : length (slice q old cells) ≡ old - q = length-slice q old cells old-in in
       let z : x .r ≡ 0 = no-terms (x .new-terms) (omega (arith, x .order .3)) in
-      record { noted = x .then (noteIn notes) (λ j l m. refl) (rw z done); room = x .room }
+      let e : n + 0 ≡ n = omega arith in
+      record { noted = rw e at (x .then (noteIn notes) (λ j l m. refl) 0 (rw z done)); light = omega (arith, x .light, x .order .3, old-in, g .order .3); room = x .room }
     where
       no-terms : {r : ℕ} {xs : List ℕ} → Terms r xs → length xs ≡ 0 → r ≡ 0
       no-terms none e = refl
       no-terms (more t) e = absurd (omega arith)
 
-  module _ (notes : List ℕ) (p q : ℕ) (x : RowAt notes p q) (h : q < old) where
+  module _ (notes : List ℕ) (n p q : ℕ) (x : RowAt notes n p q) (h : q < old) where
     abbrev stepNote : Note
     stepNote = noteStep cells kept notes row p q
 
@@ -123,8 +127,8 @@ module _ {cells marks kept notes₀ : List ℕ} {row new old : ℕ} (g : NextRow
         go zero t = absurd (omega (arith, ap length (zero-nil t), length-slice q old cells old-in))
         go (suc r) t = refl
 
-    old-at : Noted (g .costs) (suc row) (noteIn notes₀) p (suc (pred (x .r))) y (x .rest)
-    old-at = rw some-terms at (x .noted)
+    old-at : Noted (g .m) (g .costs) (suc row) (noteIn notes₀) p (suc (pred (x .r))) y (x .rest) (x .noted .0)
+    old-at = rw some-terms at (x .noted .1)
 
     y-terms : Terms (suc (pred (x .r))) y
     y-terms = rw some-terms at (x .old-terms)
@@ -170,7 +174,11 @@ module _ {cells marks kept notes₀ : List ℕ} {row new old : ℕ} (g : NextRow
     column-is : (N : ℕ → Note) → N q ≡ noteIn notes′ q → N q ≡ noteOf (g .costs) row (map (root 0) (z ∷ (y ∷ x .rest)))
     column-is N e = e ∙ put-is ∙ step-is ∙ next-note old-at z
 
-    step-closed : stepNote .runs ≡ 1 → RowAt notes′ (suc p) (suc q)
+    -- what a closed cell weighs
+    weight-is : weightIn marks q ≡ g .m .weight (root 0 z)
+    weight-is = g .marked .at q (omega (arith, old-in)) .weight ∙ ap (g .m .weight) (sym (part-root q old cells h old-in))
+
+    step-closed : stepNote .runs ≡ 1 → RowAt notes′ (n + weightIn marks q) (suc p) (suc q)
     step-closed o =
         let c = next-closed old-at z (ap (λ (n : Note). n .runs) (sym step-is) ∙ o) in
         let yc : close 0 y ≡ slice (suc p) stop cells = part-close p stop cells row-after stop-in in
@@ -178,20 +186,21 @@ module _ {cells marks kept notes₀ : List ℕ} {row new old : ℕ} (g : NextRow
         record {
           r = arity (root 0 y) + pred (x .r);
           rest = map (close 0) (x .rest);
-          noted = rw yc at (c .1);
+          noted = (c .1 .0, rw yc at (c .1 .1));
           old-terms = rw yc at (close-first y-terms);
           new-terms = rw (← (c .0), ← zc) (close-first z-terms);
           rows = length-map (x .rest) (close 0) ∙ x .rows;
           order = (omega (arith, x .order .0), row-after, omega (arith, x .order .2), omega arith);
           same = λ j l m. unchanged-old j l m ∙ x .same j l m;
-          then = λ N e d.
-              x .then N (λ j l m. e j l (omega arith) ∙ unchanged j l m)
-              (rw some-terms (closed {terms = pred (x .r)} {row = z} {rest = y ∷ x .rest} (column-is N (e q (x .order .2) (omega arith)))
-              (ap (λ (n : Note). n .runs) (e q (x .order .2) (omega arith) ∙ put-is) ∙ o) (rw (c .0, zc, yc) d)));
+          then = λ N e b d. let s : n + weightIn marks q + b ≡ n + (g .m .weight (root 0 z) + b) = omega (arith, weight-is) in
+              rw s (x .then N (λ j l m. e j l (omega arith) ∙ unchanged j l m) (g .m .weight (root 0 z) + b)
+              (rw some-terms (closed {terms = pred (x .r)} {agreed = b} {row = z} {rest = y ∷ x .rest} (column-is N (e q (x .order .2) (omega arith)))
+              (ap (λ (n : Note). n .runs) (e q (x .order .2) (omega arith) ∙ put-is) ∙ o) (rw (c .0, zc, yc) d))));
+          light = omega (arith, x .light);
           room = put-room notes q stepNote ∙ x .room;
         }
 
-    step-opened : 1 < stepNote .runs → RowAt notes′ (endIn marks p) (endIn marks q)
+    step-opened : 1 < stepNote .runs → RowAt notes′ n (endIn marks p) (endIn marks q)
     step-opened o =
         let py : endIn marks p ≡ p + length (front 1 y) = ended-at p stop (g .marked) row-after stop-in y-terms in
         let qz : endIn marks q ≡ q + length (front 1 z) = ended-at q old (g .marked) h old-in z-terms in
@@ -205,26 +214,29 @@ module _ {cells marks kept notes₀ : List ℕ} {row new old : ℕ} (g : NextRow
         record {
           r = pred (x .r);
           rest = map (back 1) (x .rest);
-          noted = rw (← py, yb) at (next-opened old-at z y-terms);
+          noted = (let w = next-opened old-at z y-terms in (w .0, rw (← py, yb) at (w .1)));
           old-terms = rw yb at (back-first y-terms);
           new-terms = rw zb at (back-first z-terms);
           rows = length-map (x .rest) (back 1) ∙ x .rows;
           order = (omega (arith, x .order .0), omega (arith, row-after), omega (arith, x .order .2), omega arith);
           same = λ j l m. unchanged-old j l m ∙ x .same j l m;
-          then = λ N e d.
-              x .then N (λ j l m. e j l (omega arith) ∙ unchanged j l m)
-              (rw some-terms (opened {terms = pred (x .r)} {row = z} {rest = y ∷ x .rest} (column-is N (e q (x .order .2) (omega arith)))
+          then = λ N e b d.
+              x .then N (λ j l m. e j l (omega arith) ∙ unchanged j l m) b
+              (rw some-terms (opened {terms = pred (x .r)} {agreed = b} {row = z} {rest = y ∷ x .rest} (column-is N (e q (x .order .2) (omega arith)))
               (omega (arith, ap (λ (n : Note). n .runs) (e q (x .order .2) (omega arith) ∙ put-is))) (rw (← qz, zb, yb) d)));
+          light = omega (arith, x .light);
           room = put-room notes q stepNote ∙ x .room;
         }
 
     -- one step of the walk
-    pub row-step : RowAt notes′ (cond (eqb (stepNote .runs) 1) (p + 1) (endIn marks p)) (cond (eqb (stepNote .runs) 1) (q + 1) (endIn marks q))
+    pub row-step : RowAt notes′ (n + cond (eqb (stepNote .runs) 1) (weightIn marks q) 0) (cond (eqb (stepNote .runs) 1) (p + 1) (endIn marks p))
+        (cond (eqb (stepNote .runs) 1) (q + 1) (endIn marks q))
     row-step = go (eqb (stepNote .runs) 1) refl
       where
-        go : (b : Bool) → eqb (stepNote .runs) 1 ≡ b → RowAt notes′ (cond b (p + 1) (endIn marks p)) (cond b (q + 1) (endIn marks q))
+        go : (b : Bool) → eqb (stepNote .runs) 1 ≡ b
+            → RowAt notes′ (n + cond b (weightIn marks q) 0) (cond b (p + 1) (endIn marks p)) (cond b (q + 1) (endIn marks q))
         go true e = rw (add-one p, add-one q) (step-closed (eqb-true (stepNote .runs) 1 e))
-        go false e = step-opened (omega (arith, next-some (readIn kept) (noteIn notes p) row (getD cells q 0) (getD cells p 0) (row-fair .some), ne))
+        go false e = let z : n + 0 ≡ n = omega arith in rw z (step-opened (omega (arith, next-some (readIn kept) (noteIn notes p) row (getD cells q 0) (getD cells p 0) (row-fair .some), ne)))
           where
             ne : stepNote .runs ≢ 1
             ne = eqb-false (stepNote .runs) 1 e
@@ -235,6 +247,7 @@ module _ {cells marks kept notes₀ : List ℕ} {row new old : ℕ} (g : NextRow
       pub q-small : q < 2050
       pub p-in : p < length cells
       pub q-in : q < length cells
+      pub light : n ≤ mostAgreed
       pub small : Small (row + 1) (noteIn notes p)
 
     pub row-safe : RowSafe
@@ -246,6 +259,7 @@ module _ {cells marks kept notes₀ : List ℕ} {row new old : ℕ} (g : NextRow
           q-small = omega (arith, old-in, g .order .3);
           p-in = omega (arith, stop-in);
           q-in = omega (arith, old-in);
+          light = omega (arith, x .light, old-in, g .order .3);
           small = record {
             runs = omega (arith, f .few, g .rows .1, g .rows .2);
             sum = omega (arith, f .small, f .few, g .rows .1, g .rows .2);
@@ -263,21 +277,36 @@ module _ {cells marks kept notes₀ : List ℕ} {row new old : ℕ} (g : NextRow
         go false = omega (arith, ended-at q old (g .marked) h old-in z-terms, terms-length (front-terms 1 (pred (x .r)) z (rw one-add z-terms)))
 
 -- A row by itself is noted cell by cell.
-pub alone-start : (row at : ℕ) (notes : List ℕ) → length notes ≡ 192 → Alone row at at notes
-alone-start row at notes l = record { each = λ j h h′. absurd (omega arith); room = l }
+module _ {marks notes₀ : List ℕ} {row at stop : ℕ} (g : LastRow marks notes₀ row at stop) where
+  pub alone-start : Alone g at notes₀ 0
+  alone-start = record { each = λ j h h′. absurd (omega arith); sum = omega arith; order = (omega arith, g .part .0); light = omega arith; room = g .room }
 
-pub alone-step : (row at q : ℕ) (notes : List ℕ) → Alone row at q notes → Alone row at (q + 1) (putNote notes q (note 1 0 row))
-alone-step row at q notes x = record {
-  each = λ j l m. go j l m (eqb (j % 64) (q % 64)) refl;
-  room = put-room notes q (note 1 0 row) ∙ x .room;
-}
-  where
-    go : (j : ℕ) → at ≤ j → j < q + 1 → (b : Bool) → eqb (j % 64) (q % 64) ≡ b → noteIn (putNote notes q (note 1 0 row)) j ≡ note 1 0 row
-    go j l m true e = put-alike notes q (note 1 0 row) j (x .room) (eqb-true (j % 64) (q % 64) e)
-    go j l m false e =
-        let ne : j % 64 ≢ q % 64 = eqb-false (j % 64) (q % 64) e in
-        let nj : j ≢ q = λ i. ne (ap (λ (k : ℕ). k % 64) i) in
-        put-other notes q (note 1 0 row) j ne ∙ x .each j l (omega (arith, nj))
+  module _ {notes : List ℕ} {q n : ℕ} (x : Alone g q notes n) (h : q < stop) where
+    pub alone-small : (q < 2050) × (n ≤ mostAgreed)
+    alone-small = (omega (arith, g .part .1, g .part .2), omega (arith, x .light, g .part .1, g .part .2))
 
-pub alone-end : (row at q stop : ℕ) (notes : List ℕ) → stop ≤ q → Alone row at q notes → Alone row at stop notes
-alone-end row at q stop notes h x = record { each = λ j l m. x .each j l (omega arith); room = x .room }
+    sum-next : n + weightIn marks q + weightOf (g .m) (slice (suc q) stop (g .cells)) ≡ weightOf (g .m) (slice at stop (g .cells))
+    sum-next =
+        let w : weightIn marks q ≡ g .m .weight (getD (g .cells) q 0) = g .marked .at q (omega (arith, g .part .1)) .weight in
+        let c : weightOf (g .m) (slice q stop (g .cells)) ≡ g .m .weight (getD (g .cells) q 0) + weightOf (g .m) (slice (suc q) stop (g .cells)) =
+        ap (weightOf (g .m)) (slice-cons q stop (g .cells) 0 h (g .part .1)) in
+        omega (arith, x .sum)
+
+    pub alone-step : Alone g (q + 1) (putNote notes q (note 1 0 row)) (n + weightIn marks q)
+    alone-step = record {
+      each = λ j l m. go j l m (eqb (j % 64) (q % 64)) refl;
+      sum = rw (add-one q) sum-next;
+      order = (omega (arith, x .order .0), omega arith);
+      light = omega (arith, x .light);
+      room = put-room notes q (note 1 0 row) ∙ x .room;
+    }
+      where
+        go : (j : ℕ) → at ≤ j → j < q + 1 → (b : Bool) → eqb (j % 64) (q % 64) ≡ b → noteIn (putNote notes q (note 1 0 row)) j ≡ note 1 0 row
+        go j l m true e = put-alike notes q (note 1 0 row) j (x .room) (eqb-true (j % 64) (q % 64) e)
+        go j l m false e =
+            let ne : j % 64 ≢ q % 64 = eqb-false (j % 64) (q % 64) e in
+            let nj : j ≢ q = λ i. ne (ap (λ (k : ℕ). k % 64) i) in
+            put-other notes q (note 1 0 row) j ne ∙ x .each j l (omega (arith, nj))
+
+  pub alone-end : {notes : List ℕ} {q n : ℕ} → stop ≤ q → Alone g q notes n → Alone g stop notes n
+  alone-end {q = q} h x = let e : q ≡ stop = omega (arith, x .order .1) in rw e at x

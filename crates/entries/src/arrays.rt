@@ -9,8 +9,8 @@ ghost use lib.ListN.{length, getD};
 ghost use Rattle.least.specs.Measures.{workOf, measureOf};
 ghost use Rattle.least.specs.code.Best.{firstOver, leastOver};
 ghost use Rattle.entries.specs.Fill.{Filled};
-ghost use Rattle.entries.specs.code.Notes.{choiceOf, noteIn, noteNext, putNote, readIn, endIn, weightIn};
-ghost use Rattle.entries.specs.code.Notes.{Small, NextRow, RowNoted, Alone, Walk, Pair, EndsAt, MarkOf, MarkedTo};
+ghost use Rattle.entries.specs.code.Notes.{choiceOf, noteIn, noteNext, putNote, readIn, endIn, weightIn, mostAgreed};
+ghost use Rattle.entries.specs.code.Notes.{Small, NextRow, RowNoted, LastRow, Alone, Pair, EndsAt, MarkOf, MarkedTo};
 ghost use Rattle.entries.specs.code.Filling.{stopOf, rowOf, PairAt, Keeps, KeepsBefore, LastAt, FilledTo, Task, Finished, Rows};
 use least::By;
 use term::End;
@@ -157,6 +157,18 @@ fn next_note(s: Note, kept: &[u32; 12288], row: usize, c: u32, d: u32) -> Note
     }
 }
 
+// What the closed cells of a row weigh, with one cell more where its place is closed.
+fn with_closed(marks: &[u16; 2050], agreed: u32, s: Note, q: usize) -> u32
+    requires { ⌜ (q < 2050) × (agreed ≤ mostAgreed) ⌝ }
+    ensures { λ r. ⌜ r ≡ agreed + cond (eqb (s .runs) 1) (weightIn (now (marks .entry)) q) 0 ⌝ }
+{
+    if s.runs == 1 {
+        agreed + weight_in(marks[q])
+    } else {
+        agreed
+    }
+}
+
 // A row by its number, and where its cells are in the table.
 struct Row {
     number: usize,
@@ -165,74 +177,54 @@ struct Row {
 }
 
 // One row more in front of those that are noted. Its cells and those of the row after it, which begin where its own end,
-// are walked side by side: a place that stays closed leads to its arguments, and at any other the term is passed.
+// are walked side by side: a place that stays closed leads to its arguments, and at any other the term is passed. Answers
+// what the closed cells weigh.
 fn note_row(
     cells: &[u32],
     marks: &[u16; 2050],
     kept: &[u32; 12288],
     notes: &mut [u32; 192],
     row: Row,
-)
+) -> u32
     requires { ⌜ NextRow (now cells) (now marks) (now kept) (now notes) (row .number) (row .start) (row .end) ⌝ }
-    ensures { λ _. ⌜ ((g : NextRow (now (cells .entry)) (now (marks .entry)) (now (kept .entry)) (now (notes .entry))
-        (row .number) (row .start) (row .end)) → RowNoted g (now (notes .exit))) ⌝ }
+    ensures { λ r. ⌜ ((g : NextRow (now (cells .entry)) (now (marks .entry)) (now (kept .entry)) (now (notes .entry))
+        (row .number) (row .start) (row .end)) → RowNoted g (now (notes .exit)) r) ⌝ }
 {
     let number = row.number;
     let stop = row.end;
+    let mut agreed = 0;
     let mut p = stop;
     let mut q = row.start;
     while q < stop {
         let s = next_note(note_at(&*notes, p), kept, number, cells[q], cells[p]);
         put_note(&mut *notes, q, s);
+        agreed = with_closed(marks, agreed, s, q);
         p = after(marks, s, p);
         q = after(marks, s, q);
     }
+    agreed
 }
 
-// A row by itself: every place is closed.
-fn note_last(notes: &mut [u32; 192], row: Row)
-    requires { ⌜ (row .number < 64) × (row .end ≤ 2050) × (length (now notes) ≡ 192) ⌝ }
-    ensures { λ _. ⌜ Alone (row .number) (row .start) (row .end) (now (notes .exit)) ⌝ }
+// A row by itself: every place is closed. Answers what its cells weigh.
+fn note_last(marks: &[u16; 2050], notes: &mut [u32; 192], row: Row) -> u32
+    requires { ⌜ LastRow (now marks) (now notes) (row .number) (row .start) (row .end) ⌝ }
+    ensures { λ r. ⌜ ((g : LastRow (now (marks .entry)) (now (notes .entry)) (row .number) (row .start) (row .end))
+        → Alone g (row .end) (now (notes .exit)) r) ⌝ }
 {
-    let number = row.number;
+    let s = Note {
+        runs: 1,
+        sum: 0,
+        to: row.number as u32,
+    };
     let stop = row.end;
+    let mut agreed = 0;
     let mut q = row.start;
     while q < stop {
-        put_note(
-            &mut *notes,
-            q,
-            Note {
-                runs: 1,
-                sum: 0,
-                to: number as u32,
-            },
-        );
+        put_note(&mut *notes, q, s);
+        agreed = with_closed(marks, agreed, s, q);
         q += 1;
     }
-}
-
-// One closed cell more, where the place is closed.
-fn with_closed(n: u32, s: Note, weight: u32) -> u32
-    requires { ⌜ (n ≤ 10250) × (weight ≤ 5) ⌝ }
-    ensures { λ r. ⌜ r ≡ n + cond (eqb (s .runs) 1) weight 0 ⌝ }
-{
-    if s.runs == 1 { n + weight } else { n }
-}
-
-// What the closed cells of a row weigh.
-fn agreed_in(marks: &[u16; 2050], notes: &[u32; 192], row: Row) -> u32
-    requires { ⌜ Walk (now marks) (now notes) (row .start) (row .end) ⌝ }
-    ensures { λ r. ⌜ ((g : Walk (now (marks .entry)) (now (notes .entry)) (row .start) (row .end)) → r ≡ g .agreed) ⌝ }
-{
-    let stop = row.end;
-    let mut n = 0;
-    let mut q = row.start;
-    while q < stop {
-        let s = note_at(notes, q);
-        n = with_closed(n, s, weight_in(marks[q]));
-        q = after(marks, s, q);
-    }
-    n
+    agreed
 }
 
 // The cheapest open place so far, and what it costs; 0 and 0 where there is none.
@@ -257,7 +249,7 @@ fn consider(best: Choice, place: u32, cost: u32) -> Choice
 // What an open place costs, where the closed cells weigh so much: the sum of what its runs cost, without these cells, which
 // each run's cost has in it, and the figure. Of a table no run costs less than they weigh.
 fn open_cost(s: Note, kept: &[u32; 12288], first: usize, agreed: u32, figure: u32) -> u32
-    requires { ⌜ Small first s × (agreed ≤ 10250) × (figure ≤ 15) ⌝ }
+    requires { ⌜ Small first s × (agreed ≤ mostAgreed) × (figure ≤ 15) ⌝ }
     ensures { λ r. ⌜ r ≡ figure + (s .sum + readIn (now (kept .entry)) first (s .to) - s .runs * agreed) ⌝ }
 {
     let to = s.to as usize;
@@ -299,25 +291,31 @@ fn cheapest(
     best
 }
 
+// The last row of a pair, and what the cells weigh that its rows agree on.
+struct Shared {
+    last: usize,
+    agreed: u32,
+}
+
 // The values of a pair, read off the notes at its first row.
 fn keep_pair(
     marks: &[u16; 2050],
     kept: &mut [u32; 12288],
     notes: &[u32; 192],
     row: Row,
-    last: usize,
+    shared: Shared,
     figure: u32,
 )
-    requires { ⌜ PairAt (now marks) (now kept) (now notes) figure (row .number) last (row .start) (row .end) ⌝ }
+    requires { ⌜ PairAt (now marks) (now kept) (now notes) figure (row .number) (shared .last) (shared .agreed) (row .start) (row .end) ⌝ }
     ensures { λ _. ⌜ ((g : PairAt (now (marks .entry)) (now (kept .entry)) (now (notes .entry))
-        figure (row .number) last (row .start) (row .end))
-        → Keeps (g .m) (g .width) (g .rows) (g .N) (row .number) last (now (kept .entry)) (now (kept .exit))) ⌝ }
+        figure (row .number) (shared .last) (shared .agreed) (row .start) (row .end))
+        → Keeps (g .m) (g .width) (g .rows) (g .N) (row .number) (shared .last) (now (kept .entry)) (now (kept .exit))) ⌝ }
 {
-    let agreed = agreed_in(marks, notes, row);
+    let agreed = shared.agreed;
     let best = cheapest(marks, &*kept, notes, row, agreed, figure);
     let count = best.cost;
     let chosen = best.place;
-    let pair = 64 * row.number + last;
+    let pair = 64 * row.number + shared.last;
     kept[pair] = agreed + count;
     kept[4096 + pair] = count;
     kept[8192 + pair] = chosen;
@@ -338,18 +336,20 @@ fn keep_before(
     kept: &mut [u32; 12288],
     notes: &[u32; 192],
     row: Row,
-    last: usize,
+    shared: Shared,
     asked: Asked,
 )
-    requires { ⌜ PairAt (now marks) (now kept) (now notes) (asked .figure) (row .number) last (row .start) (row .end) ⌝ }
+    requires { ⌜ PairAt (now marks) (now kept) (now notes)
+        (asked .figure) (row .number) (shared .last) (shared .agreed) (row .start) (row .end) ⌝ }
     ensures { λ _. ⌜ ((g : PairAt (now (marks .entry)) (now (kept .entry)) (now (notes .entry))
-        (asked .figure) (row .number) last (row .start) (row .end))
-        → KeepsBefore (g .m) (g .width) (g .rows) (g .N) (asked .top) (row .number) last (now (kept .entry)) (now (kept .exit))) ⌝ }
+        (asked .figure) (row .number) (shared .last) (shared .agreed) (row .start) (row .end))
+        → KeepsBefore (g .m) (g .width) (g .rows) (g .N) (asked .top) (row .number) (shared .last)
+        (now (kept .entry)) (now (kept .exit))) ⌝ }
 {
     if asked.top <= row.number {
         return;
     }
-    keep_pair(marks, &mut *kept, notes, row, last, asked.figure);
+    keep_pair(marks, &mut *kept, notes, row, shared, asked.figure);
 }
 
 // Where a row's cells end: where the next row's begin, and the last row's where the table's end.
@@ -394,13 +394,27 @@ fn pairs_to(
 {
     let last = row.number;
     let mut notes = [0; 192];
-    note_last(&mut notes, row);
-    keep_before(marks, &mut *kept, &notes, row, last, asked);
+    let mut agreed = note_last(marks, &mut notes, row);
+    keep_before(
+        marks,
+        &mut *kept,
+        &notes,
+        row,
+        Shared { last, agreed },
+        asked,
+    );
     let mut first = row;
     while 0 < first.number {
         first = row_before(starts, first);
-        note_row(cells, marks, &*kept, &mut notes, first);
-        keep_before(marks, &mut *kept, &notes, first, last, asked);
+        agreed = note_row(cells, marks, &*kept, &mut notes, first);
+        keep_before(
+            marks,
+            &mut *kept,
+            &notes,
+            first,
+            Shared { last, agreed },
+            asked,
+        );
     }
 }
 

@@ -17,7 +17,7 @@ use Rattle.least.specs.code.Pairs.{agreedOf, leastBy, placeBy, wholeBy}
 use Rattle.entries.specs.declared.arrays.Asked.{Asked}
 use Rattle.entries.specs.declared.arrays.Row.{Row}
 use Rattle.entries.specs.Fill.{wholeIn, costIn, placeIn, SameAt}
-use Rattle.entries.specs.code.Notes.{noteIn, readIn, Noted, MarkedTo}
+use Rattle.entries.specs.code.Notes.{noteIn, readIn, mostAgreed, Noted, MarkedTo}
 
 -- a row's cells end where the next row's begin, and the last row's where the table's end
 abbrev pub stopOf : List ℕ → List ℕ → ℕ → ℕ → ℕ
@@ -35,9 +35,9 @@ pub record Laid (cells starts : List ℕ) (count width : ℕ) (rows : List (List
   pub order : (r : ℕ) → r < count → (getD starts r 0 ≤ stopOf cells starts count r) × (stopOf cells starts count r ≤ length cells)
   pub row : (r : ℕ) → r < count → getD rows r [] ≡ slice (getD starts r 0) (stopOf cells starts count r) cells
 
--- what is given where the values of a pair are kept: the notes at its first row, whose cells are those from `at` up to a stop. What a run
--- of rows costs is N
-pub record PairAt (marks kept notes : List ℕ) (figure first last at stop : ℕ) : Type 0 where
+-- what is given where the values of a pair are kept: the notes at its first row, whose cells are those from `at` up to a stop, and what
+-- the closed cells weigh. What a run of rows costs is N
+pub record PairAt (marks kept notes : List ℕ) (figure first last agreed at stop : ℕ) : Type 0 where
   pub m : Measure
   pub low : Low m
   pub figure-is : figure ≡ m .figure
@@ -53,7 +53,8 @@ pub record PairAt (marks kept notes : List ℕ) (figure first last at stop : ℕ
   pub marked : MarkedTo m cells marks (length cells)
   pub N : ℕ → ℕ → ℕ
   pub small : (j j′ : ℕ) → j ≤ j′ → j′ < length rows → N j j′ ≤ 65535
-  pub noted : Noted N first (noteIn notes) at width (getD rows first []) (slice (suc first) (suc last) rows)
+  pub noted : Noted m N first (noteIn notes) at width (getD rows first []) (slice (suc first) (suc last) rows) agreed
+  pub light : agreed ≤ mostAgreed
   pub known : (j : ℕ) → first ≤ j → j < last → readIn kept first j ≡ N first j
   pub room : length kept ≡ 12288
 
@@ -100,8 +101,8 @@ module _ {cells marks starts : List ℕ} {asked : Asked} {old : List ℕ} (t : T
   -- what stands at a pair
   pub data Stands (first last : ℕ) (kept : List ℕ) (j j′ : ℕ) : Type 0 where
     worked : Worked (length (t .rows)) asked first last j j′ → readIn kept j j′ ≡ t .N j j′
-        → costIn kept j j′ ≡ leastBy (t .m) (t .width) (t .rows) (t .N) j j′ → placeIn kept j j′ ≡ placeBy (t .m) (t .width) (t .rows) (t .N) j j′
-        → Stands first last kept j j′
+        → costIn kept j j′ ≡ leastBy (t .m) (t .width) (t .rows) (t .N) j j′
+        → placeIn kept j j′ ≡ placeBy (t .m) (t .width) (t .rows) (t .N) j j′ → Stands first last kept j j′
     left : (Worked (length (t .rows)) asked first last j j′ → ⊥) → SameAt j j′ old kept → Stands first last kept j j′
 
   pub record FilledTo (first last : ℕ) (kept : List ℕ) : Type 0 where
@@ -115,14 +116,16 @@ pub record RowHere (cells starts : List ℕ) (count : ℕ) (row : Row) : Type 0 
   pub end-is : row .end ≡ stopOf cells starts count (row .number)
 
 module _ {cells marks starts : List ℕ} {asked : Asked} {old : List ℕ} (t : Task cells marks starts asked old) where
-  -- a row is noted with those after it up to the last one, and the pairs that end there are done from a first row on
-  pub record NotedTo (first last : ℕ) (row : Row) (notes kept : List ℕ) : Type 0 where
+  -- a row is noted with those after it up to the last one, what they agree on weighs so much, and the pairs that end there are done from a
+  -- first row on
+  pub record NotedTo (first last : ℕ) (row : Row) (notes kept : List ℕ) (agreed : ℕ) : Type 0 where
     pub here : RowHere cells starts (asked .count) row
     pub order : row .number ≤ last
     pub inside : last < asked .count
     pub late : asked .since ≤ last
-    pub noted : Noted (t .N) (row .number) (noteIn notes) (row .start) (t .width) (getD (t .rows) (row .number) [])
-        (slice (suc (row .number)) (suc last) (t .rows))
+    pub noted : Noted (t .m) (t .N) (row .number) (noteIn notes) (row .start) (t .width) (getD (t .rows) (row .number) [])
+        (slice (suc (row .number)) (suc last) (t .rows)) agreed
+    pub light : agreed ≤ mostAgreed
     pub filled : FilledTo t first last kept
     pub room : length notes ≡ 192
 

@@ -65,25 +65,25 @@ pub record Small (first : ℕ) (noted : Note) : Type 0 where
 
 -- The notes at the cells of a row, from a cell on, are right: at each place they say what the column there says, of this row and those
 -- after it, in order, all of them from that place on; so many terms are left. Where there is one run the place is closed, and its
--- arguments come next; where there are more the whole term is passed
-pub data Noted (costs : ℕ → ℕ → ℕ) (first : ℕ) (notes : ℕ → Note) : (at terms : ℕ) (row : List ℕ) (rest : List (List ℕ)) → Type 0 where
-  done : {at : ℕ} {row : List ℕ} {rest : List (List ℕ)} → Noted costs first notes at 0 row rest
-  closed : {at terms : ℕ} {row : List ℕ} {rest : List (List ℕ)} → notes at ≡ noteOf costs first (map (root 0) (row ∷ rest))
-      → (notes at) .runs ≡ 1 → Noted costs first notes (suc at) (arity (root 0 row) + terms) (close 0 row) (map (close 0) rest)
-      → Noted costs first notes at (suc terms) row rest
-  opened : {at terms : ℕ} {row : List ℕ} {rest : List (List ℕ)} → notes at ≡ noteOf costs first (map (root 0) (row ∷ rest))
-      → 1 < (notes at) .runs → Noted costs first notes (at + length (front 1 row)) terms (back 1 row) (map (back 1) rest)
-      → Noted costs first notes at (suc terms) row rest
+-- arguments come next; where there are more the whole term is passed. The cells that are closed weigh `agreed`
+pub data Noted (m : Measure) (costs : ℕ → ℕ → ℕ) (first : ℕ) (notes : ℕ → Note)
+    : (at terms : ℕ) (row : List ℕ) (rest : List (List ℕ)) (agreed : ℕ) → Type 0 where
+  done : {at : ℕ} {row : List ℕ} {rest : List (List ℕ)} → Noted m costs first notes at 0 row rest 0
+  closed : {at terms agreed : ℕ} {row : List ℕ} {rest : List (List ℕ)} → notes at ≡ noteOf costs first (map (root 0) (row ∷ rest))
+      → (notes at) .runs ≡ 1 → Noted m costs first notes (suc at) (arity (root 0 row) + terms) (close 0 row) (map (close 0) rest) agreed
+      → Noted m costs first notes at (suc terms) row rest (m .weight (root 0 row) + agreed)
+  opened : {at terms agreed : ℕ} {row : List ℕ} {rest : List (List ℕ)} → notes at ≡ noteOf costs first (map (root 0) (row ∷ rest))
+      → 1 < (notes at) .runs → Noted m costs first notes (at + length (front 1 row)) terms (back 1 row) (map (back 1) rest) agreed
+      → Noted m costs first notes at (suc terms) row rest agreed
 
 -- The notes at a row's cells as they are read, from a cell on, where so many open places are passed, up to the stop, where there are
--- `opens` in all; `ends` is where the term at a cell ends, and `weighs` what the cell weighs. The cells that are closed on the way weigh
--- `agreed`, and the note of each open place is what it has to be
-pub data Shown (notes : ℕ → Note) (ends weighs : ℕ → ℕ) (Is : ℕ → Note → Type 0) (stop opens : ℕ) : (at passed agreed : ℕ) → Type 0 where
-  at-end : Shown notes ends weighs Is stop opens stop opens 0
-  at-closed : {at passed agreed : ℕ} → at < stop → (notes at) .runs ≡ 1 → Shown notes ends weighs Is stop opens (suc at) passed agreed
-      → Shown notes ends weighs Is stop opens at passed (weighs at + agreed)
-  at-open : {at passed agreed : ℕ} → at < stop → at < ends at → 1 < (notes at) .runs → Is passed (notes at)
-      → Shown notes ends weighs Is stop opens (ends at) (suc passed) agreed → Shown notes ends weighs Is stop opens at passed agreed
+-- `opens` in all; `ends` is where the term at a cell ends. The note of each open place is what it has to be
+pub data Shown (notes : ℕ → Note) (ends : ℕ → ℕ) (Is : ℕ → Note → Type 0) (stop opens : ℕ) : (at passed : ℕ) → Type 0 where
+  at-end : Shown notes ends Is stop opens stop opens
+  at-closed : {at passed : ℕ} → at < stop → (notes at) .runs ≡ 1 → Shown notes ends Is stop opens (suc at) passed
+      → Shown notes ends Is stop opens at passed
+  at-open : {at passed : ℕ} → at < stop → at < ends at → 1 < (notes at) .runs → Is passed (notes at)
+      → Shown notes ends Is stop opens (ends at) (suc passed) → Shown notes ends Is stop opens at passed
 
 -- the note of an open place, where the closed cells weigh `agreed`: its price is what its runs cost together, less `agreed` for each run,
 -- and the state's own figure
@@ -101,6 +101,10 @@ endIn marks q = getD marks q 0 / 8
 
 abbrev pub weightIn : List ℕ → ℕ → ℕ
 weightIn marks q = getD marks q 0 % 8
+
+-- a mark has three bits for a weight, and a table 2,050 cells
+abbrev pub mostAgreed : ℕ
+mostAgreed = 14350
 
 pub record MarkOf (m : Measure) (cells : List ℕ) (j mark : ℕ) : Type 0 where
   pub end : EndsAt cells j (mark / 8)
@@ -122,7 +126,8 @@ pub record NextRow (cells marks kept notes : List ℕ) (row new old : ℕ) : Typ
   pub width : ℕ
   pub stop : ℕ
   pub rest : List (List ℕ)
-  pub noted : Noted costs (suc row) (noteIn notes) old width (slice old stop cells) rest
+  pub shared : ℕ
+  pub noted : Noted m costs (suc row) (noteIn notes) old width (slice old stop cells) rest shared
   pub old-terms : Terms width (slice old stop cells)
   pub new-terms : Terms width (slice new old cells)
   pub order : (new ≤ old) × (old ≤ stop) × (stop ≤ length cells) × (length cells ≤ 2050)
@@ -133,24 +138,36 @@ pub record NextRow (cells marks kept notes : List ℕ) (row new old : ℕ) : Typ
   pub small : (i k : ℕ) → i ≤ k → k < count → costs i k ≤ 65535
   pub room : length notes ≡ 192
 
--- with it the new row is noted
+-- with it the new row is noted, and its closed cells weigh `agreed`
 pub record RowNoted {cells marks kept notes : List ℕ} {row new old : ℕ} (given : NextRow cells marks kept notes row new old)
-    (after : List ℕ) : Type 0 where
-  pub noted : Noted (given .costs) row (noteIn after) new (given .width) (slice new old cells) (slice old (given .stop) cells ∷ given .rest)
+    (after : List ℕ) (agreed : ℕ) : Type 0 where
+  pub noted : Noted (given .m) (given .costs) row (noteIn after) new (given .width) (slice new old cells)
+      (slice old (given .stop) cells ∷ given .rest) agreed
+  pub light : agreed ≤ mostAgreed
   pub room : length after ≡ 192
 
--- every cell of a row by itself is closed
-pub record Alone (row at stop : ℕ) (notes : List ℕ) : Type 0 where
-  pub each : (j : ℕ) → at ≤ j → j < stop → noteIn notes j ≡ note 1 0 row
+-- what some cells weigh together
+abbrev pub weightOf : Measure → List ℕ → ℕ
+weightOf m [] = 0
+weightOf m (c ∷ cells) = m .weight c + weightOf m cells
+
+-- what is given where a row is noted by itself, its cells from `at` up to a stop
+pub record LastRow (marks notes : List ℕ) (row at stop : ℕ) : Type 0 where
+  pub m : Measure
+  pub cells : List ℕ
+  pub marked : MarkedTo m cells marks (length cells)
+  pub part : (at ≤ stop) × (stop ≤ length cells) × (length cells ≤ 2050)
+  pub number : row < 64
   pub room : length notes ≡ 192
 
--- what is given where the closed cells of a row are weighed
-pub record Walk (marks notes : List ℕ) (at stop : ℕ) : Type 0 where
-  pub opens : ℕ
-  pub agreed : ℕ
-  pub shown : Shown (noteIn notes) (endIn marks) (weightIn marks) (λ (i : ℕ) (s : Note). Unit {0}) stop opens at 0 agreed
-  pub light : (q : ℕ) → q < stop → weightIn marks q ≤ 5
-  pub within : stop ≤ 2050
+-- every cell of it is closed; so it is noted up to cell q, and with the cells from there on those so far weigh what all of them do
+pub record Alone {marks notes : List ℕ} {row at stop : ℕ} (given : LastRow marks notes row at stop) (q : ℕ) (after : List ℕ) (agreed : ℕ)
+    : Type 0 where
+  pub each : (j : ℕ) → at ≤ j → j < q → noteIn after j ≡ note 1 0 row
+  pub sum : agreed + weightOf (given .m) (slice q stop (given .cells)) ≡ weightOf (given .m) (slice at stop (given .cells))
+  pub order : (at ≤ q) × (q ≤ stop)
+  pub light : agreed ≤ 7 * q
+  pub room : length after ≡ 192
 
 -- What is given where the entry of a pair is read off the notes at the cells of its first row, from `at` up to a stop: the closed cells
 -- weigh `agreed`, each open place has its price, and what a run costs is kept for each that begins at that row and ends before the last
@@ -159,9 +176,9 @@ pub record Pair (marks kept notes : List ℕ) (first at stop agreed figure : ℕ
   pub last : ℕ
   pub prices : ℕ → ℕ
   pub opens : ℕ
-  pub shown : Shown (noteIn notes) (endIn marks) (weightIn marks) (Priced costs first last agreed figure prices) stop opens at 0 agreed
+  pub shown : Shown (noteIn notes) (endIn marks) (Priced costs first last agreed figure prices) stop opens at 0
   pub known : (j : ℕ) → first ≤ j → j < last → readIn kept first j ≡ costs first j
   pub small : (j : ℕ) → first ≤ j → j ≤ last → costs first j ≤ 65535
-  pub few : (agreed ≤ 10250) × (figure ≤ 15)
+  pub few : (agreed ≤ mostAgreed) × (figure ≤ 15)
   pub rows : (first ≤ last) × (last < 64)
   pub within : stop ≤ 2050

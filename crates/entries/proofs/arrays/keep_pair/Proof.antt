@@ -5,7 +5,7 @@ use Rattle.least.specs.code.Best.{leastOver, firstOver}
 use Rattle.entries.specs.declared.arrays.Choice.{Choice}
 use Rattle.entries.specs.code.Notes.{choiceOf}
 use Rattle.entries.specs.code.Filling.{PairAt}
-use Rattle.entries.proofs.KeepLaws.{a, k, F, keep-walk, keep-pair, keep-small, put-same-values}
+use Rattle.entries.proofs.KeepLaws.{k, F, agreed-is, keep-pair, keep-small, put-same-values}
 use borrow.Author.Needs.{needs}
 use Rattle.entries.proofs.arrays.keep_pair.Statement.{statement}
 use Rattle.entries.proofs.arrays.keep_pair.Tie as tie
@@ -13,18 +13,15 @@ use Rattle.entries.proofs.arrays.keep_pair.Tie as tie
 -- what the two calls give, for rows that the pair stands for
 module _ (c : tie.After-cheapest) where
   abbrev start : tie.Start
-  start = c .before .before .before
+  start = c .before .before
 
   abbrev Given : Type 0
   Given = PairAt (start .args .marks .now) (start .args .kept .now) (start .args .notes .now) (start .args .figure) (start .args .row .number)
-      (start .args .last) (start .args .row .start) (start .args .row .end)
+      (start .args .shared .last) (start .args .shared .agreed) (start .args .row .start) (start .args .row .end)
 
 module _ (c : tie.After-cheapest) (g : Given c) where
-  agreed : c .before .before .agreed-in .result ≡ a g
-  agreed = c .before .before .agreed-in .ensures (keep-walk g)
-
   both : c .cheapest .result ≡ choiceOf (leastOver (k g) (F g)) (firstOver (k g) (F g))
-  both = c .cheapest .ensures (keep-pair g (c .before .before .agreed-in .result) agreed)
+  both = c .cheapest .ensures (keep-pair g)
 
   least : c .cheapest .result .cost ≡ leastOver (k g) (F g)
   least = ap (λ (x : Choice). x .cost) both
@@ -32,24 +29,19 @@ module _ (c : tie.After-cheapest) (g : Given c) where
   chosen : c .cheapest .result .place ≡ firstOver (k g) (F g)
   chosen = ap (λ (x : Choice). x .place) both
 
-agreed-in-requires : tie.Need-agreed-in-requires
-agreed-in-requires c κs = keep-walk (c .pre)
-
 cheapest-requires : tie.Need-cheapest-requires
-cheapest-requires c κs =
-    let g = c .before .before .pre in
-    keep-pair g (c .before .agreed-in .result) (c .before .agreed-in .ensures (keep-walk g))
+cheapest-requires c κs = keep-pair (c .before .pre)
 
 mul-pair : tie.Need-mul-pair
 mul-pair c = (let g = start (c .before) .pre in record { fits = omega (arith, g .order, g .inside, g .few) })
 
 add-pair : tie.Need-add-pair
-add-pair c = (let g = start (c .before) .pre in record { fits = omega (arith, g .order, g .inside, g .few) })
+add-pair c = (let g = start (c .before .before) .pre in record { fits = omega (arith, g .order, g .inside, g .few) })
 
 add-kept : tie.Need-add-kept
 add-kept c =
-    let g = start (c .before) .pre in
-    record { fits = omega (arith, agreed (c .before) g, least (c .before) g, keep-small g) }
+    let g = start (c .before .before) .pre in
+    record { fits = omega (arith, least (c .before .before) g, keep-small g) }
 
 mul-kept : tie.Need-mul-kept
 mul-kept c = search needs
@@ -77,16 +69,15 @@ element-write-kept-3 c = search needs
 
 returns : tie.Need-returns
 returns c = λ g.
-    (let s = start (c .before) in
+    (let s = start (c .before .before) in
     record {
-      is = put-same-values (s .args .kept .now) (64 * s .args .row .number + s .args .last) (agreed (c .before) g) (least (c .before) g) (chosen (c .before) g);
+      is = put-same-values (s .args .kept .now) (64 * s .args .row .number + s .args .shared .last) (agreed-is g) (least (c .before .before) g) (chosen (c .before .before) g);
     })
 
 pub keep-pair-spec : {M : Type 1} → statement M
 keep-pair-spec =
     tie.close
     (tie.spec
-    agreed-in-requires
     cheapest-requires
     mul-pair
     add-pair

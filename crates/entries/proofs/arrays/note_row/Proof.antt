@@ -11,35 +11,35 @@ use Rattle.entries.proofs.arrays.note_row.Statement.{statement}
 use Rattle.entries.proofs.arrays.note_row.Tie as tie
 
 abbrev Inv-loop : tie.InvT-loop
-Inv-loop cells marks kept notes₀ number stop p₀ q₀ notes p q =
-    (g : NextRow cells marks kept notes₀ number q₀ stop) → RowAt g notes p q
+Inv-loop cells marks kept notes₀ number stop agreed₀ p₀ q₀ notes agreed p q =
+    (g : NextRow cells marks kept notes₀ number q₀ stop) → RowAt g notes agreed p q
 
 abbrev μ-loop : tie.MeasureT-loop
-μ-loop cells marks kept notes₀ number stop p₀ q₀ notes p q = stop - q
+μ-loop cells marks kept notes₀ number stop agreed₀ p₀ q₀ notes agreed p q = stop - q
 
 loop-holds : tie.Need-loop-holds Inv-loop μ-loop
 loop-holds c = λ g. row-start g
 
 -- where the loop's test has held
 module _ (c : tie.In-loop Inv-loop μ-loop) where
-  safe : RowSafe (c .before .before .before .pre) (c .before .loop .notes) (c .before .loop .p) (c .before .loop .q)
+  safe : RowSafe (c .before .before .before .pre) (c .before .loop .notes) (c .before .loop .agreed) (c .before .loop .p) (c .before .loop .q)
       (c .before .loop .inv (c .before .before .before .pre)) (c .loop-test .taken)
-  safe = row-safe (c .before .before .before .pre) (c .before .loop .notes) (c .before .loop .p) (c .before .loop .q)
+  safe = row-safe (c .before .before .before .pre) (c .before .loop .notes) (c .before .loop .agreed) (c .before .loop .p) (c .before .loop .q)
       (c .before .loop .inv (c .before .before .before .pre)) (c .loop-test .taken)
 
 -- and after the step
 module _ (c : tie.After-after2 Inv-loop μ-loop) where
   abbrev here : tie.In-loop Inv-loop μ-loop
-  here = c .before .before .before .before .before .before .before .before .before
+  here = c .before .before .before .before .before .before .before .before .before .before
 
-  stepped : c .before .before .before .before .next-note .result
+  stepped : c .before .before .before .before .before .next-note .result
       ≡ noteStep (here .before .before .before .args .cells .now) (here .before .before .before .args .kept .now) (here .before .loop .notes)
       (here .before .before .before .args .row .number) (here .before .loop .p) (here .before .loop .q)
   stepped =
-      c .before .before .before .before .next-note .ensures
+      c .before .before .before .before .before .next-note .ensures
       ∙ ap (λ (n : Note). noteNext (readIn (here .before .before .before .args .kept .now)) n (here .before .before .before .args .row .number)
       (getD (here .before .before .before .args .cells .now) (here .before .loop .q) 0) (getD (here .before .before .before .args .cells .now) (here .before .loop .p) 0))
-      (c .before .before .before .before .before .before .before .note-at .ensures)
+      (c .before .before .before .before .before .before .before .before .note-at .ensures)
 
 note-at-requires : tie.Need-note-at-requires Inv-loop μ-loop
 note-at-requires c κs = tt
@@ -62,11 +62,14 @@ next-note-requires c κs = subst (λ (n : Note). Small (c .before .before .befor
 put-note-requires : tie.Need-put-note-requires Inv-loop μ-loop
 put-note-requires c κs = tt
 
+with-closed-requires : tie.Need-with-closed-requires Inv-loop μ-loop
+with-closed-requires c κs = (let s = safe (c .before .before .before .before .before .before .before) in (s .q-small, s .light))
+
 after-requires : tie.Need-after-requires Inv-loop μ-loop
-after-requires c κs = safe (c .before .before .before .before .before .before .before) .p-small
+after-requires c κs = safe (c .before .before .before .before .before .before .before .before) .p-small
 
 after-requires-2 : tie.Need-after-requires-2 Inv-loop μ-loop
-after-requires-2 c κs = safe (c .before .before .before .before .before .before .before .before) .q-small
+after-requires-2 c κs = safe (c .before .before .before .before .before .before .before .before .before) .q-small
 
 loop-less : tie.Need-loop-less Inv-loop μ-loop
 loop-less c =
@@ -77,14 +80,14 @@ loop-less c =
       i .loop-test .taken,
       c .after2 .ensures,
       ap (λ (n : Note). cond (eqb (n .runs) 1) (i .before .loop .q + 1) (endIn (i .before .before .before .args .marks .now) (i .before .loop .q))) (stepped c),
-      row-more g (i .before .loop .notes) (i .before .loop .p) (i .before .loop .q) (i .before .loop .inv g) (i .loop-test .taken),
+      row-more g (i .before .loop .notes) (i .before .loop .agreed) (i .before .loop .p) (i .before .loop .q) (i .before .loop .inv g) (i .loop-test .taken),
     )
 
 loop-again : tie.Need-loop-again Inv-loop μ-loop
 loop-again c = λ g.
     let i = here c in
-    rw (c .before .before .put-note .ensures, c .before .after .ensures, c .after2 .ensures, stepped c)
-    (row-step g (i .before .loop .notes) (i .before .loop .p) (i .before .loop .q) (i .before .loop .inv g) (i .loop-test .taken))
+    rw (c .before .before .before .put-note .ensures, c .before .before .with-closed .ensures, c .before .after .ensures, c .after2 .ensures, stepped c)
+    (row-step g (i .before .loop .notes) (i .before .loop .agreed) (i .before .loop .p) (i .before .loop .q) (i .before .loop .inv g) (i .loop-test .taken))
 
 returns : tie.Need-returns Inv-loop μ-loop
 returns c = λ g. row-end g (c .before .loop .inv g) (c .loop-test .left)
@@ -103,6 +106,7 @@ note-row-spec =
     shared-slice-read-next-note-2
     next-note-requires
     put-note-requires
+    with-closed-requires
     after-requires
     after-requires-2
     loop-less

@@ -5,17 +5,18 @@ use Prim.Native.Nat.{ℕ, suc, _≤_}
 use lib.ListN.{length-replicate}
 use Rattle.entries.specs.declared.arrays.Row.{Row}
 use Rattle.entries.specs.code.Filling.{Task, NotedTo, LastAt}
-use Rattle.entries.proofs.FillLaws.{row-small, last-noted, pair-at, pair-kept, next-row, next-noted, rows-done}
+use Rattle.entries.proofs.FillLaws.{last-row, last-noted, pair-at, pair-kept, next-row, next-noted, rows-done}
 use Rattle.entries.proofs.arrays.pairs_to.Statement.{statement}
 use Rattle.entries.proofs.arrays.pairs_to.Tie as tie
 
 -- for each task for which it is so where the loop begins, a row is noted and its pair is done
 abbrev Inv-loop : tie.InvT-loop
-Inv-loop cells marks starts kept₀ asked last notes₀ first₀ kept notes first =
-    (old : List ℕ) (t : Task cells marks starts asked old) → NotedTo t (first₀ .number) last first₀ notes₀ kept₀ → NotedTo t (first .number) last first notes kept
+Inv-loop cells marks starts kept₀ asked last notes₀ agreed₀ first₀ kept notes agreed first =
+    (old : List ℕ) (t : Task cells marks starts asked old) → NotedTo t (first₀ .number) last first₀ notes₀ kept₀ agreed₀
+    → NotedTo t (first .number) last first notes kept agreed
 
 abbrev μ-loop : tie.MeasureT-loop
-μ-loop cells marks starts kept₀ asked last notes₀ first₀ kept notes first = first .number
+μ-loop cells marks starts kept₀ asked last notes₀ agreed₀ first₀ kept notes agreed first = first .number
 
 -- what is given
 abbrev Given : tie.Start Inv-loop μ-loop → Type 0
@@ -26,16 +27,19 @@ module _ (c : tie.After-note-last Inv-loop μ-loop) where
   abbrev start : tie.Start Inv-loop μ-loop
   start = c .before .before .before
 
-  row-noted : (g : Given start) → NotedTo (g .task) (suc (start .args .row .number)) (start .args .row .number) (start .args .row) (c .note-last .last .0) (start .args .kept .now)
-  row-noted g = last-noted (g .task) (g .here) (g .late) (g .filled) (c .note-last .ensures)
+  row-noted : (g : Given start) → NotedTo (g .task) (suc (start .args .row .number)) (start .args .row .number) (start .args .row) (c .note-last .last .1 .0) (start .args .kept .now)
+      (c .note-last .result)
+  row-noted g =
+      last-noted (g .task) (g .here) (g .late) (g .filled) (length-replicate {A = ℕ} 192 0)
+      (c .note-last .ensures (last-row (g .task) (g .here) (length-replicate {A = ℕ} 192 0)))
 
 -- and its pair
 module _ (c : tie.After-keep-before Inv-loop μ-loop) where
   abbrev noted : tie.After-note-last Inv-loop μ-loop
   noted = c .before .before .before
 
-  row-kept : (g : Given (start noted)) → NotedTo (g .task) (start noted .args .row .number) (start noted .args .row .number) (start noted .args .row) (noted .note-last .last .0)
-      (c .keep-before .last .1 .0)
+  row-kept : (g : Given (start noted)) → NotedTo (g .task) (start noted .args .row .number) (start noted .args .row .number) (start noted .args .row) (noted .note-last .last .1 .0)
+      (c .keep-before .last .1 .0) (noted .note-last .result)
   row-kept g = pair-kept (g .task) (row-noted noted g) (c .keep-before .ensures (pair-at (g .task) (row-noted noted g)))
 
 -- one row more in front
@@ -50,19 +54,18 @@ module _ (c : tie.After-note-row Inv-loop μ-loop) where
   entry = start (noted (loop .before))
 
   next-row-noted : {old : List ℕ} (t : Task (entry .args .cells .now) (entry .args .marks .now) (entry .args .starts .now) (entry .args .asked) old)
-      → NotedTo t (loop .loop .first .number) (entry .args .row .number) (loop .loop .first) (loop .loop .notes) (loop .loop .kept)
+      → NotedTo t (loop .loop .first .number) (entry .args .row .number) (loop .loop .first) (loop .loop .notes) (loop .loop .kept) (loop .loop .agreed)
       → NotedTo t (suc (c .before .before .before .row-before .result .number)) (entry .args .row .number) (c .before .before .before .row-before .result)
-      (c .note-row .last .1 .1 .1 .0) (loop .loop .kept)
+      (c .note-row .last .1 .1 .1 .0) (loop .loop .kept) (c .note-row .result)
   next-row-noted t x =
       let r = c .before .before .before .row-before in
-      next-noted t x (turn .if1 .taken) (r .result) (r .ensures) (c .note-row .last .1 .1 .1 .0)
+      next-noted t x (turn .if1 .taken) (r .result) (r .ensures) (c .note-row .last .1 .1 .1 .0) (c .note-row .result)
       (c .note-row .ensures (next-row t x (turn .if1 .taken) (r .result) (r .ensures)))
 
 note-last-requires : tie.Need-note-last-requires Inv-loop μ-loop
 note-last-requires c κs =
     let g = c .before .before .pre in
-    let b = row-small (g .task) (g .here) in
-    (b .0, b .1, length-replicate {A = ℕ} 192 0)
+    last-row (g .task) (g .here) (length-replicate {A = ℕ} 192 0)
 
 keep-before-requires : tie.Need-keep-before-requires Inv-loop μ-loop
 keep-before-requires c κs =
