@@ -5,10 +5,13 @@ use mathlib.Core.Logic.{_≢_, _↔_}
 use Prim.Native.Nat.{ℕ, _+_, _*_, _/_, _%_, _≤_, _<_, _^_}
 use native.Mathlib.Omega.{arith}
 use lib.Dec.{eqb, leb}
+use lib.IntN.{ℤ}
 use borrow.Author.Tests.{ne-eqb, le-leb, lt-leb, leb-true, leb-false, eqb-true, eqb-false}
-use Rattle.cell.specs.Cell.{kindOf, argsOf, numberOf, middleOf, variableCell, nameCell, numberCell, Cell, variable, name, number, Values, values, refused, valuesAt, valuesOf, arity, isVar}
+use Rattle.cell.specs.Signed.{signedOf, bitsOf}
+use Rattle.cell.specs.Cell.{kindOf, argsOf, numberOf, middleOf, variableCell, nameCell, numberCell, Cell, variable, name, number, Values, values, numberValues, refused, valuesAt, valuesOf, arity, isVar}
 use Rattle.cell.specs.declared.Shape.{Shape}
 use Rattle.cell.specs.declared.Shape.the-variants.{Variable, Name, Number, Refused}
+use Rattle.cell.proofs.SignedLaws.{bits-signed}
 
 -- the values, by the first test that holds
 module _ (c : ℕ) where
@@ -28,9 +31,15 @@ module _ (c : ℕ) where
   unfolding valuesAt
   no-name k m = simp (k, lt-leb _ _ m)
 
-  pub is-number : kindOf c ≡ 2 → middleOf c ≡ 0 → valuesAt c ≡ values 2 0 (numberOf c)
+  pub is-number : kindOf c ≡ 2 → middleOf c ≡ 0 → valuesAt c ≡ numberValues (numberOf c) (signedOf (numberOf c))
   unfolding valuesAt
   is-number k m = simp (k, m)
+
+  -- what has its value has its bits
+  pub signed-number : {z : ℤ} → kindOf c ≡ 2 → middleOf c ≡ 0 → z ≡ signedOf (numberOf c) → numberValues (bitsOf z) z ≡ valuesAt c
+  signed-number {z} k m e =
+      let b : bitsOf z ≡ numberOf c = ap bitsOf e ∙ bits-signed (numberOf c) (omega arith) in
+      rw (b, e) (sym (is-number k m))
 
   pub no-number : kindOf c ≡ 2 → middleOf c ≢ 0 → valuesAt c ≡ refused
   unfolding valuesAt
@@ -52,7 +61,7 @@ module _ (c : ℕ) where
 pub data Reading (c : ℕ) : Values → Type 0 where
   a-variable : kindOf c ≡ 0 → middleOf c ≡ 0 → Reading c (values 0 0 (numberOf c))
   a-name : kindOf c ≡ 1 → middleOf c ≤ 4 → Reading c (values 1 (argsOf c) (numberOf c))
-  a-number : kindOf c ≡ 2 → middleOf c ≡ 0 → Reading c (values 2 0 (numberOf c))
+  a-number : kindOf c ≡ 2 → middleOf c ≡ 0 → Reading c (numberValues (numberOf c) (signedOf (numberOf c)))
   no-cell : ¬ Cell c → Reading c refused
 
 by-test : {c : ℕ} (b : Bool) {x y : Values} → (b ≡ true → Reading c x) → (b ≡ false → Reading c y) → Reading c (cond b x y)
@@ -115,12 +124,12 @@ built-name a n l h =
     let m : middleOf (nameCell a n) ≡ a = rw d (middle-of 1 a l) in
     is-name (nameCell a n) (omega arith) (omega arith) ∙ rw (e, f)
 
-pub built-number : (n : ℕ) → n < 2 ^ 16 → valuesAt (numberCell n) ≡ values 2 0 n
+pub built-number : (n : ℕ) → n < 2 ^ 16 → valuesAt (numberCell n) ≡ numberValues n (signedOf n)
 built-number n h =
     let e : numberOf (numberCell n) ≡ n = omega arith in
     let d : numberCell n / 2 ^ 16 ≡ 2 * 2 ^ 14 + 0 = omega arith in
     let m : middleOf (numberCell n) ≡ 0 = rw d (middle-of 2 0 (omega arith)) in
-    is-number (numberCell n) (omega arith) (omega arith) ∙ ap (values 2 0) e
+    is-number (numberCell n) (omega arith) (omega arith) ∙ ap (λ (m : ℕ). numberValues m (signedOf m)) e
 
 -- a cell of 01 is one that is not refused
 cell-of : (c : ℕ) {v : Values} → Reading c v → v .kind ≢ 3 → Cell c
@@ -155,6 +164,16 @@ values-small c = few-args c (reading c)
 pub arity-small : (c : ℕ) → arity c ≤ 4
 unfolding arity
 arity-small c = values-small c .0
+
+-- a number's value is that of its 16 bits
+number-by : (c : ℕ) {v : Values} → Reading c v → v .kind ≡ 2 → v .value ≡ signedOf (numberOf c)
+number-by c (a-variable k m) e = absurd (omega arith)
+number-by c (a-name k m) e = absurd (omega arith)
+number-by c (a-number k m) e = refl
+number-by c (no-cell n) e = absurd (omega arith)
+
+pub number-value : (c : ℕ) → valuesAt c .kind ≡ 2 → valuesAt c .value ≡ signedOf (numberOf c)
+number-value c = number-by c (reading c)
 
 -- only a name has arguments
 no-args : (c : ℕ) {v : Values} → Reading c v → kindOf c ≢ 1 → v .args ≡ 0
@@ -202,13 +221,13 @@ isVar-kind c = var-by c (reading c)
 
 -- 01's values tell the enum's cases apart: each case is found again from its values
 shapeIn : Values → Shape
-shapeIn v = cond (eqb (v .kind) 0) (Variable (v .number)) (cond (eqb (v .kind) 1) (Name (v .args) (v .number)) (cond (eqb (v .kind) 2) (Number (v .number)) Refused))
+shapeIn v = cond (eqb (v .kind) 0) (Variable (v .number)) (cond (eqb (v .kind) 1) (Name (v .args) (v .number)) (cond (eqb (v .kind) 2) (Number (v .value)) Refused))
 
 shape-found : (s : Shape) → shapeIn (valuesOf s) ≡ s
 unfolding shapeIn
 shape-found (Variable n) = refl
 shape-found (Name a n) = refl
-shape-found (Number n) = refl
+shape-found (Number z) = refl
 shape-found Refused = refl
 
 pub valuesOf-one : {s t : Shape} → valuesOf s ≡ valuesOf t → s ≡ t

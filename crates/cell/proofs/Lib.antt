@@ -1,3 +1,4 @@
 pub mod Pack
+pub mod SignedLaws
 pub mod CellLaws
 pub mod Fixed

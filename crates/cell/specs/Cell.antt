@@ -2,6 +2,8 @@
 use Prim.Native.Nat.{ℕ, _+_, _*_, _/_, _%_, _^_, _≤_, _<_}
 use mathlib.Core.Bool.{Bool, cond}
 use lib.Dec.{eqb, leb}
+use lib.IntN.{ℤ, pos}
+use Rattle.cell.specs.Signed.{signedOf, bitsOf}
 use Rattle.cell.specs.declared.Shape.{Shape}
 use Rattle.cell.specs.declared.Shape.the-variants.{Variable, Name, Number, Refused}
 
@@ -13,7 +15,7 @@ kindOf c = c / 2 ^ 30
 abbrev pub argsOf : ℕ → ℕ
 argsOf c = c / 2 ^ 16 % 2 ^ 3
 
--- 01, the column "other bits": bits 15..0, the number or value
+-- 01, the column "other bits": bits 15..0, the number, or the 16 bits of a value
 abbrev pub numberOf : ℕ → ℕ
 numberOf c = c % 2 ^ 16
 
@@ -38,14 +40,20 @@ pub data Cell : ℕ → Type 0 where
   name : {a n : ℕ} → a ≤ 4 → n < 2 ^ 16 → Cell (nameCell a n)
   number : {n : ℕ} → n < 2 ^ 16 → Cell (numberCell n)
 
--- 01's values of a cell: its kind (3 where it is refused), its number of arguments, its number
+-- 01's values of a cell: its kind (3 where it is refused), its number of arguments, its number; and 02's, W-206: "the cell's reading gives
+-- a signed value". Of a variable and a name that is their number
 pub record Values : Type 0 where
   pub kind : ℕ
   pub args : ℕ
   pub number : ℕ
+  pub value : ℤ
 
 abbrev pub values : ℕ → ℕ → ℕ → Values
-values k a n = record { kind = k; args = a; number = n }
+values k a n = record { kind = k; args = a; number = n; value = pos n }
+
+-- a number: its 16 bits and its value
+abbrev pub numberValues : ℕ → ℤ → Values
+numberValues n z = record { kind = 2; args = 0; number = n; value = z }
 
 abbrev pub refused : Values
 refused = values 3 0 0
@@ -55,14 +63,14 @@ unfoldable pub valuesAt : ℕ → Values
 valuesAt c =
     cond (eqb (kindOf c) 0) (cond (eqb (middleOf c) 0) (values 0 0 (numberOf c)) refused)
     (cond (eqb (kindOf c) 1) (cond (leb (middleOf c) 4) (values 1 (argsOf c) (numberOf c)) refused)
-    (cond (eqb (kindOf c) 2) (cond (eqb (middleOf c) 0) (values 2 0 (numberOf c)) refused)
+    (cond (eqb (kindOf c) 2) (cond (eqb (middleOf c) 0) (numberValues (numberOf c) (signedOf (numberOf c))) refused)
     refused))
 
 -- 01's values for each case of the enum that the code answers
 abbrev pub valuesOf : Shape → Values
 valuesOf (Variable n) = values 0 0 n
 valuesOf (Name a n) = values 1 a n
-valuesOf (Number n) = values 2 0 n
+valuesOf (Number z) = numberValues (bitsOf z) z
 valuesOf Refused = refused
 
 -- 01, "each symbol before its arguments": how many terms follow a cell as its arguments

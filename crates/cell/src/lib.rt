@@ -2,6 +2,7 @@
 // cells built again by them. Every function takes any number at all.
 ghost use mathlib.Core.Path.{_≡_};
 ghost use Prim.Native.Nat.{_%_, _^_};
+ghost use Rattle.cell.specs.Signed.{signedOf};
 ghost use Rattle.cell.specs.Cell.{kindOf, argsOf, numberOf, middleOf, variableCell, nameCell, numberCell, valuesAt, valuesOf, arity};
 
 // Bits 31..30.
@@ -18,11 +19,23 @@ pub fn args(c: u32) -> u32
     (c >> 16) & 7
 }
 
-// Bits 15..0: the number of a variable or a name, the value of a number.
+// Bits 15..0: the number of a variable or a name, the 16 bits of a number.
 pub fn number(c: u32) -> u32
     ensures { λ r. ⌜ r ≡ numberOf c ⌝ }
 {
     c & 0xffff
+}
+
+// The value of bits 15..0 as two's complement (02, W-206): -32,768 to 32,767.
+fn signed(c: u32) -> i32
+    ensures { λ r. ⌜ r ≡ signedOf (numberOf c) ⌝ }
+{
+    let n = number(c);
+    if n < 32768 {
+        n as i32
+    } else {
+        n as i32 - 65536
+    }
 }
 
 // Bits 29..16: zero, or the number of arguments of a name.
@@ -58,8 +71,8 @@ pub enum Shape {
     Variable(u32),
     // its number of arguments, 0 to 4, and its number
     Name(u32, u32),
-    // its value
-    Number(u32),
+    // its value, -32,768 to 32,767
+    Number(i32),
     // no cell of 01
     Refused,
 }
@@ -79,7 +92,7 @@ pub fn shape_of(c: u32) -> Shape
             _ => Shape::Refused,
         },
         2 => match m {
-            0 => Shape::Number(number(c)),
+            0 => Shape::Number(signed(c)),
             _ => Shape::Refused,
         },
         _ => Shape::Refused,

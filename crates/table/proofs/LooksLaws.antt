@@ -7,10 +7,11 @@ use native.Mathlib.Numerals.{add-one}
 use native.Mathlib.Nat.{add-zero}
 use native.Mathlib.Omega.{arith}
 use lib.Dec.{eqb, leb}
+use lib.IntN.{ℤ}
 use lib.ListN.{length, getD, take, drop, length-drop}
 use lib.Seq.{slice, slice-cons, slice-empty, take-all, take-nil}
 use borrow.Author.Tests.{ne-eqb, lt-ltb, le-ltb, le-leb, lt-leb}
-use Rattle.cell.specs.Cell.{values, valuesAt, arity}
+use Rattle.cell.specs.Cell.{values, numberValues, valuesAt, arity}
 use Rattle.cell.specs.Cell as cell-specs
 use Rattle.term.specs.declared.End.{End}
 use Rattle.term.specs.declared.End.the-variants.{At, Short}
@@ -36,7 +37,7 @@ module _ (row : Bool) (c vars p : ℕ) where
   unfolding cellFrom
   a-name e = rw (e, and-false row)
 
-  pub a-number : {n : ℕ} → valuesAt c ≡ values 2 0 n → cellFrom row c vars p ≡ read vars
+  pub a-number : {n : ℕ} {z : ℤ} → valuesAt c ≡ numberValues n z → cellFrom row c vars p ≡ read vars
   unfolding cellFrom
   a-number e = rw (e, and-false row)
 

@@ -31,7 +31,7 @@ pub data Seen (row : Bool) (c vars : ℕ) : Read ℕ → Type 0 where
 
 module _ (row : Bool) (c vars p : ℕ) where
   -- an allowed cell, by its kind
-  allowed : {k a n : ℕ} → valuesAt c ≡ values k a n → k < 3 → Cell c × (isVar c ≡ eqb k 0)
+  allowed : {v : Values} → valuesAt c ≡ v → v .kind < 3 → Cell c × (isVar c ≡ eqb (v .kind) 0)
   allowed e h =
       let q : valuesAt c .kind ≢ 3 = λ z. omega (arith, ap (λ (v : Values). v .kind) e) in
       (cell-accepted c .1 q, rw e at (isVar-kind c q))

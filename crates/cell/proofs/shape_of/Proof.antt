@@ -1,6 +1,8 @@
 use mathlib.Core.Path.{sym}
 use native.Mathlib.Omega.{arith}
-use Rattle.cell.proofs.CellLaws.{is-variable, no-variable, is-name, no-name, is-number, no-number, no-kind}
+use Rattle.cell.specs.Cell.{numberOf}
+use Rattle.cell.proofs.SignedLaws.{stored}
+use Rattle.cell.proofs.CellLaws.{is-variable, no-variable, is-name, no-name, signed-number, no-number, no-kind}
 use borrow.Author.Needs.{needs}
 use Rattle.cell.proofs.shape_of.Statement.{statement}
 use Rattle.cell.proofs.shape_of.Tie as tie
@@ -20,8 +22,8 @@ args-requires c κs = search needs
 number-requires-2 : tie.Need-number-requires-2
 number-requires-2 c κs = search needs
 
-number-requires-3 : tie.Need-number-requires-3
-number-requires-3 c κs = search needs
+signed-requires : tie.Need-signed-requires
+signed-requires c κs = search needs
 
 returns : tie.Need-returns
 returns c = rw (c .number .ensures) (sym (is-variable _ (omega arith) (omega arith)))
@@ -36,7 +38,9 @@ returns-4 : tie.Need-returns-4
 returns-4 c = sym (no-name _ (omega arith) (omega arith))
 
 returns-5 : tie.Need-returns-5
-returns-5 c = rw (c .number3 .ensures) (sym (is-number _ (omega arith) (omega arith)))
+returns-5 c =
+    let n = numberOf (c .before .before .before .before .before .args .c) in
+    signed-number _ (omega arith) (omega arith) (stored n (omega arith) (c .signed .ensures))
 
 returns-6 : tie.Need-returns-6
 returns-6 c = sym (no-number _ (omega arith) (λ e. c .match3 .rest .1 (omega arith)))
@@ -53,7 +57,7 @@ shape-of-spec =
     number-requires
     args-requires
     number-requires-2
-    number-requires-3
+    signed-requires
     returns
     returns-2
     returns-3
