@@ -11,7 +11,7 @@ use lib.Seq.{set-append-seam}
 use borrow.Author.Tests.{leb-true, le-leb, lt-leb, lt-ltb, eqb-true, ne-eqb}
 use Rattle.grammar.specs.Grammar as G
 use Rattle.grammar.specs.Grammar.{isLower, isUpper, isDigit, isWord, Blank, space, feed, return, Line, Gap, Word, Digits, Symbol, Term, Args, Fact, fact, OneFact, Facts, Text}
-use Rattle.grammar.specs.code.Reader.{Mode, first, head, arg, word, digits, after, closed, stop, between, remark, Frame, frame, Work, work, nothing, go, isBlank, layout, push, put, comma, close, past, step, reads, before, finish, run, textOf, Rests, Ends}
+use Rattle.grammar.specs.code.Reader.{Mode, first, head, arg, word, minus, digits, after, closed, stop, between, remark, Frame, frame, Work, work, nothing, go, isBlank, layout, push, put, comma, close, past, limit, bitsAfter, step, reads, before, finish, run, textOf, Rests, Ends}
 
 -- a comment
 pub run-line : {p q : ℕ} {xs ys : List ℕ} (m : Mode) (w : Work) → Line p xs q ys → run xs (remark m) w p ≡ run ys m w q
@@ -139,15 +139,18 @@ pub digits-grow : {v p q n : ℕ} {xs ys : List ℕ} → Digits v p xs q ys n �
 digits-grow G.none = omega arith
 digits-grow (G.more e d) = omega (arith, digits-grow d)
 
-pub run-digits : {v p q n : ℕ} {xs ys : List ℕ} (w : Work) → Digits v p xs q ys n → n ≤ 65535 → run xs (digits v) w p ≡ run ys (digits n) w q
+pub run-digits : {v p q n : ℕ} {xs ys : List ℕ} (sign : Bool) (w : Work) → Digits v p xs q ys n → n ≤ limit sign
+    → run xs (digits sign v) w p ≡ run ys (digits sign n) w q
 unfolding run step
-run-digits w G.none h = refl
-run-digits {v} w (G.more {digit = b} e d) h = rw (e, le-leb (10 * v + (b - 48)) 65535 (omega (arith, digits-grow d))) (run-digits w d h)
+run-digits sign w G.none h = refl
+run-digits {v} sign w (G.more {digit = b} e d) h =
+    rw (e, le-leb (10 * v + (b - 48)) (limit sign) (omega (arith, digits-grow d))) (run-digits sign w d h)
 
-pub digits-end : (v : ℕ) (w : Work) (p : ℕ) (xs : List ℕ) → Follows xs → run xs (digits v) w p ≡ run xs after (put (G.number v) w) p
+pub digits-end : (sign : Bool) (v : ℕ) (w : Work) (p : ℕ) (xs : List ℕ) → Follows xs
+    → run xs (digits sign v) w p ≡ run xs after (put (G.number (bitsAfter sign v)) w) p
 unfolding run step finish
-digits-end v w p [] f = refl
-digits-end v w p (b ∷ xs) f = rw (f .2)
+digits-end sign v w p [] f = refl
+digits-end sign v w p (b ∷ xs) f = rw (f .2)
 
 -- the ranges of the bytes are apart
 or-true : (a b : Bool) → (a || b) ≡ true → (a ≡ true) ⊎ (b ≡ true)
@@ -185,9 +188,18 @@ pub at-upper : (b : ℕ) (xs : List ℕ) (w : Work) (p : ℕ) → isUpper b ≡ 
 unfolding run step
 at-upper b xs w p e = rw (not-lower b (upper-below b e), e)
 
-pub at-digit : (b : ℕ) (xs : List ℕ) (w : Work) (p : ℕ) → isDigit b ≡ true → run (b ∷ xs) arg w p ≡ run xs (digits (b - 48)) w (suc p)
+pub at-digit : (b : ℕ) (xs : List ℕ) (w : Work) (p : ℕ) → isDigit b ≡ true → run (b ∷ xs) arg w p ≡ run xs (digits false (b - 48)) w (suc p)
 unfolding run step
 at-digit b xs w p e = rw (not-lower b (omega (arith, digit-below b e)), not-upper b (digit-below b e), e)
+
+-- a minus sign, and the first digit after it
+pub at-minus : (xs : List ℕ) (w : Work) (p : ℕ) → run (45 ∷ xs) arg w p ≡ run xs minus w (suc p)
+unfolding run step isLower isUpper isDigit
+at-minus xs w p = refl
+
+pub after-minus : (b : ℕ) (xs : List ℕ) (w : Work) (p : ℕ) → isDigit b ≡ true → run (b ∷ xs) minus w p ≡ run xs (digits true (b - 48)) w (suc p)
+unfolding run step
+after-minus b xs w p e = rw e
 
 -- of a fact
 pub at-first : (b : ℕ) (xs : List ℕ) (w : Work) (p : ℕ) → isLower b ≡ true → run (b ∷ xs) first w p ≡ run xs (head p) w (suc p)
@@ -259,7 +271,10 @@ mutual
       ∙ run-args (w .start) (w .end) (w .done) (length (w .out)) p r (w .opened) (w .out ++ (G.name p r 0 ∷ [])) as′ h
       ∙ ap (λ (o : List Symbol). run ys after (work (w .start) (w .end) (w .done) (w .opened) o) q) (named (w .out) ss (G.name p r 0) (G.name p r (suc d)))
   run-term w (G.is-variable {p = p} {b = b} {q = q} {xs = xs} {ys = ys} e l) f = at-upper b xs w p e ∙ run-word false p w l ∙ variable-ends p w q ys (follows-ends ys f)
-  run-term w (G.is-number {p = p} {b = b} {q = q} {n = n} {xs = xs} {ys = ys} e d h) f = at-digit b xs w p e ∙ run-digits w d h ∙ digits-end n w q ys f
+  run-term w (G.is-number {p = p} {b = b} {q = q} {n = n} {xs = xs} {ys = ys} e d h) f = at-digit b xs w p e ∙ run-digits false w d h ∙ digits-end false n w q ys f
+  run-term w (G.is-negative {p = p} {b = b} {q = q} {n = n} {xs = xs} {ys = ys} e d h z) f =
+      at-minus (b ∷ xs) w p ∙ after-minus b xs w (suc p) e ∙ run-digits true w d h ∙ digits-end true n w q ys f
+      ∙ ap (λ (v : ℕ). run ys after (puts (G.number v ∷ []) w) q) (sym z)
 
   pub run-args : {c p q d : ℕ} {xs ys : List ℕ} {ss : List Symbol} (s n k i a m : ℕ) (fs : List Frame) (out : List Symbol) → Args c p xs q ys d ss → d ≤ 3
       → run xs arg (work s n k (frame i a m c ∷ fs) out) p ≡ run ys after (work s n k fs (set (out ++ ss) i (G.name a m (suc d)))) q

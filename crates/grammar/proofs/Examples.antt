@@ -53,8 +53,14 @@ cases =
     ∷ stops "p()." Text 2
     ∷ stops "p('a')." Text 2
     ∷ stops "p([])." Text 2
-    ∷ stops "p(-1)." Text 2
+    ∷ stops "p(+1)." Text 2
     ∷ stops "p(9a)." Text 3
+    ∷ stops "p(- 1)." Text 3
+    ∷ stops "p(--1)." Text 3
+    ∷ stops "p(-a)." Text 3
+    ∷ stops "p(-%\n1)." Text 3
+    ∷ stops "p(-" Text 3
+    ∷ stops "p(a-1)." Text 3
     ∷ stops "p(A(a))." Text 3
     ∷ stops "p(a)" Text 4
     ∷ stops "p(f (a))." Text 4
@@ -62,7 +68,8 @@ cases =
     ∷ stops "p(a):-q." Text 4
     ∷ stops "p(a).p(b)." Text 5
     ∷ stops "p(a).\t" Text 5
-    ∷ stops "p(65536)." Text 6
+    ∷ stops "p(32768)." Text 6
+    ∷ stops "p(-32769)." Text 7
     ∷ stops "p(a). ." Text 6
     ∷ stops "p(f(a,b,c,d,e))." Text 11
     ∷ stops "p(a). q(b). !" Text 12
@@ -76,7 +83,10 @@ cases =
     ∷ means "p(f,f(a))." (2 ∷ 1 ∷ nameCell 0 0 ∷ nameCell 1 0 ∷ nameCell 0 1 ∷ []) (at 2 1 ∷ at 6 1 ∷ [])
     ∷ means "p(_,_X,_Y,_)." (4 ∷ 1 ∷ variableCell 0 ∷ variableCell 1 ∷ variableCell 2 ∷ variableCell 3 ∷ []) []
     ∷ means "p(X,_,X)." (3 ∷ 1 ∷ variableCell 0 ∷ variableCell 1 ∷ variableCell 0 ∷ []) []
-    ∷ means "p(00000065535,09)." (2 ∷ 1 ∷ numberCell 65535 ∷ numberCell 9 ∷ []) []
+    ∷ means "p(00000032767,09)." (2 ∷ 1 ∷ numberCell 32767 ∷ numberCell 9 ∷ []) []
+    ∷ means "p(-1,-32768,-0)." (3 ∷ 1 ∷ numberCell 65535 ∷ numberCell 32768 ∷ numberCell 0 ∷ []) []
+    ∷ means "p(32767). p(-7)." (1 ∷ 2 ∷ numberCell 32767 ∷ numberCell 65529 ∷ []) []
+    ∷ means "p(-00,f(-007))." (2 ∷ 1 ∷ numberCell 0 ∷ nameCell 1 0 ∷ numberCell 65529 ∷ []) (at 6 1 ∷ [])
     ∷ means "%x\n p( a , B )\r\n.%" (2 ∷ 1 ∷ nameCell 0 0 ∷ variableCell 0 ∷ []) (at 7 1 ∷ [])
     ∷ means
     "p(red,X,f(red,_,09)). % c\np(blue,_,9)."

@@ -12,4 +12,5 @@ pub mod FirstLaws
 pub mod RowLaws
 pub mod Numbered
 pub mod Other
+pub mod Written
 pub mod Examples

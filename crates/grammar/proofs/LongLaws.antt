@@ -45,6 +45,7 @@ mutual
   term-long (G.is-compound e l as′ h) = let w = word-on l in let a = args-long as′ in (omega (arith, w .0, a .0), omega (arith, w .1, a .1))
   term-long (G.is-variable e l) = let w = word-on l in (omega (arith, w .0), omega (arith, w .1))
   term-long (G.is-number e d h) = let w = digits-on d in (omega (arith, w .0), omega (arith, w .1))
+  term-long (G.is-negative e d h z) = let w = digits-on d in (omega (arith, w .0), omega (arith, w .1))
 
   pub args-long : {c p q d : ℕ} {xs ys : List ℕ} {ss : List Symbol} → Args c p xs q ys d ss → (p + 2 * length ss ≤ q) × (p + length xs ≡ q + length ys)
   args-long (G.last g t h) =

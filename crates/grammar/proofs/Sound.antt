@@ -10,7 +10,7 @@ use lib.ListN.{length, set}
 use borrow.Author.Tests.{leb-true, ltb-true, eqb-true}
 use Rattle.grammar.specs.Grammar as G
 use Rattle.grammar.specs.Grammar.{isLower, isUpper, isDigit, isWord, Blank, space, feed, return, Line, Gap, Word, Digits, Symbol, Term, Args, Fact, fact, OneFact, Facts, Text}
-use Rattle.grammar.specs.code.Reader.{Mode, first, head, arg, word, digits, after, closed, stop, between, remark, Frame, frame, Work, work, nothing, dead, isBlank, layout, push, put, comma, past, step, Out, stops, reads, before, finish, run, textOf, Solid, Ends}
+use Rattle.grammar.specs.code.Reader.{Mode, first, head, arg, word, minus, digits, after, closed, stop, between, remark, Frame, frame, Work, work, nothing, dead, isBlank, layout, push, put, comma, past, limit, bitsAfter, step, Out, stops, reads, before, finish, run, textOf, Solid, Ends}
 use Rattle.grammar.proofs.Complete.{run-gap, rests-first, rests-arg, rests-after, rests-closed, run-word, run-head, name-ends, variable-ends, at-open, at-head-open, at-comma, at-close, at-fact-comma, at-fact-close, at-stop, puts, named, set-over, run-stop}
 
 -- a stop is no reading
@@ -88,30 +88,31 @@ unfolding layout
 not-layout m w b e h = rw (e, h)
 
 -- a number
-record DigitsIs (w : Work) (v p : ℕ) (xs : List ℕ) (F : List Fact) : Type 0 where
+record DigitsIs (w : Work) (sign : Bool) (v p : ℕ) (xs : List ℕ) (F : List Fact) : Type 0 where
   at : ℕ
   rest : List ℕ
   value : ℕ
   read : Digits v p xs at rest value
-  small : value ≤ 65535
-  goes : run rest after (put (G.number value) w) at ≡ reads F
+  small : value ≤ limit sign
+  goes : run rest after (put (G.number (bitsAfter sign value)) w) at ≡ reads F
   within : length rest ≤ length xs
 
-digits-byte : (w : Work) (v p b : ℕ) (xs : List ℕ) (F : List Fact) (t : Bool) → isDigit b ≡ t → (u : Bool) → leb (10 * v + (b - 48)) 65535 ≡ u → v ≤ 65535
-    → (10 * v + (b - 48) ≤ 65535 → run xs (digits (10 * v + (b - 48))) w (suc p) ≡ reads F → DigitsIs w (10 * v + (b - 48)) (suc p) xs F)
-    → run (b ∷ xs) (digits v) w p ≡ reads F → DigitsIs w v p (b ∷ xs) F
+digits-byte : (w : Work) (sign : Bool) (v p b : ℕ) (xs : List ℕ) (F : List Fact) (t : Bool) → isDigit b ≡ t → (u : Bool)
+    → leb (10 * v + (b - 48)) (limit sign) ≡ u → v ≤ limit sign
+    → (10 * v + (b - 48) ≤ limit sign → run xs (digits sign (10 * v + (b - 48))) w (suc p) ≡ reads F → DigitsIs w sign (10 * v + (b - 48)) (suc p) xs F)
+    → run (b ∷ xs) (digits sign v) w p ≡ reads F → DigitsIs w sign v p (b ∷ xs) F
 unfolding run step
-digits-byte w v p b xs F true e true h l k r =
-    let d = k (leb-true (10 * v + (b - 48)) 65535 h) (rw (e, h) at r) in
+digits-byte w sign v p b xs F true e true h l k r =
+    let d = k (leb-true (10 * v + (b - 48)) (limit sign) h) (rw (e, h) at r) in
     record { at = d .at; rest = d .rest; value = d .value; read = G.more e (d .read); small = d .small; goes = d .goes; within = omega (arith, d .within) }
-digits-byte w v p b xs F true e false h l k r = clash (rw (e, h) at r)
-digits-byte w v p b xs F false e u h l k r = record { at = p; rest = b ∷ xs; value = v; read = G.none; small = l; goes = rw e at r; within = omega arith }
+digits-byte w sign v p b xs F true e false h l k r = clash (rw (e, h) at r)
+digits-byte w sign v p b xs F false e u h l k r = record { at = p; rest = b ∷ xs; value = v; read = G.none; small = l; goes = rw e at r; within = omega arith }
 
-digits-of : (w : Work) (v p : ℕ) (xs : List ℕ) (F : List Fact) → v ≤ 65535 → run xs (digits v) w p ≡ reads F → DigitsIs w v p xs F
+digits-of : (w : Work) (sign : Bool) (v p : ℕ) (xs : List ℕ) (F : List Fact) → v ≤ limit sign → run xs (digits sign v) w p ≡ reads F → DigitsIs w sign v p xs F
 unfolding run finish
-digits-of w v p [] F l r = clash r
-digits-of w v p (b ∷ xs) F l r =
-    digits-byte w v p b xs F (isDigit b) refl (leb (10 * v + (b - 48)) 65535) refl l (λ l′ r′. digits-of w (10 * v + (b - 48)) (suc p) xs F l′ r′) r
+digits-of w sign v p [] F l r = clash r
+digits-of w sign v p (b ∷ xs) F l r =
+    digits-byte w sign v p b xs F (isDigit b) refl (leb (10 * v + (b - 48)) (limit sign)) refl l (λ l′ r′. digits-of w sign (10 * v + (b - 48)) (suc p) xs F l′ r′) r
 
 -- after a term: layout, and then a comma or a bracket
 record Then (b : ℕ) (w : Work) (p : ℕ) (xs : List ℕ) (F : List Fact) : Type 0 where
@@ -178,11 +179,11 @@ not-digit b e = go′ (isLower b) (isUpper b) (isDigit b) e
     go′ false true z h = absurd (let q : _≡_ {A = ℕ} 0 1 = cc in omega arith)
     go′ false false z h = h
 
-digit-small : (b : ℕ) → isDigit b ≡ true → b - 48 ≤ 65535
+digit-small : (b : ℕ) → isDigit b ≡ true → b - 48 ≤ 9
 unfolding isDigit
 digit-small b e = go′ (leb 48 b) (leb b 57) refl e
   where
-    go′ : (x y : Bool) → leb b 57 ≡ y → (x && y) ≡ true → b - 48 ≤ 65535
+    go′ : (x y : Bool) → leb b 57 ≡ y → (x && y) ≡ true → b - 48 ≤ 9
     go′ true y q h = omega (arith, leb-true b 57 (q ∙ h))
     go′ false y q h = absurd (let z : _≡_ {A = ℕ} 0 1 = cc in omega arith)
 
@@ -240,21 +241,47 @@ variable-of w p b xs F e r =
       within = omega (arith, o .within);
     }
 
-number-of : (w : Work) (p b : ℕ) (xs : List ℕ) (F : List Fact) → isDigit b ≡ true → run xs (digits (b - 48)) w (suc p) ≡ reads F → TermIs w p (b ∷ xs) F
+number-of : (w : Work) (p b : ℕ) (xs : List ℕ) (F : List Fact) → isDigit b ≡ true → run xs (digits false (b - 48)) w (suc p) ≡ reads F → TermIs w p (b ∷ xs) F
 unfolding put
 number-of w p b xs F e r =
-    let d = digits-of w (b - 48) (suc p) xs F (digit-small b e) r in
+    let d = digits-of w false (b - 48) (suc p) xs F (omega (arith, digit-small b e)) r in
     record { at = d .at; rest = d .rest; symbols = G.number (d .value) ∷ []; term = G.is-number e (d .read) (d .small); goes = d .goes; within = omega (arith, d .within) }
 
-term-byte : (w : Work) (p b : ℕ) (xs : List ℕ) (F : List Fact) (x y z : Bool) → isLower b ≡ x → isUpper b ≡ y → isDigit b ≡ z → isBlank b ≡ false → eqb b 37 ≡ false
+negative-of : (w : Work) (p b : ℕ) (xs : List ℕ) (F : List Fact) → isDigit b ≡ true → run xs (digits true (b - 48)) w (suc (suc p)) ≡ reads F
+    → TermIs w p (45 ∷ b ∷ xs) F
+unfolding put
+negative-of w p b xs F e r =
+    let d = digits-of w true (b - 48) (suc (suc p)) xs F (omega (arith, digit-small b e)) r in
+    record {
+      at = d .at;
+      rest = d .rest;
+      symbols = G.number (G.negative (d .value)) ∷ [];
+      term = G.is-negative e (d .read) (d .small) refl;
+      goes = d .goes;
+      within = omega (arith, d .within);
+    }
+
+minus-of : (w : Work) (p : ℕ) (xs : List ℕ) (F : List Fact) → run xs minus w (suc p) ≡ reads F → TermIs w p (45 ∷ xs) F
+unfolding run step finish
+minus-of w p [] F r = clash r
+minus-of w p (b ∷ xs) F r = by (isDigit b) refl
+  where
+    by : (t : Bool) → isDigit b ≡ t → TermIs w p (45 ∷ b ∷ xs) F
+    by true e = negative-of w p b xs F e (rw e at r)
+    by false e = clash (rw e at r)
+
+term-byte : (w : Work) (p b : ℕ) (xs : List ℕ) (F : List Fact) (x y z u : Bool) → isLower b ≡ x → isUpper b ≡ y → isDigit b ≡ z → eqb b 45 ≡ u
+    → isBlank b ≡ false → eqb b 37 ≡ false
     → ((q : ℕ) (ys : List ℕ) → length ys < length xs → run ys arg (push p q w) (suc q) ≡ reads F
     → ArgsIs (w .start) (w .end) (w .done) (length (w .out)) p q 0 (w .opened) (w .out ++ (G.name p q 0 ∷ [])) (suc q) ys F)
     → run (b ∷ xs) arg w p ≡ reads F → TermIs w p (b ∷ xs) F
 unfolding run step
-term-byte w p b xs F true y z e f g h k inside r = name-of w p b xs F e inside (rw e at r)
-term-byte w p b xs F false true z e f g h k inside r = variable-of w p b xs F f (rw (e, f) at r)
-term-byte w p b xs F false false true e f g h k inside r = number-of w p b xs F g (rw (e, f, g) at r)
-term-byte w p b xs F false false false e f g h k inside r = clash (rw (e, f, g, not-layout arg w b h k) at r)
+term-byte w p b xs F true y z u e f g m h k inside r = name-of w p b xs F e inside (rw e at r)
+term-byte w p b xs F false true z u e f g m h k inside r = variable-of w p b xs F f (rw (e, f) at r)
+term-byte w p b xs F false false true u e f g m h k inside r = number-of w p b xs F g (rw (e, f, g) at r)
+term-byte w p b xs F false false false true e f g m h k inside r =
+    subst (λ (c : ℕ). TermIs w p (c ∷ xs) F) (sym (eqb-true b 45 m)) (minus-of w p xs F (rw (e, f, g, m) at r))
+term-byte w p b xs F false false false false e f g m h k inside r = clash (rw (e, f, g, m, not-layout arg w b h k) at r)
 
 mutual
   unfolding run finish push
@@ -264,7 +291,7 @@ mutual
   term-of zero w p (b ∷ xs) F l o r = absurd (omega arith)
   term-of (suc n) w p [] F l o r = clash r
   term-of (suc n) w p (b ∷ xs) F l o r =
-      term-byte w p b xs F (isLower b) (isUpper b) (isDigit b) refl refl refl (o .0) (o .1)
+      term-byte w p b xs F (isLower b) (isUpper b) (isDigit b) (eqb b 45) refl refl refl refl (o .0) (o .1)
       (λ q ys h r′. args-of n (w .start) (w .end) (w .done) (length (w .out)) p q 0 (w .opened) (w .out ++ (G.name p q 0 ∷ [])) (suc q) ys F (omega arith) (omega arith) r′) r
 
   args-of : (fuel : ℕ) (s n k i a m c : ℕ) (fs : List Frame) (out : List Symbol) (p : ℕ) (xs : List ℕ) (F : List Fact) → suc (length xs + length xs) ≤ fuel → c ≤ 3

@@ -1,16 +1,16 @@
 -- Where the reader stops no text of the grammar goes on, and before that place one does.
 use Prim.Native.Nat.{ℕ, suc, _+_, _<_}
 use mathlib.Core.Path.{_≡_, refl, sym, ap, subst, _∙_}
-use mathlib.Core.Bool.{true, false}
+use mathlib.Core.Bool.{Bool, true, false}
 use mathlib.Core.List.{List, [], _∷_, _++_}
 use native.Mathlib.Nat.{add-zero}
 use native.Mathlib.Omega.{arith}
 use lib.ListN.{length, take}
 use Rattle.grammar.specs.Grammar as G
-use Rattle.grammar.specs.Grammar.{isLower, Symbol, Fact, fact}
-use Rattle.grammar.specs.code.Reader.{Mode, first, head, arg, word, digits, after, closed, stop, between, remark, Frame, Work, work, nothing, Next, dead, go, says, put, step, Out, stops, reads, before, finish, run, textOf}
+use Rattle.grammar.specs.Grammar.{isLower, isDigit, Symbol, Fact, fact}
+use Rattle.grammar.specs.code.Reader.{Mode, first, head, arg, word, minus, digits, after, closed, stop, between, remark, Frame, Work, work, nothing, Next, dead, go, says, put, bitsAfter, step, Out, stops, reads, before, finish, run, textOf}
 use Rattle.grammar.specs.Stops.{Begins, Stops, at-byte, at-end}
-use Rattle.grammar.proofs.Complete.{Follows, name-ends, variable-ends, follows-ends, digits-end, at-lower, at-first, at-head-open, at-close, at-fact-close, at-stop, text-read, bracket-follows}
+use Rattle.grammar.proofs.Complete.{Follows, name-ends, variable-ends, follows-ends, digits-end, after-minus, at-lower, at-first, at-head-open, at-close, at-fact-close, at-stop, text-read, bracket-follows}
 use Rattle.grammar.proofs.Sound.{clash, text-is}
 
 -- Every mode can be brought to an end.
@@ -51,6 +51,17 @@ arg-lives w p = let r = name-lives p w (suc p) in record { rest = 97 ∷ r .rest
 head-lives : (s : ℕ) (w : Work) (p : ℕ) → Lives [] (head s) w p
 head-lives s w p = let r = arg-lives (work s p 0 [] []) (suc p) in record { rest = 40 ∷ r .rest; facts = r .facts; goes = at-head-open (r .rest) p s w ∙ r .goes }
 
+digits-live : (sign : Bool) (v : ℕ) (w : Work) (p : ℕ) → Lives [] (digits sign v) w p
+unfolding put
+digits-live sign v w p =
+    let r = run-closes (w .opened) (w .start) (w .end) (w .done) (w .out ++ (G.number (bitsAfter sign v) ∷ [])) p in
+    record { rest = closes (w .opened); facts = r .0; goes = digits-end sign v w p (closes (w .opened)) (closes-follow (w .opened)) ∙ r .1 }
+
+-- a minus sign goes on with `0`
+minus-lives : (w : Work) (p : ℕ) → Lives [] minus w p
+unfolding isDigit
+minus-lives w p = let r = digits-live true 0 w (suc p) in record { rest = 48 ∷ r .rest; facts = r .facts; goes = after-minus 48 (r .rest) w p refl ∙ r .goes }
+
 pub mode-lives : (m : Mode) (w : Work) (p : ℕ) → Lives [] m w p
 unfolding isLower run finish step put
 mode-lives first w p = let r = head-lives p w (suc p) in record { rest = 97 ∷ r .rest; facts = r .facts; goes = at-first 97 (r .rest) w p refl ∙ r .goes }
@@ -60,9 +71,8 @@ mode-lives (word true s) w p = name-lives s w p
 mode-lives (word false s) w p =
     let r = run-closes (w .opened) (w .start) (w .end) (w .done) (w .out ++ (G.variable s p ∷ [])) p in
     record { rest = closes (w .opened); facts = r .0; goes = variable-ends s w p (closes (w .opened)) (follows-ends (closes (w .opened)) (closes-follow (w .opened))) ∙ r .1 }
-mode-lives (digits v) w p =
-    let r = run-closes (w .opened) (w .start) (w .end) (w .done) (w .out ++ (G.number v ∷ [])) p in
-    record { rest = closes (w .opened); facts = r .0; goes = digits-end v w p (closes (w .opened)) (closes-follow (w .opened)) ∙ r .1 }
+mode-lives minus w p = minus-lives w p
+mode-lives (digits sign v) w p = digits-live sign v w p
 mode-lives after w p = after-lives w p
 mode-lives closed w p = record { rest = 46 ∷ []; facts = fact (w .start) (w .end) (suc (w .done)) (w .out) ∷ []; goes = at-stop [] p w }
 mode-lives stop w p = record { rest = []; facts = []; goes = refl }
@@ -80,7 +90,8 @@ finish-place first p k e = cc
 finish-place (head s) p k e = cc
 finish-place arg p k e = cc
 finish-place (word n s) p k e = cc
-finish-place (digits v) p k e = cc
+finish-place minus p k e = cc
+finish-place (digits sign v) p k e = cc
 finish-place after p k e = cc
 finish-place closed p k e = cc
 finish-place stop p k e = clash (sym e)

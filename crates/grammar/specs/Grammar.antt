@@ -1,4 +1,4 @@
--- The text of a table's facts (02, W-201), by ISO/IEC 13211-1, 6.2 to 6.5, as far as the request goes. A text is a list of bytes.
+-- The text of a table's facts (02, W-201 and W-206), by ISO/IEC 13211-1, 6.2 to 6.5, as far as the request goes. A text is a list of bytes.
 --
 --     text     = gap fact { gap1 fact } gap                          6.2.1; gap1 is a gap of at least one byte
 --     fact     = name "(" args ")" gap "."                           6.2.1, clause term and end
@@ -8,7 +8,8 @@
 --     comment  = "%" { any byte but a line feed } ( line feed | the end of the text )
 --     name     = a-z { a-z | A-Z | 0-9 | "_" }                       6.4.2, letter digit token
 --     variable = ( A-Z | "_" ) { a-z | A-Z | 0-9 | "_" }             6.4.3
---     number   = 0-9 { 0-9 }                                         6.4.4, at most 65,535
+--     number   = digits | "-" digits                                 6.3.1.2, "-" directly before the digits
+--     digits   = 0-9 { 0-9 }                                         6.4.4, at most 32,767, after "-" at most 32,768
 --
 -- Each relation below says how one of these is read: `R p xs q ys` goes from place p, where the bytes xs are left, to place q, where ys
 -- are.
@@ -17,6 +18,8 @@ use mathlib.Core.Path.{_≡_}
 use mathlib.Core.Bool.{Bool, true, false, _&&_, _||_}
 use mathlib.Core.List.{List, [], _∷_, _++_}
 use lib.Dec.{eqb, leb}
+use lib.IntN.{pos, negℤ}
+use Rattle.cell.specs.Signed.{bitsOf}
 
 -- "names in lower case": `a` to `z`
 unfoldable pub isLower : ℕ → Bool
@@ -64,15 +67,19 @@ pub data Digits : ℕ → ℕ → List ℕ → ℕ → List ℕ → ℕ → Type
       → Digits (10 * before + (digit - 48)) (suc p) xs q ys value → Digits before p (digit ∷ xs) q ys value
 
 -- A symbol where it stands: a name with its start, the place after it and its number of arguments; a variable with its start and the place
--- after it; a number
+-- after it; a number's 16 bits
 pub data Symbol : Type 0 where
   name : (start end args : ℕ) → Symbol
   variable : (start end : ℕ) → Symbol
   number : ℕ → Symbol
 
+-- the 16 bits of a number after a minus sign. `-0` is 0
+abbrev pub negative : ℕ → ℕ
+negative n = bitsOf (negℤ (pos n))
+
 -- A term, as its symbols in the order of the text; and the arguments of a name from one on, the first being 0, up to its last, with the
 -- commas between them and the bracket after them. `(`, `)` and `,` are 40, 41 and 44; "(" follows its name at once (6.3.3, open ct).
--- "a name inside at most 4", "numbers 0 to 65,535"
+-- "a name inside at most 4"; W-206: "from -32,768 to 32,767", "the text reader takes a minus sign directly before the digits". `-` is 45
 mutual
   pub data Term : ℕ → List ℕ → ℕ → List ℕ → List Symbol → Type 0 where
     is-name : {p b q : ℕ} {xs ys : List ℕ} → isLower b ≡ true → Word (suc p) xs q ys → Term p (b ∷ xs) q ys (name p q 0 ∷ [])
@@ -81,8 +88,10 @@ mutual
         → Args 0 (suc bracket) inside end left last symbols → last ≤ 3
         → Term start (byte ∷ rest) end left (name start bracket (suc last) ∷ symbols)
     is-variable : {p b q : ℕ} {xs ys : List ℕ} → isUpper b ≡ true → Word (suc p) xs q ys → Term p (b ∷ xs) q ys (variable p q ∷ [])
-    is-number : {p b q n : ℕ} {xs ys : List ℕ} → isDigit b ≡ true → Digits (b - 48) (suc p) xs q ys n → n ≤ 65535
+    is-number : {p b q n : ℕ} {xs ys : List ℕ} → isDigit b ≡ true → Digits (b - 48) (suc p) xs q ys n → n ≤ 32767
         → Term p (b ∷ xs) q ys (number n ∷ [])
+    is-negative : {p b q n bits : ℕ} {xs ys : List ℕ} → isDigit b ≡ true → Digits (b - 48) (suc (suc p)) xs q ys n → n ≤ 32768
+        → bits ≡ negative n → Term p (45 ∷ b ∷ xs) q ys (number bits ∷ [])
 
   pub data Args : ℕ → ℕ → List ℕ → ℕ → List ℕ → ℕ → List Symbol → Type 0 where
     last : {argument p term after bracket : ℕ} {xs terms gap left : List ℕ} {symbols : List Symbol}

@@ -1,5 +1,5 @@
 -- One byte further at a place of the text: in the grammar's relations, and by the reader.
-use Prim.Native.Nat.{ℕ, suc, _+_, _-_, _*_, _≤_, _<_}
+use Prim.Native.Nat.{ℕ, zero, suc, _+_, _-_, _*_, _%_, _≤_, _<_}
 use mathlib.Core.Path.{_≡_, refl, sym, ap, subst, _∙_}
 use mathlib.Core.Bool.{Bool, true, false, _&&_}
 use mathlib.Core.List.{List, [], _∷_}
@@ -11,8 +11,8 @@ use lib.ListN.{length, getD, drop, drop-of-length-le}
 use lib.Seq.{drop-cons}
 use borrow.Author.Tests.{ne-eqb, eqb-true, le-leb, lt-leb, leb-true}
 use Rattle.grammar.specs.Grammar as G
-use Rattle.grammar.specs.Grammar.{isDigit, isWord, Line, Gap, Word, number}
-use Rattle.grammar.specs.code.Reader.{Mode, digits, after, Work, dead, go, isBlank, put, step, stops, finish, follow, run, Solid, Ends}
+use Rattle.grammar.specs.Grammar.{isDigit, isWord, Line, Gap, Word, negative, number}
+use Rattle.grammar.specs.code.Reader.{Mode, digits, after, Work, dead, go, isBlank, put, limit, bitsAfter, step, stops, finish, follow, run, Solid, Ends}
 use Rattle.grammar.proofs.Sound.{is-blank}
 use Rattle.lex.specs.Turns.{gapFrom, gapOf, wordFrom, wordOf, numberFrom, standsAt, onMark}
 use Rattle.lex.specs.code.Ends.{GapTo, WordTo}
@@ -116,28 +116,45 @@ digit-least b e = by (leb 48 b) (leb b 57) refl refl e
     by true false p q h = absurd (let z : _≡_ {A = ℕ} 0 1 = cc in omega arith)
     by false y p q h = absurd (let z : _≡_ {A = ℕ} 0 1 = cc in omega arith)
 
-pub in-digits : (v : ℕ) (w : Work) (p b : ℕ) → isDigit b ≡ true → 10 * v + (b - 48) ≤ 65535 → step (digits v) w p b ≡ go (digits (10 * v + (b - 48))) w
+pub in-digits : (sign : Bool) (v : ℕ) (w : Work) (p b : ℕ) → isDigit b ≡ true → 10 * v + (b - 48) ≤ limit sign
+    → step (digits sign v) w p b ≡ go (digits sign (10 * v + (b - 48))) w
 unfolding step
-in-digits v w p b e h = rw (e, le-leb (10 * v + (b - 48)) 65535 h)
+in-digits sign v w p b e h = rw (e, le-leb (10 * v + (b - 48)) (limit sign) h)
 
-pub digits-over : (v : ℕ) (w : Work) (p b : ℕ) → isDigit b ≡ true → 65535 < 10 * v + (b - 48) → step (digits v) w p b ≡ dead
+pub digits-over : (sign : Bool) (v : ℕ) (w : Work) (p b : ℕ) → isDigit b ≡ true → limit sign < 10 * v + (b - 48) → step (digits sign v) w p b ≡ dead
 unfolding step
-digits-over v w p b e h = rw (e, lt-leb (10 * v + (b - 48)) 65535 h)
+digits-over sign v w p b e h = rw (e, lt-leb (10 * v + (b - 48)) (limit sign) h)
 
-digits-past : (v : ℕ) (w : Work) (p b : ℕ) → isDigit b ≡ false → step (digits v) w p b ≡ step after (put (number v) w) p b
+digits-past : (sign : Bool) (v : ℕ) (w : Work) (p b : ℕ) → isDigit b ≡ false
+    → step (digits sign v) w p b ≡ step after (put (number (bitsAfter sign v)) w) p b
 unfolding step
-digits-past v w p b e = rw e
+digits-past sign v w p b e = rw e
 
-pub digits-end-at : (t : List ℕ) (i v : ℕ) (w : Work) → i < length t → isDigit (getD t i 0) ≡ false
-    → run (drop i t) (digits v) w i ≡ run (drop i t) after (put (number v) w) i
-digits-end-at t i v w h e =
-    on-byte t i h (digits v) w
-    ∙ ap (onMark t i) (digits-past v w i (getD t i 0) e)
-    ∙ sym (on-byte t i h after (put (number v) w))
+pub digits-end-at : (t : List ℕ) (i : ℕ) (sign : Bool) (v : ℕ) (w : Work) → i < length t → isDigit (getD t i 0) ≡ false
+    → run (drop i t) (digits sign v) w i ≡ run (drop i t) after (put (number (bitsAfter sign v)) w) i
+digits-end-at t i sign v w h e =
+    on-byte t i h (digits sign v) w
+    ∙ ap (onMark t i) (digits-past sign v w i (getD t i 0) e)
+    ∙ sym (on-byte t i h after (put (number (bitsAfter sign v)) w))
 
-pub digits-end-text : (t : List ℕ) (i v : ℕ) (w : Work) → length t ≤ i → run (drop i t) (digits v) w i ≡ run (drop i t) after (put (number v) w) i
+pub digits-end-text : (t : List ℕ) (i : ℕ) (sign : Bool) (v : ℕ) (w : Work) → length t ≤ i
+    → run (drop i t) (digits sign v) w i ≡ run (drop i t) after (put (number (bitsAfter sign v)) w) i
 unfolding finish
-digits-end-text t i v w h = at-end t i (digits v) w h ∙ sym (at-end t i after (put (number v) w) h)
+digits-end-text t i sign v w h = at-end t i (digits sign v) w h ∙ sym (at-end t i after (put (number (bitsAfter sign v)) w) h)
+
+-- its range and its 16 bits
+pub limit-most : (sign : Bool) → limit sign ≤ 32768
+limit-most true = omega arith
+limit-most false = omega arith
+
+pub negative-is : (n : ℕ) → n ≤ 32768 → (65536 - n) % 65536 ≡ negative n
+negative-is zero h = refl
+negative-is (suc n) h = omega arith
+
+pub bits-small : (sign : Bool) (n : ℕ) → n ≤ limit sign → bitsAfter sign n ≤ 65535
+bits-small true zero h = omega arith
+bits-small true (suc n) h = omega arith
+bits-small false n h = omega arith
 
 -- Where things end, as a function of the text: the grammar's relations lead there.
 
@@ -185,23 +202,23 @@ pub word-of : (t : List ℕ) (p q : ℕ) → WordTo t p q → wordOf t p ≡ q
 word-of t p q w = word-is (w .word) (w .ends)
 
 -- numbers
-pub number-ended : (t : List ℕ) (i v : ℕ) → length t ≤ i → numberFrom v (drop i t) i ≡ turn.Number v i
+pub number-ended : (t : List ℕ) (i : ℕ) (sign : Bool) (v : ℕ) → length t ≤ i → numberFrom sign v (drop i t) i ≡ turn.Number (bitsAfter sign v) i
 unfolding numberFrom
-number-ended t i v h = ap (λ (xs : List ℕ). numberFrom v xs i) (drop-of-length-le t h)
+number-ended t i sign v h = ap (λ (xs : List ℕ). numberFrom sign v xs i) (drop-of-length-le t h)
 
-module _ (t : List ℕ) (i v : ℕ) (h : i < length t) where
-  pub number-ends : isDigit (getD t i 0) ≡ false → numberFrom v (drop i t) i ≡ turn.Number v i
+module _ (t : List ℕ) (i : ℕ) (sign : Bool) (v : ℕ) (h : i < length t) where
+  pub number-ends : isDigit (getD t i 0) ≡ false → numberFrom sign v (drop i t) i ≡ turn.Number (bitsAfter sign v) i
   unfolding numberFrom
-  number-ends e = ap (λ (xs : List ℕ). numberFrom v xs i) (here t i h) ∙ rw e
+  number-ends e = ap (λ (xs : List ℕ). numberFrom sign v xs i) (here t i h) ∙ rw e
 
-  pub number-over : isDigit (getD t i 0) ≡ true → 65535 < 10 * v + (getD t i 0 - 48) → numberFrom v (drop i t) i ≡ turn.Stop i
+  pub number-over : isDigit (getD t i 0) ≡ true → limit sign < 10 * v + (getD t i 0 - 48) → numberFrom sign v (drop i t) i ≡ turn.Stop i
   unfolding numberFrom
-  number-over e l = ap (λ (xs : List ℕ). numberFrom v xs i) (here t i h) ∙ rw (e, lt-leb (10 * v + (getD t i 0 - 48)) 65535 l)
+  number-over e l = ap (λ (xs : List ℕ). numberFrom sign v xs i) (here t i h) ∙ rw (e, lt-leb (10 * v + (getD t i 0 - 48)) (limit sign) l)
 
-  pub number-digit : {n : ℕ} → isDigit (getD t i 0) ≡ true → 10 * v + (getD t i 0 - 48) ≡ n → n ≤ 65535
-      → numberFrom v (drop i t) i ≡ numberFrom n (drop (i + 1) t) (i + 1)
+  pub number-digit : {n : ℕ} → isDigit (getD t i 0) ≡ true → 10 * v + (getD t i 0 - 48) ≡ n → n ≤ limit sign
+      → numberFrom sign v (drop i t) i ≡ numberFrom sign n (drop (i + 1) t) (i + 1)
   unfolding numberFrom
   number-digit {n} e q l =
-      ap (λ (xs : List ℕ). numberFrom v xs i) (here t i h)
-      ∙ rw (e, q, le-leb n 65535 l)
-      (ap (λ (k : ℕ). numberFrom n (drop (i + 1) t) k) (sym (add-one i)))
+      ap (λ (xs : List ℕ). numberFrom sign v xs i) (here t i h)
+      ∙ rw (e, q, le-leb n (limit sign) l)
+      (ap (λ (k : ℕ). numberFrom sign n (drop (i + 1) t) k) (sym (add-one i)))

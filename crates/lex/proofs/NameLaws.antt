@@ -43,6 +43,7 @@ named (G.is-name {b = b} {xs = xs} l k) e = record { byte = b; rest = xs; is = r
 named (G.is-compound l k a h) e = absurd (let z : _≡_ {A = ℕ} 0 1 = cc in omega arith)
 named (G.is-variable l k) e = absurd (let z : _≡_ {A = ℕ} 0 1 = cc in omega arith)
 named (G.is-number l k h) e = absurd (let z : _≡_ {A = ℕ} 0 1 = cc in omega arith)
+named (G.is-negative l k h b) e = absurd (let z : _≡_ {A = ℕ} 0 1 = cc in omega arith)
 
 -- a word up to the end ends nowhere else
 word-one : {p q r : ℕ} {xs ys : List ℕ} → Word p xs q [] → Word p xs r ys → Ends ys → q ≡ r

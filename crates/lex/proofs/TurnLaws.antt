@@ -1,6 +1,6 @@
 -- What stands next inside a fact, law by law: before a term and after one.
 use Prim.Native.Nat.{ℕ, _+_, _-_, _≤_, _<_}
-use mathlib.Core.Path.{_≡_, refl, sym, ap, _∙_}
+use mathlib.Core.Path.{_≡_, refl, sym, ap, subst, _∙_}
 use mathlib.Core.Bool.{Bool, true, false}
 use mathlib.Core.List.{List, [], _∷_}
 use native.Mathlib.Omega.{arith}
@@ -8,16 +8,16 @@ use native.Mathlib.Numerals.{add-one}
 use lib.Dec.{eqb}
 use lib.ListN.{length, getD, drop, drop-of-length-le}
 use borrow.Author.Tests.{ne-eqb}
-use Rattle.grammar.specs.Grammar.{isLower, isUpper, isDigit, name}
-use Rattle.grammar.specs.code.Reader.{arg, word, digits, after, Work, dead, go, isBlank, put, push, past, step, finish, run, Solid, Ends}
+use Rattle.grammar.specs.Grammar.{isLower, isUpper, isDigit, name, number}
+use Rattle.grammar.specs.code.Reader.{arg, word, minus, digits, after, Work, dead, go, isBlank, put, push, past, limit, bitsAfter, step, finish, run, Solid, Ends}
 use Rattle.grammar.proofs.Complete as complete
-use Rattle.grammar.proofs.Complete.{run-gap, run-word, at-digit, at-open, variable-ends}
+use Rattle.grammar.proofs.Complete.{run-gap, run-word, at-digit, at-minus, at-open, variable-ends}
 use Rattle.grammar.proofs.Sound.{not-layout}
-use Rattle.lex.specs.Turns.{gapOf, numberFrom, standsAt, termFrom, markFrom, turnOf, termMode, onMark, onTurn, Leads, Turns}
-use Rattle.lex.specs.code.Ends.{GapTo, WordTo, Counts}
+use Rattle.lex.specs.Turns.{gapOf, numberFrom, negativeFrom, standsAt, termFrom, markFrom, turnOf, termMode, onMark, onTurn, Leads, Turns}
+use Rattle.lex.specs.code.Ends.{GapTo, WordTo, Counts, AfterMinus}
 use Rattle.lex.specs.declared.turn.Turn.{Turn}
 use Rattle.lex.specs.declared.turn.Turn.the-variants as turn
-use Rattle.lex.proofs.ByteLaws.{here, gap-of, gap-here, word-of, solid-here, stands-within, stands-here, on-byte, on-go, on-dead, at-end}
+use Rattle.lex.proofs.ByteLaws.{here, gap-of, gap-here, word-of, solid-here, stands-within, stands-here, on-byte, on-go, on-dead, at-end, bits-small}
 
 -- the first byte of a term
 step-lower : (w : Work) (p b : ℕ) → isLower b ≡ true → step arg w p b ≡ go (word true p) w
@@ -28,10 +28,18 @@ step-upper : (w : Work) (p b : ℕ) → isLower b ≡ false → isUpper b ≡ tr
 unfolding step
 step-upper w p b e f = rw (e, f)
 
-step-none : (w : Work) (p b : ℕ) → isLower b ≡ false → isUpper b ≡ false → isDigit b ≡ false → isBlank b ≡ false → eqb b 37 ≡ false
-    → step arg w p b ≡ dead
+step-none : (w : Work) (p b : ℕ) → isLower b ≡ false → isUpper b ≡ false → isDigit b ≡ false → eqb b 45 ≡ false
+    → isBlank b ≡ false → eqb b 37 ≡ false → step arg w p b ≡ dead
 unfolding step
-step-none w p b e f g h k = rw (e, f, g, not-layout arg w b h k)
+step-none w p b e f g m h k = rw (e, f, g, m, not-layout arg w b h k)
+
+step-digit : (w : Work) (p b : ℕ) → isDigit b ≡ true → step minus w p b ≡ go (digits true (b - 48)) w
+unfolding step
+step-digit w p b e = rw e
+
+step-no-digit : (w : Work) (p b : ℕ) → isDigit b ≡ false → step minus w p b ≡ dead
+unfolding step
+step-no-digit w p b e = rw e
 
 -- a name without a bracket
 name-alone : (xs : List ℕ) (s : ℕ) (w : Work) (p : ℕ) → Ends xs → standsAt 40 xs ≡ false → run xs (word true s) w p ≡ run xs after (put (name s p 0) w) p
@@ -112,11 +120,13 @@ module _ (t : List ℕ) (i : ℕ) (s : Solid (drop i t)) (h : i < length t) wher
             ∙ variable-ends i w e (drop e t) (k .ends);
       }
 
-  pub no-term : isLower (getD t i 0) ≡ false → isUpper (getD t i 0) ≡ false → isDigit (getD t i 0) ≡ false → Turns t i false (turn.Stop i)
+  pub no-term : isLower (getD t i 0) ≡ false → isUpper (getD t i 0) ≡ false → isDigit (getD t i 0) ≡ false → (getD t i 0 ≡ 45 → ⊥)
+      → Turns t i false (turn.Stop i)
   unfolding termFrom
-  no-term e f g =
+  no-term e f g n =
       let o = solid-here t i h s in
-      record { is = sym (term-here ∙ rw (e, f, g)); leads = λ l. l; same = λ w. on-dead t i h arg w (step-none w i (getD t i 0) e f g (o .0) (o .1)) }
+      let m = ne-eqb (getD t i 0) 45 n in
+      record { is = sym (term-here ∙ rw (e, f, g, m)); leads = λ l. l; same = λ w. on-dead t i h arg w (step-none w i (getD t i 0) e f g m (o .0) (o .1)) }
 
   -- after one
   pub comma-turn : getD t i 0 ≡ 44 → Turns t i true (turn.Comma i)
@@ -139,19 +149,80 @@ module _ (t : List ℕ) (i : ℕ) (s : Solid (drop i t)) (h : i < length t) wher
 
   -- a number, its first digit before it
   pub number-turn : {v : ℕ} (r : Turn) → isLower (getD t i 0) ≡ false → isUpper (getD t i 0) ≡ false → isDigit (getD t i 0) ≡ true
-      → v ≡ getD t i 0 - 48 → Counts t (i + 1) v r → Turns t i false r
+      → v ≡ getD t i 0 - 48 → Counts t (i + 1) false v r → Turns t i false r
   unfolding termFrom
   number-turn {v} r l u d q c =
       record {
-        is = c .is ∙ ap (λ (x : ℕ). numberFrom x (drop (i + 1) t) (i + 1)) q ∙ sym (term-here ∙ rw (l, u, d));
+        is = c .is ∙ ap (λ (x : ℕ). numberFrom false x (drop (i + 1) t) (i + 1)) q ∙ sym (term-here ∙ rw (l, u, d));
         leads = c .leads i (omega arith);
         same =
             λ w.
             ap (λ (xs : List ℕ). run xs arg w i) (here t i h)
             ∙ at-digit (getD t i 0) (drop (i + 1) t) w i d
-            ∙ ap (λ (n : ℕ). run (drop (i + 1) t) (digits (getD t i 0 - 48)) w n) (sym (add-one i))
-            ∙ ap (λ (x : ℕ). run (drop (i + 1) t) (digits x) w (i + 1)) (sym q)
+            ∙ ap (λ (n : ℕ). run (drop (i + 1) t) (digits false (getD t i 0 - 48)) w n) (sym (add-one i))
+            ∙ ap (λ (x : ℕ). run (drop (i + 1) t) (digits false x) w (i + 1)) (sym q)
             ∙ c .same w;
+      }
+
+  -- or a minus sign
+  pub minus-turn : (r : Turn) → getD t i 0 ≡ 45 → AfterMinus t (i + 1) r → Turns t i false r
+  unfolding termFrom isLower isUpper isDigit
+  minus-turn r e c =
+      record {
+        is = c .is ∙ sym (term-here ∙ ap (λ (b : ℕ). termFrom t i (b ∷ drop (i + 1) t)) e);
+        leads = c .leads i (omega arith);
+        same =
+            λ w.
+            ap (λ (xs : List ℕ). run xs arg w i) (here t i h ∙ ap (λ (b : ℕ). b ∷ drop (i + 1) t) e)
+            ∙ at-minus (drop (i + 1) t) w i
+            ∙ ap (λ (n : ℕ). run (drop (i + 1) t) minus w n) (sym (add-one i))
+            ∙ c .same w;
+      }
+
+-- a number's digits end: its 16 bits, the reader having come here from its first digit on
+pub number-done : (t : List ℕ) (at i : ℕ) (sign : Bool) (first v : ℕ) {bits : ℕ} → bits ≡ bitsAfter sign v → at ≤ i → i ≤ length t → v ≤ limit sign
+    → numberFrom sign v (drop i t) i ≡ turn.Number (bitsAfter sign v) i
+    → ((w : Work) → run (drop i t) (digits sign v) w i ≡ run (drop i t) after (put (number (bitsAfter sign v)) w) i)
+    → ((w : Work) → run (drop i t) (digits sign v) w i ≡ run (drop at t) (digits sign first) w at)
+    → numberFrom sign v (drop i t) i ≡ numberFrom sign first (drop at t) at → Counts t at sign first (turn.Number bits i)
+number-done t at i sign first v q l m h e ends from same =
+    subst (λ (b : ℕ). Counts t at sign first (turn.Number b i)) (sym q)
+    (record { is = sym e ∙ same; leads = λ p k. (omega arith, m, bits-small sign v h); same = λ w. sym (from w) ∙ ends w })
+
+-- after a minus sign
+pub minus-ends : (t : List ℕ) (i : ℕ) → i ≤ length t → length t ≤ i → AfterMinus t i (turn.Stop i)
+unfolding finish negativeFrom
+minus-ends t i l h =
+    record {
+      is = sym (ap (λ (xs : List ℕ). negativeFrom xs i) (drop-of-length-le t h));
+      leads = λ at k j. l;
+      same = λ w. at-end t i minus w h;
+    }
+
+module _ (t : List ℕ) (i : ℕ) (h : i < length t) where
+  negative-here : negativeFrom (drop i t) i ≡ negativeFrom (getD t i 0 ∷ drop (i + 1) t) i
+  negative-here = ap (λ (xs : List ℕ). negativeFrom xs i) (here t i h)
+
+  pub minus-digit : {v : ℕ} (r : Turn) → isDigit (getD t i 0) ≡ true → v ≡ getD t i 0 - 48 → Counts t (i + 1) true v r → AfterMinus t i r
+  unfolding negativeFrom
+  minus-digit {v} r d q c =
+      record {
+        is = c .is ∙ ap (λ (x : ℕ). numberFrom true x (drop (i + 1) t) (i + 1)) q ∙ sym (negative-here ∙ rw d);
+        leads = λ at l. c .leads at (omega arith);
+        same =
+            λ w.
+            on-go t i h minus (digits true (getD t i 0 - 48)) w w (step-digit w i (getD t i 0) d)
+            ∙ ap (λ (x : ℕ). run (drop (i + 1) t) (digits true x) w (i + 1)) (sym q)
+            ∙ c .same w;
+      }
+
+  pub minus-none : isDigit (getD t i 0) ≡ false → AfterMinus t i (turn.Stop i)
+  unfolding negativeFrom
+  minus-none d =
+      record {
+        is = sym (negative-here ∙ rw d);
+        leads = λ at l k. omega arith;
+        same = λ w. on-dead t i h minus w (step-no-digit w i (getD t i 0) d);
       }
 
 -- layout first

@@ -8,6 +8,7 @@ use lib.Dec.{eqb, leb}
 use lib.ListN.{length, drop}
 use Rattle.grammar.specs.Grammar.{isLower, isUpper, isDigit, isWord, name, variable, number}
 use Rattle.grammar.specs.code.Reader.{Mode, arg, after, Work, isBlank, put, push, comma, close, Next, Out, stops, follow, run}
+use Rattle.grammar.specs.code.Reader.{limit, bitsAfter}
 use Rattle.lex.specs.declared.turn.Turn.{Turn}
 use Rattle.lex.specs.declared.turn.Turn.the-variants as turn
 
@@ -28,12 +29,19 @@ wordFrom (b ∷ xs) p = cond (isWord b) (wordFrom xs (suc p)) p
 abbrev pub wordOf : List ℕ → ℕ → ℕ
 wordOf t at = wordFrom (drop at t) at
 
--- a number, with a value before it: its value and the place after it, or the digit with which it is above 65,535
-unfoldable pub numberFrom : ℕ → List ℕ → ℕ → Turn
-numberFrom v [] p = turn.Number v p
-numberFrom value (byte ∷ rest) place =
+-- a number, after a minus sign or not, with a value before it: its 16 bits and the place after it, or the digit with which it leaves the
+-- range
+unfoldable pub numberFrom : Bool → ℕ → List ℕ → ℕ → Turn
+numberFrom sign v [] p = turn.Number (bitsAfter sign v) p
+numberFrom sign value (byte ∷ rest) place =
     let more = 10 * value + (byte - 48) in
-    cond (isDigit byte) (cond (leb more 65535) (numberFrom more rest (suc place)) (turn.Stop place)) (turn.Number value place)
+    cond (isDigit byte) (cond (leb more (limit sign)) (numberFrom sign more rest (suc place)) (turn.Stop place))
+    (turn.Number (bitsAfter sign value) place)
+
+-- after a minus sign: its first digit stands here
+unfoldable pub negativeFrom : List ℕ → ℕ → Turn
+negativeFrom [] p = turn.Stop p
+negativeFrom (b ∷ xs) p = cond (isDigit b) (numberFrom true (b - 48) xs (p + 1)) (turn.Stop p)
 
 -- this byte stands here
 unfoldable pub standsAt : ℕ → List ℕ → Bool
@@ -47,7 +55,8 @@ termFrom t place (byte ∷ rest) =
     let end = wordFrom rest (place + 1) in
     cond (isLower byte) (cond (standsAt 40 (drop end t)) (turn.Open place end) (turn.Name place end))
     (cond (isUpper byte) (turn.Variable place end)
-    (cond (isDigit byte) (numberFrom (byte - 48) rest (place + 1)) (turn.Stop place)))
+    (cond (isDigit byte) (numberFrom false (byte - 48) rest (place + 1))
+    (cond (eqb byte 45) (negativeFrom rest (place + 1)) (turn.Stop place))))
 
 -- after a term: a comma or a bracket
 unfoldable pub markFrom : ℕ → List ℕ → Turn

@@ -9,7 +9,7 @@ use lib.Dec.{eqb, leb, ltb}
 use lib.ListN.{length, getD, set, length-append}
 use lib.Seq.{map-set-same}
 use Rattle.grammar.specs.Grammar.{isLower, isUpper, isDigit, isWord, Symbol, name, variable, number, Fact, fact}
-use Rattle.grammar.specs.code.Reader.{Mode, arg, word, digits, after, closed, remark, Frame, frame, Work, work, Next, dead, go, says, isBlank, layout, push, put, comma, close, past, symbol, step, Out, stops, reads, before, finish, follow, run, Held, none, more}
+use Rattle.grammar.specs.code.Reader.{Mode, arg, word, minus, digits, after, closed, remark, Frame, frame, Work, work, Next, dead, go, says, isBlank, layout, push, put, comma, close, past, symbol, limit, bitsAfter, step, Out, stops, reads, before, finish, follow, run, Held, none, more}
 use Rattle.grammar.proofs.Sound.{clash, before-reads}
 use Rattle.grammar.proofs.HeldLaws.{held-put, held-push, held-comma, held-close}
 use Rattle.loading.specs.code.Items.{Item, itemOf, itemsIn}
@@ -18,7 +18,8 @@ use Rattle.loading.specs.code.Items.{Item, itemOf, itemsIn}
 pub data Inside : Mode → Type 0 where
   in-arg : Inside arg
   in-word : {n : Bool} {s : ℕ} → Inside (word n s)
-  in-digits : {v : ℕ} → Inside (digits v)
+  in-minus : Inside minus
+  in-digits : {sign : Bool} {v : ℕ} → Inside (digits sign v)
   in-after : Inside after
   in-closed : Inside closed
   in-remark : {m : Mode} → Inside m → Inside (remark m)
@@ -27,7 +28,8 @@ ended : (m : Mode) (p : ℕ) {F : List Fact} → Inside m → finish m p ≡ rea
 unfolding finish
 ended arg p in-arg e = clash e
 ended (word n s) p in-word e = clash e
-ended (digits v) p in-digits e = clash e
+ended minus p in-minus e = clash e
+ended (digits sign v) p in-digits e = clash e
 ended after p in-after e = clash e
 ended closed p in-closed e = clash e
 ended (remark m) p (in-remark i) e = ended m p i e
@@ -102,10 +104,14 @@ push-keeps s n w h = goes in-arg (held-push s n h) (record { rest = itemOf (name
 step-keeps : (m : Mode) (w : Work) (p b : ℕ) → Held (w .out) (w .opened) → Inside m → Keeps w (step m w p b)
 unfolding step
 step-keeps arg w p b h i =
-    choose (isLower b) (stays h in-word) (choose (isUpper b) (stays h in-word) (choose (isDigit b) (stays h in-digits) (layout-keeps arg w b h in-arg)))
+    choose (isLower b) (stays h in-word)
+    (choose (isUpper b) (stays h in-word)
+    (choose (isDigit b) (stays h in-digits)
+    (choose (eqb b 45) (stays h in-minus) (layout-keeps arg w b h in-arg))))
 step-keeps (word n s) w p b h i = choose (isWord b) (stays h in-word) (choose (n && eqb b 40) (push-keeps s p w h) (put-keeps (symbol n s p) w b h))
-step-keeps (digits v) w p b h i =
-    choose (isDigit b) (choose (leb (10 * v + (b - 48)) 65535) (stays h in-digits) dies) (put-keeps (number v) w b h)
+step-keeps minus w p b h i = choose (isDigit b) (stays h in-digits) dies
+step-keeps (digits sign v) w p b h i =
+    choose (isDigit b) (choose (leb (10 * v + (b - 48)) (limit sign)) (stays h in-digits) dies) (put-keeps (number (bitsAfter sign v)) w b h)
 step-keeps after w p b h i = past-keeps w b h
 step-keeps closed w p b h i = choose (eqb b 46) (ends (same-front refl)) (layout-keeps closed w b h in-closed)
 step-keeps (remark m) w p b h (in-remark i) = choose (eqb b 10) (stays h i) (stays h (in-remark i))

@@ -13,6 +13,7 @@ term-some (G.is-name e w) = omega arith
 term-some (G.is-compound e w a h) = omega arith
 term-some (G.is-variable e w) = omega arith
 term-some (G.is-number e d h) = omega arith
+term-some (G.is-negative e d h z) = omega arith
 
 args-wide : {c p q d : ℕ} {xs ys : List ℕ} {ss : List Symbol} → Args c p xs q ys d ss → suc d ≤ c + length ss
 args-wide (G.last g t h) = omega (arith, term-some t)

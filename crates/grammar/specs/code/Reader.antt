@@ -6,17 +6,18 @@ use mathlib.Core.Bool.{Bool, true, false, cond, _&&_, _||_}
 use mathlib.Core.List.{List, [], _∷_, _++_}
 use lib.Dec.{eqb, leb, ltb}
 use lib.ListN.{length, getD, set}
-use Rattle.grammar.specs.Grammar.{isLower, isUpper, isDigit, isWord, Blank, Symbol, name, variable, number, Fact, fact}
+use Rattle.grammar.specs.Grammar.{isLower, isUpper, isDigit, isWord, Blank, negative, Symbol, name, variable, number, Fact, fact}
 
 -- what the reader is in: before the first fact; a fact's name, from a place on; before a term; a name (true) or a variable (false), from a
--- place on; a number, its value so far; after a term; after a fact's last bracket; just after its full stop; after layout that follows a
--- full stop; a comment, and what it stands in
+-- place on; just after a minus sign; a number, after a minus sign (true) or not, its digits' value so far; after a term; after a fact's
+-- last bracket; just after its full stop; after layout that follows a full stop; a comment, and what it stands in
 pub data Mode : Type 0 where
   first : Mode
   head : ℕ → Mode
   arg : Mode
   word : Bool → ℕ → Mode
-  digits : ℕ → Mode
+  minus : Mode
+  digits : Bool → ℕ → Mode
   after : Mode
   closed : Mode
   stop : Mode
@@ -93,18 +94,28 @@ abbrev pub symbol : Bool → ℕ → ℕ → Symbol
 symbol true s n = name s n 0
 symbol false s n = variable s n
 
+-- after a minus sign or without one: the largest value of the digits, and a number's 16 bits
+abbrev pub limit : Bool → ℕ
+limit sign = cond sign 32768 32767
+
+abbrev pub bitsAfter : Bool → ℕ → ℕ
+bitsAfter sign n = cond sign (negative n) n
+
 unfoldable pub step : Mode → Work → ℕ → ℕ → Next
 step first w p b = cond (isLower b) (go (head p) w) (layout first w b)
 step (head s) w p b = cond (isWord b) (go (head s) w) (cond (eqb b 40) (go arg (work s p 0 [] [])) dead)
 step arg now place byte =
     cond (isLower byte) (go (word true place) now)
     (cond (isUpper byte) (go (word false place) now)
-    (cond (isDigit byte) (go (digits (byte - 48)) now)
-    (layout arg now byte)))
+    (cond (isDigit byte) (go (digits false (byte - 48)) now)
+    (cond (eqb byte 45) (go minus now)
+    (layout arg now byte))))
 step (word n s) w p b = cond (isWord b) (go (word n s) w) (cond (n && eqb b 40) (go arg (push s p w)) (past (put (symbol n s p) w) b))
-step (digits value) now place byte =
-    cond (isDigit byte) (cond (leb (10 * value + (byte - 48)) 65535) (go (digits (10 * value + (byte - 48))) now) dead)
-    (past (put (number value) now) byte)
+step minus w p b = cond (isDigit b) (go (digits true (b - 48)) w) dead
+step (digits sign value) now place byte =
+    let more = 10 * value + (byte - 48) in
+    cond (isDigit byte) (cond (leb more (limit sign)) (go (digits sign more) now) dead)
+    (past (put (number (bitsAfter sign value)) now) byte)
 step after w p b = past w b
 step closed w p b = cond (eqb b 46) (says (fact (w .start) (w .end) (suc (w .done)) (w .out)) stop nothing) (layout closed w b)
 step stop w p b = layout between w b
@@ -126,7 +137,8 @@ finish first p = stops p
 finish (head s) p = stops p
 finish arg p = stops p
 finish (word n s) p = stops p
-finish (digits v) p = stops p
+finish minus p = stops p
+finish (digits sign v) p = stops p
 finish after p = stops p
 finish closed p = stops p
 finish stop p = reads []

@@ -3,7 +3,7 @@ use mathlib.Core.Path.{sym, ap, _∙_}
 use native.Mathlib.Omega.{arith}
 use borrow.Author.Needs.{needs}
 use Rattle.lex.proofs.ByteLaws.{digit-least}
-use Rattle.lex.proofs.TurnLaws.{term-ends, name-turn, open-turn, variable-turn, no-term, number-turn}
+use Rattle.lex.proofs.TurnLaws.{term-ends, name-turn, open-turn, variable-turn, no-term, number-turn, minus-turn}
 use Rattle.lex.proofs.turn.term_at.Statement.{statement}
 use Rattle.lex.proofs.turn.term_at.Tie as tie
 
@@ -85,13 +85,25 @@ returns-5 c =
     (ap (λ (x : ℕ). x - 48) (c .before .wide .ensures))
     (c .number-from .ensures)
 
+add-negative-at : tie.Need-add-negative-at
+add-negative-at c = search needs
+
+negative-at-requires : tie.Need-negative-at-requires
+negative-at-requires c κs = search needs
+
 returns-6 : tie.Need-returns-6
 returns-6 c =
-    let s = c .before .before .before .before .before .before .before .before .before in
+    let s = c .before .before .before .before .before .before .before .before .before .before .before in
+    minus-turn (s .args .text .now) (s .args .at) (s .pre) (omega arith) (c .negative-at .result) (c .before .if6 .taken) (c .negative-at .ensures)
+
+returns-7 : tie.Need-returns-7
+returns-7 c =
+    let s = c .before .before .before .before .before .before .before .before .before .before in
     no-term (s .args .text .now) (s .args .at) (s .pre) (omega arith)
-    (sym (c .before .before .before .before .before .is-lower .ensures) ∙ c .before .before .before .before .if2 .left)
-    (sym (c .before .before .before .is-upper .ensures) ∙ c .before .before .if4 .left)
-    (sym (c .before .is-digit .ensures) ∙ c .if5 .left)
+    (sym (c .before .before .before .before .before .before .is-lower .ensures) ∙ c .before .before .before .before .before .if2 .left)
+    (sym (c .before .before .before .before .is-upper .ensures) ∙ c .before .before .before .if4 .left)
+    (sym (c .before .before .is-digit .ensures) ∙ c .before .if5 .left)
+    (c .if6 .left)
 
 pub term-at-spec : {M : Type 1} → statement M
 term-at-spec =
@@ -115,4 +127,7 @@ term-at-spec =
     sub-number-from
     number-from-requires
     returns-5
-    returns-6)
+    add-negative-at
+    negative-at-requires
+    returns-6
+    returns-7)
