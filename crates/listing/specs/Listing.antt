@@ -9,15 +9,11 @@ use Rattle.refusal.specs.Refusal.{Refused, numberOf}
 use Rattle.refusal.specs.declared.Reason.the-variants.{Length}
 use Rattle.refusal.specs.Read.{read, refuse}
 use Rattle.octets.specs.Octets.{decimal, field, cellsOf}
-use Rattle.printing.specs.Printing.{space, feed, symbol, refusal}
+use Rattle.printing.specs.Printing.{space, dash, feed, symbol, refusal}
 use Rattle.table.specs.Table.{Table, tableOf}
 use Rattle.plan.specs.Runs.{Run}
 use Rattle.plan.specs.Plans.{Plan, leaf, node, Branches, end, next, plain, cost}
 use Rattle.least.specs.Least.{Built}
-
--- the byte between a first and a last row
-abbrev pub dash : ℕ
-dash = 45
 
 -- 01, "one line per branch ..: depth from 0, open place's index, symbol, first and last row", in the form of 01's example: `0 0 n1/0 0-1`
 unfoldable pub line : (depth index cell first last : ℕ) → List ℕ

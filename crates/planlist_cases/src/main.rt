@@ -21,7 +21,7 @@ const Y0: u32 = 0x40000019;
 
 const Z0: u32 = 0x4000001a;
 
-// The whole number 0; a number n is n more.
+// The whole number 0; a number n is n more, and -n has 65,536 - n more.
 const ZERO: u32 = 0x80000000;
 
 // Prints the listing of any bytes.
@@ -56,11 +56,11 @@ fn show_cells(cells: &[u32])
     show(&bytes[..e]);
 }
 
-// Nested names, variables, and numbers from the least to the greatest.
+// Nested names, variables and numbers.
 fn nested() {
     let seven = ZERO + 7;
-    let most = ZERO + 65535;
-    // (f(g(a), v0), 7) (f(g(b), v0), v1) (f(g(b), 65535), 7) (v0, 7) (h(v0, a, v1, 0), g(v2))
+    let less = ZERO + 65535;
+    // (f(g(a), v0), 7) (f(g(b), v0), v1) (f(g(b), -1), 7) (v0, 7) (h(v0, a, v1, 0), g(v2))
     show_cells(
         &[
             2,
@@ -78,7 +78,7 @@ fn nested() {
             F2,
             G1,
             B0,
-            most,
+            less,
             seven,
             0,
             seven,
@@ -91,6 +91,11 @@ fn nested() {
             2,
         ],
     );
+}
+
+// -1, -32,768, 32,767, 0: the numbers next to their bounds.
+fn bounds() {
+    show_cells(&[1, 4, ZERO + 65535, ZERO + 32768, ZERO + 32767, ZERO]);
 }
 
 // 01's six rows whose least plan looks at the second place first.
@@ -152,6 +157,7 @@ fn main() {
     show(&[0u8; 8204]);
     show(&[0u8; 8200]);
     nested();
+    bounds();
     second_place();
     show_cells(&sixty_four());
 }

@@ -1,16 +1,21 @@
 -- What more than one program prints, as ASCII bytes: the symbol of a cell, and the line of a refusal; and that a text is written to a room.
-use Prim.Native.Nat.{ℕ, _≤_}
+use Prim.Native.Nat.{ℕ, suc, _≤_}
 use mathlib.Core.Path.{_≡_}
 use mathlib.Core.Bool.{cond}
 use mathlib.Core.List.{List, [], _∷_, _++_}
 use lib.Dec.{eqb}
+use lib.IntN.{ℤ, pos, negsuc}
 use lib.ListN.{length, drop}
-use Rattle.cell.specs.Cell.{Values, valuesAt}
+use Rattle.cell.specs.Signed.{signedOf}
+use Rattle.cell.specs.Cell.{numberOf, Values, valuesAt}
 use Rattle.octets.specs.Octets.{decimal, field}
 
--- the bytes between numbers: a space, `/`, and the line feed that ends every line
+-- the bytes between numbers: a space, `-`, `/`, and the line feed that ends every line
 abbrev pub space : ℕ
 space = 32
+
+abbrev pub dash : ℕ
+dash = 45
 
 abbrev pub slash : ℕ
 slash = 47
@@ -18,13 +23,22 @@ slash = 47
 abbrev pub feed : ℕ
 feed = 10
 
+-- 02, W-206, "The listing prints `i-1`": a value's digits, after `-` where it is below zero
+abbrev pub signedDecimal : ℤ → List ℕ
+signedDecimal (pos n) = decimal n
+signedDecimal (negsuc n) = dash ∷ decimal (suc n)
+
+-- the value of a cell's 16 bits, printed
+abbrev pub value : ℕ → List ℕ
+value c = signedDecimal (signedOf (numberOf c))
+
 -- 01, "symbol (n number/arguments, i value or v number)": `n`, `i` and `v` are 110, 105 and 118.
 -- The last case is that of a cell which is refused; no accepted table and no plan of one holds one
 unfoldable pub symbolOf : Values → List ℕ
 symbolOf v =
     cond (eqb (v .kind) 0) (118 ∷ decimal (v .number))
     (cond (eqb (v .kind) 1) (110 ∷ (decimal (v .number) ++ (slash ∷ decimal (v .args))))
-    (cond (eqb (v .kind) 2) (105 ∷ decimal (v .number))
+    (cond (eqb (v .kind) 2) (105 ∷ signedDecimal (v .value))
     []))
 
 abbrev pub symbol : ℕ → List ℕ

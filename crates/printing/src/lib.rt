@@ -5,7 +5,7 @@ ghost use Prim.Native.Nat.{_≤_};
 ghost use lib.ListN.{length};
 ghost use Rattle.refusal.specs.Refusal.{numberOf};
 ghost use Rattle.octets.specs.Octets.{Put, decimal};
-ghost use Rattle.printing.specs.Printing.{symbol, refusal};
+ghost use Rattle.printing.specs.Printing.{value, symbol, refusal};
 use cell::Shape;
 use octets::put_byte;
 use octets::put_decimal;
@@ -21,6 +21,18 @@ fn put_tagged(out: &mut [u8], to: usize, tag: u8, n: u32) -> usize
     put_decimal(out, on, n as usize)
 }
 
+// The value of a cell's 16 bits: its sign is taken from them.
+fn put_value(out: &mut [u8], to: usize, c: u32) -> usize
+    ensures { λ r. ⌜ Put (now (out .entry)) (now (out .exit)) to (value c) r ⌝ }
+{
+    let n = cell::number(c);
+    if n < 32768 {
+        put_decimal(out, to, n as usize)
+    } else {
+        put_tagged(out, to, b'-', 65536 - n)
+    }
+}
+
 // The symbol of a cell. A name has 0 to 4 arguments; what is no cell of 01 has no symbol.
 pub fn put_symbol(out: &mut [u8], to: usize, c: u32) -> usize
     ensures { λ r. ⌜ Put (now (out .entry)) (now (out .exit)) to (symbol c) r ⌝ }
@@ -34,7 +46,10 @@ pub fn put_symbol(out: &mut [u8], to: usize, c: u32) -> usize
             }
             _ => to,
         },
-        Shape::Number(n) => put_tagged(out, to, b'i', n),
+        Shape::Number(_) => {
+            let on = put_byte(out, to, b'i');
+            put_value(out, on, c)
+        }
         Shape::Refused => to,
     }
 }

@@ -20,7 +20,7 @@ fn no_texts() {
     show(b"p().");
     show(b"p('a').");
     show(b"p([]).");
-    show(b"p(-1).");
+    show(b"p(+1).");
     show(b"p(9a).");
     show(b"p(A(a)).");
 }
@@ -34,10 +34,21 @@ fn stopped() {
     show(b"p(a).p(b).");
     show(b"p(a).\t");
     show(b"p(a). .");
-    show(b"p(65536).");
+    show(b"p(32768).");
     show(b"p(f(a,b,c,d,e)).");
     show(b"p(a). q(b). !");
     show(b"% no fact");
+}
+
+// TEXT at or after a minus sign.
+fn no_numbers() {
+    show(b"p(- 1).");
+    show(b"p(--1).");
+    show(b"p(-a).");
+    show(b"p(-%\n1).");
+    show(b"p(-");
+    show(b"p(a-1).");
+    show(b"p(-32769).");
 }
 
 // OTHER, and what is no table of 01: TWICE, WIDTH, LONG.
@@ -60,7 +71,10 @@ fn tables() {
     show(b"p(f,f(a)).");
     show(b"p(p).");
     show(b"p(_,_X,_Y,_).");
-    show(b"p(00000065535,0).");
+    show(b"p(00000032767,0).");
+    show(b"p(-1,-32768,-0).");
+    show(b"p(32767). p(-7).");
+    show(b"p(-00,f(-007)).");
     // it ends inside a comment
     show(b"p(a). % p(b).");
     show(b"\r\np( a , B )\n. % one\n% two\np(b,\n_).");
@@ -102,6 +116,7 @@ fn wide() -> [u8; 4101] {
 fn main() {
     no_texts();
     stopped();
+    no_numbers();
     no_tables();
     tables();
     // LENGTH: the table has one cell too many

@@ -10,6 +10,9 @@ no-texts-requires c κs = search needs
 stopped-requires : tie.Need-stopped-requires
 stopped-requires c κs = search needs
 
+no-numbers-requires : tie.Need-no-numbers-requires
+no-numbers-requires c κs = search needs
+
 no-tables-requires : tie.Need-no-tables-requires
 no-tables-requires c κs = search needs
 
@@ -52,6 +55,7 @@ main-spec =
     (tie.spec
     no-texts-requires
     stopped-requires
+    no-numbers-requires
     no-tables-requires
     tables-requires
     wide-requires
