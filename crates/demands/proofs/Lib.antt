@@ -4,3 +4,4 @@ pub mod Replies
 pub mod Held
 pub mod Texts
 pub mod Shift
+pub mod Numbers

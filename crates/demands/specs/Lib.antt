@@ -2,3 +2,4 @@ pub mod Demands
 pub mod Texts
 pub mod Shift
 pub mod Replies
+pub mod Numbers
