@@ -3,6 +3,10 @@
  *
  * Link target/staticlib/libexports.a, which `rt staticlib exports` writes (x86-64).
  *
+ * The cells of terms: bits 31..30 are the kind. 0, a variable: its number in bits 15..0. 1, a name: its number there, and how many
+ * arguments it has, 0 to 4, in bits 18..16. 2, a whole number: its value in bits 15..0, two's complement, -32,768 to 32,767. All other
+ * bits are zero.
+ *
  * Every function takes any cells at all, and ends; nobody has to check first. It answers one number, which the inline functions below take
  * apart. Either it answered, and there are two values, or the input is refused: then there is the refusal's number, the input that it
  * concerns and a place in it, and nothing was written to the lent room. The one exception is a goal of a list (dudowiej_run_jobs): where
@@ -125,6 +129,12 @@ uint64_t dudowiej_run_jobs(const uint32_t *table, size_t table_cells, const uint
  * replies together. DUDOWIEJ_REPLY_CELLS cells for each row of the table are always enough. */
 uint64_t dudowiej_replies(const uint32_t *table, size_t table_cells, const uint32_t *plan, size_t plan_cells, const uint32_t *goal,
                           size_t goal_cells, uint32_t *room, size_t room_cells);
+
+/* The value of a whole number's cell. */
+static inline int32_t dudowiej_value(uint32_t cell) {
+    int32_t bits = (int32_t)(cell & 0xffff);
+    return bits < 32768 ? bits : bits - 65536;
+}
 
 /* An answer taken apart. Bits 0 to 7 are 0 exactly where it is no refusal:
  *   answered:  2^16 * first + 2^32 * second           first < 2^16, second < 2^32

@@ -41,7 +41,9 @@ impl Alphabet {
         if self.variable > 0 && random.one_in(self.variable) {
             Term::Var(0)
         } else if random.one_in(3) {
-            Term::Number(random.below(self.symbols) as u16)
+            // Every second one below zero.
+            let value = random.below(self.symbols) as i16;
+            Term::Number(if value % 2 == 0 { value } else { -value })
         } else {
             Term::Name(random.below(self.symbols) as u16, Vec::new())
         }

@@ -36,7 +36,7 @@ pub fn write_texts(folder: &Path, count: usize, seed: u64) {
 }
 
 /// Texts that are refused, by kind; most of them are Prolog by ISO/IEC 13211-1.
-const REFUSED: [(&str, &[u8]); 31] = [
+const REFUSED: [(&str, &[u8]); 33] = [
     ("a fact without arguments", b"p.\n"),
     ("a rule", b"p(a) :- q(b).\n"),
     ("a directive", b":- dynamic(p/1).\np(a).\n"),
@@ -47,8 +47,10 @@ const REFUSED: [(&str, &[u8]); 31] = [
     ("a name of graphic characters", b"p(+).\n"),
     ("an operator between arguments", b"p(a-b).\n"),
     ("an operator in front", b"p(- a).\n"),
-    ("a number below zero", b"p(-1).\n"),
-    ("a number over 65,535", b"p(65536).\n"),
+    ("a space after a minus sign", b"p(- 1).\n"),
+    ("a plus sign", b"p(+1).\n"),
+    ("a number over 32,767", b"p(32768).\n"),
+    ("a number below -32,768", b"p(-32769).\n"),
     ("a number with a point", b"p(1.5).\n"),
     ("a number of another base", b"p(0x1F).\n"),
     ("a character's code", b"p(0'a).\n"),

@@ -37,7 +37,7 @@ static const uint32_t *print_term(const uint32_t *cells) {
     switch (cell >> 30) {
     case 0: printf("_"); break;
     case 1: printf("%s", name_of(cell & 0xffff)); break;
-    default: printf("%u", cell & 0xffff); break;
+    default: printf("%d", (int)dudowiej_value(cell)); break;
     }
     uint32_t arguments = cell >> 30 == 1 ? cell >> 16 & 7 : 0;
     for (uint32_t i = 0; i < arguments; i++) {

@@ -41,7 +41,7 @@ static const uint32_t *print_term(const uint32_t *cells) {
     uint32_t cell = *cells++, n = cell & 0xffff;
     switch (cell >> 30) {
     case 0: printf("_%u", n); return cells;
-    case 2: printf("%u", n); return cells;
+    case 2: printf("%d", (int)dudowiej_value(cell)); return cells;
     }
     if (n < names_count) printf("%.*s", (int)name_bytes(n), name_start(n));
     else printf("?");

@@ -1,4 +1,4 @@
-//! Tables from Prolog text (02, W-201): fixed cases with their answers, whole families of short texts, long texts, random ones.
+//! Tables from Prolog text (02, W-201 and W-206): fixed cases with their answers, whole families of short texts, long texts, random ones.
 
 mod fixed;
 
@@ -11,7 +11,7 @@ use crate::model::refusal::Number;
 use crate::model::text::load;
 
 /// A byte of each sort that the grammar knows.
-const SORTS: &[u8] = b"aX_1(),. %\n";
+const SORTS: &[u8] = b"aX_1-(),. %\n";
 
 impl<E: Engine> Comparison<'_, E> {
     pub(super) fn fixed_texts(&mut self) {
@@ -46,7 +46,7 @@ impl<E: Engine> Comparison<'_, E> {
 
     /// Every text of up to four bytes; and of every sound beginning, how it may go on.
     fn short_texts(&mut self) {
-        let beginnings: [&[u8]; 8] = [b"", b"p(", b"p(a", b"p(a)", b"p(a).", b"p(f(a,b,c", b"p(6553", b"p(f(_,X) % c\n,"];
+        let beginnings: [&[u8]; 9] = [b"", b"p(", b"p(a", b"p(a)", b"p(a).", b"p(f(a,b,c", b"p(3276", b"p(-3276", b"p(f(_,X) % c\n,"];
         for beginning in beginnings {
             words(SORTS, 4, &mut |end: &[u8]| self.read_text(&[beginning, end].concat(), 8, 4));
         }
@@ -56,8 +56,8 @@ impl<E: Engine> Comparison<'_, E> {
     fn every_byte(&mut self) {
         let sound: [&[u8]; 3] = [
             b"p(red,X,f(red,_,09)). % c\np(blue,_,9).",
-            b" rule( f(g(A,b1,c_,_D),65535) )\r\n.\r%x\np(h).",
-            b"p(a,b,c,d,e,f(1,2,3,4),00065535,_)\n.%",
+            b" rule( f(g(A,b1,c_,_D),-32768) )\r\n.\r%x\np(h).",
+            b"p(a,b,c,d,e,f(1,2,3,4),00032767,_)\n.%",
         ];
         for text in sound {
             for place in 0..text.len() {
@@ -83,7 +83,7 @@ impl<E: Engine> Comparison<'_, E> {
 
     /// The independent place of TEXT against a search through all ends: short texts, some of them damaged ones.
     fn searched(&mut self) {
-        const SOUND: [&[u8]; 8] = [b"p(a).", b"p(f(a)).", b"p(X,1).", b"p(a) .", b"%\np(a).", b"p(%\na).", b"p(a). %", b"b(00,_)."];
+        const SOUND: [&[u8]; 9] = [b"p(a).", b"p(f(a)).", b"p(X,1).", b"p(-0).", b"p(a) .", b"%\np(a).", b"p(%\na).", b"p(a). %", b"b(00,_)."];
         let mut texts: Vec<Vec<u8>> = Vec::new();
         words(SORTS, 2, &mut |text: &[u8]| texts.push(text.to_vec()));
         for _ in 0..500 {

@@ -101,7 +101,7 @@ pub fn longest_replies() -> (Vec<u32>, Vec<u32>) {
 }
 
 fn shop(random: &mut Random, rows: usize) -> Vec<Row> {
-    const URGENCIES: [u16; 5] = [9, 10, 5, 3, 1];
+    const URGENCIES: [i16; 5] = [9, 10, 5, 3, 1];
     let mut enamel = 0;
     let row = |number: usize| {
         if random.one_in(3) {
@@ -112,8 +112,8 @@ fn shop(random: &mut Random, rows: usize) -> Vec<Row> {
             0 | 1 => Term::Name(20 + piece, vec![Term::Name(30 + random.below(3) as u16, vec![])]),
             _ => Term::Name(20 + piece, vec![]),
         };
-        let heat = Term::Number(720 + 20 * random.below(5) as u16);
-        let minutes = Term::Number(2 + random.below(3) as u16);
+        let heat = Term::Number(720 + 20 * random.below(5) as i16);
+        let minutes = Term::Number(2 + random.below(3) as i16);
         let urgency = Term::Number(URGENCIES[number * URGENCIES.len() / rows]);
         let mut row = vec![urgency, Term::Name(10 + enamel, vec![]), piece, Term::Name(40, vec![heat, minutes])];
         if random.one_in(8) {

@@ -62,15 +62,21 @@ fn damage(random: &mut Random, text: &mut Vec<u8>) {
 
 /// Something put in that is Prolog, or nearly.
 fn strange(random: &mut Random, text: &mut Vec<u8>) {
-    const PIECES: [&[u8]; 20] = [
+    const PIECES: [&[u8]; 26] = [
         b"f(a,b,c,d,e)",
-        b"65536",
-        b"65535",
-        b"000065535",
+        b"32768",
+        b"32767",
+        b"000032767",
         b"99999999999999999999",
         b"'a b'",
         b"[a]",
         b"-1",
+        b"-32768",
+        b"-000032769",
+        b"- 1",
+        b"--1",
+        b"-a",
+        b"+1",
         b"0x1F",
         b"0'a",
         b"1_000",
@@ -217,15 +223,20 @@ impl Printer<'_> {
         self.text.extend(if shared { "X" } else { &word }.bytes());
     }
 
-    fn number(&mut self, value: u16) {
+    fn number(&mut self, value: i16) {
         let value = match self.random.below(400) {
-            0..=9 => 65_535,
-            10 => 65_536,
-            _ => u32::from(value),
+            0..=4 => 32_767,
+            5..=9 => -32_768,
+            10 => *self.random.pick(&[32_768, -32_769]),
+            _ => i32::from(value),
         };
+        // Zero too may have the sign.
+        if value < 0 || value == 0 && self.random.one_in(4) {
+            self.text.push(b'-');
+        }
         let zeros = if self.random.one_in(6) { self.random.below(9) } else { 0 };
         self.text.extend(std::iter::repeat_n(b'0', zeros));
-        self.text.extend(value.to_string().bytes());
+        self.text.extend(value.unsigned_abs().to_string().bytes());
     }
 
     fn gap(&mut self) {
@@ -311,7 +322,7 @@ pub fn long() -> Vec<(String, Vec<u8>)> {
 }
 
 /// Kinds of texts that one filling again and again makes as long as is wished: start, filling, end.
-pub const FILLED: [(&str, &[u8], &[u8], &[u8]); 22] = [
+pub const FILLED: [(&str, &[u8], &[u8], &[u8]); 23] = [
     ("spaces", b"", b" ", b""),
     ("spaces before a fact", b"", b" ", b"p(a)."),
     ("spaces after a fact", b"p(a).", b" ", b""),
@@ -326,7 +337,8 @@ pub const FILLED: [(&str, &[u8], &[u8], &[u8]); 22] = [
     ("one longer name again and again", b"p(abcdefgh", b",abcdefgh", b")."),
     ("one variable again and again", b"p(X", b",X", b")."),
     ("fresh variables", b"p(_", b",_", b")."),
-    ("numbers", b"p(1", b",65535", b")."),
+    ("numbers", b"p(1", b",32767", b")."),
+    ("numbers below zero", b"p(1", b",-32768", b")."),
     ("zeros", b"p(", b"0", b")."),
     ("a long name", b"p(", b"x", b")."),
     ("a long variable", b"p(_", b"X", b")."),

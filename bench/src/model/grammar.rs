@@ -1,4 +1,4 @@
-//! The texts of 02's W-201, as a grammar in rules and all its derivations followed at once: a set of stacks of what is still to come.
+//! The texts of 02's W-201 and W-206, as a grammar in rules and all its derivations followed at once: a set of stacks of what is still to come.
 //!
 //! ```text
 //! text     = gap fact { gap1 fact } gap                     gap1: a gap of at least one byte
@@ -6,7 +6,8 @@
 //! args     = gap term gap { "," gap term gap }
 //! term     = name | name "(" args ")" | variable | number   inside at most 4 arguments; a fact has any number of them
 //! gap      = { space | line feed | carriage return | "%" { any byte but a line feed } ( line feed | the end of the text ) }
-//! name     = a-z { a-z | A-Z | 0-9 | "_" }    variable = ( A-Z | "_" ) { the same }    number = 0-9 { 0-9 }, at most 65,535
+//! name     = a-z { a-z | A-Z | 0-9 | "_" }    variable = ( A-Z | "_" ) { the same }
+//! number   = 0-9 { 0-9 }, at most 32,767, or "-" 0-9 { 0-9 }, at most 32,768 after the sign
 //! ```
 //!
 //! Every stack that is kept can be completed, or stands beside one that can: so some text begins with the bytes read exactly where a stack is left.
@@ -21,8 +22,8 @@ enum Part {
     Term,
     /// The rest of a name or variable.
     Word,
-    /// The rest of a number whose digits so far have this value.
-    Digits(u32),
+    /// The rest of a number: the value of its digits so far, and the largest that they may have.
+    Digits(u32, u32),
     Gap,
     Blank,
     /// The rest of a comment.
@@ -42,18 +43,20 @@ enum Class {
     Lower,
     UpperOrUnderline,
     WordByte,
-    /// A digit after digits of this value.
-    Digit(u32),
+    /// A digit after digits of this value, and the largest with it.
+    Digit(u32, u32),
 }
 
 /// How many arguments may still come; None: any number.
 type Most = Option<u8>;
 
-const LARGEST: u32 = 65_535;
+const LARGEST: u32 = 32_767;
+const LARGEST_BELOW_ZERO: u32 = 32_768;
 const INSIDE: Most = Some(4);
 
 const OPEN: Part = One(Class::This(b'('));
 const CLOSE: Part = One(Class::This(b')'));
+const MINUS: Part = One(Class::This(b'-'));
 const COMMA: Part = One(Class::This(b','));
 const STOP: Part = One(Class::This(b'.'));
 const LINE_FEED: Part = One(Class::This(10));
@@ -78,15 +81,16 @@ fn ways(part: Part, way: &mut dyn FnMut(&[Part])) {
             way(&[lower, Word]);
             way(&[lower, Word, OPEN, Args(INSIDE), CLOSE]);
             way(&[One(Class::UpperOrUnderline), Word]);
-            way(&[One(Class::Digit(0))]);
+            way(&[One(Class::Digit(0, LARGEST))]);
+            way(&[MINUS, One(Class::Digit(0, LARGEST_BELOW_ZERO))]);
         }
         Word => {
             way(&[]);
             way(&[One(Class::WordByte), Word]);
         }
-        Digits(value) => {
+        Digits(value, largest) => {
             way(&[]);
-            way(&[One(Class::Digit(value))]);
+            way(&[One(Class::Digit(value, largest))]);
         }
         Gap => {
             way(&[]);
@@ -115,10 +119,10 @@ fn takes(class: Class, byte: u8) -> Option<Option<Part>> {
         Class::Lower => byte.is_ascii_lowercase(),
         Class::UpperOrUnderline => byte.is_ascii_uppercase() || byte == b'_',
         Class::WordByte => byte.is_ascii_alphanumeric() || byte == b'_',
-        Class::Digit(before) => {
+        Class::Digit(before, largest) => {
             let digit = byte.is_ascii_digit().then(|| u32::from(byte - b'0'))?;
             let value = 10 * before + digit;
-            return (value <= LARGEST).then_some(Some(Digits(value)));
+            return (value <= largest).then_some(Some(Digits(value, largest)));
         }
     };
     fits.then_some(None)
@@ -244,13 +248,16 @@ fn term(bytes: &[u8], at: usize) -> Option<usize> {
     match bytes.get(at)? {
         b'a'..=b'z' if bytes.get(end) == Some(&b'(') => args(bytes, end, 4),
         b'a'..=b'z' | b'A'..=b'Z' | b'_' => Some(end),
-        b'0'..=b'9' => {
-            let digits = std::str::from_utf8(&bytes[at..end]).ok()?;
-            let value: u128 = digits.parse().ok()?;
-            (value <= LARGEST.into()).then_some(end)
-        }
+        b'0'..=b'9' => digits(bytes, at, LARGEST),
+        b'-' => digits(bytes, at + 1, LARGEST_BELOW_ZERO),
         _ => None,
     }
+}
+
+fn digits(bytes: &[u8], at: usize, largest: u32) -> Option<usize> {
+    let end = word(bytes, at);
+    let value: u128 = std::str::from_utf8(&bytes[at..end]).ok()?.parse().ok()?;
+    (value <= largest.into()).then_some(end)
 }
 
 /// The place by its meaning, through all ends of up to six bytes: before it some text goes on so, with the byte there none does, or the text ends
@@ -266,7 +273,7 @@ fn begins(bytes: &[u8]) -> bool {
     fn longer(text: &mut Vec<u8>, left: usize) -> bool {
         is_text(text)
             || left > 0
-                && b"a().\n".iter().any(|&byte| {
+                && b"a0().\n".iter().any(|&byte| {
                     text.push(byte);
                     let found = longer(text, left - 1);
                     text.pop();

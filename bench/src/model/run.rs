@@ -42,7 +42,7 @@ enum Part {
     Open,
     Variable(u16),
     Name(u16, Vec<Part>),
-    Number(u16),
+    Number(i16),
 }
 
 /// Puts the cell into the open place of this index, counted from the left; true when that was done.

@@ -1,11 +1,11 @@
-//! Cells and terms (01, "Cells").
+//! Cells and terms (01, "Cells"; 02, W-206: a number is signed).
 
 /// What one cell says.
 #[derive(Clone, Copy, Debug, PartialEq, Eq)]
 pub enum Symbol {
     Variable(u16),
     Name { number: u16, arguments: usize },
-    Number(u16),
+    Number(i16),
 }
 
 impl Symbol {
@@ -16,7 +16,7 @@ impl Symbol {
         match (cell >> 30, between) {
             (0, 0) => Some(Symbol::Variable(number)),
             (1, 0..=4) => Some(Symbol::Name { number, arguments: between as usize }),
-            (2, 0) => Some(Symbol::Number(number)),
+            (2, 0) => Some(Symbol::Number(number as i16)),
             _ => None,
         }
     }
@@ -27,7 +27,7 @@ impl Symbol {
 pub enum Term {
     Var(u16),
     Name(u16, Vec<Term>),
-    Number(u16),
+    Number(i16),
 }
 
 impl Term {
@@ -36,7 +36,7 @@ impl Term {
         match self {
             Term::Var(number) => *number as u32,
             Term::Name(number, arguments) => 1 << 30 | (arguments.len() as u32) << 16 | *number as u32,
-            Term::Number(value) => 2 << 30 | *value as u32,
+            Term::Number(value) => 2 << 30 | u32::from(*value as u16),
         }
     }
 

@@ -1,4 +1,4 @@
-//! Tables from Prolog text (02, W-201): what a text means as a table, and the refusals in order. Which bytes are a text is in `grammar`.
+//! Tables from Prolog text (02, W-201 and W-206): what a text means as a table, and the refusals in order. Which bytes are a text is in `grammar`.
 
 use std::collections::HashMap;
 
@@ -50,11 +50,15 @@ pub fn load(text: &[u8]) -> Result<Loaded, Refusal> {
         let mut variables = Variables::default();
         cells.extend(fact.symbols.iter().map(|symbol| match symbol.word[0] {
             b'a'..=b'z' => 1 << 30 | (symbol.arguments as u32) << 16 | names.number(symbol),
-            b'0'..=b'9' => Term::Number(symbol.word.iter().fold(0, |value, digit| 10 * value + u16::from(digit - b'0'))).cell(),
+            b'-' | b'0'..=b'9' => Term::Number(value(symbol.word)).cell(),
             _ => Term::Var(variables.number(symbol.word)).cell(),
         }));
     }
     Ok(Loaded { cells, names: names.list })
+}
+
+fn value(word: &[u8]) -> i16 {
+    std::str::from_utf8(word).expect("a sign and digits").parse().expect("a number of 16 bits")
 }
 
 /// A name, variable or number inside a fact.
@@ -106,13 +110,14 @@ fn without_comments(text: &[u8]) -> Vec<u8> {
     text.iter().map(blanked).collect()
 }
 
-/// The words and the marks, each with its start.
+/// The words and the marks, each with its start; a minus sign belongs to the digits after it.
 fn words<'t>(text: &'t [u8], plain: &[u8]) -> Vec<(usize, &'t [u8])> {
     let in_word = |byte: u8| byte.is_ascii_alphanumeric() || byte == b'_';
     let mut words = Vec::new();
     let mut at = 0;
     while at < plain.len() {
-        let bytes = plain[at..].iter().take_while(|&&byte| in_word(byte)).count().max(1);
+        let sign = usize::from(plain[at] == b'-');
+        let bytes = (sign + plain[at + sign..].iter().take_while(|&&byte| in_word(byte)).count()).max(1);
         if !plain[at].is_ascii_whitespace() {
             words.push((at, &text[at..at + bytes]));
         }

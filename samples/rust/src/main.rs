@@ -196,7 +196,7 @@ fn term(rest: &mut &[u32]) -> String {
                 format!("{name}({})", arguments.join(", "))
             }
         }
-        _ => (cell & 0xffff).to_string(),
+        _ => (cell as i16).to_string(),
     }
 }
 

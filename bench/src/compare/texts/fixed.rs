@@ -1,4 +1,4 @@
-//! Texts with their answers written down: how 02's W-201 is read.
+//! Texts with their answers written down: how 02's W-201 and W-206 are read.
 
 use super::{lend_two, shown, Comparison};
 use crate::engine::{Definition, Engine};
@@ -29,8 +29,8 @@ fn n(number: u32, arguments: u32) -> u32 {
     1 << 30 | arguments << 16 | number
 }
 
-fn i(value: u32) -> u32 {
-    2 << 30 | value
+fn i(bits: u32) -> u32 {
+    2 << 30 | bits
 }
 
 impl<E: Engine> Comparison<'_, E> {
@@ -47,15 +47,17 @@ impl<E: Engine> Comparison<'_, E> {
             self.answers(&[byte].repeat(65_536), 9, 9, refused(BYTES, TEXT, 0));
         }
         self.answers(&b" ".repeat(65_535), 9, 9, refused(NO_TEXT, TEXT, 65_535));
-        let stops: [(usize, &[&[u8]]); 8] = [
+        let stops: [(usize, &[&[u8]]); 10] = [
             (0, &[b"", b"P(a).", b".", b"\t", b"9(a).", b"_(a).", b":- p."]),
             (1, &[b"p", b"p.", b"p (a).", b"p-", b"%", b" "]),
-            (2, &[b"p().", b"p('a').", b"p([]).", b"p(-1).", b"p(.).", b"p(,a).", b"p({a}).", b"p(\"a\").", b"p(\ta).", b"pp", b"p("]),
+            (2, &[b"p().", b"p('a').", b"p([]).", b"p(+1).", b"p(.).", b"p(,a).", b"p({a}).", b"p(\"a\").", b"p(\ta).", b"pp", b"p("]),
+            (3, &[b"p(- 1).", b"p(--1).", b"p(-a).", b"p(-A).", b"p(-.", b"p(-", b"p(-%\n1).", b"p(a-1).", b"p(X-1)."]),
             (3, &[b"p(9a).", b"p(A(a)).", b"p(a", b"p(a.", b"p(0'a).", b"p(0x1).", b"p(1_000).", b"p(1.5).", b"p(a|b).", b"p(a+b)."]),
             (4, &[b"p(a)", b"p(f (a)).", b"p(a b).", b"p(a):-q.", b"p(f()).", b"p(a,).", b"p(a)\t.", b"p(a)p", b"p(A (a))."]),
             (5, &[b"p(a).p(b).", b"p(a).\t", b"p(a)..", b"p(a).a", b"p(a)\n\x0c."]),
-            (6, &[b"p(65536).", b"p(a). .", b"p(99999).", b"p(a). P(b)."]),
-            (11, &[b"p(f(a,b,c,d,e)).", b"p(0000065536)."]),
+            (6, &[b"p(32768).", b"p(a). .", b"p(65535).", b"p(99999).", b"p(a). P(b)."]),
+            (7, &[b"p(-32769).", b"p(-65535).", b"p(-99999).", b"p(a,-32"]),
+            (11, &[b"p(f(a,b,c,d,e)).", b"p(0000032768)."]),
         ];
         for (place, texts) in stops {
             for text in texts {
@@ -107,7 +109,10 @@ impl<E: Engine> Comparison<'_, E> {
         self.reads(b"p(red,X,f(red,_,09)). % c\np(blue,_,9).", &cells, &[(2, 3), (8, 1), (28, 4)]);
         self.reads(b"p(p).", &[1, 1, n(0, 0)], &[(2, 1)]);
         self.reads(b"p(_,_X,_Y,_).", &[4, 1, v(0), v(1), v(2), v(3)], &[]);
-        self.reads(b"p(65535). p(00000065535). p(0). p(00).", &[1, 4, i(65_535), i(65_535), i(0), i(0)], &[]);
+        self.reads(b"p(32767). p(00000032767). p(0). p(00).", &[1, 4, i(32_767), i(32_767), i(0), i(0)], &[]);
+        self.reads(b"p(-1,-32768,-0).", &[3, 1, i(65_535), i(32_768), i(0)], &[]);
+        self.reads(b"p(32767). p(-7).", &[1, 2, i(32_767), i(65_529)], &[]);
+        self.reads(b"p(-00,f(-007,-000032768)).", &[2, 1, i(0), n(0, 2), i(65_529), i(32_768)], &[(6, 1)]);
         self.reads(b"p(X). p(X).%", &[1, 2, v(0), v(0)], &[]);
         self.reads(b"\r\n %c\n  p( aB_9 , Ab )\r.%p(b,c).\r\np(ab,_)\n.", &[2, 2, n(0, 0), v(0), n(1, 0), v(0)], &[(11, 4), (36, 2)]);
         let nested = [b"p(", &b"f(".repeat(31)[..], b"a", &b")".repeat(31)[..], b")."].concat();

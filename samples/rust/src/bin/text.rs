@@ -127,7 +127,7 @@ impl Shop<'_> {
                     format!("{name}({})", arguments.join(", "))
                 }
             }
-            _ => (cell & 0xffff).to_string(),
+            _ => (cell as i16).to_string(),
         }
     }
 }
