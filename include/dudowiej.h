@@ -15,8 +15,7 @@
  * A list is passed as a pointer and a length. The pointer is aligned for its type and not null, even where the length is 0. A lent room
  * shares no memory with the inputs. The functions keep nothing between calls, and allocate nothing. Of its caller's stack a call touches at
  * most 93,280 bytes to build a plan, 61,208 to load a text, 44,104 for replies, 31,352 to run a plan, 14,520 to check one and 1,288 to
- * read (measured: docs/BENCH.md, "Stack"). */,
- * most 85,856 bytes to build a plan, 31,608 to run one, 14,520 to check one and 1,288 to read (measured: docs/BENCH.md, "Stack"). */
+ * read (measured: docs/BENCH.md, "Stack"). */
 #ifndef DUDOWIEJ_H
 #define DUDOWIEJ_H
 

@@ -91,7 +91,7 @@ int main(int argc, char **argv) {
         return 2;
     }
     size_t table_cells = load(argv[1], table, DUDOWIEJ_TABLE_CELLS + 1);
-    uint64_t built = dudowiej_build_plan(table, table_cells, plan, DUDOWIEJ_PLAN_CELLS);
+    uint64_t built = dudowiej_build_plan(table, table_cells, 0, plan, DUDOWIEJ_PLAN_CELLS);
     size_t plan_cells = dudowiej_first(built);
     ask_everything();
     uint64_t ran = dudowiej_run_jobs(table, table_cells, plan, plan_cells, cells, GOALS * GOAL_CELLS, jobs, GOALS);

@@ -90,10 +90,10 @@ static int prepare(const char *path) {
     names_count = dudowiej_second(read);
     printf("text: %u rules of %u columns, %zu names\n", table[1], table[0], names_count);
 
-    uint64_t built = dudowiej_build_plan(table, table_cells, plan, DUDOWIEJ_PLAN_CELLS);
+    uint64_t built = dudowiej_build_plan(table, table_cells, 0, plan, DUDOWIEJ_PLAN_CELLS);
     if (refused(stderr, "text", built)) return 1;
     plan_cells = dudowiej_first(built);
-    printf("plan: %u branches\n", dudowiej_second(built));
+    printf("plan: cost %u with figure 0\n", dudowiej_second(built));
     return 0;
 }
 

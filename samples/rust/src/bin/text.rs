@@ -41,8 +41,8 @@ fn load(path: &Path) -> std::io::Result<Vec<u8>> {
 fn shop(text: &[u8]) -> Result<(), Refusal> {
     let loaded = dudowiej::read_text(text)?;
     println!("text: {} rules of {} columns, {} names", loaded.table[1], loaded.table[0], loaded.names.len());
-    let (plan, branches) = dudowiej::build_plan(&loaded.table)?;
-    println!("plan: {branches} branches");
+    let (plan, cost) = dudowiej::build_plan(&loaded.table, 0)?;
+    println!("plan: cost {cost} with figure 0");
 
     let shop = Shop { text, loaded, plan };
     let name = |word| shop.name(word, 0);
