@@ -9,7 +9,7 @@ use lib.Dec.{eqb}
 use Rattle.refusal.specs.declared.Reason.{Reason}
 use Rattle.refusal.specs.declared.Reason.the-variants.{Length, Width, Count, Long, Short, Cell, Fresh, Twice}
 use Rattle.refusal.specs.declared.Reason.the-variants.{Extra, Size, Ends, Open, Edges, Label, Rows, Room}
-use Rattle.refusal.specs.declared.Reason.the-variants.{Bytes, Text, Other, Figure}
+use Rattle.refusal.specs.declared.Reason.the-variants.{Bytes, Text, Other, Figure, Full, Last, Index}
 use Rattle.refusal.specs.declared.Input.{Input}
 use Rattle.refusal.specs.declared.Input.the-variants.{Table, Plan, Goal, Lent}
 use Rattle.refusal.specs.declared.Input.the-variants as input
@@ -43,6 +43,9 @@ reasons =
     ∷ Text
     ∷ Other
     ∷ Figure
+    ∷ Full
+    ∷ Last
+    ∷ Index
     ∷ []
 
 reasonAt : ℕ → Reason
@@ -70,6 +73,9 @@ reason-found Bytes = (refl, omega arith, omega arith)
 reason-found Text = (refl, omega arith, omega arith)
 reason-found Other = (refl, omega arith, omega arith)
 reason-found Figure = (refl, omega arith, omega arith)
+reason-found Full = (refl, omega arith, omega arith)
+reason-found Last = (refl, omega arith, omega arith)
+reason-found Index = (refl, omega arith, omega arith)
 
 inputs : List Input
 inputs = Table ∷ Plan ∷ Goal ∷ Lent ∷ input.Text ∷ input.Figure ∷ []

@@ -3,7 +3,7 @@ ghost use mathlib.Core.Path.{_≡_};
 ghost use Prim.Native.Nat.{_<_, _^_};
 ghost use Rattle.refusal.specs.Refusal.{numberOf, inputOf};
 
-// 01, "What is turned away", and 02, W-201, "BYTES; TEXT; OTHER", W-204, "FIGURE": the names, in the order of their numbers.
+// 01, "What is turned away", and 02, W-201, "BYTES; TEXT; OTHER", W-204, "FIGURE", W-207, "FULL .. LAST .. INDEX": the names, in the order of their numbers.
 pub enum Reason {
     Length,
     Width,
@@ -25,6 +25,9 @@ pub enum Reason {
     Text,
     Other,
     Figure,
+    Full,
+    Last,
+    Index,
 }
 
 // 01, "which input it concerns (table, plan, goal or lent room)"; or a text (02, W-201), or a figure (W-204).
@@ -70,6 +73,9 @@ pub fn number_of(reason: Reason) -> usize
         Reason::Text => 18,
         Reason::Other => 19,
         Reason::Figure => 20,
+        Reason::Full => 21,
+        Reason::Last => 22,
+        Reason::Index => 23,
     }
 }
 

@@ -1,7 +1,7 @@
--- A table and a goal are accepted exactly when they are what 01 calls a table and a goal, and a table's rows are then those that are read.
+-- A table, a goal and a row are accepted exactly when they are what 01 calls so, and a table's rows are then those that are read.
 use mathlib.Core.Path.{_≡_, refl, sym, _∙_, ap}
 use mathlib.Core.Logic.{_↔_}
-use mathlib.Core.Bool.{true, false, _||_}
+use mathlib.Core.Bool.{Bool, true, false, _||_}
 use mathlib.Core.List.{List, [], _∷_, _++_, flatten, append-nil, List·Memᴰ}
 use Prim.Native.Nat.{ℕ, zero, suc, _+_, _*_, _≤_, _<_}
 use native.Mathlib.Omega.{arith}
@@ -14,12 +14,12 @@ use Rattle.table.specs.All.{All}
 use Rattle.refusal.specs.Refusal.{refused}
 use Rattle.refusal.specs.declared.Reason.the-variants as reason
 use Rattle.refusal.specs.declared.Input.the-variants as input
-use Rattle.refusal.specs.Read.{read, when}
-use Rattle.table.specs.Table.{Met, met, Table, table, termsFrom, rowsFrom, tableOf, goalOf, appear, Head, Row, IsTable, IsGoal}
+use Rattle.refusal.specs.Read.{Read, read, when}
+use Rattle.table.specs.Table.{Met, met, Table, table, termsFrom, rowsFrom, tableOf, goalOf, rowOf, appear, Head, Row, IsTable, IsGoal}
 use Rattle.table.proofs.ReadLaws.{not-both, passed, read-one, first, inside, within-bounds}
 use Rattle.table.proofs.WholeLaws.{terms-pass, Whole, whole}
-use Rattle.table.proofs.HeadLaws.{passed-head, head-passes, head-below, head-few}
-use Rattle.table.proofs.RowsLaws.{RowsAre, rows-are, are-rows}
+use Rattle.table.proofs.HeadLaws.{passed-head, head-passes, row-passes, head-below, head-few}
+use Rattle.table.proofs.RowsLaws.{RowsAre, rows-are, are-rows, whole-row}
 
 -- two cells, and what follows
 two-cells : (t : List ℕ) → 2 ≤ length t → t ≡ getD t 0 0 ∷ (getD t 1 0 ∷ drop 2 t)
@@ -58,10 +58,11 @@ unfolding flatten
 few-cells w [] a = omega arith
 few-cells w (r ∷ rs) a = omega (arith, few-cells w rs (a .1), a .0 .head .short, length-append r (flatten rs))
 
-table-is : (w : ℕ) (rows : List (List ℕ)) → (1 ≤ w) × (w ≤ 8) → (1 ≤ length rows) × (length rows ≤ 64) → All (Row w) rows
+-- rows of 01, as many as a table may have, written after their width and number, are accepted as these rows
+pub rows-accepted : (w : ℕ) (rows : List (List ℕ)) → (1 ≤ w) × (w ≤ 8) → (1 ≤ length rows) × (length rows ≤ 64) → All (Row w) rows
     → tableOf (w ∷ (length rows ∷ flatten rows)) ≡ read (table w rows)
 unfolding tableOf
-table-is w rows b c a =
+rows-accepted w rows b c a =
     let l = few-cells w rows a in
     rw (
       within-bounds (suc (suc (length (flatten rows)))) 2 2050 (omega arith) (omega arith),
@@ -72,7 +73,17 @@ table-is w rows b c a =
 
 -- 01, "A table is: width (1 to 8), row count (1 to 64), then the rows": a table is accepted exactly when it is one, and then as these rows
 pub table-accepted : (t : List ℕ) (w : ℕ) (rows : List (List ℕ)) → (tableOf t ≡ read (table w rows)) ↔ IsTable t w rows
-table-accepted t w rows = (is-table t, λ i. ap tableOf (i .cells) ∙ table-is w rows (i .width) (i .count) (i .each))
+table-accepted t w rows = (is-table t, λ i. ap tableOf (i .cells) ∙ rows-accepted w rows (i .width) (i .count) (i .each))
+
+-- terms that are read up to the end of a list are all of it
+all-read : {row : Bool} {w : ℕ} {xs : List ℕ} {m : Met} (o : Whole row xs w 0 m) → ltb (m .next) (length xs) ≡ false → xs ≡ o .front .cells
+all-read {xs = xs} {m} o e =
+    let f = o .front in
+    let l = ltb-false (m .next) (length xs) e in
+    let n = length-append (f .cells) (f .rest) in
+    let k = ap length (f .split) in
+    let z : f .rest ≡ [] = nil-of-length (f .rest) (omega (arith, o .next)) in
+    f .split ∙ ap (λ (s : List ℕ). f .cells ++ s) z ∙ append-nil (f .cells)
 
 -- a goal that is read, with its number of variables
 pub is-goal : (w : ℕ) (g : List ℕ) {v : ℕ} → goalOf w g ≡ read v → IsGoal w g × (v ≡ length (appear [] g))
@@ -83,16 +94,12 @@ is-goal w g {v} e =
     let f = first (termsFrom false g w 0 0 0) (λ (m : Met). when (ltb (m .next) (length g)) (refused reason.Extra input.Goal (m .next)) (read (m .vars))) (a .1) in
     let c = passed (ltb (f .0 .next) (length g)) _ _ (f .2) in
     let o = whole false g w 0 (f .1) in
-    let h = by-whole o (ltb-false (f .0 .next) (length g) (c .0)) (b .1) in
+    let h = by-whole o (c .0) (b .1) in
     (record { head = h .0; some = b .0 }, sym (read-one (c .1)) ∙ h .1)
   where
-    by-whole : {w : ℕ} {g : List ℕ} {m : Met} → Whole false g w 0 m → length g ≤ m .next → length g ≤ 32 → Head w g × (m .vars ≡ length (appear [] g))
-    by-whole {w} {g} o l k =
-        let n = length-append (o .front .cells) (o .front .rest) in
-        let m = ap length (o .front .split) in
-        let z : o .front .rest ≡ [] = nil-of-length (o .front .rest) (omega (arith, o .next)) in
-        let q : g ≡ o .front .cells = o .front .split ∙ ap (λ (xs : List ℕ). o .front .cells ++ xs) z ∙ append-nil (o .front .cells) in
-        rw q (passed-head (o .front .terms) (omega arith) false 0 (o .tested))
+    by-whole : {w : ℕ} {g : List ℕ} {m : Met} → Whole false g w 0 m → ltb (m .next) (length g) ≡ false → length g ≤ 32
+        → Head w g × (m .vars ≡ length (appear [] g))
+    by-whole o e k = let q = all-read o e in rw q (passed-head (o .front .terms) (omega (arith, ap length q)) false 0 (o .tested))
 
 pub goal-is : (w : ℕ) (g : List ℕ) → IsGoal w g → goalOf w g ≡ read (length (appear [] g))
 unfolding goalOf
@@ -104,6 +111,27 @@ goal-is w g i =
 -- 01, "A goal is read with its table: width terms, 1 to 32 cells in all": a goal is accepted exactly when it is one
 pub goal-accepted : (w : ℕ) (g : List ℕ) → ((v : ℕ) × (goalOf w g ≡ read v)) ↔ IsGoal w g
 goal-accepted w g = (λ r. is-goal w g (r .1) .0, λ i. (length (appear [] g), goal-is w g i))
+
+-- a row that is read by itself
+is-row : (w : ℕ) (r : List ℕ) {v : ℕ} → rowOf w r ≡ read v → Row w r
+unfolding rowOf
+is-row w r {v} e =
+    let last : Met → Read ℕ = λ m. when (ltb (m .next) (length r)) (refused reason.Extra input.Table (m .next)) (read (m .vars)) in
+    let f = first (termsFrom true r w 0 0 0) last e in
+    let c = passed (ltb (f .0 .next) (length r)) _ _ (f .2) in
+    let o = whole true r w 0 (f .1) in
+    rw (all-read o (c .0)) (whole-row o)
+
+row-is : (w : ℕ) (r : List ℕ) → Row w r → rowOf w r ≡ read (length (appear [] r))
+unfolding rowOf
+row-is w r i =
+    let h : termsFrom true r w 0 0 0 ≡ read (met (0 + length r) (length (appear [] r))) =
+    rw append-nil at (terms-pass (i .head .terms) [] true 0 0 0 (λ _. omega (arith, i .head .short))) ∙ rw (row-passes 0 i) in
+    rw (h, le-ltb (0 + length r) (length r) (omega arith))
+
+-- 01, "A row is width terms one after another, at most 32 cells": a row by itself is accepted exactly when it is one
+pub row-accepted : (w : ℕ) (r : List ℕ) → ((v : ℕ) × (rowOf w r ≡ read v)) ↔ Row w r
+row-accepted w r = (λ a. is-row w r (a .1), λ i. (length (appear [] r), row-is w r i))
 
 -- What an accepted table and goal have, for those who go on with them.
 

@@ -9,7 +9,7 @@ use Rattle.refusal.specs.declared.Reason.{Reason}
 use Rattle.refusal.specs.declared.Reason.the-variants as reason
 use Rattle.refusal.specs.declared.Input.{Input}
 use Rattle.refusal.specs.declared.Input.the-variants as input
-use Rattle.table.specs.Table.{termsFrom, rowsFrom, tableOf, goalOf, goalWith, tableSays, goalSays, starts, startsIn, rowIn}
+use Rattle.table.specs.Table.{termsFrom, rowsFrom, tableOf, goalOf, goalWith, rowOf, tableSays, goalSays, starts, startsIn, rowIn}
 
 abbrev a : ℕ
 a = nameCell 0 1
@@ -54,6 +54,9 @@ of-goal n g w = record { got = says (goalSays g (goalOf n g)); wanted = says w }
 
 abbrev of-both : List ℕ → List ℕ → Answer → Case
 of-both t g w = record { got = says (goalSays g (goalWith t g)); wanted = says w }
+
+abbrev of-one : ℕ → List ℕ → Answer → Case
+of-one n r w = record { got = says (goalSays r (rowOf n r)); wanted = says w }
 
 abbrev of-row : List ℕ → ℕ → List ℕ → Case
 of-row t r w = record { got = cells (rowIn (tableOf t) r); wanted = cells w }
@@ -102,6 +105,15 @@ cases =
     ∷ of-both (0 ∷ 1 ∷ a ∷ []) [] (no reason.Width input.Table 0)
     ∷ of-both two-rows (a ∷ []) (no reason.Short input.Goal 1)
     ∷ of-both two-rows (v0 ∷ v0 ∷ []) (answered 2 1)
+    -- W-207, a row by itself, as a table's: LONG and TWICE are its own, EXTRA comes last, places are counted from its start
+    ∷ of-one 3 [] (no reason.Short input.Table 0)
+    ∷ of-one 3 (a ∷ b ∷ []) (no reason.Short input.Table 2)
+    ∷ of-one 3 (a ∷ b ∷ a ∷ bad ∷ []) (no reason.Extra input.Table 3)
+    ∷ of-one 3 (a ∷ v0 ∷ v0 ∷ []) (no reason.Twice input.Table 2)
+    ∷ of-one 3 (a ∷ v1 ∷ b ∷ []) (no reason.Fresh input.Table 1)
+    ∷ of-one 3 (a ∷ bad ∷ b ∷ []) (no reason.Cell input.Table 1)
+    ∷ of-one 3 (replicate 33 f1) (no reason.Long input.Table 32)
+    ∷ of-one 3 (a ∷ f1 ∷ v0 ∷ v1 ∷ []) (answered 4 2)
     -- rows by their numbers; none where the table is refused or has no such row
     ∷ of-row two-rows 0 (f1 ∷ a ∷ v0 ∷ [])
     ∷ of-row two-rows 1 (b ∷ numberCell 9 ∷ [])
@@ -113,5 +125,5 @@ cases =
     ∷ []
 
 pub computed : map (λ (k : Case). k .got) cases ≡ map (λ (k : Case). k .wanted) cases
-unfolding cases tableOf rowsFrom termsFrom goalOf starts valuesAt
+unfolding cases tableOf rowsFrom termsFrom goalOf rowOf starts valuesAt
 computed = refl

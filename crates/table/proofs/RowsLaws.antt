@@ -50,7 +50,8 @@ pub record RowsAre (w n : ℕ) (xs : List ℕ) (rows : List (List ℕ)) : Type 0
   pub cells : xs ≡ flatten rows
   pub each : All (Row w) rows
 
-whole-row : {xs : List ℕ} {w p : ℕ} {m : Met} (o : Whole true xs w p m) → Row w (o .front .cells)
+-- cells that are read whole as a row are one
+pub whole-row : {xs : List ℕ} {w p : ℕ} {m : Met} (o : Whole true xs w p m) → Row w (o .front .cells)
 whole-row {p = p} o = passed-row (o .front .terms) (omega (arith, o .front .room refl)) p (o .tested)
 
 before-read : (r : List ℕ) (R : Read (List (List ℕ))) {rows : List (List ℕ)} → before r R ≡ read rows → (rs : List (List ℕ)) × (R ≡ read rs) × (rows ≡ r ∷ rs)

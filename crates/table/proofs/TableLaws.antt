@@ -1,4 +1,4 @@
--- A table and a goal, by the first test that fails.
+-- A table, a goal and a row by itself, by the first test that fails.
 use mathlib.Core.Path.{_≡_}
 use mathlib.Core.Bool.{true, false, _||_}
 use mathlib.Core.List.{List}
@@ -10,7 +10,7 @@ use Rattle.refusal.specs.Refusal.{Refused, refused}
 use Rattle.refusal.specs.declared.Reason.the-variants as reason
 use Rattle.refusal.specs.declared.Input.the-variants as input
 use Rattle.refusal.specs.Read.{read, refuse, andThen}
-use Rattle.table.specs.Table.{met, table, termsFrom, rowsFrom, tableOf, goalOf}
+use Rattle.table.specs.Table.{met, table, termsFrom, rowsFrom, tableOf, goalOf, rowOf}
 
 module _ (t : List ℕ) where
   pub table-length : (ltb (length t) 2 || ltb 2050 (length t)) ≡ true → tableOf t ≡ refuse (refused reason.Length input.Table 0)
@@ -49,3 +49,17 @@ module _ (w : ℕ) (g : List ℕ) where
     pub goal-whole : {e v : ℕ} → termsFrom false g w 0 0 0 ≡ read (met e v) → length g ≤ e → goalOf w g ≡ read v
     unfolding goalOf
     goal-whole e h = rw (a, e, le-ltb _ (length g) h)
+
+module _ (w : ℕ) (r : List ℕ) where
+  pub row-turned : {f : Refused} → termsFrom true r w 0 0 0 ≡ refuse f → rowOf w r ≡ refuse f
+  unfolding rowOf
+  row-turned e = rw e
+
+  pub row-extra : {e v : ℕ} → termsFrom true r w 0 0 0 ≡ read (met e v) → e < length r
+      → rowOf w r ≡ refuse (refused reason.Extra input.Table e)
+  unfolding rowOf
+  row-extra e h = rw (e, lt-ltb _ (length r) h)
+
+  pub row-whole : {e v : ℕ} → termsFrom true r w 0 0 0 ≡ read (met e v) → length r ≤ e → rowOf w r ≡ read v
+  unfolding rowOf
+  row-whole e h = rw (e, le-ltb _ (length r) h)

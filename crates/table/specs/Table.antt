@@ -11,9 +11,11 @@ use Rattle.term.specs.Terms.{Terms}
 use Rattle.table.specs.declared.TableAnswer.{TableAnswer}
 use Rattle.table.specs.declared.TableRead.{TableRead}
 use Rattle.table.specs.declared.GoalAnswer.{GoalAnswer}
+use Rattle.table.specs.declared.RowAnswer.{RowAnswer}
 use Rattle.table.specs.declared.Part.{Part}
 use Rattle.table.specs.declared.TableAnswer.the-variants as table-answer
 use Rattle.table.specs.declared.GoalAnswer.the-variants as goal-answer
+use Rattle.table.specs.declared.RowAnswer.the-variants as row-answer
 use Rattle.table.specs.All.{All}
 use Rattle.refusal.specs.Refusal.{Refused, refused, told, Answer, answered, turned}
 use Rattle.refusal.specs.declared.Reason.{Reason}
@@ -94,6 +96,12 @@ goalOf width goal =
     (andThen (termsFrom false goal width 0 0 0) (λ (m : Met).
     when (ltb (m .next) (length goal)) (refused reason.Extra input.Goal (m .next)) (read (m .vars))))
 
+-- 02, W-207, "then 01's from LONG on for the new row, places from its start": a row by itself, and how many variables it has
+unfoldable pub rowOf : ℕ → List ℕ → Read ℕ
+rowOf width row =
+    andThen (termsFrom true row width 0 0 0) (λ (m : Met).
+    when (ltb (m .next) (length row)) (refused reason.Extra input.Table (m .next)) (read (m .vars)))
+
 -- What the entries answer.
 
 -- where each row starts, the first at p
@@ -132,6 +140,11 @@ goalSays g (refuse f) = turned f
 abbrev pub goalTold : GoalAnswer → Answer
 goalTold (goal-answer.Accepted n v) = answered n v
 goalTold (goal-answer.Refused f) = turned (told f)
+
+-- what is answered for a row by itself
+abbrev pub rowTold : RowAnswer → Read ℕ
+rowTold (row-answer.Accepted v) = read v
+rowTold (row-answer.Refused f) = refuse (told f)
 
 -- 01, "The row handed out by number is that part of the lent table and no copy; where the table is refused or has no such row, that part is
 -- empty"

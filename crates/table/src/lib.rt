@@ -9,7 +9,8 @@ ghost use lib.ListN.{length, drop};
 ghost use Rattle.refusal.specs.Refusal.{refused};
 ghost use Rattle.refusal.specs.declared.Input.the-variants as input;
 ghost use Rattle.refusal.specs.Read.{read, refuse, andThen};
-ghost use Rattle.table.specs.Table.{table, rowsFrom, tableOf, goalOf, goalWith, rowIn, TableReads, RowPlace, goalTold, goalSays};
+ghost use Rattle.table.specs.Table.{table, rowsFrom, tableOf, goalOf, goalWith, rowOf, rowIn};
+ghost use Rattle.table.specs.Table.{TableReads, RowPlace, goalTold, goalSays, rowTold};
 use refusal::Input;
 use refusal::Reason;
 use refusal::Refusal;
@@ -30,6 +31,12 @@ pub struct TableRead {
 // A goal that is read: its number of cells and of variables; or why it is turned away.
 pub enum GoalAnswer {
     Accepted(usize, usize),
+    Refused(Refusal),
+}
+
+// A row that is read by itself: its number of variables; or why it is turned away.
+pub enum RowAnswer {
+    Accepted(usize),
     Refused(Refusal),
 }
 
@@ -143,6 +150,21 @@ pub fn read_goal(table: &[u32], goal: &[u32]) -> GoalAnswer
     match answer {
         TableAnswer::Accepted(width, _) => goal_for(width, goal),
         TableAnswer::Refused(f) => GoalAnswer::Refused(f),
+    }
+}
+
+// A row by itself, as it would stand in a table of a width: any width, any cells.
+pub fn row_for(width: usize, row: &[u32]) -> RowAnswer
+    ensures { λ r. ⌜ rowTold r ≡ rowOf width (now (row .entry)) ⌝ }
+{
+    match terms::read_row(row, 0, width) {
+        TermsRead::Whole(e, vars) => {
+            if e < row.len() {
+                return RowAnswer::Refused(terms::refusal(true, Reason::Extra, e));
+            }
+            RowAnswer::Accepted(vars)
+        }
+        TermsRead::Turned(f) => RowAnswer::Refused(f),
     }
 }
 
