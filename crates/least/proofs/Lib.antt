@@ -21,3 +21,6 @@ pub mod ScanLaws
 pub mod Measured
 pub mod Weighed
 pub mod Again
+pub mod Places
+-- what is written from any kept places
+pub mod FollowLaws

@@ -32,8 +32,24 @@ pub data Entry (measure : Measure) (width : ℕ) (rows : List (List ℕ)) (first
       → Closes width (between first last rows) (suc others) left → Stuck (suc others) left → Least measure (suc others) left count
       → place ≤ others → Chosen measure others left place → Entry measure width rows first last count place
 
--- the arrays, indexed by 64 times the first row and the last: an entry for every pair of numbers below 64
-pub record Entries (measure : Measure) (width : ℕ) (rows : List (List ℕ)) (cost place : List ℕ) : Type 0 where
-  pub size : (length cost ≡ 4096) × (length place ≡ 4096)
-  pub entry : (first last : ℕ) → first < 64 → last < 64
-      → Entry measure width rows first last (getD cost (64 * first + last) 0) (getD place (64 * first + last) 0)
+-- Where they are kept: 12,288 numbers in three parts of 4,096, each with a number for every pair of first and last row, at 64 times the
+-- first plus the last. What the pair's rows cost with nothing closed; the pair's entry, its least cost and its place
+abbrev pub wholeIn : List ℕ → ℕ → ℕ → ℕ
+wholeIn kept first last = getD kept (64 * first + last) 0
+
+abbrev pub costIn : List ℕ → ℕ → ℕ → ℕ
+costIn kept first last = getD kept (4096 + (64 * first + last)) 0
+
+abbrev pub placeIn : List ℕ → ℕ → ℕ → ℕ
+placeIn kept first last = getD kept (8192 + (64 * first + last)) 0
+
+-- what is kept for a pair of rows is right
+pub record RightAt (measure : Measure) (width : ℕ) (rows : List (List ℕ)) (kept : List ℕ) (first last : ℕ) : Type 0 where
+  pub whole : Least measure width (between first last rows) (wholeIn kept first last)
+  pub entry : Entry measure width rows first last (costIn kept first last) (placeIn kept first last)
+
+-- at a pair an array is as it was
+pub record SameAt (first last : ℕ) (old new : List ℕ) : Type 0 where
+  pub whole : wholeIn new first last ≡ wholeIn old first last
+  pub cost : costIn new first last ≡ costIn old first last
+  pub place : placeIn new first last ≡ placeIn old first last

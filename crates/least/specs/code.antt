@@ -2,3 +2,4 @@
 pub mod Best
 pub mod Low
 pub mod Pairs
+pub mod Follow
