@@ -5,30 +5,29 @@ use mathlib.Core.Bool.{Bool, true, false}
 use mathlib.Core.List.{List, [], _∷_}
 use Prim.Native.Nat.{ℕ, suc, _+_, _-_, _*_, _≤_, _<_, min}
 use native.Mathlib.Omega.{arith}
-use native.Mathlib.Numerals.{add-one}
 use lib.ListN.{length, getD, set, length-set}
 use lib.Seq.{slice, slice-cons, length-slice, getD-set-same, getD-set-other, slice-empty}
 use lib.Dec.{eqb, leb, ltb}
 use borrow.Author.Tests.{eqb-true, eqb-false, leb-true, leb-false, ltb-true, ltb-false, lt-ltb}
-use Rattle.term.specs.Terms.{Terms}
 use Rattle.plan.specs.code.Fits.{Fits}
 use Rattle.table.proofs.AllLaws.{all-at}
-use Rattle.least.specs.code.Pairs.{agreedOf, leastBy, placeBy, wholeBy}
+use Rattle.least.specs.Entries.{wholeIn, costIn, placeIn, SameAt}
+use Rattle.least.specs.code.Pairs.{agreedOf, leastBy, placeBy}
 use Rattle.entries.specs.declared.arrays.Asked.{Asked}
 use Rattle.entries.specs.declared.arrays.Row.{Row}
-use Rattle.entries.specs.Fill.{wholeIn, costIn, placeIn, SameAt}
-use Rattle.entries.specs.code.Notes.{noteIn, readIn, weightOf, Noted, NextRow, RowNoted, LastRow, Alone}
-use Rattle.entries.specs.code.Filling.{stopOf, rowOf, PairAt, putPair, Keeps, KeepsBefore, keeps, passes, Task, Worked}
+use Rattle.entries.specs.Fill.{Unasked}
+use Rattle.entries.specs.code.Notes.{readIn, weightOf, Long, NextRow, RowNoted, LastRow, Alone}
+use Rattle.entries.specs.code.Filling.{stopOf, rowOf, PairAt, putPair, KeepsBefore, keeps, passes, Task, Worked}
 use Rattle.entries.specs.code.Filling.{Stands, worked, left, FilledTo, RowHere, NotedTo, LastAt, Finished}
 use Rattle.entries.proofs.NotedLaws.{noted-alone}
 
 -- the three values that are put for one pair: they are there, and for every other pair what was there
-data Where (kept : List ℕ) (first last u v w j j′ : ℕ) : Type 0 where
+pub data Where (kept : List ℕ) (first last u v w j j′ : ℕ) : Type 0 where
   here : j ≡ first → j′ ≡ last → wholeIn (putPair kept (64 * first + last) u v w) j j′ ≡ u → costIn (putPair kept (64 * first + last) u v w) j j′ ≡ v
       → placeIn (putPair kept (64 * first + last) u v w) j j′ ≡ w → Where kept first last u v w j j′
   there : (64 * j + j′ ≢ 64 * first + last) → SameAt j j′ kept (putPair kept (64 * first + last) u v w) → Where kept first last u v w j j′
 
-module _ (kept : List ℕ) (p u v w : ℕ) (room : length kept ≡ 12288) (low : p < 4096) where
+module _ (kept : List ℕ) (p u v w : ℕ) (long : Long kept) (low : p < 4096) where
   abbrev one : List ℕ
   one = set kept p u
 
@@ -37,8 +36,8 @@ module _ (kept : List ℕ) (p u v w : ℕ) (room : length kept ≡ 12288) (low :
 
   put-same : (getD (putPair kept p u v w) p 0 ≡ u) × (getD (putPair kept p u v w) (4096 + p) 0 ≡ v) × (getD (putPair kept p u v w) (8192 + p) 0 ≡ w)
   put-same =
-      let l₁ : length one ≡ 12288 = length-set kept p u ∙ room in
-      let l₂ : length two ≡ 12288 = length-set one (4096 + p) v ∙ l₁ in (
+      let l₁ : Long one = length-set kept p u ∙ long in
+      let l₂ : Long two = length-set one (4096 + p) v ∙ l₁ in (
         getD-set-other two (8192 + p) p w 0 (λ e. omega arith) ∙ getD-set-other one (4096 + p) p v 0 (λ e. omega arith) ∙ getD-set-same kept p u 0 (omega arith),
         getD-set-other two (8192 + p) (4096 + p) w 0 (λ e. omega arith) ∙ getD-set-same one (4096 + p) v 0 (omega arith),
         getD-set-same two (8192 + p) w 0 (omega arith),
@@ -47,7 +46,7 @@ module _ (kept : List ℕ) (p u v w : ℕ) (room : length kept ≡ 12288) (low :
   put-elsewhere : (k : ℕ) → k ≢ p → k ≢ 4096 + p → k ≢ 8192 + p → getD (putPair kept p u v w) k 0 ≡ getD kept k 0
   put-elsewhere k a b c = getD-set-other two (8192 + p) k w 0 c ∙ getD-set-other one (4096 + p) k v 0 b ∙ getD-set-other kept p k u 0 a
 
-where-is : (kept : List ℕ) (first last u v w j j′ : ℕ) → length kept ≡ 12288 → first < 64 → last < 64 → j < 64 → j′ < 64 → Where kept first last u v w j j′
+pub where-is : (kept : List ℕ) (first last u v w j j′ : ℕ) → Long kept → first < 64 → last < 64 → j < 64 → j′ < 64 → Where kept first last u v w j j′
 where-is kept first last u v w j j′ l hf hl hj hj′ = go (eqb (64 * j + j′) (64 * first + last)) refl
   where
     go : (b : Bool) → eqb (64 * j + j′) (64 * first + last) ≡ b → Where kept first last u v w j j′
@@ -64,12 +63,12 @@ where-is kept first last u v w j j′ l hf hl hj hj′ = go (eqb (64 * j + j′)
           place = s (8192 + (64 * j + j′)) (λ r. omega arith) (λ r. omega arith) (λ r. q (omega arith));
         })
 
--- which of two is so
-data Either (j j′ top since : ℕ) : Type 0 where
+-- a pair is asked for, or not
+pub data Either (j j′ top since : ℕ) : Type 0 where
   again-pair : j < top → since ≤ j′ → Either j j′ top since
-  kept-pair : (top ≤ j) ⊎ (j′ < since) → Either j j′ top since
+  kept-pair : Unasked top since j j′ → Either j j′ top since
 
-either : (j j′ top since : ℕ) → Either j j′ top since
+pub either : (j j′ top since : ℕ) → Either j j′ top since
 either j j′ top since = go (ltb j top) refl
   where
     end : (b : Bool) → leb since j′ ≡ b → j < top → Either j j′ top since
@@ -97,7 +96,7 @@ module _ {cells marks starts : List ℕ} {asked : Asked} {old : List ℕ} (t : T
 
   -- nothing is worked out yet
   pub filled-start : FilledTo t (suc (asked .since)) (asked .since) old
-  filled-start = record { each = λ j j′ h h′. left (λ x. early j j′ x (x .done)) (record { whole = refl; cost = refl; place = refl }); room = t .room }
+  filled-start = record { each = λ j j′ h h′. left (λ x. early j j′ x (x .done)) (record { whole = refl; cost = refl; place = refl }); long = t .long }
     where
       early : (j j′ : ℕ) → Done (suc (asked .since)) (asked .since) j j′ → (j′ < asked .since) ⊎ ((j′ ≡ asked .since) × (suc (asked .since) ≤ j)) → ⊥
       early j j′ x (inl d) = omega (arith, x .ends)
@@ -105,7 +104,7 @@ module _ {cells marks starts : List ℕ} {asked : Asked} {old : List ℕ} (t : T
 
   -- the pairs that end at a row, and then those that end at the next
   pub filled-after : {last : ℕ} {a : List ℕ} → FilledTo t 0 last a → FilledTo t (suc (suc last)) (suc last) a
-  filled-after {last} {a} f = record { each = λ j j′ h h′. stands-map (λ x. done-as x (to (x .done))) (λ x. done-as x (back x (x .done))) (f .each j j′ h h′); room = f .room }
+  filled-after {last} {a} f = record { each = λ j j′ h h′. stands-map (λ x. done-as x (to (x .done))) (λ x. done-as x (back x (x .done))) (f .each j j′ h h′); long = f .long }
     where
       to : {j j′ : ℕ} → (j′ < last) ⊎ ((j′ ≡ last) × (0 ≤ j)) → (j′ < suc last) ⊎ ((j′ ≡ suc last) × (suc (suc last) ≤ j))
       to (inl d) = inl (omega arith)
@@ -153,7 +152,7 @@ module _ {cells marks starts : List ℕ} {asked : Asked} {old : List ℕ} (t : T
         go (inr d) = inr (d .0, above (d .0) (d .1) (eqb j first) refl)
 
     filled-pass : {b : List ℕ} → asked .top ≤ first → b ≡ a → FilledTo t first last b
-    filled-pass h e = rw e (record { each = λ j j′ u v. pass (f .each j j′ u v); room = f .room })
+    filled-pass h e = rw e (record { each = λ j j′ u v. pass (f .each j j′ u v); long = f .long })
       where
         pass : {j j′ : ℕ} → Stands t (suc first) last a j j′ → Stands t first last a j j′
         pass (worked w e c p) = worked (later w) e c p
@@ -173,8 +172,8 @@ module _ {cells marks starts : List ℕ} {asked : Asked} {old : List ℕ} (t : T
 
     filled-put : first < asked .top → FilledTo t first last put
     filled-put low = record {
-      each = λ j j′ h h′. each j j′ (where-is a first last u v w j j′ (f .room) (omega (arith, few)) (omega (arith, few)) h h′) (f .each j j′ h h′);
-      room = (let e : length put ≡ length a = simp length-set in e ∙ f .room);
+      each = λ j j′ h h′. each j j′ (where-is a first last u v w j j′ (f .long) (omega (arith, few)) (omega (arith, few)) h h′) (f .each j j′ h h′);
+      long = (let e : length put ≡ length a = simp length-set in e ∙ f .long);
     }
       where
         each : (j j′ : ℕ) → Where a first last u v w j j′ → Stands t (suc first) last a j j′ → Stands t first last put j j′
@@ -256,7 +255,7 @@ module _ {cells marks starts : List ℕ} {asked : Asked} {old : List ℕ} (t : T
     noted = x .noted;
     light = x .light;
     known = λ j h l. whole-there (x .filled) (row .number) j h (omega (arith, t .laid .number, x .inside)) (inl l);
-    room = x .filled .room;
+    long = x .filled .long;
   }
 
   pub pair-kept : {last agreed : ℕ} {row : Row} {notes a b : List ℕ} → NotedTo t (suc (row .number)) last row notes a agreed
@@ -325,6 +324,7 @@ module _ {cells marks starts : List ℕ} {asked : Asked} {old : List ℕ} (t : T
       known = λ j h l. rw number-is (whole-there (x .filled) (row .number) j (omega (arith, number-is)) (omega (arith, t .laid .number, x .inside)) (pair-done j l));
       small = λ i k h m. t .small i k h (omega (arith, t .laid .number));
       room = x .room;
+      long = x .filled .long;
     }
 
     pub next-noted : (notes′ : List ℕ) (agreed′ : ℕ) → RowNoted next-row notes′ agreed′ → NotedTo t (suc (row′ .number)) last row′ notes′ kept agreed′

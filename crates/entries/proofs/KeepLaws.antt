@@ -5,14 +5,14 @@ use mathlib.Core.Logic.{_≢_}
 use mathlib.Core.List.{List, [], _∷_}
 use lib.Dec.{eqb}
 use borrow.Author.Tests.{eqb-true, eqb-false}
-use Prim.Native.Nat.{ℕ, zero, suc, _+_, _-_, _*_, _≤_, _<_}
+use Prim.Native.Nat.{ℕ, zero, suc, _+_, _-_, _≤_, _<_}
 use native.Mathlib.Omega.{arith}
 use lib.ListN.{length, take, drop}
 use lib.Seq.{slice, length-slice, length-take-le, drop-drop}
 use Rattle.cell.specs.Cell.{arity}
 use Rattle.term.specs.Terms.{Terms, more, front}
 use Rattle.plan.specs.code.Fits.{Fits}
-use Rattle.least.specs.code.Best.{argmin, leastOver, firstOver}
+use Rattle.least.specs.code.Best.{argmin, leastOver}
 use Rattle.least.specs.code.Pairs.{closedOf, agreedOf, priceBy}
 use Rattle.least.proofs.Minimum.{argmin-first}
 use Rattle.entries.specs.declared.arrays.Note.{Note}
@@ -98,6 +98,7 @@ module _ {marks kept notes : List ℕ} {figure first last agreed at stop : ℕ} 
     few = (g .light, omega (arith, g .figure-is, g .low .figure));
     rows = (g .order, omega (arith, g .inside, g .few));
     within = omega (arith, g .part .1, g .part .2);
+    long = g .long;
   }
 
   -- the numbers are small

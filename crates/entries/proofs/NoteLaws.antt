@@ -1,6 +1,6 @@
 -- A column's note is what its runs say: how many there are, and the sum of what they cost. One row more in front is one step, as the runs
 -- are made.
-use mathlib.Core.Path.{_≡_, refl, sym, _∙_}
+use mathlib.Core.Path.{_≡_, refl, sym}
 use mathlib.Core.Bool.{Bool, true, false, cond}
 use mathlib.Core.List.{List, [], _∷_, map}
 use Prim.Native.Nat.{ℕ, suc, pred, _+_, _≤_, _<_}

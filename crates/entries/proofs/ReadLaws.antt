@@ -6,13 +6,12 @@ use mathlib.Core.List.{List}
 use Prim.Native.Nat.{ℕ, zero, suc, _+_, _-_, _*_, _≤_, _<_}
 use native.Mathlib.Omega.{arith}
 use native.Mathlib.Numerals.{add-one}
-use lib.ListN.{getD}
 use lib.Dec.{eqb, ltb, leb}
 use borrow.Author.Tests.{eq-eqb, ne-eqb, leb-true, leb-false, lt-ltb, le-ltb}
 use Rattle.entries.specs.declared.arrays.Note.{Note}
 use Rattle.entries.specs.declared.arrays.Choice.{Choice}
 use Rattle.least.specs.code.Best.{argmin, firstOver, leastOver}
-use Rattle.entries.specs.code.Notes.{choiceOf, noteIn, readIn, endIn, mostAgreed, Small, Shown, at-end, at-closed, at-open, Priced, Pair}
+use Rattle.entries.specs.code.Notes.{choiceOf, noteIn, readIn, endIn, mostAgreed, Long, Small, Shown, at-end, at-closed, at-open, Priced, Pair}
 
 -- what is at a cell of the walk
 data Here (N : ℕ → Note) (E : ℕ → ℕ) (Is : ℕ → Note → Type 0) (stop k q i : ℕ) : Type 0 where
@@ -122,7 +121,7 @@ module _ {marks kept notes : List ℕ} {first at stop a figure : ℕ} (g : Pair 
           (rw (eb, ei, e) (cheap-closed (ap (λ (t : Note). t .runs) (sym n) ∙ o)), omega arith)
 
       -- what the open place's cost asks
-      pub turn-asks : t .runs ≢ 1 → Small first t × (a ≤ mostAgreed) × (figure ≤ 15)
+      pub turn-asks : t .runs ≢ 1 → Small first t × (a ≤ mostAgreed) × (figure ≤ 15) × Long kept
       turn-asks ne =
           let o = opened-at (λ o. ne (ap (λ (t : Note). t .runs) n ∙ o)) in
-          subst (λ (t : Note). Small first t × (a ≤ mostAgreed) × (figure ≤ 15)) (sym n) (o .small, g .few .0, g .few .1)
+          subst (λ (t : Note). Small first t × (a ≤ mostAgreed) × (figure ≤ 15) × Long kept) (sym n) (o .small, g .few .0, g .few .1, g .long)

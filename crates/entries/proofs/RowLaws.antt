@@ -2,7 +2,7 @@
 use mathlib.Core.Path.{_≡_, refl, sym, ap, subst, _∙_}
 use mathlib.Core.Logic.{_≢_}
 use mathlib.Core.Bool.{Bool, true, false, cond}
-use mathlib.Core.List.{List, [], _∷_, _++_, map, append-assoc}
+use mathlib.Core.List.{List, _∷_, _++_, map, append-assoc}
 use Prim.Native.Nat.{ℕ, zero, suc, pred, _+_, _-_, _*_, _%_, _≤_, _<_}
 use native.Mathlib.Omega.{arith}
 use native.Mathlib.Nat.{zero-add}
@@ -19,7 +19,7 @@ use Rattle.plan.specs.Plans.{Measure}
 use Rattle.plan.proofs.RunsLaws.{terms-length}
 use Rattle.entries.specs.declared.arrays.Note.{Note}
 use Rattle.entries.specs.code.Notes.{note, noteNext, noteOf, noteIn, putNote, readIn, endIn, Small, Fair, Noted, done, closed, opened}
-use Rattle.entries.specs.code.Notes.{weightIn, mostAgreed, weightOf, MarkOf, MarkedTo, NextRow, RowNoted, LastRow, Alone}
+use Rattle.entries.specs.code.Notes.{weightIn, mostAgreed, weightOf, MarkedTo, NextRow, RowNoted, LastRow, Alone}
 use Rattle.entries.proofs.NoteLaws.{note-fair}
 use Rattle.entries.proofs.NotedLaws.{From, close-first, back-first, note-is, noteWith, next-note, next-closed, next-opened}
 use Rattle.entries.proofs.RingLaws.{put-same, put-other, put-alike, put-room, put-later, put-earlier}

@@ -1,58 +1,53 @@
--- What the functions of this crate answer: the array that is lent as it is filled for a table, and the table's entries.
-use Prim.Native.Nat.{ℕ, _+_, _*_, _≤_, _<_}
+-- What the function of this crate answers: the array that is lent, as it is filled for a table.
+use Prim.Native.Nat.{ℕ, _≤_, _<_}
 use mathlib.Core.Path.{_≡_}
-use mathlib.Core.Logic.{_⊎_}
+use mathlib.Core.Logic.{_≢_, _⊎_}
 use mathlib.Core.List.{List}
-use lib.ListN.{length, getD, replicate}
+use lib.ListN.{length}
 use Rattle.refusal.specs.Refusal.{Refused}
 use Rattle.refusal.specs.Read.{read, refuse}
 use Rattle.table.specs.Table.{Table, TableReads}
 use Rattle.table.specs.declared.TableRead.{TableRead}
 use Rattle.plan.specs.Plans.{Measure}
 use Rattle.least.specs.Least.{Least}
+use Rattle.least.specs.Entries.{between, Entry, wholeIn, costIn, placeIn, RightAt, SameAt}
 use Rattle.least.specs.Measures.{measureOf, tableBy}
 use Rattle.least.specs.declared.By.{By}
-use Rattle.least.specs.Entries as entries
-use Rattle.entries.specs.declared.Entries.{Entries}
 
--- The array has three parts of 4,096 numbers, each with a number for every pair of first and last row, at 64 times the first plus the
--- last: what the pair's rows cost with nothing closed; and the pair's entry, its least cost and its place
-abbrev pub wholeIn : List ℕ → ℕ → ℕ → ℕ
-wholeIn kept first last = getD kept (64 * first + last) 0
-
-abbrev pub costIn : List ℕ → ℕ → ℕ → ℕ
-costIn kept first last = getD kept (4096 + (64 * first + last)) 0
-
-abbrev pub placeIn : List ℕ → ℕ → ℕ → ℕ
-placeIn kept first last = getD kept (8192 + (64 * first + last)) 0
-
--- at a pair the array is as it was
-pub record SameAt (first last : ℕ) (old new : List ℕ) : Type 0 where
-  pub whole : wholeIn new first last ≡ wholeIn old first last
-  pub cost : costIn new first last ≡ costIn old first last
-  pub place : placeIn new first last ≡ placeIn old first last
+-- two numbers are no pair of so many rows
+abbrev pub NoPair : ℕ → ℕ → ℕ → Type 0
+NoPair count first last = (last < first) ⊎ (count ≤ last)
 
 -- The array is filled for a table's rows: at each pair of them, the last not before the first, what its rows cost at least and its entry;
 -- everywhere else what was there
 pub record Filled (measure : Measure) (width : ℕ) (rows : List (List ℕ)) (old new : List ℕ) : Type 0 where
-  pub whole : (first last : ℕ) → first ≤ last → last < length rows
-      → Least measure width (entries.between first last rows) (wholeIn new first last)
+  pub whole : (first last : ℕ) → first ≤ last → last < length rows → Least measure width (between first last rows) (wholeIn new first last)
   pub entry : (first last : ℕ) → first ≤ last → last < length rows
-      → entries.Entry measure width rows first last (costIn new first last) (placeIn new first last)
-  pub other : (first last : ℕ) → first < 64 → last < 64 → (last < first) ⊎ (length rows ≤ last) → SameAt first last old new
+      → Entry measure width rows first last (costIn new first last) (placeIn new first last)
+  pub other : (first last : ℕ) → first < 64 → last < 64 → NoPair (length rows) first last → SameAt first last old new
   pub size : (length old ≡ 12288) × (length new ≡ 12288)
 
--- What is answered for a measure, a table and the array that is lent: FIGURE, or what reading the table answers. Where it is accepted the
--- array is filled; where it is turned away it is as it was
-pub record Fills (by : By) (cells old new : List ℕ) (answer : TableRead) : Type 0 where
-  pub reads : TableReads (tableBy by cells) answer
-  pub accepted : (T : Table) → tableBy by cells ≡ read T → Filled (measureOf by) (T .width) (T .rows) old new
-  pub turned-away : (f : Refused) → tableBy by cells ≡ refuse f → new ≡ old
+-- The pairs that begin before row `top` and end at row `since` or later are asked for. A pair that is not
+abbrev pub Unasked : ℕ → ℕ → ℕ → ℕ → Type 0
+Unasked top since first last = (top ≤ first) ⊎ (last < since)
 
--- 01, "a least count kept for every pair of first and last row": of an accepted table each pair's entry, by the measure;
--- where the figure or the table is turned away 0 everywhere
-pub data WorkedOut (by : By) (cells : List ℕ) (kept : Entries) : Type 0 where
-  worked : (T : Table) → tableBy by cells ≡ read T → entries.Entries (measureOf by) (T .width) (T .rows) (kept .cost) (kept .place)
-      → WorkedOut by cells kept
-  all-zero : (f : Refused) → tableBy by cells ≡ refuse f → kept .cost ≡ replicate 4096 0 → kept .place ≡ replicate 4096 0
-      → WorkedOut by cells kept
+-- what is kept is right: at each pair of rows that is not asked for
+pub record KeptRight (measure : Measure) (width : ℕ) (rows : List (List ℕ)) (top since : ℕ) (kept : List ℕ) : Type 0 where
+  pub at : (first last : ℕ) → first ≤ last → last < length rows → Unasked top since first last → RightAt measure width rows kept first last
+
+-- What the array becomes where the pairs of a table's rows that are asked for are worked out: whatever it holds, all other numbers stay as
+-- they are; and where what is kept is right, it is filled for these rows
+pub record Refilled (measure : Measure) (width : ℕ) (rows : List (List ℕ)) (top since : ℕ) (old new : List ℕ) : Type 0 where
+  pub same : (first last : ℕ) → first < 64 → last < 64 → Unasked top since first last ⊎ NoPair (length rows) first last
+      → SameAt first last old new
+  pub filled : KeptRight measure width rows top since old → Filled measure width rows old new
+
+-- What is answered for a measure, a table, what is asked for and the array that is lent: FIGURE, or what reading the table answers. Where
+-- the table is turned away the array is as it was, and so is one of any other length than 12,288
+pub record Fills (by : By) (cells : List ℕ) (top since : ℕ) (old new : List ℕ) (answer : TableRead) : Type 0 where
+  pub reads : TableReads (tableBy by cells) answer
+  pub size : length new ≡ length old
+  pub turned-away : (f : Refused) → tableBy by cells ≡ refuse f → new ≡ old
+  pub other-length : length old ≢ 12288 → new ≡ old
+  pub accepted : (T : Table) → tableBy by cells ≡ read T → length old ≡ 12288
+      → Refilled (measureOf by) (T .width) (T .rows) top since old new

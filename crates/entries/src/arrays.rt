@@ -8,8 +8,8 @@ ghost use lib.Dec.{eqb, ltb};
 ghost use lib.ListN.{length, getD};
 ghost use Rattle.least.specs.Measures.{workOf, measureOf};
 ghost use Rattle.least.specs.code.Best.{firstOver, leastOver};
-ghost use Rattle.entries.specs.Fill.{Filled};
-ghost use Rattle.entries.specs.code.Notes.{choiceOf, noteIn, noteNext, putNote, readIn, endIn, weightIn, mostAgreed};
+ghost use Rattle.entries.specs.Fill.{Refilled};
+ghost use Rattle.entries.specs.code.Notes.{choiceOf, noteIn, noteNext, putNote, readIn, endIn, weightIn, mostAgreed, Long};
 ghost use Rattle.entries.specs.code.Notes.{Small, NextRow, RowNoted, LastRow, Alone, Pair, EndsAt, MarkOf, MarkedTo};
 ghost use Rattle.entries.specs.code.Filling.{stopOf, rowOf, PairAt, Keeps, KeepsBefore, LastAt, FilledTo, Task, Finished, Rows};
 use least::By;
@@ -132,8 +132,8 @@ fn after(marks: &[u16; 2050], s: Note, q: usize) -> usize
 }
 
 // What is kept for a pair, and no more than any pair of a table costs: whatever stands there, sums of it fit.
-fn cost_in(kept: &[u32; 12288], first: usize, last: usize) -> u32
-    requires { ⌜ (first < 64) × (last < 64) ⌝ }
+fn cost_in(kept: &[u32], first: usize, last: usize) -> u32
+    requires { ⌜ (first < 64) × (last < 64) × Long (now kept) ⌝ }
     ensures { λ r. ⌜ r ≡ readIn (now (kept .entry)) first last ⌝ }
 {
     let n = kept[64 * first + last];
@@ -141,8 +141,8 @@ fn cost_in(kept: &[u32; 12288], first: usize, last: usize) -> u32
 }
 
 // The place noted with one row more in front, whose cell there is c, the cell of the row after it being d.
-fn next_note(s: Note, kept: &[u32; 12288], row: usize, c: u32, d: u32) -> Note
-    requires { ⌜ Small (row + 1) s ⌝ }
+fn next_note(s: Note, kept: &[u32], row: usize, c: u32, d: u32) -> Note
+    requires { ⌜ Small (row + 1) s × Long (now kept) ⌝ }
     ensures { λ r. ⌜ r ≡ noteNext (readIn (now (kept .entry))) s row c d ⌝ }
 {
     if state::column::same_symbol(c, d) {
@@ -182,7 +182,7 @@ struct Row {
 fn note_row(
     cells: &[u32],
     marks: &[u16; 2050],
-    kept: &[u32; 12288],
+    kept: &[u32],
     notes: &mut [u32; 192],
     row: Row,
 ) -> u32
@@ -248,8 +248,8 @@ fn consider(best: Choice, place: u32, cost: u32) -> Choice
 
 // What an open place costs, where the closed cells weigh so much: the sum of what its runs cost, without these cells, which
 // each run's cost has in it, and the figure. Of a table no run costs less than they weigh.
-fn open_cost(s: Note, kept: &[u32; 12288], first: usize, agreed: u32, figure: u32) -> u32
-    requires { ⌜ Small first s × (agreed ≤ mostAgreed) × (figure ≤ 15) ⌝ }
+fn open_cost(s: Note, kept: &[u32], first: usize, agreed: u32, figure: u32) -> u32
+    requires { ⌜ Small first s × (agreed ≤ mostAgreed) × (figure ≤ 15) × Long (now kept) ⌝ }
     ensures { λ r. ⌜ r ≡ figure + (s .sum + readIn (now (kept .entry)) first (s .to) - s .runs * agreed) ⌝ }
 {
     let to = s.to as usize;
@@ -264,7 +264,7 @@ fn open_cost(s: Note, kept: &[u32; 12288], first: usize, agreed: u32, figure: u3
 // The cheapest open place of a pair's first row; the leftmost of them.
 fn cheapest(
     marks: &[u16; 2050],
-    kept: &[u32; 12288],
+    kept: &[u32],
     notes: &[u32; 192],
     row: Row,
     agreed: u32,
@@ -300,7 +300,7 @@ struct Shared {
 // The values of a pair, read off the notes at its first row.
 fn keep_pair(
     marks: &[u16; 2050],
-    kept: &mut [u32; 12288],
+    kept: &mut [u32],
     notes: &[u32; 192],
     row: Row,
     shared: Shared,
@@ -311,11 +311,12 @@ fn keep_pair(
         figure (row .number) (shared .last) (shared .agreed) (row .start) (row .end))
         → Keeps (g .m) (g .width) (g .rows) (g .N) (row .number) (shared .last) (now (kept .entry)) (now (kept .exit))) ⌝ }
 {
+    let last = shared.last;
     let agreed = shared.agreed;
     let best = cheapest(marks, &*kept, notes, row, agreed, figure);
     let count = best.cost;
     let chosen = best.place;
-    let pair = 64 * row.number + shared.last;
+    let pair = 64 * row.number + last;
     kept[pair] = agreed + count;
     kept[4096 + pair] = count;
     kept[8192 + pair] = chosen;
@@ -323,17 +324,17 @@ fn keep_pair(
 
 // Which pairs are worked out, of a table with so many rows: those that begin before row `top` and end at row `since` or
 // later. All others are kept as they stand. With the figure of the measure.
-struct Asked {
-    figure: u32,
-    count: usize,
-    top: usize,
-    since: usize,
+pub struct Asked {
+    pub figure: u32,
+    pub count: usize,
+    pub top: usize,
+    pub since: usize,
 }
 
 // A pair's values, where it begins before row `top`.
 fn keep_before(
     marks: &[u16; 2050],
-    kept: &mut [u32; 12288],
+    kept: &mut [u32],
     notes: &[u32; 192],
     row: Row,
     shared: Shared,
@@ -384,7 +385,7 @@ fn pairs_to(
     cells: &[u32],
     marks: &[u16; 2050],
     starts: &[usize; 64],
-    kept: &mut [u32; 12288],
+    kept: &mut [u32],
     row: Row,
     asked: Asked,
 )
@@ -424,7 +425,7 @@ fn pairs_again(
     cells: &[u32],
     marks: &[u16; 2050],
     starts: &[usize; 64],
-    kept: &mut [u32; 12288],
+    kept: &mut [u32],
     asked: Asked,
 )
     requires { ⌜ Task (now cells) (now marks) (now starts) asked (now kept) ⌝ }
@@ -445,19 +446,14 @@ fn pairs_again(
     }
 }
 
-// All pairs of a table.
-pub fn all_pairs(by: By, cells: &[u32], starts: &[usize; 64], kept: &mut [u32; 12288], count: usize)
-    requires { ⌜ Rows (now cells) (now starts) count × (length (now kept) ≡ 12288) × (measureOf by .figure ≤ 15) ⌝ }
-    ensures { λ _. ⌜ ((g : Rows (now (cells .entry)) (now (starts .entry)) count)
-        → Filled (measureOf by) (g .width) (g .rows) (now (kept .entry)) (now (kept .exit))) ⌝ }
+// Marks the cells of a table, and works out the pairs that are asked for.
+pub fn asked_pairs(by: By, cells: &[u32], starts: &[usize; 64], kept: &mut [u32], asked: Asked)
+    requires { ⌜ Rows (now cells) (now starts) (asked .count) × Long (now kept)
+        × (asked .figure ≡ measureOf by .figure) × (asked .figure ≤ 15) ⌝ }
+    ensures { λ _. ⌜ ((g : Rows (now (cells .entry)) (now (starts .entry)) (asked .count))
+        → Refilled (measureOf by) (g .width) (g .rows) (asked .top) (asked .since) (now (kept .entry)) (now (kept .exit))) ⌝ }
 {
     let mut marks = [0; 2050];
     mark_cells(by, cells, &mut marks);
-    let asked = Asked {
-        figure: figure_of(by),
-        count,
-        top: count,
-        since: 0,
-    };
     pairs_again(cells, &marks, starts, kept, asked);
 }

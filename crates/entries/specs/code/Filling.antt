@@ -12,12 +12,13 @@ use lib.Seq.{slice}
 use Rattle.table.specs.All.{All}
 use Rattle.plan.specs.Plans.{Measure}
 use Rattle.plan.specs.code.Fits.{Fits}
+use Rattle.least.specs.Entries.{costIn, placeIn, SameAt}
 use Rattle.least.specs.code.Low.{Low}
 use Rattle.least.specs.code.Pairs.{agreedOf, leastBy, placeBy, wholeBy}
 use Rattle.entries.specs.declared.arrays.Asked.{Asked}
 use Rattle.entries.specs.declared.arrays.Row.{Row}
-use Rattle.entries.specs.Fill.{wholeIn, costIn, placeIn, SameAt}
-use Rattle.entries.specs.code.Notes.{noteIn, readIn, mostAgreed, Noted, MarkedTo}
+use Rattle.entries.specs.Fill.{Unasked}
+use Rattle.entries.specs.code.Notes.{noteIn, readIn, mostAgreed, Long, Noted, MarkedTo}
 
 -- a row's cells end where the next row's begin, and the last row's where the table's end
 abbrev pub stopOf : List ℕ → List ℕ → ℕ → ℕ → ℕ
@@ -56,7 +57,7 @@ pub record PairAt (marks kept notes : List ℕ) (figure first last agreed at sto
   pub noted : Noted m N first (noteIn notes) at width (getD rows first []) (slice (suc first) (suc last) rows) agreed
   pub light : agreed ≤ mostAgreed
   pub known : (j : ℕ) → first ≤ j → j < last → readIn kept first j ≡ N first j
-  pub room : length kept ≡ 12288
+  pub long : Long kept
 
 -- the three values of a pair, put at its places
 abbrev pub putPair : List ℕ → ℕ → ℕ → ℕ → ℕ → List ℕ
@@ -85,9 +86,9 @@ pub record Task (cells marks starts : List ℕ) (asked : Asked) (old : List ℕ)
   pub marked : MarkedTo m cells marks (length cells)
   pub N : ℕ → ℕ → ℕ
   pub again : (j j′ : ℕ) → j ≤ j′ → j′ < length rows → j < asked .top → asked .since ≤ j′ → N j j′ ≡ wholeBy m width rows N j j′
-  pub known : (j j′ : ℕ) → j ≤ j′ → j′ < length rows → (asked .top ≤ j) ⊎ (j′ < asked .since) → N j j′ ≡ readIn old j j′
+  pub known : (j j′ : ℕ) → j ≤ j′ → j′ < length rows → Unasked (asked .top) (asked .since) j j′ → N j j′ ≡ readIn old j j′
   pub small : (j j′ : ℕ) → j ≤ j′ → j′ < length rows → N j j′ ≤ 65535
-  pub room : length old ≡ 12288
+  pub long : Long old
 
 -- which pairs are worked out so far: those with an earlier last row, and those with this one that begin at the first row or later
 pub record Worked (count : ℕ) (asked : Asked) (first last j j′ : ℕ) : Type 0 where
@@ -107,7 +108,7 @@ module _ {cells marks starts : List ℕ} {asked : Asked} {old : List ℕ} (t : T
 
   pub record FilledTo (first last : ℕ) (kept : List ℕ) : Type 0 where
     pub each : (j j′ : ℕ) → j < 64 → j′ < 64 → Stands first last kept j j′
-    pub room : length kept ≡ 12288
+    pub long : Long kept
 
 -- a row stands in its cells
 pub record RowHere (cells starts : List ℕ) (count : ℕ) (row : Row) : Type 0 where
@@ -149,8 +150,3 @@ pub record Rows (cells starts : List ℕ) (count : ℕ) : Type 0 where
   pub width : ℕ
   pub rows : List (List ℕ)
   pub laid : Laid cells starts count width rows
-
--- the first numbers of an array are those of a part of another, from a place on
-pub record Taken (kept : List ℕ) (at upto : ℕ) (part : List ℕ) : Type 0 where
-  pub size : length part ≡ 4096
-  pub each : (i : ℕ) → i < upto → getD part i 0 ≡ getD kept (at + i) 0

@@ -10,8 +10,8 @@ use Rattle.cell.specs.Cell.{arity}
 use Rattle.term.specs.Terms.{Terms, front, back, root, close}
 use Rattle.plan.specs.Runs.{agree}
 use Rattle.plan.specs.Plans.{Measure}
+use Rattle.least.specs.Entries.{wholeIn}
 use Rattle.least.specs.code.Pairs.{limit}
-use Rattle.entries.specs.Fill.{wholeIn}
 use Rattle.entries.specs.declared.arrays.Note.{Note}
 use Rattle.entries.specs.declared.arrays.Choice.{Choice}
 
@@ -51,6 +51,10 @@ noteIn notes q = note (getD notes (q % 64) 0) (getD notes (64 + q % 64) 0) (getD
 
 abbrev pub putNote : List ℕ → ℕ → Note → List ℕ
 putNote notes q s = set (set (set notes (q % 64) (s .runs)) (64 + q % 64) (s .sum)) (128 + q % 64) (s .to)
+
+-- how long the array is
+abbrev pub Long : List ℕ → Type 0
+Long kept = length kept ≡ 12288
 
 -- what is read of a pair: whatever stands there, no more than any pair of a table costs
 abbrev pub readIn : List ℕ → ℕ → ℕ → ℕ
@@ -137,6 +141,7 @@ pub record NextRow (cells marks kept notes : List ℕ) (row new old : ℕ) : Typ
   pub known : (j : ℕ) → suc row ≤ j → j ≤ last → readIn kept (suc row) j ≡ costs (suc row) j
   pub small : (i k : ℕ) → i ≤ k → k < count → costs i k ≤ 65535
   pub room : length notes ≡ 192
+  pub long : Long kept
 
 -- with it the new row is noted, and its closed cells weigh `agreed`
 pub record RowNoted {cells marks kept notes : List ℕ} {row new old : ℕ} (given : NextRow cells marks kept notes row new old)
@@ -182,3 +187,4 @@ pub record Pair (marks kept notes : List ℕ) (first at stop agreed figure : ℕ
   pub few : (agreed ≤ mostAgreed) × (figure ≤ 15)
   pub rows : (first ≤ last) × (last < 64)
   pub within : stop ≤ 2050
+  pub long : Long kept

@@ -23,7 +23,7 @@ module _ (c : tie.After-after Inv-loop μ-loop) where
   turn = c .before .before .before .before
 
   abbrev start : tie.Start Inv-loop μ-loop
-  start = c .before .before .before .before .before .before
+  start = turn .before .before .before
 
   turned : (g : Pair (start .args .marks .now) (start .args .kept .now) (start .args .notes .now) (start .args .row .number) (start .args .row .start) (start .args .row .end)
       (start .args .agreed) (start .args .figure))
@@ -43,7 +43,7 @@ note-at-requires c κs = tt
 open-cost-requires : tie.Need-open-cost-requires Inv-loop μ-loop
 open-cost-requires c κs =
     let i = c .before .before .before in
-    let g = i .before .before .pre in
+    let g = i .before .before .before .pre in
     turn-asks g (i .loop-test .taken) (i .before .loop .inv g) (c .before .before .note-at .result) (c .before .before .note-at .ensures) _ refl (c .if1 .taken)
 
 consider-requires : tie.Need-consider-requires Inv-loop μ-loop
@@ -52,11 +52,11 @@ consider-requires c κs = tt
 add-place : tie.Need-add-place Inv-loop μ-loop
 add-place c =
     let i = c .before .before .before .before .before in
-    let g = i .before .before .pre in
+    let g = i .before .before .before .pre in
     record { fits = omega (arith, i .loop-test .taken, g .within, i .before .loop .inv g .small) }
 
 after-requires : tie.Need-after-requires Inv-loop μ-loop
-after-requires c κs = omega (arith, c .before .before .before .before .before .pre .within)
+after-requires c κs = omega (arith, c .before .before .before .before .before .before .pre .within)
 
 loop-less : tie.Need-loop-less Inv-loop μ-loop
 loop-less c = omega (arith, turn c .loop-test .taken, turned c (start c .pre) .1)

@@ -11,7 +11,7 @@ same-symbol-requires c κs = search needs
 
 returns : tie.Need-returns
 returns c =
-    let e : agree (c .before .before .args .c) (c .before .before .args .d) ≡ true = sym (c .before .same-symbol .ensures) ∙ c .if1 .taken in
+    let e : agree (c .before .before .before .args .c) (c .before .before .before .args .d) ≡ true = sym (c .before .same-symbol .ensures) ∙ c .if1 .taken in
     rw e
 
 cast-to : tie.Need-cast-to
@@ -34,7 +34,7 @@ cast-t12 c = search needs
 
 returns-2 : tie.Need-returns-2
 returns-2 c =
-    let a = c .before .before .before .before .before .before .args in
+    let a = c .before .before .before .before .before .before .before .args in
     let e : agree (a .c) (a .d) ≡ false =
     sym (c .before .before .before .before .before .same-symbol .ensures) ∙ c .before .before .before .before .if1 .left in
     rw (e, c .before .before .cost-in .ensures, add-one (a .s .runs), add-one (a .row))

@@ -22,10 +22,13 @@ loop-holds c = λ g. row-start g
 
 -- where the loop's test has held
 module _ (c : tie.In-loop Inv-loop μ-loop) where
-  safe : RowSafe (c .before .before .before .pre) (c .before .loop .notes) (c .before .loop .agreed) (c .before .loop .p) (c .before .loop .q)
-      (c .before .loop .inv (c .before .before .before .pre)) (c .loop-test .taken)
-  safe = row-safe (c .before .before .before .pre) (c .before .loop .notes) (c .before .loop .agreed) (c .before .loop .p) (c .before .loop .q)
-      (c .before .loop .inv (c .before .before .before .pre)) (c .loop-test .taken)
+  abbrev start : tie.Start Inv-loop μ-loop
+  start = c .before .before .before .before
+
+  safe : RowSafe (start .pre) (c .before .loop .notes) (c .before .loop .agreed) (c .before .loop .p) (c .before .loop .q)
+      (c .before .loop .inv (start .pre)) (c .loop-test .taken)
+  safe = row-safe (start .pre) (c .before .loop .notes) (c .before .loop .agreed) (c .before .loop .p) (c .before .loop .q)
+      (c .before .loop .inv (start .pre)) (c .loop-test .taken)
 
 -- and after the step
 module _ (c : tie.After-after2 Inv-loop μ-loop) where
@@ -33,12 +36,12 @@ module _ (c : tie.After-after2 Inv-loop μ-loop) where
   here = c .before .before .before .before .before .before .before .before .before .before
 
   stepped : c .before .before .before .before .before .next-note .result
-      ≡ noteStep (here .before .before .before .args .cells .now) (here .before .before .before .args .kept .now) (here .before .loop .notes)
-      (here .before .before .before .args .row .number) (here .before .loop .p) (here .before .loop .q)
+      ≡ noteStep (start here .args .cells .now) (start here .args .kept .now) (here .before .loop .notes)
+      (start here .args .row .number) (here .before .loop .p) (here .before .loop .q)
   stepped =
       c .before .before .before .before .before .next-note .ensures
-      ∙ ap (λ (n : Note). noteNext (readIn (here .before .before .before .args .kept .now)) n (here .before .before .before .args .row .number)
-      (getD (here .before .before .before .args .cells .now) (here .before .loop .q) 0) (getD (here .before .before .before .args .cells .now) (here .before .loop .p) 0))
+      ∙ ap (λ (n : Note). noteNext (readIn (start here .args .kept .now)) n (start here .args .row .number)
+      (getD (start here .args .cells .now) (here .before .loop .q) 0) (getD (start here .args .cells .now) (here .before .loop .p) 0))
       (c .before .before .before .before .before .before .before .before .note-at .ensures)
 
 note-at-requires : tie.Need-note-at-requires Inv-loop μ-loop
@@ -57,7 +60,11 @@ shared-slice-read-next-note-2 : tie.Need-shared-slice-read-next-note-2 Inv-loop 
 shared-slice-read-next-note-2 c = safe (c .before .before .before .before) .p-in
 
 next-note-requires : tie.Need-next-note-requires Inv-loop μ-loop
-next-note-requires c κs = subst (λ (n : Note). Small (c .before .before .before .before .before .before .before .args .row .number + 1) n) (sym (c .before .before .note-at .ensures)) (safe (c .before .before .before .before) .small)
+next-note-requires c κs =
+    let i = c .before .before .before .before in (
+      subst (λ (n : Note). Small (start i .args .row .number + 1) n) (sym (c .before .before .note-at .ensures)) (safe i .small),
+      start i .pre .long,
+    )
 
 put-note-requires : tie.Need-put-note-requires Inv-loop μ-loop
 put-note-requires c κs = tt
@@ -74,12 +81,12 @@ after-requires-2 c κs = safe (c .before .before .before .before .before .before
 loop-less : tie.Need-loop-less Inv-loop μ-loop
 loop-less c =
     let i = here c in
-    let g = i .before .before .before .pre in
+    let g = start i .pre in
     omega (
       arith,
       i .loop-test .taken,
       c .after2 .ensures,
-      ap (λ (n : Note). cond (eqb (n .runs) 1) (i .before .loop .q + 1) (endIn (i .before .before .before .args .marks .now) (i .before .loop .q))) (stepped c),
+      ap (λ (n : Note). cond (eqb (n .runs) 1) (i .before .loop .q + 1) (endIn (start i .args .marks .now) (i .before .loop .q))) (stepped c),
       row-more g (i .before .loop .notes) (i .before .loop .agreed) (i .before .loop .p) (i .before .loop .q) (i .before .loop .inv g) (i .loop-test .taken),
     )
 

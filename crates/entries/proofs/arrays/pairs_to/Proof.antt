@@ -1,7 +1,7 @@
-use mathlib.Core.Path.{_≡_, ap}
+use mathlib.Core.Path.{sym, ap, _∙_}
 use mathlib.Core.List.{List}
 use native.Mathlib.Omega.{arith}
-use Prim.Native.Nat.{ℕ, suc, _≤_}
+use Prim.Native.Nat.{ℕ, suc}
 use lib.ListN.{length-replicate}
 use Rattle.entries.specs.declared.arrays.Row.{Row}
 use Rattle.entries.specs.code.Filling.{Task, NotedTo, LastAt}
@@ -25,7 +25,7 @@ Given s = LastAt (s .args .cells .now) (s .args .marks .now) (s .args .starts .n
 -- the last row by itself
 module _ (c : tie.After-note-last Inv-loop μ-loop) where
   abbrev start : tie.Start Inv-loop μ-loop
-  start = c .before .before .before
+  start = c .before .before .before .before
 
   row-noted : (g : Given start) → NotedTo (g .task) (suc (start .args .row .number)) (start .args .row .number) (start .args .row) (c .note-last .last .1 .0) (start .args .kept .now)
       (c .note-last .result)
@@ -42,6 +42,9 @@ module _ (c : tie.After-keep-before Inv-loop μ-loop) where
       (c .keep-before .last .1 .0) (noted .note-last .result)
   row-kept g = pair-kept (g .task) (row-noted noted g) (c .keep-before .ensures (pair-at (g .task) (row-noted noted g)))
 
+abbrev kept-at : tie.At-loop Inv-loop μ-loop → tie.After-keep-before Inv-loop μ-loop
+kept-at l = l .before .before .before
+
 -- one row more in front
 module _ (c : tie.After-note-row Inv-loop μ-loop) where
   abbrev turn : tie.Then1 Inv-loop μ-loop
@@ -51,7 +54,7 @@ module _ (c : tie.After-note-row Inv-loop μ-loop) where
   loop = turn .before .before
 
   abbrev entry : tie.Start Inv-loop μ-loop
-  entry = start (noted (loop .before))
+  entry = start (noted (kept-at loop))
 
   next-row-noted : {old : List ℕ} (t : Task (entry .args .cells .now) (entry .args .marks .now) (entry .args .starts .now) (entry .args .asked) old)
       → NotedTo t (loop .loop .first .number) (entry .args .row .number) (loop .loop .first) (loop .loop .notes) (loop .loop .kept) (loop .loop .agreed)
@@ -64,7 +67,7 @@ module _ (c : tie.After-note-row Inv-loop μ-loop) where
 
 note-last-requires : tie.Need-note-last-requires Inv-loop μ-loop
 note-last-requires c κs =
-    let g = c .before .before .pre in
+    let g = c .before .before .before .pre in
     last-row (g .task) (g .here) (length-replicate {A = ℕ} 192 0)
 
 keep-before-requires : tie.Need-keep-before-requires Inv-loop μ-loop
@@ -79,8 +82,8 @@ loop-holds c = λ old t x. x
 row-before-requires : tie.Need-row-before-requires Inv-loop μ-loop
 row-before-requires c κs =
     let l = c .before .before in
-    let g = start (noted (l .before)) .pre in
-    let x = l .loop .inv (g .old) (g .task) (row-kept (l .before) g) in
+    let g = start (noted (kept-at l)) .pre in
+    let x = l .loop .inv (g .old) (g .task) (row-kept (kept-at l) g) in
     (c .if1 .taken, omega (arith, x .here .inside, g .task .laid .few))
 
 note-row-requires : tie.Need-note-row-requires Inv-loop μ-loop
@@ -88,30 +91,36 @@ note-row-requires c κs =
     let r = c .before .before .row-before in
     let i = c .before .before .before in
     let l = i .before .before in
-    let g = start (noted (l .before)) .pre in
-    next-row (g .task) (l .loop .inv (g .old) (g .task) (row-kept (l .before) g)) (i .if1 .taken) (r .result) (r .ensures)
+    let g = start (noted (kept-at l)) .pre in
+    next-row (g .task) (l .loop .inv (g .old) (g .task) (row-kept (kept-at l) g)) (i .if1 .taken) (r .result) (r .ensures)
 
 keep-before-requires-2 : tie.Need-keep-before-requires-2 Inv-loop μ-loop
 keep-before-requires-2 c κs =
     let n = c .before .before in
     let g = entry n .pre in
-    pair-at (g .task) (next-row-noted n (g .task) (loop n .loop .inv (g .old) (g .task) (row-kept (loop n .before) g)))
+    pair-at (g .task) (next-row-noted n (g .task) (loop n .loop .inv (g .old) (g .task) (row-kept (kept-at (loop n)) g)))
 
 loop-less : tie.Need-loop-less Inv-loop μ-loop
 loop-less c =
-    let n = c .before .before .before in
+    let n = c .before .before .before .before .before in
     omega (arith, turn n .if1 .taken, ap (λ (r : Row). r .number) (n .before .before .before .row-before .ensures))
 
 loop-again : tie.Need-loop-again Inv-loop μ-loop
 loop-again c = λ old t x.
-    (let n = c .before .before .before in
+    (let n = c .before .before .before .before .before in
     let y = next-row-noted n t (loop n .loop .inv old t x) in
-    pair-kept t y (c .keep-before2 .ensures (pair-at t y)))
+    pair-kept t y (c .before .before .keep-before2 .ensures (pair-at t y)))
+
+same-length : tie.Need-same-length Inv-loop μ-loop
+same-length c =
+    let l = c .before .before in
+    let g = start (noted (kept-at l)) .pre in
+    l .loop .inv (g .old) (g .task) (row-kept (kept-at l) g) .filled .long ∙ sym (g .filled .long)
 
 returns : tie.Need-returns Inv-loop μ-loop
 returns c = λ g.
     (let l = c .before .before in
-    rows-done (g .task) (l .loop .inv (g .old) (g .task) (row-kept (l .before) g)) (c .if1 .left))
+    rows-done (g .task) (l .loop .inv (g .old) (g .task) (row-kept (kept-at l) g)) (c .if1 .left))
 
 pub pairs-to-spec : {M : Type 1} → statement M
 pairs-to-spec =
@@ -127,4 +136,5 @@ pairs-to-spec =
     keep-before-requires-2
     loop-less
     loop-again
+    same-length
     returns)

@@ -1,4 +1,3 @@
-use native.Mathlib.Omega.{arith}
 use borrow.Author.Needs.{needs}
 use Rattle.entries.proofs.arrays.weight_of.Statement.{statement}
 use Rattle.entries.proofs.arrays.weight_of.Tie as tie
