@@ -37,6 +37,7 @@ module _ (t ss ms : List ℕ) (i first end : ℕ) where
       rest = (let r = rw (rows-first t ss ms row end h, ← e, s) at (a .rest) in r);
     }
 
-    pub agreeing-not : (next : ℕ) → row < end → next ≡ root i (rowAt t ss ms row) → agree cell next ≡ false → runCount (cellsFrom first) ≡ 1 → ⊥
+    pub agreeing-not : (next : ℕ) → row < end → next ≡ root i (rowAt t ss ms row) → agree cell next ≡ false
+        → runCount (cellsFrom first) ≡ 1 → ⊥
     unfolding breaks
     agreeing-not next h e s o = let r = rw (rows-first t ss ms row end h, ← e, s) at (a .rest) in omega arith

@@ -12,7 +12,8 @@ use Rattle.plan.specs.Plans.{Plan, write, Measure, cost}
 use Rattle.least.specs.Least.{Built}
 use Rattle.least.specs.Measures.{measureOf}
 use Rattle.least.specs.declared.By.{By}
-use Rattle.builder.specs.Build.{buildTold, BuiltInto, table-refused, room-refused, built}
+use Rattle.record.specs.Record.{Holds}
+use Rattle.builder.specs.Build.{buildTold, BuiltInto, BuiltFrom, table-refused, room-refused, built}
 use Rattle.builder.specs.declared.BuildAnswer.{BuildAnswer}
 use Rattle.builder.specs.declared.BuildAnswer.the-variants as build-answer
 use Rattle.least.proofs.Building.{built-one}
@@ -25,14 +26,16 @@ buildTold-one (build-answer.Refused f) (build-answer.Built m d) e = absurd (let 
 buildTold-one (build-answer.Refused f) (build-answer.Refused g) e = let q : told f ≡ told g = cc in ap build-answer.Refused (told-one q)
 
 -- the builder's plans of one table write the same cells, and cost the same
-same-built : (m : Measure) {T T′ : Table} → T ≡ T′ → (p : Plan (T .width) (T .rows)) (q : Plan (T′ .width) (T′ .rows)) → Built m p → Built m q
-    → (write p ≡ write q) × (cost m p ≡ cost m q)
+same-built : (m : Measure) {T T′ : Table} → T ≡ T′ → (p : Plan (T .width) (T .rows)) (q : Plan (T′ .width) (T′ .rows))
+    → Built m p → Built m q → (write p ≡ write q) × (cost m p ≡ cost m q)
 same-built m {T} {T′} e p q b c =
     subst (λ (X : Table). (q : Plan (X .width) (X .rows)) → Built m q → (write p ≡ write q) × (cost m p ≡ cost m q)) e
     (λ q c. (let d : p ≡ q = built-one m p q b c in (ap write d, ap (λ (p : Plan _ _). cost m p) d))) q c
 
-pub build-fixed : {by : By} {t room room′ room″ : List ℕ} {r s : BuildAnswer} → BuiltInto by t room room′ r → BuiltInto by t room room″ s → (r ≡ s) × (room′ ≡ room″)
-build-fixed {by} {r = r} {s} (table-refused f a b c) (table-refused f′ a′ b′ c′) = (buildTold-one r s (let q : f ≡ f′ = cc in b ∙ ap turned q ∙ sym b′), c ∙ sym c′)
+pub build-fixed : {by : By} {t room room′ room″ : List ℕ} {r s : BuildAnswer} → BuiltInto by t room room′ r → BuiltInto by t room room″ s
+    → (r ≡ s) × (room′ ≡ room″)
+build-fixed {by} {r = r} {s} (table-refused f a b c) (table-refused f′ a′ b′ c′) =
+    (buildTold-one r s (let q : f ≡ f′ = cc in b ∙ ap turned q ∙ sym b′), c ∙ sym c′)
 build-fixed (table-refused f a b c) (room-refused T p a′ u w b′ c′) = apart (sym a′ ∙ a)
 build-fixed (table-refused f a b c) (built T p a′ u l w b′ c′) = apart (sym a′ ∙ a)
 build-fixed (room-refused T p a u w b c) (table-refused f a′ b′ c′) = apart (sym a ∙ a′)
@@ -49,3 +52,8 @@ build-fixed {by} (built T p a u l w b c) (room-refused T′ p′ a′ u′ w′ 
 build-fixed {by} {room = room} {r = r} {s} (built T p a u l w b c) (built T′ p′ a′ u′ l′ w′ b′ c′) =
     let x = same-built (measureOf by) (read-one (sym a ∙ a′)) p p′ u u′ in
     (buildTold-one r s (b ∙ rw (x .0, x .1) (sym b′)), c ∙ rw (x .0) (sym c′))
+
+-- build_from: of a record that holds a table
+pub build-from-fixed : {rec room room′ room″ : List ℕ} {figure : ℕ} {T : Table} {r s : BuildAnswer} → Holds rec figure T
+    → BuiltFrom rec room room′ r → BuiltFrom rec room room″ s → (r ≡ s) × (room′ ≡ room″)
+build-from-fixed x p q = build-fixed (p _ _ x) (q _ _ x)

@@ -1,5 +1,5 @@
--- What is built and what is checked (demand 3): the check accepts what the builder writes, and reads its number of branches; and no plan that the
--- check accepts for that table costs less by the measure.
+-- What is built and what is checked (demand 3): the check accepts what the builder writes, and reads its number of branches; and no
+-- plan that the check accepts for that table costs less by the measure.
 use mathlib.Core.Path.{_≡_, refl, sym, _∙_}
 use mathlib.Core.List.{List}
 use Prim.Native.Nat.{ℕ, _≤_}
@@ -20,8 +20,8 @@ use Rattle.least.proofs.Measured.{by-table, by-read}
 use Rattle.builder.specs.Build.{BuiltInto, table-refused, room-refused, built}
 use Rattle.builder.specs.declared.BuildAnswer.the-variants as build-answer
 
--- the room's first cells, as many as are answered, are a plan of the table: the check reads its number of branches, the cost that is answered is its
--- own by the measure, and no plan of the table costs less
+-- the room's first cells, as many as are answered, are a plan of the table: the check reads its number of branches, the cost that is
+-- answered is its own by the measure, and no plan of the table costs less
 pub record LeastPlan (b : By) (t cells : List ℕ) (cost : ℕ) : Type 0 where
   pub table : Table
   pub is-read : tableOf t ≡ read table
@@ -31,7 +31,8 @@ pub record LeastPlan (b : By) (t cells : List ℕ) (cost : ℕ) : Type 0 where
   pub costs : costBy b plan ≡ cost
   pub none-less : (other : Plan (table .width) (table .rows)) → cost ≤ costBy b other
 
-pub built-least : (b : By) {t room room′ : List ℕ} {n cost : ℕ} → BuiltInto b t room room′ (build-answer.Built n cost) → LeastPlan b t (take n room′) cost
+pub built-least : (b : By) {t room room′ : List ℕ} {n cost : ℕ} → BuiltInto b t room room′ (build-answer.Built n cost)
+    → LeastPlan b t (take n room′) cost
 built-least b (table-refused f a e c) = absurd (let z : _≡_ {A = ℕ} 0 1 = cc in omega arith)
 built-least b (room-refused T p a u w e c) = absurd (let z : _≡_ {A = ℕ} 0 1 = cc in omega arith)
 built-least b {t} {room} {room′} {n} {cost} (built T p a u l w e c) =
@@ -56,7 +57,8 @@ pub record LeastAccepted (t cells : List ℕ) (cost : ℕ) : Type 0 where
   pub accepts : planOf t cells ≡ read cost
   pub none-fewer : (other : List ℕ) (n : ℕ) → planOf t other ≡ read n → cost ≤ n
 
-pub built-accepted : {t room room′ : List ℕ} {n cost : ℕ} → BuiltInto by.Branches t room room′ (build-answer.Built n cost) → LeastAccepted t (take n room′) cost
+pub built-accepted : {t room room′ : List ℕ} {n cost : ℕ} → BuiltInto by.Branches t room room′ (build-answer.Built n cost)
+    → LeastAccepted t (take n room′) cost
 built-accepted {t} {cost = cost} x =
     let l = built-least by.Branches x in
     let is = is-table t (l .is-read) in
@@ -64,5 +66,6 @@ built-accepted {t} {cost = cost} x =
     let e : branches (l .plan) ≡ cost = sym (cost-plain (l .plan)) ∙ l .costs in
     record {
       accepts = rw e at (l .checked);
-      none-fewer = λ other m q. (let z = acc other m .0 (rw (l .is-read) at q) in omega (arith, l .none-less (z .0), cost-plain (z .0), z .2));
+      none-fewer = λ other m q.
+          (let z = acc other m .0 (rw (l .is-read) at q) in omega (arith, l .none-less (z .0), cost-plain (z .0), z .2));
     }

@@ -4,5 +4,6 @@ pub mod ChooseLaws
 pub mod WritingLaws
 pub mod PlannedLaws
 pub mod BuildLaws
+pub mod RecordLaws
 pub mod Fixed
 pub mod Joined

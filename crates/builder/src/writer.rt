@@ -1,5 +1,5 @@
-// The builder's plan, written state by state from the entries of all pairs (01, "The builder's plan is fixed"). A row in a
-// state is a mask of its open cells, as in the check.
+// A plan, written state by state from the places that are kept for all pairs of rows: the builder's, where those are the
+// table's entries (01, "The builder's plan is fixed"). A row in a state is a mask of its open cells, as in the check.
 ghost use mathlib.Core.Path.{_≡_};
 ghost use mathlib.Core.List.{map};
 ghost use Prim.Native.Nat.{_+_, _-_, _≤_, _<_};
@@ -9,14 +9,22 @@ ghost use Rattle.term.specs.Terms.{root};
 ghost use Rattle.plan.specs.Plans.{write, writes};
 ghost use Rattle.state.specs.Column.{runCount};
 ghost use Rattle.state.specs.States.{rowsIn};
-ghost use Rattle.least.specs.Least.{Chosen};
-ghost use Rattle.builder.specs.code.Writing.{State, ToWrite, ToWriteAll, Written, Given, Planned};
+ghost use Rattle.state.specs.code.First.{TableRows};
+ghost use Rattle.least.specs.code.Follow as follow;
+ghost use Rattle.builder.specs.code.Writing.{ToWrite, ToWriteAll, Written, Planned};
 use state::column::run_count;
 use state::column::run_length;
 use state::column::same_symbol;
 use state::mask::close_at;
 use state::mask::close_rows;
 use state::mask::open_rows;
+
+// The rows of a state, from first to before end, and how many places are open in each.
+struct Rows {
+    first: usize,
+    end: usize,
+    opens: usize,
+}
 
 // All rows agree at place i: each holds the symbol of the row before it.
 fn agreed_at(
@@ -44,145 +52,136 @@ fn agreed_at(
     true
 }
 
-// The place that the rule takes at a state with k open places: the leftmost that all rows agree on, otherwise the pair's.
-fn choose(
-    table: &[u32],
-    starts: &[usize; 64],
-    masks: &[u32; 64],
-    kept: &[u32; 12288],
-    first: usize,
-    end: usize,
-    k: usize,
-) -> u32
-    requires { ⌜ (0 < k) × State (now kept) first end k (rowsIn (now table) (now starts) (now masks) first end) ⌝ }
-    ensures { λ r. ⌜ ((s : State (now (kept .entry)) first end k
-        (rowsIn (now (table .entry)) (now (starts .entry)) (now (masks .entry)) first end))
-        → (r < k) × Chosen (s .source .measure) (k - 1)
-        (rowsIn (now (table .entry)) (now (starts .entry)) (now (masks .entry)) first end) r) ⌝ }
+// A kept place, and 0 where that is none of the open places, which no record that holds a table has.
+fn within(place: u32, opens: usize) -> u32
+    ensures { λ r. ⌜ r ≡ follow.within place opens ⌝ }
+{
+    if (place as usize) < opens { place } else { 0 }
+}
+
+// The place that is taken at a state: the leftmost that all rows agree on, otherwise the one kept for its first and last row.
+fn choose(table: &[u32], starts: &[usize; 64], masks: &[u32; 64], kept: &[u32], rows: Rows) -> u32
+    requires { ⌜ (rows .first < rows .end) × (rows .end ≤ 64) × (rows .opens ≤ 32) × (length (now kept) ≡ 12288) ⌝ }
+    ensures { λ r. ⌜ r ≡ follow.taken (now (kept .entry)) (rows .first) (rows .opens)
+        (rowsIn (now (table .entry)) (now (starts .entry)) (now (masks .entry)) (rows .first) (rows .end)) ⌝ }
 {
     let mut i: u32 = 0;
-    while (i as usize) < k {
-        if agreed_at(table, starts, masks, i, first, end) {
+    while (i as usize) < rows.opens {
+        if agreed_at(table, starts, masks, i, rows.first, rows.end) {
             return i;
         }
         i += 1;
     }
-    let last = end - 1;
-    let pair = 64 * first + last;
-    kept[8192 + pair]
+    let last = rows.end - 1;
+    let pair = 64 * rows.first + last;
+    within(kept[8192 + pair], rows.opens)
 }
 
-// The plan of the state of rows first to before end with k open places, from a place on; the place after it.
+// The plan of a state, from a place on; the place after it.
 fn state(
     table: &[u32],
     starts: &[usize; 64],
     masks: &mut [u32; 64],
     column: &mut [u32; 64],
-    kept: &[u32; 12288],
+    kept: &[u32],
     out: &mut [u32; 6082],
-    first: usize,
-    end: usize,
-    k: usize,
+    rows: Rows,
     at: usize,
 ) -> usize
-    requires { ⌜ ToWrite (now table) (now starts) (now masks) (now column) (now kept) (now out) first end k at ⌝ }
+    requires { ⌜ ToWrite (now table) (now starts) (now masks) (now column) (now kept) (now out)
+        (rows .first) (rows .end) (rows .opens) at ⌝ }
     ensures { λ r. ⌜ ((q : ToWrite (now (table .entry)) (now (starts .entry)) (now (masks .entry)) (now (column .entry))
-        (now (kept .entry)) (now (out .entry)) first end k at)
+        (now (kept .entry)) (now (out .entry)) (rows .first) (rows .end) (rows .opens) at)
         → Written (now (masks .entry)) (now (column .entry)) (now (out .entry))
-        (now (masks .exit)) (now (column .exit)) (now (out .exit)) (write (q .plan)) end at r) ⌝ }
+        (now (masks .exit)) (now (column .exit)) (now (out .exit)) (write (q .plan)) (rows .end) at r) ⌝ }
 {
-    if k == 0 {
+    let first = rows.first;
+    let end = rows.end;
+    let opens = rows.opens;
+    if opens == 0 {
         out[at] = (end - first) as u32;
         return at + 1;
     }
-    let i = choose(table, starts, &*masks, kept, first, end, k);
+    let i = choose(table, starts, &*masks, kept, rows);
     close_rows(table, starts, masks, column, i, first, end);
     let cells = &column[..];
     let count = run_count(&cells[first..end]) as u32;
     let next = at + 1;
     out[at] = i;
     out[next] = count;
-    branches(
-        table,
-        starts,
-        masks,
-        column,
-        kept,
-        out,
+    let others = Rows {
         first,
         end,
-        k - 1,
-        at + 2,
-    )
+        opens: opens - 1,
+    };
+    branches(table, starts, masks, column, kept, out, others, at + 2)
 }
 
-// The branches from a place on, one for each run of the rows from first to before end; below each, k places are open beside
+// The branches from a place on, one for each run of the rows whose place is closed; below each, these places are open beside
 // its symbol's arguments.
 fn branches(
     table: &[u32],
     starts: &[usize; 64],
     masks: &mut [u32; 64],
     column: &mut [u32; 64],
-    kept: &[u32; 12288],
+    kept: &[u32],
     out: &mut [u32; 6082],
-    first: usize,
-    end: usize,
-    k: usize,
+    rows: Rows,
     at: usize,
 ) -> usize
-    requires { ⌜ ToWriteAll (now table) (now starts) (now masks) (now column) (now kept) (now out) first end k at ⌝ }
+    requires { ⌜ ToWriteAll (now table) (now starts) (now masks) (now column) (now kept) (now out)
+        (rows .first) (rows .end) (rows .opens) at ⌝ }
     ensures { λ r. ⌜ ((q : ToWriteAll (now (table .entry)) (now (starts .entry)) (now (masks .entry)) (now (column .entry))
-        (now (kept .entry)) (now (out .entry)) first end k at)
+        (now (kept .entry)) (now (out .entry)) (rows .first) (rows .end) (rows .opens) at)
         → Written (now (masks .entry)) (now (column .entry)) (now (out .entry))
-        (now (masks .exit)) (now (column .exit)) (now (out .exit)) (writes (q .plans)) end at r) ⌝ }
+        (now (masks .exit)) (now (column .exit)) (now (out .exit)) (writes (q .plans)) (rows .end) at r) ⌝ }
 {
-    let mut row = first;
+    let end = rows.end;
+    let mut row = rows.first;
     let mut next = at;
     while row < end {
         let cells = &column[..];
         let n = run_length(&cells[row..end]);
         let c = column[row];
         out[next] = c;
-        let open = cell::arity_of(c) + k;
-        next = state(
-            table,
-            starts,
-            masks,
-            column,
-            kept,
-            out,
-            row,
-            row + n,
-            open,
-            next + 1,
-        );
+        let below = Rows {
+            first: row,
+            end: row + n,
+            opens: cell::arity_of(c) + rows.opens,
+        };
+        next = state(table, starts, masks, column, kept, out, below, next + 1);
         row += n;
     }
     next
 }
 
-// How many cells a plan has, and what it costs.
+// How many cells a plan has, and what it costs where the costs that are kept are the table's.
 pub struct Extent {
     pub cells: usize,
     pub cost: u32,
 }
 
 // The plan of a table's rows, to the front of the cells lent: the first state, with all rows and the width's arguments open.
-// Its cost is kept already, for the pair of the first row and the last.
+// What it costs is kept for the pair of the first row and the last.
 pub fn write_plan(
     table: &[u32],
     starts: &[usize; 64],
-    kept: &[u32; 12288],
+    kept: &[u32],
     out: &mut [u32; 6082],
     width: usize,
     count: usize,
 ) -> Extent
-    requires { ⌜ Given (now table) (now starts) (now kept) width count × (length (now out) ≡ 6082) ⌝ }
-    ensures { λ r. ⌜ ((g : Given (now (table .entry)) (now (starts .entry)) (now (kept .entry)) width count)
-        → Planned (g .measure) (g .rows .table) (now (out .exit)) (r .cells) (r .cost)) ⌝ }
+    requires { ⌜ TableRows (now table) (now starts) width count × (length (now kept) ≡ 12288) × (length (now out) ≡ 6082) ⌝ }
+    ensures { λ r. ⌜ ((k : TableRows (now (table .entry)) (now (starts .entry)) width count)
+        → Planned (k .table) (now (kept .entry)) (now (out .exit)) (r .cells) (r .cost)) ⌝ }
 {
     let mut masks = open_rows(starts, count, table.len());
     let mut column = [0u32; 64];
+    let all = Rows {
+        first: 0,
+        end: count,
+        opens: width,
+    };
     let cells = state(
         table,
         starts,
@@ -190,9 +189,7 @@ pub fn write_plan(
         &mut column,
         kept,
         &mut *out,
-        0,
-        count,
-        width,
+        all,
         0,
     );
     Extent {

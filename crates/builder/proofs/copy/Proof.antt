@@ -10,7 +10,8 @@ use Rattle.builder.proofs.copy.Statement.{statement}
 use Rattle.builder.proofs.copy.Tie as tie
 
 -- one cell more is copied, and the room keeps its length
-one-more : (d s : List ℕ) (j : ℕ) → j < length d → j < length s → set (take j s ++ drop j d) j (getD s j 0) ≡ take (j + 1) s ++ drop (j + 1) d
+one-more : (d s : List ℕ) (j : ℕ) → j < length d → j < length s
+    → set (take j s ++ drop j d) j (getD s j 0) ≡ take (j + 1) s ++ drop (j + 1) d
 one-more d s j a b =
     let z : 0 + j ≡ j = omega arith in
     let z′ : 0 + suc j ≡ suc j = omega arith in
@@ -52,8 +53,11 @@ loop-less c = search needs
 loop-again : tie.Need-loop-again Inv-loop μ-loop
 loop-again c =
     let l = c .before .before .loop in
-    let a = c .before .before .before in
-    (omega arith, ap (λ (r : List ℕ). set r (l .i) (getD (a .args .from .now) (l .i) 0)) (l .inv .1) ∙ one-more (a .args .room .now) (a .args .from .now) (l .i) (omega arith) (omega arith))
+    let a = c .before .before .before in (
+      omega arith,
+      ap (λ (r : List ℕ). set r (l .i) (getD (a .args .from .now) (l .i) 0)) (l .inv .1)
+          ∙ one-more (a .args .room .now) (a .args .from .now) (l .i) (omega arith) (omega arith),
+    )
 
 same-length : tie.Need-same-length Inv-loop μ-loop
 same-length c =

@@ -9,7 +9,8 @@ use Rattle.state.specs.States.{columnIn}
 use Rattle.state.proofs.RowsLaws.{column-length}
 use Rattle.builder.specs.code.Writing.{ToWrite, ToWriteAll}
 use Rattle.builder.proofs.ChooseLaws.{few-open}
-use Rattle.builder.proofs.WritingLaws.{leaf-room, leaf-written, Inner, inner, Going, going-start, going-done, Branch, branch, count-few}
+use Rattle.builder.proofs.WritingLaws.{leaf-room, leaf-written, Inner, inner, Going, going-start, going-done}
+use Rattle.builder.proofs.WritingLaws.{Branch, branch, count-few}
 use borrow.Fn.Kinds.{In}
 use borrow.Fn.PlainCycle.{Measures, is, falls, and}
 use Rattle.builder.proofs.writer.branches.Reads as branches
@@ -18,19 +19,19 @@ use Rattle.builder.proofs.writer.+branches+state.Lts-branches as branch
 use Rattle.builder.proofs.writer.state.Reads as state
 use Rattle.builder.proofs.writer.state.Kinds as state-kinds
 use Rattle.builder.proofs.writer.+branches+state.Lts-state as state-lts
-use Rattle.cell.proofs.arity_of.Reads as arity-of-reads
 use Rattle.builder.proofs.writer.choose.Reads as choose-reads
-use Rattle.state.proofs.mask.close_rows.Reads as close-rows-reads
+use Rattle.cell.proofs.arity_of.Reads as arity-of-reads
 use Rattle.state.proofs.column.run_count.Reads as run-count-reads
 use Rattle.state.proofs.column.run_length.Reads as run-length-reads
+use Rattle.state.proofs.mask.close_rows.Reads as close-rows-reads
 use Rattle.builder.proofs.writer.+branches+state.{statement}
 use Rattle.builder.proofs.writer.+branches+state.Tie.{close}
 
 abbrev μ-branches : Measures 6 branches-kinds.ps ℕ
-μ-branches κs a = 6082 - a .1 .1 .1 .1 .1 .1 .1 .1 .1 .0
+μ-branches κs a = 6082 - a .1 .1 .1 .1 .1 .1 .1 .0
 
 abbrev μ-state : Measures 6 state-kinds.ps ℕ
-μ-state κs a = 6082 - a .1 .1 .1 .1 .1 .1 .1 .1 .1 .0
+μ-state κs a = 6082 - a .1 .1 .1 .1 .1 .1 .1 .0
 
 abbrev branches-at : ℕ → In 6 branches-kinds.ps
 branches-at t = and 6 branches-kinds.ps (is 6 branches-kinds.ps μ-branches t) branches.Pre
@@ -49,30 +50,56 @@ abbrev branches-with : ℕ → branches-lts.Claims
 branches-with t = (run-length-reads.Asked, run-length-reads.Learnt, arity-of-reads.Asked, arity-of-reads.Learnt, state-below t, state.Post)
 
 abbrev state-with : ℕ → state-lts.Claims
-state-with t = (choose-reads.Asked, choose-reads.Learnt, close-rows-reads.Asked, close-rows-reads.Learnt, run-count-reads.Asked, run-count-reads.Learnt, branches-below t, branches.Post)
+state-with t = (
+  choose-reads.Asked,
+  choose-reads.Learnt,
+  close-rows-reads.Asked,
+  close-rows-reads.Learnt,
+  run-count-reads.Asked,
+  run-count-reads.Learnt,
+  branches-below t,
+  branches.Post,
+)
 
 abbrev branches-Inv-loop : branches-lts.InvT-loop
-branches-Inv-loop table starts masks₀ column₀ place out₀ first end k at row₀ next₀ masks column out row next =
-    (q : ToWriteAll table starts masks₀ column₀ place out₀ first end k at) → Going table starts place masks₀ column₀ out₀ end k at (writes (q .plans)) masks column out row next
+branches-Inv-loop table starts masks₀ column₀ kept out₀ rows at end row₀ next₀ masks column out row next =
+    (q : ToWriteAll table starts masks₀ column₀ kept out₀ (rows .first) (rows .end) (rows .opens) at)
+    → Going table starts kept masks₀ column₀ out₀ (rows .end) (rows .opens) at (writes (q .plans)) masks column out row next
 
 abbrev branches-μ-loop : branches-lts.MeasureT-loop
-branches-μ-loop table starts masks₀ column₀ place out₀ first end k at row₀ next₀ masks column out row next = end - row
+branches-μ-loop table starts masks₀ column₀ kept out₀ rows at end row₀ next₀ masks column out row next =
+    end - row
+
+-- the places of `branches` that its answers go back to: where the run's length is known, the turn of the loop before that, and the call
+-- before that
+abbrev At-run : ℕ → Type 0
+At-run t = branches-lts.After-run-length (branches-with t) (branches-at t) branches.Post branches-Inv-loop branches-μ-loop
+
+abbrev turn-at : (t : ℕ) → At-run t → branches-lts.At-loop (branches-with t) (branches-at t) branches.Post branches-Inv-loop branches-μ-loop
+turn-at t c = c .before .before .before .before .before
+
+abbrev call-at : (t : ℕ) → At-run t → branches-lts.Start (branches-with t) (branches-at t) branches.Post branches-Inv-loop branches-μ-loop
+call-at t c = turn-at t c .before .before .before
 
 -- the branch of a turn
-module _ (t : ℕ) (c : branches-lts.After-run-length (branches-with t) (branches-at t) branches.Post branches-Inv-loop branches-μ-loop) where
-  abbrev turn : branches-lts.At-loop (branches-with t) (branches-at t) branches.Post branches-Inv-loop branches-μ-loop
-  turn = c .before .before .before .before .before
+branch-here : (t : ℕ) (c : At-run t) → let r = call-at t c .args in let l = turn-at t c .loop in
+    (a : ℕ) → a ≡ arity (getD (l .column) (l .row) 0)
+    → (q : ToWriteAll (r .table .now) (r .starts .now) (r .masks .now) (r .column .now) (r .kept .now) (r .out .now)
+    (r .rows .first) (r .rows .end) (r .rows .opens) (r .at))
+    → Branch (r .table .now) (r .starts .now) (r .kept .now) (r .masks .now) (r .column .now) (r .out .now)
+    (r .rows .end) (r .rows .opens) (r .at) (writes (q .plans))
+    (l .masks) (l .column) (l .out) (l .row) (l .next) (c .run-length .result) (getD (l .column) (l .row) 0) a
+branch-here t c a e q =
+    branch (turn-at t c .loop .inv q) (c .run-length .result) _ (c .before .before .before .before .loop-test .taken) refl
+    (c .run-length .ensures) a e
 
-  abbrev begun : branches-lts.Start (branches-with t) (branches-at t) branches.Post branches-Inv-loop branches-μ-loop
-  begun = c .before .before .before .before .before .before .before
-
-  abbrev here : ℕ
-  here = getD (turn .loop .column) (turn .loop .row) 0
-
-  branch-here : (a : ℕ) → a ≡ arity here
-      → (q : ToWriteAll (begun .args .table .now) (begun .args .starts .now) (begun .args .masks .now) (begun .args .column .now) (begun .args .kept .now) (begun .args .out .now) (begun .args .first) (begun .args .end) (begun .args .k) (begun .args .at))
-      → Branch (begun .args .table .now) (begun .args .starts .now) (begun .args .kept .now) (begun .args .masks .now) (begun .args .column .now) (begun .args .out .now) (begun .args .end) (begun .args .k) (begun .args .at) (writes (q .plans)) (turn .loop .masks) (turn .loop .column) (turn .loop .out) (turn .loop .row) (turn .loop .next) (c .run-length .result) here a
-  branch-here a e q = branch (turn .loop .inv q) (c .run-length .result) _ a (c .before .before .before .before .loop-test .taken) refl (c .run-length .ensures) e
+-- the same where only its rows are of interest
+some-branch : (t : ℕ) (c : At-run t) → let r = call-at t c .args in let l = turn-at t c .loop in
+    Branch (r .table .now) (r .starts .now) (r .kept .now) (r .masks .now) (r .column .now) (r .out .now)
+    (r .rows .end) (r .rows .opens) (r .at) (writes (call-at t c .pre .1 .plans))
+    (l .masks) (l .column) (l .out) (l .row) (l .next) (c .run-length .result)
+    (getD (l .column) (l .row) 0) (arity (getD (l .column) (l .row) 0))
+some-branch t c = branch-here t c _ refl (call-at t c .pre .1)
 
 branches-loop-holds : (t : ℕ) → branches-lts.Need-loop-holds (branches-with t) (branches-at t) branches.Post branches-Inv-loop branches-μ-loop
 branches-loop-holds t c = λ q. going-start q
@@ -99,73 +126,76 @@ branches-element-copy-out-c : (t : ℕ) → branches-lts.Need-element-copy-out-c
 branches-element-copy-out-c t c = search needs
 
 branches-mul-out : (t : ℕ) → branches-lts.Need-mul-out (branches-with t) (branches-at t) branches.Post branches-Inv-loop branches-μ-loop
-branches-mul-out t c = omega (arith, branch-here t (c .before) _ refl (begun t (c .before) .pre .1) .room)
+branches-mul-out t c = omega (arith, some-branch t (c .before) .room)
 
 branches-element-write-out : (t : ℕ) → branches-lts.Need-element-write-out (branches-with t) (branches-at t) branches.Post branches-Inv-loop branches-μ-loop
-branches-element-write-out t c = branch-here t (c .before) _ refl (begun t (c .before) .pre .1) .room
+branches-element-write-out t c = some-branch t (c .before) .room
+
+branches-add-state : (t : ℕ) → branches-lts.Need-add-state (branches-with t) (branches-at t) branches.Post branches-Inv-loop branches-μ-loop
+branches-add-state t c = omega (arith, some-branch t (c .before) .few, call-at t (c .before) .pre .1 .few)
 
 branches-arity-of-requires : (t : ℕ) → branches-lts.Need-arity-of-requires (branches-with t) (branches-at t) branches.Post branches-Inv-loop branches-μ-loop
 branches-arity-of-requires t c κs = search needs
 
-branches-add-open : (t : ℕ) → branches-lts.Need-add-open (branches-with t) (branches-at t) branches.Post branches-Inv-loop branches-μ-loop
-branches-add-open t c =
-    let h = branch-here t (c .before .before) (c .arity-of .result) (c .arity-of .ensures) (begun t (c .before .before) .pre .1) in
-    omega (arith, few-open (c .before .before .before .before .before .before .before .before .before .args .table .now) (c .before .before .before .before .before .before .before .before .before .args .starts .now) (c .before .before .before .before .before .before .before .loop .masks) (h .below .state))
-
-branches-add-state : (t : ℕ) → branches-lts.Need-add-state (branches-with t) (branches-at t) branches.Post branches-Inv-loop branches-μ-loop
-branches-add-state t c =
-    let q = begun t (c .before .before .before .before .before) .pre .1 in
-    let h = branch-here t (c .before .before .before .before .before) _ refl q in
-    let w = h .few in
-    omega (arith, q .inside, q .source .many)
+branches-add-t28 : (t : ℕ) → branches-lts.Need-add-t28 (branches-with t) (branches-at t) branches.Post branches-Inv-loop branches-μ-loop
+branches-add-t28 t c =
+    let l = c .before .before .before in
+    let r = call-at t l .args in
+    let h = branch-here t l (c .before .arity-of .result) (c .before .arity-of .ensures) (call-at t l .pre .1) in
+    omega (arith, few-open (r .table .now) (r .starts .now) (turn-at t l .loop .masks) (h .below .rows) (h .below .some))
 
 branches-add-state-2 : (t : ℕ) → branches-lts.Need-add-state-2 (branches-with t) (branches-at t) branches.Post branches-Inv-loop branches-μ-loop
-branches-add-state-2 t c =
-    let h = branch-here t (c .before .before .before .before .before) _ refl (begun t (c .before .before .before .before .before) .pre .1) in
-    omega (arith, h .room)
+branches-add-state-2 t c = omega (arith, some-branch t (c .before .before .before .before .before .before) .room)
 
 branches-state-requires : (t : ℕ) → branches-lts.Need-state-requires (branches-with t) (branches-at t) branches.Post branches-Inv-loop branches-μ-loop
 branches-state-requires t c κs =
-    let q = begun t (c .before .before .before .before .before) .pre .1 in
-    let h = branch-here t (c .before .before .before .before .before) (c .before .before .before .arity-of .result) (c .before .before .before .arity-of .ensures) q in
-    let g = c .before .before .before .before .before .before .before .before .before .before .loop .inv q in
-    (omega (arith, begun t (c .before .before .before .before .before) .pre .0, h .room, g .later), h .below)
+    let l = c .before .before .before .before .before .before in
+    let y = c .before .before .before .before .arity-of in
+    let q = call-at t l .pre .1 in
+    let h = branch-here t l (y .result) (y .ensures) q in
+    (omega (arith, call-at t l .pre .0, h .room, turn-at t l .loop .inv q .later), h .below)
 
 branches-add-row : (t : ℕ) → branches-lts.Need-add-row (branches-with t) (branches-at t) branches.Post branches-Inv-loop branches-μ-loop
 branches-add-row t c =
-    let q = begun t (c .before .before .before .before .before .before) .pre .1 in
-    let h = branch-here t (c .before .before .before .before .before .before) _ refl q in
-    let w = h .few in
-    omega (arith, q .inside, q .source .many)
+    let l = c .before .before .before .before .before .before .before in
+    omega (arith, some-branch t l .few, call-at t l .pre .1 .few)
 
 branches-loop-less : (t : ℕ) → branches-lts.Need-loop-less (branches-with t) (branches-at t) branches.Post branches-Inv-loop branches-μ-loop
 branches-loop-less t c =
-    let q = begun t (c .before .before .before .before .before .before) .pre .1 in
-    let h = branch-here t (c .before .before .before .before .before .before) _ refl q in
-    omega (arith, h .few, h .some)
+    let l = c .before .before .before .before .before .before .before in
+    omega (arith, some-branch t l .few, some-branch t l .some)
 
 branches-loop-again : (t : ℕ) → branches-lts.Need-loop-again (branches-with t) (branches-at t) branches.Post branches-Inv-loop branches-μ-loop
 branches-loop-again t c =
-    λ q. let h = branch-here t (c .before .before .before .before .before .before) (c .before .before .before .before .arity-of .result) (c .before .before .before .before .arity-of .ensures) q in
+    λ q. let l = c .before .before .before .before .before .before .before in
+    let y = c .before .before .before .before .before .arity-of in
+    let h = branch-here t l (y .result) (y .ensures) q in
     h .on _ _ _ _ (c .state .ensures (h .below))
 
 branches-returns : (t : ℕ) → branches-lts.Need-returns (branches-with t) (branches-at t) branches.Post branches-Inv-loop branches-μ-loop
 branches-returns t c = λ q. going-done (c .before .loop .inv q) (omega arith)
 
--- the inner state, its place chosen and closed
-module _ (t : ℕ) (c : state-lts.After-run-count (state-with t) (state-at t) state.Post) where
-  abbrev entered : state-lts.Start (state-with t) (state-at t) state.Post
-  entered = c .before .before .before .before .before .before .before .before .before .before .before
+-- the same of `state`: where the runs are counted, and the call
+abbrev At-count : ℕ → Type 0
+At-count t = state-lts.After-run-count (state-with t) (state-at t) state.Post
 
-  abbrev chosen : ℕ
-  chosen = c .before .before .before .before .before .before .before .choose .result
+abbrev entered : (t : ℕ) → At-count t → state-lts.Start (state-with t) (state-at t) state.Post
+entered t c = c .before .before .before .before .before .before .before .before .before .before .before .before
 
-  inner-here : (q : ToWrite (entered .args .table .now) (entered .args .starts .now) (entered .args .masks .now) (entered .args .column .now) (entered .args .kept .now) (entered .args .out .now) (entered .args .first) (entered .args .end) (entered .args .k) (entered .args .at))
-      → Inner (entered .args .table .now) (entered .args .starts .now) (entered .args .masks .now) (entered .args .column .now) (entered .args .kept .now) (entered .args .out .now) (entered .args .first) (entered .args .end) (entered .args .k) (entered .args .at) (c .before .before .before .before .close-rows .last .1 .1 .0) (c .before .before .before .before .close-rows .last .1 .1 .1 .0)
-      (set (set (entered .args .out .now) (entered .args .at) chosen) (entered .args .at + 1) (c .run-count .result)) (write (q .plan))
-  inner-here q =
-      let p = c .before .before .before .before .before .before .before .choose .ensures (q .state) in
-      inner q _ _ chosen (c .run-count .result) (p .0) (p .1) (c .before .before .before .before .close-rows .ensures) (c .run-count .ensures)
+-- the inner state, its place taken and closed
+inner-here : (t : ℕ) (c : At-count t) → let r = entered t c .args in
+    let i = c .before .before .before .before .before .before .before .choose .result in
+    (q : ToWrite (r .table .now) (r .starts .now) (r .masks .now) (r .column .now) (r .kept .now) (r .out .now)
+    (r .rows .first) (r .rows .end) (r .rows .opens) (r .at))
+    → Inner (r .table .now) (r .starts .now) (r .masks .now) (r .column .now) (r .kept .now) (r .out .now)
+    (r .rows .first) (r .rows .end) (r .rows .opens) (r .at)
+    (c .before .before .before .before .close-rows .last .1 .1 .0) (c .before .before .before .before .close-rows .last .1 .1 .1 .0)
+    (set (set (r .out .now) (r .at) i) (r .at + 1) (c .run-count .result)) (write (q .plan))
+inner-here t c q =
+    inner q _ _ _ (c .run-count .result)
+    (omega (arith, c .before .before .before .before .before .before .before .before .before .if1 .left))
+    (c .before .before .before .before .before .before .before .choose .ensures)
+    (c .before .before .before .before .close-rows .ensures) (c .run-count .ensures)
 
 state-sub-out : (t : ℕ) → state-lts.Need-sub-out (state-with t) (state-at t) state.Post
 state-sub-out t c = search needs
@@ -177,7 +207,7 @@ state-mul-out : (t : ℕ) → state-lts.Need-mul-out (state-with t) (state-at t)
 state-mul-out t c = search needs
 
 state-element-write-out : (t : ℕ) → state-lts.Need-element-write-out (state-with t) (state-at t) state.Post
-state-element-write-out t c = leaf-room (c .before .before .pre .1) (c .if1 .taken)
+state-element-write-out t c = leaf-room (c .before .before .before .pre .1) (c .if1 .taken)
 
 state-add-result : (t : ℕ) → state-lts.Need-add-result (state-with t) (state-at t) state.Post
 state-add-result t c = search needs
@@ -186,7 +216,10 @@ state-returns : (t : ℕ) → state-lts.Need-returns (state-with t) (state-at t)
 state-returns t c = λ q. leaf-written q (c .if1 .taken)
 
 state-choose-requires : (t : ℕ) → state-lts.Need-choose-requires (state-with t) (state-at t) state.Post
-state-choose-requires t c κs = search needs
+state-choose-requires t c κs =
+    let q = c .before .before .before .before .pre .1 in
+    let r = c .before .before .before .before .args in
+    (q .some, q .few, few-open (r .table .now) (r .starts .now) (r .masks .now) (q .rows) (q .some), q .room .pairs)
 
 state-close-rows-requires : (t : ℕ) → state-lts.Need-close-rows-requires (state-with t) (state-at t) state.Post
 state-close-rows-requires t c κs = search needs
@@ -209,10 +242,17 @@ state-run-count-requires t c κs = search needs
 state-cast-count : (t : ℕ) → state-lts.Need-cast-count (state-with t) (state-at t) state.Post
 state-cast-count t c =
     let q = entered t c .pre .1 in
+    let r = entered t c .args .rows in
     let h = c .before .before .before .before .close-rows .last .1 .1 .1 .0 in
-    let a = c .before .before .before .before .before .before .before .before .before .before .before .args in
     let z = inner-here t c q .ready .room .column in
-    omega (arith, c .run-count .ensures, count-few (columnIn h (a .first) (a .end)), column-length h (a .first) (a .end) (omega (arith, q .state .inside, q .state .source .many)), q .state .inside, q .state .source .many)
+    omega (
+      arith,
+      c .run-count .ensures,
+      count-few (columnIn h (r .first) (r .end)),
+      column-length h (r .first) (r .end) (omega (arith, q .few)),
+      q .few,
+      q .some,
+    )
 
 state-add-next : (t : ℕ) → state-lts.Need-add-next (state-with t) (state-at t) state.Post
 state-add-next t c = search needs
@@ -229,16 +269,17 @@ state-mul-out-3 t c = search needs
 state-element-write-out-3 : (t : ℕ) → state-lts.Need-element-write-out-3 (state-with t) (state-at t) state.Post
 state-element-write-out-3 t c = omega (arith, inner-here t c (entered t c .pre .1) .room)
 
-state-sub-branches : (t : ℕ) → state-lts.Need-sub-branches (state-with t) (state-at t) state.Post
-state-sub-branches t c = search needs
+state-sub-t28 : (t : ℕ) → state-lts.Need-sub-t28 (state-with t) (state-at t) state.Post
+state-sub-t28 t c = search needs
 
 state-add-branches : (t : ℕ) → state-lts.Need-add-branches (state-with t) (state-at t) state.Post
 state-add-branches t c = search needs
 
 state-branches-requires : (t : ℕ) → state-lts.Need-branches-requires (state-with t) (state-at t) state.Post
 state-branches-requires t c κs =
-    let i = inner-here t (c .before .before .before) (entered t (c .before .before .before) .pre .1) in
-    (omega (arith, entered t (c .before .before .before) .pre .0, i .room), i .ready)
+    let l = c .before .before .before in
+    let i = inner-here t l (entered t l .pre .1) in
+    (omega (arith, entered t l .pre .0, i .room), i .ready)
 
 state-returns-2 : (t : ℕ) → state-lts.Need-returns-2 (state-with t) (state-at t) state.Post
 state-returns-2 t c =
@@ -261,9 +302,9 @@ pub +branches+state-spec : {M : Type 1} → statement M
     (branches-element-copy-out-c t)
     (branches-mul-out t)
     (branches-element-write-out t)
-    (branches-arity-of-requires t)
-    (branches-add-open t)
     (branches-add-state t)
+    (branches-arity-of-requires t)
+    (branches-add-t28 t)
     (branches-add-state-2 t)
     (branches-state-requires t)
     (branches-add-row t)
@@ -292,7 +333,7 @@ pub +branches+state-spec : {M : Type 1} → statement M
     (state-element-write-out-2 t)
     (state-mul-out-3 t)
     (state-element-write-out-3 t)
-    (state-sub-branches t)
+    (state-sub-t28 t)
     (state-add-branches t)
     (state-branches-requires t)
     (state-returns-2 t)

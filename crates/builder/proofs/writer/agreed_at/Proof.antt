@@ -55,7 +55,9 @@ same-symbol-requires c κs = search needs
 returns : tie.Need-returns Inv-loop μ-loop
 returns c =
     let l = c .before .before .before .before .before .before .loop in
-    sym (ne-eqb _ _ (agreeing-not _ _ _ _ _ _ (l .inv) (c .before .before .close-at2 .result .cell) (omega arith) (c .before .before .close-at2 .ensures .cell) (sym (c .before .same-symbol .ensures) ∙ not-true _ (c .if1 .taken))))
+    let z = c .before .before .close-at2 in
+    sym (ne-eqb _ _ (agreeing-not _ _ _ _ _ _ (l .inv) (z .result .cell) (omega arith) (z .ensures .cell)
+    (sym (c .before .same-symbol .ensures) ∙ not-true _ (c .if1 .taken))))
 
 add-row-2 : tie.Need-add-row-2 Inv-loop μ-loop
 add-row-2 c = search needs
@@ -66,7 +68,9 @@ loop-less c = search needs
 loop-again : tie.Need-loop-again Inv-loop μ-loop
 loop-again c =
     let l = c .before .before .before .before .before .before .loop in
-    agreeing-next _ _ _ _ _ _ (l .inv) (c .before .before .close-at2 .result .cell) (omega arith) (c .before .before .close-at2 .ensures .cell) (sym (c .before .same-symbol .ensures) ∙ not-false _ (c .if1 .left))
+    let z = c .before .before .close-at2 in
+    agreeing-next _ _ _ _ _ _ (l .inv) (z .result .cell) (omega arith) (z .ensures .cell)
+    (sym (c .before .same-symbol .ensures) ∙ not-false _ (c .if1 .left))
 
 returns-2 : tie.Need-returns-2 Inv-loop μ-loop
 returns-2 c = sym (eq-eqb _ _ (agreeing-all _ _ _ _ _ _ (c .before .loop .inv) (omega arith)))

@@ -1,8 +1,8 @@
 use mathlib.Core.Path.{refl}
 use native.Mathlib.Omega.{arith}
+use borrow.Author.Needs.{needs}
 use Rattle.state.proofs.FirstLaws.{few-rows}
 use Rattle.builder.proofs.PlannedLaws.{first-state, planned}
-use borrow.Author.Needs.{needs}
 use Rattle.builder.proofs.writer.write_plan.Statement.{statement}
 use Rattle.builder.proofs.writer.write_plan.Tie as tie
 
@@ -12,25 +12,28 @@ open-rows-requires c κs = search needs
 state-requires : tie.Need-state-requires
 state-requires c κs =
     let o = c .before .before .before in
-    let q = o .before .before .pre in
-    first-state (q .0) (o .open-rows .ensures) refl (q .1) .state
+    let q = o .before .before .before .pre in
+    first-state _ (q .0) (o .open-rows .ensures) refl (q .1) (q .2) .state
 
--- there is a row
-sub-t11 : tie.Need-sub-t11
-sub-t11 c = omega (arith, few-rows (c .before .before .before .before .before .before .pre .0 .rows))
+sub-t12 : tie.Need-sub-t12
+sub-t12 c = omega (arith, few-rows (c .before .before .before .before .before .before .before .pre .0))
 
-mul-t15 : tie.Need-mul-t15
-mul-t15 c = omega (arith, few-rows (c .before .before .before .before .before .before .pre .0 .rows))
+mul-t16 : tie.Need-mul-t16
+mul-t16 c = omega (arith, few-rows (c .before .before .before .before .before .before .before .pre .0))
 
-element-copy-out-t18 : tie.Need-element-copy-out-t18
-element-copy-out-t18 c = omega (arith, few-rows (c .before .before .before .before .before .before .pre .0 .rows))
+shared-slice-read-t18 : tie.Need-shared-slice-read-t18
+shared-slice-read-t18 c =
+    let q = c .before .before .before .before .before .before .before .before .pre in
+    omega (arith, few-rows (q .0), q .1)
 
 returns : tie.Need-returns
 returns c =
-    λ g. let o = c .before .before .before .before .before in
-    let l = o .before .before .pre .1 in
-    let s = first-state g (o .open-rows .ensures) refl l in
-    planned g l s (c .before .state .ensures (s .state)) refl
+    λ k. let o = c .before .before .before .before .before in
+    let q = o .before .before .before .pre in
+    let s = first-state _ k (o .open-rows .ensures) refl (q .1) (q .2) in
+    planned _ k (q .2) s (c .before .state .ensures (s .state)) refl
 
 pub write-plan-spec : {M : Type 1} → statement M
-write-plan-spec = tie.close (tie.spec open-rows-requires state-requires sub-t11 mul-t15 element-copy-out-t18 returns)
+write-plan-spec =
+    tie.close
+    (tie.spec open-rows-requires state-requires sub-t12 mul-t16 shared-slice-read-t18 returns)
