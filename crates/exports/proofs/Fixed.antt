@@ -3,6 +3,10 @@
 use Prim.Native.Nat.{ℕ}
 use mathlib.Core.Path.{_≡_, sym, ap, _∙_}
 use mathlib.Core.List.{List}
+use Rattle.table.specs.Table.{Table}
+use Rattle.record.specs.Record.{Holds}
+use Rattle.record.specs.Edits.{Edit}
+use Rattle.record.proofs.Fixed.{worked-one, edited-one}
 use Rattle.builder.specs.Build.{buildTold}
 use Rattle.builder.specs.declared.BuildAnswer.{BuildAnswer}
 use Rattle.builder.proofs.Fixed.{build-fixed}
@@ -11,18 +15,29 @@ use Rattle.answer.specs.declared.RunAnswer.{RunAnswer}
 use Rattle.answer.proofs.Fixed.{run-fixed}
 use Rattle.loading.proofs.Fixed.{text-fixed}
 use Rattle.refusal.specs.Coded.{coded}
-use Rattle.exports.specs.Coded.{BuildCoded, RunCoded, TextCoded, JobsCoded, RepliesCoded}
+use Rattle.exports.specs.Coded.{WorkCoded, EditCoded, BuildCoded, RunCoded, TextCoded, JobsCoded, RepliesCoded}
 use Rattle.answer.specs.declared.Job.{Job}
 use Rattle.answer.proofs.JobsLaws.{jobs-fixed}
 use Rattle.instance.specs.Replied.{repliesTold}
 use Rattle.instance.specs.declared.RepliesAnswer.{RepliesAnswer}
 use Rattle.instance.proofs.Fixed.{replied-fixed}
 
-pub build-coded-fixed : {t room room′ room″ : List ℕ} {figure m n : ℕ} → BuildCoded t figure room room′ m → BuildCoded t figure room room″ n
-    → (m ≡ n) × (room′ ≡ room″)
-build-coded-fixed a b =
-    let f = build-fixed (a .built) (b .built) in
-    (a .code ∙ ap (λ (x : BuildAnswer). coded (buildTold x)) (f .0) ∙ sym (b .code), f .1)
+pub work-coded-fixed : {figure : ℕ} {cells rec rec′ rec″ : List ℕ} {m n : ℕ} → WorkCoded figure cells rec rec′ m → WorkCoded figure cells rec rec″ n
+    → (m ≡ n) × (rec′ ≡ rec″)
+work-coded-fixed a b = let f = worked-one (a .worked) (b .worked) in (a .code ∙ ap coded (f .1) ∙ sym (b .code), f .0)
+
+-- an edit, and a plan built, of a record that holds a table
+pub edit-coded-fixed : {e : Edit} {figure : ℕ} {T : Table} {rec rec′ rec″ : List ℕ} {m n : ℕ} → Holds rec figure T → EditCoded e rec rec′ m
+    → EditCoded e rec rec″ n → (m ≡ n) × (rec′ ≡ rec″)
+edit-coded-fixed {figure = figure} {T} x a b =
+    let f = edited-one (a figure T x .edited) (b figure T x .edited) in
+    (a figure T x .code ∙ ap coded (f .1) ∙ sym (b figure T x .code), f .0)
+
+pub build-coded-fixed : {figure : ℕ} {T : Table} {rec room room′ room″ : List ℕ} {m n : ℕ} → Holds rec figure T → BuildCoded rec room room′ m
+    → BuildCoded rec room room″ n → (m ≡ n) × (room′ ≡ room″)
+build-coded-fixed {figure} {T} x a b =
+    let f = build-fixed (a figure T x .built) (b figure T x .built) in
+    (a figure T x .code ∙ ap (λ (r : BuildAnswer). coded (buildTold r)) (f .0) ∙ sym (b figure T x .code), f .1)
 
 pub run-coded-fixed : {t p g room room′ room″ : List ℕ} {m n : ℕ} → RunCoded t p g room room′ m → RunCoded t p g room room″ n
     → (m ≡ n) × (room′ ≡ room″)

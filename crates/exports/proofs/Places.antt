@@ -1,12 +1,12 @@
 -- Every refusal has a reason and an input by name, and its place lies within what is read.
 use mathlib.Core.Path.{_≡_, refl, ap}
 use mathlib.Core.Bool.{Bool, true, false, cond, not, _&&_, _||_}
-use mathlib.Core.List.{List, [], _∷_}
+use mathlib.Core.List.{List, [], _∷_, _++_}
 use Prim.Native.Nat.{ℕ, zero, suc, _+_, _-_, _^_, _≤_, _<_}
 use native.Mathlib.Omega.{arith}
 use lib.Dec.{eqb, leb, ltb}
-use lib.ListN.{length, getD, take, drop, length-drop}
-use borrow.Author.Tests.{ltb-false}
+use lib.ListN.{length, getD, set, take, drop, length-drop}
+use borrow.Author.Tests.{ltb-false, leb-false}
 use Rattle.cell.specs.Cell.{arity, valuesAt}
 use Rattle.refusal.specs.Refusal.{Refused, refused}
 use Rattle.refusal.specs.Refusal as answer
@@ -22,7 +22,8 @@ use Rattle.answer.specs.Run.{runOf}
 use Rattle.instance.specs.Replied.{repliesOf}
 use Rattle.table.proofs.Accepted.{is-table}
 use Rattle.refusal.specs.Read.{Read, read, refuse, when, andThen}
-use Rattle.table.specs.Table.{Table, Met, met, counted, termsFrom, before, rowsFrom, tableOf, table, goalOf}
+use Rattle.table.specs.Table.{Table, Met, met, counted, termsFrom, before, rowsFrom, tableOf, table, goalOf, rowOf}
+use Rattle.record.specs.Edits.{Edit, append, drop-last, replace, editOf}
 
 -- a refusal has its names and a place of at most n; what is read has P
 pub data Placed {A : Type 0} (n : ℕ) (P : A → Type 0) : Read A → Type 0 where
@@ -96,6 +97,39 @@ placed-rows w (suc k) xs p n e =
 pub widen : {A : Type 0} {n m : ℕ} {r : Read A} → n ≤ m → Placed n Any r → Placed m Any r
 widen l (good p) = good tt
 widen l (turned k i p q) = turned k i p (omega arith)
+
+-- a row by itself is read no further than its 32 cells, however many are there
+placed-cells : (xs : List ℕ) (owed used vars : ℕ) → used ≤ 32 → Placed 32 (λ (m : Met). m .next ≤ 32) (termsFrom true xs owed used vars used)
+unfolding termsFrom
+placed-cells [] zero used vars l = good {x = met used vars} l
+placed-cells [] (suc owed) used vars l =
+    placed-when (true && leb 32 used) reason.Long input.Table used l (λ _. turned reason.Short input.Table used l)
+placed-cells (c ∷ xs) zero used vars l = good {x = met used vars} l
+placed-cells (c ∷ xs) (suc owed) used vars l =
+    let v = valuesAt c in
+    placed-when (true && leb 32 used) reason.Long input.Table used l (λ h.
+    placed-when (eqb (v .kind) 3) reason.Cell input.Table used l (λ _.
+    placed-when (eqb (v .kind) 0 && ltb vars (v .number)) reason.Fresh input.Table used l (λ _.
+    placed-when (true && (eqb (v .kind) 0 && ltb (v .number) vars)) reason.Twice input.Table used l (λ _.
+    placed-cells xs (v .args + owed) (suc used) (counted v vars) (omega (arith, leb-false 32 used h))))))
+
+placed-row : (w : ℕ) (row : List ℕ) → Placed 32 (Any {A = ℕ}) (rowOf w row)
+unfolding rowOf
+placed-row w row =
+    placed-then (λ (m : Met). when (ltb (m .next) (length row)) (refused reason.Extra input.Table (m .next)) (read (m .vars)))
+    (placed-cells row w 0 0 (omega arith))
+    (λ m l. placed-when (ltb (m .next) (length row)) reason.Extra input.Table (m .next) l (λ _. good tt))
+
+-- so an edit's refusal is at one of its places, or at 0
+pub placed-edit : (e : Edit) (T : Table) → Placed 32 (Any {A = Table}) (editOf e T)
+unfolding editOf
+placed-edit (append row) T =
+    placed-when (leb 64 (length (T .rows))) reason.Full input.Table 0 (omega arith) (λ _.
+    placed-then (λ (_ : ℕ). read (table (T .width) (T .rows ++ (row ∷ [])))) (placed-row (T .width) row) (λ _ _. good tt))
+placed-edit drop-last T = placed-when (leb (length (T .rows)) 1) reason.Last input.Table 0 (omega arith) (λ _. good tt)
+placed-edit (replace r row) T =
+    placed-when (leb (length (T .rows)) r) reason.Index input.Table 0 (omega arith) (λ _.
+    placed-then (λ (_ : ℕ). read (table (T .width) (set (T .rows) r row))) (placed-row (T .width) row) (λ _ _. good tt))
 
 -- both sides of a test with two ways to fail
 or-false : (a b : Bool) → (a || b) ≡ false → (a ≡ false) × (b ≡ false)

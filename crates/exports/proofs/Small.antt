@@ -25,6 +25,9 @@ use Rattle.plan.proofs.SizeLaws.{bound, size-bound}
 use Rattle.builder.specs.declared.BuildAnswer.{BuildAnswer}
 use Rattle.least.specs.Measures.{measureOf, tableBy}
 use Rattle.least.specs.declared.By.{By}
+use Rattle.least.specs.declared.By.the-variants.{Work}
+use Rattle.record.specs.Record.{cellsIn, Holds}
+use Rattle.record.specs.Edits.{Edit, WorkedOut, no-record, worked, Edited, no-edit, edit}
 use Rattle.least.proofs.Measured.{by-table, by-figure, by-read}
 use Rattle.least.proofs.Weighed.{by-low, cost-few}
 use Rattle.builder.specs.Build.{BuiltInto, table-refused, room-refused, built, buildTold}
@@ -48,7 +51,7 @@ use Rattle.grammar.proofs.LongLaws.{text-long, other-place, names-few}
 use Rattle.loading.specs.Load.{Loaded, Loads, not-taken, no-cells, no-names, no-table, loads, loadSays, TextLoads}
 use Rattle.prolog.proofs.EntryLaws.{cells-long, names-long}
 use Rattle.run.proofs.Fixed.{jobs-told}
-use Rattle.exports.proofs.Places.{placed-small, placed-table, placed-plan, placed-run, placed-goal, placed-replies}
+use Rattle.exports.proofs.Places.{placed-small, placed-table, placed-edit, placed-plan, placed-run, placed-goal, placed-replies}
 
 pub table-small : (t : List ℕ) → Small (tableSays (tableOf t))
 table-small t = go (tableOf t) refl
@@ -145,6 +148,18 @@ turned-small b t {f} e = go (leb (measureOf b .figure) 15) refl
         let x : refuse (refused reason.Figure input.Figure 0) ≡ refuse f = sym (by-figure b t (leb-false (measureOf b .figure) 15 q)) ∙ e in
         let y : refused reason.Figure input.Figure 0 ≡ f = refuse-same x in
         rw (← y) (refused-small reason.Figure input.Figure 0 (omega arith))
+
+-- a record that holds a table: its width and rows
+held-small : {rec : List ℕ} {figure : ℕ} {T : Table} → Holds rec figure T → Small (tableSays (read T))
+held-small {T = T} x = let i = is-table (cellsIn T) (x .accepted) in (omega (arith, i .width .1), omega (arith, i .count .1))
+
+pub work-small : {figure : ℕ} {cells rec rec′ : List ℕ} {a : Answer} → WorkedOut figure cells rec rec′ a → Small a
+work-small {figure} {cells} (no-record f q e s) = small-by e (turned-small (Work figure) cells q)
+work-small (worked T q e x) = small-by e (held-small x)
+
+pub edit-small : {e : Edit} {figure : ℕ} {T : Table} {rec rec′ : List ℕ} {a : Answer} → Edited e figure T rec rec′ a → Small a
+edit-small {e} {T = T} (no-edit f q k s) = small-by k (placed-small (omega arith) (placed-edit e T) q)
+edit-small (edit T′ q k x) = small-by k (held-small x)
 
 -- a plan that is built has at most 6,082 cells, and costs at most 20 for each of 2,048 branches
 pub build-small : (b : By) {t room room′ : List ℕ} {r : BuildAnswer} → BuiltInto b t room room′ r → Small (buildTold r)

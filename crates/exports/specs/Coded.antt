@@ -10,6 +10,8 @@ use Rattle.table.specs.Table.{Table, startsIn, rowIn}
 use Rattle.least.specs.declared.By.the-variants.{Work}
 use Rattle.builder.specs.declared.BuildAnswer.{BuildAnswer}
 use Rattle.builder.specs.Build.{BuiltInto, buildTold}
+use Rattle.record.specs.Record.{cellsIn, Holds}
+use Rattle.record.specs.Edits.{Edit, WorkedOut, Edited}
 use Rattle.loading.specs.Load.{TextLoads}
 use Rattle.answer.specs.declared.RunAnswer.{RunAnswer}
 use Rattle.answer.specs.Run.{Ran, runTold}
@@ -28,11 +30,29 @@ pub record RunCoded (cells plan goal room after : List ℕ) (number : ℕ) : Typ
   pub ran : Ran cells plan goal room after answer
   pub code : number ≡ coded (runTold answer)
 
--- what the entry of the builder answers and leaves in the room, by the work of W-204 with a figure
-pub record BuildCoded (cells : List ℕ) (figure : ℕ) (room after : List ℕ) (number : ℕ) : Type 0 where
+-- what working a record out answers and leaves in it
+pub record WorkCoded (figure : ℕ) (cells rec after : List ℕ) (number : ℕ) : Type 0 where
+  pub told : Answer
+  pub worked : WorkedOut figure cells rec after told
+  pub code : number ≡ coded told
+
+-- what an edit of a record that holds a table answers and leaves in it
+pub record EditSays (e : Edit) (figure : ℕ) (T : Table) (rec after : List ℕ) (number : ℕ) : Type 0 where
+  pub told : Answer
+  pub edited : Edited e figure T rec after told
+  pub code : number ≡ coded told
+
+abbrev pub EditCoded : Edit → (rec after : List ℕ) → ℕ → Type 0
+EditCoded e rec after number = (figure : ℕ) (T : Table) → Holds rec figure T → EditSays e figure T rec after number
+
+-- what the builder answers and leaves in the room for a record that holds a table: the plan by the record's figure (W-204)
+pub record BuildSays (figure : ℕ) (T : Table) (room after : List ℕ) (number : ℕ) : Type 0 where
   pub answer : BuildAnswer
-  pub built : BuiltInto (Work figure) cells room after answer
+  pub built : BuiltInto (Work figure) (cellsIn T) room after answer
   pub code : number ≡ coded (buildTold answer)
+
+abbrev pub BuildCoded : (rec room after : List ℕ) → ℕ → Type 0
+BuildCoded rec room after number = (figure : ℕ) (T : Table) → Holds rec figure T → BuildSays figure T room after number
 
 -- what the entry for a text answers and leaves in the two rooms
 pub record TextCoded (text cells names cells′ names′ : List ℕ) (number : ℕ) : Type 0 where

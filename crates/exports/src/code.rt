@@ -38,6 +38,46 @@ fn code_refusal(f: Refusal) -> u64
     n + 256 * i + 65536 * p
 }
 
+// The same of a refusal of which nothing is known: what of its place does not fit is cut off.
+fn cut_refusal(f: Refusal) -> u64
+    ensures { λ r. ⌜ (Small (turned (told f)) → r ≡ coded (turned (told f))) ⌝ }
+{
+    let reason = f.reason;
+    let input = f.input;
+    let place = f.place % 281474976710656;
+    code_refusal(Refusal {
+        reason,
+        input,
+        place,
+    })
+}
+
+// And of two values.
+fn cut_answer(first: usize, second: usize) -> u64
+    ensures { λ r. ⌜ (Small (answered first second) → r ≡ coded (answered first second)) ⌝ }
+{
+    code_answer(first % 65536, second % 4294967296)
+}
+
+// What is answered for a record that no entry made is not known, so what does not fit its bits is cut off.
+pub fn code_edit(a: TableAnswer) -> u64
+    ensures { λ r. ⌜ (Small (tableTold a) → r ≡ coded (tableTold a)) ⌝ }
+{
+    match a {
+        TableAnswer::Accepted(width, rows) => cut_answer(width, rows),
+        TableAnswer::Refused(f) => cut_refusal(f),
+    }
+}
+
+pub fn code_built(a: BuildAnswer) -> u64
+    ensures { λ r. ⌜ (Small (buildTold a) → r ≡ coded (buildTold a)) ⌝ }
+{
+    match a {
+        BuildAnswer::Built(cells, cost) => cut_answer(cells, cost),
+        BuildAnswer::Refused(f) => cut_refusal(f),
+    }
+}
+
 // What each kind of answer is coded as.
 pub fn code_table(a: TableAnswer) -> u64
     requires { ⌜ Small (tableTold a) ⌝ }
@@ -76,16 +116,6 @@ pub fn code_run(a: RunAnswer) -> u64
     match a {
         RunAnswer::Ran(hits, tried) => code_answer(hits, tried),
         RunAnswer::Refused(f) => code_refusal(f),
-    }
-}
-
-pub fn code_build(a: BuildAnswer) -> u64
-    requires { ⌜ Small (buildTold a) ⌝ }
-    ensures { λ r. ⌜ r ≡ coded (buildTold a) ⌝ }
-{
-    match a {
-        BuildAnswer::Built(cells, cost) => code_answer(cells, cost),
-        BuildAnswer::Refused(f) => code_refusal(f),
     }
 }
 

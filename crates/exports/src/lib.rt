@@ -1,15 +1,17 @@
-// What other programs call. Each entry takes any cells at all and answers one number of 64 bits: the refusal, or its two values (crate
-// refusal, specs/Coded).
+// What other programs call. Each entry takes any cells and any record at all and answers one number of 64 bits: the refusal, or its two
+// values (crate refusal, specs/Coded). A table's cells are read, and worked out into a record; all other entries take the record (02, W-207,
+// "as one record that every caller now passes") and go by the table's part of it, which is not copied.
 ghost use mathlib.Core.Path.{_≡_};
 ghost use Rattle.table.specs.Table.{tableOf, tableSays, goalWith, goalSays};
 ghost use Rattle.plan.specs.Check.{planOf};
 ghost use Rattle.checker.specs.Checked.{planSays};
 ghost use Rattle.refusal.specs.Coded.{coded};
-ghost use Rattle.exports.specs.Coded.{rowSays, BuildCoded, RunCoded, TextCoded, JobsCoded, RepliesCoded};
+ghost use Rattle.record.specs.Record.{tableIn};
+ghost use Rattle.record.specs.Edits.{append, drop-last, replace};
+ghost use Rattle.exports.specs.Coded.{rowSays, WorkCoded, EditCoded, BuildCoded, RunCoded, TextCoded, JobsCoded, RepliesCoded};
 
 mod code;
 
-use least::By;
 use run::Job;
 
 // A table's width and number of rows.
@@ -22,19 +24,53 @@ pub extern "C" fn dudowiej_read_table(cells: &[u32]) -> u64
     code::code_table(answer)
 }
 
+// A record worked out for a table and a figure: the table's width and number of rows.
+#[no_mangle]
+pub extern "C" fn dudowiej_work_out(cells: &[u32], figure: u32, rec: &mut [u32; 14340]) -> u64
+    ensures { λ r. ⌜ WorkCoded figure (now (cells .entry)) (now (rec .entry)) (now (rec .exit)) r ⌝ }
+{
+    code::code_table(edits::work_out(cells, figure, rec))
+}
+
+// A row appended in a record: the table's width and number of rows then.
+#[no_mangle]
+pub extern "C" fn dudowiej_append(rec: &mut [u32; 14340], row: &[u32]) -> u64
+    ensures { λ r. ⌜ EditCoded (append (now (row .entry))) (now (rec .entry)) (now (rec .exit)) r ⌝ }
+{
+    code::code_edit(edits::append(rec, row))
+}
+
+// The last row dropped.
+#[no_mangle]
+pub extern "C" fn dudowiej_drop_last(rec: &mut [u32; 14340]) -> u64
+    ensures { λ r. ⌜ EditCoded drop-last (now (rec .entry)) (now (rec .exit)) r ⌝ }
+{
+    code::code_edit(edits::drop_last(rec))
+}
+
+// Row r replaced.
+#[no_mangle]
+pub extern "C" fn dudowiej_replace(rec: &mut [u32; 14340], r: usize, row: &[u32]) -> u64
+    ensures { λ n. ⌜ EditCoded (replace r (now (row .entry))) (now (rec .entry)) (now (rec .exit)) n ⌝ }
+{
+    code::code_edit(edits::replace(rec, r, row))
+}
+
 // A goal's number of cells and of variables.
 #[no_mangle]
-pub extern "C" fn dudowiej_read_goal(cells: &[u32], goal: &[u32]) -> u64
-    ensures { λ r. ⌜ r ≡ coded (goalSays (now (goal .entry)) (goalWith (now (cells .entry)) (now (goal .entry)))) ⌝ }
+pub extern "C" fn dudowiej_read_goal(rec: &[u32; 14340], goal: &[u32]) -> u64
+    ensures { λ r. ⌜ r ≡ coded (goalSays (now (goal .entry)) (goalWith (tableIn (now (rec .entry))) (now (goal .entry)))) ⌝ }
 {
+    let cells = record::table_of(rec);
     code::code_goal(table::read_goal(cells, goal))
 }
 
 // Where the r-th row's cells start in the table, and how many they are; both 0 where there is no such row.
 #[no_mangle]
-pub extern "C" fn dudowiej_row(cells: &[u32], r: usize) -> u64
-    ensures { λ n. ⌜ n ≡ coded (rowSays (tableOf (now (cells .entry))) r) ⌝ }
+pub extern "C" fn dudowiej_row(rec: &[u32; 14340], r: usize) -> u64
+    ensures { λ n. ⌜ n ≡ coded (rowSays (tableOf (tableIn (now (rec .entry)))) r) ⌝ }
 {
+    let cells = record::table_of(rec);
     let part = table::row_place(cells, r);
     let start = part.start;
     let end = part.end;
@@ -43,30 +79,32 @@ pub extern "C" fn dudowiej_row(cells: &[u32], r: usize) -> u64
 
 // An accepted plan's number of branches.
 #[no_mangle]
-pub extern "C" fn dudowiej_check_plan(cells: &[u32], plan: &[u32]) -> u64
-    ensures { λ r. ⌜ r ≡ coded (planSays (planOf (now (cells .entry)) (now (plan .entry)))) ⌝ }
+pub extern "C" fn dudowiej_check_plan(rec: &[u32; 14340], plan: &[u32]) -> u64
+    ensures { λ r. ⌜ r ≡ coded (planSays (planOf (tableIn (now (rec .entry))) (now (plan .entry)))) ⌝ }
 {
+    let cells = record::table_of(rec);
     code::code_plan(checker::check_plan(cells, plan))
 }
 
-// The number of cells of the least plan by the work of W-204 with a figure, and its cost; its cells are the room's first.
+// The number of cells of the least plan by the record's figure (W-204), and its cost; its cells are the room's first.
 #[no_mangle]
-pub extern "C" fn dudowiej_build_plan(cells: &[u32], figure: u32, room: &mut [u32]) -> u64
-    ensures { λ r. ⌜ BuildCoded (now (cells .entry)) figure (now (room .entry)) (now (room .exit)) r ⌝ }
+pub extern "C" fn dudowiej_build_plan(rec: &[u32; 14340], room: &mut [u32]) -> u64
+    ensures { λ r. ⌜ BuildCoded (now (rec .entry)) (now (room .entry)) (now (room .exit)) r ⌝ }
 {
-    code::code_build(builder::build_plan(By::Work(figure), cells, room))
+    code::code_built(builder::build_from(rec, room))
 }
 
 // A run's number of hits and of branches tried; the hits are the room's first bytes.
 #[no_mangle]
 pub extern "C" fn dudowiej_run_plan(
-    cells: &[u32],
+    rec: &[u32; 14340],
     plan: &[u32],
     goal: &[u32],
     room: &mut [u8],
 ) -> u64
-    ensures { λ r. ⌜ RunCoded (now (cells .entry)) (now (plan .entry)) (now (goal .entry)) (now (room .entry)) (now (room .exit)) r ⌝ }
+    ensures { λ r. ⌜ RunCoded (tableIn (now (rec .entry))) (now (plan .entry)) (now (goal .entry)) (now (room .entry)) (now (room .exit)) r ⌝ }
 {
+    let cells = record::table_of(rec);
     code::code_run(run::run_plan(cells, plan, goal, room))
 }
 
@@ -82,25 +120,27 @@ pub extern "C" fn dudowiej_read_text(text: &[u8], cells: &mut [u32], names: &mut
 // The plan's number of branches; each goal of the list is answered in its record.
 #[no_mangle]
 pub extern "C" fn dudowiej_run_jobs(
-    table: &[u32],
+    rec: &[u32; 14340],
     plan: &[u32],
     cells: &[u32],
     jobs: &mut [Job],
 ) -> u64
-    ensures { λ r. ⌜ JobsCoded (now (table .entry)) (now (plan .entry)) (now (cells .entry)) (now (jobs .entry)) (now (jobs .exit)) r ⌝ }
+    ensures { λ r. ⌜ JobsCoded (tableIn (now (rec .entry))) (now (plan .entry)) (now (cells .entry)) (now (jobs .entry)) (now (jobs .exit)) r ⌝ }
 {
+    let table = record::table_of(rec);
     code::code_plan(run::run_jobs(table, plan, cells, jobs))
 }
 
 // How many replies there are and how many cells they have together; they are the room's first cells.
 #[no_mangle]
 pub extern "C" fn dudowiej_replies(
-    cells: &[u32],
+    rec: &[u32; 14340],
     plan: &[u32],
     goal: &[u32],
     room: &mut [u32],
 ) -> u64
-    ensures { λ r. ⌜ RepliesCoded (now (cells .entry)) (now (plan .entry)) (now (goal .entry)) (now (room .entry)) (now (room .exit)) r ⌝ }
+    ensures { λ r. ⌜ RepliesCoded (tableIn (now (rec .entry))) (now (plan .entry)) (now (goal .entry)) (now (room .entry)) (now (room .exit)) r ⌝ }
 {
+    let cells = record::table_of(rec);
     code::code_replies(replies::replies(cells, plan, goal, room))
 }

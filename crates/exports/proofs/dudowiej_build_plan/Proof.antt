@@ -1,20 +1,23 @@
+use Rattle.least.specs.declared.By.the-variants.{Work}
 use Rattle.exports.proofs.Small.{build-small}
 use borrow.Author.Needs.{needs}
 use Rattle.exports.proofs.dudowiej_build_plan.Statement.{statement}
 use Rattle.exports.proofs.dudowiej_build_plan.Tie as tie
 
-build-plan-requires : tie.Need-build-plan-requires
-build-plan-requires c κs = search needs
+build-from-requires : tie.Need-build-from-requires
+build-from-requires c κs = search needs
 
-code-build-requires : tie.Need-code-build-requires
-code-build-requires c κs = build-small _ (c .before .before .build-plan .ensures)
+code-built-requires : tie.Need-code-built-requires
+code-built-requires c κs = search needs
 
 same-length : tie.Need-same-length
 same-length c = search needs
 
 returns : tie.Need-returns
-returns c = search needs
+returns c =
+    λ figure T x. let b = c .before .before .before .build-from .ensures figure T x in
+    record { answer = c .before .before .before .build-from .result; built = b; code = c .code-built .ensures (build-small (Work figure) b) }
 
 pub dudowiej-build-plan-spec : {M : Type 1} → statement M
 dudowiej-build-plan-spec =
-    tie.close (tie.spec build-plan-requires code-build-requires same-length returns)
+    tie.close (tie.spec build-from-requires code-built-requires same-length returns)

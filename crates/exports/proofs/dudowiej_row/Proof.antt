@@ -1,8 +1,12 @@
+use mathlib.Core.Path.{sym}
 use native.Mathlib.Omega.{arith}
 use Rattle.exports.proofs.Small.{row-small}
 use borrow.Author.Needs.{needs}
 use Rattle.exports.proofs.dudowiej_row.Statement.{statement}
 use Rattle.exports.proofs.dudowiej_row.Tie as tie
+
+table-of-requires : tie.Need-table-of-requires
+table-of-requires c κs = search needs
 
 row-place-requires : tie.Need-row-place-requires
 row-place-requires c κs = search needs
@@ -12,13 +16,13 @@ sub-code-answer c = search needs
 
 code-answer-requires : tie.Need-code-answer-requires
 code-answer-requires c κs =
-    let s = row-small (c .before .before .args .cells .now) (c .before .before .args .r) in
+    let s = row-small (c .before .table-of .result .now) (c .before .before .args .r) in
     let p = c .row-place .ensures in
     (omega (arith, p .start, p .end, s), omega (arith, p .start, p .end, s))
 
 returns : tie.Need-returns
-returns c = omega arith
+returns c = rw (sym (c .before .before .table-of .ensures)) (omega arith)
 
 pub dudowiej-row-spec : {M : Type 1} → statement M
 dudowiej-row-spec =
-    tie.close (tie.spec row-place-requires sub-code-answer code-answer-requires returns)
+    tie.close (tie.spec table-of-requires row-place-requires sub-code-answer code-answer-requires returns)

@@ -1,0 +1,32 @@
+use borrow.Author.Needs.{needs}
+use Rattle.exports.proofs.code.code_built.Statement.{statement}
+use Rattle.exports.proofs.code.code_built.Tie as tie
+
+enum-known-a : tie.Need-enum-known-a
+enum-known-a c = search needs
+
+cut-answer-requires : tie.Need-cut-answer-requires
+cut-answer-requires c κs = search needs
+
+enum-known-a-2 : tie.Need-enum-known-a-2
+enum-known-a-2 c = search needs
+
+cut-refusal-requires : tie.Need-cut-refusal-requires
+cut-refusal-requires c κs = search needs
+
+returns : tie.Need-returns
+returns c = rw (c .before .before .a .given .1) (c .cut-answer .ensures)
+
+returns-2 : tie.Need-returns-2
+returns-2 c = rw (c .before .before .a2 .given .1) (c .cut-refusal .ensures)
+
+pub code-built-spec : {M : Type 1} → statement M
+code-built-spec =
+    tie.close
+    (tie.spec
+    enum-known-a
+    cut-answer-requires
+    enum-known-a-2
+    cut-refusal-requires
+    returns
+    returns-2)
