@@ -21,10 +21,9 @@ use Rattle.notes.specs.Noted.{Handed}
 use Rattle.notes.proofs.Fixed.{handed-fixed}
 use Rattle.builder.specs.declared.BuildAnswer.{BuildAnswer}
 use Rattle.least.specs.declared.By.{By}
-use Rattle.entries.specs.declared.Entries.{Entries}
-use Rattle.entries.specs.Fill.{WorkedOut}
+use Rattle.record.specs.Record.{Holds}
+use Rattle.record.specs.Edits.{Edit}
 use Rattle.builder.specs.Build.{BuiltInto, buildTold}
-use Rattle.entries.proofs.Fixed.{worked-fixed}
 use Rattle.builder.proofs.Fixed.{build-fixed}
 use Rattle.answer.specs.declared.RunAnswer.{RunAnswer}
 use Rattle.answer.specs.Run.{runTold, Ran}
@@ -39,9 +38,9 @@ use Rattle.loading.specs.Load.{TextLoads}
 use Rattle.prolog.specs.Entry.{textTold}
 use Rattle.prolog.specs.declared.TextAnswer.{TextAnswer}
 use Rattle.prolog.proofs.Fixed.{read-text-fixed}
-use Rattle.exports.specs.Coded.{rowSays, BuildCoded, RunCoded, TextCoded, JobsCoded, RepliesCoded}
-use Rattle.exports.proofs.Fixed.{build-coded-fixed, run-coded-fixed, text-coded-fixed, jobs-coded-fixed, replies-coded-fixed}
-use Rattle.exports.proofs.Back.{table-back, goal-back, row-back, plan-back, build-back, run-back, text-back, jobs-back, replies-back}
+use Rattle.exports.specs.Coded.{rowSays, WorkCoded, EditSays, EditCoded, BuildSays, BuildCoded, RunCoded, TextCoded, JobsCoded, RepliesCoded}
+use Rattle.exports.proofs.Fixed.{work-coded-fixed, edit-coded-fixed, build-coded-fixed, run-coded-fixed, text-coded-fixed, jobs-coded-fixed, replies-coded-fixed}
+use Rattle.exports.proofs.Back.{table-back, goal-back, row-back, plan-back, work-back, edit-back, build-back, run-back, text-back, jobs-back, replies-back}
 use Rattle.answer.specs.declared.Job.{Job}
 use Rattle.answer.specs.Jobs.{JobsRun}
 use Rattle.run.proofs.Fixed.{run-jobs-fixed}
@@ -75,9 +74,6 @@ held-check = plan-fixed
 pub held-noted : {t p before after after′ : List ℕ} {r s : Noted} → Handed t p before after r → Handed t p before after′ s
     → (r ≡ s) × (after ≡ after′)
 held-noted = handed-fixed
-
-pub held-entries : {by : By} {t : List ℕ} {r s : Entries} → WorkedOut by t r → WorkedOut by t s → r ≡ s
-held-entries = worked-fixed
 
 pub held-build : {by : By} {t room room′ room″ : List ℕ} {r s : BuildAnswer} → BuiltInto by t room room′ r → BuiltInto by t room room″ s
     → (r ≡ s) × (room′ ≡ room″)
@@ -114,8 +110,16 @@ pub held-exported-text : {t cells names cells′ names′ cells″ names″ : Li
     → TextCoded t cells names cells″ names″ s → (r ≡ s) × (cells′ ≡ cells″) × (names′ ≡ names″)
 held-exported-text = text-coded-fixed
 
-pub held-exported-build : {t room room′ room″ : List ℕ} {figure r s : ℕ} → BuildCoded t figure room room′ r → BuildCoded t figure room room″ s
-    → (r ≡ s) × (room′ ≡ room″)
+pub held-exported-work-out : {figure : ℕ} {cells rec rec′ rec″ : List ℕ} {r s : ℕ} → WorkCoded figure cells rec rec′ r
+    → WorkCoded figure cells rec rec″ s → (r ≡ s) × (rec′ ≡ rec″)
+held-exported-work-out = work-coded-fixed
+
+pub held-exported-edit : {e : Edit} {figure : ℕ} {T : Table} {rec rec′ rec″ : List ℕ} {r s : ℕ} → Holds rec figure T → EditCoded e rec rec′ r
+    → EditCoded e rec rec″ s → (r ≡ s) × (rec′ ≡ rec″)
+held-exported-edit = edit-coded-fixed
+
+pub held-exported-build : {figure : ℕ} {T : Table} {rec room room′ room″ : List ℕ} {r s : ℕ} → Holds rec figure T → BuildCoded rec room room′ r
+    → BuildCoded rec room room″ s → (r ≡ s) × (room′ ≡ room″)
 held-exported-build = build-coded-fixed
 
 pub held-exported-run : {t p g room room′ room″ : List ℕ} {r s : ℕ} → RunCoded t p g room room′ r → RunCoded t p g room room″ s
@@ -147,7 +151,13 @@ back-row = row-back
 pub back-check : (t p : List ℕ) {n : ℕ} → n ≡ coded (planSays (planOf t p)) → decoded n ≡ planSays (planOf t p)
 back-check = plan-back
 
-pub back-build : {t room room′ : List ℕ} {figure n : ℕ} (x : BuildCoded t figure room room′ n) → decoded n ≡ buildTold (x .answer)
+pub back-work-out : {figure : ℕ} {cells rec rec′ : List ℕ} {n : ℕ} (x : WorkCoded figure cells rec rec′ n) → decoded n ≡ x .told
+back-work-out = work-back
+
+pub back-edit : {e : Edit} {figure : ℕ} {T : Table} {rec rec′ : List ℕ} {n : ℕ} (x : EditSays e figure T rec rec′ n) → decoded n ≡ x .told
+back-edit = edit-back
+
+pub back-build : {figure : ℕ} {T : Table} {room room′ : List ℕ} {n : ℕ} (x : BuildSays figure T room room′ n) → decoded n ≡ buildTold (x .answer)
 back-build = build-back
 
 pub back-run : {t p g room room′ : List ℕ} {n : ℕ} (x : RunCoded t p g room room′ n) → decoded n ≡ runTold (x .answer)

@@ -5,3 +5,4 @@ pub mod Held
 pub mod Texts
 pub mod Shift
 pub mod Numbers
+pub mod Records

@@ -3,3 +3,4 @@ pub mod Texts
 pub mod Shift
 pub mod Replies
 pub mod Numbers
+pub mod Records

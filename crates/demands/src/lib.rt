@@ -6,6 +6,11 @@ ghost use Rattle.demands.specs.Demands.{Demand2, Demand3Check, Demand3Ru
 ghost use Rattle.demands.specs.Texts.{Request201};
 ghost use Rattle.demands.specs.Shift.{Shift};
 ghost use Rattle.demands.specs.Replies.{RepliesRefused, Says};
+ghost use Rattle.demands.specs.Records.{MakesRecord, EditsRecord, BuildsFrom};
+ghost use Prim.Native.Nat.{ℕ};
+ghost use Rattle.table.specs.Table.{Table, tableTold};
+ghost use Rattle.record.specs.Record.{Holds};
+ghost use Rattle.record.specs.Edits.{append, drop-last, replace};
 use answer::RunAnswer;
 use builder::BuildAnswer;
 use checker::PlanAnswer;
@@ -14,6 +19,7 @@ use least::By;
 use prolog::TextAnswer;
 use run::Job;
 use table::GoalAnswer;
+use table::TableAnswer;
 use table::TableRead;
 
 fn demand_read_table(cells: &[u32]) -> TableRead
@@ -80,4 +86,38 @@ fn request_replies(cells: &[u32], plan: &[u32], goal: &[u32], room: &mut [u32]) 
     ensures { λ r. ⌜ Says (now (cells .entry)) (now (plan .entry)) (now (goal .entry)) (now (room .entry)) (now (room .exit)) r ⌝ }
 {
     replies::replies(cells, plan, goal, room)
+}
+
+// W-207 (specs/Records)
+fn request_work_out(cells: &[u32], figure: u32, rec: &mut [u32; 14340]) -> TableAnswer
+    ensures { λ r. ⌜ MakesRecord figure (now (cells .entry)) (now (rec .entry)) (now (rec .exit)) (tableTold r) ⌝ }
+{
+    edits::work_out(cells, figure, rec)
+}
+
+fn request_append(rec: &mut [u32; 14340], row: &[u32]) -> TableAnswer
+    ensures { λ r. ⌜ ((figure : ℕ) (T : Table) → Holds (now (rec .entry)) figure T
+        → EditsRecord (append (now (row .entry))) figure T (now (rec .entry)) (now (rec .exit)) (tableTold r)) ⌝ }
+{
+    edits::append(rec, row)
+}
+
+fn request_drop_last(rec: &mut [u32; 14340]) -> TableAnswer
+    ensures { λ r. ⌜ ((figure : ℕ) (T : Table) → Holds (now (rec .entry)) figure T
+        → EditsRecord drop-last figure T (now (rec .entry)) (now (rec .exit)) (tableTold r)) ⌝ }
+{
+    edits::drop_last(rec)
+}
+
+fn request_replace(rec: &mut [u32; 14340], number: usize, row: &[u32]) -> TableAnswer
+    ensures { λ r. ⌜ ((figure : ℕ) (T : Table) → Holds (now (rec .entry)) figure T
+        → EditsRecord (replace number (now (row .entry))) figure T (now (rec .entry)) (now (rec .exit)) (tableTold r)) ⌝ }
+{
+    edits::replace(rec, number, row)
+}
+
+fn request_build(rec: &[u32; 14340], room: &mut [u32]) -> BuildAnswer
+    ensures { λ r. ⌜ BuildsFrom (now (rec .entry)) (now (room .entry)) (now (room .exit)) r ⌝ }
+{
+    builder::build_from(rec, room)
 }

@@ -1,0 +1,61 @@
+-- W-207, "Edit a row without starting over", sentence by sentence, as statements of what makes and edits a record. proofs/Records proves
+-- each of the promises, and src/lib.rt ties it to the entries.
+use Prim.Native.Nat.{ℕ, _≤_, _<_}
+use mathlib.Core.Path.{_≡_}
+use mathlib.Core.Logic.{_↔_}
+use mathlib.Core.List.{List}
+use lib.ListN.{length, drop}
+use Rattle.refusal.specs.Refusal.{Refused, refused, Answer, answered, turned}
+use Rattle.refusal.specs.declared.Reason.the-variants as reason
+use Rattle.refusal.specs.declared.Input.the-variants as input
+use Rattle.refusal.specs.Read.{read, refuse}
+use Rattle.table.specs.Table.{Table, tableOf, rowOf}
+use Rattle.least.specs.Entries.{SameAt}
+use Rattle.least.specs.Measures.{tableBy}
+use Rattle.least.specs.declared.By.the-variants.{Work}
+use Rattle.builder.specs.declared.BuildAnswer.{BuildAnswer}
+use Rattle.record.specs.Record.{cellsIn, Holds, tableIn}
+use Rattle.demands.specs.Demands.{Demand1Build, Demand3Build}
+use Rattle.record.specs.Edits.{Edit, append, drop-last, replace, editOf, WorkedOut, Without, Made}
+
+-- "A record comes only from working it out for an accepted table": FIGURE, the table's refusals, and then nothing is written; otherwise the
+-- record holds the table
+pub record MakesRecord (figure : ℕ) (cells rec rec′ : List ℕ) (answer : Answer) : Type 0 where
+  pub refuses : (f : Refused) → (answer ≡ turned f) ↔ (tableBy (Work figure) cells ≡ refuse f)
+  pub untouched : (f : Refused) → answer ≡ turned f → rec′ ≡ rec
+  pub made : (T : Table) → tableBy (Work figure) cells ≡ read T → Holds rec′ figure T × (answer ≡ answered (T .width) (length (T .rows)))
+
+-- "Refusals: FULL to append at 64 rows, LAST to drop the only row, INDEX for a missing r, then 01's from LONG on for the new row, places
+-- from its start": what turns an edit away, and the refusal that it gets
+pub data EditTurned (T : Table) : Edit → Refused → Type 0 where
+  full : {row : List ℕ} → 64 ≤ length (T .rows) → EditTurned T (append row) (refused reason.Full input.Table 0)
+  last : length (T .rows) ≤ 1 → EditTurned T drop-last (refused reason.Last input.Table 0)
+  index : {r : ℕ} {row : List ℕ} → length (T .rows) ≤ r → EditTurned T (replace r row) (refused reason.Index input.Table 0)
+  bad-append : {row : List ℕ} {f : Refused} → length (T .rows) < 64 → rowOf (T .width) row ≡ refuse f → EditTurned T (append row) f
+  bad-replace : {r : ℕ} {row : List ℕ} {f : Refused} → r < length (T .rows) → rowOf (T .width) row ≡ refuse f
+      → EditTurned T (replace r row) f
+
+-- an edit of a record that holds a table
+pub record EditsRecord (e : Edit) (figure : ℕ) (T : Table) (rec rec′ : List ℕ) (answer : Answer) : Type 0 where
+  pub refuses : (f : Refused) → (answer ≡ turned f) ↔ EditTurned T e f
+  -- "a refused edit changes nothing"
+  pub untouched : (f : Refused) → answer ≡ turned f → rec′ ≡ rec
+  -- "each of these entries gives it back": the record holds the edited table
+  pub given-back : (T′ : Table) → editOf e T ≡ read T′ → Holds rec′ figure T′ × (answer ≡ answered (T′ .width) (length (T′ .rows)))
+  -- "runs that don't contain the changed row keep their entries"
+  pub keeps : (T′ : Table) → editOf e T ≡ read T′ → (first last : ℕ) → first ≤ last → Without e T first last
+      → SameAt first last (drop 2052 rec) (drop 2052 rec′)
+
+-- "After any sequence of these from an accepted table, the record equals the one worked out anew from its rows and its W-204 figure"
+abbrev pub Anew : Type 0
+Anew = (figure : ℕ) (rec old new : List ℕ) (T : Table) (answer : Answer) → Made figure rec T → WorkedOut figure (cellsIn T) old new answer
+    → rec ≡ new
+
+-- "as one record that every caller now passes": a plan built from a record is the one built from its table by its figure
+abbrev pub BuildsFrom : (rec room room′ : List ℕ) → BuildAnswer → Type 0
+BuildsFrom rec room room′ answer = (figure : ℕ) (T : Table) → Holds rec figure T → Demand1Build (Work figure) (cellsIn T) room room′ answer
+    × Demand3Build (Work figure) (cellsIn T) room room′ answer
+
+-- of a record that was made the table's part is the table: what reads it answers for that table (row, goal, check, run, jobs, replies)
+abbrev pub TablePart : Type 0
+TablePart = (figure : ℕ) (rec : List ℕ) (T : Table) → Made figure rec T → (tableIn rec ≡ cellsIn T) × (tableOf (tableIn rec) ≡ read T)
