@@ -9,13 +9,13 @@ if ! command -v valgrind >/dev/null; then
 fi
 cargo build --quiet --release "$@"
 counts=$(mktemp -d)
-mkdir "$counts/shift" "$counts/replies"
+mkdir "$counts/shift" "$counts/replies" "$counts/edits"
 trap 'rm -r "$counts"' EXIT
 valgrind --quiet --tool=callgrind --toggle-collect=measured --dump-after=measured --callgrind-out-file="$counts/count" \
     target/release/dudowiej-bench "count${TEXTS:+-texts}"
 target/release/dudowiej-bench "${TEXTS:+text-}instructions" "$counts"
 [ -z "${TEXTS:-}" ] || exit 0
-for part in shift replies; do
+for part in shift replies edits; do
     valgrind --quiet --tool=callgrind --toggle-collect=measured --dump-after=measured --callgrind-out-file="$counts/$part/count" \
         target/release/dudowiej-bench "count-$part"
     target/release/dudowiej-bench "instructions-$part" "$counts/$part"

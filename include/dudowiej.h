@@ -1,5 +1,5 @@
 /* The rule tables as a C library: tables from Prolog text, reading tables and goals, the least plan, the check of any plan, the run of a
- * plan on a goal, and what the rows say to it.
+ * plan on a goal, what the rows say to it, and edits of a row at a time.
  *
  * Link target/staticlib/libexports.a, which `rt staticlib exports` writes (x86-64).
  *
@@ -9,13 +9,17 @@
  *
  * Every function takes any cells at all, and ends; nobody has to check first. It answers one number, which the inline functions below take
  * apart. Either it answered, and there are two values, or the input is refused: then there is the refusal's number, the input that it
- * concerns and a place in it, and nothing was written to the lent room. The one exception is a goal of a list (dudowiej_run_jobs): where
- * the goal is refused, its record says so.
+ * concerns and a place in it, and nothing was written to the lent room or to the record. The one exception is a goal of a list
+ * (dudowiej_run_jobs): where the goal is refused, its job says so.
  *
- * A list is passed as a pointer and a length. The pointer is aligned for its type and not null, even where the length is 0. A lent room
- * shares no memory with the inputs. The functions keep nothing between calls, and allocate nothing. Of its caller's stack a call touches at
- * most 93,280 bytes to build a plan, 61,208 to load a text, 44,104 for replies, 31,352 to run a plan, 14,520 to check one and 1,288 to
- * read (measured: docs/BENCH.md, "Stack"). */
+ * A table is worked out once, into a record (dudowiej_work_out). All other calls take the record in place of the table: the plan is built
+ * from it, goals are read and run with it, and a row of it is appended, dropped or replaced without starting over.
+ *
+ * A list is passed as a pointer and a length, a record as a pointer. A pointer is aligned for its type and not null, even where the length
+ * is 0. What a call writes, a lent room or a record, shares no memory with its other inputs: a row that is to be appended again is copied
+ * out of its record first. The functions keep nothing between calls, and allocate nothing. Of its caller's stack a call touches at most
+ * .. bytes to work a record out, .. to edit one, .. to build a plan, 61,208 to load a text, 44,104 for replies, 31,352 to run a plan,
+ * 14,520 to check one and 1,288 to read (measured: docs/BENCH.md, "Stack"). */
 #ifndef DUDOWIEJ_H
 #define DUDOWIEJ_H
 
@@ -41,6 +45,9 @@ enum {
     DUDOWIEJ_MOST_FIGURE = 15
 };
 
+/* The numbers of a record. */
+enum { DUDOWIEJ_RECORD_CELLS = 14340 };
+
 /* Why an input is refused. */
 enum dudowiej_refusal {
     DUDOWIEJ_REFUSED_LENGTH = 1, /* table under 2 or over 2,050 cells; goal of 0 or over 32: place 0 */
@@ -62,7 +69,10 @@ enum dudowiej_refusal {
     DUDOWIEJ_REFUSED_BYTES = 17, /* text over 65,535 bytes: place 0 */
     DUDOWIEJ_REFUSED_TEXT = 18,  /* no text goes on so: that byte, or the number of bytes */
     DUDOWIEJ_REFUSED_OTHER = 19, /* a fact of another predicate or width than the first: the first byte of its name */
-    DUDOWIEJ_REFUSED_FIGURE = 20 /* a figure above 15: place 0 */
+    DUDOWIEJ_REFUSED_FIGURE = 20, /* a figure above 15: place 0 */
+    DUDOWIEJ_REFUSED_FULL = 21,   /* a row appended to 64: place 0 */
+    DUDOWIEJ_REFUSED_LAST = 22,   /* the only row dropped: place 0 */
+    DUDOWIEJ_REFUSED_INDEX = 23   /* a row replaced that is not there: place 0 */
 };
 
 /* Which input a refusal concerns. */
@@ -71,26 +81,67 @@ enum dudowiej_input { DUDOWIEJ_TABLE = 1, DUDOWIEJ_PLAN = 2, DUDOWIEJ_GOAL = 3, 
 /* Reads a table. First: its width. Second: its rows. */
 uint64_t dudowiej_read_table(const uint32_t *table, size_t table_cells);
 
-/* Reads a goal for a table; the table's refusal comes first. First: the goal's cells. Second: its variables. */
-uint64_t dudowiej_read_goal(const uint32_t *table, size_t table_cells, const uint32_t *goal, size_t goal_cells);
+/* A table that is worked out: its cells and its figure, and for every run of rows what it costs and which place it takes first. It comes
+ * from dudowiej_work_out and from the three edits alone. It holds no pointer: it may be copied by assignment, kept in a file and loaded
+ * again. With any other numbers in it every call still ends, and stays within the record and the lent room. Reading a goal or a row,
+ * checking and running then answer for the table that the first part holds, whose refusal comes first; what building and the edits make of
+ * such a record is not said.
+ *
+ *   cell[0]            the table's number of cells; more than DUDOWIEJ_TABLE_CELLS are read as a table of none
+ *   cell[1]            the figure
+ *   cell[2 .. 2051]    the table's cells, then zeros
+ *   cell[2052 ..]      for first and last row, at 64 * first + last: what the rows cost with nothing closed;
+ *   cell[6148 ..]      what they cost at least when all places are closed on which they agree;
+ *   cell[10244 ..]     and the place taken then, from 0. All are 0 where there is no such run. */
+typedef struct {
+    uint32_t cell[DUDOWIEJ_RECORD_CELLS];
+} dudowiej_record;
 
-/* The row of this number, from 0. First: where its cells start in the table. Second: how many they are. Both are 0 where the table is
- * refused or has no such row; this function never refuses. */
-uint64_t dudowiej_row(const uint32_t *table, size_t table_cells, size_t row);
+#ifndef __cplusplus
+_Static_assert(sizeof(dudowiej_record) == 57360, "cells with no gaps");
+#endif
 
-/* Checks any plan for a table. First: the plan's branches. Second: 0. */
-uint64_t dudowiej_check_plan(const uint32_t *table, size_t table_cells, const uint32_t *plan, size_t plan_cells);
+/* The cells of a record's table; cell[0] says how many they are. */
+static inline const uint32_t *dudowiej_table(const dudowiej_record *record) { return record->cell + 2; }
+
+/* Works a table out with a figure, into a record; what that held before is never read. The figure, 0 to 15, is what a choice between
+ * branches costs (dudowiej_build_plan). A figure above 15 is refused before the table. First: the table's width. Second: its rows. */
+uint64_t dudowiej_work_out(const uint32_t *table, size_t table_cells, uint32_t figure, dudowiej_record *record);
+
+/* The edits. Each leaves the record that working the new table out with the same figure would give, but runs without the changed row are
+ * not worked out again. A plan that was built before is the old table's: build it again. First: the width. Second: the rows there are
+ * now. Each refuses what it says, at 0; then of the row LONG, SHORT, CELL, FRESH, TWICE and EXTRA, places from the row's start. All
+ * concern DUDOWIEJ_TABLE. A refused edit changes nothing. */
+
+/* Appends a row at the end. Refuses FULL at 64 rows. */
+uint64_t dudowiej_append(dudowiej_record *record, const uint32_t *row, size_t row_cells);
+
+/* Drops the last row. Refuses LAST at one row. */
+uint64_t dudowiej_drop_last(dudowiej_record *record);
+
+/* Replaces the row of this number, from 0. Refuses INDEX where there is no such row. */
+uint64_t dudowiej_replace(dudowiej_record *record, size_t r, const uint32_t *row, size_t row_cells);
+
+/* Reads a goal for a record's table. First: the goal's cells. Second: its variables. */
+uint64_t dudowiej_read_goal(const dudowiej_record *record, const uint32_t *goal, size_t goal_cells);
+
+/* The row of this number, from 0. First: where its cells start in the table (dudowiej_table). Second: how many they are. Both are 0 where
+ * there is no such row; this function never refuses. */
+uint64_t dudowiej_row(const dudowiej_record *record, size_t row);
+
+/* Checks any plan for a record's table. First: the plan's branches. Second: 0. */
+uint64_t dudowiej_check_plan(const dudowiej_record *record, const uint32_t *plan, size_t plan_cells);
 
 /* Writes the least plan to the front of the room; the rest of it is untouched. Least is by work: the branch of a variable costs 0, of a
- * number 1, of a name 1 plus its arguments, and a state with two or more branches costs the figure, 0 to 15, once. A figure above 15 is
- * refused before the table. First: the cells written. Second: the plan's cost; dudowiej_check_plan answers its branches. A room of
- * DUDOWIEJ_PLAN_CELLS cells is always large enough. */
-uint64_t dudowiej_build_plan(const uint32_t *table, size_t table_cells, uint32_t figure, uint32_t *room, size_t room_cells);
+ * number 1, of a name 1 plus its arguments, and a state with two or more branches costs the record's figure once. First: the cells
+ * written. Second: the plan's cost; dudowiej_check_plan answers its branches. A room of DUDOWIEJ_PLAN_CELLS cells is always large
+ * enough. */
+uint64_t dudowiej_build_plan(const dudowiej_record *record, uint32_t *room, size_t room_cells);
 
 /* Runs a plan on a goal and writes the numbers of the rows that unify with it, from the top, to the front of the room; the rest of it is
  * untouched. The room has a byte for every row of the table. First: the rows written. Second: the branches tried. */
-uint64_t dudowiej_run_plan(const uint32_t *table, size_t table_cells, const uint32_t *plan, size_t plan_cells, const uint32_t *goal,
-                           size_t goal_cells, uint8_t *room, size_t room_bytes);
+uint64_t dudowiej_run_plan(const dudowiej_record *record, const uint32_t *plan, size_t plan_cells, const uint32_t *goal, size_t goal_cells,
+                           uint8_t *room, size_t room_bytes);
 
 /* Makes a table of a text of Prolog facts. Its cells are written to the front of one room; the list of its names to the front of the
  * other: for each name, in the order of their numbers, where it first stands in the text, its start in bits 15 to 0 and its bytes in bits
@@ -115,19 +166,19 @@ _Static_assert(sizeof(struct dudowiej_job) == 48, "six words of 64 bits");
 _Static_assert(offsetof(struct dudowiej_job, number) == 16 && offsetof(struct dudowiej_job, hits) == 32, "with no gaps");
 #endif
 
-/* Runs a plan on every goal of a list, each as dudowiej_run_plan would by itself. The table and the plan are checked once; where one of
- * them is refused, no record is written. A goal whose start or count reaches past the lent cells is refused by itself, with LENGTH at 0.
- * Goals may share cells. First: the plan's branches. Second: 0. */
-uint64_t dudowiej_run_jobs(const uint32_t *table, size_t table_cells, const uint32_t *plan, size_t plan_cells, const uint32_t *cells,
+/* Runs a plan on every goal of a list, each as dudowiej_run_plan would by itself. The plan is checked once; where it is refused, no job is
+ * written. A goal whose start or count reaches past the lent cells is refused by itself, with LENGTH at 0. Goals may share cells. First:
+ * the plan's branches. Second: 0. */
+uint64_t dudowiej_run_jobs(const dudowiej_record *record, const uint32_t *plan, size_t plan_cells, const uint32_t *cells,
                            size_t cells_count, struct dudowiej_job *jobs, size_t jobs_count);
 
 /* Runs a plan on a goal and writes for each row that unifies with it what the two have in common: the goal with the row's bindings filled
  * in, its variables numbered anew from 0. The replies stand one after another in row order at the front of the room, each as many terms as
  * the table has columns; they carry no lengths, and the rest of the room is untouched. Where no row unifies there is none. First: the
- * replies. Second: the cells written. Refused in this order: the table, the plan, the goal; then the room, the place being the cells of all
- * replies together. DUDOWIEJ_REPLY_CELLS cells for each row of the table are always enough. */
-uint64_t dudowiej_replies(const uint32_t *table, size_t table_cells, const uint32_t *plan, size_t plan_cells, const uint32_t *goal,
-                          size_t goal_cells, uint32_t *room, size_t room_cells);
+ * replies. Second: the cells written. Refused in this order: the plan, the goal; then the room, the place being the cells of all replies
+ * together. DUDOWIEJ_REPLY_CELLS cells for each row of the table are always enough. */
+uint64_t dudowiej_replies(const dudowiej_record *record, const uint32_t *plan, size_t plan_cells, const uint32_t *goal, size_t goal_cells,
+                          uint32_t *room, size_t room_cells);
 
 /* The value of a whole number's cell. */
 static inline int32_t dudowiej_value(uint32_t cell) {

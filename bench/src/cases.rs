@@ -3,11 +3,12 @@
 use std::hint::black_box;
 
 use crate::engine::{Engine, Exported, Plain};
-use crate::make::goals;
 use crate::make::tables::{table, Kind};
+use crate::make::{goals, records};
 use crate::model::least::{least, least_by, Measure as By};
 use crate::model::plan::{check, Plan, PLAN_CELLS};
 use crate::model::read::{read_goal, read_table, Goal, Table};
+use crate::model::record::Record;
 use crate::model::walk::{in_turn, walk};
 use crate::random::Random;
 
@@ -16,15 +17,16 @@ pub const SEED: u64 = 64;
 pub const KINDS: [(&str, Kind); 5] =
     [("shop", Kind::Shop), ("nested", Kind::Nested), ("blank", Kind::Blank), ("full, 8 columns", Kind::Full(8)), ("full, 1 column", Kind::Full(1))];
 
-/// The figure that plans are built with where that is measured.
-const FIGURE: u32 = 0;
+/// The figure that tables are worked out with where that is measured.
+pub const FIGURE: u32 = 0;
 
 /// The numbers of rows, the last one for the ratios.
 pub const ROWS: [usize; 4] = [8, 16, 32, 64];
 
-/// A table with its least plan, and goals by their sorts.
+/// A table with its record and its least plan by 01's measure, and goals by their sorts.
 pub struct Case {
     pub table: Vec<u32>,
+    pub record: Box<Record>,
     pub plan: Vec<u32>,
     pub goals: Vec<(&'static str, Vec<Vec<u32>>)>,
     pub read: Table,
@@ -52,7 +54,7 @@ impl Case {
     fn of(table: Vec<u32>, goals: impl FnOnce(&Table) -> Vec<(&'static str, Vec<Vec<u32>>)>) -> Case {
         let read = read_table(&table).expect("a sound table");
         let tree = least(&read);
-        Case { plan: tree.write(), table, goals: goals(&read), read, tree }
+        Case { plan: tree.write(), record: records::worked_out(&table, FIGURE), table, goals: goals(&read), read, tree }
     }
 
     /// The case in one line.
@@ -73,7 +75,8 @@ impl Case {
     }
 
     pub fn measures(&self) -> Vec<Measure<'_>> {
-        let mut measures = vec![self.reading(), self.checking(), self.checking_read(), self.building(), self.building_read()];
+        let mut measures = vec![self.reading(), self.checking(), self.checking_read()];
+        measures.extend([self.working_out(), self.building(), self.building_anew(), self.building_read()]);
         for (sort, goals) in &self.goals {
             measures.push(self.running(sort, goals));
             measures.push(self.walking(sort, goals));
@@ -91,27 +94,32 @@ impl Case {
     }
 
     fn check(&self) -> Work<'_> {
-        once(|| Exported.check_plan(&self.table, &self.plan))
+        once(|| Exported.check_plan(&self.record, &self.plan))
+    }
+
+    fn work_out(&self) -> Work<'_> {
+        let mut record = records::empty();
+        once(move || Exported.work_out(&self.table, FIGURE, &mut record))
     }
 
     fn build(&self) -> Work<'_> {
         let mut room = vec![0; PLAN_CELLS];
-        once(move || Exported.build_plan(&self.table, FIGURE, &mut room))
+        once(move || Exported.build_plan(&self.record, &mut room))
     }
 
     fn run<'c>(&'c self, goals: &'c [Vec<u32>]) -> Work<'c> {
         let mut room = [0; 64];
-        each(goals, move |goal| Exported.run_plan(&self.table, &self.plan, goal, &mut room))
+        each(goals, move |goal| Exported.run_plan(&self.record, &self.plan, goal, &mut room))
     }
 
     /// What a run does before it reads the goal: table and plan are checked, the plan's branches noted. A goal of no cells is refused then.
     fn prepare(&self) -> Work<'_> {
         let mut room = [0; 64];
-        once(move || Exported.run_plan(&self.table, &self.plan, &[], &mut room))
+        once(move || Exported.run_plan(&self.record, &self.plan, &[], &mut room))
     }
 
     fn read_goal<'c>(&'c self, goals: &'c [Vec<u32>]) -> Work<'c> {
-        each(goals, |goal| Exported.read_goal(&self.table, goal))
+        each(goals, |goal| Exported.read_goal(&self.record, goal))
     }
 
     // The measures.
@@ -121,7 +129,7 @@ impl Case {
     }
 
     fn checking(&self) -> Measure<'_> {
-        Measure::new("check", vec![self.check()], vec![], once(|| Plain.check_plan(&self.table, &self.plan)))
+        Measure::new("check", vec![self.check()], vec![], once(|| Plain.check_plan(&self.record, &self.plan)))
     }
 
     /// The check less the reading of the table, against the independent check for a table that is read.
@@ -130,21 +138,35 @@ impl Case {
         Measure::new("check less read", vec![self.check()], vec![self.read()], independent)
     }
 
-    fn building(&self) -> Measure<'_> {
-        let mut room = vec![0; PLAN_CELLS];
-        Measure::new("build", vec![self.build()], vec![], once(move || Plain.build_plan(&self.table, FIGURE, &mut room)))
+    fn working_out(&self) -> Measure<'_> {
+        let mut record = records::empty();
+        Measure::new("work out", vec![self.work_out()], vec![], once(move || Plain.work_out(&self.table, FIGURE, &mut record)))
     }
 
-    /// The same for building.
+    /// From the record; the independent builder goes by its table and figure alone, here and below.
+    fn building(&self) -> Measure<'_> {
+        Measure::new("build", vec![self.build()], vec![], self.independent_build())
+    }
+
+    fn building_anew(&self) -> Measure<'_> {
+        Measure::new("work out and build", vec![self.work_out(), self.build()], vec![], self.independent_build())
+    }
+
+    /// The same less the reading of the table, which both calls do.
     fn building_read(&self) -> Measure<'_> {
         let independent = once(|| least_by(&self.read, By::Work(FIGURE)).write().len() as u64);
-        Measure::new("build less read", vec![self.build()], vec![self.read()], independent)
+        Measure::new("work out and build less read", vec![self.work_out(), self.build()], vec![self.read(), self.read()], independent)
+    }
+
+    fn independent_build(&self) -> Work<'_> {
+        let mut room = vec![0; PLAN_CELLS];
+        once(move || Plain.build_plan(&self.record, &mut room))
     }
 
     /// The whole call: table and plan are checked in it, on both sides.
     fn running<'c>(&'c self, sort: &str, goals: &'c [Vec<u32>]) -> Measure<'c> {
         let mut room = [0; 64];
-        let independent = each(goals, move |goal| Plain.run_plan(&self.table, &self.plan, goal, &mut room));
+        let independent = each(goals, move |goal| Plain.run_plan(&self.record, &self.plan, goal, &mut room));
         Measure::new(format!("run, {sort}"), vec![self.run(goals)], vec![], independent)
     }
 

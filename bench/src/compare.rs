@@ -1,5 +1,6 @@
 //! The exported functions against the independent implementation, input by input: the whole answer and the whole of the lent room.
 
+mod edits;
 pub mod listings;
 mod replies;
 mod small;
@@ -7,10 +8,11 @@ mod tally;
 mod texts;
 
 use crate::engine::{Definition, Engine, Plain};
-use crate::make::{damage, goals, plans, tables};
-use crate::model::least::{least_by, least_by_search, Measure};
+use crate::make::{damage, goals, plans, records, tables};
+use crate::model::least::{every_run, every_run_by_search, least_by, least_by_search, Measure};
 use crate::model::plan::{Plan, PLAN_CELLS};
 use crate::model::read::{read_table, Table};
+use crate::model::record::{figure_in, table_in, Record, MOST_FIGURE, RECORD_CELLS};
 use crate::random::Random;
 pub use tally::{Entry, Tally};
 
@@ -47,14 +49,28 @@ pub fn replies<E: Engine>(exported: &E, tally: Tally, count: usize, seed: u64) -
     comparison.tally
 }
 
+/// Goes on with records: edits with their answers written down, then so many tables, each with a sequence of edits and a record that was never
+/// worked out.
+pub fn edits<E: Engine>(exported: &E, tally: Tally, count: usize, seed: u64) -> Tally {
+    let mut comparison = Comparison { exported, random: Random::new(seed), tally };
+    comparison.fixed_edits();
+    for _ in 0..count {
+        comparison.random_edits();
+        comparison.any_record();
+    }
+    comparison.tally
+}
+
 struct Comparison<'e, E: Engine> {
     exported: &'e E,
     random: Random,
     tally: Tally,
 }
 
-/// The figures at which building is compared; the last one is refused. By 01's measure the listings are compared.
+/// The figures at which short tables are worked out and built; the last one is refused. By 01's measure the listings are compared.
 const FIGURES: [u32; 5] = [0, 1, 2, 15, 16];
+/// The most rows of a short table.
+const SHORT: usize = 8;
 
 /// Cells or bytes on either side of a lent room, which no call may touch.
 const MARGIN: usize = 8;
@@ -71,23 +87,34 @@ impl<E: Engine> Comparison<'_, E> {
         }
         let read = read.expect("the table was sound");
         self.read_table(&table);
-        for _ in 0..4 {
-            self.row(&table);
-        }
         self.search(&read);
-        self.build(&table);
-        for _ in 0..3 {
-            let plan = self.plan(&read);
-            self.check_plan(&table, &plan);
+        if read.rows.len() <= SHORT {
+            self.build(&table, &FIGURES);
+        } else {
+            let figure = self.random.below(18) as u32;
+            self.build(&table, &[figure]);
+        }
+        let record = records::holding(&mut self.random, &table);
+        self.over(&record, &read);
+    }
+
+    /// The entries that go by a record's table, with rows, plans and goals of all kinds.
+    fn over(&mut self, record: &Record, read: &Table) {
+        for _ in 0..4 {
+            self.row(record);
         }
         for _ in 0..3 {
-            let goal = self.goal(&read);
-            self.read_goal(&table, &goal);
+            let plan = self.plan(read);
+            self.check_plan(record, &plan);
+        }
+        for _ in 0..3 {
+            let goal = self.goal(read);
+            self.read_goal(record, &goal);
         }
         for _ in 0..4 {
-            let (plan, goal) = (self.plan(&read), self.goal(&read));
-            self.run(&table, &plan, &goal, read.rows.len());
-            self.replies(&table, &plan, &goal);
+            let (plan, goal) = (self.plan(read), self.goal(read));
+            self.run(record, &plan, &goal, read.rows.len());
+            self.replies(record, &plan, &goal);
         }
     }
 
@@ -118,54 +145,81 @@ impl<E: Engine> Comparison<'_, E> {
         }
     }
 
+    /// A room with its margins, filled with anything.
+    fn lent(&mut self, room: usize) -> Vec<u32> {
+        let first = self.random.number() as u32;
+        (0..(room + 2 * MARGIN) as u32).map(|place| first.wrapping_add(place.wrapping_mul(0x9e37_79b9))).collect()
+    }
+
     fn read_table(&mut self, table: &[u32]) {
         let answer = self.exported.read_table(table);
         self.tally.settle(Entry::ReadTable, answer, Definition.read_table(table), true, &|| format!("table {table:?}"));
     }
 
-    fn read_goal(&mut self, table: &[u32], goal: &[u32]) {
-        let answer = self.exported.read_goal(table, goal);
-        self.tally.settle(Entry::ReadGoal, answer, Definition.read_goal(table, goal), true, &|| format!("table {table:?} goal {goal:?}"));
+    fn read_goal(&mut self, record: &Record, goal: &[u32]) {
+        let answer = self.exported.read_goal(record, goal);
+        let describe = || format!("table {:?} goal {goal:?}", table_in(record));
+        self.tally.settle(Entry::ReadGoal, answer, Definition.read_goal(record, goal), true, &describe);
     }
 
-    fn row(&mut self, table: &[u32]) {
+    fn row(&mut self, record: &Record) {
         let row = match self.random.below(8) {
             0 => usize::MAX,
             1 => self.random.number() as usize,
-            2 => table.get(1).map_or(0, |&rows| rows as usize),
+            2 => table_in(record).get(1).map_or(0, |&rows| rows as usize),
             _ => self.random.below(66),
         };
-        let answer = self.exported.row(table, row);
-        self.tally.settle(Entry::Row, answer, Definition.row(table, row), true, &|| format!("table {table:?} row {row}"));
+        let answer = self.exported.row(record, row);
+        let describe = || format!("table {:?} row {row}", table_in(record));
+        self.tally.settle(Entry::Row, answer, Definition.row(record, row), true, &describe);
     }
 
-    fn check_plan(&mut self, table: &[u32], plan: &[u32]) {
-        let answer = self.exported.check_plan(table, plan);
-        self.tally.settle(Entry::CheckPlan, answer, Definition.check_plan(table, plan), true, &|| format!("table {table:?} plan {plan:?}"));
+    fn check_plan(&mut self, record: &Record, plan: &[u32]) {
+        let answer = self.exported.check_plan(record, plan);
+        let describe = || format!("table {:?} plan {plan:?}", table_in(record));
+        self.tally.settle(Entry::CheckPlan, answer, Definition.check_plan(record, plan), true, &describe);
     }
 
-    fn build(&mut self, table: &[u32]) {
-        for figure in FIGURES {
-            let needed = read_table(table).map_or(20, |table| least_by(&table, Measure::Work(figure)).write().len());
-            let room = self.room(needed, PLAN_CELLS + 7);
-            let lent: Vec<u32> = (0..room + 2 * MARGIN).map(|_| self.random.number() as u32).collect();
-            let (answer, left) = lend(&lent, |room| self.exported.build_plan(table, figure, room));
-            let (expected, wanted) = lend(&lent, |room| Definition.build_plan(table, figure, room));
-            let describe = || format!("table {table:?} figure {figure} room {room}");
-            self.tally.settle(Entry::BuildPlan, answer, expected, left == wanted, &describe);
+    /// Works the table out with each figure, and builds from each record.
+    fn build(&mut self, table: &[u32], figures: &[u32]) {
+        for &figure in figures {
+            if let Some(record) = self.work_out(table, figure) {
+                self.build_from(&record);
+            }
         }
     }
 
-    fn run(&mut self, table: &[u32], plan: &[u32], goal: &[u32], rows: usize) {
+    /// The expected record, where there is one.
+    fn work_out(&mut self, table: &[u32], figure: u32) -> Option<Box<Record>> {
+        let lent = self.lent(RECORD_CELLS);
+        let (answer, left) = lend_record(&lent, |record| self.exported.work_out(table, figure, record));
+        let (expected, wanted) = lend_record(&lent, |record| Definition.work_out(table, figure, record));
+        self.tally.settle(Entry::WorkOut, answer, expected, left == wanted, &|| format!("table {table:?} figure {figure}"));
+        (expected & 0xff == 0).then(|| without_margins(wanted))
+    }
+
+    /// Builds from a record that was worked out or edited.
+    fn build_from(&mut self, record: &Record) {
+        let (table, figure) = (table_in(record), figure_in(record));
+        let needed = least_by(&read_table(table).expect("a record's table is sound"), Measure::Work(figure)).write().len();
+        let room = self.room(needed, PLAN_CELLS + 7);
+        let lent = self.lent(room);
+        let (answer, left) = lend(&lent, |room| self.exported.build_plan(record, room));
+        let (expected, wanted) = lend(&lent, |room| Definition.build_plan(record, room));
+        let describe = || format!("table {table:?} figure {figure} room {room}");
+        self.tally.settle(Entry::BuildPlan, answer, expected, left == wanted, &describe);
+    }
+
+    fn run(&mut self, record: &Record, plan: &[u32], goal: &[u32], rows: usize) {
         let room = self.room(rows, 300);
         let lent: Vec<u8> = (0..room + 2 * MARGIN).map(|_| self.random.number() as u8).collect();
-        let (answer, left) = lend(&lent, |room| self.exported.run_plan(table, plan, goal, room));
-        let (expected, wanted) = lend(&lent, |room| Definition.run_plan(table, plan, goal, room));
-        let describe = || format!("table {table:?} plan {plan:?} goal {goal:?} room {room}");
+        let (answer, left) = lend(&lent, |room| self.exported.run_plan(record, plan, goal, room));
+        let (expected, wanted) = lend(&lent, |room| Definition.run_plan(record, plan, goal, room));
+        let describe = || format!("table {:?} plan {plan:?} goal {goal:?} room {room}", table_in(record));
         self.tally.settle(Entry::RunPlan, answer, expected, left == wanted, &describe);
-        let (walked, walked_left) = lend(&lent, |room| Plain.run_plan(table, plan, goal, room));
+        let (walked, walked_left) = lend(&lent, |room| Plain.run_plan(record, plan, goal, room));
         self.tally.own("walks against the definitions", walked == expected && walked_left == wanted, &describe);
-        if let Ok(read) = read_table(table) {
+        if let Ok(read) = read_table(table_in(record)) {
             self.in_turn(&read, goal);
         }
     }
@@ -181,14 +235,17 @@ impl<E: Engine> Comparison<'_, E> {
         self.tally.own("rows in turn against the textbook's unifier", found == hits(table, &read), &|| format!("goal {goal:?}"));
     }
 
-    /// The independent builder against a search through every plan, where the table is small enough for it.
+    /// The independent builder against a search through every plan, where the table is small enough for it; and what is known of each run of rows.
     fn search(&mut self, table: &Table) {
-        if table.rows.iter().all(|row| row.cells <= 7) && table.rows.len() <= 8 {
-            let works = FIGURES.iter().filter(|&&figure| figure <= 15).map(|&figure| Measure::Work(figure));
+        if table.rows.iter().all(|row| row.cells <= 7) && table.rows.len() <= SHORT {
+            let works = FIGURES.iter().filter(|&&figure| figure <= MOST_FIGURE).map(|&figure| Measure::Work(figure));
             for measure in works.chain([Measure::Branches]) {
                 let (built, found): (Plan, Plan) = (least_by(table, measure), least_by_search(table, measure));
                 let describe = || format!("{measure:?} {built:?} {found:?}");
                 self.tally.own("least plans against a search through all plans", built == found, &describe);
+                let (runs, found) = (every_run(table, measure), every_run_by_search(table, measure));
+                let describe = || format!("{measure:?} {runs:?} {found:?}");
+                self.tally.own("runs of rows against a search through all plans", runs == found, &describe);
             }
         }
     }
@@ -200,4 +257,15 @@ fn lend<T: Clone>(lent: &[T], call: impl FnOnce(&mut [T]) -> u64) -> (u64, Vec<T
     let end = left.len() - MARGIN;
     let answer = call(&mut left[MARGIN..end]);
     (answer, left)
+}
+
+/// The same with a record in the middle.
+fn lend_record(lent: &[u32], call: impl FnOnce(&mut Record) -> u64) -> (u64, Vec<u32>) {
+    lend(lent, |middle| call(middle.try_into().expect("as many numbers as a record has")))
+}
+
+/// The record in the middle of what was lent.
+fn without_margins(mut lent: Vec<u32>) -> Box<Record> {
+    lent.truncate(MARGIN + RECORD_CELLS);
+    records::boxed(lent.split_off(MARGIN))
 }

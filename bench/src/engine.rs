@@ -1,17 +1,22 @@
 //! The entries, as the library exports them and as the independent implementation answers them.
 
+use crate::model::record::{figure_in, table_in, Record};
 use crate::model::{self, refusal::packed};
 
 /// Each entry's answer as one number; the lent room is written to the front.
 pub trait Engine {
     fn read_table(&self, table: &[u32]) -> u64;
-    fn read_goal(&self, table: &[u32], goal: &[u32]) -> u64;
-    fn row(&self, table: &[u32], row: usize) -> u64;
-    fn check_plan(&self, table: &[u32], plan: &[u32]) -> u64;
-    fn build_plan(&self, table: &[u32], figure: u32, room: &mut [u32]) -> u64;
-    fn run_plan(&self, table: &[u32], plan: &[u32], goal: &[u32], room: &mut [u8]) -> u64;
+    fn work_out(&self, table: &[u32], figure: u32, record: &mut Record) -> u64;
+    fn append(&self, record: &mut Record, row: &[u32]) -> u64;
+    fn drop_last(&self, record: &mut Record) -> u64;
+    fn replace(&self, record: &mut Record, r: usize, row: &[u32]) -> u64;
+    fn read_goal(&self, record: &Record, goal: &[u32]) -> u64;
+    fn row(&self, record: &Record, row: usize) -> u64;
+    fn check_plan(&self, record: &Record, plan: &[u32]) -> u64;
+    fn build_plan(&self, record: &Record, room: &mut [u32]) -> u64;
+    fn run_plan(&self, record: &Record, plan: &[u32], goal: &[u32], room: &mut [u8]) -> u64;
     fn read_text(&self, text: &[u8], cells: &mut [u32], names: &mut [u32]) -> u64;
-    fn replies(&self, table: &[u32], plan: &[u32], goal: &[u32], room: &mut [u32]) -> u64;
+    fn replies(&self, record: &Record, plan: &[u32], goal: &[u32], room: &mut [u32]) -> u64;
 }
 
 /// The independent implementation with runs by the definitions.
@@ -26,27 +31,38 @@ macro_rules! independent {
             fn read_table(&self, table: &[u32]) -> u64 {
                 packed(model::read_table(table))
             }
-            fn read_goal(&self, table: &[u32], goal: &[u32]) -> u64 {
-                packed(model::read_goal(table, goal))
+            fn work_out(&self, table: &[u32], figure: u32, record: &mut Record) -> u64 {
+                packed(model::record::work_out(table, figure, record))
             }
-            fn row(&self, table: &[u32], row: usize) -> u64 {
-                packed(model::row(table, row))
+            fn append(&self, record: &mut Record, row: &[u32]) -> u64 {
+                packed(model::record::append(record, row))
             }
-            fn check_plan(&self, table: &[u32], plan: &[u32]) -> u64 {
-                packed(model::check_plan(table, plan))
+            fn drop_last(&self, record: &mut Record) -> u64 {
+                packed(model::record::drop_last(record))
             }
-            fn build_plan(&self, table: &[u32], figure: u32, room: &mut [u32]) -> u64 {
-                packed(model::build_plan(table, figure, room))
+            fn replace(&self, record: &mut Record, r: usize, row: &[u32]) -> u64 {
+                packed(model::record::replace(record, r, row))
             }
-            fn run_plan(&self, table: &[u32], plan: &[u32], goal: &[u32], room: &mut [u8]) -> u64 {
-                packed($run_plan(table, plan, goal, room))
+            fn read_goal(&self, record: &Record, goal: &[u32]) -> u64 {
+                packed(model::read_goal(table_in(record), goal))
+            }
+            fn row(&self, record: &Record, row: usize) -> u64 {
+                packed(model::row(table_in(record), row))
+            }
+            fn check_plan(&self, record: &Record, plan: &[u32]) -> u64 {
+                packed(model::check_plan(table_in(record), plan))
+            }
+            fn build_plan(&self, record: &Record, room: &mut [u32]) -> u64 {
+                packed(model::build_plan(table_in(record), figure_in(record), room))
+            }
+            fn run_plan(&self, record: &Record, plan: &[u32], goal: &[u32], room: &mut [u8]) -> u64 {
+                packed($run_plan(table_in(record), plan, goal, room))
             }
             fn read_text(&self, text: &[u8], cells: &mut [u32], names: &mut [u32]) -> u64 {
                 packed(model::text::read_text(text, cells, names))
             }
-
-            fn replies(&self, table: &[u32], plan: &[u32], goal: &[u32], room: &mut [u32]) -> u64 {
-                packed(model::replies::replies(table, plan, goal, room))
+            fn replies(&self, record: &Record, plan: &[u32], goal: &[u32], room: &mut [u32]) -> u64 {
+                packed(model::replies::replies(table_in(record), plan, goal, room))
             }
         }
     };
@@ -63,20 +79,23 @@ pub use Plain as Exported;
 
 #[cfg(not(feature = "stand-in"))]
 mod exported {
-    use super::Engine;
+    use super::{Engine, Record};
 
     /// The functions of target/staticlib/libexports.a (include/dudowiej.h).
     pub struct Exported;
 
     extern "C" {
         fn dudowiej_read_table(table: *const u32, table_cells: usize) -> u64;
-        fn dudowiej_read_goal(table: *const u32, table_cells: usize, goal: *const u32, goal_cells: usize) -> u64;
-        fn dudowiej_row(table: *const u32, table_cells: usize, row: usize) -> u64;
-        fn dudowiej_check_plan(table: *const u32, table_cells: usize, plan: *const u32, plan_cells: usize) -> u64;
-        fn dudowiej_build_plan(table: *const u32, table_cells: usize, figure: u32, room: *mut u32, room_cells: usize) -> u64;
+        fn dudowiej_work_out(table: *const u32, table_cells: usize, figure: u32, record: *mut Record) -> u64;
+        fn dudowiej_append(record: *mut Record, row: *const u32, row_cells: usize) -> u64;
+        fn dudowiej_drop_last(record: *mut Record) -> u64;
+        fn dudowiej_replace(record: *mut Record, r: usize, row: *const u32, row_cells: usize) -> u64;
+        fn dudowiej_read_goal(record: *const Record, goal: *const u32, goal_cells: usize) -> u64;
+        fn dudowiej_row(record: *const Record, row: usize) -> u64;
+        fn dudowiej_check_plan(record: *const Record, plan: *const u32, plan_cells: usize) -> u64;
+        fn dudowiej_build_plan(record: *const Record, room: *mut u32, room_cells: usize) -> u64;
         fn dudowiej_run_plan(
-            table: *const u32,
-            table_cells: usize,
+            record: *const Record,
             plan: *const u32,
             plan_cells: usize,
             goal: *const u32,
@@ -86,8 +105,7 @@ mod exported {
         ) -> u64;
         fn dudowiej_read_text(text: *const u8, text_bytes: usize, cells: *mut u32, cells_room: usize, names: *mut u32, names_room: usize) -> u64;
         fn dudowiej_replies(
-            table: *const u32,
-            table_cells: usize,
+            record: *const Record,
             plan: *const u32,
             plan_cells: usize,
             goal: *const u32,
@@ -97,36 +115,43 @@ mod exported {
         ) -> u64;
     }
 
-    // Each pointer and length below is one slice's, and a lent room is borrowed alone.
+    // Each pointer and length below is one slice's, a record's pointer is a reference; what is written is borrowed alone.
     impl Engine for Exported {
         fn read_table(&self, table: &[u32]) -> u64 {
             unsafe { dudowiej_read_table(table.as_ptr(), table.len()) }
         }
-        fn read_goal(&self, table: &[u32], goal: &[u32]) -> u64 {
-            unsafe { dudowiej_read_goal(table.as_ptr(), table.len(), goal.as_ptr(), goal.len()) }
+        fn work_out(&self, table: &[u32], figure: u32, record: &mut Record) -> u64 {
+            unsafe { dudowiej_work_out(table.as_ptr(), table.len(), figure, record) }
         }
-        fn row(&self, table: &[u32], row: usize) -> u64 {
-            unsafe { dudowiej_row(table.as_ptr(), table.len(), row) }
+        fn append(&self, record: &mut Record, row: &[u32]) -> u64 {
+            unsafe { dudowiej_append(record, row.as_ptr(), row.len()) }
         }
-        fn check_plan(&self, table: &[u32], plan: &[u32]) -> u64 {
-            unsafe { dudowiej_check_plan(table.as_ptr(), table.len(), plan.as_ptr(), plan.len()) }
+        fn drop_last(&self, record: &mut Record) -> u64 {
+            unsafe { dudowiej_drop_last(record) }
         }
-        fn build_plan(&self, table: &[u32], figure: u32, room: &mut [u32]) -> u64 {
-            unsafe { dudowiej_build_plan(table.as_ptr(), table.len(), figure, room.as_mut_ptr(), room.len()) }
+        fn replace(&self, record: &mut Record, r: usize, row: &[u32]) -> u64 {
+            unsafe { dudowiej_replace(record, r, row.as_ptr(), row.len()) }
         }
-        fn run_plan(&self, table: &[u32], plan: &[u32], goal: &[u32], room: &mut [u8]) -> u64 {
-            unsafe {
-                dudowiej_run_plan(table.as_ptr(), table.len(), plan.as_ptr(), plan.len(), goal.as_ptr(), goal.len(), room.as_mut_ptr(), room.len())
-            }
+        fn read_goal(&self, record: &Record, goal: &[u32]) -> u64 {
+            unsafe { dudowiej_read_goal(record, goal.as_ptr(), goal.len()) }
+        }
+        fn row(&self, record: &Record, row: usize) -> u64 {
+            unsafe { dudowiej_row(record, row) }
+        }
+        fn check_plan(&self, record: &Record, plan: &[u32]) -> u64 {
+            unsafe { dudowiej_check_plan(record, plan.as_ptr(), plan.len()) }
+        }
+        fn build_plan(&self, record: &Record, room: &mut [u32]) -> u64 {
+            unsafe { dudowiej_build_plan(record, room.as_mut_ptr(), room.len()) }
+        }
+        fn run_plan(&self, record: &Record, plan: &[u32], goal: &[u32], room: &mut [u8]) -> u64 {
+            unsafe { dudowiej_run_plan(record, plan.as_ptr(), plan.len(), goal.as_ptr(), goal.len(), room.as_mut_ptr(), room.len()) }
         }
         fn read_text(&self, text: &[u8], cells: &mut [u32], names: &mut [u32]) -> u64 {
             unsafe { dudowiej_read_text(text.as_ptr(), text.len(), cells.as_mut_ptr(), cells.len(), names.as_mut_ptr(), names.len()) }
         }
-
-        fn replies(&self, table: &[u32], plan: &[u32], goal: &[u32], room: &mut [u32]) -> u64 {
-            unsafe {
-                dudowiej_replies(table.as_ptr(), table.len(), plan.as_ptr(), plan.len(), goal.as_ptr(), goal.len(), room.as_mut_ptr(), room.len())
-            }
+        fn replies(&self, record: &Record, plan: &[u32], goal: &[u32], room: &mut [u32]) -> u64 {
+            unsafe { dudowiej_replies(record, plan.as_ptr(), plan.len(), goal.as_ptr(), goal.len(), room.as_mut_ptr(), room.len()) }
         }
     }
 }

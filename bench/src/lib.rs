@@ -4,6 +4,7 @@ pub mod branches;
 pub mod cases;
 pub mod compare;
 pub mod count;
+pub mod edits;
 pub mod engine;
 pub mod make;
 pub mod model;

@@ -7,7 +7,7 @@ use std::process::ExitCode;
 use dudowiej_bench::compare::{self, listings, ROUNDS, SEED};
 use dudowiej_bench::engine::Exported;
 use dudowiej_bench::model::listing::listing;
-use dudowiej_bench::{count, prolog, shift, stack, time};
+use dudowiej_bench::{count, edits, prolog, shift, stack, time};
 
 const USAGE: &str = "usage:
   compare [ROUNDS [SEED]]   the exported functions against the independent implementation
@@ -18,6 +18,7 @@ const USAGE: &str = "usage:
   texts FOLDER COUNT SEED   accepted texts with their facts, and kinds of refused ones, as files
   count-shift, instructions-shift FOLDER   the same for a list of goals
   count-replies, instructions-replies FOLDER   the same for replies alone
+  count-edits, instructions-edits FOLDER   the same for a record's edits
   stack                     the bytes of stack that each entry touches
   list                      the independent listing of the table on standard input";
 
@@ -49,6 +50,8 @@ fn main() -> ExitCode {
         ["instructions-replies", folder] => done(|| {
             count::reply_instructions(Path::new(folder), 0);
         }),
+        ["count-edits"] => done(edits::count),
+        ["instructions-edits", folder] => done(|| edits::instructions(Path::new(folder))),
         ["stack"] => done(stack::stack),
         ["list"] => done(list),
         _ => usage(),
@@ -77,6 +80,7 @@ fn compared(rounds: usize, seed: u64) -> ExitCode {
     let tally = compare::compare(&Exported, rounds, seed);
     let tally = compare::texts(&Exported, tally, 2 * rounds, seed);
     let tally = compare::replies(&Exported, tally, 2 * rounds, seed);
+    let tally = compare::edits(&Exported, tally, rounds / 10, seed);
     println!("{tally}");
     if tally.passed() && lists.passed() && listings_differ == 0 {
         ExitCode::SUCCESS

@@ -1,8 +1,10 @@
-//! Random inputs: tables, goals and plans, sound and damaged.
+//! Random inputs: tables, rows, records, goals and plans, sound and damaged.
 
 pub mod damage;
 pub mod goals;
 pub mod plans;
+pub mod records;
+pub mod rows;
 pub mod tables;
 pub mod texts;
 

@@ -6,6 +6,7 @@ pub mod least;
 pub mod listing;
 pub mod plan;
 pub mod read;
+pub mod record;
 pub mod refusal;
 pub mod replies;
 pub mod run;

@@ -3,8 +3,9 @@
 
 use std::hint::black_box;
 
-use crate::cases::{Case, Work};
+use crate::cases::{Case, Work, FIGURE};
 use crate::engine::{Engine, Exported};
+use crate::make::records;
 use crate::model::read::{read_goal, read_table};
 use crate::model::replies::said;
 
@@ -41,13 +42,14 @@ impl<'c> Sort<'c> {
         let hits = goals.iter().map(|goal| said(&table, &read(goal)).len()).sum();
         let (mut room, mut rows, mut few) = (vec![0; ROOM], [0; 64], [0; 64]);
         let (row, plan, other) = (&NO_HIT.0, &NO_HIT.1, &NO_HIT.2);
+        let [one, same] = [(); 2].map(|()| records::worked_out(row, FIGURE));
         let works = vec![
-            each(goals, move |goal| Exported.replies(&case.table, &case.plan, goal, &mut room)),
-            each(goals, move |goal| Exported.run_plan(&case.table, &case.plan, goal, &mut rows)),
-            each(&[], move |goal| Exported.run_plan(&case.table, &case.plan, goal, &mut few)),
+            each(goals, move |goal| Exported.replies(&case.record, &case.plan, goal, &mut room)),
+            each(goals, move |goal| Exported.run_plan(&case.record, &case.plan, goal, &mut rows)),
+            each(&[], move |goal| Exported.run_plan(&case.record, &case.plan, goal, &mut few)),
             each(&[], move |_| Exported.read_table(&case.table)),
-            each(&[], move |_| Exported.replies(row, plan, other, &mut [])),
-            each(&[], move |_| Exported.run_plan(row, plan, other, &mut [0; 64])),
+            each(&[], move |_| Exported.replies(&one, plan, other, &mut [])),
+            each(&[], move |_| Exported.run_plan(&same, plan, other, &mut [0; 64])),
             each(&[], move |_| Exported.read_table(row)),
             each(goals, move |goal| said(&case.read, &read_goal(case.read.width, goal).expect("a sound goal")).len() as u64),
         ];
@@ -56,7 +58,8 @@ impl<'c> Sort<'c> {
 
     /// Does every work once, or takes the figure of each from a file.
     pub fn figures(&mut self, figure: impl FnMut(&mut Work<'c>) -> f64) -> Figures {
-        let [replies, run, prepare, read, no_replies, no_run, no_read, independent] = self.works.iter_mut().map(figure).collect::<Vec<_>>()[..] else {
+        let [replies, run, prepare, read, no_replies, no_run, no_read, independent] = self.works.iter_mut().map(figure).collect::<Vec<_>>()[..]
+        else {
             unreachable!("there are eight works");
         };
         let goals = self.goals as f64;

@@ -5,6 +5,7 @@ pub mod count;
 mod model;
 
 use crate::engine::{Definition, Engine, Plain};
+use crate::model::record::{table_in, Record};
 use crate::model::refusal::packed;
 
 /// One goal of a list: where its cells are, and what the call leaves.
@@ -20,33 +21,33 @@ pub struct Job {
 }
 
 pub trait Shift {
-    fn run_jobs(&self, table: &[u32], plan: &[u32], cells: &[u32], jobs: &mut [Job]) -> u64;
+    fn run_jobs(&self, record: &Record, plan: &[u32], cells: &[u32], jobs: &mut [Job]) -> u64;
 }
 
 /// By the request's own words, over the definitions.
 impl Shift for Definition {
-    fn run_jobs(&self, table: &[u32], plan: &[u32], cells: &[u32], jobs: &mut [Job]) -> u64 {
-        packed(model::run_jobs(table, plan, cells, jobs))
+    fn run_jobs(&self, record: &Record, plan: &[u32], cells: &[u32], jobs: &mut [Job]) -> u64 {
+        packed(model::run_jobs(table_in(record), plan, cells, jobs))
     }
 }
 
 /// One by one.
 impl Shift for Plain {
-    fn run_jobs(&self, table: &[u32], plan: &[u32], cells: &[u32], jobs: &mut [Job]) -> u64 {
-        one_by_one(self, table, plan, cells, jobs)
+    fn run_jobs(&self, record: &Record, plan: &[u32], cells: &[u32], jobs: &mut [Job]) -> u64 {
+        one_by_one(self, record, plan, cells, jobs)
     }
 }
 
 /// "It equals asking one by one": the check of the plan, then a run for each goal.
-pub fn one_by_one<E: Engine>(engine: &E, table: &[u32], plan: &[u32], cells: &[u32], jobs: &mut [Job]) -> u64 {
-    let checked = engine.check_plan(table, plan);
+pub fn one_by_one<E: Engine>(engine: &E, record: &Record, plan: &[u32], cells: &[u32], jobs: &mut [Job]) -> u64 {
+    let checked = engine.check_plan(record, plan);
     if checked & 0xff != 0 {
         return checked;
     }
     for job in jobs {
         let mut room = [0; 64];
         let goal = cells.get(job.start..).and_then(|rest| rest.get(..job.count));
-        let answer = goal.map_or(1, |goal| engine.run_plan(table, plan, goal, &mut room));
+        let answer = goal.map_or(1, |goal| engine.run_plan(record, plan, goal, &mut room));
         let (number, second) = ((answer & 0xff) as usize, (answer >> 32) as usize);
         let (place, tried) = if number == 0 { (0, second) } else { ((answer >> 16) as usize, 0) };
         let count = if number == 0 { (answer >> 16 & 0xffff) as usize } else { 0 };
@@ -58,13 +59,12 @@ pub fn one_by_one<E: Engine>(engine: &E, table: &[u32], plan: &[u32], cells: &[u
 
 #[cfg(not(feature = "stand-in"))]
 mod exported {
-    use super::{Job, Shift};
+    use super::{Job, Record, Shift};
     use crate::engine::Exported;
 
     extern "C" {
         fn dudowiej_run_jobs(
-            table: *const u32,
-            table_cells: usize,
+            record: *const Record,
             plan: *const u32,
             plan_cells: usize,
             cells: *const u32,
@@ -74,12 +74,10 @@ mod exported {
         ) -> u64;
     }
 
-    // Each pointer and length is one slice's, and the records are borrowed alone.
+    // Each pointer and length is one slice's, the record's pointer is a reference, and the jobs are borrowed alone.
     impl Shift for Exported {
-        fn run_jobs(&self, table: &[u32], plan: &[u32], cells: &[u32], jobs: &mut [Job]) -> u64 {
-            unsafe {
-                dudowiej_run_jobs(table.as_ptr(), table.len(), plan.as_ptr(), plan.len(), cells.as_ptr(), cells.len(), jobs.as_mut_ptr(), jobs.len())
-            }
+        fn run_jobs(&self, record: &Record, plan: &[u32], cells: &[u32], jobs: &mut [Job]) -> u64 {
+            unsafe { dudowiej_run_jobs(record, plan.as_ptr(), plan.len(), cells.as_ptr(), cells.len(), jobs.as_mut_ptr(), jobs.len()) }
         }
     }
 }

@@ -7,11 +7,12 @@ use std::hint::black_box;
 use crate::branches::{flat, with_argument};
 use crate::cases::SEED;
 use crate::engine::{Engine, Exported};
-use crate::make::goals;
 use crate::make::tables::{longest_replies, table, Kind};
+use crate::make::{goals, records};
 use crate::model::least::least;
 use crate::model::plan::{grow, PLAN_CELLS};
 use crate::model::read::{read_table, Table, ROW_CELLS, TABLE_CELLS};
+use crate::model::record::{drop_last, put_table, Record, MOST_FIGURE};
 use crate::random::Random;
 use crate::shift::{Job, Shift};
 use crate::texts::{measured_texts, ROOM};
@@ -25,12 +26,20 @@ pub fn stack() {
     for table in full_tables() {
         let read = read_table(&table).expect("a sound table");
         let (plans, goals) = (plans(&read), goals(&read, &table));
+        let sound = records::worked_out(&table, MOST_FIGURE);
+        let last = row_of(&read, &table, ROWS - 1);
+        most.of_edits(&sound, &last);
+        most.of_edits(&records::holding(&mut Random::new(SEED), &table), &last);
         for table in refused_too(table) {
-            most.of_table(&table, &plans, &goals);
+            most.of_table(&table);
+            let mut record = sound.clone();
+            put_table(&mut record, &table, MOST_FIGURE);
+            most.of_record(&record, &plans, &goals);
         }
     }
     let (table, goal) = longest_replies();
-    most.of_table(&table, &plans(&read_table(&table).expect("a sound table")), &[goal]);
+    let plans = plans(&read_table(&table).expect("a sound table"));
+    most.of_record(&records::worked_out(&table, MOST_FIGURE), &plans, &[goal]);
     for (_, text) in measured_texts() {
         most.of_text(&text);
     }
@@ -44,32 +53,61 @@ pub fn stack() {
 struct Most(Vec<(&'static str, usize)>);
 
 impl Most {
-    fn of_table(&mut self, table: &[u32], plans: &[Vec<u32>], goals: &[Vec<u32>]) {
+    fn of_table(&mut self, table: &[u32]) {
         self.note("dudowiej_read_table", || Exported.read_table(table));
+        let mut record = records::empty();
+        for figure in [0, MOST_FIGURE, MOST_FIGURE + 1] {
+            self.note("dudowiej_work_out", || Exported.work_out(table, figure, &mut record));
+        }
+    }
+
+    /// Edits of a record with 64 rows, and of it without the last; with a row, sound and refused.
+    fn of_edits(&mut self, full: &Record, row: &[u32]) {
+        let mut shorter = records::boxed(full.to_vec());
+        drop_last(&mut shorter).expect("there are more rows");
+        let mut record = records::empty();
+        for before in [full, &*shorter] {
+            let mut note = |entry, edit: &dyn Fn(&mut Record) -> u64| {
+                self.note(entry, || {
+                    record.copy_from_slice(before);
+                    edit(&mut record)
+                });
+            };
+            note("dudowiej_drop_last", &|record| Exported.drop_last(record));
+            for row in refused_too(row.to_vec()) {
+                note("dudowiej_append", &|record| Exported.append(record, &row));
+                for r in [0, ROWS / 2, ROWS - 2, ROWS - 1, ROWS] {
+                    note("dudowiej_replace", &|record| Exported.replace(record, r, &row));
+                }
+            }
+        }
+    }
+
+    fn of_record(&mut self, record: &Record, plans: &[Vec<u32>], goals: &[Vec<u32>]) {
         for goal in goals {
-            self.note("dudowiej_read_goal", || Exported.read_goal(table, goal));
+            self.note("dudowiej_read_goal", || Exported.read_goal(record, goal));
         }
         for row in [0, ROWS - 1, ROWS] {
-            self.note("dudowiej_row", || Exported.row(table, row));
+            self.note("dudowiej_row", || Exported.row(record, row));
         }
         for plan in plans {
-            self.note("dudowiej_check_plan", || Exported.check_plan(table, plan));
+            self.note("dudowiej_check_plan", || Exported.check_plan(record, plan));
         }
         for cells in [PLAN_CELLS, 0] {
             let mut room = vec![0; cells];
-            self.note("dudowiej_build_plan", || Exported.build_plan(table, 15, &mut room));
+            self.note("dudowiej_build_plan", || Exported.build_plan(record, &mut room));
         }
         for (plan, goal) in plans.iter().flat_map(|plan| goals.iter().map(move |goal| (plan, goal))) {
             for bytes in [ROWS, 0] {
                 let mut room = vec![0; bytes];
-                self.note("dudowiej_run_plan", || Exported.run_plan(table, plan, goal, &mut room));
+                self.note("dudowiej_run_plan", || Exported.run_plan(record, plan, goal, &mut room));
             }
             for cells in [ROWS * 1024, 0] {
                 let mut room = vec![0; cells];
-                self.note("dudowiej_replies", || Exported.replies(table, plan, goal, &mut room));
+                self.note("dudowiej_replies", || Exported.replies(record, plan, goal, &mut room));
             }
             let mut jobs = [Job { count: goal.len(), ..Job::default() }];
-            self.note("dudowiej_run_jobs", || Exported.run_jobs(table, plan, goal, &mut jobs));
+            self.note("dudowiej_run_jobs", || Exported.run_jobs(record, plan, goal, &mut jobs));
         }
     }
 
@@ -130,10 +168,13 @@ fn plans(table: &Table) -> Vec<Vec<u32>> {
 
 /// The goal of distinct variables, the last row, and the first, which is refused too.
 fn goals(table: &Table, cells: &[u32]) -> Vec<Vec<u32>> {
-    let row = |number: usize| cells[table.rows[number].start..][..table.rows[number].cells].to_vec();
-    let mut goals = vec![goals::open(table.width), row(ROWS - 1)];
-    goals.extend(refused_too(row(0)));
+    let mut goals = vec![goals::open(table.width), row_of(table, cells, ROWS - 1)];
+    goals.extend(refused_too(row_of(table, cells, 0)));
     goals
+}
+
+fn row_of(table: &Table, cells: &[u32], row: usize) -> Vec<u32> {
+    cells[table.rows[row].start..][..table.rows[row].cells].to_vec()
 }
 
 #[cfg(test)]

@@ -3,10 +3,12 @@
 mod notation;
 
 use dudowiej_bench::engine::{Definition, Engine, Exported, Plain};
+use dudowiej_bench::make::records;
 use dudowiej_bench::model::least::{least, least_by_search, Measure};
 use dudowiej_bench::model::listing::listing;
 use dudowiej_bench::model::plan::grow;
 use dudowiej_bench::model::read;
+use dudowiej_bench::model::record::Record;
 use notation::{goal, name, plan, table};
 
 const LONG: u64 = 4;
@@ -34,10 +36,18 @@ fn answered(first: u64, second: u64) -> u64 {
     first << 16 | second << 32
 }
 
-/// Builds the plan by the work with a figure in a room larger than it is.
-fn built_with(engine: &dyn Engine, table: &[u32], figure: u32) -> (Vec<u32>, u64) {
+/// The table worked out with a figure.
+fn record(engine: &dyn Engine, table: &[u32], figure: u32) -> Box<Record> {
+    let mut record = records::empty();
+    assert_eq!(engine.work_out(table, figure, &mut record), engine.read_table(table));
+    assert_eq!(record, records::worked_out(table, figure));
+    record
+}
+
+/// Builds the plan in a room larger than it is; its cells and its cost.
+fn built_from(engine: &dyn Engine, record: &Record) -> (Vec<u32>, u64) {
     let mut room = vec![7; 7000];
-    let answer = engine.build_plan(table, figure, &mut room);
+    let answer = engine.build_plan(record, &mut room);
     let cells = (answer >> 16 & 0xffff) as usize;
     assert_eq!(answer & 0xffff, 0);
     assert!(room[cells..].iter().all(|&cell| cell == 7));
@@ -45,10 +55,11 @@ fn built_with(engine: &dyn Engine, table: &[u32], figure: u32) -> (Vec<u32>, u64
     (room, answer >> 32)
 }
 
-/// The same with no figure, and the plan's branches. Of 01's examples the plan is 01's.
+/// The plan with no figure, and its branches. Of 01's examples the plan is 01's.
 fn built(engine: &dyn Engine, table: &[u32]) -> (Vec<u32>, u64) {
-    let cells = built_with(engine, table, 0).0;
-    let checked = engine.check_plan(table, &cells);
+    let record = record(engine, table, 0);
+    let cells = built_from(engine, &record).0;
+    let checked = engine.check_plan(&record, &cells);
     assert_eq!(checked & 0xff, 0);
     (cells, checked >> 16)
 }
@@ -73,7 +84,7 @@ fn costs(rows: &str, branches: u64) {
 /// W-204: the plan by the work with a figure, and its cost.
 fn works(rows: &str, figure: u32, cost: u64, written: &str) {
     for engine in engines() {
-        assert_eq!(built_with(engine, &table(rows), figure), (plan(written), cost), "{rows} {figure}");
+        assert_eq!(built_from(engine, &record(engine, &table(rows), figure)), (plan(written), cost), "{rows} {figure}");
     }
 }
 
@@ -90,17 +101,20 @@ fn work() {
     works(P1, 2, 14, WIDE);
     works(P1, 15, 40, WIDE);
     for engine in engines() {
-        assert_eq!(engine.build_plan(&[], 16, &mut [7]), refused(FIGURE, FIGURE_INPUT, 0));
-        assert_eq!(engine.build_plan(&table(P1), u32::MAX, &mut [7]), refused(FIGURE, FIGURE_INPUT, 0));
+        let mut untouched = records::empty();
+        assert_eq!(engine.work_out(&[], 16, &mut untouched), refused(FIGURE, FIGURE_INPUT, 0));
+        assert_eq!(engine.work_out(&table(P1), u32::MAX, &mut untouched), refused(FIGURE, FIGURE_INPUT, 0));
+        assert_eq!(untouched, records::empty());
     }
 }
 
 /// Runs the least plan on the goal.
 fn runs(rows: &str, asked: &str, hits: &[u8], tried: u64) {
     for engine in engines() {
-        let cells = built(engine, &table(rows)).0;
+        let record = record(engine, &table(rows), 0);
+        let cells = built_from(engine, &record).0;
         let mut room = [7; 64];
-        assert_eq!(engine.run_plan(&table(rows), &cells, &goal(asked), &mut room), answered(hits.len() as u64, tried), "{rows} {asked}");
+        assert_eq!(engine.run_plan(&record, &cells, &goal(asked), &mut room), answered(hits.len() as u64, tried), "{rows} {asked}");
         assert_eq!(&room[..hits.len()], hits);
         assert!(room[hits.len()..].iter().all(|&byte| byte == 7));
     }
@@ -134,10 +148,11 @@ fn p2() {
 fn p3() {
     costs(G_ROWS, 11);
     for engine in engines() {
-        assert_eq!(engine.check_plan(&table(G_ROWS), &plan("0 2")), refused(EDGES, PLAN, 1));
+        let record = record(engine, &table(G_ROWS), 0);
+        assert_eq!(engine.check_plan(&record, &plan("0 2")), refused(EDGES, PLAN, 1));
         let mut split = plan("0 2 g");
-        split.extend(&built(engine, &table(G_ROWS)).0[3..]);
-        assert_eq!(engine.check_plan(&table(G_ROWS), &split), refused(EDGES, PLAN, 1));
+        split.extend(&built_from(engine, &record).0[3..]);
+        assert_eq!(engine.check_plan(&record, &split), refused(EDGES, PLAN, 1));
     }
 }
 
@@ -199,7 +214,7 @@ fn six_rows_cost_13_and_not_14() {
         });
         assert_eq!((plan.at(plan.top()).count(), plan.branches.len()), (runs, cost));
         for engine in engines() {
-            assert_eq!(engine.check_plan(&table(rows), &plan.write()), answered(cost as u64, 0));
+            assert_eq!(engine.check_plan(&record(engine, &table(rows), 0), &plan.write()), answered(cost as u64, 0));
         }
     }
 }

@@ -1,63 +1,16 @@
 //! The comparison finds what it should: engines that are wrong in one thing each are found, and one that is right passes.
 
-use dudowiej_bench::compare::{compare, replies, texts, Tally};
+mod altered;
+
+use altered::{Altered, ReadText, Replies, RIGHT};
+use dudowiej_bench::compare::{compare, edits, replies, texts, Tally};
 use dudowiej_bench::engine::{Engine, Plain};
+use dudowiej_bench::model::build_plan;
 use dudowiej_bench::model::least::Measure;
 use dudowiej_bench::model::plan::{check, grow};
 use dudowiej_bench::model::read::read_table;
+use dudowiej_bench::model::record::{figure_in, table_in, Record};
 use dudowiej_bench::model::replies::all;
-
-/// An engine whose entries can be replaced one by one.
-struct Altered {
-    read_table: fn(&[u32]) -> u64,
-    row: fn(&[u32], usize) -> u64,
-    check_plan: fn(&[u32], &[u32]) -> u64,
-    build_plan: fn(&[u32], u32, &mut [u32]) -> u64,
-    run_plan: RunPlan,
-    read_text: ReadText,
-    replies: Replies,
-}
-
-type RunPlan = fn(&[u32], &[u32], &[u32], &mut [u8]) -> u64;
-type ReadText = fn(&[u8], &mut [u32], &mut [u32]) -> u64;
-type Replies = fn(&[u32], &[u32], &[u32], &mut [u32]) -> u64;
-
-const RIGHT: Altered = Altered {
-    read_table: |table| Plain.read_table(table),
-    row: |table, row| Plain.row(table, row),
-    check_plan: |table, plan| Plain.check_plan(table, plan),
-    build_plan: |table, figure, room| Plain.build_plan(table, figure, room),
-    run_plan: |table, plan, goal, room| Plain.run_plan(table, plan, goal, room),
-    read_text: |text, cells, names| Plain.read_text(text, cells, names),
-    replies: |table, plan, goal, room| Plain.replies(table, plan, goal, room),
-};
-
-impl Engine for Altered {
-    fn read_table(&self, table: &[u32]) -> u64 {
-        (self.read_table)(table)
-    }
-    fn read_goal(&self, table: &[u32], goal: &[u32]) -> u64 {
-        Plain.read_goal(table, goal)
-    }
-    fn row(&self, table: &[u32], row: usize) -> u64 {
-        (self.row)(table, row)
-    }
-    fn check_plan(&self, table: &[u32], plan: &[u32]) -> u64 {
-        (self.check_plan)(table, plan)
-    }
-    fn build_plan(&self, table: &[u32], figure: u32, room: &mut [u32]) -> u64 {
-        (self.build_plan)(table, figure, room)
-    }
-    fn run_plan(&self, table: &[u32], plan: &[u32], goal: &[u32], room: &mut [u8]) -> u64 {
-        (self.run_plan)(table, plan, goal, room)
-    }
-    fn read_text(&self, text: &[u8], cells: &mut [u32], names: &mut [u32]) -> u64 {
-        (self.read_text)(text, cells, names)
-    }
-    fn replies(&self, table: &[u32], plan: &[u32], goal: &[u32], room: &mut [u32]) -> u64 {
-        (self.replies)(table, plan, goal, room)
-    }
-}
 
 fn found(wrong: Altered) {
     let tally = compare(&wrong, 200, 1);
@@ -76,7 +29,7 @@ fn hits(answer: u64) -> usize {
 #[test]
 fn a_right_one_passes() {
     let tally = texts(&RIGHT, compare(&RIGHT, 2000, 1), 2000, 1);
-    let tally = replies(&RIGHT, tally, 2000, 1);
+    let tally = edits(&RIGHT, replies(&RIGHT, tally, 2000, 1), 300, 1);
     assert!(tally.passed(), "{tally}");
 }
 
@@ -95,16 +48,16 @@ fn refusing_everything() {
 
 #[test]
 fn a_row_past_the_last() {
-    found(Altered { row: |table, row| Plain.row(table, row.min(63)), ..RIGHT });
+    found(Altered { row: |record, row| Plain.row(record, row.min(63)), ..RIGHT });
 }
 
 #[test]
 fn a_check_that_accepts_only_the_builders_plan() {
     found(Altered {
-        check_plan: |table, plan| {
+        check_plan: |record, plan| {
             let mut room = vec![0; plan.len()];
-            let same = answered(Plain.build_plan(table, 0, &mut room)) && room == plan;
-            let answer = Plain.check_plan(table, plan);
+            let same = build_plan(table_in(record), 0, &mut room).is_ok() && room == plan;
+            let answer = Plain.check_plan(record, plan);
             if answered(answer) && !same {
                 0x20e
             } else {
@@ -118,9 +71,9 @@ fn a_check_that_accepts_only_the_builders_plan() {
 #[test]
 fn the_place_with_the_fewest_runs() {
     found(Altered {
-        build_plan: |table, figure, room| {
-            let Ok(read) = read_table(table) else {
-                return Plain.build_plan(table, figure, room);
+        build_plan: |record, room| {
+            let Ok(read) = read_table(table_in(record)) else {
+                return Plain.build_plan(record, room);
             };
             let plan = grow(&read, |open, rows| (0..open.places(rows)).min_by_key(|&place| open.runs(rows, place)).expect("an open place"));
             let cells = plan.write();
@@ -128,7 +81,7 @@ fn the_place_with_the_fewest_runs() {
                 return 0x410 | (cells.len() as u64) << 16;
             }
             room[..cells.len()].copy_from_slice(&cells);
-            (cells.len() as u64) << 16 | (Measure::Work(figure).cost(&plan) as u64) << 32
+            (cells.len() as u64) << 16 | (Measure::Work(figure_in(record)).cost(&plan) as u64) << 32
         },
         ..RIGHT
     });
@@ -137,8 +90,8 @@ fn the_place_with_the_fewest_runs() {
 #[test]
 fn a_refusal_that_writes() {
     found(Altered {
-        build_plan: |table, figure, room| {
-            let answer = Plain.build_plan(table, figure, room);
+        build_plan: |record, room| {
+            let answer = Plain.build_plan(record, room);
             if let (false, Some(cell)) = (answered(answer), room.first_mut()) {
                 *cell = 0;
             }
@@ -151,8 +104,8 @@ fn a_refusal_that_writes() {
 #[test]
 fn a_room_cleared_behind_the_hits() {
     found(Altered {
-        run_plan: |table, plan, goal, room| {
-            let answer = Plain.run_plan(table, plan, goal, room);
+        run_plan: |record, plan, goal, room| {
+            let answer = Plain.run_plan(record, plan, goal, room);
             if answered(answer) {
                 room[hits(answer)..].fill(0);
             }
@@ -165,15 +118,15 @@ fn a_room_cleared_behind_the_hits() {
 #[test]
 fn room_for_the_hits_alone() {
     found(Altered {
-        run_plan: |table, plan, goal, room| {
+        run_plan: |record, plan, goal, room| {
             let mut enough = [0; 64];
-            let answer = Plain.run_plan(table, plan, goal, &mut enough);
+            let answer = Plain.run_plan(record, plan, goal, &mut enough);
             let count = hits(answer);
             if answered(answer) && count <= room.len() {
                 room[..count].copy_from_slice(&enough[..count]);
                 return answer;
             }
-            Plain.run_plan(table, plan, goal, room)
+            Plain.run_plan(record, plan, goal, room)
         },
         ..RIGHT
     });
@@ -182,11 +135,11 @@ fn room_for_the_hits_alone() {
 #[test]
 fn one_variable_read_as_two() {
     found(Altered {
-        run_plan: |table, plan, goal, room| {
+        run_plan: |record, plan, goal, room| {
             let mut variables = 0..;
             let apart: Vec<u32> = goal.iter().map(|&cell| if cell >> 16 == 0 { variables.next().unwrap() } else { cell }).collect();
-            let sound = answered(Plain.read_goal(table, goal));
-            Plain.run_plan(table, plan, if sound { &apart } else { goal }, room)
+            let sound = answered(Plain.read_goal(record, goal));
+            Plain.run_plan(record, plan, if sound { &apart } else { goal }, room)
         },
         ..RIGHT
     });
@@ -195,8 +148,8 @@ fn one_variable_read_as_two() {
 #[test]
 fn only_the_first_hit() {
     found(Altered {
-        run_plan: |table, plan, goal, room| {
-            let answer = Plain.run_plan(table, plan, goal, room);
+        run_plan: |record, plan, goal, room| {
+            let answer = Plain.run_plan(record, plan, goal, room);
             if answered(answer) && hits(answer) > 1 {
                 answer & !0xffff_0000 | 1 << 16
             } else {
@@ -210,9 +163,9 @@ fn only_the_first_hit() {
 #[test]
 fn every_branch_counted_as_tried() {
     found(Altered {
-        run_plan: |table, plan, goal, room| {
-            let answer = Plain.run_plan(table, plan, goal, room);
-            match read_table(table).ok().and_then(|table| check(&table, plan).ok()) {
+        run_plan: |record, plan, goal, room| {
+            let answer = Plain.run_plan(record, plan, goal, room);
+            match read_table(table_in(record)).ok().and_then(|table| check(&table, plan).ok()) {
                 Some(plan) if answered(answer) => answer & 0xffff_ffff | (plan.branches.len() as u64) << 32,
                 _ => answer,
             }
@@ -306,8 +259,8 @@ fn a_blank_that_is_always_the_same_variable() {
 fn replies_that_are_wrong_in_one_thing() {
     // The goal's cells as they came, for each hit.
     found(Altered {
-        replies: |table, plan, goal, room| {
-            let answer = Plain.replies(table, plan, goal, room);
+        replies: |record, plan, goal, room| {
+            let answer = Plain.replies(record, plan, goal, room);
             for reply in room.chunks_mut(goal.len().max(1)).take(if answered(answer) { hits(answer) } else { 0 }) {
                 reply.copy_from_slice(&goal[..reply.len()]);
             }
@@ -319,7 +272,7 @@ fn replies_that_are_wrong_in_one_thing() {
     found(Altered { replies: |_, _, _, _| 0, ..RIGHT });
     // ROOM at the number of replies.
     found(Altered {
-        replies: |table, plan, goal, room| match Plain.replies(table, plan, goal, room) {
+        replies: |record, plan, goal, room| match Plain.replies(record, plan, goal, room) {
             room if room & 0xff == 16 => 16 | 4 << 8 | 1 << 16,
             answer => answer,
         },
@@ -327,8 +280,8 @@ fn replies_that_are_wrong_in_one_thing() {
     });
     // A cell more than is answered.
     found(Altered {
-        replies: |table, plan, goal, room| {
-            let answer = Plain.replies(table, plan, goal, room);
+        replies: |record, plan, goal, room| {
+            let answer = Plain.replies(record, plan, goal, room);
             if answered(answer) {
                 if let Some(cell) = room.get_mut((answer >> 32) as usize) {
                     *cell = 0;
@@ -348,9 +301,9 @@ fn found_in_replies(wrong: Replies) {
 }
 
 /// The right refusals of table, plan and goal, but other replies.
-fn with_replies(table: &[u32], plan: &[u32], goal: &[u32], room: &mut [u32], change: impl FnOnce(Vec<Vec<u32>>) -> Vec<Vec<u32>>) -> u64 {
-    let Ok(right) = all(table, plan, goal) else {
-        return Plain.replies(table, plan, goal, room);
+fn with_replies(record: &Record, plan: &[u32], goal: &[u32], room: &mut [u32], change: impl FnOnce(Vec<Vec<u32>>) -> Vec<Vec<u32>>) -> u64 {
+    let Ok(right) = all(table_in(record), plan, goal) else {
+        return Plain.replies(record, plan, goal, room);
     };
     let changed = change(right);
     let cells = changed.concat();
@@ -368,14 +321,14 @@ fn is_variable(cell: u32) -> bool {
 #[test]
 fn variables_not_numbered_anew() {
     // Numbered from one, through all replies, and each time another.
-    found_in_replies(|table, plan, goal, room| {
-        with_replies(table, plan, goal, room, |mut replies| {
+    found_in_replies(|record, plan, goal, room| {
+        with_replies(record, plan, goal, room, |mut replies| {
             replies.iter_mut().flatten().filter(|cell| is_variable(**cell)).for_each(|cell| *cell += 1);
             replies
         })
     });
-    found_in_replies(|table, plan, goal, room| {
-        with_replies(table, plan, goal, room, |mut replies| {
+    found_in_replies(|record, plan, goal, room| {
+        with_replies(record, plan, goal, room, |mut replies| {
             let mut before = 0;
             for reply in &mut replies {
                 let variables = reply.iter().filter(|cell| is_variable(**cell)).max().map_or(0, |last| last + 1);
@@ -385,8 +338,8 @@ fn variables_not_numbered_anew() {
             replies
         })
     });
-    found_in_replies(|table, plan, goal, room| {
-        with_replies(table, plan, goal, room, |mut replies| {
+    found_in_replies(|record, plan, goal, room| {
+        with_replies(record, plan, goal, room, |mut replies| {
             for reply in &mut replies {
                 reply.iter_mut().filter(|cell| is_variable(**cell)).zip(0..).for_each(|(cell, number)| *cell = number);
             }
@@ -397,18 +350,18 @@ fn variables_not_numbered_anew() {
 
 #[test]
 fn only_the_first_hits_reply() {
-    found_in_replies(|table, plan, goal, room| with_replies(table, plan, goal, room, |replies| replies.into_iter().take(1).collect()));
+    found_in_replies(|record, plan, goal, room| with_replies(record, plan, goal, room, |replies| replies.into_iter().take(1).collect()));
 }
 
 #[test]
 fn the_last_hit_first() {
-    found_in_replies(|table, plan, goal, room| with_replies(table, plan, goal, room, |replies| replies.into_iter().rev().collect()));
+    found_in_replies(|record, plan, goal, room| with_replies(record, plan, goal, room, |replies| replies.into_iter().rev().collect()));
 }
 
 #[test]
 fn one_reply_for_equal_rows() {
-    found_in_replies(|table, plan, goal, room| {
-        with_replies(table, plan, goal, room, |mut replies| {
+    found_in_replies(|record, plan, goal, room| {
+        with_replies(record, plan, goal, room, |mut replies| {
             replies.dedup();
             replies
         })
@@ -417,11 +370,12 @@ fn one_reply_for_equal_rows() {
 
 #[test]
 fn the_rows_cells_for_the_reply() {
-    found_in_replies(|table, plan, goal, room| {
-        with_replies(table, plan, goal, room, |_| {
+    found_in_replies(|record, plan, goal, room| {
+        with_replies(record, plan, goal, room, |_| {
+            let table = table_in(record);
             let read = read_table(table).expect("the table was accepted");
             let mut hits = [0; 64];
-            let answer = Plain.run_plan(table, plan, goal, &mut hits);
+            let answer = Plain.run_plan(record, plan, goal, &mut hits);
             let rows = hits[..self::hits(answer)].iter().map(|&hit| &read.rows[hit as usize]);
             rows.map(|row| table[row.start..row.start + row.cells].to_vec()).collect()
         })
@@ -430,13 +384,13 @@ fn the_rows_cells_for_the_reply() {
 
 #[test]
 fn the_goal_as_it_came() {
-    found_in_replies(|table, plan, goal, room| with_replies(table, plan, goal, room, |replies| replies.iter().map(|_| goal.to_vec()).collect()));
+    found_in_replies(|record, plan, goal, room| with_replies(record, plan, goal, room, |replies| replies.iter().map(|_| goal.to_vec()).collect()));
 }
 
 #[test]
 fn a_name_for_a_free_variable() {
-    found_in_replies(|table, plan, goal, room| {
-        with_replies(table, plan, goal, room, |mut replies| {
+    found_in_replies(|record, plan, goal, room| {
+        with_replies(record, plan, goal, room, |mut replies| {
             replies.iter_mut().flatten().filter(|cell| is_variable(**cell)).for_each(|cell| *cell = 1 << 30);
             replies
         })
@@ -445,9 +399,9 @@ fn a_name_for_a_free_variable() {
 
 #[test]
 fn a_reply_for_every_row() {
-    found_in_replies(|table, plan, goal, room| {
-        with_replies(table, plan, goal, room, |mut replies| {
-            replies.resize(table[1] as usize, goal.to_vec());
+    found_in_replies(|record, plan, goal, room| {
+        with_replies(record, plan, goal, room, |mut replies| {
+            replies.resize(table_in(record)[1] as usize, goal.to_vec());
             replies
         })
     });
@@ -455,8 +409,8 @@ fn a_reply_for_every_row() {
 
 #[test]
 fn the_two_values_exchanged() {
-    found_in_replies(|table, plan, goal, room| {
-        let answer = Plain.replies(table, plan, goal, room);
+    found_in_replies(|record, plan, goal, room| {
+        let answer = Plain.replies(record, plan, goal, room);
         if answered(answer) {
             (answer >> 32 & 0xffff) << 16 | (answer >> 16 & 0xffff) << 32
         } else {
@@ -468,35 +422,35 @@ fn the_two_values_exchanged() {
 #[test]
 fn a_place_that_is_not_the_sum() {
     // The number of replies, the largest reply, and the sum's last 8 bits.
-    found_in_replies(|table, plan, goal, room| {
-        let answer = Plain.replies(table, plan, goal, room);
+    found_in_replies(|record, plan, goal, room| {
+        let answer = Plain.replies(record, plan, goal, room);
         if number(answer) == 16 {
-            0x410 | (all(table, plan, goal).map_or(0, |replies| replies.len()) as u64) << 16
+            0x410 | (all(table_in(record), plan, goal).map_or(0, |replies| replies.len()) as u64) << 16
         } else {
             answer
         }
     });
-    found_in_replies(|table, plan, goal, room| {
-        let answer = Plain.replies(table, plan, goal, room);
-        let largest = all(table, plan, goal).ok().and_then(|replies| replies.iter().map(Vec::len).max());
+    found_in_replies(|record, plan, goal, room| {
+        let answer = Plain.replies(record, plan, goal, room);
+        let largest = all(table_in(record), plan, goal).ok().and_then(|replies| replies.iter().map(Vec::len).max());
         if number(answer) == 16 {
             0x410 | (largest.unwrap_or(0) as u64) << 16
         } else {
             answer
         }
     });
-    found_in_replies(|table, plan, goal, room| {
-        let answer = Plain.replies(table, plan, goal, room);
+    found_in_replies(|record, plan, goal, room| {
+        let answer = Plain.replies(record, plan, goal, room);
         answer & if number(answer) == 16 { 0xff_ffff } else { u64::MAX }
     });
 }
 
 #[test]
 fn replies_written_before_the_room_is_known() {
-    found_in_replies(|table, plan, goal, room| {
-        let answer = Plain.replies(table, plan, goal, room);
+    found_in_replies(|record, plan, goal, room| {
+        let answer = Plain.replies(record, plan, goal, room);
         if number(answer) == 16 {
-            let cells = all(table, plan, goal).expect("only the room was refused").concat();
+            let cells = all(table_in(record), plan, goal).expect("only the room was refused").concat();
             room.copy_from_slice(&cells[..room.len()]);
         }
         answer
@@ -505,8 +459,8 @@ fn replies_written_before_the_room_is_known() {
 
 #[test]
 fn a_room_cleared_behind_the_replies() {
-    found_in_replies(|table, plan, goal, room| {
-        let answer = Plain.replies(table, plan, goal, room);
+    found_in_replies(|record, plan, goal, room| {
+        let answer = Plain.replies(record, plan, goal, room);
         if answered(answer) {
             room[(answer >> 32) as usize..].fill(0);
         }
@@ -516,22 +470,22 @@ fn a_room_cleared_behind_the_replies() {
 
 #[test]
 fn a_room_that_is_wanted_whole() {
-    found_in_replies(|table, plan, goal, room| {
-        let needed = all(table, plan, goal).map_or(0, |replies| replies.concat().len());
+    found_in_replies(|record, plan, goal, room| {
+        let needed = all(table_in(record), plan, goal).map_or(0, |replies| replies.concat().len());
         if needed > 0 && room.len() == needed {
             0x410 | (needed as u64) << 16
         } else {
-            Plain.replies(table, plan, goal, room)
+            Plain.replies(record, plan, goal, room)
         }
     });
 }
 
 #[test]
 fn the_goal_refused_before_the_plan() {
-    found_in_replies(|table, plan, goal, room| {
-        let read = Plain.read_goal(table, goal);
+    found_in_replies(|record, plan, goal, room| {
+        let read = Plain.read_goal(record, goal);
         if answered(read) {
-            Plain.replies(table, plan, goal, room)
+            Plain.replies(record, plan, goal, room)
         } else {
             read
         }

@@ -3,6 +3,8 @@
 mod notation;
 
 use dudowiej_bench::engine::{Definition, Engine, Exported, Plain};
+use dudowiej_bench::make::records;
+use dudowiej_bench::model::record::Record;
 use dudowiej_bench::shift::compare::compare;
 use dudowiej_bench::shift::{Job, Shift};
 use notation::{goal, plan, table};
@@ -12,9 +14,9 @@ fn job(start: usize, count: usize) -> Job {
     Job { start, count, number: 7, place: 7, hits: 7, tried: 7 }
 }
 
-/// P2's table with its least plan, and goals among twelve cells: `a v0 v0 v1 v0 v0 b c c c d a`.
-fn p2() -> (Vec<u32>, Vec<u32>, Vec<u32>) {
-    (table("(a,b) (b,c) (a,d)"), plan("0 3 a 0 1 b 1 b 0 1 c 1 a 0 1 d 1"), goal("(a,v0,v0,v1,v0,v0,b,c,c,c,d,a)"))
+/// P2's record with its least plan, and goals among twelve cells: `a v0 v0 v1 v0 v0 b c c c d a`.
+fn p2() -> (Box<Record>, Vec<u32>, Vec<u32>) {
+    (records::worked_out(&table("(a,b) (b,c) (a,d)"), 0), plan("0 3 a 0 1 b 1 b 0 1 c 1 a 0 1 d 1"), goal("(a,v0,v0,v1,v0,v0,b,c,c,c,d,a)"))
 }
 
 #[test]
@@ -34,10 +36,10 @@ fn records_as_they_are_read() {
         (11, 2, [1, 0, 0, 0]),
         (MAX, MAX, [1, 0, 0, 0]),
     ];
-    let (table, plan, cells) = p2();
+    let (record, plan, cells) = p2();
     for engine in [&Exported as &dyn Shift, &Plain, &Definition] {
         let mut jobs: Vec<Job> = wanted.iter().map(|&(start, count, _)| job(start, count)).collect();
-        assert_eq!(engine.run_jobs(&table, &plan, &cells, &mut jobs), 6 << 16);
+        assert_eq!(engine.run_jobs(&record, &plan, &cells, &mut jobs), 6 << 16);
         for (job, (start, count, [number, place, hits, tried])) in jobs.iter().zip(wanted) {
             assert_eq!(*job, Job { start, count, number, place, hits: hits as u64, tried });
         }
@@ -45,23 +47,23 @@ fn records_as_they_are_read() {
         let longer = [&plan[..], &[0]].concat();
         let extra = 9 | 2 << 8 | (plan.len() as u64) << 16;
         let mut untouched = [job(0, 2)];
-        assert_eq!(engine.run_jobs(&table, &longer, &cells, &mut untouched), extra);
+        assert_eq!(engine.run_jobs(&record, &longer, &cells, &mut untouched), extra);
         assert_eq!(untouched, [job(0, 2)]);
-        assert_eq!(engine.run_jobs(&table, &longer, &cells, &mut []), extra);
-        assert_eq!(engine.run_jobs(&table, &plan, &[], &mut []), 6 << 16);
+        assert_eq!(engine.run_jobs(&record, &longer, &cells, &mut []), extra);
+        assert_eq!(engine.run_jobs(&record, &plan, &[], &mut []), 6 << 16);
     }
 }
 
 /// An engine that does something after, or in place of, the right thing.
-struct Altered(fn(&[u32], &[u32], &[u32], &mut [Job]) -> u64);
+struct Altered(fn(&Record, &[u32], &[u32], &mut [Job]) -> u64);
 
 impl Shift for Altered {
-    fn run_jobs(&self, table: &[u32], plan: &[u32], cells: &[u32], jobs: &mut [Job]) -> u64 {
-        (self.0)(table, plan, cells, jobs)
+    fn run_jobs(&self, record: &Record, plan: &[u32], cells: &[u32], jobs: &mut [Job]) -> u64 {
+        (self.0)(record, plan, cells, jobs)
     }
 }
 
-fn found(wrong: fn(&[u32], &[u32], &[u32], &mut [Job]) -> u64) {
+fn found(wrong: fn(&Record, &[u32], &[u32], &mut [Job]) -> u64) {
     assert!(compare(&Altered(wrong), 200, 1).differ() > 0);
 }
 
@@ -73,8 +75,8 @@ fn a_right_one_passes() {
 
 #[test]
 fn the_hits_of_the_goal_before_left() {
-    found(|table, plan, cells, jobs| {
-        let answer = Plain.run_jobs(table, plan, cells, jobs);
+    found(|record, plan, cells, jobs| {
+        let answer = Plain.run_jobs(record, plan, cells, jobs);
         for next in 1..jobs.len() {
             if answer & 0xff == 0 && jobs[next].number != 0 {
                 jobs[next].hits = jobs[next - 1].hits;
@@ -86,21 +88,21 @@ fn the_hits_of_the_goal_before_left() {
 
 #[test]
 fn a_refused_goal_that_stops_the_list() {
-    found(|table, plan, cells, jobs| {
+    found(|record, plan, cells, jobs| {
         for next in 0..jobs.len() {
-            Plain.run_jobs(table, plan, cells, &mut jobs[next..next + 1]);
+            Plain.run_jobs(record, plan, cells, &mut jobs[next..next + 1]);
             if jobs[next].number != 0 {
                 break;
             }
         }
-        Plain.check_plan(table, plan)
+        Plain.check_plan(record, plan)
     });
 }
 
 #[test]
 fn a_start_that_overflows_with_the_count() {
-    found(|table, plan, cells, jobs| {
-        let answer = Plain.run_jobs(table, plan, cells, jobs);
+    found(|record, plan, cells, jobs| {
+        let answer = Plain.run_jobs(record, plan, cells, jobs);
         for job in jobs {
             if answer & 0xff == 0 && job.start > cells.len() && job.start.wrapping_add(job.count) <= cells.len() {
                 *job = Job { number: 0, ..*job };
@@ -112,16 +114,16 @@ fn a_start_that_overflows_with_the_count() {
 
 #[test]
 fn only_the_first_record() {
-    found(|table, plan, cells, jobs| {
+    found(|record, plan, cells, jobs| {
         let first = jobs.len().min(1);
-        Plain.run_jobs(table, plan, cells, &mut jobs[..first])
+        Plain.run_jobs(record, plan, cells, &mut jobs[..first])
     });
 }
 
 #[test]
 fn records_touched_although_the_plan_is_refused() {
-    found(|table, plan, cells, jobs| {
-        let answer = Plain.run_jobs(table, plan, cells, jobs);
+    found(|record, plan, cells, jobs| {
+        let answer = Plain.run_jobs(record, plan, cells, jobs);
         if answer & 0xff != 0 {
             jobs.iter_mut().for_each(|job| job.tried = 0);
         }
@@ -131,8 +133,8 @@ fn records_touched_although_the_plan_is_refused() {
 
 #[test]
 fn places_counted_from_the_first_lent_cell() {
-    found(|table, plan, cells, jobs| {
-        let answer = Plain.run_jobs(table, plan, cells, jobs);
+    found(|record, plan, cells, jobs| {
+        let answer = Plain.run_jobs(record, plan, cells, jobs);
         for job in jobs {
             if answer & 0xff == 0 && job.number > 1 {
                 job.place += job.start;

@@ -2,15 +2,9 @@
  *
  * usage: shift FILE    (samples/shop.cells; samples/README.md has the numbers of the names) */
 
-#include <stdio.h>
+#include "shop.h"
 
-#include "dudowiej.h"
-
-#define VARIABLE(n) ((uint32_t)(n))
-#define NAME(n, arguments) (1u << 30 | (uint32_t)(arguments) << 16 | (uint32_t)(n))
-#define NUMBER(n) (2u << 30 | (uint32_t)(n))
-
-/* The record lies in memory as the library writes it. */
+/* A job lies in memory as the library writes it. */
 _Static_assert(sizeof(struct dudowiej_job) == 48, "six words of 64 bits");
 _Static_assert(offsetof(struct dudowiej_job, start) == 0 && offsetof(struct dudowiej_job, count) == 8, "where the goal's cells are");
 _Static_assert(offsetof(struct dudowiej_job, number) == 16 && offsetof(struct dudowiej_job, place) == 24, "its refusal");
@@ -18,26 +12,17 @@ _Static_assert(offsetof(struct dudowiej_job, hits) == 32 && offsetof(struct dudo
 
 enum { GOALS = 360, GOAL_CELLS = 4 };
 
-static uint32_t table[DUDOWIEJ_TABLE_CELLS + 1];
+static dudowiej_record record;
 static uint32_t plan[DUDOWIEJ_PLAN_CELLS];
 static uint32_t cells[GOALS * GOAL_CELLS];
 static struct dudowiej_job jobs[GOALS];
 
-/* Cells of a file; the library is for x86-64, where they lie in memory as in the file. */
-static size_t load(const char *path, uint32_t *to, size_t room) {
-    FILE *file = fopen(path, "rb");
-    if (!file) return 0;
-    size_t count = fread(to, sizeof *to, room, file);
-    fclose(file);
-    return count;
-}
-
-/* A goal for each urgency, enamel, piece and firing, any of them blank: its cells one after another, its record beside them. */
+/* A goal for each urgency, enamel, piece and firing, any of them blank: its cells one after another, its job beside them. */
 static void ask_everything(void) {
     static const uint32_t urgencies[] = {NUMBER(9), NUMBER(10), NUMBER(1), VARIABLE(0)};
-    static const uint32_t enamels[] = {NAME(1, 0), NAME(2, 0), NAME(3, 0), NAME(4, 0), VARIABLE(0)};
-    static const uint32_t pieces[] = {NAME(11, 0), NAME(12, 0), VARIABLE(0)};
-    static const uint32_t firings[] = {NAME(31, 0), NAME(32, 0), NAME(33, 0), NUMBER(820), NAME(34, 0), VARIABLE(0)};
+    static const uint32_t enamels[] = {NAME(RED, 0), NAME(BLUE, 0), NAME(WHITE, 0), NAME(BLACK, 0), VARIABLE(0)};
+    static const uint32_t pieces[] = {NAME(RING, 0), NAME(BROOCH, 0), VARIABLE(0)};
+    static const uint32_t firings[] = {NAME(SOFT, 0), NAME(MEDIUM, 0), NAME(HARD, 0), NUMBER(820), NAME(HEAT, 0), VARIABLE(0)};
     const uint32_t *columns[] = {urgencies, enamels, pieces, firings};
     const size_t sizes[] = {4, 5, 3, 6};
     for (size_t goal = 0; goal < GOALS; goal++) {
@@ -65,8 +50,8 @@ static void print_shift(size_t rows) {
     }
 }
 
-/* Records by themselves: cells that others use too, and jobs that are turned away. */
-static void print_some(size_t table_cells, size_t plan_cells) {
+/* Jobs by themselves: cells that others use too, and jobs that are turned away. */
+static void print_some(size_t plan_cells) {
     struct dudowiej_job some[] = {
         {.start = 0, .count = 4},
         {.start = 4, .count = 4},
@@ -76,7 +61,7 @@ static void print_some(size_t table_cells, size_t plan_cells) {
         {.start = SIZE_MAX, .count = SIZE_MAX},
     };
     size_t count = sizeof some / sizeof some[0];
-    dudowiej_run_jobs(table, table_cells, plan, plan_cells, cells, GOALS * GOAL_CELLS, some, count);
+    dudowiej_run_jobs(&record, plan, plan_cells, cells, GOALS * GOAL_CELLS, some, count);
     for (size_t job = 0; job < count; job++) {
         if (some[job].number != 0)
             printf("job %zu: refused, %zu at %zu\n", job, some[job].number, some[job].place);
@@ -90,17 +75,13 @@ int main(int argc, char **argv) {
         fprintf(stderr, "usage: shift FILE\n");
         return 2;
     }
-    size_t table_cells = load(argv[1], table, DUDOWIEJ_TABLE_CELLS + 1);
-    uint64_t built = dudowiej_build_plan(table, table_cells, 0, plan, DUDOWIEJ_PLAN_CELLS);
-    size_t plan_cells = dudowiej_first(built);
+    int status = work_file_out("shift", argv[1], 0, &record);
+    if (status != 0) return status;
+    size_t plan_cells = dudowiej_first(dudowiej_build_plan(&record, plan, DUDOWIEJ_PLAN_CELLS));
     ask_everything();
-    uint64_t ran = dudowiej_run_jobs(table, table_cells, plan, plan_cells, cells, GOALS * GOAL_CELLS, jobs, GOALS);
-    if (dudowiej_refused(built) || dudowiej_refused(ran)) {
-        fprintf(stderr, "shift: no table of a shop in %s\n", argv[1]);
-        return 1;
-    }
+    uint64_t ran = dudowiej_run_jobs(&record, plan, plan_cells, cells, GOALS * GOAL_CELLS, jobs, GOALS);
     printf("plan: %u branches\n", dudowiej_first(ran));
-    print_shift(dudowiej_second(dudowiej_read_table(table, table_cells)));
-    print_some(table_cells, plan_cells);
+    print_shift(dudowiej_table(&record)[1]);
+    print_some(plan_cells);
     return 0;
 }

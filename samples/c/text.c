@@ -1,5 +1,5 @@
-/* A shop's table from Prolog text in C: loads the facts, builds the plan, and prints the rules that fit some jobs and what each rule says
- * to the job, in the text's own names.
+/* A shop's table from Prolog text in C: loads the facts, works the table out, builds the plan, and prints the rules that fit some jobs and
+ * what each rule says to the job, in the text's own names.
  *
  * usage: text FILE    (samples/shop.pl) */
 
@@ -8,13 +8,14 @@
 
 #include "dudowiej.h"
 
-/* A text, its table with the list of names, and a plan. Of bytes there is room for one more than a text may have, so that too long a file
- * is seen to be one. */
+/* A text, its table with the list of names, the table worked out, and a plan. Of bytes there is room for one more than a text may have, so
+ * that too long a file is seen to be one. */
 static uint8_t text[DUDOWIEJ_TEXT_BYTES + 1];
 static uint32_t table[DUDOWIEJ_TABLE_CELLS];
 static uint32_t names[DUDOWIEJ_NAMES];
+static dudowiej_record record;
 static uint32_t plan[DUDOWIEJ_PLAN_CELLS];
-static size_t table_cells, names_count, plan_cells;
+static size_t names_count, plan_cells;
 
 /* What the rules say to a job: enough for every job of every table. */
 enum { REPLIES_CELLS = DUDOWIEJ_ROWS * DUDOWIEJ_REPLY_CELLS };
@@ -86,11 +87,12 @@ static int prepare(const char *path) {
 
     uint64_t read = dudowiej_read_text(text, bytes, table, DUDOWIEJ_TABLE_CELLS, names, DUDOWIEJ_NAMES);
     if (refused(stderr, "text", read)) return 1;
-    table_cells = dudowiej_first(read);
     names_count = dudowiej_second(read);
     printf("text: %u rules of %u columns, %zu names\n", table[1], table[0], names_count);
 
-    uint64_t built = dudowiej_build_plan(table, table_cells, 0, plan, DUDOWIEJ_PLAN_CELLS);
+    /* A choice between branches costs nothing. */
+    if (refused(stderr, "text", dudowiej_work_out(table, dudowiej_first(read), 0, &record))) return 1;
+    uint64_t built = dudowiej_build_plan(&record, plan, DUDOWIEJ_PLAN_CELLS);
     if (refused(stderr, "text", built)) return 1;
     plan_cells = dudowiej_first(built);
     printf("plan: cost %u with figure 0\n", dudowiej_second(built));
@@ -100,18 +102,18 @@ static int prepare(const char *path) {
 /* Prints the rules that fit a job, and below each what it says: the job with the rule's bindings filled in. */
 static void ask(const uint32_t *goal, size_t goal_cells) {
     uint8_t rows[DUDOWIEJ_ROWS];
-    uint64_t run = dudowiej_run_plan(table, table_cells, plan, plan_cells, goal, goal_cells, rows, sizeof rows);
+    uint64_t run = dudowiej_run_plan(&record, plan, plan_cells, goal, goal_cells, rows, sizeof rows);
     if (refused(stdout, "\njob", run)) return;
-    uint64_t said = dudowiej_replies(table, table_cells, plan, plan_cells, goal, goal_cells, replies, REPLIES_CELLS);
+    uint64_t said = dudowiej_replies(&record, plan, plan_cells, goal, goal_cells, replies, REPLIES_CELLS);
     if (refused(stdout, "\njob", said)) return;
     printf("\njob: ");
     print_columns(goal);
     /* There is a reply for each hit, in the same order. */
     const uint32_t *reply = replies;
     for (uint32_t hit = 0; hit < dudowiej_first(run); hit++) {
-        uint64_t row = dudowiej_row(table, table_cells, rows[hit]);
+        uint64_t row = dudowiej_row(&record, rows[hit]);
         printf("  rule %u: ", rows[hit]);
-        print_columns(table + dudowiej_first(row));
+        print_columns(dudowiej_table(&record) + dudowiej_first(row));
         printf("    says: ");
         reply = print_columns(reply);
     }

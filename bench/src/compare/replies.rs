@@ -1,12 +1,13 @@
 //! What the rules say (02, W-203): the request's table with its replies written down, 01's examples, large replies, then random tables, plans and
 //! goals. Each with rooms too small, just enough and larger.
 
-use super::{lend, Comparison, Entry, MARGIN};
+use super::{lend, Comparison, Entry};
 use crate::engine::{Definition, Engine};
-use crate::make::{damage, goals, plans, tables};
+use crate::make::{damage, goals, plans, records, tables};
 use crate::model::least::least;
 use crate::model::plan::grow;
 use crate::model::read::{read_goal, read_table, Table};
+use crate::model::record::{table_in, Record};
 use crate::model::replies::{all, holds};
 use crate::model::run::hits;
 use crate::notation::{goal, table};
@@ -62,9 +63,10 @@ impl<E: Engine> Comparison<'_, E> {
         for (rows, asked, room, answer) in ROOMS {
             let (table, asked) = (table(rows), goal(asked));
             let plan = read_table(&table).map(|read| least(&read).write()).expect("a sound table");
-            let found = Definition.replies(&table, &plan, &asked, &mut vec![7; room]);
+            let record = records::holding(&mut self.random, &table);
+            let found = Definition.replies(&record, &plan, &asked, &mut vec![7; room]);
             self.tally.own("answers for replies against those written down", found == answer, &|| format!("{rows}: {found:#x}"));
-            self.replies_in(&table, &plan, &asked, room);
+            self.replies_in(&record, &plan, &asked, room);
         }
         for (rows, asked, said) in WRITTEN {
             let (table, asked) = (table(rows), goal(asked));
@@ -78,7 +80,8 @@ impl<E: Engine> Comparison<'_, E> {
             self.rows_as_goals(&table(rows));
         }
         for table in REFUSED {
-            self.replies_in(table, &[0, 1, 0, 1], &[0], ENOUGH);
+            let record = records::holding(&mut self.random, table);
+            self.replies_in(&record, &[0, 1, 0, 1], &[0], ENOUGH);
         }
         let (table, goal) = tables::longest_replies();
         self.every_room(&table, &read_table(&table).expect("a sound table"), &goal);
@@ -97,11 +100,12 @@ impl<E: Engine> Comparison<'_, E> {
     /// No room, one cell too few, just enough, one more, many more, and what is enough for all; with plans that look at the first open place, at the
     /// last, and the builder's.
     fn every_room(&mut self, table: &[u32], read: &Table, goal: &[u32]) {
+        let record = records::holding(&mut self.random, table);
         let orders = [least(read), grow(read, |_, _| 0), grow(read, |open, rows| open.places(rows) - 1)];
         for plan in orders.map(|plan| plan.write()) {
             let needed = needed(table, &plan, goal);
             for room in [0, needed.saturating_sub(1), needed, needed + 1, needed + ONE, ENOUGH] {
-                self.replies_in(table, &plan, goal, room);
+                self.replies_in(&record, &plan, goal, room);
             }
         }
     }
@@ -121,28 +125,29 @@ impl<E: Engine> Comparison<'_, E> {
             read = read_table(&table).ok().or(read);
         }
         let read = read.expect("the table was sound");
+        let record = records::holding(&mut self.random, &table);
         for _ in 0..2 {
             let mut plan = plans::any(&mut self.random, &read);
             if self.random.one_in(5) {
                 damage::plan(&mut self.random, &mut plan);
             }
             let goal = if heavy && read.width > 1 && !self.random.one_in(4) { goals::repeating(&mut self.random, &read) } else { self.goal(&read) };
-            self.replies(&table, &plan, &goal);
+            self.replies(&record, &plan, &goal);
         }
     }
 
     /// With a room too small, just enough or larger.
-    pub(super) fn replies(&mut self, table: &[u32], plan: &[u32], goal: &[u32]) {
-        let needed = needed(table, plan, goal);
+    pub(super) fn replies(&mut self, record: &Record, plan: &[u32], goal: &[u32]) {
+        let needed = needed(table_in(record), plan, goal);
         let room = self.room(needed, needed + ONE);
-        self.replies_in(table, plan, goal, room);
+        self.replies_in(record, plan, goal, room);
     }
 
-    fn replies_in(&mut self, table: &[u32], plan: &[u32], goal: &[u32], room: usize) {
-        let first = self.random.number() as u32;
-        let lent: Vec<u32> = (0..(room + 2 * MARGIN) as u32).map(|place| first.wrapping_add(place.wrapping_mul(0x9e37_79b9))).collect();
-        let (answer, left) = lend(&lent, |room| self.exported.replies(table, plan, goal, room));
-        let (expected, wanted) = lend(&lent, |room| Definition.replies(table, plan, goal, room));
+    fn replies_in(&mut self, record: &Record, plan: &[u32], goal: &[u32], room: usize) {
+        let lent = self.lent(room);
+        let (answer, left) = lend(&lent, |room| self.exported.replies(record, plan, goal, room));
+        let (expected, wanted) = lend(&lent, |room| Definition.replies(record, plan, goal, room));
+        let table = table_in(record);
         let describe = || format!("table {table:?} plan {plan:?} goal {goal:?} room {room}");
         self.tally.settle(Entry::Replies, answer, expected, left == wanted, &describe);
         let replies = all(table, plan, goal).unwrap_or_default();

@@ -1,9 +1,9 @@
 //! Families that are small enough to be compared whole: every table, goal and plan of a few cells over a few symbols, and every single damage to
 //! some plans.
 
-use super::Comparison;
+use super::{Comparison, FIGURES};
 use crate::engine::Engine;
-use crate::make::goals;
+use crate::make::{goals, records};
 use crate::model::least::least;
 use crate::model::plan::grow;
 use crate::model::read::read_table;
@@ -32,12 +32,12 @@ impl<E: Engine> Comparison<'_, E> {
                     return;
                 };
                 self.search(&read);
-                self.build(&table);
-                let plan = least(&read).write();
-                self.check_plan(&table, &plan);
-                self.run(&table, &plan, &goals::open(read.width), read.rows.len());
-                self.run(&table, &plan, &vec![0; read.width], read.rows.len());
-                self.replies(&table, &plan, &vec![0; read.width]);
+                self.build(&table, &FIGURES);
+                let (record, plan) = (records::holding(&mut self.random, &table), least(&read).write());
+                self.check_plan(&record, &plan);
+                self.run(&record, &plan, &goals::open(read.width), read.rows.len());
+                self.run(&record, &plan, &vec![0; read.width], read.rows.len());
+                self.replies(&record, &plan, &vec![0; read.width]);
             });
         }
         words(&[0, 1, 2, u32::MAX], 2, &mut |table| self.read_table(table));
@@ -47,11 +47,11 @@ impl<E: Engine> Comparison<'_, E> {
     fn short_goals(&mut self) {
         let table = [2, 5, A, F1, 0, 0, 1, F1, A, NINE, F1, 0, A, F1, F1, A, A];
         let read = read_table(&table).expect("a sound table");
-        let plan = least(&read).write();
+        let (record, plan) = (records::holding(&mut self.random, &table), least(&read).write());
         words(&[0, 1, 2, A, F1, NINE, NONE], 5, &mut |goal| {
-            self.read_goal(&table, goal);
-            self.run(&table, &plan, goal, read.rows.len());
-            self.replies(&table, &plan, goal);
+            self.read_goal(&record, goal);
+            self.run(&record, &plan, goal, read.rows.len());
+            self.replies(&record, &plan, goal);
         });
     }
 
@@ -64,7 +64,8 @@ impl<E: Engine> Comparison<'_, E> {
             (&[2, 2, A, B, A, A], [0, 1, 2, A, B, F1]),
         ];
         for (table, alphabet) in tables {
-            words(&alphabet, 5, &mut |plan| self.check_plan(table, plan));
+            let record = records::holding(&mut self.random, table);
+            words(&alphabet, 5, &mut |plan| self.check_plan(&record, plan));
         }
     }
 
@@ -78,19 +79,20 @@ impl<E: Engine> Comparison<'_, E> {
         ];
         for table in tables {
             let read = read_table(table).expect("a sound table");
+            let record = records::holding(&mut self.random, table);
             for last in [false, true] {
                 let plan = grow(&read, |open, rows| if last { open.places(rows) - 1 } else { 0 }).write();
                 for place in 0..plan.len() {
-                    self.check_plan(table, &plan[..place]);
+                    self.check_plan(&record, &plan[..place]);
                     for cell in [0, 1, 2, 3, 4, plan[place].wrapping_add(1), plan[place] ^ 1 << 16, A, B, F1, NINE, NONE, u32::MAX] {
                         let mut damaged = plan.clone();
                         damaged[place] = cell;
-                        self.check_plan(table, &damaged);
-                        self.run(table, &damaged, &goals::open(read.width), read.rows.len());
+                        self.check_plan(&record, &damaged);
+                        self.run(&record, &damaged, &goals::open(read.width), read.rows.len());
                     }
                 }
                 for cell in [0, A, u32::MAX] {
-                    self.check_plan(table, &[&plan[..], &[cell]].concat());
+                    self.check_plan(&record, &[&plan[..], &[cell]].concat());
                 }
             }
         }

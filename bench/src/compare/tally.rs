@@ -15,13 +15,22 @@ pub enum Entry {
     RunPlan,
     ReadText,
     Replies,
+    WorkOut,
+    Append,
+    DropLast,
+    Replace,
 }
 
-const ENTRIES: [&str; 8] = ["read_table", "read_goal", "row", "check_plan", "build_plan", "run_plan", "read_text", "replies"];
+const ENTRIES: [&str; 12] =
+    ["read_table", "read_goal", "row", "check_plan", "build_plan", "run_plan", "read_text", "replies", "work_out", "append", "drop_last", "replace"];
 
 /// What replies can be refused with, by input: table, plan, goal, room.
 const OF_REPLIES: [(&str, &[usize]); 4] =
     [("table", &[1, 2, 3, 4, 5, 6, 7, 8, 9]), ("plan", &[9, 10, 11, 12, 13, 14, 15]), ("goal", &[1, 5, 6, 7, 9]), ("room", &[16])];
+
+/// What an edit of a record that was worked out can be refused with.
+const OF_EDITS: [(Entry, &[usize]); 3] =
+    [(Entry::Append, &[21, 4, 5, 6, 7, 8, 9]), (Entry::DropLast, &[22]), (Entry::Replace, &[23, 4, 5, 6, 7, 8, 9])];
 
 /// How many differences are shown with their inputs.
 const SHOWN: u64 = 5;
@@ -39,6 +48,10 @@ pub struct Tally {
     /// How often replies were refused, by input from 1 and number.
     replies_refused: [[u64; NAMES.len() + 1]; OF_REPLIES.len() + 1],
     replies: Replies,
+    /// Edits of records that were worked out, by the number of the refusal and by entry.
+    edits: [[u64; ENTRIES.len()]; NAMES.len() + 1],
+    /// How often a plan was built from, or an edit made in, a record that was never worked out.
+    ended: u64,
     /// The independent implementation's parts among themselves: compared, and how many differed.
     own: BTreeMap<&'static str, (u64, u64)>,
 }
@@ -95,6 +108,20 @@ impl Tally {
         }
     }
 
+    /// What came of an edit of a record that was worked out.
+    pub fn edited(&mut self, entry: Entry, expected: u64) {
+        self.edits[(expected & 0xff) as usize][entry as usize] += 1;
+    }
+
+    /// Building from a record that was never worked out, or an edit of one: it ended, and touched nothing beside what was lent.
+    pub fn ended(&mut self, in_bounds: bool, inputs: &dyn Fn() -> String) {
+        self.ended += 1;
+        if !in_bounds {
+            self.differ += 1;
+            eprintln!("build_plan, out of bounds: {}", inputs());
+        }
+    }
+
     /// One comparison within the independent implementation.
     pub fn own(&mut self, what: &'static str, same: bool, inputs: &dyn Fn() -> String) {
         let (compared, differ) = self.own.entry(what).or_default();
@@ -134,13 +161,19 @@ impl Tally {
         OF_REPLIES.iter().enumerate().map(|(place, &(input, numbers))| (input, met(place + 1, numbers))).collect()
     }
 
+    /// What edits can be refused with, by entry, and how often they were.
+    fn edits(&self) -> Vec<(&'static str, Vec<(&'static str, u64)>)> {
+        let met = |entry: Entry, numbers: &[usize]| numbers.iter().map(|&number| (NAMES[number - 1], self.edits[number][entry as usize])).collect();
+        OF_EDITS.iter().map(|&(entry, numbers)| (ENTRIES[entry as usize], met(entry, numbers))).collect()
+    }
+
     /// Nothing differs, here or within the independent implementation, and every refusal was met.
     pub fn passed(&self) -> bool {
         self.differ == 0
             && self.own.values().all(|&(_, differ)| differ == 0)
             && self.never_met().is_empty()
             && self.texts().iter().all(|&(_, met)| met > 0)
-            && self.replies().iter().flat_map(|(_, refused)| refused).all(|&(_, met)| met > 0)
+            && self.replies().iter().chain(&self.edits()).flat_map(|(_, refused)| refused).all(|&(_, met)| met > 0)
     }
 }
 
@@ -148,29 +181,32 @@ impl fmt::Display for Tally {
     fn fmt(&self, f: &mut fmt::Formatter) -> fmt::Result {
         write!(f, "{:<12}", "")?;
         for entry in ENTRIES {
-            write!(f, "{entry:>12}")?;
+            write!(f, "{entry:>11}")?;
         }
         writeln!(f)?;
         for (number, counts) in self.counts.iter().enumerate() {
             let name = if number == 0 { "answered".to_string() } else { format!("{number} {}", NAMES[number - 1]) };
             write!(f, "{name:<12}")?;
             for count in counts {
-                write!(f, "{count:>12}")?;
+                write!(f, "{count:>11}")?;
             }
             writeln!(f)?;
         }
         writeln!(f, "hits {} tried {}", self.hits, self.tried)?;
-        let texts: Vec<String> = self.texts().iter().map(|(name, met)| format!("{name} {met}")).collect();
-        writeln!(f, "texts refused: {}", texts.join(", "))?;
+        writeln!(f, "texts refused: {}", listed(&self.texts()))?;
         let Replies { count, cells, largest, with_64, goals_of_32 } = &self.replies;
         writeln!(
             f,
             "replies {count}, cells {cells}, the largest {largest}; calls with 64 replies {with_64}, answered goals of 32 cells {goals_of_32}"
         )?;
         for (input, refused) in self.replies() {
-            let refused: Vec<String> = refused.iter().map(|(name, met)| format!("{name} {met}")).collect();
-            writeln!(f, "replies refused, {input}: {}", refused.join(", "))?;
+            writeln!(f, "replies refused, {input}: {}", listed(&refused))?;
         }
+        writeln!(f, "edits of records that were worked out: {}", self.edits.iter().flatten().sum::<u64>())?;
+        for (entry, refused) in self.edits() {
+            writeln!(f, "{entry} refused: {}", listed(&refused))?;
+        }
+        writeln!(f, "plans built from records that were never worked out, and edits made in them: {}", self.ended)?;
         for (what, (compared, differ)) in &self.own {
             writeln!(f, "{what}: {compared}, {differ} differ")?;
         }
@@ -180,4 +216,9 @@ impl fmt::Display for Tally {
         }
         write!(f, "{} compared, {} differ", self.compared(), self.differ)
     }
+}
+
+/// How often each refusal was met.
+fn listed(refused: &[(&str, u64)]) -> String {
+    refused.iter().map(|(name, met)| format!("{name} {met}")).collect::<Vec<_>>().join(", ")
 }

@@ -3,7 +3,7 @@
 mod fixed;
 
 use super::small::words;
-use super::{lend, Comparison, Entry, MARGIN};
+use super::{lend, Comparison, Entry};
 use crate::engine::{Definition, Engine};
 use crate::make::texts;
 use crate::model::grammar::{is_text, stops, stops_by_search};
@@ -103,10 +103,7 @@ impl<E: Engine> Comparison<'_, E> {
     }
 
     pub(super) fn read_text(&mut self, text: &[u8], cells: usize, names: usize) {
-        let lent: [Vec<u32>; 2] = [cells, names].map(|room| {
-            let first = self.random.number() as u32;
-            (0..(room + 2 * MARGIN) as u32).map(|place| first.wrapping_add(place.wrapping_mul(0x9e37_79b9))).collect()
-        });
+        let lent = [cells, names].map(|room| self.lent(room));
         let (answer, left) = lend_two(&lent, |cells, names| self.exported.read_text(text, cells, names));
         let (expected, wanted) = lend_two(&lent, |cells, names| Definition.read_text(text, cells, names));
         let describe = || format!("text {} rooms {cells} and {names}", shown(text));

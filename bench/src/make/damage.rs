@@ -11,11 +11,24 @@ pub fn table(random: &mut Random, cells: &mut Vec<u32>) {
         1 => cells[1] = *random.pick(&[0, 65, 66, 1 << 30, u32::MAX]),
         2 => cells[random.below(2)] = random.within(1..=8) as u32,
         3 => lengthened(random, cells, TABLE_CELLS),
-        4 => {
-            // A name that wants more arguments than there are cells left in its row.
-            let place = random.within(2..=cells.len());
-            let deep = std::iter::repeat_n(1 << 30 | (random.within(1..=4) as u32) << 16, random.within(1..=ROW_CELLS + 2));
-            cells.splice(place..place, deep);
+        4 => deepened(random, cells, 2),
+        _ => any(random, cells),
+    }
+}
+
+/// Damages a row that is to be put into a table.
+pub fn row(random: &mut Random, cells: &mut Vec<u32>) {
+    match random.below(8) {
+        0 => lengthened(random, cells, ROW_CELLS),
+        1 => cells.clear(),
+        2 => deepened(random, cells, 0),
+        3 | 4 => {
+            // A variable that is there already, or one whose turn it is not.
+            let variable = random.below(3) as u32;
+            for _ in 0..2 {
+                let place = random.below(cells.len());
+                cells[place] = variable;
+            }
         }
         _ => any(random, cells),
     }
@@ -67,6 +80,13 @@ fn any(random: &mut Random, cells: &mut Vec<u32>) {
             }
         }
     }
+}
+
+/// Puts in a name that wants more arguments than there are cells left in its row.
+fn deepened(random: &mut Random, cells: &mut Vec<u32>, first: usize) {
+    let place = random.within(first..=cells.len());
+    let deep = std::iter::repeat_n(1 << 30 | (random.within(1..=4) as u32) << 16, random.within(1..=ROW_CELLS + 2));
+    cells.splice(place..place, deep);
 }
 
 /// About as many cells as are just allowed, or too many.

@@ -63,15 +63,20 @@ pub fn table(random: &mut Random, kind: Kind, rows: usize) -> Vec<u32> {
     })
 }
 
-/// The table of these rows, each row's variables numbered from the left.
+/// The table of these rows.
 fn cells(rows: &[Row]) -> Vec<u32> {
     let mut cells = vec![rows[0].len() as u32, rows.len() as u32];
-    for row in rows {
-        let mut row = row.clone();
-        let mut variables = 0..;
-        each_variable(&mut row, &mut |_| Term::Var(variables.next().expect("numbers do not end")));
-        row.iter().for_each(|term| term.write(&mut cells));
-    }
+    rows.iter().for_each(|terms| cells.extend(row(terms)));
+    cells
+}
+
+/// The cells of a row, its variables numbered from the left.
+pub fn row(terms: &[Term]) -> Vec<u32> {
+    let mut terms = terms.to_vec();
+    let mut variables = 0..;
+    each_variable(&mut terms, &mut |_| Term::Var(variables.next().expect("numbers do not end")));
+    let mut cells = Vec::new();
+    terms.iter().for_each(|term| term.write(&mut cells));
     cells
 }
 

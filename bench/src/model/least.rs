@@ -65,12 +65,25 @@ fn leftmost_agreed(open: &Open, rows: &Range<usize>) -> Option<usize> {
     (0..open.places(rows)).find(|&place| open.run(rows.clone(), place).len() == rows.len())
 }
 
-/// What is known of a run of rows: the cost of its least plan when all places are open, and the place to take, as an index among the places
-/// that are open when those agreed by all the rows are closed.
-#[derive(Clone, Copy)]
-struct Best {
-    cost: usize,
-    place: usize,
+/// What is known of every run of rows, by its first and last row.
+pub fn every_run(table: &Table, measure: Measure) -> Vec<(usize, usize, Best)> {
+    let rows = table.rows.len();
+    let mut counts = Counts { table, measure, known: vec![None; rows * rows] };
+    runs(rows).map(|(first, last)| (first, last, counts.best(first..last + 1))).collect()
+}
+
+/// Every pair of a first and a last row that is not before it.
+fn runs(rows: usize) -> impl Iterator<Item = (usize, usize)> {
+    (0..rows).flat_map(move |first| (first..rows).map(move |last| (first, last)))
+}
+
+/// What is known of a run of rows: the cost of its least plan when all places are open; what is left of it when those agreed by all the rows
+/// are closed; and the place to take then, as an index among the places that are open then.
+#[derive(Clone, Copy, Debug, PartialEq, Eq)]
+pub struct Best {
+    pub whole: usize,
+    pub closed: usize,
+    pub place: usize,
 }
 
 struct Counts<'t> {
@@ -82,8 +95,8 @@ struct Counts<'t> {
 impl<'t> Counts<'t> {
     fn best(&mut self, rows: Range<usize>) -> Best {
         if rows.len() == 1 {
-            let cost = self.table.rows[rows.start].arguments.iter().map(|term| self.measure.whole(term)).sum();
-            return Best { cost, place: 0 };
+            let whole = self.table.rows[rows.start].arguments.iter().map(|term| self.measure.whole(term)).sum();
+            return Best { whole, closed: 0, place: 0 };
         }
         let key = rows.start * self.table.rows.len() + rows.end - 1;
         if let Some(best) = self.known[key] {
@@ -94,11 +107,11 @@ impl<'t> Counts<'t> {
             settled.settle(self.table.rows[rows.clone()].iter().map(|row| &row.arguments[argument]).collect());
         }
         // Rows that agree on everything have no place left: one leaf.
-        let mut best = Best { cost: settled.agreed, place: 0 };
+        let mut best = Best { whole: settled.agreed, closed: 0, place: 0 };
         for (place, column) in settled.open.iter().enumerate() {
-            let cost = settled.agreed + self.split(column, rows.start, settled.agreed);
-            if place == 0 || cost < best.cost {
-                best = Best { cost, place };
+            let closed = self.split(column, rows.start, settled.agreed);
+            if place == 0 || closed < best.closed {
+                best = Best { whole: settled.agreed + closed, closed, place };
             }
         }
         self.known[key] = Some(best);
@@ -112,7 +125,7 @@ impl<'t> Counts<'t> {
         let mut runs = 0;
         for end in 1..=column.len() {
             if end == column.len() || !column[end - 1].agrees(column[end]) {
-                sum += self.best(first + start..first + end).cost - above;
+                sum += self.best(first + start..first + end).whole - above;
                 runs += 1;
                 start = end;
             }
@@ -150,6 +163,22 @@ pub fn least_by_search(table: &Table, measure: Measure) -> Plan {
             search.cheapest(&lists).1
         })
     })
+}
+
+/// What is known of every run of rows, by the same search: first from the state where nothing is closed, then from the one where all places
+/// that the rows agree on are closed.
+pub fn every_run_by_search(table: &Table, measure: Measure) -> Vec<(usize, usize, Best)> {
+    let mut search = Search { measure, known: HashMap::new() };
+    let of_run = |(first, last): (usize, usize)| {
+        let mut lists: Lists = table.rows[first..=last].iter().map(|row| row.arguments.iter().collect()).collect();
+        let whole = search.cheapest(&lists).0;
+        while let Some(place) = (0..lists[0].len()).find(|&place| lists.windows(2).all(|pair| pair[0][place].agrees(pair[1][place]))) {
+            lists = lists.iter().map(|row| closed(row, place)).collect();
+        }
+        let (closed, place) = search.cheapest(&lists);
+        (first, last, Best { whole, closed, place })
+    };
+    runs(table.rows.len()).map(of_run).collect()
 }
 
 /// A state's rows, each as its terms at the open places.

@@ -7,6 +7,8 @@ use super::term::{Symbol, Term};
 pub const ROW_CELLS: usize = 32;
 /// The most cells of a table.
 pub const TABLE_CELLS: usize = 2050;
+/// The most rows of a table.
+pub const ROWS: usize = 64;
 
 pub struct Table {
     pub width: usize,
@@ -121,6 +123,13 @@ pub fn read_table(cells: &[u32]) -> Result<Table, Refusal> {
     }
     reader.nothing_left()?;
     Ok(Table { width, rows })
+}
+
+/// The tests of a row by itself (02, W-207), places from its start.
+pub fn read_row(width: usize, cells: &[u32]) -> Result<(), Refusal> {
+    let mut reader = Reader { input: Input::Table, cells, at: 0, long_at: ROW_CELLS, variables: 0 };
+    reader.terms(width)?;
+    reader.nothing_left()
 }
 
 /// A goal, read with its table's width.

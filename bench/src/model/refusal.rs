@@ -23,12 +23,15 @@ pub enum Number {
     Text,
     Other,
     Figure,
+    Full,
+    Last,
+    Index,
 }
 
 /// Their names, by number from 1.
-pub const NAMES: [&str; 20] = [
+pub const NAMES: [&str; 23] = [
     "LENGTH", "WIDTH", "COUNT", "LONG", "SHORT", "CELL", "FRESH", "TWICE", "EXTRA", "SIZE", "ENDS", "OPEN", "EDGES", "LABEL", "ROWS", "ROOM",
-    "BYTES", "TEXT", "OTHER", "FIGURE",
+    "BYTES", "TEXT", "OTHER", "FIGURE", "FULL", "LAST", "INDEX",
 ];
 
 /// Which input a refusal concerns.

@@ -1,19 +1,20 @@
-//! Lists of goals: sound, refused, overlapping, repeated and outside; the whole answer and every record, with records on either side.
+//! Lists of goals: sound, refused, overlapping, repeated and outside; the whole answer and every job, with jobs on either side.
 
 use std::fmt;
 
 use super::{one_by_one, Job, Shift};
 use crate::engine::{Definition, Plain};
-use crate::make::{damage, goals, plans, tables};
+use crate::make::{damage, goals, plans, records, tables};
 use crate::model::read::{read_table, Table};
+use crate::model::record::{table_in, Record};
 use crate::model::refusal::NAMES;
 use crate::random::Random;
 
-/// What a call, and what a record, can be refused with.
+/// What a call, and what a job, can be refused with.
 const OF_CALLS: [usize; 15] = [1, 2, 3, 4, 5, 6, 7, 8, 9, 10, 11, 12, 13, 14, 15];
-const OF_RECORDS: [usize; 5] = [1, 5, 6, 7, 9];
+const OF_JOBS: [usize; 5] = [1, 5, 6, 7, 9];
 
-/// Records on either side of a list, which no call may touch.
+/// Jobs on either side of a list, which no call may touch.
 const MARGIN: usize = 2;
 
 /// How many differences are shown with their inputs.
@@ -23,7 +24,7 @@ const SHOWN: u64 = 5;
 #[derive(Default)]
 pub struct Tally {
     calls: [u64; 17],
-    records: [u64; 17],
+    jobs: [u64; 17],
     differ: u64,
     own_differ: u64,
 }
@@ -45,12 +46,12 @@ pub fn compare<S: Shift>(engine: &S, lists: usize, seed: u64) -> Tally {
             damage::plan(random, &mut plan);
         }
         let (cells, jobs) = list(random, &read);
-        tally.settle(engine, &table, &plan, &cells, &jobs);
+        tally.settle(engine, &records::holding(random, &table), &plan, &cells, &jobs);
     }
     tally
 }
 
-/// Goals one after another, and records for them and for other parts of the cells; what else the records hold is anything.
+/// Goals one after another, and jobs for them and for other parts of the cells; what else the jobs hold is anything.
 fn list(random: &mut Random, table: &Table) -> (Vec<u32>, Vec<Job>) {
     let mut cells = Vec::new();
     let mut parts = Vec::new();
@@ -97,7 +98,7 @@ fn anything(random: &mut Random) -> Job {
 }
 
 impl Tally {
-    fn settle<S: Shift>(&mut self, engine: &S, table: &[u32], plan: &[u32], cells: &[u32], jobs: &[Job]) {
+    fn settle<S: Shift>(&mut self, engine: &S, record: &Record, plan: &[u32], cells: &[u32], jobs: &[Job]) {
         let margin = [Job { start: 0, count: 1, number: 2, place: 3, hits: 4, tried: 5 }; MARGIN];
         let lent = [&margin, jobs, &margin].concat();
         let lend = |call: &dyn Fn(&mut [Job]) -> u64| {
@@ -105,19 +106,20 @@ impl Tally {
             let end = left.len() - MARGIN;
             (call(&mut left[MARGIN..end]), left)
         };
-        let expected = lend(&|jobs| Definition.run_jobs(table, plan, cells, jobs));
-        let found = lend(&|jobs| engine.run_jobs(table, plan, cells, jobs));
+        let expected = lend(&|jobs| Definition.run_jobs(record, plan, cells, jobs));
+        let found = lend(&|jobs| engine.run_jobs(record, plan, cells, jobs));
         self.calls[(expected.0 & 0xff) as usize] += 1;
         if expected.0 & 0xff == 0 {
-            expected.1[MARGIN..MARGIN + jobs.len()].iter().for_each(|job| self.records[job.number] += 1);
+            expected.1[MARGIN..MARGIN + jobs.len()].iter().for_each(|job| self.jobs[job.number] += 1);
         }
         if found != expected {
             self.differ += 1;
             if self.differ <= SHOWN {
+                let table = table_in(record);
                 eprintln!("run_jobs: {found:?} and not {expected:?}: table {table:?} plan {plan:?} cells {cells:?} jobs {jobs:?}");
             }
         }
-        if lend(&|jobs| one_by_one(&Plain, table, plan, cells, jobs)) != expected {
+        if lend(&|jobs| one_by_one(&Plain, record, plan, cells, jobs)) != expected {
             self.own_differ += 1;
         }
     }
@@ -128,8 +130,8 @@ impl Tally {
 
     fn never_met(&self) -> Vec<String> {
         let calls = OF_CALLS.iter().filter(|&&number| self.calls[number] == 0).map(|number| format!("{} of a call", NAMES[number - 1]));
-        let records = OF_RECORDS.iter().filter(|&&number| self.records[number] == 0).map(|number| format!("{} of a goal", NAMES[number - 1]));
-        calls.chain(records).collect()
+        let jobs = OF_JOBS.iter().filter(|&&number| self.jobs[number] == 0).map(|number| format!("{} of a goal", NAMES[number - 1]));
+        calls.chain(jobs).collect()
     }
 
     /// Nothing differs, here or within the independent implementation, and every refusal was met.
@@ -140,8 +142,8 @@ impl Tally {
 
 impl fmt::Display for Tally {
     fn fmt(&self, f: &mut fmt::Formatter) -> fmt::Result {
-        let (lists, records): (u64, u64) = (self.calls.iter().sum(), self.records.iter().sum());
-        writeln!(f, "lists of goals: {lists}, {} refused; records: {records}, {} refused", lists - self.calls[0], records - self.records[0])?;
+        let (lists, jobs): (u64, u64) = (self.calls.iter().sum(), self.jobs.iter().sum());
+        writeln!(f, "lists of goals: {lists}, {} refused; jobs: {jobs}, {} refused", lists - self.calls[0], jobs - self.jobs[0])?;
         for refusal in self.never_met() {
             writeln!(f, "{refusal} was never met")?;
         }

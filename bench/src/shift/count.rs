@@ -4,21 +4,22 @@ use std::hint::black_box;
 use std::path::Path;
 
 use super::{Job, Shift};
-use crate::cases::{KINDS, SEED};
+use crate::cases::{FIGURE, KINDS, SEED};
 use crate::count::{measured, total};
 use crate::engine::{Engine, Exported};
-use crate::make::goals;
 use crate::make::tables::table;
+use crate::make::{goals, records};
 use crate::model::least::least;
 use crate::model::read::read_table;
+use crate::model::record::Record;
 use crate::random::Random;
 
 const ROWS: usize = 64;
 const GOALS: usize = 256;
 
-/// A table with its least plan and goals, half of them instances of rows and half rows with parts blank.
+/// A table's record with a plan and goals, half of them instances of rows and half rows with parts blank.
 struct Case {
-    table: Vec<u32>,
+    record: Box<Record>,
     plan: Vec<u32>,
     goals: Vec<Vec<u32>>,
 }
@@ -29,7 +30,7 @@ fn cases() -> impl Iterator<Item = (&'static str, Case)> {
         let cells = table(random, kind, ROWS);
         let read = read_table(&cells).expect("a sound table");
         let goals = (0..GOALS).map(|goal| if goal % 2 == 0 { goals::instance(random, &read) } else { goals::general(random, &read) });
-        (name, Case { goals: goals.collect(), plan: least(&read).write(), table: cells })
+        (name, Case { goals: goals.collect(), plan: least(&read).write(), record: records::worked_out(&cells, FIGURE) })
     })
 }
 
@@ -45,14 +46,14 @@ impl Case {
         }
         let one = |goal: &[u32]| {
             let mut room = [0; 64];
-            black_box(Exported.run_plan(&self.table, &self.plan, black_box(goal), &mut room));
+            black_box(Exported.run_plan(&self.record, &self.plan, black_box(goal), &mut room));
         };
         [
             Box::new(move || {
-                black_box(Exported.run_jobs(&self.table, &self.plan, &cells, black_box(&mut jobs)));
+                black_box(Exported.run_jobs(&self.record, &self.plan, &cells, black_box(&mut jobs)));
             }),
             Box::new(|| {
-                black_box(Exported.run_jobs(&self.table, &self.plan, &[], &mut []));
+                black_box(Exported.run_jobs(&self.record, &self.plan, &[], &mut []));
             }),
             Box::new(move || self.goals.iter().for_each(|goal| one(goal))),
             Box::new(move || one(&[])),

@@ -1,4 +1,4 @@
-//! The exported functions as safe ones: slices in, an answer or a refusal out. They take any cells at all.
+//! The exported functions as safe ones: slices and records in, an answer or a refusal out. They take any cells at all.
 
 use std::fmt;
 
@@ -26,8 +26,17 @@ impl fmt::Display for Refusal {
     }
 }
 
-/// One goal of a list. Its cells are `count` from `start` on among the lent ones; the rest is written by [`run_jobs`]: the refusal's number
-/// and place, or 0 and 0; the rows that unify with it, row r as bit r; the branches tried.
+/// A record's numbers (include/dudowiej.h).
+const RECORD_CELLS: usize = 14_340;
+type Cells = [u32; RECORD_CELLS];
+
+/// A table that is worked out. It comes from [`Record::work_out`] and the edits alone, so that what is promised of such records holds for
+/// every one.
+#[derive(Debug, Clone, PartialEq, Eq)]
+pub struct Record(Box<Cells>);
+
+/// One goal of a list. Its cells are `count` from `start` on among the lent ones; the rest is written by [`Record::run_jobs`]: the refusal's
+/// number and place, or 0 and 0; the rows that unify with it, row r as bit r; the branches tried.
 #[repr(C)]
 #[derive(Debug, Clone, Copy, Default, PartialEq, Eq)]
 pub struct Job {
@@ -44,13 +53,15 @@ const _: () = assert!(std::mem::size_of::<Job>() == 48);
 const _: () = assert!(std::mem::offset_of!(Job, number) == 16 && std::mem::offset_of!(Job, hits) == 32);
 
 extern "C" {
-    fn dudowiej_read_table(table: *const u32, table_cells: usize) -> u64;
-    fn dudowiej_row(table: *const u32, table_cells: usize, row: usize) -> u64;
-    fn dudowiej_check_plan(table: *const u32, table_cells: usize, plan: *const u32, plan_cells: usize) -> u64;
-    fn dudowiej_build_plan(table: *const u32, table_cells: usize, figure: u32, room: *mut u32, room_cells: usize) -> u64;
+    fn dudowiej_work_out(table: *const u32, table_cells: usize, figure: u32, record: *mut Cells) -> u64;
+    fn dudowiej_append(record: *mut Cells, row: *const u32, row_cells: usize) -> u64;
+    fn dudowiej_drop_last(record: *mut Cells) -> u64;
+    fn dudowiej_replace(record: *mut Cells, r: usize, row: *const u32, row_cells: usize) -> u64;
+    fn dudowiej_row(record: *const Cells, row: usize) -> u64;
+    fn dudowiej_check_plan(record: *const Cells, plan: *const u32, plan_cells: usize) -> u64;
+    fn dudowiej_build_plan(record: *const Cells, room: *mut u32, room_cells: usize) -> u64;
     fn dudowiej_run_plan(
-        table: *const u32,
-        table_cells: usize,
+        record: *const Cells,
         plan: *const u32,
         plan_cells: usize,
         goal: *const u32,
@@ -67,8 +78,7 @@ extern "C" {
         names_room: usize,
     ) -> u64;
     fn dudowiej_run_jobs(
-        table: *const u32,
-        table_cells: usize,
+        record: *const Cells,
         plan: *const u32,
         plan_cells: usize,
         cells: *const u32,
@@ -77,8 +87,7 @@ extern "C" {
         jobs_count: usize,
     ) -> u64;
     fn dudowiej_replies(
-        table: *const u32,
-        table_cells: usize,
+        record: *const Cells,
         plan: *const u32,
         plan_cells: usize,
         goal: *const u32,
@@ -107,45 +116,97 @@ fn apart(answer: u64) -> Result<(usize, usize), Refusal> {
     }
 }
 
-/// A table's width and rows.
-pub fn read_table(table: &[u32]) -> Result<(usize, usize), Refusal> {
-    apart(unsafe { dudowiej_read_table(table.as_ptr(), table.len()) })
-}
+impl Record {
+    /// A table worked out with a figure.
+    pub fn work_out(table: &[u32], figure: u32) -> Result<Record, Refusal> {
+        let mut cells = Box::new([0; RECORD_CELLS]);
+        apart(unsafe { dudowiej_work_out(table.as_ptr(), table.len(), figure, &mut *cells) })?;
+        Ok(Record(cells))
+    }
 
-/// A row of a table; empty where there is none.
-pub fn row(table: &[u32], row: usize) -> &[u32] {
-    let (start, cells) = apart(unsafe { dudowiej_row(table.as_ptr(), table.len(), row) }).unwrap_or((0, 0));
-    &table[start..start + cells]
-}
+    /// The table's cells.
+    pub fn table(&self) -> &[u32] {
+        &self.0[2..2 + self.0[0] as usize]
+    }
 
-/// The branches of a plan.
-pub fn check_plan(table: &[u32], plan: &[u32]) -> Result<usize, Refusal> {
-    let answer = unsafe { dudowiej_check_plan(table.as_ptr(), table.len(), plan.as_ptr(), plan.len()) };
-    Ok(apart(answer)?.0)
-}
+    /// The table's width.
+    pub fn width(&self) -> usize {
+        self.table()[0] as usize
+    }
 
-/// The least plan by the work with a figure, and its cost.
-pub fn build_plan(table: &[u32], figure: u32) -> Result<(Vec<u32>, usize), Refusal> {
-    let mut plan = vec![0; PLAN_CELLS];
-    let (cells, cost) = build_plan_in(table, figure, &mut plan)?;
-    plan.truncate(cells);
-    Ok((plan, cost))
-}
+    /// The table's number of rows.
+    pub fn rows(&self) -> usize {
+        self.table()[1] as usize
+    }
 
-/// The same in a lent room: its cells and its cost.
-pub fn build_plan_in(table: &[u32], figure: u32, room: &mut [u32]) -> Result<(usize, usize), Refusal> {
-    apart(unsafe { dudowiej_build_plan(table.as_ptr(), table.len(), figure, room.as_mut_ptr(), room.len()) })
-}
+    /// A row of the table; empty where there is none.
+    pub fn row(&self, row: usize) -> &[u32] {
+        let (start, cells) = apart(unsafe { dudowiej_row(&*self.0, row) }).unwrap_or((0, 0));
+        &self.table()[start..start + cells]
+    }
 
-/// The rows that unify with the goal, from the top, and the branches tried.
-pub fn run_plan(table: &[u32], plan: &[u32], goal: &[u32]) -> Result<(Vec<u8>, usize), Refusal> {
-    let mut rows = vec![0; ROWS];
-    let answer = unsafe {
-        dudowiej_run_plan(table.as_ptr(), table.len(), plan.as_ptr(), plan.len(), goal.as_ptr(), goal.len(), rows.as_mut_ptr(), rows.len())
-    };
-    let (hits, tried) = apart(answer)?;
-    rows.truncate(hits);
-    Ok((rows, tried))
+    /// Appends a row at the end. This edit and the next two leave the record as it was where they are refused.
+    pub fn append(&mut self, row: &[u32]) -> Result<(), Refusal> {
+        apart(unsafe { dudowiej_append(&mut *self.0, row.as_ptr(), row.len()) })?;
+        Ok(())
+    }
+
+    /// Drops the last row.
+    pub fn drop_last(&mut self) -> Result<(), Refusal> {
+        apart(unsafe { dudowiej_drop_last(&mut *self.0) })?;
+        Ok(())
+    }
+
+    /// Replaces row r.
+    pub fn replace(&mut self, r: usize, row: &[u32]) -> Result<(), Refusal> {
+        apart(unsafe { dudowiej_replace(&mut *self.0, r, row.as_ptr(), row.len()) })?;
+        Ok(())
+    }
+
+    /// The branches of a plan.
+    pub fn check_plan(&self, plan: &[u32]) -> Result<usize, Refusal> {
+        Ok(apart(unsafe { dudowiej_check_plan(&*self.0, plan.as_ptr(), plan.len()) })?.0)
+    }
+
+    /// The least plan by the work with the record's figure, and its cost.
+    pub fn build_plan(&self) -> Result<(Vec<u32>, usize), Refusal> {
+        let mut plan = vec![0; PLAN_CELLS];
+        let (cells, cost) = self.build_plan_in(&mut plan)?;
+        plan.truncate(cells);
+        Ok((plan, cost))
+    }
+
+    /// The same in a lent room: its cells and its cost.
+    pub fn build_plan_in(&self, room: &mut [u32]) -> Result<(usize, usize), Refusal> {
+        apart(unsafe { dudowiej_build_plan(&*self.0, room.as_mut_ptr(), room.len()) })
+    }
+
+    /// The rows that unify with the goal, from the top, and the branches tried.
+    pub fn run_plan(&self, plan: &[u32], goal: &[u32]) -> Result<(Vec<u8>, usize), Refusal> {
+        let mut rows = vec![0; ROWS];
+        let answer =
+            unsafe { dudowiej_run_plan(&*self.0, plan.as_ptr(), plan.len(), goal.as_ptr(), goal.len(), rows.as_mut_ptr(), rows.len()) };
+        let (hits, tried) = apart(answer)?;
+        rows.truncate(hits);
+        Ok((rows, tried))
+    }
+
+    /// The plan's branches; each goal of the list is answered in its job.
+    pub fn run_jobs(&self, plan: &[u32], cells: &[u32], jobs: &mut [Job]) -> Result<usize, Refusal> {
+        let answer =
+            unsafe { dudowiej_run_jobs(&*self.0, plan.as_ptr(), plan.len(), cells.as_ptr(), cells.len(), jobs.as_mut_ptr(), jobs.len()) };
+        Ok(apart(answer)?.0)
+    }
+
+    /// What the rows that unify with the goal say: how many replies, and their cells one after another, each a term for each column.
+    pub fn replies(&self, plan: &[u32], goal: &[u32]) -> Result<(usize, Vec<u32>), Refusal> {
+        let mut room = vec![0; ROWS * REPLY_CELLS];
+        let answer =
+            unsafe { dudowiej_replies(&*self.0, plan.as_ptr(), plan.len(), goal.as_ptr(), goal.len(), room.as_mut_ptr(), room.len()) };
+        let (count, cells) = apart(answer)?;
+        room.truncate(cells);
+        Ok((count, room))
+    }
 }
 
 /// A table made of a text.
@@ -163,32 +224,4 @@ pub fn read_text(text: &[u8]) -> Result<Loaded, Refusal> {
     table.truncate(cells);
     let names = names[..count].iter().map(|&name| ((name & 0xffff) as usize, (name >> 16) as usize)).collect();
     Ok(Loaded { table, names })
-}
-
-/// The plan's branches; each goal of the list is answered in its record.
-pub fn run_jobs(table: &[u32], plan: &[u32], cells: &[u32], jobs: &mut [Job]) -> Result<usize, Refusal> {
-    let answer = unsafe {
-        dudowiej_run_jobs(
-            table.as_ptr(),
-            table.len(),
-            plan.as_ptr(),
-            plan.len(),
-            cells.as_ptr(),
-            cells.len(),
-            jobs.as_mut_ptr(),
-            jobs.len(),
-        )
-    };
-    Ok(apart(answer)?.0)
-}
-
-/// What the rows that unify with the goal say: how many replies, and their cells one after another, each a term for each column.
-pub fn replies(table: &[u32], plan: &[u32], goal: &[u32]) -> Result<(usize, Vec<u32>), Refusal> {
-    let mut room = vec![0; ROWS * REPLY_CELLS];
-    let answer = unsafe {
-        dudowiej_replies(table.as_ptr(), table.len(), plan.as_ptr(), plan.len(), goal.as_ptr(), goal.len(), room.as_mut_ptr(), room.len())
-    };
-    let (count, cells) = apart(answer)?;
-    room.truncate(cells);
-    Ok((count, room))
 }

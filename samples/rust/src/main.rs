@@ -1,82 +1,36 @@
-//! A shop's table in Rust: loads it, builds its plan, checks the plan, asks which rules fit some jobs, then a whole shift of jobs in one
-//! call, and shows some refusals.
+//! A shop's table in Rust: loads it, works it out, builds its plan, checks the plan, asks which rules fit some jobs, then a whole shift of
+//! jobs in one call, and shows some refusals.
 //!
 //! usage: shop FILE    (samples/shop.cells; samples/README.md has the numbers of the names, and what is said of other files)
 
-// Each program of this folder calls some of the functions.
+// Each program of this folder uses some of the functions.
 #[allow(dead_code)]
 mod dudowiej;
+#[allow(dead_code)]
+mod shop;
 
-use dudowiej::{Job, Refusal};
-use std::fs::File;
-use std::io::Read;
-use std::path::{Path, PathBuf};
+use dudowiej::{Job, Record, Refusal};
+use shop::{number, term, terms, variable, BLACK, BLUE, BOWL, LARGE, RED, RING};
 use std::process::ExitCode;
-
-const fn variable(number: u32) -> u32 {
-    number
-}
-
-const fn name(number: u32, arguments: u32) -> u32 {
-    1 << 30 | arguments << 16 | number
-}
-
-const fn number(value: u32) -> u32 {
-    2 << 30 | value
-}
-
-const RED: u32 = name(1, 0);
-const BLUE: u32 = name(2, 0);
-const BLACK: u32 = name(4, 0);
-const RING: u32 = name(11, 0);
-const BOWL: u32 = name(13, 1);
-const LARGE: u32 = name(22, 0);
 
 /// The figures whose plans are shown.
 const FIGURES: [u32; 4] = [0, 1, 2, 15];
 
 fn main() -> ExitCode {
-    let paths: Vec<PathBuf> = std::env::args_os().skip(1).map(PathBuf::from).collect();
-    let [path] = &paths[..] else {
-        eprintln!("usage: shop FILE");
-        return ExitCode::from(2);
-    };
-    let Ok(bytes) = load(path) else {
-        eprintln!("shop: cannot read {}", path.display());
-        return ExitCode::from(2);
-    };
-    if let Err(refusal) = shop(&cells_of(&bytes)) {
-        eprintln!("shop: {refusal}");
-        return ExitCode::from(1);
-    }
-    ExitCode::SUCCESS
+    shop::with_file("shop", rules)
 }
 
-/// The first bytes of a file: one cell more than a table may have, so that too long a file is seen to be one.
-fn load(path: &Path) -> std::io::Result<Vec<u8>> {
-    let mut bytes = Vec::new();
-    File::open(path)?.take(4 * (dudowiej::TABLE_CELLS as u64 + 1)).read_to_end(&mut bytes)?;
-    Ok(bytes)
-}
-
-/// Bytes as little-endian cells. Bytes that are not whole cells are none, as in planlist, and so no table: 1 at 0.
-fn cells_of(bytes: &[u8]) -> Vec<u32> {
-    if bytes.len() % 4 != 0 {
-        return Vec::new();
-    }
-    bytes.chunks_exact(4).map(|cell| u32::from_le_bytes(cell.try_into().expect("four bytes"))).collect()
-}
-
-fn shop(table: &[u32]) -> Result<(), Refusal> {
-    let (width, rows) = dudowiej::read_table(table)?;
-    println!("table: {rows} rules of {width} columns");
-    for figure in FIGURES {
-        let (plan, cost) = dudowiej::build_plan(table, figure)?;
-        println!("figure {figure}: cost {cost}, {} branches in {} cells", dudowiej::check_plan(table, &plan)?, plan.len());
-    }
+fn rules(table: &[u32]) -> Result<(), Refusal> {
     // A choice between branches costs as much as two tests.
-    let (plan, _) = dudowiej::build_plan(table, 2)?;
-    let branches = dudowiej::check_plan(table, &plan)?;
+    let record = Record::work_out(table, 2)?;
+    println!("table: {} rules of {} columns", record.rows(), record.width());
+    for figure in FIGURES {
+        let record = Record::work_out(table, figure)?;
+        let (plan, cost) = record.build_plan()?;
+        println!("figure {figure}: cost {cost}, {} branches in {} cells", record.check_plan(&plan)?, plan.len());
+    }
+    let (plan, _) = record.build_plan()?;
+    let branches = record.check_plan(&plan)?;
 
     let jobs: [&[u32]; 5] = [
         // Urgency 10, red, a ring: which firing?
@@ -91,21 +45,21 @@ fn shop(table: &[u32]) -> Result<(), Refusal> {
         &[variable(0), variable(1), variable(1), variable(2)],
     ];
     for goal in jobs {
-        ask(table, &plan, branches, goal);
+        ask(&record, &plan, branches, goal);
     }
-    shift(table, &plan, rows)?;
-    refusals(table, &plan, width);
+    shift(&record, &plan)?;
+    refusals(&record, &plan);
     Ok(())
 }
 
 /// Prints the rules that fit a job.
-fn ask(table: &[u32], plan: &[u32], branches: usize, goal: &[u32]) {
-    match dudowiej::run_plan(table, plan, goal) {
+fn ask(record: &Record, plan: &[u32], branches: usize, goal: &[u32]) {
+    match record.run_plan(plan, goal) {
         Err(refusal) => println!("\njob: {refusal}"),
         Ok((hits, tried)) => {
             println!("\njob: {}", terms(goal));
             for hit in hits {
-                println!("  rule {hit}: {}", terms(dudowiej::row(table, hit as usize)));
+                println!("  rule {hit}: {}", terms(record.row(hit as usize)));
             }
             println!("  {tried} of {branches} branches tried");
         }
@@ -113,10 +67,10 @@ fn ask(table: &[u32], plan: &[u32], branches: usize, goal: &[u32]) {
 }
 
 /// Asks, in one call, for every row with any of its columns left blank. Prints how many of these jobs each rule fits, and what they tried.
-fn shift(table: &[u32], plan: &[u32], rows: usize) -> Result<(), Refusal> {
+fn shift(record: &Record, plan: &[u32]) -> Result<(), Refusal> {
     let mut cells = Vec::new();
     let mut jobs = Vec::new();
-    for row in (0..rows).map(|row| dudowiej::row(table, row)) {
+    for row in (0..record.rows()).map(|row| record.row(row)) {
         let columns = arguments(row);
         for blanks in 0..1 << columns.len() {
             let start = cells.len();
@@ -133,10 +87,10 @@ fn shift(table: &[u32], plan: &[u32], rows: usize) -> Result<(), Refusal> {
     }
     // A job that reaches past the cells is turned away, and the others are not.
     jobs.push(Job { start: cells.len() - 1, count: 2, ..Job::default() });
-    dudowiej::run_jobs(table, plan, &cells, &mut jobs)?;
+    record.run_jobs(plan, &cells, &mut jobs)?;
     let tried: usize = jobs.iter().map(|job| job.tried).sum();
     println!("\na shift of {} jobs: {tried} branches tried", jobs.len());
-    for row in 0..rows {
+    for row in 0..record.rows() {
         println!("  rule {row} fits {}", jobs.iter().filter(|job| job.hits >> row & 1 == 1).count());
     }
     for (number, job) in jobs.iter().enumerate().filter(|(_, job)| job.number != 0) {
@@ -158,63 +112,16 @@ fn arguments(row: &[u32]) -> Vec<&[u32]> {
 }
 
 /// Prints five refusals. Each is given for every table that is accepted.
-fn refusals(table: &[u32], plan: &[u32], width: usize) {
+fn refusals(record: &Record, plan: &[u32]) {
+    let table = record.table();
     let short_table = &table[..table.len() - 1];
     let short_plan = &plan[..plan.len() - 1];
-    let short_goal: Vec<u32> = (0..width as u32 - 1).map(variable).collect();
+    let short_goal: Vec<u32> = (0..record.width() as u32 - 1).map(variable).collect();
     let mut short_room = vec![0; plan.len() - 1];
     println!("\nrefusals:");
-    println!("  a table without its last cell: {}", dudowiej::build_plan(short_table, 2).unwrap_err());
-    println!("  a plan without its last cell: {}", dudowiej::check_plan(table, short_plan).unwrap_err());
-    println!("  a goal with a column too few: {}", dudowiej::run_plan(table, plan, &short_goal).unwrap_err());
-    println!("  a cell too few for the plan: {}", dudowiej::build_plan_in(table, 2, &mut short_room).unwrap_err());
-    println!("  a figure above 15: {}", dudowiej::build_plan(table, 16).unwrap_err());
-}
-
-/// Terms as a shop would read them.
-fn terms(cells: &[u32]) -> String {
-    let mut rest = cells;
-    let mut text = Vec::new();
-    while !rest.is_empty() {
-        text.push(term(&mut rest));
-    }
-    text.join(", ")
-}
-
-/// The first of the terms, taken off the cells.
-fn term(rest: &mut &[u32]) -> String {
-    let cell = rest[0];
-    *rest = &rest[1..];
-    match cell >> 30 {
-        0 => format!("v{cell}"),
-        1 => {
-            let arguments: Vec<String> = (0..cell >> 16 & 7).map(|_| term(rest)).collect();
-            let name = name_of(cell & 0xffff);
-            if arguments.is_empty() {
-                name.to_string()
-            } else {
-                format!("{name}({})", arguments.join(", "))
-            }
-        }
-        _ => (cell as i16).to_string(),
-    }
-}
-
-fn name_of(number: u32) -> &'static str {
-    match number {
-        1 => "red",
-        2 => "blue",
-        3 => "white",
-        4 => "black",
-        11 => "ring",
-        12 => "brooch",
-        13 => "bowl",
-        21 => "small",
-        22 => "large",
-        31 => "soft",
-        32 => "medium",
-        33 => "hard",
-        34 => "heat",
-        _ => "?",
-    }
+    println!("  a table without its last cell: {}", Record::work_out(short_table, 2).unwrap_err());
+    println!("  a plan without its last cell: {}", record.check_plan(short_plan).unwrap_err());
+    println!("  a goal with a column too few: {}", record.run_plan(plan, &short_goal).unwrap_err());
+    println!("  a cell too few for the plan: {}", record.build_plan_in(&mut short_room).unwrap_err());
+    println!("  a figure above 15: {}", Record::work_out(table, 16).unwrap_err());
 }

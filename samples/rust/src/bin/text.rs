@@ -1,14 +1,14 @@
-//! A shop's table from Prolog text in Rust: loads the facts, builds the plan, and prints the rules that fit some jobs and what each rule
-//! says to the job, in the text's own names.
+//! A shop's table from Prolog text in Rust: loads the facts, works the table out, builds the plan, and prints the rules that fit some jobs
+//! and what each rule says to the job, in the text's own names.
 //!
 //! usage: text FILE    (samples/shop.pl)
 
-// Each program of this folder calls some of the functions.
+// Each program of this folder uses some of the functions.
 #[allow(dead_code)]
 #[path = "../dudowiej.rs"]
 mod dudowiej;
 
-use dudowiej::{Loaded, Refusal};
+use dudowiej::{Loaded, Record, Refusal};
 use std::fs::File;
 use std::io::Read;
 use std::path::{Path, PathBuf};
@@ -40,11 +40,12 @@ fn load(path: &Path) -> std::io::Result<Vec<u8>> {
 
 fn shop(text: &[u8]) -> Result<(), Refusal> {
     let loaded = dudowiej::read_text(text)?;
-    println!("text: {} rules of {} columns, {} names", loaded.table[1], loaded.table[0], loaded.names.len());
-    let (plan, cost) = dudowiej::build_plan(&loaded.table, 0)?;
+    let record = Record::work_out(&loaded.table, 0)?;
+    println!("text: {} rules of {} columns, {} names", record.rows(), record.width(), loaded.names.len());
+    let (plan, cost) = record.build_plan()?;
     println!("plan: cost {cost} with figure 0");
 
-    let shop = Shop { text, loaded, plan };
+    let shop = Shop { text, loaded, record, plan };
     let name = |word| shop.name(word, 0);
     // Urgency 10, red, a ring: which firing?
     shop.ask(&[number(10), name("red"), name("ring"), variable(0)]);
@@ -62,6 +63,7 @@ fn shop(text: &[u8]) -> Result<(), Refusal> {
 struct Shop<'t> {
     text: &'t [u8],
     loaded: Loaded,
+    record: Record,
     plan: Vec<u32>,
 }
 
@@ -93,14 +95,13 @@ impl Shop<'_> {
     }
 
     fn answered(&self, goal: &[u32]) -> Result<(), Refusal> {
-        let table = &self.loaded.table;
-        let (hits, _) = dudowiej::run_plan(table, &self.plan, goal)?;
-        let (_, replies) = dudowiej::replies(table, &self.plan, goal)?;
+        let (hits, _) = self.record.run_plan(&self.plan, goal)?;
+        let (_, replies) = self.record.replies(&self.plan, goal)?;
         println!("\njob: {}", self.columns(&mut &goal[..]));
         // There is a reply for each hit, in the same order.
         let mut reply = &replies[..];
         for hit in hits {
-            println!("  rule {hit}: {}", self.columns(&mut dudowiej::row(table, hit as usize)));
+            println!("  rule {hit}: {}", self.columns(&mut self.record.row(hit as usize)));
             println!("    says: {}", self.columns(&mut reply));
         }
         Ok(())
@@ -108,7 +109,7 @@ impl Shop<'_> {
 
     /// A term for each column, taken off the cells.
     fn columns(&self, rest: &mut &[u32]) -> String {
-        let terms: Vec<String> = (0..self.loaded.table[0]).map(|_| self.term(rest)).collect();
+        let terms: Vec<String> = (0..self.record.width()).map(|_| self.term(rest)).collect();
         terms.join(", ")
     }
 

@@ -1,0 +1,74 @@
+//! An engine whose entries can be replaced one by one.
+
+use dudowiej_bench::engine::{Engine, Plain};
+use dudowiej_bench::model::record::Record;
+
+pub struct Altered {
+    pub read_table: fn(&[u32]) -> u64,
+    pub work_out: fn(&[u32], u32, &mut Record) -> u64,
+    pub append: fn(&mut Record, &[u32]) -> u64,
+    pub drop_last: fn(&mut Record) -> u64,
+    pub replace: fn(&mut Record, usize, &[u32]) -> u64,
+    pub row: fn(&Record, usize) -> u64,
+    pub check_plan: fn(&Record, &[u32]) -> u64,
+    pub build_plan: fn(&Record, &mut [u32]) -> u64,
+    pub run_plan: fn(&Record, &[u32], &[u32], &mut [u8]) -> u64,
+    pub read_text: ReadText,
+    pub replies: Replies,
+}
+
+pub type ReadText = fn(&[u8], &mut [u32], &mut [u32]) -> u64;
+pub type Replies = fn(&Record, &[u32], &[u32], &mut [u32]) -> u64;
+
+pub const RIGHT: Altered = Altered {
+    read_table: |table| Plain.read_table(table),
+    work_out: |table, figure, record| Plain.work_out(table, figure, record),
+    append: |record, row| Plain.append(record, row),
+    drop_last: |record| Plain.drop_last(record),
+    replace: |record, r, row| Plain.replace(record, r, row),
+    row: |record, row| Plain.row(record, row),
+    check_plan: |record, plan| Plain.check_plan(record, plan),
+    build_plan: |record, room| Plain.build_plan(record, room),
+    run_plan: |record, plan, goal, room| Plain.run_plan(record, plan, goal, room),
+    read_text: |text, cells, names| Plain.read_text(text, cells, names),
+    replies: |record, plan, goal, room| Plain.replies(record, plan, goal, room),
+};
+
+impl Engine for Altered {
+    fn read_table(&self, table: &[u32]) -> u64 {
+        (self.read_table)(table)
+    }
+    fn work_out(&self, table: &[u32], figure: u32, record: &mut Record) -> u64 {
+        (self.work_out)(table, figure, record)
+    }
+    fn append(&self, record: &mut Record, row: &[u32]) -> u64 {
+        (self.append)(record, row)
+    }
+    fn drop_last(&self, record: &mut Record) -> u64 {
+        (self.drop_last)(record)
+    }
+    fn replace(&self, record: &mut Record, r: usize, row: &[u32]) -> u64 {
+        (self.replace)(record, r, row)
+    }
+    fn read_goal(&self, record: &Record, goal: &[u32]) -> u64 {
+        Plain.read_goal(record, goal)
+    }
+    fn row(&self, record: &Record, row: usize) -> u64 {
+        (self.row)(record, row)
+    }
+    fn check_plan(&self, record: &Record, plan: &[u32]) -> u64 {
+        (self.check_plan)(record, plan)
+    }
+    fn build_plan(&self, record: &Record, room: &mut [u32]) -> u64 {
+        (self.build_plan)(record, room)
+    }
+    fn run_plan(&self, record: &Record, plan: &[u32], goal: &[u32], room: &mut [u8]) -> u64 {
+        (self.run_plan)(record, plan, goal, room)
+    }
+    fn read_text(&self, text: &[u8], cells: &mut [u32], names: &mut [u32]) -> u64 {
+        (self.read_text)(text, cells, names)
+    }
+    fn replies(&self, record: &Record, plan: &[u32], goal: &[u32], room: &mut [u32]) -> u64 {
+        (self.replies)(record, plan, goal, room)
+    }
+}

@@ -1,0 +1,79 @@
+/* A shop edits its rules at noon, in C: the table is worked out in the morning; then a rule is replaced, another appended and dropped
+ * again, and each time the plan is built anew from the record and the same job is asked.
+ *
+ * usage: noon FILE    (samples/shop.cells; samples/README.md has the numbers of the names) */
+
+#include <string.h>
+
+#include "shop.h"
+
+enum { FIGURE = 2 };
+
+/* The record that is edited, copies of it at two times, and the plan as it is now. */
+static dudowiej_record record, morning, noon;
+static uint32_t plan[DUDOWIEJ_PLAN_CELLS];
+
+/* Blue rings that wait: which firing? */
+static const uint32_t job[] = {NUMBER(9), NAME(BLUE, 0), NAME(RING, 0), VARIABLE(0)};
+
+/* The rule that changes, what it becomes, a rule for the end, and one with a column too few. */
+enum { CHANGED = 3 };
+static const uint32_t harder[] = {NUMBER(9), NAME(BLUE, 0), NAME(RING, 0), NAME(HARD, 0)};
+static const uint32_t last[] = {VARIABLE(0), NAME(BLUE, 0), VARIABLE(1), NAME(HEAT, 1), NUMBER(790)};
+static const uint32_t too_short[] = {NUMBER(9), NAME(BLUE, 0), NAME(RING, 0)};
+
+static bool same(const dudowiej_record *a, const dudowiej_record *b) { return memcmp(a, b, sizeof *a) == 0; }
+
+/* Builds the plan, checks it, and prints which rules fit the job. */
+static void ask(void) {
+    uint8_t rows[DUDOWIEJ_ROWS];
+    uint64_t built = dudowiej_build_plan(&record, plan, DUDOWIEJ_PLAN_CELLS);
+    if (refused(stdout, "  plan", built)) return;
+    uint64_t checked = dudowiej_check_plan(&record, plan, dudowiej_first(built));
+    if (refused(stdout, "  plan", checked)) return;
+    printf("  plan: cost %u, %u branches\n", dudowiej_second(built), dudowiej_first(checked));
+    uint64_t run = dudowiej_run_plan(&record, plan, dudowiej_first(built), job, sizeof job / sizeof job[0], rows, sizeof rows);
+    if (refused(stdout, "  job", run)) return;
+    for (uint32_t hit = 0; hit < dudowiej_first(run); hit++) {
+        printf("  ");
+        print_rule(&record, rows[hit]);
+    }
+}
+
+/* Prints what came of an edit: the rules there are now, or why it was refused. */
+static void tell(const char *edit, uint64_t answer) {
+    if (refused(stdout, edit, answer)) return;
+    printf("%s: %u rules\n", edit, dudowiej_second(answer));
+    ask();
+}
+
+static void edits(void) {
+    tell("replaced", dudowiej_replace(&record, CHANGED, harder, sizeof harder / sizeof harder[0]));
+    noon = record;
+    tell("appended", dudowiej_append(&record, last, sizeof last / sizeof last[0]));
+    tell("dropped", dudowiej_drop_last(&record));
+    printf("as at noon: %s\n", same(&record, &noon) ? "true" : "false");
+
+    tell("too short a rule", dudowiej_append(&record, too_short, sizeof too_short / sizeof too_short[0]));
+    tell("no such rule", dudowiej_replace(&record, DUDOWIEJ_ROWS, harder, sizeof harder / sizeof harder[0]));
+    printf("as at noon: %s\n", same(&record, &noon) ? "true" : "false");
+
+    /* Back to the morning's rule. Its cells are in another record: an edit's row may not lie in the record that is edited. */
+    uint64_t row = dudowiej_row(&morning, CHANGED);
+    tell("replaced", dudowiej_replace(&record, CHANGED, dudowiej_table(&morning) + dudowiej_first(row), dudowiej_second(row)));
+    printf("as in the morning: %s\n", same(&record, &morning) ? "true" : "false");
+}
+
+int main(int argc, char **argv) {
+    if (argc != 2) {
+        fprintf(stderr, "usage: noon FILE\n");
+        return 2;
+    }
+    int status = work_file_out("noon", argv[1], FIGURE, &record);
+    if (status != 0) return status;
+    printf("worked out: %u rules\n", dudowiej_table(&record)[1]);
+    ask();
+    morning = record;
+    edits();
+    return 0;
+}
