@@ -1,24 +1,23 @@
 -- A record that holds a table: its table's part is that table's cells, and what it keeps is right for them.
-use mathlib.Core.Path.{_≡_, refl, sym, ap, subst, _∙_}
+use mathlib.Core.Path.{_≡_, sym, ap, subst, _∙_}
 use mathlib.Core.Logic.{inl, inr}
 use mathlib.Core.List.{List}
-use Prim.Native.Nat.{ℕ, _+_, _-_, _≤_, _<_}
+use Prim.Native.Nat.{ℕ, _-_, _≤_, _<_}
 use native.Mathlib.Omega.{arith}
-use lib.ListN.{length, take, drop, replicate, length-drop}
-use lib.Seq.{slice, take-at, take-take, take-length}
-use borrow.Author.Tests.{le-ltb}
-use Rattle.term.proofs.Lists.{slice-take}
+use lib.ListN.{length, take, drop, length-drop}
+use lib.Seq.{take-length}
 use Rattle.refusal.specs.Read.{Read, read}
 use Rattle.table.specs.Table.{Table, tableOf, TableReads}
 use Rattle.table.specs.declared.TableRead.{TableRead}
 use Rattle.table.proofs.ReadLaws.{read-one}
-use Rattle.table.proofs.Accepted.{is-table, table-short}
+use Rattle.table.proofs.Accepted.{is-table}
 use Rattle.least.specs.Least.{Least}
 use Rattle.least.specs.Measures.{work, tableBy}
 use Rattle.least.specs.declared.By.{By}
 use Rattle.least.specs.declared.By.the-variants.{Work}
 use Rattle.least.proofs.Measured.{by-table}
 use Rattle.record.specs.Record.{cellsIn, Costs, no-rows, some-rows, Holds, tableIn}
+use Rattle.record.proofs.PartLaws.{table-in}
 use Rattle.builder.specs.code.Writing.{KeptOf, Right}
 use Rattle.builder.specs.Build.{BuiltInto}
 use Rattle.builder.specs.declared.BuildAnswer.{BuildAnswer}
@@ -31,19 +30,7 @@ keptIn rec = take (length rec - 2052) (drop 2052 rec)
 all-kept : (rec : List ℕ) → keptIn rec ≡ drop 2052 rec
 all-kept rec = rw (← (length-drop 2052 rec)) (take-length (drop 2052 rec))
 
-pub kept-long : (rec : List ℕ) → length rec ≡ 14340 → length (keptIn rec) ≡ 12288
-kept-long rec h = ap length (all-kept rec) ∙ length-drop 2052 rec ∙ omega (arith, h)
-
 module _ {rec : List ℕ} {figure : ℕ} {T : Table} (x : Holds rec figure T) where
-  table-in : tableIn rec ≡ cellsIn T
-  table-in =
-      let n : ℕ = length (cellsIn T) in
-      let few : n ≤ 2050 = table-short (cellsIn T) (x .accepted) in
-      let part : slice 2 (2 + n) rec ≡ take n (slice 2 2052 rec) =
-      slice-take 2 n rec ∙ sym (take-take n 2050 (drop 2 rec) few) ∙ ap (take n) (sym (slice-take 2 2050 rec)) in
-      rw (x .cells-many, le-ltb 2050 n few)
-      (part ∙ ap (take n) (x .cells) ∙ take-at (cellsIn T) (replicate (2050 - n) 0) n refl)
-
   many : (0 < length (T .rows)) × (length (T .rows) ≤ 64)
   many = let c = is-table (cellsIn T) (x .accepted) .count in (omega arith, omega arith)
 
@@ -65,7 +52,7 @@ module _ {rec : List ℕ} {figure : ℕ} {T : Table} (x : Holds rec figure T) wh
     low = by-table (Work figure) t (x .low)
 
     here : tableBy (Work figure) t ≡ read T
-    here = low ∙ ap tableOf (e ∙ table-in) ∙ x .accepted
+    here = low ∙ ap tableOf (e ∙ table-in x) ∙ x .accepted
 
     record-right : Right (Work figure) t r (keptIn rec)
     record-right = record {
@@ -78,4 +65,4 @@ module _ {rec : List ℕ} {figure : ℕ} {T : Table} (x : Holds rec figure T) wh
         → ((by : By) → Right by t r (keptIn rec) → BuiltInto by t room room′ answer)
         → BuiltInto (Work figure) (cellsIn T) room room′ answer
     built-from {room} {room′} {answer} b =
-        subst (λ (cells : List ℕ). BuiltInto (Work figure) cells room room′ answer) (e ∙ table-in) (b (Work figure) record-right)
+        subst (λ (cells : List ℕ). BuiltInto (Work figure) cells room room′ answer) (e ∙ table-in x) (b (Work figure) record-right)

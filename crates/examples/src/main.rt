@@ -1,5 +1,5 @@
-// Every example of 01, marked or not, and some of 02's W-204, on the functions themselves. What is printed is compared with the file stdout; cells are printed as
-// numbers.
+// Every example of 01, marked or not, and some of 02's W-204, on the functions themselves. What is printed is compared with the file
+// stdout; cells are printed as numbers.
 use answer::RunAnswer;
 use builder::BuildAnswer;
 use checker::PlanAnswer;

@@ -1,6 +1,6 @@
 // What other programs call. Each entry takes any cells and any record at all and answers one number of 64 bits: the refusal, or its two
-// values (crate refusal, specs/Coded). A table's cells are read, and worked out into a record; all other entries take the record (02, W-207,
-// "as one record that every caller now passes") and go by the table's part of it, which is not copied.
+// values (crate refusal, specs/Coded). A table's cells are read, and worked out into a record; all other entries take the record (02,
+// W-207, "as one record that every caller now passes") and go by the table's part of it, which is not copied.
 ghost use mathlib.Core.Path.{_≡_};
 ghost use Rattle.table.specs.Table.{tableOf, tableSays, goalWith, goalSays};
 ghost use Rattle.plan.specs.Check.{planOf};
@@ -102,7 +102,8 @@ pub extern "C" fn dudowiej_run_plan(
     goal: &[u32],
     room: &mut [u8],
 ) -> u64
-    ensures { λ r. ⌜ RunCoded (tableIn (now (rec .entry))) (now (plan .entry)) (now (goal .entry)) (now (room .entry)) (now (room .exit)) r ⌝ }
+    ensures { λ r. ⌜ RunCoded (tableIn (now (rec .entry))) (now (plan .entry)) (now (goal .entry)) (now (room .entry))
+        (now (room .exit)) r ⌝ }
 {
     let cells = record::table_of(rec);
     code::code_run(run::run_plan(cells, plan, goal, room))
@@ -125,7 +126,8 @@ pub extern "C" fn dudowiej_run_jobs(
     cells: &[u32],
     jobs: &mut [Job],
 ) -> u64
-    ensures { λ r. ⌜ JobsCoded (tableIn (now (rec .entry))) (now (plan .entry)) (now (cells .entry)) (now (jobs .entry)) (now (jobs .exit)) r ⌝ }
+    ensures { λ r. ⌜ JobsCoded (tableIn (now (rec .entry))) (now (plan .entry)) (now (cells .entry)) (now (jobs .entry))
+        (now (jobs .exit)) r ⌝ }
 {
     let table = record::table_of(rec);
     code::code_plan(run::run_jobs(table, plan, cells, jobs))
@@ -139,7 +141,8 @@ pub extern "C" fn dudowiej_replies(
     goal: &[u32],
     room: &mut [u32],
 ) -> u64
-    ensures { λ r. ⌜ RepliesCoded (tableIn (now (rec .entry))) (now (plan .entry)) (now (goal .entry)) (now (room .entry)) (now (room .exit)) r ⌝ }
+    ensures { λ r. ⌜ RepliesCoded (tableIn (now (rec .entry))) (now (plan .entry)) (now (goal .entry)) (now (room .entry))
+        (now (room .exit)) r ⌝ }
 {
     let cells = record::table_of(rec);
     code::code_replies(replies::replies(cells, plan, goal, room))

@@ -3,7 +3,8 @@ ghost use mathlib.Core.Path.{_≡_};
 ghost use Prim.Native.Nat.{_<_, _^_};
 ghost use Rattle.refusal.specs.Refusal.{numberOf, inputOf};
 
-// 01, "What is turned away", and 02, W-201, "BYTES; TEXT; OTHER", W-204, "FIGURE", W-207, "FULL .. LAST .. INDEX": the names, in the order of their numbers.
+// 01, "What is turned away", and 02: W-201, "BYTES; TEXT; OTHER", W-204, "FIGURE", W-207, "FULL .. LAST .. INDEX". The names, in the
+// order of their numbers.
 pub enum Reason {
     Length,
     Width,

@@ -1,6 +1,7 @@
 use native.Mathlib.Omega.{arith}
 use Rattle.state.proofs.FirstLaws.{table-rows}
-use Rattle.builder.proofs.RecordLaws.{kept-long, built-from}
+use Rattle.record.proofs.StoreLaws.{lent-long}
+use Rattle.builder.proofs.RecordLaws.{built-from}
 use borrow.Author.Needs.{needs}
 use Rattle.builder.proofs.build_from.Statement.{statement}
 use Rattle.builder.proofs.build_from.Tie as tie
@@ -23,7 +24,7 @@ part-build-end c = search needs
 build-requires : tie.Need-build-requires
 build-requires c κs =
     let s = c .before .before .before .before .before .before in
-    (record { rows = λ e. table-rows _ (c .before .before .before .read-table .ensures) e }, kept-long (s .args .rec .now) (omega arith))
+    (record { rows = λ e. table-rows _ (c .before .before .before .read-table .ensures) e }, lent-long (s .args .rec .now) (omega arith))
 
 same-length : tie.Need-same-length
 same-length c = search needs
