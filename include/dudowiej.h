@@ -18,8 +18,8 @@
  * A list is passed as a pointer and a length, a record as a pointer. A pointer is aligned for its type and not null, even where the length
  * is 0. What a call writes, a lent room or a record, shares no memory with its other inputs: a row that is to be appended again is copied
  * out of its record first. The functions keep nothing between calls, and allocate nothing. Of its caller's stack a call touches at most
- * .. bytes to work a record out, .. to edit one, .. to build a plan, 61,208 to load a text, 44,104 for replies, 31,352 to run a plan,
- * 14,520 to check one and 1,288 to read (measured: docs/BENCH.md, "Stack"). */
+ * 61,208 bytes to load a text, 44,104 for replies, 32,832 to build a plan, 31,352 to run one, 17,432 to edit a record, 14,520 to check a
+ * plan, 8,488 to work a record out and 1,288 to read (measured: docs/BENCH.md, "Stack"). */
 #ifndef DUDOWIEJ_H
 #define DUDOWIEJ_H
 
