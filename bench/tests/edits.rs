@@ -342,5 +342,4 @@ fn more_of_a_record_looked_at_than_its_table() {
         },
         ..RIGHT
     });
-    found(Altered { append: |record, row| if figure_in(record) > 15 { 0x614 } else { Plain.append(record, row) }, ..RIGHT });
 }
