@@ -1,4 +1,5 @@
 pub mod Pack
 pub mod SignedLaws
+pub mod SameLaws
 pub mod CellLaws
 pub mod Fixed

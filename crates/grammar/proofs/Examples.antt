@@ -12,7 +12,8 @@ use Rattle.refusal.specs.declared.Reason.{Reason}
 use Rattle.refusal.specs.declared.Reason.the-variants.{Text, Other}
 use Rattle.refusal.specs.declared.Input.the-variants as input
 use Rattle.grammar.specs.Grammar.{isLower, isUpper, isDigit, isWord, Fact}
-use Rattle.grammar.specs.Meaning.{same, position, meet, namesFrom, variableNumber, variablesWith, cellsFrom, widthOf, tableCells, nameList, otherThan, otherIn}
+use Rattle.cell.specs.Same.{same}
+use Rattle.grammar.specs.Meaning.{position, meet, namesFrom, variableNumber, variablesWith, cellsFrom, widthOf, tableCells, nameList, otherThan, otherIn}
 use Rattle.grammar.specs.code.Reader.{isBlank, layout, push, put, comma, close, past, step, finish, run, textOf}
 use Rattle.grammar.proofs.Fixed.{takenOf}
 

@@ -3,7 +3,6 @@ pub mod Sound
 pub mod Viable
 pub mod Accepted
 pub mod Fixed
-pub mod SameLaws
 pub mod LongLaws
 pub mod HeldLaws
 pub mod NumberLaws

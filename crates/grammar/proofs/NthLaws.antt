@@ -7,9 +7,10 @@ use mathlib.Core.Logic.{_⊎_, inl, inr}
 use native.Mathlib.Omega.{arith}
 use native.Mathlib.Decide.{decLt}
 use lib.ListN.{length}
-use Rattle.grammar.specs.Meaning.{Place, bytesOf, same, position}
+use Rattle.cell.specs.Same.{same}
+use Rattle.grammar.specs.Meaning.{Place, bytesOf, position}
 use Rattle.grammar.specs.Numbering.{Words, Nth, here, later, New, wordsAt}
-use Rattle.grammar.proofs.SameLaws.{same-refl, same-eq, same-differ}
+use Rattle.cell.proofs.SameLaws.{same-refl, same-eq, same-differ}
 
 module _ {A : Type 0} where
   pub nth-below : {xs : List A} {k : ℕ} {x : A} → Nth xs k x → k < length xs

@@ -7,8 +7,9 @@ use native.Mathlib.Omega.{arith}
 use lib.ListN.{length, getD}
 use borrow.Author.Tests.{lt-ltb, le-ltb}
 use Rattle.grammar.specs.Grammar.{Symbol, name, variable, number}
-use Rattle.grammar.specs.Meaning.{Place, place, bytesOf, same, position, meet, namesFrom, variableNumber, variablesWith}
-use Rattle.grammar.proofs.SameLaws.{same-refl, same-no}
+use Rattle.cell.specs.Same.{same}
+use Rattle.grammar.specs.Meaning.{Place, place, bytesOf, position, meet, namesFrom, variableNumber, variablesWith}
+use Rattle.cell.proofs.SameLaws.{same-refl, same-no}
 
 -- POSITIONS
 pub position-bound : (t w : List ℕ) (vs : List Place) → position t w vs ≤ length vs

@@ -8,9 +8,10 @@ use lib.Dec.{eqb}
 use lib.Seq.{slice}
 use borrow.Author.Tests.{eqb-true, eqb-false}
 use Rattle.grammar.specs.Grammar.{Fact}
-use Rattle.grammar.specs.Meaning.{Found, found, same, alike, otherThan, otherIn}
+use Rattle.cell.specs.Same.{same}
+use Rattle.grammar.specs.Meaning.{Found, found, alike, otherThan, otherIn}
 use Rattle.grammar.specs.Other.{Alike, FirstOther, no-other, other, passed}
-use Rattle.grammar.proofs.SameLaws.{same-eq, same-differ}
+use Rattle.cell.proofs.SameLaws.{same-eq, same-differ}
 
 -- a test that decides
 data Decides (P : Type 0) : Bool → Type 0 where

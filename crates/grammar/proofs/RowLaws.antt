@@ -9,10 +9,11 @@ use lib.ListN.{length, length-append}
 use lib.Seq.{slice}
 use Rattle.cell.specs.Cell.{nameCell, numberCell}
 use Rattle.grammar.specs.Grammar.{Symbol, name, variable, number, Fact}
-use Rattle.grammar.specs.Meaning.{Place, place, bytesOf, same, symbolsOf, variableNumber, cellsFrom}
+use Rattle.cell.specs.Same.{same}
+use Rattle.grammar.specs.Meaning.{Place, place, bytesOf, symbolsOf, variableNumber, cellsFrom}
 use Rattle.grammar.specs.Numbering.{Words, Nth, here, later, New, wordsAt, Unnamed, Row, Rows}
 use Rattle.grammar.specs.Numbering as numbering
-use Rattle.grammar.proofs.SameLaws.{same-refl, same-eq, same-differ, same-no}
+use Rattle.cell.proofs.SameLaws.{same-refl, same-eq, same-differ, same-no}
 use Rattle.grammar.proofs.NumberLaws.{position-bound, fresh-number, named-number, with-new, with-old}
 use Rattle.grammar.proofs.NthLaws.{nth-below, nth-one, nth-left, nth-right, nth-seam, nth-added, find}
 use Rattle.grammar.proofs.NthLaws.{Any, Parted, parted-none, parted-added, words-long, words-added, position-new, position-one}

@@ -1,11 +1,12 @@
 -- What a text's facts say (02, W-201): the cells of their table, the list of names, and the first fact of another predicate or width.
 use Prim.Native.Nat.{ℕ, suc, _+_, _-_, _*_, _^_}
-use mathlib.Core.Bool.{Bool, true, false, cond, _&&_}
+use mathlib.Core.Bool.{Bool, cond, _&&_}
 use mathlib.Core.List.{List, [], _∷_, _++_, map, flatten}
 use lib.Dec.{eqb, ltb}
 use lib.ListN.{length}
 use lib.Seq.{slice}
 use Rattle.cell.specs.Cell.{variableCell, nameCell, numberCell}
+use Rattle.cell.specs.Same.{same}
 use Rattle.grammar.specs.Grammar.{Symbol, name, variable, number, Fact}
 
 -- where a name or a variable stands: from a place up to another
@@ -19,13 +20,6 @@ place s e = record { start = s; end = e }
 -- its bytes
 abbrev pub bytesOf : List ℕ → Place → List ℕ
 bytesOf t w = slice (w .start) (w .end) t
-
--- two lists of bytes are the same
-unfoldable pub same : List ℕ → List ℕ → Bool
-same [] [] = true
-same [] (b ∷ ys) = false
-same (a ∷ xs) [] = false
-same (a ∷ xs) (b ∷ ys) = eqb a b && same xs ys
 
 -- the position in a list of the first place that has these bytes; the list's length where there is none
 unfoldable pub position : List ℕ → List ℕ → List Place → ℕ

@@ -10,9 +10,9 @@ use lib.Seq.{slice, length-take-le, take-add, drop-append-seam}
 use borrow.Author.Tests.{eqb-true, eqb-false}
 use Rattle.grammar.specs.Grammar as G
 use Rattle.grammar.specs.Grammar.{isLower, Word, Symbol, name, Term}
-use Rattle.grammar.specs.Meaning.{same}
+use Rattle.cell.specs.Same.{same}
 use Rattle.grammar.specs.code.Reader.{Ends}
-use Rattle.grammar.proofs.SameLaws.{same-no}
+use Rattle.cell.proofs.SameLaws.{same-no}
 use Rattle.lex.specs.Names.{IsName, Names, NameSaid}
 use Rattle.lex.specs.code.Ends.{WordTo}
 use Rattle.lex.proofs.ByteLaws.{here}

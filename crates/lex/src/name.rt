@@ -1,6 +1,6 @@
 // Names as bytes.
 ghost use mathlib.Core.Path.{_≡_};
-ghost use Rattle.grammar.specs.Meaning.{same};
+ghost use Rattle.cell.specs.Same.{same};
 ghost use Rattle.lex.specs.Names.{Names, NameSaid};
 use super::ends;
 use super::kind;

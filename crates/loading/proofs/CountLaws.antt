@@ -7,8 +7,9 @@ use native.Mathlib.Omega.{arith}
 use lib.Dec.{eqb, ltb}
 use lib.ListN.{length, length-append}
 use borrow.Author.Tests.{lt-ltb, le-ltb, ltb-true, ltb-false}
-use Rattle.grammar.specs.Meaning.{Place, place, bytesOf, same, position, meet}
-use Rattle.grammar.proofs.SameLaws.{same-eq, same-differ, same-no}
+use Rattle.cell.specs.Same.{same}
+use Rattle.grammar.specs.Meaning.{Place, place, bytesOf, position, meet}
+use Rattle.cell.proofs.SameLaws.{same-eq, same-differ, same-no}
 use Rattle.grammar.proofs.NumberLaws.{position-bound, meet-old, meet-new}
 use Rattle.loading.specs.code.Items.{Item, of-name, of-variable, of-number, next-row, namesMet, metIn, unmet}
 

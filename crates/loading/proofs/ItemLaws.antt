@@ -9,7 +9,8 @@ use lib.ListN.{length, getD, set, length-append}
 use borrow.Author.Tests.{lt-ltb, le-ltb, ltb-true, ltb-false}
 use Rattle.cell.specs.Cell.{variableCell, nameCell, numberCell}
 use Rattle.grammar.specs.Grammar.{Symbol, name, variable, number, Fact}
-use Rattle.grammar.specs.Meaning.{Place, place, bytesOf, same, position, meet, namesFrom, symbolsOf, namesOf, variableNumber, variablesWith, cellsFrom}
+use Rattle.cell.specs.Same.{same}
+use Rattle.grammar.specs.Meaning.{Place, place, bytesOf, position, meet, namesFrom, symbolsOf, namesOf, variableNumber, variablesWith, cellsFrom}
 use Rattle.grammar.proofs.NumberLaws.{position-kept, position-added, meet-old, meet-new, names-more, variablesIn}
 use Rattle.loading.specs.code.Items.{Item, of-name, of-variable, of-number, next-row, itemOf, itemsIn, rowsIn, itemsOf, symbolsAmong, namesMet, numbering, shapeOf, shapes}
 

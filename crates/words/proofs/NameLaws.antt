@@ -13,8 +13,9 @@ use lib.Seq.{slice, drop-cons, getD-append-seam, getD-set-same, getD-set-other}
 use borrow.Author.Tests.{eq-eqb, ne-eqb}
 use Rattle.grammar.specs.Grammar.{Fact}
 use Rattle.grammar.specs.code.Reader.{reads, textOf}
-use Rattle.grammar.specs.Meaning.{Place, place, bytesOf, same, position, meet, namesOf}
-use Rattle.grammar.proofs.SameLaws.{same-refl, same-no, same-eq}
+use Rattle.cell.specs.Same.{same}
+use Rattle.grammar.specs.Meaning.{Place, place, bytesOf, position, meet, namesOf}
+use Rattle.cell.proofs.SameLaws.{same-refl, same-no, same-eq}
 use Rattle.grammar.proofs.NumberLaws.{position-is, position-none, position-added, meet-old, meet-new}
 use Rattle.loading.specs.code.Items.{Item, of-name, of-variable, of-number, next-row, itemsOf, namesMet, metIn, unmet}
 use Rattle.loading.proofs.ItemLaws.{names-items}

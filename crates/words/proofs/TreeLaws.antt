@@ -11,8 +11,8 @@ use lib.ListN.{length, getD, set, replicate, length-set, length-replicate, getD-
 use lib.Seq.{slice, slice-empty, slice-cons, length-slice, getD-set-same, getD-set-other, getD-take, getD-drop}
 use borrow.Author.Tests.{eqb-true, eq-eqb, lt-ltb, le-ltb}
 use Rattle.words.specs.code.Tree.{bitOf, wordOf, Fits, slotOf, Route, here, down, Trail, start, step, Tree, Missing, Finds, listed, Met, old, new, ClearedTo, Cleared, Seeks}
-use Rattle.grammar.specs.Meaning.{same}
-use Rattle.grammar.proofs.SameLaws.{same-refl, same-no}
+use Rattle.cell.specs.Same.{same}
+use Rattle.cell.proofs.SameLaws.{same-refl, same-no}
 use Rattle.words.specs.declared.tree.Slot.{Slot}
 use Rattle.words.specs.declared.tree.Slot.the-variants.{Listed, Free}
 

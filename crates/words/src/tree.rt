@@ -6,7 +6,7 @@ ghost use Prim.Native.Nat.{_+_, _*_, _≤_, _<_};
 ghost use lib.ListN.{length, getD};
 ghost use lib.Seq.{slice};
 ghost use Rattle.words.specs.code.Tree.{bitOf, wordOf, Fits, Tree, Finds, Met, Cleared};
-ghost use Rattle.grammar.specs.Meaning.{same};
+ghost use Rattle.cell.specs.Same.{same};
 
 // A word's number where it is listed; otherwise the slot at which it would be found.
 pub enum Slot {

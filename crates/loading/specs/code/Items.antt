@@ -7,7 +7,8 @@ use mathlib.Core.List.{List, [], _∷_, _++_, map, flatten}
 use lib.ListN.{length, getD}
 use Rattle.cell.specs.Cell.{variableCell, nameCell, numberCell}
 use Rattle.grammar.specs.Grammar.{Symbol, name, variable, number, Fact}
-use Rattle.grammar.specs.Meaning.{Place, place, bytesOf, same, position, meet, variableNumber, variablesWith}
+use Rattle.cell.specs.Same.{same}
+use Rattle.grammar.specs.Meaning.{Place, place, bytesOf, position, meet, variableNumber, variablesWith}
 
 -- a symbol without its number of arguments; and that a row begins
 pub data Item : Type 0 where

@@ -8,7 +8,8 @@ use lib.Dec.{eqb}
 use lib.ListN.{length, getD}
 use Rattle.grammar.specs.Grammar.{Fact}
 use Rattle.grammar.specs.code.Reader.{reads, textOf}
-use Rattle.grammar.specs.Meaning.{Place, place, bytesOf, same, meet, namesOf}
+use Rattle.cell.specs.Same.{same}
+use Rattle.grammar.specs.Meaning.{Place, place, bytesOf, meet, namesOf}
 use Rattle.loading.specs.code.Items.{Item, itemsOf, namesMet, metIn}
 use Rattle.symbols.specs.Left.{Left}
 use Rattle.symbols.specs.declared.Spot.{Spot}

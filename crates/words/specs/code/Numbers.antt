@@ -8,7 +8,8 @@ use lib.ListN.{length, getD, take}
 use lib.Seq.{sets}
 use Rattle.grammar.specs.Grammar.{Fact}
 use Rattle.grammar.specs.code.Reader.{reads, textOf}
-use Rattle.grammar.specs.Meaning.{Place, place, bytesOf, same, position, symbolsOf, namesOf, variableNumber, variablesWith, nameList}
+use Rattle.cell.specs.Same.{same}
+use Rattle.grammar.specs.Meaning.{Place, place, bytesOf, position, symbolsOf, namesOf, variableNumber, variablesWith, nameList}
 use Rattle.loading.specs.code.Items.{Item, itemsOf, symbolsAmong, namesMet, numbering}
 use Rattle.symbols.specs.Left.{Left}
 use Rattle.symbols.specs.declared.Spot.{Spot}

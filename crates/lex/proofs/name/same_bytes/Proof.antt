@@ -4,7 +4,7 @@ use native.Mathlib.Omega.{arith}
 use borrow.Author.Needs.{needs}
 use borrow.Author.Tests.{eq-eqb, ne-eqb}
 use lib.ListN.{length, drop}
-use Rattle.grammar.specs.Meaning.{same}
+use Rattle.cell.specs.Same.{same}
 use Rattle.lex.proofs.NameLaws.{same-lengths, same-here, same-end}
 use Rattle.lex.proofs.name.same_bytes.Statement.{statement}
 use Rattle.lex.proofs.name.same_bytes.Tie as tie

@@ -2,7 +2,7 @@ use mathlib.Core.Path.{ap₂, _∙_}
 use native.Mathlib.Omega.{arith}
 use borrow.Author.Needs.{needs}
 use borrow.Author.Tests.{eq-eqb, ne-eqb}
-use Rattle.grammar.specs.Meaning.{same}
+use Rattle.cell.specs.Same.{same}
 use Rattle.lex.proofs.NameLaws.{part-is}
 use Rattle.scan.proofs.facts.like_first.Statement.{statement}
 use Rattle.scan.proofs.facts.like_first.Tie as tie

@@ -4,8 +4,8 @@ use native.Mathlib.Omega.{arith}
 use borrow.Author.Needs.{needs}
 use lib.ListN.{getD}
 use Rattle.words.specs.code.Tree.{Seeks, Trail, start, step, Route, wordOf}
-use Rattle.grammar.specs.Meaning.{same}
-use Rattle.grammar.proofs.SameLaws.{same-eq}
+use Rattle.cell.specs.Same.{same}
+use Rattle.cell.proofs.SameLaws.{same-eq}
 use Rattle.words.proofs.TreeLaws.{trail-slot, begins, goes-on, no-way, trail-later, advance}
 use Rattle.words.proofs.tree.find.Statement.{statement}
 use Rattle.words.proofs.tree.find.Tie as tie

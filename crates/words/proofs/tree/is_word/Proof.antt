@@ -1,7 +1,7 @@
 use Prim.Native.Nat.{ℕ, _+_, _/_, _%_}
 use mathlib.Core.Path.{sym, ap, _∙_}
 use native.Mathlib.Omega.{arith}
-use Rattle.grammar.specs.Meaning.{same}
+use Rattle.cell.specs.Same.{same}
 use Rattle.lex.proofs.NameLaws.{part-is}
 use borrow.Author.Needs.{needs}
 use Rattle.words.proofs.tree.is_word.Statement.{statement}

@@ -1,4 +1,4 @@
--- The same bytes are equal bytes.
+-- Lists that are the same are equal.
 use Prim.Native.Nat.{ℕ}
 use mathlib.Core.Path.{_≡_, refl, sym, ap, _∙_}
 use mathlib.Core.Bool.{Bool, true, false, _&&_}
@@ -7,7 +7,7 @@ use mathlib.Core.Logic.{_↔_}
 use native.Mathlib.Omega.{arith}
 use lib.Dec.{eqb}
 use borrow.Author.Tests.{eq-eqb, eqb-true}
-use Rattle.grammar.specs.Meaning.{same}
+use Rattle.cell.specs.Same.{same}
 
 pub same-refl : (xs : List ℕ) → same xs xs ≡ true
 unfolding same
