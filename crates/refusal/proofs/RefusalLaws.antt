@@ -9,7 +9,7 @@ use lib.Dec.{eqb}
 use Rattle.refusal.specs.declared.Reason.{Reason}
 use Rattle.refusal.specs.declared.Reason.the-variants.{Length, Width, Count, Long, Short, Cell, Fresh, Twice}
 use Rattle.refusal.specs.declared.Reason.the-variants.{Extra, Size, Ends, Open, Edges, Label, Rows, Room}
-use Rattle.refusal.specs.declared.Reason.the-variants.{Bytes, Text, Other, Figure, Full, Last, Index}
+use Rattle.refusal.specs.declared.Reason.the-variants.{Bytes, Text, Other, Figure, Full, Last, Index, Same}
 use Rattle.refusal.specs.declared.Input.{Input}
 use Rattle.refusal.specs.declared.Input.the-variants.{Table, Plan, Goal, Lent}
 use Rattle.refusal.specs.declared.Input.the-variants as input
@@ -46,6 +46,7 @@ reasons =
     ∷ Full
     ∷ Last
     ∷ Index
+    ∷ Same
     ∷ []
 
 reasonAt : ℕ → Reason
@@ -76,6 +77,7 @@ reason-found Figure = (refl, omega arith, omega arith)
 reason-found Full = (refl, omega arith, omega arith)
 reason-found Last = (refl, omega arith, omega arith)
 reason-found Index = (refl, omega arith, omega arith)
+reason-found Same = (refl, omega arith, omega arith)
 
 inputs : List Input
 inputs = Table ∷ Plan ∷ Goal ∷ Lent ∷ input.Text ∷ input.Figure ∷ []

@@ -3,13 +3,13 @@ use Prim.Native.Nat.{ℕ}
 use Rattle.refusal.specs.declared.Reason.{Reason}
 use Rattle.refusal.specs.declared.Reason.the-variants.{Length, Width, Count, Long, Short, Cell, Fresh, Twice}
 use Rattle.refusal.specs.declared.Reason.the-variants.{Extra, Size, Ends, Open, Edges, Label, Rows, Room}
-use Rattle.refusal.specs.declared.Reason.the-variants.{Bytes, Text, Other, Figure, Full, Last, Index}
+use Rattle.refusal.specs.declared.Reason.the-variants.{Bytes, Text, Other, Figure, Full, Last, Index, Same}
 use Rattle.refusal.specs.declared.Input.{Input}
 use Rattle.refusal.specs.declared.Input.the-variants.{Table, Plan, Goal, Lent}
 use Rattle.refusal.specs.declared.Input.the-variants as input
 use Rattle.refusal.specs.declared.Refusal.{Refusal}
 
--- 01, the column "no." of the table of refusals, and those of 02 after them: W-201's, W-204's and W-207's
+-- 01, the column "no." of the table of refusals, and those of 02 after them: W-201's, W-204's, W-207's and W-208's
 abbrev pub numberOf : Reason → ℕ
 numberOf Length = 1
 numberOf Width = 2
@@ -34,6 +34,7 @@ numberOf Figure = 20
 numberOf Full = 21
 numberOf Last = 22
 numberOf Index = 23
+numberOf Same = 24
 
 -- 01, "which input it concerns (table, plan, goal or lent room)", in that order, and then a text and a figure (02, W-201 and W-204)
 abbrev pub inputOf : Input → ℕ

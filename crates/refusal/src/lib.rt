@@ -3,8 +3,8 @@ ghost use mathlib.Core.Path.{_≡_};
 ghost use Prim.Native.Nat.{_<_, _^_};
 ghost use Rattle.refusal.specs.Refusal.{numberOf, inputOf};
 
-// 01, "What is turned away", and 02: W-201, "BYTES; TEXT; OTHER", W-204, "FIGURE", W-207, "FULL .. LAST .. INDEX". The names, in the
-// order of their numbers.
+// 01, "What is turned away", and 02, W-201, "BYTES; TEXT; OTHER", W-204, "FIGURE", W-207, "FULL .. LAST .. INDEX",
+// W-208, "SAME": the names, in the order of their numbers.
 pub enum Reason {
     Length,
     Width,
@@ -29,6 +29,7 @@ pub enum Reason {
     Full,
     Last,
     Index,
+    Same,
 }
 
 // 01, "which input it concerns (table, plan, goal or lent room)"; or a text (02, W-201), or a figure (W-204).
@@ -77,6 +78,7 @@ pub fn number_of(reason: Reason) -> usize
         Reason::Full => 21,
         Reason::Last => 22,
         Reason::Index => 23,
+        Reason::Same => 24,
     }
 }
 
