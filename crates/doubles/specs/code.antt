@@ -1,0 +1,3 @@
+-- what only code needs
+pub mod Starts
+pub mod Marks
