@@ -1,9 +1,9 @@
 -- What holds of each element of a list holds of each of a changed list, of a part of it, and together with what else holds.
 use mathlib.Core.Path.{_≡_, refl, ap₂}
-use mathlib.Core.List.{List, [], _∷_, _++_, map}
+use mathlib.Core.List.{List, [], _∷_, _++_, map, List·Memᴰ, List·Memᴰ·head, List·Memᴰ·tail}
 use Prim.Native.Nat.{ℕ, zero, suc, _<_}
 use native.Mathlib.Omega.{arith}
-use lib.ListN.{length, getD, take, drop}
+use lib.ListN.{length, getD, set, take, drop}
 use Rattle.table.specs.All.{All}
 
 module _ {A : Type 0} where
@@ -55,3 +55,12 @@ module _ {A : Type 0} where
   all-at P d [] i h a = absurd (omega arith)
   all-at P d (x ∷ xs) zero h a = a .0
   all-at P d (x ∷ xs) (suc i) h a = all-at P d xs i (omega arith) (a .1)
+
+  pub all-set : (P : A → Type 0) (xs : List A) (i : ℕ) (x : A) → All P xs → P x → All P (set xs i x)
+  all-set P [] i x a h = tt
+  all-set P (y ∷ xs) zero x a h = (h, a .1)
+  all-set P (y ∷ xs) (suc i) x a h = (a .0, all-set P xs i x (a .1) h)
+
+  pub all-members : (P : A → Type 0) (xs : List A) → ((x : A) → List·Memᴰ x xs → P x) → All P xs
+  all-members P [] h = tt
+  all-members P (x ∷ xs) h = (h x (List·Memᴰ·head refl), all-members P xs (λ y m. h y (List·Memᴰ·tail m)))

@@ -4,12 +4,15 @@ use mathlib.Core.List.{List, [], _∷_, _++_, map}
 use Prim.Native.Nat.{ℕ, _*_, _^_}
 use lib.ListN.{replicate}
 use Rattle.cell.specs.Cell.{nameCell, numberCell, variableCell, valuesAt}
+use Rattle.cell.specs.Same.{same, among}
 use Rattle.refusal.specs.Refusal.{refused, Answer, answered, turned}
 use Rattle.refusal.specs.declared.Reason.{Reason}
 use Rattle.refusal.specs.declared.Reason.the-variants as reason
 use Rattle.refusal.specs.declared.Input.{Input}
 use Rattle.refusal.specs.declared.Input.the-variants as input
-use Rattle.table.specs.Table.{termsFrom, rowsFrom, tableOf, goalOf, goalWith, rowOf, tableSays, goalSays, starts, startsIn, rowIn}
+use Rattle.refusal.specs.Read.{andThen}
+use Rattle.table.specs.Table.{Table, termsFrom, rowsFrom, tableOf, goalOf, goalWith, rowOf, others}
+use Rattle.table.specs.Table.{tableSays, goalSays, starts, startsIn, rowIn}
 
 abbrev a : ℕ
 a = nameCell 0 1
@@ -34,6 +37,10 @@ bad = 3 * 2 ^ 30
 abbrev two-rows : List ℕ
 two-rows = 2 ∷ 2 ∷ f1 ∷ a ∷ v0 ∷ b ∷ numberCell 9 ∷ []
 
+-- the rows (a, a, b) and (b, b, b)
+abbrev three-wide : List ℕ
+three-wide = 3 ∷ 2 ∷ a ∷ a ∷ b ∷ b ∷ b ∷ b ∷ []
+
 -- an answer, or the cells of a part
 pub data Said : Type 0 where
   says : Answer → Said
@@ -55,8 +62,9 @@ of-goal n g w = record { got = says (goalSays g (goalOf n g)); wanted = says w }
 abbrev of-both : List ℕ → List ℕ → Answer → Case
 of-both t g w = record { got = says (goalSays g (goalWith t g)); wanted = says w }
 
-abbrev of-one : ℕ → List ℕ → Answer → Case
-of-one n r w = record { got = says (goalSays r (rowOf n r)); wanted = says w }
+abbrev of-one : List ℕ → ℕ → List ℕ → Answer → Case
+of-one t r row w =
+    record { got = says (goalSays row (andThen (tableOf t) (λ (T : Table). rowOf (T .width) (others r (T .rows)) row))); wanted = says w }
 
 abbrev of-row : List ℕ → ℕ → List ℕ → Case
 of-row t r w = record { got = cells (rowIn (tableOf t) r); wanted = cells w }
@@ -85,7 +93,7 @@ cases =
     ∷ of-table (8 ∷ 65 ∷ bad ∷ []) (no reason.Count input.Table 1)
     ∷ of-table (1 ∷ 1 ∷ []) (no reason.Short input.Table 2)
     -- a full table of 2,050 cells; a bad cell before its end, in a row and after the last
-    ∷ of-table (1 ∷ 64 ∷ replicate 2048 a) (no reason.Extra input.Table 66)
+    ∷ of-table (1 ∷ 64 ∷ replicate 2048 v0) (no reason.Extra input.Table 66)
     ∷ of-table (1 ∷ 2 ∷ a ∷ bad ∷ []) (no reason.Cell input.Table 3)
     ∷ of-table (1 ∷ 1 ∷ a ∷ bad ∷ []) (no reason.Extra input.Table 3)
     -- the first refusal is that of the first bad cell; the count of variables starts anew in each row
@@ -105,15 +113,29 @@ cases =
     ∷ of-both (0 ∷ 1 ∷ a ∷ []) [] (no reason.Width input.Table 0)
     ∷ of-both two-rows (a ∷ []) (no reason.Short input.Goal 1)
     ∷ of-both two-rows (v0 ∷ v0 ∷ []) (answered 2 1)
-    -- W-207, a row by itself, as a table's: LONG and TWICE are its own, EXTRA comes last, places are counted from its start
-    ∷ of-one 3 [] (no reason.Short input.Table 0)
-    ∷ of-one 3 (a ∷ b ∷ []) (no reason.Short input.Table 2)
-    ∷ of-one 3 (a ∷ b ∷ a ∷ bad ∷ []) (no reason.Extra input.Table 3)
-    ∷ of-one 3 (a ∷ v0 ∷ v0 ∷ []) (no reason.Twice input.Table 2)
-    ∷ of-one 3 (a ∷ v1 ∷ b ∷ []) (no reason.Fresh input.Table 1)
-    ∷ of-one 3 (a ∷ bad ∷ b ∷ []) (no reason.Cell input.Table 1)
-    ∷ of-one 3 (replicate 33 f1) (no reason.Long input.Table 32)
-    ∷ of-one 3 (a ∷ f1 ∷ v0 ∷ v1 ∷ []) (answered 4 2)
+    -- W-208: a row without variables that equals an earlier one, neighbour or not, when it is complete, before anything after it
+    ∷ of-table (1 ∷ 2 ∷ a ∷ a ∷ []) (no reason.Same input.Table 3)
+    ∷ of-table (1 ∷ 3 ∷ a ∷ b ∷ a ∷ []) (no reason.Same input.Table 4)
+    ∷ of-table (1 ∷ 3 ∷ a ∷ a ∷ bad ∷ []) (no reason.Same input.Table 3)
+    ∷ of-table (1 ∷ 3 ∷ a ∷ a ∷ []) (no reason.Same input.Table 3)
+    ∷ of-table (1 ∷ 2 ∷ a ∷ a ∷ a ∷ []) (no reason.Same input.Table 3)
+    ∷ of-table (2 ∷ 2 ∷ a ∷ b ∷ a ∷ bad ∷ []) (no reason.Cell input.Table 5)
+    ∷ of-table (1 ∷ 2 ∷ a ∷ b ∷ a ∷ []) (no reason.Extra input.Table 4)
+    -- W-207, a row for a table: LONG and TWICE are a row's, EXTRA comes last, places are counted from its start
+    ∷ of-one three-wide 1 [] (no reason.Short input.Table 0)
+    ∷ of-one three-wide 1 (a ∷ b ∷ []) (no reason.Short input.Table 2)
+    ∷ of-one three-wide 1 (a ∷ b ∷ a ∷ bad ∷ []) (no reason.Extra input.Table 3)
+    ∷ of-one three-wide 1 (a ∷ v0 ∷ v0 ∷ []) (no reason.Twice input.Table 2)
+    ∷ of-one three-wide 1 (a ∷ v1 ∷ b ∷ []) (no reason.Fresh input.Table 1)
+    ∷ of-one three-wide 1 (a ∷ bad ∷ b ∷ []) (no reason.Cell input.Table 1)
+    ∷ of-one three-wide 1 (replicate 33 f1) (no reason.Long input.Table 32)
+    ∷ of-one three-wide 1 (a ∷ f1 ∷ v0 ∷ v1 ∷ []) (answered 4 2)
+    -- W-208, against every other row: not against the one whose place it takes, before EXTRA, at 0
+    ∷ of-one three-wide 2 (a ∷ a ∷ b ∷ []) (no reason.Same input.Table 0)
+    ∷ of-one three-wide 0 (a ∷ a ∷ b ∷ []) (answered 3 0)
+    ∷ of-one three-wide 0 (b ∷ b ∷ b ∷ []) (no reason.Same input.Table 0)
+    ∷ of-one three-wide 2 (a ∷ a ∷ b ∷ b ∷ []) (no reason.Same input.Table 0)
+    ∷ of-one (0 ∷ 1 ∷ a ∷ []) 0 [] (no reason.Width input.Table 0)
     -- rows by their numbers; none where the table is refused or has no such row
     ∷ of-row two-rows 0 (f1 ∷ a ∷ v0 ∷ [])
     ∷ of-row two-rows 1 (b ∷ numberCell 9 ∷ [])
@@ -125,5 +147,5 @@ cases =
     ∷ []
 
 pub computed : map (λ (k : Case). k .got) cases ≡ map (λ (k : Case). k .wanted) cases
-unfolding cases tableOf rowsFrom termsFrom goalOf rowOf starts valuesAt
+unfolding cases tableOf rowsFrom among same termsFrom goalOf rowOf others starts valuesAt
 computed = refl

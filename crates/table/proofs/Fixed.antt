@@ -55,9 +55,10 @@ goal-for-fixed w g {r} {s} p q = goalTold-one r s (p ∙ sym q)
 pub goal-fixed : (t g : List ℕ) {r s : GoalAnswer} → goalTold r ≡ goalSays g (goalWith t g) → goalTold s ≡ goalSays g (goalWith t g) → r ≡ s
 goal-fixed t g {r} {s} p q = goalTold-one r s (p ∙ sym q)
 
--- row_for
-pub row-for-fixed : (w : ℕ) (g : List ℕ) {r s : RowAnswer} → rowTold r ≡ rowOf w g → rowTold s ≡ rowOf w g → r ≡ s
-row-for-fixed w g {r} {s} p q = rowTold-one r s (p ∙ sym q)
+-- row_beside
+pub row-beside-fixed : (w : ℕ) (others : List (List ℕ)) (row : List ℕ) {r s : RowAnswer} → rowTold r ≡ rowOf w others row
+    → rowTold s ≡ rowOf w others row → r ≡ s
+row-beside-fixed w others row {r} {s} p q = rowTold-one r s (p ∙ sym q)
 
 -- row_place
 pub place-fixed : (t : List ℕ) (r : ℕ) {p q : Part} → RowPlace (tableOf t) r p → RowPlace (tableOf t) r q → p ≡ q

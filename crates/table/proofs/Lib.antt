@@ -4,9 +4,12 @@ pub mod LooksLaws
 pub mod WholeLaws
 pub mod SoundLaws
 pub mod HeadLaws
+pub mod ApartLaws
 pub mod RowsLaws
 pub mod TableLaws
 pub mod PartLaws
+pub mod BesideLaws
 pub mod Accepted
+pub mod SameLaws
 pub mod Fixed
 pub mod Examples

@@ -32,6 +32,13 @@ start-last p (x ∷ []) (suc r) h = absurd (omega arith)
 start-last p (x ∷ (y ∷ rows)) zero h = absurd (omega arith)
 start-last p (x ∷ (y ∷ rows)) (suc r) h = omega (arith, start-last (p + length x) (y ∷ rows) r (omega arith), length-append x (flatten (y ∷ rows)))
 
+start-is : (p : ℕ) (rows : List (List ℕ)) (r : ℕ) → r < length rows → getD (starts p rows) r 0 ≡ p + length (flatten (take r rows))
+unfolding starts flatten
+start-is p [] r h = absurd (omega arith)
+start-is p (row ∷ rows) zero h = omega arith
+start-is p (row ∷ rows) (suc r) h =
+    start-is (p + length row) rows r (omega arith) ∙ omega (arith, length-append row (flatten (take r rows)))
+
 start-within : (p : ℕ) (rows : List (List ℕ)) (r : ℕ) → r < length rows → getD (starts p rows) r 0 + length (getD rows r []) ≤ p + length (flatten rows)
 unfolding starts flatten
 start-within p [] r h = absurd (omega arith)
@@ -50,8 +57,12 @@ row-at pre (x ∷ rows) (suc r) h =
 
 -- a start that is noted is a row's, and beyond the rows 0 is noted
 module _ (T : Table) (r : ℕ) where
-  noted : r < length (T .rows) → getD (startsIn (read T)) r 0 ≡ getD (starts 2 (T .rows)) r 0
+  pub noted : r < length (T .rows) → getD (startsIn (read T)) r 0 ≡ getD (starts 2 (T .rows)) r 0
   noted h = List·getD-append (starts 2 (T .rows)) _ 0 r (omega (arith, length-starts 2 (T .rows)))
+
+  -- a row begins after the cells of those before it
+  pub start-at : r < length (T .rows) → getD (startsIn (read T)) r 0 ≡ 2 + length (flatten (take r (T .rows)))
+  start-at h = noted h ∙ start-is 2 (T .rows) r h
 
   none : length (T .rows) ≤ r → getD (startsIn (read T)) r 0 ≡ 0
   none h =
@@ -77,7 +88,7 @@ place-turned t r e = rw e (record { start = sym (getD-zeros 64 r); end = refl })
 
 module _ (t : List ℕ) {T : Table} (g : tableOf t ≡ read T) (r : ℕ) where
   -- the table's cells: two, and the rows
-  all-cells : t ≡ (T .width ∷ (length (T .rows) ∷ [])) ++ flatten (T .rows)
+  pub all-cells : t ≡ (T .width ∷ (length (T .rows) ∷ [])) ++ flatten (T .rows)
   all-cells = is-table t g .cells
 
   beyond : length (T .rows) ≤ r → getD (T .rows) r [] ≡ []
@@ -96,7 +107,7 @@ module _ (t : List ℕ) {T : Table} (g : tableOf t ≡ read T) (r : ℕ) where
         rw (s, g) (record { start = refl; end = l ∙ sym (rw (noted T r (omega arith)) (start-last 2 (T .rows) r (omega arith))) })
 
   -- the cells of a row are those at its place
-  cells-at : take (length (getD (T .rows) r [])) (drop (getD (startsIn (read T)) r 0) t) ≡ getD (T .rows) r []
+  pub cells-at : take (length (getD (T .rows) r [])) (drop (getD (startsIn (read T)) r 0) t) ≡ getD (T .rows) r []
   cells-at =
       by-cases (decLt r (length (T .rows)))
       (λ (h : r < length (T .rows)). rw (noted T r h) (rw (← all-cells) at (row-at (T .width ∷ (length (T .rows) ∷ [])) (T .rows) r h)))

@@ -1,5 +1,6 @@
 -- Laws of readings: how a refusal and a reading that goes on combine, and what a reading that succeeds says of its tests.
-use mathlib.Core.Path.{_≡_, refl, sym}
+use mathlib.Core.Path.{_≡_, refl, sym, ap}
+use mathlib.Core.Logic.{_≢_}
 use mathlib.Core.Bool.{Bool, true, false, _&&_, _||_}
 use Prim.Native.Nat.{ℕ, _≤_}
 use native.Mathlib.Omega.{arith}
@@ -43,10 +44,19 @@ not-both h k = absurd (let z : _≡_ {A = ℕ} 0 1 = cc in omega arith)
 pub read-one : {A : Type 0} {x y : A} → read x ≡ read y → x ≡ y
 read-one e = cc
 
+pub refuse-one : {A : Type 0} {f g : Refused} → _≡_ {A = Read A} (refuse f) (refuse g) → f ≡ g
+refuse-one e = cc
+
 -- what is read has passed its test
 pub passed : {A : Type 0} (b : Bool) (f : Refused) (r : Read A) {x : A} → when b f r ≡ read x → (b ≡ false) × (r ≡ read x)
 passed true f r e = apart (sym e)
 passed false f r e = (refl, e)
+
+-- and what is refused for another reason has, too
+pub passed-other : {A : Type 0} (b : Bool) (f : Refused) (r : Read A) {g : Refused} → f .number ≢ g .number → when b f r ≡ refuse g
+    → (b ≡ false) × (r ≡ refuse g)
+passed-other true f r n e = absurd (n (ap (λ (h : Refused). h .number) (refuse-one e)))
+passed-other false f r n e = (refl, e)
 
 pub passed-tests : {A : Type 0} (row : Bool) (v : Values) (vars p : ℕ) (r : Read A) {x : A} → cellTests row v vars p r ≡ read x → r ≡ read x
 passed-tests row v vars p r e =

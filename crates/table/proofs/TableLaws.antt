@@ -1,16 +1,16 @@
 -- A table, a goal and a row by itself, by the first test that fails.
 use mathlib.Core.Path.{_≡_}
 use mathlib.Core.Bool.{true, false, _||_}
-use mathlib.Core.List.{List}
+use mathlib.Core.List.{List, []}
 use Prim.Native.Nat.{ℕ, _≤_, _<_}
 use lib.Dec.{ltb}
-use lib.ListN.{length, getD, drop}
+use lib.ListN.{length, getD, take, drop}
 use borrow.Author.Tests.{lt-ltb, le-ltb}
 use Rattle.refusal.specs.Refusal.{Refused, refused}
 use Rattle.refusal.specs.declared.Reason.the-variants as reason
 use Rattle.refusal.specs.declared.Input.the-variants as input
 use Rattle.refusal.specs.Read.{read, refuse, andThen}
-use Rattle.table.specs.Table.{met, table, termsFrom, rowsFrom, tableOf, goalOf, rowOf}
+use Rattle.table.specs.Table.{met, table, doubled, termsFrom, rowsFrom, tableOf, goalOf, rowOf}
 
 module _ (t : List ℕ) where
   pub table-length : (ltb (length t) 2 || ltb 2050 (length t)) ≡ true → tableOf t ≡ refuse (refused reason.Length input.Table 0)
@@ -28,7 +28,8 @@ module _ (t : List ℕ) where
       table-count c = rw (a, b, c)
 
       pub table-rows : (ltb (getD t 1 0) 1 || ltb 64 (getD t 1 0)) ≡ false
-          → tableOf t ≡ andThen (rowsFrom (getD t 0 0) (getD t 1 0) (drop 2 t) 2) (λ (rows : List (List ℕ)). read (table (getD t 0 0) rows))
+          → tableOf t
+          ≡ andThen (rowsFrom (getD t 0 0) (getD t 1 0) [] (drop 2 t) 2) (λ (rows : List (List ℕ)). read (table (getD t 0 0) rows))
       unfolding tableOf
       table-rows c = rw (a, b, c)
 
@@ -50,16 +51,20 @@ module _ (w : ℕ) (g : List ℕ) where
     unfolding goalOf
     goal-whole e h = rw (a, e, le-ltb _ (length g) h)
 
-module _ (w : ℕ) (r : List ℕ) where
-  pub row-turned : {f : Refused} → termsFrom true r w 0 0 0 ≡ refuse f → rowOf w r ≡ refuse f
+module _ (w : ℕ) (rows : List (List ℕ)) (r : List ℕ) where
+  pub row-turned : {f : Refused} → termsFrom true r w 0 0 0 ≡ refuse f → rowOf w rows r ≡ refuse f
   unfolding rowOf
   row-turned e = rw e
 
-  pub row-extra : {e v : ℕ} → termsFrom true r w 0 0 0 ≡ read (met e v) → e < length r
-      → rowOf w r ≡ refuse (refused reason.Extra input.Table e)
-  unfolding rowOf
-  row-extra e h = rw (e, lt-ltb _ (length r) h)
+  module _ {e v : ℕ} (t : termsFrom true r w 0 0 0 ≡ read (met e v)) where
+    pub row-same : doubled (met e v) (take e r) rows ≡ true → rowOf w rows r ≡ refuse (refused reason.Same input.Table 0)
+    unfolding rowOf
+    row-same d = rw (t, d)
 
-  pub row-whole : {e v : ℕ} → termsFrom true r w 0 0 0 ≡ read (met e v) → length r ≤ e → rowOf w r ≡ read v
-  unfolding rowOf
-  row-whole e h = rw (e, le-ltb _ (length r) h)
+    pub row-extra : doubled (met e v) (take e r) rows ≡ false → e < length r → rowOf w rows r ≡ refuse (refused reason.Extra input.Table e)
+    unfolding rowOf
+    row-extra d h = rw (t, d, lt-ltb _ (length r) h)
+
+    pub row-whole : doubled (met e v) (take e r) rows ≡ false → length r ≤ e → rowOf w rows r ≡ read v
+    unfolding rowOf
+    row-whole d h = rw (t, d, le-ltb _ (length r) h)

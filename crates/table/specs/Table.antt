@@ -1,12 +1,13 @@
 -- Tables and goals (01, "Tables and goals"): how they are read, in 01's order of tests ("1, 2, 3 come first; then cells are read left to
 -- right, and at each place 4, 5, 6, 7, 8 in that order; 9 last"), and what they are.
-use Prim.Native.Nat.{ℕ, zero, suc, _+_, _-_, _≤_}
+use Prim.Native.Nat.{ℕ, zero, suc, _+_, _-_, _≤_, _<_}
 use mathlib.Core.Path.{_≡_}
 use mathlib.Core.Bool.{Bool, true, false, cond, _&&_, _||_}
 use mathlib.Core.List.{List, [], _∷_, _++_, flatten, List·Memᴰ}
 use lib.Dec.{eqb, leb, ltb}
 use lib.ListN.{length, getD, take, drop, replicate}
 use Rattle.cell.specs.Cell.{Cell, Values, valuesAt, isVar}
+use Rattle.cell.specs.Same.{among}
 use Rattle.term.specs.Terms.{Terms}
 use Rattle.table.specs.declared.TableAnswer.{TableAnswer}
 use Rattle.table.specs.declared.TableRead.{TableRead}
@@ -72,13 +73,20 @@ abbrev pub before : List ℕ → Read (List (List ℕ)) → Read (List (List ℕ
 before r (read rs) = read (r ∷ rs)
 before r (refuse f) = refuse f
 
--- so many rows of a width, the first at place p, and nothing after them: EXTRA
-unfoldable pub rowsFrom : ℕ → ℕ → List ℕ → ℕ → Read (List (List ℕ))
-rowsFrom w zero [] p = read []
-rowsFrom w zero (c ∷ xs) p = refuse (refused reason.Extra input.Table p)
-rowsFrom width (suc more) cells place =
+-- 02, W-208, "a pasted row without variables that equals an earlier one": what was read of the row, its cells, and the others
+abbrev pub doubled : Met → List ℕ → List (List ℕ) → Bool
+doubled m row others = eqb (m .vars) 0 && among row others
+
+-- so many rows of a width, the first at place p, after those that were seen, and nothing after them. SAME, "at the later row's first cell,
+-- when that row is complete, before anything of the next row and before EXTRA" (02, W-208); EXTRA
+unfoldable pub rowsFrom : ℕ → ℕ → List (List ℕ) → List ℕ → ℕ → Read (List (List ℕ))
+rowsFrom w zero seen [] p = read []
+rowsFrom w zero seen (c ∷ xs) p = refuse (refused reason.Extra input.Table p)
+rowsFrom width (suc more) seen cells place =
     andThen (termsFrom true cells width 0 0 place) (λ (m : Met).
-    before (take (m .next - place) cells) (rowsFrom width more (drop (m .next - place) cells) (m .next)))
+    let row = take (m .next - place) cells in
+    when (doubled m row seen) (refused reason.Same input.Table place)
+    (before row (rowsFrom width more (row ∷ seen) (drop (m .next - place) cells) (m .next))))
 
 -- 01, "A table is: width (1 to 8), row count (1 to 64), then the rows": LENGTH, WIDTH, COUNT, then the rows
 unfoldable pub tableOf : List ℕ → Read Table
@@ -86,7 +94,7 @@ tableOf cells =
     when (ltb (length cells) 2 || ltb 2050 (length cells)) (refused reason.Length input.Table 0)
     (when (ltb (getD cells 0 0) 1 || ltb 8 (getD cells 0 0)) (refused reason.Width input.Table 0)
     (when (ltb (getD cells 1 0) 1 || ltb 64 (getD cells 1 0)) (refused reason.Count input.Table 1)
-    (andThen (rowsFrom (getD cells 0 0) (getD cells 1 0) (drop 2 cells) 2) (λ (rows : List (List ℕ)).
+    (andThen (rowsFrom (getD cells 0 0) (getD cells 1 0) [] (drop 2 cells) 2) (λ (rows : List (List ℕ)).
     read (table (getD cells 0 0) rows)))))
 
 -- 01, "A goal is read with its table: width terms, 1 to 32 cells in all": LENGTH, the terms, EXTRA
@@ -96,11 +104,13 @@ goalOf width goal =
     (andThen (termsFrom false goal width 0 0 0) (λ (m : Met).
     when (ltb (m .next) (length goal)) (refused reason.Extra input.Goal (m .next)) (read (m .vars))))
 
--- 02, W-207, "then 01's from LONG on for the new row, places from its start": a row by itself, and how many variables it has
-unfoldable pub rowOf : ℕ → List ℕ → Read ℕ
-rowOf width row =
+-- 02, W-207, "then 01's from LONG on for the new row, places from its start", and W-208, "against every other row, at 0": a row beside
+-- others, and how many variables it has
+unfoldable pub rowOf : ℕ → List (List ℕ) → List ℕ → Read ℕ
+rowOf width others row =
     andThen (termsFrom true row width 0 0 0) (λ (m : Met).
-    when (ltb (m .next) (length row)) (refused reason.Extra input.Table (m .next)) (read (m .vars)))
+    when (doubled m (take (m .next) row) others) (refused reason.Same input.Table 0)
+    (when (ltb (m .next) (length row)) (refused reason.Extra input.Table (m .next)) (read (m .vars))))
 
 -- What the entries answer.
 
@@ -141,7 +151,13 @@ abbrev pub goalTold : GoalAnswer → Answer
 goalTold (goal-answer.Accepted n v) = answered n v
 goalTold (goal-answer.Refused f) = turned (told f)
 
--- what is answered for a row by itself
+-- the rows but the r-th; all of them where there is no such row
+unfoldable pub others : ℕ → List (List ℕ) → List (List ℕ)
+others r [] = []
+others zero (x ∷ rows) = rows
+others (suc r) (x ∷ rows) = x ∷ others r rows
+
+-- what is answered for a row
 abbrev pub rowTold : RowAnswer → Read ℕ
 rowTold (row-answer.Accepted v) = read v
 rowTold (row-answer.Refused f) = refuse (told f)
@@ -186,12 +202,55 @@ pub record Row (width : ℕ) (row : List ℕ) : Type 0 where
   pub head : Head width row
   pub once : (v : ℕ) → isVar v ≡ true → count v row ≤ 1
 
+-- a row without variables
+abbrev pub Ground : List ℕ → Type 0
+Ground row = All (λ (c : ℕ). isVar c ≡ false) row
+
+-- 02, W-208, "A pasted row without variables that equals an earlier one .. Refuse it anywhere in the table": a row is not such a one, the
+-- others being these
+abbrev pub Apart : List (List ℕ) → List ℕ → Type 0
+Apart others row = Ground row → List·Memᴰ row others → ⊥
+
+-- and no row of a table is
+abbrev pub Distinct : List (List ℕ) → Type 0
+Distinct [] = Unit {0}
+Distinct (r ∷ rs) = All (λ (s : List ℕ). Ground s → r ≡ s → ⊥) rs × Distinct rs
+
 -- 01, "A table is: width (1 to 8), row count (1 to 64), then the rows"
 pub record IsTable (table : List ℕ) (columns : ℕ) (rows : List (List ℕ)) : Type 0 where
   pub cells : table ≡ columns ∷ length rows ∷ flatten rows
   pub width : (1 ≤ columns) × (columns ≤ 8)
   pub count : (1 ≤ length rows) × (length rows ≤ 64)
   pub each : All (Row columns) rows
+  pub apart : Distinct rows
+
+-- 02, W-208, "SAME at the later row's first cell, when that row is complete, before anything of the next row and before EXTRA": where rows
+-- of a table, none of them doubled, are followed by one more that has no variable and is one of them. What comes after it may be anything
+pub record Repeats (table : List ℕ) (place : ℕ) : Type 0 where
+  pub columns : ℕ
+  pub all : ℕ
+  pub rows : List (List ℕ)
+  pub row : List ℕ
+  pub rest : List ℕ
+  pub cells : table ≡ columns ∷ (all ∷ (flatten rows ++ (row ++ rest)))
+  pub size : length table ≤ 2050
+  pub width : (1 ≤ columns) × (columns ≤ 8)
+  pub count : (length rows < all) × (all ≤ 64)
+  pub each : All (Row columns) (row ∷ rows)
+  pub apart : Distinct rows
+  pub ground : Ground row
+  pub again : List·Memᴰ row rows
+  pub at : place ≡ 2 + length (flatten rows)
+
+-- "W-207's edits obey it too, against every other row, at 0": a row that is complete, has no variable and is one of the others stands at
+-- the front of these cells
+pub record RowRepeats (columns : ℕ) (others : List (List ℕ)) (new : List ℕ) : Type 0 where
+  pub row : List ℕ
+  pub rest : List ℕ
+  pub cells : new ≡ row ++ rest
+  pub whole : Row columns row
+  pub ground : Ground row
+  pub again : List·Memᴰ row others
 
 -- 01, "A goal .. width terms, 1 to 32 cells in all"
 pub record IsGoal (width : ℕ) (goal : List ℕ) : Type 0 where

@@ -3,6 +3,7 @@ mod terms;
 
 ghost use mathlib.Core.Path.{_≡_};
 ghost use mathlib.Core.Bool.{_||_};
+ghost use mathlib.Core.List.{[]};
 ghost use Prim.Native.Nat.{_≤_};
 ghost use lib.Dec.{ltb};
 ghost use lib.ListN.{length, drop};
@@ -10,6 +11,7 @@ ghost use Rattle.refusal.specs.Refusal.{refused};
 ghost use Rattle.refusal.specs.declared.Input.the-variants as input;
 ghost use Rattle.refusal.specs.Read.{read, refuse, andThen};
 ghost use Rattle.table.specs.Table.{table, rowsFrom, tableOf, goalOf, goalWith, rowOf, rowIn};
+ghost use Rattle.doubles.specs.code.Starts.{rowsLent};
 ghost use Rattle.table.specs.Table.{TableReads, RowPlace, goalTold, goalSays, rowTold};
 use refusal::Input;
 use refusal::Reason;
@@ -34,7 +36,7 @@ pub enum GoalAnswer {
     Refused(Refusal),
 }
 
-// A row that is read by itself: its number of variables; or why it is turned away.
+// A row that is read beside others: its number of variables; or why it is turned away.
 pub enum RowAnswer {
     Accepted(usize),
     Refused(Refusal),
@@ -76,16 +78,30 @@ fn turned(reason: Reason, place: usize) -> TableRead
 
 // So many rows from the third cell on, and nothing after them.
 fn read_rows(cells: &[u32], width: usize, count: usize) -> TableRead
-    requires { ⌜ (2 ≤ length (now cells)) × (count ≤ 64) ⌝ }
-    ensures { λ r. ⌜ TableReads (andThen (rowsFrom width count (drop 2 (now (cells .entry))) 2) (λ rows. read (table width rows))) r ⌝ }
+    requires { ⌜ (2 ≤ length (now cells)) × (1 ≤ width) × (count ≤ 64) ⌝ }
+    ensures { λ r. ⌜ TableReads (andThen (rowsFrom width count [] (drop 2 (now (cells .entry))) 2) (λ rows. read (table width rows))) r ⌝ }
 {
     let mut starts = [0; 64];
+    let mut marks = [0u32; 64];
     let mut at: usize = 2;
     let mut n: usize = 0;
     while n < count {
         starts[n] = at;
         match terms::read_row(cells, at, width) {
-            TermsRead::Whole(e, _) => {
+            TermsRead::Whole(e, vars) => {
+                let mark = doubles::mark_of(&cells[at..e]);
+                if vars == 0 {
+                    if doubles::seen_before(
+                        &cells[at..e],
+                        mark,
+                        &cells[..at],
+                        &starts[..n],
+                        &marks[..n],
+                    ) {
+                        return turned(Reason::Same, at);
+                    }
+                }
+                marks[n] = mark;
                 at = e;
             }
             TermsRead::Turned(f) => {
@@ -153,16 +169,28 @@ pub fn read_goal(table: &[u32], goal: &[u32]) -> GoalAnswer
     }
 }
 
-// A row by itself, as it would stand in a table of a width: any width, any cells.
-pub fn row_for(width: usize, row: &[u32]) -> RowAnswer
-    ensures { λ r. ⌜ rowTold r ≡ rowOf width (now (row .entry)) ⌝ }
+// A row for a table of a width, any cells, beside the rows that start at these places of some cells: each ends where the next one starts,
+// and the last with the cells. Row `but` is left out: the new one takes its place.
+pub fn row_beside(
+    width: usize,
+    cells: &[u32],
+    starts: &[usize],
+    but: usize,
+    row: &[u32],
+) -> RowAnswer
+    ensures { λ a. ⌜ rowTold a ≡ rowOf width (rowsLent (now (cells .entry)) (now (starts .entry)) but) (now (row .entry)) ⌝ }
 {
     match terms::read_row(row, 0, width) {
-        TermsRead::Whole(e, vars) => {
+        TermsRead::Whole(e, v) => {
+            if v == 0 {
+                if doubles::stands_among(&row[..e], cells, starts, but) {
+                    return RowAnswer::Refused(terms::refusal(true, Reason::Same, 0));
+                }
+            }
             if e < row.len() {
                 return RowAnswer::Refused(terms::refusal(true, Reason::Extra, e));
             }
-            RowAnswer::Accepted(vars)
+            RowAnswer::Accepted(v)
         }
         TermsRead::Turned(f) => RowAnswer::Refused(f),
     }
