@@ -5,6 +5,7 @@ use mathlib.Core.Path.{_≡_, refl}
 use mathlib.Core.List.{List, [], _∷_, map, flatten}
 use lib.ListN.{length, replicate}
 use Rattle.cell.specs.Cell.{nameCell, variableCell, valuesAt, arity, isVar}
+use Rattle.cell.specs.Same.{same, among}
 use Rattle.term.specs.Terms.{root, close}
 use Rattle.refusal.specs.Refusal.{refused}
 use Rattle.refusal.specs.declared.Reason.{Reason}
@@ -49,8 +50,8 @@ p2 = table 2 ((a ∷ b ∷ []) ∷ (b ∷ c ∷ []) ∷ (a ∷ d ∷ []) ∷ [])
 p4 : List ℕ
 p4 = table 1 ((v0 ∷ []) ∷ [])
 
-p5 : List ℕ
-p5 = table 1 ((a ∷ []) ∷ (a ∷ []) ∷ [])
+one : List ℕ
+one = table 1 ((a ∷ []) ∷ [])
 
 p6 : List ℕ
 p6 = table 1 ((v0 ∷ []) ∷ (v0 ∷ []) ∷ [])
@@ -85,25 +86,27 @@ cases =
     ∷ case p4 (1 ∷ 1 ∷ v0 ∷ 1 ∷ []) (no reason.Open 0)
     ∷ case p8 (0 ∷ 2 ∷ f1 ∷ 1 ∷ 2 ∷ a ∷ 1 ∷ b ∷ 1 ∷ g ∷ 1 ∷ []) (no reason.Open 3)
     -- LABEL: another symbol, also where the leaf below is wrong too; another variable than the row's own
-    ∷ case p5 (0 ∷ 1 ∷ b ∷ 1 ∷ []) (no reason.Label 2)
+    ∷ case one (0 ∷ 1 ∷ b ∷ 1 ∷ []) (no reason.Label 2)
     ∷ case p6 (0 ∷ 2 ∷ v0 ∷ 1 ∷ v1 ∷ 1 ∷ []) (no reason.Label 4)
     -- ROWS: one row too few, one too many
-    ∷ case p5 (0 ∷ 1 ∷ a ∷ 1 ∷ []) (no reason.Rows 3)
-    ∷ case p5 (0 ∷ 1 ∷ a ∷ 3 ∷ []) (no reason.Rows 3)
+    ∷ case one (0 ∷ 1 ∷ a ∷ 0 ∷ []) (no reason.Rows 3)
+    ∷ case one (0 ∷ 1 ∷ a ∷ 2 ∷ []) (no reason.Rows 3)
     -- ENDS: at each place
-    ∷ case p5 [] (no reason.Ends 0)
-    ∷ case p5 (0 ∷ []) (no reason.Ends 1)
-    ∷ case p5 (0 ∷ 1 ∷ []) (no reason.Ends 2)
-    ∷ case p5 (0 ∷ 1 ∷ a ∷ []) (no reason.Ends 3)
+    ∷ case one [] (no reason.Ends 0)
+    ∷ case one (0 ∷ []) (no reason.Ends 1)
+    ∷ case one (0 ∷ 1 ∷ []) (no reason.Ends 2)
+    ∷ case one (0 ∷ 1 ∷ a ∷ []) (no reason.Ends 3)
     -- EXTRA
-    ∷ case p5 (0 ∷ 1 ∷ a ∷ 2 ∷ 2 ∷ []) (no reason.Extra 4)
+    ∷ case one (0 ∷ 1 ∷ a ∷ 1 ∷ 1 ∷ []) (no reason.Extra 4)
     -- SIZE, before anything else of the plan, and from 6,083 cells on
-    ∷ case p5 (replicate 6082 0) (no reason.Edges 1)
-    ∷ case p5 (replicate 6083 0) (no reason.Size 0)
+    ∷ case one (replicate 6082 0) (no reason.Edges 1)
+    ∷ case one (replicate 6083 0) (no reason.Size 0)
     -- the table comes first
     ∷ case (1 ∷ []) (1 ∷ []) (refuse (refused reason.Length input.Table 0))
+    -- a table with a row twice is none, so no leaf has two rows
+    ∷ case (table 1 ((a ∷ []) ∷ (a ∷ []) ∷ [])) (0 ∷ 1 ∷ a ∷ 2 ∷ []) (refuse (refused reason.Same input.Table 3))
     ∷ []
 
 pub computed : map (λ (k : Case). planOf (k .cells) (k .plan)) cases ≡ map (λ (k : Case). k .says) cases
-unfolding cases table p2 p4 p5 p6 p7 p8 planFor stateFrom agree root close tableOf rowsFrom termsFrom valuesAt arity isVar flatten
+unfolding cases table p2 p4 one p6 p7 p8 planFor stateFrom agree root close tableOf rowsFrom among same termsFrom valuesAt arity isVar flatten
 computed = refl

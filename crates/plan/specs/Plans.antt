@@ -1,6 +1,7 @@
 -- Plans as trees that are valid by construction (01, "Plans"; document 001, definitions 2.1 to 2.4 and 3.1), what they write, and what they
 -- cost.
 use Prim.Native.Nat.{ℕ, suc, _+_, _≤_}
+use mathlib.Core.Path.{_≡_}
 use mathlib.Core.Bool.{cond}
 use mathlib.Core.List.{List, [], _∷_, _++_}
 use lib.Dec.{leb}
@@ -50,6 +51,16 @@ unfoldable mutual
   pub leavesIn : {k : ℕ} {gs : List Run} → Branches k gs → ℕ
   leavesIn end = 0
   leavesIn (next p bs) = leaves p + leavesIn bs
+
+-- 02, W-208, "a leaf has exactly one row": each leaf of a plan
+unfoldable mutual
+  pub OneRow : {k : ℕ} {rows : List (List ℕ)} → Plan k rows → Type 0
+  OneRow (leaf {rows}) = length rows ≡ 1
+  OneRow (node i h bs) = OneRows bs
+
+  pub OneRows : {k : ℕ} {gs : List Run} → Branches k gs → Type 0
+  OneRows end = Unit {0}
+  OneRows (next p bs) = OneRow p × OneRows bs
 
 -- What a plan costs, by a measure: a weight for a branch's cell, and a figure for a state with two or more branches.
 pub record Measure : Type 0 where
