@@ -1,5 +1,5 @@
-// Every example of 01, marked or not, and some of 02's W-204, on the functions themselves. What is printed is compared with the file
-// stdout; cells are printed as numbers.
+// Every example of 01, marked or not, as 02's W-208 leaves them, and some of W-204, on the functions themselves. What is printed is
+// compared with the file stdout; cells are printed as numbers.
 use answer::RunAnswer;
 use builder::BuildAnswer;
 use checker::PlanAnswer;
@@ -203,9 +203,7 @@ fn marked() {
     say(b"P4 ");
     build(&[1, 1, 0]);
     say(b"P5 ");
-    build(&[1, 2, A, A]);
-    say(b"P5 (a) ");
-    ask(&[1, 2, A, A], &[A]);
+    read(&[1, 2, A, A]);
     say(b"P6 ");
     build(&[1, 2, 0, 0]);
     say(b"P7 (v0,v0) ");
@@ -268,8 +266,11 @@ fn unmarked() {
         Z,
         Z,
     ];
+    say(b"six rows, two of them doubled ");
+    read(&six);
+    let four = [4, 4, A, X, X, X, A, Y, Y, Y, B, Y, Y, Y, B, Z, Z, Z];
     say(b"fewest runs first ");
-    build(&six);
+    build(&four);
 }
 
 // 02, W-204: plans that change with the figure, or with the weight of a name's arguments.

@@ -6,6 +6,7 @@ use Prim.Native.Nat.{ℕ, _<_}
 use native.Mathlib.Omega.{arith}
 use lib.ListN.{length}
 use Rattle.cell.specs.Cell.{valuesAt, arity, isVar}
+use Rattle.cell.specs.Same.{same, among}
 use Rattle.term.specs.Terms.{none, more, root, close}
 use Rattle.table.specs.All.{All}
 use Rattle.refusal.specs.Read.{read}
@@ -29,7 +30,7 @@ unfoldable pub example : Table
 example = table 2 ((1073741825 ∷ 1073741826 ∷ []) ∷ (1073741825 ∷ 2147483657 ∷ []) ∷ [])
 
 pub reads : tableOf (cellsOf bytes) ≡ read example
-unfolding bytes example cellsOf tableOf rowsFrom termsFrom valuesAt
+unfolding bytes example cellsOf tableOf rowsFrom among same termsFrom valuesAt
 reads = refl
 
 unfoldable pub tree : Plan (example .width) (example .rows)

@@ -7,6 +7,7 @@ use native.Mathlib.Omega.{arith}
 use lib.ListN.{length, replicate}
 use borrow.Author.Tests.{le-ltb}
 use Rattle.cell.specs.Cell.{valuesAt, arity, isVar}
+use Rattle.cell.specs.Same.{same, among}
 use Rattle.term.specs.Terms.{front, back, root, close}
 use Rattle.term.specs.Unify.{inst, renamed}
 use Rattle.term.specs.code.Bind.{bind, idS}
@@ -31,7 +32,7 @@ use Rattle.answer.proofs.OpenGoalLaws.{skeletons-terms}
 use Rattle.answer.proofs.Decided.{hitsBy, hits-by, triedBy, tried-by, row-terms, run-by}
 use Rattle.answer.proofs.TakesLaws.{Takes}
 use Rattle.marked.specs.Examples.{Example, turned, planTurned, built, ran, BuiltSays, RanSays, Says, P, marked}
-use Rattle.marked.specs.Examples.{tableCells, p1, p2, plan2, p3, plan3, p5, p7, p8, plan8}
+use Rattle.marked.specs.Examples.{tableCells, p1, p2, plan2, p3, plan3, p7, p8, plan8}
 use Rattle.marked.proofs.Above.{Got, above, above-right}
 
 -- What is computed: by the definitions' own functions, and where they speak of substitutions by decisions that are proved right.
@@ -142,8 +143,8 @@ says : (x : Example) → computed x ≡ printed x → Says x
 unfolding computed printed
 says (turned t n p) e = cc
 says (planTurned t start n p) e =
-    let same : _≡_ {A = List ℕ → Read ℕ} (λ rest. afterSize (tableOf t) (start ++ rest)) (λ rest. refuse (refused n input.Plan p)) = cc in
-    λ rest l. after-size t (start ++ rest) l ∙ ap (λ (f : List ℕ → Read ℕ). f rest) same
+    let alike : _≡_ {A = List ℕ → Read ℕ} (λ rest. afterSize (tableOf t) (start ++ rest)) (λ rest. refuse (refused n input.Plan p)) = cc in
+    λ rest l. after-size t (start ++ rest) l ∙ ap (λ (f : List ℕ → Read ℕ). f rest) alike
 says (built t p cost) e = built-says t p cost (cc) (cc)
 says (ran t p cost g hits tried) e = ran-says t p cost g hits tried (cc) (cc) (cc) (cc) (cc)
 
@@ -156,7 +157,7 @@ all-say [] a = tt
 all-say (x ∷ xs) a = (says (x .example) (a .0), all-say xs (a .1))
 
 all-computed : map (λ (x : P). computed (x .example)) marked ≡ map (λ (x : P). printed (x .example)) marked
-unfolding marked computed printed planned aboveAll afterSize tableCells p1 p2 plan2 p3 plan3 p5 p7 p8 plan8 tableOf rowsFrom termsFrom goalOf planFor stateFrom planCells place runCells best total argmin root close agree arity valuesAt isVar flatten hitsBy triedBy above unifiable unify walk bindTest occurs renamed inst bind idS front back opened fill decide hole count upFrom
+unfolding marked computed printed planned aboveAll afterSize tableCells p1 p2 plan2 p3 plan3 p7 p8 plan8 tableOf rowsFrom among same termsFrom goalOf planFor stateFrom planCells place runCells best total argmin root close agree arity valuesAt isVar flatten hitsBy triedBy above unifiable unify walk bindTest occurs renamed inst bind idS front back opened fill decide hole count upFrom
 all-computed = refl
 
 -- P1 to P10: each says what is so, and none is left out

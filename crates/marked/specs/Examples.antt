@@ -105,9 +105,6 @@ p3 =
 unfoldable pub plan3 : List ℕ
 plan3 = 0 ∷ 1 ∷ g ∷ 0 ∷ 4 ∷ a ∷ 0 ∷ 3 ∷ i 1 ∷ 1 ∷ i 2 ∷ 1 ∷ i 3 ∷ 1 ∷ i 1 ∷ 0 ∷ 1 ∷ b ∷ 1 ∷ i 2 ∷ 0 ∷ 1 ∷ b ∷ 1 ∷ i 3 ∷ 0 ∷ 1 ∷ b ∷ 1 ∷ []
 
-unfoldable pub p5 : List ℕ
-p5 = tableCells 1 ((a ∷ []) ∷ (a ∷ []) ∷ [])
-
 unfoldable pub p7 : List ℕ
 p7 = tableCells 2 ((a ∷ b ∷ []) ∷ (a ∷ a ∷ []) ∷ [])
 
@@ -130,8 +127,8 @@ marked =
     ∷ p 3 (planTurned p3 (0 ∷ 2 ∷ []) reason.Edges 1)
     -- P4: one row (v0)
     ∷ p 4 (built (tableCells 1 ((v 0 ∷ []) ∷ [])) (0 ∷ 1 ∷ v 0 ∷ 1 ∷ []) 1)
-    -- P5: (a) (a); goal (a): rows 0 1, tried 1
-    ∷ p 5 (ran p5 (0 ∷ 1 ∷ a ∷ 2 ∷ []) 1 (a ∷ []) (0 ∷ 1 ∷ []) 1)
+    -- P5: (a) (a); 02, W-208, "P5's table is refused": SAME at 3
+    ∷ p 5 (turned (tableCells 1 ((a ∷ []) ∷ (a ∷ []) ∷ [])) reason.Same 3)
     -- P6: (v0) (v0)
     ∷ p 6 (built (tableCells 1 ((v 0 ∷ []) ∷ (v 0 ∷ []) ∷ [])) (0 ∷ 2 ∷ v 0 ∷ 1 ∷ v 0 ∷ 1 ∷ []) 2)
     -- P7: (a,b) (a,a), goal (v0,v0): row 1, tried 3

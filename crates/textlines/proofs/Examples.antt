@@ -11,7 +11,8 @@ use Rattle.octets.specs.Octets.{digitsOf, decimal}
 use Rattle.printing.specs.Printing.{symbolOf, refusal}
 use Rattle.table.specs.Table.{Table, table, termsFrom, rowsFrom, tableOf}
 use Rattle.grammar.specs.Grammar.{isLower, isUpper, isDigit, isWord}
-use Rattle.grammar.specs.Meaning.{same, position, meet, namesFrom, variableNumber, variablesWith, cellsFrom}
+use Rattle.cell.specs.Same.{same, among}
+use Rattle.grammar.specs.Meaning.{position, meet, namesFrom, variableNumber, variablesWith, cellsFrom}
 use Rattle.grammar.specs.Meaning.{widthOf, tableCells, nameList, otherThan, otherIn}
 use Rattle.grammar.specs.code.Reader.{isBlank, layout, push, put, comma, close, past, step, finish, run, textOf}
 use Rattle.grammar.proofs.Fixed.{takenOf}
@@ -41,11 +42,11 @@ unfoldable pub output : List ℕ
 output = bytes "cells 11 names 3\nn0/0 v0 n1/3 n0/0 v1 i9\nn2/0 v0 i9\n2 3\n8 1\n28 4\n"
 
 loads : loadOf text cellRoom nameRoom ≡ read what
-unfolding text what bytes loadOf takenOf textOf run step layout push put comma close past finish isBlank isLower isUpper isDigit isWord tableCells nameList namesFrom meet position same cellsFrom variableNumber variablesWith widthOf otherIn otherThan flatten tableOf rowsFrom termsFrom valuesAt
+unfolding text what bytes loadOf takenOf textOf run step layout push put comma close past finish isBlank isLower isUpper isDigit isWord tableCells nameList namesFrom meet position same cellsFrom variableNumber variablesWith widthOf otherIn otherThan flatten tableOf rowsFrom among termsFrom valuesAt
 loads = refl
 
 reads : tableOf (what .cells) ≡ read rows
-unfolding what rows tableOf rowsFrom termsFrom valuesAt
+unfolding what rows tableOf rowsFrom among termsFrom valuesAt
 reads = refl
 
 lines : linesOf what rows ≡ output

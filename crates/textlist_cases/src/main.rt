@@ -51,7 +51,7 @@ fn no_numbers() {
     show(b"p(-32769).");
 }
 
-// OTHER, and what is no table of 01: TWICE, WIDTH, LONG.
+// OTHER, and what is no table: TWICE, WIDTH, LONG, SAME.
 fn no_tables() {
     show(b"p(a). q(b).");
     show(b"p(a). pp(a).");
@@ -63,6 +63,7 @@ fn no_tables() {
     show(
         b"p(f(f(f(f(f(f(f(f(f(f(f(f(f(f(f(f(f(f(f(f(f(f(f(f(f(f(f(f(f(f(f(f(a))))))))))))))))))))))))))))))))).",
     );
+    show(b"p(a). p(b). p(a).");
 }
 
 // What is printed.
