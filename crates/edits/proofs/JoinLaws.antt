@@ -8,7 +8,7 @@ use lib.Dec.{ltb}
 use lib.ListN.{length, getD, set, take, drop, length-replicate}
 use lib.Seq.{sets}
 use Rattle.refusal.specs.Read.{read}
-use Rattle.table.specs.Table.{Table, tableOf, Row}
+use Rattle.table.specs.Table.{Table, tableOf}
 use Rattle.table.proofs.Accepted.{table-short}
 use Rattle.state.proofs.FirstLaws.{few-rows}
 use Rattle.record.specs.Record.{cellsIn}
@@ -37,8 +37,7 @@ module _ {cells row starts : List ℕ} {at : Place} {next : List ℕ} (g : Joins
 
   pub new-accepted : tableOf (cellsIn new) ≡ read new
   new-accepted =
-      with-accepted T (at .number) row (rw (← all-cells (g .rows)) (g .rows .here)) there (g .low)
-      (subst (λ (w : ℕ). Row w row) (g .rows .width) (g .is-row))
+      with-accepted T (at .number) row (rw (← all-cells (g .rows)) (g .rows .here)) there (g .low) (g .is-row) (g .apart)
 
   pub small : length (cellsIn new) ≤ 2050
   small = table-short (cellsIn new) new-accepted

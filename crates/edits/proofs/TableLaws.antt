@@ -15,7 +15,8 @@ use Rattle.state.specs.code.First.{TableRows}
 use Rattle.state.proofs.FirstLaws.{table-turned}
 use Rattle.record.specs.Record.{cellsIn, Holds, tableIn}
 use Rattle.record.proofs.PartLaws.{table-in}
-use Rattle.record.proofs.StartLaws.{before-few, start-at}
+use Rattle.table.proofs.PartLaws.{start-at}
+use Rattle.record.proofs.StartLaws.{before-few}
 
 -- a record that holds a table is read as that table
 held-read : {rec t : List ℕ} {figure : ℕ} {T : Table} → t ≡ tableIn rec → Holds rec figure T → tableOf t ≡ read T

@@ -70,8 +70,8 @@ fn work_again(rec: &mut [u32; 14340], next: &[u32; 2050], size: usize, r: usize)
     answer
 }
 
-// A row is put at its place: LONG to EXTRA for the row, and then the record of the table with it. The new table's cells are
-// joined in a room of their own, since those of the old one are still to be read.
+// A row is put at its place: LONG to TWICE, SAME, EXTRA for the row beside the others, and then the record of the table with
+// it. The new table's cells are joined in a room of their own, since those of the old one are still to be read.
 fn put_row(rec: &mut [u32; 14340], row: &[u32], starts: &[usize; 64], at: Place) -> TableAnswer
     requires { ⌜ Placed (now rec) (now starts) at ⌝ }
     ensures { λ a. ⌜ ((g : Placed (now (rec .entry)) (now (starts .entry)) at) (figure : ℕ) (e : Edit)
@@ -79,9 +79,11 @@ fn put_row(rec: &mut [u32; 14340], row: &[u32], starts: &[usize; 64], at: Place)
         → editOf e (g .rows .table) ≡ putRow (g .rows .table) (at .number) (now (row .entry))
         → Edited e figure (g .rows .table) (now (rec .entry)) (now (rec .exit)) (tableTold a)) ⌝ }
 {
-    match table::row_for(at.width, row) {
+    let cells = record::table_of(&*rec);
+    let noted = &starts[..];
+    let count = at.count;
+    match table::row_beside(at.width, cells, &noted[..count], at.number, row) {
         RowAnswer::Accepted(_) => {
-            let cells = record::table_of(&*rec);
             let mut next = [0; 2050];
             let size = rows::join(cells, row, starts, at, &mut next[..]);
             work_again(rec, &next, size, at.number)

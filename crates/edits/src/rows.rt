@@ -8,7 +8,7 @@ ghost use Rattle.edits.specs.code.Joining.{Joins, Joined};
 use crate::store::copy;
 use crate::store::put;
 
-// Where a row is put into a table of this width and so many rows: instead of the row with a number, or after the last.
+// Where a row is put into a table of a width and so many rows: instead of the row with a number, or after the last.
 pub struct Place {
     pub width: usize,
     pub count: usize,

@@ -9,6 +9,7 @@ use Rattle.refusal.specs.Read.{read}
 use Rattle.table.specs.Table.{Table, table, tableOf, Row}
 use Rattle.table.proofs.Accepted.{is-table, rows-accepted}
 use Rattle.table.proofs.AllLaws.{all-take}
+use Rattle.table.proofs.ApartLaws.{distinct-take}
 use Rattle.record.specs.Record.{cellsIn, Holds}
 use Rattle.record.specs.code.Zeros.{Cleared}
 use Rattle.record.specs.code.Rows.{inRoom}
@@ -56,7 +57,7 @@ module _ {rec : List ℕ} {figure : ℕ} {T : Table} (x : Holds rec figure T)
   accepted =
       let i = is-table (cellsIn T) (x .accepted) in
       rows-accepted (T .width) rows (i .width) (omega (arith, fewer), omega (arith, fewer, i .count .1))
-      (all-take (Row (T .width)) last (T .rows) (i .each))
+      (all-take (Row (T .width)) last (T .rows) (i .each)) (distinct-take last (T .rows) (i .apart))
 
   -- with the pairs that end there, and the head: the record of the other rows
   pub row-dropped : {start size : ℕ} {cleared new : List ℕ} → start ≡ 2 + length (flatten rows) → size ≡ length (cellsIn T)

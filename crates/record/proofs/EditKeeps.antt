@@ -8,7 +8,7 @@ use lib.ListN.{length, set, take, drop, length-append, length-set}
 use lib.Seq.{length-take-le}
 use Rattle.refusal.specs.Refusal.{Answer}
 use Rattle.refusal.specs.Read.{read}
-use Rattle.table.specs.Table.{Table, table, rowOf}
+use Rattle.table.specs.Table.{Table, table, others, rowOf}
 use Rattle.table.proofs.Accepted.{is-table}
 use Rattle.table.proofs.ReadLaws.{passed, first, read-one}
 use Rattle.least.specs.Entries.{between, SameAt}
@@ -31,7 +31,8 @@ edit-makes : (e : Edit) (T : Table) {T′ : Table} → editOf e T ≡ read T′ 
 unfolding editOf
 edit-makes (append row) T q =
     let rows : List (List ℕ) = T .rows ++ (row ∷ []) in
-    let t = first (rowOf (T .width) row) (λ (_ : ℕ). read (table (T .width) rows)) (passed (leb 64 (length (T .rows))) _ _ q .1) in
+    let x = rowOf (T .width) (T .rows) row in
+    let t = first x (λ (_ : ℕ). read (table (T .width) rows)) (passed (leb 64 (length (T .rows))) _ _ q .1) in
     of-rows (t .2) (λ first last h. sym (between-append first last row (T .rows) h))
     (λ first last h. (h, omega (arith, length-append (T .rows) (row ∷ []))))
 edit-makes drop-last T q =
@@ -41,7 +42,8 @@ edit-makes drop-last T q =
     (λ first last h. (omega arith, omega arith))
 edit-makes (replace r row) T q =
     let rows : List (List ℕ) = set (T .rows) r row in
-    let t = first (rowOf (T .width) row) (λ (_ : ℕ). read (table (T .width) rows)) (passed (leb (length (T .rows)) r) _ _ q .1) in
+    let x = rowOf (T .width) (others r (T .rows)) row in
+    let t = first x (λ (_ : ℕ). read (table (T .width) rows)) (passed (leb (length (T .rows)) r) _ _ q .1) in
     of-rows (t .2) (λ first last h. sym (between-set first last r row (T .rows) (h .1)))
     (λ first last h. (h .0, omega (arith, h .0, length-set (T .rows) r row)))
 

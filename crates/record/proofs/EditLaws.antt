@@ -1,18 +1,20 @@
 -- What an edit makes of a table, by the cases of the code.
 use mathlib.Core.Path.{_≡_}
-use mathlib.Core.List.{List, [], _∷_, _++_}
-use Prim.Native.Nat.{ℕ, suc, _-_, _≤_, _<_}
+use mathlib.Core.List.{List}
+use Prim.Native.Nat.{ℕ, _-_, _≤_, _<_}
 use native.Mathlib.Omega.{arith}
 use borrow.Author.Tests.{le-leb, lt-leb}
-use lib.ListN.{length, take, drop-of-length-le}
-use lib.Seq.{take-length, set-split}
+use lib.ListN.{length, take}
+use lib.Seq.{set-split}
 use Rattle.refusal.specs.Refusal.{refused}
 use Rattle.refusal.specs.declared.Reason.the-variants as reason
 use Rattle.refusal.specs.declared.Input.the-variants as input
 use Rattle.refusal.specs.Read.{read, refuse}
 use Rattle.table.specs.Table.{Table, table}
+use Rattle.table.proofs.ApartLaws.{others-all}
 use Rattle.record.specs.Edits.{append, drop-last, replace, editOf}
-use Rattle.record.specs.code.Rows.{withRow, putRow}
+use Rattle.record.specs.code.Rows.{putRow}
+use Rattle.record.proofs.RowLaws.{with-last}
 
 module _ (T : Table) where
   -- the only row is not dropped; of more the last is
@@ -32,9 +34,7 @@ module _ (T : Table) where
   pub append-row : (row : List ℕ) → length (T .rows) < 64 → editOf (append row) T ≡ putRow T (length (T .rows)) row
   unfolding editOf
   append-row row h =
-      let e : T .rows ++ (row ∷ []) ≡ withRow (T .rows) (length (T .rows)) row =
-      rw (take-length (T .rows), drop-of-length-le (T .rows) {i = suc (length (T .rows))} (omega arith)) in
-      rw (lt-leb 64 (length (T .rows)) h, e)
+      rw (lt-leb 64 (length (T .rows)) h, with-last (T .rows) row, others-all (length (T .rows)) (T .rows) (omega arith))
 
   -- a row that is there is replaced
   pub replace-index : (r : ℕ) (row : List ℕ) → length (T .rows) ≤ r → editOf (replace r row) T ≡ refuse (refused reason.Index input.Table 0)

@@ -5,9 +5,9 @@ pub mod PartLaws
 pub mod StoreLaws
 -- what an edit makes of a table and of its record
 pub mod StartLaws
+pub mod RowLaws
 pub mod EditLaws
 pub mod EditKeeps
-pub mod RowLaws
 pub mod DropLaws
 -- a record is determined, and so is what a promise allows
 pub mod Fixed

@@ -1,22 +1,28 @@
 -- One row is put into a table: its cells, its acceptance, and the pairs that keep their rows.
-use mathlib.Core.Path.{_≡_, refl, sym, ap, _∙_}
-use mathlib.Core.Logic.{_⊎_, inl, inr}
-use mathlib.Core.List.{List, _∷_, _++_, flatten, append-assoc}
+use mathlib.Core.Path.{_≡_, refl, sym, ap, subst, _∙_}
+use mathlib.Core.Logic.{_⊎_, inl, inr, by-cases}
+use mathlib.Core.List.{List, [], _∷_, _++_, flatten, append-assoc}
 use Prim.Native.Nat.{ℕ, suc, _+_, _-_, _≤_, _<_}
 use native.Mathlib.Nat.{zero-add}
+use native.Mathlib.Decide.{decLt}
 use native.Mathlib.Omega.{arith}
-use lib.ListN.{length, set, take, drop, replicate, length-append, length-set, length-drop}
-use lib.Seq.{sets, length-take-le, set-split, set-append-left, take-at, drop-at, take-append-le, take-take, take-all}
+use lib.ListN.{length, set, take, drop, replicate, length-append, length-set, length-drop, drop-of-length-le}
+use lib.Seq.{sets, length-take-le, set-split, set-append-left, take-at, drop-at, take-append-le, take-take, take-all, take-length}
 use Rattle.refusal.specs.Read.{read}
 use Rattle.term.proofs.Lists.{sets-sets, sets-replicate}
-use Rattle.table.specs.Table.{Table, tableOf, Row}
+use Rattle.table.specs.Table.{Table, tableOf, others, Row, Apart, Distinct}
 use Rattle.table.proofs.Accepted.{is-table, rows-accepted}
 use Rattle.table.proofs.AllLaws.{all-take, all-drop, all-++}
+use Rattle.table.proofs.ApartLaws.{distinct-append, distinct-set, others-all}
 use Rattle.least.specs.Entries.{between}
 use Rattle.record.specs.Record.{cellsIn}
 use Rattle.record.specs.code.Rows.{inRoom, withRow, tableWith}
 use Rattle.record.proofs.KeptLaws.{between-set}
 use Rattle.record.proofs.StartLaws.{flatten-append, flatten-split, before-few}
+
+-- after the last row
+pub with-last : (rows : List (List ℕ)) (row : List ℕ) → rows ++ (row ∷ []) ≡ withRow rows (length rows) row
+with-last rows row = rw (take-length rows, drop-of-length-le rows {i = suc (length rows)} (omega arith))
 
 module _ (rows : List (List ℕ)) (r : ℕ) (row : List ℕ) (there : r ≤ length rows) where
   pub with-length : length (withRow rows r row) ≡ r + suc (length rows - suc r)
@@ -34,6 +40,16 @@ module _ (rows : List (List ℕ)) (r : ℕ) (row : List ℕ) (there : r ≤ leng
   with-between first last (inl h) o i =
       let l : r < length rows = omega (arith, with-length) in
       (omega (arith, with-length), sym (ap (between first last) (sym (set-split rows r row l)) ∙ between-set first last r row rows (inl h)))
+
+  -- rows stay distinct where one is put that is none of the others
+  with-distinct : Distinct rows → Apart (others r rows) row → Distinct (withRow rows r row)
+  with-distinct d a =
+      by-cases (decLt r (length rows))
+      (λ (h : r < length rows). subst Distinct (set-split rows r row h) (distinct-set rows r row d a))
+      (λ h.
+      let e : length rows ≡ r = omega arith in
+      let b : Apart rows row = subst (λ (s : List (List ℕ)). Apart s row) (others-all r rows (omega arith)) a in
+      subst (λ (i : ℕ). Distinct (withRow rows i row)) e (subst Distinct (with-last rows row) (distinct-append rows row d b)))
 
 -- three parts stored one after another where all was 0, and then a number in the first of them
 parts-stored : (n : ℕ) (xs ys zs : List ℕ) → length xs + (length ys + length zs) ≤ n
@@ -129,11 +145,12 @@ module _ (T : Table) (r : ℕ) (row : List ℕ) where
       rw (c, b, a, t, n, rest) (all-stored e f g few)
 
   -- it is a table again
-  pub with-accepted : tableOf cells ≡ read T → r ≤ length (T .rows) → r < 64 → Row (T .width) row
+  pub with-accepted : tableOf cells ≡ read T → r ≤ length (T .rows) → r < 64 → Row (T .width) row → Apart (others r (T .rows)) row
       → tableOf (cellsIn (tableWith T r row)) ≡ read (tableWith T r row)
-  with-accepted h there few x =
+  with-accepted h there few x a =
       let i = is-table cells h in
       rows-accepted (T .width) (withRow (T .rows) r row) (i .width)
       (omega (arith, with-length (T .rows) r row there), omega (arith, with-length (T .rows) r row there, i .count .1))
       (all-++ (Row (T .width)) (take r (T .rows)) (row ∷ drop (suc r) (T .rows)) (all-take (Row (T .width)) r (T .rows) (i .each))
       (x, all-drop (Row (T .width)) (suc r) (T .rows) (i .each)))
+      (with-distinct (T .rows) r row there (i .apart) a)

@@ -3,16 +3,16 @@ use mathlib.Core.Path.{_≡_, refl, sym, ap, _∙_}
 use mathlib.Core.Bool.{cond}
 use mathlib.Core.Logic.{by-cases}
 use mathlib.Core.List.{List, [], _∷_, _++_, flatten, append-assoc}
-use Prim.Native.Nat.{ℕ, zero, suc, _+_, _≤_, _<_}
+use Prim.Native.Nat.{ℕ, _+_, _≤_, _<_}
 use native.Mathlib.Decide.{decLt}
 use native.Mathlib.Omega.{arith}
 use lib.Dec.{ltb}
 use borrow.Author.Tests.{lt-ltb, le-ltb}
-use lib.ListN.{length, getD, take, drop, length-append, take-append-drop, List·getD-append}
+use lib.ListN.{length, getD, take, drop, length-append, take-append-drop}
 use lib.Seq.{take-all}
 use Rattle.refusal.specs.Read.{read}
-use Rattle.table.specs.Table.{Table, starts, startsIn}
-use Rattle.table.proofs.RowsLaws.{length-starts}
+use Rattle.table.specs.Table.{Table, startsIn}
+use Rattle.table.proofs.PartLaws.{start-at}
 use Rattle.record.specs.Record.{cellsIn}
 
 -- the cells of rows, before and after one of them
@@ -27,19 +27,7 @@ flatten-split r rows = ap flatten (sym (take-append-drop r rows)) ∙ flatten-ap
 pub before-few : (r : ℕ) (rows : List (List ℕ)) → length (flatten (take r rows)) ≤ length (flatten rows)
 before-few r rows = omega (arith, ap length (flatten-split r rows), length-append (flatten (take r rows)) (flatten (drop r rows)))
 
-start-is : (p : ℕ) (rows : List (List ℕ)) (r : ℕ) → r < length rows → getD (starts p rows) r 0 ≡ p + length (flatten (take r rows))
-unfolding starts flatten
-start-is p [] r h = absurd (omega arith)
-start-is p (row ∷ rows) zero h = omega arith
-start-is p (row ∷ rows) (suc r) h =
-    start-is (p + length row) rows r (omega arith) ∙ omega (arith, length-append row (flatten (take r rows)))
-
--- a row begins after the cells of those before it
-pub start-at : (T : Table) (r : ℕ) → r < length (T .rows) → getD (startsIn (read T)) r 0 ≡ 2 + length (flatten (take r (T .rows)))
-start-at T r h =
-    List·getD-append (starts 2 (T .rows)) _ 0 r (omega (arith, length-starts 2 (T .rows))) ∙ start-is 2 (T .rows) r h
-
--- and one more would begin where the table's cells end, as would all after it
+-- a row begins after the cells of those before it (`start-at`); and one more would begin where the table's cells end, as would all after it
 pub edge-is : (T : Table) {cells begins : List ℕ} {count : ℕ} → cells ≡ cellsIn T → begins ≡ startsIn (read T) → count ≡ length (T .rows)
     → (r : ℕ) → cond (ltb r count) (getD begins r 0) (length cells) ≡ 2 + length (flatten (take r (T .rows)))
 edge-is T c b n r =

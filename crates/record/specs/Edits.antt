@@ -9,7 +9,7 @@ use Rattle.refusal.specs.Refusal.{Refused, refused, Answer, turned}
 use Rattle.refusal.specs.declared.Reason.the-variants as reason
 use Rattle.refusal.specs.declared.Input.the-variants as input
 use Rattle.refusal.specs.Read.{Read, read, refuse, when, andThen}
-use Rattle.table.specs.Table.{Table, table, rowOf, tableSays}
+use Rattle.table.specs.Table.{Table, table, rowOf, others, tableSays}
 use Rattle.least.specs.Measures.{tableBy}
 use Rattle.least.specs.declared.By.the-variants.{Work}
 use Rattle.record.specs.Record.{Holds}
@@ -28,17 +28,17 @@ pub data Edit : Type 0 where
   replace : (r : ℕ) (row : List ℕ) → Edit
 
 -- the table that an edit makes, or why it is turned away. "FULL to append at 64 rows, LAST to drop the only row, INDEX for a missing r,
--- then 01's from LONG on for the new row"
+-- then 01's from LONG on for the new row"; SAME "against every other row" (W-208)
 unfoldable pub editOf : Edit → Table → Read Table
 editOf (append row) T =
     when (leb 64 (length (T .rows))) (refused reason.Full input.Table 0)
-    (andThen (rowOf (T .width) row) (λ (_ : ℕ). read (table (T .width) (T .rows ++ (row ∷ [])))))
+    (andThen (rowOf (T .width) (T .rows) row) (λ (_ : ℕ). read (table (T .width) (T .rows ++ (row ∷ [])))))
 editOf drop-last T =
     when (leb (length (T .rows)) 1) (refused reason.Last input.Table 0)
     (read (table (T .width) (take (length (T .rows) - 1) (T .rows))))
 editOf (replace r row) T =
     when (leb (length (T .rows)) r) (refused reason.Index input.Table 0)
-    (andThen (rowOf (T .width) row) (λ (_ : ℕ). read (table (T .width) (set (T .rows) r row))))
+    (andThen (rowOf (T .width) (others r (T .rows)) row) (λ (_ : ℕ). read (table (T .width) (set (T .rows) r row))))
 
 -- What an edit answers of a record that holds a table, and what the record then is: what is answered for the new table, with the record
 -- that holds it; or, "a refused edit changes nothing", the refusal, with the record as it was

@@ -4,18 +4,20 @@ use mathlib.Core.Path.{_≡_}
 use mathlib.Core.List.{List}
 use lib.ListN.{length, replicate}
 use Rattle.refusal.specs.Read.{read}
-use Rattle.table.specs.Table.{Table, tableOf, Row}
+use Rattle.table.specs.Table.{Table, tableOf, others, Row, Apart}
 use Rattle.state.specs.code.First.{TableRows}
 use Rattle.record.specs.Record.{cellsIn, tableIn}
 use Rattle.record.specs.code.Rows.{inRoom, tableWith}
 use Rattle.edits.specs.declared.rows.Place.{Place}
 
--- what is given where a row is put: a table that is read, and a row for it, at a place where there is one or after the last
+-- what is given where a row is put: a table that is read, and a row for it beside its other rows, at a place where there is one or after
+-- the last
 pub record Joins (cells row starts : List ℕ) (at : Place) (next : List ℕ) : Type 0 where
   pub rows : TableRows cells starts (at .width) (at .count)
   pub there : at .number ≤ at .count
   pub low : at .number < 64
-  pub is-row : Row (at .width) row
+  pub is-row : Row (rows .table .width) row
+  pub apart : Apart (others (at .number) (rows .table .rows)) row
   pub empty : next ≡ replicate 2050 0
 
 -- the cells of the table with the row, in their room, and how many they are
