@@ -19,7 +19,7 @@ use Rattle.table.specs.declared.TableRead.{TableRead}
 use Rattle.table.specs.declared.GoalAnswer.{GoalAnswer}
 use Rattle.table.specs.Table.{Table, tableOf, tableSays, TableReads, goalOf, goalWith, goalTold, goalSays, rowIn, IsGoal}
 use Rattle.table.specs.Table.{met, termsFrom, upFrom}
-use Rattle.table.proofs.ReadLaws.{apart, read-one, within-bounds}
+use Rattle.table.proofs.ReadLaws.{apart, read-one, refuse-one, within-bounds}
 use Rattle.table.proofs.Accepted.{is-table, table-accepted, goal-accepted, goal-is}
 use Rattle.checker.specs.declared.PlanAnswer.{PlanAnswer}
 use Rattle.checker.specs.declared.PlanAnswer.the-variants as plan-answer
@@ -55,9 +55,6 @@ clash e = absurd (let z : _≡_ {A = ℕ} 0 1 = cc in omega arith)
 
 pub turned-one : {f h : Refused} → turned f ≡ turned h → f ≡ h
 turned-one e = cc
-
-pub refuse-one : {A : Type 0} {f h : Refused} → _≡_ {A = Read A} (refuse f) (refuse h) → f ≡ h
-refuse-one e = cc
 
 -- what is answered is a refusal exactly when what is read is
 table-turned : (x : Read Table) (f : Refused) → (tableSays x ≡ turned f) ↔ (x ≡ refuse f)

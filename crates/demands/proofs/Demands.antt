@@ -10,7 +10,7 @@
 --   BuiltInto by t room room′ r               builder::build_plan
 --   Ran t p g room room′ r                    run::run_plan
 --   JobsRun t p cells jobs jobs′ (planTold r) run::run_jobs
-use Prim.Native.Nat.{ℕ, _≤_, _<_}
+use Prim.Native.Nat.{ℕ, _+_, _*_, _≤_, _<_}
 use mathlib.Core.Path.{_≡_}
 use mathlib.Core.Bool.{true}
 use mathlib.Core.Logic.{_↔_}
@@ -19,15 +19,21 @@ use lib.ListN.{length, getD}
 use Rattle.cell.specs.Cell.{isVar}
 use Rattle.term.specs.Unify.{Finite, Matches}
 use Rattle.term.proofs.Finite.{finite-unifier}
-use Rattle.refusal.specs.Refusal.{answered}
-use Rattle.refusal.specs.Read.{read}
+use Rattle.refusal.specs.Refusal.{refused, answered}
+use Rattle.refusal.specs.declared.Reason.the-variants as reason
+use Rattle.refusal.specs.declared.Input.the-variants as input
+use Rattle.refusal.specs.Read.{read, refuse}
 use Rattle.table.specs.declared.TableRead.{TableRead}
 use Rattle.table.specs.declared.GoalAnswer.{GoalAnswer}
-use Rattle.table.specs.Table.{Table, table, tableOf, goalOf, goalWith, goalTold, goalSays, rowIn, TableReads, IsTable, IsGoal, count}
+use Rattle.table.specs.Table.{Table, table, tableOf, goalOf, goalWith, goalTold, goalSays, rowOf, rowIn, TableReads}
+use Rattle.table.specs.Table.{IsTable, IsGoal, count, Repeats, RowRepeats}
 use Rattle.table.proofs.Accepted.{table-accepted, goal-accepted, accepted-row}
+use Rattle.table.proofs.SameLaws.{same-exactly, row-same-exactly}
 use Rattle.checker.specs.declared.PlanAnswer.{PlanAnswer}
 use Rattle.checker.specs.Checked.{planTold, planSays}
+use Rattle.plan.specs.Plans.{Plan, write, branches, OneRow}
 use Rattle.plan.specs.Check.{planOf}
+use Rattle.plan.proofs.OneRow.{table-one-row}
 use Rattle.least.specs.declared.By.{By}
 use Rattle.least.specs.declared.By.the-variants.{Branches}
 use Rattle.builder.specs.declared.BuildAnswer.{BuildAnswer}
@@ -102,6 +108,21 @@ demand-3-fewest = fewest-built
 pub demand-3-once : (t : List ℕ) {T : Table} → tableOf t ≡ read T → (j : ℕ) → j < length (T .rows) → (v : ℕ) → isVar v ≡ true
     → count v (getD (T .rows) j []) ≤ 1
 demand-3-once t e j l = accepted-row t e j l .once
+
+-- W-208 (02). "From then on a leaf has exactly one row": of every plan of an accepted table, which so has 3·B + 2 − R cells for R rows. That
+-- no row without variables stands twice in a table is in `demand-1-table`: `IsTable .apart`.
+pub request-208 : (t : List ℕ) {T : Table} → tableOf t ≡ read T → (p : Plan (T .width) (T .rows))
+    → OneRow p × (length (write p) + length (T .rows) ≡ 3 * branches p + 2)
+request-208 = table-one-row
+
+-- "Refuse it anywhere in the table .. SAME at the later row's first cell, when that row is complete, before anything of the next row and
+-- before EXTRA"; and beside other rows, in an edit, at 0.
+pub request-208-same : (t : List ℕ) (p : ℕ) → (tableOf t ≡ refuse (refused reason.Same input.Table p)) ↔ Repeats t p
+request-208-same = same-exactly
+
+pub request-208-edits : (w : ℕ) (others : List (List ℕ)) (row : List ℕ)
+    → (rowOf w others row ≡ refuse (refused reason.Same input.Table 0)) ↔ RowRepeats w others row
+request-208-edits = row-same-exactly
 
 -- W-202 (02). Every goal of a list is answered in its record as by itself, refused ones too; a bad table or plan touches no record.
 pub request-202 : {t p cells : List ℕ} {jobs jobs′ : List Job} {r : PlanAnswer} → JobsRun t p cells jobs jobs′ (planTold r)

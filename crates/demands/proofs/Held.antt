@@ -9,9 +9,11 @@ use Rattle.refusal.specs.Read.{read}
 use Rattle.refusal.proofs.CodedLaws.{coded-one}
 use Rattle.table.specs.declared.TableRead.{TableRead}
 use Rattle.table.specs.declared.GoalAnswer.{GoalAnswer}
+use Rattle.table.specs.declared.RowAnswer.{RowAnswer}
 use Rattle.table.specs.declared.Part.{Part}
-use Rattle.table.specs.Table.{Table, tableOf, tableSays, goalOf, goalWith, goalTold, goalSays, TableReads, rowIn, RowPlace, upFrom}
-use Rattle.table.proofs.Fixed.{table-fixed, goal-for-fixed, goal-fixed, place-fixed, row-fixed}
+use Rattle.table.specs.Table.{Table, tableOf, tableSays, goalOf, goalWith, goalTold, goalSays, rowOf, rowTold}
+use Rattle.table.specs.Table.{TableReads, rowIn, RowPlace, upFrom}
+use Rattle.table.proofs.Fixed.{table-fixed, goal-for-fixed, goal-fixed, row-beside-fixed, place-fixed, row-fixed}
 use Rattle.plan.specs.Check.{planOf}
 use Rattle.checker.specs.declared.PlanAnswer.{PlanAnswer}
 use Rattle.checker.specs.Checked.{planTold, planSays}
@@ -67,6 +69,10 @@ held-goal = goal-fixed
 pub held-goal-for : (w : ℕ) (g : List ℕ) {r s : GoalAnswer} → goalTold r ≡ goalSays g (goalOf w g) → goalTold s ≡ goalSays g (goalOf w g)
     → r ≡ s
 held-goal-for = goal-for-fixed
+
+pub held-row-beside : (w : ℕ) (others : List (List ℕ)) (row : List ℕ) {r s : RowAnswer} → rowTold r ≡ rowOf w others row
+    → rowTold s ≡ rowOf w others row → r ≡ s
+held-row-beside = row-beside-fixed
 
 pub held-check : (t p : List ℕ) {r s : PlanAnswer} → planTold r ≡ planSays (planOf t p) → planTold s ≡ planSays (planOf t p) → r ≡ s
 held-check = plan-fixed

@@ -11,8 +11,8 @@ use Rattle.refusal.specs.Refusal.{Refused, refused, Answer, answered, turned}
 use Rattle.refusal.specs.declared.Reason.the-variants as reason
 use Rattle.refusal.specs.declared.Input.the-variants as input
 use Rattle.refusal.specs.Read.{Read, read, refuse, when, andThen}
-use Rattle.table.specs.Table.{Table, table, tableOf, rowOf}
-use Rattle.table.proofs.ReadLaws.{apart, read-one}
+use Rattle.table.specs.Table.{Table, table, tableOf, others, rowOf}
+use Rattle.table.proofs.ReadLaws.{apart, read-one, refuse-one}
 use Rattle.record.specs.Record.{Holds}
 use Rattle.record.specs.Edits.{Edit, append, drop-last, replace, editOf, WorkedOut, no-record, worked, Edited, no-edit, edit}
 use Rattle.record.proofs.EditKeeps.{edit-keeps}
@@ -22,7 +22,7 @@ use Rattle.builder.specs.declared.BuildAnswer.{BuildAnswer}
 use Rattle.builder.specs.Build.{BuiltFrom}
 use Rattle.demands.specs.Records.{MakesRecord, EditTurned, full, last, index, bad-append, bad-replace}
 use Rattle.demands.specs.Records.{EditsRecord, Anew, BuildsFrom, TablePart}
-use Rattle.demands.proofs.Cited.{clash, turned-one, refuse-one, build-kept, least-built}
+use Rattle.demands.proofs.Cited.{clash, turned-one, build-kept, least-built}
 
 -- working a record out
 pub makes-record : {figure : ℕ} {cells rec rec′ : List ℕ} {answer : Answer} → WorkedOut figure cells rec rec′ answer
@@ -53,9 +53,9 @@ module _ (T : Table) where
 
   turned-edit : (e : Edit) {f : Refused} → editOf e T ≡ refuse f → EditTurned T e f
   unfolding editOf
-  turned-edit (append row) {f} = go (leb 64 (length (T .rows))) refl (rowOf (T .width) row) refl
+  turned-edit (append row) {f} = go (leb 64 (length (T .rows))) refl (rowOf (T .width) (T .rows) row) refl
     where
-      go : (b : Bool) → leb 64 (length (T .rows)) ≡ b → (x : Read ℕ) → rowOf (T .width) row ≡ x
+      go : (b : Bool) → leb 64 (length (T .rows)) ≡ b → (x : Read ℕ) → rowOf (T .width) (T .rows) row ≡ x
           → when b (refused reason.Full input.Table 0) (andThen x (λ (_ : ℕ). read (table (T .width) (T .rows ++ (row ∷ []))))) ≡ refuse f
           → EditTurned T (append row) f
       go true h x q e = rw (← refuse-one e) (full (leb-true 64 (length (T .rows)) h))
@@ -68,9 +68,9 @@ module _ (T : Table) where
           → EditTurned T drop-last f
       go true h e = rw (← refuse-one e) (last (leb-true (length (T .rows)) 1 h))
       go false h e = apart e
-  turned-edit (replace r row) {f} = go (leb (length (T .rows)) r) refl (rowOf (T .width) row) refl
+  turned-edit (replace r row) {f} = go (leb (length (T .rows)) r) refl (rowOf (T .width) (others r (T .rows)) row) refl
     where
-      go : (b : Bool) → leb (length (T .rows)) r ≡ b → (x : Read ℕ) → rowOf (T .width) row ≡ x
+      go : (b : Bool) → leb (length (T .rows)) r ≡ b → (x : Read ℕ) → rowOf (T .width) (others r (T .rows)) row ≡ x
           → when b (refused reason.Index input.Table 0) (andThen x (λ (_ : ℕ). read (table (T .width) (set (T .rows) r row)))) ≡ refuse f
           → EditTurned T (replace r row) f
       go true h x q e = rw (← refuse-one e) (index (leb-true (length (T .rows)) r h))

@@ -11,7 +11,7 @@ use Rattle.refusal.specs.declared.Reason.the-variants as reason
 use Rattle.refusal.specs.declared.Input.the-variants as input
 use Rattle.refusal.specs.Read.{Read, read, refuse, andThen}
 use Rattle.table.specs.Table.{Table, tableOf, goalOf, Row, IsGoal}
-use Rattle.table.proofs.ReadLaws.{apart, read-one, first}
+use Rattle.table.proofs.ReadLaws.{apart, read-one, refuse-one, first}
 use Rattle.table.proofs.Accepted.{is-table, goal-accepted}
 use Rattle.plan.specs.Check.{planOf}
 use Rattle.answer.specs.declared.RunAnswer.{RunAnswer}
@@ -28,7 +28,7 @@ use Rattle.instance.proofs.StartLaws.{head-below}
 use Rattle.instance.proofs.RepliesLaws.{replies-take}
 use Rattle.instance.proofs.RoomLaws.{replies-few, replies-each}
 use Rattle.demands.specs.Replies.{RepliesTurned, bad-table, bad-plan, bad-goal, bad-room, RepliesRefused, Said, Says}
-use Rattle.demands.proofs.Cited.{clash, turned-one, refuse-one}
+use Rattle.demands.proofs.Cited.{clash, turned-one}
 
 -- what turns the entry away before the room
 asked-turned : {t p g room : List ℕ} {f : Refused} → repliesOf t p g ≡ refuse f → RepliesTurned t p g room f

@@ -9,7 +9,7 @@ use Rattle.refusal.specs.Refusal.{Refused, refused, Answer, answered, turned}
 use Rattle.refusal.specs.declared.Reason.the-variants as reason
 use Rattle.refusal.specs.declared.Input.the-variants as input
 use Rattle.refusal.specs.Read.{read, refuse}
-use Rattle.table.specs.Table.{Table, tableOf, rowOf}
+use Rattle.table.specs.Table.{Table, tableOf, others, rowOf}
 use Rattle.least.specs.Entries.{SameAt}
 use Rattle.least.specs.Measures.{tableBy}
 use Rattle.least.specs.declared.By.the-variants.{Work}
@@ -26,13 +26,14 @@ pub record MakesRecord (figure : ℕ) (cells rec rec′ : List ℕ) (answer : An
   pub made : (T : Table) → tableBy (Work figure) cells ≡ read T → Holds rec′ figure T × (answer ≡ answered (T .width) (length (T .rows)))
 
 -- "Refusals: FULL to append at 64 rows, LAST to drop the only row, INDEX for a missing r, then 01's from LONG on for the new row, places
--- from its start": what turns an edit away, and the refusal that it gets
+-- from its start", and W-208's "against every other row, at 0": what turns an edit away, and the refusal that it gets
 pub data EditTurned (T : Table) : Edit → Refused → Type 0 where
   full : {row : List ℕ} → 64 ≤ length (T .rows) → EditTurned T (append row) (refused reason.Full input.Table 0)
   last : length (T .rows) ≤ 1 → EditTurned T drop-last (refused reason.Last input.Table 0)
   index : {r : ℕ} {row : List ℕ} → length (T .rows) ≤ r → EditTurned T (replace r row) (refused reason.Index input.Table 0)
-  bad-append : {row : List ℕ} {f : Refused} → length (T .rows) < 64 → rowOf (T .width) row ≡ refuse f → EditTurned T (append row) f
-  bad-replace : {r : ℕ} {row : List ℕ} {f : Refused} → r < length (T .rows) → rowOf (T .width) row ≡ refuse f
+  bad-append : {row : List ℕ} {f : Refused} → length (T .rows) < 64 → rowOf (T .width) (T .rows) row ≡ refuse f
+      → EditTurned T (append row) f
+  bad-replace : {r : ℕ} {row : List ℕ} {f : Refused} → r < length (T .rows) → rowOf (T .width) (others r (T .rows)) row ≡ refuse f
       → EditTurned T (replace r row) f
 
 -- an edit of a record that holds a table

@@ -22,7 +22,7 @@ use Rattle.answer.specs.Run.{runOf}
 use Rattle.instance.specs.Replied.{repliesOf}
 use Rattle.table.proofs.Accepted.{is-table}
 use Rattle.refusal.specs.Read.{Read, read, refuse, when, andThen}
-use Rattle.table.specs.Table.{Table, Met, met, counted, termsFrom, before, rowsFrom, tableOf, table, goalOf, rowOf}
+use Rattle.table.specs.Table.{Table, Met, met, counted, termsFrom, before, doubled, rowsFrom, tableOf, table, goalOf, others, rowOf}
 use Rattle.record.specs.Edits.{Edit, append, drop-last, replace, editOf}
 
 -- a refusal has its names and a place of at most n; what is read has P
@@ -83,15 +83,17 @@ placed-before : {n : ℕ} (r : List ℕ) {rs : Read (List (List ℕ))} → Place
 placed-before r (good p) = good tt
 placed-before r (turned k i p l) = turned k i p l
 
-placed-rows : (w k : ℕ) (xs : List ℕ) (p n : ℕ) → p + length xs ≡ n → Placed n Any (rowsFrom w k xs p)
+placed-rows : (w k : ℕ) (seen : List (List ℕ)) (xs : List ℕ) (p n : ℕ) → p + length xs ≡ n → Placed n Any (rowsFrom w k seen xs p)
 unfolding rowsFrom Within
-placed-rows w zero [] p n e = good tt
-placed-rows w zero (c ∷ xs) p n e = turned reason.Extra input.Table p (omega arith)
-placed-rows w (suc k) xs p n e =
-    placed-then (λ (m : Met). before (take (m .next - p) xs) (rowsFrom w k (drop (m .next - p) xs) (m .next)))
+placed-rows w zero seen [] p n e = good tt
+placed-rows w zero seen (c ∷ xs) p n e = turned reason.Extra input.Table p (omega arith)
+placed-rows w (suc k) seen xs p n e =
+    placed-then _
     (placed-terms true xs w 0 0 p n e)
-    (λ m i. placed-before (take (m .next - p) xs)
-    (placed-rows w k (drop (m .next - p) xs) (m .next) n (omega (arith, length-drop (m .next - p) xs))))
+    (λ m i.
+    placed-when (doubled m (take (m .next - p) xs) seen) reason.Same input.Table p (omega arith) (λ _.
+    placed-before (take (m .next - p) xs)
+    (placed-rows w k (take (m .next - p) xs ∷ seen) (drop (m .next - p) xs) (m .next) n (omega (arith, length-drop (m .next - p) xs)))))
 
 -- a bound may be larger
 pub widen : {A : Type 0} {n m : ℕ} {r : Read A} → n ≤ m → Placed n Any r → Placed m Any r
@@ -113,23 +115,28 @@ placed-cells (c ∷ xs) (suc owed) used vars l =
     placed-when (true && (eqb (v .kind) 0 && ltb (v .number) vars)) reason.Twice input.Table used l (λ _.
     placed-cells xs (v .args + owed) (suc used) (counted v vars) (omega (arith, leb-false 32 used h))))))
 
-placed-row : (w : ℕ) (row : List ℕ) → Placed 32 (Any {A = ℕ}) (rowOf w row)
+placed-row : (w : ℕ) (rows : List (List ℕ)) (row : List ℕ) → Placed 32 (Any {A = ℕ}) (rowOf w rows row)
 unfolding rowOf
-placed-row w row =
-    placed-then (λ (m : Met). when (ltb (m .next) (length row)) (refused reason.Extra input.Table (m .next)) (read (m .vars)))
+placed-row w rows row =
+    placed-then (λ (m : Met).
+    when (doubled m (take (m .next) row) rows) (refused reason.Same input.Table 0)
+    (when (ltb (m .next) (length row)) (refused reason.Extra input.Table (m .next)) (read (m .vars))))
     (placed-cells row w 0 0 (omega arith))
-    (λ m l. placed-when (ltb (m .next) (length row)) reason.Extra input.Table (m .next) l (λ _. good tt))
+    (λ m l.
+    placed-when (doubled m (take (m .next) row) rows) reason.Same input.Table 0 (omega arith) (λ _.
+    placed-when (ltb (m .next) (length row)) reason.Extra input.Table (m .next) l (λ _. good tt)))
 
 -- so an edit's refusal is at one of its places, or at 0
 pub placed-edit : (e : Edit) (T : Table) → Placed 32 (Any {A = Table}) (editOf e T)
 unfolding editOf
 placed-edit (append row) T =
     placed-when (leb 64 (length (T .rows))) reason.Full input.Table 0 (omega arith) (λ _.
-    placed-then (λ (_ : ℕ). read (table (T .width) (T .rows ++ (row ∷ [])))) (placed-row (T .width) row) (λ _ _. good tt))
+    placed-then (λ (_ : ℕ). read (table (T .width) (T .rows ++ (row ∷ [])))) (placed-row (T .width) (T .rows) row) (λ _ _. good tt))
 placed-edit drop-last T = placed-when (leb (length (T .rows)) 1) reason.Last input.Table 0 (omega arith) (λ _. good tt)
 placed-edit (replace r row) T =
     placed-when (leb (length (T .rows)) r) reason.Index input.Table 0 (omega arith) (λ _.
-    placed-then (λ (_ : ℕ). read (table (T .width) (set (T .rows) r row))) (placed-row (T .width) row) (λ _ _. good tt))
+    placed-then (λ (_ : ℕ). read (table (T .width) (set (T .rows) r row)))
+    (placed-row (T .width) (others r (T .rows)) row) (λ _ _. good tt))
 
 -- both sides of a test with two ways to fail
 or-false : (a b : Bool) → (a || b) ≡ false → (a ≡ false) × (b ≡ false)
@@ -145,7 +152,7 @@ placed-table t =
     let hi = ltb-false 2050 (length t) (e .1) in
     placed-when (ltb (getD t 0 0) 1 || ltb 8 (getD t 0 0)) reason.Width input.Table 0 (omega arith) (λ _.
     placed-when (ltb (getD t 1 0) 1 || ltb 64 (getD t 1 0)) reason.Count input.Table 1 (omega arith) (λ _.
-    let rows = placed-rows (getD t 0 0) (getD t 1 0) (drop 2 t) 2 (length t) (omega (arith, length-drop 2 t)) in
+    let rows = placed-rows (getD t 0 0) (getD t 1 0) [] (drop 2 t) 2 (length t) (omega (arith, length-drop 2 t)) in
     placed-then (λ (rs : List (List ℕ)). read (table (getD t 0 0) rs)) (widen hi rows) (λ x _. good tt))))
 
 pub placed-goal : (w : ℕ) (g : List ℕ) → Placed 32 (Any {A = ℕ}) (goalOf w g)

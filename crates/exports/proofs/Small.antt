@@ -16,6 +16,7 @@ use Rattle.refusal.proofs.CodedLaws.{refused-small, small-by}
 use Rattle.refusal.specs.Read.{Read, read, refuse, andThen}
 use Rattle.table.specs.Table.{Table, tableOf, tableSays, goalOf, goalSays, goalWith, rowIn, startsIn, starts, Row}
 use Rattle.table.specs.All.{All}
+use Rattle.table.proofs.ReadLaws.{refuse-one}
 use Rattle.table.proofs.Accepted.{is-table, is-goal, table-short}
 use Rattle.table.proofs.HeadLaws.{head-few}
 use Rattle.plan.specs.Check.{planFor, planOf}
@@ -124,9 +125,6 @@ plan-cells t T plan e =
     let b = bound plan 32 f (i .count .0) in
     (size-bound plan f (i .count .0) (i .count .1), omega (arith, i .count .1))
 
-refuse-same : {f g : Refused} → _≡_ {A = Read Table} (refuse f) (refuse g) → f ≡ g
-refuse-same e = cc
-
 read-by : (b : By) (t : List ℕ) {T : Table} → tableBy b t ≡ read T → tableOf t ≡ read T
 read-by b t e = sym (by-table b t (by-read b t e)) ∙ e
 
@@ -146,7 +144,7 @@ turned-small b t {f} e = go (leb (measureOf b .figure) 15) refl
     go true q = placed-small (omega arith) (placed-table t) (sym (by-table b t (leb-true (measureOf b .figure) 15 q)) ∙ e)
     go false q =
         let x : refuse (refused reason.Figure input.Figure 0) ≡ refuse f = sym (by-figure b t (leb-false (measureOf b .figure) 15 q)) ∙ e in
-        let y : refused reason.Figure input.Figure 0 ≡ f = refuse-same x in
+        let y : refused reason.Figure input.Figure 0 ≡ f = refuse-one x in
         rw (← y) (refused-small reason.Figure input.Figure 0 (omega arith))
 
 -- a record that holds a table: its width and rows
