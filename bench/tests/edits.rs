@@ -7,7 +7,7 @@ use dudowiej_bench::compare::{edits, Tally};
 use dudowiej_bench::engine::{Engine, Plain};
 use dudowiej_bench::model::least::{every_run, Measure};
 use dudowiej_bench::model::plan::{grow, Plan};
-use dudowiej_bench::model::read::read_table;
+use dudowiej_bench::model::read::{read_table, ROWS};
 use dudowiej_bench::model::record::{figure_in, table_in, Record};
 
 fn found(wrong: Altered) {
@@ -241,6 +241,54 @@ fn another_order_of_refusals() {
         append: |record, row| match Plain.append(record, row) {
             full if full == refused(21) && row.first() == Some(&(3 << 30)) => refused(6),
             answer => answer,
+        },
+        ..RIGHT
+    });
+}
+
+/// The row, but one, that a row equals or begins with: its number and its cells.
+fn doubled(record: &Record, but: usize, row: &[u32]) -> Option<(usize, usize)> {
+    let cells = table_in(record);
+    let rows = read_table(cells).ok()?.rows;
+    let mut others = rows.iter().enumerate().filter(|&(number, _)| number != but);
+    others.find(|(_, other)| row.starts_with(&cells[other.start..other.start + other.cells])).map(|(number, other)| (number, other.cells))
+}
+
+/// An engine that answers something else where a row of one of its edits is SAME, with the row that it equals.
+fn append_same(record: &mut Record, row: &[u32], wrong: fn(&[u32], (usize, usize)) -> u64) -> u64 {
+    match Plain.append(record, row) {
+        same if same == refused(24) => wrong(row, doubled(record, ROWS, row).expect("the row is doubled")),
+        answer => answer,
+    }
+}
+
+#[test]
+fn a_doubled_row_refused_otherwise() {
+    // After EXTRA; at the row that it equals; not at all.
+    found(Altered {
+        append: |record, row| {
+            append_same(record, row, |row, (_, cells)| if cells < row.len() { refused(9) | (cells as u64) << 16 } else { refused(24) })
+        },
+        ..RIGHT
+    });
+    found(Altered { append: |record, row| append_same(record, row, |_, (number, _)| refused(24) | (number as u64) << 16), ..RIGHT });
+    found(Altered { append: |record, row| append_same(record, row, |_, _| 0), ..RIGHT });
+}
+
+#[test]
+fn a_row_against_some_of_the_others() {
+    // Those before it; and itself too.
+    found(Altered {
+        replace: |record, r, row| match Plain.replace(record, r, row) {
+            same if same == refused(24) && doubled(record, r, row).is_some_and(|(number, _)| number > r) => 0,
+            answer => answer,
+        },
+        ..RIGHT
+    });
+    found(Altered {
+        replace: |record, r, row| match doubled(record, ROWS, row) {
+            Some((number, _)) if number == r => refused(24),
+            _ => Plain.replace(record, r, row),
         },
         ..RIGHT
     });

@@ -16,9 +16,11 @@ const SHORT: u64 = 5;
 const CELL: u64 = 6;
 const FRESH: u64 = 7;
 const TWICE: u64 = 8;
+const EXTRA: u64 = 9;
 const EDGES: u64 = 13;
 
 const FIGURE: u64 = 20;
+const SAME: u64 = 24;
 
 const TABLE: u64 = 1;
 const PLAN: u64 = 2;
@@ -159,8 +161,7 @@ fn p3() {
 #[test]
 fn p4_p5_p6() {
     builds("(v0)", 1, "0 1 v0 1");
-    builds("(a) (a)", 1, "0 1 a 2");
-    runs("(a) (a)", "(a)", &[0, 1], 1);
+    reads(&table("(a) (a)"), refused(SAME, TABLE, 3));
     builds("(v0) (v0)", 2, "0 2 v0 1 v0 1");
 }
 
@@ -200,8 +201,10 @@ fn five_arguments() {
 }
 
 #[test]
-fn six_rows_cost_13_and_not_14() {
-    let rows = "(a,x,x,x) (a,x,x,x) (a,y,y,y) (b,y,y,y) (b,z,z,z) (b,z,z,z)";
+fn four_rows_cost_13_and_not_14() {
+    // 01's six rows are refused: the second and the sixth stand twice (02, W-208).
+    reads(&table("(a,x,x,x) (a,x,x,x) (a,y,y,y) (b,y,y,y) (b,z,z,z) (b,z,z,z)"), refused(SAME, TABLE, 6));
+    let rows = "(a,x,x,x) (a,y,y,y) (b,y,y,y) (b,z,z,z)";
     costs(rows, 13);
     // The first place has two runs and leads to 14, the second has three and leads to 13.
     let read = read::read_table(&table(rows)).unwrap();
@@ -217,6 +220,20 @@ fn six_rows_cost_13_and_not_14() {
             assert_eq!(engine.check_plan(&record(engine, &table(rows), 0), &plan.write()), answered(cost as u64, 0));
         }
     }
+}
+
+#[test]
+fn doubled_rows() {
+    let (a, b, no_cell) = (name('a', 0), name('b', 0), 3 << 30);
+    reads(&[1, 3, a, b, a], refused(SAME, TABLE, 4));
+    // Before anything of the next row, and before EXTRA.
+    for after in [&[1, 3, a, a, no_cell][..], &[1, 3, a, a], &[1, 2, a, a, a]] {
+        reads(after, refused(SAME, TABLE, 3));
+    }
+    // A row that is not complete, a cell that is of no row, and rows with a variable.
+    reads(&[2, 2, a, b, a, no_cell], refused(CELL, TABLE, 5));
+    reads(&[1, 2, a, b, a], refused(EXTRA, TABLE, 4));
+    reads(&[1, 2, 0, 0], answered(1, 2));
 }
 
 #[test]

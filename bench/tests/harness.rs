@@ -46,6 +46,80 @@ fn refusing_everything() {
     found(Altered { check_plan: |_, _| 0x20a, ..RIGHT });
 }
 
+/// A table whose reading is SAME.
+struct Doubled<'t> {
+    table: &'t [u32],
+    answer: u64,
+    /// Where the later row starts, and the rows before it.
+    place: usize,
+    rows: Vec<Vec<u32>>,
+    /// Which of them it equals.
+    equal: usize,
+}
+
+impl Doubled<'_> {
+    fn new(table: &[u32], answer: u64) -> Doubled<'_> {
+        let place = (answer >> 16) as usize;
+        let cut = |count| [&[table[0], count], &table[2..place]].concat();
+        let (cells, read) = (1..=64).find_map(|count| read_table(&cut(count)).ok().map(|read| (cut(count), read))).expect("whole rows");
+        let rows: Vec<Vec<u32>> = read.rows.iter().map(|row| cells[row.start..row.start + row.cells].to_vec()).collect();
+        let equal = rows.iter().position(|row| table[place..].starts_with(row)).expect("the row is doubled");
+        Doubled { table, answer, place, rows, equal }
+    }
+
+    /// What is answered where the later row has another last cell.
+    fn read_on(&self) -> u64 {
+        let mut other = self.table.to_vec();
+        other[self.place + self.rows[self.equal].len() - 1] = 2 << 30 | 0x7abc;
+        Plain.read_table(&other)
+    }
+}
+
+/// The right reading, but another answer where it is SAME.
+fn where_same(table: &[u32], wrong: fn(Doubled) -> u64) -> u64 {
+    match Plain.read_table(table) {
+        same if number(same) == 24 => wrong(Doubled::new(table, same)),
+        answer => answer,
+    }
+}
+
+#[test]
+fn a_doubled_row_refused_otherwise() {
+    // Only of neighbours; at the earlier row; not at all.
+    found(Altered {
+        read_table: |table| where_same(table, |doubled| if doubled.equal + 1 == doubled.rows.len() { doubled.answer } else { doubled.read_on() }),
+        ..RIGHT
+    });
+    found(Altered {
+        read_table: |table| where_same(table, |doubled| 24 | 1 << 8 | (2 + doubled.rows[..doubled.equal].concat().len() as u64) << 16),
+        ..RIGHT
+    });
+    found(Altered { read_table: |table| where_same(table, |doubled| doubled.read_on()), ..RIGHT });
+    // After EXTRA; after what is wrong in a later row.
+    found(Altered {
+        read_table: |table| where_same(table, |doubled| if number(doubled.read_on()) == 9 { doubled.read_on() } else { doubled.answer }),
+        ..RIGHT
+    });
+    found(Altered {
+        read_table: |table| {
+            where_same(table, |doubled| if (4..=8).contains(&number(doubled.read_on())) { doubled.read_on() } else { doubled.answer })
+        },
+        ..RIGHT
+    });
+}
+
+#[test]
+fn equal_rows_with_variables_refused() {
+    found(Altered {
+        read_table: |table| {
+            let rows = read_table(table).map_or(Vec::new(), |read| read.rows);
+            let doubled = (1..rows.len()).find(|&later| rows[..later].iter().any(|row| row.arguments == rows[later].arguments));
+            doubled.map_or_else(|| Plain.read_table(table), |later| 24 | 1 << 8 | (rows[later].start as u64) << 16)
+        },
+        ..RIGHT
+    });
+}
+
 #[test]
 fn a_row_past_the_last() {
     found(Altered { row: |record, row| Plain.row(record, row.min(63)), ..RIGHT });

@@ -63,8 +63,10 @@ const RUNS: [(u32, Pair); 10] = [
 ];
 
 /// Edits of that record with the table's rows and cells afterwards, and the pairs that the request names as changed; all others stay.
-fn accepted() -> [(Edit, [u32; 2], Vec<Pair>); 3] {
+fn accepted() -> [(Edit, [u32; 2], Vec<Pair>); 4] {
     [
+        // A row put back in its own place.
+        (Edit::Replace(0, goal("(a,b,c)")), [4, 14], vec![]),
         (
             Edit::Replace(1, goal("(a,c,d)")),
             [4, 14],
@@ -76,7 +78,7 @@ fn accepted() -> [(Edit, [u32; 2], Vec<Pair>); 3] {
 }
 
 /// Edits of that record that are refused, each with its number and place.
-fn refused() -> [(Edit, u64, u64); 10] {
+fn refused() -> [(Edit, u64, u64); 15] {
     let no_cell = 3 << 30;
     let (a, b) = (name('a', 0), name('b', 0));
     [
@@ -85,7 +87,13 @@ fn refused() -> [(Edit, u64, u64); 10] {
         (Edit::Replace(1 << 32, goal("(a,b,c)")), 23, 0),
         (Edit::Append(vec![]), 5, 0),
         (Edit::Append(goal("(a,b)")), 5, 2),
-        (Edit::Append(goal("(a,b,c,d)")), 9, 3),
+        (Edit::Append(goal("(b,b,c,d)")), 9, 3),
+        // SAME, W-208: before EXTRA, after what is wrong in the row itself, and against the rows before and after.
+        (Edit::Append(goal("(a,b,c)")), 24, 0),
+        (Edit::Append(goal("(a,b,c,d)")), 24, 0),
+        (Edit::Replace(0, goal("(a,b,d)")), 24, 0),
+        (Edit::Replace(3, goal("(a,b,c)")), 24, 0),
+        (Edit::Replace(0, [goal("(a,b,d)"), vec![no_cell]].concat()), 24, 0),
         (Edit::Append(goal("(a,v0,v0)")), 8, 2),
         (Edit::Append(goal("(a,v1,b)")), 7, 1),
         (Edit::Append(vec![a, no_cell, b]), 6, 1),
@@ -115,7 +123,8 @@ impl<E: Engine> Comparison<'_, E> {
 
     /// 64 rows, where one more is refused but not after one was dropped; and one row, likewise.
     fn most_and_fewest_rows(&mut self) {
-        let mut full = self.work_out(&table(&["(a)"; ROWS].join(" ")), FIGURE).expect("64 rows");
+        let numbers: Vec<String> = (0..ROWS).map(|row| format!("({row})")).collect();
+        let mut full = self.work_out(&table(&numbers.join(" ")), FIGURE).expect("64 rows");
         self.refused_edit(&full, &Edit::Append(vec![3 << 30]), 21 | 1 << 8);
         for (edit, rows) in [(Edit::DropLast, 63), (Edit::Append(goal("(b)")), 64)] {
             let answer = self.edit(&mut full, &edit);

@@ -17,11 +17,10 @@ const ONE: usize = 1024;
 const ENOUGH: usize = 64 * ONE;
 
 /// Rows, a goal, and what the rows say to it.
-const WRITTEN: [(&str, &str, &str); 15] = [
+const WRITTEN: [(&str, &str, &str); 14] = [
     ("(a,b) (b,c) (a,d)", "(a,v0)", "(a,b) (a,d)"),
     ("(a,b) (b,c) (a,d)", "(v0,v1)", "(a,b) (b,c) (a,d)"),
     ("(a,b) (b,c) (a,d)", "(v0,v0)", ""),
-    ("(a) (a)", "(v0)", "(a) (a)"),
     ("(v0) (v0)", "(v0)", "(v0) (v0)"),
     ("(v0) (v0)", "(g2(v0,v0))", "(g2(v0,v0)) (g2(v0,v0))"),
     ("(a,b) (a,a)", "(v0,v0)", "(a,a)"),
@@ -41,22 +40,21 @@ const ROOMS: [(&str, &str, usize, u64); 6] = [
     ("(a,b) (b,c) (a,d)", "(v0,v1)", 6, 3 << 16 | 6 << 32),
     ("(a,b) (b,c) (a,d)", "(v0,v1)", 5, 16 | 4 << 8 | 6 << 16),
     ("(a,b) (b,c) (a,d)", "(v0,v0)", 0, 0),
-    ("(a) (a)", "(v0)", 2, 2 << 16 | 2 << 32),
-    ("(a) (a)", "(v0)", 1, 16 | 4 << 8 | 2 << 16),
+    ("(v0) (v0)", "(a)", 2, 2 << 16 | 2 << 32),
+    ("(v0) (v0)", "(a)", 1, 16 | 4 << 8 | 2 << 16),
 ];
 
-/// 01's P1 to P8; then P9's two tables and P10's, which are refused.
-const EXAMPLES: [&str; 8] = [
+/// 01's P1 to P8 but P5; then P5's table, P9's two and P10's, which are refused.
+const EXAMPLES: [&str; 7] = [
     "(a,b,c) (a,b,d) (a,c,c) (b,a,c)",
     "(a,b) (b,c) (a,d)",
     "(g,a,1) (g,a,2) (g,a,3) (g,1,b) (g,2,b) (g,3,b)",
     "(v0)",
-    "(a) (a)",
     "(v0) (v0)",
     "(a,b) (a,a)",
     "(f1(a)) (f1(b)) (g)",
 ];
-const REFUSED: [&[u32]; 3] = [&[2, 1, 0, 0], &[1, 1, 1], &[2, 1, 1 << 30 | 97]];
+const REFUSED: [&[u32]; 4] = [&[1, 2, 1 << 30 | 97, 1 << 30 | 97], &[2, 1, 0, 0], &[1, 1, 1], &[2, 1, 1 << 30 | 97]];
 
 impl<E: Engine> Comparison<'_, E> {
     pub(super) fn fixed_replies(&mut self) {

@@ -22,9 +22,9 @@ impl<E: Engine> Comparison<'_, E> {
         self.damaged_plans();
     }
 
-    /// Every table of up to seven cells with width and rows 1 or 2; those accepted are built, checked and run.
+    /// Every table of up to seven cells with width 1 and up to 3 rows, or with width 2 and up to 2; those accepted are built, checked and run.
     fn short_tables(&mut self) {
-        for header in [[1, 1], [1, 2], [2, 1], [2, 2]] {
+        for header in [[1, 1], [1, 2], [1, 3], [2, 1], [2, 2]] {
             words(&[0, 1, A, F1, NINE, NONE], 5, &mut |row_cells| {
                 let table = [&header, row_cells].concat();
                 self.read_table(&table);
@@ -59,7 +59,7 @@ impl<E: Engine> Comparison<'_, E> {
     fn short_plans(&mut self) {
         let tables: [(&[u32], [u32; 6]); 4] = [
             (&[1, 1, 0], [0, 1, 2, 3, A, NINE]),
-            (&[1, 2, A, A], [0, 1, 2, 3, A, B]),
+            (&[1, 2, 0, 0], [0, 1, 2, 3, A, B]),
             (&[1, 2, A, NINE], [0, 1, 2, A, NINE, NONE]),
             (&[2, 2, A, B, A, A], [0, 1, 2, A, B, F1]),
         ];
@@ -74,7 +74,7 @@ impl<E: Engine> Comparison<'_, E> {
         let tables: [&[u32]; 4] = [
             &[2, 3, A, B, B, A, A, A],
             &[1, 3, F1, A, F1, B, A],
-            &[2, 4, 0, A, A, A, A, A, F1, 0, 1],
+            &[2, 4, 0, A, A, A, A, B, F1, 0, 1],
             &[3, 4, A, B, NINE, A, B, B, A, NINE, NINE, B, A, NINE],
         ];
         for table in tables {

@@ -26,11 +26,11 @@ const ENTRIES: [&str; 12] =
 
 /// What replies can be refused with, by input: table, plan, goal, room.
 const OF_REPLIES: [(&str, &[usize]); 4] =
-    [("table", &[1, 2, 3, 4, 5, 6, 7, 8, 9]), ("plan", &[9, 10, 11, 12, 13, 14, 15]), ("goal", &[1, 5, 6, 7, 9]), ("room", &[16])];
+    [("table", &[1, 2, 3, 4, 5, 6, 7, 8, 9, 24]), ("plan", &[9, 10, 11, 12, 13, 14, 15]), ("goal", &[1, 5, 6, 7, 9]), ("room", &[16])];
 
 /// What an edit of a record that was worked out can be refused with.
 const OF_EDITS: [(Entry, &[usize]); 3] =
-    [(Entry::Append, &[21, 4, 5, 6, 7, 8, 9]), (Entry::DropLast, &[22]), (Entry::Replace, &[23, 4, 5, 6, 7, 8, 9])];
+    [(Entry::Append, &[21, 4, 5, 6, 7, 8, 24, 9]), (Entry::DropLast, &[22]), (Entry::Replace, &[23, 4, 5, 6, 7, 8, 24, 9])];
 
 /// How many differences are shown with their inputs.
 const SHOWN: u64 = 5;
@@ -149,7 +149,7 @@ impl Tally {
 
     /// What a text can be answered with, and how often it was.
     fn texts(&self) -> Vec<(&'static str, u64)> {
-        const GIVEN: [usize; 8] = [17, 18, 19, 1, 2, 3, 4, 8];
+        const GIVEN: [usize; 9] = [17, 18, 19, 1, 2, 3, 4, 8, 24];
         let mut met: Vec<_> = GIVEN.iter().map(|&number| (NAMES[number - 1], self.counts[number][Entry::ReadText as usize])).collect();
         met.extend([("ROOM for cells", self.text_rooms[0]), ("ROOM for names", self.text_rooms[1])]);
         met

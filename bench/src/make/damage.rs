@@ -1,19 +1,33 @@
 //! Damage of every kind to cells that were sound.
 
 use crate::model::plan::PLAN_CELLS;
-use crate::model::read::{ROW_CELLS, TABLE_CELLS};
+use crate::model::read::{read_table, ROW_CELLS, TABLE_CELLS};
 use crate::random::Random;
 
-/// Damages a table: its headers, its length or its cells.
+/// Damages a table: its headers, its length, its rows or its cells.
 pub fn table(random: &mut Random, cells: &mut Vec<u32>) {
-    match random.below(8) {
+    match random.below(10) {
         0 => cells[0] = *random.pick(&[0, 9, 10, 1 << 31, u32::MAX]),
         1 => cells[1] = *random.pick(&[0, 65, 66, 1 << 30, u32::MAX]),
         2 => cells[random.below(2)] = random.within(1..=8) as u32,
         3 => lengthened(random, cells, TABLE_CELLS),
         4 => deepened(random, cells, 2),
+        5 => doubled(random, cells),
+        6 => {
+            // What is tested before a doubled row, or after it.
+            doubled(random, cells);
+            any(random, cells);
+        }
         _ => any(random, cells),
     }
+}
+
+/// Puts a copy of a row in the place of another, or of itself.
+fn doubled(random: &mut Random, cells: &mut Vec<u32>) {
+    let rows = read_table(cells).expect("the table was sound").rows;
+    let [copied, lost] = [(); 2].map(|()| random.pick(&rows)).map(|row| row.start..row.start + row.cells);
+    let copy = cells[copied].to_vec();
+    cells.splice(lost, copy);
 }
 
 /// Damages a row that is to be put into a table.

@@ -7,7 +7,8 @@ use crate::random::Random;
 
 const ALPHABET: Alphabet = Alphabet { symbols: 3, variable: 6 };
 
-/// A sound row: one that is there, one of variables, arguments of different rows, terms of any size, or a row with one subterm replaced.
+/// A row that is sound by itself: one that is there, one of variables, arguments of different rows, terms of any size, or a row with one
+/// subterm replaced.
 pub fn any(random: &mut Random, table: &Table) -> Vec<u32> {
     let mut row = random.pick(&table.rows).arguments.clone();
     match random.below(8) {

@@ -50,7 +50,7 @@ fn with_rows(random: &mut Random, kind: Kind, most: usize) -> Vec<u32> {
 
 /// A table of so many rows.
 pub fn table(random: &mut Random, kind: Kind, rows: usize) -> Vec<u32> {
-    cells(&match kind {
+    let mut made = match kind {
         Kind::Shop => shop(random, rows),
         Kind::Nested => varied(random, rows, 2, 8..=20, Alphabet { symbols: 3, variable: 8 }),
         Kind::Blank => blank(random, rows),
@@ -60,7 +60,32 @@ pub fn table(random: &mut Random, kind: Kind, rows: usize) -> Vec<u32> {
             varied(random, rows, width, width..=6, Alphabet { symbols: 2, variable: 4 })
         }
         Kind::Chain => chain(random, rows),
-    })
+    };
+    tell_apart(random, &mut made);
+    cells(&made)
+}
+
+/// A row without variables that stands above gets a variable for one of its leaves.
+fn tell_apart(random: &mut Random, rows: &mut [Row]) {
+    for number in 1..rows.len() {
+        let (above, [row, ..]) = rows.split_at_mut(number) else {
+            unreachable!("the number is below that of the rows");
+        };
+        while above.contains(row) && !row.iter().any(has_variable) {
+            let term = any_subterm(random, row);
+            if term.size() == 1 {
+                *term = Term::Var(0);
+            }
+        }
+    }
+}
+
+fn has_variable(term: &Term) -> bool {
+    match term {
+        Term::Var(_) => true,
+        Term::Name(_, arguments) => arguments.iter().any(has_variable),
+        Term::Number(_) => false,
+    }
 }
 
 /// The table of these rows.

@@ -308,7 +308,8 @@ pub fn long() -> Vec<(String, Vec<u8>)> {
     }
     for rows in [64, 65] {
         // 32 cells in each row.
-        add(format!("{rows} full rows"), facts(&vec!["f(a,b,c)".to_string(); rows * 8], 8));
+        add(format!("{rows} full rows"), facts(&(0..rows * 8).map(|argument| format!("f(a,b,c{})", argument / 8)).collect::<Vec<_>>(), 8));
+        add(format!("{rows} full rows, all the same"), facts(&vec!["f(a,b,c)".to_string(); rows * 8], 8));
     }
     add("64 rows of 8 long names".into(), facts(&(0..512).map(|number| format!("{}{number}", "n".repeat(110))).collect::<Vec<_>>(), 8));
     for bytes in [TEXT_BYTES - 1, TEXT_BYTES, TEXT_BYTES + 1, 2 * TEXT_BYTES] {

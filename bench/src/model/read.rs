@@ -1,4 +1,4 @@
-//! The reading of tables and goals (01, "Tables and goals").
+//! The reading of tables and goals (01, "Tables and goals"; 02, W-208: no row without variables stands twice).
 
 use super::refusal::{Input, Number, Refusal};
 use super::term::{Symbol, Term};
@@ -119,16 +119,22 @@ pub fn read_table(cells: &[u32]) -> Result<Table, Refusal> {
         reader.long_at = start + ROW_CELLS;
         reader.variables = 0;
         let arguments = reader.terms(width)?;
+        if reader.variables == 0 && rows.iter().any(|row: &Row| row.arguments == arguments) {
+            return refused(Number::Same, start);
+        }
         rows.push(Row { start, cells: reader.at - start, variables: reader.variables as usize, arguments });
     }
     reader.nothing_left()?;
     Ok(Table { width, rows })
 }
 
-/// The tests of a row by itself (02, W-207), places from its start.
-pub fn read_row(width: usize, cells: &[u32]) -> Result<(), Refusal> {
+/// The tests of a row beside others (02, W-207 and W-208), places from its start.
+pub fn read_row(width: usize, others: &[Vec<u32>], cells: &[u32]) -> Result<(), Refusal> {
     let mut reader = Reader { input: Input::Table, cells, at: 0, long_at: ROW_CELLS, variables: 0 };
     reader.terms(width)?;
+    if reader.variables == 0 && others.iter().any(|other| *other == cells[..reader.at]) {
+        return Err(Refusal { number: Number::Same, input: Input::Table, place: 0 });
+    }
     reader.nothing_left()
 }
 

@@ -72,7 +72,7 @@ pub fn append(record: &mut Record, row: &[u32]) -> Answer {
         if rows.len() == ROWS {
             return Err(not_here(Number::Full));
         }
-        read_row(width, row)?;
+        read_row(width, rows, row)?;
         rows.push(row.to_vec());
         Ok(())
     })
@@ -92,9 +92,12 @@ pub fn drop_last(record: &mut Record) -> Answer {
 /// Replaces row r.
 pub fn replace(record: &mut Record, r: usize, row: &[u32]) -> Answer {
     edited(record, |width, rows| {
-        let old = rows.get_mut(r).ok_or(not_here(Number::Index))?;
-        read_row(width, row)?;
-        *old = row.to_vec();
+        if r >= rows.len() {
+            return Err(not_here(Number::Index));
+        }
+        rows.remove(r);
+        read_row(width, rows, row)?;
+        rows.insert(r, row.to_vec());
         Ok(())
     })
 }
@@ -146,10 +149,10 @@ mod tests {
     }
 
     #[test]
-    fn equal_rows_are_a_leaf() {
+    fn one_row_is_a_leaf() {
         // A name with an argument costs 2, a name without 1, the choice 15.
-        let record = worked_out("(f1(a)) (f1(a)) (f1(b))", 15);
-        assert_eq!([entry(&record, 0, 1), entry(&record, 0, 2), entry(&record, 1, 0)], [[3, 0, 0], [19, 17, 0], [0, 0, 0]]);
+        let record = worked_out("(f1(a)) (f1(b)) (f1(c))", 15);
+        assert_eq!([entry(&record, 0, 0), entry(&record, 0, 1), entry(&record, 1, 0)], [[3, 0, 0], [19, 17, 0], [0, 0, 0]]);
     }
 
     #[test]

@@ -26,12 +26,13 @@ pub enum Number {
     Full,
     Last,
     Index,
+    Same,
 }
 
 /// Their names, by number from 1.
-pub const NAMES: [&str; 23] = [
+pub const NAMES: [&str; 24] = [
     "LENGTH", "WIDTH", "COUNT", "LONG", "SHORT", "CELL", "FRESH", "TWICE", "EXTRA", "SIZE", "ENDS", "OPEN", "EDGES", "LABEL", "ROWS", "ROOM",
-    "BYTES", "TEXT", "OTHER", "FIGURE", "FULL", "LAST", "INDEX",
+    "BYTES", "TEXT", "OTHER", "FIGURE", "FULL", "LAST", "INDEX", "SAME",
 ];
 
 /// Which input a refusal concerns.

@@ -11,7 +11,7 @@ use crate::model::refusal::NAMES;
 use crate::random::Random;
 
 /// What a call, and what a job, can be refused with.
-const OF_CALLS: [usize; 15] = [1, 2, 3, 4, 5, 6, 7, 8, 9, 10, 11, 12, 13, 14, 15];
+const OF_CALLS: [usize; 16] = [1, 2, 3, 4, 5, 6, 7, 8, 9, 10, 11, 12, 13, 14, 15, 24];
 const OF_JOBS: [usize; 5] = [1, 5, 6, 7, 9];
 
 /// Jobs on either side of a list, which no call may touch.
@@ -23,8 +23,8 @@ const SHOWN: u64 = 5;
 /// How often each refusal was given, by its number; at 0 how often there was none.
 #[derive(Default)]
 pub struct Tally {
-    calls: [u64; 17],
-    jobs: [u64; 17],
+    calls: [u64; NAMES.len() + 1],
+    jobs: [u64; NAMES.len() + 1],
     differ: u64,
     own_differ: u64,
 }

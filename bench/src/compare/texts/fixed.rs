@@ -16,6 +16,7 @@ const NO_ROOM: u64 = 16;
 const BYTES: u64 = 17;
 const NO_TEXT: u64 = 18;
 const OTHER: u64 = 19;
+const SAME: u64 = 24;
 
 fn refused(number: u64, input: u64, place: usize) -> u64 {
     number | input << 8 | (place as u64) << 16
@@ -101,6 +102,10 @@ impl<E: Engine> Comparison<'_, E> {
         self.answers(&[b"p(", &b"f(".repeat(32)[..], b"a", &b")".repeat(32)[..], b")."].concat(), 99, 9, refused(LONG, TABLE, 34));
         self.answers(b"p(a,X,f(X)). p(b,_,c).", 99, 9, refused(TWICE, TABLE, 5));
         self.answers(b"p(_X,_X).", 99, 9, refused(TWICE, TABLE, 3));
+        self.answers(b"p(a). p(b). p(a). p(X).", 99, 9, refused(SAME, TABLE, 4));
+        self.answers(b"p(32767). p(00000032767).", 99, 9, refused(SAME, TABLE, 3));
+        self.answers(b"p(f(0),a). p(f(-00),a). p(X,X).", 99, 9, refused(SAME, TABLE, 5));
+        self.answers(b"p(a). p(a).", 3, 9, refused(NO_ROOM, ROOM, 4));
     }
 
     fn read(&mut self) {
@@ -109,7 +114,7 @@ impl<E: Engine> Comparison<'_, E> {
         self.reads(b"p(red,X,f(red,_,09)). % c\np(blue,_,9).", &cells, &[(2, 3), (8, 1), (28, 4)]);
         self.reads(b"p(p).", &[1, 1, n(0, 0)], &[(2, 1)]);
         self.reads(b"p(_,_X,_Y,_).", &[4, 1, v(0), v(1), v(2), v(3)], &[]);
-        self.reads(b"p(32767). p(00000032767). p(0). p(00).", &[1, 4, i(32_767), i(32_767), i(0), i(0)], &[]);
+        self.reads(b"p(00000032767). p(00).", &[1, 2, i(32_767), i(0)], &[]);
         self.reads(b"p(-1,-32768,-0).", &[3, 1, i(65_535), i(32_768), i(0)], &[]);
         self.reads(b"p(32767). p(-7).", &[1, 2, i(32_767), i(65_529)], &[]);
         self.reads(b"p(-00,f(-007,-000032768)).", &[2, 1, i(0), n(0, 2), i(65_529), i(32_768)], &[(6, 1)]);
@@ -118,7 +123,7 @@ impl<E: Engine> Comparison<'_, E> {
         let nested = [b"p(", &b"f(".repeat(31)[..], b"a", &b")".repeat(31)[..], b")."].concat();
         let cells = [vec![1, 1], vec![n(0, 1); 31], vec![n(1, 0)]].concat();
         self.reads(&nested, &cells, &[(2, 1), (64, 1)]);
-        self.reads(&b"p(a).\n".repeat(64), &[vec![1, 64], vec![n(0, 0); 64]].concat(), &[(2, 1)]);
+        self.reads(&b"p(a,_).\n".repeat(64), &[vec![2, 64], [n(0, 0), v(0)].repeat(64)].concat(), &[(2, 1)]);
         self.reads(&fact(&["0"; 8]), &[8, 1, i(0), i(0), i(0), i(0), i(0), i(0), i(0), i(0)], &[]);
     }
 
