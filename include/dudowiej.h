@@ -72,7 +72,8 @@ enum dudowiej_refusal {
     DUDOWIEJ_REFUSED_FIGURE = 20, /* a figure above 15: place 0 */
     DUDOWIEJ_REFUSED_FULL = 21,   /* a row appended to 64: place 0 */
     DUDOWIEJ_REFUSED_LAST = 22,   /* the only row dropped: place 0 */
-    DUDOWIEJ_REFUSED_INDEX = 23   /* a row replaced that is not there: place 0 */
+    DUDOWIEJ_REFUSED_INDEX = 23,  /* a row replaced that is not there: place 0 */
+    DUDOWIEJ_REFUSED_SAME = 24    /* a row without variables equals an earlier one: its first cell; in an edit any other: place 0 */
 };
 
 /* Which input a refusal concerns. */
@@ -110,7 +111,7 @@ uint64_t dudowiej_work_out(const uint32_t *table, size_t table_cells, uint32_t f
 
 /* The edits. Each leaves the record that working the new table out with the same figure would give, but runs without the changed row are
  * not worked out again. A plan that was built before is the old table's: build it again. First: the width. Second: the rows there are
- * now. Each refuses what it says, at 0; then of the row LONG, SHORT, CELL, FRESH, TWICE and EXTRA, places from the row's start. All
+ * now. Each refuses what it says, at 0; then of the row LONG, SHORT, CELL, FRESH, TWICE, SAME and EXTRA, places from the row's start. All
  * concern DUDOWIEJ_TABLE. A refused edit changes nothing. */
 
 /* Appends a row at the end. Refuses FULL at 64 rows. */
