@@ -1,18 +1,18 @@
 -- The list of names, symbol by symbol: it is where each name first stands, no two of its words are equal, and it has every name.
-use Prim.Native.Nat.{ℕ}
-use mathlib.Core.Path.{_≡_, sym, ap, subst, _∙_}
+use Prim.Native.Nat.{ℕ, suc, _+_}
+use mathlib.Core.Path.{_≡_, refl, sym, ap, subst, _∙_}
 use mathlib.Core.List.{List, [], _∷_, _++_, append-nil, append-assoc}
 use mathlib.Core.Logic.{_⊎_, inl, inr}
 use native.Mathlib.Omega.{arith}
-use lib.ListN.{length}
+use lib.ListN.{length, length-append}
 use lib.Seq.{slice}
 use Rattle.grammar.specs.Grammar.{Symbol, name, variable, number}
 use Rattle.grammar.specs.Meaning.{Place, place, bytesOf, namesFrom}
-use Rattle.grammar.specs.Numbering.{Words, Nth, here, later, New, wordsAt, Firsts}
+use Rattle.grammar.specs.Numbering.{Words, Nth, here, later, New, First, wordsAt, Firsts}
 use Rattle.grammar.specs.Numbering as numbering
 use Rattle.grammar.proofs.NumberLaws.{meet-old, meet-new}
 use Rattle.grammar.proofs.NthLaws.{nth-below, nth-left, nth-seam, find, Any, Parted, parted-added}
-use Rattle.grammar.proofs.NthLaws.{words-long, words-added, position-first, position-new}
+use Rattle.grammar.proofs.NthLaws.{words-long, words-added, first-seam, position-first, position-new}
 
 module _ (t : List ℕ) where
   pub firsts-names : {met : Words} {ss : List Symbol} {ws : List Place} (ns : List Place) → met ≡ wordsAt t ns → Firsts t met ss ws
@@ -66,3 +66,28 @@ module _ (t : List ℕ) where
   firsts-all (numbering.again g f) (later h) = firsts-all f h
   firsts-all (numbering.a-variable f) (later h) = firsts-all f h
   firsts-all (numbering.a-number f) (later h) = firsts-all f h
+
+  -- THE LIST IS ONE
+  pub firsts-one : {met : Words} {ss : List Symbol} {ns ms : List Place} → Firsts t met ss ns → Firsts t met ss ms → ns ≡ ms
+  firsts-one numbering.none numbering.none = refl
+  firsts-one (numbering.first {s = s} {e = e} n f) (numbering.first m g) = ap (λ (ns : List Place). place s e ∷ ns) (firsts-one f g)
+  firsts-one (numbering.first n f) (numbering.again {k = k} h g) = absurd (n k h)
+  firsts-one (numbering.again {k = k} h f) (numbering.first n g) = absurd (n k h)
+  firsts-one (numbering.again h f) (numbering.again i g) = firsts-one f g
+  firsts-one (numbering.a-variable f) (numbering.a-variable g) = firsts-one f g
+  firsts-one (numbering.a-number f) (numbering.a-number g) = firsts-one f g
+
+  -- each of its words first stands where the list says, behind those met before
+  pub firsts-first : {met : Words} {ss : List Symbol} {ns : List Place} {i : ℕ} {w : List ℕ} → Firsts t met ss ns → Nth (wordsAt t ns) i w
+      → First (met ++ wordsAt t ns) (length met + i) w
+  firsts-first {met} (numbering.first {s = s} {e = e} {ns = ns} n f) here =
+      let z : length met ≡ length met + 0 = omega arith in
+      subst (λ (k : ℕ). First (met ++ wordsAt t (place s e ∷ ns)) k (slice s e t)) z (first-seam met (slice s e t) (wordsAt t ns) n)
+  firsts-first {met} {w = w} (numbering.first {s = s} {e = e} {ns = ns} n f) (later {k = k} h) =
+      let v = slice s e t in
+      let l : length (met ++ (v ∷ [])) + k ≡ length met + suc k = omega (arith, length-append met (v ∷ [])) in
+      subst (λ (j : ℕ). First (met ++ (v ∷ wordsAt t ns)) j w) l
+      (subst (λ (ws : Words). First ws (length (met ++ (v ∷ [])) + k) w) (append-assoc met (v ∷ []) (wordsAt t ns)) (firsts-first f h))
+  firsts-first (numbering.again g f) h = firsts-first f h
+  firsts-first (numbering.a-variable f) h = firsts-first f h
+  firsts-first (numbering.a-number f) h = firsts-first f h

@@ -16,7 +16,7 @@ line-place G.ended = refl
 line-place G.feed = omega arith
 line-place (G.byte e l) = omega (arith, line-place l)
 
-gap-place : {p q : ℕ} {xs ys : List ℕ} → Gap p xs q ys → p + length xs ≡ q + length ys
+pub gap-place : {p q : ℕ} {xs ys : List ℕ} → Gap p xs q ys → p + length xs ≡ q + length ys
 gap-place G.none = refl
 gap-place (G.blank b g) = omega (arith, gap-place g)
 gap-place (G.remark l g) = omega (arith, gap-place g, line-place l)
@@ -26,12 +26,12 @@ line-on G.ended = omega arith
 line-on G.feed = omega arith
 line-on (G.byte e l) = omega (arith, line-on l)
 
-gap-on : {p q : ℕ} {xs ys : List ℕ} → Gap p xs q ys → p ≤ q
+pub gap-on : {p q : ℕ} {xs ys : List ℕ} → Gap p xs q ys → p ≤ q
 gap-on G.none = omega arith
 gap-on (G.blank b g) = omega (arith, gap-on g)
 gap-on (G.remark l g) = omega (arith, gap-on g, line-on l)
 
-word-on : {p q : ℕ} {xs ys : List ℕ} → Word p xs q ys → (p ≤ q) × (p + length xs ≡ q + length ys)
+pub word-on : {p q : ℕ} {xs ys : List ℕ} → Word p xs q ys → (p ≤ q) × (p + length xs ≡ q + length ys)
 word-on G.none = (omega arith, refl)
 word-on (G.more e l) = let w = word-on l in (omega (arith, w .0), omega (arith, w .1))
 

@@ -1,5 +1,5 @@
 -- What stands at a place of a list; words no two of which are equal; and a word's position, by what stands there.
-use Prim.Native.Nat.{ℕ, suc, _+_, _≤_, _<_}
+use Prim.Native.Nat.{ℕ, suc, _≤_, _<_}
 use mathlib.Core.Path.{_≡_, refl, sym, ap, subst, _∙_}
 use mathlib.Core.Bool.{Bool, true, false, cond}
 use mathlib.Core.List.{List, [], _∷_, _++_}
@@ -9,7 +9,7 @@ use native.Mathlib.Decide.{decLt}
 use lib.ListN.{length}
 use Rattle.cell.specs.Same.{same}
 use Rattle.grammar.specs.Meaning.{Place, bytesOf, position}
-use Rattle.grammar.specs.Numbering.{Words, Nth, here, later, New, wordsAt}
+use Rattle.grammar.specs.Numbering.{Words, Nth, here, later, New, First, wordsAt}
 use Rattle.cell.proofs.SameLaws.{same-refl, same-eq, same-differ}
 
 module _ {A : Type 0} where
@@ -44,6 +44,16 @@ module _ {A : Type 0} where
           → Nth (z ∷ xs) (suc k) x ⊎ ((suc k ≡ suc (length xs)) × (x ≡ y))
       go (inl g) = inl (later g)
       go (inr e) = inr (ap suc (e .0), e .1)
+
+  -- among some and others: among them, or behind them
+  pub nth-parts : (xs ys : List A) {k : ℕ} {x : A} → Nth (xs ++ ys) k x → Nth xs k x ⊎ (length xs ≤ k)
+  nth-parts [] ys h = inr (omega arith)
+  nth-parts (z ∷ xs) ys here = inl here
+  nth-parts (z ∷ xs) ys (later h) = go (nth-parts xs ys h)
+    where
+      go : {k : ℕ} {x : A} → Nth xs k x ⊎ (length xs ≤ k) → Nth (z ∷ xs) (suc k) x ⊎ (suc (length xs) ≤ suc k)
+      go (inl g) = inl (later g)
+      go (inr l) = inr (omega arith)
 
 -- A WORD IS THERE, OR IT IS NEW
 new-more : {v w : List ℕ} {vs : Words} → (w ≡ v → ⊥) → New vs w → New (v ∷ vs) w
@@ -115,6 +125,35 @@ position-new t w vs n = go (decLt (position t w vs) (length vs))
     go : Dec (position t w vs < length vs) → length vs ≤ position t w vs
     go (yes l) = absurd (n (position t w vs) (position-nth t w vs l))
     go (no l) = omega arith
+
+-- A WORD FIRST STANDS at one place, which is its position
+pub first-one : {ws : Words} {j k : ℕ} {w : List ℕ} → First ws j w → First ws k w → j ≡ k
+first-one {j = j} {k} f g = let a = f .least k (g .there) in let b = g .least j (f .there) in omega arith
+
+-- with others behind them it stands where it stood; and a new one where it is added
+pub first-left : {ws : Words} (vs : Words) {k : ℕ} {w : List ℕ} → First ws k w → First (ws ++ vs) k w
+first-left {ws} vs {k} {w} f = record { there = nth-left vs (f .there); least = λ j h. by (nth-parts ws vs h) }
+  where
+    by : {j : ℕ} → Nth ws j w ⊎ (length ws ≤ j) → k ≤ j
+    by {j} (inl g) = f .least j g
+    by (inr l) = let b = nth-below (f .there) in omega arith
+
+pub first-seam : (ws : Words) (w : List ℕ) (vs : Words) → New ws w → First (ws ++ (w ∷ vs)) (length ws) w
+first-seam ws w vs n = record { there = nth-seam ws w vs; least = λ j h. by (nth-parts ws (w ∷ vs) h) }
+  where
+    by : {j : ℕ} → Nth ws j w ⊎ (length ws ≤ j) → length ws ≤ j
+    by {j} (inl g) = absurd (n j g)
+    by (inr l) = l
+
+pub position-there : (t : List ℕ) {w : List ℕ} {k : ℕ} (vs : List Place) → Nth (wordsAt t vs) k w → First (wordsAt t vs) (position t w vs) w
+position-there t {w} vs h =
+    let l = position-first t vs h in
+    let b = nth-below h in
+    let n = words-long t vs in
+    record { there = position-nth t w vs (omega arith); least = λ j g. position-first t vs g }
+
+pub position-at : (t : List ℕ) {w : List ℕ} {k : ℕ} (vs : List Place) → First (wordsAt t vs) k w → position t w vs ≡ k
+position-at t vs h = first-one (position-there t vs (h .there)) h
 
 -- where no other word is equal, what stands at a place has that position
 pub position-one : (t : List ℕ) {w : List ℕ} {k : ℕ} {Kind : List ℕ → Type 0} (vs : List Place) → Parted Kind (wordsAt t vs) → Kind w

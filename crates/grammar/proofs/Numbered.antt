@@ -9,8 +9,9 @@ use lib.ListN.{length}
 use lib.Seq.{slice}
 use Rattle.grammar.specs.Grammar.{Symbol, name, variable, Fact}
 use Rattle.grammar.specs.Meaning.{Place, position, symbolsOf, namesOf, cellsFrom, widthOf, tableCells}
-use Rattle.grammar.specs.Numbering.{Nth, wordsAt, Firsts, Unnamed, Row, Rows}
+use Rattle.grammar.specs.Numbering.{Words, Nth, wordsAt, Firsts, Unnamed, Row, Rows}
 use Rattle.grammar.proofs.NthLaws.{nth-below, nth-one, Any, Parted, parted-none, words-long, position-nth, position-one}
+use Rattle.grammar.proofs.NthLaws.{position-there}
 use Rattle.grammar.proofs.FirstLaws.{firsts-names, firsts-hold, firsts-parted, firsts-all}
 use Rattle.grammar.proofs.RowLaws.{Named, rows-cells, rows-hold, two-variables}
 
@@ -59,16 +60,16 @@ cells-are t fs cs = (λ r. ap (λ (x : List ℕ). widthOf fs ∷ length fs ∷ x
     rows = flatten (map (λ (f : Fact). cellsFrom t (namesOf t fs) [] (f .symbols)) fs)
 
     to : {xs : List ℕ} → Rows t (namesOf t fs) fs xs → rows ≡ xs
-    to = rows-cells t (namesOf t fs) (firsts-parted t (parted-none Any) listed)
+    to = rows-cells t (namesOf t fs)
 
     back : widthOf fs ∷ length fs ∷ rows ≡ widthOf fs ∷ length fs ∷ cs → Rows t (namesOf t fs) fs cs
     back e =
-        let r = rows-hold t (namesOf t fs) fs (λ i s e a h. each-name t listed h) in
+        let r = rows-hold t (namesOf t fs) fs (λ i s e a h. (_, position-there t (namesOf t fs) (each-name t listed h .1))) in
         let q : r .0 ≡ cs = sym (to (r .1)) ∙ tail-eq-of-cons-eq (tail-eq-of-cons-eq e) in
         subst (Rows t (namesOf t fs) fs) q (r .1)
 
 -- two variables of a row are one exactly when they have the same bytes and are not `_`
-pub one-variable : (t : List ℕ) {ns : List Place} {ss : List Symbol} {cs : List ℕ} {i j s e s′ e′ c c′ : ℕ} → Row t ns [] ss cs → i < j
+pub one-variable : (t : List ℕ) {ws : Words} {ss : List Symbol} {cs : List ℕ} {i j s e s′ e′ c c′ : ℕ} → Row t ws [] ss cs → i < j
     → Nth ss i (variable s e) → Nth cs i c → Nth ss j (variable s′ e′) → Nth cs j c′
     → (c ≡ c′) ↔ ((slice s e t ≡ slice s′ e′ t) × (Unnamed (slice s e t) → ⊥))
-one-variable t {ns} = two-variables t ns (parted-none Named)
+one-variable t {ws} = two-variables t ws (parted-none Named)

@@ -11,12 +11,13 @@ use Rattle.cell.specs.Cell.{nameCell, numberCell}
 use Rattle.grammar.specs.Grammar.{Symbol, name, variable, number, Fact}
 use Rattle.cell.specs.Same.{same}
 use Rattle.grammar.specs.Meaning.{Place, place, bytesOf, symbolsOf, variableNumber, cellsFrom}
-use Rattle.grammar.specs.Numbering.{Words, Nth, here, later, New, wordsAt, Unnamed, Row, Rows}
+use Rattle.grammar.specs.Numbering.{Words, Nth, here, later, New, First, wordsAt, Unnamed, Row, Rows}
 use Rattle.grammar.specs.Numbering as numbering
 use Rattle.cell.proofs.SameLaws.{same-refl, same-eq, same-differ, same-no}
 use Rattle.grammar.proofs.NumberLaws.{position-bound, fresh-number, named-number, with-new, with-old}
 use Rattle.grammar.proofs.NthLaws.{nth-below, nth-one, nth-left, nth-right, nth-seam, nth-added, find}
-use Rattle.grammar.proofs.NthLaws.{Any, Parted, parted-none, parted-added, words-long, words-added, position-new, position-one}
+use Rattle.grammar.proofs.NthLaws.{Parted, parted-none, parted-added, words-long, words-added, first-one, position-new, position-one}
+use Rattle.grammar.proofs.NthLaws.{position-at}
 
 -- not `_`
 abbrev pub Named : List ℕ → Type 0
@@ -24,7 +25,7 @@ Named w = Unnamed w → ⊥
 
 -- names that stand in the list
 abbrev pub Listed : List ℕ → List Place → List Symbol → Type 0
-Listed t ns ss = (i s e a : ℕ) → Nth ss i (name s e a) → (k : ℕ) × Nth (wordsAt t ns) k (slice s e t)
+Listed t ns ss = (i s e a : ℕ) → Nth ss i (name s e a) → (k : ℕ) × First (wordsAt t ns) k (slice s e t)
 
 -- one variable more is told apart, `_` or a new one
 unnamed-parted : {met : Words} {w : List ℕ} → Unnamed w → Parted Named met → Parted Named (met ++ (w ∷ []))
@@ -73,26 +74,26 @@ module _ (t : List ℕ) (ns : List Place) where
   met-long : {met : Words} (vs : List Place) → met ≡ wordsAt t vs → length met ≡ length vs
   met-long vs q = ap length q ∙ words-long t vs
 
-  row-cells : {met : Words} {ss : List Symbol} {cs : List ℕ} (vs : List Place) → met ≡ wordsAt t vs → Parted Any (wordsAt t ns)
-      → Parted Named met → Row t ns met ss cs → cellsFrom t ns vs ss ≡ cs
+  row-cells : {met : Words} {ss : List Symbol} {cs : List ℕ} (vs : List Place) → met ≡ wordsAt t vs → Parted Named met
+      → Row t (wordsAt t ns) met ss cs → cellsFrom t ns vs ss ≡ cs
   unfolding cellsFrom
-  row-cells vs q a p numbering.none = refl
-  row-cells vs q a p (numbering.a-name {a = n} h c r) = ap₂ _∷_ (ap (nameCell n) (position-one t ns a tt h) ∙ sym c) (row-cells vs q a p r)
-  row-cells vs q a p (numbering.a-number c r) = ap₂ _∷_ (sym c) (row-cells vs q a p r)
-  row-cells vs q a p (numbering.unnamed {s = s} {e = e} {ss = ss} u c r) =
+  row-cells vs q p numbering.none = refl
+  row-cells vs q p (numbering.a-name {a = n} h c r) = ap₂ _∷_ (ap (nameCell n) (position-at t ns h) ∙ sym c) (row-cells vs q p r)
+  row-cells vs q p (numbering.a-number c r) = ap₂ _∷_ (sym c) (row-cells vs q p r)
+  row-cells vs q p (numbering.unnamed {s = s} {e = e} {ss = ss} u c r) =
       variable-next t ns vs s e ss (unnamed-number t vs (place s e) u) (c ∙ met-long vs q)
-      (row-cells (vs ++ (place s e ∷ [])) (met-more s e vs q) a (unnamed-parted u p) r)
-  row-cells vs q a p (numbering.first {s = s} {e = e} {ss = ss} n c r) =
+      (row-cells (vs ++ (place s e ∷ [])) (met-more s e vs q) (unnamed-parted u p) r)
+  row-cells vs q p (numbering.first {s = s} {e = e} {ss = ss} n c r) =
       variable-next t ns vs s e ss (first-number t vs (place s e) (subst (λ (m : Words). New m (slice s e t)) q n)) (c ∙ met-long vs q)
-      (row-cells (vs ++ (place s e ∷ [])) (met-more s e vs q) a (first-parted n p) r)
-  row-cells vs q a p (numbering.again {k = k} {s = s} {e = e} {ss = ss} n h c r) =
+      (row-cells (vs ++ (place s e ∷ [])) (met-more s e vs q) (first-parted n p) r)
+  row-cells vs q p (numbering.again {k = k} {s = s} {e = e} {ss = ss} n h c r) =
       let g = subst (λ (m : Words). Nth m k (slice s e t)) q h in
       let b = nth-below g in
       let l = words-long t vs in
       variable-again t ns vs s e ss (again-number t vs (place s e) n (subst (Parted Named) q p) g ∙ sym c) (omega arith)
-      (row-cells vs q a p r)
+      (row-cells vs q p r)
 
-  row-holds : (met : Words) (ss : List Symbol) → Listed t ns ss → (cs : List ℕ) × Row t ns met ss cs
+  row-holds : (met : Words) (ss : List Symbol) → Listed t ns ss → (cs : List ℕ) × Row t (wordsAt t ns) met ss cs
   row-holds met [] l = ([], numbering.none)
   row-holds met (name s e a ∷ ss) l =
       let h = l 0 s e a here in
@@ -110,19 +111,18 @@ module _ (t : List ℕ) (ns : List Place) where
       rest : Listed t ns ss
       rest i s e a g = l (suc i) s e a (later g)
 
-      go : (b : Bool) → same w (95 ∷ []) ≡ b → ((k : ℕ) × Nth met k w) ⊎ New met w → (cs : List ℕ) × Row t ns met ss cs
-          → (cs : List ℕ) × Row t ns (met ++ (w ∷ [])) ss cs → (cs : List ℕ) × Row t ns met (variable s e ∷ ss) cs
+      go : (b : Bool) → same w (95 ∷ []) ≡ b → ((k : ℕ) × Nth met k w) ⊎ New met w → (cs : List ℕ) × Row t (wordsAt t ns) met ss cs
+          → (cs : List ℕ) × Row t (wordsAt t ns) (met ++ (w ∷ [])) ss cs → (cs : List ℕ) × Row t (wordsAt t ns) met (variable s e ∷ ss) cs
       go true u h r f = (length met ∷ f .0, numbering.unnamed (same-eq w (95 ∷ []) u) refl (f .1))
       go false u (inl h) r f = (h .0 ∷ r .0, numbering.again (same-differ w (95 ∷ []) u) (h .1) refl (r .1))
       go false u (inr n) r f = (length met ∷ f .0, numbering.first n refl (f .1))
 
 -- all the rows
 module _ (t : List ℕ) (ns : List Place) where
-  pub rows-cells : {fs : List Fact} {cs : List ℕ} → Parted Any (wordsAt t ns) → Rows t ns fs cs
-      → flatten (map (λ (f : Fact). cellsFrom t ns [] (f .symbols)) fs) ≡ cs
+  pub rows-cells : {fs : List Fact} {cs : List ℕ} → Rows t ns fs cs → flatten (map (λ (f : Fact). cellsFrom t ns [] (f .symbols)) fs) ≡ cs
   unfolding flatten
-  rows-cells a numbering.none = refl
-  rows-cells a (numbering.more r rs e) = ap₂ _++_ (row-cells t ns [] refl a (parted-none Named) r) (rows-cells a rs) ∙ sym e
+  rows-cells numbering.none = refl
+  rows-cells (numbering.more r rs e) = ap₂ _++_ (row-cells t ns [] refl (parted-none Named) r) (rows-cells rs) ∙ sym e
 
   pub rows-hold : (fs : List Fact) → Listed t ns (symbolsOf fs) → (cs : List ℕ) × Rows t ns fs cs
   unfolding flatten
@@ -131,6 +131,24 @@ module _ (t : List ℕ) (ns : List Place) where
       let r = row-holds t ns [] (f .symbols) (λ i s e a h. l i s e a (nth-left (symbolsOf fs) h)) in
       let rs = rows-hold fs (λ i s e a h. (let g = nth-right (f .symbols) h in l (g .0) s e a (g .1))) in
       (r .0 ++ rs .0, numbering.more (r .1) (rs .1) refl)
+
+-- THE CELLS ARE ONE
+module _ (t : List ℕ) (ws : Words) where
+  pub row-one : {met : Words} {ss : List Symbol} {cs ds : List ℕ} → Parted Named met → Row t ws met ss cs → Row t ws met ss ds → cs ≡ ds
+  row-one p numbering.none numbering.none = refl
+  row-one p (numbering.a-name {a = a} h c r) (numbering.a-name g d q) =
+      ap₂ _∷_ (c ∙ ap (nameCell a) (first-one h g) ∙ sym d) (row-one p r q)
+  row-one p (numbering.a-number c r) (numbering.a-number d q) = ap₂ _∷_ (c ∙ sym d) (row-one p r q)
+  row-one p (numbering.unnamed u c r) (numbering.unnamed v d q) = ap₂ _∷_ (c ∙ sym d) (row-one (unnamed-parted u p) r q)
+  row-one p (numbering.unnamed u c r) (numbering.first m d q) = ap₂ _∷_ (c ∙ sym d) (row-one (unnamed-parted u p) r q)
+  row-one p (numbering.unnamed u c r) (numbering.again m g d q) = absurd (m u)
+  row-one p (numbering.first n c r) (numbering.unnamed v d q) = ap₂ _∷_ (c ∙ sym d) (row-one (first-parted n p) r q)
+  row-one p (numbering.first n c r) (numbering.first m d q) = ap₂ _∷_ (c ∙ sym d) (row-one (first-parted n p) r q)
+  row-one p (numbering.first n c r) (numbering.again {k = k} m g d q) = absurd (n k g)
+  row-one p (numbering.again n h c r) (numbering.unnamed v d q) = absurd (n v)
+  row-one p (numbering.again {k = k} n h c r) (numbering.first m d q) = absurd (m k h)
+  row-one p (numbering.again {k = j} {s = s} {e = e} n h c r) (numbering.again {k = k} m g d q) =
+      ap₂ _∷_ (c ∙ p .one j k (slice s e t) n h g ∙ sym d) (row-one p r q)
 
 -- THE VARIABLES OF A ROW
 before-added : (met : Words) (v : List ℕ) {w : List ℕ} {k : ℕ} → k < length met → Nth (met ++ (v ∷ [])) k w → Nth met k w
@@ -153,8 +171,8 @@ is-more met v l i = (λ e. (before-added met v l (i .0 e .0), i .0 e .1), λ h. 
 more-below : (met : Words) (v : List ℕ) {k : ℕ} → k < length met → k < length (met ++ (v ∷ []))
 more-below met v l = omega (arith, length-append met (v ∷ []))
 
-module _ (t : List ℕ) (ns : List Place) where
-  later-variable : {met : Words} {ss : List Symbol} {cs : List ℕ} {j k s e c : ℕ} → Row t ns met ss cs → Parted Named met → k < length met
+module _ (t : List ℕ) (ws : Words) where
+  later-variable : {met : Words} {ss : List Symbol} {cs : List ℕ} {j k s e c : ℕ} → Row t ws met ss cs → Parted Named met → k < length met
       → Nth ss j (variable s e) → Nth cs j c → Is met k (slice s e t) c
   later-variable (numbering.unnamed u c r) p l here here = is-new l c (λ h n. n u)
   later-variable {k = k} (numbering.first n c r) p l here here = is-new l c (λ h q. n k h)
@@ -169,14 +187,14 @@ module _ (t : List ℕ) (ns : List Place) where
   later-variable (numbering.again n h c r) p l (later x) (later y) = later-variable r p l x y
 
 -- the row after its first symbol, and the variables with it
-record After (t : List ℕ) (ns : List Place) (ss : List Symbol) (cs : List ℕ) : Type 0 where
+record After (t : List ℕ) (ws : Words) (ss : List Symbol) (cs : List ℕ) : Type 0 where
   met : Words
   apart : Parted Named met
-  row : Row t ns met ss cs
+  row : Row t ws met ss cs
 
-module _ (t : List ℕ) (ns : List Place) where
-  after-one : {met : Words} {x : Symbol} {ss : List Symbol} {c : ℕ} {cs : List ℕ} → Parted Named met → Row t ns met (x ∷ ss) (c ∷ cs)
-      → After t ns ss cs
+module _ (t : List ℕ) (ws : Words) where
+  after-one : {met : Words} {x : Symbol} {ss : List Symbol} {c : ℕ} {cs : List ℕ} → Parted Named met → Row t ws met (x ∷ ss) (c ∷ cs)
+      → After t ws ss cs
   after-one {met} p (numbering.a-name h c r) = record { met = met; apart = p; row = r }
   after-one {met} p (numbering.a-number c r) = record { met = met; apart = p; row = r }
   after-one {met} p (numbering.unnamed {s = s} {e = e} u c r) =
@@ -187,7 +205,7 @@ module _ (t : List ℕ) (ns : List Place) where
 
   -- a variable stands at its number from then on
   after-variable : {met : Words} {s e : ℕ} {ss : List Symbol} {c : ℕ} {cs : List ℕ}
-      (p : Parted Named met) (r : Row t ns met (variable s e ∷ ss) (c ∷ cs))
+      (p : Parted Named met) (r : Row t ws met (variable s e ∷ ss) (c ∷ cs))
       → Nth (after-one p r .met) c (slice s e t)
   unfolding after-one
   after-variable {met} {s} {e} p (numbering.unnamed u c r) =
@@ -197,13 +215,13 @@ module _ (t : List ℕ) (ns : List Place) where
   after-variable {met} {s} {e} p (numbering.again n h c r) = subst (λ (k : ℕ). Nth met k (slice s e t)) (sym c) h
 
   pub two-variables : {met : Words} {ss : List Symbol} {cs : List ℕ} {i j s e s′ e′ c c′ : ℕ} → Parted Named met
-      → Row t ns met ss cs → i < j → Nth ss i (variable s e) → Nth cs i c → Nth ss j (variable s′ e′) → Nth cs j c′
+      → Row t ws met ss cs → i < j → Nth ss i (variable s e) → Nth cs i c → Nth ss j (variable s′ e′) → Nth cs j c′
       → (c ≡ c′) ↔ ((slice s e t ≡ slice s′ e′ t) × Named (slice s e t))
   two-variables p r l here here here here = absurd (omega arith)
   two-variables {s = s} {e = e} {s′ = s′} {e′ = e′} {c = c} {c′ = c′} p r l here here (later x) (later y) =
       let a = after-one p r in
       let h = after-variable p r in
-      let i = later-variable t ns (a .row) (a .apart) (nth-below h) x y in
+      let i = later-variable t ws (a .row) (a .apart) (nth-below h) x y in
       let w = slice s e t in
       let w′ = slice s′ e′ t in (
         λ q. (let g = i .0 (sym q) in let b = nth-one h (g .0) in (b, subst Named (sym b) (g .1))),

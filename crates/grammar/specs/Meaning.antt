@@ -70,8 +70,11 @@ tableCells t fs = widthOf fs ∷ length fs ∷ flatten (map (λ (f : Fact). cell
 
 -- "a list of where each name first stands in the text, start and bytes": a number for each name, its start in bits 15..0, its bytes in
 -- 31..16
+abbrev pub entryOf : Place → ℕ
+entryOf w = (w .end - w .start) * 2 ^ 16 + w .start
+
 unfoldable pub nameList : List ℕ → List Fact → List ℕ
-nameList t fs = map (λ (w : Place). (w .end - w .start) * 2 ^ 16 + w .start) (namesOf t fs)
+nameList t fs = map entryOf (namesOf t fs)
 
 -- "OTHER at the first fact of another predicate or width": than the first fact's
 pub data Found : Type 0 where

@@ -1,6 +1,6 @@
 -- What the numbers of names and variables are (02, W-201), by equal bytes and first appearances alone. Meaning works out the same; that the
 -- two are one is proved in proofs/Numbered.
-use Prim.Native.Nat.{ℕ, suc}
+use Prim.Native.Nat.{ℕ, suc, _≤_}
 use mathlib.Core.Path.{_≡_}
 use mathlib.Core.List.{List, [], _∷_, _++_, map}
 use lib.ListN.{length}
@@ -22,6 +22,11 @@ pub data Nth {A : Type 0} : List A → ℕ → A → Type 0 where
 abbrev pub New : Words → List ℕ → Type 0
 New met w = (k : ℕ) → Nth met k w → ⊥
 
+-- where a word first stands among some: at that place, and at none before it
+pub record First (words : Words) (k : ℕ) (w : List ℕ) : Type 0 where
+  pub there : Nth words k w
+  pub least : (j : ℕ) → Nth words j w → k ≤ j
+
 -- the words that stand at these places of a text
 abbrev pub wordsAt : List ℕ → List Place → Words
 wordsAt t = map (bytesOf t)
@@ -41,23 +46,24 @@ pub data Firsts (t : List ℕ) : Words → List Symbol → List Place → Type 0
 abbrev pub Unnamed : List ℕ → Type 0
 Unnamed w = w ≡ 95 ∷ []
 
--- The cells of a row by the list of names, when these variables of the row are met before. A name's number is where the list has its bytes.
+-- The cells of a row by the words of the names, when these variables of the row are met before. A name's number is where its bytes first
+-- stand among the words, which may be those of another text (a goal's names are the table's).
 -- 01, "Variables are numbered 0, 1, 2 in order of first appearance, in each row"
-pub data Row (t : List ℕ) (names : List Place) : Words → List Symbol → List ℕ → Type 0 where
-  none : {met : Words} → Row t names met [] []
-  a-name : {met : Words} {k s e a c : ℕ} {ss : List Symbol} {cs : List ℕ} → Nth (wordsAt t names) k (slice s e t)
-      → c ≡ nameCell a k → Row t names met ss cs → Row t names met (name s e a ∷ ss) (c ∷ cs)
+pub data Row (t : List ℕ) (words : Words) : Words → List Symbol → List ℕ → Type 0 where
+  none : {met : Words} → Row t words met [] []
+  a-name : {met : Words} {k s e a c : ℕ} {ss : List Symbol} {cs : List ℕ} → First words k (slice s e t)
+      → c ≡ nameCell a k → Row t words met ss cs → Row t words met (name s e a ∷ ss) (c ∷ cs)
   a-number : {met : Words} {v c : ℕ} {ss : List Symbol} {cs : List ℕ}
-      → c ≡ numberCell v → Row t names met ss cs → Row t names met (number v ∷ ss) (c ∷ cs)
+      → c ≡ numberCell v → Row t words met ss cs → Row t words met (number v ∷ ss) (c ∷ cs)
   unnamed : {met : Words} {s e c : ℕ} {ss : List Symbol} {cs : List ℕ} → Unnamed (slice s e t)
-      → c ≡ variableCell (length met) → Row t names (met ++ (slice s e t ∷ [])) ss cs → Row t names met (variable s e ∷ ss) (c ∷ cs)
+      → c ≡ variableCell (length met) → Row t words (met ++ (slice s e t ∷ [])) ss cs → Row t words met (variable s e ∷ ss) (c ∷ cs)
   first : {met : Words} {s e c : ℕ} {ss : List Symbol} {cs : List ℕ} → New met (slice s e t)
-      → c ≡ variableCell (length met) → Row t names (met ++ (slice s e t ∷ [])) ss cs → Row t names met (variable s e ∷ ss) (c ∷ cs)
+      → c ≡ variableCell (length met) → Row t words (met ++ (slice s e t ∷ [])) ss cs → Row t words met (variable s e ∷ ss) (c ∷ cs)
   again : {met : Words} {k s e c : ℕ} {ss : List Symbol} {cs : List ℕ} → (Unnamed (slice s e t) → ⊥) → Nth met k (slice s e t)
-      → c ≡ variableCell k → Row t names met ss cs → Row t names met (variable s e ∷ ss) (c ∷ cs)
+      → c ≡ variableCell k → Row t words met ss cs → Row t words met (variable s e ∷ ss) (c ∷ cs)
 
 -- the cells of all rows, the variables of each by themselves
 pub data Rows (t : List ℕ) (names : List Place) : List Fact → List ℕ → Type 0 where
   none : Rows t names [] []
   more : {f : Fact} {fs : List Fact} {row others all : List ℕ}
-      → Row t names [] (f .symbols) row → Rows t names fs others → all ≡ row ++ others → Rows t names (f ∷ fs) all
+      → Row t (wordsAt t names) [] (f .symbols) row → Rows t names fs others → all ≡ row ++ others → Rows t names (f ∷ fs) all
