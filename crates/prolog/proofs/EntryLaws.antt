@@ -33,9 +33,9 @@ use Rattle.scan.specs.declared.Counted.{Counted}
 use Rattle.scan.specs.declared.Scan.{Scan}
 use Rattle.scan.specs.declared.Scan.the-variants as scan
 use Rattle.words.specs.code.Numbers.{TextNumbers, NumbersIs}
-use Rattle.prolog.specs.Entry.{textTold}
+use Rattle.prolog.specs.Entry.{textTold, Counts, FactsMade}
 use Rattle.prolog.specs.code.Cells.{Writes, Written}
-use Rattle.prolog.specs.code.Parts.{Counts, Fits, Tables, TableIs, given, Gives}
+use Rattle.prolog.specs.code.Parts.{Tables, TableIs, given, Gives}
 use Rattle.prolog.specs.declared.TextAnswer.{TextAnswer}
 use Rattle.prolog.specs.declared.TextAnswer.the-variants as text-answer
 
@@ -62,12 +62,15 @@ scan-facts t c s = by (s .says) (s .rule) (s .answer)
 pub turned-away : {t cells names : List ℕ} {a : Answer} {f : Refused} → a ≡ turned f → Loads t (length cells) (length names) (refuse f) → TextLoads t cells names cells names a
 turned-away {f = f} e l = record { says = refuse f; rule = l; told = e; wrote = refl; listed = refl }
 
-pub scan-refused : (t cells names : List ℕ) (f : Refusal) → ScanIs t (scan.Refused f) → TextLoads t cells names cells names (turned (told f))
-scan-refused t cells names f s = by (s .says) (s .rule) (s .answer)
+pub scan-turned : (t : List ℕ) (f : Refusal) → ScanIs t (scan.Refused f) → Taken t (refuse (told f))
+scan-turned t f s = by (s .says) (s .rule) (s .answer)
   where
-    by : (o : Read (List Fact)) → Taken t o → refuse (told f) ≡ countedIn o → TextLoads t cells names cells names (turned (told f))
+    by : (o : Read (List Fact)) → Taken t o → refuse (told f) ≡ countedIn o → Taken t (refuse (told f))
     by (read fs) x e = absurd (let z : _≡_ {A = ℕ} 0 1 = cc in omega arith)
-    by (refuse g) x e = turned-away refl (let q : told f ≡ g = cc in subst (λ (y : Refused). Loads t (length cells) (length names) (refuse y)) (sym q) (not-taken x))
+    by (refuse g) x e = let q : told f ≡ g = cc in subst (λ (y : Refused). Taken t (refuse y)) (sym q) x
+
+pub scan-refused : (t cells names : List ℕ) (f : Refusal) → ScanIs t (scan.Refused f) → TextLoads t cells names cells names (turned (told f))
+scan-refused t cells names f s = turned-away refl (not-taken (scan-turned t f s))
 
 -- SIZES
 map-long : {A B : Type 0} (f : A → B) (xs : List A) → length (map f xs) ≡ length xs

@@ -11,8 +11,8 @@ ghost use Rattle.refusal.specs.Refusal.{refused, turned};
 ghost use Rattle.refusal.specs.declared.Reason.the-variants as reason;
 ghost use Rattle.refusal.specs.declared.Input.the-variants as input;
 ghost use Rattle.loading.specs.Load.{TextLoads};
-ghost use Rattle.prolog.specs.Entry.{textTold};
-ghost use Rattle.prolog.specs.code.Parts.{Counts, Fits, Tables, TableIs, Gives};
+ghost use Rattle.prolog.specs.Entry.{textTold, Counts, FactsMade, FactsAre};
+ghost use Rattle.prolog.specs.code.Parts.{Fits, Makes, Tables, TableIs, Gives};
 use refusal::Input;
 use refusal::Reason;
 use refusal::Refusal;
@@ -78,20 +78,38 @@ fn make_table(text: &[u8], c: Counted, numbers: &[u16], made: &mut [u32]) -> usi
     n + 2
 }
 
+// How many cells and names are made.
+pub struct Sizes {
+    pub cells: usize,
+    pub names: usize,
+}
+
+// The table's cells and the list of names, of at most 2,048 symbols.
+fn make(text: &[u8], c: Counted, made: &mut [u32], list: &mut [u32]) -> Sizes
+    requires { ⌜ Makes (now text) c (now made) (now list) ⌝ }
+    ensures { λ r. ⌜ ((M : Makes (now (text .entry)) c (now (made .entry)) (now (list .entry)))
+        → FactsMade (now (text .entry)) (M .counts .facts) (now (made .exit)) (now (list .exit)) r) ⌝ }
+{
+    let mut numbers = [0u16; 2048];
+    let names = words::numbers::number_symbols(text, list, &mut numbers);
+    let cells = make_table(text, c, &numbers, made);
+    Sizes { cells, names }
+}
+
 // At most 2,048 symbols: the cells and the list are made here.
 fn write(text: &[u8], c: Counted, cells: &mut [u32], names: &mut [u32]) -> TextAnswer
     requires { ⌜ Fits (now text) c (now cells) ⌝ }
     ensures { λ r. ⌜ TextLoads (now (text .entry)) (now (cells .entry)) (now (names .entry)) (now (cells .exit)) (now (names .exit))
         (textTold r) ⌝ }
 {
+    let mut made = [0u32; 2050];
     let mut list = [0u32; 2048];
-    let mut numbers = [0u16; 2048];
-    let n = words::numbers::number_symbols(text, &mut list, &mut numbers);
+    let size = make(text, c, &mut made, &mut list);
+    let n = size.names;
     if names.len() < n {
         return no_room(n);
     }
-    let mut made = [0u32; 2050];
-    let k = make_table(text, c, &numbers, &mut made);
+    let k = size.cells;
     give(&made[..k], &list[..n], cells, names)
 }
 
@@ -127,5 +145,28 @@ pub fn read_text(text: &[u8], cells: &mut [u32], names: &mut [u32]) -> TextAnswe
     match scan::scan_text(text) {
         Scan::Facts(c) => load(text, c, cells, names),
         Scan::Refused(f) => TextAnswer::Refused(f),
+    }
+}
+
+// The facts of a text, counted, with their cells and names; or there are over 2,048 symbols; or why the text is turned away.
+pub enum FactsAnswer {
+    Made(Counted, Sizes),
+    Long(Counted),
+    Refused(Refusal),
+}
+
+// The cells and the names of a text, made at the front of two rooms and read as no table: what 01 asks of a table is not asked of it.
+pub fn make_facts(text: &[u8], made: &mut [u32; 2050], list: &mut [u32; 2048]) -> FactsAnswer
+    ensures { λ r. ⌜ FactsAre (now (text .entry)) (now (made .exit)) (now (list .exit)) r ⌝ }
+{
+    match scan::scan_text(text) {
+        Scan::Facts(c) => {
+            if 2048 < c.symbols {
+                return FactsAnswer::Long(c);
+            }
+            let size = make(text, c, made, list);
+            FactsAnswer::Made(c, size)
+        }
+        Scan::Refused(f) => FactsAnswer::Refused(f),
     }
 }

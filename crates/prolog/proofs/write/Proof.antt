@@ -1,140 +1,114 @@
-use Prim.Native.Nat.{ℕ, _≤_}
-use mathlib.Core.Path.{_≡_, refl, sym, _∙_}
+use Prim.Native.Nat.{_≤_}
+use mathlib.Core.Path.{_≡_, refl, sym, ap, _∙_}
 use native.Mathlib.Omega.{arith}
-use lib.ListN.{length, take, replicate}
+use lib.ListN.{length, take}
 use lib.Seq.{length-take-le}
-use Rattle.words.specs.code.Numbers.{TextNumbers}
-use Rattle.prolog.specs.code.Parts.{TableIs}
-use Rattle.prolog.proofs.EntryLaws.{counts-read, cells-long, numbered, tables, no-room-names, gives-loads}
+use Rattle.grammar.specs.Meaning.{namesOf}
+use Rattle.prolog.specs.Entry.{FactsMade}
+use Rattle.prolog.proofs.EntryLaws.{cells-long, names-long, no-room-names, gives-loads}
 use borrow.Author.Needs.{needs}
 use Rattle.prolog.proofs.write.Statement.{statement}
 use Rattle.prolog.proofs.write.Tie as tie
 use Rattle.prolog.proofs.write.Reads as reads
 use Rattle.prolog.proofs.write.Lts as lts
 use Rattle.prolog.proofs.give.Reads as give-reads
-use Rattle.prolog.proofs.make_table.Reads as make-table-reads
+use Rattle.prolog.proofs.make.Reads as make-reads
 use Rattle.prolog.proofs.no_room.Reads as no-room-reads
-use Rattle.words.proofs.numbers.number_symbols.Reads as number-symbols-reads
 
--- the numbers of the symbols, and the table's cells
-abbrev start : tie.After-number-symbols → tie.Start
+-- the cells and the names, and that there is room for the cells
+abbrev start : tie.After-make → tie.Start
 start c = c .before .before .before .before .before .before
 
-names-are : (c : tie.After-number-symbols) → TextNumbers (start c .args .text .now) (start c .pre .counts .facts) (c .number-symbols .last .1 .0)
-    (c .number-symbols .last .1 .1 .0) (replicate 2048 0) (c .number-symbols .result)
-names-are c =
-    let a = start c .args in
-    let n = c .number-symbols in
-    numbered (a .text .now) (n .last .1 .0) (n .last .1 .1 .0) (replicate 2048 0) (a .c) (n .result) (start c .pre .counts) (start c .pre .few) (n .kept .1 .0) refl (n .ensures)
+made : (c : tie.After-make) → FactsMade (start c .args .text .now) (start c .pre .counts .facts) (c .make .last .1 .1 .0) (c .make .last .1 .1 .1 .0)
+    (c .make .result)
+made c = let F = start c .pre in c .make .ensures (record { counts = F .counts; few = F .few; for-cells = refl; for-names = refl })
 
-table-is : (c : tie.After-make-table) → TableIs (start (c .before .before .before .before .before .before) .args .text .now) (start (c .before .before .before .before .before .before) .pre .counts .facts) (c .make-table .last .1 .1 .1 .0)
-    (c .make-table .result)
-table-is c =
-    let s = start (c .before .before .before .before .before .before) in
-    c .make-table .ensures (tables (replicate 2048 0) (s .pre .counts) (s .pre .few) refl (names-are (c .before .before .before .before .before .before) .numbers) refl)
+sizes : (c : tie.After-make) → (length (take (c .make .result .cells) (c .make .last .1 .1 .0)) ≤ length (start c .args .cells .now))
+    × (length (take (c .make .result .names) (c .make .last .1 .1 .1 .0)) ≡ length (namesOf (start c .args .text .now) (start c .pre .counts .facts)))
+sizes c =
+    let s = start c in
+    let m = made c in
+    let t = s .args .text .now in
+    let fs = s .pre .counts .facts in
+    (omega (arith, ap length (m .cells), cells-long t fs, s .pre .counts .symbols, s .pre .room), ap length (m .names) ∙ names-long t fs)
 
-made-fits : (c : tie.After-make-table) → (length (take (c .make-table .result) (c .make-table .last .1 .1 .1 .0)) ≡ c .make-table .result)
-    × (c .make-table .result ≤ length (start (c .before .before .before .before .before .before) .args .cells .now))
-made-fits c =
-    let s = start (c .before .before .before .before .before .before) in
-    let T = table-is c in
-    let k = counts-read (s .pre .counts) in
-    (length-take-le (c .make-table .result) (c .make-table .last .1 .1 .1 .0) (T .within), omega (arith, T .count, cells-long (s .args .text .now) (s .pre .counts .facts), s .pre .room, s .pre .counts .symbols))
+-- src/lib.rt:107:30
+slice-aggregate-make : tie.Need-slice-aggregate-make
+slice-aggregate-make c = search needs
 
--- src/lib.rt:85:50
-slice-aggregate-number-symbols : tie.Need-slice-aggregate-number-symbols
-slice-aggregate-number-symbols c = search needs
+-- src/lib.rt:107:41
+slice-aggregate-make-2 : tie.Need-slice-aggregate-make-2
+slice-aggregate-make-2 c = search needs
 
--- src/lib.rt:85:61
-slice-aggregate-number-symbols-2 : tie.Need-slice-aggregate-number-symbols-2
-slice-aggregate-number-symbols-2 c = search needs
+-- src/lib.rt:107:9
+make-requires : tie.Need-make-requires
+make-requires c κs = search needs
 
--- src/lib.rt:85:9
-number-symbols-requires : tie.Need-number-symbols-requires
-number-symbols-requires c κs = search needs
-
--- src/lib.rt:87:9
+-- src/lib.rt:110:9
 no-room-requires : tie.Need-no-room-requires
 no-room-requires c κs = search needs
 
--- src/lib.rt:87:9
+-- src/lib.rt:110:9
 returns : tie.Need-returns
 returns c =
-    let s = start (c .before .before .before .before) in
-    let n = c .before .before .before .before .number-symbols in
-    no-room-names (s .args .text .now) (s .args .cells .now) (s .args .names .now) (s .args .c) (s .pre .counts) (n .result) (c .no-room .ensures) (names-are (c .before .before .before .before) .count) (s .pre .room) (c .before .if1 .taken)
+    let m = c .before .before .before .before in
+    let s = start m in
+    let n = length-take-le _ (m .make .last .1 .1 .1 .0) (made m .within .1) in
+    no-room-names (s .args .text .now) (s .args .cells .now) (s .args .names .now) (s .args .c) (s .pre .counts) (m .make .result .names)
+    (c .no-room .ensures) (sym n ∙ sizes m .1) (s .pre .room) (c .before .if1 .taken)
 
--- src/lib.rt:90:33
-slice-aggregate-make-table : tie.Need-slice-aggregate-make-table
-slice-aggregate-make-table c = search needs
-
--- src/lib.rt:90:43
-slice-aggregate-make-table-2 : tie.Need-slice-aggregate-make-table-2
-slice-aggregate-make-table-2 c = search needs
-
--- src/lib.rt:90:9
-make-table-requires : tie.Need-make-table-requires
-make-table-requires c κs =
-    let s = start (c .before .before .before .before .before) in
-    tables (replicate 2048 0) (s .pre .counts) (s .pre .few) refl (names-are (c .before .before .before .before .before) .numbers) refl
-
--- src/lib.rt:91:10
+-- src/lib.rt:113:10
 array-share-prefix-made : tie.Need-array-share-prefix-made
-array-share-prefix-made c = table-is (c .before) .within
+array-share-prefix-made c = made (c .before .before .before) .within .0
 
--- src/lib.rt:91:10
+-- src/lib.rt:113:10
 slice-aggregate-give : tie.Need-slice-aggregate-give
-slice-aggregate-give c = sym (made-fits (c .before .before) .0)
+slice-aggregate-give c = let m = c .before .before .before .before in sym (length-take-le _ (m .make .last .1 .1 .0) (made m .within .0))
 
--- src/lib.rt:91:22
+-- src/lib.rt:113:22
 array-share-prefix-list : tie.Need-array-share-prefix-list
-array-share-prefix-list c = search needs
+array-share-prefix-list c = made (c .before .before .before .before) .within .1
 
--- src/lib.rt:91:22
+-- src/lib.rt:113:22
 slice-aggregate-give-2 : tie.Need-slice-aggregate-give-2
-slice-aggregate-give-2 c =
-    let n = c .before .before .before .before .before .before .before .before .before .number-symbols in
-    sym (length-take-le (n .result) (n .last .1 .0) (omega (arith, n .ensures .few, n .kept .1 .0)))
+slice-aggregate-give-2 c = let m = c .before .before .before .before .before in sym (length-take-le _ (m .make .last .1 .1 .1 .0) (made m .within .1))
 
--- src/lib.rt:91:5
+-- src/lib.rt:113:5
 give-requires : tie.Need-give-requires
 give-requires c κs =
-    let n = c .before .before .before .before .before .before .before .before .before .before .before .number-symbols in
-    let k = made-fits (c .before .before .before .before .before) in
-    (omega (arith, k .0, k .1), omega (arith, length-take-le (n .result) (n .last .1 .0) (omega (arith, n .ensures .few, n .kept .1 .0)), c .before .before .before .before .before .before .before .before .if1 .left))
+    let m = c .before .before .before .before .before .before .before in
+    let n = length-take-le _ (m .make .last .1 .1 .1 .0) (made m .within .1) in
+    (sizes m .0, omega (arith, n, c .before .before .before .before .if1 .left))
 
--- src/lib.rt:79:1
+-- src/lib.rt:100:1
 same-length : tie.Need-same-length
 same-length c = search needs
 
--- src/lib.rt:79:1
+-- src/lib.rt:100:1
 same-length-2 : tie.Need-same-length-2
 same-length-2 c = search needs
 
--- src/lib.rt:79:1
+-- src/lib.rt:100:1
 returns-2 : tie.Need-returns-2
 returns-2 c =
-    let s = start (c .before .before .before .before .before .before .before .before .before .before .before .before .before .before .before .before) in
-    let n = c .before .before .before .before .before .before .before .before .before .before .before .before .before .before .before .before .number-symbols in
-    let m = c .before .before .before .before .before .before .before .before .before .before .make-table in
-    let g = c .before .before .before .before .give in
-    let k = made-fits (c .before .before .before .before .before .before .before .before .before .before) in
-    gives-loads (s .args .text .now) (take (m .result) (m .last .1 .1 .1 .0)) (take (n .result) (n .last .1 .0)) (s .args .cells .now) (s .args .names .now)
-    (g .last .1 .1 .0) (g .last .1 .1 .1 .0) (g .result) (s .pre .counts .facts) (s .pre .counts .taken) (table-is (c .before .before .before .before .before .before .before .before .before .before) .cells) (names-are (c .before .before .before .before .before .before .before .before .before .before .before .before .before .before .before .before) .names)
-    (omega (arith, k .0, k .1)) (omega (arith, length-take-le (n .result) (n .last .1 .0) (omega (arith, n .ensures .few, n .kept .1 .0)), c .before .before .before .before .before .before .before .before .before .before .before .before .before .if1 .left)) (g .ensures)
+    let g = c .before .before .before .before in
+    let m = g .before .before .before .before .before .before .before .before in
+    let s = start m in
+    let n = length-take-le _ (m .make .last .1 .1 .1 .0) (made m .within .1) in
+    gives-loads (s .args .text .now) (take (m .make .result .cells) (m .make .last .1 .1 .0)) (take (m .make .result .names) (m .make .last .1 .1 .1 .0))
+    (s .args .cells .now) (s .args .names .now) (g .give .last .1 .1 .0) (g .give .last .1 .1 .1 .0) (g .give .result) (s .pre .counts .facts)
+    (s .pre .counts .taken) (made m .cells) (made m .names) (sizes m .0)
+    (omega (arith, n, g .before .before .before .before .before .if1 .left)) (g .give .ensures)
 
 pub write-spec : {M : Type 1} → statement M
 write-spec =
     tie.close
     (tie.spec
-    slice-aggregate-number-symbols
-    slice-aggregate-number-symbols-2
-    number-symbols-requires
+    slice-aggregate-make
+    slice-aggregate-make-2
+    make-requires
     no-room-requires
     returns
-    slice-aggregate-make-table
-    slice-aggregate-make-table-2
-    make-table-requires
     array-share-prefix-made
     slice-aggregate-give
     array-share-prefix-list

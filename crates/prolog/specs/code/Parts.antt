@@ -14,22 +14,21 @@ use Rattle.grammar.specs.Taken.{Taken}
 use Rattle.loading.specs.Load.{Loaded, loadSays, cellsAfter, namesAfter}
 use Rattle.loading.specs.code.Items.{itemsOf, numbering}
 use Rattle.scan.specs.declared.Counted.{Counted}
-use Rattle.prolog.specs.Entry.{textTold}
+use Rattle.prolog.specs.Entry.{textTold, Counts}
 use Rattle.prolog.specs.declared.TextAnswer.{TextAnswer}
-
--- the text is taken as facts, and these are counted
-pub record Counts (t : List ℕ) (c : Counted) : Type 0 where
-  pub facts : List Fact
-  pub taken : Taken t (read facts)
-  pub number : length facts ≡ c .facts
-  pub width : widthOf facts ≡ c .width
-  pub symbols : length (symbolsOf facts) ≡ c .symbols
 
 -- with room for the cells, and so few of them
 pub record Fits (t : List ℕ) (c : Counted) (cells : List ℕ) : Type 0 where
   pub counts : Counts t c
   pub few : c .symbols ≤ 2048
   pub room : c .symbols + 2 ≤ length cells
+
+-- so few symbols, and two rooms of 2,050 and 2,048
+pub record Makes (t : List ℕ) (c : Counted) (made list : List ℕ) : Type 0 where
+  pub counts : Counts t c
+  pub few : c .symbols ≤ 2048
+  pub for-cells : length made ≡ 2050
+  pub for-names : length list ≡ 2048
 
 -- the numbers of the symbols are there
 pub record Tables (t : List ℕ) (c : Counted) (numbers made : List ℕ) : Type 0 where
