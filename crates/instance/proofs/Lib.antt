@@ -11,7 +11,9 @@ pub mod StartLaws
 pub mod FitsLaws
 pub mod FillLaws
 pub mod Small
+pub mod Symbols
 pub mod Bound
+pub mod ReplyLaws
 pub mod RepliesLaws
 pub mod RoomLaws
 pub mod PassLaws
