@@ -22,7 +22,7 @@ fn put_tagged(out: &mut [u8], to: usize, tag: u8, n: u32) -> usize
 }
 
 // The value of a cell's 16 bits: its sign is taken from them.
-fn put_value(out: &mut [u8], to: usize, c: u32) -> usize
+pub fn put_value(out: &mut [u8], to: usize, c: u32) -> usize
     ensures { λ r. ⌜ Put (now (out .entry)) (now (out .exit)) to (value c) r ⌝ }
 {
     let n = cell::number(c);

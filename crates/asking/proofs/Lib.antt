@@ -1,0 +1,9 @@
+pub mod SpellLaws
+pub mod ValueLaws
+pub mod SayLaws
+pub mod Back
+pub mod HeadLaws
+pub mod LieLaws
+pub mod ListLaws
+pub mod RenumberLaws
+pub mod One
