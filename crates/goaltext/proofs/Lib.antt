@@ -1,0 +1,4 @@
+pub mod NameLaws
+pub mod StepLaws
+pub mod AskedLaws
+pub mod Fixed

@@ -1,0 +1,190 @@
+use mathlib.Core.Path.{_≡_, sym, subst}
+use lib.Seq.{length-take-le}
+use Rattle.prolog.specs.Entry.{FactsAt, FactsAre}
+use Rattle.prolog.specs.declared.FactsAnswer.{FactsAnswer}
+use Rattle.goaltext.specs.code.Steps.{OursIs}
+use Rattle.goaltext.proofs.AskedLaws.{made-two, made-row, made-names, goal-reads, long-reads, other-reads, refused-reads}
+use borrow.Author.Needs.{needs}
+use Rattle.goaltext.proofs.read_whole.Statement.{statement}
+use Rattle.goaltext.proofs.read_whole.Tie as tie
+use Rattle.goaltext.proofs.read_whole.Reads as reads
+use Rattle.goaltext.proofs.read_whole.Lts as lts
+use Rattle.goaltext.proofs.is_ours.Reads as is-ours-reads
+use Rattle.goaltext.proofs.first_name.Reads as first-name-reads
+use Rattle.goaltext.proofs.put_goal.Reads as put-goal-reads
+use Rattle.goaltext.proofs.refuse.Reads as refuse-reads
+use Rattle.prolog.proofs.make_facts.Reads as make-facts-reads
+
+-- what is counted and made of the goal's text
+abbrev at : tie.After-make-facts → tie.Start
+at m = m .before .before .before .before .before .before .before
+
+facts-are : (m : tie.After-make-facts) {x : FactsAnswer} → m .make-facts .result ≡ x
+    → FactsAre (at m .args .whole .now) (m .make-facts .last .1 .0) (m .make-facts .last .1 .1 .0) x
+facts-are m e =
+    subst (FactsAre (at m .args .whole .now) (m .make-facts .last .1 .0) (m .make-facts .last .1 .1 .0)) e (m .make-facts .ensures)
+
+made-at : (c : tie.After-c)
+    → FactsAt (at (c .before .before) .args .whole .now) (c .c .given .0 .0) (c .before .before .make-facts .last .1 .0)
+    (c .before .before .make-facts .last .1 .1 .0) (c .c .given .0 .1 .0)
+made-at c = facts-are (c .before .before) (c .c .given .1)
+
+-- src/lib.rt:172:9
+first-name-requires : tie.Need-first-name-requires
+first-name-requires c κs = search needs
+
+-- src/lib.rt:175:11
+make-facts-requires : tie.Need-make-facts-requires
+make-facts-requires c κs = search needs
+
+-- src/lib.rt:176:27
+enum-known-c : tie.Need-enum-known-c
+enum-known-c c = search needs
+
+-- src/lib.rt:177:16
+is-ours-requires : tie.Need-is-ours-requires
+is-ours-requires c κs = search needs
+
+-- src/lib.rt:185:21
+sub-put-goal : tie.Need-sub-put-goal
+sub-put-goal c = made-two (made-at (c .before .before .before) .made′)
+
+-- src/lib.rt:185:21
+part-put-goal-start : tie.Need-part-put-goal-start
+part-put-goal-start c = made-two (made-at (c .before .before .before .before) .made′)
+
+-- src/lib.rt:185:21
+part-put-goal-end : tie.Need-part-put-goal-end
+part-put-goal-end c = made-at (c .before .before .before .before) .made′ .within .0
+
+-- src/lib.rt:186:21
+array-share-prefix-list : tie.Need-array-share-prefix-list
+array-share-prefix-list c = made-at (c .before .before .before .before .before) .made′ .within .1
+
+-- src/lib.rt:186:21
+slice-aggregate-put-goal : tie.Need-slice-aggregate-put-goal
+slice-aggregate-put-goal c =
+    let m = made-at (c .before .before .before .before .before .before) .made′ in sym (length-take-le _ _ (m .within .1))
+
+-- src/lib.rt:180:17
+put-goal-requires : tie.Need-put-goal-requires
+put-goal-requires c κs =
+    let k = c .before .before .before .before .before .before .before .before in
+    (at (k .before .before) .pre .0, made-names (made-at k .made′))
+
+-- src/lib.rt:180:17
+returns : tie.Need-returns
+returns c = λ t fs w short.
+    let o = c .before .before .before .before .before .before .before in
+    let k = o .before .before in
+    let m = k .before .before in
+    let a = at m .args in
+    let F = made-at k in
+    let S = subst (OursIs (a .text .now) (a .p) (a .whole .now) _ (k .c .given .0 .0))
+    (c .before .before .before .before .before .before .if1 .taken) (o .is-ours .ensures) in
+    goal-reads (a .text .now) (a .names .now) (a .p) t (a .whole .now) (at m .pre .1) short
+    (m .before .before .before .first-name .ensures) (F .counts)
+    (at m .pre .0) w S (made-row (F .made′)) (F .made′ .names) (c .put-goal .ensures)
+
+-- src/lib.rt:191:13
+refuse-requires : tie.Need-refuse-requires
+refuse-requires c κs = search needs
+
+-- src/lib.rt:193:27
+enum-known-c-2 : tie.Need-enum-known-c-2
+enum-known-c-2 c = search needs
+
+-- src/lib.rt:194:16
+is-ours-requires-2 : tie.Need-is-ours-requires-2
+is-ours-requires-2 c κs = search needs
+
+-- src/lib.rt:195:17
+refuse-requires-2 : tie.Need-refuse-requires-2
+refuse-requires-2 c κs = search needs
+
+-- src/lib.rt:195:17
+returns-2 : tie.Need-returns-2
+returns-2 c = λ t fs w short.
+    let o = c .before .before in
+    let k = o .before .before in
+    let m = k .before .before in
+    let a = at m .args in
+    let F = facts-are m (k .c2 .given .1) in
+    let S = subst (OursIs (a .text .now) (a .p) (a .whole .now) _ (k .c2 .given .0 .0)) (c .before .if2 .taken) (o .is-ours2 .ensures) in
+    long-reads (a .text .now) (a .names .now) (a .p) t (a .whole .now) (at m .pre .1) short
+    (m .before .before .before .first-name .ensures) (F .0)
+    (at m .pre .0) w S (F .1) (c .refuse2 .ensures)
+
+-- src/lib.rt:197:13
+refuse-requires-3 : tie.Need-refuse-requires-3
+refuse-requires-3 c κs = search needs
+
+-- src/lib.rt:199:43
+enum-told : tie.Need-enum-told
+enum-told c = search needs
+
+-- src/lib.rt:199:36
+refuse-requires-4 : tie.Need-refuse-requires-4
+refuse-requires-4 c κs = search needs
+
+-- src/lib.rt:160:1
+returns-3 : tie.Need-returns-3
+returns-3 c = λ t fs w short.
+    let o = c .before .before in
+    let k = o .before .before in
+    let m = k .before .before in
+    let a = at m .args in
+    let n = subst (OursIs (a .text .now) (a .p) (a .whole .now) _ (k .c .given .0 .0)) (c .before .if1 .left) (o .is-ours .ensures) in
+    other-reads (a .text .now) (a .names .now) (a .p) t (a .whole .now) (at m .pre .1) short
+    (m .before .before .before .first-name .ensures)
+    w (made-at k .counts) n (c .refuse .ensures)
+
+-- src/lib.rt:160:1
+returns-4 : tie.Need-returns-4
+returns-4 c = λ t fs w short.
+    let o = c .before .before in
+    let k = o .before .before in
+    let m = k .before .before in
+    let a = at m .args in
+    let F = facts-are m (k .c2 .given .1) in
+    let n = subst (OursIs (a .text .now) (a .p) (a .whole .now) _ (k .c2 .given .0 .0)) (c .before .if2 .left) (o .is-ours2 .ensures) in
+    other-reads (a .text .now) (a .names .now) (a .p) t (a .whole .now) (at m .pre .1) short
+    (m .before .before .before .first-name .ensures)
+    w (F .0) n (c .refuse3 .ensures)
+
+-- src/lib.rt:160:1
+returns-5 : tie.Need-returns-5
+returns-5 c = λ t fs w short.
+    let k = c .before in
+    let m = k .before .before in
+    let a = at m .args in
+    refused-reads (a .text .now) (a .names .now) (a .p) t (a .whole .now) (at m .pre .1) short
+    (m .before .before .before .first-name .ensures) _ w
+    (facts-are m (k .enum-told .given .1)) (c .refuse4 .ensures)
+
+pub read-whole-spec : {M : Type 1} → statement M
+read-whole-spec =
+    tie.close
+    (tie.spec
+    first-name-requires
+    make-facts-requires
+    enum-known-c
+    is-ours-requires
+    sub-put-goal
+    part-put-goal-start
+    part-put-goal-end
+    array-share-prefix-list
+    slice-aggregate-put-goal
+    put-goal-requires
+    returns
+    refuse-requires
+    enum-known-c-2
+    is-ours-requires-2
+    refuse-requires-2
+    returns-2
+    refuse-requires-3
+    enum-told
+    refuse-requires-4
+    returns-3
+    returns-4
+    returns-5)

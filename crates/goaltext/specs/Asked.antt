@@ -1,0 +1,64 @@
+-- What the reader of a goal's text answers (asking/specs/Goal), and what its rooms then hold.
+use Prim.Native.Nat.{ℕ, _≤_, _<_}
+use mathlib.Core.Path.{_≡_}
+use mathlib.Core.List.{List, [], _∷_, _++_}
+use lib.ListN.{length, drop}
+use Rattle.refusal.specs.Refusal.{Refused, refused, told, Answer, answered, turned}
+use Rattle.refusal.specs.Read.{Read, read, refuse}
+use Rattle.refusal.specs.declared.Reason.the-variants as reason
+use Rattle.refusal.specs.declared.Input.the-variants as input
+use Rattle.grammar.specs.Grammar.{Fact}
+use Rattle.grammar.specs.Taken.{Taken}
+use Rattle.asking.specs.Saying.{wordsIn, predicateIn}
+use Rattle.asking.specs.Goal.{Goal, GoalRead}
+use Rattle.asking.specs.declared.Predicate.{Predicate}
+use Rattle.goaltext.specs.declared.GoalText.{GoalText}
+use Rattle.goaltext.specs.declared.GoalText.the-variants as goal-text
+
+-- a fact's predicate: where its name stands, and how many arguments it has
+abbrev pub predicateOf : Fact → Predicate
+predicateOf f = record { start = f .start; end = f .end; width = f .width }
+
+-- "the facts' predicate" is the first one's. A text that is turned away has none
+pub data PredicateIs (t : List ℕ) : Predicate → Type 0 where
+  first : {f : Fact} {fs : List Fact} → Taken t (read (f ∷ fs)) → PredicateIs t (predicateOf f)
+  none : {g : Refused} → Taken t (refuse g) → PredicateIs t (record { start = 0; end = 0; width = 0 })
+
+-- no table has over 2,048 names (01, LENGTH): a list with more is refused as that table is
+pub data Asked (text names : List ℕ) (p : Predicate) (goal : List ℕ) : Read Goal → Type 0 where
+  too-many : 2048 < length names → Asked text names p goal (refuse (refused reason.Length input.Table 0))
+  asked : {says : Read Goal} → length names ≤ 2048 → GoalRead (wordsIn text names) (predicateIn text p) (p .width) goal says
+      → Asked text names p goal says
+
+-- how many cells it has, and how many names that the table has not; or why it is turned away
+abbrev pub said : Read Goal → Answer
+said (read g) = answered (length (g .cells)) (length (g .new))
+said (refuse f) = turned f
+
+abbrev pub textTold : GoalText → Answer
+textTold (goal-text.Read cells new) = answered cells new
+textTold (goal-text.Refused f) = turned (told f)
+
+-- what is written of a goal; and of a refusal, nothing
+abbrev pub cellsOf : Read Goal → List ℕ
+cellsOf (read g) = g .cells
+cellsOf (refuse f) = []
+
+abbrev pub newOf : Read Goal → List ℕ
+newOf (read g) = g .new
+newOf (refuse f) = []
+
+-- at the front of a room, the rest of which is kept
+abbrev pub front : List ℕ → List ℕ → List ℕ
+front xs room = xs ++ drop (length xs) room
+
+pub record Answers (says : Read Goal) (cells cells′ new new′ : List ℕ) (r : GoalText) : Type 0 where
+  pub tells : textTold r ≡ said says
+  pub wrote : cells′ ≡ front (cellsOf says) cells
+  pub listed : new′ ≡ front (newOf says) new
+
+-- "the reading of a goal against a list of names": a goal's text, by the names of a text of facts and its predicate
+pub record GoalAsked (text names : List ℕ) (p : Predicate) (goal cells cells′ new new′ : List ℕ) (r : GoalText) : Type 0 where
+  pub says : Read Goal
+  pub rule : Asked text names p goal says
+  pub answers : Answers says cells cells′ new new′ r
