@@ -1,0 +1,4 @@
+pub mod StandLaws
+pub mod ListedLaws
+pub mod WordLaws
+pub mod ReplyBack
