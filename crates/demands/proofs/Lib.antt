@@ -6,3 +6,4 @@ pub mod Texts
 pub mod Shift
 pub mod Numbers
 pub mod Records
+pub mod Asking

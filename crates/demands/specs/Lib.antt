@@ -4,3 +4,4 @@ pub mod Shift
 pub mod Replies
 pub mod Numbers
 pub mod Records
+pub mod Asking

@@ -7,13 +7,16 @@ ghost use Rattle.demands.specs.Texts.{Request201};
 ghost use Rattle.demands.specs.Shift.{Shift};
 ghost use Rattle.demands.specs.Replies.{RepliesRefused, Says};
 ghost use Rattle.demands.specs.Records.{MakesRecord, EditsRecord, BuildsFrom};
+ghost use Rattle.demands.specs.Asking.{ReadsGoal, ReadsBack};
 ghost use Prim.Native.Nat.{ℕ};
 ghost use Rattle.table.specs.Table.{Table, tableTold};
 ghost use Rattle.record.specs.Record.{Holds};
 ghost use Rattle.record.specs.Edits.{append, drop-last, replace};
 use answer::RunAnswer;
+use asking::Predicate;
 use builder::BuildAnswer;
 use checker::PlanAnswer;
+use goaltext::GoalText;
 use instance::RepliesAnswer;
 use least::By;
 use prolog::TextAnswer;
@@ -120,4 +123,32 @@ fn request_build(rec: &[u32; 14340], room: &mut [u32]) -> BuildAnswer
     ensures { λ r. ⌜ BuildsFrom (now (rec .entry)) (now (room .entry)) (now (room .exit)) r ⌝ }
 {
     builder::build_from(rec, room)
+}
+
+fn request_goal(
+    text: &[u8],
+    names: &[u32],
+    p: Predicate,
+    goal: &[u8],
+    cells: &mut [u32; 32],
+    new: &mut [u32; 32],
+) -> GoalText
+    ensures { λ r. ⌜ ReadsGoal (now (text .entry)) (now (names .entry)) p (now (goal .entry)) (now (cells .exit)) (now (new .exit)) r ⌝ }
+{
+    goaltext::read_goal(text, names, p, goal, cells, new)
+}
+
+fn request_answer(
+    out: &mut [u8],
+    text: &[u8],
+    names: &[u32],
+    goal: &[u8],
+    new: &[u32],
+    p: Predicate,
+    cells: &[u32],
+) -> usize
+    ensures { λ r. ⌜ ReadsBack (now (text .entry)) (now (names .entry)) (now (goal .entry)) (now (new .entry)) p (now (cells .entry))
+        (now (out .entry)) (now (out .exit)) r ⌝ }
+{
+    saying::put_answer(out, text, names, goal, new, p, cells)
 }
