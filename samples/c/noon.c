@@ -56,6 +56,7 @@ static void edits(void) {
 
     tell("too short a rule", dudowiej_append(&record, too_short, sizeof too_short / sizeof too_short[0]));
     tell("no such rule", dudowiej_replace(&record, DUDOWIEJ_ROWS, harder, sizeof harder / sizeof harder[0]));
+    tell("the same rule again", dudowiej_append(&record, harder, sizeof harder / sizeof harder[0]));
     printf("as at noon: %s\n", same(&record, &noon) ? "true" : "false");
 
     /* Back to the morning's rule. Its cells are in another record: an edit's row may not lie in the record that is edited. */

@@ -43,6 +43,7 @@ fn day(table: &[u32]) -> Result<(), Refusal> {
 
     tell("too short a rule", record.append(&TOO_SHORT), &record)?;
     tell("no such rule", record.replace(dudowiej::ROWS, &HARDER), &record)?;
+    tell("the same rule again", record.append(&HARDER), &record)?;
     println!("as at noon: {}", record == noon);
 
     tell("replaced", record.replace(CHANGED, morning.row(CHANGED)), &record)?;
