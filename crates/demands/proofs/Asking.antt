@@ -16,7 +16,9 @@ use Rattle.asking.specs.declared.Predicate.{Predicate}
 use Rattle.asking.specs.Saying.{wordsIn, wordsOf, predicateIn, saidIn}
 use Rattle.asking.specs.Goal as asking
 use Rattle.asking.specs.Goal.{Goal, Asks, GoalRead}
+use Rattle.grammar.specs.Numbering.{Nth, First}
 use Rattle.asking.proofs.One.{read-one}
+use Rattle.asking.proofs.ListLaws.{new-apart}
 use Rattle.goaltext.specs.declared.GoalText.{GoalText}
 use Rattle.goaltext.specs.Asked.{Asked, too-many, asked, Answers, GoalAsked}
 use Rattle.answering.proofs.ReplyBack.{replies-back}
@@ -67,6 +69,12 @@ module _ {text names : List ℕ} {p : Predicate} {t : List ℕ} where
       gives (x .says) (x .rule) (x .answers) goal,
       λ i. given goal (subst (λ (s : Read Goal). Answers s cells cells′ new new′ r) (is-asked i (x .rule)) (x .answers)),
     )
+
+-- "names that the table does not have are sound and fit no name of it": the k-th of them has the number after the table's names and the k new
+-- ones before it, and no word of the table's is equal to it
+pub ask-new : {text names : List ℕ} {p : Predicate} {t : List ℕ} {goal : Goal} → IsAsked text names p t goal → {k : ℕ} {w : List ℕ}
+    → Nth (wordsIn t (goal .new)) k w → First (wordsOf text names t (goal .new)) (length (wordsIn text names) + k) w
+ask-new i = new-apart (i .asks) (i .bytes)
 
 -- AN ANSWER
 put-whole : {old new text : List ℕ} {r : ℕ} → Put old new 0 text r → length text ≤ length old → take r new ≡ text
