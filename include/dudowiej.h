@@ -18,8 +18,8 @@
  * A list is passed as a pointer and a length, a record as a pointer. A pointer is aligned for its type and not null, even where the length
  * is 0. What a call writes, a lent room or a record, shares no memory with its other inputs: a row that is to be appended again is copied
  * out of its record first. The functions keep nothing between calls, and allocate nothing. Of its caller's stack a call touches at most
- * 61,208 bytes to load a text, 44,104 for replies, 32,832 to build a plan, 31,352 to run one, 17,432 to edit a record, 14,520 to check a
- * plan, 8,488 to work a record out and 1,288 to read (measured: docs/BENCH.md, "Stack"). */
+ * 62,648 bytes to load a text, 43,352 for replies, 33,392 to build a plan, 30,568 to run one, 17,192 to edit a record, 13,736 to check a
+ * plan, 8,840 to work a record out and 2,728 to read (measured: docs/BENCH.md, "Stack"). */
 #ifndef DUDOWIEJ_H
 #define DUDOWIEJ_H
 
