@@ -2,20 +2,18 @@
 -- statements are in specs/Asking.
 use Prim.Native.Nat.{ℕ, _+_, _-_, _≤_}
 use mathlib.Core.Path.{_≡_, refl, sym, ap, ap₂, subst, _∙_}
-use mathlib.Core.Logic.{_↔_}
-use mathlib.Core.List.{List, _++_, List·Memᴰ}
+use mathlib.Core.List.{List, _++_}
 use native.Mathlib.Omega.{arith}
-use lib.ListN.{length, take, drop, length-append}
-use lib.Seq.{sets, sets-eq, take-at, take-all, length-take-le}
-use Rattle.refusal.specs.Refusal.{answered, turned}
+use lib.ListN.{length, take, drop}
+use lib.Seq.{sets, sets-eq, take-at, take-all}
+use Rattle.refusal.specs.Refusal.{answered}
 use Rattle.refusal.specs.Read.{Read, read, refuse}
-use Rattle.table.specs.Table.{goalOf, IsGoal}
 use Rattle.table.proofs.Accepted.{goal-accepted}
 use Rattle.octets.specs.Octets.{Put, fitting}
 use Rattle.asking.specs.declared.Predicate.{Predicate}
 use Rattle.asking.specs.Saying.{wordsIn, wordsOf, predicateIn, saidIn}
 use Rattle.asking.specs.Goal as asking
-use Rattle.asking.specs.Goal.{Goal, Asks, GoalRead}
+use Rattle.asking.specs.Goal.{Goal, GoalRead}
 use Rattle.grammar.specs.Numbering.{Nth, First}
 use Rattle.asking.proofs.One.{read-one}
 use Rattle.asking.proofs.ListLaws.{new-apart}

@@ -8,11 +8,10 @@ use native.Mathlib.Numerals.{add-one}
 use native.Mathlib.Omega.{arith}
 use lib.Dec.{eqb}
 use lib.ListN.{length, getD, set, take, drop, length-drop, drop-of-length-le}
-use lib.Seq.{drop-cons, take-nil, take-all, take-take, take-set-le, length-take-le, getD-take, getD-set-same, getD-set-other}
+use lib.Seq.{drop-cons, take-nil, take-all, take-take, length-take-le, getD-take, getD-set-same, getD-set-other}
 use borrow.Author.Tests.{eq-eqb, ne-eqb, eqb-true, eqb-false}
 use Rattle.term.proofs.Lists.{slice-take}
 use Rattle.cell.specs.Same.{same, among}
-use Rattle.cell.proofs.SameLaws.{same-no}
 use Rattle.doubles.specs.code.Starts.{between, rowsBut, rowsLent, Ascends}
 
 -- A PART whose ends may lie outside

@@ -6,12 +6,11 @@ use mathlib.Core.List.{List, [], _∷_, _++_, List·Memᴰ, List·Memᴰ·head, 
 use Prim.Native.Nat.{ℕ, zero, suc, _≤_}
 use native.Mathlib.Omega.{arith}
 use lib.Dec.{eqb}
-use lib.ListN.{length, set, take, drop}
+use lib.ListN.{length, set, take}
 use borrow.Author.Tests.{eq-eqb, ne-eqb, eqb-true}
 use Rattle.cell.specs.Cell.{isVar}
 use Rattle.cell.specs.Same.{same, among}
 use Rattle.cell.proofs.SameLaws.{same-refl, same-eq}
-use Rattle.table.specs.All.{All}
 use Rattle.table.specs.Table.{Met, doubled, others, count, appear, Ground, Apart, Distinct}
 use Rattle.table.proofs.AllLaws.{all-take, all-++, all-set, all-members}
 use Rattle.table.proofs.ReadLaws.{not-both}

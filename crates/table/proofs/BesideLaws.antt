@@ -10,7 +10,7 @@ use lib.ListN.{length, getD, take, drop, replicate, length-append}
 use lib.Seq.{take-suc, take-all, length-take-le}
 use borrow.Author.Tests.{eqb-true, eqb-false}
 use Rattle.cell.specs.Same.{same, among}
-use Rattle.refusal.specs.Read.{Read, read}
+use Rattle.refusal.specs.Read.{read}
 use Rattle.table.specs.Table.{Table, tableOf, termsFrom, others, rowOf, starts, startsIn}
 use Rattle.doubles.specs.code.Starts.{rowsBut, rowsLent}
 use Rattle.doubles.proofs.StartLaws.{rows-lent}

@@ -1,6 +1,6 @@
 -- SAME (02, W-208): a table is refused so exactly where a row that is complete, has no variable and stands before begins.
 use mathlib.Core.Path.{_≡_, refl, sym, ap, subst, _∙_}
-use mathlib.Core.Logic.{_↔_, _≢_, _⊎_, inl, inr, ⊎-elim}
+use mathlib.Core.Logic.{_↔_, _⊎_, inl, inr, ⊎-elim}
 use mathlib.Core.Bool.{Bool, true, false, _&&_, _||_}
 use mathlib.Core.List.{List, [], _∷_, _++_, flatten, append-assoc, List·Memᴰ, List·Memᴰ·head, List·Memᴰ·tail, List·Memᴰ·cases-cons, List·Memᴰ·not-nil}
 use Prim.Native.Nat.{ℕ, zero, suc, _+_, _-_, _≤_, _<_}
@@ -8,7 +8,7 @@ use native.Mathlib.Omega.{arith}
 use lib.Dec.{eqb, leb, ltb}
 use lib.ListN.{length, getD, take, drop, length-append, take-append-drop}
 use lib.Seq.{take-at, drop-at}
-use Rattle.cell.specs.Cell.{Values, valuesAt, arity}
+use Rattle.cell.specs.Cell.{Values, valuesAt}
 use Rattle.cell.specs.Same.{among}
 use Rattle.refusal.specs.Refusal.{Refused, refused, numberOf}
 use Rattle.refusal.specs.declared.Reason.{Reason}
@@ -19,7 +19,7 @@ use Rattle.table.specs.All.{All}
 use Rattle.table.specs.Table.{Met, met, bad, counted, cellTests, termsFrom, before, doubled, rowsFrom, table, tableOf, Row, appear, Ground, Apart}
 use Rattle.table.specs.Table.{rowOf, Distinct, Repeats, RowRepeats}
 use Rattle.table.proofs.ReadLaws.{apart, refuse-one, passed-other, inside, within-bounds}
-use Rattle.table.proofs.AllLaws.{all-each, all-both, all-members}
+use Rattle.table.proofs.AllLaws.{all-members}
 use Rattle.table.proofs.ApartLaws.{is-doubled, tested-apart, apart-tested, doubled-has, has-among, ground-none}
 use Rattle.table.proofs.RowsLaws.{RowsAre, rows-put, read-row, reads-row, later-apart}
 use Rattle.table.proofs.WholeLaws.{whole, whole-part}

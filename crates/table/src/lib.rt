@@ -78,7 +78,7 @@ fn turned(reason: Reason, place: usize) -> TableRead
 
 // So many rows from the third cell on, and nothing after them.
 fn read_rows(cells: &[u32], width: usize, count: usize) -> TableRead
-    requires { ⌜ (2 ≤ length (now cells)) × (1 ≤ width) × (count ≤ 64) ⌝ }
+    requires { ⌜ (2 ≤ length (now cells)) × (count ≤ 64) ⌝ }
     ensures { λ r. ⌜ TableReads (andThen (rowsFrom width count [] (drop 2 (now (cells .entry))) 2) (λ rows. read (table width rows))) r ⌝ }
 {
     let mut starts = [0; 64];

@@ -73,7 +73,6 @@ read-rows-requires : tie.Need-read-rows-requires
 read-rows-requires c κs =
     let e = c .before .before .before .before in (
       long (e .before .before .before .before) .0,
-      inside (e .before .before .wide .result) 1 8 (sym (e .before .outside2 .ensures) ∙ e .if2 .left) .0,
       inside (c .before .before .wide2 .result) 1 64 (sym (c .before .outside3 .ensures) ∙ c .if3 .left) .1,
     )
 
