@@ -15,7 +15,7 @@ use Rattle.term.specs.Terms.{Terms, more, front, back}
 use Rattle.term.specs.Unify.{inst, Unifies}
 use Rattle.term.proofs.TermsLaws.{Terms-++, front-back, front-terms, back-terms}
 use Rattle.term.proofs.Inst.{Terms-inst, Subst-id, Subst-bind, Terms-symbol}
-use Rattle.term.specs.code.Bind.{idS, bind}
+use Rattle.term.specs.Bind.{idS, bind}
 use Rattle.term.proofs.Step.{Terms-fresh, same-symbol, other-symbol, row-variable, goal-variable}
 use Rattle.term.proofs.Decide.{inst-mem}
 use Rattle.table.specs.Table.{upFrom}

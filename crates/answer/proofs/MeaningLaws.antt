@@ -12,7 +12,7 @@ use Rattle.term.specs.Terms.{Terms, front, back, root, close}
 use Rattle.term.specs.Unify.{inst, Unifies, renamed}
 use Rattle.term.proofs.TermsLaws.{front-back, front-terms, back-terms, one-cell, Terms-++, zero-nil, terms-long}
 use Rattle.term.proofs.Inst.{Subst-id}
-use Rattle.term.specs.code.Bind.{idS}
+use Rattle.term.specs.Bind.{idS}
 use Rattle.table.specs.All.{All}
 use Rattle.table.proofs.AllLaws.{all-each}
 use Rattle.table.specs.Table.{count, upFrom}

@@ -16,7 +16,7 @@ use Rattle.term.specs.Unify.{Unifies}
 use Rattle.term.proofs.Tests.{bool-cases, eqb-same}
 use Rattle.term.proofs.TermsLaws.{Terms-++, zero-nil, front-back, front-terms, back-terms, front-++, back-++}
 use Rattle.term.proofs.Inst.{inst-agree, inst-id, Subst-id, Terms-symbol}
-use Rattle.term.specs.code.Bind.{idS}
+use Rattle.term.specs.Bind.{idS}
 use Rattle.term.proofs.Step.{Fresh, spread, Terms-fresh, fresh-var}
 use Rattle.table.specs.Table.{count, upFrom}
 use Rattle.answer.specs.Skeleton.{hole, fill, decide}

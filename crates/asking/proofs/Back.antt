@@ -24,7 +24,7 @@ use Rattle.grammar.specs.Grammar.{isLower, Symbol, Fact, fact, Args, Text}
 use Rattle.grammar.specs.Stops.{Stops}
 use Rattle.grammar.specs.Numbering as numbering
 use Rattle.grammar.specs.Numbering.{Words, Nth, here, later, New, First, Firsts, Row}
-use Rattle.grammar.specs.code.Reader.{nothing, finish, stops, run, textOf}
+use Rattle.grammar.specs.Reader.{nothing, finish, stops, run, textOf}
 use Rattle.grammar.proofs.Complete.{run-head, at-first, at-head-open, run-width}
 use Rattle.grammar.proofs.Accepted.{refused-at}
 use Rattle.grammar.proofs.NthLaws.{nth-below, nth-left, nth-seam, nth-added}

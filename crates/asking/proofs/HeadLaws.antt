@@ -10,7 +10,7 @@ use lib.ListN.{length, drop}
 use borrow.Author.Tests.{lt-ltb, ne-eqb, leb-true}
 use Rattle.grammar.specs.Grammar as G
 use Rattle.grammar.specs.Grammar.{isLower, isUpper, isDigit, isWord, Line, Gap, Word, Fact, OneFact, Facts, Text}
-use Rattle.grammar.specs.code.Reader.{isBlank}
+use Rattle.grammar.specs.Reader.{isBlank}
 use Rattle.lex.specs.Turns.{gapFrom, wordFrom, standsAt}
 use Rattle.lex.specs.Heads.{headFrom, headOf}
 use Rattle.lex.specs.declared.fact.Head.the-variants as head

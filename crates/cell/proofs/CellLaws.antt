@@ -186,6 +186,17 @@ pub arity-other : (c : ℕ) → kindOf c ≢ 1 → arity c ≡ 0
 unfolding arity
 arity-other c h = no-args c (reading c) h
 
+-- by the high half: a name's is 0x4000 and its number of arguments
+pub arity-below : (c : ℕ) → c / 2 ^ 16 < 16384 → arity c ≡ 0
+arity-below c l = arity-other c (λ k. omega arith)
+
+pub arity-above : (c : ℕ) → 16388 < c / 2 ^ 16 → arity c ≡ 0
+arity-above c l = go (eqb (kindOf c) 1) refl
+  where
+    go : (b : Bool) → eqb (kindOf c) 1 ≡ b → arity c ≡ 0
+    go true e = let k = eqb-true (kindOf c) 1 e in arity-no-name c k (omega arith)
+    go false e = arity-other c (eqb-false (kindOf c) 1 e)
+
 pub var-arity : (c : ℕ) → isVar c ≡ true → arity c ≡ 0
 unfolding isVar
 var-arity c e = let k = eqb-true (kindOf c) 0 e in arity-other c (λ q. omega arith)

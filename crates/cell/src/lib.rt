@@ -1,7 +1,7 @@
 // One 32-bit cell (01, "Cells"): its kind, its number of arguments and its number, taken out by masks and shifts, and
 // cells built again by them. Every function takes any number at all.
 ghost use mathlib.Core.Path.{_≡_};
-ghost use Prim.Native.Nat.{_%_, _^_};
+ghost use Prim.Native.Nat.{_/_, _%_, _^_};
 ghost use Rattle.cell.specs.Signed.{signedOf};
 ghost use Rattle.cell.specs.Cell.{kindOf, argsOf, numberOf, middleOf, variableCell, nameCell, numberCell, valuesAt, valuesOf, arity};
 
@@ -45,8 +45,8 @@ pub fn middle(c: u32) -> u32
     (c >> 16) & 0x3fff
 }
 
-// A cell is built from the low bits of its parts, as many as its fields have. 01 asks for these three ("masks and shifts take kind, argument
-// count and number out of a 32-bit cell and build it again"); nothing in the base calls them.
+// A cell is built from the low bits of its parts, as many as its fields have (01, "masks and shifts take kind, argument count and number out
+// of a 32-bit cell and build it again").
 pub fn variable_cell(n: u32) -> u32
     ensures { λ r. ⌜ r ≡ variableCell (n % 2 ^ 16) ⌝ }
 {
@@ -99,17 +99,20 @@ pub fn shape_of(c: u32) -> Shape
     }
 }
 
-// How many terms follow the cell as its arguments.
+// Bits 31..16: the kind and the bits between.
+fn high(c: u32) -> u32
+    ensures { λ r. ⌜ r ≡ c / 2 ^ 16 ⌝ }
+{
+    c >> 16
+}
+
+// How many terms follow the cell as its arguments: of a name with 0 to 4 of them the high half is 0x4000 to 0x4004.
 pub fn arity_of(c: u32) -> usize
     ensures { λ r. ⌜ r ≡ arity c ⌝ }
 {
-    let k = kind(c);
-    let m = middle(c);
-    match k {
-        1 => match m {
-            0..=4 => args(c) as usize,
-            _ => 0,
-        },
+    let h = high(c);
+    match h {
+        0x4000..=0x4004 => args(c) as usize,
         _ => 0,
     }
 }

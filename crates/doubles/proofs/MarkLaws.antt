@@ -11,8 +11,8 @@ use lib.Seq.{drop-cons, drop-length, take-set-le, getD-take, length-take-le, get
 use borrow.Author.Tests.{eq-eqb, ne-eqb}
 use Rattle.cell.specs.Same.{same, among}
 use Rattle.cell.proofs.SameLaws.{same-no}
-use Rattle.doubles.specs.code.Starts.{between, rowsBut, rowsLent, Ascends}
-use Rattle.doubles.specs.code.Marks.{mix, markFrom, markOf, has, Marked}
+use Rattle.doubles.specs.Starts.{between, rowsBut, rowsLent, Ascends}
+use Rattle.doubles.specs.Marks.{mix, markFrom, markOf, has, Marked}
 use Rattle.doubles.proofs.StartLaws.{rows-before}
 
 -- THE MARK of the cells from a place on, after a mark

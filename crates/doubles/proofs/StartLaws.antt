@@ -12,7 +12,7 @@ use lib.Seq.{drop-cons, take-nil, take-all, take-take, length-take-le, getD-take
 use borrow.Author.Tests.{eq-eqb, ne-eqb, eqb-true, eqb-false}
 use Rattle.term.proofs.Lists.{slice-take}
 use Rattle.cell.specs.Same.{same, among}
-use Rattle.doubles.specs.code.Starts.{between, rowsBut, rowsLent, Ascends}
+use Rattle.doubles.specs.Starts.{between, rowsBut, rowsLent, Ascends}
 
 -- A PART whose ends may lie outside
 module _ (t : List ℕ) (s e : ℕ) where

@@ -5,8 +5,8 @@ ghost use mathlib.Core.Bool.{_&&_};
 ghost use Prim.Native.Nat.{_-_};
 ghost use lib.ListN.{length, take, drop};
 ghost use Rattle.cell.specs.Same.{same, among};
-ghost use Rattle.doubles.specs.code.Starts.{Inside, rowsLent};
-ghost use Rattle.doubles.specs.code.Marks.{mix, markOf, has};
+ghost use Rattle.doubles.specs.Starts.{Inside, rowsLent};
+ghost use Rattle.doubles.specs.Marks.{mix, markOf, has};
 
 // From a place up to another.
 pub struct Span {

@@ -8,7 +8,7 @@ use native.Mathlib.Decide.{decLt}
 use lib.ListN.{take, drop, take-append-drop}
 use lib.Seq.{take-take}
 use Rattle.grammar.specs.Grammar.{Fact, Text}
-use Rattle.grammar.specs.code.Reader.{Out, stops, reads, textOf}
+use Rattle.grammar.specs.Reader.{Out, stops, reads, textOf}
 use Rattle.grammar.specs.Stops.{Begins, Stops, at-byte, at-end}
 use Rattle.grammar.proofs.Complete.{text-read, text-one}
 use Rattle.grammar.proofs.Sound.{text-is}

@@ -11,7 +11,7 @@ use lib.Seq.{set-append-seam}
 use borrow.Author.Tests.{leb-true, le-leb, lt-leb, lt-ltb, eqb-true, ne-eqb}
 use Rattle.grammar.specs.Grammar as G
 use Rattle.grammar.specs.Grammar.{isLower, isUpper, isDigit, isWord, Blank, space, feed, return, Line, Gap, Word, Digits, Symbol, Term, Args, Fact, fact, OneFact, Facts, Text}
-use Rattle.grammar.specs.code.Reader.{Mode, first, head, arg, word, minus, digits, after, closed, stop, between, remark, Frame, frame, Work, work, nothing, go, isBlank, layout, push, put, comma, close, past, limit, bitsAfter, step, reads, before, finish, run, textOf, Rests, Ends}
+use Rattle.grammar.specs.Reader.{Mode, first, head, arg, word, minus, digits, after, closed, stop, between, remark, Frame, frame, Work, work, nothing, go, isBlank, layout, push, put, comma, close, past, limit, bitsAfter, step, reads, before, finish, run, textOf, Rests, Ends}
 
 -- a comment
 pub run-line : {p q : ℕ} {xs ys : List ℕ} (m : Mode) (w : Work) → Line p xs q ys → run xs (remark m) w p ≡ run ys m w q

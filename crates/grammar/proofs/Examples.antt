@@ -14,7 +14,7 @@ use Rattle.refusal.specs.declared.Input.the-variants as input
 use Rattle.grammar.specs.Grammar.{isLower, isUpper, isDigit, isWord, Fact}
 use Rattle.cell.specs.Same.{same}
 use Rattle.grammar.specs.Meaning.{position, meet, namesFrom, variableNumber, variablesWith, cellsFrom, widthOf, tableCells, nameList, otherThan, otherIn}
-use Rattle.grammar.specs.code.Reader.{isBlank, layout, push, put, comma, close, past, step, finish, run, textOf}
+use Rattle.grammar.specs.Reader.{isBlank, layout, push, put, comma, close, past, step, finish, run, textOf}
 use Rattle.grammar.proofs.Fixed.{takenOf}
 
 -- the bytes of a quoted text, whose characters are one byte each

@@ -11,7 +11,7 @@ use Rattle.refusal.specs.Read.{Read, read, refuse, when}
 use Rattle.refusal.specs.declared.Reason.the-variants as reason
 use Rattle.refusal.specs.declared.Input.the-variants as input
 use Rattle.grammar.specs.Grammar.{Fact, Text}
-use Rattle.grammar.specs.code.Reader.{Out, stops, reads, textOf}
+use Rattle.grammar.specs.Reader.{Out, stops, reads, textOf}
 use Rattle.grammar.specs.Meaning.{Found, none, found, otherIn}
 use Rattle.grammar.specs.Taken.{Taken, too-long, no-text, other-fact, taken}
 use Rattle.grammar.proofs.Accepted.{accepted, refused-at}

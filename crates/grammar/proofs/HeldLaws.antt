@@ -6,7 +6,7 @@ use native.Mathlib.Omega.{arith}
 use lib.ListN.{length, getD, set, length-set, length-append, List·getD-append}
 use lib.Seq.{getD-append-seam, getD-set-same, getD-set-other}
 use Rattle.grammar.specs.Grammar.{Symbol, name, number}
-use Rattle.grammar.specs.code.Reader.{Frame, frame, oneMore, oneMoreIn, Under, Held, none, more}
+use Rattle.grammar.specs.Reader.{Frame, frame, oneMore, oneMoreIn, Under, Held, none, more}
 
 pub held-put : {out : List Symbol} {fs : List Frame} (x : Symbol) → Held out fs → Held (out ++ (x ∷ [])) fs
 held-put x none = none

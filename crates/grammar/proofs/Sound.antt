@@ -10,7 +10,7 @@ use lib.ListN.{length, set}
 use borrow.Author.Tests.{leb-true, ltb-true, eqb-true}
 use Rattle.grammar.specs.Grammar as G
 use Rattle.grammar.specs.Grammar.{isLower, isUpper, isDigit, isWord, Blank, space, feed, return, Line, Gap, Word, Digits, Symbol, Term, Args, Fact, fact, OneFact, Facts, Text}
-use Rattle.grammar.specs.code.Reader.{Mode, first, head, arg, word, minus, digits, after, closed, stop, between, remark, Frame, frame, Work, work, nothing, dead, isBlank, layout, push, put, comma, past, limit, bitsAfter, step, Out, stops, reads, before, finish, run, textOf, Solid, Ends}
+use Rattle.grammar.specs.Reader.{Mode, first, head, arg, word, minus, digits, after, closed, stop, between, remark, Frame, frame, Work, work, nothing, dead, isBlank, layout, push, put, comma, past, limit, bitsAfter, step, Out, stops, reads, before, finish, run, textOf, Solid, Ends}
 use Rattle.grammar.proofs.Complete.{run-gap, rests-first, rests-arg, rests-after, rests-closed, run-word, run-head, name-ends, variable-ends, at-open, at-head-open, at-comma, at-close, at-fact-comma, at-fact-close, at-stop, puts, named, set-over, run-stop}
 
 -- a stop is no reading

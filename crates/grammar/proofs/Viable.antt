@@ -8,7 +8,7 @@ use native.Mathlib.Omega.{arith}
 use lib.ListN.{length, take}
 use Rattle.grammar.specs.Grammar as G
 use Rattle.grammar.specs.Grammar.{isLower, isDigit, Symbol, Fact, fact}
-use Rattle.grammar.specs.code.Reader.{Mode, first, head, arg, word, minus, digits, after, closed, stop, between, remark, Frame, Work, work, nothing, Next, dead, go, says, put, bitsAfter, step, Out, stops, reads, before, finish, run, textOf}
+use Rattle.grammar.specs.Reader.{Mode, first, head, arg, word, minus, digits, after, closed, stop, between, remark, Frame, Work, work, nothing, Next, dead, go, says, put, bitsAfter, step, Out, stops, reads, before, finish, run, textOf}
 use Rattle.grammar.specs.Stops.{Begins, Stops, at-byte, at-end}
 use Rattle.grammar.proofs.Complete.{Follows, name-ends, variable-ends, follows-ends, digits-end, after-minus, at-lower, at-first, at-head-open, at-close, at-fact-close, at-stop, text-read, bracket-follows}
 use Rattle.grammar.proofs.Sound.{clash, text-is}

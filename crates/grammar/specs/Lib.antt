@@ -4,4 +4,4 @@ pub mod Meaning
 pub mod Numbering
 pub mod Other
 pub mod Taken
-pub mod code
+pub mod Reader

@@ -19,7 +19,7 @@ use Rattle.term.proofs.TermsLaws.{nil-zero, zero-nil, front-back, front-terms, 
 use Rattle.term.proofs.Inst.{inst-++, bind-same, Subst-id, Subst-bind, Terms-inst, Terms-symbol}
 use Rattle.term.proofs.Step.{Fresh, Apart, Terms-fresh}
 use Rattle.term.proofs.Decide.{inst-mem}
-use Rattle.term.specs.code.Bind.{bind, idS}
+use Rattle.term.specs.Bind.{bind, idS}
 use Rattle.table.specs.Table.{count, upFrom}
 use Rattle.answer.proofs.CountLaws.{Linear, count-same, count-mem, up-mem, up-distinct}
 use Rattle.instance.specs.Instance.{Instance, Common, MostGeneral}

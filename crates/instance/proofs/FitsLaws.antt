@@ -12,7 +12,7 @@ use Rattle.term.specs.Unify.{inst, Subst}
 use Rattle.term.proofs.TermsLaws.{prefix, one-cell}
 use Rattle.term.proofs.Inst.{inst-++, inst-agree, then, inst-then, Terms-inst, Subst-then, bind-same, Subst-bind, Subst-id, inst-bind, absorb}
 use Rattle.term.proofs.Step.{inst-symbol, Fresh, Apart, spread, Terms-fresh}
-use Rattle.term.specs.code.Bind.{bind, idS}
+use Rattle.term.specs.Bind.{bind, idS}
 use Rattle.instance.specs.Instance.{Instance, Common}
 use Rattle.instance.proofs.Instances.{instance-self}
 

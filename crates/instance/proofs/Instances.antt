@@ -5,7 +5,7 @@ use mathlib.Core.Logic.{_↔_}
 use mathlib.Core.List.{List}
 use Rattle.term.specs.Unify.{inst}
 use Rattle.term.proofs.Inst.{inst-id, Subst-id, then, inst-then, Subst-then}
-use Rattle.term.specs.code.Bind.{idS}
+use Rattle.term.specs.Bind.{idS}
 use Rattle.instance.specs.Instance.{Instance, Common, MostGeneral}
 
 pub instance-self : (xs : List ℕ) → Instance xs xs

@@ -20,7 +20,7 @@ use Rattle.term.proofs.Inst.{inst-++, Terms-inst, Subst-id, Subst-bind, inst-va
 use Rattle.term.proofs.Step.{at-place, other-symbol}
 use Rattle.term.proofs.Occurs.{inst-long, occurs-check}
 use Rattle.term.proofs.Decide.{two-long, remove, Within-inst, Within-part, Within-tail, remove-shorter}
-use Rattle.term.specs.code.Bind.{Within, bind, idS}
+use Rattle.term.specs.Bind.{Within, bind, idS}
 use Rattle.instance.specs.Instance.{Instance, Common, MostGeneral}
 use Rattle.instance.specs.Rewrite.{put}
 use Rattle.instance.specs.code.Left.{Solves, Left}

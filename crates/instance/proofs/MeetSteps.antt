@@ -20,7 +20,7 @@ use Rattle.table.proofs.Accepted.{few-variables}
 use Rattle.term.proofs.TermsLaws.{front-back, front-terms, one-cell, terms-long}
 use Rattle.octets.specs.Octets.{Put}
 use Rattle.octets.proofs.PutLaws.{put-found}
-use Rattle.term.specs.code.Bind.{Within}
+use Rattle.term.specs.Bind.{Within}
 use Rattle.instance.specs.Instance.{Common, MostGeneral}
 use Rattle.instance.specs.code.Meet.{TermsAt, TermAt, Meeting, After, Met}
 use Rattle.instance.specs.Rewrite.{put}

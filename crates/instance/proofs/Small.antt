@@ -19,7 +19,7 @@ use Rattle.term.proofs.TermsLaws.{nil-zero, zero-nil, front-back, front-terms, 
 use Rattle.term.proofs.Tests.{bool-cases, cond-case}
 use Rattle.term.proofs.Inst.{then, inst-then, inst-id, bind-same, bind-other, unbound}
 use Rattle.term.proofs.Decide.{inst-mem}
-use Rattle.term.specs.code.Bind.{bind, idS}
+use Rattle.term.specs.Bind.{bind, idS}
 use Rattle.table.specs.Table.{count, upFrom}
 use Rattle.table.proofs.HeadLaws.{up-length}
 use Rattle.answer.proofs.CountLaws.{Linear, count-same, count-other, count-++, count-mem, mem-count, no-count, count-up, up-mem}

@@ -6,7 +6,7 @@ use lib.Dec.{eqb, ltb}
 use lib.ListN.{length}
 use Rattle.cell.specs.Cell.{isVar}
 use Rattle.term.specs.Unify.{inst}
-use Rattle.term.specs.code.Bind.{bind, idS}
+use Rattle.term.specs.Bind.{bind, idS}
 
 -- the variable v replaced by the term t, everywhere in a list
 abbrev pub put : (v : ℕ) (t xs : List ℕ) → List ℕ

@@ -12,7 +12,7 @@ use lib.Seq.{drop-cons}
 use borrow.Author.Tests.{ne-eqb, eqb-true, le-leb, lt-leb, leb-true}
 use Rattle.grammar.specs.Grammar as G
 use Rattle.grammar.specs.Grammar.{isDigit, isWord, Line, Gap, Word, negative, number}
-use Rattle.grammar.specs.code.Reader.{Mode, digits, after, Work, dead, go, isBlank, put, limit, bitsAfter, step, stops, finish, follow, run, Solid, Ends}
+use Rattle.grammar.specs.Reader.{Mode, digits, after, Work, dead, go, isBlank, put, limit, bitsAfter, step, stops, finish, follow, run, Solid, Ends}
 use Rattle.grammar.proofs.Sound.{is-blank}
 use Rattle.lex.specs.Turns.{gapFrom, gapOf, wordFrom, wordOf, numberFrom, standsAt, onMark}
 use Rattle.lex.specs.code.Ends.{GapTo, WordTo}

@@ -10,7 +10,7 @@ use lib.Dec.{eqb, ltb}
 use lib.ListN.{length, getD, drop}
 use borrow.Author.Tests.{lt-ltb, le-ltb}
 use Rattle.grammar.specs.Grammar.{isLower, fact}
-use Rattle.grammar.specs.code.Reader.{Mode, first, head, arg, closed, stop, between, Work, work, nothing, dead, isBlank, step, stops, reads, before, finish, run, Solid, Ends}
+use Rattle.grammar.specs.Reader.{Mode, first, head, arg, closed, stop, between, Work, work, nothing, dead, isBlank, step, stops, reads, before, finish, run, Solid, Ends}
 use Rattle.grammar.proofs.Complete.{run-gap, run-head, run-stop, rests-first, rests-closed, at-first, at-between, at-head-open, at-stop}
 use Rattle.grammar.proofs.Sound.{not-layout}
 use Rattle.lex.specs.Turns.{standsAt}

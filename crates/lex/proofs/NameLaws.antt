@@ -11,7 +11,7 @@ use borrow.Author.Tests.{eqb-true, eqb-false}
 use Rattle.grammar.specs.Grammar as G
 use Rattle.grammar.specs.Grammar.{isLower, Word, Symbol, name, Term}
 use Rattle.cell.specs.Same.{same}
-use Rattle.grammar.specs.code.Reader.{Ends}
+use Rattle.grammar.specs.Reader.{Ends}
 use Rattle.cell.proofs.SameLaws.{same-no}
 use Rattle.lex.specs.Names.{IsName, Names, NameSaid}
 use Rattle.lex.specs.code.Ends.{WordTo}

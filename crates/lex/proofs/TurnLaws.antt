@@ -9,7 +9,7 @@ use lib.Dec.{eqb}
 use lib.ListN.{length, getD, drop, drop-of-length-le}
 use borrow.Author.Tests.{ne-eqb}
 use Rattle.grammar.specs.Grammar.{isLower, isUpper, isDigit, name, number}
-use Rattle.grammar.specs.code.Reader.{arg, word, minus, digits, after, Work, dead, go, isBlank, put, push, past, limit, bitsAfter, step, finish, run, Solid, Ends}
+use Rattle.grammar.specs.Reader.{arg, word, minus, digits, after, Work, dead, go, isBlank, put, push, past, limit, bitsAfter, step, finish, run, Solid, Ends}
 use Rattle.grammar.proofs.Complete as complete
 use Rattle.grammar.proofs.Complete.{run-gap, run-word, at-digit, at-minus, at-open, variable-ends}
 use Rattle.grammar.proofs.Sound.{not-layout}

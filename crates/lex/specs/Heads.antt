@@ -6,7 +6,7 @@ use mathlib.Core.List.{List, [], _∷_}
 use lib.Dec.{ltb}
 use lib.ListN.{length, drop}
 use Rattle.grammar.specs.Grammar.{isLower, fact}
-use Rattle.grammar.specs.code.Reader.{Mode, first, arg, closed, stop, Work, work, nothing, Out, stops, reads, before, run}
+use Rattle.grammar.specs.Reader.{Mode, first, arg, closed, stop, Work, work, nothing, Out, stops, reads, before, run}
 use Rattle.lex.specs.Turns.{gapOf, wordFrom, standsAt}
 use Rattle.lex.specs.declared.fact.Head.{Head}
 use Rattle.lex.specs.declared.fact.Head.the-variants as head

@@ -7,8 +7,8 @@ use mathlib.Core.List.{List, [], _∷_}
 use lib.Dec.{eqb, leb}
 use lib.ListN.{length, drop}
 use Rattle.grammar.specs.Grammar.{isLower, isUpper, isDigit, isWord, name, variable, number}
-use Rattle.grammar.specs.code.Reader.{Mode, arg, after, Work, isBlank, put, push, comma, close, Next, Out, stops, follow, run}
-use Rattle.grammar.specs.code.Reader.{limit, bitsAfter}
+use Rattle.grammar.specs.Reader.{Mode, arg, after, Work, isBlank, put, push, comma, close, Next, Out, stops, follow, run}
+use Rattle.grammar.specs.Reader.{limit, bitsAfter}
 use Rattle.lex.specs.declared.turn.Turn.{Turn}
 use Rattle.lex.specs.declared.turn.Turn.the-variants as turn
 

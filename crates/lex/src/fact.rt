@@ -1,7 +1,7 @@
 // Where a fact begins and where it ends.
 ghost use Prim.Native.Nat.{_<_};
 ghost use lib.ListN.{length, drop};
-ghost use Rattle.grammar.specs.code.Reader.{Solid};
+ghost use Rattle.grammar.specs.Reader.{Solid};
 ghost use Rattle.lex.specs.Heads.{Heads, Closes};
 ghost use Rattle.lex.specs.code.Ends.{HeadAt};
 use super::ends;

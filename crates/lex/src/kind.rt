@@ -2,7 +2,7 @@
 ghost use mathlib.Core.Path.{_≡_};
 ghost use lib.ListN.{drop};
 ghost use Rattle.grammar.specs.Grammar.{isLower, isUpper, isDigit, isWord};
-ghost use Rattle.grammar.specs.code.Reader.{isBlank};
+ghost use Rattle.grammar.specs.Reader.{isBlank};
 ghost use Rattle.lex.specs.Turns.{standsAt};
 
 pub fn is_blank(byte: u8) -> bool

@@ -3,7 +3,7 @@ ghost use mathlib.Core.Path.{_≡_};
 ghost use mathlib.Core.Bool.{true, false};
 ghost use Prim.Native.Nat.{_≤_};
 ghost use lib.ListN.{length, drop};
-ghost use Rattle.grammar.specs.code.Reader.{limit, bitsAfter, Solid};
+ghost use Rattle.grammar.specs.Reader.{limit, bitsAfter, Solid};
 ghost use Rattle.lex.specs.Turns.{Turns};
 ghost use Rattle.lex.specs.code.Ends.{Counts, AfterMinus};
 use super::ends;

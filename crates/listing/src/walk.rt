@@ -1,7 +1,7 @@
 // The walk over a plan that writes its lines. It looks at the plan and at what is noted of its branches, and at no row.
 ghost use Rattle.listing.specs.code.Walk.{Ready, Walks};
 use crate::text::put_line;
-use notes::words::rows_of;
+use notes::packed::rows_of;
 
 // Where the walk stands: the next cell of the plan, the number of the next branch in plan order, and the place of the next line.
 pub struct Stand {

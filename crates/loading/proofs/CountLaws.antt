@@ -11,7 +11,7 @@ use Rattle.cell.specs.Same.{same}
 use Rattle.grammar.specs.Meaning.{Place, place, bytesOf, position, meet}
 use Rattle.cell.proofs.SameLaws.{same-eq, same-differ, same-no}
 use Rattle.grammar.proofs.NumberLaws.{position-bound, meet-old, meet-new}
-use Rattle.loading.specs.code.Items.{Item, of-name, of-variable, of-number, next-row, namesMet, metIn, unmet}
+use Rattle.loading.specs.Items.{Item, of-name, of-variable, of-number, next-row, namesMet, metIn, unmet}
 
 -- no two of the words are the same
 unfoldable pub Apart : List ℕ → List Place → Type 0

@@ -12,7 +12,7 @@ use Rattle.grammar.specs.Grammar.{Symbol, name, variable, number, Fact}
 use Rattle.cell.specs.Same.{same}
 use Rattle.grammar.specs.Meaning.{Place, place, bytesOf, position, meet, namesFrom, symbolsOf, namesOf, variableNumber, variablesWith, cellsFrom}
 use Rattle.grammar.proofs.NumberLaws.{position-kept, position-added, meet-old, meet-new, names-more, variablesIn}
-use Rattle.loading.specs.code.Items.{Item, of-name, of-variable, of-number, next-row, itemOf, itemsIn, rowsIn, itemsOf, symbolsAmong, namesMet, numbering, shapeOf, shapes}
+use Rattle.loading.specs.Items.{Item, of-name, of-variable, of-number, next-row, itemOf, itemsIn, rowsIn, itemsOf, symbolsAmong, namesMet, numbering, shapeOf, shapes}
 
 -- A WORD'S NUMBER IS KEPT
 pub record Kept (t w : List ℕ) (ns ns′ : List Place) : Type 0 where

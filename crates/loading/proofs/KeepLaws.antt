@@ -9,10 +9,10 @@ use lib.Dec.{eqb, leb, ltb}
 use lib.ListN.{length, getD, set, length-append}
 use lib.Seq.{map-set-same}
 use Rattle.grammar.specs.Grammar.{isLower, isUpper, isDigit, isWord, Symbol, name, variable, number, Fact, fact}
-use Rattle.grammar.specs.code.Reader.{Mode, arg, word, minus, digits, after, closed, remark, Frame, frame, Work, work, Next, dead, go, says, isBlank, layout, push, put, comma, close, past, symbol, limit, bitsAfter, step, Out, stops, reads, before, finish, follow, run, Held, none, more}
+use Rattle.grammar.specs.Reader.{Mode, arg, word, minus, digits, after, closed, remark, Frame, frame, Work, work, Next, dead, go, says, isBlank, layout, push, put, comma, close, past, symbol, limit, bitsAfter, step, Out, stops, reads, before, finish, follow, run, Held, none, more}
 use Rattle.grammar.proofs.Sound.{clash, before-reads}
 use Rattle.grammar.proofs.HeldLaws.{held-put, held-push, held-comma, held-close}
-use Rattle.loading.specs.code.Items.{Item, itemOf, itemsIn}
+use Rattle.loading.specs.Items.{Item, itemOf, itemsIn}
 
 -- the modes inside a fact; a text that ends there is none
 pub data Inside : Mode → Type 0 where

@@ -1,8 +1,8 @@
 // What a run needs of an accepted plan: one number for each branch, in plan order, with the answer of the check.
 mod branch;
+pub mod packed;
 mod places;
 mod tree;
-pub mod words;
 
 ghost use Rattle.notes.specs.Noted.{Handed};
 ghost use Rattle.notes.specs.code.Tree.{Accepted, AllNoted};

@@ -1,4 +1,4 @@
--- What the check notes of a plan for a run (01, "A run": "it tests the goal only at the branches it counts"): one number for each branch,
+-- What is noted of a plan for a run (01, "A run": "it tests the goal only at the branches it counts"): one number for each branch,
 -- in plan order, that is a branch, then all below it, then the next. A run needs nothing else of the plan, neither its cells nor the table.
 use Prim.Native.Nat.{ℕ, suc, _+_, _*_, _/_, _%_, _^_, _<_}
 use mathlib.Core.List.{List, [], _∷_, _++_}

@@ -13,11 +13,11 @@ use borrow.Author.Tests.{ltb-true}
 use Rattle.cell.specs.Cell.{variableCell, nameCell, numberCell}
 use Rattle.grammar.specs.Grammar.{Symbol, name, variable, number, Fact, fact}
 use Rattle.grammar.specs.Meaning.{symbolsOf}
-use Rattle.grammar.specs.code.Reader.{Mode, arg, after, closed, Frame, frame, Work, work, Next, dead, go, put, push, comma, close, Out, stops, reads, run, textOf}
+use Rattle.grammar.specs.Reader.{Mode, arg, after, closed, Frame, frame, Work, work, Next, dead, go, put, push, comma, close, Out, stops, reads, run, textOf}
 use Rattle.grammar.proofs.Sound.{clash}
-use Rattle.grammar.specs.code.Reader.{Under, Held, none, more}
+use Rattle.grammar.specs.Reader.{Under, Held, none, more}
 use Rattle.grammar.proofs.HeldLaws.{held-put, held-push}
-use Rattle.loading.specs.code.Items.{Item, itemsIn, shapeOf, shapes}
+use Rattle.loading.specs.Items.{Item, itemsIn, shapeOf, shapes}
 use Rattle.loading.proofs.ItemLaws.{shapes-more, shapes-set, shape-at, shapes-long}
 use Rattle.loading.proofs.KeepLaws.{Inside, in-arg, in-after}
 use Rattle.loading.proofs.KeepLaws as keep

@@ -19,13 +19,13 @@ use Rattle.table.specs.Table.{Table, tableOf, tableSays, tableTold, TableReads}
 use Rattle.table.specs.declared.TableAnswer.{TableAnswer}
 use Rattle.table.specs.declared.TableAnswer.the-variants as table-answer
 use Rattle.grammar.specs.Grammar.{Symbol, Fact, Text}
-use Rattle.grammar.specs.code.Reader.{reads, textOf}
+use Rattle.grammar.specs.Reader.{reads, textOf}
 use Rattle.grammar.specs.Meaning.{Place, symbolsOf, widthOf, namesOf, cellsFrom, tableCells, nameList}
 use Rattle.grammar.specs.Taken.{Taken, taken}
 use Rattle.grammar.proofs.Accepted.{accepted}
 use Rattle.grammar.proofs.LongLaws.{text-long}
 use Rattle.loading.specs.Load.{Loaded, loaded, Loads, not-taken, no-cells, no-names, no-table, loads, TextLoads, loadSays, cellsAfter, namesAfter}
-use Rattle.loading.specs.code.Items.{itemsOf, numbering, shapes}
+use Rattle.loading.specs.Items.{itemsOf, numbering, shapes}
 use Rattle.loading.proofs.ItemLaws.{cells-shapes, shapes-long, numbering-long, among-items}
 use Rattle.loading.proofs.WideLaws.{text-wide}
 use Rattle.scan.specs.Scan.{counted, countedIn, scanTold, ScanIs}

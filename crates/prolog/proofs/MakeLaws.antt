@@ -7,10 +7,10 @@ use native.Mathlib.Omega.{arith}
 use lib.ListN.{length, getD, set, drop}
 use Rattle.cell.specs.Cell.{nameCell}
 use Rattle.grammar.specs.Grammar.{Symbol, Fact}
-use Rattle.loading.specs.code.Items.{shapeOf}
+use Rattle.loading.specs.Items.{shapeOf}
 use Rattle.lex.specs.Turns.{termMode, Turns}
 use Rattle.lex.specs.declared.turn.Turn.the-variants as turn
-use Rattle.grammar.specs.code.Reader.{after, Work, put, run}
+use Rattle.grammar.specs.Reader.{after, Work, put, run}
 use Rattle.prolog.specs.code.Cells.{making, RowMade, Makes, Ready, MadeIs, Writes, Written}
 use Rattle.prolog.specs.declared.cells.Making.{Making}
 use Rattle.prolog.specs.declared.cells.Made.{Made}

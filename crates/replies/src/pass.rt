@@ -6,7 +6,7 @@ ghost use lib.ListN.{length};
 ghost use Rattle.table.specs.Table.{tableOf, rowIn, RowPlace};
 ghost use Rattle.instance.specs.code.Passes.{RepliesAt, Held, Hits, Passed};
 use super::meet::one;
-use notes::words::wide;
+use notes::packed::wide;
 use table::Part;
 
 // Where a row's cells are in an accepted table: a row ends where the next one starts, and the last where the table ends.

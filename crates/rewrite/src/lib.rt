@@ -7,7 +7,7 @@ ghost use Prim.Native.Nat.{_+_, _^_, _≤_};
 ghost use lib.ListN.{length, take};
 ghost use Rattle.cell.specs.Cell.{isVar};
 ghost use Rattle.term.specs.Unify.{renamed};
-ghost use Rattle.term.specs.code.Bind.{bind, idS};
+ghost use Rattle.term.specs.Bind.{bind, idS};
 ghost use Rattle.octets.specs.Octets.{Put};
 ghost use Rattle.instance.specs.Rewrite.{put, place, numberAt, meetIn, numberIn};
 

@@ -9,7 +9,7 @@ use answer::Job;
 use answer::RunAnswer;
 use checker::PlanAnswer;
 use notes::Noted;
-use notes::words::wide;
+use notes::packed::wide;
 use refusal::Reason;
 
 pub fn accepted(noted: Noted) -> bool

@@ -9,12 +9,12 @@ ghost use Rattle.plan.specs.Notes.{cellIn, skipIn, slotIn, nextIn};
 ghost use Rattle.walking.specs.code.Link.{steps, nodes};
 ghost use Rattle.walking.specs.code.Steps.{Safe, Step};
 ghost use Rattle.run.specs.code.Finds.{Finds};
-use notes::words::cell_of;
-use notes::words::next_of;
-use notes::words::skip_of;
-use notes::words::slot_of;
-use notes::words::wide;
-use notes::words::wide16;
+use notes::packed::cell_of;
+use notes::packed::next_of;
+use notes::packed::skip_of;
+use notes::packed::slot_of;
+use notes::packed::wide;
+use notes::packed::wide16;
 
 // What a test finds: a row's variable; another symbol; the same one, and where its arguments are; a node that is to be bound.
 pub enum Found {

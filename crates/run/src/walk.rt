@@ -1,4 +1,4 @@
-// The walk along a plan: one loop over what the check notes of each branch, in plan order. A branch whose test fails is left with all below
+// The walk along a plan: one loop over what is noted of each branch, in plan order. A branch whose test fails is left with all below
 // it, by the number of the branch after them; one that succeeds is followed by the branches below it, or, where there is none, its rows are
 // hits.
 ghost use mathlib.Core.Path.{_≡_};
@@ -11,9 +11,9 @@ use super::nodes::name_cells;
 use super::nodes::siblings;
 use super::step::meets;
 use super::step::put_terms;
-use notes::words::rows_of;
-use notes::words::skip_of;
-use notes::words::wide16;
+use notes::packed::rows_of;
+use notes::packed::skip_of;
+use notes::packed::wide16;
 
 // How many hits there are, and how many branches were tried.
 pub struct Out {

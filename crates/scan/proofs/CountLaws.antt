@@ -15,7 +15,7 @@ use Rattle.refusal.specs.declared.Input.the-variants as input
 use Rattle.grammar.specs.Grammar.{Symbol, Fact, Text}
 use Rattle.grammar.specs.Meaning.{none, found, alike, otherThan, otherIn, widthOf, symbolsOf}
 use Rattle.grammar.specs.Taken.{too-long, no-text, other-fact, taken}
-use Rattle.grammar.specs.code.Reader.{stop, nothing, Out, stops, reads, before, run, textOf}
+use Rattle.grammar.specs.Reader.{stop, nothing, Out, stops, reads, before, run, textOf}
 use Rattle.grammar.proofs.Accepted.{accepted, refused-at}
 use Rattle.lex.specs.Heads.{factMode}
 use Rattle.scan.specs.declared.facts.Seen.{Seen}

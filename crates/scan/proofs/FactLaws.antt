@@ -7,7 +7,7 @@ use native.Mathlib.Omega.{arith}
 use native.Mathlib.Numerals.{add-one}
 use lib.ListN.{length, drop}
 use Rattle.grammar.specs.Grammar.{fact}
-use Rattle.grammar.specs.code.Reader.{closed, stop, Work, work, nothing, Out, stops, reads, before, run}
+use Rattle.grammar.specs.Reader.{closed, stop, Work, work, nothing, Out, stops, reads, before, run}
 use Rattle.lex.specs.Heads.{factMode, Heads, Closes}
 use Rattle.lex.specs.declared.fact.Head.{Head}
 use Rattle.lex.specs.declared.fact.Head.the-variants as head

@@ -9,7 +9,7 @@ use lib.ListN.{length, getD, drop, set, length-set, length-append}
 use lib.Seq.{getD-set-same, getD-set-other}
 use borrow.Author.Tests.{lt-ltb, le-ltb}
 use Rattle.grammar.specs.Grammar.{Symbol, name, variable, number}
-use Rattle.grammar.specs.code.Reader.{arg, after, Frame, frame, oneMore, oneMoreIn, Work, work, put, push, comma, close, Out, run}
+use Rattle.grammar.specs.Reader.{arg, after, Frame, frame, oneMore, oneMoreIn, Work, work, put, push, comma, close, Out, run}
 use Rattle.lex.specs.Turns.{termMode, onMark, Turns}
 use Rattle.lex.specs.declared.turn.Turn.{Turn}
 use Rattle.lex.specs.declared.turn.Turn.the-variants as turn

@@ -9,12 +9,12 @@ use lib.ListN.{length, drop, set}
 use lib.Seq.{drop-append-seam}
 use Rattle.grammar.specs.Grammar.{Symbol, name, variable, number, Fact, fact, Facts, last, more}
 use Rattle.grammar.specs.Meaning.{place}
-use Rattle.grammar.specs.code.Reader.{Mode, arg, after, closed, Frame, frame, Work, work, Next, dead, go, put, push, comma, close, stop, Out, stops, reads, before, follow, run, textOf, nothing}
+use Rattle.grammar.specs.Reader.{Mode, arg, after, closed, Frame, frame, Work, work, Next, dead, go, put, push, comma, close, stop, Out, stops, reads, before, follow, run, textOf, nothing}
 use Rattle.grammar.proofs.Accepted.{accepted}
 use Rattle.grammar.proofs.Sound.{clash, before-reads}
-use Rattle.grammar.specs.code.Reader.{Held, none}
+use Rattle.grammar.specs.Reader.{Held, none}
 use Rattle.grammar.proofs.HeldLaws.{held-put, held-push, held-comma, held-close}
-use Rattle.loading.specs.code.Items.{Item, of-name, next-row, itemOf, itemsIn, rowsIn, itemsOf}
+use Rattle.loading.specs.Items.{Item, of-name, next-row, itemOf, itemsIn, rowsIn, itemsOf}
 use Rattle.loading.proofs.KeepLaws.{Inside, in-arg, in-after, items-put, items-set}
 use Rattle.loading.proofs.KeepLaws as keep
 use Rattle.lex.specs.Turns.{termMode, onMark, onTurn, Leads, Turns}

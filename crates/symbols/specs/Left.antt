@@ -7,8 +7,8 @@ use mathlib.Core.List.{List, [], _∷_, _++_}
 use lib.ListN.{length, drop}
 use Rattle.grammar.specs.Grammar.{Fact, fact}
 use Rattle.grammar.specs.Meaning.{place}
-use Rattle.grammar.specs.code.Reader.{arg, closed, Work, work, reads, run, textOf, Held}
-use Rattle.loading.specs.code.Items.{Item, of-name, of-variable, of-number, next-row, itemsIn, itemsOf}
+use Rattle.grammar.specs.Reader.{arg, closed, Work, work, reads, run, textOf, Held}
+use Rattle.loading.specs.Items.{Item, of-name, of-variable, of-number, next-row, itemsIn, itemsOf}
 use Rattle.lex.specs.Turns.{termMode}
 use Rattle.symbols.specs.declared.Spot.{Spot}
 use Rattle.symbols.specs.declared.RowEnd.{RowEnd}

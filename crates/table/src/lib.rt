@@ -11,7 +11,7 @@ ghost use Rattle.refusal.specs.Refusal.{refused};
 ghost use Rattle.refusal.specs.declared.Input.the-variants as input;
 ghost use Rattle.refusal.specs.Read.{read, refuse, andThen};
 ghost use Rattle.table.specs.Table.{table, rowsFrom, tableOf, goalOf, goalWith, rowOf, rowIn};
-ghost use Rattle.doubles.specs.code.Starts.{rowsLent};
+ghost use Rattle.doubles.specs.Starts.{rowsLent};
 ghost use Rattle.table.specs.Table.{TableReads, RowPlace, goalTold, goalSays, rowTold};
 use refusal::Input;
 use refusal::Reason;

@@ -47,7 +47,7 @@ pub fn refusal(row: bool, reason: Reason, place: usize) -> Refusal
     }
 }
 
-// One cell, with so many variables met before it: CELL, FRESH, and in a row TWICE.
+// One cell, with so many variables met before it: CELL, FRESH, and in a row TWICE. A name has 0 to 4 arguments.
 fn test_cell(c: u32, vars: usize, place: usize, row: bool) -> Tested
     requires { ⌜ vars ≤ 32 ⌝ }
     ensures { λ r. ⌜ testedTold r ≡ cellFrom row c vars place ⌝ }
@@ -66,7 +66,10 @@ fn test_cell(c: u32, vars: usize, place: usize, row: bool) -> Tested
             }
             Tested::Good(vars)
         }
-        Shape::Name(_, _) => Tested::Good(vars),
+        Shape::Name(args, _) => match args {
+            0..=4 => Tested::Good(vars),
+            _ => Tested::Bad(refusal(row, Reason::Cell, place)),
+        },
         Shape::Number(_) => Tested::Good(vars),
         Shape::Refused => Tested::Bad(refusal(row, Reason::Cell, place)),
     }

@@ -17,7 +17,7 @@ use Rattle.term.specs.Terms.{Terms, none, more, front, back}
 use Rattle.term.proofs.TermsLaws.{front-back, front-terms, back-terms}
 use Rattle.term.specs.Unify.{inst, Unifies}
 use Rattle.term.proofs.Inst.{Terms-inst, Subst-id, Subst-bind, bind-same, bind-other, inst-var, Terms-var}
-use Rattle.term.specs.code.Bind.{idS, bind, Within}
+use Rattle.term.specs.Bind.{idS, bind, Within}
 use Rattle.term.proofs.Step.{at-place, eliminate, other-symbol}
 use Rattle.term.proofs.Occurs.{occurs-check}
 

@@ -6,7 +6,7 @@ use mathlib.Core.List.{List, [], _∷_, map}
 use Rattle.cell.specs.Cell.{nameCell, variableCell, valuesAt, arity, isVar}
 use Rattle.term.specs.Terms.{none, more, front, back}
 use Rattle.term.specs.Unify.{inst, renamed, Matches}
-use Rattle.term.specs.code.Bind.{bind, idS}
+use Rattle.term.specs.Bind.{bind, idS}
 use Rattle.term.proofs.Decide.{unifiable, unify, walk, bindTest, occurs, unifiable-correct, yes-means, no-means}
 
 abbrev a : ℕ

@@ -14,7 +14,7 @@ use Rattle.term.proofs.Tests.{bool-cases, eqb-same}
 use Rattle.term.specs.Unify.{inst, Subst}
 use Rattle.term.specs.Terms.{Terms, none, more}
 use Rattle.term.proofs.TermsLaws.{Terms-++}
-use Rattle.term.specs.code.Bind.{bind, idS}
+use Rattle.term.specs.Bind.{bind, idS}
 
 pub inst-++ : (σ : ℕ → List ℕ) (xs ys : List ℕ) → inst σ (xs ++ ys) ≡ inst σ xs ++ inst σ ys
 unfolding inst

@@ -11,7 +11,7 @@ use Rattle.term.proofs.TermsLaws.{prefix, one-cell, zero-nil, front-bac
 use native.Mathlib.Numerals.{one-add}
 use Rattle.term.specs.Unify.{inst, Subst, Unifies}
 use Rattle.term.proofs.Inst.{inst-++, inst-agree, then, inst-then, Terms-inst, Subst-then, bind-same, bind-other, Subst-bind, inst-bind, Terms-var, inst-var, more-var, absorb, unbound, Subst-id}
-use Rattle.term.specs.code.Bind.{idS, bind}
+use Rattle.term.specs.Bind.{idS, bind}
 
 mk : {xs ys : List ℕ} (σ : ℕ → List ℕ) → Subst σ → inst σ xs ≡ inst σ ys → Unifies xs ys
 mk σ s e = record { by = σ; good = s; same = e }

@@ -1,4 +1,5 @@
 pub mod Terms
 pub mod Unify
+pub mod Bind
 pub mod Ends
 pub mod code

@@ -14,7 +14,7 @@ use Rattle.grammar.specs.Grammar.{isLower, isUpper, isDigit, isWord}
 use Rattle.cell.specs.Same.{same, among}
 use Rattle.grammar.specs.Meaning.{position, meet, namesFrom, variableNumber, variablesWith, cellsFrom}
 use Rattle.grammar.specs.Meaning.{widthOf, tableCells, nameList, otherThan, otherIn}
-use Rattle.grammar.specs.code.Reader.{isBlank, layout, push, put, comma, close, past, step, finish, run, textOf}
+use Rattle.grammar.specs.Reader.{isBlank, layout, push, put, comma, close, past, step, finish, run, textOf}
 use Rattle.grammar.proofs.Fixed.{takenOf}
 use Rattle.grammar.proofs.Examples.{bytes}
 use Rattle.loading.specs.Load.{Loaded, Loads}

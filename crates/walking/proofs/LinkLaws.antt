@@ -17,7 +17,7 @@ use Rattle.term.specs.Unify.{inst, Subst}
 use Rattle.term.proofs.Tests.{bool-cases, eqb-same}
 use Rattle.term.proofs.TermsLaws.{front-++, back-++}
 use Rattle.term.proofs.Inst.{inst-++, then, inst-then, Terms-inst, Subst-then, bind-same, bind-other, Subst-id, Subst-bind, Terms-symbol, inst-var}
-use Rattle.term.specs.code.Bind.{idS, bind}
+use Rattle.term.specs.Bind.{idS, bind}
 use Rattle.term.proofs.Step.{inst-symbol, Terms-fresh}
 use Rattle.table.specs.All.{All}
 use Rattle.table.proofs.AllLaws.{all-each, all-front, all-back}

@@ -17,7 +17,7 @@ use Rattle.term.specs.Unify.{renamed}
 use Rattle.term.proofs.Tests.{bool-cases}
 use Rattle.term.proofs.TermsLaws.{Terms-1, front-++, front-zero}
 use Rattle.term.proofs.Inst.{Subst-id, inst-id}
-use Rattle.term.specs.code.Bind.{idS}
+use Rattle.term.specs.Bind.{idS}
 use Rattle.table.proofs.AllLaws.{all-each}
 use Rattle.table.specs.Table.{upFrom, IsGoal}
 use Rattle.answer.specs.code.Renamed.{var, lift}

@@ -12,12 +12,12 @@ use lib.ListN.{length, getD, set, drop, replicate, getD-replicate, length-set, l
 use lib.Seq.{slice, drop-cons, getD-append-seam, getD-set-same, getD-set-other}
 use borrow.Author.Tests.{eq-eqb, ne-eqb}
 use Rattle.grammar.specs.Grammar.{Fact}
-use Rattle.grammar.specs.code.Reader.{reads, textOf}
+use Rattle.grammar.specs.Reader.{reads, textOf}
 use Rattle.cell.specs.Same.{same}
 use Rattle.grammar.specs.Meaning.{Place, place, bytesOf, position, meet, namesOf}
 use Rattle.cell.proofs.SameLaws.{same-refl, same-no, same-eq}
 use Rattle.grammar.proofs.NumberLaws.{position-is, position-none, position-added, meet-old, meet-new}
-use Rattle.loading.specs.code.Items.{Item, of-name, of-variable, of-number, next-row, itemsOf, namesMet, metIn, unmet}
+use Rattle.loading.specs.Items.{Item, of-name, of-variable, of-number, next-row, itemsOf, namesMet, metIn, unmet}
 use Rattle.loading.proofs.ItemLaws.{names-items}
 use Rattle.loading.proofs.CountLaws.{Apart, batch}
 use Rattle.symbols.specs.Left.{Left, LeftAfter, Meets, AheadIs, Begins}

@@ -10,12 +10,12 @@ use lib.Dec.{eqb, ltb}
 use lib.ListN.{length, getD, set, take, length-append, length-set}
 use lib.Seq.{slice, sets, slice-cons, slice-empty, length-slice, take-suc-set, getD-set-same, getD-set-other}
 use Rattle.grammar.specs.Grammar.{Fact}
-use Rattle.grammar.specs.code.Reader.{reads, textOf}
+use Rattle.grammar.specs.Reader.{reads, textOf}
 use Rattle.cell.specs.Same.{same}
 use Rattle.grammar.specs.Meaning.{Place, place, bytesOf, position, meet, symbolsOf, variableNumber, variablesWith, nameList}
 use Rattle.cell.proofs.SameLaws.{same-refl, same-eq, same-no}
 use Rattle.grammar.proofs.NumberLaws.{position-bound, position-kept, position-added, fresh-number, named-number, with-new, with-old}
-use Rattle.loading.specs.code.Items.{Item, of-name, of-variable, of-number, next-row, itemsOf, symbolsAmong, namesMet, numbering}
+use Rattle.loading.specs.Items.{Item, of-name, of-variable, of-number, next-row, itemsOf, symbolsAmong, namesMet, numbering}
 use Rattle.loading.proofs.ItemLaws.{names-items, among-items, none-numbered, none-named}
 use Rattle.symbols.specs.Left.{Left, Meets, AheadIs, Begins}
 use Rattle.symbols.specs.declared.Spot.{Spot}

@@ -1,4 +1,4 @@
--- One decision of a run, as a function of what is left of the goal. The code's own state is described by it (specs/Walk);
+-- One decision of a run, as a function of what is left of the goal. The state of the code is described by it (crate walking, specs/code/Walk);
 -- no promise of a public function cites it, and what it has to do with unification is proved (proofs/AfterLaws).
 use Prim.Native.Nat.{ℕ}
 use mathlib.Core.Bool.{cond}
@@ -7,7 +7,7 @@ use lib.Dec.{eqb}
 use Rattle.cell.specs.Cell.{arity, isVar}
 use Rattle.term.specs.Terms.{front, back}
 use Rattle.term.specs.Unify.{inst}
-use Rattle.term.specs.code.Bind.{bind, idS}
+use Rattle.term.specs.Bind.{bind, idS}
 use Rattle.table.specs.Table.{upFrom}
 
 -- what is left of the goal: nothing where a test fails, otherwise the terms that stand at the open places

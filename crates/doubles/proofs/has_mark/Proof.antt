@@ -5,7 +5,7 @@ use Prim.Native.Nat.{_-_, _≤_}
 use native.Mathlib.Omega.{arith}
 use borrow.Author.Needs.{needs}
 use lib.ListN.{length, drop}
-use Rattle.doubles.specs.code.Marks.{has}
+use Rattle.doubles.specs.Marks.{has}
 use Rattle.doubles.proofs.MarkLaws.{has-here, has-later, has-end}
 use Rattle.doubles.proofs.has_mark.Statement.{statement}
 use Rattle.doubles.proofs.has_mark.Tie as tie

@@ -3,7 +3,7 @@ use Prim.Native.Nat.{_-_, _≤_}
 use native.Mathlib.Omega.{arith}
 use borrow.Author.Needs.{needs}
 use lib.ListN.{length, drop}
-use Rattle.doubles.specs.code.Marks.{markFrom, markOf}
+use Rattle.doubles.specs.Marks.{markFrom, markOf}
 use Rattle.doubles.proofs.MarkLaws.{mark-next, mark-end}
 use Rattle.doubles.proofs.mark_of.Statement.{statement}
 use Rattle.doubles.proofs.mark_of.Tie as tie

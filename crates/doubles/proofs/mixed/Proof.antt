@@ -1,6 +1,6 @@
 use mathlib.Core.Path.{refl}
 use borrow.Author.Needs.{needs}
-use Rattle.doubles.specs.code.Marks.{mix}
+use Rattle.doubles.specs.Marks.{mix}
 use Rattle.doubles.proofs.mixed.Statement.{statement}
 use Rattle.doubles.proofs.mixed.Tie as tie
 

@@ -1,7 +1,7 @@
 use mathlib.Core.Path.{_≡_, refl, sym, _∙_}
 use mathlib.Core.Bool.{true, false}
 use borrow.Author.Needs.{needs}
-use Rattle.doubles.specs.code.Marks.{has}
+use Rattle.doubles.specs.Marks.{has}
 use Rattle.doubles.proofs.seen_before.Statement.{statement}
 use Rattle.doubles.proofs.seen_before.Tie as tie
 

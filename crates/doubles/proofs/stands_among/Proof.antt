@@ -4,7 +4,7 @@ use native.Mathlib.Omega.{arith}
 use borrow.Author.Needs.{needs}
 use lib.ListN.{length}
 use Rattle.cell.specs.Same.{same, among}
-use Rattle.doubles.specs.code.Starts.{rowsBut, rowsLent}
+use Rattle.doubles.specs.Starts.{rowsBut, rowsLent}
 use Rattle.doubles.proofs.StartLaws.{none-left, left-out, found-last, not-last}
 use Rattle.doubles.proofs.stands_among.Statement.{statement}
 use Rattle.doubles.proofs.stands_among.Tie as tie

@@ -7,7 +7,7 @@ use mathlib.Core.List.{List, _++_}
 use lib.ListN.{length}
 use Rattle.term.specs.Terms.{Terms}
 use Rattle.term.specs.Unify.{inst, Subst}
-use Rattle.term.specs.code.Bind.{Within}
+use Rattle.term.specs.Bind.{Within}
 use Rattle.instance.specs.Instance.{Common}
 
 -- Y is made of S by a substitution that makes the two lists equal

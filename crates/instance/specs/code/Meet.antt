@@ -5,7 +5,7 @@ use mathlib.Core.Path.{_≡_}
 use mathlib.Core.List.{List, _++_}
 use lib.ListN.{length, take, drop}
 use Rattle.term.specs.Terms.{Terms}
-use Rattle.term.specs.code.Bind.{Within}
+use Rattle.term.specs.Bind.{Within}
 use Rattle.table.specs.Table.{Head}
 use Rattle.instance.specs.Instance.{Common, MostGeneral}
 use Rattle.instance.specs.code.Left.{Left}

@@ -5,7 +5,7 @@ use mathlib.Core.Bool.{Bool}
 use mathlib.Core.List.{List}
 use lib.ListN.{length, drop}
 use Rattle.grammar.specs.Grammar.{Line, Gap, Word}
-use Rattle.grammar.specs.code.Reader.{Mode, first, between, minus, digits, Work, Solid, Ends, run}
+use Rattle.grammar.specs.Reader.{Mode, first, between, minus, digits, Work, Solid, Ends, run}
 use Rattle.lex.specs.Turns.{numberFrom, negativeFrom, onTurn, Leads}
 use Rattle.lex.specs.Heads.{headFrom, onHead, Reaches}
 use Rattle.lex.specs.declared.turn.Turn.{Turn}

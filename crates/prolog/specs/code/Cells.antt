@@ -8,8 +8,8 @@ use mathlib.Core.List.{List, [], _∷_, _++_}
 use lib.ListN.{length, getD, drop}
 use Rattle.grammar.specs.Grammar.{Symbol, Fact}
 use Rattle.grammar.specs.Meaning.{symbolsOf}
-use Rattle.grammar.specs.code.Reader.{Frame, Work, reads, run, textOf, Held}
-use Rattle.loading.specs.code.Items.{shapes}
+use Rattle.grammar.specs.Reader.{Frame, Work, reads, run, textOf, Held}
+use Rattle.loading.specs.Items.{shapes}
 use Rattle.lex.specs.Turns.{termMode}
 use Rattle.symbols.specs.Left.{RowEnds}
 use Rattle.symbols.specs.declared.RowEnd.the-variants as row-end

@@ -12,7 +12,7 @@ use Rattle.grammar.specs.Grammar.{Fact}
 use Rattle.grammar.specs.Meaning.{widthOf, symbolsOf, tableCells}
 use Rattle.grammar.specs.Taken.{Taken}
 use Rattle.loading.specs.Load.{Loaded, loadSays, cellsAfter, namesAfter}
-use Rattle.loading.specs.code.Items.{itemsOf, numbering}
+use Rattle.loading.specs.Items.{itemsOf, numbering}
 use Rattle.scan.specs.declared.Counted.{Counted}
 use Rattle.prolog.specs.Entry.{textTold, Counts}
 use Rattle.prolog.specs.declared.TextAnswer.{TextAnswer}

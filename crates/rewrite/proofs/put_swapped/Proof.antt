@@ -1,5 +1,5 @@
 use mathlib.Core.Path.{sym}
-use Rattle.term.specs.code.Bind.{idS}
+use Rattle.term.specs.Bind.{idS}
 use Rattle.term.proofs.Inst.{bind-same, bind-other}
 use borrow.Author.Needs.{needs}
 use Rattle.rewrite.proofs.put_swapped.Statement.{statement}

@@ -4,7 +4,7 @@ use native.Mathlib.Omega.{arith}
 use borrow.Author.Needs.{needs}
 use lib.Dec.{eqb}
 use lib.ListN.{length}
-use Rattle.grammar.specs.code.Reader.{nothing}
+use Rattle.grammar.specs.Reader.{nothing}
 use Rattle.scan.specs.code.Facts.{Kept, Going}
 use Rattle.scan.proofs.FactLaws.{fact-is}
 use Rattle.scan.proofs.CountLaws.{kept-none, sized, kept-more, none-yet, fact-more, all-read, stops-there}

@@ -6,7 +6,7 @@ use mathlib.Core.Bool.{Bool}
 use mathlib.Core.List.{List, [], map}
 use lib.ListN.{length, drop}
 use Rattle.grammar.specs.Grammar.{Symbol}
-use Rattle.grammar.specs.code.Reader.{arg, closed, Frame, work, Out, stops, run}
+use Rattle.grammar.specs.Reader.{arg, closed, Frame, work, Out, stops, run}
 use Rattle.lex.specs.Turns.{termMode}
 use Rattle.scan.specs.code.Levels.{levelsOf}
 use Rattle.scan.specs.declared.arguments.Spot.{Spot}

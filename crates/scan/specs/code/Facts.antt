@@ -11,7 +11,7 @@ use Rattle.refusal.specs.declared.Reason.the-variants as reason
 use Rattle.refusal.specs.declared.Input.the-variants as input
 use Rattle.grammar.specs.Grammar.{Symbol, Fact, fact}
 use Rattle.grammar.specs.Meaning.{none, Found, found, alike, otherIn, symbolsOf}
-use Rattle.grammar.specs.code.Reader.{stop, Work, nothing, Out, stops, reads, before, run, textOf}
+use Rattle.grammar.specs.Reader.{stop, Work, nothing, Out, stops, reads, before, run, textOf}
 use Rattle.lex.specs.Heads.{factMode}
 use Rattle.scan.specs.Scan.{counted}
 use Rattle.scan.specs.declared.Counted.{Counted}

@@ -4,7 +4,7 @@ use mathlib.Core.List.{List}
 use native.Mathlib.Omega.{arith}
 use borrow.Author.Needs.{needs}
 use lib.ListN.{length}
-use Rattle.loading.specs.code.Items.{Item}
+use Rattle.loading.specs.Items.{Item}
 use Rattle.symbols.specs.Left.{Left}
 use Rattle.symbols.proofs.LeftLaws.{spot, turn-is, name-ahead, open-ahead, variable-ahead, number-ahead, comma-on, close-on, row-ahead, stop-ahead}
 use Rattle.symbols.proofs.next_item.Statement.{statement}

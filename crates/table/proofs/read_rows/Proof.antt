@@ -12,8 +12,8 @@ use Rattle.refusal.specs.Refusal.{told}
 use Rattle.cell.specs.Same.{among}
 use Rattle.table.specs.Table.{met, doubled, termsFrom, rowsFrom}
 use Rattle.table.specs.code.Looks.{termsTold}
-use Rattle.doubles.specs.code.Starts.{rowsBut, rowsLent, Ascends}
-use Rattle.doubles.specs.code.Marks.{has, Marked}
+use Rattle.doubles.specs.Starts.{rowsBut, rowsLent, Ascends}
+use Rattle.doubles.specs.Marks.{has, Marked}
 use Rattle.table.proofs.WholeLaws.{whole-within}
 use Rattle.table.proofs.ApartLaws.{is-doubled, has-variable, none-of-them}
 use Rattle.doubles.proofs.StartLaws.{row-noted, start-noted}

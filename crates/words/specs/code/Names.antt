@@ -7,10 +7,10 @@ use mathlib.Core.List.{List, [], _∷_}
 use lib.Dec.{eqb}
 use lib.ListN.{length, getD}
 use Rattle.grammar.specs.Grammar.{Fact}
-use Rattle.grammar.specs.code.Reader.{reads, textOf}
+use Rattle.grammar.specs.Reader.{reads, textOf}
 use Rattle.cell.specs.Same.{same}
 use Rattle.grammar.specs.Meaning.{Place, place, bytesOf, meet, namesOf}
-use Rattle.loading.specs.code.Items.{Item, itemsOf, namesMet, metIn}
+use Rattle.loading.specs.Items.{Item, itemsOf, namesMet, metIn}
 use Rattle.symbols.specs.Left.{Left}
 use Rattle.symbols.specs.declared.Spot.{Spot}
 use Rattle.words.specs.code.Tree.{wordOf, Tree}

@@ -7,10 +7,10 @@ use mathlib.Core.List.{List, [], _∷_, map}
 use lib.ListN.{length, getD, take}
 use lib.Seq.{sets}
 use Rattle.grammar.specs.Grammar.{Fact}
-use Rattle.grammar.specs.code.Reader.{reads, textOf}
+use Rattle.grammar.specs.Reader.{reads, textOf}
 use Rattle.cell.specs.Same.{same}
 use Rattle.grammar.specs.Meaning.{Place, place, bytesOf, position, symbolsOf, namesOf, variableNumber, variablesWith, nameList}
-use Rattle.loading.specs.code.Items.{Item, itemsOf, symbolsAmong, namesMet, numbering}
+use Rattle.loading.specs.Items.{Item, itemsOf, symbolsAmong, namesMet, numbering}
 use Rattle.symbols.specs.Left.{Left}
 use Rattle.symbols.specs.declared.Spot.{Spot}
 use Rattle.words.specs.code.Tree.{wordOf, listed, Tree}

@@ -1,5 +1,5 @@
 use borrow.Author.Tests.{eq-eqb, ne-eqb}
-use Rattle.grammar.specs.code.Reader.{isBlank}
+use Rattle.grammar.specs.Reader.{isBlank}
 use Rattle.lex.proofs.kind.is_blank.Statement.{statement}
 use Rattle.lex.proofs.kind.is_blank.Tie as tie
 

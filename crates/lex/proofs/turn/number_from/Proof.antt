@@ -4,7 +4,7 @@ use native.Mathlib.Omega.{arith}
 use borrow.Author.Needs.{needs}
 use borrow.Author.Tests.{not-true, not-false}
 use lib.ListN.{length, getD, drop}
-use Rattle.grammar.specs.code.Reader.{limit, digits, Work, run}
+use Rattle.grammar.specs.Reader.{limit, digits, Work, run}
 use Rattle.lex.specs.Turns.{numberFrom}
 use Rattle.lex.proofs.ByteLaws.{on-go, on-dead, in-digits, digits-over, digits-end-at, digits-end-text, digit-least, limit-most, number-ended, number-ends, number-over, number-digit}
 use Rattle.lex.proofs.TurnLaws.{number-done}

@@ -15,7 +15,7 @@ use Rattle.listing.proofs.walk.state.Kinds as state-kinds
 use Rattle.listing.proofs.walk.+state.Lts-state as state-lts
 use Rattle.cell.proofs.arity_of.Reads as arity-of-reads
 use Rattle.listing.proofs.text.put_line.Reads as put-line-reads
-use Rattle.notes.proofs.words.rows_of.Reads as rows-of-reads
+use Rattle.notes.proofs.packed.rows_of.Reads as rows-of-reads
 use Rattle.listing.proofs.walk.+state.{statement}
 use Rattle.listing.proofs.walk.+state.Tie.{close}
 

@@ -1,8 +1,8 @@
 use borrow.Author.Tests.{not-true, not-false}
 use Rattle.words.proofs.NameLaws.{none-counted, batch-counted, all-counted}
 use Rattle.words.specs.code.Names.{Counting}
-use Rattle.grammar.specs.code.Reader.{textOf}
-use Rattle.grammar.specs.code.Reader as reader
+use Rattle.grammar.specs.Reader.{textOf}
+use Rattle.grammar.specs.Reader as reader
 use Rattle.grammar.specs.Grammar.{Fact}
 use lib.ListN.{length}
 use borrow.Author.Needs.{needs}

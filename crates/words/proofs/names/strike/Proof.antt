@@ -5,7 +5,7 @@ use Rattle.grammar.specs.Meaning.{place}
 use lib.ListN.{take, drop}
 use Rattle.words.specs.code.Names.{Shown, Struck, Striking}
 use Rattle.symbols.specs.Left.{Left}
-use Rattle.loading.specs.code.Items.{Item}
+use Rattle.loading.specs.Items.{Item}
 use Rattle.grammar.specs.Meaning.{Place}
 use lib.ListN.{length}
 use borrow.Author.Needs.{needs}

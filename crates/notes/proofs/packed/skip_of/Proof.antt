@@ -1,8 +1,8 @@
 use Prim.Native.Nat.{_/_, _^_}
 use native.Mathlib.Omega.{arith}
 use lib.Bits.{and-mask, mask-lt}
-use Rattle.notes.proofs.words.skip_of.Statement.{statement}
-use Rattle.notes.proofs.words.skip_of.Tie as tie
+use Rattle.notes.proofs.packed.skip_of.Statement.{statement}
+use Rattle.notes.proofs.packed.skip_of.Tie as tie
 
 cast-result : tie.Need-cast-result
 cast-result c = record { fits = omega (arith, mask-lt (c .args .w / 2 ^ 32) 12) }

@@ -1,4 +1,4 @@
-// The number that is noted of a branch, taken apart (specs/Notes).
+// The number that is noted of a branch, taken apart (crate plan, specs/Notes).
 ghost use mathlib.Core.Path.{_≡_};
 ghost use Rattle.plan.specs.Notes.{cellIn, skipIn, rowsIn, slotIn, nextIn};
 

@@ -1,6 +1,6 @@
 use lib.Bits.{and-mask, mask-lt}
-use Rattle.notes.proofs.words.cell_of.Statement.{statement}
-use Rattle.notes.proofs.words.cell_of.Tie as tie
+use Rattle.notes.proofs.packed.cell_of.Statement.{statement}
+use Rattle.notes.proofs.packed.cell_of.Tie as tie
 
 cast-result : tie.Need-cast-result
 cast-result c = record { fits = mask-lt (c .args .w) 32 }

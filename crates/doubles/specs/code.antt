@@ -1,3 +1,0 @@
--- what only code needs
-pub mod Starts
-pub mod Marks
