@@ -9,8 +9,8 @@
  *
  * Every function takes any cells at all, and ends; nobody has to check first. It answers one number, which the inline functions below take
  * apart. Either it answered, and there are two values, or the input is refused: then there is the refusal's number, the input that it
- * concerns and a place in it, and nothing was written to the lent room or to the record. The one exception is a goal of a list
- * (dudowiej_run_jobs): where the goal is refused, its job says so.
+ * concerns and a place in it, and nothing was written to the lent room or to the record; of building and of the edits this is said for a
+ * record that an entry made. The one exception is a goal of a list (dudowiej_run_jobs): where the goal is refused, its job says so.
  *
  * A table is worked out once, into a record (dudowiej_work_out). All other calls take the record in place of the table: the plan is built
  * from it, goals are read and run with it, and a row of it is appended, dropped or replaced without starting over.
@@ -30,6 +30,10 @@
 #ifdef __cplusplus
 extern "C" {
 #endif
+
+/* The version of what this header declares. The first number is 0 while requests are open. The second counts the base and the requests that
+ * have landed on it, W-201 to W-208. The third counts changes of this header since the last of them. */
+#define DUDOWIEJ_VERSION "0.9.0"
 
 /* What no table, row, goal, plan, text or reply exceeds. */
 enum {
@@ -105,14 +109,15 @@ _Static_assert(sizeof(dudowiej_record) == 57360, "cells with no gaps");
 /* The cells of a record's table; cell[0] says how many they are. */
 static inline const uint32_t *dudowiej_table(const dudowiej_record *record) { return record->cell + 2; }
 
-/* Works a table out with a figure, into a record; what that held before is never read. The figure, 0 to 15, is what a choice between
- * branches costs (dudowiej_build_plan). A figure above 15 is refused before the table. First: the table's width. Second: its rows. */
+/* Works a table out with a figure, into a record; what that held before is never read, and stays where this is refused. The figure, 0 to
+ * 15, is what a choice between branches costs (dudowiej_build_plan). A figure above 15 is refused before the table. First: the table's
+ * width. Second: its rows. */
 uint64_t dudowiej_work_out(const uint32_t *table, size_t table_cells, uint32_t figure, dudowiej_record *record);
 
 /* The edits. Each leaves the record that working the new table out with the same figure would give, but runs without the changed row are
  * not worked out again. A plan that was built before is the old table's: build it again. First: the width. Second: the rows there are
  * now. Each refuses what it says, at 0; then of the row LONG, SHORT, CELL, FRESH, TWICE, SAME and EXTRA, places from the row's start. All
- * concern DUDOWIEJ_TABLE. A refused edit changes nothing. */
+ * concern DUDOWIEJ_TABLE. A refused edit changes nothing of a record that an entry made. */
 
 /* Appends a row at the end. Refuses FULL at 64 rows. */
 uint64_t dudowiej_append(dudowiej_record *record, const uint32_t *row, size_t row_cells);
@@ -140,7 +145,8 @@ uint64_t dudowiej_check_plan(const dudowiej_record *record, const uint32_t *plan
 uint64_t dudowiej_build_plan(const dudowiej_record *record, uint32_t *room, size_t room_cells);
 
 /* Runs a plan on a goal and writes the numbers of the rows that unify with it, from the top, to the front of the room; the rest of it is
- * untouched. The room has a byte for every row of the table. First: the rows written. Second: the branches tried. */
+ * untouched. The room has a byte for every row of the table. First: the rows written. Second: the branches tried. Table and plan are
+ * checked on each call, which is nearly all of its cost (docs/BENCH.md): for more than one goal there is dudowiej_run_jobs. */
 uint64_t dudowiej_run_plan(const dudowiej_record *record, const uint32_t *plan, size_t plan_cells, const uint32_t *goal, size_t goal_cells,
                            uint8_t *room, size_t room_bytes);
 
@@ -181,6 +187,18 @@ uint64_t dudowiej_run_jobs(const dudowiej_record *record, const uint32_t *plan, 
 uint64_t dudowiej_replies(const dudowiej_record *record, const uint32_t *plan, size_t plan_cells, const uint32_t *goal, size_t goal_cells,
                           uint32_t *room, size_t room_cells);
 
+/* Cells built and a number's value. A cell takes the low bits of its parts, as many as it has for them: 16, and 3 for the arguments. With 5
+ * to 7 arguments it is no cell, and is refused wherever it stands. */
+
+static inline uint32_t dudowiej_variable(uint32_t number) { return number & 0xffff; }
+
+static inline uint32_t dudowiej_name(uint32_t number, uint32_t arguments) {
+    return UINT32_C(1) << 30 | (arguments & 7) << 16 | (number & 0xffff);
+}
+
+/* The whole number of this value, -32,768 to 32,767. */
+static inline uint32_t dudowiej_whole(int32_t value) { return UINT32_C(2) << 30 | ((uint32_t)value & 0xffff); }
+
 /* The value of a whole number's cell. */
 static inline int32_t dudowiej_value(uint32_t cell) {
     int32_t bits = (int32_t)(cell & 0xffff);
@@ -193,6 +211,37 @@ static inline int32_t dudowiej_value(uint32_t cell) {
 
 /* The refusal's number (enum dudowiej_refusal), or 0 where there is none. */
 static inline unsigned dudowiej_number(uint64_t answer) { return (unsigned)(answer & 0xff); }
+
+/* The name of a refusal's number; "none" where it is no refusal's. */
+static inline const char *dudowiej_refusal_name(unsigned number) {
+    switch (number) {
+    case DUDOWIEJ_REFUSED_LENGTH: return "LENGTH";
+    case DUDOWIEJ_REFUSED_WIDTH: return "WIDTH";
+    case DUDOWIEJ_REFUSED_COUNT: return "COUNT";
+    case DUDOWIEJ_REFUSED_LONG: return "LONG";
+    case DUDOWIEJ_REFUSED_SHORT: return "SHORT";
+    case DUDOWIEJ_REFUSED_CELL: return "CELL";
+    case DUDOWIEJ_REFUSED_FRESH: return "FRESH";
+    case DUDOWIEJ_REFUSED_TWICE: return "TWICE";
+    case DUDOWIEJ_REFUSED_EXTRA: return "EXTRA";
+    case DUDOWIEJ_REFUSED_SIZE: return "SIZE";
+    case DUDOWIEJ_REFUSED_ENDS: return "ENDS";
+    case DUDOWIEJ_REFUSED_OPEN: return "OPEN";
+    case DUDOWIEJ_REFUSED_EDGES: return "EDGES";
+    case DUDOWIEJ_REFUSED_LABEL: return "LABEL";
+    case DUDOWIEJ_REFUSED_ROWS: return "ROWS";
+    case DUDOWIEJ_REFUSED_ROOM: return "ROOM";
+    case DUDOWIEJ_REFUSED_BYTES: return "BYTES";
+    case DUDOWIEJ_REFUSED_TEXT: return "TEXT";
+    case DUDOWIEJ_REFUSED_OTHER: return "OTHER";
+    case DUDOWIEJ_REFUSED_FIGURE: return "FIGURE";
+    case DUDOWIEJ_REFUSED_FULL: return "FULL";
+    case DUDOWIEJ_REFUSED_LAST: return "LAST";
+    case DUDOWIEJ_REFUSED_INDEX: return "INDEX";
+    case DUDOWIEJ_REFUSED_SAME: return "SAME";
+    default: return "none";
+    }
+}
 
 static inline bool dudowiej_refused(uint64_t answer) { return dudowiej_number(answer) != 0; }
 

@@ -13,31 +13,24 @@ enum { FIGURE = 2 };
 static dudowiej_record record, morning, noon;
 static uint32_t plan[DUDOWIEJ_PLAN_CELLS];
 
-/* Blue rings that wait: which firing? */
-static const uint32_t job[] = {NUMBER(9), NAME(BLUE, 0), NAME(RING, 0), VARIABLE(0)};
-
-/* The rule that changes, what it becomes, a rule for the end, and one with a column too few. */
+/* The row that changes: rule 4. */
 enum { CHANGED = 3 };
-static const uint32_t harder[] = {NUMBER(9), NAME(BLUE, 0), NAME(RING, 0), NAME(HARD, 0)};
-static const uint32_t last[] = {VARIABLE(0), NAME(BLUE, 0), VARIABLE(1), NAME(HEAT, 1), NUMBER(790)};
-static const uint32_t too_short[] = {NUMBER(9), NAME(BLUE, 0), NAME(RING, 0)};
 
 static bool same(const dudowiej_record *a, const dudowiej_record *b) { return memcmp(a, b, sizeof *a) == 0; }
 
 /* Builds the plan, checks it, and prints which rules fit the job. */
 static void ask(void) {
+    /* Blue rings that wait: which firing? */
+    const uint32_t job[] = {dudowiej_whole(9), plain(BLUE), plain(RING), dudowiej_variable(0)};
     uint8_t rows[DUDOWIEJ_ROWS];
     uint64_t built = dudowiej_build_plan(&record, plan, DUDOWIEJ_PLAN_CELLS);
     if (refused(stdout, "  plan", built)) return;
     uint64_t checked = dudowiej_check_plan(&record, plan, dudowiej_first(built));
     if (refused(stdout, "  plan", checked)) return;
     printf("  plan: cost %u, %u branches\n", dudowiej_second(built), dudowiej_first(checked));
-    uint64_t run = dudowiej_run_plan(&record, plan, dudowiej_first(built), job, sizeof job / sizeof job[0], rows, sizeof rows);
+    uint64_t run = dudowiej_run_plan(&record, plan, dudowiej_first(built), job, COUNT(job), rows, sizeof rows);
     if (refused(stdout, "  job", run)) return;
-    for (uint32_t hit = 0; hit < dudowiej_first(run); hit++) {
-        printf("  ");
-        print_rule(&record, rows[hit]);
-    }
+    for (uint32_t hit = 0; hit < dudowiej_first(run); hit++) print_rule(&record, rows[hit], print_name);
 }
 
 /* Prints what came of an edit: the rules there are now, or why it was refused. */
@@ -48,15 +41,20 @@ static void tell(const char *edit, uint64_t answer) {
 }
 
 static void edits(void) {
-    tell("replaced", dudowiej_replace(&record, CHANGED, harder, sizeof harder / sizeof harder[0]));
+    /* What the rule becomes, a rule for the end (back to the shelf below), and one with a column too few. */
+    const uint32_t harder[] = {dudowiej_whole(9), plain(BLUE), plain(RING), plain(HARD)};
+    const uint32_t last[] = {dudowiej_variable(0), plain(BLUE), dudowiej_variable(1), dudowiej_name(SHELF, 1), dudowiej_whole(-1)};
+    const uint32_t too_short[] = {dudowiej_whole(9), plain(BLUE), plain(RING)};
+
+    tell("replaced", dudowiej_replace(&record, CHANGED, harder, COUNT(harder)));
     noon = record;
-    tell("appended", dudowiej_append(&record, last, sizeof last / sizeof last[0]));
+    tell("appended", dudowiej_append(&record, last, COUNT(last)));
     tell("dropped", dudowiej_drop_last(&record));
     printf("as at noon: %s\n", same(&record, &noon) ? "true" : "false");
 
-    tell("too short a rule", dudowiej_append(&record, too_short, sizeof too_short / sizeof too_short[0]));
-    tell("no such rule", dudowiej_replace(&record, DUDOWIEJ_ROWS, harder, sizeof harder / sizeof harder[0]));
-    tell("the same rule again", dudowiej_append(&record, harder, sizeof harder / sizeof harder[0]));
+    tell("too short a rule", dudowiej_append(&record, too_short, COUNT(too_short)));
+    tell("no such rule", dudowiej_replace(&record, DUDOWIEJ_ROWS, harder, COUNT(harder)));
+    tell("the same rule again", dudowiej_append(&record, harder, COUNT(harder)));
     printf("as at noon: %s\n", same(&record, &noon) ? "true" : "false");
 
     /* Back to the morning's rule. Its cells are in another record: an edit's row may not lie in the record that is edited. */

@@ -19,18 +19,19 @@ static struct dudowiej_job jobs[GOALS];
 
 /* A goal for each urgency, enamel, piece and firing, any of them blank: its cells one after another, its job beside them. */
 static void ask_everything(void) {
-    static const uint32_t urgencies[] = {NUMBER(9), NUMBER(10), NUMBER(1), VARIABLE(0)};
-    static const uint32_t enamels[] = {NAME(RED, 0), NAME(BLUE, 0), NAME(WHITE, 0), NAME(BLACK, 0), VARIABLE(0)};
-    static const uint32_t pieces[] = {NAME(RING, 0), NAME(BROOCH, 0), VARIABLE(0)};
-    static const uint32_t firings[] = {NAME(SOFT, 0), NAME(MEDIUM, 0), NAME(HARD, 0), NUMBER(820), NAME(HEAT, 0), VARIABLE(0)};
+    const uint32_t blank = dudowiej_variable(0);
+    const uint32_t urgencies[] = {dudowiej_whole(9), dudowiej_whole(10), dudowiej_whole(1), blank};
+    const uint32_t enamels[] = {plain(RED), plain(BLUE), plain(WHITE), plain(BLACK), blank};
+    const uint32_t pieces[] = {plain(RING), plain(BROOCH), blank};
+    const uint32_t firings[] = {plain(SOFT), plain(MEDIUM), plain(HARD), dudowiej_whole(820), plain(HEAT), blank};
     const uint32_t *columns[] = {urgencies, enamels, pieces, firings};
-    const size_t sizes[] = {4, 5, 3, 6};
+    const size_t sizes[] = {COUNT(urgencies), COUNT(enamels), COUNT(pieces), COUNT(firings)};
     for (size_t goal = 0; goal < GOALS; goal++) {
         size_t rest = goal;
         uint32_t variables = 0;
         for (size_t column = 0; column < GOAL_CELLS; column++) {
             uint32_t cell = columns[column][rest % sizes[column]];
-            cells[goal * GOAL_CELLS + column] = cell == VARIABLE(0) ? VARIABLE(variables++) : cell;
+            cells[goal * GOAL_CELLS + column] = cell == blank ? dudowiej_variable(variables++) : cell;
             rest /= sizes[column];
         }
         jobs[goal].start = goal * GOAL_CELLS;
@@ -46,7 +47,7 @@ static void print_shift(size_t rows) {
     for (size_t row = 0; row < rows; row++) {
         size_t hits = 0;
         for (size_t goal = 0; goal < GOALS; goal++) hits += jobs[goal].hits >> row & 1;
-        printf("  rule %zu: %zu\n", row, hits);
+        printf("  rule %zu: %zu\n", row + 1, hits);
     }
 }
 
@@ -60,13 +61,13 @@ static void print_some(size_t plan_cells) {
         {.start = GOALS * GOAL_CELLS - 3, .count = 4},
         {.start = SIZE_MAX, .count = SIZE_MAX},
     };
-    size_t count = sizeof some / sizeof some[0];
-    dudowiej_run_jobs(&record, plan, plan_cells, cells, GOALS * GOAL_CELLS, some, count);
-    for (size_t job = 0; job < count; job++) {
-        if (some[job].number != 0)
-            printf("job %zu: refused, %zu at %zu\n", job, some[job].number, some[job].place);
+    dudowiej_run_jobs(&record, plan, plan_cells, cells, GOALS * GOAL_CELLS, some, COUNT(some));
+    for (size_t job = 0; job < COUNT(some); job++) {
+        unsigned number = (unsigned)some[job].number;
+        if (number != 0)
+            printf("job %zu: refused, %s %u at %zu\n", job + 1, dudowiej_refusal_name(number), number, some[job].place);
         else
-            printf("job %zu: hits %#llx, %zu tried\n", job, (unsigned long long)some[job].hits, some[job].tried);
+            printf("job %zu: hits %#llx, %zu tried\n", job + 1, (unsigned long long)some[job].hits, some[job].tried);
     }
 }
 

@@ -38,29 +38,29 @@ static void ask(const uint32_t *goal, size_t goal_cells) {
     uint64_t run = dudowiej_run_plan(&record, plan, plan_cells, goal, goal_cells, rows, sizeof rows);
     if (refused(stdout, "\njob", run)) return;
     printf("\njob: ");
-    print_row(goal, width);
-    for (uint32_t hit = 0; hit < dudowiej_first(run); hit++) {
-        printf("  ");
-        print_rule(&record, rows[hit]);
-    }
+    print_columns(goal, width, print_name);
+    for (uint32_t hit = 0; hit < dudowiej_first(run); hit++) print_rule(&record, rows[hit], print_name);
     printf("  %u of %u branches tried\n", dudowiej_second(run), branches);
 }
 
-static const struct {
-    uint32_t cells[5];
-    size_t count;
-} jobs[] = {
-    /* urgency 10, red, a ring: which firing? */
-    {{NUMBER(10), NAME(RED, 0), NAME(RING, 0), VARIABLE(0)}, 4},
-    /* a red ring of any urgency: the rules for 9 come first, as printed */
-    {{VARIABLE(0), NAME(RED, 0), NAME(RING, 0), VARIABLE(1)}, 4},
-    /* a blue bowl of any size */
-    {{NUMBER(9), NAME(BLUE, 0), NAME(BOWL, 1), VARIABLE(0), VARIABLE(1)}, 5},
-    /* a black ring that is not urgent */
-    {{NUMBER(1), NAME(BLACK, 0), NAME(RING, 0), VARIABLE(0)}, 4},
-    /* a goal with a column too few */
-    {{NUMBER(9), NAME(BLUE, 0), NAME(RING, 0)}, 3},
-};
+static void ask_all(void) {
+    const struct {
+        uint32_t cells[5];
+        size_t count;
+    } jobs[] = {
+        /* urgency 10, red, a ring: which firing? */
+        {{dudowiej_whole(10), plain(RED), plain(RING), dudowiej_variable(0)}, 4},
+        /* a red ring of any urgency: the rules for 9 come first, as printed */
+        {{dudowiej_variable(0), plain(RED), plain(RING), dudowiej_variable(1)}, 4},
+        /* a blue bowl of any size */
+        {{dudowiej_whole(9), plain(BLUE), dudowiej_name(BOWL, 1), dudowiej_variable(0), dudowiej_variable(1)}, 5},
+        /* a black ring that is not urgent */
+        {{dudowiej_whole(1), plain(BLACK), plain(RING), dudowiej_variable(0)}, 4},
+        /* a goal with a column too few */
+        {{dudowiej_whole(9), plain(BLUE), plain(RING)}, 3},
+    };
+    for (size_t job = 0; job < COUNT(jobs); job++) ask(jobs[job].cells, jobs[job].count);
+}
 
 int main(int argc, char **argv) {
     if (argc != 2) {
@@ -69,6 +69,6 @@ int main(int argc, char **argv) {
     }
     int status = prepare(argv[1]);
     if (status != 0) return status;
-    for (size_t job = 0; job < sizeof jobs / sizeof jobs[0]; job++) ask(jobs[job].cells, jobs[job].count);
+    ask_all();
     return 0;
 }

@@ -3,10 +3,9 @@
  *
  * usage: text FILE    (samples/shop.pl) */
 
-#include <stdio.h>
 #include <string.h>
 
-#include "dudowiej.h"
+#include "shared.h"
 
 /* A text, its table with the list of names, the table worked out, and a plan. Of bytes there is room for one more than a text may have, so
  * that too long a file is seen to be one. */
@@ -26,66 +25,24 @@ static const char *name_start(uint32_t number) { return (const char *)text + (na
 
 static size_t name_bytes(uint32_t number) { return names[number] >> 16; }
 
-static uint32_t variable(uint32_t number) { return number; }
-
-static uint32_t number(uint32_t value) { return 2u << 30 | value; }
+static void print_name(uint32_t number) {
+    if (number < names_count) printf("%.*s", (int)name_bytes(number), name_start(number));
+    else printf("?");
+}
 
 /* The cell of a name; a name that the text does not have takes a number that no row has. */
 static uint32_t name(const char *word, uint32_t arguments) {
     uint32_t n = 0;
     while (n < names_count && (name_bytes(n) != strlen(word) || memcmp(name_start(n), word, name_bytes(n)) != 0)) n++;
-    return 1u << 30 | arguments << 16 | n;
-}
-
-/* Prints the term at the first of the cells and gives what follows it. */
-static const uint32_t *print_term(const uint32_t *cells) {
-    uint32_t cell = *cells++, n = cell & 0xffff;
-    switch (cell >> 30) {
-    case 0: printf("_%u", n); return cells;
-    case 2: printf("%d", (int)dudowiej_value(cell)); return cells;
-    }
-    if (n < names_count) printf("%.*s", (int)name_bytes(n), name_start(n));
-    else printf("?");
-    uint32_t arguments = cell >> 16 & 7;
-    for (uint32_t i = 0; i < arguments; i++) {
-        printf(i == 0 ? "(" : ", ");
-        cells = print_term(cells);
-    }
-    if (arguments > 0) printf(")");
-    return cells;
-}
-
-/* Prints a term for each column and gives what follows them. */
-static const uint32_t *print_columns(const uint32_t *cells) {
-    for (uint32_t left = table[0]; left > 0; left--) {
-        cells = print_term(cells);
-        printf(left > 1 ? ", " : "\n");
-    }
-    return cells;
-}
-
-/* Says a refusal, if the answer is one. */
-static bool refused(FILE *to, const char *word, uint64_t answer) {
-    static const char *const inputs[] = {"?", "table", "plan", "goal", "room", "text"};
-    if (!dudowiej_refused(answer)) return false;
-    unsigned input = dudowiej_input(answer);
-    unsigned long long place = dudowiej_place(answer);
-    fprintf(to, "%s: %s refused, %u at %llu\n", word, inputs[input < 6 ? input : 0], dudowiej_number(answer), place);
-    return true;
+    return dudowiej_name(n, arguments);
 }
 
 /* Loads the text, makes its table and builds the plan; gives the exit status. */
 static int prepare(const char *path) {
-    FILE *file = fopen(path, "rb");
-    size_t bytes = file ? fread(text, 1, sizeof text, file) : 0;
-    bool failed = !file || ferror(file);
-    if (file) fclose(file);
-    if (failed) {
-        fprintf(stderr, "text: cannot read %s\n", path);
-        return 2;
-    }
+    long bytes = load("text", path, text, sizeof text);
+    if (bytes < 0) return 2;
 
-    uint64_t read = dudowiej_read_text(text, bytes, table, DUDOWIEJ_TABLE_CELLS, names, DUDOWIEJ_NAMES);
+    uint64_t read = dudowiej_read_text(text, (size_t)bytes, table, DUDOWIEJ_TABLE_CELLS, names, DUDOWIEJ_NAMES);
     if (refused(stderr, "text", read)) return 1;
     names_count = dudowiej_second(read);
     printf("text: %u rules of %u columns, %zu names\n", table[1], table[0], names_count);
@@ -107,16 +64,36 @@ static void ask(const uint32_t *goal, size_t goal_cells) {
     uint64_t said = dudowiej_replies(&record, plan, plan_cells, goal, goal_cells, replies, REPLIES_CELLS);
     if (refused(stdout, "\njob", said)) return;
     printf("\njob: ");
-    print_columns(goal);
+    print_columns(goal, table[0], print_name);
     /* There is a reply for each hit, in the same order. */
     const uint32_t *reply = replies;
     for (uint32_t hit = 0; hit < dudowiej_first(run); hit++) {
-        uint64_t row = dudowiej_row(&record, rows[hit]);
-        printf("  rule %u: ", rows[hit]);
-        print_columns(dudowiej_table(&record) + dudowiej_first(row));
+        print_rule(&record, rows[hit], print_name);
         printf("    says: ");
-        reply = print_columns(reply);
+        reply = print_columns(reply, table[0], print_name);
     }
+}
+
+static void ask_all(void) {
+    const uint32_t v0 = dudowiej_variable(0), v1 = dudowiej_variable(1), v2 = dudowiej_variable(2);
+    /* Urgency 10, red, a ring: which firing? */
+    const uint32_t ring[] = {dudowiej_whole(10), name("red", 0), name("ring", 0), v0};
+    /* A blue bowl of any size. */
+    const uint32_t bowl[] = {dudowiej_whole(9), name("blue", 0), name("bowl", 1), v0, v1};
+    /* A black tray: no rule names a tray. */
+    const uint32_t tray[] = {dudowiej_whole(1), name("black", 0), name("tray", 0), v0};
+    /* Anything black. */
+    const uint32_t black[] = {v0, name("black", 0), v1, v2};
+    /* A blue bowl whose size is called as its firing: one variable twice. */
+    const uint32_t alike[] = {dudowiej_whole(9), name("blue", 0), name("bowl", 1), v0, v0};
+    /* A red ring that was put off: urgency below zero. */
+    const uint32_t put_off[] = {dudowiej_whole(-1), name("red", 0), name("ring", 0), v0};
+    ask(ring, COUNT(ring));
+    ask(bowl, COUNT(bowl));
+    ask(tray, COUNT(tray));
+    ask(black, COUNT(black));
+    ask(alike, COUNT(alike));
+    ask(put_off, COUNT(put_off));
 }
 
 int main(int argc, char **argv) {
@@ -126,20 +103,6 @@ int main(int argc, char **argv) {
     }
     int status = prepare(argv[1]);
     if (status != 0) return status;
-    /* Urgency 10, red, a ring: which firing? */
-    const uint32_t ring[] = {number(10), name("red", 0), name("ring", 0), variable(0)};
-    /* A blue bowl of any size. */
-    const uint32_t bowl[] = {number(9), name("blue", 0), name("bowl", 1), variable(0), variable(1)};
-    /* A black tray: no rule names a tray. */
-    const uint32_t tray[] = {number(1), name("black", 0), name("tray", 0), variable(0)};
-    /* Anything black. */
-    const uint32_t black[] = {variable(0), name("black", 0), variable(1), variable(2)};
-    /* A blue bowl whose size is called as its firing: one variable twice. */
-    const uint32_t alike[] = {number(9), name("blue", 0), name("bowl", 1), variable(0), variable(0)};
-    ask(ring, sizeof ring / sizeof ring[0]);
-    ask(bowl, sizeof bowl / sizeof bowl[0]);
-    ask(tray, sizeof tray / sizeof tray[0]);
-    ask(black, sizeof black / sizeof black[0]);
-    ask(alike, sizeof alike / sizeof alike[0]);
+    ask_all();
     return 0;
 }

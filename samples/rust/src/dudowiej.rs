@@ -12,6 +12,37 @@ pub const NAMES: usize = 2048;
 /// What no reply exceeds.
 pub const REPLY_CELLS: usize = 1024;
 
+/// A variable's cell.
+pub const fn variable(number: u16) -> u32 {
+    number as u32
+}
+
+/// The cell of a name with 0 to 4 arguments. With 5 to 7 it is no cell, and is refused wherever it stands.
+pub const fn name(number: u16, arguments: u32) -> u32 {
+    1 << 30 | (arguments & 7) << 16 | number as u32
+}
+
+/// The cell of a whole number: its 16 bits are two's complement.
+pub const fn whole(value: i16) -> u32 {
+    2 << 30 | value as u16 as u32
+}
+
+/// The value of a whole number's cell.
+pub const fn value(cell: u32) -> i16 {
+    cell as i16
+}
+
+/// The names of the refusals' numbers, 1 to 24.
+const REFUSALS: [&str; 24] = [
+    "LENGTH", "WIDTH", "COUNT", "LONG", "SHORT", "CELL", "FRESH", "TWICE", "EXTRA", "SIZE", "ENDS", "OPEN", "EDGES", "LABEL", "ROWS",
+    "ROOM", "BYTES", "TEXT", "OTHER", "FIGURE", "FULL", "LAST", "INDEX", "SAME",
+];
+
+/// The name of a refusal's number; "none" where it is no refusal's.
+pub fn refusal_name(number: usize) -> &'static str {
+    number.checked_sub(1).and_then(|place| REFUSALS.get(place)).unwrap_or(&"none")
+}
+
 /// Why an input is refused (include/dudowiej.h): number, input and place.
 #[derive(Debug, Clone, Copy, PartialEq, Eq)]
 pub struct Refusal {
@@ -22,7 +53,7 @@ pub struct Refusal {
 
 impl fmt::Display for Refusal {
     fn fmt(&self, to: &mut fmt::Formatter) -> fmt::Result {
-        write!(to, "{} refused, {} at {}", self.input, self.number, self.place)
+        write!(to, "{} refused, {} {} at {}", self.input, refusal_name(self.number as usize), self.number, self.place)
     }
 }
 

@@ -7,17 +7,20 @@
 #[allow(dead_code)]
 mod dudowiej;
 #[allow(dead_code)]
+mod shared;
+#[allow(dead_code)]
 mod shop;
 
-use dudowiej::{Job, Record, Refusal};
-use shop::{number, term, terms, variable, BLACK, BLUE, BOWL, LARGE, RED, RING};
+use dudowiej::{refusal_name, variable, whole, Job, Record, Refusal};
+use shared::{columns, rule, term};
+use shop::{name_of, BLACK, BLUE, BOWL, LARGE, RED, RING};
 use std::process::ExitCode;
 
 /// The figures whose plans are shown.
 const FIGURES: [u32; 4] = [0, 1, 2, 15];
 
 fn main() -> ExitCode {
-    shop::with_file("shop", rules)
+    shop::with_cells("shop", rules)
 }
 
 fn rules(table: &[u32]) -> Result<(), Refusal> {
@@ -34,11 +37,11 @@ fn rules(table: &[u32]) -> Result<(), Refusal> {
 
     let jobs: [&[u32]; 5] = [
         // Urgency 10, red, a ring: which firing?
-        &[number(10), RED, RING, variable(0)],
+        &[whole(10), RED, RING, variable(0)],
         // A red ring of any urgency: the rules for 9 come first, as printed.
         &[variable(0), RED, RING, variable(1)],
         // A large blue bowl.
-        &[number(9), BLUE, BOWL, LARGE, variable(0)],
+        &[whole(9), BLUE, BOWL, LARGE, variable(0)],
         // Whatever is black.
         &[variable(0), BLACK, variable(1), variable(2)],
         // An enamel that is also a piece: only rules that leave one of them blank.
@@ -57,9 +60,9 @@ fn ask(record: &Record, plan: &[u32], branches: usize, goal: &[u32]) {
     match record.run_plan(plan, goal) {
         Err(refusal) => println!("\njob: {refusal}"),
         Ok((hits, tried)) => {
-            println!("\njob: {}", terms(goal));
+            println!("\njob: {}", columns(&mut &goal[..], record.width(), &name_of));
             for hit in hits {
-                println!("  rule {hit}: {}", terms(record.row(hit as usize)));
+                println!("  {}", rule(record, hit as usize, &name_of));
             }
             println!("  {tried} of {branches} branches tried");
         }
@@ -79,7 +82,7 @@ fn shift(record: &Record, plan: &[u32]) -> Result<(), Refusal> {
                 let blank = [variable(0)];
                 for &cell in if blanks >> column & 1 == 1 { &blank } else { *argument } {
                     cells.push(if cell >> 30 == 0 { variable(variables) } else { cell });
-                    variables += u32::from(cell >> 30 == 0);
+                    variables += u16::from(cell >> 30 == 0);
                 }
             }
             jobs.push(Job { start, count: cells.len() - start, ..Job::default() });
@@ -91,10 +94,10 @@ fn shift(record: &Record, plan: &[u32]) -> Result<(), Refusal> {
     let tried: usize = jobs.iter().map(|job| job.tried).sum();
     println!("\na shift of {} jobs: {tried} branches tried", jobs.len());
     for row in 0..record.rows() {
-        println!("  rule {row} fits {}", jobs.iter().filter(|job| job.hits >> row & 1 == 1).count());
+        println!("  rule {} fits {}", row + 1, jobs.iter().filter(|job| job.hits >> row & 1 == 1).count());
     }
     for (number, job) in jobs.iter().enumerate().filter(|(_, job)| job.number != 0) {
-        println!("  job {number}: refused, {} at {}", job.number, job.place);
+        println!("  job {}: refused, {} {} at {}", number + 1, refusal_name(job.number), job.number, job.place);
     }
     Ok(())
 }
@@ -105,7 +108,7 @@ fn arguments(row: &[u32]) -> Vec<&[u32]> {
     let mut all = Vec::new();
     while !rest.is_empty() {
         let before = rest;
-        term(&mut rest);
+        term(&mut rest, &name_of);
         all.push(&before[..before.len() - rest.len()]);
     }
     all
@@ -116,7 +119,7 @@ fn refusals(record: &Record, plan: &[u32]) {
     let table = record.table();
     let short_table = &table[..table.len() - 1];
     let short_plan = &plan[..plan.len() - 1];
-    let short_goal: Vec<u32> = (0..record.width() as u32 - 1).map(variable).collect();
+    let short_goal: Vec<u32> = (0..record.width() as u16 - 1).map(variable).collect();
     let mut short_room = vec![0; plan.len() - 1];
     println!("\nrefusals:");
     println!("  a table without its last cell: {}", Record::work_out(short_table, 2).unwrap_err());

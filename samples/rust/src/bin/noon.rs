@@ -8,26 +8,30 @@
 #[path = "../dudowiej.rs"]
 mod dudowiej;
 #[allow(dead_code)]
+#[path = "../shared.rs"]
+mod shared;
+#[allow(dead_code)]
 #[path = "../shop.rs"]
 mod shop;
 
-use dudowiej::{Record, Refusal};
-use shop::{number, terms, variable, BLUE, HARD, HEAT, RING};
+use dudowiej::{variable, whole, Record, Refusal};
+use shared::rule;
+use shop::{name_of, BLUE, HARD, RING, SHELF};
 use std::process::ExitCode;
 
 const FIGURE: u32 = 2;
 
 /// Blue rings that wait: which firing?
-const JOB: [u32; 4] = [number(9), BLUE, RING, variable(0)];
+const JOB: [u32; 4] = [whole(9), BLUE, RING, variable(0)];
 
-/// The rule that changes, what it becomes, a rule for the end, and one with a column too few.
+/// The row that changes, rule 4; what it becomes, a rule for the end (back to the shelf below), and one with a column too few.
 const CHANGED: usize = 3;
-const HARDER: [u32; 4] = [number(9), BLUE, RING, HARD];
-const LAST: [u32; 5] = [variable(0), BLUE, variable(1), HEAT, number(790)];
-const TOO_SHORT: [u32; 3] = [number(9), BLUE, RING];
+const HARDER: [u32; 4] = [whole(9), BLUE, RING, HARD];
+const LAST: [u32; 5] = [variable(0), BLUE, variable(1), SHELF, whole(-1)];
+const TOO_SHORT: [u32; 3] = [whole(9), BLUE, RING];
 
 fn main() -> ExitCode {
-    shop::with_file("noon", day)
+    shop::with_cells("noon", day)
 }
 
 fn day(table: &[u32]) -> Result<(), Refusal> {
@@ -62,7 +66,7 @@ fn tell(edit: &str, answer: Result<(), Refusal>, record: &Record) -> Result<(), 
     println!("  plan: cost {cost}, {} branches", record.check_plan(&plan)?);
     match record.run_plan(&plan, &JOB) {
         Err(refusal) => println!("  job: {refusal}"),
-        Ok((hits, _)) => hits.iter().for_each(|&hit| println!("  rule {hit}: {}", terms(record.row(hit as usize)))),
+        Ok((hits, _)) => hits.iter().for_each(|&hit| println!("  {}", rule(record, hit as usize, &name_of))),
     }
     Ok(())
 }
