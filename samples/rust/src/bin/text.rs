@@ -7,7 +7,6 @@
 #[allow(dead_code)]
 #[path = "../dudowiej.rs"]
 mod dudowiej;
-
 #[allow(dead_code)]
 #[path = "../shared.rs"]
 mod shared;
