@@ -6,4 +6,3 @@ pub mod PlannedLaws
 pub mod BuildLaws
 pub mod RecordLaws
 pub mod Fixed
-pub mod Joined

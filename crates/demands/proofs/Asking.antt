@@ -1,4 +1,4 @@
--- The request "ask" of what its library functions promise: `GoalAsked` for goaltext::read_goal, `Put` of `saidIn` for saying::put_answer. The
+-- The request "ask" of what its library functions promise: `PredicateIs` for goaltext::predicate_of, `GoalAsked` for goaltext::read_goal, `Put` of `saidIn` for saying::put_answer. The
 -- statements are in specs/Asking.
 use Prim.Native.Nat.{ℕ, _+_, _-_, _≤_}
 use mathlib.Core.Path.{_≡_, refl, sym, ap, ap₂, subst, _∙_}
@@ -6,7 +6,6 @@ use mathlib.Core.List.{List, _++_}
 use native.Mathlib.Omega.{arith}
 use lib.ListN.{length, take, drop}
 use lib.Seq.{sets, sets-eq, take-at, take-all}
-use Rattle.refusal.specs.Refusal.{answered}
 use Rattle.refusal.specs.Read.{Read, read, refuse}
 use Rattle.table.proofs.Accepted.{goal-accepted}
 use Rattle.octets.specs.Octets.{Put, fitting}
@@ -18,14 +17,17 @@ use Rattle.grammar.specs.Numbering.{Nth, First}
 use Rattle.asking.proofs.One.{read-one}
 use Rattle.asking.proofs.ListLaws.{new-apart}
 use Rattle.goaltext.specs.declared.GoalText.{GoalText}
-use Rattle.goaltext.specs.Asked.{Asked, too-many, asked, Answers, GoalAsked}
+use Rattle.goaltext.proofs.Fixed.{predicate-of-fixed}
+use Rattle.goaltext.specs.Asked.{PredicateIs, first, none, Asked, too-many, asked, Answers, GoalAsked}
 use Rattle.answering.proofs.ReplyBack.{replies-back}
-use Rattle.demands.specs.Asking.{Gives, IsAsked, ReadsGoal, ReadsBack}
-use Rattle.demands.proofs.Cited.{clash}
+use Rattle.demands.specs.Asking.{FindsPredicate, Gives, IsAsked, ReadsGoal, ReadsBack}
+use Rattle.demands.proofs.Cited.{clash, answered-one}
 
--- A GOAL. What is answered tells how many cells and new names there are
-answered-both : {a b c d : ℕ} → answered a b ≡ answered c d → (a ≡ c) × (b ≡ d)
-answered-both e = (cc, cc)
+-- THE PREDICATE
+pub ask-predicate : {text : List ℕ} {p : Predicate} → PredicateIs text p → FindsPredicate text p
+ask-predicate x = record { first = λ f fs t. predicate-of-fixed x (first t); none = λ g t. predicate-of-fixed x (none t) }
+
+-- A GOAL
 
 -- of a list at the front of a room, what is taken
 front-taken : (xs ys zs : List ℕ) {n : ℕ} → length xs ≡ n → take n (xs ++ ys) ≡ zs → xs ≡ zs
@@ -56,7 +58,7 @@ module _ {text names : List ℕ} {p : Predicate} {t : List ℕ} where
     gives : (says : Read Goal) → Asked text names p t says → Answers says cells cells′ new new′ r → (goal : Goal) → Gives goal cells′ new′ r
         → IsAsked text names p t goal
     gives (read G) a w goal g =
-        let l = answered-both (sym (w .tells) ∙ g .tells) in
+        let l = answered-one (sym (w .tells) ∙ g .tells) in
         let c = front-taken (G .cells) _ (goal .cells) (l .0) (ap (take (length (goal .cells))) (sym (w .wrote)) ∙ g .cells) in
         let n = front-taken (G .new) _ (goal .new) (l .1) (ap (take (length (goal .new))) (sym (w .listed)) ∙ g .new) in
         subst (IsAsked text names p t) (same-goal G goal c n) (asked-is a)

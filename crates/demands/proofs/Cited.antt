@@ -1,52 +1,50 @@
 -- How the demands follow from the theorems of the crates: the steps that proofs/Demands cites.
 use Prim.Native.Nat.{ℕ, zero, suc, _+_, _^_, _≤_, _<_}
-use mathlib.Core.Path.{_≡_, refl, sym, _∙_, ap, subst}
+use mathlib.Core.Path.{_≡_, refl, sym, _∙_, ap, ap₂, subst}
 use mathlib.Core.Logic.{_↔_}
 use mathlib.Core.Bool.{Bool, true, false}
 use mathlib.Core.List.{List, [], List·Memᴰ}
 use native.Mathlib.Nat.{add-zero, zero-add}
 use native.Mathlib.Omega.{arith}
 use lib.Dec.{leb, ltb}
-use lib.ListN.{length, getD}
+use lib.ListN.{length, getD, take, drop}
+use lib.Seq.{take-at, drop-at}
 use borrow.Author.Tests.{leb-true, leb-false, ltb-true, ltb-false, le-ltb, eq-eqb}
 use Rattle.cell.proofs.CellLaws.{built-variable}
 use Rattle.term.specs.Unify.{Matches}
 use Rattle.refusal.specs.declared.Reason.the-variants as reason
 use Rattle.refusal.specs.declared.Input.the-variants as input
-use Rattle.refusal.specs.Refusal.{Refused, refused, Answer, answered, turned}
+use Rattle.refusal.specs.Refusal.{Refused, refused, answered, turned}
 use Rattle.refusal.specs.Read.{Read, read, refuse}
-use Rattle.table.specs.declared.TableRead.{TableRead}
-use Rattle.table.specs.declared.GoalAnswer.{GoalAnswer}
-use Rattle.table.specs.Table.{Table, tableOf, tableSays, TableReads, goalOf, goalWith, goalTold, goalSays, rowIn, IsGoal}
+use Rattle.table.specs.Table.{Table, table, tableOf, tableSays, goalOf, goalWith, goalSays, rowIn, IsTable, IsGoal}
 use Rattle.table.specs.Table.{met, termsFrom, upFrom}
 use Rattle.table.proofs.ReadLaws.{apart, read-one, refuse-one, within-bounds}
 use Rattle.table.proofs.Accepted.{is-table, table-accepted, goal-accepted, goal-is}
-use Rattle.checker.specs.declared.PlanAnswer.{PlanAnswer}
-use Rattle.checker.specs.declared.PlanAnswer.the-variants as plan-answer
+use Rattle.table.proofs.PartLaws.{start-at, place-none, cells-at}
+use Rattle.term.proofs.Lists.{getD-zeros}
 use Rattle.plan.specs.Plans.{Plan, write, branches}
-use Rattle.plan.specs.Check.{planFor, planOf}
-use Rattle.checker.specs.Checked.{planTold, planSays}
+use Rattle.plan.specs.Check.{planOf}
+use Rattle.checker.specs.Checked.{planSays}
 use Rattle.plan.proofs.SizeLaws.{size-bound}
 use Rattle.plan.proofs.PlansLaws.{write-one}
 use Rattle.plan.proofs.CheckLaws.{accepted-one, rows-fit}
-use Rattle.checker.proofs.Fixed.{plan-fixed}
 use Rattle.builder.specs.declared.BuildAnswer.{BuildAnswer}
 use Rattle.builder.specs.declared.BuildAnswer.the-variants as build-answer
 use Rattle.builder.specs.Build.{BuiltInto, table-refused, room-refused, built, buildTold}
 use Rattle.builder.proofs.Fixed.{build-fixed}
-use Rattle.builder.proofs.Joined.{built-least, built-accepted}
+use Rattle.exports.specs.Coded.{rowSays}
 use Rattle.least.specs.Measures.{measureOf, costBy, tableBy}
 use Rattle.least.specs.declared.By.{By}
-use Rattle.least.specs.declared.By.the-variants.{Branches}
-use Rattle.least.proofs.Measured.{by-table, by-figure}
+use Rattle.least.proofs.Measured.{by-table, by-figure, by-read}
 use Rattle.answer.specs.declared.RunAnswer.{RunAnswer}
 use Rattle.answer.specs.Run.{Picks, Counts, Tried, runOf, runTold, Ran, refusal, ran, Ascends}
 use Rattle.answer.proofs.Fixed.{skeletons-one}
 use Rattle.table.proofs.HeadLaws.{up-length}
-use Rattle.answer.proofs.Theorems.{picked, picks-ascend, tries-every}
+use Rattle.answer.proofs.Theorems.{picked, picks-ascend, tries-at-most, tries-every}
 use Rattle.answer.proofs.TakesLaws.{Takes, takes-run, run-table, run-plan, run-goal, run-room}
-use Rattle.demands.specs.Demands.{Demand1Table, Demand1Goal, Demand1Row, Demand1Check, Demand1Build, Demand1Run, Demand3Build, Demand3Fewest}
-use Rattle.demands.specs.Demands.{BuildTurned, no-figure, no-table, no-room, RunTurned, bad-table, bad-plan, bad-goal, bad-room, Answers, Writes}
+use Rattle.demands.specs.Demands.{Demand1Table, Demand1Goal, Demand1Row, Demand1Place, Demand1Check, Demand1Build, Demand1Run}
+use Rattle.demands.specs.Demands.{BuildTurned, no-figure, no-table, no-room, RunTurned, bad-table, bad-plan, bad-goal, bad-room}
+use Rattle.demands.specs.Demands.{Answers, Demand2, TriedFew, Writes, Demand3Check, Demand3Run, LeastBy, Demand3Build}
 
 -- Refusals.
 
@@ -55,6 +53,9 @@ clash e = absurd (let z : _≡_ {A = ℕ} 0 1 = cc in omega arith)
 
 pub turned-one : {f h : Refused} → turned f ≡ turned h → f ≡ h
 turned-one e = cc
+
+pub answered-one : {a b c d : ℕ} → answered a b ≡ answered c d → (a ≡ c) × (b ≡ d)
+answered-one e = (cc, cc)
 
 -- what is answered is a refusal exactly when what is read is
 table-turned : (x : Read Table) (f : Refused) → (tableSays x ≡ turned f) ↔ (x ≡ refuse f)
@@ -69,38 +70,71 @@ plan-turned : (x : Read ℕ) (f : Refused) → (planSays x ≡ turned f) ↔ (x 
 plan-turned (read b) f = (λ e. clash e, λ e. apart e)
 plan-turned (refuse h) f = (λ e. ap refuse (turned-one e), λ e. ap turned (refuse-one e))
 
--- and so for an answer that says the same
-by-answer : {a b : Answer} {f : Refused} {C : Type 0} → a ≡ b → (b ≡ turned f) ↔ C → (a ≡ turned f) ↔ C
-by-answer e i = (λ x. i .0 (sym e ∙ x), λ c. e ∙ i .1 c)
+-- a table that is one is read as its rows
+pub reads : {t : List ℕ} {w : ℕ} {rows : List (List ℕ)} → IsTable t w rows → tableOf t ≡ read (table w rows)
+reads {t} {w} {rows} i = table-accepted t w rows .1 i
 
 -- Reading.
 
-pub table-kept : (t : List ℕ) (r : TableRead) → TableReads (tableOf t) r → Demand1Table t r
-table-kept t r a = record {
-  refuses = λ f. by-answer (a .answer) (table-turned (tableOf t) f);
-  accepts = λ w rows i. a .answer ∙ ap tableSays (table-accepted t w rows .1 i);
+pub table-kept : (t : List ℕ) → Demand1Table t (tableSays (tableOf t))
+table-kept t = record { refuses = table-turned (tableOf t); accepts = λ w rows i. ap tableSays (reads i) }
+
+pub goal-kept : (t g : List ℕ) → Demand1Goal t g (goalSays g (goalWith t g))
+goal-kept t g = record { refuses = goal-turned g (goalWith t g); accepts = λ w rows e i. rw (reads e, goal-is w g i) }
+
+pub row-kept : (t : List ℕ) (j : ℕ) {row : List ℕ} → row ≡ rowIn (tableOf t) j → Demand1Row t j row
+row-kept t j a = record { none = λ f e. rw e at a; some = λ w rows i. rw (reads i) at a }
+
+pub place-kept : (t : List ℕ) (j : ℕ) → Demand1Place t j (rowSays (tableOf t) j)
+place-kept t j = record {
+  none = λ f e. rw (e, getD-zeros 64 j);
+  missing = λ w rows i l.
+      (let x = place-none t (reads i) j l in ap₂ answered (sym (x .start)) (omega (arith, x .end)));
+  some = λ w rows i l. (
+    rw (reads i) (ap (λ (n : ℕ). answered n (length (getD rows j []))) (start-at (table w rows) j l)),
+    rw (← start-at (table w rows) j l) (cells-at t (reads i) j),
+  );
 }
 
-pub goal-kept : (t g : List ℕ) (r : GoalAnswer) → goalTold r ≡ goalSays g (goalWith t g) → Demand1Goal t g r
-goal-kept t g r a = record {
-  refuses = λ f. by-answer a (goal-turned g (goalWith t g) f);
-  accepts = λ T e i. a ∙ rw (e, goal-is (T .width) g i);
-}
+pub plan-kept : (t p : List ℕ) → Demand1Check t p (planSays (planOf t p))
+plan-kept t p = record { refuses = plan-turned (planOf t p) }
 
-pub row-kept : (t : List ℕ) (j : ℕ) (row : List ℕ) → row ≡ rowIn (tableOf t) j → Demand1Row t j row
-row-kept t j row a = record { none = λ f e. rw e at a; some = λ T e. rw e at a }
+-- The check.
 
-pub plan-kept : (t p : List ℕ) (r : PlanAnswer) → planTold r ≡ planSays (planOf t p) → Demand1Check t p r
-plan-kept t p r a = record { refuses = λ f. by-answer a (plan-turned (planOf t p) f) }
+says-read : (x : Read ℕ) (b : ℕ) → planSays x ≡ answered b 0 → x ≡ read b
+says-read (read c) b q = let s : c ≡ b = cc in ap read s
+says-read (refuse f) b q = clash (sym q)
+
+-- a tree writes its cells, and no other does
+by-tree : {w : ℕ} {rows : List (List ℕ)} {p : List ℕ} (tree : Plan w rows) → write tree ≡ p → Writes w rows p (branches tree)
+by-tree tree e = record { tree = tree; cells = e; count = refl; only = λ q v. write-one q tree (v ∙ sym e) }
+
+module _ (t p : List ℕ) {w : ℕ} {rows : List (List ℕ)} (i : IsTable t w rows) where
+  -- cells that the check accepts are written by one plan
+  pub writes : (b : ℕ) → planOf t p ≡ read b → Writes w rows p b
+  writes b k =
+      let a = accepted-one (table w rows) i p b .0 (rw (reads i) at k) in
+      record { tree = a .0; cells = a .1; count = a .2; only = a .3 }
+
+  written : (b : ℕ) → Writes w rows p b → planOf t p ≡ read b
+  written b x = rw (reads i) (accepted-one (table w rows) i p b .1 (x .tree, x .cells, x .count, x .only))
+
+-- so the check accepts what a tree writes
+pub tree-read : {t p : List ℕ} {w : ℕ} {rows : List (List ℕ)} → IsTable t w rows → (tree : Plan w rows) → write tree ≡ p
+    → planOf t p ≡ read (branches tree)
+tree-read {t} {p} i tree e = written t p i (branches tree) (by-tree tree e)
+
+pub check-accepts : (t p : List ℕ) → Demand3Check t p (planSays (planOf t p))
+check-accepts t p w rows i b = (λ q. writes t p i b (says-read (planOf t p) b q), λ x. ap planSays (written t p i b x))
 
 -- Building.
 
 -- a table for which a plan is asked by a measure: where the figure is small, what reading the table says
-data TakenBy (b : By) (t : List ℕ) : Type 0 where
+pub data TakenBy (b : By) (t : List ℕ) : Type 0 where
   too-much : 15 < measureOf b .figure → tableBy b t ≡ refuse (refused reason.Figure input.Figure 0) → TakenBy b t
   small : measureOf b .figure ≤ 15 → tableBy b t ≡ tableOf t → TakenBy b t
 
-taken-by : (b : By) (t : List ℕ) → TakenBy b t
+pub taken-by : (b : By) (t : List ℕ) → TakenBy b t
 taken-by b t = go (leb (measureOf b .figure) 15) refl
   where
     go : (x : Bool) → leb (measureOf b .figure) 15 ≡ x → TakenBy b t
@@ -115,7 +149,7 @@ module _ {by : By} {t room room′ : List ℕ} {r : BuildAnswer} where
       why (table-refused h a x c) (too-much l k) e = no-figure l (turned-one (sym e ∙ x) ∙ refuse-one (sym a ∙ k))
       why (table-refused h a x c) (small l k) e = no-table l (sym k ∙ a ∙ ap refuse (turned-one (sym x ∙ e)))
       why (room-refused T plan a u l x c) (too-much s k) e = apart (sym a ∙ k)
-      why (room-refused T plan a u l x c) (small s k) e = no-room s T plan (sym k ∙ a) u l (turned-one (sym e ∙ x))
+      why (room-refused T plan a u l x c) (small s k) e = no-room s (is-table t (sym k ∙ a)) plan u l (turned-one (sym e ∙ x))
       why (built T plan a u m l x c) k e = clash (sym x ∙ e)
 
       as-read : tableBy by t ≡ refuse f → buildTold r ≡ turned f
@@ -129,9 +163,9 @@ module _ {by : By} {t room room′ : List ℕ} {r : BuildAnswer} where
       gets : BuildTurned by t room f → buildTold r ≡ turned f
       gets (no-figure l q) = as-read (by-figure by t l ∙ ap refuse (sym q))
       gets (no-table l a) = as-read (by-table by t l ∙ a)
-      gets (no-room s T plan a u l q) =
+      gets (no-room s i plan u l q) =
           let no = build-answer.Refused (record { reason = reason.Room; input = input.Lent; place = length (write plan) }) in
-          let short : BuiltInto by t room room no = room-refused T plan (by-table by t s ∙ a) u l refl refl in
+          let short : BuiltInto by t room room no = room-refused (table _ _) plan (by-table by t s ∙ reads i) u l refl refl in
           ap buildTold (build-fixed b short .0) ∙ ap turned (sym q)
 
   build-writes-nothing : BuiltInto by t room room′ r → (f : Refused) → buildTold r ≡ turned f → room′ ≡ room
@@ -139,73 +173,56 @@ module _ {by : By} {t room room′ : List ℕ} {r : BuildAnswer} where
   build-writes-nothing (room-refused T plan a u l x c) f e = c
   build-writes-nothing (built T plan a u m l x c) f e = clash (sym x ∙ e)
 
-  pub build-kept : BuiltInto by t room room′ r → Demand1Build by t room room′ r
+  pub build-kept : BuiltInto by t room room′ r → Demand1Build by t room room′ (buildTold r)
   build-kept b = record { refuses = build-is-turned b; untouched = build-writes-nothing b }
 
-is-built : (r : BuildAnswer) {n cost : ℕ} → buildTold r ≡ answered n cost → r ≡ build-answer.Built n cost
-is-built (build-answer.Built m c) e = cc
-is-built (build-answer.Refused f) e = clash (sym e)
+  builds : (w : ℕ) (rows : List (List ℕ)) → measureOf by .figure ≤ 15 → IsTable t w rows → 6082 ≤ length room → BuiltInto by t room room′ r
+      → (n : ℕ) × (cost : ℕ) × (buildTold r ≡ answered n cost)
+  builds w rows s i l (table-refused h a x c) = apart (sym (by-table by t s ∙ reads i) ∙ a)
+  builds w rows s i l (room-refused T plan a u z x c) =
+      let j = is-table t (sym (by-table by t s) ∙ a) in
+      absurd (omega (arith, size-bound plan (rows-fit (T .width) (T .rows) (j .each)) (j .count .0) (j .count .1)))
+  builds w rows s i l (built T plan a u m z x c) = (length (write plan), costBy by plan, x)
 
-builds : (b : By) {t room room′ : List ℕ} {r : BuildAnswer} (T : Table) → measureOf b .figure ≤ 15 → tableOf t ≡ read T → 6082 ≤ length room → BuiltInto b t room room′ r
-    → (n : ℕ) × (cost : ℕ) × (r ≡ build-answer.Built n cost)
-builds b {t} T s e l (table-refused h a x c) = apart (sym (by-table b t s ∙ e) ∙ a)
-builds b {t} T s e l (room-refused T′ plan a u w x c) =
-    let i = is-table t (sym (by-table b t s) ∙ a) in
-    absurd (omega (arith, size-bound plan (rows-fit (T′ .width) (T′ .rows) (i .each)) (i .count .0) (i .count .1)))
-builds b {r = r} T s e l (built T′ plan a u m w x c) = (length (write plan), costBy b plan, is-built r x)
+  least-of : (n cost : ℕ) → buildTold r ≡ answered n cost → BuiltInto by t room room′ r
+      → LeastBy by t (take n room′) cost × (drop n room′ ≡ drop n room)
+  least-of n cost q (table-refused h a x c) = clash (sym q ∙ x)
+  least-of n cost q (room-refused T plan a u z x c) = clash (sym q ∙ x)
+  least-of n cost q (built T plan a u m z x c) =
+      let k = answered-one (sym x ∙ q) in
+      let front = ap (take n) c ∙ take-at (write plan) (drop (length (write plan)) room) n (k .0) in
+      let i = is-table t (sym (by-table by t (by-read by t a)) ∙ a) in (
+        record {
+          width = T .width;
+          rows = T .rows;
+          is-table = i;
+          tree = plan;
+          written = sym front;
+          checked = rw front (tree-read i plan refl);
+          costs = k .1;
+          none-less = λ other. rw (← k .1) (m .none-less other);
+          rule = u;
+        },
+        ap (drop n) c ∙ drop-at (write plan) (drop (length (write plan)) room) n (k .0) ∙ ap (λ (j : ℕ). drop j room) (k .0),
+      )
 
-with-answer : (b : By) {t room room′ : List ℕ} {r : BuildAnswer} → BuiltInto b t room room′ r → (n cost : ℕ) → r ≡ build-answer.Built n cost
-    → BuiltInto b t room room′ (build-answer.Built n cost)
-with-answer b {t} {room} {room′} x n cost q = subst (BuiltInto b t room room′) q x
-
-pub least-built : {by : By} {t room room′ : List ℕ} {r : BuildAnswer} → BuiltInto by t room room′ r → Demand3Build by t room room′ r
-least-built {by} x = record {
-  builds = λ T s e l. builds by T s e l x;
-  least = λ n cost q. (let l = built-least by (with-answer by x n cost q) in
-      record { table = l .table; is-read = l .is-read; tree = l .plan; written = l .written; checked = l .checked; costs = l .costs; none-less = l .none-less });
-}
-
-pub fewest-built : {t room room′ : List ℕ} {r : BuildAnswer} → BuiltInto Branches t room room′ r → Demand3Fewest t room room′ r
-fewest-built x = record {
-  accepted = λ n cost q. built-accepted (with-answer Branches x n cost q) .accepts;
-  fewest = λ n cost q. built-accepted (with-answer Branches x n cost q) .none-fewer;
-}
-
--- The check.
-
-says-read : (x : Read ℕ) (b : ℕ) → planSays x ≡ answered b 0 → x ≡ read b
-says-read (read c) b q = let s : c ≡ b = cc in ap read s
-says-read (refuse f) b q = clash (sym q)
-
-module _ (t p : List ℕ) (T : Table) (e : tableOf t ≡ read T) where
-  -- cells that the check accepts are written by one plan
-  writes : (b : ℕ) → planOf t p ≡ read b → Writes T p b
-  writes b k =
-      let a = accepted-one T (is-table t e) p b .0 (rw e at k) in
-      record { tree = a .0; cells = a .1; count = a .2; only = a .3 }
-
-  written : (b : ℕ) → Writes T p b → planOf t p ≡ read b
-  written b w = rw e (accepted-one T (is-table t e) p b .1 (w .tree, w .cells, w .count, w .only))
-
-  pub check-accepts : (r : PlanAnswer) → planTold r ≡ planSays (planOf t p) → (b : ℕ) → (r ≡ plan-answer.Accepted b) ↔ Writes T p b
-  check-accepts r says b = (
-    λ q. writes b (says-read (planOf t p) b (sym says ∙ ap planTold q)),
-    λ w. plan-fixed t p says (sym (ap planSays (written b w))),
-  )
+  pub least-built : BuiltInto by t room room′ r → Demand3Build by t room room′ (buildTold r)
+  least-built x = record {
+    builds = λ w rows s i l. builds w rows s i l x;
+    least = λ n cost q. least-of n cost q x .0;
+    rest = λ n cost q. least-of n cost q x .1;
+  }
 
 -- A run.
-
--- a plan of a table that is read
-with-table : (t p : List ℕ) {T : Table} {x : Read ℕ} → tableOf t ≡ read T → planFor T p ≡ x → planOf t p ≡ x
-with-table t p d k = rw d k
 
 module _ {t p g room : List ℕ} {f : Refused} where
   -- what turns it away gives its refusal
   turns : RunTurned t p g room f → runOf t p g room ≡ refuse f
   turns (bad-table d) = run-table t p g room d
-  turns (bad-plan T d k) = run-plan t p g room d (with-table t p d k)
-  turns (bad-goal T b d k m) = run-goal t p g room d (with-table t p d k) m
-  turns (bad-room T b v d k m l q) = run-room t p g room d (with-table t p d k) m l ∙ ap refuse (sym q)
+  turns (bad-plan i k) = run-plan t p g room (reads i) k
+  turns (bad-goal i tree k m) = run-goal t p g room (reads i) (tree-read i tree k) m
+  turns (bad-room {width = w} i tree k m l q) =
+      run-room t p g room (reads i) (tree-read i tree k) (goal-accepted w g .1 m .1) l ∙ ap refuse (sym q)
 
   -- and what is refused was turned away by the first of the four that is bad
   turned-by : runOf t p g room ≡ refuse f → RunTurned t p g room f
@@ -214,28 +231,30 @@ module _ {t p g room : List ℕ} {f : Refused} where
       same : {h : Refused} → runOf t p g room ≡ refuse h → h ≡ f
       same a = refuse-one (sym a ∙ e)
 
-      by-room : (T : Table) (b v : ℕ) → tableOf t ≡ read T → planFor T p ≡ read b → goalOf (T .width) g ≡ read v → (full : Bool)
+      by-room : (T : Table) (b v : ℕ) → tableOf t ≡ read T → planOf t p ≡ read b → goalOf (T .width) g ≡ read v → (full : Bool)
           → ltb (length room) (length (T .rows)) ≡ full → RunTurned t p g room f
       by-room T b v d k m true l =
           let less = ltb-true (length room) (length (T .rows)) l in
-          bad-room T b v d k m less (sym (same (run-room t p g room d (with-table t p d k) m less)))
+          let x = writes t p (is-table t d) b k in
+          bad-room (is-table t d) (x .tree) (x .cells) (goal-accepted (T .width) g .0 (v, m)) less (sym (same (run-room t p g room d k m less)))
       by-room T b v d k m false l =
           let enough = ltb-false (length room) (length (T .rows)) l in
-          let all : Takes t p g room T =
-          record { table = d; branches = b; plan = with-table t p d k; variables = v; goal = m; room-for = enough } in
+          let all : Takes t p g room T = record { table = d; branches = b; plan = k; variables = v; goal = m; room-for = enough } in
           apart (sym (takes-run all) ∙ e)
 
-      by-goal : (T : Table) (b : ℕ) → tableOf t ≡ read T → planFor T p ≡ read b → (x : Read ℕ) → goalOf (T .width) g ≡ x
+      by-goal : (T : Table) (b : ℕ) → tableOf t ≡ read T → planOf t p ≡ read b → (x : Read ℕ) → goalOf (T .width) g ≡ x
           → RunTurned t p g room f
       by-goal T b d k (read v) m = by-room T b v d k m (ltb (length room) (length (T .rows))) refl
-      by-goal T b d k (refuse h) m = bad-goal T b d k (m ∙ ap refuse (same (run-goal t p g room d (with-table t p d k) m)))
+      by-goal T b d k (refuse h) m =
+          let x = writes t p (is-table t d) b k in
+          bad-goal (is-table t d) (x .tree) (x .cells) (m ∙ ap refuse (same (run-goal t p g room d k m)))
 
-      by-plan : (T : Table) → tableOf t ≡ read T → (x : Read ℕ) → planFor T p ≡ x → RunTurned t p g room f
+      by-plan : (T : Table) → tableOf t ≡ read T → (x : Read ℕ) → planOf t p ≡ x → RunTurned t p g room f
       by-plan T d (read b) k = by-goal T b d k (goalOf (T .width) g) refl
-      by-plan T d (refuse h) k = bad-plan T d (k ∙ ap refuse (same (run-plan t p g room d (with-table t p d k))))
+      by-plan T d (refuse h) k = bad-plan (is-table t d) (k ∙ ap refuse (same (run-plan t p g room d k)))
 
       by-table : (x : Read Table) → tableOf t ≡ x → RunTurned t p g room f
-      by-table (read T) d = by-plan T d (planFor T p) refl
+      by-table (read T) d = by-plan T d (planOf t p) refl
       by-table (refuse h) d = bad-table (d ∙ ap refuse (same (run-table t p g room d)))
 
 -- the rows in words: each of the table's rows that unifies and no other number, ascending
@@ -269,29 +288,24 @@ module _ {t p g room room′ : List ℕ} {r : RunAnswer} where
   run-writes-nothing (refusal h a x c) f e = c
   run-writes-nothing (ran T tree found n a w v u x c) f e = clash (sym x ∙ e)
 
-  pub run-kept : Ran t p g room room′ r → Demand1Run t p g room room′ r
+  pub run-kept : Ran t p g room room′ r → Demand1Run t p g room room′ (runTold r)
   run-kept b = record { refuses = run-is-turned b; untouched = run-writes-nothing b }
 
   -- with any tree that writes the plan's cells
-  pub run-answers : (T : Table) (tree : Plan (T .width) (T .rows)) → tableOf t ≡ read T → write tree ≡ p → IsGoal (T .width) g
-      → length (T .rows) ≤ length room → Ran t p g room room′ r → Answers T tree g room room′ r
-  run-answers T tree e w i l b = go b
+  pub run-answers : Ran t p g room room′ r → Demand2 t p g room room′ (runTold r)
+  run-answers b w rows tree i e m l = go b
     where
-      read-plan : planOf t p ≡ read (branches tree)
-      read-plan =
-          written t p T e (branches tree)
-          (record { tree = tree; cells = w; count = refl; only = λ q v. write-one q tree (v ∙ sym w) })
-
-      takes : runOf t p g room ≡ read T
+      takes : runOf t p g room ≡ read (table w rows)
       takes =
-          let v = goal-accepted (T .width) g .1 i in
-          takes-run (record { table = e; branches = branches tree; plan = read-plan; variables = v .0; goal = v .1; room-for = l })
+          let v = goal-accepted w g .1 m in
+          takes-run
+          (record { table = reads i; branches = branches tree; plan = tree-read i tree e; variables = v .0; goal = v .1; room-for = l })
 
-      go : Ran t p g room room′ r → Answers T tree g room room′ r
+      go : Ran t p g room room′ r → Answers tree g room room′ (runTold r)
       go (refusal f a x c) = apart (sym takes ∙ a)
-      go (ran T′ tree′ found n a d v u x c) =
-          let q : T′ ≡ T = read-one (sym a ∙ takes) in
-          let s = skeletons-one (ap (λ (y : Table). y .width) q) (ap (λ (y : Table). y .rows) q) tree′ tree (sym d ∙ sym w) in
+      go (ran T tree′ found n a d v u x c) =
+          let q : T ≡ table w rows = read-one (sym a ∙ takes) in
+          let s = skeletons-one (ap (λ (y : Table). y .width) q) (ap (λ (y : Table). y .rows) q) tree′ tree (sym d ∙ sym e) in
           let rows = rows-reported g (subst (λ (y : Table). Picks (λ (row : List ℕ). Matches row g) (y .rows) 0 found) q v) in
           record {
             found = found;
@@ -304,10 +318,8 @@ module _ {t p g room room′ : List ℕ} {r : RunAnswer} where
           }
 
   -- and so with any cells that the check accepts
-  pub any-plan-answers : (T : Table) (b : ℕ) → tableOf t ≡ read T → planOf t p ≡ read b → IsGoal (T .width) g
-      → length (T .rows) ≤ length room
-      → Ran t p g room room′ r → (w : Writes T p b) × Answers T (w .tree) g room room′ r
-  any-plan-answers T b e k i l x = let w = writes t p T e b k in (w, run-answers T (w .tree) e (w .cells) i l x)
+  pub any-plan-answers : Ran t p g room room′ r → Demand3Run t p g room room′ (runTold r)
+  any-plan-answers x w rows b i k m l = let z = writes t p i b k in (z, run-answers x w rows (z .tree) i (z .cells) m l)
 
 -- The goal of distinct variables.
 
@@ -330,10 +342,12 @@ variables-goal w h l =
     goal-accepted w (upFrom 0 w) .0 (0 + w, rw (bounds, variables-read w 0 0 0 (omega arith), whole))
 
 -- its run answers, and every branch is tried
-pub tries-all : {t p room room′ : List ℕ} {r : RunAnswer} (T : Table) (b : ℕ) → tableOf t ≡ read T → planOf t p ≡ read b
-    → length (T .rows) ≤ length room
-    → Ran t p (upFrom 0 (T .width)) room room′ r → (h : ℕ) × (runTold r ≡ answered h b)
-tries-all {t} T b e k l x =
-    let w = is-table t e .width in
-    let a = any-plan-answers T b e k (variables-goal (T .width) (w .0) (w .1)) l x .1 in
-    (length (a .found), a .told ∙ ap (answered (length (a .found))) (tries-every e k x (a .told)))
+tries-all : {t p g room room′ : List ℕ} {r : RunAnswer} → Ran t p g room room′ r → (w : ℕ) (rows : List (List ℕ)) (b : ℕ) → IsTable t w rows
+    → planOf t p ≡ read b → length rows ≤ length room → g ≡ upFrom 0 w → (h : ℕ) × (runTold r ≡ answered h b)
+tries-all {t} {p} {room = room} {room′} {r} x w rows b i k l e =
+    let y = subst (λ (goal : List ℕ). Ran t p goal room room′ r) e x in
+    let a = any-plan-answers y w rows b i k (variables-goal w (i .width .0) (i .width .1)) l .1 in
+    (length (a .found), a .told ∙ ap (answered (length (a .found))) (tries-every (reads i) k y (a .told)))
+
+pub tried-few : {t p g room room′ : List ℕ} {r : RunAnswer} → Ran t p g room room′ r → TriedFew t p g room (runTold r)
+tried-few x = record { bound = λ b h n k q. tries-at-most k x q; variables = tries-all x }

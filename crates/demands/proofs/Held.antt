@@ -1,18 +1,16 @@
 -- "How closely it is held" (document 01), sentence by sentence, of what the entries promise. The promises are listed in proofs/Demands.
-use Prim.Native.Nat.{ℕ, _≤_}
+use Prim.Native.Nat.{ℕ}
 use mathlib.Core.Path.{_≡_}
 use mathlib.Core.List.{List}
-use lib.ListN.{length}
-use Rattle.refusal.specs.Refusal.{Answer, answered}
-use Rattle.refusal.specs.Coded.{coded, Small, decoded}
-use Rattle.refusal.specs.Read.{read}
+use Rattle.refusal.specs.Refusal.{Answer}
+use Rattle.refusal.specs.Coded.{coded, Small}
 use Rattle.refusal.proofs.CodedLaws.{coded-one}
 use Rattle.table.specs.declared.TableRead.{TableRead}
 use Rattle.table.specs.declared.GoalAnswer.{GoalAnswer}
 use Rattle.table.specs.declared.RowAnswer.{RowAnswer}
 use Rattle.table.specs.declared.Part.{Part}
-use Rattle.table.specs.Table.{Table, tableOf, tableSays, goalOf, goalWith, goalTold, goalSays, rowOf, rowTold}
-use Rattle.table.specs.Table.{TableReads, rowIn, RowPlace, upFrom}
+use Rattle.table.specs.Table.{Table, tableOf, goalOf, goalWith, goalTold, goalSays, rowOf, rowTold}
+use Rattle.table.specs.Table.{TableReads, rowIn, RowPlace}
 use Rattle.table.proofs.Fixed.{table-fixed, goal-for-fixed, goal-fixed, row-beside-fixed, place-fixed, row-fixed}
 use Rattle.plan.specs.Check.{planOf}
 use Rattle.checker.specs.declared.PlanAnswer.{PlanAnswer}
@@ -25,12 +23,11 @@ use Rattle.builder.specs.declared.BuildAnswer.{BuildAnswer}
 use Rattle.least.specs.declared.By.{By}
 use Rattle.record.specs.Record.{Holds}
 use Rattle.record.specs.Edits.{Edit}
-use Rattle.builder.specs.Build.{BuiltInto, buildTold}
+use Rattle.builder.specs.Build.{BuiltInto}
 use Rattle.builder.proofs.Fixed.{build-fixed}
 use Rattle.answer.specs.declared.RunAnswer.{RunAnswer}
-use Rattle.answer.specs.Run.{runTold, Ran}
+use Rattle.answer.specs.Run.{Ran}
 use Rattle.answer.proofs.Fixed.{run-fixed}
-use Rattle.answer.proofs.Theorems.{tries-at-most}
 use Rattle.printing.specs.Printing.{Written}
 use Rattle.listing.specs.Listing.{Lists}
 use Rattle.listing.proofs.Fixed.{written-one}
@@ -40,16 +37,14 @@ use Rattle.loading.specs.Load.{TextLoads}
 use Rattle.prolog.specs.Entry.{textTold}
 use Rattle.prolog.specs.declared.TextAnswer.{TextAnswer}
 use Rattle.prolog.proofs.Fixed.{read-text-fixed}
-use Rattle.exports.specs.Coded.{rowSays, WorkCoded, EditSays, EditCoded, BuildSays, BuildCoded, RunCoded, TextCoded, JobsCoded, RepliesCoded}
+use Rattle.exports.specs.Coded.{WorkCoded, EditCoded, BuildCoded, RunCoded, TextCoded, JobsCoded, RepliesCoded}
 use Rattle.exports.proofs.Fixed.{work-coded-fixed, edit-coded-fixed, build-coded-fixed, run-coded-fixed, text-coded-fixed, jobs-coded-fixed, replies-coded-fixed}
-use Rattle.exports.proofs.Back.{table-back, goal-back, row-back, plan-back, work-back, edit-back, build-back, run-back, text-back, jobs-back, replies-back}
 use Rattle.answer.specs.declared.Job.{Job}
 use Rattle.answer.specs.Jobs.{JobsRun}
 use Rattle.run.proofs.Fixed.{run-jobs-fixed}
 use Rattle.instance.specs.declared.RepliesAnswer.{RepliesAnswer}
-use Rattle.instance.specs.Replied.{repliesTold, Replied}
+use Rattle.instance.specs.Replied.{Replied}
 use Rattle.instance.proofs.Fixed.{replied-fixed}
-use Rattle.demands.proofs.Cited.{tries-all}
 
 -- "For all inputs, refused ones too, the promise of a public function determines the result and the final contents of the lent room; the
 -- team proves that two results allowed by it are equal". The small functions of cell, term, goal and state have theirs in proofs/Fixed of
@@ -140,43 +135,10 @@ pub held-exported-replies : {t p g room room′ room″ : List ℕ} {r s : ℕ} 
     → (r ≡ s) × (room′ ≡ room″)
 held-exported-replies = replies-coded-fixed
 
--- The number that an exported entry answers tells its answer: two answers with one code are equal, and the header's masks and shifts
--- (`decoded`) read back what was answered.
+-- The number that an exported entry answers tells its answer: two answers with one code are equal. That the header's masks and shifts
+-- (`decoded`) read back what was answered is in every theorem of proofs/Demands, of each entry by crate exports, proofs/Back.
 pub held-code : {a b : Answer} → Small a → Small b → coded a ≡ coded b → a ≡ b
 held-code = coded-one
-
-pub back-table : (t : List ℕ) {n : ℕ} → n ≡ coded (tableSays (tableOf t)) → decoded n ≡ tableSays (tableOf t)
-back-table = table-back
-
-pub back-goal : (t g : List ℕ) {n : ℕ} → n ≡ coded (goalSays g (goalWith t g)) → decoded n ≡ goalSays g (goalWith t g)
-back-goal = goal-back
-
-pub back-row : (t : List ℕ) (r : ℕ) {n : ℕ} → n ≡ coded (rowSays (tableOf t) r) → decoded n ≡ rowSays (tableOf t) r
-back-row = row-back
-
-pub back-check : (t p : List ℕ) {n : ℕ} → n ≡ coded (planSays (planOf t p)) → decoded n ≡ planSays (planOf t p)
-back-check = plan-back
-
-pub back-work-out : {figure : ℕ} {cells rec rec′ : List ℕ} {n : ℕ} (x : WorkCoded figure cells rec rec′ n) → decoded n ≡ x .told
-back-work-out = work-back
-
-pub back-edit : {e : Edit} {figure : ℕ} {T : Table} {rec rec′ : List ℕ} {n : ℕ} (x : EditSays e figure T rec rec′ n) → decoded n ≡ x .told
-back-edit = edit-back
-
-pub back-build : {figure : ℕ} {T : Table} {room room′ : List ℕ} {n : ℕ} (x : BuildSays figure T room room′ n) → decoded n ≡ buildTold (x .answer)
-back-build = build-back
-
-pub back-run : {t p g room room′ : List ℕ} {n : ℕ} (x : RunCoded t p g room room′ n) → decoded n ≡ runTold (x .answer)
-back-run = run-back
-
-pub back-text : {t cells names cells′ names′ : List ℕ} {n : ℕ} (x : TextCoded t cells names cells′ names′ n) → decoded n ≡ x .answer
-back-text = text-back
-
-pub back-jobs : {t p cells : List ℕ} {jobs jobs′ : List Job} {n : ℕ} (x : JobsCoded t p cells jobs jobs′ n) → decoded n ≡ x .told
-back-jobs = jobs-back
-
-pub back-replies : {t p g room room′ : List ℕ} {n : ℕ} (x : RepliesCoded t p g room room′ n) → decoded n ≡ repliesTold (x .answer)
-back-replies = replies-back
 
 -- "None is public unless its result is promised": docs/PROMISES.md lists every public function with its promise.
 
@@ -184,16 +146,5 @@ back-replies = replies-back
 -- "an entry that refuses everything": what 01 calls a table, a goal or a plan is accepted: `accepts` of Demand1Table and Demand1Goal,
 -- demand-3-check, `builds` of Demand3Build, demand-2. "a run that names row 0 or no row always, or writes nothing", "a run that walks to
 -- the first leaf and invents the rest": demand-2, for every row. "a tried count or cost made up": the count is `branches` of demand-2, the
--- cost that of demand-3-build. 01, "A run": "That number never exceeds the plan's cost, and equals it for the goal of distinct variables",
--- where the cost is the number of branches, which the check answers. 02, W-204: "bounded by the plan's branch count, not by its cost". By
--- the work of W-204 one row (v0) has a plan of cost 0 with one branch (least/proofs/WorkExamples), and tried-open tries it
-pub tried-bound : {t p g room room′ : List ℕ} {r : RunAnswer} {b h n : ℕ} → planOf t p ≡ read b → Ran t p g room room′ r
-    → runTold r ≡ answered h n
-    → n ≤ b
-tried-bound = tries-at-most
-
-pub tried-open : {t p room room′ : List ℕ} {r : RunAnswer} (T : Table) (b : ℕ) → tableOf t ≡ read T → planOf t p ≡ read b
-    → length (T .rows) ≤ length room → Ran t p (upFrom 0 (T .width)) room room′ r → (h : ℕ) × (runTold r ≡ answered h b)
-tried-open = tries-all
-
--- "A check that accepts only the builder's own plan breaks demand 3": demand-3-check accepts what any plan writes.
+-- cost that of `builds-from`. By the work of W-204 one row (v0) has a plan of cost 0 with one branch (least/proofs/WorkExamples), and `variables`
+-- of demand-2-tried tries it. "A check that accepts only the builder's own plan breaks demand 3": demand-3-check accepts what any plan writes.

@@ -7,3 +7,4 @@ pub mod Shift
 pub mod Numbers
 pub mod Records
 pub mod Asking
+pub mod Listing

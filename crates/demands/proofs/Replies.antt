@@ -1,4 +1,4 @@
--- W-203 of what the entry promises: `Replied t p g room room′ r` for replies::replies. The statements are in specs/Replies.
+-- W-203 of what the entry promises: `RepliesCoded t p g room room′ n`. The statements are in specs/Replies.
 use Prim.Native.Nat.{ℕ, suc, _≤_, _<_}
 use mathlib.Core.Path.{_≡_, refl, sym, _∙_, ap, subst}
 use mathlib.Core.Logic.{_↔_}
@@ -10,7 +10,7 @@ use Rattle.refusal.specs.Refusal.{Refused, refused, answered, turned}
 use Rattle.refusal.specs.declared.Reason.the-variants as reason
 use Rattle.refusal.specs.declared.Input.the-variants as input
 use Rattle.refusal.specs.Read.{Read, read, refuse, andThen}
-use Rattle.table.specs.Table.{Table, tableOf, goalOf, Row, IsGoal}
+use Rattle.table.specs.Table.{Table, table, tableOf, goalOf, Row, IsGoal}
 use Rattle.table.proofs.ReadLaws.{apart, read-one, refuse-one, first}
 use Rattle.table.proofs.Accepted.{is-table, goal-accepted}
 use Rattle.plan.specs.Check.{planOf}
@@ -27,8 +27,11 @@ use Rattle.instance.proofs.Variants.{reply-one, replies-one}
 use Rattle.instance.proofs.StartLaws.{head-below}
 use Rattle.instance.proofs.RepliesLaws.{replies-take}
 use Rattle.instance.proofs.RoomLaws.{replies-few, replies-each}
+use Rattle.refusal.specs.Coded.{decoded}
+use Rattle.exports.specs.Coded.{RunCoded, RepliesCoded}
+use Rattle.exports.proofs.Back.{run-back, replies-back}
 use Rattle.demands.specs.Replies.{RepliesTurned, bad-table, bad-plan, bad-goal, bad-room, RepliesRefused, Said, Says}
-use Rattle.demands.proofs.Cited.{clash, turned-one}
+use Rattle.demands.proofs.Cited.{clash, turned-one, answered-one, reads, writes, tree-read}
 
 -- what turns the entry away before the room
 asked-turned : {t p g room : List ℕ} {f : Refused} → repliesOf t p g ≡ refuse f → RepliesTurned t p g room f
@@ -38,12 +41,14 @@ asked-turned {t} {p} {g} {room} {f} = go (tableOf t) refl
     in-goal : (T : Table) (b : ℕ) → tableOf t ≡ read T → planOf t p ≡ read b → (x : Read ℕ) → goalOf (T .width) g ≡ x
         → andThen x (λ (v : ℕ). read T) ≡ refuse f → RepliesTurned t p g room f
     in-goal T b e h (read v) k q = apart q
-    in-goal T b e h (refuse z) k q = bad-goal T b e h (k ∙ ap refuse (refuse-one q))
+    in-goal T b e h (refuse z) k q =
+        let x = writes t p (is-table t e) b h in
+        bad-goal (is-table t e) (x .tree) (x .cells) (k ∙ ap refuse (refuse-one q))
 
     in-plan : (T : Table) → tableOf t ≡ read T → (x : Read ℕ) → planOf t p ≡ x
         → andThen x (λ (b : ℕ). andThen (goalOf (T .width) g) (λ (v : ℕ). read T)) ≡ refuse f → RepliesTurned t p g room f
     in-plan T e (read b) k q = in-goal T b e k (goalOf (T .width) g) refl q
-    in-plan T e (refuse z) k q = bad-plan T e (k ∙ ap refuse (refuse-one q))
+    in-plan T e (refuse z) k q = bad-plan (is-table t e) (k ∙ ap refuse (refuse-one q))
 
     go : (x : Read Table) → tableOf t ≡ x
         → andThen x (λ (T : Table). andThen (planOf t p) (λ (b : ℕ). andThen (goalOf (T .width) g) (λ (v : ℕ). read T))) ≡ refuse f
@@ -95,7 +100,10 @@ module _ {t p g room room′ : List ℕ} {r : RepliesAnswer} where
       let z = first (planOf t p) _ (y .2) in
       let k = first (goalOf (y .0 .width) g) _ (z .2) in
       let q : y .0 ≡ T = read-one (k .2) in
-      bad-room T (z .0) (k .0) all (y .1 ∙ ap read q) (z .1) (ap (λ (X : Table). goalOf (X .width) g) (sym q) ∙ k .1) w l (sym (turned-one (sym x ∙ e)))
+      let i = is-table t (y .1 ∙ ap read q) in
+      let s = writes t p i (z .0) (z .1) in
+      let is-goal = goal-accepted (T .width) g .0 (k .0, ap (λ (X : Table). goalOf (X .width) g) (sym q) ∙ k .1) in
+      bad-room all i (s .tree) (s .cells) is-goal w l (sym (turned-one (sym x ∙ e)))
   turned-why (replied T all a w l x c) f e = clash (sym x ∙ e)
 
   -- as it is asked, so it is answered
@@ -115,47 +123,52 @@ module _ {t p g room room′ : List ℕ} {r : RepliesAnswer} where
 
   turned-gets : Replied t p g room room′ r → (f : Refused) → RepliesTurned t p g room f → repliesTold r ≡ turned f
   turned-gets x f (bad-table e) = as-refused (asked-table t p g e) x
-  turned-gets x f (bad-plan T e h) = as-refused (asked-plan t p g e h) x
-  turned-gets x f (bad-goal T b e h k) = as-refused (asked-goal t p g e h k) x
-  turned-gets x f (bad-room T b v all e h k w l q) = as-full T all (asked-read t p g e h k) w l x ∙ ap turned (sym q)
+  turned-gets x f (bad-plan i h) = as-refused (asked-plan t p g (reads i) h) x
+  turned-gets x f (bad-goal i tree h k) = as-refused (asked-goal t p g (reads i) (tree-read i tree h) k) x
+  turned-gets x f (bad-room {width = n} {rows} all i tree h k w l q) =
+      as-full (table n rows) all (asked-read t p g (reads i) (tree-read i tree h) (goal-accepted n g .1 k .1)) w l x ∙ ap turned (sym q)
 
   untouched-by : Replied t p g room room′ r → (f : Refused) → repliesTold r ≡ turned f → room′ ≡ room
   untouched-by (refusal h a x c) f e = c
   untouched-by (no-room T all a w l x c) f e = c
   untouched-by (replied T all a w l x c) f e = clash (sym x ∙ e)
 
-  pub request-203-refuses : Replied t p g room room′ r → RepliesRefused t p g room room′ r
-  request-203-refuses x = record { refuses = λ f. (turned-why x f, turned-gets x f); untouched = untouched-by x }
+  refuses-kept : Replied t p g room room′ r → RepliesRefused t p g room room′ (repliesTold r)
+  refuses-kept x = record { refuses = λ f. (turned-why x f, turned-gets x f); untouched = untouched-by x }
 
-  pub request-203-says : Replied t p g room room′ r → Says t p g room room′ r
-  request-203-says x T b e h i = go x
+  says-kept : Replied t p g room room′ r → Says t p g room room′ (repliesTold r)
+  says-kept x width rows tree i h m = go x
     where
-      v : (n : ℕ) × (goalOf (T .width) g ≡ read n)
-      v = goal-accepted (T .width) g .1 i
+      asked : repliesOf t p g ≡ read (table width rows)
+      asked = asked-read t p g (reads i) (tree-read i tree h) (goal-accepted width g .1 m .1)
 
-      asked : repliesOf t p g ≡ read T
-      asked = asked-read t p g e h (v .1)
-
-      with-replies : {all : List (List ℕ)} → Replies g (T .rows) all
+      with-replies : {all : List (List ℕ)} → Replies g rows all
           → (length (flatten all) ≤ length room → repliesTold r ≡ answered (length all) (length (flatten all)))
-          → (length (flatten all) ≤ length room → room′ ≡ flatten all ++ drop (length (flatten all)) room) → Said T g room room′ r
+          → (length (flatten all) ≤ length room → room′ ≡ flatten all ++ drop (length (flatten all)) room)
+          → Said rows g room room′ (repliesTold r)
       with-replies {all} w f k =
-          let j = is-table t e in
           record {
             all = all;
             each = w;
             fixed = λ others o. replies-one o w;
             told = f;
             wrote = k;
-            small = replies-each i (j .width .0) (j .each) w;
-            enough = replies-few i (j .width .0) (j .each) w .1;
+            small = replies-each m (i .width .0) (i .each) w;
+            enough = replies-few m (i .width .0) (i .each) w .1;
           }
 
-      go : Replied t p g room room′ r → Said T g room room′ r
+      go : Replied t p g room room′ r → Said rows g room room′ (repliesTold r)
       go (refusal z a y c) = apart (sym asked ∙ a)
-      go (no-room T′ all a w l y c) =
-          with-replies (rows-of t p g a asked w) (λ m. absurd (let z : ⊥ = omega arith in z)) (λ m. absurd (let z : ⊥ = omega arith in z))
-      go (replied T′ all a w l y c) = with-replies (rows-of t p g a asked w) (λ m. y) (λ m. c)
+      go (no-room T all a w l y c) =
+          with-replies (rows-of t p g a asked w) (λ n. absurd (let z : ⊥ = omega arith in z)) (λ n. absurd (let z : ⊥ = omega arith in z))
+      go (replied T all a w l y c) = with-replies (rows-of t p g a asked w) (λ n. y) (λ n. c)
+
+module _ {t p g room room′ : List ℕ} {n : ℕ} (x : RepliesCoded t p g room room′ n) where
+  pub request-203-refuses : RepliesRefused t p g room room′ (decoded n)
+  request-203-refuses = subst (RepliesRefused t p g room room′) (sym (replies-back x)) (refuses-kept (x .replied))
+
+  pub request-203-says : Says t p g room room′ (decoded n)
+  request-203-says = subst (Says t p g room room′) (sym (replies-back x)) (says-kept (x .replied))
 
 -- "fixed as cells": a row and a goal have one reply
 pub request-203-fixed : {row goal xs ys : List ℕ} → Reply row goal xs → Reply row goal ys → xs ≡ ys
@@ -174,18 +187,19 @@ replies-many (runs.hit m p) (miss k a) = absurd (k m)
 replies-many (runs.miss m p) (hit k r a) = absurd (m k)
 replies-many (runs.miss m p) (miss k a) = replies-many p a
 
-pub request-203-hits : {t p g bytes bytes′ room room′ : List ℕ} {a : RunAnswer} {r : RepliesAnswer} → Ran t p g bytes bytes′ a
+many-hits : {t p g bytes bytes′ room room′ : List ℕ} {a : RunAnswer} {r : RepliesAnswer} → Ran t p g bytes bytes′ a
     → Replied t p g room room′ r → (h n k m : ℕ) → runTold a ≡ answered h n → repliesTold r ≡ answered k m → h ≡ k
-request-203-hits (runs.refusal f e x c) y h n k m q s = clash (sym q ∙ x)
-request-203-hits (runs.ran T tree found n′ e w x u y c) (refusal f e′ y′ c′) h n k m q s = clash (sym s ∙ y′)
-request-203-hits (runs.ran T tree found n′ e w x u y c) (no-room T′ all e′ w′ l y′ c′) h n k m q s = clash (sym s ∙ y′)
-request-203-hits {t} {p} {g} (runs.ran T tree found n′ e w x u y c) (replied T′ all e′ w′ l y′ c′) h n k m q s =
+many-hits (runs.refusal f e x c) y h n k m q s = clash (sym q ∙ x)
+many-hits (runs.ran T tree found n′ e w x u y c) (refusal f e′ y′ c′) h n k m q s = clash (sym s ∙ y′)
+many-hits (runs.ran T tree found n′ e w x u y c) (no-room T′ all e′ w′ l y′ c′) h n k m q s = clash (sym s ∙ y′)
+many-hits {t} {p} {g} (runs.ran T tree found n′ e w x u y c) (replied T′ all e′ w′ l y′ c′) h n k m q s =
     let i = run-takes e .table in
     let j = replies-take t p g e′ .0 in
     let z = ap (λ (X : Table). X .rows) (read-one (sym j ∙ i)) in
-    let a : h ≡ length found = first-one (sym q ∙ y) in
-    let b : k ≡ length all = first-one (sym s ∙ y′) in
+    let a = answered-one (sym q ∙ y) .0 in
+    let b = answered-one (sym s ∙ y′) .0 in
     a ∙ replies-many x (subst (λ (rows : List (List ℕ)). Replies g rows all) z w′) ∙ sym b
-  where
-    first-one : {a b c d : ℕ} → answered a b ≡ answered c d → a ≡ c
-    first-one e = cc
+
+pub request-203-hits : {t p g bytes bytes′ room room′ : List ℕ} {a r : ℕ} → RunCoded t p g bytes bytes′ a → RepliesCoded t p g room room′ r
+    → (h n k m : ℕ) → decoded a ≡ answered h n → decoded r ≡ answered k m → h ≡ k
+request-203-hits x y h n k m q s = many-hits (x .ran) (y .replied) h n k m (sym (run-back x) ∙ q) (sym (replies-back y) ∙ s)

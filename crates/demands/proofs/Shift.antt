@@ -1,21 +1,18 @@
--- W-202 (specs/Shift), proved of the promise of `run_jobs`, which is `JobsRun t p cells jobs jobs′ (planTold r)`.
+-- W-202 (specs/Shift), proved of what the entry promises: `JobsRun t p cells jobs jobs′ answer`.
 use Prim.Native.Nat.{ℕ, _≤_, _<_}
 use mathlib.Core.Path.{_≡_, refl, sym, _∙_, ap, subst}
+use mathlib.Core.Logic.{_↔_}
 use mathlib.Core.List.{List, [], _∷_, List·Memᴰ, List·Memᴰ·head, List·Memᴰ·tail}
 use native.Mathlib.Omega.{arith}
 use lib.ListN.{length, drop, replicate, length-replicate}
-use Rattle.refusal.specs.Refusal.{Refused, turned}
-use Rattle.refusal.specs.Read.{read, refuse}
+use Rattle.refusal.specs.Refusal.{Refused, Answer, turned}
+use Rattle.refusal.specs.Read.{refuse}
 use Rattle.table.specs.All.{All}
-use Rattle.table.specs.Table.{Table, tableOf, goalOf, IsGoal}
-use Rattle.table.proofs.Accepted.{is-table}
+use Rattle.table.specs.Table.{Table, goalOf, IsTable, IsGoal}
 use Rattle.table.proofs.ReadLaws.{apart, read-one}
-use Rattle.plan.specs.Plans.{Plan, write, branches}
-use Rattle.plan.specs.Check.{planFor, planOf}
-use Rattle.plan.proofs.PlansLaws.{write-one}
-use Rattle.plan.proofs.CheckLaws.{accepted-one}
-use Rattle.checker.specs.declared.PlanAnswer.{PlanAnswer}
-use Rattle.checker.specs.Checked.{planTold, planSays}
+use Rattle.plan.specs.Plans.{Plan, write}
+use Rattle.plan.specs.Check.{planOf}
+use Rattle.checker.specs.Checked.{planSays}
 use Rattle.answer.specs.declared.Job.{Job}
 use Rattle.answer.specs.declared.RunAnswer.{RunAnswer}
 use Rattle.answer.specs.declared.RunAnswer.the-variants as run-answer
@@ -27,7 +24,7 @@ use Rattle.answer.proofs.JobsLaws.{each-map, Enough, any-room, enough-64, enter
 use Rattle.run.proofs.Fixed.{jobs-told}
 use Rattle.demands.specs.Demands.{bad-goal}
 use Rattle.demands.specs.Shift.{Holds, JobAnswered, OneJob, Shift}
-use Rattle.demands.proofs.Cited.{plan-kept, run-kept, run-answers}
+use Rattle.demands.proofs.Cited.{reads, tree-read, plan-kept, run-kept, run-answers}
 
 -- What a record holds.
 
@@ -48,24 +45,21 @@ all-below n [] h = tt
 all-below n (x ∷ xs) h = (h x (List·Memᴰ·head refl), all-below n xs (λ y m. h y (List·Memᴰ·tail m)))
 
 -- One record, where table and plan are accepted.
-module _ (t p : List ℕ) (T : Table) (tree : Plan (T .width) (T .rows)) (e : tableOf t ≡ read T) (w : write tree ≡ p) where
-  few-rows : length (T .rows) ≤ 64
-  few-rows = is-table t e .count .1
+module _ (t p : List ℕ) {width : ℕ} {rows : List (List ℕ)} (i : IsTable t width rows) (tree : Plan width rows) (w : write tree ≡ p) where
+  few-rows : length rows ≤ 64
+  few-rows = i .count .1
 
-  plan-reads : planFor T p ≡ read (branches tree)
-  plan-reads = accepted-one T (is-table t e) p (branches tree) .1 (tree, w, refl, λ q v. write-one q tree (v ∙ sym w))
-
-  enough : (room : List ℕ) → length (T .rows) ≤ length room → Enough t room
-  enough room l = record { for-rows = λ T′ d. subst (λ (y : Table). length (y .rows) ≤ length room) (read-one (sym e ∙ d)) l }
+  enough : (room : List ℕ) → length rows ≤ length room → Enough t room
+  enough room l = record { for-rows = λ T d. subst (λ (y : Table). length (y .rows) ≤ length room) (read-one (sym (reads i) ∙ d)) l }
 
   module _ {g room : List ℕ} {r : RunAnswer} (x : Ran t p g (replicate 64 0) room r) (j : Job) {k : Job} (is : k ≡ entered j r room) where
-    refused-holds : (f : Refused) → goalOf (T .width) g ≡ refuse f → Holds k (f .number) (f .place) 0 0
-    refused-holds f h = holds j (is ∙ entered-refused j r f room (run-kept x .refuses f .1 (bad-goal T (branches tree) e plan-reads h)))
+    refused-holds : (f : Refused) → goalOf width g ≡ refuse f → Holds k (f .number) (f .place) 0 0
+    refused-holds f h = holds j (is ∙ entered-refused j r f room (run-kept x .refuses f .1 (bad-goal i tree w h)))
 
-    answered-holds : IsGoal (T .width) g → JobAnswered T tree g k
-    answered-holds i =
+    answered-holds : IsGoal width g → JobAnswered tree g k
+    answered-holds h =
         let l = length-replicate {A = ℕ} 64 0 in
-        let a = run-answers T tree e w i (omega (arith, few-rows, l)) x in
+        let a = run-answers x width rows tree i w h (omega (arith, few-rows, l)) in
         let q : k ≡ filled j 0 0 (bitsOf (a .found)) (a .tried) =
         is ∙ ap (entered j r) (a .wrote) ∙ entered-found j r (a .found) (drop (length (a .found)) (replicate 64 0)) (a .tried) (a .told) in
         let o = holds j q in
@@ -74,11 +68,11 @@ module _ (t p : List ℕ) (T : Table) (tree : Plan (T .width) (T .rows)) (e : ta
           number-zero = o .number-is;
           place-zero = o .place-is;
           bits = rw (o .hits-is) (bits-few 64 (a .ascends) low);
-          rows = λ z. let b = bits-mem z (a .found) (a .ascends) in rw (o .hits-is) (λ s. a .exactly z .0 (b .0 s), λ m. b .1 (a .exactly z .1 m));
-          branches = subst (Counts (Tried g) (skeletons tree (replicate (T .width) hole))) (sym (o .tried-is)) (a .branches);
+          hit-rows = λ z. let b = bits-mem z (a .found) (a .ascends) in rw (o .hits-is) (λ s. a .exactly z .0 (b .0 s), λ m. b .1 (a .exactly z .1 m));
+          branches = subst (Counts (Tried g) (skeletons tree (replicate width hole))) (sym (o .tried-is)) (a .branches);
         }
 
-  one-job : {cells : List ℕ} {j k : Job} → Asked t p cells j k → OneJob t p cells T tree j k
+  one-job : {cells : List ℕ} {j k : Job} → Asked t p cells j k → OneJob t p cells tree j k
   one-job {j = j} (outside l q) = record {
     start-stays = ap (λ (x : Job). x .start) q;
     count-stays = ap (λ (x : Job). x .count) q;
@@ -99,19 +93,23 @@ module _ (t p : List ℕ) (T : Table) (tree : Plan (T .width) (T .rows)) (e : ta
       }
 
 -- The whole list.
-pub w-202 : {t p cells : List ℕ} {jobs jobs′ : List Job} {r : PlanAnswer} → JobsRun t p cells jobs jobs′ (planTold r) → Shift t p cells jobs jobs′ r
-w-202 {t} {p} {cells} {jobs} {jobs′} {r} x = record {
-  refuses = plan-kept t p r (jobs-told x) .refuses;
-  untouched = left x;
-  accepts = λ b e. jobs-told x ∙ ap planSays e;
-  each = λ T tree e w. all x T tree e w;
-}
-  where
-    left : JobsRun t p cells jobs jobs′ (planTold r) → (f : Refused) → planTold r ≡ turned f → jobs′ ≡ jobs
-    left (refusal g d q c) f e = c
-    left (asked n d q c) f e = apart (sym d ∙ plan-kept t p r (jobs-told x) .refuses f .0 e)
+module _ {t p cells : List ℕ} {jobs jobs′ : List Job} {a : Answer} where
+  pub w-202 : JobsRun t p cells jobs jobs′ a → Shift t p cells jobs jobs′ a
+  w-202 x = record {
+    refuses = told;
+    untouched = left x;
+    accepts = λ b e. jobs-told x ∙ ap planSays e;
+    each = λ width rows tree i w. all x i tree w;
+  }
+    where
+      told : (f : Refused) → (a ≡ turned f) ↔ (planOf t p ≡ refuse f)
+      told f = let k = plan-kept t p .refuses f in (λ e. k .0 (sym (jobs-told x) ∙ e), λ e. jobs-told x ∙ k .1 e)
 
-    all : JobsRun t p cells jobs jobs′ (planTold r) → (T : Table) (tree : Plan (T .width) (T .rows)) → tableOf t ≡ read T → write tree ≡ p
-        → Each (OneJob t p cells T tree) jobs jobs′
-    all (refusal g d q c) T tree e w = let k : planOf t p ≡ read (branches tree) = rw e (plan-reads t p T tree e w) in apart (sym k ∙ d)
-    all (asked n d q c) T tree e w = each-map (λ j k a. one-job t p T tree e w a) c
+      left : JobsRun t p cells jobs jobs′ a → (f : Refused) → a ≡ turned f → jobs′ ≡ jobs
+      left (refusal g d q c) f e = c
+      left (asked n d q c) f e = apart (sym d ∙ told f .0 e)
+
+      all : JobsRun t p cells jobs jobs′ a → {width : ℕ} {rows : List (List ℕ)} → IsTable t width rows → (tree : Plan width rows)
+          → write tree ≡ p → Each (OneJob t p cells tree) jobs jobs′
+      all (refusal g d q c) i tree w = apart (sym (tree-read i tree w) ∙ d)
+      all (asked n d q c) i tree w = each-map (λ j k y. one-job t p i tree w y) c

@@ -19,8 +19,9 @@ use Rattle.grammar.proofs.Accepted as grammar
 use Rattle.loading.specs.Load as load
 use Rattle.loading.specs.Load.{Loaded, loaded, Loads, loadSays, TextLoads, cellsAfter, namesAfter}
 use Rattle.loading.proofs.Fixed.{load-is}
-use Rattle.prolog.specs.Entry.{textTold}
-use Rattle.prolog.specs.declared.TextAnswer.{TextAnswer}
+use Rattle.refusal.specs.Coded.{decoded}
+use Rattle.exports.specs.Coded.{TextCoded}
+use Rattle.exports.proofs.Back.{text-back}
 use Rattle.demands.specs.Texts.{Fits, TextTurned, Request201}
 use Rattle.demands.specs.Texts as texts
 
@@ -74,19 +75,19 @@ says-turned : (o : Read Loaded) (f : Refused) → loadSays o ≡ turned f → o 
 says-turned (read x) f e = absurd (let z : _≡_ {A = ℕ} 0 1 = cc in omega arith)
 says-turned (refuse g) f e = let q : g ≡ f = cc in ap refuse q
 
-module _ {text cells names cells′ names′ : List ℕ} (answer : TextAnswer)
-    (x : TextLoads text cells names cells′ names′ (textTold answer)) where
+module _ {text cells names cells′ names′ : List ℕ} {answer : Answer}
+    (x : TextLoads text cells names cells′ names′ answer) where
   says : {o : Read Loaded} → Loads text (length cells) (length names) o → x .says ≡ o
   says l = load-is text (length cells) (length names) (x .rule) ∙ sym (load-is text (length cells) (length names) l)
 
-  turns : (f : Refused) → (textTold answer ≡ turned f) ↔ TextTurned text cells names f
+  turns : (f : Refused) → (answer ≡ turned f) ↔ TextTurned text cells names f
   turns f = (
     λ e. turned-as (subst (Loads text (length cells) (length names)) (says-turned (x .says) f (sym (x .told) ∙ e)) (x .rule)),
     λ r. x .told ∙ ap loadSays (says (turned-by r)),
   )
 
-  pub request-201 : Request201 text cells names cells′ names′ answer
-  request-201 = record {
+  loads-or-refuses : Request201 text cells names cells′ names′ answer
+  loads-or-refuses = record {
     loads = λ facts width rows F i.
         let l = load.loads (taken (F .bytes) (F .reading) (F .alike)) (F .room) (F .list) (table-accepted _ width rows .1 i) in
         let e = says l in (
@@ -99,3 +100,8 @@ module _ {text cells names cells′ names′ : List ℕ} (answer : TextAnswer)
         let q = says-turned (x .says) f (sym (x .told) ∙ e) in
         (x .wrote ∙ ap (λ (o : Read Loaded). cellsAfter o cells) q, x .listed ∙ ap (λ (o : Read Loaded). namesAfter o names) q);
   }
+
+pub request-201 : {text cells names cells′ names′ : List ℕ} {n : ℕ} → TextCoded text cells names cells′ names′ n
+    → Request201 text cells names cells′ names′ (decoded n)
+request-201 {text} {cells} {names} {cells′} {names′} x =
+    subst (Request201 text cells names cells′ names′) (sym (text-back x)) (loads-or-refuses (x .loaded))

@@ -1,4 +1,4 @@
--- The request "ask", a shop's rules and a job in Prolog text, as statements of what its two library functions are given and what they answer.
+-- The request "ask", a shop's rules and a job in Prolog text, as statements of what its three library functions are given and what they answer.
 -- proofs/Asking proves them of the functions' promises, and src/lib.rt ties them to the functions.
 --
 -- `text` is the facts' text and `names` its list of names, `p` where its predicate stands; `goal` is a goal's text and `new` the list of the
@@ -6,18 +6,25 @@
 use Prim.Native.Nat.{ℕ, _≤_}
 use mathlib.Core.Path.{_≡_}
 use mathlib.Core.Logic.{_↔_}
-use mathlib.Core.List.{List, List·Memᴰ}
+use mathlib.Core.List.{List, _∷_, List·Memᴰ}
 use lib.ListN.{length, take}
-use Rattle.refusal.specs.Refusal.{answered}
-use Rattle.refusal.specs.Read.{read}
+use Rattle.refusal.specs.Refusal.{Refused, answered}
+use Rattle.refusal.specs.Read.{read, refuse}
 use Rattle.table.specs.Table.{Table, tableOf, IsGoal}
+use Rattle.grammar.specs.Grammar.{Fact}
+use Rattle.grammar.specs.Taken.{Taken}
 use Rattle.loading.specs.Load.{Loaded, Loads}
 use Rattle.instance.specs.Reply.{Replies}
 use Rattle.asking.specs.declared.Predicate.{Predicate}
 use Rattle.asking.specs.Saying.{wordsIn, wordsOf, predicateIn, saidIn, known}
 use Rattle.asking.specs.Goal.{Goal, Asks, GoalRead}
 use Rattle.goaltext.specs.declared.GoalText.{GoalText}
-use Rattle.goaltext.specs.Asked.{textTold}
+use Rattle.goaltext.specs.Asked.{textTold, predicateOf}
+
+-- "a term of the facts' predicate": where the first fact's name stands, and its number of arguments. A text that is turned away has none
+pub record FindsPredicate (text : List ℕ) (p : Predicate) : Type 0 where
+  pub first : (f : Fact) (fs : List Fact) → Taken text (read (f ∷ fs)) → p ≡ predicateOf f
+  pub none : (g : Refused) → Taken text (refuse g) → p ≡ record { start = 0; end = 0; width = 0 }
 
 -- this goal is answered, and stands at the front of the two rooms
 pub record Gives (goal : Goal) (cells′ new′ : List ℕ) (r : GoalText) : Type 0 where

@@ -1,4 +1,5 @@
 pub mod Demands
+pub mod Listing
 pub mod Texts
 pub mod Shift
 pub mod Replies

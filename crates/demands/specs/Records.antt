@@ -9,21 +9,25 @@ use Rattle.refusal.specs.Refusal.{Refused, refused, Answer, answered, turned}
 use Rattle.refusal.specs.declared.Reason.the-variants as reason
 use Rattle.refusal.specs.declared.Input.the-variants as input
 use Rattle.refusal.specs.Read.{read, refuse}
-use Rattle.table.specs.Table.{Table, tableOf, others, rowOf}
+use Rattle.table.specs.Table.{Table, table, tableOf, IsTable, others, rowOf}
 use Rattle.least.specs.Entries.{SameAt}
-use Rattle.least.specs.Measures.{tableBy}
 use Rattle.least.specs.declared.By.the-variants.{Work}
-use Rattle.builder.specs.declared.BuildAnswer.{BuildAnswer}
 use Rattle.record.specs.Record.{cellsIn, Holds, tableIn}
 use Rattle.demands.specs.Demands.{Demand1Build, Demand3Build}
 use Rattle.record.specs.Edits.{Edit, append, drop-last, replace, editOf, WorkedOut, Without, Made}
 
--- "A record comes only from working it out for an accepted table": FIGURE, the table's refusals, and then nothing is written; otherwise the
--- record holds the table
+-- 02, W-204, "FIGURE for a figure above 15, before the table's": what turns a working out away, and the refusal that it gets
+pub data WorkTurned (figure : ℕ) (cells : List ℕ) (refusal : Refused) : Type 0 where
+  no-figure : 15 < figure → refusal ≡ refused reason.Figure input.Figure 0 → WorkTurned figure cells refusal
+  no-table : figure ≤ 15 → tableOf cells ≡ refuse refusal → WorkTurned figure cells refusal
+
+-- "A record comes only from working it out for an accepted table": refused as above, and then nothing is written; otherwise the record holds
+-- the table
 pub record MakesRecord (figure : ℕ) (cells rec rec′ : List ℕ) (answer : Answer) : Type 0 where
-  pub refuses : (f : Refused) → (answer ≡ turned f) ↔ (tableBy (Work figure) cells ≡ refuse f)
+  pub refuses : (f : Refused) → (answer ≡ turned f) ↔ WorkTurned figure cells f
   pub untouched : (f : Refused) → answer ≡ turned f → rec′ ≡ rec
-  pub made : (T : Table) → tableBy (Work figure) cells ≡ read T → Holds rec′ figure T × (answer ≡ answered (T .width) (length (T .rows)))
+  pub made : (width : ℕ) (rows : List (List ℕ)) → figure ≤ 15 → IsTable cells width rows
+      → Holds rec′ figure (table width rows) × (answer ≡ answered width (length rows))
 
 -- "Refusals: FULL to append at 64 rows, LAST to drop the only row, INDEX for a missing r, then 01's from LONG on for the new row, places
 -- from its start", and W-208's "against every other row, at 0": what turns an edit away, and the refusal that it gets
@@ -53,7 +57,7 @@ Anew = (figure : ℕ) (rec old new : List ℕ) (T : Table) (answer : Answer) →
     → rec ≡ new
 
 -- "as one record that every caller now passes": a plan built from a record is the one built from its table by its figure
-abbrev pub BuildsFrom : (rec room room′ : List ℕ) → BuildAnswer → Type 0
+abbrev pub BuildsFrom : (rec room room′ : List ℕ) → Answer → Type 0
 BuildsFrom rec room room′ answer = (figure : ℕ) (T : Table) → Holds rec figure T → Demand1Build (Work figure) (cellsIn T) room room′ answer
     × Demand3Build (Work figure) (cellsIn T) room room′ answer
 

@@ -5,45 +5,46 @@ use mathlib.Core.Path.{_≡_}
 use mathlib.Core.Logic.{_↔_}
 use mathlib.Core.List.{List, _++_, flatten}
 use lib.ListN.{length, drop}
-use Rattle.refusal.specs.Refusal.{Refused, refused, answered, turned}
+use Rattle.refusal.specs.Refusal.{Refused, refused, Answer, answered, turned}
 use Rattle.refusal.specs.declared.Reason.the-variants as reason
 use Rattle.refusal.specs.declared.Input.the-variants as input
-use Rattle.refusal.specs.Read.{read, refuse}
+use Rattle.refusal.specs.Read.{refuse}
 use Rattle.table.specs.All.{All}
-use Rattle.table.specs.Table.{Table, tableOf, goalOf, IsGoal}
+use Rattle.table.specs.Table.{tableOf, goalOf, IsTable, IsGoal}
+use Rattle.plan.specs.Plans.{Plan, write}
 use Rattle.plan.specs.Check.{planOf}
-use Rattle.instance.specs.declared.RepliesAnswer.{RepliesAnswer}
 use Rattle.instance.specs.Reply.{Replies}
-use Rattle.instance.specs.Replied.{repliesTold}
 
 -- "Refusals: table, plan, goal, then ROOM when the lent cells are too few for all replies": what turns it away, and the refusal that it gets
 pub data RepliesTurned (cells plan goal room : List ℕ) (refusal : Refused) : Type 0 where
   bad-table : tableOf cells ≡ refuse refusal → RepliesTurned cells plan goal room refusal
-  bad-plan : (T : Table) → tableOf cells ≡ read T → planOf cells plan ≡ refuse refusal → RepliesTurned cells plan goal room refusal
-  bad-goal : (T : Table) (b : ℕ) → tableOf cells ≡ read T → planOf cells plan ≡ read b → goalOf (T .width) goal ≡ refuse refusal
+  bad-plan : {width : ℕ} {rows : List (List ℕ)} → IsTable cells width rows → planOf cells plan ≡ refuse refusal
       → RepliesTurned cells plan goal room refusal
-  bad-room : (T : Table) (b v : ℕ) (all : List (List ℕ)) → tableOf cells ≡ read T → planOf cells plan ≡ read b
-      → goalOf (T .width) goal ≡ read v → Replies goal (T .rows) all → length room < length (flatten all)
+  bad-goal : {width : ℕ} {rows : List (List ℕ)} → IsTable cells width rows → (tree : Plan width rows) → write tree ≡ plan
+      → goalOf width goal ≡ refuse refusal → RepliesTurned cells plan goal room refusal
+  bad-room : {width : ℕ} {rows : List (List ℕ)} (all : List (List ℕ)) → IsTable cells width rows → (tree : Plan width rows) → write tree ≡ plan
+      → IsGoal width goal → Replies goal rows all → length room < length (flatten all)
       → refusal ≡ refused reason.Room input.Lent (length (flatten all)) → RepliesTurned cells plan goal room refusal
 
 -- with nothing written (demand 1)
-pub record RepliesRefused (cells plan goal room after : List ℕ) (answer : RepliesAnswer) : Type 0 where
-  pub refuses : (f : Refused) → (repliesTold answer ≡ turned f) ↔ RepliesTurned cells plan goal room f
-  pub untouched : (f : Refused) → repliesTold answer ≡ turned f → after ≡ room
+pub record RepliesRefused (cells plan goal room after : List ℕ) (answer : Answer) : Type 0 where
+  pub refuses : (f : Refused) → (answer ≡ turned f) ↔ RepliesTurned cells plan goal room f
+  pub untouched : (f : Refused) → answer ≡ turned f → after ≡ room
 
 -- "For each hit, write the goal with the hit's bindings filled in, variables renumbered by first appearance. It is the most general common
 -- instance, fixed as cells. Replies follow one another in row order; their number and that of cells are returned." `all` are the replies of
 -- the rows that unify with the goal (crate instance, specs/Reply), and no other list is
-pub record Said (table : Table) (goal room after : List ℕ) (answer : RepliesAnswer) : Type 0 where
+pub record Said (rows : List (List ℕ)) (goal room after : List ℕ) (answer : Answer) : Type 0 where
   pub all : List (List ℕ)
-  pub each : Replies goal (table .rows) all
-  pub fixed : (others : List (List ℕ)) → Replies goal (table .rows) others → others ≡ all
-  pub told : length (flatten all) ≤ length room → repliesTold answer ≡ answered (length all) (length (flatten all))
+  pub each : Replies goal rows all
+  pub fixed : (others : List (List ℕ)) → Replies goal rows others → others ≡ all
+  pub told : length (flatten all) ≤ length room → answer ≡ answered (length all) (length (flatten all))
   pub wrote : length (flatten all) ≤ length room → after ≡ flatten all ++ drop (length (flatten all)) room
   -- "Rows use a variable once, so 1,024 cells are enough for one": and so many for every row are always enough
   pub small : All (λ (cells : List ℕ). length cells ≤ 1024) all
-  pub enough : length (flatten all) ≤ length (table .rows) * 1024
+  pub enough : length (flatten all) ≤ length rows * 1024
 
-abbrev pub Says : (cells plan goal room after : List ℕ) → RepliesAnswer → Type 0
+abbrev pub Says : (cells plan goal room after : List ℕ) → Answer → Type 0
 Says cells plan goal room after answer =
-    (T : Table) (b : ℕ) → tableOf cells ≡ read T → planOf cells plan ≡ read b → IsGoal (T .width) goal → Said T goal room after answer
+    (width : ℕ) (rows : List (List ℕ)) (tree : Plan width rows) → IsTable cells width rows → write tree ≡ plan → IsGoal width goal
+    → Said rows goal room after answer

@@ -8,7 +8,7 @@ use mathlib.Core.Path.{_≡_}
 use mathlib.Core.Logic.{_↔_}
 use mathlib.Core.List.{List, _++_}
 use lib.ListN.{length, drop}
-use Rattle.refusal.specs.Refusal.{Refused, refused, answered, turned}
+use Rattle.refusal.specs.Refusal.{Refused, refused, Answer, answered, turned}
 use Rattle.refusal.specs.declared.Reason.the-variants as reason
 use Rattle.refusal.specs.declared.Input.the-variants as input
 use Rattle.refusal.specs.Read.{refuse}
@@ -16,8 +16,6 @@ use Rattle.table.specs.Table.{tableOf, IsTable}
 use Rattle.grammar.specs.Grammar.{Fact, Text}
 use Rattle.grammar.specs.Stops.{Stops}
 use Rattle.grammar.specs.Meaning.{tableCells, nameList, none, found, otherIn}
-use Rattle.prolog.specs.Entry.{textTold}
-use Rattle.prolog.specs.declared.TextAnswer.{TextAnswer}
 
 -- the text is one, of one predicate and width, and its table and its names fit the rooms
 pub record Fits (text cells names : List ℕ) (facts : List Fact) : Type 0 where
@@ -45,11 +43,11 @@ pub data TextTurned (text cells names : List ℕ) : Refused → Type 0 where
 
 -- "A text of facts for one predicate becomes a table", and "a list of where each name first stands in the text, start and bytes, is given
 -- back"; refused as above, with nothing written to either room
-pub record Request201 (text cells names cells′ names′ : List ℕ) (answer : TextAnswer) : Type 0 where
+pub record Request201 (text cells names cells′ names′ : List ℕ) (answer : Answer) : Type 0 where
   pub loads : (facts : List Fact) (width : ℕ) (rows : List (List ℕ)) → Fits text cells names facts
       → IsTable (tableCells text facts) width rows
-      → (textTold answer ≡ answered (length (tableCells text facts)) (length (nameList text facts)))
+      → (answer ≡ answered (length (tableCells text facts)) (length (nameList text facts)))
       × (cells′ ≡ tableCells text facts ++ drop (length (tableCells text facts)) cells)
       × (names′ ≡ nameList text facts ++ drop (length (nameList text facts)) names)
-  pub refuses : (f : Refused) → (textTold answer ≡ turned f) ↔ TextTurned text cells names f
-  pub untouched : (f : Refused) → textTold answer ≡ turned f → (cells′ ≡ cells) × (names′ ≡ names)
+  pub refuses : (f : Refused) → (answer ≡ turned f) ↔ TextTurned text cells names f
+  pub untouched : (f : Refused) → answer ≡ turned f → (cells′ ≡ cells) × (names′ ≡ names)

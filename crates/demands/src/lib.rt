@@ -1,128 +1,144 @@
-// The demands (document 00) and the requests (document 02), tied to the entries: each function calls one entry and ensures what they say of
-// it (specs/), by the theorem of proofs/. So a contract that no longer gives them is an error here. Nothing calls these functions; they are
-// private, since what they ensure is less than what the entries promise.
-ghost use Rattle.demands.specs.Demands.{Demand1Table, Demand1Goal, Demand1Row, Demand1Check, Demand1Build, Demand1Run};
-ghost use Rattle.demands.specs.Demands.{Demand2, Demand3Check, Demand3Run, Demand3Build, Demand3Fewest};
+// The demands (document 00) and the requests (document 02), tied to the entries that customers link: each function calls one `dudowiej_*` and
+// ensures what is said of it (specs/), by the theorem of proofs/; `decoded` is the number read back by the header's masks and shifts. So an
+// entry whose contract no longer gives it is an error here. What is no entry is tied to the function that has it: the row as a part of the
+// table, a cell's value and symbol, the listing, goals and answers in text. Nothing calls these functions; they are private, since what they
+// ensure is less than what the entries promise.
+ghost use Prim.Native.Nat.{ℕ};
+ghost use Rattle.refusal.specs.Coded.{decoded};
+ghost use Rattle.table.specs.Table.{Table};
+ghost use Rattle.record.specs.Record.{Holds, tableIn};
+ghost use Rattle.record.specs.Edits.{append, drop-last, replace};
+ghost use Rattle.demands.specs.Demands.{Demand1Table, Demand1Goal, Demand1Row, Demand1Place, Demand1Check, Demand1Run};
+ghost use Rattle.demands.specs.Demands.{Demand2, TriedFew, Demand3Check, Demand3Run};
+ghost use Rattle.demands.specs.Listing.{Listing};
 ghost use Rattle.demands.specs.Texts.{Request201};
 ghost use Rattle.demands.specs.Shift.{Shift};
 ghost use Rattle.demands.specs.Replies.{RepliesRefused, Says};
 ghost use Rattle.demands.specs.Records.{MakesRecord, EditsRecord, BuildsFrom};
-ghost use Rattle.demands.specs.Asking.{ReadsGoal, ReadsBack};
-ghost use Prim.Native.Nat.{ℕ};
-ghost use Rattle.table.specs.Table.{Table, tableTold};
-ghost use Rattle.record.specs.Record.{Holds};
-ghost use Rattle.record.specs.Edits.{append, drop-last, replace};
-use answer::RunAnswer;
+ghost use Rattle.demands.specs.Asking.{FindsPredicate, ReadsGoal, ReadsBack};
 use asking::Predicate;
-use builder::BuildAnswer;
-use checker::PlanAnswer;
 use goaltext::GoalText;
-use instance::RepliesAnswer;
-use least::By;
-use prolog::TextAnswer;
 use run::Job;
-use table::GoalAnswer;
-use table::TableAnswer;
-use table::TableRead;
 
-fn demand_read_table(cells: &[u32]) -> TableRead
-    ensures { λ r. ⌜ Demand1Table (now (cells .entry)) r ⌝ }
+// Demand 1: reading.
+fn demand_read_table(cells: &[u32]) -> u64
+    ensures { λ r. ⌜ Demand1Table (now (cells .entry)) (decoded r) ⌝ }
 {
-    table::read_table(cells)
+    exports::dudowiej_read_table(cells)
 }
 
-fn demand_read_goal(cells: &[u32], goal: &[u32]) -> GoalAnswer
-    ensures { λ r. ⌜ Demand1Goal (now (cells .entry)) (now (goal .entry)) r ⌝ }
+fn demand_read_goal(rec: &[u32; 14340], goal: &[u32]) -> u64
+    ensures { λ r. ⌜ Demand1Goal (tableIn (now (rec .entry))) (now (goal .entry)) (decoded r) ⌝ }
 {
-    table::read_goal(cells, goal)
+    exports::dudowiej_read_goal(rec, goal)
 }
 
-fn demand_row(cells: &[u32], number: usize) -> &[u32]
+fn demand_row(rec: &[u32; 14340], number: usize) -> u64
+    ensures { λ r. ⌜ Demand1Place (tableIn (now (rec .entry))) number (decoded r) ⌝ }
+{
+    exports::dudowiej_row(rec, number)
+}
+
+fn demand_row_part(cells: &[u32], number: usize) -> &[u32]
     ensures { λ r. ⌜ Demand1Row (now (cells .entry)) number (now r) ⌝ }
 {
     table::row(cells, number)
 }
 
-fn demand_check(cells: &[u32], plan: &[u32]) -> PlanAnswer
-    ensures { λ r. ⌜ Demand1Check (now (cells .entry)) (now (plan .entry)) r ⌝ }
-    ensures { λ r. ⌜ Demand3Check (now (cells .entry)) (now (plan .entry)) r ⌝ }
+// Demands 1 and 3: the check.
+fn demand_check_plan(rec: &[u32; 14340], plan: &[u32]) -> u64
+    ensures { λ r. ⌜ Demand1Check (tableIn (now (rec .entry))) (now (plan .entry)) (decoded r) ⌝ }
+    ensures { λ r. ⌜ Demand3Check (tableIn (now (rec .entry))) (now (plan .entry)) (decoded r) ⌝ }
 {
-    checker::check_plan(cells, plan)
+    exports::dudowiej_check_plan(rec, plan)
 }
 
-fn demand_build(by: By, cells: &[u32], room: &mut [u32]) -> BuildAnswer
-    ensures { λ r. ⌜ Demand1Build by (now (cells .entry)) (now (room .entry)) (now (room .exit)) r ⌝ }
-    ensures { λ r. ⌜ Demand3Build by (now (cells .entry)) (now (room .entry)) (now (room .exit)) r ⌝ }
+// Demands 1 and 3: building, by the record's figure (W-204, W-207).
+fn demand_build_plan(rec: &[u32; 14340], room: &mut [u32]) -> u64
+    ensures { λ r. ⌜ BuildsFrom (now (rec .entry)) (now (room .entry)) (now (room .exit)) (decoded r) ⌝ }
 {
-    builder::build_plan(by, cells, room)
+    exports::dudowiej_build_plan(rec, room)
 }
 
-fn demand_build_fewest(cells: &[u32], room: &mut [u32]) -> BuildAnswer
-    ensures { λ r. ⌜ Demand3Fewest (now (cells .entry)) (now (room .entry)) (now (room .exit)) r ⌝ }
+// Demand 3 by 01's measure, which the listing keeps.
+fn demand_listing(bytes: &[u8], out: &mut [u8; 43035]) -> usize
+    ensures { λ r. ⌜ Listing (now (bytes .entry)) (now (out .entry)) (now (out .exit)) r ⌝ }
 {
-    builder::build_plan(By::Branches, cells, room)
+    listing::list_table(bytes, out)
 }
 
-fn demand_run(cells: &[u32], plan: &[u32], goal: &[u32], room: &mut [u8]) -> RunAnswer
-    ensures { λ r. ⌜ Demand1Run (now (cells .entry)) (now (plan .entry)) (now (goal .entry)) (now (room .entry)) (now (room .exit)) r ⌝ }
-    ensures { λ r. ⌜ Demand2 (now (cells .entry)) (now (plan .entry)) (now (goal .entry)) (now (room .entry)) (now (room .exit)) r ⌝ }
-    ensures { λ r. ⌜ Demand3Run (now (cells .entry)) (now (plan .entry)) (now (goal .entry)) (now (room .entry)) (now (room .exit)) r ⌝ }
+// Demands 1, 2 and 3: a run.
+fn demand_run_plan(rec: &[u32; 14340], plan: &[u32], goal: &[u32], room: &mut [u8]) -> u64
+    ensures { λ r. ⌜ Demand1Run (tableIn (now (rec .entry))) (now (plan .entry)) (now (goal .entry)) (now (room .entry)) (now (room .exit))
+        (decoded r) ⌝ }
+    ensures { λ r. ⌜ Demand2 (tableIn (now (rec .entry))) (now (plan .entry)) (now (goal .entry)) (now (room .entry)) (now (room .exit))
+        (decoded r) ⌝ }
+    ensures { λ r. ⌜ TriedFew (tableIn (now (rec .entry))) (now (plan .entry)) (now (goal .entry)) (now (room .entry)) (decoded r) ⌝ }
+    ensures { λ r. ⌜ Demand3Run (tableIn (now (rec .entry))) (now (plan .entry)) (now (goal .entry)) (now (room .entry)) (now (room .exit))
+        (decoded r) ⌝ }
 {
-    run::run_plan(cells, plan, goal, room)
+    exports::dudowiej_run_plan(rec, plan, goal, room)
 }
 
-fn request_read_text(text: &[u8], cells: &mut [u32], names: &mut [u32]) -> TextAnswer
-    ensures { λ r. ⌜ Request201 (now (text .entry)) (now (cells .entry)) (now (names .entry)) (now (cells .exit)) (now (names .exit)) r ⌝ }
+// W-201 (specs/Texts)
+fn request_read_text(text: &[u8], cells: &mut [u32], names: &mut [u32]) -> u64
+    ensures { λ r. ⌜ Request201 (now (text .entry)) (now (cells .entry)) (now (names .entry)) (now (cells .exit)) (now (names .exit))
+        (decoded r) ⌝ }
 {
-    prolog::read_text(text, cells, names)
+    exports::dudowiej_read_text(text, cells, names)
 }
 
-fn demand_jobs(cells: &[u32], plan: &[u32], lent: &[u32], jobs: &mut [Job]) -> PlanAnswer
-    ensures { λ r. ⌜ Shift (now (cells .entry)) (now (plan .entry)) (now (lent .entry)) (now (jobs .entry)) (now (jobs .exit)) r ⌝ }
+// W-202 (specs/Shift)
+fn request_run_jobs(rec: &[u32; 14340], plan: &[u32], lent: &[u32], jobs: &mut [Job]) -> u64
+    ensures { λ r. ⌜ Shift (tableIn (now (rec .entry))) (now (plan .entry)) (now (lent .entry)) (now (jobs .entry)) (now (jobs .exit))
+        (decoded r) ⌝ }
 {
-    run::run_jobs(cells, plan, lent, jobs)
+    exports::dudowiej_run_jobs(rec, plan, lent, jobs)
 }
 
 // W-203 (specs/Replies)
-fn request_replies(cells: &[u32], plan: &[u32], goal: &[u32], room: &mut [u32]) -> RepliesAnswer
-    ensures { λ r. ⌜ RepliesRefused (now (cells .entry)) (now (plan .entry)) (now (goal .entry)) (now (room .entry)) (now (room .exit)) r ⌝ }
-    ensures { λ r. ⌜ Says (now (cells .entry)) (now (plan .entry)) (now (goal .entry)) (now (room .entry)) (now (room .exit)) r ⌝ }
+fn request_replies(rec: &[u32; 14340], plan: &[u32], goal: &[u32], room: &mut [u32]) -> u64
+    ensures { λ r. ⌜ RepliesRefused (tableIn (now (rec .entry))) (now (plan .entry)) (now (goal .entry)) (now (room .entry))
+        (now (room .exit)) (decoded r) ⌝ }
+    ensures { λ r. ⌜ Says (tableIn (now (rec .entry))) (now (plan .entry)) (now (goal .entry)) (now (room .entry)) (now (room .exit))
+        (decoded r) ⌝ }
 {
-    replies::replies(cells, plan, goal, room)
+    exports::dudowiej_replies(rec, plan, goal, room)
 }
 
 // W-207 (specs/Records)
-fn request_work_out(cells: &[u32], figure: u32, rec: &mut [u32; 14340]) -> TableAnswer
-    ensures { λ r. ⌜ MakesRecord figure (now (cells .entry)) (now (rec .entry)) (now (rec .exit)) (tableTold r) ⌝ }
+fn request_work_out(cells: &[u32], figure: u32, rec: &mut [u32; 14340]) -> u64
+    ensures { λ r. ⌜ MakesRecord figure (now (cells .entry)) (now (rec .entry)) (now (rec .exit)) (decoded r) ⌝ }
 {
-    edits::work_out(cells, figure, rec)
+    exports::dudowiej_work_out(cells, figure, rec)
 }
 
-fn request_append(rec: &mut [u32; 14340], row: &[u32]) -> TableAnswer
+fn request_append(rec: &mut [u32; 14340], row: &[u32]) -> u64
     ensures { λ r. ⌜ ((figure : ℕ) (T : Table) → Holds (now (rec .entry)) figure T
-        → EditsRecord (append (now (row .entry))) figure T (now (rec .entry)) (now (rec .exit)) (tableTold r)) ⌝ }
+        → EditsRecord (append (now (row .entry))) figure T (now (rec .entry)) (now (rec .exit)) (decoded r)) ⌝ }
 {
-    edits::append(rec, row)
+    exports::dudowiej_append(rec, row)
 }
 
-fn request_drop_last(rec: &mut [u32; 14340]) -> TableAnswer
+fn request_drop_last(rec: &mut [u32; 14340]) -> u64
     ensures { λ r. ⌜ ((figure : ℕ) (T : Table) → Holds (now (rec .entry)) figure T
-        → EditsRecord drop-last figure T (now (rec .entry)) (now (rec .exit)) (tableTold r)) ⌝ }
+        → EditsRecord drop-last figure T (now (rec .entry)) (now (rec .exit)) (decoded r)) ⌝ }
 {
-    edits::drop_last(rec)
+    exports::dudowiej_drop_last(rec)
 }
 
-fn request_replace(rec: &mut [u32; 14340], number: usize, row: &[u32]) -> TableAnswer
+fn request_replace(rec: &mut [u32; 14340], number: usize, row: &[u32]) -> u64
     ensures { λ r. ⌜ ((figure : ℕ) (T : Table) → Holds (now (rec .entry)) figure T
-        → EditsRecord (replace number (now (row .entry))) figure T (now (rec .entry)) (now (rec .exit)) (tableTold r)) ⌝ }
+        → EditsRecord (replace number (now (row .entry))) figure T (now (rec .entry)) (now (rec .exit)) (decoded r)) ⌝ }
 {
-    edits::replace(rec, number, row)
+    exports::dudowiej_replace(rec, number, row)
 }
 
-fn request_build(rec: &[u32; 14340], room: &mut [u32]) -> BuildAnswer
-    ensures { λ r. ⌜ BuildsFrom (now (rec .entry)) (now (room .entry)) (now (room .exit)) r ⌝ }
+// ask (specs/Asking)
+fn request_predicate(text: &[u8]) -> Predicate
+    ensures { λ r. ⌜ FindsPredicate (now (text .entry)) r ⌝ }
 {
-    builder::build_from(rec, room)
+    goaltext::predicate_of(text)
 }
 
 fn request_goal(

@@ -10,9 +10,7 @@ same-length : tie.Need-same-length
 same-length c = search needs
 
 returns : tie.Need-returns
-returns c =
-    let x = c .before .before .put-answer in
-    ask-back _ _ _ _ _ _ (x .ensures)
+returns c = ask-back _ _ _ _ _ _ (c .before .before .put-answer .ensures)
 
 pub request-answer-spec : {M : Type 1} → statement M
 request-answer-spec = tie.close (tie.spec put-answer-requires same-length returns)
