@@ -4,6 +4,8 @@ pub mod Viable
 pub mod Accepted
 pub mod Fixed
 pub mod LongLaws
+pub mod Sizes
+pub mod Along
 pub mod HeldLaws
 pub mod NumberLaws
 pub mod NthLaws

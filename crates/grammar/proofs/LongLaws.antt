@@ -35,7 +35,7 @@ pub word-on : {p q : ℕ} {xs ys : List ℕ} → Word p xs q ys → (p ≤ q) ×
 word-on G.none = (omega arith, refl)
 word-on (G.more e l) = let w = word-on l in (omega (arith, w .0), omega (arith, w .1))
 
-digits-on : {v p q n : ℕ} {xs ys : List ℕ} → Digits v p xs q ys n → (p ≤ q) × (p + length xs ≡ q + length ys)
+pub digits-on : {v p q n : ℕ} {xs ys : List ℕ} → Digits v p xs q ys n → (p ≤ q) × (p + length xs ≡ q + length ys)
 digits-on G.none = (omega arith, refl)
 digits-on (G.more e d) = let w = digits-on d in (omega (arith, w .0), omega (arith, w .1))
 

@@ -10,7 +10,7 @@ use borrow.Author.Tests.{eqb-true, eqb-false}
 use Rattle.grammar.specs.Grammar.{Fact}
 use Rattle.cell.specs.Same.{same}
 use Rattle.grammar.specs.Meaning.{Found, found, alike, otherThan, otherIn}
-use Rattle.grammar.specs.Other.{Alike, FirstOther, no-other, other, passed}
+use Rattle.grammar.specs.Other.{Alike, FirstOther, no-other, other, passed, OtherAmong}
 use Rattle.cell.proofs.SameLaws.{same-eq, same-differ}
 
 -- a test that decides
@@ -56,3 +56,9 @@ module _ (t : List ℕ) (f : Fact) where
 pub other-is : (t : List ℕ) (f : Fact) (fs : List Fact) (o : Found) → FirstOther t f fs o ↔ (otherIn t (f ∷ fs) ≡ o)
 unfolding otherIn
 other-is t f fs o = (other-found t f, λ e. subst (FirstOther t f fs) e (other-holds t f fs))
+
+-- and so for any facts
+pub other-among : (t : List ℕ) (fs : List Fact) (o : Found) → OtherAmong t fs o ↔ (otherIn t fs ≡ o)
+unfolding otherIn
+other-among t [] o = (sym, sym)
+other-among t (f ∷ fs) o = other-is t f fs o

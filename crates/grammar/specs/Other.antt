@@ -17,3 +17,8 @@ pub data FirstOther (t : List ℕ) (f : Fact) : List Fact → Found → Type 0 w
   no-other : FirstOther t f [] none
   other : {g : Fact} {gs : List Fact} {k : ℕ} → (Alike t g f → ⊥) → k ≡ g .start → FirstOther t f (g ∷ gs) (found k)
   passed : {g : Fact} {gs : List Fact} {o : Found} → Alike t g f → FirstOther t f gs o → FirstOther t f (g ∷ gs) o
+
+-- of the facts of a text, the first of which is the one that the others are compared with
+abbrev pub OtherAmong : List ℕ → List Fact → Found → Type 0
+OtherAmong t [] o = o ≡ none
+OtherAmong t (f ∷ fs) o = FirstOther t f fs o
