@@ -12,6 +12,7 @@ pub mod NthLaws
 pub mod FirstLaws
 pub mod RowLaws
 pub mod Numbered
+pub mod Listed
 pub mod Other
 pub mod Written
 pub mod Examples

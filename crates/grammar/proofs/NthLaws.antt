@@ -2,7 +2,7 @@
 use Prim.Native.Nat.{ℕ, suc, _≤_, _<_}
 use mathlib.Core.Path.{_≡_, refl, sym, ap, subst, _∙_}
 use mathlib.Core.Bool.{Bool, true, false, cond}
-use mathlib.Core.List.{List, [], _∷_, _++_}
+use mathlib.Core.List.{List, [], _∷_, _++_, map, List·Memᴰ, List·Memᴰ·head, List·Memᴰ·tail}
 use mathlib.Core.Logic.{_⊎_, inl, inr}
 use native.Mathlib.Omega.{arith}
 use native.Mathlib.Decide.{decLt}
@@ -54,6 +54,21 @@ module _ {A : Type 0} where
       go : {k : ℕ} {x : A} → Nth xs k x ⊎ (length xs ≤ k) → Nth (z ∷ xs) (suc k) x ⊎ (suc (length xs) ≤ suc k)
       go (inl g) = inl (later g)
       go (inr l) = inr (omega arith)
+
+  -- what is one of them stands somewhere
+  pub mem-nth : {xs : List A} {x : A} → List·Memᴰ x xs → (k : ℕ) × Nth xs k x
+  mem-nth {x = x} (List·Memᴰ·head {xs = xs} e) = (0, subst (λ (y : A). Nth (y ∷ xs) 0 x) e here)
+  mem-nth (List·Memᴰ·tail m) = let i = mem-nth m in (suc (i .0), later (i .1))
+
+-- what stands in a changed list
+pub nth-map : {A B : Type 0} (f : A → B) {xs : List A} {k : ℕ} {x : A} → Nth xs k x → Nth (map f xs) k (f x)
+nth-map f here = here
+nth-map f (later h) = later (nth-map f h)
+
+pub nth-unmap : {A B : Type 0} (f : A → B) (xs : List A) {k : ℕ} {y : B} → Nth (map f xs) k y → (x : A) × Nth xs k x × (y ≡ f x)
+nth-unmap f [] h = let i = nth-below h in absurd (omega arith)
+nth-unmap f (x ∷ xs) here = (x, here, refl)
+nth-unmap f (x ∷ xs) (later h) = let i = nth-unmap f xs h in (i .0, later (i .1), i .2)
 
 -- A WORD IS THERE, OR IT IS NEW
 new-more : {v w : List ℕ} {vs : Words} → (w ≡ v → ⊥) → New vs w → New (v ∷ vs) w

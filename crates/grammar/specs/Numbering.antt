@@ -2,7 +2,7 @@
 -- two are one is proved in proofs/Numbered.
 use Prim.Native.Nat.{ℕ, suc, _≤_}
 use mathlib.Core.Path.{_≡_}
-use mathlib.Core.List.{List, [], _∷_, _++_, map}
+use mathlib.Core.List.{List, [], _∷_, _++_, map, List·Memᴰ}
 use lib.ListN.{length}
 use lib.Seq.{slice}
 use Rattle.cell.specs.Cell.{variableCell, nameCell, numberCell}
@@ -41,6 +41,13 @@ pub data Firsts (t : List ℕ) : Words → List Symbol → List Place → Type 0
       → Nth met k (slice s e t) → Firsts t met ss ns → Firsts t met (name s e a ∷ ss) ns
   a-variable : {met : Words} {s e : ℕ} {ss : List Symbol} {ns : List Place} → Firsts t met ss ns → Firsts t met (variable s e ∷ ss) ns
   a-number : {met : Words} {v : ℕ} {ss : List Symbol} {ns : List Place} → Firsts t met ss ns → Firsts t met (number v ∷ ss) ns
+
+-- "where each name first stands": the same by places. Among the symbols is a name from start up to end, and none with its bytes begins
+-- before it
+pub record FirstAt (t : List ℕ) (ss : List Symbol) (start end : ℕ) : Type 0 where
+  pub args : ℕ
+  pub there : List·Memᴰ (name start end args) ss
+  pub first : (s e a : ℕ) → List·Memᴰ (name s e a) ss → slice s e t ≡ slice start end t → start ≤ s
 
 -- "`_` as a fresh variable each time": `_` is 95
 abbrev pub Unnamed : List ℕ → Type 0
