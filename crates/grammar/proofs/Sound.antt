@@ -179,7 +179,7 @@ not-digit b e = go′ (isLower b) (isUpper b) (isDigit b) e
     go′ false true z h = absurd (let q : _≡_ {A = ℕ} 0 1 = cc in omega arith)
     go′ false false z h = h
 
-digit-small : (b : ℕ) → isDigit b ≡ true → b - 48 ≤ 9
+pub digit-small : (b : ℕ) → isDigit b ≡ true → b - 48 ≤ 9
 unfolding isDigit
 digit-small b e = go′ (leb 48 b) (leb b 57) refl e
   where

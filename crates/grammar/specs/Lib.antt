@@ -1,5 +1,6 @@
 pub mod Grammar
 pub mod Stops
+pub mod Numbers
 pub mod Meaning
 pub mod Numbering
 pub mod Other
