@@ -167,15 +167,15 @@ upper-below b e =
     ⊎-elim (λ l. omega (arith, eqb-true b 95 l)) (λ l. omega (arith, leb-true b 90 (and-true (leb 65 b) (leb b 90) l .1)))
     (or-true (eqb b 95) (leb 65 b && leb b 90) e)
 
-digit-below : (b : ℕ) → isDigit b ≡ true → b < 58
+pub digit-below : (b : ℕ) → isDigit b ≡ true → b < 58
 unfolding isDigit
 digit-below b e = omega (arith, leb-true b 57 (and-true (leb 48 b) (leb b 57) e .1))
 
-not-lower : (b : ℕ) → b < 97 → isLower b ≡ false
+pub not-lower : (b : ℕ) → b < 97 → isLower b ≡ false
 unfolding isLower
 not-lower b h = rw (lt-leb 97 b h)
 
-not-upper : (b : ℕ) → b < 58 → isUpper b ≡ false
+pub not-upper : (b : ℕ) → b < 58 → isUpper b ≡ false
 unfolding isUpper
 not-upper b h = rw (ne-eqb b 95 (λ e. omega arith), lt-leb 65 b (omega arith))
 

@@ -3,3 +3,4 @@ pub mod CountLaws
 pub mod KeepLaws
 pub mod Fixed
 pub mod WideLaws
+pub mod LentLaws
