@@ -1,14 +1,15 @@
 -- Where the symbols of a goal lie, and how large they are.
-use Prim.Native.Nat.{ℕ, zero, suc, _+_, _≤_, _<_}
+use Prim.Native.Nat.{ℕ, suc, _+_, _≤_, _<_}
 use mathlib.Core.Path.{_≡_, refl, sym, ap, subst, _∙_}
 use mathlib.Core.Bool.{true}
 use mathlib.Core.List.{List, [], _∷_, _++_}
 use native.Mathlib.Omega.{arith}
 use lib.ListN.{length}
 use Rattle.grammar.specs.Grammar as G
-use Rattle.grammar.specs.Grammar.{negative, isLower, isUpper, isDigit, isWord, Symbol, name, variable, number}
+use Rattle.grammar.specs.Grammar.{isLower, isUpper, isDigit, isWord, Symbol, name, variable, number}
 use Rattle.grammar.specs.Grammar.{Line, Gap, Word, Digits, Term, Args, Fact, OneFact, Facts, Text}
 use Rattle.grammar.proofs.LongLaws.{word-on}
+use Rattle.grammar.proofs.Written.{negative-small}
 use Rattle.asking.specs.Goal.{Whole, stopped, unstopped}
 
 -- a name lies within so many bytes and has at most 4 arguments; a number has 16 bits
@@ -24,10 +25,6 @@ AllLie n (x ∷ ss) = Lies n x × AllLie n ss
 lie-both : (n : ℕ) (ss us : List Symbol) → AllLie n ss → AllLie n us → AllLie n (ss ++ us)
 lie-both n [] us l k = k
 lie-both n (x ∷ ss) us l k = (l .0, lie-both n ss us (l .1) k)
-
-negative-small : (n : ℕ) → negative n < 65536
-negative-small zero = omega arith
-negative-small (suc n) = omega arith
 
 -- WHAT IS LEFT at a place, of whatever kind: byte by byte it stays so, and a name that begins there ends within so many bytes
 module _ (n : ℕ) (Left : ℕ → List ℕ → Type 0) (on : (p b : ℕ) (xs : List ℕ) → Left p (b ∷ xs) → Left (suc p) xs)

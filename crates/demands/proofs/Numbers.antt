@@ -1,62 +1,65 @@
--- W-206, proved of the promises. The statements are in specs/Numbers.
+-- W-206, proved of the promises and of the grammar. The statements are in specs/Numbers.
 use Prim.Native.Nat.{ℕ, _^_, _<_}
-use mathlib.Core.Path.{_≡_, refl, sym, ap, _∙_}
-use mathlib.Core.Bool.{true, false}
-use mathlib.Core.List.{List, _∷_}
+use mathlib.Core.Path.{_≡_, sym, ap, subst, _∙_}
+use mathlib.Core.List.{List, [], _∷_}
 use native.Mathlib.Omega.{arith}
 use Rattle.cell.specs.Signed.{signedOf}
-use Rattle.cell.specs.Cell.{numberCell, numberValues, valuesAt}
+use Rattle.cell.specs.Cell.{numberValues, valuesAt, valuesOf}
+use Rattle.cell.specs.declared.Shape.{Shape}
 use Rattle.cell.proofs.SignedLaws.{bits-signed, signed-range}
 use Rattle.cell.proofs.CellLaws.{built-number}
 use Rattle.cell.proofs.Fixed.{shape-fixed}
-use Rattle.printing.specs.Printing.{symbolOf}
-use Rattle.grammar.specs.Grammar as G
-use Rattle.grammar.specs.Grammar.{isLower, isUpper, isDigit, Symbol, Term}
-use Rattle.grammar.proofs.Written.{negative-value}
-use Rattle.demands.specs.Numbers.{Request206, Negative}
+use Rattle.octets.specs.Octets.{Put}
+use Rattle.octets.proofs.DecimalLaws.{decimal-small}
+use Rattle.printing.specs.Printing.{symbolOf, symbol}
+use Rattle.grammar.specs.Grammar.{number}
+use Rattle.grammar.proofs.Range.{leaves, plain-leaves, minus-leaves}
+use Rattle.grammar.proofs.Written.{plain-value, negative-value, negative-small, value-bits, plain-term, minus-term}
+use Rattle.asking.proofs.ValueLaws.{number-term}
+use Rattle.demands.specs.Numbers.{Request206, ReadsCell, PrintsSymbol, PrintsMinusOne, TakesMinus, TakesDigits, OutOfRange}
 
 pub request-206 : (bits : ℕ) → bits < 2 ^ 16 → Request206 bits
+request-206 bits h = record { range = signed-range bits h; back = bits-signed bits h; read = λ p ys. number-term bits p ys h }
+
+-- every answer that the promise of `cell::shape_of` allows
+pub reads-cell : (c : ℕ) (answer : Shape) → valuesOf answer ≡ valuesAt c → ReadsCell c answer
+reads-cell c answer e bits h q =
+    shape-fixed c e (ap (λ (n : ℕ). numberValues n (signedOf bits)) (bits-signed bits h) ∙ sym (built-number bits h) ∙ ap valuesAt (sym q))
+
+-- and what that of `printing::put_symbol` does
+pub prints-symbol : (c : ℕ) (out out′ : List ℕ) (to r : ℕ) → Put out out′ to (symbol c) r → PrintsSymbol c out out′ to r
 unfolding symbolOf
-request-206 bits h =
-    let same : numberValues bits (signedOf bits) ≡ valuesAt (numberCell bits) = sym (built-number bits h) in
-    record {
-      range = signed-range bits h;
-      back = bits-signed bits h;
-      reading = λ answer e. shape-fixed (numberCell bits) e (ap (λ (n : ℕ). numberValues n (signedOf bits)) (bits-signed bits h) ∙ same);
-      printed = ap symbolOf (sym same);
-    }
+prints-symbol c out out′ to r x bits h q =
+    subst (λ (text : List ℕ). Put out out′ to text r) (ap symbol q ∙ ap symbolOf (built-number bits h)) x
 
--- `-` begins no name, no variable and no digits
-no-name : (b : ℕ) → isLower b ≡ true → b ≡ 45 → ⊥
-unfolding isLower
-no-name b l e = let z : false ≡ true = rw e at l in let y : _≡_ {A = ℕ} 0 1 = cc in omega arith
+pub prints-minus-one : PrintsMinusOne
+prints-minus-one = ap (λ (digits : List ℕ). 45 ∷ digits) (decimal-small 1 (omega arith))
 
-no-variable : (b : ℕ) → isUpper b ≡ true → b ≡ 45 → ⊥
-unfolding isUpper
-no-variable b l e = let z : false ≡ true = rw e at l in let y : _≡_ {A = ℕ} 0 1 = cc in omega arith
+pub takes-minus : TakesMinus
+takes-minus p q xs ys symbols = (
+  λ t. let x = minus-term .0 t in record {
+    n = x .0;
+    digits = x .1;
+    within = x .2;
+    is = record { bits = _; small = negative-small (x .0); one = x .3; cell = negative-value (x .0) (x .2) };
+  },
+  λ r. minus-term .1 (r .n, r .digits, r .within, r .is .one ∙ ap (λ (k : ℕ). number k ∷ []) (value-bits (r .is .bits) (r .is .small) (r .is .cell))),
+)
 
-no-digit : (b : ℕ) → isDigit b ≡ true → b ≡ 45 → ⊥
-unfolding isDigit
-no-digit b l e = let z : false ≡ true = rw e at l in let y : _≡_ {A = ℕ} 0 1 = cc in omega arith
+pub takes-digits : TakesDigits
+takes-digits p digit q xs ys symbols d = (
+  λ t. let x = plain-term d .0 t in record {
+    n = x .0;
+    digits = x .1;
+    within = x .2;
+    is = record { bits = x .0; small = omega (arith, x .2); one = x .3; cell = plain-value (x .0) (x .2) };
+  },
+  λ r. plain-term d .1 (r .n, r .digits, r .within, r .is .one ∙ ap (λ (k : ℕ). number k ∷ []) (value-bits (r .is .bits) (r .is .small) (r .is .cell))),
+)
 
-minus-in : {p q : ℕ} {xs ys : List ℕ} {ss : List Symbol} (zs : List ℕ) → Term p xs q ys ss → xs ≡ 45 ∷ zs → Negative p zs q ys ss
-minus-in zs (G.is-name {b = b} l w) e = absurd (no-name b l cc)
-minus-in zs (G.is-compound {byte = b} l w a h) e = absurd (no-name b l cc)
-minus-in zs (G.is-variable {b = b} u w) e = absurd (no-variable b u cc)
-minus-in zs (G.is-number {b = b} d k h) e = absurd (no-digit b d cc)
-minus-in zs (G.is-negative {b = b} {n = n} {bits = bits} {xs = xs} d k h z) e =
-    record {
-      digit = b;
-      digits = xs;
-      at-once = cc;
-      is-digit = d;
-      n = n;
-      read = k;
-      least = h;
-      bits = bits;
-      symbol-is = refl;
-      value = rw z (negative-value n h);
-    }
-
-pub after-minus : {p q : ℕ} {xs ys : List ℕ} {ss : List Symbol} → Term p (45 ∷ xs) q ys ss → Negative p xs q ys ss
-after-minus {xs = xs} t = minus-in xs t refl
+pub out-of-range : OutOfRange
+out-of-range = record {
+  above = λ before xs k x l. plain-leaves x l;
+  below = λ before xs k x l. minus-leaves x l;
+  each = λ most p q n xs ys h x l. leaves most h x l;
+}

@@ -12,11 +12,13 @@ ghost use Rattle.demands.specs.Demands.{Demand1Table, Demand1Goal, Deman
 ghost use Rattle.demands.specs.Demands.{Demand2, TriedFew, Demand3Check, Demand3Run};
 ghost use Rattle.demands.specs.Listing.{Listing};
 ghost use Rattle.demands.specs.Texts.{Request201};
+ghost use Rattle.demands.specs.Numbers.{ReadsCell, PrintsSymbol};
 ghost use Rattle.demands.specs.Shift.{Shift};
 ghost use Rattle.demands.specs.Replies.{RepliesRefused, Says};
 ghost use Rattle.demands.specs.Records.{MakesRecord, EditsRecord, BuildsFrom};
 ghost use Rattle.demands.specs.Asking.{FindsPredicate, ReadsGoal, ReadsBack};
 use asking::Predicate;
+use cell::Shape;
 use goaltext::GoalText;
 use run::Job;
 
@@ -104,6 +106,19 @@ fn request_replies(rec: &[u32; 14340], plan: &[u32], goal: &[u32], room: &mut [u
         (decoded r) ⌝ }
 {
     exports::dudowiej_replies(rec, plan, goal, room)
+}
+
+// W-206 (specs/Numbers)
+fn request_shape(c: u32) -> Shape
+    ensures { λ r. ⌜ ReadsCell c r ⌝ }
+{
+    cell::shape_of(c)
+}
+
+fn request_symbol(out: &mut [u8], to: usize, c: u32) -> usize
+    ensures { λ r. ⌜ PrintsSymbol c (now (out .entry)) (now (out .exit)) to r ⌝ }
+{
+    printing::put_symbol(out, to, c)
 }
 
 // W-207 (specs/Records)

@@ -11,7 +11,7 @@ use borrow.Author.Tests.{lt-leb}
 use Rattle.grammar.specs.Grammar as G
 use Rattle.grammar.specs.Grammar.{isLower, isUpper, isDigit, isWord, Digits, Fact}
 use Rattle.grammar.specs.Reader.{Mode, first, head, arg, word, minus, digits, after, closed, stop, between, remark, Work, nothing, Next, dead, go, says, isBlank, layout, past, limit, step, Out, stops, reads, before, run, textOf}
-use Rattle.grammar.specs.Stops.{Begins, Stops}
+use Rattle.grammar.specs.Stops.{Stops}
 use Rattle.grammar.specs.Numbers.{Decimal, decimal, Leaves, TermNext}
 use Rattle.grammar.proofs.Complete.{run-digits, at-digit, at-minus, after-minus, text-read}
 use Rattle.grammar.proofs.Sound.{clash, digit-small, text-is}
@@ -180,13 +180,15 @@ leaves-from {v} {p} most (G.more {digit = d} {xs = xs} e x) l h = by (decLt most
 
 pub leaves : {p q n : ℕ} {xs ys : List ℕ} (most : ℕ) → 9 ≤ most → Decimal p xs q ys n → most < n → (k : ℕ) × Leaves most p xs k
 leaves most m (decimal {b = b} e x) h =
-    let r = leaves-from most x (omega (arith, digit-small b e)) h in
-    (r .at, record {
-      value = r .value;
-      digit = r .digit;
-      rest = r .rest;
-      before = decimal e (r .digits);
-      within = r .within;
-      is-digit = r .is-digit;
-      above = r .above;
-    })
+    let r = leaves-from most x (omega (arith, digit-small b e)) h in (
+      r .at,
+      record {
+        value = r .value;
+        digit = r .digit;
+        rest = r .rest;
+        before = decimal e (r .digits);
+        within = r .within;
+        is-digit = r .is-digit;
+        above = r .above;
+      },
+    )

@@ -2,7 +2,7 @@
 -- is written.
 use Prim.Native.Nat.{ℕ, zero, suc, _+_, _-_, _*_, _≤_, _<_}
 use mathlib.Core.Path.{_≡_, refl, sym, ap, subst, _∙_}
-use mathlib.Core.Bool.{true, false}
+use mathlib.Core.Bool.{true}
 use mathlib.Core.List.{List, [], _∷_}
 use mathlib.Core.Logic.{_↔_}
 use native.Mathlib.Omega.{arith}
@@ -27,6 +27,10 @@ plain-value n h = read-back (pos n) (omega arith)
 pub negative-value : (n : ℕ) → n ≤ 32768 → valuesAt (numberCell (negative n)) .value ≡ negℤ (pos n)
 negative-value zero h = read-back (pos zero) (omega arith)
 negative-value (suc n) h = read-back (negℤ (pos (suc n))) (omega arith)
+
+pub negative-small : (n : ℕ) → negative n < 65536
+negative-small zero = omega arith
+negative-small (suc n) = omega arith
 
 -- and no other cell of a number has this value
 pub value-bits : (bits : ℕ) {z : ℤ} → bits < 65536 → valuesAt (numberCell bits) .value ≡ z → bits ≡ bitsOf z
