@@ -1,10 +1,8 @@
 -- The symbols of a text in their order, what numbers they get, and how the names among them are counted. These definitions describe what
 -- the code goes by; no promise of the entry cites them.
 use Prim.Native.Nat.{ℕ, suc, _+_}
-use mathlib.Core.Path.{_≡_}
-use mathlib.Core.Bool.{Bool, true, false, cond, _||_}
+use mathlib.Core.Bool.{Bool, false, cond, _||_}
 use mathlib.Core.List.{List, [], _∷_, _++_, map, flatten}
-use lib.ListN.{length, getD}
 use Rattle.cell.specs.Cell.{variableCell, nameCell, numberCell}
 use Rattle.grammar.specs.Grammar.{Symbol, name, variable, number, Fact}
 use Rattle.cell.specs.Same.{same}

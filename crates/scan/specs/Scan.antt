@@ -30,3 +30,11 @@ pub record ScanIs (t : List ℕ) (r : Scan) : Type 0 where
   pub says : Read (List Fact)
   pub rule : Taken t says
   pub answer : scanTold r ≡ countedIn says
+
+-- the text is taken as facts, and these are counted
+pub record Counts (t : List ℕ) (c : Counted) : Type 0 where
+  pub facts : List Fact
+  pub taken : Taken t (read facts)
+  pub number : length facts ≡ c .facts
+  pub width : widthOf facts ≡ c .width
+  pub symbols : length (symbolsOf facts) ≡ c .symbols

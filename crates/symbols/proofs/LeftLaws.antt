@@ -1,39 +1,35 @@
--- What is left after each turn, law by law.
-use Prim.Native.Nat.{ℕ, zero, suc, _+_, _-_, _*_, _≤_, _<_}
+-- What is left of an accepted text after each turn, law by law; and that it follows from what is promised for every text.
+use Prim.Native.Nat.{ℕ, suc, _+_, _-_, _≤_, _<_}
 use mathlib.Core.Path.{_≡_, refl, sym, ap, subst, _∙_}
 use mathlib.Core.Bool.{Bool, true, false, cond}
-use mathlib.Core.List.{List, [], _∷_, _++_, map, flatten, append-assoc}
+use mathlib.Core.List.{List, [], _∷_, _++_, flatten, append-assoc}
 use native.Mathlib.Omega.{arith}
 use lib.Dec.{ltb}
 use lib.ListN.{length, drop, set}
 use lib.Seq.{drop-append-seam}
-use Rattle.grammar.specs.Grammar.{Symbol, name, variable, number, Fact, fact, Facts, last, more}
-use Rattle.grammar.specs.Meaning.{place}
-use Rattle.grammar.specs.Reader.{Mode, arg, after, closed, Frame, frame, Work, work, Next, dead, go, put, push, comma, close, stop, Out, stops, reads, before, follow, run, textOf, nothing}
+use Rattle.grammar.specs.Grammar.{Symbol, name, variable, number, Fact, Facts, last, more}
+use Rattle.grammar.specs.Reader.{Mode, arg, after, closed, Frame, frame, Work, work, Next, dead, go, put, push, comma, close, stop, stops, reads, run, textOf, nothing}
 use Rattle.grammar.proofs.Accepted.{accepted}
 use Rattle.grammar.proofs.Sound.{clash, before-reads}
 use Rattle.grammar.specs.Reader.{Held, none}
 use Rattle.grammar.proofs.HeldLaws.{held-put, held-push, held-comma, held-close}
-use Rattle.loading.specs.Items.{Item, of-name, next-row, itemOf, itemsIn, rowsIn, itemsOf}
+use Rattle.loading.specs.Items.{Item, next-row, itemOf, itemsIn, rowsIn, itemsOf}
 use Rattle.loading.proofs.KeepLaws.{Inside, in-arg, in-after, items-put, items-set}
 use Rattle.loading.proofs.KeepLaws as keep
-use Rattle.lex.specs.Turns.{termMode, onMark, onTurn, Leads, Turns}
+use Rattle.lex.specs.Turns.{termMode, onMark, Turns}
 use Rattle.lex.specs.Heads.{Heads, Closes}
 use Rattle.lex.specs.declared.turn.Turn.{Turn}
 use Rattle.lex.specs.declared.turn.Turn.the-variants as turn
-use Rattle.lex.specs.declared.fact.Head.{Head}
-use Rattle.lex.specs.declared.fact.FactEnd.{FactEnd}
 use Rattle.lex.specs.declared.fact.Head.the-variants as head
 use Rattle.lex.specs.declared.fact.FactEnd.the-variants as fact-end
-use Rattle.symbols.specs.Left.{factOf, NextRow, RowEnds, Left, LeftAfter, Meets, AheadIs, RowAhead, Begins}
-use Rattle.symbols.specs.declared.Ahead as code
+use Rattle.symbols.specs.Next.{spot, RowEnds, Begins, RowAhead, After, NextIs}
+use Rattle.symbols.specs.Next as next
+use Rattle.symbols.specs.code.Left.{factOf, RowLeft, Left, LeftAfter, AheadLeft, StartLeft}
+use Rattle.symbols.specs.declared.Ahead.{Ahead}
 use Rattle.symbols.specs.declared.Ahead.the-variants as ahead
 use Rattle.symbols.specs.declared.Spot.{Spot}
 use Rattle.symbols.specs.declared.RowEnd.{RowEnd}
 use Rattle.symbols.specs.declared.RowEnd.the-variants as row-end
-
-abbrev pub spot : ℕ → Bool → ℕ → Spot
-spot at past depth = record { at = at; past = past; depth = depth }
 
 -- lists that begin the same go on the same
 same-rest : {A : Type 0} (xs ys zs : List A) → xs ++ ys ≡ xs ++ zs → ys ≡ zs
@@ -82,6 +78,28 @@ pub close-marks : (t : List ℕ) (p s n k : ℕ) (f : Frame) (fs : List Frame) (
 unfolding close closeTo
 close-marks t p s n k f fs out facts h e = record { held = held-close h; items = items-set (suc (f .done)) h; same = e }
 
+-- THE END OF A ROW
+module _ (t : List ℕ) (at q : ℕ) (c : Closes t at (fact-end.Full q)) (w : Work) (facts : List Fact) (r : run (drop at t) closed w at ≡ reads facts) where
+  full-stop : (fs : List Fact) × (run (drop q t) stop nothing q ≡ reads fs) × (facts ≡ factOf w ∷ fs)
+  full-stop = before-reads (factOf w) (run (drop q t) stop nothing q) facts (sym (c .same w) ∙ r)
+
+reads-one : {gs hs : List Fact} → reads gs ≡ reads hs → gs ≡ hs
+reads-one e = cc
+
+pub row-reads : {t : List ℕ} {at : ℕ} {r : RowEnd} → RowEnds t at r → RowLeft t at r
+row-reads {t} {at} (next.another {q = q} {s = s} {e = e} c h) = (
+  omega (arith, c .arrives .0, h .reaches .0, h .reaches .1),
+  omega (arith, h .reaches .2),
+  λ w facts r. (
+      let z = full-stop t at q c w facts r in
+      record { start = s; end = e; later = z .0; is = z .2; same = sym (h .same nothing) ∙ z .1 }),
+)
+row-reads {t} {at} (next.no-more {q = q} c h) = λ w facts r. (
+    let z = full-stop t at q c w facts r in
+    z .2 ∙ ap (λ (gs : List Fact). factOf w ∷ gs) (reads-one (sym (z .1) ∙ h .same nothing)))
+row-reads {t} {at} (next.no-fact {q = q} c h) = λ w facts r. clash (sym (h .same nothing) ∙ full-stop t at q c w facts r .1)
+row-reads (next.no-stop c) = λ w facts r. clash (sym (c .same w) ∙ r)
+
 -- with what is met, the items of what is read go on
 record GoesOn (w : Work) (facts : List Fact) : Type 0 where
   rest : List Item
@@ -110,13 +128,13 @@ module _ (t : List ℕ) (sp : Spot) (rest : List Item) (L : Left t sp rest) wher
         left = record { work = w′; facts = L .facts; within = h; few = k; deep = d; held = held; same = r; items = g .is };
       }
 
-  pub put-left : (x : Symbol) (e : ℕ) → sp .at < e → e ≤ length t → ((v : Work) → run (drop (sp .at) t) (termMode (sp .past)) v (sp .at) ≡ run (drop e t) after (put x v) e)
+  put-left : (x : Symbol) (e : ℕ) → sp .at < e → e ≤ length t → ((v : Work) → run (drop (sp .at) t) (termMode (sp .past)) v (sp .at) ≡ run (drop e t) after (put x v) e)
       → LeftAfter t (itemOf x) (spot e true (sp .depth)) rest
   unfolding put
   put-left x e l h f =
       with-symbol x (put x (L .work)) (spot e true (sp .depth)) refl h (omega (arith, L .few)) (L .deep) (held-put x (L .held)) (sym (f (L .work)) ∙ L .same)
 
-  pub push-left : (s e : ℕ) → sp .at < e → e < length t → ((v : Work) → run (drop (sp .at) t) (termMode (sp .past)) v (sp .at) ≡ run (drop (e + 1) t) arg (push s e v) (e + 1))
+  push-left : (s e : ℕ) → sp .at < e → e < length t → ((v : Work) → run (drop (sp .at) t) (termMode (sp .past)) v (sp .at) ≡ run (drop (e + 1) t) arg (push s e v) (e + 1))
       → LeftAfter t (itemOf (name s e 0)) (spot (e + 1) false (sp .depth + 1)) rest
   unfolding push
   push-left s e l h f =
@@ -138,7 +156,7 @@ module _ (t : List ℕ) (sp : Spot) (rest : List Item) (L : Left t sp rest) wher
         items = L .items ∙ ap (λ (xs : List Item). xs ++ rest) (sym (m .items));
       }
 
-  pub comma-left : (p : ℕ) → sp .at ≤ p → p < length t
+  comma-left : (p : ℕ) → sp .at ≤ p → p < length t
       → ((v : Work) → run (drop (sp .at) t) (termMode (sp .past)) v (sp .at) ≡ onMark t p (comma (v .start) (v .end) (v .done) (v .opened) (v .out)))
       → Left t (spot (p + 1) false (sp .depth)) rest
   comma-left p l h f =
@@ -148,7 +166,7 @@ module _ (t : List ℕ) (sp : Spot) (rest : List Item) (L : Left t sp rest) wher
 
   module _ (p : ℕ) (l : sp .at ≤ p) (h : p < length t)
       (f : (v : Work) → run (drop (sp .at) t) (termMode (sp .past)) v (sp .at) ≡ onMark t p (close (v .start) (v .end) (v .done) (v .opened) (v .out))) where
-    pub close-left : (sp .depth ≡ 0 → ⊥) → Left t (spot (p + 1) true (sp .depth - 1)) rest
+    close-left : (sp .depth ≡ 0 → ⊥) → Left t (spot (p + 1) true (sp .depth - 1)) rest
     close-left n = by (L .work .opened) (L .deep) (L .held) (sym (f (L .work)) ∙ L .same)
       where
         by : (fs : List Frame) → length fs ≡ sp .depth → Held (L .work .out) fs → onMark t p (close (L .work .start) (L .work .end) (L .work .done) fs (L .work .out)) ≡ reads (L .facts)
@@ -160,7 +178,7 @@ module _ (t : List ℕ) (sp : Spot) (rest : List Item) (L : Left t sp rest) wher
             (close-marks t p (L .work .start) (L .work .end) (L .work .done) g fs (L .work .out) (L .facts) held r)
 
     -- the fact's own bracket
-    pub closed-left : sp .depth ≡ 0 → run (drop (p + 1) t) closed (L .work) (p + 1) ≡ reads (L .facts)
+    closed-left : sp .depth ≡ 0 → run (drop (p + 1) t) closed (L .work) (p + 1) ≡ reads (L .facts)
     unfolding close
     closed-left z = by (L .work .opened) (L .deep ∙ z) (sym (f (L .work)) ∙ L .same)
       where
@@ -170,7 +188,7 @@ module _ (t : List ℕ) (sp : Spot) (rest : List Item) (L : Left t sp rest) wher
         by (g ∷ fs) d r = absurd (omega arith)
 
     -- and then the next row, or nothing
-    pub row-left : (q : ℕ) → sp .depth ≡ 0 → RowEnds t (p + 1) (row-end.Next q) → LeftAfter t next-row (spot q false 0) rest
+    row-left : (q : ℕ) → sp .depth ≡ 0 → RowLeft t (p + 1) (row-end.Next q) → LeftAfter t next-row (spot q false 0) rest
     unfolding flatten
     row-left q z x =
         let v = L .work in
@@ -193,32 +211,19 @@ module _ (t : List ℕ) (sp : Spot) (rest : List Item) (L : Left t sp rest) wher
           };
         }
 
-    pub none-left : sp .depth ≡ 0 → RowEnds t (p + 1) row-end.Last → rest ≡ []
+    none-left : sp .depth ≡ 0 → RowLeft t (p + 1) row-end.Last → rest ≡ []
     unfolding flatten
     none-left z x =
         let v = L .work in
         same-rest (itemsIn (v .out)) rest [] (sym (L .items) ∙ ap itemsOf (x v (L .facts) (closed-left z)))
 
-  pub no-stop : (p : ℕ) → ((v : Work) → run (drop (sp .at) t) (termMode (sp .past)) v (sp .at) ≡ stops p) → ⊥
+  no-stop : (p : ℕ) → ((v : Work) → run (drop (sp .at) t) (termMode (sp .past)) v (sp .at) ≡ stops p) → ⊥
   no-stop p f = clash (sym (f (L .work)) ∙ L .same)
-
--- cases of an answer
-pub turn-is : (t : List ℕ) (at : ℕ) (past : Bool) {r x : Turn} → Turns t at past r → r ≡ x → Turns t at past x
-turn-is t at past c e = subst (Turns t at past) e c
-
-pub head-is : (t : List ℕ) (at : ℕ) (first : Bool) {r x : Head} → Heads t at first r → r ≡ x → Heads t at first x
-head-is t at first c e = subst (Heads t at first) e c
-
-pub end-is : (t : List ℕ) (at : ℕ) {r x : FactEnd} → Closes t at r → r ≡ x → Closes t at x
-end-is t at c e = subst (Closes t at) e c
-
-pub row-end-is : (t : List ℕ) (at : ℕ) {r x : RowEnd} → RowEnds t at r → r ≡ x → RowEnds t at x
-row-end-is t at c e = subst (RowEnds t at) e c
 
 -- WHAT STANDS NEXT, from a place that has been reached by marks alone
 module _ (t : List ℕ) (from : Spot) (at : ℕ) (past : Bool) (depth : ℕ) (low : from .at ≤ at)
     (here : (rest : List Item) → Left t from rest → Left t (spot at past depth) rest) where
-  pub name-ahead : (s e : ℕ) → Turns t at past (turn.Name s e) → AheadIs t from (ahead.Name s e (spot e true depth))
+  name-ahead : (s e : ℕ) → Turns t at past (turn.Name s e) → AheadLeft t from (ahead.Name s e (spot e true depth))
   unfolding itemOf
   name-ahead s e c = (
     omega (arith, c .leads .0),
@@ -231,7 +236,7 @@ module _ (t : List ℕ) (from : Spot) (at : ℕ) (past : Bool) (depth : ℕ) (lo
     },
   )
 
-  pub open-ahead : (s e : ℕ) → Turns t at past (turn.Open s e) → AheadIs t from (ahead.Name s e (spot (e + 1) false (depth + 1)))
+  open-ahead : (s e : ℕ) → Turns t at past (turn.Open s e) → AheadLeft t from (ahead.Name s e (spot (e + 1) false (depth + 1)))
   unfolding itemOf
   open-ahead s e c = (
     omega (arith, c .leads .0),
@@ -244,7 +249,7 @@ module _ (t : List ℕ) (from : Spot) (at : ℕ) (past : Bool) (depth : ℕ) (lo
     },
   )
 
-  pub variable-ahead : (s e : ℕ) → Turns t at past (turn.Variable s e) → AheadIs t from (ahead.Variable s e (spot e true depth))
+  variable-ahead : (s e : ℕ) → Turns t at past (turn.Variable s e) → AheadLeft t from (ahead.Variable s e (spot e true depth))
   unfolding itemOf
   variable-ahead s e c = (
     omega (arith, c .leads .0),
@@ -257,7 +262,7 @@ module _ (t : List ℕ) (from : Spot) (at : ℕ) (past : Bool) (depth : ℕ) (lo
     },
   )
 
-  pub number-ahead : (v e : ℕ) → Turns t at past (turn.Number v e) → AheadIs t from (ahead.Number v (spot e true depth))
+  number-ahead : (v e : ℕ) → Turns t at past (turn.Number v e) → AheadLeft t from (ahead.Number v (spot e true depth))
   unfolding itemOf
   number-ahead v e c = (
     c .leads .2,
@@ -268,57 +273,47 @@ module _ (t : List ℕ) (from : Spot) (at : ℕ) (past : Bool) (depth : ℕ) (lo
     },
   )
 
-  pub comma-on : (p : ℕ) → Turns t at past (turn.Comma p) → (rest : List Item) → Left t from rest → Left t (spot (p + 1) false depth) rest
+  comma-on : (p : ℕ) → Turns t at past (turn.Comma p) → (rest : List Item) → Left t from rest → Left t (spot (p + 1) false depth) rest
   comma-on p c rest L = comma-left t (spot at past depth) rest (here rest L) p (c .leads .0) (c .leads .1) (c .same)
 
-  pub close-on : (p : ℕ) → Turns t at past (turn.Close p) → (depth ≡ 0 → ⊥) → (rest : List Item) → Left t from rest → Left t (spot (p + 1) true (depth - 1)) rest
+  close-on : (p : ℕ) → Turns t at past (turn.Close p) → (depth ≡ 0 → ⊥) → (rest : List Item) → Left t from rest → Left t (spot (p + 1) true (depth - 1)) rest
   close-on p c n rest L = close-left t (spot at past depth) rest (here rest L) p (c .leads .0) (c .leads .1) (c .same) n
 
-  pub row-ahead : (p : ℕ) → Turns t at past (turn.Close p) → depth ≡ 0 → (r : code.Ahead) → RowAhead t (p + 1) r → AheadIs t from r
-  row-ahead p c z (ahead.Row to) x =
+  row-ahead : {p : ℕ} {r : Ahead} → Turns t at past (turn.Close p) → depth ≡ 0 → RowAhead t (p + 1) r → AheadLeft t from r
+  row-ahead {p} c z (next.next-row {q = q} x) =
+      let y = row-reads x in
       record {
-        on = omega (arith, c .leads .0, x .0 .0);
-        within = x .0 .1;
-        left = λ rest L. subst (λ (y : Spot). LeftAfter t next-row y rest) (sym (x .1))
-            (row-left t (spot at past depth) rest (here rest L) p (c .leads .0) (c .leads .1) (c .same) (to .at) z (x .0));
+        on = omega (arith, c .leads .0, y .0);
+        within = y .1;
+        left = λ rest L. row-left t (spot at past depth) rest (here rest L) p (c .leads .0) (c .leads .1) (c .same) q z y;
       }
-  row-ahead p c z (ahead.End) x = λ rest L. none-left t (spot at past depth) rest (here rest L) p (c .leads .0) (c .leads .1) (c .same) z x
-  row-ahead p c z (ahead.Name s e to) x = absurd x
-  row-ahead p c z (ahead.Variable s e to) x = absurd x
-  row-ahead p c z (ahead.Number v to) x = absurd x
+  row-ahead {p} c z (next.last-row x) = λ rest L. none-left t (spot at past depth) rest (here rest L) p (c .leads .0) (c .leads .1) (c .same) z (row-reads x)
 
-  pub stop-ahead : (p : ℕ) → Turns t at past (turn.Stop p) → AheadIs t from ahead.End
+  stop-ahead : (p : ℕ) → Turns t at past (turn.Stop p) → AheadLeft t from ahead.End
   stop-ahead p c = λ rest L. absurd (no-stop t (spot at past depth) rest (here rest L) p (c .same))
 
--- THE END OF A ROW
-module _ (t : List ℕ) (at q : ℕ) (c : Closes t at (fact-end.Full q)) where
-  pub next-row-is : (s e : ℕ) → Heads t q false (head.Open s e) → RowEnds t at (row-end.Next (e + 1))
-  next-row-is s e h = (
-    omega (arith, c .arrives .0, h .reaches .0, h .reaches .1),
-    omega (arith, h .reaches .2),
-    λ w facts r. (
-        let z = before-reads (factOf w) (run (drop q t) stop nothing q) facts (sym (c .same w) ∙ r) in
-        record { start = s; end = e; later = z .0; is = z .2; same = sym (h .same nothing) ∙ z .1 }),
-  )
+-- turn after turn
+after-ahead : (t : List ℕ) (from : Spot) (at : ℕ) (past : Bool) (depth : ℕ) {x : Turn} {r : Ahead} → from .at ≤ at
+    → ((rest : List Item) → Left t from rest → Left t (spot at past depth) rest) → Turns t at past x → After t depth x r → AheadLeft t from r
+after-ahead t from at past depth l here c (next.a-name {s = s} {e = e}) = name-ahead t from at past depth l here s e c
+after-ahead t from at past depth l here c (next.opens {s = s} {e = e}) = open-ahead t from at past depth l here s e c
+after-ahead t from at past depth l here c (next.a-variable {s = s} {e = e}) = variable-ahead t from at past depth l here s e c
+after-ahead t from at past depth l here c (next.a-number {v = v} {e = e}) = number-ahead t from at past depth l here v e c
+after-ahead t from at past depth l here c (next.comma {p = p} u a) =
+    after-ahead t from (p + 1) false depth (omega (arith, c .leads .0)) (comma-on t from at past depth l here p c) u a
+after-ahead t from at past (suc depth) l here c (next.close {p = p} u a) =
+    let e : suc depth - 1 ≡ depth = omega arith in
+    after-ahead t from (p + 1) true depth (omega (arith, c .leads .0))
+    (λ rest L. subst (λ (d : ℕ). Left t (spot (p + 1) true d) rest) e (close-on t from at past (suc depth) l here p c (λ z. omega arith) rest L)) u a
+after-ahead t from at past depth l here c (next.row x) = row-ahead t from at past 0 l here c refl x
+after-ahead t from at past depth l here c (next.stop {p = p}) = stop-ahead t from at past depth l here p c
 
-  pub last-row-is : Heads t q false head.End → RowEnds t at row-end.Last
-  last-row-is h w facts r =
-      let z = before-reads (factOf w) (run (drop q t) stop nothing q) facts (sym (c .same w) ∙ r) in
-      z .2 ∙ ap (λ (gs : List Fact). factOf w ∷ gs) (reads-one (sym (z .1) ∙ h .same nothing))
-    where
-      reads-one : {gs hs : List Fact} → reads gs ≡ reads hs → gs ≡ hs
-      reads-one e = cc
-
-  pub stopped-head : (p : ℕ) → Heads t q false (head.Stop p) → RowEnds t at row-end.Last
-  stopped-head p h w facts r =
-      let z = before-reads (factOf w) (run (drop q t) stop nothing q) facts (sym (c .same w) ∙ r) in
-      clash (sym (h .same nothing) ∙ z .1)
-
-pub stopped-end : (t : List ℕ) (at p : ℕ) → Closes t at (fact-end.Stop p) → RowEnds t at row-end.Last
-stopped-end t at p c w facts r = clash (sym (c .same w) ∙ r)
+pub next-reads : {t : List ℕ} {sp : Spot} {r : Ahead} → NextIs t sp r → AheadLeft t sp r
+next-reads (next.too-deep h) = λ rest L. absurd (omega (arith, L .few, L .within))
+next-reads {t} {sp} (next.stands h c a) = after-ahead t sp (sp .at) (sp .past) (sp .depth) (omega arith) (λ rest L. L) c a
 
 -- THE START
-pub begins : (t : List ℕ) (s e : ℕ) → Heads t 0 true (head.Open s e) → Begins t (spot (e + 1) false 0)
+begins : (t : List ℕ) (s e : ℕ) → Heads t 0 true (head.Open s e) → StartLeft t (spot (e + 1) false 0)
 unfolding textOf
 begins t s e h =
     record {
@@ -338,7 +333,7 @@ begins t s e h =
     }
 
 -- a text that has no fact is none
-begins-not : (t : List ℕ) → ((facts : List Fact) → textOf t ≡ reads facts → ⊥) → Begins t (spot 0 false 0)
+begins-not : (t : List ℕ) → ((facts : List Fact) → textOf t ≡ reads facts → ⊥) → StartLeft t (spot 0 false 0)
 begins-not t n = record { within = omega arith; spot = refl; first = λ facts e. absurd (n facts e); left = λ facts e. absurd (n facts e) }
 
 -- nor has one no facts
@@ -346,10 +341,8 @@ no-facts : {p : ℕ} {xs : List ℕ} {fs : List Fact} → Facts p xs fs → fs �
 no-facts (last o g) e = let z : _≡_ {A = ℕ} 0 1 = cc in omega arith
 no-facts (more o g h r) e = let z : _≡_ {A = ℕ} 0 1 = cc in omega arith
 
-pub empty-begin : (t : List ℕ) → Heads t 0 true head.End → Begins t (spot 0 false 0)
+pub start-reads : {t : List ℕ} {sp : Spot} → Begins t sp → StartLeft t sp
 unfolding textOf
-empty-begin t h = begins-not t (λ facts e. no-facts (accepted t [] .0 (h .same nothing) .facts) refl)
-
-pub stopped-begin : (t : List ℕ) (p : ℕ) → Heads t 0 true (head.Stop p) → Begins t (spot 0 false 0)
-unfolding textOf
-stopped-begin t p h = begins-not t (λ facts e. clash (sym (h .same nothing) ∙ e))
+start-reads {t} (next.opens {s = s} {e = e} h) = begins t s e h
+start-reads {t} (next.empty h) = begins-not t (λ facts e. no-facts (accepted t [] .0 (h .same nothing) .facts) refl)
+start-reads {t} (next.no-fact h) = begins-not t (λ facts e. clash (sym (h .same nothing) ∙ e))

@@ -1,1 +1,3 @@
+pub mod NextLaws
 pub mod LeftLaws
+pub mod Fixed

@@ -1,6 +1,6 @@
-// The symbols of an accepted text, one after another (02, W-201). The text is read once more, by someone who knows that it is one: nothing
-// is kept but how many names are open.
-ghost use Rattle.symbols.specs.Left.{RowEnds, AheadIs, RowAhead, Begins};
+// The symbols of a text, one after another (02, W-201), by what stands at a place: nothing is kept but how many names are open. What is read
+// of a text that is none ends where it stops.
+ghost use Rattle.symbols.specs.Next.{RowEnds, Begins, RowAhead, NextIs};
 use lex::fact::FactEnd;
 use lex::fact::Head;
 use lex::turn::Turn;
@@ -72,7 +72,7 @@ fn row_ahead(text: &[u8], at: usize) -> Ahead
 }
 
 pub fn next_item(text: &[u8], sp: Spot) -> Ahead
-    ensures { λ r. ⌜ AheadIs (now (text .entry)) sp r ⌝ }
+    ensures { λ r. ⌜ NextIs (now (text .entry)) sp r ⌝ }
 {
     let mut at = sp.at;
     let mut past = sp.past;

@@ -1,3 +1,5 @@
 pub mod TreeLaws
 pub mod NameLaws
 pub mod NumberLaws
+pub mod WordLaws
+pub mod Fixed

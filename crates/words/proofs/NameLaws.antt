@@ -1,5 +1,5 @@
 -- Names listed, struck out and counted, law by law.
-use Prim.Native.Nat.{ℕ, zero, suc, _+_, _-_, _*_, _≤_, _<_}
+use Prim.Native.Nat.{ℕ, suc, _+_, _-_, _≤_, _<_}
 use mathlib.Core.Path.{_≡_, refl, sym, ap, ap₂, subst, _∙_}
 use mathlib.Core.Bool.{Bool, true, false, not, cond, _||_}
 use mathlib.Core.List.{List, [], _∷_, _++_}
@@ -7,7 +7,7 @@ use native.Mathlib.Omega.{arith}
 use native.Mathlib.Nat.{le-of-eq}
 use native.Mathlib.Numerals.{add-one}
 use native.Mathlib.Decide.{ℕ-discrete}
-use lib.Dec.{eqb, ltb}
+use lib.Dec.{eqb}
 use lib.ListN.{length, getD, set, drop, replicate, getD-replicate, length-set, length-append, List·getD-append}
 use lib.Seq.{slice, drop-cons, getD-append-seam, getD-set-same, getD-set-other}
 use borrow.Author.Tests.{eq-eqb, ne-eqb}
@@ -15,25 +15,27 @@ use Rattle.grammar.specs.Grammar.{Fact}
 use Rattle.grammar.specs.Reader.{reads, textOf}
 use Rattle.cell.specs.Same.{same}
 use Rattle.grammar.specs.Meaning.{Place, place, bytesOf, position, meet, namesOf}
-use Rattle.cell.proofs.SameLaws.{same-refl, same-no, same-eq}
+use Rattle.cell.proofs.SameLaws.{same-refl, same-no}
 use Rattle.grammar.proofs.NumberLaws.{position-is, position-none, position-added, meet-old, meet-new}
-use Rattle.loading.specs.Items.{Item, of-name, of-variable, of-number, next-row, itemsOf, namesMet, metIn, unmet}
+use Rattle.loading.specs.Items.{Item, of-variable, of-number, next-row, itemsOf, namesMet, metIn, unmet}
 use Rattle.loading.proofs.ItemLaws.{names-items}
 use Rattle.loading.proofs.CountLaws.{Apart, batch}
-use Rattle.symbols.specs.Left.{Left, LeftAfter, Meets, AheadIs, Begins}
+use Rattle.symbols.specs.Next.{NextIs}
+use Rattle.symbols.specs.code.Left.{Left, Meets, AheadLeft, StartLeft}
 use Rattle.symbols.specs.declared.Spot.{Spot}
 use Rattle.symbols.specs.declared.Ahead.{Ahead}
 use Rattle.symbols.specs.declared.Ahead.the-variants as ahead
-use Rattle.words.specs.code.Tree.{wordOf, Tree, Missing, Finds, listed, Met, old, new}
-use Rattle.words.specs.code.Names.{at, NoName, Passed, NameMet, NextNameIs, Shown, Still, Filling, FilledTo, lost, Struck, Strikes, blankOf, zeros, BatchOf, Batched, Counting, CountsNames}
+use Rattle.symbols.proofs.LeftLaws.{next-reads}
+use Rattle.words.specs.code.Tree.{wordOf, Tree, listed, Met, old, new}
+use Rattle.words.specs.code.Names.{at, NoName, Passed, NameMet, NextNameIs, Shown, Filling, FilledTo, lost, Struck, Strikes, blankOf, zeros, Batched, Counting}
 use Rattle.words.specs.declared.names.NextName.{NextName}
 use Rattle.words.specs.declared.names.NextName.the-variants as next-name
 use Rattle.words.specs.declared.names.Filled.{Filled}
 use Rattle.words.specs.declared.names.Batch.{Batch}
 use Rattle.words.proofs.TreeLaws.{word-says}
 
-pub ahead-is : (t : List ℕ) (sp : Spot) {r x : Ahead} → AheadIs t sp r → r ≡ x → AheadIs t sp x
-ahead-is t sp c e = subst (AheadIs t sp) e c
+pub ahead-is : (t : List ℕ) (sp : Spot) {r x : Ahead} → NextIs t sp r → r ≡ x → AheadLeft t sp x
+ahead-is t sp c e = next-reads (subst (NextIs t sp) e c)
 
 pub name-is : (t : List ℕ) (sp : Spot) {r x : NextName} → NextNameIs t sp r → r ≡ x → NextNameIs t sp x
 name-is t sp c e = subst (NextNameIs t sp) e c
@@ -55,19 +57,19 @@ module _ (t : List ℕ) (from at : Spot) (here : (rest : List Item) → Left t f
         met = λ v. P .met v ∙ ap (metIn t v) (A .is) ∙ g v (A .after);
       }
 
-  pub variable-passed : (s e : ℕ) (to : Spot) → AheadIs t at (ahead.Variable s e to) → (rest : List Item) → Left t from rest → Passed t to rest
+  pub variable-passed : (s e : ℕ) (to : Spot) → AheadLeft t at (ahead.Variable s e to) → (rest : List Item) → Left t from rest → Passed t to rest
   unfolding namesMet metIn
   variable-passed s e to a = other-passed (of-variable (place s e)) to (a .3) (λ ns rest. refl) (λ v rest. refl)
 
-  pub number-passed : (n : ℕ) (to : Spot) → AheadIs t at (ahead.Number n to) → (rest : List Item) → Left t from rest → Passed t to rest
+  pub number-passed : (n : ℕ) (to : Spot) → AheadLeft t at (ahead.Number n to) → (rest : List Item) → Left t from rest → Passed t to rest
   unfolding namesMet metIn
   number-passed n to a = other-passed (of-number n) to (a .1) (λ ns rest. refl) (λ v rest. refl)
 
-  pub row-passed : (to : Spot) → AheadIs t at (ahead.Row to) → (rest : List Item) → Left t from rest → Passed t to rest
+  pub row-passed : (to : Spot) → AheadLeft t at (ahead.Row to) → (rest : List Item) → Left t from rest → Passed t to rest
   unfolding namesMet metIn
   row-passed to a = other-passed next-row to a (λ ns rest. refl) (λ v rest. refl)
 
-  pub name-met : (s e : ℕ) (to : Spot) → AheadIs t at (ahead.Name s e to) → NextNameIs t from (next-name.Name s e to)
+  pub name-met : (s e : ℕ) (to : Spot) → AheadLeft t at (ahead.Name s e to) → NextNameIs t from (next-name.Name s e to)
   unfolding namesMet metIn
   name-met s e to a = (
     omega (arith, a .0),
@@ -80,7 +82,7 @@ module _ (t : List ℕ) (from at : Spot) (here : (rest : List Item) → Left t f
         record { rest = A .after; left = A .left; names = λ ns. P .names ns ∙ ap (namesMet t ns) (A .is); met = λ v. P .met v ∙ ap (metIn t v) (A .is) }),
   )
 
-  pub no-name : AheadIs t at ahead.End → NextNameIs t from next-name.End
+  pub no-name : AheadLeft t at ahead.End → NextNameIs t from next-name.End
   unfolding namesMet metIn
   no-name a rest₀ L =
       let P = here rest₀ L in
@@ -329,7 +331,7 @@ module _ (t : List ℕ) (from : Spot) (list links : List ℕ) (r : Filled) (mark
       }
 
 -- ALL THE BATCHES
-pub none-counted : (t : List ℕ) (sp : Spot) → Begins t sp → (facts : List Fact) → textOf t ≡ reads facts → Counting t sp 0 facts
+pub none-counted : (t : List ℕ) (sp : Spot) → StartLeft t sp → (facts : List Fact) → textOf t ≡ reads facts → Counting t sp 0 facts
 none-counted t sp b facts e = record { rest = itemsOf facts; left = b .left facts e; count = omega arith }
 
 pub batch-counted : (t : List ℕ) (sp : Spot) (total : ℕ) (r : Batch) (facts : List Fact) → Batched t sp r → Counting t sp total facts → Counting t (r .to) (total + r .names) facts

@@ -1,5 +1,5 @@
 -- The numbers of a text's symbols, law by law.
-use Prim.Native.Nat.{ℕ, zero, suc, _+_, _-_, _*_, _≤_, _<_}
+use Prim.Native.Nat.{ℕ, suc, _+_, _-_, _≤_, _<_}
 use mathlib.Core.Path.{_≡_, refl, sym, ap, ap₂, subst, _∙_}
 use mathlib.Core.Bool.{Bool, true, false, cond, _&&_}
 use mathlib.Core.List.{List, [], _∷_, _++_, map}
@@ -7,22 +7,20 @@ use native.Mathlib.Omega.{arith}
 use native.Mathlib.Numerals.{add-one}
 use native.Mathlib.Decide.{ℕ-discrete}
 use lib.Dec.{eqb, ltb}
-use lib.ListN.{length, getD, set, take, length-append, length-set}
-use lib.Seq.{slice, sets, slice-cons, slice-empty, length-slice, take-suc-set, getD-set-same, getD-set-other}
-use Rattle.grammar.specs.Grammar.{Fact}
-use Rattle.grammar.specs.Reader.{reads, textOf}
+use lib.ListN.{length, getD, set, drop, length-append, length-set, length-map}
+use lib.Seq.{slice, sets, slice-cons, slice-empty, length-slice, sets-eq, drop-cons, append-snoc, set-append-seam, getD-set-same, getD-set-other}
 use Rattle.cell.specs.Same.{same}
-use Rattle.grammar.specs.Meaning.{Place, place, bytesOf, position, meet, symbolsOf, variableNumber, variablesWith, nameList}
-use Rattle.cell.proofs.SameLaws.{same-refl, same-eq, same-no}
-use Rattle.grammar.proofs.NumberLaws.{position-bound, position-kept, position-added, fresh-number, named-number, with-new, with-old}
+use Rattle.grammar.specs.Meaning.{Place, place, bytesOf, position, meet, namesOf, variableNumber, variablesWith, entryOf, nameList}
+use Rattle.cell.proofs.SameLaws.{same-no}
+use Rattle.grammar.proofs.NumberLaws.{position-kept, position-added, fresh-number, named-number, with-new, with-old}
 use Rattle.loading.specs.Items.{Item, of-name, of-variable, of-number, next-row, itemsOf, symbolsAmong, namesMet, numbering}
-use Rattle.loading.proofs.ItemLaws.{names-items, among-items, none-numbered, none-named}
-use Rattle.symbols.specs.Left.{Left, Meets, AheadIs, Begins}
+use Rattle.loading.proofs.ItemLaws.{names-items, among-items, numbering-long, none-numbered, none-named}
+use Rattle.symbols.specs.code.Left.{Left, Meets, AheadLeft, StartLeft}
 use Rattle.symbols.specs.declared.Spot.{Spot}
 use Rattle.symbols.specs.declared.Ahead.the-variants as ahead
+use Rattle.words.specs.Words.{numbersOf}
 use Rattle.words.specs.code.Tree.{wordOf, listed, Tree, Met, old, new, Cleared}
-use Rattle.words.specs.code.Names.{Shown}
-use Rattle.words.specs.code.Numbers.{isFresh, RowVars, VariableIs, entry, Numbers, Numbering, NumbersReady, NumbersOf, NumbersFrom, TextNumbers, NumbersIs}
+use Rattle.words.specs.code.Numbers.{isFresh, RowVars, VariableIs, Numbers, Numbering, NumbersReady, NumbersFrom, NumbersIs}
 use Rattle.words.specs.declared.numbers.Row.{Row}
 use Rattle.words.specs.declared.numbers.Numbered.{Numbered}
 use Rattle.words.proofs.TreeLaws.{word-says, tree-cleared}
@@ -156,9 +154,18 @@ unfolding position
 no-variables t words ways given T e =
     record { places = []; all = refl; few = omega arith; tree = T; size = e; found = λ j h. absurd (omega arith); missing = λ w n f. refl }
 
-entries-more : (ns : List Place) (w : Place) → map entry ns ++ (entry w ∷ []) ≡ map entry (ns ++ (w ∷ []))
+entries-more : (ns : List Place) (w : Place) → map entryOf ns ++ (entryOf w ∷ []) ≡ map entryOf (ns ++ (w ∷ []))
 entries-more [] w = refl
-entries-more (n ∷ ns) w = ap (λ (l : List ℕ). entry n ∷ l) (entries-more ns w)
+entries-more (n ∷ ns) w = ap (λ (l : List ℕ). entryOf n ∷ l) (entries-more ns w)
+
+-- a store at the end of what is written
+pub set-next : (xs start : List ℕ) (k c : ℕ) → length xs ≡ k → k < length start
+    → set (xs ++ drop k start) k c ≡ (xs ++ (c ∷ [])) ++ drop (k + 1) start
+set-next xs start k c e h =
+    ap₂ (λ (l : List ℕ) (i : ℕ). set (xs ++ l) i c) (drop-cons start k 0 h) (sym e)
+    ∙ set-append-seam xs (getD start k 0) (drop (suc k) start) c
+    ∙ sym (append-snoc xs c (drop (suc k) start))
+    ∙ ap (λ (i : ℕ). (xs ++ (c ∷ [])) ++ drop i start) (sym (add-one k))
 
 -- one variable at most is added
 with-few : (t : List ℕ) (vs : List Place) (w : Place) → length (variablesWith t vs w) ≤ length vs + 1
@@ -178,7 +185,7 @@ met-low (new n a T) = omega arith
 
 -- NUMBERED FROM A PLACE ON: none yet
 pub none-numbered-yet : (t : List ℕ) (from : Spot) (list links words ways given out : List ℕ) → NumbersReady t list links words ways given out
-    → Numbering t from list links words ways given (row 0 0) 0 0 from out out
+    → Numbering t from list links words ways given (row 0 0) 0 0 from out out list
 unfolding no-variables
 none-numbered-yet t from list links words ways given out R =
     record {
@@ -191,8 +198,8 @@ none-numbered-yet t from list links words ways given out R =
       still = λ rest L. record { rest = rest; left = L; names = refl; numbers = refl; among = omega arith };
     }
 
-module _ (t : List ℕ) (from : Spot) (list links words ways given : List ℕ) (r : Row) (count k : ℕ) (at : Spot) (out out₀ : List ℕ)
-    (N : Numbering t from list links words ways given r count k at out out₀) where
+module _ (t : List ℕ) (from : Spot) (list links words ways given : List ℕ) (r : Row) (count k : ℕ) (at : Spot) (out out₀ list₀ : List ℕ)
+    (N : Numbering t from list links words ways given r count k at out out₀ list₀) where
   -- one item further: what the list of names, the row's variables and the numbers become
   next-numbers : (x : Item) (to : Spot) (ns vs : List Place) (k′ : ℕ) (out′ : List ℕ) → Meets t at x to
       → ((rest : List Item) → namesMet t (N .names) (x ∷ rest) ≡ namesMet t ns rest)
@@ -214,7 +221,7 @@ module _ (t : List ℕ) (from : Spot) (list links words ways given : List ℕ) (
   numbering-tree = subst (Tree t list links) (N .number) (N .shown .tree)
 
   -- a name
-  module _ (s e n : ℕ) (to : Spot) (list′ links′ : List ℕ) (A : AheadIs t at (ahead.Name s e to)) (h : length t ≤ 65535)
+  module _ (s e n : ℕ) (to : Spot) (list′ links′ : List ℕ) (A : AheadLeft t at (ahead.Name s e to)) (h : length t ≤ 65535)
       (m : Met t list links count s e list′ links′ n) where
     met : MetIs t list links (N .names) (place s e) list′ links′ n
     met =
@@ -228,7 +235,7 @@ module _ (t : List ℕ) (from : Spot) (list links words ways given : List ℕ) (
         (λ rest. ap₂ (λ (v i : ℕ). sets (set out k v) i (numbering t (meet t (N .names) (place s e)) (N .vars .places) rest)) (sym (met .number)) (sym (add-one k)))
         (λ rest. omega arith)
 
-    pub name-new : n ≡ count → count < length list → Numbering t from list′ links′ words ways given r (count + 1) (k + 1) to (set out k n) out₀
+    pub name-new : n ≡ count → count < length list₀ → Numbering t from list′ links′ words ways given r (count + 1) (k + 1) to (set out k n) out₀ list₀
     name-new z room =
         let y = z ∙ sym (N .number) in
         let q = met .grew y in
@@ -237,32 +244,31 @@ module _ (t : List ℕ) (from : Spot) (list links words ways given : List ℕ) (
           number = ap length q ∙ length-append (N .names) (place s e ∷ []) ∙ ap (λ (c : ℕ). c + 1) (N .number);
           shown = met .shown;
           entries =
-              ap₂ take (add-one count) (met .entry y ∙ ap (λ (c : ℕ). set list c (listed s e)) (N .number))
-              ∙ take-suc-set list count (listed s e) room
-              ∙ ap (λ (xs : List ℕ). xs ++ (listed s e ∷ [])) (N .entries)
-              ∙ entries-more (N .names) (place s e)
-              ∙ ap (map entry) (sym q);
+              met .entry y
+              ∙ ap₂ (λ (l : List ℕ) (c : ℕ). set l c (listed s e)) (N .entries) (N .number)
+              ∙ set-next (map entryOf (N .names)) list₀ count (listed s e) (length-map (N .names) entryOf ∙ N .number) room
+              ∙ ap (λ (xs : List ℕ). xs ++ drop (count + 1) list₀) (entries-more (N .names) (place s e) ∙ ap (map entryOf) (sym q));
           vars = N .vars;
           few = (omega (arith, N .few .0), omega (arith, N .few .1));
           still = name-numbers;
         }
 
-    pub name-known : (n ≡ count → ⊥) → Numbering t from list′ links′ words ways given r count (k + 1) to (set out k n) out₀
+    pub name-known : (n ≡ count → ⊥) → Numbering t from list′ links′ words ways given r count (k + 1) to (set out k n) out₀ list₀
     name-known z =
         let q = met .stayed (λ y. z (y ∙ N .number)) in
         record {
           names = meet t (N .names) (place s e);
           number = ap length (q .0) ∙ N .number;
           shown = met .shown;
-          entries = ap (take count) (q .1) ∙ N .entries ∙ ap (map entry) (sym (q .0));
+          entries = q .1 ∙ N .entries ∙ ap (λ (ns : List Place). map entryOf ns ++ drop count list₀) (sym (q .0));
           vars = N .vars;
           few = (omega (arith, N .few .0), omega (arith, N .few .1));
           still = name-numbers;
         }
 
   -- a variable
-  pub variable-numbered : {words′ ways′ given′ : List ℕ} (s e : ℕ) (to : Spot) (v : Numbered) → AheadIs t at (ahead.Variable s e to)
-      → VariableIs t (N .vars .places) (place s e) words′ ways′ given′ v → v .row .all ≤ k + 1 → Numbering t from list links words′ ways′ given′ (v .row) count (k + 1) to (set out k (v .number)) out₀
+  pub variable-numbered : {words′ ways′ given′ : List ℕ} (s e : ℕ) (to : Spot) (v : Numbered) → AheadLeft t at (ahead.Variable s e to)
+      → VariableIs t (N .vars .places) (place s e) words′ ways′ given′ v → v .row .all ≤ k + 1 → Numbering t from list links words′ ways′ given′ (v .row) count (k + 1) to (set out k (v .number)) out₀ list₀
   unfolding namesMet numbering symbolsAmong
   variable-numbered s e to v A x h =
       record {
@@ -279,7 +285,7 @@ module _ (t : List ℕ) (from : Spot) (list links words ways given : List ℕ) (
       }
 
   -- a number
-  pub number-numbered : (v : ℕ) (to : Spot) → AheadIs t at (ahead.Number v to) → Numbering t from list links words ways given r count (k + 1) to (set out k v) out₀
+  pub number-numbered : (v : ℕ) (to : Spot) → AheadLeft t at (ahead.Number v to) → Numbering t from list links words ways given r count (k + 1) to (set out k v) out₀ list₀
   unfolding namesMet numbering symbolsAmong
   number-numbered v to A =
       record {
@@ -294,7 +300,7 @@ module _ (t : List ℕ) (from : Spot) (list links words ways given : List ℕ) (
       }
 
   -- another row
-  pub row-numbered : {ways′ : List ℕ} (to : Spot) → AheadIs t at (ahead.Row to) → Cleared ways ways′ (r .named) → Numbering t from list links words ways′ given (row 0 0) count k to out out₀
+  pub row-numbered : {ways′ : List ℕ} (to : Spot) → AheadLeft t at (ahead.Row to) → Cleared ways ways′ (r .named) → Numbering t from list links words ways′ given (row 0 0) count k to out out₀ list₀
   unfolding namesMet numbering symbolsAmong no-variables
   row-numbered {ways′} to A c =
       record {
@@ -308,37 +314,38 @@ module _ (t : List ℕ) (from : Spot) (list links words ways given : List ℕ) (
       }
 
   -- the end, or no more room
-  numbered : ((rest : List Item) → Left t at rest → k + symbolsAmong rest ≤ length out₀ → symbolsAmong rest ≡ 0) → k ≤ length out₀ → NumbersFrom t from list out out₀ count
-  numbered z h =
+  numbered : ((rest : List Item) → Left t at rest → k + symbolsAmong rest ≤ length out₀ → symbolsAmong rest ≡ 0)
+      → NumbersFrom t from list list₀ out out₀ count
+  numbered z = λ rest₀ l L. (
+      let S = N .still rest₀ L in
+      let e = z (S .rest) (S .left) (omega (arith, S .among)) in
       record {
-        few = omega (arith, N .few .0);
-        numbers = λ rest₀ l L. (
-            let S = N .still rest₀ L in
-            let e = z (S .rest) (S .left) (omega (arith, S .among)) in
-            record {
-              names = N .names;
-              met = sym (none-named t (N .names) (S .rest) e) ∙ S .names;
-              count = N .number;
-              entries = N .entries;
-              numbers = ap (sets out k) (sym (none-numbered t (N .names) (N .vars .places) (S .rest) e)) ∙ S .numbers;
-            });
-      }
+        names = N .names;
+        met = sym (none-named t (N .names) (S .rest) e) ∙ S .names;
+        count = N .number;
+        entries = N .entries;
+        numbers = ap (sets out k) (sym (none-numbered t (N .names) (N .vars .places) (S .rest) e)) ∙ S .numbers;
+      })
 
-  pub numbered-end : AheadIs t at ahead.End → k ≤ length out₀ → NumbersFrom t from list out out₀ count
+  pub numbered-end : AheadLeft t at ahead.End → NumbersFrom t from list list₀ out out₀ count
   unfolding symbolsAmong
   numbered-end a = numbered (λ rest L h. ap symbolsAmong (a rest L))
 
-  pub numbered-full : length out₀ ≤ k → k ≤ length out₀ → NumbersFrom t from list out out₀ count
+  pub numbered-full : length out₀ ≤ k → NumbersFrom t from list list₀ out out₀ count
   numbered-full l = numbered (λ rest L h. omega arith)
 
 -- THE WHOLE TEXT
-pub numbers-text : (t : List ℕ) (from : Spot) (list out out₀ : List ℕ) (r : ℕ) → Begins t from → NumbersFrom t from list out out₀ r → NumbersIs t list out out₀ r
+pub numbers-text : (t : List ℕ) (from : Spot) (list list₀ out out₀ : List ℕ) (r : ℕ) → StartLeft t from → NumbersFrom t from list list₀ out out₀ r
+    → NumbersIs t list list₀ out out₀ r
 unfolding nameList
-numbers-text t from list out out₀ r b N =
+numbers-text t from list list₀ out out₀ r b N = λ facts e few. (
+    let O = N (itemsOf facts) (omega (arith, among-items facts)) (b .left facts e) in
+    let q = O .met ∙ names-items t [] facts in
+    let n : r ≡ length (map entryOf (namesOf t facts)) = sym (O .count) ∙ ap length q ∙ sym (length-map (namesOf t facts) entryOf) in
+    let k : 0 + length (numbersOf t facts) ≤ length out₀ = omega (arith, numbering-long t [] [] (itemsOf facts), among-items facts) in
+    let z : 0 + length (numbersOf t facts) ≡ length (numbersOf t facts) = omega arith in
     record {
-      few = N .few;
-      text = λ facts h k l e few. (
-          let O = N .numbers (itemsOf facts) (omega (arith, among-items facts)) (b .left facts e) in
-          let q = O .met ∙ names-items t [] facts in
-          record { count = sym (O .count) ∙ ap length q; names = O .entries ∙ ap (map entry) q; numbers = O .numbers });
-    }
+      count = n;
+      names = O .entries ∙ ap₂ (λ (ns : List Place) (i : ℕ). map entryOf ns ++ drop i list₀) q n;
+      numbers = O .numbers ∙ sets-eq (numbersOf t facts) out₀ 0 k ∙ ap (λ (i : ℕ). numbersOf t facts ++ drop i out₀) z;
+    })

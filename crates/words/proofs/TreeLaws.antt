@@ -1,18 +1,18 @@
 -- Laws of words and of the tree that finds them.
-use Prim.Native.Nat.{ℕ, zero, suc, _+_, _-_, _*_, _/_, _%_, _^_, _≤_, _<_}
+use Prim.Native.Nat.{ℕ, suc, _+_, _-_, _*_, _/_, _%_, _^_, _≤_, _<_}
 use mathlib.Core.Path.{_≡_, refl, sym, ap, ap₂, subst, _∙_}
-use mathlib.Core.Bool.{Bool, true, false, cond, _&&_}
-use mathlib.Core.List.{List, [], _∷_}
+use mathlib.Core.Bool.{Bool, true, false, cond}
+use mathlib.Core.List.{List, []}
 use native.Mathlib.Omega.{arith}
 use native.Mathlib.Numerals.{add-one}
 use native.Mathlib.Decide.{ℕ-discrete, decLt}
-use lib.Dec.{eqb, ltb}
+use lib.Dec.{ltb}
 use lib.ListN.{length, getD, set, replicate, length-set, length-replicate, getD-replicate, List·getD-eq-default}
-use lib.Seq.{slice, slice-empty, slice-cons, length-slice, getD-set-same, getD-set-other, getD-take, getD-drop}
-use borrow.Author.Tests.{eqb-true, eq-eqb, lt-ltb, le-ltb}
-use Rattle.words.specs.code.Tree.{bitOf, wordOf, Fits, slotOf, Route, here, down, Trail, start, step, Tree, Missing, Finds, listed, Met, old, new, ClearedTo, Cleared, Seeks}
+use lib.Seq.{slice, getD-set-same, getD-set-other}
+use borrow.Author.Tests.{lt-ltb, le-ltb}
+use Rattle.words.specs.code.Tree.{bitOf, wordOf, Fits, slotOf, Route, here, down, Trail, start, step, Tree, Missing, Finds, listed, Met, new, ClearedTo, Cleared, Seeks}
 use Rattle.cell.specs.Same.{same}
-use Rattle.cell.proofs.SameLaws.{same-refl, same-no}
+use Rattle.cell.proofs.SameLaws.{same-refl}
 use Rattle.words.specs.declared.tree.Slot.{Slot}
 use Rattle.words.specs.declared.tree.Slot.the-variants.{Listed, Free}
 

@@ -137,11 +137,9 @@ fn count_batch(text: &[u8], from: Spot) -> Batch
 
 // How many different names an accepted text has.
 pub fn count_names(text: &[u8]) -> usize
+    requires { ⌜ length (now text) ≤ 65535 ⌝ }
     ensures { λ r. ⌜ CountsNames (now (text .entry)) r ⌝ }
 {
-    if 65535 < text.len() {
-        return 0;
-    }
     let mut total = 0;
     let mut at = symbols::begin(text);
     loop {

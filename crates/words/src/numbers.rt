@@ -4,7 +4,6 @@ ghost use Prim.Native.Nat.{_≤_, _<_};
 ghost use lib.ListN.{length};
 ghost use lib.Seq.{slice};
 ghost use Rattle.grammar.specs.Meaning.{place};
-ghost use Rattle.words.specs.code.Tree.{Tree};
 ghost use Rattle.words.specs.code.Numbers.{isFresh, RowVars, VariableIs, NumbersReady, NumbersFrom, NumbersIs};
 use super::tree;
 use symbols::Ahead;
@@ -89,7 +88,8 @@ fn number_all(
     numbers: &mut [u16],
 ) -> usize
     requires { ⌜ NumbersReady (now text) (now list) (now links) (now words) (now ways) (now given) (now numbers) ⌝ }
-    ensures { λ r. ⌜ NumbersFrom (now (text .entry)) from (now (list .exit)) (now (numbers .exit)) (now (numbers .entry)) r ⌝ }
+    ensures { λ r. ⌜ NumbersFrom (now (text .entry)) from (now (list .exit)) (now (list .entry)) (now (numbers .exit))
+        (now (numbers .entry)) r ⌝ }
 {
     let mut row = Row { named: 0, all: 0 };
     let mut at = from;
@@ -131,20 +131,11 @@ fn number_all(
     count
 }
 
-// The numbers of an accepted text's symbols, where there is room for them, and the list of its names, as many as it answers. The list has
-// room for as many names as there is room for numbers, and for 2,048 at most.
+// The numbers of an accepted text's symbols, where there is room for them, and the list of its names; how many names there are.
 pub fn number_symbols(text: &[u8], list: &mut [u32], numbers: &mut [u16]) -> usize
-    ensures { λ r. ⌜ NumbersIs (now (text .entry)) (now (list .exit)) (now (numbers .exit)) (now (numbers .entry)) r ⌝ }
+    requires { ⌜ (length (now text) ≤ 65535) × (length (now list) ≡ 2048) × (length (now numbers) ≡ 2048) ⌝ }
+    ensures { λ r. ⌜ NumbersIs (now (text .entry)) (now (list .exit)) (now (list .entry)) (now (numbers .exit)) (now (numbers .entry)) r ⌝ }
 {
-    if 65535 < text.len() {
-        return 0;
-    }
-    if 2048 < list.len() {
-        return 0;
-    }
-    if list.len() < numbers.len() {
-        return 0;
-    }
     let mut links = [0u16; 4097];
     let mut words = [0u32; 2048];
     let mut ways = [0u16; 4097];

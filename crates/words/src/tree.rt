@@ -3,8 +3,7 @@
 // number plus 1, or 0.
 ghost use mathlib.Core.Path.{_≡_};
 ghost use Prim.Native.Nat.{_+_, _*_, _≤_, _<_};
-ghost use lib.ListN.{length, getD};
-ghost use lib.Seq.{slice};
+ghost use lib.ListN.{length};
 ghost use Rattle.words.specs.code.Tree.{bitOf, wordOf, Fits, Tree, Finds, Met, Cleared};
 ghost use Rattle.cell.specs.Same.{same};
 

@@ -1,6 +1,7 @@
 use native.Mathlib.Omega.{arith}
 use mathlib.Core.Bool.{true}
-use Rattle.symbols.proofs.LeftLaws.{head-is, begins, empty-begin, stopped-begin}
+use Rattle.symbols.specs.Next as next
+use Rattle.symbols.proofs.NextLaws.{head-is}
 use borrow.Author.Needs.{needs}
 use Rattle.symbols.proofs.begin.Statement.{statement}
 use Rattle.symbols.proofs.begin.Tie as tie
@@ -35,19 +36,19 @@ returns : tie.Need-returns
 returns c =
     let t = c .before .before .before .before .before .args .text .now in
     let e = c .before .e .given in
-    begins t (e .0 .0) (e .0 .1 .0) (head-is t 0 true (c .before .before .before .next-fact .ensures) (e .1))
+    next.opens (head-is t 0 true (c .before .before .before .next-fact .ensures) (e .1))
 
 -- src/lib.rt:35:1
 returns-2 : tie.Need-returns-2
 returns-2 c =
     let t = c .before .before .before .before .args .text .now in
-    empty-begin t (head-is t 0 true (c .before .before .next-fact .ensures) (c .enum-told .given .1))
+    next.empty (head-is t 0 true (c .before .before .next-fact .ensures) (c .enum-told .given .1))
 
 -- src/lib.rt:35:1
 returns-3 : tie.Need-returns-3
 returns-3 c =
     let t = c .before .before .before .before .args .text .now in
-    stopped-begin t (c .enum-told2 .given .0 .0) (head-is t 0 true (c .before .before .next-fact .ensures) (c .enum-told2 .given .1))
+    next.no-fact (head-is t 0 true (c .before .before .next-fact .ensures) (c .enum-told2 .given .1))
 
 pub begin-spec : {M : Type 1} → statement M
 begin-spec =

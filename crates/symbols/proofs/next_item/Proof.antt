@@ -1,12 +1,13 @@
-use Prim.Native.Nat.{ℕ, _+_, _-_, _≤_, _<_}
-use mathlib.Core.Path.{_≡_, sym, ap, _∙_}
-use mathlib.Core.List.{List}
+use Prim.Native.Nat.{_-_, _≤_}
 use native.Mathlib.Omega.{arith}
 use borrow.Author.Needs.{needs}
 use lib.ListN.{length}
-use Rattle.loading.specs.Items.{Item}
-use Rattle.symbols.specs.Left.{Left}
-use Rattle.symbols.proofs.LeftLaws.{spot, turn-is, name-ahead, open-ahead, variable-ahead, number-ahead, comma-on, close-on, row-ahead, stop-ahead}
+use Rattle.lex.specs.Turns.{Turns}
+use Rattle.lex.specs.declared.turn.Turn.{Turn}
+use Rattle.symbols.specs.Next.{spot, After, NextIs}
+use Rattle.symbols.specs.Next as next
+use Rattle.symbols.specs.declared.Ahead.{Ahead}
+use Rattle.symbols.proofs.NextLaws.{turn-is, close-more, row-more}
 use Rattle.symbols.proofs.next_item.Statement.{statement}
 use Rattle.symbols.proofs.next_item.Tie as tie
 use Rattle.symbols.proofs.next_item.Reads as reads
@@ -15,18 +16,19 @@ use Rattle.lex.proofs.turn.next_turn.Reads as next-turn-reads
 use Rattle.symbols.proofs.row_ahead.Reads as row-ahead-reads
 
 abbrev Inv-loop : tie.InvT-loop
-Inv-loop text at₀ past₀ depth₀ at past depth = (depth ≤ length text) × (at₀ ≤ at) × ((rest : List Item) → Left text (spot at₀ past₀ depth₀) rest → Left text (spot at past depth) rest)
+Inv-loop text at₀ past₀ depth₀ at past depth =
+    (depth ≤ length text) × ((x : Turn) (r : Ahead) → Turns text at past x → After text depth x r → NextIs text (spot at₀ past₀ depth₀) r)
 
 abbrev μ-loop : tie.MeasureT-loop
 μ-loop text at₀ past₀ depth₀ at past depth = length text - at
 
 -- src/lib.rt:80:9
 returns : tie.Need-returns Inv-loop μ-loop
-returns c = λ rest L. absurd (omega (arith, L .few, L .within, c .if1 .taken))
+returns c = next.too-deep (c .if1 .taken)
 
 -- src/lib.rt:82:5
 loop-holds : tie.Need-loop-holds Inv-loop μ-loop
-loop-holds c = (omega arith, omega arith, λ rest L. L)
+loop-holds c = (omega arith, λ x r u a. next.stands (omega arith) u a)
 
 -- src/lib.rt:83:15
 next-turn-requires : tie.Need-next-turn-requires Inv-loop μ-loop
@@ -43,7 +45,7 @@ returns-2 c =
     let st = c .before .before .before .before .before .before .before .args in
     let x = c .before .s .given in
     let T = turn-is (st .text .now) (l .at) (l .past) (c .before .before .before .next-turn .ensures) (x .1) in
-    name-ahead (st .text .now) (st .sp) (l .at) (l .past) (l .depth) (l .inv .1) (l .inv .2) (x .0 .0) (x .0 .1 .0) T
+    l .inv .1 _ _ T next.a-name
 
 -- src/lib.rt:87:24
 enum-known-s-2 : tie.Need-enum-known-s-2 Inv-loop μ-loop
@@ -69,7 +71,7 @@ returns-3 c =
     let st = c .before .before .before .before .before .before .before .args in
     let x = c .before .s2 .given in
     let T = turn-is (st .text .now) (l .at) (l .past) (c .before .before .before .next-turn .ensures) (x .1) in
-    open-ahead (st .text .now) (st .sp) (l .at) (l .past) (l .depth) (l .inv .1) (l .inv .2) (x .0 .0) (x .0 .1 .0) T
+    l .inv .1 _ _ T next.opens
 
 -- src/lib.rt:90:28
 enum-known-s-3 : tie.Need-enum-known-s-3 Inv-loop μ-loop
@@ -82,7 +84,7 @@ returns-4 c =
     let st = c .before .before .before .before .before .before .before .args in
     let x = c .before .s3 .given in
     let T = turn-is (st .text .now) (l .at) (l .past) (c .before .before .before .next-turn .ensures) (x .1) in
-    variable-ahead (st .text .now) (st .sp) (l .at) (l .past) (l .depth) (l .inv .1) (l .inv .2) (x .0 .0) (x .0 .1 .0) T
+    l .inv .1 _ _ T next.a-variable
 
 -- src/lib.rt:93:26
 enum-known-v : tie.Need-enum-known-v Inv-loop μ-loop
@@ -95,7 +97,7 @@ returns-5 c =
     let st = c .before .before .before .before .before .before .before .args in
     let x = c .before .v .given in
     let T = turn-is (st .text .now) (l .at) (l .past) (c .before .before .before .next-turn .ensures) (x .1) in
-    number-ahead (st .text .now) (st .sp) (l .at) (l .past) (l .depth) (l .inv .1) (l .inv .2) (x .0 .0) (x .0 .1 .0) T
+    l .inv .1 _ _ T next.a-number
 
 -- src/lib.rt:96:25
 enum-known-p : tie.Need-enum-known-p Inv-loop μ-loop
@@ -126,7 +128,7 @@ loop-again c =
     let st = c .before .before .before .before .before .before .before .args in
     let x = c .before .p .given in
     let T = turn-is (st .text .now) (l .at) (l .past) (c .before .before .before .next-turn .ensures) (x .1) in
-    (l .inv .0, omega (arith, l .inv .1, T .leads .0), comma-on (st .text .now) (st .sp) (l .at) (l .past) (l .depth) (l .inv .1) (l .inv .2) (x .0 .0) T)
+    (l .inv .0, λ y r u a. l .inv .1 _ r T (next.comma u a))
 
 -- src/lib.rt:100:25
 enum-known-p-2 : tie.Need-enum-known-p-2 Inv-loop μ-loop
@@ -152,7 +154,7 @@ returns-6 c =
     let st = c .before .before .before .before .before .before .before .before .before .args in
     let x = c .before .before .before .p2 .given in
     let T = turn-is (st .text .now) (l .at) (l .past) (c .before .before .before .before .before .next-turn .ensures) (x .1) in
-    row-ahead (st .text .now) (st .sp) (l .at) (l .past) (l .depth) (l .inv .1) (l .inv .2) (x .0 .0) T (c .before .if2 .taken) (c .row-ahead .result) (c .row-ahead .ensures)
+    l .inv .1 _ _ T (row-more (c .before .if2 .taken) (c .row-ahead .ensures))
 
 -- src/lib.rt:106:17
 sub-depth : tie.Need-sub-depth Inv-loop μ-loop
@@ -174,7 +176,7 @@ loop-again-2 c =
     let st = c .before .before .before .before .before .before .before .before .args in
     let x = c .before .before .p2 .given in
     let T = turn-is (st .text .now) (l .at) (l .past) (c .before .before .before .before .next-turn .ensures) (x .1) in
-    (omega (arith, l .inv .0), omega (arith, l .inv .1, T .leads .0), close-on (st .text .now) (st .sp) (l .at) (l .past) (l .depth) (l .inv .1) (l .inv .2) (x .0 .0) T (c .if2 .left))
+    (omega (arith, l .inv .0), λ y r u a. l .inv .1 _ r T (close-more _ _ (c .if2 .left) u a))
 
 -- src/lib.rt:109:17
 enum-told : tie.Need-enum-told Inv-loop μ-loop
@@ -185,7 +187,7 @@ returns-7 : tie.Need-returns-7 Inv-loop μ-loop
 returns-7 c =
     let l = c .before .before .before .loop in
     let st = c .before .before .before .before .before .before .args in
-    stop-ahead (st .text .now) (st .sp) (l .at) (l .past) (l .depth) (l .inv .1) (l .inv .2) (c .enum-told .given .0 .0) (turn-is (st .text .now) (l .at) (l .past) (c .before .before .next-turn .ensures) (c .enum-told .given .1))
+    l .inv .1 _ _ (turn-is (st .text .now) (l .at) (l .past) (c .before .before .next-turn .ensures) (c .enum-told .given .1)) next.stop
 
 pub next-item-spec : {M : Type 1} → statement M
 next-item-spec =

@@ -1,6 +1,7 @@
-use mathlib.Core.Path.{refl}
+use mathlib.Core.Path.{subst}
 use borrow.Author.Needs.{needs}
-use Rattle.symbols.proofs.LeftLaws.{row-end-is}
+use Rattle.symbols.specs.Next.{RowEnds}
+use Rattle.symbols.specs.Next as next
 use Rattle.symbols.proofs.row_ahead.Statement.{statement}
 use Rattle.symbols.proofs.row_ahead.Tie as tie
 use Rattle.symbols.proofs.row_ahead.Reads as reads
@@ -23,14 +24,13 @@ enum-told c = search needs
 returns : tie.Need-returns
 returns c =
     let st = c .before .before .before .before .before .args in
-    let x = c .before .q .given in
-    (row-end-is (st .text .now) (st .at) (c .before .before .before .row-end .ensures) (x .1), refl)
+    next.next-row (subst (RowEnds (st .text .now) (st .at)) (c .before .q .given .1) (c .before .before .before .row-end .ensures))
 
 -- src/lib.rt:61:1
 returns-2 : tie.Need-returns-2
 returns-2 c =
     let st = c .before .before .before .before .args in
-    row-end-is (st .text .now) (st .at) (c .before .before .row-end .ensures) (c .enum-told .given .1)
+    next.last-row (subst (RowEnds (st .text .now) (st .at)) (c .enum-told .given .1) (c .before .before .row-end .ensures))
 
 pub row-ahead-spec : {M : Type 1} → statement M
 row-ahead-spec = tie.close (tie.spec row-end-requires enum-known-q enum-told returns returns-2)

@@ -1,6 +1,7 @@
 use mathlib.Core.Bool.{false}
 use native.Mathlib.Omega.{arith}
-use Rattle.symbols.proofs.LeftLaws.{end-is, head-is, next-row-is, last-row-is, stopped-head, stopped-end}
+use Rattle.symbols.specs.Next as next
+use Rattle.symbols.proofs.NextLaws.{end-is, head-is}
 use borrow.Author.Needs.{needs}
 use Rattle.symbols.proofs.row_end.Statement.{statement}
 use Rattle.symbols.proofs.row_end.Tie as tie
@@ -55,7 +56,7 @@ returns c =
     let C = end-is (st .text .now) (st .at) (c .before .before .before .before .before .before .before .fact-end .ensures) (q .1) in
     let x = c .before .e .given in
     let H = head-is (st .text .now) (q .0 .0) false (c .before .before .before .next-fact .ensures) (x .1) in
-    next-row-is (st .text .now) (st .at) (q .0 .0) C (x .0 .0) (x .0 .1 .0) H
+    next.another C H
 
 -- src/lib.rt:21:1
 returns-2 : tie.Need-returns-2
@@ -65,7 +66,7 @@ returns-2 c =
     let C = end-is (st .text .now) (st .at) (c .before .before .before .before .before .before .fact-end .ensures) (q .1) in
     let x = c .enum-told .given in
     let H = head-is (st .text .now) (q .0 .0) false (c .before .before .next-fact .ensures) (x .1) in
-    last-row-is (st .text .now) (st .at) (q .0 .0) C H
+    next.no-more C H
 
 -- src/lib.rt:21:1
 returns-3 : tie.Need-returns-3
@@ -75,14 +76,14 @@ returns-3 c =
     let C = end-is (st .text .now) (st .at) (c .before .before .before .before .before .before .fact-end .ensures) (q .1) in
     let x = c .enum-told2 .given in
     let H = head-is (st .text .now) (q .0 .0) false (c .before .before .next-fact .ensures) (x .1) in
-    stopped-head (st .text .now) (st .at) (q .0 .0) C (x .0 .0) H
+    next.no-fact C H
 
 -- src/lib.rt:21:1
 returns-4 : tie.Need-returns-4
 returns-4 c =
     let st = c .before .before .before .before .args in
     let x = c .enum-told3 .given in
-    stopped-end (st .text .now) (st .at) (x .0 .0) (end-is (st .text .now) (st .at) (c .before .before .fact-end .ensures) (x .1))
+    next.no-stop (end-is (st .text .now) (st .at) (c .before .before .fact-end .ensures) (x .1))
 
 pub row-end-spec : {M : Type 1} → statement M
 row-end-spec =

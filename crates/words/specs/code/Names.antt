@@ -11,7 +11,7 @@ use Rattle.grammar.specs.Reader.{reads, textOf}
 use Rattle.cell.specs.Same.{same}
 use Rattle.grammar.specs.Meaning.{Place, place, bytesOf, meet, namesOf}
 use Rattle.loading.specs.Items.{Item, itemsOf, namesMet, metIn}
-use Rattle.symbols.specs.Left.{Left}
+use Rattle.symbols.specs.code.Left.{Left}
 use Rattle.symbols.specs.declared.Spot.{Spot}
 use Rattle.words.specs.code.Tree.{wordOf, Tree}
 use Rattle.words.specs.declared.names.NextName.{NextName}
@@ -121,4 +121,4 @@ pub record Counting (t : List ℕ) (sp : Spot) (total : ℕ) (facts : List Fact)
 
 -- how many names an accepted text has
 abbrev pub CountsNames : List ℕ → ℕ → Type 0
-CountsNames t r = (facts : List Fact) → length t ≤ 65535 → textOf t ≡ reads facts → r ≡ length (namesOf t facts)
+CountsNames t r = (facts : List Fact) → textOf t ≡ reads facts → r ≡ length (namesOf t facts)

@@ -1,19 +1,21 @@
 -- The numbers of a text's symbols as the code has them (src/numbers.rt): the variables of the row under way, and what is numbered so far.
 -- These definitions describe the code's own state.
-use Prim.Native.Nat.{ℕ, _+_, _-_, _*_, _^_, _≤_, _<_}
+use Prim.Native.Nat.{ℕ, _+_, _≤_, _<_}
 use mathlib.Core.Path.{_≡_}
-use mathlib.Core.Bool.{Bool, true, false}
-use mathlib.Core.List.{List, [], _∷_, map}
-use lib.ListN.{length, getD, take}
+use mathlib.Core.Bool.{Bool, false}
+use mathlib.Core.List.{List, [], _∷_, _++_, map}
+use lib.ListN.{length, getD, drop}
 use lib.Seq.{sets}
 use Rattle.grammar.specs.Grammar.{Fact}
 use Rattle.grammar.specs.Reader.{reads, textOf}
 use Rattle.cell.specs.Same.{same}
-use Rattle.grammar.specs.Meaning.{Place, place, bytesOf, position, symbolsOf, namesOf, variableNumber, variablesWith, nameList}
-use Rattle.loading.specs.Items.{Item, itemsOf, symbolsAmong, namesMet, numbering}
-use Rattle.symbols.specs.Left.{Left}
+use Rattle.grammar.specs.Meaning.{Place, position, symbolsOf, variableNumber, variablesWith, entryOf, nameList}
+use Rattle.loading.specs.Load.{front}
+use Rattle.loading.specs.Items.{Item, symbolsAmong, namesMet, numbering}
+use Rattle.symbols.specs.code.Left.{Left}
 use Rattle.symbols.specs.declared.Spot.{Spot}
-use Rattle.words.specs.code.Tree.{wordOf, listed, Tree}
+use Rattle.words.specs.Words.{numbersOf}
+use Rattle.words.specs.code.Tree.{wordOf, Tree}
 use Rattle.words.specs.code.Names.{Shown}
 use Rattle.words.specs.declared.numbers.Row.{Row}
 use Rattle.words.specs.declared.numbers.Numbered.{Numbered}
@@ -40,10 +42,6 @@ pub record VariableIs (t : List ℕ) (places : List Place) (w : Place) (words wa
   pub number : r .number ≡ variableNumber t places w
   pub low : r .number < r .row .all
 
--- what a name is listed as
-abbrev pub entry : Place → ℕ
-entry w = listed (w .start) (w .end)
-
 -- so much is left of what was left once, with these names and variables met and so many symbols numbered
 pub record Numbers (t : List ℕ) (ns vs : List Place) (sp : Spot) (k : ℕ) (out out₀ : List ℕ) (rest₀ : List Item) : Type 0 where
   pub rest : List Item
@@ -53,11 +51,11 @@ pub record Numbers (t : List ℕ) (ns vs : List Place) (sp : Spot) (k : ℕ) (ou
   pub among : k + symbolsAmong rest ≡ symbolsAmong rest₀
 
 pub record Numbering (t : List ℕ) (from : Spot) (list links words ways given : List ℕ) (row : Row) (count k : ℕ) (to : Spot)
-    (out out₀ : List ℕ) : Type 0 where
+    (out out₀ list₀ : List ℕ) : Type 0 where
   pub names : List Place
   pub number : length names ≡ count
   pub shown : Shown t list links names
-  pub entries : take count list ≡ map entry names
+  pub entries : list ≡ map entryOf names ++ drop count list₀
   pub vars : RowVars t words ways given row
   pub few : (count ≤ k) × (row .all ≤ k)
   pub still : (rest : List Item) → Left t from rest → Numbers t names (vars .places) to k out out₀ rest
@@ -71,26 +69,24 @@ pub record NumbersReady (t list links words ways given out : List ℕ) : Type 0 
   pub room : (length out ≤ length list) × (length out ≤ length words)
   pub few : (length list < 65535) × (length words < 65535)
 
--- so many symbols from a place on are numbered, where there are so few, and the names are listed
-pub record NumbersOf (t : List ℕ) (rest : List Item) (list out out₀ : List ℕ) (r : ℕ) : Type 0 where
+-- the symbols from a place on are numbered, where there are so few, and their names listed
+pub record NumbersOf (t : List ℕ) (rest : List Item) (list list₀ out out₀ : List ℕ) (r : ℕ) : Type 0 where
   pub names : List Place
   pub met : names ≡ namesMet t [] rest
   pub count : length names ≡ r
-  pub entries : take r list ≡ map entry names
+  pub entries : list ≡ map entryOf names ++ drop r list₀
   pub numbers : out ≡ sets out₀ 0 (numbering t [] [] rest)
 
-pub record NumbersFrom (t : List ℕ) (from : Spot) (list out out₀ : List ℕ) (r : ℕ) : Type 0 where
-  pub few : r ≤ length out₀
-  pub numbers : (rest : List Item) → symbolsAmong rest ≤ length out₀ → Left t from rest → NumbersOf t rest list out out₀ r
+abbrev pub NumbersFrom : (t : List ℕ) (from : Spot) (list list₀ out out₀ : List ℕ) (r : ℕ) → Type 0
+NumbersFrom t from list list₀ out out₀ r =
+    (rest : List Item) → symbolsAmong rest ≤ length out₀ → Left t from rest → NumbersOf t rest list list₀ out out₀ r
 
--- the numbers of all the symbols of an accepted text that has so few, and its list of names
-pub record TextNumbers (t : List ℕ) (facts : List Fact) (list out out₀ : List ℕ) (r : ℕ) : Type 0 where
-  pub count : r ≡ length (namesOf t facts)
-  pub names : take r list ≡ nameList t facts
-  pub numbers : out ≡ sets out₀ 0 (numbering t [] [] (itemsOf facts))
+-- so are all the symbols of an accepted text
+pub record TextNumbers (t : List ℕ) (facts : List Fact) (list list₀ out out₀ : List ℕ) (r : ℕ) : Type 0 where
+  pub count : r ≡ length (nameList t facts)
+  pub names : list ≡ front (nameList t facts) list₀
+  pub numbers : out ≡ front (numbersOf t facts) out₀
 
-pub record NumbersIs (t list out out₀ : List ℕ) (r : ℕ) : Type 0 where
-  pub few : r ≤ length out₀
-  pub text : (facts : List Fact) → length t ≤ 65535 → length list ≤ 2048 → length out₀ ≤ length list → textOf t ≡ reads facts
-      → length (symbolsOf facts) ≤ length out₀
-      → TextNumbers t facts list out out₀ r
+abbrev pub NumbersIs : (t list list₀ out out₀ : List ℕ) (r : ℕ) → Type 0
+NumbersIs t list list₀ out out₀ r =
+    (facts : List Fact) → textOf t ≡ reads facts → length (symbolsOf facts) ≤ length out₀ → TextNumbers t facts list list₀ out out₀ r

@@ -1,6 +1,7 @@
 use borrow.Author.Tests.{not-true, not-false}
 use Rattle.words.proofs.NameLaws.{none-counted, batch-counted, all-counted}
 use Rattle.words.specs.code.Names.{Counting}
+use Rattle.symbols.proofs.LeftLaws.{start-reads}
 use Rattle.grammar.specs.Reader.{textOf}
 use Rattle.grammar.specs.Reader as reader
 use Rattle.grammar.specs.Grammar.{Fact}
@@ -24,10 +25,6 @@ Inv-loop text total₀ at₀ total at =
 abbrev μ-loop : tie.MeasureT-loop
 μ-loop text total₀ at₀ total at = length text - at .at
 
--- src/names.rt:149:9
-returns : tie.Need-returns Inv-loop μ-loop
-returns c = λ facts h e. absurd (omega (arith, c .if1 .taken))
-
 -- src/names.rt:152:9
 begin-requires : tie.Need-begin-requires Inv-loop μ-loop
 begin-requires c κs = search needs
@@ -35,8 +32,8 @@ begin-requires c κs = search needs
 -- src/names.rt:153:5
 loop-holds : tie.Need-loop-holds Inv-loop μ-loop
 loop-holds c =
-    let b = c .begin .ensures in
-    (omega arith, b .within, none-counted (c .before .before .before .args .text .now) (c .begin .result) b)
+    let b = start-reads (c .begin .ensures) in
+    (omega arith, b .within, none-counted (c .before .before .args .text .now) (c .begin .result) b)
 
 -- src/names.rt:154:13
 count-batch-requires : tie.Need-count-batch-requires Inv-loop μ-loop
@@ -51,18 +48,18 @@ add-total c =
     search needs
 
 -- src/names.rt:157:13
-returns-2 : tie.Need-returns-2 Inv-loop μ-loop
-returns-2 c =
+returns : tie.Need-returns Inv-loop μ-loop
+returns c =
     let l = c .before .before .before .before .loop in
     let b = c .before .before .before .count-batch in
-    λ facts h e. all-counted (c .before .before .before .before .before .before .before .before .args .text .now) (l .at) (l .total) (b .result) facts (b .ensures) (not-true (b .result .more) (c .if2 .taken)) (l .inv .2 facts e)
+    λ facts e. all-counted (c .before .before .before .before .before .before .before .args .text .now) (l .at) (l .total) (b .result) facts (b .ensures) (not-true (b .result .more) (c .if1 .taken)) (l .inv .2 facts e)
 
 -- src/names.rt:153:5
 loop-less : tie.Need-loop-less Inv-loop μ-loop
 loop-less c =
     let l = c .before .before .before .before .before .loop in
     let b = c .before .before .before .before .count-batch in
-    omega (arith, b .ensures .further (not-false (b .result .more) (c .before .if2 .left)), b .ensures .within (l .inv .1))
+    omega (arith, b .ensures .further (not-false (b .result .more) (c .before .if1 .left)), b .ensures .within (l .inv .1))
 
 -- src/names.rt:153:5
 loop-again : tie.Need-loop-again Inv-loop μ-loop
@@ -71,7 +68,7 @@ loop-again c =
     let b = c .before .before .before .before .count-batch in (
       omega (arith, b .ensures .on, l .inv .0),
       b .ensures .within (l .inv .1),
-      λ facts e. batch-counted (c .before .before .before .before .before .before .before .before .before .args .text .now) (l .at) (l .total) (b .result) facts (b .ensures) (l .inv .2 facts e),
+      λ facts e. batch-counted (c .before .before .before .before .before .before .before .before .args .text .now) (l .at) (l .total) (b .result) facts (b .ensures) (l .inv .2 facts e),
     )
 
 pub count-names-spec : {M : Type 1} → statement M
@@ -80,11 +77,10 @@ count-names-spec =
     (tie.spec
     Inv-loop
     μ-loop
-    returns
     begin-requires
     loop-holds
     count-batch-requires
     add-total
-    returns-2
+    returns
     loop-less
     loop-again)

@@ -1,6 +1,6 @@
 use Rattle.words.proofs.NameLaws.{ahead-is, none-passed, name-met, variable-passed, number-passed, row-passed, no-name}
 use Rattle.words.specs.code.Names.{Passed}
-use Rattle.symbols.specs.Left.{Left}
+use Rattle.symbols.specs.code.Left.{Left}
 use Rattle.loading.specs.Items.{Item}
 use lib.ListN.{length}
 use borrow.Author.Needs.{needs}

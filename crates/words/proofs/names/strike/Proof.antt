@@ -4,7 +4,7 @@ use Rattle.lex.proofs.NameLaws.{part-is}
 use Rattle.grammar.specs.Meaning.{place}
 use lib.ListN.{take, drop}
 use Rattle.words.specs.code.Names.{Shown, Struck, Striking}
-use Rattle.symbols.specs.Left.{Left}
+use Rattle.symbols.specs.code.Left.{Left}
 use Rattle.loading.specs.Items.{Item}
 use Rattle.grammar.specs.Meaning.{Place}
 use lib.ListN.{length}

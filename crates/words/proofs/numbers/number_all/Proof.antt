@@ -22,7 +22,7 @@ use Rattle.words.proofs.tree.meet.Reads as meet-reads
 abbrev Inv-loop : tie.InvT-loop
 Inv-loop text list₀ links₀ words₀ ways₀ given₀ numbers₀ row₀ at₀ count₀ k₀ list links words ways given numbers row at count k =
     ((length list ≡ length list₀) × (length links ≡ length links₀) × (length words ≡ length words₀) × (length ways ≡ length ways₀) × (length given ≡ length given₀)
-    × (length numbers ≡ length numbers₀)) × (k ≤ length numbers) × Numbering text at₀ list links words ways given row count k at numbers numbers₀
+    × (length numbers ≡ length numbers₀)) × (k ≤ length numbers) × Numbering text at₀ list links words ways given row count k at numbers numbers₀ list₀
 
 abbrev μ-loop : tie.MeasureT-loop
 μ-loop text list₀ links₀ words₀ ways₀ given₀ numbers₀ row₀ at₀ count₀ k₀ list links words ways given numbers row at count k = length text - at .at
@@ -59,7 +59,7 @@ meet-requires c κs =
     let N = l .inv .2 in
     let x = c .before .before .before .s .given in
     let A = ahead-is (a .text .now) (l .at) (c .before .before .before .before .before .next-item .ensures) (x .1) in
-    (omega (arith, A .1), omega (arith, A .2, A .3 .within), omega (arith, R .text), omega (arith, R .few .0, R .few .1, R .room .0, R .room .1, N .few .0, N .few .1, l .inv .0 .0, l .inv .0 .5), omega (arith, R .few .0, R .few .1, R .room .0, R .room .1, N .few .0, N .few .1, l .inv .0 .5), numbering-tree (a .text .now) (a .from) (l .list) (l .links) (l .words) (l .ways) (l .given) (l .row) (l .count) (l .k) (l .at) (l .numbers) (a .numbers .now) N)
+    (omega (arith, A .1), omega (arith, A .2, A .3 .within), omega (arith, R .text), omega (arith, R .few .0, R .few .1, R .room .0, R .room .1, N .few .0, N .few .1, l .inv .0 .0, l .inv .0 .5), omega (arith, R .few .0, R .few .1, R .room .0, R .room .1, N .few .0, N .few .1, l .inv .0 .5), numbering-tree (a .text .now) (a .from) (l .list) (l .links) (l .words) (l .ways) (l .given) (l .row) (l .count) (l .k) (l .at) (l .numbers) (a .numbers .now) (a .list .now) N)
 
 -- src/numbers.rt:99:30
 cast-numbers : tie.Need-cast-numbers Inv-loop μ-loop
@@ -113,7 +113,7 @@ loop-again c =
     let x = c .before .before .before .before .before .before .before .before .before .s .given in
     let A = ahead-is (a .text .now) (l .at) (c .before .before .before .before .before .before .before .before .before .before .before .next-item .ensures) (x .1) in
     let m = c .before .before .before .before .before .meet in
-    ((search needs, search needs, search needs, search needs, search needs, search needs), room (l .numbers) (l .k) (m .result) (c .before .before .before .before .before .before .before .before .before .before .before .before .loop-test .taken), name-new (a .text .now) (a .from) (l .list) (l .links) (l .words) (l .ways) (l .given) (l .row) (l .count) (l .k) (l .at) (l .numbers) (a .numbers .now) N (x .0 .0) (x .0 .1 .0) (m .result) (x .0 .1 .1 .0) (m .last .1 .0) _ A (R .text) (m .ensures) (c .if1 .taken) (omega (arith, R .few .0, R .few .1, R .room .0, R .room .1, N .few .0, N .few .1, l .inv .0 .0, l .inv .0 .5, c .before .before .before .before .before .before .before .before .before .before .before .before .loop-test .taken)))
+    ((search needs, search needs, search needs, search needs, search needs, search needs), room (l .numbers) (l .k) (m .result) (c .before .before .before .before .before .before .before .before .before .before .before .before .loop-test .taken), name-new (a .text .now) (a .from) (l .list) (l .links) (l .words) (l .ways) (l .given) (l .row) (l .count) (l .k) (l .at) (l .numbers) (a .numbers .now) (a .list .now) N (x .0 .0) (x .0 .1 .0) (m .result) (x .0 .1 .1 .0) (m .last .1 .0) _ A (R .text) (m .ensures) (c .if1 .taken) (omega (arith, R .few .0, R .few .1, R .room .0, R .room .1, N .few .0, N .few .1, l .inv .0 .0, l .inv .0 .5, c .before .before .before .before .before .before .before .before .before .before .before .before .loop-test .taken)))
 
 -- src/numbers.rt:95:5
 loop-less-2 : tie.Need-loop-less-2 Inv-loop μ-loop
@@ -138,7 +138,7 @@ loop-again-2 c =
     let x = c .before .before .before .before .before .before .before .before .before .s .given in
     let A = ahead-is (a .text .now) (l .at) (c .before .before .before .before .before .before .before .before .before .before .before .next-item .ensures) (x .1) in
     let m = c .before .before .before .before .before .meet in
-    ((search needs, search needs, search needs, search needs, search needs, search needs), room (l .numbers) (l .k) (m .result) (c .before .before .before .before .before .before .before .before .before .before .before .before .loop-test .taken), name-known (a .text .now) (a .from) (l .list) (l .links) (l .words) (l .ways) (l .given) (l .row) (l .count) (l .k) (l .at) (l .numbers) (a .numbers .now) N (x .0 .0) (x .0 .1 .0) (m .result) (x .0 .1 .1 .0) (m .last .1 .0) _ A (R .text) (m .ensures) (c .if1 .left))
+    ((search needs, search needs, search needs, search needs, search needs, search needs), room (l .numbers) (l .k) (m .result) (c .before .before .before .before .before .before .before .before .before .before .before .before .loop-test .taken), name-known (a .text .now) (a .from) (l .list) (l .links) (l .words) (l .ways) (l .given) (l .row) (l .count) (l .k) (l .at) (l .numbers) (a .numbers .now) (a .list .now) N (x .0 .0) (x .0 .1 .0) (m .result) (x .0 .1 .1 .0) (m .last .1 .0) _ A (R .text) (m .ensures) (c .if1 .left))
 
 -- src/numbers.rt:106:29
 enum-known-s-2 : tie.Need-enum-known-s-2 Inv-loop μ-loop
@@ -222,7 +222,7 @@ loop-again-3 c =
     let x = c .before .before .before .before .before .before .before .before .before .before .before .before .before .s2 .given in
     let A = ahead-is (a .text .now) (l .at) (c .before .before .before .before .before .before .before .before .before .before .before .before .before .before .before .next-item .ensures) (x .1) in
     let v = c .before .before .before .before .before .before .before .before .number-variable in
-    ((search needs, search needs, search needs, search needs, search needs, search needs), room (l .numbers) (l .k) (v .result .number) (c .before .before .before .before .before .before .before .before .before .before .before .before .before .before .before .before .loop-test .taken), variable-numbered (a .text .now) (a .from) (l .list) (l .links) (l .words) (l .ways) (l .given) (l .row) (l .count) (l .k) (l .at) (l .numbers) (a .numbers .now) N (x .0 .0) (x .0 .1 .0) (x .0 .1 .1 .0) (v .result) A (v .ensures (N .vars)) (omega (arith, variable-few (v .ensures (N .vars)), N .vars .all, N .few .1)))
+    ((search needs, search needs, search needs, search needs, search needs, search needs), room (l .numbers) (l .k) (v .result .number) (c .before .before .before .before .before .before .before .before .before .before .before .before .before .before .before .before .loop-test .taken), variable-numbered (a .text .now) (a .from) (l .list) (l .links) (l .words) (l .ways) (l .given) (l .row) (l .count) (l .k) (l .at) (l .numbers) (a .numbers .now) (a .list .now) N (x .0 .0) (x .0 .1 .0) (x .0 .1 .1 .0) (v .result) A (v .ensures (N .vars)) (omega (arith, variable-few (v .ensures (N .vars)), N .vars .all, N .few .1)))
 
 -- src/numbers.rt:113:27
 enum-known-v : tie.Need-enum-known-v Inv-loop μ-loop
@@ -274,7 +274,7 @@ loop-again-4 c =
     let N = l .inv .2 in
     let x = c .before .v .given in
     let A = ahead-is (a .text .now) (l .at) (c .before .before .before .next-item .ensures) (x .1) in
-    ((search needs, search needs, search needs, search needs, search needs, search needs), room (l .numbers) (l .k) (x .0 .0) (c .before .before .before .before .loop-test .taken), number-numbered (a .text .now) (a .from) (l .list) (l .links) (l .words) (l .ways) (l .given) (l .row) (l .count) (l .k) (l .at) (l .numbers) (a .numbers .now) N (x .0 .0) (x .0 .1 .0) A)
+    ((search needs, search needs, search needs, search needs, search needs, search needs), room (l .numbers) (l .k) (x .0 .0) (c .before .before .before .before .loop-test .taken), number-numbered (a .text .now) (a .from) (l .list) (l .links) (l .words) (l .ways) (l .given) (l .row) (l .count) (l .k) (l .at) (l .numbers) (a .numbers .now) (a .list .now) N (x .0 .0) (x .0 .1 .0) A)
 
 -- src/numbers.rt:118:24
 enum-known-to : tie.Need-enum-known-to Inv-loop μ-loop
@@ -316,7 +316,7 @@ loop-again-5 c =
     let A = ahead-is (a .text .now) (l .at) (c .before .before .before .before .before .before .before .next-item .ensures) (x .1) in (
       (search needs, search needs, search needs, search needs, search needs, search needs),
       omega arith,
-      row-numbered (a .text .now) (a .from) (l .list) (l .links) (l .words) (l .ways) (l .given) (l .row) (l .count) (l .k) (l .at) (l .numbers) (a .numbers .now) N (x .0 .0) A (c .before .before .clear .ensures),
+      row-numbered (a .text .now) (a .from) (l .list) (l .links) (l .words) (l .ways) (l .given) (l .row) (l .count) (l .k) (l .at) (l .numbers) (a .numbers .now) (a .list .now) N (x .0 .0) A (c .before .before .clear .ensures),
     )
 
 -- src/numbers.rt:124:17
@@ -353,7 +353,7 @@ returns c =
     let l = c .before .before .before .before .loop in
     let a = c .before .before .before .before .before .before .before .before .before .before .before .before .args in
     let N = l .inv .2 in
-    numbered-end (a .text .now) (a .from) (l .list) (l .links) (l .words) (l .ways) (l .given) (l .row) (l .count) (l .k) (l .at) (l .numbers) (a .numbers .now) N (ahead-is (a .text .now) (l .at) (c .before .before .next-item .ensures) (c .enum-told .given .1)) (omega (arith, l .inv .1, l .inv .0 .5))
+    numbered-end (a .text .now) (a .from) (l .list) (l .links) (l .words) (l .ways) (l .given) (l .row) (l .count) (l .k) (l .at) (l .numbers) (a .numbers .now) (a .list .now) N (ahead-is (a .text .now) (l .at) (c .before .before .next-item .ensures) (c .enum-told .given .1))
 
 -- src/numbers.rt:78:1
 same-length-7 : tie.Need-same-length-7 Inv-loop μ-loop
@@ -385,7 +385,7 @@ returns-2 c =
     let l = c .before .loop in
     let a = c .before .before .before .before .before .before .before .before .before .args in
     let N = l .inv .2 in
-    numbered-full (a .text .now) (a .from) (l .list) (l .links) (l .words) (l .ways) (l .given) (l .row) (l .count) (l .k) (l .at) (l .numbers) (a .numbers .now) N (omega (arith, l .inv .0 .5)) (omega (arith, l .inv .1, l .inv .0 .5))
+    numbered-full (a .text .now) (a .from) (l .list) (l .links) (l .words) (l .ways) (l .given) (l .row) (l .count) (l .k) (l .at) (l .numbers) (a .numbers .now) (a .list .now) N (omega (arith, l .inv .0 .5))
 
 pub number-all-spec : {M : Type 1} → statement M
 number-all-spec =

@@ -1,7 +1,7 @@
+use Rattle.symbols.proofs.LeftLaws.{start-reads}
 use Rattle.words.proofs.NumberLaws.{numbers-text}
 use Rattle.words.proofs.TreeLaws.{no-words, zero-at, empty-tree}
-use lib.ListN.{length, replicate}
-use Prim.Native.Nat.{_≤_}
+use lib.ListN.{replicate}
 use mathlib.Core.Path.{refl}
 use native.Mathlib.Omega.{arith}
 use borrow.Author.Needs.{needs}
@@ -11,42 +11,6 @@ use Rattle.words.proofs.numbers.number_symbols.Reads as reads
 use Rattle.words.proofs.numbers.number_symbols.Lts as lts
 use Rattle.symbols.proofs.begin.Reads as begin-reads
 use Rattle.words.proofs.numbers.number_all.Reads as number-all-reads
-
--- src/numbers.rt:137:9
-returns : tie.Need-returns
-returns c =
-    let a = c .before .before .before .before .args in
-    record {
-      few = omega arith;
-      text = λ facts h k l e few. (
-          let k′ : length (a .list .now) ≤ 2048 = k in
-          let l′ : length (a .numbers .now) ≤ length (a .list .now) = l in
-          absurd (omega arith));
-    }
-
--- src/numbers.rt:140:9
-returns-2 : tie.Need-returns-2
-returns-2 c =
-    let a = c .before .before .before .before .before .args in
-    record {
-      few = omega arith;
-      text = λ facts h k l e few. (
-          let k′ : length (a .list .now) ≤ 2048 = k in
-          let l′ : length (a .numbers .now) ≤ length (a .list .now) = l in
-          absurd (omega arith));
-    }
-
--- src/numbers.rt:143:9
-returns-3 : tie.Need-returns-3
-returns-3 c =
-    let a = c .before .before .before .before .before .before .args in
-    record {
-      few = omega arith;
-      text = λ facts h k l e few. (
-          let k′ : length (a .list .now) ≤ 2048 = k in
-          let l′ : length (a .numbers .now) ≤ length (a .list .now) = l in
-          absurd (omega arith));
-    }
 
 -- src/numbers.rt:149:9
 begin-requires : tie.Need-begin-requires
@@ -71,7 +35,7 @@ slice-aggregate-number-all-4 c = search needs
 -- src/numbers.rt:150:5
 number-all-requires : tie.Need-number-all-requires
 number-all-requires c κs =
-    let a = c .before .before .before .before .before .before .before .before .before .before .before .before .before .args in
+    let a = c .before .before .before .before .before .before .before .before .before .before .args in
     let t = a .text .now in
     record {
       text = search needs;
@@ -91,19 +55,17 @@ same-length-2 : tie.Need-same-length-2
 same-length-2 c = search needs
 
 -- src/numbers.rt:133:1
-returns-4 : tie.Need-returns-4
-returns-4 c =
-    let a = c .before .before .before .before .before .before .before .before .before .before .before .before .before .before .before .before .before .before .before .before .before .before .args in
+returns : tie.Need-returns
+returns c =
+    let a = c .before .before .before .before .before .before .before .before .before .before .before .before .before .before .before .before .before .before .before .args in
     let n = c .before .before .before .before .before .before .before .before .number-all in
-    numbers-text (a .text .now) _ (n .last .1 .1 .0) (n .last .1 .1 .1 .1 .1 .1 .1 .0) (a .numbers .now) (n .result) (c .before .before .before .before .before .before .before .before .before .before .before .before .before .before .before .begin .ensures) (n .ensures)
+    numbers-text (a .text .now) _ (n .last .1 .1 .0) (a .list .now) (n .last .1 .1 .1 .1 .1 .1 .1 .0) (a .numbers .now) (n .result)
+    (start-reads (c .before .before .before .before .before .before .before .before .before .before .before .before .before .before .before .begin .ensures)) (n .ensures)
 
 pub number-symbols-spec : {M : Type 1} → statement M
 number-symbols-spec =
     tie.close
     (tie.spec
-    returns
-    returns-2
-    returns-3
     begin-requires
     slice-aggregate-number-all
     slice-aggregate-number-all-2
@@ -112,4 +74,4 @@ number-symbols-spec =
     number-all-requires
     same-length
     same-length-2
-    returns-4)
+    returns)

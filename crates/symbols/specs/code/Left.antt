@@ -1,5 +1,6 @@
 -- What is left of an accepted text from a place on: its symbols, in their order. By the reader: the text from there on is read to the end,
--- and what it is read as begins with what has been met.
+-- and what it is read as begins with what has been met. Callers who know that a text is accepted go by these; that they follow from the
+-- promises (specs/Next) is proved in proofs/LeftLaws.
 use Prim.Native.Nat.{ℕ, suc, _+_, _≤_, _<_}
 use mathlib.Core.Path.{_≡_}
 use mathlib.Core.Bool.{false}
@@ -28,10 +29,10 @@ pub record NextRow (t : List ℕ) (w : Work) (q : ℕ) (facts : List Fact) : Typ
   pub is : facts ≡ factOf w ∷ later
   pub same : run (drop q t) arg (work start end 0 [] []) q ≡ reads later
 
-abbrev pub RowEnds : List ℕ → ℕ → RowEnd → Type 0
-RowEnds t at (row-end.Next q) = (at < q) × (q ≤ length t) × ((w : Work) (facts : List Fact) → run (drop at t) closed w at ≡ reads facts
+abbrev pub RowLeft : List ℕ → ℕ → RowEnd → Type 0
+RowLeft t at (row-end.Next q) = (at < q) × (q ≤ length t) × ((w : Work) (facts : List Fact) → run (drop at t) closed w at ≡ reads facts
     → NextRow t w q facts)
-RowEnds t at row-end.Last = (w : Work) (facts : List Fact) → run (drop at t) closed w at ≡ reads facts → facts ≡ factOf w ∷ []
+RowLeft t at row-end.Last = (w : Work) (facts : List Fact) → run (drop at t) closed w at ≡ reads facts → facts ≡ factOf w ∷ []
 
 -- these items are left at a place inside a fact. `facts` are the fact under way and those after it
 pub record Left (t : List ℕ) (sp : Spot) (rest : List Item) : Type 0 where
@@ -56,20 +57,12 @@ pub record Meets (t : List ℕ) (from : Spot) (item : Item) (to : Spot) : Type 0
   pub within : to .at ≤ length t
   pub left : (rest : List Item) → Left t from rest → LeftAfter t item to rest
 
-abbrev pub AheadIs : List ℕ → Spot → Ahead → Type 0
-AheadIs t sp (ahead.Name s e to) = (sp .at ≤ s) × (s < e) × (e ≤ to .at) × Meets t sp (of-name (place s e)) to
-AheadIs t sp (ahead.Variable s e to) = (sp .at ≤ s) × (s < e) × (e ≤ to .at) × Meets t sp (of-variable (place s e)) to
-AheadIs t sp (ahead.Number v to) = (v ≤ 65535) × Meets t sp (of-number v) to
-AheadIs t sp (ahead.Row to) = Meets t sp next-row to
-AheadIs t sp ahead.End = (rest : List Item) → Left t sp rest → rest ≡ []
-
--- what stands after a fact's last bracket: another row's start, or nothing
-abbrev pub RowAhead : List ℕ → ℕ → Ahead → Type 0
-RowAhead t at (ahead.Row to) = RowEnds t at (row-end.Next (to .at)) × (to ≡ record { at = to .at; past = false; depth = 0 })
-RowAhead t at ahead.End = RowEnds t at row-end.Last
-RowAhead t at (ahead.Name s e to) = ⊥
-RowAhead t at (ahead.Variable s e to) = ⊥
-RowAhead t at (ahead.Number v to) = ⊥
+abbrev pub AheadLeft : List ℕ → Spot → Ahead → Type 0
+AheadLeft t sp (ahead.Name s e to) = (sp .at ≤ s) × (s < e) × (e ≤ to .at) × Meets t sp (of-name (place s e)) to
+AheadLeft t sp (ahead.Variable s e to) = (sp .at ≤ s) × (s < e) × (e ≤ to .at) × Meets t sp (of-variable (place s e)) to
+AheadLeft t sp (ahead.Number v to) = (v ≤ 65535) × Meets t sp (of-number v) to
+AheadLeft t sp (ahead.Row to) = Meets t sp next-row to
+AheadLeft t sp ahead.End = (rest : List Item) → Left t sp rest → rest ≡ []
 
 -- the place at which the first fact's arguments begin
 pub record FirstRow (t : List ℕ) (q : ℕ) (facts : List Fact) : Type 0 where
@@ -77,7 +70,7 @@ pub record FirstRow (t : List ℕ) (q : ℕ) (facts : List Fact) : Type 0 where
   pub end : ℕ
   pub same : run (drop q t) arg (work start end 0 [] []) q ≡ reads facts
 
-pub record Begins (t : List ℕ) (sp : Spot) : Type 0 where
+pub record StartLeft (t : List ℕ) (sp : Spot) : Type 0 where
   pub within : sp .at ≤ length t
   pub spot : sp ≡ record { at = sp .at; past = false; depth = 0 }
   pub first : (facts : List Fact) → textOf t ≡ reads facts → FirstRow t (sp .at) facts
