@@ -1,34 +1,33 @@
 -- The writing of the cells, law by law.
-use Prim.Native.Nat.{ℕ, zero, suc, _+_, _-_, _*_, _^_, _≤_, _<_}
+use Prim.Native.Nat.{ℕ, suc, _+_, _-_, _/_, _%_, _^_, _≤_, _<_}
 use mathlib.Core.Path.{_≡_, refl, sym, ap, ap₂, subst, _∙_}
 use mathlib.Core.Bool.{Bool, true, false, cond}
-use mathlib.Core.List.{List, [], _∷_, _++_, map, flatten, append-assoc, append-nil}
+use mathlib.Core.List.{List, [], _∷_, _++_, flatten, append-assoc, append-nil}
 use native.Mathlib.Omega.{arith}
-use native.Mathlib.Numerals.{add-one}
-use native.Mathlib.Nat.{add-zero}
 use lib.Dec.{ltb}
 use lib.ListN.{length, getD, drop, set, length-append, length-set, List·getD-append}
-use lib.Seq.{drop-cons, append-snoc, set-append-seam, set-append-left, getD-append-add, getD-set-same, getD-set-other}
+use lib.Seq.{set-append-left, getD-append-add, getD-set-same, getD-set-other}
 use borrow.Author.Tests.{ltb-true}
-use Rattle.cell.specs.Cell.{variableCell, nameCell, numberCell}
-use Rattle.grammar.specs.Grammar.{Symbol, name, variable, number, Fact, fact}
+use Rattle.cell.specs.Cell.{nameCell}
+use Rattle.grammar.specs.Grammar.{Symbol, name, number, Fact, fact}
 use Rattle.grammar.specs.Meaning.{symbolsOf}
-use Rattle.grammar.specs.Reader.{Mode, arg, after, closed, Frame, frame, Work, work, Next, dead, go, put, push, comma, close, Out, stops, reads, run, textOf}
+use Rattle.grammar.specs.Reader.{Mode, arg, after, closed, Frame, frame, Work, work, Next, dead, go, put, push, comma, close, stops, reads, run}
 use Rattle.grammar.proofs.Sound.{clash}
 use Rattle.grammar.specs.Reader.{Under, Held, none, more}
 use Rattle.grammar.proofs.HeldLaws.{held-put, held-push}
-use Rattle.loading.specs.Items.{Item, itemsIn, shapeOf, shapes}
+use Rattle.loading.specs.Items.{itemsIn, shapeOf, shapes}
 use Rattle.loading.proofs.ItemLaws.{shapes-more, shapes-set, shape-at, shapes-long}
 use Rattle.loading.proofs.KeepLaws.{Inside, in-arg, in-after}
 use Rattle.loading.proofs.KeepLaws as keep
-use Rattle.lex.specs.Turns.{termMode, onMark, onTurn, Leads, Turns}
+use Rattle.lex.specs.Turns.{termMode, onMark}
 use Rattle.lex.specs.declared.turn.Turn.the-variants as turn
-use Rattle.symbols.specs.Left.{factOf, NextRow, RowEnds, FirstRow, Begins}
+use Rattle.symbols.specs.Next.{RowEnds}
+use Rattle.symbols.specs.code.Left.{factOf, FirstRow}
 use Rattle.symbols.specs.declared.RowEnd.the-variants as row-end
-use Rattle.symbols.proofs.LeftLaws.{commaTo, closeTo, Marked, comma-marks, comma-deep, close-marks, close-deep}
-use Rattle.prolog.specs.code.Cells.{making, Owned, sofar, Makes, Roomy, cellsIn, MadeIs}
+use Rattle.symbols.proofs.LeftLaws.{row-reads, commaTo, closeTo, comma-marks, close-marks}
+use Rattle.words.proofs.NumberLaws.{set-next}
+use Rattle.prolog.specs.code.Cells.{making, withArgument, Owned, sofar, Makes, Roomy, cellsIn}
 use Rattle.prolog.specs.declared.cells.Making.{Making}
-use Rattle.prolog.specs.declared.cells.Made.{Made}
 use Rattle.prolog.specs.declared.cells.Made.the-variants as made
 
 inside : (past : Bool) → Inside (termMode past)
@@ -40,12 +39,12 @@ set-behind : {A : Type 0} (xs ys : List A) (i : ℕ) (a : A) → set (xs ++ ys) 
 set-behind {A} [] ys i a = let e : 0 + i ≡ i = omega arith in ap (λ (n : ℕ). set ys n a) e
 set-behind {A} (x ∷ xs) ys i a = let e : suc (length xs) + i ≡ suc (length xs + i) = omega arith in ap (λ (n : ℕ). set (x ∷ xs ++ ys) n a) e ∙ ap (λ (l : List A). x ∷ l) (set-behind xs ys i a)
 
-set-next : (xs start : List ℕ) (k c : ℕ) → length xs ≡ k → k < length start → set (xs ++ drop k start) k c ≡ (xs ++ (c ∷ [])) ++ drop (k + 1) start
-set-next xs start k c e h =
-    ap₂ (λ (l : List ℕ) (i : ℕ). set (xs ++ l) i c) (drop-cons start k 0 h) (sym e)
-    ∙ set-append-seam xs (getD start k 0) (drop (suc k) start) c
-    ∙ sym (append-snoc xs c (drop (suc k) start))
-    ∙ ap (λ (i : ℕ). (xs ++ (c ∷ [])) ++ drop i start) (sym (add-one k))
+-- A CELL: one more argument
+with-argument : (a n : ℕ) → a ≤ 3 → n < 65536 → withArgument (nameCell a n) ≡ nameCell (suc a) n
+with-argument a n h l =
+    let e : (nameCell a n / 2 ^ 16 % 2 ^ 3 + 1) % 2 ^ 3 ≡ suc a = omega arith in
+    let f : nameCell a n % 2 ^ 16 % 2 ^ 16 ≡ n = omega arith in
+    ap₂ nameCell e f
 
 -- ROOM: what is met is part of what is read
 symbols-append : (fs gs : List Fact) → symbolsOf (fs ++ gs) ≡ symbolsOf fs ++ symbolsOf gs
@@ -223,31 +222,27 @@ module _ (t : List ℕ) (facts : List Fact) (numbers start cells owners : List �
         ∙ shape-at ss o numbers (omega (arith, own-low, M .count))
         ∙ ap (λ (x : Symbol). shapeOf x (getD numbers o 0)) own-symbol
 
-    one-more : set cells (getD owners (m .depth - 1) 0) (getD cells (getD owners (m .depth - 1) 0) 0 + 65536)
+    one-more : ((i : ℕ) → getD numbers i 0 < 65536) → set cells (getD owners (m .depth - 1) 0) (withArgument (getD cells (getD owners (m .depth - 1) 0) 0))
         ≡ shapes (symbolsOf (M .before) ++ set (M .work .out) (g .owner) (name (g .start) (g .end) (suc (g .done)))) numbers ++ drop (m .count) start
-    one-more =
+    unfolding Owned
+    one-more h =
         let ss = sofar (M .before) (M .work) in
         let o = length (symbolsOf (M .before)) + g .owner in
         let x = name (g .start) (g .end) (suc (g .done)) in
         let c = nameCell (suc (g .done)) (getD numbers o 0) in
-        let e : getD cells o 0 + 65536 ≡ c = omega (arith, own-cell) in
-        ap (λ (i : ℕ). set cells i (getD cells i 0 + 65536)) own
+        let e : withArgument (getD cells o 0) ≡ c = ap withArgument own-cell ∙ with-argument (g .done) (getD numbers o 0) (O .1) (h o) in
+        ap (λ (i : ℕ). set cells i (withArgument (getD cells i 0))) own
         ∙ ap₂ (λ (l : List ℕ) (v : ℕ). set l o v) (M .written) e
         ∙ set-append-left (shapes ss numbers) (drop (m .count) start) o c (omega (arith, own-low, shapes-long ss numbers, M .count))
         ∙ ap (λ (l : List ℕ). l ++ drop (m .count) start) (sym (shapes-set ss o x numbers))
         ∙ ap (λ (l : List Symbol). shapes l numbers ++ drop (m .count) start) (set-behind (symbolsOf (M .before)) (M .work .out) (g .owner) x)
 
     -- and it fits
-    fits : ((i : ℕ) → getD numbers i 0 < 65536) → (m .depth - 1 < length owners) × (getD owners (m .depth - 1) 0 < length cells)
-        × (getD cells (getD owners (m .depth - 1) 0) 0 + 65536 < 2 ^ 32)
-    unfolding Owned
-    fits h =
-        let k = met-few (drop (m .at) t) (termMode (m .past)) (M .work) (m .at) facts (M .before) (M .later) (M .all) (M .held) (inside (m .past)) (M .same) in
-        let o = length (symbolsOf (M .before)) + g .owner in
-        let v = ap (λ (i : ℕ). getD cells i 0) own ∙ own-cell in (
+    fits : (m .depth - 1 < length owners) × (getD owners (m .depth - 1) 0 < length cells)
+    fits =
+        let k = met-few (drop (m .at) t) (termMode (m .past)) (M .work) (m .at) facts (M .before) (M .later) (M .all) (M .held) (inside (m .past)) (M .same) in (
           omega (arith, k, held-few H, q, M .count, length-append (symbolsOf (M .before)) (M .work .out), R .for-owners),
           omega (arith, own, own-low, k, M .count, R .for-cells),
-          omega (arith, v, h o, O .1),
         )
 
     same-count : (x : Symbol) → length (symbolsOf (M .before) ++ set (M .work .out) (g .owner) x) ≡ m .count
@@ -268,59 +263,58 @@ module _ (t : List ℕ) (facts : List Fact) (numbers start cells owners : List �
         by false z y = clash y
 
     added : List ℕ
-    added = set cells (getD owners (m .depth - 1) 0) (getD cells (getD owners (m .depth - 1) 0) 0 + 65536)
+    added = set cells (getD owners (m .depth - 1) 0) (withArgument (getD cells (getD owners (m .depth - 1) 0) 0))
 
-    comma-inner : (p s n k : ℕ) → p < length t → onMark t p (comma s n k (g ∷ fs) (M .work .out)) ≡ reads (M .later)
+    comma-inner : ((i : ℕ) → getD numbers i 0 < 65536) → (p s n k : ℕ) → p < length t → onMark t p (comma s n k (g ∷ fs) (M .work .out)) ≡ reads (M .later)
         → Makes t facts numbers start added owners (making (p + 1) false (m .depth) (m .count))
     unfolding commaTo Owned added
-    comma-inner p s n k h r =
+    comma-inner small p s n k h r =
         let c = comma-marks t p s n k (g ∷ fs) (M .work .out) (M .later) H r in
         record {
           before = M .before;
           later = M .later;
           work = commaTo s n k (g ∷ fs) (M .work .out);
           all = M .all;
-          size = M .size ∙ sym (length-set cells (getD owners (m .depth - 1) 0) (getD cells (getD owners (m .depth - 1) 0) 0 + 65536));
+          size = M .size ∙ sym (length-set cells (getD owners (m .depth - 1) 0) (withArgument (getD cells (getD owners (m .depth - 1) 0) 0)));
           within = omega arith;
           same = c .same;
           held = c .held;
           deep = q;
           owned = (O .0, comma-low p s n k r, O .2);
           count = same-count (name (g .start) (g .end) (suc (g .done)));
-          written = one-more;
+          written = one-more small;
         }
 
-    close-inner : (p s n k : ℕ) → p < length t → onMark t p (close s n k (g ∷ fs) (M .work .out)) ≡ reads (M .later)
+    close-inner : ((i : ℕ) → getD numbers i 0 < 65536) → (p s n k : ℕ) → p < length t → onMark t p (close s n k (g ∷ fs) (M .work .out)) ≡ reads (M .later)
         → Makes t facts numbers start added owners (making (p + 1) true (m .depth - 1) (m .count))
     unfolding closeTo Owned added
-    close-inner p s n k h r =
+    close-inner small p s n k h r =
         let c = close-marks t p s n k g fs (M .work .out) (M .later) H r in
         record {
           before = M .before;
           later = M .later;
           work = closeTo s n k g fs (M .work .out);
           all = M .all;
-          size = M .size ∙ sym (length-set cells (getD owners (m .depth - 1) 0) (getD cells (getD owners (m .depth - 1) 0) 0 + 65536));
+          size = M .size ∙ sym (length-set cells (getD owners (m .depth - 1) 0) (withArgument (getD cells (getD owners (m .depth - 1) 0) 0)));
           within = omega arith;
           same = c .same;
           held = c .held;
           deep = omega arith;
           owned = O .2;
           count = same-count (name (g .start) (g .end) (suc (g .done)));
-          written = one-more;
+          written = one-more small;
         }
 
   abbrev pub addedTo : List ℕ
-  addedTo = set cells (getD owners (m .depth - 1) 0) (getD cells (getD owners (m .depth - 1) 0) 0 + 65536)
+  addedTo = set cells (getD owners (m .depth - 1) 0) (withArgument (getD cells (getD owners (m .depth - 1) 0) 0))
 
-  pub argument-fits : (m .depth ≡ 0 → ⊥) → ((i : ℕ) → getD numbers i 0 < 65536) → (m .depth - 1 < length owners) × (getD owners (m .depth - 1) 0 < length cells)
-      × (getD cells (getD owners (m .depth - 1) 0) 0 + 65536 < 2 ^ 32)
-  argument-fits n h = by (M .work .opened) (M .held) (M .owned) (M .deep)
+  pub argument-fits : (m .depth ≡ 0 → ⊥) → (m .depth - 1 < length owners) × (getD owners (m .depth - 1) 0 < length cells)
+  argument-fits n = by (M .work .opened) (M .held) (M .owned) (M .deep)
     where
       by : (fs : List Frame) → Held (M .work .out) fs → Owned (length (symbolsOf (M .before))) owners fs → length fs ≡ m .depth
-          → (m .depth - 1 < length owners) × (getD owners (m .depth - 1) 0 < length cells) × (getD cells (getD owners (m .depth - 1) 0) 0 + 65536 < 2 ^ 32)
+          → (m .depth - 1 < length owners) × (getD owners (m .depth - 1) 0 < length cells)
       by [] H O d = absurd (n (sym d))
-      by (g ∷ fs) H O d = fits g fs H O d h
+      by (g ∷ fs) H O d = fits g fs H O d
 
   module _ (p : ℕ) (l : m .at ≤ p) (h : p < length t) where
     module _ (f : (v : Work) → run (drop (m .at) t) (termMode (m .past)) v (m .at) ≡ onMark t p (comma (v .start) (v .end) (v .done) (v .opened) (v .out))) where
@@ -348,26 +342,26 @@ module _ (t : List ℕ) (facts : List Fact) (numbers start cells owners : List �
               }
           by (g ∷ fs) d r = absurd (omega arith)
 
-      pub comma-makes : (m .depth ≡ 0 → ⊥) → Makes t facts numbers start addedTo owners (making (p + 1) false (m .depth) (m .count))
+      pub comma-makes : ((i : ℕ) → getD numbers i 0 < 65536) → (m .depth ≡ 0 → ⊥) → Makes t facts numbers start addedTo owners (making (p + 1) false (m .depth) (m .count))
       unfolding added
-      comma-makes n = by (M .work .opened) (M .held) (M .owned) (M .deep) (sym (f (M .work)) ∙ M .same)
+      comma-makes small n = by (M .work .opened) (M .held) (M .owned) (M .deep) (sym (f (M .work)) ∙ M .same)
         where
           by : (fs : List Frame) → Held (M .work .out) fs → Owned (length (symbolsOf (M .before))) owners fs → length fs ≡ m .depth
               → onMark t p (comma (M .work .start) (M .work .end) (M .work .done) fs (M .work .out)) ≡ reads (M .later)
               → Makes t facts numbers start addedTo owners (making (p + 1) false (m .depth) (m .count))
           by [] H O d r = absurd (n (sym d))
-          by (g ∷ fs) H O d r = comma-inner g fs H O d p (M .work .start) (M .work .end) (M .work .done) h r
+          by (g ∷ fs) H O d r = comma-inner g fs H O d small p (M .work .start) (M .work .end) (M .work .done) h r
 
     module _ (f : (v : Work) → run (drop (m .at) t) (termMode (m .past)) v (m .at) ≡ onMark t p (close (v .start) (v .end) (v .done) (v .opened) (v .out))) where
-      pub close-makes : (m .depth ≡ 0 → ⊥) → Makes t facts numbers start addedTo owners (making (p + 1) true (m .depth - 1) (m .count))
+      pub close-makes : ((i : ℕ) → getD numbers i 0 < 65536) → (m .depth ≡ 0 → ⊥) → Makes t facts numbers start addedTo owners (making (p + 1) true (m .depth - 1) (m .count))
       unfolding added
-      close-makes n = by (M .work .opened) (M .held) (M .owned) (M .deep) (sym (f (M .work)) ∙ M .same)
+      close-makes small n = by (M .work .opened) (M .held) (M .owned) (M .deep) (sym (f (M .work)) ∙ M .same)
         where
           by : (fs : List Frame) → Held (M .work .out) fs → Owned (length (symbolsOf (M .before))) owners fs → length fs ≡ m .depth
               → onMark t p (close (M .work .start) (M .work .end) (M .work .done) fs (M .work .out)) ≡ reads (M .later)
               → Makes t facts numbers start addedTo owners (making (p + 1) true (m .depth - 1) (m .count))
           by [] H O d r = absurd (n (sym d))
-          by (g ∷ fs) H O d r = close-inner g fs H O d p (M .work .start) (M .work .end) (M .work .done) h r
+          by (g ∷ fs) H O d r = close-inner g fs H O d small p (M .work .start) (M .work .end) (M .work .done) h r
 
       -- the fact's own bracket
       fact-closed : m .depth ≡ 0 → run (drop (p + 1) t) closed (M .work) (p + 1) ≡ reads (M .later)
@@ -384,7 +378,8 @@ module _ (t : List ℕ) (facts : List Fact) (numbers start cells owners : List �
       symbols-so = symbols-append (M .before) (factOf (M .work) ∷ []) ∙ ap (λ (l : List Symbol). symbolsOf (M .before) ++ l) (append-nil (M .work .out))
 
       pub row-makes : (q : ℕ) → m .depth ≡ 0 → RowEnds t (p + 1) (row-end.Next q) → (m .at < q) × Makes t facts numbers start cells owners (making q false 0 (m .count))
-      row-makes q z x =
+      row-makes q z r =
+          let x = row-reads r in
           let n = x .2 (M .work) (M .later) (fact-closed z) in
           let w = work (n .start) (n .end) 0 [] [] in
           let e : sofar (M .before ++ (factOf (M .work) ∷ [])) w ≡ sofar (M .before) (M .work) = append-nil (symbolsOf (M .before ++ (factOf (M .work) ∷ []))) ∙ symbols-so in (
@@ -408,7 +403,7 @@ module _ (t : List ℕ) (facts : List Fact) (numbers start cells owners : List �
       pub all-made : m .depth ≡ 0 → RowEnds t (p + 1) row-end.Last → (m .count ≡ length (symbolsOf facts)) × (cells ≡ cellsIn facts numbers start)
       all-made z x =
           let e : symbolsOf facts ≡ sofar (M .before) (M .work) =
-          ap symbolsOf (M .all) ∙ ap (λ (gs : List Fact). symbolsOf (M .before ++ gs)) (x (M .work) (M .later) (fact-closed z)) ∙ symbols-so in
+          ap symbolsOf (M .all) ∙ ap (λ (gs : List Fact). symbolsOf (M .before ++ gs)) (row-reads x (M .work) (M .later) (fact-closed z)) ∙ symbols-so in
           let k : m .count ≡ length (symbolsOf facts) = sym (M .count) ∙ ap length (sym e) in
           (k, M .written ∙ ap₂ (λ (l : List Symbol) (n : ℕ). shapes l numbers ++ drop n start) (sym e) k)
 

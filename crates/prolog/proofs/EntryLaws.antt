@@ -1,105 +1,68 @@
 -- The entry's answers, law by law.
-use Prim.Native.Nat.{ℕ, zero, suc, _+_, _-_, _*_, _^_, _≤_, _<_}
-use mathlib.Core.Path.{_≡_, refl, sym, ap, ap₂, subst, _∙_}
-use mathlib.Core.Bool.{Bool, true, false, _||_}
-use mathlib.Core.List.{List, [], _∷_, _++_, map, flatten, append-assoc, append-nil}
+use Prim.Native.Nat.{ℕ, _+_, _-_, _≤_, _<_}
+use mathlib.Core.Path.{_≡_, refl, sym, ap, ap₂, _∙_}
+use mathlib.Core.Bool.{Bool, true, false, cond}
+use mathlib.Core.List.{List, [], _∷_, _++_, append-nil}
 use native.Mathlib.Omega.{arith}
 use native.Mathlib.Numerals.{add-one}
 use lib.Dec.{ltb}
-use lib.ListN.{length, take, drop, set, getD, length-append, length-set}
-use lib.Seq.{sets, sets-eq, length-sets, take-length, take-append-seam, paste, paste-suc}
-use borrow.Rule.Slice.PartMut.{putMid, postOf, mid-len, same-len-mid}
-use borrow.Author.Tests.{lt-ltb, le-ltb}
+use lib.ListN.{length, take, drop, set, getD, length-append, length-drop, length-set, length-map, drop-of-length-le}
+use lib.Seq.{take-length, take-all, take-append-seam, drop-drop, paste, paste-suc}
+use borrow.Rule.Slice.PartMut.{putMid, postOf, mid-len}
+use borrow.Author.Tests.{lt-ltb, le-ltb, ltb-true, ltb-false}
 use Rattle.refusal.specs.Refusal.{Refused, refused, told, Answer, answered, turned}
 use Rattle.refusal.specs.Read.{Read, read, refuse}
 use Rattle.refusal.specs.declared.Refusal.{Refusal}
 use Rattle.refusal.specs.declared.Reason.the-variants as reason
 use Rattle.refusal.specs.declared.Input.the-variants as input
-use Rattle.table.specs.Table.{Table, tableOf, tableSays, tableTold, TableReads}
+use Rattle.table.specs.Table.{Table, tableOf, tableSays, tableTold}
 use Rattle.table.specs.declared.TableAnswer.{TableAnswer}
 use Rattle.table.specs.declared.TableAnswer.the-variants as table-answer
-use Rattle.grammar.specs.Grammar.{Symbol, Fact, Text}
-use Rattle.grammar.specs.Reader.{reads, textOf}
-use Rattle.grammar.specs.Meaning.{Place, symbolsOf, widthOf, namesOf, cellsFrom, tableCells, nameList}
+use Rattle.grammar.specs.Grammar.{Fact}
+use Rattle.grammar.specs.Meaning.{symbolsOf, widthOf, namesOf, tableCells, entryOf, nameList}
 use Rattle.grammar.specs.Taken.{Taken, taken}
-use Rattle.grammar.proofs.Accepted.{accepted}
-use Rattle.grammar.proofs.LongLaws.{text-long}
-use Rattle.loading.specs.Load.{Loaded, loaded, Loads, not-taken, no-cells, no-names, no-table, loads, TextLoads, loadSays, cellsAfter, namesAfter}
+use Rattle.loading.specs.Load.{Loaded, loaded, Loads, not-taken, no-cells, no-names, no-table, loads, TextLoads, loadSays, cellsAfter, namesAfter, front}
 use Rattle.loading.specs.Items.{itemsOf, numbering, shapes}
 use Rattle.loading.proofs.ItemLaws.{cells-shapes, shapes-long, numbering-long, among-items}
 use Rattle.loading.proofs.WideLaws.{text-wide}
-use Rattle.scan.specs.Scan.{counted, countedIn, scanTold, ScanIs}
+use Rattle.scan.specs.Scan.{Counts}
 use Rattle.scan.specs.declared.Counted.{Counted}
-use Rattle.scan.specs.declared.Scan.{Scan}
-use Rattle.scan.specs.declared.Scan.the-variants as scan
-use Rattle.words.specs.code.Numbers.{TextNumbers, NumbersIs}
-use Rattle.prolog.specs.Entry.{textTold, Counts, FactsMade}
+use Rattle.scan.proofs.SaysLaws.{counts-read}
+use Rattle.words.specs.Words.{numbersOf, WordsAre}
+use Rattle.words.specs.Words as words
+use Rattle.words.specs.declared.NamesRead.the-variants as names-read
+use Rattle.words.specs.declared.TextWords.the-variants as text-words
+use Rattle.prolog.specs.Entry.{textTold, sizes, FactsAre, are-made}
+use Rattle.prolog.specs.Entry as entry
 use Rattle.prolog.specs.code.Cells.{Writes, Written}
-use Rattle.prolog.specs.code.Parts.{Tables, TableIs, given, Gives}
+use Rattle.prolog.specs.code.Parts.{Numbers, Fits, TableIs, overOf, given, Gives}
+use Rattle.prolog.specs.declared.FactsAnswer.the-variants as facts-answer
 use Rattle.prolog.specs.declared.TextAnswer.{TextAnswer}
 use Rattle.prolog.specs.declared.TextAnswer.the-variants as text-answer
 
--- WHAT THE SCAN SAYS
-pub scan-is : (t : List ℕ) {r x : Scan} → ScanIs t r → r ≡ x → ScanIs t x
-scan-is t c e = subst (ScanIs t) e c
-
-pub scan-facts : (t : List ℕ) (c : Counted) → ScanIs t (scan.Facts c) → Counts t c
-scan-facts t c s = by (s .says) (s .rule) (s .answer)
-  where
-    by : (o : Read (List Fact)) → Taken t o → read c ≡ countedIn o → Counts t c
-    by (read fs) x e =
-        let q : c ≡ counted (length fs) (widthOf fs) (length (symbolsOf fs)) = cc in
-        record {
-          facts = fs;
-          taken = x;
-          number = sym (ap (λ (d : Counted). d .facts) q);
-          width = sym (ap (λ (d : Counted). d .width) q);
-          symbols = sym (ap (λ (d : Counted). d .symbols) q);
-        }
-    by (refuse f) x e = absurd (let z : _≡_ {A = ℕ} 0 1 = cc in omega arith)
-
 -- A REFUSAL WRITES NOTHING
-pub turned-away : {t cells names : List ℕ} {a : Answer} {f : Refused} → a ≡ turned f → Loads t (length cells) (length names) (refuse f) → TextLoads t cells names cells names a
+turned-away : {t cells names : List ℕ} {a : Answer} {f : Refused} → a ≡ turned f → Loads t (length cells) (length names) (refuse f) → TextLoads t cells names cells names a
 turned-away {f = f} e l = record { says = refuse f; rule = l; told = e; wrote = refl; listed = refl }
 
-pub scan-turned : (t : List ℕ) (f : Refusal) → ScanIs t (scan.Refused f) → Taken t (refuse (told f))
-scan-turned t f s = by (s .says) (s .rule) (s .answer)
-  where
-    by : (o : Read (List Fact)) → Taken t o → refuse (told f) ≡ countedIn o → Taken t (refuse (told f))
-    by (read fs) x e = absurd (let z : _≡_ {A = ℕ} 0 1 = cc in omega arith)
-    by (refuse g) x e = let q : told f ≡ g = cc in subst (λ (y : Refused). Taken t (refuse y)) (sym q) x
-
-pub scan-refused : (t cells names : List ℕ) (f : Refusal) → ScanIs t (scan.Refused f) → TextLoads t cells names cells names (turned (told f))
-scan-refused t cells names f s = turned-away refl (not-taken (scan-turned t f s))
+pub turned-loads : (t cells names : List ℕ) (f : Refusal) → Taken t (refuse (told f)) → TextLoads t cells names cells names (turned (told f))
+turned-loads t cells names f x = turned-away refl (not-taken x)
 
 -- SIZES
-map-long : {A B : Type 0} (f : A → B) (xs : List A) → length (map f xs) ≡ length xs
-map-long f [] = refl
-map-long f (x ∷ xs) = ap suc (map-long f xs)
-
 pub names-long : (t : List ℕ) (facts : List Fact) → length (nameList t facts) ≡ length (namesOf t facts)
 unfolding nameList
-names-long t facts = map-long (λ (w : Place). (w .end - w .start) * 2 ^ 16 + w .start) (namesOf t facts)
+names-long t facts = length-map (namesOf t facts) entryOf
 
 pub cells-long : (t : List ℕ) (facts : List Fact) → length (tableCells t facts) ≡ length (symbolsOf facts) + 2
 unfolding tableCells
 cells-long t facts =
     omega (arith, ap length (sym (cells-shapes t facts [])), shapes-long (symbolsOf facts) (numbering t [] [] (itemsOf facts) ++ []))
 
-pub counts-read : {t : List ℕ} {c : Counted} (C : Counts t c) → (length t ≤ 65535) × (textOf t ≡ reads (C .facts)) × (c .width ≤ c .symbols) × (c .facts ≤ c .symbols)
-counts-read {t} {c} C = by (C .taken)
+-- no more arguments than symbols, nor facts
+pub counts-wide : {t : List ℕ} {c : Counted} → Counts t c → (c .width ≤ c .symbols) × (c .facts ≤ c .symbols)
+counts-wide {t} {c} C = by (C .taken)
   where
-    by : Taken t (read (C .facts)) → (length t ≤ 65535) × (textOf t ≡ reads (C .facts)) × (c .width ≤ c .symbols) × (c .facts ≤ c .symbols)
-    by (taken h x e) =
-        let w = text-wide t x in
-        (h, accepted t (C .facts) .1 x, omega (arith, w .0, C .width, C .symbols), omega (arith, w .1, C .number, C .symbols))
-
--- two bytes for each symbol
-pub counts-few : {t : List ℕ} {c : Counted} → Counts t c → c .symbols ≤ 32766
-counts-few {t} {c} C = by (C .taken)
-  where
-    by : Taken t (read (C .facts)) → c .symbols ≤ 32766
-    by (taken h x e) = omega (arith, text-long t x, C .symbols)
+    by : Taken t (read (C .facts)) → (c .width ≤ c .symbols) × (c .facts ≤ c .symbols)
+    by (taken h x e) = let w = text-wide t x in (omega (arith, w .0, C .width, C .symbols), omega (arith, w .1, C .number, C .symbols))
 
 -- ROOM OF THE CELLS, ROOM OF THE LIST, LENGTH
 long-table : (xs : List ℕ) → 2050 < length xs → tableOf xs ≡ refuse (refused reason.Length input.Table 0)
@@ -114,16 +77,23 @@ module _ (t cells names : List ℕ) (c : Counted) (C : Counts t c) where
   no-room-cells e h =
       turned-away (e ∙ ap (λ (n : ℕ). turned (refused reason.Room input.Lent n)) needs) (no-cells (C .taken) (omega (arith, needs)))
 
-  pub no-room-names : {a : Answer} (n : ℕ) → a ≡ turned (refused reason.Room input.Lent n) → n ≡ length (namesOf t (C .facts)) → c .symbols + 2 ≤ length cells → length names < n
+  pub no-room-names : {a : Answer} (n : ℕ) → a ≡ turned (refused reason.Room input.Lent n) → n ≡ length (nameList t (C .facts)) → c .symbols + 2 ≤ length cells → length names < n
       → TextLoads t cells names cells names a
   no-room-names n e q l h =
-      let k : n ≡ length (nameList t (C .facts)) = q ∙ sym (names-long t (C .facts)) in
-      turned-away (e ∙ ap (λ (i : ℕ). turned (refused reason.Room input.Lent i)) k) (no-names (C .taken) (omega (arith, needs)) (omega (arith, k)))
+      turned-away (e ∙ ap (λ (i : ℕ). turned (refused reason.Room input.Lent i)) q) (no-names (C .taken) (omega (arith, needs)) (omega (arith, q)))
 
-  pub too-long : (n : ℕ) → n ≡ length (namesOf t (C .facts)) → 2048 < c .symbols → c .symbols + 2 ≤ length cells → n ≤ length names
-      → TextLoads t cells names cells names (turned (refused reason.Length input.Table 0))
-  too-long n q h l k =
-      turned-away refl (no-table (C .taken) (omega (arith, needs)) (omega (arith, q, names-long t (C .facts), k)) (long-table (tableCells t (C .facts)) (omega (arith, needs))))
+  -- over 2,048 symbols
+  pub over-loads : {a : Answer} (n : ℕ) → a ≡ overOf n (length names) → n ≡ length (nameList t (C .facts)) → 2048 < c .symbols → c .symbols + 2 ≤ length cells
+      → TextLoads t cells names cells names a
+  over-loads {a} n e q h l = by (ltb (length names) n) refl e
+    where
+      by : (b : Bool) → ltb (length names) n ≡ b → a ≡ turned (cond b (refused reason.Room input.Lent n) (refused reason.Length input.Table 0))
+          → TextLoads t cells names cells names a
+      by true k f = no-room-names n f q l (ltb-true (length names) n k)
+      by false k f =
+          turned-away f
+          (no-table (C .taken) (omega (arith, needs)) (omega (arith, q, ltb-false (length names) n k))
+          (long-table (tableCells t (C .facts)) (omega (arith, needs))))
 
 -- GIVEN
 pub gives-loads : (t made list cells names cells′ names′ : List ℕ) (r : TextAnswer) (facts : List Fact) → Taken t (read facts) → made ≡ tableCells t facts → list ≡ nameList t facts
@@ -153,7 +123,7 @@ gives-loads t made list cells names cells′ names′ r facts x e f h k G = by (
 
 -- what the table's reader answered
 pub table-accepted : (made list cells names cells′ names′ : List ℕ) (w n : ℕ) {a : TableAnswer} → tableTold a ≡ tableSays (tableOf made) → a ≡ table-answer.Accepted w n
-    → cells′ ≡ made ++ drop (length made) cells → names′ ≡ list ++ drop (length list) names → Gives made list cells names cells′ names′ (text-answer.Read (length made) (length list))
+    → cells′ ≡ front made cells → names′ ≡ front list names → Gives made list cells names cells′ names′ (text-answer.Read (length made) (length list))
 table-accepted made list cells names cells′ names′ w n e q b d = by (tableOf made) refl (sym (ap tableTold q) ∙ e)
   where
     by : (o : Read Table) → tableOf made ≡ o → answered w n ≡ tableSays o → Gives made list cells names cells′ names′ (text-answer.Read (length made) (length list))
@@ -181,22 +151,20 @@ table-refused made list cells names f e q = by (tableOf made) refl (sym (ap tabl
         }
 
 -- THE TABLE'S CELLS
-pub rows-are : (t : List ℕ) (facts : List Fact) (numbers start : List ℕ) → length (symbolsOf facts) ≤ length start → numbers ≡ sets start 0 (numbering t [] [] (itemsOf facts))
+rows-are : (t : List ℕ) (facts : List Fact) (numbers start : List ℕ) → numbers ≡ front (numbersOf t facts) start
     → tableCells t facts ≡ widthOf facts ∷ length facts ∷ shapes (symbolsOf facts) numbers
 unfolding tableCells
-rows-are t facts numbers start h e =
-    let ns = numbering t [] [] (itemsOf facts) in
-    let z : 0 + length ns ≤ length start = omega (arith, numbering-long t [] [] (itemsOf facts), among-items facts) in
-    let q : numbers ≡ ns ++ drop (0 + length ns) start = e ∙ sets-eq ns start 0 z in
-    ap (λ (l : List ℕ). widthOf facts ∷ length facts ∷ l) (sym (cells-shapes t facts (drop (0 + length ns) start)) ∙ ap (shapes (symbolsOf facts)) (sym q))
+rows-are t facts numbers start e =
+    ap (λ (l : List ℕ). widthOf facts ∷ length facts ∷ l)
+    (sym (cells-shapes t facts (drop (length (numbersOf t facts)) start)) ∙ ap (shapes (symbolsOf facts)) (sym e))
 
 -- the first two cells are stored, and the others written behind them
-front : (made : List ℕ) (w n : ℕ) → 2 ≤ length made → set (set made 0 w) 1 n ≡ w ∷ n ∷ drop 2 made
-front [] w n h = absurd (omega arith)
-front (a ∷ []) w n h = absurd (omega arith)
-front (a ∷ b ∷ made) w n h = refl
+front-stored : (made : List ℕ) (w n : ℕ) → 2 ≤ length made → set (set made 0 w) 1 n ≡ w ∷ n ∷ drop 2 made
+front-stored [] w n h = absurd (omega arith)
+front-stored (a ∷ []) w n h = absurd (omega arith)
+front-stored (a ∷ b ∷ made) w n h = refl
 
-module _ (t numbers made : List ℕ) (c : Counted) (T : Tables t c numbers made) where
+module _ (t numbers made : List ℕ) (c : Counted) (N : Numbers t c numbers) (room : length made ≡ 2050) where
   abbrev pub stored : List ℕ
   stored = set (set made 0 (c .width)) 1 (c .facts)
 
@@ -204,56 +172,136 @@ module _ (t numbers made : List ℕ) (c : Counted) (T : Tables t c numbers made)
   behind = take (length stored - 2) (drop 2 stored)
 
   pub stored-long : length stored ≡ 2050
-  stored-long = length-set (set made 0 (c .width)) 1 (c .facts) ∙ length-set made 0 (c .width) ∙ T .room
+  stored-long = length-set (set made 0 (c .width)) 1 (c .facts) ∙ length-set made 0 (c .width) ∙ room
 
   pub behind-long : length behind ≡ 2048
   behind-long = mid-len 2 (length stored) stored (omega arith) ∙ omega (arith, stored-long)
 
+  -- they are all the others
+  behind-is : behind ≡ drop 2 made
+  behind-is =
+      let e = ap (drop 2) (front-stored made (c .width) (c .facts) (omega arith)) in
+      ap (take (length stored - 2)) e ∙ take-all (length stored - 2) (drop 2 made) (omega (arith, length-drop 2 made, stored-long))
+
+  none-after : postOf 2 (length stored - 2) stored ≡ []
+  none-after = drop-of-length-le (drop 2 stored) {i = length stored - 2} (omega (arith, length-drop 2 stored))
+
   abbrev pub writes : Writes t numbers behind
   writes =
-      let k = counts-read (T .counts) in
       record {
-        facts = T .counts .facts;
-        text = k .1;
-        for-numbers = omega (arith, T .counts .symbols, T .few, ap length (T .is), length-sets (T .start) 0 (numbering t [] [] (itemsOf (T .counts .facts))), T .size);
-        for-cells = omega (arith, T .counts .symbols, T .few, behind-long);
-        few = omega (arith, T .counts .symbols, T .few);
+        facts = N .counts .facts;
+        text = counts-read (N .counts) .1;
+        for-numbers = omega (arith, N .counts .symbols, N .few, ap length (N .is), length-append (numbersOf t (N .counts .facts)) (drop (length (numbersOf t (N .counts .facts))) (N .start)), numbering-long t [] [] (itemsOf (N .counts .facts)), among-items (N .counts .facts));
+        for-cells = omega (arith, N .counts .symbols, N .few, behind-long);
+        few = omega (arith, N .counts .symbols, N .few);
       }
 
-  pub table-made : (out : List ℕ) (r : ℕ) → length out ≡ length behind → Written (T .counts .facts) numbers behind out r
-      → TableIs t (T .counts .facts) (putMid 2 (length stored - 2) stored out) (r + 2)
-  table-made out r l W =
-      let fs = T .counts .facts in
+  pub table-made : (out : List ℕ) (r : ℕ) → Written (N .counts .facts) numbers behind out r
+      → TableIs t (N .counts .facts) made (putMid 2 (length stored - 2) stored out) (r + 2)
+  table-made out r W =
+      let fs = N .counts .facts in
       let k = cells-long t fs in
       let cells = shapes (symbolsOf fs) numbers in
-      let left = drop (length (symbolsOf fs)) behind in
-      let post = postOf 2 (length stored - 2) stored in
-      let rest = left ++ post in
       let rows : tableCells t fs ≡ c .width ∷ c .facts ∷ cells =
-      rows-are t fs numbers (T .start) (omega (arith, T .counts .symbols, T .few, T .size)) (T .is)
-      ∙ ap₂ (λ (w n : ℕ). w ∷ n ∷ cells) (T .counts .width) (T .counts .number) in
-      let e : putMid 2 (length stored - 2) stored out ≡ tableCells t fs ++ rest =
-      ap₂ (λ (xs ys : List ℕ). take 2 xs ++ (ys ++ post)) (front made (c .width) (c .facts) (omega (arith, T .room))) (W .cells)
-      ∙ ap (λ (l : List ℕ). c .width ∷ c .facts ∷ l) (append-assoc cells left post)
-      ∙ ap (λ (l : List ℕ). l ++ rest) (sym rows) in
+      rows-are t fs numbers (N .start) (N .is) ∙ ap₂ (λ (w n : ℕ). w ∷ n ∷ cells) (N .counts .width) (N .counts .number) in
+      let o : out ≡ cells ++ drop (length (tableCells t fs)) made =
+      W .cells
+      ∙ ap (λ (l : List ℕ). cells ++ drop (length (symbolsOf fs)) l) behind-is
+      ∙ ap (λ (l : List ℕ). cells ++ l) (drop-drop (length (symbolsOf fs)) 2 made)
+      ∙ (let z : 2 + length (symbolsOf fs) ≡ length (tableCells t fs) = omega (arith, k) in ap (λ (n : ℕ). cells ++ drop n made) z) in
       record {
         count = omega (arith, W .count, k);
-        within = omega (arith, same-len-mid 2 (length stored - 2) stored out l, stored-long, W .count, T .counts .symbols, T .few);
-        cells =
-            let z : r + 2 ≡ length (tableCells t fs) = omega (arith, W .count, k) in
-            ap₂ take z e ∙ take-append-seam (tableCells t fs) rest;
+        wrote =
+            ap₂ (λ (xs ys : List ℕ). take 2 xs ++ (ys ++ postOf 2 (length stored - 2) stored)) (front-stored made (c .width) (c .facts) (omega arith)) o
+            ∙ ap (λ (l : List ℕ). c .width ∷ c .facts ∷ ((cells ++ drop (length (tableCells t fs)) made) ++ l)) none-after
+            ∙ ap (λ (l : List ℕ). c .width ∷ c .facts ∷ l) (append-nil (cells ++ drop (length (tableCells t fs)) made))
+            ∙ ap (λ (l : List ℕ). l ++ drop (length (tableCells t fs)) made) (sym rows);
       }
 
--- THE NUMBERS ARE THERE
-pub numbered : (t list numbers start : List ℕ) (c : Counted) (r : ℕ) (C : Counts t c) → c .symbols ≤ 2048 → length list ≡ 2048 → length start ≡ 2048
-    → NumbersIs t list numbers start r → TextNumbers t (C .facts) list numbers start r
-numbered t list numbers start c r C h l k N =
-    let x = counts-read C in
-    N .text (C .facts) (x .0) (omega arith) (omega arith) (x .1) (omega (arith, C .symbols))
+-- the cells that are made are those before a place of the room
+pub made-front : {t made made′ : List ℕ} {facts : List Fact} {r : ℕ} → TableIs t facts made made′ r → take r made′ ≡ tableCells t facts
+made-front {t} {made} {facts = facts} T = ap₂ take (T .count) (T .wrote) ∙ take-append-seam (tableCells t facts) (drop (length (tableCells t facts)) made)
 
-abbrev pub tables : {t numbers made : List ℕ} {c : Counted} (start : List ℕ) (C : Counts t c) → c .symbols ≤ 2048 → length start ≡ 2048
-    → numbers ≡ sets start 0 (numbering t [] [] (itemsOf (C .facts))) → length made ≡ 2050 → Tables t c numbers made
-tables start C h k e l = record { counts = C; few = h; start = start; size = k; is = e; room = l }
+pub made-within : {t made made′ : List ℕ} {facts : List Fact} {r : ℕ} → TableIs t facts made made′ r → r ≤ length made′
+made-within {t} {made} {facts = facts} T = omega (arith, T .count, ap length (T .wrote), length-append (tableCells t facts) (drop (length (tableCells t facts)) made))
+
+-- WHAT IS SAID OF THE WORDS
+pub record Listed (t : List ℕ) (room : ℕ) (c : Counted) (list numbers list′ numbers′ : List ℕ) (n : ℕ) : Type 0 where
+  pub counts : Counts t c
+  pub room′ : c .symbols + 2 ≤ room
+  pub few : c .symbols ≤ 2048
+  pub count : n ≡ length (nameList t (counts .facts))
+  pub names : list′ ≡ front (nameList t (counts .facts)) list
+  pub numbered : numbers′ ≡ front (numbersOf t (counts .facts)) numbers
+
+module _ {t list numbers : List ℕ} {room : ℕ} where
+  pub listed-are : {list′ numbers′ : List ℕ} {c : Counted} {n : ℕ} → WordsAre t room list numbers list′ numbers′ (text-words.Facts c (names-read.Listed n))
+      → Listed t room c list numbers list′ numbers′ n
+  listed-are (words.facts C (words.few h k)) =
+      record { counts = C; room′ = omega (arith, C .symbols); few = omega (arith, C .symbols); count = refl; names = refl; numbered = refl }
+
+  pub counted-are : {list′ numbers′ : List ℕ} {c : Counted} {n : ℕ}
+      → WordsAre t room list numbers list′ numbers′ (text-words.Facts c (names-read.Counted n))
+      → (C : Counts t c) × ((c .symbols + 2 ≤ room) × (2048 < c .symbols) × (n ≡ length (nameList t (C .facts))))
+  counted-are (words.facts C (words.many h k)) = (C, (omega (arith, C .symbols), omega (arith, C .symbols), refl))
+
+  pub passed-are : {list′ numbers′ : List ℕ} {c : Counted} → WordsAre t room list numbers list′ numbers′ (text-words.Facts c names-read.Passed)
+      → Counts t c × (room < c .symbols + 2)
+  passed-are (words.facts C (words.no-room h)) = (C, omega (arith, C .symbols))
+
+  pub turned-are : {list′ numbers′ : List ℕ} (f : Refusal) → WordsAre t room list numbers list′ numbers′ (text-words.Refused f)
+      → Taken t (refuse (told f))
+  turned-are f (words.refused x) = x
+
+-- the list and the numbers are there
+pub front-kept : (xs room : List ℕ) → length xs ≤ length room → length (front xs room) ≡ length room
+front-kept xs room h = omega (arith, length-append xs (drop (length xs) room), length-drop (length xs) room)
+
+module _ {t list numbers list′ numbers′ : List ℕ} {room n : ℕ} {c : Counted} (L : Listed t room c list numbers list′ numbers′ n)
+    (size : length numbers ≡ 2048) where
+  pub numbers-kept : length numbers′ ≡ 2048
+  numbers-kept =
+      let fs = L .counts .facts in
+      ap length (L .numbered)
+      ∙ front-kept (numbersOf t fs) numbers
+      (omega (arith, numbering-long t [] [] (itemsOf fs), among-items fs, L .counts .symbols, L .few))
+      ∙ size
+
+  abbrev pub numbers-are : Numbers t c numbers′
+  numbers-are = record { counts = L .counts; few = L .few; start = numbers; size = size; is = L .numbered }
+
+  pub names-within : n ≤ length list′
+  names-within =
+      let ns = nameList t (L .counts .facts) in
+      omega (arith, L .count, ap length (L .names), length-append ns (drop (length ns) list))
+
+  pub fits : (cells : List ℕ) → room ≡ length cells → Fits t c numbers′ (take n list′) cells
+  fits cells e =
+      let ns = nameList t (L .counts .facts) in
+      record {
+        numbered = numbers-are;
+        names = ap₂ take (L .count) (L .names) ∙ take-append-seam ns (drop (length ns) list);
+        room = omega (arith, L .room′);
+      }
+
+-- made, and read as no table
+module _ {t made list numbers : List ℕ} where
+  pub facts-made : {list′ numbers′ made′ : List ℕ} {c : Counted} {k n : ℕ} (L : Listed t 2050 c list numbers list′ numbers′ n)
+      → TableIs t (L .counts .facts) made made′ k → FactsAre t made list made′ list′ (facts-answer.Made c (sizes k n))
+  facts-made L T = rw (T .wrote, T .count, L .names, L .count) (are-made (L .counts) (L .few))
+
+  pub facts-many : {list′ numbers′ : List ℕ} {c : Counted} {n : ℕ}
+      → WordsAre t 2050 list numbers list′ numbers′ (text-words.Facts c (names-read.Counted n))
+      → FactsAre t made list made list′ (facts-answer.Long c)
+  facts-many (words.facts C (words.many h k)) = entry.too-long C (omega (arith, C .symbols))
+
+  pub facts-passed : {list′ numbers′ : List ℕ} {c : Counted} → WordsAre t 2050 list numbers list′ numbers′ (text-words.Facts c names-read.Passed)
+      → FactsAre t made list made list′ (facts-answer.Long c)
+  facts-passed (words.facts C (words.no-room h)) = entry.too-long C (omega (arith, C .symbols))
+
+  pub facts-turned : {list′ numbers′ : List ℕ} {f : Refusal} → WordsAre t 2050 list numbers list′ numbers′ (text-words.Refused f)
+      → FactsAre t made list made list′ (facts-answer.Refused f)
+  facts-turned (words.refused x) = entry.not-taken x
 
 -- COPIED TO THE FRONT
 pub copied-more : (from room room′ : List ℕ) (i : ℕ) → room′ ≡ paste room 0 from i → i < length from → length from ≤ length room → set room′ i (getD from i 0) ≡ paste room 0 from (i + 1)
@@ -261,7 +309,7 @@ copied-more from room room′ i e h l =
     let z : i ≡ 0 + i = omega arith in
     ap₂ (λ (xs : List ℕ) (n : ℕ). set xs n (getD from i 0)) e z ∙ paste-suc room 0 from i 0 (omega arith) h ∙ ap (paste room 0 from) (sym (add-one i))
 
-pub copied-all : (from room room′ : List ℕ) (i : ℕ) → room′ ≡ paste room 0 from i → i ≡ length from → room′ ≡ from ++ drop (length from) room
+pub copied-all : (from room room′ : List ℕ) (i : ℕ) → room′ ≡ paste room 0 from i → i ≡ length from → room′ ≡ front from room
 copied-all from room room′ i e q =
     let z : 0 + length from ≡ length from = omega arith in
     e ∙ ap (paste room 0 from) q ∙ ap₂ (λ (xs : List ℕ) (n : ℕ). xs ++ drop n room) (take-length from) z

@@ -1,5 +1,5 @@
 -- One turn of the writing, case by case, in the code's own form.
-use Prim.Native.Nat.{ℕ, _+_, _-_, _^_, _≤_, _<_}
+use Prim.Native.Nat.{ℕ, _+_, _-_, _≤_, _<_}
 use mathlib.Core.Path.{_≡_, sym, subst, _∙_}
 use mathlib.Core.Bool.{true, false}
 use mathlib.Core.List.{List}
@@ -11,11 +11,11 @@ use Rattle.loading.specs.Items.{shapeOf}
 use Rattle.lex.specs.Turns.{termMode, Turns}
 use Rattle.lex.specs.declared.turn.Turn.the-variants as turn
 use Rattle.grammar.specs.Reader.{after, Work, put, run}
-use Rattle.prolog.specs.code.Cells.{making, RowMade, Makes, Ready, MadeIs, Writes, Written}
+use Rattle.prolog.specs.code.Cells.{making, withArgument, RowMade, Makes, Ready, MadeIs, Writes, Written}
 use Rattle.prolog.specs.declared.cells.Making.{Making}
 use Rattle.prolog.specs.declared.cells.Made.{Made}
 use Rattle.prolog.specs.declared.cells.Made.the-variants as made
-use Rattle.symbols.specs.Left.{FirstRow}
+use Rattle.symbols.specs.code.Left.{FirstRow}
 use Rattle.prolog.proofs.CellLaws as cell
 
 module _ (t numbers cells owners : List ℕ) (m : Making) where
@@ -60,12 +60,11 @@ module _ (t numbers cells owners : List ℕ) (m : Making) where
   abbrev pub ownerOf : ℕ
   ownerOf = getD owners (m .depth - 1) 0
 
-  pub argument-fits : (m .depth ≡ 0 → ⊥) → ((i : ℕ) → getD numbers i 0 < 65536) → Ready t numbers cells owners m
-      → (m .depth - 1 < length owners) × (ownerOf < length cells) × (getD cells ownerOf 0 + 65536 < 2 ^ 32)
-  argument-fits n h R = cell.argument-fits t (R .facts) numbers (R .start) cells owners m (R .room) (R .makes) n h
+  pub argument-fits : (m .depth ≡ 0 → ⊥) → Ready t numbers cells owners m → (m .depth - 1 < length owners) × (ownerOf < length cells)
+  argument-fits n R = cell.argument-fits t (R .facts) numbers (R .start) cells owners m (R .room) (R .makes) n
 
   abbrev pub addedTo : List ℕ
-  addedTo = set cells ownerOf (getD cells ownerOf 0 + 65536)
+  addedTo = set cells ownerOf (withArgument (getD cells ownerOf 0))
 
   module _ (p : ℕ) (T : Turns t (m .at) (m .past) (turn.Comma p)) where
     pub comma-outer : {r : Made} → m .depth ≡ 0 → r ≡ made.Go (making (p + 1) false (m .depth) (m .count)) → (R : Ready t numbers cells owners m)
@@ -74,21 +73,21 @@ module _ (t numbers cells owners : List ℕ) (m : Making) where
         on R g (omega (arith, T .leads .0))
         (cell.comma-outer t (R .facts) numbers (R .start) cells owners m (R .room) (R .makes) p (T .leads .0) (T .leads .1) (T .same) z)
 
-    pub comma-inner : {cells′ : List ℕ} {r : Made} → (m .depth ≡ 0 → ⊥) → cells′ ≡ addedTo → r ≡ made.Go (making (p + 1) false (m .depth) (m .count))
+    pub comma-inner : {cells′ : List ℕ} {r : Made} → ((i : ℕ) → getD numbers i 0 < 65536) → (m .depth ≡ 0 → ⊥) → cells′ ≡ addedTo → r ≡ made.Go (making (p + 1) false (m .depth) (m .count))
         → (R : Ready t numbers cells owners m) → MadeIs t (R .facts) numbers (R .start) m cells′ owners r
-    comma-inner {r = r} n q g R =
+    comma-inner {r = r} small n q g R =
         subst (λ (c : List ℕ). MadeIs t (R .facts) numbers (R .start) m c owners r) (sym q)
         (on R g (omega (arith, T .leads .0))
-        (cell.comma-makes t (R .facts) numbers (R .start) cells owners m (R .room) (R .makes) p (T .leads .0) (T .leads .1) (T .same) n))
+        (cell.comma-makes t (R .facts) numbers (R .start) cells owners m (R .room) (R .makes) p (T .leads .0) (T .leads .1) (T .same) small n))
 
   module _ (p : ℕ) (T : Turns t (m .at) (m .past) (turn.Close p)) where
-    pub close-inner : {cells′ : List ℕ} {r : Made} → (m .depth ≡ 0 → ⊥) → cells′ ≡ addedTo
+    pub close-inner : {cells′ : List ℕ} {r : Made} → ((i : ℕ) → getD numbers i 0 < 65536) → (m .depth ≡ 0 → ⊥) → cells′ ≡ addedTo
         → r ≡ made.Go (making (p + 1) true (m .depth - 1) (m .count)) → (R : Ready t numbers cells owners m)
         → MadeIs t (R .facts) numbers (R .start) m cells′ owners r
-    close-inner {r = r} n q g R =
+    close-inner {r = r} small n q g R =
         subst (λ (c : List ℕ). MadeIs t (R .facts) numbers (R .start) m c owners r) (sym q)
         (on R g (omega (arith, T .leads .0))
-        (cell.close-makes t (R .facts) numbers (R .start) cells owners m (R .room) (R .makes) p (T .leads .0) (T .leads .1) (T .same) n))
+        (cell.close-makes t (R .facts) numbers (R .start) cells owners m (R .room) (R .makes) p (T .leads .0) (T .leads .1) (T .same) small n))
 
     -- a row ends
     pub close-outer : (r : Made) → m .depth ≡ 0 → RowMade t (p + 1) (m .count) r → (R : Ready t numbers cells owners m)

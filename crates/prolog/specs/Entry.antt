@@ -1,13 +1,14 @@
 -- What the entry answers, in the words of the promise (loading/specs/Load).
 use Prim.Native.Nat.{ℕ, _≤_, _<_}
-use mathlib.Core.Path.{_≡_}
 use mathlib.Core.List.{List}
-use lib.ListN.{length, take}
+use lib.ListN.{length}
 use Rattle.refusal.specs.Refusal.{told, Answer, answered, turned}
-use Rattle.refusal.specs.Read.{read, refuse}
-use Rattle.grammar.specs.Grammar.{Fact}
-use Rattle.grammar.specs.Meaning.{widthOf, symbolsOf, tableCells, nameList}
+use Rattle.refusal.specs.Read.{refuse}
+use Rattle.refusal.specs.declared.Refusal.{Refusal}
+use Rattle.grammar.specs.Meaning.{tableCells, nameList}
 use Rattle.grammar.specs.Taken.{Taken}
+use Rattle.loading.specs.Load.{front}
+use Rattle.scan.specs.Scan.{Counts}
 use Rattle.scan.specs.declared.Counted.{Counted}
 use Rattle.prolog.specs.declared.Sizes.{Sizes}
 use Rattle.prolog.specs.declared.FactsAnswer.{FactsAnswer}
@@ -20,27 +21,14 @@ abbrev pub textTold : TextAnswer → Answer
 textTold (text-answer.Read cells names) = answered cells names
 textTold (text-answer.Refused f) = turned (told f)
 
--- the text is taken as facts, and these are counted
-pub record Counts (t : List ℕ) (c : Counted) : Type 0 where
-  pub facts : List Fact
-  pub taken : Taken t (read facts)
-  pub number : length facts ≡ c .facts
-  pub width : widthOf facts ≡ c .width
-  pub symbols : length (symbolsOf facts) ≡ c .symbols
+abbrev pub sizes : ℕ → ℕ → Sizes
+sizes cells names = record { cells = cells; names = names }
 
--- so many cells and names of the two rooms are those of the facts
-pub record FactsMade (t : List ℕ) (facts : List Fact) (made list : List ℕ) (r : Sizes) : Type 0 where
-  pub within : (r .cells ≤ length made) × (r .names ≤ length list)
-  pub few : r .names ≤ 2048
-  pub cells : take (r .cells) made ≡ tableCells t facts
-  pub names : take (r .names) list ≡ nameList t facts
-
--- what is answered for a text that is made and not read as a table
-pub record FactsAt (t : List ℕ) (c : Counted) (made list : List ℕ) (r : Sizes) : Type 0 where
-  pub counts : Counts t c
-  pub made′ : FactsMade t (counts .facts) made list r
-
-abbrev pub FactsAre : (t made list : List ℕ) → FactsAnswer → Type 0
-FactsAre t made list (facts-answer.Made c r) = FactsAt t c made list r
-FactsAre t made list (facts-answer.Long c) = Counts t c × (2048 < c .symbols)
-FactsAre t made list (facts-answer.Refused f) = Taken t (refuse (told f))
+-- what is answered for a text that is made and not read as a table: its cells and its names at the front of two rooms, the rest of which is as
+-- it was; and nothing is written where it has too many symbols for a table, or is turned away
+pub data FactsAre (t made list : List ℕ) : List ℕ → List ℕ → FactsAnswer → Type 0 where
+  are-made : {c : Counted} (C : Counts t c) → c .symbols ≤ 2048
+      → FactsAre t made list (front (tableCells t (C .facts)) made) (front (nameList t (C .facts)) list)
+      (facts-answer.Made c (sizes (length (tableCells t (C .facts))) (length (nameList t (C .facts)))))
+  too-long : {c : Counted} → Counts t c → 2048 < c .symbols → FactsAre t made list made list (facts-answer.Long c)
+  not-taken : {f : Refusal} → Taken t (refuse (told f)) → FactsAre t made list made list (facts-answer.Refused f)

@@ -2,10 +2,10 @@
 // each comma and bracket adds one there, so that nothing is kept but which cell is whose.
 ghost use mathlib.Core.Path.{_≡_};
 ghost use mathlib.Core.Bool.{false};
-ghost use Prim.Native.Nat.{_+_, _*_, _^_, _≤_, _<_};
+ghost use Prim.Native.Nat.{_<_};
 ghost use lib.ListN.{length, getD, set};
 ghost use Rattle.cell.specs.Cell.{variableCell, nameCell, numberCell};
-ghost use Rattle.prolog.specs.code.Cells.{making, RowMade, Ready, MadeIs, Writes, Written};
+ghost use Rattle.prolog.specs.code.Cells.{making, withArgument, RowMade, Ready, MadeIs, Writes, Written};
 use lex::turn::Turn;
 use symbols::RowEnd;
 
@@ -68,15 +68,21 @@ fn put_number(numbers: &[u16], cells: &mut [u32], k: usize)
     cells[k] = value(numbers[k]);
 }
 
+// A name's cell, built again with one more argument.
+fn with_argument(c: u32) -> u32
+    ensures { λ r. ⌜ r ≡ withArgument c ⌝ }
+{
+    cell::name_cell(cell::args(c) + 1, cell::number(c))
+}
+
 // One more argument is complete, of the name that is open at this depth.
 fn add_argument(cells: &mut [u32], owners: &[u16], depth: usize)
-    requires { ⌜ (depth < length (now owners)) × (getD (now owners) depth 0 < length (now cells))
-        × (getD (now cells) (getD (now owners) depth 0) 0 + 65536 < 2 ^ 32) ⌝ }
+    requires { ⌜ (depth < length (now owners)) × (getD (now owners) depth 0 < length (now cells)) ⌝ }
     ensures { λ r. ⌜ now (cells .exit) ≡ set (now (cells .entry)) (getD (now (owners .entry)) depth 0)
-        (getD (now (cells .entry)) (getD (now (owners .entry)) depth 0) 0 + 65536) ⌝ }
+        (withArgument (getD (now (cells .entry)) (getD (now (owners .entry)) depth 0) 0)) ⌝ }
 {
     let own = owner(owners[depth]);
-    cells[own] = cells[own] + 65536;
+    cells[own] = with_argument(cells[own]);
 }
 
 fn go(at: usize, past: bool, depth: usize, count: usize) -> Made

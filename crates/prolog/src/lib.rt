@@ -1,24 +1,24 @@
-// Tables from Prolog text (02, W-201): the entry. Nothing is written to a lent room before everything is decided: the cells and the list of
-// names are made in arrays of this side, for at most 2,048 symbols; where there are more, the table is too long, and names are only
+// Tables from Prolog text (02, W-201): the entry. Nothing is written to a lent room before everything is decided: the list of names and the
+// cells are made in arrays of this side, for at most 2,048 symbols; where there are more, the table is too long, and names are only
 // counted.
 mod cells;
 
 ghost use mathlib.Core.Path.{_≡_};
-ghost use mathlib.Core.List.{_++_};
 ghost use Prim.Native.Nat.{_≤_};
-ghost use lib.ListN.{length, drop};
+ghost use lib.ListN.{length};
 ghost use Rattle.refusal.specs.Refusal.{refused, turned};
 ghost use Rattle.refusal.specs.declared.Reason.the-variants as reason;
 ghost use Rattle.refusal.specs.declared.Input.the-variants as input;
-ghost use Rattle.loading.specs.Load.{TextLoads};
-ghost use Rattle.prolog.specs.Entry.{textTold, Counts, FactsMade, FactsAre};
-ghost use Rattle.prolog.specs.code.Parts.{Fits, Makes, Tables, TableIs, Gives};
+ghost use Rattle.loading.specs.Load.{front, TextLoads};
+ghost use Rattle.prolog.specs.Entry.{textTold, FactsAre};
+ghost use Rattle.prolog.specs.code.Parts.{Numbers, Fits, TableIs, overOf, Gives};
 use refusal::Input;
 use refusal::Reason;
 use refusal::Refusal;
 use scan::Counted;
-use scan::Scan;
 use table::TableAnswer;
+use words::NamesRead;
+use words::TextWords;
 
 // So many cells are written and so many names listed; or why the text is turned away.
 pub enum TextAnswer {
@@ -40,7 +40,7 @@ fn no_room(need: usize) -> TextAnswer
 // Copied to the front of a room.
 fn put_front(from: &[u32], room: &mut [u32])
     requires { ⌜ length (now from) ≤ length (now room) ⌝ }
-    ensures { λ r. ⌜ now (room .exit) ≡ now (from .entry) ++ drop (length (now (from .entry))) (now (room .entry)) ⌝ }
+    ensures { λ r. ⌜ now (room .exit) ≡ front (now (from .entry)) (now (room .entry)) ⌝ }
 {
     let mut i = 0;
     while i < from.len() {
@@ -68,9 +68,9 @@ fn give(made: &[u32], list: &[u32], cells: &mut [u32], names: &mut [u32]) -> Tex
 
 // The table's cells: width, number of rows, rows.
 fn make_table(text: &[u8], c: Counted, numbers: &[u16], made: &mut [u32]) -> usize
-    requires { ⌜ Tables (now text) c (now numbers) (now made) ⌝ }
-    ensures { λ r. ⌜ ((T : Tables (now (text .entry)) c (now (numbers .entry)) (now (made .entry)))
-        → TableIs (now (text .entry)) (T .counts .facts) (now (made .exit)) r) ⌝ }
+    requires { ⌜ Numbers (now text) c (now numbers) × (length (now made) ≡ 2050) ⌝ }
+    ensures { λ r. ⌜ ((N : Numbers (now (text .entry)) c (now (numbers .entry)))
+        → TableIs (now (text .entry)) (N .counts .facts) (now (made .entry)) (now (made .exit)) r) ⌝ }
 {
     made[0] = c.width as u32;
     made[1] = c.facts as u32;
@@ -78,57 +78,33 @@ fn make_table(text: &[u8], c: Counted, numbers: &[u16], made: &mut [u32]) -> usi
     n + 2
 }
 
-// How many cells and names are made.
-pub struct Sizes {
-    pub cells: usize,
-    pub names: usize,
-}
-
-// The table's cells and the list of names, of at most 2,048 symbols.
-fn make(text: &[u8], c: Counted, made: &mut [u32], list: &mut [u32]) -> Sizes
-    requires { ⌜ Makes (now text) c (now made) (now list) ⌝ }
-    ensures { λ r. ⌜ ((M : Makes (now (text .entry)) c (now (made .entry)) (now (list .entry)))
-        → FactsMade (now (text .entry)) (M .counts .facts) (now (made .exit)) (now (list .exit)) r) ⌝ }
-{
-    let mut numbers = [0u16; 2048];
-    let names = words::numbers::number_symbols(text, list, &mut numbers);
-    let cells = make_table(text, c, &numbers, made);
-    Sizes { cells, names }
-}
-
-// At most 2,048 symbols: the cells and the list are made here.
-fn write(text: &[u8], c: Counted, cells: &mut [u32], names: &mut [u32]) -> TextAnswer
-    requires { ⌜ Fits (now text) c (now cells) ⌝ }
+// At most 2,048 symbols, which are numbered, and their names are listed: the cells are made here.
+fn write(
+    text: &[u8],
+    c: Counted,
+    numbers: &[u16],
+    list: &[u32],
+    cells: &mut [u32],
+    names: &mut [u32],
+) -> TextAnswer
+    requires { ⌜ Fits (now text) c (now numbers) (now list) (now cells) ⌝ }
     ensures { λ r. ⌜ TextLoads (now (text .entry)) (now (cells .entry)) (now (names .entry)) (now (cells .exit)) (now (names .exit))
         (textTold r) ⌝ }
 {
-    let mut made = [0u32; 2050];
-    let mut list = [0u32; 2048];
-    let size = make(text, c, &mut made, &mut list);
-    let n = size.names;
+    let n = list.len();
     if names.len() < n {
         return no_room(n);
     }
-    let k = size.cells;
-    give(&made[..k], &list[..n], cells, names)
+    let mut made = [0u32; 2050];
+    let k = make_table(text, c, numbers, &mut made);
+    give(&made[..k], list, cells, names)
 }
 
-// A text that is one, its facts counted.
-fn load(text: &[u8], c: Counted, cells: &mut [u32], names: &mut [u32]) -> TextAnswer
-    requires { ⌜ Counts (now text) c ⌝ }
-    ensures { λ r. ⌜ TextLoads (now (text .entry)) (now (cells .entry)) (now (names .entry)) (now (cells .exit)) (now (names .exit))
-        (textTold r) ⌝ }
+// Over 2,048 symbols, with so many names, and room for so many.
+fn over(n: usize, room: usize) -> TextAnswer
+    ensures { λ r. ⌜ textTold r ≡ overOf n room ⌝ }
 {
-    let symbols = c.symbols;
-    let need = symbols + 2;
-    if cells.len() < need {
-        return no_room(need);
-    }
-    if symbols <= 2048 {
-        return write(text, c, cells, names);
-    }
-    let n = words::names::count_names(text);
-    if names.len() < n {
+    if room < n {
         return no_room(n);
     }
     TextAnswer::Refused(Refusal {
@@ -142,10 +118,22 @@ pub fn read_text(text: &[u8], cells: &mut [u32], names: &mut [u32]) -> TextAnswe
     ensures { λ r. ⌜ TextLoads (now (text .entry)) (now (cells .entry)) (now (names .entry)) (now (cells .exit)) (now (names .exit))
         (textTold r) ⌝ }
 {
-    match scan::scan_text(text) {
-        Scan::Facts(c) => load(text, c, cells, names),
-        Scan::Refused(f) => TextAnswer::Refused(f),
+    let mut list = [0u32; 2048];
+    let mut numbers = [0u16; 2048];
+    match words::read_words(text, cells.len(), &mut list, &mut numbers) {
+        TextWords::Facts(c, known) => match known {
+            NamesRead::Listed(n) => write(text, c, &numbers, &list[..n], cells, names),
+            NamesRead::Counted(n) => over(n, names.len()),
+            NamesRead::Passed => no_room(c.symbols + 2),
+        },
+        TextWords::Refused(f) => TextAnswer::Refused(f),
     }
+}
+
+// How many cells and names are made.
+pub struct Sizes {
+    pub cells: usize,
+    pub names: usize,
 }
 
 // The facts of a text, counted, with their cells and names; or there are over 2,048 symbols; or why the text is turned away.
@@ -157,16 +145,18 @@ pub enum FactsAnswer {
 
 // The cells and the names of a text, made at the front of two rooms and read as no table: what 01 asks of a table is not asked of it.
 pub fn make_facts(text: &[u8], made: &mut [u32; 2050], list: &mut [u32; 2048]) -> FactsAnswer
-    ensures { λ r. ⌜ FactsAre (now (text .entry)) (now (made .exit)) (now (list .exit)) r ⌝ }
+    ensures { λ r. ⌜ FactsAre (now (text .entry)) (now (made .entry)) (now (list .entry)) (now (made .exit)) (now (list .exit)) r ⌝ }
 {
-    match scan::scan_text(text) {
-        Scan::Facts(c) => {
-            if 2048 < c.symbols {
-                return FactsAnswer::Long(c);
+    let mut numbers = [0u16; 2048];
+    match words::read_words(text, 2050, list, &mut numbers) {
+        TextWords::Facts(c, known) => match known {
+            NamesRead::Listed(names) => {
+                let cells = make_table(text, c, &numbers, made);
+                FactsAnswer::Made(c, Sizes { cells, names })
             }
-            let size = make(text, c, made, list);
-            FactsAnswer::Made(c, size)
-        }
-        Scan::Refused(f) => FactsAnswer::Refused(f),
+            NamesRead::Counted(_) => FactsAnswer::Long(c),
+            NamesRead::Passed => FactsAnswer::Long(c),
+        },
+        TextWords::Refused(f) => FactsAnswer::Refused(f),
     }
 }

@@ -27,7 +27,7 @@ names-fixed (few h k) (no-room i) = absurd (omega arith)
 names-fixed (few h k) (many i j) = absurd (omega arith)
 names-fixed (few h k) (few i j) = (refl, refl, refl)
 
-taken-apart : {t : List ℕ} {fs : List Fact} {o : Refused} → Taken t (read fs) → Taken t (refuse o) → ⊥
+pub taken-apart : {t : List ℕ} {fs : List Fact} {o : Refused} → Taken t (read fs) → Taken t (refuse o) → ⊥
 taken-apart {t} x y = let e = taken-fixed t x y in let z : _≡_ {A = ℕ} 0 1 = cc in omega arith
 
 pub words-fixed : {t : List ℕ} {room : ℕ} {list numbers l m l′ m′ : List ℕ} {a b : TextWords} → WordsAre t room list numbers l m a

@@ -1,62 +1,102 @@
-use native.Mathlib.Omega.{arith}
-use Rattle.prolog.specs.Entry.{Counts}
-use Rattle.prolog.proofs.EntryLaws.{scan-is, scan-facts, scan-turned}
+use mathlib.Core.Path.{_≡_, refl, sym, subst}
+use lib.ListN.{replicate}
+use Rattle.words.specs.Words.{WordsAre}
+use Rattle.words.specs.declared.NamesRead.{NamesRead}
+use Rattle.words.specs.declared.TextWords.{TextWords}
+use Rattle.words.specs.declared.TextWords.the-variants as text-words
+use Rattle.prolog.proofs.EntryLaws.{Listed, listed-are, numbers-kept, numbers-are, facts-made, facts-many, facts-passed, facts-turned}
 use borrow.Author.Needs.{needs}
 use Rattle.prolog.proofs.make_facts.Statement.{statement}
 use Rattle.prolog.proofs.make_facts.Tie as tie
 use Rattle.prolog.proofs.make_facts.Reads as reads
 use Rattle.prolog.proofs.make_facts.Lts as lts
-use Rattle.prolog.proofs.make.Reads as make-reads
-use Rattle.scan.proofs.scan_text.Reads as scan-text-reads
+use Rattle.prolog.proofs.make_table.Reads as make-table-reads
+use Rattle.words.proofs.read_words.Reads as read-words-reads
 
--- what the scan has counted
-counted : (c : tie.After-c) → Counts (c .before .before .before .before .args .text .now) (c .c .given .0 .0)
-counted c =
-    let s = c .before .before in
-    let t = s .before .before .args .text .now in
-    scan-facts t (c .c .given .0 .0) (scan-is t (s .scan-text .ensures) (c .c .given .1))
+-- what is said of the text's words
+abbrev start : tie.After-read-words → tie.Start
+start w = w .before .before .before .before
 
--- src/lib.rt:162:11
-scan-text-requires : tie.Need-scan-text-requires
-scan-text-requires c κs = search needs
+abbrev Said : tie.After-read-words → TextWords → Type 0
+Said w = WordsAre (start w .args .text .now) 2050 (start w .args .list .now) (replicate 2048 0) (w .read-words .last .1 .1 .0)
+    (w .read-words .last .1 .1 .1 .0)
 
--- src/lib.rt:163:21
+known : (c : tie.After-c) {k : NamesRead} → c .c .given .0 .1 .0 ≡ k → Said (c .before .before) (text-words.Facts (c .c .given .0 .0) k)
+known c e =
+    subst (λ (k : NamesRead). Said (c .before .before) (text-words.Facts (c .c .given .0 .0) k)) e
+    (subst (Said (c .before .before)) (c .c .given .1) (c .before .before .read-words .ensures))
+
+listed : (k : tie.After-known) → Listed (start (k .before .before .before .before .before) .args .text .now) 2050 (k .before .before .before .c .given .0 .0)
+    (start (k .before .before .before .before .before) .args .list .now) (replicate 2048 0)
+    (k .before .before .before .before .before .read-words .last .1 .1 .0)
+    (k .before .before .before .before .before .read-words .last .1 .1 .1 .0) (k .known .given .0 .0)
+listed k = listed-are (known (k .before .before .before) (k .known .given .1))
+
+-- src/lib.rt:151:11
+read-words-requires : tie.Need-read-words-requires
+read-words-requires c κs = search needs
+
+-- src/lib.rt:152:26
 enum-known-c : tie.Need-enum-known-c
 enum-known-c c = search needs
 
--- src/lib.rt:165:17
-returns : tie.Need-returns
-returns c = (counted (c .before .before .before), omega arith)
+-- src/lib.rt:153:31
+enum-known-known : tie.Need-enum-known-known
+enum-known-known c = search needs
 
--- src/lib.rt:167:17
-make-requires : tie.Need-make-requires
-make-requires c κs = record { counts = counted (c .before .before .before .before .before); few = omega arith; for-cells = search needs; for-names = search needs }
+-- src/lib.rt:154:49
+slice-aggregate-make-table : tie.Need-slice-aggregate-make-table
+slice-aggregate-make-table c = sym (numbers-kept (listed (c .before .before)) refl)
 
--- src/lib.rt:170:23
+-- src/lib.rt:154:21
+make-table-requires : tie.Need-make-table-requires
+make-table-requires c κs = (numbers-are (listed (c .before .before .before)) refl, search needs)
+
+-- src/lib.rt:157:38
+enum-told : tie.Need-enum-told
+enum-told c = search needs
+
+-- src/lib.rt:158:34
+enum-told-2 : tie.Need-enum-told-2
+enum-told-2 c = search needs
+
+-- src/lib.rt:160:28
 enum-known-f : tie.Need-enum-known-f
 enum-known-f c = search needs
 
--- src/lib.rt:159:1
-returns-2 : tie.Need-returns-2
-returns-2 c =
-    let k = counted (c .before .before .before .before .before .before) in
-    record { counts = k; made′ = c .make .ensures (record { counts = k; few = omega arith; for-cells = search needs; for-names = search needs }) }
+-- src/lib.rt:147:1
+returns : tie.Need-returns
+returns c =
+    let L = listed (c .before .before .before .before) in
+    facts-made L (c .make-table .ensures (numbers-are L refl))
 
--- src/lib.rt:159:1
+-- src/lib.rt:147:1
+returns-2 : tie.Need-returns-2
+returns-2 c = facts-many (known (c .before .before .before) (c .enum-told .given .1))
+
+-- src/lib.rt:147:1
 returns-3 : tie.Need-returns-3
-returns-3 c =
-    let s = c .before .before .before in
-    scan-turned (s .before .before .args .text .now) (c .before .f .given .0 .0)
-    (scan-is (s .before .before .args .text .now) (s .scan-text .ensures) (c .before .f .given .1))
+returns-3 c = facts-passed (known (c .before .before .before) (c .enum-told2 .given .1))
+
+-- src/lib.rt:147:1
+returns-4 : tie.Need-returns-4
+returns-4 c =
+    let f = c .before in
+    facts-turned (subst (Said (f .before .before)) (f .f .given .1) (f .before .before .read-words .ensures))
 
 pub make-facts-spec : {M : Type 1} → statement M
 make-facts-spec =
     tie.close
     (tie.spec
-    scan-text-requires
+    read-words-requires
     enum-known-c
-    returns
-    make-requires
+    enum-known-known
+    slice-aggregate-make-table
+    make-table-requires
+    enum-told
+    enum-told-2
     enum-known-f
+    returns
     returns-2
-    returns-3)
+    returns-3
+    returns-4)

@@ -1,59 +1,154 @@
-use Rattle.prolog.proofs.EntryLaws.{scan-is, scan-facts, scan-refused}
+use mathlib.Core.Path.{_≡_, refl, sym, subst}
+use native.Mathlib.Omega.{arith}
+use lib.ListN.{length, replicate}
+use lib.Seq.{length-take-le}
+use Rattle.scan.proofs.SaysLaws.{counts-read}
+use Rattle.words.specs.Words.{WordsAre}
+use Rattle.words.specs.declared.NamesRead.{NamesRead}
+use Rattle.words.specs.declared.TextWords.{TextWords}
+use Rattle.words.specs.declared.TextWords.the-variants as text-words
+use Rattle.prolog.proofs.EntryLaws.{Listed, listed-are, counted-are, passed-are, turned-are, numbers-kept, names-within, fits, no-room-cells, over-loads, turned-loads}
 use borrow.Author.Needs.{needs}
 use Rattle.prolog.proofs.read_text.Statement.{statement}
 use Rattle.prolog.proofs.read_text.Tie as tie
 use Rattle.prolog.proofs.read_text.Reads as reads
 use Rattle.prolog.proofs.read_text.Lts as lts
-use Rattle.prolog.proofs.load.Reads as load-reads
-use Rattle.scan.proofs.scan_text.Reads as scan-text-reads
+use Rattle.prolog.proofs.no_room.Reads as no-room-reads
+use Rattle.prolog.proofs.over.Reads as over-reads
+use Rattle.prolog.proofs.write.Reads as write-reads
+use Rattle.words.proofs.read_words.Reads as read-words-reads
 
--- src/lib.rt:121:11
-scan-text-requires : tie.Need-scan-text-requires
-scan-text-requires c κs = search needs
+-- what is said of the text's words
+abbrev start : tie.After-read-words → tie.Start
+start w = w .before .before .before .before .before .before
 
--- src/lib.rt:122:21
+abbrev Said : tie.After-read-words → TextWords → Type 0
+Said w = WordsAre (start w .args .text .now) (length (start w .args .cells .now)) (replicate 2048 0) (replicate 2048 0) (w .read-words .last .1 .1 .0)
+    (w .read-words .last .1 .1 .1 .0)
+
+known : (c : tie.After-c) {k : NamesRead} → c .c .given .0 .1 .0 ≡ k → Said (c .before .before) (text-words.Facts (c .c .given .0 .0) k)
+known c e =
+    subst (λ (k : NamesRead). Said (c .before .before) (text-words.Facts (c .c .given .0 .0) k)) e
+    (subst (Said (c .before .before)) (c .c .given .1) (c .before .before .read-words .ensures))
+
+listed : (k : tie.After-known) → Listed (start (k .before .before .before .before .before) .args .text .now)
+    (length (start (k .before .before .before .before .before) .args .cells .now)) (k .before .before .before .c .given .0 .0)
+    (replicate 2048 0) (replicate 2048 0)
+    (k .before .before .before .before .before .read-words .last .1 .1 .0)
+    (k .before .before .before .before .before .read-words .last .1 .1 .1 .0) (k .known .given .0 .0)
+listed k = listed-are (known (k .before .before .before) (k .known .given .1))
+
+-- src/lib.rt:123:11
+read-words-requires : tie.Need-read-words-requires
+read-words-requires c κs = search needs
+
+-- src/lib.rt:124:26
 enum-known-c : tie.Need-enum-known-c
 enum-known-c c = search needs
 
--- src/lib.rt:122:27
-load-requires : tie.Need-load-requires
-load-requires c κs =
-    let t = c .before .before .before .before .before .before .before .before .before .args .text .now in
-    let k = c .before .before .before .c .given in
-    scan-facts t (k .0 .0) (scan-is t (c .before .before .before .before .before .scan-text .ensures) (k .1))
+-- src/lib.rt:125:31
+enum-known-known : tie.Need-enum-known-known
+enum-known-known c = search needs
 
--- src/lib.rt:123:23
+-- src/lib.rt:125:52
+slice-aggregate-write : tie.Need-slice-aggregate-write
+slice-aggregate-write c = sym (numbers-kept (listed (c .before .before)) refl)
+
+-- src/lib.rt:125:62
+array-share-prefix-list : tie.Need-array-share-prefix-list
+array-share-prefix-list c = names-within (listed (c .before .before)) refl
+
+-- src/lib.rt:125:62
+slice-aggregate-write-2 : tie.Need-slice-aggregate-write-2
+slice-aggregate-write-2 c = sym (length-take-le _ _ (names-within (listed (c .before .before .before)) refl))
+
+-- src/lib.rt:125:37
+write-requires : tie.Need-write-requires
+write-requires c κs = fits (listed (c .before .before .before .before .before)) refl _ refl
+
+-- src/lib.rt:126:32
+enum-known-known-2 : tie.Need-enum-known-known-2
+enum-known-known-2 c = search needs
+
+-- src/lib.rt:126:38
+over-requires : tie.Need-over-requires
+over-requires c κs = search needs
+
+-- src/lib.rt:127:42
+enum-told : tie.Need-enum-told
+enum-told c = search needs
+
+-- src/lib.rt:127:42
+add-no-room : tie.Need-add-no-room
+add-no-room c = record { fits = omega (arith, counts-read (passed-are (known (c .before .before .before .before) (c .before .enum-told .given .1)) .0) .2) }
+
+-- src/lib.rt:127:34
+no-room-requires : tie.Need-no-room-requires
+no-room-requires c κs = search needs
+
+-- src/lib.rt:129:28
 enum-known-f : tie.Need-enum-known-f
 enum-known-f c = search needs
 
--- src/lib.rt:118:1
+-- src/lib.rt:117:1
 same-length : tie.Need-same-length
 same-length c = search needs
 
--- src/lib.rt:118:1
+-- src/lib.rt:117:1
 same-length-2 : tie.Need-same-length-2
 same-length-2 c = search needs
 
--- src/lib.rt:118:1
+-- src/lib.rt:117:1
 returns : tie.Need-returns
 returns c = search needs
 
--- src/lib.rt:118:1
+-- src/lib.rt:117:1
 returns-2 : tie.Need-returns-2
 returns-2 c =
-    let a = c .before .before .before .before .before .before .before .args in
-    let k = c .before .f .given in
-    scan-refused (a .text .now) (a .cells .now) (a .names .now) (k .0 .0) (scan-is (a .text .now) (c .before .before .before .scan-text .ensures) (k .1))
+    let k = c .before .before in
+    let x = k .before .before .before in
+    let a = start (x .before .before) .args in
+    let W = counted-are (known x (k .known2 .given .1)) in
+    over-loads (a .text .now) (a .cells .now) (a .names .now) (x .c .given .0 .0) (W .0) (k .known2 .given .0 .0) (c .over .ensures) (W .1 .2) (W .1 .1) (W .1 .0)
+
+-- src/lib.rt:117:1
+returns-3 : tie.Need-returns-3
+returns-3 c =
+    let e = c .before .before in
+    let x = e .before .before .before in
+    let a = start (x .before .before) .args in
+    let W = passed-are (known x (e .enum-told .given .1)) in
+    no-room-cells (a .text .now) (a .cells .now) (a .names .now) (x .c .given .0 .0) (W .0) (c .no-room .ensures) (W .1)
+
+-- src/lib.rt:117:1
+returns-4 : tie.Need-returns-4
+returns-4 c =
+    let f = c .before in
+    let w = f .before .before in
+    let a = start w .args in
+    turned-loads (a .text .now) (a .cells .now) (a .names .now) (f .f .given .0 .0)
+    (turned-are (f .f .given .0 .0) (subst (Said w) (f .f .given .1) (w .read-words .ensures)))
 
 pub read-text-spec : {M : Type 1} → statement M
 read-text-spec =
     tie.close
     (tie.spec
-    scan-text-requires
+    read-words-requires
     enum-known-c
-    load-requires
+    enum-known-known
+    slice-aggregate-write
+    array-share-prefix-list
+    slice-aggregate-write-2
+    write-requires
+    enum-known-known-2
+    over-requires
+    enum-told
+    add-no-room
+    no-room-requires
     enum-known-f
     same-length
     same-length-2
     returns
-    returns-2)
+    returns-2
+    returns-3
+    returns-4)

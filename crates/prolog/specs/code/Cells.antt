@@ -1,17 +1,18 @@
 -- The writing of the cells (src/cells.rt), beside the reader: a cell for each symbol that is met, a name's with the arguments that are
 -- complete, and for each name that is open which cell is its own. These definitions describe the code's own state; no promise of the entry
 -- cites them.
-use Prim.Native.Nat.{ℕ, _+_, _*_, _^_, _≤_, _<_}
+use Prim.Native.Nat.{ℕ, _+_, _%_, _^_, _≤_, _<_}
 use mathlib.Core.Path.{_≡_}
-use mathlib.Core.Bool.{Bool, true, false}
+use mathlib.Core.Bool.{Bool, false}
 use mathlib.Core.List.{List, [], _∷_, _++_}
 use lib.ListN.{length, getD, drop}
+use Rattle.cell.specs.Cell.{argsOf, numberOf, nameCell}
 use Rattle.grammar.specs.Grammar.{Symbol, Fact}
 use Rattle.grammar.specs.Meaning.{symbolsOf}
 use Rattle.grammar.specs.Reader.{Frame, Work, reads, run, textOf, Held}
 use Rattle.loading.specs.Items.{shapes}
 use Rattle.lex.specs.Turns.{termMode}
-use Rattle.symbols.specs.Left.{RowEnds}
+use Rattle.symbols.specs.Next.{RowEnds}
 use Rattle.symbols.specs.declared.RowEnd.the-variants as row-end
 use Rattle.prolog.specs.declared.cells.Making.{Making}
 use Rattle.prolog.specs.declared.cells.Made.{Made}
@@ -19,6 +20,10 @@ use Rattle.prolog.specs.declared.cells.Made.the-variants as made
 
 abbrev pub making : ℕ → Bool → ℕ → ℕ → Making
 making at past depth count = record { at = at; past = past; depth = depth; count = count }
+
+-- a name's cell with one more argument
+abbrev pub withArgument : ℕ → ℕ
+withArgument c = nameCell ((argsOf c + 1) % 2 ^ 3) (numberOf c % 2 ^ 16)
 
 -- after a fact's last bracket
 abbrev pub RowMade : List ℕ → ℕ → ℕ → Made → Type 0

@@ -1,58 +1,57 @@
+use Prim.Native.Nat.{ℕ}
+use mathlib.Core.Path.{ap, _∙_}
 use lib.ListN.{getD, set}
-use native.Mathlib.Omega.{arith}
-use mathlib.Core.Path.{ap}
-use Prim.Native.Nat.{ℕ, _+_}
+use Rattle.prolog.specs.code.Cells.{withArgument}
 use borrow.Author.Needs.{needs}
 use Rattle.prolog.proofs.cells.add_argument.Statement.{statement}
 use Rattle.prolog.proofs.cells.add_argument.Tie as tie
 use Rattle.prolog.proofs.cells.add_argument.Reads as reads
 use Rattle.prolog.proofs.cells.add_argument.Lts as lts
 use Rattle.prolog.proofs.cells.owner.Reads as owner-reads
+use Rattle.prolog.proofs.cells.with_argument.Reads as with-argument-reads
 
--- src/cells.rt:54:21
+-- src/cells.rt:84:21
 mul-owner : tie.Need-mul-owner
 mul-owner c = search needs
 
--- src/cells.rt:54:21
+-- src/cells.rt:84:21
 shared-slice-read-owner : tie.Need-shared-slice-read-owner
 shared-slice-read-owner c = search needs
 
--- src/cells.rt:54:9
+-- src/cells.rt:84:9
 owner-requires : tie.Need-owner-requires
 owner-requires c κs = search needs
 
--- src/cells.rt:55:18
+-- src/cells.rt:85:32
+mul-with-argument : tie.Need-mul-with-argument
+mul-with-argument c = search needs
+
+-- src/cells.rt:85:32
+slice-read-with-argument : tie.Need-slice-read-with-argument
+slice-read-with-argument c = search needs
+
+-- src/cells.rt:85:18
+with-argument-requires : tie.Need-with-argument-requires
+with-argument-requires c κs = search needs
+
+-- src/cells.rt:85:5
 mul-cells : tie.Need-mul-cells
 mul-cells c = search needs
 
--- src/cells.rt:55:18
-slice-read-cells : tie.Need-slice-read-cells
-slice-read-cells c = search needs
-
--- src/cells.rt:55:18
-add-cells : tie.Need-add-cells
-add-cells c =
-    let a = c .before .before .before .before .before .args in
-    let e = ap (λ (i : ℕ). getD (a .cells .now) i 0) (c .before .owner .ensures) in
-    record { fits = omega (arith, e) }
-
--- src/cells.rt:55:5
-mul-cells-2 : tie.Need-mul-cells-2
-mul-cells-2 c = search needs
-
--- src/cells.rt:55:5
+-- src/cells.rt:85:5
 slice-write-cells : tie.Need-slice-write-cells
 slice-write-cells c = search needs
 
--- src/cells.rt:50:1
+-- src/cells.rt:79:1
 same-length : tie.Need-same-length
 same-length c = search needs
 
--- src/cells.rt:50:1
+-- src/cells.rt:79:1
 returns : tie.Need-returns
 returns c =
-    let a = c .before .before .before .before .before .args in
-    ap (λ (i : ℕ). set (a .cells .now) i (getD (a .cells .now) i 0 + 65536)) (c .before .owner .ensures)
+    let a = c .before .before .before .before .before .before .args in
+    ap (set (a .cells .now) _) (c .with-argument .ensures)
+    ∙ ap (λ (i : ℕ). set (a .cells .now) i (withArgument (getD (a .cells .now) i 0))) (c .before .before .owner .ensures)
 
 pub add-argument-spec : {M : Type 1} → statement M
 add-argument-spec =
@@ -61,10 +60,10 @@ add-argument-spec =
     mul-owner
     shared-slice-read-owner
     owner-requires
+    mul-with-argument
+    slice-read-with-argument
+    with-argument-requires
     mul-cells
-    slice-read-cells
-    add-cells
-    mul-cells-2
     slice-write-cells
     same-length
     returns)

@@ -1,8 +1,6 @@
 use Rattle.prolog.specs.code.Cells.{RowMade}
-use Rattle.symbols.proofs.LeftLaws.{row-end-is}
-use native.Mathlib.Omega.{arith}
-use mathlib.Core.Path.{_≡_, refl, sym, ap, subst, _∙_}
-use Prim.Native.Nat.{ℕ, _+_, _-_, _≤_, _<_}
+use Rattle.symbols.specs.Next.{RowEnds}
+use mathlib.Core.Path.{refl, sym, subst}
 use borrow.Author.Needs.{needs}
 use Rattle.prolog.proofs.cells.after_row.Statement.{statement}
 use Rattle.prolog.proofs.cells.after_row.Tie as tie
@@ -32,13 +30,13 @@ returns : tie.Need-returns
 returns c =
     let a = c .before .before .before .before .before .before .args in
     let x = c .before .before .q .given in
-    subst (RowMade (a .text .now) (a .at) (a .count)) (sym (c .go .ensures)) (row-end-is (a .text .now) (a .at) (c .before .before .before .before .row-end .ensures) (x .1), refl)
+    subst (RowMade (a .text .now) (a .at) (a .count)) (sym (c .go .ensures)) (subst (RowEnds (a .text .now) (a .at)) (x .1) (c .before .before .before .before .row-end .ensures), refl)
 
 -- src/cells.rt:70:1
 returns-2 : tie.Need-returns-2
 returns-2 c =
     let a = c .before .before .before .before .args in
-    (row-end-is (a .text .now) (a .at) (c .before .before .row-end .ensures) (c .enum-told .given .1), refl)
+    (subst (RowEnds (a .text .now) (a .at)) (c .enum-told .given .1) (c .before .before .row-end .ensures), refl)
 
 pub after-row-spec : {M : Type 1} → statement M
 after-row-spec =

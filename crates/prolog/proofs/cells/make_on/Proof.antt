@@ -1,11 +1,11 @@
-use Prim.Native.Nat.{ℕ, _+_, _-_, _≤_, _<_}
-use mathlib.Core.Path.{_≡_, ap}
+use Prim.Native.Nat.{ℕ, _-_, _<_}
+use mathlib.Core.Path.{_≡_}
 use lib.ListN.{length, getD}
 use native.Mathlib.Omega.{arith}
 use Rattle.grammar.specs.Grammar.{name, variable, number}
 use Rattle.lex.specs.Turns.{Turns}
 use Rattle.lex.specs.declared.turn.Turn.{Turn}
-use Rattle.symbols.proofs.LeftLaws.{turn-is}
+use Rattle.symbols.proofs.NextLaws.{turn-is}
 use Rattle.prolog.proofs.MakeLaws.{symbol-fits, symbol-made, open-fits, open-made, argument-fits, comma-outer, comma-inner, close-inner, close-outer, never-stops}
 use borrow.Author.Needs.{needs}
 use Rattle.prolog.proofs.cells.make_on.Statement.{statement}
@@ -197,7 +197,7 @@ add-argument-requires : tie.Need-add-argument-requires
 add-argument-requires c κs =
     let n = c .before .before .before .before .before .before in
     let a = start n .args in
-    argument-fits (a .text .now) (a .numbers .now) (a .cells .now) (a .owners .now) (a .m) (c .before .before .if1 .left) (few n) (start n .pre)
+    argument-fits (a .text .now) (a .numbers .now) (a .cells .now) (a .owners .now) (a .m) (c .before .before .if1 .left) (start n .pre)
 
 -- src/cells.rt:136:16
 add-go-8 : tie.Need-add-go-8
@@ -241,7 +241,7 @@ add-argument-requires-2 : tie.Need-add-argument-requires-2
 add-argument-requires-2 c κs =
     let n = c .before .before .before .before .before .before in
     let a = start n .args in
-    argument-fits (a .text .now) (a .numbers .now) (a .cells .now) (a .owners .now) (a .m) (c .before .before .if2 .left) (few n) (start n .pre)
+    argument-fits (a .text .now) (a .numbers .now) (a .cells .now) (a .owners .now) (a .m) (c .before .before .if2 .left) (start n .pre)
 
 -- src/cells.rt:143:16
 add-go-9 : tie.Need-add-go-9
@@ -331,7 +331,7 @@ returns-7 c =
     let n = c .before .before .before .before .before .before .before .before .before .before in
     let a = start n .args in
     let x = c .before .before .before .before .before .before .before .before .p .given in
-    comma-inner (a .text .now) (a .numbers .now) (a .cells .now) (a .owners .now) (a .m) (x .0 .0) (turned n (x .1)) (c .before .before .before .before .before .before .if1 .left) (c .before .before .before .add-argument .ensures) (c .go6 .ensures)
+    comma-inner (a .text .now) (a .numbers .now) (a .cells .now) (a .owners .now) (a .m) (x .0 .0) (turned n (x .1)) (few n) (c .before .before .before .before .before .before .if1 .left) (c .before .before .before .add-argument .ensures) (c .go6 .ensures)
 
 -- src/cells.rt:101:1
 same-length-8 : tie.Need-same-length-8
@@ -347,7 +347,7 @@ returns-8 c =
     let n = c .before .before .before .before .before .before .before .before .before .before in
     let a = start n .args in
     let x = c .before .before .before .before .before .before .before .before .p2 .given in
-    close-inner (a .text .now) (a .numbers .now) (a .cells .now) (a .owners .now) (a .m) (x .0 .0) (turned n (x .1)) (c .before .before .before .before .before .before .if2 .left) (c .before .before .before .add-argument2 .ensures) (c .go7 .ensures)
+    close-inner (a .text .now) (a .numbers .now) (a .cells .now) (a .owners .now) (a .m) (x .0 .0) (turned n (x .1)) (few n) (c .before .before .before .before .before .before .if2 .left) (c .before .before .before .add-argument2 .ensures) (c .go7 .ensures)
 
 -- src/cells.rt:101:1
 returns-9 : tie.Need-returns-9

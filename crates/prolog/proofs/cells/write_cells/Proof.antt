@@ -1,4 +1,5 @@
 use mathlib.Core.Path.{refl}
+use Rattle.symbols.proofs.LeftLaws.{start-reads}
 use Rattle.prolog.proofs.MakeLaws.{first-ready}
 use borrow.Author.Needs.{needs}
 use Rattle.prolog.proofs.cells.write_cells.Statement.{statement}
@@ -21,7 +22,8 @@ make-all-requires : tie.Need-make-all-requires
 make-all-requires c κs =
     let W = c .before .before .before .before .before .before .pre in
     let b = c .before .before .begin in
-    first-ready (b .result .at) W refl (b .ensures .within) (b .ensures .first (W .facts) (W .text))
+    let s = start-reads (b .ensures) in
+    first-ready (b .result .at) W refl (s .within) (s .first (W .facts) (W .text))
 
 -- src/cells.rt:180:1
 same-length : tie.Need-same-length
@@ -31,7 +33,8 @@ same-length c = search needs
 returns : tie.Need-returns
 returns c = λ W.
     let b = c .before .before .before .before .before .before .begin in
-    c .before .before .before .make-all .ensures (first-ready (b .result .at) W refl (b .ensures .within) (b .ensures .first (W .facts) (W .text)))
+    let s = start-reads (b .ensures) in
+    c .before .before .before .make-all .ensures (first-ready (b .result .at) W refl (s .within) (s .first (W .facts) (W .text)))
 
 pub write-cells-spec : {M : Type 1} → statement M
 write-cells-spec =
