@@ -3,11 +3,11 @@
 use Prim.Native.Nat.{ℕ, suc, _+_, _-_, _≤_, _<_}
 use mathlib.Core.Path.{_≡_, refl, sym, ap, ap₂, subst, _∙_}
 use mathlib.Core.Bool.{Bool, true, false, cond}
-use mathlib.Core.List.{List, [], _∷_, _++_, map, flatten, append-nil}
+use mathlib.Core.List.{List, [], _∷_, _++_, flatten, append-nil}
 use native.Mathlib.Omega.{arith}
 use lib.ListN.{length, getD, take, drop, length-append, length-drop, length-map, List·getD-append}
 use lib.Dec.{ltb}
-use lib.Seq.{slice, sets, length-take-le}
+use lib.Seq.{slice, sets, length-take-le, take-append-seam}
 use borrow.Author.Tests.{lt-ltb, le-ltb}
 use Rattle.refusal.specs.Refusal.{Refused, refused, told, answered, turned}
 use Rattle.refusal.specs.Read.{Read, read, refuse, andThen}
@@ -27,11 +27,14 @@ use Rattle.grammar.proofs.Accepted.{unique, not-both}
 use Rattle.grammar.proofs.LongLaws.{text-long, names-few}
 use Rattle.grammar.proofs.NthLaws.{words-long}
 use Rattle.grammar.proofs.Numbered.{names-are, cells-are}
+use Rattle.scan.specs.Scan.{Counts}
 use Rattle.scan.specs.declared.Counted.{Counted}
 use Rattle.parts.specs.declared.Span.{Span}
-use Rattle.prolog.specs.Entry.{Counts, FactsMade}
+use Rattle.prolog.specs.Entry.{FactsAre, are-made}
+use Rattle.prolog.specs.Entry as entry
+use Rattle.prolog.specs.declared.FactsAnswer.the-variants as facts-answer
 use Rattle.prolog.specs.declared.Sizes.{Sizes}
-use Rattle.prolog.proofs.EntryLaws.{cells-long}
+use Rattle.prolog.proofs.EntryLaws.{cells-long, front-kept}
 use Rattle.parts.proofs.PartLaws.{part-is}
 use Rattle.asking.specs.Saying.{wordIn, wordsIn, predicateIn}
 use Rattle.asking.specs.Goal.{Whole, stopped, unstopped, Ours, Goal, Asks, GoalRead}
@@ -41,7 +44,7 @@ use Rattle.asking.specs.declared.Predicate.{Predicate}
 use Rattle.asking.proofs.LieLaws.{goal-lies}
 use Rattle.asking.proofs.ListLaws.{firsts-in, listed-words, new-fewer}
 use Rattle.asking.proofs.RenumberLaws.{new-few, new-numbered, goal-new}
-use Rattle.goaltext.specs.Asked.{Asked, too-many, asked, textTold, front, Answers, GoalAsked}
+use Rattle.goaltext.specs.Asked.{Asked, too-many, asked, textTold, Answers, GoalAsked}
 use Rattle.goaltext.specs.code.Steps.{NameIs, Same, NamesNumbered, FactAsked, Reads}
 use Rattle.goaltext.specs.declared.GoalText.{GoalText}
 use Rattle.goaltext.specs.declared.GoalText.the-variants as goal-text
@@ -324,8 +327,36 @@ module _ (text names : List ℕ) (width : ℕ) (whole row list : List ℕ) {g : 
         answers = rw (refused-read width row e q) (record { tells = refl; wrote = refl; listed = refl });
       }
 
--- THE CELLS THAT ARE MADE: at least two, and the row behind them
-module _ {t made list : List ℕ} {facts : List Fact} {s : Sizes} (M : FactsMade t facts made list s) where
+-- WHAT IS MADE OF A GOAL'S TEXT: its cells and its names, before a place of their rooms
+pub record MadeAt (t : List ℕ) (c : Counted) (made list : List ℕ) (s : Sizes) : Type 0 where
+  pub counts : Counts t c
+  pub within : (s .cells ≤ length made) × (s .names ≤ length list)
+  pub cells : take (s .cells) made ≡ tableCells t (counts .facts)
+  pub names : take (s .names) list ≡ nameList t (counts .facts)
+
+module _ {t made list : List ℕ} where
+  pub made-are : {made′ list′ : List ℕ} {c : Counted} {s : Sizes} → FactsAre t made list made′ list′ (facts-answer.Made c s) → MadeAt t c made′ list′ s
+  made-are (are-made C h) =
+      let cells = tableCells t (C .facts) in
+      let names = nameList t (C .facts) in
+      record {
+        counts = C;
+        within = (omega (arith, length-append cells (drop (length cells) made)), omega (arith, length-append names (drop (length names) list)));
+        cells = take-append-seam cells (drop (length cells) made);
+        names = take-append-seam names (drop (length names) list);
+      }
+
+  pub long-are : {made′ list′ : List ℕ} {c : Counted} → FactsAre t made list made′ list′ (facts-answer.Long c) → Counts t c × (2048 < c .symbols)
+  long-are (entry.too-long C h) = (C, h)
+
+  pub turned-are : {made′ list′ : List ℕ} (f : Refusal) → FactsAre t made list made′ list′ (facts-answer.Refused f) → Taken t (refuse (told f))
+  turned-are f (entry.not-taken x) = x
+
+-- at least two cells, and the row behind them
+module _ {t made list : List ℕ} {c : Counted} {s : Sizes} (M : MadeAt t c made list s) where
+  abbrev facts : List Fact
+  facts = M .counts .facts
+
   pub made-two : 2 ≤ s .cells
   made-two = omega (arith, length-take-le (s .cells) made (M .within .0), ap length (M .cells), cells-long t facts)
 
@@ -341,9 +372,6 @@ module _ {t made list : List ℕ} {facts : List Fact} {s : Sizes} (M : FactsMade
       omega (arith, cells, names, cells-long t facts, names-few t [] (symbolsOf facts))
 
 -- THE ROOMS KEEP THEIR LENGTHS
-front-kept : (xs room : List ℕ) → length xs ≤ length room → length (front xs room) ≡ length room
-front-kept xs room h = omega (arith, length-append xs (drop (length xs) room), length-drop (length xs) room)
-
 module _ (text names : List ℕ) (p : Predicate) (t cells cells′ new new′ : List ℕ) (r : GoalText) where
   pub rooms-kept : length cells ≡ 32 → length new ≡ 32 → GoalAsked text names p t cells cells′ new new′ r
       → (length cells′ ≡ 32) × (length new′ ≡ 32)

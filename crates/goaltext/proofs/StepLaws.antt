@@ -20,12 +20,11 @@ use Rattle.grammar.proofs.Accepted.{not-both}
 use Rattle.lex.specs.Heads.{Heads}
 use Rattle.lex.specs.declared.fact.Head.{Head}
 use Rattle.lex.specs.declared.fact.Head.the-variants as head
-use Rattle.scan.specs.Scan.{ScanIs}
+use Rattle.scan.specs.Scan.{ScanIs, Counts}
 use Rattle.scan.specs.declared.Counted.{Counted}
 use Rattle.scan.specs.declared.Scan.the-variants as scan
 use Rattle.parts.specs.declared.Span.{Span}
-use Rattle.prolog.specs.Entry.{Counts}
-use Rattle.prolog.proofs.EntryLaws.{scan-turned}
+use Rattle.scan.proofs.SaysLaws.{scan-turned}
 use Rattle.asking.specs.Saying.{predicateIn}
 use Rattle.asking.specs.Goal.{withStop, stopped, unstopped}
 use Rattle.asking.specs.Goal as goal

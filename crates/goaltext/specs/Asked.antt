@@ -1,14 +1,15 @@
 -- What the reader of a goal's text answers (asking/specs/Goal), and what its rooms then hold.
 use Prim.Native.Nat.{ℕ, _≤_, _<_}
 use mathlib.Core.Path.{_≡_}
-use mathlib.Core.List.{List, [], _∷_, _++_}
-use lib.ListN.{length, drop}
+use mathlib.Core.List.{List, [], _∷_}
+use lib.ListN.{length}
 use Rattle.refusal.specs.Refusal.{Refused, refused, told, Answer, answered, turned}
 use Rattle.refusal.specs.Read.{Read, read, refuse}
 use Rattle.refusal.specs.declared.Reason.the-variants as reason
 use Rattle.refusal.specs.declared.Input.the-variants as input
 use Rattle.grammar.specs.Grammar.{Fact}
 use Rattle.grammar.specs.Taken.{Taken}
+use Rattle.loading.specs.Load.{front}
 use Rattle.asking.specs.Saying.{wordsIn, predicateIn}
 use Rattle.asking.specs.Goal.{Goal, GoalRead}
 use Rattle.asking.specs.declared.Predicate.{Predicate}
@@ -48,10 +49,7 @@ abbrev pub newOf : Read Goal → List ℕ
 newOf (read g) = g .new
 newOf (refuse f) = []
 
--- at the front of a room, the rest of which is kept
-abbrev pub front : List ℕ → List ℕ → List ℕ
-front xs room = xs ++ drop (length xs) room
-
+-- each at the front of its room, the rest of which is kept
 pub record Answers (says : Read Goal) (cells cells′ new new′ : List ℕ) (r : GoalText) : Type 0 where
   pub tells : textTold r ≡ said says
   pub wrote : cells′ ≡ front (cellsOf says) cells

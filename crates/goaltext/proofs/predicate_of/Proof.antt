@@ -1,4 +1,4 @@
-use Rattle.prolog.proofs.EntryLaws.{scan-is, scan-facts}
+use Rattle.scan.proofs.SaysLaws.{scan-is, scan-facts}
 use Rattle.goaltext.proofs.StepLaws.{predicate-facts, predicate-none}
 use borrow.Author.Needs.{needs}
 use Rattle.goaltext.proofs.predicate_of.Statement.{statement}

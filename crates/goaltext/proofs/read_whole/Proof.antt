@@ -1,9 +1,10 @@
 use mathlib.Core.Path.{_≡_, sym, subst}
 use lib.Seq.{length-take-le}
-use Rattle.prolog.specs.Entry.{FactsAt, FactsAre}
+use lib.ListN.{replicate}
+use Rattle.prolog.specs.Entry.{FactsAre}
 use Rattle.prolog.specs.declared.FactsAnswer.{FactsAnswer}
 use Rattle.goaltext.specs.code.Steps.{OursIs}
-use Rattle.goaltext.proofs.AskedLaws.{made-two, made-row, made-names, goal-reads, long-reads, other-reads, refused-reads}
+use Rattle.goaltext.proofs.AskedLaws.{MadeAt, made-are, long-are, turned-are, made-two, made-row, made-names, goal-reads, long-reads, other-reads, refused-reads}
 use borrow.Author.Needs.{needs}
 use Rattle.goaltext.proofs.read_whole.Statement.{statement}
 use Rattle.goaltext.proofs.read_whole.Tie as tie
@@ -20,14 +21,14 @@ abbrev at : tie.After-make-facts → tie.Start
 at m = m .before .before .before .before .before .before .before
 
 facts-are : (m : tie.After-make-facts) {x : FactsAnswer} → m .make-facts .result ≡ x
-    → FactsAre (at m .args .whole .now) (m .make-facts .last .1 .0) (m .make-facts .last .1 .1 .0) x
+    → FactsAre (at m .args .whole .now) (replicate 2050 0) (replicate 2048 0) (m .make-facts .last .1 .0) (m .make-facts .last .1 .1 .0) x
 facts-are m e =
-    subst (FactsAre (at m .args .whole .now) (m .make-facts .last .1 .0) (m .make-facts .last .1 .1 .0)) e (m .make-facts .ensures)
+    subst (FactsAre (at m .args .whole .now) (replicate 2050 0) (replicate 2048 0) (m .make-facts .last .1 .0) (m .make-facts .last .1 .1 .0)) e (m .make-facts .ensures)
 
 made-at : (c : tie.After-c)
-    → FactsAt (at (c .before .before) .args .whole .now) (c .c .given .0 .0) (c .before .before .make-facts .last .1 .0)
+    → MadeAt (at (c .before .before) .args .whole .now) (c .c .given .0 .0) (c .before .before .make-facts .last .1 .0)
     (c .before .before .make-facts .last .1 .1 .0) (c .c .given .0 .1 .0)
-made-at c = facts-are (c .before .before) (c .c .given .1)
+made-at c = made-are (facts-are (c .before .before) (c .c .given .1))
 
 -- src/lib.rt:172:9
 first-name-requires : tie.Need-first-name-requires
@@ -47,30 +48,30 @@ is-ours-requires c κs = search needs
 
 -- src/lib.rt:185:21
 sub-put-goal : tie.Need-sub-put-goal
-sub-put-goal c = made-two (made-at (c .before .before .before) .made′)
+sub-put-goal c = made-two (made-at (c .before .before .before))
 
 -- src/lib.rt:185:21
 part-put-goal-start : tie.Need-part-put-goal-start
-part-put-goal-start c = made-two (made-at (c .before .before .before .before) .made′)
+part-put-goal-start c = made-two (made-at (c .before .before .before .before))
 
 -- src/lib.rt:185:21
 part-put-goal-end : tie.Need-part-put-goal-end
-part-put-goal-end c = made-at (c .before .before .before .before) .made′ .within .0
+part-put-goal-end c = made-at (c .before .before .before .before) .within .0
 
 -- src/lib.rt:186:21
 array-share-prefix-list : tie.Need-array-share-prefix-list
-array-share-prefix-list c = made-at (c .before .before .before .before .before) .made′ .within .1
+array-share-prefix-list c = made-at (c .before .before .before .before .before) .within .1
 
 -- src/lib.rt:186:21
 slice-aggregate-put-goal : tie.Need-slice-aggregate-put-goal
 slice-aggregate-put-goal c =
-    let m = made-at (c .before .before .before .before .before .before) .made′ in sym (length-take-le _ _ (m .within .1))
+    let m = made-at (c .before .before .before .before .before .before) in sym (length-take-le _ _ (m .within .1))
 
 -- src/lib.rt:180:17
 put-goal-requires : tie.Need-put-goal-requires
 put-goal-requires c κs =
     let k = c .before .before .before .before .before .before .before .before in
-    (at (k .before .before) .pre .0, made-names (made-at k .made′))
+    (at (k .before .before) .pre .0, made-names (made-at k))
 
 -- src/lib.rt:180:17
 returns : tie.Need-returns
@@ -84,7 +85,7 @@ returns c = λ t fs w short.
     (c .before .before .before .before .before .before .if1 .taken) (o .is-ours .ensures) in
     goal-reads (a .text .now) (a .names .now) (a .p) t (a .whole .now) (at m .pre .1) short
     (m .before .before .before .first-name .ensures) (F .counts)
-    (at m .pre .0) w S (made-row (F .made′)) (F .made′ .names) (c .put-goal .ensures)
+    (at m .pre .0) w S (made-row F) (F .names) (c .put-goal .ensures)
 
 -- src/lib.rt:191:13
 refuse-requires : tie.Need-refuse-requires
@@ -109,7 +110,7 @@ returns-2 c = λ t fs w short.
     let k = o .before .before in
     let m = k .before .before in
     let a = at m .args in
-    let F = facts-are m (k .c2 .given .1) in
+    let F = long-are (facts-are m (k .c2 .given .1)) in
     let S = subst (OursIs (a .text .now) (a .p) (a .whole .now) _ (k .c2 .given .0 .0)) (c .before .if2 .taken) (o .is-ours2 .ensures) in
     long-reads (a .text .now) (a .names .now) (a .p) t (a .whole .now) (at m .pre .1) short
     (m .before .before .before .first-name .ensures) (F .0)
@@ -146,7 +147,7 @@ returns-4 c = λ t fs w short.
     let k = o .before .before in
     let m = k .before .before in
     let a = at m .args in
-    let F = facts-are m (k .c2 .given .1) in
+    let F = long-are (facts-are m (k .c2 .given .1)) in
     let n = subst (OursIs (a .text .now) (a .p) (a .whole .now) _ (k .c2 .given .0 .0)) (c .before .if2 .left) (o .is-ours2 .ensures) in
     other-reads (a .text .now) (a .names .now) (a .p) t (a .whole .now) (at m .pre .1) short
     (m .before .before .before .first-name .ensures)
@@ -160,7 +161,7 @@ returns-5 c = λ t fs w short.
     let a = at m .args in
     refused-reads (a .text .now) (a .names .now) (a .p) t (a .whole .now) (at m .pre .1) short
     (m .before .before .before .first-name .ensures) _ w
-    (facts-are m (k .enum-told .given .1)) (c .refuse4 .ensures)
+    (turned-are _ (facts-are m (k .enum-told .given .1))) (c .refuse4 .ensures)
 
 pub read-whole-spec : {M : Type 1} → statement M
 read-whole-spec =

@@ -1,5 +1,5 @@
 use native.Mathlib.Omega.{arith}
-use Rattle.prolog.proofs.EntryLaws.{scan-is, scan-facts}
+use Rattle.scan.proofs.SaysLaws.{scan-is, scan-facts}
 use Rattle.goaltext.proofs.StepLaws.{ends-facts, ends-stop, ends-other}
 use borrow.Author.Needs.{needs}
 use Rattle.goaltext.proofs.text_ends.Statement.{statement}
