@@ -110,20 +110,20 @@ module _ {text cells names : List ℕ} where
   turned-by (texts.no-table fs f F e) = load.no-table (alike fs (F .bytes) (F .reading) (F .alike)) (F .room) (F .list) e
 
 -- ROOM is that of the cells, which are more than the names, or of the names where the cells fit
-room-of : {text cells names : List ℕ} {f : Refused} {facts : List Fact} {place : ℕ} → TextTurned text cells names f → f ≡ refused reason.Room input.Lent place
-    → Text text facts
+room-of : {text cells names : List ℕ} {f : Refused} {facts : List Fact} {place : ℕ} → TextTurned text cells names f
+    → f ≡ refused reason.Room input.Lent place → Text text facts
     → ((length cells < place) ↔ (place ≡ length (tableCells text facts))) × ((place ≤ length cells) ↔ (place ≡ length (nameList text facts)))
 room-of (texts.bytes h) e x = absurd (omega (arith, ap (λ (f : Refused). f .number) e))
 room-of (texts.no-text k h s) e x = absurd (omega (arith, ap (λ (f : Refused). f .number) e))
 room-of (texts.other fs k h y o) e x = absurd (omega (arith, ap (λ (f : Refused). f .number) e))
 room-of {text} {facts = facts} (texts.no-cells fs h y o l) e x =
-    let z : length (tableCells text fs) ≡ length (tableCells text facts) = ap (λ (gs : List Fact). length (tableCells text gs)) (grammar.unique text y x) in
+    let z = ap (λ (gs : List Fact). length (tableCells text gs)) (grammar.unique text y x) in
     let p = ap (λ (f : Refused). f .place) e in
     let n = names-fewer text facts in
     ((λ m. omega arith, λ m. omega arith), (λ m. absurd (omega arith), λ m. absurd (omega arith)))
 room-of {text} {facts = facts} (texts.no-names fs h y o l m) e x =
-    let c : length (tableCells text fs) ≡ length (tableCells text facts) = ap (λ (gs : List Fact). length (tableCells text gs)) (grammar.unique text y x) in
-    let z : length (nameList text fs) ≡ length (nameList text facts) = ap (λ (gs : List Fact). length (nameList text gs)) (grammar.unique text y x) in
+    let c = ap (λ (gs : List Fact). length (tableCells text gs)) (grammar.unique text y x) in
+    let z = ap (λ (gs : List Fact). length (nameList text gs)) (grammar.unique text y x) in
     let p = ap (λ (f : Refused). f .place) e in
     let n = names-fewer text facts in
     ((λ m. absurd (omega arith), λ m. absurd (omega arith)), (λ m. omega arith, λ m. omega arith))

@@ -2,6 +2,7 @@ pub mod Complete
 pub mod Sound
 pub mod Viable
 pub mod Accepted
+pub mod Awaits
 pub mod Range
 pub mod Fixed
 pub mod LongLaws

@@ -22,7 +22,8 @@ module _ (t : List ℕ) where
   -- the first of the symbols itself
   told-here : {p q s e a : ℕ} {met : Words} {ss : List Symbol} → Along p (name s e a ∷ ss) q → New met (slice s e t)
       → Told met (name s e a ∷ ss) (place s e)
-  told-here {s = s} {e} {a} {ss = ss} l n = record { at = record { args = a; there = List·Memᴰ·head refl; first = λ s′ e′ a′ m q. by l m }; new = n }
+  told-here {s = s} {e} {a} {ss = ss} l n =
+      record { at = record { args = a; there = List·Memᴰ·head refl; first = λ s′ e′ a′ m q. by l m }; new = n }
     where
       by : {p q s′ e′ a′ : ℕ} → Along p (name s e a ∷ ss) q → List·Memᴰ (name s′ e′ a′) (name s e a ∷ ss) → s ≤ s′
       by {s′ = s′} l (List·Memᴰ·head x) = let z : s′ ≡ s = cc in omega arith
@@ -45,7 +46,8 @@ module _ (t : List ℕ) where
       by {s′} {e′} {a′} (List·Memᴰ·tail m) q = x .at .first s′ e′ a′ m q
 
   -- one behind a symbol that is no name
-  told-past : {x : Symbol} {met : Words} {ss : List Symbol} {w : Place} → ((s e a : ℕ) → name s e a ≡ x → ⊥) → Told met ss w → Told met (x ∷ ss) w
+  told-past : {x : Symbol} {met : Words} {ss : List Symbol} {w : Place} → ((s e a : ℕ) → name s e a ≡ x → ⊥) → Told met ss w
+      → Told met (x ∷ ss) w
   told-past {x} {ss = ss} {w = w} n o =
       record { at = record { args = o .at .args; there = List·Memᴰ·tail (o .at .there); first = λ s e a m q. by m q }; new = o .new }
     where
@@ -53,7 +55,8 @@ module _ (t : List ℕ) where
       by {s} {e} {a} (List·Memᴰ·head y) q = absurd (n s e a y)
       by {s} {e} {a} (List·Memᴰ·tail m) q = o .at .first s e a m q
 
-  told : {p q k : ℕ} {met : Words} {ss : List Symbol} {ns : List Place} {w : Place} → Along p ss q → Firsts t met ss ns → Nth ns k w → Told met ss w
+  told : {p q k : ℕ} {met : Words} {ss : List Symbol} {ns : List Place} {w : Place} → Along p ss q → Firsts t met ss ns → Nth ns k w
+      → Told met ss w
   told l (numbering.first n f) here = told-here l n
   told {met = met} {w = w} (a-name h k l) (numbering.first {s = s} {e = e} n f) (later i) =
       let x = told l f i in

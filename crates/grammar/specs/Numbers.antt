@@ -2,9 +2,10 @@
 use Prim.Native.Nat.{ℕ, suc, _+_, _-_, _*_, _≤_, _<_}
 use mathlib.Core.Path.{_≡_}
 use mathlib.Core.Bool.{true}
-use mathlib.Core.List.{List, [], _∷_, _++_}
-use Rattle.grammar.specs.Grammar.{isDigit, Digits}
-use Rattle.grammar.specs.Stops.{Begins}
+use mathlib.Core.List.{List, _∷_, _++_, List·Memᴰ}
+use lib.ListN.{length}
+use Rattle.grammar.specs.Grammar.{isDigit, Digits, name, Fact, Text}
+use Rattle.grammar.specs.Meaning.{symbolsOf}
 
 -- digits, the first of them at place p, where the bytes xs are left, up to place q, where ys are; their value is n
 pub data Decimal : ℕ → List ℕ → ℕ → List ℕ → ℕ → Type 0 where
@@ -20,7 +21,11 @@ pub record Leaves (most p : ℕ) (xs : List ℕ) (k : ℕ) : Type 0 where
   pub is-digit : isDigit digit ≡ true
   pub above : most < 10 * value + (digit - 48)
 
--- after these bytes a term may begin: a minus sign may stand there, and not two of them, as in a comment. `-` is 45
+-- after these bytes a term may begin: some accepted text begins with them, and right after them a name stands as an argument
 pub record TermNext (before : List ℕ) : Type 0 where
-  pub minus : Begins (before ++ (45 ∷ []))
-  pub one : Begins (before ++ (45 ∷ 45 ∷ [])) → ⊥
+  pub rest : List ℕ
+  pub facts : List Fact
+  pub text : Text (before ++ rest) facts
+  pub end : ℕ
+  pub args : ℕ
+  pub there : List·Memᴰ (name (length before) end args) (symbolsOf facts)
