@@ -153,15 +153,15 @@ digits-end sign v w p [] f = refl
 digits-end sign v w p (b ∷ xs) f = rw (f .2)
 
 -- the ranges of the bytes are apart
-or-true : (a b : Bool) → (a || b) ≡ true → (a ≡ true) ⊎ (b ≡ true)
+pub or-true : (a b : Bool) → (a || b) ≡ true → (a ≡ true) ⊎ (b ≡ true)
 or-true true b e = inl refl
 or-true false b e = inr e
 
-and-true : (a b : Bool) → (a && b) ≡ true → (a ≡ true) × (b ≡ true)
+pub and-true : (a b : Bool) → (a && b) ≡ true → (a ≡ true) × (b ≡ true)
 and-true true b e = (refl, e)
 and-true false b e = absurd (let z : _≡_ {A = ℕ} 0 1 = cc in omega arith)
 
-upper-below : (b : ℕ) → isUpper b ≡ true → b < 97
+pub upper-below : (b : ℕ) → isUpper b ≡ true → b < 97
 unfolding isUpper
 upper-below b e =
     ⊎-elim (λ l. omega (arith, eqb-true b 95 l)) (λ l. omega (arith, leb-true b 90 (and-true (leb 65 b) (leb b 90) l .1)))
