@@ -18,7 +18,7 @@ use Rattle.grammar.proofs.Sound.{is-blank}
 use Rattle.expecting.specs.declared.Stand.{Stand}
 use Rattle.expecting.specs.declared.Stand.the-variants as stand
 use Rattle.expecting.specs.declared.Sight.{Sight}
-use Rattle.expecting.specs.Looking.{sight, rested, worded, opened, seen, glance, lookFrom}
+use Rattle.expecting.specs.Looking.{sight, rested, termed, worded, opened, seen, glance, lookFrom}
 use Rattle.expecting.specs.Looking as L
 use Rattle.expecting.specs.Expected.{Reached, lost, here, onward, reach}
 
@@ -137,7 +137,7 @@ upper-digit b e =
     (λ l. rw (lt-leb b 57 (omega (arith, between-is 65 b 90 l)), and-false (leb 48 b))) (or-true (eqb b 95) (leb 65 b && leb b 90) e)
 
 -- what is seen of each class
-seen-word : (level : ℕ) (s : Stand) (d n b : ℕ) → isWord b ≡ true → seen level s d n b ≡ sight (worded s b) false d n
+seen-word : (level : ℕ) (s : Stand) (d n b : ℕ) → isWord b ≡ true → seen level s d n b ≡ sight (worded s (termed b)) false d n
 unfolding seen
 seen-word level s d n b e =
     rw (not-mark b 37 e (omega arith), not-blank b e, not-mark b 40 e (omega arith), not-mark b 41 e (omega arith), not-mark b 44 e (omega arith), not-mark b 45 e (omega arith), not-mark b 46 e (omega arith))
@@ -150,7 +150,7 @@ seen-blank level s d n return = refl
 
 module _ (level : ℕ) where
   -- a word byte, layout, and what follows a term, in any mode that takes them
-  on-word : (m : Mode) (w : Work) (s : Stand) (n b : ℕ) → isWord b ≡ true → worded s b ≡ standOf m → remarks m ≡ false
+  on-word : (m : Mode) (w : Work) (s : Stand) (n b : ℕ) → isWord b ≡ true → worded s (termed b) ≡ standOf m → remarks m ≡ false
       → Kept level (w .opened) n → Steps level (seen level s (length (w .opened)) n b) (go m w)
   on-word m w s n b e h r k =
       rw (seen-word level s (length (w .opened)) n b e)
@@ -190,7 +190,7 @@ module _ (level : ℕ) where
   -- one byte outside a comment
   steps-in : (m : Mode) (w : Work) (p n b : ℕ) → remarks m ≡ false → Kept level (w .opened) n
       → Steps level (seen level (standOf m) (length (w .opened)) n b) (step m w p b)
-  unfolding step seen opened isBlank put push
+  unfolding step seen opened isBlank put push termed
   steps-in first w p n b r k = by-cond (isLower b) (λ e. on-word (head p) w stand.First n b (lower-word b e) refl refl k) (λ e. on-layout first w stand.First n b refl refl k)
   steps-in (head s) w p n b r k =
       by-cond (isWord b) (λ e. on-word (head s) w stand.Head n b e refl refl k)

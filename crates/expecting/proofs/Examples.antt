@@ -7,7 +7,7 @@ use lib.ListN.{take, drop}
 use Rattle.grammar.specs.Grammar.{isLower, isUpper, isDigit, isWord}
 use Rattle.grammar.specs.Reader.{Out, stops, reads, isBlank, layout, push, put, past, step, finish, run, textOf}
 use Rattle.grammar.specs.Reader as R
-use Rattle.expecting.specs.Looking.{opened, closed, seen, glance, lookFrom, foundAt, wantedAt}
+use Rattle.expecting.specs.Looking.{termed, opened, closed, seen, glance, lookFrom, foundBy, foundAt, wantedAt}
 use Rattle.expecting.specs.Words.{bytes, whatWords, foundWords, message}
 
 pub record Case : Type 0 where
@@ -59,5 +59,5 @@ cases =
     ∷ []
 
 pub examples : map (λ (c : Case). toldOf (bytes (c .text)) (textOf (bytes (c .text)))) cases ≡ map (λ (c : Case). record { place = c .place; says = bytes (c .says) } ∷ []) cases
-unfolding cases bytes toldOf textOf run step finish layout isBlank push put R.comma R.close past isLower isUpper isDigit isWord opened closed seen glance lookFrom foundAt wantedAt whatWords foundWords
+unfolding cases bytes toldOf textOf run step finish layout isBlank push put R.comma R.close past isLower isUpper isDigit isWord termed opened closed seen glance lookFrom foundBy foundAt wantedAt whatWords foundWords
 examples = refl

@@ -15,7 +15,7 @@ use Rattle.grammar.proofs.Complete.{and-true}
 use Rattle.expecting.specs.declared.What.{What}
 use Rattle.expecting.specs.declared.Stand.{Stand}
 use Rattle.expecting.specs.declared.Found.the-variants as found
-use Rattle.expecting.specs.Looking.{spaced, inNumber, foundAt, lookAt, wantedAt}
+use Rattle.expecting.specs.Looking.{spaced, inNumber, foundBy, foundAt, lookAt, wantedAt}
 use Rattle.expecting.specs.Expected.{names, takes, goesOn, here, reach, ahead, Right, Leaves, Tabbed, RightOf, Expects}
 use Rattle.expecting.proofs.Agreed.{standOf, remarks, View, plain, noted, Agrees}
 use Rattle.expecting.proofs.Alive.{alive, test}
@@ -67,7 +67,7 @@ module _ (t : List ℕ) (k : ℕ) (l : k < length t) (g : Begins (take k t)) (no
 
   instead-by : {m : Mode} {w : Work} → reach (take k t) first nothing 0 ≡ here m w → remarks m ≡ false
       → RightOf (ahead t k) (byte ∷ drop (suc k) t) (foundAt (standOf m) (wantedAt t k .what) (byte ∷ drop (suc k) t))
-  unfolding foundAt
+  unfolding foundAt foundBy
   instead-by {m} {w} e r =
       test (inNumber (standOf m) && isDigit byte)
       (λ h.

@@ -36,19 +36,23 @@ rested stand.Closed = stand.Closed
 rested stand.Stop = stand.Between
 rested stand.Between = stand.Between
 
--- after a letter, a digit or an underscore: a rule's name begins, or a term does, or what was begun goes on
-abbrev pub worded : Stand → ℕ → Stand
-worded stand.First b = stand.Head
-worded stand.Head b = stand.Head
-worded stand.Arg b = cond (isLower b) stand.Name (cond (isDigit b) stand.Number stand.Variable)
-worded stand.Name b = stand.Name
-worded stand.Variable b = stand.Variable
-worded stand.Minus b = stand.Number
-worded stand.Number b = stand.Number
-worded stand.After b = stand.After
-worded stand.Closed b = stand.Closed
-worded stand.Stop b = stand.Stop
-worded stand.Between b = stand.Head
+-- the first byte of a term that is no minus sign
+unfoldable pub termed : ℕ → Stand
+termed b = cond (isLower b) stand.Name (cond (isDigit b) stand.Number stand.Variable)
+
+-- after a letter, a digit or an underscore, with which a term may begin so: a rule's name begins, or a term does, or what was begun goes on
+abbrev pub worded : Stand → Stand → Stand
+worded stand.First term = stand.Head
+worded stand.Head term = stand.Head
+worded stand.Arg term = term
+worded stand.Name term = stand.Name
+worded stand.Variable term = stand.Variable
+worded stand.Minus term = stand.Number
+worded stand.Number term = stand.Number
+worded stand.After term = stand.After
+worded stand.Closed term = stand.Closed
+worded stand.Stop term = stand.Stop
+worded stand.Between term = stand.Head
 
 -- after `(`: of the rule's own name, or of a name inside, whose commas are counted anew where its level is the one that is asked for
 abbrev pub isHead : Stand → Bool
@@ -87,7 +91,7 @@ seen level s depth commas b =
     (cond (eqb b 44) (comma level depth commas)
     (cond (eqb b 45) (sight stand.Minus false depth commas)
     (cond (eqb b 46) (sight stand.Stop false 0 commas)
-    (sight (worded s b) false depth commas)))))))
+    (sight (worded s (termed b)) false depth commas)))))))
 
 -- one byte further
 unfoldable pub glance : ℕ → Sight → ℕ → Sight
@@ -105,18 +109,22 @@ lookAt level bytes = lookFrom level (sight stand.First false 0 0) bytes
 abbrev pub marks : ℕ → ℕ → What
 marks depth commas = cond (ltb 0 depth && leb 3 commas) what.Close what.Mark
 
+-- by what was read last, with what follows a term
+abbrev pub whatBy : Stand → What → What
+whatBy stand.First mark = what.Name
+whatBy stand.Head mark = what.Open
+whatBy stand.Arg mark = what.Term
+whatBy stand.Name mark = mark
+whatBy stand.Variable mark = mark
+whatBy stand.Minus mark = what.Digit
+whatBy stand.Number mark = mark
+whatBy stand.After mark = mark
+whatBy stand.Closed mark = what.Full
+whatBy stand.Stop mark = what.Blank
+whatBy stand.Between mark = what.Next
+
 abbrev pub whatOf : Stand → ℕ → ℕ → What
-whatOf stand.First d n = what.Name
-whatOf stand.Head d n = what.Open
-whatOf stand.Arg d n = what.Term
-whatOf stand.Name d n = marks d n
-whatOf stand.Variable d n = marks d n
-whatOf stand.Minus d n = what.Digit
-whatOf stand.Number d n = marks d n
-whatOf stand.After d n = marks d n
-whatOf stand.Closed d n = what.Full
-whatOf stand.Stop d n = what.Blank
-whatOf stand.Between d n = what.Next
+whatOf s depth commas = whatBy s (marks depth commas)
 
 abbrev pub inNumber : Stand → Bool
 inNumber stand.First = false
@@ -143,10 +151,16 @@ spaced what.Close = true
 spaced what.Full = true
 spaced what.Blank = true
 
--- what stands at the place. A tab is byte 9
+-- what stands at the place, after a number or not, where layout may stand or not. A tab is byte 9
+abbrev pub tabbed : Bool → ℕ → Found
+tabbed layout b = cond (layout && eqb b 9) found.Tab found.Other
+
+unfoldable pub foundBy : Bool → Bool → ℕ → Found
+foundBy number layout b = cond (number && isDigit b) found.Large (tabbed layout b)
+
 unfoldable pub foundAt : Stand → What → List ℕ → Found
 foundAt s w [] = found.Other
-foundAt s w (b ∷ bytes) = cond (inNumber s && isDigit b) found.Large (cond (spaced w && eqb b 9) found.Tab found.Other)
+foundAt s w (b ∷ bytes) = foundBy (inNumber s) (spaced w) b
 
 -- what is said of the place after some bytes, with these bytes from there on
 abbrev pub wantedBy : Sight → List ℕ → Wanted

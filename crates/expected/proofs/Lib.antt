@@ -1,0 +1,5 @@
+pub mod RangeLaws
+pub mod SeenLaws
+pub mod LookLaws
+pub mod FoundLaws
+pub mod SayLaws
