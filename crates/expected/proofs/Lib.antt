@@ -1,5 +1,2 @@
-pub mod RangeLaws
-pub mod SeenLaws
-pub mod LookLaws
 pub mod FoundLaws
 pub mod SayLaws

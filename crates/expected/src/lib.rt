@@ -1,6 +1,5 @@
 // What is expected at a place of a text, where it is refused (TEXT), and the bytes of the message. Every place of every text may be asked.
 // Two looks at the bytes before the place are enough, and nothing is kept of them but a few numbers.
-mod look;
 mod say;
 
 ghost use mathlib.Core.Path.{_≡_};
@@ -124,8 +123,8 @@ fn found_at(text: &[u8], at: usize, stand: Stand, what: What) -> Found
 pub fn expected(text: &[u8], at: usize) -> Wanted
     ensures { λ r. ⌜ r ≡ wantedAt (now (text .entry)) at ⌝ }
 {
-    let level = look::look(text, at, 0).depth;
-    let s = look::look(text, at, level);
+    let level = looking::look(text, at, 0).depth;
+    let s = looking::look(text, at, level);
     let stand = s.stand;
     let what = what_of(stand, mark_of(s.depth, s.commas));
     let found = found_at(text, at, stand, what);

@@ -1,8 +1,8 @@
 use mathlib.Core.Path.{sym, _∙_}
-use Rattle.expected.proofs.SeenLaws.{glance-comment, glance-outside}
+use Rattle.looking.proofs.SeenLaws.{glance-comment, glance-outside}
 use borrow.Author.Needs.{needs}
-use Rattle.expected.proofs.look.step.Statement.{statement}
-use Rattle.expected.proofs.look.step.Tie as tie
+use Rattle.looking.proofs.step.Statement.{statement}
+use Rattle.looking.proofs.step.Tie as tie
 
 sight-of-requires : tie.Need-sight-of-requires
 sight-of-requires c κs = search needs

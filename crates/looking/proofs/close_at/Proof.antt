@@ -1,9 +1,9 @@
 use borrow.Author.Tests.{eq-eqb, ne-eqb}
 use Rattle.expecting.specs.Looking.{closed}
 use borrow.Author.Needs.{needs}
-use Rattle.expected.proofs.look.close_at.Statement.{statement}
-use Rattle.expected.proofs.look.close_at.Tie as tie
-use Rattle.expected.proofs.look.sight_of.Reads as sight-of-reads
+use Rattle.looking.proofs.close_at.Statement.{statement}
+use Rattle.looking.proofs.close_at.Tie as tie
+use Rattle.looking.proofs.sight_of.Reads as sight-of-reads
 
 sight-of-requires : tie.Need-sight-of-requires
 sight-of-requires c κs = search needs

@@ -1,4 +1,5 @@
-// A look at the bytes of a text, one after another.
+// A look at the bytes of a text before a place, one after another, for what is expected there. Every place of every text may be asked, and
+// nothing is kept of the bytes but a few numbers.
 ghost use mathlib.Core.Path.{_≡_};
 ghost use mathlib.Core.Bool.{false};
 ghost use Prim.Native.Nat.{_+_, _^_, _<_};

@@ -1,9 +1,9 @@
 use native.Mathlib.Omega.{arith}
 use Rattle.grammar.specs.Grammar.{isLower, isDigit}
 use Rattle.expecting.specs.Looking.{termed}
-use Rattle.expected.proofs.RangeLaws.{in-range, below-range, above-range}
-use Rattle.expected.proofs.look.term_of.Statement.{statement}
-use Rattle.expected.proofs.look.term_of.Tie as tie
+use Rattle.looking.proofs.RangeLaws.{in-range, below-range, above-range}
+use Rattle.looking.proofs.term_of.Statement.{statement}
+use Rattle.looking.proofs.term_of.Tie as tie
 
 returns : tie.Need-returns
 unfolding termed isLower isDigit

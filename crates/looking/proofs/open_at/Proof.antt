@@ -2,10 +2,10 @@ use mathlib.Core.Path.{sym, _∙_}
 use borrow.Author.Tests.{eq-eqb, ne-eqb}
 use Rattle.expecting.specs.Looking.{opened}
 use borrow.Author.Needs.{needs}
-use Rattle.expected.proofs.look.open_at.Statement.{statement}
-use Rattle.expected.proofs.look.open_at.Tie as tie
-use Rattle.expected.proofs.look.is_head.Reads as is-head-reads
-use Rattle.expected.proofs.look.sight_of.Reads as sight-of-reads
+use Rattle.looking.proofs.open_at.Statement.{statement}
+use Rattle.looking.proofs.open_at.Tie as tie
+use Rattle.looking.proofs.is_head.Reads as is-head-reads
+use Rattle.looking.proofs.sight_of.Reads as sight-of-reads
 
 is-head-requires : tie.Need-is-head-requires
 is-head-requires c κs = search needs

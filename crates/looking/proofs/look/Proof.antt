@@ -3,9 +3,9 @@ use native.Mathlib.Omega.{arith}
 use borrow.Author.Needs.{needs}
 use borrow.Author.Tests.{ltb-true, ltb-false}
 use lib.ListN.{length}
-use Rattle.expected.proofs.LookLaws.{Looked, looked-none, looked-next, looked-all, looked-end}
-use Rattle.expected.proofs.look.look.Statement.{statement}
-use Rattle.expected.proofs.look.look.Tie as tie
+use Rattle.looking.proofs.LookLaws.{Looked, looked-none, looked-next, looked-all, looked-end}
+use Rattle.looking.proofs.look.Statement.{statement}
+use Rattle.looking.proofs.look.Tie as tie
 
 abbrev Inv-loop : tie.InvT-loop
 Inv-loop text at level s₀ i₀ s i = Looked level text at i s

@@ -1,7 +1,7 @@
-use Rattle.expected.proofs.SeenLaws.{seen-percent, seen-layout, seen-open, seen-close, seen-comma, seen-minus, seen-stop, seen-other}
+use Rattle.looking.proofs.SeenLaws.{seen-percent, seen-layout, seen-open, seen-close, seen-comma, seen-minus, seen-stop, seen-other}
 use borrow.Author.Needs.{needs}
-use Rattle.expected.proofs.look.see.Statement.{statement}
-use Rattle.expected.proofs.look.see.Tie as tie
+use Rattle.looking.proofs.see.Statement.{statement}
+use Rattle.looking.proofs.see.Tie as tie
 
 rest-of-requires : tie.Need-rest-of-requires
 rest-of-requires c κs = search needs
