@@ -1,17 +1,17 @@
 -- The look at a text agrees with the grammar's reader, as far as a text begins so: the same mode, without its numbers, as many open names,
 -- and of the open name on the level that is asked for as many commas.
-use Prim.Native.Nat.{ℕ, zero, suc, _+_, _-_, _*_, _≤_, _<_}
-use mathlib.Core.Path.{_≡_, refl, sym, ap, subst, _∙_}
-use mathlib.Core.Bool.{Bool, true, false, not, cond, _&&_, _||_, and-false, true≢false}
-use mathlib.Core.List.{List, [], _∷_, _++_}
-use mathlib.Core.Logic.{_⊎_, inl, inr, ⊎-elim}
+use Prim.Native.Nat.{ℕ, suc, _+_, _-_, _*_, _≤_, _<_}
+use mathlib.Core.Path.{_≡_, refl, sym, _∙_}
+use mathlib.Core.Bool.{Bool, true, false, cond, _&&_, _||_, and-false, true≢false}
+use mathlib.Core.List.{List, [], _∷_}
+use mathlib.Core.Logic.{_⊎_, ⊎-elim}
 use native.Mathlib.Numerals.{add-one}
 use native.Mathlib.Omega.{arith}
 use lib.Dec.{eqb, leb, ltb}
 use lib.ListN.{length}
-use borrow.Author.Tests.{leb-true, eqb-true, eqb-false, eq-eqb, ne-eqb, lt-leb}
-use Rattle.grammar.specs.Grammar.{isLower, isUpper, isDigit, isWord, Blank, space, feed, return, Symbol, name, variable, number, Fact}
-use Rattle.grammar.specs.Reader.{Mode, first, head, arg, word, minus, digits, after, closed, stop, between, remark, Frame, frame, Work, work, nothing, Next, dead, go, says, isBlank, layout, push, put, oneMore, limit, bitsAfter, step}
+use borrow.Author.Tests.{leb-true, eqb-true, eqb-false, ne-eqb, lt-leb}
+use Rattle.grammar.specs.Grammar.{isLower, isUpper, isDigit, isWord, Blank, space, feed, return, name, variable, number, Fact}
+use Rattle.grammar.specs.Reader.{Mode, first, head, arg, word, minus, digits, after, closed, stop, between, remark, Frame, frame, Work, Next, dead, go, says, isBlank, layout, push, put, oneMore, limit, bitsAfter, step}
 use Rattle.grammar.specs.Reader as R
 use Rattle.grammar.proofs.Complete.{or-true, and-true, upper-below, digit-below, not-lower, not-upper}
 use Rattle.grammar.proofs.Sound.{is-blank}
@@ -20,7 +20,7 @@ use Rattle.expecting.specs.declared.Stand.the-variants as stand
 use Rattle.expecting.specs.declared.Sight.{Sight}
 use Rattle.expecting.specs.Looking.{sight, rested, termed, worded, opened, seen, glance, lookFrom}
 use Rattle.expecting.specs.Looking as L
-use Rattle.expecting.specs.Expected.{Reached, lost, here, onward, reach}
+use Rattle.expecting.specs.Expected.{here, onward, reach}
 
 -- a mode without its numbers, a comment left out
 abbrev pub standOf : Mode → Stand

@@ -2,8 +2,7 @@
 use Prim.Native.Nat.{ℕ}
 use Prim.Native.String.{String}
 use mathlib.Core.Path.{_≡_, refl}
-use mathlib.Core.List.{List, [], _∷_, _++_, map}
-use lib.ListN.{take, drop}
+use mathlib.Core.List.{List, [], _∷_, map}
 use Rattle.grammar.specs.Grammar.{isLower, isUpper, isDigit, isWord}
 use Rattle.grammar.specs.Reader.{Out, stops, reads, isBlank, layout, push, put, past, step, finish, run, textOf}
 use Rattle.grammar.specs.Reader as R

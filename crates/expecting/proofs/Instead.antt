@@ -1,7 +1,7 @@
 -- What is said of the byte at which a text is refused is right: a tab where layout may stand, a digit with which a number leaves the range.
 use Prim.Native.Nat.{ℕ, suc, _+_, _-_, _*_, _<_}
 use mathlib.Core.Path.{_≡_, refl, sym, ap, _∙_}
-use mathlib.Core.Bool.{Bool, true, false, cond, _&&_, _||_, true≢false, false≢true, or-true}
+use mathlib.Core.Bool.{Bool, true, false, _&&_, _||_, true≢false, false≢true, or-true}
 use mathlib.Core.List.{List, [], _∷_, _++_}
 use native.Mathlib.Omega.{arith}
 use lib.Dec.{eqb, leb}
@@ -13,11 +13,9 @@ use Rattle.grammar.specs.Reader.{Mode, first, head, arg, word, minus, digits, a
 use Rattle.grammar.specs.Stops.{Begins, Stops, at-byte, at-end}
 use Rattle.grammar.proofs.Complete.{and-true}
 use Rattle.expecting.specs.declared.What.{What}
-use Rattle.expecting.specs.declared.Stand.{Stand}
-use Rattle.expecting.specs.declared.Found.the-variants as found
-use Rattle.expecting.specs.Looking.{spaced, inNumber, foundBy, foundAt, lookAt, wantedAt}
-use Rattle.expecting.specs.Expected.{names, takes, goesOn, here, reach, ahead, Right, Leaves, Tabbed, RightOf, Expects}
-use Rattle.expecting.proofs.Agreed.{standOf, remarks, View, plain, noted, Agrees}
+use Rattle.expecting.specs.Looking.{spaced, inNumber, foundBy, foundAt, wantedAt}
+use Rattle.expecting.specs.Expected.{names, goesOn, here, reach, ahead, Right, RightOf, Expects}
+use Rattle.expecting.proofs.Agreed.{standOf, remarks, View, plain, noted}
 use Rattle.expecting.proofs.Alive.{alive, test}
 use Rattle.expecting.proofs.Right.{bytes-are, begins-agrees, ahead-plain, found-here, begins-reach, begins-right}
 

@@ -1,7 +1,7 @@
 -- The mode that the grammar's reader reaches after some bytes, and what it reads from there on.
 use Prim.Native.Nat.{ℕ, suc, _+_}
-use mathlib.Core.Path.{_≡_, refl, sym, ap, _∙_}
-use mathlib.Core.Bool.{Bool, true, false}
+use mathlib.Core.Path.{_≡_, refl, ap}
+use mathlib.Core.Bool.{true}
 use mathlib.Core.List.{List, [], _∷_, _++_}
 use native.Mathlib.Nat.{add-zero}
 use native.Mathlib.Omega.{arith}
@@ -9,8 +9,8 @@ use lib.ListN.{length}
 use Rattle.grammar.specs.Grammar.{Fact}
 use Rattle.grammar.specs.Reader.{Mode, Work, Next, dead, go, says, step, Out, stops, reads, before, run}
 use Rattle.grammar.proofs.Sound.{clash}
-use Rattle.grammar.proofs.Viable.{Lives, mode-lives}
-use Rattle.expecting.specs.Expected.{Reached, lost, here, onward, reach}
+use Rattle.grammar.proofs.Viable.{mode-lives}
+use Rattle.expecting.specs.Expected.{lost, here, onward, reach}
 use Rattle.expecting.proofs.Alive.{alive}
 
 -- something is read

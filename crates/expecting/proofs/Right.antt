@@ -1,17 +1,15 @@
 -- WHAT IS SAID TO BE EXPECTED IS WHAT THE GRAMMAR TAKES: for every text, at every place up to which some accepted text begins so, and with
 -- that wherever a text is refused with TEXT.
-use Prim.Native.Nat.{ℕ, suc, _+_}
-use mathlib.Core.Path.{_≡_, refl, sym, ap, subst, _∙_}
-use mathlib.Core.Bool.{Bool, true, false, not, cond, _&&_, _||_, true≢false, false≢true}
+use Prim.Native.Nat.{ℕ, _+_}
+use mathlib.Core.Path.{_≡_, refl, sym, _∙_}
+use mathlib.Core.Bool.{Bool, true, false, cond, _&&_, _||_, true≢false, false≢true}
 use mathlib.Core.List.{List, [], _∷_, _++_, append-nil, append-assoc}
 use mathlib.Core.Logic.{_↔_}
-use native.Mathlib.Omega.{arith}
 use lib.Dec.{eqb, leb, ltb}
 use lib.ListN.{length, take, drop}
-use lib.Seq.{take-all}
 use Rattle.grammar.specs.Grammar.{Fact, Text}
 use Rattle.grammar.specs.Reader.{Mode, first, head, arg, word, minus, digits, after, closed, stop, between, remark, Work, nothing, isBlank, step, stops, reads, finish, run, textOf}
-use Rattle.grammar.specs.Stops.{Begins, Stops, at-byte, at-end}
+use Rattle.grammar.specs.Stops.{Begins}
 use Rattle.grammar.proofs.Sound.{clash}
 use Rattle.grammar.proofs.Accepted.{accepted}
 use Rattle.expecting.specs.declared.What.the-variants as what
@@ -20,7 +18,7 @@ use Rattle.expecting.specs.declared.Stand.the-variants as stand
 use Rattle.expecting.specs.declared.Sight.{Sight}
 use Rattle.expecting.specs.Looking.{sight, isHead, opened, seen, glance, lookFrom, lookAt, marks, whatOf, foundAt, wantedAt}
 use Rattle.expecting.specs.Looking as L
-use Rattle.expecting.specs.Expected.{takes, mayEnd, here, reach, goesOnIn, goesOnAt, goesOn, inComment, ahead, Right}
+use Rattle.expecting.specs.Expected.{takes, mayEnd, here, reach, goesOn, inComment, ahead, Right}
 use Rattle.expecting.proofs.Agreed.{standOf, remarks, Kept, View, plain, noted, Agrees, look-agrees}
 use Rattle.expecting.proofs.Alive.{alive, test, mode-alive}
 use Rattle.expecting.proofs.Reaching.{Reads, reads-on, reads-all, reach-more, alive-reads, reads-alive}

@@ -1,6 +1,6 @@
 -- What is said of a place of a text, for every text and place: computed, by one look at each byte before the place. It is of use where a
 -- text is refused, and what it means there is in specs/Expected.
-use Prim.Native.Nat.{ℕ, zero, suc, _+_, _-_}
+use Prim.Native.Nat.{ℕ, _+_, _-_}
 use mathlib.Core.Bool.{Bool, true, false, not, cond, _&&_}
 use mathlib.Core.List.{List, [], _∷_}
 use lib.Dec.{eqb, leb, ltb}

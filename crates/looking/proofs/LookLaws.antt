@@ -1,7 +1,7 @@
 -- The look at the first bytes of a text, byte by byte.
-use Prim.Native.Nat.{ℕ, suc, _+_, _-_, _≤_, _<_}
+use Prim.Native.Nat.{ℕ, _+_, _-_, _≤_, _<_}
 use mathlib.Core.Path.{_≡_, refl, sym, ap, _∙_}
-use mathlib.Core.Bool.{Bool, true, false, not, cond}
+use mathlib.Core.Bool.{Bool, true, false, cond}
 use mathlib.Core.List.{List, [], _∷_, _++_}
 use native.Mathlib.Numerals.{add-one}
 use native.Mathlib.Omega.{arith}
@@ -12,7 +12,7 @@ use Rattle.grammar.specs.Reader.{isBlank}
 use Rattle.expecting.specs.declared.Stand.{Stand}
 use Rattle.expecting.specs.declared.Stand.the-variants as stand
 use Rattle.expecting.specs.declared.Sight.{Sight}
-use Rattle.expecting.specs.Looking.{sight, rested, termed, worded, isHead, opened, closed, comma, seen, glance, lookFrom, lookAt}
+use Rattle.expecting.specs.Looking.{sight, isHead, opened, closed, seen, glance, lookFrom, lookAt}
 
 -- one byte opens at most one name and is at most one comma
 record Few (d n : ℕ) (s : Sight) : Type 0 where

@@ -3,7 +3,6 @@ use Rattle.expecting.specs.Looking.{closed}
 use borrow.Author.Needs.{needs}
 use Rattle.looking.proofs.close_at.Statement.{statement}
 use Rattle.looking.proofs.close_at.Tie as tie
-use Rattle.looking.proofs.sight_of.Reads as sight-of-reads
 
 sight-of-requires : tie.Need-sight-of-requires
 sight-of-requires c κs = search needs

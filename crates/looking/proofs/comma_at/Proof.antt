@@ -2,7 +2,6 @@ use borrow.Author.Tests.{eq-eqb, ne-eqb}
 use borrow.Author.Needs.{needs}
 use Rattle.looking.proofs.comma_at.Statement.{statement}
 use Rattle.looking.proofs.comma_at.Tie as tie
-use Rattle.looking.proofs.sight_of.Reads as sight-of-reads
 
 add-sight-of : tie.Need-add-sight-of
 add-sight-of c = search needs

@@ -4,8 +4,6 @@ use Rattle.expecting.specs.Looking.{opened}
 use borrow.Author.Needs.{needs}
 use Rattle.looking.proofs.open_at.Statement.{statement}
 use Rattle.looking.proofs.open_at.Tie as tie
-use Rattle.looking.proofs.is_head.Reads as is-head-reads
-use Rattle.looking.proofs.sight_of.Reads as sight-of-reads
 
 is-head-requires : tie.Need-is-head-requires
 is-head-requires c κs = search needs
