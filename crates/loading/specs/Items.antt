@@ -1,5 +1,5 @@
--- The symbols of a text in their order, what numbers they get, and how the names among them are counted. These definitions describe what
--- the code goes by; no promise of the entry cites them.
+-- The symbols of a text in their order, what numbers they get, and how the names among them are counted. The promise of `words` rests on
+-- `numbering`; no promise of the entry cites these definitions.
 use Prim.Native.Nat.{ℕ, suc, _+_}
 use mathlib.Core.Bool.{Bool, false, cond, _||_}
 use mathlib.Core.List.{List, [], _∷_, _++_, map, flatten}
