@@ -1,26 +1,118 @@
-// What `--help` prints, in one screen.
+// What `--help` and `--version` print, and what is said where the arguments are none of those that there are.
+use libc::STDERR_FILENO;
 use libc::STDOUT_FILENO;
 
-fn line(text: &[u8]) {
-    io::write_all(STDOUT_FILENO, text);
+// The first line that cannot be written is said and ends it.
+fn line(going: bool, text: &[u8]) -> bool {
+    if !going {
+        return false;
+    }
+    if io::write_all(STDOUT_FILENO, text) {
+        return true;
+    }
+    os::fail(b"cannot write standard output");
+    false
 }
 
 pub fn print() {
-    line(b"ask FILE [GOAL ..]   which rules of a file of Prolog facts fit each goal\n");
-    line(b"ask --plan FILE      in which order the rules' arguments are looked at\n");
-    line(b"ask --help           this\n\n");
-    line(b"A goal is a term of the facts' predicate, as rule(9, red, bowl(Size), Firing); a\n");
-    line(b"final `.` is allowed. With no GOAL, goals are read from standard input, one to a\n");
-    line(b"line; a line that is blank or a comment (%) is passed over.\n\n");
-    line(b"For each goal there is a line for each rule that fits, from the top:\n");
-    line(b"    rule 3, line 7: rule(9, red, bowl(small), medium)\n");
-    line(b"the rule's number, the line of FILE on which it stands, and the answer, with _0,\n");
-    line(b"_1 for variables. An answer of over 1,000,000 bytes is cut and ends in ` ..`.\n");
-    line(b"Then how many rules fit, and how much of the plan was looked at for it:\n");
-    line(b"    2 rules fit, 17 of 39 branches tried\n\n");
-    line(b"What is refused is said with file, line and column (from 1, in bytes), with the\n");
-    line(b"refusal's name and number, and with what is expected there:\n");
-    line(b"    shop.pl:3:14: TEXT 18: `,` or `)` is expected\n");
-    line(b"For a goal the file is `goal 2` or `standard input`. Goals after one that is\n");
-    line(b"refused are answered. FILE has at most 65,535 bytes and 64 rules.\n");
+    let a = uses(true);
+    let b = goals(a);
+    let c = answers(b);
+    refusals(c);
+}
+
+fn uses(going: bool) -> bool {
+    let a = line(
+        going,
+        b"ask FILE [GOAL ..]   which rules of a file of Prolog facts fit each goal\n",
+    );
+    let b = line(
+        a,
+        b"ask --plan FILE      in which order the rules' arguments are looked at\n",
+    );
+    let c = line(b, b"ask --help, -h       this\n");
+    line(c, b"ask --version        the version\n\n")
+}
+
+fn goals(going: bool) -> bool {
+    let a = line(
+        going,
+        b"A goal is a term of the facts' predicate, as rule(9, red, bowl(Size), Firing); a\n",
+    );
+    let b = line(
+        a,
+        b"final `.` is allowed. With no GOAL, goals are read from standard input, one to a\n",
+    );
+    line(
+        b,
+        b"line; a line that is blank or a comment (%) is passed over.\n\n",
+    )
+}
+
+fn answers(going: bool) -> bool {
+    let a = line(
+        going,
+        b"For each goal there is a line for each rule that fits, from the top:\n",
+    );
+    let b = line(
+        a,
+        b"    rule 3, line 7: rule(9, red, bowl(small), medium)\n",
+    );
+    let c = line(
+        b,
+        b"the rule's number, the line of FILE on which it stands, and the answer, with _0,\n",
+    );
+    let d = line(
+        c,
+        b"_1 for variables. An answer of over 131,072 bytes is cut there and ends in ` ..`.\n",
+    );
+    let e = line(
+        d,
+        b"Then how many rules fit, and how much of the plan was looked at for it:\n",
+    );
+    let f = line(e, b"    2 rules fit, 17 of 39 branches tried\n");
+    let g = line(
+        f,
+        b"The answers to each of several goals, and to goals of standard input, come after\n",
+    );
+    line(
+        g,
+        b"a line with the goal: `?- rule(9, red, bowl(Size), Firing)`.\n\n",
+    )
+}
+
+fn refusals(going: bool) -> bool {
+    let a = line(
+        going,
+        b"What is refused is said on standard error, with file, line and column (from 1,\n",
+    );
+    let b = line(
+        a,
+        b"in bytes), with the refusal's name and number, and with what is expected there:\n",
+    );
+    let c = line(b, b"    shop.pl:3:14: TEXT 18: `,` or `)` is expected\n");
+    let d = line(
+        c,
+        b"For a goal the file is `goal 2` or `standard input`. Goals after one that is\n",
+    );
+    let e = line(
+        d,
+        b"refused are answered. FILE has at most 65,535 bytes and 64 rules, a goal 65,533\n",
+    );
+    line(
+        e,
+        b"bytes. The program needs 1 MB of stack, and always ends with status 0.\n",
+    )
+}
+
+pub fn version() {
+    line(true, b"ask 0.1.0\n");
+}
+
+// To standard error, where it can be written.
+pub fn refuse() {
+    io::write_all(
+        STDERR_FILENO,
+        b"usage: ask FILE [GOAL ..], ask --plan FILE, ask --help or ask --version\n",
+    );
 }

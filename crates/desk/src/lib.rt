@@ -1,109 +1,127 @@
 // The program `ask`: a shop's rules and its goals in Prolog text, answered in Prolog text. What is read and what is answered is decided and
-// promised in the libraries. This crate finds the arguments, the file and the lines, and prints; it is proved safe and ending, and what it
-// prints is held to stored output by the programs over it.
-mod cut;
+// promised in the libraries. This crate finds the arguments, the file and the lines; it is proved safe and ending.
+mod files;
 mod goals;
 mod help;
-mod lines;
-mod place;
-mod say;
-mod tree;
-mod want;
+mod input;
 
-use crate::say::Whose;
-use builder::BuildAnswer;
-use doubles::part;
-use least::By;
+use files::Got;
 use lex::name::same_bytes;
-use prolog::TextAnswer;
+use message::Whose;
+use shop::Loaded;
 
-// What is wanted of a file of facts.
+// What the first argument asks for: answers to goals, of the file that it names; the plan of a file; the help; the version; or nothing that
+// there is.
 pub enum Wish {
     Answers,
     Tree,
+    Help,
+    Version,
+    Nothing,
 }
 
-// `ask FILE GOAL ..`, `ask --plan FILE` or `ask --help`.
+fn wish_of(word: &[u8]) -> Wish {
+    if same_bytes(word, b"--plan") {
+        return Wish::Tree;
+    }
+    if same_bytes(word, b"--help") || same_bytes(word, b"-h") {
+        return Wish::Help;
+    }
+    if same_bytes(word, b"--version") {
+        return Wish::Version;
+    }
+    if same_bytes(parts::part(word, 0, 1), b"-") {
+        return Wish::Nothing;
+    }
+    Wish::Answers
+}
+
+// `ask FILE GOAL ..`, `ask --plan FILE`, `ask --help` or `ask --version`.
 pub fn answer() {
+    let count = os::arg_count();
     let mut word = io::buffer();
     let n = os::arg(1, &mut word);
-    if same_bytes(&word[..n], b"--plan") {
-        open_argument(2, Wish::Tree);
-        return;
+    let wish = wish_of(&word[..n]);
+    match wish {
+        Wish::Answers => {
+            if count < 2 {
+                help::refuse();
+                return;
+            }
+            open_argument(1, wish);
+        }
+        Wish::Tree => {
+            if count != 3 {
+                help::refuse();
+                return;
+            }
+            open_argument(2, wish);
+        }
+        Wish::Help => {
+            if count != 2 {
+                help::refuse();
+                return;
+            }
+            help::print();
+        }
+        Wish::Version => {
+            if count != 2 {
+                help::refuse();
+                return;
+            }
+            help::version();
+        }
+        Wish::Nothing => help::refuse(),
     }
-    if same_bytes(&word[..n], b"--help") {
-        help::print();
-        return;
-    }
-    open_argument(1, Wish::Answers);
 }
 
-// The file that an argument names.
+// The file that an argument names. One that is too long for a name names none.
 fn open_argument(i: usize, wish: Wish) {
-    if os::arg_count() <= i {
-        help::print();
-        return;
-    }
     let mut path = io::buffer();
     let n = os::arg(i, &mut path);
+    if os::errno() != 0 {
+        os::fail(b"cannot read FILE");
+        return;
+    }
     lend(&path[..n], wish);
 }
 
-// One room for all that is printed, a line at a time; only an absurd answer is longer.
+// The rooms, lent once: for answers and, before them, for the table; for what is kept of the file; for what is printed.
 fn lend(path: &[u8], wish: Wish) {
-    let mut out = [0u8; 1048576];
-    open(path, wish, &mut out);
+    let mut room = [0u32; 65536];
+    let mut kept = [0u32; 10244];
+    let mut out = [0u8; 164864];
+    open(path, wish, &mut room, &mut kept, &mut out);
 }
 
 // One byte more is read than a text may have, so that too long a file is seen to be one.
-fn open(path: &[u8], wish: Wish, out: &mut [u8]) {
+fn open(path: &[u8], wish: Wish, room: &mut [u32], kept: &mut [u32], out: &mut [u8]) {
     let fd = os::open_read(path);
     if fd < 0 {
-        say::no_file(path, out);
+        files::cannot_read(path, out);
         return;
     }
     let mut text = [0u8; 65536];
-    let n = io::read_full(fd, &mut text);
+    match files::read_file(fd, &mut text) {
+        Got::Bytes(n) => load(path, parts::part(&text, 0, n), wish, room, kept, out),
+        Got::Failed => files::cannot_read(path, out),
+    }
     libc::close(fd);
-    load(path, &text[..n], wish, out);
 }
 
-// No text needs more room than is lent here, so that it is refused for what it is and never for the room.
-fn load(path: &[u8], text: &[u8], wish: Wish, out: &mut [u8]) {
-    let mut cells = [0u32; 32768];
-    let mut names = [0u32; 32766];
-    match prolog::read_text(text, &mut cells, &mut names) {
-        TextAnswer::Read(n, m) => build(text, part(&names, 0, m), part(&cells, 0, n), wish, out),
-        TextAnswer::Refused(f) => {
-            let at = place::byte_of(text, f);
-            let k = octets::put_word(out, 0, path);
-            say::refused(text, Whose::Facts, f, place::mark_of(text, at).line, out, k);
+fn load(path: &[u8], text: &[u8], wish: Wish, room: &mut [u32], kept: &mut [u32], out: &mut [u8]) {
+    match shop::load(text, room, kept) {
+        Loaded::Kept(shop) => {
+            let last = match wish {
+                Wish::Tree => treetext::print(text, kept, shop, out),
+                _ => goals::ask_all(text, kept, shop, room, out),
+            };
+            page::flush(out, last);
         }
-    }
-}
-
-// The least plan by the work of W-204, figure 0. A table that was read is not refused here, and 6,082 cells are enough for every plan.
-fn build(text: &[u8], names: &[u32], table: &[u32], wish: Wish, out: &mut [u8]) {
-    let mut room = [0u32; 6082];
-    match builder::build_plan(By::Work(0), table, &mut room) {
-        BuildAnswer::Built(n, _) => match wish {
-            Wish::Answers => ask_all(text, names, table, part(&room, 0, n), out),
-            Wish::Tree => tree::print(text, names, table, part(&room, 0, n), out),
-        },
-        BuildAnswer::Refused(_) => {}
-    }
-}
-
-// The goals are the arguments after the file, and where there are none the lines of standard input.
-fn ask_all(text: &[u8], names: &[u32], table: &[u32], plan: &[u32], out: &mut [u8]) {
-    let count = os::arg_count();
-    if count < 3 {
-        lines::ask_lines(text, names, table, plan, out);
-        return;
-    }
-    let mut i = 2;
-    while i < count {
-        goals::ask_argument(text, names, table, plan, i, out);
-        i += 1;
+        Loaded::Refused(f) => {
+            let a = octets::put_word(out, 0, path);
+            let b = refusals::put_refusal(out, a, text, 0, Whose::Facts, f);
+            page::complain(out, b);
+        }
     }
 }

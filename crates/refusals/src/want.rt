@@ -1,5 +1,5 @@
 // What is expected where no text goes on as it does (TEXT).
-use crate::place::is_digit;
+use marks::is_digit;
 use scan::Scan;
 
 pub enum Wanted {

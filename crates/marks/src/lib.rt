@@ -4,7 +4,7 @@ ghost use Prim.Native.Nat.{_+_, _^_, _≤_, _<_};
 ghost use mathlib.Core.Bool.{cond};
 ghost use lib.Dec.{eqb};
 ghost use lib.ListN.{take};
-ghost use Rattle.desk.specs.Marks.{feeds, columnAfter};
+ghost use Rattle.marks.specs.Marks.{feeds, columnAfter};
 use lex::fact::Head;
 use refusal::Input;
 use refusal::Refusal;
@@ -108,6 +108,56 @@ pub fn arguments_at(text: &[u8], rule: usize) -> usize {
         }
     }
     spot.at
+}
+
+// A line's number as a cell. No text has so many lines that it does not fit.
+fn narrow(line: usize) -> u32 {
+    if line < 4294967296 { line as u32 } else { 0 }
+}
+
+// Puts a number at a place of a list that has one.
+fn put_at(lines: &mut [u32], at: usize, line: usize) {
+    if at < lines.len() {
+        lines[at] = narrow(line);
+    }
+}
+
+// How many line feeds stand between two places.
+fn feeds_between(text: &[u8], from: usize, to: usize) -> usize {
+    let mut i = from;
+    let mut n = 0;
+    while i < text.len() && i < to {
+        n += feed(text[i]);
+        i += 1;
+    }
+    n
+}
+
+// The line of each rule, put at the front of a list: that of its arguments, which is that of its name.
+pub fn put_lines(text: &[u8], lines: &mut [u32]) {
+    let mut spot = symbols::begin(text);
+    let mut line = 1 + feeds_between(text, 0, spot.at);
+    let mut rule = 0;
+    put_at(lines, rule, line);
+    let mut turns = text.len();
+    while 0 < turns {
+        turns -= 1;
+        match item_at(text, spot) {
+            Item::Symbol(_, to) => {
+                line += feeds_between(text, spot.at, to.at);
+                spot = to;
+            }
+            Item::Rule(to) => {
+                line += feeds_between(text, spot.at, to.at);
+                spot = to;
+                rule += 1;
+                put_at(lines, rule, line);
+            }
+            Item::Nothing => {
+                return;
+            }
+        }
+    }
 }
 
 // Where a rule begins. Each has the first one's name, and so as many bytes before its arguments.

@@ -1,0 +1,49 @@
+// Reading, in which an error is no end.
+ghost use Prim.Native.Nat.{_+_, _≤_};
+ghost use lib.ListN.{length};
+use octets::put_word;
+
+// So many bytes; or the reading failed.
+pub enum Got {
+    Bytes(usize),
+    Failed,
+}
+
+// Reads some bytes behind those that there are; how many, none at the end.
+pub fn read_behind(fd: i32, buf: &mut [u8], to: usize) -> Got {
+    if buf.len() < to {
+        return Got::Bytes(0);
+    }
+    let room = &mut buf[to..];
+    let got = libc::read(fd, room);
+    if got < 0 {
+        return Got::Failed;
+    }
+    Got::Bytes(io::count(got, room))
+}
+
+// A file from its start on, as far as there is room; how many bytes.
+pub fn read_file(fd: i32, buf: &mut [u8]) -> Got {
+    let mut to = 0;
+    while to < buf.len() {
+        match read_behind(fd, buf, to) {
+            Got::Bytes(n) => {
+                if n == 0 {
+                    return Got::Bytes(to);
+                }
+                to += n;
+            }
+            Got::Failed => {
+                return Got::Failed;
+            }
+        }
+    }
+    Got::Bytes(to)
+}
+
+// Says it to standard error, with the system's reason.
+pub fn cannot_read(path: &[u8], out: &mut [u8]) {
+    let a = put_word(out, 0, b"cannot read ");
+    let b = put_word(out, a, path);
+    os::fail(parts::part(out, 0, b));
+}

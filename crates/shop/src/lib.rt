@@ -1,0 +1,101 @@
+// A file of facts, read once: what is kept of it for every goal.
+use asking::Predicate;
+use builder::BuildAnswer;
+use checker::PlanAnswer;
+use doubles::part;
+use least::By;
+use prolog::TextAnswer;
+use refusal::Refusal;
+use rewrite::put_cells;
+
+// The facts' predicate, the number of the plan's branches, and where the lists end that stand one after another in one room: first the line of
+// each rule, 64 numbers, then the names, the table and the plan.
+pub struct Shop {
+    pub p: Predicate,
+    pub branches: usize,
+    pub names: usize,
+    pub table: usize,
+    pub plan: usize,
+}
+
+pub enum Loaded {
+    Kept(Shop),
+    Refused(Refusal),
+}
+
+// 64 lines, 2,048 names, 2,050 cells of a table and 6,082 of a plan.
+pub const KEPT: usize = 10244;
+
+// No text needs larger rooms for its table and its names, so that it is refused for what it is and never for the room.
+pub fn load(text: &[u8], room: &mut [u32], kept: &mut [u32]) -> Loaded {
+    let mut names = [0u32; 32766];
+    match prolog::read_text(text, room, &mut names) {
+        TextAnswer::Read(n, m) => keep(text, part(&names, 0, m), part(&*room, 0, n), kept),
+        TextAnswer::Refused(f) => Loaded::Refused(f),
+    }
+}
+
+// The least plan by the work of W-204, figure 0. A table that was read is not refused here, and 6,082 cells are enough for every plan.
+fn keep(text: &[u8], names: &[u32], table: &[u32], kept: &mut [u32]) -> Loaded {
+    let mut plan = [0u32; 6082];
+    match builder::build_plan(By::Work(0), table, &mut plan) {
+        BuildAnswer::Built(n, _) => Loaded::Kept(put_lists(
+            text,
+            names,
+            table,
+            part(&plan, 0, n),
+            kept,
+        )),
+        BuildAnswer::Refused(f) => Loaded::Refused(f),
+    }
+}
+
+fn put_lists(text: &[u8], names: &[u32], table: &[u32], plan: &[u32], kept: &mut [u32]) -> Shop {
+    marks::put_lines(text, kept);
+    let a = put_cells(kept, 64, names);
+    let b = put_cells(kept, a, table);
+    let c = put_cells(kept, b, plan);
+    Shop {
+        p: goaltext::predicate_of(text),
+        branches: branches_of(table, plan),
+        names: a,
+        table: b,
+        plan: c,
+    }
+}
+
+fn branches_of(table: &[u32], plan: &[u32]) -> usize {
+    match checker::check_plan(table, plan) {
+        PlanAnswer::Accepted(n) => n,
+        PlanAnswer::Refused(_) => 0,
+    }
+}
+
+pub fn names_in(kept: &[u32], shop: Shop) -> &[u32] {
+    part(kept, 64, shop.names)
+}
+
+pub fn table_in(kept: &[u32], shop: Shop) -> &[u32] {
+    part(kept, shop.names, shop.table)
+}
+
+pub fn plan_in(kept: &[u32], shop: Shop) -> &[u32] {
+    part(kept, shop.table, shop.plan)
+}
+
+// A number of a list; 0 where there is none.
+pub fn cell_at(cells: &[u32], at: usize) -> u32 {
+    if cells.len() <= at {
+        return 0;
+    }
+    cells[at]
+}
+
+// A rule, the first being row 0: its number as printed and its line.
+pub fn put_rule(out: &mut [u8], to: usize, kept: &[u32], row: usize) -> usize {
+    let line = cell_at(kept, row) as usize;
+    if row < 64 {
+        return message::put_rule(out, to, row + 1, line);
+    }
+    to
+}

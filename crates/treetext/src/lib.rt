@@ -1,0 +1,190 @@
+// A plan as an indented tree, in words: where it looks, what it finds there, and the rule at the end of each way.
+mod branch;
+
+ghost use Prim.Native.Nat.{_≤_};
+use doubles::part;
+use message::put_number_of;
+use octets::put_byte;
+use octets::put_word;
+use page::Page;
+use shop::Shop;
+use shop::cell_at;
+
+// Where the walk stands: the next cell of the plan, the next rule, the first being 0, and how far the room is filled.
+pub struct Stand {
+    pub at: usize,
+    pub rule: usize,
+    pub page: Page,
+}
+
+// What follows a branch: further branches, or the rule of this row.
+pub enum End {
+    Further,
+    Rule(usize),
+}
+
+fn end_of(open: usize, row: usize) -> End {
+    if open == 0 {
+        return End::Rule(row);
+    }
+    End::Further
+}
+
+// One further, and no further than the end.
+fn next(at: usize, end: usize) -> usize {
+    if at < end { at + 1 } else { end }
+}
+
+pub fn print(text: &[u8], kept: &[u32], shop: Shop, out: &mut [u8]) -> Page {
+    let table = shop::table_in(kept, shop);
+    let to = put_sizes(out, cell_at(table, 1) as usize, shop.branches);
+    let mut places = [0u32; 32];
+    let n = put_arguments(&mut places, 0, 0, cell_at(table, 0) as usize);
+    let first = Stand {
+        at: 0,
+        rule: 0,
+        page: Page { to, open: true },
+    };
+    let last = state(text, kept, shop, part(&places, 0, n), 0, first, out);
+    last.page
+}
+
+fn put_sizes(out: &mut [u8], rules: usize, branches: usize) -> usize {
+    let a = put_word(out, 0, b"plan of ");
+    let b = put_number_of(out, a, rules, b" rule, ", b" rules, ");
+    put_number_of(out, b, branches, b" branch\n", b" branches\n")
+}
+
+// An open place is one number: 16 times its owner and the number of its argument. The owner is 0 for the rule itself, and one more than the
+// number of a name.
+fn put_place(places: &mut [u32], to: usize, place: u32) -> usize {
+    if places.len() <= to {
+        return to;
+    }
+    places[to] = place;
+    to + 1
+}
+
+fn put_places(places: &mut [u32], to: usize, from: &[u32]) -> usize {
+    let mut on = to;
+    let mut i = 0;
+    while i < from.len() {
+        on = put_place(places, on, from[i]);
+        i += 1;
+    }
+    on
+}
+
+// The places of so many arguments, of which nothing has more than 8.
+fn put_arguments(places: &mut [u32], to: usize, owner: u32, count: usize) -> usize
+    requires { ⌜ owner ≤ 65536 ⌝ }
+{
+    let mut on = to;
+    let mut i = 0;
+    while i < 8 && i < count {
+        i += 1;
+        on = put_place(places, on, 16 * owner + i as u32);
+    }
+    on
+}
+
+// The places that are open below a branch: the one looked at is closed, and the arguments of the name found there stand in its stead.
+fn put_below(below: &mut [u32], places: &[u32], index: usize, c: u32) -> usize {
+    let a = put_places(below, 0, part(places, 0, index));
+    let b = put_arguments(below, a, cell::number(c) + 1, cell::arity_of(c));
+    put_places(
+        below,
+        b,
+        part(places, next(index, places.len()), places.len()),
+    )
+}
+
+// A branch's line, in a room that has space for it. `rule` is the rule at its end, where it has one.
+fn say_branch(
+    text: &[u8],
+    kept: &[u32],
+    shop: Shop,
+    depth: usize,
+    place: u32,
+    c: u32,
+    end: End,
+    page: Page,
+    out: &mut [u8],
+) -> Page {
+    let p = page::turn(out, page);
+    let a = branch::put_branch(out, p.to, text, shop::names_in(kept, shop), depth, place, c);
+    let b = put_end(out, a, kept, end);
+    Page {
+        to: put_byte(out, b, b'\n'),
+        open: p.open,
+    }
+}
+
+// After it the rule, where the way ends.
+fn put_end(out: &mut [u8], to: usize, kept: &[u32], end: End) -> usize {
+    match end {
+        End::Further => to,
+        End::Rule(row) => {
+            let on = put_word(out, to, b": ");
+            shop::put_rule(out, on, kept, row)
+        }
+    }
+}
+
+// The lines below a state with these open places: for each branch its own line, and then those below it. A rule has at most 32 symbols, so
+// that no way has more branches. No line is longer than a text, and the room is turned before each.
+fn state(
+    text: &[u8],
+    kept: &[u32],
+    shop: Shop,
+    places: &[u32],
+    depth: usize,
+    from: Stand,
+    out: &mut [u8],
+) -> Stand {
+    let plan = shop::plan_in(kept, shop);
+    let end = plan.len();
+    if places.len() == 0 {
+        return Stand {
+            at: next(from.at, end),
+            rule: next(from.rule, 64),
+            page: from.page,
+        };
+    }
+    if 32 <= depth {
+        return from;
+    }
+    let index = cell_at(plan, from.at) as usize;
+    let place = cell_at(places, index);
+    let count = next(from.at, end);
+    let mut left = cell_at(plan, count);
+    let mut here = Stand {
+        at: next(count, end),
+        rule: from.rule,
+        page: from.page,
+    };
+    while 0 < left {
+        left -= 1;
+        let c = cell_at(plan, here.at);
+        let mut below = [0u32; 32];
+        let n = put_below(&mut below, places, index, c);
+        let page = say_branch(
+            text,
+            kept,
+            shop,
+            depth,
+            place,
+            c,
+            end_of(n, here.rule),
+            here.page,
+            out,
+        );
+        here = Stand {
+            at: next(here.at, end),
+            rule: here.rule,
+            page,
+        };
+        here = state(text, kept, shop, part(&below, 0, n), depth + 1, here, out);
+    }
+    here
+}
