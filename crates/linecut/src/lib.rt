@@ -1,6 +1,15 @@
 // Lines cut out of bytes, and a goal out of its line.
+ghost use mathlib.Core.Path.{_≡_};
+ghost use mathlib.Core.Bool.{false};
+ghost use lib.Seq.{slice};
+ghost use Rattle.octets.specs.Octets.{Put};
+ghost use Rattle.linecut.specs.Cut.{lineEnd, inRemark, closes, bracketEnd};
+use octets::put_byte;
+
 // The first line feed between two places, or the second.
-pub fn line_end(buf: &[u8], from: usize, to: usize) -> usize {
+pub fn line_end(buf: &[u8], from: usize, to: usize) -> usize
+    ensures { λ r. ⌜ r ≡ lineEnd (now (buf .entry)) from to ⌝ }
+{
     let mut i = from;
     while i < buf.len() && i < to {
         if buf[i] == 10 {
@@ -12,19 +21,23 @@ pub fn line_end(buf: &[u8], from: usize, to: usize) -> usize {
 }
 
 // The bytes between two places, moved to the front; how many they are.
-pub fn move_front(buf: &mut [u8], from: usize, to: usize) -> usize {
+pub fn move_front(buf: &mut [u8], from: usize, to: usize) -> usize
+    ensures { λ r. ⌜ Put (now (buf .entry)) (now (buf .exit)) 0 (slice from to (now (buf .entry))) r ⌝ }
+{
     let mut i = from;
     let mut n = 0;
     while i < buf.len() && i < to {
-        buf[n] = buf[i];
+        let byte = buf[i];
+        n = put_byte(buf, n, byte);
         i += 1;
-        n += 1;
     }
     n
 }
 
 // Whether a byte stands in a comment. No name and no number has a `%`, so that each begins one; a line feed ends it.
-fn in_remark(remark: bool, byte: u8) -> bool {
+fn in_remark(remark: bool, byte: u8) -> bool
+    ensures { λ r. ⌜ r ≡ inRemark remark byte ⌝ }
+{
     if remark {
         return byte != 10;
     }
@@ -32,7 +45,9 @@ fn in_remark(remark: bool, byte: u8) -> bool {
 }
 
 // A closing bracket that is no comment's.
-fn closes(remark: bool, byte: u8) -> bool {
+fn closes(remark: bool, byte: u8) -> bool
+    ensures { λ r. ⌜ r ≡ closes remark byte ⌝ }
+{
     if remark {
         return false;
     }
@@ -40,7 +55,9 @@ fn closes(remark: bool, byte: u8) -> bool {
 }
 
 // Past the last bracket of a goal: what follows it is layout, and perhaps a full stop. 0 where there is no bracket.
-pub fn goal_end(goal: &[u8]) -> usize {
+pub fn goal_end(goal: &[u8]) -> usize
+    ensures { λ r. ⌜ r ≡ bracketEnd false 0 0 (now (goal .entry)) ⌝ }
+{
     let mut end = 0;
     let mut remark = false;
     let mut i = 0;
