@@ -115,43 +115,51 @@ fn narrow(line: usize) -> u32 {
     if line < 4294967296 { line as u32 } else { 0 }
 }
 
-// Puts a number at a place of a list that has one.
-fn put_at(lines: &mut [u32], at: usize, line: usize) {
-    if at < lines.len() {
-        lines[at] = narrow(line);
+// Puts a line at a place of a list that has one; the place after it.
+fn put_at(lines: &mut [u32], at: usize, line: usize) -> usize {
+    if lines.len() <= at {
+        return at;
     }
+    lines[at] = narrow(line);
+    at + 1
 }
 
-// How many line feeds stand between two places.
-fn feeds_between(text: &[u8], from: usize, to: usize) -> usize {
+// The line of a place, by that of one before it. No text has so many that they do not fit.
+fn line_on(text: &[u8], from: usize, to: usize, line: usize) -> usize {
     let mut i = from;
-    let mut n = 0;
+    let mut n = line;
     while i < text.len() && i < to {
-        n += feed(text[i]);
+        n = further(n, feed(text[i]));
         i += 1;
     }
     n
 }
 
+// So many lines further down. No text has so many that they do not fit.
+pub fn further(line: usize, more: usize) -> usize {
+    if more <= usize::MAX - line {
+        return line + more;
+    }
+    line
+}
+
 // The line of each rule, put at the front of a list: that of its arguments, which is that of its name.
 pub fn put_lines(text: &[u8], lines: &mut [u32]) {
     let mut spot = symbols::begin(text);
-    let mut line = 1 + feeds_between(text, 0, spot.at);
-    let mut rule = 0;
-    put_at(lines, rule, line);
+    let mut line = line_on(text, 0, spot.at, 1);
+    let mut rule = put_at(lines, 0, line);
     let mut turns = text.len();
     while 0 < turns {
         turns -= 1;
         match item_at(text, spot) {
             Item::Symbol(_, to) => {
-                line += feeds_between(text, spot.at, to.at);
+                line = line_on(text, spot.at, to.at, line);
                 spot = to;
             }
             Item::Rule(to) => {
-                line += feeds_between(text, spot.at, to.at);
+                line = line_on(text, spot.at, to.at, line);
+                rule = put_at(lines, rule, line);
                 spot = to;
-                rule += 1;
-                put_at(lines, rule, line);
             }
             Item::Nothing => {
                 return;

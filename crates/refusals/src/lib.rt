@@ -24,20 +24,12 @@ pub fn put_refusal(
     message::put_refused(
         out,
         to,
-        further(above, mark.line),
+        marks::further(above, mark.line),
         mark.column,
         whose,
         reason,
         parts::part(&said, 0, n),
     )
-}
-
-// So many lines further down. No input is so long that there are too many.
-fn further(above: usize, line: usize) -> usize {
-    if line <= usize::MAX - above {
-        return above + line;
-    }
-    line
 }
 
 // What is expected where a text goes on no further.

@@ -1,7 +1,7 @@
 use native.Mathlib.Omega.{arith}
 use borrow.Author.Tests.{ne-eqb}
-use Rattle.desk.proofs.place.feed.Statement.{statement}
-use Rattle.desk.proofs.place.feed.Tie as tie
+use Rattle.marks.proofs.feed.Statement.{statement}
+use Rattle.marks.proofs.feed.Tie as tie
 
 returns : tie.Need-returns
 returns c = (rw (c .if1 .taken), omega arith)

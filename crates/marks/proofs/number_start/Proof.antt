@@ -1,8 +1,8 @@
 use Prim.Native.Nat.{_≤_}
 use lib.ListN.{length}
 use borrow.Author.Needs.{needs}
-use Rattle.desk.proofs.place.number_start.Statement.{statement}
-use Rattle.desk.proofs.place.number_start.Tie as tie
+use Rattle.marks.proofs.number_start.Statement.{statement}
+use Rattle.marks.proofs.number_start.Tie as tie
 
 abbrev Inv-loop : tie.InvT-loop
 Inv-loop text end i₀ i = i ≤ length text

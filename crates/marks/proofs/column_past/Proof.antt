@@ -1,8 +1,8 @@
 use native.Mathlib.Omega.{arith}
 use borrow.Author.Tests.{ne-eqb}
 use borrow.Author.Needs.{needs}
-use Rattle.desk.proofs.place.column_past.Statement.{statement}
-use Rattle.desk.proofs.place.column_past.Tie as tie
+use Rattle.marks.proofs.column_past.Statement.{statement}
+use Rattle.marks.proofs.column_past.Tie as tie
 
 add-result : tie.Need-add-result
 add-result c = search needs

@@ -1,12 +1,12 @@
 use borrow.Author.Needs.{needs}
-use Rattle.desk.proofs.place.symbol_at.Statement.{statement}
-use Rattle.desk.proofs.place.symbol_at.Tie as tie
+use Rattle.marks.proofs.arguments_at.Statement.{statement}
+use Rattle.marks.proofs.arguments_at.Tie as tie
 
 abbrev Inv-loop : tie.InvT-loop
-Inv-loop text symbol spot₀ left₀ turns₀ spot left turns = Unit {0}
+Inv-loop text rule spot₀ left₀ turns₀ spot left turns = Unit {0}
 
 abbrev μ-loop : tie.MeasureT-loop
-μ-loop text symbol spot₀ left₀ turns₀ spot left turns = turns
+μ-loop text rule spot₀ left₀ turns₀ spot left turns = turns
 
 begin-requires : tie.Need-begin-requires Inv-loop μ-loop
 begin-requires c κs = search needs
@@ -20,14 +20,8 @@ sub-turns c = search needs
 item-at-requires : tie.Need-item-at-requires Inv-loop μ-loop
 item-at-requires c κs = search needs
 
-enum-known-start : tie.Need-enum-known-start Inv-loop μ-loop
-enum-known-start c = search needs
-
-returns : tie.Need-returns Inv-loop μ-loop
-returns c = search needs
-
-sub-left : tie.Need-sub-left Inv-loop μ-loop
-sub-left c = search needs
+enum-known-to : tie.Need-enum-known-to Inv-loop μ-loop
+enum-known-to c = search needs
 
 loop-less : tie.Need-loop-less Inv-loop μ-loop
 loop-less c = search needs
@@ -35,8 +29,11 @@ loop-less c = search needs
 loop-again : tie.Need-loop-again Inv-loop μ-loop
 loop-again c = search needs
 
-enum-known-to : tie.Need-enum-known-to Inv-loop μ-loop
-enum-known-to c = search needs
+enum-known-to-2 : tie.Need-enum-known-to-2 Inv-loop μ-loop
+enum-known-to-2 c = search needs
+
+sub-left : tie.Need-sub-left Inv-loop μ-loop
+sub-left c = search needs
 
 loop-less-2 : tie.Need-loop-less-2 Inv-loop μ-loop
 loop-less-2 c = search needs
@@ -47,14 +44,17 @@ loop-again-2 c = search needs
 enum-told : tie.Need-enum-told Inv-loop μ-loop
 enum-told c = search needs
 
+returns : tie.Need-returns Inv-loop μ-loop
+returns c = search needs
+
 returns-2 : tie.Need-returns-2 Inv-loop μ-loop
 returns-2 c = search needs
 
 returns-3 : tie.Need-returns-3 Inv-loop μ-loop
 returns-3 c = search needs
 
-pub symbol-at-spec : {M : Type 1} → statement M
-symbol-at-spec =
+pub arguments-at-spec : {M : Type 1} → statement M
+arguments-at-spec =
     tie.close
     (tie.spec
     Inv-loop
@@ -63,14 +63,14 @@ symbol-at-spec =
     loop-holds
     sub-turns
     item-at-requires
-    enum-known-start
-    returns
-    sub-left
+    enum-known-to
     loop-less
     loop-again
-    enum-known-to
+    enum-known-to-2
+    sub-left
     loop-less-2
     loop-again-2
     enum-told
+    returns
     returns-2
     returns-3)

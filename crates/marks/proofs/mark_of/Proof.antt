@@ -2,10 +2,10 @@ use borrow.Author.Tests.{ltb-true, ltb-false}
 use Prim.Native.Nat.{_-_}
 use lib.ListN.{length}
 use native.Mathlib.Omega.{arith}
-use Rattle.desk.proofs.MarkLaws.{Marked, marked-first, marked-next, marked-at, marked-end}
+use Rattle.marks.proofs.MarkLaws.{Marked, marked-first, marked-next, marked-at, marked-end}
 use borrow.Author.Needs.{needs}
-use Rattle.desk.proofs.place.mark_of.Statement.{statement}
-use Rattle.desk.proofs.place.mark_of.Tie as tie
+use Rattle.marks.proofs.mark_of.Statement.{statement}
+use Rattle.marks.proofs.mark_of.Tie as tie
 
 abbrev Inv-loop : tie.InvT-loop
 Inv-loop text at line₀ column₀ i₀ line column i = Marked text at i line column

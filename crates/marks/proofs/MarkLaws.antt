@@ -8,7 +8,7 @@ use native.Mathlib.Omega.{arith}
 use lib.Dec.{eqb}
 use lib.ListN.{length, take, getD}
 use lib.Seq.{take-suc, take-all}
-use Rattle.desk.specs.Marks.{feeds, columnAfter}
+use Rattle.marks.specs.Marks.{feeds, columnAfter}
 
 feeds-last : (bytes : List ℕ) (b : ℕ) → feeds (bytes ++ (b ∷ [])) ≡ feeds bytes + cond (eqb b 10) 1 0
 unfolding feeds
