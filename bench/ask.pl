@@ -10,11 +10,14 @@ make(Seed) :-
     names(Names),
     forall(member(Name, Names), goals(Name)).
 
-goals(Name) :-
+goals(Name) :- goals(Name, 8).
+
+% so many of them, kind after kind
+goals(Name, Count) :-
     facts(Name, Facts),
     file(Name, '.goals', File),
     open(File, write, Out, [encoding(iso_latin_1)]),
-    forall(between(1, 8, Kind), (goal(Kind, Facts, Goal), put_goal(Goal, Out))),
+    forall(between(1, Count, Number), (Kind is (Number - 1) mod 8 + 1, goal(Kind, Facts, Goal), put_goal(Goal, Out))),
     close(Out).
 
 % The first of distinct variables; others like one rule or several, some of their terms replaced by variables, which may be repeated; the last
@@ -129,11 +132,18 @@ compared([Line|Lines], Name, Facts, Answers) :-
     assertz(asked(Goal, Facts)),
     expected(Goal, Facts, Expected),
     length(Expected, Count),
-    ( append(Said, [Last|Rest], Answers), \+ sub_string(Last, 0, _, _, "rule ") -> true ; Said = Answers, Last = "", Rest = [] ),
-    ( maplist(says, Said, Expected), format(string(Start), "~d rules fit, ", [Count]), sub_string(Last, 0, _, _, Start) -> true
+    ( Answers = [Head|After] -> true ; Head = "", After = [] ),
+    ( append(Said, [Last|Rest], After), \+ sub_string(Last, 0, _, _, "rule ") -> true ; Said = After, Last = "", Rest = [] ),
+    ( head(Line, Head), maplist(says, Said, Expected), counts(Count, Start), sub_string(Last, 0, _, _, Start) -> true
     ; note(Name, Line)
     ),
     compared(Lines, Name, Facts, Rest).
+
+% The line before the answers, with the goal without its full stop; and the start of the one after them.
+head(Line, Head) :- ( string_concat(Goal, ".", Line) -> true ; Goal = Line ), string_concat("?- ", Goal, Head).
+
+counts(1, "1 rule fits, ") :- !.
+counts(Count, Start) :- format(string(Start), "~d rules fit, ", [Count]).
 
 note(Name, What) :-
     assertz(differ(What)),

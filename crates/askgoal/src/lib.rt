@@ -1,12 +1,10 @@
 // One goal: read, run, and what each rule that fits says.
-mod say;
-
 use answer::RunAnswer;
 use doubles::part;
+use goalsay::Source;
 use goaltext::GoalText;
 use instance::RepliesAnswer;
 use page::Page;
-pub use say::Source;
 use shop::Shop;
 use term::End;
 
@@ -39,7 +37,7 @@ pub fn ask(
         &mut new,
     ) {
         GoalText::Read(n, m) => {
-            let first = say::say_goal(goal, source, out, page);
+            let first = goalsay::say_goal(goal, source, out, page);
             answer(
                 text,
                 kept,
@@ -52,7 +50,7 @@ pub fn ask(
                 first,
             )
         }
-        GoalText::Refused(f) => say::refuse(goal, f, source, out, page),
+        GoalText::Refused(f) => goalsay::refuse(goal, f, source, out, page),
     }
 }
 
@@ -83,7 +81,7 @@ fn answer(
         out,
         page,
     );
-    say::say_counts(rules, found.tried, shop.branches, out, last)
+    goalsay::say_counts(rules, found.tried, shop.branches, out, last)
 }
 
 // How many rules fit, how many branches were tried, and how many cells the answers have together.
@@ -131,15 +129,16 @@ fn say_all(
     out: &mut [u8],
     page: Page,
 ) -> Page {
-    let width = shop.p.width;
+    let p = shop.p;
+    let width = p.width;
     let mut now = page;
     let mut at = 0;
     let mut i = 0;
     while i < hits.len() {
-        let row = hits[i] as usize;
+        let row = hits[i];
         i += 1;
         let end = terms_end(cells, at, width);
-        now = say::say_answer(
+        now = goalsay::say_answer(
             text,
             kept,
             shop,

@@ -1,6 +1,6 @@
 // The goals: the arguments after the file, and where there are none the lines of standard input.
 use crate::input;
-use askgoal::Source;
+use goalsay::Source;
 use page::Page;
 use shop::Shop;
 

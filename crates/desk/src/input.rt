@@ -1,7 +1,7 @@
 // Goals from standard input, one to a line; the last may have no line feed.
 use crate::files;
-use askgoal::Source;
 use files::Got;
+use goalsay::Source;
 use lex::fact::Head;
 use libc::STDIN_FILENO;
 use linecut::line_end;

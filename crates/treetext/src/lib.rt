@@ -10,11 +10,12 @@ use page::Page;
 use shop::Shop;
 use shop::cell_at;
 
-// Where the walk stands: the next cell of the plan, the next rule, the first being 0, and how far the room is filled.
+// Where the walk stands: the next cell of the plan, the next rule, the first being 0; and the page.
 pub struct Stand {
     pub at: usize,
     pub rule: usize,
-    pub page: Page,
+    pub to: usize,
+    pub open: bool,
 }
 
 // What follows a branch: further branches, or the rule of this row.
@@ -43,10 +44,14 @@ pub fn print(text: &[u8], kept: &[u32], shop: Shop, out: &mut [u8]) -> Page {
     let first = Stand {
         at: 0,
         rule: 0,
-        page: Page { to, open: true },
+        to,
+        open: true,
     };
     let last = state(text, kept, shop, part(&places, 0, n), 0, first, out);
-    last.page
+    Page {
+        to: last.to,
+        open: last.open,
+    }
 }
 
 fn put_sizes(out: &mut [u8], rules: usize, branches: usize) -> usize {
@@ -148,7 +153,8 @@ fn state(
         return Stand {
             at: next(from.at, end),
             rule: next(from.rule, 64),
-            page: from.page,
+            to: from.to,
+            open: from.open,
         };
     }
     if 32 <= depth {
@@ -161,7 +167,8 @@ fn state(
     let mut here = Stand {
         at: next(count, end),
         rule: from.rule,
-        page: from.page,
+        to: from.to,
+        open: from.open,
     };
     while 0 < left {
         left -= 1;
@@ -176,14 +183,15 @@ fn state(
             place,
             c,
             end_of(n, here.rule),
-            here.page,
+            Page {
+                to: here.to,
+                open: here.open,
+            },
             out,
         );
-        here = Stand {
-            at: next(here.at, end),
-            rule: here.rule,
-            page,
-        };
+        here.at = next(here.at, end);
+        here.to = page.to;
+        here.open = page.open;
         here = state(text, kept, shop, part(&below, 0, n), depth + 1, here, out);
     }
     here
