@@ -1,6 +1,5 @@
 // Reading, in which an error is no end.
-ghost use Prim.Native.Nat.{_+_, _≤_};
-ghost use lib.ListN.{length};
+ghost use Prim.Native.Nat.{_≤_, _<_};
 use octets::put_word;
 
 // So many bytes; or the reading failed.
@@ -22,8 +21,21 @@ pub fn read_behind(fd: i32, buf: &mut [u8], to: usize) -> Got {
     Got::Bytes(io::count(got, room))
 }
 
+// So many bytes further, and no further than the end.
+pub fn ahead(to: usize, n: usize, end: usize) -> usize
+    ensures { λ r. ⌜ (r ≤ end) × (to < end → 0 < n → to < r) ⌝ }
+{
+    if end < to {
+        return end;
+    }
+    if end - to < n {
+        return end;
+    }
+    to + n
+}
+
 // A file from its start on, as far as there is room; how many bytes.
-pub fn read_file(fd: i32, buf: &mut [u8]) -> Got {
+fn read_file(fd: i32, buf: &mut [u8]) -> Got {
     let mut to = 0;
     while to < buf.len() {
         match read_behind(fd, buf, to) {
@@ -31,7 +43,7 @@ pub fn read_file(fd: i32, buf: &mut [u8]) -> Got {
                 if n == 0 {
                     return Got::Bytes(to);
                 }
-                to += n;
+                to = ahead(to, n, buf.len());
             }
             Got::Failed => {
                 return Got::Failed;
@@ -39,6 +51,17 @@ pub fn read_file(fd: i32, buf: &mut [u8]) -> Got {
         }
     }
     Got::Bytes(to)
+}
+
+// The file of that name.
+pub fn read_path(path: &[u8], buf: &mut [u8]) -> Got {
+    let fd = os::open_read(path);
+    if fd < 0 {
+        return Got::Failed;
+    }
+    let got = read_file(fd, buf);
+    libc::close(fd);
+    got
 }
 
 // Says it to standard error, with the system's reason.

@@ -4,8 +4,13 @@ use goalsay::Source;
 use page::Page;
 use shop::Shop;
 
+pub fn answer_all(text: &[u8], kept: &[u32], shop: Shop, room: &mut [u32], out: &mut [u8]) {
+    let last = ask_all(text, kept, shop, room, out);
+    page::flush(out, last);
+}
+
 // One buffer for an argument or for lines. It has one byte more than a goal may have, so that too long a one is seen to be one.
-pub fn ask_all(text: &[u8], kept: &[u32], shop: Shop, room: &mut [u32], out: &mut [u8]) -> Page {
+fn ask_all(text: &[u8], kept: &[u32], shop: Shop, room: &mut [u32], out: &mut [u8]) -> Page {
     let mut buf = [0u8; 65534];
     let count = os::arg_count();
     if count < 3 {

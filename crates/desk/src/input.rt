@@ -45,9 +45,7 @@ pub fn ask_lines(
         turns -= 1;
         page = before_reading(buf, from, to, out, page);
         let piece = next_piece(buf, from, to);
-        if !inside {
-            page = ask_piece(text, kept, shop, buf, piece, above, room, out, page);
-        }
+        page = ask_piece(text, kept, shop, buf, piece, inside, above, room, out, page);
         let kind = piece.kind;
         match kind {
             Kind::Line => {
@@ -61,7 +59,6 @@ pub fn ask_lines(
                 return page;
             }
             Kind::Failed => {
-                os::fail(b"cannot read standard input");
                 return page;
             }
         }
@@ -79,26 +76,42 @@ fn before_reading(buf: &[u8], from: usize, to: usize, out: &[u8], page: Page) ->
     page::flush(out, page)
 }
 
-// A line that has nothing but layout and comments is no goal. One that is too long is refused without a look.
+// A line that has nothing but layout and comments is no goal, and neither is the rest of one that is too long, which is refused without a look.
 fn ask_piece(
     text: &[u8],
     kept: &[u32],
     shop: Shop,
     buf: &[u8],
     piece: Piece,
+    inside: bool,
     above: usize,
     room: &mut [u32],
     out: &mut [u8],
     page: Page,
 ) -> Page {
     let goal = parts::part(buf, piece.start, piece.end);
-    if is_goal(goal, piece.kind) {
+    let kind = piece.kind;
+    if is_failed(kind) {
+        os::fail(b"cannot read standard input");
+        return page;
+    }
+    if is_goal(goal, kind, inside) {
         return askgoal::ask(text, kept, shop, goal, Source::Line(above), room, out, page);
     }
     page
 }
 
-fn is_goal(goal: &[u8], kind: Kind) -> bool {
+fn is_failed(kind: Kind) -> bool {
+    match kind {
+        Kind::Failed => true,
+        _ => false,
+    }
+}
+
+fn is_goal(goal: &[u8], kind: Kind, inside: bool) -> bool {
+    if inside {
+        return false;
+    }
     match kind {
         Kind::Part => true,
         Kind::Failed => false,
@@ -138,7 +151,7 @@ fn read_piece(buf: &mut [u8], have: usize) -> Piece {
     while to < buf.len() {
         match files::read_behind(STDIN_FILENO, buf, to) {
             Got::Bytes(n) => {
-                let all = to + n;
+                let all = files::ahead(to, n, buf.len());
                 let end = line_end(buf, to, all);
                 if end < all {
                     return Piece {

@@ -8,7 +8,9 @@ mod input;
 use files::Got;
 use lex::name::same_bytes;
 use message::Whose;
+use refusal::Refusal;
 use shop::Loaded;
+use shop::Shop;
 
 // What the first argument asks for: answers to goals, of the file that it names; the plan of a file; the help; the version; or nothing that
 // there is.
@@ -96,32 +98,30 @@ fn lend(path: &[u8], wish: Wish) {
 
 // One byte more is read than a text may have, so that too long a file is seen to be one.
 fn open(path: &[u8], wish: Wish, room: &mut [u32], kept: &mut [u32], out: &mut [u8]) {
-    let fd = os::open_read(path);
-    if fd < 0 {
-        files::cannot_read(path, out);
-        return;
-    }
     let mut text = [0u8; 65536];
-    match files::read_file(fd, &mut text) {
+    match files::read_path(path, &mut text) {
         Got::Bytes(n) => load(path, parts::part(&text, 0, n), wish, room, kept, out),
         Got::Failed => files::cannot_read(path, out),
     }
-    libc::close(fd);
 }
 
 fn load(path: &[u8], text: &[u8], wish: Wish, room: &mut [u32], kept: &mut [u32], out: &mut [u8]) {
     match shop::load(text, room, kept) {
-        Loaded::Kept(shop) => {
-            let last = match wish {
-                Wish::Tree => treetext::print(text, kept, shop, out),
-                _ => goals::ask_all(text, kept, shop, room, out),
-            };
-            page::flush(out, last);
-        }
-        Loaded::Refused(f) => {
-            let a = octets::put_word(out, 0, path);
-            let b = refusals::put_refusal(out, a, text, 0, Whose::Facts, f);
-            page::complain(out, b);
-        }
+        Loaded::Kept(shop) => match wish {
+            Wish::Tree => show_tree(text, kept, shop, out),
+            _ => goals::answer_all(text, kept, shop, room, out),
+        },
+        Loaded::Refused(f) => refuse(path, text, f, out),
     }
+}
+
+fn show_tree(text: &[u8], kept: &[u32], shop: Shop, out: &mut [u8]) {
+    let last = treetext::print(text, kept, shop, out);
+    page::flush(out, last);
+}
+
+fn refuse(path: &[u8], text: &[u8], f: Refusal, out: &mut [u8]) {
+    let a = octets::put_word(out, 0, path);
+    let b = refusals::put_refusal(out, a, text, 0, Whose::Facts, f);
+    page::complain(out, b);
 }
