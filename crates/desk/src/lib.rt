@@ -1,13 +1,8 @@
 // The program `ask`: a shop's rules and its goals in Prolog text, answered in Prolog text. What is read and what is answered is decided and
-// promised in the libraries. This crate finds the arguments, the file and the lines; it is proved safe and ending.
-mod files;
-mod goals;
-mod help;
-mod input;
-
-use files::Got;
+// promised in the libraries. This crate finds the arguments and the file; it is proved safe and ending.
 use lex::name::same_bytes;
 use message::Whose;
+use reading::Got;
 use refusal::Refusal;
 use shop::Loaded;
 use shop::Shop;
@@ -47,33 +42,33 @@ pub fn answer() {
     match wish {
         Wish::Answers => {
             if count < 2 {
-                help::refuse();
+                helptext::refuse();
                 return;
             }
             open_argument(1, wish);
         }
         Wish::Tree => {
             if count != 3 {
-                help::refuse();
+                helptext::refuse();
                 return;
             }
             open_argument(2, wish);
         }
         Wish::Help => {
             if count != 2 {
-                help::refuse();
+                helptext::refuse();
                 return;
             }
-            help::print();
+            helptext::print();
         }
         Wish::Version => {
             if count != 2 {
-                help::refuse();
+                helptext::refuse();
                 return;
             }
-            help::version();
+            helptext::version();
         }
-        Wish::Nothing => help::refuse(),
+        Wish::Nothing => helptext::refuse(),
     }
 }
 
@@ -99,9 +94,9 @@ fn lend(path: &[u8], wish: Wish) {
 // One byte more is read than a text may have, so that too long a file is seen to be one.
 fn open(path: &[u8], wish: Wish, room: &mut [u32], kept: &mut [u32], out: &mut [u8]) {
     let mut text = [0u8; 65536];
-    match files::read_path(path, &mut text) {
+    match reading::read_path(path, &mut text) {
         Got::Bytes(n) => load(path, parts::part(&text, 0, n), wish, room, kept, out),
-        Got::Failed => files::cannot_read(path, out),
+        Got::Failed => reading::cannot_read(path, out),
     }
 }
 
@@ -109,7 +104,7 @@ fn load(path: &[u8], text: &[u8], wish: Wish, room: &mut [u32], kept: &mut [u32]
     match shop::load(text, room, kept) {
         Loaded::Kept(shop) => match wish {
             Wish::Tree => show_tree(text, kept, shop, out),
-            _ => goals::answer_all(text, kept, shop, room, out),
+            _ => askall::answer_all(text, kept, shop, room, out),
         },
         Loaded::Refused(f) => refuse(path, text, f, out),
     }

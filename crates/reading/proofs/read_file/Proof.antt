@@ -3,8 +3,8 @@ use Prim.Native.Nat.{_-_}
 use mathlib.Core.Path.{_≡_}
 use lib.ListN.{length}
 use borrow.Author.Needs.{needs}
-use Rattle.desk.proofs.files.read_file.Statement.{statement}
-use Rattle.desk.proofs.files.read_file.Tie as tie
+use Rattle.reading.proofs.read_file.Statement.{statement}
+use Rattle.reading.proofs.read_file.Tie as tie
 
 abbrev Inv-loop : tie.InvT-loop
 Inv-loop fd buf₀ to₀ buf to = length buf ≡ length buf₀
@@ -31,9 +31,7 @@ ahead-requires : tie.Need-ahead-requires Inv-loop μ-loop
 ahead-requires c κs = search needs
 
 loop-less : tie.Need-loop-less Inv-loop μ-loop
-loop-less c =
-    let less = c .ahead .ensures .1 (omega arith) (omega (arith, c .before .if1 .left)) in
-    omega arith
+loop-less c = omega (arith, c .ahead .ensures, c .before .if1 .left)
 
 loop-again : tie.Need-loop-again Inv-loop μ-loop
 loop-again c = search needs

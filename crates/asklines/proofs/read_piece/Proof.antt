@@ -3,8 +3,8 @@ use Prim.Native.Nat.{_-_}
 use mathlib.Core.Path.{_≡_}
 use lib.ListN.{length}
 use borrow.Author.Needs.{needs}
-use Rattle.desk.proofs.input.read_piece.Statement.{statement}
-use Rattle.desk.proofs.input.read_piece.Tie as tie
+use Rattle.asklines.proofs.read_piece.Statement.{statement}
+use Rattle.asklines.proofs.read_piece.Tie as tie
 
 abbrev Inv-loop : tie.InvT-loop
 Inv-loop buf₀ have to₀ buf to = length buf ≡ length buf₀
@@ -46,9 +46,7 @@ returns-2 : tie.Need-returns-2 Inv-loop μ-loop
 returns-2 c = search needs
 
 loop-less : tie.Need-loop-less Inv-loop μ-loop
-loop-less c =
-    let less = c .before .before .before .before .ahead .ensures .1 (omega arith) (omega (arith, c .if2 .left)) in
-    omega arith
+loop-less c = omega (arith, c .before .before .before .before .ahead .ensures, c .if2 .left)
 
 loop-again : tie.Need-loop-again Inv-loop μ-loop
 loop-again c = search needs

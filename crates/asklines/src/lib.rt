@@ -1,11 +1,10 @@
 // Goals from standard input, one to a line; the last may have no line feed.
-use crate::files;
-use files::Got;
 use goalsay::Source;
 use lex::fact::Head;
 use libc::STDIN_FILENO;
 use linecut::line_end;
 use page::Page;
+use reading::Got;
 use shop::Shop;
 
 // A line; a part of one that fills the buffer, which goes on; the last line; or the reading failed.
@@ -149,9 +148,9 @@ fn next_piece(buf: &mut [u8], from: usize, to: usize) -> Piece {
 fn read_piece(buf: &mut [u8], have: usize) -> Piece {
     let mut to = have;
     while to < buf.len() {
-        match files::read_behind(STDIN_FILENO, buf, to) {
+        match reading::read_behind(STDIN_FILENO, buf, to) {
             Got::Bytes(n) => {
-                let all = files::ahead(to, n, buf.len());
+                let all = reading::ahead(to, n, buf.len());
                 let end = line_end(buf, to, all);
                 if end < all {
                     return Piece {

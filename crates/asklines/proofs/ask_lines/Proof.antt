@@ -2,8 +2,8 @@ use mathlib.Core.Path.{_≡_}
 use Prim.Native.Nat.{_+_, _^_, _<_}
 use lib.ListN.{length}
 use borrow.Author.Needs.{needs}
-use Rattle.desk.proofs.input.ask_lines.Statement.{statement}
-use Rattle.desk.proofs.input.ask_lines.Tie as tie
+use Rattle.asklines.proofs.ask_lines.Statement.{statement}
+use Rattle.asklines.proofs.ask_lines.Tie as tie
 
 abbrev Inv-loop : tie.InvT-loop
 Inv-loop text kept shop buf₀ room₀ out₀ page₀ from₀ to₀ above₀ inside₀ turns₀ buf room out page from to above inside turns =

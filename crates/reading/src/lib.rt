@@ -1,5 +1,6 @@
 // Reading, in which an error is no end.
-ghost use Prim.Native.Nat.{_≤_, _<_};
+ghost use mathlib.Core.Path.{_≡_};
+ghost use Prim.Native.Nat.{_+_, min};
 use octets::put_word;
 
 // So many bytes; or the reading failed.
@@ -23,7 +24,7 @@ pub fn read_behind(fd: i32, buf: &mut [u8], to: usize) -> Got {
 
 // So many bytes further, and no further than the end.
 pub fn ahead(to: usize, n: usize, end: usize) -> usize
-    ensures { λ r. ⌜ (r ≤ end) × (to < end → 0 < n → to < r) ⌝ }
+    ensures { λ r. ⌜ r ≡ min end (to + n) ⌝ }
 {
     if end < to {
         return end;

@@ -1,5 +1,4 @@
 // The goals: the arguments after the file, and where there are none the lines of standard input.
-use crate::input;
 use goalsay::Source;
 use page::Page;
 use shop::Shop;
@@ -14,7 +13,7 @@ fn ask_all(text: &[u8], kept: &[u32], shop: Shop, room: &mut [u32], out: &mut [u
     let mut buf = [0u8; 65534];
     let count = os::arg_count();
     if count < 3 {
-        return input::ask_lines(text, kept, shop, &mut buf, room, out);
+        return asklines::ask_lines(text, kept, shop, &mut buf, room, out);
     }
     ask_arguments(text, kept, shop, count, &mut buf, room, out)
 }

@@ -2,8 +2,8 @@ use Prim.Native.Nat.{_-_}
 use mathlib.Core.Path.{_≡_}
 use lib.ListN.{length}
 use borrow.Author.Needs.{needs}
-use Rattle.desk.proofs.goals.ask_arguments.Statement.{statement}
-use Rattle.desk.proofs.goals.ask_arguments.Tie as tie
+use Rattle.askall.proofs.ask_arguments.Statement.{statement}
+use Rattle.askall.proofs.ask_arguments.Tie as tie
 
 abbrev Inv-loop : tie.InvT-loop
 Inv-loop text kept shop count buf₀ room₀ out₀ page₀ i₀ buf room out page i = (length buf ≡ length buf₀) × (length room ≡ length room₀) × (length out ≡ length out₀)
