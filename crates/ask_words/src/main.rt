@@ -52,6 +52,16 @@ fn texts() {
     facts(b"p(a).p(b).");
 }
 
+// TEXT at the end, inside a comment too; at a tab.
+fn ends() {
+    facts(b"p(a) %c");
+    facts(b"%c");
+    facts(b"p(%c");
+    facts(b"p(a). q");
+    facts(b"p(f(1, 2, 3, 4");
+    facts(b"p(a,\tb).");
+}
+
 // OTHER, WIDTH, LONG, TWICE and SAME: the symbol, or where the rule begins.
 fn tables() {
     facts(b"p(a).\n  q(b).");
@@ -73,6 +83,7 @@ fn goals() {
 
 fn main() {
     texts();
+    ends();
     tables();
     goals();
     // BYTES

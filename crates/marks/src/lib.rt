@@ -47,7 +47,7 @@ fn column_past(byte: u8, column: usize) -> usize
     if byte == 10 { 1 } else { column + 1 }
 }
 
-pub fn is_digit(byte: u8) -> bool {
+fn is_digit(byte: u8) -> bool {
     48 <= byte && byte <= 57
 }
 
