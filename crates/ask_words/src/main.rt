@@ -67,7 +67,7 @@ fn tables() {
     facts(b"p(a).\n  q(b).");
     facts(b"\n p(a,a,a,a,a,a,a,a,a).");
     facts(
-        b"p(a).\np(f(f(f(f(f(f(f(f(f(f(f(f(f(f(f(f(f(f(f(f(f(f(f(f(f(f(f(f(f(f(f(f(a)))))))))))))))))))))))))))))))))).",
+        b"p(a).\np(f(f(f(f(f(f(f(f(f(f(f(f(f(f(f(f(f(f(f(f(f(f(f(f(f(f(f(f(f(f(f(f(a))))))))))))))))))))))))))))))))).",
     );
     facts(b"p(a, b).\np(X, f(X)).");
     facts(b"p(1).\np(2).\n   p(1).");
