@@ -62,6 +62,14 @@ fn ends() {
     facts(b"p(a,\tb).");
 }
 
+// TEXT at the end of as many bytes as a text may have.
+fn longest() {
+    let mut text = [b' '; 65535];
+    text[0] = b'p';
+    text[1] = b'(';
+    facts(&text);
+}
+
 // OTHER, WIDTH, LONG, TWICE and SAME: the symbol, or where the rule begins.
 fn tables() {
     facts(b"p(a).\n  q(b).");
@@ -84,6 +92,7 @@ fn goals() {
 fn main() {
     texts();
     ends();
+    longest();
     tables();
     goals();
     // BYTES
