@@ -88,7 +88,7 @@ fn item_at(text: &[u8], spot: Spot) -> Item {
 }
 
 // Where the arguments of a rule begin, the first rule being 0; they stand on the line of its name. A text has fewer items than bytes.
-pub fn arguments_at(text: &[u8], rule: usize) -> usize {
+fn arguments_at(text: &[u8], rule: usize) -> usize {
     let mut spot = symbols::begin(text);
     let mut left = rule;
     let mut turns = text.len();
