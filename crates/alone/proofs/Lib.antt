@@ -1,0 +1,9 @@
+pub mod NewLaws
+pub mod StandLaws
+pub mod ChainLaws
+pub mod StartLaws
+pub mod BeginLaws
+pub mod RestLaws
+pub mod PlanLaws
+pub mod NotedLaws
+pub mod FlagLaws
