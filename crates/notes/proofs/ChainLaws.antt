@@ -1,38 +1,36 @@
 -- Single branches that lead from one state to the next, and the end of them.
-use Prim.Native.Nat.{ℕ, suc, _+_, _-_, _^_, _≤_, _<_}
+use Prim.Native.Nat.{ℕ, suc, _+_, _-_, _*_, _^_, _≤_, _<_}
 use mathlib.Core.Path.{_≡_, refl, sym, _∙_, ap, ap₂}
-use mathlib.Core.Bool.{Bool, true, false, _&&_}
-use mathlib.Core.List.{List, [], _∷_, _++_, map, append-assoc, append-nil, map-append}
+use mathlib.Core.Logic.{_≢_, _⊎_, inl, inr, ⊎-elim}
+use mathlib.Core.Bool.{Bool, true, false, cond, _&&_, true≢false}
+use mathlib.Core.List.{List, [], _∷_, _++_, map, append-nil}
 use native.Mathlib.Omega.{arith}
 use lib.Dec.{eqb, ltb}
-use borrow.Author.Tests.{ltb-true, eqb-true}
-use lib.ListN.{length, getD, set, take, drop, length-set, length-append, length-map}
-use lib.Seq.{sets, slice, length-sets, set-set, take-take, take-append-seam}
+use borrow.Author.Tests.{ltb-true, ltb-false, eqb-true, eqb-false}
+use lib.ListN.{length, getD, set, take, drop, length-append}
+use lib.Seq.{sets, slice, set-set, take-take, take-append-seam}
 use Rattle.cell.specs.Cell.{arity}
+use Rattle.term.proofs.Tests.{bool-cases}
 use Rattle.term.proofs.Lists.{sets-sets, sets-found, set-sets, slice-take}
-use Rattle.table.specs.All.{All}
 use Rattle.table.proofs.AllLaws.{all-++}
-use Rattle.plan.specs.Runs.{Run}
-use Rattle.plan.specs.Plans.{Plan, Branches, end, next, write, writes, branches, branchesIn}
-use Rattle.plan.specs.Notes.{Branch, branch, below, notes, notesIn, word}
+use Rattle.plan.specs.Runs.{Run, run}
+use Rattle.plan.specs.Plans.{Branches, end, next, write, writes, branches, branchesIn}
+use Rattle.plan.specs.Notes.{Branch, branch, flag, repeats, below, notes, notesIn, word, cellIn}
 use Rattle.plan.specs.code.Rows.{rowCount}
-use Rattle.notes.specs.code.Steps.{partOf, ended, Parts, Ending, Met, Begun}
-use Rattle.notes.specs.code.Tree.{Ready, ReadyAt, notesAt, Done, StateDone, BranchDone, Went}
+use Rattle.notes.specs.code.Steps.{partOf, ended, finished, Low, Part, Ending, Met, Begun}
+use Rattle.notes.specs.code.Tree.{Ready, ReadyAt, notesAt, StateDone, BranchDone, One, Went, Followed}
 use Rattle.notes.specs.declared.tree.Past.{Past}
-use Rattle.notes.proofs.TreeLaws.{ReadyIn, Inside, inside, first-of, met, arity-is, number-is, number-low, lower-of, words-count, done-long}
+use Rattle.notes.proofs.TreeLaws.{ReadyIn, Inside, inside, first-of, met, arity-is, number-is, number-low, number-cell, lower-of, words-count, done-long}
+use Rattle.notes.proofs.AloneLaws.{flag-is, one-more, one-run, one-leaf, one-moved, finished-more, finished-length}
 
 -- the number of a branch that has ended
-word-is : (c s r l n : ℕ) → word (branch c s r l n) ≡ ended s r (partOf c l n)
+word-is : (c s r l n : ℕ) (b : Bool) → word (branch c s r l n b) ≡ ended s r (partOf c l n) + cond b 1 0 * 2 ^ 63
 unfolding word
-word-is c s r l n = omega arith
+word-is c s r l n b = omega arith
 
 -- one more number
 added : (l l′ : List ℕ) (i j : ℕ) (xs : List ℕ) (y : ℕ) → l′ ≡ sets l i xs → j ≡ i + length xs → set l′ j y ≡ sets l i (xs ++ (y ∷ []))
 added l l′ i j xs y e q = rw (e, q) (sets-sets l i xs (y ∷ []))
-
-moved : (E : ℕ → ℕ) (xs : List ℕ) (y : ℕ) (zs : List ℕ) → map E xs ++ (E y ∷ zs) ≡ map E (xs ++ (y ∷ [])) ++ zs
-moved E [] y zs = refl
-moved E (x ∷ xs) y zs = ap (λ (l : List ℕ). E x ∷ l) (moved E xs y zs)
 
 -- what the code asks to see that a state has one branch
 pub single-is : (k x : ℕ) (b : Bool) → b ≡ (ltb 0 k && eqb x 1) → b ≡ true → (0 < k) × (x ≡ 1)
@@ -43,6 +41,15 @@ single-is k x b e t = go (ltb 0 k) (eqb x 1) refl refl (sym e ∙ t)
     go true false h l z = absurd (let y : _≡_ {A = ℕ} 0 1 = cc in omega arith)
     go false q h l z = absurd (let y : _≡_ {A = ℕ} 0 1 = cc in omega arith)
 
+-- and that it has not: it is a leaf, or has another number of them
+single-not : (k x : ℕ) → (ltb 0 k && eqb x 1) ≡ false → (k ≡ 0) ⊎ (x ≢ 1)
+single-not k x e = go (ltb 0 k) (eqb x 1) refl refl e
+  where
+    go : (p q : Bool) → ltb 0 k ≡ p → eqb x 1 ≡ q → (p && q) ≡ false → (k ≡ 0) ⊎ (x ≢ 1)
+    go true true h l z = absurd (true≢false z)
+    go true false h l z = inr (eqb-false x 1 l)
+    go false q h l z = inl (let o = ltb-false 0 k h in omega arith)
+
 -- A state with one branch.
 module _ {plan links noted : List ℕ} {at k made free : ℕ} (w : Ready plan links noted at k made free) where
   pub record Only : Type 0 where
@@ -51,37 +58,56 @@ module _ {plan links noted : List ℕ} {at k made free : ℕ} (w : Ready plan li
     pub count : branches (w .tree) ≡ suc (branches (one .tree))
     pub cells : length (write (w .tree)) ≡ 3 + length (write (one .tree))
     pub rows : length (w .rows) ≡ length (one .group .rows)
+    pub row : (cs : List ℕ) → One (one .group .rows) cs → One (w .rows) (one .group .cell ∷ cs)
 
   only-by : {groups : List Run} (trees : Branches (k - 1) groups) → length groups ≡ 1 → ReadyIn plan links noted (w .slots) (getD plan at 0) (at + 2) k made free trees
       → notes (w .tree) (w .slots) made free ≡ notesIn trees (getD plan at 0) (w .slots) made free → branches (w .tree) ≡ branchesIn trees
-      → length (write (w .tree)) ≡ suc (suc (length (writes trees))) → length (w .rows) ≡ rowCount groups → Only
+      → length (write (w .tree)) ≡ suc (suc (length (writes trees))) → length (w .rows) ≡ rowCount groups
+      → ((g : Run) (cs : List ℕ) → groups ≡ g ∷ [] → One (g .rows) cs → One (w .rows) (g .cell ∷ cs)) → Only
   unfolding notes branches write first-of
-  only-by end e x n c l r = absurd (omega arith)
-  only-by (next {g = g} p end) e x n c l r = record {
+  only-by end e x n c l r o = absurd (omega arith)
+  only-by (next {g = g} p end) e x n c l r o = record {
     one = first-of x;
     same-notes = n ∙ append-nil (notesAt p (g .cell) (getD plan at 0) (w .slots) made free);
     count = omega arith;
     cells = omega (arith, length-append (write p) []);
     rows = omega arith;
+    row = λ cs. o g cs refl;
   }
-  only-by (next p (next q bs)) e x n c l r = absurd (omega arith)
+  only-by (next p (next q bs)) e x n c l r o = absurd (omega arith)
 
   pub only : 0 < k → getD plan (at + 1) 0 ≡ 1 → Only
   only l e = by (inside w l)
     where
       by : Inside w → Only
-      by x = only-by (x .trees) (sym (x .number) ∙ e) (x .within) (x .same-notes) (x .count) (x .cells) (x .rows)
+      by x =
+          let z : k ≡ suc (k - 1) = omega arith in
+          only-by (x .trees) (sym (x .number) ∙ e) (x .within) (x .same-notes) (x .count) (x .cells) (x .rows)
+          (λ g cs q. one-more (w .left) (x .index) (k - 1) (w .rows) g cs (rw z at (w .fit)) (x .index-low) (sym (x .are) ∙ q))
+
+  -- a state where single branches end: of one row nothing is left
+  pub stopped : (ltb 0 k && eqb (getD plan (at + 1) 0) 1) ≡ false → One (w .rows) []
+  stopped e = ⊎-elim
+      (λ z. one-leaf (w .left) (w .rows) (rw z at (w .fit)))
+      (λ n. by n (bool-cases (ltb 0 k)))
+      (single-not k (getD plan (at + 1) 0) e)
+    where
+      by : getD plan (at + 1) 0 ≢ 1 → (ltb 0 k ≡ true) ⊎ (ltb 0 k ≡ false) → One (w .rows) []
+      by n (inl l) = let x = inside w (ltb-true 0 k l) in λ y q. absurd (n (x .number ∙ ap length (x .are) ∙ one-run (x .index) (w .rows) y q))
+      by n (inr l) = let z : k ≡ 0 = (let o = ltb-false 0 k l in omega arith) in one-leaf (w .left) (w .rows) (rw z at (w .fit))
 
 -- Along single branches: so far none is passed, or one more.
 module _ {plan links noted : List ℕ} {at k made free : ℕ} (w : Ready plan links noted at k made free) where
   pub went-none : Went w links noted at k made free
+  unfolding finished
   went-none = record {
     lower = w;
     parts = [];
     low = tt;
+    few = tt;
     wrote = refl;
     next = omega arith;
-    whole = refl;
+    whole = λ cs o. (o, refl);
     count = refl;
     same-rows = refl;
     after = refl;
@@ -100,18 +126,29 @@ module _ {plan links noted : List ℕ} {at k made free : ℕ} (w : Ready plan li
         let q : at′ + 3 ≡ at′ + 2 + 1 = omega arith in
         let s : made′ + 1 + branches (x .tree) ≡ made + branches (w .tree) = omega (arith, g .count, o .count) in
         let r : length (x .group .rows) ≡ length (w .rows) = sym (o .rows) ∙ g .same-rows in
-        let E : ℕ → ℕ = ended (made + branches (w .tree)) (length (w .rows)) in
+        let S : ℕ = made + branches (w .tree) in
+        let T : ℕ = length (w .rows) in
         let W : List ℕ = map word (notes (x .tree) (below (getD plan at′ 0) (arity c) free′ (x .slots)) (made′ + 1) (free′ + arity c)) in
-        let n : word (branch c (made′ + 1 + branches (x .tree)) (length (x .group .rows)) l free′) ≡ E y =
-        word-is c (made′ + 1 + branches (x .tree)) (length (x .group .rows)) l free′ ∙ ap₂ (λ (s r : ℕ). ended s r y) s r in
+        let here : cellIn y ≡ c = number-cell x b in
         rw (q, arity-is x b)
         (record {
           lower = lower-of x b;
           parts = g .parts ++ (y ∷ []);
-          low = all-++ (λ (w : ℕ). w < 2 ^ 63) (g .parts) (y ∷ []) (g .low) (number-low x b, tt);
+          low = all-++ Part (g .parts) (y ∷ []) (g .low) (number-low x b, tt);
+          few = all-++ (λ (p : ℕ). Low (cellIn p)) (g .parts) (y ∷ []) (g .few) (rw here (x .sound .cell), tt);
           wrote = number-is x b ∙ added noted noted′ made made′ (g .parts) y (g .wrote) (g .next);
           next = omega (arith, g .next, length-append (g .parts) (y ∷ []));
-          whole = g .whole ∙ ap (λ (t : List Branch). map E (g .parts) ++ map word t) (o .same-notes) ∙ ap (λ (z : ℕ). map E (g .parts) ++ (z ∷ W)) n ∙ moved E (g .parts) y W;
+          whole = λ cs u.
+              let h = g .whole (cellIn y ∷ cs) (rw here (o .row cs u)) in
+              let f : flag (run c (x .group .rows)) ≡ repeats (cellIn y) cs = rw here (flag-is (x .group) cs (x .sound .lone) u) in
+              let n : word (branch c (made′ + 1 + branches (x .tree)) (length (x .group .rows)) l free′ (flag (run c (x .group .rows))))
+              ≡ ended S T y + cond (repeats (cellIn y) cs) 1 0 * 2 ^ 63 =
+              word-is c (made′ + 1 + branches (x .tree)) (length (x .group .rows)) l free′ (flag (run c (x .group .rows)))
+              ∙ ap₂ (λ (s r : ℕ). ended s r y + cond (flag (run c (x .group .rows))) 1 0 * 2 ^ 63) s r ∙ ap (λ (z : Bool). ended S T y + cond z 1 0 * 2 ^ 63) f in (
+                one-moved (w .rows) (g .parts) y cs (h .0),
+                h .1 ∙ ap (λ (t : List Branch). finished S T (g .parts) (cellIn y ∷ cs) ++ map word t) (o .same-notes)
+                    ∙ ap (λ (z : ℕ). finished S T (g .parts) (cellIn y ∷ cs) ++ (z ∷ W)) n ∙ finished-more S T (g .parts) y cs W,
+              );
           count = s;
           same-rows = r;
           after = omega (arith, g .after, o .cells);
@@ -156,10 +193,13 @@ module _ {plan links noted : List ℕ} {i place k made free : ℕ} (w : ReadyAt 
   under = rw (arity-is w b) (lower-of w b)
 
   module _ {links₂ noted₂ : List ℕ} {at′ k′ made′ free′ : ℕ}
-      (f : (v : Ready plan links₁ noted₁ (place + 1) (a + (k - 1)) (made + 1) (free + a)) → Went v links₂ noted₂ at′ k′ made′ free′) where
+      (f : (v : Ready plan links₁ noted₁ (place + 1) (a + (k - 1)) (made + 1) (free + a)) → Followed v links₂ noted₂ at′ k′ made′ free′) where
+    followed : Followed (lower-of w b) links₂ noted₂ at′ k′ made′ free′
+    followed = (rw (arity-is w b) at f) (lower-of w b)
+
     -- the state that single branches lead to
     pub went : Went (lower-of w b) links₂ noted₂ at′ k′ made′ free′
-    went = (rw (arity-is w b) at f) (lower-of w b)
+    went = followed .went
 
     module _ {noted₃ : List ℕ} {p : Past} (d : StateDone (went .lower) noted₃ p) where
       abbrev y : ℕ
@@ -193,21 +233,25 @@ module _ {plan links noted : List ℕ} {i place k made free : ℕ} (w : ReadyAt 
         skips = omega (arith, skip-is, w .room);
         has = omega (arith, rows-are, w .few);
         parts = rw sliced (number-low w b, went .low);
+        low = rw sliced (rw (number-cell w b) (w .sound .cell), went .few);
         size = done-long d ∙ went .lower .array;
       }
 
-      pub branch-done : {noted₄ : List ℕ} → noted₄ ≡ sets noted₃ made (map (ended (p .made) (p .rows)) (slice made made′ noted₃)) → BranchDone w noted₄ p
-      unfolding lower-of
+      pub branch-done : {noted₄ : List ℕ} → noted₄ ≡ sets noted₃ made (finished (p .made) (p .rows) (slice made made′ noted₃) []) → BranchDone w noted₄ p
+      unfolding lower-of finished went
       branch-done {noted₄} e =
           let c : ℕ = w .group .cell in
           let s : ℕ = made + 1 + branches (w .tree) in
           let r : ℕ = length (w .group .rows) in
-          let E : ℕ → ℕ = ended s r in
-          let n : map word (notesAt (w .tree) c i (w .slots) made free) ≡ map E (y ∷ went .parts) ++ W =
-          ap₂ (λ (x : ℕ) (xs : List ℕ). x ∷ xs) (word-is c s r (getD (w .slots) i 0) free) (went .whole) in
-          let z : noted₄ ≡ sets noted₃ made (map E (y ∷ went .parts)) = rw (skip-is, rows-are, sliced) at e in
+          let X : List ℕ = finished s r (y ∷ went .parts) [] in
+          let h = went .whole [] (followed .ends) in
+          let f : flag (run c (w .group .rows)) ≡ repeats (cellIn y) (map cellIn (went .parts) ++ []) =
+          rw (number-cell w b) (flag-is (w .group) (map cellIn (went .parts) ++ []) (w .sound .lone) (h .0)) in
+          let n : map word (notesAt (w .tree) c i (w .slots) made free) ≡ X ++ W =
+          ap₂ (λ (x : ℕ) (xs : List ℕ). x ∷ xs) (word-is c s r (getD (w .slots) i 0) free (flag (run c (w .group .rows))) ∙ rw f refl) (h .1) in
+          let z : noted₄ ≡ sets noted₃ made X = rw (skip-is, rows-are, sliced) at e in
           record {
-            wrote = z ∙ rw stored (stored-over noted made (y ∷ went .parts) (map E (y ∷ went .parts)) W (length-map (y ∷ went .parts) E)) ∙ ap (sets noted made) (sym n);
+            wrote = z ∙ rw stored (stored-over noted made (y ∷ went .parts) X W (finished-length s r (y ∷ went .parts) [])) ∙ ap (sets noted made) (sym n);
             after = omega (arith, d .after, went .after);
             next = omega (arith, skip-is);
             has = rows-are;

@@ -2,16 +2,15 @@
 use Prim.Native.Nat.{ℕ, _+_, _≤_, _<_}
 use mathlib.Core.Path.{_≡_, refl, sym, _∙_, ap}
 use mathlib.Core.Logic.{_≢_}
-use mathlib.Core.List.{List, [], _∷_, _++_, map, append-nil}
+use mathlib.Core.List.{List, [], _++_, map, append-nil}
 use native.Mathlib.Omega.{arith}
-use native.Mathlib.Nat.{zero-add}
 use lib.ListN.{length, getD, drop}
 use lib.Seq.{sets, sets-eq}
 use Rattle.refusal.specs.Refusal.{Refused, told, turned}
 use Rattle.refusal.specs.declared.Refusal.{Refusal}
 use Rattle.refusal.specs.Read.{Read, read, refuse}
 use Rattle.table.specs.Table.{upFrom}
-use Rattle.table.proofs.Accepted.{table-accepted}
+use Rattle.table.proofs.Accepted.{table-accepted, few-variables}
 use Rattle.table.proofs.HeadLaws.{up-length}
 use Rattle.plan.specs.Plans.{write, branches}
 use Rattle.plan.specs.Check.{planOf}
@@ -19,12 +18,14 @@ use Rattle.plan.specs.Notes.{notes, word}
 use Rattle.plan.proofs.CheckLaws.{rows-fit}
 use Rattle.plan.proofs.NotesLaws.{branches-few}
 use Rattle.plan.proofs.SizeLaws.{size-bound}
+use Rattle.plan.proofs.TwiceLaws.{table-cells}
 use Rattle.checker.specs.Checked.{planSays, planTold}
 use Rattle.checker.specs.declared.PlanAnswer.{PlanAnswer}
 use Rattle.checker.specs.declared.PlanAnswer.the-variants as plan-answer
-use Rattle.checker.proofs.Accepts.{PlanFor, check-accepts}
+use Rattle.checker.proofs.Accepts.{PlanFor}
 use Rattle.notes.specs.Noted.{Handed, noted, refused}
 use Rattle.notes.specs.code.Places.{Apart, Open}
+use Rattle.notes.specs.code.Steps.{Low}
 use Rattle.notes.specs.code.Tree.{Ready, StateDone, Accepted, AllNoted}
 use Rattle.notes.specs.declared.tree.Past.{Past}
 use Rattle.notes.proofs.TreeLaws.{words-count}
@@ -58,6 +59,7 @@ module _ {plan links array : List ℕ} {width : ℕ} (w : Accepted plan array wi
         left = 32;
         deep = omega arith;
         fit = f;
+        low = table-cells Low (w .is) (λ r h. few-variables h) (w .tree);
         enough = omega (arith, w .is .width);
         slots = upFrom 1 width;
         number = up-length 1 width;

@@ -1,4 +1,5 @@
 pub mod PlacesLaws
+pub mod AloneLaws
 pub mod BranchLaws
 pub mod TreeLaws
 pub mod ChainLaws

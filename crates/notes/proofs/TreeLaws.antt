@@ -1,5 +1,5 @@
 -- From a state to its branches, and from a branch to the state below it.
-use Prim.Native.Nat.{ℕ, zero, suc, pred, _+_, _-_, _*_, _^_, _≤_, _<_}
+use Prim.Native.Nat.{ℕ, zero, suc, pred, _+_, _-_, _*_, _≤_, _<_}
 use mathlib.Core.Path.{_≡_, refl, sym, _∙_, ap, subst}
 use mathlib.Core.List.{List, [], _∷_, _++_, map, append-assoc, map-append}
 use native.Mathlib.Omega.{arith}
@@ -14,15 +14,16 @@ use Rattle.table.specs.Table.{upFrom}
 use Rattle.table.proofs.HeadLaws.{up-length}
 use Rattle.plan.specs.Runs.{Run, runs}
 use Rattle.plan.specs.Plans.{Plan, leaf, node, Branches, end, next, write, writes, branches, branchesIn}
-use Rattle.plan.specs.Notes.{Branch, below, notes, notesIn, word}
+use Rattle.plan.specs.Notes.{below, notes, notesIn, word, cellIn}
+use Rattle.plan.specs.code.Cells.{Cells, CellsIn}
 use Rattle.plan.specs.code.Fits.{Fits}
 use Rattle.plan.proofs.NotesLaws.{notes-count}
 use Rattle.plan.proofs.PlansLaws.{leaf-cells}
 use Rattle.plan.proofs.RunsLaws.{Each, Sized, group-rows, group-sizes, fits-some, runs-fit}
 use Rattle.plan.specs.code.Rows.{rowCount}
 use Rattle.notes.specs.code.Places.{Open}
-use Rattle.notes.specs.code.Steps.{partOf, Met, Begun}
-use Rattle.notes.specs.code.Tree.{Ready, ReadyAt, notesAt, Done, StateDone, BranchDone, Went}
+use Rattle.notes.specs.code.Steps.{partOf, Low, Part, Met, Begun}
+use Rattle.notes.specs.code.Tree.{Ready, ReadyAt, notesAt, Done, StateDone, BranchDone}
 use Rattle.notes.specs.declared.tree.Past.{Past}
 
 -- what stands at a place of a list
@@ -71,18 +72,19 @@ leaf-branches (node i h bs) e = absurd (omega arith)
 -- An inner state: its place, and its branches.
 record Inner {k : ℕ} {rows : List (List ℕ)} (p : Plan k rows) (j : ℕ) : Type 0 where
   pub i : ℕ
-  pub low : i ≤ j
+  pub bound : i ≤ j
   pub trees : Branches j (runs i rows)
   pub cells : write p ≡ i ∷ (length (runs i rows) ∷ writes trees)
   pub noted : (slots : List ℕ) (made free : ℕ) → notes p slots made free ≡ notesIn trees i slots made free
+  pub low : Cells Low p → CellsIn Low trees
   pub count : branches p ≡ branchesIn trees
 
 inner : {k : ℕ} {rows : List (List ℕ)} (p : Plan k rows) (j : ℕ) → k ≡ suc j → Inner p j
-unfolding write notes branches
+unfolding write notes branches Cells
 inner leaf j e = absurd (omega arith)
 inner (node {k} {rows} i h bs) j e =
     subst (λ (j : ℕ). Inner (node {k = k} {rows = rows} i h bs) j) (let z : k ≡ j = omega arith in z)
-    (record { i = i; low = h; trees = bs; cells = refl; noted = λ slots made free. refl; count = refl })
+    (record { i = i; bound = h; trees = bs; cells = refl; noted = λ slots made free. refl; low = λ c. c; count = refl })
 
 -- no more places are open than a row has cells
 fits-wide : (n k : ℕ) (rows : List (List ℕ)) → All (Fits n k) rows → 0 < length rows → k ≤ n
@@ -106,6 +108,7 @@ pub record ReadyIn (plan links noted slots : List ℕ) (i place k made free : �
   pub left : ℕ
   pub deep : left ≤ 32
   pub fit : Each (λ (c : ℕ). Fits left (arity c + (k - 1))) groups
+  pub low : CellsIn Low trees
   pub enough : free + suc left ≤ 63 + k
   pub here : i < k
   pub number : length slots ≡ k
@@ -139,6 +142,9 @@ module _ {plan links noted : List ℕ} {at k made free : ℕ} (w : Ready plan li
     pub count : branches (w .tree) ≡ branchesIn trees
     pub cells : length (write (w .tree)) ≡ suc (suc (length (writes trees)))
     pub rows : length (w .rows) ≡ rowCount groups
+    pub index : ℕ
+    pub index-low : index ≤ k - 1
+    pub are : groups ≡ runs index (w .rows)
 
   inside-by : Inner (w .tree) (k - 1) → 0 < k → Inside
   inside-by n l =
@@ -165,9 +171,10 @@ module _ {plan links noted : List ℕ} {at k made free : ℕ} (w : Ready plan li
           few = omega (arith, y, w .few);
           left = pred (w .left);
           deep = omega (arith, w .deep, m);
-          fit = runs-fit (pred (w .left)) (k - 1) (n .i) (n .low) (w .rows) (rw m at f);
+          fit = runs-fit (pred (w .left)) (k - 1) (n .i) (n .bound) (w .rows) (rw m at f);
+          low = n .low (w .low);
           enough = omega (arith, w .enough);
-          here = omega (arith, n .low);
+          here = omega (arith, n .bound);
           number = w .number;
           opens = w .opens;
           room = omega (arith, n .count, w .room);
@@ -177,6 +184,9 @@ module _ {plan links noted : List ℕ} {at k made free : ℕ} (w : Ready plan li
         count = n .count;
         cells = ap length (n .cells);
         rows = sym y;
+        index = n .i;
+        index-low = n .bound;
+        are = refl;
       }
 
   pub inside : 0 < k → Inside
@@ -186,7 +196,7 @@ module _ {plan links noted : List ℕ} {at k made free : ℕ} (w : Ready plan li
 module _ {plan links noted slots : List ℕ} {i place k made free : ℕ} {g : Run} {gs : List Run} {p : Plan (arity (g .cell) + (k - 1)) (g .rows)}
     {bs : Branches (k - 1) gs} (w : ReadyIn plan links noted slots i place k made free (next p bs)) where
   unfoldable pub first-of : ReadyAt plan links noted i place k made free
-  unfolding write branches
+  unfolding write branches Cells
   first-of = record {
     group = g;
     tree = p;
@@ -198,6 +208,8 @@ module _ {plan links noted slots : List ℕ} {i place k made free : ℕ} {g : Ru
     left = w .left;
     deep = w .deep;
     fit = w .fit .0;
+    sound = w .low .0;
+    low = w .low .1;
     enough = w .enough;
     here = w .here;
     slots = slots;
@@ -208,7 +220,7 @@ module _ {plan links noted slots : List ℕ} {i place k made free : ℕ} {g : Ru
   }
 
   pub others-of : {noted′ : List ℕ} {q : Past} → BranchDone first-of noted′ q → ReadyIn plan links noted′ slots i (q .place) k (q .made) free bs
-  unfolding first-of branches
+  unfolding first-of branches Cells
   others-of {noted′} {q} d =
       let r = read plan place (g .cell) (write p ++ (writes bs ++ w .behind)) (first-of .cells) in
       let e : q .place ≡ place + 1 + length (write p) = d .after ∙ omega arith in
@@ -222,6 +234,7 @@ module _ {plan links noted slots : List ℕ} {i place k made free : ℕ} {g : Ru
         left = w .left;
         deep = w .deep;
         fit = w .fit .1;
+        low = w .low .2;
         enough = w .enough;
         here = w .here;
         number = w .number;
@@ -264,9 +277,13 @@ module _ {plan links noted : List ℕ} {i place k made free : ℕ} (w : ReadyAt 
     unfolding met
     number-is = rw (branch-read .1) at (b .wrote)
 
-    pub number-low : partOf c (getD (w .slots) i 0) free < 2 ^ 63
+    pub number-low : Part (partOf c (getD (w .slots) i 0) free)
     unfolding met
     number-low = rw (branch-read .1) at (b .low)
+
+    pub number-cell : cellIn (partOf c (getD (w .slots) i 0) free) ≡ c
+    unfolding met
+    number-cell = rw (branch-read .1) at (b .cell)
 
     unfoldable pub lower-of : Ready plan links′ noted′ (place + 1) (arity c + (k - 1)) (made + 1) (free + arity c)
     unfolding met
@@ -281,6 +298,7 @@ module _ {plan links noted : List ℕ} {i place k made free : ℕ} (w : ReadyAt 
       left = w .left;
       deep = w .deep;
       fit = w .fit;
+      low = w .low;
       enough = omega (arith, w .enough, w .here);
       slots = below i (arity c) free (w .slots);
       number = below-long i (arity c) free (w .slots) (omega (arith, w .here, w .number)) ∙ omega (arith, w .number);

@@ -1,11 +1,18 @@
-// What is noted of a branch, in two steps: its cell, its slot and the first slot free below it when it is met; where it ends and how many
-// rows it has when all below it is noted.
+// What is noted of a branch, in two steps: its cell, its slot and the first slot free below it when it is met; where it ends, how many
+// rows it has and whether the rest of its row is run by itself when all below it is noted.
 ghost use mathlib.Core.Path.{_≡_};
-ghost use mathlib.Core.List.{map};
+ghost use mathlib.Core.Bool.{cond};
+ghost use mathlib.Core.List.{[]};
 ghost use Prim.Native.Nat.{_^_, _<_};
+ghost use lib.Dec.{eqb};
+ghost use lib.ListN.{length, getD, set};
 ghost use lib.Seq.{sets, slice};
-ghost use Rattle.notes.specs.code.Steps.{partOf, endOf, ended, Ending, Met, Begun};
+ghost use Rattle.notes.specs.code.Steps.{partOf, endOf, finished, Ending, Met, Begun};
+use super::packed::cell_of;
 use super::places::close;
+
+// Bit 63.
+const ALONE: u64 = 1 << 63;
 
 // The number of a branch that is met.
 fn part(c: u32, slot: usize, next: usize) -> u64
@@ -45,15 +52,38 @@ pub fn begin(
     a
 }
 
-// The branches from the number `from` to before `to` end together, before the branch number `skip`, and have the same number of rows.
+// Meets the variable `v` again or for the first time: `again` is 0 until one is met that was met before.
+fn meet(seen: &mut [u8; 32], v: usize, again: u64) -> u64
+    requires { ⌜ (v < 32) × (length (now seen) ≡ 32) ⌝ }
+    ensures { λ r. ⌜ (r ≡ cond (eqb (getD (now (seen .entry)) v 0) 0) again (2 ^ 63)) × (now (seen .exit) ≡ set (now (seen .entry)) v 1) ⌝ }
+{
+    let before = seen[v];
+    seen[v] = 1;
+    if before == 0 { again } else { ALONE }
+}
+
+// The branches from the number `from` to before `to` end together, before the branch number `skip`, and have the same number of rows. They
+// are finished from the last to the first, so that at a variable's branch it is known whether one is met twice from there on.
 pub fn finish(notes: &mut [u64], from: usize, to: usize, skip: usize, rows: usize)
     requires { ⌜ Ending (now notes) from to skip rows ⌝ }
-    ensures { λ _. ⌜ now (notes .exit) ≡ sets (now (notes .entry)) from (map (ended skip rows) (slice from to (now (notes .entry)))) ⌝ }
+    ensures { λ _. ⌜ now (notes .exit) ≡ sets (now (notes .entry)) from (finished skip rows (slice from to (now (notes .entry))) []) ⌝ }
 {
     let more = end(skip, rows);
-    let mut i = from;
-    while i < to {
-        notes[i] += more;
-        i += 1;
+    let mut seen = [0u8; 32];
+    let mut again = 0;
+    let mut i = to;
+    while from < i {
+        i -= 1;
+        let w = notes[i];
+        let c = cell_of(w);
+        match cell::kind(c) {
+            0 => {
+                again = meet(&mut seen, c as usize, again);
+                notes[i] = w + more + again;
+            }
+            _ => {
+                notes[i] = w + more;
+            }
+        }
     }
 }

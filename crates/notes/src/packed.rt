@@ -1,6 +1,7 @@
 // The number that is noted of a branch, taken apart (crate plan, specs/Notes).
 ghost use mathlib.Core.Path.{_≡_};
-ghost use Rattle.plan.specs.Notes.{cellIn, skipIn, rowsIn, slotIn, nextIn};
+ghost use lib.Dec.{eqb};
+ghost use Rattle.plan.specs.Notes.{cellIn, skipIn, rowsIn, slotIn, nextIn, aloneIn};
 
 pub fn wide(x: u8) -> usize
     ensures { λ r. ⌜ r ≡ x ⌝ }
@@ -47,4 +48,11 @@ pub fn next_of(w: u64) -> usize
     ensures { λ r. ⌜ r ≡ nextIn w ⌝ }
 {
     ((w >> 57) & 0x3f) as usize
+}
+
+// Bit 63: whether the rest of its row is run by itself.
+pub fn alone_of(w: u64) -> bool
+    ensures { λ r. ⌜ r ≡ eqb (aloneIn w) 1 ⌝ }
+{
+    (w >> 63) == 1
 }

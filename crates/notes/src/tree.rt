@@ -10,7 +10,7 @@ ghost use mathlib.Core.Bool.{_&&_};
 ghost use Prim.Native.Nat.{_+_, _^_, _<_};
 ghost use lib.Dec.{eqb, ltb};
 ghost use lib.ListN.{length, getD};
-ghost use Rattle.notes.specs.code.Tree.{Ready, ReadyAt, Went, StateDone, BranchDone};
+ghost use Rattle.notes.specs.code.Tree.{Ready, ReadyAt, Followed, StateDone, BranchDone};
 use super::branch::begin;
 use super::branch::finish;
 
@@ -51,7 +51,7 @@ fn follow(
     free: usize,
 ) -> Reached
     requires { ⌜ Ready (now plan) (now links) (now notes) at width made free ⌝ }
-    ensures { λ r. ⌜ ((w : Ready (now (plan .entry)) (now (links .entry)) (now (notes .entry)) at width made free) → Went w
+    ensures { λ r. ⌜ ((w : Ready (now (plan .entry)) (now (links .entry)) (now (notes .entry)) at width made free) → Followed w
         (now (links .exit)) (now (notes .exit)) (r .at) (r .width) (r .made) (r .free)) ⌝ }
 {
     let mut here = at;

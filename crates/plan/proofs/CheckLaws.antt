@@ -181,7 +181,7 @@ accepted T f h m cells b = (sound, complete)
 -- the rows of a table, by 01's words, are such rows
 pub rows-fit : (w : ℕ) (rows : List (List ℕ)) → All (Row w) rows → All (Fits 32 w) rows
 rows-fit w [] a = tt
-rows-fit w (r ∷ rs) a = ((a .0 .head .terms, a .0 .head .short), rows-fit w rs (a .1))
+rows-fit w (r ∷ rs) a = ((a .0 .terms, a .0 .short), rows-fit w rs (a .1))
 
 -- the same of a table by 01's words, with that there is no other plan that writes these cells
 pub accepted-one : {t : List ℕ} (T : Table) → IsTable t (T .width) (T .rows) → (cells : List ℕ) (b : ℕ)

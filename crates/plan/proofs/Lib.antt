@@ -4,5 +4,6 @@ pub mod SizeLaws
 pub mod OneRow
 pub mod ReadingLaws
 pub mod CheckLaws
+pub mod TwiceLaws
 pub mod NotesLaws
 pub mod Examples

@@ -1,6 +1,7 @@
 -- The notes of a plan: their number, a branch's number taken apart, and that its parts have bits enough.
 use Prim.Native.Nat.{ℕ, zero, suc, pred, _+_, _*_, _/_, _%_, _^_, _≤_, _<_}
 use mathlib.Core.Path.{_≡_, refl, sym, _∙_, ap}
+use mathlib.Core.Bool.{Bool, true, false, cond}
 use mathlib.Core.List.{List, [], _∷_, _++_, List·Memᴰ, List·Memᴰ·head, List·Memᴰ·tail}
 use native.Mathlib.Omega.{arith}
 use lib.ListN.{length, getD, take, drop, length-append, length-drop}
@@ -14,7 +15,7 @@ use Rattle.table.specs.Table.{upFrom, Row, IsTable}
 use Rattle.table.proofs.HeadLaws.{up-length}
 use Rattle.plan.specs.Runs.{Run, runs}
 use Rattle.plan.specs.Plans.{Plan, leaf, node, Branches, end, next, branches, branchesIn}
-use Rattle.plan.specs.Notes.{Branch, below, notes, notesIn, word, cellIn, skipIn, rowsIn, slotIn, nextIn, Fits}
+use Rattle.plan.specs.Notes.{Branch, below, notes, notesIn, word, cellIn, skipIn, rowsIn, slotIn, nextIn, aloneIn, flag, Fits}
 use Rattle.plan.specs.code.Fits as row
 use Rattle.plan.proofs.CheckLaws.{rows-fit}
 use Rattle.plan.proofs.RunsLaws.{Each, Sized, group-all, group-sizes, fits-some, runs-fit}
@@ -48,17 +49,19 @@ pub record Parts (b : Branch) (w : ℕ) : Type 0 where
   pub rows : rowsIn w ≡ b .rows
   pub slot : slotIn w ≡ b .slot
   pub next : nextIn w ≡ b .next
+  pub alone : aloneIn w ≡ b .alone
 
-fields : (c s r l n : ℕ) → c < 2 ^ 32 → s < 2 ^ 12 → r < 2 ^ 7 → l < 2 ^ 6 → n < 2 ^ 6
-    → let w = c + s * 2 ^ 32 + r * 2 ^ 44 + l * 2 ^ 51 + n * 2 ^ 57 in
+fields : (c s r l n a : ℕ) → c < 2 ^ 32 → s < 2 ^ 12 → r < 2 ^ 7 → l < 2 ^ 6 → n < 2 ^ 6
+    → let w = c + s * 2 ^ 32 + r * 2 ^ 44 + l * 2 ^ 51 + n * 2 ^ 57 + a * 2 ^ 63 in
     (w % 2 ^ 32 ≡ c) × (w / 2 ^ 32 % 2 ^ 12 ≡ s) × (w / 2 ^ 44 % 2 ^ 7 ≡ r) × (w / 2 ^ 51 % 2 ^ 6 ≡ l) × (w / 2 ^ 57 % 2 ^ 6 ≡ n)
-fields c s r l n hc hs hr hl hn = (omega arith, omega arith, omega arith, omega arith, omega arith)
+    × (w / 2 ^ 63 ≡ a)
+fields c s r l n a hc hs hr hl hn = (omega arith, omega arith, omega arith, omega arith, omega arith, omega arith)
 
 pub word-parts : (b : Branch) → Fits b → Parts b (word b)
 unfolding word
 word-parts b f =
-    let h = fields (b .cell) (b .skip) (b .rows) (b .slot) (b .next) (f .cell) (f .skip) (f .rows) (f .slot) (omega (arith, f .next)) in
-    record { cell = h .0; skip = h .1; rows = h .2; slot = h .3; next = h .4 }
+    let h = fields (b .cell) (b .skip) (b .rows) (b .slot) (b .next) (b .alone) (f .cell) (f .skip) (f .rows) (f .slot) (omega (arith, f .next)) in
+    record { cell = h .0; skip = h .1; rows = h .2; slot = h .3; next = h .4; alone = h .5 }
 
 -- The parts have bits enough, where the rows are an accepted table's.
 
@@ -111,6 +114,10 @@ below-small i a free slots h s =
     all-++ P (take i slots) (upFrom free a ++ drop (suc i) slots) (all-take P i slots s)
     (all-++ P (upFrom free a) (drop (suc i) slots) (up-small free a h) (all-drop P (suc i) slots s))
 
+bit : (b : Bool) → cond b 1 0 < 2
+bit true = omega arith
+bit false = omega arith
+
 -- k places are open, each row has at most n cells, and slots from `free` on are free: enough for all the arguments to come
 mutual
   unfolding notes branches
@@ -129,7 +136,7 @@ mutual
   fitsIn (next {k} {g} p bs) i n m slots made free f a z h s b e =
       let c = g .cell in
       let r = first-row n k c (g .rows) (f .0) (a .0) (z .0 .0) in (
-        record { cell = r .0; skip = omega arith; rows = omega arith; slot = slot-small slots i s; next = omega arith },
+        record { cell = r .0; skip = omega arith; rows = omega arith; slot = slot-small slots i s; next = omega arith; alone = bit (flag g) },
         all-++ Fits (notes p (below i (arity c) free slots) (made + 1) (free + arity c)) (notesIn bs i slots (made + 1 + branches p) free)
             (fits p n (below i (arity c) free slots) (made + 1) (free + arity c) (f .0) (all-each (LowRun c) Low (λ r x. x .1) (g .rows) (a .0)) (z .0 .0)
             (omega arith) (below-small i (arity c) free slots (omega arith) s) (omega arith) (omega arith))
@@ -152,5 +159,5 @@ module _ {t : List ℕ} {w : ℕ} {rows : List (List ℕ)} (is : IsTable t w row
 
   pub notes-fit : All Fits (notes p (upFrom 1 w) 0 32)
   notes-fit =
-      fits p 32 (upFrom 1 w) 0 32 (rows-fit w rows (is .each)) (all-each (Row w) Low (λ r h. cells-low r (h .head .cells)) rows (is .each)) (is .count .0)
+      fits p 32 (upFrom 1 w) 0 32 (rows-fit w rows (is .each)) (all-each (Row w) Low (λ r h. cells-low r (h .cells)) rows (is .each)) (is .count .0)
       (is .count .1) (up-small 1 w (omega (arith, is .width))) (omega (arith, branches-few)) (omega (arith, is .width))

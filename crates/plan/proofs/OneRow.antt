@@ -119,6 +119,6 @@ pub table-one-row : (t : List ℕ) {T : Table} → tableOf t ≡ read T → (p :
     → OneRow p × (length (write p) + length (T .rows) ≡ 3 * branches p + 2)
 table-one-row t {T} e p =
     let i = is-table t e in
-    let each = all-each (Row (T .width)) (Terms (T .width)) (λ r x. x .head .terms) (T .rows) (i .each) in
+    let each = all-each (Row (T .width)) (Terms (T .width)) (λ r x. x .terms) (T .rows) (i .each) in
     let o = one-row p each (i .apart) (i .count .0) in
     (o, omega (arith, size p, leaf-each p o))

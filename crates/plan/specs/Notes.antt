@@ -1,12 +1,26 @@
 -- What is noted of a plan for a run (01, "A run": "it tests the goal only at the branches it counts"): one number for each branch,
 -- in plan order, that is a branch, then all below it, then the next. A run needs nothing else of the plan, neither its cells nor the table.
 use Prim.Native.Nat.{ℕ, suc, _+_, _*_, _/_, _%_, _^_, _<_}
-use mathlib.Core.List.{List, [], _∷_, _++_}
+use mathlib.Core.Bool.{Bool, false, cond, _&&_, _||_}
+use mathlib.Core.List.{List, [], _∷_, _++_, flatten}
+use lib.Dec.{ltb}
 use lib.ListN.{length, getD, take, drop}
-use Rattle.cell.specs.Cell.{arity}
-use Rattle.table.specs.Table.{upFrom}
+use Rattle.cell.specs.Cell.{arity, isVar}
+use Rattle.table.specs.Table.{upFrom, count}
 use Rattle.plan.specs.Runs.{Run}
 use Rattle.plan.specs.Plans.{Plan, leaf, node, Branches, end, next, branches}
+
+-- 02, W-209, "a variable used twice": some variable stands twice in a list of cells
+unfoldable pub twice : List ℕ → Bool
+twice [] = false
+twice (c ∷ xs) = (isVar c && ltb 0 (count c xs)) || twice xs
+
+-- a branch for a variable, where it and the cells left of its only row have one twice: the rest of the row is run by itself
+abbrev pub repeats : ℕ → List ℕ → Bool
+repeats c xs = isVar c && twice (c ∷ xs)
+
+abbrev pub flag : Run → Bool
+flag g = repeats (g .cell) (flatten (g .rows))
 
 -- What is noted of one branch. Slots are numbers for open places, given out on the way down: the arguments of a branch's cell get new ones,
 -- whatever the goal is.
@@ -21,9 +35,11 @@ pub record Branch : Type 0 where
   pub slot : ℕ
   -- the first slot that is free below it
   pub next : ℕ
+  -- 1 where the rest of the row is run by itself, otherwise 0
+  pub alone : ℕ
 
-abbrev pub branch : (cell skip rows slot next : ℕ) → Branch
-branch c s r l n = record { cell = c; skip = s; rows = r; slot = l; next = n }
+abbrev pub branch : (cell skip rows slot next : ℕ) → Bool → Branch
+branch c s r l n b = record { cell = c; skip = s; rows = r; slot = l; next = n; alone = cond b 1 0 }
 
 -- the slots of the open places below a branch at place i, whose cell has a arguments: new ones from `free` on for the arguments
 abbrev pub below : (i a free : ℕ) → List ℕ → List ℕ
@@ -38,12 +54,12 @@ unfoldable mutual
   pub notesIn : {k : ℕ} {gs : List Run} → Branches k gs → (i : ℕ) (slots : List ℕ) (made free : ℕ) → List Branch
   notesIn end i slots made free = []
   notesIn (next {g = g} p bs) i slots made free =
-      branch (g .cell) (made + 1 + branches p) (length (g .rows)) (getD slots i 0) free
+      branch (g .cell) (made + 1 + branches p) (length (g .rows)) (getD slots i 0) free (flag g)
       ∷ (notes p (below i (arity (g .cell)) free slots) (made + 1) (free + arity (g .cell)) ++ notesIn bs i slots (made + 1 + branches p) free)
 
--- One number for it: the cell in bits 31..0, skip in 43..32, rows in 50..44, slot in 56..51, next in 62..57.
+-- One number for it: the cell in bits 31..0, skip in 43..32, rows in 50..44, slot in 56..51, next in 62..57, alone in 63.
 unfoldable pub word : Branch → ℕ
-word b = b .cell + b .skip * 2 ^ 32 + b .rows * 2 ^ 44 + b .slot * 2 ^ 51 + b .next * 2 ^ 57
+word b = b .cell + b .skip * 2 ^ 32 + b .rows * 2 ^ 44 + b .slot * 2 ^ 51 + b .next * 2 ^ 57 + b .alone * 2 ^ 63
 
 -- and the parts of a number
 abbrev pub cellIn : ℕ → ℕ
@@ -61,6 +77,9 @@ slotIn w = w / 2 ^ 51 % 2 ^ 6
 abbrev pub nextIn : ℕ → ℕ
 nextIn w = w / 2 ^ 57 % 2 ^ 6
 
+abbrev pub aloneIn : ℕ → ℕ
+aloneIn w = w / 2 ^ 63
+
 -- every part has the bits that it needs, and the slots of the cell's arguments are below 64
 pub record Fits (b : Branch) : Type 0 where
   pub cell : b .cell < 2 ^ 32
@@ -68,3 +87,4 @@ pub record Fits (b : Branch) : Type 0 where
   pub rows : b .rows < 2 ^ 7
   pub slot : b .slot < 2 ^ 6
   pub next : b .next + arity (b .cell) < 2 ^ 6
+  pub alone : b .alone < 2

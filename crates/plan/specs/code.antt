@@ -1,3 +1,4 @@
 -- what only private functions need
+pub mod Cells
 pub mod Fits
 pub mod Rows

@@ -1,12 +1,13 @@
 -- The code's own steps (src/branch.rt, src/tree.rt).
-use Prim.Native.Nat.{ℕ, suc, _+_, _-_, _*_, _^_, _≤_, _<_}
+use Prim.Native.Nat.{ℕ, _+_, _*_, _^_, _≤_, _<_}
 use mathlib.Core.Path.{_≡_}
-use mathlib.Core.List.{List, _∷_, _++_, map}
-use lib.ListN.{length, getD, drop, set}
-use lib.Seq.{sets, slice}
-use Rattle.cell.specs.Cell.{arity}
+use mathlib.Core.Bool.{true, cond}
+use mathlib.Core.List.{List, [], _∷_, _++_, map}
+use lib.ListN.{length, getD, set}
+use lib.Seq.{slice}
+use Rattle.cell.specs.Cell.{arity, isVar}
 use Rattle.table.specs.All.{All}
-use Rattle.plan.specs.Notes.{below}
+use Rattle.plan.specs.Notes.{below, repeats, cellIn}
 use Rattle.notes.specs.code.Places.{Open, Spot}
 
 -- The number of a branch that is met, and of one that has ended.
@@ -19,9 +20,22 @@ endOf s r = s * 2 ^ 32 + r * 2 ^ 44
 abbrev pub ended : (skip rows : ℕ) → ℕ → ℕ
 ended s r w = w + endOf s r
 
--- numbers of branches that are met
+-- the numbers of branches that end together, each with the mark of a row that is run by itself from it on: the cells below it are those of the
+-- branches after it, then these
+unfoldable pub finished : (skip rows : ℕ) → List ℕ → (cells : List ℕ) → List ℕ
+finished s r [] cells = []
+finished s r (w ∷ ws) cells = (ended s r w + cond (repeats (cellIn w) (map cellIn ws ++ cells)) 1 0 * 2 ^ 63) ∷ finished s r ws cells
+
+-- variables are below 32
+abbrev pub Low : ℕ → Type 0
+Low c = isVar c ≡ true → c < 32
+
+-- numbers of branches that are met: with what is added to them they are below 2 ^ 63
+abbrev pub Part : ℕ → Type 0
+Part w = w + 2 ^ 51 < 2 ^ 63 + 2 ^ 32
+
 abbrev pub Parts : List ℕ → Type 0
-Parts ws = All (λ (w : ℕ). w < 2 ^ 63) ws
+Parts ws = All Part ws
 
 -- some branches end
 pub record Ending (notes : List ℕ) (from to skip rows : ℕ) : Type 0 where
@@ -30,6 +44,7 @@ pub record Ending (notes : List ℕ) (from to skip rows : ℕ) : Type 0 where
   pub skips : skip < 2 ^ 12
   pub has : rows < 2 ^ 7
   pub parts : Parts (slice from to notes)
+  pub low : All (λ (w : ℕ). Low (cellIn w)) (slice from to notes)
   pub size : length notes ≡ 2048
 
 -- a branch is met at a cell of the plan
@@ -44,5 +59,6 @@ pub record Begun {plan links notes : List ℕ} {i place made free : ℕ} (w : Me
     (a : ℕ) : Type 0 where
   pub count : a ≡ arity (getD plan place 0)
   pub wrote : notes′ ≡ set notes made (partOf (getD plan place 0) (getD (w .spot .slots) i 0) free)
-  pub low : partOf (getD plan place 0) (getD (w .spot .slots) i 0) free < 2 ^ 63
+  pub low : partOf (getD plan place 0) (getD (w .spot .slots) i 0) free + 2 ^ 51 < 2 ^ 63 + 2 ^ 32
+  pub cell : cellIn (partOf (getD plan place 0) (getD (w .spot .slots) i 0) free) ≡ getD plan place 0
   pub opens : Open links′ (free + a) (below i a free (w .spot .slots))

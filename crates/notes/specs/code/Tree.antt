@@ -1,18 +1,20 @@
 -- States and branches of a plan, as the code goes through them (src/tree.rt): what it takes for granted and what it notes.
 use Prim.Native.Nat.{ℕ, suc, _+_, _-_, _≤_, _<_}
 use mathlib.Core.Path.{_≡_}
-use mathlib.Core.List.{List, _∷_, _++_, map}
+use mathlib.Core.Bool.{true}
+use mathlib.Core.List.{List, [], _∷_, _++_, map}
 use lib.ListN.{length, getD, drop}
 use lib.Seq.{sets}
-use Rattle.cell.specs.Cell.{arity}
+use Rattle.cell.specs.Cell.{arity, isVar}
 use Rattle.table.specs.All.{All}
-use Rattle.table.specs.Table.{upFrom, IsTable}
-use Rattle.plan.specs.Runs.{Run}
+use Rattle.table.specs.Table.{count, upFrom, IsTable}
+use Rattle.plan.specs.Runs.{Run, run}
 use Rattle.plan.specs.Plans.{Plan, write, branches}
-use Rattle.plan.specs.Notes.{Branch, branch, below, notes, word}
+use Rattle.plan.specs.Notes.{Branch, branch, flag, below, notes, word, cellIn}
+use Rattle.plan.specs.code.Cells.{Sound, Cells}
 use Rattle.plan.specs.code.Fits.{Fits}
 use Rattle.notes.specs.code.Places.{Open}
-use Rattle.notes.specs.code.Steps.{ended, Parts}
+use Rattle.notes.specs.code.Steps.{finished, Low, Parts}
 use Rattle.notes.specs.declared.tree.Past.{Past}
 
 -- a state at a cell of the plan. Its rows have at most `left` cells each, so that there are slots enough below it
@@ -27,6 +29,7 @@ pub record Ready (plan links noted : List ℕ) (at k made free : ℕ) : Type 0 w
   pub left : ℕ
   pub deep : left ≤ 32
   pub fit : All (Fits left k) rows
+  pub low : Cells Low tree
   pub enough : free + left ≤ 63 + k
   pub slots : List ℕ
   pub number : length slots ≡ k
@@ -46,6 +49,8 @@ pub record ReadyAt (plan links noted : List ℕ) (i place k made free : ℕ) : T
   pub left : ℕ
   pub deep : left ≤ 32
   pub fit : All (Fits left (arity (group .cell) + (k - 1))) (group .rows)
+  pub sound : Sound Low (k - 1) group
+  pub low : Cells Low tree
   pub enough : free + suc left ≤ 63 + k
   pub here : i < k
   pub slots : List ℕ
@@ -57,7 +62,7 @@ pub record ReadyAt (plan links noted : List ℕ) (i place k made free : ℕ) : T
 -- what is noted of it and of all below it
 abbrev pub notesAt : {k : ℕ} {rows : List (List ℕ)} → Plan k rows → (cell i : ℕ) (slots : List ℕ) (made free : ℕ) → List Branch
 notesAt {rows = rows} p c i slots made free =
-    branch c (made + 1 + branches p) (length rows) (getD slots i 0) free
+    branch c (made + 1 + branches p) (length rows) (getD slots i 0) free (flag (run c rows))
     ∷ notes p (below i (arity c) free slots) (made + 1) (free + arity c)
 
 -- words are noted from the number `made` on, so many cells of the plan are passed, and so many rows
@@ -66,6 +71,10 @@ pub record Done (noted noted′ words : List ℕ) (place cells made count rows :
   pub after : p .place ≡ place + cells
   pub next : p .made ≡ made + count
   pub has : p .rows ≡ rows
+
+-- where there is one row, each variable stands in it as often as in these cells
+abbrev pub One : List (List ℕ) → List ℕ → Type 0
+One rows cs = (x : List ℕ) → rows ≡ x ∷ [] → (v : ℕ) → isVar v ≡ true → count v x ≡ count v cs
 
 module _ {plan links noted : List ℕ} where
   abbrev pub StateDone : {at k made free : ℕ} → Ready plan links noted at k made free → List ℕ → Past → Type 0
@@ -78,20 +87,29 @@ module _ {plan links noted : List ℕ} where
       Done noted noted′ (map word (notesAt (w .tree) (w .group .cell) i (w .slots) made free)) place (suc (length (write (w .tree)))) made
       (suc (branches (w .tree))) (length (w .group .rows)) p
 
-  -- single branches lead from a state to a lower one: they end where the state does and have all its rows. They are met and have not ended
+  -- single branches lead from a state to a lower one: they end where the state does and have all its rows. They are met and have not ended.
+  -- With the cells of what is below the lower state, where that has one row, it is known what is noted of them
   pub record Went {at k made free : ℕ} (w : Ready plan links noted at k made free) (links′ noted′ : List ℕ)
       (at′ k′ made′ free′ : ℕ) : Type 0 where
     pub lower : Ready plan links′ noted′ at′ k′ made′ free′
     pub parts : List ℕ
     pub low : Parts parts
+    pub few : All (λ (p : ℕ). Low (cellIn p)) parts
     pub wrote : noted′ ≡ sets noted made parts
     pub next : made′ ≡ made + length parts
-    pub whole : map word (notes (w .tree) (w .slots) made free)
-        ≡ map (ended (made + branches (w .tree)) (length (w .rows))) parts ++ map word (notes (lower .tree) (lower .slots) made′ free′)
+    pub whole : (cs : List ℕ) → One (lower .rows) cs → One (w .rows) (map cellIn parts ++ cs)
+        × (map word (notes (w .tree) (w .slots) made free)
+        ≡ finished (made + branches (w .tree)) (length (w .rows)) parts cs ++ map word (notes (lower .tree) (lower .slots) made′ free′))
     pub count : made′ + branches (lower .tree) ≡ made + branches (w .tree)
     pub same-rows : length (lower .rows) ≡ length (w .rows)
     pub after : at′ + length (write (lower .tree)) ≡ at + length (write (w .tree))
     pub later : at ≤ at′
+
+  -- as far as they lead: where the lower state has one row, nothing of it is left
+  pub record Followed {at k made free : ℕ} (w : Ready plan links noted at k made free) (links′ noted′ : List ℕ)
+      (at′ k′ made′ free′ : ℕ) : Type 0 where
+    pub went : Went w links′ noted′ at′ k′ made′ free′
+    pub ends : One (went .lower .rows) []
 
 -- an accepted plan, for a table of this width
 pub record Accepted (plan noted : List ℕ) (width : ℕ) : Type 0 where

@@ -1,52 +1,110 @@
-use Prim.Native.Nat.{_-_}
-use mathlib.Core.Path.{refl}
 use native.Mathlib.Omega.{arith}
 use borrow.Author.Needs.{needs}
-use Rattle.notes.proofs.BranchLaws.{Finishing, next-low, finish-on, finish-over}
+use lib.Dec.{eqb}
+use lib.ListN.{getD}
+use Rattle.notes.proofs.AloneLaws.{kind-var, kind-symbol}
+use Rattle.notes.proofs.BranchLaws.{Finishing, finish-first, finish-over, mark-low, word-low, cell-low, finish-symbol, finish-variable}
 use Rattle.notes.proofs.branch.finish.Statement.{statement}
 use Rattle.notes.proofs.branch.finish.Tie as tie
 use Rattle.notes.proofs.branch.finish.Reads as reads
 use Rattle.notes.proofs.branch.finish.Lts as lts
+use Rattle.cell.proofs.kind.Reads as kind-reads
 use Rattle.notes.proofs.branch.end.Reads as end-reads
+use Rattle.notes.proofs.branch.meet.Reads as meet-reads
+use Rattle.notes.proofs.packed.cell_of.Reads as cell-of-reads
 
 abbrev Inv-loop : tie.InvT-loop
-Inv-loop notes₀ from to skip rows more i₀ notes i = Finishing notes₀ «from» to skip rows notes i
+Inv-loop notes₀ from to skip rows more seen₀ again₀ i₀ notes seen again i = Finishing notes₀ «from» to skip rows notes seen again i
 
 abbrev μ-loop : tie.MeasureT-loop
-μ-loop notes₀ from to skip rows more i₀ notes i = to - i
+μ-loop notes₀ from to skip rows more seen₀ again₀ i₀ notes seen again i = i
 
 end-requires : tie.Need-end-requires Inv-loop μ-loop
 end-requires c κs = search needs
 
 loop-holds : tie.Need-loop-holds Inv-loop μ-loop
-loop-holds c = let w = c .before .before .pre in record { up = w .up; size = w .size; parts = w .parts; rest = refl }
+loop-holds c = finish-first (c .before .before .pre)
+
+sub-i : tie.Need-sub-i Inv-loop μ-loop
+sub-i c = search needs
+
+mul-w : tie.Need-mul-w Inv-loop μ-loop
+mul-w c = search needs
+
+slice-read-w : tie.Need-slice-read-w Inv-loop μ-loop
+slice-read-w c = search needs
+
+cell-of-requires : tie.Need-cell-of-requires Inv-loop μ-loop
+cell-of-requires c κs = search needs
+
+kind-requires : tie.Need-kind-requires Inv-loop μ-loop
+kind-requires c κs = search needs
+
+cast-meet : tie.Need-cast-meet Inv-loop μ-loop
+cast-meet c = search needs
+
+meet-requires : tie.Need-meet-requires Inv-loop μ-loop
+meet-requires c κs =
+    let k = c .before .before in
+    let l = k .before .before .before .before in
+    let v = kind-var _ (k .kind .result) (k .kind .ensures) (omega (arith, c .before .match .keys1)) in
+    (cell-low (l .before .before .before .pre) (l .loop .inv) (omega arith) (k .before .cell-of .ensures) v, l .loop .inv .size-seen)
+
+add-notes : tie.Need-add-notes Inv-loop μ-loop
+add-notes c =
+    let l = c .before .before .before .before .before .before .before in
+    let w = l .before .before .before .pre in
+    omega (arith, word-low w (l .loop .inv) (omega arith), l .before .end .ensures, w .skips, w .has)
+
+add-notes-2 : tie.Need-add-notes-2 Inv-loop μ-loop
+add-notes-2 c =
+    let l = c .before .before .before .before .before .before .before in
+    let w = l .before .before .before .pre in
+    omega (arith, word-low w (l .loop .inv) (omega arith), l .before .end .ensures, w .skips, w .has, mark-low w (l .loop .inv) (eqb (getD (l .loop .seen) (c .before .before .before .before .cell-of .result) 0) 0) (c .meet .ensures .0))
 
 mul-notes : tie.Need-mul-notes Inv-loop μ-loop
 mul-notes c = search needs
 
-slice-read-notes : tie.Need-slice-read-notes Inv-loop μ-loop
-slice-read-notes c = search needs
-
-add-notes : tie.Need-add-notes Inv-loop μ-loop
-add-notes c = omega (arith, next-low (c .before .before .loop .inv) (omega arith) (omega arith))
-
 slice-write-notes : tie.Need-slice-write-notes Inv-loop μ-loop
 slice-write-notes c = search needs
-
-add-i : tie.Need-add-i Inv-loop μ-loop
-add-i c = search needs
 
 loop-less : tie.Need-loop-less Inv-loop μ-loop
 loop-less c = search needs
 
 loop-again : tie.Need-loop-again Inv-loop μ-loop
-loop-again c = finish-on (c .before .before .loop .inv) (omega arith) (omega arith) _ (c .before .before .before .end .ensures)
+loop-again c =
+    let k = c .before .before .before in
+    let l = k .before .before .before .before in
+    let v = kind-var _ (k .kind .result) (k .kind .ensures) (omega (arith, c .before .before .match .keys1)) in
+    finish-variable (l .before .before .before .pre) (l .loop .inv) (omega arith) (k .before .cell-of .ensures) v (l .before .end .ensures) (c .meet .ensures .0) (c .meet .ensures .1)
+
+add-notes-3 : tie.Need-add-notes-3 Inv-loop μ-loop
+add-notes-3 c =
+    let l = c .before .before .before .before .before in
+    let w = l .before .before .before .pre in
+    omega (arith, word-low w (l .loop .inv) (omega arith), l .before .end .ensures, w .skips, w .has)
+
+mul-notes-2 : tie.Need-mul-notes-2 Inv-loop μ-loop
+mul-notes-2 c = search needs
+
+slice-write-notes-2 : tie.Need-slice-write-notes-2 Inv-loop μ-loop
+slice-write-notes-2 c = search needs
+
+loop-less-2 : tie.Need-loop-less-2 Inv-loop μ-loop
+loop-less-2 c = search needs
+
+loop-again-2 : tie.Need-loop-again-2 Inv-loop μ-loop
+loop-again-2 c =
+    let k = c .before in
+    let l = k .before .before .before .before in
+    let v = kind-symbol _ (k .kind .result) (k .kind .ensures) (omega (arith, c .match .rest)) in
+    finish-symbol (l .before .before .before .pre) (l .loop .inv) (omega arith) (k .before .cell-of .ensures) v (l .before .end .ensures)
 
 same-length : tie.Need-same-length Inv-loop μ-loop
 same-length c = omega (arith, c .before .loop .inv .size)
 
 returns : tie.Need-returns Inv-loop μ-loop
-returns c = finish-over (c .before .loop .inv) (omega arith)
+returns c = finish-over (c .before .before .before .before .pre) (c .before .loop .inv) (omega arith)
 
 pub finish-spec : {M : Type 1} → statement M
 finish-spec =
@@ -56,12 +114,23 @@ finish-spec =
     μ-loop
     end-requires
     loop-holds
-    mul-notes
-    slice-read-notes
+    sub-i
+    mul-w
+    slice-read-w
+    cell-of-requires
+    kind-requires
+    cast-meet
+    meet-requires
     add-notes
+    add-notes-2
+    mul-notes
     slice-write-notes
-    add-i
     loop-less
     loop-again
+    add-notes-3
+    mul-notes-2
+    slice-write-notes-2
+    loop-less-2
+    loop-again-2
     same-length
     returns)

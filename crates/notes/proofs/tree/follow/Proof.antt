@@ -4,7 +4,7 @@ use native.Mathlib.Omega.{arith}
 use lib.ListN.{length, getD}
 use Rattle.notes.specs.code.Tree.{Ready, ReadyAt, Went}
 use Rattle.notes.proofs.TreeLaws.{state-bounds, branch-bounds, inside, met, arity-is}
-use Rattle.notes.proofs.ChainLaws.{single-is, Only, only, went-none, went-on}
+use Rattle.notes.proofs.ChainLaws.{single-is, Only, only, stopped, went-none, went-on}
 use Rattle.notes.proofs.tree.follow.Statement.{statement}
 use Rattle.notes.proofs.tree.follow.Tie as tie
 use Rattle.notes.proofs.tree.follow.Reads as reads
@@ -93,7 +93,9 @@ same-length : tie.Need-same-length Inv-loop μ-loop
 same-length c = reached (c .before .before) .array ∙ sym (c .before .before .before .before .before .pre .array)
 
 returns : tie.Need-returns Inv-loop μ-loop
-returns c = λ w. c .before .before .loop .inv w
+returns c = λ w.
+    let g = c .before .before .loop .inv w in
+    record { went = g; ends = stopped (g .lower) (sym (c .before .single .ensures) ∙ c .if1 .left) }
 
 pub follow-spec : {M : Type 1} → statement M
 follow-spec =
