@@ -1,17 +1,19 @@
 -- From an accepted table, plan and goal to what the walk takes for granted, and from what it gives to what a run is to report.
-use Prim.Native.Nat.{ℕ, suc, _+_, _-_, _^_, _≤_, _<_}
+use Prim.Native.Nat.{ℕ, zero, suc, _+_, _-_, _^_, _≤_, _<_}
 use mathlib.Core.Path.{_≡_, refl, sym, subst}
+use mathlib.Core.Bool.{true}
 use mathlib.Core.List.{List, [], _∷_, List·Memᴰ}
 use native.Mathlib.Omega.{arith}
 use lib.ListN.{length, replicate}
-use Rattle.cell.specs.Cell.{arity, valuesAt}
+use Rattle.cell.specs.Cell.{arity, isVar, valuesAt}
+use borrow.Author.Tests.{ne-eqb}
 use Rattle.cell.proofs.CellLaws.{cell-accepted}
 use Rattle.term.specs.Terms.{none, root, close}
 use Rattle.term.specs.Unify.{Unifies, renamed, Matches}
 use Rattle.term.proofs.TermsLaws.{terms-long}
 use Rattle.table.specs.All.{All}
 use Rattle.table.proofs.AllLaws.{all-each}
-use Rattle.table.specs.Table.{Row, IsTable, IsGoal}
+use Rattle.table.specs.Table.{count, Row, IsTable, IsGoal}
 use Rattle.table.proofs.Accepted.{few-variables}
 use Rattle.plan.specs.Runs.{Run}
 use Rattle.plan.specs.Plans.{Plan, leaf, node, Branches, end, next}
@@ -23,27 +25,39 @@ use Rattle.answer.specs.Run.{Picks, none, hit, miss, Counts, skeletons, 
 use Rattle.answer.specs.code.Renamed.{Goal}
 use Rattle.answer.specs.code.Tree.{hits, tried, Deep, DeepIn}
 use Rattle.answer.proofs.AfterLaws.{GoalLike}
-use Rattle.answer.proofs.SkeletonLaws.{fill-all, count-all, start}
+use Rattle.answer.proofs.SkeletonLaws.{fill-all, count-all, start, var-no-hole}
+use Rattle.answer.proofs.LooseLaws.{Loose}
 use Rattle.answer.proofs.RenamedLaws.{Small, renamed-length, renamed-terms, renamed-range}
-use Rattle.answer.proofs.MeaningLaws.{Fine, Numbers, hits-mean, tried-mean}
+use Rattle.answer.proofs.MeaningLaws.{Fine, plain, Numbers, hits-mean, tried-mean}
 
 -- The rows.
 
 -- a hole is no cell of 01
-no-cell : ¬ Rattle.cell.specs.Cell.Cell hole
+pub no-cell : ¬ Rattle.cell.specs.Cell.Cell hole
 unfolding hole valuesAt
 no-cell c = cell-accepted hole .0 c refl
 
+-- nothing is decided above the first state
+no-variable : (w v : ℕ) → isVar v ≡ true → count v (replicate w hole) ≡ 0
+unfolding count
+no-variable zero v h = refl
+no-variable (suc w) v h = let n = no-variable w v h in rw (ne-eqb v hole (var-no-hole v h)) (omega arith)
+
 fine-row : (w : ℕ) (r : List ℕ) → Row w r → Fine (replicate w hole) r
 fine-row w r h =
-    let e = fill-all w (h .head .terms) in
+    let e = fill-all w (h .terms) in
     record {
-      terms = rw (count-all w) (h .head .terms);
-      low = λ c m v. omega (arith, few-variables (h .head) c (subst (λ (l : List ℕ). List·Memᴰ c l) e m) v);
-      lin = record { once = rw e (h .once) };
-      short = omega (arith, h .head .short);
-      symbols = λ m. no-cell (h .head .cells hole m);
+      loose = record {
+        terms = rw (count-all w) (h .terms);
+        low = λ c m v. omega (arith, few-variables h c (subst (λ (l : List ℕ). List·Memᴰ c l) e m) v);
+        short = omega (arith, h .short);
+        symbols = λ m. no-cell (h .cells hole m);
+      };
+      even = plain (λ v q. no-variable w v q);
     }
+
+pub table-loose : {t : List ℕ} {w : ℕ} {rows : List (List ℕ)} → IsTable t w rows → All (Loose (replicate w hole)) rows
+table-loose {w = w} {rows = rows} i = all-each (Row w) (Loose (replicate w hole)) (λ r h. fine-row w r h .loose) rows (i .each)
 
 pub table-fine : {t : List ℕ} {w : ℕ} {rows : List (List ℕ)} → IsTable t w rows → All (Fine (replicate w hole)) rows
 table-fine {w = w} {rows = rows} i = all-each (Row w) (Fine (replicate w hole)) (fine-row w) rows (i .each)
@@ -106,7 +120,7 @@ module _ {w : ℕ} {g : List ℕ} {rows : List (List ℕ)} (h : IsGoal w g) (a :
   -- demand 2: exactly the rows that unify with the goal
   pub hits-right : Picks (λ (row : List ℕ). Matches row g) rows 0 (hits tree 32 (renamed g) 0)
   hits-right =
-      let same : (x : List ℕ) → Fine (replicate w hole) x → fill (replicate w hole) x ≡ x = λ x F. fill-all w (rw (count-all w) at (F .terms)) in
+      let same : (x : List ℕ) → Fine (replicate w hole) x → fill (replicate w hole) x ≡ x = λ x F. fill-all w (rw (count-all w) at (F .loose .terms)) in
       picks-map (Fine (replicate w hole))
       (λ x F p. subst (λ (l : List ℕ). Unifies l (renamed g)) (same x F) p)
       (λ x F p. subst (λ (l : List ℕ). Unifies l (renamed g)) (sym (same x F)) p)

@@ -17,7 +17,7 @@ use Rattle.plan.specs.Plans.{Plan, write}
 use Rattle.answer.specs.Skeleton.{hole, opened}
 use Rattle.answer.specs.Run.{Picks, none, hit, miss, Counts, zero-of, one-of, none-of, skeletons, Tried, runTold, Ran, refusal, ran}
 use Rattle.answer.specs.declared.RunAnswer.{RunAnswer}
-use Rattle.answer.proofs.AcceptedLaws.{goal-head, table-fine}
+use Rattle.answer.proofs.AcceptedLaws.{goal-head, table-loose}
 use Rattle.answer.proofs.OpenGoalLaws.{skeletons-terms}
 use Rattle.answer.proofs.TakesLaws.{Takes, takes-run}
 use Rattle.answer.proofs.Fixed.{picks-one, counts-one, skeletons-one}
@@ -54,7 +54,7 @@ module _ (w : ℕ) (g : List ℕ) (t : Terms w (renamed g)) where
 -- so what a run of an accepted table, plan and goal answers and writes is computed
 pub row-terms : (w : ℕ) (rows : List (List ℕ)) → All (Row w) rows → All (Terms w) rows
 row-terms w [] a = tt
-row-terms w (r ∷ rs) a = (a .0 .head .terms, row-terms w rs (a .1))
+row-terms w (r ∷ rs) a = (a .0 .terms, row-terms w rs (a .1))
 
 pub run-by : {t p g room room′ : List ℕ} {T : Table} {r : RunAnswer} (tree : Plan (T .width) (T .rows)) → Takes t p g room T → write tree ≡ p → Ran t p g room room′ r
     → (runTold r ≡ answered (length (hitsBy g (T .rows) 0)) (triedBy g (skeletons tree (replicate (T .width) hole)))) × (room′ ≡ hitsBy g (T .rows) 0 ++ drop (length (hitsBy g (T .rows) 0)) room)
@@ -67,6 +67,6 @@ run-by {t} {p} {g} {room} {T = T} tree k c (ran T′ tree′ found n a e w u b d
     let ef : found ≡ hitsBy g (T .rows) 0 = picks-one (subst (λ (x : Table). Picks (λ (row : List ℕ). Matches row g) (x .rows) 0 found) q w) hs in
     let es = skeletons-one (ap (λ (x : Table). x .width) q) (ap (λ (x : Table). x .rows) q) tree′ tree (sym e ∙ sym c) in
     let Ks = skeletons tree (replicate (T .width) hole) in
-    let ts = tried-by (T .width) g h Ks (skeletons-terms (T .width) tree (table-fine i) (omega (arith, i .count))) in
+    let ts = tried-by (T .width) g h Ks (skeletons-terms (T .width) tree (table-loose i) (omega (arith, i .count))) in
     let en : n ≡ triedBy g Ks = counts-one (subst (λ (l : List (List ℕ)). Counts (Tried g) l n) es u) ts in
     (b ∙ ap (λ (l : List ℕ). answered (length l) n) ef ∙ ap (answered (length (hitsBy g (T .rows) 0))) en, d ∙ ap (λ (l : List ℕ). l ++ drop (length l) room) ef)

@@ -1,113 +1,49 @@
 -- What the walk gives, `hits` and `tried`, against what a run is to report, by unification alone.
-use Prim.Native.Nat.{ℕ, zero, suc, _+_, _-_, _^_, _≤_, _<_}
+use Prim.Native.Nat.{ℕ, suc, _+_, _-_, _^_, _≤_, _<_}
 use mathlib.Core.Path.{_≡_, refl, sym, _∙_, ap, subst}
-use mathlib.Core.Logic.{_≢_, _↔_, ⊎-elim}
-use mathlib.Core.Bool.{Bool, true, false}
-use mathlib.Core.List.{List, [], _∷_, _++_, List·Memᴰ, List·Memᴰ·head, List·Memᴰ·tail, List·Memᴰ·append-cases, Memᴰ·append-left, Memᴰ·append-right}
-use native.Mathlib.Nat.{zero-add, suc-add, add-assoc}
+use mathlib.Core.Logic.{_≢_, _↔_, _⊎_, inl, inr, ⊎-elim}
+use mathlib.Core.Bool.{Bool, true, false, cond, _&&_, true≢false}
+use mathlib.Core.List.{List, [], _∷_, _++_, flatten, append-nil}
+use native.Mathlib.Nat.{zero-add, add-assoc}
 use native.Mathlib.Omega.{arith}
-use lib.ListN.{length, length-append}
+use lib.Dec.{eqb}
+use lib.ListN.{length, replicate}
+use borrow.Author.Tests.{ne-eqb}
 use Rattle.cell.specs.Cell.{arity, isVar}
-use Rattle.term.specs.Terms.{Terms, front, back, root, close}
+use Rattle.term.specs.Terms.{Terms, root, close}
 use Rattle.term.specs.Unify.{inst, Unifies, renamed}
-use Rattle.term.proofs.TermsLaws.{front-back, front-terms, back-terms, one-cell, Terms-++, zero-nil, terms-long}
+use Rattle.term.proofs.TermsLaws.{zero-nil, front-++, back-++}
 use Rattle.term.proofs.Inst.{Subst-id}
+use Rattle.term.proofs.Tests.{bool-cases, eqb-same}
+use Rattle.term.proofs.Decide.{Decides, says-yes, says-no, unifiable, unifiable-correct}
 use Rattle.term.specs.Bind.{idS}
 use Rattle.table.specs.All.{All}
 use Rattle.table.proofs.AllLaws.{all-each}
 use Rattle.table.specs.Table.{count, upFrom}
 use Rattle.plan.specs.Runs.{Run, agree, joinIf, join, runs}
 use Rattle.plan.specs.Plans.{Plan, leaf, node, Branches, end, next}
+use Rattle.plan.specs.Notes.{twice, flag}
+use Rattle.plan.proofs.TwiceLaws.{Lone, runs-lone, twice-once, once-twice}
 use Rattle.plan.proofs.RunsLaws.{agree-eq, Each, Sized, group-all, group-sizes}
 use Rattle.answer.specs.Skeleton.{hole, fill, decide, opened}
 use Rattle.answer.specs.Run.{Picks, none, hit, miss, Counts, zero-of, one-of, none-of, skeletons, skeletonsIn, Tried}
 use Rattle.answer.specs.code.After.{Left}
 use Rattle.answer.specs.code.Renamed.{var}
-use Rattle.answer.specs.code.Tree.{under, hits, hitsIn, tried, triedIn, Deep, DeepIn}
-use Rattle.answer.proofs.CountLaws.{count-mem, mem-count, Linear}
+use Rattle.answer.specs.code.Tree.{insert, triedOn, under, hits, hitsIn, tried, triedIn, Deep, DeepIn}
+use Rattle.answer.proofs.CountLaws.{Linear}
 use Rattle.answer.proofs.AfterLaws.{RowLike}
-use Rattle.answer.proofs.SkeletonLaws.{Holds, Decided, goes, ends, step, reached, fill-decide, decide-count, count-fill, var-no-hole, three-of, one-row, Opened, opened-row}
+use Rattle.answer.proofs.LooseLaws.{Loose, refill, no-hole, loose-close, skeleton-low, skeleton-short}
+use Rattle.answer.proofs.LooseLaws.{row-like, parts, some-row, counts-++}
+use Rattle.answer.proofs.RelativeLaws.{dead-all, rel-first, rel-next, rel-tried, rel-skeletons, add}
+use Rattle.answer.proofs.SkeletonLaws.{Settled, settled-linear, decided, Holds, Decided, goes, ends, step, reached, decide-count, count-fill, var-no-hole, three-of, one-row, Opened, opened-row}
 
--- A row under a skeleton: its open terms x.
-pub record Fine (K x : List ℕ) : Type 0 where
-  pub terms : Terms (count hole K) x
-  pub low : (c : ℕ) → List·Memᴰ c (fill K x) → isVar c ≡ true → c < 2 ^ 15
+-- a row that uses each of its variables once
+pub record Once (K x : List ℕ) : Type 0 where
+  pub loose : Loose K x
   pub lin : Linear (fill K x)
-  pub short : length x ≤ 2 ^ 15
-  pub symbols : ¬ List·Memᴰ hole x
 
-row-like : {K x : List ℕ} → Fine K x → RowLike (fill K x)
-row-like f = record { low = λ c m v. let h = f .low c m v in omega arith }
-
--- the cell at a place, and the list without it
-close-front : (i : ℕ) (x : List ℕ) (c : ℕ) (B : List ℕ) → back i x ≡ c ∷ B → (root i x ≡ c) × (close i x ≡ front i x ++ B)
-unfolding root close front back
-close-front i [] c B e = absurd (let z : _≡_ {A = ℕ} 0 1 = cc in let y : ⊥ = omega arith in y)
-close-front zero (d ∷ xs) c B e = (cc, cc)
-close-front (suc i) (d ∷ xs) c B e = let r = close-front (arity d + i) xs c B e in (r .0, ap (λ (l : List ℕ). d ∷ l) (r .1))
-
--- a row split at an open place
-record Split (i c j : ℕ) (x y : List ℕ) : Type 0 where
-  pub A : List ℕ
-  pub args : List ℕ
-  pub B : List ℕ
-  pub whole : x ≡ A ++ (c ∷ (args ++ B))
-  pub closed : y ≡ A ++ (args ++ B)
-  pub tA : Terms i A
-  pub targs : Terms (arity c) args
-  tB : Terms j B
-
-split : (i j : ℕ) (x : List ℕ) → Terms (i + suc j) x → Split i (root i x) j x (close i x)
-split i j x t =
-    let o = one-cell (back-terms i (suc j) x t) in
-    let r = close-front i x (o .0) (o .1) (o .2) in
-    let f = front-back (arity (o .0)) (o .1) in
-    rw (r .0)
-    (record {
-      A = front i x;
-      args = front (arity (o .0)) (o .1);
-      B = back (arity (o .0)) (o .1);
-      whole = sym (front-back i x) ∙ ap (λ (l : List ℕ). front i x ++ l) (o .2 ∙ ap (λ (l : List ℕ). o .0 ∷ l) (sym f));
-      closed = r .1 ∙ ap (λ (l : List ℕ). front i x ++ l) (sym f);
-      tA = front-terms i (suc j) x t;
-      targs = front-terms (arity (o .0)) j (o .1) (o .3);
-      tB = back-terms (arity (o .0)) j (o .1) (o .3);
-    })
-
-mem-mid : {v : ℕ} (c : ℕ) (A B : List ℕ) → List·Memᴰ v (A ++ B) → List·Memᴰ v (A ++ (c ∷ B))
-mem-mid c A B m = ⊎-elim (λ p. Memᴰ·append-left (c ∷ B) p) (λ q. Memᴰ·append-right A (List·Memᴰ·tail q)) (List·Memᴰ·append-cases A m)
-
--- closing a place of a row is deciding it in the skeleton
-module _ (K : List ℕ) (i j : ℕ) (e : count hole K ≡ i + suc j) {x : List ℕ} (f : Fine K x) where
-  parts : Split i (root i x) j x (close i x)
-  parts = split i j x (rw e at (f .terms))
-
-  no-hole : root i x ≢ hole
-  no-hole p = f .symbols (subst (λ (l : List ℕ). List·Memᴰ hole l) (sym (parts .whole)) (Memᴰ·append-right (parts .A) (List·Memᴰ·head (sym p))))
-
-  refill : fill (decide i (root i x) K) (close i x) ≡ fill K x
-  refill =
-      ap (fill (decide i (root i x) K)) (parts .closed) ∙ fill-decide i (root i x) K (parts .B) no-hole (parts .tA) (parts .targs) ∙ ap (fill K) (sym (parts .whole))
-
-  holes : count hole (decide i (root i x) K) ≡ i + (arity (root i x) + j)
-  holes = let d = decide-count i (root i x) K no-hole (omega arith) in omega arith
-
-  fine-close : Fine (decide i (root i x) K) (close i x)
-  fine-close = record {
-    terms = rw (holes, parts .closed) (Terms-++ (parts .tA) (Terms-++ (parts .targs) (parts .tB)));
-    low = λ c m v. f .low c (subst (λ (l : List ℕ). List·Memᴰ c l) refill m) v;
-    lin = subst Linear (sym refill) (f .lin);
-    short = omega (
-      arith,
-      f .short,
-      ap length (parts .whole),
-      ap length (parts .closed),
-      length-append (parts .A) (root i x ∷ (parts .args ++ parts .B)),
-      length-append (parts .A) (parts .args ++ parts .B),
-    );
-    symbols = λ m. f .symbols (subst (λ (l : List ℕ). List·Memᴰ hole l) (sym (parts .whole))
-        (mem-mid (root i x) (parts .A) (parts .args ++ parts .B) (subst (λ (l : List ℕ). List·Memᴰ hole l) (parts .closed) m)));
-  }
+once-close : (K : List ℕ) (i j : ℕ) → count hole K ≡ i + suc j → {x : List ℕ} → Once K x → Once (decide i (root i x) K) (close i x)
+once-close K i j e {x} f = record { loose = loose-close K i j e (f .loose); lin = subst Linear (sym (refill K i j e (f .loose))) (f .lin) }
 
 -- Picks of the rows of runs.
 
@@ -158,14 +94,10 @@ picks-none P (r ∷ rs) f a = miss (a .0) (picks-none P rs (suc f) (a .1))
 
 -- a row of a run, under the skeleton below the branch
 abbrev pub Below : ℕ → List ℕ → ℕ → List ℕ → Type 0
-Below i K c x = Fine (decide i c K) x × (c ≢ hole)
+Below i K c x = Once (decide i c K) x × (c ≢ hole)
 
-pub below-all : (K : List ℕ) (i j : ℕ) → count hole K ≡ i + suc j → (rows : List (List ℕ)) → All (Fine K) rows → Each (Below i K) (runs i rows)
-below-all K i j e = group-all (root i) (close i) (Fine K) (Below i K) (λ r f. (fine-close K i j e f, no-hole K i j e f))
-
-pub some-row : (P : List ℕ → Type 0) (rows : List (List ℕ)) → 0 < length rows → All P rows → (x : List ℕ) × P x
-some-row P [] l a = absurd (let z : ⊥ = omega arith in z)
-some-row P (r ∷ rs) l a = (r, a .0)
+pub below-all : (K : List ℕ) (i j : ℕ) → count hole K ≡ i + suc j → (rows : List (List ℕ)) → All (Once K) rows → Each (Below i K) (runs i rows)
+below-all K i j e = group-all (root i) (close i) (Once K) (Below i K) (λ r f. (once-close K i j e f, no-hole K i j e (f .loose)))
 
 -- what a run's rows say of its cell and of what is open below it
 module _ (i k c : ℕ) (K : List ℕ) (rows : List (List ℕ)) (e : count hole K ≡ suc k) (l : i ≤ k) (s : 0 < length rows) (a : All (Below i K c) rows) where
@@ -175,8 +107,81 @@ module _ (i k c : ℕ) (K : List ℕ) (rows : List (List ℕ)) (e : count hole K
   pub holes-below : count hole (decide i c K) ≡ arity c + k
   holes-below = let z = decide-count i c K cell-hole (omega arith) in omega arith
 
-  pub fine-below : All (Fine (decide i c K)) rows
-  fine-below = all-each (Below i K c) (Fine (decide i c K)) (λ x y. y .0) rows a
+  pub once-below : All (Once (decide i c K)) rows
+  once-below = all-each (Below i K c) (Once (decide i c K)) (λ x y. y .0) rows a
+
+-- A row of which no variable is decided, or that uses each of its variables once.
+pub data Even (K x : List ℕ) : Type 0 where
+  plain : ((v : ℕ) → isVar v ≡ true → count v K ≡ 0) → Even K x
+  linear : Linear (fill K x) → Even K x
+
+pub record Fine (K x : List ℕ) : Type 0 where
+  pub loose : Loose K x
+  pub even : Even K x
+
+even-settled : {K x : List ℕ} → Even K x → Settled K x
+even-settled (plain p) = record { once = λ v h n. absurd (let z = p v h in let y : ⊥ = omega arith in y) }
+even-settled (linear l) = settled-linear l
+
+-- a row of a run: what it was before the run's place was closed, and what it is below the branch
+pub record From (i : ℕ) (K : List ℕ) (c : ℕ) (y : List ℕ) : Type 0 where
+  pub row : List ℕ
+  pub fine : Fine K row
+  pub whole : insert i c y ≡ row
+  pub again : fill (decide i c K) y ≡ fill K row
+  pub loose : Loose (decide i c K) y
+  pub solid : c ≢ hole
+  pub even : (isVar c && twice (c ∷ y)) ≡ false → Even (decide i c K) y
+  pub cells : (v : ℕ) → isVar v ≡ true → count v (c ∷ y) ≤ count v (fill K row)
+
+flat-one : (y : List ℕ) → flatten (y ∷ []) ≡ y
+unfolding flatten
+flat-one y = append-nil y
+
+-- a row's own place
+module _ (K : List ℕ) (i j : ℕ) (e : count hole K ≡ i + suc j) {x : List ℕ} (F : Fine K x) where
+  abbrev c : ℕ
+  c = root i x
+
+  abbrev y : List ℕ
+  y = close i x
+
+  counts : (v : ℕ) → isVar v ≡ true → (count v (decide i c K) ≡ cond (eqb v c) 1 0 + count v K) × (count v (fill K x) ≡ count v K + (cond (eqb v c) 1 0 + count v y))
+  counts v hv =
+      let q = parts K i j e (F .loose) in
+      let d = decided i c j K (no-hole K i j e (F .loose)) e v hv (q .tA) (q .targs) (q .tB) in
+      (d .0, rw (← (q .whole), ← (q .closed)) at (d .1))
+
+  still-even : (isVar c && twice (c ∷ y)) ≡ false → Even (decide i c K) y
+  unfolding count
+  still-even z = go (F .even)
+    where
+      go : Even K x → Even (decide i c K) y
+      go (linear l) = linear (subst Linear (sym (refill K i j e (F .loose))) l)
+      go (plain p) = ⊎-elim
+          (λ h. let t : twice (c ∷ y) ≡ false = rw h at z in
+          let l = twice-once (c ∷ y) t in
+          linear (record { once = λ v hv. rw (refill K i j e (F .loose)) (let d = counts v hv in let n = l v hv in let o = p v hv in omega (arith, d .1, n, o)) }))
+          (λ h. plain (λ v hv. let d = counts v hv in let o = p v hv in let n : v ≢ c = λ q. true≢false (sym hv ∙ ap isVar q ∙ h) in let u : _≡_ {A = ℕ} (cond (eqb v c) 1 0) 0 = rw (ne-eqb v c n) in omega (arith, d .0, o, u)))
+          (bool-cases (isVar c))
+
+  from-row : From i K c y
+  unfolding count
+  from-row =
+      let q = parts K i j e (F .loose) in
+      record {
+        row = x;
+        fine = F;
+        whole = rw (q .closed, front-++ (q .args ++ q .B) (q .tA), back-++ (q .args ++ q .B) (q .tA)) (sym (q .whole));
+        again = refill K i j e (F .loose);
+        loose = loose-close K i j e (F .loose);
+        solid = no-hole K i j e (F .loose);
+        even = still-even;
+        cells = λ v hv. let d = counts v hv in omega (arith, d .1);
+      }
+
+pub from-all : (K : List ℕ) (i j : ℕ) → count hole K ≡ i + suc j → (rows : List (List ℕ)) → All (Fine K) rows → Each (From i K) (runs i rows)
+from-all K i j e = group-all (root i) (close i) (Fine K) (From i K) (λ r f. from-row K i j e f)
 
 -- numbers of variables: m is the next one, n cells are left in each row
 pub record Numbers (k m n : ℕ) : Type 0 where
@@ -189,6 +194,48 @@ numbers-below a x h = (record { wide = omega arith; few = omega (arith, x .few) 
 Unify-none : {X R : List ℕ} → Terms 0 X → Terms 0 R → Unifies X R
 Unify-none t u = record { by = idS; good = Subst-id; same = ap (inst idS) (zero-nil t ∙ sym (zero-nil u)) }
 
+-- what a run's rows say, as they stand in the state
+module _ (i k c : ℕ) (K : List ℕ) (rows : List (List ℕ)) (e : count hole K ≡ suc k) (l : i ≤ k) (s : 0 < length rows) (a : All (From i K c) rows) where
+  from-solid : c ≢ hole
+  from-solid = some-row (From i K c) rows s a .1 .solid
+
+  from-holes : count hole (decide i c K) ≡ arity c + k
+  from-holes = let z = decide-count i c K from-solid (omega arith) in omega arith
+
+  from-loose : All (Loose (decide i c K)) rows
+  from-loose = all-each (From i K c) (Loose (decide i c K)) (λ x y. y .loose) rows a
+
+-- where the branch is not flagged, each row is fine below it
+flag-off : (i : ℕ) (K : List ℕ) (g : Run) → flag g ≡ false → (isVar (g .cell) ≡ true → length (g .rows) ≡ 1) → All (From i K (g .cell)) (g .rows) → All (Fine (decide i (g .cell) K)) (g .rows)
+flag-off i K g z one a = ⊎-elim
+    (λ h. single (g .rows) (one h) (rw h at z) h a)
+    (λ h. all-each (From i K (g .cell)) (Fine (decide i (g .cell) K)) (λ y f. record { loose = f .loose; even = f .even (rw h refl) }) (g .rows) a)
+    (bool-cases (isVar (g .cell)))
+  where
+    single : (rows : List (List ℕ)) → length rows ≡ 1 → twice (g .cell ∷ flatten rows) ≡ false → isVar (g .cell) ≡ true → All (From i K (g .cell)) rows → All (Fine (decide i (g .cell) K)) rows
+    single [] l t h a = tt
+    single (y ∷ []) l t h a = (record { loose = a .0 .loose; even = a .0 .even (rw h (rw (flat-one y) at t)) }, tt)
+    single (y ∷ (x ∷ rows)) l t h a = absurd (let z : ⊥ = omega arith in z)
+
+-- where it is, no variable is decided above it
+flag-on : (i : ℕ) (K : List ℕ) (g : Run) {k : ℕ} → count hole K ≡ suc k → i ≤ k → flag g ≡ true → (isVar (g .cell) ≡ true → length (g .rows) ≡ 1) → 0 < length (g .rows) → All (From i K (g .cell)) (g .rows)
+    → (y : List ℕ) × (g .rows ≡ y ∷ []) × From i K (g .cell) y × (isVar (g .cell) ≡ true) × (twice (g .cell ∷ y) ≡ true)
+flag-on i K g e l z one s a = go (g .rows) (isVar (g .cell)) refl z one s a
+  where
+    go : (rows : List (List ℕ)) (v : Bool) → isVar (g .cell) ≡ v → (v && twice (g .cell ∷ flatten rows)) ≡ true → (v ≡ true → length rows ≡ 1) → 0 < length rows → All (From i K (g .cell)) rows
+        → (y : List ℕ) × (rows ≡ y ∷ []) × From i K (g .cell) y × (isVar (g .cell) ≡ true) × (twice (g .cell ∷ y) ≡ true)
+    go rows false h z one s a = absurd (true≢false (sym z))
+    go [] true h z one s a = absurd (let y : ⊥ = omega arith in y)
+    go (y ∷ []) true h z one s a = (y, refl, a .0, h, rw (flat-one y) at z)
+    go (y ∷ (x ∷ rows)) true h z one s a = absurd (let w = one refl in let q : ⊥ = omega arith in q)
+
+flag-plain : {i : ℕ} {K : List ℕ} {c : ℕ} {y : List ℕ} → From i K c y → twice (c ∷ y) ≡ true → (v : ℕ) → isVar v ≡ true → count v K ≡ 0
+flag-plain {K = K} {c} {y} f t = go (f .fine .even)
+  where
+    go : Even K (f .row) → (v : ℕ) → isVar v ≡ true → count v K ≡ 0
+    go (plain p) = p
+    go (linear l) = absurd (true≢false (sym t ∙ once-twice (c ∷ y) (λ v h. let n = l .once v h in let o = f .cells v h in omega arith)))
+
 module _ (G : List ℕ) where
   abbrev Fills : List ℕ → List ℕ → Type 0
   Fills K x = Unifies (fill K x) G
@@ -198,7 +245,26 @@ module _ (G : List ℕ) where
   one-mean i c K m rows f h F (goes {R} H) ih = ih R H
   one-mean i c K m rows f h F (ends n) ih =
       picks-none (Fills (decide i c K)) rows f
-      (all-each (Fine (decide i c K)) (λ (x : List ℕ). ¬ Fills (decide i c K) x) (λ x y. n x (y .terms) (row-like y) (y .lin)) rows F)
+      (all-each (Fine (decide i c K)) (λ (x : List ℕ). ¬ Fills (decide i c K) x) (λ x y. n x (y .loose .terms) (row-like (y .loose)) (even-settled (y .even))) rows F)
+
+  -- a flagged row, by itself
+  alone-mean : {n : ℕ} (i c : ℕ) (K R : List ℕ) (f : ℕ) → Holds n G K R → (rows : List (List ℕ)) → length rows ≡ 1 → All (From i K c) rows
+      → Picks (Fills (decide i c K)) rows f (cond (unifiable (insert i c (flatten rows)) R) (f ∷ []) [])
+  alone-mean i c K R f H [] l a = absurd (let z : ⊥ = omega arith in z)
+  alone-mean i c K R f H (y ∷ (x ∷ rows)) l a = absurd (let z : ⊥ = omega arith in z)
+  alone-mean i c K R f H (y ∷ []) l a =
+      let r = a .0 in
+      let F = r .fine in
+      let o = H .same (r .row) (F .loose .terms) (row-like (F .loose)) (even-settled (F .even)) in
+      rw (flat-one y, r .whole) (go (unifiable-correct (r .row) R (F .loose .terms) (H .terms)) (λ u. o .0 (rw (r .again) at u)) (λ u. rw (r .again) (o .1 u)))
+    where
+      go : {b : Bool} {x : List ℕ} → Decides (Unifies x R) b → (Fills (decide i c K) y → Unifies x R) → (Unifies x R → Fills (decide i c K) y) → Picks (Fills (decide i c K)) (y ∷ []) f (cond b (f ∷ []) [])
+      go (says-yes p) t u = hit (u p) none
+      go (says-no p) t u = miss (λ w. p (t w)) none
+
+  picks-test : {P : List ℕ → Type 0} {rows : List (List ℕ)} {f : ℕ} {x y : List ℕ} (b : Bool) → (b ≡ true → Picks P rows f x) → (b ≡ false → Picks P rows f y) → Picks P rows f (cond b x y)
+  picks-test true p q = p refl
+  picks-test false p q = q refl
 
   -- the hits are the rows that unify
   mutual
@@ -208,45 +274,60 @@ module _ (G : List ℕ) where
         → Picks (Fills K) rows f (hits p m R f)
     hits-mean (leaf {rows}) K R m n f H e a u t =
         picks-all (Fills K) rows f
-        (all-each (Fine K) (Fills K) (λ x F. H .same x (F .terms) (row-like F) (F .lin) .1 (Unify-none (rw e at (F .terms)) (rw e at (H .terms)))) rows a)
+        (all-each (Fine K) (Fills K) (λ x F. H .same x (F .loose .terms) (row-like (F .loose)) (even-settled (F .even)) .1 (Unify-none (rw e at (F .loose .terms)) (rw e at (H .terms)))) rows a)
     hits-mean (node {k} {rows} i h bs) K R m n f H e a u t =
         let q : count hole K ≡ i + suc (k - i) = omega arith in
         picks-runs (λ c x. Fills (decide i c K) x) (Fills K) (Fine K) i
-        (λ r F. let z = refill K i (k - i) q F in (λ u. subst (λ (l : List ℕ). Unifies l G) (sym z) u, λ u. subst (λ (l : List ℕ). Unifies l G) z u)) rows f a
-        (hitsIn-mean bs i K R m n f H e h (below-all K i (k - i) q rows a) (length rows) (group-sizes (root i) (close i) rows) u t)
+        (λ r F. let z = refill K i (k - i) q (F .loose) in (λ u. subst (λ (l : List ℕ). Unifies l G) (sym z) u, λ u. subst (λ (l : List ℕ). Unifies l G) z u)) rows f a
+        (hitsIn-mean bs i K R m n f H e h (from-all K i (k - i) q rows a) (length rows) (group-sizes (root i) (close i) rows) (runs-lone i rows) u t)
 
-    hitsIn-mean : {k : ℕ} {gs : List Run} (bs : Branches k gs) (i : ℕ) (K R : List ℕ) (m n f : ℕ) → Holds (var m) G K R → count hole K ≡ suc k → i ≤ k → Each (Below i K) gs
-        → (z : ℕ) → Sized z gs → Numbers (suc k) m n → DeepIn bs n → PicksIn (λ c x. Fills (decide i c K) x) gs f (hitsIn bs i m R f)
-    hitsIn-mean end i K R m n f H e l a z s u t = none-run
-    hitsIn-mean (next {k} {g} {gs} p bs) i K R m n f H e l a z s u t =
+    hitsIn-mean : {k : ℕ} {gs : List Run} (bs : Branches k gs) (i : ℕ) (K R : List ℕ) (m n f : ℕ) → Holds (var m) G K R → count hole K ≡ suc k → i ≤ k → Each (From i K) gs
+        → (z : ℕ) → Sized z gs → Lone gs → Numbers (suc k) m n → DeepIn bs n → PicksIn (λ c x. Fills (decide i c K) x) gs f (hitsIn bs i m R f)
+    hitsIn-mean end i K R m n f H e l a z s o u t = none-run
+    hitsIn-mean (next {k} {g} {gs} p bs) i K R m n f H e l a z s o u t =
         let c = g .cell in
-        let o = cell-hole i k c K (g .rows) e l (s .0 .0) (a .0) in
-        let d = holes-below i k c K (g .rows) e l (s .0 .0) (a .0) in
-        let F = fine-below i k c K (g .rows) e l (s .0 .0) (a .0) in
+        let d = from-holes i k c K (g .rows) e l (s .0 .0) (a .0) in
+        let solid = from-solid i k c K (g .rows) e l (s .0 .0) (a .0) in
         let v = numbers-below (arity c) u (t .0) in
         one-run
-        (one-mean i c K m (g .rows) f (λ R′. hits p (m + arity c) R′ f) F (step i c H (omega arith) o (omega arith) (omega arith))
-        (λ R′ H′. hits-mean p (decide i c K) R′ (m + arity c) (n - 1) f (subst (λ (n : ℕ). Holds n G (decide i c K) R′) (add-assoc (2 ^ 16) m (arity c)) H′) d F (v .0) (t .1)))
-        (hitsIn-mean bs i K R m n (f + length (g .rows)) H e l (a .1) z (s .1) u (t .2))
+        (picks-test (flag g)
+        (λ q. let y = flag-on i K g e l q (o .0) (s .0 .0) (a .0) in alone-mean i c K R f H (g .rows) (o .0 (y .3)) (a .0))
+        (λ q. let F = flag-off i K g q (o .0) (a .0) in
+        one-mean i c K m (g .rows) f (λ R′. hits p (m + arity c) R′ f) F (step i c H (omega arith) solid (omega arith) (omega arith))
+        (λ R′ H′. hits-mean p (decide i c K) R′ (m + arity c) (n - 1) f (subst (λ (n : ℕ). Holds n G (decide i c K) R′) (add-assoc (2 ^ 16) m (arity c)) H′) d F (v .0) (t .1))))
+        (hitsIn-mean bs i K R m n (f + length (g .rows)) H e l (a .1) z (s .1) (o .1) u (t .2))
 
 -- What a row says of its skeleton.
 
+once-linear : {K x : List ℕ} → Loose K x → Linear (fill K x) → Linear K
+once-linear {K} {x} F l = record { once = λ v hv. let e = count-fill v K x (var-no-hole v hv) (F .terms) in let o = l .once v hv in omega arith }
+
 skeleton-linear : {K x : List ℕ} → Fine K x → Linear K
-skeleton-linear {K} {x} F = record { once = λ v hv. let e = count-fill v K x (var-no-hole v hv) (F .terms) in let o = F .lin .once v hv in omega arith }
-
-skeleton-low : {K x : List ℕ} → Fine K x → (c : ℕ) → List·Memᴰ c K → isVar c ≡ true → c < 2 ^ 15
-skeleton-low {K} {x} F c m v = F .low c (mem-count c (fill K x) (let e = count-fill c K x (var-no-hole c v) (F .terms) in let o = count-mem c m in omega arith)) v
-
-skeleton-short : {K x : List ℕ} → Fine K x → 2 ^ 15 + count hole K ≤ 2 ^ 16
-skeleton-short F = let h = terms-long (F .terms) in let s = F .short in omega arith
+skeleton-linear {K} {x} F = go (F .even)
+  where
+    go : Even K x → Linear K
+    go (plain p) = record { once = λ v h. let z = p v h in omega arith }
+    go (linear l) = once-linear (F .loose) l
 
 -- so with a variable of its own at each open place it is a row itself
-pub opened-fine : {K x : List ℕ} → Fine K x → Opened (2 ^ 15) K
-opened-fine F = opened-row (2 ^ 15) (skeleton-linear F) (skeleton-low F) (skeleton-short F)
+opened-once : {K x : List ℕ} → Once K x → Opened (2 ^ 15) K
+opened-once F = opened-row (2 ^ 15) (once-linear (F .loose) (F .lin)) (skeleton-low (F .loose)) (skeleton-short (F .loose))
+
+-- a variable is decided, or none
+some-variable : (K : List ℕ) → ((v : ℕ) → isVar v ≡ true → count v K ≡ 0) ⊎ ((v : ℕ) × (isVar v ≡ true) × (1 ≤ count v K))
+unfolding count
+some-variable [] = inl (λ v h. refl)
+some-variable (c ∷ K) = ⊎-elim
+    (λ h. inr (c, h, let o : _≡_ {A = ℕ} (cond (eqb c c) 1 0) 1 = rw (eqb-same c) in omega arith))
+    (λ h. ⊎-elim
+    (λ n. inl (λ v hv. let d : v ≢ c = λ q. true≢false (sym hv ∙ ap isVar q ∙ h) in let z = n v hv in rw (ne-eqb v c d) (omega arith)))
+    (λ n. inr (n .0, n .1, let o = n .2 in omega arith))
+    (some-variable K))
+    (bool-cases (isVar c))
 
 -- no row that fits the skeleton unifies
 abbrev Dead : List ℕ → List ℕ → Type 0
-Dead G K = (X : List ℕ) → Terms (count hole K) X → RowLike (fill K X) → Linear (fill K X) → ¬ Unifies (fill K X) G
+Dead G K = (X : List ℕ) → Terms (count hole K) X → RowLike (fill K X) → Settled K X → ¬ Unifies (fill K X) G
 
 dead-below : {G : List ℕ} (K : List ℕ) (i c j : ℕ) → c ≢ hole → count hole K ≡ i + suc j → Dead G K → Dead G (decide i c K)
 dead-below {G} K i c j h e d X t r l u =
@@ -254,35 +335,30 @@ dead-below {G} K i c j h e d X t r l u =
     let o = one-row i c j K h e (three-of i (arity c) j (rw z at t)) r l in
     d (o .0) (o .2) (o .3) (o .4) (subst (λ (l : List ℕ). Unifies l G) (o .1) u)
 
-counts-++ : {P : List ℕ → Type 0} {xs ys : List (List ℕ)} {m n : ℕ} → Counts P xs m → Counts P ys n → Counts P (xs ++ ys) (m + n)
-counts-++ zero-of d = rw zero-add d
-counts-++ (one-of p c) d = rw suc-add (one-of p (counts-++ c d))
-counts-++ (none-of p c) d = none-of p (counts-++ c d)
-
 module _ (g : List ℕ) where
   abbrev goal : List ℕ
   goal = renamed g
 
-  dead-open : {K x : List ℕ} → Fine K x → Dead goal K → ¬ Tried g K
+  dead-open : {K x : List ℕ} → Once K x → Dead goal K → ¬ Tried g K
   unfolding Tried opened
   dead-open {K} F d u =
-      let o = opened-fine F in
+      let o = opened-once F in
       d (upFrom (2 ^ 15) (count hole K)) (o .terms) (o .row) (o .lin) u
 
   alive-open : {n : ℕ} {K R x : List ℕ} → Fine K x → Holds n goal K R → Tried g K
   unfolding Tried opened
-  alive-open F H = reached (2 ^ 15) H (skeleton-linear F) (skeleton-low F) (skeleton-short F)
+  alive-open F H = reached (2 ^ 15) H (skeleton-linear F) (skeleton-low (F .loose)) (skeleton-short (F .loose))
 
   -- below a branch whose test fails nothing is tried
   mutual
     unfolding skeletons
 
-    dead-skeletons : {k : ℕ} {rows : List (List ℕ)} (p : Plan k rows) (K : List ℕ) → Dead goal K → count hole K ≡ k → All (Fine K) rows → 0 < length rows
+    dead-skeletons : {k : ℕ} {rows : List (List ℕ)} (p : Plan k rows) (K : List ℕ) → Dead goal K → count hole K ≡ k → All (Once K) rows → 0 < length rows
         → Counts (Tried g) (skeletons p K) 0
     dead-skeletons leaf K d e a s = zero-of
     dead-skeletons (node {k} {rows} i h bs) K d e a s =
         let q : count hole K ≡ i + suc (k - i) = omega arith in
-        let x = some-row (Fine K) rows s a in
+        let x = some-row (Once K) rows s a in
         dead-skeletonsIn bs i K d e h (below-all K i (k - i) q rows a) (length rows) (group-sizes (root i) (close i) rows) (dead-open (x .1) d)
 
     dead-skeletonsIn : {k : ℕ} {gs : List Run} (bs : Branches k gs) (i : ℕ) (K : List ℕ) → Dead goal K → count hole K ≡ suc k → i ≤ k → Each (Below i K) gs
@@ -293,15 +369,42 @@ module _ (g : List ℕ) where
         let o = cell-hole i k c K (r .rows) e l (s .0 .0) (a .0) in
         let q : count hole K ≡ i + suc (k - i) = omega arith in
         let h = holes-below i k c K (r .rows) e l (s .0 .0) (a .0) in
-        let F = fine-below i k c K (r .rows) e l (s .0 .0) (a .0) in
+        let F = once-below i k c K (r .rows) e l (s .0 .0) (a .0) in
         none-of n
         (rw zero-add at (counts-++ (dead-skeletons p (decide i c K) (dead-below K i c (k - i) o q d) h F (s .0 .0)) (dead-skeletonsIn bs i K d e l (a .1) z (s .1) n)))
+
+  -- where a branch's test fails: no variable is decided above, or there is one row, which uses each once
+  dead-either : {k : ℕ} {rows : List (List ℕ)} (p : Plan k rows) (K : List ℕ) → Dead goal K → count hole K ≡ k → All (Fine K) rows → 0 < length rows → Counts (Tried g) (skeletons p K) 0
+  dead-either {rows = rows} p K d e a s = ⊎-elim
+      (λ n. dead-all g p K (λ X t r. d X t r (record { once = λ v h m. absurd (let z = n v h in let y : ⊥ = omega arith in y) })) e (all-each (Fine K) (Loose K) (λ x F. F .loose) rows a) s)
+      (λ n. dead-skeletons p K d e (all-each (Fine K) (Once K) (λ x F. record { loose = F .loose; lin = only n (F .even) }) rows a) s)
+      (some-variable K)
+    where
+      only : {K x : List ℕ} → (v : ℕ) × (isVar v ≡ true) × (1 ≤ count v K) → Even K x → Linear (fill K x)
+      only n (linear l) = l
+      only n (plain p) = absurd (let z = p (n .0) (n .1) in let o = n .2 in let y : ⊥ = omega arith in y)
 
   one-tried : (i c : ℕ) (K : List ℕ) (m : ℕ) (xs : List (List ℕ)) (h : List ℕ → ℕ) {x : Left} → Decided (var m) i c goal K x
       → ((R′ : List ℕ) → Holds (var m + arity c) goal (decide i c K) R′ → Counts (Tried g) xs (h R′)) → (Dead goal (decide i c K) → Counts (Tried g) xs 0)
       → Counts (Tried g) xs (under 0 x h)
   one-tried i c K m xs h (goes {R} H) ih jh = ih R H
   one-tried i c K m xs h (ends n) ih jh = jh n
+
+  counts-test : {xs : List (List ℕ)} {x y : ℕ} (b : Bool) → (b ≡ true → Counts (Tried g) xs x) → (b ≡ false → Counts (Tried g) xs y) → Counts (Tried g) xs (cond b x y)
+  counts-test true p q = p refl
+  counts-test false p q = q refl
+
+  -- a flagged row, by itself
+  alone-tried : {n k : ℕ} (i c : ℕ) (K R : List ℕ) {rows : List (List ℕ)} (p : Plan (arity c + k) rows) → Holds n goal K R → count hole K ≡ suc k → i ≤ k → c ≢ hole → ((v : ℕ) → isVar v ≡ true → count v K ≡ 0)
+      → (x : List ℕ) → Loose K x → All (Loose (decide i c K)) rows → 0 < length rows
+      → Counts (Tried g) (K ∷ skeletons p (decide i c K)) (triedOn R (replicate (suc k) hole ∷ skeletons p (decide i c (replicate (suc k) hole))))
+  unfolding triedOn
+  alone-tried {n} {k} i c K R p H e l h free x F a s =
+      let r = rel-first g K R H free in
+      let q : count hole K ≡ i + suc (k - i) = omega arith in
+      let d : count hole (decide i c K) ≡ arity c + k = (let y = decide-count i c K h (omega arith) in omega arith) in
+      subst (λ (n : ℕ). Counts (Tried g) (K ∷ skeletons p (decide i c K)) (triedOn R (replicate n hole ∷ skeletons p (decide i c (replicate n hole))))) e
+      (add g K R H free (rel-tried g K R H free r F) (rel-skeletons g K R H free p (rel-next g K R H free i c (k - i) h q r) d a s))
 
   -- the tries are the branches whose skeleton unifies
   mutual
@@ -313,20 +416,23 @@ module _ (g : List ℕ) where
     tried-mean (node {k} {rows} i h bs) K R m n H e a s u t =
         let q : count hole K ≡ i + suc (k - i) = omega arith in
         let x = some-row (Fine K) rows s a in
-        triedIn-mean bs i K R m n H e h (below-all K i (k - i) q rows a) (length rows) (group-sizes (root i) (close i) rows) (alive-open (x .1) H) u t
+        triedIn-mean bs i K R m n H e h (from-all K i (k - i) q rows a) (length rows) (group-sizes (root i) (close i) rows) (runs-lone i rows) (alive-open (x .1) H) u t
 
-    triedIn-mean : {k : ℕ} {gs : List Run} (bs : Branches k gs) (i : ℕ) (K R : List ℕ) (m n : ℕ) → Holds (var m) goal K R → count hole K ≡ suc k → i ≤ k → Each (Below i K) gs
-        → (z : ℕ) → Sized z gs → Tried g K → Numbers (suc k) m n → DeepIn bs n → Counts (Tried g) (skeletonsIn bs i K) (triedIn bs i m R)
-    triedIn-mean end i K R m n H e l a z s y u t = zero-of
-    triedIn-mean (next {k} {g = r} {gs} p bs) i K R m n H e l a z s y u t =
+    triedIn-mean : {k : ℕ} {gs : List Run} (bs : Branches k gs) (i : ℕ) (K R : List ℕ) (m n : ℕ) → Holds (var m) goal K R → count hole K ≡ suc k → i ≤ k → Each (From i K) gs
+        → (z : ℕ) → Sized z gs → Lone gs → Tried g K → Numbers (suc k) m n → DeepIn bs n → Counts (Tried g) (skeletonsIn bs i K) (triedIn bs i m R)
+    triedIn-mean end i K R m n H e l a z s o y u t = zero-of
+    triedIn-mean (next {k} {g = r} {gs} p bs) i K R m n H e l a z s o y u t =
         let c = r .cell in
-        let o = cell-hole i k c K (r .rows) e l (s .0 .0) (a .0) in
-        let d = holes-below i k c K (r .rows) e l (s .0 .0) (a .0) in
-        let F = fine-below i k c K (r .rows) e l (s .0 .0) (a .0) in
+        let d = from-holes i k c K (r .rows) e l (s .0 .0) (a .0) in
+        let solid = from-solid i k c K (r .rows) e l (s .0 .0) (a .0) in
         let v = numbers-below (arity c) u (t .0) in
+        counts-++
+        (counts-test (flag r)
+        (λ q. let w = flag-on i K r e l q (o .0) (s .0 .0) (a .0) in
+        alone-tried i c K R p H e l solid (flag-plain (w .2) (w .4)) (w .2 .row) (w .2 .fine .loose) (from-loose i k c K (r .rows) e l (s .0 .0) (a .0)) (s .0 .0))
+        (λ q. let F = flag-off i K r q (o .0) (a .0) in
         one-of y
-        (counts-++
-        (one-tried i c K m (skeletons p (decide i c K)) (λ R′. tried p (m + arity c) R′) (step i c H (omega arith) o (omega arith) (omega arith))
+        (one-tried i c K m (skeletons p (decide i c K)) (λ R′. tried p (m + arity c) R′) (step i c H (omega arith) solid (omega arith) (omega arith))
         (λ R′ H′. tried-mean p (decide i c K) R′ (m + arity c) (n - 1) (subst (λ (n : ℕ). Holds n goal (decide i c K) R′) (add-assoc (2 ^ 16) m (arity c)) H′) d F (s .0 .0) (v .0) (t .1))
-        (λ z. dead-skeletons p (decide i c K) z d F (s .0 .0)))
-        (triedIn-mean bs i K R m n H e l (a .1) z (s .1) y u (t .2)))
+        (λ z. dead-either p (decide i c K) z d F (s .0 .0)))))
+        (triedIn-mean bs i K R m n H e l (a .1) z (s .1) (o .1) y u (t .2))

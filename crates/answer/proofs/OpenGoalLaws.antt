@@ -12,7 +12,7 @@ use Rattle.cell.proofs.CellLaws.{var-arity, var-small}
 use Rattle.term.specs.Terms.{Terms, none, more, root, close}
 use Rattle.term.specs.Unify.{renamed, Matches}
 use Rattle.term.proofs.TermsLaws.{Terms-++}
-use Rattle.term.proofs.Step.{fresh-var}
+use Rattle.term.proofs.Step.{fresh-var, Terms-fresh}
 use Rattle.term.proofs.Tests.{cond-case}
 use Rattle.table.specs.All.{All}
 use Rattle.table.proofs.AllLaws.{all-++, all-each}
@@ -21,12 +21,13 @@ use Rattle.table.proofs.Accepted.{few-variables}
 use Rattle.table.specs.Table.{upFrom, count, appear, Row, IsGoal}
 use Rattle.plan.specs.Runs.{Run}
 use Rattle.plan.specs.Plans.{Plan, leaf, node, Branches, end, next}
-use Rattle.plan.proofs.RunsLaws.{Each, Sized, group-sizes}
+use Rattle.plan.proofs.RunsLaws.{Each, Sized, group-all, group-sizes}
 use Rattle.answer.specs.Skeleton.{hole, fill, decide, opened}
 use Rattle.answer.specs.Run.{Picks, hit, Counts, zero-of, one-of, skeletons, skeletonsIn, Tried}
 use Rattle.answer.proofs.CountLaws.{up-mem, up-distinct}
 use Rattle.answer.proofs.SkeletonLaws.{count-all, fill-all, Three, three, three-of, fill-decide, decide-count, vars-unify}
-use Rattle.answer.proofs.MeaningLaws.{Fine, Below, below-all, some-row, cell-hole, holes-below, fine-below, opened-fine}
+use Rattle.answer.proofs.LooseLaws.{Loose, some-row, no-hole, loose-close, skeleton-short}
+use Rattle.answer.proofs.RelativeLaws.{LooseBelow, opened-low}
 
 -- a skeleton of w arguments: filled with terms it is w terms
 pub record Wide (w : ℕ) (K : List ℕ) : Type 0 where
@@ -55,53 +56,55 @@ renamed-up n (suc a) h =
     rw v (ap (λ (l : List ℕ). (2 ^ 16 + n) ∷ l) r)
 
 -- what every skeleton of w arguments above a row has, all skeletons of a plan have
-module _ (w : ℕ) (Q : List ℕ → Type 0) (has : (K x : List ℕ) → Wide w K → Fine K x → Q K) where
+module _ (w : ℕ) (Q : List ℕ → Type 0) (has : (K x : List ℕ) → Wide w K → Loose K x → Q K) where
   mutual
     unfolding skeletons
 
-    all-skeletons : {k : ℕ} {rows : List (List ℕ)} (p : Plan k rows) (K : List ℕ) → Wide w K → count hole K ≡ k → All (Fine K) rows → 0 < length rows → All Q (skeletons p K)
+    all-skeletons : {k : ℕ} {rows : List (List ℕ)} (p : Plan k rows) (K : List ℕ) → Wide w K → count hole K ≡ k → All (Loose K) rows → 0 < length rows → All Q (skeletons p K)
     all-skeletons leaf K W e a s = tt
     all-skeletons (node {k} {rows} i h bs) K W e a s =
         let q : count hole K ≡ i + suc (k - i) = omega arith in
-        let x = some-row (Fine K) rows s a in
-        all-skeletonsIn bs i K W e h (below-all K i (k - i) q rows a) (length rows) (group-sizes (root i) (close i) rows) (has K (x .0) W (x .1))
+        let x = some-row (Loose K) rows s a in
+        all-skeletonsIn bs i K W e h (group-all (root i) (close i) (Loose K) (LooseBelow i K) (λ x f. (loose-close K i (k - i) q f, no-hole K i (k - i) q f)) rows a) (length rows) (group-sizes (root i) (close i) rows) (has K (x .0) W (x .1))
 
-    all-skeletonsIn : {k : ℕ} {gs : List Run} (bs : Branches k gs) (i : ℕ) (K : List ℕ) → Wide w K → count hole K ≡ suc k → i ≤ k → Each (Below i K) gs → (z : ℕ) → Sized z gs → Q K
+    all-skeletonsIn : {k : ℕ} {gs : List Run} (bs : Branches k gs) (i : ℕ) (K : List ℕ) → Wide w K → count hole K ≡ suc k → i ≤ k → Each (LooseBelow i K) gs → (z : ℕ) → Sized z gs → Q K
         → All Q (skeletonsIn bs i K)
     all-skeletonsIn end i K W e l a z s y = tt
     all-skeletonsIn (next {k} {g} {gs} p bs) i K W e l a z s y =
         let c = g .cell in
         let q : count hole K ≡ i + suc (k - i) = omega arith in
-        let o = cell-hole i k c K (g .rows) e l (s .0 .0) (a .0) in
-        let d = holes-below i k c K (g .rows) e l (s .0 .0) (a .0) in
-        let F = fine-below i k c K (g .rows) e l (s .0 .0) (a .0) in
+        let o = some-row (LooseBelow i K c) (g .rows) (s .0 .0) (a .0) .1 .1 in
+        let d : count hole (decide i c K) ≡ arity c + k = (let y = decide-count i c K o (omega arith) in omega arith) in
+        let F = all-each (LooseBelow i K c) (Loose (decide i c K)) (λ y w. w .0) (g .rows) (a .0) in
         let below = all-skeletons p (decide i c K) (wide-decide K i c (k - i) o q W) d F (s .0 .0) in
         (y, all-++ Q (skeletons p (decide i c K)) (skeletonsIn bs i K) below (all-skeletonsIn bs i K W e l (a .1) z (s .1) y))
 
 -- each open place a variable, they are w terms
-opened-terms : (w : ℕ) (K x : List ℕ) → Wide w K → Fine K x → Terms w (opened K)
+opened-terms : (w : ℕ) (K x : List ℕ) → Wide w K → Loose K x → Terms w (opened K)
 unfolding opened
-opened-terms w K x W F = W .fills (upFrom (2 ^ 15) (count hole K)) (opened-fine F .terms)
+opened-terms w K x W F = let s = skeleton-short F in W .fills (upFrom (2 ^ 15) (count hole K)) (Terms-fresh (up-distinct (2 ^ 15) (count hole K) (omega arith)))
 
-pub skeletons-terms : (w : ℕ) {rows : List (List ℕ)} (p : Plan w rows) → All (Fine (replicate w hole)) rows → 0 < length rows
+pub skeletons-terms : (w : ℕ) {rows : List (List ℕ)} (p : Plan w rows) → All (Loose (replicate w hole)) rows → 0 < length rows
     → All (λ (K : List ℕ). Terms w (opened K)) (skeletons p (replicate w hole))
 skeletons-terms w p a s = all-skeletons w (λ (K : List ℕ). Terms w (opened K)) (opened-terms w) p (replicate w hole) (wide-first w) (count-all w) a s
 
 -- the goal of distinct variables unifies with each
-one-tried : (w : ℕ) → w ≤ 32 → (K x : List ℕ) → Wide w K → Fine K x → Tried (upFrom 0 w) K
+one-tried : (w : ℕ) → w ≤ 32 → (K x : List ℕ) → Wide w K → Loose K x → Tried (upFrom 0 w) K
 unfolding Tried opened
 one-tried w few K x W F =
-    let o = opened-fine F in
+    let s = skeleton-short F in
+    let ot : Terms (count hole K) (upFrom (2 ^ 15) (count hole K)) = Terms-fresh (up-distinct (2 ^ 15) (count hole K) (omega arith)) in
+    let o = opened-low F in
     let f = up-distinct (2 ^ 16 + 0) w (omega arith) in
-    let u = vars-unify f (W .fills (upFrom (2 ^ 15) (count hole K)) (o .terms))
-    (λ c m q. let v = fresh-var f c q in let r = up-mem (2 ^ 16 + 0) w c q in let l = o .row .low c m v in omega arith) in
+    let u = vars-unify f (W .fills (upFrom (2 ^ 15) (count hole K)) ot)
+    (λ c m q. let v = fresh-var f c q in let r = up-mem (2 ^ 16 + 0) w c q in let l = o .low c m v in omega arith) in
     rw (renamed-up 0 w (omega arith)) (record { by = u .by; good = u .good; same = sym (u .same) })
 
 counts-all : (P : List ℕ → Type 0) (xs : List (List ℕ)) → All P xs → Counts P xs (length xs)
 counts-all P [] a = zero-of
 counts-all P (x ∷ xs) a = one-of (a .0) (counts-all P xs (a .1))
 
-pub every-branch : (w : ℕ) → w ≤ 32 → {rows : List (List ℕ)} (p : Plan w rows) → All (Fine (replicate w hole)) rows → 0 < length rows
+pub every-branch : (w : ℕ) → w ≤ 32 → {rows : List (List ℕ)} (p : Plan w rows) → All (Loose (replicate w hole)) rows → 0 < length rows
     → Counts (Tried (upFrom 0 w)) (skeletons p (replicate w hole)) (length (skeletons p (replicate w hole)))
 every-branch w few p a s =
     counts-all (Tried (upFrom 0 w)) (skeletons p (replicate w hole))
@@ -134,8 +137,8 @@ distinct {w} {g} i e =
 every-row : (w : ℕ) → w ≤ 32 → (row : List ℕ) → Row w row → Matches row (upFrom 0 w)
 every-row w few row r =
     let f = up-distinct (2 ^ 16 + 0) w (omega arith) in
-    let u = vars-unify f (r .head .terms)
-    (λ c m q. let v = fresh-var f c q in let x = up-mem (2 ^ 16 + 0) w c q in let y = few-variables (r .head) c m v in omega arith) in
+    let u = vars-unify f (r .terms)
+    (λ c m q. let v = fresh-var f c q in let x = up-mem (2 ^ 16 + 0) w c q in let y = few-variables r c m v in omega arith) in
     rw (renamed-up 0 w (omega arith)) (record { by = u .by; good = u .good; same = sym (u .same) })
 
 picks-all : (P : List ℕ → Type 0) (rows : List (List ℕ)) (f : ℕ) → All P rows → Picks P rows f (upFrom f (length rows))

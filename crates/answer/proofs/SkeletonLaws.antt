@@ -21,7 +21,7 @@ use Rattle.term.proofs.Step.{Fresh, spread, Terms-fresh, fresh-var}
 use Rattle.table.specs.Table.{count, upFrom}
 use Rattle.answer.specs.Skeleton.{hole, fill, decide}
 use Rattle.answer.specs.code.After.{Left, stuck, left, after}
-use Rattle.answer.proofs.CountLaws.{count-same, count-other, count-++, count-mem, mem-count, no-count, Linear, up-mem, up-distinct, count-up}
+use Rattle.answer.proofs.CountLaws.{count-same, count-other, count-++, count-mem, mem-count, no-count, Linear, up-mem, up-distinct}
 use Rattle.answer.proofs.AfterLaws.{after-correct, Met, met, unmet, RowLike, RowAt, GoalLike}
 
 data Hole? : ℕ → Type 0 where
@@ -140,25 +140,29 @@ pub var-no-hole : (v : ℕ) → isVar v ≡ true → v ≢ hole
 unfolding hole
 var-no-hole v h e = let l = small-var v h in omega arith
 
-Linear-at : (c : ℕ) {A B : List ℕ} → RowLike (A ++ (c ∷ B)) → Linear (A ++ (c ∷ B)) → RowAt c A B
+-- every variable that is decided stands there once
+pub record Settled (K X : List ℕ) : Type 0 where
+  pub once : (v : ℕ) → isVar v ≡ true → 1 ≤ count v K → count v (fill K X) ≤ 1
+
+pub settled-linear : {K X : List ℕ} → Linear (fill K X) → Settled K X
+settled-linear l = record { once = λ v h n. l .once v h }
+
+row-at : (c : ℕ) {A B : List ℕ} → RowLike (A ++ (c ∷ B)) → (isVar c ≡ true → count c (A ++ (c ∷ B)) ≤ 1) → RowAt c A B
 unfolding count
-Linear-at c {A} {B} r l = record {
+row-at c {A} {B} r l = record {
   row = r;
-  once = λ hc m. let h = l .once c hc in let e = count-++ c A (c ∷ B) in let e′ = count-++ c A B in let q = count-mem c m in
+  once = λ hc m. let h = l hc in let e = count-++ c A (c ∷ B) in let e′ = count-++ c A B in let q = count-mem c m in
       let o : _≡_ {A = ℕ} (cond (eqb c c) 1 0) 1 = rw (eqb-same c) in omega arith;
 }
 
-part-row : (K X : List ℕ) → Terms (count hole K) X → RowLike (fill K X) → RowLike X
+pub part-row : (K X : List ℕ) → Terms (count hole K) X → RowLike (fill K X) → RowLike X
 part-row K X t r = record { low = λ c m v. r .low c (mem-count c (fill K X) (let e = count-fill c K X (var-no-hole c v) t in let o = count-mem c m in omega arith)) v }
-
-part-linear : (K X : List ℕ) → Terms (count hole K) X → Linear (fill K X) → Linear X
-part-linear K X t l = record { once = λ v h. let e = count-fill v K X (var-no-hole v h) t in let o = l .once v h in omega arith }
 
 -- what is left of the goal G under the skeleton K
 pub record Holds (n : ℕ) (G K R : List ℕ) : Type 0 where
   pub terms : Terms (count hole K) R
   pub goal : GoalLike n R
-  pub same : (X : List ℕ) → Terms (count hole K) X → RowLike (fill K X) → Linear (fill K X) → Unifies (fill K X) G ↔ Unifies X R
+  pub same : (X : List ℕ) → Terms (count hole K) X → RowLike (fill K X) → Settled K X → Unifies (fill K X) G ↔ Unifies X R
 
 pub fill-all : (w : ℕ) {X : List ℕ} → Terms w X → fill (replicate w hole) X ≡ X
 unfolding fill
@@ -188,20 +192,42 @@ three-of i a k {X} t =
 
 pub data Decided (n i c : ℕ) (G K : List ℕ) : Left → Type 0 where
   goes : {R : List ℕ} → Holds (n + arity c) G (decide i c K) R → Decided n i c G K (left R)
-  ends : ((X : List ℕ) → Terms (count hole (decide i c K)) X → RowLike (fill (decide i c K) X) → Linear (fill (decide i c K) X) → ¬ Unifies (fill (decide i c K) X) G)
+  ends : ((X : List ℕ) → Terms (count hole (decide i c K)) X → RowLike (fill (decide i c K) X) → Settled (decide i c K) X → ¬ Unifies (fill (decide i c K) X) G)
       → Decided n i c G K stuck
 
 -- one row under the skeleton before and after the decision
 module _ (i c j : ℕ) (K : List ℕ) (h : c ≢ hole) (e : count hole K ≡ i + suc j) where
-  pub one-row : {X : List ℕ} → Three i (arity c) j X → RowLike (fill (decide i c K) X) → Linear (fill (decide i c K) X)
-      → (Y : List ℕ) × (fill (decide i c K) X ≡ fill K Y) × Terms (count hole K) Y × RowLike (fill K Y) × Linear (fill K Y)
+  -- a variable is decided once more where it is c
+  pub decided : (v : ℕ) → isVar v ≡ true → {A args B : List ℕ} → Terms i A → Terms (arity c) args → Terms j B
+      → (count v (decide i c K) ≡ cond (eqb v c) 1 0 + count v K) × (count v (fill K (A ++ (c ∷ (args ++ B)))) ≡ count v K + (cond (eqb v c) 1 0 + count v (A ++ (args ++ B))))
+  unfolding count
+  decided v hv {A} {args} {B} ta tg tb =
+      let f = fill-decide i c K B h ta tg in
+      let z : count hole (decide i c K) ≡ i + (arity c + j) = (let q = decide-count i c K h (omega arith) in omega arith) in
+      let a = count-fill v (decide i c K) (A ++ (args ++ B)) (var-no-hole v hv) (rw z (Terms-++ ta (Terms-++ tg tb))) in
+      let b = count-fill v K (A ++ (c ∷ (args ++ B))) (var-no-hole v hv) (rw e (Terms-++ ta (more (Terms-++ tg tb)))) in
+      let x = count-++ v A (args ++ B) in
+      let y = count-++ v A (c ∷ (args ++ B)) in
+      let g = ap (count v) f in
+      (omega arith, omega arith)
+
+  pub one-row : {X : List ℕ} → Three i (arity c) j X → RowLike (fill (decide i c K) X) → Settled (decide i c K) X
+      → (Y : List ℕ) × (fill (decide i c K) X ≡ fill K Y) × Terms (count hole K) Y × RowLike (fill K Y) × Settled K Y
       × ((P : List ℕ → List ℕ → Type 0) → ((A B : List ℕ) → RowAt c A B → Terms i A → P (A ++ (c ∷ B)) (A ++ B)) → P Y X)
+  unfolding count
   one-row (three {A} {args} {B} ta tg tb) r l =
       let f = fill-decide i c K B h ta tg in
       let t : Terms (count hole K) (A ++ (c ∷ (args ++ B))) = rw e (Terms-++ ta (more (Terms-++ tg tb))) in
       let r′ = rw f at r in
-      let l′ = rw f at l in
-      (A ++ (c ∷ (args ++ B)), f, t, r′, l′, λ P k. k A (args ++ B) (Linear-at c (part-row K _ t r′) (part-linear K _ t l′)) ta)
+      let l′ : Settled K (A ++ (c ∷ (args ++ B))) = record { once = λ v hv n. let d = decided v hv ta tg tb in rw (← f) (l .once v hv (omega (arith, d .0))) } in
+      let once-c : isVar c ≡ true → count c (A ++ (c ∷ (args ++ B))) ≤ 1 = λ hc.
+      let d = decided c hc ta tg tb in
+      let o : _≡_ {A = ℕ} (cond (eqb c c) 1 0) 1 = rw (eqb-same c) in
+      let u : count c (fill K (A ++ (c ∷ (args ++ B)))) ≤ 1 = rw (← f) (l .once c hc (omega (arith, d .0, o))) in
+      let y = count-++ c A (c ∷ (args ++ B)) in
+      let x = count-++ c A (args ++ B) in
+      omega (arith, d .1, o, u, x, y) in
+      (A ++ (c ∷ (args ++ B)), f, t, r′, l′, λ P k. k A (args ++ B) (row-at c (part-row K _ t r′) once-c) ta)
 
 pub step : {n : ℕ} {G K R : List ℕ} (i c : ℕ) → Holds n G K R → i < count hole K → c ≢ hole → 2 ^ 16 ≤ n → n + arity c ≤ 2 ^ 30 → Decided n i c G K (after n i c R)
 step {n} {G} {K} {R} i c H l h low high = go (after-correct n i c j R (rw e at (H .terms)) (H .goal) low high)
@@ -242,7 +268,7 @@ open-unifies f r t g = vars-unify f t (λ c m q. let v = fresh-var f c q in let 
 pub record Opened (m : ℕ) (K : List ℕ) : Type 0 where
   pub terms : Terms (count hole K) (upFrom m (count hole K))
   pub row : RowLike (fill K (upFrom m (count hole K)))
-  pub lin : Linear (fill K (upFrom m (count hole K)))
+  pub lin : Settled K (upFrom m (count hole K))
 
 pub opened-row : {K : List ℕ} (m : ℕ) → Linear K → ((c : ℕ) → List·Memᴰ c K → isVar c ≡ true → c < m) → m + count hole K ≤ 2 ^ 16 → Opened m K
 opened-row {K} m l b h = record { terms = t; row = row; lin = lin }
@@ -266,16 +292,15 @@ opened-row {K} m l b h = record { terms = t; row = row; lin = lin }
         cases c v zero e o = low .low c (mem-count c X (omega arith)) v
         cases c v (suc k) e o = let p = b c (mem-count c K (omega arith)) v in omega arith
 
-    lin : Linear (fill K X)
-    lin = record { once = λ v hv. let e = count-fill v K X (var-no-hole v hv) t in let o = l .once v hv in cases v hv (count v K) refl e }
-      where
-        cases : (v : ℕ) → isVar v ≡ true → (k : ℕ) → count v K ≡ k → count v (fill K X) ≡ count v K + count v X → count v (fill K X) ≤ 1
-        cases v hv zero e s = let o = count-up v m (count hole K) in omega arith
-        cases v hv (suc k) e s =
-            let o = l .once v hv in
-            let p = b v (mem-count v K (omega arith)) hv in
-            let z = no-count v X (λ q. let r = up-mem m (count hole K) v q in omega arith) in
-            omega arith
+    lin : Settled K X
+    lin = record {
+      once = λ v hv n.
+          let e = count-fill v K X (var-no-hole v hv) t in
+          let o = l .once v hv in
+          let p = b v (mem-count v K n) hv in
+          let z = no-count v X (λ q. let r = up-mem m (count hole K) v q in omega arith) in
+          omega arith;
+    }
 
 -- a branch is reached exactly when something is left: the goal then unifies with the skeleton, each open place a variable of its own
 pub reached : {n : ℕ} {G K R : List ℕ} (m : ℕ) → Holds n G K R → Linear K → ((c : ℕ) → List·Memᴰ c K → isVar c ≡ true → c < m) → m + count hole K ≤ 2 ^ 16

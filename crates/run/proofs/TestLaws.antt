@@ -6,20 +6,10 @@ use mathlib.Core.Bool.{true, false}
 use mathlib.Core.List.{List}
 use native.Mathlib.Omega.{arith}
 use lib.ListN.{getD}
-use borrow.Author.Tests.{eq-eqb, ne-eqb}
-use Rattle.cell.specs.Cell.{isVar, kindOf}
+use Rattle.cell.specs.Cell.{isVar}
 use Rattle.run.specs.code.Finds.{Finds, any, other, same, unbound}
 use Rattle.run.specs.declared.step.Found.{Found}
 use Rattle.run.specs.declared.step.Found.the-variants.{Any, Other, Same, Unbound}
-
--- a cell's kind tells whether it is a variable
-pub kind-var : (c k : ℕ) → k ≡ kindOf c → k < 1 → isVar c ≡ true
-unfolding isVar
-kind-var c k e h = eq-eqb (kindOf c) 0 (omega arith)
-
-pub kind-symbol : (c k : ℕ) → k ≡ kindOf c → 1 ≤ k → isVar c ≡ false
-unfolding isVar
-kind-symbol c k e h = ne-eqb (kindOf c) 0 (λ z. omega arith)
 
 module _ {bs ns us : List ℕ} {i c v : ℕ} where
   pub is-any : {r : Found} → Finds bs ns us i c v r → r ≡ Any → isVar c ≡ true

@@ -1,12 +1,9 @@
 // One branch of the walk: the node that it looks at, its test, and what it writes. What a branch binds is bound for the branches below it,
 // that is before the branch number `skip`; after them it is unbound by itself, and nothing is undone.
 ghost use mathlib.Core.Path.{_≡_};
-ghost use Prim.Native.Nat.{_+_, _≤_, _<_};
+ghost use Prim.Native.Nat.{_<_};
 ghost use lib.ListN.{getD};
-ghost use lib.Seq.{sets};
-ghost use Rattle.table.specs.All.{All};
 ghost use Rattle.plan.specs.Notes.{cellIn, skipIn, slotIn, nextIn};
-ghost use Rattle.walking.specs.code.Link.{steps, nodes};
 ghost use Rattle.walking.specs.code.Steps.{Safe, Step};
 ghost use Rattle.run.specs.code.Finds.{Finds};
 use notes::packed::cell_of;
@@ -15,6 +12,7 @@ use notes::packed::skip_of;
 use notes::packed::slot_of;
 use notes::packed::wide;
 use notes::packed::wide16;
+use repeats::put_terms;
 
 // What a test finds: a row's variable; another symbol; the same one, and where its arguments are; a node that is to be bound.
 pub enum Found {
@@ -42,22 +40,6 @@ fn test(bound: &[u32; 64], args: &[u8; 64], until: &[u16; 64], i: usize, c: u32,
             }
         }
         _ => Found::Any,
-    }
-}
-
-// References to `a` terms that stand one after another, the first at `p`, for the slots from `to` on.
-pub fn put_terms(refs: &mut [u8; 64], to: usize, a: usize, p: usize, rep: &[u8; 64], sib: &[u8; 64])
-    requires { ⌜ (to + a ≤ 64) × All (λ x. x < 64) (steps (now sib) a p) ⌝ }
-    ensures { λ r. ⌜ now (refs .exit) ≡ sets (now (refs .entry)) to (nodes (now (rep .entry)) (now (sib .entry)) a p) ⌝ }
-{
-    let mut left = a;
-    let mut j = to;
-    let mut q = p;
-    while 0 < left {
-        refs[j] = rep[q];
-        q = wide(sib[q]);
-        j += 1;
-        left -= 1;
     }
 }
 

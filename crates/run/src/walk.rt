@@ -1,6 +1,6 @@
 // The walk along a plan: one loop over what is noted of each branch, in plan order. A branch whose test fails is left with all below
 // it, by the number of the branch after them; one that succeeds is followed by the branches below it, or, where there is none, its rows are
-// hits.
+// hits. A row that repeats a variable is run by itself from the branch of its first variable on.
 ghost use mathlib.Core.Path.{_≡_};
 ghost use Prim.Native.Nat.{_+_, _≤_};
 ghost use lib.ListN.{length};
@@ -10,10 +10,12 @@ ghost use Rattle.walking.specs.code.Walk.{Begun, Walked};
 use super::nodes::name_cells;
 use super::nodes::siblings;
 use super::step::meets;
-use super::step::put_terms;
+use notes::packed::alone_of;
 use notes::packed::rows_of;
 use notes::packed::skip_of;
 use notes::packed::wide16;
+use repeats::put_terms;
+use repeats::rest;
 
 // How many hits there are, and how many branches were tried.
 pub struct Out {
@@ -62,29 +64,38 @@ pub fn walk(
     let mut tried = 0;
     while i < branches {
         let w = notes[i];
-        let n = rows_of(w);
         let skip = wide16(skip_of(w));
-        let after = i + 1;
-        tried += 1;
-        if meets(
-            w,
-            i,
-            &rep,
-            &sib,
-            &mut bound,
-            &mut args,
-            &mut until,
-            &mut refs,
-        ) {
-            if after == skip {
-                put_rows(room, hits, n, row);
-                hits += n;
-                row += n;
-            }
-            i = after;
-        } else {
-            row += n;
+        if alone_of(w) {
+            let o = rest(notes, i, skip, &rep, &sib, &bound, &args, &until, &refs);
+            put_rows(room, hits, o.hits, row);
+            hits += o.hits;
+            tried += o.tried;
+            row += rows_of(w);
             i = skip;
+        } else {
+            let after = i + 1;
+            tried += 1;
+            if meets(
+                w,
+                i,
+                &rep,
+                &sib,
+                &mut bound,
+                &mut args,
+                &mut until,
+                &mut refs,
+            ) {
+                if after == skip {
+                    let n = rows_of(w);
+                    put_rows(room, hits, n, row);
+                    hits += n;
+                    row += n;
+                }
+                i = after;
+            } else {
+                row += rows_of(w);
+                i = skip;
+            }
         }
     }
     Out { hits, tried }

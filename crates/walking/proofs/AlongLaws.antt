@@ -1,32 +1,38 @@
 -- The walk's invariant: what is done with what is left is the whole. One branch keeps it.
 use Prim.Native.Nat.{ℕ, suc, _+_, _≤_, _<_}
-use mathlib.Core.Path.{_≡_, sym, _∙_, ap}
+use mathlib.Core.Path.{_≡_, refl, sym, _∙_, ap}
 use mathlib.Core.Logic.{_≢_}
-use mathlib.Core.Bool.{true, false}
-use mathlib.Core.List.{List, [], _∷_, _++_, map, map-append, append-assoc}
+use mathlib.Core.Bool.{Bool, true, false, cond}
+use mathlib.Core.List.{List, [], _∷_, _++_, flatten, map, map-append, append-assoc, append-nil}
 use native.Mathlib.Omega.{arith}
-use lib.ListN.{length, getD, drop, length-append, length-drop, length-map}
+use lib.ListN.{length, getD, drop, replicate, length-append, length-drop, length-map}
 use lib.Seq.{sets, drop-drop, drop-at, drop-cons}
 use Rattle.cell.specs.Cell.{arity}
 use Rattle.term.proofs.Lists.{sets-sets}
 use Rattle.table.specs.All.{All}
-use Rattle.table.proofs.AllLaws.{all-back}
+use Rattle.table.proofs.AllLaws.{all-front, all-back}
 use Rattle.table.proofs.HeadLaws.{up-length}
 use Rattle.table.specs.Table.{upFrom}
-use Rattle.plan.specs.Plans.{branches, branchesIn}
+use Rattle.plan.specs.Plans.{end, next, branches, branchesIn}
+use Rattle.plan.specs.code.Cells.{Cells}
 use Rattle.plan.specs.code.Rows.{rowCount}
 use Rattle.answer.specs.code.After.{Left, after}
 use Rattle.answer.specs.code.Renamed.{var, Goal}
-use Rattle.answer.specs.code.Tree.{under, hits, tried}
-use Rattle.plan.specs.Notes.{Branch, branch, below, notes, notesIn, word, cellIn, skipIn, slotIn, nextIn}
+use Rattle.answer.specs.code.Tree.{insert, triedOn, under, hits, tried}
+use Rattle.answer.specs.Skeleton.{hole, decide}
+use Rattle.answer.specs.Run.{skeletons}
+use Rattle.answer.proofs.FewLaws.{flag-some, tried-few}
+use Rattle.answer.proofs.Theorems.{skeletons-length}
+use Rattle.term.proofs.Decide.{unifiable}
+use Rattle.plan.specs.Notes.{Branch, branch, flag, below, notes, notesIn, word, cellIn, skipIn, slotIn, nextIn, aloneIn}
 use Rattle.plan.specs.Notes as note
 use Rattle.walking.specs.code.Link.{Tables}
 use Rattle.walking.specs.code.Steps.{Safe, Step}
-use Rattle.walking.specs.code.Frames.{Frame, notesOf, hitsOf, triedOf, rowsOf, Stands}
+use Rattle.walking.specs.code.Frames.{Frame, RowCell, SoundOf, notesOf, hitsOf, triedOf, rowsOf, Stands}
 use Rattle.plan.proofs.NotesLaws.{Parts, word-parts, notes-count}
 use Rattle.plan.specs.Notes.{Fits}
 use Rattle.walking.proofs.FrameLaws.{Top, top-of, none-of, leaf-all, Below, below-frame, some-open, below-stands}
-use Rattle.walking.proofs.StepLaws.{Sizes, Goes, frames, node, below-width, safe, fails, goes}
+use Rattle.walking.proofs.StepLaws.{Sizes, Goes, frames, node, rest-stands, below-width, safe, fails, goes}
 
 -- At the branch number i, `words` being what is noted: the rows before `row` are done, `found` hits are in the room and `count` branches are tried. With what
 -- the frames still give, the room is `final`, and there are h hits, t branches tried and r rows.
@@ -44,6 +50,7 @@ pub record Along (G rep sib words final : List ℕ) (h t r : ℕ) (bs ns us rs r
   pub fewer : found ≤ row
   pub least : count ≤ i
   pub reach : i ≤ length words
+  pub sound : SoundOf left-over
 
 -- what stands at a place of a list
 read : (l : List ℕ) (at x : ℕ) (xs : List ℕ) → at < length l → drop at l ≡ x ∷ xs → getD l at 0 ≡ x
@@ -70,7 +77,7 @@ module _ {w : ℕ} {G sib rep : List ℕ} (G-goal : Goal w G) (T : Tables G sib 
       (rw (n .0) at (A .wrote), omega (arith, A .more, ap length (n .0)), omega (arith, A .tries, n .1))
 
   module _ (l : i < length words) where
-    first : Top G rep sib bs ns us rs (A .left-over) i (A .top) row
+    pub first : Top G rep sib bs ns us rs (A .left-over) i (A .top) row
     first =
         let z : length (notesOf (A .left-over) i) ≡ length (drop i words) = sym (length-map (notesOf (A .left-over) i) word) ∙ ap length (A .noted) in
         top-of (A .left-over) i (A .top) row (omega (arith, z, length-drop i words)) (A .stands)
@@ -90,9 +97,13 @@ module _ {w : ℕ} {G sib rep : List ℕ} (G-goal : Goal w G) (T : Tables G sib 
     abbrev others : List Frame
     others = frames G-goal T first
 
+    -- its branches are of a table's rows
+    sound-here : Cells RowCell (first .tree) × SoundOf others
+    sound-here = let s = first .sound (A .sound) in (s .1, (s .2, s .3))
+
     -- what is noted of it, and of what is below it
     b : Branch
-    b = branch c sk n (getD (first .slots) (first .place) 0) m
+    b = branch c sk n (getD (first .slots) (first .place) 0) m (flag (first .group))
 
     abbrev under-it : List Branch
     under-it = notes (first .tree) (below (first .place) (arity c) m (first .slots)) (i + 1) (m + arity c)
@@ -116,6 +127,23 @@ module _ {w : ℕ} {G sib rep : List ℕ} (G-goal : Goal w G) (T : Tables G sib 
     unfolding b
     room-enough = fit-here .0 .next
 
+    -- as the only branch of its state, with all below it
+    pub words-here : drop i words ≡ map word (notesIn (next {g = first .group} (first .tree) end) (first .place) (first .slots) i m) ++ map word (notesOf others sk)
+    unfolding b notes
+    words-here = rw (append-nil under-it) split-words
+
+    pub fit-only : All Fits (notesIn (next {g = first .group} (first .tree) end) (first .place) (first .slots) i m)
+    unfolding b notes
+    fit-only = (fit-here .0, rw (append-nil under-it) (all-front Fits under-it (notesOf others sk) (fit-here .1)))
+
+    pub alone-here : aloneIn (getD words i 0) ≡ cond (flag (first .group)) 1 0
+    unfolding b
+    alone-here = parts .alone
+
+    pub skip-is : skipIn (getD words i 0) ≡ i + 1 + branches (first .tree)
+    unfolding b
+    skip-is = parts .skip
+
     -- what the branch gives, with what `after` leaves of the goal
     abbrev leaves : Left
     leaves = after (var m) (first .place) c (first .R)
@@ -126,15 +154,25 @@ module _ {w : ℕ} {G sib rep : List ℕ} (G-goal : Goal w G) (T : Tables G sib 
     abbrev tried-here : Left → ℕ
     tried-here x = under 0 x (λ R′. tried (first .tree) (m + arity c) R′)
 
-    split-hits : hitsOf (A .left-over) row ≡ hits-here leaves ++ hitsOf others (row + n)
-    unfolding hits
-    split-hits =
-        let q : row + (n + rowCount (first .groups)) ≡ row + n + rowCount (first .groups) = omega arith in
-        first .same-hits ∙ rw q (append-assoc (hits-here leaves) _ _)
+    -- and where the row is finished by itself
+    abbrev alone-row : List ℕ
+    alone-row = insert (first .place) c (flatten (first .group .rows))
 
-    split-tried : triedOf (A .left-over) ≡ suc (tried-here leaves + triedOf others)
+    abbrev hits-alone : List ℕ
+    hits-alone = cond (unifiable alone-row (first .R)) (row ∷ []) []
+
+    abbrev tried-alone : ℕ
+    tried-alone = triedOn (first .R) (replicate (suc (first .k)) hole ∷ skeletons (first .tree) (decide (first .place) c (replicate (suc (first .k)) hole)))
+
+    all-hits : hitsOf (A .left-over) row ≡ cond (flag (first .group)) hits-alone (hits-here leaves) ++ hitsOf others (row + n)
+    unfolding hits
+    all-hits =
+        let q : row + (n + rowCount (first .groups)) ≡ row + n + rowCount (first .groups) = omega arith in
+        first .same-hits ∙ rw q (append-assoc (cond (flag (first .group)) hits-alone (hits-here leaves)) _ _)
+
+    all-tried : triedOf (A .left-over) ≡ cond (flag (first .group)) tried-alone (suc (tried-here leaves)) + triedOf others
     unfolding tried
-    split-tried = first .same-tried ∙ omega arith
+    all-tried = first .same-tried ∙ omega arith
 
     split-rows : rowsOf (A .left-over) ≡ n + rowsOf others
     split-rows = first .same-rows ∙ omega arith
@@ -150,6 +188,11 @@ module _ {w : ℕ} {G sib rep : List ℕ} (G-goal : Goal w G) (T : Tables G sib 
     pub safe-here : Safe sib bs ns us i (cellIn W) (getD rs (slotIn W) 0) (nextIn W)
     unfolding b
     safe-here = rw (parts .cell, parts .next, ← same-node) (safe G-goal T first room-enough)
+
+    -- a flagged branch has a row
+    pub rows-some : flag (first .group) ≡ true → 1 ≤ note.rowsIn (getD words i 0)
+    unfolding b
+    rows-some z = rw (parts .rows) (flag-some (first .group) z)
 
     pub rows-here : row + note.rowsIn W ≤ r
     unfolding b
@@ -171,18 +214,64 @@ module _ {w : ℕ} {G sib rep : List ℕ} (G-goal : Goal w G) (T : Tables G sib 
     past-fit : All Fits (notesOf others sk)
     past-fit = all-back Fits under-it (notesOf others sk) (fit-here .1)
 
-    module _ {bs′ ns′ us′ rs′ : List ℕ} where
+    -- a row that is finished by itself: so many branches of it are tried, and whether it is a hit
+    pub on-alone : {room′ : List ℕ} (t′ : ℕ) (b′ : Bool) → flag (first .group) ≡ true → t′ ≡ tried-alone → b′ ≡ unifiable alone-row (first .R) → room′ ≡ sets room found (cond b′ (row ∷ []) [])
+        → Along G rep sib words final h t r bs ns us rs room′ (skipIn W) (row + note.rowsIn W) (found + cond b′ 1 0) (count + t′)
+    unfolding b
+    on-alone {room′} t′ b′ z et eb er =
+        let some = flag-some (first .group) z in
+        let x = cond b′ (row ∷ []) [] in
+        let hs : hitsOf (A .left-over) row ≡ x ++ hitsOf others (row + n) = all-hits ∙ rw (z, eb) refl in
+        let ts : triedOf (A .left-over) ≡ t′ + triedOf others = all-tried ∙ rw (z, et) refl in
+        let u : length x ≡ cond b′ 1 0 = one-long b′ in
+        let v = length-append x (hitsOf others (row + n)) in
+        let w = one-few b′ in
+        rw (parts .skip, parts .rows)
+        (record {
+          left-over = others;
+          sound = sound-here .1;
+          top = m;
+          stands = rest-stands G-goal T first;
+          noted = past-words;
+          fit = past-fit;
+          sizes = A .sizes;
+          wrote = sets-next room x (hitsOf others (row + n)) found (cond b′ 1 0) er u ∙ ap (sets room found) (sym hs) ∙ A .wrote;
+          more = omega (arith, A .more, ap length hs);
+          tries = omega (arith, A .tries, ts);
+          rows = omega (arith, A .rows, split-rows);
+          fewer = omega (arith, A .fewer);
+          least = omega (arith, A .least, et, tried-few (first .R) (replicate (suc (first .k)) hole ∷ skeletons (first .tree) (decide (first .place) c (replicate (suc (first .k)) hole))), skeletons-length (first .tree) (decide (first .place) c (replicate (suc (first .k)) hole)));
+          reach = omega (arith, skip-here .1, parts .skip);
+        })
+      where
+        one-long : (b : Bool) → length (cond b (row ∷ []) []) ≡ cond b 1 0
+        one-long true = refl
+        one-long false = refl
+
+        one-few : (b : Bool) → cond b 1 0 ≤ 1
+        one-few true = omega arith
+        one-few false = omega arith
+
+    module _ (off : flag (first .group) ≡ false) where
+      split-hits : hitsOf (A .left-over) row ≡ hits-here leaves ++ hitsOf others (row + n)
+      split-hits = all-hits ∙ rw off refl
+
+      split-tried : triedOf (A .left-over) ≡ suc (tried-here leaves + triedOf others)
+      split-tried = all-tried ∙ rw off (omega arith)
+
+    module _ {bs′ ns′ us′ rs′ : List ℕ} (off : flag (first .group) ≡ false) where
       pub on-fail : Step rep sib i (cellIn W) (getD rs (slotIn W) 0) (nextIn W) (skipIn W) bs ns us rs bs′ ns′ us′ rs′ false
           → Along G rep sib words final h t r bs′ ns′ us′ rs′ room (skipIn W) (row + note.rowsIn W) found (count + 1)
       unfolding b
       on-fail x =
           let x′ : Step rep sib i c (node G-goal T first) m sk bs ns us rs bs′ ns′ us′ rs′ false = rw (parts .cell, parts .next, parts .skip, ← same-node) at x in
           let f = fails G-goal T first room-enough (A .sizes) x′ in
-          let hs : hitsOf (A .left-over) row ≡ hitsOf others (row + n) = split-hits ∙ rw (f .0) in
-          let ts : triedOf (A .left-over) ≡ suc (triedOf others) = split-tried ∙ rw (f .0) (omega arith) in
+          let hs : hitsOf (A .left-over) row ≡ hitsOf others (row + n) = split-hits off ∙ rw (f .0) in
+          let ts : triedOf (A .left-over) ≡ suc (triedOf others) = split-tried off ∙ rw (f .0) (omega arith) in
           rw (parts .skip, parts .rows)
           (record {
             left-over = others;
+            sound = sound-here .1;
             top = m;
             stands = f .1;
             noted = past-words;
@@ -210,8 +299,8 @@ module _ {w : ℕ} {G sib rep : List ℕ} (G-goal : Goal w G) (T : Tables G sib 
             let z : branches (first .tree) ≡ 0 = omega (arith, parts .skip) in
             let d = gone .down in
             let f = leaf-all (first .tree) z (m + arity c) (d .rest) row in
-            let hs : hitsOf (A .left-over) row ≡ upFrom row n ++ hitsOf others (row + n) = split-hits ∙ rw (d .leaves, f .0) in
-            let ts : triedOf (A .left-over) ≡ suc (triedOf others) = split-tried ∙ rw (d .leaves, f .1) (omega arith) in
+            let hs : hitsOf (A .left-over) row ≡ upFrom row n ++ hitsOf others (row + n) = split-hits off ∙ rw (d .leaves, f .0) in
+            let ts : triedOf (A .left-over) ≡ suc (triedOf others) = split-tried off ∙ rw (d .leaves, f .1) (omega arith) in
             let q : sk ≡ i + 1 = omega arith in
             let y′ : room′ ≡ sets room found (upFrom row n) = y ∙ rw (parts .rows) in
             let u = up-length row n in
@@ -219,6 +308,7 @@ module _ {w : ℕ} {G sib rep : List ℕ} (G-goal : Goal w G) (T : Tables G sib 
             rw (parts .rows)
             (record {
               left-over = others;
+              sound = sound-here .1;
               top = m;
               stands = rw q at (gone .rest);
               noted = rw q at past-words;
@@ -239,12 +329,13 @@ module _ {w : ℕ} {G sib rep : List ℕ} (G-goal : Goal w G) (T : Tables G sib 
         down-with F z =
             let d = gone .down in
             let q : i + 1 + branchesIn (F .first .trees) ≡ sk = omega (arith, F .count) in
-            let hs : hitsOf (A .left-over) row ≡ hitsOf (F .first ∷ others) row = split-hits ∙ rw (d .leaves, F .same-hits row, F .same-rows) in
-            let ts : triedOf (A .left-over) ≡ suc (triedOf (F .first ∷ others)) = split-tried ∙ rw (d .leaves) (omega (arith, F .same-tried)) in
+            let hs : hitsOf (A .left-over) row ≡ hitsOf (F .first ∷ others) row = split-hits off ∙ rw (d .leaves, F .same-hits row, F .same-rows) in
+            let ts : triedOf (A .left-over) ≡ suc (triedOf (F .first ∷ others)) = split-tried off ∙ rw (d .leaves) (omega (arith, F .same-tried)) in
             let ns : notesOf (F .first ∷ others) (i + 1) ≡ under-it ++ notesOf others sk = rw (F .same-notes (i + 1), q) in
             let ws : map word under-it ++ map word (notesOf others sk) ≡ drop (i + 1) words = next-words words (map word under-it ++ map word (notesOf others sk)) i (word b) split-words in
             record {
               left-over = F .first ∷ others;
+              sound = (F .sound (sound-here .0), sound-here .1);
               top = m + arity c;
               stands = below-stands (first .tree) (m + arity c) (below (first .place) (arity c) m (first .slots)) (d .rest) F others (i + 1) (d .linked) (below-width G-goal T first) (omega arith) (gone .rest);
               noted = ap (map word) ns ∙ map-append word under-it (notesOf others sk) ∙ ws;

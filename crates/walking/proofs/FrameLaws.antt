@@ -12,12 +12,13 @@ use Rattle.table.specs.Table.{upFrom}
 use Rattle.plan.specs.Runs.{Run}
 use Rattle.plan.specs.Plans.{Plan, leaf, node, Branches, end, next, branches, branchesIn}
 use Rattle.plan.proofs.RunsLaws.{group-rows}
+use Rattle.plan.specs.code.Cells.{Sound, Cells, CellsIn}
 use Rattle.plan.specs.code.Rows.{rowCount}
 use Rattle.answer.specs.code.Renamed.{Goal}
 use Rattle.answer.specs.code.Tree.{hits, hitsIn, tried, triedIn}
 use Rattle.plan.specs.Notes.{notes, notesIn}
 use Rattle.walking.specs.code.Link.{Tables, Linked}
-use Rattle.walking.specs.code.Frames.{Frame, frame, notesOf, hitsOf, triedOf, rowsOf, Stands, nothing, within}
+use Rattle.walking.specs.code.Frames.{Frame, frame, RowCell, SoundOf, notesOf, hitsOf, triedOf, rowsOf, Stands, nothing, within}
 use Rattle.plan.proofs.NotesLaws.{notesIn-count}
 use Rattle.walking.proofs.LinkLaws.{refs-past, binding-past}
 
@@ -61,9 +62,10 @@ pub record Below {k : ℕ} {rows : List (List ℕ)} (p : Plan k rows) (m : ℕ) 
   pub same-hits : (f : ℕ) → hitsIn (first .trees) (first .place) (first .free) (first .R) f ≡ hits p m R f
   pub same-tried : triedIn (first .trees) (first .place) (first .free) (first .R) ≡ tried p m R
   pub same-rows : rowCount (first .groups) ≡ length rows
+  pub sound : Cells RowCell p → CellsIn RowCell (first .trees)
 
 pub below-frame : {k : ℕ} {rows : List (List ℕ)} (p : Plan k rows) (m : ℕ) (slots R : List ℕ) → 0 < k → Below p m slots R
-unfolding branches notes hits tried
+unfolding branches notes hits tried Cells
 below-frame leaf m slots R z = absurd (let y : ⊥ = omega arith in y)
 below-frame (node {rows = rows} i h bs) m slots R z = record {
   first = frame bs i m slots R;
@@ -77,6 +79,7 @@ below-frame (node {rows = rows} i h bs) m slots R z = record {
   same-hits = λ f. refl;
   same-tried = refl;
   same-rows = group-rows (root i) (close i) rows;
+  sound = λ c. c;
 }
 
 pub some-open : {k : ℕ} {rows : List (List ℕ)} (p : Plan k rows) → 0 < branches p → 0 < k
@@ -137,13 +140,14 @@ pub record Top (G rep sib bs ns us rs : List ℕ) (fs : List Frame) (n top row :
   pub same-hits : hitsOf fs row ≡ hitsOf (frame (next {g = group} tree trees) place free slots R ∷ others) row
   pub same-tried : triedOf fs ≡ triedOf (frame (next {g = group} tree trees) place free slots R ∷ others)
   pub same-rows : rowsOf fs ≡ rowsOf (frame (next {g = group} tree trees) place free slots R ∷ others)
+  pub sound : SoundOf fs → Sound RowCell k group × Cells RowCell tree × CellsIn RowCell trees × SoundOf others
 
 -- a frame with a branch, or the first one further out
 first-in : {G rep sib bs ns us rs : List ℕ} {k : ℕ} {gs : List Run} (ts : Branches k gs) (i m : ℕ) (slots R : List ℕ) (fs : List Frame) (n top row : ℕ)
     → ((top : ℕ) → 0 < length (notesOf fs n) → Stands G rep sib bs ns us rs fs n top → Top G rep sib bs ns us rs fs n top row)
     → 0 < length (notesOf (frame ts i m slots R ∷ fs) n) → Stands G rep sib bs ns us rs (frame ts i m slots R ∷ fs) n top
     → Top G rep sib bs ns us rs (frame ts i m slots R ∷ fs) n top row
-unfolding notes hits tried branches
+unfolding notes hits tried branches Cells
 first-in {G} {rep} {sib} {bs} {ns} {us} {rs} end i m slots R fs n top row f h (within x l s) =
     let zn : n + 0 ≡ n = add-zero n in
     let zr : row + 0 ≡ row = add-zero row in
@@ -165,6 +169,7 @@ first-in {G} {rep} {sib} {bs} {ns} {us} {rs} end i m slots R fs n top row f h (w
       same-hits = ap (hitsOf fs) zr ∙ t .same-hits;
       same-tried = omega (arith, t .same-tried);
       same-rows = omega (arith, t .same-rows);
+      sound = λ a. t .sound (a .1);
     }
 first-in (next {k} {g} {gs} p ts) i m slots R fs n top row f h s = record {
   k = k;
@@ -182,6 +187,7 @@ first-in (next {k} {g} {gs} p ts) i m slots R fs n top row f h s = record {
   same-hits = refl;
   same-tried = refl;
   same-rows = refl;
+  sound = λ a. (a .0 .0, a .0 .1, a .0 .2, a .1);
 }
 
 pub top-of : {G rep sib bs ns us rs : List ℕ} (fs : List Frame) (n top row : ℕ) → 0 < length (notesOf fs n) → Stands G rep sib bs ns us rs fs n top → Top G rep sib bs ns us rs fs n top row

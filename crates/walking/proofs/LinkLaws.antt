@@ -28,7 +28,7 @@ use Rattle.answer.specs.code.Renamed.{var, Goal}
 use Rattle.answer.proofs.CountLaws.{up-distinct}
 use Rattle.walking.specs.code.Link.{ref, refs, steps, entries, nodes, Node, cell, made, Nodes, nil, Tables, Is, held, free, Bound, Linked}
 use Rattle.walking.proofs.ListLaws.{entries-++, entries-below, entries-stored, entries-length, steps-length, new-made}
-use Rattle.walking.proofs.RefLaws.{ref-made, refs-++, nodes-split, nodes-++, nodes-more, up-nodes, steps-up, nodes-up, up-all, up-refs, Terms-ref, Terms-refs, one-node}
+use Rattle.walking.proofs.RefLaws.{ref-made, refs-++, nodes-split, nodes-++, node-more, nodes-more, up-nodes, steps-up, nodes-up, up-all, up-refs, Terms-ref, Terms-refs, one-node}
 
 -- a node that was made before, or one that was not
 older : {G rep : List ℕ} (m : ℕ) {n r : ℕ} → 32 ≤ m → Node G rep n r → Node G rep m r ⊎ ((m ≤ r) × (32 ≤ r))
@@ -46,6 +46,11 @@ module _ {w : ℕ} {G sib rep : List ℕ} (g : Goal w G) (T : Tables G sib rep) 
   node-low (cell h k) l = omega (arith, g .short)
   node-low (made h k) l = omega arith
 
+  -- a number from m on is no node yet
+  not-made : {m r : ℕ} → 32 ≤ m → m ≤ r → Node G rep m r → ⊥
+  not-made s h (cell k q) = omega (arith, g .short)
+  not-made s h (made k l) = omega arith
+
   -- what holds for some branches, holds for fewer of them, with more nodes made
   is-within : {bs ns us : List ℕ} {n e m n′ e′ m′ r : ℕ} {Θ : ℕ → List ℕ} → n ≤ n′ → e′ ≤ e → m ≤ m′ → Is G rep sib bs ns us n e m Θ r → Is G rep sib bs ns us n′ e′ m′ Θ r
   is-within h k l (held a v t o s) = held (omega arith) v t (nodes-more l o) s
@@ -57,10 +62,10 @@ module _ {w : ℕ} {G sib rep : List ℕ} (g : Goal w G) (T : Tables G sib rep) 
     good = b .good;
     is = λ r o. ⊎-elim
         (λ q. is-within h k l (b .is r q))
-        (λ q. free r (node-low o few) (omega (arith, b .later r (q .0))) (ref-made G r (q .1)) (b .fresh r (q .0)))
+        (λ q. free r (node-low o few) (omega (arith, b .later r (not-made s (q .0)))) (ref-made G r (q .1)) (b .fresh r (q .0)))
         (older m s o);
     fresh = λ u q. b .fresh u (omega arith);
-    later = λ u q. omega (arith, b .later u (omega arith));
+    later = λ r o. omega (arith, b .later r (λ q. o (node-more l q)));
   }
 
   -- What a branch binds is not seen by those that are not below it.
@@ -148,11 +153,7 @@ module _ {w : ℕ} {G sib rep : List ℕ} (g : Goal w G) (T : Tables G sib rep) 
 
     -- it is made before any new one
     new-node : (r : ℕ) → r ≡ v → m ≤ r → ⊥
-    new-node r z h = go (split .1)
-      where
-        go : Node G rep m v → ⊥
-        go (cell k q) = omega (arith, g .short, L .some)
-        go (made k l) = omega arith
+    new-node r z h = not-made (L .some) (omega arith) (split .1)
 
     -- what the branch finds
     pub seen : Is G rep sib bs ns us n e m Θ v
@@ -356,7 +357,7 @@ module _ {w : ℕ} {G sib rep : List ℕ} (g : Goal w G) (T : Tables G sib rep) 
         is-new r lr h k =
             let q : r ≢ v = λ z. new-node r z h in
             let l = x-low in
-            free r lr (rw (getD-set-other us v r e′ 0 q) (omega (arith, L .binds .later r h))) (ref-made G r k) (still r (L .binds .fresh r h) (λ z. let y : ⊥ = omega arith in y))
+            free r lr (rw (getD-set-other us v r e′ 0 q) (omega (arith, L .binds .later r (not-made (L .some) h)))) (ref-made G r k) (still r (L .binds .fresh r h) (λ z. let y : ⊥ = omega arith in y))
 
         bound-bind : Bound G rep sib bs′ ns′ us′ n′ e′ (m + arity c) Θ′
         unfolding Θ′
@@ -367,7 +368,7 @@ module _ {w : ℕ} {G sib rep : List ℕ} (g : Goal w G) (T : Tables G sib rep) 
               (λ q. is-new r (node-low o (omega arith)) (q .0) (q .1))
               (older m (L .some) o);
           fresh = λ u h. let l = x-low in still u (L .binds .fresh u (omega arith)) (λ z. let y : ⊥ = omega arith in y);
-          later = λ u h. rw (getD-set-other us v u e′ 0 (λ z. new-node u z (omega arith))) (omega (arith, L .binds .later u (omega arith)));
+          later = λ r o. rw (getD-set-other us v r e′ 0 (λ z. o (rw z (node-more (omega arith) (split .1))))) (omega (arith, L .binds .later r (λ q. o (node-more (omega arith) q))));
         }
 
         down-new : length rs ≡ 64 → Down bs′ ns′ us′ (sets rs m (nodes rep sib (arity c) m)) n′ e′ (m + arity c) (A ++ (upFrom m (arity c) ++ B)) (length A) c m R

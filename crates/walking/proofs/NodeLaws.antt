@@ -36,7 +36,6 @@ pub record Naming (goal bs ns us rep first : List ℕ) (p : ℕ) : Type 0 where
   pub done : NamedTo goal rep bs ns us p
   pub firsts : Firsts goal first p
   pub reach : p ≤ length goal
-  pub size-rep : length rep ≡ 64
 
 pub naming-none : (goal bs ns us rep first : List ℕ) → length bs ≡ 64 → length ns ≡ 64 → us ≡ replicate 64 0 → rep ≡ upFrom 0 64 → first ≡ replicate 32 64 → Naming goal bs ns us rep first 0
 naming-none goal bs ns us rep first zb zn eu er ef = record {
@@ -45,6 +44,7 @@ naming-none goal bs ns us rep first zb zn eu er ef = record {
     variables = λ p h v. absurd (let z : ⊥ = omega arith in z);
     others = λ r h l. rw er (up-at 0 64 r l ∙ omega arith);
     unbound = λ r h. rw eu (getD-zeros 64 r);
+    size-rep = rw er (up-length 0 64);
     size-bound = zb;
     size-args = zn;
     size-until = rw eu (length-replicate {A = ℕ} 64 0);
@@ -55,7 +55,6 @@ naming-none goal bs ns us rep first zb zn eu er ef = record {
     size = rw ef (length-replicate {A = ℕ} 32 64);
   };
   reach = omega arith;
-  size-rep = rw er (up-length 0 64);
 }
 
 module _ {goal bs ns us rep first : List ℕ} {p : ℕ} (w : Whole goal) (N : Naming goal bs ns us rep first p) (l : p < length goal) where
@@ -92,6 +91,7 @@ module _ {goal bs ns us rep first : List ℕ} {p : ℕ} (w : Whole goal) (N : Na
               (λ d. let x = D .variables q (before q h d) k in record { low = x .low; cell = x .cell; first = x .first; ends = getD-set-other us p q 4095 0 d ∙ x .ends });
           others = λ r h k. D .others r (omega arith) k;
           unbound = λ r h. getD-set-other us p r 4095 0 (λ e. let z : ⊥ = omega arith in z) ∙ D .unbound r (omega arith);
+          size-rep = D .size-rep;
           size-bound = length-set bs p c ∙ D .size-bound;
           size-args = length-set ns p (p + 1) ∙ D .size-args;
           size-until = length-set us p 4095 ∙ D .size-until;
@@ -104,7 +104,6 @@ module _ {goal bs ns us rep first : List ℕ} {p : ℕ} (w : Whole goal) (N : Na
           size = N .firsts .size;
         };
         reach = omega arith;
-        size-rep = N .size-rep;
       }
 
   -- a variable
@@ -145,7 +144,7 @@ module _ {goal bs ns us rep first : List ℕ} {p : ℕ} (w : Whole goal) (N : Na
         }
 
     rep-here : getD (set rep p x) p 0 ≡ x
-    rep-here = getD-set-same rep p x 0 (omega (arith, few, N .size-rep))
+    rep-here = getD-set-same rep p x 0 (omega (arith, few, D .size-rep))
 
     rep-other : (q : ℕ) → q ≢ p → getD (set rep p x) q 0 ≡ getD rep q 0
     rep-other q d = getD-set-other rep p q x 0 d
@@ -164,11 +163,11 @@ module _ {goal bs ns us rep first : List ℕ} {p : ℕ} (w : Whole goal) (N : Na
                 record { low = rw (rep-other q d) (s .low); cell = rw (rep-other q d) (s .cell); first = rw (rep-other q d) (s .first); ends = s .ends });
             others = λ r h k. rep-other r (λ e. let z : ⊥ = omega arith in z) ∙ D .others r (omega arith) k;
             unbound = λ r h. D .unbound r (omega arith);
+            size-rep = length-set rep p x ∙ D .size-rep;
             size-bound = D .size-bound;
             size-args = D .size-args;
             size-until = D .size-until;
           };
           firsts = firsts-then;
           reach = omega arith;
-          size-rep = length-set rep p x ∙ N .size-rep;
         }

@@ -47,7 +47,7 @@ pub nodes-++ : {G rep : List ℕ} {m : ℕ} {P Q : List ℕ} → Nodes G rep m P
 nodes-++ nil q = q
 nodes-++ (cons o p) q = cons o (nodes-++ p q)
 
-node-more : {G rep : List ℕ} {m n r : ℕ} → m ≤ n → Node G rep m r → Node G rep n r
+pub node-more : {G rep : List ℕ} {m n r : ℕ} → m ≤ n → Node G rep m r → Node G rep n r
 node-more h (cell x y) = cell x y
 node-more h (made x y) = made x (omega arith)
 

@@ -1,9 +1,9 @@
 -- Where a walk begins: the goal's tables are what the link takes for granted, and nothing is bound but the goal's symbols.
 use Prim.Native.Nat.{ℕ, suc, _+_, _≤_, _<_}
 use mathlib.Core.Path.{_≡_, refl, sym, _∙_, ap}
-use mathlib.Core.Logic.{_≢_, _⊎_, ⊎-elim}
+use mathlib.Core.Logic.{_≢_, ⊎-elim}
 use mathlib.Core.Bool.{true, false, true≢false}
-use mathlib.Core.List.{List, [], _∷_, _++_, append-nil}
+use mathlib.Core.List.{List, [], _∷_, append-nil}
 use native.Mathlib.Nat.{add-zero}
 use native.Mathlib.Omega.{arith}
 use lib.Dec.{ltb}
@@ -97,6 +97,8 @@ module _ {w : ℕ} {goal : List ℕ} (h : IsGoal w goal) where
           sibs = λ p l. let l′ : p < length goal = omega arith in
               S .places p l′ ∙ ap (λ (n : ℕ). p + n) (sym (ap (λ (l : List ℕ). length (front 1 l)) (renamed-drop p goal) ∙ renamed-front 1 (drop p goal) (small-drop p goal (small h))));
           up = λ r a b. (S .numbers r a b, N .others r (omega (arith, h .head .short)) b);
+          size = N .size-rep;
+          others = λ r a b. N .others r (omega arith) b;
           inside = λ p l. let l′ : p < length goal = omega arith in ⊎-elim
               (λ v. omega (arith, N .variables p l′ v .low))
               (λ v. omega (arith, N .symbols p l′ v .node))
@@ -137,7 +139,13 @@ module _ {w : ℕ} {goal : List ℕ} (h : IsGoal w goal) where
       good = Subst-id;
       is = λ r o. is r o;
       fresh = λ u l. refl;
-      later = λ u l. omega (arith, N .unbound u (omega (arith, h .head .short)));
+      later = λ r o. ⊎-elim
+          (λ t. let l = ltb-true r (length goal) t in ⊎-elim
+          (λ v. omega (arith, N .variables r l v .ends))
+          (λ v. absurd (o (cell (omega (arith, renamed-length goal)) (N .symbols r l v .node))))
+          (bool-cases (isVar (getD goal r 0))))
+          (λ t. omega (arith, N .unbound r (ltb-false r (length goal) t)))
+          (bool-cases (ltb r (length goal)));
     }
       where
         is-symbol : (r : ℕ) → r < length goal → isVar (getD goal r 0) ≡ false → Is G rep sib bs ns us 0 e 32 idS r

@@ -13,7 +13,7 @@ use Rattle.answer.specs.code.Renamed.{var, Goal}
 use Rattle.plan.specs.Notes.{below}
 use Rattle.walking.specs.code.Link.{nodes, Tables, Linked}
 use Rattle.walking.specs.code.Steps.{Safe, Step, step-any, step-same, step-other, step-binds}
-use Rattle.walking.specs.code.Frames.{Frame, frame, Stands, within}
+use Rattle.walking.specs.code.Frames.{Frame, frame, Held, Stands, within}
 use Rattle.plan.proofs.NotesLaws.{below-length}
 use Rattle.walking.proofs.RefLaws.{steps-up, up-all}
 use Rattle.walking.proofs.LinkLaws.{linked-rest, Down, node-small, down-variable, down-same, same-safe, stuck-other, down-bind}
@@ -58,6 +58,14 @@ module _ {v : ℕ} {G sib rep : List ℕ} (G-goal : Goal v G) (T : Tables G sib 
   abbrev pub frames : List Frame
   frames = frame (t .trees) (t .place) (t .free) (t .slots) (t .R) ∷ t .others
 
+  -- what the arrays stand for there
+  pub held : Held G rep sib bs ns us rs n (n + branchesIn (next {g = t .group} (t .tree) (t .trees))) (frame (next {g = t .group} (t .tree) (t .trees)) (t .place) (t .free) (t .slots) (t .R))
+  held = go (t .stands)
+    where
+      go : {o : ℕ} → Stands G rep sib bs ns us rs (frame (next {g = t .group} (t .tree) (t .trees)) (t .place) (t .free) (t .slots) (t .R) ∷ t .others) n o
+          → Held G rep sib bs ns us rs n (n + branchesIn (next {g = t .group} (t .tree) (t .trees))) (frame (next {g = t .group} (t .tree) (t .trees)) (t .place) (t .free) (t .slots) (t .R))
+      go (within x l r) = x
+
   -- its place among the slots
   record Place : Type 0 where
     pub end : ℕ
@@ -93,6 +101,10 @@ module _ {v : ℕ} {G sib rep : List ℕ} (G-goal : Goal v G) (T : Tables G sib 
 
   L : Linked G rep sib bs ns us rs n (P .end) m (A ++ (s ∷ B)) (t .R)
   L = P .linked
+
+  -- the rest of the state and the frames further out, where nothing is written
+  pub rest-stands : Stands G rep sib bs ns us rs frames sk m
+  rest-stands = P .rest
 
   -- so many places are open below it
   pub below-width : length (below i (arity c) m (t .slots)) ≡ arity c + t .k

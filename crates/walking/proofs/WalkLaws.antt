@@ -1,28 +1,32 @@
 -- The walk of a noted plan on a goal, from its first branch on.
 use Prim.Native.Nat.{ℕ, _+_, _≤_, _<_}
-use mathlib.Core.Path.{_≡_, sym, _∙_, ap}
+use mathlib.Core.Path.{_≡_, refl, sym, _∙_, ap, subst}
 use mathlib.Core.Logic.{_≢_}
-use mathlib.Core.Bool.{true, false}
+use mathlib.Core.Bool.{Bool, true, false, cond}
 use mathlib.Core.List.{List, [], _∷_, map, append-nil}
 use native.Mathlib.Omega.{arith}
+use lib.Dec.{eqb}
 use lib.ListN.{length, getD, take, replicate, length-map, length-replicate}
 use lib.Seq.{sets, length-sets, getD-take}
+use Rattle.cell.specs.Cell.{Cell}
 use Rattle.term.specs.Unify.{renamed}
 use Rattle.table.specs.Table.{upFrom}
+use Rattle.table.proofs.Accepted.{few-variables}
 use Rattle.table.proofs.HeadLaws.{up-length}
 use Rattle.plan.specs.Plans.{branches}
 use Rattle.answer.specs.code.Tree.{hits, tried}
-use Rattle.answer.proofs.AcceptedLaws.{goal-head}
-use Rattle.plan.specs.Notes.{notes, word, cellIn, skipIn, rowsIn, slotIn, nextIn}
+use Rattle.answer.proofs.AcceptedLaws.{goal-head, no-cell}
+use Rattle.plan.specs.Notes.{flag, notes, word, cellIn, skipIn, rowsIn, slotIn, nextIn, aloneIn}
 use Rattle.walking.specs.code.Link.{nodes, Tables}
 use Rattle.walking.specs.code.Steps.{Safe, Step}
 use Rattle.walking.specs.code.Goal.{Stepped, Named}
-use Rattle.walking.specs.code.Frames.{notesOf, hitsOf, nothing}
+use Rattle.walking.specs.code.Frames.{RowCell, notesOf, hitsOf, nothing}
 use Rattle.walking.specs.code.Walk.{Begun}
 use Rattle.plan.proofs.NotesLaws.{notes-count}
 use Rattle.plan.proofs.NotesLaws.{branches-few, notes-fit}
-use Rattle.walking.proofs.FrameLaws.{Below, below-frame, below-stands}
-use Rattle.walking.proofs.AlongLaws.{Along, safe-here, rows-here, skip-here, on-fail, on-leaf, on-down}
+use Rattle.plan.proofs.TwiceLaws.{table-cells}
+use Rattle.walking.proofs.FrameLaws.{Top, Below, below-frame, below-stands}
+use Rattle.walking.proofs.AlongLaws.{Along, first, alone-here, rows-some, safe-here, rows-here, skip-here, on-fail, on-leaf, on-down}
 use Rattle.walking.proofs.StartLaws.{linked}
 
 module _ {noted goal room : List ℕ} {count w : ℕ} (b : Begun noted count goal room w) where
@@ -45,10 +49,10 @@ module _ {noted goal room : List ℕ} {count w : ℕ} (b : Begun noted count goa
     abbrev W : ℕ
     W = getD noted i 0
 
-    same-word : getD (take count noted) i 0 ≡ W
+    pub same-word : getD (take count noted) i 0 ≡ W
     same-word = getD-take count noted i 0 l
 
-    inside : i < length (take count noted)
+    pub inside : i < length (take count noted)
     inside = omega (arith, words-count)
 
     pub safe-now : Safe sib bs ns us i (cellIn W) (getD rs (slotIn W) 0) (nextIn W)
@@ -60,10 +64,27 @@ module _ {noted goal room : List ℕ} {count w : ℕ} (b : Begun noted count goa
     pub skip-now : (i < skipIn W) × (skipIn W ≤ count)
     skip-now = rw (same-word, words-count) at (skip-here (goal-head (b .is)) T A inside)
 
-    module _ {bs′ ns′ us′ rs′ : List ℕ} where
+    -- whether the rest of its row is run by itself
+    abbrev pub top-now : Top (renamed goal) rep sib bs ns us rs (A .left-over) i (A .top) row
+    top-now = first (goal-head (b .is)) T A inside
+
+    abbrev pub flagged : Bool
+    flagged = flag (top-now .group)
+
+    pub some-now : flagged ≡ true → 1 ≤ rowsIn W
+    some-now e = rw same-word at (rows-some (goal-head (b .is)) T A inside e)
+
+    pub flag-now : (r : Bool) → r ≡ eqb (aloneIn W) 1 → flagged ≡ r
+    flag-now r e = sym (e ∙ rw (← same-word, alone-here (goal-head (b .is)) T A inside) (bit flagged))
+      where
+        bit : (z : Bool) → eqb (cond z 1 0) 1 ≡ z
+        bit true = refl
+        bit false = refl
+
+    module _ {bs′ ns′ us′ rs′ : List ℕ} (off : flagged ≡ false) where
       pub fail-now : {i′ row′ tries′ : ℕ} (n : ℕ) → n ≡ rowsIn W → Step rep sib i (cellIn W) (getD rs (slotIn W) 0) (nextIn W) (skipIn W) bs ns us rs bs′ ns′ us′ rs′ false
           → i′ ≡ skipIn W → row′ ≡ row + n → tries′ ≡ tries + 1 → Walking rep sib bs′ ns′ us′ rs′ room′ i′ row′ found tries′
-      fail-now n en x ei er et = rw (ei, er, et, en) (rw same-word at (on-fail (goal-head (b .is)) T A inside (rw (← same-word) at x)))
+      fail-now n en x ei er et = rw (ei, er, et, en) (rw same-word at (on-fail (goal-head (b .is)) T A inside off (rw (← same-word) at x)))
 
       pub leaf-now : {i′ row′ found′ tries′ : ℕ} (n sk : ℕ) {room″ : List ℕ} → n ≡ rowsIn W → sk ≡ skipIn W
           → Step rep sib i (cellIn W) (getD rs (slotIn W) 0) (nextIn W) (skipIn W) bs ns us rs bs′ ns′ us′ rs′ true → i + 1 ≡ sk → room″ ≡ sets room′ found (upFrom row n)
@@ -71,13 +92,13 @@ module _ {noted goal room : List ℕ} {count w : ℕ} (b : Begun noted count goa
       leaf-now n sk {room″} en es x e y ei er ef et =
           let es′ : i + 1 ≡ skipIn (getD (take count noted) i 0) = rw same-word (e ∙ es) in
           let y′ : room″ ≡ sets room′ found (upFrom row (rowsIn (getD (take count noted) i 0))) = rw same-word (y ∙ ap (λ (z : ℕ). sets room′ found (upFrom row z)) en) in
-          rw (ei, er, ef, et, en) (rw same-word at (on-leaf (goal-head (b .is)) T A inside (rw (← same-word) at x) es′ y′))
+          rw (ei, er, ef, et, en) (rw same-word at (on-leaf (goal-head (b .is)) T A inside off (rw (← same-word) at x) es′ y′))
 
       pub down-now : {i′ tries′ : ℕ} (sk : ℕ) → sk ≡ skipIn W → Step rep sib i (cellIn W) (getD rs (slotIn W) 0) (nextIn W) (skipIn W) bs ns us rs bs′ ns′ us′ rs′ true
           → i + 1 ≢ sk → i′ ≡ i + 1 → tries′ ≡ tries + 1 → Walking rep sib bs′ ns′ us′ rs′ room′ i′ row found tries′
       down-now sk es x d ei et =
           let es′ : sk ≡ skipIn (getD (take count noted) i 0) = rw same-word es in
-          rw (ei, et) (on-down (goal-head (b .is)) T A inside (rw (← same-word) at x) (λ e. d (e ∙ sym es′)))
+          rw (ei, et) (on-down (goal-head (b .is)) T A inside off (rw (← same-word) at x) (λ e. d (e ∙ sym es′)))
 
   module _ {sib rep bs ns us rs : List ℕ} (S : Stepped goal sib) (N : Named goal rep bs ns us) (er : rs ≡ sets (replicate 64 0) 1 (nodes rep sib w 0)) where
     began-with : Below (b .tree) 32 (upFrom 1 w) (renamed goal) → Walking rep sib bs ns us rs room 0 0 0 0
@@ -100,6 +121,7 @@ module _ {noted goal room : List ℕ} {count w : ℕ} (b : Begun noted count goa
           fewer = omega arith;
           least = omega arith;
           reach = omega arith;
+          sound = (F .sound (table-cells RowCell (b .accepted) (λ r h c m. (few-variables h c m, λ e. no-cell (subst Cell e (h .cells c m)))) (b .tree)), tt);
         }
 
     pub began : Walking rep sib bs ns us rs room 0 0 0 0

@@ -1,12 +1,18 @@
 -- What is still to be walked: frames, the innermost first. These definitions describe the code's own state; no promise of a public function
 -- cites them.
-use Prim.Native.Nat.{ℕ, suc, _+_, _≤_}
+use Prim.Native.Nat.{ℕ, suc, _+_, _≤_, _<_}
 use mathlib.Core.Path.{_≡_}
+use mathlib.Core.Logic.{_≢_}
+use mathlib.Core.Bool.{true}
 use mathlib.Core.List.{List, [], _∷_, _++_}
 use lib.ListN.{length}
+use Rattle.cell.specs.Cell.{isVar}
+use Rattle.table.specs.All.{All}
 use Rattle.plan.specs.Runs.{Run}
 use Rattle.plan.specs.Plans.{Branches, branchesIn}
+use Rattle.plan.specs.code.Cells.{CellsIn}
 use Rattle.plan.specs.code.Rows.{rowCount}
+use Rattle.answer.specs.Skeleton.{hole}
 use Rattle.answer.specs.code.Tree.{hitsIn, triedIn}
 use Rattle.plan.specs.Notes.{Branch, notesIn}
 use Rattle.walking.specs.code.Link.{Linked}
@@ -23,6 +29,14 @@ pub record Frame : Type 0 where
 
 abbrev pub frame : {k : ℕ} {groups : List Run} → Branches k groups → (place free : ℕ) (slots R : List ℕ) → Frame
 frame {k} {groups} trees i m slots R = record { k = k; groups = groups; trees = trees; place = i; free = m; slots = slots; R = R }
+
+-- a cell of a table's row: a variable is below 32, and it marks no open place
+abbrev pub RowCell : ℕ → Type 0
+RowCell c = (isVar c ≡ true → c < 32) × (c ≢ hole)
+
+-- their branches are of a table's rows
+abbrev pub SoundOf : List Frame → Type 0
+SoundOf fs = All (λ (f : Frame). CellsIn RowCell (f .trees)) fs
 
 -- their notes, the first of them being number n
 abbrev pub notesOf : List Frame → ℕ → List Branch

@@ -51,6 +51,7 @@ pub record NamedTo (goal rep bound args until : List ℕ) (n : ℕ) : Type 0 whe
   pub variables : (p : ℕ) → p < n → isVar (getD goal p 0) ≡ true → Variable goal rep until p
   pub others : (r : ℕ) → n ≤ r → r < 64 → getD rep r 0 ≡ r
   pub unbound : (r : ℕ) → n ≤ r → getD until r 0 ≡ 0
+  pub size-rep : length rep ≡ 64
   pub size-bound : length bound ≡ 64
   pub size-args : length args ≡ 64
   pub size-until : length until ≡ 64

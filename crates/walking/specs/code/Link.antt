@@ -43,10 +43,13 @@ pub data Nodes (G rep : List ℕ) (m : ℕ) : List ℕ → Type 0 where
   nil : Nodes G rep m []
   cons : {r : ℕ} {rs : List ℕ} → Node G rep m r → Nodes G rep m rs → Nodes G rep m (r ∷ rs)
 
--- the goal's tables: the place after each cell's term, and the node that stands for it; for an argument the next number, and itself
+-- the goal's tables: the place after each cell's term, and the node that stands for it; for an argument the next number, and for all that
+-- is no cell of the goal itself
 pub record Tables (G sib rep : List ℕ) : Type 0 where
   pub sibs : (p : ℕ) → p < length G → getD sib p 0 ≡ p + length (front 1 (drop p G))
   pub up : (r : ℕ) → 32 ≤ r → r < 64 → (getD sib r 0 ≡ r + 1) × (getD rep r 0 ≡ r)
+  pub size : length rep ≡ 64
+  pub others : (r : ℕ) → length G ≤ r → r < 64 → getD rep r 0 ≡ r
   pub inside : (p : ℕ) → p < length G → getD rep p 0 < length G
   pub kept : (p : ℕ) → p < length G → getD rep (getD rep p 0) 0 ≡ getD rep p 0
   pub same : (p : ℕ) → p < length G → ref G (getD rep p 0) ≡ ref G p
@@ -62,12 +65,12 @@ pub data Is (G rep sib bound args until : List ℕ) (n e m : ℕ) (Θ : ℕ → 
       → All (λ x. x < 64) (steps sib (arity (getD bound r 0)) (getD args r 0)) → Is G rep sib bound args until n e m Θ r
   free : (x : ℕ) → x < 64 → getD until r 0 ≤ n → ref G r ≡ var x ∷ [] → Θ (var x) ≡ var x ∷ [] → Is G rep sib bound args until n e m Θ r
 
--- the bindings and the substitution Θ; nodes from m on are not made yet
+-- the bindings and the substitution Θ; nodes from m on are not made yet, and what is no node is not bound
 pub record Bound (G rep sib bound args until : List ℕ) (n e m : ℕ) (Θ : ℕ → List ℕ) : Type 0 where
   pub good : Subst Θ
   pub is : (r : ℕ) → Node G rep m r → Is G rep sib bound args until n e m Θ r
   pub fresh : (u : ℕ) → m ≤ u → Θ (var u) ≡ var u ∷ []
-  pub later : (u : ℕ) → m ≤ u → getD until u 0 ≤ n
+  pub later : (r : ℕ) → (Node G rep m r → ⊥) → getD until r 0 ≤ n
 
 -- R is left of the goal for the branches from n to e: what the references in the slots stand for, under the bindings
 pub record Linked (G rep sib bound args until refers : List ℕ) (n e m : ℕ) (slots R : List ℕ) : Type 0 where

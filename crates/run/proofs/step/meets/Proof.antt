@@ -55,13 +55,7 @@ arity-of-requires : tie.Need-arity-of-requires
 arity-of-requires c κs = search needs
 
 put-terms-requires : tie.Need-put-terms-requires
-put-terms-requires c κs =
-    let t = c .before .before .before .before .before .before in
-    let b = t .before .before .before .before .before .before .before in
-    let s = is-same (finds t) (c .before .before .before .before .seen .given .1) in
-    let a : c .arity-of .result ≡ arity (cellIn (b .before .args .w)) = c .arity-of .ensures ∙ ap arity (b .cell-of .ensures) in
-    let P = b .before .pre in
-    rw (a, c .before .next-of .ensures, s .3) (P .room, P .same (s .1) (s .2))
+put-terms-requires c κs = search needs
 
 enum-known-seen-2 : tie.Need-enum-known-seen-2
 enum-known-seen-2 c = search needs
@@ -100,11 +94,7 @@ arity-of-requires-2 : tie.Need-arity-of-requires-2
 arity-of-requires-2 c κs = search needs
 
 put-terms-requires-2 : tie.Need-put-terms-requires-2
-put-terms-requires-2 c κs =
-    let b = c .before .before .before .before .before .before .before .before .before .before .before .before .before .before in
-    let a : c .arity-of2 .result ≡ arity (cellIn (b .before .args .w)) = c .arity-of2 .ensures ∙ ap arity (b .cell-of .ensures) in
-    let P = b .before .pre in
-    rw (a, c .before .before .before .next-of2 .ensures) (P .room, P .new)
+put-terms-requires-2 c κs = search needs
 
 returns : tie.Need-returns
 returns c = let t = c .before .before in step-any (is-any (finds t) (c .enum-told .given .1)) refl refl refl refl
@@ -121,7 +111,9 @@ returns-3 c =
     let b = t .before .before .before .before .before .before .before in
     let s = is-same (finds t) (c .before .before .before .before .before .seen .given .1) in
     let a : c .before .arity-of .result ≡ arity (cellIn (b .before .args .w)) = c .before .arity-of .ensures ∙ ap arity (b .cell-of .ensures) in
-    step-same (s .0) (s .1) (s .2) refl refl refl (rw (a, c .before .before .next-of .ensures, s .3) at (c .put-terms .ensures))
+    let P = b .before .pre in
+    let f = rw (a, c .before .before .next-of .ensures, s .3) at (c .put-terms .ensures) in
+    step-same (s .0) (s .1) (s .2) refl refl refl (f (P .room) (P .same (s .1) (s .2)))
 
 returns-4 : tie.Need-returns-4
 returns-4 c =
@@ -131,9 +123,11 @@ returns-4 c =
     let n = c .before .before .before .before in
     let s = is-unbound (finds t) (n .before .before .seen2 .given .1) in
     let a : c .before .arity-of2 .result ≡ arity (cellIn (b .before .args .w)) = c .before .arity-of2 .ensures ∙ ap arity (b .cell-of .ensures) in
+    let P = b .before .pre in
+    let f = rw (a, n .next-of2 .ensures) at (c .put-terms2 .ensures) in
     step-binds (s .0) (s .1)
     (rw (s .2, b .cell-of .ensures)) (rw (s .2, n .next-of2 .ensures)) (rw (s .2) (ap (set (g .until .now) (getD (g .refs .now) (slotIn (g .w)) 0)) (c .before .before .before .skip-of .ensures)))
-    (rw (a, n .next-of2 .ensures) at (c .put-terms2 .ensures))
+    (f (P .room) (P .new))
 
 pub meets-spec : {M : Type 1} → statement M
 meets-spec =
