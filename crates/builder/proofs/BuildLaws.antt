@@ -11,9 +11,12 @@ use Rattle.refusal.specs.declared.Refusal.{Refusal}
 use Rattle.refusal.specs.declared.Reason.the-variants as reason
 use Rattle.refusal.specs.declared.Input.the-variants as input
 use Rattle.refusal.specs.Read.{read, refuse}
-use Rattle.table.specs.Table.{Table}
+use Rattle.term.specs.Terms.{Terms}
+use Rattle.table.specs.All.{All}
+use Rattle.table.specs.Table.{Table, Row}
 use Rattle.table.specs.declared.TableRead.{TableRead}
 use Rattle.table.proofs.Accepted.{is-table}
+use Rattle.table.proofs.AllLaws.{all-each}
 use Rattle.plan.specs.Plans.{Measure}
 use Rattle.least.specs.Least.{Least, Built}
 use Rattle.least.specs.Entries.{between}
@@ -22,6 +25,7 @@ use Rattle.least.specs.declared.By.{By}
 use Rattle.least.proofs.Measured.{by-table, by-read}
 use Rattle.least.proofs.Best.{least-one}
 use Rattle.least.proofs.Building.{built-least}
+use Rattle.least.proofs.Weighed.{by-light}
 use Rattle.least.proofs.FollowLaws.{follows-built}
 use Rattle.entries.specs.Fill.{Filled, Fills}
 use Rattle.entries.proofs.WorkedLaws.{all-asked}
@@ -40,6 +44,11 @@ cells-there {cells = cells} {size} p = omega (arith, ap length (p .cells-are), p
 some-row : (by : By) (t : List ℕ) {T : Table} → tableBy by t ≡ read T → 0 < length (T .rows)
 some-row by t here = is-table t (sym (by-table by t (by-read by t here)) ∙ here) .count .0
 
+-- and its rows are terms
+rows-terms : (by : By) (t : List ℕ) {T : Table} → tableBy by t ≡ read T → All (Terms (T .width)) (T .rows)
+rows-terms by t {T} here =
+    all-each (Row (T .width)) (Terms (T .width)) (λ r x. x .terms) (T .rows) (is-table t (sym (by-table by t (by-read by t here)) ∙ here) .each)
+
 module _ (by : By) (t : List ℕ) {T : Table} (here : tableBy by t ≡ read T) {kept cells : List ℕ} {size cost : ℕ}
     (k : KeptOf (measureOf by) T kept) (p : Planned T kept cells size cost) where
   -- the plan that was written is the builder's, and its cost the one kept for all rows
@@ -49,7 +58,7 @@ module _ (by : By) (t : List ℕ) {T : Table} (here : tableBy by t ≡ read T) {
       (p .plan) (some-row by t here) (p .follows)
 
   plan-least : Least (measureOf by) (T .width) (T .rows) (costBy by (p .plan))
-  plan-least = built-least (measureOf by) (p .plan) plan-built
+  plan-least = built-least (measureOf by) (by-light by) (p .plan) (rows-terms by t here) plan-built
 
   cost-is : cost ≡ costBy by (p .plan)
   cost-is = p .cost-is ∙ least-one (k .least) plan-least

@@ -1,6 +1,6 @@
 -- Two results that a promise allows are equal, for every public function of the crate.
 use mathlib.Core.Path.{_≡_, sym, ap, subst, _∙_}
-use mathlib.Core.List.{List}
+use mathlib.Core.List.{List, []}
 use Prim.Native.Nat.{ℕ}
 use native.Mathlib.Omega.{arith}
 use lib.ListN.{length}
@@ -8,9 +8,9 @@ use Rattle.refusal.specs.Refusal.{told, turned}
 use Rattle.table.specs.Table.{Table}
 use Rattle.table.proofs.ReadLaws.{apart, read-one}
 use Rattle.refusal.proofs.RefusalLaws.{told-one}
-use Rattle.plan.specs.Plans.{Plan, write, Measure, cost}
+use Rattle.plan.specs.Plans.{Plan, write, Measure}
 use Rattle.least.specs.Least.{Built}
-use Rattle.least.specs.Measures.{measureOf}
+use Rattle.least.specs.Measures.{measureOf, costFrom}
 use Rattle.least.specs.declared.By.{By}
 use Rattle.record.specs.Record.{Holds}
 use Rattle.builder.specs.Build.{buildTold, BuiltInto, BuiltFrom, table-refused, room-refused, built}
@@ -27,10 +27,10 @@ buildTold-one (build-answer.Refused f) (build-answer.Refused g) e = let q : told
 
 -- the builder's plans of one table write the same cells, and cost the same
 same-built : (m : Measure) {T T′ : Table} → T ≡ T′ → (p : Plan (T .width) (T .rows)) (q : Plan (T′ .width) (T′ .rows))
-    → Built m p → Built m q → (write p ≡ write q) × (cost m p ≡ cost m q)
+    → Built m p → Built m q → (write p ≡ write q) × (costFrom m [] p ≡ costFrom m [] q)
 same-built m {T} {T′} e p q b c =
-    subst (λ (X : Table). (q : Plan (X .width) (X .rows)) → Built m q → (write p ≡ write q) × (cost m p ≡ cost m q)) e
-    (λ q c. (let d : p ≡ q = built-one m p q b c in (ap write d, ap (λ (p : Plan _ _). cost m p) d))) q c
+    subst (λ (X : Table). (q : Plan (X .width) (X .rows)) → Built m q → (write p ≡ write q) × (costFrom m [] p ≡ costFrom m [] q)) e
+    (λ q c. (let d : p ≡ q = built-one m p q b c in (ap write d, ap (λ (p : Plan _ _). costFrom m [] p) d))) q c
 
 pub build-fixed : {by : By} {t room room′ room″ : List ℕ} {r s : BuildAnswer} → BuiltInto by t room room′ r → BuiltInto by t room room″ s
     → (r ≡ s) × (room′ ≡ room″)

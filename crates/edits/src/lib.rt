@@ -70,7 +70,7 @@ fn work_again(rec: &mut [u32; 14340], next: &[u32; 2050], size: usize, r: usize)
     answer
 }
 
-// A row is put at its place: LONG to TWICE, SAME, EXTRA for the row beside the others, and then the record of the table with
+// A row is put at its place: LONG to FRESH, SAME, EXTRA for the row beside the others, and then the record of the table with
 // it. The new table's cells are joined in a room of their own, since those of the old one are still to be read.
 fn put_row(rec: &mut [u32; 14340], row: &[u32], starts: &[usize; 64], at: Place) -> TableAnswer
     requires { ⌜ Placed (now rec) (now starts) at ⌝ }

@@ -8,11 +8,13 @@ use native.Mathlib.Omega.{arith}
 use lib.ListN.{length, getD, set, length-set}
 use lib.Seq.{slice, slice-cons, length-slice, getD-set-same, getD-set-other, slice-empty}
 use lib.Dec.{eqb, leb, ltb}
-use borrow.Author.Tests.{eqb-true, eqb-false, leb-true, leb-false, ltb-true, ltb-false, lt-ltb}
+use borrow.Author.Tests.{eqb-true, eqb-false, ne-eqb, leb-true, leb-false, ltb-true, ltb-false, lt-ltb}
+use Rattle.term.proofs.Tests.{eqb-same}
+use Rattle.table.specs.Table.{Head}
 use Rattle.plan.specs.code.Fits.{Fits}
 use Rattle.table.proofs.AllLaws.{all-at}
 use Rattle.least.specs.Entries.{wholeIn, costIn, placeIn, SameAt}
-use Rattle.least.specs.code.Pairs.{agreedOf, leastBy, placeBy}
+use Rattle.least.specs.code.Pairs.{laterOf, agreedOf, leastBy, placeBy}
 use Rattle.entries.specs.declared.arrays.Asked.{Asked}
 use Rattle.entries.specs.declared.arrays.Row.{Row}
 use Rattle.entries.specs.Fill.{Unasked}
@@ -20,6 +22,7 @@ use Rattle.entries.specs.code.Notes.{readIn, weightOf, Long, NextRow, Ro
 use Rattle.entries.specs.code.Filling.{stopOf, rowOf, PairAt, putPair, KeepsBefore, keeps, passes, Task, Worked}
 use Rattle.entries.specs.code.Filling.{Stands, worked, left, FilledTo, RowHere, NotedTo, LastAt, Finished}
 use Rattle.entries.proofs.NotedLaws.{noted-alone}
+use Rattle.entries.proofs.AloneLaws.{weights-later, alone-sum}
 
 -- the three values that are put for one pair: they are there, and for every other pair what was there
 pub data Where (kept : List ℕ) (first last u v w j j′ : ℕ) : Type 0 where
@@ -200,14 +203,18 @@ module _ {cells marks starts : List ℕ} {asked : Asked} {old : List ℕ} (t : T
     pub row-fits : Fits 32 (t .width) (slice (row .start) (row .end) cells)
     row-fits = rw row-part at (all-at (Fits 32 (t .width)) [] (t .rows) (row .number) (omega (arith, t .laid .number, h .inside)) (t .laid .fits))
 
+    pub row-head : Head (t .width) (slice (row .start) (row .end) cells)
+    row-head = rw row-part at (all-at (Head (t .width)) [] (t .rows) (row .number) (omega (arith, t .laid .number, h .inside)) (t .laid .heads))
+
     pub row-short : row .end ≤ row .start + 32
     row-short = omega (arith, row-fits .1, length-slice (row .start) (row .end) cells (row-bounds .1))
 
   abbrev pub last-row : {row : Row} {notes : List ℕ} → RowHere cells starts (asked .count) row → length notes ≡ 192
-      → LastRow marks notes (row .number) (row .start) (row .end)
+      → LastRow cells marks notes (row .number) (row .start) (row .end)
   last-row h room = record {
     m = t .m;
-    cells = cells;
+    width = t .width;
+    head = row-head h;
     marked = t .marked;
     part = (row-bounds h .0, row-bounds h .1, t .laid .size);
     number = omega (arith, h .inside, t .laid .few);
@@ -216,19 +223,21 @@ module _ {cells marks starts : List ℕ} {asked : Asked} {old : List ℕ} (t : T
 
   -- the last row by itself
   pub last-noted : {row : Row} {notes₀ notes kept : List ℕ} {agreed : ℕ} (h : RowHere cells starts (asked .count) row) → asked .since ≤ row .number
-      → FilledTo t (suc (row .number)) (row .number) kept → (room : length notes₀ ≡ 192) → Alone (last-row {row = row} {notes = notes₀} h room) (row .end) notes agreed
+      → FilledTo t (suc (row .number)) (row .number) kept → (room : length notes₀ ≡ 192) → {met : ℕ} → Alone (last-row {row = row} {notes = notes₀} h room) (row .end) notes agreed met
       → NotedTo t (suc (row .number)) (row .number) row notes kept agreed
+  unfolding laterOf
   last-noted {row} {agreed = agreed} h late f room x =
       let b = row-bounds h in
-      let a : agreed ≡ weightOf (t .m) (slice (row .start) (row .end) cells) =
-      (let z : weightOf (t .m) (slice (row .end) (row .end) cells) ≡ 0 = rw (slice-empty (row .end) cells) in omega (arith, x .sum)) in
+      let own : List ℕ = slice (row .start) (row .end) cells in
       let l : length (slice (row .start) (row .end) cells) ≡ row .end - row .start = length-slice (row .start) (row .end) cells (b .1) in
       record {
         here = h;
         order = omega arith;
         inside = h .inside;
         late = late;
-        noted = rw (slice-empty (suc (row .number)) (t .rows), row-part h, a) (noted-alone (row .start) (row-fits h .0) (λ j m n. x .each j m (omega (arith, l, b .0))));
+        weight = weightOf (t .m) own;
+        agreed-is = rw (eqb-same (row .number), row-part h) (omega (arith, alone-sum (last-row {row = row} h room) x, weights-later (t .low .light) [] own));
+        noted = rw (slice-empty (suc (row .number)) (t .rows), row-part h) (noted-alone (row .start) (row-fits h .0) (λ j m n. x .each j m (omega (arith, l, b .0))));
         light = omega (arith, x .light, b .1, t .laid .size);
         filled = f;
         room = x .room;
@@ -252,7 +261,9 @@ module _ {cells marks starts : List ℕ} {asked : Asked} {old : List ℕ} (t : T
     marked = t .marked;
     N = t .N;
     small = t .small;
+    weight = x .weight;
     noted = x .noted;
+    agreed-is = x .agreed-is;
     light = x .light;
     known = λ j h l. whole-there (x .filled) (row .number) j h (omega (arith, t .laid .number, x .inside)) (inl l);
     long = x .filled .long;
@@ -265,7 +276,9 @@ module _ {cells marks starts : List ℕ} {asked : Asked} {old : List ℕ} (t : T
     order = x .order;
     inside = x .inside;
     late = x .late;
+    weight = x .weight;
     noted = x .noted;
+    agreed-is = x .agreed-is;
     light = x .light;
     filled = filled-next (x .filled) (x .order) (omega (arith, t .laid .number, x .inside)) (x .late) k;
     room = x .room;
@@ -309,7 +322,7 @@ module _ {cells marks starts : List ℕ} {asked : Asked} {old : List ℕ} (t : T
       width = t .width;
       stop = row .end;
       rest = slice (suc (row .number)) (suc last) (t .rows);
-      shared = agreed;
+      shared = x .weight;
       noted = rw (number-is, end-is, ← (row-part (x .here))) (x .noted);
       old-terms = rw end-is (row-fits (x .here) .0);
       new-terms = row-fits next-here .0;
@@ -328,6 +341,7 @@ module _ {cells marks starts : List ℕ} {asked : Asked} {old : List ℕ} (t : T
     }
 
     pub next-noted : (notes′ : List ℕ) (agreed′ : ℕ) → RowNoted next-row notes′ agreed′ → NotedTo t (suc (row′ .number)) last row′ notes′ kept agreed′
+    unfolding laterOf
     next-noted notes′ agreed′ y =
         let c : slice (row .number) (suc last) (t .rows) ≡ getD (t .rows) (row .number) [] ∷ slice (suc (row .number)) (suc last) (t .rows) =
         slice-cons (row .number) (suc last) (t .rows) [] (omega (arith, x .order)) (omega (arith, t .laid .number, x .inside)) in
@@ -339,7 +353,9 @@ module _ {cells marks starts : List ℕ} {asked : Asked} {old : List ℕ} (t : T
           order = omega (arith, number-is, x .order);
           inside = x .inside;
           late = x .late;
+          weight = agreed′;
           noted = rw (b, row-part next-here) (y .noted);
+          agreed-is = rw (ne-eqb (row′ .number) last (λ e. omega (arith, number-is, x .order))) (omega arith);
           light = y .light;
           filled = rw number-is (x .filled);
           room = y .room;

@@ -13,7 +13,7 @@ use Rattle.cell.specs.Cell.{arity}
 use Rattle.term.specs.Terms.{Terms, more, front}
 use Rattle.plan.specs.code.Fits.{Fits}
 use Rattle.least.specs.code.Best.{argmin, leastOver}
-use Rattle.least.specs.code.Pairs.{closedOf, agreedOf, priceBy}
+use Rattle.least.specs.code.Pairs.{closedOf, weighedOf, agreedOf, priceBy}
 use Rattle.least.proofs.Minimum.{argmin-first}
 use Rattle.entries.specs.declared.arrays.Note.{Note}
 use Rattle.entries.specs.code.Notes.{noteIn, endIn, Shown, at-end, at-closed, at-open, Priced, Pair}
@@ -77,14 +77,14 @@ module _ {marks kept notes : List ℕ} {figure first last agreed at stop : ℕ} 
       let t = terms-drop (j - at) (g .width) (slice at stop (g .cells)) row-terms (omega (arith, zs-length, length-slice at stop (g .cells) (g .part .1))) in
       ended-at {r = t .0} j stop (g .marked) (omega (arith, zs-length)) (g .part .1) (rw d at (t .1))
 
-  pub shows : Shown (noteIn notes) (endIn marks) (Priced (g .N) first last a (g .m .figure) F) stop k at 0 × (agreed ≡ a)
+  pub shows : Shown (noteIn notes) (endIn marks) (Priced (g .N) first last a (g .m .figure) F) stop k at 0 × (g .weight ≡ weighedOf (g .m) 32 (g .width) (g .rows) first last)
   shows =
       rw zs-length at
       (pair-shown (g .m) (g .width) (g .rows) (g .fits) (g .N) (g .small) first last (g .order) (g .inside) (noteIn notes) (endIn marks)
       (take stop (g .cells)) at ends-right (omega (arith, zs-length, g .part .0)) (g .row) (g .noted))
 
   pub agreed-is : agreed ≡ a
-  agreed-is = shows .1
+  agreed-is = omega (arith, shows .1, g .agreed-is)
 
   abbrev pub keep-pair : Pair marks kept notes first at stop agreed figure
   keep-pair = record {

@@ -8,7 +8,8 @@ use native.Mathlib.Omega.{arith}
 use lib.ListN.{length, getD, take, drop, length-append}
 use borrow.Author.Tests.{lt-ltb, le-ltb}
 use Rattle.table.specs.All.{All}
-use Rattle.table.specs.Table.{tableOf, startsIn, RowPlace}
+use Rattle.table.specs.Table.{tableOf, startsIn, RowPlace, Head, Row}
+use Rattle.table.proofs.AllLaws.{all-each}
 use Rattle.table.proofs.Accepted.{is-table}
 use Rattle.table.proofs.PartLaws.{part, place-next, place-last, place-inside, place-cells}
 use Rattle.state.specs.code.First.{TableRows}
@@ -39,6 +40,7 @@ module _ {t ss : List ℕ} {w n : ℕ} (k : TableRows t ss w n) where
         few = omega (arith, k .rows, i .count .1);
         size = omega (arith, i .count .1, ap length (i .cells), flatten-short (k .table .width) (k .table .rows) f);
         fits = fits-width (sym (k .width)) f;
+        heads = heads-width (sym (k .width)) (i .each);
         order = λ r h. place-inside t r (place r h);
         row = λ r h. (let p = place-inside t r (place r h) in
             let e : getD ss r 0 + (stopOf t ss n r - getD ss r 0) ≡ stopOf t ss n r = omega arith in
@@ -48,6 +50,9 @@ module _ {t ss : List ℕ} {w n : ℕ} (k : TableRows t ss w n) where
     where
       fits-width : {v : ℕ} → v ≡ w → All (Fits 32 v) (k .table .rows) → All (Fits 32 w) (k .table .rows)
       fits-width e f = rw (← e) f
+
+      heads-width : {v : ℕ} → v ≡ w → All (Head v) (k .table .rows) → All (Head w) (k .table .rows)
+      heads-width e f = rw (← e) f
 
   unfoldable pub laid-rows : Rows t ss n
   laid-rows = record { width = w; rows = k .table .rows; laid = laid }

@@ -5,6 +5,7 @@ pub mod ShownLaws
 pub mod PairNotes
 pub mod RingLaws
 pub mod RowLaws
+pub mod AloneLaws
 pub mod ReadLaws
 pub mod MarkLaws
 -- the array

@@ -14,7 +14,7 @@ use Rattle.plan.specs.Runs.{runs}
 use Rattle.plan.specs.Plans.{Measure, choice}
 use Rattle.plan.specs.code.Fits.{Fits}
 use Rattle.least.specs.Entries.{between}
-use Rattle.least.specs.code.Pairs.{sums, closedOf, agreedOf, priceBy}
+use Rattle.least.specs.code.Pairs.{sums, closedOf, weighedOf, agreedOf, priceBy}
 use Rattle.entries.specs.declared.arrays.Note.{Note}
 use Rattle.entries.specs.code.Notes.{Noted, Shown, at-end, at-closed, at-open, Priced}
 use Rattle.least.proofs.Closing.{closes-length}
@@ -56,7 +56,7 @@ module _ (m : Measure) (w : ℕ) (rows : List (List ℕ)) (fits : All (Fits 32 w
     -- THE NOTES GIVE THE VALUES
     pub pair-shown : {agreed : ℕ} → Noted m W first N at w (getD rows first []) (slice (suc first) (suc last) rows) agreed
         → Shown N E (Priced W first last (agreedOf m 32 w rows first last) (m .figure) (priceBy m w rows W first last)) (length zs)
-        ((closedOf m 32 w rows first last) .opens) at 0 × (agreed ≡ agreedOf m 32 w rows first last)
+        ((closedOf m 32 w rows first last) .opens) at 0 × (agreed ≡ weighedOf m 32 w rows first last)
     unfolding closedOf
     pair-shown {agreed} d =
         let y : List ℕ = getD rows first [] in

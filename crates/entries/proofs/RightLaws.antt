@@ -9,13 +9,12 @@ use lib.Dec.{leb, ltb}
 use lib.ListN.{length}
 use borrow.Author.Tests.{lt-ltb, le-ltb, le-leb, lt-leb}
 use Rattle.plan.specs.Plans.{Measure}
-use Rattle.least.specs.Least.{Least}
-use Rattle.least.specs.Entries.{between, wholeIn, RightAt, SameAt}
+use Rattle.least.specs.Entries.{wholeIn, RightAt, SameAt}
 use Rattle.least.specs.code.Low.{Low}
 use Rattle.least.specs.code.Pairs.{wholeOf}
-use Rattle.least.proofs.Pairs.{pair-state, pair-entry}
-use Rattle.least.proofs.Best.{best-least, least-one}
-use Rattle.least.proofs.Again.{held, by-same, again-is, old-is, values-right, whole-small, by-right}
+use Rattle.least.proofs.Pairs.{pair-entry}
+use Rattle.least.proofs.Best.{least-one}
+use Rattle.least.proofs.Again.{held, by-same, again-is, old-is, values-right, whole-least, whole-small, by-right}
 use Rattle.entries.specs.declared.arrays.Asked.{Asked}
 use Rattle.entries.specs.Fill.{NoPair, Filled, Unasked, KeptRight, Refilled}
 use Rattle.entries.specs.code.Notes.{readIn, Long, MarkedTo}
@@ -69,10 +68,6 @@ module _ {cells marks starts : List ℕ} {w : ℕ} {rows : List (List ℕ)} (m :
     long = long;
   }
 
-  -- what a pair costs at least
-  whole-least : (j j′ : ℕ) → j ≤ j′ → j′ < length rows → Least m w (between j j′ rows) (wholeOf m w rows j j′)
-  whole-least j j′ h l = (let s = pair-state m 32 w rows (laid .fits) j j′ h l in best-least m 32 w (between j j′ rows) (s .0) (s .1))
-
   -- where there is no pair, or none that is asked for, nothing is changed
   none-changed : {kept : List ℕ} → Finished task kept → (j j′ : ℕ) → j < 64 → j′ < 64
       → Unasked (asked .top) (asked .since) j j′ ⊎ NoPair (length rows) j j′ → SameAt j j′ old kept
@@ -92,7 +87,7 @@ module _ {cells marks starts : List ℕ} {w : ℕ} {rows : List (List ℕ)} (m :
       where
         go : Either j j′ (asked .top) (asked .since) → readIn old j j′ ≡ wholeOf m w rows j j′
         go (again-pair a b) = absurd (let z : _≡_ {A = Bool} true false = sym (chosen-yes asked j j′ a b) ∙ e in let y : _≡_ {A = ℕ} 0 1 = cc in omega arith)
-        go (kept-pair o) = omega (arith, least-one (right .at j j′ h l o .whole) (whole-least j j′ h l), whole-small m low w rows (laid .fits) few j j′ h l)
+        go (kept-pair o) = omega (arith, least-one (right .at j j′ h l o .whole) (whole-least m low w rows (laid .fits) few j j′ h l), whole-small m low w rows (laid .fits) few j j′ h l)
 
     values : (j j′ : ℕ) → j ≤ j′ → j′ < length rows → N j j′ ≡ wholeOf m w rows j j′
     values j j′ h l = values-right m low w rows (laid .fits) few (chosen asked) (readIn old) kept-right j j′ h l
@@ -106,7 +101,7 @@ module _ {cells marks starts : List ℕ} {w : ℕ} {rows : List (List ℕ)} (m :
             let s = by-same m w rows (laid .fits) j j′ h l N (wholeOf m w rows) (λ i i′ u v q r. values i i′ v (omega arith)) in
             let y = by-right m low w rows (laid .fits) few j j′ h l in
             let v : wholeIn kept j j′ ≡ wholeOf m w rows j j′ = omega (arith, values j j′ h l, whole-small m low w rows (laid .fits) few j j′ h l) in
-            record { whole = rw v (whole-least j j′ h l); entry = rw (c, p, s .0, s .1, y .0, y .1) (pair-entry m 32 w rows (laid .fits) j j′ h l) }
+            record { whole = rw v (whole-least m low w rows (laid .fits) few j j′ h l); entry = rw (c, p, s .0, s .1, y .0, y .1) (pair-entry m 32 w rows (laid .fits) j j′ h l (low .light)) }
         go (left x e) = stays (either j j′ (asked .top) (asked .since))
           where
             stays : Either j j′ (asked .top) (asked .since) → RightAt m w rows kept j j′

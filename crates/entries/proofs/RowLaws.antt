@@ -3,7 +3,7 @@ use mathlib.Core.Path.{_≡_, refl, sym, ap, subst, _∙_}
 use mathlib.Core.Logic.{_≢_}
 use mathlib.Core.Bool.{Bool, true, false, cond}
 use mathlib.Core.List.{List, _∷_, _++_, map, append-assoc}
-use Prim.Native.Nat.{ℕ, zero, suc, pred, _+_, _-_, _*_, _%_, _≤_, _<_}
+use Prim.Native.Nat.{ℕ, zero, suc, pred, _+_, _-_, _*_, _≤_, _<_}
 use native.Mathlib.Omega.{arith}
 use native.Mathlib.Nat.{zero-add}
 use native.Mathlib.Numerals.{add-one, one-add}
@@ -19,10 +19,10 @@ use Rattle.plan.specs.Plans.{Measure}
 use Rattle.plan.proofs.RunsLaws.{terms-length}
 use Rattle.entries.specs.declared.arrays.Note.{Note}
 use Rattle.entries.specs.code.Notes.{note, noteNext, noteOf, noteIn, putNote, readIn, endIn, Small, Fair, Noted, done, closed, opened}
-use Rattle.entries.specs.code.Notes.{weightIn, mostAgreed, weightOf, MarkedTo, NextRow, RowNoted, LastRow, Alone}
+use Rattle.entries.specs.code.Notes.{weightIn, mostAgreed, MarkedTo, NextRow, RowNoted}
 use Rattle.entries.proofs.NoteLaws.{note-fair}
 use Rattle.entries.proofs.NotedLaws.{From, close-first, back-first, note-is, noteWith, next-note, next-closed, next-opened}
-use Rattle.entries.proofs.RingLaws.{put-same, put-other, put-alike, put-room, put-later, put-earlier}
+use Rattle.entries.proofs.RingLaws.{put-same, put-room, put-later, put-earlier}
 use Rattle.least.proofs.Suffixes.{front-short, close-drop, back-drop}
 
 -- a part of the cells: its first cell, and what follows it and its term
@@ -275,38 +275,3 @@ module _ {cells marks kept notes₀ : List ℕ} {row new old : ℕ} (g : NextRow
         go : (b : Bool) → q < cond b (q + 1) (endIn marks q)
         go true = omega arith
         go false = omega (arith, ended-at q old (g .marked) h old-in z-terms, terms-length (front-terms 1 (pred (x .r)) z (rw one-add z-terms)))
-
--- A row by itself is noted cell by cell.
-module _ {marks notes₀ : List ℕ} {row at stop : ℕ} (g : LastRow marks notes₀ row at stop) where
-  pub alone-start : Alone g at notes₀ 0
-  alone-start = record { each = λ j h h′. absurd (omega arith); sum = omega arith; order = (omega arith, g .part .0); light = omega arith; room = g .room }
-
-  module _ {notes : List ℕ} {q n : ℕ} (x : Alone g q notes n) (h : q < stop) where
-    pub alone-small : (q < 2050) × (n ≤ mostAgreed)
-    alone-small = (omega (arith, g .part .1, g .part .2), omega (arith, x .light, g .part .1, g .part .2))
-
-    sum-next : n + weightIn marks q + weightOf (g .m) (slice (suc q) stop (g .cells)) ≡ weightOf (g .m) (slice at stop (g .cells))
-    sum-next =
-        let w : weightIn marks q ≡ g .m .weight (getD (g .cells) q 0) = g .marked .at q (omega (arith, g .part .1)) .weight in
-        let c : weightOf (g .m) (slice q stop (g .cells)) ≡ g .m .weight (getD (g .cells) q 0) + weightOf (g .m) (slice (suc q) stop (g .cells)) =
-        ap (weightOf (g .m)) (slice-cons q stop (g .cells) 0 h (g .part .1)) in
-        omega (arith, x .sum)
-
-    pub alone-step : Alone g (q + 1) (putNote notes q (note 1 0 row)) (n + weightIn marks q)
-    alone-step = record {
-      each = λ j l m. go j l m (eqb (j % 64) (q % 64)) refl;
-      sum = rw (add-one q) sum-next;
-      order = (omega (arith, x .order .0), omega arith);
-      light = omega (arith, x .light);
-      room = put-room notes q (note 1 0 row) ∙ x .room;
-    }
-      where
-        go : (j : ℕ) → at ≤ j → j < q + 1 → (b : Bool) → eqb (j % 64) (q % 64) ≡ b → noteIn (putNote notes q (note 1 0 row)) j ≡ note 1 0 row
-        go j l m true e = put-alike notes q (note 1 0 row) j (x .room) (eqb-true (j % 64) (q % 64) e)
-        go j l m false e =
-            let ne : j % 64 ≢ q % 64 = eqb-false (j % 64) (q % 64) e in
-            let nj : j ≢ q = λ i. ne (ap (λ (k : ℕ). k % 64) i) in
-            put-other notes q (note 1 0 row) j ne ∙ x .each j l (omega (arith, nj))
-
-  pub alone-end : {notes : List ℕ} {q n : ℕ} → stop ≤ q → Alone g q notes n → Alone g stop notes n
-  alone-end {q = q} h x = let e : q ≡ stop = omega (arith, x .order .1) in rw e at x

@@ -3,7 +3,7 @@
 // there. A pair's numbers stand at 64 times its first row plus its last, in each of the three parts of one lent array.
 ghost use mathlib.Core.Path.{_≡_};
 ghost use mathlib.Core.Bool.{cond, _||_};
-ghost use Prim.Native.Nat.{_+_, _-_, _*_, _/_, _%_, _≤_, _<_};
+ghost use Prim.Native.Nat.{ℕ, _+_, _-_, _*_, _/_, _%_, _≤_, _<_};
 ghost use lib.Dec.{eqb, ltb};
 ghost use lib.ListN.{length, getD};
 ghost use Rattle.least.specs.Measures.{workOf, measureOf};
@@ -205,11 +205,29 @@ fn note_row(
     agreed
 }
 
-// A row by itself: every place is closed. Answers what its cells weigh.
-fn note_last(marks: &[u16; 2050], notes: &mut [u32; 192], row: Row) -> u32
-    requires { ⌜ LastRow (now marks) (now notes) (row .number) (row .start) (row .end) ⌝ }
-    ensures { λ r. ⌜ ((g : LastRow (now (marks .entry)) (now (notes .entry)) (row .number) (row .start) (row .end))
-        → Alone g (row .end) (now (notes .exit)) r) ⌝ }
+// What the cell c at place q weighs where so many variables of the row are met. Variables are numbered in order of first
+// appearance, so that one below that number is met again: 02, W-209, "a later meeting costs 1". No name or number is below
+// it.
+fn weight_after(marks: &[u16; 2050], c: u32, met: u32, q: usize) -> u32
+    requires { ⌜ q < 2050 ⌝ }
+    ensures { λ r. ⌜ r ≡ cond (ltb c met) 1 (weightIn (now (marks .entry)) q) ⌝ }
+{
+    if c < met { 1 } else { weight_in(marks[q]) }
+}
+
+// How many variables are met once a cell is: a new one has the next number.
+fn met_after(c: u32, met: u32) -> u32
+    requires { ⌜ met ≤ 2050 ⌝ }
+    ensures { λ r. ⌜ r ≡ cond (eqb c met) (met + 1) met ⌝ }
+{
+    if c == met { met + 1 } else { met }
+}
+
+// A row by itself: every place is closed. Answers what its cells cost, met one after another.
+fn note_last(cells: &[u32], marks: &[u16; 2050], notes: &mut [u32; 192], row: Row) -> u32
+    requires { ⌜ LastRow (now cells) (now marks) (now notes) (row .number) (row .start) (row .end) ⌝ }
+    ensures { λ r. ⌜ ((g : LastRow (now (cells .entry)) (now (marks .entry)) (now (notes .entry))
+        (row .number) (row .start) (row .end)) → (n : ℕ) × Alone g (row .end) (now (notes .exit)) r n) ⌝ }
 {
     let s = Note {
         runs: 1,
@@ -218,10 +236,13 @@ fn note_last(marks: &[u16; 2050], notes: &mut [u32; 192], row: Row) -> u32
     };
     let stop = row.end;
     let mut agreed = 0;
+    let mut met = 0;
     let mut q = row.start;
     while q < stop {
         put_note(&mut *notes, q, s);
-        agreed = with_closed(marks, agreed, s, q);
+        let c = cells[q];
+        agreed += weight_after(marks, c, met, q);
+        met = met_after(c, met);
         q += 1;
     }
     agreed
@@ -395,7 +416,7 @@ fn pairs_to(
 {
     let last = row.number;
     let mut notes = [0; 192];
-    let mut agreed = note_last(marks, &mut notes, row);
+    let mut agreed = note_last(cells, marks, &mut notes, row);
     keep_before(
         marks,
         &mut *kept,

@@ -1,45 +1,61 @@
 -- What is worked out again, and what is kept. `solved` is what the arrays hold in the end, whatever stood at the pairs that are kept: at a
 -- pair that is worked out what its runs' values give, at any other what stood there. So the contracts of the code speak of values that are
 -- there for any arrays at all. Where the kept values are a table's least costs, all of them are.
-use mathlib.Core.Path.{_≡_, refl, sym, ap, _∙_}
+use mathlib.Core.Path.{_≡_, refl, ap, _∙_}
+use mathlib.Core.Logic.{_≢_, inr}
 use mathlib.Core.Bool.{Bool, true, false, cond}
 use mathlib.Core.List.{List, [], _∷_}
 use Prim.Native.Nat.{ℕ, zero, suc, pred, _+_, _-_, _*_, _≤_, _<_, min}
 use native.Mathlib.Omega.{arith}
-use lib.ListN.{length}
-use lib.Seq.{slice, length-slice}
-use Rattle.term.specs.Terms.{root, close}
+use lib.Dec.{eqb, leb}
+use lib.ListN.{length, getD}
+use lib.Seq.{slice, slice-empty, slice-cons, length-slice}
+use borrow.Author.Tests.{eqb-true, eqb-false, ne-eqb, leb-true, leb-false, le-leb, lt-leb}
+use Rattle.term.specs.Terms.{Terms, root, close}
 use Rattle.table.specs.All.{All}
+use Rattle.table.proofs.AllLaws.{all-each}
 use Rattle.plan.specs.Runs.{Run, runs}
 use Rattle.plan.specs.Plans.{Measure, choice}
 use Rattle.plan.specs.code.Fits.{Fits}
+use Rattle.plan.specs.code.Rows.{rowCount}
 use Rattle.plan.proofs.SizeLaws.{bound}
+use Rattle.plan.proofs.RunsLaws.{Sized, group-sizes, group-rows}
 use Rattle.least.specs.Entries.{between}
+use Rattle.least.specs.Least.{Stuck, Least}
 use Rattle.least.specs.code.Best.{argmin, firstOver, leastOver, best}
+use Rattle.least.specs.Later.{laterIn, latersIn}
 use Rattle.least.specs.code.Low.{Low}
-use Rattle.least.specs.code.Pairs.{sums, closedOf, agreedOf, wholeOf, priceBy, leastBy, placeBy, wholeBy}
+use Rattle.least.specs.code.Pairs.{sums, closedOf, weighedOf, laterOf, agreedOf, wholeOf, priceBy, leastBy, placeBy, wholeBy}
 use Rattle.least.proofs.Minimum.{argmin-first}
-use Rattle.least.proofs.Best.{best-least, least-one}
+use Rattle.least.proofs.Best.{bare-one, best-least, least-later}
+use Rattle.least.proofs.Later.{none-later, closes-later, laters-both}
 use Rattle.least.proofs.Closing.{closes-length}
-use Rattle.least.proofs.Parts.{PartOf, Parts, group-parts, part-proper}
+use Rattle.least.proofs.Parts.{PartOf, Parts, slice-both, group-parts, part-proper}
 use Rattle.least.proofs.Counts.{solved-least}
-use Rattle.least.proofs.Pairs.{leastOf, costOf, placeOf, pair-state, pair-closed, pair-solved, branches-whole, equation}
+use Rattle.least.proofs.Pairs.{leastOf, costOf, placeOf, pair-state, pair-closed, pair-solved, left-terms, branches-whole, equation}
 use Rattle.least.proofs.Weighed.{cost-few}
 
--- the first place at which a function is least, and its value there, go by its values at the places alone
-argmin-same : (k : ℕ) (F G : ℕ → ℕ) → ((p : ℕ) → p ≤ k → F p ≡ G p) → argmin k F ≡ argmin k G
+leb-shift : (a b c : ℕ) → leb (a + c) (b + c) ≡ leb a b
+leb-shift a b c = go (leb a b) refl
+  where
+    go : (t : Bool) → leb a b ≡ t → leb (a + c) (b + c) ≡ t
+    go true e = le-leb (a + c) (b + c) (omega (arith, leb-true a b e))
+    go false e = lt-leb (a + c) (b + c) (omega (arith, leb-false a b e))
+
+-- the first place at which a function is least goes by its values at the places alone, and does not change where all are c more
+argmin-shift : (k c : ℕ) (F G : ℕ → ℕ) → ((p : ℕ) → p ≤ k → F p ≡ G p + c) → argmin k F ≡ argmin k G
 unfolding argmin
-argmin-same zero F G e = refl
-argmin-same (suc k) F G e =
-    let q : argmin k F ≡ argmin k G = argmin-same k F G (λ p h. e p (omega arith)) in
-    let f : F (argmin k F) ≡ G (argmin k G) = e (argmin k F) (omega (arith, argmin-first k F .within)) ∙ ap G q in
-    let g : F (suc k) ≡ G (suc k) = e (suc k) (omega arith) in
-    rw (f, g, q)
+argmin-shift zero c F G e = refl
+argmin-shift (suc k) c F G e =
+    let q : argmin k F ≡ argmin k G = argmin-shift k c F G (λ p h. e p (omega arith)) in
+    let f : F (argmin k F) ≡ G (argmin k G) + c = e (argmin k F) (omega (arith, argmin-first k F .within)) ∙ ap (λ (p : ℕ). G p + c) q in
+    let g : F (suc k) ≡ G (suc k) + c = e (suc k) (omega arith) in
+    rw (f, g, q, leb-shift (G (argmin k G)) (G (suc k)) c)
 
 over-same : (k : ℕ) (F G : ℕ → ℕ) → ((p : ℕ) → p < k → F p ≡ G p) → (leastOver k F ≡ leastOver k G) × (firstOver k F ≡ firstOver k G)
 over-same zero F G e = (refl, refl)
 over-same (suc k) F G e =
-    let q : argmin k F ≡ argmin k G = argmin-same k F G (λ p h. e p (omega arith)) in
+    let q : argmin k F ≡ argmin k G = argmin-shift k 0 F G (λ p h. omega (arith, e p (omega arith))) in
     (e (argmin k F) (omega (arith, argmin-first k F .within)) ∙ ap G q, q)
 
 module _ (m : Measure) (w : ℕ) (rows : List (List ℕ)) where
@@ -108,45 +124,127 @@ module _ (m : Measure) (w : ℕ) (rows : List (List ℕ)) where
       unfolding solved
       old-is first last a = rw a
 
+-- what later meetings cost, over runs one after another
+sums-later : (m : Measure) (rows : List (List ℕ)) (j : ℕ) (gs : List Run) (s : ℕ) → Sized s gs → j + rowCount gs ≤ length rows
+    → sums (λ (i i′ : ℕ). latersIn m [] (between i i′ rows)) j gs ≡ latersIn m [] (slice j (j + rowCount gs) rows)
+sums-later m rows j [] s z h = let e : j + 0 ≡ j = omega arith in rw (e, slice-empty j rows)
+sums-later m rows j (g ∷ gs) s z h =
+    let n : ℕ = length (g .rows) in
+    let e : suc (pred (j + n)) ≡ j + n = omega (arith, z .0 .0) in
+    let e′ : j + n + rowCount gs ≡ j + (n + rowCount gs) = omega arith in
+    let ih = rw e′ at (sums-later m rows (j + n) gs s (z .1) (omega arith)) in
+    let both = ap (latersIn m []) (slice-both j (j + n) (j + (n + rowCount gs)) rows (omega arith) (omega arith) (omega arith)) in
+    let split = laters-both m [] (slice j (j + n) rows) (slice (j + n) (j + (n + rowCount gs)) rows) in
+    rw e (omega (arith, ih, both, split))
+
+sums-plus : (U W : ℕ → ℕ → ℕ) (j : ℕ) (gs : List Run) → sums (λ (i i′ : ℕ). U i i′ + W i i′) j gs ≡ sums U j gs + sums W j gs
+sums-plus U W j [] = omega arith
+sums-plus U W j (g ∷ gs) = omega (arith, sums-plus U W (j + length (g .rows)) gs)
+
+-- a state at which nothing is agreed has several rows
+stuck-many : (k : ℕ) (rows : List (List ℕ)) → Stuck (suc k) rows → 0 < length rows → 1 < length rows
+stuck-many k [] s h = absurd (omega arith)
+stuck-many k (r ∷ []) s h = absurd (s 0 (root 0 r) (omega arith) (record { cells = (refl, tt); fixed = inr (omega arith); some = omega arith }))
+stuck-many k (r ∷ (q ∷ rs)) s h = omega arith
+
 -- WHERE THE KEPT VALUES ARE RIGHT, ALL ARE
 module _ (m : Measure) (low : Low m) (w : ℕ) (rows : List (List ℕ)) (fits : All (Fits 32 w) rows) (few : length rows ≤ 64) where
-  pub whole-splits : (j j′ : ℕ) → j ≤ j′ → j′ < length rows → wholeOf m w rows j j′ ≡ agreedOf m 32 w rows j j′ + leastOf m 32 w rows j j′
+  whole-splits : (j j′ : ℕ) → j ≤ j′ → j′ < length rows → best m 32 w (between j j′ rows) ≡ weighedOf m 32 w rows j j′ + leastOf m 32 w rows j j′
   whole-splits j j′ h l =
       let s = pair-state m 32 w rows fits j j′ h l in
-      least-one (best-least m 32 w (between j j′ rows) (s .0) (s .1)) (solved-least (pair-solved m 32 w rows fits j j′ h l))
+      bare-one (best-least m 32 w (between j j′ rows) (s .0) (s .1)) (solved-least (pair-solved m 32 w rows fits j j′ h l))
+
+  pair-terms : (j j′ : ℕ) → j ≤ j′ → j′ < length rows → All (Terms w) (between j j′ rows)
+  pair-terms j j′ h l = all-each (Fits 32 w) (Terms w) (λ r x. x .0) (between j j′ rows) (pair-state m 32 w rows fits j j′ h l .0)
+
+  -- what a pair costs at least
+  pub whole-least : (j j′ : ℕ) → j ≤ j′ → j′ < length rows → Least m w (between j j′ rows) (wholeOf m w rows j j′)
+  whole-least j j′ h l =
+      let s = pair-state m 32 w rows fits j j′ h l in
+      least-later (low .light) (pair-terms j j′ h l) (best-least m 32 w (between j j′ rows) (s .0) (s .1))
 
   pub whole-small : (j j′ : ℕ) → j ≤ j′ → j′ < length rows → wholeOf m w rows j j′ ≤ 40960
   whole-small j j′ h l =
       let s = pair-state m 32 w rows fits j j′ h l in
-      let b = best-least m 32 w (between j j′ rows) (s .0) (s .1) in
+      let b = whole-least j j′ h l in
       let z = bound (b .plan) 32 (s .0) (s .1) in
-      omega (arith, b .costs-it, cost-few m low (b .plan), length-slice j (suc j′) rows l)
+      omega (arith, b .costs-it, cost-few m low [] (b .plan), length-slice j (suc j′) rows l)
 
-  -- the least costs solve the equations
-  right-cost : (first last : ℕ) → first ≤ last → last < length rows → (p : ℕ) → p < (closedOf m 32 w rows first last) .opens
-      → priceBy m w rows (wholeOf m w rows) first last p ≡ costOf m 32 w rows first last p
-  right-cost first last o i p h =
-      let k : ℕ = (closedOf m 32 w rows first last) .opens in
-      let b = branches-whole m 32 w rows fits first last o i (pred k) (omega arith) p (omega arith) in
-      let z : first + 0 ≡ first = omega arith in
-      let s : sums (wholeOf m w rows) first (runs p ((closedOf m 32 w rows first last) .left))
-      ≡ sums (λ (j j′ : ℕ). agreedOf m 32 w rows j j′ + leastOf m 32 w rows j j′) first (runs p ((closedOf m 32 w rows first last) .left)) =
-      rw z at (sums-within m w rows fits first last o i (wholeOf m w rows) (λ (j j′ : ℕ). agreedOf m 32 w rows j j′ + leastOf m 32 w rows j j′) p h
-      (λ j j′ a b c d. whole-splits j j′ b (omega arith)) 0 (runs p ((closedOf m 32 w rows first last) .left)) (group-parts (root p) (close p) ((closedOf m 32 w rows first last) .left))) in
-      omega arith
+  module _ (first last : ℕ) (order : first ≤ last) (inside : last < length rows) where
+    abbrev Left : List (List ℕ)
+    Left = (closedOf m 32 w rows first last) .left
 
-  right-whole : (first last : ℕ) → first ≤ last → last < length rows → wholeBy m w rows (wholeOf m w rows) first last ≡ wholeOf m w rows first last
-  right-whole first last o i =
-      let e = over-same ((closedOf m 32 w rows first last) .opens) (priceBy m w rows (wholeOf m w rows) first last) (costOf m 32 w rows first last) (right-cost first last o i) in
-      omega (arith, e .0, equation m 32 w rows fits first last o i, whole-splits first last o i, whole-small first last o i)
+    abbrev opens : ℕ
+    opens = (closedOf m 32 w rows first last) .opens
+
+    left-length : length Left ≡ suc last - first
+    left-length = closes-length (pair-closed m 32 w rows fits first last order inside .closes .closes) ∙ length-slice first (suc last) rows inside
+
+    -- where a place is open there are several rows
+    several : (k : ℕ) → opens ≡ suc k → first < last
+    several k e = omega (arith, left-length, stuck-many k Left (rw e at (pair-closed m 32 w rows fits first last order inside .stuck)) (omega (arith, left-length)))
+
+    -- a pair's later meetings are those of a single row, or they are left when all that is agreed on is closed
+    later-splits : latersIn m [] (between first last rows) ≡ laterOf m 32 w rows first last + latersIn m [] Left
+    unfolding laterOf
+    later-splits = go (eqb first last) refl
+      where
+        none : (k : ℕ) → opens ≡ k → first ≡ last → latersIn m [] Left ≡ 0
+        none zero e q = none-later m Left [] (rw e at (left-terms m 32 w rows fits first last order inside))
+        none (suc k) e q = absurd (omega (arith, several k e))
+
+        go : (b : Bool) → eqb first last ≡ b → latersIn m [] (between first last rows) ≡ cond b (laterIn m [] (getD rows first [])) 0 + latersIn m [] Left
+        go true e =
+            let q : first ≡ last = eqb-true first last e in
+            let c : between first last rows ≡ getD rows first [] ∷ slice (suc first) (suc last) rows = slice-cons first (suc last) rows [] (omega arith) inside in
+            let d : slice (suc first) (suc last) rows ≡ [] = rw (← q) (slice-empty (suc first) rows) in
+            rw (c, d) (omega (arith, none opens refl q))
+        go false e =
+            let q : first ≢ last = eqb-false first last e in
+            let x = pair-closed m 32 w rows fits first last order inside .closes .closes in
+            omega (arith, closes-later m x (omega (arith, q, length-slice first (suc last) rows inside)) (pair-terms first last order inside))
+
+    -- the least costs solve the equations
+    right-cost : (k : ℕ) → opens ≡ suc k → (p : ℕ) → p ≤ k
+        → priceBy m w rows (wholeOf m w rows) first last p ≡ costOf m 32 w rows first last p + latersIn m [] Left
+    unfolding laterOf
+    right-cost k e p h =
+        let gs : List Run = runs p Left in
+        let b = branches-whole m 32 w rows fits first last order inside k e p h in
+        let z : first + 0 ≡ first = omega arith in
+        let s : sums (λ (j j′ : ℕ). best m 32 w (between j j′ rows)) first gs ≡ sums (λ (j j′ : ℕ). weighedOf m 32 w rows j j′ + leastOf m 32 w rows j j′) first gs =
+        rw z at (sums-within m w rows fits first last order inside (λ (j j′ : ℕ). best m 32 w (between j j′ rows)) (λ (j j′ : ℕ). weighedOf m 32 w rows j j′ + leastOf m 32 w rows j j′) p (omega arith)
+        (λ j j′ a b c d. whole-splits j j′ b (omega arith)) 0 gs (group-parts (root p) (close p) Left)) in
+        let n : rowCount gs ≡ length Left = group-rows (root p) (close p) Left in
+        let t : first + rowCount gs ≡ suc last = omega (arith, n, left-length) in
+        let u = rw t at (sums-later m rows first gs (length Left) (group-sizes (root p) (close p) Left) (omega arith)) in
+        let v = sums-plus (λ (j j′ : ℕ). best m 32 w (between j j′ rows)) (λ (j j′ : ℕ). latersIn m [] (between j j′ rows)) first gs in
+        let o : laterOf m 32 w rows first last ≡ 0 = rw (ne-eqb first last (λ q. omega (arith, several k e))) in
+        let f : length gs * agreedOf m 32 w rows first last ≡ length gs * weighedOf m 32 w rows first last = ap (λ (a : ℕ). length gs * a) (omega (arith, o)) in
+        omega (arith, b, s, u, v, f, later-splits, o)
 
   -- at right values the pair's entry
   pub by-right : (first last : ℕ) → first ≤ last → last < length rows
-      → (leastBy m w rows (wholeOf m w rows) first last ≡ leastOf m 32 w rows first last) × (placeBy m w rows (wholeOf m w rows) first last ≡ placeOf m 32 w rows first last)
+      → (leastBy m w rows (wholeOf m w rows) first last ≡ leastOf m 32 w rows first last + latersIn m [] ((closedOf m 32 w rows first last) .left))
+      × (placeBy m w rows (wholeOf m w rows) first last ≡ placeOf m 32 w rows first last)
   unfolding placeOf
-  by-right first last o i =
-      let e = over-same ((closedOf m 32 w rows first last) .opens) (priceBy m w rows (wholeOf m w rows) first last) (costOf m 32 w rows first last) (right-cost first last o i) in
-      (e .0 ∙ sym (equation m 32 w rows fits first last o i), e .1)
+  by-right first last o i = go (opens first last o i) refl (equation m 32 w rows fits first last o i)
+    where
+      go : (K : ℕ) → (closedOf m 32 w rows first last) .opens ≡ K → leastOf m 32 w rows first last ≡ leastOver K (costOf m 32 w rows first last)
+          → (leastOver K (priceBy m w rows (wholeOf m w rows) first last) ≡ leastOf m 32 w rows first last + latersIn m [] ((closedOf m 32 w rows first last) .left))
+          × (firstOver K (priceBy m w rows (wholeOf m w rows) first last) ≡ firstOver K (costOf m 32 w rows first last))
+      go zero e q =
+          let s : List (List ℕ) = (closedOf m 32 w rows first last) .left in
+          (omega (arith, q, none-later m s [] (rw e at (left-terms m 32 w rows fits first last o i))), refl)
+      go (suc k) e q =
+          let F : ℕ → ℕ = costOf m 32 w rows first last in
+          let c = right-cost first last o i k e in
+          let a = argmin-shift k _ (priceBy m w rows (wholeOf m w rows) first last) F c in
+          (rw a (omega (arith, q, c (argmin k F) (argmin-first k F .within))), a)
+
+  right-whole : (first last : ℕ) → first ≤ last → last < length rows → wholeBy m w rows (wholeOf m w rows) first last ≡ wholeOf m w rows first last
+  right-whole first last o i =
+      omega (arith, by-right first last o i .0, whole-splits first last o i, later-splits first last o i, whole-small first last o i)
 
   module _ (again : ℕ → ℕ → Bool) (old : ℕ → ℕ → ℕ)
       (kept : (j j′ : ℕ) → j ≤ j′ → j′ < length rows → again j j′ ≡ false → old j j′ ≡ wholeOf m w rows j j′) where

@@ -5,13 +5,15 @@ use Prim.Native.Nat.{ℕ, zero, suc, _+_, _≤_, _<_}
 use native.Mathlib.Omega.{arith}
 use lib.ListN.{length}
 use Rattle.cell.specs.Cell.{arity}
-use Rattle.term.specs.Terms.{root, close}
+use Rattle.term.specs.Terms.{Terms, root, close}
 use Rattle.table.specs.All.{All}
+use Rattle.table.proofs.AllLaws.{all-each}
 use Rattle.plan.specs.Runs.{Run, runs}
 use Rattle.plan.specs.Plans.{Plan, leaf, node, Branches, end, next, write, writes, Measure}
 use Rattle.plan.proofs.RunsLaws.{Each, Sized, group-sizes, fits-some, runs-fit}
 use Rattle.plan.specs.code.Fits.{Fits}
 use Rattle.least.specs.code.Best.{argmin, total, best}
+use Rattle.least.specs.code.Low.{Light}
 use Rattle.least.specs.Least.{Chosen, Built, Builts}
 use Rattle.least.proofs.Minimum.{argmin-first}
 use Rattle.least.proofs.Best.{best-runs, best-least}
@@ -49,13 +51,13 @@ record BuildsAll (m : Measure) (k : ℕ) (gs : List Run) (cells : List ℕ) : Ty
   pub built : Builts m plans
   pub writes-it : writes plans ≡ cells
 
-module _ (m : Measure) where
+module _ (m : Measure) (light : Light m) where
   place-chosen : (n k : ℕ) (rows : List (List ℕ)) → All (Fits (suc n) (suc k)) rows → (place m n k rows ≤ k) × Chosen m k rows (place m n k rows)
   unfolding place
   place-chosen n k rows a =
       let f = argmin-first k (rank m rows (below m n k rows)) in (
         f .within,
-        chosen-first m rows (below m n k rows)
+        chosen-first m light rows (below m n k rows) (all-each (Fits (suc n) (suc k)) (Terms (suc k)) (λ r x. x .0) rows a)
             (λ j h. best-runs m n k (best-least m n) (runs j rows) (runs-fit n k j h rows a) (length rows) (group-sizes (root j) (close j) rows)) f,
       )
 

@@ -1,19 +1,27 @@
 -- The builder's plan: the rule takes one place at each state, so that one plan follows it, and no plan of the state costs less.
 use mathlib.Core.Path.{_≡_, refl, ap, ap₂, pathJ, subst}
 use mathlib.Core.Bool.{Bool, true, false, cond}
-use mathlib.Core.List.{List}
+use mathlib.Core.List.{List, []}
 use Prim.Native.Nat.{ℕ, suc, _+_, _≤_, _<_}
 use native.Mathlib.Bridge.{le-prop}
 use native.Mathlib.Omega.{arith}
 use lib.ListN.{length}
 use lib.Dec.{eqb}
 use borrow.Author.Tests.{eqb-true, eq-eqb, ne-eqb}
+use Rattle.cell.specs.Cell.{arity}
+use Rattle.term.specs.Terms.{Terms}
+use Rattle.table.specs.All.{All}
 use Rattle.plan.specs.Runs.{Run, runs}
 use Rattle.plan.specs.Plans.{Plan, leaf, node, Branches, end, next, Measure, choice, cost, costs}
+use Rattle.plan.proofs.RunsLaws.{Each}
+use Rattle.least.specs.Measures.{costFrom}
 use Rattle.least.specs.code.Best.{through, best}
+use Rattle.least.specs.Later.{latersIn}
+use Rattle.least.specs.code.Low.{Light}
 use Rattle.least.specs.Least.{Agree, Stuck, Least, first, Chosen, shared, cheapest, Built, Builts}
 use Rattle.least.proofs.Minimum.{First}
-use Rattle.least.proofs.Best.{least-one, LeastRuns, leaf-least, runs-nil, runs-cons}
+use Rattle.least.proofs.Best.{least-one, Bare, least-later, LeastRuns, leaf-least, runs-nil, runs-cons}
+use Rattle.least.proofs.Later.{runs-terms, cost-from}
 use Rattle.least.proofs.Exchange.{Tri, before, equal, after, tri, exchange, agreed-branch}
 use Rattle.least.proofs.Agreed.{agree-runs, one-agrees}
 
@@ -24,37 +32,41 @@ unfolding cost
 first-branches m {k} {rows = rows} (node j h bs) e =
     subst (λ (i : ℕ). (cs : Branches k (runs i rows)) × (choice m (length (runs j rows)) + costs m bs ≡ choice m (length (runs i rows)) + costs m cs)) e (bs, refl)
 
-module _ (m : Measure) where
-  -- where the branches below the chosen place cost least, so does the plan
-  chosen-least : (k i : ℕ) (rows : List (List ℕ)) (h : i ≤ k) (bs : Branches k (runs i rows)) → Chosen m k rows i
-      → LeastRuns m k (runs i rows) (costs m bs) → Least m (suc k) rows (cost m {rows = rows} (node i h bs))
+module _ (m : Measure) (light : Light m) where
+  -- where the branches below the chosen place weigh least, so does the plan
+  chosen-least : (k i : ℕ) (rows : List (List ℕ)) → All (Terms (suc k)) rows → (h : i ≤ k) (bs : Branches k (runs i rows)) → Chosen m k rows i
+      → LeastRuns m k (runs i rows) (costs m bs) → Bare m (suc k) rows (cost m {rows = rows} (node i h bs))
   unfolding cost
-  chosen-least k i rows h bs (shared c a s) l = record { plan = node i h bs; costs-it = refl; none-less = λ q. less q }
+  chosen-least k i rows t h bs (shared c a s) l = record { plan = node i h bs; costs-it = refl; none-less = λ q. less q }
     where
       less : (q : Plan (suc k) rows) → choice m (length (runs i rows)) + costs m bs ≤ cost m q
       less q =
           let x = exchange m i c h a q in
           let y = agreed-branch m i c h a (x .0) in
           omega (arith, l .none-less (y .0))
-  chosen-least k i rows h bs (cheapest {count = n} s best e f) l = record { plan = node i h bs; costs-it = refl; none-less = λ q. less q }
+  chosen-least k i rows t h bs (cheapest {count = n} s best e f) l = record { plan = node i h bs; costs-it = refl; none-less = λ q. less q }
     where
       less : (q : Plan (suc k) rows) → choice m (length (runs i rows)) + costs m bs ≤ cost m q
       less q =
           let x = first-branches m (best .plan) e in
-          omega (arith, l .none-less (x .0), x .1, best .costs-it, best .none-less q)
+          omega (arith, l .none-less (x .0), x .1, best .costs-it, best .none-less q, cost-from light (best .plan) [] t, cost-from light q [] t)
 
   mutual
     unfolding Built costs
 
-    -- THE BUILDER'S PLAN IS LEAST among all plans of the state
-    pub built-least : {k : ℕ} {rows : List (List ℕ)} (p : Plan k rows) → Built m p → Least m k rows (cost m p)
-    built-least (leaf {rows}) b = leaf-least m rows
-    built-least (node {k} {rows} i h bs) b = chosen-least k i rows h bs (b .0) (builts-least bs (b .1))
+    built-bare : {k : ℕ} {rows : List (List ℕ)} (p : Plan k rows) → All (Terms k) rows → Built m p → Bare m k rows (cost m p)
+    built-bare (leaf {rows}) t b = leaf-least m rows
+    built-bare (node {k} {rows} i h bs) t b = chosen-least k i rows t h bs (b .0) (builts-bare bs (runs-terms i k h rows t) (b .1))
 
-    builts-least : {k : ℕ} {gs : List Run} (bs : Branches k gs) → Builts m bs → LeastRuns m k gs (costs m bs)
-    builts-least (end {k}) b = runs-nil m k
-    builts-least (next {k} {g} {gs} p bs) b = runs-cons m k (cost m p) (costs m bs) g gs (built-least p (b .0)) (builts-least bs (b .1))
+    builts-bare : {k : ℕ} {gs : List Run} (bs : Branches k gs) → Each (λ (c : ℕ). Terms (arity c + k)) gs → Builts m bs → LeastRuns m k gs (costs m bs)
+    builts-bare (end {k}) t b = runs-nil m k
+    builts-bare (next {k} {g} {gs} p bs) t b = runs-cons m k (cost m p) (costs m bs) g gs (built-bare p (t .0) (b .0)) (builts-bare bs (t .1) (b .1))
 
+  -- THE BUILDER'S PLAN IS LEAST among all plans of the state
+  pub built-least : {k : ℕ} {rows : List (List ℕ)} (p : Plan k rows) → All (Terms k) rows → Built m p → Least m k rows (costFrom m [] p)
+  built-least p t b = rw (cost-from light p [] t) (least-later light t (built-bare p t b))
+
+module _ (m : Measure) where
   -- the rule takes one place
   pub chosen-one : {k i j : ℕ} {rows : List (List ℕ)} → i ≤ k → j ≤ k → Chosen m k rows i → Chosen m k rows j → i ≡ j
   chosen-one {k} {i} {j} hi hj (shared c a s) (shared d b t) = go (tri i j)
@@ -95,14 +107,14 @@ module _ (m : Measure) where
 
   -- Where the branches of each place cost F of it at least, the rule's place is found by comparing numbers.
   -- Where no place is agreed: the first of the cheapest
-  pub chosen-cheapest : {k i : ℕ} {rows : List (List ℕ)} (F : ℕ → ℕ) → ((j : ℕ) → j ≤ k → LeastRuns m k (runs j rows) (F j)) → Stuck (suc k) rows
-      → First k (through m rows F) i → Chosen m k rows i
+  pub chosen-cheapest : Light m → {k i : ℕ} {rows : List (List ℕ)} → All (Terms (suc k)) rows → (F : ℕ → ℕ)
+      → ((j : ℕ) → j ≤ k → LeastRuns m k (runs j rows) (F j)) → Stuck (suc k) rows → First k (through m rows F) i → Chosen m k rows i
   unfolding cost
-  chosen-cheapest {k} {i} {rows} F f s a =
+  chosen-cheapest light {k} {i} {rows} t F f s a =
       let b = f i (a .within) in
-      cheapest {count = through m rows F i} s
-      (record { plan = node i (a .within) (b .branches); costs-it = omega (arith, b .costs-it); none-less = λ q. less q }) refl
-      (λ q h. more q h)
+      cheapest {count = through m rows F i + latersIn m [] rows} s
+      (least-later light t (record { plan = node i (a .within) (b .branches); costs-it = omega (arith, b .costs-it); none-less = λ q. less q })) refl
+      (λ q h. omega (arith, more q h, cost-from light q [] t))
     where
       less : (q : Plan (suc k) rows) → through m rows F i ≤ cost m q
       less (node j h bs) = omega (arith, a .least j h, f j h .none-less bs)
@@ -114,13 +126,13 @@ module _ (m : Measure) where
 abbrev pub rank : Measure → List (List ℕ) → (ℕ → ℕ) → ℕ → ℕ
 rank m rows F i = cond (eqb (length (runs i rows)) 1) 0 (suc (through m rows F i))
 
-module _ (m : Measure) (rows : List (List ℕ)) (F : ℕ → ℕ) where
+module _ (m : Measure) (light : Light m) (rows : List (List ℕ)) (F : ℕ → ℕ) where
   rank-agreed : (i c : ℕ) → Agree i c rows → rank m rows F i ≡ 0
   rank-agreed i c a = rw (eq-eqb (length (runs i rows)) 1 (ap length (agree-runs i c rows a)))
 
   -- the rule's place, agreed or not
-  pub chosen-first : {k i : ℕ} → ((j : ℕ) → j ≤ k → LeastRuns m k (runs j rows) (F j)) → First k (rank m rows F) i → Chosen m k rows i
-  chosen-first {k} {i} f a = go (eqb (length (runs i rows)) 1) refl
+  pub chosen-first : {k i : ℕ} → All (Terms (suc k)) rows → ((j : ℕ) → j ≤ k → LeastRuns m k (runs j rows) (F j)) → First k (rank m rows F) i → Chosen m k rows i
+  chosen-first {k} {i} t f a = go (eqb (length (runs i rows)) 1) refl
     where
       value : (j : ℕ) → eqb (length (runs j rows)) 1 ≡ false → rank m rows F j ≡ suc (through m rows F j)
       value j e = rw e
@@ -134,7 +146,7 @@ module _ (m : Measure) (rows : List (List ℕ)) (F : ℕ → ℕ) where
           let s : Stuck (suc k) rows = λ j c h b. omega (arith, a .least j (omega arith), rank-agreed j c b, value i e) in
           let other : (j : ℕ) → j ≤ k → rank m rows F j ≡ suc (through m rows F j) =
           λ j h. value j (ne-eqb (length (runs j rows)) 1 (λ o. (let g = one-agrees j rows o in s j (g .0) (omega arith) (g .1)))) in
-          chosen-cheapest m F f s (record {
+          chosen-cheapest m light t F f s (record {
             within = a .within;
             least = λ j h. omega (arith, a .least j h, value i e, other j h);
             before = λ j h. omega (arith, a .before j h, value i e, other j (omega (arith, a .within)));

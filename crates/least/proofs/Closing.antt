@@ -11,10 +11,11 @@ use Rattle.term.specs.Terms.{root, close}
 use Rattle.term.proofs.PlaceLaws.{close-close, root-after, root-before}
 use Rattle.table.specs.All.{All}
 use Rattle.plan.specs.Plans.{Measure}
-use Rattle.least.specs.Least.{Agree, Stuck, Least}
+use Rattle.least.specs.Least.{Agree, Stuck}
 use Rattle.least.specs.Entries.{Closes, stop, step}
 use Rattle.table.proofs.AllLaws.{all-map, all-both, map-map-same}
 use Rattle.least.proofs.Parts.{slice-map, agree-slice}
+use Rattle.least.proofs.Best.{Bare}
 use Rattle.least.proofs.Exchange.{Tri, before, equal, after, tri, agreed-least}
 
 -- a row that is agreed at i and at j
@@ -61,12 +62,12 @@ module _ {m : Measure} where
   one-closed i c h a x = record { closes = step i c h a (x .closes); weight = ap (λ (w : ℕ). m .weight c + w) (x .weight) }
 
   -- the least cost is what the closed cells weigh, and the least cost of the state that is reached
-  least-before : {k k′ : ℕ} {rows rows′ : List (List ℕ)} (x : ℕ) (s : Closes k rows k′ rows′) → Least m k′ rows′ x → Least m k rows (weighs m s + x)
+  least-before : {k k′ : ℕ} {rows rows′ : List (List ℕ)} (x : ℕ) (s : Closes k rows k′ rows′) → Bare m k′ rows′ x → Bare m k rows (weighs m s + x)
   unfolding weighs
   least-before x stop l = rw zero-add l
   least-before x (step {others = k} {rows = rows} i c h a s) l = rw add-assoc (agreed-least m k i c (weighs m s + x) rows h a (least-before x s l))
 
-  pub closes-least : {n k k′ : ℕ} {rows rows′ : List (List ℕ)} (x : ℕ) → Closing m n k rows k′ rows′ → Least m k′ rows′ x → Least m k rows (n + x)
+  pub closes-least : {n k k′ : ℕ} {rows rows′ : List (List ℕ)} (x : ℕ) → Closing m n k rows k′ rows′ → Bare m k′ rows′ x → Bare m k rows (n + x)
   closes-least x s l = rw (s .weight) at (least-before x (s .closes) l)
 
   -- one closing after another

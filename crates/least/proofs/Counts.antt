@@ -10,10 +10,10 @@ use Rattle.cell.specs.Cell.{arity}
 use Rattle.term.specs.Terms.{root, close}
 use Rattle.plan.specs.Runs.{Run, runs}
 use Rattle.plan.specs.Plans.{Measure}
-use Rattle.least.specs.Least.{Stuck, Least}
+use Rattle.least.specs.Least.{Stuck}
 use Rattle.least.specs.Entries.{between}
 use Rattle.least.specs.code.Pairs.{sums}
-use Rattle.least.proofs.Best.{LeastRuns, runs-nil, runs-cons}
+use Rattle.least.proofs.Best.{Bare, LeastRuns, runs-nil, runs-cons}
 use Rattle.least.proofs.Closing.{closes-length, Closing, none-closed, one-closed, closes-least, closes-then, closes-part, confluent}
 use Rattle.least.proofs.Parts.{slice-slice, PartOf, Parts, group-parts, part-agree, part-proper}
 
@@ -23,15 +23,15 @@ pub record Solved (m : Measure) (k : ℕ) (rows : List (List ℕ)) (agreed least
   pub left : List (List ℕ)
   pub closes : Closing m agreed k rows opens left
   pub stuck : Stuck opens left
-  pub counts : Least m opens left least
+  pub counts : Bare m opens left least
 
 -- together they are the state's least cost
-pub solved-least : {m : Measure} {k : ℕ} {rows : List (List ℕ)} {a n : ℕ} → Solved m k rows a n → Least m k rows (a + n)
+pub solved-least : {m : Measure} {k : ℕ} {rows : List (List ℕ)} {a n : ℕ} → Solved m k rows a n → Bare m k rows (a + n)
 solved-least {n = n} s = closes-least n (s .closes) (s .counts)
 
 -- and they tell the least cost of each state on the way: what is closed from there on, and the rest
 solved-below : {m : Measure} {k k′ : ℕ} {rows rows′ : List (List ℕ)} {a n c : ℕ} → Solved m k rows a n → Closing m c k rows k′ rows′
-    → (v : ℕ) × (c ≤ a) × (c + v ≡ a + n) × Least m k′ rows′ v
+    → (v : ℕ) × (c ≤ a) × (c + v ≡ a + n) × Bare m k′ rows′ v
 solved-below {m} {a = a} {n} {c} s x =
     let u = confluent {m = m} (s .closes .closes) (s .stuck) (x .closes) in
     let e : a ≡ c + u .0 = omega (arith, s .closes .weight, x .weight, u .1) in
@@ -58,7 +58,7 @@ module _ {m : Measure} (w : ℕ) (rows : List (List ℕ)) (agreed least : ℕ �
     (table : (j j′ : ℕ) → first ≤ j → j ≤ j′ → j′ ≤ last → j′ - j < last - first → Solved m w (between j j′ rows) (agreed j j′) (least j j′)) where
   -- so the table tells what the run adds
   run-value : (p o : ℕ) (g : Run) → p ≤ k → PartOf (root p) (close p) left o g
-      → (v : ℕ) × (m .weight (g .cell) + v ≡ adds agreed least a (first + o) (pred (first + o + length (g .rows)))) × Least m (arity (g .cell) + k) (g .rows) v
+      → (v : ℕ) × (m .weight (g .cell) + v ≡ adds agreed least a (first + o) (pred (first + o + length (g .rows)))) × Bare m (arity (g .cell) + k) (g .rows) v
       × (a ≤ agreed (first + o) (pred (first + o + length (g .rows))))
   run-value p o g h q =
       let b : length left ≡ suc last - first = closes-length (x .closes) ∙ length-slice first (suc last) rows inside in

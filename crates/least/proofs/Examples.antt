@@ -6,14 +6,18 @@ use mathlib.Core.List.{List, [], _∷_, map}
 use native.Mathlib.Omega.{arith}
 use lib.ListN.{length}
 use Rattle.cell.specs.Cell.{nameCell, valuesAt, arity, isVar}
-use Rattle.term.specs.Terms.{none, more, root, close}
+use Rattle.term.specs.Terms.{Terms, none, more, root, close}
 use Rattle.table.specs.All.{All}
+use Rattle.table.specs.Table.{count}
+use Rattle.table.proofs.AllLaws.{all-each}
 use Rattle.plan.specs.Runs.{agree, runs}
 use Rattle.plan.specs.Plans.{plain}
 use Rattle.plan.specs.code.Fits.{Fits}
 use Rattle.least.specs.code.Best.{argmin, through, total, best}
+use Rattle.least.specs.Later.{laterIn}
 use Rattle.least.specs.Least.{Least}
-use Rattle.least.proofs.Best.{best-least}
+use Rattle.least.proofs.Best.{best-least, least-later}
+use Rattle.least.proofs.Weighed.{plain-light}
 use Rattle.least.proofs.Builder.{below, place, runCells, planCells, Builds, plan-built}
 
 abbrev a : ℕ
@@ -57,9 +61,9 @@ fits =
 
 -- so 13 is the least cost, and this the builder's plan
 pub least : Least plain 4 four 13
-unfolding four best total argmin root close agree arity valuesAt isVar
-least = best-least plain 32 4 four fits (omega arith)
+unfolding four best total argmin root close agree arity valuesAt isVar laterIn count
+least = least-later plain-light (all-each (Fits 32 4) (Terms 4) (λ r x. x .0) four fits) (best-least plain 32 4 four fits (omega arith))
 
 pub builds : Builds plain 4 four (1 ∷ 3 ∷ x ∷ 0 ∷ 1 ∷ a ∷ 0 ∷ 1 ∷ x ∷ 0 ∷ 1 ∷ x ∷ 1 ∷ y ∷ 1 ∷ 1 ∷ y ∷ 1 ∷ 1 ∷ y ∷ 0 ∷ 2 ∷ a ∷ 1 ∷ b ∷ 1 ∷ z ∷ 0 ∷ 1 ∷ b ∷ 0 ∷ 1 ∷ z ∷ 0 ∷ 1 ∷ z ∷ 1 ∷ [])
 unfolding four planCells place runCells best total argmin root close agree arity valuesAt isVar
-builds = plan-built plain 32 4 four fits (omega arith)
+builds = plan-built plain plain-light 32 4 four fits (omega arith)

@@ -14,8 +14,9 @@ use Rattle.table.specs.All.{All}
 use Rattle.plan.specs.Runs.{Run, run, runs}
 use Rattle.plan.specs.Plans.{Plan, leaf, node, Branches, end, next, Measure, choice, cost, costs}
 use Rattle.plan.proofs.RunsLaws.{Each, Sized, mapRuns, group-all, group-sizes, group-map, group-some}
-use Rattle.least.specs.Least.{Agree, Least}
+use Rattle.least.specs.Least.{Agree}
 use Rattle.least.proofs.Agreed.{agree-runs}
+use Rattle.least.proofs.Best.{Bare}
 
 -- how two places stand to each other
 pub data Tri (i j : ℕ) : Type 0 where
@@ -150,8 +151,8 @@ module _ (m : Measure) where
   agreed-branch {k} {rows} i c h a q = rw (agree-runs i c rows a) (next q end, omega arith)
 
   -- so the least cost is the agreed cell's weight and the least cost of the state below
-  pub agreed-least : (k i c n : ℕ) (rows : List (List ℕ)) → i ≤ k → Agree i c rows → Least m (arity c + k) (map (close i) rows) n
-      → Least m (suc k) rows (m .weight c + n)
+  pub agreed-least : (k i c n : ℕ) (rows : List (List ℕ)) → i ≤ k → Agree i c rows → Bare m (arity c + k) (map (close i) rows) n
+      → Bare m (suc k) rows (m .weight c + n)
   unfolding cost
   agreed-least k i c n rows h a s =
       let b = agreed-branch i c h a (s .plan) in

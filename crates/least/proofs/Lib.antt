@@ -1,6 +1,8 @@
 -- rows, their parts and what they agree on
 pub mod Parts
 pub mod Agreed
+-- what later meetings of a variable cost
+pub mod Later
 -- the least cost, and the builder's plan
 pub mod Minimum
 pub mod Best

@@ -1,23 +1,27 @@
 -- What is kept for every pair of first and last row, as functions: the equation between them, and that they are the entries.
 use mathlib.Core.Path.{_≡_, refl}
 use mathlib.Core.Logic.{_⊎_, inl, inr}
-use mathlib.Core.List.{List}
+use mathlib.Core.List.{List, []}
 use Prim.Native.Nat.{ℕ, zero, suc, _+_, _*_, _≤_, _<_}
 use native.Mathlib.Omega.{arith}
 use lib.ListN.{length, take}
 use lib.Seq.{length-slice}
+use Rattle.term.specs.Terms.{Terms}
 use Rattle.table.specs.All.{All}
 use Rattle.plan.specs.Runs.{runs}
 use Rattle.plan.specs.Plans.{Measure}
 use Rattle.plan.proofs.RunsLaws.{fits-more}
 use Rattle.plan.specs.code.Fits.{Fits}
 use Rattle.least.specs.code.Best.{argmin, firstOver, leastOver, through, best}
-use Rattle.least.specs.code.Pairs.{sums, closedOf, agreedOf}
+use Rattle.least.specs.Later.{latersIn}
+use Rattle.least.specs.code.Low.{Light}
+use Rattle.least.specs.code.Pairs.{sums, closedOf, weighedOf}
 use Rattle.least.specs.Least.{Least, Chosen}
 use Rattle.least.specs.Entries.{between, Closes, stop, step, Entry, none, leaf, inner}
 use Rattle.least.proofs.Minimum.{argmin-first}
-use Rattle.table.proofs.AllLaws.{all-take, all-drop}
-use Rattle.least.proofs.Best.{best-least, least-one, LeastRuns, leaf-least, node-least}
+use Rattle.table.proofs.AllLaws.{all-each, all-take, all-drop}
+use Rattle.least.proofs.Best.{Bare, bare-one, best-least, least-one, least-later, LeastRuns, leaf-least, node-least}
+use Rattle.least.proofs.Later.{none-later}
 use Rattle.least.proofs.Closing.{closes-length, order-does-not-matter}
 use Rattle.least.proofs.Counts.{Solved, adds, place-least, place-whole}
 use Rattle.least.proofs.Scan.{Scanned, scan-closes, fits-agreed}
@@ -60,7 +64,7 @@ module _ (m : Measure) (n w : ℕ) (rows : List (List ℕ)) where
 
   -- what the branches of place p there cost: over its runs, the sum of what each adds
   unfoldable pub branchesOf : ℕ → ℕ → ℕ → ℕ
-  branchesOf first last p = sums (adds (agreedOf m n w rows) leastOf (agreedOf m n w rows first last)) first (runs p ((closedOf m n w rows first last) .left))
+  branchesOf first last p = sums (adds (weighedOf m n w rows) leastOf (weighedOf m n w rows first last)) first (runs p ((closedOf m n w rows first last) .left))
 
   -- with the state's own figure
   abbrev pub costOf : ℕ → ℕ → ℕ → ℕ
@@ -82,13 +86,13 @@ module _ (m : Measure) (n w : ℕ) (rows : List (List ℕ)) where
       unfolding closedOf
       pair-closed = scan-closes m n w (between first last rows) (pair-state .0) (pair-state .1)
 
-      pair-counts : Least m ((closedOf m n w rows first last) .opens) ((closedOf m n w rows first last) .left) (leastOf first last)
+      pair-counts : Bare m ((closedOf m n w rows first last) .opens) ((closedOf m n w rows first last) .left) (leastOf first last)
       unfolding leastOf
       pair-counts =
           best-least m n ((closedOf m n w rows first last) .opens) ((closedOf m n w rows first last) .left) (closes-fit n (pair-closed .closes .closes) (pair-state .0))
           (omega (arith, closes-length (pair-closed .closes .closes), pair-state .1))
 
-      pub pair-solved : Solved m w (between first last rows) (agreedOf m n w rows first last) (leastOf first last)
+      pub pair-solved : Solved m w (between first last rows) (weighedOf m n w rows first last) (leastOf first last)
       pair-solved = record {
         opens = (closedOf m n w rows first last) .opens;
         left = (closedOf m n w rows first last) .left;
@@ -104,17 +108,17 @@ module _ (m : Measure) (n w : ℕ) (rows : List (List ℕ)) where
       unfolding branchesOf
       branches-least k e =
           let x = pair-closed first last order inside in
-          place-least w rows (agreedOf m n w rows) leastOf first last (agreedOf m n w rows first last) k ((closedOf m n w rows first last) .left) inside
+          place-least w rows (weighedOf m n w rows) leastOf first last (weighedOf m n w rows first last) k ((closedOf m n w rows first last) .left) inside
           (rw e at (x .closes)) (rw e at (x .stuck)) (λ j j′ h h′ h″ l. pair-solved j j′ h′ (omega arith))
 
       -- and with what the pair's rows agree on, once for each run, what the runs' rows cost with nothing closed
       pub branches-whole : (k : ℕ) → (closedOf m n w rows first last) .opens ≡ suc k → (p : ℕ) → p ≤ k
-          → branchesOf first last p + length (runs p ((closedOf m n w rows first last) .left)) * agreedOf m n w rows first last
-          ≡ sums (λ (j j′ : ℕ). agreedOf m n w rows j j′ + leastOf j j′) first (runs p ((closedOf m n w rows first last) .left))
+          → branchesOf first last p + length (runs p ((closedOf m n w rows first last) .left)) * weighedOf m n w rows first last
+          ≡ sums (λ (j j′ : ℕ). weighedOf m n w rows j j′ + leastOf j j′) first (runs p ((closedOf m n w rows first last) .left))
       unfolding branchesOf
       branches-whole k e =
           let x = pair-closed first last order inside in
-          place-whole w rows (agreedOf m n w rows) leastOf first last (agreedOf m n w rows first last) k ((closedOf m n w rows first last) .left) inside
+          place-whole w rows (weighedOf m n w rows) leastOf first last (weighedOf m n w rows first last) k ((closedOf m n w rows first last) .left) inside
           (rw e at (x .closes)) (rw e at (x .stuck)) (λ j j′ h h′ h″ l. pair-solved j j′ h′ (omega arith))
 
       -- THE EQUATION OF LEAST COUNTS, for every pair of first and last row
@@ -122,27 +126,37 @@ module _ (m : Measure) (n w : ℕ) (rows : List (List ℕ)) where
       equation = go ((closedOf m n w rows first last) .opens) refl
         where
           go : (K : ℕ) → (closedOf m n w rows first last) .opens ≡ K → leastOf first last ≡ leastOver K (costOf first last)
-          go zero e = least-one (rw e at (pair-counts first last order inside)) (leaf-least m ((closedOf m n w rows first last) .left))
+          go zero e = bare-one (rw e at (pair-counts first last order inside)) (leaf-least m ((closedOf m n w rows first last) .left))
           go (suc k) e =
-              least-one (rw e at (pair-counts first last order inside))
+              bare-one (rw e at (pair-counts first last order inside))
               (node-least m k ((closedOf m n w rows first last) .left) (branchesOf first last) (branches-least k e))
 
-      -- and the place is the rule's
-      place-chosen : (k : ℕ) → (closedOf m n w rows first last) .opens ≡ suc k
-          → (argmin k (costOf first last) ≤ k) × Chosen m k ((closedOf m n w rows first last) .left) (argmin k (costOf first last))
-      place-chosen k e =
-          let a = argmin-first k (costOf first last) in
-          (a .within, chosen-cheapest m (branchesOf first last) (branches-least k e) (rw e at (pair-closed first last order inside .stuck)) a)
+      -- the rows that are left are terms
+      pub left-terms : All (Terms ((closedOf m n w rows first last) .opens)) ((closedOf m n w rows first last) .left)
+      left-terms =
+          all-each (Fits n ((closedOf m n w rows first last) .opens)) (Terms ((closedOf m n w rows first last) .opens)) (λ r x. x .0)
+          ((closedOf m n w rows first last) .left) (closes-fit n (pair-closed first last order inside .closes .closes) (pair-state first last order inside .0))
 
-      -- so these are the pair's entry
-      pub pair-entry : Entry m w rows first last (leastOf first last) (placeOf first last)
+      -- and the place is the rule's
+      place-chosen : Light m → (k : ℕ) → (closedOf m n w rows first last) .opens ≡ suc k
+          → (argmin k (costOf first last) ≤ k) × Chosen m k ((closedOf m n w rows first last) .left) (argmin k (costOf first last))
+      place-chosen light k e =
+          let a = argmin-first k (costOf first last) in
+          (a .within, chosen-cheapest m light (rw e at left-terms) (branchesOf first last) (branches-least k e) (rw e at (pair-closed first last order inside .stuck)) a)
+
+      -- so these are the pair's entry, with what the later meetings cost that are left
+      pub pair-entry : Light m → Entry m w rows first last (leastOf first last + latersIn m [] ((closedOf m n w rows first last) .left)) (placeOf first last)
       unfolding placeOf
-      pair-entry = go ((closedOf m n w rows first last) .opens) refl equation
+      pair-entry light = go ((closedOf m n w rows first last) .opens) refl equation
         where
           go : (K : ℕ) → (closedOf m n w rows first last) .opens ≡ K → leastOf first last ≡ leastOver K (costOf first last)
-              → Entry m w rows first last (leastOf first last) (firstOver K (costOf first last))
-          go zero e q = rw q (leaf order inside (rw e at (pair-closed first last order inside .closes .closes)))
+              → Entry m w rows first last (leastOf first last + latersIn m [] ((closedOf m n w rows first last) .left)) (firstOver K (costOf first last))
+          go zero e q =
+              let s : List (List ℕ) = (closedOf m n w rows first last) .left in
+              let z : leastOf first last + latersIn m [] s ≡ 0 = omega (arith, q, none-later m s [] (rw e at left-terms)) in
+              rw z (leaf order inside (rw e at (pair-closed first last order inside .closes .closes)))
           go (suc k) e q =
               let x = pair-closed first last order inside in
-              let c = place-chosen k e in
-              inner order inside (rw e at (x .closes .closes)) (rw e at (x .stuck)) (rw e at (pair-counts first last order inside)) (c .0) (c .1)
+              let c = place-chosen light k e in
+              let l = least-later light (rw e at left-terms) (rw e at (pair-counts first last order inside)) in
+              inner order inside (rw e at (x .closes .closes)) (rw e at (x .stuck)) l (c .0) (c .1)

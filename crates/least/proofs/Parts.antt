@@ -1,13 +1,13 @@
 -- Parts of the rows: each run stands on one, in order, and what the whole agrees on its parts agree on.
-use mathlib.Core.Path.{_≡_, refl, ap, _∙_}
+use mathlib.Core.Path.{_≡_, refl, sym, ap, _∙_}
 use mathlib.Core.Bool.{Bool, true, false}
 use mathlib.Core.Logic.{_⊎_, inl, inr}
-use mathlib.Core.List.{List, [], _∷_, map}
+use mathlib.Core.List.{List, [], _∷_, _++_, map}
 use Prim.Native.Nat.{ℕ, zero, suc, _+_, _≤_, _<_}
 use native.Mathlib.Omega.{arith}
 use native.Mathlib.Nat.{zero-add, suc-add}
-use lib.ListN.{length, take, drop}
-use lib.Seq.{slice, length-slice, take-length, take-take, drop-drop, take-nil}
+use lib.ListN.{length, take, drop, take-append-drop}
+use lib.Seq.{slice, length-slice, length-take-le, drop-append-le, take-length, take-take, drop-drop, take-nil}
 use lib.Dec.{leb}
 use borrow.Author.Tests.{leb-true, leb-false}
 use Rattle.cell.specs.Cell.{isVar}
@@ -40,6 +40,13 @@ module _ {A : Type 0} where
   -- a part of a part
   pub slice-slice : (o t o′ t′ : ℕ) (xs : List A) → o + t′ ≤ t → slice o′ t′ (slice o t xs) ≡ slice (o + o′) (o + t′) xs
   slice-slice o t o′ t′ xs h = rw (take-drop o t′ (take t xs), take-take (o + t′) t xs h, drop-drop o′ o (take (o + t′) xs))
+
+  -- a part and the next are a part
+  pub slice-both : (a b c : ℕ) (xs : List A) → a ≤ b → b ≤ c → c ≤ length xs → slice a c xs ≡ slice a b xs ++ slice b c xs
+  slice-both a b c xs h h′ l =
+      let t : take b (take c xs) ≡ take b xs = take-take b c xs h′ in
+      ap (drop a) (sym (take-append-drop b (take c xs))) ∙ drop-append-le a (take b (take c xs)) (slice b c xs) (omega (arith, length-take-le b (take c xs) (omega (arith, length-take-le c xs l))))
+      ∙ ap (λ (ys : List A). drop a ys ++ slice b c xs) t
 
 pub agree-slice : (i c o t : ℕ) (rows : List (List ℕ)) → o < t → t ≤ length rows → Agree i c rows → Agree i c (slice o t rows)
 agree-slice i c o t rows h b a = record {

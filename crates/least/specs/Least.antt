@@ -3,13 +3,14 @@ use Prim.Native.Nat.{ℕ, suc, _≤_, _<_}
 use mathlib.Core.Path.{_≡_}
 use mathlib.Core.Bool.{false}
 use mathlib.Core.Logic.{_⊎_}
-use mathlib.Core.List.{List}
+use mathlib.Core.List.{List, []}
 use lib.ListN.{length}
 use Rattle.cell.specs.Cell.{isVar}
 use Rattle.term.specs.Terms.{root}
 use Rattle.table.specs.All.{All}
 use Rattle.plan.specs.Runs.{Run}
-use Rattle.plan.specs.Plans.{Plan, leaf, node, Branches, end, next, Measure, cost}
+use Rattle.plan.specs.Plans.{Plan, leaf, node, Branches, end, next, Measure}
+use Rattle.least.specs.Measures.{costFrom}
 
 -- 01, an open place "agreed by all the state's rows (a single row agrees with itself everywhere)": all hold this cell there,
 -- a name or a number, or there is a single row
@@ -22,11 +23,13 @@ pub record Agree (place cell : ℕ) (rows : List (List ℕ)) : Type 0 where
 abbrev pub Stuck : ℕ → List (List ℕ) → Type 0
 Stuck k rows = (i c : ℕ) → i < k → Agree i c rows → ⊥
 
--- a state's least cost: a plan that costs so much, and that none costs less
+-- A state's least cost: a plan that costs so much, and that none costs less. It is counted from the state, with no cell met: above a state
+-- with two or more rows only names and numbers are met, and what stands below a variable's branch has one row, for which the rule asks no
+-- cost
 pub record Least (measure : Measure) (opens : ℕ) (rows : List (List ℕ)) (count : ℕ) : Type 0 where
   pub plan : Plan opens rows
-  pub costs-it : cost measure plan ≡ count
-  pub none-less : (q : Plan opens rows) → count ≤ cost measure q
+  pub costs-it : costFrom measure [] plan ≡ count
+  pub none-less : (q : Plan opens rows) → count ≤ costFrom measure [] q
 
 -- the place that a plan looks at first
 abbrev pub first : {k : ℕ} {rows : List (List ℕ)} → Plan k rows → ℕ
@@ -40,7 +43,7 @@ pub data Chosen (measure : Measure) (others : ℕ) (rows : List (List ℕ)) (pla
   -- "otherwise, among the open places whose best plan, counted from this state with its own branches, costs least, the leftmost":
   -- a least plan of the state looks there first, and each plan that first looks at a place left of it costs more
   cheapest : {count : ℕ} → Stuck (suc others) rows → (best : Least measure (suc others) rows count) → first (best .plan) ≡ place
-      → ((q : Plan (suc others) rows) → first q < place → count < cost measure q) → Chosen measure others rows place
+      → ((q : Plan (suc others) rows) → first q < place → count < costFrom measure [] q) → Chosen measure others rows place
 
 -- The builder's plan: at each of its states the place is the one so chosen. So it is of a plan, and of each of some branches
 unfoldable mutual

@@ -1,4 +1,5 @@
 pub mod Least
 pub mod Measures
+pub mod Later
 pub mod Entries
 pub mod code

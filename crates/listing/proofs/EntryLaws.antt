@@ -26,9 +26,10 @@ use Rattle.plan.proofs.NotesLaws.{notes-fit}
 use Rattle.plan.proofs.PlansLaws.{plan-tells, cost-plain}
 use Rattle.plan.proofs.SizeLaws.{bound, size-bound}
 use Rattle.plan.proofs.CheckLaws.{accepted, rows-fit}
-use Rattle.least.specs.Measures.{tableBy}
+use Rattle.least.specs.Measures.{costBy, tableBy}
 use Rattle.least.specs.declared.By.the-variants as by
 use Rattle.least.proofs.Measured.{by-table}
+use Rattle.least.proofs.Later.{from-plain}
 use Rattle.builder.specs.Build.{BuiltInto, table-refused, room-refused, built, buildTold}
 use Rattle.builder.specs.declared.BuildAnswer.{BuildAnswer}
 use Rattle.builder.specs.declared.BuildAnswer.the-variants as build-answer
@@ -120,9 +121,9 @@ module _ {t room room′ : List ℕ} {r : BuildAnswer} (b : BuiltInto by.Branche
       go (table-refused f x a s) = let z : _≡_ {A = ℕ} 0 1 = cc in absurd (omega arith)
       go (room-refused T tree x y l a s) = let z : _≡_ {A = ℕ} 0 1 = cc in absurd (omega arith)
       go (built T tree x y least l a s) =
-          let d : answered n costs ≡ answered (length (write tree)) (cost plain tree) = ap buildTold (sym e) ∙ a in
+          let d : answered n costs ≡ answered (length (write tree)) (costBy by.Branches tree) = ap buildTold (sym e) ∙ a in
           let m : n ≡ length (write tree) = cc in
-          let c : costs ≡ cost plain tree = cc in (
+          let c : costs ≡ costBy by.Branches tree = cc in (
             omega (arith, ap length s, length-append (write tree) (drop (length (write tree)) room)),
             record {
               table = T;
@@ -130,7 +131,7 @@ module _ {t room room′ : List ℕ} {r : BuildAnswer} (b : BuiltInto by.Branche
               reads = reads ∙ x;
               built = y;
               cells = rw (m, s) (take-append-seam (write tree) (drop (length (write tree)) room));
-              costs-it = c;
+              costs-it = c ∙ from-plain tree [] ∙ sym (cost-plain tree);
             },
           )
 
@@ -146,7 +147,7 @@ module _ {t room room′ : List ℕ} {r : BuildAnswer} (b : BuiltInto by.Branche
           let f = few t (reads ∙ x) in
           absurd (omega (arith, size-bound tree (f .0) (f .1) (f .2)))
       go (built T tree x y least l a s) =
-          let d : turned (told f) ≡ answered (length (write tree)) (cost plain tree) = ap buildTold (sym e) ∙ a in
+          let d : turned (told f) ≡ answered (length (write tree)) (costBy by.Branches tree) = ap buildTold (sym e) ∙ a in
           let z : _≡_ {A = ℕ} 0 1 = cc in
           absurd (omega arith)
 

@@ -20,6 +20,7 @@ use Rattle.plan.proofs.PlansLaws.{write-one}
 use Rattle.least.specs.Least.{Built}
 use Rattle.least.specs.code.Best.{argmin, total, best}
 use Rattle.least.proofs.Builder.{place, runCells, planCells, plan-built}
+use Rattle.least.proofs.Weighed.{plain-light}
 use Rattle.listing.specs.Listing.{line, linesIn, header, listingOf, listed, unread, Lists, cells}
 
 -- cells 2, 2, 1073741825, 1073741826, 1073741825, 2147483657
@@ -52,7 +53,7 @@ cells-are = refl
 
 pub built : Built plain tree
 built =
-    let b = plan-built plain 2 (example .width) (example .rows) fits some in
+    let b = plan-built plain plain-light 2 (example .width) (example .rows) fits some in
     subst (λ (p : Plan (example .width) (example .rows)). Built plain p) (write-one (b .plan) tree (b .writes-it ∙ sym cells-are)) (b .built)
 
 -- rows 2 width 2 edges 3

@@ -10,11 +10,12 @@ use lib.Dec.{ltb}
 use lib.ListN.{length, getD, set}
 use lib.Seq.{slice}
 use Rattle.table.specs.All.{All}
+use Rattle.table.specs.Table.{Head}
 use Rattle.plan.specs.Plans.{Measure}
 use Rattle.plan.specs.code.Fits.{Fits}
 use Rattle.least.specs.Entries.{costIn, placeIn, SameAt}
 use Rattle.least.specs.code.Low.{Low}
-use Rattle.least.specs.code.Pairs.{agreedOf, leastBy, placeBy, wholeBy}
+use Rattle.least.specs.code.Pairs.{laterOf, agreedOf, leastBy, placeBy, wholeBy}
 use Rattle.entries.specs.declared.arrays.Asked.{Asked}
 use Rattle.entries.specs.declared.arrays.Row.{Row}
 use Rattle.entries.specs.Fill.{Unasked}
@@ -33,11 +34,12 @@ pub record Laid (cells starts : List ℕ) (count width : ℕ) (rows : List (List
   pub few : count ≤ 64
   pub size : length cells ≤ 2050
   pub fits : All (Fits 32 width) rows
+  pub heads : All (Head width) rows
   pub order : (r : ℕ) → r < count → (getD starts r 0 ≤ stopOf cells starts count r) × (stopOf cells starts count r ≤ length cells)
   pub row : (r : ℕ) → r < count → getD rows r [] ≡ slice (getD starts r 0) (stopOf cells starts count r) cells
 
 -- what is given where the values of a pair are kept: the notes at its first row, whose cells are those from `at` up to a stop, and what
--- the closed cells weigh. What a run of rows costs is N
+-- the closed cells cost, which is what they weigh and the later meetings of a single row. What a run of rows costs is N
 pub record PairAt (marks kept notes : List ℕ) (figure first last agreed at stop : ℕ) : Type 0 where
   pub m : Measure
   pub low : Low m
@@ -54,7 +56,9 @@ pub record PairAt (marks kept notes : List ℕ) (figure first last agreed at sto
   pub marked : MarkedTo m cells marks (length cells)
   pub N : ℕ → ℕ → ℕ
   pub small : (j j′ : ℕ) → j ≤ j′ → j′ < length rows → N j j′ ≤ 65535
-  pub noted : Noted m N first (noteIn notes) at width (getD rows first []) (slice (suc first) (suc last) rows) agreed
+  pub weight : ℕ
+  pub noted : Noted m N first (noteIn notes) at width (getD rows first []) (slice (suc first) (suc last) rows) weight
+  pub agreed-is : agreed ≡ weight + laterOf m 32 width rows first last
   pub light : agreed ≤ mostAgreed
   pub known : (j : ℕ) → first ≤ j → j < last → readIn kept first j ≡ N first j
   pub long : Long kept
@@ -117,15 +121,17 @@ pub record RowHere (cells starts : List ℕ) (count : ℕ) (row : Row) : Type 0 
   pub end-is : row .end ≡ stopOf cells starts count (row .number)
 
 module _ {cells marks starts : List ℕ} {asked : Asked} {old : List ℕ} (t : Task cells marks starts asked old) where
-  -- a row is noted with those after it up to the last one, what they agree on weighs so much, and the pairs that end there are done from a
+  -- a row is noted with those after it up to the last one, what they agree on costs so much, and the pairs that end there are done from a
   -- first row on
   pub record NotedTo (first last : ℕ) (row : Row) (notes kept : List ℕ) (agreed : ℕ) : Type 0 where
     pub here : RowHere cells starts (asked .count) row
     pub order : row .number ≤ last
     pub inside : last < asked .count
     pub late : asked .since ≤ last
+    pub weight : ℕ
     pub noted : Noted (t .m) (t .N) (row .number) (noteIn notes) (row .start) (t .width) (getD (t .rows) (row .number) [])
-        (slice (suc (row .number)) (suc last) (t .rows)) agreed
+        (slice (suc (row .number)) (suc last) (t .rows)) weight
+    pub agreed-is : agreed ≡ weight + laterOf (t .m) 32 (t .width) (t .rows) (row .number) last
     pub light : agreed ≤ mostAgreed
     pub filled : FilledTo t first last kept
     pub room : length notes ≡ 192

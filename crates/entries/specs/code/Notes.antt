@@ -2,15 +2,20 @@
 -- known of each place of the rows so far is noted at the cell that the first of them has there.
 use Prim.Native.Nat.{ℕ, suc, _+_, _-_, _*_, _/_, _%_, _≤_, _<_, min}
 use mathlib.Core.Path.{_≡_}
-use mathlib.Core.Bool.{cond}
+use mathlib.Core.Bool.{true, false, cond}
 use mathlib.Core.List.{List, [], _∷_, _++_, map}
+use lib.Dec.{ltb}
 use lib.ListN.{length, getD, set, drop}
 use lib.Seq.{slice}
-use Rattle.cell.specs.Cell.{arity}
+use Rattle.cell.specs.Cell.{arity, isVar}
 use Rattle.term.specs.Terms.{Terms, front, back, root, close}
+use Rattle.refusal.specs.Read.{read}
+use Rattle.table.specs.Table.{count, Head}
+use Rattle.table.specs.code.Looks.{cellsFrom}
 use Rattle.plan.specs.Runs.{agree}
 use Rattle.plan.specs.Plans.{Measure}
 use Rattle.least.specs.Entries.{wholeIn}
+use Rattle.least.specs.Measures.{weightAt}
 use Rattle.least.specs.code.Pairs.{limit}
 use Rattle.entries.specs.declared.arrays.Note.{Note}
 use Rattle.entries.specs.declared.arrays.Choice.{Choice}
@@ -156,21 +161,36 @@ abbrev pub weightOf : Measure → List ℕ → ℕ
 weightOf m [] = 0
 weightOf m (c ∷ cells) = m .weight c + weightOf m cells
 
+-- what they cost, met one after another, where the cells in `met` are met before them
+abbrev pub weightsFrom : Measure → List ℕ → List ℕ → ℕ
+weightsFrom m met [] = 0
+weightsFrom m met (c ∷ cells) = weightAt m met c + weightsFrom m (c ∷ met) cells
+
 -- what is given where a row is noted by itself, its cells from `at` up to a stop
-pub record LastRow (marks notes : List ℕ) (row at stop : ℕ) : Type 0 where
+pub record LastRow (cells marks notes : List ℕ) (row at stop : ℕ) : Type 0 where
   pub m : Measure
-  pub cells : List ℕ
+  pub width : ℕ
+  pub head : Head width (slice at stop cells)
   pub marked : MarkedTo m cells marks (length cells)
   pub part : (at ≤ stop) × (stop ≤ length cells) × (length cells ≤ 2050)
   pub number : row < 64
   pub room : length notes ≡ 192
 
--- every cell of it is closed; so it is noted up to cell q, and with the cells from there on those so far weigh what all of them do
-pub record Alone {marks notes : List ℕ} {row at stop : ℕ} (given : LastRow marks notes row at stop) (q : ℕ) (after : List ℕ) (agreed : ℕ)
-    : Type 0 where
+-- the variables among some cells are those below a number
+pub record Numbered (cells : List ℕ) (met : ℕ) : Type 0 where
+  pub below : (v : ℕ) → isVar v ≡ true → ltb 0 (count v cells) ≡ ltb v met
+
+-- every cell of it is closed; so it is noted up to cell q, and with the cells from there on those so far cost what all of them do. So many
+-- variables are met before q, and the cells from there on number theirs further
+pub record Alone {cells marks notes : List ℕ} {row at stop : ℕ} (given : LastRow cells marks notes row at stop) (q : ℕ) (after : List ℕ)
+    (agreed met : ℕ) : Type 0 where
   pub each : (j : ℕ) → at ≤ j → j < q → noteIn after j ≡ note 1 0 row
-  pub sum : agreed + weightOf (given .m) (slice q stop (given .cells)) ≡ weightOf (given .m) (slice at stop (given .cells))
+  pub before : List ℕ
+  pub numbered : Numbered before met
+  pub fresh : (v : ℕ) × (cellsFrom true (slice q stop cells) met q ≡ read v)
+  pub sum : agreed + weightsFrom (given .m) before (slice q stop cells) ≡ weightsFrom (given .m) [] (slice at stop cells)
   pub order : (at ≤ q) × (q ≤ stop)
+  pub small : met ≤ q
   pub light : agreed ≤ 7 * q
   pub room : length after ≡ 192
 

@@ -1,13 +1,16 @@
 -- What is worked out for a pair of first and last row, as functions: what its rows agree on, and its cheapest place, by what runs of rows
 -- cost.
 use Prim.Native.Nat.{ℕ, zero, suc, pred, _+_, _-_, _*_, min}
+use mathlib.Core.Bool.{cond}
 use mathlib.Core.List.{List, [], _∷_}
-use lib.ListN.{length}
+use lib.Dec.{eqb}
+use lib.ListN.{length, getD}
 use Rattle.cell.specs.Cell.{arity}
 use Rattle.plan.specs.Runs.{Run, runs}
 use Rattle.plan.specs.Plans.{Measure, choice}
 use Rattle.least.specs.Entries.{between}
 use Rattle.least.specs.code.Best.{best, firstOver, leastOver}
+use Rattle.least.specs.Later.{laterIn, latersIn}
 
 -- what a scan of the open places has found: what the closed cells weigh, the open places left, and the rows
 pub record Scan : Type 0 where
@@ -47,8 +50,16 @@ module _ (m : Measure) (n w : ℕ) (rows : List (List ℕ)) where
   closedOf first last = scan m n 0 w (between first last rows)
 
   -- what these rows agree on weighs so much
+  abbrev pub weighedOf : ℕ → ℕ → ℕ
+  weighedOf first last = (closedOf first last) .agreed
+
+  -- a single row agrees with itself everywhere, so its later meetings are in what it agrees on; several rows agree on no variable
+  unfoldable pub laterOf : ℕ → ℕ → ℕ
+  laterOf first last = cond (eqb first last) (laterIn m [] (getD rows first [])) 0
+
+  -- and costs so much
   abbrev pub agreedOf : ℕ → ℕ → ℕ
-  agreedOf first last = (closedOf first last) .agreed
+  agreedOf first last = weighedOf first last + laterOf first last
 
 -- no pair of a table costs as much. Of any other number that stands at a pair no more is taken, so that sums fit
 abbrev pub limit : ℕ
@@ -57,7 +68,7 @@ limit = 65535
 module _ (m : Measure) (w : ℕ) (rows : List (List ℕ)) where
   -- what the rows from the first to the last cost at least, with no place closed. A row has at most 32 cells
   abbrev pub wholeOf : ℕ → ℕ → ℕ
-  wholeOf first last = best m 32 w (between first last rows)
+  wholeOf first last = best m 32 w (between first last rows) + latersIn m [] (between first last rows)
 
   -- what a place of the pair's closed state costs, where a run of rows costs N with nothing closed
   abbrev pub priceBy : (ℕ → ℕ → ℕ) → ℕ → ℕ → ℕ → ℕ

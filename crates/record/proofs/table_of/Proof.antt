@@ -8,27 +8,21 @@ use borrow.Author.Needs.{needs}
 use Rattle.record.proofs.table_of.Statement.{statement}
 use Rattle.record.proofs.table_of.Tie as tie
 
--- src/lib.rt:30:18
 shared-slice-read-wide : tie.Need-shared-slice-read-wide
 shared-slice-read-wide c = search needs
 
--- src/lib.rt:30:9
 wide-requires : tie.Need-wide-requires
 wide-requires c κs = search needs
 
--- src/lib.rt:32:16
 sub-result : tie.Need-sub-result
 sub-result c = search needs
 
--- src/lib.rt:32:16
 part-result-start : tie.Need-part-result-start
 part-result-start c = search needs
 
--- src/lib.rt:32:16
 part-result-end : tie.Need-part-result-end
 part-result-end c = search needs
 
--- src/lib.rt:32:9
 returns : tie.Need-returns
 returns c =
     let n = c .before .before .wide in
@@ -36,23 +30,18 @@ returns c =
     let h : 2050 < getD r 0 0 = omega (arith, n .ensures, c .before .if1 .taken) in
     rw (lt-ltb 2050 (getD r 0 0) h)
 
--- src/lib.rt:34:15
 add-end : tie.Need-add-end
 add-end c = search needs
 
--- src/lib.rt:35:5
 sub-result-2 : tie.Need-sub-result-2
 sub-result-2 c = search needs
 
--- src/lib.rt:35:5
 part-result-start-2 : tie.Need-part-result-start-2
 part-result-start-2 c = search needs
 
--- src/lib.rt:35:5
 part-result-end-2 : tie.Need-part-result-end-2
 part-result-end-2 c = search needs
 
--- src/lib.rt:26:1
 returns-2 : tie.Need-returns-2
 returns-2 c =
     let n = c .before .before .wide in
