@@ -70,14 +70,14 @@ Apart words = (j k : ℕ) (w : List ℕ) → Nth words j w → Nth words k w →
 
 module _ (t : List ℕ) (words : Words) where
   one-variable : {n s e : ℕ} {vars u : ℕ} {ss : List Symbol} {cs : List ℕ} → n < 2 ^ 16 → slice s e t ≡ variableWord n
-      → Seen false (variableCell n) vars (read u) → Row t words (met u) ss cs
+      → Seen (variableCell n) vars (read u) → Row t words (met u) ss cs
       → Row t words (met vars) (G.variable s e ∷ ss) (variableCell n ∷ cs)
   one-variable {n} h e (symbol c i) r = absurd (not-both (var-small n (omega arith)) i)
   one-variable {n} {s} {e} {vars} {ss = ss} {cs = cs} h w (new c i z) r =
       let q : slice s e t ≡ variableWord vars = w ∙ ap variableWord z in
       numbering.first (subst (New (met vars)) (sym q) (met-new vars vars (omega arith))) (z ∙ sym (met-long vars))
       (subst (λ (v : List ℕ). Row t words (met vars ++ (v ∷ [])) ss cs) (sym q) r)
-  one-variable {n} {vars = vars} h w (old c i z l) r =
+  one-variable {n} {vars = vars} h w (old c i z) r =
       numbering.again (λ u. variable-named n (sym w ∙ u)) (subst (Nth (met vars) n) (sym w) (met-has vars n z)) refl r
 
   -- where no two words are equal, a word first stands where it stands
@@ -99,7 +99,7 @@ module _ (t : List ℕ) (words : Words) where
       numbering.a-number refl (spelt-row vars (suc p) v apart x (subst (λ (u : ℕ). cellsFrom false cs u (suc p) ≡ read v) z (f .2)))
   spelt-row vars p v apart (a-variable {n = n} {cs = cs} l h x) e =
       let f = first (cellFrom false (variableCell n) vars p) (λ (u : ℕ). cellsFrom false cs u (suc p)) e in
-      one-variable l h (subst (Seen false (variableCell n) vars) (f .1) (seen false (variableCell n) vars p))
+      one-variable l h (subst (Seen (variableCell n) vars) (f .1) (seen false (variableCell n) vars p))
       (spelt-row (f .0) (suc p) v apart x (f .2))
 
   spelt-firsts : {ss : List Symbol} {cs : List ℕ} → Spells t words ss cs → Firsts t words ss []
@@ -234,14 +234,13 @@ pub back : {words : Words} {predicate : List ℕ} {width : ℕ} {cells : List �
 unfolding down
 back {words} {predicate} {width} {cells} a = by width (a .some) (a .terms) (name-lower (a .called))
   where
-    sound : Sound false cells 0 (0 + length (appear [] cells))
+    sound : Sound cells 0 (0 + length (appear [] cells))
     sound =
         record {
           cells = a .good;
           more = length (appear [] cells);
           total = refl;
           order = a .order;
-          once = λ e. absurd (let z : _≡_ {A = ℕ} 0 1 = cc in omega arith);
         }
 
     by : {w : List ℕ} (n : ℕ) → 1 ≤ n → Terms n cells → Lower w → Asks words w n (answerText words w n cells) (known cells)

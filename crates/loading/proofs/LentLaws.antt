@@ -37,8 +37,7 @@ of-terms (c ∷ xs) (suc owed) used vars p =
     of-when (leb 32 used) reason.Long p
     (of-when (eqb (v .kind) 3) reason.Cell p
     (of-when (eqb (v .kind) 0 && ltb vars (v .number)) reason.Fresh p
-    (of-when (eqb (v .kind) 0 && ltb (v .number) vars) reason.Twice p
-    (of-terms xs (v .args + owed) (suc used) (counted v vars) (suc p)))))
+    (of-terms xs (v .args + owed) (suc used) (counted v vars) (suc p))))
 
 of-before : (r : List ℕ) {rs : Read (List (List ℕ))} → OfTable rs → OfTable (before r rs)
 of-before r good = good

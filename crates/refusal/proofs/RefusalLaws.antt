@@ -1,15 +1,16 @@
 -- 01's numbers tell refusals apart: each reason and each input is found again by its number, and the number fits eight bits. A reason or
 -- an input more is a line in its list and a line in its law.
 use mathlib.Core.Path.{_≡_, refl, sym, _∙_, ap}
+use mathlib.Core.Logic.{_≢_}
 use mathlib.Core.Bool.{cond}
 use mathlib.Core.List.{List, [], _∷_}
 use Prim.Native.Nat.{ℕ, _≤_, _<_, _^_}
 use native.Mathlib.Omega.{arith}
 use lib.Dec.{eqb}
 use Rattle.refusal.specs.declared.Reason.{Reason}
-use Rattle.refusal.specs.declared.Reason.the-variants.{Length, Width, Count, Long, Short, Cell, Fresh, Twice}
+use Rattle.refusal.specs.declared.Reason.the-variants.{Length, Width, Count, Long, Short, Cell, Fresh}
 use Rattle.refusal.specs.declared.Reason.the-variants.{Extra, Size, Ends, Open, Edges, Label, Rows, Room}
-use Rattle.refusal.specs.declared.Reason.the-variants.{Bytes, Text, Other, Figure, Full, Last, Index, Same}
+use Rattle.refusal.specs.declared.Reason.the-variants.{Bytes, Text, Other, Figure, Full, Last, Index, Same, Big}
 use Rattle.refusal.specs.declared.Input.{Input}
 use Rattle.refusal.specs.declared.Input.the-variants.{Table, Plan, Goal, Lent}
 use Rattle.refusal.specs.declared.Input.the-variants as input
@@ -30,7 +31,6 @@ reasons =
     ∷ Short
     ∷ Cell
     ∷ Fresh
-    ∷ Twice
     ∷ Extra
     ∷ Size
     ∷ Ends
@@ -47,6 +47,7 @@ reasons =
     ∷ Last
     ∷ Index
     ∷ Same
+    ∷ Big
     ∷ []
 
 reasonAt : ℕ → Reason
@@ -61,7 +62,6 @@ reason-found Long = (refl, omega arith, omega arith)
 reason-found Short = (refl, omega arith, omega arith)
 reason-found Cell = (refl, omega arith, omega arith)
 reason-found Fresh = (refl, omega arith, omega arith)
-reason-found Twice = (refl, omega arith, omega arith)
 reason-found Extra = (refl, omega arith, omega arith)
 reason-found Size = (refl, omega arith, omega arith)
 reason-found Ends = (refl, omega arith, omega arith)
@@ -78,6 +78,7 @@ reason-found Full = (refl, omega arith, omega arith)
 reason-found Last = (refl, omega arith, omega arith)
 reason-found Index = (refl, omega arith, omega arith)
 reason-found Same = (refl, omega arith, omega arith)
+reason-found Big = (refl, omega arith, omega arith)
 
 inputs : List Input
 inputs = Table ∷ Plan ∷ Goal ∷ Lent ∷ input.Text ∷ input.Figure ∷ []
@@ -104,6 +105,11 @@ told-found f = rw (reason-found (f .reason) .0, input-found (f .input) .0)
 
 pub told-one : {f g : Refusal} → told f ≡ told g → f ≡ g
 told-one {f} {g} e = sym (told-found f) ∙ ap found e ∙ told-found g
+
+-- 02, W-209, "TWICE is never given again": 8 is no reason's number
+pub never-twice : (r : Reason) → numberOf r ≢ 8
+unfolding reasonAt reasons firstWith
+never-twice r e = let q : Length ≡ r = rw e at (reason-found r .0) in omega (arith, ap numberOf q)
 
 -- and their numbers fit eight bits
 pub number-small : (r : Reason) → (1 ≤ numberOf r) × (numberOf r < 2 ^ 8)

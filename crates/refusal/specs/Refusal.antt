@@ -1,15 +1,16 @@
 -- What is turned away, in 01's numbers (01, "What is turned away").
 use Prim.Native.Nat.{ℕ}
 use Rattle.refusal.specs.declared.Reason.{Reason}
-use Rattle.refusal.specs.declared.Reason.the-variants.{Length, Width, Count, Long, Short, Cell, Fresh, Twice}
+use Rattle.refusal.specs.declared.Reason.the-variants.{Length, Width, Count, Long, Short, Cell, Fresh}
 use Rattle.refusal.specs.declared.Reason.the-variants.{Extra, Size, Ends, Open, Edges, Label, Rows, Room}
-use Rattle.refusal.specs.declared.Reason.the-variants.{Bytes, Text, Other, Figure, Full, Last, Index, Same}
+use Rattle.refusal.specs.declared.Reason.the-variants.{Bytes, Text, Other, Figure, Full, Last, Index, Same, Big}
 use Rattle.refusal.specs.declared.Input.{Input}
 use Rattle.refusal.specs.declared.Input.the-variants.{Table, Plan, Goal, Lent}
 use Rattle.refusal.specs.declared.Input.the-variants as input
 use Rattle.refusal.specs.declared.Refusal.{Refusal}
 
--- 01, the column "no." of the table of refusals, and those of 02 after them: W-201's, W-204's, W-207's and W-208's
+-- 01, the column "no." of the table of refusals, and those of 02 after them: W-201's, W-204's, W-207's, W-208's and W-209's.
+-- W-209, "TWICE is never given again": 8 is no reason's number
 abbrev pub numberOf : Reason → ℕ
 numberOf Length = 1
 numberOf Width = 2
@@ -18,7 +19,6 @@ numberOf Long = 4
 numberOf Short = 5
 numberOf Cell = 6
 numberOf Fresh = 7
-numberOf Twice = 8
 numberOf Extra = 9
 numberOf Size = 10
 numberOf Ends = 11
@@ -35,6 +35,7 @@ numberOf Full = 21
 numberOf Last = 22
 numberOf Index = 23
 numberOf Same = 24
+numberOf Big = 25
 
 -- 01, "which input it concerns (table, plan, goal or lent room)", in that order, and then a text and a figure (02, W-201 and W-204)
 abbrev pub inputOf : Input → ℕ

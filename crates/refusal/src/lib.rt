@@ -4,7 +4,8 @@ ghost use Prim.Native.Nat.{_<_, _^_};
 ghost use Rattle.refusal.specs.Refusal.{numberOf, inputOf};
 
 // 01, "What is turned away", and 02, W-201, "BYTES; TEXT; OTHER", W-204, "FIGURE", W-207, "FULL .. LAST .. INDEX",
-// W-208, "SAME": the names, in the order of their numbers.
+// W-208, "SAME", W-209, "BIG": the names, in the order of their numbers. "TWICE is never given
+// again" (W-209): 8 is no reason's number.
 pub enum Reason {
     Length,
     Width,
@@ -13,7 +14,6 @@ pub enum Reason {
     Short,
     Cell,
     Fresh,
-    Twice,
     Extra,
     Size,
     Ends,
@@ -30,6 +30,7 @@ pub enum Reason {
     Last,
     Index,
     Same,
+    Big,
 }
 
 // 01, "which input it concerns (table, plan, goal or lent room)"; or a text (02, W-201), or a figure (W-204).
@@ -62,7 +63,6 @@ pub fn number_of(reason: Reason) -> usize
         Reason::Short => 5,
         Reason::Cell => 6,
         Reason::Fresh => 7,
-        Reason::Twice => 8,
         Reason::Extra => 9,
         Reason::Size => 10,
         Reason::Ends => 11,
@@ -79,6 +79,7 @@ pub fn number_of(reason: Reason) -> usize
         Reason::Last => 22,
         Reason::Index => 23,
         Reason::Same => 24,
+        Reason::Big => 25,
     }
 }
 

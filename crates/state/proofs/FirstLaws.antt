@@ -66,7 +66,7 @@ module _ {t ss : List ℕ} {w n : ℕ} (k : TableRows t ss w n) where
         let m : getD ms i 0 ≡ full (endAt ss n (length t) i - getD ss i 0) = rw e at (o .rows i (omega arith)) in
         let c = place-cells t i p in
         let e′ = rw (k .here) at (p .end) in
-        let s : endAt ss n (length t) i - getD ss i 0 ≤ 32 = omega (arith, accepted-row t (k .here) i (omega (arith, k .rows)) .head .short) in
+        let s : endAt ss n (length t) i - getD ss i 0 ≤ 32 = omega (arith, accepted-row t (k .here) i (omega (arith, k .rows)) .short) in
         rw (m, kept-full (endAt ss n (length t) i - getD ss i 0) (drop (getD ss i 0) t) s) (c ∙ rw (k .here))
 
     pub rows-open : rowsIn t ss ms 0 n ≡ T .rows

@@ -20,7 +20,7 @@ use Rattle.table.specs.Table.{Met, met, Table, table, termsFrom, rowsFro
 use Rattle.table.specs.Table.{doubled, appear, Head, Row, Apart, Distinct, IsTable, IsGoal}
 use Rattle.table.proofs.ReadLaws.{not-both, passed, read-one, first, inside, within-bounds}
 use Rattle.table.proofs.WholeLaws.{terms-pass, Whole, whole}
-use Rattle.table.proofs.HeadLaws.{passed-head, head-passes, row-passes, head-below, head-few}
+use Rattle.table.proofs.HeadLaws.{passed-head, head-passes, head-below, head-few}
 use Rattle.table.proofs.RowsLaws.{RowsAre, rows-are, are-rows, read-row}
 use Rattle.table.proofs.AllLaws.{all-members}
 use Rattle.table.proofs.ApartLaws.{tested-apart, apart-tested}
@@ -62,7 +62,7 @@ table-short t e = inside (length t) 2 2050 (passed (ltb (length t) 2 || ltb 2050
 few-cells : (w : ℕ) (rows : List (List ℕ)) → All (Row w) rows → length (flatten rows) ≤ 32 * length rows
 unfolding flatten
 few-cells w [] a = omega arith
-few-cells w (r ∷ rs) a = omega (arith, few-cells w rs (a .1), a .0 .head .short, length-append r (flatten rs))
+few-cells w (r ∷ rs) a = omega (arith, few-cells w rs (a .1), a .0 .short, length-append r (flatten rs))
 
 -- rows of 01, as many as a table may have and none doubled, written after their width and number, are accepted as these rows
 pub rows-accepted : (w : ℕ) (rows : List (List ℕ)) → (1 ≤ w) × (w ≤ 8) → (1 ≤ length rows) × (length rows ≤ 64)
@@ -111,7 +111,7 @@ pub goal-is : (w : ℕ) (g : List ℕ) → IsGoal w g → goalOf w g ≡ read (l
 unfolding goalOf
 goal-is w g i =
     let h : termsFrom false g w 0 0 0 ≡ read (met (0 + length g) (length (appear [] g))) =
-    rw append-nil at (terms-pass (i .head .terms) [] false 0 0 0 (λ r. not-both r refl)) ∙ rw (head-passes 0 (i .head)) in
+    rw append-nil at (terms-pass (i .head .terms) [] false 0 0 0 (λ r. not-both r refl)) ∙ rw (head-passes false 0 (i .head)) in
     rw (within-bounds (length g) 1 32 (i .some) (i .head .short), h, le-ltb (0 + length g) (length g) (omega arith))
 
 -- 01, "A goal is read with its table: width terms, 1 to 32 cells in all": a goal is accepted exactly when it is one
@@ -134,7 +134,7 @@ row-is : (w : ℕ) (rows : List (List ℕ)) (r : List ℕ) → Row w r → Apart
 unfolding rowOf
 row-is w rows r i a =
     let h : termsFrom true r w 0 0 0 ≡ read (met (0 + length r) (length (appear [] r))) =
-    rw append-nil at (terms-pass (i .head .terms) [] true 0 0 0 (λ _. omega (arith, i .head .short))) ∙ rw (row-passes 0 i) in
+    rw append-nil at (terms-pass (i .terms) [] true 0 0 0 (λ _. omega (arith, i .short))) ∙ rw (head-passes true 0 i) in
     let t = apart-tested (met (0 + length r) (length (appear [] r))) r rows refl a in
     rw (h, take-all (0 + length r) r (omega arith), t, le-ltb (0 + length r) (length r) (omega arith))
 

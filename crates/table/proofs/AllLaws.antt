@@ -1,6 +1,7 @@
 -- What holds of each element of a list holds of each of a changed list, of a part of it, and together with what else holds.
-use mathlib.Core.Path.{_≡_, refl, ap₂}
-use mathlib.Core.List.{List, [], _∷_, _++_, map, List·Memᴰ, List·Memᴰ·head, List·Memᴰ·tail}
+use mathlib.Core.Path.{_≡_, refl, sym, ap₂, subst}
+use mathlib.Core.Logic.{⊎-elim}
+use mathlib.Core.List.{List, [], _∷_, _++_, map, List·Memᴰ, List·Memᴰ·head, List·Memᴰ·tail, List·Memᴰ·cases-cons, List·Memᴰ·not-nil}
 use Prim.Native.Nat.{ℕ, zero, suc, _<_}
 use native.Mathlib.Omega.{arith}
 use lib.ListN.{length, getD, set, take, drop}
@@ -64,3 +65,7 @@ module _ {A : Type 0} where
   pub all-members : (P : A → Type 0) (xs : List A) → ((x : A) → List·Memᴰ x xs → P x) → All P xs
   all-members P [] h = tt
   all-members P (x ∷ xs) h = (h x (List·Memᴰ·head refl), all-members P xs (λ y m. h y (List·Memᴰ·tail m)))
+
+  pub all-member : (P : A → Type 0) {x : A} (xs : List A) → All P xs → List·Memᴰ x xs → P x
+  all-member P [] a m = absurd (List·Memᴰ·not-nil m)
+  all-member P (y ∷ xs) a m = ⊎-elim (λ p. subst P (sym p) (a .0)) (all-member P xs (a .1)) (List·Memᴰ·cases-cons m)

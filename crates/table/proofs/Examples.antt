@@ -71,8 +71,8 @@ of-row t r w = record { got = cells (rowIn (tableOf t) r); wanted = cells w }
 
 pub cases : List Case
 cases =
-    -- P9: TWICE at 3; FRESH at 2
-    of-table (2 ∷ 1 ∷ 0 ∷ 0 ∷ []) (no reason.Twice input.Table 3)
+    -- P9: a row that uses its variable twice, accepted since W-209; FRESH at 2
+    of-table (2 ∷ 1 ∷ 0 ∷ 0 ∷ []) (answered 2 1)
     ∷ of-table (1 ∷ 1 ∷ 1 ∷ []) (no reason.Fresh input.Table 2)
     -- P10: width 2, one row, the cells end after a: SHORT at 3
     ∷ of-table (2 ∷ 1 ∷ a ∷ []) (no reason.Short input.Table 3)
@@ -121,11 +121,11 @@ cases =
     ∷ of-table (1 ∷ 2 ∷ a ∷ a ∷ a ∷ []) (no reason.Same input.Table 3)
     ∷ of-table (2 ∷ 2 ∷ a ∷ b ∷ a ∷ bad ∷ []) (no reason.Cell input.Table 5)
     ∷ of-table (1 ∷ 2 ∷ a ∷ b ∷ a ∷ []) (no reason.Extra input.Table 4)
-    -- W-207, a row for a table: LONG and TWICE are a row's, EXTRA comes last, places are counted from its start
+    -- W-207, a row for a table: LONG is a row's, EXTRA comes last, places are counted from its start
     ∷ of-one three-wide 1 [] (no reason.Short input.Table 0)
     ∷ of-one three-wide 1 (a ∷ b ∷ []) (no reason.Short input.Table 2)
     ∷ of-one three-wide 1 (a ∷ b ∷ a ∷ bad ∷ []) (no reason.Extra input.Table 3)
-    ∷ of-one three-wide 1 (a ∷ v0 ∷ v0 ∷ []) (no reason.Twice input.Table 2)
+    ∷ of-one three-wide 1 (a ∷ v0 ∷ v0 ∷ []) (answered 3 1)
     ∷ of-one three-wide 1 (a ∷ v1 ∷ b ∷ []) (no reason.Fresh input.Table 1)
     ∷ of-one three-wide 1 (a ∷ bad ∷ b ∷ []) (no reason.Cell input.Table 1)
     ∷ of-one three-wide 1 (replicate 33 f1) (no reason.Long input.Table 32)

@@ -12,10 +12,9 @@ use Rattle.cell.specs.Cell.{isVar}
 use Rattle.term.specs.Terms.{Terms}
 use Rattle.term.proofs.Tests.{bool-cases, cond-case}
 use Rattle.refusal.specs.Read.{read}
-use Rattle.table.specs.Table.{count, appear, upFrom, Head, Row}
+use Rattle.table.specs.Table.{count, appear, upFrom, Head}
 use Rattle.table.specs.code.Looks.{cellsFrom}
-use Rattle.table.proofs.ReadLaws.{not-both}
-use Rattle.table.proofs.SoundLaws.{Sound, down, cells-sound, sound-cells}
+use Rattle.table.proofs.SoundLaws.{down, cells-sound, sound-cells}
 
 -- so many numbers are as many
 pub up-length : (n a : ℕ) → length (upFrom n a) ≡ a
@@ -24,37 +23,18 @@ up-length n zero = refl
 up-length n (suc a) = ap suc (up-length (suc n) a)
 
 -- cells that pass the tests of a row or goal from its start on are a head, and the other way round
-module _ {w : ℕ} {ys : List ℕ} (t : Terms w ys) (l : length ys ≤ 32) where
-  sound-head : {row : Bool} {v : ℕ} → Sound row ys 0 v → Head w ys × (v ≡ length (appear [] ys))
-  unfolding down
-  sound-head s =
-      let n : length (appear [] ys) ≡ s .more = ap length (s .order) ∙ up-length 0 (s .more) in
-      (record { terms = t; short = l; cells = s .cells; order = rw n (s .order) }, omega (arith, s .total))
+pub passed-head : {w : ℕ} {ys : List ℕ} → Terms w ys → length ys ≤ 32 → (row : Bool) (p : ℕ) {v : ℕ} → cellsFrom row ys 0 p ≡ read v
+    → Head w ys × (v ≡ length (appear [] ys))
+unfolding down
+passed-head {ys = ys} t l row p e =
+    let s = cells-sound row ys 0 p e in
+    let n : length (appear [] ys) ≡ s .more = ap length (s .order) ∙ up-length 0 (s .more) in
+    (record { terms = t; short = l; cells = s .cells; order = rw n (s .order) }, omega (arith, s .total))
 
-  pub passed-head : (row : Bool) (p : ℕ) {v : ℕ} → cellsFrom row ys 0 p ≡ read v → Head w ys × (v ≡ length (appear [] ys))
-  passed-head row p e = sound-head (cells-sound row ys 0 p e)
-
-  pub passed-row : (p : ℕ) {v : ℕ} → cellsFrom true ys 0 p ≡ read v → Row w ys
-  unfolding down count
-  passed-row p e =
-      let s = cells-sound true ys 0 p e in
-      record { head = sound-head s .0; once = λ x i. omega (arith, s .once refl x i) }
-
-head-sound : {w : ℕ} {ys : List ℕ} (row : Bool) → Head w ys → (row ≡ true → (x : ℕ) → isVar x ≡ true → count x ys ≤ 1) → Sound row ys 0 (length (appear [] ys))
-unfolding down count
-head-sound {w} {ys} row h o = record {
-  cells = h .cells;
-  more = length (appear [] ys);
-  total = omega arith;
-  order = h .order;
-  once = λ r x i. omega (arith, o r x i);
-}
-
-pub head-passes : {w : ℕ} {ys : List ℕ} (p : ℕ) → Head w ys → cellsFrom false ys 0 p ≡ read (length (appear [] ys))
-head-passes {w} {ys} p h = sound-cells false ys 0 p (head-sound false h (λ r. not-both r refl))
-
-pub row-passes : {w : ℕ} {ys : List ℕ} (p : ℕ) → Row w ys → cellsFrom true ys 0 p ≡ read (length (appear [] ys))
-row-passes {w} {ys} p r = sound-cells true ys 0 p (head-sound true (r .head) (λ _. r .once))
+pub head-passes : {w : ℕ} {ys : List ℕ} (row : Bool) (p : ℕ) → Head w ys → cellsFrom row ys 0 p ≡ read (length (appear [] ys))
+unfolding down
+head-passes {ys = ys} row p h =
+    sound-cells row ys 0 p (record { cells = h .cells; more = length (appear [] ys); total = omega arith; order = h .order })
 
 -- Every variable of a row or goal is among those that appear, so it is numbered below their number, and that is at most the number of cells.
 pub appear-short : (ms ys : List ℕ) → length (appear ms ys) ≤ length ys

@@ -35,11 +35,11 @@ module _ (row : Bool) (c vars p : ℕ) where
 
   pub a-name : {a n : ℕ} → valuesAt c ≡ values 1 a n → cellFrom row c vars p ≡ read vars
   unfolding cellFrom
-  a-name e = rw (e, and-false row)
+  a-name e = rw e
 
   pub a-number : {n : ℕ} {z : ℤ} → valuesAt c ≡ numberValues n z → cellFrom row c vars p ≡ read vars
   unfolding cellFrom
-  a-number e = rw (e, and-false row)
+  a-number e = rw e
 
   module _ {n : ℕ} (e : valuesAt c ≡ values 0 0 n) where
     pub fresh : vars < n → cellFrom row c vars p ≡ refuse (bad row reason.Fresh p)
@@ -48,15 +48,11 @@ module _ (row : Bool) (c vars p : ℕ) where
 
     pub new : n ≡ vars → cellFrom row c vars p ≡ read (suc vars)
     unfolding cellFrom
-    new h = rw (e, h, le-ltb vars vars (omega arith), and-false row, eqb-same vars)
+    new h = rw (e, h, le-ltb vars vars (omega arith), eqb-same vars)
 
-    pub twice : n < vars → row ≡ true → cellFrom row c vars p ≡ refuse (bad row reason.Twice p)
+    pub again : n < vars → cellFrom row c vars p ≡ read vars
     unfolding cellFrom
-    twice h r = rw (e, le-ltb vars n (omega arith), lt-ltb n vars h, r)
-
-    pub again : n < vars → row ≡ false → cellFrom row c vars p ≡ read vars
-    unfolding cellFrom
-    again h r = rw (e, le-ltb vars n (omega arith), r, ne-eqb n vars (λ q. omega arith))
+    again h = rw (e, le-ltb vars n (omega arith), ne-eqb n vars (λ q. omega arith))
 
 -- The cells of a part, from left to right.
 module _ (row : Bool) (xs : List ℕ) (i to vars : ℕ) (h : i < to) (l : to ≤ length xs) where

@@ -21,18 +21,15 @@ module _ {A B : Type 0} where
   then-assoc (read x) f g = refl
   then-assoc (refuse r) f g = refl
 
-  -- three tests, and then a reading
-  three-then : (a b c : Bool) (r s t : Refused) (x : A) (f : A → Read B)
-      → when a r (when b s (when c t (f x))) ≡ andThen (when a r (when b s (when c t (read x)))) f
-  three-then true b c r s t x f = refl
-  three-then false true c r s t x f = refl
-  three-then false false true r s t x f = refl
-  three-then false false false r s t x f = refl
+  -- two tests, and then a reading
+  two-then : (a b : Bool) (r s : Refused) (x : A) (f : A → Read B) → when a r (when b s (f x)) ≡ andThen (when a r (when b s (read x))) f
+  two-then true b r s x f = refl
+  two-then false true r s x f = refl
+  two-then false false r s x f = refl
 
   pub tests-then : (row : Bool) (v : Values) (vars p : ℕ) (x : A) (f : A → Read B) → cellTests row v vars p (f x) ≡ andThen (cellTests row v vars p (read x)) f
   tests-then row v vars p x f =
-      three-then (eqb (v .kind) 3) (eqb (v .kind) 0 && ltb vars (v .number)) (row && (eqb (v .kind) 0 && ltb (v .number) vars))
-      (bad row reason.Cell p) (bad row reason.Fresh p) (bad row reason.Twice p) x f
+      two-then (eqb (v .kind) 3) (eqb (v .kind) 0 && ltb vars (v .number)) (bad row reason.Cell p) (bad row reason.Fresh p) x f
 
 -- a refusal is not a value, and a test has one answer
 pub apart : {A B : Type 0} {x : A} {f : Refused} → read x ≡ refuse f → B
@@ -61,8 +58,7 @@ passed-other false f r n e = (refl, e)
 pub passed-tests : {A : Type 0} (row : Bool) (v : Values) (vars p : ℕ) (r : Read A) {x : A} → cellTests row v vars p r ≡ read x → r ≡ read x
 passed-tests row v vars p r e =
     let a = passed (eqb (v .kind) 3) _ _ e in
-    let b = passed (eqb (v .kind) 0 && ltb vars (v .number)) _ _ (a .1) in
-    passed (row && (eqb (v .kind) 0 && ltb (v .number) vars)) _ _ (b .1) .1
+    passed (eqb (v .kind) 0 && ltb vars (v .number)) _ _ (a .1) .1
 
 -- and what is read after another reading has that one first
 pub first : {A B : Type 0} (r : Read A) (f : A → Read B) {y : B} → andThen r f ≡ read y → (x : A) × (r ≡ read x) × (f x ≡ read y)

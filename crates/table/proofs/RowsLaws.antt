@@ -20,7 +20,7 @@ use Rattle.table.specs.declared.TableRead.{TableRead}
 use Rattle.table.specs.All.{All}
 use Rattle.table.proofs.ReadLaws.{apart, passed, first}
 use Rattle.table.proofs.WholeLaws.{terms-pass, whole, whole-part, whole-within}
-use Rattle.table.proofs.HeadLaws.{passed-head, passed-row, row-passes}
+use Rattle.table.proofs.HeadLaws.{passed-head, head-passes}
 use Rattle.table.proofs.AllLaws.{all-each, all-both}
 use Rattle.table.proofs.ApartLaws.{tested-apart, apart-tested}
 
@@ -72,7 +72,7 @@ pub read-row : (w : ℕ) (xs : List ℕ) (p : ℕ) {m : Met} → termsFrom true 
 read-row w xs p e =
     let o = whole true xs w p e in
     let l : length (o .front .cells) ≤ 32 = omega (arith, o .front .room refl) in
-    rw (whole-part o .0) (passed-row (o .front .terms) l p (o .tested), passed-head (o .front .terms) l true p (o .tested) .1)
+    rw (whole-part o .0) (passed-head (o .front .terms) l true p (o .tested))
 
 before-read : (r : List ℕ) (R : Read (List (List ℕ))) {rows : List (List ℕ)} → before r R ≡ read rows → (rs : List (List ℕ)) × (R ≡ read rs) × (rows ≡ r ∷ rs)
 before-read r (read rs) e = (rs, refl, cc)
@@ -114,7 +114,7 @@ rows-are w (suc n) seen xs p {rows} e =
 pub reads-row : {w : ℕ} {r : List ℕ} → Row w r → (rest : List ℕ) (p : ℕ)
     → termsFrom true (r ++ rest) w 0 0 p ≡ read (met (p + length r) (length (appear [] r)))
 reads-row i rest p =
-    terms-pass (i .head .terms) rest true 0 0 p (λ _. omega (arith, i .head .short)) ∙ rw (row-passes p i)
+    terms-pass (i .terms) rest true 0 0 p (λ _. omega (arith, i .short)) ∙ rw (head-passes true p i)
 
 -- rows after a row are apart from it and from those before it
 pub later-apart : (seen : List (List ℕ)) (r : List ℕ) (rs : List (List ℕ)) → All (Apart seen) rs

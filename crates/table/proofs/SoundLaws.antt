@@ -1,4 +1,4 @@
--- Cells pass the tests exactly when they are cells of 01 whose variables are numbered 0, 1, 2 in order of first appearance, in a row each once.
+-- Cells pass the tests exactly when they are cells of 01 whose variables are numbered 0, 1, 2 in order of first appearance.
 use mathlib.Core.Path.{_≡_, refl, sym, _∙_, ap}
 use mathlib.Core.Logic.{_≢_, ⊎-elim, by-cases}
 use mathlib.Core.Bool.{Bool, true, false}
@@ -12,22 +12,21 @@ use Rattle.cell.specs.Cell.{Cell, Values, values, valuesAt, isVar}
 use Rattle.cell.specs.Cell as cell-specs
 use Rattle.cell.proofs.CellLaws.{Reading, a-variable, no-cell, reading, cell-accepted, isVar-kind}
 use Rattle.cell.proofs.CellLaws as cell-laws
-use Rattle.term.proofs.Tests.{bool-cases, eqb-same}
+use Rattle.term.proofs.Tests.{eqb-same}
 use Rattle.refusal.specs.Refusal.{Refused}
 use Rattle.refusal.specs.Read.{Read, read, refuse, andThen}
 use Rattle.table.specs.Table.{count, appear, upFrom}
 use Rattle.table.specs.code.Looks.{cellFrom, cellsFrom}
-use Rattle.table.proofs.ReadLaws.{not-both, first}
+use Rattle.table.proofs.ReadLaws.{first}
 use Rattle.table.proofs.LooksLaws as looks
 
 -- every way one cell can come out of the tests
-pub data Seen (row : Bool) (c vars : ℕ) : Read ℕ → Type 0 where
-  symbol : Cell c → isVar c ≡ false → Seen row c vars (read vars)
-  new : Cell c → isVar c ≡ true → c ≡ vars → Seen row c vars (read (suc vars))
-  old : Cell c → isVar c ≡ true → c < vars → row ≡ false → Seen row c vars (read vars)
-  bad : {f : Refused} → ¬ Cell c → Seen row c vars (refuse f)
-  fresh : {f : Refused} → isVar c ≡ true → vars < c → Seen row c vars (refuse f)
-  twice : {f : Refused} → isVar c ≡ true → c < vars → row ≡ true → Seen row c vars (refuse f)
+pub data Seen (c vars : ℕ) : Read ℕ → Type 0 where
+  symbol : Cell c → isVar c ≡ false → Seen c vars (read vars)
+  new : Cell c → isVar c ≡ true → c ≡ vars → Seen c vars (read (suc vars))
+  old : Cell c → isVar c ≡ true → c < vars → Seen c vars (read vars)
+  bad : {f : Refused} → ¬ Cell c → Seen c vars (refuse f)
+  fresh : {f : Refused} → isVar c ≡ true → vars < c → Seen c vars (refuse f)
 
 module _ (row : Bool) (c vars p : ℕ) where
   -- an allowed cell, by its kind
@@ -36,25 +35,22 @@ module _ (row : Bool) (c vars p : ℕ) where
       let q : valuesAt c .kind ≢ 3 = λ z. omega (arith, ap (λ (v : Values). v .kind) e) in
       (cell-accepted c .1 q, rw e at (isVar-kind c q))
 
-  seen-variable : valuesAt c ≡ values 0 0 c → Seen row c vars (cellFrom row c vars p)
+  seen-variable : valuesAt c ≡ values 0 0 c → Seen c vars (cellFrom row c vars p)
   seen-variable e =
       let a = allowed e (omega arith) in
       by-cases (decLt vars c)
       (λ (l : vars < c). rw (looks.fresh row c vars p e l) (fresh (a .1) l))
       (λ l. by-cases (decLt c vars)
-      (λ (m : c < vars). ⊎-elim
-      (λ r. rw (looks.twice row c vars p e m r) (twice (a .1) m r))
-      (λ r. rw (looks.again row c vars p e m r) (old (a .0) (a .1) m r))
-      (bool-cases row))
+      (λ (m : c < vars). rw (looks.again row c vars p e m) (old (a .0) (a .1) m))
       (λ m. let q : c ≡ vars = omega arith in rw (looks.new row c vars p e q) (new (a .0) (a .1) q)))
 
-  seen-as : {v : Values} → Reading c v → valuesAt c ≡ v → Seen row c vars (cellFrom row c vars p)
+  seen-as : {v : Values} → Reading c v → valuesAt c ≡ v → Seen c vars (cellFrom row c vars p)
   seen-as (a-variable k m) e = let n : cell-specs.numberOf c ≡ c = omega arith in seen-variable (rw n at e)
   seen-as (cell-laws.a-name k m) e = let a = allowed e (omega arith) in rw (looks.a-name row c vars p e) (symbol (a .0) (a .1))
   seen-as (cell-laws.a-number k m) e = let a = allowed e (omega arith) in rw (looks.a-number row c vars p e) (symbol (a .0) (a .1))
   seen-as (no-cell n) e = rw (looks.not-cell row c vars p e) (bad n)
 
-  pub seen : Seen row c vars (cellFrom row c vars p)
+  pub seen : Seen c vars (cellFrom row c vars p)
   seen = seen-as (reading c) refl
 
 -- the variables met so far, the last first
@@ -75,9 +71,6 @@ met-old c (suc n) h =
     (λ (l : c < n). rw (ne-eqb c n (λ e. omega arith), met-old c n l))
     (λ l. let e : c ≡ n = omega arith in rw (e, eqb-same n, met-new n n (omega arith)))
 
-met-once : (c n : ℕ) → count c (down n) ≤ 1
-met-once c n = by-cases (decLt c n) (λ (l : c < n). omega (arith, met-old c n l)) (λ l. omega (arith, met-new c n (omega arith)))
-
 -- the first appearances in a list with one more cell in front
 module _ (c : ℕ) (ys : List ℕ) where
   appear-symbol : (ms : List ℕ) → isVar c ≡ false → appear ms (c ∷ ys) ≡ appear ms ys
@@ -96,26 +89,12 @@ module _ (c : ℕ) (ys : List ℕ) where
   unfolding appear
   appear-old n i h = rw (i, met-old c n h)
 
-  -- and how often a variable stands there
-  count-symbol : (x : ℕ) → isVar c ≡ false → isVar x ≡ true → count x (c ∷ ys) ≡ count x ys
-  unfolding count
-  count-symbol x i j = rw (ne-eqb x c (λ e. not-both j (ap isVar e ∙ i))) (omega arith)
-
-  count-met : (x n : ℕ) → c ≡ n → count x (down n) + count x (c ∷ ys) ≡ count x (down (suc n)) + count x ys
-  unfolding count down
-  count-met x n e = rw e (omega arith)
-
-  count-here : count c (c ∷ ys) ≡ suc (count c ys)
-  unfolding count
-  count-here = rw (eqb-same c) (omega arith)
-
 -- what the tests ask of the cells that come after so many variables, of which there are v in the end
-pub record Sound (row : Bool) (ys : List ℕ) (vars v : ℕ) : Type 0 where
+pub record Sound (ys : List ℕ) (vars v : ℕ) : Type 0 where
   pub cells : (c : ℕ) → List·Memᴰ c ys → Cell c
   pub more : ℕ
   pub total : v ≡ vars + more
   pub order : appear (down vars) ys ≡ upFrom vars more
-  pub once : row ≡ true → (x : ℕ) → isVar x ≡ true → count x (down vars) + count x ys ≤ 1
 
 -- the numbers from n on begin with n
 up-first : (n a c : ℕ) {l : List ℕ} → c ∷ l ≡ upFrom n a → (m : ℕ) × (a ≡ suc m) × (c ≡ n) × (l ≡ upFrom (suc n) m)
@@ -131,39 +110,35 @@ up-none n (suc a) e = absurd (let z : _≡_ {A = ℕ} 0 1 = cc in omega arith)
 good-cells : {c : ℕ} {ys : List ℕ} → Cell c → ((d : ℕ) → List·Memᴰ d ys → Cell d) → (d : ℕ) → List·Memᴰ d (c ∷ ys) → Cell d
 good-cells l h d m = ⊎-elim (λ e. rw e l) (h d) (List·Memᴰ·cases-cons m)
 
-module _ {row : Bool} {c : ℕ} {ys : List ℕ} {vars : ℕ} where
+module _ {c : ℕ} {ys : List ℕ} {vars : ℕ} where
   -- a cell that passes, put in front of sound cells, and taken off
-  sound-put : {v u : ℕ} → Seen row c vars (read u) → Sound row ys u v → Sound row (c ∷ ys) vars v
+  sound-put : {v u : ℕ} → Seen c vars (read u) → Sound ys u v → Sound (c ∷ ys) vars v
   unfolding upFrom
   sound-put (symbol l i) s = record {
     cells = good-cells l (s .cells);
     more = s .more;
     total = s .total;
     order = appear-symbol c ys (down vars) i ∙ s .order;
-    once = λ r x j. rw (count-symbol c ys x i j) (s .once r x j);
   }
   sound-put (new l i e) s = record {
     cells = good-cells l (s .cells);
     more = suc (s .more);
     total = omega (arith, s .total);
     order = appear-new c ys vars i e ∙ ap (λ (q : List ℕ). vars ∷ q) (s .order);
-    once = λ r x j. omega (arith, count-met c ys x vars e, s .once r x j);
   }
-  sound-put (old l i h r) s = record {
+  sound-put (old l i h) s = record {
     cells = good-cells l (s .cells);
     more = s .more;
     total = s .total;
     order = appear-old c ys vars i h ∙ s .order;
-    once = λ q. not-both q r;
   }
 
-  sound-take : {v u : ℕ} → Seen row c vars (read u) → Sound row (c ∷ ys) vars v → Sound row ys u v
+  sound-take : {v u : ℕ} → Seen c vars (read u) → Sound (c ∷ ys) vars v → Sound ys u v
   sound-take (symbol l i) s = record {
     cells = λ d m. s .cells d (List·Memᴰ·tail m);
     more = s .more;
     total = s .total;
     order = sym (appear-symbol c ys (down vars) i) ∙ s .order;
-    once = λ r x j. rw (count-symbol c ys x i j) at (s .once r x j);
   }
   sound-take (new l i e) s =
       let f = up-first vars (s .more) vars (sym (appear-new c ys vars i e) ∙ s .order) in
@@ -172,41 +147,37 @@ module _ {row : Bool} {c : ℕ} {ys : List ℕ} {vars : ℕ} where
         more = f .0;
         total = omega (arith, s .total, f .1);
         order = f .3;
-        once = λ r x j. omega (arith, count-met c ys x vars e, s .once r x j);
       }
-  sound-take (old l i h r) s = record {
+  sound-take (old l i h) s = record {
     cells = λ d m. s .cells d (List·Memᴰ·tail m);
     more = s .more;
     total = s .total;
     order = sym (appear-old c ys vars i h) ∙ s .order;
-    once = λ q. not-both q r;
   }
 
   -- no cell that is turned away stands in front of sound cells
-  sound-not : {v : ℕ} {f : Refused} → Seen row c vars (refuse f) → Sound row (c ∷ ys) vars v → ⊥
+  sound-not : {v : ℕ} {f : Refused} → Seen c vars (refuse f) → Sound (c ∷ ys) vars v → ⊥
   sound-not (bad n) s = n (s .cells c (List·Memᴰ·head refl))
   sound-not (fresh i h) s = omega (arith, up-first vars (s .more) c (sym (appear-first c ys vars i (omega arith)) ∙ s .order) .2)
-  sound-not (twice i h r) s = omega (arith, s .once r c i, met-old c vars h, count-here c ys)
 
-pub cells-sound : (row : Bool) (ys : List ℕ) (vars p : ℕ) {v : ℕ} → cellsFrom row ys vars p ≡ read v → Sound row ys vars v
-unfolding cellsFrom appear upFrom count
+pub cells-sound : (row : Bool) (ys : List ℕ) (vars p : ℕ) {v : ℕ} → cellsFrom row ys vars p ≡ read v → Sound ys vars v
+unfolding cellsFrom appear upFrom
 cells-sound row [] vars p {v} e = record {
   cells = λ c m. absurd (List·Memᴰ·not-nil m);
   more = 0;
   total = let q : vars ≡ v = cc in omega arith;
   order = refl;
-  once = λ r x j. omega (arith, met-once x vars);
 }
 cells-sound row (c ∷ ys) vars p e =
     let f = first (cellFrom row c vars p) (λ (u : ℕ). cellsFrom row ys u (suc p)) e in
     sound-put (rw (f .1) at (seen row c vars p)) (cells-sound row ys (f .0) (suc p) (f .2))
 
-pub sound-cells : (row : Bool) (ys : List ℕ) (vars p : ℕ) {v : ℕ} → Sound row ys vars v → cellsFrom row ys vars p ≡ read v
+pub sound-cells : (row : Bool) (ys : List ℕ) (vars p : ℕ) {v : ℕ} → Sound ys vars v → cellsFrom row ys vars p ≡ read v
 unfolding cellsFrom appear
 sound-cells row [] vars p {v} s = let q : v ≡ vars = omega (arith, s .total, up-none vars (s .more) (s .order)) in rw q
 sound-cells row (c ∷ ys) vars p {v} s = go (cellFrom row c vars p) (seen row c vars p) (λ u k. sound-cells row ys u (suc p) (sound-take k s))
   where
-    go : (r : Read ℕ) → Seen row c vars r → ((u : ℕ) → Seen row c vars (read u) → cellsFrom row ys u (suc p) ≡ read v)
+    go : (r : Read ℕ) → Seen c vars r → ((u : ℕ) → Seen c vars (read u) → cellsFrom row ys u (suc p) ≡ read v)
         → andThen r (λ (u : ℕ). cellsFrom row ys u (suc p)) ≡ read v
     go (read u) k h = h u k
     go (refuse f) k h = absurd (sound-not k s)

@@ -1,5 +1,5 @@
 -- Tables and goals (01, "Tables and goals"): how they are read, in 01's order of tests ("1, 2, 3 come first; then cells are read left to
--- right, and at each place 4, 5, 6, 7, 8 in that order; 9 last"), and what they are.
+-- right, and at each place 4, 5, 6, 7, 8 in that order; 9 last"; 8 is given no more by 02, W-209), and what they are.
 use Prim.Native.Nat.{ℕ, zero, suc, _+_, _-_, _≤_, _<_}
 use mathlib.Core.Path.{_≡_}
 use mathlib.Core.Bool.{Bool, true, false, cond, _&&_, _||_}
@@ -24,8 +24,7 @@ use Rattle.refusal.specs.declared.Reason.the-variants as reason
 use Rattle.refusal.specs.declared.Input.the-variants as input
 use Rattle.refusal.specs.Read.{Read, read, refuse, when, andThen}
 
--- The terms of a row or of a goal. LONG and TWICE are given in a row only. A refusal of a row concerns the table, and one of a goal the
--- goal
+-- The terms of a row or of a goal. LONG is given in a row only. A refusal of a row concerns the table, and one of a goal the goal
 abbrev pub bad : Bool → Reason → ℕ → Refused
 bad row r p = refused r (cond row input.Table input.Goal) p
 
@@ -41,13 +40,13 @@ met p v = record { next = p; vars = v }
 abbrev pub counted : Values → ℕ → ℕ
 counted cell vars = cond (eqb (cell .kind) 0 && eqb (cell .number) vars) (suc vars) vars
 
--- one cell: CELL, FRESH, and in a row TWICE
+-- one cell: CELL, FRESH. A variable that was met before is none of them, in a row either: 02, W-209, "need a variable used twice, and rows
+-- may now have that"
 abbrev pub cellTests : {A : Type 0} → Bool → Values → ℕ → ℕ → Read A → Read A
 cellTests row cell vars place rest =
     when (eqb (cell .kind) 3) (bad row reason.Cell place)
     (when (eqb (cell .kind) 0 && ltb vars (cell .number)) (bad row reason.Fresh place)
-    (when (row && (eqb (cell .kind) 0 && ltb (cell .number) vars)) (bad row reason.Twice place)
-    rest))
+    rest)
 
 -- 01, "cells are read left to right, and at each place 4, 5, 6, 7, 8 in that order": of the cells left, the terms owed, the cells used so
 -- far, the variables met and the next cell's place
@@ -197,10 +196,9 @@ pub record Head (width : ℕ) (head : List ℕ) : Type 0 where
   pub cells : (c : ℕ) → List·Memᴰ c head → Cell c
   pub order : appear [] head ≡ upFrom 0 (length (appear [] head))
 
--- "A row uses each of its variables once"
-pub record Row (width : ℕ) (row : List ℕ) : Type 0 where
-  pub head : Head width row
-  pub once : (v : ℕ) → isVar v ≡ true → count v row ≤ 1
+-- a row is no more than that, since it may use a variable as often as it likes (02, W-209)
+abbrev pub Row : ℕ → List ℕ → Type 0
+Row = Head
 
 -- a row without variables
 abbrev pub Ground : List ℕ → Type 0

@@ -47,7 +47,7 @@ pub fn refusal(row: bool, reason: Reason, place: usize) -> Refusal
     }
 }
 
-// One cell, with so many variables met before it: CELL, FRESH, and in a row TWICE. A name has 0 to 4 arguments.
+// One cell, with so many variables met before it: CELL, FRESH. A name has 0 to 4 arguments.
 fn test_cell(c: u32, vars: usize, place: usize, row: bool) -> Tested
     requires { ⌜ vars ≤ 32 ⌝ }
     ensures { λ r. ⌜ testedTold r ≡ cellFrom row c vars place ⌝ }
@@ -60,9 +60,6 @@ fn test_cell(c: u32, vars: usize, place: usize, row: bool) -> Tested
             }
             if n == vars {
                 return Tested::Good(vars + 1);
-            }
-            if row {
-                return Tested::Bad(refusal(row, Reason::Twice, place));
             }
             Tested::Good(vars)
         }

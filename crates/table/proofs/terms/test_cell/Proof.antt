@@ -4,7 +4,7 @@ use native.Mathlib.Numerals.{add-one}
 use Rattle.cell.specs.Cell.{Values, values, valuesAt, valuesOf}
 use Rattle.cell.proofs.CellLaws.{values-small}
 use Rattle.refusal.specs.Read.{read, refuse}
-use Rattle.table.proofs.LooksLaws.{not-cell, a-name, a-number, fresh, new, twice, again}
+use Rattle.table.proofs.LooksLaws.{not-cell, a-name, a-number, fresh, new, again}
 use borrow.Author.Needs.{needs}
 use Rattle.table.proofs.terms.test_cell.Statement.{statement}
 use Rattle.table.proofs.terms.test_cell.Tie as tie
@@ -38,17 +38,11 @@ add-t13 c = search needs
 returns-2 : tie.Need-returns-2
 returns-2 c = ap read (add-one _) ∙ sym (new _ _ _ _ (variable (c .before .before .before)) (omega arith))
 
-refusal-requires-2 : tie.Need-refusal-requires-2
-refusal-requires-2 c κs = search needs
-
-returns-3 : tie.Need-returns-3
-returns-3 c = ap refuse (c .refusal2 .ensures) ∙ sym (twice _ _ _ _ (variable (c .before .before .before .before .before)) (omega arith) (c .before .if3 .taken))
-
 enum-known-args : tie.Need-enum-known-args
 enum-known-args c = search needs
 
-refusal-requires-3 : tie.Need-refusal-requires-3
-refusal-requires-3 c κs = search needs
+refusal-requires-2 : tie.Need-refusal-requires-2
+refusal-requires-2 c κs = search needs
 
 enum-told : tie.Need-enum-told
 enum-told c = search needs
@@ -56,26 +50,26 @@ enum-told c = search needs
 enum-told-2 : tie.Need-enum-told-2
 enum-told-2 c = search needs
 
-refusal-requires-4 : tie.Need-refusal-requires-4
-refusal-requires-4 c κs = search needs
+refusal-requires-3 : tie.Need-refusal-requires-3
+refusal-requires-3 c κs = search needs
+
+returns-3 : tie.Need-returns-3
+returns-3 c = sym (again _ _ _ _ (variable (c .before .before .before)) (omega arith))
 
 returns-4 : tie.Need-returns-4
-returns-4 c = sym (again _ _ _ _ (variable (c .before .before .before .before)) (omega arith) (c .if3 .left))
+returns-4 c = sym (a-name _ _ _ _ (name (c .before .before)))
 
 returns-5 : tie.Need-returns-5
-returns-5 c = sym (a-name _ _ _ _ (name (c .before .before)))
-
-returns-6 : tie.Need-returns-6
-returns-6 c =
+returns-5 c =
     let n = c .before .before .before in
     let few = ap (λ (v : Values). v .args) (name n) in
     absurd (omega (arith, values-small (n .before .before .before .args .c) .0))
 
-returns-7 : tie.Need-returns-7
-returns-7 c = sym (a-number _ _ _ _ (sym (c .before .before .shape-of .ensures) ∙ ap valuesOf (c .enum-told .given .1)))
+returns-6 : tie.Need-returns-6
+returns-6 c = sym (a-number _ _ _ _ (sym (c .before .before .shape-of .ensures) ∙ ap valuesOf (c .enum-told .given .1)))
 
-returns-8 : tie.Need-returns-8
-returns-8 c = ap refuse (c .refusal4 .ensures) ∙ sym (not-cell _ _ _ _ (sym (c .before .before .before .shape-of .ensures) ∙ ap valuesOf (c .before .enum-told2 .given .1)))
+returns-7 : tie.Need-returns-7
+returns-7 c = ap refuse (c .refusal3 .ensures) ∙ sym (not-cell _ _ _ _ (sym (c .before .before .before .shape-of .ensures) ∙ ap valuesOf (c .before .enum-told2 .given .1)))
 
 pub test-cell-spec : {M : Type 1} → statement M
 test-cell-spec =
@@ -88,15 +82,13 @@ test-cell-spec =
     returns
     add-t13
     returns-2
-    refusal-requires-2
-    returns-3
     enum-known-args
-    refusal-requires-3
+    refusal-requires-2
     enum-told
     enum-told-2
-    refusal-requires-4
+    refusal-requires-3
+    returns-3
     returns-4
     returns-5
     returns-6
-    returns-7
-    returns-8)
+    returns-7)
