@@ -1,8 +1,8 @@
 -- A row and a goal have something in common exactly when they unify, their variables being moved apart.
-use Prim.Native.Nat.{ℕ, suc, _+_, _-_, _*_, _^_, _≤_, _<_}
+use Prim.Native.Nat.{ℕ, suc, _+_, _-_, _^_, _≤_, _<_}
 use mathlib.Core.Path.{_≡_, refl, sym, _∙_, ap}
 use mathlib.Core.Logic.{⊎-elim, by-cases}
-use mathlib.Core.Bool.{Bool, true, false, cond, _&&_, true≢false}
+use mathlib.Core.Bool.{true, false, cond, _&&_, true≢false}
 use mathlib.Core.List.{List, [], _∷_, _++_, List·Memᴰ, List·Memᴰ·head, List·Memᴰ·tail}
 use native.Mathlib.Omega.{arith}
 use native.Mathlib.Decide.{decLt}
@@ -14,7 +14,7 @@ use Rattle.term.specs.Terms.{Terms, more}
 use Rattle.term.specs.Unify.{inst, Subst, renamed, Matches}
 use Rattle.term.proofs.Tests.{bool-cases, cond-case}
 use Rattle.term.proofs.Inst.{inst-agree, Terms-var}
-use Rattle.instance.specs.Instance.{Instance, Common}
+use Rattle.instance.specs.Instance.{Common}
 
 -- variables numbered below m
 pub record Below (m : ℕ) (xs : List ℕ) : Type 0 where

@@ -1,24 +1,25 @@
 -- Unification builds the most general common instance, for any two lists of terms, a row with a variable used twice too (02, W-209). It is the decision procedure of crate term
 -- (proofs/Decide), step by step, with a third list S carried along: what S becomes is the most general instance of S under which the two lists are equal.
-use Prim.Native.Nat.{ℕ, zero, suc, _+_, _^_, _≤_, _<_}
+use Prim.Native.Nat.{ℕ, zero, suc, _+_, _^_, _<_}
 use mathlib.Core.Path.{_≡_, refl, sym, _∙_, ap, ap₂, subst}
 use mathlib.Core.Logic.{_≢_, _↔_, ⊎-elim}
 use mathlib.Core.Bool.{Bool, true, false, cond}
-use mathlib.Core.List.{List, [], _∷_, _++_, append-cancel-left, List·Memᴰ, List·Memᴰ·head, List·Memᴰ·tail, Memᴰ·append-left, Memᴰ·append-right}
+use mathlib.Core.List.{List, [], _∷_, _++_, append-cancel-left, List·Memᴰ, List·Memᴰ·head, List·Memᴰ·tail, List·Memᴰ·cases-cons, Memᴰ·append-left, Memᴰ·append-right}
 use native.Mathlib.Nat.{zero-add}
 use native.Mathlib.Numerals.{one-add}
 use native.Mathlib.Omega.{arith}
 use lib.Dec.{eqb}
 use lib.ListN.{length}
 use borrow.Author.Tests.{eqb-true, eqb-false}
-use Rattle.cell.specs.Cell.{arity, isVar}
+use Rattle.cell.specs.Cell.{isVar}
 use Rattle.cell.proofs.CellLaws.{var-arity}
 use Rattle.term.specs.Terms.{Terms, none, more, front, back}
-use Rattle.term.specs.Unify.{inst, Subst, Unifies, renamed, Matches}
+use Rattle.term.specs.Unify.{inst, Unifies, renamed, Matches}
 use Rattle.term.proofs.TermsLaws.{front-back, front-terms, back-terms}
-use Rattle.term.proofs.Inst.{inst-++, then, inst-then, Terms-inst, Subst-then, bind-same, Subst-id, Subst-bind, inst-var, Terms-var, absorb, unbound}
+use Rattle.term.proofs.Inst.{then, inst-then, Terms-inst, Subst-then, bind-same, Subst-id, Subst-bind, inst-var, Terms-var, absorb, unbound}
+use Rattle.term.proofs.Tests.{cond-case}
 use Rattle.term.proofs.Step.{at-place, other-symbol}
-use Rattle.term.proofs.Decide.{Decides, says-yes, says-no, occurs, occurs-decides, bindTest, walk, unify, unifiable, remove, Within-inst, Within-part, Within-tail, remove-shorter, occurs-apart}
+use Rattle.term.proofs.Decide.{Decides, says-yes, says-no, occurs, occurs-decides, bindTest, walk, unify, remove, Within-inst, Within-part, Within-tail, remove-shorter, occurs-apart}
 use Rattle.term.specs.Bind.{Within, bind, idS}
 use Rattle.instance.specs.Instance.{Instance, Common, MostGeneral}
 use Rattle.instance.specs.code.Left.{Solves}
@@ -85,12 +86,13 @@ solves-turn u = record { by = u .by; good = u .good; same = sym (u .same); gives
 
 -- what is built is most general, and nothing is built only where the lists do not unify
 pub data Solved (xs ys S : List ℕ) : Built → Type 0 where
-  solved : {T : List ℕ} → ((Y : List ℕ) → Solves xs ys S Y ↔ Instance T Y) → Solved xs ys S (built T)
+  solved : {T : List ℕ} → ((Y : List ℕ) → Solves xs ys S Y ↔ Instance T Y) → ((vs : List ℕ) → Within vs xs → Within vs ys → Within vs S → Within vs T) → Solved xs ys S (built T)
   unsolved : ((Y : List ℕ) → ¬ Solves xs ys S Y) → Solved xs ys S apart
 
-solved-by : {xs ys S xs′ ys′ S′ : List ℕ} {x : Built} → ((Y : List ℕ) → Solves xs ys S Y ↔ Solves xs′ ys′ S′ Y) → Solved xs′ ys′ S′ x → Solved xs ys S x
-solved-by h (solved f) = solved (λ Y. (λ u. f Y .0 (h Y .0 u), λ i. h Y .1 (f Y .1 i)))
-solved-by h (unsolved f) = unsolved (λ Y u. f Y (h Y .0 u))
+solved-by : {xs ys S xs′ ys′ S′ : List ℕ} {x : Built} → ((Y : List ℕ) → Solves xs ys S Y ↔ Solves xs′ ys′ S′ Y)
+    → ((vs : List ℕ) → Within vs xs → Within vs ys → Within vs S → Within vs xs′ × Within vs ys′ × Within vs S′) → Solved xs′ ys′ S′ x → Solved xs ys S x
+solved-by h k (solved f w) = solved (λ Y. (λ u. f Y .0 (h Y .0 u), λ i. h Y .1 (f Y .1 i))) (λ vs a b c. let q = k vs a b c in w vs (q .0) (q .1) (q .2))
+solved-by h k (unsolved f) = unsolved (λ Y u. f Y (h Y .0 u))
 
 solved-test : (b : Bool) {xs ys S : List ℕ} {x y : Built} → (b ≡ true → Solved xs ys S x) → (b ≡ false → Solved xs ys S y) → Solved xs ys S (cond b x y)
 solved-test true f g = f refl
@@ -107,6 +109,18 @@ unifies u = record { by = u .by; good = u .good; same = u .same }
 record RightBelow (rec : List ℕ → List ℕ → List ℕ → Built) (n : ℕ) : Type 0 where
   pub right : {k : ℕ} {xs ys us : List ℕ} (S : List ℕ) → Terms k xs → Terms k ys → Within us xs → Within us ys → length us < n → Solved xs ys S (rec xs ys S)
 
+-- what is within fewer variables is within all
+removed : (v : ℕ) (us : List ℕ) (c : ℕ) → List·Memᴰ c (remove v us) → List·Memᴰ c us
+unfolding remove
+removed v [] c m = m
+removed v (u ∷ us) c m =
+    let ih : List·Memᴰ c (remove v us) → List·Memᴰ c us = removed v us c in
+    cond-case (eqb u v) (λ (l : List ℕ). List·Memᴰ c l → List·Memᴰ c (u ∷ us))
+    (λ e q. List·Memᴰ·tail (ih q)) (λ e q. ⊎-elim (λ p. List·Memᴰ·head p) (λ p. List·Memᴰ·tail (ih p)) (List·Memᴰ·cases-cons q)) m
+
+wider : (v : ℕ) {us xs : List ℕ} → Within (remove v us) xs → Within us xs
+wider v {us} w = record { found = λ c m h. removed v us c (w .found c m h) }
+
 bind-right : (rec : List ℕ → List ℕ → List ℕ → Built) (v d : ℕ) {k : ℕ} {xs : List ℕ} (zs : List ℕ) {vs : List ℕ} (S : List ℕ) → isVar v ≡ true → v ≢ d → RightBelow rec (length vs)
     → Terms k xs → Terms (suc k) (d ∷ zs) → Within vs (v ∷ xs) → Within vs (d ∷ zs) → Solved (v ∷ xs) (d ∷ zs) S (bindWith rec v xs (d ∷ zs) S)
 unfolding bindWith
@@ -122,6 +136,8 @@ bind-right rec v d {k} {xs} zs {vs} S hv h ih t u wx wy =
     (λ m. unsolved (λ Y z. occurs-apart v d xs zs hv h tf m (unifies z)))
     (λ n. let s = Subst-bind v hv tf Subst-id in
     solved-by (λ Y. solves-bind v xs (back 1 (d ∷ zs)) S Y hv tf n)
+    (λ us a b c. let p = Within-part us (front 1 (d ∷ zs)) (back 1 (d ∷ zs)) b in
+    (wider v (Within-inst v n (p .0) (Within-tail a)), wider v (Within-inst v n (p .0) (p .1)), wider v (Within-inst v n (p .0) c)))
     (ih .right (inst (bind v (front 1 (d ∷ zs)) idS) S) (Terms-inst s t) (Terms-inst s tb) (Within-inst v n (w .0) (Within-tail wx)) (Within-inst v n (w .0) (w .1)) r)))
 
 solved-empty : (S Y : List ℕ) → Solves [] [] S Y ↔ Instance S Y
@@ -130,14 +146,14 @@ solved-empty S Y = (λ u. record { by = u .by; good = u .good; same = u .gives }
 walk-right : {rec : List ℕ → List ℕ → List ℕ → Built} (vs : List ℕ) {k : ℕ} {xs ys : List ℕ} (S : List ℕ) → RightBelow rec (length vs) → Terms k xs → Terms k ys → Within vs xs → Within vs ys
     → Solved xs ys S (walkWith rec xs ys S)
 unfolding walkWith
-walk-right vs S ih none none wx wy = solved (solved-empty S)
+walk-right vs S ih none none wx wy = solved (solved-empty S) (λ us a b c. c)
 walk-right {rec} vs S ih (more {c} {k} {xs} t) (more {c = d} {xs = ys} u) wx wy =
     solved-test (eqb c d)
-    (λ e. solved-by (λ Y. solves-cell xs ys S Y (eqb-true c d e)) (walk-right vs S ih t (rw (eqb-true c d e) u) (Within-tail wx) (Within-tail wy)))
+    (λ e. solved-by (λ Y. solves-cell xs ys S Y (eqb-true c d e)) (λ us a b c. (Within-tail a, Within-tail b, c)) (walk-right vs S ih t (rw (eqb-true c d e) u) (Within-tail wx) (Within-tail wy)))
     (λ e. solved-test (isVar c)
     (λ hc. bind-right rec c d ys S hc (eqb-false c d e) ih (rw (var-arity c hc, zero-add) at t) (more u) wx wy)
     (λ hc. solved-test (isVar d)
-    (λ hd. solved-by (λ Y. (solves-turn, solves-turn)) (bind-right rec d c xs S hd (λ p. eqb-false c d e (sym p)) ih (rw (var-arity d hd, zero-add) at u) (more t) wy wx))
+    (λ hd. solved-by (λ Y. (solves-turn, solves-turn)) (λ us a b c. (b, a, c)) (bind-right rec d c xs S hd (λ p. eqb-false c d e (sym p)) ih (rw (var-arity d hd, zero-add) at u) (more t) wy wx))
     (λ hd. unsolved (λ Y z. other-symbol c d xs ys hc hd (eqb-false c d e) none none (unifies z)))))
 
 solve-right : (n : ℕ) → RightBelow (solve n) (suc n)
@@ -187,12 +203,14 @@ solves-common {row} {goal} a b Y = (
   },
 )
 
-pub unified-general : {k : ℕ} {row goal : List ℕ} → Terms k row → Terms k (renamed goal) → Below (2 ^ 16) row → Below (2 ^ 16) goal → Matches row goal → (T : List ℕ) × MostGeneral row goal T
+-- It has no variables but theirs.
+pub unified-general : {k : ℕ} {row goal : List ℕ} → Terms k row → Terms k (renamed goal) → Below (2 ^ 16) row → Below (2 ^ 16) goal → Matches row goal
+    → (T : List ℕ) × MostGeneral row goal T × ((vs : List ℕ) → Within vs row → Within vs (renamed goal) → Within vs T)
 unified-general {row = row} {goal = goal} t u a b m =
     let G = renamed goal in
     go (solve (length (row ++ G)) row G G)
     (solve-right (length (row ++ G)) .right G t u (record { found = λ c n v. Memᴰ·append-left G n }) (record { found = λ c n v. Memᴰ·append-right row n }) (omega arith))
   where
-    go : (x : Built) → Solved row (renamed goal) (renamed goal) x → (T : List ℕ) × MostGeneral row goal T
-    go (built T) (solved f) = (T, most-general (λ Y. (λ c. f Y .0 (solves-common a b Y .0 c), λ i. solves-common a b Y .1 (f Y .1 i))))
+    go : (x : Built) → Solved row (renamed goal) (renamed goal) x → (T : List ℕ) × MostGeneral row goal T × ((vs : List ℕ) → Within vs row → Within vs (renamed goal) → Within vs T)
+    go (built T) (solved f w) = (T, most-general (λ Y. (λ c. f Y .0 (solves-common a b Y .0 c), λ i. solves-common a b Y .1 (f Y .1 i))), λ vs p q. w vs p q q)
     go apart (unsolved f) = let c = matches-common b m in absurd (f (c .0) (solves-common a b (c .0) .0 (c .1)))

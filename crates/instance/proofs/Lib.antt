@@ -8,13 +8,8 @@ pub mod RewriteLaws
 pub mod NumberLaws
 pub mod MeetSteps
 pub mod StartLaws
-pub mod FitsLaws
-pub mod FillLaws
-pub mod Small
 pub mod Symbols
-pub mod Bound
 pub mod ReplyLaws
 pub mod RepliesLaws
-pub mod RoomLaws
 pub mod PassLaws
 pub mod Fixed

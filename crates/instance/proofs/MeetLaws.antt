@@ -1,27 +1,25 @@
 -- A row and a goal made equal, cell by cell: what is left to be made equal stays what it was, and at the end the goal so far is the most general common instance. Nothing here asks
 -- that a row's variable is used once.
-use Prim.Native.Nat.{ℕ, suc, _+_, _-_, _≤_, _<_}
+use Prim.Native.Nat.{ℕ, _+_, _-_, _≤_, _<_}
 use mathlib.Core.Path.{_≡_, refl, sym, _∙_, ap, subst}
 use mathlib.Core.Logic.{_≢_, _↔_}
 use mathlib.Core.Bool.{true, false}
-use mathlib.Core.List.{List, [], _∷_, _++_, append-assoc, List·Memᴰ, List·Memᴰ·head, List·Memᴰ·eq-of-singleton, Memᴰ·append-left, Memᴰ·append-right}
+use mathlib.Core.List.{List, [], _∷_, _++_, append-assoc, List·Memᴰ, List·Memᴰ·head, Memᴰ·append-right}
 use native.Mathlib.Nat.{zero-add}
 use native.Mathlib.Numerals.{one-add}
 use native.Mathlib.Omega.{arith}
-use lib.Dec.{eqb}
 use lib.ListN.{length, length-append}
-use borrow.Author.Tests.{eqb-true}
 use Rattle.cell.specs.Cell.{arity, isVar}
 use Rattle.cell.proofs.CellLaws.{var-arity}
-use Rattle.term.specs.Terms.{Terms, none, more}
-use Rattle.term.specs.Unify.{inst, Subst}
+use Rattle.term.specs.Terms.{Terms, none}
+use Rattle.term.specs.Unify.{inst}
 use Rattle.term.proofs.TermsLaws.{back-terms, back-++, zero-nil}
 use Rattle.term.proofs.Inst.{inst-++, Terms-inst, Subst-id, Subst-bind, inst-var, Terms-var}
 use Rattle.term.proofs.Step.{at-place, other-symbol}
 use Rattle.term.proofs.Occurs.{inst-long, occurs-check}
 use Rattle.term.proofs.Decide.{two-long, remove, Within-inst, Within-part, Within-tail, remove-shorter}
 use Rattle.term.specs.Bind.{Within, bind, idS}
-use Rattle.instance.specs.Instance.{Instance, Common, MostGeneral}
+use Rattle.instance.specs.Instance.{Common, MostGeneral}
 use Rattle.instance.specs.Rewrite.{put}
 use Rattle.instance.specs.code.Left.{Solves, Left}
 use Rattle.instance.proofs.Instances.{most-general}
@@ -34,21 +32,21 @@ apart-there v d t xs ys hv h ht u m =
     let p = at-place xs ys (u .good) (Terms-var hv) ht .0 (u .same) in
     occurs-check (u .good) m (two-long t m h) (sym (inst-var (u .by) v) ∙ p .0)
 
-module _ {row goal xs P ys : List ℕ} {room turns : ℕ} (w : Left row goal xs P ys room turns) where
+module _ {row goal xs P ys : List ℕ} {turns : ℕ} (w : Left row goal xs P ys turns) where
   pub some-left : Solves xs ys (P ++ ys) (w .made)
   some-left = w .gives (w .made) .1 (w .makes)
 
   -- what is there is never longer than what it becomes
-  pub left-small : (length P + length ys ≤ room) × (length xs ≤ room)
-  left-small =
-      let u = some-left in
+  pub left-long : (Y : List ℕ) → Common row goal Y → (length P + length ys ≤ length Y) × (length xs ≤ length Y)
+  left-long Y q =
+      let u = w .gives Y .1 q in
       let a = inst-long (u .good) (P ++ ys) in
       let b = inst-long (u .good) xs in
-      let c : length (inst (u .by) P) + length (inst (u .by) ys) ≡ length (w .made) = sym (length-append (inst (u .by) P) (inst (u .by) ys)) ∙ ap length (sym (inst-++ (u .by) P ys) ∙ u .gives) in
-      (omega (arith, a, length-append P ys, ap length (u .gives), w .small), omega (arith, b, ap length (u .same), c, w .small))
+      let c : length (inst (u .by) P) + length (inst (u .by) ys) ≡ length Y = sym (length-append (inst (u .by) P) (inst (u .by) ys)) ∙ ap length (sym (inst-++ (u .by) P ys) ∙ u .gives) in
+      (omega (arith, a, length-append P ys, ap length (u .gives)), omega (arith, b, ap length (u .same), c))
 
 -- the same cell
-pub left-cell : {row goal P : List ℕ} {c d : ℕ} {xs ys : List ℕ} {room turns : ℕ} → c ≡ d → Left row goal (c ∷ xs) P (d ∷ ys) room turns → Left row goal xs (P ++ (d ∷ [])) ys room turns
+pub left-cell : {row goal P : List ℕ} {c d : ℕ} {xs ys : List ℕ} {turns : ℕ} → c ≡ d → Left row goal (c ∷ xs) P (d ∷ ys) turns → Left row goal xs (P ++ (d ∷ [])) ys turns
 left-cell {row} {goal} {P} {c} {d} {xs} {ys} e w =
     let f : (P ++ (d ∷ [])) ++ ys ≡ P ++ (d ∷ ys) = append-assoc P (d ∷ []) ys in
     let t = after-cell (w .row-terms) in
@@ -61,7 +59,6 @@ left-cell {row} {goal} {P} {c} {d} {xs} {ys} e w =
       );
       made = w .made;
       makes = w .makes;
-      small = w .small;
       owed = arity c + t .0;
       row-terms = t .2;
       goal-terms = subst (λ (z : ℕ). Terms (arity z + t .0) ys) (sym e) (subst (λ (n : ℕ). Terms (arity d + n) ys) k (u .2));
@@ -87,9 +84,9 @@ module _ (v d : ℕ) (t xs ys S : List ℕ) {row goal : List ℕ} (hv : isVar v 
   met-within wt wz = Within-inst v met-apart wt wz
 
 -- the row's
-pub left-first : {row goal P : List ℕ} {v d : ℕ} {t xs : List ℕ} (ys : List ℕ) {room turns : ℕ} → isVar v ≡ true → v ≢ d → Terms 1 (d ∷ t) → Left row goal (v ∷ xs) P ((d ∷ t) ++ ys) room turns
-    → (0 < turns) × Left row goal (put v (d ∷ t) xs) (put v (d ∷ t) (P ++ (d ∷ t))) (put v (d ∷ t) ys) room (turns - 1)
-left-first {row} {goal} {P} {v} {d} {t} {xs} ys {room} {turns} hv ne ht w =
+pub left-first : {row goal P : List ℕ} {v d : ℕ} {t xs : List ℕ} (ys : List ℕ) {turns : ℕ} → isVar v ≡ true → v ≢ d → Terms 1 (d ∷ t) → Left row goal (v ∷ xs) P ((d ∷ t) ++ ys) turns
+    → (0 < turns) × Left row goal (put v (d ∷ t) xs) (put v (d ∷ t) (P ++ (d ∷ t))) (put v (d ∷ t) ys) (turns - 1)
+left-first {row} {goal} {P} {v} {d} {t} {xs} ys {turns} hv ne ht w =
     let T : List ℕ = d ∷ t in
     let S : List ℕ = P ++ (T ++ ys) in
     let ρ = bind v T idS in
@@ -108,7 +105,6 @@ left-first {row} {goal} {P} {v} {d} {t} {xs} ys {room} {turns} hv ne ht w =
         gives = λ Y. subst (λ (l : List ℕ). Solves (put v T xs) (put v T ys) l Y ↔ Common row goal Y) e (met-gives v d t xs ys S hv ne ht (w .gives) (w .makes) Y);
         made = w .made;
         makes = w .makes;
-        small = w .small;
         owed = a .0;
         row-terms = met-terms v d t xs ys S hv ne ht (w .gives) (w .makes) tx;
         goal-terms = met-terms v d t xs ys S hv ne ht (w .gives) (w .makes) ty;
@@ -120,9 +116,9 @@ left-first {row} {goal} {P} {v} {d} {t} {xs} ys {room} {turns} hv ne ht w =
     )
 
 -- the goal's
-pub left-second : {row goal P : List ℕ} {v d : ℕ} {t : List ℕ} (xs : List ℕ) {ys : List ℕ} {room turns : ℕ} → isVar v ≡ true → v ≢ d → Terms 1 (d ∷ t) → Left row goal ((d ∷ t) ++ xs) P (v ∷ ys) room turns
-    → (0 < turns) × Left row goal (put v (d ∷ t) xs) (put v (d ∷ t) (P ++ (v ∷ []))) (put v (d ∷ t) ys) room (turns - 1)
-left-second {row} {goal} {P} {v} {d} {t} xs {ys} {room} {turns} hv ne ht w =
+pub left-second : {row goal P : List ℕ} {v d : ℕ} {t : List ℕ} (xs : List ℕ) {ys : List ℕ} {turns : ℕ} → isVar v ≡ true → v ≢ d → Terms 1 (d ∷ t) → Left row goal ((d ∷ t) ++ xs) P (v ∷ ys) turns
+    → (0 < turns) × Left row goal (put v (d ∷ t) xs) (put v (d ∷ t) (P ++ (v ∷ []))) (put v (d ∷ t) ys) (turns - 1)
+left-second {row} {goal} {P} {v} {d} {t} xs {ys} {turns} hv ne ht w =
     let T : List ℕ = d ∷ t in
     let S : List ℕ = P ++ (v ∷ ys) in
     let ρ = bind v T idS in
@@ -142,7 +138,6 @@ left-second {row} {goal} {P} {v} {d} {t} xs {ys} {room} {turns} hv ne ht w =
             (let z = met-gives v d t ys xs S hv ne ht g (w .makes) Y in (λ s. z .0 (solves-turn s), λ c. solves-turn (z .1 c)));
         made = w .made;
         makes = w .makes;
-        small = w .small;
         owed = a .0;
         row-terms = met-terms v d t ys xs S hv ne ht g (w .makes) tx;
         goal-terms = met-terms v d t ys xs S hv ne ht g (w .makes) ty;
@@ -154,11 +149,11 @@ left-second {row} {goal} {P} {v} {d} {t} xs {ys} {room} {turns} hv ne ht w =
     )
 
 -- two symbols that meet are the same
-pub left-symbols : {row goal P : List ℕ} {c d : ℕ} {xs ys : List ℕ} {room turns : ℕ} → isVar c ≡ false → isVar d ≡ false → Left row goal (c ∷ xs) P (d ∷ ys) room turns → ¬ (c ≢ d)
+pub left-symbols : {row goal P : List ℕ} {c d : ℕ} {xs ys : List ℕ} {turns : ℕ} → isVar c ≡ false → isVar d ≡ false → Left row goal (c ∷ xs) P (d ∷ ys) turns → ¬ (c ≢ d)
 left-symbols {c = c} {d = d} {xs = xs} {ys = ys} hc hd w ne = let u = some-left w in other-symbol c d xs ys hc hd ne none none (record { by = u .by; good = u .good; same = u .same })
 
 -- nothing is left: the goal so far is the most general common instance
-pub left-done : {row goal P ys : List ℕ} {room turns : ℕ} → Left row goal [] P ys room turns → MostGeneral row goal (P ++ ys)
+pub left-done : {row goal P ys : List ℕ} {turns : ℕ} → Left row goal [] P ys turns → MostGeneral row goal (P ++ ys)
 left-done {row} {goal} {P} {ys} w =
     let z = done (w .row-terms) (w .goal-terms) in
     most-general (λ Y. (

@@ -7,13 +7,13 @@ use mathlib.Core.List.{List, [], _∷_, _++_, Memᴰ·append-left, Memᴰ·appen
 use native.Mathlib.Numerals.{add-one, one-add}
 use native.Mathlib.Omega.{arith}
 use lib.ListN.{length, getD, take, drop, length-append, length-drop, length-map, take-append-drop, drop-of-length-le}
-use lib.Seq.{slice, slice-empty, sets, length-sets, take-take, take-at, drop-at, drop-cons, drop-drop, take-suc, take-add, getD-take, length-take-le}
-use Rattle.cell.specs.Cell.{arity, isVar}
+use lib.Seq.{slice, take-take, take-at, drop-at, drop-cons, drop-drop, take-suc, take-add, getD-take, length-take-le}
+use Rattle.cell.specs.Cell.{isVar}
 use Rattle.term.specs.declared.End.{End}
 use Rattle.term.specs.declared.End.the-variants.{At, Short}
 use Rattle.term.specs.Terms.{Terms, front, back}
 use Rattle.term.specs.Ends.{Ends, at, short}
-use Rattle.term.specs.Unify.{inst, renamed}
+use Rattle.term.specs.Unify.{renamed}
 use Rattle.term.proofs.Tests.{bool-cases}
 use Rattle.table.specs.Table.{Head}
 use Rattle.table.proofs.Accepted.{few-variables}
@@ -22,12 +22,12 @@ use Rattle.octets.specs.Octets.{Put}
 use Rattle.octets.proofs.PutLaws.{put-found}
 use Rattle.term.specs.Bind.{Within}
 use Rattle.instance.specs.Instance.{Common, MostGeneral}
-use Rattle.instance.specs.code.Meet.{TermsAt, TermAt, Meeting, After, Met}
+use Rattle.instance.specs.code.Meet.{TermsAt, TermAt, Meeting, After, Met, Over}
 use Rattle.instance.specs.Rewrite.{put}
 use Rattle.instance.specs.code.Left.{Left}
 use Rattle.instance.proofs.Apart.{after-cell, Below}
 use Rattle.instance.proofs.General.{solves-common}
-use Rattle.instance.proofs.MeetLaws.{left-small, left-cell, left-first, left-second, left-symbols, left-done}
+use Rattle.instance.proofs.MeetLaws.{left-long, left-cell, left-first, left-second, left-symbols, left-done}
 
 -- A variable replaced everywhere: in the goal so far, then in what is left of the row.
 module _ {row goal cells : List ℕ} {v : ℕ} {t : List ℕ} {i n at′ len turns : ℕ} (w : After row goal cells v t i n at′ len turns) (inside : at′ ≤ len) where
@@ -40,16 +40,21 @@ module _ {row goal cells : List ℕ} {v : ℕ} {t : List ℕ} {i n at′ len tur
   abbrev third : List ℕ
   third = put v t (slice i n cells)
 
-  there : Left row goal third first second 1024 turns
-  there = subst (λ (P : List ℕ). Left row goal third P second 1024 turns) (ap (put v t) (take-take at′ len cells inside)) (w .left)
+  there : Left row goal third first second turns
+  there = subst (λ (P : List ℕ). Left row goal third P second turns) (ap (put v t) (take-take at′ len cells inside)) (w .left)
 
-  pub parts-small : (length first + length second ≤ 1024) × (length third ≤ 1024)
-  parts-small = left-small there
+  -- what is too long already
+  pub goal-over : 1024 < length first + length second → Over row goal
+  goal-over l = record { over = λ Y q. omega (arith, l, left-long there Y q .0) }
+
+  pub row-over : 1024 < length third → Over row goal
+  row-over l = record { over = λ Y q. omega (arith, l, left-long there Y q .1) }
 
   -- all three stand at the front of a list
   pub bind-there : (cells′ : List ℕ) (q l m : ℕ) → length cells′ ≡ 2048 → q ≡ length first → l ≡ length first + length second
-      → m ≡ l + length third → take m cells′ ≡ (first ++ second) ++ third → Meeting row goal cells′ l m q l turns
-  bind-there cells′ q l m lc eq el em x =
+      → m ≡ l + length third → l ≤ 1024 → m ≤ l + 1024 → take m cells′ ≡ (first ++ second) ++ third
+      → Meeting row goal cells′ l m q l turns
+  bind-there cells′ q l m lc eq el em sl sm x =
       let b : length (first ++ second) ≡ l = length-append first second ∙ sym el in
       let y : drop l (take m cells′) ≡ third = ap (drop l) x ∙ drop-at (first ++ second) third l b in
       let z : take l cells′ ≡ first ++ second = sym (take-take l m cells′ (omega (arith, em))) ∙ ap (take l) x ∙ take-at (first ++ second) third l b in
@@ -57,7 +62,9 @@ module _ {row goal cells : List ℕ} {v : ℕ} {t : List ℕ} {i n at′ len tur
         inside = omega (arith, eq, el);
         apart = omega arith;
         started = omega (arith, em);
-        held = omega (arith, el, em, parts-small .0, parts-small .1, lc);
+        goal-short = sl;
+        row-short = sm;
+        held = omega (arith, sl, sm, lc);
         long = lc;
         left = rw (y, z, take-at first second q (sym eq), drop-at first second q (sym eq)) there;
       }
@@ -155,10 +162,10 @@ module _ {row goal cells : List ℕ} {i n at′ len turns : ℕ} (w : Meeting ro
   C-split : drop at′ C ≡ d ∷ drop (suc at′) C
   C-split = drop-cons C at′ 0 (omega (arith, goal-left, C-long))
 
-  here : Left row goal (c ∷ drop (suc i) L) (take at′ C) (d ∷ drop (suc at′) C) 1024 turns
+  here : Left row goal (c ∷ drop (suc i) L) (take at′ C) (d ∷ drop (suc at′) C) turns
   here =
-      subst (λ (l : List ℕ). Left row goal l (take at′ C) (d ∷ drop (suc at′) C) 1024 turns) L-split
-      (subst (λ (l : List ℕ). Left row goal (drop i L) (take at′ C) l 1024 turns) C-split (w .left))
+      subst (λ (l : List ℕ). Left row goal l (take at′ C) (d ∷ drop (suc at′) C) turns) L-split
+      (subst (λ (l : List ℕ). Left row goal (drop i L) (take at′ C) l turns) C-split (w .left))
 
   pub row-cell : c ≡ getD cells i 0
   row-cell = getD-take n cells i 0 more-left
@@ -174,6 +181,8 @@ module _ {row goal cells : List ℕ} {i n at′ len turns : ℕ} (w : Meeting ro
     inside = omega (arith, goal-left);
     apart = omega (arith, w .apart);
     started = omega (arith, more-left);
+    goal-short = w .goal-short;
+    row-short = omega (arith, w .row-short);
     held = w .held;
     long = w .long;
     left = rw (add-one i, sym next-C, add-one at′) (left-cell e here);
@@ -181,10 +190,10 @@ module _ {row goal cells : List ℕ} {i n at′ len turns : ℕ} (w : Meeting ro
 
   -- a term stands on each side, of at most 1,024 cells
   pub goal-term : TermsAt C at′ × (length C ≤ at′ + 1024)
-  goal-term = let s = left-small (w .left) .0 in (record { after = j; terms = goal-owed }, omega (arith, s, length-drop at′ C))
+  goal-term = (record { after = j; terms = goal-owed }, omega (arith, C-long, w .goal-short))
 
   pub row-term : TermsAt L i × (length L ≤ i + 1024)
-  row-term = let s = left-small (w .left) .1 in (record { after = j; terms = row-owed }, omega (arith, s, length-drop i L))
+  row-term = (record { after = j; terms = row-owed }, omega (arith, L-long, w .row-short))
 
   -- a variable of the row meets a term of the goal
   pub first-bind : {v e : ℕ} {T : List ℕ} → v ≡ getD cells i 0 → isVar v ≡ true → v ≢ getD cells at′ 0 → TermAt C T at′ e
@@ -194,8 +203,8 @@ module _ {row goal cells : List ℕ} {i n at′ len turns : ℕ} (w : Meeting ro
       let ht : Terms 1 (d ∷ h .0) = subst (Terms 1) (h .1) (x .term) in
       let q : v ≡ c = ev ∙ sym row-cell in
       let f : d ∷ drop (suc at′) C ≡ (d ∷ h .0) ++ drop e C = sym C-split ∙ x .split ∙ ap (λ (l : List ℕ). l ++ drop e C) (h .1) in
-      let u = subst (λ (y : ℕ). Left row goal (y ∷ drop (suc i) L) (take at′ C) (d ∷ drop (suc at′) C) 1024 turns) (sym q) here in
-      let u′ = subst (λ (l : List ℕ). Left row goal (v ∷ drop (suc i) L) (take at′ C) l 1024 turns) f u in
+      let u = subst (λ (y : ℕ). Left row goal (y ∷ drop (suc i) L) (take at′ C) (d ∷ drop (suc at′) C) turns) (sym q) here in
+      let u′ = subst (λ (l : List ℕ). Left row goal (v ∷ drop (suc i) L) (take at′ C) l turns) f u in
       let g = left-first (drop e C) hv (λ z. ne (z ∙ goal-cell)) ht u′ in
       let a : take e C ≡ take at′ C ++ (d ∷ h .0) = front-is x ∙ ap (λ (l : List ℕ). take at′ C ++ l) (h .1) in
       (g .0, omega (arith, end-in x (omega (arith, w .inside, C-long)), C-long), record { left = rw (h .1, a, add-one i) (g .1) })
@@ -214,8 +223,8 @@ module _ {row goal cells : List ℕ} {i n at′ len turns : ℕ} (w : Meeting ro
       let ne′ : v ≢ c = λ z. ne (z ∙ row-cell) in
       let hc′ : isVar c ≡ false = ap isVar row-cell ∙ hc in
       let f : c ∷ drop (suc i) L ≡ (c ∷ h .0) ++ drop e L = sym L-split ∙ x .split ∙ ap (λ (l : List ℕ). l ++ drop e L) (h .1) in
-      let u = subst (λ (y : ℕ). Left row goal (c ∷ drop (suc i) L) (take at′ C) (y ∷ drop (suc at′) C) 1024 turns) (sym q) here in
-      let u′ = subst (λ (l : List ℕ). Left row goal l (take at′ C) (v ∷ drop (suc at′) C) 1024 turns) f u in
+      let u = subst (λ (y : ℕ). Left row goal (c ∷ drop (suc i) L) (take at′ C) (y ∷ drop (suc at′) C) turns) (sym q) here in
+      let u′ = subst (λ (l : List ℕ). Left row goal l (take at′ C) (v ∷ drop (suc at′) C) turns) f u in
       let g = left-second (drop e L) (second-var q hc′ ne′) ne′ ht u′ in
       let k : take at′ C ++ (v ∷ []) ≡ take (at′ + 1) C = ap (λ (y : ℕ). take at′ C ++ (y ∷ [])) q ∙ next-C in
       (g .0, omega (arith, end-in x (omega (arith, w .started, L-long)), L-long), record { left = rw (h .1, sym k, add-one at′) (g .1) })
@@ -225,21 +234,27 @@ pub met : {row goal cells : List ℕ} {i n at′ len turns : ℕ} → Meeting ro
 met {row} {goal} {cells} {i} {n} {at′} {len} {turns} w h t =
     let C = take len cells in
     let e : drop i (take n cells) ≡ [] = drop-of-length-le (take n cells) {i = i} (omega (arith, h, length-take-le n cells (w .held))) in
-    let v = subst (λ (l : List ℕ). Left row goal l (take at′ C) (drop at′ C) 1024 turns) e (w .left) in
+    let v = subst (λ (l : List ℕ). Left row goal l (take at′ C) (drop at′ C) turns) e (w .left) in
     let f : take at′ C ++ drop at′ C ≡ C = take-append-drop at′ C in
     record {
       within = omega (arith, w .apart, w .started, w .held);
+      short = w .goal-short;
       general = subst (λ (l : List ℕ). MostGeneral row goal l) f (left-done v);
       few = record { vars = v .vars; found = subst (λ (l : List ℕ). Within (v .vars) l) f (v .goal-within); few = omega (arith, v .few, t) };
     }
 
--- The start: the goal's cells, its variables moved apart, then the row's. Only a bound for what they have in common is asked for: W-209 takes
--- it from a test.
+-- their variables are among their cells
+pub both-few : {wide : ℕ} {row goal : List ℕ} → Head wide row → Head wide goal → length (row ++ renamed goal) ≤ 64
+unfolding renamed
+both-few {row = row} {goal} r g =
+    omega (arith, length-append row (renamed goal), length-map goal (λ (c : ℕ). cond (isVar c) (2 ^ 16 + c) c), r .short, g .short)
+
+-- The start: the goal's cells, its variables moved apart, then the row's.
 pub start-there : {wide : ℕ} {row goal cells Y : List ℕ} {len n : ℕ} → Head wide row → Head wide goal → Terms wide (renamed goal) → Common row goal Y
-    → length Y ≤ 1024 → length cells ≡ 2048 → len ≡ length (renamed goal) → n ≡ len + length row → take n cells ≡ renamed goal ++ row
+    → length cells ≡ 2048 → len ≡ length (renamed goal) → n ≡ len + length row → take n cells ≡ renamed goal ++ row
     → Meeting row goal cells len n 0 len 64
 unfolding renamed
-start-there {wide} {row} {goal} {cells} {Y} {len} {n} r g tg q s lc el en x =
+start-there {wide} {row} {goal} {cells} {Y} {len} {n} r g tg q lc el en x =
     let a : Below (2 ^ 16) row = record { vars = λ c m v. let l = few-variables r c m v in omega arith } in
     let b : Below (2 ^ 16) goal = record { vars = λ c m v. let l = few-variables g c m v in omega arith } in
     let k : length (renamed goal) ≡ length goal = length-map goal (λ (c : ℕ). cond (isVar c) (2 ^ 16 + c) c) in
@@ -249,19 +264,20 @@ start-there {wide} {row} {goal} {cells} {Y} {len} {n} r g tg q s lc el en x =
       inside = omega arith;
       apart = omega arith;
       started = omega (arith, en);
+      goal-short = omega (arith, el, k, g .short);
+      row-short = omega (arith, en, r .short);
       held = omega (arith, en, el, k, r .short, g .short, lc);
       long = lc;
       left = rw (y, z) (record {
         gives = λ Z. (solves-common a b Z .1, solves-common a b Z .0);
         made = Y;
         makes = q;
-        small = s;
         owed = wide;
         row-terms = r .terms;
         goal-terms = tg;
         vars = row ++ renamed goal;
         row-within = record { found = λ c m v. Memᴰ·append-left (renamed goal) m };
         goal-within = record { found = λ c m v. Memᴰ·append-right row m };
-        few = omega (arith, length-append row (renamed goal), k, r .short, g .short);
+        few = both-few r g;
       });
     }

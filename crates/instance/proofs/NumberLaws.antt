@@ -2,7 +2,7 @@
 use Prim.Native.Nat.{ℕ, zero, suc, _+_, _≤_, _<_}
 use mathlib.Core.Path.{_≡_, refl, sym, _∙_, ap, subst}
 use mathlib.Core.Logic.{_≢_, _⊎_, inl, inr, ⊎-elim, by-cases}
-use mathlib.Core.Bool.{Bool, true, false, cond, _&&_}
+use mathlib.Core.Bool.{true, false, _&&_}
 use mathlib.Core.List.{List, [], _∷_, _++_, List·Memᴰ, List·Memᴰ·head, List·Memᴰ·tail, List·Memᴰ·not-nil, List·Memᴰ·cases-cons, Memᴰ·append-left, Memᴰ·append-right}
 use native.Mathlib.Omega.{arith}
 use lib.Dec.{eqb, ltb}
@@ -16,7 +16,7 @@ use Rattle.term.proofs.Tests.{bool-cases, cond-case, eqb-same}
 use Rattle.term.proofs.Decide.{remove, remove-keeps, remove-shorter}
 use Rattle.instance.specs.Rewrite.{place, meet, numberFrom, numberAt, meetIn, numberIn}
 use Rattle.instance.specs.code.Meet.{Few}
-use Rattle.instance.proofs.Numbering.{place-most, meet-old, meet-new}
+use Rattle.instance.proofs.Numbering.{final, place-most, meet-old, meet-new}
 
 slice-next : (xs : List ℕ) (i e : ℕ) → i < e → e ≤ length xs → slice i e xs ≡ getD xs i 0 ∷ slice (i + 1) e xs
 slice-next xs i e l h = rw add-one (slice-cons i e xs 0 l h)
@@ -107,6 +107,13 @@ unmet-variable {n} c met {xs} v u = ⊎-elim
     split x (inl e) q = inl (Memᴰ·append-right met (List·Memᴰ·head (eqb-true x c e)))
     split x (inr e) (inl m) = inl (Memᴰ·append-left (c ∷ []) m)
     split x (inr e) (inr m) = inr (remove-keeps c (u .vars) x m (eqb-false x c e))
+
+-- there are no more than that in the end
+pub final-few : {n : ℕ} (met xs : List ℕ) → Unmet n met xs → length (final met xs) ≤ n
+unfolding final
+final-few met [] u = omega (arith, u .few)
+final-few {n} met (c ∷ xs) u = cond-case (isVar c) (λ (l : List ℕ). length l ≤ n)
+    (λ v. final-few (meet c met) xs (unmet-variable c met v u .0)) (λ v. final-few met xs (unmet-next u))
 
 -- one more variable, where there is room for it
 met-old : (n c : ℕ) (met : List ℕ) → place c met < length met → meetIn n c met ≡ met

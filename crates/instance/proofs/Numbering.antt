@@ -1,8 +1,8 @@
 -- Variables renumbered by first appearance: what comes out is numbered, and is a variant of what went in.
-use Prim.Native.Nat.{ℕ, zero, suc, _+_, _^_, _≤_, _<_}
+use Prim.Native.Nat.{ℕ, zero, suc, _^_, _≤_, _<_}
 use mathlib.Core.Path.{_≡_, refl, sym, _∙_, ap}
 use mathlib.Core.Logic.{_≢_, ⊎-elim, by-cases}
-use mathlib.Core.Bool.{Bool, true, false, cond, _&&_}
+use mathlib.Core.Bool.{true, false, cond, _&&_}
 use mathlib.Core.List.{List, [], _∷_, _++_, map, List·Memᴰ, List·Memᴰ·head, List·Memᴰ·tail, List·Memᴰ·cases-cons, List·Memᴰ·not-nil}
 use native.Mathlib.Omega.{arith}
 use native.Mathlib.Decide.{decLt}
@@ -81,7 +81,7 @@ meet-keeps u v (c ∷ met) h = ⊎-elim
     (bool-cases (eqb v c))
 
 -- all that are met in the end
-unfoldable final : List ℕ → List ℕ → List ℕ
+unfoldable pub final : List ℕ → List ℕ → List ℕ
 final met [] = met
 final met (c ∷ xs) = let more = final (meet c met) xs in let rest = final met xs in cond (isVar c) more rest
 
@@ -151,17 +151,6 @@ unfolding final
 vars-final met [] w = w
 vars-final met (c ∷ xs) w = cond-case (isVar c) Vars (λ e. vars-final (meet c met) xs (vars-meet c met e w)) (λ e. vars-final met xs w)
 
-meet-short : (v : ℕ) (met : List ℕ) → length (meet v met) ≤ suc (length met)
-unfolding meet
-meet-short v [] = omega arith
-meet-short v (c ∷ met) = cond-case (eqb v c) (λ (l : List ℕ). length l ≤ suc (suc (length met))) (λ e. omega arith) (λ e. omega (arith, meet-short v met))
-
-final-short : (met xs : List ℕ) → length (final met xs) ≤ length met + length xs
-unfolding final
-final-short met [] = omega arith
-final-short met (c ∷ xs) =
-    cond-case (isVar c) (λ (l : List ℕ). length l ≤ length met + suc (length xs)) (λ e. omega (arith, meet-short c met, final-short (meet c met) xs)) (λ e. omega (arith, final-short met xs))
-
 -- there and back
 module _ (F : List ℕ) (w : Vars F) (few : length F ≤ 2 ^ 30) where
   forth : ℕ → List ℕ
@@ -203,7 +192,7 @@ inst-back τ f (c ∷ xs) h = rw (h c (List·Memᴰ·head refl)) (ap (λ (l : Li
 no-vars : Vars []
 no-vars = record { each = λ i h. absurd (let z : ⊥ = omega arith in z) }
 
-module _ (xs : List ℕ) (few : length xs ≤ 2 ^ 30) where
+module _ (xs : List ℕ) (few : length (final [] xs) ≤ 2 ^ 30) where
   all : List ℕ
   all = final [] xs
 
@@ -213,7 +202,7 @@ module _ (xs : List ℕ) (few : length xs ≤ 2 ^ 30) where
 
   all-few : length all ≤ 2 ^ 30
   unfolding all
-  all-few = omega (arith, final-short [] xs)
+  all-few = few
 
   all-has : (c : ℕ) → List·Memᴰ c xs → isVar c ≡ true → place c all < length all
   unfolding all
@@ -266,29 +255,44 @@ given-more {met} {ms} v e g =
       new = λ i h. count-other i (length met) ms (λ q. omega arith) ∙ g .new i (omega arith);
     }
 
-numbered-from : (met ms xs : List ℕ) → Given met ms → length met + length xs ≤ 2 ^ 30 → (n : ℕ) × (appear ms (numberFrom met xs) ≡ upFrom (length met) n)
+-- no more variables are met after a cell than with it
+module _ (c : ℕ) (met xs : List ℕ) where
+  few-new : isVar c ≡ true → length (final met (c ∷ xs)) ≤ 2 ^ 30 → length (final (meet c met) xs) ≤ 2 ^ 30
+  unfolding final
+  few-new v few = rw v at few
+
+  few-old : isVar c ≡ true → place c met < length met → length (final met (c ∷ xs)) ≤ 2 ^ 30 → length (final met xs) ≤ 2 ^ 30
+  few-old v l few = rw (meet-old c met l) at (few-new v few)
+
+  few-symbol : isVar c ≡ false → length (final met (c ∷ xs)) ≤ 2 ^ 30 → length (final met xs) ≤ 2 ^ 30
+  unfolding final
+  few-symbol v few = rw v at few
+
+numbered-from : (met ms xs : List ℕ) → Given met ms → length (final met xs) ≤ 2 ^ 30 → (n : ℕ) × (appear ms (numberFrom met xs) ≡ upFrom (length met) n)
 unfolding numberFrom upFrom appear
 numbered-from met ms [] g few = (0, refl)
 numbered-from met ms (c ∷ xs) g few = ⊎-elim
     (λ v. by-cases (decLt (place c met) (length met))
-    (λ l. let r = numbered-from met ms xs g (omega arith) in
+    (λ l. let r = numbered-from met ms xs g (few-old c met xs v l few) in
     (r .0, rw (v, meet-old c met l) (appear-old (place c met) ms (numberFrom met xs) (g .old (place c met) l) ∙ r .1)))
     (λ l.
     let e : place c met ≡ length met = omega (arith, place-most c met) in
     let k : length (meet c met) ≡ suc (length met) = ap length (meet-new c met e) ∙ length-append met (c ∷ []) ∙ omega arith in
-    let r = numbered-from (meet c met) (length met ∷ ms) xs (given-more c e g) (omega arith) in
+    let f = few-new c met xs v few in
+    let low : length met < 2 ^ 30 = omega (arith, f, k, final-long (meet c met) xs) in
+    let r = numbered-from (meet c met) (length met ∷ ms) xs (given-more c e g) f in
     let N : List ℕ = numberFrom (meet c met) xs in
     let z : count (place c met) ms ≡ 0 = ap (λ (y : ℕ). count y ms) e ∙ g .new (length met) (omega arith) in (
       suc (r .0),
       rw v (appear-new (place c met) ms N (var-small (place c met) (omega arith)) z
           ∙ ap (λ (y : ℕ). y ∷ appear (y ∷ ms) N) e ∙ ap (λ (y : List ℕ). length met ∷ y) (r .1 ∙ ap (λ (y : ℕ). upFrom y (r .0)) k)),
     )))
-    (λ v. let r = numbered-from met ms xs g (omega arith) in (r .0, rw v (appear-symbol c ms (numberFrom met xs) v ∙ r .1)))
+    (λ v. let r = numbered-from met ms xs g (few-symbol c met xs v few) in (r .0, rw v (appear-symbol c ms (numberFrom met xs) v ∙ r .1)))
     (bool-cases (isVar c))
 
-pub numbers-numbered : (xs : List ℕ) → length xs ≤ 2 ^ 30 → Numbered (numberFrom [] xs)
+pub numbers-numbered : (xs : List ℕ) → length (final [] xs) ≤ 2 ^ 30 → Numbered (numberFrom [] xs)
 unfolding count
 numbers-numbered xs few =
-    let r = numbered-from [] [] xs (record { old = λ i h. absurd (let z : ⊥ = omega arith in z); new = λ i h. refl }) (omega arith) in
+    let r = numbered-from [] [] xs (record { old = λ i h. absurd (let z : ⊥ = omega arith in z); new = λ i h. refl }) few in
     let e : length (appear [] (numberFrom [] xs)) ≡ r .0 = ap length (r .1) ∙ up-length 0 (r .0) in
     r .1 ∙ ap (upFrom 0) (sym e)

@@ -1,7 +1,7 @@
 -- What a run has found gives the replies (02, W-203): one for each row that unifies with the goal, in row order.
-use Prim.Native.Nat.{ℕ, zero, suc, _+_, _*_, _≤_, _<_}
+use Prim.Native.Nat.{ℕ, suc, _+_, _*_, _≤_, _<_}
 use mathlib.Core.Path.{_≡_, refl, sym, _∙_, ap, subst}
-use mathlib.Core.List.{List, [], _∷_, _++_, flatten}
+use mathlib.Core.List.{List, [], _∷_, flatten}
 use native.Mathlib.Omega.{arith}
 use native.Mathlib.Numerals.{add-one}
 use lib.ListN.{length, getD, drop, length-append}
@@ -10,19 +10,18 @@ use Rattle.term.specs.Unify.{Matches}
 use Rattle.refusal.specs.Read.{read}
 use Rattle.table.specs.All.{All}
 use Rattle.table.specs.Table.{Table, tableOf, goalOf, Row, IsGoal}
+use Rattle.table.proofs.AllLaws.{all-member}
 use Rattle.table.proofs.ReadLaws.{read-one, first}
-use Rattle.table.proofs.Accepted.{is-goal}
+use Rattle.table.proofs.Accepted.{is-table, is-goal}
 use Rattle.plan.specs.Check.{planOf}
 use Rattle.answer.specs.Run.{Picks, none, hit, miss}
-use Rattle.instance.specs.Reply.{Reply, Replies}
+use Rattle.instance.specs.Reply.{Reply, Replies, Short, Large}
 use Rattle.instance.specs.Replied.{repliesOf}
 use Rattle.instance.specs.Reply as replies
 use Rattle.instance.specs.code.Meet.{Hit}
 use Rattle.instance.specs.code.Passes.{RepliesAt, done, next}
-use Rattle.instance.proofs.Bound.{the-reply, reply-small}
-use Rattle.instance.proofs.StartLaws.{hit-there}
+use Rattle.instance.proofs.StartLaws.{hit-there, the-reply}
 use Rattle.instance.proofs.Variants.{reply-one}
-use Rattle.instance.specs.Rewrite.{numberFrom}
 
 -- what an accepted table, plan and goal are
 pub replies-take : (t p g : List ℕ) {T : Table} → repliesOf t p g ≡ read T → (tableOf t ≡ read T) × IsGoal (T .width) g
@@ -34,6 +33,28 @@ replies-take t p g e =
     let q = read-one (z .2) in
     (x .1 ∙ ap read q, rw q at (is-goal (x .0 .width) g (z .1) .0))
 
+-- how many they are, and how many cells they have where none has over 1,024
+pub replies-few : {goal : List ℕ} {rows all : List (List ℕ)} → Replies goal rows all → length all ≤ length rows
+replies-few replies.none = omega arith
+replies-few (replies.hit m r x) = omega (arith, replies-few x)
+replies-few (replies.miss n x) = omega (arith, replies-few x)
+
+pub short-flat : (all : List (List ℕ)) → All Short all → length (flatten all) ≤ length all * 1024
+unfolding flatten
+short-flat [] s = omega arith
+short-flat (cells ∷ all) s = omega (arith, s .0, short-flat all (s .1), length-append cells (flatten all))
+
+pub not-large : {all : List (List ℕ)} → All Short all → Large all → ⊥
+not-large {all} s l = omega (arith, l .over, all-member Short all s (l .one))
+
+-- so that 64 · 1,024 are enough
+pub replies-room : (t p g : List ℕ) {T : Table} {all : List (List ℕ)} → repliesOf t p g ≡ read T → Replies g (T .rows) all → All Short all
+    → (length all ≤ 64) × (length (flatten all) ≤ 64 * 1024)
+replies-room t p g {all = all} e a s =
+    let i = is-table t (replies-take t p g e .0) in
+    let n = replies-few a in
+    (omega (arith, n, i .count), omega (arith, n, i .count, short-flat all s))
+
 -- the replies to what is found, by row and by number
 pub record Given (row : ℕ → List ℕ) (goal : List ℕ) (rows : List (List ℕ)) (last : ℕ) (found : List ℕ) : Type 0 where
   pub all : List (List ℕ)
@@ -42,27 +63,23 @@ pub record Given (row : ℕ → List ℕ) (goal : List ℕ) (rows : List (List �
   pub below : All (λ (r : ℕ). r < last) found
   pub many : length all ≡ length found
   pub few : length found ≤ length rows
-  pub small : length (flatten all) ≤ length rows * 1024
 
-module _ (row : ℕ → List ℕ) {w : ℕ} {goal : List ℕ} (g : IsGoal w goal) (some : 1 ≤ w) (last : ℕ) where
+module _ (row : ℕ → List ℕ) {w : ℕ} {goal : List ℕ} (g : IsGoal w goal) (last : ℕ) where
   pub picks-given : {rows : List (List ℕ)} {f : ℕ} {found : List ℕ} → All (Row w) rows → f + length rows ≡ last
       → ((j : ℕ) → row (f + j) ≡ getD rows j []) → Picks (λ (r : List ℕ). Matches r goal) rows f found → Given row goal rows last found
-  unfolding flatten
-  picks-given a l e none = record { all = []; replies = replies.none; at = done; below = tt; many = refl; few = omega arith; small = omega arith }
+  picks-given a l e none = record { all = []; replies = replies.none; at = done; below = tt; many = refl; few = omega arith }
   picks-given {f = f} a l e (hit {r} {rs} {hs = hs} m p) =
       let rest = picks-given {rows = rs} {f = suc f} (a .1) (omega arith) (λ j. ap row (suc-in f j) ∙ e (suc j)) p in
-      let t = the-reply (a .0) g some m in
-      let cells = numberFrom [] (t .cells) in
+      let t = the-reply (a .0) (g .head) m in
+      let cells = t .0 in
       let is : row f ≡ r = ap row (zero-in f) ∙ e 0 in
-      let s = reply-small (a .0) g some m (t .reply) in
       record {
         all = cells ∷ rest .all;
-        replies = replies.hit m (t .reply) (rest .replies);
-        at = next (subst (λ (x : List ℕ). Hit x goal) (sym is) (hit-there (a .0) g some m)) (subst (λ (x : List ℕ). Reply x goal cells) (sym is) (t .reply)) (rest .at);
+        replies = replies.hit m (t .1) (rest .replies);
+        at = next (subst (λ (x : List ℕ). Hit x goal) (sym is) (hit-there (a .0) (g .head) m)) (subst (λ (x : List ℕ). Reply x goal cells) (sym is) (t .1)) (rest .at);
         below = (omega arith, rest .below);
         many = ap suc (rest .many);
         few = omega (arith, rest .few);
-        small = omega (arith, s, rest .small, length-append cells (flatten (rest .all)));
       }
     where
       suc-in : (f j : ℕ) → suc f + j ≡ f + suc j
@@ -79,7 +96,6 @@ module _ (row : ℕ → List ℕ) {w : ℕ} {goal : List ℕ} (g : IsGoal w goal
         below = rest .below;
         many = rest .many;
         few = omega (arith, rest .few);
-        small = omega (arith, rest .small);
       }
     where
       suc-in : (f j : ℕ) → suc f + j ≡ f + suc j

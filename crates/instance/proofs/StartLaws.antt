@@ -1,13 +1,11 @@
 -- A hit: an accepted row and goal that unify. What the code starts from, and what it ends with.
-use Prim.Native.Nat.{ℕ, suc, _+_, _-_, _^_, _≤_, _<_}
-use mathlib.Core.Path.{_≡_, refl, sym, _∙_, ap, subst}
+use Prim.Native.Nat.{ℕ, _+_, _-_, _^_, _≤_}
+use mathlib.Core.Path.{_≡_, refl, sym, _∙_}
 use mathlib.Core.Logic.{⊎-elim}
 use mathlib.Core.Bool.{true, false, cond}
-use mathlib.Core.List.{List, [], _∷_, _++_, List·Memᴰ, List·Memᴰ·head, List·Memᴰ·tail}
-use native.Mathlib.Numerals.{add-one}
+use mathlib.Core.List.{List, [], _++_, List·Memᴰ·head, List·Memᴰ·tail, Memᴰ·append-left, Memᴰ·append-right}
 use native.Mathlib.Omega.{arith}
-use lib.ListN.{length-append, length, getD, take, drop, drop-of-length-le, length-map}
-use lib.Seq.{sets, length-sets, take-length, drop-cons, length-take-le}
+use lib.ListN.{length-append, length, take, length-map}
 use Rattle.cell.specs.Cell.{arity, isVar}
 use Rattle.cell.proofs.CellLaws.{var-arity, var-small}
 use Rattle.term.specs.Terms.{Terms, none, more}
@@ -15,17 +13,18 @@ use Rattle.term.specs.Unify.{renamed, Matches}
 use Rattle.term.proofs.Tests.{bool-cases}
 use Rattle.octets.specs.Octets.{Put}
 use Rattle.octets.proofs.PutLaws.{put-put, put-length, put-found}
-use Rattle.table.specs.Table.{Head, Row, IsGoal}
+use Rattle.table.specs.Table.{Head}
 use Rattle.table.proofs.Accepted.{few-variables}
-use Rattle.instance.specs.Instance.{Common, MostGeneral}
+use Rattle.instance.specs.Instance.{MostGeneral}
 use Rattle.instance.specs.Reply.{Reply}
 use Rattle.instance.specs.Rewrite.{numberFrom}
-use Rattle.instance.specs.code.Meet.{Meeting, Met, Hit}
+use Rattle.instance.specs.code.Meet.{Meeting, Few, Met, Hit}
 use Rattle.instance.proofs.Instances.{general-variant}
-use Rattle.instance.proofs.Numbering.{numbers-instance, instance-numbers, numbers-numbered}
-use Rattle.instance.proofs.Apart.{Below}
-use Rattle.instance.proofs.MeetSteps.{start-there}
-use Rattle.instance.proofs.Bound.{the-reply, reply-small}
+use Rattle.instance.proofs.Numbering.{final, numbers-instance, instance-numbers, numbers-numbered}
+use Rattle.instance.proofs.Apart.{Below, matches-common}
+use Rattle.instance.proofs.NumberLaws.{unmet-start, final-few}
+use Rattle.instance.proofs.General.{unified-general}
+use Rattle.instance.proofs.MeetSteps.{both-few, start-there}
 
 -- the goal's variables moved apart
 pub renamed-terms : {k : ℕ} {xs : List ℕ} → Terms k xs → Below (2 ^ 16) xs → Terms k (renamed xs)
@@ -45,17 +44,30 @@ renamed-terms (more {c} {k} {xs} t) b =
 pub head-below : {w : ℕ} {xs : List ℕ} → Head w xs → Below (2 ^ 16) xs
 head-below h = record { vars = λ c m v. let l = few-variables h c m v in omega arith }
 
--- a row and a goal that a run has found to unify; until W-209 the bound comes from rows that use a variable once
-pub hit-there : {w : ℕ} {row goal : List ℕ} → Row w row → IsGoal w goal → 1 ≤ w → Matches row goal → Hit row goal
-hit-there {w} r g s u =
-    let t = the-reply r g s u in
-    record { wide = w; row-head = r .head; goal-head = g .head; made = numberFrom [] (t .cells); common = t .reply .instance .common; small = reply-small r g s u (t .reply) }
+-- a row and a goal that a run has found to unify
+pub hit-there : {w : ℕ} {row goal : List ℕ} → Head w row → Head w goal → Matches row goal → Hit row goal
+hit-there {w} r g u =
+    let c = matches-common (head-below g) u in
+    record { wide = w; row-head = r; goal-head = g; made = c .0; common = c .1 }
 
--- what the code has made, renumbered, is the reply
-pub reply-there : {row goal cells : List ℕ} {n : ℕ} → Met row goal cells n → length cells ≡ 2048 → Reply row goal (numberFrom [] (take n cells))
-reply-there {row} {goal} {cells} {n} m l =
-    let few : length (take n cells) ≤ 2 ^ 30 = omega (arith, length-take-le n cells (m .within), m .within, l) in
-    record { instance = general-variant (numbers-instance (take n cells) few) (instance-numbers (take n cells) few) (m .general); order = numbers-numbered (take n cells) few }
+-- a most general common instance, renumbered, is the reply
+general-reply : {row goal cells : List ℕ} → MostGeneral row goal cells → Few 64 cells → Reply row goal (numberFrom [] cells)
+general-reply {cells = cells} m f =
+    let few : length (final [] cells) ≤ 2 ^ 30 = omega (arith, final-few [] cells (unmet-start f)) in
+    record { instance = general-variant (numbers-instance cells few) (instance-numbers cells few) m; order = numbers-numbered cells few }
+
+-- so a hit has a reply, however long: it has no variables but the row's and the goal's
+pub the-reply : {w : ℕ} {row goal : List ℕ} → Head w row → Head w goal → Matches row goal → (cells : List ℕ) × Reply row goal cells
+the-reply {row = row} {goal} r g u =
+    let b = head-below g in
+    let t = unified-general (r .terms) (renamed-terms (g .terms) b) (head-below r) b u in
+    let vars = row ++ renamed goal in
+    let found = t .2 vars (record { found = λ c m v. Memᴰ·append-left (renamed goal) m }) (record { found = λ c m v. Memᴰ·append-right row m }) in
+    (numberFrom [] (t .0), general-reply (t .1) (record { vars = vars; found = found; few = both-few r g }))
+
+-- and what the code has made gives it
+pub reply-there : {row goal cells : List ℕ} {n : ℕ} → Met row goal cells n → Reply row goal (numberFrom [] (take n cells))
+reply-there m = general-reply (m .general) (m .few)
 
 -- the list filled, the work can start
 pub hit-start : {row goal : List ℕ} → Hit row goal → (cells cells₁ cells₂ : List ℕ) (len n : ℕ) → length cells ≡ 2048
@@ -66,5 +78,5 @@ hit-start {row} {goal} h cells cells₁ cells₂ len n lc p q =
     let a : length (renamed goal) + length row ≤ 64 = omega (arith, l, h .row-head .short, h .goal-head .short) in
     let x = put-found p (omega (arith, a, lc)) .0 in
     let y = put-found (put-put p q) (omega (arith, a, lc, length-append (renamed goal) row)) in
-    start-there (h .row-head) (h .goal-head) (renamed-terms (h .goal-head .terms) (head-below (h .goal-head))) (h .common) (h .small)
+    start-there (h .row-head) (h .goal-head) (renamed-terms (h .goal-head .terms) (head-below (h .goal-head))) (h .common)
     (put-length q ∙ put-length p ∙ lc) x (omega (arith, x, y .0, length-append (renamed goal) row)) (y .1)

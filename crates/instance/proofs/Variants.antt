@@ -1,9 +1,9 @@
 -- Two lists that are instances of each other are equal as cells, once the variables of both are numbered by first appearance. So there is one reply.
-use Prim.Native.Nat.{ℕ, suc, _+_, _≤_}
+use Prim.Native.Nat.{ℕ, _+_, _≤_}
 use mathlib.Core.Path.{_≡_, refl, sym, _∙_, ap}
-use mathlib.Core.Logic.{_≢_, _⊎_, inl, inr, ⊎-elim}
+use mathlib.Core.Logic.{_≢_, _⊎_, ⊎-elim}
 use mathlib.Core.Bool.{Bool, true, false, cond, true≢false, _&&_}
-use mathlib.Core.List.{List, [], _∷_, _++_, map, List·Memᴰ, List·Memᴰ·head, List·Memᴰ·tail, List·Memᴰ·cases-cons, List·Memᴰ·not-nil, Memᴰ·map, head-eq-of-cons-eq, tail-eq-of-cons-eq}
+use mathlib.Core.List.{List, [], _∷_, map, List·Memᴰ, List·Memᴰ·head, List·Memᴰ·tail, List·Memᴰ·cases-cons, List·Memᴰ·not-nil, head-eq-of-cons-eq, tail-eq-of-cons-eq}
 use native.Mathlib.Omega.{arith}
 use lib.Dec.{eqb}
 use lib.ListN.{length, getD, length-append, length-map}
@@ -14,7 +14,7 @@ use Rattle.term.proofs.Tests.{bool-cases, eqb-same}
 use Rattle.term.proofs.Occurs.{cell-long, inst-long}
 use Rattle.table.specs.Table.{count, appear, upFrom}
 use Rattle.table.proofs.HeadLaws.{appear-has}
-use Rattle.instance.specs.Instance.{Instance, MostGeneral}
+use Rattle.instance.specs.Instance.{Instance}
 use Rattle.instance.specs.Reply.{Numbered, Reply, Replies, none, hit, miss}
 
 -- where a list gets no longer, every cell goes to one

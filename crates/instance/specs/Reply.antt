@@ -1,8 +1,8 @@
 -- The reply to a goal from a row that it hits (02, W-203): "the goal with the hit's bindings filled in, variables renumbered by first appearance.
 -- It is the most general common instance, fixed as cells."
-use Prim.Native.Nat.{ℕ}
+use Prim.Native.Nat.{ℕ, _≤_, _<_}
 use mathlib.Core.Path.{_≡_}
-use mathlib.Core.List.{List, [], _∷_}
+use mathlib.Core.List.{List, [], _∷_, List·Memᴰ}
 use lib.ListN.{length}
 use Rattle.term.specs.Unify.{Matches}
 use Rattle.table.specs.Table.{appear, upFrom}
@@ -21,3 +21,13 @@ pub data Replies (goal : List ℕ) : List (List ℕ) → List (List ℕ) → Typ
   none : Replies goal [] []
   hit : {row cells : List ℕ} {rows all : List (List ℕ)} → Matches row goal → Reply row goal cells → Replies goal rows all → Replies goal (row ∷ rows) (cells ∷ all)
   miss : {row : List ℕ} {rows all : List (List ℕ)} → ¬ Matches row goal → Replies goal rows all → Replies goal (row ∷ rows) all
+
+-- 02, W-209, "a reply needs over 1,024 cells": one that does not
+abbrev pub Short : List ℕ → Type 0
+Short cells = length cells ≤ 1024
+
+-- and replies of which one does
+pub record Large (all : List (List ℕ)) : Type 0 where
+  pub cells : List ℕ
+  pub one : List·Memᴰ cells all
+  pub over : 1024 < length cells

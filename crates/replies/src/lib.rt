@@ -1,8 +1,10 @@
 // What a run's hits say (02, W-203): for each the goal with the row's bindings filled in. The run decides by its plan which rows are hits;
-// what follows it tests nothing.
+// what follows it tests only how long a reply is.
 ghost use mathlib.Core.List.{List};
 ghost use Prim.Native.Nat.{ℕ};
-ghost use Rattle.instance.specs.Replied.{Replied};
+ghost use mathlib.Core.Path.{_≡_};
+ghost use Rattle.refusal.specs.Refusal.{refused, turned};
+ghost use Rattle.instance.specs.Replied.{Replied, repliesTold};
 ghost use Rattle.instance.specs.code.Passes.{Held, Found};
 ghost use Rattle.replies.specs.code.Asked.{FoundSome};
 
@@ -11,13 +13,25 @@ mod pass;
 
 use answer::RunAnswer;
 use instance::RepliesAnswer;
+use pass::Sum;
 use pass::pass;
 use refusal::Input;
 use refusal::Reason;
 use refusal::Refusal;
 use table::TableAnswer;
 
-// The replies of the hits of an accepted table. The first pass writes nothing that counts: it says how many cells are needed.
+fn turned_away(reason: Reason, input: Input, place: usize) -> RepliesAnswer
+    ensures { λ r. ⌜ repliesTold r ≡ turned (refused reason input place) ⌝ }
+{
+    RepliesAnswer::Refused(Refusal {
+        reason,
+        input,
+        place,
+    })
+}
+
+// The replies of the hits of an accepted table. The first pass writes nothing that counts: it says how many cells are needed, or that a
+// reply has over 1,024.
 fn put_replies(
     table: &[u32],
     starts: &[usize; 64],
@@ -31,10 +45,10 @@ fn put_replies(
         (now (table .entry)) plan (now (goal .entry)) (now (room .entry)) (now (room .exit)) r) ⌝ }
 {
     let mut cells = [0u32; 2048];
-    let mut other = [0u32; 2048];
+    let mut other = [0u32; 2049];
     let mut term = [0u32; 1024];
     let mut none = [0u32; 1];
-    let needed = pass(
+    let sum = pass(
         table,
         starts,
         rows,
@@ -45,25 +59,26 @@ fn put_replies(
         &mut term,
         &mut none,
     );
-    if room.len() < needed {
-        return RepliesAnswer::Refused(Refusal {
-            reason: Reason::Room,
-            input: Input::Lent,
-            place: needed,
-        });
+    match sum {
+        Sum::Big => turned_away(Reason::Big, Input::Goal, 0),
+        Sum::Cells(needed) => {
+            if room.len() < needed {
+                return turned_away(Reason::Room, Input::Lent, needed);
+            }
+            pass(
+                table,
+                starts,
+                rows,
+                goal,
+                hits,
+                &mut cells,
+                &mut other,
+                &mut term,
+                room,
+            );
+            RepliesAnswer::Replied(hits.len(), needed)
+        }
     }
-    let written = pass(
-        table,
-        starts,
-        rows,
-        goal,
-        hits,
-        &mut cells,
-        &mut other,
-        &mut term,
-        room,
-    );
-    RepliesAnswer::Replied(hits.len(), written)
 }
 
 // The replies of what a run has found.
@@ -82,7 +97,7 @@ fn reply_all(table: &[u32], goal: &[u32], hits: &[u8], room: &mut [u32]) -> Repl
 }
 
 // Runs a plan on a goal and writes the reply of each hit, one after another, from the room's first cell on. What is turned away, in this
-// order: the table, the plan, the goal, the room.
+// order: the table, the plan, the goal; a reply of over 1,024 cells; the room.
 pub fn replies(table: &[u32], plan: &[u32], goal: &[u32], room: &mut [u32]) -> RepliesAnswer
     ensures { λ r. ⌜ Replied (now (table .entry)) (now (plan .entry)) (now (goal .entry)) (now (room .entry)) (now (room .exit)) r ⌝ }
 {

@@ -4,7 +4,9 @@ ghost use mathlib.Core.List.{List};
 ghost use Prim.Native.Nat.{ℕ, _<_};
 ghost use lib.ListN.{length};
 ghost use Rattle.table.specs.Table.{tableOf, rowIn, RowPlace};
-ghost use Rattle.instance.specs.code.Passes.{RepliesAt, Held, Hits, Passed};
+ghost use Rattle.instance.specs.code.Passes.{RepliesAt, Held, Hits};
+ghost use Rattle.replies.specs.code.Sums.{PassedAt};
+use super::meet::Made;
 use super::meet::one;
 use notes::packed::wide;
 use table::Part;
@@ -26,8 +28,13 @@ fn row_at(table: &[u32], starts: &[usize; 64], rows: usize, r: usize) -> Part
     }
 }
 
-// The replies of the hits, put one after another into the room as far as it goes; how many cells they have together. Three lists are lent
-// to work in.
+// How many cells the replies have together, or that one has over 1,024.
+pub enum Sum {
+    Cells(usize),
+    Big,
+}
+
+// The replies of the hits, put one after another into the room as far as it goes. Three lists are lent to work in.
 pub fn pass(
     table: &[u32],
     starts: &[usize; 64],
@@ -38,11 +45,11 @@ pub fn pass(
     other: &mut [u32],
     term: &mut [u32],
     room: &mut [u32],
-) -> usize
+) -> Sum
     requires { ⌜ Held (now table) (now starts) rows × Hits (now table) (now goal) (now hits) rows
-        × (length (now cells) ≡ 2048) × (length (now other) ≡ 2048) × (length (now term) ≡ 1024) ⌝ }
+        × (length (now cells) ≡ 2048) × (length (now other) ≡ 2049) × (length (now term) ≡ 1024) ⌝ }
     ensures { λ r. ⌜ ((all : List (List ℕ)) → RepliesAt (rowIn (tableOf (now (table .entry)))) (now (goal .entry)) (now (hits .entry)) all
-        → Passed (now (room .entry)) (now (room .exit)) all r) ⌝ }
+        → PassedAt (now (room .entry)) (now (room .exit)) all r) ⌝ }
 {
     let mut sum = 0;
     let mut on = 0;
@@ -51,10 +58,17 @@ pub fn pass(
         let p = row_at(table, starts, rows, wide(hits[i]));
         let a = p.start;
         let e = p.end;
-        let n = one(&table[a..e], goal, cells, other, term);
-        on = rewrite::put_numbered(room, on, &cells[..n]);
-        sum += n;
-        i += 1;
+        match one(&table[a..e], goal, cells, other, term) {
+            Made::Fits(k) => {
+                let n = k.len;
+                on = rewrite::put_numbered(room, on, &cells[..n]);
+                sum += n;
+                i += 1;
+            }
+            Made::Big => {
+                return Sum::Big;
+            }
+        }
     }
-    sum
+    Sum::Cells(sum)
 }

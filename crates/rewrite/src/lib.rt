@@ -43,13 +43,17 @@ fn put_swapped(out: &mut [u32], to: usize, c: u32, v: u32, term: &[u32]) -> usiz
     put_cell(out, to, c)
 }
 
-// The variable `v` replaced by a term.
+// The variable `v` replaced by a term. Where the room is full no cell is looked at any more, so that many long terms take no longer than
+// what they fill.
 pub fn put_with(out: &mut [u32], to: usize, cells: &[u32], v: u32, term: &[u32]) -> usize
     ensures { λ r. ⌜ Put (now (out .entry)) (now (out .exit)) to (put v (now (term .entry)) (now (cells .entry))) r ⌝ }
 {
     let mut on = to;
     let mut i = 0;
     while i < cells.len() {
+        if out.len() <= on {
+            return on;
+        }
         on = put_swapped(out, on, cells[i], v, term);
         i += 1;
     }

@@ -18,12 +18,11 @@ pub record Solves (xs ys S Y : List ℕ) : Type 0 where
   pub gives : inst by S ≡ Y
 
 -- xs of the row and ys of the goal are left to be made equal, P of the goal being passed: what can be made of the goal so far is just what
--- row and goal have in common. Something can, of at most `room` cells; and there are at most `turns` variables.
-pub record Left (row goal xs P ys : List ℕ) (room turns : ℕ) : Type 0 where
+-- row and goal have in common. Something can; and there are at most `turns` variables.
+pub record Left (row goal xs P ys : List ℕ) (turns : ℕ) : Type 0 where
   pub gives : (Y : List ℕ) → Solves xs ys (P ++ ys) Y ↔ Common row goal Y
   pub made : List ℕ
   pub makes : Common row goal made
-  pub small : length made ≤ room
   pub owed : ℕ
   pub row-terms : Terms owed xs
   pub goal-terms : Terms owed ys

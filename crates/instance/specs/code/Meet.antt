@@ -1,6 +1,6 @@
 -- Where the making of one reply stands, in the list that the code works in: the goal so far, then what is left of the row. The contracts of
 -- private functions speak of it; no promise of a public function does.
-use Prim.Native.Nat.{ℕ, suc, _+_, _≤_}
+use Prim.Native.Nat.{ℕ, suc, _+_, _≤_, _<_}
 use mathlib.Core.Path.{_≡_}
 use mathlib.Core.List.{List, _++_}
 use lib.ListN.{length, take, drop}
@@ -22,19 +22,20 @@ pub record TermAt (xs t : List ℕ) (at e : ℕ) : Type 0 where
   pub split : drop at xs ≡ t ++ drop e xs
   pub end : at + length t ≡ e
 
--- The goal so far has the first `len` cells, `at` of them passed; of the row the cells from i up to n are left. There is room for 1,024 of each
+-- The goal so far has the first `len` cells, `at` of them passed; of the row the cells from i up to n are left: at most 1,024 of each
 pub record Meeting (row goal cells : List ℕ) (i n at len turns : ℕ) : Type 0 where
   pub inside : at ≤ len
   pub apart : len ≤ i
   pub started : i ≤ n
+  pub goal-short : len ≤ 1024
+  pub row-short : n ≤ i + 1024
   pub held : n ≤ length cells
   pub long : length cells ≡ 2048
-  pub left : Left row goal (drop i (take n cells)) (take at (take len cells)) (drop at (take len cells)) 1024 turns
+  pub left : Left row goal (drop i (take n cells)) (take at (take len cells)) (drop at (take len cells)) turns
 
 -- a variable v is about to be replaced by a term t: in the goal so far, of which `at` cells are passed then, and in the row's cells from i on
 pub record After (row goal cells : List ℕ) (v : ℕ) (t : List ℕ) (i n at len turns : ℕ) : Type 0 where
-  pub left : Left row goal (put v t (drop i (take n cells))) (put v t (take at (take len cells))) (put v t (drop at (take len cells))) 1024
-      turns
+  pub left : Left row goal (put v t (drop i (take n cells))) (put v t (take at (take len cells))) (put v t (drop at (take len cells))) turns
 
 -- the variables of a list are among n
 pub record Few (n : ℕ) (xs : List ℕ) : Type 0 where
@@ -42,17 +43,21 @@ pub record Few (n : ℕ) (xs : List ℕ) : Type 0 where
   pub found : Within vars xs
   pub few : length vars ≤ n
 
--- the end: the first n cells are the most general common instance, and it has at most 64 variables
+-- the end: the first n cells are the most general common instance, and it has at most 1,024 cells and 64 variables
 pub record Met (row goal cells : List ℕ) (n : ℕ) : Type 0 where
   pub within : n ≤ length cells
+  pub short : n ≤ 1024
   pub general : MostGeneral row goal (take n cells)
   pub few : Few 64 (take n cells)
 
--- a hit: a row and a goal of one width that have something in common, of at most 1,024 cells
+-- or all that a row and a goal have in common has over 1,024 cells
+pub record Over (row goal : List ℕ) : Type 0 where
+  pub over : (Y : List ℕ) → Common row goal Y → 1024 < length Y
+
+-- a hit: a row and a goal of one width that have something in common
 pub record Hit (row goal : List ℕ) : Type 0 where
   pub wide : ℕ
   pub row-head : Head wide row
   pub goal-head : Head wide goal
   pub made : List ℕ
   pub common : Common row goal made
-  pub small : length made ≤ 1024

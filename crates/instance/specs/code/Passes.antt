@@ -11,7 +11,7 @@ use Rattle.table.specs.All.{All}
 use Rattle.table.specs.Table.{Table, tableOf, startsIn, rowIn}
 use Rattle.answer.specs.Run.{Picks}
 use Rattle.instance.specs.Replied.{repliesOf}
-use Rattle.instance.specs.Reply.{Reply}
+use Rattle.instance.specs.Reply.{Reply, Short, Large}
 use Rattle.instance.specs.code.Meet.{Hit}
 
 -- `row` gives each number's row
@@ -34,7 +34,7 @@ pub record Hits (table goal hits : List ℕ) (rows : ℕ) : Type 0 where
   pub all : List (List ℕ)
   pub at : RepliesAt (rowIn (tableOf table)) goal hits all
 
--- the first i are done: what is put so far and the replies left make up all
+-- the first i are done, none over 1,024 cells: what is put so far and the replies left make up all
 pub record Pass (table goal hits : List ℕ) (i : ℕ) (all : List (List ℕ)) (room₀ room : List ℕ) (on sum : ℕ) : Type 0 where
   pub left : List (List ℕ)
   pub at : RepliesAt (rowIn (tableOf table)) goal (drop i hits) left
@@ -42,11 +42,14 @@ pub record Pass (table goal hits : List ℕ) (i : ℕ) (all : List (List ℕ)) (
   pub put : Put room₀ room 0 front on
   pub split : front ++ flatten left ≡ flatten all
   pub cells : length front ≡ sum
+  pub short : All Short left → All Short all
+  pub large : Large left → Large all
 
--- all are done: their number of cells, and as many of them as there is room for
+-- all are done, none over 1,024 cells: their number of cells, and as many of them as there is room for
 pub record Passed (room room′ : List ℕ) (all : List (List ℕ)) (sum : ℕ) : Type 0 where
   pub cells : sum ≡ length (flatten all)
   pub wrote : room′ ≡ sets room 0 (fitting room 0 (flatten all))
+  pub short : All Short all
 
 -- what a run has found, for a plan that is accepted
 pub record Found (table plan goal hits : List ℕ) : Type 0 where

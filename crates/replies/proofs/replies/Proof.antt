@@ -1,6 +1,5 @@
 -- `replies` meets its contract: the run finds the hits, and refuses table, plan and goal.
-use mathlib.Core.Path.{_≡_, sym}
-use Prim.Native.Nat.{_≤_}
+use mathlib.Core.Path.{sym}
 use native.Mathlib.Omega.{arith}
 use lib.Seq.{length-take-le}
 use Rattle.replies.proofs.AskedLaws.{refused-by, found-by}

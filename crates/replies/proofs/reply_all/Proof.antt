@@ -1,6 +1,5 @@
 -- `reply_all` meets its contract: the table is read again for where its rows start.
-use mathlib.Core.Path.{_≡_, sym, _∙_, ap}
-use Rattle.refusal.specs.Read.{read, refuse}
+use mathlib.Core.Path.{sym, _∙_, ap}
 use Rattle.table.specs.Table.{tableOf, tableTold}
 use Rattle.table.proofs.ReadLaws.{apart}
 use Rattle.table.proofs.PartLaws.{says-read, says-turned}

@@ -1,5 +1,4 @@
 use mathlib.Core.Path.{sym, _∙_}
-use native.Mathlib.Omega.{arith}
 use Rattle.cell.proofs.CellLaws.{is-var, not-var}
 use borrow.Author.Needs.{needs}
 use Rattle.rewrite.proofs.moved.Statement.{statement}

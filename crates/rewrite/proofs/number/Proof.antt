@@ -1,13 +1,13 @@
-use mathlib.Core.Path.{_≡_, refl, sym, _∙_}
+use mathlib.Core.Path.{_≡_, _∙_}
 use mathlib.Core.Bool.{true}
-use Prim.Native.Nat.{ℕ, suc, _≤_, _+_}
+use Prim.Native.Nat.{ℕ, suc, _≤_}
 use mathlib.Core.List.{List}
 use native.Mathlib.Omega.{arith}
 use lib.ListN.{length, take, length-set}
-use Rattle.cell.specs.Cell.{isVar, kindOf}
+use Rattle.cell.specs.Cell.{isVar}
 use Rattle.cell.proofs.CellLaws.{is-var, not-var}
 use Rattle.instance.specs.Rewrite.{place}
-use Rattle.instance.proofs.NumberLaws.{named-least, named-symbol, named-old, named-full, named-new}
+use Rattle.instance.proofs.NumberLaws.{named-least, named-old, named-full, named-new}
 use borrow.Author.Needs.{needs}
 use Rattle.rewrite.proofs.number.Statement.{statement}
 use Rattle.rewrite.proofs.number.Tie as tie

@@ -1,4 +1,3 @@
-use mathlib.Core.Path.{sym}
 use Rattle.term.specs.Bind.{idS}
 use Rattle.term.proofs.Inst.{bind-same, bind-other}
 use borrow.Author.Needs.{needs}

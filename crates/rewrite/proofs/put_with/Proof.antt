@@ -6,7 +6,7 @@ use Rattle.term.specs.Unify.{inst}
 use Rattle.octets.specs.Octets.{Put}
 use Rattle.octets.proofs.PutLaws.{put-nothing, put-length}
 use Rattle.instance.specs.Rewrite.{put}
-use Rattle.instance.proofs.RewriteLaws.{put-more, put-next}
+use Rattle.instance.proofs.RewriteLaws.{put-more, put-next, put-over}
 use borrow.Author.Needs.{needs}
 use Rattle.rewrite.proofs.put_with.Statement.{statement}
 use Rattle.rewrite.proofs.put_with.Tie as tie
@@ -20,6 +20,15 @@ abbrev μ-loop : tie.MeasureT-loop
 loop-holds : tie.Need-loop-holds Inv-loop μ-loop
 unfolding inst
 loop-holds c = (omega arith, put-nothing)
+
+same-length : tie.Need-same-length Inv-loop μ-loop
+same-length c = put-length (c .before .before .loop .inv .1)
+
+returns : tie.Need-returns Inv-loop μ-loop
+returns c =
+    let l = c .before .before .loop in
+    let s = c .before .before .before .before .before .before .args in
+    put-over (s .v) (s .term .now) (s .cells .now) (l .i) (omega (arith, c .if1 .taken)) (l .inv .1)
 
 mul-put-swapped : tie.Need-mul-put-swapped Inv-loop μ-loop
 mul-put-swapped c = search needs
@@ -38,15 +47,16 @@ loop-less c = search needs
 
 loop-again : tie.Need-loop-again Inv-loop μ-loop
 loop-again c =
-    let l = c .before .before .before .before .before .before .loop in
-    let s = c .before .before .before .before .before .before .before .before .before .before .args in
-    (search needs, put-more (put-next (s .cells .now) (l .i) (omega arith) (s .v) (s .term .now)) (l .inv .1) (c .before .before .put-swapped .ensures))
+    let l = c .before .before .before .before .before .before .before .loop in
+    let s = c .before .before .before .before .before .before .before .before .before .before .before .args in
+    let e = put-next (s .cells .now) (l .i) (omega arith) (s .v) (s .term .now) in
+    (search needs, put-more e (l .inv .1) (c .before .before .put-swapped .ensures))
 
-same-length : tie.Need-same-length Inv-loop μ-loop
-same-length c = put-length (c .before .loop .inv .1)
+same-length-2 : tie.Need-same-length-2 Inv-loop μ-loop
+same-length-2 c = put-length (c .before .loop .inv .1)
 
-returns : tie.Need-returns Inv-loop μ-loop
-returns c =
+returns-2 : tie.Need-returns-2 Inv-loop μ-loop
+returns-2 c =
     let l = c .before .loop in
     let s = c .before .before .before .before .before .args in
     rw (take-all (l .i) (s .cells .now) (omega arith)) at (l .inv .1)
@@ -58,11 +68,13 @@ put-with-spec =
     Inv-loop
     μ-loop
     loop-holds
+    same-length
+    returns
     mul-put-swapped
     shared-slice-read-put-swapped
     put-swapped-requires
     add-i
     loop-less
     loop-again
-    same-length
-    returns)
+    same-length-2
+    returns-2)

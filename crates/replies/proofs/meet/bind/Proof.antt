@@ -1,52 +1,97 @@
--- `meet::bind` meets its contract: the variable replaced in the goal so far and in what is left of the row.
+-- `meet::bind` meets its contract: the variable replaced in the goal so far and in what is left of the row, and whether one is too long.
 use mathlib.Core.Path.{_≡_, refl, sym, _∙_}
 use mathlib.Core.List.{List}
-use Prim.Native.Nat.{ℕ, _+_, _-_, _≤_}
+use Prim.Native.Nat.{ℕ, _+_, _-_, _≤_, _<_}
 use native.Mathlib.Omega.{arith}
 use lib.ListN.{length}
 use lib.Seq.{slice, length-take-le}
 use Rattle.octets.specs.Octets.{Put}
 use Rattle.instance.specs.Rewrite.{put}
-use Rattle.instance.proofs.MeetSteps.{parts-small, bind-there}
-use Rattle.replies.proofs.PartLaws.{part-slice, put-three, put-held, put-back}
+use Rattle.instance.specs.code.Meet.{Over}
+use Rattle.instance.proofs.MeetSteps.{goal-over, row-over, bind-there}
+use Rattle.replies.specs.code.Meet.{AfterAt, bound, bound-over}
+use Rattle.replies.proofs.PartLaws.{part-put, two-long, third-long, three-fit, put-three, put-held, put-back}
 use borrow.Author.Needs.{needs}
 use Rattle.replies.proofs.meet.bind.Statement.{statement}
 use Rattle.replies.proofs.meet.bind.Tie as tie
 
--- once all three parts are put
-module _ (c : tie.After-put-with3) where
+-- once the goal so far is put
+module _ (c : tie.After-put-with2) where
   abbrev start : tie.Start
-  start = c .before .before .before .before .before .before .before .before .before .before .before .before .before .before .before .before .before
+  start = c .before .before .before .before .before .before .before .before .before .before .before .before
+
+  abbrev one : tie.After-put-with
+  one = c .before .before .before .before .before
+
+  -- a part of the cells, the variable replaced
+  abbrev there : ℕ → ℕ → List ℕ
+  there i e = put (start .args .v) (start .args .term .now) (slice i e (start .args .cells .now))
 
   abbrev A : List ℕ
-  A = put (start .args .v) (start .args .term .now) (slice 0 (start .args .k .at) (start .args .cells .now))
+  A = there 0 (start .args .k .at)
 
   abbrev B : List ℕ
-  B = put (start .args .v) (start .args .term .now) (slice (start .args .k .at) (start .args .k .len) (start .args .cells .now))
+  B = there (start .args .k .at) (start .args .k .len)
+
+  abbrev Replaced : (row goal : List ℕ) → Type 0
+  Replaced row goal = AfterAt row goal (start .args .cells .now) (start .args .v) (start .args .term .now) (start .args .k)
+
+  first-put : Put (start .args .other .now) (one .put-with .last .0) 0 A (one .put-with .result)
+  first-put = one .put-with .ensures
+
+  second-put : Put (one .put-with .last .0) (c .put-with2 .last .0) (one .put-with .result) B (c .put-with2 .result)
+  second-put =
+      part-put (start .args .v) (start .args .term .now) (start .args .cells .now) (start .args .k .at) (start .args .k .len)
+      (start .pre .inside) (c .put-with2 .ensures)
+
+  goal-large : 1024 < c .put-with2 .result → (row goal : List ℕ) → Replaced row goal → Over row goal
+  goal-large l row goal w = goal-over w (start .pre .inside) (two-long (start .pre .other-long) first-put second-put l)
+
+-- once all three parts are
+module _ (c : tie.After-put-with3) where
+  abbrev two : tie.After-put-with2
+  two = c .before .before .before .before .before .before
 
   abbrev D : List ℕ
-  D = put (start .args .v) (start .args .term .now) (slice (start .args .k .i) (start .args .k .n) (start .args .cells .now))
+  D = there two (start two .args .k .i) (start two .args .k .n)
 
-  second-put : Put (c .before .before .before .before .before .before .before .before .before .before .put-with .last .0) (c .before .before .before .before .before .put-with2 .last .0) (c .before .before .before .before .before .before .before .before .before .before .put-with .result) B (c .before .before .before .before .before .put-with2 .result)
-  second-put =
-      rw (part-slice (start .args .cells .now) (start .args .k .at) (start .args .k .len) (start .pre .inside)) at (c .before .before .before .before .before .put-with2 .ensures)
-
-  third-put : Put (c .before .before .before .before .before .put-with2 .last .0) (c .put-with3 .last .0) (c .before .before .before .before .before .put-with2 .result) D (c .put-with3 .result)
+  third-put : Put (two .put-with2 .last .0) (c .put-with3 .last .0) (two .put-with2 .result) D (c .put-with3 .result)
   third-put =
-      rw (part-slice (start .args .cells .now) (start .args .k .i) (start .args .k .n) (start .pre .started)) at (c .put-with3 .ensures)
+      let s = start two .args in
+      part-put (s .v) (s .term .now) (s .cells .now) (s .k .i) (s .k .n) (start two .pre .started) (c .put-with3 .ensures)
 
-  room : length A + length B + length D ≤ length (start .args .other .now)
-  room = let s = parts-small (start .pre .after) (start .pre .inside) in omega (arith, s .0, s .1, start .pre .other-long)
+  short : two .put-with2 .result ≤ 1024
+  short = omega (arith, c .before .before .before .if1 .left)
 
-  ends : (c .before .before .before .before .before .before .before .before .before .before .put-with .result ≡ length A) × (c .before .before .before .before .before .put-with2 .result ≡ length A + length B)
-      × (c .put-with3 .result ≡ c .before .before .before .before .before .put-with2 .result + length D)
-  ends = put-three room (c .before .before .before .before .before .before .before .before .before .before .put-with .ensures) second-put third-put
+  row-large : 1024 < c .put-with3 .result - two .put-with2 .result → (row goal : List ℕ) → Replaced two row goal → Over row goal
+  row-large l row goal w =
+      let p = start two .pre in
+      row-over w (p .inside) (third-long (p .other-long) (first-put two) (second-put two) third-put short l)
 
-  held : c .put-with3 .result ≤ length (c .put-with3 .last .0)
-  held = put-held room (c .before .before .before .before .before .before .before .before .before .before .put-with .ensures) second-put third-put
+-- and all of them fit
+module _ (c : tie.Else2) where
+  abbrev three : tie.After-put-with3
+  three = c .before .before .before
+
+  abbrev both : tie.After-put-with2
+  both = two three
+
+  room : length (A both) + length (B both) + length (D three) ≤ length (start both .args .other .now)
+  room =
+      let l : three .put-with3 .result - both .put-with2 .result ≤ 1024 = omega (arith, c .if2 .left) in
+      three-fit (start both .pre .other-long) (first-put both) (second-put both) (third-put three) (short three) l
+
+  ends : (one both .put-with .result ≡ length (A both)) × (both .put-with2 .result ≡ length (A both) + length (B both))
+      × (three .put-with3 .result ≡ both .put-with2 .result + length (D three))
+  ends = put-three room (first-put both) (second-put both) (third-put three)
+
+  held : three .put-with3 .result ≤ length (three .put-with3 .last .0)
+  held = put-held room (first-put both) (second-put both) (third-put three)
 
 slice-aggregate-put-with : tie.Need-slice-aggregate-put-with
-slice-aggregate-put-with c = let p = c .before .before .before .before .before .before .pre in sym (length-take-le _ _ (omega (arith, p .inside, p .within)))
+slice-aggregate-put-with c =
+    let p = c .before .before .before .before .before .before .pre in
+    sym (length-take-le _ _ (omega (arith, p .inside, p .within)))
 
 put-with-requires : tie.Need-put-with-requires
 put-with-requires c κs = search needs
@@ -66,6 +111,15 @@ part-put-with-end c = search needs
 put-with-requires-2 : tie.Need-put-with-requires-2
 put-with-requires-2 c κs = search needs
 
+same-length : tie.Need-same-length
+same-length c = search needs
+
+same-length-2 : tie.Need-same-length-2
+same-length-2 c = search needs
+
+returns : tie.Need-returns
+returns c = λ row goal w. bound-over (goal-large (c .before .before .before) (c .if1 .taken) row goal w)
+
 mul-put-with-2 : tie.Need-mul-put-with-2
 mul-put-with-2 c = search needs
 
@@ -81,35 +135,49 @@ part-put-with-end-2 c = search needs
 put-with-requires-3 : tie.Need-put-with-requires-3
 put-with-requires-3 c κs = search needs
 
+sub-if2 : tie.Need-sub-if2
+sub-if2 c = search needs
+
+same-length-3 : tie.Need-same-length-3
+same-length-3 c = search needs
+
+same-length-4 : tie.Need-same-length-4
+same-length-4 c = search needs
+
+returns-2 : tie.Need-returns-2
+returns-2 c = λ row goal w. bound-over (row-large (c .before .before .before) (c .if2 .taken) row goal w)
+
 slice-reshare-prefix-put-cells : tie.Need-slice-reshare-prefix-put-cells
-slice-reshare-prefix-put-cells c = held (c .before .before .before)
+slice-reshare-prefix-put-cells c = search needs
 
 slice-aggregate-put-cells : tie.Need-slice-aggregate-put-cells
-slice-aggregate-put-cells c = sym (length-take-le _ _ (held (c .before .before .before .before)))
+slice-aggregate-put-cells c = sym (length-take-le _ _ (held (c .before .before)))
 
 put-cells-requires : tie.Need-put-cells-requires
 put-cells-requires c κs = search needs
 
-sub-t23 : tie.Need-sub-t23
-sub-t23 c = search needs
+sub-t21 : tie.Need-sub-t21
+sub-t21 c = search needs
 
-same-length : tie.Need-same-length
-same-length c = search needs
+same-length-5 : tie.Need-same-length-5
+same-length-5 c = search needs
 
-same-length-2 : tie.Need-same-length-2
-same-length-2 c = search needs
+same-length-6 : tie.Need-same-length-6
+same-length-6 c = search needs
 
-returns : tie.Need-returns
-returns c =
-    let w = c .before .before .before .before .before .before .before .before in
-    let p = start w .pre in
+returns-3 : tie.Need-returns-3
+returns-3 c =
+    let w = c .before .before .before .before .before .before in
+    let t = both w in
+    let p = start t .pre in
     let e = ends w in
+    let s = short (three w) in
     let x = c .before .before .before .put-cells in
-    let back = put-back (room w) (w .before .before .before .before .before .before .before .before .before .before .put-with .ensures) (second-put w) (third-put w) (p .long ∙ sym (p .other-long)) (x .ensures) in (
-      λ row goal v. bind-there v (p .inside) _ _ _ _ (x .kept .0 ∙ p .long) (e .0) (e .1) (e .2) back,
-      refl,
-      omega (arith, e .2, parts-small (p .after) (p .inside) .1),
-    )
+    let d : three w .put-with3 .result - t .put-with2 .result ≤ 1024 = omega (arith, w .if2 .left) in
+    let f : length (A t) + length (B t) + length (D (three w)) ≤ length (start t .args .cells .now) =
+    omega (arith, e .1, e .2, s, d, p .long) in
+    let back = put-back (room w) (first-put t) (second-put t) (third-put (three w)) f (x .ensures) in
+    λ row goal v. bound (bind-there v (p .inside) _ _ _ _ (x .kept .0 ∙ p .long) (e .0) (e .1) (e .2) s (omega (arith, d)) back) refl
 
 pub bind-spec : {M : Type 1} → statement M
 bind-spec =
@@ -122,15 +190,22 @@ bind-spec =
     part-put-with-start
     part-put-with-end
     put-with-requires-2
+    same-length
+    same-length-2
+    returns
     mul-put-with-2
     sub-put-with-2
     part-put-with-start-2
     part-put-with-end-2
     put-with-requires-3
+    sub-if2
+    same-length-3
+    same-length-4
+    returns-2
     slice-reshare-prefix-put-cells
     slice-aggregate-put-cells
     put-cells-requires
-    sub-t23
-    same-length
-    same-length-2
-    returns)
+    sub-t21
+    same-length-5
+    same-length-6
+    returns-3)

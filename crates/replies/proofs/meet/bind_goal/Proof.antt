@@ -1,10 +1,9 @@
 -- `meet::bind_goal` meets its contract.
-use mathlib.Core.Path.{_≡_, sym}
-use Prim.Native.Nat.{_≤_, _-_}
+use mathlib.Core.Path.{refl, sym}
+use Prim.Native.Nat.{_-_}
 use native.Mathlib.Omega.{arith}
-use lib.ListN.{length}
-use lib.Seq.{length-take-le}
 use Rattle.instance.proofs.MeetSteps.{end-in, L-long, row-term, goal-left, second-bind}
+use Rattle.replies.proofs.MadeLaws.{bound-stepped}
 use borrow.Author.Needs.{needs}
 use Rattle.replies.proofs.meet.bind_goal.Statement.{statement}
 use Rattle.replies.proofs.meet.bind_goal.Tie as tie
@@ -74,11 +73,7 @@ returns c =
     let x = c .before .before .before .before .before .before .before .before .before .before .before .take-term .ensures in
     let b = c .before .before .before .before .bind .ensures in
     let f = second-bind (s .some .meeting) (s .more) (p .1) (p .2) (p .3) x in
-    record {
-      meeting = λ row goal w. b .0 row goal (second-bind w (s .more) (p .1) (p .2) (p .3) x .2);
-      less = omega (arith, f .0, s .more, b .1, b .2);
-      turn = omega (arith, b .1);
-    }
+    bound-stepped _ (s .some) (f .0) (λ row goal w. b row goal (second-bind w (s .more) (p .1) (p .2) (p .3) x .2)) refl
 
 pub bind-goal-spec : {M : Type 1} → statement M
 bind-goal-spec =

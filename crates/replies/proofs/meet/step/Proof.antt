@@ -1,8 +1,9 @@
 -- `meet::step` meets its contract: the same cell, a variable of the row, a variable of the goal. There is no other case.
-use mathlib.Core.Path.{_≡_, refl, sym, _∙_}
+use mathlib.Core.Path.{refl, sym, _∙_}
 use native.Mathlib.Omega.{arith}
 use Rattle.cell.proofs.CellLaws.{is-var, not-var}
 use Rattle.instance.proofs.MeetSteps.{row-cell, goal-cell, same-there}
+use Rattle.replies.specs.code.Meet.{stepped}
 use borrow.Author.Needs.{needs}
 use Rattle.replies.proofs.meet.step.Statement.{statement}
 use Rattle.replies.proofs.meet.step.Tie as tie
@@ -28,11 +29,11 @@ add-t15 c = search needs
 returns : tie.Need-returns
 returns c =
     let s = c .before .before .before .before .before .before .pre in
-    record {
+    stepped (record {
       meeting = λ row goal w. same-there w (s .more) (row-cell w (s .more) ∙ c .if1 .taken ∙ sym (goal-cell w (s .more)));
       less = omega (arith, s .more);
       turn = omega arith;
-    }
+    })
 
 kind-requires : tie.Need-kind-requires
 kind-requires c κs = search needs

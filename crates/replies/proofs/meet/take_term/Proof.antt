@@ -1,5 +1,4 @@
 -- `meet::take_term` meets its contract: where a term is, the cells do not run out.
-use native.Mathlib.Omega.{arith}
 use Rattle.instance.proofs.MeetSteps.{term-taken, term-within, term-there}
 use borrow.Author.Needs.{needs}
 use Rattle.replies.proofs.meet.take_term.Statement.{statement}

@@ -1,5 +1,5 @@
 -- `pass::pass` meets its contract: the hits one after another.
-use Prim.Native.Nat.{ℕ, _+_, _-_, _*_, _≤_, _<_}
+use Prim.Native.Nat.{ℕ, _-_, _*_, _≤_, _<_}
 use mathlib.Core.Path.{_≡_, refl, sym, _∙_, ap, subst}
 use mathlib.Core.List.{List}
 use native.Mathlib.Omega.{arith}
@@ -9,17 +9,19 @@ use Rattle.octets.proofs.PutLaws.{put-length}
 use Rattle.table.specs.Table.{tableOf, rowIn}
 use Rattle.table.proofs.Accepted.{all-at}
 use Rattle.table.proofs.PartLaws.{place-inside, place-cells}
-use Rattle.instance.specs.code.Meet.{Hit, Met}
+use Rattle.instance.specs.code.Meet.{Hit}
 use Rattle.instance.specs.code.Passes.{RepliesAt, Pass}
-use Rattle.instance.proofs.PassLaws.{pass-start, pass-hit, pass-next, pass-end}
+use Rattle.instance.proofs.PassLaws.{pass-start, pass-hit, pass-next, pass-large, pass-end}
+use Rattle.replies.specs.code.Sums.{passed, passed-over}
+use Rattle.replies.proofs.MadeLaws.{met-by, over-by}
 use borrow.Author.Needs.{needs}
 use Rattle.replies.proofs.pass.pass.Statement.{statement}
 use Rattle.replies.proofs.pass.pass.Tie as tie
 
 abbrev Inv-loop : tie.InvT-loop
 Inv-loop table starts rows goal hits cells₀ other₀ term₀ room₀ sum₀ on₀ i₀ cells other term room sum on i =
-    (i ≤ length hits) × (length cells ≡ 2048) × (length other ≡ 2048) × (length term ≡ 1024) × (length room ≡ length room₀)
-    × (sum ≤ i * 2048)
+    (i ≤ length hits) × (length cells ≡ 2048) × (length other ≡ 2049) × (length term ≡ 1024) × (length room ≡ length room₀)
+    × (sum ≤ i * 1024)
     × ((all : List (List ℕ)) → RepliesAt (rowIn (tableOf table)) goal hits all → Pass table goal hits i all room₀ room on sum)
 
 abbrev μ-loop : tie.MeasureT-loop
@@ -47,14 +49,32 @@ module _ (c : tie.After-row-at Inv-loop μ-loop) where
   inside : i < length (start .args .hits .now)
   inside = omega arith
 
-  row-is : _≡_ {A = List ℕ} (take (c .row-at .result .end - c .row-at .result .start) (drop (c .row-at .result .start) (start .args .table .now)))
+  abbrev part : ℕ × ℕ
+  part = (c .row-at .result .start, c .row-at .result .end)
+
+  row-is : _≡_ {A = List ℕ} (take (part .1 - part .0) (drop (part .0) (start .args .table .now)))
       (rowIn (tableOf (start .args .table .now)) (getD (start .args .hits .now) i 0))
   row-is = place-cells _ _ (c .row-at .ensures) ∙ ap (rowIn (tableOf (start .args .table .now))) (c .before .wide .ensures)
+
+-- the hit that is made, its row, and where the loop stood before it
+module _ (c : tie.After-slice-known7 Inv-loop μ-loop) where
+  abbrev made : tie.After-one Inv-loop μ-loop
+  made = c .before .before .before .before .before .before
+
+  abbrev looked : tie.After-row-at Inv-loop μ-loop
+  looked = made .before .before .before .before .before
+
+  abbrev stood : tie.At-loop Inv-loop μ-loop
+  stood = looked .before .before .before .before
+
+  abbrev args : tie.Start Inv-loop μ-loop
+  args = start looked
 
 row-at-requires : tie.Need-row-at-requires Inv-loop μ-loop
 row-at-requires c κs =
     let s = c .before .before .before .before .before .before .before .before .before .before .before in
-    let l = all-at (λ (r : ℕ). r < s .args .rows) (s .args .hits .now) (c .before .before .before .loop .i) 0 (s .pre .1 .below) (omega arith) in
+    let i = c .before .before .before .loop .i in
+    let l = all-at (λ (r : ℕ). r < s .args .rows) (s .args .hits .now) i 0 (s .pre .1 .below) (omega arith) in
     (s .pre .0, omega (arith, l, c .wide .ensures))
 
 mul-one : tie.Need-mul-one Inv-loop μ-loop
@@ -77,54 +97,90 @@ one-requires c κs =
     let h = pass-hit (l .6 (s .pre .1 .all) (s .pre .1 .at)) (inside w) in
     (subst (λ (x : List ℕ). Hit x (s .args .goal .now)) (sym (row-is w)) h, l .1, l .2, l .3)
 
+enum-known-k : tie.Need-enum-known-k Inv-loop μ-loop
+enum-known-k c = search needs
+
 slice-reshare-prefix-put-numbered : tie.Need-slice-reshare-prefix-put-numbered Inv-loop μ-loop
-slice-reshare-prefix-put-numbered c = c .before .before .before .before .before .before .before .one .ensures .within
+slice-reshare-prefix-put-numbered c =
+    let k = c .before .before in
+    met-by refl (k .k .given .1) (made (k .before .before) .one .ensures) .within
 
 slice-aggregate-put-numbered : tie.Need-slice-aggregate-put-numbered Inv-loop μ-loop
-slice-aggregate-put-numbered c = sym (length-take-le _ _ (c .before .before .before .before .before .before .before .before .one .ensures .within))
+slice-aggregate-put-numbered c =
+    let k = c .before .before .before in
+    sym (length-take-le _ _ (met-by refl (k .k .given .1) (made (k .before .before) .one .ensures) .within))
 
 put-numbered-requires : tie.Need-put-numbered-requires Inv-loop μ-loop
 put-numbered-requires c κs = search needs
 
 add-sum : tie.Need-add-sum Inv-loop μ-loop
-add-sum c = let l = c .before .before .before .before .before .before .before .before .before .before .before .before .before .before .before .before .before .before .before .before .loop .inv in let o = c .before .before .before .before .before .before .before .before .before .before .before .one in omega (arith, l .5, l .1, o .ensures .within, o .kept, c .before .before .before .before .before .before .before .before .before .before .before .before .before .before .before .before .before .before .before .before .before .before .before .before .before .before .before .before .pre .1 .few)
+add-sum c =
+    let k = c .before .before .before .before .before .before in
+    let l = stood (k .before .before) .loop .inv in
+    let m = met-by refl (k .k .given .1) (made (k .before .before) .one .ensures) in
+    omega (arith, l .0, l .5, m .short, args (k .before .before) .pre .1 .few)
 
 add-i : tie.Need-add-i Inv-loop μ-loop
-add-i c = omega (arith, c .before .before .before .before .before .before .before .before .before .before .before .before .before .before .before .before .before .before .before .before .before .before .before .before .before .before .before .before .pre .1 .few)
+add-i c =
+    let k = c .before .before .before .before .before .before .before .before in
+    omega (arith, inside (looked k), args k .pre .1 .few)
 
 loop-less : tie.Need-loop-less Inv-loop μ-loop
 loop-less c = search needs
 
 loop-again : tie.Need-loop-again Inv-loop μ-loop
 loop-again c =
-    let w = c .before .before .before .before .before .before .before .before .before .before .before .before .before .before .before .before in
-    let l = w .before .before .before .before .loop .inv in
-    let o = c .before .before .before .before .before .before .before .before .before .before .before .one in
+    let k = c .before .before .before .before .before .before in
+    let w = looked (k .before .before) in
+    let l = stood (k .before .before) .loop .inv in
+    let o = made (k .before .before) .one in
     let q = c .before .before .put-numbered .ensures in
-    let m = subst (λ (x : List ℕ). Met x (start w .args .goal .now) (o .last .1 .1 .0) (o .result)) (row-is w) (o .ensures) in (
+    let m = met-by (row-is w) (k .k .given .1) (o .ensures) in (
       omega arith,
       o .kept .1 .1 .0 ∙ l .1,
       o .kept .1 .1 .1 .0 ∙ l .2,
       o .kept .1 .1 .1 .1 .0 ∙ l .3,
       put-length q ∙ l .4,
-      omega (arith, l .5, l .1, o .ensures .within, o .kept),
-      λ all a. pass-next (l .6 all a) (inside w) m (o .kept .1 .1 .0 ∙ l .1) q,
+      omega (arith, l .5, m .short),
+      λ all a. pass-next (l .6 all a) (inside w) m q,
     )
 
+enum-told : tie.Need-enum-told Inv-loop μ-loop
+enum-told c = search needs
+
 same-length : tie.Need-same-length Inv-loop μ-loop
-same-length c = c .before .loop .inv .1 ∙ sym (c .before .before .before .before .before .before .before .before .before .pre .2)
+same-length c = let k = c .before .before in made k .one .kept .1 .1 .0 ∙ stood k .loop .inv .1 ∙ sym (args k .pre .2)
 
 same-length-2 : tie.Need-same-length-2 Inv-loop μ-loop
-same-length-2 c = c .before .loop .inv .2 ∙ sym (c .before .before .before .before .before .before .before .before .before .pre .3)
+same-length-2 c = let k = c .before .before in made k .one .kept .1 .1 .1 .0 ∙ stood k .loop .inv .2 ∙ sym (args k .pre .3)
 
 same-length-3 : tie.Need-same-length-3 Inv-loop μ-loop
-same-length-3 c = c .before .loop .inv .3 ∙ sym (c .before .before .before .before .before .before .before .before .before .pre .4)
+same-length-3 c = let k = c .before .before in made k .one .kept .1 .1 .1 .1 .0 ∙ stood k .loop .inv .3 ∙ sym (args k .pre .4)
 
 same-length-4 : tie.Need-same-length-4 Inv-loop μ-loop
-same-length-4 c = c .before .loop .inv .4
+same-length-4 c = stood (c .before .before) .loop .inv .4
 
 returns : tie.Need-returns Inv-loop μ-loop
-returns c = let l = c .before .loop in λ all a. pass-end (l .inv .6 all a) (omega arith)
+returns c =
+    let k = c .before .before in
+    let w = looked k in
+    let o = over-by (row-is w) (c .enum-told .given .1) (made k .one .ensures) in
+    λ all a. passed-over (pass-large (stood k .loop .inv .6 all a) (inside w) o)
+
+same-length-5 : tie.Need-same-length-5 Inv-loop μ-loop
+same-length-5 c = c .before .loop .inv .1 ∙ sym (c .before .before .before .before .before .before .before .before .before .pre .2)
+
+same-length-6 : tie.Need-same-length-6 Inv-loop μ-loop
+same-length-6 c = c .before .loop .inv .2 ∙ sym (c .before .before .before .before .before .before .before .before .before .pre .3)
+
+same-length-7 : tie.Need-same-length-7 Inv-loop μ-loop
+same-length-7 c = c .before .loop .inv .3 ∙ sym (c .before .before .before .before .before .before .before .before .before .pre .4)
+
+same-length-8 : tie.Need-same-length-8 Inv-loop μ-loop
+same-length-8 c = c .before .loop .inv .4
+
+returns-2 : tie.Need-returns-2 Inv-loop μ-loop
+returns-2 c = let l = c .before .loop in λ all a. passed (pass-end (l .inv .6 all a) (omega arith))
 
 pub pass-spec : {M : Type 1} → statement M
 pass-spec =
@@ -141,6 +197,7 @@ pass-spec =
     part-one-start
     part-one-end
     one-requires
+    enum-known-k
     slice-reshare-prefix-put-numbered
     slice-aggregate-put-numbered
     put-numbered-requires
@@ -148,8 +205,14 @@ pass-spec =
     add-i
     loop-less
     loop-again
+    enum-told
     same-length
     same-length-2
     same-length-3
     same-length-4
-    returns)
+    returns
+    same-length-5
+    same-length-6
+    same-length-7
+    same-length-8
+    returns-2)

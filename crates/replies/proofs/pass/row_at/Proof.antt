@@ -1,5 +1,4 @@
 -- `pass::row_at` meets its contract: the place of a row, from where the rows start.
-use mathlib.Core.Path.{_≡_}
 use Prim.Native.Nat.{_≤_}
 use native.Mathlib.Omega.{arith}
 use Rattle.table.proofs.Accepted.{is-table}
