@@ -86,6 +86,6 @@ put-whole {old} {new} {text} {r} p h =
 
 pub ask-back : (text names goal new : List ℕ) (p : Predicate) (cells : List ℕ) {out out′ : List ℕ} {r : ℕ}
     → Put out out′ 0 (saidIn text names goal new p cells) r → ReadsBack text names goal new p cells out out′ r
-ask-back text names goal new p cells q c k L T G all l n e g m rs i h H =
+ask-back text names goal new p cells q c k L T G all l n e g m rs i s h H =
     let g′ = subst (λ (ns : List ℕ). GoalRead (wordsIn text ns) (predicateIn text p) (p .width) goal (read G)) n g in
-    rw (put-whole q h, n, m) (replies-back p l e g′ rs i H)
+    rw (put-whole q h, n, m) (replies-back p l e g′ rs i s H)

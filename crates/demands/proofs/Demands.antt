@@ -10,13 +10,11 @@
 --   n ≡ coded (planSays (planOf t p))            dudowiej_check_plan
 --   RunCoded t p g room room′ n                  dudowiej_run_plan
 --   BuildCoded rec room room′ n                  dudowiej_build_plan (proofs/Records)
-use Prim.Native.Nat.{ℕ, _+_, _*_, _≤_, _<_}
+use Prim.Native.Nat.{ℕ, _+_, _*_}
 use mathlib.Core.Path.{_≡_, sym, _∙_, subst}
-use mathlib.Core.Bool.{true}
 use mathlib.Core.Logic.{_↔_}
-use mathlib.Core.List.{List, []}
-use lib.ListN.{length, getD}
-use Rattle.cell.specs.Cell.{isVar}
+use mathlib.Core.List.{List}
+use lib.ListN.{length}
 use Rattle.term.specs.Unify.{Finite, Matches}
 use Rattle.term.proofs.Finite.{finite-unifier}
 use Rattle.refusal.specs.Refusal.{refused, answered}
@@ -25,8 +23,8 @@ use Rattle.refusal.specs.declared.Reason.the-variants as reason
 use Rattle.refusal.specs.declared.Input.the-variants as input
 use Rattle.refusal.specs.Read.{read, refuse}
 use Rattle.table.specs.Table.{table, tableOf, tableSays, goalOf, goalWith, goalSays, rowOf, rowIn}
-use Rattle.table.specs.Table.{IsTable, IsGoal, count, Repeats, RowRepeats}
-use Rattle.table.proofs.Accepted.{table-accepted, goal-accepted, accepted-row}
+use Rattle.table.specs.Table.{IsTable, IsGoal, Repeats, RowRepeats}
+use Rattle.table.proofs.Accepted.{table-accepted, goal-accepted}
 use Rattle.table.proofs.SameLaws.{same-exactly, row-same-exactly}
 use Rattle.checker.specs.Checked.{planSays}
 use Rattle.plan.specs.Plans.{Plan, write, branches, OneRow}
@@ -104,10 +102,7 @@ demand-3-same-rows e e′ x y =
     let s = same-hits e e′ (x .ran) (y .ran) in
     (s .0, λ h k h′ k′ q q′. s .1 h k h′ k′ (sym (run-back x) ∙ q) (sym (run-back y) ∙ q′))
 
--- "In the base, no row uses one variable twice."
-pub demand-3-once : (t : List ℕ) {w : ℕ} {rows : List (List ℕ)} → IsTable t w rows → (j : ℕ) → j < length rows → (v : ℕ) → isVar v ≡ true
-    → count v (getD rows j []) ≤ 1
-demand-3-once t i j l = accepted-row t (reads i) j l .once
+-- "In the base, no row uses one variable twice": W-209 takes this sentence away (proofs/Twice).
 
 -- W-208 (02). "From then on a leaf has exactly one row": of every plan of an accepted table, which so has 3·B + 2 − R cells for R rows. That
 -- no row without variables stands twice in a table is in `demand-1-table`: `IsTable .apart`.

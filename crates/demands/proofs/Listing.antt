@@ -3,7 +3,7 @@ use Prim.Native.Nat.{ℕ, _%_, _<_}
 use mathlib.Core.Path.{_≡_, refl, sym, ap, _∙_, subst}
 use mathlib.Core.Bool.{true, false, or-true}
 use mathlib.Core.Logic.{_⊎_, inl, inr}
-use mathlib.Core.List.{List}
+use mathlib.Core.List.{List, []}
 use native.Mathlib.Omega.{arith}
 use lib.Dec.{ltb}
 use lib.ListN.{length, take, drop}
@@ -11,12 +11,16 @@ use lib.Seq.{take-at, drop-at}
 use borrow.Author.Tests.{lt-ltb, le-ltb, eq-eqb, ne-eqb}
 use Rattle.refusal.specs.Refusal.{Refused}
 use Rattle.refusal.specs.Read.{refuse}
-use Rattle.table.specs.Table.{Table, table, tableOf, IsTable}
+use Rattle.term.specs.Terms.{Terms}
+use Rattle.table.specs.All.{All}
+use Rattle.table.specs.Table.{Table, table, tableOf, Row, IsTable}
+use Rattle.table.proofs.AllLaws.{all-each}
 use Rattle.table.proofs.ReadLaws.{apart, read-one, refuse-one}
 use Rattle.plan.specs.Plans.{Plan, plain}
-use Rattle.plan.proofs.PlansLaws.{cost-plain}
 use Rattle.least.specs.Least.{Built}
 use Rattle.least.proofs.Building.{built-least}
+use Rattle.least.proofs.Later.{from-plain}
+use Rattle.least.proofs.Weighed.{plain-light}
 use Rattle.octets.specs.Octets.{cellsOf}
 use Rattle.printing.specs.Printing.{refusal, Written}
 use Rattle.listing.specs.Listing.{listingOf, ListsTable, refused, listed, unread, Lists, no-cells, cells}
@@ -39,12 +43,15 @@ of-table : {t text : List ℕ} {width : ℕ} {rows : List (List ℕ)} → IsTabl
 of-table i (refused f e) = apart (sym (reads i) ∙ e)
 of-table {text = text} {width} {rows} i (listed T tree e b) = of-rows (read-one (sym e ∙ reads i)) tree b refl
   where
+    terms : All (Terms width) rows
+    terms = all-each (Row width) (Terms width) (λ r x. x .terms) rows (i .each)
+
     of-rows : {U : Table} → U ≡ table width rows → (p : Plan (U .width) (U .rows)) → Built plain p → text ≡ listingOf U p → Fewest width rows text
     of-rows q = subst (λ (U : Table). (p : Plan (U .width) (U .rows)) → Built plain p → text ≡ listingOf U p → Fewest width rows text) (sym q) (λ p d k.
         record {
           tree = p;
           rule = d;
-          fewest = λ other. omega (arith, built-least plain p d .none-less other, cost-plain p, cost-plain other);
+          fewest = λ other. omega (arith, built-least plain plain-light p terms d .none-less other, from-plain p [], from-plain other []);
           text-is = sym k;
         })
 

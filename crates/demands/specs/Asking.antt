@@ -14,7 +14,7 @@ use Rattle.table.specs.Table.{Table, tableOf, IsGoal}
 use Rattle.grammar.specs.Grammar.{Fact}
 use Rattle.grammar.specs.Taken.{Taken}
 use Rattle.loading.specs.Load.{Loaded, Loads}
-use Rattle.instance.specs.Reply.{Replies}
+use Rattle.instance.specs.Reply.{Replies, Short}
 use Rattle.asking.specs.declared.Predicate.{Predicate}
 use Rattle.asking.specs.Saying.{wordsIn, wordsOf, predicateIn, saidIn, known}
 use Rattle.asking.specs.Goal.{Goal, Asks, GoalRead}
@@ -46,10 +46,11 @@ ReadsGoal text names p t cells′ new′ r = (goal : Goal) → Gives goal cells�
 
 -- "The text of an answer is a promised, total library function (cells and the list of names to bytes, and W-201's reader of that text gives
 -- the cells back: a theorem)": for each of the replies of a table that was read from a text, to a goal that was read from one, what is put
--- into a room that is large enough is read, by the table's names and the goal's new ones, as a goal of exactly the reply's cells
+-- into a room that is large enough is read, by the table's names and the goal's new ones, as a goal of exactly the reply's cells. A reply
+-- of over 1,024 cells has no text, since W-203's entry never gives one (W-209, BIG): what it gives is `Short` (`small` of specs/Replies)
 abbrev pub ReadsBack : (text names goal new : List ℕ) → Predicate → (cells out out′ : List ℕ) → ℕ → Type 0
 ReadsBack text names goal new p cells out out′ r =
     (c n : ℕ) (L : Loaded) (T : Table) (G : Goal) (all : List (List ℕ)) → Loads text c n (read L) → names ≡ L .names → tableOf (L .cells) ≡ read T
     → GoalRead (wordsIn text names) (predicateIn text p) (p .width) goal (read G) → new ≡ G .new → Replies (G .cells) (T .rows) all
-    → List·Memᴰ cells all → length (saidIn text names goal new p cells) ≤ length out
+    → List·Memᴰ cells all → Short cells → length (saidIn text names goal new p cells) ≤ length out
     → (H : Goal) → Asks (wordsOf text names goal new) (predicateIn text p) (p .width) (take r out′) H ↔ (H ≡ known cells)

@@ -3,6 +3,7 @@ pub mod Listing
 pub mod Texts
 pub mod Shift
 pub mod Replies
+pub mod Twice
 pub mod Numbers
 pub mod Records
 pub mod Asking

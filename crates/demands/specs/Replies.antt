@@ -13,17 +13,21 @@ use Rattle.table.specs.All.{All}
 use Rattle.table.specs.Table.{tableOf, goalOf, IsTable, IsGoal}
 use Rattle.plan.specs.Plans.{Plan, write}
 use Rattle.plan.specs.Check.{planOf}
-use Rattle.instance.specs.Reply.{Replies}
+use Rattle.instance.specs.Reply.{Replies, Short, Large}
 
--- "Refusals: table, plan, goal, then ROOM when the lent cells are too few for all replies": what turns it away, and the refusal that it gets
+-- "Refusals: table, plan, goal, then ROOM when the lent cells are too few for all replies", and W-209, "W-203 gives BIG, before ROOM,
+-- exactly when a reply needs over 1,024 cells": what turns it away, and the refusal that it gets
 pub data RepliesTurned (cells plan goal room : List ℕ) (refusal : Refused) : Type 0 where
   bad-table : tableOf cells ≡ refuse refusal → RepliesTurned cells plan goal room refusal
   bad-plan : {width : ℕ} {rows : List (List ℕ)} → IsTable cells width rows → planOf cells plan ≡ refuse refusal
       → RepliesTurned cells plan goal room refusal
   bad-goal : {width : ℕ} {rows : List (List ℕ)} → IsTable cells width rows → (tree : Plan width rows) → write tree ≡ plan
       → goalOf width goal ≡ refuse refusal → RepliesTurned cells plan goal room refusal
+  big : {width : ℕ} {rows : List (List ℕ)} (all : List (List ℕ)) → IsTable cells width rows → (tree : Plan width rows) → write tree ≡ plan
+      → IsGoal width goal → Replies goal rows all → Large all → refusal ≡ refused reason.Big input.Goal 0
+      → RepliesTurned cells plan goal room refusal
   bad-room : {width : ℕ} {rows : List (List ℕ)} (all : List (List ℕ)) → IsTable cells width rows → (tree : Plan width rows) → write tree ≡ plan
-      → IsGoal width goal → Replies goal rows all → length room < length (flatten all)
+      → IsGoal width goal → Replies goal rows all → All Short all → length room < length (flatten all)
       → refusal ≡ refused reason.Room input.Lent (length (flatten all)) → RepliesTurned cells plan goal room refusal
 
 -- with nothing written (demand 1)
@@ -38,11 +42,16 @@ pub record Said (rows : List (List ℕ)) (goal room after : List ℕ) (answer : 
   pub all : List (List ℕ)
   pub each : Replies goal rows all
   pub fixed : (others : List (List ℕ)) → Replies goal rows others → others ≡ all
-  pub told : length (flatten all) ≤ length room → answer ≡ answered (length all) (length (flatten all))
-  pub wrote : length (flatten all) ≤ length room → after ≡ flatten all ++ drop (length (flatten all)) room
-  -- "Rows use a variable once, so 1,024 cells are enough for one": and so many for every row are always enough
-  pub small : All (λ (cells : List ℕ). length cells ≤ 1024) all
-  pub enough : length (flatten all) ≤ length rows * 1024
+  -- W-209, "BIG, before ROOM, exactly when a reply needs over 1,024 cells": with any room
+  pub large : (answer ≡ turned (refused reason.Big input.Goal 0)) ↔ Large all
+  -- then ROOM, and the replies otherwise
+  pub full : (answer ≡ turned (refused reason.Room input.Lent (length (flatten all))))
+      ↔ (All Short all × (length room < length (flatten all)))
+  pub told : (answer ≡ answered (length all) (length (flatten all))) ↔ (All Short all × (length (flatten all) ≤ length room))
+  pub wrote : All Short all → length (flatten all) ≤ length room → after ≡ flatten all ++ drop (length (flatten all)) room
+  -- so what is answered has at most 1,024 cells each, and so many for every row are always enough
+  pub small : (n m : ℕ) → answer ≡ answered n m → All Short all
+  pub enough : All Short all → length (flatten all) ≤ length rows * 1024
 
 abbrev pub Says : (cells plan goal room after : List ℕ) → Answer → Type 0
 Says cells plan goal room after answer =

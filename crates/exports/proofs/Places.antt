@@ -22,7 +22,7 @@ use Rattle.answer.specs.Run.{runOf}
 use Rattle.instance.specs.Replied.{repliesOf}
 use Rattle.table.proofs.Accepted.{is-table}
 use Rattle.refusal.specs.Read.{Read, read, refuse, when, andThen}
-use Rattle.table.specs.Table.{Table, Met, met, counted, termsFrom, before, doubled, rowsFrom, tableOf, table, goalOf, others, rowOf}
+use Rattle.table.specs.Table.{Table, Met, met, counted, termsFrom, before, doubled, rowsFrom, tableOf, table, goalOf, goalWith, others, rowOf}
 use Rattle.record.specs.Edits.{Edit, append, drop-last, replace, editOf}
 
 -- a refusal has its names and a place of at most n; what is read has P
@@ -69,8 +69,7 @@ placed-terms row (c ∷ xs) (suc owed) used vars p n e =
     placed-when (row && leb 32 used) reason.Long (of row) p (omega arith) (λ _.
     placed-when (eqb (v .kind) 3) reason.Cell (of row) p (omega arith) (λ _.
     placed-when (eqb (v .kind) 0 && ltb vars (v .number)) reason.Fresh (of row) p (omega arith) (λ _.
-    placed-when (row && (eqb (v .kind) 0 && ltb (v .number) vars)) reason.Twice (of row) p (omega arith) (λ _.
-    later (placed-terms row xs (v .args + owed) (suc used) (counted v vars) (suc p) n (omega arith))))))
+    later (placed-terms row xs (v .args + owed) (suc used) (counted v vars) (suc p) n (omega arith)))))
   where
     later : {r : Read Met} → Placed n (Within (suc p) n) r → Placed n (Within p n) r
     later (good {x} w) = good {x = x} (omega arith)
@@ -112,10 +111,9 @@ placed-cells (c ∷ xs) (suc owed) used vars l =
     placed-when (true && leb 32 used) reason.Long input.Table used l (λ h.
     placed-when (eqb (v .kind) 3) reason.Cell input.Table used l (λ _.
     placed-when (eqb (v .kind) 0 && ltb vars (v .number)) reason.Fresh input.Table used l (λ _.
-    placed-when (true && (eqb (v .kind) 0 && ltb (v .number) vars)) reason.Twice input.Table used l (λ _.
-    placed-cells xs (v .args + owed) (suc used) (counted v vars) (omega (arith, leb-false 32 used h))))))
+    placed-cells xs (v .args + owed) (suc used) (counted v vars) (omega (arith, leb-false 32 used h)))))
 
-placed-row : (w : ℕ) (rows : List (List ℕ)) (row : List ℕ) → Placed 32 (Any {A = ℕ}) (rowOf w rows row)
+pub placed-row : (w : ℕ) (rows : List (List ℕ)) (row : List ℕ) → Placed 32 (Any {A = ℕ}) (rowOf w rows row)
 unfolding rowOf
 placed-row w rows row =
     placed-then (λ (m : Met).
@@ -168,6 +166,9 @@ placed-goal w g =
     narrow l (good {x} w) = good {x = x} (omega arith)
     narrow l (turned k i p q) = turned k i p (omega arith)
 
+pub placed-asked : (t g : List ℕ) → Placed 2050 (Any {A = ℕ}) (goalWith t g)
+placed-asked t g = placed-then (λ (T : Table). goalOf (T .width) g) (placed-table t) (λ T _. widen (omega arith) (placed-goal (T .width) g))
+
 -- a plan's cells: what is read and what is left of it make up the whole
 abbrev Left : ℕ → Seen → Type 0
 Left n s = s .next + length (s .rest) ≡ n
@@ -217,7 +218,7 @@ placed-plan T cells =
     narrow l (turned k i p q) = turned k i p (omega arith)
 
 -- a run: the table's, the plan's and the goal's refusals, and ROOM at the number of rows
-placed-checked : (t p : List ℕ) → Placed 6082 (Any {A = ℕ}) (planOf t p)
+pub placed-checked : (t p : List ℕ) → Placed 6082 (Any {A = ℕ}) (planOf t p)
 placed-checked t p = placed-then (λ (T : Table). planFor T p) (widen (omega arith) (placed-table t)) (λ T _. placed-plan T p)
 
 pub placed-run : (t p g room : List ℕ) → Placed 6082 (Any {A = Table}) (runOf t p g room)

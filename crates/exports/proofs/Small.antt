@@ -39,7 +39,7 @@ use Rattle.answer.specs.Jobs.{JobsRun}
 use Rattle.instance.specs.declared.RepliesAnswer.{RepliesAnswer}
 use Rattle.instance.specs.Replied.{Replied, repliesTold}
 use Rattle.instance.specs.Replied as replies
-use Rattle.instance.proofs.RoomLaws.{replies-room}
+use Rattle.instance.proofs.RepliesLaws.{replies-room}
 use Rattle.answer.specs.Skeleton.{hole}
 use Rattle.answer.specs.Run.{runTold, Ran, refusal, ran}
 use Rattle.answer.proofs.TakesLaws.{run-takes}
@@ -85,7 +85,7 @@ starts-within p (x ∷ rows) m (suc r) = omega (arith, starts-within (p + length
 -- and has at most 32 cells
 row-short : (w : ℕ) (rows : List (List ℕ)) (r : ℕ) → All (Row w) rows → length (getD rows r []) ≤ 32
 row-short w [] r a = omega arith
-row-short w (x ∷ rows) zero a = a .0 .head .short
+row-short w (x ∷ rows) zero a = a .0 .short
 row-short w (x ∷ rows) (suc r) a = row-short w rows r (a .1)
 
 -- where a row starts in the table and how many cells it has, both 0 where there is no such row
@@ -166,7 +166,7 @@ build-small b {t} (room-refused T plan a e l c d) =
     rw c (refused-small reason.Room input.Lent (length (write plan)) (omega (arith, plan-cells t T plan (read-by b t a) .0)))
 build-small b {t} (built T plan a e l h c d) =
     let n = plan-cells t T plan (read-by b t a) in
-    rw c (omega (arith, n .0), omega (arith, n .1, cost-few (measureOf b) (by-low b (by-read b t a)) plan))
+    rw c (omega (arith, n .0), omega (arith, n .1, cost-few (measureOf b) (by-low b (by-read b t a)) [] plan))
 
 -- a text has at most 65,535 bytes and 32,766 symbols, and a place in it is at most its end
 stops-small : {t : List ℕ} {k : ℕ} → Stops t k → length t ≤ 65535 → k < 2 ^ 48
@@ -199,10 +199,11 @@ text-small x = small-by (x .told) (load-small (x .rule))
 pub jobs-small : {t p cells : List ℕ} {jobs jobs′ : List Job} {a : Answer} → JobsRun t p cells jobs jobs′ a → Small a
 jobs-small {t} {p} x = small-by (jobs-told x) (plan-small t p)
 
--- the replies of at most 64 rows have at most 1,024 cells each
+-- the replies of at most 64 rows that are written have at most 1,024 cells each
 pub replies-small : {t p g room room′ : List ℕ} {r : RepliesAnswer} → Replied t p g room room′ r → Small (repliesTold r)
 replies-small {t} {p} {g} (replies.refusal f a b c) = rw b (placed-small (omega arith) (placed-replies t p g) a)
-replies-small {t} {p} {g} (replies.no-room T all a w l b c) =
-    let n = replies-room t p g a w in
+replies-small (replies.big T all a w n b c) = rw b (refused-small reason.Big input.Goal 0 (omega arith))
+replies-small {t} {p} {g} (replies.no-room T all a w s l b c) =
+    let n = replies-room t p g a w s in
     rw b (refused-small reason.Room input.Lent (length (flatten all)) (omega (arith, n .1)))
-replies-small {t} {p} {g} (replies.replied T all a w l b c) = let n = replies-room t p g a w in rw b (omega (arith, n .0), omega (arith, n .1))
+replies-small {t} {p} {g} (replies.replied T all a w s l b c) = let n = replies-room t p g a w s in rw b (omega (arith, n .0), omega (arith, n .1))

@@ -25,14 +25,15 @@ use Rattle.plan.specs.Check.{stateFrom, nothingAfter, planFor, planOf}
 use Rattle.plan.proofs.CheckLaws.{accepted-one, rows-fit}
 use Rattle.least.specs.code.Best.{argmin, total, best}
 use Rattle.least.proofs.Builder.{place, runCells, planCells, plan-built}
+use Rattle.least.proofs.Weighed.{plain-light}
 use Rattle.answer.specs.Skeleton.{hole, fill, decide, opened}
 use Rattle.answer.specs.Run.{skeletons}
-use Rattle.answer.proofs.AcceptedLaws.{goal-head, table-fine}
+use Rattle.answer.proofs.AcceptedLaws.{goal-head, table-loose}
 use Rattle.answer.proofs.OpenGoalLaws.{skeletons-terms}
 use Rattle.answer.proofs.Decided.{hitsBy, hits-by, triedBy, tried-by, row-terms, run-by}
 use Rattle.answer.proofs.TakesLaws.{Takes}
 use Rattle.marked.specs.Examples.{Example, turned, planTurned, built, ran, BuiltSays, RanSays, Says, P, marked}
-use Rattle.marked.specs.Examples.{tableCells, p1, p2, plan2, p3, plan3, p7, p8, plan8}
+use Rattle.marked.specs.Examples.{tableCells, p1, p2, plan2, p3, plan3, p7, p8, plan8, plan9}
 use Rattle.marked.proofs.Above.{Got, above, above-right}
 
 -- What is computed: by the definitions' own functions, and where they speak of substitutions by decisions that are proved right.
@@ -100,7 +101,7 @@ module _ (t p : List ℕ) (cost : ℕ) (e : planOf t p ≡ read cost) (q : plann
       let T = f .0 in
       let i = is-table t (f .1) in
       let a = accepted-one T i p cost .0 (f .2) in
-      let b = plan-built plain 32 (T .width) (T .rows) (rows-fit (T .width) (T .rows) (i .each)) (i .count .0) in
+      let b = plan-built plain plain-light 32 (T .width) (T .rows) (rows-fit (T .width) (T .rows) (i .each)) (i .count .0) in
       let w : planCells plain 32 (T .width) (T .rows) ≡ p = rw (f .1) at q in
       let v = b .writes-it ∙ w in
       record { table = T; reads = f .1; tree = b .plan; writes = v; rule = b .built; count = ap branches (a .3 (b .plan) v) ∙ a .2 }
@@ -127,7 +128,7 @@ module _ (t p : List ℕ) (cost : ℕ) (g hits : List ℕ) (tried : ℕ) (e : pl
       let n : triedBy g (skeletons (B .tree) K) ≡ tried = rw (ap (λ (x : Got). x .above) s) at (rw (B .reads) at c) in
       let v = is-read (goalOf (T .width) g) (rw (B .reads) at r) in
       let u = goal-head (is-goal (T .width) g (v .1) .0) .terms in
-      let tries = tried-by (T .width) g u (skeletons (B .tree) K) (skeletons-terms (T .width) (B .tree) (table-fine i) (i .count .0)) in
+      let tries = tried-by (T .width) g u (skeletons (B .tree) K) (skeletons-terms (T .width) (B .tree) (table-loose i) (i .count .0)) in
       let takes : (room : List ℕ) → length (T .rows) ≤ length room → Takes t p g room T =
       λ room l. record { table = B .reads; branches = cost; plan = e; variables = v .0; goal = v .1; room-for = l } in
       record {
@@ -157,11 +158,11 @@ all-say [] a = tt
 all-say (x ∷ xs) a = (says (x .example) (a .0), all-say xs (a .1))
 
 all-computed : map (λ (x : P). computed (x .example)) marked ≡ map (λ (x : P). printed (x .example)) marked
-unfolding marked computed printed planned aboveAll afterSize tableCells p1 p2 plan2 p3 plan3 p7 p8 plan8 tableOf rowsFrom among same termsFrom goalOf planFor stateFrom planCells place runCells best total argmin root close agree arity valuesAt isVar flatten hitsBy triedBy above unifiable unify walk bindTest occurs renamed inst bind idS front back opened fill decide hole count upFrom
+unfolding marked computed printed planned aboveAll afterSize tableCells p1 p2 plan2 p3 plan3 p7 p8 plan8 plan9 tableOf rowsFrom among same termsFrom goalOf planFor stateFrom planCells place runCells best total argmin root close agree arity valuesAt isVar flatten hitsBy triedBy above unifiable unify walk bindTest occurs renamed inst bind idS front back opened fill decide hole count upFrom
 all-computed = refl
 
 -- P1 to P10: each says what is so, and none is left out
 pub examples : All (λ (x : P). Says (x .example)) marked
-    × (map (λ (x : P). x .number) marked ≡ 1 ∷ 2 ∷ 2 ∷ 3 ∷ 3 ∷ 4 ∷ 5 ∷ 6 ∷ 7 ∷ 8 ∷ 9 ∷ 9 ∷ 10 ∷ [])
+    × (map (λ (x : P). x .number) marked ≡ 1 ∷ 2 ∷ 2 ∷ 3 ∷ 3 ∷ 4 ∷ 5 ∷ 6 ∷ 7 ∷ 8 ∷ 9 ∷ 9 ∷ 9 ∷ 9 ∷ 10 ∷ [])
 unfolding marked
 examples = (all-say marked (each (λ (x : P). computed (x .example)) (λ (x : P). printed (x .example)) marked all-computed), refl)

@@ -114,6 +114,9 @@ p8 = tableCells 1 ((f1 ∷ a ∷ []) ∷ (f1 ∷ b ∷ []) ∷ (g ∷ []) ∷ []
 unfoldable pub plan8 : List ℕ
 plan8 = 0 ∷ 2 ∷ f1 ∷ 0 ∷ 2 ∷ a ∷ 1 ∷ b ∷ 1 ∷ g ∷ 1 ∷ []
 
+unfoldable pub plan9 : List ℕ
+plan9 = 0 ∷ 1 ∷ v 0 ∷ 0 ∷ 1 ∷ v 0 ∷ 1 ∷ []
+
 -- the examples marked P, each under its number
 unfoldable pub marked : List P
 marked =
@@ -135,8 +138,11 @@ marked =
     ∷ p 7 (ran p7 (0 ∷ 1 ∷ a ∷ 0 ∷ 2 ∷ b ∷ 1 ∷ a ∷ 1 ∷ []) 3 (v 0 ∷ v 0 ∷ []) (1 ∷ []) 3)
     -- P8: (f1(a)) (f1(b)) (g); goal (g): row 2, tried 2
     ∷ p 8 (ran p8 plan8 4 (g ∷ []) (2 ∷ []) 2)
-    -- P9: cells 2 1 0 0: TWICE at 3. Cells 1 1 1: FRESH at 2
-    ∷ p 9 (turned (2 ∷ 1 ∷ 0 ∷ 0 ∷ []) reason.Twice 3)
+    -- P9: cells 2 1 0 0; 02, W-209, "P9's first table is accepted": the row (v0,v0). Its second branch "unifies the two terms .. with the
+    -- occurs check": goal (a,v0): row 0, tried 2. Goals (a,b) and (v0,f1(v0)): no row, tried 2. Cells 1 1 1: FRESH at 2
+    ∷ p 9 (ran (2 ∷ 1 ∷ 0 ∷ 0 ∷ []) plan9 2 (a ∷ v 0 ∷ []) (0 ∷ []) 2)
+    ∷ p 9 (ran (2 ∷ 1 ∷ 0 ∷ 0 ∷ []) plan9 2 (a ∷ b ∷ []) [] 2)
+    ∷ p 9 (ran (2 ∷ 1 ∷ 0 ∷ 0 ∷ []) plan9 2 (v 0 ∷ f1 ∷ v 0 ∷ []) [] 2)
     ∷ p 9 (turned (1 ∷ 1 ∷ 1 ∷ []) reason.Fresh 2)
     -- P10: width 2, one row, cells end after a: SHORT at 3
     ∷ p 10 (turned (2 ∷ 1 ∷ a ∷ []) reason.Short 3)

@@ -1,0 +1,162 @@
+-- W-209 (02), "The same enamel twice", where it is not in the demands' own statements (specs/Twice).
+use Prim.Native.Nat.{ℕ, _+_, _≤_, _<_}
+use mathlib.Core.Path.{_≡_, refl, sym, _∙_, ap}
+use mathlib.Core.Logic.{_≢_, ⊎-elim, by-cases}
+use mathlib.Core.Bool.{true, false}
+use mathlib.Core.List.{List, [], _∷_}
+use native.Mathlib.Decide.{decLt}
+use native.Mathlib.Omega.{arith}
+use lib.ListN.{length}
+use Rattle.cell.specs.Cell.{isVar, valuesAt}
+use Rattle.cell.specs.Same.{among}
+use Rattle.term.proofs.Tests.{bool-cases}
+use Rattle.refusal.specs.Refusal.{Refused, refused, numberOf, Answer, answered}
+use Rattle.refusal.specs.declared.Reason.{Reason}
+use Rattle.refusal.specs.declared.Reason.the-variants as reason
+use Rattle.refusal.specs.declared.Input.{Input}
+use Rattle.refusal.specs.Read.{Read, read, refuse}
+use Rattle.refusal.proofs.RefusalLaws.{never-twice}
+use Rattle.table.specs.Table.{Table, table, tableOf, goalOf, rowsFrom, termsFrom, others, IsTable}
+use Rattle.table.specs.Table.{Row}
+use Rattle.term.specs.Terms.{Terms}
+use Rattle.table.proofs.AllLaws.{all-each}
+use Rattle.table.proofs.ReadLaws.{apart, refuse-one, not-both}
+use Rattle.table.proofs.Accepted.{is-table, is-goal}
+use Rattle.plan.specs.Runs.{agree}
+use Rattle.plan.specs.Plans.{Plan, branches, cost}
+use Rattle.plan.proofs.RunsLaws.{agree-fixed}
+use Rattle.least.specs.Measures.{work, costBy}
+use Rattle.least.specs.Later.{latersIn}
+use Rattle.least.specs.declared.By.{By}
+use Rattle.least.specs.declared.By.the-variants.{Branches, Work}
+use Rattle.least.proofs.Later.{cost-from, from-plain}
+use Rattle.least.proofs.Weighed.{by-light}
+use Rattle.record.specs.Edits.{Edit}
+use Rattle.answer.specs.declared.Job.{Job}
+use Rattle.exports.proofs.Places.{Placed, good, turned, placed-table, placed-row, placed-goal, placed-asked, placed-checked}
+use Rattle.demands.specs.Demands.{Demand1Table, Demand1Goal, Demand1Check, Demand1Build, Demand1Run}
+use Rattle.demands.specs.Demands.{BuildTurned, no-figure, no-table, no-room, RunTurned, bad-table, bad-plan, bad-goal, bad-room}
+use Rattle.demands.specs.Texts.{TextTurned, Request201}
+use Rattle.demands.specs.Texts as texts
+use Rattle.demands.specs.Shift.{Shift, OneJob, goalIn}
+use Rattle.demands.specs.Replies.{RepliesTurned, RepliesRefused}
+use Rattle.demands.specs.Replies as replies
+use Rattle.demands.specs.Records.{WorkTurned, MakesRecord, EditTurned, EditsRecord}
+use Rattle.demands.specs.Records as records
+use Rattle.demands.specs.Twice.{NeverTwice}
+
+-- "TWICE is never given again, which is proved": 8 is no reason's number.
+pub request-209-twice : (r : Reason) → numberOf r ≢ 8
+request-209-twice = never-twice
+
+-- So none of what this page says of an entry allows it: what an entry refuses has a reason by name (`Placed`, exports/proofs/Places).
+named : (r : Reason) {n : ℕ} → n ≡ numberOf r → n ≢ 8
+named r e q = never-twice r (sym e ∙ q)
+
+same : {f g : Refused} → f ≡ g → f .number ≡ g .number
+same e = ap (λ (h : Refused). h .number) e
+
+placed : {A : Type 0} {n : ℕ} {P : A → Type 0} {r : Read A} {f : Refused} → Placed n P r → r ≡ refuse f → f .number ≢ 8
+placed (good p) e = apart e
+placed (turned k i p l) e = named k (same (sym (refuse-one e)))
+
+pub never-read-table : {t : List ℕ} {a : Answer} → Demand1Table t a → NeverTwice a
+never-read-table {t} x f e = placed (placed-table t) (x .refuses f .0 e)
+
+pub never-read-goal : {t g : List ℕ} {a : Answer} → Demand1Goal t g a → NeverTwice a
+never-read-goal {t} {g} x f e = placed (placed-asked t g) (x .refuses f .0 e)
+
+pub never-check : {t p : List ℕ} {a : Answer} → Demand1Check t p a → NeverTwice a
+never-check {t} {p} x f e = placed (placed-checked t p) (x .refuses f .0 e)
+
+pub never-build : {by : By} {t room after : List ℕ} {a : Answer} → Demand1Build by t room after a → NeverTwice a
+never-build {by} {t} {room} x f e = go (x .refuses f .0 e)
+  where
+    go : BuildTurned by t room f → f .number ≢ 8
+    go (no-figure h q) = named reason.Figure (same q)
+    go (no-table h q) = placed (placed-table t) q
+    go (no-room h i tree b l q) = named reason.Room (same q)
+
+pub never-run : {t p g room after : List ℕ} {a : Answer} → Demand1Run t p g room after a → NeverTwice a
+never-run {t} {p} {g} {room} x f e = go (x .refuses f .0 e)
+  where
+    go : RunTurned t p g room f → f .number ≢ 8
+    go (bad-table q) = placed (placed-table t) q
+    go (bad-plan i q) = placed (placed-checked t p) q
+    go (bad-goal {width = w} i tree u q) = placed (placed-goal w g) q
+    go (bad-room i tree u h l q) = named reason.Room (same q)
+
+pub never-text : {t cells names cells′ names′ : List ℕ} {a : Answer} → Request201 t cells names cells′ names′ a → NeverTwice a
+never-text {t} {cells} {names} x f e = go (x .refuses f .0 e)
+  where
+    go : {f : Refused} → TextTurned t cells names f → f .number ≢ 8
+    go (texts.bytes h) = named reason.Bytes refl
+    go (texts.no-text k h s) = named reason.Text refl
+    go (texts.other fs k h u o) = named reason.Other refl
+    go (texts.no-cells fs h u o l) = named reason.Room refl
+    go (texts.no-names fs h u o l m) = named reason.Room refl
+    go (texts.no-table fs f h q) = placed (placed-table _) q
+
+-- of a list of goals, and of each record of it
+pub never-jobs : {t p lent : List ℕ} {jobs after : List Job} {a : Answer} → Shift t p lent jobs after a → NeverTwice a
+never-jobs {t} {p} x f e = placed (placed-checked t p) (x .refuses f .0 e)
+
+pub never-job : {t p lent : List ℕ} {w : ℕ} {rows : List (List ℕ)} {tree : Plan w rows} {j after : Job} → OneJob t p lent tree j after
+    → after .number ≢ 8
+never-job {lent = lent} {w = w} {j = j} {after = after} x q =
+    by-cases (decLt (length lent) (j .start + j .count))
+    (λ (l : length lent < j .start + j .count). let z : ⊥ = omega (arith, x .past l .number-is) in z)
+    (λ l. let k : j .start + j .count ≤ length lent = omega arith in go k (goalOf w (goalIn lent j)) refl)
+  where
+    go : j .start + j .count ≤ length lent → (r : Read ℕ) → goalOf w (goalIn lent j) ≡ r → ⊥
+    go k (read v) e = omega (arith, x .answers k (is-goal w (goalIn lent j) e .0) .number-zero)
+    go k (refuse f) e = placed (placed-goal w (goalIn lent j)) e (sym (x .refused k f e .number-is) ∙ q)
+
+pub never-replies : {t p g room after : List ℕ} {a : Answer} → RepliesRefused t p g room after a → NeverTwice a
+never-replies {t} {p} {g} {room} x f e = go (x .refuses f .0 e)
+  where
+    go : RepliesTurned t p g room f → f .number ≢ 8
+    go (replies.bad-table q) = placed (placed-table t) q
+    go (replies.bad-plan i q) = placed (placed-checked t p) q
+    go (replies.bad-goal {width = w} i tree u q) = placed (placed-goal w g) q
+    go (replies.big all i tree u h r l q) = named reason.Big (same q)
+    go (replies.bad-room all i tree u h r s l q) = named reason.Room (same q)
+
+pub never-work-out : {figure : ℕ} {t rec rec′ : List ℕ} {a : Answer} → MakesRecord figure t rec rec′ a → NeverTwice a
+never-work-out {figure} {t} x f e = go (x .refuses f .0 e)
+  where
+    go : WorkTurned figure t f → f .number ≢ 8
+    go (records.no-figure h q) = named reason.Figure (same q)
+    go (records.no-table h q) = placed (placed-table t) q
+
+pub never-edit : {e : Edit} {figure : ℕ} {T : Table} {rec rec′ : List ℕ} {a : Answer} → EditsRecord e figure T rec rec′ a → NeverTwice a
+never-edit {e} {T = T} x f q = go (x .refuses f .0 q)
+  where
+    go : {e : Edit} {f : Refused} → EditTurned T e f → f .number ≢ 8
+    go (records.full l) = named reason.Full refl
+    go (records.last l) = named reason.Last refl
+    go (records.index l) = named reason.Index refl
+    go (records.bad-append {row = row} l q) = placed (placed-row (T .width) (T .rows) row) q
+    go (records.bad-replace {r = r} {row = row} l q) = placed (placed-row (T .width) (others r (T .rows)) row) q
+
+-- "and P9's first table is accepted": its row is v0, v0.
+p9 : tableOf (2 ∷ 1 ∷ 0 ∷ 0 ∷ []) ≡ read (table 2 ((0 ∷ 0 ∷ []) ∷ []))
+unfolding tableOf rowsFrom termsFrom valuesAt among
+p9 = refl
+
+pub request-209-p9 : {a : Answer} → Demand1Table (2 ∷ 1 ∷ 0 ∷ 0 ∷ []) a → a ≡ answered 2 1
+request-209-p9 x = x .accepts 2 ((0 ∷ 0 ∷ []) ∷ []) (is-table (2 ∷ 1 ∷ 0 ∷ 0 ∷ []) p9)
+
+-- "variables of two rows still never agree"
+pub request-209-apart : (c d : ℕ) → isVar c ≡ true → agree c d ≡ false
+request-209-apart c d v = ⊎-elim (λ e. not-both v (agree-fixed c d e)) (λ e. e) (bool-cases (agree c d))
+
+-- "and a later meeting costs 1 in W-204": by the path, as `weightAt` (least/specs/Measures) has it. So a plan costs what it did before W-209,
+-- and 1 for each place of a row at which a variable stands that stands earlier in that row (`latersIn`): no plan has more of it than another
+pub request-209-cost : (figure : ℕ) (t : List ℕ) {w : ℕ} {rows : List (List ℕ)} → IsTable t w rows → (p : Plan w rows)
+    → costBy (Work figure) p ≡ cost (work figure) p + latersIn (work figure) [] rows
+request-209-cost figure t {w} {rows} i p = cost-from (by-light (Work figure)) p [] (all-each (Row w) (Terms w) (λ r x. x .terms) rows (i .each))
+
+-- 01's measure is as it was: the number of branches
+pub request-209-branches : {w : ℕ} {rows : List (List ℕ)} (p : Plan w rows) → costBy Branches p ≡ branches p
+request-209-branches p = from-plain p []
