@@ -1,10 +1,11 @@
 // What the program ask says where texts of facts and goals are refused, stored with their output: the programs over `desk` say it to standard
 // error.
-use goaltext::GoalText;
+use answer::RunAnswer;
 use libc::STDOUT_FILENO;
 use message::Whose;
 use refusal::Refusal;
 use shop::Loaded;
+use shop::Shop;
 
 fn show(text: &[u8], whose: Whose, f: Refusal) {
     let mut out = [0u8; 256];
@@ -22,22 +23,27 @@ fn facts(text: &[u8]) {
     }
 }
 
-// Why a goal is refused, for the fact `p(a, b).`
-fn goal(text: &[u8]) {
-    let rules = b"p(a, b).";
-    let mut cells = [0u32; 32];
-    let mut new = [0u32; 32];
-    match goaltext::read_goal(
-        rules,
-        &[],
-        goaltext::predicate_of(rules),
-        text,
-        &mut cells,
-        &mut new,
-    ) {
-        GoalText::Read(_, _) => {}
-        GoalText::Refused(f) => show(text, Whose::Goal, f),
+// Why a goal is refused, for some rules: by its text, or by an answer.
+fn goal_of(rules: &[u8], text: &[u8]) {
+    let mut room = [0u32; 65536];
+    let mut kept = [0u32; 10244];
+    match shop::load(rules, &mut room, &mut kept) {
+        Loaded::Kept(shop) => asked(rules, &kept, shop, text, &mut room),
+        Loaded::Refused(f) => show(rules, Whose::Facts, f),
     }
+}
+
+fn asked(rules: &[u8], kept: &[u32], shop: Shop, text: &[u8], room: &mut [u32]) {
+    let found = askgoal::find(rules, kept, shop, text, room);
+    let answer = found.answer;
+    match answer {
+        RunAnswer::Ran(_, _) => {}
+        RunAnswer::Refused(f) => show(text, Whose::Goal, f),
+    }
+}
+
+fn goal(text: &[u8]) {
+    goal_of(b"p(a, b).", text);
 }
 
 // TEXT.
@@ -70,14 +76,13 @@ fn longest() {
     facts(&text);
 }
 
-// OTHER, WIDTH, LONG, TWICE and SAME: the symbol, or where the rule begins.
+// OTHER, WIDTH, LONG and SAME: the symbol, or where the rule begins.
 fn tables() {
     facts(b"p(a).\n  q(b).");
     facts(b"\n p(a,a,a,a,a,a,a,a,a).");
     facts(
         b"p(a).\np(f(f(f(f(f(f(f(f(f(f(f(f(f(f(f(f(f(f(f(f(f(f(f(f(f(f(f(f(f(f(f(f(a))))))))))))))))))))))))))))))))).",
     );
-    facts(b"p(a, b).\np(X, f(X)).");
     facts(b"p(1).\np(2).\n   p(1).");
 }
 
@@ -89,12 +94,26 @@ fn goals() {
     goal(b"p(f(a,a,a,f(a,a,a,f(a,a,a,a))), f(a,a,a,f(a,a,a,f(a,a,a,f(a,a,a,f(a,a,a,a))))))");
 }
 
+// BIG. The first goal's answer has 1,024 cells, and nothing is said.
+fn big() {
+    let rules = b"p(A, f(A, A, A, A), B, f(B, B, B, B), C, f(C, C, C, C), D, E).";
+    goal_of(
+        rules,
+        b"p(A, B, B, C, C, D, D, f(f(f(D, D, B, D), f(D, D), f(f(D, D))), f(f(D, f(D), A), C)))",
+    );
+    goal_of(
+        rules,
+        b" p(A, B, B, C, C, D, D, f(f(D, D, f(D, C, D)), D, f(A, f(D, D, B, f(f(D, D, A)))), f(A)))",
+    );
+}
+
 fn main() {
     texts();
     ends();
     longest();
     tables();
     goals();
+    big();
     // BYTES
     facts(&[b' '; 65536]);
     goal(&[b' '; 65534]);

@@ -8,13 +8,28 @@ use page::Page;
 use shop::Shop;
 use term::End;
 
+// What a goal finds: the rules that fit, or why it is refused. So many of its names are not the facts', and stand in a list.
+pub struct Found {
+    pub answer: RunAnswer,
+    pub hits: [u8; 64],
+    pub names: usize,
+    pub new: [u32; 32],
+}
+
 // The first of a goal's cells or names.
 fn front(cells: &[u32; 32], count: usize) -> &[u32] {
     let all = &cells[..];
     part(all, 0, count)
 }
 
-// A goal asked of what is kept of a file of facts. `room` is lent for its answers, and all that is printed is gathered in `out`.
+// The rules that fit.
+fn rules_of(hits: &[u8; 64], count: usize) -> &[u8] {
+    let all = &hits[..];
+    parts::part(all, 0, count)
+}
+
+// A goal asked of what is kept of a file of facts. `room` is lent for its answers, and all that is printed is gathered in `out`. Nothing of
+// a goal is printed before all its answers are there: one that is refused for an answer has none.
 pub fn ask(
     text: &[u8],
     kept: &[u32],
@@ -25,9 +40,16 @@ pub fn ask(
     out: &mut [u8],
     page: Page,
 ) -> Page {
+    let found = find(text, kept, shop, goal, room);
+    say(text, kept, shop, goal, source, found, &*room, out, page)
+}
+
+// A goal's text read and run. The answers of the rules that fit stand in the room, one after another.
+pub fn find(text: &[u8], kept: &[u32], shop: Shop, goal: &[u8], room: &mut [u32]) -> Found {
     let p = shop.p;
     let mut cells = [0u32; 32];
     let mut new = [0u32; 32];
+    let mut hits = [0u8; 64];
     match goaltext::read_goal(
         text,
         shop::names_in(kept, shop),
@@ -36,88 +58,78 @@ pub fn ask(
         &mut cells,
         &mut new,
     ) {
-        GoalText::Read(n, m) => {
-            let first = goalsay::say_goal(goal, source, out, page);
-            answer(
-                text,
-                kept,
-                shop,
-                goal,
-                front(&new, m),
-                front(&cells, n),
-                room,
-                out,
-                first,
-            )
+        GoalText::Read(n, names) => {
+            let answer = run_goal(kept, shop, front(&cells, n), &mut hits, room);
+            Found {
+                answer,
+                hits,
+                names,
+                new,
+            }
         }
-        GoalText::Refused(f) => goalsay::refuse(goal, f, source, out, page),
+        GoalText::Refused(f) => Found {
+            answer: RunAnswer::Refused(f),
+            hits,
+            names: 0,
+            new,
+        },
     }
 }
 
-// The answers to a goal that was read, and how many there are.
-fn answer(
+// The table, its own plan and a goal that was read are never refused, and in 65,536 cells there is room for 64 answers of 1,024: where the
+// answers are refused, one of them has more.
+fn run_goal(
+    kept: &[u32],
+    shop: Shop,
+    goal: &[u32],
+    hits: &mut [u8],
+    room: &mut [u32],
+) -> RunAnswer {
+    let table = shop::table_in(kept, shop);
+    let plan = shop::plan_in(kept, shop);
+    match replies::replies(table, plan, goal, room) {
+        RepliesAnswer::Replied(_, _) => run::run_plan(table, plan, goal, hits),
+        RepliesAnswer::Refused(f) => RunAnswer::Refused(f),
+    }
+}
+
+// What a goal found.
+fn say(
     text: &[u8],
     kept: &[u32],
     shop: Shop,
     goal: &[u8],
-    new: &[u32],
+    source: Source,
+    found: Found,
     cells: &[u32],
-    room: &mut [u32],
     out: &mut [u8],
     page: Page,
 ) -> Page {
-    let mut hits = [0u8; 64];
-    let found = find(kept, shop, cells, &mut hits, room);
-    let size = found.cells;
-    let rules = found.rules;
-    let last = say_all(
-        text,
-        kept,
-        shop,
-        goal,
-        new,
-        parts::part(&hits, 0, rules),
-        part(&*room, 0, size),
-        out,
-        page,
-    );
-    goalsay::say_counts(rules, found.tried, shop.branches, out, last)
-}
-
-// How many rules fit, how many branches were tried, and how many cells the answers have together.
-pub struct Found {
-    pub rules: usize,
-    pub tried: usize,
-    pub cells: usize,
-}
-
-// The rules that fit, and their answers one after another. The table, its own plan and a goal that was read are never refused, and there is
-// room for 64 answers of 1,024 cells.
-fn find(kept: &[u32], shop: Shop, goal: &[u32], hits: &mut [u8], room: &mut [u32]) -> Found {
-    let table = shop::table_in(kept, shop);
-    let plan = shop::plan_in(kept, shop);
-    let mut found = Found {
-        rules: 0,
-        tried: 0,
-        cells: 0,
-    };
-    match run::run_plan(table, plan, goal, hits) {
-        RunAnswer::Ran(n, tried) => {
-            found.rules = n;
-            found.tried = tried;
+    let answer = found.answer;
+    let new = found.new;
+    let hits = found.hits;
+    match answer {
+        RunAnswer::Ran(rules, tried) => {
+            let first = goalsay::say_goal(goal, source, out, page);
+            let last = say_all(
+                text,
+                kept,
+                shop,
+                goal,
+                front(&new, found.names),
+                rules_of(&hits, rules),
+                cells,
+                out,
+                first,
+            );
+            goalsay::say_counts(rules, tried, shop.branches, out, last)
         }
-        RunAnswer::Refused(_) => {}
+        RunAnswer::Refused(f) => goalsay::refuse(goal, f, source, out, page),
     }
-    match replies::replies(table, plan, goal, room) {
-        RepliesAnswer::Replied(_, k) => {
-            found.cells = k;
-        }
-        RepliesAnswer::Refused(_) => {}
-    }
-    found
 }
 
-// A line for each rule that fits: its number and line, and its answer in the names of the facts and the goal's new ones.
+// A line for each rule that fits: its number and line, and its answer in the names of the facts and the goal's new ones. `cells` has an
+// answer for each.
 fn say_all(
     text: &[u8],
     kept: &[u32],

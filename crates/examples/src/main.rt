@@ -1,5 +1,5 @@
-// Every example of 01, marked or not, as 02's W-208 leaves them, and some of W-204, on the functions themselves. What is printed is
-// compared with the file stdout; cells are printed as numbers.
+// Every example of 01, marked or not, as 02's W-208 and W-209 leave them, and some of W-204 and W-209, on the functions themselves. What is
+// printed is compared with the file stdout; cells are printed as numbers.
 use answer::RunAnswer;
 use builder::BuildAnswer;
 use checker::PlanAnswer;
@@ -213,7 +213,7 @@ fn marked() {
     say(b"P8 (g) ");
     ask(&[1, 3, F1, A, F1, B, G], &[G]);
     say(b"P9 ");
-    read(&[2, 1, 0, 0]);
+    build(&[2, 1, 0, 0]);
     say(b"P9 ");
     read(&[1, 1, 1]);
     say(b"P10 ");
@@ -306,8 +306,97 @@ fn work() {
     build_work(16, &[]);
 }
 
+// What the least plan costs: by 01's measure, and by the work with the figures 0 and 3.
+fn costs(table: &[u32]) {
+    say(b"costs");
+    cost(By::Branches, table);
+    cost(By::Work(0), table);
+    cost(By::Work(3), table);
+    say(b"\n");
+}
+
+fn cost(by: By, table: &[u32]) {
+    let mut room = [0u32; 128];
+    match builder::build_plan(by, table, &mut room) {
+        BuildAnswer::Built(_, n) => {
+            say(b" ");
+            number(n);
+        }
+        BuildAnswer::Refused(f) => refused(f),
+    }
+}
+
+// 02, W-209: rows that use a variable twice, and goals below each table.
+fn alone() {
+    let same = [2, 1, 0, 0];
+    say(b"(v0,v0) ");
+    costs(&same);
+    say(b"  (a,b) ");
+    ask(&same, &[A, B]);
+    say(b"  (a,v0) ");
+    ask(&same, &[A, 0]);
+    say(b"  (v0,f1(v0)) ");
+    ask(&same, &[0, F1, 0]);
+    let three = [3, 1, 0, 0, 0];
+    say(b"(v0,v0,v0) ");
+    costs(&three);
+    say(b"  (a,v0,b) ");
+    ask(&three, &[A, 0, B]);
+    let inside = [2, 1, 0, F1, 0];
+    say(b"(v0,f1(v0)) ");
+    costs(&inside);
+    say(b"  (v0,v0) ");
+    ask(&inside, &[0, 0]);
+    let both = [3, 1, 0, 1, G2, 0, 1];
+    say(b"(v0,v1,g2(v0,v1)) ");
+    costs(&both);
+    say(b"  (v0,f1(v0),v1) ");
+    ask(&both, &[0, F1, 0, 1]);
+    let chain = [4, 1, F1, 0, 0, F1, 1, 1];
+    say(b"(f1(v0),v0,f1(v1),v1) ");
+    costs(&chain);
+    say(b"  (v0,v1,v0,v1) ");
+    ask(&chain, &[0, 1, 0, 1]);
+}
+
+// And beside others.
+fn beside() {
+    let equal = [2, 2, 0, 0, 0, 0];
+    say(b"(v0,v0) (v0,v0) ");
+    costs(&equal);
+    say(b"  (v0,v1) ");
+    ask(&equal, &[0, 1]);
+    let other = [2, 2, 0, 0, 0, 1];
+    say(b"(v0,v0) (v0,v1) ");
+    costs(&other);
+    say(b"  (a,b) ");
+    ask(&other, &[A, B]);
+    let after = [2, 2, A, 0, 0, 0];
+    say(b"(a,v0) (v0,v0) ");
+    costs(&after);
+    say(b"  (v0,v0) ");
+    ask(&after, &[0, 0]);
+    let shared = [3, 2, A, 0, 0, A, B, 0];
+    say(b"(a,v0,v0) (a,b,v0) ");
+    costs(&shared);
+    say(b"  (a,b,c) ");
+    ask(&shared, &[A, B, C]);
+    let deep = [2, 2, F1, 0, 0, F1, A, A];
+    say(b"(f1(v0),v0) (f1(a),a) ");
+    costs(&deep);
+    say(b"  (f1(v0),v0) ");
+    ask(&deep, &[F1, 0, 0]);
+    let apart = [3, 2, A, 0, 0, B, 0, 0];
+    say(b"(a,v0,v0) (b,v0,v0) ");
+    costs(&apart);
+    say(b"  (b,a,v0) ");
+    ask(&apart, &[B, A, 0]);
+}
+
 fn main() {
     marked();
     unmarked();
     work();
+    alone();
+    beside();
 }

@@ -99,10 +99,11 @@ fn refusals(going: bool) -> bool {
         d,
         b"refused are answered. FILE has at most 65,535 bytes and 64 rules, a goal 65,533\n",
     );
-    line(
+    let f = line(
         e,
-        b"bytes. The program needs 1 MB of stack, and always ends with status 0.\n",
-    )
+        b"bytes, an answer 1,024 names, variables and numbers, its cells. The program\n",
+    );
+    line(f, b"needs 1 MB of stack, and always ends with status 0.\n")
 }
 
 pub fn version() {

@@ -211,7 +211,8 @@ fn symbol_at(text: &[u8], symbol: usize) -> usize {
 }
 
 // The byte of a text at which it is refused. A text's refusals have their place in its bytes. A table's have it in its cells, which are the
-// width, the number of rules and then the text's symbols; the rule after the 64th is the one too many. Of a goal only LENGTH is left.
+// width, the number of rules and then the text's symbols; the rule after the 64th is the one too many. Of a goal only LENGTH and BIG are
+// left, which are of all of it.
 pub fn byte_of(text: &[u8], f: Refusal) -> usize {
     let input = f.input;
     let at = f.place;

@@ -29,12 +29,11 @@ factsReason number said =
     (cond (eqb number 2) (ascii "WIDTH 2: 1 to 8 arguments are expected")
     (cond (eqb number 3) (ascii "COUNT 3: at most 64 rules are expected")
     (cond (eqb number 4) (ascii "LONG 4: at most 32 names, variables and numbers are expected in a rule")
-    (cond (eqb number 8) (ascii "TWICE 8: a variable that the rule has not yet is expected: each is used once")
     (cond (eqb number 17) (ascii "BYTES 17: at most 65,535 bytes are expected")
     (cond (eqb number 18) (stopped said)
     (cond (eqb number 19) (ascii "OTHER 19: the first rule's name and number of arguments are expected")
     (cond (eqb number 24) (ascii "SAME 24: a rule that does not stand above is expected, or one with a variable")
-    (byNumber number)))))))))
+    (byNumber number))))))))
 
 -- and a goal
 unfoldable pub goalReason : ℕ → List ℕ → List ℕ
@@ -43,7 +42,8 @@ goalReason number said =
     (cond (eqb number 17) (ascii "BYTES 17: at most 65,533 bytes are expected in a goal")
     (cond (eqb number 18) (stopped said)
     (cond (eqb number 19) (ascii "OTHER 19: one term is expected, with the rules' name and number of arguments")
-    (byNumber number))))
+    (cond (eqb number 25) (ascii "BIG 25: a rule's answer has over 1,024 cells")
+    (byNumber number)))))
 
 unfoldable pub reasonOf : Whose → Reason → List ℕ → List ℕ
 reasonOf whose.Facts reason said = factsReason (numberOf reason) said

@@ -38,11 +38,6 @@ fn put_facts_reason(out: &mut [u8], to: usize, number: usize, said: &[u8]) -> us
             to,
             b"LONG 4: at most 32 names, variables and numbers are expected in a rule",
         ),
-        8 => put_word(
-            out,
-            to,
-            b"TWICE 8: a variable that the rule has not yet is expected: each is used once",
-        ),
         17 => put_word(out, to, b"BYTES 17: at most 65,535 bytes are expected"),
         18 => put_text(out, to, said),
         19 => put_word(
@@ -80,6 +75,7 @@ fn put_goal_reason(out: &mut [u8], to: usize, number: usize, said: &[u8]) -> usi
             to,
             b"OTHER 19: one term is expected, with the rules' name and number of arguments",
         ),
+        25 => put_word(out, to, b"BIG 25: a rule's answer has over 1,024 cells"),
         _ => put_number(out, to, number),
     }
 }

@@ -141,8 +141,10 @@ fn sixty_four() -> [u32; 130] {
 }
 
 fn main() {
-    // a variable used twice in a row
+    // a variable used twice in a row: v0 where it is first met, and v0 where it is met again
     show_cells(&[2, 1, 0, 0]);
+    // a row's first variable with the number 1
+    show_cells(&[1, 1, 1]);
     // a row without variables used twice in a table
     show_cells(&[1, 3, A0, B0, A0]);
     // no bytes, a cell and one byte more, one cell too many, and as many as may be

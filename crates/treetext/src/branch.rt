@@ -5,6 +5,14 @@ use octets::put_decimal;
 use octets::put_word;
 use shop::cell_at;
 
+// A branch: the place that is looked at, the cell found there, and where that variable was first met on the way; 0, which is no place,
+// where it was not, and for what is no variable.
+pub struct Look {
+    pub place: u32,
+    pub cell: u32,
+    pub first: u32,
+}
+
 // What is looked at, and what is found there.
 pub fn put_branch(
     out: &mut [u8],
@@ -12,15 +20,23 @@ pub fn put_branch(
     text: &[u8],
     names: &[u32],
     depth: usize,
-    place: u32,
-    c: u32,
+    look: Look,
 ) -> usize {
     let a = put_times(out, to, b"  ", depth);
-    let b = put_word(out, a, b"argument ");
-    let d = put_decimal(out, b, (place % 16) as usize);
-    let e = put_owner(out, d, text, names, place / 16);
-    let f = put_word(out, e, b" is ");
-    put_found(out, f, text, names, c)
+    let b = put_place(out, a, text, names, look.place);
+    let d = put_word(out, b, b" is ");
+    if look.first == 0 {
+        return put_found(out, d, text, names, look.cell);
+    }
+    let e = put_word(out, d, b"the same as ");
+    put_place(out, e, text, names, look.first)
+}
+
+// The words for a place.
+fn put_place(out: &mut [u8], to: usize, text: &[u8], names: &[u32], place: u32) -> usize {
+    let a = put_word(out, to, b"argument ");
+    let b = put_decimal(out, a, (place % 16) as usize);
+    put_owner(out, b, text, names, place / 16)
 }
 
 fn put_times(out: &mut [u8], to: usize, word: &[u8], times: usize) -> usize {
@@ -46,7 +62,7 @@ fn put_name(out: &mut [u8], to: usize, text: &[u8], names: &[u32], number: u32) 
     put_word(out, to, parts::word(text, cell_at(names, number as usize)))
 }
 
-// The symbol of a branch. A rule's variable fits everything.
+// The symbol of a branch. A rule's variable fits everything where it is first met.
 fn put_found(out: &mut [u8], to: usize, text: &[u8], names: &[u32], c: u32) -> usize {
     match cell::shape_of(c) {
         Shape::Variable(_) => put_word(out, to, b"anything"),

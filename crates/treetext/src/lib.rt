@@ -2,6 +2,7 @@
 mod branch;
 
 ghost use Prim.Native.Nat.{_≤_};
+use branch::Look;
 use doubles::part;
 use message::put_number_of;
 use octets::put_byte;
@@ -10,25 +11,14 @@ use page::Page;
 use shop::Shop;
 use shop::cell_at;
 
-// Where the walk stands: the next cell of the plan, the next rule, the first being 0; and the page.
+// Where the walk stands: the next cell of the plan, the next rule, the first being 0; where each variable of this rule was first met on the
+// way, 0 where it was not; and the page. A branch for a variable has one rule, so that all below it is that rule's.
 pub struct Stand {
     pub at: usize,
     pub rule: usize,
+    pub met: [u32; 32],
     pub to: usize,
     pub open: bool,
-}
-
-// What follows a branch: further branches, or the rule of this row.
-pub enum End {
-    Further,
-    Rule(usize),
-}
-
-fn end_of(open: usize, row: usize) -> End {
-    if open == 0 {
-        return End::Rule(row);
-    }
-    End::Further
 }
 
 // One further, and no further than the end.
@@ -44,6 +34,7 @@ pub fn print(text: &[u8], kept: &[u32], shop: Shop, out: &mut [u8]) -> Page {
     let first = Stand {
         at: 0,
         rule: 0,
+        met: [0u32; 32],
         to,
         open: true,
     };
@@ -104,35 +95,74 @@ fn put_below(below: &mut [u32], places: &[u32], index: usize, c: u32) -> usize {
     )
 }
 
-// A branch's line, in a room that has space for it. `rule` is the rule at its end, where it has one.
+// A branch's line, in a room that has space for it. So many places are open below it.
 fn say_branch(
     text: &[u8],
     kept: &[u32],
     shop: Shop,
     depth: usize,
     place: u32,
-    c: u32,
-    end: End,
-    page: Page,
+    open: usize,
+    from: Stand,
     out: &mut [u8],
-) -> Page {
-    let p = page::turn(out, page);
-    let a = branch::put_branch(out, p.to, text, shop::names_in(kept, shop), depth, place, c);
-    let b = put_end(out, a, kept, end);
-    Page {
+) -> Stand {
+    let plan = shop::plan_in(kept, shop);
+    let cell = cell_at(plan, from.at);
+    let mut met = from.met;
+    let first = meet(&mut met, cell, place);
+    let page = page::turn(
+        out,
+        Page {
+            to: from.to,
+            open: from.open,
+        },
+    );
+    let a = branch::put_branch(
+        out,
+        page.to,
+        text,
+        shop::names_in(kept, shop),
+        depth,
+        Look { place, cell, first },
+    );
+    let b = put_end(out, a, kept, open, from.rule);
+    Stand {
+        at: next(from.at, plan.len()),
+        rule: from.rule,
+        met,
         to: put_byte(out, b, b'\n'),
-        open: p.open,
+        open: page.open,
     }
 }
 
+// Where a variable was first met, and 0 where that is now, at this place. A variable's cell is its number, and a symbol's is larger than
+// any of a rule's.
+fn meet(met: &mut [u32], cell: u32, place: u32) -> u32 {
+    let v = cell as usize;
+    let first = cell_at(&*met, v);
+    if first == 0 {
+        put_place(met, v, place);
+    }
+    first
+}
+
 // After it the rule, where the way ends.
-fn put_end(out: &mut [u8], to: usize, kept: &[u32], end: End) -> usize {
-    match end {
-        End::Further => to,
-        End::Rule(row) => {
-            let on = put_word(out, to, b": ");
-            shop::put_rule(out, on, kept, row)
-        }
+fn put_end(out: &mut [u8], to: usize, kept: &[u32], open: usize, rule: usize) -> usize {
+    if 0 < open {
+        return to;
+    }
+    let on = put_word(out, to, b": ");
+    shop::put_rule(out, on, kept, rule)
+}
+
+// The end of a rule's way: the variables of the next are others.
+fn ended(from: Stand, end: usize) -> Stand {
+    Stand {
+        at: next(from.at, end),
+        rule: next(from.rule, 64),
+        met: [0u32; 32],
+        to: from.to,
+        open: from.open,
     }
 }
 
@@ -150,12 +180,7 @@ fn state(
     let plan = shop::plan_in(kept, shop);
     let end = plan.len();
     if places.len() == 0 {
-        return Stand {
-            at: next(from.at, end),
-            rule: next(from.rule, 64),
-            to: from.to,
-            open: from.open,
-        };
+        return ended(from, end);
     }
     if 32 <= depth {
         return from;
@@ -164,34 +189,13 @@ fn state(
     let place = cell_at(places, index);
     let count = next(from.at, end);
     let mut left = cell_at(plan, count);
-    let mut here = Stand {
-        at: next(count, end),
-        rule: from.rule,
-        to: from.to,
-        open: from.open,
-    };
+    let mut here = from;
+    here.at = next(count, end);
     while 0 < left {
         left -= 1;
-        let c = cell_at(plan, here.at);
         let mut below = [0u32; 32];
-        let n = put_below(&mut below, places, index, c);
-        let page = say_branch(
-            text,
-            kept,
-            shop,
-            depth,
-            place,
-            c,
-            end_of(n, here.rule),
-            Page {
-                to: here.to,
-                open: here.open,
-            },
-            out,
-        );
-        here.at = next(here.at, end);
-        here.to = page.to;
-        here.open = page.open;
+        let n = put_below(&mut below, places, index, cell_at(plan, here.at));
+        here = say_branch(text, kept, shop, depth, place, n, here, out);
         here = state(text, kept, shop, part(&below, 0, n), depth + 1, here, out);
     }
     here

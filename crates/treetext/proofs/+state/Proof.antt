@@ -11,7 +11,7 @@ use Rattle.treetext.proofs.+state.Lts-state as state-lts
 use Rattle.doubles.proofs.part.Reads as part-reads
 use Rattle.shop.proofs.cell_at.Reads as cell-at-reads
 use Rattle.shop.proofs.plan_in.Reads as plan-in-reads
-use Rattle.treetext.proofs.end_of.Reads as end-of-reads
+use Rattle.treetext.proofs.ended.Reads as ended-reads
 use Rattle.treetext.proofs.next.Reads as next-reads
 use Rattle.treetext.proofs.put_below.Reads as put-below-reads
 use Rattle.treetext.proofs.say_branch.Reads as say-branch-reads
@@ -31,14 +31,14 @@ abbrev with : ℕ → state-lts.Claims
 with t = (
   plan-in-reads.Asked,
   plan-in-reads.Learnt,
-  next-reads.Asked,
-  next-reads.Learnt,
+  ended-reads.Asked,
+  ended-reads.Learnt,
   cell-at-reads.Asked,
   cell-at-reads.Learnt,
+  next-reads.Asked,
+  next-reads.Learnt,
   put-below-reads.Asked,
   put-below-reads.Learnt,
-  end-of-reads.Asked,
-  end-of-reads.Learnt,
   say-branch-reads.Asked,
   say-branch-reads.Learnt,
   part-reads.Asked,
@@ -58,11 +58,8 @@ state-μ-loop text kept shop places depth out₀ plan end index place count left
 state-plan-in-requires : (t : ℕ) → state-lts.Need-plan-in-requires (with t) (state-at t) state.Post state-Inv-loop state-μ-loop
 state-plan-in-requires t c κs = search needs
 
-state-next-requires : (t : ℕ) → state-lts.Need-next-requires (with t) (state-at t) state.Post state-Inv-loop state-μ-loop
-state-next-requires t c κs = search needs
-
-state-next-requires-2 : (t : ℕ) → state-lts.Need-next-requires-2 (with t) (state-at t) state.Post state-Inv-loop state-μ-loop
-state-next-requires-2 t c κs = search needs
+state-ended-requires : (t : ℕ) → state-lts.Need-ended-requires (with t) (state-at t) state.Post state-Inv-loop state-μ-loop
+state-ended-requires t c κs = search needs
 
 state-returns : (t : ℕ) → state-lts.Need-returns (with t) (state-at t) state.Post state-Inv-loop state-μ-loop
 state-returns t c = search needs
@@ -79,14 +76,14 @@ state-cast-index t c = search needs
 state-cell-at-requires-2 : (t : ℕ) → state-lts.Need-cell-at-requires-2 (with t) (state-at t) state.Post state-Inv-loop state-μ-loop
 state-cell-at-requires-2 t c κs = search needs
 
-state-next-requires-3 : (t : ℕ) → state-lts.Need-next-requires-3 (with t) (state-at t) state.Post state-Inv-loop state-μ-loop
-state-next-requires-3 t c κs = search needs
+state-next-requires : (t : ℕ) → state-lts.Need-next-requires (with t) (state-at t) state.Post state-Inv-loop state-μ-loop
+state-next-requires t c κs = search needs
 
 state-cell-at-requires-3 : (t : ℕ) → state-lts.Need-cell-at-requires-3 (with t) (state-at t) state.Post state-Inv-loop state-μ-loop
 state-cell-at-requires-3 t c κs = search needs
 
-state-next-requires-4 : (t : ℕ) → state-lts.Need-next-requires-4 (with t) (state-at t) state.Post state-Inv-loop state-μ-loop
-state-next-requires-4 t c κs = search needs
+state-next-requires-2 : (t : ℕ) → state-lts.Need-next-requires-2 (with t) (state-at t) state.Post state-Inv-loop state-μ-loop
+state-next-requires-2 t c κs = search needs
 
 state-loop-holds : (t : ℕ) → state-lts.Need-loop-holds (with t) (state-at t) state.Post state-Inv-loop state-μ-loop
 state-loop-holds t c = search needs
@@ -94,23 +91,18 @@ state-loop-holds t c = search needs
 state-sub-left : (t : ℕ) → state-lts.Need-sub-left (with t) (state-at t) state.Post state-Inv-loop state-μ-loop
 state-sub-left t c = search needs
 
+state-slice-aggregate-put-below : (t : ℕ) → state-lts.Need-slice-aggregate-put-below (with t) (state-at t) state.Post
+    state-Inv-loop state-μ-loop
+state-slice-aggregate-put-below t c = search needs
+
 state-cell-at-requires-4 : (t : ℕ) → state-lts.Need-cell-at-requires-4 (with t) (state-at t) state.Post state-Inv-loop state-μ-loop
 state-cell-at-requires-4 t c κs = search needs
-
-state-slice-aggregate-put-below : (t : ℕ) → state-lts.Need-slice-aggregate-put-below (with t) (state-at t) state.Post state-Inv-loop state-μ-loop
-state-slice-aggregate-put-below t c = search needs
 
 state-put-below-requires : (t : ℕ) → state-lts.Need-put-below-requires (with t) (state-at t) state.Post state-Inv-loop state-μ-loop
 state-put-below-requires t c κs = search needs
 
-state-end-of-requires : (t : ℕ) → state-lts.Need-end-of-requires (with t) (state-at t) state.Post state-Inv-loop state-μ-loop
-state-end-of-requires t c κs = search needs
-
 state-say-branch-requires : (t : ℕ) → state-lts.Need-say-branch-requires (with t) (state-at t) state.Post state-Inv-loop state-μ-loop
 state-say-branch-requires t c κs = search needs
-
-state-next-requires-5 : (t : ℕ) → state-lts.Need-next-requires-5 (with t) (state-at t) state.Post state-Inv-loop state-μ-loop
-state-next-requires-5 t c κs = search needs
 
 state-slice-aggregate-part : (t : ℕ) → state-lts.Need-slice-aggregate-part (with t) (state-at t) state.Post state-Inv-loop state-μ-loop
 state-slice-aggregate-part t c = search needs
@@ -124,7 +116,7 @@ state-add-state t c = search needs
 state-state-requires : (t : ℕ) → state-lts.Need-state-requires (with t) (state-at t) state.Post state-Inv-loop state-μ-loop
 state-state-requires t c κs =
     let o = c .before .before .before .before .before .before .before .before .before .before in
-    let e = o .before .before .before .before .before .before .before .before .before .before in
+    let e = o .before .before .before .before .before .before .before .before in
     (omega (arith, e .if2 .left, e .before .before .before .before .before .before .before .pre .0), tt)
 
 state-loop-less : (t : ℕ) → state-lts.Need-loop-less (with t) (state-at t) state.Post state-Inv-loop state-μ-loop
@@ -146,24 +138,21 @@ pub +state-spec : {M : Type 1} → statement M
     state-Inv-loop
     state-μ-loop
     (state-plan-in-requires t)
-    (state-next-requires t)
-    (state-next-requires-2 t)
+    (state-ended-requires t)
     (state-returns t)
     (state-returns-2 t)
     (state-cell-at-requires t)
     (state-cast-index t)
     (state-cell-at-requires-2 t)
-    (state-next-requires-3 t)
+    (state-next-requires t)
     (state-cell-at-requires-3 t)
-    (state-next-requires-4 t)
+    (state-next-requires-2 t)
     (state-loop-holds t)
     (state-sub-left t)
-    (state-cell-at-requires-4 t)
     (state-slice-aggregate-put-below t)
+    (state-cell-at-requires-4 t)
     (state-put-below-requires t)
-    (state-end-of-requires t)
     (state-say-branch-requires t)
-    (state-next-requires-5 t)
     (state-slice-aggregate-part t)
     (state-part-requires t)
     (state-add-state t)

@@ -35,26 +35,20 @@ slice-aggregate-put-word-5 c = search needs
 put-word-requires-5 : tie.Need-put-word-requires-5
 put-word-requires-5 c κs = search needs
 
+put-text-requires : tie.Need-put-text-requires
+put-text-requires c κs = search needs
+
 slice-aggregate-put-word-6 : tie.Need-slice-aggregate-put-word-6
 slice-aggregate-put-word-6 c = search needs
 
 put-word-requires-6 : tie.Need-put-word-requires-6
 put-word-requires-6 c κs = search needs
 
-put-text-requires : tie.Need-put-text-requires
-put-text-requires c κs = search needs
-
 slice-aggregate-put-word-7 : tie.Need-slice-aggregate-put-word-7
 slice-aggregate-put-word-7 c = search needs
 
 put-word-requires-7 : tie.Need-put-word-requires-7
 put-word-requires-7 c κs = search needs
-
-slice-aggregate-put-word-8 : tie.Need-slice-aggregate-put-word-8
-slice-aggregate-put-word-8 c = search needs
-
-put-word-requires-8 : tie.Need-put-word-requires-8
-put-word-requires-8 c κs = search needs
 
 put-number-requires : tie.Need-put-number-requires
 put-number-requires c κs = search needs
@@ -99,14 +93,14 @@ same-length-6 c = search needs
 
 returns-6 : tie.Need-returns-6
 unfolding ascii factsReason
-returns-6 c = rw (c .before .before .before .before .before .match .keys6) (c .before .before .put-word6 .ensures)
+returns-6 c = rw (c .before .before .before .before .match .keys6) (c .before .before .put-text .ensures)
 
 same-length-7 : tie.Need-same-length-7
 same-length-7 c = search needs
 
 returns-7 : tie.Need-returns-7
 unfolding ascii factsReason
-returns-7 c = rw (c .before .before .before .before .match .keys7) (c .before .before .put-text .ensures)
+returns-7 c = rw (c .before .before .before .before .before .match .keys7) (c .before .before .put-word6 .ensures)
 
 same-length-8 : tie.Need-same-length-8
 same-length-8 c = search needs
@@ -119,16 +113,11 @@ same-length-9 : tie.Need-same-length-9
 same-length-9 c = search needs
 
 returns-9 : tie.Need-returns-9
-unfolding ascii factsReason
-returns-9 c = rw (c .before .before .before .before .before .match .keys9) (c .before .before .put-word8 .ensures)
-
-same-length-10 : tie.Need-same-length-10
-same-length-10 c = search needs
-
-returns-10 : tie.Need-returns-10
-returns-10 c =
+returns-9 c =
     let m = c .before .before .before .before .match in
-    rw (facts-other _ _ (m .rest .0 .0 .0 .0 .0 .0 .0 .0 .1) (m .rest .0 .0 .0 .0 .0 .0 .0 .1) (m .rest .0 .0 .0 .0 .0 .0 .1) (m .rest .0 .0 .0 .0 .0 .1) (m .rest .0 .0 .0 .0 .1) (m .rest .0 .0 .0 .1) (m .rest .0 .0 .1) (m .rest .0 .1) (m .rest .1)) (c .before .before .put-number .ensures)
+    let four = m .rest .0 .0 .0 .0 in
+    rw (facts-other _ _ (four .0 .0 .0 .1) (four .0 .0 .1) (four .0 .1) (four .1)
+    (m .rest .0 .0 .0 .1) (m .rest .0 .0 .1) (m .rest .0 .1) (m .rest .1)) (c .before .before .put-number .ensures)
 
 pub put-facts-reason-spec : {M : Type 1} → statement M
 put-facts-reason-spec =
@@ -144,13 +133,11 @@ put-facts-reason-spec =
     put-word-requires-4
     slice-aggregate-put-word-5
     put-word-requires-5
+    put-text-requires
     slice-aggregate-put-word-6
     put-word-requires-6
-    put-text-requires
     slice-aggregate-put-word-7
     put-word-requires-7
-    slice-aggregate-put-word-8
-    put-word-requires-8
     put-number-requires
     same-length
     returns
@@ -169,6 +156,4 @@ put-facts-reason-spec =
     same-length-8
     returns-8
     same-length-9
-    returns-9
-    same-length-10
-    returns-10)
+    returns-9)

@@ -26,6 +26,12 @@ slice-aggregate-put-word-3 c = search needs
 put-word-requires-3 : tie.Need-put-word-requires-3
 put-word-requires-3 c κs = search needs
 
+slice-aggregate-put-word-4 : tie.Need-slice-aggregate-put-word-4
+slice-aggregate-put-word-4 c = search needs
+
+put-word-requires-4 : tie.Need-put-word-requires-4
+put-word-requires-4 c κs = search needs
+
 put-number-requires : tie.Need-put-number-requires
 put-number-requires c κs = search needs
 
@@ -61,9 +67,17 @@ same-length-5 : tie.Need-same-length-5
 same-length-5 c = search needs
 
 returns-5 : tie.Need-returns-5
-returns-5 c =
+unfolding ascii goalReason
+returns-5 c = rw (c .before .before .before .before .before .match .keys5) (c .before .before .put-word4 .ensures)
+
+same-length-6 : tie.Need-same-length-6
+same-length-6 c = search needs
+
+returns-6 : tie.Need-returns-6
+returns-6 c =
     let m = c .before .before .before .before .match in
-    rw (goal-other _ _ (m .rest .0 .0 .0 .1) (m .rest .0 .0 .1) (m .rest .0 .1) (m .rest .1)) (c .before .before .put-number .ensures)
+    rw (goal-other _ _ (m .rest .0 .0 .0 .0 .1) (m .rest .0 .0 .0 .1) (m .rest .0 .0 .1) (m .rest .0 .1) (m .rest .1))
+    (c .before .before .put-number .ensures)
 
 pub put-goal-reason-spec : {M : Type 1} → statement M
 put-goal-reason-spec =
@@ -76,6 +90,8 @@ put-goal-reason-spec =
     put-text-requires
     slice-aggregate-put-word-3
     put-word-requires-3
+    slice-aggregate-put-word-4
+    put-word-requires-4
     put-number-requires
     same-length
     returns
@@ -86,4 +102,6 @@ put-goal-reason-spec =
     same-length-4
     returns-4
     same-length-5
-    returns-5)
+    returns-5
+    same-length-6
+    returns-6)
