@@ -35,7 +35,16 @@ goal(Kind, Facts, Goal) :-
     Made =.. [Name|Arguments],
     ( Kind >= 7 -> term_variables(Made, Variables), maplist(ground_term, Variables) ; true ),
     symbols(Made, Size),
-    ( Size =< 33 -> Goal = Made ; goal(1, Facts, Goal) ).
+    ( Size =< 33, \+ long_answer(Made, Facts) -> Goal = Made ; goal(1, Facts, Goal) ).
+
+% An answer of over 1,024 symbols besides the predicate's name is BIG, and no answer is printed: such a goal is not asked here.
+long_answer(Goal, Facts) :-
+    member(fact(_, Fact), Facts),
+    copy_term(Fact, Copy),
+    unify_with_occurs_check(Goal, Copy),
+    symbols(Goal, Size),
+    Size > 1025,
+    !.
 
 arguments([], _, _, _, _, _).
 arguments([Argument|Arguments], Number, Kind, Like, Facts, Pool) :-
@@ -103,11 +112,22 @@ check :-
 % What occurs in the goals.
 met(Kind, Count) :- aggregate_all(count, (asked(Goal, Facts), once(kind(Kind, Goal, Facts))), Count).
 
-kind('with answers', Goal, Facts) :- \+ \+ (member(fact(_, Fact), Facts), Fact = Goal).
-kind('with a repeated variable', Goal, _) :- occurrences(Goal, Variables), term_variables(Goal, Distinct), \+ same_length(Variables, Distinct).
+kind('with answers', Goal, Facts) :- member(fact(_, Fact), Facts), unifies(Goal, Fact).
+kind('with a repeated variable', Goal, _) :- repeats(Goal).
+kind('for rules that repeat a variable', _, Facts) :- member(fact(_, Fact), Facts), repeats(Fact).
+kind('that a repeated variable of a rule keeps from an answer', Goal, Facts) :-
+    member(fact(_, Fact), Facts), repeats(Fact), \+ unifies(Goal, Fact), told_apart(Fact, Apart), unifies(Goal, Apart).
 kind('with a name that the table has not', Goal, Facts) :- within(Part, Goal), callable(Part), functor(Part, Name, _), \+ named(Name, Facts).
 kind('with a name inside a name', Goal, _) :- arg(_, Goal, Argument), compound(Argument), arg(_, Argument, Part), nonvar(Part).
 kind('with a number below zero', Goal, _) :- within(Part, Goal), number(Part), Part < 0.
+
+repeats(Term) :- occurrences(Term, Variables), term_variables(Term, Distinct), \+ same_length(Variables, Distinct).
+
+unifies(Goal, Fact) :- \+ \+ (copy_term(Fact, Copy), unify_with_occurs_check(Goal, Copy)).
+
+% The term with every variable another one.
+told_apart(Term, _) :- var(Term), !.
+told_apart(Term, Apart) :- Term =.. [Name|Terms], maplist(told_apart, Terms, Others), Apart =.. [Name|Others].
 
 within(Term, Term) :- nonvar(Term).
 within(Part, Term) :- compound(Term), arg(_, Term, Argument), within(Part, Argument).

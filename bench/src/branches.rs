@@ -1,7 +1,7 @@
-//! What one branch takes: tables on which a run tries branches of one sort.
+//! What one branch takes: tables on which a run tries branches of one sort; and what rows that repeat a variable take.
 
 use crate::cases::{Case, Measure};
-use crate::make::goals;
+use crate::make::{big, goals};
 
 const ROWS: usize = 64;
 
@@ -58,12 +58,60 @@ fn table(width: u32, row: impl Fn(u32) -> Vec<u32>) -> Vec<u32> {
     cells
 }
 
+/// Rows with one variable twice, and seven times, beside the same with all variables told apart: 64 rows each, and a goal of one sort.
+pub struct Repeats {
+    pub name: &'static str,
+    /// Two meetings told apart, two of one variable, seven told apart, seven of one variable.
+    cases: [Case; 4],
+}
+
+impl Repeats {
+    pub fn walks(&self) -> [Measure<'_>; 4] {
+        self.cases.each_ref().map(|case| case.walks().pop().expect("one goal"))
+    }
+
+    /// From the four walks: what a row's start takes besides its meetings, what a later meeting takes, and a variable that is told apart.
+    pub fn parts(walks: [f64; 4]) -> [f64; 3] {
+        let [two_apart, two, seven_apart, seven] = walks.map(|walk| walk / ROWS as f64);
+        let (later, apart) = ((seven - two) / 5.0, (seven_apart - two_apart) / 5.0);
+        [two - two_apart - (later - apart), later, apart]
+    }
+}
+
+pub fn repeats() -> Vec<Repeats> {
+    let sort = |name, term: &dyn Fn(u32) -> Vec<u32>| {
+        let case = |count: u32, same: bool| {
+            let row = move |_| [vec![FIRST], (0..count).map(|number| if same { 0 } else { number }).collect()].concat();
+            let goal = [vec![FIRST], (0..count).flat_map(term).collect()].concat();
+            Case::with_goal(table(count + 1, row), goal)
+        };
+        Repeats { name, cases: [case(2, false), case(2, true), case(7, false), case(7, true)] }
+    };
+    vec![
+        sort("variables of the goal, each another", &|number| vec![number]),
+        sort("names without arguments", &|_| vec![flat(1)]),
+        sort("a variable and then names", &|number| vec![if number == 0 { 0 } else { flat(1) }]),
+        sort("names of three arguments", &|_| vec![FIRST | 3 << 16, flat(1), flat(2), flat(3)]),
+        sort("names one in another", &|_| vec![with_argument(1), with_argument(1), with_argument(1), flat(2)]),
+    ]
+}
+
+/// 64 rows whose common instance with the goal has over a million cells each.
+pub fn million() -> Case {
+    let (table, goal) = big::million(ROWS);
+    Case::with_goal(table, goal)
+}
+
 #[cfg(test)]
 mod tests {
-    use super::sorts;
+    use super::{million, repeats, sorts, Case};
 
     #[test]
     fn every_branch_is_tried() {
         assert_eq!(sorts().map(|sort| sort.tried()), [64, 449, 385, 449]);
+        for sort in repeats() {
+            assert_eq!(sort.cases.each_ref().map(Case::tried), [129, 129, 449, 449], "{}", sort.name);
+        }
+        assert_eq!(million().tried(), 1606);
     }
 }

@@ -74,6 +74,11 @@ impl Case {
         self.goals.iter().map(|(sort, goals)| self.walking(sort, goals)).collect()
     }
 
+    /// The whole calls for hits and for replies, for each sort of goals.
+    pub fn answers(&self) -> Vec<Measure<'_>> {
+        self.goals.iter().flat_map(|(sort, goals)| [self.running(sort, goals), self.replying(sort, goals)]).collect()
+    }
+
     pub fn measures(&self) -> Vec<Measure<'_>> {
         let mut measures = vec![self.reading(), self.checking(), self.checking_read()];
         measures.extend([self.working_out(), self.building(), self.building_anew(), self.building_read()]);
@@ -168,6 +173,14 @@ impl Case {
         let mut room = [0; 64];
         let independent = each(goals, move |goal| Plain.run_plan(&self.record, &self.plan, goal, &mut room));
         Measure::new(format!("run, {sort}"), vec![self.run(goals)], vec![], independent)
+    }
+
+    /// The replies of every goal, in as much room as can be needed.
+    fn replying<'c>(&'c self, sort: &str, goals: &'c [Vec<u32>]) -> Measure<'c> {
+        let [mut room, mut theirs] = [(); 2].map(|()| vec![0; 64 * 1024]);
+        let exported = each(goals, move |goal| Exported.replies(&self.record, &self.plan, goal, &mut room));
+        let independent = each(goals, move |goal| Plain.replies(&self.record, &self.plan, goal, &mut theirs));
+        Measure::new(format!("replies, {sort}"), vec![exported], vec![], independent)
     }
 
     /// The run less what it does before it reads the goal, against reading the goal and walking down the same plan.

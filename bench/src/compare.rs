@@ -2,6 +2,7 @@
 
 mod edits;
 pub mod listings;
+pub mod repeats;
 mod replies;
 mod small;
 mod tally;
@@ -11,9 +12,12 @@ use crate::engine::{Definition, Engine, Plain};
 use crate::make::{damage, goals, plans, records, tables};
 use crate::model::least::{every_run, every_run_by_search, least_by, least_by_search, Measure};
 use crate::model::plan::{Plan, PLAN_CELLS};
-use crate::model::read::{read_table, Table};
+use crate::model::read::{read_goal, read_table, Table};
 use crate::model::record::{figure_in, table_in, Record, MOST_FIGURE, RECORD_CELLS};
+use crate::model::run::hits;
+use crate::model::walk::{fit, in_turn, Fit};
 use crate::random::Random;
+use tally::Met;
 pub use tally::{Entry, Tally};
 
 /// The seed of a comparison that names none.
@@ -25,6 +29,7 @@ pub const ROUNDS: usize = 20_000;
 pub fn compare<E: Engine>(exported: &E, rounds: usize, seed: u64) -> Tally {
     let mut comparison = Comparison { exported, random: Random::new(seed), tally: Tally::default() };
     comparison.small_families();
+    comparison.fixed_repeats();
     for _ in 0..rounds {
         comparison.round();
     }
@@ -43,8 +48,12 @@ pub fn texts<E: Engine>(exported: &E, tally: Tally, count: usize, seed: u64) -> 
 pub fn replies<E: Engine>(exported: &E, tally: Tally, count: usize, seed: u64) -> Tally {
     let mut comparison = Comparison { exported, random: Random::new(seed), tally };
     comparison.fixed_replies();
+    comparison.fixed_lengths();
     for _ in 0..count {
         comparison.random_replies();
+        if comparison.random.one_in(4) {
+            comparison.long_replies();
+        }
     }
     comparison.tally
 }
@@ -195,7 +204,9 @@ impl<E: Engine> Comparison<'_, E> {
         let (answer, left) = lend_record(&lent, |record| self.exported.work_out(table, figure, record));
         let (expected, wanted) = lend_record(&lent, |record| Definition.work_out(table, figure, record));
         self.tally.settle(Entry::WorkOut, answer, expected, left == wanted, &|| format!("table {table:?} figure {figure}"));
-        (expected & 0xff == 0).then(|| without_margins(wanted))
+        let read = read_table(table).ok().filter(|_| expected & 0xff == 0)?;
+        self.tally.meet(Met::WorkedOut, read.rows.iter().any(|row| row.again > 0));
+        Some(without_margins(wanted))
     }
 
     /// Builds from a record that was worked out or edited.
@@ -224,15 +235,20 @@ impl<E: Engine> Comparison<'_, E> {
         }
     }
 
-    /// The rows unified in turn that are timed, against the textbook's unifier.
+    /// The rows unified in turn that are timed, against the textbook's unifier; and how those that repeat a variable stand to the goal.
     fn in_turn(&mut self, table: &Table, goal: &[u32]) {
-        use crate::model::{read::read_goal, run::hits, walk::in_turn};
         let Ok(read) = read_goal(table.width, goal) else {
             return;
         };
         let mut found = Vec::new();
         in_turn(&table.rows, &read, &mut found);
         self.tally.own("rows in turn against the textbook's unifier", found == hits(table, &read), &|| format!("goal {goal:?}"));
+        for row in table.rows.iter().filter(|row| row.again > 0) {
+            let (as_it_is, told_apart) = (fit(row, &read), fit(&row.apart(), &read));
+            self.tally.meet(Met::Hit, as_it_is == Fit::Fits);
+            self.tally.meet(Met::KeptByOccursCheck, as_it_is == Fit::WithoutEnd);
+            self.tally.meet(Met::KeptByRepeating, as_it_is != Fit::Fits && told_apart == Fit::Fits);
+        }
     }
 
     /// The independent builder against a search through every plan, where the table is small enough for it; and what is known of each run of rows.

@@ -3,7 +3,7 @@
 
 use std::path::Path;
 
-use crate::branches::sorts;
+use crate::branches::{million, repeats, sorts, Repeats};
 use crate::cases::{Case, Measure, KINDS, ROWS};
 use crate::replies;
 use crate::texts::{measured_texts, reading};
@@ -17,17 +17,25 @@ pub fn measured(work: &mut dyn FnMut()) {
 
 /// Does every work of every measure, in the order in which `instructions` takes the files.
 pub fn count() {
-    let mut once = |mut measure: Measure| {
-        measure.figures(|work| {
-            (work.work)();
-            measured(&mut *work.work);
-            0.0
-        });
-    };
-    each_case(|_, case| case.measures().into_iter().for_each(&mut once));
+    each_case(|_, case| case.measures().into_iter().for_each(once));
     sorts().iter().for_each(|sort| once(sort.walk()));
+    count_repeats();
     count_replies();
     count_texts();
+}
+
+fn once(mut measure: Measure) {
+    measure.figures(|work| {
+        (work.work)();
+        measured(&mut *work.work);
+        0.0
+    });
+}
+
+/// The same for rows that repeat a variable alone.
+pub fn count_repeats() {
+    repeats().iter().for_each(|sort| sort.walks().into_iter().for_each(once));
+    million().walks().into_iter().for_each(once);
 }
 
 /// The same for replies alone.
@@ -70,8 +78,33 @@ pub fn instructions(folder: &Path) {
     println!("\nOne branch: the walk by the number of branches tried; 64 rows, every branch of one sort");
     heading("instructions for a branch");
     sorts().iter().for_each(|sort| line(sort.walk(), sort.tried()));
+    let files = repeat_instructions(folder, files);
     let files = reply_instructions(folder, files);
     text_instructions(folder, files);
+}
+
+/// Prints what rows that repeat a variable take, from the files after the first so many; the number of the last one.
+pub fn repeat_instructions(folder: &Path, before: usize) -> usize {
+    let mut files = before;
+    let mut both = |mut measure: Measure| {
+        measure.figures(|_| {
+            files += 1;
+            total(&folder.join(format!("count.{files}"))) as f64
+        })
+    };
+    println!("\nRows that repeat a variable: the start of one besides its meetings, a later meeting, and a variable that stands once");
+    println!("{:<40}{:>8}{:>8}{:>8}   independent", "", "start", "later", "once");
+    for sort in repeats() {
+        let figures = sort.walks().map(&mut both);
+        let [start, later, once] = Repeats::parts(figures.map(|(exported, _)| exported));
+        let theirs = Repeats::parts(figures.map(|(_, independent)| independent));
+        println!("{:<40}{start:>8.0}{later:>8.0}{once:>8.0}   {:.0} {:.0} {:.0}", sort.name, theirs[0], theirs[1], theirs[2]);
+    }
+    for measure in million().walks() {
+        let (exported, independent) = both(measure);
+        println!("a row whose common instance has over a million cells, of 64: {:.0}, independent {:.0}", exported / 64.0, independent / 64.0);
+    }
+    files
 }
 
 /// Prints what a reply takes, from the files after the first so many; the number of the last one.

@@ -12,12 +12,14 @@ use dudowiej_bench::{count, edits, prolog, shift, stack, time};
 const USAGE: &str = "usage:
   compare [ROUNDS [SEED]]   the exported functions against the independent implementation
   time                      both side by side, in nanoseconds
+  time-million              the same for common instances of over a million cells alone
   count                     every call that bench/instructions.sh counts, once
   instructions FOLDER       what callgrind counted
   count-texts, text-instructions FOLDER    the same for texts alone
   texts FOLDER COUNT SEED   accepted texts with their facts, and kinds of refused ones, as files
   count-shift, instructions-shift FOLDER   the same for a list of goals
   count-replies, instructions-replies FOLDER   the same for replies alone
+  count-repeats, instructions-repeats FOLDER   the same for rows that repeat a variable
   count-edits, instructions-edits FOLDER   the same for a record's edits
   stack                     the bytes of stack that each entry touches
   list                      the independent listing of the table on standard input";
@@ -36,6 +38,7 @@ fn main() -> ExitCode {
             _ => usage(),
         },
         ["time"] => done(time::time),
+        ["time-million"] => done(time::time_million),
         ["count"] => done(count::count),
         ["instructions", folder] => done(|| count::instructions(Path::new(folder))),
         ["count-texts"] => done(count::count_texts),
@@ -49,6 +52,10 @@ fn main() -> ExitCode {
         ["count-replies"] => done(count::count_replies),
         ["instructions-replies", folder] => done(|| {
             count::reply_instructions(Path::new(folder), 0);
+        }),
+        ["count-repeats"] => done(count::count_repeats),
+        ["instructions-repeats", folder] => done(|| {
+            count::repeat_instructions(Path::new(folder), 0);
         }),
         ["count-edits"] => done(edits::count),
         ["instructions-edits", folder] => done(|| edits::instructions(Path::new(folder))),

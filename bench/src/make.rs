@@ -1,5 +1,6 @@
 //! Random inputs: tables, rows, records, goals and plans, sound and damaged.
 
+pub mod big;
 pub mod damage;
 pub mod goals;
 pub mod plans;
@@ -21,7 +22,7 @@ struct Alphabet {
 }
 
 impl Alphabet {
-    /// A term of exactly `size` cells. All its variables are v0; a row or goal is numbered when it is complete.
+    /// A term of exactly `size` cells. All its variables are v0; those of a row or goal are told apart or shared when it is complete.
     fn term(self, random: &mut Random, size: usize) -> Term {
         if size == 1 {
             return self.leaf(random);
@@ -88,4 +89,42 @@ fn each_variable(terms: &mut [Term], replace: &mut impl FnMut(u16) -> Term) {
             Term::Number(_) => {}
         }
     }
+}
+
+/// Gives every variable another number: none stands twice.
+fn apart(terms: &mut [Term]) {
+    let mut numbers = 0..;
+    each_variable(terms, &mut |_| Term::Var(numbers.next().expect("numbers do not end")));
+}
+
+/// Gives each variable one of few numbers, or of many.
+fn shared(random: &mut Random, terms: &mut [Term]) {
+    let few = *random.pick(&[2, 4, 1000]);
+    each_variable(terms, &mut |_| Term::Var(random.below(few) as u16));
+}
+
+/// Makes some of the leaves variables, and some of the variables the same.
+fn repeated(random: &mut Random, terms: &mut [Term]) {
+    for _ in 0..random.within(1..=5) {
+        let term = any_subterm(random, terms);
+        if term.size() == 1 {
+            *term = Term::Var(0);
+        }
+    }
+    shared(random, terms);
+}
+
+/// The cells, variables numbered by first appearance.
+fn numbered(mut terms: Vec<Term>) -> Vec<u32> {
+    let mut met = Vec::new();
+    each_variable(&mut terms, &mut |number| {
+        let found = met.iter().position(|&other| other == number).unwrap_or_else(|| {
+            met.push(number);
+            met.len() - 1
+        });
+        Term::Var(found as u16)
+    });
+    let mut cells = Vec::new();
+    terms.iter().for_each(|term| term.write(&mut cells));
+    cells
 }

@@ -36,7 +36,7 @@ pub fn write_texts(folder: &Path, count: usize, seed: u64) {
 }
 
 /// Texts that are refused, by kind; most of them are Prolog by ISO/IEC 13211-1.
-const REFUSED: [(&str, &[u8]); 34] = [
+const REFUSED: [(&str, &[u8]); 33] = [
     ("a fact without arguments", b"p.\n"),
     ("a rule", b"p(a) :- q(b).\n"),
     ("a directive", b":- dynamic(p/1).\np(a).\n"),
@@ -62,7 +62,6 @@ const REFUSED: [(&str, &[u8]); 34] = [
     ("brackets around a term", b"p((a)).\n"),
     ("a name with five arguments inside", b"p(f(a,b,c,d,e)).\n"),
     ("nine arguments", b"p(a,b,c,d,e,f,g,h,i).\n"),
-    ("a variable twice in a row", b"p(X,X).\n"),
     ("a fact without variables twice", b"p(a).\np(b).\np(a).\n"),
     ("a comment between /* and */", b"p(a). /* c */\n"),
     ("a tab", b"p(\ta).\n"),

@@ -8,7 +8,7 @@ use crate::branches::{flat, with_argument};
 use crate::cases::SEED;
 use crate::engine::{Engine, Exported};
 use crate::make::tables::{longest_replies, table, Kind};
-use crate::make::{goals, records};
+use crate::make::{big, goals, records};
 use crate::model::least::least;
 use crate::model::plan::{grow, PLAN_CELLS};
 use crate::model::read::{read_table, Table, ROW_CELLS, TABLE_CELLS};
@@ -37,9 +37,10 @@ pub fn stack() {
             most.of_record(&record, &plans, &goals);
         }
     }
-    let (table, goal) = longest_replies();
-    let plans = plans(&read_table(&table).expect("a sound table"));
-    most.of_record(&records::worked_out(&table, MOST_FIGURE), &plans, &[goal]);
+    for (table, goal) in [longest_replies(), big::million(ROWS), deep_terms(), deep_search()] {
+        let plans = plans(&read_table(&table).expect("a sound table"));
+        most.of_record(&records::worked_out(&table, MOST_FIGURE), &plans, &[goal]);
+    }
     for (_, text) in measured_texts() {
         most.of_text(&text);
     }
@@ -147,6 +148,23 @@ fn chains(name: fn(u32) -> u32) -> Vec<u32> {
         cells.push(flat(row));
     }
     cells
+}
+
+/// The row (f1(..f1(v0)),v0,f1(..f1(v1)),v1,v2,v2) and a goal that makes the last two columns terms of 26 names one in another, apart from each
+/// other: a later meeting goes down both.
+fn deep_terms() -> (Vec<u32>, Vec<u32>) {
+    let chain = |names: usize, leaf: u32| [vec![with_argument(1); names], vec![leaf]].concat();
+    let row = [chain(13, 0), vec![0], chain(13, 1), vec![1, 2, 2]].concat();
+    let goal = [vec![0], chain(12, flat(1)), vec![1], chain(12, flat(1)), vec![0, 1]].concat();
+    ([vec![6, 1], row].concat(), goal)
+}
+
+/// The row (f1(..f1(v0)),v0,v1,v1) and a goal that makes the first column a term of 55 names one in another, with which the last is met.
+fn deep_search() -> (Vec<u32>, Vec<u32>) {
+    let chain = |names: usize, leaf: u32| [vec![with_argument(1); names], vec![leaf]].concat();
+    let row = [chain(28, 0), vec![0, 1, 1]].concat();
+    let goal = [vec![0], chain(27, 1), vec![0, 2]].concat();
+    ([vec![4, 1], row].concat(), goal)
 }
 
 /// The cells as they are; with one less, with one more and with the last one changed; and none.

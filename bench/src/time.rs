@@ -3,6 +3,7 @@
 
 use std::time::{Duration, Instant};
 
+use crate::branches::million;
 use crate::cases::{Case, Measure, Work, KINDS, ROWS};
 
 const REPEATS: usize = 101;
@@ -25,17 +26,29 @@ pub fn time() {
         let figures = cases.each_ref().map(|case| case.measures().into_iter().map(figures).collect::<Vec<_>>());
         let largest = ROWS.len() - 1;
         println!("\n{name}: {}", cases[largest].title());
-        println!("{:<34}{:>12}{:>13}   {:<22}", "", "exported ns", "independent", "ratio");
-        for line in &figures[largest] {
-            let [first, median, third] = line.ratio;
-            println!("{:<34}{:>12.0}{:>13.0}   {median:.2} ({first:.2} {third:.2})", line.name, line.exported, line.independent);
-        }
+        print_lines(&figures[largest]);
         println!("\n{name}, growth: exported ns and ratio at {ROWS:?} rows");
         for (index, line) in figures[largest].iter().enumerate() {
             let times = figures.each_ref().map(|lines| format!("{:>10.0}", lines[index].exported)).concat();
             let ratios = figures.each_ref().map(|lines| format!("{:>7.2}", lines[index].ratio[1])).concat();
             println!("{:<34}{times}   {ratios}", line.name);
         }
+    }
+    time_million();
+}
+
+/// A run and its replies, which are BIG, where every common instance has over a million cells.
+pub fn time_million() {
+    let case = million();
+    println!("\ncommon instances of over a million cells: {}", case.title());
+    print_lines(&case.answers().into_iter().map(figures).collect::<Vec<_>>());
+}
+
+fn print_lines(lines: &[Figures]) {
+    println!("{:<34}{:>12}{:>13}   {:<22}", "", "exported ns", "independent", "ratio");
+    for line in lines {
+        let [first, median, third] = line.ratio;
+        println!("{:<34}{:>12.0}{:>13.0}   {median:.2} ({first:.2} {third:.2})", line.name, line.exported, line.independent);
     }
 }
 

@@ -2,8 +2,9 @@
 
 mod notation;
 
+use dudowiej_bench::compare::repeats;
 use dudowiej_bench::engine::{Definition, Engine, Exported, Plain};
-use dudowiej_bench::make::records;
+use dudowiej_bench::make::{big, records};
 use dudowiej_bench::model::least::{least, least_by_search, Measure};
 use dudowiej_bench::model::listing::listing;
 use dudowiej_bench::model::plan::grow;
@@ -15,15 +16,16 @@ const LONG: u64 = 4;
 const SHORT: u64 = 5;
 const CELL: u64 = 6;
 const FRESH: u64 = 7;
-const TWICE: u64 = 8;
 const EXTRA: u64 = 9;
 const EDGES: u64 = 13;
+const ROOM: u64 = 16;
 
 const FIGURE: u64 = 20;
 const SAME: u64 = 24;
 
 const TABLE: u64 = 1;
 const PLAN: u64 = 2;
+const ROOM_INPUT: u64 = 4;
 const FIGURE_INPUT: u64 = 6;
 
 fn engines() -> [&'static dyn Engine; 3] {
@@ -178,9 +180,57 @@ fn p8() {
 
 #[test]
 fn p9_p10() {
-    reads(&[2, 1, 0, 0], refused(TWICE, TABLE, 3));
+    // 02, W-209: a row may repeat a variable.
+    reads(&[2, 1, 0, 0], answered(2, 1));
+    builds("(v0,v0)", 2, "0 1 v0 0 1 v0 1");
     reads(&[1, 1, 1], refused(FRESH, TABLE, 2));
     reads(&[2, 1, name('a', 0)], refused(SHORT, TABLE, 3));
+}
+
+/// The table of 02's W-209: least costs with figures 0 and 3, plans, runs and replies.
+#[test]
+fn the_same_enamel_twice() {
+    for case in &repeats::COSTS {
+        costs(case.rows, case.branches as u64);
+        case.plan.iter().for_each(|written| builds(case.rows, case.branches as u64, written));
+        for (figure, cost) in repeats::FIGURES.into_iter().zip(case.work) {
+            for engine in engines() {
+                assert_eq!(built_from(engine, &record(engine, &table(case.rows), figure)).1, cost as u64, "{} {figure}", case.rows);
+            }
+        }
+    }
+    for (rows, asked, hits, tried, said) in repeats::RUNS {
+        runs(rows, asked, hits, tried as u64);
+        let replies: Vec<Vec<u32>> = said.split_whitespace().map(goal).collect();
+        let cells = replies.concat();
+        for engine in engines() {
+            let mut room = vec![7; cells.len()];
+            let record = record(engine, &table(rows), 0);
+            let answer = engine.replies(&record, &built_from(engine, &record).0, &goal(asked), &mut room);
+            assert_eq!((answer, room), (answered(replies.len() as u64, cells.len() as u64), cells.clone()), "{rows} {asked}");
+        }
+    }
+}
+
+#[test]
+fn long_replies() {
+    let (table, [largest, longer]) = repeats::at_the_bound();
+    let (millions, goal) = big::million(64);
+    for engine in engines() {
+        let says = |table: &[u32], goal: &[u32], room: usize| {
+            let record = record(engine, table, 0);
+            let mut lent = vec![7; room];
+            let answer = engine.replies(&record, &built_from(engine, &record).0, goal, &mut lent);
+            assert!(answer & 0xff == 0 || lent.iter().all(|&cell| cell == 7));
+            answer
+        };
+        assert_eq!(says(&table, &largest, 1024), answered(1, 1024));
+        assert_eq!(says(&table, &largest, 1023), refused(ROOM, ROOM_INPUT, 1024));
+        for room in [0, 1023, 1024, 70_000] {
+            assert_eq!(says(&table, &longer, room), repeats::BIG);
+            assert_eq!(says(&millions, &goal, room), repeats::BIG);
+        }
+    }
 }
 
 #[test]

@@ -1,7 +1,7 @@
 //! Records and their edits (02, W-207): the request's records and answers written down, random sequences of edits, and records that were never
 //! worked out. After each edit the whole record is compared with one that is worked out anew.
 
-use super::{lend, lend_record, Comparison, Entry, MARGIN};
+use super::{lend, lend_record, Comparison, Entry, Met, MARGIN};
 use crate::engine::{Definition, Engine};
 use crate::make::{damage, records, rows, tables};
 use crate::model::plan::PLAN_CELLS;
@@ -30,6 +30,17 @@ impl Edit {
             Edit::Append(_) => Entry::Append,
             Edit::DropLast => Entry::DropLast,
             Edit::Replace(..) => Entry::Replace,
+        }
+    }
+
+    /// Whether the row that is put in has a variable twice.
+    fn repeats(&self) -> bool {
+        match self {
+            Edit::Append(row) | Edit::Replace(_, row) => {
+                let variables: Vec<&u32> = row.iter().filter(|&&cell| cell >> 30 == 0).collect();
+                (1..variables.len()).any(|later| variables[..later].contains(&variables[later]))
+            }
+            Edit::DropLast => false,
         }
     }
 
@@ -63,7 +74,7 @@ const RUNS: [(u32, Pair); 10] = [
 ];
 
 /// Edits of that record with the table's rows and cells afterwards, and the pairs that the request names as changed; all others stay.
-fn accepted() -> [(Edit, [u32; 2], Vec<Pair>); 4] {
+fn accepted() -> [(Edit, [u32; 2], Vec<Pair>); 5] {
     [
         // A row put back in its own place.
         (Edit::Replace(0, goal("(a,b,c)")), [4, 14], vec![]),
@@ -73,12 +84,14 @@ fn accepted() -> [(Edit, [u32; 2], Vec<Pair>); 4] {
             vec![(0, 1, [6, 0]), (0, 2, [8, 1]), (0, 3, [14, 0]), (1, 1, [0, 0]), (1, 2, [4, 0]), (1, 3, [11, 0])],
         ),
         (Edit::Append(goal("(b,a,d)")), [5, 17], vec![(0, 4, [17, 0]), (1, 4, [14, 1]), (2, 4, [11, 0]), (3, 4, [4, 0]), (4, 4, [0, 0])]),
+        // A variable twice (W-209): the later one costs 1.
+        (Edit::Append(goal("(a,v0,v0)")), [5, 17], vec![(0, 4, [16, 0]), (1, 4, [13, 1]), (2, 4, [10, 0]), (3, 4, [7, 0]), (4, 4, [0, 0])]),
         (Edit::DropLast, [3, 11], vec![(0, 3, [0, 0]), (1, 3, [0, 0]), (2, 3, [0, 0]), (3, 3, [0, 0])]),
     ]
 }
 
 /// Edits of that record that are refused, each with its number and place.
-fn refused() -> [(Edit, u64, u64); 15] {
+fn refused() -> [(Edit, u64, u64); 14] {
     let no_cell = 3 << 30;
     let (a, b) = (name('a', 0), name('b', 0));
     [
@@ -94,7 +107,6 @@ fn refused() -> [(Edit, u64, u64); 15] {
         (Edit::Replace(0, goal("(a,b,d)")), 24, 0),
         (Edit::Replace(3, goal("(a,b,c)")), 24, 0),
         (Edit::Replace(0, [goal("(a,b,d)"), vec![no_cell]].concat()), 24, 0),
-        (Edit::Append(goal("(a,v0,v0)")), 8, 2),
         (Edit::Append(goal("(a,v1,b)")), 7, 1),
         (Edit::Append(vec![a, no_cell, b]), 6, 1),
         (Edit::Append(vec![name('f', 1); 33]), 4, 32),
@@ -196,6 +208,7 @@ impl<E: Engine> Comparison<'_, E> {
         self.tally.edited(edit.entry(), expected);
         let wanted = super::without_margins(wanted);
         if expected & 0xff == 0 {
+            self.tally.meet(Met::Edited, edit.repeats());
             let same = kept(record, &wanted, edit.row(table[1] as usize));
             self.tally.own("runs without the changed row keep what is known of them", same, &describe);
         } else {

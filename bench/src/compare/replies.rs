@@ -1,15 +1,17 @@
-//! What the rules say (02, W-203): the request's table with its replies written down, 01's examples, large replies, then random tables, plans and
+//! What the rules say (02, W-203 and W-209): the request's table with its replies written down, 01's examples, large replies, then random tables, plans and
 //! goals. Each with rooms too small, just enough and larger.
 
 use super::{lend, Comparison, Entry};
 use crate::engine::{Definition, Engine};
-use crate::make::{damage, goals, plans, records, tables};
+use crate::make::{big, damage, goals, plans, records, tables};
 use crate::model::least::least;
 use crate::model::plan::grow;
-use crate::model::read::{read_goal, read_table, Table};
+use crate::model::read::{read_goal, read_table, Table, ROWS};
 use crate::model::record::{table_in, Record};
-use crate::model::replies::{all, holds};
+use crate::model::refusal::Number;
+use crate::model::replies::{all, holds, of_any_length, Reply};
 use crate::model::run::hits;
+use crate::model::term::Term;
 use crate::notation::{goal, table};
 
 /// As many cells as a reply has at most, and as all replies of a table have.
@@ -44,8 +46,8 @@ const ROOMS: [(&str, &str, usize, u64); 6] = [
     ("(v0) (v0)", "(a)", 1, 16 | 4 << 8 | 2 << 16),
 ];
 
-/// 01's P1 to P8 but P5; then P5's table, P9's two and P10's, which are refused.
-const EXAMPLES: [&str; 7] = [
+/// 01's P1 to P9 but P5 and P9's second; then P5's table, that one and P10's, which are refused.
+const EXAMPLES: [&str; 8] = [
     "(a,b,c) (a,b,d) (a,c,c) (b,a,c)",
     "(a,b) (b,c) (a,d)",
     "(g,a,1) (g,a,2) (g,a,3) (g,1,b) (g,2,b) (g,3,b)",
@@ -53,8 +55,9 @@ const EXAMPLES: [&str; 7] = [
     "(v0) (v0)",
     "(a,b) (a,a)",
     "(f1(a)) (f1(b)) (g)",
+    "(v0,v0)",
 ];
-const REFUSED: [&[u32]; 4] = [&[1, 2, 1 << 30 | 97, 1 << 30 | 97], &[2, 1, 0, 0], &[1, 1, 1], &[2, 1, 1 << 30 | 97]];
+const REFUSED: [&[u32]; 3] = [&[1, 2, 1 << 30 | 97, 1 << 30 | 97], &[1, 1, 1], &[2, 1, 1 << 30 | 97]];
 
 impl<E: Engine> Comparison<'_, E> {
     pub(super) fn fixed_replies(&mut self) {
@@ -97,7 +100,7 @@ impl<E: Engine> Comparison<'_, E> {
 
     /// No room, one cell too few, just enough, one more, many more, and what is enough for all; with plans that look at the first open place, at the
     /// last, and the builder's.
-    fn every_room(&mut self, table: &[u32], read: &Table, goal: &[u32]) {
+    pub(super) fn every_room(&mut self, table: &[u32], read: &Table, goal: &[u32]) {
         let record = records::holding(&mut self.random, table);
         let orders = [least(read), grow(read, |_, _| 0), grow(read, |open, rows| open.places(rows) - 1)];
         for plan in orders.map(|plan| plan.write()) {
@@ -105,6 +108,35 @@ impl<E: Engine> Comparison<'_, E> {
             for room in [0, needed.saturating_sub(1), needed, needed + 1, needed + ONE, ENOUGH] {
                 self.replies_in(&record, &plan, goal, room);
             }
+        }
+    }
+
+    /// A table and a goal with replies of any length, and of about as many cells as a reply may have.
+    pub(super) fn long_replies(&mut self) {
+        let (mut rows, goal) = if self.random.one_in(2) {
+            let rows = *self.random.pick(&[1, 1, 2, 5, 64]);
+            big::chained(&mut self.random, rows)
+        } else {
+            let length = *self.random.pick(&[1023, 1024, 1024, 1025, 1025, 1026]);
+            let length = if self.random.one_in(4) { self.random.within(720..=1100) } else { length };
+            let (row, goal) = big::of_length(&mut self.random, length);
+            (vec![row], goal)
+        };
+        // Beside it rows that are no hits, or whose replies are shorter.
+        for _ in 0..self.random.below(3) {
+            let mut other = self.random.pick(&rows).clone();
+            let column = self.random.below(other.len());
+            other[column] = self.random.pick(&[Term::Var(0), Term::Var(30), Term::Number(1), Term::Name(9, vec![])]).clone();
+            rows.push(other);
+        }
+        rows.truncate(ROWS);
+        let place = self.random.below(rows.len());
+        rows.swap(0, place);
+        let table = tables::cells(&rows);
+        if let Ok(read) = read_table(&table) {
+            let (record, plan) = (records::holding(&mut self.random, &table), plans::any(&mut self.random, &read));
+            self.replies(&record, &plan, &goal);
+            self.run(&record, &plan, &goal, read.rows.len());
         }
     }
 
@@ -137,35 +169,36 @@ impl<E: Engine> Comparison<'_, E> {
     /// With a room too small, just enough or larger.
     pub(super) fn replies(&mut self, record: &Record, plan: &[u32], goal: &[u32]) {
         let needed = needed(table_in(record), plan, goal);
-        let room = self.room(needed, needed + ONE);
+        let most = if self.random.one_in(2) { 0 } else { needed + ONE };
+        let room = self.room(needed, most);
         self.replies_in(record, plan, goal, room);
     }
 
-    fn replies_in(&mut self, record: &Record, plan: &[u32], goal: &[u32], room: usize) {
+    pub(super) fn replies_in(&mut self, record: &Record, plan: &[u32], goal: &[u32], room: usize) {
         let lent = self.lent(room);
         let (answer, left) = lend(&lent, |room| self.exported.replies(record, plan, goal, room));
         let (expected, wanted) = lend(&lent, |room| Definition.replies(record, plan, goal, room));
         let table = table_in(record);
         let describe = || format!("table {table:?} plan {plan:?} goal {goal:?} room {room}");
         self.tally.settle(Entry::Replies, answer, expected, left == wanted, &describe);
-        let replies = all(table, plan, goal).unwrap_or_default();
-        self.tally.replied(expected, goal.len(), &replies);
-        if expected & 0xff == 0 {
+        let replies = of_any_length(table, plan, goal).unwrap_or_default();
+        self.tally.replied(expected, goal.len(), room, &replies);
+        if [0, Number::Big as u64].contains(&(expected & 0xff)) {
             self.tally.own("replies against the hits and the textbook's unifier", in_order(table, goal, &replies), &describe);
         }
     }
 }
 
 /// Whether there is a reply for each hit of a run, and each is what the unifier gives for its row and the goal.
-fn in_order(table: &[u32], goal: &[u32], replies: &[Vec<u32>]) -> bool {
+fn in_order(table: &[u32], goal: &[u32], replies: &[Reply]) -> bool {
     let table = read_table(table).expect("the table was accepted");
     let goal = read_goal(table.width, goal).expect("the goal was accepted");
     let hits = hits(&table, &goal);
-    let held = |(&hit, reply): (&u8, &Vec<u32>)| holds(reply, &table.rows[hit as usize].arguments, &goal.arguments);
+    let held = |(&hit, reply): (&u8, &Reply)| holds(reply, &table.rows[hit as usize].arguments, &goal.arguments);
     hits.len() == replies.len() && hits.iter().zip(replies).all(held)
 }
 
-/// The cells of all replies; for what is refused, a few.
+/// The cells of all replies; for what is refused, a few; for BIG, as many as all would have, but no more than can be lent.
 fn needed(table: &[u32], plan: &[u32], goal: &[u32]) -> usize {
-    all(table, plan, goal).map_or(20, |replies| replies.iter().map(Vec::len).sum())
+    of_any_length(table, plan, goal).map_or(20, |replies| replies.iter().map(|reply| reply.length().min(2 * ONE as u64) as usize).sum())
 }

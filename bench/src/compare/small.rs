@@ -43,11 +43,19 @@ impl<E: Engine> Comparison<'_, E> {
         words(&[0, 1, 2, u32::MAX], 2, &mut |table| self.read_table(table));
     }
 
-    /// Every goal of up to five cells for a table with repeated names, numbers and variables.
+    /// Every goal of up to five cells for a table with repeated names, numbers and variables, and for one whose rows repeat their variables.
     fn short_goals(&mut self) {
-        let table = [2, 5, A, F1, 0, 0, 1, F1, A, NINE, F1, 0, A, F1, F1, A, A];
-        let read = read_table(&table).expect("a sound table");
-        let (record, plan) = (records::holding(&mut self.random, &table), least(&read).write());
+        self.goals_for(&[2, 5, A, F1, 0, 0, 1, F1, A, NINE, F1, 0, A, F1, F1, A, A], 0);
+        let repeating = [2, 6, 0, 0, F1, 0, 0, 0, F1, 0, F1, 0, F1, 0, F1, F1, 0, 0, A, 0];
+        self.goals_for(&repeating, 0);
+        self.goals_for(&repeating, 1);
+    }
+
+    /// By the plan that takes the place of this index at each state, or the last.
+    fn goals_for(&mut self, table: &[u32], place: usize) {
+        let read = read_table(table).expect("a sound table");
+        let plan = grow(&read, |open, rows| place.min(open.places(rows) - 1)).write();
+        let record = records::holding(&mut self.random, table);
         words(&[0, 1, 2, A, F1, NINE, NONE], 5, &mut |goal| {
             self.read_goal(&record, goal);
             self.run(&record, &plan, goal, read.rows.len());

@@ -3,7 +3,8 @@
 use std::collections::BTreeMap;
 use std::fmt;
 
-use crate::model::refusal::NAMES;
+use crate::model::refusal::{given, Number, NAMES, NEVER};
+use crate::model::replies::{Reply, REPLY_CELLS};
 
 #[derive(Clone, Copy, PartialEq, Eq)]
 pub enum Entry {
@@ -26,11 +27,44 @@ const ENTRIES: [&str; 12] =
 
 /// What replies can be refused with, by input: table, plan, goal, room.
 const OF_REPLIES: [(&str, &[usize]); 4] =
-    [("table", &[1, 2, 3, 4, 5, 6, 7, 8, 9, 24]), ("plan", &[9, 10, 11, 12, 13, 14, 15]), ("goal", &[1, 5, 6, 7, 9]), ("room", &[16])];
+    [("table", &[1, 2, 3, 4, 5, 6, 7, 9, 24]), ("plan", &[9, 10, 11, 12, 13, 14, 15]), ("goal", &[1, 5, 6, 7, 9, 25]), ("room", &[16])];
 
 /// What an edit of a record that was worked out can be refused with.
 const OF_EDITS: [(Entry, &[usize]); 3] =
-    [(Entry::Append, &[21, 4, 5, 6, 7, 8, 24, 9]), (Entry::DropLast, &[22]), (Entry::Replace, &[23, 4, 5, 6, 7, 8, 24, 9])];
+    [(Entry::Append, &[21, 4, 5, 6, 7, 24, 9]), (Entry::DropLast, &[22]), (Entry::Replace, &[23, 4, 5, 6, 7, 24, 9])];
+
+/// What must be met of rows that repeat a variable (02, W-209).
+#[derive(Clone, Copy)]
+pub enum Met {
+    /// Runs: a row that is hit; one that would be with its variables told apart; one that would be if terms had no end.
+    Hit,
+    KeptByRepeating,
+    KeptByOccursCheck,
+    /// Accepted: tables worked out, rows put in by edits, texts.
+    WorkedOut,
+    Edited,
+    Text,
+    /// Replies: of exactly as many cells as one may have; BIG for one cell more, for over a million, with no room lent, and beside others.
+    Largest,
+    OneMore,
+    Million,
+    NoRoom,
+    AmongOthers,
+}
+
+const MET: [&str; 11] = [
+    "rows that repeat a variable, hit",
+    "kept from it by the variable alone",
+    "kept from it by the occurs check alone",
+    "tables worked out that repeat a variable",
+    "edits with such a row",
+    "texts with such a fact",
+    "replies of 1,024 cells",
+    "BIG for 1,025",
+    "BIG for over a million",
+    "BIG with no room",
+    "BIG beside shorter replies",
+];
 
 /// How many differences are shown with their inputs.
 const SHOWN: u64 = 5;
@@ -48,6 +82,7 @@ pub struct Tally {
     /// How often replies were refused, by input from 1 and number.
     replies_refused: [[u64; NAMES.len() + 1]; OF_REPLIES.len() + 1],
     replies: Replies,
+    met: [u64; MET.len()],
     /// Edits of records that were worked out, by the number of the refusal and by entry.
     edits: [[u64; ENTRIES.len()]; NAMES.len() + 1],
     /// How often a plan was built from, or an edit made in, a record that was never worked out.
@@ -60,8 +95,8 @@ pub struct Tally {
 #[derive(Default)]
 struct Replies {
     count: u64,
-    cells: usize,
-    largest: usize,
+    cells: u64,
+    largest: u64,
     with_64: u64,
     goals_of_32: u64,
 }
@@ -91,9 +126,22 @@ impl Tally {
         }
     }
 
-    /// What came of a call for replies, and those that were expected.
-    pub fn replied(&mut self, expected: u64, goal_cells: usize, replies: &[Vec<u32>]) {
+    /// One more of what must be met.
+    pub fn meet(&mut self, what: Met, met: bool) {
+        self.met[what as usize] += u64::from(met);
+    }
+
+    /// What came of a call for replies in so much room, and those that were expected, of any length.
+    pub fn replied(&mut self, expected: u64, goal_cells: usize, room: usize, replies: &[Reply]) {
         let (number, input) = ((expected & 0xff) as usize, (expected >> 8 & 0xff) as usize);
+        let some = |with: &dyn Fn(u64) -> bool| replies.iter().any(|reply| with(reply.length()));
+        self.meet(Met::Largest, number == 0 && some(&|length| length == REPLY_CELLS));
+        if number == Number::Big as usize {
+            self.meet(Met::OneMore, !some(&|length| length > REPLY_CELLS + 1));
+            self.meet(Met::Million, some(&|length| length > 1_000_000));
+            self.meet(Met::NoRoom, room == 0);
+            self.meet(Met::AmongOthers, some(&|length| length <= REPLY_CELLS));
+        }
         if number > 0 {
             self.replies_refused[input][number] += 1;
             return;
@@ -103,8 +151,8 @@ impl Tally {
         seen.with_64 += u64::from(replies.len() == 64);
         seen.goals_of_32 += u64::from(goal_cells == 32);
         for reply in replies {
-            seen.cells += reply.len();
-            seen.largest = seen.largest.max(reply.len());
+            seen.cells += reply.length();
+            seen.largest = seen.largest.max(reply.length());
         }
     }
 
@@ -144,12 +192,12 @@ impl Tally {
 
     /// The refusals that no input met.
     pub fn never_met(&self) -> Vec<usize> {
-        (1..=NAMES.len()).filter(|&number| self.counts[number].iter().all(|&count| count == 0)).collect()
+        given().filter(|&number| self.counts[number].iter().all(|&count| count == 0)).collect()
     }
 
     /// What a text can be answered with, and how often it was.
     fn texts(&self) -> Vec<(&'static str, u64)> {
-        const GIVEN: [usize; 9] = [17, 18, 19, 1, 2, 3, 4, 8, 24];
+        const GIVEN: [usize; 8] = [17, 18, 19, 1, 2, 3, 4, 24];
         let mut met: Vec<_> = GIVEN.iter().map(|&number| (NAMES[number - 1], self.counts[number][Entry::ReadText as usize])).collect();
         met.extend([("ROOM for cells", self.text_rooms[0]), ("ROOM for names", self.text_rooms[1])]);
         met
@@ -167,11 +215,12 @@ impl Tally {
         OF_EDITS.iter().map(|&(entry, numbers)| (ENTRIES[entry as usize], met(entry, numbers))).collect()
     }
 
-    /// Nothing differs, here or within the independent implementation, and every refusal was met.
+    /// Nothing differs, here or within the independent implementation, and every refusal was met and whatever else must be.
     pub fn passed(&self) -> bool {
         self.differ == 0
             && self.own.values().all(|&(_, differ)| differ == 0)
             && self.never_met().is_empty()
+            && self.met.iter().all(|&met| met > 0)
             && self.texts().iter().all(|&(_, met)| met > 0)
             && self.replies().iter().chain(&self.edits()).flat_map(|(_, refused)| refused).all(|&(_, met)| met > 0)
     }
@@ -184,7 +233,7 @@ impl fmt::Display for Tally {
             write!(f, "{entry:>11}")?;
         }
         writeln!(f)?;
-        for (number, counts) in self.counts.iter().enumerate() {
+        for (number, counts) in self.counts.iter().enumerate().filter(|&(number, _)| number != NEVER) {
             let name = if number == 0 { "answered".to_string() } else { format!("{number} {}", NAMES[number - 1]) };
             write!(f, "{name:<12}")?;
             for count in counts {
@@ -210,7 +259,8 @@ impl fmt::Display for Tally {
         for (what, (compared, differ)) in &self.own {
             writeln!(f, "{what}: {compared}, {differ} differ")?;
         }
-        writeln!(f, "refusals met: {} of {}", NAMES.len() - self.never_met().len(), NAMES.len())?;
+        writeln!(f, "{}", listed(&MET.into_iter().zip(self.met).collect::<Vec<_>>()))?;
+        writeln!(f, "refusals met: {} of {}", given().count() - self.never_met().len(), given().count())?;
         for number in self.never_met() {
             writeln!(f, "refusal {number} {} was never met", NAMES[number - 1])?;
         }

@@ -3,10 +3,11 @@
 mod fixed;
 
 use super::small::words;
-use super::{lend, Comparison, Entry};
+use super::{lend, Comparison, Entry, Met};
 use crate::engine::{Definition, Engine};
 use crate::make::texts;
 use crate::model::grammar::{is_text, stops, stops_by_search};
+use crate::model::read::read_table;
 use crate::model::refusal::Number;
 use crate::model::text::load;
 
@@ -109,6 +110,8 @@ impl<E: Engine> Comparison<'_, E> {
         let describe = || format!("text {} rooms {cells} and {names}", shown(text));
         self.tally.settle(Entry::ReadText, answer, expected, left == wanted, &describe);
         self.tally.text(expected, cells);
+        let read = load(text).ok().filter(|_| expected & 0xff == 0).and_then(|loaded| read_table(&loaded.cells).ok());
+        self.tally.meet(Met::Text, read.is_some_and(|read| read.rows.iter().any(|row| row.again > 0)));
         if text.len() < 1000 {
             let by_rules = expected & 0xff != Number::Text as u64;
             self.tally.own("texts by rules against a function for each line of the grammar", is_text(text) == by_rules, &describe);

@@ -37,7 +37,7 @@ pub fn row(random: &mut Random, cells: &mut Vec<u32>) {
         1 => cells.clear(),
         2 => deepened(random, cells, 0),
         3 | 4 => {
-            // A variable that is there already, or one whose turn it is not.
+            // A variable twice, which is no damage where its turn has come, or one whose turn it is not.
             let variable = random.below(3) as u32;
             for _ in 0..2 {
                 let place = random.below(cells.len());

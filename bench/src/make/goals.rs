@@ -1,6 +1,6 @@
 //! Goals for a table.
 
-use super::{any_subterm, each_variable, size, Alphabet};
+use super::{any_subterm, each_variable, numbered, shared, size, Alphabet};
 use crate::model::read::{Table, ROW_CELLS};
 use crate::model::term::Term;
 use crate::random::Random;
@@ -9,12 +9,13 @@ const ALPHABET: Alphabet = Alphabet { symbols: 3, variable: 4 };
 
 /// A sound goal of any kind.
 pub fn any(random: &mut Random, table: &Table) -> Vec<u32> {
-    match random.below(8) {
+    match random.below(11) {
         0 => open(table.width),
         1 => cells(vec![Term::Var(0); table.width]),
         2 => random_terms(random, table.width),
         3 => mixed(random, table),
         4 | 5 => instance(random, table),
+        6..=8 => near(random, table),
         _ => general(random, table),
     }
 }
@@ -31,14 +32,42 @@ fn random_terms(random: &mut Random, width: usize) -> Vec<u32> {
     cells(terms)
 }
 
-/// A row's instance: its variables replaced by terms without variables.
+/// A row's instance: its variables replaced by terms without variables; one met again sometimes by another term.
 pub fn instance(random: &mut Random, table: &Table) -> Vec<u32> {
     let mut terms = random.pick(&table.rows).arguments.clone();
     let ground = Alphabet { symbols: 3, variable: 0 };
-    each_variable(&mut terms, &mut |_| {
+    let mut by: Vec<(u16, Term)> = Vec::new();
+    each_variable(&mut terms, &mut |variable| {
+        if let Some((_, term)) = by.iter().find(|(other, _)| *other == variable) {
+            if !random.one_in(6) {
+                return term.clone();
+            }
+        }
         let size = random.within(1..=3);
-        ground.term(random, size)
+        let term = ground.term(random, size);
+        by.push((variable, term.clone()));
+        term
     });
+    cells(terms)
+}
+
+/// A row with its variables, and now and then other parts, replaced by terms of a small pool, in which variables stand by themselves and inside
+/// names: what is met again is then the same, joins two variables, differs inside, or holds itself.
+fn near(random: &mut Random, table: &Table) -> Vec<u32> {
+    let row = (0..4).map(|_| random.pick(&table.rows)).max_by_key(|row| row.again.min(1)).expect("four of them");
+    let mut terms = row.arguments.clone();
+    let variables = random.within(1..=4);
+    let mut pool: Vec<Term> = (0..variables).map(|variable| Term::Var(variable as u16)).collect();
+    for _ in 0..random.below(3) {
+        let size = random.within(1..=3);
+        let mut term = [Alphabet { symbols: 2, variable: 2 }.term(random, size)];
+        each_variable(&mut term, &mut |_| Term::Var(random.below(variables) as u16));
+        pool.extend(term);
+    }
+    each_variable(&mut terms, &mut |_| random.pick(&pool).clone());
+    for _ in 0..random.below(3) {
+        *any_subterm(random, &mut terms) = random.pick(&pool).clone();
+    }
     cells(terms)
 }
 
@@ -68,12 +97,6 @@ pub fn repeating(random: &mut Random, table: &Table) -> Vec<u32> {
     cells(terms)
 }
 
-/// Gives each variable one of few numbers, or of many.
-fn shared(random: &mut Random, terms: &mut [Term]) {
-    let few = *random.pick(&[2, 4, 1000]);
-    each_variable(terms, &mut |_| Term::Var(random.below(few) as u16));
-}
-
 /// The goal's cells: arguments made blank until 32 cells are enough, variables numbered by first appearance.
 fn cells(mut terms: Vec<Term>) -> Vec<u32> {
     let mut blank = 2000;
@@ -82,15 +105,5 @@ fn cells(mut terms: Vec<Term>) -> Vec<u32> {
         *largest = Term::Var(blank);
         blank += 1;
     }
-    let mut met = Vec::new();
-    each_variable(&mut terms, &mut |number| {
-        let found = met.iter().position(|&other| other == number).unwrap_or_else(|| {
-            met.push(number);
-            met.len() - 1
-        });
-        Term::Var(found as u16)
-    });
-    let mut cells = Vec::new();
-    terms.iter().for_each(|term| term.write(&mut cells));
-    cells
+    numbered(terms)
 }

@@ -1,6 +1,6 @@
 //! New rows for a table that is edited.
 
-use super::{any_subterm, size, tables, Alphabet};
+use super::{any_subterm, apart, numbered, repeated, size, Alphabet};
 use crate::model::read::{Table, ROW_CELLS};
 use crate::model::term::Term;
 use crate::random::Random;
@@ -8,7 +8,7 @@ use crate::random::Random;
 const ALPHABET: Alphabet = Alphabet { symbols: 3, variable: 6 };
 
 /// A row that is sound by itself: one that is there, one of variables, arguments of different rows, terms of any size, or a row with one
-/// subterm replaced.
+/// subterm replaced; with its variables told apart, as they came, or made the same.
 pub fn any(random: &mut Random, table: &Table) -> Vec<u32> {
     let mut row = random.pick(&table.rows).arguments.clone();
     match random.below(8) {
@@ -24,7 +24,12 @@ pub fn any(random: &mut Random, table: &Table) -> Vec<u32> {
             *term = ALPHABET.term(random, term.size());
         }
     }
-    tables::row(&row)
+    match random.below(3) {
+        0 => apart(&mut row),
+        1 => repeated(random, &mut row),
+        _ => {}
+    }
+    numbered(row)
 }
 
 /// Takes each argument from another row, where the cells allow it.

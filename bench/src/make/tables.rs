@@ -1,6 +1,6 @@
 //! Tables of the kinds that are compared and timed.
 
-use super::{any_subterm, each_variable, size, Alphabet};
+use super::{any_subterm, apart, numbered, repeated, size, Alphabet};
 use crate::model::read::ROW_CELLS;
 use crate::model::term::Term;
 use crate::random::Random;
@@ -21,15 +21,37 @@ pub enum Kind {
     Chain,
 }
 
-type Row = Vec<Term>;
+pub type Row = Vec<Term>;
 
-/// A table of any kind and any number of rows.
+/// A table of any kind and any number of rows. In every second one, every second row may repeat variables.
 pub fn any(random: &mut Random) -> Vec<u32> {
+    let made = any_rows(random);
+    repeated_in(random, made)
+}
+
+/// The same of one kind and number of rows.
+pub fn sometimes_repeated(random: &mut Random, kind: Kind, rows: usize) -> Vec<u32> {
+    let made = rows_of(random, kind, rows);
+    repeated_in(random, made)
+}
+
+fn repeated_in(random: &mut Random, mut made: Vec<Row>) -> Vec<u32> {
+    if random.one_in(2) {
+        for row in &mut made {
+            if random.one_in(2) {
+                repeated(random, row);
+            }
+        }
+    }
+    cells(&made)
+}
+
+fn any_rows(random: &mut Random) -> Vec<Row> {
     match random.below(16) {
-        0 => table(random, Kind::Shop, 64),
+        0 => rows_of(random, Kind::Shop, 64),
         1 => {
             let width = random.within(1..=8);
-            table(random, Kind::Full(width), 64)
+            rows_of(random, Kind::Full(width), 64)
         }
         2 | 3 => with_rows(random, Kind::Shop, 64),
         4 | 5 => with_rows(random, Kind::Nested, 24),
@@ -43,13 +65,17 @@ pub fn any(random: &mut Random) -> Vec<u32> {
     }
 }
 
-fn with_rows(random: &mut Random, kind: Kind, most: usize) -> Vec<u32> {
+fn with_rows(random: &mut Random, kind: Kind, most: usize) -> Vec<Row> {
     let rows = random.within(1..=most);
-    table(random, kind, rows)
+    rows_of(random, kind, rows)
 }
 
-/// A table of so many rows.
+/// A table of so many rows, none of which repeats a variable.
 pub fn table(random: &mut Random, kind: Kind, rows: usize) -> Vec<u32> {
+    cells(&rows_of(random, kind, rows))
+}
+
+fn rows_of(random: &mut Random, kind: Kind, rows: usize) -> Vec<Row> {
     let mut made = match kind {
         Kind::Shop => shop(random, rows),
         Kind::Nested => varied(random, rows, 2, 8..=20, Alphabet { symbols: 3, variable: 8 }),
@@ -62,7 +88,8 @@ pub fn table(random: &mut Random, kind: Kind, rows: usize) -> Vec<u32> {
         Kind::Chain => chain(random, rows),
     };
     tell_apart(random, &mut made);
-    cells(&made)
+    made.iter_mut().for_each(|row| apart(row));
+    made
 }
 
 /// A row without variables that stands above gets a variable for one of its leaves.
@@ -89,30 +116,27 @@ fn has_variable(term: &Term) -> bool {
 }
 
 /// The table of these rows.
-fn cells(rows: &[Row]) -> Vec<u32> {
+pub fn cells(rows: &[Row]) -> Vec<u32> {
     let mut cells = vec![rows[0].len() as u32, rows.len() as u32];
-    rows.iter().for_each(|terms| cells.extend(row(terms)));
+    rows.iter().for_each(|row| cells.extend(numbered(row.clone())));
     cells
 }
 
-/// The cells of a row, its variables numbered from the left.
-pub fn row(terms: &[Term]) -> Vec<u32> {
-    let mut terms = terms.to_vec();
-    let mut variables = 0..;
-    each_variable(&mut terms, &mut |_| Term::Var(variables.next().expect("numbers do not end")));
-    let mut cells = Vec::new();
-    terms.iter().for_each(|term| term.write(&mut cells));
-    cells
-}
-
-/// Rows of 32 cells with a large term in one column, the others blank: what a goal repeats of that column makes replies long.
+/// Rows of 32 cells with a large term in one column, the others blank: what a goal repeats of that column makes replies long. Some tables repeat
+/// variables too.
 pub fn heavy(random: &mut Random, rows: usize) -> Vec<u32> {
     let width = random.within(2..=8);
     let column = random.below(width);
     let alphabet = Alphabet { symbols: 3, variable: *random.pick(&[0, 3, 12]) };
+    let repeats = random.one_in(3);
     let row = |_| {
         let mut row = vec![Term::Var(0); width];
         row[column] = alphabet.term(random, ROW_CELLS + 1 - width);
+        if repeats {
+            repeated(random, &mut row);
+        } else {
+            apart(&mut row);
+        }
         row
     };
     cells(&(0..rows).map(row).collect::<Vec<Row>>())

@@ -14,7 +14,7 @@ pub fn sound(random: &mut Random) -> Vec<u8> {
         let width = random.within(1..=8);
         let kind = *random.pick(&[Kind::Shop, Kind::Nested, Kind::Blank, Kind::Full(width), Kind::Small, Kind::Small, Kind::Chain]);
         let rows = random.within(1..=5);
-        tables::table(random, kind, rows)
+        tables::sometimes_repeated(random, kind, rows)
     };
     print(random, &read_table(&cells).expect("a sound table").rows)
 }
@@ -34,7 +34,8 @@ pub fn any(random: &mut Random) -> Vec<u8> {
 /// The table of a shop, printed as a shop would.
 pub fn shop(random: &mut Random, rows: usize) -> Vec<u8> {
     let table = read_table(&tables::table(random, Kind::Shop, rows)).expect("a sound table");
-    let mut printer = Printer { random, gaps: Gaps::None, naming: Naming::Shop, twice: false, predicate: b"rule".to_vec(), text: Vec::new() };
+    let mut printer =
+        Printer { random, gaps: Gaps::None, naming: Naming::Shop, twice: false, predicate: b"rule".to_vec(), words: Vec::new(), text: Vec::new() };
     for row in &table.rows {
         printer.fact(row);
         printer.text.push(10);
@@ -127,6 +128,8 @@ struct Printer<'r> {
     /// Whether a row's variables may share a name.
     twice: bool,
     predicate: Vec<u8>,
+    /// What stands for each variable of a fact, by its number.
+    words: Vec<(u16, String)>,
     text: Vec<u8>,
 }
 
@@ -137,7 +140,7 @@ fn print(random: &mut Random, rows: &[Row]) -> Vec<u8> {
     // One text in ten has a fact of another predicate or width, one in ten may repeat a variable.
     let (other, twice) = (random.one_in(10), random.one_in(10));
     let odd = random.below(rows.len());
-    let mut printer = Printer { random, gaps, naming, twice, predicate, text: Vec::new() };
+    let mut printer = Printer { random, gaps, naming, twice, predicate, words: Vec::new(), text: Vec::new() };
     printer.gap();
     for (number, row) in rows.iter().enumerate() {
         if number > 0 {
@@ -171,6 +174,7 @@ impl Printer<'_> {
     }
 
     fn fact_of(&mut self, arguments: &[Term]) {
+        self.words.clear();
         self.text.extend(&self.predicate);
         self.arguments(arguments);
         self.gap();
@@ -212,15 +216,25 @@ impl Printer<'_> {
         }
     }
 
+    /// A variable that stands twice has the same word each time; where that is `_`, it is no repetition.
     fn variable(&mut self, number: u16) {
+        let word = match self.words.iter().find(|(other, _)| *other == number) {
+            Some((_, word)) => word.clone(),
+            None => self.new_word(number),
+        };
+        let shared = self.twice && self.random.one_in(2);
+        self.text.extend(if shared { "X" } else { &word }.bytes());
+    }
+
+    fn new_word(&mut self, number: u16) -> String {
         let word = match self.random.below(5) {
             0 | 1 => "_".to_string(),
             2 => format!("_{number}"),
             3 => format!("V{number}"),
             _ => format!("Some_Long{number}x"),
         };
-        let shared = self.twice && self.random.one_in(2);
-        self.text.extend(if shared { "X" } else { &word }.bytes());
+        self.words.push((number, word.clone()));
+        word
     }
 
     fn number(&mut self, value: i16) {

@@ -1,10 +1,10 @@
-//! The least plan (01, "The least plan"), by 01's measure and by that of 02, W-204.
+//! The least plan (01, "The least plan"), by 01's measure and by that of 02, W-204 and W-209.
 
 use std::collections::HashMap;
 use std::ops::Range;
 
 use super::plan::{grow, Open, Plan};
-use super::read::Table;
+use super::read::{Row, Table};
 use super::term::{Symbol, Term};
 
 /// What a plan costs: its number of branches, or the work of W-204 with a figure.
@@ -15,12 +15,13 @@ pub enum Measure {
 }
 
 impl Measure {
-    /// What a branch for this cell adds: nothing for a variable, one for a number, one and its arguments for a name.
-    fn weight(self, cell: u32) -> usize {
+    /// What a branch for this cell adds below those of the cells `met`: nothing for a variable, but one where it was met; one for a number, one and
+    /// its arguments for a name.
+    fn weight(self, cell: u32, met: &[u32]) -> usize {
         match (self, Symbol::of(cell)) {
             (Measure::Branches, _) | (_, Some(Symbol::Number(_))) => 1,
             (_, Some(Symbol::Name { arguments, .. })) => 1 + arguments,
-            (_, Some(Symbol::Variable(_)) | None) => 0,
+            (_, Some(Symbol::Variable(_)) | None) => usize::from(met.contains(&cell)),
         }
     }
 
@@ -32,20 +33,32 @@ impl Measure {
         }
     }
 
-    /// The cells of a term, each with its weight.
-    fn whole(self, term: &Term) -> usize {
-        self.weight(term.cell()) + term.arguments().iter().map(|argument| self.whole(argument)).sum::<usize>()
+    /// What a row by itself costs: its cells, each with its weight. Whatever the plan, each variable has one first meeting.
+    fn row(self, row: &Row) -> usize {
+        fn cells(measure: Measure, terms: &[Term]) -> usize {
+            terms.iter().map(|term| measure.weight(term.cell(), &[]) + cells(measure, term.arguments())).sum()
+        }
+        let again = if self == Measure::Branches { 0 } else { row.again };
+        cells(self, &row.arguments) + again
     }
 
     /// The cost of a plan.
     pub fn cost(self, plan: &Plan) -> usize {
-        self.below(plan, plan.top())
+        self.below(plan, plan.top(), &mut Vec::new())
     }
 
-    fn below(self, plan: &Plan, state: Range<usize>) -> usize {
-        let branches = plan.at(state).collect::<Vec<_>>();
-        let sum: usize = branches.iter().map(|(branch, state)| self.weight(branch.cell) + self.below(plan, state.clone())).sum();
-        self.figure(branches.len()) + sum
+    /// The cost of a state below branches of these cells.
+    fn below(self, plan: &Plan, state: Range<usize>, met: &mut Vec<u32>) -> usize {
+        let mut sum = 0;
+        let mut branches = 0;
+        for (branch, state) in plan.at(state) {
+            sum += self.weight(branch.cell, met);
+            met.push(branch.cell);
+            sum += self.below(plan, state, met);
+            met.pop();
+            branches += 1;
+        }
+        self.figure(branches) + sum
     }
 }
 
@@ -95,8 +108,7 @@ struct Counts<'t> {
 impl<'t> Counts<'t> {
     fn best(&mut self, rows: Range<usize>) -> Best {
         if rows.len() == 1 {
-            let whole = self.table.rows[rows.start].arguments.iter().map(|term| self.measure.whole(term)).sum();
-            return Best { whole, closed: 0, place: 0 };
+            return Best { whole: self.measure.row(&self.table.rows[rows.start]), closed: 0, place: 0 };
         }
         let key = rows.start * self.table.rows.len() + rows.end - 1;
         if let Some(best) = self.known[key] {
@@ -147,7 +159,7 @@ impl<'t> Settled<'t> {
             self.open.push(column);
             return;
         }
-        self.agreed += self.measure.weight(column[0].cell());
+        self.agreed += self.measure.weight(column[0].cell(), &[]);
         for argument in 0..column[0].arguments().len() {
             self.settle(column.iter().map(|term| &term.arguments()[argument]).collect());
         }
@@ -160,7 +172,8 @@ pub fn least_by_search(table: &Table, measure: Measure) -> Plan {
     grow(table, |open, rows| {
         leftmost_agreed(open, rows).unwrap_or_else(|| {
             let lists = rows.clone().map(|row| (0..open.places(rows)).map(|place| open.at(row, place)).collect()).collect();
-            search.cheapest(&lists).1
+            // No variable is met above several rows, and the place for a single row is taken before.
+            search.cheapest(&lists, &[]).1
         })
     })
 }
@@ -171,11 +184,11 @@ pub fn every_run_by_search(table: &Table, measure: Measure) -> Vec<(usize, usize
     let mut search = Search { measure, known: HashMap::new() };
     let of_run = |(first, last): (usize, usize)| {
         let mut lists: Lists = table.rows[first..=last].iter().map(|row| row.arguments.iter().collect()).collect();
-        let whole = search.cheapest(&lists).0;
+        let whole = search.cheapest(&lists, &[]).0;
         while let Some(place) = (0..lists[0].len()).find(|&place| lists.windows(2).all(|pair| pair[0][place].agrees(pair[1][place]))) {
             lists = lists.iter().map(|row| closed(row, place)).collect();
         }
-        let (closed, place) = search.cheapest(&lists);
+        let (closed, place) = search.cheapest(&lists, &[]);
         (first, last, Best { whole, closed, place })
     };
     runs(table.rows.len()).map(of_run).collect()
@@ -187,11 +200,12 @@ type Lists<'t> = Vec<Vec<&'t Term>>;
 struct Search {
     measure: Measure,
     /// The least cost of a state and its leftmost place, by the addresses of the terms that are open in its first row, and its number of rows.
+    /// What was met above is what is not open.
     known: HashMap<(Vec<*const Term>, usize), (usize, usize)>,
 }
 
 impl Search {
-    fn cheapest(&mut self, rows: &Lists) -> (usize, usize) {
+    fn cheapest(&mut self, rows: &Lists, met: &[u32]) -> (usize, usize) {
         if rows[0].is_empty() {
             return (0, 0);
         }
@@ -199,18 +213,22 @@ impl Search {
         if let Some(&known) = self.known.get(&key) {
             return known;
         }
-        let costs = (0..rows[0].len()).map(|place| self.cost(rows, place)).collect::<Vec<_>>();
+        let costs = (0..rows[0].len()).map(|place| self.cost(rows, place, met)).collect::<Vec<_>>();
         let least = *costs.iter().min().expect("a state that is no leaf has an open place");
         let found = (least, costs.iter().position(|&cost| cost == least).expect("the least is one of them"));
         self.known.insert(key, found);
         found
     }
 
-    fn cost(&mut self, rows: &Lists, place: usize) -> usize {
+    fn cost(&mut self, rows: &Lists, place: usize, met: &[u32]) -> usize {
         let runs = rows.chunk_by(|above, below| above[place].agrees(below[place])).collect::<Vec<_>>();
-        let branch = |run: &&[Vec<&Term>]| self.measure.weight(run[0][place].cell());
-        let own: usize = self.measure.figure(runs.len()) + runs.iter().map(branch).sum::<usize>();
-        own + runs.iter().map(|run| self.cheapest(&run.iter().map(|row| closed(row, place)).collect()).0).sum::<usize>()
+        let mut sum = self.measure.figure(runs.len());
+        for run in runs {
+            let cell = run[0][place].cell();
+            sum += self.measure.weight(cell, met);
+            sum += self.cheapest(&run.iter().map(|row| closed(row, place)).collect(), &[met, &[cell]].concat()).0;
+        }
+        sum
     }
 }
 

@@ -1,6 +1,6 @@
 //! What is turned away (01, "What is turned away"), and an entry's answer as one number.
 
-/// 01's numbers 1 to 16, then those of 02.
+/// 01's numbers 1 to 16, then those of 02; 8, TWICE, is no longer given (02, W-209).
 #[derive(Clone, Copy, Debug, PartialEq, Eq)]
 pub enum Number {
     Length = 1,
@@ -10,8 +10,7 @@ pub enum Number {
     Short,
     Cell,
     Fresh,
-    Twice,
-    Extra,
+    Extra = 9,
     Size,
     Ends,
     Open,
@@ -27,13 +26,22 @@ pub enum Number {
     Last,
     Index,
     Same,
+    Big,
 }
 
 /// Their names, by number from 1.
-pub const NAMES: [&str; 24] = [
+pub const NAMES: [&str; 25] = [
     "LENGTH", "WIDTH", "COUNT", "LONG", "SHORT", "CELL", "FRESH", "TWICE", "EXTRA", "SIZE", "ENDS", "OPEN", "EDGES", "LABEL", "ROWS", "ROOM",
-    "BYTES", "TEXT", "OTHER", "FIGURE", "FULL", "LAST", "INDEX", "SAME",
+    "BYTES", "TEXT", "OTHER", "FIGURE", "FULL", "LAST", "INDEX", "SAME", "BIG",
 ];
+
+/// The number that is never given again.
+pub const NEVER: usize = 8;
+
+/// All numbers that can be given.
+pub fn given() -> impl Iterator<Item = usize> {
+    (1..=NAMES.len()).filter(|&number| number != NEVER)
+}
 
 /// Which input a refusal concerns.
 #[derive(Clone, Copy, Debug, PartialEq, Eq)]

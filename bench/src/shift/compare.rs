@@ -11,7 +11,7 @@ use crate::model::refusal::NAMES;
 use crate::random::Random;
 
 /// What a call, and what a job, can be refused with.
-const OF_CALLS: [usize; 16] = [1, 2, 3, 4, 5, 6, 7, 8, 9, 10, 11, 12, 13, 14, 15, 24];
+const OF_CALLS: [usize; 15] = [1, 2, 3, 4, 5, 6, 7, 9, 10, 11, 12, 13, 14, 15, 24];
 const OF_JOBS: [usize; 5] = [1, 5, 6, 7, 9];
 
 /// Jobs on either side of a list, which no call may touch.

@@ -1,7 +1,62 @@
-//! An engine whose entries can be replaced one by one.
+//! An engine whose entries can be replaced one by one, and what wrong entries share. No test needs all of it.
+#![allow(dead_code)]
 
+use std::ops::Range;
+
+use dudowiej_bench::compare::{compare, Tally};
 use dudowiej_bench::engine::{Engine, Plain};
-use dudowiej_bench::model::record::Record;
+use dudowiej_bench::model::least::Measure;
+use dudowiej_bench::model::plan::{grow, Open};
+use dudowiej_bench::model::read::read_table;
+use dudowiej_bench::model::record::{figure_in, table_in, Record};
+
+/// A comparison finds that something differs.
+pub fn differs(tally: Tally) {
+    assert!(tally.differ() > 0);
+    assert!(!tally.passed());
+}
+
+/// The comparison of tables, plans and runs finds it.
+pub fn found(wrong: Altered) {
+    differs(compare(&wrong, 200, 1));
+}
+
+pub fn number(answer: u64) -> u64 {
+    answer & 0xff
+}
+
+pub fn answered(answer: u64) -> bool {
+    number(answer) == 0
+}
+
+/// How many hits a run answers.
+pub fn hits(answer: u64) -> usize {
+    (answer >> 16 & 0xffff) as usize
+}
+
+/// The refusal of a table or row.
+pub fn refused(number: u64) -> u64 {
+    number | 1 << 8
+}
+
+/// Writes the cells, and answers two values; or ROOM.
+pub fn written(room: &mut [u32], cells: &[u32], first: usize, second: usize) -> u64 {
+    let Some(front) = room.get_mut(..cells.len()) else {
+        return 16 | 4 << 8 | (cells.len() as u64) << 16;
+    };
+    front.copy_from_slice(cells);
+    (first as u64) << 16 | (second as u64) << 32
+}
+
+/// Builds the plan that takes these places, whatever the record says.
+pub fn built(record: &Record, room: &mut [u32], choose: fn(&Open, &Range<usize>) -> usize) -> u64 {
+    let Ok(read) = read_table(table_in(record)) else {
+        return Plain.build_plan(record, room);
+    };
+    let plan = grow(&read, |open, rows| choose(open, rows));
+    let cells = plan.write();
+    written(room, &cells, cells.len(), Measure::Work(figure_in(record)).cost(&plan))
+}
 
 pub struct Altered {
     pub read_table: fn(&[u32]) -> u64,

@@ -11,7 +11,6 @@ const LENGTH: u64 = 1;
 const WIDTH: u64 = 2;
 const COUNT: u64 = 3;
 const LONG: u64 = 4;
-const TWICE: u64 = 8;
 const NO_ROOM: u64 = 16;
 const BYTES: u64 = 17;
 const NO_TEXT: u64 = 18;
@@ -85,7 +84,6 @@ impl<E: Engine> Comparison<'_, E> {
     fn rooms(&mut self) {
         self.answers(b"p(X,X).", 3, 0, refused(NO_ROOM, ROOM, 4));
         self.answers(b"p(X,X).", 3, 9, refused(NO_ROOM, ROOM, 4));
-        self.answers(b"p(X,X).", 4, 0, refused(TWICE, TABLE, 3));
         self.answers(b"p(a,b,a).", 4, 0, refused(NO_ROOM, ROOM, 5));
         self.answers(b"p(a,b,a).", 5, 1, refused(NO_ROOM, ROOM, 2));
         self.answers(b"p(a,b,a).", 0, 0, refused(NO_ROOM, ROOM, 5));
@@ -100,8 +98,6 @@ impl<E: Engine> Comparison<'_, E> {
         self.answers(&fact(&["a"; 2048]), 2050, 1, refused(WIDTH, TABLE, 0));
         self.answers(&b"p(a).\n".repeat(65), 99, 9, refused(COUNT, TABLE, 1));
         self.answers(&[b"p(", &b"f(".repeat(32)[..], b"a", &b")".repeat(32)[..], b")."].concat(), 99, 9, refused(LONG, TABLE, 34));
-        self.answers(b"p(a,X,f(X)). p(b,_,c).", 99, 9, refused(TWICE, TABLE, 5));
-        self.answers(b"p(_X,_X).", 99, 9, refused(TWICE, TABLE, 3));
         self.answers(b"p(a). p(b). p(a). p(X).", 99, 9, refused(SAME, TABLE, 4));
         self.answers(b"p(32767). p(00000032767).", 99, 9, refused(SAME, TABLE, 3));
         self.answers(b"p(f(0),a). p(f(-00),a). p(X,X).", 99, 9, refused(SAME, TABLE, 5));
@@ -114,6 +110,13 @@ impl<E: Engine> Comparison<'_, E> {
         self.reads(b"p(red,X,f(red,_,09)). % c\np(blue,_,9).", &cells, &[(2, 3), (8, 1), (28, 4)]);
         self.reads(b"p(p).", &[1, 1, n(0, 0)], &[(2, 1)]);
         self.reads(b"p(_,_X,_Y,_).", &[4, 1, v(0), v(1), v(2), v(3)], &[]);
+        // A variable twice is read; `_` twice is none (W-209).
+        self.reads(b"p(X,X).", &[2, 1, v(0), v(0)], &[]);
+        self.reads(b"p(_X,_X).", &[2, 1, v(0), v(0)], &[]);
+        self.reads(b"p(_,X,_,X,_X,x).", &[6, 1, v(0), v(1), v(2), v(1), v(3), n(0, 0)], &[(13, 1)]);
+        let cells = [3, 2, n(0, 0), v(0), n(1, 1), v(0), n(2, 0), v(0), n(3, 0)];
+        self.reads(b"p(a,X,f(X)). p(b,_,c).", &cells, &[(2, 1), (6, 1), (15, 1), (19, 1)]);
+        self.reads(b"p(X,Y,X). p(Y,X,Y).", &[3, 2, v(0), v(1), v(0), v(0), v(1), v(0)], &[]);
         self.reads(b"p(00000032767). p(00).", &[1, 2, i(32_767), i(0)], &[]);
         self.reads(b"p(-1,-32768,-0).", &[3, 1, i(65_535), i(32_768), i(0)], &[]);
         self.reads(b"p(32767). p(-7).", &[1, 2, i(32_767), i(65_529)], &[]);
