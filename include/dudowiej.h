@@ -61,7 +61,7 @@ enum dudowiej_refusal {
     DUDOWIEJ_REFUSED_SHORT = 5,  /* the cells end inside a row or goal, or before a row: number of cells */
     DUDOWIEJ_REFUSED_CELL = 6,   /* not a cell: that cell */
     DUDOWIEJ_REFUSED_FRESH = 7,  /* a variable's number above the count of variables so far: that cell */
-    DUDOWIEJ_REFUSED_TWICE = 8,  /* in a row, a variable for the second time: that cell */
+    DUDOWIEJ_REFUSED_TWICE = 8,  /* no longer given: a row may repeat a variable */
     DUDOWIEJ_REFUSED_EXTRA = 9,  /* cells after the last row, the goal or the plan: the first such */
     DUDOWIEJ_REFUSED_SIZE = 10,  /* plan over 6,082 cells: place 0 */
     DUDOWIEJ_REFUSED_ENDS = 11,  /* the plan ends before its tree is complete: number of cells */
@@ -77,7 +77,8 @@ enum dudowiej_refusal {
     DUDOWIEJ_REFUSED_FULL = 21,   /* a row appended to 64: place 0 */
     DUDOWIEJ_REFUSED_LAST = 22,   /* the only row dropped: place 0 */
     DUDOWIEJ_REFUSED_INDEX = 23,  /* a row replaced that is not there: place 0 */
-    DUDOWIEJ_REFUSED_SAME = 24    /* a row without variables equals an earlier one: its first cell; in an edit any other: place 0 */
+    DUDOWIEJ_REFUSED_SAME = 24,   /* a row without variables equals an earlier one: its first cell; in an edit any other: place 0 */
+    DUDOWIEJ_REFUSED_BIG = 25     /* a reply to a goal needs over 1,024 cells: place 0 */
 };
 
 /* Which input a refusal concerns. */
@@ -116,7 +117,7 @@ uint64_t dudowiej_work_out(const uint32_t *table, size_t table_cells, uint32_t f
 
 /* The edits. Each leaves the record that working the new table out with the same figure would give, but runs without the changed row are
  * not worked out again. A plan that was built before is the old table's: build it again. First: the width. Second: the rows there are
- * now. Each refuses what it says, at 0; then of the row LONG, SHORT, CELL, FRESH, TWICE, SAME and EXTRA, places from the row's start. All
+ * now. Each refuses what it says, at 0; then of the row LONG, SHORT, CELL, FRESH, SAME and EXTRA, places from the row's start. All
  * concern DUDOWIEJ_TABLE. A refused edit changes nothing of a record that an entry made. */
 
 /* Appends a row at the end. Refuses FULL at 64 rows. */
@@ -182,8 +183,9 @@ uint64_t dudowiej_run_jobs(const dudowiej_record *record, const uint32_t *plan, 
 /* Runs a plan on a goal and writes for each row that unifies with it what the two have in common: the goal with the row's bindings filled
  * in, its variables numbered anew from 0. The replies stand one after another in row order at the front of the room, each as many terms as
  * the table has columns; they carry no lengths, and the rest of the room is untouched. Where no row unifies there is none. First: the
- * replies. Second: the cells written. Refused in this order: the plan, the goal; then the room, the place being the cells of all replies
- * together. DUDOWIEJ_REPLY_CELLS cells for each row of the table are always enough. */
+ * replies. Second: the cells written. Refused in this order: the plan, the goal; BIG, which concerns DUDOWIEJ_GOAL at 0, exactly where some
+ * reply needs over DUDOWIEJ_REPLY_CELLS cells, whatever room there is; then the room, the place being the cells of all replies together.
+ * Where anything is refused nothing is written. Room for DUDOWIEJ_REPLY_CELLS cells for each row of the table is always enough. */
 uint64_t dudowiej_replies(const dudowiej_record *record, const uint32_t *plan, size_t plan_cells, const uint32_t *goal, size_t goal_cells,
                           uint32_t *room, size_t room_cells);
 
@@ -239,6 +241,7 @@ static inline const char *dudowiej_refusal_name(unsigned number) {
     case DUDOWIEJ_REFUSED_LAST: return "LAST";
     case DUDOWIEJ_REFUSED_INDEX: return "INDEX";
     case DUDOWIEJ_REFUSED_SAME: return "SAME";
+    case DUDOWIEJ_REFUSED_BIG: return "BIG";
     default: return "none";
     }
 }

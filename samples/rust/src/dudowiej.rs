@@ -32,10 +32,10 @@ pub const fn value(cell: u32) -> i16 {
     cell as i16
 }
 
-/// The names of the refusals' numbers, 1 to 24.
-const REFUSALS: [&str; 24] = [
+/// The names of the refusals' numbers, 1 to 25; 8 is no longer given.
+const REFUSALS: [&str; 25] = [
     "LENGTH", "WIDTH", "COUNT", "LONG", "SHORT", "CELL", "FRESH", "TWICE", "EXTRA", "SIZE", "ENDS", "OPEN", "EDGES", "LABEL", "ROWS",
-    "ROOM", "BYTES", "TEXT", "OTHER", "FIGURE", "FULL", "LAST", "INDEX", "SAME",
+    "ROOM", "BYTES", "TEXT", "OTHER", "FIGURE", "FULL", "LAST", "INDEX", "SAME", "BIG",
 ];
 
 /// The name of a refusal's number; "none" where it is no refusal's.
