@@ -6,36 +6,29 @@ use Rattle.goaltext.proofs.first_name.Reads as reads
 use Rattle.goaltext.proofs.first_name.Lts as lts
 use Rattle.lex.proofs.fact.next_fact.Reads as next-fact-reads
 
--- src/lib.rt:28:11
 next-fact-requires : tie.Need-next-fact-requires
 next-fact-requires c κs = search needs
 
--- src/lib.rt:29:20
 enum-known-start : tie.Need-enum-known-start
 enum-known-start c = search needs
 
--- src/lib.rt:30:22
 enum-told : tie.Need-enum-told
 enum-told c = search needs
 
--- src/lib.rt:31:26
 enum-told-2 : tie.Need-enum-told-2
 enum-told-2 c = search needs
 
--- src/lib.rt:25:1
 returns : tie.Need-returns
 returns c =
     let k = c .before in
     let n = k .before .before in
     name-open (n .before .before .args .text .now) (n .next-fact .ensures) _ _ (k .start .given .1)
 
--- src/lib.rt:25:1
 returns-2 : tie.Need-returns-2
 returns-2 c =
     let n = c .before .before in
     name-none (n .before .before .args .text .now) (n .next-fact .ensures) (c .enum-told .given .1) not-end
 
--- src/lib.rt:25:1
 returns-3 : tie.Need-returns-3
 returns-3 c =
     let n = c .before .before in

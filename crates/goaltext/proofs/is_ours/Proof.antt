@@ -8,27 +8,21 @@ use Rattle.goaltext.proofs.is_ours.Lts as lts
 use Rattle.lex.proofs.name.same_bytes.Reads as same-bytes-reads
 use Rattle.parts.proofs.part.Reads as part-reads
 
--- src/lib.rt:121:9
 returns : tie.Need-returns
 returns c = search needs
 
--- src/lib.rt:124:9
 returns-2 : tie.Need-returns-2
 returns-2 c = search needs
 
--- src/lib.rt:127:9
 part-requires : tie.Need-part-requires
 part-requires c κs = search needs
 
--- src/lib.rt:128:9
 part-requires-2 : tie.Need-part-requires-2
 part-requires-2 c κs = search needs
 
--- src/lib.rt:126:5
 same-bytes-requires : tie.Need-same-bytes-requires
 same-bytes-requires c κs = search needs
 
--- src/lib.rt:117:1
 returns-3 : tie.Need-returns-3
 returns-3 c =
     let a = c .before .before .before .before .before .before .before .before .before .before .args in

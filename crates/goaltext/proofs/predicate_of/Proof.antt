@@ -8,23 +8,18 @@ use Rattle.goaltext.proofs.predicate_of.Lts as lts
 use Rattle.goaltext.proofs.first_name.Reads as first-name-reads
 use Rattle.scan.proofs.scan_text.Reads as scan-text-reads
 
--- src/lib.rt:39:9
 first-name-requires : tie.Need-first-name-requires
 first-name-requires c κs = search needs
 
--- src/lib.rt:40:11
 scan-text-requires : tie.Need-scan-text-requires
 scan-text-requires c κs = search needs
 
--- src/lib.rt:41:21
 enum-known-c : tie.Need-enum-known-c
 enum-known-c c = search needs
 
--- src/lib.rt:46:29
 enum-told : tie.Need-enum-told
 enum-told c = search needs
 
--- src/lib.rt:36:1
 returns : tie.Need-returns
 returns c =
     let k = c .before in
@@ -33,7 +28,6 @@ returns c =
     let t = n .before .before .args .text .now in
     predicate-facts t _ _ (n .first-name .ensures) (scan-facts t _ (scan-is t (s .scan-text .ensures) (k .c .given .1)))
 
--- src/lib.rt:36:1
 returns-2 : tie.Need-returns-2
 returns-2 c =
     let s = c .before .before in

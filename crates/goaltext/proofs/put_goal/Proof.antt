@@ -22,39 +22,31 @@ few n =
     let z = accepted-read (a .width) (a .row .now) (n .before .before .goal-for .ensures) (n .n .given .1) in
     goal-few (a .width) (a .row .now) (z .1)
 
--- src/lib.rt:148:11
 goal-for-requires : tie.Need-goal-for-requires
 goal-for-requires c κs = search needs
 
--- src/lib.rt:149:30
 enum-known-n : tie.Need-enum-known-n
 enum-known-n c = search needs
 
--- src/lib.rt:151:67
 slice-aggregate-number-names : tie.Need-slice-aggregate-number-names
 slice-aggregate-number-names c = search needs
 
--- src/lib.rt:151:17
 number-names-requires : tie.Need-number-names-requires
 number-names-requires c κs =
     let f = few (c .before .before .before) in
     (omega arith, omega arith, omega arith, omega arith)
 
--- src/lib.rt:152:35
 slice-aggregate-put-cells : tie.Need-slice-aggregate-put-cells
 slice-aggregate-put-cells c = search needs
 
--- src/lib.rt:152:13
 put-cells-requires : tie.Need-put-cells-requires
 put-cells-requires c κs =
     let f = few (c .before .before .before .before .before .before .before) in
     search needs
 
--- src/lib.rt:155:29
 enum-known-f : tie.Need-enum-known-f
 enum-known-f c = search needs
 
--- src/lib.rt:134:1
 returns : tie.Need-returns
 returns c =
     let m = c .before .before .before .before in
@@ -64,7 +56,6 @@ returns c =
     (n .before .before .goal-for .ensures)
     {zeros = replicate 32 0} (n .n .given .1) (at n .pre .1) refl (omega arith) (m .number-names .ensures) (c .put-cells .ensures)
 
--- src/lib.rt:134:1
 returns-2 : tie.Need-returns-2
 returns-2 c =
     let k = c .before in

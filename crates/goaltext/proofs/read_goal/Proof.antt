@@ -27,11 +27,9 @@ stopped-is c =
     let g = goal-of c in
     put-found (put-put (w .put-word .ensures) (c .put-word2 .ensures)) (omega (arith, length-append g (10 ∷ 46 ∷ [])))
 
--- src/lib.rt:236:9
 refuse-requires : tie.Need-refuse-requires
 refuse-requires c κs = search needs
 
--- src/lib.rt:236:9
 returns : tie.Need-returns
 returns c =
     record {
@@ -40,11 +38,9 @@ returns c =
       answers = record { tells = c .refuse .ensures; wrote = refl; listed = refl };
     }
 
--- src/lib.rt:239:9
 refuse-requires-2 : tie.Need-refuse-requires-2
 refuse-requires-2 c κs = search needs
 
--- src/lib.rt:239:9
 returns-2 : tie.Need-returns-2
 returns-2 c =
     record {
@@ -53,42 +49,33 @@ returns-2 c =
       answers = record { tells = c .refuse2 .ensures; wrote = refl; listed = refl };
     }
 
--- src/lib.rt:242:30
 slice-aggregate-put-word : tie.Need-slice-aggregate-put-word
 slice-aggregate-put-word c = search needs
 
--- src/lib.rt:242:9
 put-word-requires : tie.Need-put-word-requires
 put-word-requires c κs = search needs
 
--- src/lib.rt:243:30
 slice-aggregate-put-word-2 : tie.Need-slice-aggregate-put-word-2
 slice-aggregate-put-word-2 c = search needs
 
--- src/lib.rt:243:47
 slice-aggregate-put-word-3 : tie.Need-slice-aggregate-put-word-3
 slice-aggregate-put-word-3 c = search needs
 
--- src/lib.rt:243:9
 put-word-requires-2 : tie.Need-put-word-requires-2
 put-word-requires-2 c κs = search needs
 
--- src/lib.rt:244:34
 array-share-prefix-stopped : tie.Need-array-share-prefix-stopped
 array-share-prefix-stopped c = let z = stopped-is (c .before) in omega (arith, z .0, length-append (goal-of (c .before)) (10 ∷ 46 ∷ []))
 
--- src/lib.rt:244:34
 slice-aggregate-read-stopped : tie.Need-slice-aggregate-read-stopped
 slice-aggregate-read-stopped c = let z = stopped-is (c .before .before) in z .0 ∙ sym (ap length (z .1))
 
--- src/lib.rt:244:5
 read-stopped-requires : tie.Need-read-stopped-requires
 read-stopped-requires c κs =
     let z = stopped-is (c .before .before .before .before) in
     let n = ap length (z .1) ∙ length-append (goal-of (c .before .before .before .before)) (10 ∷ 46 ∷ []) in
     (omega arith, omega arith, omega arith)
 
--- src/lib.rt:224:1
 returns-3 : tie.Need-returns-3
 returns-3 c =
     let p = c .before .before .before .before .before in

@@ -24,25 +24,20 @@ size-is c e =
     subst (SizeIs (c .before .before .before .before .args .stopped .now)
     (length (c .before .before .before .before .args .stopped .now) - 2)) e (c .whole-size .ensures)
 
--- src/lib.rt:216:31
 sub-whole-size : tie.Need-sub-whole-size
 sub-whole-size c = search needs
 
--- src/lib.rt:216:11
 whole-size-requires : tie.Need-whole-size-requires
 whole-size-requires c κs = search needs
 
--- src/lib.rt:217:21
 enum-known-m : tie.Need-enum-known-m
 enum-known-m c = search needs
 
--- src/lib.rt:217:54
 slice-aggregate-read-whole : tie.Need-slice-aggregate-read-whole
 slice-aggregate-read-whole c =
     let m = c .before .before in
     sym (length-take-le _ _ (size-is (m .before .before) (m .m .given .1) .fits))
 
--- src/lib.rt:217:27
 read-whole-requires : tie.Need-read-whole-requires
 read-whole-requires c κs =
     let m = c .before .before .before .before in
@@ -51,15 +46,12 @@ read-whole-requires c κs =
     let l = length-take-le (m .m .given .0 .0) (a .stopped .now) (size-is w (m .m .given .1) .fits) in
     (w .before .before .before .before .pre .0, omega (arith, l, size-is w (m .m .given .1) .fits, w .before .before .before .before .pre))
 
--- src/lib.rt:218:20
 enum-known-k : tie.Need-enum-known-k
 enum-known-k c = search needs
 
--- src/lib.rt:218:26
 refuse-requires : tie.Need-refuse-requires
 refuse-requires c κs = search needs
 
--- src/lib.rt:204:1
 returns : tie.Need-returns
 returns c = λ t e short.
     let m = c .before .before .before .before .before in
@@ -68,7 +60,6 @@ returns c = λ t e short.
     let z = size-is w (m .m .given .1) .read t e (omega arith) in
     c .read-whole .ensures t (z .0) (z .1) short
 
--- src/lib.rt:204:1
 returns-2 : tie.Need-returns-2
 returns-2 c = λ t e short.
     let k = c .before .before in

@@ -30,50 +30,39 @@ made-at : (c : tie.After-c)
     (c .before .before .make-facts .last .1 .1 .0) (c .c .given .0 .1 .0)
 made-at c = made-are (facts-are (c .before .before) (c .c .given .1))
 
--- src/lib.rt:172:9
 first-name-requires : tie.Need-first-name-requires
 first-name-requires c κs = search needs
 
--- src/lib.rt:175:11
 make-facts-requires : tie.Need-make-facts-requires
 make-facts-requires c κs = search needs
 
--- src/lib.rt:176:27
 enum-known-c : tie.Need-enum-known-c
 enum-known-c c = search needs
 
--- src/lib.rt:177:16
 is-ours-requires : tie.Need-is-ours-requires
 is-ours-requires c κs = search needs
 
--- src/lib.rt:185:21
 sub-put-goal : tie.Need-sub-put-goal
 sub-put-goal c = made-two (made-at (c .before .before .before))
 
--- src/lib.rt:185:21
 part-put-goal-start : tie.Need-part-put-goal-start
 part-put-goal-start c = made-two (made-at (c .before .before .before .before))
 
--- src/lib.rt:185:21
 part-put-goal-end : tie.Need-part-put-goal-end
 part-put-goal-end c = made-at (c .before .before .before .before) .within .0
 
--- src/lib.rt:186:21
 array-share-prefix-list : tie.Need-array-share-prefix-list
 array-share-prefix-list c = made-at (c .before .before .before .before .before) .within .1
 
--- src/lib.rt:186:21
 slice-aggregate-put-goal : tie.Need-slice-aggregate-put-goal
 slice-aggregate-put-goal c =
     let m = made-at (c .before .before .before .before .before .before) in sym (length-take-le _ _ (m .within .1))
 
--- src/lib.rt:180:17
 put-goal-requires : tie.Need-put-goal-requires
 put-goal-requires c κs =
     let k = c .before .before .before .before .before .before .before .before in
     (at (k .before .before) .pre .0, made-names (made-at k))
 
--- src/lib.rt:180:17
 returns : tie.Need-returns
 returns c = λ t fs w short.
     let o = c .before .before .before .before .before .before .before in
@@ -87,23 +76,18 @@ returns c = λ t fs w short.
     (m .before .before .before .first-name .ensures) (F .counts)
     (at m .pre .0) w S (made-row F) (F .names) (c .put-goal .ensures)
 
--- src/lib.rt:191:13
 refuse-requires : tie.Need-refuse-requires
 refuse-requires c κs = search needs
 
--- src/lib.rt:193:27
 enum-known-c-2 : tie.Need-enum-known-c-2
 enum-known-c-2 c = search needs
 
--- src/lib.rt:194:16
 is-ours-requires-2 : tie.Need-is-ours-requires-2
 is-ours-requires-2 c κs = search needs
 
--- src/lib.rt:195:17
 refuse-requires-2 : tie.Need-refuse-requires-2
 refuse-requires-2 c κs = search needs
 
--- src/lib.rt:195:17
 returns-2 : tie.Need-returns-2
 returns-2 c = λ t fs w short.
     let o = c .before .before in
@@ -116,19 +100,15 @@ returns-2 c = λ t fs w short.
     (m .before .before .before .first-name .ensures) (F .0)
     (at m .pre .0) w S (F .1) (c .refuse2 .ensures)
 
--- src/lib.rt:197:13
 refuse-requires-3 : tie.Need-refuse-requires-3
 refuse-requires-3 c κs = search needs
 
--- src/lib.rt:199:43
 enum-told : tie.Need-enum-told
 enum-told c = search needs
 
--- src/lib.rt:199:36
 refuse-requires-4 : tie.Need-refuse-requires-4
 refuse-requires-4 c κs = search needs
 
--- src/lib.rt:160:1
 returns-3 : tie.Need-returns-3
 returns-3 c = λ t fs w short.
     let o = c .before .before in
@@ -140,7 +120,6 @@ returns-3 c = λ t fs w short.
     (m .before .before .before .first-name .ensures)
     w (made-at k .counts) n (c .refuse .ensures)
 
--- src/lib.rt:160:1
 returns-4 : tie.Need-returns-4
 returns-4 c = λ t fs w short.
     let o = c .before .before in
@@ -153,7 +132,6 @@ returns-4 c = λ t fs w short.
     (m .before .before .before .first-name .ensures)
     w (F .0) n (c .refuse3 .ensures)
 
--- src/lib.rt:160:1
 returns-5 : tie.Need-returns-5
 returns-5 c = λ t fs w short.
     let k = c .before in

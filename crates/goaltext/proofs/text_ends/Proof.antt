@@ -9,23 +9,18 @@ use Rattle.goaltext.proofs.text_ends.Lts as lts
 use Rattle.refusal.proofs.number_of.Reads as number-of-reads
 use Rattle.scan.proofs.scan_text.Reads as scan-text-reads
 
--- src/lib.rt:79:11
 scan-text-requires : tie.Need-scan-text-requires
 scan-text-requires c κs = search needs
 
--- src/lib.rt:80:27
 enum-told : tie.Need-enum-told
 enum-told c = search needs
 
--- src/lib.rt:81:23
 enum-known-f : tie.Need-enum-known-f
 enum-known-f c = search needs
 
--- src/lib.rt:84:16
 number-of-requires : tie.Need-number-of-requires
 number-of-requires c κs = search needs
 
--- src/lib.rt:85:17
 returns : tie.Need-returns
 returns c = λ few.
     let f = c .before .before .before in
@@ -34,14 +29,12 @@ returns c = λ few.
     ends-stop t (f .f .given .0 .0) few (scan-is t (s .scan-text .ensures) (f .f .given .1))
     (omega (arith, c .before .number-of .ensures .0))
 
--- src/lib.rt:76:1
 returns-2 : tie.Need-returns-2
 returns-2 c = λ few.
     let s = c .before .before in
     let t = s .before .before .args .text .now in
     ends-facts t _ (scan-facts t _ (scan-is t (s .scan-text .ensures) (c .enum-told .given .1)))
 
--- src/lib.rt:76:1
 returns-3 : tie.Need-returns-3
 returns-3 c = λ few.
     let f = c .before .before .before in

@@ -20,24 +20,19 @@ first c e =
     let l = length-take-le (a .n) (a .text .now) (omega (arith, c .before .before .before .pre)) in
     subst (EndsAre (take (a .n) (a .text .now))) e (c .text-ends .ensures (omega (arith, l, c .before .before .before .pre)))
 
--- src/lib.rt:102:21
 slice-aggregate-text-ends : tie.Need-slice-aggregate-text-ends
 slice-aggregate-text-ends c =
     let a = c .before .before .args in sym (length-take-le (a .n) (a .text .now) (omega (arith, c .before .before .pre)))
 
--- src/lib.rt:102:11
 text-ends-requires : tie.Need-text-ends-requires
 text-ends-requires c κs = search needs
 
--- src/lib.rt:103:24
 enum-told : tie.Need-enum-told
 enum-told c = search needs
 
--- src/lib.rt:104:20
 enum-known-k : tie.Need-enum-known-k
 enum-known-k c = search needs
 
--- src/lib.rt:106:17
 returns : tie.Need-returns
 returns c =
     let k = c .before .before in
@@ -48,23 +43,18 @@ returns c =
           size-byte t (a .text .now) (a .n) e l (first (k .before .before) (k .k .given .1)) (omega arith);
     }
 
--- src/lib.rt:108:19
 text-ends-requires-2 : tie.Need-text-ends-requires-2
 text-ends-requires-2 c κs = search needs
 
--- src/lib.rt:109:44
 enum-told-2 : tie.Need-enum-told-2
 enum-told-2 c = search needs
 
--- src/lib.rt:109:44
 add-t11 : tie.Need-add-t11
 add-t11 c = search needs
 
--- src/lib.rt:110:34
 enum-told-3 : tie.Need-enum-told-3
 enum-told-3 c = search needs
 
--- src/lib.rt:98:1
 returns-2 : tie.Need-returns-2
 returns-2 c =
     let s = c .before .before in
@@ -75,7 +65,6 @@ returns-2 c =
           size-whole t (a .text .now) (a .n) e l (first s (c .enum-told .given .1));
     }
 
--- src/lib.rt:98:1
 returns-3 : tie.Need-returns-3
 returns-3 c =
     let y = c .before .before in
@@ -90,7 +79,6 @@ returns-3 c =
           (y .text-ends2 .ensures (omega (arith, s .before .before .before .pre))));
     }
 
--- src/lib.rt:98:1
 returns-4 : tie.Need-returns-4
 returns-4 c =
     let y = c .before .before in

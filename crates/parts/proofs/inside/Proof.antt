@@ -7,25 +7,21 @@ use Rattle.parts.proofs.inside.Tie as tie
 use Rattle.parts.proofs.inside.Reads as reads
 use Rattle.parts.proofs.inside.Lts as lts
 
--- src/lib.rt:19:9
 returns : tie.Need-returns
 returns c =
     let a = c .before .args in
     record { from = omega arith; within = omega arith; same = sym (part-late (a .text .now) (a .start) (a .end) (omega arith)) }
 
--- src/lib.rt:22:9
 returns-2 : tie.Need-returns-2
 returns-2 c =
     let a = c .before .before .args in
     record { from = omega arith; within = omega arith; same = sym (part-none (a .text .now) (a .start) (a .end) (omega arith)) }
 
--- src/lib.rt:25:9
 returns-3 : tie.Need-returns-3
 returns-3 c =
     let a = c .before .before .before .args in
     record { from = omega arith; within = omega arith; same = sym (part-over (a .text .now) (a .start) (a .end) (omega arith)) }
 
--- src/lib.rt:14:1
 returns-4 : tie.Need-returns-4
 returns-4 c = search needs
 

@@ -7,23 +7,18 @@ use Rattle.parts.proofs.part.Reads as reads
 use Rattle.parts.proofs.part.Lts as lts
 use Rattle.parts.proofs.inside.Reads as inside-reads
 
--- src/lib.rt:33:9
 inside-requires : tie.Need-inside-requires
 inside-requires c κs = search needs
 
--- src/lib.rt:36:5
 sub-result : tie.Need-sub-result
 sub-result c = search needs
 
--- src/lib.rt:36:5
 part-result-start : tie.Need-part-result-start
 part-result-start c = search needs
 
--- src/lib.rt:36:5
 part-result-end : tie.Need-part-result-end
 part-result-end c = search needs
 
--- src/lib.rt:30:1
 returns : tie.Need-returns
 returns c =
     let i = c .before .inside in

@@ -7,35 +7,27 @@ use Rattle.prolog.proofs.give.Lts as lts
 use Rattle.prolog.proofs.put_front.Reads as put-front-reads
 use Rattle.table.proofs.read_table.Reads as read-table-reads
 
--- src/lib.rt:56:18
 read-table-requires : tie.Need-read-table-requires
 read-table-requires c κs = search needs
 
--- src/lib.rt:59:29
 enum-told : tie.Need-enum-told
 enum-told c = search needs
 
--- src/lib.rt:59:13
 put-front-requires : tie.Need-put-front-requires
 put-front-requires c κs = search needs
 
--- src/lib.rt:60:13
 put-front-requires-2 : tie.Need-put-front-requires-2
 put-front-requires-2 c κs = search needs
 
--- src/lib.rt:63:30
 enum-known-answer : tie.Need-enum-known-answer
 enum-known-answer c = search needs
 
--- src/lib.rt:52:1
 same-length : tie.Need-same-length
 same-length c = search needs
 
--- src/lib.rt:52:1
 same-length-2 : tie.Need-same-length-2
 same-length-2 c = search needs
 
--- src/lib.rt:52:1
 returns : tie.Need-returns
 returns c =
     let a = c .before .before .before .before .before .before .before .before .before .before .before .before .before .before .before .args in
@@ -43,7 +35,6 @@ returns c =
     table-accepted (a .made .now) (a .list .now) (a .cells .now) (a .names .now) (c .before .before .before .before .before .before .put-front .last .1 .0) (c .before .before .put-front2 .last .1 .0) (c .before .before .before .before .before .before .before .before .enum-told .given .0 .0) (c .before .before .before .before .before .before .before .before .enum-told .given .0 .1 .0)
     (r .ensures .answer) (c .before .before .before .before .before .before .before .before .enum-told .given .1) (c .before .before .before .before .before .before .put-front .ensures) (c .before .before .put-front2 .ensures)
 
--- src/lib.rt:52:1
 returns-2 : tie.Need-returns-2
 returns-2 c =
     let a = c .before .before .before .before .before .before .before .before .args in

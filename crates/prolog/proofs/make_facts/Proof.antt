@@ -32,53 +32,41 @@ listed : (k : tie.After-known) → Listed (start (k .before .before .before .bef
     (k .before .before .before .before .before .read-words .last .1 .1 .1 .0) (k .known .given .0 .0)
 listed k = listed-are (known (k .before .before .before) (k .known .given .1))
 
--- src/lib.rt:151:11
 read-words-requires : tie.Need-read-words-requires
 read-words-requires c κs = search needs
 
--- src/lib.rt:152:26
 enum-known-c : tie.Need-enum-known-c
 enum-known-c c = search needs
 
--- src/lib.rt:153:31
 enum-known-known : tie.Need-enum-known-known
 enum-known-known c = search needs
 
--- src/lib.rt:154:49
 slice-aggregate-make-table : tie.Need-slice-aggregate-make-table
 slice-aggregate-make-table c = sym (numbers-kept (listed (c .before .before)) refl)
 
--- src/lib.rt:154:21
 make-table-requires : tie.Need-make-table-requires
 make-table-requires c κs = (numbers-are (listed (c .before .before .before)) refl, search needs)
 
--- src/lib.rt:157:38
 enum-told : tie.Need-enum-told
 enum-told c = search needs
 
--- src/lib.rt:158:34
 enum-told-2 : tie.Need-enum-told-2
 enum-told-2 c = search needs
 
--- src/lib.rt:160:28
 enum-known-f : tie.Need-enum-known-f
 enum-known-f c = search needs
 
--- src/lib.rt:147:1
 returns : tie.Need-returns
 returns c =
     let L = listed (c .before .before .before .before) in
     facts-made L (c .make-table .ensures (numbers-are L refl))
 
--- src/lib.rt:147:1
 returns-2 : tie.Need-returns-2
 returns-2 c = facts-many (known (c .before .before .before) (c .enum-told .given .1))
 
--- src/lib.rt:147:1
 returns-3 : tie.Need-returns-3
 returns-3 c = facts-passed (known (c .before .before .before) (c .enum-told2 .given .1))
 
--- src/lib.rt:147:1
 returns-4 : tie.Need-returns-4
 returns-4 c =
     let f = c .before in

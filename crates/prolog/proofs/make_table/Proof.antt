@@ -11,51 +11,42 @@ use Rattle.prolog.proofs.make_table.Reads as reads
 use Rattle.prolog.proofs.make_table.Lts as lts
 use Rattle.prolog.proofs.cells.write_cells.Reads as write-cells-reads
 
--- src/lib.rt:72:15
 cast-made : tie.Need-cast-made
 cast-made c =
     let N = c .before .before .before .before .pre .0 in
     record { fits = omega (arith, counts-wide (N .counts) .0, N .few) }
 
--- src/lib.rt:72:5
 slice-write-made : tie.Need-slice-write-made
 slice-write-made c = search needs
 
--- src/lib.rt:73:15
 cast-made-2 : tie.Need-cast-made-2
 cast-made-2 c =
     let N = c .before .before .before .before .before .pre .0 in
     record { fits = omega (arith, counts-wide (N .counts) .1, N .few) }
 
--- src/lib.rt:73:5
 slice-write-made-2 : tie.Need-slice-write-made-2
 slice-write-made-2 c = search needs
 
--- src/lib.rt:74:47
 sub-write-cells : tie.Need-sub-write-cells
 sub-write-cells c =
     let a = c .before .before .before .before .before .args in
     let P = c .before .before .before .before .before .pre in
     omega (arith, stored-long (a .text .now) (a .numbers .now) (a .made .now) (a .c) (P .0) (P .1))
 
--- src/lib.rt:74:47
 part-write-cells-start : tie.Need-part-write-cells-start
 part-write-cells-start c =
     let a = c .before .before .before .before .before .args in
     let P = c .before .before .before .before .before .pre in
     omega (arith, stored-long (a .text .now) (a .numbers .now) (a .made .now) (a .c) (P .0) (P .1))
 
--- src/lib.rt:74:47
 part-write-cells-end : tie.Need-part-write-cells-end
 part-write-cells-end c = search needs
 
--- src/lib.rt:74:9
 write-cells-requires : tie.Need-write-cells-requires
 write-cells-requires c κs =
     let a = c .before .before .before .before .before .before .args in
     writes (a .text .now) (a .numbers .now) (a .made .now) (a .c) (c .before .before .before .before .before .before .pre .0) (c .before .before .before .before .before .before .pre .1)
 
--- src/lib.rt:75:5
 add-result : tie.Need-add-result
 add-result c =
     let a = c .before .before .before .before .before .before .before .before .before .args in
@@ -63,7 +54,6 @@ add-result c =
     let W = c .before .before .write-cells .ensures (writes (a .text .now) (a .numbers .now) (a .made .now) (a .c) (P .0) (P .1)) in
     record { fits = omega (arith, W .count, P .0 .counts .symbols, P .0 .few) }
 
--- src/lib.rt:68:1
 same-length : tie.Need-same-length
 same-length c =
     let a = c .before .before .before .before .before .before .before .before .before .args in
@@ -71,7 +61,6 @@ same-length c =
     same-len-mid 2 (length (stored (a .text .now) (a .numbers .now) (a .made .now) (a .c) (P .0) (P .1)) - 2) (stored (a .text .now) (a .numbers .now) (a .made .now) (a .c) (P .0) (P .1)) (c .before .before .write-cells .last .1 .1 .0) (c .before .before .write-cells .kept .1 .1 .0)
     ∙ stored-long (a .text .now) (a .numbers .now) (a .made .now) (a .c) (P .0) (P .1) ∙ sym (P .1)
 
--- src/lib.rt:68:1
 returns : tie.Need-returns
 returns c = λ N.
     let st = c .before .before .before .before .before .before .before .before .before in

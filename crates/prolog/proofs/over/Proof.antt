@@ -7,15 +7,12 @@ use Rattle.prolog.proofs.over.Reads as reads
 use Rattle.prolog.proofs.over.Lts as lts
 use Rattle.prolog.proofs.no_room.Reads as no-room-reads
 
--- src/lib.rt:108:9
 no-room-requires : tie.Need-no-room-requires
 no-room-requires c κs = search needs
 
--- src/lib.rt:108:9
 returns : tie.Need-returns
 returns c = c .no-room .ensures ∙ rw (lt-ltb (c .before .before .args .room) (c .before .before .args .n) (c .before .if1 .taken)) refl
 
--- src/lib.rt:104:1
 returns-2 : tie.Need-returns-2
 returns-2 c = rw (le-ltb (c .before .args .room) (c .before .args .n) (c .if1 .left)) refl
 

@@ -38,71 +38,54 @@ listed : (k : tie.After-known) → Listed (start (k .before .before .before .bef
     (k .before .before .before .before .before .read-words .last .1 .1 .1 .0) (k .known .given .0 .0)
 listed k = listed-are (known (k .before .before .before) (k .known .given .1))
 
--- src/lib.rt:123:11
 read-words-requires : tie.Need-read-words-requires
 read-words-requires c κs = search needs
 
--- src/lib.rt:124:26
 enum-known-c : tie.Need-enum-known-c
 enum-known-c c = search needs
 
--- src/lib.rt:125:31
 enum-known-known : tie.Need-enum-known-known
 enum-known-known c = search needs
 
--- src/lib.rt:125:52
 slice-aggregate-write : tie.Need-slice-aggregate-write
 slice-aggregate-write c = sym (numbers-kept (listed (c .before .before)) refl)
 
--- src/lib.rt:125:62
 array-share-prefix-list : tie.Need-array-share-prefix-list
 array-share-prefix-list c = names-within (listed (c .before .before)) refl
 
--- src/lib.rt:125:62
 slice-aggregate-write-2 : tie.Need-slice-aggregate-write-2
 slice-aggregate-write-2 c = sym (length-take-le _ _ (names-within (listed (c .before .before .before)) refl))
 
--- src/lib.rt:125:37
 write-requires : tie.Need-write-requires
 write-requires c κs = fits (listed (c .before .before .before .before .before)) refl _ refl
 
--- src/lib.rt:126:32
 enum-known-known-2 : tie.Need-enum-known-known-2
 enum-known-known-2 c = search needs
 
--- src/lib.rt:126:38
 over-requires : tie.Need-over-requires
 over-requires c κs = search needs
 
--- src/lib.rt:127:42
 enum-told : tie.Need-enum-told
 enum-told c = search needs
 
--- src/lib.rt:127:42
 add-no-room : tie.Need-add-no-room
 add-no-room c = record { fits = omega (arith, counts-read (passed-are (known (c .before .before .before .before) (c .before .enum-told .given .1)) .0) .2) }
 
--- src/lib.rt:127:34
 no-room-requires : tie.Need-no-room-requires
 no-room-requires c κs = search needs
 
--- src/lib.rt:129:28
 enum-known-f : tie.Need-enum-known-f
 enum-known-f c = search needs
 
--- src/lib.rt:117:1
 same-length : tie.Need-same-length
 same-length c = search needs
 
--- src/lib.rt:117:1
 same-length-2 : tie.Need-same-length-2
 same-length-2 c = search needs
 
--- src/lib.rt:117:1
 returns : tie.Need-returns
 returns c = search needs
 
--- src/lib.rt:117:1
 returns-2 : tie.Need-returns-2
 returns-2 c =
     let k = c .before .before in
@@ -111,7 +94,6 @@ returns-2 c =
     let W = counted-are (known x (k .known2 .given .1)) in
     over-loads (a .text .now) (a .cells .now) (a .names .now) (x .c .given .0 .0) (W .0) (k .known2 .given .0 .0) (c .over .ensures) (W .1 .2) (W .1 .1) (W .1 .0)
 
--- src/lib.rt:117:1
 returns-3 : tie.Need-returns-3
 returns-3 c =
     let e = c .before .before in
@@ -120,7 +102,6 @@ returns-3 c =
     let W = passed-are (known x (e .enum-told .given .1)) in
     no-room-cells (a .text .now) (a .cells .now) (a .names .now) (x .c .given .0 .0) (W .0) (c .no-room .ensures) (W .1)
 
--- src/lib.rt:117:1
 returns-4 : tie.Need-returns-4
 returns-4 c =
     let f = c .before in

@@ -29,11 +29,9 @@ cells-fit m =
     let C = F .numbered .counts in
     omega (arith, ap length (made-front (made m)), cells-long (start m .args .text .now) (C .facts), C .symbols, F .room)
 
--- src/lib.rt:96:9
 no-room-requires : tie.Need-no-room-requires
 no-room-requires c κs = search needs
 
--- src/lib.rt:96:9
 returns : tie.Need-returns
 returns c =
     let s = c .before .before .before .before .before .before .before in
@@ -41,35 +39,27 @@ returns c =
     no-room-names (a .text .now) (a .cells .now) (a .names .now) (a .c) (s .pre .numbered .counts) (length (a .list .now)) (c .no-room .ensures)
     (ap length (s .pre .names)) (s .pre .room) (c .before .if1 .taken)
 
--- src/lib.rt:99:42
 slice-aggregate-make-table : tie.Need-slice-aggregate-make-table
 slice-aggregate-make-table c = search needs
 
--- src/lib.rt:99:9
 make-table-requires : tie.Need-make-table-requires
 make-table-requires c κs = search needs
 
--- src/lib.rt:100:10
 array-share-prefix-made : tie.Need-array-share-prefix-made
 array-share-prefix-made c = made-within (made (c .before))
 
--- src/lib.rt:100:10
 slice-aggregate-give : tie.Need-slice-aggregate-give
 slice-aggregate-give c = sym (length-take-le _ _ (made-within (made (c .before .before))))
 
--- src/lib.rt:100:5
 give-requires : tie.Need-give-requires
 give-requires c κs = let m = c .before .before .before .before in (cells-fit m, omega arith)
 
--- src/lib.rt:82:1
 same-length : tie.Need-same-length
 same-length c = search needs
 
--- src/lib.rt:82:1
 same-length-2 : tie.Need-same-length-2
 same-length-2 c = search needs
 
--- src/lib.rt:82:1
 returns-2 : tie.Need-returns-2
 returns-2 c =
     let g = c .before .before .before .before in

@@ -31,65 +31,50 @@ Inv-loop out₀ text names goal new cells owed₀ on₀ depth₀ i₀ out owed o
 abbrev μ-loop : tie.MeasureT-loop
 μ-loop out₀ text names goal new cells owed₀ on₀ depth₀ i₀ out owed on depth i = length cells - i
 
--- src/lib.rt:129:9
 returns : tie.Need-returns Inv-loop μ-loop
 returns c =
     let a = c .before .before .before .before .before .before .before .args in
     rw (said-over (a .text .now) (a .names .now) (a .goal .now) (a .new .now) (a .p) (a .cells .now) (omega arith)) put-nothing
 
--- src/lib.rt:132:5
 array-write-owed : tie.Need-array-write-owed Inv-loop μ-loop
 array-write-owed c = search needs
 
--- src/lib.rt:133:35
 part-requires : tie.Need-part-requires Inv-loop μ-loop
 part-requires c κs = search needs
 
--- src/lib.rt:133:9
 put-word-requires : tie.Need-put-word-requires Inv-loop μ-loop
 put-word-requires c κs = search needs
 
--- src/lib.rt:134:5
 put-byte-requires : tie.Need-put-byte-requires Inv-loop μ-loop
 put-byte-requires c κs = search needs
 
--- src/lib.rt:137:5
 loop-holds : tie.Need-loop-holds Inv-loop μ-loop
 loop-holds c = (omega arith, omega arith, search needs, put-begins)
 
--- src/lib.rt:138:17
 mul-c : tie.Need-mul-c Inv-loop μ-loop
 mul-c c = search needs
 
--- src/lib.rt:138:17
 shared-slice-read-c : tie.Need-shared-slice-read-c Inv-loop μ-loop
 shared-slice-read-c c = search needs
 
--- src/lib.rt:139:9
 put-symbol-requires : tie.Need-put-symbol-requires Inv-loop μ-loop
 put-symbol-requires c κs = search needs
 
--- src/lib.rt:140:38
 slice-aggregate-put-mark : tie.Need-slice-aggregate-put-mark Inv-loop μ-loop
 slice-aggregate-put-mark c = search needs
 
--- src/lib.rt:140:56
 arity-of-requires : tie.Need-arity-of-requires Inv-loop μ-loop
 arity-of-requires c κs = search needs
 
--- src/lib.rt:140:13
 put-mark-requires : tie.Need-put-mark-requires Inv-loop μ-loop
 put-mark-requires c κs = search needs
 
--- src/lib.rt:143:9
 add-i : tie.Need-add-i Inv-loop μ-loop
 add-i c = search needs
 
--- src/lib.rt:137:5
 loop-less : tie.Need-loop-less Inv-loop μ-loop
 loop-less c = search needs
 
--- src/lib.rt:137:5
 loop-again : tie.Need-loop-again Inv-loop μ-loop
 loop-again c =
     let m = c .before .before .before in
@@ -104,14 +89,12 @@ loop-again c =
     let here = put-part (rw next at (l .inv .3)) (s .put-symbol .ensures) in
     (omega arith, omega (arith, k .few), search needs, rw (k .still, arity) (put-part here (rw arity at (k .puts))))
 
--- src/lib.rt:116:1
 same-length : tie.Need-same-length Inv-loop μ-loop
 same-length c =
     let b = c .before .before .before .before in
     let w = b .before .before .before .before in
     put-length (put-put (w .put-word .ensures) (put-put (b .put-byte .ensures) (c .before .loop .inv .3 .puts)))
 
--- src/lib.rt:116:1
 returns-2 : tie.Need-returns-2 Inv-loop μ-loop
 returns-2 c =
     let b = c .before .before .before .before in

@@ -28,57 +28,44 @@ Inv-loop out₀ to owed₀ depth on₀ left₀ t8 out owed on left =
 abbrev μ-loop : tie.MeasureT-loop
 μ-loop out₀ to owed₀ depth on₀ left₀ t8 out owed on left = left
 
--- src/lib.rt:82:5
 loop-holds : tie.Need-loop-holds Inv-loop μ-loop
 loop-holds c = (omega arith, refl, (put-begins, refl))
 
--- src/lib.rt:83:22
 sub-n : tie.Need-sub-n Inv-loop μ-loop
 sub-n c = search needs
 
--- src/lib.rt:83:17
 mul-n : tie.Need-mul-n Inv-loop μ-loop
 mul-n c = search needs
 
--- src/lib.rt:83:17
 slice-read-n : tie.Need-slice-read-n Inv-loop μ-loop
 slice-read-n c = search needs
 
--- src/lib.rt:85:30
 sub-owed : tie.Need-sub-owed Inv-loop μ-loop
 sub-owed c = search needs
 
--- src/lib.rt:85:18
 sub-owed-2 : tie.Need-sub-owed-2 Inv-loop μ-loop
 sub-owed-2 c = search needs
 
--- src/lib.rt:85:13
 mul-owed : tie.Need-mul-owed Inv-loop μ-loop
 mul-owed c = search needs
 
--- src/lib.rt:85:13
 slice-write-owed : tie.Need-slice-write-owed Inv-loop μ-loop
 slice-write-owed c = search needs
 
--- src/lib.rt:86:36
 slice-aggregate-put-word : tie.Need-slice-aggregate-put-word Inv-loop μ-loop
 slice-aggregate-put-word c = search needs
 
--- src/lib.rt:86:13
 put-word-requires : tie.Need-put-word-requires Inv-loop μ-loop
 put-word-requires c κs = search needs
 
--- src/lib.rt:87:13
 same-length : tie.Need-same-length Inv-loop μ-loop
 same-length c =
     let l = c .before .before .before .before .before .before .before .before .loop in
     put-length (put-put (l .inv .2 .0 .puts) (c .before .before .put-word .ensures))
 
--- src/lib.rt:87:13
 same-length-2 : tie.Need-same-length-2 Inv-loop μ-loop
 same-length-2 c = search needs
 
--- src/lib.rt:87:13
 returns : tie.Need-returns Inv-loop μ-loop
 returns c =
     let l = c .before .before .before .before .before .before .before .before .loop in
@@ -90,19 +77,15 @@ returns c =
       few = l .inv .0;
     }
 
--- src/lib.rt:92:9
 put-byte-requires : tie.Need-put-byte-requires Inv-loop μ-loop
 put-byte-requires c κs = search needs
 
--- src/lib.rt:93:9
 sub-left : tie.Need-sub-left Inv-loop μ-loop
 sub-left c = search needs
 
--- src/lib.rt:82:5
 loop-less : tie.Need-loop-less Inv-loop μ-loop
 loop-less c = search needs
 
--- src/lib.rt:82:5
 loop-again : tie.Need-loop-again Inv-loop μ-loop
 loop-again c =
     let e = c .before .before .before .before in
@@ -116,15 +99,12 @@ loop-again c =
       ),
     )
 
--- src/lib.rt:76:1
 same-length-3 : tie.Need-same-length-3 Inv-loop μ-loop
 same-length-3 c = put-length (c .before .loop .inv .2 .0 .puts)
 
--- src/lib.rt:76:1
 same-length-4 : tie.Need-same-length-4 Inv-loop μ-loop
 same-length-4 c = search needs
 
--- src/lib.rt:76:1
 returns-2 : tie.Need-returns-2 Inv-loop μ-loop
 returns-2 c =
     let l = c .before .loop in

@@ -9,33 +9,26 @@ use Rattle.saying.proofs.put_listed.Lts as lts
 use Rattle.octets.proofs.put_word.Reads as put-word-reads
 use Rattle.parts.proofs.word.Reads as word-reads
 
--- src/lib.rt:21:9
 returns : tie.Need-returns
 returns c =
     let a = c .before .before .before .before .args in
     rw (word-none (a .text .now) (a .names .now) (a .k) (omega arith)) put-nothing
 
--- src/lib.rt:23:41
 mul-word : tie.Need-mul-word
 mul-word c = search needs
 
--- src/lib.rt:23:41
 shared-slice-read-word : tie.Need-shared-slice-read-word
 shared-slice-read-word c = search needs
 
--- src/lib.rt:23:23
 word-requires : tie.Need-word-requires
 word-requires c κs = search needs
 
--- src/lib.rt:23:5
 put-word-requires : tie.Need-put-word-requires
 put-word-requires c κs = search needs
 
--- src/lib.rt:17:1
 same-length : tie.Need-same-length
 same-length c = search needs
 
--- src/lib.rt:17:1
 returns-2 : tie.Need-returns-2
 returns-2 c =
     let w = c .before .before .before in

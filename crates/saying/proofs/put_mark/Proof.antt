@@ -10,19 +10,15 @@ use Rattle.saying.proofs.put_mark.Lts as lts
 use Rattle.octets.proofs.put_byte.Reads as put-byte-reads
 use Rattle.saying.proofs.put_closing.Reads as put-closing-reads
 
--- src/lib.rt:104:9
 put-closing-requires : tie.Need-put-closing-requires
 put-closing-requires c κs = search needs
 
--- src/lib.rt:104:9
 same-length : tie.Need-same-length
 same-length c = search needs
 
--- src/lib.rt:104:9
 same-length-2 : tie.Need-same-length-2
 same-length-2 c = search needs
 
--- src/lib.rt:104:9
 returns : tie.Need-returns
 returns c =
     let t = c .before .before .before .before .before .before .before in
@@ -35,31 +31,24 @@ returns c =
       few = omega (arith, k .few);
     }
 
--- src/lib.rt:106:5
 mul-owed : tie.Need-mul-owed
 mul-owed c = search needs
 
--- src/lib.rt:106:5
 slice-write-owed : tie.Need-slice-write-owed
 slice-write-owed c = search needs
 
--- src/lib.rt:107:9
 put-byte-requires : tie.Need-put-byte-requires
 put-byte-requires c κs = search needs
 
--- src/lib.rt:110:16
 add-t12 : tie.Need-add-t12
 add-t12 c = search needs
 
--- src/lib.rt:99:1
 same-length-3 : tie.Need-same-length-3
 same-length-3 c = search needs
 
--- src/lib.rt:99:1
 same-length-4 : tie.Need-same-length-4
 same-length-4 c = search needs
 
--- src/lib.rt:99:1
 returns-2 : tie.Need-returns-2
 returns-2 c =
     let t = c .before .before .before .before in

@@ -8,34 +8,27 @@ use Rattle.saying.proofs.put_name.Reads as reads
 use Rattle.saying.proofs.put_name.Lts as lts
 use Rattle.saying.proofs.put_listed.Reads as put-listed-reads
 
--- src/lib.rt:40:9
 put-listed-requires : tie.Need-put-listed-requires
 put-listed-requires c κs = search needs
 
--- src/lib.rt:40:9
 same-length : tie.Need-same-length
 same-length c = search needs
 
--- src/lib.rt:40:9
 returns : tie.Need-returns
 returns c =
     let p = c .before .before in
     let a = p .before .before .before .before .before .before .before .before .args in
     rw (word-first (a .text .now) (a .names .now) (wordsIn (a .goal .now) (a .new .now)) (a .k) (omega arith)) (p .put-listed .ensures)
 
--- src/lib.rt:42:36
 sub-put-listed : tie.Need-sub-put-listed
 sub-put-listed c = search needs
 
--- src/lib.rt:42:5
 put-listed-requires-2 : tie.Need-put-listed-requires-2
 put-listed-requires-2 c κs = search needs
 
--- src/lib.rt:27:1
 same-length-2 : tie.Need-same-length-2
 same-length-2 c = search needs
 
--- src/lib.rt:27:1
 returns-2 : tie.Need-returns-2
 returns-2 c =
     let p = c .before .before in

@@ -12,55 +12,42 @@ use Rattle.octets.proofs.put_decimal.Reads as put-decimal-reads
 use Rattle.printing.proofs.put_value.Reads as put-value-reads
 use Rattle.saying.proofs.put_name.Reads as put-name-reads
 
--- src/lib.rt:58:11
 shape-of-requires : tie.Need-shape-of-requires
 shape-of-requires c κs = search needs
 
--- src/lib.rt:59:25
 enum-known-n : tie.Need-enum-known-n
 enum-known-n c = search needs
 
--- src/lib.rt:60:17
 put-byte-requires : tie.Need-put-byte-requires
 put-byte-requires c κs = search needs
 
--- src/lib.rt:61:34
 cast-put-decimal : tie.Need-cast-put-decimal
 cast-put-decimal c = search needs
 
--- src/lib.rt:61:13
 put-decimal-requires : tie.Need-put-decimal-requires
 put-decimal-requires c κs = search needs
 
--- src/lib.rt:63:24
 enum-known-n-2 : tie.Need-enum-known-n-2
 enum-known-n-2 c = search needs
 
--- src/lib.rt:63:72
 cast-put-name : tie.Need-cast-put-name
 cast-put-name c = search needs
 
--- src/lib.rt:63:30
 put-name-requires : tie.Need-put-name-requires
 put-name-requires c κs = search needs
 
--- src/lib.rt:64:49
 enum-told : tie.Need-enum-told
 enum-told c = search needs
 
--- src/lib.rt:64:29
 put-value-requires : tie.Need-put-value-requires
 put-value-requires c κs = search needs
 
--- src/lib.rt:65:27
 enum-told-2 : tie.Need-enum-told-2
 enum-told-2 c = search needs
 
--- src/lib.rt:46:1
 same-length : tie.Need-same-length
 same-length c = search needs
 
--- src/lib.rt:46:1
 returns : tie.Need-returns
 returns c =
     let n = c .before .before .before .before .before .before .before .before .before in
@@ -70,11 +57,9 @@ returns c =
     rw (word-variable words (a .c) _ (s .shape-of .ensures) _ (n .n .given .1))
     (put-put (c .before .before .before .before .before .before .put-byte .ensures) (c .before .before .put-decimal .ensures))
 
--- src/lib.rt:46:1
 same-length-2 : tie.Need-same-length-2
 same-length-2 c = search needs
 
--- src/lib.rt:46:1
 returns-2 : tie.Need-returns-2
 returns-2 c =
     let n = c .before .before .before .before .before in
@@ -83,11 +68,9 @@ returns-2 c =
     let words = wordsOf (a .text .now) (a .names .now) (a .goal .now) (a .new .now) in
     rw (word-name words (a .c) _ (s .shape-of .ensures) _ _ (n .n2 .given .1)) (c .before .before .put-name .ensures)
 
--- src/lib.rt:46:1
 same-length-3 : tie.Need-same-length-3
 same-length-3 c = search needs
 
--- src/lib.rt:46:1
 returns-3 : tie.Need-returns-3
 returns-3 c =
     let n = c .before .before .before .before in
@@ -96,7 +79,6 @@ returns-3 c =
     let words = wordsOf (a .text .now) (a .names .now) (a .goal .now) (a .new .now) in
     rw (word-number words (a .c) _ (s .shape-of .ensures) _ (n .enum-told .given .1)) (c .before .before .put-value .ensures)
 
--- src/lib.rt:46:1
 returns-4 : tie.Need-returns-4
 returns-4 c =
     let s = c .before .before in

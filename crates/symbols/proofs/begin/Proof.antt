@@ -9,42 +9,34 @@ use Rattle.symbols.proofs.begin.Reads as reads
 use Rattle.symbols.proofs.begin.Lts as lts
 use Rattle.lex.proofs.fact.next_fact.Reads as next-fact-reads
 
--- src/lib.rt:38:20
 next-fact-requires : tie.Need-next-fact-requires
 next-fact-requires c κs = search needs
 
--- src/lib.rt:39:23
 enum-known-e : tie.Need-enum-known-e
 enum-known-e c = search needs
 
--- src/lib.rt:39:29
 add-at : tie.Need-add-at
 add-at c =
     let h = head-is (c .before .before .before .before .before .args .text .now) 0 true (c .before .before .before .next-fact .ensures) (c .before .e .given .1) in
     search needs
 
--- src/lib.rt:40:22
 enum-told : tie.Need-enum-told
 enum-told c = search needs
 
--- src/lib.rt:41:26
 enum-told-2 : tie.Need-enum-told-2
 enum-told-2 c = search needs
 
--- src/lib.rt:35:1
 returns : tie.Need-returns
 returns c =
     let t = c .before .before .before .before .before .args .text .now in
     let e = c .before .e .given in
     next.opens (head-is t 0 true (c .before .before .before .next-fact .ensures) (e .1))
 
--- src/lib.rt:35:1
 returns-2 : tie.Need-returns-2
 returns-2 c =
     let t = c .before .before .before .before .args .text .now in
     next.empty (head-is t 0 true (c .before .before .next-fact .ensures) (c .enum-told .given .1))
 
--- src/lib.rt:35:1
 returns-3 : tie.Need-returns-3
 returns-3 c =
     let t = c .before .before .before .before .args .text .now in

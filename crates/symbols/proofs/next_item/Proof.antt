@@ -22,23 +22,18 @@ Inv-loop text at₀ past₀ depth₀ at past depth =
 abbrev μ-loop : tie.MeasureT-loop
 μ-loop text at₀ past₀ depth₀ at past depth = length text - at
 
--- src/lib.rt:80:9
 returns : tie.Need-returns Inv-loop μ-loop
 returns c = next.too-deep (c .if1 .taken)
 
--- src/lib.rt:82:5
 loop-holds : tie.Need-loop-holds Inv-loop μ-loop
 loop-holds c = (omega arith, λ x r u a. next.stands (omega arith) u a)
 
--- src/lib.rt:83:15
 next-turn-requires : tie.Need-next-turn-requires Inv-loop μ-loop
 next-turn-requires c κs = search needs
 
--- src/lib.rt:84:24
 enum-known-s : tie.Need-enum-known-s Inv-loop μ-loop
 enum-known-s c = search needs
 
--- src/lib.rt:85:17
 returns-2 : tie.Need-returns-2 Inv-loop μ-loop
 returns-2 c =
     let l = c .before .before .before .before .loop in
@@ -47,11 +42,9 @@ returns-2 c =
     let T = turn-is (st .text .now) (l .at) (l .past) (c .before .before .before .next-turn .ensures) (x .1) in
     l .inv .1 _ _ T next.a-name
 
--- src/lib.rt:87:24
 enum-known-s-2 : tie.Need-enum-known-s-2 Inv-loop μ-loop
 enum-known-s-2 c = search needs
 
--- src/lib.rt:88:53
 add-t20 : tie.Need-add-t20 Inv-loop μ-loop
 add-t20 c =
     let l = c .before .before .before .before .loop in
@@ -60,11 +53,9 @@ add-t20 c =
     let T = turn-is (st .text .now) (l .at) (l .past) (c .before .before .before .next-turn .ensures) (x .1) in
     omega (arith, T .leads .2)
 
--- src/lib.rt:88:80
 add-t21 : tie.Need-add-t21 Inv-loop μ-loop
 add-t21 c = search needs
 
--- src/lib.rt:88:17
 returns-3 : tie.Need-returns-3 Inv-loop μ-loop
 returns-3 c =
     let l = c .before .before .before .before .loop in
@@ -73,11 +64,9 @@ returns-3 c =
     let T = turn-is (st .text .now) (l .at) (l .past) (c .before .before .before .next-turn .ensures) (x .1) in
     l .inv .1 _ _ T next.opens
 
--- src/lib.rt:90:28
 enum-known-s-3 : tie.Need-enum-known-s-3 Inv-loop μ-loop
 enum-known-s-3 c = search needs
 
--- src/lib.rt:91:17
 returns-4 : tie.Need-returns-4 Inv-loop μ-loop
 returns-4 c =
     let l = c .before .before .before .before .loop in
@@ -86,11 +75,9 @@ returns-4 c =
     let T = turn-is (st .text .now) (l .at) (l .past) (c .before .before .before .next-turn .ensures) (x .1) in
     l .inv .1 _ _ T next.a-variable
 
--- src/lib.rt:93:26
 enum-known-v : tie.Need-enum-known-v Inv-loop μ-loop
 enum-known-v c = search needs
 
--- src/lib.rt:94:17
 returns-5 : tie.Need-returns-5 Inv-loop μ-loop
 returns-5 c =
     let l = c .before .before .before .before .loop in
@@ -99,11 +86,9 @@ returns-5 c =
     let T = turn-is (st .text .now) (l .at) (l .past) (c .before .before .before .next-turn .ensures) (x .1) in
     l .inv .1 _ _ T next.a-number
 
--- src/lib.rt:96:25
 enum-known-p : tie.Need-enum-known-p Inv-loop μ-loop
 enum-known-p c = search needs
 
--- src/lib.rt:97:22
 add-at : tie.Need-add-at Inv-loop μ-loop
 add-at c =
     let l = c .before .before .before .before .loop in
@@ -112,7 +97,6 @@ add-at c =
     let T = turn-is (st .text .now) (l .at) (l .past) (c .before .before .before .next-turn .ensures) (x .1) in
     record { fits = search needs }
 
--- src/lib.rt:82:5
 loop-less : tie.Need-loop-less Inv-loop μ-loop
 loop-less c =
     let l = c .before .before .before .before .loop in
@@ -121,7 +105,6 @@ loop-less c =
     let T = turn-is (st .text .now) (l .at) (l .past) (c .before .before .before .next-turn .ensures) (x .1) in
     omega (arith, T .leads .0, T .leads .1)
 
--- src/lib.rt:82:5
 loop-again : tie.Need-loop-again Inv-loop μ-loop
 loop-again c =
     let l = c .before .before .before .before .loop in
@@ -130,11 +113,9 @@ loop-again c =
     let T = turn-is (st .text .now) (l .at) (l .past) (c .before .before .before .next-turn .ensures) (x .1) in
     (l .inv .0, λ y r u a. l .inv .1 _ r T (next.comma u a))
 
--- src/lib.rt:100:25
 enum-known-p-2 : tie.Need-enum-known-p-2 Inv-loop μ-loop
 enum-known-p-2 c = search needs
 
--- src/lib.rt:101:22
 add-at-2 : tie.Need-add-at-2 Inv-loop μ-loop
 add-at-2 c =
     let l = c .before .before .before .before .loop in
@@ -143,11 +124,9 @@ add-at-2 c =
     let T = turn-is (st .text .now) (l .at) (l .past) (c .before .before .before .next-turn .ensures) (x .1) in
     record { fits = search needs }
 
--- src/lib.rt:103:21
 row-ahead-requires : tie.Need-row-ahead-requires Inv-loop μ-loop
 row-ahead-requires c κs = search needs
 
--- src/lib.rt:103:21
 returns-6 : tie.Need-returns-6 Inv-loop μ-loop
 returns-6 c =
     let l = c .before .before .before .before .before .before .loop in
@@ -156,11 +135,9 @@ returns-6 c =
     let T = turn-is (st .text .now) (l .at) (l .past) (c .before .before .before .before .before .next-turn .ensures) (x .1) in
     l .inv .1 _ _ T (row-more (c .before .if2 .taken) (c .row-ahead .ensures))
 
--- src/lib.rt:106:17
 sub-depth : tie.Need-sub-depth Inv-loop μ-loop
 sub-depth c = search needs
 
--- src/lib.rt:82:5
 loop-less-2 : tie.Need-loop-less-2 Inv-loop μ-loop
 loop-less-2 c =
     let l = c .before .before .before .before .before .loop in
@@ -169,7 +146,6 @@ loop-less-2 c =
     let T = turn-is (st .text .now) (l .at) (l .past) (c .before .before .before .before .next-turn .ensures) (x .1) in
     omega (arith, T .leads .0, T .leads .1)
 
--- src/lib.rt:82:5
 loop-again-2 : tie.Need-loop-again-2 Inv-loop μ-loop
 loop-again-2 c =
     let l = c .before .before .before .before .before .loop in
@@ -178,11 +154,9 @@ loop-again-2 c =
     let T = turn-is (st .text .now) (l .at) (l .past) (c .before .before .before .before .next-turn .ensures) (x .1) in
     (omega (arith, l .inv .0), λ y r u a. l .inv .1 _ r T (close-more _ _ (c .if2 .left) u a))
 
--- src/lib.rt:109:17
 enum-told : tie.Need-enum-told Inv-loop μ-loop
 enum-told c = search needs
 
--- src/lib.rt:109:17
 returns-7 : tie.Need-returns-7 Inv-loop μ-loop
 returns-7 c =
     let l = c .before .before .before .loop in

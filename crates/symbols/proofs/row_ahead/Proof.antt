@@ -8,25 +8,20 @@ use Rattle.symbols.proofs.row_ahead.Reads as reads
 use Rattle.symbols.proofs.row_ahead.Lts as lts
 use Rattle.symbols.proofs.row_end.Reads as row-end-reads
 
--- src/lib.rt:64:11
 row-end-requires : tie.Need-row-end-requires
 row-end-requires c κs = search needs
 
--- src/lib.rt:65:22
 enum-known-q : tie.Need-enum-known-q
 enum-known-q c = search needs
 
--- src/lib.rt:70:25
 enum-told : tie.Need-enum-told
 enum-told c = search needs
 
--- src/lib.rt:61:1
 returns : tie.Need-returns
 returns c =
     let st = c .before .before .before .before .before .args in
     next.next-row (subst (RowEnds (st .text .now) (st .at)) (c .before .q .given .1) (c .before .before .before .row-end .ensures))
 
--- src/lib.rt:61:1
 returns-2 : tie.Need-returns-2
 returns-2 c =
     let st = c .before .before .before .before .args in

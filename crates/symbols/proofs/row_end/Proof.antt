@@ -10,23 +10,18 @@ use Rattle.symbols.proofs.row_end.Lts as lts
 use Rattle.lex.proofs.fact.fact_end.Reads as fact-end-reads
 use Rattle.lex.proofs.fact.next_fact.Reads as next-fact-reads
 
--- src/lib.rt:24:11
 fact-end-requires : tie.Need-fact-end-requires
 fact-end-requires c κs = search needs
 
--- src/lib.rt:25:23
 enum-known-q : tie.Need-enum-known-q
 enum-known-q c = search needs
 
--- src/lib.rt:25:35
 next-fact-requires : tie.Need-next-fact-requires
 next-fact-requires c κs = search needs
 
--- src/lib.rt:26:27
 enum-known-e : tie.Need-enum-known-e
 enum-known-e c = search needs
 
--- src/lib.rt:26:46
 add-t9 : tie.Need-add-t9
 add-t9 c =
     let st = c .before .before .before .before .before .before .before .before .before .args in
@@ -36,19 +31,15 @@ add-t9 c =
     let H = head-is (st .text .now) (q .0 .0) false (c .before .before .before .next-fact .ensures) (x .1) in
     record { fits = search needs }
 
--- src/lib.rt:27:26
 enum-told : tie.Need-enum-told
 enum-told c = search needs
 
--- src/lib.rt:28:30
 enum-told-2 : tie.Need-enum-told-2
 enum-told-2 c = search needs
 
--- src/lib.rt:30:29
 enum-told-3 : tie.Need-enum-told-3
 enum-told-3 c = search needs
 
--- src/lib.rt:21:1
 returns : tie.Need-returns
 returns c =
     let st = c .before .before .before .before .before .before .before .before .before .args in
@@ -58,7 +49,6 @@ returns c =
     let H = head-is (st .text .now) (q .0 .0) false (c .before .before .before .next-fact .ensures) (x .1) in
     next.another C H
 
--- src/lib.rt:21:1
 returns-2 : tie.Need-returns-2
 returns-2 c =
     let st = c .before .before .before .before .before .before .before .before .args in
@@ -68,7 +58,6 @@ returns-2 c =
     let H = head-is (st .text .now) (q .0 .0) false (c .before .before .next-fact .ensures) (x .1) in
     next.no-more C H
 
--- src/lib.rt:21:1
 returns-3 : tie.Need-returns-3
 returns-3 c =
     let st = c .before .before .before .before .before .before .before .before .args in
@@ -78,7 +67,6 @@ returns-3 c =
     let H = head-is (st .text .now) (q .0 .0) false (c .before .before .next-fact .ensures) (x .1) in
     next.no-fact C H
 
--- src/lib.rt:21:1
 returns-4 : tie.Need-returns-4
 returns-4 c =
     let st = c .before .before .before .before .args in

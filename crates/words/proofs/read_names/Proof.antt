@@ -9,32 +9,26 @@ use Rattle.words.proofs.read_names.Lts as lts
 use Rattle.words.proofs.names.count_names.Reads as count-names-reads
 use Rattle.words.proofs.numbers.number_symbols.Reads as number-symbols-reads
 
--- src/lib.rt:38:15
 add-if1 : tie.Need-add-if1
 add-if1 c = record { fits = omega (arith, counts-read (c .before .pre) .2) }
 
--- src/lib.rt:39:9
 returns : tie.Need-returns
 returns c = λ C.
     let a = c .before .before .args in
     names-passed (a .text .now) (a .room) (a .list .now) (a .numbers .now) C (c .if1 .taken)
 
--- src/lib.rt:42:35
 count-names-requires : tie.Need-count-names-requires
 count-names-requires c κs = counts-read (c .before .before .before .pre) .0
 
--- src/lib.rt:42:9
 returns-2 : tie.Need-returns-2
 returns-2 c = λ C.
     let a = c .before .before .before .before .args in
     names-counted (a .text .now) (a .room) (a .list .now) (a .numbers .now) C (c .before .before .if1 .left) (c .before .if2 .taken)
     (c .count-names .ensures)
 
--- src/lib.rt:44:23
 number-symbols-requires : tie.Need-number-symbols-requires
 number-symbols-requires c κs = (counts-read (c .before .before .before .before .before .pre) .0, search needs, search needs)
 
--- src/lib.rt:26:1
 returns-3 : tie.Need-returns-3
 returns-3 c = λ C.
     let e = c .before .before .before in

@@ -16,29 +16,23 @@ counted c =
     let t = s .before .before .args .text .now in
     scan-facts t (c .c .given .0 .0) (scan-is t (s .scan-text .ensures) (c .c .given .1))
 
--- src/lib.rt:57:11
 scan-text-requires : tie.Need-scan-text-requires
 scan-text-requires c κs = search needs
 
--- src/lib.rt:58:21
 enum-known-c : tie.Need-enum-known-c
 enum-known-c c = search needs
 
--- src/lib.rt:59:17
 read-names-requires : tie.Need-read-names-requires
 read-names-requires c κs = counted (c .before .before .before)
 
--- src/lib.rt:62:23
 enum-known-f : tie.Need-enum-known-f
 enum-known-f c = search needs
 
--- src/lib.rt:49:1
 returns : tie.Need-returns
 returns c =
     let k = counted (c .before .before .before .before) in
     facts k (c .read-names .ensures k)
 
--- src/lib.rt:49:1
 returns-2 : tie.Need-returns-2
 returns-2 c =
     let s = c .before .before .before in

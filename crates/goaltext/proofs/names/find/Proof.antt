@@ -21,27 +21,21 @@ Inv-loop text names word i₀ i =
 abbrev μ-loop : tie.MeasureT-loop
 μ-loop text names word i₀ i = length names - i
 
--- src/names.rt:17:5
 loop-holds : tie.Need-loop-holds Inv-loop μ-loop
 loop-holds c = (omega arith, omega arith)
 
--- src/names.rt:18:47
 mul-word : tie.Need-mul-word Inv-loop μ-loop
 mul-word c = search needs
 
--- src/names.rt:18:47
 shared-slice-read-word : tie.Need-shared-slice-read-word Inv-loop μ-loop
 shared-slice-read-word c = search needs
 
--- src/names.rt:18:29
 word-requires : tie.Need-word-requires Inv-loop μ-loop
 word-requires c κs = search needs
 
--- src/names.rt:18:12
 same-bytes-requires : tie.Need-same-bytes-requires Inv-loop μ-loop
 same-bytes-requires c κs = search needs
 
--- src/names.rt:19:13
 returns : tie.Need-returns Inv-loop μ-loop
 returns c =
     let s = c .before in
@@ -50,15 +44,12 @@ returns c =
     let e = ap (same (a .word .now)) (sym (s .before .word .ensures)) ∙ sym (s .same-bytes .ensures) ∙ c .if1 .taken in
     omega (arith, l .inv .1, find-here (a .text .now) (a .names .now) (a .word .now) (l .i) (omega arith) e)
 
--- src/names.rt:21:9
 add-i : tie.Need-add-i Inv-loop μ-loop
 add-i c = search needs
 
--- src/names.rt:17:5
 loop-less : tie.Need-loop-less Inv-loop μ-loop
 loop-less c = search needs
 
--- src/names.rt:17:5
 loop-again : tie.Need-loop-again Inv-loop μ-loop
 loop-again c =
     let s = c .before in
@@ -67,7 +58,6 @@ loop-again c =
     let e = ap (same (a .word .now)) (sym (s .before .word .ensures)) ∙ sym (s .same-bytes .ensures) ∙ c .if1 .left in
     (omega arith, omega (arith, l .inv .1, find-on (a .text .now) (a .names .now) (a .word .now) (l .i) (omega arith) e))
 
--- src/names.rt:13:1
 returns-2 : tie.Need-returns-2 Inv-loop μ-loop
 returns-2 c =
     let l = c .before .loop in

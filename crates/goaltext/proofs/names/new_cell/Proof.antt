@@ -9,42 +9,33 @@ use Rattle.cell.proofs.name_cell.Reads as name-cell-reads
 use Rattle.cell.proofs.shape_of.Reads as shape-of-reads
 use Rattle.goaltext.proofs.names.number_at.Reads as number-at-reads
 
--- src/names.rt:88:11
 shape-of-requires : tie.Need-shape-of-requires
 shape-of-requires c κs = search needs
 
--- src/names.rt:89:31
 enum-told : tie.Need-enum-told
 enum-told c = search needs
 
--- src/names.rt:90:21
 enum-known-a : tie.Need-enum-known-a
 enum-known-a c = search needs
 
--- src/names.rt:90:49
 number-at-requires : tie.Need-number-at-requires
 number-at-requires c κs = search needs
 
--- src/names.rt:90:30
 name-cell-requires : tie.Need-name-cell-requires
 name-cell-requires c κs = search needs
 
--- src/names.rt:91:29
 enum-told-2 : tie.Need-enum-told-2
 enum-told-2 c = search needs
 
--- src/names.rt:92:27
 enum-told-3 : tie.Need-enum-told-3
 enum-told-3 c = search needs
 
--- src/names.rt:85:1
 returns : tie.Need-returns
 returns c =
     let s = c .before .before in
     let a = s .before .before .args in
     cell-kept (a .numbers .now) (a .c) _ (s .shape-of .ensures) (c .enum-told .given .1) (λ e. omega arith)
 
--- src/names.rt:85:1
 returns-2 : tie.Need-returns-2
 returns-2 c =
     let k = c .before .before .before in
@@ -53,14 +44,12 @@ returns-2 c =
     cell-named (a .numbers .now) (a .c) _ (s .shape-of .ensures) _ _ (k .a .given .1) (c .before .number-at .ensures)
     (c .name-cell .ensures)
 
--- src/names.rt:85:1
 returns-3 : tie.Need-returns-3
 returns-3 c =
     let s = c .before .before in
     let a = s .before .before .args in
     cell-kept (a .numbers .now) (a .c) _ (s .shape-of .ensures) (c .enum-told2 .given .1) (λ e. omega arith)
 
--- src/names.rt:85:1
 returns-4 : tie.Need-returns-4
 returns-4 c =
     let s = c .before .before in

@@ -29,51 +29,39 @@ Inv-loop text names whole list numbers₀ new₀ count₀ i₀ numbers new count
 abbrev μ-loop : tie.MeasureT-loop
 μ-loop text names whole list numbers₀ new₀ count₀ i₀ numbers new count i = length list - i
 
--- src/names.rt:63:5
 loop-holds : tie.Need-loop-holds Inv-loop μ-loop
 loop-holds c = (omega arith, omega arith, refl, refl, refl, refl, omega arith)
 
--- src/names.rt:64:20
 mul-name : tie.Need-mul-name Inv-loop μ-loop
 mul-name c = search needs
 
--- src/names.rt:64:20
 shared-slice-read-name : tie.Need-shared-slice-read-name Inv-loop μ-loop
 shared-slice-read-name c = search needs
 
--- src/names.rt:65:36
 word-requires : tie.Need-word-requires Inv-loop μ-loop
 word-requires c κs = search needs
 
--- src/names.rt:65:13
 find-requires : tie.Need-find-requires Inv-loop μ-loop
 find-requires c κs = search needs
 
--- src/names.rt:66:13
 number-one-requires : tie.Need-number-one-requires Inv-loop μ-loop
 number-one-requires c κs = search needs
 
--- src/names.rt:67:22
 cast-numbers : tie.Need-cast-numbers Inv-loop μ-loop
 cast-numbers c = record { fits = omega (arith, number-small (c .before .before .before .number-one .ensures) .1) }
 
--- src/names.rt:67:9
 mul-numbers : tie.Need-mul-numbers Inv-loop μ-loop
 mul-numbers c = search needs
 
--- src/names.rt:67:9
 slice-write-numbers : tie.Need-slice-write-numbers Inv-loop μ-loop
 slice-write-numbers c = search needs
 
--- src/names.rt:69:9
 add-i : tie.Need-add-i Inv-loop μ-loop
 add-i c = search needs
 
--- src/names.rt:63:5
 loop-less : tie.Need-loop-less Inv-loop μ-loop
 loop-less c = search needs
 
--- src/names.rt:63:5
 loop-again : tie.Need-loop-again Inv-loop μ-loop
 loop-again c =
     let o = c .before .before .before in
@@ -97,15 +85,12 @@ loop-again c =
       news .1,
     )
 
--- src/names.rt:48:1
 same-length : tie.Need-same-length Inv-loop μ-loop
 same-length c = search needs
 
--- src/names.rt:48:1
 same-length-2 : tie.Need-same-length-2 Inv-loop μ-loop
 same-length-2 c = search needs
 
--- src/names.rt:48:1
 returns : tie.Need-returns Inv-loop μ-loop
 returns c =
     let l = c .before .loop in

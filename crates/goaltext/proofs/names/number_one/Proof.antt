@@ -6,31 +6,24 @@ use Rattle.goaltext.proofs.names.number_one.Tie as tie
 use Rattle.goaltext.proofs.names.number_one.Reads as reads
 use Rattle.goaltext.proofs.names.number_one.Lts as lts
 
--- src/names.rt:38:9
 returns : tie.Need-returns
 returns c = listed (omega arith)
 
--- src/names.rt:40:5
 mul-new : tie.Need-mul-new
 mul-new c = search needs
 
--- src/names.rt:40:5
 slice-write-new : tie.Need-slice-write-new
 slice-write-new c = search needs
 
--- src/names.rt:42:17
 add-t7 : tie.Need-add-t7
 add-t7 c = search needs
 
--- src/names.rt:43:16
 add-t9 : tie.Need-add-t9
 add-t9 c = search needs
 
--- src/names.rt:33:1
 same-length : tie.Need-same-length
 same-length c = search needs
 
--- src/names.rt:33:1
 returns-2 : tie.Need-returns-2
 returns-2 c = fresh (omega arith)
 

@@ -22,39 +22,30 @@ Inv-loop row numbers cells₀ i₀ cells i =
 abbrev μ-loop : tie.MeasureT-loop
 μ-loop row numbers cells₀ i₀ cells i = length row - i
 
--- src/names.rt:103:5
 loop-holds : tie.Need-loop-holds Inv-loop μ-loop
 loop-holds c = (omega arith, refl, refl)
 
--- src/names.rt:104:38
 mul-new-cell : tie.Need-mul-new-cell Inv-loop μ-loop
 mul-new-cell c = search needs
 
--- src/names.rt:104:38
 shared-slice-read-new-cell : tie.Need-shared-slice-read-new-cell Inv-loop μ-loop
 shared-slice-read-new-cell c = search needs
 
--- src/names.rt:104:20
 new-cell-requires : tie.Need-new-cell-requires Inv-loop μ-loop
 new-cell-requires c κs = search needs
 
--- src/names.rt:104:9
 mul-cells : tie.Need-mul-cells Inv-loop μ-loop
 mul-cells c = search needs
 
--- src/names.rt:104:9
 slice-write-cells : tie.Need-slice-write-cells Inv-loop μ-loop
 slice-write-cells c = search needs
 
--- src/names.rt:105:9
 add-i : tie.Need-add-i Inv-loop μ-loop
 add-i c = search needs
 
--- src/names.rt:103:5
 loop-less : tie.Need-loop-less Inv-loop μ-loop
 loop-less c = search needs
 
--- src/names.rt:103:5
 loop-again : tie.Need-loop-again Inv-loop μ-loop
 loop-again c =
     let l = c .before .before .before .loop in
@@ -65,11 +56,9 @@ loop-again c =
     ∙ ap (λ (x : ℕ). x ∷ newCells numbers (drop (l .i + 1) row)) (sym (c .new-cell .ensures)) in
     (omega arith, search needs, store-next (l .cells) (sets (a .cells .now) 0 (newCells numbers row)) _ _ (l .i) _ next (l .inv .2))
 
--- src/names.rt:97:1
 same-length : tie.Need-same-length Inv-loop μ-loop
 same-length c = search needs
 
--- src/names.rt:97:1
 returns : tie.Need-returns Inv-loop μ-loop
 returns c =
     let l = c .before .loop in

@@ -10,43 +10,33 @@ use Rattle.prolog.proofs.cells.add_argument.Lts as lts
 use Rattle.prolog.proofs.cells.owner.Reads as owner-reads
 use Rattle.prolog.proofs.cells.with_argument.Reads as with-argument-reads
 
--- src/cells.rt:84:21
 mul-owner : tie.Need-mul-owner
 mul-owner c = search needs
 
--- src/cells.rt:84:21
 shared-slice-read-owner : tie.Need-shared-slice-read-owner
 shared-slice-read-owner c = search needs
 
--- src/cells.rt:84:9
 owner-requires : tie.Need-owner-requires
 owner-requires c κs = search needs
 
--- src/cells.rt:85:32
 mul-with-argument : tie.Need-mul-with-argument
 mul-with-argument c = search needs
 
--- src/cells.rt:85:32
 slice-read-with-argument : tie.Need-slice-read-with-argument
 slice-read-with-argument c = search needs
 
--- src/cells.rt:85:18
 with-argument-requires : tie.Need-with-argument-requires
 with-argument-requires c κs = search needs
 
--- src/cells.rt:85:5
 mul-cells : tie.Need-mul-cells
 mul-cells c = search needs
 
--- src/cells.rt:85:5
 slice-write-cells : tie.Need-slice-write-cells
 slice-write-cells c = search needs
 
--- src/cells.rt:79:1
 same-length : tie.Need-same-length
 same-length c = search needs
 
--- src/cells.rt:79:1
 returns : tie.Need-returns
 returns c =
     let a = c .before .before .before .before .before .before .args in

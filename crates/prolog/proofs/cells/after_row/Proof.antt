@@ -9,30 +9,24 @@ use Rattle.prolog.proofs.cells.after_row.Lts as lts
 use Rattle.prolog.proofs.cells.go.Reads as go-reads
 use Rattle.symbols.proofs.row_end.Reads as row-end-reads
 
--- src/cells.rt:73:11
 row-end-requires : tie.Need-row-end-requires
 row-end-requires c κs = search needs
 
--- src/cells.rt:74:22
 enum-known-q : tie.Need-enum-known-q
 enum-known-q c = search needs
 
--- src/cells.rt:74:28
 go-requires : tie.Need-go-requires
 go-requires c κs = search needs
 
--- src/cells.rt:75:25
 enum-told : tie.Need-enum-told
 enum-told c = search needs
 
--- src/cells.rt:70:1
 returns : tie.Need-returns
 returns c =
     let a = c .before .before .before .before .before .before .args in
     let x = c .before .before .q .given in
     subst (RowMade (a .text .now) (a .at) (a .count)) (sym (c .go .ensures)) (subst (RowEnds (a .text .now) (a .at)) (x .1) (c .before .before .before .before .row-end .ensures), refl)
 
--- src/cells.rt:70:1
 returns-2 : tie.Need-returns-2
 returns-2 c =
     let a = c .before .before .before .before .args in

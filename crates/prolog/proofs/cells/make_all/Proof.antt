@@ -20,22 +20,18 @@ Inv-loop text numbers from cells₀ owners₀ m₀ cells owners m =
 abbrev μ-loop : tie.MeasureT-loop
 μ-loop text numbers from cells₀ owners₀ m₀ cells owners m = length text - m .at
 
--- src/cells.rt:167:5
 loop-holds : tie.Need-loop-holds Inv-loop μ-loop
 loop-holds c = (refl, refl, λ R. R .makes)
 
--- src/cells.rt:168:15
 make-on-requires : tie.Need-make-on-requires Inv-loop μ-loop
 make-on-requires c κs =
     let R = c .before .before .before .before .before .before .before .pre in
     let l = c .before .before .loop in
     ready (l .cells) (l .owners) (l .m) R (l .inv .0) (l .inv .1) (l .inv .2 R)
 
--- src/cells.rt:169:22
 enum-known-next : tie.Need-enum-known-next Inv-loop μ-loop
 enum-known-next c = search needs
 
--- src/cells.rt:167:5
 loop-less : tie.Need-loop-less Inv-loop μ-loop
 loop-less c =
     let R = c .before .before .before .before .before .before .before .before .before .before .before .before .before .before .before .pre in
@@ -45,7 +41,6 @@ loop-less c =
     let k = went (a .text .now) (a .numbers .now) (R .start) (n .last .1 .1 .1 .0) (n .last .1 .1 .1 .1 .0) (R .facts) (l .m) (c .before .next .given .1) (n .ensures (ready (l .cells) (l .owners) (l .m) R (l .inv .0) (l .inv .1) (l .inv .2 R))) in
     omega (arith, k .0, k .1 .within)
 
--- src/cells.rt:167:5
 loop-again : tie.Need-loop-again Inv-loop μ-loop
 loop-again c =
     let a = c .before .before .before .before .before .before .before .before .before .before .before .before .before .before .before .args in
@@ -53,19 +48,15 @@ loop-again c =
     let n = c .before .before .before .before .before .before .before .make-on in
     (search needs, search needs, λ R. went (a .text .now) (a .numbers .now) (R .start) (n .last .1 .1 .1 .0) (n .last .1 .1 .1 .1 .0) (R .facts) (l .m) (c .before .next .given .1) (n .ensures (ready (l .cells) (l .owners) (l .m) R (l .inv .0) (l .inv .1) (l .inv .2 R))) .1)
 
--- src/cells.rt:172:24
 enum-known-n : tie.Need-enum-known-n Inv-loop μ-loop
 enum-known-n c = search needs
 
--- src/cells.rt:173:17
 same-length : tie.Need-same-length Inv-loop μ-loop
 same-length c = search needs
 
--- src/cells.rt:173:17
 same-length-2 : tie.Need-same-length-2 Inv-loop μ-loop
 same-length-2 c = search needs
 
--- src/cells.rt:173:17
 returns : tie.Need-returns Inv-loop μ-loop
 returns c =
     let a = c .before .before .before .before .before .before .before .before .before .before .before .before .before .before .before .args in

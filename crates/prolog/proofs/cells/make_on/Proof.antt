@@ -63,210 +63,168 @@ opening c =
     let x = c .e2 .given in
     open-fits (a .text .now) (a .numbers .now) (a .cells .now) (a .owners .now) (a .m) (x .0 .0) (x .0 .1 .0) (turned (c .before .before) (x .1)) (start (c .before .before) .pre)
 
--- src/cells.rt:113:11
 next-turn-requires : tie.Need-next-turn-requires
 next-turn-requires c κs = search needs
 
--- src/cells.rt:114:23
 enum-known-e : tie.Need-enum-known-e
 enum-known-e c = search needs
 
--- src/cells.rt:115:13
 put-name-requires : tie.Need-put-name-requires
 put-name-requires c κs = name-fits (c .before .before)
 
--- src/cells.rt:116:32
 add-go : tie.Need-add-go
 add-go c = let k = name-fits (c .before .before .before .before .before) in search needs
 
--- src/cells.rt:116:13
 go-requires : tie.Need-go-requires
 go-requires c κs = search needs
 
--- src/cells.rt:118:23
 enum-known-e-2 : tie.Need-enum-known-e-2
 enum-known-e-2 c = search needs
 
--- src/cells.rt:119:13
 put-name-requires-2 : tie.Need-put-name-requires-2
 put-name-requires-2 c κs =
     let k = opening (c .before .before) in
     (k .0, k .1)
 
--- src/cells.rt:120:29
 cast-owners : tie.Need-cast-owners
 cast-owners c =
     let k = opening (c .before .before .before .before .before) in
     record { fits = omega (arith, k) }
 
--- src/cells.rt:120:13
 mul-owners : tie.Need-mul-owners
 mul-owners c =
     let k = opening (c .before .before .before .before .before) in
     search needs
 
--- src/cells.rt:120:13
 slice-write-owners : tie.Need-slice-write-owners
 slice-write-owners c =
     let k = opening (c .before .before .before .before .before) in
     k .3
 
--- src/cells.rt:121:16
 add-go-2 : tie.Need-add-go-2
 add-go-2 c =
     let T = turned (c .before .before .before .before .before .before .before) (c .before .before .before .before .before .e2 .given .1) in
     let k = T .leads in
     search needs
 
--- src/cells.rt:121:30
 add-go-3 : tie.Need-add-go-3
 add-go-3 c =
     let k = opening (c .before .before .before .before .before) in
     search needs
 
--- src/cells.rt:121:41
 add-go-4 : tie.Need-add-go-4
 add-go-4 c =
     let k = opening (c .before .before .before .before .before) in
     search needs
 
--- src/cells.rt:121:13
 go-requires-2 : tie.Need-go-requires-2
 go-requires-2 c κs = search needs
 
--- src/cells.rt:123:27
 enum-known-e-3 : tie.Need-enum-known-e-3
 enum-known-e-3 c = search needs
 
--- src/cells.rt:124:13
 put-variable-requires : tie.Need-put-variable-requires
 put-variable-requires c κs = variable-fits (c .before .before)
 
--- src/cells.rt:125:32
 add-go-5 : tie.Need-add-go-5
 add-go-5 c = let k = variable-fits (c .before .before .before .before .before) in search needs
 
--- src/cells.rt:125:13
 go-requires-3 : tie.Need-go-requires-3
 go-requires-3 c κs = search needs
 
--- src/cells.rt:127:25
 enum-known-e-4 : tie.Need-enum-known-e-4
 enum-known-e-4 c = search needs
 
--- src/cells.rt:128:13
 put-number-requires : tie.Need-put-number-requires
 put-number-requires c κs = number-fits (c .before .before)
 
--- src/cells.rt:129:32
 add-go-6 : tie.Need-add-go-6
 add-go-6 c = let k = number-fits (c .before .before .before .before .before) in search needs
 
--- src/cells.rt:129:13
 go-requires-4 : tie.Need-go-requires-4
 go-requires-4 c κs = search needs
 
--- src/cells.rt:131:21
 enum-known-p : tie.Need-enum-known-p
 enum-known-p c = search needs
 
--- src/cells.rt:133:27
 add-go-7 : tie.Need-add-go-7
 add-go-7 c =
     let T = turned (c .before .before .before .before) (c .before .before .p .given .1) in
     let k = T .leads in
     search needs
 
--- src/cells.rt:133:17
 go-requires-5 : tie.Need-go-requires-5
 go-requires-5 c κs = search needs
 
--- src/cells.rt:133:17
 returns : tie.Need-returns
 returns c =
     let n = c .before .before .before .before .before in
     let a = start n .args in
     comma-outer (a .text .now) (a .numbers .now) (a .cells .now) (a .owners .now) (a .m) (c .before .before .before .p .given .0 .0) (turned n (c .before .before .before .p .given .1)) (c .before .if1 .taken) (c .go5 .ensures)
 
--- src/cells.rt:135:41
 sub-add-argument : tie.Need-sub-add-argument
 sub-add-argument c = search needs
 
--- src/cells.rt:135:13
 add-argument-requires : tie.Need-add-argument-requires
 add-argument-requires c κs =
     let n = c .before .before .before .before .before .before in
     let a = start n .args in
     argument-fits (a .text .now) (a .numbers .now) (a .cells .now) (a .owners .now) (a .m) (c .before .before .if1 .left) (start n .pre)
 
--- src/cells.rt:136:16
 add-go-8 : tie.Need-add-go-8
 add-go-8 c =
     let T = turned (c .before .before .before .before .before .before .before .before .before) (c .before .before .before .before .before .before .before .p .given .1) in
     let k = T .leads in
     search needs
 
--- src/cells.rt:136:13
 go-requires-6 : tie.Need-go-requires-6
 go-requires-6 c κs = search needs
 
--- src/cells.rt:138:21
 enum-known-p-2 : tie.Need-enum-known-p-2
 enum-known-p-2 c = search needs
 
--- src/cells.rt:140:40
 add-after-row : tie.Need-add-after-row
 add-after-row c =
     let T = turned (c .before .before .before .before) (c .before .before .p2 .given .1) in
     let k = T .leads in
     search needs
 
--- src/cells.rt:140:17
 after-row-requires : tie.Need-after-row-requires
 after-row-requires c κs = search needs
 
--- src/cells.rt:140:17
 returns-2 : tie.Need-returns-2
 returns-2 c =
     let n = c .before .before .before .before .before in
     let a = start n .args in
     close-outer (a .text .now) (a .numbers .now) (a .cells .now) (a .owners .now) (a .m) (c .before .before .before .p2 .given .0 .0) (turned n (c .before .before .before .p2 .given .1)) (c .after-row .result) (c .before .if2 .taken) (c .after-row .ensures)
 
--- src/cells.rt:142:41
 sub-add-argument-2 : tie.Need-sub-add-argument-2
 sub-add-argument-2 c = search needs
 
--- src/cells.rt:142:13
 add-argument-requires-2 : tie.Need-add-argument-requires-2
 add-argument-requires-2 c κs =
     let n = c .before .before .before .before .before .before in
     let a = start n .args in
     argument-fits (a .text .now) (a .numbers .now) (a .cells .now) (a .owners .now) (a .m) (c .before .before .if2 .left) (start n .pre)
 
--- src/cells.rt:143:16
 add-go-9 : tie.Need-add-go-9
 add-go-9 c =
     let T = turned (c .before .before .before .before .before .before .before .before .before) (c .before .before .before .before .before .before .before .p2 .given .1) in
     let k = T .leads in
     search needs
 
--- src/cells.rt:143:29
 sub-go : tie.Need-sub-go
 sub-go c = search needs
 
--- src/cells.rt:143:13
 go-requires-7 : tie.Need-go-requires-7
 go-requires-7 c κs = search needs
 
--- src/cells.rt:145:26
 enum-told : tie.Need-enum-told
 enum-told c = search needs
 
--- src/cells.rt:101:1
 same-length : tie.Need-same-length
 same-length c = search needs
 
--- src/cells.rt:101:1
 returns-3 : tie.Need-returns-3
 returns-3 c =
     let n = c .before .before .before .before .before .before .before .before in
@@ -275,15 +233,12 @@ returns-3 c =
     let T = turned n (x .1) in
     symbol-made (a .text .now) (a .numbers .now) (a .cells .now) (a .owners .now) (a .m) (name (x .0 .0) (x .0 .1 .0) 0) (x .0 .1 .0) (T .leads .2) (T .same) (omega (arith, T .leads .0, T .leads .1)) (c .before .before .before .put-name .ensures) (c .go .ensures)
 
--- src/cells.rt:101:1
 same-length-2 : tie.Need-same-length-2
 same-length-2 c = search needs
 
--- src/cells.rt:101:1
 same-length-3 : tie.Need-same-length-3
 same-length-3 c = search needs
 
--- src/cells.rt:101:1
 returns-4 : tie.Need-returns-4
 returns-4 c =
     let n = c .before .before .before .before .before .before .before .before in
@@ -291,11 +246,9 @@ returns-4 c =
     let x = c .before .before .before .before .before .before .e2 .given in
     open-made (a .text .now) (a .numbers .now) (a .cells .now) (a .owners .now) (a .m) (x .0 .0) (x .0 .1 .0) (turned n (x .1)) (c .before .before .before .put-name2 .ensures) (c .go2 .ensures)
 
--- src/cells.rt:101:1
 same-length-4 : tie.Need-same-length-4
 same-length-4 c = search needs
 
--- src/cells.rt:101:1
 returns-5 : tie.Need-returns-5
 returns-5 c =
     let n = c .before .before .before .before .before .before .before .before in
@@ -304,11 +257,9 @@ returns-5 c =
     let T = turned n (x .1) in
     symbol-made (a .text .now) (a .numbers .now) (a .cells .now) (a .owners .now) (a .m) (variable (x .0 .0) (x .0 .1 .0)) (x .0 .1 .0) (T .leads .2) (T .same) (omega (arith, T .leads .0, T .leads .1)) (c .before .before .before .put-variable .ensures) (c .go3 .ensures)
 
--- src/cells.rt:101:1
 same-length-5 : tie.Need-same-length-5
 same-length-5 c = search needs
 
--- src/cells.rt:101:1
 returns-6 : tie.Need-returns-6
 returns-6 c =
     let n = c .before .before .before .before .before .before .before .before in
@@ -317,15 +268,12 @@ returns-6 c =
     let T = turned n (x .1) in
     symbol-made (a .text .now) (a .numbers .now) (a .cells .now) (a .owners .now) (a .m) (number (x .0 .0)) (x .0 .1 .0) (T .leads .1) (T .same) (T .leads .0) (c .before .before .before .put-number .ensures) (c .go4 .ensures)
 
--- src/cells.rt:101:1
 same-length-6 : tie.Need-same-length-6
 same-length-6 c = search needs
 
--- src/cells.rt:101:1
 same-length-7 : tie.Need-same-length-7
 same-length-7 c = search needs
 
--- src/cells.rt:101:1
 returns-7 : tie.Need-returns-7
 returns-7 c =
     let n = c .before .before .before .before .before .before .before .before .before .before in
@@ -333,15 +281,12 @@ returns-7 c =
     let x = c .before .before .before .before .before .before .before .before .p .given in
     comma-inner (a .text .now) (a .numbers .now) (a .cells .now) (a .owners .now) (a .m) (x .0 .0) (turned n (x .1)) (few n) (c .before .before .before .before .before .before .if1 .left) (c .before .before .before .add-argument .ensures) (c .go6 .ensures)
 
--- src/cells.rt:101:1
 same-length-8 : tie.Need-same-length-8
 same-length-8 c = search needs
 
--- src/cells.rt:101:1
 same-length-9 : tie.Need-same-length-9
 same-length-9 c = search needs
 
--- src/cells.rt:101:1
 returns-8 : tie.Need-returns-8
 returns-8 c =
     let n = c .before .before .before .before .before .before .before .before .before .before in
@@ -349,7 +294,6 @@ returns-8 c =
     let x = c .before .before .before .before .before .before .before .before .p2 .given in
     close-inner (a .text .now) (a .numbers .now) (a .cells .now) (a .owners .now) (a .m) (x .0 .0) (turned n (x .1)) (few n) (c .before .before .before .before .before .before .if2 .left) (c .before .before .before .add-argument2 .ensures) (c .go7 .ensures)
 
--- src/cells.rt:101:1
 returns-9 : tie.Need-returns-9
 returns-9 c =
     let n = c .before .before in

@@ -7,31 +7,24 @@ use Rattle.prolog.proofs.cells.put_name.Reads as reads
 use Rattle.prolog.proofs.cells.put_name.Lts as lts
 use Rattle.prolog.proofs.cells.name.Reads as name-reads
 
--- src/cells.rt:53:21
 mul-name : tie.Need-mul-name
 mul-name c = search needs
 
--- src/cells.rt:53:21
 shared-slice-read-name : tie.Need-shared-slice-read-name
 shared-slice-read-name c = search needs
 
--- src/cells.rt:53:16
 name-requires : tie.Need-name-requires
 name-requires c κs = search needs
 
--- src/cells.rt:53:5
 mul-cells : tie.Need-mul-cells
 mul-cells c = search needs
 
--- src/cells.rt:53:5
 slice-write-cells : tie.Need-slice-write-cells
 slice-write-cells c = search needs
 
--- src/cells.rt:49:1
 same-length : tie.Need-same-length
 same-length c = search needs
 
--- src/cells.rt:49:1
 returns : tie.Need-returns
 returns c =
     let a = c .before .before .before .before .args in

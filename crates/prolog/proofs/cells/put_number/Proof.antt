@@ -7,31 +7,24 @@ use Rattle.prolog.proofs.cells.put_number.Reads as reads
 use Rattle.prolog.proofs.cells.put_number.Lts as lts
 use Rattle.prolog.proofs.cells.value.Reads as value-reads
 
--- src/cells.rt:67:22
 mul-value : tie.Need-mul-value
 mul-value c = search needs
 
--- src/cells.rt:67:22
 shared-slice-read-value : tie.Need-shared-slice-read-value
 shared-slice-read-value c = search needs
 
--- src/cells.rt:67:16
 value-requires : tie.Need-value-requires
 value-requires c κs = search needs
 
--- src/cells.rt:67:5
 mul-cells : tie.Need-mul-cells
 mul-cells c = search needs
 
--- src/cells.rt:67:5
 slice-write-cells : tie.Need-slice-write-cells
 slice-write-cells c = search needs
 
--- src/cells.rt:63:1
 same-length : tie.Need-same-length
 same-length c = search needs
 
--- src/cells.rt:63:1
 returns : tie.Need-returns
 returns c =
     let a = c .before .before .before .before .args in

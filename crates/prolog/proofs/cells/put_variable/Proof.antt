@@ -7,31 +7,24 @@ use Rattle.prolog.proofs.cells.put_variable.Reads as reads
 use Rattle.prolog.proofs.cells.put_variable.Lts as lts
 use Rattle.prolog.proofs.cells.variable.Reads as variable-reads
 
--- src/cells.rt:60:25
 mul-variable : tie.Need-mul-variable
 mul-variable c = search needs
 
--- src/cells.rt:60:25
 shared-slice-read-variable : tie.Need-shared-slice-read-variable
 shared-slice-read-variable c = search needs
 
--- src/cells.rt:60:16
 variable-requires : tie.Need-variable-requires
 variable-requires c κs = search needs
 
--- src/cells.rt:60:5
 mul-cells : tie.Need-mul-cells
 mul-cells c = search needs
 
--- src/cells.rt:60:5
 slice-write-cells : tie.Need-slice-write-cells
 slice-write-cells c = search needs
 
--- src/cells.rt:56:1
 same-length : tie.Need-same-length
 same-length c = search needs
 
--- src/cells.rt:56:1
 returns : tie.Need-returns
 returns c =
     let a = c .before .before .before .before .args in

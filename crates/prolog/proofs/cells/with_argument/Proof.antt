@@ -10,23 +10,18 @@ use Rattle.cell.proofs.args.Reads as args-reads
 use Rattle.cell.proofs.name_cell.Reads as name-cell-reads
 use Rattle.cell.proofs.number.Reads as number-reads
 
--- src/cells.rt:75:21
 args-requires : tie.Need-args-requires
 args-requires c κs = search needs
 
--- src/cells.rt:75:21
 add-name-cell : tie.Need-add-name-cell
 add-name-cell c = search needs
 
--- src/cells.rt:75:40
 number-requires : tie.Need-number-requires
 number-requires c κs = search needs
 
--- src/cells.rt:75:5
 name-cell-requires : tie.Need-name-cell-requires
 name-cell-requires c κs = search needs
 
--- src/cells.rt:72:1
 returns : tie.Need-returns
 returns c =
     c .name-cell .ensures

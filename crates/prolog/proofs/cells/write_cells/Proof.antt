@@ -9,15 +9,12 @@ use Rattle.prolog.proofs.cells.write_cells.Lts as lts
 use Rattle.prolog.proofs.cells.make_all.Reads as make-all-reads
 use Rattle.symbols.proofs.begin.Reads as begin-reads
 
--- src/cells.rt:185:9
 begin-requires : tie.Need-begin-requires
 begin-requires c κs = search needs
 
--- src/cells.rt:186:46
 slice-aggregate-make-all : tie.Need-slice-aggregate-make-all
 slice-aggregate-make-all c = search needs
 
--- src/cells.rt:186:5
 make-all-requires : tie.Need-make-all-requires
 make-all-requires c κs =
     let W = c .before .before .before .before .before .before .pre in
@@ -25,11 +22,9 @@ make-all-requires c κs =
     let s = start-reads (b .ensures) in
     first-ready (b .result .at) W refl (s .within) (s .first (W .facts) (W .text))
 
--- src/cells.rt:180:1
 same-length : tie.Need-same-length
 same-length c = search needs
 
--- src/cells.rt:180:1
 returns : tie.Need-returns
 returns c = λ W.
     let b = c .before .before .before .before .before .before .begin in

@@ -6,11 +6,9 @@ use Rattle.words.proofs.names.blank.Tie as tie
 use Rattle.words.proofs.names.blank.Reads as reads
 use Rattle.words.proofs.names.blank.Lts as lts
 
--- src/names.rt:101:1
 returns : tie.Need-returns
 returns c = (sym (blank-one (c .before .args .mark) (c .if1 .taken)), omega arith)
 
--- src/names.rt:101:1
 returns-2 : tie.Need-returns-2
 returns-2 c = (sym (blank-none (c .before .args .mark) (c .if1 .left)), omega arith)
 

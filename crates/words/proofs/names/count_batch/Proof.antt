@@ -12,46 +12,36 @@ use Rattle.words.proofs.names.fill.Reads as fill-reads
 use Rattle.words.proofs.names.strike.Reads as strike-reads
 use Rattle.words.proofs.names.unmarked.Reads as unmarked-reads
 
--- src/names.rt:134:35
 slice-aggregate-fill : tie.Need-slice-aggregate-fill
 slice-aggregate-fill c = search needs
 
--- src/names.rt:134:46
 slice-aggregate-fill-2 : tie.Need-slice-aggregate-fill-2
 slice-aggregate-fill-2 c = search needs
 
--- src/names.rt:134:9
 fill-requires : tie.Need-fill-requires
 fill-requires c κs = (omega arith, omega arith, empty-tree (c .before .before .before .args .text .now) 3500 7001 (omega arith))
 
--- src/names.rt:139:22
 slice-aggregate-strike : tie.Need-slice-aggregate-strike
 slice-aggregate-strike c = search needs
 
--- src/names.rt:139:29
 slice-aggregate-strike-2 : tie.Need-slice-aggregate-strike-2
 slice-aggregate-strike-2 c = search needs
 
--- src/names.rt:139:44
 slice-aggregate-strike-3 : tie.Need-slice-aggregate-strike-3
 slice-aggregate-strike-3 c = search needs
 
--- src/names.rt:139:5
 strike-requires : tie.Need-strike-requires
 strike-requires c κs =
     let f = c .before .before .before .before .before .before .fill in
     let e : length (f .last .1 .1 .0) ≡ 3500 = search needs in
     (omega (arith, f .ensures .few, e), filling-tree (f .ensures .filling))
 
--- src/names.rt:140:26
 slice-aggregate-unmarked : tie.Need-slice-aggregate-unmarked
 slice-aggregate-unmarked c = search needs
 
--- src/names.rt:140:9
 unmarked-requires : tie.Need-unmarked-requires
 unmarked-requires c κs = search needs
 
--- src/names.rt:128:1
 returns : tie.Need-returns
 returns c =
     let a = c .before .before .before .before .before .before .before .before .before .before .before .before .before .before .args in

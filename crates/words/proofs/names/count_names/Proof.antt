@@ -25,21 +25,17 @@ Inv-loop text total₀ at₀ total at =
 abbrev μ-loop : tie.MeasureT-loop
 μ-loop text total₀ at₀ total at = length text - at .at
 
--- src/names.rt:152:9
 begin-requires : tie.Need-begin-requires Inv-loop μ-loop
 begin-requires c κs = search needs
 
--- src/names.rt:153:5
 loop-holds : tie.Need-loop-holds Inv-loop μ-loop
 loop-holds c =
     let b = start-reads (c .begin .ensures) in
     (omega arith, b .within, none-counted (c .before .before .args .text .now) (c .begin .result) b)
 
--- src/names.rt:154:13
 count-batch-requires : tie.Need-count-batch-requires Inv-loop μ-loop
 count-batch-requires c κs = search needs
 
--- src/names.rt:155:9
 add-total : tie.Need-add-total Inv-loop μ-loop
 add-total c =
     let b = c .before .count-batch .ensures in
@@ -47,21 +43,18 @@ add-total c =
     let h = b .within (l .inv .1) in
     search needs
 
--- src/names.rt:157:13
 returns : tie.Need-returns Inv-loop μ-loop
 returns c =
     let l = c .before .before .before .before .loop in
     let b = c .before .before .before .count-batch in
     λ facts e. all-counted (c .before .before .before .before .before .before .before .args .text .now) (l .at) (l .total) (b .result) facts (b .ensures) (not-true (b .result .more) (c .if1 .taken)) (l .inv .2 facts e)
 
--- src/names.rt:153:5
 loop-less : tie.Need-loop-less Inv-loop μ-loop
 loop-less c =
     let l = c .before .before .before .before .before .loop in
     let b = c .before .before .before .before .count-batch in
     omega (arith, b .ensures .further (not-false (b .result .more) (c .before .if1 .left)), b .ensures .within (l .inv .1))
 
--- src/names.rt:153:5
 loop-again : tie.Need-loop-again Inv-loop μ-loop
 loop-again c =
     let l = c .before .before .before .before .before .loop in

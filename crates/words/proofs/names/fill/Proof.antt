@@ -19,33 +19,26 @@ Inv-loop text list₀ links₀ count₀ to₀ list links count to =
 abbrev μ-loop : tie.MeasureT-loop
 μ-loop text list₀ links₀ count₀ to₀ list links count to = length text - to .at
 
--- src/names.rt:59:5
 loop-holds : tie.Need-loop-holds Inv-loop μ-loop
 loop-holds c =
     let st = c .before .before .before in
     (refl, refl, omega arith, none-listed (st .args .text .now) (st .args .from) (st .args .list .now) (st .args .links .now) (st .pre .2))
 
--- src/names.rt:60:42
 next-name-requires : tie.Need-next-name-requires Inv-loop μ-loop
 next-name-requires c κs = search needs
 
--- src/names.rt:60:28
 enum-known-s : tie.Need-enum-known-s Inv-loop μ-loop
 enum-known-s c = search needs
 
--- src/names.rt:61:13
 enum-told : tie.Need-enum-told Inv-loop μ-loop
 enum-told c = search needs
 
--- src/names.rt:61:13
 same-length : tie.Need-same-length Inv-loop μ-loop
 same-length c = search needs
 
--- src/names.rt:61:13
 same-length-2 : tie.Need-same-length-2 Inv-loop μ-loop
 same-length-2 c = search needs
 
--- src/names.rt:61:13
 returns : tie.Need-returns Inv-loop μ-loop
 returns c =
     let l = c .before .before .before .before .loop in
@@ -57,7 +50,6 @@ returns c =
       ended = λ e. name-is (st .text .now) (l .to) (c .before .before .next-name .ensures) (c .enum-told .given .1);
     }
 
--- src/names.rt:67:12
 meet-requires : tie.Need-meet-requires Inv-loop μ-loop
 meet-requires c κs =
     let l = c .before .before .before .before .before .before .before .loop in
@@ -66,11 +58,9 @@ meet-requires c κs =
     let A = name-is (st .text .now) (l .to) (c .before .before .before .before .before .next-name .ensures) (x .1) in
     (omega (arith, A .1), omega (arith, A .2, A .3), omega arith, omega arith, omega arith, filling-tree (l .inv .3))
 
--- src/names.rt:68:13
 add-count : tie.Need-add-count Inv-loop μ-loop
 add-count c = search needs
 
--- src/names.rt:59:5
 loop-less : tie.Need-loop-less Inv-loop μ-loop
 loop-less c =
     let l = c .before .before .before .before .before .before .before .before .before .before .before .before .before .loop in
@@ -79,7 +69,6 @@ loop-less c =
     let A = name-is (st .text .now) (l .to) (c .before .before .before .before .before .before .before .before .before .before .before .next-name .ensures) (x .1) in
     omega (arith, A .0, A .1, A .2, A .3)
 
--- src/names.rt:59:5
 loop-again : tie.Need-loop-again Inv-loop μ-loop
 loop-again c =
     let l = c .before .before .before .before .before .before .before .before .before .before .before .before .before .loop in
@@ -88,7 +77,6 @@ loop-again c =
     let A = name-is (st .text .now) (l .to) (c .before .before .before .before .before .before .before .before .before .before .before .next-name .ensures) (x .1) in
     (search needs, search needs, search needs, name-grown (st .text .now) (st .from) (l .list) (l .links) _ _ (l .count) (l .to) (x .0 .1 .1 .0) (x .0 .0) (x .0 .1 .0) (c .before .before .before .before .before .meet .result) (l .inv .3) A (omega arith) (c .before .before .before .before .before .meet .ensures) (c .if1 .taken))
 
--- src/names.rt:59:5
 loop-less-2 : tie.Need-loop-less-2 Inv-loop μ-loop
 loop-less-2 c =
     let l = c .before .before .before .before .before .before .before .before .before .before .before .before .before .loop in
@@ -97,7 +85,6 @@ loop-less-2 c =
     let A = name-is (st .text .now) (l .to) (c .before .before .before .before .before .before .before .before .before .before .before .next-name .ensures) (x .1) in
     omega (arith, A .0, A .1, A .2, A .3)
 
--- src/names.rt:59:5
 loop-again-2 : tie.Need-loop-again-2 Inv-loop μ-loop
 loop-again-2 c =
     let l = c .before .before .before .before .before .before .before .before .before .before .before .before .before .loop in
@@ -106,15 +93,12 @@ loop-again-2 c =
     let A = name-is (st .text .now) (l .to) (c .before .before .before .before .before .before .before .before .before .before .before .next-name .ensures) (x .1) in
     (search needs, search needs, search needs, name-stayed (st .text .now) (st .from) (l .list) (l .links) _ _ (l .count) (l .to) (x .0 .1 .1 .0) (x .0 .0) (x .0 .1 .0) (c .before .before .before .before .before .meet .result) (l .inv .3) A (omega arith) (c .before .before .before .before .before .meet .ensures) (c .if1 .left))
 
--- src/names.rt:53:1
 same-length-3 : tie.Need-same-length-3 Inv-loop μ-loop
 same-length-3 c = search needs
 
--- src/names.rt:53:1
 same-length-4 : tie.Need-same-length-4 Inv-loop μ-loop
 same-length-4 c = search needs
 
--- src/names.rt:53:1
 returns-2 : tie.Need-returns-2 Inv-loop μ-loop
 returns-2 c =
     let l = c .before .loop in

@@ -19,19 +19,15 @@ Inv-loop text at₀ at = (at₀ .at ≤ at .at) × ((rest : List Item) → Left 
 abbrev μ-loop : tie.MeasureT-loop
 μ-loop text at₀ at = length text - at .at
 
--- src/names.rt:24:5
 loop-holds : tie.Need-loop-holds Inv-loop μ-loop
 loop-holds c = (omega arith, none-passed (c .before .args .text .now) (c .before .args .from))
 
--- src/names.rt:25:15
 next-item-requires : tie.Need-next-item-requires Inv-loop μ-loop
 next-item-requires c κs = search needs
 
--- src/names.rt:26:25
 enum-known-s : tie.Need-enum-known-s Inv-loop μ-loop
 enum-known-s c = search needs
 
--- src/names.rt:27:17
 returns : tie.Need-returns Inv-loop μ-loop
 returns c =
     let l = c .before .before .before .before .loop in
@@ -40,11 +36,9 @@ returns c =
     let A = ahead-is (st .text .now) (l .at) (c .before .before .before .next-item .ensures) (x .1) in
     name-met (st .text .now) (st .from) (l .at) (l .inv .1) (l .inv .0) (x .0 .0) (x .0 .1 .0) (x .0 .1 .1 .0) A
 
--- src/names.rt:29:35
 enum-known-to : tie.Need-enum-known-to Inv-loop μ-loop
 enum-known-to c = search needs
 
--- src/names.rt:24:5
 loop-less : tie.Need-loop-less Inv-loop μ-loop
 loop-less c =
     let l = c .before .before .before .before .loop in
@@ -53,7 +47,6 @@ loop-less c =
     let A = ahead-is (st .text .now) (l .at) (c .before .before .before .next-item .ensures) (x .1) in
     omega (arith, A .3 .on, A .3 .within)
 
--- src/names.rt:24:5
 loop-again : tie.Need-loop-again Inv-loop μ-loop
 loop-again c =
     let l = c .before .before .before .before .loop in
@@ -62,11 +55,9 @@ loop-again c =
     let A = ahead-is (st .text .now) (l .at) (c .before .before .before .next-item .ensures) (x .1) in
     (omega (arith, l .inv .0, A .3 .on), variable-passed (st .text .now) (st .from) (l .at) (l .inv .1) (l .inv .0) (x .0 .0) (x .0 .1 .0) (x .0 .1 .1 .0) A)
 
--- src/names.rt:32:30
 enum-known-to-2 : tie.Need-enum-known-to-2 Inv-loop μ-loop
 enum-known-to-2 c = search needs
 
--- src/names.rt:24:5
 loop-less-2 : tie.Need-loop-less-2 Inv-loop μ-loop
 loop-less-2 c =
     let l = c .before .before .before .before .loop in
@@ -75,7 +66,6 @@ loop-less-2 c =
     let A = ahead-is (st .text .now) (l .at) (c .before .before .before .next-item .ensures) (x .1) in
     omega (arith, A .1 .on, A .1 .within)
 
--- src/names.rt:24:5
 loop-again-2 : tie.Need-loop-again-2 Inv-loop μ-loop
 loop-again-2 c =
     let l = c .before .before .before .before .loop in
@@ -84,11 +74,9 @@ loop-again-2 c =
     let A = ahead-is (st .text .now) (l .at) (c .before .before .before .next-item .ensures) (x .1) in
     (omega (arith, l .inv .0, A .1 .on), number-passed (st .text .now) (st .from) (l .at) (l .inv .1) (l .inv .0) (x .0 .0) (x .0 .1 .0) A)
 
--- src/names.rt:35:24
 enum-known-to-3 : tie.Need-enum-known-to-3 Inv-loop μ-loop
 enum-known-to-3 c = search needs
 
--- src/names.rt:24:5
 loop-less-3 : tie.Need-loop-less-3 Inv-loop μ-loop
 loop-less-3 c =
     let l = c .before .before .before .before .loop in
@@ -97,7 +85,6 @@ loop-less-3 c =
     let A = ahead-is (st .text .now) (l .at) (c .before .before .before .next-item .ensures) (x .1) in
     omega (arith, A .on, A .within)
 
--- src/names.rt:24:5
 loop-again-3 : tie.Need-loop-again-3 Inv-loop μ-loop
 loop-again-3 c =
     let l = c .before .before .before .before .loop in
@@ -106,11 +93,9 @@ loop-again-3 c =
     let A = ahead-is (st .text .now) (l .at) (c .before .before .before .next-item .ensures) (x .1) in
     (omega (arith, l .inv .0, A .on), row-passed (st .text .now) (st .from) (l .at) (l .inv .1) (l .inv .0) (x .0 .0) A)
 
--- src/names.rt:39:17
 enum-told : tie.Need-enum-told Inv-loop μ-loop
 enum-told c = search needs
 
--- src/names.rt:39:17
 returns-2 : tie.Need-returns-2 Inv-loop μ-loop
 returns-2 c =
     let l = c .before .before .before .loop in

@@ -32,19 +32,15 @@ Inv-loop text list links count marks₀ at₀ marks at =
 abbrev μ-loop : tie.MeasureT-loop
 μ-loop text list links count marks₀ at₀ marks at = length text - at .at
 
--- src/names.rt:92:5
 loop-holds : tie.Need-loop-holds Inv-loop μ-loop
 loop-holds c = (refl, λ ns rest rest₀ n S L k. record { rest = rest; left = L; struck = k })
 
--- src/names.rt:92:44
 next-name-requires : tie.Need-next-name-requires Inv-loop μ-loop
 next-name-requires c κs = search needs
 
--- src/names.rt:92:30
 enum-known-s : tie.Need-enum-known-s Inv-loop μ-loop
 enum-known-s c = search needs
 
--- src/names.rt:93:71
 sub-find : tie.Need-sub-find Inv-loop μ-loop
 sub-find c =
     let l = c .before .before .before .before .loop in
@@ -54,7 +50,6 @@ sub-find c =
     let A = name-is t (l .at) (c .before .before .before .next-name .ensures) (x .1) in
     omega (arith, A .1)
 
--- src/names.rt:93:71
 part-find-start : tie.Need-part-find-start Inv-loop μ-loop
 part-find-start c =
     let l = c .before .before .before .before .loop in
@@ -64,7 +59,6 @@ part-find-start c =
     let A = name-is t (l .at) (c .before .before .before .next-name .ensures) (x .1) in
     omega (arith, A .1)
 
--- src/names.rt:93:71
 part-find-end : tie.Need-part-find-end Inv-loop μ-loop
 part-find-end c =
     let l = c .before .before .before .before .loop in
@@ -74,15 +68,12 @@ part-find-end c =
     let A = name-is t (l .at) (c .before .before .before .next-name .ensures) (x .1) in
     omega (arith, A .2, A .3)
 
--- src/names.rt:93:34
 find-requires : tie.Need-find-requires Inv-loop μ-loop
 find-requires c κs = search needs
 
--- src/names.rt:93:29
 enum-known-j : tie.Need-enum-known-j Inv-loop μ-loop
 enum-known-j c = search needs
 
--- src/names.rt:94:13
 slice-write-marks : tie.Need-slice-write-marks Inv-loop μ-loop
 slice-write-marks c =
     let l = c .before .before .before .before .before .before .before .before .before .loop in
@@ -96,7 +87,6 @@ slice-write-marks c =
 enum-told : tie.Need-enum-told Inv-loop μ-loop
 enum-told c = search needs
 
--- src/names.rt:92:5
 loop-less : tie.Need-loop-less Inv-loop μ-loop
 loop-less c =
     let l = c .before .before .before .before .before .before .before .before .before .loop in
@@ -106,7 +96,6 @@ loop-less c =
     let A = name-is t (l .at) (c .before .before .before .before .before .before .before .before .next-name .ensures) (x .1) in
     omega (arith, A .0, A .1, A .2, A .3)
 
--- src/names.rt:92:5
 loop-again : tie.Need-loop-again Inv-loop μ-loop
 loop-again c =
     let l = c .before .before .before .before .before .before .before .before .before .loop in
@@ -128,7 +117,6 @@ loop-again c =
           }),
     )
 
--- src/names.rt:92:5
 loop-less-2 : tie.Need-loop-less-2 Inv-loop μ-loop
 loop-less-2 c =
     let l = c .before .before .before .before .before .before .before .before .loop in
@@ -138,7 +126,6 @@ loop-less-2 c =
     let A = name-is t (l .at) (c .before .before .before .before .before .before .before .next-name .ensures) (x .1) in
     omega (arith, A .0, A .1, A .2, A .3)
 
--- src/names.rt:92:5
 loop-again-2 : tie.Need-loop-again-2 Inv-loop μ-loop
 loop-again-2 c =
     let l = c .before .before .before .before .before .before .before .before .loop in
@@ -159,15 +146,12 @@ loop-again-2 c =
           }),
     )
 
--- src/names.rt:92:11
 enum-told-2 : tie.Need-enum-told-2 Inv-loop μ-loop
 enum-told-2 c = search needs
 
--- src/names.rt:80:1
 same-length : tie.Need-same-length Inv-loop μ-loop
 same-length c = search needs
 
--- src/names.rt:80:1
 returns : tie.Need-returns Inv-loop μ-loop
 returns c =
     let l = c .before .before .before .loop in

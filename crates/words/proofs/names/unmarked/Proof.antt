@@ -18,31 +18,24 @@ Inv-loop marks count n₀ i₀ n i = (i ≤ count) × (n ≤ i) × (n + zeros (c
 abbrev μ-loop : tie.MeasureT-loop
 μ-loop marks count n₀ i₀ n i = count - i
 
--- src/names.rt:114:5
 loop-holds : tie.Need-loop-holds Inv-loop μ-loop
 loop-holds c = (omega arith, omega arith, zeros-none (c .before .args .marks .now) (c .before .args .count))
 
--- src/names.rt:115:20
 shared-slice-read-blank : tie.Need-shared-slice-read-blank Inv-loop μ-loop
 shared-slice-read-blank c = search needs
 
--- src/names.rt:115:14
 blank-requires : tie.Need-blank-requires Inv-loop μ-loop
 blank-requires c κs = search needs
 
--- src/names.rt:115:9
 add-n : tie.Need-add-n Inv-loop μ-loop
 add-n c = search needs
 
--- src/names.rt:116:9
 add-i : tie.Need-add-i Inv-loop μ-loop
 add-i c = search needs
 
--- src/names.rt:114:5
 loop-less : tie.Need-loop-less Inv-loop μ-loop
 loop-less c = search needs
 
--- src/names.rt:114:5
 loop-again : tie.Need-loop-again Inv-loop μ-loop
 loop-again c =
     let l = c .before .before .before .loop in
@@ -53,7 +46,6 @@ loop-again c =
           ∙ zeros-step (a .marks .now) (l .n) (l .i) (a .count) (omega arith) (omega arith) (l .inv .2),
     )
 
--- src/names.rt:108:1
 returns : tie.Need-returns Inv-loop μ-loop
 returns c =
     let l = c .before .loop in

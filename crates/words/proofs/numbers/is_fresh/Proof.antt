@@ -7,21 +7,17 @@ use Rattle.words.proofs.numbers.is_fresh.Tie as tie
 use Rattle.words.proofs.numbers.is_fresh.Reads as reads
 use Rattle.words.proofs.numbers.is_fresh.Lts as lts
 
--- src/numbers.rt:30:8
 sub-if1 : tie.Need-sub-if1
 sub-if1 c = search needs
 
--- src/numbers.rt:31:9
 returns : tie.Need-returns
 returns c =
     let a = c .before .args in
     sym (long-not-fresh (a .text .now) (a .start) (a .end) (omega arith) (c .if1 .taken))
 
--- src/numbers.rt:33:5
 shared-slice-read-result : tie.Need-shared-slice-read-result
 shared-slice-read-result c = search needs
 
--- src/numbers.rt:26:1
 returns-2 : tie.Need-returns-2
 returns-2 c =
     let a = c .before .before .args in

@@ -31,7 +31,6 @@ abbrev μ-loop : tie.MeasureT-loop
 room : (xs : List ℕ) (k n : ℕ) → k < length xs → k + 1 ≤ length (set xs k n)
 room xs k n h = omega (arith, length-set xs k n)
 
--- src/numbers.rt:95:5
 loop-holds : tie.Need-loop-holds Inv-loop μ-loop
 loop-holds c =
     let st = c .before .before .before .before .before .before .before in
@@ -41,15 +40,12 @@ loop-holds c =
       none-numbered-yet (a .text .now) (a .from) (a .list .now) (a .links .now) (a .words .now) (a .ways .now) (a .given .now) (a .numbers .now) (st .pre),
     )
 
--- src/numbers.rt:96:15
 next-item-requires : tie.Need-next-item-requires Inv-loop μ-loop
 next-item-requires c κs = search needs
 
--- src/numbers.rt:97:25
 enum-known-s : tie.Need-enum-known-s Inv-loop μ-loop
 enum-known-s c = search needs
 
--- src/numbers.rt:98:21
 meet-requires : tie.Need-meet-requires Inv-loop μ-loop
 meet-requires c κs =
     let l = c .before .before .before .before .before .before .before .loop in
@@ -61,7 +57,6 @@ meet-requires c κs =
     let A = ahead-is (a .text .now) (l .at) (c .before .before .before .before .before .next-item .ensures) (x .1) in
     (omega (arith, A .1), omega (arith, A .2, A .3 .within), omega (arith, R .text), omega (arith, R .few .0, R .few .1, R .room .0, R .room .1, N .few .0, N .few .1, l .inv .0 .0, l .inv .0 .5), omega (arith, R .few .0, R .few .1, R .room .0, R .room .1, N .few .0, N .few .1, l .inv .0 .5), numbering-tree (a .text .now) (a .from) (l .list) (l .links) (l .words) (l .ways) (l .given) (l .row) (l .count) (l .k) (l .at) (l .numbers) (a .numbers .now) (a .list .now) N)
 
--- src/numbers.rt:99:30
 cast-numbers : tie.Need-cast-numbers Inv-loop μ-loop
 cast-numbers c =
     let l = c .before .before .before .before .before .before .before .before .before .before .before .before .loop in
@@ -74,23 +69,18 @@ cast-numbers c =
     let h = met-low (c .before .before .before .before .meet .ensures) in
     record { fits = omega (arith, R .few .0, R .few .1, R .room .0, R .room .1, N .few .0, N .few .1, l .inv .0 .5) }
 
--- src/numbers.rt:99:17
 mul-numbers : tie.Need-mul-numbers Inv-loop μ-loop
 mul-numbers c = search needs
 
--- src/numbers.rt:99:17
 slice-write-numbers : tie.Need-slice-write-numbers Inv-loop μ-loop
 slice-write-numbers c = search needs
 
--- src/numbers.rt:100:17
 add-k : tie.Need-add-k Inv-loop μ-loop
 add-k c = search needs
 
--- src/numbers.rt:103:21
 add-count : tie.Need-add-count Inv-loop μ-loop
 add-count c = search needs
 
--- src/numbers.rt:95:5
 loop-less : tie.Need-loop-less Inv-loop μ-loop
 loop-less c =
     let l = c .before .before .before .before .before .before .before .before .before .before .before .before .before .loop in
@@ -102,7 +92,6 @@ loop-less c =
     let A = ahead-is (a .text .now) (l .at) (c .before .before .before .before .before .before .before .before .before .before .before .next-item .ensures) (x .1) in
     omega (arith, A .3 .on, A .3 .within)
 
--- src/numbers.rt:95:5
 loop-again : tie.Need-loop-again Inv-loop μ-loop
 loop-again c =
     let l = c .before .before .before .before .before .before .before .before .before .before .before .before .before .loop in
@@ -115,7 +104,6 @@ loop-again c =
     let m = c .before .before .before .before .before .meet in
     ((search needs, search needs, search needs, search needs, search needs, search needs), room (l .numbers) (l .k) (m .result) (c .before .before .before .before .before .before .before .before .before .before .before .before .loop-test .taken), name-new (a .text .now) (a .from) (l .list) (l .links) (l .words) (l .ways) (l .given) (l .row) (l .count) (l .k) (l .at) (l .numbers) (a .numbers .now) (a .list .now) N (x .0 .0) (x .0 .1 .0) (m .result) (x .0 .1 .1 .0) (m .last .1 .0) _ A (R .text) (m .ensures) (c .if1 .taken) (omega (arith, R .few .0, R .few .1, R .room .0, R .room .1, N .few .0, N .few .1, l .inv .0 .0, l .inv .0 .5, c .before .before .before .before .before .before .before .before .before .before .before .before .loop-test .taken)))
 
--- src/numbers.rt:95:5
 loop-less-2 : tie.Need-loop-less-2 Inv-loop μ-loop
 loop-less-2 c =
     let l = c .before .before .before .before .before .before .before .before .before .before .before .before .before .loop in
@@ -127,7 +115,6 @@ loop-less-2 c =
     let A = ahead-is (a .text .now) (l .at) (c .before .before .before .before .before .before .before .before .before .before .before .next-item .ensures) (x .1) in
     omega (arith, A .3 .on, A .3 .within)
 
--- src/numbers.rt:95:5
 loop-again-2 : tie.Need-loop-again-2 Inv-loop μ-loop
 loop-again-2 c =
     let l = c .before .before .before .before .before .before .before .before .before .before .before .before .before .loop in
@@ -140,11 +127,9 @@ loop-again-2 c =
     let m = c .before .before .before .before .before .meet in
     ((search needs, search needs, search needs, search needs, search needs, search needs), room (l .numbers) (l .k) (m .result) (c .before .before .before .before .before .before .before .before .before .before .before .before .loop-test .taken), name-known (a .text .now) (a .from) (l .list) (l .links) (l .words) (l .ways) (l .given) (l .row) (l .count) (l .k) (l .at) (l .numbers) (a .numbers .now) (a .list .now) N (x .0 .0) (x .0 .1 .0) (m .result) (x .0 .1 .1 .0) (m .last .1 .0) _ A (R .text) (m .ensures) (c .if1 .left))
 
--- src/numbers.rt:106:29
 enum-known-s-2 : tie.Need-enum-known-s-2 Inv-loop μ-loop
 enum-known-s-2 c = search needs
 
--- src/numbers.rt:107:21
 number-variable-requires : tie.Need-number-variable-requires Inv-loop μ-loop
 number-variable-requires c κs =
     let l = c .before .before .before .before .before .before .before .before .loop in
@@ -156,7 +141,6 @@ number-variable-requires c κs =
     let A = ahead-is (a .text .now) (l .at) (c .before .before .before .before .before .before .next-item .ensures) (x .1) in
     (A .1, omega (arith, A .2, A .3 .within), R .text, omega (arith, R .few .0, R .few .1, R .room .0, R .room .1, N .few .0, N .few .1, l .inv .0 .2, l .inv .0 .5), omega (arith, R .few .0, R .few .1, R .room .0, R .room .1, N .few .0, N .few .1, l .inv .0 .2), N .vars)
 
--- src/numbers.rt:108:30
 cast-numbers-2 : tie.Need-cast-numbers-2 Inv-loop μ-loop
 cast-numbers-2 c =
     let l = c .before .before .before .before .before .before .before .before .before .before .before .before .before .before .before .before .loop in
@@ -169,7 +153,6 @@ cast-numbers-2 c =
     let v = c .before .before .before .before .before .before .before .number-variable .ensures (N .vars) in
     record { fits = omega (arith, R .few .0, R .few .1, R .room .0, R .room .1, N .few .0, N .few .1, l .inv .0 .5, v .low, variable-few v, N .vars .all, c .before .before .before .before .before .before .before .before .before .before .before .before .before .before .before .loop-test .taken) }
 
--- src/numbers.rt:108:17
 mul-numbers-2 : tie.Need-mul-numbers-2 Inv-loop μ-loop
 mul-numbers-2 c =
     let l = c .before .before .before .before .before .before .before .before .before .before .before .before .before .before .before .before .loop in
@@ -182,11 +165,9 @@ mul-numbers-2 c =
     let h : l .k < 65535 = omega (arith, R .few .0, R .room .0, l .inv .0 .5, c .before .before .before .before .before .before .before .before .before .before .before .before .before .before .before .loop-test .taken) in
     record { fits = omega arith }
 
--- src/numbers.rt:108:17
 slice-write-numbers-2 : tie.Need-slice-write-numbers-2 Inv-loop μ-loop
 slice-write-numbers-2 c = search needs
 
--- src/numbers.rt:109:17
 add-k-2 : tie.Need-add-k-2 Inv-loop μ-loop
 add-k-2 c =
     let l = c .before .before .before .before .before .before .before .before .before .before .before .before .before .before .before .before .loop in
@@ -199,7 +180,6 @@ add-k-2 c =
     let h : l .k < 65535 = omega (arith, R .few .0, R .room .0, l .inv .0 .5, c .before .before .before .before .before .before .before .before .before .before .before .before .before .before .before .loop-test .taken) in
     record { fits = omega arith }
 
--- src/numbers.rt:95:5
 loop-less-3 : tie.Need-loop-less-3 Inv-loop μ-loop
 loop-less-3 c =
     let l = c .before .before .before .before .before .before .before .before .before .before .before .before .before .before .before .before .before .loop in
@@ -211,7 +191,6 @@ loop-less-3 c =
     let A = ahead-is (a .text .now) (l .at) (c .before .before .before .before .before .before .before .before .before .before .before .before .before .before .before .next-item .ensures) (x .1) in
     omega (arith, A .3 .on, A .3 .within)
 
--- src/numbers.rt:95:5
 loop-again-3 : tie.Need-loop-again-3 Inv-loop μ-loop
 loop-again-3 c =
     let l = c .before .before .before .before .before .before .before .before .before .before .before .before .before .before .before .before .before .loop in
@@ -224,11 +203,9 @@ loop-again-3 c =
     let v = c .before .before .before .before .before .before .before .before .number-variable in
     ((search needs, search needs, search needs, search needs, search needs, search needs), room (l .numbers) (l .k) (v .result .number) (c .before .before .before .before .before .before .before .before .before .before .before .before .before .before .before .before .loop-test .taken), variable-numbered (a .text .now) (a .from) (l .list) (l .links) (l .words) (l .ways) (l .given) (l .row) (l .count) (l .k) (l .at) (l .numbers) (a .numbers .now) (a .list .now) N (x .0 .0) (x .0 .1 .0) (x .0 .1 .1 .0) (v .result) A (v .ensures (N .vars)) (omega (arith, variable-few (v .ensures (N .vars)), N .vars .all, N .few .1)))
 
--- src/numbers.rt:113:27
 enum-known-v : tie.Need-enum-known-v Inv-loop μ-loop
 enum-known-v c = search needs
 
--- src/numbers.rt:114:30
 cast-numbers-3 : tie.Need-cast-numbers-3 Inv-loop μ-loop
 cast-numbers-3 c =
     let l = c .before .before .before .before .before .loop in
@@ -240,19 +217,15 @@ cast-numbers-3 c =
     let A = ahead-is (a .text .now) (l .at) (c .before .before .before .next-item .ensures) (x .1) in
     record { fits = omega (arith, A .0) }
 
--- src/numbers.rt:114:17
 mul-numbers-3 : tie.Need-mul-numbers-3 Inv-loop μ-loop
 mul-numbers-3 c = search needs
 
--- src/numbers.rt:114:17
 slice-write-numbers-3 : tie.Need-slice-write-numbers-3 Inv-loop μ-loop
 slice-write-numbers-3 c = search needs
 
--- src/numbers.rt:115:17
 add-k-3 : tie.Need-add-k-3 Inv-loop μ-loop
 add-k-3 c = search needs
 
--- src/numbers.rt:95:5
 loop-less-4 : tie.Need-loop-less-4 Inv-loop μ-loop
 loop-less-4 c =
     let l = c .before .before .before .before .before .loop in
@@ -264,7 +237,6 @@ loop-less-4 c =
     let A = ahead-is (a .text .now) (l .at) (c .before .before .before .next-item .ensures) (x .1) in
     omega (arith, A .1 .on, A .1 .within)
 
--- src/numbers.rt:95:5
 loop-again-4 : tie.Need-loop-again-4 Inv-loop μ-loop
 loop-again-4 c =
     let l = c .before .before .before .before .before .loop in
@@ -276,11 +248,9 @@ loop-again-4 c =
     let A = ahead-is (a .text .now) (l .at) (c .before .before .before .next-item .ensures) (x .1) in
     ((search needs, search needs, search needs, search needs, search needs, search needs), room (l .numbers) (l .k) (x .0 .0) (c .before .before .before .before .loop-test .taken), number-numbered (a .text .now) (a .from) (l .list) (l .links) (l .words) (l .ways) (l .given) (l .row) (l .count) (l .k) (l .at) (l .numbers) (a .numbers .now) (a .list .now) N (x .0 .0) (x .0 .1 .0) A)
 
--- src/numbers.rt:118:24
 enum-known-to : tie.Need-enum-known-to Inv-loop μ-loop
 enum-known-to c = search needs
 
--- src/numbers.rt:119:17
 clear-requires : tie.Need-clear-requires Inv-loop μ-loop
 clear-requires c κs =
     let l = c .before .before .before .before .before .before .loop in
@@ -292,7 +262,6 @@ clear-requires c κs =
     let A = ahead-is (a .text .now) (l .at) (c .before .before .before .before .next-item .ensures) (x .1) in
     omega (arith, N .vars .tree .slots, N .vars .tree .room)
 
--- src/numbers.rt:95:5
 loop-less-5 : tie.Need-loop-less-5 Inv-loop μ-loop
 loop-less-5 c =
     let l = c .before .before .before .before .before .before .before .before .before .loop in
@@ -304,7 +273,6 @@ loop-less-5 c =
     let A = ahead-is (a .text .now) (l .at) (c .before .before .before .before .before .before .before .next-item .ensures) (x .1) in
     omega (arith, A .on, A .within)
 
--- src/numbers.rt:95:5
 loop-again-5 : tie.Need-loop-again-5 Inv-loop μ-loop
 loop-again-5 c =
     let l = c .before .before .before .before .before .before .before .before .before .loop in
@@ -319,35 +287,27 @@ loop-again-5 c =
       row-numbered (a .text .now) (a .from) (l .list) (l .links) (l .words) (l .ways) (l .given) (l .row) (l .count) (l .k) (l .at) (l .numbers) (a .numbers .now) (a .list .now) N (x .0 .0) A (c .before .before .clear .ensures),
     )
 
--- src/numbers.rt:124:17
 enum-told : tie.Need-enum-told Inv-loop μ-loop
 enum-told c = search needs
 
--- src/numbers.rt:124:17
 same-length : tie.Need-same-length Inv-loop μ-loop
 same-length c = search needs
 
--- src/numbers.rt:124:17
 same-length-2 : tie.Need-same-length-2 Inv-loop μ-loop
 same-length-2 c = search needs
 
--- src/numbers.rt:124:17
 same-length-3 : tie.Need-same-length-3 Inv-loop μ-loop
 same-length-3 c = search needs
 
--- src/numbers.rt:124:17
 same-length-4 : tie.Need-same-length-4 Inv-loop μ-loop
 same-length-4 c = search needs
 
--- src/numbers.rt:124:17
 same-length-5 : tie.Need-same-length-5 Inv-loop μ-loop
 same-length-5 c = search needs
 
--- src/numbers.rt:124:17
 same-length-6 : tie.Need-same-length-6 Inv-loop μ-loop
 same-length-6 c = search needs
 
--- src/numbers.rt:124:17
 returns : tie.Need-returns Inv-loop μ-loop
 returns c =
     let l = c .before .before .before .before .loop in
@@ -355,31 +315,24 @@ returns c =
     let N = l .inv .2 in
     numbered-end (a .text .now) (a .from) (l .list) (l .links) (l .words) (l .ways) (l .given) (l .row) (l .count) (l .k) (l .at) (l .numbers) (a .numbers .now) (a .list .now) N (ahead-is (a .text .now) (l .at) (c .before .before .next-item .ensures) (c .enum-told .given .1))
 
--- src/numbers.rt:78:1
 same-length-7 : tie.Need-same-length-7 Inv-loop μ-loop
 same-length-7 c = search needs
 
--- src/numbers.rt:78:1
 same-length-8 : tie.Need-same-length-8 Inv-loop μ-loop
 same-length-8 c = search needs
 
--- src/numbers.rt:78:1
 same-length-9 : tie.Need-same-length-9 Inv-loop μ-loop
 same-length-9 c = search needs
 
--- src/numbers.rt:78:1
 same-length-10 : tie.Need-same-length-10 Inv-loop μ-loop
 same-length-10 c = search needs
 
--- src/numbers.rt:78:1
 same-length-11 : tie.Need-same-length-11 Inv-loop μ-loop
 same-length-11 c = search needs
 
--- src/numbers.rt:78:1
 same-length-12 : tie.Need-same-length-12 Inv-loop μ-loop
 same-length-12 c = search needs
 
--- src/numbers.rt:78:1
 returns-2 : tie.Need-returns-2 Inv-loop μ-loop
 returns-2 c =
     let l = c .before .loop in

@@ -12,27 +12,21 @@ use Rattle.words.proofs.numbers.number_symbols.Lts as lts
 use Rattle.symbols.proofs.begin.Reads as begin-reads
 use Rattle.words.proofs.numbers.number_all.Reads as number-all-reads
 
--- src/numbers.rt:149:9
 begin-requires : tie.Need-begin-requires
 begin-requires c κs = search needs
 
--- src/numbers.rt:151:27
 slice-aggregate-number-all : tie.Need-slice-aggregate-number-all
 slice-aggregate-number-all c = search needs
 
--- src/numbers.rt:151:39
 slice-aggregate-number-all-2 : tie.Need-slice-aggregate-number-all-2
 slice-aggregate-number-all-2 c = search needs
 
--- src/numbers.rt:151:51
 slice-aggregate-number-all-3 : tie.Need-slice-aggregate-number-all-3
 slice-aggregate-number-all-3 c = search needs
 
--- src/numbers.rt:151:62
 slice-aggregate-number-all-4 : tie.Need-slice-aggregate-number-all-4
 slice-aggregate-number-all-4 c = search needs
 
--- src/numbers.rt:150:5
 number-all-requires : tie.Need-number-all-requires
 number-all-requires c κs =
     let a = c .before .before .before .before .before .before .before .before .before .before .args in
@@ -46,15 +40,12 @@ number-all-requires c κs =
       few = (omega arith, omega arith);
     }
 
--- src/numbers.rt:133:1
 same-length : tie.Need-same-length
 same-length c = search needs
 
--- src/numbers.rt:133:1
 same-length-2 : tie.Need-same-length-2
 same-length-2 c = search needs
 
--- src/numbers.rt:133:1
 returns : tie.Need-returns
 returns c =
     let a = c .before .before .before .before .before .before .before .before .before .before .before .before .before .before .before .before .before .before .before .args in

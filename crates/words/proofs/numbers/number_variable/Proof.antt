@@ -13,45 +13,35 @@ use Rattle.words.proofs.numbers.is_fresh.Reads as is-fresh-reads
 use Rattle.words.proofs.tree.meet.Reads as meet-reads
 use Rattle.words.proofs.tree.number.Reads as number-reads
 
--- src/numbers.rt:51:8
 is-fresh-requires : tie.Need-is-fresh-requires
 is-fresh-requires c κs = search needs
 
--- src/numbers.rt:56:22
 add-t12 : tie.Need-add-t12
 add-t12 c = search needs
 
--- src/numbers.rt:52:9
 returns : tie.Need-returns
 returns c =
     let a = c .before .before .before .before .before .before .args in
     λ v. fresh-variable (a .text .now) (a .words .now) (a .ways .now) (a .given .now) (a .row) (a .start) (a .end) v (sym (c .before .is-fresh .ensures) ∙ c .if1 .taken)
 
--- src/numbers.rt:60:9
 meet-requires : tie.Need-meet-requires
 meet-requires c κs = search needs
 
--- src/numbers.rt:63:34
 mul-number : tie.Need-mul-number
 mul-number c = search needs
 
--- src/numbers.rt:63:34
 slice-read-number : tie.Need-slice-read-number
 slice-read-number c = search needs
 
--- src/numbers.rt:63:21
 number-requires : tie.Need-number-requires
 number-requires c κs = search needs
 
--- src/numbers.rt:62:9
 same-length : tie.Need-same-length
 same-length c = search needs
 
--- src/numbers.rt:62:9
 same-length-2 : tie.Need-same-length-2
 same-length-2 c = search needs
 
--- src/numbers.rt:62:9
 returns-2 : tie.Need-returns-2
 returns-2 c =
     let a = c .before .before .before .before .before .before .before .before .before .before .before .before .before .before .before .before .args in
@@ -59,39 +49,30 @@ returns-2 c =
     λ v. subst (λ (n : ℕ). VariableIs (a .text .now) (v .places) (place (a .start) (a .end)) (m .last .1 .0) (m .last .1 .1 .0) (a .given .now) (record { number = n; row = a .row }))
     (sym (c .number .ensures)) (old-variable (a .text .now) (a .words .now) (a .ways .now) (a .given .now) (a .row) (a .start) (a .end) v (sym (c .before .before .before .before .before .before .before .before .before .before .before .is-fresh .ensures) ∙ c .before .before .before .before .before .before .before .before .before .before .if1 .left) (m .ensures) (omega arith))
 
--- src/numbers.rt:67:20
 cast-given : tie.Need-cast-given
 cast-given c = search needs
 
--- src/numbers.rt:67:5
 mul-given : tie.Need-mul-given
 mul-given c = search needs
 
--- src/numbers.rt:67:5
 slice-write-given : tie.Need-slice-write-given
 slice-write-given c = search needs
 
--- src/numbers.rt:71:20
 add-t24 : tie.Need-add-t24
 add-t24 c = search needs
 
--- src/numbers.rt:72:18
 add-t26 : tie.Need-add-t26
 add-t26 c = search needs
 
--- src/numbers.rt:37:1
 same-length-3 : tie.Need-same-length-3
 same-length-3 c = search needs
 
--- src/numbers.rt:37:1
 same-length-4 : tie.Need-same-length-4
 same-length-4 c = search needs
 
--- src/numbers.rt:37:1
 same-length-5 : tie.Need-same-length-5
 same-length-5 c = search needs
 
--- src/numbers.rt:37:1
 returns-3 : tie.Need-returns-3
 returns-3 c =
     let a = c .before .before .before .before .before .before .before .before .before .before .before .before .before .before .args in

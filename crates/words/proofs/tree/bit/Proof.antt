@@ -9,33 +9,26 @@ use Rattle.words.proofs.tree.bit.Reads as reads
 use Rattle.words.proofs.tree.bit.Lts as lts
 use Rattle.words.proofs.tree.wide.Reads as wide-reads
 
--- src/tree.rt:36:27
 sub-wide : tie.Need-sub-wide
 sub-wide c = search needs
 
--- src/tree.rt:36:27
 sub-wide-2 : tie.Need-sub-wide-2
 sub-wide-2 c = search needs
 
--- src/tree.rt:36:22
 shared-slice-read-wide : tie.Need-shared-slice-read-wide
 shared-slice-read-wide c = search needs
 
--- src/tree.rt:36:13
 wide-requires : tie.Need-wide-requires
 wide-requires c κs = search needs
 
--- src/tree.rt:38:10
 shr-result : tie.Need-shr-result
 shr-result c = search needs
 
--- src/tree.rt:30:1
 returns : tie.Need-returns
 returns c =
     let a = c .before .before .before .before .args in
     (ap (λ (x : ℕ). x / 2 ^ (a .d % 8) % 2) (c .wide .ensures) ∙ sym (bit-at (a .word .now) (a .d) (omega arith)), omega arith)
 
--- src/tree.rt:30:1
 returns-2 : tie.Need-returns-2
 returns-2 c =
     let a = c .before .before .args in

@@ -15,41 +15,32 @@ Inv-loop links₀ count s₀ links s = (s ≤ 2 * count + 1) × ClearedTo links�
 abbrev μ-loop : tie.MeasureT-loop
 μ-loop links₀ count s₀ links s = 2 * count + 1 - s
 
--- src/tree.rt:104:5
 loop-holds : tie.Need-loop-holds Inv-loop μ-loop
 loop-holds c = (omega arith, none-cleared (c .args .links .now))
 
--- src/tree.rt:104:16
 mul-loop : tie.Need-mul-loop Inv-loop μ-loop
 mul-loop c = search needs
 
--- src/tree.rt:105:9
 mul-links : tie.Need-mul-links Inv-loop μ-loop
 mul-links c = search needs
 
--- src/tree.rt:105:9
 slice-write-links : tie.Need-slice-write-links Inv-loop μ-loop
 slice-write-links c = search needs
 
--- src/tree.rt:106:9
 add-s : tie.Need-add-s Inv-loop μ-loop
 add-s c = search needs
 
--- src/tree.rt:104:5
 loop-less : tie.Need-loop-less Inv-loop μ-loop
 loop-less c = search needs
 
--- src/tree.rt:104:5
 loop-again : tie.Need-loop-again Inv-loop μ-loop
 loop-again c =
     let l = c .before .loop in
     (omega arith, one-cleared (c .before .before .args .links .now) (l .links) (l .s) (omega arith) (l .inv .1))
 
--- src/tree.rt:99:1
 same-length : tie.Need-same-length Inv-loop μ-loop
 same-length c = search needs
 
--- src/tree.rt:99:1
 returns : tie.Need-returns Inv-loop μ-loop
 returns c =
     let l = c .before .loop in

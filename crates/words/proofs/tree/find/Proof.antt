@@ -28,7 +28,6 @@ lt n e h = omega arith
 nonzero : {k m : ℕ} → (k ≡ 0 → ⊥) → k ≡ m → m ≡ suc (k - 1)
 nonzero n e = omega arith
 
--- src/tree.rt:78:5
 loop-holds : tie.Need-loop-holds Inv-loop μ-loop
 loop-holds c =
     let st = c .before .before .before .before in
@@ -36,7 +35,6 @@ loop-holds c =
     let w = a .word .now in
     (omega arith, omega arith, record { trail = start; ways = λ i h e. begins (a .text .now) (a .list .now) (a .links .now) (a .count) (st .pre) w i h e })
 
--- src/tree.rt:79:24
 mul-number : tie.Need-mul-number Inv-loop μ-loop
 mul-number c =
     let o = c in
@@ -46,7 +44,6 @@ mul-number c =
     let w = a .word .now in
     omega (arith, T .slots, T .room)
 
--- src/tree.rt:79:24
 shared-slice-read-number : tie.Need-shared-slice-read-number Inv-loop μ-loop
 shared-slice-read-number c =
     let o = c .before in
@@ -56,11 +53,9 @@ shared-slice-read-number c =
     let w = a .word .now in
     omega (arith, T .slots, T .room)
 
--- src/tree.rt:79:13
 number-requires : tie.Need-number-requires Inv-loop μ-loop
 number-requires c κs = search needs
 
--- src/tree.rt:81:13
 returns : tie.Need-returns Inv-loop μ-loop
 returns c =
     let o = c .before .before .before in
@@ -76,11 +71,9 @@ returns c =
       free = z;
     }
 
--- src/tree.rt:83:17
 sub-j : tie.Need-sub-j Inv-loop μ-loop
 sub-j c = search needs
 
--- src/tree.rt:84:26
 mul-is-word : tie.Need-mul-is-word Inv-loop μ-loop
 mul-is-word c =
     let o = c .before .before .before in
@@ -90,7 +83,6 @@ mul-is-word c =
     let w = a .word .now in
     omega (arith, T .slots, T .room, T .lead (o .loop .slot), c .before .number .ensures)
 
--- src/tree.rt:84:26
 shared-slice-read-is-word : tie.Need-shared-slice-read-is-word Inv-loop μ-loop
 shared-slice-read-is-word c =
     let o = c .before .before .before .before in
@@ -100,7 +92,6 @@ shared-slice-read-is-word c =
     let w = a .word .now in
     omega (arith, T .slots, T .room, T .lead (o .loop .slot), c .before .before .number .ensures, c .before .if1 .left)
 
--- src/tree.rt:84:12
 is-word-requires : tie.Need-is-word-requires Inv-loop μ-loop
 is-word-requires c κs =
     let o = c .before .before .before .before in
@@ -110,7 +101,6 @@ is-word-requires c κs =
     let w = a .word .now in
     T .fits (c .before .before .number .result - 1) (lt (c .before .if1 .left) (c .before .before .number .ensures) (T .lead (o .loop .slot)))
 
--- src/tree.rt:85:13
 returns-2 : tie.Need-returns-2 Inv-loop μ-loop
 returns-2 c =
     let o = c .before .before .before .before .before .before in
@@ -123,7 +113,6 @@ returns-2 c =
       sym (same-eq w (wordOf (a .text .now) (getD (a .list .now) (k .result - 1) 0)) (sym (c .before .is-word .ensures) ∙ c .if2 .taken)),
     )
 
--- src/tree.rt:87:20
 mul-slot : tie.Need-mul-slot Inv-loop μ-loop
 mul-slot c =
     let o = c .before .before .before .before .before .before in
@@ -133,7 +122,6 @@ mul-slot c =
     let w = a .word .now in
     omega (arith, T .slots, T .room, T .lead (o .loop .slot), c .before .before .before .before .number .ensures)
 
--- src/tree.rt:87:16
 add-slot : tie.Need-add-slot Inv-loop μ-loop
 add-slot c =
     let o = c .before .before .before .before .before .before in
@@ -143,11 +131,9 @@ add-slot c =
     let w = a .word .now in
     omega (arith, T .slots, T .room, T .lead (o .loop .slot), c .before .before .before .before .number .ensures)
 
--- src/tree.rt:87:28
 bit-requires : tie.Need-bit-requires Inv-loop μ-loop
 bit-requires c κs = search needs
 
--- src/tree.rt:87:16
 add-slot-2 : tie.Need-add-slot-2 Inv-loop μ-loop
 add-slot-2 c =
     let o = c .before .before .before .before .before .before .before in
@@ -157,7 +143,6 @@ add-slot-2 c =
     let w = a .word .now in
     omega (arith, T .slots, T .room, T .lead (o .loop .slot), c .before .before .before .before .before .number .ensures)
 
--- src/tree.rt:88:9
 add-d : tie.Need-add-d Inv-loop μ-loop
 add-d c =
     let o = c .before .before .before .before .before .before .before in
@@ -167,7 +152,6 @@ add-d c =
     let w = a .word .now in
     omega (arith, T .slots, T .room)
 
--- src/tree.rt:78:5
 loop-less : tie.Need-loop-less Inv-loop μ-loop
 loop-less c =
     let o = c .before .before .before .before .before .before .before in
@@ -179,7 +163,6 @@ loop-less c =
     let z = nonzero (c .before .before .before .before .if1 .left) (k .ensures) in
     omega (arith, trail-later (a .text .now) (a .list .now) (a .links .now) (a .count) T (k .result - 1) (o .loop .inv .2 .trail) z, T .lead (o .loop .slot), z, c .bit .ensures .1)
 
--- src/tree.rt:78:5
 loop-again : tie.Need-loop-again Inv-loop μ-loop
 loop-again c =
     let o = c .before .before .before .before .before .before .before in

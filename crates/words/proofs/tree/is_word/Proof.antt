@@ -10,35 +10,27 @@ use Rattle.words.proofs.tree.is_word.Reads as reads
 use Rattle.words.proofs.tree.is_word.Lts as lts
 use Rattle.lex.proofs.name.same_bytes.Reads as same-bytes-reads
 
--- src/tree.rt:49:17
 cast-start : tie.Need-cast-start
 cast-start c = search needs
 
--- src/tree.rt:50:17
 cast-bytes : tie.Need-cast-bytes
 cast-bytes c = search needs
 
--- src/tree.rt:51:15
 add-end : tie.Need-add-end
 add-end c = search needs
 
--- src/tree.rt:52:33
 sub-same-bytes : tie.Need-sub-same-bytes
 sub-same-bytes c = search needs
 
--- src/tree.rt:52:33
 part-same-bytes-start : tie.Need-part-same-bytes-start
 part-same-bytes-start c = search needs
 
--- src/tree.rt:52:33
 part-same-bytes-end : tie.Need-part-same-bytes-end
 part-same-bytes-end c = search needs
 
--- src/tree.rt:52:5
 same-bytes-requires : tie.Need-same-bytes-requires
 same-bytes-requires c κs = search needs
 
--- src/tree.rt:45:1
 returns : tie.Need-returns
 returns c =
     let a = c .before .before .before .before .args in

@@ -17,67 +17,51 @@ use Rattle.words.proofs.tree.find.Reads as find-reads
 abbrev part : List ℕ → ℕ → ℕ → List ℕ
 part t from to = take (to - from) (drop from t)
 
--- src/tree.rt:88:42
 sub-find : tie.Need-sub-find
 sub-find c = search needs
 
--- src/tree.rt:88:42
 part-find-start : tie.Need-part-find-start
 part-find-start c = search needs
 
--- src/tree.rt:88:42
 part-find-end : tie.Need-part-find-end
 part-find-end c = search needs
 
--- src/tree.rt:88:11
 find-requires : tie.Need-find-requires
 find-requires c κs = search needs
 
--- src/tree.rt:89:22
 enum-known-j : tie.Need-enum-known-j
 enum-known-j c = search needs
 
--- src/tree.rt:90:20
 enum-known-slot : tie.Need-enum-known-slot
 enum-known-slot c = search needs
 
--- src/tree.rt:91:29
 sub-list : tie.Need-sub-list
 sub-list c = search needs
 
--- src/tree.rt:91:28
 cast-list : tie.Need-cast-list
 cast-list c = search needs
 
--- src/tree.rt:91:27
 mul-list : tie.Need-mul-list
 mul-list c = search needs
 
--- src/tree.rt:91:61
 cast-list-2 : tie.Need-cast-list-2
 cast-list-2 c = search needs
 
--- src/tree.rt:91:27
 add-list : tie.Need-add-list
 add-list c = search needs
 
--- src/tree.rt:91:13
 mul-list-2 : tie.Need-mul-list-2
 mul-list-2 c = search needs
 
--- src/tree.rt:91:13
 slice-write-list : tie.Need-slice-write-list
 slice-write-list c = search needs
 
--- src/tree.rt:92:28
 add-links : tie.Need-add-links
 add-links c = search needs
 
--- src/tree.rt:92:27
 cast-links : tie.Need-cast-links
 cast-links c = search needs
 
--- src/tree.rt:92:13
 mul-links : tie.Need-mul-links
 mul-links c =
     let st = c .before .before .before .before .before .before .before .before .before .before in
@@ -86,7 +70,6 @@ mul-links c =
     let m = found-free (a .text .now) (a .list .now) (a .links .now) (part (a .text .now) (a .start) (a .end)) (a .count) (c .before .before .before .find .ensures) (c .before .slot .given .1) in
     omega (arith, trail-slot (a .text .now) (a .list .now) (a .links .now) (a .count) T (m .trail), T .slots, T .room)
 
--- src/tree.rt:92:13
 slice-write-links : tie.Need-slice-write-links
 slice-write-links c =
     let st = c .before .before .before .before .before .before .before .before .before .before in
@@ -95,15 +78,12 @@ slice-write-links c =
     let m = found-free (a .text .now) (a .list .now) (a .links .now) (part (a .text .now) (a .start) (a .end)) (a .count) (c .before .before .before .find .ensures) (c .before .slot .given .1) in
     omega (arith, trail-slot (a .text .now) (a .list .now) (a .links .now) (a .count) T (m .trail), T .slots, T .room)
 
--- src/tree.rt:77:1
 same-length : tie.Need-same-length
 same-length c = search needs
 
--- src/tree.rt:77:1
 same-length-2 : tie.Need-same-length-2
 same-length-2 c = search needs
 
--- src/tree.rt:77:1
 returns : tie.Need-returns
 returns c =
     let a = c .before .before .before .before .before .before .before .before .before .before .args in
@@ -111,15 +91,12 @@ returns c =
     let f = found-listed (a .text .now) (a .list .now) (a .links .now) w (a .count) (c .before .before .before .find .ensures) (c .before .j .given .1) in
     old (f .0) (f .1 ∙ part-is (a .text .now) (a .start) (a .end) (omega arith) (omega arith)) refl refl
 
--- src/tree.rt:77:1
 same-length-3 : tie.Need-same-length-3
 same-length-3 c = search needs
 
--- src/tree.rt:77:1
 same-length-4 : tie.Need-same-length-4
 same-length-4 c = search needs
 
--- src/tree.rt:77:1
 returns-2 : tie.Need-returns-2
 returns-2 c =
     let st = c .before .before .before .before .before .before .before .before .before .before in
