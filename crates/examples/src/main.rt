@@ -1,12 +1,11 @@
-// Every example of 01, marked or not, as 02's W-208 and W-209 leave them, and some of W-204 and W-209, on the functions themselves. What is
-// printed is compared with the file stdout; cells are printed as numbers.
-use answer::RunAnswer;
-use builder::BuildAnswer;
-use checker::PlanAnswer;
-use least::By;
-use libc::STDOUT_FILENO;
-use refusal::Refusal;
-use table::TableAnswer;
+// Every example of 01, marked or not, as 02's W-208 and W-209 leave them, and some of W-204, on the functions themselves. What is printed is
+// compared with the file stdout.
+use showing::ask;
+use showing::build;
+use showing::build_work;
+use showing::check;
+use showing::read;
+use showing::say;
 
 // 01's letters: names without arguments, f1 with one. The letter's place in the alphabet is its number.
 const A: u32 = 0x40000001;
@@ -36,133 +35,6 @@ const TWO: u32 = 0x80000002;
 const THREE: u32 = 0x80000003;
 
 const NINE: u32 = 0x80000009;
-
-fn say(text: &[u8]) {
-    io::write_all(STDOUT_FILENO, text);
-}
-
-fn number(n: usize) {
-    io::print_decimal(STDOUT_FILENO, n as u64);
-}
-
-fn pair(first: usize, middle: &[u8], second: usize) {
-    number(first);
-    say(middle);
-    number(second);
-}
-
-fn refused(f: Refusal) {
-    let reason = f.reason;
-    say(b"refused ");
-    pair(refusal::number_of(reason), b" at ", f.place);
-    say(b"\n");
-}
-
-fn wide(c: u32) -> usize {
-    c as usize
-}
-
-fn wide8(b: u8) -> usize {
-    b as usize
-}
-
-// Some cells, or some bytes.
-fn cells(xs: &[u32]) {
-    let mut i = 0;
-    while i < xs.len() {
-        say(b" ");
-        number(wide(xs[i]));
-        i += 1;
-    }
-    say(b"\n");
-}
-
-fn bytes(xs: &[u8]) {
-    let mut i = 0;
-    while i < xs.len() {
-        say(b" ");
-        number(wide8(xs[i]));
-        i += 1;
-    }
-    say(b"\n");
-}
-
-// A table's reading.
-fn read(table: &[u32]) {
-    let answer = table::read_table(table).answer;
-    match answer {
-        TableAnswer::Accepted(width, rows) => {
-            say(b"accepted: width ");
-            pair(width, b", rows ", rows);
-            say(b"\n");
-        }
-        TableAnswer::Refused(f) => refused(f),
-    }
-}
-
-// The builder's plan by 01's measure, and by the work with a figure.
-fn build(table: &[u32]) {
-    let mut room = [0u32; 128];
-    build_into(By::Branches, table, &mut room);
-}
-
-fn build_work(figure: u32, table: &[u32]) {
-    let mut room = [0u32; 128];
-    say(b"figure ");
-    number(wide(figure));
-    say(b" ");
-    build_into(By::Work(figure), table, &mut room);
-}
-
-fn build_into(by: By, table: &[u32], room: &mut [u32]) {
-    match builder::build_plan(by, table, room) {
-        BuildAnswer::Built(n, cost) => {
-            say(b"cost ");
-            number(cost);
-            say(b", plan");
-            cells(&room[..n]);
-        }
-        BuildAnswer::Refused(f) => refused(f),
-    }
-}
-
-// The check of a plan that is handed in.
-fn check(table: &[u32], plan: &[u32]) {
-    match checker::check_plan(table, plan) {
-        PlanAnswer::Accepted(branches) => {
-            say(b"accepted: branches ");
-            number(branches);
-            say(b"\n");
-        }
-        PlanAnswer::Refused(f) => refused(f),
-    }
-}
-
-// The builder's plan run on a goal.
-fn ask(table: &[u32], goal: &[u32]) {
-    let mut room = [0u32; 128];
-    let mut hits = [255u8; 64];
-    ask_with(table, goal, &mut room, &mut hits);
-}
-
-fn ask_with(table: &[u32], goal: &[u32], room: &mut [u32], hits: &mut [u8]) {
-    match builder::build_plan(By::Branches, table, room) {
-        BuildAnswer::Built(n, _) => ask_plan(table, &room[..n], goal, hits),
-        BuildAnswer::Refused(f) => refused(f),
-    }
-}
-
-fn ask_plan(table: &[u32], plan: &[u32], goal: &[u32], hits: &mut [u8]) {
-    match run::run_plan(table, plan, goal, hits) {
-        RunAnswer::Ran(n, tried) => {
-            say(b"tried ");
-            number(tried);
-            say(b", rows");
-            bytes(&hits[..n]);
-        }
-        RunAnswer::Refused(f) => refused(f),
-    }
-}
 
 fn marked() {
     say(b"P1 ");
@@ -306,97 +178,8 @@ fn work() {
     build_work(16, &[]);
 }
 
-// What the least plan costs: by 01's measure, and by the work with the figures 0 and 3.
-fn costs(table: &[u32]) {
-    say(b"costs");
-    cost(By::Branches, table);
-    cost(By::Work(0), table);
-    cost(By::Work(3), table);
-    say(b"\n");
-}
-
-fn cost(by: By, table: &[u32]) {
-    let mut room = [0u32; 128];
-    match builder::build_plan(by, table, &mut room) {
-        BuildAnswer::Built(_, n) => {
-            say(b" ");
-            number(n);
-        }
-        BuildAnswer::Refused(f) => refused(f),
-    }
-}
-
-// 02, W-209: rows that use a variable twice, and goals below each table.
-fn alone() {
-    let same = [2, 1, 0, 0];
-    say(b"(v0,v0) ");
-    costs(&same);
-    say(b"  (a,b) ");
-    ask(&same, &[A, B]);
-    say(b"  (a,v0) ");
-    ask(&same, &[A, 0]);
-    say(b"  (v0,f1(v0)) ");
-    ask(&same, &[0, F1, 0]);
-    let three = [3, 1, 0, 0, 0];
-    say(b"(v0,v0,v0) ");
-    costs(&three);
-    say(b"  (a,v0,b) ");
-    ask(&three, &[A, 0, B]);
-    let inside = [2, 1, 0, F1, 0];
-    say(b"(v0,f1(v0)) ");
-    costs(&inside);
-    say(b"  (v0,v0) ");
-    ask(&inside, &[0, 0]);
-    let both = [3, 1, 0, 1, G2, 0, 1];
-    say(b"(v0,v1,g2(v0,v1)) ");
-    costs(&both);
-    say(b"  (v0,f1(v0),v1) ");
-    ask(&both, &[0, F1, 0, 1]);
-    let chain = [4, 1, F1, 0, 0, F1, 1, 1];
-    say(b"(f1(v0),v0,f1(v1),v1) ");
-    costs(&chain);
-    say(b"  (v0,v1,v0,v1) ");
-    ask(&chain, &[0, 1, 0, 1]);
-}
-
-// And beside others.
-fn beside() {
-    let equal = [2, 2, 0, 0, 0, 0];
-    say(b"(v0,v0) (v0,v0) ");
-    costs(&equal);
-    say(b"  (v0,v1) ");
-    ask(&equal, &[0, 1]);
-    let other = [2, 2, 0, 0, 0, 1];
-    say(b"(v0,v0) (v0,v1) ");
-    costs(&other);
-    say(b"  (a,b) ");
-    ask(&other, &[A, B]);
-    let after = [2, 2, A, 0, 0, 0];
-    say(b"(a,v0) (v0,v0) ");
-    costs(&after);
-    say(b"  (v0,v0) ");
-    ask(&after, &[0, 0]);
-    let shared = [3, 2, A, 0, 0, A, B, 0];
-    say(b"(a,v0,v0) (a,b,v0) ");
-    costs(&shared);
-    say(b"  (a,b,c) ");
-    ask(&shared, &[A, B, C]);
-    let deep = [2, 2, F1, 0, 0, F1, A, A];
-    say(b"(f1(v0),v0) (f1(a),a) ");
-    costs(&deep);
-    say(b"  (f1(v0),v0) ");
-    ask(&deep, &[F1, 0, 0]);
-    let apart = [3, 2, A, 0, 0, B, 0, 0];
-    say(b"(a,v0,v0) (b,v0,v0) ");
-    costs(&apart);
-    say(b"  (b,a,v0) ");
-    ask(&apart, &[B, A, 0]);
-}
-
 fn main() {
     marked();
     unmarked();
     work();
-    alone();
-    beside();
 }

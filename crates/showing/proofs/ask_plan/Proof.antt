@@ -1,11 +1,11 @@
 use Prim.Native.Nat.{_≤_}
 use lib.ListN.{length}
-use Rattle.examples.proofs.Fits.{ran-fits}
+use Rattle.showing.proofs.Fits.{ran-fits}
 use mathlib.Core.Path.{sym}
 use lib.Seq.{length-take-le}
 use borrow.Author.Needs.{needs}
-use Rattle.examples.proofs.ask_plan.Statement.{statement}
-use Rattle.examples.proofs.ask_plan.Tie as tie
+use Rattle.showing.proofs.ask_plan.Statement.{statement}
+use Rattle.showing.proofs.ask_plan.Tie as tie
 
 -- the hits fit the room
 fits : (c : tie.After-n) → c .n .given .0 .0 ≤ length (c .before .before .before .before .run-plan .last .1 .1 .1 .0)

@@ -1,8 +1,8 @@
 use Prim.Native.Nat.{_≤_, _-_}
 use lib.ListN.{length}
 use borrow.Author.Needs.{needs}
-use Rattle.examples.proofs.cells.Statement.{statement}
-use Rattle.examples.proofs.cells.Tie as tie
+use Rattle.showing.proofs.bytes.Statement.{statement}
+use Rattle.showing.proofs.bytes.Tie as tie
 
 abbrev Inv-loop : tie.InvT-loop
 Inv-loop xs i₀ t3 t4 i = i ≤ length xs
@@ -19,14 +19,11 @@ slice-aggregate-say c = search needs
 say-requires : tie.Need-say-requires Inv-loop μ-loop
 say-requires c κs = search needs
 
-mul-wide : tie.Need-mul-wide Inv-loop μ-loop
-mul-wide c = search needs
+shared-slice-read-wide8 : tie.Need-shared-slice-read-wide8 Inv-loop μ-loop
+shared-slice-read-wide8 c = search needs
 
-shared-slice-read-wide : tie.Need-shared-slice-read-wide Inv-loop μ-loop
-shared-slice-read-wide c = search needs
-
-wide-requires : tie.Need-wide-requires Inv-loop μ-loop
-wide-requires c κs = search needs
+wide8-requires : tie.Need-wide8-requires Inv-loop μ-loop
+wide8-requires c κs = search needs
 
 number-requires : tie.Need-number-requires Inv-loop μ-loop
 number-requires c κs = search needs
@@ -49,8 +46,8 @@ say-requires-2 c κs = search needs
 returns : tie.Need-returns Inv-loop μ-loop
 returns c = search needs
 
-pub cells-spec : {M : Type 1} → statement M
-cells-spec =
+pub bytes-spec : {M : Type 1} → statement M
+bytes-spec =
     tie.close
     (tie.spec
     Inv-loop
@@ -58,9 +55,8 @@ cells-spec =
     loop-holds
     slice-aggregate-say
     say-requires
-    mul-wide
-    shared-slice-read-wide
-    wide-requires
+    shared-slice-read-wide8
+    wide8-requires
     number-requires
     add-i
     loop-less
