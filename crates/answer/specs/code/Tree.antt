@@ -50,7 +50,9 @@ unfoldable mutual
   pub triedIn : {k : ℕ} {gs : List Run} → Branches k gs → (i m : ℕ) (R : List ℕ) → ℕ
   triedIn end i m R = 0
   triedIn (next {k} {g = g} p bs) i m R =
-      cond (flag g) (triedOn R (replicate (suc k) hole ∷ skeletons p (decide i (g .cell) (replicate (suc k) hole)))) (suc (under 0 (after (var m) i (g .cell) R) (λ R′. tried p (m + arity (g .cell)) R′)))
+      cond (flag g)
+      (triedOn R (replicate (suc k) hole ∷ skeletons p (decide i (g .cell) (replicate (suc k) hole))))
+      (suc (under 0 (after (var m) i (g .cell) R) (λ R′. tried p (m + arity (g .cell)) R′)))
       + triedIn bs i m R
 
 -- a state's rows have at most n cells left: what is open below a branch is less than that

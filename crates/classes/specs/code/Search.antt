@@ -27,7 +27,8 @@ pub record Fewer (mark mark′ : List ℕ) : Type 0 where
 
 -- every solution makes the term at r shorter than at each node on the way down to it
 pub record Under (bs ns sib rep mark : List ℕ) (r : ℕ) : Type 0 where
-  pub shorter : (own τ : ℕ → List ℕ) → Fair (nodes own bs ns sib) → Solves (nodes own bs ns sib) rep τ → (g : ℕ) → getD mark g 0 ≡ 1 → length (inst τ (own r)) < length (inst τ (own g))
+  pub shorter : (own τ : ℕ → List ℕ) → Fair (nodes own bs ns sib) → Solves (nodes own bs ns sib) rep τ → (g : ℕ) → getD mark g 0 ≡ 1
+      → length (inst τ (own r)) < length (inst τ (own g))
 
 -- marks of the three sorts, and what is marked finite is
 pub record Marks (bs ns sib rep mark : List ℕ) : Type 0 where
