@@ -231,5 +231,6 @@ pub fn byte_of(text: &[u8], f: Refusal) -> usize {
         Input::Plan => 0,
         Input::Lent => 0,
         Input::Figure => 0,
+        Input::Names => 0,
     }
 }

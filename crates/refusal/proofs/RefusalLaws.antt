@@ -10,7 +10,7 @@ use lib.Dec.{eqb}
 use Rattle.refusal.specs.declared.Reason.{Reason}
 use Rattle.refusal.specs.declared.Reason.the-variants.{Length, Width, Count, Long, Short, Cell, Fresh}
 use Rattle.refusal.specs.declared.Reason.the-variants.{Extra, Size, Ends, Open, Edges, Label, Rows, Room}
-use Rattle.refusal.specs.declared.Reason.the-variants.{Bytes, Text, Other, Figure, Full, Last, Index, Same, Big}
+use Rattle.refusal.specs.declared.Reason.the-variants.{Bytes, Text, Other, Figure, Full, Last, Index, Same, Big, Names}
 use Rattle.refusal.specs.declared.Input.{Input}
 use Rattle.refusal.specs.declared.Input.the-variants.{Table, Plan, Goal, Lent}
 use Rattle.refusal.specs.declared.Input.the-variants as input
@@ -48,6 +48,7 @@ reasons =
     ∷ Index
     ∷ Same
     ∷ Big
+    ∷ Names
     ∷ []
 
 reasonAt : ℕ → Reason
@@ -79,9 +80,10 @@ reason-found Last = (refl, omega arith, omega arith)
 reason-found Index = (refl, omega arith, omega arith)
 reason-found Same = (refl, omega arith, omega arith)
 reason-found Big = (refl, omega arith, omega arith)
+reason-found Names = (refl, omega arith, omega arith)
 
 inputs : List Input
-inputs = Table ∷ Plan ∷ Goal ∷ Lent ∷ input.Text ∷ input.Figure ∷ []
+inputs = Table ∷ Plan ∷ Goal ∷ Lent ∷ input.Text ∷ input.Figure ∷ input.Names ∷ []
 
 inputAt : ℕ → Input
 inputAt = firstWith inputOf Table inputs
@@ -94,6 +96,7 @@ input-found Goal = (refl, omega arith)
 input-found Lent = (refl, omega arith)
 input-found input.Text = (refl, omega arith)
 input-found input.Figure = (refl, omega arith)
+input-found input.Names = (refl, omega arith)
 
 -- so refusals that tell the same are the same
 found : Refused → Refusal

@@ -3,13 +3,13 @@ use Prim.Native.Nat.{ℕ}
 use Rattle.refusal.specs.declared.Reason.{Reason}
 use Rattle.refusal.specs.declared.Reason.the-variants.{Length, Width, Count, Long, Short, Cell, Fresh}
 use Rattle.refusal.specs.declared.Reason.the-variants.{Extra, Size, Ends, Open, Edges, Label, Rows, Room}
-use Rattle.refusal.specs.declared.Reason.the-variants.{Bytes, Text, Other, Figure, Full, Last, Index, Same, Big}
+use Rattle.refusal.specs.declared.Reason.the-variants.{Bytes, Text, Other, Figure, Full, Last, Index, Same, Big, Names}
 use Rattle.refusal.specs.declared.Input.{Input}
 use Rattle.refusal.specs.declared.Input.the-variants.{Table, Plan, Goal, Lent}
 use Rattle.refusal.specs.declared.Input.the-variants as input
 use Rattle.refusal.specs.declared.Refusal.{Refusal}
 
--- 01, the column "no." of the table of refusals, and those of 02 after them: W-201's, W-204's, W-207's, W-208's and W-209's.
+-- 01, the column "no." of the table of refusals, and those of 02 after them: W-201's, W-204's, W-207's, W-208's, W-209's and W-210's.
 -- W-209, "TWICE is never given again": 8 is no reason's number
 abbrev pub numberOf : Reason → ℕ
 numberOf Length = 1
@@ -36,8 +36,9 @@ numberOf Last = 22
 numberOf Index = 23
 numberOf Same = 24
 numberOf Big = 25
+numberOf Names = 26
 
--- 01, "which input it concerns (table, plan, goal or lent room)", in that order, and then a text and a figure (02, W-201 and W-204)
+-- 01, "which input it concerns (table, plan, goal or lent room)", in that order, and then a text, a figure and a list of names (02, W-201, W-204 and W-210)
 abbrev pub inputOf : Input → ℕ
 inputOf Table = 1
 inputOf Plan = 2
@@ -45,6 +46,7 @@ inputOf Goal = 3
 inputOf Lent = 4
 inputOf input.Text = 5
 inputOf input.Figure = 6
+inputOf input.Names = 7
 
 -- 01, "A refusal returns its number, which input it concerns and a place"
 pub record Refused : Type 0 where

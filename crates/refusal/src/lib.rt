@@ -4,7 +4,7 @@ ghost use Prim.Native.Nat.{_<_, _^_};
 ghost use Rattle.refusal.specs.Refusal.{numberOf, inputOf};
 
 // 01, "What is turned away", and 02, W-201, "BYTES; TEXT; OTHER", W-204, "FIGURE", W-207, "FULL .. LAST .. INDEX",
-// W-208, "SAME", W-209, "BIG": the names, in the order of their numbers. "TWICE is never given
+// W-208, "SAME", W-209, "BIG", W-210, "NAMES": the names, in the order of their numbers. "TWICE is never given
 // again" (W-209): 8 is no reason's number.
 pub enum Reason {
     Length,
@@ -31,9 +31,10 @@ pub enum Reason {
     Index,
     Same,
     Big,
+    Names,
 }
 
-// 01, "which input it concerns (table, plan, goal or lent room)"; or a text (02, W-201), or a figure (W-204).
+// 01, "which input it concerns (table, plan, goal or lent room)"; or a text (02, W-201), a figure (W-204), or a list of names (W-210).
 pub enum Input {
     Table,
     Plan,
@@ -41,6 +42,7 @@ pub enum Input {
     Lent,
     Text,
     Figure,
+    Names,
 }
 
 // What a refusal returns: its reason, by which it has 01's number, the input that it concerns, and a place.
@@ -80,6 +82,7 @@ pub fn number_of(reason: Reason) -> usize
         Reason::Index => 23,
         Reason::Same => 24,
         Reason::Big => 25,
+        Reason::Names => 26,
     }
 }
 
@@ -94,5 +97,6 @@ pub fn input_of(input: Input) -> usize
         Input::Lent => 4,
         Input::Text => 5,
         Input::Figure => 6,
+        Input::Names => 7,
     }
 }
