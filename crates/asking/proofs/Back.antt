@@ -36,7 +36,7 @@ use Rattle.asking.proofs.SayLaws.{Spells, none, a-name, a-variable, a-n
 use Rattle.asking.proofs.SayLaws.{Good, good-variable, good-name, good-number, Goods}
 
 -- THE VARIABLES MET: the words of 0 up to a number
-abbrev met : ℕ → Words
+abbrev pub met : ℕ → Words
 met zero = []
 met (suc n) = met n ++ (variableWord n ∷ [])
 
@@ -65,7 +65,7 @@ met-new (suc n) k h j i = by (nth-added (met n) i) (met-new n k (omega arith) j)
     by (inr e) f = omega (arith, variable-one (e .1))
 
 -- THE CELLS are those of a row by the same words, and no name is new
-abbrev Apart : Words → Type 0
+abbrev pub Apart : Words → Type 0
 Apart words = (j k : ℕ) (w : List ℕ) → Nth words j w → Nth words k w → j ≡ k
 
 module _ (t : List ℕ) (words : Words) where
@@ -84,7 +84,7 @@ module _ (t : List ℕ) (words : Words) where
   first-there : {k : ℕ} {w : List ℕ} → Apart words → Nth words k w → First words k w
   first-there {k} {w} a h = record { there = h; least = λ j g. omega (arith, a j k w g h) }
 
-  spelt-row : {ss : List Symbol} {cs : List ℕ} (vars p v : ℕ) → Apart words → Spells t words ss cs → cellsFrom false cs vars p ≡ read v
+  pub spelt-row : {ss : List Symbol} {cs : List ℕ} (vars p v : ℕ) → Apart words → Spells t words ss cs → cellsFrom false cs vars p ≡ read v
       → Row t words (met vars) ss cs
   unfolding cellsFrom
   spelt-row vars p v apart none e = numbering.none
@@ -109,7 +109,7 @@ module _ (t : List ℕ) (words : Words) where
   spelt-firsts (a-number l x) = numbering.a-number (spelt-firsts x)
 
 -- GOOD CELLS, one by one
-abbrev Named : Words → Type 0
+abbrev pub Named : Words → Type 0
 Named words = (k : ℕ) (w : List ℕ) → Nth words k w → IsName w
 
 name-good : (words : Words) (a k : ℕ) → a ≤ 4 → k < length words → k < 2 ^ 16 → Named words → Good words (nameCell a k)
@@ -127,7 +127,7 @@ cell-good words (cell.name {a = a} {n = k} h m) l n =
     let e : numberOf (nameCell a k) ≡ k = omega arith in
     name-good words a k h (subst (λ (j : ℕ). j < length words) e (l (omega arith))) m n
 
-cells-good : (words : Words) (xs : List ℕ) → ((c : ℕ) → List·Memᴰ c xs → Cell c)
+pub cells-good : (words : Words) (xs : List ℕ) → ((c : ℕ) → List·Memᴰ c xs → Cell c)
     → ((c : ℕ) → List·Memᴰ c xs → kindOf c ≡ 1 → numberOf c < length words) → Named words → Goods words xs
 cells-good words [] g l n = tt
 cells-good words (c ∷ xs) g l n = (

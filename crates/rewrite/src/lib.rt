@@ -11,7 +11,7 @@ ghost use Rattle.term.specs.Bind.{bind, idS};
 ghost use Rattle.octets.specs.Octets.{Put};
 ghost use Rattle.instance.specs.Rewrite.{put, place, numberAt, meetIn, numberIn};
 
-fn put_cell(out: &mut [u32], to: usize, c: u32) -> usize
+pub fn put_cell(out: &mut [u32], to: usize, c: u32) -> usize
     ensures { λ r. ⌜ Put (now (out .entry)) (now (out .exit)) to (c ∷ []) r ⌝ }
 {
     if out.len() <= to {

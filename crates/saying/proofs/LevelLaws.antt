@@ -10,6 +10,7 @@ use Rattle.cell.specs.Cell.{valuesAt, arity}
 use Rattle.grammar.specs.Numbering.{Words}
 use Rattle.asking.specs.Saying.{symbolWord, closing, owing, markAfter, owedAfter, termsText, answerText, wordsOf, predicateIn, saidIn}
 use Rattle.asking.specs.declared.Predicate.{Predicate}
+use Rattle.saying.specs.Terms.{termsSaid}
 use Rattle.saying.specs.code.Levels.{levels}
 
 -- a store above the levels
@@ -88,6 +89,16 @@ module _ (words : Words) (owed cells : List ℕ) (i : ℕ) where
   pub terms-done : length cells ≤ i → termsText words owed (drop i cells) ≡ []
   unfolding termsText
   terms-done h = rw (drop-of-length-le cells {i = i} h)
+
+-- all of them, or too many
+module _ (words : Words) (width : ℕ) (cells : List ℕ) where
+  pub terms-over : 1024 < length cells → termsSaid words width cells ≡ []
+  unfolding termsSaid
+  terms-over h = rw (lt-leb (length cells) 1024 h)
+
+  pub terms-are : length cells ≤ 1024 → termsSaid words width cells ≡ termsText words (width ∷ []) cells
+  unfolding termsSaid
+  terms-are h = rw (le-leb (length cells) 1024 h)
 
 -- THE WHOLE ANSWER
 module _ (text names goal new : List ℕ) (p : Predicate) (cells : List ℕ) where

@@ -6,6 +6,7 @@ ghost use lib.ListN.{length, getD};
 ghost use Rattle.cell.specs.Cell.{valuesAt};
 ghost use Rattle.octets.specs.Octets.{Put};
 ghost use Rattle.asking.specs.Saying.{wordsIn, wordsOf, symbolWord, saidIn};
+ghost use Rattle.saying.specs.Terms.{termsSaid};
 ghost use Rattle.saying.specs.code.Levels.{Closes, Marks};
 use asking::Predicate;
 use cell::Shape;
@@ -111,8 +112,41 @@ fn put_mark(out: &mut [u8], to: usize, owed: &mut [usize], depth: usize, args: u
     }
 }
 
-// "The answer as Prolog text in the file's own names", at the front of the room. There is an open bracket for each cell before at most, and
-// the predicate's.
+// The terms of some cells, so many of them owed in the bracket that is open, and the bracket after them. There is an open bracket for each
+// cell before at most, and that one: the counters are enough for 1,024 cells.
+pub fn put_terms(
+    out: &mut [u8],
+    to: usize,
+    text: &[u8],
+    names: &[u32],
+    goal: &[u8],
+    new: &[u32],
+    width: usize,
+    cells: &[u32],
+) -> usize
+    ensures { λ r. ⌜ Put (now (out .entry)) (now (out .exit)) to
+        (termsSaid (wordsOf (now (text .entry)) (now (names .entry)) (now (goal .entry)) (now (new .entry))) width (now (cells .entry))) r ⌝ }
+{
+    if 1024 < cells.len() {
+        return to;
+    }
+    let mut owed = [0usize; 1025];
+    owed[0] = width;
+    let mut on = to;
+    let mut depth = 1;
+    let mut i = 0;
+    while i < cells.len() {
+        let c = cells[i];
+        on = put_symbol(out, on, text, names, goal, new, c);
+        let next = put_mark(out, on, &mut owed, depth, cell::arity_of(c));
+        on = next.to;
+        depth = next.depth;
+        i += 1;
+    }
+    on
+}
+
+// "The answer as Prolog text in the file's own names", at the front of the room.
 pub fn put_answer(
     out: &mut [u8],
     text: &[u8],
@@ -128,19 +162,7 @@ pub fn put_answer(
     if 1024 < cells.len() {
         return 0;
     }
-    let mut owed = [0usize; 1025];
-    owed[0] = p.width;
-    let mut on = put_word(out, 0, parts::part(text, p.start, p.end));
-    on = put_byte(out, on, b'(');
-    let mut depth = 1;
-    let mut i = 0;
-    while i < cells.len() {
-        let c = cells[i];
-        on = put_symbol(out, on, text, names, goal, new, c);
-        let next = put_mark(out, on, &mut owed, depth, cell::arity_of(c));
-        on = next.to;
-        depth = next.depth;
-        i += 1;
-    }
-    on
+    let on = put_word(out, 0, parts::part(text, p.start, p.end));
+    let inside = put_byte(out, on, b'(');
+    put_terms(out, inside, text, names, goal, new, p.width, cells)
 }

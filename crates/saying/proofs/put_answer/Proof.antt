@@ -1,132 +1,56 @@
-use Prim.Native.Nat.{ℕ, _+_, _-_, _≤_}
-use mathlib.Core.Path.{_≡_}
-use mathlib.Core.List.{List}
 use native.Mathlib.Omega.{arith}
-use lib.ListN.{length, drop}
-use Rattle.octets.proofs.PutLaws.{Putting, put-begins, put-nothing, put-part, put-ends, put-put, put-length}
-use Rattle.asking.specs.Saying.{wordsOf, termsText}
-use Rattle.saying.specs.code.Levels.{levels}
-use Rattle.saying.proofs.LevelLaws.{terms-next, terms-done, said-over, said-is}
+use Rattle.asking.specs.Saying.{wordsOf}
+use Rattle.octets.proofs.PutLaws.{put-nothing, put-put}
+use Rattle.saying.proofs.LevelLaws.{said-over, said-is, terms-are}
 use borrow.Author.Needs.{needs}
 use Rattle.saying.proofs.put_answer.Statement.{statement}
 use Rattle.saying.proofs.put_answer.Tie as tie
 use Rattle.saying.proofs.put_answer.Reads as reads
 use Rattle.saying.proofs.put_answer.Lts as lts
-use Rattle.cell.proofs.arity_of.Reads as arity-of-reads
 use Rattle.octets.proofs.put_byte.Reads as put-byte-reads
 use Rattle.octets.proofs.put_word.Reads as put-word-reads
 use Rattle.parts.proofs.part.Reads as part-reads
-use Rattle.saying.proofs.put_mark.Reads as put-mark-reads
-use Rattle.saying.proofs.put_symbol.Reads as put-symbol-reads
+use Rattle.saying.proofs.put_terms.Reads as put-terms-reads
 
--- the text of the cells from one on
-abbrev rest : (text names goal new owed : List ℕ) (depth i : ℕ) (cells : List ℕ) → List ℕ
-rest text names goal new owed depth i cells = termsText (wordsOf text names goal new) (levels owed depth) (drop i cells)
-
-abbrev Inv-loop : tie.InvT-loop
-Inv-loop out₀ text names goal new cells owed₀ on₀ depth₀ i₀ out owed on depth i =
-    (i ≤ length cells) × (depth ≤ i + 1) × (length owed ≡ 1025)
-    × Putting out₀ out on₀ on (rest text names goal new owed depth i cells) (rest text names goal new owed₀ depth₀ 0 cells)
-
-abbrev μ-loop : tie.MeasureT-loop
-μ-loop out₀ text names goal new cells owed₀ on₀ depth₀ i₀ out owed on depth i = length cells - i
-
-returns : tie.Need-returns Inv-loop μ-loop
+returns : tie.Need-returns
 returns c =
     let a = c .before .before .before .before .before .before .before .args in
     rw (said-over (a .text .now) (a .names .now) (a .goal .now) (a .new .now) (a .p) (a .cells .now) (omega arith)) put-nothing
 
-array-write-owed : tie.Need-array-write-owed Inv-loop μ-loop
-array-write-owed c = search needs
-
-part-requires : tie.Need-part-requires Inv-loop μ-loop
+part-requires : tie.Need-part-requires
 part-requires c κs = search needs
 
-put-word-requires : tie.Need-put-word-requires Inv-loop μ-loop
+put-word-requires : tie.Need-put-word-requires
 put-word-requires c κs = search needs
 
-put-byte-requires : tie.Need-put-byte-requires Inv-loop μ-loop
+put-byte-requires : tie.Need-put-byte-requires
 put-byte-requires c κs = search needs
 
-loop-holds : tie.Need-loop-holds Inv-loop μ-loop
-loop-holds c = (omega arith, omega arith, search needs, put-begins)
+put-terms-requires : tie.Need-put-terms-requires
+put-terms-requires c κs = search needs
 
-mul-c : tie.Need-mul-c Inv-loop μ-loop
-mul-c c = search needs
+same-length : tie.Need-same-length
+same-length c = search needs
 
-shared-slice-read-c : tie.Need-shared-slice-read-c Inv-loop μ-loop
-shared-slice-read-c c = search needs
-
-put-symbol-requires : tie.Need-put-symbol-requires Inv-loop μ-loop
-put-symbol-requires c κs = search needs
-
-slice-aggregate-put-mark : tie.Need-slice-aggregate-put-mark Inv-loop μ-loop
-slice-aggregate-put-mark c = search needs
-
-arity-of-requires : tie.Need-arity-of-requires Inv-loop μ-loop
-arity-of-requires c κs = search needs
-
-put-mark-requires : tie.Need-put-mark-requires Inv-loop μ-loop
-put-mark-requires c κs = search needs
-
-add-i : tie.Need-add-i Inv-loop μ-loop
-add-i c = search needs
-
-loop-less : tie.Need-loop-less Inv-loop μ-loop
-loop-less c = search needs
-
-loop-again : tie.Need-loop-again Inv-loop μ-loop
-loop-again c =
-    let m = c .before .before .before in
-    let s = m .before .before .before .before .before .before in
-    let l = s .before .before .before .before .loop in
-    let q = s .before .before .before .before .before .before .before .before .before .before in
-    let a = q .before .before .before .before .before .before .before .before .before .before .before .args in
-    let words = wordsOf (a .text .now) (a .names .now) (a .goal .now) (a .new .now) in
-    let k = m .put-mark .ensures in
-    let arity = m .before .arity-of .ensures in
-    let next = terms-next words (levels (l .owed) (l .depth)) (a .cells .now) (l .i) (omega arith) in
-    let here = put-part (rw next at (l .inv .3)) (s .put-symbol .ensures) in
-    (omega arith, omega (arith, k .few), search needs, rw (k .still, arity) (put-part here (rw arity at (k .puts))))
-
-same-length : tie.Need-same-length Inv-loop μ-loop
-same-length c =
-    let b = c .before .before .before .before in
-    let w = b .before .before .before .before in
-    put-length (put-put (w .put-word .ensures) (put-put (b .put-byte .ensures) (c .before .loop .inv .3 .puts)))
-
-returns-2 : tie.Need-returns-2 Inv-loop μ-loop
+returns-2 : tie.Need-returns-2
 returns-2 c =
-    let b = c .before .before .before .before in
-    let q = b .before .before .before .before in
-    let a = q .before .before .before .before .before .before .before .before .before .before .args in
-    let l = c .before .loop in
-    let words = wordsOf (a .text .now) (a .names .now) (a .goal .now) (a .new .now) in
-    let done = put-ends (rw (terms-done words (levels (l .owed) (l .depth)) (a .cells .now) (l .i) (omega arith)) at (l .inv .3)) in
+    let t = c .before .before in
+    let b = t .before .before .before .before in
+    let w = b .before .before .before .before in
+    let a = w .before .before .before .before .before .before .before .before .before .before .args in
     let is = said-is (a .text .now) (a .names .now) (a .goal .now) (a .new .now) (a .p) (a .cells .now) (omega arith) in
-    rw (is, ← q .before .part .ensures)
-    (put-put (q .put-word .ensures) (put-put (b .put-byte .ensures) done))
+    let words = wordsOf (a .text .now) (a .names .now) (a .goal .now) (a .new .now) in
+    let few = terms-are words (a .p .width) (a .cells .now) (omega arith) in
+    rw (is, ← few, ← w .before .part .ensures) (put-put (w .put-word .ensures) (put-put (b .put-byte .ensures) (t .put-terms .ensures)))
 
 pub put-answer-spec : {M : Type 1} → statement M
 put-answer-spec =
     tie.close
     (tie.spec
-    Inv-loop
-    μ-loop
     returns
-    array-write-owed
     part-requires
     put-word-requires
     put-byte-requires
-    loop-holds
-    mul-c
-    shared-slice-read-c
-    put-symbol-requires
-    slice-aggregate-put-mark
-    arity-of-requires
-    put-mark-requires
-    add-i
-    loop-less
-    loop-again
+    put-terms-requires
     same-length
     returns-2)
