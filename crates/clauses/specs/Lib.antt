@@ -1,0 +1,9 @@
+pub mod Clauses
+pub mod Answers
+pub mod Translate
+pub mod Program
+pub mod Text
+pub mod Handed
+pub mod Unlisted
+pub mod Reading
+pub mod code
