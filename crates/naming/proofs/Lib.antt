@@ -1,0 +1,3 @@
+pub mod ListLaws
+pub mod ApartLaws
+pub mod ListedLaws
