@@ -37,14 +37,18 @@ use Rattle.loading.specs.Load.{TextLoads}
 use Rattle.prolog.specs.Entry.{textTold}
 use Rattle.prolog.specs.declared.TextAnswer.{TextAnswer}
 use Rattle.prolog.proofs.Fixed.{read-text-fixed}
-use Rattle.exports.specs.Coded.{WorkCoded, EditCoded, BuildCoded, RunCoded, TextCoded, JobsCoded, RepliesCoded}
+use Rattle.exports.specs.Coded.{WorkCoded, EditCoded, BuildCoded, RunCoded, TextCoded, JobsCoded, RepliesCoded, ClausesCoded}
 use Rattle.exports.proofs.Fixed.{work-coded-fixed, edit-coded-fixed, build-coded-fixed, run-coded-fixed, text-coded-fixed, jobs-coded-fixed, replies-coded-fixed}
+use Rattle.exports.proofs.Fixed.{clauses-coded-fixed}
 use Rattle.answer.specs.declared.Job.{Job}
 use Rattle.answer.specs.Jobs.{JobsRun}
 use Rattle.run.proofs.Fixed.{run-jobs-fixed}
 use Rattle.instance.specs.declared.RepliesAnswer.{RepliesAnswer}
 use Rattle.instance.specs.Replied.{Replied}
 use Rattle.instance.proofs.Fixed.{replied-fixed}
+use Rattle.clauses.specs.declared.HandAnswer.{HandAnswer}
+use Rattle.clauses.specs.Handed as hands
+use Rattle.clauses.proofs.Fixed as clauses
 
 -- "For all inputs, refused ones too, the promise of a public function determines the result and the final contents of the lent room; the
 -- team proves that two results allowed by it are equal". The small functions of cell, term, goal and state have theirs in proofs/Fixed of
@@ -92,6 +96,10 @@ pub held-replies : {t p g room room′ room″ : List ℕ} {r s : RepliesAnswer}
     → (r ≡ s) × (room′ ≡ room″)
 held-replies = replied-fixed
 
+pub held-clauses : {t p text names room room′ room″ : List ℕ} {r s : HandAnswer} → hands.Handed t p text names room room′ r
+    → hands.Handed t p text names room room″ s → (r ≡ s) × (room′ ≡ room″)
+held-clauses = clauses.handed-fixed
+
 pub held-listing : (bytes room : List ℕ) {room′ room″ : List ℕ} {r s : ℕ} → Written (Lists bytes) room room′ r
     → Written (Lists bytes) room room″ s
     → (r ≡ s) × (room′ ≡ room″)
@@ -134,6 +142,10 @@ held-exported-jobs = jobs-coded-fixed
 pub held-exported-replies : {t p g room room′ room″ : List ℕ} {r s : ℕ} → RepliesCoded t p g room room′ r → RepliesCoded t p g room room″ s
     → (r ≡ s) × (room′ ≡ room″)
 held-exported-replies = replies-coded-fixed
+
+pub held-exported-clauses : {t p text names room room′ room″ : List ℕ} {r s : ℕ} → ClausesCoded t p text names room room′ r
+    → ClausesCoded t p text names room room″ s → (r ≡ s) × (room′ ≡ room″)
+held-exported-clauses = clauses-coded-fixed
 
 -- The number that an exported entry answers tells its answer: two answers with one code are equal. That the header's masks and shifts
 -- (`decoded`) read back what was answered is in every theorem of proofs/Demands, of each entry by crate exports, proofs/Back.

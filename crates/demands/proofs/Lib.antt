@@ -1,6 +1,7 @@
 pub mod Cited
 pub mod Demands
 pub mod Replies
+pub mod Clauses
 pub mod Twice
 pub mod Held
 pub mod Texts

@@ -41,6 +41,8 @@ use Rattle.demands.specs.Texts as texts
 use Rattle.demands.specs.Shift.{Shift, OneJob, goalIn}
 use Rattle.demands.specs.Replies.{RepliesTurned, RepliesRefused}
 use Rattle.demands.specs.Replies as replies
+use Rattle.demands.specs.Clauses.{ClausesTurned, ClausesRefused}
+use Rattle.demands.specs.Clauses as clauses
 use Rattle.demands.specs.Records.{WorkTurned, MakesRecord, EditTurned, EditsRecord}
 use Rattle.demands.specs.Records as records
 use Rattle.demands.specs.Twice.{NeverTwice}
@@ -121,6 +123,15 @@ never-replies {t} {p} {g} {room} x f e = go (x .refuses f .0 e)
     go (replies.bad-goal {width = w} i tree u q) = placed (placed-goal w g) q
     go (replies.big all i tree u h r l q) = named reason.Big (same q)
     go (replies.bad-room all i tree u h r s l q) = named reason.Room (same q)
+
+pub never-clauses : {t p text names room after : List ℕ} {a : Answer} → ClausesRefused t p text names room after a → NeverTwice a
+never-clauses {t} {p} {text} {names} {room} x f e = go (x .refuses f .0 e)
+  where
+    go : ClausesTurned t p text names room f → f .number ≢ 8
+    go (clauses.bad-table q) = placed (placed-table t) q
+    go (clauses.bad-plan i q) = placed (placed-checked t p) q
+    go (clauses.bad-names i tree u l q) = named reason.Names (same q)
+    go (clauses.bad-room i tree u l n q) = named reason.Room (same q)
 
 pub never-work-out : {figure : ℕ} {t rec rec′ : List ℕ} {a : Answer} → MakesRecord figure t rec rec′ a → NeverTwice a
 never-work-out {figure} {t} x f e = go (x .refuses f .0 e)

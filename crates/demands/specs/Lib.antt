@@ -7,3 +7,4 @@ pub mod Twice
 pub mod Numbers
 pub mod Records
 pub mod Asking
+pub mod Clauses

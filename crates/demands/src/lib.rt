@@ -16,6 +16,7 @@ ghost use Rattle.demands.specs.Numbers.{ReadsCell, PrintsSymbol};
 ghost use Rattle.demands.specs.Shift.{Shift};
 ghost use Rattle.demands.specs.Replies.{RepliesRefused, Says};
 ghost use Rattle.demands.specs.Records.{MakesRecord, EditsRecord, BuildsFrom};
+ghost use Rattle.demands.specs.Clauses.{ClausesRefused, HandsBack};
 ghost use Rattle.demands.specs.Asking.{FindsPredicate, ReadsGoal, ReadsBack};
 use asking::Predicate;
 use cell::Shape;
@@ -147,6 +148,22 @@ fn request_replace(rec: &mut [u32; 14340], number: usize, row: &[u32]) -> u64
         → EditsRecord (replace number (now (row .entry))) figure T (now (rec .entry)) (now (rec .exit)) (decoded r)) ⌝ }
 {
     exports::dudowiej_replace(rec, number, row)
+}
+
+// W-210 (specs/Clauses)
+fn request_clauses(
+    rec: &[u32; 14340],
+    plan: &[u32],
+    text: &[u8],
+    names: &[u32],
+    room: &mut [u8],
+) -> u64
+    ensures { λ r. ⌜ ClausesRefused (tableIn (now (rec .entry))) (now (plan .entry)) (now (text .entry)) (now (names .entry))
+        (now (room .entry)) (now (room .exit)) (decoded r) ⌝ }
+    ensures { λ r. ⌜ HandsBack (tableIn (now (rec .entry))) (now (plan .entry)) (now (text .entry)) (now (names .entry))
+        (now (room .entry)) (now (room .exit)) (decoded r) ⌝ }
+{
+    exports::dudowiej_clauses(rec, plan, text, names, room)
 }
 
 // ask (specs/Asking)

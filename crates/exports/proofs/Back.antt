@@ -12,10 +12,11 @@ use Rattle.least.specs.declared.By.the-variants.{Work}
 use Rattle.record.specs.Edits.{Edit}
 use Rattle.builder.specs.Build.{buildTold}
 use Rattle.answer.specs.Run.{runTold}
-use Rattle.exports.specs.Coded.{rowSays, WorkCoded, EditSays, BuildSays, RunCoded, TextCoded, JobsCoded, RepliesCoded}
+use Rattle.exports.specs.Coded.{rowSays, WorkCoded, EditSays, BuildSays, RunCoded, TextCoded, JobsCoded, RepliesCoded, ClausesCoded}
 use Rattle.exports.proofs.Small.{table-small, goal-with-small, row-small, plan-small, work-small, edit-small, build-small, run-small, text-small, jobs-small, replies-small}
 use Rattle.answer.specs.declared.Job.{Job}
 use Rattle.instance.specs.Replied.{repliesTold}
+use Rattle.clauses.specs.Handed.{handTold}
 
 pub table-back : (t : List ℕ) {n : ℕ} → n ≡ coded (tableSays (tableOf t)) → decoded n ≡ tableSays (tableOf t)
 table-back t = read-back (table-small t)
@@ -49,3 +50,6 @@ jobs-back x = read-back (jobs-small (x .ran)) (x .code)
 
 pub replies-back : {t p g room room′ : List ℕ} {n : ℕ} (x : RepliesCoded t p g room room′ n) → decoded n ≡ repliesTold (x .answer)
 replies-back x = read-back (replies-small (x .replied)) (x .code)
+
+pub clauses-back : {t p text names room room′ : List ℕ} {n : ℕ} (x : ClausesCoded t p text names room room′ n) → decoded n ≡ handTold (x .answer)
+clauses-back x = read-back (x .small) (x .code)

@@ -15,12 +15,15 @@ use Rattle.answer.specs.declared.RunAnswer.{RunAnswer}
 use Rattle.answer.proofs.Fixed.{run-fixed}
 use Rattle.loading.proofs.Fixed.{text-fixed}
 use Rattle.refusal.specs.Coded.{coded}
-use Rattle.exports.specs.Coded.{WorkCoded, EditCoded, BuildCoded, RunCoded, TextCoded, JobsCoded, RepliesCoded}
+use Rattle.exports.specs.Coded.{WorkCoded, EditCoded, BuildCoded, RunCoded, TextCoded, JobsCoded, RepliesCoded, ClausesCoded}
 use Rattle.answer.specs.declared.Job.{Job}
 use Rattle.answer.proofs.JobsLaws.{jobs-fixed}
 use Rattle.instance.specs.Replied.{repliesTold}
 use Rattle.instance.specs.declared.RepliesAnswer.{RepliesAnswer}
 use Rattle.instance.proofs.Fixed.{replied-fixed}
+use Rattle.clauses.specs.Handed.{handTold}
+use Rattle.clauses.specs.declared.HandAnswer.{HandAnswer}
+use Rattle.clauses.proofs.Fixed.{handed-fixed}
 
 pub work-coded-fixed : {figure : ℕ} {cells rec rec′ rec″ : List ℕ} {m n : ℕ} → WorkCoded figure cells rec rec′ m → WorkCoded figure cells rec rec″ n
     → (m ≡ n) × (rec′ ≡ rec″)
@@ -60,3 +63,9 @@ pub replies-coded-fixed : {t p g room room′ room″ : List ℕ} {m n : ℕ} �
 replies-coded-fixed a b =
     let f = replied-fixed (a .replied) (b .replied) in
     (a .code ∙ ap (λ (x : RepliesAnswer). coded (repliesTold x)) (f .0) ∙ sym (b .code), f .1)
+
+pub clauses-coded-fixed : {t p text names room room′ room″ : List ℕ} {m n : ℕ} → ClausesCoded t p text names room room′ m
+    → ClausesCoded t p text names room room″ n → (m ≡ n) × (room′ ≡ room″)
+clauses-coded-fixed a b =
+    let f = handed-fixed (a .handed) (b .handed) in
+    (a .code ∙ ap (λ (x : HandAnswer). coded (handTold x)) (f .0) ∙ sym (b .code), f .1)

@@ -20,6 +20,7 @@ use Rattle.plan.specs.Runs.{Run, runs}
 use Rattle.plan.specs.Check.{Seen, seen, cellThen, Reader, branchesFrom, leafFrom, stateFrom, nothingAfter, planFor, planOf}
 use Rattle.answer.specs.Run.{runOf}
 use Rattle.instance.specs.Replied.{repliesOf}
+use Rattle.clauses.specs.Handed.{handOf}
 use Rattle.table.proofs.Accepted.{is-table}
 use Rattle.refusal.specs.Read.{Read, read, refuse, when, andThen}
 use Rattle.table.specs.Table.{Table, Met, met, counted, termsFrom, before, doubled, rowsFrom, tableOf, table, goalOf, goalWith, others, rowOf}
@@ -247,3 +248,9 @@ placed-replies t p g =
     placed-then _ (widen (omega arith) (placed-table t)) (λ T _.
     placed-then _ (placed-checked t p) (λ n _.
     placed-then _ (widen (omega arith) (placed-goal (T .width) g)) (λ v _. good tt)))
+
+-- a plan handed back: the table's and the plan's
+pub placed-handed : (t p : List ℕ) → Placed 6082 (Any {A = Table}) (handOf t p)
+unfolding handOf
+placed-handed t p =
+    placed-then _ (widen (omega arith) (placed-table t)) (λ T _. placed-then _ (placed-plan T p) (λ n _. good tt))

@@ -40,6 +40,13 @@ use Rattle.instance.specs.declared.RepliesAnswer.{RepliesAnswer}
 use Rattle.instance.specs.Replied.{Replied, repliesTold}
 use Rattle.instance.specs.Replied as replies
 use Rattle.instance.proofs.RepliesLaws.{replies-room}
+use Rattle.clauses.specs.declared.HandAnswer.{HandAnswer}
+use Rattle.clauses.specs.Program.{program}
+use Rattle.clauses.specs.Handed.{Handed, handTold, textFor}
+use Rattle.clauses.specs.Handed as hands
+use Rattle.clauses.proofs.TakesLaws.{hand-takes}
+use Rattle.clauses.proofs.Theorems.{program-few}
+use Rattle.clauses.proofs.SmallLaws as clauses
 use Rattle.answer.specs.Skeleton.{hole}
 use Rattle.answer.specs.Run.{runTold, Ran, refusal, ran}
 use Rattle.answer.proofs.TakesLaws.{run-takes}
@@ -52,7 +59,7 @@ use Rattle.grammar.proofs.LongLaws.{text-long, other-place, names-few}
 use Rattle.loading.specs.Load.{Loaded, Loads, not-taken, no-cells, no-names, no-table, loads, loadSays, TextLoads}
 use Rattle.prolog.proofs.EntryLaws.{cells-long, names-long}
 use Rattle.run.proofs.Fixed.{jobs-told}
-use Rattle.exports.proofs.Places.{placed-small, placed-table, placed-edit, placed-plan, placed-run, placed-goal, placed-replies}
+use Rattle.exports.proofs.Places.{placed-small, placed-table, placed-edit, placed-plan, placed-run, placed-goal, placed-replies, placed-handed}
 
 pub table-small : (t : List ℕ) → Small (tableSays (tableOf t))
 table-small t = go (tableOf t) refl
@@ -207,3 +214,16 @@ replies-small {t} {p} {g} (replies.no-room T all a w s l b c) =
     let n = replies-room t p g a w s in
     rw b (refused-small reason.Room input.Lent (length (flatten all)) (omega (arith, n .1)))
 replies-small {t} {p} {g} (replies.replied T all a w s l b c) = let n = replies-room t p g a w s in rw b (omega (arith, n .0), omega (arith, n .1))
+
+-- a program has at most 127 clauses, and its text fewer than 2^29 bytes where the names are numbers of 32 bits
+pub clauses-small : {t p text names room room′ : List ℕ} {r : HandAnswer} → ((k : ℕ) → getD names k 0 < 2 ^ 32)
+    → Handed t p text names room room′ r → Small (handTold r)
+clauses-small {t} {p} s (hands.refusal f a b c) = rw b (placed-small (omega arith) (placed-handed t p) a)
+clauses-small s (hands.no-names T a l b c) = rw b (refused-small reason.Names input.Names 0 (omega arith))
+clauses-small {t} {p} {text} {names} s (hands.no-room T tree a w l n b c) =
+    let i = is-table t (hand-takes t p a .table) in
+    let m = clauses.text-small i tree l s in
+    rw b (refused-small reason.Room input.Lent (length (textFor text names (program tree))) (omega arith))
+clauses-small {t} {p} s (hands.handed T tree a w l n b c) =
+    let i = is-table t (hand-takes t p a .table) in
+    rw b (omega (arith, program-few i tree), omega (arith, clauses.text-small i tree l s))

@@ -5,7 +5,7 @@ use mathlib.Core.List.{List}
 use lib.ListN.{length, getD}
 use Rattle.refusal.specs.Refusal.{Answer, answered}
 use Rattle.refusal.specs.Read.{Read}
-use Rattle.refusal.specs.Coded.{coded}
+use Rattle.refusal.specs.Coded.{coded, Small}
 use Rattle.table.specs.Table.{Table, startsIn, rowIn}
 use Rattle.least.specs.declared.By.the-variants.{Work}
 use Rattle.builder.specs.declared.BuildAnswer.{BuildAnswer}
@@ -19,6 +19,8 @@ use Rattle.answer.specs.declared.Job.{Job}
 use Rattle.answer.specs.Jobs.{JobsRun}
 use Rattle.instance.specs.declared.RepliesAnswer.{RepliesAnswer}
 use Rattle.instance.specs.Replied.{Replied, repliesTold}
+use Rattle.clauses.specs.declared.HandAnswer.{HandAnswer}
+use Rattle.clauses.specs.Handed.{Handed, handTold}
 
 -- where a row's cells start in the table, and how many they are; both 0 where there is no such row
 abbrev pub rowSays : Read Table → ℕ → Answer
@@ -71,3 +73,11 @@ pub record RepliesCoded (cells plan goal room after : List ℕ) (number : ℕ) :
   pub answer : RepliesAnswer
   pub replied : Replied cells plan goal room after answer
   pub code : number ≡ coded (repliesTold answer)
+
+-- what the entry that hands a plan back answers and leaves in the room. The bytes fit their bits, for a listed name has 16 bits for its own:
+-- that is said here, since lists of names in `Handed` are of any numbers
+pub record ClausesCoded (cells plan text names room after : List ℕ) (number : ℕ) : Type 0 where
+  pub answer : HandAnswer
+  pub handed : Handed cells plan text names room after answer
+  pub small : Small (handTold answer)
+  pub code : number ≡ coded (handTold answer)

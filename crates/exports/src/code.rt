@@ -8,9 +8,11 @@ ghost use Rattle.builder.specs.Build.{buildTold};
 ghost use Rattle.answer.specs.Run.{runTold};
 ghost use Rattle.prolog.specs.Entry.{textTold};
 ghost use Rattle.instance.specs.Replied.{repliesTold};
+ghost use Rattle.clauses.specs.Handed.{handTold};
 use answer::RunAnswer;
 use builder::BuildAnswer;
 use checker::PlanAnswer;
+use clauses::HandAnswer;
 use instance::RepliesAnswer;
 use prolog::TextAnswer;
 use refusal::Refusal;
@@ -136,5 +138,15 @@ pub fn code_replies(a: RepliesAnswer) -> u64
     match a {
         RepliesAnswer::Replied(replies, cells) => code_answer(replies, cells),
         RepliesAnswer::Refused(f) => code_refusal(f),
+    }
+}
+
+pub fn code_hand(a: HandAnswer) -> u64
+    requires { ⌜ Small (handTold a) ⌝ }
+    ensures { λ r. ⌜ r ≡ coded (handTold a) ⌝ }
+{
+    match a {
+        HandAnswer::Handed(clauses, bytes) => code_answer(clauses, bytes),
+        HandAnswer::Refused(f) => code_refusal(f),
     }
 }

@@ -8,7 +8,7 @@ ghost use Rattle.checker.specs.Checked.{planSays};
 ghost use Rattle.refusal.specs.Coded.{coded};
 ghost use Rattle.record.specs.Record.{tableIn};
 ghost use Rattle.record.specs.Edits.{append, drop-last, replace};
-ghost use Rattle.exports.specs.Coded.{rowSays, WorkCoded, EditCoded, BuildCoded, RunCoded, TextCoded, JobsCoded, RepliesCoded};
+ghost use Rattle.exports.specs.Coded.{rowSays, WorkCoded, EditCoded, BuildCoded, RunCoded, TextCoded, JobsCoded, RepliesCoded, ClausesCoded};
 
 mod code;
 
@@ -146,4 +146,20 @@ pub extern "C" fn dudowiej_replies(
 {
     let cells = record::table_of(rec);
     code::code_replies(replies::replies(cells, plan, goal, room))
+}
+
+// A plan handed back as Prolog: how many clauses it is and how many bytes they have; they are the room's first bytes.
+#[no_mangle]
+pub extern "C" fn dudowiej_clauses(
+    rec: &[u32; 14340],
+    plan: &[u32],
+    text: &[u8],
+    names: &[u32],
+    room: &mut [u8],
+) -> u64
+    ensures { λ r. ⌜ ClausesCoded (tableIn (now (rec .entry))) (now (plan .entry)) (now (text .entry)) (now (names .entry))
+        (now (room .entry)) (now (room .exit)) r ⌝ }
+{
+    let cells = record::table_of(rec);
+    code::code_hand(handing::hand_back(cells, plan, text, names, room))
 }
