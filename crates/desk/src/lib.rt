@@ -1,17 +1,20 @@
 // The program `ask`: a shop's rules and its goals in Prolog text, answered in Prolog text. What is read and what is answered is decided and
 // promised in the libraries. This crate finds the arguments and the file; it is proved safe and ending.
+use clauses::HandAnswer;
 use lex::name::same_bytes;
 use message::Whose;
+use page::Page;
 use reading::Got;
 use refusal::Refusal;
 use shop::Loaded;
 use shop::Shop;
 
-// What the first argument asks for: answers to goals, of the file that it names; the plan of a file; the help; the version; or nothing that
-// there is.
+// What the first argument asks for: answers to goals, of the file that it names; the plan of a file, as a tree or as Prolog; the help; the
+// version; or nothing that there is.
 pub enum Wish {
     Answers,
     Tree,
+    Clauses,
     Help,
     Version,
     Nothing,
@@ -20,6 +23,9 @@ pub enum Wish {
 fn wish_of(word: &[u8]) -> Wish {
     if same_bytes(word, b"--plan") {
         return Wish::Tree;
+    }
+    if same_bytes(word, b"--prolog") {
+        return Wish::Clauses;
     }
     if same_bytes(word, b"--help") || same_bytes(word, b"-h") {
         return Wish::Help;
@@ -33,7 +39,7 @@ fn wish_of(word: &[u8]) -> Wish {
     Wish::Answers
 }
 
-// `ask FILE GOAL ..`, `ask --plan FILE`, `ask --help` or `ask --version`.
+// `ask FILE GOAL ..`, `ask --plan FILE`, `ask --prolog FILE`, `ask --help` or `ask --version`.
 pub fn answer() {
     let count = os::arg_count();
     let mut word = io::buffer();
@@ -47,7 +53,7 @@ pub fn answer() {
             }
             open_argument(1, wish);
         }
-        Wish::Tree => {
+        Wish::Tree | Wish::Clauses => {
             if count != 3 {
                 helptext::refuse();
                 return;
@@ -104,6 +110,7 @@ fn load(path: &[u8], text: &[u8], wish: Wish, room: &mut [u32], kept: &mut [u32]
     match shop::load(text, room, kept) {
         Loaded::Kept(shop) => match wish {
             Wish::Tree => show_tree(text, kept, shop, out),
+            Wish::Clauses => show_clauses(path, text, kept, shop, out),
             _ => askall::answer_all(text, kept, shop, room, out),
         },
         Loaded::Refused(f) => refuse(path, text, f, out),
@@ -113,6 +120,21 @@ fn load(path: &[u8], text: &[u8], wish: Wish, room: &mut [u32], kept: &mut [u32]
 fn show_tree(text: &[u8], kept: &[u32], shop: Shop, out: &mut [u8]) {
     let last = treetext::print(text, kept, shop, out);
     page::flush(out, last);
+}
+
+fn show_clauses(path: &[u8], text: &[u8], kept: &[u32], shop: Shop, out: &mut [u8]) {
+    match clausetext::put_clauses(out, text, kept, shop) {
+        HandAnswer::Handed(_, bytes) => {
+            page::flush(
+                out,
+                Page {
+                    to: bytes,
+                    open: true,
+                },
+            );
+        }
+        HandAnswer::Refused(f) => refuse(path, text, f, out),
+    }
 }
 
 fn refuse(path: &[u8], text: &[u8], f: Refusal, out: &mut [u8]) {

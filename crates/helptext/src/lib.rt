@@ -30,8 +30,12 @@ fn uses(going: bool) -> bool {
         a,
         b"ask --plan FILE      in which order the rules' arguments are looked at\n",
     );
-    let c = line(b, b"ask --help, -h       this\n");
-    line(c, b"ask --version        the version\n\n")
+    let c = line(
+        b,
+        b"ask --prolog FILE    that order as Prolog clauses, which answer as the rules do\n",
+    );
+    let d = line(c, b"ask --help, -h       this\n");
+    line(d, b"ask --version        the version\n\n")
 }
 
 fn goals(going: bool) -> bool {
@@ -114,6 +118,6 @@ pub fn version() {
 pub fn refuse() {
     io::write_all(
         STDERR_FILENO,
-        b"usage: ask FILE [GOAL ..], ask --plan FILE, ask --help or ask --version\n",
+        b"usage: ask FILE [GOAL ..], ask --plan FILE, ask --prolog FILE, ask --help or ask --version\n",
     );
 }
