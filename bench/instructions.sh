@@ -1,6 +1,6 @@
 #!/bin/sh
-# Instructions of the exported and of the independent functions, counted by callgrind. With TEXTS=1 those of texts alone. Arguments go to
-# cargo, as `--features stand-in`.
+# Instructions of the exported and of the independent functions, counted by callgrind. With TEXTS=1 those of texts alone, with PART=clauses those
+# of plans handed back as Prolog alone (likewise shift, replies, edits). Arguments go to cargo, as `--features stand-in`.
 set -eu
 cd "$(dirname "$0")"
 if ! command -v valgrind >/dev/null; then
@@ -9,13 +9,15 @@ if ! command -v valgrind >/dev/null; then
 fi
 cargo build --quiet --release "$@"
 counts=$(mktemp -d)
-mkdir "$counts/shift" "$counts/replies" "$counts/edits"
+mkdir "$counts/shift" "$counts/replies" "$counts/edits" "$counts/clauses"
 trap 'rm -r "$counts"' EXIT
-valgrind --quiet --tool=callgrind --toggle-collect=measured --dump-after=measured --callgrind-out-file="$counts/count" \
-    target/release/dudowiej-bench "count${TEXTS:+-texts}"
-target/release/dudowiej-bench "${TEXTS:+text-}instructions" "$counts"
-[ -z "${TEXTS:-}" ] || exit 0
-for part in shift replies edits; do
+if [ -z "${PART:-}" ]; then
+    valgrind --quiet --tool=callgrind --toggle-collect=measured --dump-after=measured --callgrind-out-file="$counts/count" \
+        target/release/dudowiej-bench "count${TEXTS:+-texts}"
+    target/release/dudowiej-bench "${TEXTS:+text-}instructions" "$counts"
+    [ -z "${TEXTS:-}" ] || exit 0
+fi
+for part in ${PART:-shift replies edits clauses}; do
     valgrind --quiet --tool=callgrind --toggle-collect=measured --dump-after=measured --callgrind-out-file="$counts/$part/count" \
         target/release/dudowiej-bench "count-$part"
     target/release/dudowiej-bench "instructions-$part" "$counts/$part"

@@ -1,6 +1,8 @@
 //! The exported functions against the independent implementation, input by input: the whole answer and the whole of the lent room.
 
+pub mod clauses;
 mod edits;
+mod handed;
 pub mod listings;
 pub mod repeats;
 mod replies;
@@ -66,6 +68,16 @@ pub fn edits<E: Engine>(exported: &E, tally: Tally, count: usize, seed: u64) -> 
     for _ in 0..count {
         comparison.random_edits();
         comparison.any_record();
+    }
+    comparison.tally
+}
+
+/// Goes on with plans handed back as Prolog: fixed cases, then so many random tables with texts and lists of names.
+pub fn clauses<E: Engine>(exported: &E, tally: Tally, count: usize, seed: u64) -> Tally {
+    let mut comparison = Comparison { exported, random: Random::new(seed), tally };
+    comparison.fixed_clauses();
+    for _ in 0..count {
+        comparison.random_clauses();
     }
     comparison.tally
 }

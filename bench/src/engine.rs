@@ -17,6 +17,7 @@ pub trait Engine {
     fn run_plan(&self, record: &Record, plan: &[u32], goal: &[u32], room: &mut [u8]) -> u64;
     fn read_text(&self, text: &[u8], cells: &mut [u32], names: &mut [u32]) -> u64;
     fn replies(&self, record: &Record, plan: &[u32], goal: &[u32], room: &mut [u32]) -> u64;
+    fn clauses(&self, record: &Record, plan: &[u32], text: &[u8], names: &[u32], room: &mut [u8]) -> u64;
 }
 
 /// The independent implementation with runs by the definitions.
@@ -63,6 +64,9 @@ macro_rules! independent {
             }
             fn replies(&self, record: &Record, plan: &[u32], goal: &[u32], room: &mut [u32]) -> u64 {
                 packed(model::replies::replies(table_in(record), plan, goal, room))
+            }
+            fn clauses(&self, record: &Record, plan: &[u32], text: &[u8], names: &[u32], room: &mut [u8]) -> u64 {
+                packed(model::clauses::clauses(table_in(record), plan, text, names, room))
             }
         }
     };
@@ -113,6 +117,17 @@ mod exported {
             room: *mut u32,
             room_cells: usize,
         ) -> u64;
+        fn dudowiej_clauses(
+            record: *const Record,
+            plan: *const u32,
+            plan_cells: usize,
+            text: *const u8,
+            text_bytes: usize,
+            names: *const u32,
+            names_count: usize,
+            room: *mut u8,
+            room_bytes: usize,
+        ) -> u64;
     }
 
     // Each pointer and length below is one slice's, a record's pointer is a reference; what is written is borrowed alone.
@@ -152,6 +167,10 @@ mod exported {
         }
         fn replies(&self, record: &Record, plan: &[u32], goal: &[u32], room: &mut [u32]) -> u64 {
             unsafe { dudowiej_replies(record, plan.as_ptr(), plan.len(), goal.as_ptr(), goal.len(), room.as_mut_ptr(), room.len()) }
+        }
+        fn clauses(&self, record: &Record, plan: &[u32], text: &[u8], names: &[u32], room: &mut [u8]) -> u64 {
+            let ((text, text_bytes), (names, count)) = ((text.as_ptr(), text.len()), (names.as_ptr(), names.len()));
+            unsafe { dudowiej_clauses(record, plan.as_ptr(), plan.len(), text, text_bytes, names, count, room.as_mut_ptr(), room.len()) }
         }
     }
 }

@@ -2,6 +2,7 @@
 
 pub mod branches;
 pub mod cases;
+pub mod clauses;
 pub mod compare;
 pub mod count;
 pub mod edits;

@@ -7,7 +7,7 @@ use std::process::ExitCode;
 use dudowiej_bench::compare::{self, listings, ROUNDS, SEED};
 use dudowiej_bench::engine::Exported;
 use dudowiej_bench::model::listing::listing;
-use dudowiej_bench::{count, edits, prolog, shift, stack, time};
+use dudowiej_bench::{clauses, count, edits, prolog, shift, stack, time};
 
 const USAGE: &str = "usage:
   compare [ROUNDS [SEED]]   the exported functions against the independent implementation
@@ -17,10 +17,12 @@ const USAGE: &str = "usage:
   instructions FOLDER       what callgrind counted
   count-texts, text-instructions FOLDER    the same for texts alone
   texts FOLDER COUNT SEED   accepted texts with their facts, and kinds of refused ones, as files
+  programs FOLDER COUNT SEED   plans handed back as Prolog with goals and replies, as files
   count-shift, instructions-shift FOLDER   the same for a list of goals
   count-replies, instructions-replies FOLDER   the same for replies alone
   count-repeats, instructions-repeats FOLDER   the same for rows that repeat a variable
   count-edits, instructions-edits FOLDER   the same for a record's edits
+  count-clauses, instructions-clauses FOLDER   the same for plans handed back as Prolog
   stack                     the bytes of stack that each entry touches
   list                      the independent listing of the table on standard input";
 
@@ -47,6 +49,10 @@ fn main() -> ExitCode {
             (Some(count), Some(seed)) => done(|| prolog::write_texts(Path::new(folder), count as usize, seed)),
             _ => usage(),
         },
+        ["programs", folder, count, seed] => match (number(count), number(seed)) {
+            (Some(count), Some(seed)) => done(|| prolog::write_programs(Path::new(folder), count as usize, seed)),
+            _ => usage(),
+        },
         ["count-shift"] => done(shift::count::count),
         ["instructions-shift", folder] => done(|| shift::count::instructions(Path::new(folder))),
         ["count-replies"] => done(count::count_replies),
@@ -59,6 +65,8 @@ fn main() -> ExitCode {
         }),
         ["count-edits"] => done(edits::count),
         ["instructions-edits", folder] => done(|| edits::instructions(Path::new(folder))),
+        ["count-clauses"] => done(clauses::count),
+        ["instructions-clauses", folder] => done(|| clauses::instructions(Path::new(folder))),
         ["stack"] => done(stack::stack),
         ["list"] => done(list),
         _ => usage(),
@@ -88,6 +96,7 @@ fn compared(rounds: usize, seed: u64) -> ExitCode {
     let tally = compare::texts(&Exported, tally, 2 * rounds, seed);
     let tally = compare::replies(&Exported, tally, 2 * rounds, seed);
     let tally = compare::edits(&Exported, tally, rounds / 10, seed);
+    let tally = compare::clauses(&Exported, tally, rounds, seed);
     println!("{tally}");
     if tally.passed() && lists.passed() && listings_differ == 0 {
         ExitCode::SUCCESS

@@ -1,8 +1,9 @@
-//! Random inputs: tables, rows, records, goals and plans, sound and damaged.
+//! Random inputs: tables, rows, records, goals, plans and lists of names, sound and damaged.
 
 pub mod big;
 pub mod damage;
 pub mod goals;
+pub mod names;
 pub mod plans;
 pub mod records;
 pub mod rows;
@@ -115,7 +116,7 @@ fn repeated(random: &mut Random, terms: &mut [Term]) {
 }
 
 /// The cells, variables numbered by first appearance.
-fn numbered(mut terms: Vec<Term>) -> Vec<u32> {
+pub fn numbered(mut terms: Vec<Term>) -> Vec<u32> {
     let mut met = Vec::new();
     each_variable(&mut terms, &mut |number| {
         let found = met.iter().position(|&other| other == number).unwrap_or_else(|| {

@@ -1,4 +1,4 @@
-//! 01's notation as cells: letters are names without arguments, f1 a name with one, v0 a variable, digits a number.
+//! 01's notation as cells: letters are names without arguments, f1 a name with one, v0 a variable, digits a number, which may have a minus sign.
 
 use crate::model::term::Term;
 
@@ -56,7 +56,7 @@ fn term(rest: &mut &str) -> Term {
     let (word, after) = rest.split_at(digits);
     *rest = after;
     match letter {
-        '0'..='9' => Term::Number(word.parse().unwrap()),
+        '-' | '0'..='9' => Term::Number(word.parse().unwrap()),
         'v' => Term::Var(word[1..].parse().unwrap()),
         _ if after.starts_with('(') => Term::Name(letter as u16, arguments(rest)),
         _ => Term::Name(letter as u16, Vec::new()),

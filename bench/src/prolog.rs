@@ -1,6 +1,8 @@
 //! Accepted texts as files, each with its facts as the exported entry gave them, for other Prologs to read; and texts that are refused here
 //! although they are Prolog. bench/prolog.sh does it all.
 
+mod programs;
+
 use std::fs::write;
 use std::path::Path;
 
@@ -9,6 +11,7 @@ use crate::make::texts;
 use crate::model::read::TABLE_CELLS;
 use crate::model::term::Symbol;
 use crate::random::Random;
+pub use programs::write_programs;
 
 /// Writes FOLDER/t0.pl, t0.facts, .. for so many accepted texts, with their names in FOLDER/list; FOLDER/r0.pl, .. for the kinds of texts that are
 /// refused, with `name kind` lines in FOLDER/kinds and their names in FOLDER/refused.
@@ -79,26 +82,34 @@ fn facts(text: &[u8]) -> Option<String> {
     if answer & 0xff != 0 {
         return None;
     }
+    let word = |number: u16| {
+        let (start, bytes) = (names[number as usize] & 0xffff, names[number as usize] >> 16);
+        text[start as usize..][..bytes as usize].escape_ascii().to_string()
+    };
     let mut rest = &cells[2..(answer >> 16 & 0xffff) as usize];
     let mut facts = String::new();
     while !rest.is_empty() {
-        facts += &format!("{}:", cells[0]);
-        let mut owed = cells[0] as usize;
-        while owed > 0 {
-            let symbol = Symbol::of(rest[0]).expect("a table's cell");
-            rest = &rest[1..];
-            owed -= 1;
-            facts += &match symbol {
-                Symbol::Variable(number) => format!(" _{number}"),
-                Symbol::Number(value) => format!(" {value}"),
-                Symbol::Name { number, arguments } => {
-                    owed += arguments;
-                    let (start, bytes) = (names[number as usize] & 0xffff, names[number as usize] >> 16);
-                    format!(" {}/{arguments}", text[start as usize..][..bytes as usize].escape_ascii())
-                }
-            };
-        }
-        facts.push('\n');
+        facts += &symbols(cells[0] as usize, &mut rest, &word);
     }
     Some(facts)
+}
+
+/// A line for so many terms, which are taken off the cells: how many there are, and their symbols, each before its arguments.
+fn symbols(width: usize, rest: &mut &[u32], word: &dyn Fn(u16) -> String) -> String {
+    let mut line = format!("{width}:");
+    let mut owed = width;
+    while owed > 0 {
+        let symbol = Symbol::of(rest[0]).expect("a term's cell");
+        *rest = &rest[1..];
+        owed -= 1;
+        line += &match symbol {
+            Symbol::Variable(number) => format!(" _{number}"),
+            Symbol::Number(value) => format!(" {value}"),
+            Symbol::Name { number, arguments } => {
+                owed += arguments;
+                format!(" {}/{arguments}", word(number))
+            }
+        };
+    }
+    line + "\n"
 }

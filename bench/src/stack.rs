@@ -6,7 +6,9 @@ use std::hint::black_box;
 
 use crate::branches::{flat, with_argument};
 use crate::cases::SEED;
+use crate::compare::clauses::most_clauses;
 use crate::engine::{Engine, Exported};
+use crate::make::names::{entry, letters};
 use crate::make::tables::{longest_replies, table, Kind};
 use crate::make::{big, goals, records};
 use crate::model::least::least;
@@ -35,12 +37,16 @@ pub fn stack() {
             let mut record = sound.clone();
             put_table(&mut record, &table, MOST_FIGURE);
             most.of_record(&record, &plans, &goals);
+            most.of_clauses(&record, &plans);
         }
     }
     for (table, goal) in [longest_replies(), big::million(ROWS), deep_terms(), deep_search()] {
         let plans = plans(&read_table(&table).expect("a sound table"));
         most.of_record(&records::worked_out(&table, MOST_FIGURE), &plans, &[goal]);
+        most.of_clauses(&records::worked_out(&table, MOST_FIGURE), &plans);
     }
+    let table = most_clauses();
+    most.of_clauses(&records::worked_out(&table, MOST_FIGURE), &plans(&read_table(&table).expect("a sound table")));
     for (_, text) in measured_texts() {
         most.of_text(&text);
     }
@@ -110,6 +116,22 @@ impl Most {
             let mut jobs = [Job { count: goal.len(), ..Job::default() }];
             self.note("dudowiej_run_jobs", || Exported.run_jobs(record, plan, goal, &mut jobs));
         }
+    }
+
+    /// With a list that has every name, in more room than is needed and in none; and with one that has none, and one with an entry past the text.
+    fn of_clauses(&mut self, record: &Record, plans: &[Vec<u32>]) {
+        let all = letters();
+        let past = [&all.names[..], &[entry(0, 0xffff)]].concat();
+        let mut note = |plan: &[u32], names: &[u32], bytes: usize| {
+            let mut room = vec![0; bytes];
+            self.note("dudowiej_clauses", || Exported.clauses(record, plan, &all.text, names, &mut room));
+        };
+        for plan in plans {
+            note(plan, &all.names, 1 << 16);
+            note(plan, &all.names, 0);
+        }
+        note(&plans[0], &past, 1 << 16);
+        note(&plans[0], &[], 1 << 16);
     }
 
     /// The text as it is, cut, and with a byte at its end that no text has; rooms of no size, of one cell, of a table's and larger than all.

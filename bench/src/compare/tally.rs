@@ -3,6 +3,7 @@
 use std::collections::BTreeMap;
 use std::fmt;
 
+use super::handed::Handed;
 use crate::model::refusal::{given, Number, NAMES, NEVER};
 use crate::model::replies::{Reply, REPLY_CELLS};
 
@@ -20,10 +21,24 @@ pub enum Entry {
     Append,
     DropLast,
     Replace,
+    Clauses,
 }
 
-const ENTRIES: [&str; 12] =
-    ["read_table", "read_goal", "row", "check_plan", "build_plan", "run_plan", "read_text", "replies", "work_out", "append", "drop_last", "replace"];
+const ENTRIES: [&str; 13] = [
+    "read_table",
+    "read_goal",
+    "row",
+    "check_plan",
+    "build_plan",
+    "run_plan",
+    "read_text",
+    "replies",
+    "work_out",
+    "append",
+    "drop_last",
+    "replace",
+    "clauses",
+];
 
 /// What replies can be refused with, by input: table, plan, goal, room.
 const OF_REPLIES: [(&str, &[usize]); 4] =
@@ -83,6 +98,7 @@ pub struct Tally {
     replies_refused: [[u64; NAMES.len() + 1]; OF_REPLIES.len() + 1],
     replies: Replies,
     met: [u64; MET.len()],
+    pub(super) handed: Handed,
     /// Edits of records that were worked out, by the number of the refusal and by entry.
     edits: [[u64; ENTRIES.len()]; NAMES.len() + 1],
     /// How often a plan was built from, or an edit made in, a record that was never worked out.
@@ -221,6 +237,7 @@ impl Tally {
             && self.own.values().all(|&(_, differ)| differ == 0)
             && self.never_met().is_empty()
             && self.met.iter().all(|&met| met > 0)
+            && self.handed.passed()
             && self.texts().iter().all(|&(_, met)| met > 0)
             && self.replies().iter().chain(&self.edits()).flat_map(|(_, refused)| refused).all(|&(_, met)| met > 0)
     }
@@ -251,6 +268,7 @@ impl fmt::Display for Tally {
         for (input, refused) in self.replies() {
             writeln!(f, "replies refused, {input}: {}", listed(&refused))?;
         }
+        write!(f, "{}", self.handed)?;
         writeln!(f, "edits of records that were worked out: {}", self.edits.iter().flatten().sum::<u64>())?;
         for (entry, refused) in self.edits() {
             writeln!(f, "{entry} refused: {}", listed(&refused))?;
@@ -269,6 +287,6 @@ impl fmt::Display for Tally {
 }
 
 /// How often each refusal was met.
-fn listed(refused: &[(&str, u64)]) -> String {
+pub(super) fn listed(refused: &[(&str, u64)]) -> String {
     refused.iter().map(|(name, met)| format!("{name} {met}")).collect::<Vec<_>>().join(", ")
 }

@@ -27,12 +27,13 @@ pub enum Number {
     Index,
     Same,
     Big,
+    Names,
 }
 
 /// Their names, by number from 1.
-pub const NAMES: [&str; 25] = [
+pub const NAMES: [&str; 26] = [
     "LENGTH", "WIDTH", "COUNT", "LONG", "SHORT", "CELL", "FRESH", "TWICE", "EXTRA", "SIZE", "ENDS", "OPEN", "EDGES", "LABEL", "ROWS", "ROOM",
-    "BYTES", "TEXT", "OTHER", "FIGURE", "FULL", "LAST", "INDEX", "SAME", "BIG",
+    "BYTES", "TEXT", "OTHER", "FIGURE", "FULL", "LAST", "INDEX", "SAME", "BIG", "NAMES",
 ];
 
 /// The number that is never given again.
@@ -52,6 +53,7 @@ pub enum Input {
     Room,
     Text,
     Figure,
+    Names,
 }
 
 #[derive(Clone, Copy, Debug, PartialEq, Eq)]

@@ -39,8 +39,8 @@ pub fn refused(number: u64) -> u64 {
     number | 1 << 8
 }
 
-/// Writes the cells, and answers two values; or ROOM.
-pub fn written(room: &mut [u32], cells: &[u32], first: usize, second: usize) -> u64 {
+/// Writes the cells or bytes, and answers two values; or ROOM.
+pub fn written<T: Copy>(room: &mut [T], cells: &[T], first: usize, second: usize) -> u64 {
     let Some(front) = room.get_mut(..cells.len()) else {
         return 16 | 4 << 8 | (cells.len() as u64) << 16;
     };
@@ -70,10 +70,12 @@ pub struct Altered {
     pub run_plan: fn(&Record, &[u32], &[u32], &mut [u8]) -> u64,
     pub read_text: ReadText,
     pub replies: Replies,
+    pub clauses: Clauses,
 }
 
 pub type ReadText = fn(&[u8], &mut [u32], &mut [u32]) -> u64;
 pub type Replies = fn(&Record, &[u32], &[u32], &mut [u32]) -> u64;
+pub type Clauses = fn(&Record, &[u32], &[u8], &[u32], &mut [u8]) -> u64;
 
 pub const RIGHT: Altered = Altered {
     read_table: |table| Plain.read_table(table),
@@ -87,6 +89,7 @@ pub const RIGHT: Altered = Altered {
     run_plan: |record, plan, goal, room| Plain.run_plan(record, plan, goal, room),
     read_text: |text, cells, names| Plain.read_text(text, cells, names),
     replies: |record, plan, goal, room| Plain.replies(record, plan, goal, room),
+    clauses: |record, plan, text, names, room| Plain.clauses(record, plan, text, names, room),
 };
 
 impl Engine for Altered {
@@ -125,5 +128,8 @@ impl Engine for Altered {
     }
     fn replies(&self, record: &Record, plan: &[u32], goal: &[u32], room: &mut [u32]) -> u64 {
         (self.replies)(record, plan, goal, room)
+    }
+    fn clauses(&self, record: &Record, plan: &[u32], text: &[u8], names: &[u32], room: &mut [u8]) -> u64 {
+        (self.clauses)(record, plan, text, names, room)
     }
 }
