@@ -1,5 +1,5 @@
 /* The rule tables as a C library: tables from Prolog text, reading tables and goals, the least plan, the check of any plan, the run of a
- * plan on a goal, what the rows say to it, and edits of a row at a time.
+ * plan on a goal, what the rows say to it, edits of a row at a time, and a plan handed back as Prolog.
  *
  * Link target/staticlib/libexports.a, which `rt staticlib exports` writes (x86-64).
  *
@@ -18,8 +18,8 @@
  * A list is passed as a pointer and a length, a record as a pointer. A pointer is aligned for its type and not null, even where the length
  * is 0. What a call writes, a lent room or a record, shares no memory with its other inputs: a row that is to be appended again is copied
  * out of its record first. The functions keep nothing between calls, and allocate nothing. Of its caller's stack a call touches at most
- * 62,648 bytes to load a text, 43,352 for replies, 33,392 to build a plan, 30,568 to run one, 17,192 to edit a record, 13,736 to check a
- * plan, 8,840 to work a record out and 2,728 to read (measured: docs/BENCH.md, "Stack"). */
+ * 54,496 bytes to load a text, 43,864 for replies, 33,000 to hand a plan back, 32,880 to build one, 31,096 to run one, 17,168 to edit a
+ * record, 14,248 to check a plan, 8,832 to work a record out and 2,736 to read (measured: docs/BENCH.md, "Stack"). */
 #ifndef DUDOWIEJ_H
 #define DUDOWIEJ_H
 
@@ -32,10 +32,10 @@ extern "C" {
 #endif
 
 /* The version of what this header declares. The first number is 0 while requests are open. The second counts the base and the requests that
- * have landed on it, W-201 to W-208. The third counts changes of this header since the last of them. */
-#define DUDOWIEJ_VERSION "0.9.0"
+ * have landed on it, W-201 to W-210. The third counts changes of this header since the last of them. */
+#define DUDOWIEJ_VERSION "0.11.0"
 
-/* What no table, row, goal, plan, text or reply exceeds. */
+/* What no table, row, goal, plan, text, reply or program exceeds. */
 enum {
     DUDOWIEJ_COLUMNS = 8,
     DUDOWIEJ_ROWS = 64,
@@ -46,6 +46,7 @@ enum {
     DUDOWIEJ_TEXT_BYTES = 65535,
     DUDOWIEJ_NAMES = 2048,
     DUDOWIEJ_REPLY_CELLS = 1024,
+    DUDOWIEJ_CLAUSES = 127,
     DUDOWIEJ_MOST_FIGURE = 15
 };
 
@@ -78,11 +79,20 @@ enum dudowiej_refusal {
     DUDOWIEJ_REFUSED_LAST = 22,   /* the only row dropped: place 0 */
     DUDOWIEJ_REFUSED_INDEX = 23,  /* a row replaced that is not there: place 0 */
     DUDOWIEJ_REFUSED_SAME = 24,   /* a row without variables equals an earlier one: its first cell; in an edit any other: place 0 */
-    DUDOWIEJ_REFUSED_BIG = 25     /* a reply to a goal needs over 1,024 cells: place 0 */
+    DUDOWIEJ_REFUSED_BIG = 25,    /* a reply to a goal needs over 1,024 cells: place 0 */
+    DUDOWIEJ_REFUSED_NAMES = 26   /* a listed place holds no lower-case name, two hold the same, a name is not listed: place 0 */
 };
 
 /* Which input a refusal concerns. */
-enum dudowiej_input { DUDOWIEJ_TABLE = 1, DUDOWIEJ_PLAN = 2, DUDOWIEJ_GOAL = 3, DUDOWIEJ_ROOM = 4, DUDOWIEJ_TEXT = 5, DUDOWIEJ_FIGURE = 6 };
+enum dudowiej_input {
+    DUDOWIEJ_TABLE = 1,
+    DUDOWIEJ_PLAN = 2,
+    DUDOWIEJ_GOAL = 3,
+    DUDOWIEJ_ROOM = 4,
+    DUDOWIEJ_TEXT = 5,
+    DUDOWIEJ_FIGURE = 6,
+    DUDOWIEJ_NAME_LIST = 7
+};
 
 /* Reads a table. First: its width. Second: its rows. */
 uint64_t dudowiej_read_table(const uint32_t *table, size_t table_cells);
@@ -189,6 +199,21 @@ uint64_t dudowiej_run_jobs(const dudowiej_record *record, const uint32_t *plan, 
 uint64_t dudowiej_replies(const dudowiej_record *record, const uint32_t *plan, size_t plan_cells, const uint32_t *goal, size_t goal_cells,
                           uint32_t *room, size_t room_cells);
 
+/* Writes a plan as a Prolog program to the front of the room; the rest of it is untouched. A clause stands on a line of its own, with a
+ * line feed at its end. There is a predicate for the first state and for each with several branches, 'P0', 'P1' and so on in the plan's
+ * order; what is decided on the way from one to the next stands in the heads. A goal put to 'P0' is answered what dudowiej_replies gives
+ * for it, in the same order. That is by unification with the occurs check, which most Prologs leave out; only rows that repeat a variable
+ * can tell.
+ *
+ * The table's names are words of a text: name n is as many bytes of it as bits 31 to 16 of the list's entry n say, from the byte that bits
+ * 15 to 0 say. So dudowiej_read_text lists them, but any bytes and any list will do. First: the clauses. Second: the bytes. Refused in
+ * this order: the table, the plan; NAMES, which concerns DUDOWIEJ_NAME_LIST at 0, exactly where an entry, used or not, reaches past the
+ * text, has no byte or holds no lower-case name, where two hold the same bytes, or where a name of the table has a number that is not
+ * listed; then the room, the place being the bytes needed. Where anything is refused nothing is written. Room for 131,072 bytes is enough
+ * for a table that was read from a text, with that text and its names. */
+uint64_t dudowiej_clauses(const dudowiej_record *record, const uint32_t *plan, size_t plan_cells, const uint8_t *text, size_t text_bytes,
+                          const uint32_t *names, size_t names_count, uint8_t *room, size_t room_bytes);
+
 /* Cells built and a number's value. A cell takes the low bits of its parts, as many as it has for them: 16, and 3 for the arguments. With 5
  * to 7 arguments it is no cell, and is refused wherever it stands. */
 
@@ -242,6 +267,7 @@ static inline const char *dudowiej_refusal_name(unsigned number) {
     case DUDOWIEJ_REFUSED_INDEX: return "INDEX";
     case DUDOWIEJ_REFUSED_SAME: return "SAME";
     case DUDOWIEJ_REFUSED_BIG: return "BIG";
+    case DUDOWIEJ_REFUSED_NAMES: return "NAMES";
     default: return "none";
     }
 }

@@ -11,6 +11,8 @@ pub const TEXT_BYTES: usize = 65_535;
 pub const NAMES: usize = 2048;
 /// What no reply exceeds.
 pub const REPLY_CELLS: usize = 1024;
+/// What no program exceeds for a table that was read from a text, with the text's own names.
+pub const PROGRAM_BYTES: usize = 131_072;
 
 /// A variable's cell.
 pub const fn variable(number: u16) -> u32 {
@@ -32,10 +34,10 @@ pub const fn value(cell: u32) -> i16 {
     cell as i16
 }
 
-/// The names of the refusals' numbers, 1 to 25; 8 is no longer given.
-const REFUSALS: [&str; 25] = [
+/// The names of the refusals' numbers, 1 to 26; 8 is no longer given.
+const REFUSALS: [&str; 26] = [
     "LENGTH", "WIDTH", "COUNT", "LONG", "SHORT", "CELL", "FRESH", "TWICE", "EXTRA", "SIZE", "ENDS", "OPEN", "EDGES", "LABEL", "ROWS",
-    "ROOM", "BYTES", "TEXT", "OTHER", "FIGURE", "FULL", "LAST", "INDEX", "SAME", "BIG",
+    "ROOM", "BYTES", "TEXT", "OTHER", "FIGURE", "FULL", "LAST", "INDEX", "SAME", "BIG", "NAMES",
 ];
 
 /// The name of a refusal's number; "none" where it is no refusal's.
@@ -126,6 +128,17 @@ extern "C" {
         room: *mut u32,
         room_cells: usize,
     ) -> u64;
+    fn dudowiej_clauses(
+        record: *const Cells,
+        plan: *const u32,
+        plan_cells: usize,
+        text: *const u8,
+        text_bytes: usize,
+        names: *const u32,
+        names_count: usize,
+        room: *mut u8,
+        room_bytes: usize,
+    ) -> u64;
 }
 
 /// An answer taken apart: 2^16 · first + 2^32 · second, or of a refusal number + 2^8 · input + 2^16 · place.
@@ -140,6 +153,7 @@ fn apart(answer: u64) -> Result<(usize, usize), Refusal> {
                 4 => "room",
                 5 => "text",
                 6 => "figure",
+                7 => "names",
                 _ => "?",
             };
             Err(Refusal { number, input, place: answer >> 16 })
@@ -238,21 +252,40 @@ impl Record {
         room.truncate(cells);
         Ok((count, room))
     }
+
+    /// The plan as a Prolog program, for a table that was read from this text: its clauses, and its text.
+    pub fn clauses(&self, plan: &[u32], text: &[u8], list: &[u32]) -> Result<(usize, Vec<u8>), Refusal> {
+        let mut room = vec![0; PROGRAM_BYTES];
+        let (clauses, bytes) = self.clauses_in(plan, text, list, &mut room)?;
+        room.truncate(bytes);
+        Ok((clauses, room))
+    }
+
+    /// The same in a lent room, for any table and text: its clauses and its bytes.
+    pub fn clauses_in(&self, plan: &[u32], text: &[u8], list: &[u32], room: &mut [u8]) -> Result<(usize, usize), Refusal> {
+        let (list, names) = (list.as_ptr(), list.len());
+        apart(unsafe {
+            dudowiej_clauses(&*self.0, plan.as_ptr(), plan.len(), text.as_ptr(), text.len(), list, names, room.as_mut_ptr(), room.len())
+        })
+    }
 }
 
 /// A table made of a text.
 pub struct Loaded {
     pub table: Vec<u32>,
-    /// Where each name first stands in the text, by its number: start and bytes.
+    /// Where each name first stands in the text, by its number: as the library lists them, start in bits 15 to 0 and bytes in bits 31 to 16;
+    /// and as start and bytes.
+    pub list: Vec<u32>,
     pub names: Vec<(usize, usize)>,
 }
 
 /// The table of a text of Prolog facts, with its names.
 pub fn read_text(text: &[u8]) -> Result<Loaded, Refusal> {
-    let (mut table, mut names) = (vec![0; TABLE_CELLS], vec![0u32; NAMES]);
-    let answer = unsafe { dudowiej_read_text(text.as_ptr(), text.len(), table.as_mut_ptr(), table.len(), names.as_mut_ptr(), names.len()) };
+    let (mut table, mut list) = (vec![0; TABLE_CELLS], vec![0u32; NAMES]);
+    let answer = unsafe { dudowiej_read_text(text.as_ptr(), text.len(), table.as_mut_ptr(), table.len(), list.as_mut_ptr(), list.len()) };
     let (cells, count) = apart(answer)?;
     table.truncate(cells);
-    let names = names[..count].iter().map(|&name| ((name & 0xffff) as usize, (name >> 16) as usize)).collect();
-    Ok(Loaded { table, names })
+    list.truncate(count);
+    let names = list.iter().map(|&name| ((name & 0xffff) as usize, (name >> 16) as usize)).collect();
+    Ok(Loaded { table, list, names })
 }
