@@ -232,5 +232,6 @@ pub fn byte_of(text: &[u8], f: Refusal) -> usize {
         Input::Lent => 0,
         Input::Figure => 0,
         Input::Names => 0,
+        Input::File => 0,
     }
 }

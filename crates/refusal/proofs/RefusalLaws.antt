@@ -11,6 +11,7 @@ use Rattle.refusal.specs.declared.Reason.{Reason}
 use Rattle.refusal.specs.declared.Reason.the-variants.{Length, Width, Count, Long, Short, Cell, Fresh}
 use Rattle.refusal.specs.declared.Reason.the-variants.{Extra, Size, Ends, Open, Edges, Label, Rows, Room}
 use Rattle.refusal.specs.declared.Reason.the-variants.{Bytes, Text, Other, Figure, Full, Last, Index, Same, Big, Names}
+use Rattle.refusal.specs.declared.Reason.the-variants.{Blocks, Damage, Sizes, Padding}
 use Rattle.refusal.specs.declared.Input.{Input}
 use Rattle.refusal.specs.declared.Input.the-variants.{Table, Plan, Goal, Lent}
 use Rattle.refusal.specs.declared.Input.the-variants as input
@@ -49,6 +50,10 @@ reasons =
     ∷ Same
     ∷ Big
     ∷ Names
+    ∷ Blocks
+    ∷ Damage
+    ∷ Sizes
+    ∷ Padding
     ∷ []
 
 reasonAt : ℕ → Reason
@@ -81,9 +86,13 @@ reason-found Index = (refl, omega arith, omega arith)
 reason-found Same = (refl, omega arith, omega arith)
 reason-found Big = (refl, omega arith, omega arith)
 reason-found Names = (refl, omega arith, omega arith)
+reason-found Blocks = (refl, omega arith, omega arith)
+reason-found Damage = (refl, omega arith, omega arith)
+reason-found Sizes = (refl, omega arith, omega arith)
+reason-found Padding = (refl, omega arith, omega arith)
 
 inputs : List Input
-inputs = Table ∷ Plan ∷ Goal ∷ Lent ∷ input.Text ∷ input.Figure ∷ input.Names ∷ []
+inputs = Table ∷ Plan ∷ Goal ∷ Lent ∷ input.Text ∷ input.Figure ∷ input.Names ∷ input.File ∷ []
 
 inputAt : ℕ → Input
 inputAt = firstWith inputOf Table inputs
@@ -97,6 +106,7 @@ input-found Lent = (refl, omega arith)
 input-found input.Text = (refl, omega arith)
 input-found input.Figure = (refl, omega arith)
 input-found input.Names = (refl, omega arith)
+input-found input.File = (refl, omega arith)
 
 -- so refusals that tell the same are the same
 found : Refused → Refusal

@@ -4,12 +4,13 @@ use Rattle.refusal.specs.declared.Reason.{Reason}
 use Rattle.refusal.specs.declared.Reason.the-variants.{Length, Width, Count, Long, Short, Cell, Fresh}
 use Rattle.refusal.specs.declared.Reason.the-variants.{Extra, Size, Ends, Open, Edges, Label, Rows, Room}
 use Rattle.refusal.specs.declared.Reason.the-variants.{Bytes, Text, Other, Figure, Full, Last, Index, Same, Big, Names}
+use Rattle.refusal.specs.declared.Reason.the-variants.{Blocks, Damage, Sizes, Padding}
 use Rattle.refusal.specs.declared.Input.{Input}
 use Rattle.refusal.specs.declared.Input.the-variants.{Table, Plan, Goal, Lent}
 use Rattle.refusal.specs.declared.Input.the-variants as input
 use Rattle.refusal.specs.declared.Refusal.{Refusal}
 
--- 01, the column "no." of the table of refusals, and those of 02 after them: W-201's, W-204's, W-207's, W-208's, W-209's and W-210's.
+-- 01, the column "no." of the table of refusals, and those of 02 after them: W-201's, W-204's, W-207's, W-208's, W-209's, W-210's and W-211's.
 -- W-209, "TWICE is never given again": 8 is no reason's number
 abbrev pub numberOf : Reason → ℕ
 numberOf Length = 1
@@ -37,8 +38,13 @@ numberOf Index = 23
 numberOf Same = 24
 numberOf Big = 25
 numberOf Names = 26
+numberOf Blocks = 27
+numberOf Damage = 28
+numberOf Sizes = 29
+numberOf Padding = 30
 
--- 01, "which input it concerns (table, plan, goal or lent room)", in that order, and then a text, a figure and a list of names (02, W-201, W-204 and W-210)
+-- 01, "which input it concerns (table, plan, goal or lent room)", in that order, and then a text, a figure, a list of names and a file (02,
+-- W-201, W-204, W-210 and W-211)
 abbrev pub inputOf : Input → ℕ
 inputOf Table = 1
 inputOf Plan = 2
@@ -47,6 +53,7 @@ inputOf Lent = 4
 inputOf input.Text = 5
 inputOf input.Figure = 6
 inputOf input.Names = 7
+inputOf input.File = 8
 
 -- 01, "A refusal returns its number, which input it concerns and a place"
 pub record Refused : Type 0 where

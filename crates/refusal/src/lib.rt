@@ -4,8 +4,8 @@ ghost use Prim.Native.Nat.{_<_, _^_};
 ghost use Rattle.refusal.specs.Refusal.{numberOf, inputOf};
 
 // 01, "What is turned away", and 02, W-201, "BYTES; TEXT; OTHER", W-204, "FIGURE", W-207, "FULL .. LAST .. INDEX",
-// W-208, "SAME", W-209, "BIG", W-210, "NAMES": the names, in the order of their numbers. "TWICE is never given
-// again" (W-209): 8 is no reason's number.
+// W-208, "SAME", W-209, "BIG", W-210, "NAMES", W-211, "BLOCKS .. DAMAGE .. SIZES .. PADDING": the names, in the order of
+// their numbers. "TWICE is never given again" (W-209): 8 is no reason's number.
 pub enum Reason {
     Length,
     Width,
@@ -32,9 +32,14 @@ pub enum Reason {
     Same,
     Big,
     Names,
+    Blocks,
+    Damage,
+    Sizes,
+    Padding,
 }
 
-// 01, "which input it concerns (table, plan, goal or lent room)"; or a text (02, W-201), a figure (W-204), or a list of names (W-210).
+// 01, "which input it concerns (table, plan, goal or lent room)"; or a text (02, W-201), a figure (W-204),
+// a list of names (W-210), or a file (W-211).
 pub enum Input {
     Table,
     Plan,
@@ -43,6 +48,7 @@ pub enum Input {
     Text,
     Figure,
     Names,
+    File,
 }
 
 // What a refusal returns: its reason, by which it has 01's number, the input that it concerns, and a place.
@@ -83,6 +89,10 @@ pub fn number_of(reason: Reason) -> usize
         Reason::Same => 24,
         Reason::Big => 25,
         Reason::Names => 26,
+        Reason::Blocks => 27,
+        Reason::Damage => 28,
+        Reason::Sizes => 29,
+        Reason::Padding => 30,
     }
 }
 
@@ -98,5 +108,6 @@ pub fn input_of(input: Input) -> usize
         Input::Text => 5,
         Input::Figure => 6,
         Input::Names => 7,
+        Input::File => 8,
     }
 }
