@@ -12,8 +12,8 @@ ghost use Rattle.clauses.specs.Translate.{headOf};
 ghost use Rattle.clauses.specs.code.Walk.{holeAt};
 ghost use Rattle.heads.specs.Heads.{clauseCells};
 use doubles::part;
-use rewrite::put_cell;
-use rewrite::put_cells;
+use octets::cells::put_cell;
+use octets::cells::put_cells;
 
 // What is open in a head.
 const HOLE: u32 = 4294967295;

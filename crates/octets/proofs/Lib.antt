@@ -1,4 +1,5 @@
 pub mod PutLaws
 pub mod DecimalLaws
 pub mod CellsLaws
+pub mod BytesLaws
 pub mod Fixed

@@ -50,7 +50,7 @@ fn bind(v: u32, term: &[u32], cells: &mut [u32], other: &mut [u32], k: Stand) ->
     if 1024 < last - len {
         return Made::Big;
     }
-    rewrite::put_cells(cells, 0, &other[..last]);
+    octets::cells::put_cells(cells, 0, &other[..last]);
     Made::Fits(Stand {
         i: len,
         n: last,
@@ -67,7 +67,7 @@ fn take_term(list: &[u32], at: usize, term: &mut [u32]) -> usize
 {
     match term::term_end(list, at) {
         End::At(e) => {
-            rewrite::put_cells(term, 0, &list[at..e]);
+            octets::cells::put_cells(term, 0, &list[at..e]);
             e
         }
         End::Short => at,
@@ -176,6 +176,6 @@ pub fn one(
     ensures { λ r. ⌜ Ended (now (row .entry)) (now (goal .entry)) (now (cells .exit)) r ⌝ }
 {
     let len = rewrite::put_apart(cells, 0, goal);
-    let n = rewrite::put_cells(cells, len, row);
+    let n = octets::cells::put_cells(cells, len, row);
     meet(cells, other, term, len, n)
 }

@@ -1,4 +1,4 @@
-// Cells put into a lent room from a place on: as they are, with a variable replaced, with variables moved apart or renumbered. Each function
+// Cells put into a lent room from a place on: with a variable replaced, with variables moved apart or renumbered. Each function
 // answers the place after them. What has no room is left out, so that nobody has to measure first.
 ghost use mathlib.Core.Path.{_≡_};
 ghost use mathlib.Core.List.{[], _∷_};
@@ -10,28 +10,8 @@ ghost use Rattle.term.specs.Unify.{renamed};
 ghost use Rattle.term.specs.Bind.{bind, idS};
 ghost use Rattle.octets.specs.Octets.{Put};
 ghost use Rattle.instance.specs.Rewrite.{put, place, numberAt, meetIn, numberIn};
-
-pub fn put_cell(out: &mut [u32], to: usize, c: u32) -> usize
-    ensures { λ r. ⌜ Put (now (out .entry)) (now (out .exit)) to (c ∷ []) r ⌝ }
-{
-    if out.len() <= to {
-        return to;
-    }
-    out[to] = c;
-    to + 1
-}
-
-pub fn put_cells(out: &mut [u32], to: usize, cells: &[u32]) -> usize
-    ensures { λ r. ⌜ Put (now (out .entry)) (now (out .exit)) to (now (cells .entry)) r ⌝ }
-{
-    let mut on = to;
-    let mut i = 0;
-    while i < cells.len() {
-        on = put_cell(out, on, cells[i]);
-        i += 1;
-    }
-    on
-}
+use octets::cells::put_cell;
+use octets::cells::put_cells;
 
 // One cell, which is the variable `v` or is not.
 fn put_swapped(out: &mut [u32], to: usize, c: u32, v: u32, term: &[u32]) -> usize

@@ -4,9 +4,9 @@ use builder::BuildAnswer;
 use checker::PlanAnswer;
 use doubles::part;
 use least::By;
+use octets::cells::put_cells;
 use prolog::TextAnswer;
 use refusal::Refusal;
-use rewrite::put_cells;
 
 // The facts' predicate, the number of the plan's branches, and where the lists end that stand one after another in one room: first the line of
 // each rule, 64 numbers, then the names, the table and the plan.
@@ -64,7 +64,8 @@ fn put_lists(text: &[u8], names: &[u32], table: &[u32], plan: &[u32], kept: &mut
     }
 }
 
-fn branches_of(table: &[u32], plan: &[u32]) -> usize {
+// Of a table and a plan for it; 0 of any others.
+pub fn branches_of(table: &[u32], plan: &[u32]) -> usize {
     match checker::check_plan(table, plan) {
         PlanAnswer::Accepted(n) => n,
         PlanAnswer::Refused(_) => 0,

@@ -1,8 +1,8 @@
 use native.Mathlib.Omega.{arith}
 use Rattle.octets.proofs.PutLaws.{put-one, put-none}
 use borrow.Author.Needs.{needs}
-use Rattle.rewrite.proofs.put_cell.Statement.{statement}
-use Rattle.rewrite.proofs.put_cell.Tie as tie
+use Rattle.octets.proofs.cells.put_cell.Statement.{statement}
+use Rattle.octets.proofs.cells.put_cell.Tie as tie
 
 returns : tie.Need-returns
 returns c = put-none _ _ _ (omega arith)

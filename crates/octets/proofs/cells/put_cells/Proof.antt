@@ -2,11 +2,11 @@ use mathlib.Core.Path.{refl}
 use Prim.Native.Nat.{_-_, _≤_}
 use native.Mathlib.Omega.{arith}
 use lib.ListN.{length, take}
 use Rattle.octets.specs.Octets.{Put}
 use Rattle.octets.proofs.PutLaws.{put-nothing, put-next, put-all, put-length}
 use borrow.Author.Needs.{needs}
-use Rattle.rewrite.proofs.put_cells.Statement.{statement}
-use Rattle.rewrite.proofs.put_cells.Tie as tie
+use Rattle.octets.proofs.cells.put_cells.Statement.{statement}
+use Rattle.octets.proofs.cells.put_cells.Tie as tie
 
 abbrev Inv-loop : tie.InvT-loop
 Inv-loop out₀ to cells on₀ i₀ out on i = (i ≤ length cells) × Put out₀ out to (take i cells) on
