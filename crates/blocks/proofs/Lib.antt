@@ -1,0 +1,5 @@
+pub mod SumsLaws
+pub mod BlockLaws
+pub mod LookLaws
+pub mod PutLaws
+pub mod Fixed
