@@ -4,3 +4,4 @@ pub mod LoopLaws
 pub mod EntryLaws
 pub mod Accepts
 pub mod Fixed
+pub mod SaidLaws
