@@ -38,8 +38,9 @@ use Rattle.prolog.specs.Entry.{textTold}
 use Rattle.prolog.specs.declared.TextAnswer.{TextAnswer}
 use Rattle.prolog.proofs.Fixed.{read-text-fixed}
 use Rattle.exports.specs.Coded.{WorkCoded, EditCoded, BuildCoded, RunCoded, TextCoded, JobsCoded, RepliesCoded, ClausesCoded}
+use Rattle.exports.specs.Coded.{FileWriteCoded, FileReadCoded}
 use Rattle.exports.proofs.Fixed.{work-coded-fixed, edit-coded-fixed, build-coded-fixed, run-coded-fixed, text-coded-fixed, jobs-coded-fixed, replies-coded-fixed}
-use Rattle.exports.proofs.Fixed.{clauses-coded-fixed}
+use Rattle.exports.proofs.Fixed.{clauses-coded-fixed, written-coded-fixed, loaded-coded-fixed}
 use Rattle.answer.specs.declared.Job.{Job}
 use Rattle.answer.specs.Jobs.{JobsRun}
 use Rattle.run.proofs.Fixed.{run-jobs-fixed}
@@ -49,6 +50,10 @@ use Rattle.instance.proofs.Fixed.{replied-fixed}
 use Rattle.clauses.specs.declared.HandAnswer.{HandAnswer}
 use Rattle.clauses.specs.Handed as hands
 use Rattle.clauses.proofs.Fixed as clauses
+use Rattle.filing.specs.Files.{FileWritten, FileLoaded}
+use Rattle.filing.specs.Answers.{fileTold}
+use Rattle.filing.specs.declared.FileAnswer.{FileAnswer}
+use Rattle.filing.proofs.Fixed.{write-file-fixed, read-file-fixed}
 
 -- "For all inputs, refused ones too, the promise of a public function determines the result and the final contents of the lent room; the
 -- team proves that two results allowed by it are equal". The small functions of cell, term, goal and state have theirs in proofs/Fixed of
@@ -100,6 +105,14 @@ pub held-clauses : {t p text names room room′ room″ : List ℕ} {r s : HandA
     → hands.Handed t p text names room room″ s → (r ≡ s) × (room′ ≡ room″)
 held-clauses = clauses.handed-fixed
 
+pub held-write-file : {t p room room′ room″ : List ℕ} {r s : FileAnswer} → FileWritten t p room room′ (fileTold r)
+    → FileWritten t p room room″ (fileTold s) → (r ≡ s) × (room′ ≡ room″)
+held-write-file = write-file-fixed
+
+pub held-read-file : {f t p t′ p′ t″ p″ : List ℕ} {r s : FileAnswer} → FileLoaded f t p t′ p′ (fileTold r)
+    → FileLoaded f t p t″ p″ (fileTold s) → (r ≡ s) × (t′ ≡ t″) × (p′ ≡ p″)
+held-read-file = read-file-fixed
+
 pub held-listing : (bytes room : List ℕ) {room′ room″ : List ℕ} {r s : ℕ} → Written (Lists bytes) room room′ r
     → Written (Lists bytes) room room″ s
     → (r ≡ s) × (room′ ≡ room″)
@@ -146,6 +159,14 @@ held-exported-replies = replies-coded-fixed
 pub held-exported-clauses : {t p text names room room′ room″ : List ℕ} {r s : ℕ} → ClausesCoded t p text names room room′ r
     → ClausesCoded t p text names room room″ s → (r ≡ s) × (room′ ≡ room″)
 held-exported-clauses = clauses-coded-fixed
+
+pub held-exported-write-file : {t p room room′ room″ : List ℕ} {r s : ℕ} → FileWriteCoded t p room room′ r → FileWriteCoded t p room room″ s
+    → (r ≡ s) × (room′ ≡ room″)
+held-exported-write-file = written-coded-fixed
+
+pub held-exported-read-file : {f t p t′ p′ t″ p″ : List ℕ} {r s : ℕ} → FileReadCoded f t p t′ p′ r → FileReadCoded f t p t″ p″ s
+    → (r ≡ s) × (t′ ≡ t″) × (p′ ≡ p″)
+held-exported-read-file = loaded-coded-fixed
 
 -- The number that an exported entry answers tells its answer: two answers with one code are equal. That the header's masks and shifts
 -- (`decoded`) read back what was answered is in every theorem of proofs/Demands, of each entry by crate exports, proofs/Back.

@@ -2,6 +2,8 @@ pub mod Cited
 pub mod Demands
 pub mod Replies
 pub mod Clauses
+pub mod FileSteps
+pub mod Files
 pub mod Twice
 pub mod Held
 pub mod Texts

@@ -43,6 +43,8 @@ use Rattle.demands.specs.Replies.{RepliesTurned, RepliesRefused}
 use Rattle.demands.specs.Replies as replies
 use Rattle.demands.specs.Clauses.{ClausesTurned, ClausesRefused}
 use Rattle.demands.specs.Clauses as clauses
+use Rattle.demands.specs.Files.{WriteTurned, WriteRefused, ReadTurned, ReadRefused}
+use Rattle.demands.specs.Files as files
 use Rattle.demands.specs.Records.{WorkTurned, MakesRecord, EditTurned, EditsRecord}
 use Rattle.demands.specs.Records as records
 use Rattle.demands.specs.Twice.{NeverTwice}
@@ -132,6 +134,27 @@ never-clauses {t} {p} {text} {names} {room} x f e = go (x .refuses f .0 e)
     go (clauses.bad-plan i q) = placed (placed-checked t p) q
     go (clauses.bad-names i tree u l q) = named reason.Names (same q)
     go (clauses.bad-room i tree u l n q) = named reason.Room (same q)
+
+pub never-write-file : {t p room after : List ℕ} {a : Answer} → WriteRefused t p room after a → NeverTwice a
+never-write-file {t} {p} {room} x f e = go (x .refuses f .0 e)
+  where
+    go : WriteTurned t p room f → f .number ≢ 8
+    go (files.bad-table q) = placed (placed-table t) q
+    go (files.bad-plan i q) = placed (placed-checked t p) q
+    go (files.bad-room i tree u l q) = named reason.Room (same q)
+
+pub never-read-file : {file t p t′ p′ : List ℕ} {a : Answer} → ReadRefused file t p t′ p′ a → NeverTwice a
+never-read-file {file} {t} {p} x f e = go (x .refuses f .0 e)
+  where
+    go : ReadTurned file t p f → f .number ≢ 8
+    go (files.no-blocks b q) = named reason.Blocks (same q)
+    go (files.damage k b q) = named reason.Damage (same q)
+    go (files.bad-sizes b d q) = named reason.Sizes (same q)
+    go (files.bad-padding k b d q) = named reason.Padding (same q)
+    go (files.bad-table b q) = placed (placed-table (files.tableOn file)) q
+    go (files.bad-plan b i q) = placed (placed-checked (files.tableOn file) (files.planOn file)) q
+    go (files.table-short t p y l q) = named reason.Room (same q)
+    go (files.plan-short t p y k l q) = named reason.Room (same q)
 
 pub never-work-out : {figure : ℕ} {t rec rec′ : List ℕ} {a : Answer} → MakesRecord figure t rec rec′ a → NeverTwice a
 never-work-out {figure} {t} x f e = go (x .refuses f .0 e)

@@ -8,3 +8,4 @@ pub mod Numbers
 pub mod Records
 pub mod Asking
 pub mod Clauses
+pub mod Files

@@ -4,6 +4,9 @@
 // table, a cell's value and symbol, the listing, goals and answers in text. Nothing calls these functions; they are private, since what they
 // ensure is less than what the entries promise.
 ghost use Prim.Native.Nat.{ℕ};
+ghost use mathlib.Core.Path.{_≡_};
+ghost use lib.ListN.{length};
+ghost use Rattle.octets.specs.Octets.{Words};
 ghost use Rattle.refusal.specs.Coded.{decoded};
 ghost use Rattle.table.specs.Table.{Table};
 ghost use Rattle.record.specs.Record.{Holds, tableIn};
@@ -17,6 +20,7 @@ ghost use Rattle.demands.specs.Shift.{Shift};
 ghost use Rattle.demands.specs.Replies.{RepliesRefused, Says};
 ghost use Rattle.demands.specs.Records.{MakesRecord, EditsRecord, BuildsFrom};
 ghost use Rattle.demands.specs.Clauses.{ClausesRefused, HandsBack};
+ghost use Rattle.demands.specs.Files.{WriteRefused, WritesFile, ThereAndBack, ReadRefused, ReadsFile, BackAgain};
 ghost use Rattle.demands.specs.Asking.{FindsPredicate, ReadsGoal, ReadsBack};
 use asking::Predicate;
 use cell::Shape;
@@ -164,6 +168,37 @@ fn request_clauses(
         (now (room .entry)) (now (room .exit)) (decoded r) ⌝ }
 {
     exports::dudowiej_clauses(rec, plan, text, names, room)
+}
+
+// W-211 (specs/Files)
+fn request_write_file(rec: &[u32; 14340], plan: &[u32], room: &mut [u8]) -> u64
+    ensures { λ r. ⌜ WriteRefused (tableIn (now (rec .entry))) (now (plan .entry)) (now (room .entry)) (now (room .exit)) (decoded r) ⌝ }
+    ensures { λ r. ⌜ WritesFile (tableIn (now (rec .entry))) (now (plan .entry)) (now (room .entry)) (now (room .exit)) (decoded r) ⌝ }
+    ensures { λ r. ⌜ ThereAndBack (tableIn (now (rec .entry))) (now (plan .entry)) (now (room .exit)) (decoded r) ⌝ }
+{
+    lent_words(record::table_of(rec));
+    exports::dudowiej_write_file(rec, plan, room)
+}
+
+fn request_read_file(file: &[u8], table: &mut [u32], plan: &mut [u32]) -> u64
+    ensures { λ r. ⌜ ReadRefused (now (file .entry)) (now (table .entry)) (now (plan .entry)) (now (table .exit)) (now (plan .exit)) (decoded r) ⌝ }
+    ensures { λ r. ⌜ ReadsFile (now (file .entry)) (now (table .entry)) (now (plan .entry)) (now (table .exit)) (now (plan .exit)) (decoded r) ⌝ }
+    ensures { λ r. ⌜ BackAgain (now (file .entry)) (now (table .exit)) (now (plan .exit)) (decoded r) ⌝ }
+{
+    exports::dudowiej_read_file(file, table, plan)
+}
+
+// What is lent as cells of 32 bits is that, and so can be read back.
+fn lent_words(cells: &[u32]) -> usize
+    ensures { λ r. ⌜ Words (now (cells .entry)) ⌝ }
+{
+    count(cells)
+}
+
+fn count(cells: &[u32]) -> usize
+    ensures { λ r. ⌜ r ≡ length (now (cells .entry)) ⌝ }
+{
+    cells.len()
 }
 
 // ask (specs/Asking)

@@ -13,7 +13,9 @@ use Rattle.record.specs.Edits.{Edit}
 use Rattle.builder.specs.Build.{buildTold}
 use Rattle.answer.specs.Run.{runTold}
 use Rattle.exports.specs.Coded.{rowSays, WorkCoded, EditSays, BuildSays, RunCoded, TextCoded, JobsCoded, RepliesCoded, ClausesCoded}
+use Rattle.exports.specs.Coded.{cut, FileWriteCoded, FileReadCoded}
 use Rattle.exports.proofs.Small.{table-small, goal-with-small, row-small, plan-small, work-small, edit-small, build-small, run-small, text-small, jobs-small, replies-small}
+use Rattle.exports.proofs.Small.{written-small, loaded-small}
 use Rattle.answer.specs.declared.Job.{Job}
 use Rattle.instance.specs.Replied.{repliesTold}
 use Rattle.clauses.specs.Handed.{handTold}
@@ -53,3 +55,9 @@ replies-back x = read-back (replies-small (x .replied)) (x .code)
 
 pub clauses-back : {t p text names room room′ : List ℕ} {n : ℕ} (x : ClausesCoded t p text names room room′ n) → decoded n ≡ handTold (x .answer)
 clauses-back x = read-back (x .small) (x .code)
+
+pub written-back : {t p room room′ : List ℕ} {n : ℕ} (x : FileWriteCoded t p room room′ n) → decoded n ≡ x .told
+written-back x = read-back (written-small (x .wrote)) (x .code)
+
+pub loaded-back : {f t p t′ p′ : List ℕ} {n : ℕ} (x : FileReadCoded f t p t′ p′ n) → decoded n ≡ cut (x .told)
+loaded-back x = read-back (loaded-small (x .loaded)) (x .code)

@@ -14,8 +14,10 @@ use Rattle.answer.specs.Run.{runTold}
 use Rattle.answer.specs.declared.RunAnswer.{RunAnswer}
 use Rattle.answer.proofs.Fixed.{run-fixed}
 use Rattle.loading.proofs.Fixed.{text-fixed}
+use Rattle.refusal.specs.Refusal.{Answer}
 use Rattle.refusal.specs.Coded.{coded}
 use Rattle.exports.specs.Coded.{WorkCoded, EditCoded, BuildCoded, RunCoded, TextCoded, JobsCoded, RepliesCoded, ClausesCoded}
+use Rattle.exports.specs.Coded.{cut, FileWriteCoded, FileReadCoded}
 use Rattle.answer.specs.declared.Job.{Job}
 use Rattle.answer.proofs.JobsLaws.{jobs-fixed}
 use Rattle.instance.specs.Replied.{repliesTold}
@@ -24,6 +26,7 @@ use Rattle.instance.proofs.Fixed.{replied-fixed}
 use Rattle.clauses.specs.Handed.{handTold}
 use Rattle.clauses.specs.declared.HandAnswer.{HandAnswer}
 use Rattle.clauses.proofs.Fixed.{handed-fixed}
+use Rattle.filing.proofs.Fixed.{written-fixed, loaded-fixed}
 
 pub work-coded-fixed : {figure : ℕ} {cells rec rec′ rec″ : List ℕ} {m n : ℕ} → WorkCoded figure cells rec rec′ m → WorkCoded figure cells rec rec″ n
     → (m ≡ n) × (rec′ ≡ rec″)
@@ -69,3 +72,13 @@ pub clauses-coded-fixed : {t p text names room room′ room″ : List ℕ} {m n 
 clauses-coded-fixed a b =
     let f = handed-fixed (a .handed) (b .handed) in
     (a .code ∙ ap (λ (x : HandAnswer). coded (handTold x)) (f .0) ∙ sym (b .code), f .1)
+
+pub written-coded-fixed : {t p room room′ room″ : List ℕ} {m n : ℕ} → FileWriteCoded t p room room′ m → FileWriteCoded t p room room″ n
+    → (m ≡ n) × (room′ ≡ room″)
+written-coded-fixed a b = let f = written-fixed (a .wrote) (b .wrote) in (a .code ∙ ap coded (f .0) ∙ sym (b .code), f .1)
+
+pub loaded-coded-fixed : {f t p t′ p′ t″ p″ : List ℕ} {m n : ℕ} → FileReadCoded f t p t′ p′ m → FileReadCoded f t p t″ p″ n
+    → (m ≡ n) × (t′ ≡ t″) × (p′ ≡ p″)
+loaded-coded-fixed a b =
+    let f = loaded-fixed (a .loaded) (b .loaded) in
+    (a .code ∙ ap (λ (x : Answer). coded (cut x)) (f .0) ∙ sym (b .code), f .1, f .2)

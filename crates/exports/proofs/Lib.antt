@@ -1,4 +1,5 @@
 pub mod Places
+pub mod CutLaws
 pub mod Small
 pub mod Fixed
 pub mod Back

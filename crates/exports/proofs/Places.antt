@@ -2,7 +2,7 @@
 use mathlib.Core.Path.{_≡_, refl, ap}
 use mathlib.Core.Bool.{Bool, true, false, cond, not, _&&_, _||_}
 use mathlib.Core.List.{List, [], _∷_, _++_}
-use Prim.Native.Nat.{ℕ, zero, suc, _+_, _-_, _^_, _≤_, _<_}
+use Prim.Native.Nat.{ℕ, zero, suc, _+_, _-_, _*_, _%_, _^_, _≤_, _<_}
 use native.Mathlib.Omega.{arith}
 use lib.Dec.{eqb, leb, ltb}
 use lib.ListN.{length, getD, set, take, drop, length-drop}
@@ -21,6 +21,10 @@ use Rattle.plan.specs.Check.{Seen, seen, cellThen, Reader, branchesFrom, leafFr
 use Rattle.answer.specs.Run.{runOf}
 use Rattle.instance.specs.Replied.{repliesOf}
 use Rattle.clauses.specs.Handed.{handOf}
+use Rattle.octets.specs.Octets.{cellsOf}
+use Rattle.blocks.specs.Blocks as blocks
+use Rattle.blocks.proofs.BlockLaws.{sound-most}
+use Rattle.filing.specs.Files.{needed, zeros, Card, card, sizes, tablePart, planPart, cardOf, fileRead}
 use Rattle.table.proofs.Accepted.{is-table}
 use Rattle.refusal.specs.Read.{Read, read, refuse, when, andThen}
 use Rattle.table.specs.Table.{Table, Met, met, counted, termsFrom, before, doubled, rowsFrom, tableOf, table, goalOf, goalWith, others, rowOf}
@@ -254,3 +258,16 @@ pub placed-handed : (t p : List ℕ) → Placed 6082 (Any {A = Table}) (handOf t
 unfolding handOf
 placed-handed t p =
     placed-then _ (widen (omega arith) (placed-table t)) (λ T _. placed-then _ (placed-plan T p) (λ n _. good tt))
+
+-- a file: a block's place in it, then the table's and the plan's
+pub placed-file : (f : List ℕ) → Placed (blocks.whole f + 6082) (Any {A = Card}) (fileRead f)
+unfolding fileRead cardOf
+placed-file f =
+    let cells = blocks.goodCells f 0 in
+    let most = sound-most (blocks.whole f - 0) 0 (drop (128 * 0) (cellsOf f)) in
+    placed-when (eqb (length f) 0 || not (eqb (length f % 512) 0)) reason.Blocks input.File 0 (omega arith) (λ _.
+    placed-when (ltb (blocks.good f 0) (blocks.whole f)) reason.Damage input.File (blocks.good f 0) (omega (arith, most)) (λ _.
+    placed-when (not (eqb (needed (sizes cells)) (blocks.whole f))) reason.Sizes input.File 0 (omega arith) (λ _.
+    placed-when (not (zeros (drop (sizes cells) cells))) reason.Padding input.File 0 (omega arith) (λ _.
+    placed-then (λ (n : ℕ). read (card (tablePart cells) (planPart cells)))
+    (widen (omega arith) (placed-checked (tablePart cells) (planPart cells))) (λ n _. good tt)))))

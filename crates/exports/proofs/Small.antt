@@ -1,7 +1,7 @@
 -- Every answer of every entry fits the number that it is coded as.
 use mathlib.Core.Path.{_≡_, refl, sym, ap, _∙_}
 use mathlib.Core.List.{List, [], _∷_, _++_, flatten}
-use Prim.Native.Nat.{ℕ, zero, suc, _+_, _-_, _^_, _≤_, _<_}
+use Prim.Native.Nat.{ℕ, zero, suc, _+_, _-_, _%_, _^_, _≤_, _<_}
 use native.Mathlib.Omega.{arith}
 use mathlib.Core.Bool.{Bool, true, false, _||_}
 use lib.Dec.{leb, ltb}
@@ -59,7 +59,14 @@ use Rattle.grammar.proofs.LongLaws.{text-long, other-place, names-few}
 use Rattle.loading.specs.Load.{Loaded, Loads, not-taken, no-cells, no-names, no-table, loads, loadSays, TextLoads}
 use Rattle.prolog.proofs.EntryLaws.{cells-long, names-long}
 use Rattle.run.proofs.Fixed.{jobs-told}
+use Rattle.filing.specs.Files.{fileOf, FileWritten, FileLoaded}
+use Rattle.filing.specs.Files as files
+use Rattle.filing.proofs.Undo.{accepted-sizes, read-sizes}
+use Rattle.filing.proofs.WriteLaws.{file-few}
+use Rattle.exports.specs.Coded.{cut}
+use Rattle.exports.proofs.CutLaws.{placed-cut}
 use Rattle.exports.proofs.Places.{placed-small, placed-table, placed-edit, placed-plan, placed-run, placed-goal, placed-replies, placed-handed}
+use Rattle.exports.proofs.Places.{placed-checked, placed-file}
 
 pub table-small : (t : List ℕ) → Small (tableSays (tableOf t))
 table-small t = go (tableOf t) refl
@@ -227,3 +234,26 @@ clauses-small {t} {p} {text} {names} s (hands.no-room T tree a w l n b c) =
 clauses-small {t} {p} s (hands.handed T tree a w l n b c) =
     let i = is-table t (hand-takes t p a .table) in
     rw b (omega (arith, program-few i tree), omega (arith, clauses.text-small i tree l s))
+
+-- what the check refuses
+pub checked-small : (t p : List ℕ) (f : Refused) → planOf t p ≡ refuse f → Small (turned f)
+checked-small t p f e = placed-small (omega arith) (placed-checked t p) e
+
+-- a file has at most 66 blocks
+pub written-small : {t p room room′ : List ℕ} {a : Answer} → FileWritten t p room room′ a → Small a
+written-small {t} {p} (files.not-accepted f e r s) = small-by r (checked-small t p f e)
+written-small {t} {p} (files.room-short n e l r s) =
+    let k = file-few t p (accepted-sizes t p e) in
+    small-by r (refused-small reason.Room input.Lent (length (fileOf t p)) (omega (arith, k .1)))
+written-small {t} {p} (files.written n e l r s) =
+    let k = file-few t p (accepted-sizes t p e) in
+    small-by r (omega (arith, k .1), omega (arith, k .0))
+
+-- and what is read from one fits once a bad block's place is cut
+pub loaded-small : {f t p t′ p′ : List ℕ} {a : Answer} → FileLoaded f t p t′ p′ a → Small (cut a)
+loaded-small {f} (files.not-read g e r s u) = small-by (ap cut r) (placed-cut (placed-file f) e)
+loaded-small {f} (files.table-short c e l r s u) =
+    small-by (ap cut r) (refused-small reason.Room input.Lent (length (c .table) % 2 ^ 48) (omega arith))
+loaded-small {f} (files.plan-short c e k l r s u) =
+    small-by (ap cut r) (refused-small reason.Room input.Lent (length (c .plan) % 2 ^ 48) (omega arith))
+loaded-small {f} (files.loaded c e k l r s u) = let z = read-sizes f c e in small-by (ap cut r) (omega (arith, z .0), omega (arith, z .1))

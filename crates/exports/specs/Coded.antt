@@ -1,9 +1,9 @@
 -- What the entries answer as one number (crate refusal, specs/Coded), where the crates that they call do not say it.
-use Prim.Native.Nat.{ℕ}
+use Prim.Native.Nat.{ℕ, _%_, _^_}
 use mathlib.Core.Path.{_≡_}
 use mathlib.Core.List.{List}
 use lib.ListN.{length, getD}
-use Rattle.refusal.specs.Refusal.{Answer, answered}
+use Rattle.refusal.specs.Refusal.{Answer, answered, turned}
 use Rattle.refusal.specs.Read.{Read}
 use Rattle.refusal.specs.Coded.{coded, Small}
 use Rattle.table.specs.Table.{Table, startsIn, rowIn}
@@ -21,6 +21,7 @@ use Rattle.instance.specs.declared.RepliesAnswer.{RepliesAnswer}
 use Rattle.instance.specs.Replied.{Replied, repliesTold}
 use Rattle.clauses.specs.declared.HandAnswer.{HandAnswer}
 use Rattle.clauses.specs.Handed.{Handed, handTold}
+use Rattle.filing.specs.Files.{FileWritten, FileLoaded}
 
 -- where a row's cells start in the table, and how many they are; both 0 where there is no such row
 abbrev pub rowSays : Read Table → ℕ → Answer
@@ -81,3 +82,20 @@ pub record ClausesCoded (cells plan text names room after : List ℕ) (number : 
   pub handed : Handed cells plan text names room after answer
   pub small : Small (handTold answer)
   pub code : number ≡ coded (handTold answer)
+
+-- an answer with as much of a refusal's place as its 48 bits hold. Only DAMAGE's place can be more, of a file of 2^57 bytes
+abbrev pub cut : Answer → Answer
+cut (answered first second) = answered first second
+cut (turned f) = turned (record { number = f .number; input = f .input; place = f .place % 2 ^ 48 })
+
+-- what the entry that writes a file answers and leaves in the room
+pub record FileWriteCoded (cells plan room after : List ℕ) (number : ℕ) : Type 0 where
+  pub told : Answer
+  pub wrote : FileWritten cells plan room after told
+  pub code : number ≡ coded told
+
+-- what the entry that reads a file answers and leaves in the two rooms
+pub record FileReadCoded (file table plan table′ plan′ : List ℕ) (number : ℕ) : Type 0 where
+  pub told : Answer
+  pub loaded : FileLoaded file table plan table′ plan′ told
+  pub code : number ≡ coded (cut told)

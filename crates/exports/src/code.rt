@@ -9,10 +9,13 @@ ghost use Rattle.answer.specs.Run.{runTold};
 ghost use Rattle.prolog.specs.Entry.{textTold};
 ghost use Rattle.instance.specs.Replied.{repliesTold};
 ghost use Rattle.clauses.specs.Handed.{handTold};
+ghost use Rattle.filing.specs.Answers.{fileTold};
+ghost use Rattle.exports.specs.Coded.{cut};
 use answer::RunAnswer;
 use builder::BuildAnswer;
 use checker::PlanAnswer;
 use clauses::HandAnswer;
+use filing::FileAnswer;
 use instance::RepliesAnswer;
 use prolog::TextAnswer;
 use refusal::Refusal;
@@ -42,7 +45,7 @@ fn code_refusal(f: Refusal) -> u64
 
 // The same of a refusal of which nothing is known: what of its place does not fit is cut off.
 fn cut_refusal(f: Refusal) -> u64
-    ensures { λ r. ⌜ (Small (turned (told f)) → r ≡ coded (turned (told f))) ⌝ }
+    ensures { λ r. ⌜ r ≡ coded (cut (turned (told f))) ⌝ }
 {
     let reason = f.reason;
     let input = f.input;
@@ -148,5 +151,16 @@ pub fn code_hand(a: HandAnswer) -> u64
     match a {
         HandAnswer::Handed(clauses, bytes) => code_answer(clauses, bytes),
         HandAnswer::Refused(f) => code_refusal(f),
+    }
+}
+
+// The place of a bad block may be any number.
+pub fn code_file(a: FileAnswer) -> u64
+    requires { ⌜ Small (cut (fileTold a)) ⌝ }
+    ensures { λ r. ⌜ r ≡ coded (cut (fileTold a)) ⌝ }
+{
+    match a {
+        FileAnswer::Done(first, second) => code_answer(first, second),
+        FileAnswer::Refused(f) => cut_refusal(f),
     }
 }

@@ -9,6 +9,7 @@ ghost use Rattle.refusal.specs.Coded.{coded};
 ghost use Rattle.record.specs.Record.{tableIn};
 ghost use Rattle.record.specs.Edits.{append, drop-last, replace};
 ghost use Rattle.exports.specs.Coded.{rowSays, WorkCoded, EditCoded, BuildCoded, RunCoded, TextCoded, JobsCoded, RepliesCoded, ClausesCoded};
+ghost use Rattle.exports.specs.Coded.{FileWriteCoded, FileReadCoded};
 
 mod code;
 
@@ -162,4 +163,21 @@ pub extern "C" fn dudowiej_clauses(
 {
     let cells = record::table_of(rec);
     code::code_hand(handing::hand_back(cells, plan, text, names, room))
+}
+
+// The bytes and the blocks of the file of the record's table and a plan; its bytes are the room's first.
+#[no_mangle]
+pub extern "C" fn dudowiej_write_file(rec: &[u32; 14340], plan: &[u32], room: &mut [u8]) -> u64
+    ensures { λ r. ⌜ FileWriteCoded (tableIn (now (rec .entry))) (now (plan .entry)) (now (room .entry)) (now (room .exit)) r ⌝ }
+{
+    let cells = record::table_of(rec);
+    code::code_file(filewriting::write_file(cells, plan, room))
+}
+
+// The number of cells of a file's table and of its plan. The table's are the first of one room, the plan's are the first of the other.
+#[no_mangle]
+pub extern "C" fn dudowiej_read_file(file: &[u8], table: &mut [u32], plan: &mut [u32]) -> u64
+    ensures { λ r. ⌜ FileReadCoded (now (file .entry)) (now (table .entry)) (now (plan .entry)) (now (table .exit)) (now (plan .exit)) r ⌝ }
+{
+    code::code_file(filereading::read_file(file, table, plan))
 }
