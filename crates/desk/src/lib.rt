@@ -2,7 +2,6 @@
 // promised in the libraries. This crate finds the arguments and the file; it is proved safe and ending.
 use clauses::HandAnswer;
 use lex::name::same_bytes;
-use message::Whose;
 use page::Page;
 use reading::Got;
 use refusal::Refusal;
@@ -138,7 +137,6 @@ fn show_clauses(path: &[u8], text: &[u8], kept: &[u32], shop: Shop, out: &mut [u
 }
 
 fn refuse(path: &[u8], text: &[u8], f: Refusal, out: &mut [u8]) {
-    let a = octets::put_word(out, 0, path);
-    let b = refusals::put_refusal(out, a, text, 0, Whose::Facts, f);
-    page::complain(out, b);
+    let n = refusals::put_facts_refusal(out, path, text, f);
+    page::complain(out, n);
 }

@@ -3,7 +3,7 @@ use libc::STDERR_FILENO;
 use libc::STDOUT_FILENO;
 
 // The first line that cannot be written is said and ends it.
-fn line(going: bool, text: &[u8]) -> bool {
+pub fn line(going: bool, text: &[u8]) -> bool {
     if !going {
         return false;
     }

@@ -10,6 +10,7 @@ use octets::put_byte;
 use octets::put_decimal;
 use octets::put_word;
 pub use reason::Whose;
+pub use reason::put_number;
 use refusal::Reason;
 
 // A refusal, after the name of what is refused: line, column, the refusal's name and number, and what is expected. `said` says what is expected

@@ -87,7 +87,8 @@ fn put_text(out: &mut [u8], to: usize, said: &[u8]) -> usize
     put_word(out, on, said)
 }
 
-fn put_number(out: &mut [u8], to: usize, number: usize) -> usize
+// A reason that has no words of its own.
+pub fn put_number(out: &mut [u8], to: usize, number: usize) -> usize
     ensures { λ r. ⌜ Put (now (out .entry)) (now (out .exit)) to (byNumber number) r ⌝ }
 {
     let on = put_word(out, to, b"refusal ");

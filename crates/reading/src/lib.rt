@@ -65,9 +65,13 @@ pub fn read_path(path: &[u8], buf: &mut [u8]) -> Got {
     got
 }
 
-// Says it to standard error, with the system's reason.
-pub fn cannot_read(path: &[u8], out: &mut [u8]) {
-    let a = put_word(out, 0, b"cannot read ");
+// Says to standard error what could not be done to which file, with the system's reason.
+pub fn cannot(deed: &[u8], path: &[u8], out: &mut [u8]) {
+    let a = put_word(out, 0, deed);
     let b = put_word(out, a, path);
     os::fail(parts::part(out, 0, b));
+}
+
+pub fn cannot_read(path: &[u8], out: &mut [u8]) {
+    cannot(b"cannot read ", path, out);
 }

@@ -3,6 +3,12 @@ use message::Whose;
 use refusal::Reason;
 use refusal::Refusal;
 
+// Why a file of facts is refused, with its name, from the start of a room.
+pub fn put_facts_refusal(out: &mut [u8], path: &[u8], text: &[u8], f: Refusal) -> usize {
+    let on = octets::put_word(out, 0, path);
+    put_refusal(out, on, text, 0, Whose::Facts, f)
+}
+
 // After the name of what is refused. So many lines stand above the text.
 pub fn put_refusal(
     out: &mut [u8],
