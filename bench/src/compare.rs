@@ -2,6 +2,8 @@
 
 pub mod clauses;
 mod edits;
+mod filed;
+pub mod files;
 mod handed;
 pub mod listings;
 pub mod repeats;
@@ -78,6 +80,16 @@ pub fn clauses<E: Engine>(exported: &E, tally: Tally, count: usize, seed: u64) -
     comparison.fixed_clauses();
     for _ in 0..count {
         comparison.random_clauses();
+    }
+    comparison.tally
+}
+
+/// Goes on with files: fixed ones, then so many random tables and plans with their files, sound and spoiled.
+pub fn files<E: Engine>(exported: &E, tally: Tally, count: usize, seed: u64) -> Tally {
+    let mut comparison = Comparison { exported, random: Random::new(seed), tally };
+    comparison.fixed_files();
+    for _ in 0..count {
+        comparison.random_files();
     }
     comparison.tally
 }
@@ -285,6 +297,17 @@ fn lend<T: Clone>(lent: &[T], call: impl FnOnce(&mut [T]) -> u64) -> (u64, Vec<T
     let end = left.len() - MARGIN;
     let answer = call(&mut left[MARGIN..end]);
     (answer, left)
+}
+
+/// Two rooms lent in one call.
+fn lend_two(lent: &[Vec<u32>; 2], call: impl FnOnce(&mut [u32], &mut [u32]) -> u64) -> (u64, [Vec<u32>; 2]) {
+    let mut second_left = Vec::new();
+    let (answer, first_left) = lend(&lent[0], |first| {
+        let (answer, left) = lend(&lent[1], |second| call(first, second));
+        second_left = left;
+        answer
+    });
+    (answer, [first_left, second_left])
 }
 
 /// The same with a record in the middle.

@@ -18,6 +18,8 @@ pub trait Engine {
     fn read_text(&self, text: &[u8], cells: &mut [u32], names: &mut [u32]) -> u64;
     fn replies(&self, record: &Record, plan: &[u32], goal: &[u32], room: &mut [u32]) -> u64;
     fn clauses(&self, record: &Record, plan: &[u32], text: &[u8], names: &[u32], room: &mut [u8]) -> u64;
+    fn write_file(&self, record: &Record, plan: &[u32], room: &mut [u8]) -> u64;
+    fn read_file(&self, file: &[u8], table: &mut [u32], plan: &mut [u32]) -> u64;
 }
 
 /// The independent implementation with runs by the definitions.
@@ -67,6 +69,12 @@ macro_rules! independent {
             }
             fn clauses(&self, record: &Record, plan: &[u32], text: &[u8], names: &[u32], room: &mut [u8]) -> u64 {
                 packed(model::clauses::clauses(table_in(record), plan, text, names, room))
+            }
+            fn write_file(&self, record: &Record, plan: &[u32], room: &mut [u8]) -> u64 {
+                packed(model::files::write_file(table_in(record), plan, room))
+            }
+            fn read_file(&self, file: &[u8], table: &mut [u32], plan: &mut [u32]) -> u64 {
+                packed(model::files::read_file(file, table, plan))
             }
         }
     };
@@ -128,6 +136,8 @@ mod exported {
             room: *mut u8,
             room_bytes: usize,
         ) -> u64;
+        fn dudowiej_write_file(record: *const Record, plan: *const u32, plan_cells: usize, room: *mut u8, room_bytes: usize) -> u64;
+        fn dudowiej_read_file(file: *const u8, file_bytes: usize, table: *mut u32, table_room: usize, plan: *mut u32, plan_room: usize) -> u64;
     }
 
     // Each pointer and length below is one slice's, a record's pointer is a reference; what is written is borrowed alone.
@@ -171,6 +181,12 @@ mod exported {
         fn clauses(&self, record: &Record, plan: &[u32], text: &[u8], names: &[u32], room: &mut [u8]) -> u64 {
             let ((text, text_bytes), (names, count)) = ((text.as_ptr(), text.len()), (names.as_ptr(), names.len()));
             unsafe { dudowiej_clauses(record, plan.as_ptr(), plan.len(), text, text_bytes, names, count, room.as_mut_ptr(), room.len()) }
+        }
+        fn write_file(&self, record: &Record, plan: &[u32], room: &mut [u8]) -> u64 {
+            unsafe { dudowiej_write_file(record, plan.as_ptr(), plan.len(), room.as_mut_ptr(), room.len()) }
+        }
+        fn read_file(&self, file: &[u8], table: &mut [u32], plan: &mut [u32]) -> u64 {
+            unsafe { dudowiej_read_file(file.as_ptr(), file.len(), table.as_mut_ptr(), table.len(), plan.as_mut_ptr(), plan.len()) }
         }
     }
 }

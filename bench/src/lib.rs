@@ -7,6 +7,7 @@ pub mod compare;
 pub mod count;
 pub mod edits;
 pub mod engine;
+pub mod files;
 pub mod make;
 pub mod model;
 pub mod notation;

@@ -1,7 +1,8 @@
-//! Random inputs: tables, rows, records, goals, plans and lists of names, sound and damaged.
+//! Random inputs: tables, rows, records, goals, plans, lists of names and files, sound and damaged.
 
 pub mod big;
 pub mod damage;
+pub mod files;
 pub mod goals;
 pub mod names;
 pub mod plans;

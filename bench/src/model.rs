@@ -2,6 +2,7 @@
 //! written from the documents alone and shares nothing with the library.
 
 pub mod clauses;
+pub mod files;
 pub mod grammar;
 pub mod least;
 pub mod listing;

@@ -11,6 +11,7 @@ use crate::engine::{Engine, Exported};
 use crate::make::names::{entry, letters};
 use crate::make::tables::{longest_replies, table, Kind};
 use crate::make::{big, goals, records};
+use crate::model::files::{filled, sealed, BLOCK_CELLS, FILE_BYTES};
 use crate::model::least::least;
 use crate::model::plan::{grow, PLAN_CELLS};
 use crate::model::read::{read_table, Table, ROW_CELLS, TABLE_CELLS};
@@ -32,13 +33,15 @@ pub fn stack() {
         let last = row_of(&read, &table, ROWS - 1);
         most.of_edits(&sound, &last);
         most.of_edits(&records::holding(&mut Random::new(SEED), &table), &last);
-        for table in refused_too(table) {
+        for table in refused_too(table.clone()) {
             most.of_table(&table);
             let mut record = sound.clone();
             put_table(&mut record, &table, MOST_FIGURE);
             most.of_record(&record, &plans, &goals);
             most.of_clauses(&record, &plans);
+            most.of_files(&record, &table, &plans[..1]);
         }
+        most.of_files(&sound, &table, &plans);
     }
     for (table, goal) in [longest_replies(), big::million(ROWS), deep_terms(), deep_search()] {
         let plans = plans(&read_table(&table).expect("a sound table"));
@@ -132,6 +135,30 @@ impl Most {
         }
         note(&plans[0], &past, 1 << 16);
         note(&plans[0], &[], 1 << 16);
+    }
+
+    /// Each plan written in room enough and in none; the file of the table and each plan, whatever they are, read in rooms enough, with none for the
+    /// plan and with none; and the file cut, spoiled at its end, with a cell that is no padding, and with a block more.
+    fn of_files(&mut self, record: &Record, table: &[u32], plans: &[Vec<u32>]) {
+        for plan in plans {
+            for bytes in [FILE_BYTES, 0] {
+                let mut room = vec![0; bytes];
+                self.note("dudowiej_write_file", || Exported.write_file(record, plan, &mut room));
+            }
+            let mut cells = filled(table, plan);
+            let file = sealed(&cells);
+            let mut spoiled = file.clone();
+            *spoiled.last_mut().expect("there are blocks") ^= 1;
+            *cells.last_mut().expect("there are cells") ^= 1;
+            let padded = sealed(&cells);
+            cells.resize(cells.len() + BLOCK_CELLS, 0);
+            for file in [&file, &file[..file.len() - 1], &spoiled, &padded, &sealed(&cells)] {
+                for (table, plan) in [(TABLE_CELLS, PLAN_CELLS), (TABLE_CELLS, 0), (0, 0)] {
+                    let (mut table, mut plan) = (vec![0; table], vec![0; plan]);
+                    self.note("dudowiej_read_file", || Exported.read_file(file, &mut table, &mut plan));
+                }
+            }
+        }
     }
 
     /// The text as it is, cut, and with a byte at its end that no text has; rooms of no size, of one cell, of a table's and larger than all.

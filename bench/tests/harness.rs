@@ -3,7 +3,7 @@
 mod altered;
 
 use altered::{answered, built, differs, found, hits, number, written, Altered, ReadText, Replies, RIGHT};
-use dudowiej_bench::compare::{clauses, compare, edits, replies, texts, Tally};
+use dudowiej_bench::compare::{clauses, compare, edits, files, replies, texts, Tally};
 use dudowiej_bench::engine::{Engine, Plain};
 use dudowiej_bench::model::build_plan;
 use dudowiej_bench::model::plan::check;
@@ -16,6 +16,7 @@ fn a_right_one_passes() {
     let tally = texts(&RIGHT, compare(&RIGHT, 2000, 1), 2000, 1);
     let tally = edits(&RIGHT, replies(&RIGHT, tally, 2000, 1), 300, 1);
     let tally = clauses(&RIGHT, tally, 2000, 1);
+    let tally = files(&RIGHT, tally, 2000, 1);
     assert!(tally.passed(), "{tally}");
 }
 

@@ -3,6 +3,7 @@
 use std::collections::BTreeMap;
 use std::fmt;
 
+use super::filed::Filed;
 use super::handed::Handed;
 use crate::model::refusal::{given, Number, NAMES, NEVER};
 use crate::model::replies::{Reply, REPLY_CELLS};
@@ -22,9 +23,11 @@ pub enum Entry {
     DropLast,
     Replace,
     Clauses,
+    WriteFile,
+    ReadFile,
 }
 
-const ENTRIES: [&str; 13] = [
+const ENTRIES: [&str; 15] = [
     "read_table",
     "read_goal",
     "row",
@@ -38,6 +41,8 @@ const ENTRIES: [&str; 13] = [
     "drop_last",
     "replace",
     "clauses",
+    "write_file",
+    "read_file",
 ];
 
 /// What replies can be refused with, by input: table, plan, goal, room.
@@ -99,6 +104,7 @@ pub struct Tally {
     replies: Replies,
     met: [u64; MET.len()],
     pub(super) handed: Handed,
+    pub(super) filed: Filed,
     /// Edits of records that were worked out, by the number of the refusal and by entry.
     edits: [[u64; ENTRIES.len()]; NAMES.len() + 1],
     /// How often a plan was built from, or an edit made in, a record that was never worked out.
@@ -238,6 +244,7 @@ impl Tally {
             && self.never_met().is_empty()
             && self.met.iter().all(|&met| met > 0)
             && self.handed.passed()
+            && self.filed.passed()
             && self.texts().iter().all(|&(_, met)| met > 0)
             && self.replies().iter().chain(&self.edits()).flat_map(|(_, refused)| refused).all(|&(_, met)| met > 0)
     }
@@ -268,7 +275,7 @@ impl fmt::Display for Tally {
         for (input, refused) in self.replies() {
             writeln!(f, "replies refused, {input}: {}", listed(&refused))?;
         }
-        write!(f, "{}", self.handed)?;
+        write!(f, "{}{}", self.handed, self.filed)?;
         writeln!(f, "edits of records that were worked out: {}", self.edits.iter().flatten().sum::<u64>())?;
         for (entry, refused) in self.edits() {
             writeln!(f, "{entry} refused: {}", listed(&refused))?;

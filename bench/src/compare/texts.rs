@@ -3,7 +3,7 @@
 mod fixed;
 
 use super::small::words;
-use super::{lend, Comparison, Entry, Met};
+use super::{lend_two, Comparison, Entry, Met};
 use crate::engine::{Definition, Engine};
 use crate::make::texts;
 use crate::model::grammar::{is_text, stops, stops_by_search};
@@ -117,17 +117,6 @@ impl<E: Engine> Comparison<'_, E> {
             self.tally.own("texts by rules against a function for each line of the grammar", is_text(text) == by_rules, &describe);
         }
     }
-}
-
-/// Two rooms lent in one call.
-fn lend_two(lent: &[Vec<u32>; 2], call: impl FnOnce(&mut [u32], &mut [u32]) -> u64) -> (u64, [Vec<u32>; 2]) {
-    let mut names_left = Vec::new();
-    let (answer, cells_left) = lend(&lent[0], |cells| {
-        let (answer, left) = lend(&lent[1], |names| call(cells, names));
-        names_left = left;
-        answer
-    });
-    (answer, [cells_left, names_left])
 }
 
 /// The cells and names of a text, where it is one of facts for one predicate.

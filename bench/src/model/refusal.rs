@@ -28,12 +28,16 @@ pub enum Number {
     Same,
     Big,
     Names,
+    Blocks,
+    Damage,
+    Sizes,
+    Padding,
 }
 
 /// Their names, by number from 1.
-pub const NAMES: [&str; 26] = [
+pub const NAMES: [&str; 30] = [
     "LENGTH", "WIDTH", "COUNT", "LONG", "SHORT", "CELL", "FRESH", "TWICE", "EXTRA", "SIZE", "ENDS", "OPEN", "EDGES", "LABEL", "ROWS", "ROOM",
-    "BYTES", "TEXT", "OTHER", "FIGURE", "FULL", "LAST", "INDEX", "SAME", "BIG", "NAMES",
+    "BYTES", "TEXT", "OTHER", "FIGURE", "FULL", "LAST", "INDEX", "SAME", "BIG", "NAMES", "BLOCKS", "DAMAGE", "SIZES", "PADDING",
 ];
 
 /// The number that is never given again.
@@ -54,6 +58,7 @@ pub enum Input {
     Text,
     Figure,
     Names,
+    File,
 }
 
 #[derive(Clone, Copy, Debug, PartialEq, Eq)]

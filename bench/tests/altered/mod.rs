@@ -71,11 +71,15 @@ pub struct Altered {
     pub read_text: ReadText,
     pub replies: Replies,
     pub clauses: Clauses,
+    pub write_file: WriteFile,
+    pub read_file: ReadFile,
 }
 
 pub type ReadText = fn(&[u8], &mut [u32], &mut [u32]) -> u64;
 pub type Replies = fn(&Record, &[u32], &[u32], &mut [u32]) -> u64;
 pub type Clauses = fn(&Record, &[u32], &[u8], &[u32], &mut [u8]) -> u64;
+pub type WriteFile = fn(&Record, &[u32], &mut [u8]) -> u64;
+pub type ReadFile = fn(&[u8], &mut [u32], &mut [u32]) -> u64;
 
 pub const RIGHT: Altered = Altered {
     read_table: |table| Plain.read_table(table),
@@ -90,6 +94,8 @@ pub const RIGHT: Altered = Altered {
     read_text: |text, cells, names| Plain.read_text(text, cells, names),
     replies: |record, plan, goal, room| Plain.replies(record, plan, goal, room),
     clauses: |record, plan, text, names, room| Plain.clauses(record, plan, text, names, room),
+    write_file: |record, plan, room| Plain.write_file(record, plan, room),
+    read_file: |file, table, plan| Plain.read_file(file, table, plan),
 };
 
 impl Engine for Altered {
@@ -131,5 +137,11 @@ impl Engine for Altered {
     }
     fn clauses(&self, record: &Record, plan: &[u32], text: &[u8], names: &[u32], room: &mut [u8]) -> u64 {
         (self.clauses)(record, plan, text, names, room)
+    }
+    fn write_file(&self, record: &Record, plan: &[u32], room: &mut [u8]) -> u64 {
+        (self.write_file)(record, plan, room)
+    }
+    fn read_file(&self, file: &[u8], table: &mut [u32], plan: &mut [u32]) -> u64 {
+        (self.read_file)(file, table, plan)
     }
 }
