@@ -1,5 +1,5 @@
 /* The rule tables as a C library: tables from Prolog text, reading tables and goals, the least plan, the check of any plan, the run of a
- * plan on a goal, what the rows say to it, edits of a row at a time, and a plan handed back as Prolog.
+ * plan on a goal, what the rows say to it, edits of a row at a time, a plan handed back as Prolog, and one file for a table and its plan.
  *
  * Link target/staticlib/libexports.a, which `rt staticlib exports` writes (x86-64).
  *
@@ -18,8 +18,9 @@
  * A list is passed as a pointer and a length, a record as a pointer. A pointer is aligned for its type and not null, even where the length
  * is 0. What a call writes, a lent room or a record, shares no memory with its other inputs: a row that is to be appended again is copied
  * out of its record first. The functions keep nothing between calls, and allocate nothing. Of its caller's stack a call touches at most
- * 54,496 bytes to load a text, 43,864 for replies, 33,000 to hand a plan back, 32,880 to build one, 31,096 to run one, 17,168 to edit a
- * record, 14,248 to check a plan, 8,832 to work a record out and 2,736 to read (measured: docs/BENCH.md, "Stack"). */
+ * 54,496 bytes to load a text, 48,328 to read a file, 47,320 to write one, 43,864 for replies, 33,000 to hand a plan back, 32,880 to build
+ * one, 31,096 to run one, 17,168 to edit a record, 14,248 to check a plan, 8,832 to work a record out and 2,736 to read (measured:
+ * docs/BENCH.md, "Stack"). */
 #ifndef DUDOWIEJ_H
 #define DUDOWIEJ_H
 
@@ -32,10 +33,10 @@ extern "C" {
 #endif
 
 /* The version of what this header declares. The first number is 0 while requests are open. The second counts the base and the requests that
- * have landed on it, W-201 to W-210. The third counts changes of this header since the last of them. */
-#define DUDOWIEJ_VERSION "0.11.0"
+ * have landed on it, W-201 to W-211. The third counts changes of this header since the last of them. */
+#define DUDOWIEJ_VERSION "0.12.0"
 
-/* What no table, row, goal, plan, text, reply or program exceeds. */
+/* What no table, row, goal, plan, text, reply, program or file exceeds. */
 enum {
     DUDOWIEJ_COLUMNS = 8,
     DUDOWIEJ_ROWS = 64,
@@ -47,6 +48,7 @@ enum {
     DUDOWIEJ_NAMES = 2048,
     DUDOWIEJ_REPLY_CELLS = 1024,
     DUDOWIEJ_CLAUSES = 127,
+    DUDOWIEJ_FILE_BYTES = 33792,
     DUDOWIEJ_MOST_FIGURE = 15
 };
 
@@ -80,7 +82,11 @@ enum dudowiej_refusal {
     DUDOWIEJ_REFUSED_INDEX = 23,  /* a row replaced that is not there: place 0 */
     DUDOWIEJ_REFUSED_SAME = 24,   /* a row without variables equals an earlier one: its first cell; in an edit any other: place 0 */
     DUDOWIEJ_REFUSED_BIG = 25,    /* a reply to a goal needs over 1,024 cells: place 0 */
-    DUDOWIEJ_REFUSED_NAMES = 26   /* a listed place holds no lower-case name, two hold the same, a name is not listed: place 0 */
+    DUDOWIEJ_REFUSED_NAMES = 26,  /* a listed place holds no lower-case name, two hold the same, a name is not listed: place 0 */
+    DUDOWIEJ_REFUSED_BLOCKS = 27, /* a file of no byte, or not of whole blocks of 512 bytes: place 0 */
+    DUDOWIEJ_REFUSED_DAMAGE = 28, /* a block whose number is not its place, or with a wrong check: the first such block, from 0 */
+    DUDOWIEJ_REFUSED_SIZES = 29,  /* the sizes in a file do not give as many blocks as it has: place 0 */
+    DUDOWIEJ_REFUSED_PADDING = 30 /* a cell after table and plan that is not 0: place 0 */
 };
 
 /* Which input a refusal concerns. */
@@ -91,7 +97,8 @@ enum dudowiej_input {
     DUDOWIEJ_ROOM = 4,
     DUDOWIEJ_TEXT = 5,
     DUDOWIEJ_FIGURE = 6,
-    DUDOWIEJ_NAME_LIST = 7
+    DUDOWIEJ_NAME_LIST = 7,
+    DUDOWIEJ_FILE = 8
 };
 
 /* Reads a table. First: its width. Second: its rows. */
@@ -214,6 +221,25 @@ uint64_t dudowiej_replies(const dudowiej_record *record, const uint32_t *plan, s
 uint64_t dudowiej_clauses(const dudowiej_record *record, const uint32_t *plan, size_t plan_cells, const uint8_t *text, size_t text_bytes,
                           const uint32_t *names, size_t names_count, uint8_t *room, size_t room_bytes);
 
+/* One file for a table and its plan, as it travels on a card. It is blocks of 512 bytes, that is 128 words of 32 bits, little-endian: the
+ * block's number from 0, 125 cells, two check words. The first check is 1 and the block's first 126 words added up; the second is the
+ * sum of what the first was after each of these words; both modulo 2^32. One changed word is always told, and so are two unequal
+ * neighbours exchanged. The cells of all blocks one after another are the table's number of cells, the plan's, the table, the plan, and
+ * zeros to the end of the last block. The figure is not in the file, and nothing else of the record. */
+
+/* Writes the file of a record's table and a plan to the front of the room; the rest of it is untouched. First: the bytes. Second: the
+ * blocks. Refused in this order: the table, the plan, as dudowiej_check_plan refuses them; then the room, the place being the bytes
+ * needed. Where anything is refused nothing is written. Room for DUDOWIEJ_FILE_BYTES bytes is always enough. */
+uint64_t dudowiej_write_file(const dudowiej_record *record, const uint32_t *plan, size_t plan_cells, uint8_t *room, size_t room_bytes);
+
+/* Reads a file. The table's cells are written to the front of one room, the plan's to the front of the other; the rest of both is
+ * untouched. First: the table's cells. Second: the plan's. Writing the two gives the file again, byte for byte. There is no record in a
+ * file; dudowiej_work_out makes one of the table, with any figure. Refused in this order: BLOCKS, DAMAGE, SIZES and PADDING, which concern
+ * DUDOWIEJ_FILE; the table, the plan, with places in their own cells; the room for the table, then that for the plan, the place being the
+ * cells needed there (both DUDOWIEJ_ROOM; which of the two it was is not said). The place of DAMAGE is a block and no byte. Where anything
+ * is refused nothing is written to either room. Rooms of DUDOWIEJ_TABLE_CELLS and DUDOWIEJ_PLAN_CELLS cells are enough for every file. */
+uint64_t dudowiej_read_file(const uint8_t *file, size_t file_bytes, uint32_t *table, size_t table_room, uint32_t *plan, size_t plan_room);
+
 /* Cells built and a number's value. A cell takes the low bits of its parts, as many as it has for them: 16, and 3 for the arguments. With 5
  * to 7 arguments it is no cell, and is refused wherever it stands. */
 
@@ -268,6 +294,10 @@ static inline const char *dudowiej_refusal_name(unsigned number) {
     case DUDOWIEJ_REFUSED_SAME: return "SAME";
     case DUDOWIEJ_REFUSED_BIG: return "BIG";
     case DUDOWIEJ_REFUSED_NAMES: return "NAMES";
+    case DUDOWIEJ_REFUSED_BLOCKS: return "BLOCKS";
+    case DUDOWIEJ_REFUSED_DAMAGE: return "DAMAGE";
+    case DUDOWIEJ_REFUSED_SIZES: return "SIZES";
+    case DUDOWIEJ_REFUSED_PADDING: return "PADDING";
     default: return "none";
     }
 }

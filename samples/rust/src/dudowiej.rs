@@ -13,6 +13,8 @@ pub const NAMES: usize = 2048;
 pub const REPLY_CELLS: usize = 1024;
 /// What no program exceeds for a table that was read from a text, with the text's own names.
 pub const PROGRAM_BYTES: usize = 131_072;
+/// What no file exceeds.
+pub const FILE_BYTES: usize = 33_792;
 
 /// A variable's cell.
 pub const fn variable(number: u16) -> u32 {
@@ -34,10 +36,10 @@ pub const fn value(cell: u32) -> i16 {
     cell as i16
 }
 
-/// The names of the refusals' numbers, 1 to 26; 8 is no longer given.
-const REFUSALS: [&str; 26] = [
+/// The names of the refusals' numbers, 1 to 30; 8 is no longer given.
+const REFUSALS: [&str; 30] = [
     "LENGTH", "WIDTH", "COUNT", "LONG", "SHORT", "CELL", "FRESH", "TWICE", "EXTRA", "SIZE", "ENDS", "OPEN", "EDGES", "LABEL", "ROWS",
-    "ROOM", "BYTES", "TEXT", "OTHER", "FIGURE", "FULL", "LAST", "INDEX", "SAME", "BIG", "NAMES",
+    "ROOM", "BYTES", "TEXT", "OTHER", "FIGURE", "FULL", "LAST", "INDEX", "SAME", "BIG", "NAMES", "BLOCKS", "DAMAGE", "SIZES", "PADDING",
 ];
 
 /// The name of a refusal's number; "none" where it is no refusal's.
@@ -139,6 +141,8 @@ extern "C" {
         room: *mut u8,
         room_bytes: usize,
     ) -> u64;
+    fn dudowiej_write_file(record: *const Cells, plan: *const u32, plan_cells: usize, room: *mut u8, room_bytes: usize) -> u64;
+    fn dudowiej_read_file(file: *const u8, file_bytes: usize, table: *mut u32, table_room: usize, plan: *mut u32, plan_room: usize) -> u64;
 }
 
 /// An answer taken apart: 2^16 · first + 2^32 · second, or of a refusal number + 2^8 · input + 2^16 · place.
@@ -154,6 +158,7 @@ fn apart(answer: u64) -> Result<(usize, usize), Refusal> {
                 5 => "text",
                 6 => "figure",
                 7 => "names",
+                8 => "file",
                 _ => "?",
             };
             Err(Refusal { number, input, place: answer >> 16 })
@@ -268,6 +273,29 @@ impl Record {
             dudowiej_clauses(&*self.0, plan.as_ptr(), plan.len(), text.as_ptr(), text.len(), list, names, room.as_mut_ptr(), room.len())
         })
     }
+
+    /// The table and the plan as one file.
+    pub fn write_file(&self, plan: &[u32]) -> Result<Vec<u8>, Refusal> {
+        let mut room = vec![0; FILE_BYTES];
+        let (bytes, _) = self.write_file_in(plan, &mut room)?;
+        room.truncate(bytes);
+        Ok(room)
+    }
+
+    /// The same in a lent room: its bytes and its blocks.
+    pub fn write_file_in(&self, plan: &[u32], room: &mut [u8]) -> Result<(usize, usize), Refusal> {
+        apart(unsafe { dudowiej_write_file(&*self.0, plan.as_ptr(), plan.len(), room.as_mut_ptr(), room.len()) })
+    }
+}
+
+/// The table and the plan of a file. A record comes of the table by working it out.
+pub fn read_file(file: &[u8]) -> Result<(Vec<u32>, Vec<u32>), Refusal> {
+    let (mut table, mut plan) = (vec![0; TABLE_CELLS], vec![0; PLAN_CELLS]);
+    let answer = unsafe { dudowiej_read_file(file.as_ptr(), file.len(), table.as_mut_ptr(), table.len(), plan.as_mut_ptr(), plan.len()) };
+    let (table_cells, plan_cells) = apart(answer)?;
+    table.truncate(table_cells);
+    plan.truncate(plan_cells);
+    Ok((table, plan))
 }
 
 /// A table made of a text.
