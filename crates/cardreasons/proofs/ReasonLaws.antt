@@ -21,9 +21,9 @@ module _ (n : ℕ) where
   unfolding planReason
   plan-other a b d f g h = rw (ne-eqb n 10 a, ne-eqb n 11 b, ne-eqb n 12 d, ne-eqb n 13 f, ne-eqb n 14 g, ne-eqb n 15 h)
 
-  pub file-other : Not n 27 → Not n 28 → Not n 29 → Not n 30 → fileReason n ≡ planReason n
+  pub file-other : Not n 27 → Not n 28 → Not n 29 → Not n 30 → Not n 31 → Not n 32 → fileReason n ≡ planReason n
   unfolding fileReason
-  file-other a b d f = rw (ne-eqb n 27 a, ne-eqb n 28 b, ne-eqb n 29 d, ne-eqb n 30 f)
+  file-other a b d f g h = rw (ne-eqb n 27 a, ne-eqb n 28 b, ne-eqb n 29 d, ne-eqb n 30 f, ne-eqb n 31 g, ne-eqb n 32 h)
 
 -- every reason has its words
 pub by-reason : (r : Reason) → fileReason (numberOf r) ≡ cardReason r
@@ -57,3 +57,5 @@ by-reason reason.Blocks = refl
 by-reason reason.Damage = refl
 by-reason reason.Sizes = refl
 by-reason reason.Padding = refl
+by-reason reason.Head = refl
+by-reason reason.None = refl

@@ -38,3 +38,5 @@ cardReason reason.Blocks = ascii "BLOCKS 27: whole blocks of 512 bytes are expec
 cardReason reason.Damage = ascii "DAMAGE 28: its own number and the check words of its cells are expected"
 cardReason reason.Sizes = ascii "SIZES 29: as many blocks are expected as its table and its plan need"
 cardReason reason.Padding = ascii "PADDING 30: zeros are expected after the plan"
+cardReason reason.Head = ascii "HEAD 31: a sound block 0 with 1 to 8 columns and 1 to 64 rules is expected"
+cardReason reason.None = ascii "NONE 32: a whole rule is expected before the first bad block"

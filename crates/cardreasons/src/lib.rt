@@ -34,6 +34,16 @@ fn put_file_reason(out: &mut [u8], to: usize, number: usize) -> usize
             b"SIZES 29: as many blocks are expected as its table and its plan need",
         ),
         30 => put_word(out, to, b"PADDING 30: zeros are expected after the plan"),
+        31 => put_word(
+            out,
+            to,
+            b"HEAD 31: a sound block 0 with 1 to 8 columns and 1 to 64 rules is expected",
+        ),
+        32 => put_word(
+            out,
+            to,
+            b"NONE 32: a whole rule is expected before the first bad block",
+        ),
         _ => put_plan_reason(out, to, number),
     }
 }

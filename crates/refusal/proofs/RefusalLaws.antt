@@ -11,7 +11,7 @@ use Rattle.refusal.specs.declared.Reason.{Reason}
 use Rattle.refusal.specs.declared.Reason.the-variants.{Length, Width, Count, Long, Short, Cell, Fresh}
 use Rattle.refusal.specs.declared.Reason.the-variants.{Extra, Size, Ends, Open, Edges, Label, Rows, Room}
 use Rattle.refusal.specs.declared.Reason.the-variants.{Bytes, Text, Other, Figure, Full, Last, Index, Same, Big, Names}
-use Rattle.refusal.specs.declared.Reason.the-variants.{Blocks, Damage, Sizes, Padding}
+use Rattle.refusal.specs.declared.Reason.the-variants.{Blocks, Damage, Sizes, Padding, Head, None}
 use Rattle.refusal.specs.declared.Input.{Input}
 use Rattle.refusal.specs.declared.Input.the-variants.{Table, Plan, Goal, Lent}
 use Rattle.refusal.specs.declared.Input.the-variants as input
@@ -54,6 +54,8 @@ reasons =
     ∷ Damage
     ∷ Sizes
     ∷ Padding
+    ∷ Head
+    ∷ None
     ∷ []
 
 reasonAt : ℕ → Reason
@@ -90,6 +92,8 @@ reason-found Blocks = (refl, omega arith, omega arith)
 reason-found Damage = (refl, omega arith, omega arith)
 reason-found Sizes = (refl, omega arith, omega arith)
 reason-found Padding = (refl, omega arith, omega arith)
+reason-found Head = (refl, omega arith, omega arith)
+reason-found None = (refl, omega arith, omega arith)
 
 inputs : List Input
 inputs = Table ∷ Plan ∷ Goal ∷ Lent ∷ input.Text ∷ input.Figure ∷ input.Names ∷ input.File ∷ []

@@ -4,7 +4,7 @@ use Rattle.refusal.specs.declared.Reason.{Reason}
 use Rattle.refusal.specs.declared.Reason.the-variants.{Length, Width, Count, Long, Short, Cell, Fresh}
 use Rattle.refusal.specs.declared.Reason.the-variants.{Extra, Size, Ends, Open, Edges, Label, Rows, Room}
 use Rattle.refusal.specs.declared.Reason.the-variants.{Bytes, Text, Other, Figure, Full, Last, Index, Same, Big, Names}
-use Rattle.refusal.specs.declared.Reason.the-variants.{Blocks, Damage, Sizes, Padding}
+use Rattle.refusal.specs.declared.Reason.the-variants.{Blocks, Damage, Sizes, Padding, Head, None}
 use Rattle.refusal.specs.declared.Input.{Input}
 use Rattle.refusal.specs.declared.Input.the-variants.{Table, Plan, Goal, Lent}
 use Rattle.refusal.specs.declared.Input.the-variants as input
@@ -42,6 +42,8 @@ numberOf Blocks = 27
 numberOf Damage = 28
 numberOf Sizes = 29
 numberOf Padding = 30
+numberOf Head = 31
+numberOf None = 32
 
 -- 01, "which input it concerns (table, plan, goal or lent room)", in that order, and then a text, a figure, a list of names and a file (02,
 -- W-201, W-204, W-210 and W-211)

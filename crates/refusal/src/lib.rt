@@ -4,8 +4,8 @@ ghost use Prim.Native.Nat.{_<_, _^_};
 ghost use Rattle.refusal.specs.Refusal.{numberOf, inputOf};
 
 // 01, "What is turned away", and 02, W-201, "BYTES; TEXT; OTHER", W-204, "FIGURE", W-207, "FULL .. LAST .. INDEX",
-// W-208, "SAME", W-209, "BIG", W-210, "NAMES", W-211, "BLOCKS .. DAMAGE .. SIZES .. PADDING": the names, in the order of
-// their numbers. "TWICE is never given again" (W-209): 8 is no reason's number.
+// W-208, "SAME", W-209, "BIG", W-210, "NAMES", W-211, "BLOCKS .. DAMAGE .. SIZES .. PADDING", W-212, "HEAD .. NONE": the
+// names, in the order of their numbers. "TWICE is never given again" (W-209): 8 is no reason's number.
 pub enum Reason {
     Length,
     Width,
@@ -36,6 +36,8 @@ pub enum Reason {
     Damage,
     Sizes,
     Padding,
+    Head,
+    None,
 }
 
 // 01, "which input it concerns (table, plan, goal or lent room)"; or a text (02, W-201), a figure (W-204),
@@ -93,6 +95,8 @@ pub fn number_of(reason: Reason) -> usize
         Reason::Damage => 28,
         Reason::Sizes => 29,
         Reason::Padding => 30,
+        Reason::Head => 31,
+        Reason::None => 32,
     }
 }
 

@@ -30,6 +30,18 @@ slice-aggregate-put-word-4 c = search needs
 put-word-requires-4 : tie.Need-put-word-requires-4
 put-word-requires-4 c κs = search needs
 
+slice-aggregate-put-word-5 : tie.Need-slice-aggregate-put-word-5
+slice-aggregate-put-word-5 c = search needs
+
+put-word-requires-5 : tie.Need-put-word-requires-5
+put-word-requires-5 c κs = search needs
+
+slice-aggregate-put-word-6 : tie.Need-slice-aggregate-put-word-6
+slice-aggregate-put-word-6 c = search needs
+
+put-word-requires-6 : tie.Need-put-word-requires-6
+put-word-requires-6 c κs = search needs
+
 put-plan-reason-requires : tie.Need-put-plan-reason-requires
 put-plan-reason-requires c κs = search needs
 
@@ -65,9 +77,23 @@ same-length-5 : tie.Need-same-length-5
 same-length-5 c = search needs
 
 returns-5 : tie.Need-returns-5
-returns-5 c =
+unfolding ascii cardReason fileReason
+returns-5 c = rw (c .before .before .before .before .before .match .keys5) (c .before .before .put-word5 .ensures)
+
+same-length-6 : tie.Need-same-length-6
+same-length-6 c = search needs
+
+returns-6 : tie.Need-returns-6
+unfolding ascii cardReason fileReason
+returns-6 c = rw (c .before .before .before .before .before .match .keys6) (c .before .before .put-word6 .ensures)
+
+same-length-7 : tie.Need-same-length-7
+same-length-7 c = search needs
+
+returns-7 : tie.Need-returns-7
+returns-7 c =
     let m = c .before .before .before .before .match in
-    rw (file-other _ (m .rest .0 .0 .0 .1) (m .rest .0 .0 .1) (m .rest .0 .1) (m .rest .1))
+    rw (file-other _ (m .rest .0 .0 .0 .0 .0 .1) (m .rest .0 .0 .0 .0 .1) (m .rest .0 .0 .0 .1) (m .rest .0 .0 .1) (m .rest .0 .1) (m .rest .1))
     (c .before .before .put-plan-reason .ensures)
 
 pub put-file-reason-spec : {M : Type 1} → statement M
@@ -82,6 +108,10 @@ put-file-reason-spec =
     put-word-requires-3
     slice-aggregate-put-word-4
     put-word-requires-4
+    slice-aggregate-put-word-5
+    put-word-requires-5
+    slice-aggregate-put-word-6
+    put-word-requires-6
     put-plan-reason-requires
     same-length
     returns
@@ -92,4 +122,8 @@ put-file-reason-spec =
     same-length-4
     returns-4
     same-length-5
-    returns-5)
+    returns-5
+    same-length-6
+    returns-6
+    same-length-7
+    returns-7)

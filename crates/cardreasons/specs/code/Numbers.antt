@@ -36,4 +36,6 @@ fileReason number =
     (cond (eqb number 28) (cardReason reason.Damage)
     (cond (eqb number 29) (cardReason reason.Sizes)
     (cond (eqb number 30) (cardReason reason.Padding)
-    (planReason number))))
+    (cond (eqb number 31) (cardReason reason.Head)
+    (cond (eqb number 32) (cardReason reason.None)
+    (planReason number))))))
