@@ -76,7 +76,7 @@ pub record Passed (f : List ℕ) (c : Card) : Type 0 where
   pub accepted : planOf (tablePart (goodCells f 0)) (planPart (goodCells f 0)) ≡ read branches
   pub is : card (tablePart (goodCells f 0)) (planPart (goodCells f 0)) ≡ c
 
-or-both : (a b : Bool) → (a || b) ≡ false → (a ≡ false) × (b ≡ false)
+pub or-both : (a b : Bool) → (a || b) ≡ false → (a ≡ false) × (b ≡ false)
 or-both true b e = absurd (let z : _≡_ {A = ℕ} 0 1 = cc in omega arith)
 or-both false b e = (refl, e)
 

@@ -55,7 +55,7 @@ module _ (f : List ℕ) (some : 1 ≤ length f) (blocks : length f % 512 ≡ 0) 
     many =
         omega (arith, cells-size (whole f - 0) 0 (drop (128 * 0) (cellsOf f)), sound-most (whole f - 0) 0 (drop (128 * 0) (cellsOf f)), every)
 
-    front : Front new cells
+    front : Front 8250 new cells
     front = front-found old new cells size (found .put)
 
     table-size : tables ≡ tableSize cells

@@ -25,7 +25,7 @@ use Rattle.table.proofs.RowsLaws.{RowsAre, rows-put, read-row, reads-ro
 use Rattle.table.proofs.WholeLaws.{whole, whole-part}
 use Rattle.table.proofs.Accepted.{two-cells}
 
--- NO REFUSAL OF TERMS IS SAME: their numbers are at most 7
+-- NO REFUSAL OF TERMS IS SAME OR EXTRA: their numbers are at most 7
 few : {A : Type 0} (b row : Bool) (r : Reason) (p : ℕ) (R : Read A) {f : Refused} → numberOf r ≤ 7 → (R ≡ refuse f → f .number ≤ 7)
     → when b (bad row r p) R ≡ refuse f → f .number ≤ 7
 few true row r p R h k e = omega (arith, ap (λ (g : Refused). g .number) (refuse-one e))
@@ -37,7 +37,7 @@ few-tests row v vars p R k =
     few (eqb (v .kind) 3) row reason.Cell p _ (omega arith)
     (few (eqb (v .kind) 0 && ltb vars (v .number)) row reason.Fresh p R (omega arith) k)
 
-terms-few : (row : Bool) (xs : List ℕ) (k used vars p : ℕ) {f : Refused} → termsFrom row xs k used vars p ≡ refuse f → f .number ≤ 7
+pub terms-few : (row : Bool) (xs : List ℕ) (k used vars p : ℕ) {f : Refused} → termsFrom row xs k used vars p ≡ refuse f → f .number ≤ 7
 unfolding termsFrom
 terms-few row [] zero used vars p e = apart e
 terms-few row [] (suc k) used vars p e =

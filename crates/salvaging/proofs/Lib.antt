@@ -1,0 +1,9 @@
+pub mod KeptLaws
+pub mod Unchanged
+pub mod Original
+pub mod NextLaws
+pub mod BadLaws
+pub mod Fixed
+pub mod InSound
+pub mod TopLaws
+pub mod PlanLaws
