@@ -1,0 +1,4 @@
+pub mod NextSaid
+pub mod KeepLaws
+pub mod ListLaws
+pub mod Fixed
