@@ -139,7 +139,20 @@ holds-of f {c} e = go (looked f)
     go (as-plan g b i t q) = apart (sym e ∙ q)
     go (as-card y) = subst (λ (d : Card). Holds f (d .table) (d .plan)) (read-one (sym (is-card f y) ∙ e)) y
 
-room-small : (n : ℕ) → n ≤ 6082 → cut (noRoom n) ≡ noRoom n
+-- and writing what it holds gives its bytes again
+pub held-again : (f : List ℕ) {t p : List ℕ} → Bytes f → Holds f t p → (room after : List ℕ) (a : Answer) → WritesFile t p room after a
+    → length f ≤ length room → (a ≡ answered (length f) (length f / 512)) × (after ≡ f ++ drop (length f) room)
+held-again f {t} {p} by h room after a w l =
+    let again = back-again f (card t p) by (is-card f h) in
+    let v = w (h .width) (h .rows) (h .tree) (h .accepted) (h .written) in
+    let e : length (fileOf t p) ≡ length f = ap length again in
+    let l′ : length (fileOf t p) ≤ length room = omega (arith, e) in
+    let bl : needed (length (stream t p)) ≡ length f / 512 = (let z = v .bytes in omega (arith, e, z)) in (
+      v .told .1 l′ ∙ ap (λ (j : ℕ). answered j (needed (length (stream t p)))) e ∙ ap (answered (length f)) bl,
+      v .wrote l′ ∙ ap (λ (g : List ℕ). g ++ drop (length g) room) again,
+    )
+
+pub room-small : (n : ℕ) → n ≤ 6082 → cut (noRoom n) ≡ noRoom n
 room-small n h = cut-small (noRoom n) (refused-small reason.Room input.Lent n (omega arith))
 
 -- the check's refusals are not cut
@@ -251,15 +264,7 @@ module _ {f table plan table′ plan′ : List ℕ} {a : Answer} (x : FileLoaded
   read-again : Bytes f → BackAgain f table′ plan′ (cut a)
   read-again by m n q room after b w l =
       let y = loads-of m n q in
-      let h = holds-of f (y .reads) in
-      let again = back-again f (y .c) by (y .reads) in
-      let v = (rw (y .table-front, y .plan-front) at w) (h .width) (h .rows) (h .tree) (h .accepted) (h .written) in
-      let e : length (fileOf (y .c .table) (y .c .plan)) ≡ length f = ap length again in
-      let l′ : length (fileOf (y .c .table) (y .c .plan)) ≤ length room = omega (arith, e) in
-      let bl : needed (length (stream (y .c .table) (y .c .plan))) ≡ length f / 512 = (let z = v .bytes in omega (arith, e, z)) in (
-        v .told .1 l′ ∙ ap (λ (j : ℕ). answered j (needed (length (stream (y .c .table) (y .c .plan))))) e ∙ ap (answered (length f)) bl,
-        v .wrote l′ ∙ ap (λ (g : List ℕ). g ++ drop (length g) room) again,
-      )
+      held-again f by (holds-of f (y .reads)) room after b (rw (y .table-front, y .plan-front) at w) l
 
 -- what was written is read back
 written-again : {t p room room′ : List ℕ} {a : Answer} → Words t → Words p → FileWritten t p room room′ a → ThereAndBack t p room′ a

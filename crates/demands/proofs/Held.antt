@@ -38,9 +38,9 @@ use Rattle.prolog.specs.Entry.{textTold}
 use Rattle.prolog.specs.declared.TextAnswer.{TextAnswer}
 use Rattle.prolog.proofs.Fixed.{read-text-fixed}
 use Rattle.exports.specs.Coded.{WorkCoded, EditCoded, BuildCoded, RunCoded, TextCoded, JobsCoded, RepliesCoded, ClausesCoded}
-use Rattle.exports.specs.Coded.{FileWriteCoded, FileReadCoded}
+use Rattle.exports.specs.Coded.{FileWriteCoded, FileReadCoded, SalvageCoded}
 use Rattle.exports.proofs.Fixed.{work-coded-fixed, edit-coded-fixed, build-coded-fixed, run-coded-fixed, text-coded-fixed, jobs-coded-fixed, replies-coded-fixed}
-use Rattle.exports.proofs.Fixed.{clauses-coded-fixed, written-coded-fixed, loaded-coded-fixed}
+use Rattle.exports.proofs.Fixed.{clauses-coded-fixed, written-coded-fixed, loaded-coded-fixed, salvage-coded-fixed}
 use Rattle.answer.specs.declared.Job.{Job}
 use Rattle.answer.specs.Jobs.{JobsRun}
 use Rattle.run.proofs.Fixed.{run-jobs-fixed}
@@ -54,6 +54,10 @@ use Rattle.filing.specs.Files.{FileWritten, FileLoaded}
 use Rattle.filing.specs.Answers.{fileTold}
 use Rattle.filing.specs.declared.FileAnswer.{FileAnswer}
 use Rattle.filing.proofs.Fixed.{write-file-fixed, read-file-fixed}
+use Rattle.salvaging.specs.Salvage.{Salvaged}
+use Rattle.salvaging.specs.Answers.{salvageTold}
+use Rattle.salvaging.specs.declared.Salvage.{Salvage}
+use Rattle.salvaging.proofs.Fixed.{salvage-fixed}
 
 -- "For all inputs, refused ones too, the promise of a public function determines the result and the final contents of the lent room; the
 -- team proves that two results allowed by it are equal". The small functions of cell, term, goal and state have theirs in proofs/Fixed of
@@ -113,6 +117,10 @@ pub held-read-file : {f t p t′ p′ t″ p″ : List ℕ} {r s : FileAnswer} �
     → FileLoaded f t p t″ p″ (fileTold s) → (r ≡ s) × (t′ ≡ t″) × (p′ ≡ p″)
 held-read-file = read-file-fixed
 
+pub held-salvage : {f t p b t′ p′ b′ t″ p″ b″ : List ℕ} {r s : Salvage} → Salvaged f t p b t′ p′ b′ (salvageTold r)
+    → Salvaged f t p b t″ p″ b″ (salvageTold s) → (r ≡ s) × (t′ ≡ t″) × (p′ ≡ p″) × (b′ ≡ b″)
+held-salvage = salvage-fixed
+
 pub held-listing : (bytes room : List ℕ) {room′ room″ : List ℕ} {r s : ℕ} → Written (Lists bytes) room room′ r
     → Written (Lists bytes) room room″ s
     → (r ≡ s) × (room′ ≡ room″)
@@ -167,6 +175,10 @@ held-exported-write-file = written-coded-fixed
 pub held-exported-read-file : {f t p t′ p′ t″ p″ : List ℕ} {r s : ℕ} → FileReadCoded f t p t′ p′ r → FileReadCoded f t p t″ p″ s
     → (r ≡ s) × (t′ ≡ t″) × (p′ ≡ p″)
 held-exported-read-file = loaded-coded-fixed
+
+pub held-exported-salvage : {f t p b o t′ p′ b′ o′ t″ p″ b″ o″ : List ℕ} {r s : ℕ} → SalvageCoded f t p b o t′ p′ b′ o′ r
+    → SalvageCoded f t p b o t″ p″ b″ o″ s → (r ≡ s) × (t′ ≡ t″) × (p′ ≡ p″) × (b′ ≡ b″) × (o′ ≡ o″)
+held-exported-salvage = salvage-coded-fixed
 
 -- The number that an exported entry answers tells its answer: two answers with one code are equal. That the header's masks and shifts
 -- (`decoded`) read back what was answered is in every theorem of proofs/Demands, of each entry by crate exports, proofs/Back.

@@ -4,6 +4,9 @@ pub mod Replies
 pub mod Clauses
 pub mod FileSteps
 pub mod Files
+pub mod SalvageSteps
+pub mod BadSteps
+pub mod Salvage
 pub mod Twice
 pub mod Held
 pub mod Texts

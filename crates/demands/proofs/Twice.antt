@@ -45,6 +45,8 @@ use Rattle.demands.specs.Clauses.{ClausesTurned, ClausesRefused}
 use Rattle.demands.specs.Clauses as clauses
 use Rattle.demands.specs.Files.{WriteTurned, WriteRefused, ReadTurned, ReadRefused}
 use Rattle.demands.specs.Files as files
+use Rattle.demands.specs.Salvage.{SalvageTurned, SalvageRefused}
+use Rattle.demands.specs.Salvage as salvage
 use Rattle.demands.specs.Records.{WorkTurned, MakesRecord, EditTurned, EditsRecord}
 use Rattle.demands.specs.Records as records
 use Rattle.demands.specs.Twice.{NeverTwice}
@@ -155,6 +157,16 @@ never-read-file {file} {t} {p} x f e = go (x .refuses f .0 e)
     go (files.bad-plan b i q) = placed (placed-checked (files.tableOn file) (files.planOn file)) q
     go (files.table-short t p y l q) = named reason.Room (same q)
     go (files.plan-short t p y k l q) = named reason.Room (same q)
+
+pub never-salvage : {file t p b o t′ p′ b′ o′ : List ℕ} {a : Answer} → SalvageRefused file t p b o t′ p′ b′ o′ a → NeverTwice a
+never-salvage {file} {t} {p} {b} x f e = go (x .refuses f .0 e)
+  where
+    go : SalvageTurned file t p b f → f .number ≢ 8
+    go (salvage.no-head h q) = named reason.Head (same q)
+    go (salvage.no-row h k q) = named reason.None (same q)
+    go (salvage.table-short rows k l q) = named reason.Room (same q)
+    go (salvage.plan-short rows keeps cells k y l m q) = named reason.Room (same q)
+    go (salvage.bad-short rows keeps cells numbers y l m n q) = named reason.Room (same q)
 
 pub never-work-out : {figure : ℕ} {t rec rec′ : List ℕ} {a : Answer} → MakesRecord figure t rec rec′ a → NeverTwice a
 never-work-out {figure} {t} x f e = go (x .refuses f .0 e)

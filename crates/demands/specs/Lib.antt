@@ -9,3 +9,4 @@ pub mod Records
 pub mod Asking
 pub mod Clauses
 pub mod Files
+pub mod Salvage

@@ -21,6 +21,7 @@ ghost use Rattle.demands.specs.Replies.{RepliesRefused, Says};
 ghost use Rattle.demands.specs.Records.{MakesRecord, EditsRecord, BuildsFrom};
 ghost use Rattle.demands.specs.Clauses.{ClausesRefused, HandsBack};
 ghost use Rattle.demands.specs.Files.{WriteRefused, WritesFile, ThereAndBack, ReadRefused, ReadsFile, BackAgain};
+ghost use Rattle.demands.specs.Salvage.{SalvageRefused, Salvages, Unchanged, Originals};
 ghost use Rattle.demands.specs.Asking.{FindsPredicate, ReadsGoal, ReadsBack};
 use asking::Predicate;
 use cell::Shape;
@@ -186,6 +187,25 @@ fn request_read_file(file: &[u8], table: &mut [u32], plan: &mut [u32]) -> u64
     ensures { λ r. ⌜ BackAgain (now (file .entry)) (now (table .exit)) (now (plan .exit)) (decoded r) ⌝ }
 {
     exports::dudowiej_read_file(file, table, plan)
+}
+
+// W-212 (specs/Salvage)
+fn request_salvage(
+    file: &[u8],
+    table: &mut [u32],
+    plan: &mut [u32],
+    bad: &mut [usize],
+    report: &mut [usize; 6],
+) -> u64
+    ensures { λ r. ⌜ SalvageRefused (now (file .entry)) (now (table .entry)) (now (plan .entry)) (now (bad .entry)) (now (report .entry))
+        (now (table .exit)) (now (plan .exit)) (now (bad .exit)) (now (report .exit)) (decoded r) ⌝ }
+    ensures { λ r. ⌜ Salvages (now (file .entry)) (now (table .entry)) (now (plan .entry)) (now (bad .entry))
+        (now (table .exit)) (now (plan .exit)) (now (bad .exit)) (now (report .exit)) (decoded r) ⌝ }
+    ensures { λ r. ⌜ Unchanged (now (file .entry)) (now (table .entry)) (now (plan .entry)) (now (bad .entry))
+        (now (table .exit)) (now (plan .exit)) (now (bad .exit)) (now (report .exit)) (decoded r) ⌝ }
+    ensures { λ r. ⌜ Originals (now (file .entry)) (now (table .exit)) (decoded r) ⌝ }
+{
+    exports::dudowiej_salvage(file, table, plan, bad, report)
 }
 
 // What is lent as cells of 32 bits is that, and so can be read back.

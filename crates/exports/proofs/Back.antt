@@ -13,9 +13,9 @@ use Rattle.record.specs.Edits.{Edit}
 use Rattle.builder.specs.Build.{buildTold}
 use Rattle.answer.specs.Run.{runTold}
 use Rattle.exports.specs.Coded.{rowSays, WorkCoded, EditSays, BuildSays, RunCoded, TextCoded, JobsCoded, RepliesCoded, ClausesCoded}
-use Rattle.exports.specs.Coded.{cut, FileWriteCoded, FileReadCoded}
+use Rattle.exports.specs.Coded.{cut, FileWriteCoded, FileReadCoded, salvageSays, SalvageCoded}
 use Rattle.exports.proofs.Small.{table-small, goal-with-small, row-small, plan-small, work-small, edit-small, build-small, run-small, text-small, jobs-small, replies-small}
-use Rattle.exports.proofs.Small.{written-small, loaded-small}
+use Rattle.exports.proofs.Small.{written-small, loaded-small, salvaged-small}
 use Rattle.answer.specs.declared.Job.{Job}
 use Rattle.instance.specs.Replied.{repliesTold}
 use Rattle.clauses.specs.Handed.{handTold}
@@ -61,3 +61,6 @@ written-back x = read-back (written-small (x .wrote)) (x .code)
 
 pub loaded-back : {f t p t′ p′ : List ℕ} {n : ℕ} (x : FileReadCoded f t p t′ p′ n) → decoded n ≡ cut (x .told)
 loaded-back x = read-back (loaded-small (x .loaded)) (x .code)
+
+pub salvaged-back : {f t p b r t′ p′ b′ r′ : List ℕ} {n : ℕ} (x : SalvageCoded f t p b r t′ p′ b′ r′ n) → decoded n ≡ cut (salvageSays (x .told))
+salvaged-back x = read-back (salvaged-small (x .had)) (x .code)

@@ -17,7 +17,7 @@ use Rattle.loading.proofs.Fixed.{text-fixed}
 use Rattle.refusal.specs.Refusal.{Answer}
 use Rattle.refusal.specs.Coded.{coded}
 use Rattle.exports.specs.Coded.{WorkCoded, EditCoded, BuildCoded, RunCoded, TextCoded, JobsCoded, RepliesCoded, ClausesCoded}
-use Rattle.exports.specs.Coded.{cut, FileWriteCoded, FileReadCoded}
+use Rattle.exports.specs.Coded.{cut, FileWriteCoded, FileReadCoded, salvageSays, reportAfter, SalvageCoded}
 use Rattle.answer.specs.declared.Job.{Job}
 use Rattle.answer.proofs.JobsLaws.{jobs-fixed}
 use Rattle.instance.specs.Replied.{repliesTold}
@@ -27,6 +27,8 @@ use Rattle.clauses.specs.Handed.{handTold}
 use Rattle.clauses.specs.declared.HandAnswer.{HandAnswer}
 use Rattle.clauses.proofs.Fixed.{handed-fixed}
 use Rattle.filing.proofs.Fixed.{written-fixed, loaded-fixed}
+use Rattle.salvaging.specs.Salvage.{Outcome}
+use Rattle.salvaging.proofs.Fixed.{salvaged-fixed}
 
 pub work-coded-fixed : {figure : ℕ} {cells rec rec′ rec″ : List ℕ} {m n : ℕ} → WorkCoded figure cells rec rec′ m → WorkCoded figure cells rec rec″ n
     → (m ≡ n) × (rec′ ≡ rec″)
@@ -82,3 +84,14 @@ pub loaded-coded-fixed : {f t p t′ p′ t″ p″ : List ℕ} {m n : ℕ} → 
 loaded-coded-fixed a b =
     let f = loaded-fixed (a .loaded) (b .loaded) in
     (a .code ∙ ap (λ (x : Answer). coded (cut x)) (f .0) ∙ sym (b .code), f .1, f .2)
+
+pub salvage-coded-fixed : {f t p b r t′ p′ b′ r′ t″ p″ b″ r″ : List ℕ} {m n : ℕ} → SalvageCoded f t p b r t′ p′ b′ r′ m
+    → SalvageCoded f t p b r t″ p″ b″ r″ n → (m ≡ n) × (t′ ≡ t″) × (p′ ≡ p″) × (b′ ≡ b″) × (r′ ≡ r″)
+salvage-coded-fixed {r = r} x y =
+    let f = salvaged-fixed (x .had) (y .had) in (
+      x .code ∙ ap (λ (o : Outcome). coded (cut (salvageSays o))) (f .0) ∙ sym (y .code),
+      f .1,
+      f .2,
+      f .3,
+      x .reports ∙ ap (λ (o : Outcome). reportAfter o r) (f .0) ∙ sym (y .reports),
+    )

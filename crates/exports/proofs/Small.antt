@@ -6,10 +6,12 @@ use native.Mathlib.Omega.{arith}
 use mathlib.Core.Bool.{Bool, true, false, _||_}
 use lib.Dec.{leb, ltb}
 use borrow.Author.Tests.{leb-true, leb-false}
-use lib.ListN.{length, getD, replicate, length-append}
+use lib.ListN.{length, getD, drop, replicate, length-append}
 use Rattle.term.proofs.Lists.{getD-zeros}
 use Rattle.refusal.specs.Coded.{Small}
+use Rattle.refusal.specs.declared.Reason.{Reason}
 use Rattle.refusal.specs.declared.Reason.the-variants as reason
+use Rattle.refusal.specs.declared.Input.{Input}
 use Rattle.refusal.specs.declared.Input.the-variants as input
 use Rattle.refusal.specs.Refusal.{Refused, refused, Answer, turned}
 use Rattle.refusal.proofs.CodedLaws.{refused-small, small-by}
@@ -59,11 +61,15 @@ use Rattle.grammar.proofs.LongLaws.{text-long, other-place, names-few}
 use Rattle.loading.specs.Load.{Loaded, Loads, not-taken, no-cells, no-names, no-table, loads, loadSays, TextLoads}
 use Rattle.prolog.proofs.EntryLaws.{cells-long, names-long}
 use Rattle.run.proofs.Fixed.{jobs-told}
-use Rattle.filing.specs.Files.{fileOf, FileWritten, FileLoaded}
+use Rattle.filing.specs.Files.{tablePart, fileOf, FileWritten, FileLoaded}
 use Rattle.filing.specs.Files as files
 use Rattle.filing.proofs.Undo.{accepted-sizes, read-sizes}
 use Rattle.filing.proofs.WriteLaws.{file-few}
-use Rattle.exports.specs.Coded.{cut}
+use Rattle.salvaging.specs.Salvage.{front, width, count, keptCells, badIn, Outcome, lost, Salvaged}
+use Rattle.salvaging.specs.Salvage as saving
+use Rattle.salvaging.proofs.KeptLaws.{kept-are}
+use Rattle.salvaging.proofs.TopLaws.{head-is}
+use Rattle.exports.specs.Coded.{cut, salvageSays}
 use Rattle.exports.proofs.CutLaws.{placed-cut}
 use Rattle.exports.proofs.Places.{placed-small, placed-table, placed-edit, placed-plan, placed-run, placed-goal, placed-replies, placed-handed}
 use Rattle.exports.proofs.Places.{placed-checked, placed-file}
@@ -257,3 +263,18 @@ loaded-small {f} (files.table-short c e l r s u) =
 loaded-small {f} (files.plan-short c e k l r s u) =
     small-by (ap cut r) (refused-small reason.Room input.Lent (length (c .plan) % 2 ^ 48) (omega arith))
 loaded-small {f} (files.loaded c e k l r s u) = let z = read-sizes f c e in small-by (ap cut r) (omega (arith, z .0), omega (arith, z .1))
+
+-- what is saved of a bad file has at most 64 rows, and a refusal fits once its place is cut
+lost-small : (k : Reason) (i : Input) (p : ℕ) {o : Outcome} → o ≡ lost (refused k i p) → Small (cut (salvageSays o))
+lost-small k i p r = small-by (ap (λ (o : Outcome). cut (salvageSays o)) r) (refused-small k i (p % 2 ^ 48) (omega arith))
+
+pub salvaged-small : {f t p b t′ p′ b′ : List ℕ} {o : Outcome} → Salvaged f t p b t′ p′ b′ o → Small (cut (salvageSays o))
+salvaged-small (saving.head-lost h r s u v) = lost-small reason.Head input.File 0 r
+salvaged-small (saving.none-kept h k r s u v) = lost-small reason.None input.File 0 r
+salvaged-small {f} (saving.table-short h k l r s u v) = lost-small reason.Room input.Lent (length (keptCells f)) r
+salvaged-small (saving.plan-short h k l keeps cells x m r s u v) = lost-small reason.Room input.Lent (length cells) r
+salvaged-small {f} (saving.bad-short h k l keeps cells x m n r s u v) = lost-small reason.Room input.Lent (length (badIn f)) r
+salvaged-small {f} (saving.all-had h k l keeps cells x m n r s u v) =
+    let c = head-is f h .rows in
+    let w = kept-are (width f) (count f) [] (drop 2 (tablePart (front f))) .few in
+    small-by (ap (λ (o : Outcome). cut (salvageSays o)) r) (omega (arith, c, w), omega (arith, c, w))

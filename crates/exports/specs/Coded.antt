@@ -1,7 +1,8 @@
 -- What the entries answer as one number (crate refusal, specs/Coded), where the crates that they call do not say it.
 use Prim.Native.Nat.{ℕ, _%_, _^_}
 use mathlib.Core.Path.{_≡_}
-use mathlib.Core.List.{List}
+use mathlib.Core.Bool.{cond}
+use mathlib.Core.List.{List, [], _∷_}
 use lib.ListN.{length, getD}
 use Rattle.refusal.specs.Refusal.{Answer, answered, turned}
 use Rattle.refusal.specs.Read.{Read}
@@ -22,6 +23,7 @@ use Rattle.instance.specs.Replied.{Replied, repliesTold}
 use Rattle.clauses.specs.declared.HandAnswer.{HandAnswer}
 use Rattle.clauses.specs.Handed.{Handed, handTold}
 use Rattle.filing.specs.Files.{FileWritten, FileLoaded}
+use Rattle.salvaging.specs.Salvage.{Outcome, saved, lost, Salvaged}
 
 -- where a row's cells start in the table, and how many they are; both 0 where there is no such row
 abbrev pub rowSays : Read Table → ℕ → Answer
@@ -83,7 +85,8 @@ pub record ClausesCoded (cells plan text names room after : List ℕ) (number : 
   pub small : Small (handTold answer)
   pub code : number ≡ coded (handTold answer)
 
--- an answer with as much of a refusal's place as its 48 bits hold. Only DAMAGE's place can be more, of a file of 2^57 bytes
+-- an answer with as much of a refusal's place as its 48 bits hold. Only DAMAGE's place, and ROOM's where it counts bad blocks, can be more, of a
+-- file of 2^57 bytes
 abbrev pub cut : Answer → Answer
 cut (answered first second) = answered first second
 cut (turned f) = turned (record { number = f .number; input = f .input; place = f .place % 2 ^ 48 })
@@ -99,3 +102,20 @@ pub record FileReadCoded (file table plan table′ plan′ : List ℕ) (number :
   pub told : Answer
   pub loaded : FileLoaded file table plan table′ plan′ told
   pub code : number ≡ coded (cut told)
+
+-- what is answered for a bad file that was saved, and for one that was not
+abbrev pub salvageSays : Outcome → Answer
+salvageSays (saved r) = answered (r .rows) (r .dropped)
+salvageSays (lost f) = turned f
+
+-- and what its report then holds: six numbers, whether the plan was kept as 1 or 0; a refusal writes none
+abbrev pub reportAfter : Outcome → List ℕ → List ℕ
+reportAfter (saved r) report = r .rows ∷ r .dropped ∷ cond (r .keeps) 1 0 ∷ r .table ∷ r .plan ∷ r .bad ∷ []
+reportAfter (lost f) report = report
+
+-- what the entry that saves a bad file answers and leaves in the three rooms and in the report
+pub record SalvageCoded (file table plan bad report table′ plan′ bad′ report′ : List ℕ) (number : ℕ) : Type 0 where
+  pub told : Outcome
+  pub had : Salvaged file table plan bad table′ plan′ bad′ told
+  pub reports : report′ ≡ reportAfter told report
+  pub code : number ≡ coded (cut (salvageSays told))

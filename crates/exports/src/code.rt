@@ -1,5 +1,6 @@
 // An answer as one number: 2^16 · first + 2^32 · second, or of a refusal number + 2^8 · input + 2^16 · place (crate refusal, specs/Coded).
 ghost use mathlib.Core.Path.{_≡_};
+ghost use mathlib.Core.Bool.{cond};
 ghost use Rattle.refusal.specs.Refusal.{told, answered, turned};
 ghost use Rattle.refusal.specs.Coded.{coded, Small};
 ghost use Rattle.table.specs.Table.{tableTold, goalTold};
@@ -10,7 +11,9 @@ ghost use Rattle.prolog.specs.Entry.{textTold};
 ghost use Rattle.instance.specs.Replied.{repliesTold};
 ghost use Rattle.clauses.specs.Handed.{handTold};
 ghost use Rattle.filing.specs.Answers.{fileTold};
-ghost use Rattle.exports.specs.Coded.{cut};
+ghost use Rattle.salvaging.specs.Salvage.{saved};
+ghost use Rattle.salvaging.specs.Answers.{reportTold, salvageTold};
+ghost use Rattle.exports.specs.Coded.{cut, salvageSays, reportAfter};
 use answer::RunAnswer;
 use builder::BuildAnswer;
 use checker::PlanAnswer;
@@ -19,6 +22,8 @@ use filing::FileAnswer;
 use instance::RepliesAnswer;
 use prolog::TextAnswer;
 use refusal::Refusal;
+use salvaging::Report;
+use salvaging::Salvage;
 use table::GoalAnswer;
 use table::TableAnswer;
 
@@ -162,5 +167,34 @@ pub fn code_file(a: FileAnswer) -> u64
     match a {
         FileAnswer::Done(first, second) => code_answer(first, second),
         FileAnswer::Refused(f) => cut_refusal(f),
+    }
+}
+
+fn flag(b: bool) -> usize
+    ensures { λ r. ⌜ r ≡ cond b 1 0 ⌝ }
+{
+    if b { 1 } else { 0 }
+}
+
+// A report's numbers; whether the plan was kept is 1 or 0.
+fn put_report(a: Report, report: &mut [usize; 6])
+    ensures { λ r. ⌜ now (report .exit) ≡ reportAfter (saved (reportTold a)) (now (report .entry)) ⌝ }
+{
+    let kept = flag(a.plan_kept);
+    *report = [a.kept, a.dropped, kept, a.table, a.plan, a.bad];
+}
+
+// The rows kept and dropped; the report has them too, and is written where something was saved.
+pub fn code_salvage(a: Salvage, report: &mut [usize; 6]) -> u64
+    requires { ⌜ Small (cut (salvageSays (salvageTold a))) ⌝ }
+    ensures { λ r. ⌜ r ≡ coded (cut (salvageSays (salvageTold a))) ⌝ }
+    ensures { λ r. ⌜ now (report .exit) ≡ reportAfter (salvageTold a) (now (report .entry)) ⌝ }
+{
+    match a {
+        Salvage::Saved(s) => {
+            put_report(s, report);
+            code_answer(s.kept, s.dropped)
+        }
+        Salvage::Refused(f) => cut_refusal(f),
     }
 }

@@ -9,7 +9,7 @@ ghost use Rattle.refusal.specs.Coded.{coded};
 ghost use Rattle.record.specs.Record.{tableIn};
 ghost use Rattle.record.specs.Edits.{append, drop-last, replace};
 ghost use Rattle.exports.specs.Coded.{rowSays, WorkCoded, EditCoded, BuildCoded, RunCoded, TextCoded, JobsCoded, RepliesCoded, ClausesCoded};
-ghost use Rattle.exports.specs.Coded.{FileWriteCoded, FileReadCoded};
+ghost use Rattle.exports.specs.Coded.{FileWriteCoded, FileReadCoded, SalvageCoded};
 
 mod code;
 
@@ -180,4 +180,20 @@ pub extern "C" fn dudowiej_read_file(file: &[u8], table: &mut [u32], plan: &mut 
     ensures { λ r. ⌜ FileReadCoded (now (file .entry)) (now (table .entry)) (now (plan .entry)) (now (table .exit)) (now (plan .exit)) r ⌝ }
 {
     code::code_file(filereading::read_file(file, table, plan))
+}
+
+// What can be had of a bad file: the rows kept and the rows dropped. The table's cells, the plan's and the numbers of the bad blocks are the
+// first of their rooms, and the report has the numbers of all.
+#[no_mangle]
+pub extern "C" fn dudowiej_salvage(
+    file: &[u8],
+    table: &mut [u32],
+    plan: &mut [u32],
+    bad: &mut [usize],
+    report: &mut [usize; 6],
+) -> u64
+    ensures { λ r. ⌜ SalvageCoded (now (file .entry)) (now (table .entry)) (now (plan .entry)) (now (bad .entry)) (now (report .entry))
+        (now (table .exit)) (now (plan .exit)) (now (bad .exit)) (now (report .exit)) r ⌝ }
+{
+    code::code_salvage(salvage::salvage(file, table, plan, bad), report)
 }
