@@ -1,76 +1,56 @@
-// The program `card`: a shop's rules written as a card for a terminal, and cards checked. What is written, what is read and what is said of it
-// is decided and promised in the libraries. This crate finds the arguments and the files; it is proved safe and ending.
-use cardcheck::Checked;
-use cardmake::Made;
+// The program `card`: a shop's rules written as a card for a terminal, cards checked, and bad ones mended. What is written, what is read and what
+// is said of it is decided and promised in the libraries. This crate finds the arguments; it is proved safe and ending.
 use lex::name::same_bytes;
-use octets::put_word;
-use page::Page;
-use reading::Got;
+use parts::part;
 
-// What the first argument asks for; or nothing that there is.
+// What the arguments ask for; or nothing that there is.
 pub enum Wish {
     Pack,
     Check,
+    Mend,
     Help,
     Version,
     Nothing,
 }
 
-fn wish_of(word: &[u8]) -> Wish {
-    if same_bytes(word, b"pack") {
+// How long the names of two files are, the second empty where none is named; or that one of them cannot be, which is said.
+pub enum Names {
+    Found(usize, usize),
+    Wrong,
+}
+
+// By the first argument and by how many there are, the program's name with them.
+fn wish_of(word: &[u8], count: usize) -> Wish {
+    if same_bytes(word, b"pack") && (count == 3 || count == 4) {
         return Wish::Pack;
     }
-    if same_bytes(word, b"check") {
+    if same_bytes(word, b"check") && count == 3 {
         return Wish::Check;
     }
-    if same_bytes(word, b"--help") || same_bytes(word, b"-h") {
+    if same_bytes(word, b"mend") && (count == 3 || count == 4) {
+        return Wish::Mend;
+    }
+    if (same_bytes(word, b"--help") || same_bytes(word, b"-h")) && count == 2 {
         return Wish::Help;
     }
-    if same_bytes(word, b"--version") {
+    if same_bytes(word, b"--version") && count == 2 {
         return Wish::Version;
     }
     Wish::Nothing
 }
 
-// `card pack RULES [FILE]`, `card check FILE`, `card --help` or `card --version`.
+// `card pack RULES [FILE]`, `card check FILE`, `card mend BAD [FILE]`, `card --help` or `card --version`.
 pub fn answer() {
     let count = os::arg_count();
     let mut word = io::buffer();
     let n = os::arg(1, &mut word);
-    let wish = wish_of(&word[..n]);
+    let wish = wish_of(&word[..n], count);
     match wish {
-        Wish::Pack => {
-            if count == 3 {
-                pack(false);
-                return;
-            }
-            if count == 4 {
-                pack(true);
-                return;
-            }
-            cardhelp::refuse();
-        }
-        Wish::Check => {
-            if count != 3 {
-                cardhelp::refuse();
-                return;
-            }
-            check();
-        }
-        Wish::Help => {
-            if count != 2 {
-                cardhelp::refuse();
-                return;
-            }
-            cardhelp::print();
-        }
-        Wish::Version => {
-            if count != 2 {
-                cardhelp::refuse();
-                return;
-            }
-            cardhelp::version();
-        }
+        Wish::Pack => pack(count == 4),
+        Wish::Check => check(),
+        Wish::Mend => mend(count == 4),
+        Wish::Help => cardhelp::print(),
+        Wish::Version => cardhelp::version(),
         Wish::Nothing => cardhelp::refuse(),
     }
 }
@@ -83,87 +63,45 @@ fn check() {
         os::fail(b"cannot read FILE");
         return;
     }
-    lend(&path[..n]);
+    cardwork::check(&path[..n]);
 }
 
-// One byte more is read than is looked at, 2,048 blocks, so that a longer file is seen to be one.
-fn lend(path: &[u8]) {
-    let mut file = [0u8; 1048577];
-    let mut out = [0u8; 8192];
-    check_file(path, &mut file, &mut out);
-}
-
-fn check_file(path: &[u8], file: &mut [u8], out: &mut [u8]) {
-    match reading::read_path(path, file) {
-        Got::Bytes(n) => say(path, parts::part(file, 0, n), out),
-        Got::Failed => reading::cannot_read(path, out),
-    }
-}
-
-fn say(path: &[u8], file: &[u8], out: &mut [u8]) {
-    let a = put_word(out, 0, path);
-    if 1048576 < file.len() {
-        let b = cardwords::put_longer(out, a);
-        page::complain(out, b);
-        return;
-    }
-    match cardcheck::put_checked(out, a, file) {
-        Checked::Whole(n) => {
-            page::flush(out, Page { to: n, open: true });
-        }
-        Checked::Refused(n) => page::complain(out, n),
-    }
-}
-
-// The rules' file, and, where it is named, the card's.
-fn pack(named: bool) {
-    let mut rules = io::buffer();
-    let n = os::arg(2, &mut rules);
+// What a card is made from, and, where it is named, the card's file. The first is not written over.
+fn names_in(from: &mut [u8], path: &mut [u8], named: bool, unread: &[u8]) -> Names {
+    let n = os::arg(2, from);
     if os::errno() != 0 {
-        os::fail(b"cannot read RULES");
-        return;
+        os::fail(unread);
+        return Names::Wrong;
     }
     if !named {
-        pack_out(&rules[..n]);
-        return;
+        return Names::Found(n, 0);
     }
-    let mut path = io::buffer();
-    let m = os::arg(3, &mut path);
+    let m = os::arg(3, path);
     if os::errno() != 0 {
         os::fail(b"cannot write FILE");
-        return;
+        return Names::Wrong;
     }
-    pack_file(&rules[..n], &path[..m]);
-}
-
-// To standard output.
-fn pack_out(rules: &[u8]) {
-    let mut card = [0u8; 33792];
-    let mut out = [0u8; 8192];
-    match cardmake::make(rules, &mut card, &mut out) {
-        Made::Card(n) => {
-            page::flush(&card, Page { to: n, open: true });
-        }
-        Made::Nothing => {}
-    }
-}
-
-// To a file; then what `check` says of it. The rules themselves are not written over.
-fn pack_file(rules: &[u8], path: &[u8]) {
-    if same_bytes(rules, path) {
+    if same_bytes(part(from, 0, n), part(path, 0, m)) {
         cardhelp::refuse();
-        return;
+        return Names::Wrong;
     }
-    let mut card = [0u8; 33792];
-    let mut out = [0u8; 8192];
-    match cardmake::make(rules, &mut card, &mut out) {
-        Made::Card(n) => keep(path, parts::part(&card, 0, n), &mut out),
-        Made::Nothing => {}
+    Names::Found(n, m)
+}
+
+fn pack(named: bool) {
+    let mut rules = io::buffer();
+    let mut path = io::buffer();
+    match names_in(&mut rules, &mut path, named, b"cannot read RULES") {
+        Names::Found(n, m) => cardwork::pack(part(&rules, 0, n), part(&path, 0, m), named),
+        Names::Wrong => {}
     }
 }
 
-fn keep(path: &[u8], card: &[u8], out: &mut [u8]) {
-    if cardfile::write_card(path, card, out) {
-        say(path, card, out);
+fn mend(named: bool) {
+    let mut bad = io::buffer();
+    let mut path = io::buffer();
+    match names_in(&mut bad, &mut path, named, b"cannot read BAD") {
+        Names::Found(n, m) => cardwork::mend(part(&bad, 0, n), part(&path, 0, m), named),
+        Names::Wrong => {}
     }
 }

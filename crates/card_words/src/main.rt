@@ -1,5 +1,6 @@
 // What the program card says of cards that are spoiled, stored with its output: the programs over `cabinet` say it to standard error.
 use cardcheck::Checked;
+use cardmend::Mended;
 use libc::STDOUT_FILENO;
 
 // What is said of a file, after a name.
@@ -16,13 +17,37 @@ fn show(file: &[u8]) {
     }
 }
 
-// One block of these cells, with its check words.
-fn block(cells: &[u32]) {
+// What mending says of it.
+fn mend(file: &[u8]) {
+    let mut out = [0u8; 256];
+    let mut card = [0u8; 512];
+    match cardmend::put_mended(&mut out, b"card", file, &mut card) {
+        Mended::Card(n, _) => {
+            io::write_all(STDOUT_FILENO, parts::part(&out, 0, n));
+        }
+        Mended::Refused(n) => {
+            io::write_all(STDOUT_FILENO, parts::part(&out, 0, n));
+        }
+    }
+}
+
+// One block of these cells, with its check words, at the front of a file.
+fn put_first(file: &mut [u8], cells: &[u32]) {
     let mut all = [0u32; 125];
     octets::cells::put_cells(&mut all, 0, cells);
+    blocks::put_block(file, 0, 0, &all);
+}
+
+fn block(cells: &[u32]) {
     let mut file = [0u8; 512];
-    blocks::put_block(&mut file, 0, 0, &all);
+    put_first(&mut file, cells);
     show(&file);
+}
+
+fn mend_block(cells: &[u32]) {
+    let mut file = [0u8; 512];
+    put_first(&mut file, cells);
+    mend(&file);
 }
 
 // 02's example: the table `1 1 a`, the plan `0 1 a 1`, a being the name 0.
@@ -106,10 +131,32 @@ fn first_of(plan: u32) -> [u32; 125] {
     cells
 }
 
+// HEAD: no byte, a part of a block, 9 columns, 65 rules. NONE: a rule with a cell of no kind, a table of two cells.
+fn lost() {
+    let file = [0u8; 511];
+    mend(&file[..0]);
+    mend(&file);
+    mend_block(&[3, 4, 9, 1, 0x40000000, 0, 1, 0x40000000, 1]);
+    mend_block(&[3, 4, 1, 65, 0x40000000, 0, 1, 0x40000000, 1]);
+    mend_block(&[3, 4, 1, 1, 0xc0000000, 0, 1, 0x40000000, 1]);
+    mend_block(&[2, 4, 1, 1, 0, 1, 0x40000000, 1]);
+}
+
+// A whole card; a second rule with a cell of no kind; a whole card with a block of zeros and a part of one after it.
+fn mended() {
+    mend_block(&[3, 4, 1, 1, 0x40000000, 0, 1, 0x40000000, 1]);
+    mend_block(&[4, 4, 1, 2, 0x40000000, 0xc0000000, 0, 1, 0x40000000, 1]);
+    let mut file = [0u8; 1025];
+    put_first(&mut file, &[3, 4, 1, 1, 0x40000000, 0, 1, 0x40000000, 1]);
+    mend(&file);
+}
+
 fn main() {
     whole();
     files();
     tables();
     plans();
     size();
+    lost();
+    mended();
 }

@@ -6,7 +6,8 @@ pub fn print() {
     let a = uses(true);
     let b = packs(a);
     let c = checks(b);
-    refusals(c);
+    let d = mends(c);
+    refusals(d);
 }
 
 fn uses(going: bool) -> bool {
@@ -18,8 +19,12 @@ fn uses(going: bool) -> bool {
         a,
         b"card check FILE          what a card holds, or why it is refused\n",
     );
-    let c = line(b, b"card --help, -h          this\n");
-    line(c, b"card --version           the version\n\n")
+    let c = line(
+        b,
+        b"card mend BAD [FILE]     what can be had of a bad card, and a card of that\n",
+    );
+    let d = line(c, b"card --help, -h          this\n");
+    line(d, b"card --version           the version\n\n")
 }
 
 fn packs(going: bool) -> bool {
@@ -49,12 +54,39 @@ fn packs(going: bool) -> bool {
 fn checks(going: bool) -> bool {
     let a = line(
         going,
-        b"Of a card that is whole, packed or checked, there is one line:\n",
+        b"Of a card that is whole, packed, checked or mended, there is one line:\n",
     );
     line(
         a,
         b"    shop.card: 12 rules, 4 columns, 39 branches, 2 blocks\n\n",
     )
+}
+
+fn mends(going: bool) -> bool {
+    let a = line(
+        going,
+        b"BAD is any file. Where its block 0 is sound, the rules from the top are kept, up\n",
+    );
+    let b = line(
+        a,
+        b"to the first bad block or the first rule that no card may have; and the plan, if\n",
+    );
+    let c = line(
+        b,
+        b"all rules are kept and it is whole and theirs. Otherwise a least plan is made.\n",
+    );
+    let d = line(
+        c,
+        b"Three lines say so. Where FILE is named, a card of that is written, as from\n",
+    );
+    let e = line(d, b"RULES; BAD is left as it is:\n");
+    reported(e)
+}
+
+fn reported(going: bool) -> bool {
+    let a = line(going, b"    10 of 12 rules kept, 2 dropped\n");
+    let b = line(a, b"    the plan is new\n");
+    line(b, b"    bad blocks: 1\n\n")
 }
 
 fn refusals(going: bool) -> bool {
@@ -88,6 +120,6 @@ pub fn version() {
 pub fn refuse() {
     io::write_all(
         STDERR_FILENO,
-        b"usage: card pack RULES [FILE], card check FILE, card --help or card --version\n",
+        b"usage: card pack RULES [FILE], card check FILE, card mend BAD [FILE], card --help or card --version\n",
     );
 }

@@ -1,8 +1,8 @@
 use mathlib.Core.Path.{sym}
 use Prim.Native.Nat.{ℕ}
 use lib.ListN.{length-replicate}
-use Rattle.cabinet.proofs.lend.Statement.{statement}
-use Rattle.cabinet.proofs.lend.Tie as tie
+use Rattle.cardwork.proofs.check.Statement.{statement}
+use Rattle.cardwork.proofs.check.Tie as tie
 
 slice-aggregate-check-file : tie.Need-slice-aggregate-check-file
 slice-aggregate-check-file c = sym (length-replicate {0} {A = ℕ} 1048577 0)
@@ -16,5 +16,5 @@ check-file-requires c κs = tt
 returns : tie.Need-returns
 returns c = tt
 
-pub lend-spec : {M : Type 1} → statement M
-lend-spec = tie.close (tie.spec slice-aggregate-check-file slice-aggregate-check-file-2 check-file-requires returns)
+pub check-spec : {M : Type 1} → statement M
+check-spec = tie.close (tie.spec slice-aggregate-check-file slice-aggregate-check-file-2 check-file-requires returns)
