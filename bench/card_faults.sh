@@ -12,6 +12,8 @@ trap 'chmod -R u+w "$folder"; rm -r "$folder"' EXIT
 cp samples/shop.pl samples/badge.pl samples/shop.card "$folder"
 cd "$folder"
 cp shop.card old
+head -c 512 shop.card >bad.card
+head -c 512 /dev/zero >>bad.card
 exec 2>&1
 
 say() { echo "-- $*"; }
@@ -31,23 +33,35 @@ $card check none.card
 $card check .
 dd if=/dev/zero of=long bs=1048577 count=1 status=none
 $card check long
+$card mend none.card
+$card mend .
+$card mend long
 say 'a full disk behind standard output'
 $card pack shop.pl >/dev/full
 $card check shop.card >/dev/full
+$card mend bad.card >/dev/full
 $card --help >/dev/full
 say 'a folder that there is not; a folder in place of the card'
 $card pack badge.pl none/shop.card
+$card mend bad.card none/shop.card
 mkdir box
 $card pack badge.pl box
+$card mend bad.card box
 ls
 say 'the other name is taken'
 echo mine >shop.card.new
 $card pack badge.pl shop.card
+$card mend bad.card shop.card
 cat shop.card.new
 rm shop.card.new
 left
-say 'rules and card of one name'
+say 'rules and card of one name; a bad card and a card of one name'
 $card pack shop.pl shop.pl
+$card mend bad.card bad.card
+say 'a card with no block 0'
+head -c 1024 /dev/zero >zeros
+$card mend zeros shop.card
+left
 if [ "$(id -u)" -eq 0 ]; then
     say 'a device in place of the card, and one in blocks'
     if mknod full c 1 7 && mknod loop b 7 0; then
@@ -69,6 +83,7 @@ say 'no file may have more than 512 bytes: a write that is cut short'
     trap '' XFSZ
     ulimit -f 1
     $card pack shop.pl shop.card
+    $card mend bad.card shop.card
 ) 2>&1 | cat
 left
 if command -v strace >/dev/null; then
@@ -89,9 +104,16 @@ $card pack badge.pl shop.card
 $card check shop.card
 $card check old
 ls
+say 'a bad card mended, and a whole one: the bytes of the old card'
+for from in bad.card old; do
+    $card mend $from shop.card
+    cmp shop.card old && echo 'the bytes are the same'
+done
 say 'arguments that there are not'
 $card
 $card pack
 $card pack a b c
 $card check a b
-$card mend a
+$card mend
+$card mend a b c
+$card bend a

@@ -8,6 +8,8 @@ mod handed;
 pub mod listings;
 pub mod repeats;
 mod replies;
+pub mod salvage;
+mod saved;
 mod small;
 mod tally;
 mod texts;
@@ -90,6 +92,16 @@ pub fn files<E: Engine>(exported: &E, tally: Tally, count: usize, seed: u64) -> 
     comparison.fixed_files();
     for _ in 0..count {
         comparison.random_files();
+    }
+    comparison.tally
+}
+
+/// Goes on with what can be saved of files: fixed ones, then so many random ones, sound and harmed.
+pub fn salvages<E: Engine>(exported: &E, tally: Tally, count: usize, seed: u64) -> Tally {
+    let mut comparison = Comparison { exported, random: Random::new(seed), tally };
+    comparison.fixed_salvages();
+    for _ in 0..count {
+        comparison.random_salvages();
     }
     comparison.tally
 }

@@ -1,6 +1,7 @@
 //! The entries, as the library exports them and as the independent implementation answers them.
 
 use crate::model::record::{figure_in, table_in, Record};
+use crate::model::salvage::Report;
 use crate::model::{self, refusal::packed};
 
 /// Each entry's answer as one number; the lent room is written to the front.
@@ -20,6 +21,7 @@ pub trait Engine {
     fn clauses(&self, record: &Record, plan: &[u32], text: &[u8], names: &[u32], room: &mut [u8]) -> u64;
     fn write_file(&self, record: &Record, plan: &[u32], room: &mut [u8]) -> u64;
     fn read_file(&self, file: &[u8], table: &mut [u32], plan: &mut [u32]) -> u64;
+    fn salvage(&self, file: &[u8], table: &mut [u32], plan: &mut [u32], bad: &mut [usize], report: &mut Report) -> u64;
 }
 
 /// The independent implementation with runs by the definitions.
@@ -76,6 +78,9 @@ macro_rules! independent {
             fn read_file(&self, file: &[u8], table: &mut [u32], plan: &mut [u32]) -> u64 {
                 packed(model::files::read_file(file, table, plan))
             }
+            fn salvage(&self, file: &[u8], table: &mut [u32], plan: &mut [u32], bad: &mut [usize], report: &mut Report) -> u64 {
+                packed(model::salvage::salvage(file, table, plan, bad, report))
+            }
         }
     };
 }
@@ -91,7 +96,7 @@ pub use Plain as Exported;
 
 #[cfg(not(feature = "stand-in"))]
 mod exported {
-    use super::{Engine, Record};
+    use super::{Engine, Record, Report};
 
     /// The functions of target/staticlib/libexports.a (include/dudowiej.h).
     pub struct Exported;
@@ -138,9 +143,20 @@ mod exported {
         ) -> u64;
         fn dudowiej_write_file(record: *const Record, plan: *const u32, plan_cells: usize, room: *mut u8, room_bytes: usize) -> u64;
         fn dudowiej_read_file(file: *const u8, file_bytes: usize, table: *mut u32, table_room: usize, plan: *mut u32, plan_room: usize) -> u64;
+        fn dudowiej_salvage(
+            file: *const u8,
+            file_bytes: usize,
+            table: *mut u32,
+            table_room: usize,
+            plan: *mut u32,
+            plan_room: usize,
+            bad: *mut usize,
+            bad_room: usize,
+            report: *mut Report,
+        ) -> u64;
     }
 
-    // Each pointer and length below is one slice's, a record's pointer is a reference; what is written is borrowed alone.
+    // Each pointer and length below is one slice's, a record's or a report's pointer is a reference; what is written is borrowed alone.
     impl Engine for Exported {
         fn read_table(&self, table: &[u32]) -> u64 {
             unsafe { dudowiej_read_table(table.as_ptr(), table.len()) }
@@ -187,6 +203,10 @@ mod exported {
         }
         fn read_file(&self, file: &[u8], table: &mut [u32], plan: &mut [u32]) -> u64 {
             unsafe { dudowiej_read_file(file.as_ptr(), file.len(), table.as_mut_ptr(), table.len(), plan.as_mut_ptr(), plan.len()) }
+        }
+        fn salvage(&self, file: &[u8], table: &mut [u32], plan: &mut [u32], bad: &mut [usize], report: &mut Report) -> u64 {
+            let ((table, table_room), (plan, plan_room)) = ((table.as_mut_ptr(), table.len()), (plan.as_mut_ptr(), plan.len()));
+            unsafe { dudowiej_salvage(file.as_ptr(), file.len(), table, table_room, plan, plan_room, bad.as_mut_ptr(), bad.len(), report) }
         }
     }
 }

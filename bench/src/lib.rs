@@ -14,6 +14,7 @@ pub mod notation;
 pub mod prolog;
 pub mod random;
 pub mod replies;
+pub mod salvage;
 pub mod shift;
 pub mod stack;
 pub mod texts;

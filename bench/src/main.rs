@@ -7,7 +7,7 @@ use std::process::ExitCode;
 use dudowiej_bench::compare::{self, listings, ROUNDS, SEED};
 use dudowiej_bench::engine::Exported;
 use dudowiej_bench::model::listing::listing;
-use dudowiej_bench::{clauses, count, edits, files, prolog, shift, stack, time};
+use dudowiej_bench::{clauses, count, edits, files, prolog, salvage, shift, stack, time};
 
 const USAGE: &str = "usage:
   compare [ROUNDS [SEED]]   the exported functions against the independent implementation
@@ -24,6 +24,7 @@ const USAGE: &str = "usage:
   count-edits, instructions-edits FOLDER   the same for a record's edits
   count-clauses, instructions-clauses FOLDER   the same for plans handed back as Prolog
   count-files, instructions-files FOLDER   the same for files
+  count-salvage, instructions-salvage FOLDER   the same for what is saved of bad cards
   stack                     the bytes of stack that each entry touches
   list                      the independent listing of the table on standard input";
 
@@ -70,6 +71,8 @@ fn main() -> ExitCode {
         ["instructions-clauses", folder] => done(|| clauses::instructions(Path::new(folder))),
         ["count-files"] => done(files::count),
         ["instructions-files", folder] => done(|| files::instructions(Path::new(folder))),
+        ["count-salvage"] => done(salvage::count),
+        ["instructions-salvage", folder] => done(|| salvage::instructions(Path::new(folder))),
         ["stack"] => done(stack::stack),
         ["list"] => done(list),
         _ => usage(),
@@ -101,6 +104,7 @@ fn compared(rounds: usize, seed: u64) -> ExitCode {
     let tally = compare::edits(&Exported, tally, rounds / 10, seed);
     let tally = compare::clauses(&Exported, tally, rounds, seed);
     let tally = compare::files(&Exported, tally, rounds, seed);
+    let tally = compare::salvages(&Exported, tally, rounds, seed);
     println!("{tally}");
     if tally.passed() && lists.passed() && listings_differ == 0 {
         ExitCode::SUCCESS

@@ -1,6 +1,7 @@
-//! Random inputs: tables, rows, records, goals, plans, lists of names and files, sound and damaged.
+//! Random inputs: tables, rows, records, goals, plans, lists of names, files and cards, sound and damaged.
 
 pub mod big;
+pub mod cards;
 pub mod damage;
 pub mod files;
 pub mod goals;

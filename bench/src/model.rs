@@ -12,6 +12,7 @@ pub mod record;
 pub mod refusal;
 pub mod replies;
 pub mod run;
+pub mod salvage;
 pub mod term;
 pub mod text;
 pub mod unify;

@@ -8,14 +8,16 @@ use crate::branches::{flat, with_argument};
 use crate::cases::SEED;
 use crate::compare::clauses::most_clauses;
 use crate::engine::{Engine, Exported};
+use crate::make::cards::wipe;
 use crate::make::names::{entry, letters};
 use crate::make::tables::{longest_replies, table, Kind};
 use crate::make::{big, goals, records};
-use crate::model::files::{filled, sealed, BLOCK_CELLS, FILE_BYTES};
+use crate::model::files::{filled, sealed, BLOCK_BYTES, BLOCK_CELLS, FILE_BYTES};
 use crate::model::least::least;
 use crate::model::plan::{grow, PLAN_CELLS};
 use crate::model::read::{read_table, Table, ROW_CELLS, TABLE_CELLS};
 use crate::model::record::{drop_last, put_table, Record, MOST_FIGURE};
+use crate::model::salvage::Report;
 use crate::random::Random;
 use crate::shift::{Job, Shift};
 use crate::texts::{measured_texts, ROOM};
@@ -40,8 +42,10 @@ pub fn stack() {
             most.of_record(&record, &plans, &goals);
             most.of_clauses(&record, &plans);
             most.of_files(&record, &table, &plans[..1]);
+            most.of_cards(&table, &plans[..1]);
         }
         most.of_files(&sound, &table, &plans);
+        most.of_cards(&table, &plans);
     }
     for (table, goal) in [longest_replies(), big::million(ROWS), deep_terms(), deep_search()] {
         let plans = plans(&read_table(&table).expect("a sound table"));
@@ -156,6 +160,29 @@ impl Most {
                 for (table, plan) in [(TABLE_CELLS, PLAN_CELLS), (TABLE_CELLS, 0), (0, 0)] {
                     let (mut table, mut plan) = (vec![0; table], vec![0; plan]);
                     self.note("dudowiej_read_file", || Exported.read_file(file, &mut table, &mut plan));
+                }
+            }
+        }
+    }
+
+    /// The file of the table and each plan, whatever they are, saved as it is, with a block wiped or all but the first, cut, and with bytes behind it;
+    /// in rooms enough, with no list, with no room for the plan and with none.
+    fn of_cards(&mut self, table: &[u32], plans: &[Vec<u32>]) {
+        for plan in plans {
+            let file = sealed(&filled(table, plan));
+            let last = file.len() / BLOCK_BYTES - 1;
+            let wiped = |which: &dyn Fn(usize) -> bool| {
+                let mut file = file.clone();
+                wipe(&mut file, which);
+                file
+            };
+            let [head, middle, end, rest] =
+                [wiped(&|block| block == 0), wiped(&|block| block == last / 4 + 1), wiped(&|block| block == last), wiped(&|block| block > 0)];
+            let longer = [&file[..], &[0; 5000]].concat();
+            for file in [&file, &file[..file.len() - 1], &head, &middle, &end, &rest, &longer] {
+                for (table, plan, bad) in [(TABLE_CELLS, PLAN_CELLS, 100), (TABLE_CELLS, PLAN_CELLS, 0), (TABLE_CELLS, 0, 0), (0, 0, 0)] {
+                    let (mut table, mut plan, mut bad, mut report) = (vec![0; table], vec![0; plan], vec![0; bad], Report::default());
+                    self.note("dudowiej_salvage", || Exported.salvage(file, &mut table, &mut plan, &mut bad, &mut report));
                 }
             }
         }

@@ -5,7 +5,7 @@ use std::fmt;
 use super::tally::listed;
 use crate::make::files::{Spoiled, SPOILED};
 use crate::model::files::{end, words, BLOCK_BYTES};
-use crate::model::refusal::{Number, NAMES};
+use crate::model::refusal::{ByNumber, Number, NAMES};
 
 /// What the calls can be refused with, by input.
 const TABLE: (&str, usize, &[usize]) = ("table", 1, &[1, 2, 3, 4, 5, 6, 7, 9, 24]);
@@ -80,9 +80,9 @@ pub struct Filed {
     written: [u64; WRITTEN.len()],
     read: [u64; READ.len()],
     /// By input and number, of writing and of reading.
-    refused: [[[u64; NAMES.len() + 1]; 9]; 2],
+    refused: [[ByNumber<u64>; 9]; 2],
     /// By the way and number.
-    spoiled: [[u64; NAMES.len() + 1]; SPOILED.len()],
+    spoiled: [ByNumber<u64>; SPOILED.len()],
 }
 
 fn count(counts: &mut [u64], met: &[bool]) {

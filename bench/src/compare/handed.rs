@@ -7,7 +7,7 @@ use crate::make::names::Named;
 use crate::model::clauses::{handed, word, Clause};
 use crate::model::least::least;
 use crate::model::read::{read_table, Table};
-use crate::model::refusal::{Number, NAMES};
+use crate::model::refusal::{ByNumber, Number, NAMES};
 use crate::model::term::Term;
 
 /// What the call can be refused with, by input; NAMES and ROOM are told apart below.
@@ -49,7 +49,7 @@ pub struct Handed {
     rooms: [u64; ROOMS.len()],
     reasons: [u64; REASONS.len()],
     /// By input and number.
-    refused: [[u64; NAMES.len() + 1]; 8],
+    refused: [ByNumber<u64>; 8],
 }
 
 /// One call: its inputs, and as much room as it lent.

@@ -5,7 +5,8 @@ use std::fmt;
 
 use super::filed::Filed;
 use super::handed::Handed;
-use crate::model::refusal::{given, Number, NAMES, NEVER};
+use super::saved::Salvages;
+use crate::model::refusal::{given, ByNumber, Number, NAMES, NEVER};
 use crate::model::replies::{Reply, REPLY_CELLS};
 
 #[derive(Clone, Copy, PartialEq, Eq)]
@@ -25,9 +26,10 @@ pub enum Entry {
     Clauses,
     WriteFile,
     ReadFile,
+    Salvage,
 }
 
-const ENTRIES: [&str; 15] = [
+const ENTRIES: [&str; 16] = [
     "read_table",
     "read_goal",
     "row",
@@ -43,6 +45,7 @@ const ENTRIES: [&str; 15] = [
     "clauses",
     "write_file",
     "read_file",
+    "salvage",
 ];
 
 /// What replies can be refused with, by input: table, plan, goal, room.
@@ -92,7 +95,7 @@ const SHOWN: u64 = 5;
 #[derive(Default)]
 pub struct Tally {
     /// By the number of the refusal, 0 where the entry answered, and by entry.
-    counts: [[u64; ENTRIES.len()]; NAMES.len() + 1],
+    counts: ByNumber<[u64; ENTRIES.len()]>,
     differ: u64,
     /// Hits and branches tried of all runs that were answered.
     hits: u64,
@@ -100,13 +103,14 @@ pub struct Tally {
     /// Of the texts refused for want of room: for the cells, for the names.
     text_rooms: [u64; 2],
     /// How often replies were refused, by input from 1 and number.
-    replies_refused: [[u64; NAMES.len() + 1]; OF_REPLIES.len() + 1],
+    replies_refused: [ByNumber<u64>; OF_REPLIES.len() + 1],
     replies: Replies,
     met: [u64; MET.len()],
     pub(super) handed: Handed,
     pub(super) filed: Filed,
+    pub(super) salvages: Salvages,
     /// Edits of records that were worked out, by the number of the refusal and by entry.
-    edits: [[u64; ENTRIES.len()]; NAMES.len() + 1],
+    edits: ByNumber<[u64; ENTRIES.len()]>,
     /// How often a plan was built from, or an edit made in, a record that was never worked out.
     ended: u64,
     /// The independent implementation's parts among themselves: compared, and how many differed.
@@ -245,6 +249,7 @@ impl Tally {
             && self.met.iter().all(|&met| met > 0)
             && self.handed.passed()
             && self.filed.passed()
+            && self.salvages.passed()
             && self.texts().iter().all(|&(_, met)| met > 0)
             && self.replies().iter().chain(&self.edits()).flat_map(|(_, refused)| refused).all(|&(_, met)| met > 0)
     }
@@ -275,7 +280,7 @@ impl fmt::Display for Tally {
         for (input, refused) in self.replies() {
             writeln!(f, "replies refused, {input}: {}", listed(&refused))?;
         }
-        write!(f, "{}{}", self.handed, self.filed)?;
+        write!(f, "{}{}{}", self.handed, self.filed, self.salvages)?;
         writeln!(f, "edits of records that were worked out: {}", self.edits.iter().flatten().sum::<u64>())?;
         for (entry, refused) in self.edits() {
             writeln!(f, "{entry} refused: {}", listed(&refused))?;

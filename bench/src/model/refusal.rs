@@ -1,5 +1,7 @@
 //! What is turned away (01, "What is turned away"), and an entry's answer as one number.
 
+use std::ops::{Deref, DerefMut};
+
 /// 01's numbers 1 to 16, then those of 02; 8, TWICE, is no longer given (02, W-209).
 #[derive(Clone, Copy, Debug, PartialEq, Eq)]
 pub enum Number {
@@ -32,16 +34,40 @@ pub enum Number {
     Damage,
     Sizes,
     Padding,
+    Head,
+    None,
 }
 
 /// Their names, by number from 1.
-pub const NAMES: [&str; 30] = [
+pub const NAMES: [&str; 32] = [
     "LENGTH", "WIDTH", "COUNT", "LONG", "SHORT", "CELL", "FRESH", "TWICE", "EXTRA", "SIZE", "ENDS", "OPEN", "EDGES", "LABEL", "ROWS", "ROOM",
-    "BYTES", "TEXT", "OTHER", "FIGURE", "FULL", "LAST", "INDEX", "SAME", "BIG", "NAMES", "BLOCKS", "DAMAGE", "SIZES", "PADDING",
+    "BYTES", "TEXT", "OTHER", "FIGURE", "FULL", "LAST", "INDEX", "SAME", "BIG", "NAMES", "BLOCKS", "DAMAGE", "SIZES", "PADDING", "HEAD", "NONE",
 ];
 
 /// The number that is never given again.
 pub const NEVER: usize = 8;
+
+/// Something for each refusal by its number, and at 0 for what is no refusal.
+pub struct ByNumber<T>([T; NAMES.len() + 1]);
+
+impl<T: Copy + Default> Default for ByNumber<T> {
+    fn default() -> ByNumber<T> {
+        ByNumber([T::default(); NAMES.len() + 1])
+    }
+}
+
+impl<T> Deref for ByNumber<T> {
+    type Target = [T];
+    fn deref(&self) -> &[T] {
+        &self.0
+    }
+}
+
+impl<T> DerefMut for ByNumber<T> {
+    fn deref_mut(&mut self) -> &mut [T] {
+        &mut self.0
+    }
+}
 
 /// All numbers that can be given.
 pub fn given() -> impl Iterator<Item = usize> {

@@ -7,7 +7,7 @@ use crate::engine::{Definition, Plain};
 use crate::make::{damage, goals, plans, records, tables};
 use crate::model::read::{read_table, Table};
 use crate::model::record::{table_in, Record};
-use crate::model::refusal::NAMES;
+use crate::model::refusal::{ByNumber, NAMES};
 use crate::random::Random;
 
 /// What a call, and what a job, can be refused with.
@@ -23,8 +23,8 @@ const SHOWN: u64 = 5;
 /// How often each refusal was given, by its number; at 0 how often there was none.
 #[derive(Default)]
 pub struct Tally {
-    calls: [u64; NAMES.len() + 1],
-    jobs: [u64; NAMES.len() + 1],
+    calls: ByNumber<u64>,
+    jobs: ByNumber<u64>,
     differ: u64,
     own_differ: u64,
 }

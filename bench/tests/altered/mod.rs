@@ -9,8 +9,10 @@ use dudowiej_bench::model::least::Measure;
 use dudowiej_bench::model::plan::{grow, Open};
 use dudowiej_bench::model::read::read_table;
 use dudowiej_bench::model::record::{figure_in, table_in, Record};
+use dudowiej_bench::model::salvage::Report;
 
 /// A comparison finds that something differs.
+#[track_caller]
 pub fn differs(tally: Tally) {
     assert!(tally.differ() > 0);
     assert!(!tally.passed());
@@ -73,6 +75,7 @@ pub struct Altered {
     pub clauses: Clauses,
     pub write_file: WriteFile,
     pub read_file: ReadFile,
+    pub salvage: Salvage,
 }
 
 pub type ReadText = fn(&[u8], &mut [u32], &mut [u32]) -> u64;
@@ -80,6 +83,7 @@ pub type Replies = fn(&Record, &[u32], &[u32], &mut [u32]) -> u64;
 pub type Clauses = fn(&Record, &[u32], &[u8], &[u32], &mut [u8]) -> u64;
 pub type WriteFile = fn(&Record, &[u32], &mut [u8]) -> u64;
 pub type ReadFile = fn(&[u8], &mut [u32], &mut [u32]) -> u64;
+pub type Salvage = fn(&[u8], &mut [u32], &mut [u32], &mut [usize], &mut Report) -> u64;
 
 pub const RIGHT: Altered = Altered {
     read_table: |table| Plain.read_table(table),
@@ -96,6 +100,7 @@ pub const RIGHT: Altered = Altered {
     clauses: |record, plan, text, names, room| Plain.clauses(record, plan, text, names, room),
     write_file: |record, plan, room| Plain.write_file(record, plan, room),
     read_file: |file, table, plan| Plain.read_file(file, table, plan),
+    salvage: |file, table, plan, bad, report| Plain.salvage(file, table, plan, bad, report),
 };
 
 impl Engine for Altered {
@@ -143,5 +148,8 @@ impl Engine for Altered {
     }
     fn read_file(&self, file: &[u8], table: &mut [u32], plan: &mut [u32]) -> u64 {
         (self.read_file)(file, table, plan)
+    }
+    fn salvage(&self, file: &[u8], table: &mut [u32], plan: &mut [u32], bad: &mut [usize], report: &mut Report) -> u64 {
+        (self.salvage)(file, table, plan, bad, report)
     }
 }
