@@ -1,5 +1,6 @@
 /* The rule tables as a C library: tables from Prolog text, reading tables and goals, the least plan, the check of any plan, the run of a
- * plan on a goal, what the rows say to it, edits of a row at a time, a plan handed back as Prolog, and one file for a table and its plan.
+ * plan on a goal, what the rows say to it, edits of a row at a time, a plan handed back as Prolog, one file for a table and its plan, and
+ * what is saved of a bad one.
  *
  * Link target/staticlib/libexports.a, which `rt staticlib exports` writes (x86-64).
  *
@@ -9,18 +10,19 @@
  *
  * Every function takes any cells at all, and ends; nobody has to check first. It answers one number, which the inline functions below take
  * apart. Either it answered, and there are two values, or the input is refused: then there is the refusal's number, the input that it
- * concerns and a place in it, and nothing was written to the lent room or to the record; of building and of the edits this is said for a
- * record that an entry made. The one exception is a goal of a list (dudowiej_run_jobs): where the goal is refused, its job says so.
+ * concerns and a place in it, and nothing was written to the lent room, the record or the report; of building and of the edits this is
+ * said for a record that an entry made. The one exception is a goal of a list (dudowiej_run_jobs): where the goal is refused, its job says
+ * so.
  *
  * A table is worked out once, into a record (dudowiej_work_out). All other calls take the record in place of the table: the plan is built
  * from it, goals are read and run with it, and a row of it is appended, dropped or replaced without starting over.
  *
- * A list is passed as a pointer and a length, a record as a pointer. A pointer is aligned for its type and not null, even where the length
- * is 0. What a call writes, a lent room or a record, shares no memory with its other inputs: a row that is to be appended again is copied
- * out of its record first. The functions keep nothing between calls, and allocate nothing. Of its caller's stack a call touches at most
- * 54,496 bytes to load a text, 48,328 to read a file, 47,320 to write one, 43,864 for replies, 33,000 to hand a plan back, 32,880 to build
- * one, 31,096 to run one, 17,168 to edit a record, 14,248 to check a plan, 8,832 to work a record out and 2,736 to read (measured:
- * docs/BENCH.md, "Stack"). */
+ * A list is passed as a pointer and a length, a record or a report as a pointer. A pointer is aligned for its type and not null, even where
+ * the length is 0. What a call writes, a lent room, a record or a report, shares no memory with its other inputs: a row that is to be
+ * appended again is copied out of its record first. The functions keep nothing between calls, and allocate nothing. Of its caller's stack a
+ * call touches at most 122,536 bytes to salvage a file, 54,496 to load a text, 48,328 to read a file, 47,320 to write one, 43,864 for
+ * replies, 33,000 to hand a plan back, 32,880 to build one, 31,096 to run one, 17,168 to edit a record, 14,248 to check a plan, 8,832 to
+ * work a record out and 2,736 to read (measured: docs/BENCH.md, "Stack"). */
 #ifndef DUDOWIEJ_H
 #define DUDOWIEJ_H
 
@@ -33,8 +35,8 @@ extern "C" {
 #endif
 
 /* The version of what this header declares. The first number is 0 while requests are open. The second counts the base and the requests that
- * have landed on it, W-201 to W-211. The third counts changes of this header since the last of them. */
-#define DUDOWIEJ_VERSION "0.12.0"
+ * have landed on it, W-201 to W-212. The third counts changes of this header since the last of them. */
+#define DUDOWIEJ_VERSION "0.13.0"
 
 /* What no table, row, goal, plan, text, reply, program or file exceeds. */
 enum {
@@ -72,21 +74,23 @@ enum dudowiej_refusal {
     DUDOWIEJ_REFUSED_EDGES = 13, /* a branch count that is not the number of runs: that cell */
     DUDOWIEJ_REFUSED_LABEL = 14, /* a branch cell that is not the run's symbol: that cell */
     DUDOWIEJ_REFUSED_ROWS = 15,  /* a leaf cell that is not its number of rows: that cell */
-    DUDOWIEJ_REFUSED_ROOM = 16,  /* the lent room is too small: cells or bytes needed */
+    DUDOWIEJ_REFUSED_ROOM = 16,  /* the lent room is too small: cells, bytes or numbers needed */
     DUDOWIEJ_REFUSED_BYTES = 17, /* text over 65,535 bytes: place 0 */
     DUDOWIEJ_REFUSED_TEXT = 18,  /* no text goes on so: that byte, or the number of bytes */
     DUDOWIEJ_REFUSED_OTHER = 19, /* a fact of another predicate or width than the first: the first byte of its name */
-    DUDOWIEJ_REFUSED_FIGURE = 20, /* a figure above 15: place 0 */
-    DUDOWIEJ_REFUSED_FULL = 21,   /* a row appended to 64: place 0 */
-    DUDOWIEJ_REFUSED_LAST = 22,   /* the only row dropped: place 0 */
-    DUDOWIEJ_REFUSED_INDEX = 23,  /* a row replaced that is not there: place 0 */
-    DUDOWIEJ_REFUSED_SAME = 24,   /* a row without variables equals an earlier one: its first cell; in an edit any other: place 0 */
-    DUDOWIEJ_REFUSED_BIG = 25,    /* a reply to a goal needs over 1,024 cells: place 0 */
-    DUDOWIEJ_REFUSED_NAMES = 26,  /* a listed place holds no lower-case name, two hold the same, a name is not listed: place 0 */
-    DUDOWIEJ_REFUSED_BLOCKS = 27, /* a file of no byte, or not of whole blocks of 512 bytes: place 0 */
-    DUDOWIEJ_REFUSED_DAMAGE = 28, /* a block whose number is not its place, or with a wrong check: the first such block, from 0 */
-    DUDOWIEJ_REFUSED_SIZES = 29,  /* the sizes in a file do not give as many blocks as it has: place 0 */
-    DUDOWIEJ_REFUSED_PADDING = 30 /* a cell after table and plan that is not 0: place 0 */
+    DUDOWIEJ_REFUSED_FIGURE = 20,  /* a figure above 15: place 0 */
+    DUDOWIEJ_REFUSED_FULL = 21,    /* a row appended to 64: place 0 */
+    DUDOWIEJ_REFUSED_LAST = 22,    /* the only row dropped: place 0 */
+    DUDOWIEJ_REFUSED_INDEX = 23,   /* a row replaced that is not there: place 0 */
+    DUDOWIEJ_REFUSED_SAME = 24,    /* a row without variables equals an earlier one: its first cell; in an edit any other: place 0 */
+    DUDOWIEJ_REFUSED_BIG = 25,     /* a reply to a goal needs over 1,024 cells: place 0 */
+    DUDOWIEJ_REFUSED_NAMES = 26,   /* a listed place holds no lower-case name, two hold the same, a name is not listed: place 0 */
+    DUDOWIEJ_REFUSED_BLOCKS = 27,  /* a file of no byte, or not of whole blocks of 512 bytes: place 0 */
+    DUDOWIEJ_REFUSED_DAMAGE = 28,  /* a block whose number is not its place, or with a wrong check: the first such block, from 0 */
+    DUDOWIEJ_REFUSED_SIZES = 29,   /* the sizes in a file do not give as many blocks as it has: place 0 */
+    DUDOWIEJ_REFUSED_PADDING = 30, /* a cell after table and plan that is not 0: place 0 */
+    DUDOWIEJ_REFUSED_HEAD = 31,    /* nothing to save: no sound block 0, or in it no width of 1 to 8 or no count of 1 to 64: place 0 */
+    DUDOWIEJ_REFUSED_NONE = 32     /* nothing to save: no row is kept: place 0 */
 };
 
 /* Which input a refusal concerns. */
@@ -240,6 +244,33 @@ uint64_t dudowiej_write_file(const dudowiej_record *record, const uint32_t *plan
  * is refused nothing is written to either room. Rooms of DUDOWIEJ_TABLE_CELLS and DUDOWIEJ_PLAN_CELLS cells are enough for every file. */
 uint64_t dudowiej_read_file(const uint8_t *file, size_t file_bytes, uint32_t *table, size_t table_room, uint32_t *plan, size_t plan_room);
 
+/* What dudowiej_salvage saved: rows kept, rows dropped, 1 where the plan was kept and 0 where it is new; the cells of the table and of the
+ * plan; the bad blocks. */
+typedef struct {
+    size_t kept, dropped, plan_kept, table_cells, plan_cells, bad_blocks;
+} dudowiej_report;
+
+#ifndef __cplusplus
+_Static_assert(sizeof(dudowiej_report) == 48, "six words of 64 bits");
+#endif
+
+/* Saves what can be saved of a file, so that a shop can run from a bad card until a new one comes. A block is bad that is no whole block,
+ * whose number is not its place, or that has a wrong check; bytes behind the file are blocks too. The rows from the top are kept as long as
+ * the table's checks accept each, beside those before it, and it ends within the table size and before the first block that is bad or
+ * missing. The plan is kept where all rows are, each of its cells is in a sound block and dudowiej_check_plan accepts it; otherwise the
+ * least plan of the rows kept is built, with figure 0. Of a file that dudowiej_read_file accepts all is kept, and nothing is bad. Kept rows
+ * are the original's, cell for cell, where sound blocks are as they were written.
+ *
+ * The table, that is the width, the rows kept and their cells, is written to the front of one room, the plan to the front of the next, the
+ * numbers of the bad blocks, ascending from 0, to the front of the list; the rest of the three is untouched. First: the rows kept. Second:
+ * the rows dropped, of as many as the file says. The report says both again and the rest. Refused in this order: HEAD, NONE, which concern
+ * DUDOWIEJ_FILE at 0; the room for the table, that for the plan, the list, the place being the cells or numbers needed there (all
+ * DUDOWIEJ_ROOM; which of the three it was is not said). Where anything is refused nothing is written, nor is the report. Rooms of
+ * DUDOWIEJ_TABLE_CELLS and DUDOWIEJ_PLAN_CELLS cells are enough for every file; a list of as many numbers as the file has blocks, a part of
+ * one counted, is. */
+uint64_t dudowiej_salvage(const uint8_t *file, size_t file_bytes, uint32_t *table, size_t table_room, uint32_t *plan, size_t plan_room,
+                          size_t *bad, size_t bad_room, dudowiej_report *report);
+
 /* Cells built and a number's value. A cell takes the low bits of its parts, as many as it has for them: 16, and 3 for the arguments. With 5
  * to 7 arguments it is no cell, and is refused wherever it stands. */
 
@@ -298,6 +329,8 @@ static inline const char *dudowiej_refusal_name(unsigned number) {
     case DUDOWIEJ_REFUSED_DAMAGE: return "DAMAGE";
     case DUDOWIEJ_REFUSED_SIZES: return "SIZES";
     case DUDOWIEJ_REFUSED_PADDING: return "PADDING";
+    case DUDOWIEJ_REFUSED_HEAD: return "HEAD";
+    case DUDOWIEJ_REFUSED_NONE: return "NONE";
     default: return "none";
     }
 }

@@ -36,10 +36,11 @@ pub const fn value(cell: u32) -> i16 {
     cell as i16
 }
 
-/// The names of the refusals' numbers, 1 to 30; 8 is no longer given.
-const REFUSALS: [&str; 30] = [
+/// The names of the refusals' numbers, 1 to 32; 8 is no longer given.
+const REFUSALS: [&str; 32] = [
     "LENGTH", "WIDTH", "COUNT", "LONG", "SHORT", "CELL", "FRESH", "TWICE", "EXTRA", "SIZE", "ENDS", "OPEN", "EDGES", "LABEL", "ROWS",
     "ROOM", "BYTES", "TEXT", "OTHER", "FIGURE", "FULL", "LAST", "INDEX", "SAME", "BIG", "NAMES", "BLOCKS", "DAMAGE", "SIZES", "PADDING",
+    "HEAD", "NONE",
 ];
 
 /// The name of a refusal's number; "none" where it is no refusal's.
@@ -86,6 +87,21 @@ pub struct Job {
 // Six words with no gaps, as in include/dudowiej.h.
 const _: () = assert!(std::mem::size_of::<Job>() == 48);
 const _: () = assert!(std::mem::offset_of!(Job, number) == 16 && std::mem::offset_of!(Job, hits) == 32);
+
+/// What was saved of a bad file, in numbers; `plan_kept` is 1 where the plan was kept.
+#[repr(C)]
+#[derive(Debug, Clone, Copy, Default, PartialEq, Eq)]
+pub struct Report {
+    pub kept: usize,
+    pub dropped: usize,
+    pub plan_kept: usize,
+    pub table_cells: usize,
+    pub plan_cells: usize,
+    pub bad_blocks: usize,
+}
+
+// Likewise.
+const _: () = assert!(std::mem::size_of::<Report>() == 48);
 
 extern "C" {
     fn dudowiej_work_out(table: *const u32, table_cells: usize, figure: u32, record: *mut Cells) -> u64;
@@ -143,6 +159,17 @@ extern "C" {
     ) -> u64;
     fn dudowiej_write_file(record: *const Cells, plan: *const u32, plan_cells: usize, room: *mut u8, room_bytes: usize) -> u64;
     fn dudowiej_read_file(file: *const u8, file_bytes: usize, table: *mut u32, table_room: usize, plan: *mut u32, plan_room: usize) -> u64;
+    fn dudowiej_salvage(
+        file: *const u8,
+        file_bytes: usize,
+        table: *mut u32,
+        table_room: usize,
+        plan: *mut u32,
+        plan_room: usize,
+        bad: *mut usize,
+        bad_room: usize,
+        report: *mut Report,
+    ) -> u64;
 }
 
 /// An answer taken apart: 2^16 · first + 2^32 · second, or of a refusal number + 2^8 · input + 2^16 · place.
@@ -296,6 +323,32 @@ pub fn read_file(file: &[u8]) -> Result<(Vec<u32>, Vec<u32>), Refusal> {
     table.truncate(table_cells);
     plan.truncate(plan_cells);
     Ok((table, plan))
+}
+
+/// What is saved of a file: the table and the plan, the report, and the numbers of the bad blocks.
+pub struct Saved {
+    pub table: Vec<u32>,
+    pub plan: Vec<u32>,
+    pub report: Report,
+    pub bad: Vec<usize>,
+}
+
+/// Saves what can be saved of a bad file.
+pub fn salvage(file: &[u8]) -> Result<Saved, Refusal> {
+    // No file has more bad blocks than blocks, a part of one counted.
+    salvage_in(file, &mut vec![0; file.len().div_ceil(512)])
+}
+
+/// The same with a lent list for the bad blocks.
+pub fn salvage_in(file: &[u8], list: &mut [usize]) -> Result<Saved, Refusal> {
+    let (mut table, mut plan, mut report) = (vec![0; TABLE_CELLS], vec![0; PLAN_CELLS], Report::default());
+    let (cells, cells_room, places, places_room) = (table.as_mut_ptr(), table.len(), plan.as_mut_ptr(), plan.len());
+    apart(unsafe {
+        dudowiej_salvage(file.as_ptr(), file.len(), cells, cells_room, places, places_room, list.as_mut_ptr(), list.len(), &mut report)
+    })?;
+    table.truncate(report.table_cells);
+    plan.truncate(report.plan_cells);
+    Ok(Saved { table, plan, report, bad: list[..report.bad_blocks].to_vec() })
 }
 
 /// A table made of a text.

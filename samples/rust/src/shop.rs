@@ -6,6 +6,7 @@ use std::process::ExitCode;
 
 pub const RED: u32 = name(1, 0);
 pub const BLUE: u32 = name(2, 0);
+pub const WHITE: u32 = name(3, 0);
 pub const BLACK: u32 = name(4, 0);
 pub const RING: u32 = name(11, 0);
 pub const BOWL: u32 = name(13, 1);
