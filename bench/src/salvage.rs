@@ -60,7 +60,7 @@ fn cards() -> Vec<(String, Card)> {
     let sound = tables.chain([("nothing in common", largest())]).map(|(name, (table, plan))| (name, sealed(&filled(&table, &plan))));
     let harmed = sound.flat_map(|(name, file)| {
         let blocks = file.len() / BLOCK_BYTES;
-        [("", blocks), (", the last wiped", blocks - 1), (", a middle one", blocks / 4 + 1)].map(|(how, bad)| {
+        [("", blocks), (", the last wiped", blocks - 1), (", a middle one", blocks / 8 + 1)].map(|(how, bad)| {
             let mut file = file.clone();
             wipe(&mut file, |block| block == bad);
             (format!("{name}{how}"), Card::new(file))

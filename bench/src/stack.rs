@@ -177,7 +177,7 @@ impl Most {
                 file
             };
             let [head, middle, end, rest] =
-                [wiped(&|block| block == 0), wiped(&|block| block == last / 4 + 1), wiped(&|block| block == last), wiped(&|block| block > 0)];
+                [wiped(&|block| block == 0), wiped(&|block| block == last / 8 + 1), wiped(&|block| block == last), wiped(&|block| block > 0)];
             let longer = [&file[..], &[0; 5000]].concat();
             for file in [&file, &file[..file.len() - 1], &head, &middle, &end, &rest, &longer] {
                 for (table, plan, bad) in [(TABLE_CELLS, PLAN_CELLS, 100), (TABLE_CELLS, PLAN_CELLS, 0), (TABLE_CELLS, 0, 0), (0, 0, 0)] {
