@@ -59,3 +59,5 @@ by-reason reason.Sizes = refl
 by-reason reason.Padding = refl
 by-reason reason.Head = refl
 by-reason reason.None = refl
+by-reason reason.Column = refl
+by-reason reason.Early = refl

@@ -40,3 +40,5 @@ cardReason reason.Sizes = ascii "SIZES 29: as many blocks are expected as its ta
 cardReason reason.Padding = ascii "PADDING 30: zeros are expected after the plan"
 cardReason reason.Head = ascii "HEAD 31: a sound block 0 with 1 to 8 columns and 1 to 64 rules is expected"
 cardReason reason.None = ascii "NONE 32: a whole rule is expected before the first bad block"
+cardReason reason.Column = byNumber 33
+cardReason reason.Early = byNumber 34

@@ -35,6 +35,7 @@ placeText reason input.Lent place = []
 placeText reason input.Text place = []
 placeText reason input.Figure place = []
 placeText reason input.Names place = []
+placeText reason input.Columns place = []
 placeText reason input.File place = blockText (numberOf reason) place
 
 -- `: block 1: DAMAGE 28: ..`, after a card's name

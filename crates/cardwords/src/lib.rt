@@ -57,6 +57,7 @@ fn put_place(out: &mut [u8], to: usize, reason: Reason, input: Input, place: usi
         Input::Text => to,
         Input::Figure => to,
         Input::Names => to,
+        Input::Columns => to,
     }
 }
 

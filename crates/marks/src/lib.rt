@@ -233,5 +233,6 @@ pub fn byte_of(text: &[u8], f: Refusal) -> usize {
         Input::Figure => 0,
         Input::Names => 0,
         Input::File => 0,
+        Input::Columns => 0,
     }
 }

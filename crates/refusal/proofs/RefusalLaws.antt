@@ -11,7 +11,7 @@ use Rattle.refusal.specs.declared.Reason.{Reason}
 use Rattle.refusal.specs.declared.Reason.the-variants.{Length, Width, Count, Long, Short, Cell, Fresh}
 use Rattle.refusal.specs.declared.Reason.the-variants.{Extra, Size, Ends, Open, Edges, Label, Rows, Room}
 use Rattle.refusal.specs.declared.Reason.the-variants.{Bytes, Text, Other, Figure, Full, Last, Index, Same, Big, Names}
-use Rattle.refusal.specs.declared.Reason.the-variants.{Blocks, Damage, Sizes, Padding, Head, None}
+use Rattle.refusal.specs.declared.Reason.the-variants.{Blocks, Damage, Sizes, Padding, Head, None, Column, Early}
 use Rattle.refusal.specs.declared.Input.{Input}
 use Rattle.refusal.specs.declared.Input.the-variants.{Table, Plan, Goal, Lent}
 use Rattle.refusal.specs.declared.Input.the-variants as input
@@ -56,6 +56,8 @@ reasons =
     ∷ Padding
     ∷ Head
     ∷ None
+    ∷ Column
+    ∷ Early
     ∷ []
 
 reasonAt : ℕ → Reason
@@ -94,9 +96,11 @@ reason-found Sizes = (refl, omega arith, omega arith)
 reason-found Padding = (refl, omega arith, omega arith)
 reason-found Head = (refl, omega arith, omega arith)
 reason-found None = (refl, omega arith, omega arith)
+reason-found Column = (refl, omega arith, omega arith)
+reason-found Early = (refl, omega arith, omega arith)
 
 inputs : List Input
-inputs = Table ∷ Plan ∷ Goal ∷ Lent ∷ input.Text ∷ input.Figure ∷ input.Names ∷ input.File ∷ []
+inputs = Table ∷ Plan ∷ Goal ∷ Lent ∷ input.Text ∷ input.Figure ∷ input.Names ∷ input.File ∷ input.Columns ∷ []
 
 inputAt : ℕ → Input
 inputAt = firstWith inputOf Table inputs
@@ -111,6 +115,7 @@ input-found input.Text = (refl, omega arith)
 input-found input.Figure = (refl, omega arith)
 input-found input.Names = (refl, omega arith)
 input-found input.File = (refl, omega arith)
+input-found input.Columns = (refl, omega arith)
 
 -- so refusals that tell the same are the same
 found : Refused → Refusal

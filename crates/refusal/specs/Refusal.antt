@@ -4,7 +4,7 @@ use Rattle.refusal.specs.declared.Reason.{Reason}
 use Rattle.refusal.specs.declared.Reason.the-variants.{Length, Width, Count, Long, Short, Cell, Fresh}
 use Rattle.refusal.specs.declared.Reason.the-variants.{Extra, Size, Ends, Open, Edges, Label, Rows, Room}
 use Rattle.refusal.specs.declared.Reason.the-variants.{Bytes, Text, Other, Figure, Full, Last, Index, Same, Big, Names}
-use Rattle.refusal.specs.declared.Reason.the-variants.{Blocks, Damage, Sizes, Padding, Head, None}
+use Rattle.refusal.specs.declared.Reason.the-variants.{Blocks, Damage, Sizes, Padding, Head, None, Column, Early}
 use Rattle.refusal.specs.declared.Input.{Input}
 use Rattle.refusal.specs.declared.Input.the-variants.{Table, Plan, Goal, Lent}
 use Rattle.refusal.specs.declared.Input.the-variants as input
@@ -44,9 +44,11 @@ numberOf Sizes = 29
 numberOf Padding = 30
 numberOf Head = 31
 numberOf None = 32
+numberOf Column = 33
+numberOf Early = 34
 
--- 01, "which input it concerns (table, plan, goal or lent room)", in that order, and then a text, a figure, a list of names and a file (02,
--- W-201, W-204, W-210 and W-211)
+-- 01, "which input it concerns (table, plan, goal or lent room)", in that order, and then a text, a figure, a list of names, a file and a list
+-- of columns (02, W-201, W-204, W-210, W-211 and W-213)
 abbrev pub inputOf : Input → ℕ
 inputOf Table = 1
 inputOf Plan = 2
@@ -56,6 +58,7 @@ inputOf input.Text = 5
 inputOf input.Figure = 6
 inputOf input.Names = 7
 inputOf input.File = 8
+inputOf input.Columns = 9
 
 -- 01, "A refusal returns its number, which input it concerns and a place"
 pub record Refused : Type 0 where

@@ -38,10 +38,12 @@ pub enum Reason {
     Padding,
     Head,
     None,
+    Column,
+    Early,
 }
 
 // 01, "which input it concerns (table, plan, goal or lent room)"; or a text (02, W-201), a figure (W-204),
-// a list of names (W-210), or a file (W-211).
+// a list of names (W-210), a file (W-211), or a list of columns (W-213).
 pub enum Input {
     Table,
     Plan,
@@ -51,6 +53,7 @@ pub enum Input {
     Figure,
     Names,
     File,
+    Columns,
 }
 
 // What a refusal returns: its reason, by which it has 01's number, the input that it concerns, and a place.
@@ -97,6 +100,8 @@ pub fn number_of(reason: Reason) -> usize
         Reason::Padding => 30,
         Reason::Head => 31,
         Reason::None => 32,
+        Reason::Column => 33,
+        Reason::Early => 34,
     }
 }
 
@@ -113,5 +118,6 @@ pub fn input_of(input: Input) -> usize
         Input::Figure => 6,
         Input::Names => 7,
         Input::File => 8,
+        Input::Columns => 9,
     }
 }

@@ -47,6 +47,9 @@ enum-told-7 c = search needs
 enum-told-8 : tie.Need-enum-told-8
 enum-told-8 c = search needs
 
+enum-told-9 : tie.Need-enum-told-9
+enum-told-9 c = search needs
+
 same-length : tie.Need-same-length
 same-length c = search needs
 
@@ -90,6 +93,10 @@ returns-8 : tie.Need-returns-8
 unfolding placeText
 returns-8 c = rw (c .enum-told8 .given .1) put-nothing
 
+returns-9 : tie.Need-returns-9
+unfolding placeText
+returns-9 c = rw (c .enum-told9 .given .1) put-nothing
+
 pub put-place-spec : {M : Type 1} → statement M
 put-place-spec =
     tie.close
@@ -108,6 +115,7 @@ put-place-spec =
     enum-told-6
     enum-told-7
     enum-told-8
+    enum-told-9
     same-length
     returns
     same-length-2
@@ -118,4 +126,5 @@ put-place-spec =
     returns-5
     returns-6
     returns-7
-    returns-8)
+    returns-8
+    returns-9)
