@@ -210,10 +210,10 @@ module _ (m : Measure) where
       let z : laterAt m [] c ≡ 0 = rw f in
       omega (arith, e, z, symbol-later c (close i r) f, agreed-later i c k rs h f (a .1) (t .1))
 
-  pub closes-later : {k k′ : ℕ} {rows rows′ : List (List ℕ)} → Closes k rows k′ rows′ → 1 < length rows → All (Terms k) rows
+  pub closes-later : {fs fs′ : List Bool} {k k′ : ℕ} {rows rows′ : List (List ℕ)} → Closes fs k rows fs′ k′ rows′ → 1 < length rows → All (Terms k) rows
       → latersIn m [] rows′ ≡ latersIn m [] rows
   closes-later stop l t = refl
-  closes-later (step {others = k} {rows = rows} i c h a x) l t =
+  closes-later (step {others = k} {rows = rows} i c h a y x) l t =
       closes-later x (omega (arith, length-map rows (close i)))
       (all-map (λ (r : List ℕ). Terms (suc k) r × (root i r ≡ c)) (Terms (arity c + k)) (close i) (λ r u. rw (u .1) at (close-terms i (u .0) h)) rows (all-both (Terms (suc k)) (λ (r : List ℕ). root i r ≡ c) rows t (a .cells)))
       ∙ agreed-later i c k rows h (⊎-elim (λ f. f) (λ s. absurd (let z : ⊥ = omega arith in z)) (a .fixed)) (a .cells) t

@@ -1,4 +1,3 @@
--- rows, their parts and what they agree on
 pub mod Parts
 pub mod Agreed
 -- what later meetings of a variable cost
@@ -7,22 +6,21 @@ pub mod Later
 pub mod Minimum
 pub mod Best
 pub mod Exchange
+pub mod Suffixes
+pub mod Places
+pub mod Measured
 pub mod Closing
+pub mod Counts
+pub mod Scan
 pub mod Building
 pub mod Builder
 pub mod LeastPlan
+pub mod ScanLaws
+pub mod Weighed
+pub mod Pairs
+pub mod FollowLaws
+pub mod Again
 pub mod Examples
 pub mod WorkExamples
--- what is kept for every pair of rows
-pub mod Scan
-pub mod Counts
-pub mod Pairs
-pub mod Suffixes
-pub mod ScanLaws
--- the measures of the code, and what the arrays come to hold
-pub mod Measured
-pub mod Weighed
-pub mod Again
-pub mod Places
--- what is written from any kept places
-pub mod FollowLaws
+pub mod NamedExamples
+pub mod NoneNamed

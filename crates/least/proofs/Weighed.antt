@@ -1,11 +1,10 @@
 -- Our measures' weights are small. What a plan costs by a measure with small weights and a small figure, from its number of branches; and what an open place of a state adds
--- at which nothing is agreed.
-use mathlib.Core.Path.{_≡_, refl, ap}
+-- at which nothing is agreed that may be chosen.
+use mathlib.Core.Path.{_≡_, refl}
 use mathlib.Core.Bool.{Bool, true, false, cond, _&&_}
-use mathlib.Core.List.{List, [], _∷_}
+use mathlib.Core.List.{List, _∷_}
 use Prim.Native.Nat.{ℕ, zero, suc, _+_, _*_, _≤_, _<_}
 use native.Mathlib.Omega.{arith}
-use native.Mathlib.Nat.{mul-add}
 use lib.Dec.{leb, ltb}
 use lib.ListN.{length}
 use borrow.Author.Tests.{leb-true, le-leb}
@@ -15,6 +14,7 @@ use Rattle.term.specs.Terms.{root, close}
 use Rattle.table.specs.Table.{count}
 use Rattle.plan.specs.Runs.{Run, runs}
 use Rattle.plan.specs.Plans.{Plan, leaf, node, Branches, end, next, branches, branchesIn, Measure, plain, choice}
+use Rattle.plan.specs.Named.{May}
 use Rattle.plan.proofs.RunsLaws.{group-some}
 use Rattle.least.specs.Least.{Stuck}
 use Rattle.least.specs.Measures.{workOf, work, measureOf, weightAt, costFrom, costsFrom}
@@ -81,11 +81,11 @@ module _ (m : Measure) (l : Low m) where
     costs-few met end = omega arith
     costs-few met (next {g = g} p bs) = omega (arith, at-few met (g .cell), cost-few (g .cell ∷ met) p, costs-few met bs)
 
--- at a state at which nothing is agreed every open place has several runs, so that each adds the figure
-pub choice-stuck : (m : Measure) (k i : ℕ) (rows : List (List ℕ)) → 0 < length rows → Stuck k rows → i < k → choice m (length (runs i rows)) ≡ m .figure
-choice-stuck m k i rows h s l = go (length (runs i rows)) refl
+-- at a state at which no place that may be chosen is agreed each of these has several runs, so that each adds the figure
+pub choice-stuck : (m : Measure) (fs : List Bool) (k i : ℕ) (rows : List (List ℕ)) → 0 < length rows → Stuck fs k rows → i < k → May fs i → choice m (length (runs i rows)) ≡ m .figure
+choice-stuck m fs k i rows h s l y = go (length (runs i rows)) refl
   where
     go : (n : ℕ) → length (runs i rows) ≡ n → choice m n ≡ m .figure
     go zero e = absurd (omega (arith, group-some (root i) (close i) rows h))
-    go (suc zero) e = absurd (let g = one-agrees i rows e in s i (g .0) l (g .1))
+    go (suc zero) e = absurd (let g = one-agrees i rows e in s i (g .0) l (g .1) y)
     go (suc (suc n)) e = let q : leb 2 (suc (suc n)) ≡ true = le-leb 2 (suc (suc n)) (omega arith) in rw q

@@ -11,7 +11,7 @@ use Rattle.plan.specs.Runs.{agree}
 use Rattle.plan.specs.Plans.{Plan, leaf, node, end, next, Measure, plain}
 use Rattle.least.specs.code.Best.{argmin, total, best}
 use Rattle.least.specs.Later.{laterIn, latersIn}
-use Rattle.least.specs.code.Pairs.{scan, closedOf, laterOf, agreedOf}
+use Rattle.least.specs.code.Pairs.{scan, closed, closedOf, laterOf, agreedOf}
 use Rattle.least.specs.Measures.{workOf, work, costFrom}
 use Rattle.least.proofs.Builder.{place, runCells, planCells}
 
@@ -68,13 +68,13 @@ answers = says 0 (0 ∷ 1 ∷ 0 ∷ 1 ∷ []) ∷ says 15 (0 ∷ 2 ∷ 0 ∷ 1 �
     ∷ says 5 (0 ∷ 3 ∷ b ∷ 0 ∷ 1 ∷ a ∷ 1 ∷ 0 ∷ 0 ∷ 1 ∷ b ∷ 1 ∷ 0 ∷ 0 ∷ 1 ∷ b ∷ 1 ∷ [])
     ∷ says 8 (1 ∷ 2 ∷ a ∷ 0 ∷ 1 ∷ a ∷ 1 ∷ g2 ∷ 0 ∷ 2 ∷ a ∷ 0 ∷ 1 ∷ b ∷ 0 ∷ 1 ∷ 0 ∷ 1 ∷ 0 ∷ 0 ∷ 1 ∷ a ∷ 0 ∷ 1 ∷ 1 ∷ 1 ∷ []) ∷ []
 
-pub computed : map (λ (x : Case). says (best (work (x .figure)) 8 (x .width) (x .rows)) (planCells (work (x .figure)) 8 (x .width) (x .rows))) cases ≡ answers
+pub computed : map (λ (x : Case). says (best (work (x .figure)) 8 [] (x .width) (x .rows)) (planCells (work (x .figure)) 8 [] (x .width) (x .rows))) cases ≡ answers
 unfolding cases answers workOf planCells place runCells best total argmin root close agree arity valuesAt isVar
 computed = refl
 
 -- ROWS THAT REPEAT A VARIABLE. What a table's plans cost at least (`least-later`), by 01's measure and by the work with figures 0 and 3
 abbrev costs : Table → List ℕ
-costs T = map (λ (m : Measure). best m 8 (T .width) (T .rows) + latersIn m [] (T .rows)) (plain ∷ work 0 ∷ work 3 ∷ [])
+costs T = map (λ (m : Measure). best m 8 [] (T .width) (T .rows) + latersIn m [] (T .rows)) (plain ∷ work 0 ∷ work 3 ∷ [])
 
 unfoldable pub repeats : List Table
 repeats = table 2 ((0 ∷ 0 ∷ []) ∷ []) ∷ table 3 ((0 ∷ 0 ∷ 0 ∷ []) ∷ []) ∷ table 2 ((0 ∷ f1 ∷ 0 ∷ []) ∷ []) ∷ table 3 ((0 ∷ 1 ∷ g2 ∷ 0 ∷ 1 ∷ []) ∷ [])
@@ -88,7 +88,7 @@ unfolding repeats workOf laterIn count best total argmin root close agree arity 
 repeats-cost = refl
 
 -- the builder's plans of four of them, by the work with figure 3
-pub repeats-plan : map (λ (T : Table). planCells (work 3) 8 (T .width) (T .rows))
+pub repeats-plan : map (λ (T : Table). planCells (work 3) 8 [] (T .width) (T .rows))
     (table 2 ((0 ∷ 0 ∷ []) ∷ []) ∷ table 2 ((0 ∷ f1 ∷ 0 ∷ []) ∷ []) ∷ table 2 ((0 ∷ 0 ∷ []) ∷ (0 ∷ 0 ∷ []) ∷ []) ∷ table 3 ((a ∷ 0 ∷ 0 ∷ []) ∷ (a ∷ b ∷ 0 ∷ []) ∷ []) ∷ [])
     ≡ (0 ∷ 1 ∷ 0 ∷ 0 ∷ 1 ∷ 0 ∷ 1 ∷ []) ∷ (0 ∷ 1 ∷ 0 ∷ 0 ∷ 1 ∷ f1 ∷ 0 ∷ 1 ∷ 0 ∷ 1 ∷ []) ∷ (0 ∷ 2 ∷ 0 ∷ 0 ∷ 1 ∷ 0 ∷ 1 ∷ 0 ∷ 0 ∷ 1 ∷ 0 ∷ 1 ∷ [])
     ∷ (0 ∷ 1 ∷ a ∷ 0 ∷ 2 ∷ 0 ∷ 0 ∷ 1 ∷ 0 ∷ 1 ∷ b ∷ 0 ∷ 1 ∷ 0 ∷ 1 ∷ []) ∷ []
@@ -113,6 +113,6 @@ f4 = nameCell 4 9
 unfoldable pub long : List ℕ
 long = 0 ∷ f4 ∷ 0 ∷ 0 ∷ 0 ∷ 0 ∷ 1 ∷ f4 ∷ 1 ∷ 1 ∷ 1 ∷ 1 ∷ 2 ∷ f4 ∷ 2 ∷ 2 ∷ 2 ∷ 2 ∷ 3 ∷ 4 ∷ []
 
-pub long-costs : agreedOf (work 0) 32 8 (long ∷ []) 0 0 ≡ 27
-unfolding long closedOf laterOf scan laterIn count workOf root close agree arity valuesAt isVar
+pub long-costs : agreedOf (work 0) 32 [] 8 (long ∷ []) 0 0 ≡ 27
+unfolding long closedOf closed laterOf scan laterIn count workOf root close agree arity valuesAt isVar
 long-costs = refl

@@ -21,7 +21,7 @@ use Rattle.table.proofs.ReadLaws.{first}
 use Rattle.table.proofs.Accepted.{is-table, is-goal}
 use Rattle.plan.specs.Runs.{agree}
 use Rattle.plan.specs.Plans.{branches, plain}
-use Rattle.plan.specs.Check.{stateFrom, nothingAfter, planFor, planOf}
+use Rattle.plan.specs.Check.{stateFrom, nothingAfter, planWith, planFor, planOf}
 use Rattle.plan.proofs.CheckLaws.{accepted-one, rows-fit}
 use Rattle.least.specs.code.Best.{argmin, total, best}
 use Rattle.least.proofs.Builder.{place, runCells, planCells, plan-built}
@@ -47,7 +47,7 @@ widthIn (refuse f) = 0
 
 -- the cells of the builder's plan
 unfoldable planned : Read Table → List ℕ
-planned r = planCells plain 32 (widthIn r) (rowsIn r)
+planned r = planCells plain 32 [] (widthIn r) (rowsIn r)
 
 -- what is decided above each branch of a plan
 unfoldable aboveAll : Read Table → List ℕ → List (List ℕ)
@@ -55,10 +55,10 @@ aboveAll r p = above 32 (widthIn r) (rowsIn r) (replicate (widthIn r) hole) (p +
 
 -- the check of a plan after SIZE
 unfoldable afterSize : Read Table → List ℕ → Read ℕ
-afterSize r cells = andThen r (λ (T : Table). andThen (stateFrom 32 (T .width) (T .rows) 0 cells) nothingAfter)
+afterSize r cells = andThen r (λ (T : Table). andThen (stateFrom 32 [] (T .width) (T .rows) 0 cells) nothingAfter)
 
 after-size : (t cells : List ℕ) → length cells ≤ 6082 → planOf t cells ≡ afterSize (tableOf t) cells
-unfolding planFor afterSize
+unfolding planWith afterSize
 after-size t cells l = go (tableOf t)
   where
     go : (r : Read Table) → andThen r (λ (T : Table). planFor T cells) ≡ afterSize r cells
@@ -101,8 +101,8 @@ module _ (t p : List ℕ) (cost : ℕ) (e : planOf t p ≡ read cost) (q : plann
       let T = f .0 in
       let i = is-table t (f .1) in
       let a = accepted-one T i p cost .0 (f .2) in
-      let b = plan-built plain plain-light 32 (T .width) (T .rows) (rows-fit (T .width) (T .rows) (i .each)) (i .count .0) in
-      let w : planCells plain 32 (T .width) (T .rows) ≡ p = rw (f .1) at q in
+      let b = plan-built plain plain-light 32 [] (T .width) (T .rows) (omega arith) (rows-fit (T .width) (T .rows) (i .each)) (i .count .0) in
+      let w : planCells plain 32 [] (T .width) (T .rows) ≡ p = rw (f .1) at q in
       let v = b .writes-it ∙ w in
       record { table = T; reads = f .1; tree = b .plan; writes = v; rule = b .built; count = ap branches (a .3 (b .plan) v) ∙ a .2 }
 
@@ -158,7 +158,7 @@ all-say [] a = tt
 all-say (x ∷ xs) a = (says (x .example) (a .0), all-say xs (a .1))
 
 all-computed : map (λ (x : P). computed (x .example)) marked ≡ map (λ (x : P). printed (x .example)) marked
-unfolding marked computed printed planned aboveAll afterSize tableCells p1 p2 plan2 p3 plan3 p7 p8 plan8 plan9 tableOf rowsFrom among same termsFrom goalOf planFor stateFrom planCells place runCells best total argmin root close agree arity valuesAt isVar flatten hitsBy triedBy above unifiable unify walk bindTest occurs renamed inst bind idS front back opened fill decide hole count upFrom
+unfolding marked computed printed planned aboveAll afterSize tableCells p1 p2 plan2 p3 plan3 p7 p8 plan8 plan9 tableOf rowsFrom among same termsFrom goalOf planWith stateFrom planCells place runCells best total argmin root close agree arity valuesAt isVar flatten hitsBy triedBy above unifiable unify walk bindTest occurs renamed inst bind idS front back opened fill decide hole count upFrom
 all-computed = refl
 
 -- P1 to P10: each says what is so, and none is left out

@@ -32,7 +32,7 @@ pub record BuiltSays (cells plan : List ℕ) (cost : ℕ) : Type 0 where
   pub reads : tableOf cells ≡ read table
   pub tree : Plan (table .width) (table .rows)
   pub writes : write tree ≡ plan
-  pub rule : Built plain tree
+  pub rule : Built plain [] tree
   pub count : branches tree ≡ cost
 
 -- the rows that unify, the branches tried, and so what every run answers and writes that the promise of `run_plan` allows

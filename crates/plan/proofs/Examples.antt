@@ -14,7 +14,7 @@ use Rattle.refusal.specs.declared.Input.the-variants as input
 use Rattle.refusal.specs.Read.{Read, read, refuse}
 use Rattle.table.specs.Table.{termsFrom, rowsFrom, tableOf}
 use Rattle.plan.specs.Runs.{agree}
-use Rattle.plan.specs.Check.{stateFrom, planFor, planOf}
+use Rattle.plan.specs.Check.{stateFrom, planWith, planOf}
 
 abbrev a : ℕ
 a = nameCell 0 1
@@ -108,5 +108,5 @@ cases =
     ∷ []
 
 pub computed : map (λ (k : Case). planOf (k .cells) (k .plan)) cases ≡ map (λ (k : Case). k .says) cases
-unfolding cases table p2 p4 one p6 p7 p8 planFor stateFrom agree root close tableOf rowsFrom among same termsFrom valuesAt arity isVar flatten
+unfolding cases table p2 p4 one p6 p7 p8 planWith stateFrom agree root close tableOf rowsFrom among same termsFrom valuesAt arity isVar flatten
 computed = refl

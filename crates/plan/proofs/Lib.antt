@@ -2,8 +2,10 @@ pub mod RunsLaws
 pub mod PlansLaws
 pub mod SizeLaws
 pub mod OneRow
+pub mod NamedLaws
 pub mod ReadingLaws
 pub mod CheckLaws
+pub mod ColumnsLaws
 pub mod TwiceLaws
 pub mod NotesLaws
 pub mod Examples

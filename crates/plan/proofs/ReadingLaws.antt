@@ -19,6 +19,7 @@ use Rattle.refusal.specs.declared.Reason.the-variants as reason
 use Rattle.refusal.specs.Read.{Read, read, refuse, when, andThen}
 use Rattle.table.proofs.ReadLaws.{then-both}
 use Rattle.plan.specs.Runs.{Run, runs}
+use Rattle.plan.specs.Named.{spread, may}
 use Rattle.plan.specs.Check.{Seen, seen, bad, cellThen, Reader, branchesFrom, leafFrom, nodeFrom, stateFrom}
 use Rattle.plan.proofs.RunsLaws.{Each, Sized, group-sizes, fits-some, fits-more, runs-fit}
 use Rattle.plan.specs.code.Fits.{Fits}
@@ -45,40 +46,44 @@ module _ (rows : List (List ℕ)) (xs : List ℕ) (i : ℕ) where
   pub leaf-read : i < length xs → getD xs i 0 ≡ length rows → leafFrom rows i (drop i xs) ≡ read (seen 0 (i + 1) (drop (i + 1) xs))
   leaf-read h e = cell-on _ reason.Rows (λ c ys. read (seen 0 (suc i) ys)) xs i h (eq-eqb _ _ e) ∙ rw (add-one i)
 
--- an inner state with k + 1 open places: ENDS, OPEN, ENDS, EDGES, or on with the branches
-module _ (below : Reader) (k : ℕ) (rows : List (List ℕ)) (xs : List ℕ) (i : ℕ) where
-  pub node-ends : length xs ≤ i → nodeFrom below k rows i (drop i xs) ≡ refuse (bad reason.Ends i)
+-- an inner state with k + 1 open places: ENDS, OPEN, EARLY, ENDS, EDGES, or on with the branches
+module _ (below : Reader) (fs : List Bool) (k : ℕ) (rows : List (List ℕ)) (xs : List ℕ) (i : ℕ) where
+  pub node-ends : length xs ≤ i → nodeFrom below fs k rows i (drop i xs) ≡ refuse (bad reason.Ends i)
   node-ends h = cell-ends _ reason.Open _ xs i h
 
-  pub node-open : i < length xs → k < getD xs i 0 → nodeFrom below k rows i (drop i xs) ≡ refuse (bad reason.Open i)
+  pub node-open : i < length xs → k < getD xs i 0 → nodeFrom below fs k rows i (drop i xs) ≡ refuse (bad reason.Open i)
   node-open h e = cell-bad _ reason.Open _ xs i h (lt-leb _ _ e)
 
-  node-edge : i < length xs → getD xs i 0 ≤ k → nodeFrom below k rows i (drop i xs)
-      ≡ cellThen (λ c. eqb c (length (runs (getD xs i 0) rows))) reason.Edges (i + 1) (λ m zs. branchesFrom below k (runs (getD xs i 0) rows) (i + 2) zs) (drop (i + 1) xs)
-  node-edge h e = let z : i + 2 ≡ suc (suc i) = omega arith in cell-on _ reason.Open _ xs i h (le-leb _ _ e) ∙ rw (add-one i, z)
+  pub node-early : i < length xs → getD xs i 0 ≤ k → may fs (getD xs i 0) ≡ false → nodeFrom below fs k rows i (drop i xs) ≡ refuse (bad reason.Early i)
+  node-early h e y = cell-on _ reason.Open _ xs i h (le-leb _ _ e) ∙ rw y
 
-  pub node-ends-2 : i < length xs → length xs ≤ i + 1 → getD xs i 0 ≤ k → nodeFrom below k rows i (drop i xs) ≡ refuse (bad reason.Ends (i + 1))
-  node-ends-2 h l e = node-edge h e ∙ cell-ends _ reason.Edges _ xs (i + 1) l
+  node-edge : i < length xs → getD xs i 0 ≤ k → may fs (getD xs i 0) ≡ true → nodeFrom below fs k rows i (drop i xs)
+      ≡ cellThen (λ c. eqb c (length (runs (getD xs i 0) rows))) reason.Edges (i + 1)
+      (λ m zs. branchesFrom below fs (getD xs i 0) k (runs (getD xs i 0) rows) (i + 2) zs) (drop (i + 1) xs)
+  node-edge h e y = let z : i + 2 ≡ suc (suc i) = omega arith in cell-on _ reason.Open _ xs i h (le-leb _ _ e) ∙ rw (y, add-one i, z)
 
-  pub node-edges : i + 1 < length xs → getD xs i 0 ≤ k → getD xs (i + 1) 0 ≢ length (runs (getD xs i 0) rows)
-      → nodeFrom below k rows i (drop i xs) ≡ refuse (bad reason.Edges (i + 1))
-  node-edges h e m = node-edge (omega arith) e ∙ cell-bad _ reason.Edges _ xs (i + 1) h (ne-eqb _ _ m)
+  pub node-ends-2 : i < length xs → length xs ≤ i + 1 → getD xs i 0 ≤ k → may fs (getD xs i 0) ≡ true → nodeFrom below fs k rows i (drop i xs) ≡ refuse (bad reason.Ends (i + 1))
+  node-ends-2 h l e y = node-edge h e y ∙ cell-ends _ reason.Edges _ xs (i + 1) l
 
-  pub node-on : i + 1 < length xs → getD xs i 0 ≤ k → getD xs (i + 1) 0 ≡ length (runs (getD xs i 0) rows)
-      → nodeFrom below k rows i (drop i xs) ≡ branchesFrom below k (runs (getD xs i 0) rows) (i + 2) (drop (i + 2) xs)
-  node-on h e m =
+  pub node-edges : i + 1 < length xs → getD xs i 0 ≤ k → may fs (getD xs i 0) ≡ true → getD xs (i + 1) 0 ≢ length (runs (getD xs i 0) rows)
+      → nodeFrom below fs k rows i (drop i xs) ≡ refuse (bad reason.Edges (i + 1))
+  node-edges h e y m = node-edge (omega arith) e y ∙ cell-bad _ reason.Edges _ xs (i + 1) h (ne-eqb _ _ m)
+
+  pub node-on : i + 1 < length xs → getD xs i 0 ≤ k → may fs (getD xs i 0) ≡ true → getD xs (i + 1) 0 ≡ length (runs (getD xs i 0) rows)
+      → nodeFrom below fs k rows i (drop i xs) ≡ branchesFrom below fs (getD xs i 0) k (runs (getD xs i 0) rows) (i + 2) (drop (i + 2) xs)
+  node-on h e y m =
       let z : i + 1 + 1 ≡ i + 2 = omega arith in
-      node-edge (omega arith) e
-      ∙ cell-on _ reason.Edges (λ m zs. branchesFrom below k (runs (getD xs i 0) rows) (i + 2) zs) xs (i + 1) h (eq-eqb _ _ m)
-      ∙ ap (λ (j : ℕ). branchesFrom below k (runs (getD xs i 0) rows) (i + 2) (drop j xs)) z
+      node-edge (omega arith) e y
+      ∙ cell-on _ reason.Edges (λ m zs. branchesFrom below fs (getD xs i 0) k (runs (getD xs i 0) rows) (i + 2) zs) xs (i + 1) h (eq-eqb _ _ m)
+      ∙ ap (λ (j : ℕ). branchesFrom below fs (getD xs i 0) k (runs (getD xs i 0) rows) (i + 2) (drop j xs)) z
 
 -- a state by its number of open places: a leaf where there is none
-pub state-leaf : (n k : ℕ) (rows : List (List ℕ)) (p : ℕ) (xs : List ℕ) → k ≡ 0 → stateFrom n k rows p xs ≡ leafFrom rows p xs
+pub state-leaf : (n : ℕ) (fs : List Bool) (k : ℕ) (rows : List (List ℕ)) (p : ℕ) (xs : List ℕ) → k ≡ 0 → stateFrom n fs k rows p xs ≡ leafFrom rows p xs
 unfolding stateFrom
-state-leaf zero zero rows p xs h = refl
-state-leaf (suc n) zero rows p xs h = refl
-state-leaf zero (suc k) rows p xs h = absurd (omega arith)
-state-leaf (suc n) (suc k) rows p xs h = absurd (omega arith)
+state-leaf zero fs zero rows p xs h = refl
+state-leaf (suc n) fs zero rows p xs h = refl
+state-leaf zero fs (suc k) rows p xs h = absurd (omega arith)
+state-leaf (suc n) fs (suc k) rows p xs h = absurd (omega arith)
 
 -- so many branches more than those that are read
 abbrev pub after : ℕ → Read Seen → Read Seen
@@ -105,74 +110,86 @@ after-each (read s) f = after-one (s .branches) (f s)
 after-each (refuse g) f = refl
 
 -- the branches of some runs: ENDS, LABEL, what the state below is refused for, or on with the other runs
-module _ (below : Reader) (k : ℕ) (g : Run) (gs : List Run) (xs : List ℕ) (i : ℕ) where
-  pub branches-ends : length xs ≤ i → branchesFrom below k (g ∷ gs) i (drop i xs) ≡ refuse (bad reason.Ends i)
+module _ (below : Reader) (fs : List Bool) (j k : ℕ) (g : Run) (gs : List Run) (xs : List ℕ) (i : ℕ) where
+  pub branches-ends : length xs ≤ i → branchesFrom below fs j k (g ∷ gs) i (drop i xs) ≡ refuse (bad reason.Ends i)
   branches-ends h = cell-ends _ reason.Label _ xs i h
 
-  pub branches-label : i < length xs → getD xs i 0 ≢ g .cell → branchesFrom below k (g ∷ gs) i (drop i xs) ≡ refuse (bad reason.Label i)
+  pub branches-label : i < length xs → getD xs i 0 ≢ g .cell → branchesFrom below fs j k (g ∷ gs) i (drop i xs) ≡ refuse (bad reason.Label i)
   branches-label h e = cell-bad _ reason.Label _ xs i h (ne-eqb _ _ e)
 
-  branches-below : i < length xs → getD xs i 0 ≡ g .cell → branchesFrom below k (g ∷ gs) i (drop i xs)
-      ≡ andThen (below (arity (g .cell) + k) (g .rows) (i + 1) (drop (i + 1) xs)) (λ (s : Seen). after (s .branches + 1) (branchesFrom below k gs (s .next) (s .rest)))
+  branches-below : i < length xs → getD xs i 0 ≡ g .cell → branchesFrom below fs j k (g ∷ gs) i (drop i xs)
+      ≡ andThen (below (spread j (arity (g .cell)) fs) (arity (g .cell) + k) (g .rows) (i + 1) (drop (i + 1) xs))
+      (λ (s : Seen). after (s .branches + 1) (branchesFrom below fs j k gs (s .next) (s .rest)))
   branches-below h e =
       cell-on _ reason.Label _ xs i h (eq-eqb _ _ e)
       ∙ rw (add-one i)
-      (after-each (below (arity (g .cell) + k) (g .rows) (suc i) (drop (suc i) xs)) (λ (s : Seen). branchesFrom below k gs (s .next) (s .rest)))
+      (after-each (below (spread j (arity (g .cell)) fs) (arity (g .cell) + k) (g .rows) (suc i) (drop (suc i) xs)) (λ (s : Seen). branchesFrom below fs j k gs (s .next) (s .rest)))
 
   pub branches-refused : (f : Refused) → i < length xs → getD xs i 0 ≡ g .cell
-      → below (arity (g .cell) + k) (g .rows) (i + 1) (drop (i + 1) xs) ≡ refuse f → branchesFrom below k (g ∷ gs) i (drop i xs) ≡ refuse f
+      → below (spread j (arity (g .cell)) fs) (arity (g .cell) + k) (g .rows) (i + 1) (drop (i + 1) xs) ≡ refuse f → branchesFrom below fs j k (g ∷ gs) i (drop i xs) ≡ refuse f
   branches-refused f h e b = branches-below h e ∙ rw b
 
   pub branches-on : (s : Seen) → i < length xs → getD xs i 0 ≡ g .cell
-      → below (arity (g .cell) + k) (g .rows) (i + 1) (drop (i + 1) xs) ≡ read s
-      → branchesFrom below k (g ∷ gs) i (drop i xs) ≡ after (s .branches + 1) (branchesFrom below k gs (s .next) (s .rest))
+      → below (spread j (arity (g .cell)) fs) (arity (g .cell) + k) (g .rows) (i + 1) (drop (i + 1) xs) ≡ read s
+      → branchesFrom below fs j k (g ∷ gs) i (drop i xs) ≡ after (s .branches + 1) (branchesFrom below fs j k gs (s .next) (s .rest))
   branches-on s h e b = branches-below h e ∙ rw b
+
+-- where no column is named, it does not matter at which place the runs are
+pub any-place : (below : Reader) (i j k : ℕ) (gs : List Run) (p : ℕ) (xs : List ℕ) → branchesFrom below [] i k gs p xs ≡ branchesFrom below [] j k gs p xs
+any-place below i j k [] p xs = refl
+any-place below i j k (g ∷ gs) p [] = refl
+any-place below i j k (g ∷ gs) p (c ∷ ys) =
+    ap (when (not (eqb c (g .cell))) (bad reason.Label p))
+    (then-both (below [] (arity (g .cell) + k) (g .rows) (suc p) ys) (λ (t : Seen). rw (any-place below i j k gs (t .next) (t .rest))))
 
 -- The number that bounds the depth never decides, where the rows fit.
 abbrev Alike : ℕ → ℕ → Reader → Reader → Type 0
-Alike m n below other = (k : ℕ) (rows : List (List ℕ)) → All (Fits m k) rows → All (Fits n k) rows → 0 < length rows → (p : ℕ) (xs : List ℕ)
-    → below k rows p xs ≡ other k rows p xs
+Alike m n below other = (fs : List Bool) (k : ℕ) (rows : List (List ℕ)) → All (Fits m k) rows → All (Fits n k) rows → 0 < length rows → (p : ℕ) (xs : List ℕ)
+    → below fs k rows p xs ≡ other fs k rows p xs
 
-branches-alike : (m n : ℕ) (below other : Reader) → Alike m n below other → (k z : ℕ) (gs : List Run) → Each (λ (c : ℕ). Fits m (arity c + k)) gs
-    → Each (λ (c : ℕ). Fits n (arity c + k)) gs → Sized z gs → (p : ℕ) (xs : List ℕ) → branchesFrom below k gs p xs ≡ branchesFrom other k gs p xs
-branches-alike m n below other h k z [] f f′ s p xs = refl
-branches-alike m n below other h k z (g ∷ gs) f f′ s p [] = refl
-branches-alike m n below other h k z (g ∷ gs) f f′ s p (c ∷ ys) =
+branches-alike : (m n : ℕ) (below other : Reader) → Alike m n below other → (fs : List Bool) (j k z : ℕ) (gs : List Run) → Each (λ (c : ℕ). Fits m (arity c + k)) gs
+    → Each (λ (c : ℕ). Fits n (arity c + k)) gs → Sized z gs → (p : ℕ) (xs : List ℕ) → branchesFrom below fs j k gs p xs ≡ branchesFrom other fs j k gs p xs
+branches-alike m n below other h fs j k z [] f f′ s p xs = refl
+branches-alike m n below other h fs j k z (g ∷ gs) f f′ s p [] = refl
+branches-alike m n below other h fs j k z (g ∷ gs) f f′ s p (c ∷ ys) =
     ap (when (not (eqb c (g .cell))) (bad reason.Label p))
-    (rw (h (arity (g .cell) + k) (g .rows) (f .0) (f′ .0) (s .0 .0) (suc p) ys)
-    (then-both (other (arity (g .cell) + k) (g .rows) (suc p) ys) (λ (t : Seen). rw (branches-alike m n below other h k z gs (f .1) (f′ .1) (s .1) (t .next) (t .rest)))))
+    (rw (h (spread j (arity (g .cell)) fs) (arity (g .cell) + k) (g .rows) (f .0) (f′ .0) (s .0 .0) (suc p) ys)
+    (then-both (other (spread j (arity (g .cell)) fs) (arity (g .cell) + k) (g .rows) (suc p) ys)
+    (λ (t : Seen). rw (branches-alike m n below other h fs j k z gs (f .1) (f′ .1) (s .1) (t .next) (t .rest)))))
 
-node-alike : (m n : ℕ) (below other : Reader) → Alike m n below other → (k : ℕ) (rows : List (List ℕ)) → All (Fits (suc m) (suc k)) rows
-    → All (Fits (suc n) (suc k)) rows → (p : ℕ) (xs : List ℕ) → nodeFrom below k rows p xs ≡ nodeFrom other k rows p xs
-node-alike m n below other h k rows f f′ p [] = refl
-node-alike m n below other h k rows f f′ p (i ∷ []) = refl
-node-alike m n below other h k rows f f′ p (i ∷ c ∷ zs) = go (leb i k) refl
+node-alike : (m n : ℕ) (below other : Reader) → Alike m n below other → (fs : List Bool) (k : ℕ) (rows : List (List ℕ)) → All (Fits (suc m) (suc k)) rows
+    → All (Fits (suc n) (suc k)) rows → (p : ℕ) (xs : List ℕ) → nodeFrom below fs k rows p xs ≡ nodeFrom other fs k rows p xs
+node-alike m n below other h fs k rows f f′ p [] = refl
+node-alike m n below other h fs k rows f f′ p (i ∷ []) = refl
+node-alike m n below other h fs k rows f f′ p (i ∷ c ∷ zs) = go (leb i k) refl
   where
     go : (b : Bool) → leb i k ≡ b
-        → when (not b) (bad reason.Open p) (when (not (eqb c (length (runs i rows)))) (bad reason.Edges (suc p)) (branchesFrom below k (runs i rows) (suc (suc p)) zs))
-        ≡ when (not b) (bad reason.Open p) (when (not (eqb c (length (runs i rows)))) (bad reason.Edges (suc p)) (branchesFrom other k (runs i rows) (suc (suc p)) zs))
+        → when (not b) (bad reason.Open p) (when (not (may fs i)) (bad reason.Early p)
+        (when (not (eqb c (length (runs i rows)))) (bad reason.Edges (suc p)) (branchesFrom below fs i k (runs i rows) (suc (suc p)) zs)))
+        ≡ when (not b) (bad reason.Open p) (when (not (may fs i)) (bad reason.Early p)
+        (when (not (eqb c (length (runs i rows)))) (bad reason.Edges (suc p)) (branchesFrom other fs i k (runs i rows) (suc (suc p)) zs)))
     go true e =
         let l : i ≤ k = leb-true i k e in
-        ap (when (not (eqb c (length (runs i rows)))) (bad reason.Edges (suc p)))
-        (branches-alike m n below other h k (length rows) (runs i rows) (runs-fit m k i l rows f) (runs-fit n k i l rows f′) (group-sizes (root i) (close i) rows)
+        ap (λ (x : Read Seen). when (not (may fs i)) (bad reason.Early p) (when (not (eqb c (length (runs i rows)))) (bad reason.Edges (suc p)) x))
+        (branches-alike m n below other h fs i k (length rows) (runs i rows) (runs-fit m k i l rows f) (runs-fit n k i l rows f′) (group-sizes (root i) (close i) rows)
         (suc (suc p)) zs)
     go false e = refl
 
 depth-free : (m n : ℕ) → Alike m n (stateFrom m) (stateFrom n)
 unfolding stateFrom
-depth-free zero n zero rows f f′ h p xs = sym (state-leaf n zero rows p xs refl)
-depth-free zero n (suc k) rows f f′ h p xs = absurd (omega (arith, fits-some zero k rows f h))
-depth-free (suc m) zero zero rows f f′ h p xs = refl
-depth-free (suc m) (suc n) zero rows f f′ h p xs = refl
-depth-free (suc m) zero (suc k) rows f f′ h p xs = absurd (omega (arith, fits-some zero k rows f′ h))
-depth-free (suc m) (suc n) (suc k) rows f f′ h p xs = node-alike m n (stateFrom m) (stateFrom n) (depth-free m n) k rows f f′ p xs
+depth-free zero n fs zero rows f f′ h p xs = sym (state-leaf n fs zero rows p xs refl)
+depth-free zero n fs (suc k) rows f f′ h p xs = absurd (omega (arith, fits-some zero k rows f h))
+depth-free (suc m) zero fs zero rows f f′ h p xs = refl
+depth-free (suc m) (suc n) fs zero rows f f′ h p xs = refl
+depth-free (suc m) zero fs (suc k) rows f f′ h p xs = absurd (omega (arith, fits-some zero k rows f′ h))
+depth-free (suc m) (suc n) fs (suc k) rows f f′ h p xs = node-alike m n (stateFrom m) (stateFrom n) (depth-free m n) fs k rows f f′ p xs
 
 -- so an inner state is read by the reading of any state below it, with no number that falls
-pub state-again : (n k : ℕ) (rows : List (List ℕ)) → All (Fits n k) rows → 0 < length rows → 0 < k → (p : ℕ) (xs : List ℕ)
-    → stateFrom n k rows p xs ≡ nodeFrom (stateFrom n) (k - 1) rows p xs
+pub state-again : (n : ℕ) (fs : List Bool) (k : ℕ) (rows : List (List ℕ)) → All (Fits n k) rows → 0 < length rows → 0 < k → (p : ℕ) (xs : List ℕ)
+    → stateFrom n fs k rows p xs ≡ nodeFrom (stateFrom n) fs (k - 1) rows p xs
 unfolding stateFrom
-state-again n zero rows f h l p xs = absurd (omega arith)
-state-again zero (suc k) rows f h l p xs = absurd (omega (arith, fits-some zero k rows f h))
-state-again (suc n) (suc k) rows f h l p xs =
+state-again n fs zero rows f h l p xs = absurd (omega arith)
+state-again zero fs (suc k) rows f h l p xs = absurd (omega (arith, fits-some zero k rows f h))
+state-again (suc n) fs (suc k) rows f h l p xs =
     let e : suc k - 1 ≡ k = omega arith in
-    rw e (node-alike n (suc n) (stateFrom n) (stateFrom (suc n)) (depth-free n (suc n)) k rows f (fits-more (suc n) (suc k) rows f) p xs)
+    rw e (node-alike n (suc n) (stateFrom n) (stateFrom (suc n)) (depth-free n (suc n)) fs k rows f (fits-more (suc n) (suc k) rows f) p xs)

@@ -41,7 +41,7 @@ between-take first last n rows h = ap (drop first) (take-take (suc last) n rows 
 -- THE EDIT LEMMA
 module _ {m : Measure} {width : ℕ} {rows rows′ : List (List ℕ)} {first last : ℕ} (same : between first last rows ≡ between first last rows′)
     (order : first ≤ last) (inside : last < length rows) (inside′ : last < length rows′) where
-  pub entry-kept : {cost place : ℕ} → Entry m width rows first last cost place → Entry m width rows′ first last cost place
+  pub entry-kept : {cost place : ℕ} → Entry m [] width rows first last cost place → Entry m [] width rows′ first last cost place
   entry-kept (none (inl h)) = absurd (omega arith)
   entry-kept (none (inr h)) = absurd (omega arith)
   entry-kept (leaf h l x) = leaf order inside′ (rw same at x)
@@ -90,13 +90,13 @@ kept {rec} {rec′} {figure} {T} {T′} x y e first last h i same o l l′ = kep
 -- From what is kept to each pair, and back. Of a pair of rows: what they cost with nothing closed, and their entry
 module _ {m : Measure} {width : ℕ} {rows : List (List ℕ)} {array : List ℕ} where
   pub kept-pair : Kept m width rows array → length rows ≤ 64 → (first last : ℕ) → first ≤ last → last < length rows
-      → RightAt m width rows array first last
+      → RightAt m [] width rows array first last
   kept-pair k few first last o i = record {
     whole = least-of (k .costs first last (omega arith) (omega arith));
     entry = k .entry first last (omega arith) (omega arith);
   }
     where
-      least-of : {n : ℕ} → Costs m width rows first last n → Least m width (between first last rows) n
+      least-of : {n : ℕ} → Costs m width rows first last n → Least m [] width (between first last rows) n
       least-of (no-rows (inl h)) = absurd (omega arith)
       least-of (no-rows (inr h)) = absurd (omega arith)
       least-of (some-rows h l x) = x
@@ -108,7 +108,7 @@ module _ {m : Measure} {width : ℕ} {rows : List (List ℕ)} {array : List ℕ}
       let e = entry-one (k .entry first last h l) (none o) in
       record { whole = costs-one (k .costs first last h l) (no-rows o); cost = e .0; place = e .1 }
 
-  pub kept-when : ((first last : ℕ) → first ≤ last → last < length rows → RightAt m width rows array first last)
+  pub kept-when : ((first last : ℕ) → first ≤ last → last < length rows → RightAt m [] width rows array first last)
       → ((first last : ℕ) → first < 64 → last < 64 → (last < first) ⊎ (length rows ≤ last) → ZeroAt first last array)
       → Kept m width rows array
   kept-when right zero = record {
@@ -122,13 +122,13 @@ module _ {m : Measure} {width : ℕ} {rows : List (List ℕ)} {array : List ℕ}
       costs first last h l (no-pair o) = rw (zero first last h l o .whole) (no-rows o)
 
       entry : (first last : ℕ) → first < 64 → last < 64 → IsPair (length rows) first last
-          → Entry m width rows first last (costIn array first last) (placeIn array first last)
+          → Entry m [] width rows first last (costIn array first last) (placeIn array first last)
       entry first last h l (pair o i) = right first last o i .entry
       entry first last h l (no-pair o) = rw (zero first last h l o .cost, zero first last h l o .place) (none o)
 
 -- at a pair where an array is as it was it is as right
 pub right-same : {m : Measure} {width : ℕ} {rows : List (List ℕ)} {old new : List ℕ} {first last : ℕ} → SameAt first last old new
-    → RightAt m width rows old first last → RightAt m width rows new first last
+    → RightAt m [] width rows old first last → RightAt m [] width rows new first last
 right-same s x = record { whole = rw (s .whole) (x .whole); entry = rw (s .cost, s .place) (x .entry) }
 
 pub zero-same : {old new : List ℕ} {first last : ℕ} → SameAt first last old new → ZeroAt first last old → ZeroAt first last new
@@ -137,7 +137,7 @@ zero-same s z = record { whole = s .whole ∙ z .whole; cost = s .cost ∙ z .co
 -- a pair whose rows an edit leaves is right for the new rows
 pub right-kept : {m : Measure} {width : ℕ} {rows rows′ : List (List ℕ)} {array : List ℕ} → Kept m width rows array → length rows ≤ 64
     → (first last : ℕ) → between first last rows ≡ between first last rows′ → first ≤ last → last < length rows → last < length rows′
-    → RightAt m width rows′ array first last
+    → RightAt m [] width rows′ array first last
 right-kept k few first last same o i i′ =
     let x = kept-pair k few first last o i in
     record { whole = rw same at (x .whole); entry = entry-kept same o i i′ (x .entry) }
@@ -150,7 +150,7 @@ dropped-kept {m} {width} {n} {rows} {old} {new} k few e c = kept-when right zero
     fewer : length (take n rows) ≡ n
     fewer = length-take-le n rows (omega arith)
 
-    right : (first last : ℕ) → first ≤ last → last < length (take n rows) → RightAt m width (take n rows) new first last
+    right : (first last : ℕ) → first ≤ last → last < length (take n rows) → RightAt m [] width (take n rows) new first last
     right first last o i =
         let s = c .others first last (omega (arith, fewer)) (omega (arith, fewer)) (λ q. omega (arith, fewer)) in
         right-same s (right-kept k few first last (sym (between-take first last n rows (omega (arith, fewer)))) o (omega (arith, fewer)) i)

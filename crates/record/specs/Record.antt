@@ -21,7 +21,7 @@ cellsIn T = T .width ∷ length (T .rows) ∷ flatten (T .rows)
 -- what the rows from the first to the last cost at least with nothing closed; 0 where there are no such rows
 pub data Costs (measure : Measure) (width : ℕ) (rows : List (List ℕ)) (first last : ℕ) : ℕ → Type 0 where
   no-rows : (last < first) ⊎ (length rows ≤ last) → Costs measure width rows first last 0
-  some-rows : {cost : ℕ} → first ≤ last → last < length rows → Least measure width (between first last rows) cost
+  some-rows : {cost : ℕ} → first ≤ last → last < length rows → Least measure [] width (between first last rows) cost
       → Costs measure width rows first last cost
 
 -- "its least cost and chosen place for every run of rows": for every pair of numbers below 64, and beside the entry what the rows cost
@@ -29,7 +29,7 @@ pub data Costs (measure : Measure) (width : ℕ) (rows : List (List ℕ)) (first
 pub record Kept (measure : Measure) (width : ℕ) (rows : List (List ℕ)) (kept : List ℕ) : Type 0 where
   pub costs : (first last : ℕ) → first < 64 → last < 64 → Costs measure width rows first last (wholeIn kept first last)
   pub entry : (first last : ℕ) → first < 64 → last < 64
-      → Entry measure width rows first last (costIn kept first last) (placeIn kept first last)
+      → Entry measure [] width rows first last (costIn kept first last) (placeIn kept first last)
 
 -- A record of 14,340 numbers holds an accepted table with its figure: at 0 how many cells the table has, at 1 the figure, from 2 on the
 -- table's cells, "and room in the record beyond the table's cells holds 0", from 2,052 on what is kept for every pair of rows
