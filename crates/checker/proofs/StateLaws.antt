@@ -2,6 +2,7 @@
 use mathlib.Core.Path.{_≡_, sym, ap, _∙_}
 use mathlib.Core.Logic.{_≢_}
 use mathlib.Core.List.{List, [], _∷_, map}
+use mathlib.Core.Bool.{Bool, true, false}
 use Prim.Native.Nat.{ℕ, zero, suc, _+_, _-_, _≤_, _<_, min, max}
 use native.Mathlib.Omega.{arith}
 use lib.ListN.{length, getD, take, drop}
@@ -14,16 +15,19 @@ use Rattle.refusal.specs.Refusal.{Refused, told}
 use Rattle.refusal.specs.declared.Reason.the-variants as reason
 use Rattle.refusal.specs.Read.{refuse}
 use Rattle.refusal.specs.declared.Refusal.{Refusal}
+use Rattle.plan.specs.Named.{may}
 use Rattle.plan.specs.Runs.{Run, runs}
 use Rattle.plan.specs.Check.{bad, nodeFrom, stateFrom}
 use Rattle.plan.specs.code.Fits.{Fits}
 use Rattle.state.specs.Column.{runCount}
+use Rattle.state.specs.Flags.{flagsIn, mayIn}
 use Rattle.state.specs.States.{rowAt, rowsIn, columnIn, ClosedRows}
 use Rattle.checker.specs.code.Steps.{saidBy, Inside, LeafDone, AloneDone, Ready, ReadyIn, Done, DoneIn}
 use Rattle.checker.specs.declared.check.Step.{Step}
 use Rattle.checker.specs.declared.check.Step.the-variants as step
 use Rattle.plan.proofs.RunsLaws.{group-all, fits-close}
-use Rattle.plan.proofs.ReadingLaws.{node-ends, node-open, node-ends-2, node-edges, node-on, state-leaf, state-again}
+use Rattle.plan.proofs.ReadingLaws.{node-ends, node-open, node-early, node-ends-2, node-edges, node-on, state-leaf, state-again}
+use Rattle.state.proofs.FlagsLaws.{may-bits}
 use Rattle.state.proofs.RowsLaws.{Closes, rows-none, rows-first, rows-length, run-number, runs-closed, same-self, same-then, closes-of}
 
 -- How deep the check can still go: the cells of the longest row.
@@ -54,9 +58,12 @@ fits-below i k h r f =
     let g = fits-close 31 (k - 1) i (omega arith) r (rw e at f) in
     (g .0, omega (arith, g .1))
 
-module _ {t ss ms hs p : List ℕ} {first last k at : ℕ} (w : Ready t ss ms hs p first last k at) where
+module _ {t ss ms hs p : List ℕ} {first last named k at : ℕ} (w : Ready t ss ms hs p first last named k at) where
   abbrev rows : List (List ℕ)
   rows = rowsIn t ss ms first last
+
+  abbrev fs : List Bool
+  fs = flagsIn k named
 
   pub few-open : k ≤ 32
   few-open = let f = rw (rows-first t ss ms first last (w .row)) at (w .rows) in omega (arith, terms-long (f .0 .0))
@@ -65,7 +72,7 @@ module _ {t ss ms hs p : List ℕ} {first last k at : ℕ} (w : Ready t ss ms hs
   some-row = omega (arith, rows-length t ss ms (last - first) first, w .row)
 
   -- masks and column are as they were
-  untouched : {r : Step} → stateFrom 32 k rows at (drop at p) ≡ saidBy p r → Inside p at r → Done t ss ms hs ms hs p first last k at r
+  untouched : {r : Step} → stateFrom 32 fs k rows at (drop at p) ≡ saidBy p r → Inside p at r → Done t ss ms hs ms hs p first last named k at r
   untouched s i = record { says = s; inside = i; masks = same-self last ms; column = same-self last hs }
 
   -- one row
@@ -78,33 +85,44 @@ module _ {t ss ms hs p : List ℕ} {first last k at : ℕ} (w : Ready t ss ms hs
     pub fits-alone : Fits 32 k (rowAt t ss ms first)
     fits-alone = (rw one-row at (w .rows)) .0
 
-    pub done-alone : {r : Step} → AloneDone t (getD ss first 0) (getD ms first 0) p k at r → Done t ss ms hs ms hs p first last k at r
+    pub done-alone : {r : Step} → AloneDone t (getD ss first 0) (getD ms first 0) p named k at r → Done t ss ms hs ms hs p first last named k at r
     done-alone d = untouched (rw one-row (d .says)) (d .inside)
 
   -- a leaf
-  pub done-leaf : {r : Step} → k ≡ 0 → LeafDone p (last - first) 0 at r → Done t ss ms hs ms hs p first last k at r
+  pub done-leaf : {r : Step} → k ≡ 0 → LeafDone p (last - first) 0 at r → Done t ss ms hs ms hs p first last named k at r
   done-leaf e d =
-      untouched (state-leaf 32 k rows at (drop at p) e ∙ rw (rows-length t ss ms (last - first) first) (d .says)) (d .inside at (omega arith))
+      untouched (state-leaf 32 fs k rows at (drop at p) e ∙ rw (rows-length t ss ms (last - first) first) (d .says)) (d .inside at (omega arith))
 
   -- an inner state: ENDS, OPEN, ENDS at its second cell, EDGES, or its branches
   module _ (l : 0 < k) where
-    abbrev as-node : stateFrom 32 k rows at (drop at p) ≡ nodeFrom (stateFrom 32) (k - 1) rows at (drop at p)
-    as-node = state-again 32 k rows (w .rows) some-row l at (drop at p)
+    abbrev as-node : stateFrom 32 fs k rows at (drop at p) ≡ nodeFrom (stateFrom 32) fs (k - 1) rows at (drop at p)
+    as-node = state-again 32 fs k rows (w .rows) some-row l at (drop at p)
 
-    refused : {f : Refusal} (x : Refused) → nodeFrom (stateFrom 32) (k - 1) rows at (drop at p) ≡ refuse x → told f ≡ x
-        → Done t ss ms hs ms hs p first last k at (step.Refused f)
+    refused : {f : Refusal} (x : Refused) → nodeFrom (stateFrom 32) fs (k - 1) rows at (drop at p) ≡ refuse x → told f ≡ x
+        → Done t ss ms hs ms hs p first last named k at (step.Refused f)
     refused x e q = untouched (as-node ∙ e ∙ rw q) tt
 
-    pub done-ends : {f : Refusal} → length p ≤ at → told f ≡ bad reason.Ends at → Done t ss ms hs ms hs p first last k at (step.Refused f)
-    done-ends h = refused (bad reason.Ends at) (node-ends (stateFrom 32) (k - 1) rows p at h)
+    pub done-ends : {f : Refusal} → length p ≤ at → told f ≡ bad reason.Ends at → Done t ss ms hs ms hs p first last named k at (step.Refused f)
+    done-ends h = refused (bad reason.Ends at) (node-ends (stateFrom 32) fs (k - 1) rows p at h)
 
-    pub done-open : {f : Refusal} → at < length p → k ≤ getD p at 0 → told f ≡ bad reason.Open at → Done t ss ms hs ms hs p first last k at (step.Refused f)
-    done-open h i = refused (bad reason.Open at) (node-open (stateFrom 32) (k - 1) rows p at h (omega arith))
+    pub done-open : {f : Refusal} → at < length p → k ≤ getD p at 0 → told f ≡ bad reason.Open at → Done t ss ms hs ms hs p first last named k at (step.Refused f)
+    done-open h i = refused (bad reason.Open at) (node-open (stateFrom 32) fs (k - 1) rows p at h (omega arith))
 
-    module _ (i : getD p at 0 < k) where
+    -- whether the place may be chosen, by the code's test
+    tested : getD p at 0 < k → may fs (getD p at 0) ≡ mayIn named (getD p at 0)
+    tested i = sym (may-bits k (getD p at 0) named i (omega (arith, few-open)) (w .flags))
+
+    pub done-early : {f : Refusal} → at < length p → getD p at 0 < k → mayIn named (getD p at 0) ≡ false → told f ≡ bad reason.Early at
+        → Done t ss ms hs ms hs p first last named k at (step.Refused f)
+    done-early h i m = refused (bad reason.Early at) (node-early (stateFrom 32) fs (k - 1) rows p at h (omega arith) (tested i ∙ m))
+
+    module _ (i : getD p at 0 < k) (m : mayIn named (getD p at 0) ≡ true) where
+      allowed : may fs (getD p at 0) ≡ true
+      allowed = tested i ∙ m
+
       pub done-ends-2 : {f : Refusal} → at < length p → length p ≤ at + 1 → told f ≡ bad reason.Ends (at + 1)
-          → Done t ss ms hs ms hs p first last k at (step.Refused f)
-      done-ends-2 h n = refused (bad reason.Ends (at + 1)) (node-ends-2 (stateFrom 32) (k - 1) rows p at h n (omega arith))
+          → Done t ss ms hs ms hs p first last named k at (step.Refused f)
+      done-ends-2 h n = refused (bad reason.Ends (at + 1)) (node-ends-2 (stateFrom 32) fs (k - 1) rows p at h n (omega arith) allowed)
 
       module _ {ms₁ hs₁ : List ℕ} (h : at + 1 < length p) (done : ClosedRows t ss ms hs ms₁ hs₁ (getD p at 0) first (min last 64)) where
         abbrev c : Closes t ss ms hs ms₁ hs₁ (getD p at 0) first last
@@ -116,10 +134,10 @@ module _ {t ss ms hs p : List ℕ} {first last k at : ℕ} (w : Ready t ss ms hs
             e ∙ sym (run-number t ss ms₁ hs₁ first last z) ∙ ap length (sym (runs-closed c))
 
         pub done-edges : {f : Refusal} (n : ℕ) → n ≡ runCount (columnIn hs₁ first last) → getD p (at + 1) 0 ≢ n → told f ≡ bad reason.Edges (at + 1)
-            → Done t ss ms hs ms₁ hs₁ p first last k at (step.Refused f)
+            → Done t ss ms hs ms₁ hs₁ p first last named k at (step.Refused f)
         done-edges n e d q = record {
           says = as-node
-              ∙ node-edges (stateFrom 32) (k - 1) rows p at h (omega arith) (λ (x : getD p (at + 1) 0 ≡ length (runs (getD p at 0) rows)). d (x ∙ sym (number n e)))
+              ∙ node-edges (stateFrom 32) fs (k - 1) rows p at h (omega arith) allowed (λ (x : getD p (at + 1) 0 ≡ length (runs (getD p at 0) rows)). d (x ∙ sym (number n e)))
               ∙ rw q;
           inside = tt;
           masks = c .masks;
@@ -130,7 +148,10 @@ module _ {t ss ms hs p : List ℕ} {first last k at : ℕ} (w : Ready t ss ms hs
         pub shorter : longest (rowsIn t ss ms₁ first last) < longest rows
         shorter = rw (c .rows) (longest-close (getD p at 0) k i rows (w .rows) some-row)
 
-        pub ready-branches : ReadyIn t ss ms₁ hs₁ p first last (k - 1) (at + 2)
+        more : k ≡ suc (k - 1)
+        more = omega arith
+
+        pub ready-branches : ReadyIn t ss ms₁ hs₁ p first last named (getD p at 0) (k - 1) (at + 2)
         ready-branches = record {
           room = record {
             masks = c .masks .size ∙ w .room .masks;
@@ -140,6 +161,9 @@ module _ {t ss ms hs p : List ℕ} {first last k at : ℕ} (w : Ready t ss ms hs
             some = w .room .some;
           };
           runs = rw (runs-closed c) at fit;
+          flags = rw (← more) (w .flags);
+          place = omega arith;
+          opens = omega (arith, few-open);
         }
           where
             fit : All (λ (g : Run). All (Fits 32 (arity (g .cell) + (k - 1))) (g .rows)) (runs (getD p at 0) rows)
@@ -148,9 +172,9 @@ module _ {t ss ms hs p : List ℕ} {first last k at : ℕ} (w : Ready t ss ms hs
                 (fits-below (getD p at 0) k i) rows (w .rows)
 
         pub done-node : {ms₂ hs₂ : List ℕ} {r : Step} (n : ℕ) → n ≡ runCount (columnIn hs₁ first last) → getD p (at + 1) 0 ≡ n
-            → DoneIn t ss ms₁ hs₁ ms₂ hs₂ p first last (k - 1) (at + 2) r → Done t ss ms hs ms₂ hs₂ p first last k at r
+            → DoneIn t ss ms₁ hs₁ ms₂ hs₂ p first last named (getD p at 0) (k - 1) (at + 2) r → Done t ss ms hs ms₂ hs₂ p first last named k at r
         done-node {r = r} n e d b = record {
-          says = as-node ∙ node-on (stateFrom 32) (k - 1) rows p at h (omega arith) (d ∙ number n e) ∙ rw (runs-closed c) (b .says);
+          says = as-node ∙ node-on (stateFrom 32) fs (k - 1) rows p at h (omega arith) allowed (d ∙ number n e) ∙ rw (runs-closed c) (rw (← more) at (b .says));
           inside = up r (b .inside);
           masks = same-then last (c .masks) (b .masks);
           column = same-then last (c .column) (b .column);

@@ -1,6 +1,7 @@
 // The check of a plan, state by state (01, "Plans" and the plan's rows of "What is turned away").
 ghost use mathlib.Core.Path.{_≡_};
 ghost use Rattle.refusal.specs.Refusal.{told};
+ghost use Prim.Native.Nat.{_<_, _^_};
 ghost use lib.ListN.{drop};
 ghost use Rattle.plan.specs.Check.{bad};
 ghost use Rattle.plan.specs.code.Fits.{Fits};
@@ -11,6 +12,8 @@ use refusal::Reason;
 use refusal::Refusal;
 use state::column::run_count;
 use state::column::run_length;
+use state::flags::may;
+use state::flags::spread;
 use state::mask::close_at;
 use state::mask::close_rows;
 
@@ -45,12 +48,22 @@ fn leaf(plan: &[u32], rows: usize, count: usize, at: usize) -> Step
 }
 
 // A state with one row, at place `at` of the plan, with k open places: a chain of single branches, one for each cell that the row still
-// has, down to its leaf. A row that is alone needs no column and no run, and goes down with no call.
-fn alone(table: &[u32], start: usize, mask: u32, plan: &[u32], k: usize, at: usize) -> Step
-    requires { ⌜ Fits 32 k (kept mask (drop start (now table))) ⌝ }
-    ensures { λ r. ⌜ AloneDone (now (table .entry)) start mask (now (plan .entry)) k at r ⌝ }
+// has, down to its leaf. A row that is alone needs no column and no run, and goes down with no call. It goes through its named columns
+// first, too.
+fn alone(
+    table: &[u32],
+    start: usize,
+    mask: u32,
+    plan: &[u32],
+    named: u64,
+    k: usize,
+    at: usize,
+) -> Step
+    requires { ⌜ Fits 32 k (kept mask (drop start (now table))) × (named < 2 ^ k) ⌝ }
+    ensures { λ r. ⌜ AloneDone (now (table .entry)) start mask (now (plan .entry)) named k at r ⌝ }
 {
     let mut left = mask;
+    let mut flags = named;
     let mut owed = k;
     let mut place = at;
     let mut count = 0;
@@ -61,6 +74,9 @@ fn alone(table: &[u32], start: usize, mask: u32, plan: &[u32], k: usize, at: usi
         let i = plan[place];
         if owed <= i as usize {
             return Step::Refused(refusal(Reason::Open, place));
+        }
+        if !may(flags, i) {
+            return Step::Refused(refusal(Reason::Early, place));
         }
         let second = place + 1;
         if plan.len() <= second {
@@ -79,15 +95,18 @@ fn alone(table: &[u32], start: usize, mask: u32, plan: &[u32], k: usize, at: usi
             return Step::Refused(refusal(Reason::Label, third));
         }
         left = closed.mask;
-        owed = cell::arity_of(c) + (owed - 1);
+        let args = cell::arity_of(c);
+        flags = spread(flags, i, args);
+        owed = args + (owed - 1);
         place += 3;
         count += 1;
     }
     leaf(plan, 1, count, place)
 }
 
-// The state at place `at` of the plan, with k open places and the rows from first to before end. It goes no deeper than 32: each state
-// closes one cell of each of its rows.
+// The state at place `at` of the plan, with k open places and the rows from first to before end. Bit i of `named` is set where open place i
+// is inside a named column (02, W-213); with none set any place may be chosen. It goes no deeper than 32: each state closes one cell of each
+// of its rows.
 pub fn state(
     table: &[u32],
     starts: &[usize; 64],
@@ -96,16 +115,17 @@ pub fn state(
     plan: &[u32],
     first: usize,
     end: usize,
+    named: u64,
     k: usize,
     at: usize,
 ) -> Step
-    requires { ⌜ Ready (now table) (now starts) (now masks) (now column) (now plan) first end k at ⌝ }
+    requires { ⌜ Ready (now table) (now starts) (now masks) (now column) (now plan) first end named k at ⌝ }
     ensures { λ r. ⌜ Done (now (table .entry)) (now (starts .entry)) (now (masks .entry)) (now (column .entry)) (now (masks .exit))
-        (now (column .exit)) (now (plan .entry)) first end k at r ⌝ }
+        (now (column .exit)) (now (plan .entry)) first end named k at r ⌝ }
 {
     let rows = end - first;
     if rows == 1 {
-        return alone(table, starts[first], masks[first], plan, k, at);
+        return alone(table, starts[first], masks[first], plan, named, k, at);
     }
     if k == 0 {
         return leaf(plan, rows, 0, at);
@@ -116,6 +136,9 @@ pub fn state(
     let i = plan[at];
     if k <= i as usize {
         return Step::Refused(refusal(Reason::Open, at));
+    }
+    if !may(named, i) {
+        return Step::Refused(refusal(Reason::Early, at));
     }
     let next = at + 1;
     if plan.len() <= next {
@@ -134,13 +157,15 @@ pub fn state(
         plan,
         first,
         end,
+        named,
+        i,
         k - 1,
         at + 2,
     )
 }
 
-// The branches from place `at` on, one for each run of the rows from first to before end; below each, k places are open beside its symbol's
-// arguments.
+// The branches from place `at` on, one for each run of the rows from first to before end, at open place i; below each, k places are open
+// beside its symbol's arguments, which are inside the column of their place.
 fn branches(
     table: &[u32],
     starts: &[usize; 64],
@@ -149,12 +174,14 @@ fn branches(
     plan: &[u32],
     first: usize,
     end: usize,
+    named: u64,
+    i: u32,
     k: usize,
     at: usize,
 ) -> Step
-    requires { ⌜ ReadyIn (now table) (now starts) (now masks) (now column) (now plan) first end k at ⌝ }
+    requires { ⌜ ReadyIn (now table) (now starts) (now masks) (now column) (now plan) first end named i k at ⌝ }
     ensures { λ r. ⌜ DoneIn (now (table .entry)) (now (starts .entry)) (now (masks .entry)) (now (column .entry)) (now (masks .exit))
-        (now (column .exit)) (now (plan .entry)) first end k at r ⌝ }
+        (now (column .exit)) (now (plan .entry)) first end named i k at r ⌝ }
 {
     let mut row = first;
     let mut place = at;
@@ -170,7 +197,9 @@ fn branches(
         }
         let cells = &column[..];
         let n = run_length(&cells[row..end]);
-        let open = cell::arity_of(c) + k;
+        let args = cell::arity_of(c);
+        let flags = spread(named, i, args);
+        let open = args + k;
         let under = place + 1;
         match state(
             table,
@@ -180,6 +209,7 @@ fn branches(
             plan,
             row,
             row + n,
+            flags,
             open,
             under,
         ) {

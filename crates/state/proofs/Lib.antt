@@ -3,3 +3,4 @@ pub mod ColumnLaws
 pub mod RowsLaws
 pub mod FirstLaws
 pub mod Fixed
+pub mod FlagsLaws

@@ -1,4 +1,5 @@
 pub mod Mask
 pub mod Column
 pub mod States
+pub mod Flags
 pub mod code

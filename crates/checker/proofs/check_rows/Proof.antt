@@ -8,13 +8,14 @@ refusal-requires : tie.Need-refusal-requires
 refusal-requires c κs = search needs
 
 returns : tie.Need-returns
-returns c = entry-size (c .before .before .before .before .pre) _ (c .before .if1 .taken) (c .refusal .ensures)
+returns c = entry-size (c .before .before .before .before .pre .0) _ _ (c .before .if1 .taken) (c .refusal .ensures)
 
 open-rows-requires : tie.Need-open-rows-requires
 open-rows-requires c κs = search needs
 
 state-requires : tie.Need-state-requires
-state-requires c κs = ready-first (c .before .before .before .before .before .before .pre) _ (c .before .before .open-rows .ensures) refl
+state-requires c κs =
+    let k = c .before .before .before .before .before .before .pre in ready-first (k .0) _ _ (c .before .before .open-rows .ensures) (k .1) refl
 
 enum-known-branches : tie.Need-enum-known-branches
 enum-known-branches c = search needs
@@ -23,16 +24,25 @@ refusal-requires-2 : tie.Need-refusal-requires-2
 refusal-requires-2 c κs = search needs
 
 returns-2 : tie.Need-returns-2
-returns-2 c = entry-extra (c .before .before .before .before .before .before .before .before .before .before .before .before .pre) _ (c .before .before .before .before .before .before .before .before .open-rows .ensures) (c .before .before .before .before .before .before .before .before .before .if1 .left) (c .before .before .before .before .before .state .ensures) (c .before .before .before .branches .given .1) (c .before .if2 .taken) (c .refusal2 .ensures)
+returns-2 c =
+    let s = c .before .before .before .before .before in
+    let o = s .before .before .before in
+    entry-extra (o .before .before .before .before .pre .0) _ _ (o .open-rows .ensures) (o .before .if1 .left) (s .state .ensures) (c .before .before .before .branches .given .1) (c .before .if2 .taken) (c .refusal2 .ensures)
 
 enum-known-f : tie.Need-enum-known-f
 enum-known-f c = search needs
 
 returns-3 : tie.Need-returns-3
-returns-3 c = entry-accepted (c .before .before .before .before .before .before .before .before .before .before .before .pre) _ (c .before .before .before .before .before .before .before .open-rows .ensures) (c .before .before .before .before .before .before .before .before .if1 .left) (c .before .before .before .before .state .ensures) (c .before .before .branches .given .1) (c .if2 .left)
+returns-3 c =
+    let s = c .before .before .before .before in
+    let o = s .before .before .before in
+    entry-accepted (o .before .before .before .before .pre .0) _ _ (o .open-rows .ensures) (o .before .if1 .left) (s .state .ensures) (c .before .before .branches .given .1) (c .if2 .left)
 
 returns-4 : tie.Need-returns-4
-returns-4 c = entry-refused (c .before .before .before .before .before .before .before .before .before .before .pre) _ (c .before .before .before .before .before .before .open-rows .ensures) (c .before .before .before .before .before .before .before .if1 .left) (c .before .before .before .state .ensures) (c .before .f .given .1)
+returns-4 c =
+    let s = c .before .before .before in
+    let o = s .before .before .before in
+    entry-refused (o .before .before .before .before .pre .0) _ _ (o .open-rows .ensures) (o .before .if1 .left) (s .state .ensures) (c .before .f .given .1)
 
 pub check-rows-spec : {M : Type 1} → statement M
 check-rows-spec =

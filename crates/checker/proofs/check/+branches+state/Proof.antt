@@ -1,10 +1,14 @@
+use mathlib.Core.Path.{_≡_, sym, _∙_}
+use mathlib.Core.Bool.{true}
 use native.Mathlib.Omega.{arith}
 use borrow.Author.Needs.{needs}
+use borrow.Author.Tests.{not-true, not-false}
 use lib.ListN.{getD}
 use Rattle.cell.specs.Cell.{arity}
+use Rattle.state.specs.Flags.{mayIn, spreadOf}
 use Rattle.state.specs.States.{rowsIn}
 use Rattle.checker.specs.code.Steps.{Done}
-use Rattle.checker.proofs.StateLaws.{longest, few-open, shorter, fits-alone, done-alone, done-leaf, done-ends, done-open, done-ends-2, done-edges, ready-branches, done-node}
+use Rattle.checker.proofs.StateLaws.{longest, few-open, shorter, fits-alone, done-alone, done-leaf, done-ends, done-open, done-early, done-ends-2, done-edges, ready-branches, done-node}
 use Rattle.checker.proofs.LoopLaws.{Going, going-start, going-done, going-ends, going-label, Turn, turn-of, ready-below, shorter-below, turn-refused, turn-next, turn-on}
 use Prim.Native.Nat.{ℕ, _+_, _-_, _*_, _<_}
 use borrow.Fn.Kinds.{In}
@@ -21,6 +25,8 @@ use Rattle.checker.proofs.check.leaf.Reads as leaf-reads
 use Rattle.checker.proofs.check.refusal.Reads as refusal-reads
 use Rattle.state.proofs.column.run_count.Reads as run-count-reads
 use Rattle.state.proofs.column.run_length.Reads as run-length-reads
+use Rattle.state.proofs.flags.may.Reads as may-reads
+use Rattle.state.proofs.flags.spread.Reads as spread-reads
 use Rattle.state.proofs.mask.close_rows.Reads as close-rows-reads
 use Rattle.checker.proofs.check.+branches+state.{statement}
 use Rattle.checker.proofs.check.+branches+state.Tie.{close}
@@ -46,17 +52,17 @@ abbrev state-below : ℕ → In 5 state-kinds.ps
 state-below t = and 5 state-kinds.ps (falls 5 state-kinds.ps _<_ μ-state t) state.Pre
 
 abbrev branches-with : ℕ → branches-lts.Claims
-branches-with t = (refusal-reads.Asked, refusal-reads.Learnt, run-length-reads.Asked, run-length-reads.Learnt, arity-of-reads.Asked, arity-of-reads.Learnt, state-below t, state.Post)
+branches-with t = (refusal-reads.Asked, refusal-reads.Learnt, run-length-reads.Asked, run-length-reads.Learnt, arity-of-reads.Asked, arity-of-reads.Learnt, spread-reads.Asked, spread-reads.Learnt, state-below t, state.Post)
 
 abbrev state-with : ℕ → state-lts.Claims
-state-with t = (alone-reads.Asked, alone-reads.Learnt, leaf-reads.Asked, leaf-reads.Learnt, refusal-reads.Asked, refusal-reads.Learnt, close-rows-reads.Asked, close-rows-reads.Learnt, run-count-reads.Asked, run-count-reads.Learnt, branches-below t, branches.Post)
+state-with t = (alone-reads.Asked, alone-reads.Learnt, leaf-reads.Asked, leaf-reads.Learnt, refusal-reads.Asked, refusal-reads.Learnt, may-reads.Asked, may-reads.Learnt, close-rows-reads.Asked, close-rows-reads.Learnt, run-count-reads.Asked, run-count-reads.Learnt, branches-below t, branches.Post)
 
 abbrev branches-Inv-loop : branches-lts.InvT-loop
-branches-Inv-loop table starts masks₀ column₀ plan first end k at row₀ place₀ count₀ masks column row place count =
-    Going table starts plan masks₀ column₀ first end k at masks column row place count
+branches-Inv-loop table starts masks₀ column₀ plan first end named i k at row₀ place₀ count₀ masks column row place count =
+    Going table starts plan masks₀ column₀ first end named i k at masks column row place count
 
 abbrev branches-μ-loop : branches-lts.MeasureT-loop
-branches-μ-loop table starts masks₀ column₀ plan first end k at row₀ place₀ count₀ masks column row place count =
+branches-μ-loop table starts masks₀ column₀ plan first end named i k at row₀ place₀ count₀ masks column row place count =
     end - row
 
 -- the places of `branches` that its answers go back to: where the run's length is known, the turn of the loop before that, and the call before that
@@ -71,7 +77,7 @@ call-at t c = c .before .before .before .before .before .before .before .before 
 
 -- the turn
 turn : (t : ℕ) (c : At-run t) → let l = turn-at t c .loop in let a = call-at t c .args in
-    Turn (a .table .now) (a .starts .now) (a .plan .now) (a .masks .now) (a .column .now) (a .first) (a .end) (a .k) (a .at)
+    Turn (a .table .now) (a .starts .now) (a .plan .now) (a .masks .now) (a .column .now) (a .first) (a .end) (a .named) (a .i) (a .k) (a .at)
     (l .masks) (l .column) (l .row) (l .place) (l .count) (c .run-length .result)
 turn t c = turn-of (c .run-length .result) (c .before .before .before .before .before .before .before .before .before .loop .inv) (c .before .before .before .before .before .before .before .before .loop-test .taken) (c .before .before .before .before .before .before .before .if1 .left) (c .before .before .before .before .if2 .left) (c .run-length .ensures)
 
@@ -79,10 +85,11 @@ turn t c = turn-of (c .run-length .result) (c .before .before .before .before .b
 abbrev At-state : ℕ → Type 0
 At-state t = branches-lts.After-state (branches-with t) (branches-at t) branches.Post branches-Inv-loop branches-μ-loop
 
-below : (t : ℕ) (s : At-state t) → let c = s .before .before .before .before in let l = turn-at t c .loop in let a = call-at t c .args in let z = s .state .last in
+below : (t : ℕ) (s : At-state t) → let c = s .before .before .before .before .before in let l = turn-at t c .loop in let a = call-at t c .args in let z = s .state .last in
     Done (a .table .now) (a .starts .now) (l .masks) (l .column) (z .1 .1 .0) (z .1 .1 .1 .0) (a .plan .now)
-    (l .row) (l .row + c .run-length .result) (arity (getD (l .column) (l .row) 0) + a .k) (l .place + 1) (s .state .result)
-below t s = rw (s .before .before .before .arity-of .ensures) at (s .state .ensures)
+    (l .row) (l .row + c .run-length .result) (spreadOf (a .named) (a .i) (arity (getD (l .column) (l .row) 0))) (arity (getD (l .column) (l .row) 0) + a .k)
+    (l .place + 1) (s .state .result)
+below t s = rw (s .before .before .before .spread .ensures, s .before .before .before .before .arity-of .ensures) at (s .state .ensures)
 
 branches-loop-holds : (t : ℕ) → branches-lts.Need-loop-holds (branches-with t) (branches-at t) branches.Post branches-Inv-loop branches-μ-loop
 branches-loop-holds t c = going-start (c .before .before .pre .1)
@@ -129,41 +136,44 @@ branches-run-length-requires t c κs = search needs
 branches-arity-of-requires : (t : ℕ) → branches-lts.Need-arity-of-requires (branches-with t) (branches-at t) branches.Post branches-Inv-loop branches-μ-loop
 branches-arity-of-requires t c κs = search needs
 
+branches-spread-requires : (t : ℕ) → branches-lts.Need-spread-requires (branches-with t) (branches-at t) branches.Post branches-Inv-loop branches-μ-loop
+branches-spread-requires t c κs = search needs
+
 branches-add-open : (t : ℕ) → branches-lts.Need-add-open (branches-with t) (branches-at t) branches.Post branches-Inv-loop branches-μ-loop
-branches-add-open t c = record { fits = omega (arith, few-open (ready-below (turn t (c .before))), c .arity-of .ensures) }
+branches-add-open t c = record { fits = omega (arith, few-open (ready-below (turn t (c .before .before))), c .before .arity-of .ensures) }
 
 branches-add-under : (t : ℕ) → branches-lts.Need-add-under (branches-with t) (branches-at t) branches.Post branches-Inv-loop branches-μ-loop
 branches-add-under t c = search needs
 
 branches-add-state : (t : ℕ) → branches-lts.Need-add-state (branches-with t) (branches-at t) branches.Post branches-Inv-loop branches-μ-loop
-branches-add-state t c = record { fits = omega (arith, ready-below (turn t (c .before .before .before)) .room .few) }
+branches-add-state t c = record { fits = omega (arith, ready-below (turn t (c .before .before .before .before)) .room .few) }
 
 branches-state-requires : (t : ℕ) → branches-lts.Need-state-requires (branches-with t) (branches-at t) branches.Post branches-Inv-loop branches-μ-loop
-branches-state-requires t c κs = let w = turn t (c .before .before .before) in (omega (arith, shorter-below w), rw (c .before .before .arity-of .ensures) (ready-below w))
+branches-state-requires t c κs = let w = turn t (c .before .before .before .before) in (omega (arith, shorter-below w), rw (c .before .before .spread .ensures, c .before .before .before .arity-of .ensures) (ready-below w))
 
 branches-enum-known-below : (t : ℕ) → branches-lts.Need-enum-known-below (branches-with t) (branches-at t) branches.Post branches-Inv-loop branches-μ-loop
 branches-enum-known-below t c = search needs
 
 branches-add-count : (t : ℕ) → branches-lts.Need-add-count (branches-with t) (branches-at t) branches.Post branches-Inv-loop branches-μ-loop
-branches-add-count t c = record { fits = omega (arith, turn-next (turn t (c .before .before .before .before .before .before .before)) (below t (c .before .before .before)) (c .before .below .given .1)) }
+branches-add-count t c = record { fits = omega (arith, turn-next (turn t (c .before .before .before .before .before .before .before .before)) (below t (c .before .before .before)) (c .before .below .given .1)) }
 
 branches-add-count-2 : (t : ℕ) → branches-lts.Need-add-count-2 (branches-with t) (branches-at t) branches.Post branches-Inv-loop branches-μ-loop
-branches-add-count-2 t c = let w = turn t (c .before .before .before .before .before .before .before) in record { fits = omega (arith, turn-next w (below t (c .before .before .before)) (c .before .below .given .1), w .going .few) }
+branches-add-count-2 t c = let w = turn t (c .before .before .before .before .before .before .before .before) in record { fits = omega (arith, turn-next w (below t (c .before .before .before)) (c .before .below .given .1), w .going .few) }
 
 branches-enum-known-f : (t : ℕ) → branches-lts.Need-enum-known-f (branches-with t) (branches-at t) branches.Post branches-Inv-loop branches-μ-loop
 branches-enum-known-f t c = search needs
 
 branches-returns-3 : (t : ℕ) → branches-lts.Need-returns-3 (branches-with t) (branches-at t) branches.Post branches-Inv-loop branches-μ-loop
-branches-returns-3 t c = turn-refused (turn t (c .before .before .before .before .before .before .before)) (below t (c .before .before .before)) (c .before .f .given .1)
+branches-returns-3 t c = turn-refused (turn t (c .before .before .before .before .before .before .before .before)) (below t (c .before .before .before)) (c .before .f .given .1)
 
 branches-add-row : (t : ℕ) → branches-lts.Need-add-row (branches-with t) (branches-at t) branches.Post branches-Inv-loop branches-μ-loop
-branches-add-row t c = record { fits = omega (arith, ready-below (turn t (c .before .before .before .before .before .before .before)) .room .few) }
+branches-add-row t c = record { fits = omega (arith, ready-below (turn t (c .before .before .before .before .before .before .before .before)) .room .few) }
 
 branches-loop-less : (t : ℕ) → branches-lts.Need-loop-less (branches-with t) (branches-at t) branches.Post branches-Inv-loop branches-μ-loop
-branches-loop-less t c = omega (arith, turn t (c .before .before .before .before .before .before .before) .run .some)
+branches-loop-less t c = omega (arith, turn t (c .before .before .before .before .before .before .before .before) .run .some)
 
 branches-loop-again : (t : ℕ) → branches-lts.Need-loop-again (branches-with t) (branches-at t) branches.Post branches-Inv-loop branches-μ-loop
-branches-loop-again t c = turn-on (turn t (c .before .before .before .before .before .before .before)) (below t (c .before .before .before)) (c .before .below .given .1)
+branches-loop-again t c = turn-on (turn t (c .before .before .before .before .before .before .before .before)) (below t (c .before .before .before)) (c .before .below .given .1)
 
 branches-returns-4 : (t : ℕ) → branches-lts.Need-returns-4 (branches-with t) (branches-at t) branches.Post branches-Inv-loop branches-μ-loop
 branches-returns-4 t c = going-done (c .before .loop .inv) (c .loop-test .left)
@@ -176,7 +186,15 @@ abbrev closed : (t : ℕ) → At-runs t → state-lts.After-close-rows (state-wi
 closed t c = c .before .before .before .before .before
 
 abbrev asked : (t : ℕ) → At-runs t → state-lts.Start (state-with t) (state-at t) state.Post
-asked t c = closed t c .before .before .before .before .before .before .before .before .before .before .before
+asked t c = closed t c .before .before .before .before .before .before .before .before .before .before .before .before .before
+
+-- the place that is chosen may be
+allowed : (t : ℕ) (e : state-lts.Else5 (state-with t) (state-at t) state.Post) → let a = e .before .before .before .before .before .before .before .before .before .args in
+    mayIn (a .named) (getD (a .plan .now) (a .at) 0) ≡ true
+allowed t e = sym (e .before .may .ensures) ∙ not-false _ (e .if5 .left)
+
+chosen : (t : ℕ) (c : At-runs t) → let a = asked t c .args in mayIn (a .named) (getD (a .plan .now) (a .at) 0) ≡ true
+chosen t c = allowed t (closed t c .before .before .before .before)
 
 state-sub-rows : (t : ℕ) → state-lts.Need-sub-rows (state-with t) (state-at t) state.Post
 state-sub-rows t c = search needs
@@ -194,7 +212,7 @@ state-element-copy-out-alone-2 : (t : ℕ) → state-lts.Need-element-copy-out-a
 state-element-copy-out-alone-2 t c = search needs
 
 state-alone-requires : (t : ℕ) → state-lts.Need-alone-requires (state-with t) (state-at t) state.Post
-state-alone-requires t c κs = fits-alone (c .before .before .before .before .before .pre .1) (c .before .before .if1 .taken)
+state-alone-requires t c κs = let w = c .before .before .before .before .before .pre .1 in (fits-alone w (c .before .before .if1 .taken), w .flags)
 
 state-returns : (t : ℕ) → state-lts.Need-returns (state-with t) (state-at t) state.Post
 state-returns t c = done-alone (c .before .before .before .before .before .before .pre .1) (c .before .before .before .if1 .taken) (c .alone .ensures)
@@ -226,26 +244,39 @@ state-refusal-requires-2 t c κs = search needs
 state-returns-4 : (t : ℕ) → state-lts.Need-returns-4 (state-with t) (state-at t) state.Post
 state-returns-4 t c = done-open (c .before .before .before .before .before .before .before .before .pre .1) (omega arith) (omega arith) (c .before .if4 .taken) (c .refusal2 .ensures)
 
-state-add-next : (t : ℕ) → state-lts.Need-add-next (state-with t) (state-at t) state.Post
-state-add-next t c = search needs
+state-may-requires : (t : ℕ) → state-lts.Need-may-requires (state-with t) (state-at t) state.Post
+state-may-requires t c κs = search needs
 
 state-refusal-requires-3 : (t : ℕ) → state-lts.Need-refusal-requires-3 (state-with t) (state-at t) state.Post
 state-refusal-requires-3 t c κs = search needs
 
 state-returns-5 : (t : ℕ) → state-lts.Need-returns-5 (state-with t) (state-at t) state.Post
-state-returns-5 t c = done-ends-2 (c .before .before .before .before .before .before .before .before .before .pre .1) (omega arith) (c .before .before .if4 .left) (omega arith) (c .before .if5 .taken) (c .refusal3 .ensures)
+state-returns-5 t c =
+    let m = c .before .before in
+    done-early (m .before .before .before .before .before .before .before .before .pre .1) (omega arith) (omega arith) (omega arith) (sym (m .may .ensures) ∙ not-true _ (c .before .if5 .taken)) (c .refusal3 .ensures)
+
+state-add-next : (t : ℕ) → state-lts.Need-add-next (state-with t) (state-at t) state.Post
+state-add-next t c = search needs
+
+state-refusal-requires-4 : (t : ℕ) → state-lts.Need-refusal-requires-4 (state-with t) (state-at t) state.Post
+state-refusal-requires-4 t c κs = search needs
+
+state-returns-6 : (t : ℕ) → state-lts.Need-returns-6 (state-with t) (state-at t) state.Post
+state-returns-6 t c =
+    let e = c .before .before in
+    done-ends-2 (e .before .before .before .before .before .before .before .before .before .pre .1) (omega arith) (omega arith) (allowed t e) (omega arith) (c .before .if6 .taken) (c .refusal4 .ensures)
 
 state-close-rows-requires : (t : ℕ) → state-lts.Need-close-rows-requires (state-with t) (state-at t) state.Post
 state-close-rows-requires t c κs = search needs
 
-state-mul-if6 : (t : ℕ) → state-lts.Need-mul-if6 (state-with t) (state-at t) state.Post
-state-mul-if6 t c = search needs
+state-mul-if7 : (t : ℕ) → state-lts.Need-mul-if7 (state-with t) (state-at t) state.Post
+state-mul-if7 t c = search needs
 
-state-shared-slice-read-if6 : (t : ℕ) → state-lts.Need-shared-slice-read-if6 (state-with t) (state-at t) state.Post
-state-shared-slice-read-if6 t c = search needs
+state-shared-slice-read-if7 : (t : ℕ) → state-lts.Need-shared-slice-read-if7 (state-with t) (state-at t) state.Post
+state-shared-slice-read-if7 t c = search needs
 
-state-cast-if6 : (t : ℕ) → state-lts.Need-cast-if6 (state-with t) (state-at t) state.Post
-state-cast-if6 t c = record { fits = omega (arith, c .shared-slice-known4 .given (c .before .before .before .before .before .before .before .before .before .before .before .before .before .before .args .at + 1)) }
+state-cast-if7 : (t : ℕ) → state-lts.Need-cast-if7 (state-with t) (state-at t) state.Post
+state-cast-if7 t c = record { fits = omega (arith, c .shared-slice-known4 .given (c .before .before .before .before .before .before .before .before .before .before .before .before .before .before .before .before .args .at + 1)) }
 
 state-mul-run-count : (t : ℕ) → state-lts.Need-mul-run-count (state-with t) (state-at t) state.Post
 state-mul-run-count t c = search needs
@@ -262,14 +293,14 @@ state-part-run-count-end t c = search needs
 state-run-count-requires : (t : ℕ) → state-lts.Need-run-count-requires (state-with t) (state-at t) state.Post
 state-run-count-requires t c κs = search needs
 
-state-refusal-requires-4 : (t : ℕ) → state-lts.Need-refusal-requires-4 (state-with t) (state-at t) state.Post
-state-refusal-requires-4 t c κs = search needs
+state-refusal-requires-5 : (t : ℕ) → state-lts.Need-refusal-requires-5 (state-with t) (state-at t) state.Post
+state-refusal-requires-5 t c κs = search needs
 
-state-returns-6 : (t : ℕ) → state-lts.Need-returns-6 (state-with t) (state-at t) state.Post
-state-returns-6 t c =
+state-returns-7 : (t : ℕ) → state-lts.Need-returns-7 (state-with t) (state-at t) state.Post
+state-returns-7 t c =
     let r = c .before .before in
-    done-edges (asked t r .pre .1) (omega arith) (omega arith) (omega arith) (closed t r .close-rows .ensures) (r .run-count .result) (r .run-count .ensures)
-    (c .before .if6 .taken) (c .refusal4 .ensures)
+    done-edges (asked t r .pre .1) (omega arith) (omega arith) (chosen t r) (omega arith) (closed t r .close-rows .ensures) (r .run-count .result) (r .run-count .ensures)
+    (c .before .if7 .taken) (c .refusal5 .ensures)
 
 state-sub-branches : (t : ℕ) → state-lts.Need-sub-branches (state-with t) (state-at t) state.Post
 state-sub-branches t c = search needs
@@ -281,15 +312,15 @@ state-branches-requires : (t : ℕ) → state-lts.Need-branches-requires (state-
 state-branches-requires t c κs =
     let r = c .before .before .before in
     let k = closed t r .close-rows .ensures in (
-      omega (arith, asked t r .pre .0, shorter (asked t r .pre .1) (omega arith) (omega arith) (omega arith) k),
-      ready-branches (asked t r .pre .1) (omega arith) (omega arith) (omega arith) k,
+      omega (arith, asked t r .pre .0, shorter (asked t r .pre .1) (omega arith) (omega arith) (chosen t r) (omega arith) k),
+      ready-branches (asked t r .pre .1) (omega arith) (omega arith) (chosen t r) (omega arith) k,
     )
 
-state-returns-7 : (t : ℕ) → state-lts.Need-returns-7 (state-with t) (state-at t) state.Post
-state-returns-7 t c =
+state-returns-8 : (t : ℕ) → state-lts.Need-returns-8 (state-with t) (state-at t) state.Post
+state-returns-8 t c =
     let r = c .before .before .before .before in
-    done-node (asked t r .pre .1) (omega arith) (omega arith) (omega arith) (closed t r .close-rows .ensures) (r .run-count .result) (r .run-count .ensures)
-    (c .before .before .before .if6 .left) (c .branches .ensures)
+    done-node (asked t r .pre .1) (omega arith) (omega arith) (chosen t r) (omega arith) (closed t r .close-rows .ensures) (r .run-count .result) (r .run-count .ensures)
+    (c .before .before .before .if7 .left) (c .branches .ensures)
 
 pub +branches+state-spec : {M : Type 1} → statement M
 +branches+state-spec = close μ-branches μ-state (λ t. branches-lts.spec (branches-with t) (branches-at t)
@@ -311,6 +342,7 @@ pub +branches+state-spec : {M : Type 1} → statement M
     (branches-part-run-length-end t)
     (branches-run-length-requires t)
     (branches-arity-of-requires t)
+    (branches-spread-requires t)
     (branches-add-open t)
     (branches-add-under t)
     (branches-add-state t)
@@ -342,21 +374,24 @@ pub +branches+state-spec : {M : Type 1} → statement M
     (state-cast-if4 t)
     (state-refusal-requires-2 t)
     (state-returns-4 t)
-    (state-add-next t)
+    (state-may-requires t)
     (state-refusal-requires-3 t)
     (state-returns-5 t)
+    (state-add-next t)
+    (state-refusal-requires-4 t)
+    (state-returns-6 t)
     (state-close-rows-requires t)
-    (state-mul-if6 t)
-    (state-shared-slice-read-if6 t)
-    (state-cast-if6 t)
+    (state-mul-if7 t)
+    (state-shared-slice-read-if7 t)
+    (state-cast-if7 t)
     (state-mul-run-count t)
     (state-sub-run-count t)
     (state-part-run-count-start t)
     (state-part-run-count-end t)
     (state-run-count-requires t)
-    (state-refusal-requires-4 t)
-    (state-returns-6 t)
+    (state-refusal-requires-5 t)
+    (state-returns-7 t)
     (state-sub-branches t)
     (state-add-branches t)
     (state-branches-requires t)
-    (state-returns-7 t)
+    (state-returns-8 t)
