@@ -1,7 +1,7 @@
 -- Only the pairs with the new row are worked out: from a record to the record of the table with the row.
 use mathlib.Core.Path.{_≡_, sym, ap, _∙_}
 use mathlib.Core.Logic.{_⊎_, inl, inr}
-use mathlib.Core.List.{List, _∷_, _++_}
+use mathlib.Core.List.{List, [], _∷_, _++_}
 use Prim.Native.Nat.{ℕ, suc, _+_, _-_, _≤_, _<_}
 use native.Mathlib.Omega.{arith}
 use lib.ListN.{length, getD, set, take, drop, replicate}
@@ -13,6 +13,7 @@ use Rattle.table.specs.declared.TableAnswer.the-variants as table-answer
 use Rattle.table.specs.Table.{Table, tableSays, tableTold}
 use Rattle.table.proofs.Accepted.{is-table, table-short}
 use Rattle.table.proofs.ReadLaws.{apart}
+use Rattle.state.specs.Flags.{flagsIn}
 use Rattle.least.specs.Measures.{tableBy, work}
 use Rattle.least.specs.declared.By.the-variants.{Work}
 use Rattle.least.proofs.Measured.{by-table}
@@ -24,8 +25,9 @@ use Rattle.record.proofs.RowLaws.{with-length, with-between}
 use Rattle.record.proofs.StoreLaws.{lent-all, kept-put, room-put}
 use Rattle.entries.specs.Fill.{NoPair, Unasked, KeptRight, Fills}
 use Rattle.entries.proofs.WorkedLaws.{turned-by}
+use Rattle.entries.proofs.PlainLaws.{plain-free, zero-free, free-kept}
 use Rattle.edits.specs.code.Joining.{Ready}
-use Rattle.edits.proofs.WorkLaws.{filled-kept}
+use Rattle.edits.proofs.WorkLaws.{plain-filled, filled-kept}
 
 module _ {rec : List ℕ} {figure : ℕ} {T : Table} (x : Holds rec figure T)
     {r : ℕ} {row next : List ℕ} {size : ℕ} (y : Ready T r row next size) where
@@ -42,7 +44,7 @@ module _ {rec : List ℕ} {figure : ℕ} {T : Table} (x : Holds rec figure T)
   here = by-table (Work figure) cells (x .low) ∙ y .accepted
 
   -- the pairs without the row are right for the new rows
-  right : KeptRight (work figure) (T .width) (new .rows) (r + 1) r (drop 2052 rec)
+  right : KeptRight (work figure) [] (T .width) (new .rows) (r + 1) r (drop 2052 rec)
   right = record {
     at = λ first last o i u.
         let w = with-between (T .rows) r row (y .there) first last (unasked u) o i in
@@ -58,8 +60,8 @@ module _ {rec : List ℕ} {figure : ℕ} {T : Table} (x : Holds rec figure T)
   no-pair (inr h) = inr (omega (arith, with-length (T .rows) r row (y .there)))
 
   module _ {kept : List ℕ} {s : TableRead}
-      (given : Fills (Work (getD rec 1 0)) (take size next) (r + 1) r (take (length rec - 2052) (drop 2052 rec)) kept s) where
-    fills : Fills (Work figure) cells (r + 1) r (drop 2052 rec) kept s
+      (given : Fills (Work (getD rec 1 0)) 0 (take size next) (r + 1) r (take (length rec - 2052) (drop 2052 rec)) kept s) where
+    fills : Fills (Work figure) 0 cells (r + 1) r (drop 2052 rec) kept s
     fills =
         let e : take size next ≡ cells = ap (take size) (y .is) ∙ take-at cells (replicate (2050 - length cells) 0) size (sym (y .many)) in
         rw (x .figure-is, e, lent-all rec) at given
@@ -69,7 +71,7 @@ module _ {rec : List ℕ} {figure : ℕ} {T : Table} (x : Holds rec figure T)
 
     again-kept : Kept (work figure) (T .width) (new .rows) kept
     again-kept =
-        filled-kept (fills .accepted new here (kept-long x) .filled right)
+        filled-kept (plain-filled (fills .accepted new here (kept-long x) .filled (free-kept [] (flagsIn (T .width) 0) (plain-free (T .width)) (zero-free (T .width)) right)))
         (λ first last h l o. kept-zero (x .kept) first last h l (no-pair o))
 
     pub again-held : {copied done : List ℕ}

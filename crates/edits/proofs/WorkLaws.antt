@@ -1,6 +1,6 @@
 -- A record is worked out anew, as the code does it.
 use mathlib.Core.Path.{_≡_, refl, ap, _∙_}
-use mathlib.Core.List.{List, _∷_, _++_}
+use mathlib.Core.List.{List, [], _∷_, _++_}
 use Prim.Native.Nat.{ℕ, _+_, _-_, _*_, _≤_, _<_}
 use native.Mathlib.Omega.{arith}
 use lib.ListN.{length, getD, set, take, drop, replicate, length-replicate}
@@ -13,6 +13,7 @@ use Rattle.table.specs.declared.TableRead.{TableRead}
 use Rattle.table.specs.declared.TableAnswer.the-variants as table-answer
 use Rattle.table.specs.Table.{Table, tableSays, tableTold, TableReads}
 use Rattle.table.proofs.Accepted.{is-table, table-short}
+use Rattle.state.specs.Flags.{flagsIn}
 use Rattle.state.specs.code.First.{TableRows}
 use Rattle.plan.specs.Plans.{Measure}
 use Rattle.least.specs.Measures.{tableBy, work}
@@ -27,9 +28,14 @@ use Rattle.record.proofs.PartLaws.{length-room, parts-hold}
 use Rattle.record.proofs.StoreLaws.{kept-lent, kept-put, cells-anew}
 use Rattle.entries.specs.Fill.{NoPair, Filled, Fills}
 use Rattle.entries.proofs.WorkedLaws.{figure-small, rows-by, turned-by, all-asked}
+use Rattle.entries.proofs.PlainLaws.{plain-free, zero-free, free-filled}
+
+-- no column is named
+pub plain-filled : {m : Measure} {width : ℕ} {rows : List (List ℕ)} {old new : List ℕ} → Filled m (flagsIn width 0) width rows old new → Filled m [] width rows old new
+plain-filled {width = width} f = free-filled (flagsIn width 0) [] (zero-free width) (plain-free width) f
 
 -- an array that is filled, and held 0 where there is no pair, is what is kept
-pub filled-kept : {m : Measure} {width : ℕ} {rows : List (List ℕ)} {old new : List ℕ} → Filled m width rows old new
+pub filled-kept : {m : Measure} {width : ℕ} {rows : List (List ℕ)} {old new : List ℕ} → Filled m [] width rows old new
     → ((first last : ℕ) → first < 64 → last < 64 → NoPair (length rows) first last → ZeroAt first last old) → Kept m width rows new
 filled-kept f zero =
     kept-when (λ first last o i. record { whole = f .whole first last o i; entry = f .entry first last o i })
@@ -68,7 +74,7 @@ module _ (figure : ℕ) (t rec : List ℕ) {r : TableRead} (reads : TableReads (
     -- the parts that are stored one after another
     module _ {cleared copied new headed : List ℕ} {s : TableRead} (size : length rec ≡ 14340)
         (c : cleared ≡ sets rec 2 (replicate (14340 - 2) 0)) (d : copied ≡ sets cleared 2 t)
-        (f : Fills (Work figure) t 64 0 (take (length copied - 2052) (drop 2052 copied)) new s)
+        (f : Fills (Work figure) 0 t 64 0 (take (length copied - 2052) (drop 2052 copied)) new s)
         (h : headed ≡ set (take 2052 copied ++ (new ++ drop (length copied - 2052) (drop 2052 copied))) 0 (length t)) where
       abbrev zeros : List ℕ
       zeros = replicate 12288 0
@@ -76,13 +82,13 @@ module _ (figure : ℕ) (t rec : List ℕ) {r : TableRead} (reads : TableReads (
       parts : copied ≡ getD rec 0 0 ∷ getD rec 1 0 ∷ (inRoom t ++ zeros)
       parts = d ∙ ap (λ (x : List ℕ). sets x 2 t) c ∙ cells-anew rec t size small
 
-      fills : Fills (Work figure) t 64 0 zeros new s
+      fills : Fills (Work figure) 0 t 64 0 zeros new s
       fills = rw (parts, kept-lent (getD rec 0 0) (getD rec 1 0) (inRoom t) zeros (length-room t small)) at f
 
       pub worked-anew : WorkedOut figure t rec (set headed 1 figure) (tableTold (r .answer))
       worked-anew =
           let long : length zeros ≡ 12288 = length-replicate {A = ℕ} 12288 0 in
-          let filled = fills .accepted T here long .filled (all-asked (Work figure) t here (omega arith)) in
+          let filled = plain-filled (fills .accepted T here long .filled (all-asked (Work figure) (flagsIn (T .width) 0) t here (omega arith))) in
           let kept : Kept (work figure) (T .width) (T .rows) new = filled-kept filled (λ first last h l o. zeros-at 12288 first last) in
           let is : set headed 1 figure ≡ length t ∷ figure ∷ (inRoom t ++ new) =
           ap (λ (x : List ℕ). set x 1 figure) (rw parts at h

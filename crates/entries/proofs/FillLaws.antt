@@ -13,13 +13,14 @@ use Rattle.term.proofs.Tests.{eqb-same}
 use Rattle.table.specs.Table.{Head}
 use Rattle.plan.specs.code.Fits.{Fits}
 use Rattle.table.proofs.AllLaws.{all-at}
+use Rattle.state.specs.Flags.{flagsIn}
 use Rattle.least.specs.Entries.{wholeIn, costIn, placeIn, SameAt}
 use Rattle.least.specs.code.Pairs.{laterOf, agreedOf, leastBy, placeBy}
 use Rattle.entries.specs.declared.arrays.Asked.{Asked}
 use Rattle.entries.specs.declared.arrays.Row.{Row}
 use Rattle.entries.specs.Fill.{Unasked}
 use Rattle.entries.specs.code.Notes.{readIn, weightOf, Long, NextRow, RowNoted, LastRow, Alone}
-use Rattle.entries.specs.code.Filling.{stopOf, rowOf, PairAt, putPair, KeepsBefore, keeps, passes, Task, Worked}
+use Rattle.entries.specs.code.Filling.{stopOf, rowOf, sharedOf, PairAt, putPair, KeepsBefore, keeps, passes, Task, Worked}
 use Rattle.entries.specs.code.Filling.{Stands, worked, left, FilledTo, RowHere, NotedTo, LastAt, Finished}
 use Rattle.entries.proofs.NotedLaws.{noted-alone}
 use Rattle.entries.proofs.AloneLaws.{weights-later, alone-sum}
@@ -81,6 +82,10 @@ either j j′ top since = go (ltb j top) refl
     go : (b : Bool) → ltb j top ≡ b → Either j j′ top since
     go true e = end (leb since j′) refl (ltb-true j top e)
     go false e = kept-pair (inl (ltb-false j top e))
+
+-- the flags of the named columns
+abbrev named : {cells marks starts : List ℕ} {asked : Asked} {old : List ℕ} → Task cells marks starts asked old → List Bool
+named {asked = asked} t = flagsIn (t .width) (asked .named)
 
 module _ {cells marks starts : List ℕ} {asked : Asked} {old : List ℕ} (t : Task cells marks starts asked old) where
   abbrev Done : ℕ → ℕ → ℕ → ℕ → Type 0
@@ -162,13 +167,13 @@ module _ {cells marks starts : List ℕ} {asked : Asked} {old : List ℕ} (t : T
         pass (left w e) = left (λ x. w (earlier (λ q q′. omega (arith, x .begins)) x)) e
 
     abbrev u : ℕ
-    u = agreedOf (t .m) 32 (t .width) (t .rows) first last + leastBy (t .m) (t .width) (t .rows) (t .N) first last
+    u = agreedOf (t .m) 32 (named t) (t .width) (t .rows) first last + leastBy (t .m) (named t) (t .width) (t .rows) (t .N) first last
 
     abbrev v : ℕ
-    v = leastBy (t .m) (t .width) (t .rows) (t .N) first last
+    v = leastBy (t .m) (named t) (t .width) (t .rows) (t .N) first last
 
     abbrev w : ℕ
-    w = placeBy (t .m) (t .width) (t .rows) (t .N) first last
+    w = placeBy (t .m) (named t) (t .width) (t .rows) (t .N) first last
 
     abbrev put : List ℕ
     put = putPair a (64 * first + last) u v w
@@ -188,7 +193,7 @@ module _ {cells marks starts : List ℕ} {asked : Asked} {old : List ℕ} (t : T
         each j j′ (there n x) (left d e) =
             left (λ y. d (earlier (λ q q′. n (omega arith)) y)) (record { whole = x .whole ∙ e .whole; cost = x .cost ∙ e .cost; place = x .place ∙ e .place })
 
-    filled-next : {b : List ℕ} → KeepsBefore (t .m) (t .width) (t .rows) (t .N) (asked .top) first last a b → FilledTo t first last b
+    filled-next : {b : List ℕ} → KeepsBefore (t .m) (named t) (t .width) (t .rows) (t .N) (asked .top) first last a b → FilledTo t first last b
     filled-next (keeps h k) = rw (k .is) (filled-put h)
     filled-next (passes h e) = filled-pass h e
 
@@ -244,7 +249,7 @@ module _ {cells marks starts : List ℕ} {asked : Asked} {old : List ℕ} (t : T
       }
 
   abbrev pub pair-at : {last agreed : ℕ} {row : Row} {notes kept : List ℕ} → NotedTo t (suc (row .number)) last row notes kept agreed
-      → PairAt marks kept notes (asked .figure) (row .number) last agreed (row .start) (row .end)
+      → PairAt marks kept notes row (sharedOf last agreed) asked
   pair-at {row = row} x = record {
     m = t .m;
     low = t .low;
@@ -257,7 +262,7 @@ module _ {cells marks starts : List ℕ} {asked : Asked} {old : List ℕ} (t : T
     order = x .order;
     inside = omega (arith, t .laid .number, x .inside);
     part = (row-bounds (x .here) .0, row-bounds (x .here) .1, t .laid .size);
-    row = row-part (x .here);
+    row-is = row-part (x .here);
     marked = t .marked;
     N = t .N;
     small = t .small;
@@ -270,7 +275,7 @@ module _ {cells marks starts : List ℕ} {asked : Asked} {old : List ℕ} (t : T
   }
 
   pub pair-kept : {last agreed : ℕ} {row : Row} {notes a b : List ℕ} → NotedTo t (suc (row .number)) last row notes a agreed
-      → KeepsBefore (t .m) (t .width) (t .rows) (t .N) (asked .top) (row .number) last a b → NotedTo t (row .number) last row notes b agreed
+      → KeepsBefore (t .m) (named t) (t .width) (t .rows) (t .N) (asked .top) (row .number) last a b → NotedTo t (row .number) last row notes b agreed
   pair-kept x k = record {
     here = x .here;
     order = x .order;

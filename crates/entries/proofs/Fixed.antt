@@ -12,6 +12,7 @@ use Rattle.table.specs.Table.{Table}
 use Rattle.table.specs.declared.TableRead.{TableRead}
 use Rattle.table.proofs.Fixed.{reads-fixed}
 use Rattle.plan.specs.Plans.{Measure}
+use Rattle.state.specs.Flags.{flagsIn}
 use Rattle.least.specs.Entries.{SameAt}
 use Rattle.least.specs.Measures.{measureOf, tableBy}
 use Rattle.least.specs.declared.By.{By}
@@ -22,7 +23,7 @@ use Rattle.entries.specs.Fill.{Filled, KeptRight, Fills}
 use Rattle.entries.proofs.WorkedLaws.{all-asked}
 
 -- two arrays that are filled are one
-module _ {m : Measure} {w : ℕ} {rows : List (List ℕ)} {old new new′ : List ℕ} (f : Filled m w rows old new) (g : Filled m w rows old new′) where
+module _ {m : Measure} {fs : List Bool} {w : ℕ} {rows : List (List ℕ)} {old new new′ : List ℕ} (f : Filled m fs w rows old new) (g : Filled m fs w rows old new′) where
   same-at : (first last : ℕ) → first < 64 → last < 64 → SameAt first last new new′
   same-at first last h l = go (is-pair (length rows) first last)
     where
@@ -39,9 +40,9 @@ module _ {m : Measure} {w : ℕ} {rows : List (List ℕ)} {old new new′ : List
   same-arrays = same-kept new new′ (f .size .1) (g .size .1) same-at
 
 -- where what is kept is right
-pub fill-fixed : {by : By} {t : List ℕ} {top since : ℕ} {old new new′ : List ℕ} {r s : TableRead}
-    → ((T : Table) → tableBy by t ≡ read T → KeptRight (measureOf by) (T .width) (T .rows) top since old)
-    → Fills by t top since old new r → Fills by t top since old new′ s → (new ≡ new′) × (r ≡ s)
+pub fill-fixed : {by : By} {t : List ℕ} {named top since : ℕ} {old new new′ : List ℕ} {r s : TableRead}
+    → ((T : Table) → tableBy by t ≡ read T → KeptRight (measureOf by) (flagsIn (T .width) named) (T .width) (T .rows) top since old)
+    → Fills by named t top since old new r → Fills by named t top since old new′ s → (new ≡ new′) × (r ≡ s)
 fill-fixed {by} {t} {old = old} {new} {new′} right f g = (go (tableBy by t) refl, reads-fixed (f .reads) (g .reads))
   where
     filled : (T : Table) → tableBy by t ≡ read T → (b : Bool) → eqb (length old) 12288 ≡ b → new ≡ new′
@@ -55,6 +56,6 @@ fill-fixed {by} {t} {old = old} {new} {new′} right f g = (go (tableBy by t) re
     go (refuse x) e = f .turned-away x e ∙ sym (g .turned-away x e)
 
 -- so where all pairs are asked for
-pub fill-all-fixed : {by : By} {t : List ℕ} {top : ℕ} {old new new′ : List ℕ} {r s : TableRead} → 64 ≤ top
-    → Fills by t top 0 old new r → Fills by t top 0 old new′ s → (new ≡ new′) × (r ≡ s)
-fill-all-fixed {by} {t} h f g = fill-fixed (λ T e. all-asked by t e h) f g
+pub fill-all-fixed : {by : By} {t : List ℕ} {named top : ℕ} {old new new′ : List ℕ} {r s : TableRead} → 64 ≤ top
+    → Fills by named t top 0 old new r → Fills by named t top 0 old new′ s → (new ≡ new′) × (r ≡ s)
+fill-all-fixed {by} {t} {named} h f g = fill-fixed (λ T e. all-asked by (flagsIn (T .width) named) t e h) f g

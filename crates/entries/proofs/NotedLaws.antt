@@ -38,7 +38,7 @@ map-past a c [] h = refl
 map-past a c (r ∷ rs) h = rw (back-close a c r (h .0), map-past a c rs (h .1))
 
 -- past the first cell, where it is closed
-front-close : (a : ℕ) {r : ℕ} {y : List ℕ} → Terms (suc r) y → length (front (suc a) y) ≡ suc (length (front (arity (root 0 y) + a) (close 0 y)))
+pub front-close : (a : ℕ) {r : ℕ} {y : List ℕ} → Terms (suc r) y → length (front (suc a) y) ≡ suc (length (front (arity (root 0 y) + a) (close 0 y)))
 unfolding front root close
 front-close a (more t) = refl
 
@@ -61,7 +61,7 @@ module _ {m : Measure} {W : ℕ → ℕ → ℕ} {first : ℕ} {N : ℕ → Note
       (b, rw (f, front-zero y, z, map-id rest, back-zero y) d)
 
   -- past a terms: where they are closed, past all that is noted below them
-  noted-past : {q R b : ℕ} {y : List ℕ} {rest : List (List ℕ)} → Noted m W first N q R y rest b → (a r : ℕ) → R ≡ a + r → Terms R y
+  pub noted-past : {q R b : ℕ} {y : List ℕ} {rest : List (List ℕ)} → Noted m W first N q R y rest b → (a r : ℕ) → R ≡ a + r → Terms R y
       → From m W first N (q + length (front a y)) r (back a y) (map (back a) rest)
   noted-past (done {at = q} {row = y} {rest}) zero r e t = past-none {y = y} {rest = rest} done r e
   noted-past (closed {at = q} {terms = r₀} {row = y} {rest} n o d) zero r e t = past-none {y = y} {rest = rest} (closed n o d) r e

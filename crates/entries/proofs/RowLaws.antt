@@ -26,7 +26,7 @@ use Rattle.entries.proofs.RingLaws.{put-same, put-room, put-later, put-
 use Rattle.least.proofs.Suffixes.{front-short, close-drop, back-drop}
 
 -- a part of the cells: its first cell, and what follows it and its term
-part-root : (p e : ℕ) (cells : List ℕ) → p < e → e ≤ length cells → root 0 (slice p e cells) ≡ getD cells p 0
+pub part-root : (p e : ℕ) (cells : List ℕ) → p < e → e ≤ length cells → root 0 (slice p e cells) ≡ getD cells p 0
 unfolding root
 part-root p e cells h l = rw (slice-cons p e cells 0 h l)
 

@@ -2,15 +2,17 @@
 // added one by one, in front. What is known of a place of the rows so far is noted at the cell that the first of them has
 // there. A pair's numbers stand at 64 times its first row plus its last, in each of the three parts of one lent array.
 ghost use mathlib.Core.Path.{_≡_};
-ghost use mathlib.Core.Bool.{cond, _||_};
+ghost use mathlib.Core.Bool.{cond};
 ghost use Prim.Native.Nat.{ℕ, _+_, _-_, _*_, _/_, _%_, _≤_, _<_};
 ghost use lib.Dec.{eqb, ltb};
 ghost use lib.ListN.{length, getD};
+ghost use Rattle.state.specs.Flags.{flagsIn};
 ghost use Rattle.least.specs.Measures.{workOf, measureOf};
-ghost use Rattle.least.specs.code.Best.{firstOver, leastOver};
 ghost use Rattle.entries.specs.Fill.{Refilled};
-ghost use Rattle.entries.specs.code.Notes.{choiceOf, noteIn, noteNext, putNote, readIn, endIn, weightIn, mostAgreed, Long};
-ghost use Rattle.entries.specs.code.Notes.{Small, NextRow, RowNoted, LastRow, Alone, Pair, EndsAt, MarkOf, MarkedTo};
+ghost use Rattle.entries.specs.code.Notes.{noteIn, noteNext, putNote, readIn, endIn, weightIn, mostAgreed, Long};
+ghost use Rattle.entries.specs.code.Notes.{Small, NextRow, RowNoted, LastRow, Alone, EndsAt, MarkOf, MarkedTo};
+ghost use Rattle.entries.specs.code.Reading.{choiceOf, foundOf, partOf, priceOf, foundTo, someTo, sortOf, choiceOver};
+ghost use Rattle.entries.specs.code.Reading.{Range, Inside, Column, Columns, Sorted};
 ghost use Rattle.entries.specs.code.Filling.{stopOf, rowOf, PairAt, Keeps, KeepsBefore, LastAt, FilledTo, Task, Finished, Rows};
 use least::By;
 use term::End;
@@ -248,7 +250,7 @@ fn note_last(cells: &[u32], marks: &[u16; 2050], notes: &mut [u32; 192], row: Ro
     agreed
 }
 
-// The cheapest open place so far, and what it costs; 0 and 0 where there is none.
+// The cheapest open place so far, and what it costs. No place costs as much as the first one is compared with, 0xffffffff.
 struct Choice {
     cost: u32,
     place: u32,
@@ -256,66 +258,252 @@ struct Choice {
 
 // With one open place more, the first to cost less.
 fn consider(best: Choice, place: u32, cost: u32) -> Choice
-    ensures { λ r. ⌜ r ≡ cond (eqb place 0 || ltb cost (best .cost)) (choiceOf cost place) best ⌝ }
+    ensures { λ r. ⌜ r ≡ cond (ltb cost (best .cost)) (choiceOf cost place) best ⌝ }
 {
-    if place == 0 {
-        return Choice { cost, place };
-    }
     if cost < best.cost {
         return Choice { cost, place };
     }
     best
 }
 
-// What an open place costs, where the closed cells weigh so much: the sum of what its runs cost, without these cells, which
-// each run's cost has in it, and the figure. Of a table no run costs less than they weigh.
-fn open_cost(s: Note, kept: &[u32], first: usize, agreed: u32, figure: u32) -> u32
-    requires { ⌜ Small first s × (agreed ≤ mostAgreed) × (figure ≤ 15) × Long (now kept) ⌝ }
-    ensures { λ r. ⌜ r ≡ figure + (s .sum + readIn (now (kept .entry)) first (s .to) - s .runs * agreed) ⌝ }
+// What every open place of a pair is priced by: what the closed cells weigh, and the figure.
+struct Base {
+    agreed: u32,
+    figure: u32,
+}
+
+// What an open place costs: the sum of what its runs cost, without the closed cells, which each run's cost has in it, and the
+// figure. Of a table no run costs less than they weigh.
+fn open_cost(s: Note, kept: &[u32], first: usize, base: Base) -> u32
+    requires { ⌜ Small first s × (base .agreed ≤ mostAgreed) × (base .figure ≤ 15) × Long (now kept) ⌝ }
+    ensures { λ r. ⌜ r ≡ priceOf (readIn (now (kept .entry))) first (base .agreed) (base .figure) s ⌝ }
 {
     let to = s.to as usize;
     let all = s.sum + cost_in(kept, first, to);
-    let closed = s.runs * agreed;
+    let closed = s.runs * base.agreed;
     if all < closed {
-        return figure;
+        return base.figure;
     }
-    figure + (all - closed)
+    base.figure + (all - closed)
 }
 
-// The cheapest open place of a pair's first row; the leftmost of them.
+// How far the open places of a pair are looked at: the cheapest of those that may be chosen, and how many are passed.
+struct Found {
+    best: Choice,
+    place: u32,
+}
+
+// Further, over the open places in a range of cells of the pair's first row, all of which may be chosen; the leftmost of the
+// cheapest.
 fn cheapest(
     marks: &[u16; 2050],
     kept: &[u32],
     notes: &[u32; 192],
-    row: Row,
-    agreed: u32,
-    figure: u32,
-) -> Choice
-    requires { ⌜ Pair (now marks) (now kept) (now notes) (row .number) (row .start) (row .end) agreed figure ⌝ }
-    ensures { λ r. ⌜ ((g : Pair (now (marks .entry)) (now (kept .entry)) (now (notes .entry))
-        (row .number) (row .start) (row .end) agreed figure)
-        → r ≡ choiceOf (leastOver (g .opens) (g .prices)) (firstOver (g .opens) (g .prices))) ⌝ }
+    range: Row,
+    base: Base,
+    found: Found,
+) -> Found
+    requires { ⌜ Range (now marks) (now kept) (now notes) range base found ⌝ }
+    ensures { λ r. ⌜ ((g : Range (now (marks .entry)) (now (kept .entry)) (now (notes .entry)) range base found)
+        → r ≡ foundTo (g .pair .ok) (g .pair .prices) (g .opens)) ⌝ }
 {
-    let number = row.number;
-    let stop = row.end;
-    let mut best = Choice { cost: 0, place: 0 };
-    let mut place = 0;
-    let mut q = row.start;
+    let number = range.number;
+    let stop = range.end;
+    let mut best = found.best;
+    let mut place = found.place;
+    let mut q = range.start;
     while q < stop {
         let s = note_at(notes, q);
         if s.runs != 1 {
-            best = consider(best, place, open_cost(s, kept, number, agreed, figure));
+            best = consider(best, place, open_cost(s, kept, number, base));
             place += 1;
         }
         q = after(marks, s, q);
     }
-    best
+    Found { best, place }
+}
+
+// Further by a column that is not named, while a place inside named ones is open: nothing in it is closed, so that it is one
+// open place, its argument, and that one may not be chosen.
+fn passed(found: Found) -> Found
+    requires { ⌜ found .place ≤ 2050 ⌝ }
+    ensures { λ r. ⌜ r ≡ foundOf (found .best) (found .place + 1) ⌝ }
+{
+    let best = found.best;
+    Found {
+        best,
+        place: found.place + 1,
+    }
+}
+
+// The open places of a pair where only those inside named columns may be chosen. The lowest bit is the column's own.
+fn cheapest_named(
+    marks: &[u16; 2050],
+    kept: &[u32],
+    notes: &[u32; 192],
+    row: Row,
+    base: Base,
+    named: u64,
+) -> Found
+    requires { ⌜ Inside (now marks) (now kept) (now notes) row base named ⌝ }
+    ensures { λ r. ⌜ ((g : Inside (now (marks .entry)) (now (kept .entry)) (now (notes .entry)) row base named)
+        → r ≡ foundTo (g .pair .ok) (g .pair .prices) (g .opens)) ⌝ }
+{
+    let number = row.number;
+    let stop = row.end;
+    let mut found = Found {
+        best: Choice {
+            cost: 0xffffffff,
+            place: 0,
+        },
+        place: 0,
+    };
+    let mut rest = named;
+    let mut start = row.start;
+    while start < stop {
+        let end = end_in(marks[start]);
+        if rest % 2 == 0 {
+            found = passed(found);
+        } else {
+            let column = Row { number, start, end };
+            found = cheapest(marks, kept, notes, column, base, found);
+        }
+        rest = rest / 2;
+        start = end;
+    }
+    found
+}
+
+// What the closed cells of a pair weigh, and whether they are those inside named columns only: so it is while a place inside
+// them is open.
+struct Part {
+    agreed: u32,
+    only: bool,
+}
+
+// With the cells of one named column more.
+fn part_in(marks: &[u16; 2050], notes: &[u32; 192], start: usize, end: usize, part: Part) -> Part
+    requires { ⌜ Column (now marks) (now notes) start end part ⌝ }
+    ensures { λ r. ⌜ ((g : Column (now (marks .entry)) (now (notes .entry)) start end part)
+        → (r ≡ partOf (part .agreed + g .weight) (someTo (g .ok) (g .opens))) × (r .agreed ≤ 7 * end)) ⌝ }
+{
+    let mut inside = part.agreed;
+    let mut only = part.only;
+    let mut q = start;
+    while q < end {
+        let s = note_at(notes, q);
+        inside = with_closed(marks, inside, s, q);
+        if s.runs != 1 {
+            only = true;
+        }
+        q = after(marks, s, q);
+    }
+    Part {
+        agreed: inside,
+        only,
+    }
+}
+
+// The cells of all named columns of a row. The lowest bit is the column's own.
+fn part_named(marks: &[u16; 2050], notes: &[u32; 192], row: Row, named: u64) -> Part
+    requires { ⌜ Columns (now marks) (now notes) (row .start) (row .end) named ⌝ }
+    ensures { λ r. ⌜ ((g : Columns (now (marks .entry)) (now (notes .entry)) (row .start) (row .end) named)
+        → (r ≡ partOf (g .weight) (someTo (g .ok) (g .opens))) × (r .agreed ≤ mostAgreed)) ⌝ }
+{
+    let stop = row.end;
+    let mut part = Part {
+        agreed: 0,
+        only: false,
+    };
+    let mut rest = named;
+    let mut start = row.start;
+    while start < stop {
+        let end = end_in(marks[start]);
+        if rest % 2 == 1 {
+            part = part_in(marks, notes, start, end, part);
+        }
+        rest = rest / 2;
+        start = end;
+    }
+    part
+}
+
+// The closed cells of a pair, which weigh `agreed` where every place that its rows agree on is closed. So they are where no
+// column is named, and where no place inside the named ones stays open.
+fn part_of(marks: &[u16; 2050], notes: &[u32; 192], row: Row, agreed: u32, named: u64) -> Part
+    requires { ⌜ Columns (now marks) (now notes) (row .start) (row .end) named × (agreed ≤ mostAgreed) ⌝ }
+    ensures { λ r. ⌜ ((g : Columns (now (marks .entry)) (now (notes .entry)) (row .start) (row .end) named)
+        → (r ≡ sortOf agreed (g .weight) (someTo (g .ok) (g .opens))) × (r .agreed ≤ mostAgreed)) ⌝ }
+{
+    if named == 0 {
+        return Part {
+            agreed,
+            only: false,
+        };
+    }
+    let part = part_named(marks, notes, row, named);
+    if part.only {
+        return part;
+    }
+    Part {
+        agreed,
+        only: false,
+    }
+}
+
+// Which pairs are worked out, of a table with so many rows: those that begin before row `top` and end at row `since` or
+// later. All others are kept as they stand. With the figure of the measure, and the named columns, a bit for each; where there
+// is none, every place may be chosen (02, W-213).
+pub struct Asked {
+    pub figure: u32,
+    pub named: u64,
+    pub count: usize,
+    pub top: usize,
+    pub since: usize,
 }
 
 // The last row of a pair, and what the cells weigh that its rows agree on.
 struct Shared {
     last: usize,
     agreed: u32,
+}
+
+// The cheapest place of a pair of those that may be chosen, and what it costs; 0 and 0 where no place is open. Where only some
+// may be chosen, one of them is open.
+fn best_of(
+    marks: &[u16; 2050],
+    kept: &[u32],
+    notes: &[u32; 192],
+    row: Row,
+    part: Part,
+    asked: Asked,
+) -> Choice
+    requires { ⌜ Sorted (now marks) (now kept) (now notes) row part asked ⌝ }
+    ensures { λ r. ⌜ ((g : Sorted (now (marks .entry)) (now (kept .entry)) (now (notes .entry)) row part asked)
+        → r ≡ choiceOver (g .pair .ok) (g .pair .prices) (g .opens)) ⌝ }
+{
+    let base = Base {
+        agreed: part.agreed,
+        figure: asked.figure,
+    };
+    if part.only {
+        let inside = cheapest_named(marks, kept, notes, row, base, asked.named);
+        let best = inside.best;
+        return best;
+    }
+    let none = Found {
+        best: Choice {
+            cost: 0xffffffff,
+            place: 0,
+        },
+        place: 0,
+    };
+    let found = cheapest(marks, kept, notes, row, base, none);
+    if found.place == 0 {
+        return Choice { cost: 0, place: 0 };
+    }
+    let best = found.best;
+    best
 }
 
 // The values of a pair, read off the notes at its first row.
@@ -325,31 +513,23 @@ fn keep_pair(
     notes: &[u32; 192],
     row: Row,
     shared: Shared,
-    figure: u32,
+    asked: Asked,
 )
-    requires { ⌜ PairAt (now marks) (now kept) (now notes) figure (row .number) (shared .last) (shared .agreed) (row .start) (row .end) ⌝ }
-    ensures { λ _. ⌜ ((g : PairAt (now (marks .entry)) (now (kept .entry)) (now (notes .entry))
-        figure (row .number) (shared .last) (shared .agreed) (row .start) (row .end))
-        → Keeps (g .m) (g .width) (g .rows) (g .N) (row .number) (shared .last) (now (kept .entry)) (now (kept .exit))) ⌝ }
+    requires { ⌜ PairAt (now marks) (now kept) (now notes) row shared asked ⌝ }
+    ensures { λ _. ⌜ ((g : PairAt (now (marks .entry)) (now (kept .entry)) (now (notes .entry)) row shared asked)
+        → Keeps (g .m) (flagsIn (g .width) (asked .named)) (g .width) (g .rows) (g .N) (row .number) (shared .last)
+        (now (kept .entry)) (now (kept .exit))) ⌝ }
 {
     let last = shared.last;
-    let agreed = shared.agreed;
-    let best = cheapest(marks, &*kept, notes, row, agreed, figure);
+    let part = part_of(marks, notes, row, shared.agreed, asked.named);
+    let best = best_of(marks, &*kept, notes, row, part, asked);
+    let agreed = part.agreed;
     let count = best.cost;
     let chosen = best.place;
     let pair = 64 * row.number + last;
     kept[pair] = agreed + count;
     kept[4096 + pair] = count;
     kept[8192 + pair] = chosen;
-}
-
-// Which pairs are worked out, of a table with so many rows: those that begin before row `top` and end at row `since` or
-// later. All others are kept as they stand. With the figure of the measure.
-pub struct Asked {
-    pub figure: u32,
-    pub count: usize,
-    pub top: usize,
-    pub since: usize,
 }
 
 // A pair's values, where it begins before row `top`.
@@ -361,17 +541,15 @@ fn keep_before(
     shared: Shared,
     asked: Asked,
 )
-    requires { ⌜ PairAt (now marks) (now kept) (now notes)
-        (asked .figure) (row .number) (shared .last) (shared .agreed) (row .start) (row .end) ⌝ }
-    ensures { λ _. ⌜ ((g : PairAt (now (marks .entry)) (now (kept .entry)) (now (notes .entry))
-        (asked .figure) (row .number) (shared .last) (shared .agreed) (row .start) (row .end))
-        → KeepsBefore (g .m) (g .width) (g .rows) (g .N) (asked .top) (row .number) (shared .last)
-        (now (kept .entry)) (now (kept .exit))) ⌝ }
+    requires { ⌜ PairAt (now marks) (now kept) (now notes) row shared asked ⌝ }
+    ensures { λ _. ⌜ ((g : PairAt (now (marks .entry)) (now (kept .entry)) (now (notes .entry)) row shared asked)
+        → KeepsBefore (g .m) (flagsIn (g .width) (asked .named)) (g .width) (g .rows) (g .N) (asked .top) (row .number)
+        (shared .last) (now (kept .entry)) (now (kept .exit))) ⌝ }
 {
     if asked.top <= row.number {
         return;
     }
-    keep_pair(marks, &mut *kept, notes, row, shared, asked.figure);
+    keep_pair(marks, &mut *kept, notes, row, shared, asked);
 }
 
 // Where a row's cells end: where the next row's begin, and the last row's where the table's end.
@@ -472,7 +650,8 @@ pub fn asked_pairs(by: By, cells: &[u32], starts: &[usize; 64], kept: &mut [u32]
     requires { ⌜ Rows (now cells) (now starts) (asked .count) × Long (now kept)
         × (asked .figure ≡ measureOf by .figure) × (asked .figure ≤ 15) ⌝ }
     ensures { λ _. ⌜ ((g : Rows (now (cells .entry)) (now (starts .entry)) (asked .count))
-        → Refilled (measureOf by) (g .width) (g .rows) (asked .top) (asked .since) (now (kept .entry)) (now (kept .exit))) ⌝ }
+        → Refilled (measureOf by) (flagsIn (g .width) (asked .named)) (g .width) (g .rows) (asked .top) (asked .since)
+        (now (kept .entry)) (now (kept .exit))) ⌝ }
 {
     let mut marks = [0; 2050];
     mark_cells(by, cells, &mut marks);

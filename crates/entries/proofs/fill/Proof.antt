@@ -47,7 +47,7 @@ returns c =
     let h = p .before .before .before .before .before in
     let a = h .before .before in
     let k = table-here a in
-    table-filled (start a .args .by) k (small a) (a .before .before .read-by .ensures) (c .before .kept .given) (h .if1 .taken)
+    table-filled (start a .args .named) (start a .args .by) k (small a) (a .before .before .read-by .ensures) (c .before .kept .given) (h .if1 .taken)
     (p .asked-pairs .ensures (laid-rows k))
 
 returns-2 : tie.Need-returns-2

@@ -2,7 +2,7 @@
 -- known of each place of the rows so far is noted at the cell that the first of them has there.
 use Prim.Native.Nat.{ℕ, suc, _+_, _-_, _*_, _/_, _%_, _≤_, _<_, min}
 use mathlib.Core.Path.{_≡_}
-use mathlib.Core.Bool.{true, false, cond}
+use mathlib.Core.Bool.{true, cond}
 use mathlib.Core.List.{List, [], _∷_, _++_, map}
 use lib.Dec.{ltb}
 use lib.ListN.{length, getD, set, drop}
@@ -18,13 +18,9 @@ use Rattle.least.specs.Entries.{wholeIn}
 use Rattle.least.specs.Measures.{weightAt}
 use Rattle.least.specs.code.Pairs.{limit}
 use Rattle.entries.specs.declared.arrays.Note.{Note}
-use Rattle.entries.specs.declared.arrays.Choice.{Choice}
 
 abbrev pub note : ℕ → ℕ → ℕ → Note
 note n s t = record { runs = n; sum = s; to = t }
-
-abbrev pub choiceOf : ℕ → ℕ → Choice
-choiceOf c i = record { cost = c; place = i }
 
 -- one row more, in front: at this place it has the cell c, and the row after it d. W is what a run costs, by its first and last row
 abbrev pub noteNext : (ℕ → ℕ → ℕ) → Note → ℕ → ℕ → ℕ → Note
@@ -84,21 +80,6 @@ pub data Noted (m : Measure) (costs : ℕ → ℕ → ℕ) (first : ℕ) (notes 
   opened : {at terms agreed : ℕ} {row : List ℕ} {rest : List (List ℕ)} → notes at ≡ noteOf costs first (map (root 0) (row ∷ rest))
       → 1 < (notes at) .runs → Noted m costs first notes (at + length (front 1 row)) terms (back 1 row) (map (back 1) rest) agreed
       → Noted m costs first notes at (suc terms) row rest agreed
-
--- The notes at a row's cells as they are read, from a cell on, where so many open places are passed, up to the stop, where there are
--- `opens` in all; `ends` is where the term at a cell ends. The note of each open place is what it has to be
-pub data Shown (notes : ℕ → Note) (ends : ℕ → ℕ) (Is : ℕ → Note → Type 0) (stop opens : ℕ) : (at passed : ℕ) → Type 0 where
-  at-end : Shown notes ends Is stop opens stop opens
-  at-closed : {at passed : ℕ} → at < stop → (notes at) .runs ≡ 1 → Shown notes ends Is stop opens (suc at) passed
-      → Shown notes ends Is stop opens at passed
-  at-open : {at passed : ℕ} → at < stop → at < ends at → 1 < (notes at) .runs → Is passed (notes at)
-      → Shown notes ends Is stop opens (ends at) (suc passed) → Shown notes ends Is stop opens at passed
-
--- the note of an open place, where the closed cells weigh `agreed`: its price is what its runs cost together, less `agreed` for each run,
--- and the state's own figure
-pub record Priced (costs : ℕ → ℕ → ℕ) (first last agreed figure : ℕ) (prices : ℕ → ℕ) (place : ℕ) (noted : Note) : Type 0 where
-  pub price : prices place ≡ figure + (noted .sum + costs first (noted .to) - noted .runs * agreed)
-  pub fair : Fair first last noted
 
 -- e is the place after the term that begins at cell j, if one does
 abbrev pub EndsAt : List ℕ → ℕ → ℕ → Type 0
@@ -193,18 +174,3 @@ pub record Alone {cells marks notes : List ℕ} {row at stop : ℕ} (given : Las
   pub small : met ≤ q
   pub light : agreed ≤ 7 * q
   pub room : length after ≡ 192
-
--- What is given where the entry of a pair is read off the notes at the cells of its first row, from `at` up to a stop: the closed cells
--- weigh `agreed`, each open place has its price, and what a run costs is kept for each that begins at that row and ends before the last
-pub record Pair (marks kept notes : List ℕ) (first at stop agreed figure : ℕ) : Type 0 where
-  pub costs : ℕ → ℕ → ℕ
-  pub last : ℕ
-  pub prices : ℕ → ℕ
-  pub opens : ℕ
-  pub shown : Shown (noteIn notes) (endIn marks) (Priced costs first last agreed figure prices) stop opens at 0
-  pub known : (j : ℕ) → first ≤ j → j < last → readIn kept first j ≡ costs first j
-  pub small : (j : ℕ) → first ≤ j → j ≤ last → costs first j ≤ 65535
-  pub few : (agreed ≤ mostAgreed) × (figure ≤ 15)
-  pub rows : (first ≤ last) × (last < 64)
-  pub within : stop ≤ 2050
-  pub long : Long kept

@@ -2,17 +2,25 @@ use mathlib.Core.Path.{refl, _∙_}
 use mathlib.Core.Logic.{⊎-elim}
 use Prim.Native.Nat.{_-_, _<_}
 use native.Mathlib.Omega.{arith}
-use Rattle.entries.specs.code.Notes.{Pair}
+use Rattle.entries.specs.code.Reading.{foundOf, Range}
+use Rattle.entries.specs.code.Filling.{rowOf}
 use Rattle.entries.proofs.ReadLaws.{CheapAt, cheap-start, cheap-end, turn-open, turn-closed, turn-asks}
 use Rattle.entries.proofs.arrays.cheapest.Statement.{statement}
 use Rattle.entries.proofs.arrays.cheapest.Tie as tie
 
 abbrev Inv-loop : tie.InvT-loop
-Inv-loop marks kept notes agreed figure number stop best₀ place₀ q₀ best place q =
-    (g : Pair marks kept notes number q₀ stop agreed figure) → CheapAt g best place q
+Inv-loop marks kept notes base number stop best₀ place₀ q₀ best place q =
+    (g : Range marks kept notes (rowOf number q₀ stop) base (foundOf best₀ place₀)) → CheapAt g best place q
 
 abbrev μ-loop : tie.MeasureT-loop
-μ-loop marks kept notes agreed figure number stop best₀ place₀ q₀ best place q = stop - q
+μ-loop marks kept notes base number stop best₀ place₀ q₀ best place q = stop - q
+
+-- what is given
+abbrev start : tie.At-loop Inv-loop μ-loop → tie.Start Inv-loop μ-loop
+start l = l .before .before .before
+
+abbrev Given : tie.Start Inv-loop μ-loop → Type 0
+Given s = Range (s .args .marks .now) (s .args .kept .now) (s .args .notes .now) (s .args .range) (s .args .base) (s .args .found)
 
 loop-holds : tie.Need-loop-holds Inv-loop μ-loop
 loop-holds c = λ g. cheap-start g
@@ -22,11 +30,7 @@ module _ (c : tie.After-after Inv-loop μ-loop) where
   abbrev turn : tie.In-loop Inv-loop μ-loop
   turn = c .before .before .before .before
 
-  abbrev start : tie.Start Inv-loop μ-loop
-  start = turn .before .before .before
-
-  turned : (g : Pair (start .args .marks .now) (start .args .kept .now) (start .args .notes .now) (start .args .row .number) (start .args .row .start) (start .args .row .end)
-      (start .args .agreed) (start .args .figure))
+  turned : (g : Given (start (turn .before)))
       → CheapAt g (c .before .if1 .best) (c .before .if1 .place) (c .after .result) × (turn .before .loop .q < c .after .result)
   turned g =
       let n = c .before .before .before .note-at in
@@ -43,7 +47,7 @@ note-at-requires c κs = tt
 open-cost-requires : tie.Need-open-cost-requires Inv-loop μ-loop
 open-cost-requires c κs =
     let i = c .before .before .before in
-    let g = i .before .before .before .pre in
+    let g = start (i .before) .pre in
     turn-asks g (i .loop-test .taken) (i .before .loop .inv g) (c .before .before .note-at .result) (c .before .before .note-at .ensures) _ refl (c .if1 .taken)
 
 consider-requires : tie.Need-consider-requires Inv-loop μ-loop
@@ -52,14 +56,14 @@ consider-requires c κs = tt
 add-place : tie.Need-add-place Inv-loop μ-loop
 add-place c =
     let i = c .before .before .before .before .before in
-    let g = i .before .before .before .pre in
-    record { fits = omega (arith, i .loop-test .taken, g .within, i .before .loop .inv g .small) }
+    let g = start (i .before) .pre in
+    record { fits = omega (arith, i .loop-test .taken, g .within .0, i .before .loop .inv g .small) }
 
 after-requires : tie.Need-after-requires Inv-loop μ-loop
-after-requires c κs = omega (arith, c .before .before .before .before .before .before .pre .within)
+after-requires c κs = let i = c .before .before .before in omega (arith, i .loop-test .taken, start (i .before) .pre .within .0)
 
 loop-less : tie.Need-loop-less Inv-loop μ-loop
-loop-less c = omega (arith, turn c .loop-test .taken, turned c (start c .pre) .1)
+loop-less c = omega (arith, turn c .loop-test .taken, turned c (start (turn c .before) .pre) .1)
 
 loop-again : tie.Need-loop-again Inv-loop μ-loop
 loop-again c = λ g. turned c g .0

@@ -3,55 +3,71 @@ use mathlib.Core.List.{List}
 use Prim.Native.Nat.{ℕ, _+_, _*_, _<_}
 use native.Mathlib.Omega.{arith}
 use lib.ListN.{set, length-set}
-use Rattle.least.specs.code.Best.{leastOver, firstOver}
+use Rattle.state.specs.Flags.{flagsIn}
+use Rattle.least.specs.code.Pairs.{leastBy, placeBy}
 use Rattle.entries.specs.declared.arrays.Choice.{Choice}
-use Rattle.entries.specs.code.Notes.{choiceOf, Long}
+use Rattle.entries.specs.code.Notes.{Long}
 use Rattle.entries.specs.code.Filling.{PairAt}
-use Rattle.entries.proofs.KeepLaws.{k, F, agreed-is, keep-pair, keep-small, put-same-values}
+use Rattle.entries.proofs.KeepLaws.{columns-given, PartIs, part-is, sorted, keep-small, put-same-values}
 use borrow.Author.Needs.{needs}
 use Rattle.entries.proofs.arrays.keep_pair.Statement.{statement}
 use Rattle.entries.proofs.arrays.keep_pair.Tie as tie
 
--- what the call gives, for rows that the pair stands for
-module _ (c : tie.After-cheapest) where
-  abbrev start : tie.Start
-  start = c .before .before .before
+abbrev Given : tie.Start → Type 0
+Given s = PairAt (s .args .marks .now) (s .args .kept .now) (s .args .notes .now) (s .args .row) (s .args .shared) (s .args .asked)
 
-  abbrev Given : Type 0
-  Given = PairAt (start .args .marks .now) (start .args .kept .now) (start .args .notes .now) (start .args .figure) (start .args .row .number)
-      (start .args .shared .last) (start .args .shared .agreed) (start .args .row .start) (start .args .row .end)
+-- what is closed
+module _ (c : tie.After-part-of) (g : Given (c .before .before)) where
+  closed : PartIs g (c .part-of .result)
+  closed = part-is g (c .part-of .result) (c .part-of .ensures (columns-given g) .0)
+
+-- what the calls give, for rows that the pair stands for
+module _ (c : tie.After-best-of) where
+  abbrev parted : tie.After-part-of
+  parted = c .before .before
+
+  abbrev start : tie.Start
+  start = parted .before .before
 
   abbrev pair : ℕ
   pair = 64 * start .args .row .number + start .args .shared .last
 
   -- the array with one value put, and with two
   abbrev one : List ℕ
-  one = set (start .args .kept .now) pair (start .args .shared .agreed + c .cheapest .result .cost)
+  one = set (start .args .kept .now) pair (parted .part-of .result .agreed + c .best-of .result .cost)
 
   abbrev two : List ℕ
-  two = set one (4096 + pair) (c .cheapest .result .cost)
+  two = set one (4096 + pair) (c .best-of .result .cost)
 
-module _ (c : tie.After-cheapest) (g : Given c) where
+module _ (c : tie.After-best-of) (g : Given (start c)) where
   one-long : Long (one c)
-  one-long = length-set (start c .args .kept .now) (pair c) (start c .args .shared .agreed + c .cheapest .result .cost) ∙ g .long
+  one-long = length-set (start c .args .kept .now) (pair c) (parted c .part-of .result .agreed + c .best-of .result .cost) ∙ g .long
 
   two-long : Long (two c)
-  two-long = length-set (one c) (4096 + pair c) (c .cheapest .result .cost) ∙ one-long
+  two-long = length-set (one c) (4096 + pair c) (c .best-of .result .cost) ∙ one-long
 
   low : pair c < 4096
   low = omega (arith, g .order, g .inside, g .few)
 
-  both : c .cheapest .result ≡ choiceOf (leastOver (k g) (F g)) (firstOver (k g) (F g))
-  both = c .cheapest .ensures (keep-pair g)
+  abbrev sort : PartIs g (parted c .part-of .result)
+  sort = closed (parted c) g
 
-  least : c .cheapest .result .cost ≡ leastOver (k g) (F g)
-  least = ap (λ (x : Choice). x .cost) both
+  least : c .best-of .result .cost
+      ≡ leastBy (g .m) (flagsIn (g .width) (start c .args .asked .named)) (g .width) (g .rows) (g .N) (start c .args .row .number) (start c .args .shared .last)
+  least = ap (λ (x : Choice). x .cost) (c .best-of .ensures (sorted g sort (parted c .part-of .ensures (columns-given g) .1)))
 
-  chosen : c .cheapest .result .place ≡ firstOver (k g) (F g)
-  chosen = ap (λ (x : Choice). x .place) both
+  chosen : c .best-of .result .place
+      ≡ placeBy (g .m) (flagsIn (g .width) (start c .args .asked .named)) (g .width) (g .rows) (g .N) (start c .args .row .number) (start c .args .shared .last)
+  chosen = ap (λ (x : Choice). x .place) (c .best-of .ensures (sorted g sort (parted c .part-of .ensures (columns-given g) .1)))
 
-cheapest-requires : tie.Need-cheapest-requires
-cheapest-requires c κs = keep-pair (c .before .before .pre)
+part-of-requires : tie.Need-part-of-requires
+part-of-requires c κs = let g = c .before .pre in (columns-given g, g .light)
+
+best-of-requires : tie.Need-best-of-requires
+best-of-requires c κs =
+    let p = c .before in
+    let g = p .before .before .pre in
+    sorted g (closed p g) (p .part-of .ensures (columns-given g) .1)
 
 mul-pair : tie.Need-mul-pair
 mul-pair c = record { fits = omega (arith, low (c .before) (start (c .before) .pre)) }
@@ -61,8 +77,9 @@ add-pair c = record { fits = omega (arith, low (c .before) (start (c .before) .p
 
 add-kept : tie.Need-add-kept
 add-kept c =
-    let g = start (c .before) .pre in
-    record { fits = omega (arith, least (c .before) g, keep-small g) }
+    let b = c .before in
+    let g = start b .pre in
+    record { fits = omega (arith, least b g, keep-small g, parted b .part-of .ensures (columns-given g) .1) }
 
 mul-kept : tie.Need-mul-kept
 mul-kept c = search needs
@@ -93,16 +110,15 @@ same-length c = search needs
 
 returns : tie.Need-returns
 returns c = λ g.
-    (let s = start (c .before) in
-    record {
-      is = put-same-values (s .args .kept .now) (pair (c .before)) (agreed-is g) (least (c .before) g) (chosen (c .before) g);
-    })
+    (let b = c .before in
+    record { is = put-same-values (start b .args .kept .now) (pair b) (sort b g .agreed-is) (least b g) (chosen b g) })
 
 pub keep-pair-spec : {M : Type 1} → statement M
 keep-pair-spec =
     tie.close
     (tie.spec
-    cheapest-requires
+    part-of-requires
+    best-of-requires
     mul-pair
     add-pair
     add-kept

@@ -15,7 +15,7 @@ add-all c = search needs
 
 mul-closed : tie.Need-mul-closed
 mul-closed c =
-    let p = c .before .before .before .before .before .pre in
+    let p = c .before .before .before .before .before .before .pre in
     record { fits = omega (arith, mul-le-mul (p .0 .runs) (p .1)) }
 
 returns : tie.Need-returns
