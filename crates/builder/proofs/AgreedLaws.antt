@@ -1,5 +1,5 @@
 -- The loop that asks whether all rows of a state agree at a place: how many neighbours do not is the same from each row on that is passed.
-use mathlib.Core.Path.{_≡_, sym, _∙_}
+use mathlib.Core.Path.{_≡_, refl, sym, _∙_}
 use mathlib.Core.Bool.{true, false}
 use mathlib.Core.List.{List, map}
 use Prim.Native.Nat.{ℕ, suc, _+_, _≤_, _<_}
@@ -41,3 +41,7 @@ module _ (t ss ms : List ℕ) (i first end : ℕ) where
         → runCount (cellsFrom first) ≡ 1 → ⊥
     unfolding breaks
     agreeing-not next h e s o = let r = rw (rows-first t ss ms row end h, ← e, s) at (a .rest) in omega arith
+
+  -- a single row agrees with itself
+  pub agreeing-alone : first + 1 ≡ end → runCount (cellsFrom first) ≡ 1
+  agreeing-alone h = agreeing-all (agreeing-start (root i (rowAt t ss ms first)) (omega arith) refl) (omega arith)

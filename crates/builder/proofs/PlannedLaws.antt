@@ -1,7 +1,7 @@
 -- From a table that is read to its first state, and from what is written there to the cells of the plan.
 use mathlib.Core.Path.{_≡_, refl, ap, _∙_}
 use mathlib.Core.List.{List, _++_}
-use Prim.Native.Nat.{ℕ, _+_, _-_, _*_, _≤_}
+use Prim.Native.Nat.{ℕ, _+_, _-_, _*_, _^_, _≤_, _<_}
 use native.Mathlib.Omega.{arith}
 use lib.ListN.{length, getD, drop}
 use lib.Seq.{sets, sets-eq, take-at}
@@ -12,6 +12,7 @@ use Rattle.plan.specs.Plans.{Plan, write}
 use Rattle.plan.specs.code.Fits.{Fits}
 use Rattle.plan.proofs.SizeLaws.{size-bound}
 use Rattle.plan.proofs.CheckLaws.{rows-fit}
+use Rattle.state.specs.Flags.{flagsIn}
 use Rattle.state.specs.Mask.{OpenRows}
 use Rattle.state.specs.States.{rowsIn}
 use Rattle.state.specs.code.First.{TableRows}
@@ -22,13 +23,14 @@ use Rattle.builder.specs.code.Writing.{ToWrite, Written, Planned}
 
 -- what is known of a state, of an equal one
 module _ {w w′ : ℕ} {rows rows′ : List (List ℕ)} (e : w ≡ w′) (f : rows ≡ rows′) where
-  same-plan : (kept : List ℕ) (p : Plan w′ rows′) → Follows kept 0 p → (q : Plan w rows) × Follows kept 0 q × (write q ≡ write p)
-  same-plan kept p b = rw (e, f) (p, b, refl)
+  same-plan : (kept : List ℕ) (named : ℕ) (p : Plan w′ rows′) → Follows kept (flagsIn w′ named) 0 p
+      → (q : Plan w rows) × Follows kept (flagsIn w named) 0 q × (write q ≡ write p)
+  same-plan kept named p b = rw (e, f) (p, b, refl)
 
   same-fits : All (Fits 32 w′) rows′ → All (Fits 32 w) rows
   same-fits a = rw (e, f) a
 
-module _ (kept : List ℕ) {t ss : List ℕ} {w n : ℕ} (k : TableRows t ss w n) where
+module _ (kept : List ℕ) (named : ℕ) {t ss : List ℕ} {w n : ℕ} (k : TableRows t ss w n) where
   abbrev T : Table
   T = k .table
 
@@ -39,28 +41,29 @@ module _ (kept : List ℕ) {t ss : List ℕ} {w n : ℕ} (k : TableRows t ss w n
   fits = rows-fit (T .width) (T .rows) (is .each)
 
   -- the plan that is written
-  pub plan-of : Followed kept 0 (T .width) (T .rows)
-  plan-of = followed kept 32 0 (T .width) (T .rows) fits (is .count .0)
+  pub plan-of : Followed kept (flagsIn (T .width) named) 0 (T .width) (T .rows)
+  plan-of = followed kept 32 (flagsIn (T .width) named) 0 (T .width) (T .rows) fits (is .count .0)
 
   few : length (write (plan-of .plan)) ≤ 6082
   few = size-bound (plan-of .plan) fits (is .count .0) (is .count .1)
 
   -- the first state, to be written from place 0 on
   pub record First (ms hs out : List ℕ) : Type 0 where
-    pub state : ToWrite t ss ms hs kept out 0 n w 0
+    pub state : ToWrite t ss ms hs kept out 0 n w named 0
     pub same : write (state .plan) ≡ write (plan-of .plan)
 
-  pub first-state : {ms hs out : List ℕ} → OpenRows ss n (length t) ms → length hs ≡ 64 → length kept ≡ 12288 → length out ≡ 6082
-      → First ms hs out
-  first-state {ms} {hs} {out} o lh lk lo =
+  pub first-state : {ms hs out : List ℕ} → OpenRows ss n (length t) ms → named < 2 ^ w → length hs ≡ 64 → length kept ≡ 12288
+      → length out ≡ 6082 → First ms hs out
+  first-state {ms} {hs} {out} o small lh lk lo =
       let r : rowsIn t ss ms 0 n ≡ T .rows = rows-open k o in
-      let p = same-plan (k .width) r kept (plan-of .plan) (plan-of .follows) in
+      let p = same-plan (k .width) r kept named (plan-of .plan) (plan-of .follows) in
       record {
         state = record {
           room = record { masks = o .size; column = lh; pairs = lk; cells = lo };
           some = few-rows k .0;
           few = few-rows k .1;
           rows = same-fits (k .width) r fits;
+          flags = small;
           plan = p .0;
           follows = p .1;
           fits = omega (arith, ap length (p .2), few);
@@ -69,7 +72,7 @@ module _ (kept : List ℕ) {t ss : List ℕ} {w n : ℕ} (k : TableRows t ss w n
       }
 
   pub planned : {ms hs out ms′ hs′ out′ : List ℕ} {size cost : ℕ} → length out ≡ 6082 → (s : First ms hs out)
-      → Written ms hs out ms′ hs′ out′ (write (s .state .plan)) n 0 size → cost ≡ getD kept (n - 1) 0 → Planned T kept out′ size cost
+      → Written ms hs out ms′ hs′ out′ (write (s .state .plan)) n 0 size → cost ≡ getD kept (n - 1) 0 → Planned T named kept out′ size cost
   planned {out = out} {out′ = out′} {size} {cost} lo s x e =
       let l : List ℕ = write (plan-of .plan) in
       let q : 0 + length l ≡ length l = omega arith in

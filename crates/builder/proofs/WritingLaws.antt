@@ -2,25 +2,30 @@
 use mathlib.Core.Path.{_≡_, refl, sym, ap, subst, _∙_}
 use mathlib.Core.Bool.{Bool, true, false, cond}
 use mathlib.Core.List.{List, [], _∷_, _++_}
-use Prim.Native.Nat.{ℕ, suc, _+_, _-_, _≤_, _<_, min}
+use Prim.Native.Nat.{ℕ, suc, _+_, _-_, _^_, _≤_, _<_, min}
 use native.Mathlib.Omega.{arith}
 use lib.ListN.{length, getD, set, length-set, length-append}
 use lib.Seq.{sets, length-sets}
 use Rattle.cell.specs.Cell.{arity}
+use Rattle.cell.proofs.CellLaws.{arity-small}
 use Rattle.term.proofs.Lists.{sets-sets}
 use Rattle.table.specs.All.{All}
 use Rattle.plan.specs.Runs.{Run, run, agree, runs}
 use Rattle.plan.specs.Plans.{Plan, leaf, node, Branches, end, next, write, writes}
+use Rattle.plan.specs.Named.{spread}
 use Rattle.plan.specs.code.Fits.{Fits}
 use Rattle.plan.proofs.RunsLaws.{fits-more, runs-fit}
 use Rattle.plan.proofs.PlansLaws.{leaf-cells}
 use Rattle.state.specs.Column.{breaks, runLength, runCount}
+use Rattle.state.specs.Flags.{flagsIn, spreadOf}
 use Rattle.state.specs.States.{rowsIn, columnIn, runsIn, Same, ClosedRows}
 use Rattle.state.proofs.RowsLaws.{rows-length, rows-kept, column-none, FirstRun, run-first, run-number}
 use Rattle.state.proofs.RowsLaws.{Closes, closes-of, runs-closed, same-self, same-then, same-later}
+use Rattle.state.proofs.FlagsLaws.{flags-below, few-below}
 use Rattle.least.specs.code.Follow.{taken, Follows, FollowsIn}
 use Rattle.least.proofs.FollowLaws.{taken-open}
 use Rattle.builder.specs.code.Writing.{ToWrite, ToWriteAll, Written}
+use Rattle.builder.proofs.ChooseLaws.{few-open}
 
 -- a state's own two cells, and those of its branches
 two-cells : (l xs ys cells : List ℕ) (at i n : ℕ) → xs ≡ ys → cells ≡ i ∷ (n ∷ ys)
@@ -38,42 +43,43 @@ three-cells l l₁ xs ys cells at m c e em ec =
     rw (e, em, ec, p) (sets-sets (set l at c) (suc at) xs ys)
 
 -- The plan that follows, by its first state: a leaf, or the place that is taken with the plans below its branches.
-module _ (kept : List ℕ) (first : ℕ) where
+module _ (kept : List ℕ) (fs : List Bool) (first : ℕ) where
   record Below (k i : ℕ) (rows : List (List ℕ)) (cells : List ℕ) : Type 0 where
     plans : Branches k (runs i rows)
-    follows : FollowsIn kept first plans
+    follows : FollowsIn kept fs i first plans
     cells-are : cells ≡ i ∷ (length (runs i rows) ∷ writes plans)
 
-  node-cells : {K : ℕ} {rows : List (List ℕ)} (p : Plan K rows) (k i : ℕ) → K ≡ suc k → Follows kept first p
-      → i ≡ taken kept first (suc k) rows → Below k i rows (write p)
+  node-cells : {K : ℕ} {rows : List (List ℕ)} (p : Plan K rows) (k i : ℕ) → K ≡ suc k → Follows kept fs first p
+      → i ≡ taken kept fs first (suc k) rows → Below k i rows (write p)
   unfolding write Follows
   node-cells leaf k i e f c = absurd (omega arith)
   node-cells (node {k = k′} {rows} j l bs) k i e f c =
       let ek : k′ ≡ k = omega arith in
-      let ij : j ≡ i = f .0 ∙ ap (λ (n : ℕ). taken kept first (suc n) rows) ek ∙ sym c in
+      let ij : j ≡ i = f .0 ∙ ap (λ (n : ℕ). taken kept fs first (suc n) rows) ek ∙ sym c in
       subst (λ (i : ℕ). Below k i rows (j ∷ (length (runs j rows) ∷ writes bs))) ij
       (rw (← ek) (record { plans = bs; follows = f .1; cells-are = refl }))
 
-  record NextPlan (k : ℕ) (g : Run) (gs : List Run) (cells : List ℕ) : Type 0 where
-    plan : Plan (arity (g .cell) + k) (g .rows)
-    follows : Follows kept first plan
-    plans : Branches k gs
-    all-follow : FollowsIn kept (first + length (g .rows)) plans
-    cells-are : cells ≡ g .cell ∷ (write plan ++ writes plans)
+  module _ (i : ℕ) where
+    record NextPlan (k : ℕ) (g : Run) (gs : List Run) (cells : List ℕ) : Type 0 where
+      plan : Plan (arity (g .cell) + k) (g .rows)
+      follows : Follows kept (spread i (arity (g .cell)) fs) first plan
+      plans : Branches k gs
+      all-follow : FollowsIn kept fs i (first + length (g .rows)) plans
+      cells-are : cells ≡ g .cell ∷ (write plan ++ writes plans)
 
-  next-plan : {k : ℕ} {gs : List Run} (bs : Branches k gs) (g : Run) (gs′ : List Run) → gs ≡ g ∷ gs′ → FollowsIn kept first bs
-      → NextPlan k g gs′ (writes bs)
-  unfolding write Follows
-  next-plan end g gs′ e b = let z : _≡_ {A = ℕ} 0 1 = cc in absurd (omega arith)
-  next-plan {k} (next {g = h} {gs = hs} p bs) g gs′ e b =
-      let eg : h ≡ g = cc in
-      let es : hs ≡ gs′ = cc in
-      rw (← eg, ← es) (record { plan = p; follows = b .0; plans = bs; all-follow = b .1; cells-are = refl })
+    next-plan : {k : ℕ} {gs : List Run} (bs : Branches k gs) (g : Run) (gs′ : List Run) → gs ≡ g ∷ gs′ → FollowsIn kept fs i first bs
+        → NextPlan k g gs′ (writes bs)
+    unfolding write Follows
+    next-plan end g gs′ e b = let z : _≡_ {A = ℕ} 0 1 = cc in absurd (omega arith)
+    next-plan {k} (next {g = h} {gs = hs} p bs) g gs′ e b =
+        let eg : h ≡ g = cc in
+        let es : hs ≡ gs′ = cc in
+        rw (← eg, ← es) (record { plan = p; follows = b .0; plans = bs; all-follow = b .1; cells-are = refl })
 
-  -- branches that follow, of runs that are the same
-  same-plans : {k : ℕ} {gs gs′ : List Run} → gs ≡ gs′ → (bs : Branches k gs) → FollowsIn kept first bs
-      → (cs : Branches k gs′) × FollowsIn kept first cs × (writes cs ≡ writes bs)
-  same-plans e bs f = rw (← e) (bs, f, refl)
+    -- branches that follow, of runs that are the same
+    same-plans : {k : ℕ} {gs gs′ : List Run} → gs ≡ gs′ → (bs : Branches k gs) → FollowsIn kept fs i first bs
+        → (cs : Branches k gs′) × FollowsIn kept fs i first cs × (writes cs ≡ writes bs)
+    same-plans e bs f = rw (← e) (bs, f, refl)
 
 no-plan : {k : ℕ} {gs : List Run} (bs : Branches k gs) → gs ≡ [] → writes bs ≡ []
 unfolding writes
@@ -81,7 +87,7 @@ no-plan end e = refl
 no-plan (next p bs) e = let z : _≡_ {A = ℕ} 0 1 = cc in absurd (omega arith)
 
 -- A leaf.
-module _ {t ss ms hs kept out : List ℕ} {first last k at : ℕ} (q : ToWrite t ss ms hs kept out first last k at) (z : k ≡ 0) where
+module _ {t ss ms hs kept out : List ℕ} {first last k named at : ℕ} (q : ToWrite t ss ms hs kept out first last k named at) (z : k ≡ 0) where
   leaf-is : write (q .plan) ≡ (last - first) ∷ []
   leaf-is = leaf-cells (q .plan) z ∙ rw (rows-length t ss ms (last - first) first)
 
@@ -92,14 +98,14 @@ module _ {t ss ms hs kept out : List ℕ} {first last k at : ℕ} (q : ToWrite t
   leaf-written = rw leaf-is (record { next-is = refl; out-is = refl; masks = same-self last ms; column = same-self last hs })
 
 -- An inner state: the place i is taken and closed, and the branches are next.
-pub record Inner (t ss ms hs kept out : List ℕ) (first last k at : ℕ) (ms₁ hs₁ out₁ cells : List ℕ) : Type 0 where
+pub record Inner (t ss ms hs kept out : List ℕ) (first last k named i at : ℕ) (ms₁ hs₁ out₁ cells : List ℕ) : Type 0 where
   pub room : at + 1 < 6082
-  pub ready : ToWriteAll t ss ms₁ hs₁ kept out₁ first last (k - 1) (at + 2)
+  pub ready : ToWriteAll t ss ms₁ hs₁ kept out₁ first last (k - 1) named i (at + 2)
   pub done : (ms₂ hs₂ out₂ : List ℕ) (m : ℕ) → Written ms₁ hs₁ out₁ ms₂ hs₂ out₂ (writes (ready .plans)) last (at + 2) m
       → Written ms hs out ms₂ hs₂ out₂ cells last at m
 
-module _ {t ss ms hs kept out : List ℕ} {first last k at : ℕ} (q : ToWrite t ss ms hs kept out first last k at) (ms₁ hs₁ : List ℕ) (i n : ℕ)
-    (some : 0 < k) (i-is : i ≡ taken kept first k (rowsIn t ss ms first last))
+module _ {t ss ms hs kept out : List ℕ} {first last k named at : ℕ} (q : ToWrite t ss ms hs kept out first last k named at) (ms₁ hs₁ : List ℕ)
+    (i n : ℕ) (some : 0 < k) (i-is : i ≡ taken kept (flagsIn k named) first k (rowsIn t ss ms first last))
     (closed : ClosedRows t ss ms hs ms₁ hs₁ i first (min last 64)) (n-is : n ≡ runCount (columnIn hs₁ first last)) where
   abbrev rows : List (List ℕ)
   rows = rowsIn t ss ms first last
@@ -110,26 +116,30 @@ module _ {t ss ms hs kept out : List ℕ} {first last k at : ℕ} (q : ToWrite t
   k-is : k ≡ suc (k - 1)
   k-is = omega arith
 
-  taken-here : i ≡ taken kept first (suc (k - 1)) rows
-  taken-here = rw k-is at i-is
+  abbrev fs : List Bool
+  fs = flagsIn k named
 
-  below : Below kept first (k - 1) i rows (write (q .plan))
-  below = node-cells kept first (q .plan) (k - 1) i k-is (q .follows) taken-here
+  taken-here : i ≡ taken kept fs first (suc (k - 1)) rows
+  taken-here = i-is ∙ ap (λ (m : ℕ). taken kept fs first m rows) k-is
+
+  open-here : i ≤ k - 1
+  open-here = omega (arith, taken-here, taken-open kept fs first (k - 1) rows)
+
+  below : Below kept fs first (k - 1) i rows (write (q .plan))
+  below = node-cells kept fs first (q .plan) (k - 1) i k-is (q .follows) taken-here
 
   each-fits : All (λ (g : Run). All (Fits 32 (arity (g .cell) + (k - 1))) (g .rows)) (runs i rows)
-  each-fits =
-      let l : i ≤ k - 1 = omega (arith, taken-here, taken-open kept first (k - 1) rows) in
-      runs-fit 32 (k - 1) i l rows (fits-more 32 (suc (k - 1)) rows (rw k-is at (q .rows)))
+  each-fits = runs-fit 32 (k - 1) i open-here rows (fits-more 32 (suc (k - 1)) rows (rw k-is at (q .rows)))
 
   runs-number : length (runs i rows) ≡ n
   runs-number =
       ap length (runs-closed closes)
       ∙ run-number t ss ms₁ hs₁ first last (omega (arith, q .room .column, closes .column .size, q .few)) ∙ sym n-is
 
-  all-ready : (r : ToWriteAll t ss ms₁ hs₁ kept (set (set out at i) (at + 1) n) first last (k - 1) (at + 2))
+  all-ready : (r : ToWriteAll t ss ms₁ hs₁ kept (set (set out at i) (at + 1) n) first last (k - 1) named i (at + 2))
       × (writes (r .plans) ≡ writes (below .plans))
   all-ready =
-      let x = same-plans kept first (runs-closed closes) (below .plans) (below .follows) in (
+      let x = same-plans kept fs first i (runs-closed closes) (below .plans) (below .follows) in (
         record {
           room = record {
             masks = closes .masks .size ∙ q .room .masks;
@@ -140,14 +150,17 @@ module _ {t ss ms hs kept out : List ℕ} {first last k at : ℕ} (q : ToWrite t
           order = omega (arith, q .some);
           few = q .few;
           each = rw (← (runs-closed closes)) each-fits;
+          place = open-here;
+          flags = subst (λ (m : ℕ). named < 2 ^ m) k-is (q .flags);
+          many = omega (arith, few-open t ss ms (q .rows) (q .some));
           plans = x .0;
-          follows = x .1;
+          follows = subst (λ (m : ℕ). FollowsIn kept (flagsIn m named) i first (x .0)) k-is (x .1);
           fits = omega (arith, q .fits, ap length (below .cells-are), ap length (x .2));
         },
         x .2,
       )
 
-  pub inner : Inner t ss ms hs kept out first last k at ms₁ hs₁ (set (set out at i) (at + 1) n) (write (q .plan))
+  pub inner : Inner t ss ms hs kept out first last k named i at ms₁ hs₁ (set (set out at i) (at + 1) n) (write (q .plan))
   inner = record {
     room = omega (arith, q .fits, ap length (below .cells-are));
     ready = all-ready .0;
@@ -161,30 +174,30 @@ module _ {t ss ms hs kept out : List ℕ} {first last k at : ℕ} (q : ToWrite t
   }
 
 -- The branches: those of the rows before `row` are written, and with those of the rows from it on they are all.
-pub record Going (t ss kept ms hs out : List ℕ) (last k at : ℕ) (cells ms₁ hs₁ out₁ : List ℕ) (row next : ℕ) : Type 0 where
-  pub rest : ToWriteAll t ss ms₁ hs₁ kept out₁ row last k next
+pub record Going (t ss kept ms hs out : List ℕ) (last k named i at : ℕ) (cells ms₁ hs₁ out₁ : List ℕ) (row next : ℕ) : Type 0 where
+  pub rest : ToWriteAll t ss ms₁ hs₁ kept out₁ row last k named i next
   pub out-is : sets out₁ next (writes (rest .plans)) ≡ sets out at cells
   pub next-is : next + length (writes (rest .plans)) ≡ at + length cells
   pub later : at ≤ next
   pub masks : Same last ms ms₁
   pub column : Same last hs hs₁
 
-pub going-start : {t ss ms hs kept out : List ℕ} {first last k at : ℕ} (q : ToWriteAll t ss ms hs kept out first last k at)
-    → Going t ss kept ms hs out last k at (writes (q .plans)) ms hs out first at
+pub going-start : {t ss ms hs kept out : List ℕ} {first last k named i at : ℕ} (q : ToWriteAll t ss ms hs kept out first last k named i at)
+    → Going t ss kept ms hs out last k named i at (writes (q .plans)) ms hs out first at
 going-start {ms = ms} {hs} {last = last} q =
     record { rest = q; out-is = refl; next-is = refl; later = omega arith; masks = same-self last ms; column = same-self last hs }
 
 -- the next branch: the state below it, and what is left once that is written
-pub record Branch (t ss kept ms hs out : List ℕ) (last k at : ℕ) (cells ms₁ hs₁ out₁ : List ℕ) (row next n c a : ℕ) : Type 0 where
+pub record Branch (t ss kept ms hs out : List ℕ) (last k named i at : ℕ) (cells ms₁ hs₁ out₁ : List ℕ) (row next n c a below-named : ℕ) : Type 0 where
   pub some : 0 < n
   pub few : row + n ≤ last
   pub room : next < 6082
-  pub below : ToWrite t ss ms₁ hs₁ kept (set out₁ next c) row (row + n) (a + k) (next + 1)
+  pub below : ToWrite t ss ms₁ hs₁ kept (set out₁ next c) row (row + n) (a + k) below-named (next + 1)
   pub on : (ms₂ hs₂ out₂ : List ℕ) (m : ℕ) → Written ms₁ hs₁ (set out₁ next c) ms₂ hs₂ out₂ (write (below .plan)) (row + n) (next + 1) m
-      → Going t ss kept ms hs out last k at cells ms₂ hs₂ out₂ (row + n) m
+      → Going t ss kept ms hs out last k named i at cells ms₂ hs₂ out₂ (row + n) m
 
-module _ {t ss kept ms hs out : List ℕ} {last k at : ℕ} {cells ms₁ hs₁ out₁ : List ℕ} {row next : ℕ}
-    (g : Going t ss kept ms hs out last k at cells ms₁ hs₁ out₁ row next) where
+module _ {t ss kept ms hs out : List ℕ} {last k named i at : ℕ} {cells ms₁ hs₁ out₁ : List ℕ} {row next : ℕ}
+    (g : Going t ss kept ms hs out last k named i at cells ms₁ hs₁ out₁ row next) where
   pub going-done : last ≤ row → Written ms hs out ms₁ hs₁ out₁ cells last at next
   going-done h =
       let e : row ≡ last = omega (arith, g .rest .order) in
@@ -210,13 +223,20 @@ module _ {t ss kept ms hs out : List ℕ} {last k at : ℕ} {cells ms₁ hs₁ o
     runs-are : runsIn t ss ms₁ hs₁ row last ≡ here ∷ others
     runs-are = rw ec (first-run .runs)
 
-    plan : NextPlan kept row k here others (writes (g .rest .plans))
-    plan = next-plan kept row (g .rest .plans) here others runs-are (g .rest .follows)
+    -- the flags of the state whose branches these are
+    abbrev fs-here : List Bool
+    fs-here = flagsIn (suc k) named
+
+    plan : NextPlan kept fs-here row i k here others (writes (g .rest .plans))
+    plan = next-plan kept fs-here row i (g .rest .plans) here others runs-are (g .rest .follows)
 
     each : All (λ (r : Run). All (Fits 32 (arity (r .cell) + k)) (r .rows)) (here ∷ others)
     each = rw runs-are at (g .rest .each)
 
-    state-below : ToWrite t ss ms₁ hs₁ kept (set out₁ next c) row (row + n) (arity c + k) (next + 1)
+    args-few : arity c < 5
+    args-few = omega (arith, arity-small c)
+
+    state-below : ToWrite t ss ms₁ hs₁ kept (set out₁ next c) row (row + n) (arity c + k) (spreadOf named i (arity c)) (next + 1)
     state-below = record {
       room = record {
         masks = g .rest .room .masks;
@@ -227,19 +247,20 @@ module _ {t ss kept ms hs out : List ℕ} {last k at : ℕ} {cells ms₁ hs₁ o
       some = omega (arith, first-run .some);
       few = omega (arith, first-run .few, g .rest .few);
       rows = each .0;
+      flags = few-below named i (arity c) k (g .rest .flags) (g .rest .many) (g .rest .place) args-few;
       plan = plan .plan;
-      follows = plan .follows;
+      follows = rw (flags-below named i (arity c) k (g .rest .flags) (g .rest .many) (g .rest .place) args-few) (plan .follows);
       fits = omega (arith, g .rest .fits, ap length (plan .cells-are), length-append (write (plan .plan)) (writes (plan .plans)));
     }
 
     -- what is left once the state below is written
     left-over : {ms₂ hs₂ out₂ : List ℕ} {m : ℕ} → Written ms₁ hs₁ (set out₁ next c) ms₂ hs₂ out₂ (write (plan .plan)) (row + n) (next + 1) m
-        → (r : ToWriteAll t ss ms₂ hs₂ kept out₂ (row + n) last k m) × (writes (r .plans) ≡ writes (plan .plans))
+        → (r : ToWriteAll t ss ms₂ hs₂ kept out₂ (row + n) last k named i m) × (writes (r .plans) ≡ writes (plan .plans))
     left-over {ms₂} {hs₂} {out₂} {m} x =
         let same : others ≡ runsIn t ss ms₂ hs₂ (row + n) last =
         rw (x .column .after, rows-kept t ss ms₁ ms₂ (last - (row + n)) (row + n) (x .masks .after)) in
         let many : length (rowsIn t ss ms₁ row (row + n)) ≡ n = rows-length t ss ms₁ (row + n - row) row ∙ omega arith in
-        let y = same-plans kept (row + n) same (plan .plans) (rw many at (plan .all-follow)) in
+        let y = same-plans kept fs-here (row + n) i same (plan .plans) (rw many at (plan .all-follow)) in
         let size : length out₂ ≡ 6082 =
         ap length (x .out-is) ∙ length-sets (set out₁ next c) (next + 1) (write (plan .plan))
         ∙ length-set out₁ next c ∙ g .rest .room .cells in
@@ -254,6 +275,9 @@ module _ {t ss kept ms hs out : List ℕ} {last k at : ℕ} {cells ms₁ hs₁ o
             order = first-run .few;
             few = g .rest .few;
             each = rw (← same) (each .1);
+            place = g .rest .place;
+            flags = g .rest .flags;
+            many = g .rest .many;
             plans = y .0;
             follows = y .1;
             fits = omega (arith, g .rest .fits, x .next-is, ap length (plan .cells-are), ap length (y .2));
@@ -262,7 +286,7 @@ module _ {t ss kept ms hs out : List ℕ} {last k at : ℕ} {cells ms₁ hs₁ o
         )
 
     go-on : {ms₂ hs₂ out₂ : List ℕ} {m : ℕ} → Written ms₁ hs₁ (set out₁ next c) ms₂ hs₂ out₂ (write (plan .plan)) (row + n) (next + 1) m
-        → Going t ss kept ms hs out last k at cells ms₂ hs₂ out₂ (row + n) m
+        → Going t ss kept ms hs out last k named i at cells ms₂ hs₂ out₂ (row + n) m
     go-on {ms₂} {hs₂} {out₂} {m} x =
         let y = left-over x in
         let w = length-append (write (plan .plan)) (writes (plan .plans)) in
@@ -276,9 +300,10 @@ module _ {t ss kept ms hs out : List ℕ} {last k at : ℕ} {cells ms₁ hs₁ o
           column = same-then last (g .column) (same-later (row + n) last (first-run .few) (x .column));
         }
 
-    pub branch : (a : ℕ) → a ≡ arity c → Branch t ss kept ms hs out last k at cells ms₁ hs₁ out₁ row next n c a
+    pub branch : (a m : ℕ) → a ≡ arity c → m ≡ spreadOf named i a
+        → Branch t ss kept ms hs out last k named i at cells ms₁ hs₁ out₁ row next n c a m
     unfolding state-below
-    branch a ea = rw ea (record {
+    branch a m ea em = rw (em, ea) (record {
       some = first-run .some;
       few = first-run .few;
       room = omega (arith, g .rest .fits, ap length (plan .cells-are));

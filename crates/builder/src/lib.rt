@@ -2,8 +2,8 @@
 mod writer;
 
 ghost use mathlib.Core.Path.{_≡_};
-ghost use mathlib.Core.List.{_++_};
-ghost use Prim.Native.Nat.{_≤_};
+ghost use mathlib.Core.List.{List, [], _++_};
+ghost use Prim.Native.Nat.{ℕ, _≤_};
 ghost use lib.ListN.{length, take, drop};
 ghost use Rattle.builder.specs.Build.{BuiltInto, BuiltFrom};
 ghost use Rattle.least.specs.declared.By.{By};
@@ -12,8 +12,11 @@ use least::By;
 use refusal::Input;
 use refusal::Reason;
 use refusal::Refusal;
+use state::flags::Named;
+use state::flags::named_of;
 use table::TableAnswer;
 use table::TableRead;
+use writer::Extent;
 
 // The number of cells of the plan that is built and its cost, or why the figure, the table or the room is turned away.
 pub enum BuildAnswer {
@@ -33,54 +36,82 @@ fn copy(from: &[u32; 6082], size: usize, room: &mut [u32])
     }
 }
 
-// The same where there is room for them; where there is not, nothing is written.
-fn put(from: &[u32; 6082], size: usize, room: &mut [u32]) -> bool
-    requires { ⌜ (size ≤ 6082) × (size ≤ length (now from)) ⌝ }
-    ensures { λ r. ⌜ Put (now (from .entry)) size (now (room .entry)) (now (room .exit)) r ⌝ }
+// The answer for a plan that was written: its cells go to the front of the room where they fit; where they do not it is ROOM,
+// and nothing is written.
+fn put(from: &[u32; 6082], plan: Extent, room: &mut [u32]) -> BuildAnswer
+    requires { ⌜ (plan .cells ≤ 6082) × (plan .cells ≤ length (now from)) ⌝ }
+    ensures { λ r. ⌜ Put (now (from .entry)) (plan .cells) (plan .cost) (now (room .entry)) (now (room .exit)) r ⌝ }
 {
+    let size = plan.cells;
+    let cost = plan.cost as usize;
     if room.len() < size {
-        return false;
+        return BuildAnswer::Refused(Refusal {
+            reason: Reason::Room,
+            input: Input::Lent,
+            place: size,
+        });
     }
     copy(from, size, room);
-    true
+    BuildAnswer::Built(size, cost)
 }
 
 // The plan of a table that was read, from what is kept for its pairs of rows, into any room. It is written beside the room
-// first, since its size is known only then.
-fn build(cells: &[u32], read: TableRead, kept: &[u32], room: &mut [u32]) -> BuildAnswer
-    requires { ⌜ Known (now cells) read × (length (now kept) ≡ 12288) ⌝ }
-    ensures { λ r. ⌜ ((by : By) → Right by (now (cells .entry)) read (now (kept .entry))
-        → BuiltInto by (now (cells .entry)) (now (room .entry)) (now (room .exit)) r) ⌝ }
+// first, since its size is known only then. COLUMN is seen here, by the width that was read.
+fn build(
+    cells: &[u32],
+    read: TableRead,
+    named: Named,
+    kept: &[u32],
+    room: &mut [u32],
+) -> BuildAnswer
+    requires { ⌜ Known (now cells) read named × (length (now kept) ≡ 12288) ⌝ }
+    ensures { λ r. ⌜ ((by : By) (columns : List ℕ) → Right by columns (now (cells .entry)) read named (now (kept .entry))
+        → BuiltInto by columns (now (cells .entry)) (now (room .entry)) (now (room .exit)) r) ⌝ }
 {
     let answer = read.answer;
     match answer {
         TableAnswer::Accepted(width, count) => {
+            if width < named.past {
+                return BuildAnswer::Refused(Refusal {
+                    reason: Reason::Column,
+                    input: Input::Columns,
+                    place: 0,
+                });
+            }
             let starts = read.starts;
             let mut written = [0; 6082];
-            let plan = writer::write_plan(cells, &starts, kept, &mut written, width, count);
-            let size = plan.cells;
-            let cost = plan.cost as usize;
-            if put(&written, size, room) {
-                BuildAnswer::Built(size, cost)
-            } else {
-                BuildAnswer::Refused(Refusal {
-                    reason: Reason::Room,
-                    input: Input::Lent,
-                    place: size,
-                })
-            }
+            let plan = writer::write_plan(
+                cells,
+                &starts,
+                kept,
+                &mut written,
+                named.mask,
+                width,
+                count,
+            );
+            put(&written, plan, room)
         }
         TableAnswer::Refused(f) => BuildAnswer::Refused(f),
     }
 }
 
-// The builder's plan by a measure for any cells, into any room.
-pub fn build_plan(by: By, cells: &[u32], room: &mut [u32]) -> BuildAnswer
-    ensures { λ r. ⌜ BuiltInto by (now (cells .entry)) (now (room .entry)) (now (room .exit)) r ⌝ }
+// The builder's plan by a measure for any cells, among the plans that look into named columns first (02, W-213), into any
+// room. The columns are numbers from 0 in any order, and repeats are allowed; with none every plan is of this kind.
+pub fn build_for(by: By, columns: &[u32], cells: &[u32], room: &mut [u32]) -> BuildAnswer
+    ensures { λ r. ⌜ BuiltInto by (now (columns .entry)) (now (cells .entry)) (now (room .entry)) (now (room .exit)) r ⌝ }
 {
+    let named = named_of(columns);
     let mut kept = [0; 12288];
-    let read = entries::fill(by, cells, &mut kept[..], 64, 0);
-    build(cells, read, &kept[..], room)
+    let read = entries::fill(by, named.mask, cells, &mut kept[..], 64, 0);
+    build(cells, read, named, &kept[..], room)
+}
+
+// The same with no column named.
+pub fn build_plan(by: By, cells: &[u32], room: &mut [u32]) -> BuildAnswer
+    ensures { λ r. ⌜ BuiltInto by [] (now (cells .entry)) (now (room .entry)) (now (room .exit)) r ⌝ }
+{
+    let none = &cells[0..0];
+    build_for(by, none, cells, room)
 }
 
 // The same for the table of a record, by its figure (02, W-207). The table is read again, so that its rows are right whatever
@@ -91,5 +122,5 @@ pub fn build_from(rec: &[u32; 14340], room: &mut [u32]) -> BuildAnswer
     let cells = record::table_of(rec);
     let read = table::read_table(cells);
     let all = &rec[..];
-    build(cells, read, &all[2052..], room)
+    build(cells, read, Named { mask: 0, past: 0 }, &all[2052..], room)
 }

@@ -2,12 +2,13 @@
 // table's entries (01, "The builder's plan is fixed"). A row in a state is a mask of its open cells, as in the check.
 ghost use mathlib.Core.Path.{_≡_};
 ghost use mathlib.Core.List.{map};
-ghost use Prim.Native.Nat.{_+_, _-_, _≤_, _<_};
+ghost use Prim.Native.Nat.{_+_, _-_, _^_, _≤_, _<_};
 ghost use lib.Dec.{eqb};
 ghost use lib.ListN.{length};
 ghost use Rattle.term.specs.Terms.{root};
 ghost use Rattle.plan.specs.Plans.{write, writes};
 ghost use Rattle.state.specs.Column.{runCount};
+ghost use Rattle.state.specs.Flags.{flagsIn};
 ghost use Rattle.state.specs.States.{rowsIn};
 ghost use Rattle.state.specs.code.First.{TableRows};
 ghost use Rattle.least.specs.code.Follow as follow;
@@ -15,18 +16,23 @@ ghost use Rattle.builder.specs.code.Writing.{ToWrite, ToWriteAll, Writte
 use state::column::run_count;
 use state::column::run_length;
 use state::column::same_symbol;
+use state::flags::may;
+use state::flags::spread;
 use state::mask::close_at;
 use state::mask::close_rows;
 use state::mask::open_rows;
 
-// The rows of a state, from first to before end, and how many places are open in each.
+// The rows of a state, from first to before end, how many places are open in each, and which of these are inside a named
+// column: bit i for place i.
 struct Rows {
     first: usize,
     end: usize,
     opens: usize,
+    named: u64,
 }
 
-// All rows agree at place i: each holds the symbol of the row before it.
+// All rows agree at place i: each holds the symbol of the row before it. A single row, which most states have, agrees with
+// itself everywhere, and is not looked at.
 fn agreed_at(
     table: &[u32],
     starts: &[usize; 64],
@@ -40,6 +46,9 @@ fn agreed_at(
         (rowsIn (now (table .entry)) (now (starts .entry)) (now (masks .entry)) first end))) 1 ⌝ }
 {
     let mut row = first + 1;
+    if row == end {
+        return true;
+    }
     let mut cell = close_at(table, starts[first], masks[first], i).cell;
     while row < end {
         let next = close_at(table, starts[row], masks[row], i).cell;
@@ -59,15 +68,17 @@ fn within(place: u32, opens: usize) -> u32
     if (place as usize) < opens { place } else { 0 }
 }
 
-// The place that is taken at a state: the leftmost that all rows agree on, otherwise the one kept for its first and last row.
+// The place that is taken at a state: the leftmost that may be chosen and that all rows agree on, otherwise the one kept for its
+// first and last row. While a place inside a named column is open, an agreed place outside them is passed over.
 fn choose(table: &[u32], starts: &[usize; 64], masks: &[u32; 64], kept: &[u32], rows: Rows) -> u32
-    requires { ⌜ (rows .first < rows .end) × (rows .end ≤ 64) × (rows .opens ≤ 32) × (length (now kept) ≡ 12288) ⌝ }
-    ensures { λ r. ⌜ r ≡ follow.taken (now (kept .entry)) (rows .first) (rows .opens)
+    requires { ⌜ (rows .first < rows .end) × (rows .end ≤ 64) × (rows .opens ≤ 32) × (rows .named < 2 ^ rows .opens)
+        × (length (now kept) ≡ 12288) ⌝ }
+    ensures { λ r. ⌜ r ≡ follow.taken (now (kept .entry)) (flagsIn (rows .opens) (rows .named)) (rows .first) (rows .opens)
         (rowsIn (now (table .entry)) (now (starts .entry)) (now (masks .entry)) (rows .first) (rows .end)) ⌝ }
 {
     let mut i: u32 = 0;
     while (i as usize) < rows.opens {
-        if agreed_at(table, starts, masks, i, rows.first, rows.end) {
+        if may(rows.named, i) && agreed_at(table, starts, masks, i, rows.first, rows.end) {
             return i;
         }
         i += 1;
@@ -89,15 +100,16 @@ fn state(
     at: usize,
 ) -> usize
     requires { ⌜ ToWrite (now table) (now starts) (now masks) (now column) (now kept) (now out)
-        (rows .first) (rows .end) (rows .opens) at ⌝ }
+        (rows .first) (rows .end) (rows .opens) (rows .named) at ⌝ }
     ensures { λ r. ⌜ ((q : ToWrite (now (table .entry)) (now (starts .entry)) (now (masks .entry)) (now (column .entry))
-        (now (kept .entry)) (now (out .entry)) (rows .first) (rows .end) (rows .opens) at)
+        (now (kept .entry)) (now (out .entry)) (rows .first) (rows .end) (rows .opens) (rows .named) at)
         → Written (now (masks .entry)) (now (column .entry)) (now (out .entry))
         (now (masks .exit)) (now (column .exit)) (now (out .exit)) (write (q .plan)) (rows .end) at r) ⌝ }
 {
     let first = rows.first;
     let end = rows.end;
     let opens = rows.opens;
+    let named = rows.named;
     if opens == 0 {
         out[at] = (end - first) as u32;
         return at + 1;
@@ -113,12 +125,13 @@ fn state(
         first,
         end,
         opens: opens - 1,
+        named,
     };
-    branches(table, starts, masks, column, kept, out, others, at + 2)
+    branches(table, starts, masks, column, kept, out, others, i, at + 2)
 }
 
-// The branches from a place on, one for each run of the rows whose place is closed; below each, these places are open beside
-// its symbol's arguments.
+// The branches from a place on, one for each run of the rows whose open place i is closed; below each, these places are open
+// beside its symbol's arguments. The flags are those of the state, place i among them.
 fn branches(
     table: &[u32],
     starts: &[usize; 64],
@@ -127,12 +140,13 @@ fn branches(
     kept: &[u32],
     out: &mut [u32; 6082],
     rows: Rows,
+    i: u32,
     at: usize,
 ) -> usize
     requires { ⌜ ToWriteAll (now table) (now starts) (now masks) (now column) (now kept) (now out)
-        (rows .first) (rows .end) (rows .opens) at ⌝ }
+        (rows .first) (rows .end) (rows .opens) (rows .named) i at ⌝ }
     ensures { λ r. ⌜ ((q : ToWriteAll (now (table .entry)) (now (starts .entry)) (now (masks .entry)) (now (column .entry))
-        (now (kept .entry)) (now (out .entry)) (rows .first) (rows .end) (rows .opens) at)
+        (now (kept .entry)) (now (out .entry)) (rows .first) (rows .end) (rows .opens) (rows .named) i at)
         → Written (now (masks .entry)) (now (column .entry)) (now (out .entry))
         (now (masks .exit)) (now (column .exit)) (now (out .exit)) (writes (q .plans)) (rows .end) at r) ⌝ }
 {
@@ -144,10 +158,12 @@ fn branches(
         let n = run_length(&cells[row..end]);
         let c = column[row];
         out[next] = c;
+        let args = cell::arity_of(c);
         let below = Rows {
             first: row,
             end: row + n,
-            opens: cell::arity_of(c) + rows.opens,
+            opens: args + rows.opens,
+            named: spread(rows.named, i, args),
         };
         next = state(table, starts, masks, column, kept, out, below, next + 1);
         row += n;
@@ -161,19 +177,21 @@ pub struct Extent {
     pub cost: u32,
 }
 
-// The plan of a table's rows, to the front of the cells lent: the first state, with all rows and the width's arguments open.
-// What it costs is kept for the pair of the first row and the last.
+// The plan of a table's rows, to the front of the cells lent: the first state, with all rows and the width's arguments open,
+// the named ones among them as bits. What it costs is kept for the pair of the first row and the last.
 pub fn write_plan(
     table: &[u32],
     starts: &[usize; 64],
     kept: &[u32],
     out: &mut [u32; 6082],
+    named: u64,
     width: usize,
     count: usize,
 ) -> Extent
-    requires { ⌜ TableRows (now table) (now starts) width count × (length (now kept) ≡ 12288) × (length (now out) ≡ 6082) ⌝ }
+    requires { ⌜ TableRows (now table) (now starts) width count × (named < 2 ^ width) × (length (now kept) ≡ 12288)
+        × (length (now out) ≡ 6082) ⌝ }
     ensures { λ r. ⌜ ((k : TableRows (now (table .entry)) (now (starts .entry)) width count)
-        → Planned (k .table) (now (kept .entry)) (now (out .exit)) (r .cells) (r .cost)) ⌝ }
+        → Planned (k .table) named (now (kept .entry)) (now (out .exit)) (r .cells) (r .cost)) ⌝ }
 {
     let mut masks = open_rows(starts, count, table.len());
     let mut column = [0u32; 64];
@@ -181,6 +199,7 @@ pub fn write_plan(
         first: 0,
         end: count,
         opens: width,
+        named,
     };
     let cells = state(
         table,

@@ -12,7 +12,7 @@ use Rattle.refusal.specs.Read.{Read, read}
 use Rattle.table.proofs.ReadLaws as reading
 use Rattle.table.proofs.ReadLaws.{passed}
 use Rattle.table.proofs.Accepted.{table-short}
-use Rattle.plan.specs.Check.{planOf, planFor}
+use Rattle.plan.specs.Check.{planOf, planFor, planWith}
 use Rattle.table.specs.Table.{Table, tableOf}
 use Rattle.octets.specs.Octets.{cellsOf, bytesOf, Bytes, Words}
 use Rattle.octets.proofs.BytesLaws.{bytes-count, cells-back, bytes-back}
@@ -26,7 +26,7 @@ use Rattle.filing.proofs.FileLaws.{sizes-are, rest-is, table-is, plan-i
 
 -- the sizes of what the check accepts
 pub accepted-sizes : (t p : List ℕ) {n : ℕ} → planOf t p ≡ read n → (length t ≤ 2050) × (length p ≤ 6082)
-unfolding planFor
+unfolding planWith
 accepted-sizes t p e =
     let a = reading.first (tableOf t) (λ (T : Table). planFor T p) e in
     let b = passed (ltb 6082 (length p)) _ _ (a .2) in

@@ -26,13 +26,15 @@ use Rattle.plan.proofs.NotesLaws.{notes-fit}
 use Rattle.plan.proofs.PlansLaws.{plan-tells, cost-plain}
 use Rattle.plan.proofs.SizeLaws.{bound, size-bound}
 use Rattle.plan.proofs.CheckLaws.{accepted, rows-fit}
-use Rattle.least.specs.Measures.{costBy, tableBy}
+use Rattle.least.specs.Measures.{costBy}
 use Rattle.least.specs.declared.By.the-variants as by
 use Rattle.least.proofs.Measured.{by-table}
 use Rattle.least.proofs.Later.{from-plain}
-use Rattle.builder.specs.Build.{BuiltInto, table-refused, room-refused, built, buildTold}
+use Rattle.builder.specs.Build.{tableFor, BuiltInto, table-refused, room-refused, built, buildTold}
 use Rattle.builder.specs.declared.BuildAnswer.{BuildAnswer}
 use Rattle.builder.specs.declared.BuildAnswer.the-variants as build-answer
+use Rattle.builder.proofs.AskedLaws.{plain-table}
+use Rattle.builder.proofs.ColumnsLaws.{plain-built}
 use Rattle.listing.specs.Listing.{header, listingOf, unread}
 use Rattle.listing.specs.code.Walk.{sizes, Ready, Walked, Planned}
 use Rattle.listing.specs.declared.walk.Stand.{Stand}
@@ -109,15 +111,15 @@ module _ {t plan : List ℕ} {costs : ℕ} where
       }
 
 -- the builder's answer, with room for any plan: the builder's plan of a table that is read, or the table's refusal
-module _ {t room room′ : List ℕ} {r : BuildAnswer} (b : BuiltInto by.Branches t room room′ r) (enough : length room ≡ 6082) where
-  -- 01's measure has no figure to refuse
-  reads : tableOf t ≡ tableBy by.Branches t
-  reads = sym (by-table by.Branches t (omega arith))
+module _ {t room room′ : List ℕ} {r : BuildAnswer} (b : BuiltInto by.Branches [] t room room′ r) (enough : length room ≡ 6082) where
+  -- 01's measure has no figure to refuse, and no column is named
+  reads : tableOf t ≡ tableFor by.Branches [] t
+  reads = sym (plain-table by.Branches t ∙ by-table by.Branches t (omega arith))
 
   pub plan-built : (n costs : ℕ) → r ≡ build-answer.Built n costs → (n ≤ length room′) × Planned t (take n room′) costs
   plan-built n costs e = go b
     where
-      go : BuiltInto by.Branches t room room′ r → (n ≤ length room′) × Planned t (take n room′) costs
+      go : BuiltInto by.Branches [] t room room′ r → (n ≤ length room′) × Planned t (take n room′) costs
       go (table-refused f x a s) = let z : _≡_ {A = ℕ} 0 1 = cc in absurd (omega arith)
       go (room-refused T tree x y l a s) = let z : _≡_ {A = ℕ} 0 1 = cc in absurd (omega arith)
       go (built T tree x y least l a s) =
@@ -129,7 +131,7 @@ module _ {t room room′ : List ℕ} {r : BuildAnswer} (b : BuiltInto by.Branche
               table = T;
               tree = tree;
               reads = reads ∙ x;
-              built = y;
+              built = plain-built plain tree y;
               cells = rw (m, s) (take-append-seam (write tree) (drop (length (write tree)) room));
               costs-it = c ∙ from-plain tree [] ∙ sym (cost-plain tree);
             },
@@ -138,7 +140,7 @@ module _ {t room room′ : List ℕ} {r : BuildAnswer} (b : BuiltInto by.Branche
   pub plan-refused : (f : Refusal) → r ≡ build-answer.Refused f → tableOf t ≡ refuse (told f)
   plan-refused f e = go b
     where
-      go : BuiltInto by.Branches t room room′ r → tableOf t ≡ refuse (told f)
+      go : BuiltInto by.Branches [] t room room′ r → tableOf t ≡ refuse (told f)
       go (table-refused g x a s) =
           let d : turned (told f) ≡ turned g = ap buildTold (sym e) ∙ a in
           let q : told f ≡ g = cc in

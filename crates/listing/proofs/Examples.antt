@@ -47,14 +47,14 @@ some : 0 < length (example .rows)
 unfolding example
 some = omega arith
 
-cells-are : write tree ≡ planCells plain 2 (example .width) (example .rows)
+cells-are : write tree ≡ planCells plain 2 [] (example .width) (example .rows)
 unfolding tree example write planCells place runCells best total argmin root close agree arity valuesAt isVar
 cells-are = refl
 
-pub built : Built plain tree
+pub built : Built plain [] tree
 built =
-    let b = plan-built plain plain-light 2 (example .width) (example .rows) fits some in
-    subst (λ (p : Plan (example .width) (example .rows)). Built plain p) (write-one (b .plan) tree (b .writes-it ∙ sym cells-are)) (b .built)
+    let b = plan-built plain plain-light 2 [] (example .width) (example .rows) (omega arith) fits some in
+    subst (λ (p : Plan (example .width) (example .rows)). Built plain [] p) (write-one (b .plan) tree (b .writes-it ∙ sym cells-are)) (b .built)
 
 -- rows 2 width 2 edges 3
 -- 0 0 n1/0 0-1

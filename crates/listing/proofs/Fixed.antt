@@ -1,6 +1,6 @@
 -- Any bytes have one listing, and what is written of it is fixed: how many bytes, and every byte of the room.
 use mathlib.Core.Path.{_≡_, refl, sym, ap, pathJ, _∙_}
-use mathlib.Core.List.{List}
+use mathlib.Core.List.{List, []}
 use Prim.Native.Nat.{ℕ}
 use native.Mathlib.Omega.{arith}
 use Rattle.table.specs.Table.{Table}
@@ -12,12 +12,12 @@ use Rattle.printing.specs.Printing.{Written}
 use Rattle.printing.proofs.Fixed.{written-fixed}
 use Rattle.listing.specs.Listing.{listingOf, ListsTable, refused, listed, Lists, no-cells, cells}
 
-listing-one : (T : Table) (p : Plan (T .width) (T .rows)) → Built plain p → (T′ : Table) → T ≡ T′ → (q : Plan (T′ .width) (T′ .rows)) → Built plain q
+listing-one : (T : Table) (p : Plan (T .width) (T .rows)) → Built plain [] p → (T′ : Table) → T ≡ T′ → (q : Plan (T′ .width) (T′ .rows)) → Built plain [] q
     → listingOf T p ≡ listingOf T′ q
 listing-one T p b T′ e =
     pathJ
-    (λ (T′ : Table) (e : T ≡ T′). (q : Plan (T′ .width) (T′ .rows)) → Built plain q → listingOf T p ≡ listingOf T′ q)
-    (λ q c. ap (listingOf T) (built-one plain p q b c))
+    (λ (T′ : Table) (e : T ≡ T′). (q : Plan (T′ .width) (T′ .rows)) → Built plain [] q → listingOf T p ≡ listingOf T′ q)
+    (λ q c. ap (listingOf T) (built-one plain [] p q b c))
     e
 
 table-one : (t : List ℕ) {x y : List ℕ} → ListsTable t x → ListsTable t y → x ≡ y

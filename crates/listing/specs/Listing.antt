@@ -54,7 +54,7 @@ listingOf T tree = header (length (T .rows)) (T .width) (cost plain tree) ++ lin
 -- the listing of a table's cells: 01's line for a refusal; otherwise the header and the lines of the builder's plan, of which there is one
 pub data ListsTable (t : List ℕ) : List ℕ → Type 0 where
   refused : (f : Refused) → tableOf t ≡ refuse f → ListsTable t (refusal (f .number) (f .place))
-  listed : (T : Table) (tree : Plan (T .width) (T .rows)) → tableOf t ≡ read T → Built plain tree
+  listed : (T : Table) (tree : Plan (T .width) (T .rows)) → tableOf t ≡ read T → Built plain [] tree
       → ListsTable t (listingOf T tree)
 
 -- 01, "bytes not a multiple of four, or over 8,200"

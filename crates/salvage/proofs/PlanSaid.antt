@@ -2,7 +2,7 @@
 use Prim.Native.Nat.{ℕ, _+_, _-_, _*_, _/_, _%_, _≤_, _<_, min}
 use mathlib.Core.Path.{_≡_, refl, sym, _∙_, ap, subst}
 use mathlib.Core.Bool.{Bool, true, false}
-use mathlib.Core.List.{List}
+use mathlib.Core.List.{List, []}
 use native.Mathlib.Omega.{arith}
 use lib.ListN.{length, take, drop, length-append}
 use lib.Seq.{sets, length-sets, take-at}
@@ -19,10 +19,12 @@ use Rattle.checker.specs.Checked.{planTold, planSays}
 use Rattle.checker.specs.declared.PlanAnswer.{PlanAnswer}
 use Rattle.checker.specs.declared.PlanAnswer.the-variants as plan-answer
 use Rattle.checker.proofs.SaidLaws.{said-read, said-refused}
-use Rattle.least.specs.Measures.{costBy, tableBy}
+use Rattle.least.specs.Measures.{work, costBy, tableBy}
 use Rattle.least.specs.declared.By.the-variants.{Work}
 use Rattle.least.proofs.Measured.{by-table}
-use Rattle.builder.specs.Build.{BuiltInto, table-refused, room-refused, built, buildTold}
+use Rattle.builder.proofs.AskedLaws.{plain-table}
+use Rattle.builder.proofs.ColumnsLaws.{plain-built}
+use Rattle.builder.specs.Build.{tableFor, BuiltInto, table-refused, room-refused, built, buildTold}
 use Rattle.builder.specs.declared.BuildAnswer.{BuildAnswer}
 use Rattle.builder.specs.declared.BuildAnswer.the-variants as build-answer
 use Rattle.octets.specs.Octets.{fitting}
@@ -110,10 +112,10 @@ module _ {file : List ℕ} {top : Top} (t : TopIs file top) where
   -- a new one
   module _ {cells table : List ℕ} {b : Bool} (o : OwnPlan file top cells b) (no : b ≡ false) (is : table ≡ keptCells file)
       (size : length cells ≡ 6207) where
-    reads : tableBy (Work 0) table ≡ tableOf (keptCells file)
-    reads = ap (tableBy (Work 0)) is ∙ by-table (Work 0) (keptCells file) (omega arith)
+    reads : tableFor (Work 0) [] table ≡ tableOf (keptCells file)
+    reads = plain-table (Work 0) table ∙ ap (tableBy (Work 0)) is ∙ by-table (Work 0) (keptCells file) (omega arith)
 
-    pub new-laid : {cells′ : List ℕ} {r : BuildAnswer} {n cost : ℕ} → BuiltInto (Work 0) table cells cells′ r → r ≡ build-answer.Built n cost
+    pub new-laid : {cells′ : List ℕ} {r : BuildAnswer} {n cost : ℕ} → BuiltInto (Work 0) [] table cells cells′ r → r ≡ build-answer.Built n cost
         → PlanLaid file cells′ (record { keeps = false; start = 0; end = n })
     new-laid (table-refused f x a s) e = let z : _≡_ {A = ℕ} 0 1 = cc in absurd (omega arith)
     new-laid (room-refused T p x y l a s) e = let z : _≡_ {A = ℕ} 0 1 = cc in absurd (omega arith)
@@ -127,10 +129,10 @@ module _ {file : List ℕ} {top : Top} (t : TopIs file top) where
         record {
           order = omega arith;
           within = omega (arith, q, ap length s, length-append (write p) (drop (length (write p)) cells));
-          is = subst (PlanHad file false) (sym w) (new-plan (o .is ∙ no) T (sym reads ∙ x) p y);
+          is = subst (PlanHad file false) (sym w) (new-plan (o .is ∙ no) T (sym reads ∙ x) p (plain-built (work 0) p y));
         }
 
-    pub never-refused : {cells′ : List ℕ} {r : BuildAnswer} {f : Refusal} → BuiltInto (Work 0) table cells cells′ r → r ≡ build-answer.Refused f
+    pub never-refused : {cells′ : List ℕ} {r : BuildAnswer} {f : Refusal} → BuiltInto (Work 0) [] table cells cells′ r → r ≡ build-answer.Refused f
         → {l : Laid} → PlanLaid file cells′ l
     never-refused (table-refused g x a s) e = apart (sym (kept-read file (t .head) (t .some)) ∙ sym reads ∙ x)
     never-refused (room-refused T p x y l a s) e =

@@ -2,7 +2,7 @@
 use Prim.Native.Nat.{ℕ}
 use mathlib.Core.Path.{_≡_, refl, sym, _∙_, ap, subst}
 use mathlib.Core.Bool.{Bool}
-use mathlib.Core.List.{List, _++_}
+use mathlib.Core.List.{List, [], _++_}
 use native.Mathlib.Omega.{arith}
 use lib.ListN.{length, drop}
 use Rattle.refusal.specs.Refusal.{told}
@@ -22,11 +22,11 @@ use Rattle.salvaging.specs.declared.Salvage.{Salvage}
 use Rattle.salvaging.specs.declared.Salvage.the-variants as salvage
 
 -- one least plan for one table
-same-plan : (T U : Table) → T ≡ U → (p : Plan (T .width) (T .rows)) (q : Plan (U .width) (U .rows)) → Built (work 0) p → Built (work 0) q
+same-plan : (T U : Table) → T ≡ U → (p : Plan (T .width) (T .rows)) (q : Plan (U .width) (U .rows)) → Built (work 0) [] p → Built (work 0) [] q
     → write p ≡ write q
 same-plan T U e p q b c =
-    subst (λ (X : Table). (q : Plan (X .width) (X .rows)) → Built (work 0) q → write p ≡ write q) e
-    (λ q c. ap write (built-one (work 0) p q b c)) q c
+    subst (λ (X : Table). (q : Plan (X .width) (X .rows)) → Built (work 0) [] q → write p ≡ write q) e
+    (λ q c. ap write (built-one (work 0) [] p q b c)) q c
 
 pub had-fixed : {f : List ℕ} {a b : Bool} {xs ys : List ℕ} → PlanHad f a xs → PlanHad f b ys → (a ≡ b) × (xs ≡ ys)
 had-fixed (old-plan e) (old-plan g) = (refl, refl)

@@ -85,7 +85,7 @@ planKept file = eqb (length (kept file)) (count file) && (inSound file && accept
 pub data PlanHad (file : List ℕ) : Bool → List ℕ → Type 0 where
   old-plan : planKept file ≡ true → PlanHad file true (planCells file)
   new-plan : planKept file ≡ false → (T : Table) → tableOf (keptCells file) ≡ read T → (plan : Plan (T .width) (T .rows))
-      → Built (work 0) plan → PlanHad file false (write plan)
+      → Built (work 0) [] plan → PlanHad file false (write plan)
 
 -- "It reports rows kept, rows dropped, whether the plan was kept, and each bad block": the numbers, with the cells and blocks that are written
 pub record Facts : Type 0 where

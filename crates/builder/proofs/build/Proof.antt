@@ -1,4 +1,7 @@
 use mathlib.Core.Path.{_≡_, refl, _∙_}
+use mathlib.Core.List.{List}
+use Prim.Native.Nat.{ℕ, _≤_}
+use native.Mathlib.Omega.{arith}
 use Rattle.refusal.specs.Read.{read}
 use Rattle.state.specs.code.First.{TableRows}
 use Rattle.least.specs.Measures.{tableBy}
@@ -6,7 +9,7 @@ use Rattle.least.specs.declared.By.{By}
 use Rattle.least.proofs.Measured.{by-table}
 use Rattle.entries.proofs.WorkedLaws.{figure-small, turned-by}
 use Rattle.builder.specs.code.Writing.{Right}
-use Rattle.builder.proofs.BuildLaws.{no-table, no-room, cells-there, all-built}
+use Rattle.builder.proofs.BuildLaws.{no-table, no-column, cells-there, handed}
 use borrow.Author.Needs.{needs}
 use Rattle.builder.proofs.build.Statement.{statement}
 use Rattle.builder.proofs.build.Tie as tie
@@ -19,26 +22,37 @@ module _ (c : tie.After-answer) where
   abbrev rows-at : TableRows (start .args .cells .now) (start .args .read .starts) (c .answer .given .0 .0) (c .answer .given .0 .1 .0)
   rows-at = start .pre .0 .rows (c .answer .given .1)
 
-  here : (by : By) → Right by (start .args .cells .now) (start .args .read) (start .args .kept .now)
+  here : (by : By) (columns : List ℕ) → Right by columns (start .args .cells .now) (start .args .read) (start .args .named) (start .args .kept .now)
       → tableBy by (start .args .cells .now) ≡ read (rows-at .table)
-  here by r = by-table by _ (figure-small by _ (r .reads) (c .answer .given .1)) ∙ rows-at .here
+  here by columns r = by-table by _ (figure-small by _ (r .reads) (c .answer .given .1)) ∙ rows-at .here
 
-abbrev read-at : tie.After-write-plan → tie.After-answer
-read-at w = w .before .before .before .before .before
+-- where no column is past the width
+abbrev tested-at : tie.After-write-plan → tie.Else1
+tested-at w = w .before .before .before .before
+
+abbrev read-at : tie.Else1 → tie.After-answer
+read-at c = c .before .before .before
+
+inside : (c : tie.Else1) → start (read-at c) .args .named .past ≤ rows-at (read-at c) .table .width
+inside c = omega (arith, c .if1 .left, rows-at (read-at c) .width)
 
 enum-known-answer : tie.Need-enum-known-answer
 enum-known-answer c = search needs
 
-write-plan-requires : tie.Need-write-plan-requires
-write-plan-requires c κs = (rows-at (c .before .before .before .before), start (c .before .before .before .before) .pre .1, refl)
+returns : tie.Need-returns
+returns c =
+    λ by columns r. let a = c .before .before .before in
+    no-column r (here a by columns r) _ (omega (arith, c .if1 .taken, rows-at a .width))
 
-cast-cost : tie.Need-cast-cost
-cast-cost c = search needs
+write-plan-requires : tie.Need-write-plan-requires
+write-plan-requires c κs =
+    let a = read-at (c .before .before .before) in
+    (rows-at a, start a .pre .0 .flags _ (omega (arith, c .before .before .before .if1 .left)), start a .pre .1, refl)
 
 put-requires : tie.Need-put-requires
 put-requires c κs =
-    let w = c .before .before .before in
-    let p = w .write-plan .ensures (rows-at (read-at w)) in
+    let w = c .before .before in
+    let p = w .write-plan .ensures (rows-at (read-at (tested-at w))) in
     (p .few, cells-there p)
 
 enum-known-answer-2 : tie.Need-enum-known-answer-2
@@ -47,39 +61,26 @@ enum-known-answer-2 c = search needs
 same-length : tie.Need-same-length
 same-length c = search needs
 
-returns : tie.Need-returns
-returns c =
-    λ by r. let u = c .before .before .before in
-    let w = u .before .before .before .before in
-    let a = read-at w in
-    let h = here a by r in
-    all-built by _ h (r .kept-of _ h) (w .write-plan .ensures (rows-at a)) (u .put .ensures) (c .if1 .taken)
-
-same-length-2 : tie.Need-same-length-2
-same-length-2 c = search needs
-
 returns-2 : tie.Need-returns-2
 returns-2 c =
-    λ by r. let u = c .before .before .before in
-    let w = u .before .before .before .before in
-    let a = read-at w in
-    let h = here a by r in
-    no-room by _ h (r .kept-of _ h) (w .write-plan .ensures (rows-at a)) (u .put .ensures) (c .if1 .left)
+    λ by columns r. let u = c .before .before in
+    let w = u .before .before .before in
+    let t = tested-at w in
+    let a = read-at t in
+    handed r (here a by columns r) (inside t) (w .write-plan .ensures (rows-at a)) (u .put .ensures)
 
 returns-3 : tie.Need-returns-3
-returns-3 c = λ by r. no-table _ (turned-by by _ (r .reads) (c .before .answer2 .given .1))
+returns-3 c = λ by columns r. no-table _ (turned-by by _ (r .reads) (c .before .answer2 .given .1))
 
 pub build-spec : {M : Type 1} → statement M
 build-spec =
     tie.close
     (tie.spec
     enum-known-answer
+    returns
     write-plan-requires
-    cast-cost
     put-requires
     enum-known-answer-2
     same-length
-    returns
-    same-length-2
     returns-2
     returns-3)

@@ -1,4 +1,5 @@
 use native.Mathlib.Omega.{arith}
+use lib.Pow.{pow-pos}
 use Rattle.state.proofs.FirstLaws.{table-rows}
 use Rattle.record.proofs.StoreLaws.{lent-long}
 use Rattle.builder.proofs.RecordLaws.{built-from}
@@ -24,7 +25,7 @@ part-build-end c = search needs
 build-requires : tie.Need-build-requires
 build-requires c κs =
     let s = c .before .before .before .before .before .before in
-    (record { rows = λ e. table-rows _ (c .before .before .before .read-table .ensures) e }, lent-long (s .args .rec .now) (omega arith))
+    (record { rows = λ e. table-rows _ (c .before .before .before .read-table .ensures) e; flags = λ w h. pow-pos w }, lent-long (s .args .rec .now) (omega arith))
 
 same-length : tie.Need-same-length
 same-length c = search needs

@@ -1,31 +1,26 @@
-use mathlib.Core.Path.{refl, _∙_}
-use Rattle.entries.proofs.WorkedLaws.{rows-by}
-use Rattle.builder.proofs.BuildLaws.{filled-right}
 use borrow.Author.Needs.{needs}
 use Rattle.builder.proofs.build_plan.Statement.{statement}
 use Rattle.builder.proofs.build_plan.Tie as tie
 
-slice-aggregate-fill : tie.Need-slice-aggregate-fill
-slice-aggregate-fill c = search needs
+sub-none : tie.Need-sub-none
+sub-none c = search needs
 
-fill-requires : tie.Need-fill-requires
-fill-requires c κs = search needs
+part-none-start : tie.Need-part-none-start
+part-none-start c = search needs
 
-slice-aggregate-build : tie.Need-slice-aggregate-build
-slice-aggregate-build c = search needs
+part-none-end : tie.Need-part-none-end
+part-none-end c = search needs
 
-build-requires : tie.Need-build-requires
-build-requires c κs =
-    let f = c .before .before .before .fill .ensures in
-    (record { rows = λ e. rows-by _ _ (f .reads) e }, f .size ∙ refl)
+build-for-requires : tie.Need-build-for-requires
+build-for-requires c κs = search needs
 
 same-length : tie.Need-same-length
 same-length c = search needs
 
 returns : tie.Need-returns
-returns c = c .before .before .build .ensures _ (filled-right _ _ (c .before .before .before .before .before .before .fill .ensures) refl)
+returns c = c .before .before .build-for .ensures
 
 pub build-plan-spec : {M : Type 1} → statement M
 build-plan-spec =
     tie.close
-    (tie.spec slice-aggregate-fill fill-requires slice-aggregate-build build-requires same-length returns)
+    (tie.spec sub-none part-none-start part-none-end build-for-requires same-length returns)

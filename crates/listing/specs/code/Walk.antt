@@ -56,7 +56,7 @@ pub record Planned (t plan : List ℕ) (costs : ℕ) : Type 0 where
   pub table : Table
   pub tree : Plan (table .width) (table .rows)
   pub reads : tableOf t ≡ read table
-  pub built : Built plain tree
+  pub built : Built plain [] tree
   pub cells : plan ≡ write tree
   pub costs-it : costs ≡ cost plain tree
 

@@ -5,6 +5,7 @@ use borrow.Author.Needs.{needs}
 use lib.ListN.{getD, set}
 use Rattle.cell.specs.Cell.{arity}
 use Rattle.plan.specs.Plans.{write, writes}
+use Rattle.state.specs.Flags.{spreadOf}
 use Rattle.state.specs.States.{columnIn}
 use Rattle.state.proofs.RowsLaws.{column-length}
 use Rattle.builder.specs.code.Writing.{ToWrite, ToWriteAll}
@@ -23,12 +24,13 @@ use Rattle.builder.proofs.writer.choose.Reads as choose-reads
 use Rattle.cell.proofs.arity_of.Reads as arity-of-reads
 use Rattle.state.proofs.column.run_count.Reads as run-count-reads
 use Rattle.state.proofs.column.run_length.Reads as run-length-reads
+use Rattle.state.proofs.flags.spread.Reads as spread-reads
 use Rattle.state.proofs.mask.close_rows.Reads as close-rows-reads
 use Rattle.builder.proofs.writer.+branches+state.{statement}
 use Rattle.builder.proofs.writer.+branches+state.Tie.{close}
 
 abbrev μ-branches : Measures 6 branches-kinds.ps ℕ
-μ-branches κs a = 6082 - a .1 .1 .1 .1 .1 .1 .1 .0
+μ-branches κs a = 6082 - a .1 .1 .1 .1 .1 .1 .1 .1 .0
 
 abbrev μ-state : Measures 6 state-kinds.ps ℕ
 μ-state κs a = 6082 - a .1 .1 .1 .1 .1 .1 .1 .0
@@ -47,7 +49,16 @@ abbrev state-below : ℕ → In 6 state-kinds.ps
 state-below t = and 6 state-kinds.ps (falls 6 state-kinds.ps _<_ μ-state t) state.Pre
 
 abbrev branches-with : ℕ → branches-lts.Claims
-branches-with t = (run-length-reads.Asked, run-length-reads.Learnt, arity-of-reads.Asked, arity-of-reads.Learnt, state-below t, state.Post)
+branches-with t = (
+  run-length-reads.Asked,
+  run-length-reads.Learnt,
+  arity-of-reads.Asked,
+  arity-of-reads.Learnt,
+  spread-reads.Asked,
+  spread-reads.Learnt,
+  state-below t,
+  state.Post,
+)
 
 abbrev state-with : ℕ → state-lts.Claims
 state-with t = (
@@ -62,12 +73,12 @@ state-with t = (
 )
 
 abbrev branches-Inv-loop : branches-lts.InvT-loop
-branches-Inv-loop table starts masks₀ column₀ kept out₀ rows at end row₀ next₀ masks column out row next =
-    (q : ToWriteAll table starts masks₀ column₀ kept out₀ (rows .first) (rows .end) (rows .opens) at)
-    → Going table starts kept masks₀ column₀ out₀ (rows .end) (rows .opens) at (writes (q .plans)) masks column out row next
+branches-Inv-loop table starts masks₀ column₀ kept out₀ rows i at end row₀ next₀ masks column out row next =
+    (q : ToWriteAll table starts masks₀ column₀ kept out₀ (rows .first) (rows .end) (rows .opens) (rows .named) i at)
+    → Going table starts kept masks₀ column₀ out₀ (rows .end) (rows .opens) (rows .named) i at (writes (q .plans)) masks column out row next
 
 abbrev branches-μ-loop : branches-lts.MeasureT-loop
-branches-μ-loop table starts masks₀ column₀ kept out₀ rows at end row₀ next₀ masks column out row next =
+branches-μ-loop table starts masks₀ column₀ kept out₀ rows i at end row₀ next₀ masks column out row next =
     end - row
 
 -- the places of `branches` that its answers go back to: where the run's length is known, the turn of the loop before that, and the call
@@ -83,23 +94,24 @@ call-at t c = turn-at t c .before .before .before
 
 -- the branch of a turn
 branch-here : (t : ℕ) (c : At-run t) → let r = call-at t c .args in let l = turn-at t c .loop in
-    (a : ℕ) → a ≡ arity (getD (l .column) (l .row) 0)
+    (a m : ℕ) → a ≡ arity (getD (l .column) (l .row) 0) → m ≡ spreadOf (r .rows .named) (r .i) a
     → (q : ToWriteAll (r .table .now) (r .starts .now) (r .masks .now) (r .column .now) (r .kept .now) (r .out .now)
-    (r .rows .first) (r .rows .end) (r .rows .opens) (r .at))
+    (r .rows .first) (r .rows .end) (r .rows .opens) (r .rows .named) (r .i) (r .at))
     → Branch (r .table .now) (r .starts .now) (r .kept .now) (r .masks .now) (r .column .now) (r .out .now)
-    (r .rows .end) (r .rows .opens) (r .at) (writes (q .plans))
-    (l .masks) (l .column) (l .out) (l .row) (l .next) (c .run-length .result) (getD (l .column) (l .row) 0) a
-branch-here t c a e q =
+    (r .rows .end) (r .rows .opens) (r .rows .named) (r .i) (r .at) (writes (q .plans))
+    (l .masks) (l .column) (l .out) (l .row) (l .next) (c .run-length .result) (getD (l .column) (l .row) 0) a m
+branch-here t c a m e f q =
     branch (turn-at t c .loop .inv q) (c .run-length .result) _ (c .before .before .before .before .loop-test .taken) refl
-    (c .run-length .ensures) a e
+    (c .run-length .ensures) a m e f
 
 -- the same where only its rows are of interest
 some-branch : (t : ℕ) (c : At-run t) → let r = call-at t c .args in let l = turn-at t c .loop in
+    let a = arity (getD (l .column) (l .row) 0) in
     Branch (r .table .now) (r .starts .now) (r .kept .now) (r .masks .now) (r .column .now) (r .out .now)
-    (r .rows .end) (r .rows .opens) (r .at) (writes (call-at t c .pre .1 .plans))
+    (r .rows .end) (r .rows .opens) (r .rows .named) (r .i) (r .at) (writes (call-at t c .pre .1 .plans))
     (l .masks) (l .column) (l .out) (l .row) (l .next) (c .run-length .result)
-    (getD (l .column) (l .row) 0) (arity (getD (l .column) (l .row) 0))
-some-branch t c = branch-here t c _ refl (call-at t c .pre .1)
+    (getD (l .column) (l .row) 0) a (spreadOf (r .rows .named) (r .i) a)
+some-branch t c = branch-here t c _ _ refl refl (call-at t c .pre .1)
 
 branches-loop-holds : (t : ℕ) → branches-lts.Need-loop-holds (branches-with t) (branches-at t) branches.Post branches-Inv-loop branches-μ-loop
 branches-loop-holds t c = λ q. going-start q
@@ -131,45 +143,52 @@ branches-mul-out t c = omega (arith, some-branch t (c .before) .room)
 branches-element-write-out : (t : ℕ) → branches-lts.Need-element-write-out (branches-with t) (branches-at t) branches.Post branches-Inv-loop branches-μ-loop
 branches-element-write-out t c = some-branch t (c .before) .room
 
-branches-add-state : (t : ℕ) → branches-lts.Need-add-state (branches-with t) (branches-at t) branches.Post branches-Inv-loop branches-μ-loop
-branches-add-state t c = omega (arith, some-branch t (c .before) .few, call-at t (c .before) .pre .1 .few)
-
 branches-arity-of-requires : (t : ℕ) → branches-lts.Need-arity-of-requires (branches-with t) (branches-at t) branches.Post branches-Inv-loop branches-μ-loop
 branches-arity-of-requires t c κs = search needs
 
-branches-add-t28 : (t : ℕ) → branches-lts.Need-add-t28 (branches-with t) (branches-at t) branches.Post branches-Inv-loop branches-μ-loop
-branches-add-t28 t c =
+branches-add-state : (t : ℕ) → branches-lts.Need-add-state (branches-with t) (branches-at t) branches.Post branches-Inv-loop branches-μ-loop
+branches-add-state t c = omega (arith, some-branch t (c .before .before) .few, call-at t (c .before .before) .pre .1 .few)
+
+branches-add-t22 : (t : ℕ) → branches-lts.Need-add-t22 (branches-with t) (branches-at t) branches.Post branches-Inv-loop branches-μ-loop
+branches-add-t22 t c =
     let l = c .before .before .before in
     let r = call-at t l .args in
-    let h = branch-here t l (c .before .arity-of .result) (c .before .arity-of .ensures) (call-at t l .pre .1) in
+    let h = branch-here t l (c .before .arity-of .result) _ (c .before .arity-of .ensures) refl (call-at t l .pre .1) in
     omega (arith, few-open (r .table .now) (r .starts .now) (turn-at t l .loop .masks) (h .below .rows) (h .below .some))
 
+branches-spread-requires : (t : ℕ) → branches-lts.Need-spread-requires (branches-with t) (branches-at t) branches.Post branches-Inv-loop branches-μ-loop
+branches-spread-requires t c κs = search needs
+
+-- where the state below is called: the turn's run, and the branch with what was counted and spread there
+abbrev At-below : ℕ → Type 0
+At-below t = branches-lts.After-state-arg3 (branches-with t) (branches-at t) branches.Post branches-Inv-loop branches-μ-loop
+
+abbrev run-at : (t : ℕ) → At-below t → At-run t
+run-at t c = c .before .before .before .before .before .before .before
+
 branches-add-state-2 : (t : ℕ) → branches-lts.Need-add-state-2 (branches-with t) (branches-at t) branches.Post branches-Inv-loop branches-μ-loop
-branches-add-state-2 t c = omega (arith, some-branch t (c .before .before .before .before .before .before) .room)
+branches-add-state-2 t c = omega (arith, some-branch t (run-at t c) .room)
 
 branches-state-requires : (t : ℕ) → branches-lts.Need-state-requires (branches-with t) (branches-at t) branches.Post branches-Inv-loop branches-μ-loop
 branches-state-requires t c κs =
-    let l = c .before .before .before .before .before .before in
-    let y = c .before .before .before .before .arity-of in
+    let l = run-at t c in
+    let z = c .before .before .before in
+    let y = z .before .before in
     let q = call-at t l .pre .1 in
-    let h = branch-here t l (y .result) (y .ensures) q in
+    let h = branch-here t l (y .arity-of .result) (z .spread .result) (y .arity-of .ensures) (z .spread .ensures) q in
     (omega (arith, call-at t l .pre .0, h .room, turn-at t l .loop .inv q .later), h .below)
 
 branches-add-row : (t : ℕ) → branches-lts.Need-add-row (branches-with t) (branches-at t) branches.Post branches-Inv-loop branches-μ-loop
-branches-add-row t c =
-    let l = c .before .before .before .before .before .before .before in
-    omega (arith, some-branch t l .few, call-at t l .pre .1 .few)
+branches-add-row t c = let l = run-at t (c .before) in omega (arith, some-branch t l .few, call-at t l .pre .1 .few)
 
 branches-loop-less : (t : ℕ) → branches-lts.Need-loop-less (branches-with t) (branches-at t) branches.Post branches-Inv-loop branches-μ-loop
-branches-loop-less t c =
-    let l = c .before .before .before .before .before .before .before in
-    omega (arith, some-branch t l .few, some-branch t l .some)
+branches-loop-less t c = let l = run-at t (c .before) in omega (arith, some-branch t l .few, some-branch t l .some)
 
 branches-loop-again : (t : ℕ) → branches-lts.Need-loop-again (branches-with t) (branches-at t) branches.Post branches-Inv-loop branches-μ-loop
 branches-loop-again t c =
-    λ q. let l = c .before .before .before .before .before .before .before in
-    let y = c .before .before .before .before .before .arity-of in
-    let h = branch-here t l (y .result) (y .ensures) q in
+    λ q. let z = c .before .before .before .before in
+    let y = z .before .before in
+    let h = branch-here t (run-at t (c .before)) (y .arity-of .result) (z .spread .result) (y .arity-of .ensures) (z .spread .ensures) q in
     h .on _ _ _ _ (c .state .ensures (h .below))
 
 branches-returns : (t : ℕ) → branches-lts.Need-returns (branches-with t) (branches-at t) branches.Post branches-Inv-loop branches-μ-loop
@@ -186,9 +205,9 @@ entered t c = c .before .before .before .before .before .before .before .before 
 inner-here : (t : ℕ) (c : At-count t) → let r = entered t c .args in
     let i = c .before .before .before .before .before .before .before .choose .result in
     (q : ToWrite (r .table .now) (r .starts .now) (r .masks .now) (r .column .now) (r .kept .now) (r .out .now)
-    (r .rows .first) (r .rows .end) (r .rows .opens) (r .at))
+    (r .rows .first) (r .rows .end) (r .rows .opens) (r .rows .named) (r .at))
     → Inner (r .table .now) (r .starts .now) (r .masks .now) (r .column .now) (r .kept .now) (r .out .now)
-    (r .rows .first) (r .rows .end) (r .rows .opens) (r .at)
+    (r .rows .first) (r .rows .end) (r .rows .opens) (r .rows .named) i (r .at)
     (c .before .before .before .before .close-rows .last .1 .1 .0) (c .before .before .before .before .close-rows .last .1 .1 .1 .0)
     (set (set (r .out .now) (r .at) i) (r .at + 1) (c .run-count .result)) (write (q .plan))
 inner-here t c q =
@@ -219,7 +238,7 @@ state-choose-requires : (t : ℕ) → state-lts.Need-choose-requires (state-with
 state-choose-requires t c κs =
     let q = c .before .before .before .before .pre .1 in
     let r = c .before .before .before .before .args in
-    (q .some, q .few, few-open (r .table .now) (r .starts .now) (r .masks .now) (q .rows) (q .some), q .room .pairs)
+    (q .some, q .few, few-open (r .table .now) (r .starts .now) (r .masks .now) (q .rows) (q .some), q .flags, q .room .pairs)
 
 state-close-rows-requires : (t : ℕ) → state-lts.Need-close-rows-requires (state-with t) (state-at t) state.Post
 state-close-rows-requires t c κs = search needs
@@ -269,8 +288,8 @@ state-mul-out-3 t c = search needs
 state-element-write-out-3 : (t : ℕ) → state-lts.Need-element-write-out-3 (state-with t) (state-at t) state.Post
 state-element-write-out-3 t c = omega (arith, inner-here t c (entered t c .pre .1) .room)
 
-state-sub-t28 : (t : ℕ) → state-lts.Need-sub-t28 (state-with t) (state-at t) state.Post
-state-sub-t28 t c = search needs
+state-sub-t29 : (t : ℕ) → state-lts.Need-sub-t29 (state-with t) (state-at t) state.Post
+state-sub-t29 t c = search needs
 
 state-add-branches : (t : ℕ) → state-lts.Need-add-branches (state-with t) (state-at t) state.Post
 state-add-branches t c = search needs
@@ -302,9 +321,10 @@ pub +branches+state-spec : {M : Type 1} → statement M
     (branches-element-copy-out-c t)
     (branches-mul-out t)
     (branches-element-write-out t)
-    (branches-add-state t)
     (branches-arity-of-requires t)
-    (branches-add-t28 t)
+    (branches-add-state t)
+    (branches-add-t22 t)
+    (branches-spread-requires t)
     (branches-add-state-2 t)
     (branches-state-requires t)
     (branches-add-row t)
@@ -333,7 +353,7 @@ pub +branches+state-spec : {M : Type 1} → statement M
     (state-element-write-out-2 t)
     (state-mul-out-3 t)
     (state-element-write-out-3 t)
-    (state-sub-t28 t)
+    (state-sub-t29 t)
     (state-add-branches t)
     (state-branches-requires t)
     (state-returns-2 t)

@@ -3,7 +3,7 @@ use Prim.Native.Nat.{_-_}
 use native.Mathlib.Omega.{arith}
 use borrow.Author.Needs.{needs}
 use borrow.Author.Tests.{not-true, not-false, eq-eqb, ne-eqb}
-use Rattle.builder.proofs.AgreedLaws.{Agreeing, agreeing-start, agreeing-all, agreeing-next, agreeing-not}
+use Rattle.builder.proofs.AgreedLaws.{Agreeing, agreeing-start, agreeing-all, agreeing-next, agreeing-not, agreeing-alone}
 use Rattle.builder.proofs.writer.agreed_at.Statement.{statement}
 use Rattle.builder.proofs.writer.agreed_at.Tie as tie
 
@@ -15,6 +15,9 @@ abbrev μ-loop : tie.MeasureT-loop
 
 add-row : tie.Need-add-row Inv-loop μ-loop
 add-row c = search needs
+
+returns : tie.Need-returns Inv-loop μ-loop
+returns c = sym (eq-eqb _ _ (agreeing-alone _ _ _ _ _ _ (c .if1 .taken)))
 
 mul-close-at : tie.Need-mul-close-at Inv-loop μ-loop
 mul-close-at c = search needs
@@ -52,12 +55,12 @@ close-at-requires-2 c κs = search needs
 same-symbol-requires : tie.Need-same-symbol-requires Inv-loop μ-loop
 same-symbol-requires c κs = search needs
 
-returns : tie.Need-returns Inv-loop μ-loop
-returns c =
+returns-2 : tie.Need-returns-2 Inv-loop μ-loop
+returns-2 c =
     let l = c .before .before .before .before .before .before .loop in
     let z = c .before .before .close-at2 in
     sym (ne-eqb _ _ (agreeing-not _ _ _ _ _ _ (l .inv) (z .result .cell) (omega arith) (z .ensures .cell)
-    (sym (c .before .same-symbol .ensures) ∙ not-true _ (c .if1 .taken))))
+    (sym (c .before .same-symbol .ensures) ∙ not-true _ (c .if2 .taken))))
 
 add-row-2 : tie.Need-add-row-2 Inv-loop μ-loop
 add-row-2 c = search needs
@@ -70,10 +73,10 @@ loop-again c =
     let l = c .before .before .before .before .before .before .loop in
     let z = c .before .before .close-at2 in
     agreeing-next _ _ _ _ _ _ (l .inv) (z .result .cell) (omega arith) (z .ensures .cell)
-    (sym (c .before .same-symbol .ensures) ∙ not-false _ (c .if1 .left))
+    (sym (c .before .same-symbol .ensures) ∙ not-false _ (c .if2 .left))
 
-returns-2 : tie.Need-returns-2 Inv-loop μ-loop
-returns-2 c = sym (eq-eqb _ _ (agreeing-all _ _ _ _ _ _ (c .before .loop .inv) (omega arith)))
+returns-3 : tie.Need-returns-3 Inv-loop μ-loop
+returns-3 c = sym (eq-eqb _ _ (agreeing-all _ _ _ _ _ _ (c .before .loop .inv) (omega arith)))
 
 pub agreed-at-spec : {M : Type 1} → statement M
 agreed-at-spec =
@@ -82,6 +85,7 @@ agreed-at-spec =
     Inv-loop
     μ-loop
     add-row
+    returns
     mul-close-at
     element-copy-out-close-at
     mul-close-at-2
@@ -94,8 +98,8 @@ agreed-at-spec =
     element-copy-out-close-at-4
     close-at-requires-2
     same-symbol-requires
-    returns
+    returns-2
     add-row-2
     loop-less
     loop-again
-    returns-2)
+    returns-3)

@@ -13,27 +13,27 @@ state-requires : tie.Need-state-requires
 state-requires c κs =
     let o = c .before .before .before in
     let q = o .before .before .before .pre in
-    first-state _ (q .0) (o .open-rows .ensures) refl (q .1) (q .2) .state
+    first-state _ _ (q .0) (o .open-rows .ensures) (q .1) refl (q .2) (q .3) .state
 
-sub-t12 : tie.Need-sub-t12
-sub-t12 c = omega (arith, few-rows (c .before .before .before .before .before .before .before .pre .0))
+sub-t13 : tie.Need-sub-t13
+sub-t13 c = omega (arith, few-rows (c .before .before .before .before .before .before .before .pre .0))
 
-mul-t16 : tie.Need-mul-t16
-mul-t16 c = omega (arith, few-rows (c .before .before .before .before .before .before .before .pre .0))
+mul-t17 : tie.Need-mul-t17
+mul-t17 c = omega (arith, few-rows (c .before .before .before .before .before .before .before .pre .0))
 
-shared-slice-read-t18 : tie.Need-shared-slice-read-t18
-shared-slice-read-t18 c =
+shared-slice-read-t19 : tie.Need-shared-slice-read-t19
+shared-slice-read-t19 c =
     let q = c .before .before .before .before .before .before .before .before .pre in
-    omega (arith, few-rows (q .0), q .1)
+    omega (arith, few-rows (q .0), q .2)
 
 returns : tie.Need-returns
 returns c =
     λ k. let o = c .before .before .before .before .before in
     let q = o .before .before .before .pre in
-    let s = first-state _ k (o .open-rows .ensures) refl (q .1) (q .2) in
-    planned _ k (q .2) s (c .before .state .ensures (s .state)) refl
+    let s = first-state _ _ k (o .open-rows .ensures) (q .1) refl (q .2) (q .3) in
+    planned _ _ k (q .3) s (c .before .state .ensures (s .state)) refl
 
 pub write-plan-spec : {M : Type 1} → statement M
 write-plan-spec =
     tie.close
-    (tie.spec open-rows-requires state-requires sub-t12 mul-t16 shared-slice-read-t18 returns)
+    (tie.spec open-rows-requires state-requires sub-t13 mul-t17 shared-slice-read-t19 returns)
