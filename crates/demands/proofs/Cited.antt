@@ -17,25 +17,34 @@ use Rattle.refusal.specs.declared.Input.the-variants as input
 use Rattle.refusal.specs.Refusal.{Refused, refused, answered, turned}
 use Rattle.refusal.specs.Read.{Read, read, refuse}
 use Rattle.table.specs.Table.{Table, table, tableOf, tableSays, goalOf, goalWith, goalSays, rowIn, IsTable, IsGoal}
-use Rattle.table.specs.Table.{met, termsFrom, upFrom}
+use Rattle.table.specs.Table.{Row, met, termsFrom, upFrom}
 use Rattle.table.proofs.ReadLaws.{apart, read-one, refuse-one, within-bounds}
 use Rattle.table.proofs.Accepted.{is-table, table-accepted, goal-accepted, goal-is}
 use Rattle.table.proofs.PartLaws.{start-at, place-none, cells-at}
 use Rattle.term.proofs.Lists.{getD-zeros}
+use Rattle.term.specs.Terms.{Terms}
+use Rattle.table.proofs.AllLaws.{all-each}
 use Rattle.plan.specs.Plans.{Plan, write, branches}
-use Rattle.plan.specs.Check.{planOf}
+use Rattle.plan.specs.Named.{NamedFirst, flagsOf}
+use Rattle.plan.specs.Check.{planOf, planWith}
 use Rattle.checker.specs.Checked.{planSays}
 use Rattle.plan.proofs.SizeLaws.{size-bound}
 use Rattle.plan.proofs.PlansLaws.{write-one}
-use Rattle.plan.proofs.CheckLaws.{accepted-one, rows-fit}
+use Rattle.plan.proofs.CheckLaws.{accepted-one, accepted-kind, rows-fit}
+use Rattle.plan.proofs.NamedLaws.{no-place, free-kind}
 use Rattle.builder.specs.declared.BuildAnswer.{BuildAnswer}
 use Rattle.builder.specs.declared.BuildAnswer.the-variants as build-answer
-use Rattle.builder.specs.Build.{BuiltInto, table-refused, room-refused, built, buildTold}
+use Rattle.builder.specs.Build.{tableFor, BuiltInto, table-refused, room-refused, built, buildTold}
+use Rattle.builder.proofs.AskedLaws.{for-refused, for-column, for-read, read-for}
 use Rattle.builder.proofs.Fixed.{build-fixed}
 use Rattle.exports.specs.Coded.{rowSays}
 use Rattle.least.specs.Measures.{measureOf, costBy, tableBy}
 use Rattle.least.specs.declared.By.{By}
+use Rattle.least.specs.Least.{Built}
 use Rattle.least.proofs.Measured.{by-table, by-figure, by-read}
+use Rattle.least.proofs.Weighed.{by-light}
+use Rattle.least.proofs.Building.{built-least}
+use Rattle.least.proofs.NoneNamed.{free-built}
 use Rattle.answer.specs.declared.RunAnswer.{RunAnswer}
 use Rattle.answer.specs.Run.{Picks, Counts, Tried, runOf, runTold, Ran, refusal, ran, Ascends}
 use Rattle.answer.proofs.Fixed.{skeletons-one}
@@ -43,8 +52,10 @@ use Rattle.table.proofs.HeadLaws.{up-length}
 use Rattle.answer.proofs.Theorems.{picked, picks-ascend, tries-at-most, tries-every}
 use Rattle.answer.proofs.TakesLaws.{Takes, takes-run, run-table, run-plan, run-goal, run-room}
 use Rattle.demands.specs.Demands.{Demand1Table, Demand1Goal, Demand1Row, Demand1Place, Demand1Check, Demand1Build, Demand1Run}
-use Rattle.demands.specs.Demands.{BuildTurned, no-figure, no-table, no-room, RunTurned, bad-table, bad-plan, bad-goal, bad-room}
-use Rattle.demands.specs.Demands.{Answers, Demand2, TriedFew, Writes, Demand3Check, Demand3Run, LeastBy, Demand3Build}
+use Rattle.demands.specs.Kind.{There, Missing, NoneOrAll}
+use Rattle.demands.specs.Demands.{BuildTurned, no-figure, no-table, no-column, no-room, RunTurned, bad-table, bad-plan, bad-goal, bad-room}
+use Rattle.demands.specs.Demands.{Answers, Demand2, TriedFew, Writes, Demand3Check, Demand3Run, LeastBy, LeastFor, Demand3Build}
+use Rattle.demands.proofs.KindLaws.{Listed, one-missing, all-there, listed, missing-past, there-past, past-there, free-flags}
 
 -- Refusals.
 
@@ -101,7 +112,7 @@ plan-kept t p = record { refuses = plan-turned (planOf t p) }
 
 -- The check.
 
-says-read : (x : Read ℕ) (b : ℕ) → planSays x ≡ answered b 0 → x ≡ read b
+pub says-read : (x : Read ℕ) (b : ℕ) → planSays x ≡ answered b 0 → x ≡ read b
 says-read (read c) b q = let s : c ≡ b = cc in ap read s
 says-read (refuse f) b q = clash (sym q)
 
@@ -119,10 +130,15 @@ module _ (t p : List ℕ) {w : ℕ} {rows : List (List ℕ)} (i : IsTable t w ro
   written : (b : ℕ) → Writes w rows p b → planOf t p ≡ read b
   written b x = rw (reads i) (accepted-one (table w rows) i p b .1 (x .tree, x .cells, x .count, x .only))
 
--- so the check accepts what a tree writes
+-- so the check accepts what a tree writes, and the check for the kind what one of the kind writes
 pub tree-read : {t p : List ℕ} {w : ℕ} {rows : List (List ℕ)} → IsTable t w rows → (tree : Plan w rows) → write tree ≡ p
     → planOf t p ≡ read (branches tree)
 tree-read {t} {p} i tree e = written t p i (branches tree) (by-tree tree e)
+
+kind-written : {t : List ℕ} (fs : List Bool) (T : Table) → IsTable t (T .width) (T .rows) → (tree : Plan (T .width) (T .rows)) → NamedFirst fs tree
+    → planWith fs T (write tree) ≡ read (branches tree)
+kind-written fs T i tree k =
+    accepted-kind fs T (rows-fit (T .width) (T .rows) (i .each)) (i .count .0) (i .count .1) (write tree) (branches tree) .1 (tree, refl, refl, k)
 
 pub check-accepts : (t p : List ℕ) → Demand3Check t p (planSays (planOf t p))
 check-accepts t p w rows i b = (λ q. writes t p i b (says-read (planOf t p) b q), λ x. ap planSays (written t p i b x))
@@ -141,75 +157,141 @@ taken-by b t = go (leb (measureOf b .figure) 15) refl
     go true e = small (leb-true (measureOf b .figure) 15 e) (by-table b t (leb-true (measureOf b .figure) 15 e))
     go false e = too-much (leb-false (measureOf b .figure) 15 e) (by-figure b t (leb-false (measureOf b .figure) 15 e))
 
-module _ {by : By} {t room room′ : List ℕ} {r : BuildAnswer} where
-  build-is-turned : BuiltInto by t room room′ r → (f : Refused) → (buildTold r ≡ turned f) ↔ BuildTurned by t room f
-  build-is-turned b f = (why b (taken-by by t), gets)
-    where
-      why : BuiltInto by t room room′ r → TakenBy by t → buildTold r ≡ turned f → BuildTurned by t room f
-      why (table-refused h a x c) (too-much l k) e = no-figure l (turned-one (sym e ∙ x) ∙ refuse-one (sym a ∙ k))
-      why (table-refused h a x c) (small l k) e = no-table l (sym k ∙ a ∙ ap refuse (turned-one (sym x ∙ e)))
-      why (room-refused T plan a u l x c) (too-much s k) e = apart (sym a ∙ k)
-      why (room-refused T plan a u l x c) (small s k) e = no-room s (is-table t (sym k ∙ a)) plan u l (turned-one (sym e ∙ x))
-      why (built T plan a u m l x c) k e = clash (sym x ∙ e)
+-- and where columns are named too: FIGURE, the table's, COLUMN, or the table
+module _ (by : By) (columns t : List ℕ) where
+  for-figure : 15 < measureOf by .figure → tableFor by columns t ≡ refuse (refused reason.Figure input.Figure 0)
+  for-figure l = for-refused by columns t (by-figure by t l)
 
-      as-read : tableBy by t ≡ refuse f → buildTold r ≡ turned f
+  for-table : {f : Refused} → measureOf by .figure ≤ 15 → tableOf t ≡ refuse f → tableFor by columns t ≡ refuse f
+  for-table l e = for-refused by columns t (by-table by t l ∙ e)
+
+  for-missing : {T : Table} → measureOf by .figure ≤ 15 → tableOf t ≡ read T → Missing (T .width) columns
+      → tableFor by columns t ≡ refuse (refused reason.Column input.Columns 0)
+  for-missing {T} l e m = for-column by columns t (by-table by t l ∙ e) (missing-past (T .width) columns m)
+
+  for-there : {T : Table} → measureOf by .figure ≤ 15 → tableOf t ≡ read T → There (T .width) columns → tableFor by columns t ≡ read T
+  for-there {T} l e h = for-read by columns t (by-table by t l ∙ e) (there-past (T .width) columns h)
+
+  -- what is read is a table, and the columns are there
+  was-read : {T : Table} → tableFor by columns t ≡ read T → (measureOf by .figure ≤ 15) × (tableOf t ≡ read T) × There (T .width) columns
+  was-read {T} e =
+      let a = read-for by columns t e in
+      let l = by-read by t (a .0) in
+      (l, sym (by-table by t l) ∙ a .0, past-there (T .width) columns (a .1))
+
+-- the builder's plan is of the kind
+built-kind : (by : By) (fs : List Bool) {t : List ℕ} {w : ℕ} {rows : List (List ℕ)} (plan : Plan w rows) → IsTable t w rows → Built (measureOf by) fs plan
+    → NamedFirst fs plan
+built-kind by fs {w = w} {rows} plan i u =
+    built-least (measureOf by) (by-light by) fs plan (all-each (Row w) (Terms w) (λ r x. x .terms) rows (i .each)) u .1
+
+-- with no column named, or all of them, the plain least plan
+plain-of : {by : By} {columns t cells : List ℕ} {w : ℕ} {rows : List (List ℕ)} {cost : ℕ} → IsTable t w rows → NoneOrAll w columns
+    → LeastFor by columns t cells cost → LeastBy by t cells cost
+plain-of {by} {columns} {w = w} {rows} i n x =
+    let q : table (x .width) (x .rows) ≡ table w rows = read-one (sym (reads (x .is-table)) ∙ reads i) in
+    let e : w ≡ x .width = sym (ap (λ (T : Table). T .width) q) in
+    let free = free-flags (x .width) columns (subst (λ (v : ℕ). NoneOrAll v columns) e n) in
+    record {
+      width = x .width;
+      rows = x .rows;
+      is-table = x .is-table;
+      tree = x .tree;
+      written = x .written;
+      checked = x .checked;
+      costs = x .costs;
+      none-less = λ other. x .none-less other (free-kind (flagsOf (x .width) columns) free other);
+      rule = free-built (measureOf by) (flagsOf (x .width) columns) [] free (no-place (λ j. refl)) (x .tree) (x .rule);
+    }
+
+module _ {by : By} {columns t room room′ : List ℕ} {r : BuildAnswer} where
+  build-is-turned : BuiltInto by columns t room room′ r → (f : Refused) → (buildTold r ≡ turned f) ↔ BuildTurned by columns t room f
+  build-is-turned b f = (why b, gets)
+    where
+      -- the first of the three that is refused
+      by-columns : (T : Table) → measureOf by .figure ≤ 15 → tableOf t ≡ read T → tableFor by columns t ≡ refuse f → Listed (T .width) columns
+          → BuildTurned by columns t room f
+      by-columns T l d e (one-missing m) = no-column l (is-table t d) m (refuse-one (sym e ∙ for-missing by columns t l d m))
+      by-columns T l d e (all-there h) = apart (sym (for-there by columns t l d h) ∙ e)
+
+      by-cells : (x : Read Table) → measureOf by .figure ≤ 15 → tableOf t ≡ x → tableFor by columns t ≡ refuse f → BuildTurned by columns t room f
+      by-cells (read T) l d e = by-columns T l d e (listed (T .width) columns)
+      by-cells (refuse h) l d e = no-table l (d ∙ ap refuse (refuse-one (sym (for-table by columns t l d) ∙ e)))
+
+      refused-as : TakenBy by t → tableFor by columns t ≡ refuse f → BuildTurned by columns t room f
+      refused-as (too-much l k) e = no-figure l (refuse-one (sym e ∙ for-figure by columns t l))
+      refused-as (small l k) e = by-cells (tableOf t) l refl e
+
+      why : BuiltInto by columns t room room′ r → buildTold r ≡ turned f → BuildTurned by columns t room f
+      why (table-refused h a x c) e = refused-as (taken-by by t) (a ∙ ap refuse (turned-one (sym x ∙ e)))
+      why (room-refused T plan a u l x c) e =
+          let k = was-read by columns t a in no-room (k .0) (is-table t (k .1)) (k .2) plan u l (turned-one (sym e ∙ x))
+      why (built T plan a u m l x c) e = clash (sym x ∙ e)
+
+      as-read : tableFor by columns t ≡ refuse f → buildTold r ≡ turned f
       as-read a = go b
         where
-          go : BuiltInto by t room room′ r → buildTold r ≡ turned f
+          go : BuiltInto by columns t room room′ r → buildTold r ≡ turned f
           go (table-refused h d x c) = x ∙ ap turned (refuse-one (sym d ∙ a))
           go (room-refused T plan d u l x c) = apart (sym d ∙ a)
           go (built T plan d u m l x c) = apart (sym d ∙ a)
 
-      gets : BuildTurned by t room f → buildTold r ≡ turned f
-      gets (no-figure l q) = as-read (by-figure by t l ∙ ap refuse (sym q))
-      gets (no-table l a) = as-read (by-table by t l ∙ a)
-      gets (no-room s i plan u l q) =
+      gets : BuildTurned by columns t room f → buildTold r ≡ turned f
+      gets (no-figure l q) = as-read (for-figure by columns t l ∙ ap refuse (sym q))
+      gets (no-table l a) = as-read (for-table by columns t l a)
+      gets (no-column l i m q) = as-read (for-missing by columns t l (reads i) m ∙ ap refuse (sym q))
+      gets (no-room s i h plan u l q) =
           let no = build-answer.Refused (record { reason = reason.Room; input = input.Lent; place = length (write plan) }) in
-          let short : BuiltInto by t room room no = room-refused (table _ _) plan (by-table by t s ∙ reads i) u l refl refl in
+          let short : BuiltInto by columns t room room no = room-refused (table _ _) plan (for-there by columns t s (reads i) h) u l refl refl in
           ap buildTold (build-fixed b short .0) ∙ ap turned (sym q)
 
-  build-writes-nothing : BuiltInto by t room room′ r → (f : Refused) → buildTold r ≡ turned f → room′ ≡ room
+  build-writes-nothing : BuiltInto by columns t room room′ r → (f : Refused) → buildTold r ≡ turned f → room′ ≡ room
   build-writes-nothing (table-refused h a x c) f e = c
   build-writes-nothing (room-refused T plan a u l x c) f e = c
   build-writes-nothing (built T plan a u m l x c) f e = clash (sym x ∙ e)
 
-  pub build-kept : BuiltInto by t room room′ r → Demand1Build by t room room′ (buildTold r)
+  pub build-kept : BuiltInto by columns t room room′ r → Demand1Build by columns t room room′ (buildTold r)
   build-kept b = record { refuses = build-is-turned b; untouched = build-writes-nothing b }
 
-  builds : (w : ℕ) (rows : List (List ℕ)) → measureOf by .figure ≤ 15 → IsTable t w rows → 6082 ≤ length room → BuiltInto by t room room′ r
-      → (n : ℕ) × (cost : ℕ) × (buildTold r ≡ answered n cost)
-  builds w rows s i l (table-refused h a x c) = apart (sym (by-table by t s ∙ reads i) ∙ a)
-  builds w rows s i l (room-refused T plan a u z x c) =
-      let j = is-table t (sym (by-table by t s) ∙ a) in
+  builds : (w : ℕ) (rows : List (List ℕ)) → measureOf by .figure ≤ 15 → IsTable t w rows → There w columns → 6082 ≤ length room
+      → BuiltInto by columns t room room′ r → (n : ℕ) × (cost : ℕ) × (buildTold r ≡ answered n cost)
+  builds w rows s i h l (table-refused g a x c) = apart (sym (for-there by columns t s (reads i) h) ∙ a)
+  builds w rows s i h l (room-refused T plan a u z x c) =
+      let j = is-table t (was-read by columns t a .1) in
       absurd (omega (arith, size-bound plan (rows-fit (T .width) (T .rows) (j .each)) (j .count .0) (j .count .1)))
-  builds w rows s i l (built T plan a u m z x c) = (length (write plan), costBy by plan, x)
+  builds w rows s i h l (built T plan a u m z x c) = (length (write plan), costBy by plan, x)
 
-  least-of : (n cost : ℕ) → buildTold r ≡ answered n cost → BuiltInto by t room room′ r
-      → LeastBy by t (take n room′) cost × (drop n room′ ≡ drop n room)
+  least-of : (n cost : ℕ) → buildTold r ≡ answered n cost → BuiltInto by columns t room room′ r
+      → LeastFor by columns t (take n room′) cost × (drop n room′ ≡ drop n room)
   least-of n cost q (table-refused h a x c) = clash (sym q ∙ x)
   least-of n cost q (room-refused T plan a u z x c) = clash (sym q ∙ x)
   least-of n cost q (built T plan a u m z x c) =
       let k = answered-one (sym x ∙ q) in
       let front = ap (take n) c ∙ take-at (write plan) (drop (length (write plan)) room) n (k .0) in
-      let i = is-table t (sym (by-table by t (by-read by t a)) ∙ a) in (
+      let d = was-read by columns t a .1 in
+      let i = is-table t d in
+      let kind = built-kind by (flagsOf (T .width) columns) plan i u in (
         record {
           width = T .width;
           rows = T .rows;
           is-table = i;
           tree = plan;
+          kind = kind;
           written = sym front;
+          accepted = rw front (kind-written (flagsOf (T .width) columns) T i plan kind);
           checked = rw front (tree-read i plan refl);
           costs = k .1;
-          none-less = λ other. rw (← k .1) (m .none-less other);
+          none-less = λ other o. rw (← k .1) (m .none-less other o);
           rule = u;
         },
         ap (drop n) c ∙ drop-at (write plan) (drop (length (write plan)) room) n (k .0) ∙ ap (λ (j : ℕ). drop j room) (k .0),
       )
 
-  pub least-built : BuiltInto by t room room′ r → Demand3Build by t room room′ (buildTold r)
+  pub least-built : BuiltInto by columns t room room′ r → Demand3Build by columns t room room′ (buildTold r)
   least-built x = record {
-    builds = λ w rows s i l. builds w rows s i l x;
+    builds = λ w rows s i h l. builds w rows s i h l x;
     least = λ n cost q. least-of n cost q x .0;
+    plain = λ w rows n cost i h q. plain-of i h (least-of n cost q x .0);
     rest = λ n cost q. least-of n cost q x .1;
   }
 

@@ -12,10 +12,10 @@ use Rattle.table.specs.declared.Part.{Part}
 use Rattle.table.specs.Table.{Table, tableOf, goalOf, goalWith, goalTold, goalSays, rowOf, rowTold}
 use Rattle.table.specs.Table.{TableReads, rowIn, RowPlace}
 use Rattle.table.proofs.Fixed.{table-fixed, goal-for-fixed, goal-fixed, row-beside-fixed, place-fixed, row-fixed}
-use Rattle.plan.specs.Check.{planOf}
+use Rattle.plan.specs.Check.{planOf, planUnder}
 use Rattle.checker.specs.declared.PlanAnswer.{PlanAnswer}
 use Rattle.checker.specs.Checked.{planTold, planSays}
-use Rattle.checker.proofs.Fixed.{plan-fixed}
+use Rattle.checker.proofs.Fixed.{plan-fixed, under-fixed}
 use Rattle.notes.specs.declared.Noted.{Noted}
 use Rattle.notes.specs.Noted.{Handed}
 use Rattle.notes.proofs.Fixed.{handed-fixed}
@@ -37,9 +37,9 @@ use Rattle.loading.specs.Load.{TextLoads}
 use Rattle.prolog.specs.Entry.{textTold}
 use Rattle.prolog.specs.declared.TextAnswer.{TextAnswer}
 use Rattle.prolog.proofs.Fixed.{read-text-fixed}
-use Rattle.exports.specs.Coded.{WorkCoded, EditCoded, BuildCoded, RunCoded, TextCoded, JobsCoded, RepliesCoded, ClausesCoded}
+use Rattle.exports.specs.Coded.{WorkCoded, EditCoded, BuildCoded, BuildForCoded, RunCoded, TextCoded, JobsCoded, RepliesCoded, ClausesCoded}
 use Rattle.exports.specs.Coded.{FileWriteCoded, FileReadCoded, SalvageCoded}
-use Rattle.exports.proofs.Fixed.{work-coded-fixed, edit-coded-fixed, build-coded-fixed, run-coded-fixed, text-coded-fixed, jobs-coded-fixed, replies-coded-fixed}
+use Rattle.exports.proofs.Fixed.{work-coded-fixed, edit-coded-fixed, build-coded-fixed, run-coded-fixed, text-coded-fixed, jobs-coded-fixed, replies-coded-fixed, build-for-coded-fixed}
 use Rattle.exports.proofs.Fixed.{clauses-coded-fixed, written-coded-fixed, loaded-coded-fixed, salvage-coded-fixed}
 use Rattle.answer.specs.declared.Job.{Job}
 use Rattle.answer.specs.Jobs.{JobsRun}
@@ -85,12 +85,16 @@ held-row-beside = row-beside-fixed
 pub held-check : (t p : List ℕ) {r s : PlanAnswer} → planTold r ≡ planSays (planOf t p) → planTold s ≡ planSays (planOf t p) → r ≡ s
 held-check = plan-fixed
 
+pub held-check-for : (t columns p : List ℕ) {r s : PlanAnswer} → planTold r ≡ planSays (planUnder t columns p)
+    → planTold s ≡ planSays (planUnder t columns p) → r ≡ s
+held-check-for = under-fixed
+
 pub held-noted : {t p before after after′ : List ℕ} {r s : Noted} → Handed t p before after r → Handed t p before after′ s
     → (r ≡ s) × (after ≡ after′)
 held-noted = handed-fixed
 
-pub held-build : {by : By} {t room room′ room″ : List ℕ} {r s : BuildAnswer} → BuiltInto by t room room′ r → BuiltInto by t room room″ s
-    → (r ≡ s) × (room′ ≡ room″)
+pub held-build : {by : By} {columns t room room′ room″ : List ℕ} {r s : BuildAnswer} → BuiltInto by columns t room room′ r
+    → BuiltInto by columns t room room″ s → (r ≡ s) × (room′ ≡ room″)
 held-build = build-fixed
 
 pub held-run : {t p g room room′ room″ : List ℕ} {r s : RunAnswer} → Ran t p g room room′ r → Ran t p g room room″ s
@@ -151,6 +155,10 @@ held-exported-edit = edit-coded-fixed
 pub held-exported-build : {figure : ℕ} {T : Table} {rec room room′ room″ : List ℕ} {r s : ℕ} → Holds rec figure T → BuildCoded rec room room′ r
     → BuildCoded rec room room″ s → (r ≡ s) × (room′ ≡ room″)
 held-exported-build = build-coded-fixed
+
+pub held-exported-build-for : {rec columns room room′ room″ : List ℕ} {r s : ℕ} → BuildForCoded rec columns room room′ r
+    → BuildForCoded rec columns room room″ s → (r ≡ s) × (room′ ≡ room″)
+held-exported-build-for = build-for-coded-fixed
 
 pub held-exported-run : {t p g room room′ room″ : List ℕ} {r s : ℕ} → RunCoded t p g room room′ r → RunCoded t p g room room″ s
     → (r ≡ s) × (room′ ≡ room″)

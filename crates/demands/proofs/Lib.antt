@@ -1,3 +1,4 @@
+pub mod KindLaws
 pub mod Cited
 pub mod Demands
 pub mod Replies
@@ -7,6 +8,7 @@ pub mod Files
 pub mod SalvageSteps
 pub mod BadSteps
 pub mod Salvage
+pub mod Columns
 pub mod Twice
 pub mod Held
 pub mod Texts

@@ -19,6 +19,7 @@ use Rattle.table.proofs.ReadLaws.{apart, read-one, refuse-one}
 use Rattle.plan.specs.Plans.{Plan, plain}
 use Rattle.least.specs.Least.{Built}
 use Rattle.least.proofs.Building.{built-least}
+use Rattle.least.proofs.NoneNamed.{plain-least}
 use Rattle.least.proofs.Later.{from-plain}
 use Rattle.least.proofs.Weighed.{plain-light}
 use Rattle.octets.specs.Octets.{cellsOf}
@@ -46,12 +47,12 @@ of-table {text = text} {width} {rows} i (listed T tree e b) = of-rows (read-one 
     terms : All (Terms width) rows
     terms = all-each (Row width) (Terms width) (λ r x. x .terms) rows (i .each)
 
-    of-rows : {U : Table} → U ≡ table width rows → (p : Plan (U .width) (U .rows)) → Built plain p → text ≡ listingOf U p → Fewest width rows text
-    of-rows q = subst (λ (U : Table). (p : Plan (U .width) (U .rows)) → Built plain p → text ≡ listingOf U p → Fewest width rows text) (sym q) (λ p d k.
+    of-rows : {U : Table} → U ≡ table width rows → (p : Plan (U .width) (U .rows)) → Built plain [] p → text ≡ listingOf U p → Fewest width rows text
+    of-rows q = subst (λ (U : Table). (p : Plan (U .width) (U .rows)) → Built plain [] p → text ≡ listingOf U p → Fewest width rows text) (sym q) (λ p d k.
         record {
           tree = p;
           rule = d;
-          fewest = λ other. omega (arith, built-least plain plain-light p terms d .none-less other, from-plain p [], from-plain other []);
+          fewest = λ other. omega (arith, plain-least plain (built-least plain plain-light [] p terms d .0) other, from-plain p [], from-plain other []);
           text-is = sym k;
         })
 

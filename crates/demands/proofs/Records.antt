@@ -138,6 +138,6 @@ pub builds-from : {rec room room′ : List ℕ} {n : ℕ} → BuildCoded rec roo
 builds-from {rec} {room} {room′} x figure T h =
     let y = x figure T h in
     let e = sym (build-back y) in (
-      subst (Demand1Build (Work figure) (cellsIn T) room room′) e (build-kept (y .built)),
-      subst (Demand3Build (Work figure) (cellsIn T) room room′) e (least-built (y .built)),
+      subst (Demand1Build (Work figure) [] (cellsIn T) room room′) e (build-kept (y .built)),
+      subst (Demand3Build (Work figure) [] (cellsIn T) room room′) e (least-built (y .built)),
     )

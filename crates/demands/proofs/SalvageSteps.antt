@@ -23,6 +23,7 @@ use Rattle.least.specs.Measures.{work}
 use Rattle.least.specs.declared.By.the-variants.{Work}
 use Rattle.least.proofs.Weighed.{by-light}
 use Rattle.least.proofs.Building.{built-least}
+use Rattle.least.proofs.NoneNamed.{plain-least}
 use Rattle.octets.specs.Octets.{cellsOf}
 use Rattle.blocks.specs.Blocks.{sound, whole, good, goodCells, blockAt, cellsIn}
 use Rattle.blocks.proofs.BlockLaws.{and-both, cells-size, sound-parts}
@@ -295,8 +296,8 @@ module _ (f : List ℕ) (h : Headed f) (s : 1 ≤ length (kept f)) where
         checked = tree-read i plan refl;
         costs = refl;
         none-less =
-            built-least (work 0) (by-light (Work 0)) plan (all-each (Row (T .width)) (Terms (T .width)) (λ r x. x .terms) (T .rows) (i .each)) b
-            .none-less;
+            plain-least (work 0)
+            (built-least (work 0) (by-light (Work 0)) [] plan (all-each (Row (T .width)) (Terms (T .width)) (λ r x. x .terms) (T .rows) (i .each)) b .0);
         rule = b;
       })
 

@@ -22,6 +22,7 @@ use Rattle.term.specs.Terms.{Terms}
 use Rattle.table.proofs.AllLaws.{all-each}
 use Rattle.table.proofs.ReadLaws.{apart, refuse-one, not-both}
 use Rattle.table.proofs.Accepted.{is-table, is-goal}
+use Rattle.plan.specs.Named.{flagsOf}
 use Rattle.plan.specs.Runs.{agree}
 use Rattle.plan.specs.Plans.{Plan, branches, cost}
 use Rattle.plan.proofs.RunsLaws.{agree-fixed}
@@ -33,9 +34,11 @@ use Rattle.least.proofs.Later.{cost-from, from-plain}
 use Rattle.least.proofs.Weighed.{by-light}
 use Rattle.record.specs.Edits.{Edit}
 use Rattle.answer.specs.declared.Job.{Job}
-use Rattle.exports.proofs.Places.{Placed, good, turned, placed-table, placed-row, placed-goal, placed-asked, placed-checked}
+use Rattle.exports.proofs.Places.{Placed, good, turned, placed-table, placed-row, placed-goal, placed-asked, placed-checked, placed-with}
 use Rattle.demands.specs.Demands.{Demand1Table, Demand1Goal, Demand1Check, Demand1Build, Demand1Run}
-use Rattle.demands.specs.Demands.{BuildTurned, no-figure, no-table, no-room, RunTurned, bad-table, bad-plan, bad-goal, bad-room}
+use Rattle.demands.specs.Columns.{CheckForTurned, ChecksFor}
+use Rattle.demands.specs.Columns as kinds
+use Rattle.demands.specs.Demands.{BuildTurned, no-figure, no-table, no-column, no-room, RunTurned, bad-table, bad-plan, bad-goal, bad-room}
 use Rattle.demands.specs.Texts.{TextTurned, Request201}
 use Rattle.demands.specs.Texts as texts
 use Rattle.demands.specs.Shift.{Shift, OneJob, goalIn}
@@ -75,13 +78,23 @@ never-read-goal {t} {g} x f e = placed (placed-asked t g) (x .refuses f .0 e)
 pub never-check : {t p : List ℕ} {a : Answer} → Demand1Check t p a → NeverTwice a
 never-check {t} {p} x f e = placed (placed-checked t p) (x .refuses f .0 e)
 
-pub never-build : {by : By} {t room after : List ℕ} {a : Answer} → Demand1Build by t room after a → NeverTwice a
-never-build {by} {t} {room} x f e = go (x .refuses f .0 e)
+-- for named columns too
+pub never-check-for : {t columns p : List ℕ} {a : Answer} → ChecksFor t columns p a → NeverTwice a
+never-check-for {t} {columns} {p} x f e = go (x columns (λ c. (λ m. m, λ m. m)) .refuses f .0 e)
   where
-    go : BuildTurned by t room f → f .number ≢ 8
+    go : CheckForTurned t columns p f → f .number ≢ 8
+    go (kinds.bad-table q) = placed (placed-table t) q
+    go (kinds.no-column i m q) = named reason.Column (same q)
+    go (kinds.bad-plan {width = w} {rows} i h q) = placed (placed-with (flagsOf w columns) (table w rows) p) q
+
+pub never-build : {by : By} {columns t room after : List ℕ} {a : Answer} → Demand1Build by columns t room after a → NeverTwice a
+never-build {by} {columns} {t} {room} x f e = go (x .refuses f .0 e)
+  where
+    go : BuildTurned by columns t room f → f .number ≢ 8
     go (no-figure h q) = named reason.Figure (same q)
     go (no-table h q) = placed (placed-table t) q
-    go (no-room h i tree b l q) = named reason.Room (same q)
+    go (no-column h i m q) = named reason.Column (same q)
+    go (no-room h i k tree b l q) = named reason.Room (same q)
 
 pub never-run : {t p g room after : List ℕ} {a : Answer} → Demand1Run t p g room after a → NeverTwice a
 never-run {t} {p} {g} {room} x f e = go (x .refuses f .0 e)

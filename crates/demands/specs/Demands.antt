@@ -15,14 +15,16 @@ use Rattle.refusal.specs.Refusal.{Refused, refused, Answer, answered, turned}
 use Rattle.refusal.specs.declared.Reason.the-variants as reason
 use Rattle.refusal.specs.declared.Input.the-variants as input
 use Rattle.refusal.specs.Read.{read, refuse}
-use Rattle.table.specs.Table.{tableOf, goalOf, goalWith, IsTable, IsGoal, appear, upFrom}
+use Rattle.table.specs.Table.{table, tableOf, goalOf, goalWith, IsTable, IsGoal, appear, upFrom}
 use Rattle.plan.specs.Plans.{Plan, write, branches}
-use Rattle.plan.specs.Check.{planOf}
+use Rattle.plan.specs.Named.{flagsOf}
+use Rattle.plan.specs.Check.{planOf, planWith}
 use Rattle.least.specs.Least.{Built}
 use Rattle.least.specs.Measures.{measureOf, costBy}
 use Rattle.least.specs.declared.By.{By}
 use Rattle.answer.specs.Skeleton.{hole}
 use Rattle.answer.specs.Run.{Ascends, Counts, skeletons, Tried}
+use Rattle.demands.specs.Kind.{There, Missing, NoneOrAll, OfKind}
 
 -- DEMAND 1. "Every entry takes any cells at all and ends. .. Nobody has to check first." No public function has a `requires`, and that a
 -- function returns is part of what the checker proves of it. "A bad table, plan or goal is refused by the number and place document 01
@@ -54,17 +56,20 @@ pub record Demand1Place (cells : List ℕ) (number : ℕ) (answer : Answer) : Ty
 pub record Demand1Check (cells plan : List ℕ) (answer : Answer) : Type 0 where
   pub refuses : (f : Refused) → (answer ≡ turned f) ↔ (planOf cells plan ≡ refuse f)
 
--- 02, W-204, "FIGURE for a figure above 15, before the table's", and 01, "Building checks the table, then ROOM (fewer cells lent than the
--- plan has)": what turns a building by a measure away, and the refusal that it gets. The place of ROOM is the number of cells needed
-pub data BuildTurned (by : By) (cells room : List ℕ) (refusal : Refused) : Type 0 where
-  no-figure : 15 < measureOf by .figure → refusal ≡ refused reason.Figure input.Figure 0 → BuildTurned by cells room refusal
-  no-table : measureOf by .figure ≤ 15 → tableOf cells ≡ refuse refusal → BuildTurned by cells room refusal
-  no-room : {width : ℕ} {rows : List (List ℕ)} → measureOf by .figure ≤ 15 → IsTable cells width rows → (tree : Plan width rows)
-      → Built (measureOf by) tree → length room < length (write tree) → refusal ≡ refused reason.Room input.Lent (length (write tree))
-      → BuildTurned by cells room refusal
+-- 02, W-204, "FIGURE for a figure above 15, before the table's", W-213, "COLUMN for a column not below the width, after the table's and before
+-- .. ROOM", and 01, "Building checks the table, then ROOM (fewer cells lent than the plan has)": what turns a building by a measure away, for
+-- named columns or, by the empty list, for none; and the refusal that it gets. The place of ROOM is the number of cells needed
+pub data BuildTurned (by : By) (columns cells room : List ℕ) (refusal : Refused) : Type 0 where
+  no-figure : 15 < measureOf by .figure → refusal ≡ refused reason.Figure input.Figure 0 → BuildTurned by columns cells room refusal
+  no-table : measureOf by .figure ≤ 15 → tableOf cells ≡ refuse refusal → BuildTurned by columns cells room refusal
+  no-column : {width : ℕ} {rows : List (List ℕ)} → measureOf by .figure ≤ 15 → IsTable cells width rows → Missing width columns
+      → refusal ≡ refused reason.Column input.Columns 0 → BuildTurned by columns cells room refusal
+  no-room : {width : ℕ} {rows : List (List ℕ)} → measureOf by .figure ≤ 15 → IsTable cells width rows → There width columns
+      → (tree : Plan width rows) → Built (measureOf by) (flagsOf width columns) tree → length room < length (write tree)
+      → refusal ≡ refused reason.Room input.Lent (length (write tree)) → BuildTurned by columns cells room refusal
 
-pub record Demand1Build (by : By) (cells room after : List ℕ) (answer : Answer) : Type 0 where
-  pub refuses : (f : Refused) → (answer ≡ turned f) ↔ BuildTurned by cells room f
+pub record Demand1Build (by : By) (columns cells room after : List ℕ) (answer : Answer) : Type 0 where
+  pub refuses : (f : Refused) → (answer ≡ turned f) ↔ BuildTurned by columns cells room f
   pub untouched : (f : Refused) → answer ≡ turned f → after ≡ room
 
 -- 01, "A run takes table, plan, goal, then ROOM (fewer bytes lent than the table has rows)": what turns a run away, and the refusal that it
@@ -128,10 +133,9 @@ Demand3Run cells plan goal room after answer =
     → length rows ≤ length room → (w : Writes width rows plan b) × Answers (w .tree) goal room after answer
 
 -- "The plan our builder writes has the fewest branches of all plans the check accepts for that table", and 02, W-204, "Least in demand 3
--- now reads by this measure; ties as before", with 01's number of branches as one more: given a small figure and room for any plan it writes
--- one; the check accepts what is written and answers its number of branches; the cost that is answered is that plan's, and no plan of the
--- table costs less. By demand 3's check these are all that the check accepts. Of several that cost least it is the one that 01 fixes ("The
--- builder's plan is fixed")
+-- now reads by this measure; ties as before", with 01's number of branches as one more: the check accepts what is written and answers its
+-- number of branches; the cost that is answered is that plan's, and no plan of the table costs less. By demand 3's check these are all that
+-- the check accepts. Of several that cost least it is the one that 01 fixes ("The builder's plan is fixed")
 pub record LeastBy (by : By) (cells plan : List ℕ) (cost : ℕ) : Type 0 where
   pub width : ℕ
   pub rows : List (List ℕ)
@@ -141,11 +145,30 @@ pub record LeastBy (by : By) (cells plan : List ℕ) (cost : ℕ) : Type 0 where
   pub checked : planOf cells plan ≡ read (branches tree)
   pub costs : costBy by tree ≡ cost
   pub none-less : (other : Plan width rows) → cost ≤ costBy by other
-  pub rule : Built (measureOf by) tree
+  pub rule : Built (measureOf by) [] tree
 
-pub record Demand3Build (by : By) (cells room after : List ℕ) (answer : Answer) : Type 0 where
-  pub builds : (width : ℕ) (rows : List (List ℕ)) → measureOf by .figure ≤ 15 → IsTable cells width rows → 6082 ≤ length room
-      → (n : ℕ) × (cost : ℕ) × (answer ≡ answered n cost)
-  pub least : (n cost : ℕ) → answer ≡ answered n cost → LeastBy by cells (take n after) cost
+-- W-213, "The builder's plan is least among accepted plans of this kind, ties as in 01 within what may be chosen": the same of the plans of the
+-- kind, by the check for it, which accepts these alone; and demand 3's check accepts it too
+pub record LeastFor (by : By) (columns cells plan : List ℕ) (cost : ℕ) : Type 0 where
+  pub width : ℕ
+  pub rows : List (List ℕ)
+  pub is-table : IsTable cells width rows
+  pub tree : Plan width rows
+  pub kind : OfKind columns tree
+  pub written : write tree ≡ plan
+  pub accepted : planWith (flagsOf width columns) (table width rows) plan ≡ read (branches tree)
+  pub checked : planOf cells plan ≡ read (branches tree)
+  pub costs : costBy by tree ≡ cost
+  pub none-less : (other : Plan width rows) → OfKind columns other → cost ≤ costBy by other
+  pub rule : Built (measureOf by) (flagsOf width columns) tree
+
+-- Given a small figure, columns that are there and room for any plan it writes one. "with no column named, or all of them, it is the plain least
+-- plan": so this is demand 3 for the empty list
+pub record Demand3Build (by : By) (columns cells room after : List ℕ) (answer : Answer) : Type 0 where
+  pub builds : (width : ℕ) (rows : List (List ℕ)) → measureOf by .figure ≤ 15 → IsTable cells width rows → There width columns
+      → 6082 ≤ length room → (n : ℕ) × (cost : ℕ) × (answer ≡ answered n cost)
+  pub least : (n cost : ℕ) → answer ≡ answered n cost → LeastFor by columns cells (take n after) cost
+  pub plain : (width : ℕ) (rows : List (List ℕ)) (n cost : ℕ) → IsTable cells width rows → NoneOrAll width columns
+      → answer ≡ answered n cost → LeastBy by cells (take n after) cost
   -- 01, "the rest of the room is untouched"
   pub rest : (n cost : ℕ) → answer ≡ answered n cost → drop n after ≡ drop n room

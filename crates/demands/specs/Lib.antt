@@ -1,3 +1,4 @@
+pub mod Kind
 pub mod Demands
 pub mod Listing
 pub mod Texts
@@ -10,3 +11,4 @@ pub mod Asking
 pub mod Clauses
 pub mod Files
 pub mod Salvage
+pub mod Columns

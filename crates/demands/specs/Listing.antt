@@ -5,7 +5,7 @@
 use Prim.Native.Nat.{ℕ, _%_, _≤_, _<_}
 use mathlib.Core.Path.{_≡_}
 use mathlib.Core.Logic.{_⊎_}
-use mathlib.Core.List.{List}
+use mathlib.Core.List.{List, []}
 use lib.ListN.{length, take, drop}
 use Rattle.refusal.specs.Refusal.{Refused}
 use Rattle.refusal.specs.Read.{refuse}
@@ -24,7 +24,7 @@ WholeCells bytes = (length bytes % 4 ≡ 0) × (length bytes ≤ 8200)
 -- listing keeps (W-204); and of several such it is the one that 01 fixes
 pub record Fewest (width : ℕ) (rows : List (List ℕ)) (text : List ℕ) : Type 0 where
   pub tree : Plan width rows
-  pub rule : Built plain tree
+  pub rule : Built plain [] tree
   pub fewest : (other : Plan width rows) → branches tree ≤ branches other
   pub text-is : listingOf (table width rows) tree ≡ text
 

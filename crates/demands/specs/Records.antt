@@ -3,7 +3,7 @@
 use Prim.Native.Nat.{ℕ, _≤_, _<_}
 use mathlib.Core.Path.{_≡_}
 use mathlib.Core.Logic.{_↔_}
-use mathlib.Core.List.{List}
+use mathlib.Core.List.{List, []}
 use lib.ListN.{length, drop}
 use Rattle.refusal.specs.Refusal.{Refused, refused, Answer, answered, turned}
 use Rattle.refusal.specs.declared.Reason.the-variants as reason
@@ -56,10 +56,11 @@ abbrev pub Anew : Type 0
 Anew = (figure : ℕ) (rec old new : List ℕ) (T : Table) (answer : Answer) → Made figure rec T → WorkedOut figure (cellsIn T) old new answer
     → rec ≡ new
 
--- "as one record that every caller now passes": a plan built from a record is the one built from its table by its figure
+-- "as one record that every caller now passes": a plan built from a record is the one built from its table by its figure, with no column named
 abbrev pub BuildsFrom : (rec room room′ : List ℕ) → Answer → Type 0
-BuildsFrom rec room room′ answer = (figure : ℕ) (T : Table) → Holds rec figure T → Demand1Build (Work figure) (cellsIn T) room room′ answer
-    × Demand3Build (Work figure) (cellsIn T) room room′ answer
+BuildsFrom rec room room′ answer =
+    (figure : ℕ) (T : Table) → Holds rec figure T
+    → Demand1Build (Work figure) [] (cellsIn T) room room′ answer × Demand3Build (Work figure) [] (cellsIn T) room room′ answer
 
 -- of a record that was made the table's part is the table: what reads it answers for that table (row, goal, check, run, jobs, replies)
 abbrev pub TablePart : Type 0

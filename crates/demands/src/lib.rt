@@ -19,6 +19,7 @@ ghost use Rattle.demands.specs.Numbers.{ReadsCell, PrintsSymbol};
 ghost use Rattle.demands.specs.Shift.{Shift};
 ghost use Rattle.demands.specs.Replies.{RepliesRefused, Says};
 ghost use Rattle.demands.specs.Records.{MakesRecord, EditsRecord, BuildsFrom};
+ghost use Rattle.demands.specs.Columns.{ChecksFor, BuildsFor};
 ghost use Rattle.demands.specs.Clauses.{ClausesRefused, HandsBack};
 ghost use Rattle.demands.specs.Files.{WriteRefused, WritesFile, ThereAndBack, ReadRefused, ReadsFile, BackAgain};
 ghost use Rattle.demands.specs.Salvage.{SalvageRefused, Salvages, Unchanged, Originals};
@@ -206,6 +207,19 @@ fn request_salvage(
     ensures { λ r. ⌜ Originals (now (file .entry)) (now (table .exit)) (decoded r) ⌝ }
 {
     exports::dudowiej_salvage(file, table, plan, bad, report)
+}
+
+// W-213 (specs/Columns)
+fn request_check_for(rec: &[u32; 14340], columns: &[u32], plan: &[u32]) -> u64
+    ensures { λ r. ⌜ ChecksFor (tableIn (now (rec .entry))) (now (columns .entry)) (now (plan .entry)) (decoded r) ⌝ }
+{
+    exports::dudowiej_check_for(rec, columns, plan)
+}
+
+fn request_build_for(rec: &[u32; 14340], columns: &[u32], room: &mut [u32]) -> u64
+    ensures { λ r. ⌜ BuildsFor (now (rec .entry)) (now (columns .entry)) (now (room .entry)) (now (room .exit)) (decoded r) ⌝ }
+{
+    exports::dudowiej_build_for(rec, columns, room)
 }
 
 // What is lent as cells of 32 bits is that, and so can be read back.

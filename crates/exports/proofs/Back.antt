@@ -3,19 +3,20 @@ use Prim.Native.Nat.{ℕ}
 use mathlib.Core.Path.{_≡_}
 use mathlib.Core.List.{List}
 use native.Mathlib.Omega.{arith}
+use lib.ListN.{getD}
 use Rattle.refusal.specs.Coded.{coded, decoded}
 use Rattle.refusal.proofs.CodedLaws.{read-back}
 use Rattle.table.specs.Table.{Table, tableOf, tableSays, goalWith, goalSays}
-use Rattle.plan.specs.Check.{planOf}
+use Rattle.plan.specs.Check.{planOf, planUnder}
 use Rattle.checker.specs.Checked.{planSays}
 use Rattle.least.specs.declared.By.the-variants.{Work}
 use Rattle.record.specs.Edits.{Edit}
 use Rattle.builder.specs.Build.{buildTold}
 use Rattle.answer.specs.Run.{runTold}
 use Rattle.exports.specs.Coded.{rowSays, WorkCoded, EditSays, BuildSays, RunCoded, TextCoded, JobsCoded, RepliesCoded, ClausesCoded}
-use Rattle.exports.specs.Coded.{cut, FileWriteCoded, FileReadCoded, salvageSays, SalvageCoded}
+use Rattle.exports.specs.Coded.{cut, FileWriteCoded, FileReadCoded, salvageSays, SalvageCoded, BuildForCoded}
 use Rattle.exports.proofs.Small.{table-small, goal-with-small, row-small, plan-small, work-small, edit-small, build-small, run-small, text-small, jobs-small, replies-small}
-use Rattle.exports.proofs.Small.{written-small, loaded-small, salvaged-small}
+use Rattle.exports.proofs.Small.{written-small, loaded-small, salvaged-small, under-small}
 use Rattle.answer.specs.declared.Job.{Job}
 use Rattle.instance.specs.Replied.{repliesTold}
 use Rattle.clauses.specs.Handed.{handTold}
@@ -32,6 +33,9 @@ row-back t r = let s = row-small t r in read-back (omega arith, omega arith)
 pub plan-back : (t p : List ℕ) {n : ℕ} → n ≡ coded (planSays (planOf t p)) → decoded n ≡ planSays (planOf t p)
 plan-back t p = read-back (plan-small t p)
 
+pub under-back : (t columns p : List ℕ) {n : ℕ} → n ≡ coded (planSays (planUnder t columns p)) → decoded n ≡ planSays (planUnder t columns p)
+under-back t columns p = read-back (under-small t columns p)
+
 pub work-back : {figure : ℕ} {cells rec rec′ : List ℕ} {n : ℕ} (x : WorkCoded figure cells rec rec′ n) → decoded n ≡ x .told
 work-back x = read-back (work-small (x .worked)) (x .code)
 
@@ -40,6 +44,9 @@ edit-back x = read-back (edit-small (x .edited)) (x .code)
 
 pub build-back : {figure : ℕ} {T : Table} {room room′ : List ℕ} {n : ℕ} (x : BuildSays figure T room room′ n) → decoded n ≡ buildTold (x .answer)
 build-back {figure} x = read-back (build-small (Work figure) (x .built)) (x .code)
+
+pub build-for-back : {rec columns room room′ : List ℕ} {n : ℕ} (x : BuildForCoded rec columns room room′ n) → decoded n ≡ buildTold (x .answer)
+build-for-back {rec} x = read-back (build-small (Work (getD rec 1 0)) (x .built)) (x .code)
 
 pub run-back : {t p g room room′ : List ℕ} {n : ℕ} (x : RunCoded t p g room room′ n) → decoded n ≡ runTold (x .answer)
 run-back x = read-back (run-small (x .ran)) (x .code)

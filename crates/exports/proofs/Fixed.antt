@@ -17,7 +17,7 @@ use Rattle.loading.proofs.Fixed.{text-fixed}
 use Rattle.refusal.specs.Refusal.{Answer}
 use Rattle.refusal.specs.Coded.{coded}
 use Rattle.exports.specs.Coded.{WorkCoded, EditCoded, BuildCoded, RunCoded, TextCoded, JobsCoded, RepliesCoded, ClausesCoded}
-use Rattle.exports.specs.Coded.{cut, FileWriteCoded, FileReadCoded, salvageSays, reportAfter, SalvageCoded}
+use Rattle.exports.specs.Coded.{cut, FileWriteCoded, FileReadCoded, salvageSays, reportAfter, SalvageCoded, BuildForCoded}
 use Rattle.answer.specs.declared.Job.{Job}
 use Rattle.answer.proofs.JobsLaws.{jobs-fixed}
 use Rattle.instance.specs.Replied.{repliesTold}
@@ -46,6 +46,12 @@ pub build-coded-fixed : {figure : ℕ} {T : Table} {rec room room′ room″ : L
 build-coded-fixed {figure} {T} x a b =
     let f = build-fixed (a figure T x .built) (b figure T x .built) in
     (a figure T x .code ∙ ap (λ (r : BuildAnswer). coded (buildTold r)) (f .0) ∙ sym (b figure T x .code), f .1)
+
+pub build-for-coded-fixed : {rec columns room room′ room″ : List ℕ} {m n : ℕ} → BuildForCoded rec columns room room′ m
+    → BuildForCoded rec columns room room″ n → (m ≡ n) × (room′ ≡ room″)
+build-for-coded-fixed a b =
+    let f = build-fixed (a .built) (b .built) in
+    (a .code ∙ ap (λ (r : BuildAnswer). coded (buildTold r)) (f .0) ∙ sym (b .code), f .1)
 
 pub run-coded-fixed : {t p g room room′ room″ : List ℕ} {m n : ℕ} → RunCoded t p g room room′ m → RunCoded t p g room room″ n
     → (m ≡ n) × (room′ ≡ room″)

@@ -17,7 +17,8 @@ use Rattle.refusal.specs.declared.Reason.the-variants as reason
 use Rattle.refusal.specs.declared.Input.{Input}
 use Rattle.refusal.specs.declared.Input.the-variants as input
 use Rattle.plan.specs.Runs.{Run, runs}
-use Rattle.plan.specs.Check.{Seen, seen, cellThen, Reader, branchesFrom, leafFrom, stateFrom, nothingAfter, planFor, planOf}
+use Rattle.plan.specs.Named.{spread, may, anyPast}
+use Rattle.plan.specs.Check.{Seen, seen, cellThen, Reader, branchesFrom, leafFrom, stateFrom, nothingAfter, planWith, planFor, planOf, columnsFor, planUnder}
 use Rattle.answer.specs.Run.{runOf}
 use Rattle.instance.specs.Replied.{repliesOf}
 use Rattle.clauses.specs.Handed.{handOf}
@@ -186,15 +187,15 @@ module _ (n : ℕ) where
   placed-cell ok k p f (c ∷ xs) e h = placed-when (not (ok c)) k input.Plan p (omega arith) (λ _. h c xs (omega arith))
 
   abbrev Reads : Reader → Type 0
-  Reads below = (k : ℕ) (rows : List (List ℕ)) (p : ℕ) (xs : List ℕ) → p + length xs ≡ n → Placed n (Left n) (below k rows p xs)
+  Reads below = (fs : List Bool) (k : ℕ) (rows : List (List ℕ)) (p : ℕ) (xs : List ℕ) → p + length xs ≡ n → Placed n (Left n) (below fs k rows p xs)
 
-  placed-branches : (below : Reader) → Reads below → (k : ℕ) (gs : List Run) (p : ℕ) (xs : List ℕ) → p + length xs ≡ n
-      → Placed n (Left n) (branchesFrom below k gs p xs)
-  placed-branches below r k [] p xs e = good {x = seen 0 p xs} e
-  placed-branches below r k (g ∷ gs) p xs e =
+  placed-branches : (below : Reader) → Reads below → (fs : List Bool) (i k : ℕ) (gs : List Run) (p : ℕ) (xs : List ℕ) → p + length xs ≡ n
+      → Placed n (Left n) (branchesFrom below fs i k gs p xs)
+  placed-branches below r fs i k [] p xs e = good {x = seen 0 p xs} e
+  placed-branches below r fs i k (g ∷ gs) p xs e =
       placed-cell (λ c. eqb c (g .cell)) reason.Label p _ xs e (λ c ys l.
-      placed-then _ (r (arity (g .cell) + k) (g .rows) (suc p) ys l) (λ s m.
-      placed-then _ (placed-branches below r k gs (s .next) (s .rest) m) (λ t o.
+      placed-then _ (r (spread i (arity (g .cell)) fs) (arity (g .cell) + k) (g .rows) (suc p) ys l) (λ s m.
+      placed-then _ (placed-branches below r fs i k gs (s .next) (s .rest) m) (λ t o.
       good {x = seen (suc (s .branches + t .branches)) (t .next) (t .rest)} o)))
 
   placed-leaf : (rows : List (List ℕ)) (p : ℕ) (xs : List ℕ) → p + length xs ≡ n → Placed n (Left n) (leafFrom rows p xs)
@@ -202,25 +203,37 @@ module _ (n : ℕ) where
 
   placed-state : (m : ℕ) → Reads (stateFrom m)
   unfolding stateFrom
-  placed-state zero zero rows p xs e = placed-leaf rows p xs e
-  placed-state zero (suc k) rows p xs e = turned reason.Ends input.Plan p (omega arith)
-  placed-state (suc m) zero rows p xs e = placed-leaf rows p xs e
-  placed-state (suc m) (suc k) rows p xs e =
+  placed-state zero fs zero rows p xs e = placed-leaf rows p xs e
+  placed-state zero fs (suc k) rows p xs e = turned reason.Ends input.Plan p (omega arith)
+  placed-state (suc m) fs zero rows p xs e = placed-leaf rows p xs e
+  placed-state (suc m) fs (suc k) rows p xs e =
       placed-cell (λ c. leb c k) reason.Open p _ xs e (λ i ys l.
+      placed-when (not (may fs i)) reason.Early input.Plan p (omega arith) (λ _.
       placed-cell (λ c. eqb c (length (runs i rows))) reason.Edges (suc p) _ ys l (λ b zs o.
-      placed-branches (λ j rs q us. stateFrom m j rs q us) (placed-state m) k (runs i rows) (suc (suc p)) zs o))
+      placed-branches (λ gs j rs q us. stateFrom m gs j rs q us) (placed-state m) fs i k (runs i rows) (suc (suc p)) zs o)))
 
-pub placed-plan : (T : Table) (cells : List ℕ) → Placed 6082 (Any {A = ℕ}) (planFor T cells)
-unfolding planFor
-placed-plan T cells =
+pub placed-with : (fs : List Bool) (T : Table) (cells : List ℕ) → Placed 6082 (Any {A = ℕ}) (planWith fs T cells)
+unfolding planWith
+placed-with fs T cells =
     placed-when (ltb 6082 (length cells)) reason.Size input.Plan 0 (omega arith) (λ h.
     let hi = ltb-false 6082 (length cells) h in
-    placed-then nothingAfter (narrow hi (placed-state (length cells) 32 (T .width) (T .rows) 0 cells (omega arith)))
+    placed-then nothingAfter (narrow hi (placed-state (length cells) 32 fs (T .width) (T .rows) 0 cells (omega arith)))
     (λ s l. placed-when (ltb 0 (length (s .rest))) reason.Extra input.Plan (s .next) l (λ _. good tt)))
   where
     narrow : {n : ℕ} {r : Read Seen} → n ≤ 6082 → Placed n (Left n) r → Placed 6082 (λ (s : Seen). s .next ≤ 6082) r
     narrow l (good {x} w) = good {x = x} (omega arith)
     narrow l (turned k i p q) = turned k i p (omega arith)
+
+pub placed-plan : (T : Table) (cells : List ℕ) → Placed 6082 (Any {A = ℕ}) (planFor T cells)
+placed-plan = placed-with []
+
+-- the check for named columns: COLUMN between the table's and the plan's
+placed-columns : (T : Table) (columns : List ℕ) → Placed 6082 (Any {A = List Bool}) (columnsFor T columns)
+placed-columns T columns = placed-when (anyPast (T .width) columns) reason.Column input.Columns 0 (omega arith) (λ _. good tt)
+
+pub placed-under : (t columns p : List ℕ) → Placed 6082 (Any {A = ℕ}) (planUnder t columns p)
+placed-under t columns p =
+    placed-then _ (widen (omega arith) (placed-table t)) (λ T _. placed-then _ (placed-columns T columns) (λ fs _. placed-with fs T p))
 
 -- a run: the table's, the plan's and the goal's refusals, and ROOM at the number of rows
 pub placed-checked : (t p : List ℕ) → Placed 6082 (Any {A = ℕ}) (planOf t p)

@@ -18,10 +18,10 @@ use Rattle.refusal.proofs.CodedLaws.{refused-small, small-by}
 use Rattle.refusal.specs.Read.{Read, read, refuse, andThen}
 use Rattle.table.specs.Table.{Table, tableOf, tableSays, goalOf, goalSays, goalWith, rowIn, startsIn, starts, Row}
 use Rattle.table.specs.All.{All}
-use Rattle.table.proofs.ReadLaws.{refuse-one}
+use Rattle.table.proofs.ReadLaws.{apart, refuse-one, first}
 use Rattle.table.proofs.Accepted.{is-table, is-goal, table-short}
 use Rattle.table.proofs.HeadLaws.{head-few}
-use Rattle.plan.specs.Check.{planFor, planOf}
+use Rattle.plan.specs.Check.{planFor, planOf, columnsFor, planUnder}
 use Rattle.checker.specs.Checked.{planSays}
 use Rattle.plan.specs.Plans.{Plan, write, branches}
 use Rattle.plan.proofs.SizeLaws.{bound, size-bound}
@@ -33,8 +33,9 @@ use Rattle.record.specs.Record.{cellsIn, Holds}
 use Rattle.record.specs.Edits.{Edit, WorkedOut, no-record, worked, Edited, no-edit, edit}
 use Rattle.least.proofs.Measured.{by-table, by-figure, by-read}
 use Rattle.least.proofs.Weighed.{by-low, cost-few}
-use Rattle.builder.specs.Build.{BuiltInto, table-refused, room-refused, built, buildTold}
-use Rattle.plan.proofs.CheckLaws.{accepted-one, rows-fit}
+use Rattle.builder.proofs.AskedLaws.{Asked, turned-away, past-width, is-asked, asked, read-for}
+use Rattle.builder.specs.Build.{tableFor, BuiltInto, table-refused, room-refused, built, buildTold}
+use Rattle.plan.proofs.CheckLaws.{accepted-one, kind-accepted, rows-fit}
 use Rattle.answer.specs.declared.RunAnswer.{RunAnswer}
 use Rattle.answer.specs.declared.Job.{Job}
 use Rattle.answer.specs.Jobs.{JobsRun}
@@ -72,7 +73,7 @@ use Rattle.salvaging.proofs.TopLaws.{head-is}
 use Rattle.exports.specs.Coded.{cut, salvageSays}
 use Rattle.exports.proofs.CutLaws.{placed-cut}
 use Rattle.exports.proofs.Places.{placed-small, placed-table, placed-edit, placed-plan, placed-run, placed-goal, placed-replies, placed-handed}
-use Rattle.exports.proofs.Places.{placed-checked, placed-file}
+use Rattle.exports.proofs.Places.{placed-checked, placed-under, placed-file}
 
 pub table-small : (t : List ℕ) → Small (tableSays (tableOf t))
 table-small t = go (tableOf t) refl
@@ -121,20 +122,35 @@ row-small t r = go (tableOf t) refl
     go (refuse f) e = (omega (arith, getD-zeros 64 r), omega arith)
 
 -- a plan of an accepted table has at most 2,048 branches
+few-branches : (t p : List ℕ) (T : Table) → tableOf t ≡ read T → {n : ℕ} → planFor T p ≡ read n → n ≤ 2048
+few-branches t p T e {n} f =
+    let i = is-table t e in
+    let a = accepted-one T i p n .0 f in
+    omega (arith, i .count .1, a .2, bound (a .0) 32 (rows-fit (T .width) (T .rows) (i .each)) (i .count .0))
+
 pub plan-small : (t p : List ℕ) → Small (planSays (planOf t p))
 plan-small t p = go (tableOf t) refl
   where
     with-table : (T : Table) → tableOf t ≡ read T → (r : Read ℕ) → planFor T p ≡ r → Small (planSays r)
-    with-table T e (read n) f =
-        let i = is-table t e in
-        let a = accepted-one T i p n .0 f in
-        let b = bound (a .0) 32 (rows-fit (T .width) (T .rows) (i .each)) (i .count .0) in
-        (omega (arith, i .count .1, a .2), omega arith)
+    with-table T e (read n) f = (omega (arith, few-branches t p T e f), omega arith)
     with-table T e (refuse f) h = placed-small (omega arith) (placed-plan T p) h
 
     go : (r : Read Table) → tableOf t ≡ r → Small (planSays (andThen r (λ (T : Table). planFor T p)))
     go (read T) e = with-table T e (planFor T p) refl
     go (refuse f) e = placed-small (omega arith) (placed-table t) e
+
+-- and one that looks into named columns first is such a plan
+pub under-small : (t columns p : List ℕ) → Small (planSays (planUnder t columns p))
+under-small t columns p = go (planUnder t columns p) refl
+  where
+    go : (r : Read ℕ) → planUnder t columns p ≡ r → Small (planSays r)
+    go (read n) k =
+        let a = first (tableOf t) _ k in
+        let c = first (columnsFor (a .0) columns) _ (a .2) in
+        let i = is-table t (a .1) in
+        let q = kind-accepted (c .0) (a .0) (rows-fit (a .0 .width) (a .0 .rows) (i .each)) (i .count .0) (i .count .1) p n (c .2) in
+        (omega (arith, few-branches t p (a .0) (a .1) q), omega arith)
+    go (refuse f) k = placed-small (omega arith) (placed-under t columns p) k
 
 -- a plan of an accepted table has at most 6,082 cells and 2,048 branches
 plan-cells : (t : List ℕ) (T : Table) (plan : Plan (T .width) (T .rows)) → tableOf t ≡ read T
@@ -179,14 +195,24 @@ pub edit-small : {e : Edit} {figure : ℕ} {T : Table} {rec rec′ : List ℕ} {
 edit-small {e} {T = T} (no-edit f q k s) = small-by k (placed-small (omega arith) (placed-edit e T) q)
 edit-small (edit T′ q k x) = small-by k (held-small x)
 
+-- for named columns COLUMN too
+for-small : (b : By) (columns t : List ℕ) {f : Refused} → tableFor b columns t ≡ refuse f → Small (turned f)
+for-small b columns t {f} e = go (asked b columns t) e
+  where
+    go : {r : Read Table} → Asked b columns t r → r ≡ refuse f → Small (turned f)
+    go (turned-away x) q = rw (← refuse-one q) (turned-small b t x)
+    go (past-width x p) q = rw (← refuse-one q) (refused-small reason.Column input.Columns 0 (omega arith))
+    go (is-asked x p) q = apart q
+
 -- a plan that is built has at most 6,082 cells, and costs at most 20 for each of 2,048 branches
-pub build-small : (b : By) {t room room′ : List ℕ} {r : BuildAnswer} → BuiltInto b t room room′ r → Small (buildTold r)
-build-small b {t} (table-refused f a e c) = rw e (turned-small b t a)
-build-small b {t} (room-refused T plan a e l c d) =
-    rw c (refused-small reason.Room input.Lent (length (write plan)) (omega (arith, plan-cells t T plan (read-by b t a) .0)))
-build-small b {t} (built T plan a e l h c d) =
-    let n = plan-cells t T plan (read-by b t a) in
-    rw c (omega (arith, n .0), omega (arith, n .1, cost-few (measureOf b) (by-low b (by-read b t a)) [] plan))
+pub build-small : (b : By) {columns t room room′ : List ℕ} {r : BuildAnswer} → BuiltInto b columns t room room′ r → Small (buildTold r)
+build-small b {columns} {t} (table-refused f a e c) = rw e (for-small b columns t a)
+build-small b {columns} {t} (room-refused T plan a e l c d) =
+    rw c (refused-small reason.Room input.Lent (length (write plan)) (omega (arith, plan-cells t T plan (read-by b t (read-for b columns t a .0)) .0)))
+build-small b {columns} {t} (built T plan a e l h c d) =
+    let k = read-for b columns t a .0 in
+    let n = plan-cells t T plan (read-by b t k) in
+    rw c (omega (arith, n .0), omega (arith, n .1, cost-few (measureOf b) (by-low b (by-read b t k)) [] plan))
 
 -- a text has at most 65,535 bytes and 32,766 symbols, and a place in it is at most its end
 stops-small : {t : List ℕ} {k : ℕ} → Stops t k → length t ≤ 65535 → k < 2 ^ 48

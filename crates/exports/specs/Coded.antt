@@ -11,7 +11,7 @@ use Rattle.table.specs.Table.{Table, startsIn, rowIn}
 use Rattle.least.specs.declared.By.the-variants.{Work}
 use Rattle.builder.specs.declared.BuildAnswer.{BuildAnswer}
 use Rattle.builder.specs.Build.{BuiltInto, buildTold}
-use Rattle.record.specs.Record.{cellsIn, Holds}
+use Rattle.record.specs.Record.{cellsIn, Holds, tableIn}
 use Rattle.record.specs.Edits.{Edit, WorkedOut, Edited}
 use Rattle.loading.specs.Load.{TextLoads}
 use Rattle.answer.specs.declared.RunAnswer.{RunAnswer}
@@ -53,11 +53,18 @@ EditCoded e rec after number = (figure : ℕ) (T : Table) → Holds rec figure T
 -- what the builder answers and leaves in the room for a record that holds a table: the plan by the record's figure (W-204)
 pub record BuildSays (figure : ℕ) (T : Table) (room after : List ℕ) (number : ℕ) : Type 0 where
   pub answer : BuildAnswer
-  pub built : BuiltInto (Work figure) (cellsIn T) room after answer
+  pub built : BuiltInto (Work figure) [] (cellsIn T) room after answer
   pub code : number ≡ coded (buildTold answer)
 
 abbrev pub BuildCoded : (rec room after : List ℕ) → ℕ → Type 0
 BuildCoded rec room after number = (figure : ℕ) (T : Table) → Holds rec figure T → BuildSays figure T room after number
+
+-- what the builder for named columns answers and leaves in the room: the plan by the record's figure for the cells of its table, of any record
+-- at all (W-213)
+pub record BuildForCoded (rec columns room after : List ℕ) (number : ℕ) : Type 0 where
+  pub answer : BuildAnswer
+  pub built : BuiltInto (Work (getD rec 1 0)) columns (tableIn rec) room after answer
+  pub code : number ≡ coded (buildTold answer)
 
 -- what the entry for a text answers and leaves in the two rooms
 pub record TextCoded (text cells names cells′ names′ : List ℕ) (number : ℕ) : Type 0 where

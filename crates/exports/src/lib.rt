@@ -3,16 +3,17 @@
 // W-207, "as one record that every caller now passes") and go by the table's part of it, which is not copied.
 ghost use mathlib.Core.Path.{_≡_};
 ghost use Rattle.table.specs.Table.{tableOf, tableSays, goalWith, goalSays};
-ghost use Rattle.plan.specs.Check.{planOf};
+ghost use Rattle.plan.specs.Check.{planOf, planUnder};
 ghost use Rattle.checker.specs.Checked.{planSays};
 ghost use Rattle.refusal.specs.Coded.{coded};
 ghost use Rattle.record.specs.Record.{tableIn};
 ghost use Rattle.record.specs.Edits.{append, drop-last, replace};
 ghost use Rattle.exports.specs.Coded.{rowSays, WorkCoded, EditCoded, BuildCoded, RunCoded, TextCoded, JobsCoded, RepliesCoded, ClausesCoded};
-ghost use Rattle.exports.specs.Coded.{FileWriteCoded, FileReadCoded, SalvageCoded};
+ghost use Rattle.exports.specs.Coded.{FileWriteCoded, FileReadCoded, SalvageCoded, BuildForCoded};
 
 mod code;
 
+use least::By;
 use run::Job;
 
 // A table's width and number of rows.
@@ -196,4 +197,24 @@ pub extern "C" fn dudowiej_salvage(
         (now (table .exit)) (now (plan .exit)) (now (bad .exit)) (now (report .exit)) r ⌝ }
 {
     code::code_salvage(salvage::salvage(file, table, plan, bad), report)
+}
+
+// The number of cells of the least plan that looks into named columns first, by the record's figure, and its cost; its cells are the room's
+// first. What the record keeps is for plans of any kind, so its table and figure alone are used (02, W-213).
+#[no_mangle]
+pub extern "C" fn dudowiej_build_for(rec: &[u32; 14340], columns: &[u32], room: &mut [u32]) -> u64
+    ensures { λ r. ⌜ BuildForCoded (now (rec .entry)) (now (columns .entry)) (now (room .entry)) (now (room .exit)) r ⌝ }
+{
+    let figure = rec[1];
+    let cells = record::table_of(rec);
+    code::code_built(builder::build_for(By::Work(figure), columns, cells, room))
+}
+
+// The number of branches of a plan that looks into named columns first.
+#[no_mangle]
+pub extern "C" fn dudowiej_check_for(rec: &[u32; 14340], columns: &[u32], plan: &[u32]) -> u64
+    ensures { λ r. ⌜ r ≡ coded (planSays (planUnder (tableIn (now (rec .entry))) (now (columns .entry)) (now (plan .entry)))) ⌝ }
+{
+    let cells = record::table_of(rec);
+    code::code_plan(checker::check_for(cells, columns, plan))
 }
