@@ -1,6 +1,6 @@
-/* The rule tables as a C library: tables from Prolog text, reading tables and goals, the least plan, the check of any plan, the run of a
- * plan on a goal, what the rows say to it, edits of a row at a time, a plan handed back as Prolog, one file for a table and its plan, and
- * what is saved of a bad one.
+/* The rule tables as a C library: tables from Prolog text, reading tables and goals, the least plan, also for columns that are always filled
+ * in, the check of any plan, the run of a plan on a goal, what the rows say to it, edits of a row at a time, a plan handed back as Prolog,
+ * one file for a table and its plan, and what is saved of a bad one.
  *
  * Link target/staticlib/libexports.a, which `rt staticlib exports` writes (x86-64).
  *
@@ -10,9 +10,9 @@
  *
  * Every function takes any cells at all, and ends; nobody has to check first. It answers one number, which the inline functions below take
  * apart. Either it answered, and there are two values, or the input is refused: then there is the refusal's number, the input that it
- * concerns and a place in it, and nothing was written to the lent room, the record or the report; of building and of the edits this is
- * said for a record that an entry made. The one exception is a goal of a list (dudowiej_run_jobs): where the goal is refused, its job says
- * so.
+ * concerns and a place in it, and nothing was written to the lent room, the record or the report; of dudowiej_build_plan and of the edits
+ * this is said for a record that an entry made. The one exception is a goal of a list (dudowiej_run_jobs): where the goal is refused, its
+ * job says so.
  *
  * A table is worked out once, into a record (dudowiej_work_out). All other calls take the record in place of the table: the plan is built
  * from it, goals are read and run with it, and a row of it is appended, dropped or replaced without starting over.
@@ -20,9 +20,9 @@
  * A list is passed as a pointer and a length, a record or a report as a pointer. A pointer is aligned for its type and not null, even where
  * the length is 0. What a call writes, a lent room, a record or a report, shares no memory with its other inputs: a row that is to be
  * appended again is copied out of its record first. The functions keep nothing between calls, and allocate nothing. Of its caller's stack a
- * call touches at most 122,536 bytes to salvage a file, 54,496 to load a text, 48,328 to read a file, 47,320 to write one, 43,864 for
- * replies, 33,000 to hand a plan back, 32,880 to build one, 31,096 to run one, 17,168 to edit a record, 14,248 to check a plan, 8,832 to
- * work a record out and 2,736 to read (measured: docs/BENCH.md, "Stack"). */
+ * call touches at most 122,536 bytes to salvage a file, XX,XXX to build a plan for named columns, 54,496 to load a text, 48,328 to read a
+ * file, 47,320 to write one, 43,864 for replies, 33,000 to hand a plan back, 32,880 to build one, 31,096 to run one, 17,168 to edit a
+ * record, 14,248 to check a plan, 8,832 to work a record out and 2,736 to read (measured: docs/BENCH.md, "Stack"). */
 #ifndef DUDOWIEJ_H
 #define DUDOWIEJ_H
 
@@ -35,8 +35,8 @@ extern "C" {
 #endif
 
 /* The version of what this header declares. The first number is 0 while requests are open. The second counts the base and the requests that
- * have landed on it, W-201 to W-212. The third counts changes of this header since the last of them. */
-#define DUDOWIEJ_VERSION "0.13.0"
+ * have landed on it, W-201 to W-213. The third counts changes of this header since the last of them. */
+#define DUDOWIEJ_VERSION "0.14.0"
 
 /* What no table, row, goal, plan, text, reply, program or file exceeds. */
 enum {
@@ -90,7 +90,9 @@ enum dudowiej_refusal {
     DUDOWIEJ_REFUSED_SIZES = 29,   /* the sizes in a file do not give as many blocks as it has: place 0 */
     DUDOWIEJ_REFUSED_PADDING = 30, /* a cell after table and plan that is not 0: place 0 */
     DUDOWIEJ_REFUSED_HEAD = 31,    /* nothing to save: no sound block 0, or in it no width of 1 to 8 or no count of 1 to 64: place 0 */
-    DUDOWIEJ_REFUSED_NONE = 32     /* nothing to save: no row is kept: place 0 */
+    DUDOWIEJ_REFUSED_NONE = 32,    /* nothing to save: no row is kept: place 0 */
+    DUDOWIEJ_REFUSED_COLUMN = 33,  /* a named column that is not below the table's width: place 0 */
+    DUDOWIEJ_REFUSED_EARLY = 34    /* an index outside the named columns while a place inside them is open: that cell */
 };
 
 /* Which input a refusal concerns. */
@@ -102,7 +104,8 @@ enum dudowiej_input {
     DUDOWIEJ_TEXT = 5,
     DUDOWIEJ_FIGURE = 6,
     DUDOWIEJ_NAME_LIST = 7,
-    DUDOWIEJ_FILE = 8
+    DUDOWIEJ_FILE = 8,
+    DUDOWIEJ_COLUMN_LIST = 9
 };
 
 /* Reads a table. First: its width. Second: its rows. */
@@ -111,8 +114,8 @@ uint64_t dudowiej_read_table(const uint32_t *table, size_t table_cells);
 /* A table that is worked out: its cells and its figure, and for every run of rows what it costs and which place it takes first. It comes
  * from dudowiej_work_out and from the three edits alone. It holds no pointer: it may be copied by assignment, kept in a file and loaded
  * again. With any other numbers in it every call still ends, and stays within the record and the lent room. Reading a goal or a row,
- * checking and running then answer for the table that the first part holds, whose refusal comes first; what building and the edits make of
- * such a record is not said.
+ * checking and running then answer for the table that the first part holds, whose refusal comes first; dudowiej_build_for for that table
+ * and the figure; what dudowiej_build_plan and the edits make of such a record is not said.
  *
  *   cell[0]            the table's number of cells; more than DUDOWIEJ_TABLE_CELLS are read as a table of none
  *   cell[1]            the figure
@@ -165,6 +168,34 @@ uint64_t dudowiej_check_plan(const dudowiej_record *record, const uint32_t *plan
  * written. Second: the plan's cost; dudowiej_check_plan answers its branches. A room of DUDOWIEJ_PLAN_CELLS cells is always large
  * enough. */
 uint64_t dudowiej_build_plan(const dudowiej_record *record, uint32_t *room, size_t room_cells);
+
+/* Plans for columns that are always filled in. The caller names columns, by their numbers from 0: those that are known whenever a goal is
+ * asked. A place is inside a column when it is that argument of the row or stands below it. A plan of this kind chooses at each state a
+ * place inside a named column, as long as one is open; so in every branch the named columns are finished before any other place is looked
+ * at. It is a plan like any other: dudowiej_check_plan accepts it, and answers the same branches; whatever takes a plan takes it, and no
+ * goal has to have these columns filled in. The rows that unify with a goal are the same by every plan; the branches tried may be more or
+ * fewer.
+ *
+ * The list of columns is a set: neither order nor repeats matter. It may have any length, and none at all. A number in it that is not below
+ * the table's width is refused, COLUMN, which concerns DUDOWIEJ_COLUMN_LIST at 0. */
+
+/* Writes the least plan of this kind to the front of the room; the rest of it is untouched. Least is among plans of the kind, and by the
+ * record's figure, as dudowiej_build_plan counts; ties go as there, among the places that may be chosen. With no column named, or all of
+ * them, it is the plan that dudowiej_build_plan writes. First: the cells written. Second: the plan's cost. Refused in this order: FIGURE,
+ * which concerns DUDOWIEJ_FIGURE at 0; the table; COLUMN; then the room, the place being the cells needed. Where anything is refused
+ * nothing is written. A room of DUDOWIEJ_PLAN_CELLS cells is always large enough.
+ *
+ * What the record keeps for its runs of rows is not used, since that is of plans with no column named: all of it is worked out anew on each
+ * call. So any record at all is answered by its table and its figure, cell[0] to cell[2051]. Of a record that an entry made neither is
+ * refused. */
+uint64_t dudowiej_build_for(const dudowiej_record *record, const uint32_t *columns, size_t columns_count, uint32_t *room, size_t room_cells);
+
+/* Checks any plan for a record's table and named columns: it is accepted exactly when it is a plan of this kind. First: the plan's branches.
+ * Second: 0. Refused in this order: the table; COLUMN; the plan, as dudowiej_check_plan refuses it, and with EARLY, which concerns
+ * DUDOWIEJ_PLAN at an index that is outside the named columns while a place inside them is open. EARLY comes after OPEN at that index, and
+ * before anything of the cells after it. With no column named, or all of them, there is no EARLY. The figure is not looked at. */
+uint64_t dudowiej_check_for(const dudowiej_record *record, const uint32_t *columns, size_t columns_count, const uint32_t *plan,
+                            size_t plan_cells);
 
 /* Runs a plan on a goal and writes the numbers of the rows that unify with it, from the top, to the front of the room; the rest of it is
  * untouched. The room has a byte for every row of the table. First: the rows written. Second: the branches tried. Table and plan are
@@ -331,6 +362,8 @@ static inline const char *dudowiej_refusal_name(unsigned number) {
     case DUDOWIEJ_REFUSED_PADDING: return "PADDING";
     case DUDOWIEJ_REFUSED_HEAD: return "HEAD";
     case DUDOWIEJ_REFUSED_NONE: return "NONE";
+    case DUDOWIEJ_REFUSED_COLUMN: return "COLUMN";
+    case DUDOWIEJ_REFUSED_EARLY: return "EARLY";
     default: return "none";
     }
 }

@@ -46,7 +46,7 @@ static inline void print_rule(const dudowiej_record *record, size_t row, name_pr
 
 /* Prints a refusal after a word, if the answer is one. */
 static inline bool refused(FILE *to, const char *word, uint64_t answer) {
-    static const char *const inputs[] = {"?", "table", "plan", "goal", "room", "text", "figure", "names", "file"};
+    static const char *const inputs[] = {"?", "table", "plan", "goal", "room", "text", "figure", "names", "file", "columns"};
     if (!dudowiej_refused(answer)) return false;
     unsigned input = dudowiej_input(answer), number = dudowiej_number(answer);
     unsigned long long place = dudowiej_place(answer);

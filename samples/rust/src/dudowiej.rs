@@ -2,10 +2,11 @@
 
 use std::fmt;
 
-/// What no table and no plan exceeds, and the rows of a table.
+/// What no table and no plan exceeds, and the rows and columns of a table.
 pub const TABLE_CELLS: usize = 2050;
 pub const PLAN_CELLS: usize = 6082;
 pub const ROWS: usize = 64;
+pub const COLUMNS: usize = 8;
 /// What no text exceeds, and the names of a table.
 pub const TEXT_BYTES: usize = 65_535;
 pub const NAMES: usize = 2048;
@@ -36,11 +37,11 @@ pub const fn value(cell: u32) -> i16 {
     cell as i16
 }
 
-/// The names of the refusals' numbers, 1 to 32; 8 is no longer given.
-const REFUSALS: [&str; 32] = [
+/// The names of the refusals' numbers, 1 to 34; 8 is no longer given.
+const REFUSALS: [&str; 34] = [
     "LENGTH", "WIDTH", "COUNT", "LONG", "SHORT", "CELL", "FRESH", "TWICE", "EXTRA", "SIZE", "ENDS", "OPEN", "EDGES", "LABEL", "ROWS",
     "ROOM", "BYTES", "TEXT", "OTHER", "FIGURE", "FULL", "LAST", "INDEX", "SAME", "BIG", "NAMES", "BLOCKS", "DAMAGE", "SIZES", "PADDING",
-    "HEAD", "NONE",
+    "HEAD", "NONE", "COLUMN", "EARLY",
 ];
 
 /// The name of a refusal's number; "none" where it is no refusal's.
@@ -111,6 +112,8 @@ extern "C" {
     fn dudowiej_row(record: *const Cells, row: usize) -> u64;
     fn dudowiej_check_plan(record: *const Cells, plan: *const u32, plan_cells: usize) -> u64;
     fn dudowiej_build_plan(record: *const Cells, room: *mut u32, room_cells: usize) -> u64;
+    fn dudowiej_build_for(record: *const Cells, columns: *const u32, columns_count: usize, room: *mut u32, room_cells: usize) -> u64;
+    fn dudowiej_check_for(record: *const Cells, columns: *const u32, columns_count: usize, plan: *const u32, plan_cells: usize) -> u64;
     fn dudowiej_run_plan(
         record: *const Cells,
         plan: *const u32,
@@ -186,6 +189,7 @@ fn apart(answer: u64) -> Result<(usize, usize), Refusal> {
                 6 => "figure",
                 7 => "names",
                 8 => "file",
+                9 => "columns",
                 _ => "?",
             };
             Err(Refusal { number, input, place: answer >> 16 })
@@ -256,6 +260,24 @@ impl Record {
     /// The same in a lent room: its cells and its cost.
     pub fn build_plan_in(&self, room: &mut [u32]) -> Result<(usize, usize), Refusal> {
         apart(unsafe { dudowiej_build_plan(&*self.0, room.as_mut_ptr(), room.len()) })
+    }
+
+    /// The branches of a plan that chooses only places inside these columns while one is open; any other is refused.
+    pub fn check_for(&self, columns: &[u32], plan: &[u32]) -> Result<usize, Refusal> {
+        Ok(apart(unsafe { dudowiej_check_for(&*self.0, columns.as_ptr(), columns.len(), plan.as_ptr(), plan.len()) })?.0)
+    }
+
+    /// The least of these plans, and its cost.
+    pub fn build_for(&self, columns: &[u32]) -> Result<(Vec<u32>, usize), Refusal> {
+        let mut plan = vec![0; PLAN_CELLS];
+        let (cells, cost) = self.build_for_in(columns, &mut plan)?;
+        plan.truncate(cells);
+        Ok((plan, cost))
+    }
+
+    /// The same in a lent room: its cells and its cost.
+    pub fn build_for_in(&self, columns: &[u32], room: &mut [u32]) -> Result<(usize, usize), Refusal> {
+        apart(unsafe { dudowiej_build_for(&*self.0, columns.as_ptr(), columns.len(), room.as_mut_ptr(), room.len()) })
     }
 
     /// The rows that unify with the goal, from the top, and the branches tried.

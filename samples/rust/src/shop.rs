@@ -9,6 +9,7 @@ pub const BLUE: u32 = name(2, 0);
 pub const WHITE: u32 = name(3, 0);
 pub const BLACK: u32 = name(4, 0);
 pub const RING: u32 = name(11, 0);
+pub const BROOCH: u32 = name(12, 0);
 pub const BOWL: u32 = name(13, 1);
 pub const LARGE: u32 = name(22, 0);
 pub const HARD: u32 = name(33, 0);
