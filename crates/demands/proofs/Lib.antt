@@ -13,6 +13,7 @@ pub mod Twice
 pub mod Held
 pub mod Texts
 pub mod Shift
+pub mod Knowing
 pub mod Numbers
 pub mod Records
 pub mod Asking

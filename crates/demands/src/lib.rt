@@ -17,6 +17,7 @@ ghost use Rattle.demands.specs.Listing.{Listing};
 ghost use Rattle.demands.specs.Texts.{Request201};
 ghost use Rattle.demands.specs.Numbers.{ReadsCell, PrintsSymbol};
 ghost use Rattle.demands.specs.Shift.{Shift};
+ghost use Rattle.demands.specs.Knowing.{KnowingMore, Sums};
 ghost use Rattle.demands.specs.Replies.{RepliesRefused, Says};
 ghost use Rattle.demands.specs.Records.{MakesRecord, EditsRecord, BuildsFrom};
 ghost use Rattle.demands.specs.Columns.{ChecksFor, BuildsFor};
@@ -97,12 +98,34 @@ fn request_read_text(text: &[u8], cells: &mut [u32], names: &mut [u32]) -> u64
     exports::dudowiej_read_text(text, cells, names)
 }
 
-// W-202 (specs/Shift)
+// W-202 (specs/Shift), and what its records add up to, W-214 (specs/Knowing)
 fn request_run_jobs(rec: &[u32; 14340], plan: &[u32], lent: &[u32], jobs: &mut [Job]) -> u64
-    ensures { λ r. ⌜ Shift (tableIn (now (rec .entry))) (now (plan .entry)) (now (lent .entry)) (now (jobs .entry)) (now (jobs .exit))
-        (decoded r) ⌝ }
+    ensures { λ r. ⌜ Shift (tableIn (now (rec .entry))) (now (plan .entry)) (now (lent .entry)) (now (jobs .entry)) (now (jobs .exit)) (decoded r)
+        × Sums (tableIn (now (rec .entry))) (now (plan .entry)) (now (lent .entry)) (now (jobs .entry)) (now (jobs .exit)) ⌝ }
 {
     exports::dudowiej_run_jobs(rec, plan, lent, jobs)
+}
+
+// W-214 (specs/Knowing): one plan, run on two goals, and what it answers to each.
+fn request_run_plan(
+    rec: &[u32; 14340],
+    plan: &[u32],
+    wide: &[u32],
+    narrow: &[u32],
+    room: &mut [u8],
+    other: &mut [u8],
+) -> Runs
+    ensures { λ r. ⌜ KnowingMore (tableIn (now (rec .entry))) (now (plan .entry)) (now (wide .entry)) (now (narrow .entry))
+        (now (room .entry)) (now (room .exit)) (now (other .entry)) (now (other .exit)) (decoded (r .first)) (decoded (r .second)) ⌝ }
+{
+    let first = exports::dudowiej_run_plan(rec, plan, wide, room);
+    let second = exports::dudowiej_run_plan(rec, plan, narrow, other);
+    Runs { first, second }
+}
+
+struct Runs {
+    first: u64,
+    second: u64,
 }
 
 // W-203 (specs/Replies)

@@ -1,4 +1,5 @@
--- 01's examples ("On both sides"): those marked P as one table, and what each says by the definitions that the promises are made of.
+-- 01's examples ("On both sides"): those marked P as one table, and what each says by the definitions that the promises are made of. Beside
+-- them the runs that show 02's W-214.
 use Prim.Native.Nat.{ℕ, _≤_}
 use mathlib.Core.Path.{_≡_}
 use mathlib.Core.List.{List, [], _∷_, _++_, flatten}
@@ -18,38 +19,43 @@ use Rattle.answer.specs.Skeleton.{hole}
 use Rattle.answer.specs.declared.RunAnswer.{RunAnswer}
 use Rattle.answer.specs.Run.{Picks, Counts, skeletons, Tried, runTold, Ran}
 
--- an example: a table that is turned away; every plan that starts so is; a table with the builder's plan and its cost; and a run of that
--- plan on a goal
+-- an example: a table that is turned away; every plan that starts so is; a table with the builder's plan and its cost; a run of that plan on
+-- a goal; and a run of any plan with so many branches
 pub data Example : Type 0 where
   turned : (cells : List ℕ) (why : Reason) (place : ℕ) → Example
   planTurned : (cells start : List ℕ) (why : Reason) (place : ℕ) → Example
   built : (cells plan : List ℕ) (cost : ℕ) → Example
   ran : (cells plan : List ℕ) (cost : ℕ) (goal hits : List ℕ) (tried : ℕ) → Example
+  ranBy : (cells plan : List ℕ) (cost : ℕ) (goal hits : List ℕ) (tried : ℕ) → Example
 
 -- what it says, by the definitions that the promises are made of
-pub record BuiltSays (cells plan : List ℕ) (cost : ℕ) : Type 0 where
+pub record PlanSays (cells plan : List ℕ) (cost : ℕ) : Type 0 where
   pub table : Table
   pub reads : tableOf cells ≡ read table
   pub tree : Plan (table .width) (table .rows)
   pub writes : write tree ≡ plan
-  pub rule : Built plain [] tree
   pub count : branches tree ≡ cost
+
+pub record BuiltSays (cells plan : List ℕ) (cost : ℕ) : Type 0 where
+  pub plans : PlanSays cells plan cost
+  pub rule : Built plain [] (plans .tree)
 
 -- the rows that unify, the branches tried, and so what every run answers and writes that the promise of `run_plan` allows
 pub record RanSays (cells plan : List ℕ) (cost : ℕ) (goal hits : List ℕ) (tried : ℕ) : Type 0 where
-  pub builds : BuiltSays cells plan cost
+  pub plans : PlanSays cells plan cost
   pub vars : ℕ
-  pub reads : goalOf (builds .table .width) goal ≡ read vars
-  pub found : Picks (λ (row : List ℕ). Matches row goal) (builds .table .rows) 0 hits
-  pub tries : Counts (Tried goal) (skeletons (builds .tree) (replicate (builds .table .width) hole)) tried
-  pub answers : (room after : List ℕ) (r : RunAnswer) → length (builds .table .rows) ≤ length room → Ran cells plan goal room after r
+  pub reads : goalOf (plans .table .width) goal ≡ read vars
+  pub found : Picks (λ (row : List ℕ). Matches row goal) (plans .table .rows) 0 hits
+  pub tries : Counts (Tried goal) (skeletons (plans .tree) (replicate (plans .table .width) hole)) tried
+  pub answers : (room after : List ℕ) (r : RunAnswer) → length (plans .table .rows) ≤ length room → Ran cells plan goal room after r
       → (runTold r ≡ answered (length hits) tried) × (after ≡ hits ++ drop (length hits) room)
 
 abbrev pub Says : Example → Type 0
 Says (turned t r p) = tableOf t ≡ refuse (refused r input.Table p)
 Says (planTurned t start r p) = (rest : List ℕ) → length (start ++ rest) ≤ 6082 → planOf t (start ++ rest) ≡ refuse (refused r input.Plan p)
 Says (built t p cost) = BuiltSays t p cost
-Says (ran t p cost g hits tried) = RanSays t p cost g hits tried
+Says (ran t p cost g hits tried) = BuiltSays t p cost × RanSays t p cost g hits tried
+Says (ranBy t p cost g hits tried) = RanSays t p cost g hits tried
 
 -- an example under its number
 pub record P : Type 0 where
@@ -146,4 +152,45 @@ marked =
     ∷ p 9 (turned (1 ∷ 1 ∷ 1 ∷ []) reason.Fresh 2)
     -- P10: width 2, one row, cells end after a: SHORT at 3
     ∷ p 10 (turned (2 ∷ 1 ∷ a ∷ []) reason.Short 3)
+    ∷ []
+
+-- 02, W-214, "Knowing more never adds rules": goals of which each is an instance of the first, and some of one another.
+
+-- (a,b) (v0,v0) (c,v0)
+unfoldable pub three : List ℕ
+three = tableCells 2 ((a ∷ b ∷ []) ∷ (v 0 ∷ v 0 ∷ []) ∷ (c ∷ v 0 ∷ []) ∷ [])
+
+unfoldable pub planThree : List ℕ
+planThree = 0 ∷ 3 ∷ a ∷ 0 ∷ 1 ∷ b ∷ 1 ∷ v 0 ∷ 0 ∷ 1 ∷ v 0 ∷ 1 ∷ c ∷ 0 ∷ 1 ∷ v 0 ∷ 1 ∷ []
+
+-- (a,a)
+unfoldable pub single : List ℕ
+single = tableCells 2 ((a ∷ a ∷ []) ∷ [])
+
+-- (a,c) (b,c) (a,d) (b,d), and its two plans
+unfoldable pub four : List ℕ
+four = tableCells 2 ((a ∷ c ∷ []) ∷ (b ∷ c ∷ []) ∷ (a ∷ d ∷ []) ∷ (b ∷ d ∷ []) ∷ [])
+
+unfoldable pub planTwo : List ℕ
+planTwo = 1 ∷ 2 ∷ c ∷ 0 ∷ 2 ∷ a ∷ 1 ∷ b ∷ 1 ∷ d ∷ 0 ∷ 2 ∷ a ∷ 1 ∷ b ∷ 1 ∷ []
+
+unfoldable pub planFour : List ℕ
+planFour = 0 ∷ 4 ∷ a ∷ 0 ∷ 1 ∷ c ∷ 1 ∷ b ∷ 0 ∷ 1 ∷ c ∷ 1 ∷ a ∷ 0 ∷ 1 ∷ d ∷ 1 ∷ b ∷ 0 ∷ 1 ∷ d ∷ 1 ∷ []
+
+unfoldable pub instances : List Example
+instances =
+    -- (v0,v1): rows 0 1 2, tried 6. (a,v0): 0 1, 5. (a,b), an instance of both: 0, 5. (a,a), of (v0,v0) too: 1, 5. (v0,v0): 1 2, 6
+    ran three planThree 6 (v 0 ∷ v 1 ∷ []) (0 ∷ 1 ∷ 2 ∷ []) 6
+    ∷ ran three planThree 6 (a ∷ v 0 ∷ []) (0 ∷ 1 ∷ []) 5
+    ∷ ran three planThree 6 (a ∷ b ∷ []) (0 ∷ []) 5
+    ∷ ran three planThree 6 (a ∷ a ∷ []) (1 ∷ []) 5
+    ∷ ran three planThree 6 (v 0 ∷ v 0 ∷ []) (1 ∷ 2 ∷ []) 6
+    -- P2, where (v0,v1) tries 6 and (a,v0) 5: (a,d): row 2, tried 5
+    ∷ ran p2 plan2 6 (a ∷ d ∷ []) (2 ∷ []) 5
+    -- it may try fewer: (v0,v1) 2, (b,v0) 1
+    ∷ ran single (0 ∷ 1 ∷ a ∷ 0 ∷ 1 ∷ a ∷ 1 ∷ []) 2 (v 0 ∷ v 1 ∷ []) (0 ∷ []) 2
+    ∷ ran single (0 ∷ 1 ∷ a ∷ 0 ∷ 1 ∷ a ∷ 1 ∷ []) 2 (b ∷ v 0 ∷ []) [] 1
+    -- of two plans nothing is said: (v0,c) tries 4 of one, its instance (a,c) 6 of the other
+    ∷ ran four planTwo 6 (v 0 ∷ c ∷ []) (0 ∷ 1 ∷ []) 4
+    ∷ ranBy four planFour 8 (a ∷ c ∷ []) (0 ∷ []) 6
     ∷ []

@@ -50,7 +50,9 @@ use Rattle.exports.proofs.dudowiej_run_jobs.Symbol as run-jobs-def
 use Rattle.exports.proofs.dudowiej_run_jobs.Symbol.{name as #run-jobs}
 use Rattle.exports.proofs.dudowiej_run_jobs.Met as run-jobs-thm
 use Rattle.demands.specs.Shift.{Shift}
+use Rattle.demands.specs.Knowing.{Sums}
 use Rattle.demands.proofs.Demands.{request-202}
+use Rattle.demands.proofs.Knowing.{request-214-sums}
 use Rattle.demands.proofs.request_run_jobs.Key.{name as #request-run-jobs}
 use Rattle.demands.proofs.request_run_jobs as f
 use Rattle.demands.proofs.request_run_jobs.Statement as stated
@@ -98,7 +100,7 @@ module _ {M : Type 1} (𝓤 : URA M) (H : Heap 𝓤) (A : Atoms 𝓤) (mem : Mem
 
     -- what is promised, and what the entry promises
     abbrev Says : List Job → ℕ → Type 0
-    Says zs n = Shift (tableIn (rs .now)) (ps .now) (cs .now) ys zs (decoded n)
+    Says zs n = Shift (tableIn (rs .now)) (ps .now) (cs .now) ys zs (decoded n) × Sums (tableIn (rs .now)) (ps .now) (cs .now) ys zs
 
     abbrev Said : List Job → ℕ → Type 0
     Said = JobsCoded (tableIn (rs .now)) (ps .now) (cs .now) ys
@@ -180,7 +182,7 @@ module _ {M : Type 1} (𝓤 : URA M) (H : Heap 𝓤) (A : Atoms 𝓤) (mem : Mem
           forget ! 3 refl $ forget ! 5 refl $ forget ! 7 refl $ forget ! 9 refl $ forget ! 11 refl $ forget ! 13 refl $ forget ! 15 refl $
           move ! (15 ∷ 16 ∷ []) $ free1 ! $ move ! (13 ∷ 14 ∷ []) $ free1 ! $ move ! (11 ∷ 12 ∷ []) $ free1 ! $ move ! (9 ∷ 10 ∷ []) $ free1 ! $
           move ! (7 ∷ 8 ∷ []) $ free1 ! $ move ! (5 ∷ 6 ∷ []) $ free1 ! $ move ! (3 ∷ 4 ∷ []) $ free1 ! $ free0 ! $
-          move ! (1 ∷ []) $ by ! (exits n w (zs .1 .1 .1 .0) (request-202 e) len))))))))))))))
+          move ! (1 ∷ []) $ by ! (exits n w (zs .1 .1 .1 .0) (request-202 e, request-214-sums e) len))))))))))))))
 
   module _ (W : Given 𝓤 H A) where
     walks : (C : Calls 𝓤 H) (Λ : Loops 𝓤 H) → FmC 𝓤 H (W .laws) C → Triple 𝓤 (C #run-jobs) Run

@@ -1,0 +1,3 @@
+pub mod WiderLaws
+pub mod SumLaws
+pub mod Examples
