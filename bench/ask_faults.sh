@@ -43,3 +43,11 @@ say 'an argument too many, one too few, one that there is not'
 $ask --plan shop.pl "$goal"
 $ask --plan
 $ask --plans shop.pl
+say 'options that make no sense together'
+$ask --plan --count shop.pl
+$ask --known 1 --known 3 shop.pl "$goal"
+$ask --known 1,3
+say 'lists of columns that are none, and columns that are not there'
+for list in '' 0 x 1,,3 1000000000 5 3,5,1; do
+    $ask --known "$list" shop.pl "$goal"
+done

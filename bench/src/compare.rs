@@ -1,6 +1,8 @@
 //! The exported functions against the independent implementation, input by input: the whole answer and the whole of the lent room.
 
+mod chosen;
 pub mod clauses;
+pub mod columns;
 mod edits;
 mod filed;
 pub mod files;
@@ -102,6 +104,16 @@ pub fn salvages<E: Engine>(exported: &E, tally: Tally, count: usize, seed: u64) 
     comparison.fixed_salvages();
     for _ in 0..count {
         comparison.random_salvages();
+    }
+    comparison.tally
+}
+
+/// Goes on with plans for named columns: fixed ones, then so many random tables with lists of columns and plans.
+pub fn columns<E: Engine>(exported: &E, tally: Tally, count: usize, seed: u64) -> Tally {
+    let mut comparison = Comparison { exported, random: Random::new(seed), tally };
+    comparison.fixed_columns();
+    for _ in 0..count {
+        comparison.random_columns();
     }
     comparison.tally
 }

@@ -22,6 +22,8 @@ pub trait Engine {
     fn write_file(&self, record: &Record, plan: &[u32], room: &mut [u8]) -> u64;
     fn read_file(&self, file: &[u8], table: &mut [u32], plan: &mut [u32]) -> u64;
     fn salvage(&self, file: &[u8], table: &mut [u32], plan: &mut [u32], bad: &mut [usize], report: &mut Report) -> u64;
+    fn build_for(&self, record: &Record, columns: &[u32], room: &mut [u32]) -> u64;
+    fn check_for(&self, record: &Record, columns: &[u32], plan: &[u32]) -> u64;
 }
 
 /// The independent implementation with runs by the definitions.
@@ -80,6 +82,12 @@ macro_rules! independent {
             }
             fn salvage(&self, file: &[u8], table: &mut [u32], plan: &mut [u32], bad: &mut [usize], report: &mut Report) -> u64 {
                 packed(model::salvage::salvage(file, table, plan, bad, report))
+            }
+            fn build_for(&self, record: &Record, columns: &[u32], room: &mut [u32]) -> u64 {
+                packed(model::build_for(table_in(record), figure_in(record), columns, room))
+            }
+            fn check_for(&self, record: &Record, columns: &[u32], plan: &[u32]) -> u64 {
+                packed(model::check_for(table_in(record), columns, plan))
             }
         }
     };
@@ -154,6 +162,8 @@ mod exported {
             bad_room: usize,
             report: *mut Report,
         ) -> u64;
+        fn dudowiej_build_for(record: *const Record, columns: *const u32, columns_count: usize, room: *mut u32, room_cells: usize) -> u64;
+        fn dudowiej_check_for(record: *const Record, columns: *const u32, columns_count: usize, plan: *const u32, plan_cells: usize) -> u64;
     }
 
     // Each pointer and length below is one slice's, a record's or a report's pointer is a reference; what is written is borrowed alone.
@@ -207,6 +217,12 @@ mod exported {
         fn salvage(&self, file: &[u8], table: &mut [u32], plan: &mut [u32], bad: &mut [usize], report: &mut Report) -> u64 {
             let ((table, table_room), (plan, plan_room)) = ((table.as_mut_ptr(), table.len()), (plan.as_mut_ptr(), plan.len()));
             unsafe { dudowiej_salvage(file.as_ptr(), file.len(), table, table_room, plan, plan_room, bad.as_mut_ptr(), bad.len(), report) }
+        }
+        fn build_for(&self, record: &Record, columns: &[u32], room: &mut [u32]) -> u64 {
+            unsafe { dudowiej_build_for(record, columns.as_ptr(), columns.len(), room.as_mut_ptr(), room.len()) }
+        }
+        fn check_for(&self, record: &Record, columns: &[u32], plan: &[u32]) -> u64 {
+            unsafe { dudowiej_check_for(record, columns.as_ptr(), columns.len(), plan.as_ptr(), plan.len()) }
         }
     }
 }

@@ -3,11 +3,13 @@
 pub mod branches;
 pub mod cases;
 pub mod clauses;
+pub mod columns;
 pub mod compare;
 pub mod count;
 pub mod edits;
 pub mod engine;
 pub mod files;
+pub mod knowing;
 pub mod make;
 pub mod model;
 pub mod notation;

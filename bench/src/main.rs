@@ -7,7 +7,7 @@ use std::process::ExitCode;
 use dudowiej_bench::compare::{self, listings, ROUNDS, SEED};
 use dudowiej_bench::engine::Exported;
 use dudowiej_bench::model::listing::listing;
-use dudowiej_bench::{clauses, count, edits, files, prolog, salvage, shift, stack, time};
+use dudowiej_bench::{clauses, columns, count, edits, files, prolog, salvage, shift, stack, time};
 
 const USAGE: &str = "usage:
   compare [ROUNDS [SEED]]   the exported functions against the independent implementation
@@ -25,6 +25,8 @@ const USAGE: &str = "usage:
   count-clauses, instructions-clauses FOLDER   the same for plans handed back as Prolog
   count-files, instructions-files FOLDER   the same for files
   count-salvage, instructions-salvage FOLDER   the same for what is saved of bad cards
+  count-columns, instructions-columns FOLDER   the same for plans for named columns
+  columns                   the branches that goals try by plans for named columns and by plain ones
   stack                     the bytes of stack that each entry touches
   list                      the independent listing of the table on standard input";
 
@@ -73,6 +75,9 @@ fn main() -> ExitCode {
         ["instructions-files", folder] => done(|| files::instructions(Path::new(folder))),
         ["count-salvage"] => done(salvage::count),
         ["instructions-salvage", folder] => done(|| salvage::instructions(Path::new(folder))),
+        ["count-columns"] => done(columns::count),
+        ["instructions-columns", folder] => done(|| columns::instructions(Path::new(folder))),
+        ["columns"] => done(columns::tried),
         ["stack"] => done(stack::stack),
         ["list"] => done(list),
         _ => usage(),
@@ -98,15 +103,18 @@ fn compared(rounds: usize, seed: u64) -> ExitCode {
     let listings_differ = compared_listings(rounds / 20, seed);
     let lists = shift::compare::compare(&Exported, rounds / 4, seed);
     println!("{lists}");
+    let more = dudowiej_bench::knowing::compare(&Exported, rounds / 4, seed);
+    println!("{more}");
     let tally = compare::compare(&Exported, rounds, seed);
     let tally = compare::texts(&Exported, tally, 2 * rounds, seed);
     let tally = compare::replies(&Exported, tally, 2 * rounds, seed);
     let tally = compare::edits(&Exported, tally, rounds / 10, seed);
     let tally = compare::clauses(&Exported, tally, rounds, seed);
+    let tally = compare::columns(&Exported, tally, rounds / 2, seed);
     let tally = compare::files(&Exported, tally, rounds, seed);
     let tally = compare::salvages(&Exported, tally, rounds, seed);
     println!("{tally}");
-    if tally.passed() && lists.passed() && listings_differ == 0 {
+    if tally.passed() && lists.passed() && more.passed() && listings_differ == 0 {
         ExitCode::SUCCESS
     } else {
         ExitCode::FAILURE

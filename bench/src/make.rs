@@ -1,10 +1,12 @@
-//! Random inputs: tables, rows, records, goals, plans, lists of names, files and cards, sound and damaged.
+//! Random inputs: tables, rows, records, goals, plans, lists of names and of columns, files and cards, sound and damaged.
 
 pub mod big;
 pub mod cards;
+pub mod columns;
 pub mod damage;
 pub mod files;
 pub mod goals;
+pub mod instances;
 pub mod names;
 pub mod plans;
 pub mod records;

@@ -2,6 +2,7 @@
 //! written from the documents alone and shares nothing with the library.
 
 pub mod clauses;
+pub mod columns;
 pub mod files;
 pub mod grammar;
 pub mod least;
@@ -18,6 +19,7 @@ pub mod text;
 pub mod unify;
 pub mod walk;
 
+use columns::{least_for, Named};
 use least::{least_by, Measure};
 use plan::Plan;
 use read::{Goal, Table};
@@ -48,14 +50,30 @@ pub fn check_plan(table: &[u32], plan: &[u32]) -> Answer {
     Ok((plan::check(&table, plan)?.branches.len(), 0))
 }
 
+/// The branches of a plan for named columns.
+pub fn check_for(table: &[u32], columns: &[u32], plan: &[u32]) -> Answer {
+    let table = read::read_table(table)?;
+    let named = Named::of(&table, columns)?;
+    Ok((plan::check_for(&table, &named, plan)?.branches.len(), 0))
+}
+
 /// Writes the least plan by the work of W-204 with a figure; its cells and its cost.
 pub fn build_plan(table: &[u32], figure: u32, room: &mut [u32]) -> Answer {
+    build_by(table, figure, room, |table, measure| Ok(least_by(table, measure)))
+}
+
+/// The same for named columns.
+pub fn build_for(table: &[u32], figure: u32, columns: &[u32], room: &mut [u32]) -> Answer {
+    build_by(table, figure, room, |table, measure| Ok(least_for(table, &Named::of(table, columns)?, measure)))
+}
+
+fn build_by(table: &[u32], figure: u32, room: &mut [u32], least: impl FnOnce(&Table, Measure) -> Result<Plan, Refusal>) -> Answer {
     if figure > 15 {
         return Err(Refusal { number: Number::Figure, input: Input::Figure, place: 0 });
     }
     let table = read::read_table(table)?;
     let measure = Measure::Work(figure);
-    let plan = least_by(&table, measure);
+    let plan = least(&table, measure)?;
     let cells = plan.write();
     written(room, &cells)?;
     Ok((cells.len(), measure.cost(&plan)))

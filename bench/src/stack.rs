@@ -25,6 +25,9 @@ use touched::touched;
 
 const ROWS: usize = 64;
 
+/// Lists of columns: none, the first, the last of the widest table, those between, and one that no table has.
+const COLUMNS: [&[u32]; 5] = [&[], &[0], &[7], &[6, 5, 4, 3, 2, 1], &[8]];
+
 /// Measures every entry on every input and prints the most of each.
 pub fn stack() {
     let mut most = Most(Vec::new());
@@ -106,10 +109,16 @@ impl Most {
         }
         for plan in plans {
             self.note("dudowiej_check_plan", || Exported.check_plan(record, plan));
+            for columns in COLUMNS {
+                self.note("dudowiej_check_for", || Exported.check_for(record, columns, plan));
+            }
         }
         for cells in [PLAN_CELLS, 0] {
             let mut room = vec![0; cells];
             self.note("dudowiej_build_plan", || Exported.build_plan(record, &mut room));
+            for columns in COLUMNS {
+                self.note("dudowiej_build_for", || Exported.build_for(record, columns, &mut room));
+            }
         }
         for (plan, goal) in plans.iter().flat_map(|plan| goals.iter().map(move |goal| (plan, goal))) {
             for bytes in [ROWS, 0] {

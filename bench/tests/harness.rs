@@ -3,7 +3,7 @@
 mod altered;
 
 use altered::{answered, built, differs, found, hits, number, written, Altered, ReadText, Replies, RIGHT};
-use dudowiej_bench::compare::{clauses, compare, edits, files, replies, salvages, texts, Tally};
+use dudowiej_bench::compare::{clauses, columns, compare, edits, files, replies, salvages, texts, Tally};
 use dudowiej_bench::engine::{Engine, Plain};
 use dudowiej_bench::model::build_plan;
 use dudowiej_bench::model::plan::check;
@@ -18,6 +18,7 @@ fn a_right_one_passes() {
     let tally = clauses(&RIGHT, tally, 2000, 1);
     let tally = files(&RIGHT, tally, 2000, 1);
     let tally = salvages(&RIGHT, tally, 2000, 1);
+    let tally = columns(&RIGHT, tally, 500, 1);
     assert!(tally.passed(), "{tally}");
 }
 

@@ -85,12 +85,12 @@ pub struct Filed {
     spoiled: [ByNumber<u64>; SPOILED.len()],
 }
 
-fn count(counts: &mut [u64], met: &[bool]) {
+pub(super) fn count(counts: &mut [u64], met: &[bool]) {
     counts.iter_mut().zip(met).for_each(|(count, &met)| *count += u64::from(met));
 }
 
 /// A refusal's number and input.
-fn parts(expected: u64) -> (usize, usize) {
+pub(super) fn parts(expected: u64) -> (usize, usize) {
     ((expected & 0xff) as usize, (expected >> 8 & 0xff) as usize)
 }
 

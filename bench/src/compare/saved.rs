@@ -2,6 +2,7 @@
 
 use std::fmt;
 
+use super::filed::count;
 use super::tally::listed;
 use crate::make::cards::{Changed, Worn, CHANGED, WORN};
 use crate::make::files::{Spoiled, SPOILED};
@@ -88,10 +89,6 @@ pub struct Salvages {
     changed: [[u64; OUTCOMES.len()]; CHANGED.len()],
     spoiled: [[u64; OUTCOMES.len()]; SPOILED.len()],
     worn: [[u64; OUTCOMES.len()]; WORN.len()],
-}
-
-fn count(counts: &mut [u64], met: &[bool]) {
-    counts.iter_mut().zip(met).for_each(|(count, &met)| *count += u64::from(met));
 }
 
 impl Salvages {

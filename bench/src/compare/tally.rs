@@ -3,6 +3,7 @@
 use std::collections::BTreeMap;
 use std::fmt;
 
+use super::chosen::Chosen;
 use super::filed::Filed;
 use super::handed::Handed;
 use super::saved::Salvages;
@@ -27,9 +28,11 @@ pub enum Entry {
     WriteFile,
     ReadFile,
     Salvage,
+    BuildFor,
+    CheckFor,
 }
 
-const ENTRIES: [&str; 16] = [
+const ENTRIES: [&str; 18] = [
     "read_table",
     "read_goal",
     "row",
@@ -46,6 +49,8 @@ const ENTRIES: [&str; 16] = [
     "write_file",
     "read_file",
     "salvage",
+    "build_for",
+    "check_for",
 ];
 
 /// What replies can be refused with, by input: table, plan, goal, room.
@@ -109,6 +114,7 @@ pub struct Tally {
     pub(super) handed: Handed,
     pub(super) filed: Filed,
     pub(super) salvages: Salvages,
+    pub(super) chosen: Chosen,
     /// Edits of records that were worked out, by the number of the refusal and by entry.
     edits: ByNumber<[u64; ENTRIES.len()]>,
     /// How often a plan was built from, or an edit made in, a record that was never worked out.
@@ -250,6 +256,7 @@ impl Tally {
             && self.handed.passed()
             && self.filed.passed()
             && self.salvages.passed()
+            && self.chosen.passed()
             && self.texts().iter().all(|&(_, met)| met > 0)
             && self.replies().iter().chain(&self.edits()).flat_map(|(_, refused)| refused).all(|&(_, met)| met > 0)
     }
@@ -280,7 +287,7 @@ impl fmt::Display for Tally {
         for (input, refused) in self.replies() {
             writeln!(f, "replies refused, {input}: {}", listed(&refused))?;
         }
-        write!(f, "{}{}{}", self.handed, self.filed, self.salvages)?;
+        write!(f, "{}{}{}{}", self.handed, self.filed, self.salvages, self.chosen)?;
         writeln!(f, "edits of records that were worked out: {}", self.edits.iter().flatten().sum::<u64>())?;
         for (entry, refused) in self.edits() {
             writeln!(f, "{entry} refused: {}", listed(&refused))?;

@@ -51,6 +51,26 @@ pub fn instance(random: &mut Random, table: &Table) -> Vec<u32> {
     cells(terms)
 }
 
+/// A goal that knows these columns and nothing else: what a row holds there, or in each of them another row, a leaf for every variable.
+pub fn knowing(random: &mut Random, table: &Table, columns: &[u32], of_one_row: bool) -> Vec<u32> {
+    let ground = Alphabet { symbols: 3, variable: 0 };
+    loop {
+        let row = random.pick(&table.rows);
+        let mut blank = 1000..;
+        let mut terms: Vec<Term> = (0..table.width)
+            .map(|column| match columns.contains(&(column as u32)) {
+                true if of_one_row => row.arguments[column].clone(),
+                true => random.pick(&table.rows).arguments[column].clone(),
+                false => Term::Var(blank.next().expect("numbers do not end")),
+            })
+            .collect();
+        each_variable(&mut terms, &mut |number| if number < 1000 { ground.leaf(random) } else { Term::Var(number) });
+        if size(&terms) <= ROW_CELLS {
+            return numbered(terms);
+        }
+    }
+}
+
 /// A row with its variables, and now and then other parts, replaced by terms of a small pool, in which variables stand by themselves and inside
 /// names: what is met again is then the same, joins two variables, differs inside, or holds itself.
 fn near(random: &mut Random, table: &Table) -> Vec<u32> {

@@ -1,9 +1,11 @@
-//! The least plan (01, "The least plan"), by 01's measure and by that of 02, W-204 and W-209.
+//! The least plan (01, "The least plan"), by 01's measure and by that of 02, W-204 and W-209; and a search through all plans, those for named
+//! columns too (W-213).
 
 use std::collections::HashMap;
 use std::ops::Range;
 
-use super::plan::{grow, Open, Plan};
+use super::columns::Named;
+use super::plan::{check_for, grow, Open, Plan};
 use super::read::{Row, Table};
 use super::term::{Symbol, Term};
 
@@ -17,7 +19,7 @@ pub enum Measure {
 impl Measure {
     /// What a branch for this cell adds below those of the cells `met`: nothing for a variable, but one where it was met; one for a number, one and
     /// its arguments for a name.
-    fn weight(self, cell: u32, met: &[u32]) -> usize {
+    pub(super) fn weight(self, cell: u32, met: &[u32]) -> usize {
         match (self, Symbol::of(cell)) {
             (Measure::Branches, _) | (_, Some(Symbol::Number(_))) => 1,
             (_, Some(Symbol::Name { arguments, .. })) => 1 + arguments,
@@ -26,7 +28,7 @@ impl Measure {
     }
 
     /// What a state with so many branches adds.
-    fn figure(self, branches: usize) -> usize {
+    pub(super) fn figure(self, branches: usize) -> usize {
         match self {
             Measure::Work(figure) if branches >= 2 => figure as usize,
             _ => 0,
@@ -70,12 +72,12 @@ pub fn least(table: &Table) -> Plan {
 /// The builder's plan, by document 001's equations 1 and 2: a least count for every pair of first and last row that is met.
 pub fn least_by(table: &Table, measure: Measure) -> Plan {
     let mut counts = Counts { table, measure, known: vec![None; table.rows.len() * table.rows.len()] };
-    grow(table, |open, rows| leftmost_agreed(open, rows).unwrap_or_else(|| counts.best(rows.clone()).place))
+    grow(table, |open, rows| leftmost_agreed(open, rows, 0..open.places(rows)).unwrap_or_else(|| counts.best(rows.clone()).place))
 }
 
-/// The leftmost open place that all the rows agree on; a single row agrees with itself everywhere.
-fn leftmost_agreed(open: &Open, rows: &Range<usize>) -> Option<usize> {
-    (0..open.places(rows)).find(|&place| open.run(rows.clone(), place).len() == rows.len())
+/// The leftmost of some open places that all the rows agree on; a single row agrees with itself everywhere.
+fn leftmost_agreed(open: &Open, rows: &Range<usize>, places: impl IntoIterator<Item = usize>) -> Option<usize> {
+    places.into_iter().find(|&place| open.run(rows.clone(), place).len() == rows.len())
 }
 
 /// What is known of every run of rows, by its first and last row.
@@ -168,9 +170,14 @@ impl<'t> Settled<'t> {
 
 /// The builder's plan by 01's words alone: every place of every state is tried, whatever its rows agree on. For small tables.
 pub fn least_by_search(table: &Table, measure: Measure) -> Plan {
-    let mut search = Search { measure, known: HashMap::new() };
+    least_for_by_search(table, &Named::default(), measure)
+}
+
+/// The same by W-213's: every place that may be chosen.
+pub fn least_for_by_search(table: &Table, named: &Named, measure: Measure) -> Plan {
+    let mut search = Search { measure, named, known: HashMap::new() };
     grow(table, |open, rows| {
-        leftmost_agreed(open, rows).unwrap_or_else(|| {
+        leftmost_agreed(open, rows, named.choosable(open.first(rows))).unwrap_or_else(|| {
             let lists = rows.clone().map(|row| (0..open.places(rows)).map(|place| open.at(row, place)).collect()).collect();
             // No variable is met above several rows, and the place for a single row is taken before.
             search.cheapest(&lists, &[]).1
@@ -181,7 +188,7 @@ pub fn least_by_search(table: &Table, measure: Measure) -> Plan {
 /// What is known of every run of rows, by the same search: first from the state where nothing is closed, then from the one where all places
 /// that the rows agree on are closed.
 pub fn every_run_by_search(table: &Table, measure: Measure) -> Vec<(usize, usize, Best)> {
-    let mut search = Search { measure, known: HashMap::new() };
+    let mut search = Search { measure, named: &Named::default(), known: HashMap::new() };
     let of_run = |(first, last): (usize, usize)| {
         let mut lists: Lists = table.rows[first..=last].iter().map(|row| row.arguments.iter().collect()).collect();
         let whole = search.cheapest(&lists, &[]).0;
@@ -197,14 +204,15 @@ pub fn every_run_by_search(table: &Table, measure: Measure) -> Vec<(usize, usize
 /// A state's rows, each as its terms at the open places.
 type Lists<'t> = Vec<Vec<&'t Term>>;
 
-struct Search {
+struct Search<'n> {
     measure: Measure,
+    named: &'n Named,
     /// The least cost of a state and its leftmost place, by the addresses of the terms that are open in its first row, and its number of rows.
     /// What was met above is what is not open.
     known: HashMap<(Vec<*const Term>, usize), (usize, usize)>,
 }
 
-impl Search {
+impl Search<'_> {
     fn cheapest(&mut self, rows: &Lists, met: &[u32]) -> (usize, usize) {
         if rows[0].is_empty() {
             return (0, 0);
@@ -213,9 +221,8 @@ impl Search {
         if let Some(&known) = self.known.get(&key) {
             return known;
         }
-        let costs = (0..rows[0].len()).map(|place| self.cost(rows, place, met)).collect::<Vec<_>>();
-        let least = *costs.iter().min().expect("a state that is no leaf has an open place");
-        let found = (least, costs.iter().position(|&cost| cost == least).expect("the least is one of them"));
+        let costs = self.named.choosable(&rows[0]).into_iter().map(|place| (self.cost(rows, place, met), place));
+        let found = costs.min().expect("a state that is no leaf has an open place");
         self.known.insert(key, found);
         found
     }
@@ -230,6 +237,45 @@ impl Search {
         }
         sum
     }
+}
+
+/// Every plan of a table that the check accepts, as cells. There are many even for few rows.
+pub fn every_plan(table: &Table) -> Vec<Vec<u32>> {
+    plans_below(&table.rows.iter().map(|row| row.arguments.iter().collect()).collect::<Lists>())
+}
+
+fn plans_below(rows: &[Vec<&Term>]) -> Vec<Vec<u32>> {
+    let places = rows[0].len();
+    if places == 0 {
+        return vec![vec![rows.len() as u32]];
+    }
+    let taking = |place: usize| {
+        let runs: Vec<_> = rows.chunk_by(|above, below| above[place].agrees(below[place])).collect();
+        runs.iter().fold(vec![vec![place as u32, runs.len() as u32]], |begun, run| {
+            let below = plans_below(&run.iter().map(|row| closed(row, place)).collect::<Lists>());
+            let cell = run[0][place].cell();
+            begun.iter().flat_map(|cells| below.iter().map(move |below| [cells, &[cell][..], below].concat())).collect()
+        })
+    };
+    (0..places).flat_map(taking).collect()
+}
+
+/// The builder's plan for named columns out of the list of all plans: of those that the check for these columns accepts and that cost least, the
+/// first one by what is taken at each state, from the first state on, a place that its rows agree on before others, and then by its index.
+pub fn least_of_all(table: &Table, named: &Named, measure: Measure) -> Plan {
+    fn taken(plan: &Plan, state: Range<usize>, places: &mut Vec<(bool, usize)>) {
+        if let Some(branch) = plan.branches[state.clone()].first() {
+            places.push((plan.at(state.clone()).count() > 1, branch.place()));
+        }
+        plan.at(state).for_each(|(_, below)| taken(plan, below, places));
+    }
+    let order = |plan: &Plan| {
+        let mut places = Vec::new();
+        taken(plan, plan.top(), &mut places);
+        (measure.cost(plan), places)
+    };
+    let accepted = every_plan(table).into_iter().filter_map(|cells| check_for(table, named, &cells).ok());
+    accepted.min_by_key(order).expect("every table has a plan")
 }
 
 fn closed<'t>(row: &[&'t Term], place: usize) -> Vec<&'t Term> {

@@ -1,7 +1,8 @@
-//! Plans (01, "Plans"): runs of agreeing rows, the check of any plan, and plans written as cells.
+//! Plans (01, "Plans"): runs of agreeing rows, the check of any plan and of one for named columns (02, W-213), and plans written as cells.
 
 use std::ops::Range;
 
+use super::columns::Named;
 use super::read::Table;
 use super::refusal::{Input, Number, Refusal};
 use super::term::Term;
@@ -127,6 +128,11 @@ impl<'t> Open<'t> {
         self.0[row][place]
     }
 
+    /// What the first of the rows holds at the open places.
+    pub fn first(&self, rows: &Range<usize>) -> &[&'t Term] {
+        &self.0[rows.start]
+    }
+
     /// The longest run of agreeing neighbours from the first of the rows on.
     pub fn run(&self, rows: Range<usize>, place: usize) -> Range<usize> {
         let mut end = rows.start + 1;
@@ -181,11 +187,16 @@ pub fn grow<'t>(table: &'t Table, mut choose: impl FnMut(&Open<'t>, &Range<usize
 
 /// The check of any plan, and its tree.
 pub fn check(table: &Table, cells: &[u32]) -> Result<Plan, Refusal> {
+    check_for(table, &Named::default(), cells)
+}
+
+/// The check of a plan for named columns, and its tree.
+pub fn check_for(table: &Table, named: &Named, cells: &[u32]) -> Result<Plan, Refusal> {
     if cells.len() > PLAN_CELLS {
         return Err(Refusal { number: Number::Size, input: Input::Plan, place: 0 });
     }
     let rows = table.rows.len();
-    let mut check = Check { open: Open::new(table), cells, at: 0, plan: Plan { rows, branches: Vec::new() } };
+    let mut check = Check { open: Open::new(table), named, cells, at: 0, plan: Plan { rows, branches: Vec::new() } };
     check.state(0..rows, 0)?;
     if check.at < cells.len() {
         return Err(check.refusal(Number::Extra));
@@ -195,6 +206,7 @@ pub fn check(table: &Table, cells: &[u32]) -> Result<Plan, Refusal> {
 
 struct Check<'t, 'c> {
     open: Open<'t>,
+    named: &'c Named,
     cells: &'c [u32],
     at: usize,
     plan: Plan,
@@ -223,7 +235,11 @@ impl Check<'_, '_> {
             self.take(Number::Rows, |cell| cell == rows.len())?;
             return Ok(());
         }
+        let index = self.at;
         let place = self.take(Number::Open, |cell| cell < places)?;
+        if !self.named.is_empty() && !self.named.choosable(self.open.first(&rows)).contains(&place) {
+            return Err(Refusal { place: index, ..self.refusal(Number::Early) });
+        }
         let runs = self.open.runs(&rows, place);
         self.take(Number::Edges, |cell| cell == runs)?;
         let mut left = rows;

@@ -36,12 +36,15 @@ pub enum Number {
     Padding,
     Head,
     None,
+    Column,
+    Early,
 }
 
 /// Their names, by number from 1.
-pub const NAMES: [&str; 32] = [
+pub const NAMES: [&str; 34] = [
     "LENGTH", "WIDTH", "COUNT", "LONG", "SHORT", "CELL", "FRESH", "TWICE", "EXTRA", "SIZE", "ENDS", "OPEN", "EDGES", "LABEL", "ROWS", "ROOM",
     "BYTES", "TEXT", "OTHER", "FIGURE", "FULL", "LAST", "INDEX", "SAME", "BIG", "NAMES", "BLOCKS", "DAMAGE", "SIZES", "PADDING", "HEAD", "NONE",
+    "COLUMN", "EARLY",
 ];
 
 /// The number that is never given again.
@@ -85,6 +88,7 @@ pub enum Input {
     Figure,
     Names,
     File,
+    Columns,
 }
 
 #[derive(Clone, Copy, Debug, PartialEq, Eq)]

@@ -52,7 +52,7 @@ pub fn compare<S: Shift>(engine: &S, lists: usize, seed: u64) -> Tally {
 }
 
 /// Goals one after another, and jobs for them and for other parts of the cells; what else the jobs hold is anything.
-fn list(random: &mut Random, table: &Table) -> (Vec<u32>, Vec<Job>) {
+pub fn list(random: &mut Random, table: &Table) -> (Vec<u32>, Vec<Job>) {
     let mut cells = Vec::new();
     let mut parts = Vec::new();
     let most = if random.one_in(40) { 300 } else { 12 };

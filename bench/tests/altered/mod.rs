@@ -76,6 +76,8 @@ pub struct Altered {
     pub write_file: WriteFile,
     pub read_file: ReadFile,
     pub salvage: Salvage,
+    pub build_for: BuildFor,
+    pub check_for: CheckFor,
 }
 
 pub type ReadText = fn(&[u8], &mut [u32], &mut [u32]) -> u64;
@@ -84,6 +86,8 @@ pub type Clauses = fn(&Record, &[u32], &[u8], &[u32], &mut [u8]) -> u64;
 pub type WriteFile = fn(&Record, &[u32], &mut [u8]) -> u64;
 pub type ReadFile = fn(&[u8], &mut [u32], &mut [u32]) -> u64;
 pub type Salvage = fn(&[u8], &mut [u32], &mut [u32], &mut [usize], &mut Report) -> u64;
+pub type BuildFor = fn(&Record, &[u32], &mut [u32]) -> u64;
+pub type CheckFor = fn(&Record, &[u32], &[u32]) -> u64;
 
 pub const RIGHT: Altered = Altered {
     read_table: |table| Plain.read_table(table),
@@ -101,6 +105,8 @@ pub const RIGHT: Altered = Altered {
     write_file: |record, plan, room| Plain.write_file(record, plan, room),
     read_file: |file, table, plan| Plain.read_file(file, table, plan),
     salvage: |file, table, plan, bad, report| Plain.salvage(file, table, plan, bad, report),
+    build_for: |record, columns, room| Plain.build_for(record, columns, room),
+    check_for: |record, columns, plan| Plain.check_for(record, columns, plan),
 };
 
 impl Engine for Altered {
@@ -151,5 +157,11 @@ impl Engine for Altered {
     }
     fn salvage(&self, file: &[u8], table: &mut [u32], plan: &mut [u32], bad: &mut [usize], report: &mut Report) -> u64 {
         (self.salvage)(file, table, plan, bad, report)
+    }
+    fn build_for(&self, record: &Record, columns: &[u32], room: &mut [u32]) -> u64 {
+        (self.build_for)(record, columns, room)
+    }
+    fn check_for(&self, record: &Record, columns: &[u32], plan: &[u32]) -> u64 {
+        (self.check_for)(record, columns, plan)
     }
 }
