@@ -1,5 +1,5 @@
-// What the program ask says where texts of facts and goals are refused, stored with their output: the programs over `desk` say it to standard
-// error.
+// What the program ask says where texts of facts, goals and lists of columns are refused, stored with their output: the programs over `desk` say
+// it to standard error. And what it says of counts that no run of the gate reaches.
 use answer::RunAnswer;
 use libc::STDOUT_FILENO;
 use message::Whose;
@@ -107,6 +107,26 @@ fn big() {
     );
 }
 
+fn write(out: &[u8], n: usize) {
+    io::write_all(STDOUT_FILENO, parts::part(out, 0, n));
+}
+
+// COLUMN: a list that `--known` has, of a file's rules.
+fn column(list: &[u8], path: &[u8], rules: &[u8]) {
+    let mut out = [0u8; 256];
+    let n = known::put_column(&mut out, 0, list, path, shop::width_of(rules));
+    write(&out, n);
+}
+
+// What `--count` prints for a rule and for all goals, where so many fitted and were answered.
+fn counted(n: usize) {
+    let mut out = [0u8; 256];
+    let width = tallywords::digits(n);
+    let a = tallywords::put_fitted(&mut out, 0, width, n, 64, 65535);
+    let b = tallywords::put_total(&mut out, a, width, n, b"goal answered", b"goals answered");
+    write(&out, b);
+}
+
 fn main() {
     texts();
     ends();
@@ -117,4 +137,9 @@ fn main() {
     // BYTES
     facts(&[b' '; 65536]);
     goal(&[b' '; 65534]);
+    column(b"5", b"shop.pl", b"rule(9, red, ring, soft).");
+    column(b"1,2,1", b"one.pl", b"p(a).");
+    counted(0);
+    counted(1);
+    counted(usize::MAX);
 }

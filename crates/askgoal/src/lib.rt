@@ -6,7 +6,14 @@ use goaltext::GoalText;
 use instance::RepliesAnswer;
 use page::Page;
 use shop::Shop;
+use tally::Tally;
 use term::End;
+
+// What is printed, and what the goals add up to so far.
+pub struct Sheet {
+    pub page: Page,
+    pub tally: Tally,
+}
 
 // What a goal finds: the rules that fit, or why it is refused. So many of its names are not the facts', and stand in a list.
 pub struct Found {
@@ -38,10 +45,37 @@ pub fn ask(
     source: Source,
     room: &mut [u32],
     out: &mut [u8],
-    page: Page,
-) -> Page {
+    sheet: Sheet,
+) -> Sheet {
     let found = find(text, kept, shop, goal, room);
-    say(text, kept, shop, goal, source, found, &*room, out, page)
+    let page = say(
+        text,
+        kept,
+        shop,
+        goal,
+        source,
+        found,
+        &*room,
+        out,
+        sheet.page,
+    );
+    let tally = counted(sheet.tally, found);
+    Sheet { page, tally }
+}
+
+// What was counted, with what a goal found.
+fn counted(t: Tally, found: Found) -> Tally {
+    let answer = found.answer;
+    let hits = found.hits;
+    tally::add(t, answer, &hits)
+}
+
+// A sheet with nothing on it.
+pub fn blank() -> Sheet {
+    Sheet {
+        page: page::blank(),
+        tally: tally::nothing(),
+    }
 }
 
 // A goal's text read and run. The answers of the rules that fit stand in the room, one after another.

@@ -1,9 +1,9 @@
 // Goals from standard input, one to a line; the last may have no line feed.
+use askgoal::Sheet;
 use goalsay::Source;
 use lex::fact::Head;
 use libc::STDIN_FILENO;
 use linecut::line_end;
-use page::Page;
 use reading::Got;
 use shop::Shop;
 
@@ -24,6 +24,17 @@ pub struct Piece {
     pub kind: Kind,
 }
 
+// Where the reading stands: bytes that are read and not yet looked at, from a place up to another; how many lines are above; whether this is
+// inside of a line that is too long; whether it goes on; and what the goals so far have come to.
+pub struct Stand {
+    pub from: usize,
+    pub to: usize,
+    pub above: usize,
+    pub inside: bool,
+    pub open: bool,
+    pub sheet: Sheet,
+}
+
 // A line that does not fit the buffer is longer than a goal may be. What fits is asked, and refused for its length, whatever it is; its rest is
 // passed over. What is gathered is written before anything is waited for. There is an end to every input.
 pub fn ask_lines(
@@ -33,46 +44,55 @@ pub fn ask_lines(
     buf: &mut [u8],
     room: &mut [u32],
     out: &mut [u8],
-) -> Page {
-    let mut page = page::blank();
-    let mut from = 0;
-    let mut to = 0;
-    let mut above = 0;
-    let mut inside = false;
-    let mut turns = usize::MAX - 1;
-    while 0 < turns && page.open {
+) -> Sheet {
+    let mut stand = Stand {
+        from: 0,
+        to: 0,
+        above: 0,
+        inside: false,
+        open: true,
+        sheet: askgoal::blank(),
+    };
+    let mut turns = usize::MAX;
+    while 0 < turns && stand.open {
         turns -= 1;
-        page = before_reading(buf, from, to, out, page);
-        let piece = next_piece(buf, from, to);
-        page = ask_piece(text, kept, shop, buf, piece, inside, above, room, out, page);
-        let kind = piece.kind;
-        match kind {
-            Kind::Line => {
-                inside = false;
-                above += 1;
-            }
-            Kind::Part => {
-                inside = true;
-            }
-            Kind::Last => {
-                return page;
-            }
-            Kind::Failed => {
-                return page;
-            }
-        }
-        from = piece.next;
-        to = piece.to;
+        stand = ask_next(text, kept, shop, buf, stand, room, out);
     }
-    page
+    stand.sheet
+}
+
+// The next line, or a part of one.
+fn ask_next(
+    text: &[u8],
+    kept: &[u32],
+    shop: Shop,
+    buf: &mut [u8],
+    stand: Stand,
+    room: &mut [u32],
+    out: &mut [u8],
+) -> Stand {
+    let here = before_reading(buf, out, stand);
+    let piece = next_piece(buf, here.from, here.to);
+    let sheet = ask_piece(text, kept, shop, buf, piece, here, room, out);
+    after(here, piece, sheet)
 }
 
 // Where no whole line is left of what was read, all that is gathered is written.
-fn before_reading(buf: &[u8], from: usize, to: usize, out: &[u8], page: Page) -> Page {
-    if line_end(buf, from, to) < to {
-        return page;
+fn before_reading(buf: &[u8], out: &[u8], stand: Stand) -> Stand {
+    if line_end(buf, stand.from, stand.to) < stand.to {
+        return stand;
     }
-    page::flush(out, page)
+    let sheet = stand.sheet;
+    let tally = sheet.tally;
+    let page = page::flush(out, sheet.page);
+    Stand {
+        from: stand.from,
+        to: stand.to,
+        above: stand.above,
+        inside: stand.inside,
+        open: stand.open,
+        sheet: Sheet { page, tally },
+    }
 }
 
 // A line that has nothing but layout and comments is no goal, and neither is the rest of one that is too long, which is refused without a look.
@@ -82,22 +102,59 @@ fn ask_piece(
     shop: Shop,
     buf: &[u8],
     piece: Piece,
-    inside: bool,
-    above: usize,
+    stand: Stand,
     room: &mut [u32],
     out: &mut [u8],
-    page: Page,
-) -> Page {
+) -> Sheet {
     let goal = parts::part(buf, piece.start, piece.end);
     let kind = piece.kind;
+    let sheet = stand.sheet;
     if is_failed(kind) {
         os::fail(b"cannot read standard input");
-        return page;
+        return sheet;
     }
-    if is_goal(goal, kind, inside) {
-        return askgoal::ask(text, kept, shop, goal, Source::Line(above), room, out, page);
+    if is_goal(goal, kind, stand.inside) {
+        let source = Source::Line(stand.above);
+        return askgoal::ask(text, kept, shop, goal, source, room, out, sheet);
     }
-    page
+    sheet
+}
+
+// After a piece. The first write that fails ends it too.
+fn after(stand: Stand, piece: Piece, sheet: Sheet) -> Stand {
+    let kind = piece.kind;
+    let page = sheet.page;
+    Stand {
+        from: piece.next,
+        to: piece.to,
+        above: above_next(kind, stand.above),
+        inside: is_part(kind),
+        open: goes_on(kind) && page.open,
+        sheet,
+    }
+}
+
+fn above_next(kind: Kind, above: usize) -> usize {
+    match kind {
+        Kind::Line => marks::further(above, 1),
+        _ => above,
+    }
+}
+
+fn is_part(kind: Kind) -> bool {
+    match kind {
+        Kind::Part => true,
+        _ => false,
+    }
+}
+
+fn goes_on(kind: Kind) -> bool {
+    match kind {
+        Kind::Line => true,
+        Kind::Part => true,
+        Kind::Last => false,
+        Kind::Failed => false,
+    }
 }
 
 fn is_failed(kind: Kind) -> bool {

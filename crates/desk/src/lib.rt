@@ -1,118 +1,116 @@
 // The program `ask`: a shop's rules and its goals in Prolog text, answered in Prolog text. What is read and what is answered is decided and
-// promised in the libraries. This crate finds the arguments and the file; it is proved safe and ending.
+// promised in the libraries. This crate finds the file and does what is asked of it; it is proved safe and ending.
 use clauses::HandAnswer;
-use lex::name::same_bytes;
+use doubles::part;
+use known::Listed;
 use page::Page;
 use reading::Got;
 use refusal::Refusal;
 use shop::Loaded;
 use shop::Shop;
+use wishes::Asked;
+use wishes::Wish;
 
-// What the first argument asks for: answers to goals, of the file that it names; the plan of a file, as a tree or as Prolog; the help; the
-// version; or nothing that there is.
-pub enum Wish {
-    Answers,
-    Tree,
-    Clauses,
-    Help,
-    Version,
-    Nothing,
-}
-
-fn wish_of(word: &[u8]) -> Wish {
-    if same_bytes(word, b"--plan") {
-        return Wish::Tree;
-    }
-    if same_bytes(word, b"--prolog") {
-        return Wish::Clauses;
-    }
-    if same_bytes(word, b"--help") || same_bytes(word, b"-h") {
-        return Wish::Help;
-    }
-    if same_bytes(word, b"--version") {
-        return Wish::Version;
-    }
-    if same_bytes(parts::part(word, 0, 1), b"-") {
-        return Wish::Nothing;
-    }
-    Wish::Answers
-}
-
-// `ask FILE GOAL ..`, `ask --plan FILE`, `ask --prolog FILE`, `ask --help` or `ask --version`.
+// `ask [--known LIST] [--count] FILE GOAL ..`, `ask [--known LIST] --plan FILE`, the same with `--prolog`, `ask --help` or `ask --version`.
 pub fn answer() {
-    let count = os::arg_count();
-    let mut word = io::buffer();
-    let n = os::arg(1, &mut word);
-    let wish = wish_of(&word[..n]);
+    let asked = wishes::read();
+    let wish = asked.wish;
     match wish {
-        Wish::Answers => {
-            if count < 2 {
-                helptext::refuse();
-                return;
-            }
-            open_argument(1, wish);
-        }
-        Wish::Tree | Wish::Clauses => {
-            if count != 3 {
-                helptext::refuse();
-                return;
-            }
-            open_argument(2, wish);
-        }
-        Wish::Help => {
-            if count != 2 {
-                helptext::refuse();
-                return;
-            }
-            helptext::print();
-        }
-        Wish::Version => {
-            if count != 2 {
-                helptext::refuse();
-                return;
-            }
-            helptext::version();
-        }
+        Wish::Help => helptext::print(),
+        Wish::Version => helptext::version(),
         Wish::Nothing => helptext::refuse(),
+        _ => find_columns(asked),
+    }
+}
+
+// The columns that are known, of which a list that is an argument has at most 2,048.
+fn find_columns(asked: Asked) {
+    let mut columns = [0u32; 2048];
+    match known::columns_of(asked.known, &mut columns) {
+        Listed::Columns(n) => find_file(asked, part(&columns, 0, n)),
+        Listed::NoList => helptext::refuse_list(),
     }
 }
 
 // The file that an argument names. One that is too long for a name names none.
-fn open_argument(i: usize, wish: Wish) {
+fn find_file(asked: Asked, columns: &[u32]) {
     let mut path = io::buffer();
-    let n = os::arg(i, &mut path);
+    let n = os::arg(asked.file, &mut path);
     if os::errno() != 0 {
         os::fail(b"cannot read FILE");
         return;
     }
-    lend(&path[..n], wish);
+    lend(&path[..n], asked, columns);
 }
 
 // The rooms, lent once: for answers and, before them, for the table; for what is kept of the file; for what is printed.
-fn lend(path: &[u8], wish: Wish) {
+fn lend(path: &[u8], asked: Asked, columns: &[u32]) {
     let mut room = [0u32; 65536];
     let mut kept = [0u32; 10244];
     let mut out = [0u8; 164864];
-    open(path, wish, &mut room, &mut kept, &mut out);
+    open(path, asked, columns, &mut room, &mut kept, &mut out);
 }
 
 // One byte more is read than a text may have, so that too long a file is seen to be one.
-fn open(path: &[u8], wish: Wish, room: &mut [u32], kept: &mut [u32], out: &mut [u8]) {
+fn open(
+    path: &[u8],
+    asked: Asked,
+    columns: &[u32],
+    room: &mut [u32],
+    kept: &mut [u32],
+    out: &mut [u8],
+) {
     let mut text = [0u8; 65536];
     match reading::read_path(path, &mut text) {
-        Got::Bytes(n) => load(path, parts::part(&text, 0, n), wish, room, kept, out),
+        Got::Bytes(n) => load(
+            path,
+            parts::part(&text, 0, n),
+            asked,
+            columns,
+            room,
+            kept,
+            out,
+        ),
         Got::Failed => reading::cannot_read(path, out),
     }
 }
 
-fn load(path: &[u8], text: &[u8], wish: Wish, room: &mut [u32], kept: &mut [u32], out: &mut [u8]) {
-    match shop::load(text, room, kept) {
-        Loaded::Kept(shop) => match wish {
-            Wish::Tree => show_tree(text, kept, shop, out),
-            Wish::Clauses => show_clauses(path, text, kept, shop, out),
-            _ => askall::answer_all(text, kept, shop, room, out),
-        },
-        Loaded::Refused(f) => refuse(path, text, f, out),
+fn load(
+    path: &[u8],
+    text: &[u8],
+    asked: Asked,
+    columns: &[u32],
+    room: &mut [u32],
+    kept: &mut [u32],
+    out: &mut [u8],
+) {
+    match shop::load_for(text, columns, room, kept) {
+        Loaded::Kept(shop) => show(path, text, kept, shop, asked, room, out),
+        Loaded::Refused(f) => refuse(path, text, asked.known, f, out),
+    }
+}
+
+fn show(
+    path: &[u8],
+    text: &[u8],
+    kept: &[u32],
+    shop: Shop,
+    asked: Asked,
+    room: &mut [u32],
+    out: &mut [u8],
+) {
+    let wish = asked.wish;
+    match wish {
+        Wish::Tree => show_tree(text, kept, shop, out),
+        Wish::Clauses => show_clauses(path, text, kept, shop, out),
+        _ => askall::answer_all(text, kept, shop, asked.goal, counts(wish), room, out),
+    }
+}
+
+fn counts(wish: Wish) -> bool {
+    match wish {
+        Wish::Counts => true,
+        _ => false,
     }
 }
 
@@ -132,11 +130,17 @@ fn show_clauses(path: &[u8], text: &[u8], kept: &[u32], shop: Shop, out: &mut [u
                 },
             );
         }
-        HandAnswer::Refused(f) => refuse(path, text, f, out),
+        HandAnswer::Refused(f) => refuse(path, text, 0, f, out),
     }
 }
 
-fn refuse(path: &[u8], text: &[u8], f: Refusal, out: &mut [u8]) {
+// Why a file is not taken, or why a list of known columns is not.
+fn refuse(path: &[u8], text: &[u8], list: usize, f: Refusal, out: &mut [u8]) {
+    let reason = f.reason;
+    if refusal::number_of(reason) == known::COLUMN {
+        known::complain(list, path, shop::width_of(text), out);
+        return;
+    }
     let n = refusals::put_facts_refusal(out, path, text, f);
     page::complain(out, n);
 }

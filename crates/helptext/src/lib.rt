@@ -16,9 +16,11 @@ pub fn line(going: bool, text: &[u8]) -> bool {
 
 pub fn print() {
     let a = uses(true);
-    let b = goals(a);
-    let c = answers(b);
-    refusals(c);
+    let b = columns(a);
+    let c = goals(b);
+    let d = answers(c);
+    let e = counts(d);
+    refusals(e);
 }
 
 fn uses(going: bool) -> bool {
@@ -28,14 +30,29 @@ fn uses(going: bool) -> bool {
     );
     let b = line(
         a,
-        b"ask --plan FILE      in which order the rules' arguments are looked at\n",
+        b"ask --count FILE ..  the same, and at the end how often each rule fitted\n",
     );
     let c = line(
         b,
+        b"ask --plan FILE      in which order the rules' arguments are looked at\n",
+    );
+    let d = line(
+        c,
         b"ask --prolog FILE    that order as Prolog clauses, which answer as the rules do\n",
     );
-    let d = line(c, b"ask --help, -h       this\n");
-    line(d, b"ask --version        the version\n\n")
+    let e = line(d, b"ask --help, -h       this\n");
+    line(e, b"ask --version        the version\n\n")
+}
+
+fn columns(going: bool) -> bool {
+    let a = line(
+        going,
+        b"With --known 1,3 before FILE these columns are looked at first, for goals in\n",
+    );
+    line(
+        a,
+        b"which they are always filled in. Columns are the rules' arguments, from 1.\n\n",
+    )
 }
 
 fn goals(going: bool) -> bool {
@@ -85,6 +102,17 @@ fn answers(going: bool) -> bool {
     )
 }
 
+fn counts(going: bool) -> bool {
+    let a = line(
+        going,
+        b"With --count there is a table after all answers: how often each rule fitted, how\n",
+    );
+    line(
+        a,
+        b"many goals were answered and how many refused, and the branches tried in all.\n\n",
+    )
+}
+
 fn refusals(going: bool) -> bool {
     let a = line(
         going,
@@ -118,6 +146,14 @@ pub fn version() {
 pub fn refuse() {
     io::write_all(
         STDERR_FILENO,
-        b"usage: ask FILE [GOAL ..], ask --plan FILE, ask --prolog FILE, ask --help or ask --version\n",
+        b"usage: ask [--known LIST] [--count] FILE [GOAL ..], ask [--known LIST] --plan FILE, ask [--known LIST] --prolog FILE, ask --help or ask --version\n",
+    );
+}
+
+// Likewise, of a list of columns that is none.
+pub fn refuse_list() {
+    io::write_all(
+        STDERR_FILENO,
+        b"usage: --known 1,3: the numbers of columns, the first being 1, with commas and no blanks between them\n",
     );
 }

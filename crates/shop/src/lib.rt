@@ -26,19 +26,27 @@ pub enum Loaded {
 // 64 lines, 2,048 names, 2,050 cells of a table and 6,082 of a plan.
 pub const KEPT: usize = 10244;
 
-// No text needs larger rooms for its table and its names, so that it is refused for what it is and never for the room.
+// With the plain least plan.
 pub fn load(text: &[u8], room: &mut [u32], kept: &mut [u32]) -> Loaded {
+    let none = [0u32; 1];
+    load_for(text, part(&none, 0, 0), room, kept)
+}
+
+// With the least plan that looks at these columns first, the first column being 0 (02, W-213). No text needs larger rooms for its table and
+// its names, so that it is refused for what it is, or for a column, and never for the room.
+pub fn load_for(text: &[u8], columns: &[u32], room: &mut [u32], kept: &mut [u32]) -> Loaded {
     let mut names = [0u32; 32766];
     match prolog::read_text(text, room, &mut names) {
-        TextAnswer::Read(n, m) => keep(text, part(&names, 0, m), part(&*room, 0, n), kept),
+        TextAnswer::Read(n, m) => keep(text, columns, part(&names, 0, m), part(&*room, 0, n), kept),
         TextAnswer::Refused(f) => Loaded::Refused(f),
     }
 }
 
-// The least plan by the work of W-204, figure 0. A table that was read is not refused here, and 6,082 cells are enough for every plan.
-fn keep(text: &[u8], names: &[u32], table: &[u32], kept: &mut [u32]) -> Loaded {
+// The least plan by the work of W-204, figure 0. A table that was read is refused here for a column alone, and 6,082 cells are enough for
+// every plan.
+fn keep(text: &[u8], columns: &[u32], names: &[u32], table: &[u32], kept: &mut [u32]) -> Loaded {
     let mut plan = [0u32; 6082];
-    match builder::build_plan(By::Work(0), table, &mut plan) {
+    match builder::build_for(By::Work(0), columns, table, &mut plan) {
         BuildAnswer::Built(n, _) => Loaded::Kept(put_lists(
             text,
             names,
@@ -70,6 +78,12 @@ pub fn branches_of(table: &[u32], plan: &[u32]) -> usize {
         PlanAnswer::Accepted(n) => n,
         PlanAnswer::Refused(_) => 0,
     }
+}
+
+// How many columns the rules of a text have.
+pub fn width_of(text: &[u8]) -> usize {
+    let p = goaltext::predicate_of(text);
+    p.width
 }
 
 pub fn names_in(kept: &[u32], shop: Shop) -> &[u32] {

@@ -6,10 +6,10 @@ use Rattle.askall.proofs.ask_arguments.Statement.{statement}
 use Rattle.askall.proofs.ask_arguments.Tie as tie
 
 abbrev Inv-loop : tie.InvT-loop
-Inv-loop text kept shop count buf₀ room₀ out₀ page₀ i₀ buf room out page i = (length buf ≡ length buf₀) × (length room ≡ length room₀) × (length out ≡ length out₀)
+Inv-loop text kept shop first count buf₀ room₀ out₀ sheet₀ i₀ buf room out sheet i = (length buf ≡ length buf₀) × (length room ≡ length room₀) × (length out ≡ length out₀)
 
 abbrev μ-loop : tie.MeasureT-loop
-μ-loop text kept shop count buf₀ room₀ out₀ page₀ i₀ buf room out page i = count - i
+μ-loop text kept shop first count buf₀ room₀ out₀ sheet₀ i₀ buf room out sheet i = count - i
 
 blank-requires : tie.Need-blank-requires Inv-loop μ-loop
 blank-requires c κs = search needs
@@ -20,17 +20,17 @@ loop-holds c = search needs
 argument-requires : tie.Need-argument-requires Inv-loop μ-loop
 argument-requires c κs = search needs
 
-part-requires : tie.Need-part-requires Inv-loop μ-loop
-part-requires c κs = search needs
-
 source-of-requires : tie.Need-source-of-requires Inv-loop μ-loop
 source-of-requires c κs = search needs
 
-ask-requires : tie.Need-ask-requires Inv-loop μ-loop
-ask-requires c κs = search needs
-
 add-i : tie.Need-add-i Inv-loop μ-loop
 add-i c = search needs
+
+part-requires : tie.Need-part-requires Inv-loop μ-loop
+part-requires c κs = search needs
+
+ask-requires : tie.Need-ask-requires Inv-loop μ-loop
+ask-requires c κs = search needs
 
 loop-less : tie.Need-loop-less Inv-loop μ-loop
 loop-less c = search needs
@@ -71,10 +71,10 @@ ask-arguments-spec =
     blank-requires
     loop-holds
     argument-requires
-    part-requires
     source-of-requires
-    ask-requires
     add-i
+    part-requires
+    ask-requires
     loop-less
     loop-again
     same-length

@@ -1,0 +1,18 @@
+-- Lists of columns, and words that are none.
+use mathlib.Core.Path.{_≡_, refl}
+use mathlib.Core.Bool.{Bool, true, false}
+use mathlib.Core.List.{List, [], _∷_, map}
+use Prim.Native.Nat.{ℕ}
+use Prim.Native.String.{String}
+use Rattle.message.specs.Words.{ascii}
+use Rattle.known.specs.Known.{stepOf, columnsFrom, listFrom}
+
+pub lists : map (λ (s : String). columnsFrom 0 (ascii s)) ("1,3" ∷ "3,1,1" ∷ "08" ∷ "999999999" ∷ [])
+    ≡ (0 ∷ 2 ∷ []) ∷ (2 ∷ 0 ∷ 0 ∷ []) ∷ (7 ∷ []) ∷ (999999998 ∷ []) ∷ []
+unfolding ascii stepOf columnsFrom
+lists = refl
+
+pub none : map (λ (s : String). listFrom 0 (ascii s)) ("1,3" ∷ "999999999" ∷ "" ∷ "0" ∷ "1,,2" ∷ ",1" ∷ "1," ∷ "1 ,2" ∷ "x" ∷ "-1" ∷ "1000000000" ∷ [])
+    ≡ true ∷ true ∷ false ∷ false ∷ false ∷ false ∷ false ∷ false ∷ false ∷ false ∷ false ∷ []
+unfolding ascii stepOf listFrom
+none = refl

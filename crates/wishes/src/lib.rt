@@ -1,0 +1,172 @@
+// What the arguments of the program ask ask for: options, then the file, then goals.
+use lex::name::same_bytes;
+
+// What is printed: the answers to goals; these, and what they add up to; the plan as a tree, or as Prolog; the help; the version; or nothing,
+// since the arguments make no sense.
+pub enum Wish {
+    Answers,
+    Counts,
+    Tree,
+    Clauses,
+    Help,
+    Version,
+    Nothing,
+}
+
+// What is printed, and which arguments are what: the list of known columns, 0 where there is none; the file, 0 where there is none; and the
+// first goal, where there are goals.
+pub struct Asked {
+    pub wish: Wish,
+    pub known: usize,
+    pub file: usize,
+    pub goal: usize,
+}
+
+// An argument before the goals: an option that says what is printed, the option that a list of columns follows, or the file.
+pub enum Word {
+    Prints(Wish),
+    Known,
+    File,
+}
+
+// No file's name begins with `-`, so that a misspelt option is none.
+fn word_of(word: &[u8]) -> Word {
+    if same_bytes(word, b"--known") {
+        return Word::Known;
+    }
+    if same_bytes(parts::part(word, 0, 1), b"-") {
+        return Word::Prints(printed_by(word));
+    }
+    Word::File
+}
+
+fn printed_by(word: &[u8]) -> Wish {
+    if same_bytes(word, b"--count") {
+        return Wish::Counts;
+    }
+    if same_bytes(word, b"--plan") {
+        return Wish::Tree;
+    }
+    if same_bytes(word, b"--prolog") {
+        return Wish::Clauses;
+    }
+    if same_bytes(word, b"--help") || same_bytes(word, b"-h") {
+        return Wish::Help;
+    }
+    if same_bytes(word, b"--version") {
+        return Wish::Version;
+    }
+    Wish::Nothing
+}
+
+// One option at most says what is printed.
+fn either(had: Wish, more: Wish) -> Wish {
+    match had {
+        Wish::Answers => more,
+        _ => Wish::Nothing,
+    }
+}
+
+// With an option more that says what is printed.
+fn printing(asked: Asked, more: Wish) -> Asked {
+    let had = asked.wish;
+    Asked {
+        wish: either(had, more),
+        known: asked.known,
+        file: 0,
+        goal: 0,
+    }
+}
+
+// With a list of columns, which is asked for once at most.
+fn knowing(asked: Asked, list: usize) -> Asked {
+    let had = asked.wish;
+    if asked.known != 0 {
+        return nothing();
+    }
+    Asked {
+        wish: had,
+        known: list,
+        file: 0,
+        goal: 0,
+    }
+}
+
+fn nothing() -> Asked {
+    Asked {
+        wish: Wish::Nothing,
+        known: 0,
+        file: 0,
+        goal: 0,
+    }
+}
+
+// With a file: its plan has no goals, and the help has no file.
+fn naming(asked: Asked, file: usize, goal: usize, count: usize) -> Asked {
+    let wish = asked.wish;
+    match wish {
+        Wish::Answers | Wish::Counts => {}
+        Wish::Tree | Wish::Clauses => {
+            if goal < count {
+                return nothing();
+            }
+        }
+        _ => {
+            return nothing();
+        }
+    }
+    Asked {
+        wish,
+        known: asked.known,
+        file,
+        goal,
+    }
+}
+
+// With no file there is only the help, or the version.
+fn alone(asked: Asked) -> Asked {
+    if asked.known != 0 {
+        return nothing();
+    }
+    let wish = asked.wish;
+    match wish {
+        Wish::Help | Wish::Version => asked,
+        _ => nothing(),
+    }
+}
+
+fn argument(i: usize) -> Word {
+    let mut word = io::buffer();
+    let n = os::arg(i, &mut word);
+    word_of(&word[..n])
+}
+
+// The program's arguments, the first being 1. What stands after `--known` is its list, whatever it is.
+pub fn read() -> Asked {
+    let count = os::arg_count();
+    let mut asked = Asked {
+        wish: Wish::Answers,
+        known: 0,
+        file: 0,
+        goal: 0,
+    };
+    let mut i = 1;
+    while i < count {
+        let next = i + 1;
+        if i != asked.known {
+            match argument(i) {
+                Word::Prints(more) => {
+                    asked = printing(asked, more);
+                }
+                Word::Known => {
+                    asked = knowing(asked, next);
+                }
+                Word::File => {
+                    return naming(asked, i, next, count);
+                }
+            }
+        }
+        i = next;
+    }
+    alone(asked)
+}
