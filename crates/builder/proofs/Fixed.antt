@@ -20,14 +20,14 @@ use Rattle.builder.specs.declared.BuildAnswer.the-variants as build-answ
 use Rattle.least.proofs.Building.{built-one}
 
 -- build_for, and build_plan with no column named: the answer tells the case, and the rule the plan
-buildTold-one : (a b : BuildAnswer) → buildTold a ≡ buildTold b → a ≡ b
+pub buildTold-one : (a b : BuildAnswer) → buildTold a ≡ buildTold b → a ≡ b
 buildTold-one (build-answer.Built n c) (build-answer.Built m d) e = cc
 buildTold-one (build-answer.Built n c) (build-answer.Refused g) e = absurd (let z : _≡_ {A = ℕ} 0 1 = cc in omega arith)
 buildTold-one (build-answer.Refused f) (build-answer.Built m d) e = absurd (let z : _≡_ {A = ℕ} 0 1 = cc in omega arith)
 buildTold-one (build-answer.Refused f) (build-answer.Refused g) e = let q : told f ≡ told g = cc in ap build-answer.Refused (told-one q)
 
 -- the builder's plans of one table write the same cells, and cost the same
-same-built : (m : Measure) (columns : List ℕ) {T T′ : Table} → T ≡ T′ → (p : Plan (T .width) (T .rows)) (q : Plan (T′ .width) (T′ .rows))
+pub same-built : (m : Measure) (columns : List ℕ) {T T′ : Table} → T ≡ T′ → (p : Plan (T .width) (T .rows)) (q : Plan (T′ .width) (T′ .rows))
     → Built m (flagsOf (T .width) columns) p → Built m (flagsOf (T′ .width) columns) q → (write p ≡ write q) × (costFrom m [] p ≡ costFrom m [] q)
 same-built m columns {T} {T′} e p q b c =
     subst (λ (X : Table). (q : Plan (X .width) (X .rows)) → Built m (flagsOf (X .width) columns) q

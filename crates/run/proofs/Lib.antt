@@ -3,3 +3,4 @@ pub mod EntryLaws
 pub mod JobsLaws
 pub mod UptoLaws
 pub mod Fixed
+pub mod TotalLaws

@@ -1,9 +1,13 @@
 // A list of goals, each answered in its record (02, W-202). A slice of records is beyond what is proved without a walk of the code by hand:
 // so `ask_all` and `run_jobs` do nothing but call, and what there is to do for a goal is done on a record by value.
 ghost use mathlib.Core.Path.{_≡_};
+ghost use mathlib.Core.List.{List};
+ghost use Prim.Native.Nat.{ℕ};
 ghost use lib.ListN.{take};
 ghost use Rattle.refusal.specs.Refusal.{numberOf};
 ghost use Rattle.answer.specs.Jobs.{bitsOf, filled, Each};
+ghost use Rattle.notes.specs.Noted.{Handed};
+ghost use Rattle.run.specs.Totals.{TriesInAll};
 ghost use Rattle.run.specs.code.Checked.{isAccepted, Checked, AskedBy, Hits};
 use answer::Job;
 use answer::RunAnswer;
@@ -11,6 +15,7 @@ use checker::PlanAnswer;
 use notes::Noted;
 use notes::packed::wide;
 use refusal::Reason;
+use sums::plus;
 
 pub fn accepted(noted: Noted) -> bool
     ensures { λ r. ⌜ r ≡ isAccepted (noted .answer) ⌝ }
@@ -98,4 +103,28 @@ pub fn ask_all(numbers: &[u64; 2048], noted: Noted, cells: &[u32], jobs: &mut [J
         jobs[i] = ask_one(numbers, noted, cells, jobs[i]);
         i += 1;
     }
+}
+
+// What the goals of a list try together. Two words of the list say where a goal's cells start and how many they are.
+pub fn add_all(numbers: &[u64; 2048], noted: Noted, cells: &[u32], list: &[usize]) -> usize
+    requires { ⌜ Checked (now numbers) noted ⌝ }
+    ensures { λ r. ⌜ ((table plan before : List ℕ) → Handed table plan before (now (numbers .entry)) noted
+        → TriesInAll table plan (now (cells .entry)) (now (list .entry)) r) ⌝ }
+{
+    let mut tried = 0;
+    let mut i = 0;
+    while 1 < list.len() - i {
+        let asked = Job {
+            start: list[i],
+            count: list[i + 1],
+            number: 0,
+            place: 0,
+            hits: 0,
+            tried: 0,
+        };
+        let one = ask_one(numbers, noted, cells, asked);
+        tried = plus(tried, one.tried);
+        i += 2;
+    }
+    tried
 }

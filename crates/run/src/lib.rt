@@ -7,6 +7,7 @@ ghost use Rattle.answer.specs.Jobs.{JobsRun};
 ghost use Rattle.checker.specs.Checked.{planTold};
 ghost use Rattle.notes.specs.Noted.{Handed};
 ghost use Rattle.notes.specs.code.ForRun.{ForRun, ForSome};
+ghost use Rattle.run.specs.Totals.{TriesInAll};
 ghost use Rattle.run.specs.code.Checked.{Checked};
 
 mod jobs;
@@ -95,4 +96,14 @@ pub fn run_jobs(table: &[u32], plan: &[u32], cells: &[u32], jobs: &mut [Job]) ->
         jobs::ask_all(&numbers, noted, cells, jobs);
     }
     jobs::answer_of(noted)
+}
+
+// What the goals of a list try together by any plan for any table. Where the table or the plan is turned away so is each goal, and nothing is
+// tried. The goals' cells lie among the lent ones, and two words of the list say where.
+pub fn total_tried(table: &[u32], plan: &[u32], cells: &[u32], list: &[usize]) -> usize
+    ensures { λ r. ⌜ TriesInAll (now (table .entry)) (now (plan .entry)) (now (cells .entry)) (now (list .entry)) r ⌝ }
+{
+    let mut numbers = [0u64; 2048];
+    let noted = notes::check_noted(table, plan, &mut numbers);
+    jobs::add_all(&numbers, noted, cells, list)
 }

@@ -14,13 +14,11 @@ use Rattle.refusal.specs.declared.Refusal.{Refusal}
 use Rattle.answer.specs.Run.{runTold}
 use Rattle.answer.specs.declared.RunAnswer.{RunAnswer}
 use Rattle.answer.specs.declared.RunAnswer.the-variants as run-answer
-use Rattle.tally.specs.Tally.{upBy, Added}
+use Rattle.sums.specs.Sums.{upBy}
+use Rattle.sums.proofs.HeldLaws.{up-up}
+use Rattle.tally.specs.Tally.{Added}
 use Rattle.tally.specs.code.Hits.{oneMore, addedTo}
 use Rattle.tally.specs.declared.Tally.{Tally}
-
--- so many more and then so many more are that many more together
-pub up-up : (n a b : ℕ) → upBy (upBy n a) b ≡ upBy n (a + b)
-up-up n a b = omega arith
 
 pub one-length : (fits : List ℕ) (row : ℕ) → length (oneMore fits row) ≡ length fits
 one-length fits row = length-set fits row (upBy (getD fits row 0) 1)

@@ -1,16 +1,13 @@
 -- What goals add up to, one goal after another (02, W-214, "each row's hit count and the total tried .. as exact sums of the single runs").
-use Prim.Native.Nat.{ℕ, _+_, _-_, _^_, _<_, min}
+use Prim.Native.Nat.{ℕ, _<_}
 use mathlib.Core.Path.{_≡_}
 use mathlib.Core.List.{List}
 use lib.ListN.{length, getD, replicate}
 use Rattle.refusal.specs.Refusal.{Answer, answered, turned}
 use Rattle.table.specs.Table.{count}
 use Rattle.knowing.specs.Knowing.{reported, triedOf}
+use Rattle.sums.specs.Sums.{upBy}
 use Rattle.tally.specs.declared.Tally.{Tally}
-
--- n and so many more, as far as 64 bits hold it: at the largest number it stays
-abbrev pub upBy : (n more : ℕ) → ℕ
-upBy n more = n + min more (2 ^ 64 - 1 - n)
 
 -- one goal answered, or one refused
 abbrev pub isAnswered : Answer → ℕ

@@ -2,9 +2,10 @@
 // all. The counts have 64 bits; one that would be larger stays at the largest number.
 ghost use mathlib.Core.Path.{_≡_};
 ghost use Rattle.answer.specs.Run.{runTold};
-ghost use Rattle.tally.specs.Tally.{upBy, Nothing, Added};
+ghost use Rattle.tally.specs.Tally.{Nothing, Added};
 ghost use Rattle.tally.specs.code.Hits.{oneMore, addedTo};
 use answer::RunAnswer;
+use sums::plus;
 
 // Rule 1 is row 0, as the hits of a run have it.
 pub struct Tally {
@@ -24,16 +25,6 @@ pub fn nothing() -> Tally
         refused: 0,
         tried: 0,
     }
-}
-
-// So many more; the largest number where they would be still more.
-fn plus(n: usize, more: usize) -> usize
-    ensures { λ r. ⌜ r ≡ upBy n more ⌝ }
-{
-    if more <= usize::MAX - n {
-        return n + more;
-    }
-    usize::MAX
 }
 
 // One more for a row. A number that is no row's is passed over.

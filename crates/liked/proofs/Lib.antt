@@ -1,0 +1,3 @@
+pub mod ColumnLaws
+pub mod SearchLaws
+pub mod Fixed

@@ -1,0 +1,2 @@
+pub mod Liked
+pub mod code
