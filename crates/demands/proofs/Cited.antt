@@ -173,7 +173,7 @@ module _ (by : By) (columns t : List ℕ) where
   for-there {T} l e h = for-read by columns t (by-table by t l ∙ e) (there-past (T .width) columns h)
 
   -- what is read is a table, and the columns are there
-  was-read : {T : Table} → tableFor by columns t ≡ read T → (measureOf by .figure ≤ 15) × (tableOf t ≡ read T) × There (T .width) columns
+  pub was-read : {T : Table} → tableFor by columns t ≡ read T → (measureOf by .figure ≤ 15) × (tableOf t ≡ read T) × There (T .width) columns
   was-read {T} e =
       let a = read-for by columns t e in
       let l = by-read by t (a .0) in
@@ -186,7 +186,7 @@ built-kind by fs {w = w} {rows} plan i u =
     built-least (measureOf by) (by-light by) fs plan (all-each (Row w) (Terms w) (λ r x. x .terms) rows (i .each)) u .1
 
 -- with no column named, or all of them, the plain least plan
-plain-of : {by : By} {columns t cells : List ℕ} {w : ℕ} {rows : List (List ℕ)} {cost : ℕ} → IsTable t w rows → NoneOrAll w columns
+pub plain-of : {by : By} {columns t cells : List ℕ} {w : ℕ} {rows : List (List ℕ)} {cost : ℕ} → IsTable t w rows → NoneOrAll w columns
     → LeastFor by columns t cells cost → LeastBy by t cells cost
 plain-of {by} {columns} {w = w} {rows} i n x =
     let q : table (x .width) (x .rows) ≡ table w rows = read-one (sym (reads (x .is-table)) ∙ reads i) in
@@ -245,7 +245,7 @@ module _ {by : By} {columns t room room′ : List ℕ} {r : BuildAnswer} where
           let short : BuiltInto by columns t room room no = room-refused (table _ _) plan (for-there by columns t s (reads i) h) u l refl refl in
           ap buildTold (build-fixed b short .0) ∙ ap turned (sym q)
 
-  build-writes-nothing : BuiltInto by columns t room room′ r → (f : Refused) → buildTold r ≡ turned f → room′ ≡ room
+  pub build-writes-nothing : BuiltInto by columns t room room′ r → (f : Refused) → buildTold r ≡ turned f → room′ ≡ room
   build-writes-nothing (table-refused h a x c) f e = c
   build-writes-nothing (room-refused T plan a u l x c) f e = c
   build-writes-nothing (built T plan a u m l x c) f e = clash (sym x ∙ e)
@@ -253,7 +253,7 @@ module _ {by : By} {columns t room room′ : List ℕ} {r : BuildAnswer} where
   pub build-kept : BuiltInto by columns t room room′ r → Demand1Build by columns t room room′ (buildTold r)
   build-kept b = record { refuses = build-is-turned b; untouched = build-writes-nothing b }
 
-  builds : (w : ℕ) (rows : List (List ℕ)) → measureOf by .figure ≤ 15 → IsTable t w rows → There w columns → 6082 ≤ length room
+  pub builds : (w : ℕ) (rows : List (List ℕ)) → measureOf by .figure ≤ 15 → IsTable t w rows → There w columns → 6082 ≤ length room
       → BuiltInto by columns t room room′ r → (n : ℕ) × (cost : ℕ) × (buildTold r ≡ answered n cost)
   builds w rows s i h l (table-refused g a x c) = apart (sym (for-there by columns t s (reads i) h) ∙ a)
   builds w rows s i h l (room-refused T plan a u z x c) =
@@ -261,7 +261,7 @@ module _ {by : By} {columns t room room′ : List ℕ} {r : BuildAnswer} where
       absurd (omega (arith, size-bound plan (rows-fit (T .width) (T .rows) (j .each)) (j .count .0) (j .count .1)))
   builds w rows s i h l (built T plan a u m z x c) = (length (write plan), costBy by plan, x)
 
-  least-of : (n cost : ℕ) → buildTold r ≡ answered n cost → BuiltInto by columns t room room′ r
+  pub least-of : (n cost : ℕ) → buildTold r ≡ answered n cost → BuiltInto by columns t room room′ r
       → LeastFor by columns t (take n room′) cost × (drop n room′ ≡ drop n room)
   least-of n cost q (table-refused h a x c) = clash (sym q ∙ x)
   least-of n cost q (room-refused T plan a u z x c) = clash (sym q ∙ x)

@@ -13,7 +13,7 @@ use Rattle.plan.proofs.NamedLaws.{Free}
 use Rattle.plan.proofs.ColumnsLaws.{column-exactly, free-columns}
 use Rattle.demands.specs.Kind.{There, Missing, SameColumns, NoneOrAll, none-named, all-named}
 
-occurs-listed : (c : ℕ) (columns : List ℕ) → occurs c columns ≡ true → List·Memᴰ c columns
+pub occurs-listed : (c : ℕ) (columns : List ℕ) → occurs c columns ≡ true → List·Memᴰ c columns
 occurs-listed c [] e = absurd (true≢false (sym e))
 occurs-listed c (d ∷ columns) e = go (eqb c d) refl e (occurs-listed c columns)
   where
@@ -21,7 +21,7 @@ occurs-listed c (d ∷ columns) e = go (eqb c d) refl e (occurs-listed c columns
     go true q e ih = List·Memᴰ·head (eqb-true c d q)
     go false q e ih = List·Memᴰ·tail (ih e)
 
-listed-occurs : (c : ℕ) (columns : List ℕ) → List·Memᴰ c columns → occurs c columns ≡ true
+pub listed-occurs : (c : ℕ) (columns : List ℕ) → List·Memᴰ c columns → occurs c columns ≡ true
 listed-occurs c [] m = absurd (List·Memᴰ·not-nil m)
 listed-occurs c (d ∷ columns) m = ⊎-elim (λ e. rw (eq-eqb c d e)) (λ k. go (eqb c d) (listed-occurs c columns k)) (List·Memᴰ·cases-cons m)
   where

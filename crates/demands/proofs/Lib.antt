@@ -9,6 +9,7 @@ pub mod SalvageSteps
 pub mod BadSteps
 pub mod Salvage
 pub mod Columns
+pub mod Liked
 pub mod Twice
 pub mod Held
 pub mod Texts

@@ -13,3 +13,4 @@ pub mod Clauses
 pub mod Files
 pub mod Salvage
 pub mod Columns
+pub mod Liked

@@ -21,6 +21,7 @@ ghost use Rattle.demands.specs.Knowing.{KnowingMore, Sums};
 ghost use Rattle.demands.specs.Replies.{RepliesRefused, Says};
 ghost use Rattle.demands.specs.Records.{MakesRecord, EditsRecord, BuildsFrom};
 ghost use Rattle.demands.specs.Columns.{ChecksFor, BuildsFor};
+ghost use Rattle.demands.specs.Liked.{BuildsLiked};
 ghost use Rattle.demands.specs.Clauses.{ClausesRefused, HandsBack};
 ghost use Rattle.demands.specs.Files.{WriteRefused, WritesFile, ThereAndBack, ReadRefused, ReadsFile, BackAgain};
 ghost use Rattle.demands.specs.Salvage.{SalvageRefused, Salvages, Unchanged, Originals};
@@ -243,6 +244,20 @@ fn request_build_for(rec: &[u32; 14340], columns: &[u32], room: &mut [u32]) -> u
     ensures { λ r. ⌜ BuildsFor (now (rec .entry)) (now (columns .entry)) (now (room .entry)) (now (room .exit)) (decoded r) ⌝ }
 {
     exports::dudowiej_build_for(rec, columns, room)
+}
+
+// The plan that a list of goals likes best (specs/Liked)
+fn request_build_liked(
+    rec: &[u32; 14340],
+    goals: &[u32],
+    list: &[usize],
+    room: &mut [u32],
+    liked: &mut [usize; 3],
+) -> u64
+    ensures { λ r. ⌜ BuildsLiked (now (rec .entry)) (now (goals .entry)) (now (list .entry)) (now (room .entry)) (now (room .exit))
+        (now (liked .entry)) (now (liked .exit)) (decoded r) ⌝ }
+{
+    exports::dudowiej_build_liked(rec, goals, list, room, liked)
 }
 
 // What is lent as cells of 32 bits is that, and so can be read back.

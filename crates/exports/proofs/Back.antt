@@ -14,8 +14,8 @@ use Rattle.record.specs.Edits.{Edit}
 use Rattle.builder.specs.Build.{buildTold}
 use Rattle.answer.specs.Run.{runTold}
 use Rattle.exports.specs.Coded.{rowSays, WorkCoded, EditSays, BuildSays, RunCoded, TextCoded, JobsCoded, RepliesCoded, ClausesCoded}
-use Rattle.exports.specs.Coded.{cut, FileWriteCoded, FileReadCoded, salvageSays, SalvageCoded, BuildForCoded}
-use Rattle.exports.proofs.Small.{table-small, goal-with-small, row-small, plan-small, work-small, edit-small, build-small, run-small, text-small, jobs-small, replies-small}
+use Rattle.exports.specs.Coded.{cut, FileWriteCoded, FileReadCoded, salvageSays, SalvageCoded, BuildForCoded, LikedCoded}
+use Rattle.exports.proofs.Small.{table-small, goal-with-small, row-small, plan-small, work-small, edit-small, build-small, liked-small, run-small, text-small, jobs-small, replies-small}
 use Rattle.exports.proofs.Small.{written-small, loaded-small, salvaged-small, under-small}
 use Rattle.answer.specs.declared.Job.{Job}
 use Rattle.instance.specs.Replied.{repliesTold}
@@ -47,6 +47,10 @@ build-back {figure} x = read-back (build-small (Work figure) (x .built)) (x .cod
 
 pub build-for-back : {rec columns room room′ : List ℕ} {n : ℕ} (x : BuildForCoded rec columns room room′ n) → decoded n ≡ buildTold (x .answer)
 build-for-back {rec} x = read-back (build-small (Work (getD rec 1 0)) (x .built)) (x .code)
+
+pub liked-back : {rec goals list room liked room′ liked′ : List ℕ} {n : ℕ} (x : LikedCoded rec goals list room liked room′ liked′ n)
+    → decoded n ≡ buildTold (x .answer)
+liked-back {rec} x = read-back (liked-small (Work (getD rec 1 0)) (x .built)) (x .code)
 
 pub run-back : {t p g room room′ : List ℕ} {n : ℕ} (x : RunCoded t p g room room′ n) → decoded n ≡ runTold (x .answer)
 run-back x = read-back (run-small (x .ran)) (x .code)

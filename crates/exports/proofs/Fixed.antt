@@ -10,6 +10,7 @@ use Rattle.record.proofs.Fixed.{worked-one, edited-one}
 use Rattle.builder.specs.Build.{buildTold}
 use Rattle.builder.specs.declared.BuildAnswer.{BuildAnswer}
 use Rattle.builder.proofs.Fixed.{build-fixed}
+use Rattle.liked.proofs.Fixed.{liked-fixed}
 use Rattle.answer.specs.Run.{runTold}
 use Rattle.answer.specs.declared.RunAnswer.{RunAnswer}
 use Rattle.answer.proofs.Fixed.{run-fixed}
@@ -17,7 +18,7 @@ use Rattle.loading.proofs.Fixed.{text-fixed}
 use Rattle.refusal.specs.Refusal.{Answer}
 use Rattle.refusal.specs.Coded.{coded}
 use Rattle.exports.specs.Coded.{WorkCoded, EditCoded, BuildCoded, RunCoded, TextCoded, JobsCoded, RepliesCoded, ClausesCoded}
-use Rattle.exports.specs.Coded.{cut, FileWriteCoded, FileReadCoded, salvageSays, reportAfter, SalvageCoded, BuildForCoded}
+use Rattle.exports.specs.Coded.{cut, FileWriteCoded, FileReadCoded, salvageSays, reportAfter, SalvageCoded, BuildForCoded, LikedCoded}
 use Rattle.answer.specs.declared.Job.{Job}
 use Rattle.answer.proofs.JobsLaws.{jobs-fixed}
 use Rattle.instance.specs.Replied.{repliesTold}
@@ -52,6 +53,12 @@ pub build-for-coded-fixed : {rec columns room room′ room″ : List ℕ} {m n :
 build-for-coded-fixed a b =
     let f = build-fixed (a .built) (b .built) in
     (a .code ∙ ap (λ (r : BuildAnswer). coded (buildTold r)) (f .0) ∙ sym (b .code), f .1)
+
+pub liked-coded-fixed : {rec goals list room liked room′ room″ liked′ liked″ : List ℕ} {m n : ℕ} → LikedCoded rec goals list room liked room′ liked′ m
+    → LikedCoded rec goals list room liked room″ liked″ n → (m ≡ n) × (room′ ≡ room″) × (liked′ ≡ liked″)
+liked-coded-fixed a b =
+    let f = liked-fixed (a .built) (b .built) in
+    (a .code ∙ ap (λ (r : BuildAnswer). coded (buildTold r)) (f .0) ∙ sym (b .code), f .1, f .2)
 
 pub run-coded-fixed : {t p g room room′ room″ : List ℕ} {m n : ℕ} → RunCoded t p g room room′ m → RunCoded t p g room room″ n
     → (m ≡ n) × (room′ ≡ room″)

@@ -33,7 +33,9 @@ use Rattle.record.specs.Record.{cellsIn, Holds}
 use Rattle.record.specs.Edits.{Edit, WorkedOut, no-record, worked, Edited, no-edit, edit}
 use Rattle.least.proofs.Measured.{by-table, by-figure, by-read}
 use Rattle.least.proofs.Weighed.{by-low, cost-few}
-use Rattle.builder.proofs.AskedLaws.{Asked, turned-away, past-width, is-asked, asked, read-for}
+use Rattle.builder.proofs.AskedLaws.{Asked, turned-away, past-width, is-asked, asked, read-for, plain-table}
+use Rattle.liked.specs.Liked.{LikedInto}
+use Rattle.liked.specs.Liked as likes
 use Rattle.builder.specs.Build.{tableFor, BuiltInto, table-refused, room-refused, built, buildTold}
 use Rattle.plan.proofs.CheckLaws.{accepted-one, kind-accepted, rows-fit}
 use Rattle.answer.specs.declared.RunAnswer.{RunAnswer}
@@ -213,6 +215,11 @@ build-small b {columns} {t} (built T plan a e l h c d) =
     let k = read-for b columns t a .0 in
     let n = plan-cells t T plan (read-by b t k) in
     rw c (omega (arith, n .0), omega (arith, n .1, cost-few (measureOf b) (by-low b (by-read b t k)) [] plan))
+
+pub liked-small : (b : By) {t goals list room room′ liked liked′ : List ℕ} {r : BuildAnswer} → LikedInto b t goals list room room′ liked liked′ r
+    → Small (buildTold r)
+liked-small b {t} (likes.table-refused f a e c d) = rw e (for-small b [] t (plain-table b t ∙ a))
+liked-small b (likes.found T mask total plain a x y e) = build-small b y
 
 -- a text has at most 65,535 bytes and 32,766 symbols, and a place in it is at most its end
 stops-small : {t : List ℕ} {k : ℕ} → Stops t k → length t ≤ 65535 → k < 2 ^ 48

@@ -11,6 +11,7 @@ use Rattle.table.specs.Table.{Table, startsIn, rowIn}
 use Rattle.least.specs.declared.By.the-variants.{Work}
 use Rattle.builder.specs.declared.BuildAnswer.{BuildAnswer}
 use Rattle.builder.specs.Build.{BuiltInto, buildTold}
+use Rattle.liked.specs.Liked.{LikedInto}
 use Rattle.record.specs.Record.{cellsIn, Holds, tableIn}
 use Rattle.record.specs.Edits.{Edit, WorkedOut, Edited}
 use Rattle.loading.specs.Load.{TextLoads}
@@ -64,6 +65,12 @@ BuildCoded rec room after number = (figure : ℕ) (T : Table) → Holds rec figu
 pub record BuildForCoded (rec columns room after : List ℕ) (number : ℕ) : Type 0 where
   pub answer : BuildAnswer
   pub built : BuiltInto (Work (getD rec 1 0)) columns (tableIn rec) room after answer
+  pub code : number ≡ coded (buildTold answer)
+
+-- what the builder of the plan that a list of goals likes best answers and leaves in the room and in its record, of any record of a table at all
+pub record LikedCoded (rec goals list room liked after liked′ : List ℕ) (number : ℕ) : Type 0 where
+  pub answer : BuildAnswer
+  pub built : LikedInto (Work (getD rec 1 0)) (tableIn rec) goals list room after liked liked′ answer
   pub code : number ≡ coded (buildTold answer)
 
 -- what the entry for a text answers and leaves in the two rooms

@@ -9,7 +9,7 @@ ghost use Rattle.refusal.specs.Coded.{coded};
 ghost use Rattle.record.specs.Record.{tableIn};
 ghost use Rattle.record.specs.Edits.{append, drop-last, replace};
 ghost use Rattle.exports.specs.Coded.{rowSays, WorkCoded, EditCoded, BuildCoded, RunCoded, TextCoded, JobsCoded, RepliesCoded, ClausesCoded};
-ghost use Rattle.exports.specs.Coded.{FileWriteCoded, FileReadCoded, SalvageCoded, BuildForCoded};
+ghost use Rattle.exports.specs.Coded.{FileWriteCoded, FileReadCoded, SalvageCoded, BuildForCoded, LikedCoded};
 
 mod code;
 
@@ -217,4 +217,22 @@ pub extern "C" fn dudowiej_check_for(rec: &[u32; 14340], columns: &[u32], plan: 
 {
     let cells = record::table_of(rec);
     code::code_plan(checker::check_for(cells, columns, plan))
+}
+
+// The number of cells of the plan that a list of goals likes best, of those for each set of columns, by the record's figure, and its cost; its
+// cells are the room's first. Beside it are its columns as a mask, what it tries over the list and what the plain plan tries.
+#[no_mangle]
+pub extern "C" fn dudowiej_build_liked(
+    rec: &[u32; 14340],
+    goals: &[u32],
+    list: &[usize],
+    room: &mut [u32],
+    liked: &mut [usize; 3],
+) -> u64
+    ensures { λ r. ⌜ LikedCoded (now (rec .entry)) (now (goals .entry)) (now (list .entry)) (now (room .entry)) (now (liked .entry))
+        (now (room .exit)) (now (liked .exit)) r ⌝ }
+{
+    let figure = rec[1];
+    let cells = record::table_of(rec);
+    code::code_built(liked::build_liked(By::Work(figure), cells, goals, list, room, liked))
 }

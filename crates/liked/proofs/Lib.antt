@@ -1,3 +1,4 @@
 pub mod ColumnLaws
+pub mod MaskLaws
 pub mod SearchLaws
 pub mod Fixed

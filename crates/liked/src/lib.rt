@@ -77,14 +77,7 @@ fn better(best: Best, mask: usize, total: Total) -> Best
 }
 
 // The best of all sets of columns, from what the plain plan tries. The set of all columns asks for the plain plan again, and is left out.
-fn best_of(
-    by: By,
-    cells: &[u32],
-    goals: &[u32],
-    list: &[usize],
-    sets: usize,
-    plain: usize,
-) -> Best
+fn best_of(by: By, cells: &[u32], goals: &[u32], list: &[usize], sets: usize, plain: usize) -> Best
     requires { ⌜ Plainly by (now cells) (now goals) (now list) sets plain ⌝ }
     ensures { λ r. ⌜ BestBelow by (now (cells .entry)) (now (goals .entry)) (now (list .entry)) sets (r .mask) (r .tried) ⌝ }
 {

@@ -44,7 +44,7 @@ module _ {t p cells list : List ℕ} where
   rest-on {i} {tried} {k} h l a r = record {
     all = λ {n} v.
         (let o = r .all {n = k .tried + n} (rw (goals-more list i h) (more a v)) in
-        (o .0, o .1, held-up tried (k .tried) n l ∙ o .2))
+        (o .0, o .1, held-up tried (k .tried) n l ∙ o .2));
   }
 
   pub rest-none : {i tried : ℕ} → length list - i ≤ 1 → tried < 2 ^ 64 → Rest t p cells list i tried → TriesInAll t p cells list tried

@@ -51,9 +51,12 @@ loop-less c = search needs
 
 loop-again : tie.Need-loop-again Inv-loop μ-loop
 loop-again c =
-    let l = c .before .before .before .before .before .loop in
-    (omega arith, omega (arith, c .plus .ensures), λ table plan before h. (let o = l .inv .2 table plan before h in
-    subst (Rest table plan _ _ (l .i + 2)) (sym (c .plus .ensures)) (rest-on (omega arith) (omega arith) (c .before .ask-one .ensures table plan before h) o)))
+    let l = c .before .before .before .before .before .loop in (
+      omega arith,
+      omega (arith, c .plus .ensures),
+      λ table plan before h. (let o = l .inv .2 table plan before h in
+          subst (Rest table plan _ _ (l .i + 2)) (sym (c .plus .ensures)) (rest-on (omega arith) (omega arith) (c .before .ask-one .ensures table plan before h) o)),
+    )
 
 returns : tie.Need-returns Inv-loop μ-loop
 returns c = λ table plan before h. rest-none (omega arith) (omega arith) (c .before .loop .inv .2 table plan before h)
