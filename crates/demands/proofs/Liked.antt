@@ -7,7 +7,7 @@ use Prim.Native.Nat.{ℕ, zero, suc, _+_, _^_, _≤_, _<_}
 use mathlib.Core.Path.{_≡_, refl, sym, _∙_, ap, subst}
 use mathlib.Core.Logic.{_↔_}
 use mathlib.Core.Bool.{Bool, true, false}
-use mathlib.Core.List.{List, [], _∷_, _++_, List·Memᴰ}
+use mathlib.Core.List.{List, [], _∷_, _++_, List·Memᴰ, List·Memᴰ·not-nil}
 use native.Mathlib.Omega.{arith}
 use native.Mathlib.Decide.{decLt}
 use lib.ListN.{length, getD, take, drop}
@@ -147,7 +147,7 @@ module _ {by : By} {t goals list : List ℕ} where
       plainly = (
         take (x .plainly .size) (x .plainly .after),
         x .plainly .cost,
-        plain-of is (none-named (λ c m. absurd (no-member c m))) (set-plan (x .plainly)),
+        plain-of is (none-named (λ c m. no-member c m)) (set-plan (x .plainly)),
         total-of is (x .plainly .totals),
       );
       none-less = λ columns other c n h y z.
@@ -160,7 +160,7 @@ module _ {by : By} {t goals list : List ℕ} where
     }
       where
         no-member : (c : ℕ) → List·Memᴰ c (columnsOf 0) → ⊥
-        no-member c m = let h = columns-named 0 c .0 (listed-occurs c (columnsOf 0) m) .1 in absurd (omega (arith, h))
+        no-member c m = List·Memᴰ·not-nil (rw columns-none at m)
 
         zero-set : goalsIn list ≡ [] → Dec (0 < mask) → mask ≡ 0
         zero-set e (no n) = omega (arith, n)
@@ -180,10 +180,7 @@ module _ {by : By} {t goals list : List ℕ} where
 -- The entry.
 
 module _ {by : By} {t goals list room room′ liked liked′ : List ℕ} {r : BuildAnswer} where
-  abbrev Into : Type 0
-  Into = LikedInto by t goals list room room′ liked liked′ r
-
-  why : (f : Refused) → Into → buildTold r ≡ turned f → LikedTurned by t goals list room f
+  why : (f : Refused) → LikedInto by t goals list room room′ liked liked′ r → buildTold r ≡ turned f → LikedTurned by t goals list room f
   why f (likes.table-refused g a e c d) q = go (taken-by by t)
     where
       same : g ≡ f
@@ -203,27 +200,27 @@ module _ {by : By} {t goals list room room′ liked liked′ : List ℕ} {r : Bu
           no-room (by-read by t d) (best-plan d x (rw s at (set-plan d x (x .tries))) s) l (turned-one (sym q ∙ e))
       go (built T′ p a u m l e c) = clash (sym e ∙ q)
 
-  kept : (f : Refused) → Into → buildTold r ≡ turned f → (room′ ≡ room) × (liked′ ≡ liked)
+  kept : (f : Refused) → LikedInto by t goals list room room′ liked liked′ r → buildTold r ≡ turned f → (room′ ≡ room) × (liked′ ≡ liked)
   kept f (likes.table-refused g a e c d) q = (c, d)
   kept f (likes.found T mask total plain d x b w) q = (build-writes-nothing b f q, w ∙ rw q)
 
-  made : (width : ℕ) (rows : List (List ℕ)) → measureOf by .figure ≤ 15 → IsTable t width rows → 6082 ≤ length room → Into
+  made : (width : ℕ) (rows : List (List ℕ)) → measureOf by .figure ≤ 15 → IsTable t width rows → 6082 ≤ length room → LikedInto by t goals list room room′ liked liked′ r
       → (n : ℕ) × (cost : ℕ) × (buildTold r ≡ answered n cost)
   made width rows l i h (likes.table-refused g a e c d) = apart (sym (by-table by t l ∙ reads i) ∙ a)
   made width rows l i h (likes.found T mask total plain d x b w) =
       builds (T .width) (T .rows) l (is d x) (past-there (T .width) (columnsOf mask) (columns-there (T .width) mask (x .set))) h b
 
-  most : (n cost : ℕ) → Into → buildTold r ≡ answered n cost → (mask : ℕ) × (total : ℕ) × (plain : ℕ) × (liked′ ≡ mask ∷ total ∷ plain ∷ [])
+  most : (n cost : ℕ) → LikedInto by t goals list room room′ liked liked′ r → buildTold r ≡ answered n cost → (mask : ℕ) × (total : ℕ) × (plain : ℕ) × (liked′ ≡ mask ∷ total ∷ plain ∷ [])
       × LikedBest by t goals list (take n room′) cost mask total plain
   most n cost (likes.table-refused g a e c d) q = clash (sym q ∙ e)
   most n cost (likes.found T mask total plain d x b w) q =
       (mask, total, plain, w ∙ rw q, best-plan d x (least-of n cost q b .0) (same-plan d x b q))
 
-  others : (n cost : ℕ) → Into → buildTold r ≡ answered n cost → drop n room′ ≡ drop n room
+  others : (n cost : ℕ) → LikedInto by t goals list room room′ liked liked′ r → buildTold r ≡ answered n cost → drop n room′ ≡ drop n room
   others n cost (likes.table-refused g a e c d) q = clash (sym q ∙ e)
   others n cost (likes.found T mask total plain d x b w) q = least-of n cost q b .1
 
-  likes-most : Into → LikesMost by t goals list room room′ liked liked′ (buildTold r)
+  likes-most : LikedInto by t goals list room room′ liked liked′ r → LikesMost by t goals list room room′ liked liked′ (buildTold r)
   likes-most x = record {
     refuses = λ f e. why f x e;
     untouched = λ f e. kept f x e;
