@@ -29,7 +29,7 @@ use Rattle.least.specs.Measures.{measureOf, costBy, tableBy}
 use Rattle.least.specs.declared.By.{By}
 use Rattle.least.specs.declared.By.the-variants.{Work}
 use Rattle.least.specs.Least.{Built}
-use Rattle.least.proofs.Measured.{by-table, by-read}
+use Rattle.least.proofs.Measured.{by-table, by-figure, by-read}
 use Rattle.least.proofs.Weighed.{by-light}
 use Rattle.least.proofs.Building.{built-least}
 use Rattle.record.specs.Record.{tableIn}
@@ -167,12 +167,36 @@ module _ {by : By} {t goals list : List ℕ} where
         zero-set e (yes h) = absurd (omega (arith, x .first 0 plain h (x .plainly), empty-zero e (x .plainly)))
 
     -- the same plan, in whatever room it was built
+    built-same : {T′ : Table} (p : Plan (T′ .width) (T′ .rows)) → tableFor by (columnsOf mask) t ≡ read T′
+        → Built (measureOf by) (flagsOf (T′ .width) (columnsOf mask)) p → take (x .tries .size) (x .tries .after) ≡ write p
+    built-same p a u =
+        let k = written (x .tries .built) (x .tries .told) in
+        k .front ∙ same-built (measureOf by) (columnsOf mask) (read-one (sym (k .reads) ∙ a)) (k .plan) p (k .rule) u .0
+
     same-plan : {room after : List ℕ} {r : BuildAnswer} {size cost : ℕ} → BuiltInto by (columnsOf mask) t room after r → buildTold r ≡ answered size cost
         → take (x .tries .size) (x .tries .after) ≡ take size after
-    same-plan b e =
-        let a = written (x .tries .built) (x .tries .told) in
-        let c = written b e in
-        a .front ∙ same-built (measureOf by) (columnsOf mask) (read-one (sym (a .reads) ∙ c .reads)) (a .plan) (c .plan) (a .rule) (c .rule) .0 ∙ sym (c .front)
+    same-plan b e = let c = written b e in built-same (c .plan) (c .reads) (c .rule) ∙ sym (c .front)
+
+    -- and whoever says of a plan that the list likes it best says it of this one
+    one-liked : {plan : List ℕ} {cost mask′ total′ plain′ : ℕ} → LikedBest by t goals list plan cost mask′ total′ plain′
+        → take (x .tries .size) (x .tries .after) ≡ plan
+    one-liked {plan} {mask′ = mask′} {total′} o =
+        let same : table (o .width) (o .rows) ≡ T = read-one (sym (reads (o .is-table)) ∙ reads is) in
+        let w : o .width ≡ T .width = ap (λ (X : Table). X .width) same in
+        let l : length (T .rows) ≡ length (o .rows) = sym (ap (λ (X : Table). length (X .rows)) same) in
+        let y : TriesFor by t goals list mask′ total′ = tries-of d (rw w at (o .small)) (λ c. refl) (o .given) (o .tries) in
+        let mine : Total t (take (x .tries .size) (x .tries .after)) goals list (length (o .rows)) total = rw l at (total-of is (x .tries .totals)) in
+        let there : There (o .width) (columnsOf mask) =
+        past-there (o .width) (columnsOf mask) (columns-there (o .width) mask (rw (← w) at (x .set))) in
+        let a = x .least mask′ total′ (rw w at (o .small)) y in
+        let b = o .none-less (columnsOf mask) _ _ total there (set-plan (x .tries)) mine in
+        let not-less : ¬ (mask < mask′) = λ h. (let c = o .first mask _ total _ h (set-plan (x .tries)) mine in absurd (omega (arith, a, c))) in
+        let not-more : ¬ (mask′ < mask) = λ h. (let c = x .first mask′ total′ h y in absurd (omega (arith, b, c))) in
+        let e : mask′ ≡ mask = omega (arith, not-less, not-more) in
+        let g : LeastFor by (columnsOf mask) t plan _ = rw e at (o .given) in
+        let v = set-plan (x .tries) in
+        let q : table (v .width) (v .rows) ≡ table (g .width) (g .rows) = read-one (sym (reads (v .is-table)) ∙ reads (g .is-table)) in
+        sym (v .written) ∙ same-built (measureOf by) (columnsOf mask) q (v .tree) (g .tree) (v .rule) (g .rule) .0 ∙ g .written
 
     here-read : tableFor by (columnsOf mask) t ≡ read T
     here-read = for-read by (columnsOf mask) t d (columns-there (T .width) mask (x .set))
@@ -194,11 +218,26 @@ module _ {by : By} {t goals list room room′ liked liked′ : List ℕ} {r : Bu
       go : BuiltInto by (columnsOf mask) t room room′ r → LikedTurned by t goals list room f
       go (table-refused g a e c) = apart (sym (here-read d x) ∙ a)
       go (room-refused T′ p a u l e c) =
-          let k = written (x .tries .built) (x .tries .told) in
-          let s : take (x .tries .size) (x .tries .after) ≡ write p =
-          k .front ∙ same-built (measureOf by) (columnsOf mask) (read-one (sym (k .reads) ∙ a)) (k .plan) p (k .rule) u .0 in
+          let s = built-same d x p a u in
           no-room (by-read by t d) (best-plan d x (rw s at (set-plan d x (x .tries))) s) l (turned-one (sym q ∙ e))
       go (built T′ p a u m l e c) = clash (sym e ∙ q)
+
+  refused-as : {f : Refused} → LikedInto by t goals list room room′ liked liked′ r → tableBy by t ≡ refuse f → buildTold r ≡ turned f
+  refused-as (likes.table-refused g a e c d) k = e ∙ ap turned (refuse-one (sym a ∙ k))
+  refused-as (likes.found T mask total plain d x b w) k = apart (sym d ∙ k)
+
+  gets : (f : Refused) → LikedInto by t goals list room room′ liked liked′ r → LikedTurned by t goals list room f → buildTold r ≡ turned f
+  gets f x (no-figure l q) = refused-as x (by-figure by t l ∙ ap refuse (sym q))
+  gets f x (no-table l a) = refused-as x (by-table by t l ∙ a)
+  gets f (likes.table-refused g a e c d) (no-room l o h q) = apart (sym (by-table by t l ∙ reads (o .is-table)) ∙ a)
+  gets f (likes.found T mask total plain d x b w) (no-room l {plan} o h q) = go b
+    where
+      go : BuiltInto by (columnsOf mask) t room room′ r → buildTold r ≡ turned f
+      go (table-refused g a e c) = apart (sym (here-read d x) ∙ a)
+      go (room-refused T′ p a u k e c) =
+          let s : write p ≡ plan = sym (built-same d x p a u) ∙ one-liked d x o in
+          e ∙ ap (λ (z : List ℕ). turned (refused reason.Room input.Lent (length z))) s ∙ ap turned (sym q)
+      go (built T′ p a u m k e c) = absurd (omega (arith, h, k, ap length (sym (built-same d x p a u) ∙ one-liked d x o)))
 
   kept : (f : Refused) → LikedInto by t goals list room room′ liked liked′ r → buildTold r ≡ turned f → (room′ ≡ room) × (liked′ ≡ liked)
   kept f (likes.table-refused g a e c d) q = (c, d)
@@ -222,7 +261,7 @@ module _ {by : By} {t goals list room room′ liked liked′ : List ℕ} {r : Bu
 
   likes-most : LikedInto by t goals list room room′ liked liked′ r → LikesMost by t goals list room room′ liked liked′ (buildTold r)
   likes-most x = record {
-    refuses = λ f e. why f x e;
+    refuses = λ f. (why f x, gets f x);
     untouched = λ f e. kept f x e;
     builds = λ width rows l i h. made width rows l i h x;
     best = λ n cost e. most n cost x e;

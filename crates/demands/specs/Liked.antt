@@ -68,7 +68,7 @@ pub data LikedTurned (by : By) (cells goals list room : List ℕ) (refusal : Ref
       → length room < length plan → refusal ≡ refused reason.Room input.Lent (length plan) → LikedTurned by cells goals list room refusal
 
 pub record LikesMost (by : By) (cells goals list room after liked liked′ : List ℕ) (answer : Answer) : Type 0 where
-  pub refuses : (f : Refused) → answer ≡ turned f → LikedTurned by cells goals list room f
+  pub refuses : (f : Refused) → (answer ≡ turned f) ↔ LikedTurned by cells goals list room f
   pub untouched : (f : Refused) → answer ≡ turned f → (after ≡ room) × (liked′ ≡ liked)
   -- given a small figure, a table and room for any plan it writes one
   pub builds : (width : ℕ) (rows : List (List ℕ)) → measureOf by .figure ≤ 15 → IsTable cells width rows → 6082 ≤ length room
