@@ -6,8 +6,8 @@ use Prim.Native.Nat.{ℕ, zero, suc, _+_, _-_, _≤_, _<_}
 use native.Mathlib.Numerals.{add-one}
 use native.Mathlib.Omega.{arith}
 use lib.Dec.{eqb}
-use lib.ListN.{length, getD, set, take, drop}
-use lib.Seq.{drop-cons, drop-length, take-set-le, getD-take, length-take-le, getD-set-same, getD-set-other}
+use lib.ListN.{length, getD, set, take, drop, length-drop}
+use lib.Seq.{drop-cons, drop-length, take-set-le, getD-take, getD-drop, length-take-le, getD-set-same, getD-set-other}
 use borrow.Author.Tests.{eq-eqb, ne-eqb}
 use Rattle.cell.specs.Same.{same, among}
 use Rattle.cell.proofs.SameLaws.{same-no}
@@ -15,14 +15,23 @@ use Rattle.doubles.specs.Starts.{between, rowsBut, rowsLent, Ascends}
 use Rattle.doubles.specs.Marks.{mix, markFrom, markOf, has, Marked}
 use Rattle.doubles.proofs.StartLaws.{rows-before}
 
--- THE MARK of the cells from a place on, after a mark
-pub mark-next : (row : List ℕ) (m i : ℕ) → i < length row → markFrom m (drop i row) ≡ markFrom (mix m (getD row i 0)) (drop (i + 1) row)
+-- THE MARK of no cells, and of the cells from a place on with one more
+pub mark-none : (t : List ℕ) (p : ℕ) → 0 ≡ markOf (between p p t)
 unfolding markFrom
-mark-next row m i h = rw (add-one i) (ap (markFrom m) (drop-cons row i 0 h))
+mark-none t p = let z : p - p ≡ 0 = omega arith in rw z
 
-pub mark-end : (row : List ℕ) (m i : ℕ) → i ≡ length row → markFrom m (drop i row) ≡ m
+mark-last : (row : List ℕ) (m n : ℕ) → n < length row → markFrom m (take (suc n) row) ≡ mix (markFrom m (take n row)) (getD row n 0)
 unfolding markFrom
-mark-end row m i e = rw (e, drop-length row)
+mark-last [] m n h = absurd (omega arith)
+mark-last (c ∷ row) m zero h = refl
+mark-last (c ∷ row) m (suc n) h = mark-last row (mix m c) n (omega arith)
+
+pub mark-longer : (t : List ℕ) (p e : ℕ) → p ≤ e → e < length t → mix (markOf (between p e t)) (getD t e 0) ≡ markOf (between p (e + 1) t)
+mark-longer t p e h l =
+    let n : e + 1 - p ≡ suc (e - p) = omega arith in
+    let q : p + (e - p) ≡ e = omega arith in
+    let c : getD (drop p t) (e - p) 0 ≡ getD t e 0 = getD-drop p t (e - p) 0 ∙ rw q in
+    rw (n, ← c) (sym (mark-last (drop p t) 0 (e - p) (omega (arith, length-drop p t))))
 
 -- A MARK AMONG THOSE from a place on
 has-next : (marks : List ℕ) (m i : ℕ) → i < length marks → has m (drop i marks) ≡ (eqb (getD marks i 0) m || has m (drop (i + 1) marks))

@@ -6,7 +6,7 @@ ghost use Prim.Native.Nat.{_-_};
 ghost use lib.ListN.{length, take, drop};
 ghost use Rattle.cell.specs.Same.{same, among};
 ghost use Rattle.doubles.specs.Starts.{Inside, rowsLent};
-ghost use Rattle.doubles.specs.Marks.{mix, markOf, has};
+ghost use Rattle.doubles.specs.Marks.{mix, has};
 
 // From a place up to another.
 pub struct Span {
@@ -78,24 +78,11 @@ pub fn stands_among(row: &[u32], cells: &[u32], starts: &[usize], but: usize) ->
     false
 }
 
-// A mark with one cell more.
-fn mixed(mark: u32, c: u32) -> u32
+// A mark with one cell more. The mark of a row begins with 0 and takes in its cells from the first to the last: equal rows have equal marks.
+pub fn mixed(mark: u32, c: u32) -> u32
     ensures { λ r. ⌜ r ≡ mix mark c ⌝ }
 {
     ((mark as u64 * 65599 + c as u64) % 4294967296) as u32
-}
-
-// The mark of a row: equal rows have equal marks.
-pub fn mark_of(row: &[u32]) -> u32
-    ensures { λ r. ⌜ r ≡ markOf (now (row .entry)) ⌝ }
-{
-    let mut mark = 0;
-    let mut i = 0;
-    while i < row.len() {
-        mark = mixed(mark, row[i]);
-        i += 1;
-    }
-    mark
 }
 
 // Whether a mark is one of these. All of them are looked at, so that the processor can take several at a time.

@@ -1,31 +1,29 @@
--- The two looks at the cells of a row or goal are the reading of its terms; each look's laws, in the form in which the code steps.
+-- The reading of a row's or a goal's terms, in the form in which the code steps: one cell, the rest of the cells, and where they are used up.
 use mathlib.Core.Path.{_≡_, refl, ap, _∙_, sym}
+use mathlib.Core.Logic.{_≢_, by-cases}
 use mathlib.Core.Bool.{Bool, true, false, cond, _&&_, and-false}
 use mathlib.Core.List.{List, [], _∷_}
-use Prim.Native.Nat.{ℕ, zero, suc, _+_, _-_, _≤_, _<_}
+use Prim.Native.Nat.{ℕ, zero, suc, _+_, _-_, _/_, _%_, _^_, _≤_, _<_}
 use native.Mathlib.Numerals.{add-one}
-use native.Mathlib.Nat.{add-zero}
+use native.Mathlib.Decide.{decLt}
 use native.Mathlib.Omega.{arith}
 use lib.Dec.{eqb, leb}
 use lib.IntN.{ℤ}
-use lib.ListN.{length, getD, take, drop, length-drop}
-use lib.Seq.{slice, slice-cons, slice-empty, take-all, take-nil}
-use borrow.Author.Tests.{ne-eqb, lt-ltb, le-ltb, le-leb, lt-leb}
-use Rattle.cell.specs.Cell.{values, numberValues, valuesAt, arity}
+use lib.ListN.{length, getD, drop, length-drop}
+use lib.Seq.{drop-cons}
+use borrow.Author.Tests.{ne-eqb, lt-ltb, le-ltb, le-leb, lt-leb, leb-false}
+use Rattle.cell.specs.Cell.{Values, values, numberValues, valuesAt, arity}
 use Rattle.cell.specs.Cell as cell-specs
-use Rattle.term.specs.declared.End.{End}
-use Rattle.term.specs.declared.End.the-variants.{At, Short}
-use Rattle.term.specs.Terms.{front}
-use Rattle.term.proofs.EndsLaws.{not-before}
-use Rattle.term.specs.code.Owed.{ends}
-use Rattle.term.proofs.EndsLaws as ends-laws
+use Rattle.cell.specs.Signed.{signedOf}
+use Rattle.cell.proofs.CellLaws.{Reading, no-cell, is-variable, is-name, is-number, reading}
+use Rattle.cell.proofs.CellLaws as cell-laws
 use Rattle.term.proofs.Tests.{eqb-same}
-use Rattle.term.proofs.Lists.{slice-take}
+use Rattle.refusal.specs.Refusal.{Refused}
 use Rattle.refusal.specs.Read.{Read, read, refuse, when, andThen}
 use Rattle.table.specs.Table.{Met, met, bad, counted, cellTests, termsFrom}
 use Rattle.refusal.specs.declared.Reason.the-variants as reason
-use Rattle.table.specs.code.Looks.{cellFrom, cellsFrom, notWhole}
-use Rattle.table.proofs.ReadLaws.{then-both, then-assoc, tests-then, passed-tests}
+use Rattle.table.specs.code.Looks.{cellFrom, notWhole}
+use Rattle.table.proofs.ReadLaws.{tests-then, passed-tests}
 
 -- One cell, by what it is and the first test that fails.
 module _ (row : Bool) (c vars p : ℕ) where
@@ -54,108 +52,111 @@ module _ (row : Bool) (c vars p : ℕ) where
     unfolding cellFrom
     again h = rw (e, le-ltb vars n (omega arith), ne-eqb n vars (λ q. omega arith))
 
--- The cells of a part, from left to right.
-module _ (row : Bool) (xs : List ℕ) (i to vars : ℕ) (h : i < to) (l : to ≤ length xs) where
-  pub cells-next : cellsFrom row (slice i to xs) vars i ≡ andThen (cellFrom row (getD xs i 0) vars i) (λ (v : ℕ). cellsFrom row (slice (i + 1) to xs) v (i + 1))
-  unfolding cellsFrom
-  cells-next = rw (slice-cons i to xs 0 h l, add-one)
+-- What a cell is, by its high half.
+module _ (c : ℕ) where
+  pub high-name : 16384 ≤ c / 2 ^ 16 → c / 2 ^ 16 ≤ 16388 → valuesAt c ≡ values 1 (c / 2 ^ 16 - 16384) (c % 2 ^ 16)
+  high-name l h = let a : c / 2 ^ 16 % 2 ^ 3 ≡ c / 2 ^ 16 - 16384 = omega arith in is-name c (omega arith) (omega arith) ∙ rw a
 
-pub cells-done : (row : Bool) (xs : List ℕ) (i to vars : ℕ) → to ≡ i → cellsFrom row (slice i to xs) vars i ≡ read vars
-unfolding cellsFrom
-cells-done row xs i to vars e = rw (e, slice-empty i xs)
+  pub high-variable : c / 2 ^ 16 ≡ 0 → valuesAt c ≡ values 0 0 c
+  high-variable h = let n : c % 2 ^ 16 ≡ c = omega arith in is-variable c (omega arith) (omega arith) ∙ rw n
 
--- What the first look found, and the variables that the second met.
-abbrev pub seen : Bool → ℕ → ℕ → End → ℕ → Read Met
-seen row used p (At e) v = read (met e v)
-seen row used p Short v = refuse (notWhole row used p)
+  pub high-number : c / 2 ^ 16 ≡ 32768 → valuesAt c ≡ numberValues (c % 2 ^ 16) (signedOf (c % 2 ^ 16))
+  high-number h = is-number c (omega arith) (omega arith)
 
--- nothing is left, and terms are owed
-used-up : (b row : Bool) (p : ℕ) → _≡_ {A = Read Met} (when b (bad row reason.Long p) (refuse (bad row reason.Short p))) (refuse (bad row (cond b reason.Long reason.Short) p))
-used-up true row p = refl
-used-up false row p = refl
+  pub high-none : c / 2 ^ 16 ≢ 0 → (16384 ≤ c / 2 ^ 16 → c / 2 ^ 16 ≤ 16388 → ⊥) → c / 2 ^ 16 ≢ 32768 → valuesAt c ≡ cell-specs.refused
+  high-none v n z = by (reading c)
+    where
+      by : {x : Values} → Reading c x → x ≡ cell-specs.refused
+      by (cell-laws.a-variable k m) = absurd (v (omega arith))
+      by (cell-laws.a-name k m) = absurd (n (omega arith) (omega arith))
+      by (cell-laws.a-number k m) = absurd (z (omega arith))
+      by (no-cell e) = refl
 
--- both looks are the reading, where no more than a row's 32 cells are there
-pub two-looks : (row : Bool) (xs : List ℕ) (owed used vars p : ℕ) → used + length xs ≤ 32
-    → termsFrom row xs owed used vars p ≡ andThen (cellsFrom row (front owed xs) vars p) (seen row (used + length xs) (p + length xs) (ends xs owed p))
-unfolding termsFrom cellsFrom cellFrom front ends arity
-two-looks row [] zero used vars p h = refl
-two-looks row [] (suc owed) used vars p h = rw (add-zero used, add-zero p) (used-up (row && leb 32 used) row p)
-two-looks row (c ∷ xs) zero used vars p h = refl
-two-looks row (c ∷ xs) (suc owed) used vars p h =
-    let ih : (v : ℕ) → termsFrom row xs (arity c + owed) (suc used) v (suc p) ≡ andThen (cellsFrom row (front (arity c + owed) xs) v (suc p)) (seen row (suc used + length xs) (suc p + length xs) (ends xs (arity c + owed) (suc p))) = λ v. two-looks row xs (arity c + owed) (suc used) v (suc p) (omega arith) in
-    let u : suc used + length xs ≡ used + suc (length xs) = omega arith in
-    let q : suc p + length xs ≡ p + suc (length xs) = omega arith in
-    rw (lt-leb 32 used (omega arith), and-false row, add-one p)
-    (tests-then row (valuesAt c) vars p (counted (valuesAt c) vars) (λ (v : ℕ). termsFrom row xs (arity c + owed) (suc used) v (suc p))
-    ∙ then-both (cellFrom row c vars p) (λ v. ih v ∙ rw (u, q))
-    ∙ then-assoc (cellFrom row c vars p) (λ (v : ℕ). cellsFrom row (front (arity c + owed) xs) v (suc p)) (seen row (used + suc (length xs)) (p + suc (length xs)) (ends xs (arity c + owed) (suc p))))
+  pub args-are : {x : Values} → valuesAt c ≡ x → x .args ≡ arity c
+  unfolding arity
+  args-are e = sym (ap (λ (v : Values). v .args) e)
 
--- The cells that the second look tests: up to where the terms end, or all of them.
-front-at : (ys : List ℕ) (k p e : ℕ) → ends ys k p ≡ At e → front k ys ≡ take (e - p) ys
-unfolding ends front
-front-at [] k p e h = sym (take-nil (e - p))
-front-at (c ∷ ys) zero p e h = let q : e - p ≡ 0 = omega (arith, at-one h) in rw q
-  where
-    at-one : At p ≡ At e → p ≡ e
-    at-one a = cc
-front-at (c ∷ ys) (suc k) p e h =
-    let l : p + 1 ≤ e = not-before ys (arity c + k) (p + 1) e h in
-    let q : e - p ≡ suc (e - (p + 1)) = omega arith in
-    rw q (ap (λ (l : List ℕ). c ∷ l) (front-at ys (arity c + k) (p + 1) e h))
+-- A test that holds decides, and otherwise what comes after it.
+when-both : {A : Type 0} (b : Bool) (f : Refused) {r s : Read A} → (b ≡ false → r ≡ s) → when b f r ≡ when b f s
+when-both true f e = refl
+when-both false f e = e refl
 
-front-short : (ys : List ℕ) (k p : ℕ) → ends ys k p ≡ Short → front k ys ≡ ys
-unfolding ends front
-front-short [] k p h = refl
-front-short (c ∷ ys) zero p h = ends-laws.apart h
-front-short (c ∷ ys) (suc k) p h = ap (λ (l : List ℕ). c ∷ l) (front-short ys (arity c + k) (p + 1) h)
+not-full : (row : Bool) (used n : ℕ) → (row && leb 32 used) ≡ false → (row ≡ false → used + suc n ≤ 32) → used < 32
+not-full true used n e l = leb-false 32 used e
+not-full false used n e l = omega (arith, l refl)
 
-within : (ys : List ℕ) (k p e : ℕ) → ends ys k p ≡ At e → e ≤ p + length ys
-unfolding ends
-within [] zero p e h = let q : p ≡ e = cc in omega arith
-within [] (suc k) p e h = ends-laws.apart (sym h)
-within (c ∷ ys) zero p e h = let q : p ≡ e = cc in omega arith
-within (c ∷ ys) (suc k) p e h = omega (arith, within ys (arity c + k) (p + 1) e h)
+full : (row : Bool) (used : ℕ) → 32 ≤ used → row ≢ false → (row && leb 32 used) ≡ true
+full true used h n = le-leb 32 used h
+full false used h n = absurd (n refl)
 
--- the reading of a whole part of a list, by what the first look found
-module _ (row : Bool) (xs : List ℕ) (from k : ℕ) (a : from ≤ length xs) where
-  pub ended : {e : ℕ} → ends (drop from xs) k from ≡ At e → (from ≤ e) × (e ≤ length xs)
-  ended {e} h = omega (arith, not-before (drop from xs) k from e h, within (drop from xs) k from e h, length-drop from xs)
-
-  module _ (b : length xs ≤ from + 32) where
-    looks : termsFrom row (drop from xs) k 0 0 from ≡ andThen (cellsFrom row (front k (drop from xs)) 0 from) (seen row (length xs - from) (length xs) (ends (drop from xs) k from))
-    looks =
-        let l = length-drop from xs in
-        let n : 0 + length (drop from xs) ≡ length xs - from = omega arith in
-        let q : from + length (drop from xs) ≡ length xs = omega arith in
-        two-looks row (drop from xs) k 0 0 from (omega arith) ∙ rw (n, q)
-
-    pub looks-at : {e : ℕ} {r : Read ℕ} → ends (drop from xs) k from ≡ At e → cellsFrom row (slice from e xs) 0 from ≡ r
-        → andThen r (λ (v : ℕ). read (met e v)) ≡ termsFrom row (drop from xs) k 0 0 from
-    looks-at {e} h t =
-        let l = not-before (drop from xs) k from e h in
-        let q : from + (e - from) ≡ e = omega arith in
-        let f : front k (drop from xs) ≡ slice from e xs = front-at (drop from xs) k from e h ∙ rw q at (sym (slice-take from (e - from) xs)) in
-        sym (looks ∙ rw (h, f, t))
-
-    pub looks-short : {r : Read ℕ} → ends (drop from xs) k from ≡ Short → cellsFrom row (slice from (length xs) xs) 0 from ≡ r
-        → andThen r (λ (v : ℕ). refuse (notWhole row (length xs - from) (length xs))) ≡ termsFrom row (drop from xs) k 0 0 from
-    looks-short h t =
-        let f : front k (drop from xs) ≡ slice from (length xs) xs = front-short (drop from xs) k from h ∙ rw (take-all (length xs) xs (omega arith)) in
-        sym (looks ∙ rw (h, f, t))
-
--- No cell after a row's 32nd is looked at.
-row-window : (m : ℕ) (xs : List ℕ) (owed used vars p : ℕ) → used + m ≡ 32 → termsFrom true (take m xs) owed used vars p ≡ termsFrom true xs owed used vars p
+-- Of terms that are more than the cells left, in a row the cells up to its 32nd, it does not matter how many they are.
+too-many : (row : Bool) (xs : List ℕ) (a b used vars p : ℕ) → used ≤ 32 → 32 < used + a → 32 < used + b → (row ≡ false → used + length xs ≤ 32)
+    → termsFrom row xs a used vars p ≡ termsFrom row xs b used vars p
 unfolding termsFrom
-row-window m [] owed used vars p h = rw take-nil
-row-window zero (c ∷ xs) zero used vars p h = refl
-row-window zero (c ∷ xs) (suc owed) used vars p h = rw (le-leb 32 used (omega arith))
-row-window (suc m) (c ∷ xs) zero used vars p h = refl
-row-window (suc m) (c ∷ xs) (suc owed) used vars p h =
-    ap (λ (r : Read Met). when (leb 32 used) (bad true reason.Long p) (cellTests true (valuesAt c) vars p r))
-    (row-window m xs (valuesAt c .args + owed) (suc used) (counted (valuesAt c) vars) (suc p) (omega arith))
+too-many row [] zero b used vars p u h k l = absurd (omega arith)
+too-many row [] (suc a) zero used vars p u h k l = absurd (omega arith)
+too-many row [] (suc a) (suc b) used vars p u h k l = refl
+too-many row (c ∷ xs) zero b used vars p u h k l = absurd (omega arith)
+too-many row (c ∷ xs) (suc a) zero used vars p u h k l = absurd (omega arith)
+too-many row (c ∷ xs) (suc a) (suc b) used vars p u h k l =
+    when-both (row && leb 32 used) (bad row reason.Long p) (λ e.
+    let n : used < 32 = not-full row used (length xs) e l in
+    ap (λ (r : Read Met). cellTests row (valuesAt c) vars p r)
+    (too-many row xs (valuesAt c .args + a) (valuesAt c .args + b) (suc used) (counted (valuesAt c) vars) (suc p) (omega arith) (omega arith) (omega arith)
+    (λ q. omega (arith, l q))))
 
-pub window : (xs : List ℕ) (from w : ℕ) → termsFrom true (slice from (from + 32) xs) w 0 0 from ≡ termsFrom true (drop from xs) w 0 0 from
-window xs from w = rw slice-take (row-window 32 (drop from xs) w 0 0 from (omega arith))
+-- no term is owed, and terms are owed where the cells are used up
+none-owed : (row : Bool) (xs : List ℕ) (used vars p : ℕ) → termsFrom row xs 0 used vars p ≡ read (met p vars)
+unfolding termsFrom
+none-owed row [] used vars p = refl
+none-owed row (c ∷ xs) used vars p = refl
+
+stopped : (row : Bool) (xs : List ℕ) (owed used vars p : ℕ) → 0 < owed → (0 < length xs → (row && leb 32 used) ≡ true)
+    → termsFrom row xs owed used vars p ≡ refuse (notWhole row used p)
+unfolding termsFrom
+stopped row [] zero used vars p h f = absurd (omega arith)
+stopped row [] (suc owed) used vars p h f = go (row && leb 32 used)
+  where
+    go : (b : Bool) → _≡_ {A = Read Met} (when b (bad row reason.Long p) (refuse (bad row reason.Short p))) (refuse (bad row (cond b reason.Long reason.Short) p))
+    go true = refl
+    go false = refl
+stopped row (c ∷ xs) zero used vars p h f = absurd (omega arith)
+stopped row (c ∷ xs) (suc owed) used vars p h f = rw (f (omega arith))
+
+-- What is left to read at a place, terms being owed up to another: at first all of it, in the end nothing.
+abbrev pub left : Bool → List ℕ → ℕ → ℕ → ℕ → ℕ → Read Met
+left row xs from to vars at = termsFrom row (drop at xs) (to - at) (at - from) vars at
+
+module _ (row : Bool) (xs : List ℕ) (from : ℕ) (l : row ≡ false → length xs ≤ from + 32) where
+  pub at-first : (w : ℕ) → left row xs from (from + (w - (w - 33))) 0 from ≡ termsFrom row (drop from xs) w 0 0 from
+  at-first w =
+      let o : from + (w - (w - 33)) - from ≡ w - (w - 33) = omega arith in
+      let z : from - from ≡ 0 = omega arith in
+      rw (o, z) (by-cases (decLt 32 w)
+      (λ (h : 32 < w). too-many row (drop from xs) (w - (w - 33)) w 0 0 from (omega arith) (omega arith) (omega arith) (λ q. omega (arith, l q, length-drop from xs)))
+      (λ h. let e : w - (w - 33) ≡ w = omega arith in rw e))
+
+  module _ (to vars at : ℕ) where
+    pub used-up : at < to → (at < length xs → from + 32 ≤ at) → left row xs from to vars at ≡ refuse (notWhole row (at - from) at)
+    used-up t h =
+        stopped row (drop at xs) (to - at) (at - from) vars at (omega arith) (λ (s : 0 < length (drop at xs)).
+        let n = h (omega (arith, length-drop at xs)) in
+        full row (at - from) (omega arith) (λ e. omega (arith, l e, length-drop at xs)))
+
+module _ (row : Bool) (xs : List ℕ) (from to vars at : ℕ) where
+  pub in-the-end : to ≤ at → left row xs from to vars at ≡ read (met at vars)
+  in-the-end h = let z : to - at ≡ 0 = omega arith in rw z (none-owed row (drop at xs) (at - from) vars at)
+
+  pub next-cell : at < length xs → from ≤ at → at < from + 32 → at < to
+      → left row xs from to vars at ≡ andThen (cellFrom row (getD xs at 0) vars at) (λ (v : ℕ). left row xs from (to + arity (getD xs at 0)) v (at + 1))
+  unfolding termsFrom cellFrom arity
+  next-cell h f u t =
+      let c : ℕ = getD xs at 0 in
+      let o : to - at ≡ suc (to - (at + 1)) = omega arith in
+      let a : to + arity c - (at + 1) ≡ arity c + (to - (at + 1)) = omega arith in
+      let n : at + 1 - from ≡ suc (at - from) = omega arith in
+      rw (drop-cons xs at 0 h, o, a, n, lt-leb 32 (at - from) (omega arith), and-false row, add-one at)
+      (tests-then row (valuesAt c) vars at (counted (valuesAt c) vars) (λ (v : ℕ). termsFrom row (drop (suc at) xs) (arity c + (to - suc at)) (suc (at - from)) v (suc at)))
 
 -- a cell adds one variable at most
 pub one-more : (row : Bool) (c vars p : ℕ) {v : ℕ} → cellFrom row c vars p ≡ read v → v ≤ vars + 1

@@ -87,9 +87,8 @@ fn read_rows(cells: &[u32], width: usize, count: usize) -> TableRead
     let mut n: usize = 0;
     while n < count {
         starts[n] = at;
-        match terms::read_row(cells, at, width) {
-            TermsRead::Whole(e, vars) => {
-                let mark = doubles::mark_of(&cells[at..e]);
+        match terms::read_terms(cells, at, width, true) {
+            TermsRead::Whole(e, vars, mark) => {
                 if vars == 0 {
                     if doubles::seen_before(
                         &cells[at..e],
@@ -122,7 +121,7 @@ fn read_rows(cells: &[u32], width: usize, count: usize) -> TableRead
     }
 }
 
-// A table: any cells at all. One pass: the two looks of `terms` at each cell of each row.
+// A table: any cells at all. Each cell of each row is looked at once, in `terms`.
 pub fn read_table(cells: &[u32]) -> TableRead
     ensures { λ r. ⌜ TableReads (tableOf (now (cells .entry))) r ⌝ }
 {
@@ -148,7 +147,7 @@ pub fn goal_for(width: usize, goal: &[u32]) -> GoalAnswer
         return GoalAnswer::Refused(terms::refusal(false, Reason::Length, 0));
     }
     match terms::read_terms(goal, 0, width, false) {
-        TermsRead::Whole(e, vars) => {
+        TermsRead::Whole(e, vars, _) => {
             if 0 < goal::cells_left(goal, e) {
                 return GoalAnswer::Refused(terms::refusal(false, Reason::Extra, e));
             }
@@ -180,8 +179,8 @@ pub fn row_beside(
 ) -> RowAnswer
     ensures { λ a. ⌜ rowTold a ≡ rowOf width (rowsLent (now (cells .entry)) (now (starts .entry)) but) (now (row .entry)) ⌝ }
 {
-    match terms::read_row(row, 0, width) {
-        TermsRead::Whole(e, v) => {
+    match terms::read_terms(row, 0, width, true) {
+        TermsRead::Whole(e, v, _) => {
             if v == 0 {
                 if doubles::stands_among(&row[..e], cells, starts, but) {
                     return RowAnswer::Refused(terms::refusal(true, Reason::Same, 0));

@@ -1,30 +1,27 @@
-// The terms of a row or of a goal. Each cell is looked at twice and no more: once where the step over a term finds the
-// end (`terms_end`), and once where the cells up to there are tested (`test_cells`).
+// The terms of a row or of a goal, in one pass: each cell is looked at once, for what it is, for the arguments that then are owed and for
+// the mark of the cells so far.
 ghost use mathlib.Core.Path.{_≡_};
-ghost use mathlib.Core.Bool.{true};
-ghost use Prim.Native.Nat.{_+_, _≤_, _<_};
+ghost use mathlib.Core.Bool.{false};
+ghost use Prim.Native.Nat.{_+_, _-_, _≤_, _<_};
 ghost use lib.ListN.{length, getD, drop};
-ghost use lib.Seq.{slice};
-ghost use Rattle.term.specs.code.Owed.{ends};
+ghost use Rattle.cell.specs.Cell.{arity};
 ghost use Rattle.refusal.specs.Refusal.{told};
 ghost use Rattle.table.specs.Table.{bad, termsFrom};
-ghost use Rattle.table.specs.code.Looks.{cellFrom, cellsFrom, testedTold, termsTold, notWhole};
-use cell::Shape;
+ghost use Rattle.table.specs.code.Looks.{cellFrom, testedTold, argsTold, termsTold, MarkTold, notWhole};
 use goal::Step;
 use refusal::Input;
 use refusal::Reason;
 use refusal::Refusal;
-use term::End;
 
-// Cells that are tested: the variables met so far; or why one is turned away.
+// A cell that is tested: the variables met once it is read, and how many terms follow it as its arguments; or why it is turned away.
 pub enum Tested {
-    Good(usize),
+    Good(usize, usize),
     Bad(Refusal),
 }
 
-// Terms that are read: the place after them and their number of variables; or why they are turned away.
+// Terms that are read: the place after them, their number of variables and the mark of their cells; or why they are turned away.
 pub enum TermsRead {
-    Whole(usize, usize),
+    Whole(usize, usize, u32),
     Turned(Refusal),
 }
 
@@ -47,28 +44,31 @@ pub fn refusal(row: bool, reason: Reason, place: usize) -> Refusal
     }
 }
 
-// One cell, with so many variables met before it: CELL, FRESH. A name has 0 to 4 arguments.
+// One cell, with so many variables met before it: CELL, FRESH. It is told by its high half, which is 0x4000 and the number of arguments in a
+// name; most cells are names, so these come first.
 fn test_cell(c: u32, vars: usize, place: usize, row: bool) -> Tested
     requires { ⌜ vars ≤ 32 ⌝ }
-    ensures { λ r. ⌜ testedTold r ≡ cellFrom row c vars place ⌝ }
+    ensures { λ r. ⌜ (testedTold r ≡ cellFrom row c vars place) × (argsTold r ≡ arity c) ⌝ }
 {
-    match cell::shape_of(c) {
-        Shape::Variable(number) => {
-            let n = number as usize;
+    let high = c >> 16;
+    if 0x4000 <= high {
+        if high <= 0x4004 {
+            return Tested::Good(vars, (high - 0x4000) as usize);
+        }
+    }
+    match high {
+        0 => {
+            let n = c as usize;
             if vars < n {
                 return Tested::Bad(refusal(row, Reason::Fresh, place));
             }
             if n == vars {
-                return Tested::Good(vars + 1);
+                return Tested::Good(vars + 1, 0);
             }
-            Tested::Good(vars)
+            Tested::Good(vars, 0)
         }
-        Shape::Name(args, _) => match args {
-            0..=4 => Tested::Good(vars),
-            _ => Tested::Bad(refusal(row, Reason::Cell, place)),
-        },
-        Shape::Number(_) => Tested::Good(vars),
-        Shape::Refused => Tested::Bad(refusal(row, Reason::Cell, place)),
+        0x8000 => Tested::Good(vars, 0),
+        _ => Tested::Bad(refusal(row, Reason::Cell, place)),
     }
 }
 
@@ -86,48 +86,6 @@ fn cell_in(cells: &[u32], at: usize, row: bool) -> u32
     }
 }
 
-// The cells from a place up to another, from left to right.
-fn test_cells(cells: &[u32], from: usize, to: usize, row: bool) -> Tested
-    requires { ⌜ (from ≤ to) × (to ≤ length (now cells)) × (to ≤ from + 32) ⌝ }
-    ensures { λ r. ⌜ testedTold r ≡ cellsFrom row (slice from to (now (cells .entry))) 0 from ⌝ }
-{
-    let mut at = from;
-    let mut vars: usize = 0;
-    while at < to {
-        let c = cell_in(cells, at, row);
-        match test_cell(c, vars, at, row) {
-            Tested::Good(v) => {
-                vars = v;
-            }
-            Tested::Bad(f) => {
-                return Tested::Bad(f);
-            }
-        }
-        at += 1;
-    }
-    Tested::Good(vars)
-}
-
-// Where so many terms end, the first beginning at a place.
-fn terms_end(cells: &[u32], from: usize, width: usize) -> End
-    ensures { λ r. ⌜ r ≡ ends (drop from (now (cells .entry))) width from ⌝ }
-{
-    let mut at = from;
-    let mut left = width;
-    while 0 < left {
-        match term::term_end(cells, at) {
-            End::At(e) => {
-                at = e;
-            }
-            End::Short => {
-                return End::Short;
-            }
-        }
-        left -= 1;
-    }
-    End::At(at)
-}
-
 // The cells are used up and the terms are not complete: LONG after a row's 32 cells, otherwise SHORT.
 fn not_whole(row: bool, used: usize, place: usize) -> Refusal
     ensures { λ r. ⌜ told r ≡ notWhole row used place ⌝ }
@@ -140,34 +98,40 @@ fn not_whole(row: bool, used: usize, place: usize) -> Refusal
     refusal(row, Reason::Short, place)
 }
 
-// So many terms from a place on, at most 32 cells being there. Cells are tested up to where the terms end, or all of them
-// where they do not: the first that is turned away stands before the place at which the terms turn out not to be whole.
-pub fn read_terms(cells: &[u32], from: usize, width: usize, row: bool) -> TermsRead
-    requires { ⌜ (from ≤ length (now cells)) × (length (now cells) ≤ from + 32) ⌝ }
-    ensures { λ r. ⌜ termsTold r ≡ termsFrom row (drop from (now (cells .entry))) width 0 0 from ⌝ }
+// The lesser of two numbers.
+fn lesser(a: usize, b: usize) -> usize
+    ensures { λ r. ⌜ r ≡ a - (a - b) ⌝ }
 {
-    let all = cells.len();
-    match terms_end(cells, from, width) {
-        End::At(e) => match test_cells(cells, from, e, row) {
-            Tested::Good(v) => TermsRead::Whole(e, v),
-            Tested::Bad(f) => TermsRead::Turned(f),
-        },
-        End::Short => match test_cells(cells, from, all, row) {
-            Tested::Good(_) => TermsRead::Turned(not_whole(row, all - from, all)),
-            Tested::Bad(f) => TermsRead::Turned(f),
-        },
-    }
+    if a < b { a } else { b }
 }
 
-// The row that begins at a place. No cell after its 32nd is looked at.
-pub fn read_row(cells: &[u32], from: usize, width: usize) -> TermsRead
-    requires { ⌜ from ≤ length (now cells) ⌝ }
-    ensures { λ r. ⌜ termsTold r ≡ termsFrom true (drop from (now (cells .entry))) width 0 0 from ⌝ }
+// So many terms from a place on. They end at `to` at the earliest, a place for each that is owed; no cell after the 32nd is looked at, so of
+// terms that are too many it does not matter how many they are.
+pub fn read_terms(cells: &[u32], from: usize, width: usize, row: bool) -> TermsRead
+    requires { ⌜ (from ≤ length (now cells)) × (row ≡ false → length (now cells) ≤ from + 32) ⌝ }
+    ensures { λ r. ⌜ (termsTold r ≡ termsFrom row (drop from (now (cells .entry))) width 0 0 from) × MarkTold (now (cells .entry)) from r ⌝ }
 {
-    let limit = from + 32;
-    if limit < cells.len() {
-        read_terms(&cells[..limit], from, width, true)
-    } else {
-        read_terms(cells, from, width, true)
+    let stop = lesser(cells.len(), from + 32);
+    let mut to = from + lesser(width, 33);
+    let mut at = from;
+    let mut vars: usize = 0;
+    let mut mark = 0;
+    while at < to {
+        if stop <= at {
+            return TermsRead::Turned(not_whole(row, at - from, at));
+        }
+        let c = cell_in(cells, at, row);
+        match test_cell(c, vars, at, row) {
+            Tested::Good(v, args) => {
+                vars = v;
+                to += args;
+            }
+            Tested::Bad(f) => {
+                return TermsRead::Turned(f);
+            }
+        }
+        mark = doubles::mixed(mark, c);
+        at += 1;
     }
+    TermsRead::Whole(at, vars, mark)
 }

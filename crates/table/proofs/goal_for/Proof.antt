@@ -17,7 +17,7 @@ fine-length : (c : tie.Else1) → let g = c .before .before .before .args .goal 
 fine-length c = sym (c .before .outside .ensures) ∙ c .if1 .left
 
 whole : (c : tie.After-e) → let a = c .before .before .before .before .before .before .args in termsFrom false (a .goal .now) (a .width) 0 0 0 ≡ read (met (c .e .given .0 .0) (c .e .given .0 .1 .0))
-whole c = sym (c .before .before .read-terms .ensures) ∙ ap termsTold (c .e .given .1)
+whole c = sym (c .before .before .read-terms .ensures .0) ∙ ap termsTold (c .e .given .1)
 
 outside-requires : tie.Need-outside-requires
 outside-requires c κs = search needs
@@ -29,7 +29,7 @@ returns : tie.Need-returns
 returns c = ap turned (c .refusal .ensures) ∙ sym (ap (goalSays _) (goal-length _ _ (sym (c .before .before .outside .ensures) ∙ c .before .if1 .taken)))
 
 read-terms-requires : tie.Need-read-terms-requires
-read-terms-requires c κs = let h = inside (length (c .before .before .before .args .goal .now)) 1 32 (fine-length c) in (omega arith, omega arith)
+read-terms-requires c κs = let h = inside (length (c .before .before .before .args .goal .now)) 1 32 (fine-length c) in (omega arith, λ _. omega arith)
 
 enum-known-e : tie.Need-enum-known-e
 enum-known-e c = search needs
@@ -50,7 +50,7 @@ returns-3 : tie.Need-returns-3
 returns-3 c = sym (ap (goalSays _) (goal-whole _ _ (fine-length (c .before .before .before .before .before .before)) (whole (c .before .before .before)) (omega arith)))
 
 returns-4 : tie.Need-returns-4
-returns-4 c = sym (ap (goalSays _) (goal-turned _ _ (fine-length (c .before .before .before .before)) (sym (c .before .before .before .read-terms .ensures) ∙ ap termsTold (c .before .f .given .1))))
+returns-4 c = sym (ap (goalSays _) (goal-turned _ _ (fine-length (c .before .before .before .before)) (sym (c .before .before .before .read-terms .ensures .0) ∙ ap termsTold (c .before .f .given .1))))
 
 pub goal-for-spec : {M : Type 1} → statement M
 goal-for-spec =

@@ -1,4 +1,4 @@
-use mathlib.Core.Path.{_≡_, refl, sym, _∙_, ap}
+use mathlib.Core.Path.{_≡_, refl, sym, _∙_, ap, subst}
 use mathlib.Core.Logic.{⊎-elim}
 use mathlib.Core.Bool.{true, false, _&&_}
 use mathlib.Core.List.{[]}
@@ -11,9 +11,10 @@ use Rattle.refusal.specs.Read.{read, refuse}
 use Rattle.refusal.specs.Refusal.{told}
 use Rattle.cell.specs.Same.{among}
 use Rattle.table.specs.Table.{met, doubled, termsFrom, rowsFrom}
-use Rattle.table.specs.code.Looks.{termsTold}
-use Rattle.doubles.specs.Starts.{rowsBut, rowsLent, Ascends}
-use Rattle.doubles.specs.Marks.{has, Marked}
+use Rattle.table.specs.code.Looks.{termsTold, MarkTold}
+use Rattle.doubles.specs.Starts.{between, rowsBut, rowsLent, Ascends}
+use Rattle.doubles.specs.Marks.{markOf, has, Marked}
+use Rattle.table.proofs.ReadLaws.{not-both}
 use Rattle.table.proofs.WholeLaws.{whole-within}
 use Rattle.table.proofs.ApartLaws.{is-doubled, has-variable, none-of-them}
 use Rattle.doubles.proofs.StartLaws.{row-noted, start-noted}
@@ -46,7 +47,13 @@ whole : (c : tie.After-known-told Inv-loop μ-loop)
     let l = round c .loop in
     let e = c .before .e .given .0 in
     termsFrom true (drop (l .at) (a .cells .now)) (a .width) 0 0 (l .at) ≡ read (met (e .0) (e .1 .0))
-whole c = sym (c .before .before .before .read-row .ensures) ∙ ap termsTold (c .before .e .given .1)
+whole c = sym (c .before .before .before .read-terms .ensures .0) ∙ ap termsTold (c .before .e .given .1)
+
+-- and this is its mark
+marked : (c : tie.After-known-told Inv-loop μ-loop)
+    → let e = c .before .e .given .0 in
+    e .1 .1 .0 ≡ markOf (between (round c .loop .at) (e .0) (start c .args .cells .now))
+marked c = subst (MarkTold (start c .args .cells .now) (round c .loop .at)) (c .before .e .given .1) (c .before .before .before .read-terms .ensures .1)
 
 within : (c : tie.After-known-told Inv-loop μ-loop)
     → let e = c .before .e .given .0 .0 in
@@ -61,29 +68,28 @@ noted : (c : tie.At-loop Inv-loop μ-loop) → c .loop .n ≤ length (set (c .lo
 noted c = let l = c .loop in omega (arith, length-set (l .starts) (l .n) (l .at), l .inv .2)
 
 -- whether it stands among those before it, as it is looked for
-seen : (c : tie.After-mark-of Inv-loop μ-loop)
-    → let k = c .before .before in
-    let t = start k .args .cells .now in
-    let l = round k .loop in
-    let x = take (k .before .e .given .0 .0 - l .at) (drop (l .at) t) in
+seen : (c : tie.After-known-told Inv-loop μ-loop)
+    → let t = start c .args .cells .now in
+    let l = round c .loop in
+    let e = c .before .e .given .0 in
+    let x = take (e .0 - l .at) (drop (l .at) t) in
     let S = take (l .n) (set (l .starts) (l .n) (l .at)) in
-    (has (c .mark-of .result) (take (l .n) (l .marks)) && among x (rowsLent (take (l .at) t) S (length S)))
+    (has (e .1 .1 .0) (take (l .n) (l .marks)) && among x (rowsLent (take (l .at) t) S (length S)))
     ≡ among x (rowsBut t (l .starts) 64 (l .n) (l .at))
 seen c =
-    let k = c .before .before in
-    let l = round k .loop in
-    seen-is (start k .args .cells .now) (l .starts) (l .marks) _ 64 (l .n) (l .at) (l .at) (c .mark-of .result) (omega arith)
-    (omega (arith, l .inv .2)) (omega (arith, l .inv .3)) (l .inv .0) (l .inv .4) (l .inv .5) (c .mark-of .ensures)
+    let l = round c .loop in
+    seen-is (start c .args .cells .now) (l .starts) (l .marks) _ 64 (l .n) (l .at) (l .at) (c .before .e .given .0 .1 .1 .0) (omega arith)
+    (omega (arith, l .inv .2)) (omega (arith, l .inv .3)) (l .inv .0) (l .inv .4) (l .inv .5) (marked c)
 
 -- it is not doubled
 alone : (c : tie.Joined1 Inv-loop μ-loop)
-    → let k = c .before .before .before in
+    → let k = c .before in
     let t = start k .args .cells .now in
     let l = round k .loop in
     let e = k .before .e .given .0 in
     doubled (met (e .0) (e .1 .0)) (take (e .0 - l .at) (drop (l .at) t)) (rowsBut t (l .starts) 64 (l .n) (l .at)) ≡ false
 alone c =
-    let e = c .before .before .before .before .e .given .0 in
+    let e = c .before .before .e .given .0 in
     let m = met (e .0) (e .1 .0) in
     ⊎-elim
     (λ w. none-of-them m _ _ (sym (seen (c .before)) ∙ sym (w .5 .ensures) ∙ w .6 .left))
@@ -103,54 +109,39 @@ mul-starts c = search needs
 array-write-starts : tie.Need-array-write-starts Inv-loop μ-loop
 array-write-starts c = search needs
 
-read-row-requires : tie.Need-read-row-requires Inv-loop μ-loop
-read-row-requires c κs = search needs
+read-terms-requires : tie.Need-read-terms-requires Inv-loop μ-loop
+read-terms-requires c κs = (omega arith, not-both refl)
 
 enum-known-e : tie.Need-enum-known-e Inv-loop μ-loop
 enum-known-e c = search needs
-
-mul-mark-of : tie.Need-mul-mark-of Inv-loop μ-loop
-mul-mark-of c = search needs
-
-sub-mark-of : tie.Need-sub-mark-of Inv-loop μ-loop
-sub-mark-of c = within c .0
-
-part-mark-of-start : tie.Need-part-mark-of-start Inv-loop μ-loop
-part-mark-of-start c = within c .0
-
-part-mark-of-end : tie.Need-part-mark-of-end Inv-loop μ-loop
-part-mark-of-end c = within c .1
-
-mark-of-requires : tie.Need-mark-of-requires Inv-loop μ-loop
-mark-of-requires c κs = search needs
 
 mul-seen-before : tie.Need-mul-seen-before Inv-loop μ-loop
 mul-seen-before c = search needs
 
 sub-seen-before : tie.Need-sub-seen-before Inv-loop μ-loop
-sub-seen-before c = within (c .before .before .before) .0
+sub-seen-before c = within (c .before) .0
 
 part-seen-before-start : tie.Need-part-seen-before-start Inv-loop μ-loop
-part-seen-before-start c = within (c .before .before .before) .0
+part-seen-before-start c = within (c .before) .0
 
 part-seen-before-end : tie.Need-part-seen-before-end Inv-loop μ-loop
-part-seen-before-end c = within (c .before .before .before) .1
+part-seen-before-end c = within (c .before) .1
 
 slice-aggregate-seen-before : tie.Need-slice-aggregate-seen-before Inv-loop μ-loop
-slice-aggregate-seen-before c = sym (length-take-le _ _ (round (c .before .before .before .before .before) .loop .inv .0))
+slice-aggregate-seen-before c = sym (length-take-le _ _ (round (c .before .before .before) .loop .inv .0))
 
 array-share-prefix-starts : tie.Need-array-share-prefix-starts Inv-loop μ-loop
-array-share-prefix-starts c = noted (round (c .before .before .before .before .before))
+array-share-prefix-starts c = noted (round (c .before .before .before))
 
 slice-aggregate-seen-before-2 : tie.Need-slice-aggregate-seen-before-2 Inv-loop μ-loop
-slice-aggregate-seen-before-2 c = sym (length-take-le _ _ (noted (round (c .before .before .before .before .before .before))))
+slice-aggregate-seen-before-2 c = sym (length-take-le _ _ (noted (round (c .before .before .before .before))))
 
 array-share-prefix-marks : tie.Need-array-share-prefix-marks Inv-loop μ-loop
-array-share-prefix-marks c = let l = round (c .before .before .before .before .before .before) .loop in omega (arith, l .inv .3)
+array-share-prefix-marks c = let l = round (c .before .before .before .before) .loop in omega (arith, l .inv .3)
 
 slice-aggregate-seen-before-3 : tie.Need-slice-aggregate-seen-before-3 Inv-loop μ-loop
 slice-aggregate-seen-before-3 c =
-    let l = round (c .before .before .before .before .before .before .before) .loop in
+    let l = round (c .before .before .before .before .before) .loop in
     sym (length-take-le _ _ (omega (arith, l .inv .3)))
 
 seen-before-requires : tie.Need-seen-before-requires Inv-loop μ-loop
@@ -161,12 +152,11 @@ turned-requires c κs = search needs
 
 returns : tie.Need-returns Inv-loop μ-loop
 returns c =
-    let o = c .before .before .before .before .before .before .before .before in
-    let k = o .before .before in
+    let k = c .before .before .before .before .before .before .before .before in
     let a = start k .args in
     let l = round k .loop in
     let e = k .before .e .given .0 in
-    let found = sym (seen o) ∙ sym (c .before .before .seen-before .ensures) ∙ c .before .if2 .taken in
+    let found = sym (seen k) ∙ sym (c .before .before .seen-before .ensures) ∙ c .before .if2 .taken in
     let d = is-doubled (met (e .0) (e .1 .0)) _ _ (c .before .before .before .before .before .before .before .if1 .taken) found in
     rows-answer (a .width) (a .count) (drop 2 (a .cells .now)) _ (omega arith)
     (outcome-turned _ (c .turned .ensures)
@@ -188,7 +178,7 @@ returns-2 c =
     let a = c .before .before .before .before .before .before .before .args in
     let l = c .before .before .before .before .before .loop in
     let h : termsFrom true (drop (l .at) (a .cells .now)) (a .width) 0 0 (l .at) ≡ refuse (told (c .before .f .given .0 .0)) =
-    sym (c .before .before .before .read-row .ensures) ∙ ap termsTold (c .before .f .given .1) in
+    sym (c .before .before .before .read-terms .ensures .0) ∙ ap termsTold (c .before .f .given .1) in
     rows-answer (a .width) (a .count) (drop 2 (a .cells .now)) _ (omega arith)
     (sym (ap (after (a .width) (l .n) (l .starts) (l .at))
     (rows-turned (a .width) _ (a .cells .now) (l .at) (a .count - l .n) (omega arith) h))
@@ -202,21 +192,20 @@ loop-less c = search needs
 
 loop-again : tie.Need-loop-again Inv-loop μ-loop
 loop-again c =
-    let k = c .before .before .before in
+    let k = c .before in
     let a = start k .args in
     let l = round k .loop in
     let b = within k in
     let m : a .count - l .n - 1 ≡ a .count - (l .n + 1) = omega arith in
-    let e = k .before .e .given .0 .0 in
-    let s = row-noted (l .starts) (l .n) (l .at) (omega (arith, l .inv .2)) (a .cells .now) 64 e (λ z. omega arith) in
+    let e = k .before .e .given .0 in
+    let s = row-noted (l .starts) (l .n) (l .at) (omega (arith, l .inv .2)) (a .cells .now) 64 (e .0) (λ z. omega arith) in
     let t = next-row (a .width) _ (a .cells .now) (l .at) (a .count - l .n) (l .n) (l .starts) (omega arith) (omega arith) (whole k) (alone c) in (
       b .1,
       omega arith,
       length-set (l .starts) (l .n) (l .at) ∙ l .inv .2,
-      length-set (l .marks) (l .n) (c .before .mark-of .result) ∙ l .inv .3,
+      length-set (l .marks) (l .n) (e .1 .1 .0) ∙ l .inv .3,
       start-noted (l .starts) (l .n) (l .at) (omega (arith, l .inv .2)) (b .0) (l .inv .4),
-      marked-more (a .cells .now) (l .starts) (l .marks) (l .n) (l .at) _ e (omega (arith, l .inv .2)) (omega (arith, l .inv .3))
-          (c .before .mark-of .ensures) (l .inv .5),
+      marked-more (a .cells .now) (l .starts) (l .marks) (l .n) (l .at) _ (e .0) (omega (arith, l .inv .2)) (omega (arith, l .inv .3)) (marked k) (l .inv .5),
       rw s (sym (rw m at t) ∙ l .inv .6),
     )
 
@@ -252,13 +241,8 @@ read-rows-spec =
     loop-holds
     mul-starts
     array-write-starts
-    read-row-requires
+    read-terms-requires
     enum-known-e
-    mul-mark-of
-    sub-mark-of
-    part-mark-of-start
-    part-mark-of-end
-    mark-of-requires
     mul-seen-before
     sub-seen-before
     part-seen-before-start

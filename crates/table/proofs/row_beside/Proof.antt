@@ -1,4 +1,4 @@
-use mathlib.Core.Path.{_≡_, sym, _∙_, ap}
+use mathlib.Core.Path.{_≡_, refl, sym, _∙_, ap}
 use mathlib.Core.Logic.{⊎-elim}
 use mathlib.Core.Bool.{true, false}
 use mathlib.Core.List.{List}
@@ -10,6 +10,7 @@ use Rattle.refusal.specs.Read.{read, refuse}
 use Rattle.doubles.specs.Starts.{rowsLent}
 use Rattle.table.specs.Table.{met, doubled, termsFrom}
 use Rattle.table.specs.code.Looks.{termsTold}
+use Rattle.table.proofs.ReadLaws.{not-both}
 use Rattle.table.proofs.WholeLaws.{whole-within}
 use Rattle.table.proofs.ApartLaws.{is-doubled, has-variable, none-of-them}
 use Rattle.table.proofs.TableLaws.{row-turned, row-same, row-extra, row-whole}
@@ -27,7 +28,7 @@ others c = let a = start c .args in rowsLent (a .cells .now) (a .starts .now) (a
 -- the row is read
 whole : (c : tie.After-e)
     → termsFrom true (start c .args .row .now) (start c .args .width) 0 0 0 ≡ read (met (c .e .given .0 .0) (c .e .given .0 .1 .0))
-whole c = sym (c .before .before .read-row .ensures) ∙ ap termsTold (c .e .given .1)
+whole c = sym (c .before .before .read-terms .ensures .0) ∙ ap termsTold (c .e .given .1)
 
 within : (c : tie.After-e) → c .e .given .0 .0 ≤ length (start c .args .row .now)
 within c = whole-within true (start c .args .row .now) _ 0 (omega arith) (whole c) .1
@@ -41,8 +42,8 @@ alone c =
     let m = met (e .0) (e .1 .0) in
     ⊎-elim (λ w. none-of-them m _ _ (sym (w .2 .ensures) ∙ w .3 .left)) (λ w. has-variable m _ _ (w .left)) (c .if1 .came)
 
-read-row-requires : tie.Need-read-row-requires
-read-row-requires c κs = search needs
+read-terms-requires : tie.Need-read-terms-requires
+read-terms-requires c κs = (omega arith, not-both refl)
 
 enum-known-e : tie.Need-enum-known-e
 enum-known-e c = search needs
@@ -79,13 +80,13 @@ returns-3 : tie.Need-returns-3
 returns-3 c = let j = c .before in sym (row-whole _ _ _ (whole (j .before .before)) (alone j) (omega arith))
 
 returns-4 : tie.Need-returns-4
-returns-4 c = sym (row-turned _ _ _ (sym (c .before .before .before .read-row .ensures) ∙ ap termsTold (c .before .f .given .1)))
+returns-4 c = sym (row-turned _ _ _ (sym (c .before .before .before .read-terms .ensures .0) ∙ ap termsTold (c .before .f .given .1)))
 
 pub row-beside-spec : {M : Type 1} → statement M
 row-beside-spec =
     tie.close
     (tie.spec
-    read-row-requires
+    read-terms-requires
     enum-known-e
     slice-aggregate-stands-among
     stands-among-requires

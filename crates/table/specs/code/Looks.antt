@@ -1,10 +1,13 @@
--- The code's own steps, in which the cells of a row or of a goal are looked at: one to find where the terms end (`ends` of term), one to
--- test the cells. That the two together are `termsFrom` is `two-looks` of proofs/LooksLaws.
+-- The code's own steps, in which the cells of a row or of a goal are looked at: one cell, and cells one after another. That the cells of
+-- whole terms are read so is `terms-pass` of proofs/WholeLaws.
 use Prim.Native.Nat.{ℕ, suc}
+use mathlib.Core.Path.{_≡_}
 use mathlib.Core.Bool.{Bool, cond, _&&_}
 use mathlib.Core.List.{List, [], _∷_}
 use lib.Dec.{leb}
 use Rattle.cell.specs.Cell.{valuesAt}
+use Rattle.doubles.specs.Starts.{between}
+use Rattle.doubles.specs.Marks.{markOf}
 use Rattle.table.specs.declared.terms.Tested.{Tested}
 use Rattle.table.specs.declared.terms.Tested.the-variants.{Good, Bad}
 use Rattle.table.specs.declared.terms.TermsRead.{TermsRead}
@@ -27,11 +30,21 @@ cellsFrom row (c ∷ xs) vars p = andThen (cellFrom row c vars p) (λ (v : ℕ).
 abbrev pub notWhole : Bool → ℕ → ℕ → Refused
 notWhole row used p = bad row (cond (row && leb 32 used) reason.Long reason.Short) p
 
--- what the code's answers say
+-- what the code's answers say of one cell; one that is turned away has no arguments
 abbrev pub testedTold : Tested → Read ℕ
-testedTold (Good v) = read v
+testedTold (Good v a) = read v
 testedTold (Bad f) = refuse (told f)
 
+abbrev pub argsTold : Tested → ℕ
+argsTold (Good v a) = a
+argsTold (Bad f) = 0
+
+-- and of terms
 abbrev pub termsTold : TermsRead → Read Met
-termsTold (Whole e v) = read (met e v)
+termsTold (Whole e v m) = read (met e v)
 termsTold (Turned f) = refuse (told f)
+
+-- the mark is that of the cells from a place up to the end of the terms
+abbrev pub MarkTold : List ℕ → ℕ → TermsRead → Type 0
+MarkTold cells from (Whole e v m) = m ≡ markOf (between from e cells)
+MarkTold cells from (Turned f) = Unit {0}

@@ -1,104 +1,180 @@
-use mathlib.Core.Path.{_≡_, sym, _∙_, ap}
-use Prim.Native.Nat.{ℕ, _-_}
+use mathlib.Core.Path.{_≡_, sym, _∙_, ap, ap₂}
+use Prim.Native.Nat.{ℕ, _+_, _-_, _*_, _≤_}
 use native.Mathlib.Omega.{arith}
-use lib.ListN.{length, drop}
-use Rattle.term.specs.declared.End.the-variants.{At, Short}
-use Rattle.term.specs.code.Owed.{ends}
+use lib.ListN.{length, getD, drop}
+use Rattle.cell.specs.Cell.{arity}
+use Rattle.cell.proofs.CellLaws.{arity-small}
+use Rattle.doubles.specs.Starts.{between}
+use Rattle.doubles.specs.Marks.{mix, markOf}
+use Rattle.doubles.proofs.MarkLaws.{mark-none, mark-longer}
+use Rattle.refusal.specs.Read.{refuse, andThen}
+use Rattle.table.specs.Table.{termsFrom}
 use Rattle.table.specs.declared.terms.Tested.{Tested}
-use Rattle.refusal.specs.Read.{read, refuse, andThen}
-use Rattle.table.specs.Table.{met, termsFrom}
-use Rattle.table.specs.code.Looks.{notWhole, testedTold}
-use Rattle.table.proofs.LooksLaws.{ended, looks-at, looks-short}
+use Rattle.table.specs.code.Looks.{cellFrom, testedTold, argsTold}
+use Rattle.table.proofs.LooksLaws.{left, at-first, used-up, in-the-end, next-cell, one-more}
 use borrow.Author.Needs.{needs}
 use Rattle.table.proofs.terms.read_terms.Statement.{statement}
 use Rattle.table.proofs.terms.read_terms.Tie as tie
 
--- what the first look found
-at : (c : tie.After-e) → let a = c .before .before .before .before .args in ends (drop (a .from) (a .cells .now)) (a .width) (a .from) ≡ At (c .e .given .0 .0)
-at c = sym (c .before .before .terms-end .ensures) ∙ c .e .given .1
+-- what is left to read comes to what there was to read, and the mark is that of the cells so far
+abbrev Inv-loop : tie.InvT-loop
+Inv-loop cells from width row stop to₀ at₀ vars₀ mark₀ to at vars mark =
+    (from ≤ at) × (at ≤ stop) × (vars + from ≤ at) × (to ≤ from + 33 + 4 * (at - from)) × (mark ≡ markOf (between from at cells))
+    × (left row cells from to vars at ≡ termsFrom row (drop from cells) width 0 0 from)
 
-short : (c : tie.After-enum-told) → let a = c .before .before .before .before .args in ends (drop (a .from) (a .cells .now)) (a .width) (a .from) ≡ Short
-short c = sym (c .before .before .terms-end .ensures) ∙ c .enum-told .given .1
+abbrev μ-loop : tie.MeasureT-loop
+μ-loop cells from width row stop to₀ at₀ vars₀ mark₀ to at vars mark = stop - at
 
--- and what the second says of the terms
-second-at : (c : tie.After-test-cells) {r : Tested} → c .test-cells .result ≡ r
-    → let a = c .before .before .before .before .before .before .args in
-    andThen (testedTold r) (λ (v : ℕ). read (met (c .before .before .e .given .0 .0) v)) ≡ termsFrom (a .row) (drop (a .from) (a .cells .now)) (a .width) 0 0 (a .from)
-second-at c q =
-    let a = c .before .before .before .before .before .before .args in
-    looks-at (a .row) (a .cells .now) (a .from) (a .width) (omega arith) (omega arith) (at (c .before .before)) (sym (c .test-cells .ensures) ∙ ap testedTold q)
+-- where the function and its loop stand
+abbrev start : tie.At-loop Inv-loop μ-loop → tie.Start Inv-loop μ-loop
+start c = c .before .before .before .before
 
-second-short : (c : tie.After-test-cells2) {r : Tested} → c .test-cells2 .result ≡ r
-    → let a = c .before .before .before .before .before .args in
-    andThen (testedTold r) (λ (v : ℕ). refuse (notWhole (a .row) (length (a .cells .now) - a .from) (length (a .cells .now)))) ≡ termsFrom (a .row) (drop (a .from) (a .cells .now)) (a .width) 0 0 (a .from)
-second-short c q =
-    let a = c .before .before .before .before .before .args in
-    looks-short (a .row) (a .cells .now) (a .from) (a .width) (omega arith) (omega arith) (short (c .before)) (sym (c .test-cells2 .ensures) ∙ ap testedTold q)
+abbrev round : tie.After-test-cell Inv-loop μ-loop → tie.At-loop Inv-loop μ-loop
+round c = c .before .before .before .before
 
-terms-end-requires : tie.Need-terms-end-requires
-terms-end-requires c κs = search needs
+-- what the cell's test says, of the cell at this place
+tested : (c : tie.After-test-cell Inv-loop μ-loop) {r : Tested} → c .test-cell .result ≡ r
+    → let a = start (round c) .args in
+    let l = round c .loop in
+    let x = getD (a .cells .now) (l .at) 0 in
+    (cellFrom (a .row) x (l .vars) (l .at) ≡ testedTold r) × (arity x ≡ argsTold r)
+tested c q =
+    let a = start (round c) .args in
+    let l = round c .loop in
+    let x = sym (c .before .cell-in .ensures) in (
+      ap (λ (x : ℕ). cellFrom (a .row) x (l .vars) (l .at)) x ∙ sym (c .test-cell .ensures .0) ∙ ap testedTold q,
+      ap arity x ∙ sym (c .test-cell .ensures .1) ∙ ap argsTold q,
+    )
 
-enum-known-e : tie.Need-enum-known-e
-enum-known-e c = search needs
+-- and what is then left to read
+next : (c : tie.After-test-cell Inv-loop μ-loop) {r : Tested} → c .test-cell .result ≡ r
+    → let a = start (round c) .args in
+    let l = round c .loop in
+    andThen (testedTold r) (λ (v : ℕ). left (a .row) (a .cells .now) (a .from) (l .to + argsTold r) v (l .at + 1))
+    ≡ termsFrom (a .row) (drop (a .from) (a .cells .now)) (a .width) 0 0 (a .from)
+next c q =
+    let a = start (round c) .args in
+    let l = round c .loop in
+    let t = tested c q in
+    sym (next-cell (a .row) (a .cells .now) (a .from) (l .to) (l .vars) (l .at) (omega arith) (omega arith) (omega arith) (omega arith) ∙ rw (t .0, t .1)) ∙ l .inv .5
 
-test-cells-requires : tie.Need-test-cells-requires
-test-cells-requires c κs =
-    let a = c .before .before .before .before .before .args in
-    let h = ended (a .row) (a .cells .now) (a .from) (a .width) (omega arith) (at (c .before)) in
-    (omega arith, omega arith, omega arith)
+few : (c : tie.After-v Inv-loop μ-loop) → c .v .given .0 .1 .0 ≤ 4
+few c =
+    let k = c .before .before in
+    omega (arith, tested k (c .v .given .1) .1, arity-small (getD (start (round k) .args .cells .now) (round k .loop .at) 0))
 
-enum-known-v : tie.Need-enum-known-v
-enum-known-v c = search needs
+add-lesser : tie.Need-add-lesser Inv-loop μ-loop
+add-lesser c = search needs
 
-enum-known-f : tie.Need-enum-known-f
-enum-known-f c = search needs
+lesser-requires : tie.Need-lesser-requires Inv-loop μ-loop
+lesser-requires c κs = search needs
 
-enum-told : tie.Need-enum-told
-enum-told c = search needs
+lesser-requires-2 : tie.Need-lesser-requires-2 Inv-loop μ-loop
+lesser-requires-2 c κs = search needs
 
-test-cells-requires-2 : tie.Need-test-cells-requires-2
-test-cells-requires-2 c κs = search needs
+add-to : tie.Need-add-to Inv-loop μ-loop
+add-to c = search needs
 
-enum-told-2 : tie.Need-enum-told-2
-enum-told-2 c = search needs
+loop-holds : tie.Need-loop-holds Inv-loop μ-loop
+loop-holds c =
+    let a = c .before .before .before .args in (
+      omega arith,
+      omega arith,
+      omega arith,
+      omega arith,
+      mark-none (a .cells .now) (a .from),
+      rw (c .lesser2 .ensures) (at-first (a .row) (a .cells .now) (a .from) (c .before .before .before .pre .1) (a .width)),
+    )
 
-sub-not-whole : tie.Need-sub-not-whole
+sub-not-whole : tie.Need-sub-not-whole Inv-loop μ-loop
 sub-not-whole c = search needs
 
-not-whole-requires : tie.Need-not-whole-requires
+not-whole-requires : tie.Need-not-whole-requires Inv-loop μ-loop
 not-whole-requires c κs = search needs
 
-enum-known-f-2 : tie.Need-enum-known-f-2
-enum-known-f-2 c = search needs
+returns : tie.Need-returns Inv-loop μ-loop
+returns c =
+    let k = c .before .before .before in
+    let a = start k .args in
+    let l = k .loop in (
+      ap refuse (c .not-whole .ensures)
+          ∙ sym (used-up (a .row) (a .cells .now) (a .from) (start k .pre .1) (l .to) (l .vars) (l .at) (omega arith) (λ h. omega arith)) ∙ l .inv .5,
+      tt,
+    )
 
-returns : tie.Need-returns
-returns c = second-at (c .before .before .before) (c .before .v .given .1)
+cell-in-requires : tie.Need-cell-in-requires Inv-loop μ-loop
+cell-in-requires c κs = search needs
 
-returns-2 : tie.Need-returns-2
-returns-2 c = second-at (c .before .before .before) (c .before .f .given .1)
+test-cell-requires : tie.Need-test-cell-requires Inv-loop μ-loop
+test-cell-requires c κs = search needs
 
-returns-3 : tie.Need-returns-3
-returns-3 c = ap refuse (c .not-whole .ensures) ∙ second-short (c .before .before .before) (c .before .enum-told2 .given .1)
+enum-known-v : tie.Need-enum-known-v Inv-loop μ-loop
+enum-known-v c = search needs
 
-returns-4 : tie.Need-returns-4
-returns-4 c = second-short (c .before .before .before) (c .before .f2 .given .1)
+add-to-2 : tie.Need-add-to-2 Inv-loop μ-loop
+add-to-2 c = omega (arith, few (c .before))
+
+enum-known-f : tie.Need-enum-known-f Inv-loop μ-loop
+enum-known-f c = search needs
+
+returns-2 : tie.Need-returns-2 Inv-loop μ-loop
+returns-2 c = (next (c .before .before .before) (c .before .f .given .1), tt)
+
+mixed-requires : tie.Need-mixed-requires Inv-loop μ-loop
+mixed-requires c κs = search needs
+
+add-at : tie.Need-add-at Inv-loop μ-loop
+add-at c = search needs
+
+loop-less : tie.Need-loop-less Inv-loop μ-loop
+loop-less c = search needs
+
+loop-again : tie.Need-loop-again Inv-loop μ-loop
+loop-again c =
+    let v = c .before .before in
+    let k = v .before .before in
+    let a = start (round k) .args in
+    let l = round k .loop in
+    let m = one-more (a .row) (getD (a .cells .now) (l .at) 0) (l .vars) (l .at) (tested k (v .v .given .1) .0) in
+    let f = few v in (
+      omega arith,
+      omega arith,
+      omega arith,
+      omega arith,
+      c .mixed .ensures ∙ ap₂ mix (l .inv .4) (k .before .cell-in .ensures) ∙ mark-longer (a .cells .now) (a .from) (l .at) (omega arith) (omega arith),
+      next k (v .v .given .1),
+    )
+
+returns-3 : tie.Need-returns-3 Inv-loop μ-loop
+returns-3 c =
+    let a = start (c .before) .args in
+    let l = c .before .loop in (
+      sym (in-the-end (a .row) (a .cells .now) (a .from) (l .to) (l .vars) (l .at) (omega arith)) ∙ l .inv .5,
+      l .inv .4,
+    )
 
 pub read-terms-spec : {M : Type 1} → statement M
 read-terms-spec =
     tie.close
     (tie.spec
-    terms-end-requires
-    enum-known-e
-    test-cells-requires
-    enum-known-v
-    enum-known-f
-    enum-told
-    test-cells-requires-2
-    enum-told-2
+    Inv-loop
+    μ-loop
+    add-lesser
+    lesser-requires
+    lesser-requires-2
+    add-to
+    loop-holds
     sub-not-whole
     not-whole-requires
-    enum-known-f-2
     returns
+    cell-in-requires
+    test-cell-requires
+    enum-known-v
+    add-to-2
+    enum-known-f
     returns-2
-    returns-3
-    returns-4)
+    mixed-requires
+    add-at
+    loop-less
+    loop-again
+    returns-3)

@@ -1,94 +1,69 @@
 use mathlib.Core.Path.{_≡_, sym, _∙_, ap}
-use native.Mathlib.Omega.{arith}
+use mathlib.Core.Logic.{⊎-elim}
+use Prim.Native.Nat.{_-_, _/_, _%_, _^_}
 use native.Mathlib.Numerals.{add-one}
-use Rattle.cell.specs.Cell.{Values, values, valuesAt, valuesOf}
-use Rattle.cell.proofs.CellLaws.{values-small}
+use native.Mathlib.Omega.{arith}
+use Rattle.cell.specs.Cell.{values, refused, valuesAt}
 use Rattle.refusal.specs.Read.{read, refuse}
+use Rattle.table.proofs.LooksLaws.{high-name, high-variable, high-number, high-none, args-are}
 use Rattle.table.proofs.LooksLaws.{not-cell, a-name, a-number, fresh, new, again}
 use borrow.Author.Needs.{needs}
 use Rattle.table.proofs.terms.test_cell.Statement.{statement}
 use Rattle.table.proofs.terms.test_cell.Tie as tie
 
--- the cell is a variable
-variable : (c : tie.After-number) → valuesAt (c .before .before .before .args .c) ≡ values 0 0 (c .number .given .0 .0)
-variable c = sym (c .before .before .shape-of .ensures) ∙ ap valuesOf (c .number .given .1)
+-- what the cell is
+name : (c : tie.Then2) → let x = c .before .before .args .c in valuesAt x ≡ values 1 (x / 2 ^ 16 - 16384) (x % 2 ^ 16)
+name c = high-name _ (omega arith) (omega arith)
 
--- the cell is a name
-name : (c : tie.After-args2) → valuesAt (c .before .before .before .args .c) ≡ values 1 (c .args2 .given .0 .0) (c .args2 .given .0 .1 .0)
-name c = sym (c .before .before .shape-of .ensures) ∙ ap valuesOf (c .args2 .given .1)
+variable : (c : tie.At-match-keys1) → let x = c .before .before .args .c in valuesAt x ≡ values 0 0 x
+variable c = high-variable _ (omega arith)
 
-shape-of-requires : tie.Need-shape-of-requires
-shape-of-requires c κs = search needs
+none : (c : tie.At-match-rest) → valuesAt (c .before .before .args .c) ≡ refused
+none c =
+    high-none _ (λ e. c .match .rest .0 .1 (omega arith)) (λ l h. ⊎-elim (λ w. omega arith) (λ w. omega arith) (c .before .if1 .came))
+    (λ e. c .match .rest .1 (omega arith))
 
-enum-known-number : tie.Need-enum-known-number
-enum-known-number c = search needs
+cast-t10 : tie.Need-cast-t10
+cast-t10 c = search needs
 
-cast-n : tie.Need-cast-n
-cast-n c = search needs
+returns : tie.Need-returns
+returns c = (sym (a-name _ _ _ _ (name c)), args-are _ (name c))
 
 refusal-requires : tie.Need-refusal-requires
 refusal-requires c κs = search needs
 
-returns : tie.Need-returns
-returns c = ap refuse (c .refusal .ensures) ∙ sym (fresh _ _ _ _ (variable (c .before .before .before)) (c .before .if1 .taken))
-
-add-t13 : tie.Need-add-t13
-add-t13 c = search needs
-
 returns-2 : tie.Need-returns-2
-returns-2 c = ap read (add-one _) ∙ sym (new _ _ _ _ (variable (c .before .before .before)) (omega arith))
+returns-2 c = let e = variable (c .before .before) in (ap refuse (c .refusal .ensures) ∙ sym (fresh _ _ _ _ e (omega arith)), args-are _ e)
 
-enum-known-args : tie.Need-enum-known-args
-enum-known-args c = search needs
+add-t15 : tie.Need-add-t15
+add-t15 c = search needs
+
+returns-3 : tie.Need-returns-3
+returns-3 c = let e = variable (c .before .before) in (ap read (add-one _) ∙ sym (new _ _ _ _ e (omega arith)), args-are _ e)
 
 refusal-requires-2 : tie.Need-refusal-requires-2
 refusal-requires-2 c κs = search needs
 
-enum-told : tie.Need-enum-told
-enum-told c = search needs
-
-enum-told-2 : tie.Need-enum-told-2
-enum-told-2 c = search needs
-
-refusal-requires-3 : tie.Need-refusal-requires-3
-refusal-requires-3 c κs = search needs
-
-returns-3 : tie.Need-returns-3
-returns-3 c = sym (again _ _ _ _ (variable (c .before .before .before)) (omega arith))
-
 returns-4 : tie.Need-returns-4
-returns-4 c = sym (a-name _ _ _ _ (name (c .before .before)))
+returns-4 c = let e = variable (c .before .before) in (sym (again _ _ _ _ e (omega arith)), args-are _ e)
 
 returns-5 : tie.Need-returns-5
-returns-5 c =
-    let n = c .before .before .before in
-    let few = ap (λ (v : Values). v .args) (name n) in
-    absurd (omega (arith, values-small (n .before .before .before .args .c) .0))
+returns-5 c = let e = high-number (c .before .before .args .c) (omega arith) in (sym (a-number _ _ _ _ e), args-are _ e)
 
 returns-6 : tie.Need-returns-6
-returns-6 c = sym (a-number _ _ _ _ (sym (c .before .before .shape-of .ensures) ∙ ap valuesOf (c .enum-told .given .1)))
-
-returns-7 : tie.Need-returns-7
-returns-7 c = ap refuse (c .refusal3 .ensures) ∙ sym (not-cell _ _ _ _ (sym (c .before .before .before .shape-of .ensures) ∙ ap valuesOf (c .before .enum-told2 .given .1)))
+returns-6 c = let e = none (c .before) in (ap refuse (c .refusal2 .ensures) ∙ sym (not-cell _ _ _ _ e), args-are _ e)
 
 pub test-cell-spec : {M : Type 1} → statement M
 test-cell-spec =
     tie.close
     (tie.spec
-    shape-of-requires
-    enum-known-number
-    cast-n
-    refusal-requires
+    cast-t10
     returns
-    add-t13
+    refusal-requires
     returns-2
-    enum-known-args
-    refusal-requires-2
-    enum-told
-    enum-told-2
-    refusal-requires-3
+    add-t15
     returns-3
+    refusal-requires-2
     returns-4
     returns-5
-    returns-6
-    returns-7)
+    returns-6)
