@@ -4,10 +4,9 @@ use mathlib.Core.Path.{_≡_, refl, ap, _∙_, sym}
 use mathlib.Core.List.{List, [], _∷_, _++_}
 use Prim.Native.Nat.{ℕ, zero, suc, _+_, _-_, _<_, _≤_}
 use native.Mathlib.Numerals.{add-one}
-use native.Mathlib.Nat.{suc-add, zero-add, add-assoc}
 use native.Mathlib.Omega.{arith}
 use lib.ListN.{length, getD, drop, drop-of-length-le}
-use lib.Seq.{drop-cons, drop-drop, drop-nil}
+use lib.Seq.{drop-cons}
 use Rattle.cell.specs.Cell.{arity}
 use Rattle.term.specs.declared.End.{End}
 use Rattle.term.specs.declared.End.the-variants.{At, Short}
@@ -31,47 +30,6 @@ ends-more xs i zero p h l = absurd (omega arith)
 ends-more xs i (suc k) p h l =
     let e : suc k - 1 + arity (getD xs i 0) ≡ arity (getD xs i 0) + k = omega arith in
     rw (e, add-one i, drop-cons xs i 0 h)
-
--- `At` and `Short` differ
-pub apart : {A : Type 0} {e : ℕ} → At e ≡ Short → A
-apart h = absurd (let z : _≡_ {A = ℕ} 0 1 = cc in omega arith)
-
--- an end is not before the place where the run starts
-pub not-before : (xs : List ℕ) (k p e : ℕ) → ends xs k p ≡ At e → p ≤ e
-unfolding ends
-not-before [] zero p e h = let q : p ≡ e = cc in omega arith
-not-before [] (suc k) p e h = apart (sym h)
-not-before (c ∷ xs) zero p e h = let q : p ≡ e = cc in omega arith
-not-before (c ∷ xs) (suc k) p e h = omega (arith, not-before xs (arity c + k) (p + 1) e h)
-
--- j terms and then k: where the j have no end, neither have all
-pub both-short : (xs : List ℕ) (j k p : ℕ) → ends xs j p ≡ Short → ends xs (j + k) p ≡ Short
-unfolding ends
-both-short [] zero k p h = apart h
-both-short [] (suc j) k p h = rw suc-add
-both-short (c ∷ xs) zero k p h = apart h
-both-short (c ∷ xs) (suc j) k p h = rw (suc-add, ← add-assoc) (both-short xs (arity c + j) k (p + 1) h)
-
--- and where they end at e, the k are looked for from there
-pub both : (xs : List ℕ) (j k p e : ℕ) → ends xs j p ≡ At e → ends xs (j + k) p ≡ ends (drop (e - p) xs) k e
-unfolding ends
-both [] zero k p e h = let q : p ≡ e = cc in rw (q, zero-add, drop-nil)
-both [] (suc j) k p e h = apart (sym h)
-both (c ∷ xs) zero k p e h =
-    let q : p ≡ e = cc in
-    let z : e - e ≡ 0 = omega arith in
-    rw (q, zero-add, z)
-both (c ∷ xs) (suc j) k p e h =
-    let l : p + 1 ≤ e = not-before xs (arity c + j) (p + 1) e h in
-    let q : e - p ≡ suc (e - (p + 1)) = omega arith in
-    rw (suc-add, ← add-assoc, q) (both xs (arity c + j) k (p + 1) e h)
-
--- the same of the part of a list from i on
-pub both-at : (xs : List ℕ) (i j k e : ℕ) → ends (drop i xs) j i ≡ At e → ends (drop i xs) (j + k) i ≡ ends (drop e xs) k e
-both-at xs i j k e h =
-    let l : i ≤ e = not-before (drop i xs) j i e h in
-    let q : i + (e - i) ≡ e = omega arith in
-    both (drop i xs) j k i e h ∙ rw (drop-drop, q)
 
 -- k terms at the front of a list, or none
 data Found (ys : List ℕ) (k p : ℕ) : End → Type 0 where
@@ -128,9 +86,6 @@ ends-only {xs} {p} (short n) = go (find (drop p xs) 1 p)
     go (found {t} rest u e) = absurd (n t rest u e)
     go (lost m) = refl
 
--- both, as the code uses them: an answer that is given, and one that is computed
-pub ends-is : {xs : List ℕ} {p : ℕ} {r s : End} → Ends xs p r → r ≡ s → ends (drop p xs) 1 p ≡ s
-ends-is a e = sym (ends-only a) ∙ e
-
+-- so an answer that is computed is where the term ends
 pub ends-meant : (xs : List ℕ) (p : ℕ) {r : End} → r ≡ ends (drop p xs) 1 p → Ends xs p r
 ends-meant xs p e = rw e (ends-right xs p)

@@ -27,7 +27,7 @@ cast-t10 : tie.Need-cast-t10
 cast-t10 c = search needs
 
 returns : tie.Need-returns
-returns c = (sym (a-name _ _ _ _ (name c)), args-are _ (name c))
+returns c = (sym (a-name _ _ _ _ (name c)), omega (arith, args-are _ (name c)))
 
 refusal-requires : tie.Need-refusal-requires
 refusal-requires c κs = search needs
