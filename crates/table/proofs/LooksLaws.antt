@@ -81,13 +81,14 @@ when-both : {A : Type 0} (b : Bool) (f : Refused) {r s : Read A} → (b ≡ fals
 when-both true f e = refl
 when-both false f e = e refl
 
-not-full : (row : Bool) (used n : ℕ) → (row && leb 32 used) ≡ false → (row ≡ false → used + suc n ≤ 32) → used < 32
-not-full true used n e l = leb-false 32 used e
-not-full false used n e l = omega (arith, l refl)
+-- one more cell may be looked at, or none: a row has room for 32, a goal has no more than that
+room : (row : Bool) (used n : ℕ) → (row && leb 32 used) ≡ false → (row ≡ false → used + suc n ≤ 32) → used < 32
+room true used n e l = leb-false 32 used e
+room false used n e l = omega (arith, l refl)
 
-full : (row : Bool) (used : ℕ) → 32 ≤ used → row ≢ false → (row && leb 32 used) ≡ true
-full true used h n = le-leb 32 used h
-full false used h n = absurd (n refl)
+no-room : (row : Bool) (used : ℕ) → 32 ≤ used → row ≢ false → (row && leb 32 used) ≡ true
+no-room true used h n = le-leb 32 used h
+no-room false used h n = absurd (n refl)
 
 -- Of terms that are more than the cells left, in a row the cells up to its 32nd, it does not matter how many they are.
 too-many : (row : Bool) (xs : List ℕ) (a b used vars p : ℕ) → used ≤ 32 → 32 < used + a → 32 < used + b → (row ≡ false → used + length xs ≤ 32)
@@ -100,7 +101,7 @@ too-many row (c ∷ xs) zero b used vars p u h k l = absurd (omega arith)
 too-many row (c ∷ xs) (suc a) zero used vars p u h k l = absurd (omega arith)
 too-many row (c ∷ xs) (suc a) (suc b) used vars p u h k l =
     when-both (row && leb 32 used) (bad row reason.Long p) (λ e.
-    let n : used < 32 = not-full row used (length xs) e l in
+    let n : used < 32 = room row used (length xs) e l in
     ap (λ (r : Read Met). cellTests row (valuesAt c) vars p r)
     (too-many row xs (valuesAt c .args + a) (valuesAt c .args + b) (suc used) (counted (valuesAt c) vars) (suc p) (omega arith) (omega arith) (omega arith)
     (λ q. omega (arith, l q))))
@@ -141,7 +142,7 @@ module _ (row : Bool) (xs : List ℕ) (from : ℕ) (l : row ≡ false → length
     used-up t h =
         stopped row (drop at xs) (to - at) (at - from) vars at (omega arith) (λ (s : 0 < length (drop at xs)).
         let n = h (omega (arith, length-drop at xs)) in
-        full row (at - from) (omega arith) (λ e. omega (arith, l e, length-drop at xs)))
+        no-room row (at - from) (omega arith) (λ e. omega (arith, l e, length-drop at xs)))
 
 module _ (row : Bool) (xs : List ℕ) (from to vars at : ℕ) where
   pub in-the-end : to ≤ at → left row xs from to vars at ≡ read (met at vars)
