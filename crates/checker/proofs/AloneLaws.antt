@@ -3,7 +3,7 @@ use mathlib.Core.Path.{_≡_, refl, sym, ap, _∙_}
 use mathlib.Core.Bool.{Bool, true, false, not}
 use mathlib.Core.Logic.{_≢_}
 use mathlib.Core.List.{List, [], _∷_}
-use Prim.Native.Nat.{ℕ, suc, _+_, _-_, _^_, _≤_, _<_}
+use Prim.Native.Nat.{ℕ, suc, _+_, _-_, _≤_, _<_}
 use native.Mathlib.Numerals.{add-one}
 use native.Mathlib.Omega.{arith}
 use lib.Dec.{eqb}
@@ -11,7 +11,6 @@ use lib.ListN.{length, getD, drop, drop-of-length-le}
 use lib.Seq.{drop-cons}
 use borrow.Author.Tests.{eq-eqb, ne-eqb}
 use Rattle.cell.specs.Cell.{arity}
-use Rattle.cell.proofs.CellLaws.{arity-small}
 use Rattle.term.specs.Terms.{root, close}
 use Rattle.term.proofs.TermsLaws.{terms-long}
 use Rattle.term.proofs.PlaceLaws.{close-length}
@@ -19,7 +18,6 @@ use Rattle.refusal.specs.Refusal.{Refused, told}
 use Rattle.refusal.specs.declared.Reason.the-variants as reason
 use Rattle.refusal.specs.declared.Refusal.{Refusal}
 use Rattle.refusal.specs.Read.{Read, read, refuse, when}
-use Rattle.plan.specs.Named.{spread, may}
 use Rattle.plan.specs.Runs.{Run, run}
 use Rattle.plan.specs.Check.{Seen, seen, bad, Reader, branchesFrom, leafFrom, nodeFrom, stateFrom}
 use Rattle.plan.specs.code.Fits.{Fits}
@@ -29,7 +27,6 @@ use Rattle.plan.proofs.ReadingLaws.{
   after-after,
   node-ends,
   node-open,
-  node-early,
   node-ends-2,
   node-edges,
   node-on,
@@ -40,10 +37,8 @@ use Rattle.plan.proofs.ReadingLaws.{
   state-leaf,
   state-again,
 }
-use Rattle.state.specs.Flags.{flagsIn, mayIn, spreadOf}
 use Rattle.state.specs.Mask.{kept, ClosedAt}
 use Rattle.state.specs.declared.mask.Closed.{Closed}
-use Rattle.state.proofs.FlagsLaws.{may-bits, flags-below, few-below}
 use Rattle.checker.proofs.StateLaws.{fits-below}
 use Rattle.checker.specs.code.Steps.{leafAfter, LeafDone, aloneFrom, AloneDone}
 use Rattle.checker.specs.declared.check.Step.{Step}
@@ -74,138 +69,100 @@ after-leaf count rows at (c ∷ xs) = go (eqb c (length rows))
     go false = refl
 
 -- A single branch: the state below it, and one branch more.
-one-branch : (below : Reader) (fs : List Bool) (j k : ℕ) (g : Run) (p : List ℕ) (at : ℕ) → at < length p → getD p at 0 ≡ g .cell
-    → branchesFrom below fs j k (g ∷ []) at (drop at p)
-    ≡ after 1 (below (spread j (arity (g .cell)) fs) (arity (g .cell) + k) (g .rows) (at + 1) (drop (at + 1) p))
-one-branch below fs j k g p at h e = go (below (spread j (arity (g .cell)) fs) (arity (g .cell) + k) (g .rows) (at + 1) (drop (at + 1) p)) refl
+one-branch : (below : Reader) (j k : ℕ) (g : Run) (p : List ℕ) (at : ℕ) → at < length p → getD p at 0 ≡ g .cell
+    → branchesFrom below [] j k (g ∷ []) at (drop at p) ≡ after 1 (below [] (arity (g .cell) + k) (g .rows) (at + 1) (drop (at + 1) p))
+one-branch below j k g p at h e = go (below [] (arity (g .cell) + k) (g .rows) (at + 1) (drop (at + 1) p)) refl
   where
-    go : (r : Read Seen) → below (spread j (arity (g .cell)) fs) (arity (g .cell) + k) (g .rows) (at + 1) (drop (at + 1) p) ≡ r
-        → branchesFrom below fs j k (g ∷ []) at (drop at p) ≡ after 1 r
+    go : (r : Read Seen) → below [] (arity (g .cell) + k) (g .rows) (at + 1) (drop (at + 1) p) ≡ r
+        → branchesFrom below [] j k (g ∷ []) at (drop at p) ≡ after 1 r
     go (read s) q =
         let n : s .branches + 1 + 0 ≡ 1 + s .branches = omega arith in
-        branches-on below fs j k g [] p at s h e q ∙ ap (λ (b : ℕ). read (seen b (s .next) (s .rest))) n
-    go (refuse f) q = branches-refused below fs j k g [] p at f h e q
+        branches-on below [] j k g [] p at s h e q ∙ ap (λ (b : ℕ). read (seen b (s .next) (s .rest))) n
+    go (refuse f) q = branches-refused below [] j k g [] p at f h e q
 
 -- The chain. Some of the row's cells are looked at: what is left of the work, from place on, is all of it, but for the branches counted so far.
--- The bits of `flags` are the flags of the places that are open now
-pub record Chain (t : List ℕ) (start mask : ℕ) (p : List ℕ) (named k at left flags owed place count : ℕ) : Type 0 where
+pub record Chain (t : List ℕ) (start mask : ℕ) (p : List ℕ) (k at left owed place count : ℕ) : Type 0 where
   pub fits : Fits 32 owed (kept left (drop start t))
-  pub bits : flags < 2 ^ owed
   pub few : at + count ≤ place
-  pub says : after count (aloneFrom flags owed (kept left (drop start t)) p place) ≡ aloneFrom named k (kept mask (drop start t)) p at
+  pub says : after count (aloneFrom owed (kept left (drop start t)) p place) ≡ aloneFrom k (kept mask (drop start t)) p at
 
-pub chain-start : {t : List ℕ} {start mask : ℕ} {p : List ℕ} {named k at : ℕ} → Fits 32 k (kept mask (drop start t)) → named < 2 ^ k
-    → Chain t start mask p named k at mask named k at 0
-chain-start {t} {start} {mask} {p} {named} {k} {at} f b = record {
+pub chain-start : {t : List ℕ} {start mask : ℕ} {p : List ℕ} {k at : ℕ} → Fits 32 k (kept mask (drop start t))
+    → Chain t start mask p k at mask k at 0
+chain-start {t} {start} {mask} {p} {k} {at} f = record {
   fits = f;
-  bits = b;
   few = omega arith;
-  says = after-none (aloneFrom named k (kept mask (drop start t)) p at);
+  says = after-none (aloneFrom k (kept mask (drop start t)) p at);
 }
 
-module _ {t : List ℕ} {start mask : ℕ} {p : List ℕ} {named k at left flags owed place count : ℕ}
-    (g : Chain t start mask p named k at left flags owed place count) where
+module _ {t : List ℕ} {start mask : ℕ} {p : List ℕ} {k at left owed place count : ℕ} (g : Chain t start mask p k at left owed place count) where
   abbrev row : List ℕ
   row = kept left (drop start t)
 
-  abbrev fs : List Bool
-  fs = flagsIn owed flags
-
   -- no place is open: the leaf
-  pub chain-leaf : {r : Step} → owed ≡ 0 → LeafDone p 1 count place r → AloneDone t start mask p named k at r
+  pub chain-leaf : {r : Step} → owed ≡ 0 → LeafDone p 1 count place r → AloneDone t start mask p k at r
   chain-leaf e d =
-      let leaf = state-leaf 32 fs owed (row ∷ []) place (drop place p) e in
+      let leaf = state-leaf 32 [] owed (row ∷ []) place (drop place p) e in
       record {
         says = sym (g .says) ∙ ap (after count) leaf ∙ after-leaf count (row ∷ []) place (drop place p) ∙ d .says;
         inside = d .inside at (g .few);
       }
 
-  -- a place is open: ENDS, OPEN, EARLY, ENDS at the second cell, EDGES where that is not 1
+  -- a place is open: ENDS, OPEN, ENDS at the second cell, EDGES where that is not 1
   pub few-owed : owed ≤ 32
   few-owed = omega (arith, terms-long (g .fits .0), g .fits .1)
 
-  refused : {f : Refusal} (x : Refused) → aloneFrom flags owed row p place ≡ refuse x → told f ≡ x → AloneDone t start mask p named k at (step.Refused f)
+  refused : {f : Refusal} (x : Refused) → aloneFrom owed row p place ≡ refuse x → told f ≡ x → AloneDone t start mask p k at (step.Refused f)
   refused x e q = record { says = sym (g .says) ∙ rw (e, q); inside = tt }
 
   module _ (l : 0 < owed) where
-    abbrev as-node : aloneFrom flags owed row p place ≡ nodeFrom (stateFrom 32) fs (owed - 1) (row ∷ []) place (drop place p)
-    as-node = state-again 32 fs owed (row ∷ []) (g .fits, tt) (omega arith) l place (drop place p)
+    abbrev as-node : aloneFrom owed row p place ≡ nodeFrom (stateFrom 32) [] (owed - 1) (row ∷ []) place (drop place p)
+    as-node = state-again 32 [] owed (row ∷ []) (g .fits, tt) (omega arith) l place (drop place p)
 
-    pub chain-ends : {f : Refusal} → length p ≤ place → told f ≡ bad reason.Ends place → AloneDone t start mask p named k at (step.Refused f)
-    chain-ends h = refused (bad reason.Ends place) (as-node ∙ node-ends (stateFrom 32) fs (owed - 1) (row ∷ []) p place h)
+    pub chain-ends : {f : Refusal} → length p ≤ place → told f ≡ bad reason.Ends place → AloneDone t start mask p k at (step.Refused f)
+    chain-ends h = refused (bad reason.Ends place) (as-node ∙ node-ends (stateFrom 32) [] (owed - 1) (row ∷ []) p place h)
 
     pub chain-open : {f : Refusal} → place < length p → owed ≤ getD p place 0 → told f ≡ bad reason.Open place
-        → AloneDone t start mask p named k at (step.Refused f)
-    chain-open h i = refused (bad reason.Open place) (as-node ∙ node-open (stateFrom 32) fs (owed - 1) (row ∷ []) p place h (omega arith))
+        → AloneDone t start mask p k at (step.Refused f)
+    chain-open h i = refused (bad reason.Open place) (as-node ∙ node-open (stateFrom 32) [] (owed - 1) (row ∷ []) p place h (omega arith))
 
-    -- whether the place may be chosen, by the code's test
-    tested : getD p place 0 < owed → may fs (getD p place 0) ≡ mayIn flags (getD p place 0)
-    tested i = sym (may-bits owed (getD p place 0) flags i (omega (arith, few-owed)) (g .bits))
-
-    pub chain-early : {f : Refusal} → place < length p → getD p place 0 < owed → mayIn flags (getD p place 0) ≡ false → told f ≡ bad reason.Early place
-        → AloneDone t start mask p named k at (step.Refused f)
-    chain-early h i y = refused (bad reason.Early place) (as-node ∙ node-early (stateFrom 32) fs (owed - 1) (row ∷ []) p place h (omega arith) (tested i ∙ y))
-
-    module _ (i : getD p place 0 < owed) (y : mayIn flags (getD p place 0) ≡ true) where
-      allowed : may fs (getD p place 0) ≡ true
-      allowed = tested i ∙ y
-
+    module _ (i : getD p place 0 < owed) where
       pub chain-ends-2 : {f : Refusal} → place < length p → length p ≤ place + 1 → told f ≡ bad reason.Ends (place + 1)
-          → AloneDone t start mask p named k at (step.Refused f)
-      chain-ends-2 h n = refused (bad reason.Ends (place + 1)) (as-node ∙ node-ends-2 (stateFrom 32) fs (owed - 1) (row ∷ []) p place h n (omega arith) allowed)
+          → AloneDone t start mask p k at (step.Refused f)
+      chain-ends-2 h n = refused (bad reason.Ends (place + 1)) (as-node ∙ node-ends-2 (stateFrom 32) [] (owed - 1) (row ∷ []) p place h n (omega arith) refl)
 
       pub chain-edges : {f : Refusal} → place + 1 < length p → getD p (place + 1) 0 ≢ 1 → told f ≡ bad reason.Edges (place + 1)
-          → AloneDone t start mask p named k at (step.Refused f)
-      chain-edges h n = refused (bad reason.Edges (place + 1)) (as-node ∙ node-edges (stateFrom 32) fs (owed - 1) (row ∷ []) p place h (omega arith) allowed n)
+          → AloneDone t start mask p k at (step.Refused f)
+      chain-edges h n = refused (bad reason.Edges (place + 1)) (as-node ∙ node-edges (stateFrom 32) [] (owed - 1) (row ∷ []) p place h (omega arith) refl n)
 
       -- one branch: ENDS at its cell, LABEL, or on with the row below it
       module _ (h : place + 1 < length p) (n : getD p (place + 1) 0 ≡ 1) where
         abbrev branch : Run
         branch = run (root (getD p place 0) row) (close (getD p place 0) row ∷ [])
 
-        as-branch : aloneFrom flags owed row p place ≡ branchesFrom (stateFrom 32) fs (getD p place 0) (owed - 1) (branch ∷ []) (place + 2) (drop (place + 2) p)
-        as-branch = as-node ∙ node-on (stateFrom 32) fs (owed - 1) (row ∷ []) p place h (omega arith) allowed n
+        as-branch : aloneFrom owed row p place ≡ branchesFrom (stateFrom 32) [] (getD p place 0) (owed - 1) (branch ∷ []) (place + 2) (drop (place + 2) p)
+        as-branch = as-node ∙ node-on (stateFrom 32) [] (owed - 1) (row ∷ []) p place h (omega arith) refl n
 
-        pub chain-ends-3 : {f : Refusal} → length p ≤ place + 2 → told f ≡ bad reason.Ends (place + 2) → AloneDone t start mask p named k at (step.Refused f)
-        chain-ends-3 m = refused (bad reason.Ends (place + 2)) (as-branch ∙ branches-ends (stateFrom 32) fs (getD p place 0) (owed - 1) branch [] p (place + 2) m)
+        pub chain-ends-3 : {f : Refusal} → length p ≤ place + 2 → told f ≡ bad reason.Ends (place + 2) → AloneDone t start mask p k at (step.Refused f)
+        chain-ends-3 m = refused (bad reason.Ends (place + 2)) (as-branch ∙ branches-ends (stateFrom 32) [] (getD p place 0) (owed - 1) branch [] p (place + 2) m)
 
         module _ {c : Closed} (closed : ClosedAt (getD p place 0) left (drop start t) c) (m : place + 2 < length p) where
           pub chain-label : {f : Refusal} → getD p (place + 2) 0 ≢ c .cell → told f ≡ bad reason.Label (place + 2)
-              → AloneDone t start mask p named k at (step.Refused f)
+              → AloneDone t start mask p k at (step.Refused f)
           chain-label d =
               refused (bad reason.Label (place + 2))
-              (as-branch ∙ branches-label (stateFrom 32) fs (getD p place 0) (owed - 1) branch [] p (place + 2) m (λ e. d (e ∙ sym (closed .cell))))
+              (as-branch ∙ branches-label (stateFrom 32) [] (getD p place 0) (owed - 1) branch [] p (place + 2) m (λ e. d (e ∙ sym (closed .cell))))
 
           -- the row has one cell less
           pub chain-less : length (kept (c .mask) (drop start t)) < length row
           chain-less = omega (arith, ap length (closed .list), close-length (getD p place 0) (g .fits .0) i)
 
-          -- and its flags are those below the branch
-          abbrev down : ℕ
-          down = spreadOf flags (getD p place 0) (arity (branch .cell))
-
-          more : owed ≡ suc (owed - 1)
-          more = omega arith
-
-          few-flags : flags < 2 ^ suc (owed - 1)
-          few-flags = rw (← more) (g .bits)
-
-          down-flags : flagsIn (arity (branch .cell) + (owed - 1)) down ≡ spread (getD p place 0) (arity (branch .cell)) fs
-          down-flags =
-              rw (← more) at
-              (flags-below flags (getD p place 0) (arity (branch .cell)) (owed - 1) few-flags (omega (arith, few-owed)) (omega arith) (omega (arith, arity-small (branch .cell))))
-
-          pub chain-on : getD p (place + 2) 0 ≡ c .cell
-              → Chain t start mask p named k at (c .mask) (spreadOf flags (getD p place 0) (arity (c .cell))) (arity (c .cell) + (owed - 1)) (place + 3) (count + 1)
+          pub chain-on : getD p (place + 2) 0 ≡ c .cell → Chain t start mask p k at (c .mask) (arity (c .cell) + (owed - 1)) (place + 3) (count + 1)
           chain-on d =
               let e : place + 2 + 1 ≡ place + 3 = omega arith in
-              let b = as-branch ∙ (rw e at (one-branch (stateFrom 32) fs (getD p place 0) (owed - 1) branch p (place + 2) m (d ∙ closed .cell))) in
-              let below = aloneFrom down (arity (branch .cell) + (owed - 1)) (close (getD p place 0) row) p (place + 3) in
-              let one : after 1 below ≡ aloneFrom flags owed row p place = rw down-flags (sym b) in
+              let b = as-branch ∙ (rw e at (one-branch (stateFrom 32) (getD p place 0) (owed - 1) branch p (place + 2) m (d ∙ closed .cell))) in
+              let below = aloneFrom (arity (branch .cell) + (owed - 1)) (close (getD p place 0) row) p (place + 3) in
               record {
                 fits = rw (closed .list, closed .cell) (fits-below (getD p place 0) owed i row (g .fits));
-                bits = rw (closed .cell)
-                    (few-below flags (getD p place 0) (arity (branch .cell)) (owed - 1) few-flags (omega (arith, few-owed)) (omega arith) (omega (arith, arity-small (branch .cell))));
                 few = omega (arith, g .few);
-                says = rw (closed .list, closed .cell) (sym (after-after count 1 below) ∙ ap (after count) one ∙ g .says);
+                says = rw (closed .list, closed .cell) (sym (after-after count 1 below) ∙ ap (after count) (sym b) ∙ g .says);
               }

@@ -1,11 +1,12 @@
 -- The entries: from a table that is read to its first state, and from the first state's answer to the plan's.
 use mathlib.Core.Path.{_≡_, refl, ap, _∙_}
 use mathlib.Core.Bool.{Bool, true, false}
-use mathlib.Core.List.{List, []}
+use mathlib.Core.List.{List}
 use Prim.Native.Nat.{ℕ, _^_, _≤_, _<_}
 use native.Mathlib.Omega.{arith}
 use lib.Dec.{ltb}
 use lib.ListN.{length, drop-of-length-le}
+use lib.Pow.{pow-mono}
 use borrow.Author.Tests.{lt-ltb, le-ltb}
 use Rattle.refusal.specs.Refusal.{Refused, refused, told, Answer, answered, turned}
 use Rattle.refusal.specs.declared.Input.the-variants as input
@@ -15,77 +16,73 @@ use Rattle.refusal.specs.Read.{Read, read, refuse, when, andThen}
 use Rattle.table.specs.Table.{Table, tableOf}
 use Rattle.table.proofs.Accepted.{is-table}
 use Rattle.plan.specs.Named.{flagsOf, anyPast}
-use Rattle.plan.specs.Check.{bad, stateFrom, planWith, planOf, columnsFor, planUnder}
+use Rattle.plan.specs.Check.{bad, stateFrom, planWith, columnsFor, planUnder}
 use Rattle.plan.proofs.CheckLaws.{rows-fit, plan-size, plan-refused, plan-extra}
-use Rattle.plan.proofs.ColumnsLaws.{plain-under}
 use Rattle.state.specs.Flags.{flagsIn, maskFrom, pastFrom}
 use Rattle.state.specs.Mask.{OpenRows}
 use Rattle.state.specs.code.First.{TableRows}
 use Rattle.state.proofs.FirstLaws.{is, few-rows, rows-open}
 use Rattle.state.proofs.FlagsLaws.{mask-flags, past-any}
 use Rattle.checker.specs.Checked.{planSays}
-use Rattle.checker.specs.code.Steps.{maskedPlan, namedPlan, saidBy, Ready, Done}
+use Rattle.checker.specs.code.Steps.{namedPlan, saidBy, Ready, Done}
 use Rattle.checker.specs.declared.check.Step.{Step}
 use Rattle.checker.specs.declared.check.Step.the-variants as step
 
 -- The table is turned away.
-pub table-refused : (mask past : ℕ) (t p : List ℕ) (f : Refused) → tableOf t ≡ refuse f → turned f ≡ planSays (namedPlan mask past t p)
-table-refused mask past t p f e = rw e
+pub table-refused : (t columns p : List ℕ) (f : Refused) → tableOf t ≡ refuse f → turned f ≡ planSays (planUnder t columns p)
+table-refused t columns p f e = rw e
 
--- The table is read: COLUMN, or on with the plan.
-module _ (mask past : ℕ) {t ss : List ℕ} {w n : ℕ} (k : TableRows t ss w n) (p : List ℕ) where
-  pub column-refused : {x : Refused} → w < past → x ≡ refused reason.Column input.Columns 0 → turned x ≡ planSays (namedPlan mask past t p)
-  column-refused h q = rw (k .here, lt-ltb (k .table .width) past (omega (arith, k .width)), q)
+module _ {t ss : List ℕ} {w n : ℕ} (k : TableRows t ss w n) (mask past : ℕ) (p : List ℕ) where
+  -- COLUMN
+  pub entry-column : {x : Refused} → w < past → x ≡ refused reason.Column input.Columns 0 → turned x ≡ planSays (namedPlan mask past t p)
+  entry-column h q = rw (k .here, lt-ltb (k .table .width) past (omega (arith, k .width)), q)
 
-  pub no-column-refused : {x : Answer} → past ≤ w → x ≡ planSays (maskedPlan mask t p) → x ≡ planSays (namedPlan mask past t p)
-  no-column-refused h q = q ∙ rw (k .here, le-ltb (k .table .width) past (omega (arith, k .width)))
+  module _ (below : past ≤ w) where
+    abbrev fs : List Bool
+    fs = flagsIn (k .table .width) mask
 
-module _ {t ss : List ℕ} {w n : ℕ} (k : TableRows t ss w n) (named : ℕ) (p : List ℕ) where
-  abbrev fs : List Bool
-  fs = flagsIn (k .table .width) named
+    -- what is said of the plan, the table being read and the columns there
+    says-plan : (r : Read ℕ) → planWith fs (k .table) p ≡ r → planSays r ≡ planSays (namedPlan mask past t p)
+    says-plan r e = rw (k .here, le-ltb (k .table .width) past (omega (arith, k .width)), e)
 
-  -- what is said of the plan, the table being read
-  says-plan : (r : Read ℕ) → planWith fs (k .table) p ≡ r → planSays r ≡ planSays (maskedPlan named t p)
-  says-plan r e = rw (k .here, e)
+    turned-plan : (x : Refused) {y : Refused} → planWith fs (k .table) p ≡ refuse x → y ≡ x → turned y ≡ planSays (namedPlan mask past t p)
+    turned-plan x e q = ap turned q ∙ says-plan (refuse x) e
 
-  turned-plan : (x : Refused) {y : Refused} → planWith fs (k .table) p ≡ refuse x → y ≡ x → turned y ≡ planSays (maskedPlan named t p)
-  turned-plan x e q = ap turned q ∙ says-plan (refuse x) e
+    -- SIZE
+    pub entry-size : {x : Refused} → 6082 < length p → x ≡ bad reason.Size 0 → turned x ≡ planSays (namedPlan mask past t p)
+    entry-size h = turned-plan (bad reason.Size 0) (plan-size fs (k .table) p h)
 
-  -- SIZE
-  pub entry-size : {x : Refused} → 6082 < length p → x ≡ bad reason.Size 0 → turned x ≡ planSays (maskedPlan named t p)
-  entry-size h = turned-plan (bad reason.Size 0) (plan-size fs (k .table) p h)
+    module _ {ms : List ℕ} (o : OpenRows ss n (length t) ms) {hs : List ℕ} where
+      -- the first state
+      pub ready-first : mask < 2 ^ past → length hs ≡ 64 → Ready t ss ms hs p 0 n mask w 0
+      ready-first b a = record {
+        room = record { masks = o .size; column = a; here = omega arith; few = few-rows k .1; some = omega arith };
+        row = few-rows k .0;
+        rows = rw (k .width, rows-open k o) (rows-fit (k .table .width) (k .table .rows) (is k .each));
+        flags = omega (arith, pow-mono {i = past} below);
+      }
 
-  module _ {ms : List ℕ} (o : OpenRows ss n (length t) ms) {hs : List ℕ} where
-    -- the first state
-    pub ready-first : named < 2 ^ w → length hs ≡ 64 → Ready t ss ms hs p 0 n named w 0
-    ready-first b a = record {
-      room = record { masks = o .size; column = a; here = omega arith; few = few-rows k .1; some = omega arith };
-      row = few-rows k .0;
-      rows = rw (k .width, rows-open k o) (rows-fit (k .table .width) (k .table .rows) (is k .each));
-      flags = b;
-    }
+      module _ (h : length p ≤ 6082) {ms′ hs′ : List ℕ} {r : Step} (d : Done t ss ms hs ms′ hs′ p 0 n mask w 0 r) where
+        says : stateFrom 32 fs (k .table .width) (k .table .rows) 0 p ≡ saidBy p r
+        says = rw (k .width, rows-open k o) at (d .says)
 
-    module _ (h : length p ≤ 6082) {ms′ hs′ : List ℕ} {r : Step} (d : Done t ss ms hs ms′ hs′ p 0 n named w 0 r) where
-      says : stateFrom 32 fs (k .table .width) (k .table .rows) 0 p ≡ saidBy p r
-      says = rw (k .width, rows-open k o) at (d .says)
+        -- what it is turned away for
+        pub entry-refused : {f : Refusal} → r ≡ step.Refused f → turned (told f) ≡ planSays (namedPlan mask past t p)
+        entry-refused {f} e = says-plan (refuse (told f)) (plan-refused fs (k .table) p (told f) h (says ∙ ap (saidBy p) e))
 
-      -- what it is turned away for
-      pub entry-refused : {f : Refusal} → r ≡ step.Refused f → turned (told f) ≡ planSays (maskedPlan named t p)
-      entry-refused {f} e = says-plan (refuse (told f)) (plan-refused fs (k .table) p (told f) h (says ∙ ap (saidBy p) e))
+        -- EXTRA
+        pub entry-extra : {x : Refused} {b e : ℕ} → r ≡ step.Seen b e → e < length p → x ≡ bad reason.Extra e → turned x ≡ planSays (namedPlan mask past t p)
+        entry-extra {b = b} {e} q l = turned-plan (bad reason.Extra e) (plan-extra fs (k .table) p b e h (says ∙ ap (saidBy p) q) l)
 
-      -- EXTRA
-      pub entry-extra : {x : Refused} {b e : ℕ} → r ≡ step.Seen b e → e < length p → x ≡ bad reason.Extra e → turned x ≡ planSays (maskedPlan named t p)
-      entry-extra {b = b} {e} q l = turned-plan (bad reason.Extra e) (plan-extra fs (k .table) p b e h (says ∙ ap (saidBy p) q) l)
-
-      -- the plan is accepted
-      pub entry-accepted : {b e : ℕ} → r ≡ step.Seen b e → length p ≤ e → answered b 0 ≡ planSays (maskedPlan named t p)
-      unfolding planWith
-      entry-accepted {b} {e} q l =
-          let s = says ∙ ap (saidBy p) q in
-          says-plan (read b) (rw (le-ltb 6082 (length p) h, s, drop-of-length-le p l))
+        -- the plan is accepted
+        pub entry-accepted : {b e : ℕ} → r ≡ step.Seen b e → length p ≤ e → answered b 0 ≡ planSays (namedPlan mask past t p)
+        unfolding planWith
+        entry-accepted {b} {e} q l =
+            let s = says ∙ ap (saidBy p) q in
+            says-plan (read b) (rw (le-ltb 6082 (length p) h, s, drop-of-length-le p l))
 
 -- A LIST'S mask and the largest of its numbers are the list, for every table that is read
-pub named-under : (t columns p : List ℕ) → namedPlan (maskFrom 0 columns) (pastFrom 0 columns) t p ≡ planUnder t columns p
+named-under : (t columns p : List ℕ) → namedPlan (maskFrom 0 columns) (pastFrom 0 columns) t p ≡ planUnder t columns p
 named-under t columns p = go (tableOf t) refl
   where
     go : (r : Read Table) → tableOf t ≡ r
@@ -101,7 +98,6 @@ named-under t columns p = go (tableOf t) refl
         then-when false named = refl
     go (refuse f) e = refl
 
--- with no column named it is any plan's
-pub named-plain : (t p : List ℕ) → namedPlan 0 0 t p ≡ planOf t p
-unfolding maskFrom pastFrom
-named-plain t p = named-under t [] p ∙ plain-under t p
+pub said-under : {x : Answer} (mask past : ℕ) (t columns p : List ℕ) → mask ≡ maskFrom 0 columns → past ≡ pastFrom 0 columns
+    → x ≡ planSays (namedPlan mask past t p) → x ≡ planSays (planUnder t columns p)
+said-under mask past t columns p m n e = e ∙ rw (m, n) (ap planSays (named-under t columns p))

@@ -16,6 +16,8 @@ use Rattle.refusal.specs.declared.Reason.the-variants as reason
 use Rattle.refusal.specs.Read.{refuse}
 use Rattle.refusal.specs.declared.Refusal.{Refusal}
 use Rattle.plan.specs.Named.{may}
+use Rattle.plan.proofs.NamedLaws.{Free, no-place}
+use Rattle.plan.proofs.ColumnsLaws.{state-plain}
 use Rattle.plan.specs.Runs.{Run, runs}
 use Rattle.plan.specs.Check.{bad, nodeFrom, stateFrom}
 use Rattle.plan.specs.code.Fits.{Fits}
@@ -27,7 +29,7 @@ use Rattle.checker.specs.declared.check.Step.{Step}
 use Rattle.checker.specs.declared.check.Step.the-variants as step
 use Rattle.plan.proofs.RunsLaws.{group-all, fits-close}
 use Rattle.plan.proofs.ReadingLaws.{node-ends, node-open, node-early, node-ends-2, node-edges, node-on, state-leaf, state-again}
-use Rattle.state.proofs.FlagsLaws.{may-bits}
+use Rattle.state.proofs.FlagsLaws.{may-bits, zero-flags}
 use Rattle.state.proofs.RowsLaws.{Closes, rows-none, rows-first, rows-length, run-number, runs-closed, same-self, same-then, closes-of}
 
 -- How deep the check can still go: the cells of the longest row.
@@ -85,8 +87,10 @@ module _ {t ss ms hs p : List ℕ} {first last named k at : ℕ} (w : Ready t ss
     pub fits-alone : Fits 32 k (rowAt t ss ms first)
     fits-alone = (rw one-row at (w .rows)) .0
 
-    pub done-alone : {r : Step} → AloneDone t (getD ss first 0) (getD ms first 0) p named k at r → Done t ss ms hs ms hs p first last named k at r
-    done-alone d = untouched (rw one-row (d .says)) (d .inside)
+    pub done-alone : {r : Step} → named ≡ 0 → AloneDone t (getD ss first 0) (getD ms first 0) p k at r → Done t ss ms hs ms hs p first last named k at r
+    done-alone e d =
+        let n : Free fs k = rw e (no-place (zero-flags k)) in
+        untouched (state-plain 32 fs k n rows at (drop at p) ∙ rw one-row (d .says)) (d .inside)
 
   -- a leaf
   pub done-leaf : {r : Step} → k ≡ 0 → LeafDone p (last - first) 0 at r → Done t ss ms hs ms hs p first last named k at r
@@ -120,29 +124,29 @@ module _ {t ss ms hs p : List ℕ} {first last named k at : ℕ} (w : Ready t ss
       allowed : may fs (getD p at 0) ≡ true
       allowed = tested i ∙ m
 
-      pub done-ends-2 : {f : Refusal} → at < length p → length p ≤ at + 1 → told f ≡ bad reason.Ends (at + 1)
-          → Done t ss ms hs ms hs p first last named k at (step.Refused f)
-      done-ends-2 h n = refused (bad reason.Ends (at + 1)) (node-ends-2 (stateFrom 32) fs (k - 1) rows p at h n (omega arith) allowed)
-
-      module _ {ms₁ hs₁ : List ℕ} (h : at + 1 < length p) (done : ClosedRows t ss ms hs ms₁ hs₁ (getD p at 0) first (min last 64)) where
+      module _ {ms₁ hs₁ : List ℕ} (done : ClosedRows t ss ms hs ms₁ hs₁ (getD p at 0) first (min last 64)) where
         abbrev c : Closes t ss ms hs ms₁ hs₁ (getD p at 0) first last
         c = closes-of t ss ms hs (getD p at 0) (w .room .some) (w .room .few) (w .room .masks) (w .room .column) done
+
+        -- the rows are closed, and it is turned away
+        closed-refused : {f : Refusal} (x : Refused) → nodeFrom (stateFrom 32) fs (k - 1) rows at (drop at p) ≡ refuse x → told f ≡ x
+            → Done t ss ms hs ms₁ hs₁ p first last named k at (step.Refused f)
+        closed-refused x e q = record { says = as-node ∙ e ∙ rw q; inside = tt; masks = c .masks; column = c .column }
+
+        pub done-ends-2 : {f : Refusal} → at < length p → length p ≤ at + 1 → told f ≡ bad reason.Ends (at + 1)
+            → Done t ss ms hs ms₁ hs₁ p first last named k at (step.Refused f)
+        done-ends-2 h n = closed-refused (bad reason.Ends (at + 1)) (node-ends-2 (stateFrom 32) fs (k - 1) rows p at h n (omega arith) allowed)
 
         number : (n : ℕ) → n ≡ runCount (columnIn hs₁ first last) → n ≡ length (runs (getD p at 0) rows)
         number n e =
             let z : last ≤ length hs₁ = omega (arith, c .column .size, w .room .column, w .room .few) in
             e ∙ sym (run-number t ss ms₁ hs₁ first last z) ∙ ap length (sym (runs-closed c))
 
-        pub done-edges : {f : Refusal} (n : ℕ) → n ≡ runCount (columnIn hs₁ first last) → getD p (at + 1) 0 ≢ n → told f ≡ bad reason.Edges (at + 1)
-            → Done t ss ms hs ms₁ hs₁ p first last named k at (step.Refused f)
-        done-edges n e d q = record {
-          says = as-node
-              ∙ node-edges (stateFrom 32) fs (k - 1) rows p at h (omega arith) allowed (λ (x : getD p (at + 1) 0 ≡ length (runs (getD p at 0) rows)). d (x ∙ sym (number n e)))
-              ∙ rw q;
-          inside = tt;
-          masks = c .masks;
-          column = c .column;
-        }
+        pub done-edges : {f : Refusal} (n : ℕ) → at + 1 < length p → n ≡ runCount (columnIn hs₁ first last) → getD p (at + 1) 0 ≢ n
+            → told f ≡ bad reason.Edges (at + 1) → Done t ss ms hs ms₁ hs₁ p first last named k at (step.Refused f)
+        done-edges n h e d =
+            closed-refused (bad reason.Edges (at + 1))
+            (node-edges (stateFrom 32) fs (k - 1) rows p at h (omega arith) allowed (λ (x : getD p (at + 1) 0 ≡ length (runs (getD p at 0) rows)). d (x ∙ sym (number n e))))
 
         -- the rows are shorter, and fit, below each branch
         pub shorter : longest (rowsIn t ss ms₁ first last) < longest rows
@@ -151,8 +155,8 @@ module _ {t ss ms hs p : List ℕ} {first last named k at : ℕ} (w : Ready t ss
         more : k ≡ suc (k - 1)
         more = omega arith
 
-        pub ready-branches : ReadyIn t ss ms₁ hs₁ p first last named (getD p at 0) (k - 1) (at + 2)
-        ready-branches = record {
+        pub ready-branches : at + 1 < length p → ReadyIn t ss ms₁ hs₁ p first last named (getD p at 0) (k - 1) (at + 2)
+        ready-branches h = record {
           room = record {
             masks = c .masks .size ∙ w .room .masks;
             column = c .column .size ∙ w .room .column;
@@ -171,9 +175,9 @@ module _ {t ss ms hs p : List ℕ} {first last named k at : ℕ} (w : Ready t ss
                 group-all (root (getD p at 0)) (close (getD p at 0)) (Fits 32 k) (λ (c : ℕ). Fits 32 (arity c + (k - 1)))
                 (fits-below (getD p at 0) k i) rows (w .rows)
 
-        pub done-node : {ms₂ hs₂ : List ℕ} {r : Step} (n : ℕ) → n ≡ runCount (columnIn hs₁ first last) → getD p (at + 1) 0 ≡ n
+        pub done-node : {ms₂ hs₂ : List ℕ} {r : Step} (n : ℕ) → at + 1 < length p → n ≡ runCount (columnIn hs₁ first last) → getD p (at + 1) 0 ≡ n
             → DoneIn t ss ms₁ hs₁ ms₂ hs₂ p first last named (getD p at 0) (k - 1) (at + 2) r → Done t ss ms hs ms₂ hs₂ p first last named k at r
-        done-node {r = r} n e d b = record {
+        done-node {r = r} n h e d b = record {
           says = as-node ∙ node-on (stateFrom 32) fs (k - 1) rows p at h (omega arith) allowed (d ∙ number n e) ∙ rw (runs-closed c) (rw (← more) at (b .says));
           inside = up r (b .inside);
           masks = same-then last (c .masks) (b .masks);

@@ -1,7 +1,6 @@
 // The check of a plan, state by state (01, "Plans" and the plan's rows of "What is turned away").
 ghost use mathlib.Core.Path.{_≡_};
 ghost use Rattle.refusal.specs.Refusal.{told};
-ghost use Prim.Native.Nat.{_<_, _^_};
 ghost use lib.ListN.{drop};
 ghost use Rattle.plan.specs.Check.{bad};
 ghost use Rattle.plan.specs.code.Fits.{Fits};
@@ -47,23 +46,13 @@ fn leaf(plan: &[u32], rows: usize, count: usize, at: usize) -> Step
     Step::Seen(count, at + 1)
 }
 
-// A state with one row, at place `at` of the plan, with k open places: a chain of single branches, one for each cell that the row still
-// has, down to its leaf. A row that is alone needs no column and no run, and goes down with no call. It goes through its named columns
-// first, too.
-fn alone(
-    table: &[u32],
-    start: usize,
-    mask: u32,
-    plan: &[u32],
-    named: u64,
-    k: usize,
-    at: usize,
-) -> Step
-    requires { ⌜ Fits 32 k (kept mask (drop start (now table))) × (named < 2 ^ k) ⌝ }
-    ensures { λ r. ⌜ AloneDone (now (table .entry)) start mask (now (plan .entry)) named k at r ⌝ }
+// A state with one row, at place `at` of the plan, with k open places, none of them inside a named column: a chain of single branches, one
+// for each cell that the row still has, down to its leaf. A row that is alone needs no column and no run, and goes down with no call.
+fn alone(table: &[u32], start: usize, mask: u32, plan: &[u32], k: usize, at: usize) -> Step
+    requires { ⌜ Fits 32 k (kept mask (drop start (now table))) ⌝ }
+    ensures { λ r. ⌜ AloneDone (now (table .entry)) start mask (now (plan .entry)) k at r ⌝ }
 {
     let mut left = mask;
-    let mut flags = named;
     let mut owed = k;
     let mut place = at;
     let mut count = 0;
@@ -74,9 +63,6 @@ fn alone(
         let i = plan[place];
         if owed <= i as usize {
             return Step::Refused(refusal(Reason::Open, place));
-        }
-        if !may(flags, i) {
-            return Step::Refused(refusal(Reason::Early, place));
         }
         let second = place + 1;
         if plan.len() <= second {
@@ -95,9 +81,7 @@ fn alone(
             return Step::Refused(refusal(Reason::Label, third));
         }
         left = closed.mask;
-        let args = cell::arity_of(c);
-        flags = spread(flags, i, args);
-        owed = args + (owed - 1);
+        owed = cell::arity_of(c) + (owed - 1);
         place += 3;
         count += 1;
     }
@@ -124,8 +108,8 @@ pub fn state(
         (now (column .exit)) (now (plan .entry)) first end named k at r ⌝ }
 {
     let rows = end - first;
-    if rows == 1 {
-        return alone(table, starts[first], masks[first], plan, named, k, at);
+    if rows == 1 && named == 0 {
+        return alone(table, starts[first], masks[first], plan, k, at);
     }
     if k == 0 {
         return leaf(plan, rows, 0, at);
@@ -140,11 +124,11 @@ pub fn state(
     if !may(named, i) {
         return Step::Refused(refusal(Reason::Early, at));
     }
+    close_rows(table, starts, masks, column, i, first, end);
     let next = at + 1;
     if plan.len() <= next {
         return Step::Refused(refusal(Reason::Ends, next));
     }
-    close_rows(table, starts, masks, column, i, first, end);
     let cells = &column[..];
     if plan[next] as usize != run_count(&cells[first..end]) {
         return Step::Refused(refusal(Reason::Edges, next));
@@ -198,7 +182,11 @@ fn branches(
         let cells = &column[..];
         let n = run_length(&cells[row..end]);
         let args = cell::arity_of(c);
-        let flags = spread(named, i, args);
+        // where no flag stands none does below, and no call is made
+        let mut flags = 0;
+        if named != 0 {
+            flags = spread(named, i, args);
+        }
         let open = args + k;
         let under = place + 1;
         match state(

@@ -3,9 +3,12 @@ mod check;
 
 ghost use mathlib.Core.Path.{_≡_};
 ghost use Prim.Native.Nat.{_<_, _^_};
+ghost use Rattle.refusal.specs.Refusal.{refused, told};
+ghost use Rattle.refusal.specs.declared.Input.the-variants as input;
+ghost use Rattle.refusal.specs.declared.Reason.the-variants as reason;
 ghost use Rattle.plan.specs.Check.{planOf, planUnder};
 ghost use Rattle.checker.specs.Checked.{planSays, planTold};
-ghost use Rattle.checker.specs.code.Steps.{maskedPlan, namedPlan};
+ghost use Rattle.checker.specs.code.Steps.{namedPlan};
 ghost use Rattle.state.specs.code.First.{TableRows};
 use check::Step;
 use refusal::Input;
@@ -21,18 +24,32 @@ pub enum PlanAnswer {
     Refused(Refusal),
 }
 
-// The check of a plan for a table that is read: SIZE, the first state, EXTRA. Bit c of `named` is set where column c is named.
+// The refusal of a list of columns.
+fn no_column() -> Refusal
+    ensures { λ r. ⌜ told r ≡ refused reason.Column input.Columns 0 ⌝ }
+{
+    Refusal {
+        reason: Reason::Column,
+        input: Input::Columns,
+        place: 0,
+    }
+}
+
+// The check of a plan for a table that is read: COLUMN, SIZE, the first state, EXTRA.
 fn check_rows(
     table: &[u32],
     starts: &[usize; 64],
     width: usize,
     rows: usize,
-    named: u64,
+    named: Named,
     plan: &[u32],
 ) -> PlanAnswer
-    requires { ⌜ TableRows (now table) (now starts) width rows × (named < 2 ^ width) ⌝ }
-    ensures { λ r. ⌜ planTold r ≡ planSays (maskedPlan named (now (table .entry)) (now (plan .entry))) ⌝ }
+    requires { ⌜ TableRows (now table) (now starts) width rows × (named .mask < 2 ^ named .past) ⌝ }
+    ensures { λ r. ⌜ planTold r ≡ planSays (namedPlan (named .mask) (named .past) (now (table .entry)) (now (plan .entry))) ⌝ }
 {
+    if width < named.past {
+        return PlanAnswer::Refused(no_column());
+    }
     if 6082 < plan.len() {
         return PlanAnswer::Refused(check::refusal(Reason::Size, 0));
     }
@@ -46,7 +63,7 @@ fn check_rows(
         plan,
         0,
         rows,
-        named,
+        named.mask,
         width,
         0,
     ) {
@@ -60,40 +77,27 @@ fn check_rows(
     }
 }
 
-// The check for some columns: the table, COLUMN, the plan.
-fn check_named(table: &[u32], named: Named, plan: &[u32]) -> PlanAnswer
-    requires { ⌜ named .mask < 2 ^ named .past ⌝ }
-    ensures { λ r. ⌜ planTold r ≡ planSays (namedPlan (named .mask) (named .past) (now (table .entry)) (now (plan .entry))) ⌝ }
+// The check of a plan that chooses only places inside named columns while any of them is open (02, W-213), any cells at all for the table and
+// the plan: its number of branches, or the first refusal. The columns are named by their numbers, in any order and any number of times. It
+// keeps nothing of the plan.
+pub fn check_for(table: &[u32], columns: &[u32], plan: &[u32]) -> PlanAnswer
+    ensures { λ r. ⌜ planTold r ≡ planSays (planUnder (now (table .entry)) (now (columns .entry)) (now (plan .entry))) ⌝ }
 {
     let read = table::read_table(table);
     let answer = read.answer;
     match answer {
         TableAnswer::Accepted(width, rows) => {
-            if width < named.past {
-                return PlanAnswer::Refused(Refusal {
-                    reason: Reason::Column,
-                    input: Input::Columns,
-                    place: 0,
-                });
-            }
-            check_rows(table, &read.starts, width, rows, named.mask, plan)
+            let named = named_of(columns);
+            check_rows(table, &read.starts, width, rows, named, plan)
         }
         TableAnswer::Refused(f) => PlanAnswer::Refused(f),
     }
 }
 
-// The check of any plan for a table, any cells at all for both: its number of branches, or the first refusal. No column is named. It keeps
-// nothing of the plan.
+// The check of any plan: no column is named.
 pub fn check_plan(table: &[u32], plan: &[u32]) -> PlanAnswer
     ensures { λ r. ⌜ planTold r ≡ planSays (planOf (now (table .entry)) (now (plan .entry))) ⌝ }
 {
-    check_named(table, Named { mask: 0, past: 0 }, plan)
-}
-
-// The check of a plan that chooses only places inside named columns while any of them is open (02, W-213): the columns by their numbers, in
-// any order and any number of times, any cells at all for the table and the plan.
-pub fn check_for(table: &[u32], columns: &[u32], plan: &[u32]) -> PlanAnswer
-    ensures { λ r. ⌜ planTold r ≡ planSays (planUnder (now (table .entry)) (now (columns .entry)) (now (plan .entry))) ⌝ }
-{
-    check_named(table, named_of(columns), plan)
+    let none = &table[0..0];
+    check_for(table, none, plan)
 }

@@ -137,14 +137,8 @@ module _ (ok : ℕ → Bool) where
   some-no zero n = refl
   some-no (suc k) n = rw (some-no k (λ j h. n j (omega arith)), n k (omega arith))
 
--- the flags of a number: so many, and none of 0
+-- a number's flags: so many
 pub length-flags : (k n : ℕ) → length (flagsIn k n) ≡ k
 unfolding flagsIn
 length-flags zero n = refl
 length-flags (suc k) n = ap suc (length-flags k (n / 2))
-
-pub zero-flags : (k j : ℕ) → flag j (flagsIn k 0) ≡ false
-unfolding flagsIn
-zero-flags zero j = refl
-zero-flags (suc k) zero = refl
-zero-flags (suc k) (suc j) = zero-flags k j

@@ -10,11 +10,11 @@ use lib.Dec.{eqb}
 use borrow.Author.Tests.{eq-eqb, ne-eqb}
 use Rattle.plan.specs.Named.{flag}
 use Rattle.state.specs.Flags.{flagsIn}
+use Rattle.state.proofs.FlagsLaws.{zero-flags}
 use Rattle.entries.specs.declared.arrays.Note.{Note}
 use Rattle.entries.specs.declared.arrays.Part.{Part}
 use Rattle.entries.specs.code.Notes.{noteIn, endIn, weightIn, mostAgreed}
 use Rattle.entries.specs.code.Reading.{partOf, someTo, Shown, ShownIn, no-more, in-column, past-column, Column, Columns}
-use Rattle.entries.proofs.FlagLaws.{zero-flags}
 use Rattle.entries.proofs.WalkLaws.{Here, ended, one, many, here, in-high, in-over, Looked, on-column, look-in, look-past}
 
 or-false : (b : Bool) → b || false ≡ b

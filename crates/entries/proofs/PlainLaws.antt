@@ -10,10 +10,10 @@ use Rattle.plan.specs.Named.{spread}
 use Rattle.plan.proofs.NamedLaws.{Free, no-place, free-may, free-below}
 use Rattle.plan.specs.Plans.{Measure}
 use Rattle.state.specs.Flags.{flagsIn}
+use Rattle.state.proofs.FlagsLaws.{zero-flags}
 use Rattle.least.specs.Entries.{Closes, stop, step, Entry, none, leaf, inner, RightAt}
 use Rattle.least.proofs.NoneNamed.{free-least, free-chosen}
 use Rattle.entries.specs.Fill.{Filled, KeptRight}
-use Rattle.entries.proofs.FlagLaws.{zero-flags}
 
 pub plain-free : (k : ℕ) → Free [] k
 plain-free k = no-place (λ j. refl)

@@ -16,13 +16,13 @@ use Rattle.refusal.specs.Read.{when}
 use Rattle.table.specs.Table.{Table, tableOf}
 use Rattle.table.proofs.ReadLaws.{then-both}
 use Rattle.plan.specs.Runs.{Run, runs}
-use Rattle.plan.specs.Named.{flag, spread, may, setFlag, setFlags, flagsOf, anyPast, occurs}
+use Rattle.plan.specs.Named.{flag, spread, setFlag, setFlags, flagsOf, anyPast, occurs}
 use Rattle.plan.specs.Check.{Seen, bad, Reader, branchesFrom, nodeFrom, stateFrom, planWith, planFor, planOf, columnsFor, planUnder}
 use Rattle.plan.proofs.NamedLaws.{is-may, Free, no-place, each-place, free-may, free-below}
 
 -- WITH NO COLUMN NAMED, OR ALL: a plan is read as any plan.
 
-abbrev Plainly : Reader → Type 0
+abbrev pub Plainly : Reader → Type 0
 Plainly below = (fs : List Bool) (k : ℕ) → Free fs k → (rows : List (List ℕ)) (p : ℕ) (xs : List ℕ) → below fs k rows p xs ≡ below [] k rows p xs
 
 branches-plain : (below : Reader) → Plainly below → (fs : List Bool) (i k : ℕ) → i ≤ k → Free fs (suc k) → (gs : List Run) (p : ℕ) (xs : List ℕ)
@@ -48,7 +48,7 @@ node-plain below h fs k n rows p (i ∷ xs) = go (leb i k) refl xs
         let l = leb-true i k e in
         rw (e, is-may fs i (free-may fs (suc k) i n (omega arith)), branches-plain below h fs i k l n (runs i rows) (suc (suc p)) zs)
 
-state-plain : (n : ℕ) → Plainly (stateFrom n)
+pub state-plain : (n : ℕ) → Plainly (stateFrom n)
 unfolding stateFrom
 state-plain zero fs zero h rows p xs = refl
 state-plain zero fs (suc k) h rows p xs = refl

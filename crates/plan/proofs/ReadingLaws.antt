@@ -134,14 +134,6 @@ module _ (below : Reader) (fs : List Bool) (j k : ℕ) (g : Run) (gs : List Run)
       → branchesFrom below fs j k (g ∷ gs) i (drop i xs) ≡ after (s .branches + 1) (branchesFrom below fs j k gs (s .next) (s .rest))
   branches-on s h e b = branches-below h e ∙ rw b
 
--- where no column is named, it does not matter at which place the runs are
-pub any-place : (below : Reader) (i j k : ℕ) (gs : List Run) (p : ℕ) (xs : List ℕ) → branchesFrom below [] i k gs p xs ≡ branchesFrom below [] j k gs p xs
-any-place below i j k [] p xs = refl
-any-place below i j k (g ∷ gs) p [] = refl
-any-place below i j k (g ∷ gs) p (c ∷ ys) =
-    ap (when (not (eqb c (g .cell))) (bad reason.Label p))
-    (then-both (below [] (arity (g .cell) + k) (g .rows) (suc p) ys) (λ (t : Seen). rw (any-place below i j k gs (t .next) (t .rest))))
-
 -- The number that bounds the depth never decides, where the rows fit.
 abbrev Alike : ℕ → ℕ → Reader → Reader → Type 0
 Alike m n below other = (fs : List Bool) (k : ℕ) (rows : List (List ℕ)) → All (Fits m k) rows → All (Fits n k) rows → 0 < length rows → (p : ℕ) (xs : List ℕ)

@@ -100,6 +100,7 @@ few-by (suc i) a (suc k) n h l =
 -- BELOW A BRANCH, in the code's words: k + 1 places are open above it
 module _ (n i a k : ℕ) (few : n < 2 ^ suc k) (room : k < 32) (place : i ≤ k) (args : a < 5) where
   spread-of : spreadOf n i a ≡ spreadBy i a n
+  unfolding spreadOf
   spread-of =
       let m : n < 2 ^ 32 = omega (arith, pow-mono {i = suc k} {j = 32} (omega arith)) in
       rw (lt-ltb n (2 ^ 32) m, lt-ltb i 32 (omega arith), lt-ltb a 5 args) (spread-in i a n)
@@ -111,9 +112,9 @@ module _ (n i a k : ℕ) (few : n < 2 ^ suc k) (room : k < 32) (place : i ≤ k)
   few-below = rw spread-of (few-by i a k n place few)
 
 -- where no bit is set, none is below
-pub none-below : (i a : ℕ) → spreadOf 0 i a ≡ 0
-unfolding spreadBy
-none-below i a = cond-case (ltb 0 (2 ^ 32) && (ltb i 32 && ltb a 5)) (λ n. n ≡ 0) (λ e. spread-in i a 0 ∙ none i a) (λ e. refl)
+pub none-below : (n i a : ℕ) → n ≡ 0 → spreadOf n i a ≡ 0
+unfolding spreadOf spreadBy
+none-below n i a e = rw e (cond-case (ltb i 32 && (ltb a 5 && ltb 0 (2 ^ 32))) (λ n. n ≡ 0) (λ e. spread-in i a 0 ∙ none i a) (λ e. refl))
   where
     none : (i a : ℕ) → spreadBy i a 0 ≡ 0
     none zero a = omega arith
@@ -146,6 +147,7 @@ any-bit (suc k) n h = go (n % 2) refl (omega arith) (any-bit k (n / 2) (omega (a
 
 -- in the code's words, of k open places
 pub may-bits : (k i n : ℕ) → i < k → k ≤ 64 → n < 2 ^ k → mayIn n i ≡ may (flagsIn k n) i
+unfolding mayIn
 may-bits k i n h f l = rw (flag-bit k i n h, any-bit k n l, lt-ltb i 64 (omega arith)) (go (eqb n 0) (eqb (n / 2 ^ i % 2) 1))
   where
     go : (b c : Bool) → (b || c) ≡ (c || not (not b))
@@ -333,10 +335,17 @@ unfolding maskFrom setFlags
 masked w m [] h = refl
 masked w m (c ∷ columns) h = masked w (withColumn m c) columns h ∙ ap (setFlags columns) (with-flag w m c h)
 
+-- no bit is set
 no-bits : (w : ℕ) → flagsIn w 0 ≡ replicate w false
 unfolding flagsIn
 no-bits zero = refl
 no-bits (suc w) = ap (λ (l : List Bool). false ∷ l) (no-bits w)
+
+pub zero-flags : (k j : ℕ) → flag j (flagsIn k 0) ≡ false
+unfolding flagsIn
+zero-flags zero j = refl
+zero-flags (suc k) zero = refl
+zero-flags (suc k) (suc j) = zero-flags k j
 
 -- THE MASK IS THE LIST'S FLAGS, for a table of at most 8 columns
 pub mask-flags : (w : ℕ) (columns : List ℕ) → w ≤ 8 → flagsIn w (maskFrom 0 columns) ≡ flagsOf w columns

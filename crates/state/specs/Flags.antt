@@ -14,12 +14,12 @@ abbrev pub spreadIn : (named i a : ℕ) → ℕ
 spreadIn n i a = n % 2 ^ i + 2 ^ i * (n / 2 ^ i % 2 * (2 ^ a - 1) + 2 ^ a * (n / 2 ^ i / 2))
 
 -- a place may be chosen where no bit is set, or its own is: `may` of plan/specs/Named
-abbrev pub mayIn : (named i : ℕ) → Bool
+unfoldable pub mayIn : (named i : ℕ) → Bool
 mayIn n i = eqb n 0 || (ltb i 64 && eqb (n / 2 ^ i % 2) 1)
 
 -- what the code answers: at most 32 places are open, and a cell has at most 4 arguments
-abbrev pub spreadOf : (named i a : ℕ) → ℕ
-spreadOf n i a = cond (ltb n (2 ^ 32) && (ltb i 32 && ltb a 5)) (spreadIn n i a) 0
+unfoldable pub spreadOf : (named i a : ℕ) → ℕ
+spreadOf n i a = cond (ltb i 32 && (ltb a 5 && ltb n (2 ^ 32))) (spreadIn n i a) 0
 
 -- the columns of a list as bits, and one more than the largest of its numbers. A table has at most 8 columns
 abbrev pub withColumn : ℕ → ℕ → ℕ

@@ -24,13 +24,13 @@ pub fn spread(named: u64, i: u32, args: usize) -> u64
     if named == 0 {
         return 0;
     }
-    if 0xffffffff < named {
-        return 0;
-    }
     if 31 < i {
         return 0;
     }
     if 4 < args {
+        return 0;
+    }
+    if 0xffffffff < named {
         return 0;
     }
     let rest = named >> i;

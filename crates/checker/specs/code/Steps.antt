@@ -20,11 +20,8 @@ use Rattle.state.specs.States.{rowsIn, runsIn, Same}
 use Rattle.checker.specs.declared.check.Step.{Step}
 use Rattle.checker.specs.declared.check.Step.the-variants as step
 
--- what the check of a plan answers with a mask of columns, for whatever is a table; and with a mask and one more than the largest number named,
--- COLUMN first: `planUnder` of plan/specs/Check where both are a list's (proofs/EntryLaws)
-abbrev pub maskedPlan : (mask : ℕ) (t p : List ℕ) → Read ℕ
-maskedPlan mask t p = andThen (tableOf t) (λ (T : Table). planWith (flagsIn (T .width) mask) T p)
-
+-- what the check of a plan answers with a mask of columns and one more than the largest number named: `planUnder` of plan/specs/Check where both
+-- are a list's (proofs/EntryLaws)
 abbrev pub namedPlan : (mask past : ℕ) (t p : List ℕ) → Read ℕ
 namedPlan mask past t p =
     andThen (tableOf t) (λ (T : Table). when (ltb (T .width) past) (refused reason.Column input.Columns 0) (planWith (flagsIn (T .width) mask) T p))
@@ -47,13 +44,13 @@ pub record LeafDone (p : List ℕ) (rows count at : ℕ) (r : Step) : Type 0 whe
   pub says : leafAfter rows count at (drop at p) ≡ saidBy p r
   pub inside : (from : ℕ) → from + count ≤ at → Inside p from r
 
--- the reading of a state with one row; and such a state is done: the row is what the mask leaves open of the table's row that starts there, and
--- the bits of `named` are the flags of its open places
-abbrev pub aloneFrom : ℕ → ℕ → List ℕ → List ℕ → ℕ → Read Seen
-aloneFrom named k row p at = stateFrom 32 (flagsIn k named) k (row ∷ []) at (drop at p)
+-- the reading of a state with one row, no column being named; and such a state is done: the row is what the mask leaves open of the table's row
+-- that starts there
+abbrev pub aloneFrom : ℕ → List ℕ → List ℕ → ℕ → Read Seen
+aloneFrom k row p at = stateFrom 32 [] k (row ∷ []) at (drop at p)
 
-pub record AloneDone (t : List ℕ) (start mask : ℕ) (p : List ℕ) (named k at : ℕ) (r : Step) : Type 0 where
-  pub says : aloneFrom named k (kept mask (drop start t)) p at ≡ saidBy p r
+pub record AloneDone (t : List ℕ) (start mask : ℕ) (p : List ℕ) (k at : ℕ) (r : Step) : Type 0 where
+  pub says : aloneFrom k (kept mask (drop start t)) p at ≡ saidBy p r
   pub inside : Inside p at r
 
 -- the room of the check: masks ms and column hs of 64 rows; the rows first to before end; a place of the plan p

@@ -1,12 +1,14 @@
 use mathlib.Core.Path.{_≡_, sym, _∙_}
 use mathlib.Core.Bool.{true}
+use mathlib.Core.Logic.{⊎-elim}
 use native.Mathlib.Omega.{arith}
 use borrow.Author.Needs.{needs}
-use borrow.Author.Tests.{not-true, not-false}
+use borrow.Author.Tests.{eqb-true, not-true, not-false}
 use lib.ListN.{getD}
 use Rattle.cell.specs.Cell.{arity}
 use Rattle.state.specs.Flags.{mayIn, spreadOf}
 use Rattle.state.specs.States.{rowsIn}
+use Rattle.state.proofs.FlagsLaws.{none-below}
 use Rattle.checker.specs.code.Steps.{Done}
 use Rattle.checker.proofs.StateLaws.{longest, few-open, shorter, fits-alone, done-alone, done-leaf, done-ends, done-open, done-early, done-ends-2, done-edges, ready-branches, done-node}
 use Rattle.checker.proofs.LoopLaws.{Going, going-start, going-done, going-ends, going-label, Turn, turn-of, ready-below, shorter-below, turn-refused, turn-next, turn-on}
@@ -81,6 +83,13 @@ turn : (t : ℕ) (c : At-run t) → let l = turn-at t c .loop in let a = call-at
     (l .masks) (l .column) (l .row) (l .place) (l .count) (c .run-length .result)
 turn t c = turn-of (c .run-length .result) (c .before .before .before .before .before .before .before .before .before .loop .inv) (c .before .before .before .before .before .before .before .before .loop-test .taken) (c .before .before .before .before .before .before .before .if1 .left) (c .before .before .before .before .if2 .left) (c .run-length .ensures)
 
+-- the flags below the branch: `spread`'s, which are none where none stand
+abbrev At-flags : ℕ → Type 0
+At-flags t = branches-lts.Joined3 (branches-with t) (branches-at t) branches.Post branches-Inv-loop branches-μ-loop
+
+flags-are : (t : ℕ) (j : At-flags t) → let a = call-at t (j .before .before) .args in j .if3 .flags ≡ spreadOf (a .named) (a .i) (j .before .arity-of .result)
+flags-are t j = ⊎-elim (λ w. w .2 ∙ w .1 .ensures) (λ w. w .1 ∙ sym (none-below _ _ _ (w .0 .left))) (j .if3 .came)
+
 -- the state below the branch, and its answer
 abbrev At-state : ℕ → Type 0
 At-state t = branches-lts.After-state (branches-with t) (branches-at t) branches.Post branches-Inv-loop branches-μ-loop
@@ -89,7 +98,7 @@ below : (t : ℕ) (s : At-state t) → let c = s .before .before .before .before
     Done (a .table .now) (a .starts .now) (l .masks) (l .column) (z .1 .1 .0) (z .1 .1 .1 .0) (a .plan .now)
     (l .row) (l .row + c .run-length .result) (spreadOf (a .named) (a .i) (arity (getD (l .column) (l .row) 0))) (arity (getD (l .column) (l .row) 0) + a .k)
     (l .place + 1) (s .state .result)
-below t s = rw (s .before .before .before .spread .ensures, s .before .before .before .before .arity-of .ensures) at (s .state .ensures)
+below t s = rw (flags-are t (s .before .before .before), s .before .before .before .before .arity-of .ensures) at (s .state .ensures)
 
 branches-loop-holds : (t : ℕ) → branches-lts.Need-loop-holds (branches-with t) (branches-at t) branches.Post branches-Inv-loop branches-μ-loop
 branches-loop-holds t c = going-start (c .before .before .pre .1)
@@ -149,7 +158,7 @@ branches-add-state : (t : ℕ) → branches-lts.Need-add-state (branches-with t)
 branches-add-state t c = record { fits = omega (arith, ready-below (turn t (c .before .before .before .before)) .room .few) }
 
 branches-state-requires : (t : ℕ) → branches-lts.Need-state-requires (branches-with t) (branches-at t) branches.Post branches-Inv-loop branches-μ-loop
-branches-state-requires t c κs = let w = turn t (c .before .before .before .before) in (omega (arith, shorter-below w), rw (c .before .before .spread .ensures, c .before .before .before .arity-of .ensures) (ready-below w))
+branches-state-requires t c κs = let w = turn t (c .before .before .before .before) in (omega (arith, shorter-below w), rw (flags-are t (c .before .before), c .before .before .before .arity-of .ensures) (ready-below w))
 
 branches-enum-known-below : (t : ℕ) → branches-lts.Need-enum-known-below (branches-with t) (branches-at t) branches.Post branches-Inv-loop branches-μ-loop
 branches-enum-known-below t c = search needs
@@ -178,23 +187,18 @@ branches-loop-again t c = turn-on (turn t (c .before .before .before .before .be
 branches-returns-4 : (t : ℕ) → branches-lts.Need-returns-4 (branches-with t) (branches-at t) branches.Post branches-Inv-loop branches-μ-loop
 branches-returns-4 t c = going-done (c .before .loop .inv) (c .loop-test .left)
 
--- the place of `state` where its runs are counted, with those before it that its answers go back to: where its rows are closed, and the call
-abbrev At-runs : ℕ → Type 0
-At-runs t = state-lts.After-run-count (state-with t) (state-at t) state.Post
+-- the places of `state` that its answers go back to: where its runs are counted, where its rows are closed, and the call; and that the place may be chosen
+abbrev At-closed : ℕ → Type 0
+At-closed t = state-lts.After-close-rows (state-with t) (state-at t) state.Post
 
-abbrev closed : (t : ℕ) → At-runs t → state-lts.After-close-rows (state-with t) (state-at t) state.Post
-closed t c = c .before .before .before .before .before
+abbrev closed : (t : ℕ) → state-lts.After-run-count (state-with t) (state-at t) state.Post → At-closed t
+closed t c = c .before .before .before .before .before .before
 
-abbrev asked : (t : ℕ) → At-runs t → state-lts.Start (state-with t) (state-at t) state.Post
-asked t c = closed t c .before .before .before .before .before .before .before .before .before .before .before .before .before
+abbrev asked : (t : ℕ) → At-closed t → state-lts.Start (state-with t) (state-at t) state.Post
+asked t r = r .before .before .before .before .before .before .before .before .before .before .before .before
 
--- the place that is chosen may be
-allowed : (t : ℕ) (e : state-lts.Else5 (state-with t) (state-at t) state.Post) → let a = e .before .before .before .before .before .before .before .before .before .args in
-    mayIn (a .named) (getD (a .plan .now) (a .at) 0) ≡ true
-allowed t e = sym (e .before .may .ensures) ∙ not-false _ (e .if5 .left)
-
-chosen : (t : ℕ) (c : At-runs t) → let a = asked t c .args in mayIn (a .named) (getD (a .plan .now) (a .at) 0) ≡ true
-chosen t c = allowed t (closed t c .before .before .before .before)
+chosen : (t : ℕ) (r : At-closed t) → let a = asked t r .args in mayIn (a .named) (getD (a .plan .now) (a .at) 0) ≡ true
+chosen t r = let e = r .before .before .before in sym (e .before .may .ensures) ∙ not-false _ (e .if6 .left)
 
 state-sub-rows : (t : ℕ) → state-lts.Need-sub-rows (state-with t) (state-at t) state.Post
 state-sub-rows t c = search needs
@@ -212,22 +216,22 @@ state-element-copy-out-alone-2 : (t : ℕ) → state-lts.Need-element-copy-out-a
 state-element-copy-out-alone-2 t c = search needs
 
 state-alone-requires : (t : ℕ) → state-lts.Need-alone-requires (state-with t) (state-at t) state.Post
-state-alone-requires t c κs = let w = c .before .before .before .before .before .pre .1 in (fits-alone w (c .before .before .if1 .taken), w .flags)
+state-alone-requires t c κs = fits-alone (c .before .before .before .before .before .before .pre .1) (c .before .before .before .if1 .taken)
 
 state-returns : (t : ℕ) → state-lts.Need-returns (state-with t) (state-at t) state.Post
-state-returns t c = done-alone (c .before .before .before .before .before .before .pre .1) (c .before .before .before .if1 .taken) (c .alone .ensures)
+state-returns t c = done-alone (c .before .before .before .before .before .before .before .pre .1) (c .before .before .before .before .if1 .taken) (eqb-true _ 0 (c .before .before .before .if2 .taken)) (c .alone .ensures)
 
 state-leaf-requires : (t : ℕ) → state-lts.Need-leaf-requires (state-with t) (state-at t) state.Post
 state-leaf-requires t c κs = search needs
 
 state-returns-2 : (t : ℕ) → state-lts.Need-returns-2 (state-with t) (state-at t) state.Post
-state-returns-2 t c = done-leaf (c .before .before .before .before .before .pre .1) (c .before .if2 .taken) (c .leaf .ensures)
+state-returns-2 t c = done-leaf (c .before .before .before .before .before .pre .1) (c .before .if3 .taken) (c .leaf .ensures)
 
 state-refusal-requires : (t : ℕ) → state-lts.Need-refusal-requires (state-with t) (state-at t) state.Post
 state-refusal-requires t c κs = search needs
 
 state-returns-3 : (t : ℕ) → state-lts.Need-returns-3 (state-with t) (state-at t) state.Post
-state-returns-3 t c = done-ends (c .before .before .before .before .before .before .pre .1) (omega arith) (c .before .if3 .taken) (c .refusal .ensures)
+state-returns-3 t c = done-ends (c .before .before .before .before .before .before .pre .1) (omega arith) (c .before .if4 .taken) (c .refusal .ensures)
 
 state-mul-i : (t : ℕ) → state-lts.Need-mul-i (state-with t) (state-at t) state.Post
 state-mul-i t c = search needs
@@ -235,14 +239,14 @@ state-mul-i t c = search needs
 state-shared-slice-read-i : (t : ℕ) → state-lts.Need-shared-slice-read-i (state-with t) (state-at t) state.Post
 state-shared-slice-read-i t c = search needs
 
-state-cast-if4 : (t : ℕ) → state-lts.Need-cast-if4 (state-with t) (state-at t) state.Post
-state-cast-if4 t c = record { fits = omega (arith, c .shared-slice-known3 .given (c .before .before .before .before .before .before .args .at)) }
+state-cast-if5 : (t : ℕ) → state-lts.Need-cast-if5 (state-with t) (state-at t) state.Post
+state-cast-if5 t c = record { fits = omega (arith, c .shared-slice-known3 .given (c .before .before .before .before .before .before .args .at)) }
 
 state-refusal-requires-2 : (t : ℕ) → state-lts.Need-refusal-requires-2 (state-with t) (state-at t) state.Post
 state-refusal-requires-2 t c κs = search needs
 
 state-returns-4 : (t : ℕ) → state-lts.Need-returns-4 (state-with t) (state-at t) state.Post
-state-returns-4 t c = done-open (c .before .before .before .before .before .before .before .before .pre .1) (omega arith) (omega arith) (c .before .if4 .taken) (c .refusal2 .ensures)
+state-returns-4 t c = done-open (c .before .before .before .before .before .before .before .before .pre .1) (omega arith) (omega arith) (c .before .if5 .taken) (c .refusal2 .ensures)
 
 state-may-requires : (t : ℕ) → state-lts.Need-may-requires (state-with t) (state-at t) state.Post
 state-may-requires t c κs = search needs
@@ -253,7 +257,7 @@ state-refusal-requires-3 t c κs = search needs
 state-returns-5 : (t : ℕ) → state-lts.Need-returns-5 (state-with t) (state-at t) state.Post
 state-returns-5 t c =
     let m = c .before .before in
-    done-early (m .before .before .before .before .before .before .before .before .pre .1) (omega arith) (omega arith) (omega arith) (sym (m .may .ensures) ∙ not-true _ (c .before .if5 .taken)) (c .refusal3 .ensures)
+    done-early (m .before .before .before .before .before .before .before .before .pre .1) (omega arith) (omega arith) (omega arith) (sym (m .may .ensures) ∙ not-true _ (c .before .if6 .taken)) (c .refusal3 .ensures)
 
 state-add-next : (t : ℕ) → state-lts.Need-add-next (state-with t) (state-at t) state.Post
 state-add-next t c = search needs
@@ -263,20 +267,20 @@ state-refusal-requires-4 t c κs = search needs
 
 state-returns-6 : (t : ℕ) → state-lts.Need-returns-6 (state-with t) (state-at t) state.Post
 state-returns-6 t c =
-    let e = c .before .before in
-    done-ends-2 (e .before .before .before .before .before .before .before .before .before .pre .1) (omega arith) (omega arith) (allowed t e) (omega arith) (c .before .if6 .taken) (c .refusal4 .ensures)
+    let r = c .before .before in
+    done-ends-2 (asked t r .pre .1) (omega arith) (omega arith) (chosen t r) (r .close-rows .ensures) (omega arith) (c .before .if7 .taken) (c .refusal4 .ensures)
 
 state-close-rows-requires : (t : ℕ) → state-lts.Need-close-rows-requires (state-with t) (state-at t) state.Post
 state-close-rows-requires t c κs = search needs
 
-state-mul-if7 : (t : ℕ) → state-lts.Need-mul-if7 (state-with t) (state-at t) state.Post
-state-mul-if7 t c = search needs
+state-mul-if8 : (t : ℕ) → state-lts.Need-mul-if8 (state-with t) (state-at t) state.Post
+state-mul-if8 t c = search needs
 
-state-shared-slice-read-if7 : (t : ℕ) → state-lts.Need-shared-slice-read-if7 (state-with t) (state-at t) state.Post
-state-shared-slice-read-if7 t c = search needs
+state-shared-slice-read-if8 : (t : ℕ) → state-lts.Need-shared-slice-read-if8 (state-with t) (state-at t) state.Post
+state-shared-slice-read-if8 t c = search needs
 
-state-cast-if7 : (t : ℕ) → state-lts.Need-cast-if7 (state-with t) (state-at t) state.Post
-state-cast-if7 t c = record { fits = omega (arith, c .shared-slice-known4 .given (c .before .before .before .before .before .before .before .before .before .before .before .before .before .before .before .before .args .at + 1)) }
+state-cast-if8 : (t : ℕ) → state-lts.Need-cast-if8 (state-with t) (state-at t) state.Post
+state-cast-if8 t c = record { fits = omega (arith, c .shared-slice-known4 .given (c .before .before .before .before .before .before .before .before .before .before .before .before .before .before .before .before .args .at + 1)) }
 
 state-mul-run-count : (t : ℕ) → state-lts.Need-mul-run-count (state-with t) (state-at t) state.Post
 state-mul-run-count t c = search needs
@@ -298,9 +302,9 @@ state-refusal-requires-5 t c κs = search needs
 
 state-returns-7 : (t : ℕ) → state-lts.Need-returns-7 (state-with t) (state-at t) state.Post
 state-returns-7 t c =
-    let r = c .before .before in
-    done-edges (asked t r .pre .1) (omega arith) (omega arith) (chosen t r) (omega arith) (closed t r .close-rows .ensures) (r .run-count .result) (r .run-count .ensures)
-    (c .before .if7 .taken) (c .refusal5 .ensures)
+    let n = c .before .before in
+    let r = closed t n in
+    done-edges (asked t r .pre .1) (omega arith) (omega arith) (chosen t r) (r .close-rows .ensures) (n .run-count .result) (omega arith) (n .run-count .ensures) (c .before .if8 .taken) (c .refusal5 .ensures)
 
 state-sub-branches : (t : ℕ) → state-lts.Need-sub-branches (state-with t) (state-at t) state.Post
 state-sub-branches t c = search needs
@@ -310,17 +314,16 @@ state-add-branches t c = search needs
 
 state-branches-requires : (t : ℕ) → state-lts.Need-branches-requires (state-with t) (state-at t) state.Post
 state-branches-requires t c κs =
-    let r = c .before .before .before in
-    let k = closed t r .close-rows .ensures in (
-      omega (arith, asked t r .pre .0, shorter (asked t r .pre .1) (omega arith) (omega arith) (chosen t r) (omega arith) k),
-      ready-branches (asked t r .pre .1) (omega arith) (omega arith) (chosen t r) (omega arith) k,
+    let r = closed t (c .before .before .before) in (
+      omega (arith, asked t r .pre .0, shorter (asked t r .pre .1) (omega arith) (omega arith) (chosen t r) (r .close-rows .ensures)),
+      ready-branches (asked t r .pre .1) (omega arith) (omega arith) (chosen t r) (r .close-rows .ensures) (omega arith),
     )
 
 state-returns-8 : (t : ℕ) → state-lts.Need-returns-8 (state-with t) (state-at t) state.Post
 state-returns-8 t c =
-    let r = c .before .before .before .before in
-    done-node (asked t r .pre .1) (omega arith) (omega arith) (chosen t r) (omega arith) (closed t r .close-rows .ensures) (r .run-count .result) (r .run-count .ensures)
-    (c .before .before .before .if7 .left) (c .branches .ensures)
+    let n = c .before .before .before .before in
+    let r = closed t n in
+    done-node (asked t r .pre .1) (omega arith) (omega arith) (chosen t r) (r .close-rows .ensures) (n .run-count .result) (omega arith) (n .run-count .ensures) (c .before .before .before .if8 .left) (c .branches .ensures)
 
 pub +branches+state-spec : {M : Type 1} → statement M
 +branches+state-spec = close μ-branches μ-state (λ t. branches-lts.spec (branches-with t) (branches-at t)
@@ -371,19 +374,19 @@ pub +branches+state-spec : {M : Type 1} → statement M
     (state-returns-3 t)
     (state-mul-i t)
     (state-shared-slice-read-i t)
-    (state-cast-if4 t)
+    (state-cast-if5 t)
     (state-refusal-requires-2 t)
     (state-returns-4 t)
     (state-may-requires t)
     (state-refusal-requires-3 t)
     (state-returns-5 t)
+    (state-close-rows-requires t)
     (state-add-next t)
     (state-refusal-requires-4 t)
     (state-returns-6 t)
-    (state-close-rows-requires t)
-    (state-mul-if7 t)
-    (state-shared-slice-read-if7 t)
-    (state-cast-if7 t)
+    (state-mul-if8 t)
+    (state-shared-slice-read-if8 t)
+    (state-cast-if8 t)
     (state-mul-run-count t)
     (state-sub-run-count t)
     (state-part-run-count-start t)

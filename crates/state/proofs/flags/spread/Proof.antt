@@ -3,23 +3,27 @@ use native.Mathlib.Omega.{arith}
 use Prim.Native.Nat.{_/_, _^_}
 use borrow.Author.Tests.{lt-ltb, le-ltb}
 use borrow.Author.Needs.{needs}
+use Rattle.state.specs.Flags.{spreadOf}
 use Rattle.state.proofs.FlagsLaws.{none-below, even-sum, odd-sum, even-few, odd-few, low-less, some-ones, ones-few, lowest, is-odd}
 use Rattle.state.proofs.flags.spread.Statement.{statement}
 use Rattle.state.proofs.flags.spread.Tie as tie
 
 returns : tie.Need-returns
-returns c = let a = c .before .args in rw (c .if1 .taken) (sym (none-below (a .i) (a .args)))
+returns c = let a = c .before .args in sym (none-below (a .named) (a .i) (a .args) (c .if1 .taken))
 
 returns-2 : tie.Need-returns-2
-returns-2 c = let a = c .before .before .args in rw (le-ltb (a .named) (2 ^ 32) (omega arith))
+unfolding spreadOf
+returns-2 c = let a = c .before .before .args in rw (le-ltb (a .i) 32 (omega arith))
 
 returns-3 : tie.Need-returns-3
-returns-3 c = let a = c .before .before .before .args in rw (lt-ltb (a .named) (2 ^ 32) (omega arith), le-ltb (a .i) 32 (omega arith))
+unfolding spreadOf
+returns-3 c = let a = c .before .before .before .args in rw (lt-ltb (a .i) 32 (omega arith), le-ltb (a .args) 5 (omega arith))
 
 returns-4 : tie.Need-returns-4
+unfolding spreadOf
 returns-4 c =
     let a = c .before .before .before .before .args in
-    rw (lt-ltb (a .named) (2 ^ 32) (omega arith), lt-ltb (a .i) 32 (omega arith), le-ltb (a .args) 5 (omega arith))
+    rw (lt-ltb (a .i) 32 (omega arith), lt-ltb (a .args) 5 (omega arith), le-ltb (a .named) (2 ^ 32) (omega arith))
 
 shr-rest : tie.Need-shr-rest
 shr-rest c = search needs
@@ -44,6 +48,7 @@ add-result c =
     record { fits = omega (arith, even-sum (a .named) (a .i) (a .args) (omega arith) (omega arith) e, even-few (a .named) (a .i) (a .args) (omega arith) (omega arith) e) }
 
 returns-5 : tie.Need-returns-5
+unfolding spreadOf
 returns-5 c =
     let a = c .before .before .before .before .before .args in
     rw (lt-ltb (a .named) (2 ^ 32) (omega arith), lt-ltb (a .i) 32 (omega arith), lt-ltb (a .args) 5 (omega arith))
@@ -71,6 +76,7 @@ add-result-3 c =
     record { fits = omega (arith, odd-sum (a .named) (a .i) (a .args) (omega arith) (omega arith) e, odd-few (a .named) (a .i) (a .args) (omega arith) (omega arith) e) }
 
 returns-6 : tie.Need-returns-6
+unfolding spreadOf
 returns-6 c =
     let a = c .before .before .before .before .before .args in
     rw (lt-ltb (a .named) (2 ^ 32) (omega arith), lt-ltb (a .i) 32 (omega arith), lt-ltb (a .args) 5 (omega arith))
