@@ -1,8 +1,10 @@
 -- how the plan is written, and what is answered
 pub mod AgreedLaws
 pub mod AskedLaws
+pub mod OpenLaws
 pub mod ChooseLaws
 pub mod WritingLaws
+pub mod AloneLaws
 pub mod PlannedLaws
 pub mod BuildLaws
 pub mod RecordLaws

@@ -44,12 +44,12 @@ three-cells l l₁ xs ys cells at m c e em ec =
 
 -- The plan that follows, by its first state: a leaf, or the place that is taken with the plans below its branches.
 module _ (kept : List ℕ) (fs : List Bool) (first : ℕ) where
-  record Below (k i : ℕ) (rows : List (List ℕ)) (cells : List ℕ) : Type 0 where
-    plans : Branches k (runs i rows)
-    follows : FollowsIn kept fs i first plans
-    cells-are : cells ≡ i ∷ (length (runs i rows) ∷ writes plans)
+  pub record Below (k i : ℕ) (rows : List (List ℕ)) (cells : List ℕ) : Type 0 where
+    pub plans : Branches k (runs i rows)
+    pub follows : FollowsIn kept fs i first plans
+    pub cells-are : cells ≡ i ∷ (length (runs i rows) ∷ writes plans)
 
-  node-cells : {K : ℕ} {rows : List (List ℕ)} (p : Plan K rows) (k i : ℕ) → K ≡ suc k → Follows kept fs first p
+  pub node-cells : {K : ℕ} {rows : List (List ℕ)} (p : Plan K rows) (k i : ℕ) → K ≡ suc k → Follows kept fs first p
       → i ≡ taken kept fs first (suc k) rows → Below k i rows (write p)
   unfolding write Follows
   node-cells leaf k i e f c = absurd (omega arith)
@@ -60,14 +60,14 @@ module _ (kept : List ℕ) (fs : List Bool) (first : ℕ) where
       (rw (← ek) (record { plans = bs; follows = f .1; cells-are = refl }))
 
   module _ (i : ℕ) where
-    record NextPlan (k : ℕ) (g : Run) (gs : List Run) (cells : List ℕ) : Type 0 where
-      plan : Plan (arity (g .cell) + k) (g .rows)
-      follows : Follows kept (spread i (arity (g .cell)) fs) first plan
-      plans : Branches k gs
-      all-follow : FollowsIn kept fs i (first + length (g .rows)) plans
-      cells-are : cells ≡ g .cell ∷ (write plan ++ writes plans)
+    pub record NextPlan (k : ℕ) (g : Run) (gs : List Run) (cells : List ℕ) : Type 0 where
+      pub plan : Plan (arity (g .cell) + k) (g .rows)
+      pub follows : Follows kept (spread i (arity (g .cell)) fs) first plan
+      pub plans : Branches k gs
+      pub all-follow : FollowsIn kept fs i (first + length (g .rows)) plans
+      pub cells-are : cells ≡ g .cell ∷ (write plan ++ writes plans)
 
-    next-plan : {k : ℕ} {gs : List Run} (bs : Branches k gs) (g : Run) (gs′ : List Run) → gs ≡ g ∷ gs′ → FollowsIn kept fs i first bs
+    pub next-plan : {k : ℕ} {gs : List Run} (bs : Branches k gs) (g : Run) (gs′ : List Run) → gs ≡ g ∷ gs′ → FollowsIn kept fs i first bs
         → NextPlan k g gs′ (writes bs)
     unfolding write Follows
     next-plan end g gs′ e b = let z : _≡_ {A = ℕ} 0 1 = cc in absurd (omega arith)
@@ -81,7 +81,7 @@ module _ (kept : List ℕ) (fs : List Bool) (first : ℕ) where
         → (cs : Branches k gs′) × FollowsIn kept fs i first cs × (writes cs ≡ writes bs)
     same-plans e bs f = rw (← e) (bs, f, refl)
 
-no-plan : {k : ℕ} {gs : List Run} (bs : Branches k gs) → gs ≡ [] → writes bs ≡ []
+pub no-plan : {k : ℕ} {gs : List Run} (bs : Branches k gs) → gs ≡ [] → writes bs ≡ []
 unfolding writes
 no-plan end e = refl
 no-plan (next p bs) e = let z : _≡_ {A = ℕ} 0 1 = cc in absurd (omega arith)
@@ -94,8 +94,9 @@ module _ {t ss ms hs kept out : List ℕ} {first last k named at : ℕ} (q : ToW
   pub leaf-room : at < 6082
   leaf-room = omega (arith, q .fits, ap length leaf-is)
 
-  pub leaf-written : Written ms hs out ms hs (set out at (last - first)) (write (q .plan)) last at (at + 1)
-  leaf-written = rw leaf-is (record { next-is = refl; out-is = refl; masks = same-self last ms; column = same-self last hs })
+  pub leaf-written : (r : ℕ) (out₁ : List ℕ) → (r ≡ at + 1) × (out₁ ≡ set out at (last - first))
+      → Written ms hs out ms hs out₁ (write (q .plan)) last at r
+  leaf-written r out₁ d = rw leaf-is (record { next-is = d .0; out-is = d .1; masks = same-self last ms; column = same-self last hs })
 
 -- An inner state: the place i is taken and closed, and the branches are next.
 pub record Inner (t ss ms hs kept out : List ℕ) (first last k named i at : ℕ) (ms₁ hs₁ out₁ cells : List ℕ) : Type 0 where

@@ -4,7 +4,8 @@ ghost use mathlib.Core.Path.{_≡_};
 ghost use mathlib.Core.List.{map};
 ghost use Prim.Native.Nat.{_+_, _-_, _^_, _≤_, _<_};
 ghost use lib.Dec.{eqb};
-ghost use lib.ListN.{length};
+ghost use lib.ListN.{length, set};
+ghost use lib.Seq.{sets};
 ghost use Rattle.term.specs.Terms.{root};
 ghost use Rattle.plan.specs.Plans.{write, writes};
 ghost use Rattle.state.specs.Column.{runCount};
@@ -12,7 +13,7 @@ ghost use Rattle.state.specs.Flags.{flagsIn};
 ghost use Rattle.state.specs.States.{rowsIn};
 ghost use Rattle.state.specs.code.First.{TableRows};
 ghost use Rattle.least.specs.code.Follow as follow;
-ghost use Rattle.builder.specs.code.Writing.{ToWrite, ToWriteAll, Written, Planned};
+ghost use Rattle.builder.specs.code.Writing.{openIn, chain, ToWrite, ToWriteAll, Written, Planned};
 use state::column::run_count;
 use state::column::run_length;
 use state::column::same_symbol;
@@ -88,7 +89,46 @@ fn choose(table: &[u32], starts: &[usize; 64], masks: &[u32; 64], kept: &[u32], 
     within(kept[8192 + pair], rows.opens)
 }
 
-// The plan of a state, from a place on; the place after it.
+// A leaf at a place: its number of rows. The place after it.
+fn leaf(out: &mut [u32; 6082], rows: usize, at: usize) -> usize
+    requires { ⌜ (rows ≤ 64) × (at < 6082) ⌝ }
+    ensures { λ r. ⌜ (r ≡ at + 1) × (now (out .exit) ≡ set (now (out .entry)) at rows) ⌝ }
+{
+    out[at] = rows as u32;
+    at + 1
+}
+
+// The plan of a state with one row, where no open place is inside a named column: its open cells in order, each the one branch of the
+// leftmost place, and then the leaf. A row that is alone needs no column and no run, and goes down with no call.
+fn alone(table: &[u32], start: usize, mask: u32, out: &mut [u32; 6082], at: usize) -> usize
+    requires { ⌜ (length (now out) ≡ 6082) × (at + length (chain (openIn (now table) start mask)) ≤ 6082) ⌝ }
+    ensures { λ r. ⌜ (r ≡ at + length (chain (openIn (now (table .entry)) start mask)))
+        × (now (out .exit) ≡ sets (now (out .entry)) at (chain (openIn (now (table .entry)) start mask))) ⌝ }
+{
+    if table.len() <= start {
+        return leaf(out, 1, at);
+    }
+    let mut left = mask;
+    let mut next = at;
+    while 0 < left {
+        let z = u32::trailing_zeros(left);
+        let here = start + z as usize;
+        if table.len() <= here {
+            return leaf(out, 1, next);
+        }
+        let second = next + 1;
+        let third = next + 2;
+        out[next] = 0;
+        out[second] = 1;
+        out[third] = table[here];
+        left -= 1 << z;
+        next += 3;
+    }
+    leaf(out, 1, next)
+}
+
+// The plan of a state, from a place on; the place after it. One row with no flag is written by a loop; with flags it goes place by place as
+// any rows do, since the leftmost place that may be chosen need not be the first.
 fn state(
     table: &[u32],
     starts: &[usize; 64],
@@ -110,9 +150,11 @@ fn state(
     let end = rows.end;
     let opens = rows.opens;
     let named = rows.named;
+    if end - first == 1 && named == 0 {
+        return alone(table, starts[first], masks[first], out, at);
+    }
     if opens == 0 {
-        out[at] = (end - first) as u32;
-        return at + 1;
+        return leaf(out, end - first, at);
     }
     let i = choose(table, starts, &*masks, kept, rows);
     close_rows(table, starts, masks, column, i, first, end);

@@ -3,7 +3,7 @@
 use Prim.Native.Nat.{ℕ, suc, _+_, _-_, _^_, _≤_, _<_}
 use mathlib.Core.Path.{_≡_}
 use mathlib.Core.Bool.{Bool}
-use mathlib.Core.List.{List, _++_}
+use mathlib.Core.List.{List, [], _∷_, _++_}
 use lib.ListN.{length, take, drop}
 use lib.Seq.{sets}
 use Rattle.cell.specs.Cell.{arity}
@@ -18,6 +18,7 @@ use Rattle.plan.specs.Runs.{Run}
 use Rattle.plan.specs.Plans.{Plan, Branches, write, writes, Measure}
 use Rattle.plan.specs.code.Fits.{Fits}
 use Rattle.state.specs.Flags.{flagsIn, maskFrom, pastFrom}
+use Rattle.state.specs.Mask.{kept}
 use Rattle.state.specs.declared.flags.Named.{Named}
 use Rattle.state.specs.States.{rowsIn, runsIn, Same}
 use Rattle.state.specs.code.First.{TableRows}
@@ -28,6 +29,16 @@ use Rattle.least.specs.declared.By.{By}
 use Rattle.least.specs.code.Follow.{Follows, FollowsIn}
 use Rattle.builder.specs.declared.BuildAnswer.{BuildAnswer}
 use Rattle.builder.specs.declared.BuildAnswer.the-variants as build-answer
+
+-- the open cells of the row that begins at `start`, by its mask
+abbrev pub openIn : (t : List ℕ) (start mask : ℕ) → List ℕ
+openIn t start mask = kept mask (drop start t)
+
+-- the cells of a row's plan where no column is named: at each state the leftmost place is taken (01, "a single row agrees with itself
+-- everywhere"), which is the row's first open cell, and its one branch goes on with the others
+unfoldable pub chain : List ℕ → List ℕ
+chain [] = 1 ∷ []
+chain (c ∷ cs) = 0 ∷ (1 ∷ (c ∷ chain cs))
 
 -- masks ms and a column hs for 64 rows, what is kept for every pair of rows, and the cells that are written
 pub record Room (ms hs kept out : List ℕ) : Type 0 where

@@ -2,6 +2,7 @@ use mathlib.Core.Path.{_≡_, refl}
 use Prim.Native.Nat.{ℕ, _+_, _-_, _<_}
 use native.Mathlib.Omega.{arith}
 use borrow.Author.Needs.{needs}
+use borrow.Author.Tests.{eqb-true}
 use lib.ListN.{getD, set}
 use Rattle.cell.specs.Cell.{arity}
 use Rattle.plan.specs.Plans.{write, writes}
@@ -9,6 +10,7 @@ use Rattle.state.specs.Flags.{spreadOf}
 use Rattle.state.specs.States.{columnIn}
 use Rattle.state.proofs.RowsLaws.{column-length}
 use Rattle.builder.specs.code.Writing.{ToWrite, ToWriteAll}
+use Rattle.builder.proofs.AloneLaws.{alone-fits, alone-written}
 use Rattle.builder.proofs.ChooseLaws.{few-open}
 use Rattle.builder.proofs.WritingLaws.{leaf-room, leaf-written, Inner, inner, Going, going-start, going-done}
 use Rattle.builder.proofs.WritingLaws.{Branch, branch, count-few}
@@ -20,7 +22,9 @@ use Rattle.builder.proofs.writer.+branches+state.Lts-branches as branch
 use Rattle.builder.proofs.writer.state.Reads as state
 use Rattle.builder.proofs.writer.state.Kinds as state-kinds
 use Rattle.builder.proofs.writer.+branches+state.Lts-state as state-lts
+use Rattle.builder.proofs.writer.alone.Reads as alone-reads
 use Rattle.builder.proofs.writer.choose.Reads as choose-reads
+use Rattle.builder.proofs.writer.leaf.Reads as leaf-reads
 use Rattle.cell.proofs.arity_of.Reads as arity-of-reads
 use Rattle.state.proofs.column.run_count.Reads as run-count-reads
 use Rattle.state.proofs.column.run_length.Reads as run-length-reads
@@ -62,6 +66,10 @@ branches-with t = (
 
 abbrev state-with : ℕ → state-lts.Claims
 state-with t = (
+  alone-reads.Asked,
+  alone-reads.Learnt,
+  leaf-reads.Asked,
+  leaf-reads.Learnt,
   choose-reads.Asked,
   choose-reads.Learnt,
   close-rows-reads.Asked,
@@ -199,7 +207,7 @@ abbrev At-count : ℕ → Type 0
 At-count t = state-lts.After-run-count (state-with t) (state-at t) state.Post
 
 abbrev entered : (t : ℕ) → At-count t → state-lts.Start (state-with t) (state-at t) state.Post
-entered t c = c .before .before .before .before .before .before .before .before .before .before .before .before
+entered t c = c .before .before .before .before .before .before .before .before .before .before .before .before .before
 
 -- the inner state, its place taken and closed
 inner-here : (t : ℕ) (c : At-count t) → let r = entered t c .args in
@@ -212,32 +220,53 @@ inner-here : (t : ℕ) (c : At-count t) → let r = entered t c .args in
     (set (set (r .out .now) (r .at) i) (r .at + 1) (c .run-count .result)) (write (q .plan))
 inner-here t c q =
     inner q _ _ _ (c .run-count .result)
-    (omega (arith, c .before .before .before .before .before .before .before .before .before .if1 .left))
+    (omega (arith, c .before .before .before .before .before .before .before .before .before .if3 .left))
     (c .before .before .before .before .before .before .before .choose .ensures)
     (c .before .before .before .before .close-rows .ensures) (c .run-count .ensures)
 
-state-sub-out : (t : ℕ) → state-lts.Need-sub-out (state-with t) (state-at t) state.Post
-state-sub-out t c = search needs
+-- one row with no flag
+abbrev single-at : (t : ℕ) → state-lts.Then2 (state-with t) (state-at t) state.Post → state-lts.Start (state-with t) (state-at t) state.Post
+single-at t c = c .before .before .before .before
 
-state-cast-out : (t : ℕ) → state-lts.Need-cast-out (state-with t) (state-at t) state.Post
-state-cast-out t c = search needs
+state-sub-if1 : (t : ℕ) → state-lts.Need-sub-if1 (state-with t) (state-at t) state.Post
+state-sub-if1 t c = search needs
 
-state-mul-out : (t : ℕ) → state-lts.Need-mul-out (state-with t) (state-at t) state.Post
-state-mul-out t c = search needs
+state-mul-alone : (t : ℕ) → state-lts.Need-mul-alone (state-with t) (state-at t) state.Post
+state-mul-alone t c = search needs
 
-state-element-write-out : (t : ℕ) → state-lts.Need-element-write-out (state-with t) (state-at t) state.Post
-state-element-write-out t c = leaf-room (c .before .before .before .pre .1) (c .if1 .taken)
+state-element-copy-out-alone : (t : ℕ) → state-lts.Need-element-copy-out-alone (state-with t) (state-at t) state.Post
+state-element-copy-out-alone t c = search needs
 
-state-add-result : (t : ℕ) → state-lts.Need-add-result (state-with t) (state-at t) state.Post
-state-add-result t c = search needs
+state-mul-alone-2 : (t : ℕ) → state-lts.Need-mul-alone-2 (state-with t) (state-at t) state.Post
+state-mul-alone-2 t c = search needs
+
+state-element-copy-out-alone-2 : (t : ℕ) → state-lts.Need-element-copy-out-alone-2 (state-with t) (state-at t) state.Post
+state-element-copy-out-alone-2 t c = search needs
+
+state-alone-requires : (t : ℕ) → state-lts.Need-alone-requires (state-with t) (state-at t) state.Post
+state-alone-requires t c κs =
+    let h = c .before .before .before in
+    let q = single-at t h .pre .1 in
+    (q .room .cells, alone-fits q (h .before .if1 .taken) (eqb-true _ _ (h .if2 .taken)))
 
 state-returns : (t : ℕ) → state-lts.Need-returns (state-with t) (state-at t) state.Post
-state-returns t c = λ q. leaf-written q (c .if1 .taken)
+state-returns t c = λ q. let h = c .before .before .before .before in alone-written q (h .before .if1 .taken) (eqb-true _ _ (h .if2 .taken)) _ _ (c .alone .ensures)
+
+state-sub-leaf : (t : ℕ) → state-lts.Need-sub-leaf (state-with t) (state-at t) state.Post
+state-sub-leaf t c = search needs
+
+state-leaf-requires : (t : ℕ) → state-lts.Need-leaf-requires (state-with t) (state-at t) state.Post
+state-leaf-requires t c κs =
+    let q = c .before .before .before .before .before .pre .1 in
+    (omega (arith, q .few), leaf-room q (c .before .if3 .taken))
+
+state-returns-2 : (t : ℕ) → state-lts.Need-returns-2 (state-with t) (state-at t) state.Post
+state-returns-2 t c = λ q. leaf-written q (c .before .before .if3 .taken) _ _ (c .leaf .ensures)
 
 state-choose-requires : (t : ℕ) → state-lts.Need-choose-requires (state-with t) (state-at t) state.Post
 state-choose-requires t c κs =
-    let q = c .before .before .before .before .pre .1 in
-    let r = c .before .before .before .before .args in
+    let q = c .before .before .before .before .before .pre .1 in
+    let r = c .before .before .before .before .before .args in
     (q .some, q .few, few-open (r .table .now) (r .starts .now) (r .masks .now) (q .rows) (q .some), q .flags, q .room .pairs)
 
 state-close-rows-requires : (t : ℕ) → state-lts.Need-close-rows-requires (state-with t) (state-at t) state.Post
@@ -276,20 +305,20 @@ state-cast-count t c =
 state-add-next : (t : ℕ) → state-lts.Need-add-next (state-with t) (state-at t) state.Post
 state-add-next t c = search needs
 
+state-mul-out : (t : ℕ) → state-lts.Need-mul-out (state-with t) (state-at t) state.Post
+state-mul-out t c = search needs
+
+state-element-write-out : (t : ℕ) → state-lts.Need-element-write-out (state-with t) (state-at t) state.Post
+state-element-write-out t c = omega (arith, inner-here t c (entered t c .pre .1) .room)
+
 state-mul-out-2 : (t : ℕ) → state-lts.Need-mul-out-2 (state-with t) (state-at t) state.Post
 state-mul-out-2 t c = search needs
 
 state-element-write-out-2 : (t : ℕ) → state-lts.Need-element-write-out-2 (state-with t) (state-at t) state.Post
 state-element-write-out-2 t c = omega (arith, inner-here t c (entered t c .pre .1) .room)
 
-state-mul-out-3 : (t : ℕ) → state-lts.Need-mul-out-3 (state-with t) (state-at t) state.Post
-state-mul-out-3 t c = search needs
-
-state-element-write-out-3 : (t : ℕ) → state-lts.Need-element-write-out-3 (state-with t) (state-at t) state.Post
-state-element-write-out-3 t c = omega (arith, inner-here t c (entered t c .pre .1) .room)
-
-state-sub-t29 : (t : ℕ) → state-lts.Need-sub-t29 (state-with t) (state-at t) state.Post
-state-sub-t29 t c = search needs
+state-sub-t19 : (t : ℕ) → state-lts.Need-sub-t19 (state-with t) (state-at t) state.Post
+state-sub-t19 t c = search needs
 
 state-add-branches : (t : ℕ) → state-lts.Need-add-branches (state-with t) (state-at t) state.Post
 state-add-branches t c = search needs
@@ -300,8 +329,8 @@ state-branches-requires t c κs =
     let i = inner-here t l (entered t l .pre .1) in
     (omega (arith, entered t l .pre .0, i .room), i .ready)
 
-state-returns-2 : (t : ℕ) → state-lts.Need-returns-2 (state-with t) (state-at t) state.Post
-state-returns-2 t c =
+state-returns-3 : (t : ℕ) → state-lts.Need-returns-3 (state-with t) (state-at t) state.Post
+state-returns-3 t c =
     λ q. let i = inner-here t (c .before .before .before .before) q in
     i .done _ _ _ _ (c .branches .ensures (i .ready))
 
@@ -334,12 +363,16 @@ pub +branches+state-spec : {M : Type 1} → statement M
     λ t. state-lts.spec (state-with t)
     (state-at t)
     state.Post
-    (state-sub-out t)
-    (state-cast-out t)
-    (state-mul-out t)
-    (state-element-write-out t)
-    (state-add-result t)
+    (state-sub-if1 t)
+    (state-mul-alone t)
+    (state-element-copy-out-alone t)
+    (state-mul-alone-2 t)
+    (state-element-copy-out-alone-2 t)
+    (state-alone-requires t)
     (state-returns t)
+    (state-sub-leaf t)
+    (state-leaf-requires t)
+    (state-returns-2 t)
     (state-choose-requires t)
     (state-close-rows-requires t)
     (state-mul-run-count t)
@@ -349,11 +382,11 @@ pub +branches+state-spec : {M : Type 1} → statement M
     (state-run-count-requires t)
     (state-cast-count t)
     (state-add-next t)
+    (state-mul-out t)
+    (state-element-write-out t)
     (state-mul-out-2 t)
     (state-element-write-out-2 t)
-    (state-mul-out-3 t)
-    (state-element-write-out-3 t)
-    (state-sub-t29 t)
+    (state-sub-t19 t)
     (state-add-branches t)
     (state-branches-requires t)
-    (state-returns-2 t)
+    (state-returns-3 t)
