@@ -1,5 +1,6 @@
 -- The open cells of a row by its mask: the lowest bit is the first of them, and the mask without it has the others.
 use mathlib.Core.Path.{_≡_, refl, ap, _∙_}
+use mathlib.Core.Logic.{_⊎_, inl, inr}
 use mathlib.Core.Bool.{true, false}
 use mathlib.Core.List.{List, [], _∷_}
 use Prim.Native.Nat.{ℕ, zero, suc, _+_, _-_, _/_, _%_, _^_, _≤_, _<_}
@@ -16,6 +17,13 @@ is-odd m h = eq-eqb _ _ h
 
 pub is-even : (m : ℕ) → m % 2 ≡ 0 → odd m ≡ false
 is-even m h = ne-eqb _ _ (λ (e : m % 2 ≡ 1). omega arith)
+
+pub parity : (m : ℕ) → (m % 2 ≡ 1) ⊎ (m % 2 ≡ 0)
+parity m = go (m % 2) refl
+  where
+    go : (r : ℕ) → m % 2 ≡ r → (m % 2 ≡ 1) ⊎ (m % 2 ≡ 0)
+    go zero e = inr e
+    go (suc r) e = inl (omega arith)
 
 kept-odd : (m c : ℕ) (xs : List ℕ) → m % 2 ≡ 1 → kept m (c ∷ xs) ≡ c ∷ kept (m / 2) xs
 unfolding kept

@@ -1,2 +1,3 @@
 -- what only private functions need
 pub mod Writing
+pub mod Ahead

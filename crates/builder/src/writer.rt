@@ -1,8 +1,8 @@
 // A plan, written state by state from the places that are kept for all pairs of rows: the builder's, where those are the
 // table's entries (01, "The builder's plan is fixed"). A row in a state is a mask of its open cells, as in the check.
 ghost use mathlib.Core.Path.{_≡_};
-ghost use mathlib.Core.List.{map};
-ghost use Prim.Native.Nat.{_+_, _-_, _^_, _≤_, _<_};
+ghost use mathlib.Core.List.{List, map};
+ghost use Prim.Native.Nat.{ℕ, _+_, _-_, _^_, _≤_, _<_};
 ghost use lib.Dec.{eqb};
 ghost use lib.ListN.{length, set};
 ghost use lib.Seq.{sets};
@@ -14,6 +14,7 @@ ghost use Rattle.state.specs.States.{rowsIn};
 ghost use Rattle.state.specs.code.First.{TableRows};
 ghost use Rattle.least.specs.code.Follow as follow;
 ghost use Rattle.builder.specs.code.Writing.{openIn, chain, ToWrite, ToWriteAll, Written, Planned};
+ghost use Rattle.builder.specs.code.Ahead.{AheadIn, ToCloseRow, ClosedRow, ToClose, ClosedAhead, Again, ToTake, Taken};
 use state::column::run_count;
 use state::column::run_length;
 use state::column::same_symbol;
@@ -22,6 +23,7 @@ use state::flags::spread;
 use state::mask::close_at;
 use state::mask::close_rows;
 use state::mask::open_rows;
+use state::mask::root_at;
 
 // The rows of a state, from first to before end, how many places are open in each, and which of these are inside a named
 // column: bit i for place i.
@@ -69,24 +71,134 @@ fn within(place: u32, opens: usize) -> u32
     if (place as usize) < opens { place } else { 0 }
 }
 
-// The place that is taken at a state: the leftmost that may be chosen and that all rows agree on, otherwise the one kept for its
-// first and last row. While a place inside a named column is open, an agreed place outside them is passed over.
-fn choose(table: &[u32], starts: &[usize; 64], masks: &[u32; 64], kept: &[u32], rows: Rows) -> u32
-    requires { ⌜ (rows .first < rows .end) × (rows .end ≤ 64) × (rows .opens ≤ 32) × (rows .named < 2 ^ rows .opens)
-        × (length (now kept) ≡ 12288) ⌝ }
-    ensures { λ r. ⌜ r ≡ follow.taken (now (kept .entry)) (flagsIn (rows .opens) (rows .named)) (rows .first) (rows .opens)
-        (rowsIn (now (table .entry)) (now (starts .entry)) (now (masks .entry)) (rows .first) (rows .end)) ⌝ }
+// The leftmost place from `from` on that may be chosen and that all rows agree on, and the number of open places where there is none. The
+// terms before `from` are passed: `ahead` has the masks of the cells after them. While a place inside a named column is open, an agreed
+// place outside them is passed over.
+fn leftmost(table: &[u32], starts: &[usize; 64], ahead: &[u32; 64], rows: Rows, from: u32) -> u32
+    requires { ⌜ (rows .first < rows .end) × (rows .end ≤ 64) × (rows .opens ≤ 32) × (rows .named < 2 ^ rows .opens) ⌝ }
+    ensures { λ r. ⌜ ((ms : List ℕ) → AheadIn (now (table .entry)) (now (starts .entry)) ms (now (ahead .entry)) from (rows .first) (rows .end)
+        → r ≡ follow.agreedFrom (flagsIn (rows .opens) (rows .named)) (rows .opens - from) from
+        (rowsIn (now (table .entry)) (now (starts .entry)) ms (rows .first) (rows .end))) ⌝ }
 {
-    let mut i: u32 = 0;
+    let mut i = from;
     while (i as usize) < rows.opens {
-        if may(rows.named, i) && agreed_at(table, starts, masks, i, rows.first, rows.end) {
+        if may(rows.named, i) && agreed_at(table, starts, ahead, i - from, rows.first, rows.end) {
             return i;
         }
         i += 1;
     }
-    let last = rows.end - 1;
-    let pair = 64 * rows.first + last;
-    within(kept[8192 + pair], rows.opens)
+    i
+}
+
+// A row's mask, and what of it is ahead of the terms that are passed.
+struct Row {
+    mask: u32,
+    ahead: u32,
+}
+
+// Closes a row's place i, counted from the cells ahead: its bit goes out of the mask, and what is ahead of it are the bits above.
+fn close_row(table: &[u32], start: usize, mask: u32, ahead: u32, i: u32) -> Row
+    requires { ⌜ ToCloseRow (now table) start mask ahead i ⌝ }
+    ensures { λ r. ⌜ ((q : ToCloseRow (now (table .entry)) start mask ahead i)
+        → ClosedRow (now (table .entry)) start mask (q .from + i) (r .mask) (r .ahead)) ⌝ }
+{
+    let bit = root_at(table, start, ahead, i);
+    let rest = mask - (1 << bit);
+    Row {
+        mask: rest,
+        ahead: rest >> bit << bit,
+    }
+}
+
+// The same for the rows from first to before end.
+fn close_ahead(
+    table: &[u32],
+    starts: &[usize; 64],
+    masks: &mut [u32; 64],
+    ahead: &mut [u32; 64],
+    i: u32,
+    first: usize,
+    end: usize,
+)
+    requires { ⌜ ToClose (now table) (now starts) (now masks) (now ahead) i first end ⌝ }
+    ensures { λ _. ⌜ ((q : ToClose (now (table .entry)) (now (starts .entry)) (now (masks .entry)) (now (ahead .entry)) i first end)
+        → ClosedAhead (now (table .entry)) (now (starts .entry)) (now (masks .entry)) (now (masks .exit)) (now (ahead .exit))
+        (q .from + i) first end) ⌝ }
+{
+    let mut row = first;
+    while row < end {
+        let closed = close_row(table, starts[row], masks[row], ahead[row], i);
+        masks[row] = closed.mask;
+        ahead[row] = closed.ahead;
+        row += 1;
+    }
+}
+
+// Where to go on looking once place i is closed. The places before it are still not agreed; but with flags set another may become free to be
+// chosen, so that all are looked at again.
+fn again(named: u64, i: u32, masks: &[u32; 64], ahead: &mut [u32; 64]) -> u32
+    ensures { λ r. ⌜ Again named i (now (masks .entry)) (now (ahead .entry)) (now (ahead .exit)) r ⌝ }
+{
+    if named == 0 {
+        return i;
+    }
+    *ahead = *masks;
+    0
+}
+
+// A state that is reached: its open places, their flags, and the place where its plan is to be written.
+struct Reached {
+    opens: usize,
+    named: u64,
+    next: usize,
+}
+
+// The states from a place on at which all rows agree, each with its one branch; the same rows are below it. Each row's cells are gone through
+// once, since those before a place that is taken are passed.
+fn agreed(
+    table: &[u32],
+    starts: &[usize; 64],
+    masks: &mut [u32; 64],
+    out: &mut [u32; 6082],
+    rows: Rows,
+    at: usize,
+) -> Reached
+    requires { ⌜ ToTake (now table) (now starts) (now masks) (now out) (rows .first) (rows .end) (rows .opens) (rows .named) at ⌝ }
+    ensures { λ r. ⌜ ((hs kept : List ℕ) (q : ToWrite (now (table .entry)) (now (starts .entry)) (now (masks .entry)) hs kept (now (out .entry))
+        (rows .first) (rows .end) (rows .opens) (rows .named) at)
+        → Taken (now (table .entry)) (now (starts .entry)) kept (now (masks .entry)) hs (now (out .entry)) (rows .first) (rows .end) at
+        (write (q .plan)) (now (masks .exit)) (now (out .exit)) (r .opens) (r .named) (r .next)) ⌝ }
+{
+    let first = rows.first;
+    let end = rows.end;
+    let mut ahead = *masks;
+    let mut from: u32 = 0;
+    let mut opens = rows.opens;
+    let mut named = rows.named;
+    let mut next = at;
+    let mut i = leftmost(table, starts, &ahead, rows, 0);
+    while (i as usize) < opens {
+        let c = close_at(table, starts[first], ahead[first], i - from).cell;
+        close_ahead(table, starts, masks, &mut ahead, i - from, first, end);
+        let second = next + 1;
+        let third = next + 2;
+        out[next] = i;
+        out[second] = 1;
+        out[third] = c;
+        next += 3;
+        let args = cell::arity_of(c);
+        opens = args + (opens - 1);
+        from = again(named, i, &*masks, &mut ahead);
+        named = spread(named, i, args);
+        let below = Rows {
+            first,
+            end,
+            opens,
+            named,
+        };
+        i = leftmost(table, starts, &ahead, below, from);
+    }
+    Reached { opens, named, next }
 }
 
 // A leaf at a place: its number of rows. The place after it.
@@ -127,8 +239,9 @@ fn alone(table: &[u32], start: usize, mask: u32, out: &mut [u32; 6082], at: usiz
     leaf(out, 1, next)
 }
 
-// The plan of a state, from a place on; the place after it. One row with no flag is written by a loop; with flags it goes place by place as
-// any rows do, since the leftmost place that may be chosen need not be the first.
+// The plan of a state, from a place on; the place after it. A row that is alone is written cell by cell where no flag is set; with flags the
+// leftmost place that may be chosen need not be the first, and it goes by its agreed places as other rows do. Where none is agreed the place
+// kept for the first and last row is taken.
 fn state(
     table: &[u32],
     starts: &[usize; 64],
@@ -148,28 +261,31 @@ fn state(
 {
     let first = rows.first;
     let end = rows.end;
-    let opens = rows.opens;
-    let named = rows.named;
-    if end - first == 1 && named == 0 {
+    if end - first == 1 && rows.named == 0 {
         return alone(table, starts[first], masks[first], out, at);
     }
+    let reached = agreed(table, starts, masks, out, rows, at);
+    let opens = reached.opens;
+    let next = reached.next;
     if opens == 0 {
-        return leaf(out, end - first, at);
+        return leaf(out, end - first, next);
     }
-    let i = choose(table, starts, &*masks, kept, rows);
+    let last = end - 1;
+    let pair = 64 * first + last;
+    let i = within(kept[8192 + pair], opens);
     close_rows(table, starts, masks, column, i, first, end);
     let cells = &column[..];
     let count = run_count(&cells[first..end]) as u32;
-    let next = at + 1;
-    out[at] = i;
-    out[next] = count;
+    let second = next + 1;
+    out[next] = i;
+    out[second] = count;
     let others = Rows {
         first,
         end,
         opens: opens - 1,
-        named,
+        named: reached.named,
     };
-    branches(table, starts, masks, column, kept, out, others, i, at + 2)
+    branches(table, starts, masks, column, kept, out, others, i, next + 2)
 }
 
 // The branches from a place on, one for each run of the rows whose open place i is closed; below each, these places are open

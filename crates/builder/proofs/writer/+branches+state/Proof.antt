@@ -1,4 +1,4 @@
-use mathlib.Core.Path.{_≡_, refl}
+use mathlib.Core.Path.{_≡_, refl, _∙_}
 use Prim.Native.Nat.{ℕ, _+_, _-_, _<_}
 use native.Mathlib.Omega.{arith}
 use borrow.Author.Needs.{needs}
@@ -6,12 +6,14 @@ use borrow.Author.Tests.{eqb-true}
 use lib.ListN.{getD, set}
 use Rattle.cell.specs.Cell.{arity}
 use Rattle.plan.specs.Plans.{write, writes}
-use Rattle.state.specs.Flags.{spreadOf}
-use Rattle.state.specs.States.{columnIn}
+use Rattle.state.specs.Flags.{flagsIn, spreadOf}
+use Rattle.state.specs.States.{rowsIn, columnIn}
 use Rattle.state.proofs.RowsLaws.{column-length}
 use Rattle.builder.specs.code.Writing.{ToWrite, ToWriteAll}
+use Rattle.builder.specs.code.Ahead.{Taken}
 use Rattle.builder.proofs.AloneLaws.{alone-fits, alone-written}
-use Rattle.builder.proofs.ChooseLaws.{few-open}
+use Rattle.builder.proofs.ChooseLaws.{few-open, rows-end, taken-kept}
+use Rattle.builder.proofs.TakingLaws.{taking-done}
 use Rattle.builder.proofs.WritingLaws.{leaf-room, leaf-written, Inner, inner, Going, going-start, going-done}
 use Rattle.builder.proofs.WritingLaws.{Branch, branch, count-few}
 use borrow.Fn.Kinds.{In}
@@ -23,8 +25,9 @@ use Rattle.builder.proofs.writer.state.Reads as state
 use Rattle.builder.proofs.writer.state.Kinds as state-kinds
 use Rattle.builder.proofs.writer.+branches+state.Lts-state as state-lts
 use Rattle.builder.proofs.writer.alone.Reads as alone-reads
-use Rattle.builder.proofs.writer.choose.Reads as choose-reads
+use Rattle.builder.proofs.writer.agreed.Reads as agreed-reads
 use Rattle.builder.proofs.writer.leaf.Reads as leaf-reads
+use Rattle.builder.proofs.writer.within.Reads as within-reads
 use Rattle.cell.proofs.arity_of.Reads as arity-of-reads
 use Rattle.state.proofs.column.run_count.Reads as run-count-reads
 use Rattle.state.proofs.column.run_length.Reads as run-length-reads
@@ -68,10 +71,12 @@ abbrev state-with : ℕ → state-lts.Claims
 state-with t = (
   alone-reads.Asked,
   alone-reads.Learnt,
+  agreed-reads.Asked,
+  agreed-reads.Learnt,
   leaf-reads.Asked,
   leaf-reads.Learnt,
-  choose-reads.Asked,
-  choose-reads.Learnt,
+  within-reads.Asked,
+  within-reads.Learnt,
   close-rows-reads.Asked,
   close-rows-reads.Learnt,
   run-count-reads.Asked,
@@ -202,31 +207,58 @@ branches-loop-again t c =
 branches-returns : (t : ℕ) → branches-lts.Need-returns (branches-with t) (branches-at t) branches.Post branches-Inv-loop branches-μ-loop
 branches-returns t c = λ q. going-done (c .before .loop .inv q) (omega arith)
 
--- the same of `state`: where the runs are counted, and the call
+-- the same of `state`: where its agreed places are taken, where the runs are counted, and the call
+abbrev At-agreed : ℕ → Type 0
+At-agreed t = state-lts.After-agreed (state-with t) (state-at t) state.Post
+
+abbrev entered : (t : ℕ) → At-agreed t → state-lts.Start (state-with t) (state-at t) state.Post
+entered t c = c .before .before .before .before .before .before
+
 abbrev At-count : ℕ → Type 0
 At-count t = state-lts.After-run-count (state-with t) (state-at t) state.Post
 
-abbrev entered : (t : ℕ) → At-count t → state-lts.Start (state-with t) (state-at t) state.Post
-entered t c = c .before .before .before .before .before .before .before .before .before .before .before .before .before
+abbrev agreed-at : (t : ℕ) → At-count t → At-agreed t
+agreed-at t c = c .before .before .before .before .before .before .before .before .before .before
 
--- the inner state, its place taken and closed
-inner-here : (t : ℕ) (c : At-count t) → let r = entered t c .args in
-    let i = c .before .before .before .before .before .before .before .choose .result in
+-- the state that is reached
+taken-here : (t : ℕ) (c : At-agreed t) → let r = entered t c .args in
     (q : ToWrite (r .table .now) (r .starts .now) (r .masks .now) (r .column .now) (r .kept .now) (r .out .now)
     (r .rows .first) (r .rows .end) (r .rows .opens) (r .rows .named) (r .at))
-    → Inner (r .table .now) (r .starts .now) (r .masks .now) (r .column .now) (r .kept .now) (r .out .now)
-    (r .rows .first) (r .rows .end) (r .rows .opens) (r .rows .named) i (r .at)
+    → Taken (r .table .now) (r .starts .now) (r .kept .now) (r .masks .now) (r .column .now) (r .out .now)
+    (r .rows .first) (r .rows .end) (r .at) (write (q .plan))
+    (c .agreed .last .1 .1 .0) (c .agreed .last .1 .1 .1 .0) (c .agreed .result .opens) (c .agreed .result .named) (c .agreed .result .next)
+taken-here t c q = c .agreed .ensures _ _ q
+
+some-taken : (t : ℕ) (c : At-agreed t) → let r = entered t c .args in
+    Taken (r .table .now) (r .starts .now) (r .kept .now) (r .masks .now) (r .column .now) (r .out .now)
+    (r .rows .first) (r .rows .end) (r .at) (write (entered t c .pre .1 .plan))
+    (c .agreed .last .1 .1 .0) (c .agreed .last .1 .1 .1 .0) (c .agreed .result .opens) (c .agreed .result .named) (c .agreed .result .next)
+some-taken t c = taken-here t c (entered t c .pre .1)
+
+-- its kept place is taken and closed
+inner-here : (t : ℕ) (c : At-count t) → let a = agreed-at t c in let r = entered t a .args in let i = c .before .before .before .before .before .before .before .within .result in
+    (q : ToWrite (r .table .now) (r .starts .now) (r .masks .now) (r .column .now) (r .kept .now) (r .out .now)
+    (r .rows .first) (r .rows .end) (r .rows .opens) (r .rows .named) (r .at))
+    → Inner (r .table .now) (r .starts .now) (a .agreed .last .1 .1 .0) (r .column .now) (r .kept .now) (a .agreed .last .1 .1 .1 .0)
+    (r .rows .first) (r .rows .end) (a .agreed .result .opens) (a .agreed .result .named) i (a .agreed .result .next)
     (c .before .before .before .before .close-rows .last .1 .1 .0) (c .before .before .before .before .close-rows .last .1 .1 .1 .0)
-    (set (set (r .out .now) (r .at) i) (r .at + 1) (c .run-count .result)) (write (q .plan))
+    (set (set (a .agreed .last .1 .1 .1 .0) (a .agreed .result .next) i) (a .agreed .result .next + 1) (c .run-count .result))
+    (write (taken-here t a q .taking .rest .plan))
 inner-here t c q =
-    inner q _ _ _ (c .run-count .result)
+    let a = agreed-at t c in
+    let r = entered t a .args in
+    let x = taken-here t a q in
+    let z = x .taking .rest in
+    inner z _ _ _ (c .run-count .result)
     (omega (arith, c .before .before .before .before .before .before .before .before .before .if3 .left))
-    (c .before .before .before .before .before .before .before .choose .ensures)
+    (c .before .before .before .before .before .before .before .within .ensures
+    ∙ taken-kept (flagsIn (a .agreed .result .opens) (a .agreed .result .named))
+    (rowsIn (r .table .now) (r .starts .now) (a .agreed .last .1 .1 .0) (r .rows .first) (r .rows .end)) (r .kept .now) (r .rows .first)
+    (a .agreed .result .opens) _ refl (r .rows .end) (x .none) (rows-end (r .table .now) (r .starts .now) (a .agreed .last .1 .1 .0) (z .some)))
     (c .before .before .before .before .close-rows .ensures) (c .run-count .ensures)
 
--- one row with no flag
-abbrev single-at : (t : ℕ) → state-lts.Then2 (state-with t) (state-at t) state.Post → state-lts.Start (state-with t) (state-at t) state.Post
-single-at t c = c .before .before .before .before
+some-inner : (t : ℕ) (c : At-count t) → agreed-at t c .agreed .result .next + 1 < 6082
+some-inner t c = inner-here t c (entered t (agreed-at t c) .pre .1) .room
 
 state-sub-if1 : (t : ℕ) → state-lts.Need-sub-if1 (state-with t) (state-at t) state.Post
 state-sub-if1 t c = search needs
@@ -246,28 +278,51 @@ state-element-copy-out-alone-2 t c = search needs
 state-alone-requires : (t : ℕ) → state-lts.Need-alone-requires (state-with t) (state-at t) state.Post
 state-alone-requires t c κs =
     let h = c .before .before .before in
-    let q = single-at t h .pre .1 in
-    (q .room .cells, alone-fits q (h .before .if1 .taken) (eqb-true _ _ (h .if2 .taken)))
+    let q = h .before .before .before .before .before .pre .1 in
+    (q .room .cells, alone-fits q (h .before .before .if1 .taken) (eqb-true _ _ (h .if2 .taken)))
 
 state-returns : (t : ℕ) → state-lts.Need-returns (state-with t) (state-at t) state.Post
-state-returns t c = λ q. let h = c .before .before .before .before in alone-written q (h .before .if1 .taken) (eqb-true _ _ (h .if2 .taken)) _ _ (c .alone .ensures)
+state-returns t c =
+    λ q. let h = c .before .before .before .before in alone-written q (h .before .before .if1 .taken) (eqb-true _ _ (h .if2 .taken)) _ _ (c .alone .ensures)
+
+state-agreed-requires : (t : ℕ) → state-lts.Need-agreed-requires (state-with t) (state-at t) state.Post
+state-agreed-requires t c κs =
+    let s = c .before .before .before .before .before in
+    record { column = s .args .column .now; places = s .args .kept .now; state = s .pre .1 }
 
 state-sub-leaf : (t : ℕ) → state-lts.Need-sub-leaf (state-with t) (state-at t) state.Post
 state-sub-leaf t c = search needs
 
 state-leaf-requires : (t : ℕ) → state-lts.Need-leaf-requires (state-with t) (state-at t) state.Post
 state-leaf-requires t c κs =
-    let q = c .before .before .before .before .before .pre .1 in
-    (omega (arith, q .few), leaf-room q (c .before .if3 .taken))
+    let r = some-taken t (c .before .before) .taking .rest in
+    (omega (arith, r .few), leaf-room r (c .before .if3 .taken))
 
 state-returns-2 : (t : ℕ) → state-lts.Need-returns-2 (state-with t) (state-at t) state.Post
-state-returns-2 t c = λ q. leaf-written q (c .before .before .if3 .taken) _ _ (c .leaf .ensures)
+state-returns-2 t c =
+    λ q. let x = taken-here t (c .before .before .before) q .taking in
+    taking-done x _ _ _ _ (leaf-written (x .rest) (c .before .before .if3 .taken) _ _ (c .leaf .ensures))
 
-state-choose-requires : (t : ℕ) → state-lts.Need-choose-requires (state-with t) (state-at t) state.Post
-state-choose-requires t c κs =
-    let q = c .before .before .before .before .before .pre .1 in
-    let r = c .before .before .before .before .before .args in
-    (q .some, q .few, few-open (r .table .now) (r .starts .now) (r .masks .now) (q .rows) (q .some), q .flags, q .room .pairs)
+state-sub-last : (t : ℕ) → state-lts.Need-sub-last (state-with t) (state-at t) state.Post
+state-sub-last t c = search needs
+
+state-mul-pair : (t : ℕ) → state-lts.Need-mul-pair (state-with t) (state-at t) state.Post
+state-mul-pair t c = search needs
+
+state-add-pair : (t : ℕ) → state-lts.Need-add-pair (state-with t) (state-at t) state.Post
+state-add-pair t c = search needs
+
+state-add-within : (t : ℕ) → state-lts.Need-add-within (state-with t) (state-at t) state.Post
+state-add-within t c = search needs
+
+state-mul-within : (t : ℕ) → state-lts.Need-mul-within (state-with t) (state-at t) state.Post
+state-mul-within t c = search needs
+
+state-shared-slice-read-within : (t : ℕ) → state-lts.Need-shared-slice-read-within (state-with t) (state-at t) state.Post
+state-shared-slice-read-within t c = search needs
+
+state-within-requires : (t : ℕ) → state-lts.Need-within-requires (state-with t) (state-at t) state.Post
+state-within-requires t c κs = search needs
 
 state-close-rows-requires : (t : ℕ) → state-lts.Need-close-rows-requires (state-with t) (state-at t) state.Post
 state-close-rows-requires t c κs = search needs
@@ -289,8 +344,8 @@ state-run-count-requires t c κs = search needs
 
 state-cast-count : (t : ℕ) → state-lts.Need-cast-count (state-with t) (state-at t) state.Post
 state-cast-count t c =
-    let q = entered t c .pre .1 in
-    let r = entered t c .args .rows in
+    let q = entered t (agreed-at t c) .pre .1 in
+    let r = entered t (agreed-at t c) .args .rows in
     let h = c .before .before .before .before .close-rows .last .1 .1 .1 .0 in
     let z = inner-here t c q .ready .room .column in
     omega (
@@ -302,37 +357,39 @@ state-cast-count t c =
       q .some,
     )
 
-state-add-next : (t : ℕ) → state-lts.Need-add-next (state-with t) (state-at t) state.Post
-state-add-next t c = search needs
+state-add-second : (t : ℕ) → state-lts.Need-add-second (state-with t) (state-at t) state.Post
+state-add-second t c = record { fits = omega (arith, some-inner t c) }
 
 state-mul-out : (t : ℕ) → state-lts.Need-mul-out (state-with t) (state-at t) state.Post
-state-mul-out t c = search needs
-
-state-element-write-out : (t : ℕ) → state-lts.Need-element-write-out (state-with t) (state-at t) state.Post
-state-element-write-out t c = omega (arith, inner-here t c (entered t c .pre .1) .room)
+state-mul-out t c = record { fits = omega (arith, some-inner t c) }
 
 state-mul-out-2 : (t : ℕ) → state-lts.Need-mul-out-2 (state-with t) (state-at t) state.Post
-state-mul-out-2 t c = search needs
+state-mul-out-2 t c = record { fits = omega (arith, some-inner t c) }
+
+state-element-write-out : (t : ℕ) → state-lts.Need-element-write-out (state-with t) (state-at t) state.Post
+state-element-write-out t c = omega (arith, some-inner t c)
 
 state-element-write-out-2 : (t : ℕ) → state-lts.Need-element-write-out-2 (state-with t) (state-at t) state.Post
-state-element-write-out-2 t c = omega (arith, inner-here t c (entered t c .pre .1) .room)
+state-element-write-out-2 t c = omega (arith, some-inner t c)
 
-state-sub-t19 : (t : ℕ) → state-lts.Need-sub-t19 (state-with t) (state-at t) state.Post
-state-sub-t19 t c = search needs
+state-sub-t22 : (t : ℕ) → state-lts.Need-sub-t22 (state-with t) (state-at t) state.Post
+state-sub-t22 t c = search needs
 
 state-add-branches : (t : ℕ) → state-lts.Need-add-branches (state-with t) (state-at t) state.Post
-state-add-branches t c = search needs
+state-add-branches t c = record { fits = omega (arith, some-inner t (c .before .before .before)) }
 
 state-branches-requires : (t : ℕ) → state-lts.Need-branches-requires (state-with t) (state-at t) state.Post
 state-branches-requires t c κs =
     let l = c .before .before .before in
-    let i = inner-here t l (entered t l .pre .1) in
-    (omega (arith, entered t l .pre .0, i .room), i .ready)
+    let a = agreed-at t l in
+    let s = entered t a in
+    (omega (arith, s .pre .0, some-inner t l, some-taken t a .taking .later), inner-here t l (s .pre .1) .ready)
 
 state-returns-3 : (t : ℕ) → state-lts.Need-returns-3 (state-with t) (state-at t) state.Post
 state-returns-3 t c =
-    λ q. let i = inner-here t (c .before .before .before .before) q in
-    i .done _ _ _ _ (c .branches .ensures (i .ready))
+    λ q. let l = c .before .before .before .before in
+    let i = inner-here t l q in
+    taking-done (taken-here t (agreed-at t l) q .taking) _ _ _ _ (i .done _ _ _ _ (c .branches .ensures (i .ready)))
 
 pub +branches+state-spec : {M : Type 1} → statement M
 +branches+state-spec = close μ-branches μ-state (λ t. branches-lts.spec (branches-with t)
@@ -370,10 +427,17 @@ pub +branches+state-spec : {M : Type 1} → statement M
     (state-element-copy-out-alone-2 t)
     (state-alone-requires t)
     (state-returns t)
+    (state-agreed-requires t)
     (state-sub-leaf t)
     (state-leaf-requires t)
     (state-returns-2 t)
-    (state-choose-requires t)
+    (state-sub-last t)
+    (state-mul-pair t)
+    (state-add-pair t)
+    (state-add-within t)
+    (state-mul-within t)
+    (state-shared-slice-read-within t)
+    (state-within-requires t)
     (state-close-rows-requires t)
     (state-mul-run-count t)
     (state-sub-run-count t)
@@ -381,12 +445,12 @@ pub +branches+state-spec : {M : Type 1} → statement M
     (state-part-run-count-end t)
     (state-run-count-requires t)
     (state-cast-count t)
-    (state-add-next t)
+    (state-add-second t)
     (state-mul-out t)
     (state-element-write-out t)
     (state-mul-out-2 t)
     (state-element-write-out-2 t)
-    (state-sub-t19 t)
+    (state-sub-t22 t)
     (state-add-branches t)
     (state-branches-requires t)
     (state-returns-3 t)
