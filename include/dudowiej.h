@@ -1,6 +1,6 @@
 /* The rule tables as a C library: tables from Prolog text, reading tables and goals, the least plan, also for columns that are always filled
- * in, the check of any plan, the run of a plan on a goal, what the rows say to it, edits of a row at a time, a plan handed back as Prolog,
- * one file for a table and its plan, and what is saved of a bad one.
+ * in, and the one that a list of goals likes best, the check of any plan, the run of a plan on a goal, what the rows say to it, edits of a row
+ * at a time, a plan handed back as Prolog, one file for a table and its plan, and what is saved of a bad one.
  *
  * Link target/staticlib/libexports.a, which `rt staticlib exports` writes (x86-64).
  *
@@ -35,8 +35,8 @@ extern "C" {
 #endif
 
 /* The version of what this header declares. The first number is 0 while requests are open. The second counts the base and the requests that
- * have landed on it, W-201 to W-213. The third counts changes of this header since the last of them. */
-#define DUDOWIEJ_VERSION "0.14.0"
+ * have landed on it, W-201 to W-213 and dudowiej_build_liked. The third counts changes of this header since the last of them. */
+#define DUDOWIEJ_VERSION "0.15.0"
 
 /* What no table, row, goal, plan, text, reply, program or file exceeds. */
 enum {
@@ -114,8 +114,8 @@ uint64_t dudowiej_read_table(const uint32_t *table, size_t table_cells);
 /* A table that is worked out: its cells and its figure, and for every run of rows what it costs and which place it takes first. It comes
  * from dudowiej_work_out and from the three edits alone. It holds no pointer: it may be copied by assignment, kept in a file and loaded
  * again. With any other numbers in it every call still ends, and stays within the record and the lent room. Reading a goal or a row,
- * checking and running then answer for the table that the first part holds, whose refusal comes first; dudowiej_build_for for that table
- * and the figure; what dudowiej_build_plan and the edits make of such a record is not said.
+ * checking and running then answer for the table that the first part holds, whose refusal comes first; dudowiej_build_for and
+ * dudowiej_build_liked for that table and the figure; what dudowiej_build_plan and the edits make of such a record is not said.
  *
  *   cell[0]            the table's number of cells; more than DUDOWIEJ_TABLE_CELLS are read as a table of none
  *   cell[1]            the figure
@@ -231,6 +231,33 @@ _Static_assert(offsetof(struct dudowiej_job, number) == 16 && offsetof(struct du
  * the plan's branches. Second: 0. */
 uint64_t dudowiej_run_jobs(const dudowiej_record *record, const uint32_t *plan, size_t plan_cells, const uint32_t *cells,
                            size_t cells_count, struct dudowiej_job *jobs, size_t jobs_count);
+
+/* What dudowiej_build_liked found: the columns that its plan was built for, bit c for column c, and so 0 for the plain plan; the branches that
+ * the goals of the list try by this plan, all together; and what they would have tried by the plain plan. */
+typedef struct {
+    size_t columns, tried, plain;
+} dudowiej_liked;
+
+#ifndef __cplusplus
+_Static_assert(sizeof(dudowiej_liked) == 24, "three words of 64 bits");
+#endif
+
+/* Writes the plan that a list of goals likes best, last month's jobs for example, to the front of the room; the rest of it is untouched. Of the
+ * plans that dudowiej_build_for writes for each set of columns, it is the one by which the goals try the fewest branches, all together. Where
+ * several do, it is the plain one, which is that of no column; otherwise the one whose columns, as bits, are the smallest number. So it never
+ * tries more than the plain plan does. A plan that is none of these may try fewer still.
+ *
+ * The list has two words for each goal, one goal after another: where its cells start among the lent cells, and how many they are. An odd last
+ * word is passed over. Goals may share cells. A goal that is refused adds nothing, by whatever plan, and neither does one whose start or count
+ * reaches past the lent cells; which these are is not said. Of a list without goals it is the plain plan, and both sums are 0. A sum that
+ * would be over 2^64 - 1 stays there.
+ *
+ * First: the cells written. Second: the plan's cost, by the record's figure. Refused in this order: FIGURE, which concerns DUDOWIEJ_FIGURE at 0;
+ * the table; then the room, the place being the cells that the plan found needs. Where anything is refused nothing is written, nor is liked. A
+ * room of DUDOWIEJ_PLAN_CELLS cells is always large enough. Any record at all is answered by its table and its figure, as by
+ * dudowiej_build_for. Up to 255 plans are built, and the list is run by each: this is work for a night, not for each goal (docs/BENCH.md). */
+uint64_t dudowiej_build_liked(const dudowiej_record *record, const uint32_t *goals, size_t goal_cells, const size_t *list, size_t words,
+                              uint32_t *room, size_t room_cells, dudowiej_liked *liked);
 
 /* Runs a plan on a goal and writes for each row that unifies with it what the two have in common: the goal with the row's bindings filled
  * in, its variables numbered anew from 0. The replies stand one after another in row order at the front of the room, each as many terms as
