@@ -7,6 +7,8 @@ mod edits;
 mod filed;
 pub mod files;
 mod handed;
+pub mod liked;
+mod likings;
 pub mod listings;
 pub mod repeats;
 mod replies;
@@ -115,6 +117,24 @@ pub fn columns<E: Engine>(exported: &E, tally: Tally, count: usize, seed: u64) -
     for _ in 0..count {
         comparison.random_columns();
     }
+    comparison.tally
+}
+
+/// Goes on with plans that lists of goals like best: fixed ones, then so many random tables with lists.
+pub fn liked<E: Engine>(exported: &E, tally: Tally, count: usize, seed: u64) -> Tally {
+    let mut comparison = Comparison { exported, random: Random::new(seed), tally };
+    comparison.fixed_liked();
+    for _ in 0..count {
+        comparison.random_liked();
+    }
+    comparison.tally
+}
+
+/// Goes on with the largest tables and the longest lists of them.
+pub fn liked_at_length<E: Engine>(exported: &E, tally: Tally, seed: u64) -> Tally {
+    let mut comparison = Comparison { exported, random: Random::new(seed), tally };
+    comparison.liked_full();
+    comparison.liked_by_many();
     comparison.tally
 }
 

@@ -1,5 +1,6 @@
 //! The entries, as the library exports them and as the independent implementation answers them.
 
+use crate::model::liked::{self, Liked};
 use crate::model::record::{figure_in, table_in, Record};
 use crate::model::salvage::Report;
 use crate::model::{self, refusal::packed};
@@ -24,6 +25,7 @@ pub trait Engine {
     fn salvage(&self, file: &[u8], table: &mut [u32], plan: &mut [u32], bad: &mut [usize], report: &mut Report) -> u64;
     fn build_for(&self, record: &Record, columns: &[u32], room: &mut [u32]) -> u64;
     fn check_for(&self, record: &Record, columns: &[u32], plan: &[u32]) -> u64;
+    fn build_liked(&self, record: &Record, goals: &[u32], list: &[usize], room: &mut [u32], liked: &mut Liked) -> u64;
 }
 
 /// The independent implementation with runs by the definitions.
@@ -33,7 +35,7 @@ pub struct Definition;
 pub struct Plain;
 
 macro_rules! independent {
-    ($engine:ty, $run_plan:path) => {
+    ($engine:ty, $run_plan:path, $tried:path) => {
         impl Engine for $engine {
             fn read_table(&self, table: &[u32]) -> u64 {
                 packed(model::read_table(table))
@@ -89,12 +91,15 @@ macro_rules! independent {
             fn check_for(&self, record: &Record, columns: &[u32], plan: &[u32]) -> u64 {
                 packed(model::check_for(table_in(record), columns, plan))
             }
+            fn build_liked(&self, record: &Record, goals: &[u32], list: &[usize], room: &mut [u32], liked: &mut Liked) -> u64 {
+                packed(model::build_liked(table_in(record), figure_in(record), goals, list, $tried, room, liked))
+            }
         }
     };
 }
 
-independent!(Definition, model::run_plan_by_definition);
-independent!(Plain, model::run_plan);
+independent!(Definition, model::run_plan_by_definition, model::run::tried);
+independent!(Plain, model::run_plan, liked::by_walk);
 
 #[cfg(not(feature = "stand-in"))]
 pub use exported::Exported;
@@ -104,7 +109,7 @@ pub use Plain as Exported;
 
 #[cfg(not(feature = "stand-in"))]
 mod exported {
-    use super::{Engine, Record, Report};
+    use super::{Engine, Liked, Record, Report};
 
     /// The functions of target/staticlib/libexports.a (include/dudowiej.h).
     pub struct Exported;
@@ -164,9 +169,19 @@ mod exported {
         ) -> u64;
         fn dudowiej_build_for(record: *const Record, columns: *const u32, columns_count: usize, room: *mut u32, room_cells: usize) -> u64;
         fn dudowiej_check_for(record: *const Record, columns: *const u32, columns_count: usize, plan: *const u32, plan_cells: usize) -> u64;
+        fn dudowiej_build_liked(
+            record: *const Record,
+            goals: *const u32,
+            goal_cells: usize,
+            list: *const usize,
+            words: usize,
+            room: *mut u32,
+            room_cells: usize,
+            liked: *mut Liked,
+        ) -> u64;
     }
 
-    // Each pointer and length below is one slice's, a record's or a report's pointer is a reference; what is written is borrowed alone.
+    // Each pointer and length below is one slice's; a record's, a report's and the last one's pointer is a reference; what is written is borrowed alone.
     impl Engine for Exported {
         fn read_table(&self, table: &[u32]) -> u64 {
             unsafe { dudowiej_read_table(table.as_ptr(), table.len()) }
@@ -223,6 +238,10 @@ mod exported {
         }
         fn check_for(&self, record: &Record, columns: &[u32], plan: &[u32]) -> u64 {
             unsafe { dudowiej_check_for(record, columns.as_ptr(), columns.len(), plan.as_ptr(), plan.len()) }
+        }
+        fn build_liked(&self, record: &Record, goals: &[u32], list: &[usize], room: &mut [u32], liked: &mut Liked) -> u64 {
+            let ((goals, goal_cells), (list, words)) = ((goals.as_ptr(), goals.len()), (list.as_ptr(), list.len()));
+            unsafe { dudowiej_build_liked(record, goals, goal_cells, list, words, room.as_mut_ptr(), room.len(), liked) }
         }
     }
 }

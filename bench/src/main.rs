@@ -111,6 +111,7 @@ fn compared(rounds: usize, seed: u64) -> ExitCode {
     let tally = compare::edits(&Exported, tally, rounds / 10, seed);
     let tally = compare::clauses(&Exported, tally, rounds, seed);
     let tally = compare::columns(&Exported, tally, rounds / 2, seed);
+    let tally = compare::liked_at_length(&Exported, compare::liked(&Exported, tally, rounds / 8, seed), seed);
     let tally = compare::files(&Exported, tally, rounds, seed);
     let tally = compare::salvages(&Exported, tally, rounds, seed);
     println!("{tally}");

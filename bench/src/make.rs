@@ -1,4 +1,4 @@
-//! Random inputs: tables, rows, records, goals, plans, lists of names and of columns, files and cards, sound and damaged.
+//! Random inputs: tables, rows, records, goals, plans, lists of goals, of names and of columns, files and cards, sound and damaged.
 
 pub mod big;
 pub mod cards;
@@ -7,6 +7,7 @@ pub mod damage;
 pub mod files;
 pub mod goals;
 pub mod instances;
+pub mod lists;
 pub mod names;
 pub mod plans;
 pub mod records;

@@ -6,6 +6,7 @@ pub mod columns;
 pub mod files;
 pub mod grammar;
 pub mod least;
+pub mod liked;
 pub mod listing;
 pub mod plan;
 pub mod read;
@@ -21,6 +22,7 @@ pub mod walk;
 
 use columns::{least_for, Named};
 use least::{least_by, Measure};
+use liked::{Liked, Tried};
 use plan::Plan;
 use read::{Goal, Table};
 use refusal::{Answer, Input, Number, Refusal};
@@ -67,16 +69,26 @@ pub fn build_for(table: &[u32], figure: u32, columns: &[u32], room: &mut [u32]) 
     build_by(table, figure, room, |table, measure| Ok(least_for(table, &Named::of(table, columns)?, measure)))
 }
 
-fn build_by(table: &[u32], figure: u32, room: &mut [u32], least: impl FnOnce(&Table, Measure) -> Result<Plan, Refusal>) -> Answer {
-    if figure > 15 {
+/// The work of W-204 with a record's figure.
+fn measure(figure: u32) -> Result<Measure, Refusal> {
+    if figure > record::MOST_FIGURE {
         return Err(Refusal { number: Number::Figure, input: Input::Figure, place: 0 });
     }
+    Ok(Measure::Work(figure))
+}
+
+fn build_by(table: &[u32], figure: u32, room: &mut [u32], least: impl FnOnce(&Table, Measure) -> Result<Plan, Refusal>) -> Answer {
+    let measure = measure(figure)?;
     let table = read::read_table(table)?;
-    let measure = Measure::Work(figure);
     let plan = least(&table, measure)?;
     let cells = plan.write();
     written(room, &cells)?;
     Ok((cells.len(), measure.cost(&plan)))
+}
+
+/// Of the plans for every set of columns, writes the one that a list of goals likes best; its cells and its cost.
+pub fn build_liked(table: &[u32], figure: u32, goals: &[u32], list: &[usize], tried: Tried, room: &mut [u32], liked: &mut Liked) -> Answer {
+    liked::lend(&liked::sets(table, figure, goals, list, tried), room, liked)
 }
 
 /// Writes the hit rows, by a walk down the plan; their number and the branches tried.

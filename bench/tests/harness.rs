@@ -3,7 +3,7 @@
 mod altered;
 
 use altered::{answered, built, differs, found, hits, number, written, Altered, ReadText, Replies, RIGHT};
-use dudowiej_bench::compare::{clauses, columns, compare, edits, files, replies, salvages, texts, Tally};
+use dudowiej_bench::compare::{clauses, columns, compare, edits, files, liked, liked_at_length, replies, salvages, texts, Tally};
 use dudowiej_bench::engine::{Engine, Plain};
 use dudowiej_bench::model::build_plan;
 use dudowiej_bench::model::plan::check;
@@ -19,6 +19,7 @@ fn a_right_one_passes() {
     let tally = files(&RIGHT, tally, 2000, 1);
     let tally = salvages(&RIGHT, tally, 2000, 1);
     let tally = columns(&RIGHT, tally, 500, 1);
+    let tally = liked_at_length(&RIGHT, liked(&RIGHT, tally, 500, 1), 1);
     assert!(tally.passed(), "{tally}");
 }
 

@@ -6,6 +6,7 @@ use std::fmt;
 use super::chosen::Chosen;
 use super::filed::Filed;
 use super::handed::Handed;
+use super::likings::Likings;
 use super::saved::Salvages;
 use crate::model::refusal::{given, ByNumber, Number, NAMES, NEVER};
 use crate::model::replies::{Reply, REPLY_CELLS};
@@ -30,9 +31,10 @@ pub enum Entry {
     Salvage,
     BuildFor,
     CheckFor,
+    BuildLiked,
 }
 
-const ENTRIES: [&str; 18] = [
+const ENTRIES: [&str; 19] = [
     "read_table",
     "read_goal",
     "row",
@@ -51,6 +53,7 @@ const ENTRIES: [&str; 18] = [
     "salvage",
     "build_for",
     "check_for",
+    "build_liked",
 ];
 
 /// What replies can be refused with, by input: table, plan, goal, room.
@@ -115,6 +118,7 @@ pub struct Tally {
     pub(super) filed: Filed,
     pub(super) salvages: Salvages,
     pub(super) chosen: Chosen,
+    pub(super) likings: Likings,
     /// Edits of records that were worked out, by the number of the refusal and by entry.
     edits: ByNumber<[u64; ENTRIES.len()]>,
     /// How often a plan was built from, or an edit made in, a record that was never worked out.
@@ -257,6 +261,7 @@ impl Tally {
             && self.filed.passed()
             && self.salvages.passed()
             && self.chosen.passed()
+            && self.likings.passed()
             && self.texts().iter().all(|&(_, met)| met > 0)
             && self.replies().iter().chain(&self.edits()).flat_map(|(_, refused)| refused).all(|&(_, met)| met > 0)
     }
@@ -266,14 +271,14 @@ impl fmt::Display for Tally {
     fn fmt(&self, f: &mut fmt::Formatter) -> fmt::Result {
         write!(f, "{:<12}", "")?;
         for entry in ENTRIES {
-            write!(f, "{entry:>11}")?;
+            write!(f, "{entry:>12}")?;
         }
         writeln!(f)?;
         for (number, counts) in self.counts.iter().enumerate().filter(|&(number, _)| number != NEVER) {
             let name = if number == 0 { "answered".to_string() } else { format!("{number} {}", NAMES[number - 1]) };
             write!(f, "{name:<12}")?;
             for count in counts {
-                write!(f, "{count:>11}")?;
+                write!(f, "{count:>12}")?;
             }
             writeln!(f)?;
         }
@@ -287,7 +292,7 @@ impl fmt::Display for Tally {
         for (input, refused) in self.replies() {
             writeln!(f, "replies refused, {input}: {}", listed(&refused))?;
         }
-        write!(f, "{}{}{}{}", self.handed, self.filed, self.salvages, self.chosen)?;
+        write!(f, "{}{}{}{}{}", self.handed, self.filed, self.salvages, self.chosen, self.likings)?;
         writeln!(f, "edits of records that were worked out: {}", self.edits.iter().flatten().sum::<u64>())?;
         for (entry, refused) in self.edits() {
             writeln!(f, "{entry} refused: {}", listed(&refused))?;

@@ -202,7 +202,7 @@ pub fn every_run_by_search(table: &Table, measure: Measure) -> Vec<(usize, usize
 }
 
 /// A state's rows, each as its terms at the open places.
-type Lists<'t> = Vec<Vec<&'t Term>>;
+pub(super) type Lists<'t> = Vec<Vec<&'t Term>>;
 
 struct Search<'n> {
     measure: Measure,
@@ -278,7 +278,7 @@ pub fn least_of_all(table: &Table, named: &Named, measure: Measure) -> Plan {
     accepted.min_by_key(order).expect("every table has a plan")
 }
 
-fn closed<'t>(row: &[&'t Term], place: usize) -> Vec<&'t Term> {
+pub(super) fn closed<'t>(row: &[&'t Term], place: usize) -> Vec<&'t Term> {
     let mut open = row[..place].to_vec();
     open.extend(row[place].arguments());
     open.extend(&row[place + 1..]);

@@ -9,9 +9,9 @@ use super::unify::unifies;
 
 /// Goal variables and the fresh variables of open places are renamed apart from a row's, which are below 32.
 const GOAL: u16 = 1000;
-const FRESH: u16 = 2000;
+pub(super) const FRESH: u16 = 2000;
 
-fn renamed(goal: &Goal) -> Vec<Term> {
+pub(super) fn renamed(goal: &Goal) -> Vec<Term> {
     goal.arguments.iter().map(|term| term.renamed(GOAL)).collect()
 }
 

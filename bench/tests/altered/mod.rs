@@ -6,6 +6,7 @@ use std::ops::Range;
 use dudowiej_bench::compare::{compare, Tally};
 use dudowiej_bench::engine::{Engine, Plain};
 use dudowiej_bench::model::least::Measure;
+use dudowiej_bench::model::liked::Liked;
 use dudowiej_bench::model::plan::{grow, Open};
 use dudowiej_bench::model::read::read_table;
 use dudowiej_bench::model::record::{figure_in, table_in, Record};
@@ -78,6 +79,7 @@ pub struct Altered {
     pub salvage: Salvage,
     pub build_for: BuildFor,
     pub check_for: CheckFor,
+    pub build_liked: BuildLiked,
 }
 
 pub type ReadText = fn(&[u8], &mut [u32], &mut [u32]) -> u64;
@@ -88,6 +90,7 @@ pub type ReadFile = fn(&[u8], &mut [u32], &mut [u32]) -> u64;
 pub type Salvage = fn(&[u8], &mut [u32], &mut [u32], &mut [usize], &mut Report) -> u64;
 pub type BuildFor = fn(&Record, &[u32], &mut [u32]) -> u64;
 pub type CheckFor = fn(&Record, &[u32], &[u32]) -> u64;
+pub type BuildLiked = fn(&Record, &[u32], &[usize], &mut [u32], &mut Liked) -> u64;
 
 pub const RIGHT: Altered = Altered {
     read_table: |table| Plain.read_table(table),
@@ -107,6 +110,7 @@ pub const RIGHT: Altered = Altered {
     salvage: |file, table, plan, bad, report| Plain.salvage(file, table, plan, bad, report),
     build_for: |record, columns, room| Plain.build_for(record, columns, room),
     check_for: |record, columns, plan| Plain.check_for(record, columns, plan),
+    build_liked: |record, goals, list, room, liked| Plain.build_liked(record, goals, list, room, liked),
 };
 
 impl Engine for Altered {
@@ -163,5 +167,8 @@ impl Engine for Altered {
     }
     fn check_for(&self, record: &Record, columns: &[u32], plan: &[u32]) -> u64 {
         (self.check_for)(record, columns, plan)
+    }
+    fn build_liked(&self, record: &Record, goals: &[u32], list: &[usize], room: &mut [u32], liked: &mut Liked) -> u64 {
+        (self.build_liked)(record, goals, list, room, liked)
     }
 }
