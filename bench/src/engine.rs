@@ -181,7 +181,7 @@ mod exported {
         ) -> u64;
     }
 
-    // Each pointer and length below is one slice's; a record's, a report's and the last one's pointer is a reference; what is written is borrowed alone.
+    // Each pointer and length below is one slice's, any other pointer is a reference; what is written is borrowed alone.
     impl Engine for Exported {
         fn read_table(&self, table: &[u32]) -> u64 {
             unsafe { dudowiej_read_table(table.as_ptr(), table.len()) }

@@ -10,6 +10,7 @@ pub mod edits;
 pub mod engine;
 pub mod files;
 pub mod knowing;
+pub mod liked;
 pub mod make;
 pub mod model;
 pub mod notation;

@@ -7,7 +7,7 @@ use std::process::ExitCode;
 use dudowiej_bench::compare::{self, listings, ROUNDS, SEED};
 use dudowiej_bench::engine::Exported;
 use dudowiej_bench::model::listing::listing;
-use dudowiej_bench::{clauses, columns, count, edits, files, prolog, salvage, shift, stack, time};
+use dudowiej_bench::{clauses, columns, count, edits, files, liked, prolog, salvage, shift, stack, time};
 
 const USAGE: &str = "usage:
   compare [ROUNDS [SEED]]   the exported functions against the independent implementation
@@ -26,7 +26,9 @@ const USAGE: &str = "usage:
   count-files, instructions-files FOLDER   the same for files
   count-salvage, instructions-salvage FOLDER   the same for what is saved of bad cards
   count-columns, instructions-columns FOLDER   the same for plans for named columns
+  count-liked, instructions-liked FOLDER   the same for plans that lists of goals like best, with their times
   columns                   the branches that goals try by plans for named columns and by plain ones
+  liked                     how far plans that lists of goals like best, and plain ones, are from the fewest branches
   stack                     the bytes of stack that each entry touches
   list                      the independent listing of the table on standard input";
 
@@ -77,7 +79,10 @@ fn main() -> ExitCode {
         ["instructions-salvage", folder] => done(|| salvage::instructions(Path::new(folder))),
         ["count-columns"] => done(columns::count),
         ["instructions-columns", folder] => done(|| columns::instructions(Path::new(folder))),
+        ["count-liked"] => done(liked::count),
+        ["instructions-liked", folder] => done(|| liked::instructions(Path::new(folder))),
         ["columns"] => done(columns::tried),
+        ["liked"] => done(liked::near),
         ["stack"] => done(stack::stack),
         ["list"] => done(list),
         _ => usage(),

@@ -9,11 +9,13 @@ use crate::cases::SEED;
 use crate::compare::clauses::most_clauses;
 use crate::engine::{Engine, Exported};
 use crate::make::cards::wipe;
+use crate::make::lists::List;
 use crate::make::names::{entry, letters};
 use crate::make::tables::{longest_replies, table, Kind};
 use crate::make::{big, goals, records};
 use crate::model::files::{filled, sealed, BLOCK_BYTES, BLOCK_CELLS, FILE_BYTES};
 use crate::model::least::least;
+use crate::model::liked::Liked;
 use crate::model::plan::{grow, PLAN_CELLS};
 use crate::model::read::{read_table, Table, ROW_CELLS, TABLE_CELLS};
 use crate::model::record::{drop_last, put_table, Record, MOST_FIGURE};
@@ -118,6 +120,10 @@ impl Most {
             self.note("dudowiej_build_plan", || Exported.build_plan(record, &mut room));
             for columns in COLUMNS {
                 self.note("dudowiej_build_for", || Exported.build_for(record, columns, &mut room));
+            }
+            for list in [List::of(goals), List::of(&[])] {
+                let mut liked = Liked::default();
+                self.note("dudowiej_build_liked", || Exported.build_liked(record, list.cells(), list.words(), &mut room, &mut liked));
             }
         }
         for (plan, goal) in plans.iter().flat_map(|plan| goals.iter().map(move |goal| (plan, goal))) {

@@ -280,8 +280,8 @@ macro_rules! finding {
 
 #[test]
 fn another_finding() {
-    // The plain plan's total left out, or that of the plan found in its place; for the plan's total the plain plan's, that of the next set, or what is
-    // saved; the two exchanged; the plain plan with the finding of the other.
+    // The plain plan's total left out, or that of the plan found in its place; for the plan's total the plain plan's, that of the next set, or what
+    // is saved; the two exchanged; the plain plan with the finding of the other.
     finding!(|_, liked| Liked { plain: 0, ..liked });
     finding!(|_, liked| Liked { plain: liked.tried, ..liked });
     finding!(|_, liked| Liked { tried: liked.plain, ..liked });
