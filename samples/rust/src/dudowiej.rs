@@ -104,6 +104,19 @@ pub struct Report {
 // Likewise.
 const _: () = assert!(std::mem::size_of::<Report>() == 48);
 
+/// What [`Record::build_liked`] found: the columns that its plan was built for, bit c for column c; the branches that the goals try by it, all
+/// together; and by the plain plan.
+#[repr(C)]
+#[derive(Debug, Clone, Copy, Default, PartialEq, Eq)]
+pub struct Liked {
+    pub columns: usize,
+    pub tried: usize,
+    pub plain: usize,
+}
+
+// Likewise.
+const _: () = assert!(std::mem::size_of::<Liked>() == 24);
+
 extern "C" {
     fn dudowiej_work_out(table: *const u32, table_cells: usize, figure: u32, record: *mut Cells) -> u64;
     fn dudowiej_append(record: *mut Cells, row: *const u32, row_cells: usize) -> u64;
@@ -139,6 +152,16 @@ extern "C" {
         cells_count: usize,
         jobs: *mut Job,
         jobs_count: usize,
+    ) -> u64;
+    fn dudowiej_build_liked(
+        record: *const Cells,
+        goals: *const u32,
+        goal_cells: usize,
+        list: *const usize,
+        words: usize,
+        room: *mut u32,
+        room_cells: usize,
+        liked: *mut Liked,
     ) -> u64;
     fn dudowiej_replies(
         record: *const Cells,
@@ -295,6 +318,25 @@ impl Record {
         let answer =
             unsafe { dudowiej_run_jobs(&*self.0, plan.as_ptr(), plan.len(), cells.as_ptr(), cells.len(), jobs.as_mut_ptr(), jobs.len()) };
         Ok(apart(answer)?.0)
+    }
+
+    /// Of the plans for each set of columns the one by which the goals of a list, two words for each, try the fewest branches; its cost, and what was
+    /// found.
+    pub fn build_liked(&self, goals: &[u32], list: &[usize]) -> Result<(Vec<u32>, usize, Liked), Refusal> {
+        let mut plan = vec![0; PLAN_CELLS];
+        let (cells, cost, liked) = self.build_liked_in(goals, list, &mut plan)?;
+        plan.truncate(cells);
+        Ok((plan, cost, liked))
+    }
+
+    /// The same in a lent room: its cells, its cost, and what was found.
+    pub fn build_liked_in(&self, goals: &[u32], list: &[usize], room: &mut [u32]) -> Result<(usize, usize, Liked), Refusal> {
+        let (mut liked, words) = (Liked::default(), list.len());
+        let answer = unsafe {
+            dudowiej_build_liked(&*self.0, goals.as_ptr(), goals.len(), list.as_ptr(), words, room.as_mut_ptr(), room.len(), &mut liked)
+        };
+        let (cells, cost) = apart(answer)?;
+        Ok((cells, cost, liked))
     }
 
     /// What the rows that unify with the goal say: how many replies, and their cells one after another, each a term for each column.
