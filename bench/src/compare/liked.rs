@@ -50,16 +50,16 @@ pub const EXAMPLES: [Example; 14] = [
     // As many tried: the plain plan.
     example(FOUR, 0, &["(a,v0)"], [0, 6, 6], BY_SECOND, 6),
     example(FOUR, 0, &["(v0,c)"], [0, 4, 4], BY_SECOND, 6),
-    example(FOUR, 0, &["(e,v0)"], [1, 4, 6], BY_FIRST, 8),
-    example(FOUR, 0, &["(e,v0)", "(v0,c)"], [0, 10, 10], BY_SECOND, 6),
+    example(FOUR, 0, &["(d,v0)"], [1, 4, 6], BY_FIRST, 8),
+    example(FOUR, 0, &["(d,v0)", "(v0,c)"], [0, 10, 10], BY_SECOND, 6),
     // With figure 2 the plain plan is another, and has more branches.
     example(FOUR, 2, &["(v0,c)"], [2, 4, 8], BY_SECOND, 12),
     example(FOUR, 2, &["(v0,v1)"], [2, 6, 8], BY_SECOND, 12),
     example(AGREED, 0, &["(d,b)"], [1, 3, 4], "0 3 a 0 1 b 1 b 0 1 b 1 c 0 1 b 1", 6),
     example(AGREED, 0, &["(d,b)", "(a,c)"], [0, 5, 5], "1 1 b 0 3 a 1 b 1 c 1", 4),
     // With the last two columns as few are tried, by another plan.
-    example(THREE, 0, &["(v0,v1,e)"], [4, 2, 5], "2 2 c 0 1 a 0 2 b 1 c 1 d 0 1 b 0 1 b 1", 7),
-    example(THREE, 0, &["(v0,e,v1)"], [2, 3, 6], "1 3 b 0 1 a 0 1 c 1 c 0 1 a 0 1 c 1 b 0 1 b 0 1 d 1", 9),
+    example(THREE, 0, &["(v0,v1,a)"], [4, 2, 5], "2 2 c 0 1 a 0 2 b 1 c 1 d 0 1 b 0 1 b 1", 7),
+    example(THREE, 0, &["(v0,d,v1)"], [2, 3, 6], "1 3 b 0 1 a 0 1 c 1 c 0 1 a 0 1 c 1 b 0 1 b 0 1 d 1", 9),
 ];
 
 impl<E: Engine> Comparison<'_, E> {
