@@ -15,12 +15,15 @@ pub struct Sheet {
     pub tally: Tally,
 }
 
-// What a goal finds: the rules that fit, or why it is refused. So many of its names are not the facts', and stand in a list.
+// What a goal finds: the rules that fit, or why it is refused. So many of its names are not the facts', and stand in a list. A goal that is
+// read has so many cells.
 pub struct Found {
     pub answer: RunAnswer,
     pub hits: [u8; 64],
     pub names: usize,
     pub new: [u32; 32],
+    pub size: usize,
+    pub cells: [u32; 32],
 }
 
 // The first of a goal's cells or names.
@@ -99,6 +102,8 @@ pub fn find(text: &[u8], kept: &[u32], shop: Shop, goal: &[u8], room: &mut [u32]
                 hits,
                 names,
                 new,
+                size: n,
+                cells,
             }
         }
         GoalText::Refused(f) => Found {
@@ -106,6 +111,8 @@ pub fn find(text: &[u8], kept: &[u32], shop: Shop, goal: &[u8], room: &mut [u32]
             hits,
             names: 0,
             new,
+            size: 0,
+            cells,
         },
     }
 }

@@ -11,7 +11,8 @@ use shop::Shop;
 use wishes::Asked;
 use wishes::Wish;
 
-// `ask [--known LIST] [--count] FILE GOAL ..`, `ask [--known LIST] --plan FILE`, the same with `--prolog`, `ask --help` or `ask --version`.
+// `ask [--known LIST] [--count] FILE GOAL ..`, `ask [--known LIST] --plan FILE`, the same with `--prolog`, `ask --tune JOBS FILE`, `ask --help` or
+// `ask --version`.
 pub fn answer() {
     let asked = wishes::read();
     let wish = asked.wish;
@@ -93,7 +94,7 @@ fn load(
 fn show(
     path: &[u8],
     text: &[u8],
-    kept: &[u32],
+    kept: &mut [u32],
     shop: Shop,
     asked: Asked,
     room: &mut [u32],
@@ -101,9 +102,10 @@ fn show(
 ) {
     let wish = asked.wish;
     match wish {
-        Wish::Tree => show_tree(text, kept, shop, out),
-        Wish::Clauses => show_clauses(path, text, kept, shop, out),
-        _ => askall::answer_all(text, kept, shop, asked.goal, counts(wish), room, out),
+        Wish::Tree => show_tree(text, &*kept, shop, out),
+        Wish::Clauses => show_clauses(path, text, &*kept, shop, out),
+        Wish::Tuned => tune::answer(asked.jobs, path, text, kept, shop, room, out),
+        _ => askall::answer_all(text, &*kept, shop, asked.goal, counts(wish), room, out),
     }
 }
 
@@ -115,7 +117,7 @@ fn counts(wish: Wish) -> bool {
 }
 
 fn show_tree(text: &[u8], kept: &[u32], shop: Shop, out: &mut [u8]) {
-    let last = treetext::print(text, kept, shop, out);
+    let last = treetext::print(text, kept, shop, out, page::blank());
     page::flush(out, last);
 }
 

@@ -20,7 +20,8 @@ pub fn print() {
     let c = goals(b);
     let d = answers(c);
     let e = counts(d);
-    refusals(e);
+    let f = tuning(e);
+    refusals(f);
 }
 
 fn uses(going: bool) -> bool {
@@ -40,8 +41,12 @@ fn uses(going: bool) -> bool {
         c,
         b"ask --prolog FILE    that order as Prolog clauses, which answer as the rules do\n",
     );
-    let e = line(d, b"ask --help, -h       this\n");
-    line(e, b"ask --version        the version\n\n")
+    let e = line(
+        d,
+        b"ask --tune JOBS FILE which columns to look at first for goals like those of JOBS\n",
+    );
+    let f = line(e, b"ask --help, -h       this\n");
+    line(f, b"ask --version        the version\n\n")
 }
 
 fn columns(going: bool) -> bool {
@@ -113,6 +118,26 @@ fn counts(going: bool) -> bool {
     )
 }
 
+fn tuning(going: bool) -> bool {
+    let a = line(
+        going,
+        b"With --tune the goals of the file JOBS (`-`: standard input), one to a line, are\n",
+    );
+    let b = line(
+        a,
+        b"run by the plan for each set of columns. Printed are the list for --known with\n",
+    );
+    let c = line(
+        b,
+        b"which they try the fewest branches, how many, how many without it, and that\n",
+    );
+    let d = line(
+        c,
+        b"plan. JOBS has at most 100,000 goals that are not refused, and in all of them\n",
+    );
+    line(d, b"800,000 names, variables and numbers.\n\n")
+}
+
 fn refusals(going: bool) -> bool {
     let a = line(
         going,
@@ -125,7 +150,7 @@ fn refusals(going: bool) -> bool {
     let c = line(b, b"    shop.pl:3:14: TEXT 18: `,` or `)` is expected\n");
     let d = line(
         c,
-        b"For a goal the file is `goal 2` or `standard input`. Goals after one that is\n",
+        b"For a goal the file is `goal 2`, `standard input` or JOBS. Goals after one that is\n",
     );
     let e = line(
         d,
@@ -135,7 +160,10 @@ fn refusals(going: bool) -> bool {
         e,
         b"bytes, an answer 1,024 names, variables and numbers, its cells. The program\n",
     );
-    line(f, b"needs 1 MB of stack, and always ends with status 0.\n")
+    line(
+        f,
+        b"needs 1 MB of stack, with --tune 6 MB, and always ends with status 0.\n",
+    )
 }
 
 pub fn version() {
@@ -146,7 +174,7 @@ pub fn version() {
 pub fn refuse() {
     io::write_all(
         STDERR_FILENO,
-        b"usage: ask [--known LIST] [--count] FILE [GOAL ..], ask [--known LIST] --plan FILE, ask [--known LIST] --prolog FILE, ask --help or ask --version\n",
+        b"usage: ask [--known LIST] [--count] FILE [GOAL ..], ask [--known LIST] --plan FILE, ask [--known LIST] --prolog FILE, ask --tune JOBS FILE, ask --help or ask --version\n",
     );
 }
 

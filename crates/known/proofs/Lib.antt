@@ -1,3 +1,4 @@
 pub mod ListLaws
+pub mod ReadBack
 pub mod Examples
 pub mod Fixed

@@ -8,7 +8,7 @@ use lib.ListN.{length, getD, drop, drop-of-length-le}
 use lib.Seq.{drop-cons}
 use borrow.Author.Tests.{eq-eqb, ne-eqb}
 use Rattle.octets.proofs.PutLaws.{Putting, put-ends}
-use Rattle.known.specs.Known.{stepOf, columnsFrom, listFrom, Listing}
+use Rattle.known.specs.Known.{stepOf, columnsFrom, listFrom, Listing, nextText, listText}
 use Rattle.known.specs.declared.Listed.the-variants as listed
 use Rattle.known.specs.declared.Step.the-variants as step
 
@@ -66,3 +66,13 @@ module _ {word room room′ : List ℕ} {n : ℕ} where
 
   pub is-list : Putting room room′ 0 n [] (columnsFrom 0 word) → listFrom 0 word ≡ true → Listing word room room′ (listed.Columns n)
   is-list p e = record { count = n; puts = put-ends p; told = rw e }
+
+-- columns put as a list, the next one and the end
+pub list-next : (columns : List ℕ) (i : ℕ) → i < length columns
+    → listText i (drop i columns) ≡ nextText i (getD columns i 0 + 1) ++ listText (i + 1) (drop (i + 1) columns)
+unfolding listText
+list-next columns i h = rw (drop-cons columns i 0 h, add-one i)
+
+pub list-end : (columns : List ℕ) (i : ℕ) → length columns ≤ i → listText i (drop i columns) ≡ []
+unfolding listText
+list-end columns i h = rw (drop-of-length-le columns h)

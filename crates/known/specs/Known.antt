@@ -5,7 +5,7 @@ use mathlib.Core.Path.{_≡_}
 use mathlib.Core.Bool.{Bool, false, cond, not}
 use mathlib.Core.List.{List, [], _∷_, _++_}
 use lib.Dec.{eqb, ltb, leb}
-use Rattle.octets.specs.Octets.{Put}
+use Rattle.octets.specs.Octets.{Put, decimal}
 use Rattle.message.specs.Words.{ascii}
 use Rattle.message.specs.Message.{numberedBy}
 use Rattle.known.specs.declared.Listed.{Listed}
@@ -42,6 +42,15 @@ pub record Listing (word room room′ : List ℕ) (r : Listed) : Type 0 where
   pub count : ℕ
   pub puts : Put room room′ 0 (columnsFrom 0 word) count
   pub told : r ≡ cond (listFrom 0 word) (listed.Columns count) listed.NoList
+
+-- a number of a list, with a comma before it where others stand before it
+unfoldable pub nextText : (before number : ℕ) → List ℕ
+nextText before number = cond (eqb before 0) (decimal number) (44 ∷ decimal number)
+
+-- columns as a list, the first column being 0 and counted from 1; so many stand before them
+unfoldable pub listText : (before : ℕ) → List ℕ → List ℕ
+listText before [] = []
+listText before (c ∷ columns) = nextText before (c + 1) ++ listText (before + 1) columns
 
 -- `--known 1,5: COLUMN 33: the rules of shop.pl have 4 columns`
 unfoldable pub columnLine : (list path : List ℕ) (width : ℕ) → List ℕ

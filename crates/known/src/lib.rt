@@ -1,9 +1,12 @@
-// The columns that `--known` lists, and what is said where one of them is not there.
+// The columns that `--known` lists, columns as such a list, and what is said where one of them is not there.
 ghost use mathlib.Core.Path.{_≡_};
+ghost use Prim.Native.Nat.{_+_};
 ghost use Rattle.octets.specs.Octets.{Put};
-ghost use Rattle.known.specs.Known.{stepOf, Listing, columnLine};
+ghost use Rattle.known.specs.Known.{stepOf, Listing, nextText, listText, columnLine};
 use message::put_number_of;
 use octets::cells::put_cell;
+use octets::put_byte;
+use octets::put_decimal;
 use octets::put_word;
 
 // The number of the refusal COLUMN.
@@ -81,6 +84,37 @@ pub fn columns_of(i: usize, columns: &mut [u32]) -> Listed {
     let mut word = io::buffer();
     let n = os::arg(i, &mut word);
     read_list(&word[..n], columns)
+}
+
+// A column's number, counted from 1.
+fn number_of(column: u32) -> usize
+    ensures { λ r. ⌜ r ≡ column + 1 ⌝ }
+{
+    column as usize + 1
+}
+
+// The next number of a list, before which so many stand.
+fn put_next(out: &mut [u8], to: usize, before: usize, number: usize) -> usize
+    ensures { λ r. ⌜ Put (now (out .entry)) (now (out .exit)) to (nextText before number) r ⌝ }
+{
+    if before == 0 {
+        return put_decimal(out, to, number);
+    }
+    let on = put_byte(out, to, b',');
+    put_decimal(out, on, number)
+}
+
+// Columns as a list that `read_list` reads, the first column being 0.
+pub fn put_list(out: &mut [u8], to: usize, columns: &[u32]) -> usize
+    ensures { λ r. ⌜ Put (now (out .entry)) (now (out .exit)) to (listText 0 (now (columns .entry))) r ⌝ }
+{
+    let mut on = to;
+    let mut i = 0;
+    while i < columns.len() {
+        on = put_next(out, on, i, number_of(columns[i]));
+        i += 1;
+    }
+    on
 }
 
 // A column is not there: the list, and how many columns the rules of a file have.

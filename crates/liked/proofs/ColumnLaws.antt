@@ -8,15 +8,14 @@ use mathlib.Core.List.{List, [], _∷_, _++_, append-assoc, append-nil}
 use native.Mathlib.Omega.{arith}
 use native.Mathlib.Numerals.{add-one}
 use lib.Dec.{eqb}
-use lib.ListN.{length, take, set, replicate, length-set}
-use lib.Seq.{take-suc-set}
+use lib.ListN.{length, take, drop, set, replicate, length-set}
+use lib.Seq.{take-suc-set, drop-set-lt, drop-drop}
 use lib.Pow.{pow-lt, ones-split, ones-lt, high, shr-lt}
 use borrow.Author.Tests.{eqb-true, eqb-false, eq-eqb, ne-eqb}
 use Rattle.plan.specs.Named.{anyPast, occurs}
 use Rattle.plan.proofs.ColumnsLaws.{column-exactly}
 use Rattle.answer.specs.Jobs.{bit}
-use Rattle.liked.specs.Liked.{columnsFrom, columnsOf}
-use Rattle.liked.specs.code.Search.{Listed}
+use Rattle.liked.specs.Liked.{columnsFrom, columnsOf, Listed}
 
 -- "bit c for column c", of so many columns from c on
 pub set-named : (c left mask d : ℕ) → c ≤ d → d < c + left → bit d mask ≡ 1 → occurs d (columnsFrom c left mask) ≡ true
@@ -108,9 +107,18 @@ pub record Filled (mask : ℕ) (list : List ℕ) (count c : ℕ) : Type 0 where
   pub few : count ≤ c
   pub size : length list ≡ 8
   pub rest : take count list ++ columnsFrom c (8 - c) mask ≡ columnsOf mask
+  pub others : drop count list ≡ replicate (8 - count) 0
 
 pub filled-none : (mask : ℕ) → Filled mask (replicate 8 0) 0 0
-filled-none mask = record { below = omega arith; few = omega arith; size = refl; rest = refl }
+filled-none mask = record { below = omega arith; few = omega arith; size = refl; rest = refl; others = refl }
+
+-- one zero less
+drop-one : (list : List ℕ) (count n : ℕ) → drop count list ≡ replicate n 0 → drop (count + 1) list ≡ replicate (n - 1) 0
+drop-one list count n e = sym (drop-drop 1 count list) ∙ ap (drop {A = ℕ} 1) e ∙ less n
+  where
+    less : (n : ℕ) → drop {A = ℕ} 1 (replicate n 0) ≡ replicate (n - 1) 0
+    less zero = refl
+    less (suc n) = ap (λ (k : ℕ). replicate k 0) (let e : n ≡ suc n - 1 = omega arith in e)
 
 module _ {mask : ℕ} {list : List ℕ} {count c : ℕ} (f : Filled mask list count c) where
   -- a column that is in the set
@@ -127,6 +135,8 @@ module _ {mask : ℕ} {list : List ℕ} {count c : ℕ} (f : Filled mask list co
         size = length-set list count c ∙ f .size;
         rest = rw q (append-assoc (take count list) (c ∷ []) (columnsFrom (c + 1) (8 - (c + 1)) mask)
             ∙ ap (λ (r : List ℕ). take count list ++ r) (sym z) ∙ f .rest);
+        others = drop-set-lt (count + 1) list count c (omega arith) ∙ drop-one list count (8 - count) (f .others)
+            ∙ ap (λ (n : ℕ). replicate n 0) (let e : 8 - count - 1 ≡ 8 - (count + 1) = omega arith in e);
       }
 
   -- and one that is not
@@ -135,11 +145,11 @@ module _ {mask : ℕ} {list : List ℕ} {count c : ℕ} (f : Filled mask list co
   left-out l n =
       let on : 8 - c ≡ suc (8 - (c + 1)) = omega arith in
       let z : columnsFrom c (8 - c) mask ≡ columnsFrom (c + 1) (8 - (c + 1)) mask = rw (on, ne-eqb (bit c mask) 1 n, add-one c) in
-      record { below = omega arith; few = omega (arith, f .few); size = f .size; rest = rw (← z) (f .rest) }
+      record { below = omega arith; few = omega (arith, f .few); size = f .size; rest = rw (← z) (f .rest); others = f .others }
 
   pub listed : 8 ≤ c → Listed mask (record { list = list; count = count })
   unfolding columnsFrom
   listed h =
       let z : c ≡ 8 = omega (arith, f .below) in
       let w : take count list ++ [] ≡ columnsOf mask = rw z at (f .rest) in
-      record { size = f .size; few = omega (arith, f .below, f .few); are = sym (append-nil (take count list)) ∙ w }
+      record { size = f .size; few = omega (arith, f .below, f .few); are = sym (append-nil (take count list)) ∙ w; others = f .others }

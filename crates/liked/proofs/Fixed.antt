@@ -1,9 +1,9 @@
--- Two results that the promise of `build_liked` allows are equal.
-use Prim.Native.Nat.{ℕ, _<_}
-use mathlib.Core.Path.{_≡_, refl, sym, _∙_, ap, subst}
-use mathlib.Core.List.{List}
+-- Two results that the promises of `columns_of` and `build_liked` allow are equal.
+use Prim.Native.Nat.{ℕ, _-_, _<_}
+use mathlib.Core.Path.{_≡_, refl, sym, _∙_, ap, ap₂, subst}
+use mathlib.Core.List.{List, _++_}
 use native.Mathlib.Omega.{arith}
-use native.Mathlib.Decide.{decLt}
+use lib.ListN.{length, take, replicate, length-take, take-append-drop}
 use Rattle.refusal.specs.Refusal.{Answer, turned}
 use Rattle.table.specs.Table.{Table}
 use Rattle.table.proofs.ReadLaws.{apart, read-one, refuse-one}
@@ -11,8 +11,26 @@ use Rattle.least.specs.declared.By.{By}
 use Rattle.builder.specs.Build.{BuiltInto, buildTold}
 use Rattle.builder.specs.declared.BuildAnswer.{BuildAnswer}
 use Rattle.builder.proofs.Fixed.{buildTold-one, build-fixed}
-use Rattle.liked.specs.Liked.{columnsOf, LikesBest, LikedInto, table-refused, found, likedAfter}
+use Rattle.liked.specs.Liked.{columnsOf, Listed, LikesBest, LikedInto, table-refused, found, likedAfter}
+use Rattle.liked.specs.declared.Columns.{Columns}
 use Rattle.liked.proofs.SearchLaws.{tries-for-one}
+
+pub columns-fixed : {mask : ℕ} {r s : Columns} → Listed mask r → Listed mask s → (r .list ≡ s .list) × (r .count ≡ s .count)
+columns-fixed {r = r} {s} p q =
+    let e : r .count ≡ s .count = omega (
+      arith,
+      p .few,
+      p .size,
+      q .few,
+      q .size,
+      length-take (r .count) (r .list),
+      length-take (s .count) (s .list),
+      ap length (p .are ∙ sym (q .are)),
+    ) in (
+      sym (take-append-drop (r .count) (r .list)) ∙ ap₂ _++_ (p .are ∙ sym (q .are)) (p .others ∙ ap (λ (n : ℕ). replicate (8 - n) 0) e ∙ sym (q .others))
+          ∙ take-append-drop (s .count) (s .list),
+      e,
+    )
 
 module _ {by : By} {cells goals list : List ℕ} {width : ℕ} where
   -- of two best sets neither is the smaller

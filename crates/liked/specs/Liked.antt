@@ -1,11 +1,11 @@
 -- The plan that a list of goals likes best: "of the plans that `build_for` gives for each set of columns, the one with the least total tried over
 -- the list".
-use Prim.Native.Nat.{ℕ, zero, suc, _^_, _≤_, _<_}
+use Prim.Native.Nat.{ℕ, zero, suc, _-_, _^_, _≤_, _<_}
 use mathlib.Core.Path.{_≡_}
 use mathlib.Core.Bool.{cond}
 use mathlib.Core.List.{List, [], _∷_}
 use lib.Dec.{eqb}
-use lib.ListN.{take}
+use lib.ListN.{length, take, drop, replicate}
 use Rattle.refusal.specs.Refusal.{Refused, Answer, answered, turned}
 use Rattle.refusal.specs.Read.{read, refuse}
 use Rattle.table.specs.Table.{Table}
@@ -15,6 +15,7 @@ use Rattle.builder.specs.Build.{BuiltInto, buildTold}
 use Rattle.builder.specs.declared.BuildAnswer.{BuildAnswer}
 use Rattle.answer.specs.Jobs.{bit}
 use Rattle.run.specs.Totals.{TriesInAll}
+use Rattle.liked.specs.declared.Columns.{Columns}
 
 -- "bit c for column c": of the columns from c on, so many, those whose bit is set
 unfoldable pub columnsFrom : (c left mask : ℕ) → List ℕ
@@ -24,6 +25,13 @@ columnsFrom c (suc left) mask = cond (eqb (bit c mask) 1) (c ∷ columnsFrom (su
 -- the set of columns that a mask is; a table has at most 8 (proofs/ColumnLaws says it by membership)
 abbrev pub columnsOf : (mask : ℕ) → List ℕ
 columnsOf mask = columnsFrom 0 8 mask
+
+-- these columns as the first of eight numbers; the others are 0
+pub record Listed (mask : ℕ) (r : Columns) : Type 0 where
+  pub size : length (r .list) ≡ 8
+  pub few : r .count ≤ 8
+  pub are : take (r .count) (r .list) ≡ columnsOf mask
+  pub others : drop (r .count) (r .list) ≡ replicate (8 - r .count) 0
 
 -- "the total tried over the list" by the plan that `build_for` gives for a set of columns, whatever room it is given
 pub record TriesFor (by : By) (cells goals list : List ℕ) (mask total : ℕ) : Type 0 where

@@ -3,14 +3,14 @@
 ghost use mathlib.Core.List.{List};
 ghost use Prim.Native.Nat.{ℕ, _+_};
 ghost use Rattle.least.specs.declared.By.{By};
-ghost use Rattle.liked.specs.Liked.{LikedInto};
-ghost use Rattle.liked.specs.code.Search.{Listed, Totalled, Plainly, BestBelow};
+ghost use Rattle.liked.specs.Liked.{Listed, LikedInto};
+ghost use Rattle.liked.specs.code.Search.{Totalled, Plainly, BestBelow};
 use builder::BuildAnswer;
 use builder::build_for;
 use least::By;
 use refusal::Refusal;
 
-// The columns of a set: the first of the list.
+// The columns of a set: the first of the list. The others are 0.
 pub struct Columns {
     pub list: [u32; 8],
     pub count: usize,
@@ -28,7 +28,8 @@ pub struct Best {
     pub tried: usize,
 }
 
-fn columns_of(mask: usize) -> Columns
+// The columns of a set that a mask is, ascending.
+pub fn columns_of(mask: usize) -> Columns
     ensures { λ r. ⌜ Listed mask r ⌝ }
 {
     let mut list = [0u32; 8];

@@ -42,11 +42,15 @@ pub fn load_for(text: &[u8], columns: &[u32], room: &mut [u32], kept: &mut [u32]
     }
 }
 
-// The least plan by the work of W-204, figure 0. A table that was read is refused here for a column alone, and 6,082 cells are enough for
-// every plan.
+// Plans are least by the work of W-204, figure 0.
+pub fn measure() -> By {
+    By::Work(0)
+}
+
+// A table that was read is refused here for a column alone, and 6,082 cells are enough for every plan.
 fn keep(text: &[u8], columns: &[u32], names: &[u32], table: &[u32], kept: &mut [u32]) -> Loaded {
     let mut plan = [0u32; 6082];
-    match builder::build_for(By::Work(0), columns, table, &mut plan) {
+    match builder::build_for(measure(), columns, table, &mut plan) {
         BuildAnswer::Built(n, _) => Loaded::Kept(put_lists(
             text,
             names,
@@ -69,6 +73,19 @@ fn put_lists(text: &[u8], names: &[u32], table: &[u32], plan: &[u32], kept: &mut
         names: a,
         table: b,
         plan: c,
+    }
+}
+
+// The same with another plan of the table, in the place of the one that there is.
+pub fn with_plan(shop: Shop, plan: &[u32], kept: &mut [u32]) -> Shop {
+    let p = shop.p;
+    let end = put_cells(kept, shop.table, plan);
+    Shop {
+        p,
+        branches: branches_of(table_in(&*kept, shop), plan),
+        names: shop.names,
+        table: shop.table,
+        plan: end,
     }
 }
 

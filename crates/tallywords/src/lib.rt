@@ -72,7 +72,8 @@ pub fn put_fitted(
     put_byte(out, c, b'\n')
 }
 
-fn put_words(out: &mut [u8], to: usize, n: usize, one: &[u8], many: &[u8]) -> usize
+// A word for one of what is counted, or that for any other number of them.
+pub fn put_words(out: &mut [u8], to: usize, n: usize, one: &[u8], many: &[u8]) -> usize
     ensures { λ r. ⌜ Put (now (out .entry)) (now (out .exit)) to (wordsFor n (now (one .entry)) (now (many .entry))) r ⌝ }
 {
     if n == 1 {

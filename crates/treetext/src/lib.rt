@@ -26,9 +26,12 @@ fn next(at: usize, end: usize) -> usize {
     if at < end { at + 1 } else { end }
 }
 
-pub fn print(text: &[u8], kept: &[u32], shop: Shop, out: &mut [u8]) -> Page {
+// After what is gathered on a page.
+pub fn print(text: &[u8], kept: &[u32], shop: Shop, out: &mut [u8], page: Page) -> Page {
     let table = shop::table_in(kept, shop);
-    let to = put_sizes(out, cell_at(table, 1) as usize, shop.branches);
+    let rules = cell_at(table, 1) as usize;
+    let p = page::turn(out, page);
+    let to = put_sizes(out, p.to, rules, shop.branches);
     let mut places = [0u32; 32];
     let n = put_arguments(&mut places, 0, 0, cell_at(table, 0) as usize);
     let first = Stand {
@@ -36,7 +39,7 @@ pub fn print(text: &[u8], kept: &[u32], shop: Shop, out: &mut [u8]) -> Page {
         rule: 0,
         met: [0u32; 32],
         to,
-        open: true,
+        open: p.open,
     };
     let last = state(text, kept, shop, part(&places, 0, n), 0, first, out);
     Page {
@@ -45,8 +48,8 @@ pub fn print(text: &[u8], kept: &[u32], shop: Shop, out: &mut [u8]) -> Page {
     }
 }
 
-fn put_sizes(out: &mut [u8], rules: usize, branches: usize) -> usize {
-    let a = put_word(out, 0, b"plan of ");
+fn put_sizes(out: &mut [u8], to: usize, rules: usize, branches: usize) -> usize {
+    let a = put_word(out, to, b"plan of ");
     let b = put_number_of(out, a, rules, b" rule, ", b" rules, ");
     put_number_of(out, b, branches, b" branch\n", b" branches\n")
 }

@@ -1,31 +1,35 @@
 // What the arguments of the program ask ask for: options, then the file, then goals.
 use lex::name::same_bytes;
 
-// What is printed: the answers to goals; these, and what they add up to; the plan as a tree, or as Prolog; the help; the version; or nothing,
-// since the arguments make no sense.
+// What is printed: the answers to goals; these, and what they add up to; the plan as a tree, or as Prolog; the plan that a file of goals likes
+// best; the help; the version; or nothing, since the arguments make no sense.
 pub enum Wish {
     Answers,
     Counts,
     Tree,
     Clauses,
+    Tuned,
     Help,
     Version,
     Nothing,
 }
 
-// What is printed, and which arguments are what: the list of known columns, 0 where there is none; the file, 0 where there is none; and the
-// first goal, where there are goals.
+// What is printed, and which arguments are what: the list of known columns, the file of goals and the file of facts, 0 where there is none;
+// and the first goal, where there are goals.
 pub struct Asked {
     pub wish: Wish,
     pub known: usize,
+    pub jobs: usize,
     pub file: usize,
     pub goal: usize,
 }
 
-// An argument before the goals: an option that says what is printed, the option that a list of columns follows, or the file.
+// An argument before the goals: an option that says what is printed, the one that a list of columns follows, the one that a file of goals
+// follows, or the file of facts.
 pub enum Word {
     Prints(Wish),
     Known,
+    Tune,
     File,
 }
 
@@ -33,6 +37,9 @@ pub enum Word {
 fn word_of(word: &[u8]) -> Word {
     if same_bytes(word, b"--known") {
         return Word::Known;
+    }
+    if same_bytes(word, b"--tune") {
+        return Word::Tune;
     }
     if same_bytes(parts::part(word, 0, 1), b"-") {
         return Word::Prints(printed_by(word));
@@ -73,6 +80,7 @@ fn printing(asked: Asked, more: Wish) -> Asked {
     Asked {
         wish: either(had, more),
         known: asked.known,
+        jobs: asked.jobs,
         file: 0,
         goal: 0,
     }
@@ -87,6 +95,19 @@ fn knowing(asked: Asked, list: usize) -> Asked {
     Asked {
         wish: had,
         known: list,
+        jobs: asked.jobs,
+        file: 0,
+        goal: 0,
+    }
+}
+
+// With a file of goals. What is printed of it is an option's, so that it is asked for once at most.
+fn tuning(asked: Asked, jobs: usize) -> Asked {
+    let had = asked.wish;
+    Asked {
+        wish: either(had, Wish::Tuned),
+        known: asked.known,
+        jobs,
         file: 0,
         goal: 0,
     }
@@ -96,18 +117,24 @@ fn nothing() -> Asked {
     Asked {
         wish: Wish::Nothing,
         known: 0,
+        jobs: 0,
         file: 0,
         goal: 0,
     }
 }
 
-// With a file: its plan has no goals, and the help has no file.
+// With a file: its plan has no goals, a plan that is looked for has no columns before that, and the help has no file.
 fn naming(asked: Asked, file: usize, goal: usize, count: usize) -> Asked {
     let wish = asked.wish;
     match wish {
         Wish::Answers | Wish::Counts => {}
         Wish::Tree | Wish::Clauses => {
             if goal < count {
+                return nothing();
+            }
+        }
+        Wish::Tuned => {
+            if goal < count || asked.known != 0 {
                 return nothing();
             }
         }
@@ -118,6 +145,7 @@ fn naming(asked: Asked, file: usize, goal: usize, count: usize) -> Asked {
     Asked {
         wish,
         known: asked.known,
+        jobs: asked.jobs,
         file,
         goal,
     }
@@ -141,25 +169,34 @@ fn argument(i: usize) -> Word {
     word_of(&word[..n])
 }
 
-// The program's arguments, the first being 1. What stands after `--known` is its list, whatever it is.
+// Whether an argument is what the option before it asks for.
+fn follows(asked: Asked, i: usize) -> bool {
+    i == asked.known || i == asked.jobs
+}
+
+// The program's arguments, the first being 1. What stands after `--known` is its list, and after `--tune` its file, whatever it is.
 pub fn read() -> Asked {
     let count = os::arg_count();
     let mut asked = Asked {
         wish: Wish::Answers,
         known: 0,
+        jobs: 0,
         file: 0,
         goal: 0,
     };
     let mut i = 1;
     while i < count {
         let next = i + 1;
-        if i != asked.known {
+        if !follows(asked, i) {
             match argument(i) {
                 Word::Prints(more) => {
                     asked = printing(asked, more);
                 }
                 Word::Known => {
                     asked = knowing(asked, next);
+                }
+                Word::Tune => {
+                    asked = tuning(asked, next);
                 }
                 Word::File => {
                     return naming(asked, i, next, count);

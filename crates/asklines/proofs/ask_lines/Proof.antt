@@ -10,6 +10,9 @@ Inv-loop text kept shop buf₀ room₀ out₀ stand₀ turns₀ buf room out sta
 abbrev μ-loop : tie.MeasureT-loop
 μ-loop text kept shop buf₀ room₀ out₀ stand₀ turns₀ buf room out stand turns = turns
 
+start-requires : tie.Need-start-requires Inv-loop μ-loop
+start-requires c κs = search needs
+
 blank-requires : tie.Need-blank-requires Inv-loop μ-loop
 blank-requires c κs = search needs
 
@@ -46,6 +49,7 @@ ask-lines-spec =
     (tie.spec
     Inv-loop
     μ-loop
+    start-requires
     blank-requires
     loop-holds
     sub-turns

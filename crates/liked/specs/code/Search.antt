@@ -2,7 +2,6 @@
 use Prim.Native.Nat.{ℕ, _^_, _≤_, _<_}
 use mathlib.Core.Path.{_≡_}
 use mathlib.Core.List.{List}
-use lib.ListN.{length, take}
 use Rattle.refusal.specs.Refusal.{told}
 use Rattle.refusal.specs.Read.{read, refuse}
 use Rattle.refusal.specs.declared.Refusal.{Refusal}
@@ -11,15 +10,8 @@ use Rattle.least.specs.Measures.{tableBy}
 use Rattle.least.specs.declared.By.{By}
 use Rattle.builder.specs.Build.{tableFor}
 use Rattle.liked.specs.Liked.{columnsOf, TriesFor}
-use Rattle.liked.specs.declared.Columns.{Columns}
 use Rattle.liked.specs.declared.Total.{Total}
 use Rattle.liked.specs.declared.Total.the-variants as total
-
--- the columns of a mask, as the first of eight numbers
-pub record Listed (mask : ℕ) (r : Columns) : Type 0 where
-  pub size : length (r .list) ≡ 8
-  pub few : r .count ≤ 8
-  pub are : take (r .count) (r .list) ≡ columnsOf mask
 
 -- what a set of columns tries, or why no plan is built for it
 pub data Totalled (by : By) (cells goals list : List ℕ) (mask : ℕ) (r : Total) : Type 0 where

@@ -18,6 +18,9 @@ loop-holds c = search needs
 add-next : tie.Need-add-next Inv-loop μ-loop
 add-next c = search needs
 
+follows-requires : tie.Need-follows-requires Inv-loop μ-loop
+follows-requires c κs = search needs
+
 argument-requires : tie.Need-argument-requires Inv-loop μ-loop
 argument-requires c κs = search needs
 
@@ -35,6 +38,12 @@ knowing-requires c κs = search needs
 
 enum-told-2 : tie.Need-enum-told-2 Inv-loop μ-loop
 enum-told-2 c = search needs
+
+tuning-requires : tie.Need-tuning-requires Inv-loop μ-loop
+tuning-requires c κs = search needs
+
+enum-told-3 : tie.Need-enum-told-3 Inv-loop μ-loop
+enum-told-3 c = search needs
 
 naming-requires : tie.Need-naming-requires Inv-loop μ-loop
 naming-requires c κs = search needs
@@ -60,6 +69,12 @@ loop-less-3 c = search needs
 loop-again-3 : tie.Need-loop-again-3 Inv-loop μ-loop
 loop-again-3 c = search needs
 
+loop-less-4 : tie.Need-loop-less-4 Inv-loop μ-loop
+loop-less-4 c = search needs
+
+loop-again-4 : tie.Need-loop-again-4 Inv-loop μ-loop
+loop-again-4 c = search needs
+
 alone-requires : tie.Need-alone-requires Inv-loop μ-loop
 alone-requires c κs = search needs
 
@@ -75,12 +90,15 @@ read-spec =
     arg-count-requires
     loop-holds
     add-next
+    follows-requires
     argument-requires
     enum-known-more
     printing-requires
     enum-told
     knowing-requires
     enum-told-2
+    tuning-requires
+    enum-told-3
     naming-requires
     returns
     loop-less
@@ -89,5 +107,7 @@ read-spec =
     loop-again-2
     loop-less-3
     loop-again-3
+    loop-less-4
+    loop-again-4
     alone-requires
     returns-2)

@@ -3,14 +3,14 @@ use Prim.Native.Nat.{_-_}
 use mathlib.Core.Path.{_≡_}
 use lib.ListN.{length}
 use borrow.Author.Needs.{needs}
-use Rattle.asklines.proofs.read_piece.Statement.{statement}
-use Rattle.asklines.proofs.read_piece.Tie as tie
+use Rattle.goallines.proofs.read_piece.Statement.{statement}
+use Rattle.goallines.proofs.read_piece.Tie as tie
 
 abbrev Inv-loop : tie.InvT-loop
-Inv-loop buf₀ have to₀ buf to = length buf ≡ length buf₀
+Inv-loop fd buf₀ have to₀ buf to = length buf ≡ length buf₀
 
 abbrev μ-loop : tie.MeasureT-loop
-μ-loop buf₀ have to₀ buf to = length buf - to
+μ-loop fd buf₀ have to₀ buf to = length buf - to
 
 loop-holds : tie.Need-loop-holds Inv-loop μ-loop
 loop-holds c = search needs
@@ -27,8 +27,8 @@ ahead-requires c κs = search needs
 line-end-requires : tie.Need-line-end-requires Inv-loop μ-loop
 line-end-requires c κs = search needs
 
-add-t16 : tie.Need-add-t16 Inv-loop μ-loop
-add-t16 c = search needs
+add-t17 : tie.Need-add-t17 Inv-loop μ-loop
+add-t17 c = search needs
 
 same-length : tie.Need-same-length Inv-loop μ-loop
 same-length c = search needs
@@ -83,7 +83,7 @@ read-piece-spec =
     enum-known-n
     ahead-requires
     line-end-requires
-    add-t16
+    add-t17
     same-length
     returns
     whole-requires
