@@ -1,6 +1,7 @@
-// What the program ask says where texts of facts, goals and lists of columns are refused, stored with their output: the programs over `desk` say
-// it to standard error. And what it says of counts that no run of the gate reaches.
+// What the program ask says where texts of facts, goals, lists of columns and files of goals are refused, stored with their output: the programs
+// over `desk` say it to standard error. And what it says of counts and columns that no run of the gate reaches.
 use answer::RunAnswer;
+use goallist::Full;
 use libc::STDOUT_FILENO;
 use message::Whose;
 use refusal::Refusal;
@@ -127,6 +128,21 @@ fn counted(n: usize) {
     write(&out, b);
 }
 
+// A file of goals has no room for one.
+fn full(line: usize, what: Full) {
+    let mut out = [0u8; 256];
+    let n = tunewords::put_full(&mut out, 0, b"jobs.pl", line, what);
+    write(&out, n);
+}
+
+// What `--tune` prints for columns and counts, before the plan.
+fn tuned(columns: &[u32], goals: usize, refused: usize, tried: usize, plain: usize) {
+    let mut out = [0u8; 256];
+    let a = tunewords::put_look(&mut out, 0, columns, b"shop.pl");
+    let b = tunewords::put_counted(&mut out, a, goals, refused, tried, plain);
+    write(&out, b);
+}
+
 fn main() {
     texts();
     ends();
@@ -142,4 +158,9 @@ fn main() {
     counted(0);
     counted(1);
     counted(usize::MAX);
+    full(100001, Full::Goals);
+    full(25001, Full::Cells);
+    tuned(&[], 0, 0, 0, 0);
+    tuned(&[1], 1, 2, 1, 1);
+    tuned(&[0, 1, 2, 3, 4, 5, 7], 2, 1, 10, 20);
 }

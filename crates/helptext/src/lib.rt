@@ -150,19 +150,19 @@ fn refusals(going: bool) -> bool {
     let c = line(b, b"    shop.pl:3:14: TEXT 18: `,` or `)` is expected\n");
     let d = line(
         c,
-        b"For a goal the file is `goal 2`, `standard input` or JOBS. Goals after one that is\n",
+        b"For a goal the file is `goal 2`, `standard input` or JOBS. Goals after one that\n",
     );
     let e = line(
         d,
-        b"refused are answered. FILE has at most 65,535 bytes and 64 rules, a goal 65,533\n",
+        b"is refused are answered. FILE has at most 65,535 bytes and 64 rules, a goal\n",
     );
     let f = line(
         e,
-        b"bytes, an answer 1,024 names, variables and numbers, its cells. The program\n",
+        b"65,533 bytes, an answer 1,024 names, variables and numbers, its cells. The\n",
     );
     line(
         f,
-        b"needs 1 MB of stack, with --tune 6 MB, and always ends with status 0.\n",
+        b"program needs 1 MB of stack, with --tune 6 MB, and always ends with status 0.\n",
     )
 }
 

@@ -1,10 +1,7 @@
-// `ask --tune JOBS FILE`: the plan that the goals of a file like best (liked), and which columns it looks at first.
-use builder::BuildAnswer;
+// `ask --tune JOBS FILE`: the goals of a file gathered, and the plan that they like best printed.
 use doubles::part;
 use lex::name::same_bytes;
 use libc::STDIN_FILENO;
-use page::Page;
-use refusal::Refusal;
 use shop::Shop;
 
 // The file of goals that an argument names, `-` being standard input. One that is too long for a name names none.
@@ -101,7 +98,7 @@ fn gather(
     let last = goalfile::gather(fd, jobs, text, &*kept, shop, cells, list, room, out);
     if goalfile::is_whole(last) {
         let held = last.held;
-        build(
+        bestplan::print(
             path,
             text,
             kept,
@@ -112,48 +109,4 @@ fn gather(
             out,
         );
     }
-}
-
-// A table that was read is refused no more, and 6,082 cells are enough for every plan.
-fn build(
-    path: &[u8],
-    text: &[u8],
-    kept: &mut [u32],
-    shop: Shop,
-    cells: &[u32],
-    list: &[usize],
-    refused: usize,
-    out: &mut [u8],
-) {
-    let mut plan = [0u32; 6082];
-    let mut best = [0usize; 3];
-    match liked::build_liked(
-        shop::measure(),
-        shop::table_in(&*kept, shop),
-        cells,
-        list,
-        &mut plan,
-        &mut best,
-    ) {
-        BuildAnswer::Built(n, _) => {
-            let named = liked::columns_of(best[0]);
-            let columns = named.list;
-            let a = tunewords::put_look(out, 0, part(&columns, 0, named.count), path);
-            let b = tunewords::put_counted(out, a, list.len() / 2, refused, best[1], best[2]);
-            let tuned = shop::with_plan(shop, part(&plan, 0, n), kept);
-            show(text, &*kept, tuned, b, out);
-        }
-        BuildAnswer::Refused(f) => refuse(path, text, f, out),
-    }
-}
-
-// The plan's words, after so many bytes.
-fn show(text: &[u8], kept: &[u32], shop: Shop, to: usize, out: &mut [u8]) {
-    let last = treetext::print(text, kept, shop, out, Page { to, open: true });
-    page::flush(out, last);
-}
-
-fn refuse(path: &[u8], text: &[u8], f: Refusal, out: &mut [u8]) {
-    let n = refusals::put_facts_refusal(out, path, text, f);
-    page::complain(out, n);
 }
