@@ -2,7 +2,7 @@
 use Prim.Native.Nat.{ℕ}
 use mathlib.Core.List.{List, [], _∷_}
 use lib.ListN.{getD, set}
-use Rattle.tally.specs.Tally.{upBy}
+use Rattle.sums.specs.Sums.{upBy}
 
 -- one more for a row that is there
 abbrev pub oneMore : List ℕ → (row : ℕ) → List ℕ
