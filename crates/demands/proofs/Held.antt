@@ -38,8 +38,8 @@ use Rattle.prolog.specs.Entry.{textTold}
 use Rattle.prolog.specs.declared.TextAnswer.{TextAnswer}
 use Rattle.prolog.proofs.Fixed.{read-text-fixed}
 use Rattle.exports.specs.Coded.{WorkCoded, EditCoded, BuildCoded, BuildForCoded, RunCoded, TextCoded, JobsCoded, RepliesCoded, ClausesCoded}
-use Rattle.exports.specs.Coded.{FileWriteCoded, FileReadCoded, SalvageCoded}
-use Rattle.exports.proofs.Fixed.{work-coded-fixed, edit-coded-fixed, build-coded-fixed, run-coded-fixed, text-coded-fixed, jobs-coded-fixed, replies-coded-fixed, build-for-coded-fixed}
+use Rattle.exports.specs.Coded.{FileWriteCoded, FileReadCoded, SalvageCoded, LikedCoded}
+use Rattle.exports.proofs.Fixed.{work-coded-fixed, edit-coded-fixed, build-coded-fixed, run-coded-fixed, text-coded-fixed, jobs-coded-fixed, replies-coded-fixed, build-for-coded-fixed, liked-coded-fixed}
 use Rattle.exports.proofs.Fixed.{clauses-coded-fixed, written-coded-fixed, loaded-coded-fixed, salvage-coded-fixed}
 use Rattle.answer.specs.declared.Job.{Job}
 use Rattle.answer.specs.Jobs.{JobsRun}
@@ -159,6 +159,10 @@ held-exported-build = build-coded-fixed
 pub held-exported-build-for : {rec columns room room′ room″ : List ℕ} {r s : ℕ} → BuildForCoded rec columns room room′ r
     → BuildForCoded rec columns room room″ s → (r ≡ s) × (room′ ≡ room″)
 held-exported-build-for = build-for-coded-fixed
+
+pub held-exported-build-liked : {rec goals list room liked room′ room″ liked′ liked″ : List ℕ} {r s : ℕ} → LikedCoded rec goals list room liked room′ liked′ r
+    → LikedCoded rec goals list room liked room″ liked″ s → (r ≡ s) × (room′ ≡ room″) × (liked′ ≡ liked″)
+held-exported-build-liked = liked-coded-fixed
 
 pub held-exported-run : {t p g room room′ room″ : List ℕ} {r s : ℕ} → RunCoded t p g room room′ r → RunCoded t p g room room″ s
     → (r ≡ s) × (room′ ≡ room″)

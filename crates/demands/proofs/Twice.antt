@@ -38,6 +38,8 @@ use Rattle.exports.proofs.Places.{Placed, good, turned, placed-table, placed-ro
 use Rattle.demands.specs.Demands.{Demand1Table, Demand1Goal, Demand1Check, Demand1Build, Demand1Run}
 use Rattle.demands.specs.Columns.{CheckForTurned, ChecksFor}
 use Rattle.demands.specs.Columns as kinds
+use Rattle.demands.specs.Liked.{LikedTurned, LikesMost}
+use Rattle.demands.specs.Liked as likes
 use Rattle.demands.specs.Demands.{BuildTurned, no-figure, no-table, no-column, no-room, RunTurned, bad-table, bad-plan, bad-goal, bad-room}
 use Rattle.demands.specs.Texts.{TextTurned, Request201}
 use Rattle.demands.specs.Texts as texts
@@ -95,6 +97,14 @@ never-build {by} {columns} {t} {room} x f e = go (x .refuses f .0 e)
     go (no-table h q) = placed (placed-table t) q
     go (no-column h i m q) = named reason.Column (same q)
     go (no-room h i k tree b l q) = named reason.Room (same q)
+
+pub never-build-liked : {by : By} {t goals list room after liked liked′ : List ℕ} {a : Answer} → LikesMost by t goals list room after liked liked′ a → NeverTwice a
+never-build-liked {by} {t} {goals} {list} {room} x f e = go (x .refuses f .0 e)
+  where
+    go : LikedTurned by t goals list room f → f .number ≢ 8
+    go (likes.no-figure h q) = named reason.Figure (same q)
+    go (likes.no-table h q) = placed (placed-table t) q
+    go (likes.no-room h best l q) = named reason.Room (same q)
 
 pub never-run : {t p g room after : List ℕ} {a : Answer} → Demand1Run t p g room after a → NeverTwice a
 never-run {t} {p} {g} {room} x f e = go (x .refuses f .0 e)
