@@ -1,2 +1,3 @@
 pub mod AddLaws
 pub mod GatherLaws
+pub mod Fixed

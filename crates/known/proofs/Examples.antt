@@ -1,11 +1,12 @@
--- Lists of columns, and words that are none.
+-- Lists of columns, and words that are none; columns put as lists.
 use mathlib.Core.Path.{_≡_, refl}
 use mathlib.Core.Bool.{Bool, true, false}
 use mathlib.Core.List.{List, [], _∷_, map}
 use Prim.Native.Nat.{ℕ}
 use Prim.Native.String.{String}
 use Rattle.message.specs.Words.{ascii}
-use Rattle.known.specs.Known.{stepOf, columnsFrom, listFrom}
+use Rattle.octets.specs.Octets.{digitsOf, decimal}
+use Rattle.known.specs.Known.{stepOf, columnsFrom, listFrom, nextText, listText}
 
 pub lists : map (λ (s : String). columnsFrom 0 (ascii s)) ("1,3" ∷ "3,1,1" ∷ "08" ∷ "999999999" ∷ [])
     ≡ (0 ∷ 2 ∷ []) ∷ (2 ∷ 0 ∷ 0 ∷ []) ∷ (7 ∷ []) ∷ (999999998 ∷ []) ∷ []
@@ -16,3 +17,7 @@ pub none : map (λ (s : String). listFrom 0 (ascii s)) ("1,3" ∷ "999999999" �
     ≡ true ∷ true ∷ false ∷ false ∷ false ∷ false ∷ false ∷ false ∷ false ∷ false ∷ false ∷ []
 unfolding ascii stepOf listFrom
 none = refl
+
+pub puts : map (listText 0) ((0 ∷ 2 ∷ []) ∷ (1 ∷ []) ∷ (7 ∷ 9 ∷ []) ∷ []) ≡ map ascii ("1,3" ∷ "2" ∷ "8,10" ∷ [])
+unfolding ascii digitsOf decimal nextText listText
+puts = refl
