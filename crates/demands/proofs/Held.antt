@@ -43,7 +43,7 @@ use Rattle.exports.proofs.Fixed.{work-coded-fixed, edit-coded-fixed, build-code
 use Rattle.exports.proofs.Fixed.{clauses-coded-fixed, written-coded-fixed, loaded-coded-fixed, salvage-coded-fixed}
 use Rattle.answer.specs.declared.Job.{Job}
 use Rattle.answer.specs.Jobs.{JobsRun}
-use Rattle.run.proofs.Fixed.{run-jobs-fixed}
+use Rattle.shift.proofs.Fixed.{run-jobs-fixed}
 use Rattle.instance.specs.declared.RepliesAnswer.{RepliesAnswer}
 use Rattle.instance.specs.Replied.{Replied}
 use Rattle.instance.proofs.Fixed.{replied-fixed}

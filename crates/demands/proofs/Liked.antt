@@ -40,8 +40,8 @@ use Rattle.builder.proofs.AskedLaws.{for-read, read-for}
 use Rattle.builder.proofs.Fixed.{same-built}
 use Rattle.answer.specs.Jobs.{bit, Asked, Each, nil, cons}
 use Rattle.answer.specs.declared.Job.{Job}
-use Rattle.run.specs.Totals.{goalsIn, Tries, none, more, TriesInAll}
-use Rattle.run.proofs.TotalLaws.{tries-one}
+use Rattle.shift.specs.Totals.{goalsIn, Tries, none, more, TriesInAll}
+use Rattle.shift.proofs.TotalLaws.{tries-one}
 use Rattle.knowing.specs.Knowing.{totalTried}
 use Rattle.knowing.proofs.SumLaws.{sums, singles-there}
 use Rattle.sums.specs.Sums.{held}

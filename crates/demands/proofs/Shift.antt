@@ -21,7 +21,7 @@ use Rattle.answer.specs.Run.{Counts, skeletons, Tried, Ran}
 use Rattle.answer.specs.Jobs.{bitsOf, filled, entered, Asked, outside, alone, Each, JobsRun, refusal, asked}
 use Rattle.answer.proofs.BitsLaws.{bits-mem, bits-few}
 use Rattle.answer.proofs.JobsLaws.{each-map, Enough, any-room, enough-64, entered-refused, entered-found}
-use Rattle.run.proofs.Fixed.{jobs-told}
+use Rattle.shift.proofs.Fixed.{jobs-told}
 use Rattle.demands.specs.Demands.{bad-goal}
 use Rattle.demands.specs.Shift.{Holds, JobAnswered, OneJob, Shift}
 use Rattle.demands.proofs.Cited.{reads, tree-read, plan-kept, run-kept, run-answers}

@@ -2,7 +2,7 @@
 -- columns, the one with the least total tried over the list; ties go to the plain plan, then to the smallest mask (bit c for column c)." As
 -- statements of what the entry is given and what it answers; proofs/Liked proves them of the entry's promise, and src/lib.rt ties them to it.
 --
--- The list has two words for each goal (`goalsIn`, crate run, specs/Totals); a mask's columns are `columnsOf` (crate liked). A total has 64 bits:
+-- The list has two words for each goal (`goalsIn`, crate shift, specs/Totals); a mask's columns are `columnsOf` (crate liked). A total has 64 bits:
 -- `held` is what they hold of it (crate sums).
 use Prim.Native.Nat.{ℕ, _^_, _≤_, _<_}
 use mathlib.Core.Path.{_≡_}
@@ -19,7 +19,7 @@ use Rattle.least.specs.declared.By.{By}
 use Rattle.least.specs.declared.By.the-variants.{Work}
 use Rattle.record.specs.Record.{tableIn}
 use Rattle.answer.specs.Jobs.{bit}
-use Rattle.run.specs.Totals.{goalsIn, Tries}
+use Rattle.shift.specs.Totals.{goalsIn, Tries}
 use Rattle.knowing.specs.Knowing.{Singles}
 use Rattle.knowing.specs.Knowing as knowing
 use Rattle.sums.specs.Sums.{held}

@@ -29,7 +29,7 @@ ghost use Rattle.demands.specs.Asking.{FindsPredicate, ReadsGoal, ReadsB
 use asking::Predicate;
 use cell::Shape;
 use goaltext::GoalText;
-use run::Job;
+use shift::Job;
 
 // Demand 1: reading.
 fn demand_read_table(cells: &[u32]) -> u64

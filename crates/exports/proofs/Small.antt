@@ -63,7 +63,7 @@ use Rattle.grammar.specs.Taken.{Taken, too-long, no-text, other-fact, taken}
 use Rattle.grammar.proofs.LongLaws.{text-long, other-place, names-few}
 use Rattle.loading.specs.Load.{Loaded, Loads, not-taken, no-cells, no-names, no-table, loads, loadSays, TextLoads}
 use Rattle.prolog.proofs.EntryLaws.{cells-long, names-long}
-use Rattle.run.proofs.Fixed.{jobs-told}
+use Rattle.shift.proofs.Fixed.{jobs-told}
 use Rattle.filing.specs.Files.{tablePart, fileOf, FileWritten, FileLoaded}
 use Rattle.filing.specs.Files as files
 use Rattle.filing.proofs.Undo.{accepted-sizes, read-sizes}

@@ -14,7 +14,7 @@ ghost use Rattle.exports.specs.Coded.{FileWriteCoded, FileReadCoded, Sal
 mod code;
 
 use least::By;
-use run::Job;
+use shift::Job;
 
 // A table's width and number of rows.
 #[no_mangle]
@@ -132,7 +132,7 @@ pub extern "C" fn dudowiej_run_jobs(
         (now (jobs .exit)) r ⌝ }
 {
     let table = record::table_of(rec);
-    code::code_plan(run::run_jobs(table, plan, cells, jobs))
+    code::code_plan(shift::run_jobs(table, plan, cells, jobs))
 }
 
 // How many replies there are and how many cells they have together; they are the room's first cells.

@@ -32,8 +32,8 @@ use Rattle.builder.specs.declared.BuildAnswer.the-variants as build-answer
 use Rattle.builder.proofs.AskedLaws.{read-for, for-read, plain-table}
 use Rattle.builder.proofs.ColumnsLaws.{no-column-free}
 use Rattle.builder.proofs.Fixed.{same-built}
-use Rattle.run.specs.Totals.{TriesInAll}
-use Rattle.run.proofs.TotalLaws.{total-fixed}
+use Rattle.shift.specs.Totals.{TriesInAll}
+use Rattle.shift.proofs.TotalLaws.{total-fixed}
 use Rattle.liked.specs.Liked.{columnsOf, TriesFor, LikesBest, LikedInto, likedAfter}
 use Rattle.liked.specs.Liked as liked
 use Rattle.liked.specs.code.Search.{Totalled, tried, turned-away, Plainly, BestBelow}

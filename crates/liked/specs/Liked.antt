@@ -14,7 +14,7 @@ use Rattle.least.specs.declared.By.{By}
 use Rattle.builder.specs.Build.{BuiltInto, buildTold}
 use Rattle.builder.specs.declared.BuildAnswer.{BuildAnswer}
 use Rattle.answer.specs.Jobs.{bit}
-use Rattle.run.specs.Totals.{TriesInAll}
+use Rattle.shift.specs.Totals.{TriesInAll}
 use Rattle.liked.specs.declared.Columns.{Columns}
 
 -- "bit c for column c": of the columns from c on, so many, those whose bit is set

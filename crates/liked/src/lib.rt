@@ -55,7 +55,7 @@ fn total_for(by: By, mask: usize, cells: &[u32], goals: &[u32], list: &[usize]) 
     let mut plan = [0u32; 6082];
     match build_for(by, &columns[..count], cells, &mut plan[..]) {
         BuildAnswer::Built(size, _) => {
-            Total::Tried(run::total_tried(cells, &plan[..size], goals, list))
+            Total::Tried(shift::total_tried(cells, &plan[..size], goals, list))
         }
         BuildAnswer::Refused(f) => Total::Refused(f),
     }

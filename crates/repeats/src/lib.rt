@@ -34,8 +34,8 @@ fn place(c: u32) -> usize
 }
 
 // The number that comes after the last branch; none is noted from 2,048 on.
-fn end_of(to: usize) -> usize
-    ensures { λ r. ⌜ (r ≤ 2048) × (to ≤ 2048 → r ≡ to) ⌝ }
+pub fn end_of(to: usize) -> usize
+    ensures { λ r. ⌜ (r ≤ 2048) × (to ≤ 2048 → r ≡ to) × (2048 ≤ to → r ≡ 2048) ⌝ }
 {
     if to < 2048 { to } else { 2048 }
 }
@@ -179,8 +179,8 @@ pub fn rest(
     until: &[u16; 64],
     refs: &[u8; 64],
 ) -> Alone
-    ensures { λ r. ⌜ ((b : Begins (now (notes .entry)) (now (rep .entry)) (now (sib .entry)) (now (bound .entry)) (now (args .entry))
-        (now (until .entry)) (now (refs .entry)) from to) → Walks b (r .tried) (r .hits)) ⌝ }
+    ensures { λ r. ⌜ (r .tried ≤ 2048) × (r .hits ≤ 1) × ((b : Begins (now (notes .entry)) (now (rep .entry)) (now (sib .entry))
+        (now (bound .entry)) (now (args .entry)) (now (until .entry)) (now (refs .entry)) from to) → Walks b (r .tried) (r .hits)) ⌝ }
 {
     let mut own = symbols(bound, until, from);
     let mut kids = *args;

@@ -97,11 +97,6 @@ module _ {t p ns : List ℕ} {b w n : ℕ} (A : ForRun t p ns b w n) where
           (omega (arith, z, A .same-rows)) room′ n b (x ∙ ap (sets room 0) q) (A .same-rows ∙ sym z) (A .number)
 
       -- the walk
-      pub begun : Begun ns b g room w
-      begun =
-          rw (A .same-width)
-          (record { table = t; rows = A .table .rows; accepted = A .is; tree = A .tree; number = A .number; words = A .words; is = goal-is; roomy = omega (arith, A .same-rows) })
-
       pub walked : (room′ : List ℕ) (h k : ℕ) → ((x : Begun ns b g room w) → Walked x room′ h k) → Ran t p g room room′ (run-answer.Ran h k)
       walked room′ h k u =
           let u′ : (x : Begun ns b g room (A .table .width)) → Walked x room′ h k = rw (A .same-width) at u in

@@ -1,6 +1,2 @@
 pub mod TestLaws
 pub mod EntryLaws
-pub mod JobsLaws
-pub mod UptoLaws
-pub mod Fixed
-pub mod TotalLaws

@@ -30,8 +30,8 @@ module _ {bs ns us : List ℕ} {i c v : ℕ} where
   is-same (same h l d) e = (h, l, d, cc)
   is-same (unbound h l) e = absurd (let z : _≡_ {A = ℕ} 0 1 = cc in let y : ⊥ = omega arith in y)
 
-  pub is-unbound : {r : Found} {u : ℕ} → Finds bs ns us i c v r → r ≡ Unbound u → (isVar c ≡ false) × (getD us v 0 ≤ i) × (u ≡ v)
+  pub is-unbound : {r : Found} → Finds bs ns us i c v r → r ≡ Unbound → (isVar c ≡ false) × (getD us v 0 ≤ i)
   is-unbound (any h) e = absurd (let z : _≡_ {A = ℕ} 0 1 = cc in let y : ⊥ = omega arith in y)
   is-unbound (other h l d) e = absurd (let z : _≡_ {A = ℕ} 0 1 = cc in let y : ⊥ = omega arith in y)
   is-unbound (same h l d) e = absurd (let z : _≡_ {A = ℕ} 0 1 = cc in let y : ⊥ = omega arith in y)
-  is-unbound (unbound h l) e = (h, l, cc)
+  is-unbound (unbound h l) e = (h, l)

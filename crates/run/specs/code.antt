@@ -1,4 +1,2 @@
 -- what only private functions need
 pub mod Finds
-pub mod Checked
-pub mod Upto

@@ -1,21 +1,16 @@
-// A run (01, "A run"): the rows that unify with a goal, from the top, and the number of branches tried. And a list of goals (02, W-202),
-// each answered in its record.
+// A run (01, "A run"): the rows that unify with a goal, from the top, and the number of branches tried.
+// What is noted of a plan may be anything: a number is cut to what an array has places for where it is used, so every access is in bounds, and
+// that it is what the check notes stands as a premise inside the `ensures`, under which nothing is cut.
 ghost use mathlib.Core.List.{List};
 ghost use Prim.Native.Nat.{ℕ};
 ghost use Rattle.answer.specs.Run.{Ran};
-ghost use Rattle.answer.specs.Jobs.{JobsRun};
-ghost use Rattle.checker.specs.Checked.{planTold};
 ghost use Rattle.notes.specs.Noted.{Handed};
-ghost use Rattle.notes.specs.code.ForRun.{ForRun, ForSome};
-ghost use Rattle.run.specs.Totals.{TriesInAll};
-ghost use Rattle.run.specs.code.Checked.{Checked};
+ghost use Rattle.notes.specs.code.ForRun.{ForRun};
 
-mod jobs;
 mod nodes;
 mod step;
 mod walk;
 
-pub use answer::Job;
 use answer::RunAnswer;
 use checker::PlanAnswer;
 use notes::Noted;
@@ -34,7 +29,6 @@ fn run_accepted(
     goal: &[u32],
     room: &mut [u8],
 ) -> RunAnswer
-    requires { ⌜ ForSome (now noted) branches width rows ⌝ }
     ensures { λ r. ⌜ ((table plan : List ℕ) → ForRun table plan (now (noted .entry)) branches width rows → Ran table plan
         (now (goal .entry)) (now (room .entry)) (now (room .exit)) r) ⌝ }
 {
@@ -58,9 +52,8 @@ fn run_accepted(
     }
 }
 
-// A run of a plan by what the check has answered and noted of it.
-fn run_noted(numbers: &[u64; 2048], noted: Noted, goal: &[u32], room: &mut [u8]) -> RunAnswer
-    requires { ⌜ Checked (now numbers) noted ⌝ }
+// A run of a plan by what the check has answered and noted of it: any answer, any numbers.
+pub fn run_noted(numbers: &[u64; 2048], noted: Noted, goal: &[u32], room: &mut [u8]) -> RunAnswer
     ensures { λ r. ⌜ ((table plan before : List ℕ) → Handed table plan before (now (numbers .entry)) noted → Ran table plan
         (now (goal .entry)) (now (room .entry)) (now (room .exit)) r) ⌝ }
 {
@@ -82,28 +75,4 @@ pub fn run_plan(table: &[u32], plan: &[u32], goal: &[u32], room: &mut [u8]) -> R
     let mut numbers = [0u64; 2048];
     let noted = notes::check_noted(table, plan, &mut numbers);
     run_noted(&numbers, noted, goal, room)
-}
-
-// A run of any plan for any table on every goal of a list. The table and the plan are checked once; where one of them is turned away, no
-// record is touched. The goals' cells lie among the lent ones.
-pub fn run_jobs(table: &[u32], plan: &[u32], cells: &[u32], jobs: &mut [Job]) -> PlanAnswer
-    ensures { λ r. ⌜ JobsRun (now (table .entry)) (now (plan .entry)) (now (cells .entry)) (now (jobs .entry)) (now (jobs .exit)) (planTold
-        r) ⌝ }
-{
-    let mut numbers = [0u64; 2048];
-    let noted = notes::check_noted(table, plan, &mut numbers);
-    if jobs::accepted(noted) {
-        jobs::ask_all(&numbers, noted, cells, jobs);
-    }
-    jobs::answer_of(noted)
-}
-
-// What the goals of a list try together by any plan for any table. Where the table or the plan is turned away so is each goal, and nothing is
-// tried. The goals' cells lie among the lent ones, and two words of the list say where.
-pub fn total_tried(table: &[u32], plan: &[u32], cells: &[u32], list: &[usize]) -> usize
-    ensures { λ r. ⌜ TriesInAll (now (table .entry)) (now (plan .entry)) (now (cells .entry)) (now (list .entry)) r ⌝ }
-{
-    let mut numbers = [0u64; 2048];
-    let noted = notes::check_noted(table, plan, &mut numbers);
-    jobs::add_all(&numbers, noted, cells, list)
 }

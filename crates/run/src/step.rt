@@ -6,6 +6,7 @@ ghost use lib.ListN.{getD};
 ghost use Rattle.plan.specs.Notes.{cellIn, skipIn, slotIn, nextIn};
 ghost use Rattle.walking.specs.code.Steps.{Safe, Step};
 ghost use Rattle.run.specs.code.Finds.{Finds};
+use joins::node;
 use notes::packed::cell_of;
 use notes::packed::next_of;
 use notes::packed::skip_of;
@@ -19,7 +20,7 @@ pub enum Found {
     Any,
     Other,
     Same(usize),
-    Unbound(usize),
+    Unbound,
 }
 
 // The branch number `i`, with the cell `c`, against the node `v`. It is bound exactly when its binding ends after this branch.
@@ -36,7 +37,7 @@ fn test(bound: &[u32; 64], args: &[u8; 64], until: &[u16; 64], i: usize, c: u32,
                     Found::Other
                 }
             } else {
-                Found::Unbound(v)
+                Found::Unbound
             }
         }
         _ => Found::Any,
@@ -55,14 +56,15 @@ pub fn meets(
     until: &mut [u16; 64],
     refs: &mut [u8; 64],
 ) -> bool
-    requires { ⌜ Safe (now sib) (now bound) (now args) (now until) i (cellIn w) (getD (now refs) (slotIn w) 0) (nextIn w) ⌝ }
-    ensures { λ r. ⌜ Step (now (rep .entry)) (now (sib .entry)) i (cellIn w) (getD (now (refs .entry)) (slotIn w) 0) (nextIn w) (skipIn w)
+    ensures { λ r. ⌜ (Safe (now (sib .entry)) (now (bound .entry)) (now (args .entry)) (now (until .entry)) i (cellIn w)
+        (getD (now (refs .entry)) (slotIn w) 0) (nextIn w)
+        → Step (now (rep .entry)) (now (sib .entry)) i (cellIn w) (getD (now (refs .entry)) (slotIn w) 0) (nextIn w) (skipIn w)
         (now (bound .entry)) (now (args .entry)) (now (until .entry)) (now (refs .entry)) (now (bound .exit)) (now (args .exit))
-        (now (until .exit)) (now (refs .exit)) r ⌝ }
+        (now (until .exit)) (now (refs .exit)) r) ⌝ }
 {
     let c = cell_of(w);
-    let slot = slot_of(w);
-    let seen = test(&*bound, &*args, &*until, i, c, wide(refs[slot]));
+    let v = node(wide(refs[slot_of(w)]));
+    let seen = test(&*bound, &*args, &*until, i, c, v);
     match seen {
         Found::Any => true,
         Found::Other => false,
@@ -70,7 +72,7 @@ pub fn meets(
             put_terms(refs, next_of(w), cell::arity_of(c), p, rep, sib);
             true
         }
-        Found::Unbound(v) => {
+        Found::Unbound => {
             let next = next_of(w);
             let skip = skip_of(w);
             bound[v] = c;

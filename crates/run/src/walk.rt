@@ -2,18 +2,20 @@
 // it, by the number of the branch after them; one that succeeds is followed by the branches below it, or, where there is none, its rows are
 // hits. A row that repeats a variable is run by itself from the branch of its first variable on.
 ghost use mathlib.Core.Path.{_≡_};
-ghost use Prim.Native.Nat.{_+_, _≤_};
-ghost use lib.ListN.{length};
+ghost use Prim.Native.Nat.{_+_, _^_, _≤_, _<_};
+ghost use lib.ListN.{length, set};
 ghost use lib.Seq.{sets};
-ghost use Rattle.table.specs.Table.{upFrom};
+ghost use Rattle.table.specs.Table.{upFrom, IsGoal};
 ghost use Rattle.walking.specs.code.Walk.{Begun, Walked};
 use super::nodes::name_cells;
 use super::nodes::siblings;
 use super::step::meets;
+use joins::node;
 use notes::packed::alone_of;
 use notes::packed::rows_of;
 use notes::packed::skip_of;
 use notes::packed::wide16;
+use repeats::end_of;
 use repeats::put_terms;
 use repeats::rest;
 
@@ -23,20 +25,37 @@ pub struct Out {
     pub tried: usize,
 }
 
+// The number of a row as a byte at `at`, where the room has a place for it.
+fn put_row(room: &mut [u8], at: usize, row: usize)
+    ensures { λ _. ⌜ (at < length (now (room .entry)) → row < 64 → now (room .exit) ≡ set (now (room .entry)) at row) ⌝ }
+{
+    if at < room.len() {
+        room[at] = node(row) as u8;
+    }
+}
+
 // The rows from `row` on, `n` of them, as bytes from `at` on.
 pub fn put_rows(room: &mut [u8], at: usize, n: usize, row: usize)
-    requires { ⌜ (at + n ≤ length (now room)) × (row + n ≤ 64) ⌝ }
-    ensures { λ r. ⌜ now (room .exit) ≡ sets (now (room .entry)) at (upFrom row n) ⌝ }
+    requires { ⌜ (at + n < 2 ^ 64) × (row + n < 2 ^ 64) ⌝ }
+    ensures { λ _. ⌜ (at + n ≤ length (now (room .entry)) → row + n ≤ 64
+        → now (room .exit) ≡ sets (now (room .entry)) at (upFrom row n)) ⌝ }
 {
     let mut more = n;
     let mut j = at;
     let mut q = row;
     while 0 < more {
-        room[j] = q as u8;
+        put_row(room, j, q);
         q += 1;
         j += 1;
         more -= 1;
     }
+}
+
+// The branch after all below one, and no earlier one than that which comes `next`.
+fn past(next: usize, skip: usize) -> usize
+    ensures { λ r. ⌜ (next ≤ r) × (next ≤ skip → r ≡ skip) ⌝ }
+{
+    if next < skip { skip } else { next }
 }
 
 // A run of an accepted plan on a goal of `width` terms: the hits as bytes from the room's first on, and how many branches were tried.
@@ -47,7 +66,7 @@ pub fn walk(
     width: usize,
     room: &mut [u8],
 ) -> Out
-    requires { ⌜ Begun (now notes) branches (now goal) (now room) width ⌝ }
+    requires { ⌜ IsGoal width (now goal) ⌝ }
     ensures { λ o. ⌜ ((b : Begun (now (notes .entry)) branches (now (goal .entry)) (now (room .entry)) width) → Walked b
         (now (room .exit)) (o .hits) (o .tried)) ⌝ }
 {
@@ -58,22 +77,23 @@ pub fn walk(
     let rep = name_cells(goal, &mut bound, &mut args, &mut until);
     let mut refs = [0u8; 64];
     put_terms(&mut refs, 1, width, 0, &rep, &sib);
+    let end = end_of(branches);
     let mut i = 0;
     let mut row = 0;
     let mut hits = 0;
     let mut tried = 0;
-    while i < branches {
+    while i < end {
         let w = notes[i];
         let skip = wide16(skip_of(w));
+        let after = i + 1;
         if alone_of(w) {
             let o = rest(notes, i, skip, &rep, &sib, &bound, &args, &until, &refs);
             put_rows(room, hits, o.hits, row);
             hits += o.hits;
             tried += o.tried;
             row += rows_of(w);
-            i = skip;
+            i = past(after, skip);
         } else {
-            let after = i + 1;
             tried += 1;
             if meets(
                 w,
@@ -94,7 +114,7 @@ pub fn walk(
                 i = after;
             } else {
                 row += rows_of(w);
-                i = skip;
+                i = past(after, skip);
             }
         }
     }

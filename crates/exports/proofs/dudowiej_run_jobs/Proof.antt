@@ -57,10 +57,10 @@ use Rattle.record.proofs.table_of as table-of
 use Rattle.record.proofs.table_of.Symbol as table-of-def
 use Rattle.record.proofs.table_of.Symbol.{name as #table-of}
 use Rattle.record.proofs.table_of.Met as table-of-thm
-use Rattle.run.proofs.run_jobs as run-jobs
-use Rattle.run.proofs.run_jobs.Symbol as run-jobs-def
-use Rattle.run.proofs.run_jobs.Symbol.{name as #run-jobs}
-use Rattle.run.proofs.run_jobs.Met as run-jobs-thm
+use Rattle.shift.proofs.run_jobs as run-jobs
+use Rattle.shift.proofs.run_jobs.Symbol as run-jobs-def
+use Rattle.shift.proofs.run_jobs.Symbol.{name as #run-jobs}
+use Rattle.shift.proofs.run_jobs.Met as run-jobs-thm
 use Rattle.exports.specs.Coded.{JobsCoded}
 use Rattle.exports.proofs.Small.{jobs-small}
 use Rattle.exports.proofs.code.code_plan as code-plan
@@ -375,7 +375,7 @@ dudowiej-run-jobs-spec 𝓤 H 𝓜 𝓖 𝓡 =
     (meets 𝓤 H (𝓖 .A) (𝓜 .mem) (𝓡 .run) (givenOf 𝓤 H 𝓜 𝓖) (tablesOf 𝓤 H 𝓜 (tables 𝓤 H 𝓜 𝓡 code.env))
     (cited 𝓤 H (Tab 𝓤 H (𝓖 .A) (𝓜 .mem) (𝓡 .run)) 𝓜 𝓡 code.env #table-of table-of-def.routine code.calls-record·table-of
     (table-of-thm.met 𝓤 H 𝓜 𝓖 𝓡))
-    (cited 𝓤 H (Run 𝓤 H (𝓖 .A) (𝓜 .mem) (𝓡 .run)) 𝓜 𝓡 code.env #run-jobs run-jobs-def.routine code.calls-run·run-jobs
+    (cited 𝓤 H (Run 𝓤 H (𝓖 .A) (𝓜 .mem) (𝓡 .run)) 𝓜 𝓡 code.env #run-jobs run-jobs-def.routine code.calls-shift·run-jobs
     (run-jobs-thm.met 𝓤 H 𝓜 𝓖 𝓡))
     (cited 𝓤 H (Cod 𝓤 H (𝓖 .A) (𝓜 .mem) (𝓡 .run)) 𝓜 𝓡 code.env #code-plan code-plan-def.routine code.calls-exports·code·code-plan
     (code-plan-thm.met 𝓤 H 𝓜 𝓖 𝓡)))

@@ -21,9 +21,3 @@ pub record ForRun (cells plan noted : List ℕ) (count width rows : ℕ) : Type 
   pub same-rows : rows ≡ length (table .rows)
   pub words : take count noted ≡ map word (notes tree (upFrom 1 (table .width)) 0 32)
   pub fit : All Fits (notes tree (upFrom 1 (table .width)) 0 32)
-
--- the same of some table and some plan
-pub record ForSome (noted : List ℕ) (count width rows : ℕ) : Type 0 where
-  pub cells : List ℕ
-  pub plan : List ℕ
-  pub accepted : ForRun cells plan noted count width rows

@@ -17,7 +17,7 @@ use Rattle.repeats.proofs.rest.Tie as tie
 abbrev Inv-loop : tie.InvT-loop
 Inv-loop notes from to rep sib bound args until refs own₀ kids₀ cls₀ terms₀ keep₀ end i₀ own kids cls terms keep i =
     ((b : Begins notes rep sib bound args until refs from to)
-    → Under (b .R) (b .x) (skeletonsOf (b .chain) (replicate (b .k) hole)) notes sib own kids cls terms keep from i to) × (from ≤ i)
+    → Under (b .R) (b .x) (skeletonsOf (b .chain) (replicate (b .k) hole)) notes sib own kids cls terms keep from i to) × (from ≤ i) × (i - from ≤ 2048)
 
 abbrev μ-loop : tie.MeasureT-loop
 μ-loop notes from to rep sib bound args until refs own₀ kids₀ cls₀ terms₀ keep₀ end i₀ own kids cls terms keep i = end - i
@@ -45,7 +45,7 @@ end-of-requires : tie.Need-end-of-requires Inv-loop μ-loop
 end-of-requires c κs = search needs
 
 loop-holds : tie.Need-loop-holds Inv-loop μ-loop
-loop-holds c = (λ b. begins-under b (c .before .before .before .before .symbols .ensures (b .size-bound) (b .size-until)) refl, omega arith)
+loop-holds c = (λ b. begins-under b (c .before .before .before .before .symbols .ensures (b .size-bound) (b .size-until)) refl, omega arith, omega arith)
 
 mul-w : tie.Need-mul-w Inv-loop μ-loop
 mul-w c = search needs
@@ -64,11 +64,14 @@ sub-t32 c = let l = c .before .before .before .before .before .before .before .b
 
 returns : tie.Need-returns Inv-loop μ-loop
 returns c =
-    λ b.
-    let l = c .before .before .before .before .before .before .before .before .before in
-    let u = l .loop .inv .0 b in
-    let h = lower l b (omega arith) in
-    (false, refl, rest-off u h (c .before .meets .ensures (rest-safe u h)) (not-true _ (c .if1 .taken)) _ (omega (arith, l .loop .inv .1)))
+    let l = c .before .before .before .before .before .before .before .before .before in (
+      omega (arith, l .loop .inv .1, l .before .end-of .ensures .0),
+      omega arith,
+      λ b.
+          let u = l .loop .inv .0 b in
+          let h = lower l b (omega arith) in
+          (false, refl, rest-off u h (c .before .meets .ensures (rest-safe u h)) (not-true _ (c .if1 .taken)) _ (omega (arith, l .loop .inv .1))),
+    )
 
 loop-less : tie.Need-loop-less Inv-loop μ-loop
 loop-less c = omega arith
@@ -81,6 +84,7 @@ loop-again c =
           let h = lower l b (omega arith) in
           rest-on u h (c .before .meets .ensures (rest-safe u h)) (not-false _ (c .if1 .left)),
       omega (arith, l .loop .inv .1),
+      omega (arith, l .loop .inv .1, l .before .end-of .ensures .0),
     )
 
 sub-tried : tie.Need-sub-tried Inv-loop μ-loop
@@ -88,11 +92,14 @@ sub-tried c = omega (arith, c .before .loop .inv .1)
 
 returns-2 : tie.Need-returns-2 Inv-loop μ-loop
 returns-2 c =
-    λ b.
-    let l = c .before in
-    let u = l .loop .inv .0 b in
-    let h = at-end l b in
-    (true, refl, rest-ends u (omega (arith, h)) _ (omega (arith, h, u .left, l .loop .inv .1)))
+    let l = c .before in (
+      l .loop .inv .2,
+      omega arith,
+      λ b.
+          let u = l .loop .inv .0 b in
+          let h = at-end l b in
+          (true, refl, rest-ends u (omega (arith, h)) _ (omega (arith, h, u .left, l .loop .inv .1))),
+    )
 
 pub rest-spec : {M : Type 1} → statement M
 rest-spec =

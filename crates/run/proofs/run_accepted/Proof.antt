@@ -3,7 +3,8 @@ use native.Mathlib.Omega.{arith}
 use lib.ListN.{length}
 use Rattle.refusal.specs.Read.{read}
 use Rattle.table.specs.Table.{goalOf}
-use Rattle.run.proofs.EntryLaws.{says-goal, says-no-goal, no-goal, no-room, few-rows, opened, begun, walked}
+use Rattle.table.proofs.Accepted.{is-goal}
+use Rattle.run.proofs.EntryLaws.{says-goal, says-no-goal, no-goal, no-room, few-rows, opened, walked}
 use borrow.Author.Needs.{needs}
 use Rattle.run.proofs.run_accepted.Statement.{statement}
 use Rattle.run.proofs.run_accepted.Tie as tie
@@ -31,9 +32,7 @@ returns c =
     λ t p A. no-room A (a .goal .now) (a .room .now) (told k .0) (c .if1 .taken)
 
 put-rows-requires : tie.Need-put-rows-requires
-put-rows-requires c κs =
-    let s = c .before .before .before .before .before .before .before .before .before in
-    (omega arith, omega (arith, few-rows (s .pre .accepted)))
+put-rows-requires c κs = search needs
 
 same-length : tie.Need-same-length
 same-length c = search needs
@@ -42,13 +41,13 @@ returns-2 : tie.Need-returns-2
 returns-2 c =
     let k = c .before .before .before .before .before .before .before in
     let a = k .before .before .before .before .before .args in
-    λ t p A. opened A (a .goal .now) (told k .0) (a .room .now) (omega arith) (omega (arith, told k .1)) _ (c .before .before .put-rows .ensures)
+    λ t p A. opened A (a .goal .now) (told k .0) (a .room .now) (omega arith) (omega (arith, told k .1)) _ (c .before .before .put-rows .ensures (omega arith) (omega (arith, few-rows A)))
 
 walk-requires : tie.Need-walk-requires
 walk-requires c κs =
     let k = c .before .before .before .before in
-    let s = k .before .before .before .before .before in
-    begun (s .pre .accepted) (s .args .goal .now) (told k .0) (s .args .room .now) (omega arith)
+    let a = k .before .before .before .before .before .args in
+    is-goal (a .width) (a .goal .now) (told k .0) .0
 
 returns-3 : tie.Need-returns-3
 returns-3 c =

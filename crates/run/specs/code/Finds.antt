@@ -14,4 +14,4 @@ pub data Finds (bound args until : List ℕ) (i c v : ℕ) : Found → Type 0 wh
   any : isVar c ≡ true → Finds bound args until i c v Any
   other : isVar c ≡ false → i < getD until v 0 → getD bound v 0 ≢ c → Finds bound args until i c v Other
   same : isVar c ≡ false → i < getD until v 0 → getD bound v 0 ≡ c → Finds bound args until i c v (Same (getD args v 0))
-  unbound : isVar c ≡ false → getD until v 0 ≤ i → Finds bound args until i c v (Unbound v)
+  unbound : isVar c ≡ false → getD until v 0 ≤ i → Finds bound args until i c v Unbound

@@ -1,10 +1,10 @@
-use Prim.Native.Nat.{ℕ, _<_}
-use mathlib.Core.Path.{_≡_, refl, _∙_, ap}
+use Prim.Native.Nat.{ℕ}
+use mathlib.Core.Path.{_≡_, refl, _∙_, ap, ap₂, subst}
 use native.Mathlib.Omega.{arith}
 use lib.ListN.{getD, set}
 use Rattle.cell.specs.Cell.{arity}
-use Rattle.plan.specs.Notes.{cellIn, slotIn}
-use Rattle.walking.specs.code.Steps.{step-any, step-other, step-same, step-binds}
+use Rattle.plan.specs.Notes.{cellIn, slotIn, nextIn}
+use Rattle.walking.specs.code.Steps.{Safe, step-any, step-other, step-same, step-binds}
 use Rattle.run.specs.code.Finds.{Finds}
 use Rattle.run.proofs.TestLaws.{is-any, is-other, is-same, is-unbound}
 use borrow.Author.Needs.{needs}
@@ -12,17 +12,35 @@ use Rattle.run.proofs.step.meets.Statement.{statement}
 use Rattle.run.proofs.step.meets.Tie as tie
 
 -- the node that the branch looks at
-node-read : (c : tie.After-wide) → c .wide .result ≡ getD (c .before .before .before .before .before .before .before .args .refs .now) (slotIn (c .before .before .before .before .before .before .before .args .w)) 0
-node-read c =
-    let b = c .before .before .before .before .before in
-    c .wide .ensures ∙ ap (λ (x : ℕ). getD (b .before .before .args .refs .now) x 0) (b .slot-of .ensures)
+module _ (c : tie.After-node) where
+  abbrev start : tie.Start
+  start = c .before .before .before .before .before
+
+  -- what the branch takes for granted
+  abbrev Granted : Type 0
+  Granted =
+      let a = start .args in
+      Safe (a .sib .now) (a .bound .now) (a .args .now) (a .until .now) (a .i) (cellIn (a .w)) (getD (a .refs .now) (slotIn (a .w)) 0) (nextIn (a .w))
+
+  node-read : Granted → c .node .result ≡ getD (start .args .refs .now) (slotIn (start .args .w)) 0
+  node-read S =
+      let e = c .before .wide .ensures
+      ∙ ap (λ (x : ℕ). getD (start .args .refs .now) x 0) (c .before .before .before .slot-of .ensures) in
+      c .node .ensures .1 (omega (arith, e, S .node)) ∙ e
 
 -- what the test finds, in the branch's own numbers
-finds : (c : tie.After-test) → (let a = c .before .before .before .before .before .before .before .before .args in
-    Finds (a .bound .now) (a .args .now) (a .until .now) (a .i) (cellIn (a .w)) (getD (a .refs .now) (slotIn (a .w)) 0) (c .test .result))
-finds c =
-    let b = c .before .before .before .before .before .before .before in
-    rw (b .cell-of .ensures, node-read (c .before)) at (c .test .ensures)
+module _ (c : tie.After-test) where
+  abbrev looked : tie.After-node
+  looked = c .before .before .before .before
+
+  finds : Granted looked → (let a = start looked .args in
+      Finds (a .bound .now) (a .args .now) (a .until .now) (a .i) (cellIn (a .w)) (getD (a .refs .now) (slotIn (a .w)) 0) (c .test .result))
+  finds S =
+      let a = start looked .args in
+      let r = c .test .result in
+      subst (λ (v : ℕ). Finds (a .bound .now) (a .args .now) (a .until .now) (a .i) (cellIn (a .w)) v r) (node-read looked S)
+      (subst (λ (d : ℕ). Finds (a .bound .now) (a .args .now) (a .until .now) (a .i) d (looked .node .result) r)
+      (looked .before .before .before .before .cell-of .ensures) (c .test .ensures))
 
 cell-of-requires : tie.Need-cell-of-requires
 cell-of-requires c κs = search needs
@@ -36,8 +54,11 @@ element-copy-out-wide c = search needs
 wide-requires : tie.Need-wide-requires
 wide-requires c κs = search needs
 
+node-requires : tie.Need-node-requires
+node-requires c κs = search needs
+
 test-requires : tie.Need-test-requires
-test-requires c κs = omega (arith, node-read c, c .before .before .before .before .before .before .before .pre .node)
+test-requires c κs = search needs
 
 enum-told : tie.Need-enum-told
 enum-told c = search needs
@@ -57,8 +78,8 @@ arity-of-requires c κs = search needs
 put-terms-requires : tie.Need-put-terms-requires
 put-terms-requires c κs = search needs
 
-enum-known-seen-2 : tie.Need-enum-known-seen-2
-enum-known-seen-2 c = search needs
+enum-told-3 : tie.Need-enum-told-3
+enum-told-3 c = search needs
 
 next-of-requires-2 : tie.Need-next-of-requires-2
 next-of-requires-2 c κs = search needs
@@ -66,29 +87,23 @@ next-of-requires-2 c κs = search needs
 skip-of-requires : tie.Need-skip-of-requires
 skip-of-requires c κs = search needs
 
--- the node that is bound
-bound-node : (c : tie.After-seen2) → c .seen2 .given .0 .0 < 64
-bound-node c =
-    let t = c .before .before in
-    omega (arith, is-unbound (finds t) (c .seen2 .given .1) .2, t .before .before .before .before .before .before .before .before .pre .node)
-
 mul-bound : tie.Need-mul-bound
-mul-bound c = omega (arith, bound-node (c .before .before .before))
+mul-bound c = search needs
 
 element-write-bound : tie.Need-element-write-bound
-element-write-bound c = omega (arith, bound-node (c .before .before .before))
+element-write-bound c = search needs
 
 cast-args : tie.Need-cast-args
 cast-args c = search needs
 
 element-write-args : tie.Need-element-write-args
-element-write-args c = omega (arith, bound-node (c .before .before .before))
+element-write-args c = search needs
 
 mul-until : tie.Need-mul-until
-mul-until c = omega (arith, bound-node (c .before .before .before))
+mul-until c = search needs
 
 element-write-until : tie.Need-element-write-until
-element-write-until c = omega (arith, bound-node (c .before .before .before))
+element-write-until c = search needs
 
 arity-of-requires-2 : tie.Need-arity-of-requires-2
 arity-of-requires-2 c κs = search needs
@@ -97,37 +112,38 @@ put-terms-requires-2 : tie.Need-put-terms-requires-2
 put-terms-requires-2 c κs = search needs
 
 returns : tie.Need-returns
-returns c = let t = c .before .before in step-any (is-any (finds t) (c .enum-told .given .1)) refl refl refl refl
+returns c = λ S. let t = c .before .before in step-any (is-any (finds t S) (c .enum-told .given .1)) refl refl refl refl
 
 returns-2 : tie.Need-returns-2
-returns-2 c =
+returns-2 c = λ S.
     let t = c .before .before in
-    let s = is-other (finds t) (c .enum-told2 .given .1) in
+    let s = is-other (finds t S) (c .enum-told2 .given .1) in
     step-other (s .0) (s .1) (s .2) refl refl refl refl
 
 returns-3 : tie.Need-returns-3
-returns-3 c =
+returns-3 c = λ S.
     let t = c .before .before .before .before .before .before .before in
-    let b = t .before .before .before .before .before .before .before in
-    let s = is-same (finds t) (c .before .before .before .before .before .seen .given .1) in
-    let a : c .before .arity-of .result ≡ arity (cellIn (b .before .args .w)) = c .before .arity-of .ensures ∙ ap arity (b .cell-of .ensures) in
-    let P = b .before .pre in
+    let r = looked t .before .before .before .before .cell-of .ensures in
+    let s = is-same (finds t S) (c .before .before .before .before .before .seen .given .1) in
+    let a = c .before .arity-of .ensures ∙ ap arity r in
     let f = rw (a, c .before .before .next-of .ensures, s .3) at (c .put-terms .ensures) in
-    step-same (s .0) (s .1) (s .2) refl refl refl (f (P .room) (P .same (s .1) (s .2)))
+    step-same (s .0) (s .1) (s .2) refl refl refl (f (S .room) (S .same (s .1) (s .2)))
 
 returns-4 : tie.Need-returns-4
-returns-4 c =
-    let t = c .before .before .before .before .before .before .before .before in
-    let b = t .before .before .before .before .before .before .before in
-    let g = b .before .args in
+returns-4 c = λ S.
+    let t = c .before .before .before .before .before .before .before in
+    let r = looked t .before .before .before .before .cell-of .ensures in
+    let e = node-read (looked t) S in
     let n = c .before .before .before .before in
-    let s = is-unbound (finds t) (n .before .before .seen2 .given .1) in
-    let a : c .before .arity-of2 .result ≡ arity (cellIn (b .before .args .w)) = c .before .arity-of2 .ensures ∙ ap arity (b .cell-of .ensures) in
-    let P = b .before .pre in
-    let f = rw (a, n .next-of2 .ensures) at (c .put-terms2 .ensures) in
+    let s = is-unbound (finds t S) (n .before .enum-told3 .given .1) in
+    let a = start (looked t) .args in
+    let z = c .before .arity-of2 .ensures ∙ ap arity r in
+    let f = rw (z, n .next-of2 .ensures) at (c .put-terms2 .ensures) in
     step-binds (s .0) (s .1)
-    (rw (s .2, b .cell-of .ensures)) (rw (s .2, n .next-of2 .ensures)) (rw (s .2) (ap (set (g .until .now) (getD (g .refs .now) (slotIn (g .w)) 0)) (c .before .before .before .skip-of .ensures)))
-    (f (P .room) (P .new))
+    (ap₂ (λ (v d : ℕ). set (a .bound .now) v d) e r)
+    (ap₂ (λ (v d : ℕ). set (a .args .now) v d) e (n .next-of2 .ensures))
+    (ap₂ (λ (v d : ℕ). set (a .until .now) v d) e (c .before .before .before .skip-of .ensures))
+    (f (S .room) (S .new))
 
 pub meets-spec : {M : Type 1} → statement M
 meets-spec =
@@ -137,6 +153,7 @@ meets-spec =
     slot-of-requires
     element-copy-out-wide
     wide-requires
+    node-requires
     test-requires
     enum-told
     enum-told-2
@@ -144,7 +161,7 @@ meets-spec =
     next-of-requires
     arity-of-requires
     put-terms-requires
-    enum-known-seen-2
+    enum-told-3
     next-of-requires-2
     skip-of-requires
     mul-bound

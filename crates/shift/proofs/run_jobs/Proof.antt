@@ -63,25 +63,25 @@ use Rattle.notes.proofs.check_noted.Met as check-thm
 use Rattle.answer.specs.Jobs.{Each, JobsRun}
 use Rattle.answer.specs.declared.Job.{Job}
 use Rattle.answer.proofs.Job as T
-use Rattle.run.specs.code.Checked.{isAccepted, Checked, AskedBy}
-use Rattle.run.proofs.JobsLaws.{jobs-asked, jobs-left}
-use Rattle.run.proofs.jobs.accepted as accepted
-use Rattle.run.proofs.jobs.accepted.Symbol as accepted-def
-use Rattle.run.proofs.jobs.accepted.Symbol.{name as #accepted}
-use Rattle.run.proofs.jobs.accepted.Met as accepted-thm
-use Rattle.run.proofs.jobs.answer_of as answer-of
-use Rattle.run.proofs.jobs.answer_of.Symbol as answer-of-def
-use Rattle.run.proofs.jobs.answer_of.Symbol.{name as #answer-of}
-use Rattle.run.proofs.jobs.answer_of.Met as answer-of-thm
-use Rattle.run.proofs.jobs.ask_all as ask-all
-use Rattle.run.proofs.jobs.ask_all.Symbol as ask-all-def
-use Rattle.run.proofs.jobs.ask_all.Symbol.{name as #ask-all}
-use Rattle.run.proofs.jobs.ask_all.Met as ask-all-thm
-use Rattle.run.proofs.run_jobs.Key.{name as #run-jobs}
-use Rattle.run.proofs.run_jobs as f
-use Rattle.run.proofs.run_jobs.Statement as stated
-use Rattle.run.proofs.run_jobs.Code as code
-use Rattle.run.proofs.run_jobs.Code.Mir as body
+use Rattle.shift.specs.code.Asked.{isAccepted, AskedBy}
+use Rattle.shift.proofs.JobsLaws.{jobs-asked, jobs-left}
+use Rattle.shift.proofs.jobs.accepted as accepted
+use Rattle.shift.proofs.jobs.accepted.Symbol as accepted-def
+use Rattle.shift.proofs.jobs.accepted.Symbol.{name as #accepted}
+use Rattle.shift.proofs.jobs.accepted.Met as accepted-thm
+use Rattle.shift.proofs.jobs.answer_of as answer-of
+use Rattle.shift.proofs.jobs.answer_of.Symbol as answer-of-def
+use Rattle.shift.proofs.jobs.answer_of.Symbol.{name as #answer-of}
+use Rattle.shift.proofs.jobs.answer_of.Met as answer-of-thm
+use Rattle.shift.proofs.jobs.ask_all as ask-all
+use Rattle.shift.proofs.jobs.ask_all.Symbol as ask-all-def
+use Rattle.shift.proofs.jobs.ask_all.Symbol.{name as #ask-all}
+use Rattle.shift.proofs.jobs.ask_all.Met as ask-all-thm
+use Rattle.shift.proofs.run_jobs.Key.{name as #run-jobs}
+use Rattle.shift.proofs.run_jobs as f
+use Rattle.shift.proofs.run_jobs.Statement as stated
+use Rattle.shift.proofs.run_jobs.Code as code
+use Rattle.shift.proofs.run_jobs.Code.Mir as body
 
 abbrev R : RattleType
 R = T.the-row
@@ -296,28 +296,41 @@ module _ {M : Type 1} (𝓤 : URA M) (H : Heap 𝓤) (A : Atoms 𝓤) (W : Given
     abbrev args : RefT (List ℕ) × (Noted × (RefT (List ℕ) × (RefT (List Job) × Unit {0})))
     args = (re, (r, (cs, (x, tt))))
 
-    abbrev to-all : All 𝓤 H A mem run .Ghost
-    to-all = (((α ∷ [], (κ₃, (κ′, tt))), (fullShare, (q₃, (q′, tt))), tt, args, (vptr l 0 ∷ [], (u ∷ [], (sv cs ∷ [], (s ∷ [], tt))))), tt)
+    abbrev vals-all : List Val × (List Val × (List Val × (List Val × Unit {0})))
+    vals-all = (vptr l 0 ∷ [], (u ∷ [], (sv cs ∷ [], (s ∷ [], tt))))
 
-    asks-all : Is Q r (u ∷ []) → Checked es r
-        → ent 𝓤 (sep 𝓤 (sem 𝓤 H A (fsep Jobs (flft κ′ q′))) (sep 𝓤 (sem 𝓤 H A (fsep (flft κ₃ q₃) (In 2 κ₃ cs))) (sem 𝓤 H A (fsep (flft (α ∷ []) fullShare) Ns)))) (All 𝓤 H A mem run .pre to-all)
-    asks-all is ok =
-        qed W (‵ (fsep Jobs (flft κ′ q′)) ∷ ‵ (fsep (flft κ₃ q₃) (In 2 κ₃ cs)) ∷ ‵ (fsep (flft (α ∷ []) fullShare) Ns) ∷ []) ∵ says ! ok $
+    abbrev to-all : All 𝓤 H A mem run .Ghost
+    to-all = (((α ∷ [], (κ₃, (κ′, tt))), (fullShare, (q₃, (q′, tt))), tt, args, vals-all), tt)
+
+    entry-all : ent 𝓤 (onEntry 𝓤 H A ask-all.signature (α ∷ [], (κ₃, (κ′, tt))) (fullShare, (q₃, (q′, tt))) args vals-all) (All 𝓤 H A mem run .pre to-all)
+    entry-all =
+        qed W ((‵ (flft (α ∷ []) fullShare) ⊛ ‵ (flft κ₃ q₃) ⊛ ‵ (flft κ′ q′) ⊛ ‵ ftrue)
+        ∷ ‵ (owns (ShrRef (named 0) (α ∷ []) E ∷ Q ∷ ShrSlice (named 1) κ₃ u32 ∷ MutSlice (named 2) κ′ R ∷ []) args vals-all) ∷ []) ∵ join ! $ frame ! $ done !
+
+    passed-all : Is Q r (u ∷ [])
+        → ent 𝓤 (sep 𝓤 (sem 𝓤 H A (fsep Jobs (flft κ′ q′))) (sep 𝓤 (sem 𝓤 H A (fsep (flft κ₃ q₃) (In 2 κ₃ cs))) (sem 𝓤 H A (fsep (flft (α ∷ []) fullShare) Ns))))
+        (onEntry 𝓤 H A ask-all.signature (α ∷ [], (κ₃, (κ′, tt))) (fullShare, (q₃, (q′, tt))) args vals-all)
+    passed-all is =
+        qed W (‵ (fsep Jobs (flft κ′ q′)) ∷ ‵ (fsep (flft κ₃ q₃) (In 2 κ₃ cs)) ∷ ‵ (fsep (flft (α ∷ []) fullShare) Ns) ∷ []) ∵
         fsplit ! $ move ! (2 ∷ []) $ fsplit ! $ move ! (4 ∷ []) $ fsplit ! $
         -- [α; numbers; κ₃; cells; jobs; κ′]
         nothing ! $ move ! (6 ∷ 0 ∷ []) $ join ! $ move ! (3 ∷ 0 ∷ []) $ join ! $ move ! (1 ∷ 0 ∷ []) $ join ! $ frame ! $
         -- [numbers; cells; jobs]
         nothing ! $ move ! (3 ∷ 0 ∷ []) $ fjoin ! $ move ! (2 ∷ 0 ∷ []) $ fjoin ! $ owned ! Q (Is Q) ((LL.makes N.the-type N′.the-plain) 𝓤 H A) r _ is $ fjoin ! $ move ! (1 ∷ 0 ∷ []) $ fjoin ! $ done !
 
-    asked-all : Is Q r (u ∷ []) → Checked es r
+    asks-all : Is Q r (u ∷ [])
+        → ent 𝓤 (sep 𝓤 (sem 𝓤 H A (fsep Jobs (flft κ′ q′))) (sep 𝓤 (sem 𝓤 H A (fsep (flft κ₃ q₃) (In 2 κ₃ cs))) (sem 𝓤 H A (fsep (flft (α ∷ []) fullShare) Ns)))) (All 𝓤 H A mem run .pre to-all)
+    asks-all is = via 𝓤 _ (passed-all is) entry-all
+
+    asked-all : Is Q r (u ∷ [])
         → ent 𝓤 (sep 𝓤 (sem 𝓤 H A (fsep Jobs (flft κ′ q′))) (sep 𝓤 (sem 𝓤 H A (fsep Toks Ins)) (sem 𝓤 H A (fsep (flft (α ∷ []) fullShare) Ns))))
         (sep 𝓤 (All 𝓤 H A mem run .pre to-all) (sep 𝓤 (sem 𝓤 H A (fsep (flft κ₁ q₁) (flft κ₂ q₂))) (sem 𝓤 H A Ins)))
-    asked-all is ok =
+    asked-all is =
         qed W (‵ (fsep Jobs (flft κ′ q′)) ∷ ‵ (fsep Toks Ins) ∷ ‵ (fsep (flft (α ∷ []) fullShare) Ns) ∷ []) ∵ move ! (1 ∷ []) $ fsplit ! $ fsplit ! $ move ! (1 ∷ []) $ fsplit ! $
         -- [κ₂; κ₃; κ₁; the inputs; jobs and κ′; α and numbers]
         move ! (3 ∷ []) $ fsplit ! $ move ! (1 ∷ []) $ fsplit ! $ move ! (1 ∷ []) $ use1 W (‵ (In 2 κ₃ cs) ⊛ ‵ (In 2 κ₃ cs)) (two 2 κ₃ cs) $ split ! $
         -- [cells; cells; plan; table; κ₂; κ₃; κ₁; jobs and κ′; α and numbers]
-        move ! (5 ∷ 0 ∷ []) $ fjoin ! $ move ! (6 ∷ 0 ∷ 7 ∷ []) $ use3 W (raw (All 𝓤 H A mem run .pre to-all)) (asks-all is ok) $ frame ! $
+        move ! (5 ∷ 0 ∷ []) $ fjoin ! $ move ! (6 ∷ 0 ∷ 7 ∷ []) $ use3 W (raw (All 𝓤 H A mem run .pre to-all)) (asks-all is) $ frame ! $
         -- [cells; plan; table; κ₂; κ₁]
         move ! (4 ∷ 3 ∷ []) $ fjoin ! $ frame ! $ move ! (1 ∷ 0 ∷ []) $ fjoin ! $ move ! (1 ∷ 0 ∷ []) $ fjoin ! $ done !
 
@@ -383,7 +396,7 @@ module _ {M : Type 1} (𝓤 : URA M) (H : Heap 𝓤) (A : Atoms 𝓤) (W : Given
           use1 W (later (some (λ (γ₁ : GName). ‵ (Ns l₅ α γ₁ es r u) ⊛ ‵ (flent (α ∷ []) (partAt E fullShare es l₅ 0))))) (lends-shr 𝓤 H A W E (named 0) (α ∷ []) fullShare es l₅ 0) $ await ! tt $ pick ! (λ γ₁. split ! $
           -- [numbers; the lender's part; α; what r owns; the tokens; the inputs; jobs; κ′; _12; …]
           move ! (2 ∷ 0 ∷ []) $ fjoin ! $ move ! (3 ∷ 4 ∷ []) $ fjoin ! $ move ! (4 ∷ 5 ∷ []) $ fjoin ! $
-          use3 W (raw (All 𝓤 H A mem run .pre (to-all l₅ α γ₁ es r u)) ⊛ (‵ (fsep (flft κ₁ q₁) (flft κ₂ q₂)) ⊛ ‵ Ins)) (asked-all l₅ α γ₁ es r u is (record { table = ts .now; plan = ps .now; before = es₀; handed = is-v })) $ split ! $
+          use3 W (raw (All 𝓤 H A mem run .pre (to-all l₅ α γ₁ es r u)) ⊛ (‵ (fsep (flft κ₁ q₁) (flft κ₂ q₂)) ⊛ ‵ Ins)) (asked-all l₅ α γ₁ es r u is) $ split ! $
           -- [what `ask_all` asks; two tokens and the inputs; the lender's part; what r owns; _12; …; _11; …; _10; …; _9; …; _8; …; _7; …; _6; …; …; _4; …; _3; …]
           calls-at-last ! fm (All 𝓤 H A mem run) known-all (to-all l₅ α γ₁ es r u) (and-then ! (load ! (from ! (stop !)) (look ! 8 refl)) (and-then ! (load ! (from ! (stop !)) (look ! 16 refl)) (and-then ! (load ! (from ! (stop !)) (look ! 21 refl)) (and-then ! (load ! (from ! (stop !)) (look ! 4 refl)) (no-more !))))) (λ w.
           use1 W (later (some (λ (z : Unit {0}). ((‵ (flft (α ∷ []) fullShare) ⊛ ‵ (flft κ₃ q₃) ⊛ ‵ (flft κ′ q′) ⊛ ‵ ftrue) ⊛ ‵ (unit .own z (w ∷ []))) ⊛ some (λ (zs : Lasts ask-all.ended (α ∷ [], (κ₃, (κ′, tt))) (args l₅ α γ₁ es r u)). ‵ (lasts ask-all.ended (α ∷ [], (κ₃, (κ′, tt))) (args l₅ α γ₁ es r u) zs) ⊛ raw (fact 𝓤 (Each (P l₅ α γ₁ es r u) ys (zs .1 .1 .1 .0))))))) (id⊢ 𝓤 _) $ await ! tt $ pick ! (λ z.
@@ -490,6 +503,6 @@ run-jobs-spec 𝓤 H 𝓜 𝓖 𝓡 =
     (tables 𝓤 H 𝓜 𝓡 code.env .C) (tables 𝓤 H 𝓜 𝓡 code.env .Λ) #run-jobs code.function (code.unfolded 𝓤 H 𝓜 𝓡)
     (run-jobs-meets 𝓤 H (𝓖 .A) (givenOf 𝓤 H 𝓜 𝓖) (𝓜 .mem) (𝓡 .run) (tablesOf 𝓤 H 𝓜 (tables 𝓤 H 𝓜 𝓡 code.env))
     (cited 𝓤 H (Check 𝓤 H (𝓖 .A) (𝓜 .mem) (𝓡 .run)) 𝓜 𝓡 code.env #check-noted check-def.routine code.calls-notes·check-noted (check-thm.met 𝓤 H 𝓜 𝓖 𝓡))
-    (cited 𝓤 H (Acc 𝓤 H (𝓖 .A) (𝓜 .mem) (𝓡 .run)) 𝓜 𝓡 code.env #accepted accepted-def.routine code.calls-run·jobs·accepted (accepted-thm.met 𝓤 H 𝓜 𝓖 𝓡))
-    (cited 𝓤 H (Ans 𝓤 H (𝓖 .A) (𝓜 .mem) (𝓡 .run)) 𝓜 𝓡 code.env #answer-of answer-of-def.routine code.calls-run·jobs·answer-of (answer-of-thm.met 𝓤 H 𝓜 𝓖 𝓡))
-    (cited 𝓤 H (All 𝓤 H (𝓖 .A) (𝓜 .mem) (𝓡 .run)) 𝓜 𝓡 code.env #ask-all ask-all-def.routine code.calls-run·jobs·ask-all (ask-all-thm.met 𝓤 H 𝓜 𝓖 𝓡)))
+    (cited 𝓤 H (Acc 𝓤 H (𝓖 .A) (𝓜 .mem) (𝓡 .run)) 𝓜 𝓡 code.env #accepted accepted-def.routine code.calls-shift·jobs·accepted (accepted-thm.met 𝓤 H 𝓜 𝓖 𝓡))
+    (cited 𝓤 H (Ans 𝓤 H (𝓖 .A) (𝓜 .mem) (𝓡 .run)) 𝓜 𝓡 code.env #answer-of answer-of-def.routine code.calls-shift·jobs·answer-of (answer-of-thm.met 𝓤 H 𝓜 𝓖 𝓡))
+    (cited 𝓤 H (All 𝓤 H (𝓖 .A) (𝓜 .mem) (𝓡 .run)) 𝓜 𝓡 code.env #ask-all ask-all-def.routine code.calls-shift·jobs·ask-all (ask-all-thm.met 𝓤 H 𝓜 𝓖 𝓡)))

@@ -1,4 +1,4 @@
--- What the check has answered and noted of a plan (crate notes), for the runs of it.
+-- What the check has answered and noted of a plan (crate notes), for a list of goals.
 use Prim.Native.Nat.{ℕ, _≤_, _<_}
 use mathlib.Core.Path.{_≡_}
 use mathlib.Core.Bool.{Bool, true, false}
@@ -16,13 +16,6 @@ use Rattle.answer.specs.declared.Job.{Job}
 abbrev pub isAccepted : PlanAnswer → Bool
 isAccepted (plan-answer.Accepted n) = true
 isAccepted (plan-answer.Refused f) = false
-
--- of some plan for some table
-pub record Checked (numbers : List ℕ) (noted : Noted) : Type 0 where
-  pub table : List ℕ
-  pub plan : List ℕ
-  pub before : List ℕ
-  pub handed : Handed table plan before numbers noted
 
 -- what a record becomes, for the table and the plan of which this is noted
 abbrev pub AskedBy : (numbers : List ℕ) (noted : Noted) (cells : List ℕ) → Job → Job → Type 0

@@ -1,6 +1,6 @@
 use borrow.Author.Needs.{needs}
-use Rattle.run.proofs.total_tried.Statement.{statement}
-use Rattle.run.proofs.total_tried.Tie as tie
+use Rattle.shift.proofs.total_tried.Statement.{statement}
+use Rattle.shift.proofs.total_tried.Tie as tie
 
 check-noted-requires : tie.Need-check-noted-requires
 check-noted-requires c κs = search needs

@@ -5,7 +5,7 @@ use native.Mathlib.Omega.{arith}
 use mathlib.Core.List.{List, [], _∷_}
 use lib.ListN.{length, getD, set}
 use Rattle.answer.specs.Jobs.{Each, nil, cons}
-use Rattle.run.specs.code.Upto.{Upto, rest, made}
+use Rattle.shift.specs.code.Upto.{Upto, rest, made}
 
 module _ {A : Type 0} {P : A → A → Type 0} where
   pub upto-long : {i : ℕ} {xs ys : List A} → Upto P i xs ys → length ys ≡ length xs

@@ -5,9 +5,9 @@ use native.Mathlib.Omega.{arith}
 use borrow.Author.Needs.{needs}
 use lib.ListN.{length}
 use Rattle.notes.specs.Noted.{Handed}
-use Rattle.run.proofs.TotalLaws.{Rest, rest-all, rest-on, rest-none}
-use Rattle.run.proofs.jobs.add_all.Statement.{statement}
-use Rattle.run.proofs.jobs.add_all.Tie as tie
+use Rattle.shift.proofs.TotalLaws.{Rest, rest-all, rest-on, rest-none}
+use Rattle.shift.proofs.jobs.add_all.Statement.{statement}
+use Rattle.shift.proofs.jobs.add_all.Tie as tie
 
 abbrev Inv-loop : tie.InvT-loop
 Inv-loop numbers noted cells list tried₀ i₀ tried i =

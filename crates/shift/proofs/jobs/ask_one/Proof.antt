@@ -1,8 +1,8 @@
 use native.Mathlib.Omega.{arith}
 use borrow.Author.Needs.{needs}
-use Rattle.run.proofs.JobsLaws.{hits-rise, past, refused-alone, found-alone}
-use Rattle.run.proofs.jobs.ask_one.Statement.{statement}
-use Rattle.run.proofs.jobs.ask_one.Tie as tie
+use Rattle.shift.proofs.JobsLaws.{past, refused-alone, found-alone}
+use Rattle.shift.proofs.jobs.ask_one.Statement.{statement}
+use Rattle.shift.proofs.jobs.ask_one.Tie as tie
 
 refused-requires : tie.Need-refused-requires
 refused-requires c κs = search needs
@@ -54,10 +54,7 @@ enum-known-hits : tie.Need-enum-known-hits
 enum-known-hits c = search needs
 
 bits-requires : tie.Need-bits-requires
-bits-requires c κs =
-    let k = c .before .before .before .before .before in
-    let s = k .before .before .before .before .before .before in
-    hits-rise (omega arith) (k .run-noted .ensures (s .pre .table) (s .pre .plan) (s .pre .before) (s .pre .handed)) (c .before .before .hits .given .1)
+bits-requires c κs = search needs
 
 returns-3 : tie.Need-returns-3
 returns-3 c =
@@ -69,7 +66,7 @@ returns-4 : tie.Need-returns-4
 returns-4 c =
     let k = c .before .before .before .before .before .before in
     let a = k .before .before .before .before .before .before .args in
-    found-alone (a .cells .now) (a .j) (omega arith) (k .run-noted .ensures) (c .before .before .before .hits .given .1) (c .bits .ensures)
+    found-alone (a .cells .now) (a .j) (omega arith) (k .run-noted .ensures) (c .before .before .before .hits .given .1) (omega arith) (c .bits .ensures)
 
 pub ask-one-spec : {M : Type 1} → statement M
 ask-one-spec =

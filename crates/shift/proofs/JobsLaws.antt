@@ -31,7 +31,7 @@ use Rattle.answer.proofs.BitsLaws.{bits-next}
 use Rattle.answer.proofs.JobsLaws.{each-map}
 use Rattle.answer.proofs.TakesLaws.{run-takes}
 use Rattle.answer.proofs.Theorems.{picks-ascend, picks-low, picks-few}
-use Rattle.run.specs.code.Checked.{isAccepted, Hits, AskedBy}
+use Rattle.shift.specs.code.Asked.{isAccepted, Hits, AskedBy}
 
 -- The hits as bits.
 
@@ -55,7 +55,7 @@ module _ (room : List ℕ) (n : ℕ) (hits : Hits room n) (i : ℕ) (h : i < n) 
       ap₂ bitOr e (s ∙ ap (λ (z : ℕ). 1 * 2 ^ z) d) ∙ bits-next room n i h (omega (arith, hits .size, hits .few)) (hits .ascends)
 
 -- The hits of a run are rows of a table, from the top down.
-pub hits-rise : {t p g room room′ : List ℕ} {r : RunAnswer} {h n : ℕ} → length room′ ≡ 64 → Ran t p g room room′ r → r ≡ run-answer.Ran h n → Hits room′ h
+hits-rise : {t p g room room′ : List ℕ} {r : RunAnswer} {h n : ℕ} → length room′ ≡ 64 → Ran t p g room room′ r → r ≡ run-answer.Ran h n → Hits room′ h
 hits-rise {r = r} {h} {n} z (refusal f a b c) d =
     let q : runTold r ≡ answered h n = ap runTold d in
     absurd (let z : _≡_ {A = ℕ} 0 1 = cc in let y : ⊥ = omega arith in y)
@@ -87,9 +87,11 @@ module _ {numbers : List ℕ} {noted : Noted} (cells : List ℕ) (j : Job) where
     pub refused-alone : {f : Refusal} {k : Job} → r ≡ run-answer.Refused f → k ≡ filled j (numberOf (f .reason)) (f .place) 0 0 → AskedBy numbers noted cells j k
     refused-alone d e t p ns h = alone room r l (ran-alone t p ns h) (e ∙ ap (λ (s : RunAnswer). entered j s room) (sym d))
 
-    pub found-alone : {h n b : ℕ} → r ≡ run-answer.Ran h n → b ≡ bitsOf (take h room) → AskedBy numbers noted cells j (filled j 0 0 b n)
-    found-alone {n = n} d e t p ns a =
-        alone room r l (ran-alone t p ns a) (ap (λ (z : ℕ). filled j 0 0 z n) e ∙ ap (λ (s : RunAnswer). entered j s room) (sym d))
+    pub found-alone : {h n b : ℕ} → r ≡ run-answer.Ran h n → length room ≡ 64 → (Hits room h → b ≡ bitsOf (take h room))
+        → AskedBy numbers noted cells j (filled j 0 0 b n)
+    found-alone {n = n} d z e t p ns a =
+        let x = ran-alone t p ns a in
+        alone room r l x (ap (λ (z : ℕ). filled j 0 0 z n) (e (hits-rise z x d)) ∙ ap (λ (s : RunAnswer). entered j s room) (sym d))
 
 -- The list, by the check's answer.
 module _ {t p before numbers : List ℕ} {m : Noted} (cells : List ℕ) (h : Handed t p before numbers m) {jobs : List Job} where

@@ -10,7 +10,7 @@ use Rattle.answer.specs.declared.Job.{Job}
 use Rattle.answer.proofs.JobsLaws.{asked-fixed}
 use Rattle.sums.specs.Sums.{held, upBy}
 use Rattle.sums.proofs.HeldLaws.{held-up, held-all, held-none}
-use Rattle.run.specs.Totals.{asks, goalsIn, Tries, none, more, TriesInAll}
+use Rattle.shift.specs.Totals.{asks, goalsIn, Tries, none, more, TriesInAll}
 
 -- the goals from the i-th word on
 pub goals-more : (list : List ℕ) (i : ℕ) → 1 < length list - i → goalsIn (drop i list) ≡ asks (getD list i 0) (getD list (i + 1) 0) ∷ goalsIn (drop (i + 2) list)

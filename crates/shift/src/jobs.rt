@@ -2,16 +2,17 @@
 // so `ask_all` and `run_jobs` do nothing but call, and what there is to do for a goal is done on a record by value.
 ghost use mathlib.Core.Path.{_≡_};
 ghost use mathlib.Core.List.{List};
-ghost use Prim.Native.Nat.{ℕ};
+ghost use Prim.Native.Nat.{ℕ, _≤_};
 ghost use lib.ListN.{take};
 ghost use Rattle.refusal.specs.Refusal.{numberOf};
 ghost use Rattle.answer.specs.Jobs.{bitsOf, filled, Each};
 ghost use Rattle.notes.specs.Noted.{Handed};
-ghost use Rattle.run.specs.Totals.{TriesInAll};
-ghost use Rattle.run.specs.code.Checked.{isAccepted, Checked, AskedBy, Hits};
+ghost use Rattle.shift.specs.Totals.{TriesInAll};
+ghost use Rattle.shift.specs.code.Asked.{isAccepted, AskedBy, Hits};
 use answer::Job;
 use answer::RunAnswer;
 use checker::PlanAnswer;
+use joins::node;
 use notes::Noted;
 use notes::packed::wide;
 use refusal::Reason;
@@ -33,15 +34,22 @@ pub fn answer_of(noted: Noted) -> PlanAnswer
     noted.answer
 }
 
-// The first `n` bytes, numbers of rows, as bits.
-fn bits(room: &[u8; 64], n: usize) -> u64
-    requires { ⌜ Hits (now room) n ⌝ }
-    ensures { λ r. ⌜ r ≡ bitsOf (take n (now (room .entry))) ⌝ }
+// A number of hits: there are no more than 64.
+fn few(n: usize) -> usize
+    ensures { λ r. ⌜ (r ≤ 64) × (n ≤ 64 → r ≡ n) ⌝ }
 {
+    if n < 64 { n } else { 64 }
+}
+
+// The first `n` bytes, numbers of rows, as bits. Where they are the hits of a run, nothing is cut.
+fn bits(room: &[u8; 64], n: usize) -> u64
+    ensures { λ r. ⌜ (Hits (now (room .entry)) n → r ≡ bitsOf (take n (now (room .entry)))) ⌝ }
+{
+    let end = few(n);
     let mut rows = 0u64;
     let mut i = 0;
-    while i < n {
-        rows = rows | (1 << wide(room[i]));
+    while i < end {
+        rows = rows | (1 << node(wide(room[i])));
         i += 1;
     }
     rows
@@ -64,7 +72,6 @@ fn refused(j: Job, reason: Reason, place: usize) -> Job
 // One goal, asked by itself: LENGTH where its cells are not all lent, otherwise what a run of it answers. Neither test adds, so that no
 // start and no count is too large.
 fn ask_one(numbers: &[u64; 2048], noted: Noted, cells: &[u32], j: Job) -> Job
-    requires { ⌜ Checked (now numbers) noted ⌝ }
     ensures { λ r. ⌜ AskedBy (now (numbers .entry)) noted (now (cells .entry)) j r ⌝ }
 {
     let start = j.start;
@@ -77,7 +84,7 @@ fn ask_one(numbers: &[u64; 2048], noted: Noted, cells: &[u32], j: Job) -> Job
     }
     let end = start + count;
     let mut room = [0u8; 64];
-    match super::run_noted(numbers, noted, &cells[start..end], &mut room) {
+    match run::run_noted(numbers, noted, &cells[start..end], &mut room) {
         RunAnswer::Refused(f) => {
             let reason = f.reason;
             refused(j, reason, f.place)
@@ -95,7 +102,6 @@ fn ask_one(numbers: &[u64; 2048], noted: Noted, cells: &[u32], j: Job) -> Job
 
 // Every record of the list, in place.
 pub fn ask_all(numbers: &[u64; 2048], noted: Noted, cells: &[u32], jobs: &mut [Job])
-    requires { ⌜ Checked (now numbers) noted ⌝ }
     ensures { λ _. ⌜ Each (AskedBy (now (numbers .entry)) noted (now (cells .entry))) (now (jobs .entry)) (now (jobs .exit)) ⌝ }
 {
     let mut i = 0;
@@ -107,7 +113,6 @@ pub fn ask_all(numbers: &[u64; 2048], noted: Noted, cells: &[u32], jobs: &mut [J
 
 // What the goals of a list try together. Two words of the list say where a goal's cells start and how many they are.
 pub fn add_all(numbers: &[u64; 2048], noted: Noted, cells: &[u32], list: &[usize]) -> usize
-    requires { ⌜ Checked (now numbers) noted ⌝ }
     ensures { λ r. ⌜ ((table plan before : List ℕ) → Handed table plan before (now (numbers .entry)) noted
         → TriesInAll table plan (now (cells .entry)) (now (list .entry)) r) ⌝ }
 {

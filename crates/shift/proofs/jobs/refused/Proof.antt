@@ -2,8 +2,8 @@ use mathlib.Core.Path.{ap}
 use Prim.Native.Nat.{ℕ}
 use Rattle.answer.specs.Jobs.{filled}
 use borrow.Author.Needs.{needs}
-use Rattle.run.proofs.jobs.refused.Statement.{statement}
-use Rattle.run.proofs.jobs.refused.Tie as tie
+use Rattle.shift.proofs.jobs.refused.Statement.{statement}
+use Rattle.shift.proofs.jobs.refused.Tie as tie
 
 number-of-requires : tie.Need-number-of-requires
 number-of-requires c κs = search needs

@@ -1,0 +1,4 @@
+pub mod JobsLaws
+pub mod UptoLaws
+pub mod Fixed
+pub mod TotalLaws
