@@ -3,18 +3,23 @@ use askgoal::Sheet;
 use goalsay::Source;
 use shop::Shop;
 
-// The first goal is that argument, where there is one. What the goals add up to is printed after all answers, where that is asked for.
+// Which arguments are goals, from a first one up to an end; and whether what they add up to is printed after all answers.
+pub struct Goals {
+    pub first: usize,
+    pub end: usize,
+    pub counts: bool,
+}
+
 pub fn answer_all(
     text: &[u8],
     kept: &[u32],
     shop: Shop,
-    first: usize,
-    counts: bool,
+    goals: Goals,
     room: &mut [u32],
     out: &mut [u8],
 ) {
-    let last = ask_all(text, kept, shop, first, room, out);
-    if counts {
+    let last = ask_all(text, kept, shop, goals, room, out);
+    if goals.counts {
         let all = tallysay::say(kept, shop, last.tally, out, last.page);
         page::flush(out, all);
         return;
@@ -27,33 +32,31 @@ fn ask_all(
     text: &[u8],
     kept: &[u32],
     shop: Shop,
-    first: usize,
+    goals: Goals,
     room: &mut [u32],
     out: &mut [u8],
 ) -> Sheet {
     let mut buf = [0u8; 65534];
-    let count = os::arg_count();
-    if count <= first {
+    if goals.end <= goals.first {
         return asklines::ask_lines(text, kept, shop, &mut buf, room, out);
     }
-    ask_arguments(text, kept, shop, first, count, &mut buf, room, out)
+    ask_arguments(text, kept, shop, goals, &mut buf, room, out)
 }
 
 fn ask_arguments(
     text: &[u8],
     kept: &[u32],
     shop: Shop,
-    first: usize,
-    count: usize,
+    goals: Goals,
     buf: &mut [u8],
     room: &mut [u32],
     out: &mut [u8],
 ) -> Sheet {
     let mut sheet = askgoal::blank();
-    let mut i = first;
-    while i < count && sheet.page.open {
+    let mut i = goals.first;
+    while i < goals.end && sheet.page.open {
         let n = argument(i, buf);
-        let source = source_of(i, first, count);
+        let source = source_of(i, goals);
         i += 1;
         let goal = parts::part(buf, 0, n);
         sheet = askgoal::ask(text, kept, shop, goal, source, room, out, sheet);
@@ -70,16 +73,16 @@ fn argument(i: usize, buf: &mut [u8]) -> usize {
     n
 }
 
-// The goals are the arguments from the first goal on, up to how many arguments there are.
-fn source_of(i: usize, first: usize, count: usize) -> Source {
-    if i < first {
+// Where the goal stands that is this argument.
+fn source_of(i: usize, goals: Goals) -> Source {
+    if i < goals.first {
         return Source::Only;
     }
-    if count <= i {
+    if goals.end <= i {
         return Source::Only;
     }
-    if count - first == 1 {
+    if goals.end - goals.first == 1 {
         return Source::Only;
     }
-    Source::Argument(i - first + 1)
+    Source::Argument(i - goals.first + 1)
 }

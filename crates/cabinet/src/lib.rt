@@ -19,46 +19,67 @@ pub enum Names {
     Wrong,
 }
 
-// By the first argument and by how many there are, the program's name with them.
+// By the first argument and by how many there are.
 fn wish_of(word: &[u8], count: usize) -> Wish {
-    if same_bytes(word, b"pack") && (count == 3 || count == 4) {
+    if same_bytes(word, b"pack") && (count == 2 || count == 3) {
         return Wish::Pack;
     }
-    if same_bytes(word, b"check") && count == 3 {
+    if same_bytes(word, b"check") && count == 2 {
         return Wish::Check;
     }
-    if same_bytes(word, b"mend") && (count == 3 || count == 4) {
+    if same_bytes(word, b"mend") && (count == 2 || count == 3) {
         return Wish::Mend;
     }
-    if (same_bytes(word, b"--help") || same_bytes(word, b"-h")) && count == 2 {
+    if (same_bytes(word, b"--help") || same_bytes(word, b"-h")) && count == 1 {
         return Wish::Help;
     }
-    if same_bytes(word, b"--version") && count == 2 {
+    if same_bytes(word, b"--version") && count == 1 {
         return Wish::Version;
     }
     Wish::Nothing
 }
 
-// `card pack RULES [FILE]`, `card check FILE`, `card mend BAD [FILE]`, `card --help` or `card --version`.
+// The program's arguments: `pack RULES [FILE]`, `check FILE`, `mend BAD [FILE]`, `--help` or `--version`.
 pub fn answer() {
-    let count = os::arg_count();
+    answer_call(1, os::arg_count());
+}
+
+// A call by some of them: from a first one up to an end.
+pub fn answer_call(first: usize, end: usize) {
+    let count = count_of(first, end);
     let mut word = io::buffer();
-    let n = os::arg(1, &mut word);
+    let n = os::arg(first, &mut word);
     let wish = wish_of(&word[..n], count);
+    let file = next(first);
     match wish {
-        Wish::Pack => pack(count == 4),
-        Wish::Check => check(),
-        Wish::Mend => mend(count == 4),
+        Wish::Pack => pack(file, count == 3),
+        Wish::Check => check(file),
+        Wish::Mend => mend(file, count == 3),
         Wish::Help => cardhelp::print(),
         Wish::Version => cardhelp::version(),
         Wish::Nothing => cardhelp::refuse(),
     }
 }
 
+fn count_of(first: usize, end: usize) -> usize {
+    if end < first {
+        return 0;
+    }
+    end - first
+}
+
+// The argument after one.
+fn next(i: usize) -> usize {
+    if i == usize::MAX {
+        return i;
+    }
+    i + 1
+}
+
 // The file that an argument names. One that is too long for a name names none.
-fn check() {
+fn check(file: usize) {
     let mut path = io::buffer();
-    let n = os::arg(2, &mut path);
+    let n = os::arg(file, &mut path);
     if os::errno() != 0 {
         os::fail(b"cannot read FILE");
         return;
@@ -66,9 +87,9 @@ fn check() {
     cardwork::check(&path[..n]);
 }
 
-// What a card is made from, and, where it is named, the card's file. The first is not written over.
-fn names_in(from: &mut [u8], path: &mut [u8], named: bool, unread: &[u8]) -> Names {
-    let n = os::arg(2, from);
+// What a card is made from, which an argument names, and, where it is named after it, the card's file. The first is not written over.
+fn names_in(file: usize, from: &mut [u8], path: &mut [u8], named: bool, unread: &[u8]) -> Names {
+    let n = os::arg(file, from);
     if os::errno() != 0 {
         os::fail(unread);
         return Names::Wrong;
@@ -76,7 +97,7 @@ fn names_in(from: &mut [u8], path: &mut [u8], named: bool, unread: &[u8]) -> Nam
     if !named {
         return Names::Found(n, 0);
     }
-    let m = os::arg(3, path);
+    let m = os::arg(next(file), path);
     if os::errno() != 0 {
         os::fail(b"cannot write FILE");
         return Names::Wrong;
@@ -88,19 +109,19 @@ fn names_in(from: &mut [u8], path: &mut [u8], named: bool, unread: &[u8]) -> Nam
     Names::Found(n, m)
 }
 
-fn pack(named: bool) {
+fn pack(file: usize, named: bool) {
     let mut rules = io::buffer();
     let mut path = io::buffer();
-    match names_in(&mut rules, &mut path, named, b"cannot read RULES") {
+    match names_in(file, &mut rules, &mut path, named, b"cannot read RULES") {
         Names::Found(n, m) => cardwork::pack(part(&rules, 0, n), part(&path, 0, m), named),
         Names::Wrong => {}
     }
 }
 
-fn mend(named: bool) {
+fn mend(file: usize, named: bool) {
     let mut bad = io::buffer();
     let mut path = io::buffer();
-    match names_in(&mut bad, &mut path, named, b"cannot read BAD") {
+    match names_in(file, &mut bad, &mut path, named, b"cannot read BAD") {
         Names::Found(n, m) => cardwork::mend(part(&bad, 0, n), part(&path, 0, m), named),
         Names::Wrong => {}
     }

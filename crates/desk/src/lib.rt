@@ -1,5 +1,6 @@
 // The program `ask`: a shop's rules and its goals in Prolog text, answered in Prolog text. What is read and what is answered is decided and
 // promised in the libraries. This crate finds the file and does what is asked of it; it is proved safe and ending.
+use askall::Goals;
 use clauses::HandAnswer;
 use doubles::part;
 use known::Listed;
@@ -11,10 +12,15 @@ use shop::Shop;
 use wishes::Asked;
 use wishes::Wish;
 
-// `ask [--known LIST] [--count] FILE GOAL ..`, `ask [--known LIST] --plan FILE`, the same with `--prolog`, `ask --tune JOBS FILE`, `ask --help` or
-// `ask --version`.
+// The program's arguments: `[--known LIST] [--count] FILE GOAL ..`, `[--known LIST] --plan FILE`, the same with `--prolog`, `--tune JOBS FILE`,
+// `--help` or `--version`.
 pub fn answer() {
-    let asked = wishes::read();
+    answer_call(1, os::arg_count());
+}
+
+// A call by some of them: from a first one up to an end.
+pub fn answer_call(first: usize, end: usize) {
+    let asked = wishes::read(first, end);
     let wish = asked.wish;
     match wish {
         Wish::Help => helptext::print(),
@@ -105,7 +111,16 @@ fn show(
         Wish::Tree => show_tree(text, &*kept, shop, out),
         Wish::Clauses => show_clauses(path, text, &*kept, shop, out),
         Wish::Tuned => tune::answer(asked.jobs, path, text, kept, shop, room, out),
-        _ => askall::answer_all(text, &*kept, shop, asked.goal, counts(wish), room, out),
+        _ => askall::answer_all(text, &*kept, shop, goals_of(asked), room, out),
+    }
+}
+
+fn goals_of(asked: Asked) -> Goals {
+    let wish = asked.wish;
+    Goals {
+        first: asked.goal,
+        end: asked.end,
+        counts: counts(wish),
     }
 }
 

@@ -1,5 +1,7 @@
 // Every example of 01, marked or not, as 02's W-208 and W-209 leave them, and some of W-204, on the functions themselves. What is printed is
 // compared with the file stdout.
+mod twice;
+
 use showing::ask;
 use showing::build;
 use showing::build_work;
@@ -182,4 +184,5 @@ fn main() {
     marked();
     unmarked();
     work();
+    twice::show();
 }

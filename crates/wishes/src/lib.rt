@@ -15,13 +15,14 @@ pub enum Wish {
 }
 
 // What is printed, and which arguments are what: the list of known columns, the file of goals and the file of facts, 0 where there is none;
-// and the first goal, where there are goals.
+// and the goals, from a first one up to an end.
 pub struct Asked {
     pub wish: Wish,
     pub known: usize,
     pub jobs: usize,
     pub file: usize,
     pub goal: usize,
+    pub end: usize,
 }
 
 // An argument before the goals: an option that says what is printed, the one that a list of columns follows, the one that a file of goals
@@ -83,6 +84,7 @@ fn printing(asked: Asked, more: Wish) -> Asked {
         jobs: asked.jobs,
         file: 0,
         goal: 0,
+        end: 0,
     }
 }
 
@@ -98,6 +100,7 @@ fn knowing(asked: Asked, list: usize) -> Asked {
         jobs: asked.jobs,
         file: 0,
         goal: 0,
+        end: 0,
     }
 }
 
@@ -110,6 +113,7 @@ fn tuning(asked: Asked, jobs: usize) -> Asked {
         jobs,
         file: 0,
         goal: 0,
+        end: 0,
     }
 }
 
@@ -120,21 +124,22 @@ fn nothing() -> Asked {
         jobs: 0,
         file: 0,
         goal: 0,
+        end: 0,
     }
 }
 
 // With a file: its plan has no goals, a plan that is looked for has no columns before that, and the help has no file.
-fn naming(asked: Asked, file: usize, goal: usize, count: usize) -> Asked {
+fn naming(asked: Asked, file: usize, goal: usize, end: usize) -> Asked {
     let wish = asked.wish;
     match wish {
         Wish::Answers | Wish::Counts => {}
         Wish::Tree | Wish::Clauses => {
-            if goal < count {
+            if goal < end {
                 return nothing();
             }
         }
         Wish::Tuned => {
-            if goal < count || asked.known != 0 {
+            if goal < end || asked.known != 0 {
                 return nothing();
             }
         }
@@ -148,6 +153,7 @@ fn naming(asked: Asked, file: usize, goal: usize, count: usize) -> Asked {
         jobs: asked.jobs,
         file,
         goal,
+        end,
     }
 }
 
@@ -174,18 +180,18 @@ fn follows(asked: Asked, i: usize) -> bool {
     i == asked.known || i == asked.jobs
 }
 
-// The program's arguments, the first being 1. What stands after `--known` is its list, and after `--tune` its file, whatever it is.
-pub fn read() -> Asked {
-    let count = os::arg_count();
+// A call by the arguments from a first one up to an end. What stands after `--known` is its list, and after `--tune` its file, whatever it is.
+pub fn read(first: usize, end: usize) -> Asked {
     let mut asked = Asked {
         wish: Wish::Answers,
         known: 0,
         jobs: 0,
         file: 0,
         goal: 0,
+        end: 0,
     };
-    let mut i = 1;
-    while i < count {
+    let mut i = first;
+    while i < end {
         let next = i + 1;
         if !follows(asked, i) {
             match argument(i) {
@@ -199,7 +205,7 @@ pub fn read() -> Asked {
                     asked = tuning(asked, next);
                 }
                 Word::File => {
-                    return naming(asked, i, next, count);
+                    return naming(asked, i, next, end);
                 }
             }
         }

@@ -4,13 +4,10 @@ use Rattle.wishes.proofs.read.Statement.{statement}
 use Rattle.wishes.proofs.read.Tie as tie
 
 abbrev Inv-loop : tie.InvT-loop
-Inv-loop count asked₀ i₀ asked i = Unit {0}
+Inv-loop first end asked₀ i₀ asked i = Unit {0}
 
 abbrev μ-loop : tie.MeasureT-loop
-μ-loop count asked₀ i₀ asked i = count - i
-
-arg-count-requires : tie.Need-arg-count-requires Inv-loop μ-loop
-arg-count-requires c κs = search needs
+μ-loop first end asked₀ i₀ asked i = end - i
 
 loop-holds : tie.Need-loop-holds Inv-loop μ-loop
 loop-holds c = search needs
@@ -87,7 +84,6 @@ read-spec =
     (tie.spec
     Inv-loop
     μ-loop
-    arg-count-requires
     loop-holds
     add-next
     follows-requires

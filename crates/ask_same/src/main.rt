@@ -1,4 +1,0 @@
-// The program `ask`: which rules of a file of Prolog facts fit a goal, and what they answer.
-fn main() {
-    desk::answer();
-}
