@@ -3,24 +3,16 @@
 //!
 //! usage: shop FILE    (samples/shop.cells; samples/README.md has the numbers of the names, and what is said of other files)
 
-// Each program of this folder uses some of the functions.
-#[allow(dead_code)]
-mod dudowiej;
-#[allow(dead_code)]
-mod shared;
-#[allow(dead_code)]
-mod shop;
-
-use dudowiej::{refusal_name, variable, whole, Job, Record, Refusal};
-use shared::{columns, rule, term};
-use shop::{name_of, BLACK, BLUE, BOWL, LARGE, RED, RING};
+use dudowiej::{show, terms, variable, whole, Built, Goals, Plan, Record, Refusal, Symbol};
+use samples::shared::{rule, said};
+use samples::shop::{name_of, with_cells, BLACK, BLUE, BOWL, LARGE, RED, RING};
 use std::process::ExitCode;
 
 /// The figures whose plans are shown.
 const FIGURES: [u32; 4] = [0, 1, 2, 15];
 
 fn main() -> ExitCode {
-    shop::with_cells("shop", rules)
+    with_cells("shop", rules)
 }
 
 fn rules(table: &[u32]) -> Result<(), Refusal> {
@@ -29,11 +21,12 @@ fn rules(table: &[u32]) -> Result<(), Refusal> {
     println!("table: {} rules of {} columns", record.rows(), record.width());
     for figure in FIGURES {
         let record = Record::work_out(table, figure)?;
-        let (plan, cost) = record.build_plan()?;
-        println!("figure {figure}: cost {cost}, {} branches in {} cells", record.check_plan(&plan)?, plan.len());
+        let Built { plan, cost } = Plan::build(&record);
+        println!("figure {figure}: cost {cost}, {} branches in {} cells", plan.branches(), plan.cells().len());
     }
-    let (plan, _) = record.build_plan()?;
-    let branches = record.check_plan(&plan)?;
+    // A plan's cells may come from anywhere: what passes the check is a plan.
+    let built = Plan::build(&record).plan;
+    let plan = Plan::check(&record, built.cells())?;
 
     let jobs: [&[u32]; 5] = [
         // Urgency 10, red, a ring: which firing?
@@ -48,7 +41,7 @@ fn rules(table: &[u32]) -> Result<(), Refusal> {
         &[variable(0), variable(1), variable(1), variable(2)],
     ];
     for goal in jobs {
-        ask(&record, &plan, branches, goal);
+        ask(&record, &plan, goal);
     }
     shift(&record, &plan)?;
     refusals(&record, &plan);
@@ -56,75 +49,69 @@ fn rules(table: &[u32]) -> Result<(), Refusal> {
 }
 
 /// Prints the rules that fit a job.
-fn ask(record: &Record, plan: &[u32], branches: usize, goal: &[u32]) {
-    match record.run_plan(plan, goal) {
-        Err(refusal) => println!("\njob: {refusal}"),
-        Ok((hits, tried)) => {
-            println!("\njob: {}", columns(&mut &goal[..], record.width(), &name_of));
-            for hit in hits {
-                println!("  {}", rule(record, hit as usize, &name_of));
+fn ask(record: &Record, plan: &Plan, goal: &[u32]) {
+    match record.run(plan, goal) {
+        Err(refusal) => println!("\njob: {}", said(&refusal)),
+        Ok(hits) => {
+            println!("\njob: {}", show(goal, name_of));
+            for row in hits.rows() {
+                println!("  {}", rule(record, row, name_of));
             }
-            println!("  {tried} of {branches} branches tried");
+            println!("  {} of {} branches tried", hits.tried(), plan.branches());
         }
     }
 }
 
 /// Asks, in one call, for every row with any of its columns left blank. Prints how many of these jobs each rule fits, and what they tried.
-fn shift(record: &Record, plan: &[u32]) -> Result<(), Refusal> {
-    let mut cells = Vec::new();
-    let mut jobs = Vec::new();
-    for row in (0..record.rows()).map(|row| record.row(row)) {
-        let columns = arguments(row);
-        for blanks in 0..1 << columns.len() {
-            let start = cells.len();
-            let mut variables = 0;
-            for (column, argument) in columns.iter().enumerate() {
-                let blank = [variable(0)];
-                for &cell in if blanks >> column & 1 == 1 { &blank } else { *argument } {
-                    cells.push(if cell >> 30 == 0 { variable(variables) } else { cell });
-                    variables += u16::from(cell >> 30 == 0);
-                }
-            }
-            jobs.push(Job { start, count: cells.len() - start, ..Job::default() });
+fn shift(record: &Record, plan: &Plan) -> Result<(), Refusal> {
+    let mut jobs = Goals::new();
+    for row in (0..record.rows()).filter_map(|row| record.row(row)) {
+        for blanks in 0..1 << record.width() {
+            jobs.push(&with_blanks(row, blanks));
         }
     }
     // A job that reaches past the cells is turned away, and the others are not.
-    jobs.push(Job { start: cells.len() - 1, count: 2, ..Job::default() });
-    record.run_jobs(plan, &cells, &mut jobs)?;
-    let tried: usize = jobs.iter().map(|job| job.tried).sum();
-    println!("\na shift of {} jobs: {tried} branches tried", jobs.len());
+    jobs.push_place(jobs.cells().len() - 1, 2);
+    let answers = record.run_jobs(plan, &jobs)?;
+    let tried: usize = answers.iter().flatten().map(|hits| hits.tried()).sum();
+    println!("\na shift of {} jobs: {tried} branches tried", answers.len());
     for row in 0..record.rows() {
-        println!("  rule {} fits {}", row + 1, jobs.iter().filter(|job| job.hits >> row & 1 == 1).count());
+        println!("  rule {} fits {}", row + 1, answers.iter().flatten().filter(|hits| hits.has(row)).count());
     }
-    for (number, job) in jobs.iter().enumerate().filter(|(_, job)| job.number != 0) {
-        println!("  job {}: refused, {} {} at {}", number + 1, refusal_name(job.number), job.number, job.place);
+    for (number, answer) in (1..).zip(&answers) {
+        if let Err(Refusal { reason, place, .. }) = answer {
+            println!("  job {number}: refused, {} {} at {place}", reason.name(), reason.number());
+        }
     }
     Ok(())
 }
 
-/// The arguments of a row, each as its cells.
-fn arguments(row: &[u32]) -> Vec<&[u32]> {
-    let mut rest = row;
-    let mut all = Vec::new();
-    while !rest.is_empty() {
-        let before = rest;
-        term(&mut rest, &name_of);
-        all.push(&before[..before.len() - rest.len()]);
-    }
-    all
+/// A row as a job, with a blank in each column whose bit is set, and each of its variables a blank of its own.
+fn with_blanks(row: &[u32], blanks: u32) -> Vec<u32> {
+    let mut variables = 0;
+    let mut fresh = |cell| match Symbol::of(cell) {
+        Some(Symbol::Variable(_)) => {
+            variables += 1;
+            variable(variables - 1)
+        }
+        _ => cell,
+    };
+    let blank: &[u32] = &[variable(0)];
+    let columns = terms(row).enumerate().map(|(column, term)| if blanks >> column & 1 == 1 { blank } else { term });
+    columns.flatten().map(|&cell| fresh(cell)).collect()
 }
 
 /// Prints five refusals. Each is given for every table that is accepted.
-fn refusals(record: &Record, plan: &[u32]) {
-    let table = record.table();
+fn refusals(record: &Record, plan: &Plan) {
+    let (table, cells) = (record.table(), plan.cells());
     let short_table = &table[..table.len() - 1];
-    let short_plan = &plan[..plan.len() - 1];
+    let short_plan = &cells[..cells.len() - 1];
     let short_goal: Vec<u32> = (0..record.width() as u16 - 1).map(variable).collect();
-    let mut short_room = vec![0; plan.len() - 1];
+    let mut short_room = vec![0; cells.len() - 1];
     println!("\nrefusals:");
-    println!("  a table without its last cell: {}", Record::work_out(short_table, 2).unwrap_err());
-    println!("  a plan without its last cell: {}", record.check_plan(short_plan).unwrap_err());
-    println!("  a goal with a column too few: {}", record.run_plan(plan, &short_goal).unwrap_err());
-    println!("  a cell too few for the plan: {}", record.build_plan_in(&mut short_room).unwrap_err());
-    println!("  a figure above 15: {}", Record::work_out(table, 16).unwrap_err());
+    println!("  a table without its last cell: {}", said(&Record::work_out(short_table, 2).unwrap_err()));
+    println!("  a plan without its last cell: {}", said(&Plan::check(record, short_plan).unwrap_err()));
+    println!("  a goal with a column too few: {}", said(&record.run(plan, &short_goal).unwrap_err()));
+    println!("  a cell too few for the plan: {}", said(&Plan::build_in(record, &mut short_room).unwrap_err()));
+    println!("  a figure above 15: {}", said(&Record::work_out(table, 16).unwrap_err()));
 }

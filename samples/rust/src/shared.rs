@@ -1,6 +1,7 @@
-//! What all the programs share: a file's bytes, and terms and rules as people read them.
+//! What all the programs share: a file's bytes, and rules and refusals as the programs in C print them too.
 
-use crate::dudowiej::{value, Record, Refusal};
+use dudowiej::{show, Record, Refusal};
+use std::fmt::Display;
 use std::fs::File;
 use std::io::Read;
 use std::path::{Path, PathBuf};
@@ -18,7 +19,7 @@ pub fn with_file(program: &str, most: usize, work: impl FnOnce(&[u8]) -> Result<
         return ExitCode::from(2);
     };
     if let Err(refusal) = work(&bytes) {
-        eprintln!("{program}: {refusal}");
+        eprintln!("{program}: {}", said(&refusal));
         return ExitCode::from(1);
     }
     ExitCode::SUCCESS
@@ -30,35 +31,12 @@ fn load(path: &Path, most: usize) -> std::io::Result<Vec<u8>> {
     Ok(bytes)
 }
 
-/// What the name of a number is called; each program has its own names.
-pub type Names<'n> = &'n dyn Fn(u16) -> String;
-
-/// The first of the terms, taken off the cells.
-pub fn term(rest: &mut &[u32], names: Names) -> String {
-    let cell = rest[0];
-    *rest = &rest[1..];
-    match cell >> 30 {
-        0 => format!("_{cell}"),
-        1 => {
-            let name = names(cell as u16);
-            let arguments = cell >> 16 & 7;
-            if arguments == 0 {
-                name
-            } else {
-                format!("{name}({})", columns(rest, arguments as usize, names))
-            }
-        }
-        _ => value(cell).to_string(),
-    }
+/// A refusal without its words.
+pub fn said(refusal: &Refusal) -> String {
+    format!("{} refused, {} {} at {}", refusal.input, refusal.reason.name(), refusal.reason.number(), refusal.place)
 }
 
-/// A term for each column, taken off the cells.
-pub fn columns(rest: &mut &[u32], width: usize, names: Names) -> String {
-    let terms: Vec<String> = (0..width).map(|_| term(rest, names)).collect();
-    terms.join(", ")
-}
-
-/// A record's row. The library counts rows from 0, people count rules from 1.
-pub fn rule(record: &Record, row: usize, names: Names) -> String {
-    format!("rule {}: {}", row + 1, columns(&mut record.row(row), record.width(), names))
+/// A record's row, with the shop's words for its names. The library counts rows from 0, people count rules from 1.
+pub fn rule<W: Display>(record: &Record, row: usize, word: impl Fn(u16) -> W) -> String {
+    format!("rule {}: {}", row + 1, show(record.row(row).unwrap_or_default(), word))
 }

@@ -1,7 +1,7 @@
 //! What the programs for a shop's cells share: the shop's names, and a file's cells.
 
-use crate::dudowiej::{name, Refusal, TABLE_CELLS};
 use crate::shared;
+use dudowiej::{name, Refusal, TABLE_CELLS};
 use std::process::ExitCode;
 
 pub const RED: u32 = name(1, 0);
@@ -23,14 +23,16 @@ pub fn with_cells(program: &str, work: impl FnOnce(&[u32]) -> Result<(), Refusal
 
 /// Bytes as little-endian cells. Bytes that are not whole cells are none, as in planlist, and so no table: 1 at 0.
 fn cells_of(bytes: &[u8]) -> Vec<u32> {
-    if bytes.len() % 4 != 0 {
+    let cells = bytes.chunks_exact(4);
+    if !cells.remainder().is_empty() {
         return Vec::new();
     }
-    bytes.chunks_exact(4).map(|cell| u32::from_le_bytes(cell.try_into().expect("four bytes"))).collect()
+    cells.map(|cell| u32::from_le_bytes(cell.try_into().expect("four bytes"))).collect()
 }
 
-pub fn name_of(number: u16) -> String {
-    let word = match number {
+/// The shop's word for the name of a number.
+pub fn name_of(number: u16) -> &'static str {
+    match number {
         1 => "red",
         2 => "blue",
         3 => "white",
@@ -46,6 +48,5 @@ pub fn name_of(number: u16) -> String {
         34 => "heat",
         35 => "shelf",
         _ => "?",
-    };
-    word.to_string()
+    }
 }

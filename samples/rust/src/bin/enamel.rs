@@ -2,29 +2,21 @@
 //!
 //! usage: enamel
 
-// Each program of this folder uses some of the functions.
-#[allow(dead_code)]
-#[path = "../dudowiej.rs"]
-mod dudowiej;
-#[allow(dead_code)]
-#[path = "../shared.rs"]
-mod shared;
-
-use dudowiej::{name, Record, Refusal};
-use shared::columns;
+use dudowiej::{name, show, Plan, Record, Refusal};
+use samples::shared::said;
 
 const RED: u32 = name(1, 0);
 const BLUE: u32 = name(2, 0);
 const GILT: u16 = 3;
 const SET: u16 = 4;
 
-fn name_of(number: u16) -> String {
-    ["?", "red", "blue", "gilt", "set"].get(number as usize).unwrap_or(&"?").to_string()
+fn name_of(number: u16) -> &'static str {
+    ["?", "red", "blue", "gilt", "set"].get(usize::from(number)).unwrap_or(&"?")
 }
 
 fn main() {
     if let Err(refusal) = enamels().and_then(|()| sets()) {
-        println!("{refusal}");
+        println!("{}", said(&refusal));
     }
 }
 
@@ -48,15 +40,12 @@ fn sets() -> Result<(), Refusal> {
 
 /// Prints how many rules fit a job, and what each says to it.
 fn ask(record: &Record, job: &str, goal: &[u32]) -> Result<(), Refusal> {
-    let (plan, _) = record.build_plan()?;
-    let (hits, _) = record.run_plan(&plan, goal)?;
-    println!("{job}: {} fit", hits.len());
+    let plan = Plan::build(record).plan;
+    let hits = record.run(&plan, goal)?;
+    println!("{job}: {} fit", hits.count());
     match record.replies(&plan, goal) {
-        Err(refusal) => println!("  answers: {refusal}"),
-        Ok((_, cells)) => {
-            let rest = &mut &cells[..];
-            hits.iter().for_each(|hit| println!("  rule {}: {}", hit + 1, columns(rest, record.width(), &name_of)));
-        }
+        Err(refusal) => println!("  answers: {}", said(&refusal)),
+        Ok(replies) => hits.rows().zip(replies.iter()).for_each(|(row, reply)| println!("  rule {}: {}", row + 1, show(reply, name_of))),
     }
     Ok(())
 }

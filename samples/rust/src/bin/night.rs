@@ -3,20 +3,9 @@
 //!
 //! usage: night FILE    (samples/shop.cells; samples/README.md has the numbers of the names)
 
-// Each program of this folder uses some of the functions.
-#[allow(dead_code)]
-#[path = "../dudowiej.rs"]
-mod dudowiej;
-#[allow(dead_code)]
-#[path = "../shared.rs"]
-mod shared;
-#[allow(dead_code)]
-#[path = "../shop.rs"]
-mod shop;
-
-use dudowiej::{salvage, salvage_in, variable, whole, Record, Refusal, Saved};
-use shared::rule;
-use shop::{name_of, BOWL, HARD, LARGE, WHITE};
+use dudowiej::{variable, whole, Card, Plan, Record, Refusal, BLOCK_BYTES as BLOCK};
+use samples::shared::{rule, said};
+use samples::shop::{name_of, with_cells, BOWL, HARD, LARGE, WHITE};
 use std::process::ExitCode;
 
 /// What a choice between branches costs in the shop.
@@ -26,11 +15,8 @@ const FIGURE: u32 = 2;
 const MORE_RULES: i16 = 20;
 const FIRST_URGENCY: i16 = 20;
 
-/// A block's bytes.
-const BLOCK: usize = 512;
-
 fn main() -> ExitCode {
-    shop::with_cells("night", at_night)
+    with_cells("night", at_night)
 }
 
 fn at_night(table: &[u32]) -> Result<(), Refusal> {
@@ -48,8 +34,8 @@ fn at_night(table: &[u32]) -> Result<(), Refusal> {
     save("the last byte lost", &card[..card.len() - 1])?;
     save("only block 0 left", &card[..BLOCK])?;
     save("block 0 lost", &card[BLOCK..])?;
-    if let Err(refusal) = salvage_in(&wiped, &mut []) {
-        println!("no room for a bad block: {refusal}");
+    if let Err(refusal) = Card::salvage_in(&wiped, &mut []) {
+        println!("no room for a bad block: {}", said(&refusal));
     }
     Ok(())
 }
@@ -59,46 +45,45 @@ fn write_card(table: &[u32]) -> Result<Vec<u8>, Refusal> {
     let mut shop = Record::work_out(table, FIGURE)?;
     for urgency in FIRST_URGENCY..FIRST_URGENCY + MORE_RULES {
         if let Err(refusal) = shop.append(&[whole(urgency), WHITE, BOWL, LARGE, HARD]) {
-            println!("appended: {refusal}");
+            println!("appended: {}", said(&refusal));
             break;
         }
     }
-    let (plan, _) = shop.build_plan()?;
+    let plan = Plan::build(&shop).plan;
     let card = shop.write_file(&plan)?;
     let (rules, cells, blocks) = (shop.rows(), shop.table().len(), card.len() / BLOCK);
-    println!("written: {rules} rules, {cells} cells of table and {} of plan, {blocks} blocks", plan.len());
+    println!("written: {rules} rules, {cells} cells of table and {} of plan, {blocks} blocks", plan.cells().len());
     Ok(card)
 }
 
 /// Prints what was saved of the card, and runs the shop from it.
 fn save(what: &str, card: &[u8]) -> Result<(), Refusal> {
-    let saved = match salvage(card) {
+    let saved = match Card::salvage(card) {
         Err(refusal) => {
-            println!("{what}: {refusal}");
+            println!("{what}: {}", said(&refusal));
             return Ok(());
         }
         Ok(saved) => saved,
     };
-    let report = saved.report;
-    println!("{what}: {} of {} rules kept", report.kept, report.kept + report.dropped);
-    let plan = if report.plan_kept == 1 { "kept" } else { "new" };
-    println!("  the plan is {plan}, {} cells of table and {} of plan", report.table_cells, report.plan_cells);
-    let bad: Vec<String> = saved.bad.iter().map(usize::to_string).collect();
+    println!("{what}: {} of {} rules kept", saved.kept, saved.kept + saved.dropped);
+    let (plan, cells) = (if saved.plan_kept { "kept" } else { "new" }, saved.card.plan.cells().len());
+    println!("  the plan is {plan}, {} cells of table and {cells} of plan", saved.card.table.len());
+    let bad: Vec<String> = saved.bad_blocks.iter().map(usize::to_string).collect();
     println!("  bad blocks: {}", if bad.is_empty() { "none".to_string() } else { bad.join(" ") });
-    let record = Record::work_out(&saved.table, 0)?;
+    let record = saved.card.work_out(0)?;
     for urgency in [FIRST_URGENCY, FIRST_URGENCY + MORE_RULES - 1] {
-        ask(&record, &saved, urgency);
+        ask(&record, &saved.card.plan, urgency);
     }
     Ok(())
 }
 
 /// Which rules fit a large white bowl of this urgency?
-fn ask(record: &Record, saved: &Saved, urgency: i16) {
-    match record.run_plan(&saved.plan, &[whole(urgency), WHITE, BOWL, LARGE, variable(0)]) {
-        Err(refusal) => println!("job: {refusal}"),
-        Ok((hits, _)) => {
+fn ask(record: &Record, plan: &Plan, urgency: i16) {
+    match record.run(plan, &[whole(urgency), WHITE, BOWL, LARGE, variable(0)]) {
+        Err(refusal) => println!("job: {}", said(&refusal)),
+        Ok(hits) => {
             println!("  urgency {urgency}:");
-            hits.iter().for_each(|&hit| println!("    {}", rule(record, hit as usize, &name_of)));
+            hits.rows().for_each(|row| println!("    {}", rule(record, row, name_of)));
         }
     }
 }

@@ -3,20 +3,9 @@
 //!
 //! usage: noon FILE    (samples/shop.cells; samples/README.md has the numbers of the names)
 
-// Each program of this folder uses some of the functions.
-#[allow(dead_code)]
-#[path = "../dudowiej.rs"]
-mod dudowiej;
-#[allow(dead_code)]
-#[path = "../shared.rs"]
-mod shared;
-#[allow(dead_code)]
-#[path = "../shop.rs"]
-mod shop;
-
-use dudowiej::{variable, whole, Record, Refusal};
-use shared::rule;
-use shop::{name_of, BLUE, HARD, RING, SHELF};
+use dudowiej::{variable, whole, Built, Plan, Record, Refusal, ROWS};
+use samples::shared::{rule, said};
+use samples::shop::{name_of, with_cells, BLUE, HARD, RING, SHELF};
 use std::process::ExitCode;
 
 const FIGURE: u32 = 2;
@@ -31,42 +20,41 @@ const LAST: [u32; 5] = [variable(0), BLUE, variable(1), SHELF, whole(-1)];
 const TOO_SHORT: [u32; 3] = [whole(9), BLUE, RING];
 
 fn main() -> ExitCode {
-    shop::with_cells("noon", day)
+    with_cells("noon", day)
 }
 
 fn day(table: &[u32]) -> Result<(), Refusal> {
     let mut record = Record::work_out(table, FIGURE)?;
-    tell("worked out", Ok(()), &record)?;
+    tell("worked out", Ok(()), &record);
     let morning = record.clone();
 
-    tell("replaced", record.replace(CHANGED, &HARDER), &record)?;
+    tell("replaced", record.replace(CHANGED, &HARDER), &record);
     let noon = record.clone();
-    tell("appended", record.append(&LAST), &record)?;
-    tell("dropped", record.drop_last(), &record)?;
+    tell("appended", record.append(&LAST), &record);
+    tell("dropped", record.drop_last(), &record);
     println!("as at noon: {}", record == noon);
 
-    tell("too short a rule", record.append(&TOO_SHORT), &record)?;
-    tell("no such rule", record.replace(dudowiej::ROWS, &HARDER), &record)?;
-    tell("the same rule again", record.append(&HARDER), &record)?;
+    tell("too short a rule", record.append(&TOO_SHORT), &record);
+    tell("no such rule", record.replace(ROWS, &HARDER), &record);
+    tell("the same rule again", record.append(&HARDER), &record);
     println!("as at noon: {}", record == noon);
 
-    tell("replaced", record.replace(CHANGED, morning.row(CHANGED)), &record)?;
+    tell("replaced", record.replace(CHANGED, morning.row(CHANGED).unwrap_or_default()), &record);
     println!("as in the morning: {}", record == morning);
     Ok(())
 }
 
 /// Prints what came of an edit: the rules there are now, the plan's size and the rules that fit the job; or why it was refused.
-fn tell(edit: &str, answer: Result<(), Refusal>, record: &Record) -> Result<(), Refusal> {
+fn tell(edit: &str, answer: Result<(), Refusal>, record: &Record) {
     if let Err(refusal) = answer {
-        println!("{edit}: {refusal}");
-        return Ok(());
+        println!("{edit}: {}", said(&refusal));
+        return;
     }
     println!("{edit}: {} rules", record.rows());
-    let (plan, cost) = record.build_plan()?;
-    println!("  plan: cost {cost}, {} branches", record.check_plan(&plan)?);
-    match record.run_plan(&plan, &JOB) {
-        Err(refusal) => println!("  job: {refusal}"),
-        Ok((hits, _)) => hits.iter().for_each(|&hit| println!("  {}", rule(record, hit as usize, &name_of))),
+    let Built { plan, cost } = Plan::build(record);
+    println!("  plan: cost {cost}, {} branches", plan.branches());
+    match record.run(&plan, &JOB) {
+        Err(refusal) => println!("  job: {}", said(&refusal)),
+        Ok(hits) => hits.rows().for_each(|row| println!("  {}", rule(record, row, name_of))),
     }
-    Ok(())
 }

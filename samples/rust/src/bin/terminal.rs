@@ -3,20 +3,9 @@
 //!
 //! usage: terminal FILE    (samples/shop.cells; samples/README.md has the numbers of the names)
 
-// Each program of this folder uses some of the functions.
-#[allow(dead_code)]
-#[path = "../dudowiej.rs"]
-mod dudowiej;
-#[allow(dead_code)]
-#[path = "../shared.rs"]
-mod shared;
-#[allow(dead_code)]
-#[path = "../shop.rs"]
-mod shop;
-
-use dudowiej::{read_file, variable, whole, Record, Refusal};
-use shared::rule;
-use shop::{name_of, BLUE, RING};
+use dudowiej::{variable, whole, Card, Plan, Record, Refusal, BLOCK_BYTES as BLOCK};
+use samples::shared::{rule, said};
+use samples::shop::{name_of, with_cells, BLUE, RING};
 use std::process::ExitCode;
 
 /// What a choice between branches costs: to the shop, which builds the plan; to the terminal, which only runs it, nothing.
@@ -26,38 +15,37 @@ const TERMINAL_FIGURE: u32 = 0;
 /// Blue rings that wait: which firing?
 const JOB: [u32; 4] = [whole(9), BLUE, RING, variable(0)];
 
-/// A block's bytes and a word's, and where word 5 of block 1 stands.
-const BLOCK: usize = 512;
+/// A word's bytes, and where word 5 of block 1 stands.
 const WORD: usize = 4;
 const SPOILED: usize = BLOCK + 5 * WORD;
 
 fn main() -> ExitCode {
-    shop::with_cells("terminal", by_card)
+    with_cells("terminal", by_card)
 }
 
 fn by_card(table: &[u32]) -> Result<(), Refusal> {
     let record = Record::work_out(table, SHOP_FIGURE)?;
-    let (plan, _) = record.build_plan()?;
+    let plan = Plan::build(&record).plan;
     let card = record.write_file(&plan)?;
     let blocks = card.len() / BLOCK;
-    println!("written: {} cells of table and {} of plan, {} bytes, {blocks} blocks", table.len(), plan.len(), card.len());
+    println!("written: {} cells of table and {} of plan, {} bytes, {blocks} blocks", table.len(), plan.cells().len(), card.len());
     for block in card.chunks(BLOCK) {
         println!("  block {}: checks {} {}", word_at(block, 0), word_at(block, 126 * WORD), word_at(block, 127 * WORD));
     }
 
-    match read_file(&card) {
-        Err(refusal) => println!("read: {refusal}"),
-        Ok((read_table, read_plan)) => {
-            let same = read_table == table && read_plan == plan;
-            println!("read: {} cells of table and {} of plan, as written: {same}", read_table.len(), read_plan.len());
-            ask(&read_table, &read_plan)?;
+    match Card::read(&card) {
+        Err(refusal) => println!("read: {}", said(&refusal)),
+        Ok(read) => {
+            let same = read.table == table && read.plan == plan;
+            println!("read: {} cells of table and {} of plan, as written: {same}", read.table.len(), read.plan.cells().len());
+            ask(&read)?;
         }
     }
     if card.len() > BLOCK {
         spoil(&card);
     }
     if let Err(refusal) = record.write_file_in(&plan, &mut vec![0; card.len() - 1]) {
-        println!("a byte of room too few: {refusal}");
+        println!("a byte of room too few: {}", said(&refusal));
     }
     Ok(())
 }
@@ -67,11 +55,11 @@ fn word_at(bytes: &[u8], place: usize) -> u32 {
 }
 
 /// The rules that fit the job, by what was on the card.
-fn ask(table: &[u32], plan: &[u32]) -> Result<(), Refusal> {
-    let terminal = Record::work_out(table, TERMINAL_FIGURE)?;
-    match terminal.run_plan(plan, &JOB) {
-        Err(refusal) => println!("job: {refusal}"),
-        Ok((hits, _)) => hits.iter().for_each(|&hit| println!("  {}", rule(&terminal, hit as usize, &name_of))),
+fn ask(card: &Card) -> Result<(), Refusal> {
+    let terminal = card.work_out(TERMINAL_FIGURE)?;
+    match terminal.run(&card.plan, &JOB) {
+        Err(refusal) => println!("job: {}", said(&refusal)),
+        Ok(hits) => hits.rows().for_each(|row| println!("  {}", rule(&terminal, row, name_of))),
     }
     Ok(())
 }
@@ -95,8 +83,8 @@ fn spoil(card: &[u8]) {
 }
 
 fn tell(what: &str, file: &[u8]) {
-    match read_file(file) {
-        Err(refusal) => println!("{what}: {refusal}"),
+    match Card::read(file) {
+        Err(refusal) => println!("{what}: {}", said(&refusal)),
         Ok(_) => println!("{what}: read"),
     }
 }

@@ -3,31 +3,22 @@
 //!
 //! usage: text FILE    (samples/shop.pl)
 
-// Each program of this folder uses some of the functions.
-#[allow(dead_code)]
-#[path = "../dudowiej.rs"]
-mod dudowiej;
-#[allow(dead_code)]
-#[path = "../shared.rs"]
-mod shared;
-
-use dudowiej::{variable, whole, Loaded, Record, Refusal, TEXT_BYTES};
-use shared::{columns, rule};
+use dudowiej::{variable, whole, Built, Names, Plan, Record, Refusal, TEXT_BYTES};
+use samples::shared::{said, with_file};
 use std::process::ExitCode;
 
 fn main() -> ExitCode {
     // One byte more than a text may have, so that too long a file is seen to be one.
-    shared::with_file("text", TEXT_BYTES + 1, shop)
+    with_file("text", TEXT_BYTES + 1, shop)
 }
 
 fn shop(text: &[u8]) -> Result<(), Refusal> {
-    let loaded = dudowiej::read_text(text)?;
-    let record = Record::work_out(&loaded.table, 0)?;
-    println!("text: {} rules of {} columns, {} names", record.rows(), record.width(), loaded.names.len());
-    let (plan, cost) = record.build_plan()?;
+    let (record, names) = Record::from_text(text, 0)?;
+    println!("text: {} rules of {} columns, {} names", record.rows(), record.width(), names.len());
+    let Built { plan, cost } = Plan::build(&record);
     println!("plan: cost {cost} with figure 0");
 
-    let shop = Shop { text, loaded, record, plan };
+    let shop = Shop { names, record, plan };
     let name = |word| shop.name(word, 0);
     // Urgency 10, red, a ring: which firing?
     shop.ask(&[whole(10), name("red"), name("ring"), variable(0)]);
@@ -44,43 +35,34 @@ fn shop(text: &[u8]) -> Result<(), Refusal> {
     Ok(())
 }
 
-struct Shop<'t> {
-    text: &'t [u8],
-    loaded: Loaded,
+struct Shop {
+    names: Names,
     record: Record,
-    plan: Vec<u32>,
+    plan: Plan,
 }
 
-impl Shop<'_> {
-    /// The bytes of a name of the list.
-    fn word(&self, number: usize) -> Option<&[u8]> {
-        self.loaded.names.get(number).map(|&(start, bytes)| &self.text[start..start + bytes])
-    }
-
+impl Shop {
     /// The cell of a name; a name that the text does not have takes a number that no row has.
     fn name(&self, word: &str, arguments: u32) -> u32 {
-        let listed = (0..self.loaded.names.len()).find(|&number| self.word(number) == Some(word.as_bytes()));
-        dudowiej::name(listed.unwrap_or(self.loaded.names.len()) as u16, arguments)
+        let none = dudowiej::name(self.names.len() as u16, arguments);
+        self.names.cell(word, arguments).unwrap_or(none)
     }
 
     /// Prints the rules that fit a job, and below each what it says: the job with the rule's bindings filled in.
     fn ask(&self, goal: &[u32]) {
         if let Err(refusal) = self.answered(goal) {
-            println!("\njob: {refusal}");
+            println!("\njob: {}", said(&refusal));
         }
     }
 
     fn answered(&self, goal: &[u32]) -> Result<(), Refusal> {
-        let names = |number| String::from_utf8_lossy(self.word(number as usize).unwrap_or(b"?")).into_owned();
-        let width = self.record.width();
-        let (hits, _) = self.record.run_plan(&self.plan, goal)?;
-        let (_, replies) = self.record.replies(&self.plan, goal)?;
-        println!("\njob: {}", columns(&mut &goal[..], width, &names));
+        let hits = self.record.run(&self.plan, goal)?;
+        let replies = self.record.replies(&self.plan, goal)?;
+        println!("\njob: {}", self.names.show(goal));
         // There is a reply for each hit, in the same order.
-        let mut reply = &replies[..];
-        for hit in hits {
-            println!("  {}", rule(&self.record, hit as usize, &names));
-            println!("    says: {}", columns(&mut reply, width, &names));
+        for (row, reply) in hits.rows().zip(replies.iter()) {
+            println!("  rule {}: {}", row + 1, self.names.show(self.record.row(row).unwrap_or_default()));
+            println!("    says: {}", self.names.show(reply));
         }
         Ok(())
     }

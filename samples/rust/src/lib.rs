@@ -1,0 +1,4 @@
+//! What the programs of this folder share.
+
+pub mod shared;
+pub mod shop;
