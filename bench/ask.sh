@@ -11,7 +11,7 @@ ask=$bench/../target/bin/ask
 command -v swipl >/dev/null || { echo "SWI-Prolog (swipl) is not installed: not compared"; exit 0; }
 [ -x "$ask" ] || { echo "target/bin/ask is not there: run \`rt check ask\` first"; exit 1; }
 # the texts need no exported function
-cargo build --quiet --release --features stand-in --target-dir target/stand-in
+cargo build --quiet --release --no-default-features --features stand-in --target-dir target/stand-in
 folder=$(mktemp -d)
 trap 'rm -r "$folder"' EXIT
 target/stand-in/release/dudowiej-bench texts "$folder" "${1:-300}" "${2:-1995}" >/dev/null

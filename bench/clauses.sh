@@ -9,7 +9,7 @@ set -eu
 cd "$(dirname "$0")"
 bench=$PWD
 if [ -n "${STANDIN:-}" ]; then
-    cargo build --quiet --release --features stand-in --target-dir target/stand-in
+    cargo build --quiet --release --no-default-features --features stand-in --target-dir target/stand-in
     program=target/stand-in/release/dudowiej-bench
 else
     cargo build --quiet --release

@@ -1,6 +1,7 @@
 #!/bin/sh
 # Instructions of the exported and of the independent functions, counted by callgrind. With TEXTS=1 those of texts alone, with PART=clauses those
-# of plans handed back as Prolog alone (likewise shift, replies, edits, files, salvage, columns, liked). Arguments go to cargo, as `--features stand-in`.
+# of plans handed back as Prolog alone (likewise shift, replies, edits, files, salvage, columns, liked). Arguments go to cargo, as
+# `--no-default-features --features stand-in`.
 set -eu
 cd "$(dirname "$0")"
 if ! command -v valgrind >/dev/null; then

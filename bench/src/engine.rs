@@ -110,76 +110,15 @@ pub use Plain as Exported;
 #[cfg(not(feature = "stand-in"))]
 mod exported {
     use super::{Engine, Liked, Record, Report};
+    use dudowiej::sys::{self, *};
+    use std::mem::size_of;
+    use std::ptr::from_mut;
 
-    /// The functions of target/staticlib/libexports.a (include/dudowiej.h).
+    /// The functions that the library exports (include/dudowiej.h).
     pub struct Exported;
 
-    extern "C" {
-        fn dudowiej_read_table(table: *const u32, table_cells: usize) -> u64;
-        fn dudowiej_work_out(table: *const u32, table_cells: usize, figure: u32, record: *mut Record) -> u64;
-        fn dudowiej_append(record: *mut Record, row: *const u32, row_cells: usize) -> u64;
-        fn dudowiej_drop_last(record: *mut Record) -> u64;
-        fn dudowiej_replace(record: *mut Record, r: usize, row: *const u32, row_cells: usize) -> u64;
-        fn dudowiej_read_goal(record: *const Record, goal: *const u32, goal_cells: usize) -> u64;
-        fn dudowiej_row(record: *const Record, row: usize) -> u64;
-        fn dudowiej_check_plan(record: *const Record, plan: *const u32, plan_cells: usize) -> u64;
-        fn dudowiej_build_plan(record: *const Record, room: *mut u32, room_cells: usize) -> u64;
-        fn dudowiej_run_plan(
-            record: *const Record,
-            plan: *const u32,
-            plan_cells: usize,
-            goal: *const u32,
-            goal_cells: usize,
-            room: *mut u8,
-            room_bytes: usize,
-        ) -> u64;
-        fn dudowiej_read_text(text: *const u8, text_bytes: usize, cells: *mut u32, cells_room: usize, names: *mut u32, names_room: usize) -> u64;
-        fn dudowiej_replies(
-            record: *const Record,
-            plan: *const u32,
-            plan_cells: usize,
-            goal: *const u32,
-            goal_cells: usize,
-            room: *mut u32,
-            room_cells: usize,
-        ) -> u64;
-        fn dudowiej_clauses(
-            record: *const Record,
-            plan: *const u32,
-            plan_cells: usize,
-            text: *const u8,
-            text_bytes: usize,
-            names: *const u32,
-            names_count: usize,
-            room: *mut u8,
-            room_bytes: usize,
-        ) -> u64;
-        fn dudowiej_write_file(record: *const Record, plan: *const u32, plan_cells: usize, room: *mut u8, room_bytes: usize) -> u64;
-        fn dudowiej_read_file(file: *const u8, file_bytes: usize, table: *mut u32, table_room: usize, plan: *mut u32, plan_room: usize) -> u64;
-        fn dudowiej_salvage(
-            file: *const u8,
-            file_bytes: usize,
-            table: *mut u32,
-            table_room: usize,
-            plan: *mut u32,
-            plan_room: usize,
-            bad: *mut usize,
-            bad_room: usize,
-            report: *mut Report,
-        ) -> u64;
-        fn dudowiej_build_for(record: *const Record, columns: *const u32, columns_count: usize, room: *mut u32, room_cells: usize) -> u64;
-        fn dudowiej_check_for(record: *const Record, columns: *const u32, columns_count: usize, plan: *const u32, plan_cells: usize) -> u64;
-        fn dudowiej_build_liked(
-            record: *const Record,
-            goals: *const u32,
-            goal_cells: usize,
-            list: *const usize,
-            words: usize,
-            room: *mut u32,
-            room_cells: usize,
-            liked: *mut Liked,
-        ) -> u64;
-    }
+    // The words of the independent ones are laid out as the exported ones write them.
+    const _: () = assert!(size_of::<Report>() == size_of::<sys::Report>() && size_of::<Liked>() == size_of::<sys::Liked>());
 
     // Each pointer and length below is one slice's, any other pointer is a reference; what is written is borrowed alone.
     impl Engine for Exported {
@@ -231,7 +170,8 @@ mod exported {
         }
         fn salvage(&self, file: &[u8], table: &mut [u32], plan: &mut [u32], bad: &mut [usize], report: &mut Report) -> u64 {
             let ((table, table_room), (plan, plan_room)) = ((table.as_mut_ptr(), table.len()), (plan.as_mut_ptr(), plan.len()));
-            unsafe { dudowiej_salvage(file.as_ptr(), file.len(), table, table_room, plan, plan_room, bad.as_mut_ptr(), bad.len(), report) }
+            let (bad, bad_room, report) = (bad.as_mut_ptr(), bad.len(), from_mut(report).cast());
+            unsafe { dudowiej_salvage(file.as_ptr(), file.len(), table, table_room, plan, plan_room, bad, bad_room, report) }
         }
         fn build_for(&self, record: &Record, columns: &[u32], room: &mut [u32]) -> u64 {
             unsafe { dudowiej_build_for(record, columns.as_ptr(), columns.len(), room.as_mut_ptr(), room.len()) }
@@ -241,6 +181,7 @@ mod exported {
         }
         fn build_liked(&self, record: &Record, goals: &[u32], list: &[usize], room: &mut [u32], liked: &mut Liked) -> u64 {
             let ((goals, goal_cells), (list, words)) = ((goals.as_ptr(), goals.len()), (list.as_ptr(), list.len()));
+            let liked = from_mut(liked).cast();
             unsafe { dudowiej_build_liked(record, goals, goal_cells, list, words, room.as_mut_ptr(), room.len(), liked) }
         }
     }

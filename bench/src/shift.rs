@@ -61,23 +61,17 @@ pub fn one_by_one<E: Engine>(engine: &E, record: &Record, plan: &[u32], cells: &
 mod exported {
     use super::{Job, Record, Shift};
     use crate::engine::Exported;
+    use dudowiej::sys;
+    use std::mem::size_of;
 
-    extern "C" {
-        fn dudowiej_run_jobs(
-            record: *const Record,
-            plan: *const u32,
-            plan_cells: usize,
-            cells: *const u32,
-            cells_count: usize,
-            jobs: *mut Job,
-            jobs_count: usize,
-        ) -> u64;
-    }
+    // A record of the list is laid out as the exported function writes it.
+    const _: () = assert!(size_of::<Job>() == size_of::<sys::Job>());
 
     // Each pointer and length is one slice's, the record's pointer is a reference, and the jobs are borrowed alone.
     impl Shift for Exported {
         fn run_jobs(&self, record: &Record, plan: &[u32], cells: &[u32], jobs: &mut [Job]) -> u64 {
-            unsafe { dudowiej_run_jobs(record, plan.as_ptr(), plan.len(), cells.as_ptr(), cells.len(), jobs.as_mut_ptr(), jobs.len()) }
+            let (jobs, count) = (jobs.as_mut_ptr().cast(), jobs.len());
+            unsafe { sys::dudowiej_run_jobs(record, plan.as_ptr(), plan.len(), cells.as_ptr(), cells.len(), jobs, count) }
         }
     }
 }
