@@ -1,3 +1,3 @@
-pub mod PartLaws
 pub mod AskedLaws
-pub mod MadeLaws
+pub mod RowLaws
+pub mod PassedLaws

@@ -6,13 +6,12 @@ ghost use mathlib.Core.Path.{_≡_};
 ghost use Rattle.refusal.specs.Refusal.{refused, turned};
 ghost use Rattle.instance.specs.Replied.{Replied, repliesTold};
 ghost use Rattle.instance.specs.code.Passes.{Held, Found};
-ghost use Rattle.replies.specs.code.Asked.{FoundSome};
 
-mod meet;
 mod pass;
 
 use answer::RunAnswer;
 use instance::RepliesAnswer;
+use octets::cells::put_cells;
 use pass::Sum;
 use pass::pass;
 use refusal::Input;
@@ -30,9 +29,10 @@ fn turned_away(reason: Reason, input: Input, place: usize) -> RepliesAnswer
     })
 }
 
-// The replies of the hits of an accepted table. The first pass writes nothing that counts: it says how many cells are needed, or that a
-// reply has over 1,024.
-fn put_replies(
+// The replies of the hits of a table. Their cells are put into a list first: there is no knowing before the last whether one has over 1,024, and
+// then the room is left as it is. Where the list is too short for them, they are made once more, in the room.
+// Table, goal and hits may be anything: what they have to be stands as a premise inside the `ensures`.
+pub fn put_replies(
     table: &[u32],
     starts: &[usize; 64],
     rows: usize,
@@ -40,14 +40,13 @@ fn put_replies(
     hits: &[u8],
     room: &mut [u32],
 ) -> RepliesAnswer
-    requires { ⌜ Held (now table) (now starts) rows × FoundSome (now table) (now goal) (now hits) ⌝ }
-    ensures { λ r. ⌜ ((plan : List ℕ) → Found (now (table .entry)) plan (now (goal .entry)) (now (hits .entry)) → Replied
+    ensures { λ r. ⌜ ((plan : List ℕ) → Held (now (table .entry)) (now (starts .entry)) rows
+        → Found (now (table .entry)) plan (now (goal .entry)) (now (hits .entry)) → Replied
         (now (table .entry)) plan (now (goal .entry)) (now (room .entry)) (now (room .exit)) r) ⌝ }
 {
     let mut cells = [0u32; 2048];
     let mut other = [0u32; 2049];
-    let mut term = [0u32; 1024];
-    let mut none = [0u32; 1];
+    let mut list = [0u32; 2048];
     let sum = pass(
         table,
         starts,
@@ -56,14 +55,17 @@ fn put_replies(
         hits,
         &mut cells,
         &mut other,
-        &mut term,
-        &mut none,
+        &mut list,
     );
     match sum {
         Sum::Big => turned_away(Reason::Big, Input::Goal, 0),
         Sum::Cells(needed) => {
             if room.len() < needed {
                 return turned_away(Reason::Room, Input::Lent, needed);
+            }
+            if needed <= 2048 {
+                put_cells(room, 0, &list[..needed]);
+                return RepliesAnswer::Replied(hits.len(), needed);
             }
             pass(
                 table,
@@ -73,7 +75,6 @@ fn put_replies(
                 hits,
                 &mut cells,
                 &mut other,
-                &mut term,
                 room,
             );
             RepliesAnswer::Replied(hits.len(), needed)
@@ -83,7 +84,6 @@ fn put_replies(
 
 // The replies of what a run has found.
 fn reply_all(table: &[u32], goal: &[u32], hits: &[u8], room: &mut [u32]) -> RepliesAnswer
-    requires { ⌜ FoundSome (now table) (now goal) (now hits) ⌝ }
     ensures { λ r. ⌜ ((plan : List ℕ) → Found (now (table .entry)) plan (now (goal .entry)) (now (hits .entry)) → Replied
         (now (table .entry)) plan (now (goal .entry)) (now (room .entry)) (now (room .exit)) r) ⌝ }
 {

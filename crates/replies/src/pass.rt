@@ -3,23 +3,23 @@ ghost use mathlib.Core.Path.{_≡_};
 ghost use mathlib.Core.List.{List};
 ghost use Prim.Native.Nat.{ℕ, _<_};
 ghost use lib.ListN.{length};
-ghost use Rattle.table.specs.Table.{tableOf, rowIn, RowPlace};
-ghost use Rattle.instance.specs.code.Passes.{RepliesAt, Held, Hits};
-ghost use Rattle.replies.specs.code.Sums.{PassedAt};
-use super::meet::Made;
-use super::meet::one;
+ghost use Rattle.table.specs.Table.{tableOf, RowPlace};
+ghost use Rattle.instance.specs.code.Passes.{Held};
+ghost use Rattle.replies.specs.code.Sums.{Passing, PassedAt};
+use meeting::Made;
 use notes::packed::wide;
 use table::Part;
 
-// Where a row's cells are in an accepted table: a row ends where the next one starts, and the last where the table ends.
-fn row_at(table: &[u32], starts: &[usize; 64], rows: usize, r: usize) -> Part
-    requires { ⌜ Held (now table) (now starts) rows × (r < rows) ⌝ }
-    ensures { λ p. ⌜ RowPlace (tableOf (now (table .entry))) r p ⌝ }
+// Where the cells of a hit's row are in an accepted table: a row ends where the next one starts, and the last where the table ends. Numbers
+// are cut to what there are places for.
+fn row_at(table: &[u32], starts: &[usize; 64], rows: usize, hit: u8) -> Part
+    ensures { λ p. ⌜ (Held (now (table .entry)) (now (starts .entry)) rows → hit < rows → RowPlace (tableOf (now (table .entry))) hit p) ⌝ }
 {
+    let r = wide(hit) % 64;
     let start = starts[r];
     let next = r + 1;
     if next < rows {
-        let end = starts[next];
+        let end = starts[next % 64];
         return Part { start, end };
     }
     Part {
@@ -34,7 +34,7 @@ pub enum Sum {
     Big,
 }
 
-// The replies of the hits, put one after another into the room as far as it goes. Three lists are lent to work in.
+// The replies of the hits, put one after another into the room as far as it goes. Two lists are lent to work in.
 pub fn pass(
     table: &[u32],
     starts: &[usize; 64],
@@ -43,24 +43,23 @@ pub fn pass(
     hits: &[u8],
     cells: &mut [u32],
     other: &mut [u32],
-    term: &mut [u32],
     room: &mut [u32],
 ) -> Sum
-    requires { ⌜ Held (now table) (now starts) rows × Hits (now table) (now goal) (now hits) rows
-        × (length (now cells) ≡ 2048) × (length (now other) ≡ 2049) × (length (now term) ≡ 1024) ⌝ }
-    ensures { λ r. ⌜ ((all : List (List ℕ)) → RepliesAt (rowIn (tableOf (now (table .entry)))) (now (goal .entry)) (now (hits .entry)) all
+    requires { ⌜ (length (now cells) ≡ 2048) × (length (now other) ≡ 2049) ⌝ }
+    ensures { λ r. ⌜ ((all : List (List ℕ)) → Passing (now (table .entry)) (now (starts .entry)) rows (now (goal .entry)) (now (hits .entry)) all
         → PassedAt (now (room .entry)) (now (room .exit)) all r) ⌝ }
 {
+    if 64 < hits.len() {
+        return Sum::Big;
+    }
     let mut sum = 0;
     let mut on = 0;
     let mut i = 0;
     while i < hits.len() {
-        let p = row_at(table, starts, rows, wide(hits[i]));
-        let a = p.start;
-        let e = p.end;
-        match one(&table[a..e], goal, cells, other, term) {
-            Made::Fits(k) => {
-                let n = k.len;
+        let p = row_at(table, starts, rows, hits[i]);
+        let row = doubles::part(table, p.start, p.end);
+        match meeting::common(row, goal, cells, other) {
+            Made::Cells(n) => {
                 on = rewrite::put_numbered(room, on, &cells[..n]);
                 sum += n;
                 i += 1;

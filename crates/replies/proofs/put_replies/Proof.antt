@@ -1,9 +1,10 @@
--- `put_replies` meets its contract: a pass that says how many cells are needed or that a reply is too long, then one that writes.
-use mathlib.Core.Path.{refl}
+-- `put_replies` meets its contract: a pass into a list, and then they are copied from it or, where it is too short, made once more.
+use mathlib.Core.Path.{refl, sym}
 use native.Mathlib.Omega.{arith}
+use lib.Seq.{length-take-le}
 use Rattle.instance.proofs.PassLaws.{found-given, too-large, too-few, enough}
-use Rattle.replies.proofs.AskedLaws.{held-hits}
-use Rattle.replies.proofs.MadeLaws.{passed-by, large-by, passed-again}
+use Rattle.replies.proofs.AskedLaws.{passing}
+use Rattle.replies.proofs.PassedLaws.{passed-by, large-by, passed-again, passed-copied, in-list}
 use borrow.Author.Needs.{needs}
 use Rattle.replies.proofs.put_replies.Statement.{statement}
 use Rattle.replies.proofs.put_replies.Tie as tie
@@ -17,18 +18,8 @@ slice-aggregate-pass-2 c = search needs
 slice-aggregate-pass-3 : tie.Need-slice-aggregate-pass-3
 slice-aggregate-pass-3 c = search needs
 
-slice-aggregate-pass-4 : tie.Need-slice-aggregate-pass-4
-slice-aggregate-pass-4 c = search needs
-
 pass-requires : tie.Need-pass-requires
-pass-requires c κs =
-    let p = c .before .before .before .before .before .before .before .before .pre in
-    (p .0, held-hits (p .0) (p .1 .found), refl, refl, refl)
-
--- the first pass
-module _ (c : tie.After-none2) where
-  abbrev passed-once : tie.After-pass
-  passed-once = c .before .before .before .before
+pass-requires c κs = (refl, refl)
 
 enum-told : tie.Need-enum-told
 enum-told c = search needs
@@ -43,46 +34,53 @@ turned-away-requires-2 : tie.Need-turned-away-requires-2
 turned-away-requires-2 c κs = search needs
 
 returns : tie.Need-returns
-returns c = λ plan f.
-    let g = found-given f in
-    let s = c .before .before .before in
-    let x = passed-by (s .sum .given .1) (passed-once (s .before .before) .pass .ensures (g .all) (g .at)) in
+returns c =
+    λ plan h f.
+    let x = passed-by (c .before .before .before .sum .given .1) (c .before .before .before .before .before .before .before .before .pass .ensures (found-given f .all) (passing h f)) in
     too-few f x (c .before .if1 .taken) (c .turned-away2 .ensures) refl
 
-slice-aggregate-pass-5 : tie.Need-slice-aggregate-pass-5
-slice-aggregate-pass-5 c = search needs
+array-share-prefix-list : tie.Need-array-share-prefix-list
+array-share-prefix-list c = search needs
 
-slice-aggregate-pass-6 : tie.Need-slice-aggregate-pass-6
-slice-aggregate-pass-6 c = search needs
+slice-aggregate-put-cells : tie.Need-slice-aggregate-put-cells
+slice-aggregate-put-cells c = sym (length-take-le _ _ (in-list (c .before .before .if2 .taken) (c .before .before .before .before .before .before .before .before .before .before .pass .kept .1 .1 .1 .1 .1 .1 .1 .0)))
 
-slice-aggregate-pass-7 : tie.Need-slice-aggregate-pass-7
-slice-aggregate-pass-7 c = search needs
-
-pass-requires-2 : tie.Need-pass-requires-2
-pass-requires-2 c κs =
-    let w = passed-once (c .before .before .before .before .before .before .before .before) in
-    let p = w .before .before .before .before .before .before .before .before .before .pre in
-    let k = w .pass .kept .1 .1 .1 .1 .1 in
-    (p .0, held-hits (p .0) (p .1 .found), k .0, k .1 .0, k .1 .1 .0)
-
-returns-2 : tie.Need-returns-2
-returns-2 c = λ plan f.
-    let g = found-given f in
-    let o = c .before in
-    let l = large-by (o .enum-told .given .1) (passed-once (o .before .before) .pass .ensures (g .all) (g .at)) in
-    too-large f l (c .turned-away .ensures) refl
+put-cells-requires : tie.Need-put-cells-requires
+put-cells-requires c κs = search needs
 
 same-length : tie.Need-same-length
 same-length c = search needs
 
+returns-2 : tie.Need-returns-2
+returns-2 c =
+    λ plan h f.
+    let x = passed-by (c .before .before .before .before .before .before .before .before .sum .given .1) (c .before .before .before .before .before .before .before .before .before .before .before .before .before .pass .ensures (found-given f .all) (passing h f)) in
+    enough f (passed-copied x (c .before .before .before .before .before .if2 .taken) (c .before .before .put-cells .ensures)) (omega (arith, c .before .before .before .before .before .before .if1 .left)) refl
+
+slice-aggregate-pass-4 : tie.Need-slice-aggregate-pass-4
+slice-aggregate-pass-4 c = search needs
+
+slice-aggregate-pass-5 : tie.Need-slice-aggregate-pass-5
+slice-aggregate-pass-5 c = search needs
+
+pass-requires-2 : tie.Need-pass-requires-2
+pass-requires-2 c κs = let k = c .before .before .before .before .before .before .before .before .before .before .before .pass .kept .1 .1 .1 .1 .1 in (k .0, k .1 .0)
+
 returns-3 : tie.Need-returns-3
-returns-3 c = λ plan f.
-    let g = found-given f in
-    let e = c .before .before .before .before .before .before .before .before .before .before in
-    let s = e .before .before in
-    let x = passed-by (s .sum .given .1) (passed-once (s .before .before) .pass .ensures (g .all) (g .at)) in
-    let y = passed-again x (c .before .before .before .before .before .pass2 .ensures (g .all) (g .at)) in
-    enough f y (omega (arith, e .if1 .left)) refl
+returns-3 c =
+    λ plan h f.
+    let l = large-by (c .before .enum-told .given .1) (c .before .before .before .before .before .before .pass .ensures (found-given f .all) (passing h f)) in
+    too-large f l (c .turned-away .ensures) refl
+
+same-length-2 : tie.Need-same-length-2
+same-length-2 c = search needs
+
+returns-4 : tie.Need-returns-4
+returns-4 c =
+    λ plan h f.
+    let x = passed-by (c .before .before .before .before .before .before .before .before .before .before .before .sum .given .1) (c .before .before .before .before .before .before .before .before .before .before .before .before .before .before .before .before .pass .ensures (found-given f .all) (passing h f)) in
+    let y = passed-again x (c .before .before .before .before .pass2 .ensures (found-given f .all) (passing h f)) in
+    enough f y (omega (arith, c .before .before .before .before .before .before .before .before .before .if1 .left)) refl
 
 pub put-replies-spec : {M : Type 1} → statement M
 put-replies-spec =
@@ -91,17 +89,20 @@ put-replies-spec =
     slice-aggregate-pass
     slice-aggregate-pass-2
     slice-aggregate-pass-3
-    slice-aggregate-pass-4
     pass-requires
     enum-told
     turned-away-requires
     enum-known-sum
     turned-away-requires-2
     returns
-    slice-aggregate-pass-5
-    slice-aggregate-pass-6
-    slice-aggregate-pass-7
-    pass-requires-2
-    returns-2
+    array-share-prefix-list
+    slice-aggregate-put-cells
+    put-cells-requires
     same-length
-    returns-3)
+    returns-2
+    slice-aggregate-pass-4
+    slice-aggregate-pass-5
+    pass-requires-2
+    returns-3
+    same-length-2
+    returns-4)

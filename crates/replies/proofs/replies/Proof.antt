@@ -26,9 +26,7 @@ slice-aggregate-reply-all : tie.Need-slice-aggregate-reply-all
 slice-aggregate-reply-all c = sym (length-take-le _ _ (found-by (c .before .before .n .given .1) (c .before .before .before .before .before .run-plan .ensures) (omega arith) .1))
 
 reply-all-requires : tie.Need-reply-all-requires
-reply-all-requires c κs =
-    let s = c .before .before .before .before .before .before .before .before .before .before .before .before in
-    record { plan = s .args .plan .now; found = found-by (c .before .before .before .n .given .1) (c .before .before .before .before .before .before .run-plan .ensures) (omega arith) .0 }
+reply-all-requires c κs = search needs
 
 returns : tie.Need-returns
 returns c = refused-by (c .before .f .given .1) (c .before .before .before .before .run-plan .ensures) (omega arith)

@@ -15,11 +15,7 @@ enum-known-answer : tie.Need-enum-known-answer
 enum-known-answer c = search needs
 
 put-replies-requires : tie.Need-put-replies-requires
-put-replies-requires c κs =
-    let s = c .before .before .before .before .before .before .before .before .before .before .before in
-    let r = c .before .before .before .before .before .before .read-table in
-    let k = says-read (tableOf (s .args .table .now)) (ap tableTold (sym (c .before .before .before .answer .given .1)) ∙ r .ensures .answer) in
-    (record { is = k .0; reads = k .1; begin = r .ensures .starts; many = k .3 }, s .pre)
+put-replies-requires c κs = search needs
 
 enum-known-answer-2 : tie.Need-enum-known-answer-2
 enum-known-answer-2 c = search needs
@@ -28,12 +24,16 @@ same-length : tie.Need-same-length
 same-length c = search needs
 
 returns : tie.Need-returns
-returns c = search needs
+returns c =
+    λ plan f.
+    let r = c .before .before .before .before .before .before .before .before .before .read-table .ensures in
+    let k = says-read (tableOf (c .before .before .before .before .before .before .before .before .before .before .before .before .before .before .args .table .now)) (ap tableTold (sym (c .before .before .before .before .before .before .answer .given .1)) ∙ r .answer) in
+    c .before .before .put-replies .ensures plan (record { is = k .0; reads = k .1; begin = r .starts; many = k .3 }) f
 
 returns-2 : tie.Need-returns-2
-returns-2 c = λ plan f.
-    let t = tableOf (c .before .before .before .before .before .before .before .before .before .args .table .now) in
-    let e = says-turned t (ap tableTold (sym (c .before .answer2 .given .1)) ∙ c .before .before .before .before .read-table .ensures .answer) in
+returns-2 c =
+    λ plan f.
+    let e = says-turned (tableOf (c .before .before .before .before .before .before .before .before .before .args .table .now)) (ap tableTold (sym (c .before .answer2 .given .1)) ∙ c .before .before .before .before .read-table .ensures .answer) in
     apart (sym (found-table f) ∙ e)
 
 pub reply-all-spec : {M : Type 1} → statement M

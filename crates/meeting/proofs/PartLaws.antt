@@ -3,12 +3,16 @@ use Prim.Native.Nat.{ℕ, _+_, _-_, _≤_, _<_}
 use mathlib.Core.Path.{_≡_, sym, _∙_, ap, subst}
 use mathlib.Core.List.{List, _++_}
 use native.Mathlib.Omega.{arith}
-use lib.ListN.{length, take, drop, length-append}
+use lib.ListN.{length, take, drop, length-append, length-take}
 use lib.Seq.{slice}
 use Rattle.term.proofs.Lists.{slice-take}
 use Rattle.octets.specs.Octets.{Put}
 use Rattle.instance.specs.Rewrite.{put}
 use Rattle.octets.proofs.PutLaws.{put-put, put-found, put-length, put-counted}
+
+-- the place after what is put is in the room
+pub put-in : {old new text : List ℕ} {to r : ℕ} → Put old new to text r → to ≤ length old → (to ≤ r) × (r ≤ length old)
+put-in {old} {text = text} {to} p h = (omega (arith, p .after), omega (arith, p .after, length-take (length old - to) text, h))
 
 -- a part of a list, as the code takes it
 pub part-slice : (xs : List ℕ) (a e : ℕ) → a ≤ e → take (e - a) (drop a xs) ≡ slice a e xs

@@ -1,0 +1,52 @@
+-- `common` meets its contract: from a hit to the most general common instance.
+use mathlib.Core.Path.{_∙_}
+use native.Mathlib.Omega.{arith}
+use Rattle.octets.proofs.PutLaws.{put-length}
+use Rattle.instance.proofs.StartLaws.{hit-start}
+use Rattle.meeting.specs.Ended.{ended-over}
+use Rattle.meeting.proofs.PartLaws.{put-in}
+use Rattle.meeting.proofs.TurnLaws.{starting, finished-ended}
+use borrow.Author.Needs.{needs}
+use Rattle.meeting.proofs.common.Statement.{statement}
+use Rattle.meeting.proofs.common.Tie as tie
+
+returns : tie.Need-returns
+returns c = ended-over (λ h l. absurd (c .if1 .taken (l .long)))
+
+returns-2 : tie.Need-returns-2
+returns-2 c = ended-over (λ h l. absurd (c .if2 .taken (l .other-long)))
+
+put-apart-requires : tie.Need-put-apart-requires
+put-apart-requires c κs = search needs
+
+put-cells-requires : tie.Need-put-cells-requires
+put-cells-requires c κs = search needs
+
+meet-requires : tie.Need-meet-requires
+meet-requires c κs = starting (c .before .before .before .before .before .before .before .before .before .before .before .if1 .left) (c .before .before .before .before .before .before .before .before .before .before .if2 .left) (c .before .before .before .before .before .before .before .before .put-apart .ensures) (c .before .before .before .before .put-cells .ensures)
+
+same-length : tie.Need-same-length
+same-length c = search needs
+
+same-length-2 : tie.Need-same-length-2
+same-length-2 c = search needs
+
+returns-3 : tie.Need-returns-3
+returns-3 c =
+    let p = c .before .before .before .before .before .before .before .before .before .before .before .before .before .put-apart .ensures in
+    let q = c .before .before .before .before .before .before .before .before .before .put-cells .ensures in
+    let l = c .before .before .before .before .before .before .before .before .before .before .before .before .before .before .before .before .if1 .left in
+    finished-ended (c .before .before .before .before .meet .kept .0 ∙ put-length q ∙ put-length p ∙ l) (λ h. hit-start h _ _ _ _ _ l p q) (c .before .before .before .before .meet .ensures)
+
+pub common-spec : {M : Type 1} → statement M
+common-spec =
+    tie.close
+    (tie.spec
+    returns
+    returns-2
+    put-apart-requires
+    put-cells-requires
+    meet-requires
+    same-length
+    same-length-2
+    returns-3)
