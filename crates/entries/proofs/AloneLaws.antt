@@ -138,7 +138,7 @@ module _ {cells marks notes₀ : List ℕ} {row at stop : ℕ} (g : LastRow cell
 
     weight-is : weightAt (g .m) (x .before) c ≡ cond (ltb c k) 1 (weightIn marks q)
     weight-is =
-        let w : weightIn marks q ≡ g .m .weight c = g .marked .at q (alone-safe .inside) .weight in
+        let w : weightIn marks q ≡ g .m .weight c = g .marked .at q (omega arith) (alone-safe .inside) .weight in
         weight-next (x .numbered) (g .m) (alone-safe .met) here ∙ rw w
 
     each-next : (j : ℕ) → at ≤ j → j < q + 1 → noteIn (putNote notes q (note 1 0 row)) j ≡ note 1 0 row

@@ -73,7 +73,7 @@ module _ {marks kept notes : List ℕ} {row : Row} {shared : Shared} {asked : As
 
   weights-right : (j : ℕ) → row .start ≤ j → j < length zs → weightIn marks j ≡ g .m .weight (root 0 (drop j zs))
   weights-right j h l =
-      g .marked .at j (omega (arith, zs-length, g .part .1)) .weight
+      g .marked .at j (omega arith) (omega (arith, zs-length, g .part .1)) .weight
       ∙ ap (g .m .weight) (sym (part-root j (row .end) (g .cells) (omega (arith, zs-length)) (g .part .1)))
 
   abbrev first : ℕ

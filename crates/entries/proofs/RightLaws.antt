@@ -18,7 +18,7 @@ use Rattle.least.proofs.Best.{least-one}
 use Rattle.least.proofs.Again.{held, by-same, again-is, old-is, values-right, whole-least, whole-small, by-right}
 use Rattle.entries.specs.declared.arrays.Asked.{Asked}
 use Rattle.entries.specs.Fill.{NoPair, Filled, Unasked, KeptRight, Refilled}
-use Rattle.entries.specs.code.Notes.{readIn, Long, MarkedTo}
+use Rattle.entries.specs.code.Notes.{readIn, Long, MarkedFrom}
 use Rattle.entries.specs.code.Filling.{Laid, Task, Stands, worked, left, Finished}
 use Rattle.entries.proofs.FlagLaws.{length-flags}
 use Rattle.entries.proofs.FillLaws.{Either, again-pair, kept-pair, either}
@@ -39,7 +39,7 @@ chosen-no asked j j′ (inr h) = go (ltb j (asked .top))
     go false = refl
 
 module _ {cells marks starts : List ℕ} {w : ℕ} {rows : List (List ℕ)} (m : Measure) (low : Low m) (asked : Asked) (fig : asked .figure ≡ m .figure)
-    (laid : Laid cells starts (asked .count) w rows) (marked : MarkedTo m cells marks (length cells)) (old : List ℕ) (long : Long old) where
+    (laid : Laid cells starts (asked .count) w rows) (marked : MarkedFrom m cells marks 0) (old : List ℕ) (long : Long old) where
   abbrev fs : List Bool
   fs = flagsIn w (asked .named)
 

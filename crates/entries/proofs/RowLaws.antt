@@ -13,13 +13,13 @@ use lib.Dec.{eqb}
 use borrow.Author.Tests.{eqb-true, eqb-false}
 use Rattle.cell.specs.Cell.{arity}
 use Rattle.term.specs.Terms.{Terms, none, more, front, back, root, close}
-use Rattle.term.proofs.TermsLaws.{front-back, front-terms, zero-nil}
+use Rattle.term.proofs.TermsLaws.{front-back, front-++, front-terms, zero-nil}
 use Rattle.plan.specs.Runs.{agree}
 use Rattle.plan.specs.Plans.{Measure}
 use Rattle.plan.proofs.RunsLaws.{terms-length}
 use Rattle.entries.specs.declared.arrays.Note.{Note}
 use Rattle.entries.specs.code.Notes.{note, noteNext, noteOf, noteIn, putNote, readIn, endIn, Small, Fair, Noted, done, closed, opened}
-use Rattle.entries.specs.code.Notes.{weightIn, mostAgreed, MarkedTo, NextRow, RowNoted}
+use Rattle.entries.specs.code.Notes.{weightIn, mostAgreed, MarkedFrom, NextRow, RowNoted}
 use Rattle.entries.proofs.NoteLaws.{note-fair}
 use Rattle.entries.proofs.NotedLaws.{From, close-first, back-first, note-is, noteWith, next-note, next-closed, next-opened}
 use Rattle.entries.proofs.RingLaws.{put-same, put-room, put-later, put-earlier}
@@ -37,14 +37,17 @@ part-some : {r : ℕ} (p e : ℕ) (cells : List ℕ) → e ≤ length cells → 
 part-some p e cells l t = omega (arith, terms-length t, length-slice p e cells l)
 
 -- where the term at p ends
-pub ended-at : {m : Measure} {cells marks : List ℕ} {r : ℕ} (p e : ℕ) → MarkedTo m cells marks (length cells) → p < e → e ≤ length cells
+pub ended-at : {m : Measure} {cells marks : List ℕ} {r : ℕ} (p e : ℕ) → MarkedFrom m cells marks 0 → p < e → e ≤ length cells
     → Terms (suc r) (slice p e cells) → endIn marks p ≡ p + length (front 1 (slice p e cells))
 ended-at {cells = cells} {r = r} p e x h l t =
     let s : drop p cells ≡ slice p e cells ++ drop e cells =
     ap (drop p) (sym (take-append-drop e cells)) ∙ drop-append-le p (take e cells) (drop e cells) (omega (arith, length-take-le e cells l)) in
     let f : slice p e cells ≡ front 1 (slice p e cells) ++ back 1 (slice p e cells) = sym (front-back 1 (slice p e cells)) in
-    x .at p (omega arith) .end (front 1 (slice p e cells)) (back 1 (slice p e cells) ++ drop e cells) (front-terms 1 r (slice p e cells) (rw one-add t))
-    (s ∙ ap (λ (l : List ℕ). l ++ drop e cells) f ∙ append-assoc (front 1 (slice p e cells)) (back 1 (slice p e cells)) (drop e cells))
+    let a : drop p cells ≡ front 1 (slice p e cells) ++ (back 1 (slice p e cells) ++ drop e cells) =
+    s ∙ ap (λ (l : List ℕ). l ++ drop e cells) f ∙ append-assoc (front 1 (slice p e cells)) (back 1 (slice p e cells)) (drop e cells) in
+    let k : front 1 (drop p cells) ≡ front 1 (slice p e cells) =
+    ap (front 1) a ∙ front-++ (back 1 (slice p e cells) ++ drop e cells) (front-terms 1 r (slice p e cells) (rw one-add t)) in
+    x .at p (omega arith) (omega arith) .end ∙ ap (λ (l : List ℕ). p + length l) k
 
 -- the note that one step of the walk puts
 abbrev pub noteStep : (cells kept notes : List ℕ) → ℕ → ℕ → ℕ → Note
@@ -176,7 +179,7 @@ module _ {cells marks kept notes₀ : List ℕ} {row new old : ℕ} (g : NextRow
 
     -- what a closed cell weighs
     weight-is : weightIn marks q ≡ g .m .weight (root 0 z)
-    weight-is = g .marked .at q (omega (arith, old-in)) .weight ∙ ap (g .m .weight) (sym (part-root q old cells h old-in))
+    weight-is = g .marked .at q (omega arith) (omega (arith, old-in)) .weight ∙ ap (g .m .weight) (sym (part-root q old cells h old-in))
 
     step-closed : stepNote .runs ≡ 1 → RowAt notes′ (n + weightIn marks q) (suc p) (suc q)
     step-closed o =

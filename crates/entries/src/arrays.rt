@@ -10,12 +10,11 @@ ghost use Rattle.state.specs.Flags.{flagsIn};
 ghost use Rattle.least.specs.Measures.{workOf, measureOf};
 ghost use Rattle.entries.specs.Fill.{Refilled};
 ghost use Rattle.entries.specs.code.Notes.{noteIn, noteNext, putNote, readIn, endIn, weightIn, mostAgreed, Long};
-ghost use Rattle.entries.specs.code.Notes.{Small, NextRow, RowNoted, LastRow, Alone, EndsAt, MarkOf, MarkedTo};
+ghost use Rattle.entries.specs.code.Notes.{Small, NextRow, RowNoted, LastRow, Alone, pastOf, EndsFrom, MarkedFrom};
 ghost use Rattle.entries.specs.code.Reading.{choiceOf, foundOf, partOf, priceOf, foundTo, someTo, sortOf, choiceOver};
 ghost use Rattle.entries.specs.code.Reading.{Range, Inside, Column, Columns, Sorted};
 ghost use Rattle.entries.specs.code.Filling.{stopOf, rowOf, PairAt, Keeps, KeepsBefore, LastAt, FilledTo, Task, Finished, Rows};
 use least::By;
-use term::End;
 
 // How many runs the rows so far have at this place, the sum of what each of them costs, all but the first, and the row at
 // which the first of them ends. One run: all agree, and the place is closed.
@@ -49,17 +48,6 @@ fn put_note(notes: &mut [u32; 192], q: usize, s: Note)
     notes[128 + at] = to;
 }
 
-// The place after the term that begins at a cell.
-fn end_at(cells: &[u32], j: usize) -> u16
-    requires { ⌜ length (now cells) ≤ 2050 ⌝ }
-    ensures { λ r. ⌜ EndsAt (now (cells .entry)) j r × (r ≤ 2050) ⌝ }
-{
-    match term::term_end(cells, j) {
-        End::At(e) => e as u16,
-        End::Short => 0,
-    }
-}
-
 // W-204, "a variable's branch costs 0, a number 1, a name 1 plus its arguments".
 fn work_of(c: u32) -> u16
     ensures { λ r. ⌜ (r ≡ workOf c) × (r ≤ 5) ⌝ }
@@ -91,25 +79,11 @@ pub fn figure_of(by: By) -> u32
 }
 
 // A cell's mark: 8 times where its term ends, and what the cell weighs.
-fn mark_of(by: By, cells: &[u32], j: usize) -> u16
-    requires { ⌜ (length (now cells) ≤ 2050) × (j < length (now cells)) ⌝ }
-    ensures { λ r. ⌜ MarkOf (measureOf by) (now (cells .entry)) j r ⌝ }
+fn mark_of(end: usize, weight: u16) -> u16
+    requires { ⌜ (end ≤ 2050) × (weight ≤ 5) ⌝ }
+    ensures { λ r. ⌜ r ≡ 8 * end + weight ⌝ }
 {
-    let end = end_at(cells, j);
-    let weight = weight_of(by, cells[j]);
-    8 * end + weight
-}
-
-// The marks of all cells. A table has at most 2,050 of them, so 16 bits are enough, and there is less to clear.
-fn mark_cells(by: By, cells: &[u32], marks: &mut [u16; 2050])
-    requires { ⌜ (length (now cells) ≤ 2050) × (length (now marks) ≡ 2050) ⌝ }
-    ensures { λ _. ⌜ MarkedTo (measureOf by) (now (cells .entry)) (now (marks .exit)) (length (now (cells .entry))) ⌝ }
-{
-    let mut j = 0;
-    while j < cells.len() {
-        marks[j] = mark_of(by, cells, j);
-        j += 1;
-    }
+    8 * (end as u16) + weight
 }
 
 // A mark's two parts. (That a parameter fits the wider type is known; of an array's element it would be asked.)
@@ -123,6 +97,41 @@ fn weight_in(mark: u16) -> u32
     ensures { λ r. ⌜ r ≡ mark % 8 ⌝ }
 {
     (mark % 8) as u32
+}
+
+// The place after so many terms from a cell on, by the marks of the cells from there on; where the cells run out before, the
+// place after them.
+fn past(cells: &[u32], marks: &[u16; 2050], start: usize, terms: usize) -> usize
+    requires { ⌜ (length (now cells) ≤ 2050) × (start ≤ length (now cells)) × EndsFrom (now cells) (now marks) start ⌝ }
+    ensures { λ r. ⌜ r ≡ pastOf (now (cells .entry)) terms start ⌝ }
+{
+    let mut at = start;
+    let mut left = terms;
+    while 0 < left {
+        if cells.len() <= at {
+            return at;
+        }
+        at = end_in(marks[at]);
+        left -= 1;
+    }
+    at
+}
+
+// The marks of all cells, from the last to the first, so that a name's term ends where its last argument's does. A table has at
+// most 2,050 cells, so 16 bits are enough, and there is less to clear.
+fn mark_cells(by: By, cells: &[u32], marks: &mut [u16; 2050])
+    requires { ⌜ (length (now cells) ≤ 2050) × (length (now marks) ≡ 2050) ⌝ }
+    ensures { λ _. ⌜ MarkedFrom (measureOf by) (now (cells .entry)) (now (marks .exit)) 0 ⌝ }
+{
+    let mut j = cells.len();
+    while 0 < j {
+        j -= 1;
+        let c = cells[j];
+        let terms = cell::arity_of(c);
+        let end = past(cells, &*marks, j + 1, terms);
+        let weight = weight_of(by, c);
+        marks[j] = mark_of(end, weight);
+    }
 }
 
 // The next place: a closed one's first argument, or what follows the term at an open one.

@@ -21,7 +21,7 @@ use Rattle.entries.specs.declared.arrays.Asked.{Asked}
 use Rattle.entries.specs.declared.arrays.Row.{Row}
 use Rattle.entries.specs.declared.arrays.Shared.{Shared}
 use Rattle.entries.specs.Fill.{Unasked}
-use Rattle.entries.specs.code.Notes.{noteIn, readIn, mostAgreed, Long, Noted, MarkedTo}
+use Rattle.entries.specs.code.Notes.{noteIn, readIn, mostAgreed, Long, Noted, MarkedFrom}
 
 -- a row's cells end where the next row's begin, and the last row's where the table's end
 abbrev pub stopOf : List ℕ → List ℕ → ℕ → ℕ → ℕ
@@ -59,7 +59,7 @@ pub record PairAt (marks kept notes : List ℕ) (row : Row) (shared : Shared) (a
   pub inside : shared .last < length rows
   pub part : (row .start ≤ row .end) × (row .end ≤ length cells) × (length cells ≤ 2050)
   pub row-is : getD rows (row .number) [] ≡ slice (row .start) (row .end) cells
-  pub marked : MarkedTo m cells marks (length cells)
+  pub marked : MarkedFrom m cells marks 0
   pub N : ℕ → ℕ → ℕ
   pub small : (j j′ : ℕ) → j ≤ j′ → j′ < length rows → N j j′ ≤ 65535
   pub weight : ℕ
@@ -95,7 +95,7 @@ pub record Task (cells marks starts : List ℕ) (asked : Asked) (old : List ℕ)
   pub width : ℕ
   pub rows : List (List ℕ)
   pub laid : Laid cells starts (asked .count) width rows
-  pub marked : MarkedTo m cells marks (length cells)
+  pub marked : MarkedFrom m cells marks 0
   pub N : ℕ → ℕ → ℕ
   pub again : (j j′ : ℕ) → j ≤ j′ → j′ < length rows → j < asked .top → asked .since ≤ j′ → N j j′ ≡ wholeBy m (flagsIn width (asked .named)) width rows N j j′
   pub known : (j j′ : ℕ) → j ≤ j′ → j′ < length rows → Unasked (asked .top) (asked .since) j j′ → N j j′ ≡ readIn old j j′

@@ -3,7 +3,7 @@
 use Prim.Native.Nat.{ℕ, suc, _+_, _-_, _*_, _/_, _%_, _≤_, _<_, min}
 use mathlib.Core.Path.{_≡_}
 use mathlib.Core.Bool.{true, cond}
-use mathlib.Core.List.{List, [], _∷_, _++_, map}
+use mathlib.Core.List.{List, [], _∷_, map}
 use lib.Dec.{ltb}
 use lib.ListN.{length, getD, set, drop}
 use lib.Seq.{slice}
@@ -81,9 +81,9 @@ pub data Noted (m : Measure) (costs : ℕ → ℕ → ℕ) (first : ℕ) (notes 
       → 1 < (notes at) .runs → Noted m costs first notes (at + length (front 1 row)) terms (back 1 row) (map (back 1) rest) agreed
       → Noted m costs first notes at (suc terms) row rest agreed
 
--- e is the place after the term that begins at cell j, if one does
-abbrev pub EndsAt : List ℕ → ℕ → ℕ → Type 0
-EndsAt cells j e = (t rest : List ℕ) → Terms 1 t → drop j cells ≡ t ++ rest → e ≡ j + length t
+-- the place after k terms from cell j on; where the cells run out before, the place after them
+abbrev pub pastOf : List ℕ → (k j : ℕ) → ℕ
+pastOf cells k j = j + length (front k (drop j cells))
 
 -- of each cell there is a mark: 8 times where its term ends, and what it weighs
 abbrev pub endIn : List ℕ → ℕ → ℕ
@@ -97,13 +97,17 @@ abbrev pub mostAgreed : ℕ
 mostAgreed = 14350
 
 pub record MarkOf (m : Measure) (cells : List ℕ) (j mark : ℕ) : Type 0 where
-  pub end : EndsAt cells j (mark / 8)
+  pub end : mark / 8 ≡ pastOf cells 1 j
   pub weight : mark % 8 ≡ m .weight (getD cells j 0)
 
--- the first j cells are marked
-pub record MarkedTo (m : Measure) (cells marks : List ℕ) (j : ℕ) : Type 0 where
+-- the cells from j on are marked
+pub record MarkedFrom (m : Measure) (cells marks : List ℕ) (j : ℕ) : Type 0 where
   pub size : length marks ≡ 2050
-  pub at : (i : ℕ) → i < j → MarkOf m cells i (getD marks i 0)
+  pub at : (i : ℕ) → j ≤ i → i < length cells → MarkOf m cells i (getD marks i 0)
+
+-- where their terms end
+abbrev pub EndsFrom : (cells marks : List ℕ) → ℕ → Type 0
+EndsFrom cells marks j = (i : ℕ) → j ≤ i → i < length cells → endIn marks i ≡ pastOf cells 1 i
 
 -- What is given where one row more is noted, in front, its cells from `new` up to `old`: the row after it is noted at its cells from
 -- `old` on, with the rows after that up to the last one, and what a run costs is kept for each that begins at that row. No row has more
@@ -123,7 +127,7 @@ pub record NextRow (cells marks kept notes : List ℕ) (row new old : ℕ) : Typ
   pub order : (new ≤ old) × (old ≤ stop) × (stop ≤ length cells) × (length cells ≤ 2050)
   pub short : (old ≤ new + 32) × (stop ≤ old + 32)
   pub rows : (suc row + length rest ≡ last) × (last < count) × (count ≤ 64)
-  pub marked : MarkedTo m cells marks (length cells)
+  pub marked : MarkedFrom m cells marks 0
   pub known : (j : ℕ) → suc row ≤ j → j ≤ last → readIn kept (suc row) j ≡ costs (suc row) j
   pub small : (i k : ℕ) → i ≤ k → k < count → costs i k ≤ 65535
   pub room : length notes ≡ 192
@@ -152,7 +156,7 @@ pub record LastRow (cells marks notes : List ℕ) (row at stop : ℕ) : Type 0 w
   pub m : Measure
   pub width : ℕ
   pub head : Head width (slice at stop cells)
-  pub marked : MarkedTo m cells marks (length cells)
+  pub marked : MarkedFrom m cells marks 0
   pub part : (at ≤ stop) × (stop ≤ length cells) × (length cells ≤ 2050)
   pub number : row < 64
   pub room : length notes ≡ 192
