@@ -55,7 +55,7 @@ module _ (room : List ℕ) (n : ℕ) (hits : Hits room n) (i : ℕ) (h : i < n) 
       ap₂ bitOr e (s ∙ ap (λ (z : ℕ). 1 * 2 ^ z) d) ∙ bits-next room n i h (omega (arith, hits .size, hits .few)) (hits .ascends)
 
 -- The hits of a run are rows of a table, from the top down.
-hits-rise : {t p g room room′ : List ℕ} {r : RunAnswer} {h n : ℕ} → length room′ ≡ 64 → Ran t p g room room′ r → r ≡ run-answer.Ran h n → Hits room′ h
+pub hits-rise : {t p g room room′ : List ℕ} {r : RunAnswer} {h n : ℕ} → length room′ ≡ 64 → Ran t p g room room′ r → r ≡ run-answer.Ran h n → Hits room′ h
 hits-rise {r = r} {h} {n} z (refusal f a b c) d =
     let q : runTold r ≡ answered h n = ap runTold d in
     absurd (let z : _≡_ {A = ℕ} 0 1 = cc in let y : ⊥ = omega arith in y)

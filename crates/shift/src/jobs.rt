@@ -42,7 +42,7 @@ fn few(n: usize) -> usize
 }
 
 // The first `n` bytes, numbers of rows, as bits. Where they are the hits of a run, nothing is cut.
-fn bits(room: &[u8; 64], n: usize) -> u64
+pub fn bits(room: &[u8; 64], n: usize) -> u64
     ensures { λ r. ⌜ (Hits (now (room .entry)) n → r ≡ bitsOf (take n (now (room .entry)))) ⌝ }
 {
     let end = few(n);

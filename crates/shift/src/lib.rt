@@ -7,6 +7,9 @@ mod jobs;
 
 pub use answer::Job;
 use checker::PlanAnswer;
+pub use jobs::accepted;
+pub use jobs::answer_of;
+pub use jobs::bits;
 
 // A run of any plan for any table on every goal of a list. The table and the plan are checked once; where one of them is turned away, no
 // record is touched. The goals' cells lie among the lent ones.

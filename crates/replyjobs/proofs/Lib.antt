@@ -1,0 +1,4 @@
+pub mod OneLaws
+pub mod UptoLaws
+pub mod JobsLaws
+pub mod Fixed

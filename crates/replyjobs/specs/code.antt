@@ -1,0 +1,3 @@
+-- what only private functions need
+pub mod Shift
+pub mod Upto
