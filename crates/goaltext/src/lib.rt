@@ -219,8 +219,27 @@ fn read_stopped(
     }
 }
 
+// A goal's text by way of a lent room, which has two bytes more at least: a full stop is put after it.
+fn read_in(
+    text: &[u8],
+    names: &[u32],
+    p: Predicate,
+    goal: &[u8],
+    stopped: &mut [u8],
+    cells: &mut [u32; 32],
+    new: &mut [u32; 32],
+) -> GoalText
+    requires { ⌜ (length (now names) ≤ 2048) × (length (now goal) ≤ 65533) × (length (now goal) + 2 ≤ length (now stopped)) ⌝ }
+    ensures { λ r. ⌜ GoalAsked (now (text .entry)) (now (names .entry)) p (now (goal .entry))
+        (now (cells .entry)) (now (cells .exit)) (now (new .entry)) (now (new .exit)) r ⌝ }
+{
+    let n = octets::put_word(stopped, 0, goal);
+    let k = octets::put_word(stopped, n, b"\n.");
+    read_stopped(text, names, p, &stopped[..k], cells, new)
+}
+
 // A goal's cells at the front of `cells`, by the names of a text of facts and by its predicate; and at the front of `new` the names that
-// those have not, as a list of places in the goal.
+// those have not, as a list of places in the goal. Few goals have over 1,022 bytes, and no other waits until a room for 65,535 is cleared.
 pub fn read_goal(
     text: &[u8],
     names: &[u32],
@@ -238,8 +257,10 @@ pub fn read_goal(
     if 65533 < goal.len() {
         return refuse(Reason::Bytes, Input::Text, 0);
     }
-    let mut stopped = [0u8; 65535];
-    let n = octets::put_word(&mut stopped, 0, goal);
-    let k = octets::put_word(&mut stopped, n, b"\n.");
-    read_stopped(text, names, p, &stopped[..k], cells, new)
+    if goal.len() <= 1022 {
+        let mut short = [0u8; 1024];
+        return read_in(text, names, p, goal, &mut short, cells, new);
+    }
+    let mut long = [0u8; 65535];
+    read_in(text, names, p, goal, &mut long, cells, new)
 }
