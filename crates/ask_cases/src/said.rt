@@ -35,7 +35,9 @@ fn goal_of(rules: &[u8], text: &[u8]) {
 }
 
 fn asked(rules: &[u8], kept: &[u32], shop: Shop, text: &[u8], room: &mut [u32]) {
-    let found = askgoal::find(rules, kept, shop, text, room);
+    let mut numbers = [0u64; 2048];
+    let ready = askgoal::make_ready(kept, shop, &mut numbers);
+    let found = askgoal::find(rules, kept, &numbers, ready, text, room);
     let answer = found.answer;
     match answer {
         RunAnswer::Ran(_, _) => {}

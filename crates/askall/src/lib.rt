@@ -1,4 +1,5 @@
 // The goals: the arguments after the file, and where there are none the lines of standard input.
+use askgoal::Ready;
 use askgoal::Sheet;
 use goalsay::Source;
 use shop::Shop;
@@ -37,16 +38,19 @@ fn ask_all(
     out: &mut [u8],
 ) -> Sheet {
     let mut buf = [0u8; 65534];
+    let mut numbers = [0u64; 2048];
+    let ready = askgoal::make_ready(kept, shop, &mut numbers);
     if goals.end <= goals.first {
-        return asklines::ask_lines(text, kept, shop, &mut buf, room, out);
+        return asklines::ask_lines(text, kept, &numbers, ready, &mut buf, room, out);
     }
-    ask_arguments(text, kept, shop, goals, &mut buf, room, out)
+    ask_arguments(text, kept, &numbers, ready, goals, &mut buf, room, out)
 }
 
 fn ask_arguments(
     text: &[u8],
     kept: &[u32],
-    shop: Shop,
+    numbers: &[u64; 2048],
+    ready: Ready,
     goals: Goals,
     buf: &mut [u8],
     room: &mut [u32],
@@ -59,7 +63,7 @@ fn ask_arguments(
         let source = source_of(i, goals);
         i += 1;
         let goal = parts::part(buf, 0, n);
-        sheet = askgoal::ask(text, kept, shop, goal, source, room, out, sheet);
+        sheet = askgoal::ask(text, kept, numbers, ready, goal, source, room, out, sheet);
     }
     sheet
 }

@@ -4,10 +4,31 @@ use doubles::part;
 use goalsay::Source;
 use goaltext::GoalText;
 use instance::RepliesAnswer;
+use notes::Noted;
 use page::Page;
 use shop::Shop;
 use tally::Tally;
 use term::End;
+
+// What goals are asked of: what is kept of a file of facts, what is noted of its plan, and where the cells of each rule begin in the table.
+pub struct Ready {
+    pub shop: Shop,
+    pub noted: Noted,
+    pub starts: [usize; 64],
+}
+
+// The plan is checked and the table read once for all goals. What is noted of each branch stands in the lent numbers.
+pub fn make_ready(kept: &[u32], shop: Shop, numbers: &mut [u64; 2048]) -> Ready {
+    let table = shop::table_in(kept, shop);
+    let noted = notes::check_noted(table, shop::plan_in(kept, shop), numbers);
+    let read = table::read_table(table);
+    let starts = read.starts;
+    Ready {
+        shop,
+        noted,
+        starts,
+    }
+}
 
 // What is printed, and what the goals add up to so far.
 pub struct Sheet {
@@ -38,19 +59,21 @@ fn rules_of(hits: &[u8; 64], count: usize) -> &[u8] {
     parts::part(all, 0, count)
 }
 
-// A goal asked of what is kept of a file of facts. `room` is lent for its answers, and all that is printed is gathered in `out`. Nothing of
-// a goal is printed before all its answers are there: one that is refused for an answer has none.
+// A goal asked of a file of facts. `room` is lent for its answers, and all that is printed is gathered in `out`. Nothing of a goal is printed
+// before all its answers are there: one that is refused for an answer has none.
 pub fn ask(
     text: &[u8],
     kept: &[u32],
-    shop: Shop,
+    numbers: &[u64; 2048],
+    ready: Ready,
     goal: &[u8],
     source: Source,
     room: &mut [u32],
     out: &mut [u8],
     sheet: Sheet,
 ) -> Sheet {
-    let found = find(text, kept, shop, goal, room);
+    let found = find(text, kept, numbers, ready, goal, room);
+    let shop = ready.shop;
     let page = say(
         text,
         kept,
@@ -82,7 +105,15 @@ pub fn blank() -> Sheet {
 }
 
 // A goal's text read and run. The answers of the rules that fit stand in the room, one after another.
-pub fn find(text: &[u8], kept: &[u32], shop: Shop, goal: &[u8], room: &mut [u32]) -> Found {
+pub fn find(
+    text: &[u8],
+    kept: &[u32],
+    numbers: &[u64; 2048],
+    ready: Ready,
+    goal: &[u8],
+    room: &mut [u32],
+) -> Found {
+    let shop = ready.shop;
     let p = shop.p;
     let mut cells = [0u32; 32];
     let mut new = [0u32; 32];
@@ -96,7 +127,7 @@ pub fn find(text: &[u8], kept: &[u32], shop: Shop, goal: &[u8], room: &mut [u32]
         &mut new,
     ) {
         GoalText::Read(n, names) => {
-            let answer = run_goal(kept, shop, front(&cells, n), &mut hits, room);
+            let answer = run_goal(kept, numbers, ready, front(&cells, n), &mut hits, room);
             Found {
                 answer,
                 hits,
@@ -121,17 +152,37 @@ pub fn find(text: &[u8], kept: &[u32], shop: Shop, goal: &[u8], room: &mut [u32]
 // answers are refused, one of them has more.
 fn run_goal(
     kept: &[u32],
-    shop: Shop,
+    numbers: &[u64; 2048],
+    ready: Ready,
     goal: &[u32],
     hits: &mut [u8],
     room: &mut [u32],
 ) -> RunAnswer {
-    let table = shop::table_in(kept, shop);
-    let plan = shop::plan_in(kept, shop);
-    match replies::replies(table, plan, goal, room) {
-        RepliesAnswer::Replied(_, _) => run::run_plan(table, plan, goal, hits),
-        RepliesAnswer::Refused(f) => RunAnswer::Refused(f),
+    let noted = ready.noted;
+    match run::run_noted(numbers, noted, goal, hits) {
+        RunAnswer::Ran(rules, tried) => {
+            match reply(kept, ready, goal, parts::part(&*hits, 0, rules), room) {
+                RepliesAnswer::Replied(_, _) => RunAnswer::Ran(rules, tried),
+                RepliesAnswer::Refused(f) => RunAnswer::Refused(f),
+            }
+        }
+        RunAnswer::Refused(f) => RunAnswer::Refused(f),
     }
+}
+
+// The answers of the rules that fit.
+fn reply(kept: &[u32], ready: Ready, goal: &[u32], hits: &[u8], room: &mut [u32]) -> RepliesAnswer {
+    let shop = ready.shop;
+    let noted = ready.noted;
+    let starts = ready.starts;
+    replies::put_replies(
+        shop::table_in(kept, shop),
+        &starts,
+        noted.rows,
+        goal,
+        hits,
+        room,
+    )
 }
 
 // What a goal found.

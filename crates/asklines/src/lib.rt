@@ -1,10 +1,10 @@
 // Goals from standard input, answered.
+use askgoal::Ready;
 use askgoal::Sheet;
 use goallines::Piece;
 use goallines::Place;
 use goalsay::Source;
 use libc::STDIN_FILENO;
-use shop::Shop;
 
 // Where the reading stands, and what the goals so far have come to.
 pub struct Stand {
@@ -18,7 +18,8 @@ pub struct Stand {
 pub fn ask_lines(
     text: &[u8],
     kept: &[u32],
-    shop: Shop,
+    numbers: &[u64; 2048],
+    ready: Ready,
     buf: &mut [u8],
     room: &mut [u32],
     out: &mut [u8],
@@ -30,7 +31,7 @@ pub fn ask_lines(
     let mut turns = usize::MAX;
     while 0 < turns && stand.place.open && stand.sheet.page.open {
         turns -= 1;
-        stand = ask_next(text, kept, shop, buf, stand, room, out);
+        stand = ask_next(text, kept, numbers, ready, buf, stand, room, out);
     }
     stand.sheet
 }
@@ -39,43 +40,49 @@ pub fn ask_lines(
 fn ask_next(
     text: &[u8],
     kept: &[u32],
-    shop: Shop,
+    numbers: &[u64; 2048],
+    ready: Ready,
     buf: &mut [u8],
     stand: Stand,
     room: &mut [u32],
     out: &mut [u8],
 ) -> Stand {
-    let place = stand.place;
-    let before = before_reading(buf, out, place, stand.sheet);
-    let piece = goallines::next_piece(STDIN_FILENO, buf, place);
-    let sheet = ask_piece(text, kept, shop, buf, piece, place, room, out, before);
+    let before = before_reading(buf, out, stand);
+    let piece = goallines::next_piece(STDIN_FILENO, buf, before.place);
+    let sheet = ask_piece(text, kept, numbers, ready, buf, piece, before, room, out);
     Stand {
-        place: goallines::after(place, piece),
+        place: goallines::after(before.place, piece),
         sheet,
     }
 }
 
 // Where no whole line is left of what was read, all that is gathered is written.
-fn before_reading(buf: &[u8], out: &[u8], place: Place, sheet: Sheet) -> Sheet {
+fn before_reading(buf: &[u8], out: &[u8], stand: Stand) -> Stand {
+    let place = stand.place;
     if goallines::has_line(buf, place) {
-        return sheet;
+        return stand;
     }
-    let tally = sheet.tally;
-    let page = page::flush(out, sheet.page);
-    Sheet { page, tally }
+    let tally = stand.sheet.tally;
+    let page = page::flush(out, stand.sheet.page);
+    Stand {
+        place,
+        sheet: Sheet { page, tally },
+    }
 }
 
 fn ask_piece(
     text: &[u8],
     kept: &[u32],
-    shop: Shop,
+    numbers: &[u64; 2048],
+    ready: Ready,
     buf: &[u8],
     piece: Piece,
-    place: Place,
+    stand: Stand,
     room: &mut [u32],
     out: &mut [u8],
-    sheet: Sheet,
 ) -> Sheet {
+    let place = stand.place;
+    let sheet = stand.sheet;
     if goallines::is_failed(piece) {
         os::fail(b"cannot read standard input");
         return sheet;
@@ -83,7 +90,7 @@ fn ask_piece(
     if goallines::is_goal(buf, piece, place) {
         let goal = goallines::bytes_of(buf, piece);
         let source = Source::Line(place.above);
-        return askgoal::ask(text, kept, shop, goal, source, room, out, sheet);
+        return askgoal::ask(text, kept, numbers, ready, goal, source, room, out, sheet);
     }
     sheet
 }

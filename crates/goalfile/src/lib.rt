@@ -2,6 +2,7 @@
 // more goals than there is room for, is said too.
 use answer::RunAnswer;
 use askgoal::Found;
+use askgoal::Ready;
 use doubles::part;
 use goallines::Piece;
 use goallines::Place;
@@ -53,7 +54,21 @@ pub fn gather(
     out: &mut [u8],
 ) -> Stand {
     let mut buf = [0u8; 65534];
-    let last = gather_lines(fd, jobs, text, kept, shop, &mut buf, cells, list, room, out);
+    let mut numbers = [0u64; 2048];
+    let ready = askgoal::make_ready(kept, shop, &mut numbers);
+    let last = gather_lines(
+        fd,
+        jobs,
+        text,
+        kept,
+        &numbers,
+        ready,
+        &mut buf,
+        cells,
+        list,
+        room,
+        out,
+    );
     say(jobs, last, out);
     last
 }
@@ -64,7 +79,8 @@ fn gather_lines(
     jobs: &[u8],
     text: &[u8],
     kept: &[u32],
-    shop: Shop,
+    numbers: &[u64; 2048],
+    ready: Ready,
     buf: &mut [u8],
     cells: &mut [u32],
     list: &mut [usize],
@@ -80,7 +96,8 @@ fn gather_lines(
             jobs,
             text,
             kept,
-            shop,
+            numbers,
+            ready,
             buf,
             stand,
             cells,
@@ -98,7 +115,8 @@ fn gather_next(
     jobs: &[u8],
     text: &[u8],
     kept: &[u32],
-    shop: Shop,
+    numbers: &[u64; 2048],
+    ready: Ready,
     buf: &mut [u8],
     stand: Stand,
     cells: &mut [u32],
@@ -111,7 +129,8 @@ fn gather_next(
         jobs,
         text,
         kept,
-        shop,
+        numbers,
+        ready,
         buf,
         piece,
         stand,
@@ -126,7 +145,8 @@ fn gather_piece(
     jobs: &[u8],
     text: &[u8],
     kept: &[u32],
-    shop: Shop,
+    numbers: &[u64; 2048],
+    ready: Ready,
     buf: &[u8],
     piece: Piece,
     stand: Stand,
@@ -139,7 +159,7 @@ fn gather_piece(
         return after(stand, piece);
     }
     let goal = goallines::bytes_of(buf, piece);
-    let found = askgoal::find(text, kept, shop, goal, room);
+    let found = askgoal::find(text, kept, numbers, ready, goal, room);
     let with = gather_goal(jobs, goal, found, stand, cells, list, out);
     after(with, piece)
 }

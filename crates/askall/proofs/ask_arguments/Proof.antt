@@ -6,10 +6,11 @@ use Rattle.askall.proofs.ask_arguments.Statement.{statement}
 use Rattle.askall.proofs.ask_arguments.Tie as tie
 
 abbrev Inv-loop : tie.InvT-loop
-Inv-loop text kept shop goals buf₀ room₀ out₀ sheet₀ i₀ buf room out sheet i = (length buf ≡ length buf₀) × (length room ≡ length room₀) × (length out ≡ length out₀)
+Inv-loop text kept numbers ready goals buf₀ room₀ out₀ sheet₀ i₀ buf room out sheet i =
+    (length buf ≡ length buf₀) × (length room ≡ length room₀) × (length out ≡ length out₀)
 
 abbrev μ-loop : tie.MeasureT-loop
-μ-loop text kept shop goals buf₀ room₀ out₀ sheet₀ i₀ buf room out sheet i = goals .end - i
+μ-loop text kept numbers ready goals buf₀ room₀ out₀ sheet₀ i₀ buf room out sheet i = goals .end - i
 
 blank-requires : tie.Need-blank-requires Inv-loop μ-loop
 blank-requires c κs = search needs

@@ -5,10 +5,11 @@ use Rattle.asklines.proofs.ask_lines.Statement.{statement}
 use Rattle.asklines.proofs.ask_lines.Tie as tie
 
 abbrev Inv-loop : tie.InvT-loop
-Inv-loop text kept shop buf₀ room₀ out₀ stand₀ turns₀ buf room out stand turns = (length buf ≡ length buf₀) × (length room ≡ length room₀) × (length out ≡ length out₀)
+Inv-loop text kept numbers ready buf₀ room₀ out₀ stand₀ turns₀ buf room out stand turns =
+    (length buf ≡ length buf₀) × (length room ≡ length room₀) × (length out ≡ length out₀)
 
 abbrev μ-loop : tie.MeasureT-loop
-μ-loop text kept shop buf₀ room₀ out₀ stand₀ turns₀ buf room out stand turns = turns
+μ-loop text kept numbers ready buf₀ room₀ out₀ stand₀ turns₀ buf room out stand turns = turns
 
 start-requires : tie.Need-start-requires Inv-loop μ-loop
 start-requires c κs = search needs

@@ -5,12 +5,12 @@ use Rattle.goalfile.proofs.gather_lines.Statement.{statement}
 use Rattle.goalfile.proofs.gather_lines.Tie as tie
 
 abbrev Inv-loop : tie.InvT-loop
-Inv-loop fd jobs text kept shop buf₀ cells₀ list₀ room₀ out₀ stand₀ turns₀ buf cells list room out stand turns =
+Inv-loop fd jobs text kept numbers ready buf₀ cells₀ list₀ room₀ out₀ stand₀ turns₀ buf cells list room out stand turns =
     (length buf ≡ length buf₀) × (length cells ≡ length cells₀) × (length list ≡ length list₀) × (length room ≡ length room₀)
     × (length out ≡ length out₀)
 
 abbrev μ-loop : tie.MeasureT-loop
-μ-loop fd jobs text kept shop buf₀ cells₀ list₀ room₀ out₀ stand₀ turns₀ buf cells list room out stand turns = turns
+μ-loop fd jobs text kept numbers ready buf₀ cells₀ list₀ room₀ out₀ stand₀ turns₀ buf cells list room out stand turns = turns
 
 first-requires : tie.Need-first-requires Inv-loop μ-loop
 first-requires c κs = search needs
