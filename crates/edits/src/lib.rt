@@ -104,7 +104,7 @@ fn put_row(rec: &mut [u32; 14340], row: &[u32], starts: &[usize; 64], at: Place)
 pub fn work_out(cells: &[u32], figure: u32, rec: &mut [u32; 14340]) -> TableAnswer
     ensures { λ a. ⌜ WorkedOut figure (now (cells .entry)) (now (rec .entry)) (now (rec .exit)) (tableTold a) ⌝ }
 {
-    let answer = entries::read_by(By::Work(figure), cells).answer;
+    let answer = measuring::read_by(By::Work(figure), cells).answer;
     if let TableAnswer::Accepted(_, _) = answer {
         let all = &mut rec[..];
         store::clear(&mut *all, 2, 14340);

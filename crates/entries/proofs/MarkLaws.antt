@@ -9,12 +9,11 @@ use native.Mathlib.Omega.{arith}
 use lib.ListN.{length, getD, set, drop, length-set, length-drop}
 use lib.Seq.{getD-set-same, getD-set-other, drop-cons}
 use lib.Dec.{eqb}
-use borrow.Author.Tests.{eq-eqb, ne-eqb, eqb-true, eqb-false}
-use Rattle.cell.specs.Cell.{kindOf, arity, isVar}
+use borrow.Author.Tests.{eqb-true, eqb-false}
+use Rattle.cell.specs.Cell.{arity}
 use Rattle.term.specs.Terms.{front}
 use Rattle.term.proofs.TermsLaws.{front-zero}
 use Rattle.plan.specs.Plans.{Measure}
-use Rattle.least.specs.Measures.{workOf}
 use Rattle.least.proofs.Suffixes.{front-short, front-back-length, back-drop}
 use Rattle.entries.specs.code.Notes.{pastOf, MarkOf, MarkedFrom}
 
@@ -41,15 +40,6 @@ past-cell cells j h =
 
 pub past-in : (cells : List ℕ) (k j : ℕ) → j ≤ length cells → pastOf cells k j ≤ length cells
 past-in cells k j h = omega (arith, front-short k (drop j cells), length-drop j cells)
-
--- what a cell weighs by W-204's measure
-pub work-variable : (c : ℕ) → kindOf c ≡ 0 → workOf c ≡ 0
-unfolding workOf isVar
-work-variable c e = rw (eq-eqb (kindOf c) 0 e)
-
-pub work-other : (c : ℕ) → kindOf c ≢ 0 → workOf c ≡ arity c + 1
-unfolding workOf isVar
-work-other c e = rw (ne-eqb (kindOf c) 0 e) (omega arith)
 
 -- a mark is read back
 pub mark-is : (m : Measure) (cells : List ℕ) (j end weight : ℕ) → end ≡ pastOf cells 1 j → weight ≡ m .weight (getD cells j 0) → weight ≤ 5

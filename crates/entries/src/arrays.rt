@@ -7,7 +7,7 @@ ghost use Prim.Native.Nat.{ℕ, _+_, _-_, _*_, _/_, _%_, _≤_, _<_};
 ghost use lib.Dec.{eqb, ltb};
 ghost use lib.ListN.{length, getD};
 ghost use Rattle.state.specs.Flags.{flagsIn};
-ghost use Rattle.least.specs.Measures.{workOf, measureOf};
+ghost use Rattle.least.specs.Measures.{measureOf};
 ghost use Rattle.entries.specs.Fill.{Refilled};
 ghost use Rattle.entries.specs.code.Notes.{noteIn, noteNext, putNote, readIn, endIn, weightIn, mostAgreed, Long};
 ghost use Rattle.entries.specs.code.Notes.{Small, NextRow, RowNoted, LastRow, Alone, pastOf, EndsFrom, MarkedFrom};
@@ -46,36 +46,6 @@ fn put_note(notes: &mut [u32; 192], q: usize, s: Note)
     notes[at] = runs;
     notes[64 + at] = sum;
     notes[128 + at] = to;
-}
-
-// W-204, "a variable's branch costs 0, a number 1, a name 1 plus its arguments".
-fn work_of(c: u32) -> u16
-    ensures { λ r. ⌜ (r ≡ workOf c) × (r ≤ 5) ⌝ }
-{
-    match cell::kind(c) {
-        0 => 0,
-        _ => (cell::arity_of(c) + 1) as u16,
-    }
-}
-
-// What the branch of a cell weighs. This function and the next alone know the measure.
-fn weight_of(by: By, c: u32) -> u16
-    ensures { λ r. ⌜ (r ≡ measureOf by .weight c) × (r ≤ 5) ⌝ }
-{
-    match by {
-        By::Branches => 1,
-        By::Work(_) => work_of(c),
-    }
-}
-
-// What a state with two or more branches adds.
-pub fn figure_of(by: By) -> u32
-    ensures { λ r. ⌜ r ≡ measureOf by .figure ⌝ }
-{
-    match by {
-        By::Branches => 0,
-        By::Work(figure) => figure,
-    }
 }
 
 // A cell's mark: 8 times where its term ends, and what the cell weighs.
@@ -129,7 +99,7 @@ fn mark_cells(by: By, cells: &[u32], marks: &mut [u16; 2050])
         let c = cells[j];
         let terms = cell::arity_of(c);
         let end = past(cells, &*marks, j + 1, terms);
-        let weight = weight_of(by, c);
+        let weight = measuring::weight_of(by, c);
         marks[j] = mark_of(end, weight);
     }
 }

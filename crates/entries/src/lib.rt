@@ -1,33 +1,11 @@
 // What is kept for every pair of first and last row of a table (01, "The least plan").
 mod arrays;
 
-ghost use Rattle.least.specs.Measures.{tableBy};
-ghost use Rattle.table.specs.Table.{TableReads};
 ghost use Rattle.entries.specs.Fill.{Fills};
 use arrays::Asked;
 use least::By;
-use refusal::Input;
-use refusal::Reason;
-use refusal::Refusal;
 use table::TableAnswer;
 use table::TableRead;
-
-// FIGURE, and then what reading the table answers.
-pub fn read_by(by: By, cells: &[u32]) -> TableRead
-    ensures { λ r. ⌜ TableReads (tableBy by (now (cells .entry))) r ⌝ }
-{
-    if 15 < arrays::figure_of(by) {
-        return TableRead {
-            answer: TableAnswer::Refused(Refusal {
-                reason: Reason::Figure,
-                input: Input::Figure,
-                place: 0,
-            }),
-            starts: [0; 64],
-        };
-    }
-    table::read_table(cells)
-}
 
 // Reads a table, any cells at all, and works out the pairs of its rows that begin before row `top` and end at row `since` or
 // later, in an array of 12,288 numbers that is lent, in three parts, each pair at 64 times the first row plus the last: what
@@ -45,13 +23,13 @@ pub fn fill(
 ) -> TableRead
     ensures { λ r. ⌜ Fills by named (now (cells .entry)) top since (now (kept .entry)) (now (kept .exit)) r ⌝ }
 {
-    let read = read_by(by, cells);
+    let read = measuring::read_by(by, cells);
     let answer = read.answer;
     if let TableAnswer::Accepted(_, count) = answer {
         if kept.len() == 12288 {
             let starts = read.starts;
             let asked = Asked {
-                figure: arrays::figure_of(by),
+                figure: measuring::figure_of(by),
                 named,
                 count,
                 top,

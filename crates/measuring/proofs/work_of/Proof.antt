@@ -2,10 +2,10 @@ use mathlib.Core.Path.{sym, ap, _∙_}
 use Prim.Native.Nat.{ℕ, _+_}
 use native.Mathlib.Omega.{arith}
 use Rattle.cell.proofs.CellLaws.{arity-small}
-use Rattle.entries.proofs.MarkLaws.{work-variable, work-other}
+use Rattle.measuring.proofs.WorkLaws.{work-variable, work-other}
 use borrow.Author.Needs.{needs}
-use Rattle.entries.proofs.arrays.work_of.Statement.{statement}
-use Rattle.entries.proofs.arrays.work_of.Tie as tie
+use Rattle.measuring.proofs.work_of.Statement.{statement}
+use Rattle.measuring.proofs.work_of.Tie as tie
 
 kind-requires : tie.Need-kind-requires
 kind-requires c κs = search needs

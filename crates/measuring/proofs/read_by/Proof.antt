@@ -2,8 +2,8 @@ use mathlib.Core.Path.{refl}
 use native.Mathlib.Omega.{arith}
 use Rattle.least.proofs.Measured.{by-table, by-figure}
 use borrow.Author.Needs.{needs}
-use Rattle.entries.proofs.read_by.Statement.{statement}
-use Rattle.entries.proofs.read_by.Tie as tie
+use Rattle.measuring.proofs.read_by.Statement.{statement}
+use Rattle.measuring.proofs.read_by.Tie as tie
 
 figure-of-requires : tie.Need-figure-of-requires
 figure-of-requires c κs = search needs

@@ -1,6 +1,6 @@
 use borrow.Author.Needs.{needs}
-use Rattle.entries.proofs.arrays.weight_of.Statement.{statement}
-use Rattle.entries.proofs.arrays.weight_of.Tie as tie
+use Rattle.measuring.proofs.weight_of.Statement.{statement}
+use Rattle.measuring.proofs.weight_of.Tie as tie
 
 enum-told : tie.Need-enum-told
 enum-told c = search needs
