@@ -1,3 +1,4 @@
 pub mod PartLaws
 pub mod TermLaws
 pub mod TurnLaws
+pub mod SwapLaws

@@ -11,7 +11,7 @@ use Rattle.meeting.specs.declared.Turn.the-variants as turn
 use Rattle.meeting.specs.declared.Made.{Made}
 use Rattle.meeting.specs.declared.Made.the-variants as made
 use Rattle.meeting.specs.Ended.{Ended, ended, ended-over}
-use Rattle.meeting.specs.code.Turns.{MeetingAt, AfterAt, Sound, Bound, bound, bound-over, Went, Stepped, stepped, stepped-over}
+use Rattle.meeting.specs.code.Turns.{MeetingAt, Turning, turned, Sound, Bound, bound, bound-over, Went, Stepped, stepped, stepped-over}
 use Rattle.meeting.specs.code.Turns.{atStart, Starting, Finished, finished, finished-over}
 use Rattle.octets.specs.Octets.{Put}
 use Rattle.octets.proofs.PutLaws.{put-length}
@@ -19,7 +19,7 @@ use Rattle.meeting.proofs.PartLaws.{put-in}
 
 -- a variable is replaced: one less
 pub bound-stepped : {cells cells′ : List ℕ} {v : ℕ} {t : List ℕ} {k next : Stand} {r : Turn} → next .turns ≡ k .turns
-    → ((row goal : List ℕ) → MeetingAt row goal cells k → (0 < k .turns) × AfterAt row goal cells v t next)
+    → ((row goal : List ℕ) → MeetingAt row goal cells k → (0 < k .turns) × Turning row goal cells v t next)
     → Bound cells v t cells′ next r → Stepped cells cells′ k r
 bound-stepped e f (bound g l m) =
     stepped (record {
@@ -32,7 +32,7 @@ bound-stepped e f (bound-over o) = stepped-over (λ row goal w. let x = f row go
 
 -- the three parts stand one after the other
 pub bound-fits : {cells cells′ t : List ℕ} {v q l m : ℕ} {k : Stand} → q ≤ l → l ≤ m → m ≤ 2048 → 0 < k .turns
-    → ((row goal : List ℕ) → AfterAt row goal cells v t k
+    → ((row goal : List ℕ) → Turning row goal cells v t k
     → MeetingAt row goal cells′ (record { i = l; n = m; at = q; len = l; turns = k .turns - 1 }))
     → Bound cells v t cells′ k (turn.Fits (record { i = l; n = m; at = q; len = l; turns = k .turns - 1 }))
 bound-fits {q = q} {l} {m} {k = k} i a h p f =
@@ -40,6 +40,24 @@ bound-fits {q = q} {l} {m} {k = k} i a h p f =
     record { inside = i; apart = omega arith; started = a; held = h } in
     let t : k .turns - 1 < k .turns = omega (arith, p) in
     bound s t f
+
+-- nothing moves
+pub bound-still : {cells cells′ t : List ℕ} {v : ℕ} {k : Stand} → Sound k → 0 < k .turns
+    → ((row goal : List ℕ) → Turning row goal cells v t k → MeetingAt row goal cells′ (turned k))
+    → Bound cells v t cells′ k (turn.Fits (turned k))
+bound-still {k = k} s p f =
+    let g : Sound (turned k) = record { inside = s .inside; apart = s .apart; started = s .started; held = s .held } in
+    let t : k .turns - 1 < k .turns = omega (arith, p) in
+    bound g t f
+
+-- where they stand after a variable of the row, and of the goal
+pub row-sound : {k : Stand} {e : ℕ} → Sound k → k .i < k .n → e ≤ k .len
+    → Sound (record { i = k .i + 1; n = k .n; at = e; len = k .len; turns = k .turns })
+row-sound s m h = record { inside = h; apart = omega (arith, s .apart); started = omega (arith, m); held = s .held }
+
+pub goal-sound : {k : Stand} {e : ℕ} → Sound k → k .at < k .len → k .i ≤ e → e ≤ k .n
+    → Sound (record { i = e; n = k .n; at = k .at + 1; len = k .len; turns = k .turns })
+goal-sound s m a h = record { inside = omega (arith, m); apart = omega (arith, s .apart, a); started = h; held = s .held }
 
 -- the same cell
 abbrev onward : Stand → Stand
@@ -84,11 +102,14 @@ starting l o p q =
 
 -- the row is at its end
 pub finished-at : {cells cells′ : List ℕ} {len n : ℕ} {k : Stand} → Sound k
-    → ((row goal : List ℕ) → MeetingAt row goal cells (atStart len n) → Met row goal cells′ (k .len)) → Finished cells cells′ len n (made.Cells (k .len))
+    → ((row goal : List ℕ) → MeetingAt row goal cells (atStart len n) → Met row goal cells′ (k .len))
+    → Finished cells cells′ len n (made.Cells (k .len))
 finished-at {k = k} s f = let h : k .len ≤ 2048 = omega (arith, s .apart, s .started, s .held) in finished h f
 
 -- all steps, from where the work starts for a hit
 pub finished-ended : {row goal lent other cells cells′ : List ℕ} {len n : ℕ} {r : Made} → length cells′ ≡ 2048
     → (Hit row goal → MeetingAt row goal cells (atStart len n)) → Finished cells cells′ len n r → Ended row goal lent other cells′ r
-finished-ended {row} {goal} {cells′ = cells′} l f (finished {m} h w) = let i : m ≤ length cells′ = omega (arith, l, h) in ended i (λ x y. w row goal (f x))
+finished-ended {row} {goal} {cells′ = cells′} l f (finished {m} h w) =
+    let i : m ≤ length cells′ = omega (arith, l, h) in
+    ended i (λ x y. w row goal (f x))
 finished-ended {row} {goal} l f (finished-over o) = ended-over (λ x y. o row goal (f x))

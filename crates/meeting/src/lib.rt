@@ -6,11 +6,12 @@
 ghost use mathlib.Core.Path.{_≡_};
 ghost use mathlib.Core.Logic.{_≢_};
 ghost use mathlib.Core.Bool.{true, false};
+ghost use mathlib.Core.List.{[], _∷_};
 ghost use Prim.Native.Nat.{_-_, _<_, _≤_};
-ghost use lib.ListN.{getD, take, drop};
+ghost use lib.ListN.{length, getD, take, drop};
 ghost use Rattle.cell.specs.Cell.{isVar};
 ghost use Rattle.meeting.specs.Ended.{Ended};
-ghost use Rattle.meeting.specs.code.Turns.{Binding, Bound, Stepping, Stepped, Starting, Finished};
+ghost use Rattle.meeting.specs.code.Turns.{instead, Swapped, Sound, Binding, Bound, Stepping, Stepped, Starting, Finished};
 use octets::cells::put_cells;
 use term::End;
 
@@ -35,6 +36,45 @@ pub struct Stand {
 pub enum Turn {
     Fits(Stand),
     Big,
+}
+
+// A cell, or `c` in the place of `v`.
+fn swapped(x: u32, v: u32, c: u32) -> u32
+    ensures { λ r. ⌜ r ≡ instead v c x ⌝ }
+{
+    if x == v { c } else { x }
+}
+
+// The same in the first `n` cells.
+fn swap(cells: &mut [u32], n: usize, v: u32, c: u32)
+    requires { ⌜ n ≤ length (now cells) ⌝ }
+    ensures { λ _. ⌜ Swapped (now (cells .entry)) (now (cells .exit)) v c n ⌝ }
+{
+    let mut i = 0;
+    while i < n {
+        let x = cells[i];
+        cells[i] = swapped(x, v, c);
+        i += 1;
+    }
+}
+
+// The variable `v` replaced by a term that is the cell `c`: it is put in the variable's place, and nothing moves.
+fn bind_cell(v: u32, c: u32, cells: &mut [u32], k: Stand) -> Turn
+    requires { ⌜ (length (now cells) ≡ 2048) × Sound k ⌝ }
+    ensures { λ r. ⌜ Bound (now (cells .entry)) v (c ∷ []) (now (cells .exit)) k r ⌝ }
+{
+    if k.turns == 0 {
+        return Turn::Big;
+    }
+    let n = k.n;
+    swap(cells, n, v, c);
+    Turn::Fits(Stand {
+        i: k.i,
+        n,
+        at: k.at,
+        len: k.len,
+        turns: k.turns - 1,
+    })
 }
 
 // The variable `v` replaced by the term from `a` up to `e`, in the goal so far and in what is left of the row: put together in another list,
@@ -87,6 +127,10 @@ fn bind_row(c: u32, cells: &mut [u32], other: &mut [u32], k: Stand) -> Turn
                 len,
                 turns: k.turns,
             };
+            if e == at + 1 {
+                let d = cells[at];
+                return bind_cell(c, d, cells, next);
+            }
             bind(c, at, e, cells, other, next)
         }
         End::Short => Turn::Big,
@@ -110,6 +154,10 @@ fn bind_goal(d: u32, cells: &mut [u32], other: &mut [u32], k: Stand) -> Turn
                 len: k.len,
                 turns: k.turns,
             };
+            if e == i + 1 {
+                let c = cells[i];
+                return bind_cell(d, c, cells, next);
+            }
             bind(d, i, e, cells, other, next)
         }
         End::Short => Turn::Big,

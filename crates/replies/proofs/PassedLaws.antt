@@ -28,7 +28,8 @@ pub in-list : {n l : ℕ} → n ≤ 2048 → l ≡ 2048 → n ≤ l
 in-list h e = omega (arith, h, e)
 
 -- what a row and a goal have in common
-pub within-by : {row goal cells other cells′ : List ℕ} {r : Made} {n : ℕ} → r ≡ made.Cells n → Ended row goal cells other cells′ r → n ≤ length cells′
+pub within-by : {row goal cells other cells′ : List ℕ} {r : Made} {n : ℕ} → r ≡ made.Cells n → Ended row goal cells other cells′ r
+    → n ≤ length cells′
 within-by {row} {goal} {cells} {other} {cells′} {n = n} e x = go (subst (Ended row goal cells other cells′) e x)
   where
     go : Ended row goal cells other cells′ (made.Cells n) → n ≤ length cells′

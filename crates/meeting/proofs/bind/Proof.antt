@@ -11,7 +11,7 @@ use Rattle.octets.proofs.PutLaws.{put-length}
 use Rattle.instance.specs.Rewrite.{put}
 use Rattle.instance.specs.code.Meet.{Over}
 use Rattle.instance.proofs.MeetSteps.{goal-over, row-over, bind-there}
-use Rattle.meeting.specs.code.Turns.{AfterAt, bound-over}
+use Rattle.meeting.specs.code.Turns.{Turning, bound-over}
 use Rattle.meeting.proofs.PartLaws.{part-put, two-long, third-long, three-fit, put-three, put-held, put-back}
 use Rattle.meeting.proofs.TurnLaws.{bound-fits}
 use borrow.Author.Needs.{needs}
@@ -40,7 +40,7 @@ module _ (c : tie.After-put-with2) where
   B = there (start .args .k .at) (start .args .k .len)
 
   abbrev Replaced : (row goal : List ℕ) → Type 0
-  Replaced row goal = AfterAt row goal (start .args .cells .now) (start .args .v) T (start .args .k)
+  Replaced row goal = Turning row goal (start .args .cells .now) (start .args .v) T (start .args .k)
 
   first-put : Put (start .args .other .now) (one .put-with .last .0) 0 A (one .put-with .result)
   first-put = one .put-with .ensures
@@ -51,7 +51,7 @@ module _ (c : tie.After-put-with2) where
       (start .pre .sound .inside) (c .put-with2 .ensures)
 
   goal-large : 1024 < c .put-with2 .result → (row goal : List ℕ) → Replaced row goal → Over row goal
-  goal-large l row goal w = goal-over w (start .pre .sound .inside) (two-long (start .pre .lent .other-long) first-put second-put l)
+  goal-large l row goal w = goal-over (w .after) (start .pre .sound .inside) (two-long (start .pre .lent .other-long) first-put second-put l)
 
 -- once all three parts are
 module _ (c : tie.After-put-with3) where
@@ -72,7 +72,7 @@ module _ (c : tie.After-put-with3) where
   row-large : 1024 < c .put-with3 .result - two .put-with2 .result → (row goal : List ℕ) → Replaced two row goal → Over row goal
   row-large l row goal w =
       let p = start two .pre in
-      row-over w (p .sound .inside) (third-long (p .lent .other-long) (first-put two) (second-put two) third-put short l)
+      row-over (w .after) (p .sound .inside) (third-long (p .lent .other-long) (first-put two) (second-put two) third-put short l)
 
 -- and all of them fit
 module _ (c : tie.Else3) where
@@ -99,7 +99,9 @@ returns : tie.Need-returns
 returns c = bound-over (λ row goal h w. absurd (let z : ⊥ = omega (arith, h, c .if1 .taken) in z))
 
 slice-aggregate-put-with : tie.Need-slice-aggregate-put-with
-slice-aggregate-put-with c = let s = c .before .before .before .before .before .before .before .pre in sym (length-take-le _ _ (omega (arith, s .sound .inside, s .sound .apart, s .sound .started, s .sound .held, s .lent .long)))
+slice-aggregate-put-with c =
+    let at-start = c .before .before .before .before .before .before .before in
+    let s = at-start .pre in sym (length-take-le _ _ (omega (arith, s .sound .inside, s .sound .apart, s .sound .started, s .sound .held, s .lent .long)))
 
 mul-put-with : tie.Need-mul-put-with
 mul-put-with c = search needs
@@ -201,31 +203,39 @@ put-cells-requires : tie.Need-put-cells-requires
 put-cells-requires c κs = search needs
 
 sub-t23 : tie.Need-sub-t23
-sub-t23 c = pos-of-ne-zero (c .before .before .before .before .before .before .before .before .before .before .before .before .before .before .before .before .before .before .before .before .before .before .before .before .before .before .before .if1 .left)
+sub-t23 c =
+    let w = c .before .before .before .before .before .before in
+    let at-else1 = one (both w) .before .before .before .before .before in
+    pos-of-ne-zero (at-else1 .if1 .left)
 
 same-length-5 : tie.Need-same-length-5
 same-length-5 c = search needs
 
 same-length-6 : tie.Need-same-length-6
-same-length-6 c = let w = c .before .before .before .before .before .before in put-length (third-put (three w)) ∙ put-length (second-put (both w)) ∙ put-length (first-put (both w))
+same-length-6 c =
+    let at-else3 = c .before .before .before .before .before .before in
+    let w = at-else3 in put-length (third-put (three w)) ∙ put-length (second-put (both w)) ∙ put-length (first-put (both w))
 
 returns-4 : tie.Need-returns-4
 returns-4 c =
-    let w = c .before .before .before .before .before .before in
+    let at-put-cells = c .before .before .before in
+    let at-else3 = at-put-cells .before .before .before in
+    let at-else1 = one (both at-else3) .before .before .before .before .before in
+    let w = at-else3 in
     let t = both w in
     let p = start t .pre in
     let e = ends w in
     let s = short (three w) in
     let d = row-short w in
-    let x = c .before .before .before .put-cells in
+    let x = at-put-cells .put-cells in
     let f : length (A t) + length (B t) + length (D (three w)) ≤ length (start t .args .cells .now) =
     omega (arith, e .1, e .2, s, d, p .lent .long) in
     let back = put-back (room w) (first-put t) (second-put t) (third-put (three w)) f (x .ensures) in
     let i : one t .put-with .result ≤ t .put-with2 .result = omega (arith, e .0, e .1) in
     let a : t .put-with2 .result ≤ three w .put-with3 .result = omega (arith, e .2) in
     let h : three w .put-with3 .result ≤ 2048 = omega (arith, s, d) in
-    bound-fits i a h (pos-of-ne-zero (c .before .before .before .before .before .before .before .before .before .before .before .before .before .before .before .before .before .before .before .before .before .before .before .before .before .before .before .if1 .left))
-    (λ row goal v. bind-there v (p .sound .inside) _ _ _ _ (x .kept .0 ∙ p .lent .long) (e .0) (e .1) (e .2) s (omega (arith, d)) back)
+    bound-fits i a h (pos-of-ne-zero (at-else1 .if1 .left))
+    (λ row goal v. bind-there (v .after) (p .sound .inside) _ _ _ _ (x .kept .0 ∙ p .lent .long) (e .0) (e .1) (e .2) s (omega (arith, d)) back)
 
 pub bind-spec : {M : Type 1} → statement M
 bind-spec =

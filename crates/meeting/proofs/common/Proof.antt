@@ -23,7 +23,12 @@ put-cells-requires : tie.Need-put-cells-requires
 put-cells-requires c κs = search needs
 
 meet-requires : tie.Need-meet-requires
-meet-requires c κs = starting (c .before .before .before .before .before .before .before .before .before .before .before .if1 .left) (c .before .before .before .before .before .before .before .before .before .before .if2 .left) (c .before .before .before .before .before .before .before .before .put-apart .ensures) (c .before .before .before .before .put-cells .ensures)
+meet-requires c κs =
+    let at-put-cells = c .before .before .before .before in
+    let at-put-apart = at-put-cells .before .before .before .before in
+    let at-else2 = at-put-apart .before .before in
+    let at-else1 = at-else2 .before in
+    starting (at-else1 .if1 .left) (at-else2 .if2 .left) (at-put-apart .put-apart .ensures) (at-put-cells .put-cells .ensures)
 
 same-length : tie.Need-same-length
 same-length c = search needs
@@ -33,10 +38,14 @@ same-length-2 c = search needs
 
 returns-3 : tie.Need-returns-3
 returns-3 c =
-    let p = c .before .before .before .before .before .before .before .before .before .before .before .before .before .put-apart .ensures in
-    let q = c .before .before .before .before .before .before .before .before .before .put-cells .ensures in
-    let l = c .before .before .before .before .before .before .before .before .before .before .before .before .before .before .before .before .if1 .left in
-    finished-ended (c .before .before .before .before .meet .kept .0 ∙ put-length q ∙ put-length p ∙ l) (λ h. hit-start h _ _ _ _ _ l p q) (c .before .before .before .before .meet .ensures)
+    let at-meet = c .before .before .before .before in
+    let at-put-cells = at-meet .before .before .before .before .before in
+    let at-put-apart = at-put-cells .before .before .before .before in
+    let at-else1 = at-put-apart .before .before .before in
+    let p = at-put-apart .put-apart .ensures in
+    let q = at-put-cells .put-cells .ensures in
+    let l = at-else1 .if1 .left in
+    finished-ended (at-meet .meet .kept .0 ∙ put-length q ∙ put-length p ∙ l) (λ h. hit-start h _ _ _ _ _ l p q) (at-meet .meet .ensures)
 
 pub common-spec : {M : Type 1} → statement M
 common-spec =

@@ -45,15 +45,23 @@ enum-told : tie.Need-enum-told Inv-loop μ-loop
 enum-told c = search needs
 
 same-length : tie.Need-same-length Inv-loop μ-loop
-same-length c = c .before .before .before .before .before .before .step .kept .0 ∙ c .before .before .before .before .before .before .before .before .before .before .before .loop .inv .0
+same-length c =
+    let at-step = c .before .before .before .before .before .before in
+    let at-loop = at-step .before .before .before .before .before in
+    at-step .step .kept .0 ∙ at-loop .loop .inv .0
 
 same-length-2 : tie.Need-same-length-2 Inv-loop μ-loop
-same-length-2 c = c .before .before .before .before .before .before .step .kept .1 .0 ∙ c .before .before .before .before .before .before .before .before .before .before .before .loop .inv .1
+same-length-2 c =
+    let at-step = c .before .before .before .before .before .before in
+    let at-loop = at-step .before .before .before .before .before in
+    at-step .step .kept .1 .0 ∙ at-loop .loop .inv .1
 
 returns : tie.Need-returns Inv-loop μ-loop
 returns c =
-    let o = step-over (c .enum-told .given .1) (c .before .before .before .before .before .before .step .ensures) in
-    finished-over (λ row goal v. o row goal (c .before .before .before .before .before .before .before .before .before .before .before .loop .inv .4 row goal v))
+    let at-step = c .before .before .before .before .before .before in
+    let at-loop = at-step .before .before .before .before .before in
+    let o = step-over (c .enum-told .given .1) (at-step .step .ensures) in
+    finished-over (λ row goal v. o row goal (at-loop .loop .inv .4 row goal v))
 
 same-length-3 : tie.Need-same-length-3 Inv-loop μ-loop
 same-length-3 c = c .before .before .loop .inv .0

@@ -35,8 +35,10 @@ add-t14 c = search needs
 
 returns-2 : tie.Need-returns-2
 returns-2 c =
-    let s = c .before .before .before .before .before .before .before .pre in
-    let g : c .before .before .before .before .before .before .before .args .k .at < c .before .before .before .before .before .before .before .args .k .len = omega (arith, c .before .before .before .if1 .left) in
+    let at-else1 = c .before .before .before in
+    let at-start = at-else1 .before .before .before .before in
+    let s = at-start .pre in
+    let g : at-start .args .k .at < at-start .args .k .len = omega (arith, at-else1 .if1 .left) in
     stepped-same (s .sound) (s .more) g
     (λ row goal w. same-there w (s .more) (row-cell w (s .more) ∙ c .if2 .taken ∙ sym (goal-cell w (s .more))))
 
@@ -44,7 +46,12 @@ kind-requires : tie.Need-kind-requires
 kind-requires c κs = search needs
 
 bind-row-requires : tie.Need-bind-row-requires
-bind-row-requires c κs = (c .before .before .before .before .before .before .before .before .before .before .before .pre, refl, is-var _ (sym (c .before .before .before .kind .ensures) ∙ c .before .before .if3 .taken), c .before .before .before .before .if2 .left)
+bind-row-requires c κs =
+    let at-then3 = c .before .before in
+    let at-kind = at-then3 .before in
+    let at-else2 = at-kind .before in
+    let at-start = at-else2 .before .before .before .before .before .before .before in
+    (at-start .pre, refl, is-var _ (sym (at-kind .kind .ensures) ∙ at-then3 .if3 .taken), at-else2 .if2 .left)
 
 same-length : tie.Need-same-length
 same-length c = search needs
@@ -56,13 +63,18 @@ returns-3 : tie.Need-returns-3
 returns-3 c = search needs
 
 bind-goal-requires : tie.Need-bind-goal-requires
-bind-goal-requires c κs = (
-  c .before .before .before .before .before .before .before .before .before .before .before .pre,
-  omega (arith, c .before .before .before .before .before .before .before .if1 .left),
-  refl,
-  not-var _ (λ z. c .before .before .if3 .left (c .before .before .before .kind .ensures ∙ z)),
-  λ z. c .before .before .before .before .if2 .left (sym z),
-)
+bind-goal-requires c κs =
+    let at-else3 = c .before .before in
+    let at-kind = at-else3 .before in
+    let at-else2 = at-kind .before in
+    let at-else1 = at-else2 .before .before .before in
+    let at-start = at-else1 .before .before .before .before in (
+      at-start .pre,
+      omega (arith, at-else1 .if1 .left),
+      refl,
+      not-var _ (λ z. at-else3 .if3 .left (at-kind .kind .ensures ∙ z)),
+      λ z. at-else2 .if2 .left (sym z),
+    )
 
 same-length-3 : tie.Need-same-length-3
 same-length-3 c = search needs

@@ -1,6 +1,10 @@
 -- Where the making of one reply stands (crate instance, specs/code/Meet), by the code's own struct.
 use Prim.Native.Nat.{ℕ, _+_, _-_, _*_, _≤_, _<_}
-use mathlib.Core.List.{List}
+use mathlib.Core.Path.{_≡_}
+use mathlib.Core.Bool.{cond}
+use mathlib.Core.List.{List, _++_, map}
+use lib.Dec.{eqb}
+use lib.ListN.{take, drop}
 use Rattle.instance.specs.code.Meet.{Meeting, After, Met, Over}
 use Rattle.meeting.specs.Ended.{Lent}
 use Rattle.meeting.specs.declared.Stand.{Stand}
@@ -23,6 +27,23 @@ pub record Sound (k : Stand) : Type 0 where
   pub started : k .i ≤ k .n
   pub held : k .n ≤ 2048
 
+-- a variable's cell replaced by another, in the first n cells of a list
+abbrev pub instead : (v c x : ℕ) → ℕ
+instead v c x = cond (eqb x v) c x
+
+abbrev pub Swapped : (cells cells′ : List ℕ) (v c n : ℕ) → Type 0
+Swapped cells cells′ v c n = cells′ ≡ map (instead v c) (take n cells) ++ drop n cells
+
+-- a variable is about to be replaced in lists of at most 1,024 cells
+pub record Turning (row goal cells : List ℕ) (v : ℕ) (t : List ℕ) (k : Stand) : Type 0 where
+  pub after : AfterAt row goal cells v t k
+  pub goal-short : k .len ≤ 1024
+  pub row-short : k .n ≤ k .i + 1024
+
+-- one less may be replaced
+abbrev pub turned : Stand → Stand
+turned k = record { i = k .i; n = k .n; at = k .at; len = k .len; turns = k .turns - 1 }
+
 -- before a variable is replaced by the term from a up to e
 pub record Binding (cells other : List ℕ) (a e : ℕ) (k : Stand) : Type 0 where
   pub lent : Lent cells other
@@ -33,8 +54,8 @@ pub record Binding (cells other : List ℕ) (a e : ℕ) (k : Stand) : Type 0 whe
 -- after it
 pub data Bound (cells : List ℕ) (v : ℕ) (t cells′ : List ℕ) (k : Stand) : Turn → Type 0 where
   bound : {s : Stand} → Sound s → s .turns < k .turns
-      → ((row goal : List ℕ) → AfterAt row goal cells v t k → MeetingAt row goal cells′ s) → Bound cells v t cells′ k (turn.Fits s)
-  bound-over : ((row goal : List ℕ) → 0 < k .turns → AfterAt row goal cells v t k → Over row goal) → Bound cells v t cells′ k turn.Big
+      → ((row goal : List ℕ) → Turning row goal cells v t k → MeetingAt row goal cells′ s) → Bound cells v t cells′ k (turn.Fits s)
+  bound-over : ((row goal : List ℕ) → 0 < k .turns → Turning row goal cells v t k → Over row goal) → Bound cells v t cells′ k turn.Big
 
 -- what the loop goes down by: a variable less, or a cell less of the row
 abbrev pub toDo : Stand → ℕ

@@ -35,15 +35,21 @@ turned-away-requires-2 c κs = search needs
 
 returns : tie.Need-returns
 returns c =
+    let at-then1 = c .before in
+    let at-sum = at-then1 .before .before in
+    let at-pass = at-sum .before .before .before .before .before in
     λ plan h f.
-    let x = passed-by (c .before .before .before .sum .given .1) (c .before .before .before .before .before .before .before .before .pass .ensures (found-given f .all) (passing h f)) in
-    too-few f x (c .before .if1 .taken) (c .turned-away2 .ensures) refl
+    let x = passed-by (at-sum .sum .given .1) (at-pass .pass .ensures (found-given f .all) (passing h f)) in
+    too-few f x (at-then1 .if1 .taken) (c .turned-away2 .ensures) refl
 
 array-share-prefix-list : tie.Need-array-share-prefix-list
 array-share-prefix-list c = search needs
 
 slice-aggregate-put-cells : tie.Need-slice-aggregate-put-cells
-slice-aggregate-put-cells c = sym (length-take-le _ _ (in-list (c .before .before .if2 .taken) (c .before .before .before .before .before .before .before .before .before .before .pass .kept .1 .1 .1 .1 .1 .1 .1 .0)))
+slice-aggregate-put-cells c =
+    let at-then2 = c .before .before in
+    let at-pass = at-then2 .before .before .before .before .before .before .before .before in
+    sym (length-take-le _ _ (in-list (at-then2 .if2 .taken) (at-pass .pass .kept .1 .1 .1 .1 .1 .1 .1 .0)))
 
 put-cells-requires : tie.Need-put-cells-requires
 put-cells-requires c κs = search needs
@@ -53,9 +59,14 @@ same-length c = search needs
 
 returns-2 : tie.Need-returns-2
 returns-2 c =
+    let at-put-cells = c .before .before in
+    let at-then2 = at-put-cells .before .before .before in
+    let at-else1 = at-then2 .before in
+    let at-sum = at-else1 .before .before in
+    let at-pass = at-sum .before .before .before .before .before in
     λ plan h f.
-    let x = passed-by (c .before .before .before .before .before .before .before .before .sum .given .1) (c .before .before .before .before .before .before .before .before .before .before .before .before .before .pass .ensures (found-given f .all) (passing h f)) in
-    enough f (passed-copied x (c .before .before .before .before .before .if2 .taken) (c .before .before .put-cells .ensures)) (omega (arith, c .before .before .before .before .before .before .if1 .left)) refl
+    let x = passed-by (at-sum .sum .given .1) (at-pass .pass .ensures (found-given f .all) (passing h f)) in
+    enough f (passed-copied x (at-then2 .if2 .taken) (at-put-cells .put-cells .ensures)) (omega (arith, at-else1 .if1 .left)) refl
 
 slice-aggregate-pass-4 : tie.Need-slice-aggregate-pass-4
 slice-aggregate-pass-4 c = search needs
@@ -64,12 +75,16 @@ slice-aggregate-pass-5 : tie.Need-slice-aggregate-pass-5
 slice-aggregate-pass-5 c = search needs
 
 pass-requires-2 : tie.Need-pass-requires-2
-pass-requires-2 c κs = let k = c .before .before .before .before .before .before .before .before .before .before .before .pass .kept .1 .1 .1 .1 .1 in (k .0, k .1 .0)
+pass-requires-2 c κs =
+    let at-pass = c .before .before .before .before .before .before .before .before .before .before .before in
+    let k = at-pass .pass .kept .1 .1 .1 .1 .1 in (k .0, k .1 .0)
 
 returns-3 : tie.Need-returns-3
 returns-3 c =
+    let at-enum-told = c .before in
+    let at-pass = at-enum-told .before .before .before .before .before in
     λ plan h f.
-    let l = large-by (c .before .enum-told .given .1) (c .before .before .before .before .before .before .pass .ensures (found-given f .all) (passing h f)) in
+    let l = large-by (at-enum-told .enum-told .given .1) (at-pass .pass .ensures (found-given f .all) (passing h f)) in
     too-large f l (c .turned-away .ensures) refl
 
 same-length-2 : tie.Need-same-length-2
@@ -77,10 +92,14 @@ same-length-2 c = search needs
 
 returns-4 : tie.Need-returns-4
 returns-4 c =
+    let at-pass2 = c .before .before .before .before in
+    let at-else1 = at-pass2 .before .before .before .before .before in
+    let at-sum = at-else1 .before .before in
+    let at-pass = at-sum .before .before .before .before .before in
     λ plan h f.
-    let x = passed-by (c .before .before .before .before .before .before .before .before .before .before .before .sum .given .1) (c .before .before .before .before .before .before .before .before .before .before .before .before .before .before .before .before .pass .ensures (found-given f .all) (passing h f)) in
-    let y = passed-again x (c .before .before .before .before .pass2 .ensures (found-given f .all) (passing h f)) in
-    enough f y (omega (arith, c .before .before .before .before .before .before .before .before .before .if1 .left)) refl
+    let x = passed-by (at-sum .sum .given .1) (at-pass .pass .ensures (found-given f .all) (passing h f)) in
+    let y = passed-again x (at-pass2 .pass2 .ensures (found-given f .all) (passing h f)) in
+    enough f y (omega (arith, at-else1 .if1 .left)) refl
 
 pub put-replies-spec : {M : Type 1} → statement M
 put-replies-spec =

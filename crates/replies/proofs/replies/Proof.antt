@@ -23,7 +23,10 @@ array-share-prefix-hits : tie.Need-array-share-prefix-hits
 array-share-prefix-hits c = found-by (c .before .n .given .1) (c .before .before .before .before .run-plan .ensures) (omega arith) .1
 
 slice-aggregate-reply-all : tie.Need-slice-aggregate-reply-all
-slice-aggregate-reply-all c = sym (length-take-le _ _ (found-by (c .before .before .n .given .1) (c .before .before .before .before .before .run-plan .ensures) (omega arith) .1))
+slice-aggregate-reply-all c =
+    let at-n = c .before .before in
+    let at-run-plan = at-n .before .before .before in
+    sym (length-take-le _ _ (found-by (at-n .n .given .1) (at-run-plan .run-plan .ensures) (omega arith) .1))
 
 reply-all-requires : tie.Need-reply-all-requires
 reply-all-requires c κs = search needs
@@ -35,7 +38,11 @@ same-length : tie.Need-same-length
 same-length c = search needs
 
 returns-2 : tie.Need-returns-2
-returns-2 c = c .before .before .reply-all .ensures _ (found-by (c .before .before .before .before .before .before .n .given .1) (c .before .before .before .before .before .before .before .before .before .run-plan .ensures) (omega arith) .0)
+returns-2 c =
+    let at-reply-all = c .before .before in
+    let at-n = at-reply-all .before .before .before .before in
+    let at-run-plan = at-n .before .before .before in
+    at-reply-all .reply-all .ensures _ (found-by (at-n .n .given .1) (at-run-plan .run-plan .ensures) (omega arith) .0)
 
 pub replies-spec : {M : Type 1} → statement M
 replies-spec =

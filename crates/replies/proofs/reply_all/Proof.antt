@@ -25,15 +25,20 @@ same-length c = search needs
 
 returns : tie.Need-returns
 returns c =
+    let at-put-replies = c .before .before in
+    let at-answer = at-put-replies .before .before .before .before in
+    let at-read-table = at-answer .before .before .before in
+    let at-start = at-read-table .before .before .before .before .before in
     λ plan f.
-    let r = c .before .before .before .before .before .before .before .before .before .read-table .ensures in
-    let k = says-read (tableOf (c .before .before .before .before .before .before .before .before .before .before .before .before .before .before .args .table .now)) (ap tableTold (sym (c .before .before .before .before .before .before .answer .given .1)) ∙ r .answer) in
-    c .before .before .put-replies .ensures plan (record { is = k .0; reads = k .1; begin = r .starts; many = k .3 }) f
+    let r = at-read-table .read-table .ensures in
+    let k = says-read (tableOf (at-start .args .table .now)) (ap tableTold (sym (at-answer .answer .given .1)) ∙ r .answer) in
+    at-put-replies .put-replies .ensures plan (record { is = k .0; reads = k .1; begin = r .starts; many = k .3 }) f
 
 returns-2 : tie.Need-returns-2
 returns-2 c =
     λ plan f.
-    let e = says-turned (tableOf (c .before .before .before .before .before .before .before .before .before .args .table .now)) (ap tableTold (sym (c .before .answer2 .given .1)) ∙ c .before .before .before .before .read-table .ensures .answer) in
+    let t = tableOf (c .before .before .before .before .before .before .before .before .before .args .table .now) in
+    let e = says-turned t (ap tableTold (sym (c .before .answer2 .given .1)) ∙ c .before .before .before .before .read-table .ensures .answer) in
     apart (sym (found-table f) ∙ e)
 
 pub reply-all-spec : {M : Type 1} → statement M

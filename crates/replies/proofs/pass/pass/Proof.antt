@@ -48,7 +48,9 @@ returns : tie.Need-returns Inv-loop μ-loop
 returns c = λ all a. absurd (let z : ⊥ = omega (arith, a .few, c .if1 .taken) in z)
 
 loop-holds : tie.Need-loop-holds Inv-loop μ-loop
-loop-holds c = let p = c .before .before .before .before .before .before .before .pre in (omega arith, omega (arith, c .if1 .left), p .0, p .1, refl, omega arith, λ all a. pass-start (a .at))
+loop-holds c =
+    let at-start = c .before .before .before .before .before .before .before in
+    let p = at-start .pre in (omega arith, omega (arith, c .if1 .left), p .0, p .1, refl, omega arith, λ all a. pass-start (a .at))
 
 shared-slice-read-row-at : tie.Need-shared-slice-read-row-at Inv-loop μ-loop
 shared-slice-read-row-at c = search needs
@@ -66,22 +68,32 @@ enum-known-n : tie.Need-enum-known-n Inv-loop μ-loop
 enum-known-n c = search needs
 
 slice-reshare-prefix-put-numbered : tie.Need-slice-reshare-prefix-put-numbered Inv-loop μ-loop
-slice-reshare-prefix-put-numbered c = within-by (c .before .before .n .given .1) (c .before .before .before .before .before .before .before .before .common .ensures)
+slice-reshare-prefix-put-numbered c =
+    let at-n = c .before .before in
+    let at-common = at-n .before .before .before .before .before .before in
+    within-by (at-n .n .given .1) (at-common .common .ensures)
 
 slice-aggregate-put-numbered : tie.Need-slice-aggregate-put-numbered Inv-loop μ-loop
-slice-aggregate-put-numbered c = sym (length-take-le _ _ (within-by (c .before .before .before .n .given .1) (c .before .before .before .before .before .before .before .before .before .common .ensures)))
+slice-aggregate-put-numbered c =
+    let at-n = c .before .before .before in
+    let at-common = at-n .before .before .before .before .before .before in
+    sym (length-take-le _ _ (within-by (at-n .n .given .1) (at-common .common .ensures)))
 
 put-numbered-requires : tie.Need-put-numbered-requires Inv-loop μ-loop
 put-numbered-requires c κs = search needs
 
 add-sum : tie.Need-add-sum Inv-loop μ-loop
 add-sum c =
-    let o = c .before .before .before .before .before .before .before .before .before .before .before .before in
+    let at-n = c .before .before .before .before .before .before in
+    let at-common = at-n .before .before .before .before .before .before in
+    let o = at-common in
     let l = stood o .loop .inv in
-    omega (arith, l .0, l .1, l .5, within-by (c .before .before .before .before .before .before .n .given .1) (o .common .ensures), o .common .kept .1 .1 .0, l .2)
+    omega (arith, l .0, l .1, l .5, within-by (at-n .n .given .1) (o .common .ensures), o .common .kept .1 .1 .0, l .2)
 
 add-i : tie.Need-add-i Inv-loop μ-loop
-add-i c = let l = stood (c .before .before .before .before .before .before .before .before .before .before .before .before) .loop .inv in omega (arith, l .0, l .1)
+add-i c =
+    let at-common = c .before .before .before .before .before .before .before .before .before .before .before .before in
+    let l = stood at-common .loop .inv in omega (arith, l .0, l .1)
 
 loop-less : tie.Need-loop-less Inv-loop μ-loop
 loop-less c = search needs
@@ -109,10 +121,14 @@ enum-told : tie.Need-enum-told Inv-loop μ-loop
 enum-told c = search needs
 
 same-length : tie.Need-same-length Inv-loop μ-loop
-same-length c = let o = c .before .before .before .before .before .before in o .common .kept .1 .1 .0 ∙ stood o .loop .inv .2 ∙ sym (start o .pre .0)
+same-length c =
+    let at-common = c .before .before .before .before .before .before in
+    let o = at-common in o .common .kept .1 .1 .0 ∙ stood o .loop .inv .2 ∙ sym (start o .pre .0)
 
 same-length-2 : tie.Need-same-length-2 Inv-loop μ-loop
-same-length-2 c = let o = c .before .before .before .before .before .before in o .common .kept .1 .1 .1 .0 ∙ stood o .loop .inv .3 ∙ sym (start o .pre .1)
+same-length-2 c =
+    let at-common = c .before .before .before .before .before .before in
+    let o = at-common in o .common .kept .1 .1 .1 .0 ∙ stood o .loop .inv .3 ∙ sym (start o .pre .1)
 
 same-length-3 : tie.Need-same-length-3 Inv-loop μ-loop
 same-length-3 c = stood (c .before .before .before .before .before .before) .loop .inv .4
