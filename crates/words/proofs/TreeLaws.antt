@@ -1,16 +1,15 @@
 -- Laws of words and of the tree that finds them.
 use Prim.Native.Nat.{ℕ, suc, _+_, _-_, _*_, _/_, _%_, _^_, _≤_, _<_}
 use mathlib.Core.Path.{_≡_, refl, sym, ap, ap₂, subst, _∙_}
-use mathlib.Core.Bool.{Bool, true, false, cond}
+use mathlib.Core.Bool.{true, false}
 use mathlib.Core.List.{List, []}
 use native.Mathlib.Omega.{arith}
 use native.Mathlib.Numerals.{add-one}
 use native.Mathlib.Decide.{ℕ-discrete, decLt}
-use lib.Dec.{ltb}
-use lib.ListN.{length, getD, set, replicate, length-set, length-replicate, getD-replicate, List·getD-eq-default}
-use lib.Seq.{slice, getD-set-same, getD-set-other}
-use borrow.Author.Tests.{lt-ltb, le-ltb}
-use Rattle.words.specs.code.Tree.{bitOf, wordOf, Fits, slotOf, Route, here, down, Trail, start, step, Tree, Missing, Finds, listed, Met, new, ClearedTo, Cleared, Seeks}
+use lib.ListN.{length, getD, set, replicate, length-set, drop, length-replicate, getD-replicate, List·getD-eq-default, drop-of-length-le}
+use lib.Seq.{slice, drop-cons, getD-set-same, getD-set-other}
+use borrow.Author.Tests.{ne-eqb}
+use Rattle.words.specs.code.Tree.{mixFrom, startOf, mixOf, bitOf, MixKept, wordOf, Fits, slotOf, Route, here, down, Trail, start, step, Tree, Missing, Finds, listed, Met, new, ClearedTo, Cleared, Seeks}
 use Rattle.cell.specs.Same.{same}
 use Rattle.cell.proofs.SameLaws.{same-refl}
 use Rattle.words.specs.declared.tree.Slot.{Slot}
@@ -18,11 +17,7 @@ use Rattle.words.specs.declared.tree.Slot.the-variants.{Listed, Free}
 
 pub bit-small : (w : List ℕ) (d : ℕ) → bitOf w d ≤ 1
 unfolding bitOf
-bit-small w d = go (ltb (d / 8) (length w))
-  where
-    go : (t : Bool) → cond t (getD w (length w - 1 - d / 8) 0 / 2 ^ (d % 8) % 2) 0 ≤ 1
-    go true = omega arith
-    go false = omega arith
+bit-small w d = omega arith
 
 -- links that only gain keep every way
 module _ {links links′ w : List ℕ} (k : (s v : ℕ) → getD links s 0 ≡ suc v → getD links′ s 0 ≡ suc v) where
@@ -181,14 +176,29 @@ zero-at n s = go (decLt s n)
 pub empty-tree : (t : List ℕ) (n m : ℕ) → 2 * n < m → Tree t (replicate n 0) (replicate m 0) 0
 empty-tree t n m h = no-words t (replicate n 0) (replicate m 0) (omega (arith, length-replicate {A = ℕ} n 0, length-replicate {A = ℕ} m 0)) (zero-at m)
 
--- the bit of a byte, and past the first byte
-pub bit-at : (w : List ℕ) (d : ℕ) → d / 8 < length w → bitOf w d ≡ getD w (length w - 1 - d / 8) 0 / 2 ^ (d % 8) % 2
-unfolding bitOf
-bit-at w d l = rw (lt-ltb (d / 8) (length w) l)
+-- THE MIX: where it begins, a byte more, and the bit that it gives
+pub start-last : (turn bytes : ℕ) → turn ≡ 0 → startOf turn bytes ≡ bytes - 2
+start-last turn bytes e = ap (λ (n : ℕ). startOf n bytes) e
 
-pub bit-past : (w : List ℕ) (d : ℕ) → length w ≤ d / 8 → bitOf w d ≡ 0
+pub start-all : (turn bytes : ℕ) → (turn ≡ 0 → ⊥) → startOf turn bytes ≡ 0
+start-all turn bytes n = rw (ne-eqb turn 0 n)
+
+pub mix-more : (w : List ℕ) (i mix : ℕ) → i < length w
+    → mixFrom ((31 * mix + mix / 256 + getD w i 0) % 65536) (drop (i + 1) w) ≡ mixFrom mix (drop i w)
+unfolding mixFrom
+mix-more w i mix h =
+    ap (λ (n : ℕ). mixFrom ((31 * mix + mix / 256 + getD w i 0) % 65536) (drop n w)) (add-one i) ∙ ap (mixFrom mix) (sym (drop-cons w i 0 h))
+
+pub mix-end : (w : List ℕ) (i mix : ℕ) → length w ≤ i → mixFrom mix (drop i w) ≡ mix
+unfolding mixFrom
+mix-end w i mix h = ap (mixFrom mix) (drop-of-length-le w {i = i} h)
+
+pub bit-is : (w : List ℕ) (d mix r : ℕ) → mix ≡ mixOf w (d / 16) → r ≡ mix / 2 ^ (d % 16) % 2 → r ≡ bitOf w d
 unfolding bitOf
-bit-past w d l = rw (le-ltb (d / 8) (length w) l)
+bit-is w d mix r e q = q ∙ ap (λ (m : ℕ). m / 2 ^ (d % 16) % 2) e
+
+pub mix-kept : (w : List ℕ) (d mix : ℕ) → mix ≡ mixOf w (d / 16) → MixKept w mix (d + 1)
+mix-kept w d mix e = λ h. e ∙ ap (mixOf w) (omega arith)
 
 -- what the search answered, by its case
 pub found-listed : (t list links w : List ℕ) (count : ℕ) {j : ℕ} {r : Slot} → Finds t list links count w r → r ≡ Listed j → (j < count) × (wordOf t (getD list j 0) ≡ w)

@@ -1,10 +1,10 @@
-// Words told apart by their bytes: each is listed where it first stands, as `bytes * 2^16 + start`, and found again by a tree over the bits
-// of the words. Slot 0 leads to the first word; 1 + 2 * j + b leads on from word j for words whose next bit is b. A slot holds a word's
+// Words told apart by their bytes: each is listed where it first stands, as `bytes * 2^16 + start`, and found again by a tree over bits
+// that are mixed of the words' bytes, so that words made to be alike part soon. Slot 0 leads to the first word; 1 + 2 * j + b leads on from word j for words whose next bit is b. A slot holds a word's
 // number plus 1, or 0.
 ghost use mathlib.Core.Path.{_≡_};
-ghost use Prim.Native.Nat.{_+_, _*_, _≤_, _<_};
+ghost use Prim.Native.Nat.{_+_, _*_, _/_, _%_, _^_, _≤_, _<_};
 ghost use lib.ListN.{length};
-ghost use Rattle.words.specs.code.Tree.{bitOf, wordOf, Fits, Tree, Finds, Met, Cleared};
+ghost use Rattle.words.specs.code.Tree.{startOf, mixOf, MixKept, wordOf, Fits, Tree, Finds, Met, Cleared};
 ghost use Rattle.cell.specs.Same.{same};
 
 // A word's number where it is listed; otherwise the slot at which it would be found.
@@ -14,7 +14,7 @@ pub enum Slot {
 }
 
 fn wide(b: u8) -> usize
-    ensures { λ r. ⌜ r ≡ b ⌝ }
+    ensures { λ r. ⌜ (r ≡ b) × (r < 256) ⌝ }
 {
     b as usize
 }
@@ -25,20 +25,46 @@ pub fn number(x: u16) -> usize
     x as usize
 }
 
-// The d-th bit of a word, from its last byte backwards, the lowest bit of a byte first; 0 past its first byte. Last bytes first, since
-// names that are numbered part there.
-fn bit(word: &[u8], d: usize) -> usize
-    ensures { λ r. ⌜ (r ≡ bitOf (now (word .entry)) d) × (r ≤ 1) ⌝ }
+// Where the bytes begin that are mixed: first only the last two, since names that are numbered part there; later all.
+fn mix_start(turn: usize, bytes: usize) -> usize
+    ensures { λ r. ⌜ (r ≡ startOf turn bytes) × (r ≤ bytes) ⌝ }
 {
-    let n = word.len();
-    let k = d / 8;
-    if k < n {
-        let b = wide(word[n - 1 - k]);
-        let r = d % 8;
-        (b >> r) % 2
-    } else {
-        0
+    if 0 < turn {
+        return 0;
     }
+    if bytes < 2 {
+        return 0;
+    }
+    bytes - 2
+}
+
+// The bytes of a word mixed into 16 bits, in another way at each turn.
+fn mixed(word: &[u8], turn: usize) -> usize
+    ensures { λ r. ⌜ r ≡ mixOf (now (word .entry)) turn ⌝ }
+{
+    let mut mix = turn % 65536;
+    let mut i = mix_start(turn, word.len());
+    while i < word.len() {
+        mix = (31 * mix + mix / 256 + wide(word[i])) % 65536;
+        i += 1;
+    }
+    mix
+}
+
+// The mix for the d-th bit; each serves for sixteen.
+fn mix_at(word: &[u8], mix: usize, d: usize) -> usize
+    requires { ⌜ MixKept (now word) mix d ⌝ }
+    ensures { λ r. ⌜ r ≡ mixOf (now (word .entry)) (d / 16) ⌝ }
+{
+    if d % 16 == 0 { mixed(word, d / 16) } else { mix }
+}
+
+// The d-th bit of a word whose mix this is.
+fn bit(mix: usize, d: usize) -> usize
+    ensures { λ r. ⌜ (r ≡ mix / 2 ^ (d % 16) % 2) × (r ≤ 1) ⌝ }
+{
+    let r = d % 16;
+    (mix >> r) % 2
 }
 
 // Whether this is a word of the list.
@@ -59,6 +85,7 @@ pub fn find(text: &[u8], list: &[u32], links: &[u16], count: usize, word: &[u8])
 {
     let mut slot = 0;
     let mut d = 0;
+    let mut mix = 0;
     loop {
         let k = number(links[slot]);
         if k == 0 {
@@ -68,7 +95,8 @@ pub fn find(text: &[u8], list: &[u32], links: &[u16], count: usize, word: &[u8])
         if is_word(text, list[j], word) {
             return Slot::Listed(j);
         }
-        slot = 1 + 2 * j + bit(word, d);
+        mix = mix_at(word, mix, d);
+        slot = 1 + 2 * j + bit(mix, d);
         d += 1;
     }
 }

@@ -3,16 +3,31 @@
 use Prim.Native.Nat.{ℕ, suc, _+_, _-_, _*_, _/_, _%_, _^_, _≤_, _<_}
 use mathlib.Core.Path.{_≡_}
 use mathlib.Core.Bool.{cond}
-use mathlib.Core.List.{List, []}
-use lib.Dec.{ltb}
-use lib.ListN.{length, getD, set}
+use mathlib.Core.List.{List, [], _∷_}
+use lib.Dec.{eqb}
+use lib.ListN.{length, getD, set, drop}
 use lib.Seq.{slice}
 use Rattle.words.specs.declared.tree.Slot.{Slot}
 use Rattle.words.specs.declared.tree.Slot.the-variants.{Listed, Free}
 
--- the bits of a word, from its last byte backwards
+-- the bytes of a word mixed into 16 bits, from its last two on at turn 0, from its first on at every other
+unfoldable pub mixFrom : ℕ → List ℕ → ℕ
+mixFrom mix [] = mix
+mixFrom mix (b ∷ bs) = mixFrom ((31 * mix + mix / 256 + b) % 65536) bs
+
+abbrev pub startOf : ℕ → ℕ → ℕ
+startOf turn bytes = cond (eqb turn 0) (bytes - 2) 0
+
+abbrev pub mixOf : List ℕ → ℕ → ℕ
+mixOf w turn = mixFrom (turn % 65536) (drop (startOf turn (length w)) w)
+
+-- the bits of a word, sixteen of each mix
 unfoldable pub bitOf : List ℕ → ℕ → ℕ
-bitOf w d = cond (ltb (d / 8) (length w)) (getD w (length w - 1 - d / 8) 0 / 2 ^ (d % 8) % 2) 0
+bitOf w d = mixOf w (d / 16) / 2 ^ (d % 16) % 2
+
+-- a mix that is not used up is the word's
+abbrev pub MixKept : List ℕ → ℕ → ℕ → Type 0
+MixKept w mix d = 0 < d % 16 → mix ≡ mixOf w (d / 16)
 
 -- the word that a number of the list says: its start in bits 15..0, its bytes in bits 31..16
 abbrev pub wordOf : List ℕ → ℕ → List ℕ

@@ -3,23 +3,25 @@ use mathlib.Core.Path.{_≡_, sym, ap, subst, _∙_}
 use native.Mathlib.Omega.{arith}
 use borrow.Author.Needs.{needs}
 use lib.ListN.{getD}
-use Rattle.words.specs.code.Tree.{Seeks, Trail, start, step, Route, wordOf}
+use Rattle.words.specs.code.Tree.{MixKept, Seeks, Trail, start, step, Route, wordOf}
 use Rattle.cell.specs.Same.{same}
 use Rattle.cell.proofs.SameLaws.{same-eq}
-use Rattle.words.proofs.TreeLaws.{trail-slot, begins, goes-on, no-way, trail-later, advance}
+use Rattle.words.proofs.TreeLaws.{trail-slot, begins, goes-on, no-way, trail-later, advance, bit-is, mix-kept}
 use Rattle.words.proofs.tree.find.Statement.{statement}
 use Rattle.words.proofs.tree.find.Tie as tie
 use Rattle.words.proofs.tree.find.Reads as reads
 use Rattle.words.proofs.tree.find.Lts as lts
 use Rattle.words.proofs.tree.bit.Reads as bit-reads
+use Rattle.words.proofs.tree.mix_at.Reads as mix-at-reads
 use Rattle.words.proofs.tree.is_word.Reads as is-word-reads
 use Rattle.words.proofs.tree.number.Reads as number-reads
 
 abbrev Inv-loop : tie.InvT-loop
-Inv-loop text list links count word slot₀ d₀ slot d = (slot ≤ 2 * count) × (d ≤ (slot + 1) / 2) × Seeks text list links count word slot d
+Inv-loop text list links count word slot₀ d₀ mix₀ slot d mix =
+    (slot ≤ 2 * count) × (d ≤ (slot + 1) / 2) × Seeks text list links count word slot d × MixKept word mix d
 
 abbrev μ-loop : tie.MeasureT-loop
-μ-loop text list links count word slot₀ d₀ slot d = count - (slot + 1) / 2
+μ-loop text list links count word slot₀ d₀ mix₀ slot d mix = count - (slot + 1) / 2
 
 -- a number that is not 0, and is at most count
 lt : {k m count : ℕ} → (k ≡ 0 → ⊥) → k ≡ m → m ≤ count → k - 1 < count
@@ -32,8 +34,12 @@ loop-holds : tie.Need-loop-holds Inv-loop μ-loop
 loop-holds c =
     let st = c .before .before .before .before in
     let a = st .args in
-    let w = a .word .now in
-    (omega arith, omega arith, record { trail = start; ways = λ i h e. begins (a .text .now) (a .list .now) (a .links .now) (a .count) (st .pre) w i h e })
+    let w = a .word .now in (
+      omega arith,
+      omega arith,
+      record { trail = start; ways = λ i h e. begins (a .text .now) (a .list .now) (a .links .now) (a .count) (st .pre) w i h e },
+      λ h. absurd (omega arith),
+    )
 
 mul-number : tie.Need-mul-number Inv-loop μ-loop
 mul-number c =
@@ -113,29 +119,11 @@ returns-2 c =
       sym (same-eq w (wordOf (a .text .now) (getD (a .list .now) (k .result - 1) 0)) (sym (c .before .is-word .ensures) ∙ c .if2 .taken)),
     )
 
+mix-at-requires : tie.Need-mix-at-requires Inv-loop μ-loop
+mix-at-requires c κs = c .before .before .before .before .before .before .loop .inv .3
+
 mul-slot : tie.Need-mul-slot Inv-loop μ-loop
 mul-slot c =
-    let o = c .before .before .before .before .before .before in
-    let st = o .before .before .before .before .before in
-    let a = st .args in
-    let T = st .pre in
-    let w = a .word .now in
-    omega (arith, T .slots, T .room, T .lead (o .loop .slot), c .before .before .before .before .number .ensures)
-
-add-slot : tie.Need-add-slot Inv-loop μ-loop
-add-slot c =
-    let o = c .before .before .before .before .before .before in
-    let st = o .before .before .before .before .before in
-    let a = st .args in
-    let T = st .pre in
-    let w = a .word .now in
-    omega (arith, T .slots, T .room, T .lead (o .loop .slot), c .before .before .before .before .number .ensures)
-
-bit-requires : tie.Need-bit-requires Inv-loop μ-loop
-bit-requires c κs = search needs
-
-add-slot-2 : tie.Need-add-slot-2 Inv-loop μ-loop
-add-slot-2 c =
     let o = c .before .before .before .before .before .before .before in
     let st = o .before .before .before .before .before in
     let a = st .args in
@@ -143,9 +131,30 @@ add-slot-2 c =
     let w = a .word .now in
     omega (arith, T .slots, T .room, T .lead (o .loop .slot), c .before .before .before .before .before .number .ensures)
 
+add-slot : tie.Need-add-slot Inv-loop μ-loop
+add-slot c =
+    let o = c .before .before .before .before .before .before .before in
+    let st = o .before .before .before .before .before in
+    let a = st .args in
+    let T = st .pre in
+    let w = a .word .now in
+    omega (arith, T .slots, T .room, T .lead (o .loop .slot), c .before .before .before .before .before .number .ensures)
+
+bit-requires : tie.Need-bit-requires Inv-loop μ-loop
+bit-requires c κs = search needs
+
+add-slot-2 : tie.Need-add-slot-2 Inv-loop μ-loop
+add-slot-2 c =
+    let o = c .before .before .before .before .before .before .before .before in
+    let st = o .before .before .before .before .before in
+    let a = st .args in
+    let T = st .pre in
+    let w = a .word .now in
+    omega (arith, T .slots, T .room, T .lead (o .loop .slot), c .before .before .before .before .before .before .number .ensures)
+
 add-d : tie.Need-add-d Inv-loop μ-loop
 add-d c =
-    let o = c .before .before .before .before .before .before .before in
+    let o = c .before .before .before .before .before .before .before .before in
     let st = o .before .before .before .before .before in
     let a = st .args in
     let T = st .pre in
@@ -154,29 +163,30 @@ add-d c =
 
 loop-less : tie.Need-loop-less Inv-loop μ-loop
 loop-less c =
-    let o = c .before .before .before .before .before .before .before in
+    let o = c .before .before .before .before .before .before .before .before in
     let st = o .before .before .before .before .before in
     let a = st .args in
     let T = st .pre in
     let w = a .word .now in
-    let k = c .before .before .before .before .before .number in
-    let z = nonzero (c .before .before .before .before .if1 .left) (k .ensures) in
+    let k = c .before .before .before .before .before .before .number in
+    let z = nonzero (c .before .before .before .before .before .if1 .left) (k .ensures) in
     omega (arith, trail-later (a .text .now) (a .list .now) (a .links .now) (a .count) T (k .result - 1) (o .loop .inv .2 .trail) z, T .lead (o .loop .slot), z, c .bit .ensures .1)
 
 loop-again : tie.Need-loop-again Inv-loop μ-loop
 loop-again c =
-    let o = c .before .before .before .before .before .before .before in
+    let o = c .before .before .before .before .before .before .before .before in
     let st = o .before .before .before .before .before in
     let a = st .args in
     let T = st .pre in
     let w = a .word .now in
-    let k = c .before .before .before .before .before .number in
-    let z = nonzero (c .before .before .before .before .if1 .left) (k .ensures) in
+    let k = c .before .before .before .before .before .before .number in
+    let z = nonzero (c .before .before .before .before .before .if1 .left) (k .ensures) in
     let l = trail-later (a .text .now) (a .list .now) (a .links .now) (a .count) T (k .result - 1) (o .loop .inv .2 .trail) z in (
       omega (arith, T .lead (o .loop .slot), z, c .bit .ensures .1),
       omega (arith, l, z, c .bit .ensures .1),
-      advance (a .text .now) (a .list .now) (a .links .now) (a .count) T (k .result) (c .bit .result) (o .loop .inv .2) (k .ensures) (c .before .before .before .before .if1 .left)
-          (sym (c .before .before .is-word .ensures) ∙ c .before .if2 .left) (c .bit .ensures .0),
+      advance (a .text .now) (a .list .now) (a .links .now) (a .count) T (k .result) (c .bit .result) (o .loop .inv .2) (k .ensures) (c .before .before .before .before .before .if1 .left)
+          (sym (c .before .before .before .is-word .ensures) ∙ c .before .before .if2 .left) (bit-is w (o .loop .d) (c .before .mix-at .result) (c .bit .result) (c .before .mix-at .ensures) (c .bit .ensures .0)),
+      mix-kept w (o .loop .d) (c .before .mix-at .result) (c .before .mix-at .ensures),
     )
 
 pub find-spec : {M : Type 1} → statement M
@@ -195,6 +205,7 @@ find-spec =
     shared-slice-read-is-word
     is-word-requires
     returns-2
+    mix-at-requires
     mul-slot
     add-slot
     bit-requires
