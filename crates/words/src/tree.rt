@@ -1,6 +1,6 @@
 // Words told apart by their bytes: each is listed where it first stands, as `bytes * 2^16 + start`, and found again by a tree over bits
-// that are mixed of the words' bytes, so that words made to be alike part soon. Slot 0 leads to the first word; 1 + 2 * j + b leads on from word j for words whose next bit is b. A slot holds a word's
-// number plus 1, or 0.
+// that are mixed of the words' bytes, so that words made to be alike part soon. Slot 0 leads to the first word; 1 + 2 * j + b leads on from
+// word j for words whose next bit is b. A slot holds a word's number plus 1, or 0.
 ghost use mathlib.Core.Path.{_≡_};
 ghost use Prim.Native.Nat.{_+_, _*_, _/_, _%_, _^_, _≤_, _<_};
 ghost use lib.ListN.{length};
@@ -56,7 +56,11 @@ fn mix_at(word: &[u8], mix: usize, d: usize) -> usize
     requires { ⌜ MixKept (now word) mix d ⌝ }
     ensures { λ r. ⌜ r ≡ mixOf (now (word .entry)) (d / 16) ⌝ }
 {
-    if d % 16 == 0 { mixed(word, d / 16) } else { mix }
+    if d % 16 == 0 {
+        mixed(word, d / 16)
+    } else {
+        mix
+    }
 }
 
 // The d-th bit of a word whose mix this is.

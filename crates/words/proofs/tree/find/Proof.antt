@@ -185,7 +185,8 @@ loop-again c =
       omega (arith, T .lead (o .loop .slot), z, c .bit .ensures .1),
       omega (arith, l, z, c .bit .ensures .1),
       advance (a .text .now) (a .list .now) (a .links .now) (a .count) T (k .result) (c .bit .result) (o .loop .inv .2) (k .ensures) (c .before .before .before .before .before .if1 .left)
-          (sym (c .before .before .before .is-word .ensures) ∙ c .before .before .if2 .left) (bit-is w (o .loop .d) (c .before .mix-at .result) (c .bit .result) (c .before .mix-at .ensures) (c .bit .ensures .0)),
+          (sym (c .before .before .before .is-word .ensures) ∙ c .before .before .if2 .left)
+          (bit-is w (o .loop .d) (c .before .mix-at .result) (c .bit .result) (c .before .mix-at .ensures) (c .bit .ensures .0)),
       mix-kept w (o .loop .d) (c .before .mix-at .result) (c .before .mix-at .ensures),
     )
 
