@@ -1,5 +1,5 @@
 -- One turn of the scan, law by law.
-use Prim.Native.Nat.{ℕ, zero, suc, _+_, _-_, _≤_, _<_}
+use Prim.Native.Nat.{ℕ, zero, suc, _+_, _-_, _*_, _≤_, _<_}
 use mathlib.Core.Path.{_≡_, refl, sym, ap, ap₂, subst, _∙_}
 use mathlib.Core.Bool.{Bool, true, false}
 use mathlib.Core.List.{List, [], _∷_, _++_}
@@ -245,7 +245,7 @@ module _ (t dones : List ℕ) (sp : Spot) (R : Ready t dones sp) {r : Turn} (T :
         })
 
 -- the start
-pub none-yet : (t dones : List ℕ) (at : ℕ) {v : Spot} → v ≡ spot at false 0 0 0 → at ≤ length t → length t ≤ 65535 → 8192 ≤ length dones
+pub none-yet : (t dones : List ℕ) (at : ℕ) {v : Spot} → v ≡ spot at false 0 0 0 → at ≤ length t → length t ≤ 65535 → length t < 8 * length dones
     → Ready t dones v × Under (argumentsAt t at) t dones v
 unfolding levelsOf
 none-yet t dones at q h k l =

@@ -5,7 +5,7 @@ mod facts;
 mod levels;
 
 ghost use mathlib.Core.Path.{_≡_};
-ghost use Prim.Native.Nat.{_≤_};
+ghost use Prim.Native.Nat.{_*_, _≤_, _<_};
 ghost use lib.ListN.{length};
 ghost use Rattle.refusal.specs.declared.Reason.{Reason};
 ghost use Rattle.refusal.specs.declared.Input.the-variants as input;
@@ -59,7 +59,7 @@ fn verdict(tally: Tally) -> Scan
 
 // All facts, one after another. `dones` is room for a number for each open name.
 fn read_facts(text: &[u8], dones: &mut [u8]) -> Scan
-    requires { ⌜ (length (now text) ≤ 65535) × (8192 ≤ length (now dones)) ⌝ }
+    requires { ⌜ (length (now text) ≤ 65535) × (length (now text) < 8 * length (now dones)) ⌝ }
     ensures { λ r. ⌜ ScanIs (now (text .entry)) r ⌝ }
 {
     let mut at = 0;
@@ -87,6 +87,11 @@ pub fn scan_text(text: &[u8]) -> Scan
 {
     if 65535 < text.len() {
         return turned(Reason::Bytes, 0);
+    }
+    if text.len() < 4096 {
+        // a smaller room is sooner cleared
+        let mut few = [0u8; 512];
+        return read_facts(text, &mut few);
     }
     let mut dones = [0u8; 8192];
     read_facts(text, &mut dones)

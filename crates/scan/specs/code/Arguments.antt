@@ -24,7 +24,7 @@ doneIn fs = map (λ (f : Frame). f .done) fs
 -- the numbers: nothing is out of range
 pub record Ready (t dones : List ℕ) (sp : Spot) : Type 0 where
   pub text : length t ≤ 65535
-  pub room : 8192 ≤ length dones
+  pub room : length t < 8 * length dones
   pub place : sp .at ≤ length t
   pub deep : 2 * sp .depth ≤ sp .at
   pub few : sp .symbols ≤ sp .at
