@@ -2,17 +2,19 @@
 use Prim.Native.Nat.{ℕ, suc, _+_, _-_, _≤_, _<_}
 use mathlib.Core.Path.{_≡_, refl, sym, ap, ap₂, subst, _∙_}
 use mathlib.Core.Bool.{Bool, true, false, cond, _&&_}
-use mathlib.Core.List.{List, [], _∷_, _++_, map}
+use mathlib.Core.List.{List, [], _∷_, _++_, map, append-assoc}
 use native.Mathlib.Omega.{arith}
 use native.Mathlib.Numerals.{add-one}
 use native.Mathlib.Decide.{ℕ-discrete}
 use lib.Dec.{eqb, ltb}
-use lib.ListN.{length, getD, set, drop, length-append, length-set, length-map}
+use lib.ListN.{length, getD, set, take, drop, length-append, length-set, length-drop, length-map, take-append-drop}
 use lib.Seq.{slice, sets, slice-cons, slice-empty, length-slice, sets-eq, drop-cons, append-snoc, set-append-seam, getD-set-same, getD-set-other}
+use lib.Seq.{drop-append-le, length-take-le}
 use Rattle.cell.specs.Same.{same}
 use Rattle.grammar.specs.Meaning.{Place, place, bytesOf, position, meet, namesOf, variableNumber, variablesWith, entryOf, nameList}
 use Rattle.cell.proofs.SameLaws.{same-no}
 use Rattle.grammar.proofs.NumberLaws.{position-kept, position-added, fresh-number, named-number, with-new, with-old}
+use Rattle.loading.specs.Load.{front}
 use Rattle.loading.specs.Items.{Item, of-name, of-variable, of-number, next-row, itemsOf, symbolsAmong, namesMet, numbering}
 use Rattle.loading.proofs.ItemLaws.{names-items, among-items, numbering-long, none-numbered, none-named}
 use Rattle.symbols.specs.code.Left.{Left, Meets, AheadLeft, StartLeft}
@@ -335,10 +337,10 @@ module _ (t : List ℕ) (from : Spot) (list links words ways given : List ℕ) (
   numbered-full l = numbered (λ rest L h. omega arith)
 
 -- THE WHOLE TEXT
-pub numbers-text : (t : List ℕ) (from : Spot) (list list₀ out out₀ : List ℕ) (r : ℕ) → StartLeft t from → NumbersFrom t from list list₀ out out₀ r
-    → NumbersIs t list list₀ out out₀ r
+pub numbers-text : (most : ℕ) (t : List ℕ) (from : Spot) (list list₀ out out₀ : List ℕ) (r : ℕ) → most ≤ length out₀ → StartLeft t from
+    → NumbersFrom t from list list₀ out out₀ r → NumbersIs most t list list₀ out out₀ r
 unfolding nameList
-numbers-text t from list list₀ out out₀ r b N = λ facts e few. (
+numbers-text most t from list list₀ out out₀ r room b N = λ facts e few. (
     let O = N (itemsOf facts) (omega (arith, among-items facts)) (b .left facts e) in
     let q = O .met ∙ names-items t [] facts in
     let n : r ≡ length (map entryOf (namesOf t facts)) = sym (O .count) ∙ ap length q ∙ sym (length-map (namesOf t facts) entryOf) in
@@ -348,4 +350,29 @@ numbers-text t from list list₀ out out₀ r b N = λ facts e few. (
       count = n;
       names = O .entries ∙ ap₂ (λ (ns : List Place) (i : ℕ). map entryOf ns ++ drop i list₀) q n;
       numbers = O .numbers ∙ sets-eq (numbersOf t facts) out₀ 0 k ∙ ap (λ (i : ℕ). numbersOf t facts ++ drop i out₀) z;
+    })
+
+-- BY PARTS: the front of a part is the front of the whole
+front-part : (xs room : List ℕ) (n : ℕ) → length xs ≤ n → n ≤ length room → front xs (take n room) ++ drop n room ≡ front xs room
+front-part xs room n h l =
+    append-assoc xs (drop (length xs) (take n room)) (drop n room)
+    ∙ ap (λ (ys : List ℕ). xs ++ ys)
+    (sym (drop-append-le (length xs) (take n room) (drop n room) (omega (arith, length-take-le n room l))) ∙ ap (drop (length xs)) (take-append-drop n room))
+
+pub numbers-part : (most n : ℕ) (t list list₀ out out₀ : List ℕ) (r : ℕ) → most ≤ n → n ≤ length list₀ → n ≤ length out₀ → length list ≡ n
+    → NumbersIs most t list (take n list₀) out (take n out₀) r → NumbersIs most t (list ++ drop n list₀) list₀ (out ++ drop n out₀) out₀ r
+numbers-part most n t list list₀ out out₀ r h l k q N = λ facts e few. (
+    let T = N facts e few in
+    let a = numbering-long t [] [] (itemsOf facts) in
+    let b = among-items facts in
+    let ns = nameList t facts in
+    let part = take n list₀ in
+    let c : length ns ≤ n =
+    omega (arith, q, ap length (T .names), length-append ns (drop (length ns) part), length-drop (length ns) part, length-take-le n list₀ l) in
+    record {
+      count = T .count;
+      names =
+          ap (λ (xs : List ℕ). xs ++ drop n list₀) (T .names)
+          ∙ front-part ns list₀ n c l;
+      numbers = ap (λ (xs : List ℕ). xs ++ drop n out₀) (T .numbers) ∙ front-part (numbersOf t facts) out₀ n (omega (arith, a, b, few, h)) k;
     })

@@ -25,9 +25,9 @@ module _ (t : List ℕ) (room : ℕ) (list numbers : List ℕ) {c : Counted} (C 
       subst (λ (i : ℕ). NamesAre t (C .facts) room list numbers list numbers (names-read.Counted i)) (sym e)
       (many (omega (arith, C .symbols)) (omega (arith, C .symbols)))
 
-  pub names-listed : {list′ numbers′ : List ℕ} {r : ℕ} → c .symbols + 2 ≤ room → c .symbols ≤ 2048 → length numbers ≡ 2048
-      → NumbersIs t list′ list numbers′ numbers r
+  pub names-listed : {list′ numbers′ : List ℕ} {r : ℕ} (most : ℕ) → most ≤ 2048 → c .symbols + 2 ≤ room → c .symbols ≤ most
+      → NumbersIs most t list′ list numbers′ numbers r
       → NamesAre t (C .facts) room list numbers list′ numbers′ (names-read.Listed r)
-  names-listed h k l n =
+  names-listed most l h k n =
       let N = n (C .facts) (counts-read C .1) (omega (arith, C .symbols)) in
       rw (N .count, N .names, N .numbers) (few (omega (arith, C .symbols)) (omega (arith, C .symbols)))

@@ -41,6 +41,9 @@ fn read_names(
     if 2048 < symbols {
         return NamesRead::Counted(names::count_names(text));
     }
+    if symbols <= 512 {
+        return NamesRead::Listed(numbers::number_few(text, list, numbers));
+    }
     NamesRead::Listed(numbers::number_symbols(text, list, numbers))
 }
 

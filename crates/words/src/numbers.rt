@@ -134,7 +134,7 @@ fn number_all(
 // The numbers of an accepted text's symbols, where there is room for them, and the list of its names; how many names there are.
 pub fn number_symbols(text: &[u8], list: &mut [u32], numbers: &mut [u16]) -> usize
     requires { ⌜ (length (now text) ≤ 65535) × (length (now list) ≡ 2048) × (length (now numbers) ≡ 2048) ⌝ }
-    ensures { λ r. ⌜ NumbersIs (now (text .entry)) (now (list .exit)) (now (list .entry)) (now (numbers .exit)) (now (numbers .entry)) r ⌝ }
+    ensures { λ r. ⌜ NumbersIs 2048 (now (text .entry)) (now (list .exit)) (now (list .entry)) (now (numbers .exit)) (now (numbers .entry)) r ⌝ }
 {
     let mut links = [0u16; 4097];
     let mut words = [0u32; 2048];
@@ -150,5 +150,27 @@ pub fn number_symbols(text: &[u8], list: &mut [u32], numbers: &mut [u16]) -> usi
         &mut ways,
         &mut given,
         numbers,
+    )
+}
+
+// The same for at most 512 symbols: most tables have no more, and smaller rooms are sooner cleared.
+pub fn number_few(text: &[u8], list: &mut [u32], numbers: &mut [u16]) -> usize
+    requires { ⌜ (length (now text) ≤ 65535) × (length (now list) ≡ 2048) × (length (now numbers) ≡ 2048) ⌝ }
+    ensures { λ r. ⌜ NumbersIs 512 (now (text .entry)) (now (list .exit)) (now (list .entry)) (now (numbers .exit)) (now (numbers .entry)) r ⌝ }
+{
+    let mut links = [0u16; 1025];
+    let mut words = [0u32; 512];
+    let mut ways = [0u16; 1025];
+    let mut given = [0u16; 512];
+    let from = symbols::begin(text);
+    number_all(
+        text,
+        from,
+        &mut list[..512],
+        &mut links,
+        &mut words,
+        &mut ways,
+        &mut given,
+        &mut numbers[..512],
     )
 }

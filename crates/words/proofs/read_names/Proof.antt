@@ -7,6 +7,7 @@ use Rattle.words.proofs.read_names.Tie as tie
 use Rattle.words.proofs.read_names.Reads as reads
 use Rattle.words.proofs.read_names.Lts as lts
 use Rattle.words.proofs.names.count_names.Reads as count-names-reads
+use Rattle.words.proofs.numbers.number_few.Reads as number-few-reads
 use Rattle.words.proofs.numbers.number_symbols.Reads as number-symbols-reads
 
 add-if1 : tie.Need-add-if1
@@ -26,17 +27,35 @@ returns-2 c = λ C.
     names-counted (a .text .now) (a .room) (a .list .now) (a .numbers .now) C (c .before .before .if1 .left) (c .before .if2 .taken)
     (c .count-names .ensures)
 
-number-symbols-requires : tie.Need-number-symbols-requires
-number-symbols-requires c κs = (counts-read (c .before .before .before .before .before .pre) .0, search needs, search needs)
+number-few-requires : tie.Need-number-few-requires
+number-few-requires c κs = (counts-read (c .before .before .before .before .before .before .pre) .0, search needs, search needs)
 
 returns-3 : tie.Need-returns-3
 returns-3 c = λ C.
     let e = c .before .before .before in
-    let a = e .before .before .before .args in
-    names-listed (a .text .now) (a .room) (a .list .now) (a .numbers .now) C (e .before .if1 .left) (e .if2 .left) (search needs)
+    let a = e .before .before .before .before .args in
+    names-listed (a .text .now) (a .room) (a .list .now) (a .numbers .now) C 512 (omega arith) (e .before .before .if1 .left) (e .if3 .taken)
+    (c .number-few .ensures)
+
+number-symbols-requires : tie.Need-number-symbols-requires
+number-symbols-requires c κs = (counts-read (c .before .before .before .before .before .before .pre) .0, search needs, search needs)
+
+returns-4 : tie.Need-returns-4
+returns-4 c = λ C.
+    let e = c .before .before .before in
+    let a = e .before .before .before .before .args in
+    names-listed (a .text .now) (a .room) (a .list .now) (a .numbers .now) C 2048 (omega arith) (e .before .before .if1 .left) (e .before .if2 .left)
     (c .number-symbols .ensures)
 
 pub read-names-spec : {M : Type 1} → statement M
 read-names-spec =
     tie.close
-    (tie.spec add-if1 returns count-names-requires returns-2 number-symbols-requires returns-3)
+    (tie.spec
+    add-if1
+    returns
+    count-names-requires
+    returns-2
+    number-few-requires
+    returns-3
+    number-symbols-requires
+    returns-4)

@@ -81,12 +81,12 @@ abbrev pub NumbersFrom : (t : List ℕ) (from : Spot) (list list₀ out out₀ :
 NumbersFrom t from list list₀ out out₀ r =
     (rest : List Item) → symbolsAmong rest ≤ length out₀ → Left t from rest → NumbersOf t rest list list₀ out out₀ r
 
--- so are all the symbols of an accepted text
+-- so are all the symbols of an accepted text, where there are at most so many
 pub record TextNumbers (t : List ℕ) (facts : List Fact) (list list₀ out out₀ : List ℕ) (r : ℕ) : Type 0 where
   pub count : r ≡ length (nameList t facts)
   pub names : list ≡ front (nameList t facts) list₀
   pub numbers : out ≡ front (numbersOf t facts) out₀
 
-abbrev pub NumbersIs : (t list list₀ out out₀ : List ℕ) (r : ℕ) → Type 0
-NumbersIs t list list₀ out out₀ r =
-    (facts : List Fact) → textOf t ≡ reads facts → length (symbolsOf facts) ≤ length out₀ → TextNumbers t facts list list₀ out out₀ r
+abbrev pub NumbersIs : (most : ℕ) (t list list₀ out out₀ : List ℕ) (r : ℕ) → Type 0
+NumbersIs most t list list₀ out out₀ r =
+    (facts : List Fact) → textOf t ≡ reads facts → length (symbolsOf facts) ≤ most → TextNumbers t facts list list₀ out out₀ r

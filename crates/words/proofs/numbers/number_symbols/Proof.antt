@@ -50,7 +50,7 @@ returns : tie.Need-returns
 returns c =
     let a = c .before .before .before .before .before .before .before .before .before .before .before .before .before .before .before .before .before .before .before .args in
     let n = c .before .before .before .before .before .before .before .before .number-all in
-    numbers-text (a .text .now) _ (n .last .1 .1 .0) (a .list .now) (n .last .1 .1 .1 .1 .1 .1 .1 .0) (a .numbers .now) (n .result)
+    numbers-text 2048 (a .text .now) _ (n .last .1 .1 .0) (a .list .now) (n .last .1 .1 .1 .1 .1 .1 .1 .0) (a .numbers .now) (n .result) (omega arith)
     (start-reads (c .before .before .before .before .before .before .before .before .before .before .before .before .before .before .before .begin .ensures)) (n .ensures)
 
 pub number-symbols-spec : {M : Type 1} → statement M
