@@ -11,8 +11,8 @@
  * Every function takes any cells at all, and ends; nobody has to check first. It answers one number, which the inline functions below take
  * apart. Either it answered, and there are two values, or the input is refused: then there is the refusal's number, the input that it
  * concerns and a place in it, and nothing was written to the lent room, the record or the report; of dudowiej_build_plan and of the edits
- * this is said for a record that an entry made. The one exception is a goal of a list (dudowiej_run_jobs): where the goal is refused, its
- * job says so.
+ * this is said for a record that an entry made. The one exception is a goal of a list (dudowiej_run_jobs, dudowiej_reply_jobs): where the
+ * goal is refused, its job says so.
  *
  * A table is worked out once, into a record (dudowiej_work_out). All other calls take the record in place of the table: the plan is built
  * from it, goals are read and run with it, and a row of it is appended, dropped or replaced without starting over.
@@ -36,8 +36,9 @@ extern "C" {
 #endif
 
 /* The version of what this header declares. The first number is 0 while requests are open. The second counts the base and the requests that
- * have landed on it, W-201 to W-213 and dudowiej_build_liked. The third counts changes of this header since the last of them. */
-#define DUDOWIEJ_VERSION "0.15.0"
+ * have landed on it, W-201 to W-213, dudowiej_build_liked and dudowiej_reply_jobs. The third counts changes of this header since the last of
+ * them. */
+#define DUDOWIEJ_VERSION "0.16.0"
 
 /* What no table, row, goal, plan, text, reply, program or file exceeds. */
 enum {
@@ -268,6 +269,30 @@ uint64_t dudowiej_build_liked(const dudowiej_record *record, const uint32_t *goa
  * Where anything is refused nothing is written. Room for DUDOWIEJ_REPLY_CELLS cells for each row of the table is always enough. */
 uint64_t dudowiej_replies(const dudowiej_record *record, const uint32_t *plan, size_t plan_cells, const uint32_t *goal, size_t goal_cells,
                           uint32_t *room, size_t room_cells);
+
+/* One goal of a list whose replies are wanted too. Before the call start and count say where its cells lie among the lent cells; they stay.
+ * After the call number and place hold the goal's refusal, or 0 and 0; at is where its replies begin in the room, also where there are none,
+ * replies how many they are, cells how many cells they have together; hits and tried are as in struct dudowiej_job. A refused goal has 0 in
+ * the last five. What the last seven held before is never read. */
+struct dudowiej_reply_job {
+    size_t start, count, number, place, at, replies, cells;
+    uint64_t hits;
+    size_t tried;
+};
+
+#ifndef __cplusplus
+_Static_assert(sizeof(struct dudowiej_reply_job) == 72, "nine words of 64 bits");
+_Static_assert(offsetof(struct dudowiej_reply_job, at) == 32 && offsetof(struct dudowiej_reply_job, hits) == 56, "with no gaps");
+#endif
+
+/* The replies to every goal of a list, in one room. Each goal is answered as dudowiej_replies would by itself with what the goals before it have
+ * left of the room, and its hits and tried are those of dudowiej_run_jobs. The replies of all goals follow one another in the order of the jobs,
+ * from the room's first cell; the rest of the room is untouched. Table and plan are checked once; where one is refused, neither a job nor the
+ * room is written. A goal is refused in its own job, and writes nothing to the room: LENGTH at 0 where its start or count reaches past the lent
+ * cells; what its cells are refused with; BIG; ROOM where its replies do not fit what is left, the place being the cells that they need. The
+ * goals after it are answered all the same. Goals may share cells. First: the plan's branches. Second: 0. */
+uint64_t dudowiej_reply_jobs(const dudowiej_record *record, const uint32_t *plan, size_t plan_cells, const uint32_t *cells,
+                             size_t cells_count, struct dudowiej_reply_job *jobs, size_t jobs_count, uint32_t *room, size_t room_cells);
 
 /* Writes a plan as a Prolog program to the front of the room; the rest of it is untouched. A clause stands on a line of its own, with a
  * line feed at its end. There is a predicate for the first state and for each with several branches, 'P0', 'P1' and so on in the plan's

@@ -17,6 +17,7 @@ pub mod notation;
 pub mod prolog;
 pub mod random;
 pub mod replies;
+pub mod reply_shift;
 pub mod salvage;
 pub mod shift;
 pub mod stack;

@@ -7,7 +7,7 @@ use std::process::ExitCode;
 use dudowiej_bench::compare::{self, listings, ROUNDS, SEED};
 use dudowiej_bench::engine::Exported;
 use dudowiej_bench::model::listing::listing;
-use dudowiej_bench::{clauses, columns, count, edits, files, liked, prolog, salvage, shift, stack, time};
+use dudowiej_bench::{clauses, columns, count, edits, files, liked, prolog, reply_shift, salvage, shift, stack, time};
 
 const USAGE: &str = "usage:
   compare [ROUNDS [SEED]]   the exported functions against the independent implementation
@@ -19,6 +19,7 @@ const USAGE: &str = "usage:
   texts FOLDER COUNT SEED   accepted texts with their facts, and kinds of refused ones, as files
   programs FOLDER COUNT SEED   plans handed back as Prolog with goals and replies, as files
   count-shift, instructions-shift FOLDER   the same for a list of goals
+  count-reply-shift, instructions-reply-shift FOLDER   the same for the replies to a list of goals
   count-replies, instructions-replies FOLDER   the same for replies alone
   count-repeats, instructions-repeats FOLDER   the same for rows that repeat a variable
   count-edits, instructions-edits FOLDER   the same for a record's edits
@@ -61,6 +62,8 @@ fn main() -> ExitCode {
         },
         ["count-shift"] => done(shift::count::count),
         ["instructions-shift", folder] => done(|| shift::count::instructions(Path::new(folder))),
+        ["count-reply-shift"] => done(reply_shift::count::count),
+        ["instructions-reply-shift", folder] => done(|| reply_shift::count::instructions(Path::new(folder))),
         ["count-replies"] => done(count::count_replies),
         ["instructions-replies", folder] => done(|| {
             count::reply_instructions(Path::new(folder), 0);
@@ -108,6 +111,8 @@ fn compared(rounds: usize, seed: u64) -> ExitCode {
     let listings_differ = compared_listings(rounds / 20, seed);
     let lists = shift::compare::compare(&Exported, rounds / 4, seed);
     println!("{lists}");
+    let replied = reply_shift::compare::compare(&Exported, rounds / 4, seed);
+    println!("{replied}");
     let more = dudowiej_bench::knowing::compare(&Exported, rounds / 4, seed);
     println!("{more}");
     let tally = compare::compare(&Exported, rounds, seed);
@@ -120,7 +125,7 @@ fn compared(rounds: usize, seed: u64) -> ExitCode {
     let tally = compare::files(&Exported, tally, rounds, seed);
     let tally = compare::salvages(&Exported, tally, rounds, seed);
     println!("{tally}");
-    if tally.passed() && lists.passed() && more.passed() && listings_differ == 0 {
+    if tally.passed() && lists.passed() && replied.passed() && more.passed() && listings_differ == 0 {
         ExitCode::SUCCESS
     } else {
         ExitCode::FAILURE

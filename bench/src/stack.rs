@@ -21,6 +21,7 @@ use crate::model::read::{read_table, Table, ROW_CELLS, TABLE_CELLS};
 use crate::model::record::{drop_last, put_table, Record, MOST_FIGURE};
 use crate::model::salvage::Report;
 use crate::random::Random;
+use crate::reply_shift::{ReplyJob, ReplyShift};
 use crate::shift::{Job, Shift};
 use crate::texts::{measured_texts, ROOM};
 use touched::touched;
@@ -134,6 +135,8 @@ impl Most {
             for cells in [ROWS * 1024, 0] {
                 let mut room = vec![0; cells];
                 self.note("dudowiej_replies", || Exported.replies(record, plan, goal, &mut room));
+                let mut jobs = [ReplyJob { count: goal.len(), ..ReplyJob::default() }];
+                self.note("dudowiej_reply_jobs", || Exported.reply_jobs(record, plan, goal, &mut jobs, &mut room));
             }
             let mut jobs = [Job { count: goal.len(), ..Job::default() }];
             self.note("dudowiej_run_jobs", || Exported.run_jobs(record, plan, goal, &mut jobs));

@@ -2,7 +2,7 @@
 //! here.
 
 use crate::refusal::{apart, Refusal};
-use crate::sys::{self, Job, Liked, Record, Report};
+use crate::sys::{self, Job, Liked, Record, ReplyJob, Report};
 
 /// The two values of an answer, or a refusal.
 pub(crate) type Answer = Result<(usize, usize), Refusal>;
@@ -72,6 +72,13 @@ pub(crate) fn run_jobs(record: &Record, plan: &[u32], cells: &[u32], jobs: &mut 
 pub(crate) fn replies(record: &Record, plan: &[u32], goal: &[u32], room: &mut [u32]) -> Answer {
     let ((plan, plan_cells), (goal, goal_cells)) = ((plan.as_ptr(), plan.len()), (goal.as_ptr(), goal.len()));
     apart(unsafe { sys::dudowiej_replies(record, plan, plan_cells, goal, goal_cells, room.as_mut_ptr(), room.len()) })
+}
+
+pub(crate) fn reply_jobs(record: &Record, plan: &[u32], cells: &[u32], jobs: &mut [ReplyJob], room: &mut [u32]) -> Answer {
+    let ((plan, plan_cells), (cells, count), many) = ((plan.as_ptr(), plan.len()), (cells.as_ptr(), cells.len()), jobs.len());
+    apart(unsafe {
+        sys::dudowiej_reply_jobs(record, plan, plan_cells, cells, count, jobs.as_mut_ptr(), many, room.as_mut_ptr(), room.len())
+    })
 }
 
 pub(crate) fn read_text(text: &[u8], cells: &mut [u32], names: &mut [u32]) -> Answer {

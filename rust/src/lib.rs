@@ -58,7 +58,7 @@ pub use plan::{Built, Liked, Plan, Tried, Written};
 pub use program::Program;
 pub use record::{read_table, Record, Shape};
 pub use refusal::{Input, Reason, Refusal};
-pub use replies::Replies;
+pub use replies::{Placed, Replied, Replies};
 pub use run::Hits;
 pub use terms::{show, terms, Terms};
 

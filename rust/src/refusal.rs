@@ -173,10 +173,12 @@ pub(crate) fn apart(answer: u64) -> Result<(usize, usize), Refusal> {
 
 /// What a goal of a list is answered by itself: its refusal's number is 0 where there is none.
 pub(crate) fn goal_apart<T>(number: usize, place: usize, answer: T) -> Result<T, Refusal> {
-    match number {
-        0 => Ok(answer),
-        number => Err(Refusal { reason: reason(number), input: Input::Goal, place }),
+    if number == 0 {
+        return Ok(answer);
     }
+    let reason = reason(number);
+    let input = if reason == Reason::Room { Input::Room } else { Input::Goal };
+    Err(Refusal { reason, input, place })
 }
 
 // The library gives no other numbers than these.

@@ -16,6 +16,10 @@ pub struct Hits {
 }
 
 impl Hits {
+    pub(crate) fn of(bits: u64, tried: usize) -> Hits {
+        Hits { bits, tried }
+    }
+
     /// The rows, from the top, by their numbers from 0.
     pub fn rows(self) -> impl Iterator<Item = usize> {
         (0..ROWS).filter(move |&row| self.has(row))
@@ -64,7 +68,7 @@ impl Record {
         let mut rows = [0; ROWS];
         let (count, tried) = entries::run_plan(self.as_numbers(), plan.cells(), goal, &mut rows)?;
         let bits = rows[..count].iter().fold(0, |bits, row| bits | 1 << row);
-        Ok(Hits { bits, tried })
+        Ok(Hits::of(bits, tried))
     }
 
     /// Runs a plan on every goal of a list, each as [`Record::run`] would by itself. The plan is checked once.
@@ -87,7 +91,6 @@ impl Record {
     pub fn run_jobs(&self, plan: &Plan, goals: &Goals) -> Result<Vec<Result<Hits, Refusal>>, Refusal> {
         let mut jobs: Vec<Job> = goals.starts().map(|(start, count)| Job { start, count, ..Job::default() }).collect();
         entries::run_jobs(self.as_numbers(), plan.cells(), goals.cells(), &mut jobs)?;
-        let hits = |job: &Job| Hits { bits: job.hits, tried: job.tried };
-        Ok(jobs.iter().map(|job| goal_apart(job.number, job.place, hits(job))).collect())
+        Ok(jobs.iter().map(|job| goal_apart(job.number, job.place, Hits::of(job.hits, job.tried))).collect())
     }
 }

@@ -34,6 +34,31 @@ pub struct Job {
     pub tried: usize,
 }
 
+/// One goal of a list whose replies are wanted too. Before the call `start` and `count` say where its cells lie; the rest is written by
+/// [`dudowiej_reply_jobs`], and is 0 but for number and place where the goal is refused.
+#[repr(C)]
+#[derive(Debug, Clone, Copy, Default, PartialEq, Eq)]
+pub struct ReplyJob {
+    /// Where the goal's cells start among the lent cells.
+    pub start: usize,
+    /// How many they are.
+    pub count: usize,
+    /// The refusal's number, or 0.
+    pub number: usize,
+    /// The refusal's place, from the goal's own first cell, or 0. Of ROOM it is the cells of all its replies.
+    pub place: usize,
+    /// Where its replies begin in the room.
+    pub at: usize,
+    /// How many replies there are.
+    pub replies: usize,
+    /// How many cells they have together.
+    pub cells: usize,
+    /// Bit r is set when row r unifies with the goal.
+    pub hits: u64,
+    /// The branches tried.
+    pub tried: usize,
+}
+
 /// What [`dudowiej_salvage`] saved.
 #[repr(C)]
 #[derive(Debug, Clone, Copy, Default, PartialEq, Eq)]
@@ -67,6 +92,7 @@ pub struct Liked {
 // Words of 64 bits with no gaps, as in the header.
 const _: () = assert!(std::mem::size_of::<Record>() == 57_360);
 const _: () = assert!(std::mem::size_of::<Job>() == 48 && std::mem::offset_of!(Job, number) == 16 && std::mem::offset_of!(Job, hits) == 32);
+const _: () = assert!(std::mem::size_of::<ReplyJob>() == 72 && std::mem::offset_of!(ReplyJob, hits) == 56);
 const _: () = assert!(std::mem::size_of::<Report>() == 48 && std::mem::size_of::<Liked>() == 24);
 
 extern "C" {
@@ -140,6 +166,19 @@ extern "C" {
         plan_cells: usize,
         goal: *const u32,
         goal_cells: usize,
+        room: *mut u32,
+        room_cells: usize,
+    ) -> u64;
+    /// Runs a plan on every goal of a list and writes what the rows say to each, one goal's replies after another's: the plan's branches,
+    /// 0.
+    pub fn dudowiej_reply_jobs(
+        record: *const Record,
+        plan: *const u32,
+        plan_cells: usize,
+        cells: *const u32,
+        cells_count: usize,
+        jobs: *mut ReplyJob,
+        jobs_count: usize,
         room: *mut u32,
         room_cells: usize,
     ) -> u64;

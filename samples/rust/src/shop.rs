@@ -12,6 +12,7 @@ pub const RING: u32 = name(11, 0);
 pub const BROOCH: u32 = name(12, 0);
 pub const BOWL: u32 = name(13, 1);
 pub const LARGE: u32 = name(22, 0);
+pub const SOFT: u32 = name(31, 0);
 pub const HARD: u32 = name(33, 0);
 pub const SHELF: u32 = name(35, 1);
 
