@@ -8,17 +8,18 @@ use Rattle.refusal.specs.Coded.{coded, decoded}
 use Rattle.refusal.proofs.CodedLaws.{read-back}
 use Rattle.table.specs.Table.{Table, tableOf, tableSays, goalWith, goalSays}
 use Rattle.plan.specs.Check.{planOf, planUnder}
-use Rattle.checker.specs.Checked.{planSays}
+use Rattle.checker.specs.Checked.{planTold, planSays}
 use Rattle.least.specs.declared.By.the-variants.{Work}
 use Rattle.record.specs.Edits.{Edit}
 use Rattle.builder.specs.Build.{buildTold}
 use Rattle.answer.specs.Run.{runTold}
 use Rattle.exports.specs.Coded.{rowSays, WorkCoded, EditSays, BuildSays, RunCoded, TextCoded, JobsCoded, RepliesCoded, ClausesCoded}
-use Rattle.exports.specs.Coded.{cut, FileWriteCoded, FileReadCoded, salvageSays, SalvageCoded, BuildForCoded, LikedCoded}
+use Rattle.exports.specs.Coded.{ReplyJobsCoded, cut, FileWriteCoded, FileReadCoded, salvageSays, SalvageCoded, BuildForCoded, LikedCoded}
 use Rattle.exports.proofs.Small.{table-small, goal-with-small, row-small, plan-small, work-small, edit-small, build-small, liked-small, run-small, text-small, jobs-small, replies-small}
-use Rattle.exports.proofs.Small.{written-small, loaded-small, salvaged-small, under-small}
+use Rattle.exports.proofs.Small.{reply-jobs-small, written-small, loaded-small, salvaged-small, under-small}
 use Rattle.answer.specs.declared.Job.{Job}
 use Rattle.instance.specs.Replied.{repliesTold}
+use Rattle.instance.specs.declared.ReplyJob.{ReplyJob}
 use Rattle.clauses.specs.Handed.{handTold}
 
 pub table-back : (t : List ℕ) {n : ℕ} → n ≡ coded (tableSays (tableOf t)) → decoded n ≡ tableSays (tableOf t)
@@ -60,6 +61,10 @@ text-back x = read-back (text-small (x .loaded)) (x .code)
 
 pub jobs-back : {t p cells : List ℕ} {jobs jobs′ : List Job} {n : ℕ} (x : JobsCoded t p cells jobs jobs′ n) → decoded n ≡ x .told
 jobs-back x = read-back (jobs-small (x .ran)) (x .code)
+
+pub reply-jobs-back : {t p cells room room′ : List ℕ} {jobs jobs′ : List ReplyJob} {n : ℕ} (x : ReplyJobsCoded t p cells room room′ jobs jobs′ n)
+    → decoded n ≡ planTold (x .answer)
+reply-jobs-back x = read-back (reply-jobs-small (x .ran)) (x .code)
 
 pub replies-back : {t p g room room′ : List ℕ} {n : ℕ} (x : RepliesCoded t p g room room′ n) → decoded n ≡ repliesTold (x .answer)
 replies-back x = read-back (replies-small (x .replied)) (x .code)

@@ -7,6 +7,8 @@ use Rattle.table.specs.Table.{Table}
 use Rattle.record.specs.Record.{Holds}
 use Rattle.record.specs.Edits.{Edit}
 use Rattle.record.proofs.Fixed.{worked-one, edited-one}
+use Rattle.checker.specs.declared.PlanAnswer.{PlanAnswer}
+use Rattle.checker.specs.Checked.{planTold}
 use Rattle.builder.specs.Build.{buildTold}
 use Rattle.builder.specs.declared.BuildAnswer.{BuildAnswer}
 use Rattle.builder.proofs.Fixed.{build-fixed}
@@ -18,12 +20,14 @@ use Rattle.loading.proofs.Fixed.{text-fixed}
 use Rattle.refusal.specs.Refusal.{Answer}
 use Rattle.refusal.specs.Coded.{coded}
 use Rattle.exports.specs.Coded.{WorkCoded, EditCoded, BuildCoded, RunCoded, TextCoded, JobsCoded, RepliesCoded, ClausesCoded}
-use Rattle.exports.specs.Coded.{cut, FileWriteCoded, FileReadCoded, salvageSays, reportAfter, SalvageCoded, BuildForCoded, LikedCoded}
+use Rattle.exports.specs.Coded.{ReplyJobsCoded, cut, FileWriteCoded, FileReadCoded, salvageSays, reportAfter, SalvageCoded, BuildForCoded, LikedCoded}
 use Rattle.answer.specs.declared.Job.{Job}
 use Rattle.answer.proofs.JobsLaws.{jobs-fixed}
 use Rattle.instance.specs.Replied.{repliesTold}
 use Rattle.instance.specs.declared.RepliesAnswer.{RepliesAnswer}
 use Rattle.instance.proofs.Fixed.{replied-fixed}
+use Rattle.instance.specs.declared.ReplyJob.{ReplyJob}
+use Rattle.replyjobs.proofs.Fixed.{reply-jobs-fixed}
 use Rattle.clauses.specs.Handed.{handTold}
 use Rattle.clauses.specs.declared.HandAnswer.{HandAnswer}
 use Rattle.clauses.proofs.Fixed.{handed-fixed}
@@ -81,6 +85,13 @@ pub replies-coded-fixed : {t p g room room′ room″ : List ℕ} {m n : ℕ} �
 replies-coded-fixed a b =
     let f = replied-fixed (a .replied) (b .replied) in
     (a .code ∙ ap (λ (x : RepliesAnswer). coded (repliesTold x)) (f .0) ∙ sym (b .code), f .1)
+
+pub reply-jobs-coded-fixed : {t p cells room room′ room″ : List ℕ} {jobs jobs′ jobs″ : List ReplyJob} {m n : ℕ}
+    → ReplyJobsCoded t p cells room room′ jobs jobs′ m → ReplyJobsCoded t p cells room room″ jobs jobs″ n
+    → (m ≡ n) × (jobs′ ≡ jobs″) × (room′ ≡ room″)
+reply-jobs-coded-fixed a b =
+    let f = reply-jobs-fixed {r = a .answer} {s = b .answer} (a .ran) (b .ran) in
+    (a .code ∙ ap (λ (r : PlanAnswer). coded (planTold r)) (f .0) ∙ sym (b .code), f .1, f .2)
 
 pub clauses-coded-fixed : {t p text names room room′ room″ : List ℕ} {m n : ℕ} → ClausesCoded t p text names room room′ m
     → ClausesCoded t p text names room room″ n → (m ≡ n) × (room′ ≡ room″)

@@ -64,6 +64,9 @@ use Rattle.grammar.proofs.LongLaws.{text-long, other-place, names-few}
 use Rattle.loading.specs.Load.{Loaded, Loads, not-taken, no-cells, no-names, no-table, loads, loadSays, TextLoads}
 use Rattle.prolog.proofs.EntryLaws.{cells-long, names-long}
 use Rattle.shift.proofs.Fixed.{jobs-told}
+use Rattle.instance.specs.declared.ReplyJob.{ReplyJob}
+use Rattle.instance.specs.ReplyJobs.{ReplyJobsRun}
+use Rattle.replyjobs.proofs.Fixed.{reply-jobs-told}
 use Rattle.filing.specs.Files.{tablePart, fileOf, FileWritten, FileLoaded}
 use Rattle.filing.specs.Files as files
 use Rattle.filing.proofs.Undo.{accepted-sizes, read-sizes}
@@ -251,6 +254,10 @@ text-small x = small-by (x .told) (load-small (x .rule))
 -- a list of goals answers what the check of the plan does
 pub jobs-small : {t p cells : List ℕ} {jobs jobs′ : List Job} {a : Answer} → JobsRun t p cells jobs jobs′ a → Small a
 jobs-small {t} {p} x = small-by (jobs-told x) (plan-small t p)
+
+pub reply-jobs-small : {t p cells room room′ : List ℕ} {jobs jobs′ : List ReplyJob} {a : Answer} → ReplyJobsRun t p cells room room′ jobs jobs′ a
+    → Small a
+reply-jobs-small {t} {p} x = small-by (reply-jobs-told x) (plan-small t p)
 
 -- the replies of at most 64 rows that are written have at most 1,024 cells each
 pub replies-small : {t p g room room′ : List ℕ} {r : RepliesAnswer} → Replied t p g room room′ r → Small (repliesTold r)

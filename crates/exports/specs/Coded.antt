@@ -8,6 +8,8 @@ use Rattle.refusal.specs.Refusal.{Answer, answered, turned}
 use Rattle.refusal.specs.Read.{Read}
 use Rattle.refusal.specs.Coded.{coded, Small}
 use Rattle.table.specs.Table.{Table, startsIn, rowIn}
+use Rattle.checker.specs.declared.PlanAnswer.{PlanAnswer}
+use Rattle.checker.specs.Checked.{planTold}
 use Rattle.least.specs.declared.By.the-variants.{Work}
 use Rattle.builder.specs.declared.BuildAnswer.{BuildAnswer}
 use Rattle.builder.specs.Build.{BuiltInto, buildTold}
@@ -21,6 +23,8 @@ use Rattle.answer.specs.declared.Job.{Job}
 use Rattle.answer.specs.Jobs.{JobsRun}
 use Rattle.instance.specs.declared.RepliesAnswer.{RepliesAnswer}
 use Rattle.instance.specs.Replied.{Replied, repliesTold}
+use Rattle.instance.specs.declared.ReplyJob.{ReplyJob}
+use Rattle.instance.specs.ReplyJobs.{ReplyJobsRun}
 use Rattle.clauses.specs.declared.HandAnswer.{HandAnswer}
 use Rattle.clauses.specs.Handed.{Handed, handTold}
 use Rattle.filing.specs.Files.{FileWritten, FileLoaded}
@@ -90,6 +94,12 @@ pub record RepliesCoded (cells plan goal room after : List ℕ) (number : ℕ) :
   pub answer : RepliesAnswer
   pub replied : Replied cells plan goal room after answer
   pub code : number ≡ coded (repliesTold answer)
+
+-- what the entry for the replies to a list of goals answers and leaves in the records and in the room
+pub record ReplyJobsCoded (cells plan lent room room′ : List ℕ) (jobs after : List ReplyJob) (number : ℕ) : Type 0 where
+  pub answer : PlanAnswer
+  pub ran : ReplyJobsRun cells plan lent room room′ jobs after (planTold answer)
+  pub code : number ≡ coded (planTold answer)
 
 -- what the entry that hands a plan back answers and leaves in the room. The bytes fit their bits, for a listed name has 16 bits for its own:
 -- that is said here, since lists of names in `Handed` are of any numbers

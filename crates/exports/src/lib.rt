@@ -9,10 +9,11 @@ ghost use Rattle.refusal.specs.Coded.{coded};
 ghost use Rattle.record.specs.Record.{tableIn};
 ghost use Rattle.record.specs.Edits.{append, drop-last, replace};
 ghost use Rattle.exports.specs.Coded.{rowSays, WorkCoded, EditCoded, BuildCoded, RunCoded, TextCoded, JobsCoded, RepliesCoded, ClausesCoded};
-ghost use Rattle.exports.specs.Coded.{FileWriteCoded, FileReadCoded, SalvageCoded, BuildForCoded, LikedCoded};
+ghost use Rattle.exports.specs.Coded.{ReplyJobsCoded, FileWriteCoded, FileReadCoded, SalvageCoded, BuildForCoded, LikedCoded};
 
 mod code;
 
+use instance::ReplyJob;
 use least::By;
 use shift::Job;
 
@@ -148,6 +149,22 @@ pub extern "C" fn dudowiej_replies(
 {
     let cells = record::table_of(rec);
     code::code_replies(replies::replies(cells, plan, goal, room))
+}
+
+// The plan's number of branches; each goal of the list is answered in its record, and the replies follow one another in the room.
+#[no_mangle]
+pub extern "C" fn dudowiej_reply_jobs(
+    rec: &[u32; 14340],
+    plan: &[u32],
+    cells: &[u32],
+    jobs: &mut [ReplyJob],
+    room: &mut [u32],
+) -> u64
+    ensures { λ r. ⌜ ReplyJobsCoded (tableIn (now (rec .entry))) (now (plan .entry)) (now (cells .entry)) (now (room .entry))
+        (now (room .exit)) (now (jobs .entry)) (now (jobs .exit)) r ⌝ }
+{
+    let table = record::table_of(rec);
+    code::code_plan(replyjobs::reply_jobs(table, plan, cells, jobs, room))
 }
 
 // A plan handed back as Prolog: how many clauses it is and how many bytes they have; they are the room's first bytes.
