@@ -38,15 +38,18 @@ use Rattle.prolog.specs.Entry.{textTold}
 use Rattle.prolog.specs.declared.TextAnswer.{TextAnswer}
 use Rattle.prolog.proofs.Fixed.{read-text-fixed}
 use Rattle.exports.specs.Coded.{WorkCoded, EditCoded, BuildCoded, BuildForCoded, RunCoded, TextCoded, JobsCoded, RepliesCoded, ClausesCoded}
-use Rattle.exports.specs.Coded.{FileWriteCoded, FileReadCoded, SalvageCoded, LikedCoded}
+use Rattle.exports.specs.Coded.{ReplyJobsCoded, FileWriteCoded, FileReadCoded, SalvageCoded, LikedCoded}
 use Rattle.exports.proofs.Fixed.{work-coded-fixed, edit-coded-fixed, build-coded-fixed, run-coded-fixed, text-coded-fixed, jobs-coded-fixed, replies-coded-fixed, build-for-coded-fixed, liked-coded-fixed}
-use Rattle.exports.proofs.Fixed.{clauses-coded-fixed, written-coded-fixed, loaded-coded-fixed, salvage-coded-fixed}
+use Rattle.exports.proofs.Fixed.{reply-jobs-coded-fixed, clauses-coded-fixed, written-coded-fixed, loaded-coded-fixed, salvage-coded-fixed}
 use Rattle.answer.specs.declared.Job.{Job}
 use Rattle.answer.specs.Jobs.{JobsRun}
 use Rattle.shift.proofs.Fixed.{run-jobs-fixed}
 use Rattle.instance.specs.declared.RepliesAnswer.{RepliesAnswer}
 use Rattle.instance.specs.Replied.{Replied}
 use Rattle.instance.proofs.Fixed.{replied-fixed}
+use Rattle.instance.specs.declared.ReplyJob.{ReplyJob}
+use Rattle.instance.specs.ReplyJobs.{ReplyJobsRun}
+use Rattle.replyjobs.proofs.Fixed.{reply-jobs-fixed}
 use Rattle.clauses.specs.declared.HandAnswer.{HandAnswer}
 use Rattle.clauses.specs.Handed as hands
 use Rattle.clauses.proofs.Fixed as clauses
@@ -108,6 +111,11 @@ held-jobs = run-jobs-fixed
 pub held-replies : {t p g room room′ room″ : List ℕ} {r s : RepliesAnswer} → Replied t p g room room′ r → Replied t p g room room″ s
     → (r ≡ s) × (room′ ≡ room″)
 held-replies = replied-fixed
+
+pub held-reply-jobs : {t p cells room room′ room″ : List ℕ} {jobs jobs′ jobs″ : List ReplyJob} {r s : PlanAnswer}
+    → ReplyJobsRun t p cells room room′ jobs jobs′ (planTold r) → ReplyJobsRun t p cells room room″ jobs jobs″ (planTold s)
+    → (r ≡ s) × (jobs′ ≡ jobs″) × (room′ ≡ room″)
+held-reply-jobs = reply-jobs-fixed
 
 pub held-clauses : {t p text names room room′ room″ : List ℕ} {r s : HandAnswer} → hands.Handed t p text names room room′ r
     → hands.Handed t p text names room room″ s → (r ≡ s) × (room′ ≡ room″)
@@ -175,6 +183,11 @@ held-exported-jobs = jobs-coded-fixed
 pub held-exported-replies : {t p g room room′ room″ : List ℕ} {r s : ℕ} → RepliesCoded t p g room room′ r → RepliesCoded t p g room room″ s
     → (r ≡ s) × (room′ ≡ room″)
 held-exported-replies = replies-coded-fixed
+
+pub held-exported-reply-jobs : {t p cells room room′ room″ : List ℕ} {jobs jobs′ jobs″ : List ReplyJob} {r s : ℕ}
+    → ReplyJobsCoded t p cells room room′ jobs jobs′ r → ReplyJobsCoded t p cells room room″ jobs jobs″ s
+    → (r ≡ s) × (jobs′ ≡ jobs″) × (room′ ≡ room″)
+held-exported-reply-jobs = reply-jobs-coded-fixed
 
 pub held-exported-clauses : {t p text names room room′ room″ : List ℕ} {r s : ℕ} → ClausesCoded t p text names room room′ r
     → ClausesCoded t p text names room room″ s → (r ≡ s) × (room′ ≡ room″)

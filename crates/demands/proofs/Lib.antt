@@ -14,6 +14,7 @@ pub mod Twice
 pub mod Held
 pub mod Texts
 pub mod Shift
+pub mod ReplyShift
 pub mod Knowing
 pub mod Numbers
 pub mod Records

@@ -217,7 +217,7 @@ module _ {t p g room room′ : List ℕ} {r : RepliesAnswer} where
   untouched-by (no-room T all a w n l x c) f e = c
   untouched-by (replied T all a w n l x c) f e = clash (sym x ∙ e)
 
-  refuses-kept : Replied t p g room room′ r → RepliesRefused t p g room room′ (repliesTold r)
+  pub refuses-kept : Replied t p g room room′ r → RepliesRefused t p g room room′ (repliesTold r)
   refuses-kept x = record { refuses = λ f. (turned-why x f, turned-gets x f); untouched = untouched-by x }
 
   says-kept : Replied t p g room room′ r → Says t p g room room′ (repliesTold r)

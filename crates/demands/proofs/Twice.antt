@@ -6,11 +6,12 @@ use mathlib.Core.Bool.{true, false}
 use mathlib.Core.List.{List, [], _∷_}
 use native.Mathlib.Decide.{decLt}
 use native.Mathlib.Omega.{arith}
-use lib.ListN.{length}
+use lib.ListN.{length, drop}
 use Rattle.cell.specs.Cell.{isVar, valuesAt}
 use Rattle.cell.specs.Same.{among}
 use Rattle.term.proofs.Tests.{bool-cases}
 use Rattle.refusal.specs.Refusal.{Refused, refused, numberOf, Answer, answered}
+use Rattle.refusal.specs.Refusal as refusals
 use Rattle.refusal.specs.declared.Reason.{Reason}
 use Rattle.refusal.specs.declared.Reason.the-variants as reason
 use Rattle.refusal.specs.declared.Input.{Input}
@@ -34,6 +35,10 @@ use Rattle.least.proofs.Later.{cost-from, from-plain}
 use Rattle.least.proofs.Weighed.{by-light}
 use Rattle.record.specs.Edits.{Edit}
 use Rattle.answer.specs.declared.Job.{Job}
+use Rattle.instance.specs.declared.RepliesAnswer.{RepliesAnswer}
+use Rattle.instance.specs.declared.ReplyJob.{ReplyJob}
+use Rattle.instance.specs.Replied.{Replied, repliesTold}
+use Rattle.instance.specs.ReplyJobs.{goalOfJob}
 use Rattle.exports.proofs.Places.{Placed, good, turned, placed-table, placed-row, placed-goal, placed-asked, placed-checked, placed-with}
 use Rattle.demands.specs.Demands.{Demand1Table, Demand1Goal, Demand1Check, Demand1Build, Demand1Run}
 use Rattle.demands.specs.Columns.{CheckForTurned, ChecksFor}
@@ -46,6 +51,7 @@ use Rattle.demands.specs.Texts as texts
 use Rattle.demands.specs.Shift.{Shift, OneJob, goalIn}
 use Rattle.demands.specs.Replies.{RepliesTurned, RepliesRefused}
 use Rattle.demands.specs.Replies as replies
+use Rattle.demands.specs.ReplyShift.{OneReply, ReplyShift}
 use Rattle.demands.specs.Clauses.{ClausesTurned, ClausesRefused}
 use Rattle.demands.specs.Clauses as clauses
 use Rattle.demands.specs.Files.{WriteTurned, WriteRefused, ReadTurned, ReadRefused}
@@ -55,6 +61,7 @@ use Rattle.demands.specs.Salvage as salvage
 use Rattle.demands.specs.Records.{WorkTurned, MakesRecord, EditTurned, EditsRecord}
 use Rattle.demands.specs.Records as records
 use Rattle.demands.specs.Twice.{NeverTwice}
+use Rattle.demands.proofs.Replies.{refuses-kept}
 
 -- "TWICE is never given again, which is proved": 8 is no reason's number.
 pub request-209-twice : (r : Reason) → numberOf r ≢ 8
@@ -150,6 +157,22 @@ never-replies {t} {p} {g} {room} x f e = go (x .refuses f .0 e)
     go (replies.bad-goal {width = w} i tree u q) = placed (placed-goal w g) q
     go (replies.big all i tree u h r l q) = named reason.Big (same q)
     go (replies.bad-room all i tree u h r s l q) = named reason.Room (same q)
+
+-- of a list of goals whose replies are wanted, and of each record of it
+pub never-reply-jobs : {t p lent room room′ : List ℕ} {jobs after : List ReplyJob} {a : Answer} → ReplyShift t p lent room room′ jobs after a
+    → NeverTwice a
+never-reply-jobs {t} {p} x f e = placed (placed-checked t p) (x .refuses f .0 e)
+
+pub never-reply-job : {t p lent room said : List ℕ} {on : ℕ} {j after : ReplyJob} → OneReply t p lent room on j after said → after .number ≢ 8
+never-reply-job {t} {p} {lent} {room} {on = on} {j} {after} x q =
+    by-cases (decLt (length lent) (j .start + j .count))
+    (λ (l : length lent < j .start + j .count). let z : ⊥ = omega (arith, x .past l .number-is) in z)
+    (λ l. let k : j .start + j .count ≤ length lent = omega arith in let a = x .asked k in go k (a .2) (repliesTold (a .1)) refl)
+  where
+    go : j .start + j .count ≤ length lent → {left : List ℕ} {r : RepliesAnswer} → Replied t p (goalOfJob lent j) (drop on room) left r → (b : Answer)
+        → repliesTold r ≡ b → ⊥
+    go k {left} {r} y (answered n m) e = omega (arith, x .answers k n m left r y e .0 .number-zero)
+    go k {left} {r} y (refusals.turned f) e = never-replies (refuses-kept y) f e (sym (x .refused k f left r y e .number-is) ∙ q)
 
 pub never-clauses : {t p text names room after : List ℕ} {a : Answer} → ClausesRefused t p text names room after a → NeverTwice a
 never-clauses {t} {p} {text} {names} {room} x f e = go (x .refuses f .0 e)

@@ -3,6 +3,7 @@ pub mod Demands
 pub mod Listing
 pub mod Texts
 pub mod Shift
+pub mod ReplyShift
 pub mod Knowing
 pub mod Replies
 pub mod Twice

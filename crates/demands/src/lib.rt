@@ -17,6 +17,7 @@ ghost use Rattle.demands.specs.Listing.{Listing};
 ghost use Rattle.demands.specs.Texts.{Request201};
 ghost use Rattle.demands.specs.Numbers.{ReadsCell, PrintsSymbol};
 ghost use Rattle.demands.specs.Shift.{Shift};
+ghost use Rattle.demands.specs.ReplyShift.{ReplyShift};
 ghost use Rattle.demands.specs.Knowing.{KnowingMore, Sums};
 ghost use Rattle.demands.specs.Replies.{RepliesRefused, Says};
 ghost use Rattle.demands.specs.Records.{MakesRecord, EditsRecord, BuildsFrom};
@@ -29,6 +30,7 @@ ghost use Rattle.demands.specs.Asking.{FindsPredicate, ReadsGoal, ReadsB
 use asking::Predicate;
 use cell::Shape;
 use goaltext::GoalText;
+use instance::ReplyJob;
 use shift::Job;
 
 // Demand 1: reading.
@@ -137,6 +139,20 @@ fn request_replies(rec: &[u32; 14340], plan: &[u32], goal: &[u32], room: &mut [u
         (decoded r) ⌝ }
 {
     exports::dudowiej_replies(rec, plan, goal, room)
+}
+
+// A shift's replies in one call (specs/ReplyShift)
+fn request_reply_jobs(
+    rec: &[u32; 14340],
+    plan: &[u32],
+    lent: &[u32],
+    jobs: &mut [ReplyJob],
+    room: &mut [u32],
+) -> u64
+    ensures { λ r. ⌜ ReplyShift (tableIn (now (rec .entry))) (now (plan .entry)) (now (lent .entry)) (now (room .entry)) (now (room .exit))
+        (now (jobs .entry)) (now (jobs .exit)) (decoded r) ⌝ }
+{
+    exports::dudowiej_reply_jobs(rec, plan, lent, jobs, room)
 }
 
 // W-206 (specs/Numbers)
