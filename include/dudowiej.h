@@ -266,7 +266,8 @@ uint64_t dudowiej_build_liked(const dudowiej_record *record, const uint32_t *goa
  * the table has columns; they carry no lengths, and the rest of the room is untouched. Where no row unifies there is none. First: the
  * replies. Second: the cells written. Refused in this order: the plan, the goal; BIG, which concerns DUDOWIEJ_GOAL at 0, exactly where some
  * reply needs over DUDOWIEJ_REPLY_CELLS cells, whatever room there is; then the room, the place being the cells of all replies together.
- * Where anything is refused nothing is written. Room for DUDOWIEJ_REPLY_CELLS cells for each row of the table is always enough. */
+ * Where anything is refused nothing is written. Room for DUDOWIEJ_REPLY_CELLS cells for each row of the table is always enough. For more than
+ * one goal there is dudowiej_reply_jobs. */
 uint64_t dudowiej_replies(const dudowiej_record *record, const uint32_t *plan, size_t plan_cells, const uint32_t *goal, size_t goal_cells,
                           uint32_t *room, size_t room_cells);
 
