@@ -1,4 +1,4 @@
-//! Edits of a row at a time (docs/FORMAT.md, "Records"): each leaves the record that the new table would give.
+//! Edits of a row at a time (docs/FORMAT.md, "Records and edits"): each leaves the record that the new table would give.
 
 mod common;
 

@@ -1,4 +1,4 @@
-//! The worked examples of 01 and of W-204 (docs/FORMAT.md, "On both sides").
+//! The worked examples of 01 and of W-204 (docs/FORMAT.md, "Examples").
 
 mod common;
 

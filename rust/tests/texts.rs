@@ -1,4 +1,4 @@
-//! Texts of facts and their names (docs/FORMAT.md, "Prolog text").
+//! Texts of facts and their names (docs/FORMAT.md, "Prolog texts in").
 
 mod common;
 
