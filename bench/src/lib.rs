@@ -1,5 +1,6 @@
 //! An independent implementation of the rule tables, compared with the functions that the library exports and timed beside them.
 
+pub mod believe;
 pub mod branches;
 pub mod cases;
 pub mod clauses;
@@ -12,6 +13,7 @@ pub mod files;
 pub mod knowing;
 pub mod liked;
 pub mod make;
+pub mod map;
 pub mod model;
 pub mod notation;
 pub mod prolog;

@@ -7,7 +7,9 @@ use std::process::ExitCode;
 use dudowiej_bench::compare::{self, listings, ROUNDS, SEED};
 use dudowiej_bench::engine::Exported;
 use dudowiej_bench::model::listing::listing;
-use dudowiej_bench::{clauses, columns, count, edits, files, liked, prolog, reply_shift, salvage, shift, stack, time};
+use dudowiej_bench::{
+    believe, clauses, columns, count, edits, files, liked, map, prolog, reply_shift, salvage, shift, stack, time,
+};
 
 const USAGE: &str = "usage:
   compare [ROUNDS [SEED]]   the exported functions against the independent implementation
@@ -31,12 +33,17 @@ const USAGE: &str = "usage:
   columns                   the branches that goals try by plans for named columns and by plain ones
   liked                     how far plans that lists of goals like best, and plain ones, are from the fewest branches
   stack                     the bytes of stack that each entry touches
-  list                      the independent listing of the table on standard input";
+  list                      the independent listing of the table on standard input
+  map                       whether the drawing of layers in the README is that of crates.txt
+  believe                   what must be believed of the page of demands: definitions, lines and files";
+
+/// What these print needs no exported function.
+const WITHOUT: [&str; 3] = ["list", "map", "believe"];
 
 fn main() -> ExitCode {
     let words: Vec<String> = std::env::args().skip(1).collect();
     let words: Vec<&str> = words.iter().map(String::as_str).collect();
-    if cfg!(feature = "stand-in") && words.first() != Some(&"list") {
+    if cfg!(feature = "stand-in") && !words.first().is_some_and(|word| WITHOUT.contains(word)) {
         println!("The stand-in: no exported function is called, the harness is tried on the independent ones.");
     }
     match words[..] {
@@ -88,6 +95,8 @@ fn main() -> ExitCode {
         ["liked"] => done(liked::near),
         ["stack"] => done(stack::stack),
         ["list"] => done(list),
+        ["map"] => done(|| map::print(include_str!("../../README.md"), include_str!("../../crates.txt"))),
+        ["believe"] => done(|| believe::print(Path::new(concat!(env!("CARGO_MANIFEST_DIR"), "/..")))),
         _ => usage(),
     }
 }
