@@ -7,9 +7,7 @@ use std::process::ExitCode;
 use dudowiej_bench::compare::{self, listings, ROUNDS, SEED};
 use dudowiej_bench::engine::Exported;
 use dudowiej_bench::model::listing::listing;
-use dudowiej_bench::{
-    believe, clauses, columns, count, edits, files, liked, map, prolog, reply_shift, salvage, shift, stack, time,
-};
+use dudowiej_bench::{believe, clauses, columns, count, edits, files, liked, map, prolog, reply_shift, salvage, shift, stack, time};
 
 const USAGE: &str = "usage:
   compare [ROUNDS [SEED]]   the exported functions against the independent implementation
