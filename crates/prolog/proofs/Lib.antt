@@ -1,4 +1,2 @@
-pub mod MakeLaws
-pub mod CellLaws
 pub mod EntryLaws
 pub mod Fixed

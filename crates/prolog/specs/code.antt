@@ -1,3 +1,2 @@
 -- what only private functions need
-pub mod Cells
 pub mod Parts

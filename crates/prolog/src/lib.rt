@@ -1,7 +1,6 @@
 // Tables from Prolog text (02, W-201): the entry. Nothing is written to a lent room before everything is decided: the list of names and the
 // cells are made in arrays of this side, for at most 2,048 symbols; where there are more, the table is too long, and names are only
 // counted.
-mod cells;
 
 ghost use mathlib.Core.Path.{_≡_};
 ghost use Prim.Native.Nat.{_≤_};
@@ -11,7 +10,7 @@ ghost use Rattle.refusal.specs.declared.Reason.the-variants as reason;
 ghost use Rattle.refusal.specs.declared.Input.the-variants as input;
 ghost use Rattle.loading.specs.Load.{front, TextLoads};
 ghost use Rattle.prolog.specs.Entry.{textTold, FactsAre};
-ghost use Rattle.prolog.specs.code.Parts.{Numbers, Fits, TableIs, overOf, Gives};
+ghost use Rattle.prolog.specs.code.Parts.{overOf, Gives};
 use refusal::Input;
 use refusal::Reason;
 use refusal::Refusal;
@@ -66,40 +65,6 @@ fn give(made: &[u32], list: &[u32], cells: &mut [u32], names: &mut [u32]) -> Tex
     }
 }
 
-// The table's cells: width, number of rows, rows.
-fn make_table(text: &[u8], c: Counted, numbers: &[u16], made: &mut [u32]) -> usize
-    requires { ⌜ Numbers (now text) c (now numbers) × (length (now made) ≡ 2050) ⌝ }
-    ensures { λ r. ⌜ ((N : Numbers (now (text .entry)) c (now (numbers .entry)))
-        → TableIs (now (text .entry)) (N .counts .facts) (now (made .entry)) (now (made .exit)) r) ⌝ }
-{
-    made[0] = c.width as u32;
-    made[1] = c.facts as u32;
-    let n = cells::write_cells(text, numbers, &mut made[2..]);
-    n + 2
-}
-
-// At most 2,048 symbols, which are numbered, and their names are listed: the cells are made here.
-fn write(
-    text: &[u8],
-    c: Counted,
-    numbers: &[u16],
-    list: &[u32],
-    cells: &mut [u32],
-    names: &mut [u32],
-) -> TextAnswer
-    requires { ⌜ Fits (now text) c (now numbers) (now list) (now cells) ⌝ }
-    ensures { λ r. ⌜ TextLoads (now (text .entry)) (now (cells .entry)) (now (names .entry)) (now (cells .exit)) (now (names .exit))
-        (textTold r) ⌝ }
-{
-    let n = list.len();
-    if names.len() < n {
-        return no_room(n);
-    }
-    let mut made = [0u32; 2050];
-    let k = make_table(text, c, numbers, &mut made);
-    give(&made[..k], list, cells, names)
-}
-
 // Over 2,048 symbols, with so many names, and room for so many.
 fn over(n: usize, room: usize) -> TextAnswer
     ensures { λ r. ⌜ textTold r ≡ overOf n room ⌝ }
@@ -119,10 +84,16 @@ pub fn read_text(text: &[u8], cells: &mut [u32], names: &mut [u32]) -> TextAnswe
         (textTold r) ⌝ }
 {
     let mut list = [0u32; 2048];
-    let mut numbers = [0u16; 2048];
-    match words::read_words(text, cells.len(), &mut list, &mut numbers) {
+    let mut made = [0u32; 2050];
+    match words::read_words(text, cells.len(), &mut list, &mut made) {
         TextWords::Facts(c, known) => match known {
-            NamesRead::Listed(n) => write(text, c, &numbers, &list[..n], cells, names),
+            NamesRead::Listed(n) => {
+                if names.len() < n {
+                    return no_room(n);
+                }
+                let k = c.symbols + 2;
+                give(&made[..k], &list[..n], cells, names)
+            }
             NamesRead::Counted(n) => over(n, names.len()),
             NamesRead::Passed => no_room(c.symbols + 2),
         },
@@ -147,11 +118,10 @@ pub enum FactsAnswer {
 pub fn make_facts(text: &[u8], made: &mut [u32; 2050], list: &mut [u32; 2048]) -> FactsAnswer
     ensures { λ r. ⌜ FactsAre (now (text .entry)) (now (made .entry)) (now (list .entry)) (now (made .exit)) (now (list .exit)) r ⌝ }
 {
-    let mut numbers = [0u16; 2048];
-    match words::read_words(text, 2050, list, &mut numbers) {
+    match words::read_words(text, 2050, list, made) {
         TextWords::Facts(c, known) => match known {
             NamesRead::Listed(names) => {
-                let cells = make_table(text, c, &numbers, made);
+                let cells = c.symbols + 2;
                 FactsAnswer::Made(c, Sizes { cells, names })
             }
             NamesRead::Counted(_) => FactsAnswer::Long(c),

@@ -15,8 +15,8 @@ use Rattle.words.specs.declared.NamesRead.{NamesRead}
 use Rattle.words.specs.declared.TextWords.{TextWords}
 use Rattle.words.specs.declared.TextWords.the-variants as text-words
 
-names-fixed : {t : List ℕ} {fs : List Fact} {room : ℕ} {list numbers l m l′ m′ : List ℕ} {a b : NamesRead}
-    → NamesAre t fs room list numbers l m a → NamesAre t fs room list numbers l′ m′ b → (a ≡ b) × (l ≡ l′) × (m ≡ m′)
+names-fixed : {t : List ℕ} {fs : List Fact} {room : ℕ} {list made l m l′ m′ : List ℕ} {a b : NamesRead}
+    → NamesAre t fs room list made l m a → NamesAre t fs room list made l′ m′ b → (a ≡ b) × (l ≡ l′) × (m ≡ m′)
 names-fixed (no-room h) (no-room i) = (refl, refl, refl)
 names-fixed (no-room h) (many i j) = absurd (omega arith)
 names-fixed (no-room h) (few i j) = absurd (omega arith)
@@ -30,11 +30,11 @@ names-fixed (few h k) (few i j) = (refl, refl, refl)
 pub taken-apart : {t : List ℕ} {fs : List Fact} {o : Refused} → Taken t (read fs) → Taken t (refuse o) → ⊥
 taken-apart {t} x y = let e = taken-fixed t x y in let z : _≡_ {A = ℕ} 0 1 = cc in omega arith
 
-pub words-fixed : {t : List ℕ} {room : ℕ} {list numbers l m l′ m′ : List ℕ} {a b : TextWords} → WordsAre t room list numbers l m a
-    → WordsAre t room list numbers l′ m′ b → (a ≡ b) × (l ≡ l′) × (m ≡ m′)
-words-fixed {t} {room} {list} {numbers} {l′ = l′} {m′ = m′} (facts C x) (facts {r = r} D y) =
+pub words-fixed : {t : List ℕ} {room : ℕ} {list made l m l′ m′ : List ℕ} {a b : TextWords} → WordsAre t room list made l m a
+    → WordsAre t room list made l′ m′ b → (a ≡ b) × (l ≡ l′) × (m ≡ m′)
+words-fixed {t} {room} {list} {made} {l′ = l′} {m′ = m′} (facts C x) (facts {r = r} D y) =
     let e = counts-fixed t C D in
-    let n = names-fixed x (subst (λ (fs : List Fact). NamesAre t fs room list numbers l′ m′ r) (sym (e .0)) y) in
+    let n = names-fixed x (subst (λ (fs : List Fact). NamesAre t fs room list made l′ m′ r) (sym (e .0)) y) in
     (ap₂ text-words.Facts (e .1) (n .0), n .1, n .2)
 words-fixed (facts C x) (refused y) = absurd (taken-apart (C .taken) y)
 words-fixed (refused x) (facts D y) = absurd (taken-apart (D .taken) x)

@@ -1,5 +1,9 @@
 pub mod TreeLaws
 pub mod NameLaws
 pub mod NumberLaws
+pub mod KnowLaws
+pub mod CellLaws
+pub mod MakeLaws
+pub mod TableLaws
 pub mod WordLaws
 pub mod Fixed

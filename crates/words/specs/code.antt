@@ -2,3 +2,4 @@
 pub mod Tree
 pub mod Names
 pub mod Numbers
+pub mod Cells

@@ -1,15 +1,20 @@
-// Words of a text (02, W-201): the scan, and then the list of its names and the numbers of its symbols, or how many names it has.
+// Words of a text (02, W-201): the scan, and then the list of its names and the cells of its table, or how many names it has.
+mod cells;
 mod names;
 mod numbers;
 mod tree;
 
+ghost use mathlib.Core.Path.{_≡_};
+ghost use Prim.Native.Nat.{_≤_};
+ghost use lib.ListN.{length};
 ghost use Rattle.scan.specs.Scan.{Counts};
 ghost use Rattle.words.specs.Words.{NamesAre, WordsAre};
+ghost use Rattle.words.specs.code.Cells.{TableIs};
 use refusal::Refusal;
 use scan::Counted;
 use scan::Scan;
 
-// The names of a text that is one: so many, listed, and the symbols are numbered; so many, of over 2,048 symbols; or they are passed over.
+// The names of a text that is one: so many, listed, and the cells are made; so many, of over 2,048 symbols; or they are passed over.
 pub enum NamesRead {
     Listed(usize),
     Counted(usize),
@@ -22,17 +27,28 @@ pub enum TextWords {
     Refused(Refusal),
 }
 
+// The table's cells: width, number of rows, rows; and the list of names, how many there are.
+fn make_table(text: &[u8], c: Counted, list: &mut [u32], made: &mut [u32]) -> usize
+    requires { ⌜ Counts (now text) c × (c .symbols ≤ 2048) × (length (now list) ≡ 2048) × (length (now made) ≡ 2050) ⌝ }
+    ensures { λ r. ⌜ ((C : Counts (now (text .entry)) c) → TableIs (now (text .entry)) (C .facts) (now (list .entry)) (now (list .exit))
+        (now (made .entry)) (now (made .exit)) r) ⌝ }
+{
+    made[0] = c.width as u32;
+    made[1] = c.facts as u32;
+    cells::write_cells(text, c.symbols, list, &mut made[2..])
+}
+
 // The names of a text whose facts are counted. A table has two cells more than symbols.
 fn read_names(
     text: &[u8],
     c: Counted,
     room: usize,
     list: &mut [u32; 2048],
-    numbers: &mut [u16; 2048],
+    made: &mut [u32; 2050],
 ) -> NamesRead
     requires { ⌜ Counts (now text) c ⌝ }
     ensures { λ r. ⌜ ((C : Counts (now (text .entry)) c) → NamesAre (now (text .entry)) (C .facts) room (now (list .entry))
-        (now (numbers .entry)) (now (list .exit)) (now (numbers .exit)) r) ⌝ }
+        (now (made .entry)) (now (list .exit)) (now (made .exit)) r) ⌝ }
 {
     let symbols = c.symbols;
     if room < symbols + 2 {
@@ -41,10 +57,7 @@ fn read_names(
     if 2048 < symbols {
         return NamesRead::Counted(names::count_names(text));
     }
-    if symbols <= 512 {
-        return NamesRead::Listed(numbers::number_few(text, list, numbers));
-    }
-    NamesRead::Listed(numbers::number_symbols(text, list, numbers))
+    NamesRead::Listed(make_table(text, c, list, made))
 }
 
 // A text, read for a table in so many cells of room. Where it is turned away, where there is no room for its cells, or where it has too many
@@ -53,13 +66,13 @@ pub fn read_words(
     text: &[u8],
     room: usize,
     list: &mut [u32; 2048],
-    numbers: &mut [u16; 2048],
+    made: &mut [u32; 2050],
 ) -> TextWords
-    ensures { λ r. ⌜ WordsAre (now (text .entry)) room (now (list .entry)) (now (numbers .entry)) (now (list .exit)) (now (numbers .exit)) r ⌝ }
+    ensures { λ r. ⌜ WordsAre (now (text .entry)) room (now (list .entry)) (now (made .entry)) (now (list .exit)) (now (made .exit)) r ⌝ }
 {
     match scan::scan_text(text) {
         Scan::Facts(c) => {
-            let known = read_names(text, c, room, list, numbers);
+            let known = read_names(text, c, room, list, made);
             TextWords::Facts(c, known)
         }
         Scan::Refused(f) => TextWords::Refused(f),

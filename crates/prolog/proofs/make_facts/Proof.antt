@@ -1,16 +1,16 @@
-use mathlib.Core.Path.{_≡_, refl, sym, subst}
-use lib.ListN.{replicate}
+use mathlib.Core.Path.{_≡_, subst}
+use native.Mathlib.Omega.{arith}
+use Rattle.scan.proofs.SaysLaws.{counts-read}
 use Rattle.words.specs.Words.{WordsAre}
 use Rattle.words.specs.declared.NamesRead.{NamesRead}
 use Rattle.words.specs.declared.TextWords.{TextWords}
 use Rattle.words.specs.declared.TextWords.the-variants as text-words
-use Rattle.prolog.proofs.EntryLaws.{Listed, listed-are, numbers-kept, numbers-are, facts-made, facts-many, facts-passed, facts-turned}
+use Rattle.prolog.proofs.EntryLaws.{Listed, listed-are, facts-made, facts-many, facts-passed, facts-turned}
 use borrow.Author.Needs.{needs}
 use Rattle.prolog.proofs.make_facts.Statement.{statement}
 use Rattle.prolog.proofs.make_facts.Tie as tie
 use Rattle.prolog.proofs.make_facts.Reads as reads
 use Rattle.prolog.proofs.make_facts.Lts as lts
-use Rattle.prolog.proofs.make_table.Reads as make-table-reads
 use Rattle.words.proofs.read_words.Reads as read-words-reads
 
 -- what is said of the text's words
@@ -18,7 +18,7 @@ abbrev start : tie.After-read-words → tie.Start
 start w = w .before .before .before .before
 
 abbrev Said : tie.After-read-words → TextWords → Type 0
-Said w = WordsAre (start w .args .text .now) 2050 (start w .args .list .now) (replicate 2048 0) (w .read-words .last .1 .1 .0)
+Said w = WordsAre (start w .args .text .now) 2050 (start w .args .list .now) (start w .args .made .now) (w .read-words .last .1 .1 .0)
     (w .read-words .last .1 .1 .1 .0)
 
 known : (c : tie.After-c) {k : NamesRead} → c .c .given .0 .1 .0 ≡ k → Said (c .before .before) (text-words.Facts (c .c .given .0 .0) k)
@@ -26,8 +26,9 @@ known c e =
     subst (λ (k : NamesRead). Said (c .before .before) (text-words.Facts (c .c .given .0 .0) k)) e
     (subst (Said (c .before .before)) (c .c .given .1) (c .before .before .read-words .ensures))
 
-listed : (k : tie.After-known) → Listed (start (k .before .before .before .before .before) .args .text .now) 2050 (k .before .before .before .c .given .0 .0)
-    (start (k .before .before .before .before .before) .args .list .now) (replicate 2048 0)
+listed : (k : tie.After-known) → Listed (start (k .before .before .before .before .before) .args .text .now) 2050
+    (k .before .before .before .c .given .0 .0) (start (k .before .before .before .before .before) .args .list .now)
+    (start (k .before .before .before .before .before) .args .made .now)
     (k .before .before .before .before .before .read-words .last .1 .1 .0)
     (k .before .before .before .before .before .read-words .last .1 .1 .1 .0) (k .known .given .0 .0)
 listed k = listed-are (known (k .before .before .before) (k .known .given .1))
@@ -41,11 +42,8 @@ enum-known-c c = search needs
 enum-known-known : tie.Need-enum-known-known
 enum-known-known c = search needs
 
-slice-aggregate-make-table : tie.Need-slice-aggregate-make-table
-slice-aggregate-make-table c = sym (numbers-kept (listed (c .before .before)) refl)
-
-make-table-requires : tie.Need-make-table-requires
-make-table-requires c κs = (numbers-are (listed (c .before .before .before)) refl, search needs)
+add-cells : tie.Need-add-cells
+add-cells c = record { fits = omega (arith, counts-read (listed (c .before .before) .counts) .2) }
 
 enum-told : tie.Need-enum-told
 enum-told c = search needs
@@ -57,9 +55,7 @@ enum-known-f : tie.Need-enum-known-f
 enum-known-f c = search needs
 
 returns : tie.Need-returns
-returns c =
-    let L = listed (c .before .before .before .before) in
-    facts-made L (c .make-table .ensures (numbers-are L refl))
+returns c = facts-made (listed (c .before .before))
 
 returns-2 : tie.Need-returns-2
 returns-2 c = facts-many (known (c .before .before .before) (c .enum-told .given .1))
@@ -79,8 +75,7 @@ make-facts-spec =
     read-words-requires
     enum-known-c
     enum-known-known
-    slice-aggregate-make-table
-    make-table-requires
+    add-cells
     enum-told
     enum-told-2
     enum-known-f

@@ -7,8 +7,7 @@ use Rattle.words.proofs.read_names.Tie as tie
 use Rattle.words.proofs.read_names.Reads as reads
 use Rattle.words.proofs.read_names.Lts as lts
 use Rattle.words.proofs.names.count_names.Reads as count-names-reads
-use Rattle.words.proofs.numbers.number_few.Reads as number-few-reads
-use Rattle.words.proofs.numbers.number_symbols.Reads as number-symbols-reads
+use Rattle.words.proofs.make_table.Reads as make-table-reads
 
 add-if1 : tie.Need-add-if1
 add-if1 c = record { fits = omega (arith, counts-read (c .before .pre) .2) }
@@ -16,7 +15,7 @@ add-if1 c = record { fits = omega (arith, counts-read (c .before .pre) .2) }
 returns : tie.Need-returns
 returns c = λ C.
     let a = c .before .before .args in
-    names-passed (a .text .now) (a .room) (a .list .now) (a .numbers .now) C (c .if1 .taken)
+    names-passed (a .text .now) (a .room) (a .list .now) (a .made .now) C (c .if1 .taken)
 
 count-names-requires : tie.Need-count-names-requires
 count-names-requires c κs = counts-read (c .before .before .before .pre) .0
@@ -24,38 +23,21 @@ count-names-requires c κs = counts-read (c .before .before .before .pre) .0
 returns-2 : tie.Need-returns-2
 returns-2 c = λ C.
     let a = c .before .before .before .before .args in
-    names-counted (a .text .now) (a .room) (a .list .now) (a .numbers .now) C (c .before .before .if1 .left) (c .before .if2 .taken)
+    names-counted (a .text .now) (a .room) (a .list .now) (a .made .now) C (c .before .before .if1 .left) (c .before .if2 .taken)
     (c .count-names .ensures)
 
-number-few-requires : tie.Need-number-few-requires
-number-few-requires c κs = (counts-read (c .before .before .before .before .before .before .pre) .0, search needs, search needs)
+make-table-requires : tie.Need-make-table-requires
+make-table-requires c κs =
+    let e = c .before .before in
+    (e .before .before .before .pre, e .if2 .left, search needs, search needs)
 
 returns-3 : tie.Need-returns-3
 returns-3 c = λ C.
     let e = c .before .before .before in
-    let a = e .before .before .before .before .args in
-    names-listed (a .text .now) (a .room) (a .list .now) (a .numbers .now) C 512 (omega arith) (e .before .before .if1 .left) (e .if3 .taken)
-    (c .number-few .ensures)
-
-number-symbols-requires : tie.Need-number-symbols-requires
-number-symbols-requires c κs = (counts-read (c .before .before .before .before .before .before .pre) .0, search needs, search needs)
-
-returns-4 : tie.Need-returns-4
-returns-4 c = λ C.
-    let e = c .before .before .before in
-    let a = e .before .before .before .before .args in
-    names-listed (a .text .now) (a .room) (a .list .now) (a .numbers .now) C 2048 (omega arith) (e .before .before .if1 .left) (e .before .if2 .left)
-    (c .number-symbols .ensures)
+    let a = e .before .before .before .args in
+    names-listed (a .text .now) (a .room) (a .list .now) (a .made .now) C (e .before .if1 .left) (e .if2 .left) (c .make-table .ensures C)
 
 pub read-names-spec : {M : Type 1} → statement M
 read-names-spec =
     tie.close
-    (tie.spec
-    add-if1
-    returns
-    count-names-requires
-    returns-2
-    number-few-requires
-    returns-3
-    number-symbols-requires
-    returns-4)
+    (tie.spec add-if1 returns count-names-requires returns-2 make-table-requires returns-3)
