@@ -25,26 +25,20 @@ pub struct Out {
     pub tried: usize,
 }
 
-// The number of a row as a byte at `at`, where the room has a place for it.
-fn put_row(room: &mut [u8], at: usize, row: usize)
-    ensures { λ _. ⌜ (at < length (now (room .entry)) → row < 64 → now (room .exit) ≡ set (now (room .entry)) at row) ⌝ }
-{
-    if at < room.len() {
-        room[at] = node(row) as u8;
-    }
-}
-
-// The rows from `row` on, `n` of them, as bytes from `at` on.
+// The rows from `row` on, `n` of them, as bytes from `at` on, where the room has places for all.
 pub fn put_rows(room: &mut [u8], at: usize, n: usize, row: usize)
     requires { ⌜ (at + n < 2 ^ 64) × (row + n < 2 ^ 64) ⌝ }
     ensures { λ _. ⌜ (at + n ≤ length (now (room .entry)) → row + n ≤ 64
         → now (room .exit) ≡ sets (now (room .entry)) at (upFrom row n)) ⌝ }
 {
+    if room.len() < at + n {
+        return;
+    }
     let mut more = n;
     let mut j = at;
     let mut q = row;
     while 0 < more {
-        put_row(room, j, q);
+        room[j] = node(q) as u8;
         q += 1;
         j += 1;
         more -= 1;
