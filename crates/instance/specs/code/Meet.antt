@@ -1,5 +1,5 @@
 -- Where the making of one reply stands, in the list that the code works in: the goal so far, then what is left of the row. The contracts of
--- private functions speak of it; no promise of a public function does.
+-- private functions speak of it, and that of `common` (crate meeting), which stands beneath the replies; no entry's promise does.
 use Prim.Native.Nat.{ℕ, suc, _+_, _≤_, _<_}
 use mathlib.Core.Path.{_≡_}
 use mathlib.Core.List.{List, _++_}

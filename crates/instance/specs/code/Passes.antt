@@ -1,4 +1,5 @@
--- The replies of the rows that a run has found, by their numbers. The contracts of private functions speak of them.
+-- The replies of the rows that a run has found, by their numbers. The contracts of private functions speak of them, and as a premise that
+-- of `put_replies` (crate replies), which stands beneath the replies.
 use Prim.Native.Nat.{ℕ, _≤_, _<_}
 use mathlib.Core.Path.{_≡_}
 use mathlib.Core.List.{List, [], _∷_, _++_, flatten}
