@@ -6,7 +6,7 @@ use mathlib.Core.Bool.{Bool, true, false, cond, _&&_, _||_}
 use mathlib.Core.List.{List, [], _∷_, _++_, flatten, map, append-nil, head-eq-of-cons-eq}
 use native.Mathlib.Omega.{arith}
 use lib.Dec.{eqb}
-use lib.ListN.{length}
+use lib.ListN.{length, length-append}
 use borrow.Author.Tests.{eq-eqb, ne-eqb}
 use Rattle.cell.specs.Cell.{isVar, kindOf}
 use Rattle.cell.proofs.CellLaws.{is-var, not-var}
@@ -61,17 +61,20 @@ cells-moved (p ∷ ps) y cs = ap (λ (l : List ℕ). cellIn p ∷ l) (cells-move
 pub one-moved : (rows : List (List ℕ)) (ps : List ℕ) (y : ℕ) (cs : List ℕ) → One rows (map cellIn ps ++ (cellIn y ∷ cs)) → One rows (map cellIn (ps ++ (y ∷ [])) ++ cs)
 one-moved rows ps y cs o = rw (cells-moved ps y cs) o
 
-pub finished-more : (s r : ℕ) (ps : List ℕ) (y : ℕ) (cs zs : List ℕ)
-    → finished s r ps (cellIn y ∷ cs) ++ ((ended s r y + cond (repeats (cellIn y) cs) 1 0 * 2 ^ 63) ∷ zs) ≡ finished s r (ps ++ (y ∷ [])) cs ++ zs
+pub finished-more : (s : ℕ) (ps : List ℕ) (y : ℕ) (cs zs : List ℕ)
+    → finished (suc s) ps (cellIn y ∷ cs) ++ ((ended s y + cond (repeats (cellIn y) cs) 1 0 * 2 ^ 63) ∷ zs) ≡ finished s (ps ++ (y ∷ [])) cs ++ zs
 unfolding finished
-finished-more s r [] y cs zs = refl
-finished-more s r (p ∷ ps) y cs zs =
-    ap₂ (λ (l : List ℕ) (t : List ℕ). (ended s r p + cond (repeats (cellIn p) l) 1 0 * 2 ^ 63) ∷ t) (sym (cells-moved ps y cs)) (finished-more s r ps y cs zs)
+finished-more s [] y cs zs = let e : s ≡ 0 + s = omega arith in ap (λ (n : ℕ). (ended n y + cond (repeats (cellIn y) cs) 1 0 * 2 ^ 63) ∷ zs) e
+finished-more s (p ∷ ps) y cs zs =
+    let e : length ps + suc s ≡ length (ps ++ (y ∷ [])) + s = omega (arith, length-append ps (y ∷ [])) in
+    ap₂ (λ (w : ℕ) (t : List ℕ). w ∷ t)
+    (ap₂ (λ (n : ℕ) (l : List ℕ). ended n p + cond (repeats (cellIn p) l) 1 0 * 2 ^ 63) e (sym (cells-moved ps y cs)))
+    (finished-more s ps y cs zs)
 
-pub finished-length : (s r : ℕ) (ps cs : List ℕ) → length (finished s r ps cs) ≡ length ps
+pub finished-length : (s : ℕ) (ps cs : List ℕ) → length (finished s ps cs) ≡ length ps
 unfolding finished
-finished-length s r [] cs = refl
-finished-length s r (p ∷ ps) cs = ap suc (finished-length s r ps cs)
+finished-length s [] cs = refl
+finished-length s (p ∷ ps) cs = ap suc (finished-length s ps cs)
 
 -- a cell's kind tells whether it is a variable
 pub kind-var : (c k : ℕ) → k ≡ kindOf c → k < 1 → isVar c ≡ true

@@ -24,7 +24,7 @@ use Rattle.notes.proofs.TreeLaws.{ReadyIn, Inside, inside, first-of, me
 use Rattle.notes.proofs.AloneLaws.{flag-is, one-more, one-run, one-leaf, one-moved, finished-more, finished-length}
 
 -- the number of a branch that has ended
-word-is : (c s r l n : ℕ) (b : Bool) → word (branch c s r l n b) ≡ ended s r (partOf c l n) + cond b 1 0 * 2 ^ 63
+word-is : (c s r l n : ℕ) (b : Bool) → word (branch c s r l n b) ≡ ended s (partOf c r n l) + cond b 1 0 * 2 ^ 63
 unfolding word
 word-is c s r l n b = omega arith
 
@@ -51,28 +51,28 @@ single-not k x e = go (ltb 0 k) (eqb x 1) refl refl e
     go false q h l z = inl (let o = ltb-false 0 k h in omega arith)
 
 -- A state with one branch.
-module _ {plan links noted : List ℕ} {at k made free : ℕ} (w : Ready plan links noted at k made free) where
+module _ {plan links noted : List ℕ} {at k made free row : ℕ} (w : Ready plan links noted at k made free row) where
   pub record Only : Type 0 where
-    pub one : ReadyAt plan links noted (getD plan at 0) (at + 2) k made free
-    pub same-notes : notes (w .tree) (w .slots) made free ≡ notesAt (one .tree) (one .group .cell) (getD plan at 0) (one .slots) made free
+    pub one : ReadyAt plan links noted (getD plan at 0) (at + 2) k made free row
+    pub same-notes : notes (w .tree) (w .slots) free row ≡ notesAt (one .tree) (one .group .cell) (getD plan at 0) (one .slots) free row
     pub count : branches (w .tree) ≡ suc (branches (one .tree))
     pub cells : length (write (w .tree)) ≡ 3 + length (write (one .tree))
     pub rows : length (w .rows) ≡ length (one .group .rows)
-    pub row : (cs : List ℕ) → One (one .group .rows) cs → One (w .rows) (one .group .cell ∷ cs)
+    pub alone : (cs : List ℕ) → One (one .group .rows) cs → One (w .rows) (one .group .cell ∷ cs)
 
-  only-by : {groups : List Run} (trees : Branches (k - 1) groups) → length groups ≡ 1 → ReadyIn plan links noted (w .slots) (getD plan at 0) (at + 2) k made free trees
-      → notes (w .tree) (w .slots) made free ≡ notesIn trees (getD plan at 0) (w .slots) made free → branches (w .tree) ≡ branchesIn trees
+  only-by : {groups : List Run} (trees : Branches (k - 1) groups) → length groups ≡ 1 → ReadyIn plan links noted (w .slots) (getD plan at 0) (at + 2) k made free row trees
+      → notes (w .tree) (w .slots) free row ≡ notesIn trees (getD plan at 0) (w .slots) free row → branches (w .tree) ≡ branchesIn trees
       → length (write (w .tree)) ≡ suc (suc (length (writes trees))) → length (w .rows) ≡ rowCount groups
       → ((g : Run) (cs : List ℕ) → groups ≡ g ∷ [] → One (g .rows) cs → One (w .rows) (g .cell ∷ cs)) → Only
   unfolding notes branches write first-of
   only-by end e x n c l r o = absurd (omega arith)
   only-by (next {g = g} p end) e x n c l r o = record {
     one = first-of x;
-    same-notes = n ∙ append-nil (notesAt p (g .cell) (getD plan at 0) (w .slots) made free);
+    same-notes = n ∙ append-nil (notesAt p (g .cell) (getD plan at 0) (w .slots) free row);
     count = omega arith;
     cells = omega (arith, length-append (write p) []);
     rows = omega arith;
-    row = λ cs. o g cs refl;
+    alone = λ cs. o g cs refl;
   }
   only-by (next p (next q bs)) e x n c l r o = absurd (omega arith)
 
@@ -97,7 +97,7 @@ module _ {plan links noted : List ℕ} {at k made free : ℕ} (w : Ready plan li
       by n (inr l) = let z : k ≡ 0 = (let o = ltb-false 0 k l in omega arith) in one-leaf (w .left) (w .rows) (rw z at (w .fit))
 
 -- Along single branches: so far none is passed, or one more.
-module _ {plan links noted : List ℕ} {at k made free : ℕ} (w : Ready plan links noted at k made free) where
+module _ {plan links noted : List ℕ} {at k made free row : ℕ} (w : Ready plan links noted at k made free row) where
   pub went-none : Went w links noted at k made free
   unfolding finished
   went-none = record {
@@ -122,13 +122,12 @@ module _ {plan links noted : List ℕ} {at k made free : ℕ} (w : Ready plan li
         let x = o .one in
         let c : ℕ = x .group .cell in
         let l : ℕ = getD (x .slots) (getD plan at′ 0) 0 in
-        let y : ℕ = partOf c l free′ in
+        let y : ℕ = partOf c row free′ l in
         let q : at′ + 3 ≡ at′ + 2 + 1 = omega arith in
         let s : made′ + 1 + branches (x .tree) ≡ made + branches (w .tree) = omega (arith, g .count, o .count) in
         let r : length (x .group .rows) ≡ length (w .rows) = sym (o .rows) ∙ g .same-rows in
-        let S : ℕ = made + branches (w .tree) in
-        let T : ℕ = length (w .rows) in
-        let W : List ℕ = map word (notes (x .tree) (below (getD plan at′ 0) (arity c) free′ (x .slots)) (made′ + 1) (free′ + arity c)) in
+        let S : ℕ = branches (x .tree) in
+        let W : List ℕ = map word (notes (x .tree) (below (getD plan at′ 0) (arity c) free′ (x .slots)) (free′ + arity c) row) in
         let here : cellIn y ≡ c = number-cell x b in
         rw (q, arity-is x b)
         (record {
@@ -139,15 +138,13 @@ module _ {plan links noted : List ℕ} {at k made free : ℕ} (w : Ready plan li
           wrote = number-is x b ∙ added noted noted′ made made′ (g .parts) y (g .wrote) (g .next);
           next = omega (arith, g .next, length-append (g .parts) (y ∷ []));
           whole = λ cs u.
-              let h = g .whole (cellIn y ∷ cs) (rw here (o .row cs u)) in
+              let h = g .whole (cellIn y ∷ cs) (rw here (o .alone cs u)) in
               let f : flag (run c (x .group .rows)) ≡ repeats (cellIn y) cs = rw here (flag-is (x .group) cs (x .sound .lone) u) in
-              let n : word (branch c (made′ + 1 + branches (x .tree)) (length (x .group .rows)) l free′ (flag (run c (x .group .rows))))
-              ≡ ended S T y + cond (repeats (cellIn y) cs) 1 0 * 2 ^ 63 =
-              word-is c (made′ + 1 + branches (x .tree)) (length (x .group .rows)) l free′ (flag (run c (x .group .rows)))
-              ∙ ap₂ (λ (s r : ℕ). ended s r y + cond (flag (run c (x .group .rows))) 1 0 * 2 ^ 63) s r ∙ ap (λ (z : Bool). ended S T y + cond z 1 0 * 2 ^ 63) f in (
+              let n : word (branch c S row l free′ (flag (run c (x .group .rows)))) ≡ ended S y + cond (repeats (cellIn y) cs) 1 0 * 2 ^ 63 =
+              word-is c S row l free′ (flag (run c (x .group .rows))) ∙ ap (λ (z : Bool). ended S y + cond z 1 0 * 2 ^ 63) f in (
                 one-moved (w .rows) (g .parts) y cs (h .0),
-                h .1 ∙ ap (λ (t : List Branch). finished S T (g .parts) (cellIn y ∷ cs) ++ map word t) (o .same-notes)
-                    ∙ ap (λ (z : ℕ). finished S T (g .parts) (cellIn y ∷ cs) ++ (z ∷ W)) n ∙ finished-more S T (g .parts) y cs W,
+                h .1 ∙ ap (λ (t : List Branch). finished (branches (g .lower .tree)) (g .parts) (cellIn y ∷ cs) ++ map word t) (o .same-notes)
+                    ∙ ap₂ (λ (s z : ℕ). finished s (g .parts) (cellIn y ∷ cs) ++ (z ∷ W)) (o .count) n ∙ finished-more S (g .parts) y cs W,
               );
           count = s;
           same-rows = r;
@@ -156,7 +153,7 @@ module _ {plan links noted : List ℕ} {at k made free : ℕ} (w : Ready plan li
         })
 
     pub went-on : 0 < k′ → getD plan (at′ + 1) 0 ≡ 1 → {links″ noted″ : List ℕ} {a : ℕ}
-        → ((x : Met plan links′ noted′ (getD plan at′ 0) (at′ + 2) made′ free′) → Begun x links″ noted″ a) → Went w links″ noted″ (at′ + 3) (a + (k′ - 1)) (made′ + 1) (free′ + a)
+        → ((x : Met plan links′ noted′ (getD plan at′ 0) (at′ + 2) made′ free′ row) → Begun x links″ noted″ a) → Went w links″ noted″ (at′ + 3) (a + (k′ - 1)) (made′ + 1) (free′ + a)
     went-on l e f = let o = only (g .lower) l e in went-by o (f (met (o .one)))
 
 -- A branch and all below it: numbers that are written over, and the end.
@@ -186,14 +183,14 @@ all-stored l l₁ l₂ l₃ i j y ps W e₁ e₂ q e₃ =
     let z : i + 1 ≡ suc i = omega arith in
     e₃ ∙ rw (e₂, e₁, q, z) (sets-sets (set l i y) (suc i) ps W)
 
-module _ {plan links noted : List ℕ} {i place k made free : ℕ} (w : ReadyAt plan links noted i place k made free)
+module _ {plan links noted : List ℕ} {i place k made free row : ℕ} (w : ReadyAt plan links noted i place k made free row)
     {links₁ noted₁ : List ℕ} {a : ℕ} (b : Begun (met w) links₁ noted₁ a) where
   -- the state below it, with the number of arguments that the code counts
-  pub under : Ready plan links₁ noted₁ (place + 1) (a + (k - 1)) (made + 1) (free + a)
+  pub under : Ready plan links₁ noted₁ (place + 1) (a + (k - 1)) (made + 1) (free + a) row
   under = rw (arity-is w b) (lower-of w b)
 
   module _ {links₂ noted₂ : List ℕ} {at′ k′ made′ free′ : ℕ}
-      (f : (v : Ready plan links₁ noted₁ (place + 1) (a + (k - 1)) (made + 1) (free + a)) → Followed v links₂ noted₂ at′ k′ made′ free′) where
+      (f : (v : Ready plan links₁ noted₁ (place + 1) (a + (k - 1)) (made + 1) (free + a) row) → Followed v links₂ noted₂ at′ k′ made′ free′) where
     followed : Followed (lower-of w b) links₂ noted₂ at′ k′ made′ free′
     followed = (rw (arity-is w b) at f) (lower-of w b)
 
@@ -203,10 +200,10 @@ module _ {plan links noted : List ℕ} {i place k made free : ℕ} (w : ReadyAt 
 
     module _ {noted₃ : List ℕ} {p : Past} (d : StateDone (went .lower) noted₃ p) where
       abbrev y : ℕ
-      y = partOf (w .group .cell) (getD (w .slots) i 0) free
+      y = partOf (w .group .cell) row free (getD (w .slots) i 0)
 
       abbrev W : List ℕ
-      W = map word (notes (went .lower .tree) (went .lower .slots) made′ free′)
+      W = map word (notes (went .lower .tree) (went .lower .slots) free′ row)
 
       stored : noted₃ ≡ sets noted made ((y ∷ went .parts) ++ W)
       stored = all-stored noted noted₁ noted₂ noted₃ made made′ y (went .parts) W (number-is w b) (went .wrote) (went .next) (d .wrote)
@@ -215,43 +212,43 @@ module _ {plan links noted : List ℕ} {i place k made free : ℕ} (w : ReadyAt 
       unfolding lower-of
       skip-is = d .next ∙ went .count
 
-      rows-are : p .rows ≡ length (w .group .rows)
+      rows-are : p .row ≡ row + length (w .group .rows)
       unfolding lower-of
-      rows-are = d .has ∙ went .same-rows
+      rows-are = d .has ∙ ap (λ (n : ℕ). row + n) (went .same-rows)
 
       words-fit : made + length ((y ∷ went .parts) ++ W) ≤ length noted
       words-fit =
-          omega (arith, length-append (went .parts) W, words-count (went .lower .tree) (went .lower .slots) made′ free′, went .lower .room, went .next, w .array)
+          omega (arith, length-append (went .parts) W, words-count (went .lower .tree) (went .lower .slots) free′ row, went .lower .room, went .next, w .array)
 
       sliced : slice made made′ noted₃ ≡ y ∷ went .parts
       sliced = front-found noted noted₃ (y ∷ went .parts) W made made′ stored (omega (arith, went .next)) words-fit
 
-      pub ending : Ending noted₃ made made′ (p .made) (p .rows)
+      pub ending : Ending noted₃ made made′ (p .made)
       ending = record {
         up = omega (arith, went .next);
-        few = omega (arith, went .lower .room);
-        skips = omega (arith, skip-is, w .room);
-        has = omega (arith, rows-are, w .few);
+        on = omega (arith, d .next);
+        few = omega (arith, skip-is, w .room);
         parts = rw sliced (number-low w b, went .low);
         low = rw sliced (rw (number-cell w b) (w .sound .cell), went .few);
         size = done-long d ∙ went .lower .array;
       }
 
-      pub branch-done : {noted₄ : List ℕ} → noted₄ ≡ sets noted₃ made (finished (p .made) (p .rows) (slice made made′ noted₃) []) → BranchDone w noted₄ p
+      pub branch-done : {noted₄ : List ℕ} → noted₄ ≡ sets noted₃ made (finished (p .made - made′) (slice made made′ noted₃) []) → BranchDone w noted₄ p
       unfolding lower-of finished went
       branch-done {noted₄} e =
           let c : ℕ = w .group .cell in
-          let s : ℕ = made + 1 + branches (w .tree) in
-          let r : ℕ = length (w .group .rows) in
-          let X : List ℕ = finished s r (y ∷ went .parts) [] in
+          let s : ℕ = branches (went .lower .tree) in
+          let over : p .made - made′ ≡ s = omega (arith, d .next) in
+          let all : branches (w .tree) ≡ length (went .parts) + s = omega (arith, went .next, went .count) in
+          let X : List ℕ = finished s (y ∷ went .parts) [] in
           let h = went .whole [] (followed .ends) in
           let f : flag (run c (w .group .rows)) ≡ repeats (cellIn y) (map cellIn (went .parts) ++ []) =
           rw (number-cell w b) (flag-is (w .group) (map cellIn (went .parts) ++ []) (w .sound .lone) (h .0)) in
-          let n : map word (notesAt (w .tree) c i (w .slots) made free) ≡ X ++ W =
-          ap₂ (λ (x : ℕ) (xs : List ℕ). x ∷ xs) (word-is c s r (getD (w .slots) i 0) free (flag (run c (w .group .rows))) ∙ rw f refl) (h .1) in
-          let z : noted₄ ≡ sets noted₃ made X = rw (skip-is, rows-are, sliced) at e in
+          let n : map word (notesAt (w .tree) c i (w .slots) free row) ≡ X ++ W =
+          ap₂ (λ (x : ℕ) (xs : List ℕ). x ∷ xs) (word-is c (branches (w .tree)) row (getD (w .slots) i 0) free (flag (run c (w .group .rows))) ∙ rw (f, all) refl) (h .1) in
+          let z : noted₄ ≡ sets noted₃ made X = rw (over, sliced) at e in
           record {
-            wrote = z ∙ rw stored (stored-over noted made (y ∷ went .parts) X W (finished-length s r (y ∷ went .parts) [])) ∙ ap (sets noted made) (sym n);
+            wrote = z ∙ rw stored (stored-over noted made (y ∷ went .parts) X W (finished-length s (y ∷ went .parts) [])) ∙ ap (sets noted made) (sym n);
             after = omega (arith, d .after, went .after);
             next = omega (arith, skip-is);
             has = rows-are;

@@ -44,7 +44,7 @@ start w h = record {
 
 -- The first state.
 module _ {plan links array : List ℕ} {width : ℕ} (w : Accepted plan array width) (e : links ≡ upFrom 1 64) where
-  pub first-state : Ready plan links array 0 width 0 32
+  pub first-state : Ready plan links array 0 width 0 32 0
   first-state =
       let f = rows-fit width (w .rows) (w .is .each) in
       let c = w .is .count in
@@ -55,7 +55,7 @@ module _ {plan links array : List ℕ} {width : ℕ} (w : Accepted plan array wi
         cells = w .cells ∙ sym (append-nil (write (w .tree)));
         size = rw (w .cells) (size-bound (w .tree) f (c .0) (c .1));
         some = c .0;
-        few = c .1;
+        few = omega (arith, c .1);
         left = 32;
         deep = omega arith;
         fit = f;
@@ -68,7 +68,7 @@ module _ {plan links array : List ℕ} {width : ℕ} (w : Accepted plan array wi
         array = w .array;
       }
 
-  pub all-noted : {array′ : List ℕ} {p : Past} → ((v : Ready plan links array 0 width 0 32) → StateDone v array′ p) → AllNoted w array′
+  pub all-noted : {array′ : List ℕ} {p : Past} → ((v : Ready plan links array 0 width 0 32 0) → StateDone v array′ p) → AllNoted w array′
   unfolding first-state
   all-noted f = f first-state .wrote
 
@@ -92,8 +92,8 @@ module _ {t p : List ℕ} {b : ℕ} (x : PlanFor t p b) where
     unfolding accepted-there
     handed-on {array′} f =
         let w : ℕ = x .table .width in
-        let W : List ℕ = map word (notes (x .tree) (upFrom 1 w) 0 32) in
-        let q : 0 + length W ≡ branches (x .tree) = omega (arith, words-count (x .tree) (upFrom 1 w) 0 32) in
+        let W : List ℕ = map word (notes (x .tree) (upFrom 1 w) 32 0) in
+        let q : 0 + length W ≡ branches (x .tree) = omega (arith, words-count (x .tree) (upFrom 1 w) 32 0) in
         let s : array′ ≡ sets array 0 W = (rw (two-cells .1) at f) accepted-there in
         noted (x .table) (x .tree) (table-accepted t w (x .table .rows) .1 (x .is)) (sym (x .cells)) (ap plan-answer.Accepted (sym (x .count))) (two-cells .1) (two-cells .2)
         (s ∙ sets-eq W array 0 (omega (arith, branches-few (x .is) (x .tree))) ∙ ap (λ (k : ℕ). W ++ drop k array) q)

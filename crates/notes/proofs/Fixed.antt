@@ -19,7 +19,7 @@ use Rattle.notes.proofs.HandedLaws.{handed-says}
 
 -- what is noted of a plan, before other numbers
 abbrev whole : (before : List ℕ) (k : ℕ) (rows : List (List ℕ)) → Plan k rows → List ℕ
-whole before k rows tree = map word (notes tree (upFrom 1 k) 0 32) ++ drop (branches tree) before
+whole before k rows tree = map word (notes tree (upFrom 1 k) 32 0) ++ drop (branches tree) before
 
 -- an accepted plan is not turned away
 not-both : {n : ℕ} {f : Refused} {a : PlanAnswer} {B : Type 0} → a ≡ plan-answer.Accepted n → planTold a ≡ turned f → B

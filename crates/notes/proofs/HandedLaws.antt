@@ -46,7 +46,7 @@ for-run {t} {p} {before} {m = m} {b} (noted T tree e c a w n k) d =
       number = z;
       same-width = w;
       same-rows = n;
-      words = rw (k, z) (take-at (map word (notes tree s 0 32)) (drop (branches tree) before) (branches tree) (words-count tree s 0 32));
+      words = rw (k, z) (take-at (map word (notes tree s 32 0)) (drop (branches tree) before) (branches tree) (words-count tree s 32 0));
       fit = notes-fit (is-table t e) tree;
     }
 for-run {m = m} {b} (refused f e a w n k) d =

@@ -50,19 +50,20 @@ sets-more : (l : List ℕ) (i j : ℕ) (xs ys : List ℕ) → j ≡ i + length x
 sets-more l i j xs ys e = rw e (sets-sets l i xs ys)
 
 -- there is a number for each branch
-pub words-count : {k : ℕ} {rows : List (List ℕ)} (p : Plan k rows) (slots : List ℕ) (made free : ℕ) → length (map word (notes p slots made free)) ≡ branches p
-words-count p slots made free = length-map (notes p slots made free) word ∙ notes-count p slots made free
+pub words-count : {k : ℕ} {rows : List (List ℕ)} (p : Plan k rows) (slots : List ℕ) (free row : ℕ) → length (map word (notes p slots free row)) ≡ branches p
+words-count p slots free row = length-map (notes p slots free row) word ∙ notes-count p slots free row
 
 -- the array stays as long as it was
-pub done-long : {noted noted′ words : List ℕ} {place cells made count rows : ℕ} {p : Past} → Done noted noted′ words place cells made count rows p → length noted′ ≡ length noted
+pub done-long : {noted noted′ words : List ℕ} {place cells made count row rows : ℕ} {p : Past} → Done noted noted′ words place cells made count row rows p
+    → length noted′ ≡ length noted
 done-long {noted} {words = words} {made = made} d = ap length (d .wrote) ∙ length-sets noted made words
 
 -- A leaf.
 
-leaf-notes : {k : ℕ} {rows : List (List ℕ)} (p : Plan k rows) (slots : List ℕ) (made free : ℕ) → k ≡ 0 → notes p slots made free ≡ []
+leaf-notes : {k : ℕ} {rows : List (List ℕ)} (p : Plan k rows) (slots : List ℕ) (free row : ℕ) → k ≡ 0 → notes p slots free row ≡ []
 unfolding notes
-leaf-notes leaf slots made free e = refl
-leaf-notes (node i h bs) slots made free e = absurd (omega arith)
+leaf-notes leaf slots free row e = refl
+leaf-notes (node i h bs) slots free row e = absurd (omega arith)
 
 leaf-branches : {k : ℕ} {rows : List (List ℕ)} (p : Plan k rows) → k ≡ 0 → branches p ≡ 0
 unfolding branches
@@ -75,7 +76,7 @@ record Inner {k : ℕ} {rows : List (List ℕ)} (p : Plan k rows) (j : ℕ) : Ty
   pub bound : i ≤ j
   pub trees : Branches j (runs i rows)
   pub cells : write p ≡ i ∷ (length (runs i rows) ∷ writes trees)
-  pub noted : (slots : List ℕ) (made free : ℕ) → notes p slots made free ≡ notesIn trees i slots made free
+  pub noted : (slots : List ℕ) (free row : ℕ) → notes p slots free row ≡ notesIn trees i slots free row
   pub low : Cells Low p → CellsIn Low trees
   pub count : branches p ≡ branchesIn trees
 
@@ -84,7 +85,7 @@ unfolding write notes branches Cells
 inner leaf j e = absurd (omega arith)
 inner (node {k} {rows} i h bs) j e =
     subst (λ (j : ℕ). Inner (node {k = k} {rows = rows} i h bs) j) (let z : k ≡ j = omega arith in z)
-    (record { i = i; bound = h; trees = bs; cells = refl; noted = λ slots made free. refl; low = λ c. c; count = refl })
+    (record { i = i; bound = h; trees = bs; cells = refl; noted = λ slots free row. refl; low = λ c. c; count = refl })
 
 -- no more places are open than a row has cells
 fits-wide : (n k : ℕ) (rows : List (List ℕ)) → All (Fits n k) rows → 0 < length rows → k ≤ n
@@ -98,13 +99,13 @@ first-cell plan behind at (leaf {rows}) e = read plan at (length rows) behind e 
 first-cell plan behind at (node {rows = rows} i l bs) e = read plan at i (length (runs i rows) ∷ (writes bs ++ behind)) e .0
 
 -- some of a state's branches, from a cell of the plan on
-pub record ReadyIn (plan links noted slots : List ℕ) (i place k made free : ℕ) {groups : List Run} (trees : Branches (k - 1) groups) : Type 0 where
+pub record ReadyIn (plan links noted slots : List ℕ) (i place k made free row : ℕ) {groups : List Run} (trees : Branches (k - 1) groups) : Type 0 where
   pub behind : List ℕ
   pub cells : drop place plan ≡ writes trees ++ behind
   pub size : length plan ≤ 6082
   pub most : ℕ
   pub some : Sized most groups
-  pub few : rowCount groups ≤ 64
+  pub few : row + rowCount groups ≤ 64
   pub left : ℕ
   pub deep : left ≤ 32
   pub fit : Each (λ (c : ℕ). Fits left (arity c + (k - 1))) groups
@@ -116,20 +117,20 @@ pub record ReadyIn (plan links noted slots : List ℕ) (i place k made free : �
   pub room : made + branchesIn trees ≤ 2048
   pub array : length noted ≡ 2048
 
-module _ {plan links noted : List ℕ} {at k made free : ℕ} (w : Ready plan links noted at k made free) where
+module _ {plan links noted : List ℕ} {at k made free row : ℕ} (w : Ready plan links noted at k made free row) where
   -- the numbers that the code keeps are small
   pub state-bounds : (at < length plan) × (length plan ≤ 6082) × (k ≤ 32) × (made ≤ 2048) × (free ≤ 63)
   state-bounds =
       let l = fits-wide (w .left) k (w .rows) (w .fit) (w .some) in
       (first-cell plan (w .behind) at (w .tree) (w .cells), w .size, omega (arith, w .deep), omega (arith, w .room), omega (arith, w .enough))
 
-  leaf-read : k ≡ 0 → getD plan at 0 ≡ length (w .rows)
+  pub leaf-read : k ≡ 0 → getD plan at 0 ≡ length (w .rows)
   leaf-read e = read plan at (length (w .rows)) (w .behind) (w .cells ∙ ap (λ (x : List ℕ). x ++ w .behind) (leaf-cells (w .tree) e)) .1
 
-  pub leaf-done : k ≡ 0 → StateDone w noted (record { place = at + 1; made = made; rows = getD plan at 0 })
+  pub leaf-done : k ≡ 0 → StateDone w noted (record { place = at + 1; made = made; row = row + getD plan at 0 })
   leaf-done e =
-      rw (leaf-notes (w .tree) (w .slots) made free e, leaf-branches (w .tree) e, leaf-cells (w .tree) e)
-      (record { wrote = refl; after = refl; next = omega arith; has = leaf-read e })
+      rw (leaf-notes (w .tree) (w .slots) free row e, leaf-branches (w .tree) e, leaf-cells (w .tree) e)
+      (record { wrote = refl; after = refl; next = omega arith; has = omega (arith, leaf-read e) })
 
   -- all of its branches
   pub record Inside : Type 0 where
@@ -137,8 +138,8 @@ module _ {plan links noted : List ℕ} {at k made free : ℕ} (w : Ready plan li
     pub trees : Branches (k - 1) groups
     pub reads : at + 1 < length plan
     pub number : getD plan (at + 1) 0 ≡ length groups
-    pub within : ReadyIn plan links noted (w .slots) (getD plan at 0) (at + 2) k made free trees
-    pub same-notes : notes (w .tree) (w .slots) made free ≡ notesIn trees (getD plan at 0) (w .slots) made free
+    pub within : ReadyIn plan links noted (w .slots) (getD plan at 0) (at + 2) k made free row trees
+    pub same-notes : notes (w .tree) (w .slots) free row ≡ notesIn trees (getD plan at 0) (w .slots) free row
     pub count : branches (w .tree) ≡ branchesIn trees
     pub cells : length (write (w .tree)) ≡ suc (suc (length (writes trees)))
     pub rows : length (w .rows) ≡ rowCount groups
@@ -180,7 +181,7 @@ module _ {plan links noted : List ℕ} {at k made free : ℕ} (w : Ready plan li
           room = omega (arith, n .count, w .room);
           array = w .array;
         });
-        same-notes = rw (r .1) (n .noted (w .slots) made free);
+        same-notes = rw (r .1) (n .noted (w .slots) free row);
         count = n .count;
         cells = ap length (n .cells);
         rows = sym y;
@@ -193,9 +194,9 @@ module _ {plan links noted : List ℕ} {at k made free : ℕ} (w : Ready plan li
   inside l = inside-by (inner (w .tree) (k - 1) (omega arith)) l
 
 -- The first of some branches, and the others once it is noted.
-module _ {plan links noted slots : List ℕ} {i place k made free : ℕ} {g : Run} {gs : List Run} {p : Plan (arity (g .cell) + (k - 1)) (g .rows)}
-    {bs : Branches (k - 1) gs} (w : ReadyIn plan links noted slots i place k made free (next p bs)) where
-  unfoldable pub first-of : ReadyAt plan links noted i place k made free
+module _ {plan links noted slots : List ℕ} {i place k made free row : ℕ} {g : Run} {gs : List Run} {p : Plan (arity (g .cell) + (k - 1)) (g .rows)}
+    {bs : Branches (k - 1) gs} (w : ReadyIn plan links noted slots i place k made free row (next p bs)) where
+  unfoldable pub first-of : ReadyAt plan links noted i place k made free row
   unfolding write branches Cells
   first-of = record {
     group = g;
@@ -219,7 +220,7 @@ module _ {plan links noted slots : List ℕ} {i place k made free : ℕ} {g : Ru
     array = w .array;
   }
 
-  pub others-of : {noted′ : List ℕ} {q : Past} → BranchDone first-of noted′ q → ReadyIn plan links noted′ slots i (q .place) k (q .made) free bs
+  pub others-of : {noted′ : List ℕ} {q : Past} → BranchDone first-of noted′ q → ReadyIn plan links noted′ slots i (q .place) k (q .made) free (q .row) bs
   unfolding first-of branches Cells
   others-of {noted′} {q} d =
       let r = read plan place (g .cell) (write p ++ (writes bs ++ w .behind)) (first-of .cells) in
@@ -230,7 +231,7 @@ module _ {plan links noted slots : List ℕ} {i place k made free : ℕ} {g : Ru
         size = w .size;
         most = w .most;
         some = w .some .1;
-        few = omega (arith, w .few);
+        few = omega (arith, w .few, d .has);
         left = w .left;
         deep = w .deep;
         fit = w .fit .1;
@@ -246,7 +247,7 @@ module _ {plan links noted slots : List ℕ} {i place k made free : ℕ} {g : Ru
 -- A state below a branch.
 
 -- the place it looks at is there, and slots for its arguments are
-module _ {plan links noted : List ℕ} {i place k made free : ℕ} (w : ReadyAt plan links noted i place k made free) where
+module _ {plan links noted : List ℕ} {i place k made free row : ℕ} (w : ReadyAt plan links noted i place k made free row) where
   abbrev c : ℕ
   c = w .group .cell
 
@@ -260,11 +261,12 @@ module _ {plan links noted : List ℕ} {i place k made free : ℕ} (w : ReadyAt 
   branch-bounds =
       (branch-read .0, w .size, omega (arith, w .here), omega (arith, open-below, w .deep), omega (arith, w .room), omega (arith, open-below, w .enough, w .here))
 
-  pub met : Met plan links noted i place made free
+  pub met : Met plan links noted i place made free row
   met = record {
     here = branch-read .0;
     spot = record { slots = w .slots; opens = w .opens; here = omega (arith, w .here, w .number); room = rw (branch-read .1) (omega (arith, branch-bounds)) };
     few = omega (arith, w .room);
+    first = omega (arith, w .some, w .few);
     size = w .array;
   }
 
@@ -273,19 +275,19 @@ module _ {plan links noted : List ℕ} {i place k made free : ℕ} (w : ReadyAt 
     pub arity-is : a ≡ arity c
     arity-is = b .count ∙ ap arity (branch-read .1)
 
-    pub number-is : noted′ ≡ set noted made (partOf c (getD (w .slots) i 0) free)
+    pub number-is : noted′ ≡ set noted made (partOf c row free (getD (w .slots) i 0))
     unfolding met
     number-is = rw (branch-read .1) at (b .wrote)
 
-    pub number-low : Part (partOf c (getD (w .slots) i 0) free)
+    pub number-low : Part (partOf c row free (getD (w .slots) i 0))
     unfolding met
     number-low = rw (branch-read .1) at (b .low)
 
-    pub number-cell : cellIn (partOf c (getD (w .slots) i 0) free) ≡ c
+    pub number-cell : cellIn (partOf c row free (getD (w .slots) i 0)) ≡ c
     unfolding met
     number-cell = rw (branch-read .1) at (b .cell)
 
-    unfoldable pub lower-of : Ready plan links′ noted′ (place + 1) (arity c + (k - 1)) (made + 1) (free + arity c)
+    unfoldable pub lower-of : Ready plan links′ noted′ (place + 1) (arity c + (k - 1)) (made + 1) (free + arity c) row
     unfolding met
     lower-of = record {
       rows = w .group .rows;
@@ -304,32 +306,33 @@ module _ {plan links noted : List ℕ} {i place k made free : ℕ} (w : ReadyAt 
       number = below-long i (arity c) free (w .slots) (omega (arith, w .here, w .number)) ∙ omega (arith, w .number);
       opens = rw arity-is at (b .opens);
       room = omega (arith, w .room);
-      array = ap length number-is ∙ length-set noted made (partOf c (getD (w .slots) i 0) free) ∙ w .array;
+      array = ap length number-is ∙ length-set noted made (partOf c row free (getD (w .slots) i 0)) ∙ w .array;
     }
 
 -- The loop over a state's branches: those that are left, and that with them all is noted.
-module _ {plan links noted₀ : List ℕ} {at k made₀ free : ℕ} (w : Ready plan links noted₀ at k made₀ free) where
+module _ {plan links noted₀ : List ℕ} {at k made₀ free row₀ : ℕ} (w : Ready plan links noted₀ at k made₀ free row₀) where
   abbrev at-place : ℕ
   at-place = getD plan at 0
 
-  pub record RestOf (noted : List ℕ) (place made rows left : ℕ) {groups : List Run} (trees : Branches (k - 1) groups) : Type 0 where
-    pub ready : ReadyIn plan links noted (w .slots) (getD plan at 0) place k made free trees
+  pub record RestOf (noted : List ℕ) (here : Past) (left : ℕ) {groups : List Run} (trees : Branches (k - 1) groups) : Type 0 where
+    pub ready : ReadyIn plan links noted (w .slots) (getD plan at 0) (here .place) k (here .made) free (here .row) trees
     pub number : left ≡ length groups
-    pub wrote : sets noted made (map word (notesIn trees (getD plan at 0) (w .slots) made free)) ≡ sets noted₀ made₀ (map word (notes (w .tree) (w .slots) made₀ free))
-    pub after : place + length (writes trees) ≡ at + length (write (w .tree))
-    pub count : made + branchesIn trees ≡ made₀ + branches (w .tree)
-    pub has : rows + rowCount groups ≡ length (w .rows)
-    pub later : at < place
+    pub wrote : sets noted (here .made) (map word (notesIn trees (getD plan at 0) (w .slots) free (here .row)))
+        ≡ sets noted₀ made₀ (map word (notes (w .tree) (w .slots) free row₀))
+    pub after : here .place + length (writes trees) ≡ at + length (write (w .tree))
+    pub count : here .made + branchesIn trees ≡ made₀ + branches (w .tree)
+    pub has : here .row + rowCount groups ≡ row₀ + length (w .rows)
+    pub later : at < here .place
 
-  pub record Rest (noted : List ℕ) (place made rows left : ℕ) : Type 0 where
+  pub record Rest (noted : List ℕ) (here : Past) (left : ℕ) : Type 0 where
     pub groups : List Run
     pub trees : Branches (k - 1) groups
-    pub rest : RestOf noted place made rows left trees
+    pub rest : RestOf noted here left trees
 
-  pub all-left : 0 < k → Rest noted₀ (at + 2) made₀ 0 (getD plan (at + 1) 0)
+  pub all-left : 0 < k → Rest noted₀ (record { place = at + 2; made = made₀; row = row₀ }) (getD plan (at + 1) 0)
   all-left l = by (inside w l)
     where
-      by : Inside w → Rest noted₀ (at + 2) made₀ 0 (getD plan (at + 1) 0)
+      by : Inside w → Rest noted₀ (record { place = at + 2; made = made₀; row = row₀ }) (getD plan (at + 1) 0)
       by x = record {
         groups = x .groups;
         trees = x .trees;
@@ -345,39 +348,41 @@ module _ {plan links noted₀ : List ℕ} {at k made₀ free : ℕ} (w : Ready p
       }
 
   -- none is left
-  none-by : {noted : List ℕ} {place made rows left : ℕ} {groups : List Run} (trees : Branches (k - 1) groups) → RestOf noted place made rows left trees → left ≡ 0
-      → StateDone w noted (record { place = place; made = made; rows = rows })
+  none-by : {noted : List ℕ} {here : Past} {left : ℕ} {groups : List Run} (trees : Branches (k - 1) groups) → RestOf noted here left trees → left ≡ 0
+      → StateDone w noted here
   unfolding notes branches write
   none-by end r e = record { wrote = r .wrote; after = omega (arith, r .after); next = omega (arith, r .count); has = omega (arith, r .has) }
   none-by (next p bs) r e = absurd (omega (arith, r .number))
 
-  pub none-left : {noted : List ℕ} {place made rows left : ℕ} → Rest noted place made rows left → left ≡ 0 → StateDone w noted (record { place = place; made = made; rows = rows })
+  pub none-left : {noted : List ℕ} {here : Past} {left : ℕ} → Rest noted here left → left ≡ 0 → StateDone w noted here
   none-left r e = none-by (r .trees) (r .rest) e
 
   -- the next one, and the others once it is noted
-  pub record First (noted : List ℕ) (place made rows left : ℕ) : Type 0 where
-    pub one : ReadyAt plan links noted (getD plan at 0) place k made free
-    pub others : (noted′ : List ℕ) (q : Past) → BranchDone one noted′ q → Rest noted′ (q .place) (q .made) (rows + q .rows) (left - 1)
+  pub record First (noted : List ℕ) (here : Past) (left : ℕ) : Type 0 where
+    pub one : ReadyAt plan links noted (getD plan at 0) (here .place) k (here .made) free (here .row)
+    pub others : (noted′ : List ℕ) (q : Past) → BranchDone one noted′ q → Rest noted′ q (left - 1)
 
-  first-by : {noted : List ℕ} {place made rows left : ℕ} {groups : List Run} (trees : Branches (k - 1) groups) → RestOf noted place made rows left trees → 0 < left
-      → First noted place made rows left
+  first-by : {noted : List ℕ} {here : Past} {left : ℕ} {groups : List Run} (trees : Branches (k - 1) groups) → RestOf noted here left trees → 0 < left
+      → First noted here left
   unfolding notes branches write first-of
   first-by end r l = absurd (omega (arith, r .number))
-  first-by {noted} {place} {made} {rows} {left} (next {g = g} {gs = gs} p bs) r l = record {
+  first-by {noted} {here} {left} (next {g = g} {gs = gs} p bs) r l = record {
     one = first-of (r .ready);
     others = λ noted′ q d.
         let i : ℕ = getD plan at 0 in
+        let made : ℕ = here .made in
+        let row : ℕ = here .row in
         let e : q .made ≡ made + 1 + branches p = d .next ∙ omega arith in
-        let A = notesAt p (g .cell) i (w .slots) made free in
-        let B = notesIn bs i (w .slots) (made + 1 + branches p) free in
-        let z = words-count p (below i (arity (g .cell)) free (w .slots)) (made + 1) (free + arity (g .cell)) in
+        let A = notesAt p (g .cell) i (w .slots) free row in
+        let B = notesIn bs i (w .slots) free (row + length (g .rows)) in
+        let z = words-count p (below i (arity (g .cell)) free (w .slots)) (free + arity (g .cell)) row in
         record {
           groups = gs;
           trees = bs;
           rest = record {
             ready = others-of (r .ready) d;
             number = omega (arith, r .number);
-            wrote = rw (d .wrote, e) (sets-more noted made (made + 1 + branches p) (map word A) (map word B) (omega arith) ∙ ap (sets noted made) (sym (map-append word A B)) ∙ r .wrote);
+            wrote = rw (d .wrote, e, d .has) (sets-more noted made (made + 1 + branches p) (map word A) (map word B) (omega arith) ∙ ap (sets noted made) (sym (map-append word A B)) ∙ r .wrote);
             after = omega (arith, r .after, d .after, length-append (write p) (writes bs));
             count = omega (arith, r .count, d .next);
             has = omega (arith, r .has, d .has);
@@ -386,7 +391,7 @@ module _ {plan links noted₀ : List ℕ} {at k made₀ free : ℕ} (w : Ready p
         };
   }
 
-  pub first-left : {noted : List ℕ} {place made rows left : ℕ} → Rest noted place made rows left → 0 < left → First noted place made rows left
+  pub first-left : {noted : List ℕ} {here : Past} {left : ℕ} → Rest noted here left → 0 < left → First noted here left
   first-left r l = first-by (r .trees) (r .rest) l
 
 -- what is left of the plan falls, from a state to a branch and from a branch to a state

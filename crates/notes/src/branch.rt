@@ -1,9 +1,9 @@
-// What is noted of a branch, in two steps: its cell, its slot and the first slot free below it when it is met; where it ends, how many
-// rows it has and whether the rest of its row is run by itself when all below it is noted.
+// What is noted of a branch, in two steps: its cell, its first row, its slot and the first slot free below it when it is met; how many branches
+// are below it and whether the rest of its row is run by itself when all below it is noted.
 ghost use mathlib.Core.Path.{_≡_};
 ghost use mathlib.Core.Bool.{cond};
 ghost use mathlib.Core.List.{[]};
-ghost use Prim.Native.Nat.{_^_, _<_};
+ghost use Prim.Native.Nat.{_-_, _^_, _<_};
 ghost use lib.Dec.{eqb};
 ghost use lib.ListN.{length, getD, set};
 ghost use lib.Seq.{sets, slice};
@@ -15,23 +15,23 @@ use super::places::close;
 const ALONE: u64 = 1 << 63;
 
 // The number of a branch that is met.
-fn part(c: u32, slot: usize, next: usize) -> u64
-    requires { ⌜ (slot < 64) × (next < 64) ⌝ }
-    ensures { λ r. ⌜ r ≡ partOf c slot next ⌝ }
+fn part(c: u32, row: usize, next: usize, slot: usize) -> u64
+    requires { ⌜ (row < 64) × (next < 64) × (slot < 64) ⌝ }
+    ensures { λ r. ⌜ r ≡ partOf c row next slot ⌝ }
 {
-    c as u64 + ((slot as u64) << 51) + ((next as u64) << 57)
+    c as u64 + ((row as u64) << 44) + ((next as u64) << 51) + ((slot as u64) << 57)
 }
 
-// What is added to it when it has ended.
-fn end(skip: usize, rows: usize) -> u64
-    requires { ⌜ (skip < 2 ^ 12) × (rows < 2 ^ 7) ⌝ }
-    ensures { λ r. ⌜ r ≡ endOf skip rows ⌝ }
+// What is added to it when it has ended, with so many branches below it.
+fn end(skip: usize) -> u64
+    requires { ⌜ skip < 2 ^ 12 ⌝ }
+    ensures { λ r. ⌜ r ≡ endOf skip ⌝ }
 {
-    ((skip as u64) << 32) + ((rows as u64) << 44)
+    (skip as u64) << 32
 }
 
-// Meets the branch number `made`, whose cell is at `place` of the plan and whose state looks at the open place with index `i`. Its
-// arguments get the slots from `free` on; how many they are is answered.
+// Meets the branch number `made`, whose cell is at `place` of the plan, whose first row is `row` and whose state looks at the open place with
+// index `i`. Its arguments get the slots from `free` on; how many they are is answered.
 pub fn begin(
     plan: &[u32],
     links: &mut [u8; 64],
@@ -40,15 +40,16 @@ pub fn begin(
     place: usize,
     made: usize,
     free: usize,
+    row: usize,
 ) -> usize
-    requires { ⌜ Met (now plan) (now links) (now notes) i place made free ⌝ }
-    ensures { λ a. ⌜ ((w : Met (now (plan .entry)) (now (links .entry)) (now (notes .entry)) i place made free) → Begun w
+    requires { ⌜ Met (now plan) (now links) (now notes) i place made free row ⌝ }
+    ensures { λ a. ⌜ ((w : Met (now (plan .entry)) (now (links .entry)) (now (notes .entry)) i place made free row) → Begun w
         (now (links .exit)) (now (notes .exit)) a) ⌝ }
 {
     let c = plan[place];
     let a = cell::arity_of(c);
     let slot = close(links, i, a, free);
-    notes[made] = part(c, slot, free);
+    notes[made] = part(c, row, free, slot);
     a
 }
 
@@ -62,17 +63,17 @@ fn meet(seen: &mut [u8; 32], v: usize, again: u64) -> u64
     if before == 0 { again } else { ALONE }
 }
 
-// The branches from the number `from` to before `to` end together, before the branch number `skip`, and have the same number of rows. They
-// are finished from the last to the first, so that at a variable's branch it is known whether one is met twice from there on.
-pub fn finish(notes: &mut [u64], from: usize, to: usize, skip: usize, rows: usize)
-    requires { ⌜ Ending (now notes) from to skip rows ⌝ }
-    ensures { λ _. ⌜ now (notes .exit) ≡ sets (now (notes .entry)) from (finished skip rows (slice from to (now (notes .entry))) []) ⌝ }
+// The branches from the number `from` to before `to` end together, before the branch number `past`. They are finished from the last to the
+// first, so that at a variable's branch it is known whether one is met twice from there on.
+pub fn finish(notes: &mut [u64], from: usize, to: usize, past: usize)
+    requires { ⌜ Ending (now notes) from to past ⌝ }
+    ensures { λ _. ⌜ now (notes .exit) ≡ sets (now (notes .entry)) from (finished (past - to) (slice from to (now (notes .entry))) []) ⌝ }
 {
-    let more = end(skip, rows);
     let mut seen = [0u8; 32];
     let mut again = 0;
     let mut i = to;
     while from < i {
+        let more = end(past - i);
         i -= 1;
         let w = notes[i];
         let c = cell_of(w);

@@ -21,7 +21,7 @@ fn note_plan(plan: &[u32], width: usize, notes: &mut [u64])
     ensures { λ _. ⌜ ((w : Accepted (now (plan .entry)) (now (notes .entry)) width) → AllNoted w (now (notes .exit))) ⌝ }
 {
     let links = places::first_links();
-    tree::state(plan, &links, notes, 0, width, 0, 32);
+    tree::state(plan, &links, notes, 0, width, 0, 32, 0);
 }
 
 // The check of any plan for a table. Of an accepted plan, what a run needs is noted in the first of the lent numbers, one for each branch.

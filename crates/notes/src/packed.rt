@@ -1,7 +1,7 @@
 // The number that is noted of a branch, taken apart (crate plan, specs/Notes).
 ghost use mathlib.Core.Path.{_≡_};
 ghost use lib.Dec.{eqb};
-ghost use Rattle.plan.specs.Notes.{cellIn, skipIn, rowsIn, slotIn, nextIn, aloneIn};
+ghost use Rattle.plan.specs.Notes.{cellIn, skipIn, rowIn, slotIn, nextIn, aloneIn};
 
 pub fn wide(x: u8) -> usize
     ensures { λ r. ⌜ r ≡ x ⌝ }
@@ -22,30 +22,30 @@ pub fn cell_of(w: u64) -> u32
     (w & 0xffffffff) as u32
 }
 
-// Bits 43..32: the number of the first branch that is not below it.
-pub fn skip_of(w: u64) -> u16
+// Bits 43..32: how many branches are below it.
+pub fn skip_of(w: u64) -> usize
     ensures { λ r. ⌜ r ≡ skipIn w ⌝ }
 {
-    ((w >> 32) & 0xfff) as u16
+    ((w >> 32) & 0xfff) as usize
 }
 
-// Bits 50..44: its number of rows.
-pub fn rows_of(w: u64) -> usize
-    ensures { λ r. ⌜ r ≡ rowsIn w ⌝ }
+// Bits 49..44: its first row.
+pub fn row_of(w: u64) -> u8
+    ensures { λ r. ⌜ r ≡ rowIn w ⌝ }
 {
-    ((w >> 44) & 0x7f) as usize
+    ((w >> 44) & 0x3f) as u8
 }
 
-// Bits 56..51: the slot of the place that its state looks at.
-pub fn slot_of(w: u64) -> usize
-    ensures { λ r. ⌜ r ≡ slotIn w ⌝ }
+// Bits 56..51: the first slot that is free below it.
+pub fn next_of(w: u64) -> usize
+    ensures { λ r. ⌜ r ≡ nextIn w ⌝ }
 {
     ((w >> 51) & 0x3f) as usize
 }
 
-// Bits 62..57: the first slot that is free below it.
-pub fn next_of(w: u64) -> usize
-    ensures { λ r. ⌜ r ≡ nextIn w ⌝ }
+// Bits 62..57: the slot of the place that its state looks at.
+pub fn slot_of(w: u64) -> usize
+    ensures { λ r. ⌜ r ≡ slotIn w ⌝ }
 {
     ((w >> 57) & 0x3f) as usize
 }

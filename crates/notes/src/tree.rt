@@ -1,10 +1,10 @@
 // The plan's states and branches in plan order: a branch, then all below it, then the next.
 //
-// In most plans most states have one branch. Such branches are followed by a loop, with no call for each: those that follow one another end
-// together and have the same rows, and are finished together.
+// In most plans most states have one branch. Such branches are followed by a loop, with no call for each: those that follow one another have the
+// same first row and end together, and are finished together.
 //
 // `at` is a state's first cell in the plan and `place` a branch's own; `width` is how many places are open, `made` the next branch's
-// number, `free` the first free slot.
+// number, `free` the first free slot, `row` the first row.
 ghost use mathlib.Core.Path.{_≡_};
 ghost use mathlib.Core.Bool.{_&&_};
 ghost use Prim.Native.Nat.{_+_, _^_, _<_};
@@ -22,11 +22,11 @@ struct Reached {
     free: usize,
 }
 
-// What comes after a state or a branch: the plan's next cell and the next branch's number; and how many rows it has.
+// What comes next, after a state or a branch: the plan's cell, the branch's number and the row.
 pub struct Past {
     pub place: usize,
     pub made: usize,
-    pub rows: usize,
+    pub row: usize,
 }
 
 // Whether the state has one branch only.
@@ -49,9 +49,10 @@ fn follow(
     width: usize,
     made: usize,
     free: usize,
+    row: usize,
 ) -> Reached
-    requires { ⌜ Ready (now plan) (now links) (now notes) at width made free ⌝ }
-    ensures { λ r. ⌜ ((w : Ready (now (plan .entry)) (now (links .entry)) (now (notes .entry)) at width made free) → Followed w
+    requires { ⌜ Ready (now plan) (now links) (now notes) at width made free row ⌝ }
+    ensures { λ r. ⌜ ((w : Ready (now (plan .entry)) (now (links .entry)) (now (notes .entry)) at width made free row) → Followed w
         (now (links .exit)) (now (notes .exit)) (r .at) (r .width) (r .made) (r .free)) ⌝ }
 {
     let mut here = at;
@@ -60,7 +61,7 @@ fn follow(
     let mut slot = free;
     while single(plan, here, k) {
         let i = plan[here] as usize;
-        let a = begin(plan, links, notes, i, here + 2, next, slot);
+        let a = begin(plan, links, notes, i, here + 2, next, slot, row);
         here += 3;
         k = a + (k - 1);
         next += 1;
@@ -74,23 +75,25 @@ fn follow(
     }
 }
 
-// A branch of a state that looks at the open place with index `i`, and all below it.
+// The branch that comes next of a state that looks at the open place with index `i`, and all below it.
 fn branch(
     plan: &[u32],
     links: &[u8; 64],
     notes: &mut [u64],
     i: usize,
-    place: usize,
     width: usize,
-    made: usize,
     free: usize,
+    here: Past,
 ) -> Past
-    requires { ⌜ ReadyAt (now plan) (now links) (now notes) i place width made free ⌝ }
-    ensures { λ p. ⌜ ((w : ReadyAt (now (plan .entry)) (now (links .entry)) (now (notes .entry)) i place width made free) → BranchDone w
-        (now (notes .exit)) p) ⌝ }
+    requires { ⌜ ReadyAt (now plan) (now links) (now notes) i (here .place) width (here .made) free (here .row) ⌝ }
+    ensures { λ p. ⌜ ((w : ReadyAt (now (plan .entry)) (now (links .entry)) (now (notes .entry)) i (here .place) width (here .made) free
+        (here .row)) → BranchDone w (now (notes .exit)) p) ⌝ }
 {
+    let place = here.place;
+    let made = here.made;
+    let row = here.row;
     let mut own = *links;
-    let a = begin(plan, &mut own, notes, i, place, made, free);
+    let a = begin(plan, &mut own, notes, i, place, made, free, row);
     let r = follow(
         plan,
         &mut own,
@@ -99,9 +102,10 @@ fn branch(
         a + (width - 1),
         made + 1,
         free + a,
+        row,
     );
-    let below = state(plan, &own, notes, r.at, r.width, r.made, r.free);
-    finish(notes, made, r.made, below.made, below.rows);
+    let below = state(plan, &own, notes, r.at, r.width, r.made, r.free, row);
+    finish(notes, made, r.made, below.made);
     below
 }
 
@@ -114,9 +118,10 @@ pub fn state(
     width: usize,
     made: usize,
     free: usize,
+    row: usize,
 ) -> Past
-    requires { ⌜ Ready (now plan) (now links) (now notes) at width made free ⌝ }
-    ensures { λ p. ⌜ ((w : Ready (now (plan .entry)) (now (links .entry)) (now (notes .entry)) at width made free) → StateDone w
+    requires { ⌜ Ready (now plan) (now links) (now notes) at width made free row ⌝ }
+    ensures { λ p. ⌜ ((w : Ready (now (plan .entry)) (now (links .entry)) (now (notes .entry)) at width made free row) → StateDone w
         (now (notes .exit)) p) ⌝ }
 {
     let n = plan[at] as usize;
@@ -125,23 +130,18 @@ pub fn state(
         return Past {
             place: first,
             made,
-            rows: n,
+            row: row + n,
         };
     }
     let mut left = plan[first];
-    let mut place = at + 2;
-    let mut next = made;
-    let mut rows = 0;
+    let mut here = Past {
+        place: at + 2,
+        made,
+        row,
+    };
     while 0 < left {
-        let p = branch(plan, links, notes, n, place, width, next, free);
-        place = p.place;
-        next = p.made;
-        rows += p.rows;
+        here = branch(plan, links, notes, n, width, free, here);
         left -= 1;
     }
-    Past {
-        place,
-        made: next,
-        rows,
-    }
+    here
 }

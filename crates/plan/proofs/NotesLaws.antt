@@ -15,25 +15,28 @@ use Rattle.table.specs.Table.{upFrom, Row, IsTable}
 use Rattle.table.proofs.HeadLaws.{up-length}
 use Rattle.plan.specs.Runs.{Run, runs}
 use Rattle.plan.specs.Plans.{Plan, leaf, node, Branches, end, next, branches, branchesIn}
-use Rattle.plan.specs.Notes.{Branch, below, notes, notesIn, word, cellIn, skipIn, rowsIn, slotIn, nextIn, aloneIn, flag, Fits}
-use Rattle.plan.specs.code.Fits as row
+use Rattle.plan.specs.Notes.{Branch, below, notes, notesIn, word, cellIn, skipIn, rowIn, slotIn, nextIn, aloneIn, flag, Fits}
+use Rattle.plan.specs.code.Fits as of-row
+use Rattle.plan.specs.code.Rows.{rowCount}
 use Rattle.plan.proofs.CheckLaws.{rows-fit}
-use Rattle.plan.proofs.RunsLaws.{Each, Sized, group-all, group-sizes, fits-some, runs-fit}
+use Rattle.plan.proofs.RunsLaws.{Each, Sized, group-all, group-sizes, group-rows, fits-some, runs-fit}
 use Rattle.plan.proofs.SizeLaws.{bound}
 
 mutual
   unfolding notes branches
 
-  pub notes-count : {k : ℕ} {rows : List (List ℕ)} (p : Plan k rows) (slots : List ℕ) (made free : ℕ) → length (notes p slots made free) ≡ branches p
-  notes-count leaf slots made free = refl
-  notes-count (node i h bs) slots made free = notesIn-count bs i slots made free
+  pub notes-count : {k : ℕ} {rows : List (List ℕ)} (p : Plan k rows) (slots : List ℕ) (free row : ℕ) → length (notes p slots free row) ≡ branches p
+  notes-count leaf slots free row = refl
+  notes-count (node i h bs) slots free row = notesIn-count bs i slots free row
 
-  pub notesIn-count : {k : ℕ} {gs : List Run} (bs : Branches k gs) (i : ℕ) (slots : List ℕ) (made free : ℕ) → length (notesIn bs i slots made free) ≡ branchesIn bs
-  notesIn-count end i slots made free = refl
-  notesIn-count (next {g = g} p bs) i slots made free =
+  pub notesIn-count : {k : ℕ} {gs : List Run} (bs : Branches k gs) (i : ℕ) (slots : List ℕ) (free row : ℕ)
+      → length (notesIn bs i slots free row) ≡ branchesIn bs
+  notesIn-count end i slots free row = refl
+  notesIn-count (next {g = g} p bs) i slots free row =
       let a = arity (g .cell) in
-      ap suc (length-append (notes p (below i a free slots) (made + 1) (free + a)) (notesIn bs i slots (made + 1 + branches p) free)
-      ∙ omega (arith, notes-count p (below i a free slots) (made + 1) (free + a), notesIn-count bs i slots (made + 1 + branches p) free))
+      let more = row + length (g .rows) in
+      ap suc (length-append (notes p (below i a free slots) (free + a) row) (notesIn bs i slots free more)
+      ∙ omega (arith, notes-count p (below i a free slots) (free + a) row, notesIn-count bs i slots free more))
 
 -- the number of slots below a branch
 pub below-length : (i a m : ℕ) (slots : List ℕ) → i < length slots → length (below i a m slots) + 1 ≡ length slots + a
@@ -46,22 +49,22 @@ below-length i a m slots h =
 pub record Parts (b : Branch) (w : ℕ) : Type 0 where
   pub cell : cellIn w ≡ b .cell
   pub skip : skipIn w ≡ b .skip
-  pub rows : rowsIn w ≡ b .rows
+  pub row : rowIn w ≡ b .row
   pub slot : slotIn w ≡ b .slot
   pub next : nextIn w ≡ b .next
   pub alone : aloneIn w ≡ b .alone
 
-fields : (c s r l n a : ℕ) → c < 2 ^ 32 → s < 2 ^ 12 → r < 2 ^ 7 → l < 2 ^ 6 → n < 2 ^ 6
-    → let w = c + s * 2 ^ 32 + r * 2 ^ 44 + l * 2 ^ 51 + n * 2 ^ 57 + a * 2 ^ 63 in
-    (w % 2 ^ 32 ≡ c) × (w / 2 ^ 32 % 2 ^ 12 ≡ s) × (w / 2 ^ 44 % 2 ^ 7 ≡ r) × (w / 2 ^ 51 % 2 ^ 6 ≡ l) × (w / 2 ^ 57 % 2 ^ 6 ≡ n)
+fields : (c s r n l a : ℕ) → c < 2 ^ 32 → s < 2 ^ 12 → r < 2 ^ 6 → n < 2 ^ 6 → l < 2 ^ 6
+    → let w = c + s * 2 ^ 32 + r * 2 ^ 44 + n * 2 ^ 51 + l * 2 ^ 57 + a * 2 ^ 63 in
+    (w % 2 ^ 32 ≡ c) × (w / 2 ^ 32 % 2 ^ 12 ≡ s) × (w / 2 ^ 44 % 2 ^ 6 ≡ r) × (w / 2 ^ 51 % 2 ^ 6 ≡ n) × (w / 2 ^ 57 % 2 ^ 6 ≡ l)
     × (w / 2 ^ 63 ≡ a)
-fields c s r l n a hc hs hr hl hn = (omega arith, omega arith, omega arith, omega arith, omega arith, omega arith)
+fields c s r n l a hc hs hr hn hl = (omega arith, omega arith, omega arith, omega arith, omega arith, omega arith)
 
 pub word-parts : (b : Branch) → Fits b → Parts b (word b)
 unfolding word
 word-parts b f =
-    let h = fields (b .cell) (b .skip) (b .rows) (b .slot) (b .next) (b .alone) (f .cell) (f .skip) (f .rows) (f .slot) (omega (arith, f .next)) in
-    record { cell = h .0; skip = h .1; rows = h .2; slot = h .3; next = h .4; alone = h .5 }
+    let h = fields (b .cell) (b .skip) (b .row) (b .next) (b .slot) (b .alone) (f .cell) (f .skip) (f .row) (omega (arith, f .next)) (f .slot) in
+    record { cell = h .0; skip = h .1; row = h .2; slot = h .4; next = h .3; alone = h .5 }
 
 -- The parts have bits enough, where the rows are an accepted table's.
 
@@ -89,7 +92,7 @@ runs-low : (i : ℕ) (rows : List (List ℕ)) → All Low rows → Each LowRun (
 runs-low i = group-all (root i) (close i) Low LowRun (λ r a. (root-low i r a, close-low i r a))
 
 -- what a run's first row tells: its cell, and how many places are open below
-first-row : (n k c : ℕ) (rows : List (List ℕ)) → All (row.Fits n (arity c + k)) rows → All (LowRun c) rows → 0 < length rows
+first-row : (n k c : ℕ) (rows : List (List ℕ)) → All (of-row.Fits n (arity c + k)) rows → All (LowRun c) rows → 0 < length rows
     → (c < 2 ^ 32) × (arity c + k ≤ n)
 first-row n k c [] f a h = absurd (omega arith)
 first-row n k c (r ∷ rs) f a h = (a .0 .0, omega (arith, terms-long (f .0 .0)))
@@ -118,29 +121,32 @@ bit : (b : Bool) → cond b 1 0 < 2
 bit true = omega arith
 bit false = omega arith
 
--- k places are open, each row has at most n cells, and slots from `free` on are free: enough for all the arguments to come
+-- k places are open, each row has at most n cells, and slots from `free` on are free: enough for all the arguments to come. The rows from `row` on are
+-- at most 64
 mutual
   unfolding notes branches
 
-  fits : {k : ℕ} {rows : List (List ℕ)} (p : Plan k rows) (n : ℕ) (slots : List ℕ) (made free : ℕ) → All (row.Fits n k) rows → All Low rows
-      → 0 < length rows → length rows ≤ 64 → Small slots → made + branches p ≤ 2048 → free + n ≤ 63 + k → All Fits (notes p slots made free)
-  fits leaf n slots made free f a h m s b e = tt
-  fits (node {k} {rows} i l bs) n slots made free f a h m s b e =
+  fits : {k : ℕ} {rows : List (List ℕ)} (p : Plan k rows) (n : ℕ) (slots : List ℕ) (free row : ℕ) → All (of-row.Fits n k) rows → All Low rows
+      → 0 < length rows → row + length rows ≤ 64 → Small slots → branches p ≤ 2048 → free + n ≤ 63 + k → All Fits (notes p slots free row)
+  fits leaf n slots free row f a h m s b e = tt
+  fits (node {k} {rows} i l bs) n slots free row f a h m s b e =
       let q : n ≡ suc (pred n) = omega (arith, fits-some n k rows f h) in
-      fitsIn bs i (pred n) (length rows) slots made free (runs-fit (pred n) k i l rows (rw q at f)) (runs-low i rows a) (group-sizes (root i) (close i) rows)
-      m s b (omega arith)
+      fitsIn bs i (pred n) (length rows) slots free row (runs-fit (pred n) k i l rows (rw q at f)) (runs-low i rows a)
+      (group-sizes (root i) (close i) rows) (omega (arith, group-rows (root i) (close i) rows)) s b (omega arith)
 
-  fitsIn : {k : ℕ} {gs : List Run} (bs : Branches k gs) (i n m : ℕ) (slots : List ℕ) (made free : ℕ) → Each (λ (c : ℕ). row.Fits n (arity c + k)) gs
-      → Each LowRun gs → Sized m gs → m ≤ 64 → Small slots → made + branchesIn bs ≤ 2048 → free + n ≤ 63 + k → All Fits (notesIn bs i slots made free)
-  fitsIn end i n m slots made free f a z h s b e = tt
-  fitsIn (next {k} {g} p bs) i n m slots made free f a z h s b e =
+  fitsIn : {k : ℕ} {gs : List Run} (bs : Branches k gs) (i n m : ℕ) (slots : List ℕ) (free row : ℕ) → Each (λ (c : ℕ). of-row.Fits n (arity c + k)) gs
+      → Each LowRun gs → Sized m gs → row + rowCount gs ≤ 64 → Small slots → branchesIn bs ≤ 2048 → free + n ≤ 63 + k
+      → All Fits (notesIn bs i slots free row)
+  fitsIn end i n m slots free row f a z h s b e = tt
+  fitsIn (next {k} {g} p bs) i n m slots free row f a z h s b e =
       let c = g .cell in
-      let r = first-row n k c (g .rows) (f .0) (a .0) (z .0 .0) in (
-        record { cell = r .0; skip = omega arith; rows = omega arith; slot = slot-small slots i s; next = omega arith; alone = bit (flag g) },
-        all-++ Fits (notes p (below i (arity c) free slots) (made + 1) (free + arity c)) (notesIn bs i slots (made + 1 + branches p) free)
-            (fits p n (below i (arity c) free slots) (made + 1) (free + arity c) (f .0) (all-each (LowRun c) Low (λ r x. x .1) (g .rows) (a .0)) (z .0 .0)
+      let r = first-row n k c (g .rows) (f .0) (a .0) (z .0 .0) in
+      let more = row + length (g .rows) in (
+        record { cell = r .0; skip = omega arith; row = omega (arith, z .0 .0); slot = slot-small slots i s; next = omega arith; alone = bit (flag g) },
+        all-++ Fits (notes p (below i (arity c) free slots) (free + arity c) row) (notesIn bs i slots free more)
+            (fits p n (below i (arity c) free slots) (free + arity c) row (f .0) (all-each (LowRun c) Low (λ r x. x .1) (g .rows) (a .0)) (z .0 .0)
             (omega arith) (below-small i (arity c) free slots (omega arith) s) (omega arith) (omega arith))
-            (fitsIn bs i n m slots (made + 1 + branches p) free (f .1) (a .1) (z .1) h s (omega arith) e),
+            (fitsIn bs i n m slots free more (f .1) (a .1) (z .1) (omega arith) s (omega arith) e),
       )
 
 cell-low : {c : ℕ} → Cell c → c < 2 ^ 32
@@ -157,7 +163,7 @@ module _ {t : List ℕ} {w : ℕ} {rows : List (List ℕ)} (is : IsTable t w row
   pub branches-few : branches p ≤ 2048
   branches-few = omega (arith, bound p 32 (rows-fit w rows (is .each)) (is .count .0))
 
-  pub notes-fit : All Fits (notes p (upFrom 1 w) 0 32)
+  pub notes-fit : All Fits (notes p (upFrom 1 w) 32 0)
   notes-fit =
-      fits p 32 (upFrom 1 w) 0 32 (rows-fit w rows (is .each)) (all-each (Row w) Low (λ r h. cells-low r (h .cells)) rows (is .each)) (is .count .0)
-      (is .count .1) (up-small 1 w (omega (arith, is .width))) (omega (arith, branches-few)) (omega (arith, is .width))
+      fits p 32 (upFrom 1 w) 32 0 (rows-fit w rows (is .each)) (all-each (Row w) Low (λ r h. cells-low r (h .cells)) rows (is .each)) (is .count .0)
+      (omega (arith, is .count .1)) (up-small 1 w (omega (arith, is .width))) (omega (arith, branches-few)) (omega (arith, is .width))

@@ -56,7 +56,7 @@ module _ (i k : ℕ) (h : i ≤ k) where
   still-later r t e v s (later x u n q) g z = n (ground-of i k x u h (rw q v) g) (whole-of i k r x t u h (e ∙ sym q) z)
 
   -- each run of distinct rows has distinct rows
-  runs-distinct : (rows : List (List ℕ)) → All (Terms (suc k)) rows → Distinct rows → All (λ (g : Run). Distinct (g .rows)) (runs i rows)
+  pub runs-distinct : (rows : List (List ℕ)) → All (Terms (suc k)) rows → Distinct rows → All (λ (g : Run). Distinct (g .rows)) (runs i rows)
   runs-distinct [] t d = tt
   runs-distinct (r ∷ rs) t d =
       put (runs i rs) (runs-distinct rs (t .1) (d .1))
@@ -77,7 +77,7 @@ module _ (i k : ℕ) (h : i ≤ k) where
               ((all-each (Later r (g .cell)) apart (still-later r (t .0) q v) (g .rows) (l .0), a .0), a .1)
           go false e = ((tt, tt), a)
 
-no-cells : (rows : List (List ℕ)) → All (Terms 0) rows → Distinct rows → 0 < length rows → length rows ≡ 1
+pub no-cells : (rows : List (List ℕ)) → All (Terms 0) rows → Distinct rows → 0 < length rows → length rows ≡ 1
 no-cells [] t d h = absurd (omega arith)
 no-cells (r ∷ []) t d h = refl
 no-cells (r ∷ (s ∷ rs)) t d h =

@@ -14,12 +14,13 @@ use Rattle.term.specs.Terms.{Terms, more, root, close}
 use Rattle.term.proofs.Tests.{bool-cases, eqb-same}
 use Rattle.term.proofs.PlaceLaws.{close-terms, close-length}
 use Rattle.table.specs.All.{All}
-use Rattle.table.specs.Table.{count, Head, Row, IsTable}
+use Rattle.table.specs.Table.{count, Head, Row, Distinct, IsTable}
 use Rattle.table.proofs.AllLaws.{all-each}
 use Rattle.plan.specs.Runs.{Run, agree, joinIf, join, runs}
 use Rattle.plan.specs.Plans.{Plan, leaf, node, Branches, end, next}
 use Rattle.plan.specs.Notes.{twice}
 use Rattle.plan.specs.code.Cells.{Good, Cells, CellsIn}
+use Rattle.plan.proofs.OneRow.{runs-distinct, no-cells}
 use Rattle.plan.proofs.RunsLaws.{agree-eq, agree-fixed, Each, Sized, group-all, group-sizes}
 
 or-false : (a b : Bool) → (a || b) ≡ false → (a ≡ false) × (b ≡ false)
@@ -118,25 +119,36 @@ module _ (P : ℕ → Type 0) where
   first-good k c [] h a = absurd (omega arith)
   first-good k c (r ∷ rows) h a = (a .0 .0, all-each (λ (r : List ℕ). P c × Good P (arity c + k) r) (Good P (arity c + k)) (λ r g. g .1) (r ∷ rows) a)
 
+  -- where no place is open, rows of which none is left twice are one
+  last : (k : ℕ) (g : Run) → All (Good P (arity (g .cell) + k)) (g .rows) → Distinct (g .rows) → 0 < length (g .rows) → arity (g .cell) + k ≡ 0
+      → length (g .rows) ≡ 1
+  last k g a d h e =
+      no-cells (g .rows) (rw e at (all-each (Good P (arity (g .cell) + k)) (Terms (arity (g .cell) + k)) (λ r x. x .terms) (g .rows) a)) d h
+
   mutual
     unfolding Cells
 
-    cells-all : {k : ℕ} {rows : List (List ℕ)} (p : Plan k rows) → All (Good P k) rows → Cells P p
-    cells-all leaf a = tt
-    cells-all (node {k} {rows} i h bs) a =
+    cells-all : {k : ℕ} {rows : List (List ℕ)} (p : Plan k rows) → All (Good P k) rows → Distinct rows → Cells P p
+    cells-all leaf a d = tt
+    cells-all (node {k} {rows} i h bs) a d =
         cells-allIn bs (length rows) (group-sizes (root i) (close i) rows) (runs-lone i rows)
+        (runs-distinct i k h rows (all-each (Good P (suc k)) (Terms (suc k)) (λ r g. g .terms) rows a) d)
         (group-all (root i) (close i) (Good P (suc k)) (λ (c : ℕ) (r : List ℕ). P c × Good P (arity c + k) r) (λ r g. (root-all i k r (g .terms) h (g .cells), good-close i k r h g)) rows a)
 
-    cells-allIn : {k : ℕ} {gs : List Run} (bs : Branches k gs) (n : ℕ) → Sized n gs → Lone gs → Each (λ (c : ℕ) (r : List ℕ). P c × Good P (arity c + k) r) gs → CellsIn P bs
-    cells-allIn end n s l a = tt
-    cells-allIn (next {k} {g} p bs) n s l a =
-        let f = first-good k (g .cell) (g .rows) (s .0 .0) (a .0) in
-        (record { cell = f .0; lone = l .0; rows = f .1 }, cells-all p (f .1), cells-allIn bs n (s .1) (l .1) (a .1))
+    cells-allIn : {k : ℕ} {gs : List Run} (bs : Branches k gs) (n : ℕ) → Sized n gs → Lone gs → All (λ (g : Run). Distinct (g .rows)) gs
+        → Each (λ (c : ℕ) (r : List ℕ). P c × Good P (arity c + k) r) gs → CellsIn P bs
+    cells-allIn end n s l d a = tt
+    cells-allIn (next {k} {g} p bs) n s l d a =
+        let f = first-good k (g .cell) (g .rows) (s .0 .0) (a .0) in (
+          record { cell = f .0; lone = l .0; some = s .0 .0; last = last k g (f .1) (d .0) (s .0 .0); rows = f .1 },
+          cells-all p (f .1) (d .0),
+          cells-allIn bs n (s .1) (l .1) (d .1) (a .1),
+        )
 
   -- a plan for an accepted table
   pub table-cells : {t : List ℕ} {w : ℕ} {rows : List (List ℕ)} → IsTable t w rows → ((r : List ℕ) → Head w r → (c : ℕ) → List·Memᴰ c r → P c) → (p : Plan w rows) → Cells P p
   table-cells {w = w} {rows} is h p =
-      cells-all p (all-each (Row w) (Good P w) (λ r x. record { terms = x .terms; short = x .short; cells = each r (h r x) }) rows (is .each))
+      cells-all p (all-each (Row w) (Good P w) (λ r x. record { terms = x .terms; short = x .short; cells = each r (h r x) }) rows (is .each)) (is .apart)
     where
       each : (xs : List ℕ) → ((c : ℕ) → List·Memᴰ c xs → P c) → All P xs
       each [] f = tt

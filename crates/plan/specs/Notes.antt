@@ -27,10 +27,10 @@ flag g = repeats (g .cell) (flatten (g .rows))
 pub record Branch : Type 0 where
   -- its cell
   pub cell : ℕ
-  -- the number of the first branch that is not below it; where that is the number after its own, there is a leaf below it
+  -- how many branches are below it, which are left out where its test fails; where there is none, a leaf is
   pub skip : ℕ
-  -- its number of rows
-  pub rows : ℕ
+  -- its first row
+  pub row : ℕ
   -- the slot of the place that its state looks at
   pub slot : ℕ
   -- the first slot that is free below it
@@ -38,28 +38,30 @@ pub record Branch : Type 0 where
   -- 1 where the rest of the row is run by itself, otherwise 0
   pub alone : ℕ
 
-abbrev pub branch : (cell skip rows slot next : ℕ) → Bool → Branch
-branch c s r l n b = record { cell = c; skip = s; rows = r; slot = l; next = n; alone = cond b 1 0 }
+abbrev pub branch : (cell skip row slot next : ℕ) → Bool → Branch
+branch c s r l n b = record { cell = c; skip = s; row = r; slot = l; next = n; alone = cond b 1 0 }
 
 -- the slots of the open places below a branch at place i, whose cell has a arguments: new ones from `free` on for the arguments
 abbrev pub below : (i a free : ℕ) → List ℕ → List ℕ
 below i a free slots = take i slots ++ (upFrom free a ++ drop (suc i) slots)
 
--- the branches of a plan whose open places have these slots; `made` branches stand before them, and slots from `free` on are free
+-- the branches of a plan whose open places have these slots; slots from `free` on are free, and `row` is the plan's first row. Of the branches of a
+-- state each begins with the row after those of the one before it
 unfoldable mutual
-  pub notes : {k : ℕ} {rows : List (List ℕ)} → Plan k rows → (slots : List ℕ) (made free : ℕ) → List Branch
-  notes leaf slots made free = []
-  notes (node i h bs) slots made free = notesIn bs i slots made free
+  pub notes : {k : ℕ} {rows : List (List ℕ)} → Plan k rows → (slots : List ℕ) (free row : ℕ) → List Branch
+  notes leaf slots free row = []
+  notes (node i h bs) slots free row = notesIn bs i slots free row
 
-  pub notesIn : {k : ℕ} {gs : List Run} → Branches k gs → (i : ℕ) (slots : List ℕ) (made free : ℕ) → List Branch
-  notesIn end i slots made free = []
-  notesIn (next {g = g} p bs) i slots made free =
-      branch (g .cell) (made + 1 + branches p) (length (g .rows)) (getD slots i 0) free (flag g)
-      ∷ (notes p (below i (arity (g .cell)) free slots) (made + 1) (free + arity (g .cell)) ++ notesIn bs i slots (made + 1 + branches p) free)
+  pub notesIn : {k : ℕ} {gs : List Run} → Branches k gs → (i : ℕ) (slots : List ℕ) (free row : ℕ) → List Branch
+  notesIn end i slots free row = []
+  notesIn (next {g = g} p bs) i slots free row =
+      branch (g .cell) (branches p) row (getD slots i 0) free (flag g)
+      ∷ (notes p (below i (arity (g .cell)) free slots) (free + arity (g .cell)) row
+      ++ notesIn bs i slots free (row + length (g .rows)))
 
--- One number for it: the cell in bits 31..0, skip in 43..32, rows in 50..44, slot in 56..51, next in 62..57, alone in 63.
+-- One number for it: the cell in bits 31..0, skip in 43..32, row in 49..44, next in 56..51, slot in 62..57, alone in 63.
 unfoldable pub word : Branch → ℕ
-word b = b .cell + b .skip * 2 ^ 32 + b .rows * 2 ^ 44 + b .slot * 2 ^ 51 + b .next * 2 ^ 57 + b .alone * 2 ^ 63
+word b = b .cell + b .skip * 2 ^ 32 + b .row * 2 ^ 44 + b .next * 2 ^ 51 + b .slot * 2 ^ 57 + b .alone * 2 ^ 63
 
 -- and the parts of a number
 abbrev pub cellIn : ℕ → ℕ
@@ -68,14 +70,14 @@ cellIn w = w % 2 ^ 32
 abbrev pub skipIn : ℕ → ℕ
 skipIn w = w / 2 ^ 32 % 2 ^ 12
 
-abbrev pub rowsIn : ℕ → ℕ
-rowsIn w = w / 2 ^ 44 % 2 ^ 7
+abbrev pub rowIn : ℕ → ℕ
+rowIn w = w / 2 ^ 44 % 2 ^ 6
 
 abbrev pub slotIn : ℕ → ℕ
-slotIn w = w / 2 ^ 51 % 2 ^ 6
+slotIn w = w / 2 ^ 57 % 2 ^ 6
 
 abbrev pub nextIn : ℕ → ℕ
-nextIn w = w / 2 ^ 57 % 2 ^ 6
+nextIn w = w / 2 ^ 51 % 2 ^ 6
 
 abbrev pub aloneIn : ℕ → ℕ
 aloneIn w = w / 2 ^ 63
@@ -84,7 +86,7 @@ aloneIn w = w / 2 ^ 63
 pub record Fits (b : Branch) : Type 0 where
   pub cell : b .cell < 2 ^ 32
   pub skip : b .skip < 2 ^ 12
-  pub rows : b .rows < 2 ^ 7
+  pub row : b .row < 2 ^ 6
   pub slot : b .slot < 2 ^ 6
   pub next : b .next + arity (b .cell) < 2 ^ 6
   pub alone : b .alone < 2

@@ -19,5 +19,5 @@ pub record ForRun (cells plan noted : List ℕ) (count width rows : ℕ) : Type 
   pub number : count ≡ branches tree
   pub same-width : width ≡ table .width
   pub same-rows : rows ≡ length (table .rows)
-  pub words : take count noted ≡ map word (notes tree (upFrom 1 (table .width)) 0 32)
-  pub fit : All Fits (notes tree (upFrom 1 (table .width)) 0 32)
+  pub words : take count noted ≡ map word (notes tree (upFrom 1 (table .width)) 32 0)
+  pub fit : All Fits (notes tree (upFrom 1 (table .width)) 32 0)

@@ -1,5 +1,5 @@
 -- What the branches of a plan have of the rows that it is for.
-use Prim.Native.Nat.{ℕ, _+_, _≤_}
+use Prim.Native.Nat.{ℕ, _+_, _≤_, _<_}
 use mathlib.Core.Path.{_≡_}
 use mathlib.Core.Bool.{true}
 use mathlib.Core.List.{List}
@@ -16,10 +16,13 @@ pub record Good (P : ℕ → Type 0) (k : ℕ) (r : List ℕ) : Type 0 where
   pub short : length r ≤ 32
   pub cells : All P r
 
--- a run of such rows; k places are open beside the one that is looked at. 01, "or the single row's variable": a variable's run has one row
+-- a run of such rows; k places are open beside the one that is looked at. 01, "or the single row's variable": a variable's run has one row.
+-- 02, W-208, "a leaf has exactly one row": so has a run below which no place is open
 pub record Sound (P : ℕ → Type 0) (k : ℕ) (g : Run) : Type 0 where
   pub cell : P (g .cell)
   pub lone : isVar (g .cell) ≡ true → length (g .rows) ≡ 1
+  pub some : 0 < length (g .rows)
+  pub last : arity (g .cell) + k ≡ 0 → length (g .rows) ≡ 1
   pub rows : All (Good P (arity (g .cell) + k)) (g .rows)
 
 -- each branch of a plan

@@ -2,6 +2,7 @@ use native.Mathlib.Omega.{arith}
 use borrow.Author.Needs.{needs}
 use lib.Dec.{eqb}
 use lib.ListN.{getD}
+use Rattle.notes.specs.code.Steps.{Ending}
 use Rattle.notes.proofs.AloneLaws.{kind-var, kind-symbol}
 use Rattle.notes.proofs.BranchLaws.{Finishing, finish-first, finish-over, mark-low, word-low, cell-low, finish-symbol, finish-variable}
 use Rattle.notes.proofs.branch.finish.Statement.{statement}
@@ -14,16 +15,19 @@ use Rattle.notes.proofs.branch.meet.Reads as meet-reads
 use Rattle.notes.proofs.packed.cell_of.Reads as cell-of-reads
 
 abbrev Inv-loop : tie.InvT-loop
-Inv-loop notes₀ from to skip rows more seen₀ again₀ i₀ notes seen again i = Finishing notes₀ «from» to skip rows notes seen again i
+Inv-loop notes₀ from to past seen₀ again₀ i₀ notes seen again i = Finishing notes₀ «from» to past notes seen again i
 
 abbrev μ-loop : tie.MeasureT-loop
-μ-loop notes₀ from to skip rows more seen₀ again₀ i₀ notes seen again i = i
-
-end-requires : tie.Need-end-requires Inv-loop μ-loop
-end-requires c κs = search needs
+μ-loop notes₀ from to past seen₀ again₀ i₀ notes seen again i = i
 
 loop-holds : tie.Need-loop-holds Inv-loop μ-loop
-loop-holds c = finish-first (c .before .before .pre)
+loop-holds c = finish-first (c .before .pre)
+
+sub-end : tie.Need-sub-end Inv-loop μ-loop
+sub-end c = let l = c .before in omega (arith, l .loop .inv .up, l .before .before .pre .on)
+
+end-requires : tie.Need-end-requires Inv-loop μ-loop
+end-requires c κs = omega (arith, c .before .before .before .pre .few)
 
 sub-i : tie.Need-sub-i Inv-loop μ-loop
 sub-i c = search needs
@@ -40,27 +44,36 @@ cell-of-requires c κs = search needs
 kind-requires : tie.Need-kind-requires Inv-loop μ-loop
 kind-requires c κs = search needs
 
+-- a branch whose kind is known: what is asked of the call, and what the loop has
+module _ (k : tie.After-kind Inv-loop μ-loop) where
+  abbrev ends : tie.After-end Inv-loop μ-loop
+  ends = k .before .before .before
+
+  abbrev turn : tie.At-loop Inv-loop μ-loop
+  turn = ends .before .before
+
+  abbrev asked : Ending (turn .before .before .args .notes .now) (turn .before .before .args .from) (turn .before .before .args .to) (turn .before .before .args .past)
+  asked = turn .before .before .pre
+
 cast-meet : tie.Need-cast-meet Inv-loop μ-loop
 cast-meet c = search needs
 
 meet-requires : tie.Need-meet-requires Inv-loop μ-loop
 meet-requires c κs =
     let k = c .before .before in
-    let l = k .before .before .before .before in
     let v = kind-var _ (k .kind .result) (k .kind .ensures) (omega (arith, c .before .match .keys1)) in
-    (cell-low (l .before .before .before .pre) (l .loop .inv) (omega arith) (k .before .cell-of .ensures) v, l .loop .inv .size-seen)
+    (cell-low (asked k) (turn k .loop .inv) (omega arith) (k .before .cell-of .ensures) v, turn k .loop .inv .size-seen)
 
 add-notes : tie.Need-add-notes Inv-loop μ-loop
 add-notes c =
-    let l = c .before .before .before .before .before .before .before in
-    let w = l .before .before .before .pre in
-    omega (arith, word-low w (l .loop .inv) (omega arith), l .before .end .ensures, w .skips, w .has)
+    let k = c .before .before .before in
+    omega (arith, word-low (asked k) (turn k .loop .inv) (omega arith), ends k .end .ensures, asked k .few)
 
 add-notes-2 : tie.Need-add-notes-2 Inv-loop μ-loop
 add-notes-2 c =
-    let l = c .before .before .before .before .before .before .before in
-    let w = l .before .before .before .pre in
-    omega (arith, word-low w (l .loop .inv) (omega arith), l .before .end .ensures, w .skips, w .has, mark-low w (l .loop .inv) (eqb (getD (l .loop .seen) (c .before .before .before .before .cell-of .result) 0) 0) (c .meet .ensures .0))
+    let k = c .before .before .before in
+    let m = mark-low (asked k) (turn k .loop .inv) (eqb (getD (turn k .loop .seen) (k .before .cell-of .result) 0) 0) (c .meet .ensures .0) in
+    omega (arith, word-low (asked k) (turn k .loop .inv) (omega arith), ends k .end .ensures, asked k .few, m)
 
 mul-notes : tie.Need-mul-notes Inv-loop μ-loop
 mul-notes c = search needs
@@ -74,15 +87,13 @@ loop-less c = search needs
 loop-again : tie.Need-loop-again Inv-loop μ-loop
 loop-again c =
     let k = c .before .before .before in
-    let l = k .before .before .before .before in
     let v = kind-var _ (k .kind .result) (k .kind .ensures) (omega (arith, c .before .before .match .keys1)) in
-    finish-variable (l .before .before .before .pre) (l .loop .inv) (omega arith) (k .before .cell-of .ensures) v (l .before .end .ensures) (c .meet .ensures .0) (c .meet .ensures .1)
+    finish-variable (asked k) (turn k .loop .inv) (omega arith) (k .before .cell-of .ensures) v (ends k .end .ensures) (c .meet .ensures .0) (c .meet .ensures .1)
 
 add-notes-3 : tie.Need-add-notes-3 Inv-loop μ-loop
 add-notes-3 c =
-    let l = c .before .before .before .before .before in
-    let w = l .before .before .before .pre in
-    omega (arith, word-low w (l .loop .inv) (omega arith), l .before .end .ensures, w .skips, w .has)
+    let k = c .before in
+    omega (arith, word-low (asked k) (turn k .loop .inv) (omega arith), ends k .end .ensures, asked k .few)
 
 mul-notes-2 : tie.Need-mul-notes-2 Inv-loop μ-loop
 mul-notes-2 c = search needs
@@ -96,15 +107,14 @@ loop-less-2 c = search needs
 loop-again-2 : tie.Need-loop-again-2 Inv-loop μ-loop
 loop-again-2 c =
     let k = c .before in
-    let l = k .before .before .before .before in
     let v = kind-symbol _ (k .kind .result) (k .kind .ensures) (omega (arith, c .match .rest)) in
-    finish-symbol (l .before .before .before .pre) (l .loop .inv) (omega arith) (k .before .cell-of .ensures) v (l .before .end .ensures)
+    finish-symbol (asked k) (turn k .loop .inv) (omega arith) (k .before .cell-of .ensures) v (ends k .end .ensures)
 
 same-length : tie.Need-same-length Inv-loop μ-loop
 same-length c = omega (arith, c .before .loop .inv .size)
 
 returns : tie.Need-returns Inv-loop μ-loop
-returns c = finish-over (c .before .before .before .before .pre) (c .before .loop .inv) (omega arith)
+returns c = finish-over (c .before .before .before .pre) (c .before .loop .inv) (omega arith)
 
 pub finish-spec : {M : Type 1} → statement M
 finish-spec =
@@ -112,8 +122,9 @@ finish-spec =
     (tie.spec
     Inv-loop
     μ-loop
-    end-requires
     loop-holds
+    sub-end
+    end-requires
     sub-i
     mul-w
     slice-read-w

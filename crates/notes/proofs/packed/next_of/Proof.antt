@@ -4,7 +4,7 @@ use Rattle.notes.proofs.packed.next_of.Statement.{statement}
 use Rattle.notes.proofs.packed.next_of.Tie as tie
 
 returns : tie.Need-returns
-returns c = and-mask (c .args .w / 2 ^ 57) 6
+returns c = and-mask (c .args .w / 2 ^ 51) 6
 
 pub next-of-spec : {M : Type 1} → statement M
 next-of-spec = tie.close (tie.spec returns)

@@ -1,14 +1,10 @@
 use Prim.Native.Nat.{_/_, _^_}
-use native.Mathlib.Omega.{arith}
-use lib.Bits.{and-mask, mask-lt}
+use lib.Bits.{and-mask}
 use Rattle.notes.proofs.packed.skip_of.Statement.{statement}
 use Rattle.notes.proofs.packed.skip_of.Tie as tie
-
-cast-result : tie.Need-cast-result
-cast-result c = record { fits = omega (arith, mask-lt (c .args .w / 2 ^ 32) 12) }
 
 returns : tie.Need-returns
 returns c = and-mask (c .args .w / 2 ^ 32) 12
 
 pub skip-of-spec : {M : Type 1} → statement M
-skip-of-spec = tie.close (tie.spec cast-result returns)
+skip-of-spec = tie.close (tie.spec returns)

@@ -4,7 +4,7 @@ use Rattle.notes.proofs.packed.slot_of.Statement.{statement}
 use Rattle.notes.proofs.packed.slot_of.Tie as tie
 
 returns : tie.Need-returns
-returns c = and-mask (c .args .w / 2 ^ 51) 6
+returns c = and-mask (c .args .w / 2 ^ 57) 6
 
 pub slot-of-spec : {M : Type 1} → statement M
 slot-of-spec = tie.close (tie.spec returns)

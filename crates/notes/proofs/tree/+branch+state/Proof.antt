@@ -4,7 +4,7 @@ use native.Mathlib.Omega.{arith}
 use borrow.Author.Needs.{needs}
 use lib.ListN.{length, getD}
 use Rattle.notes.specs.code.Tree.{Ready, ReadyAt, Went}
-use Rattle.notes.proofs.TreeLaws.{state-bounds, branch-bounds, leaf-done, inside, met, arity-is, Rest, all-left, none-left, first-left, branch-falls, state-falls}
+use Rattle.notes.proofs.TreeLaws.{state-bounds, branch-bounds, leaf-read, leaf-done, inside, met, arity-is, Rest, all-left, none-left, first-left, branch-falls, state-falls}
 use Rattle.notes.proofs.ChainLaws.{under, went, ending, branch-done}
 use borrow.Fn.Kinds.{In}
 use borrow.Fn.PlainCycle.{Measures, is, falls, and}
@@ -21,7 +21,7 @@ use Rattle.notes.proofs.tree.+branch+state.{statement}
 use Rattle.notes.proofs.tree.+branch+state.Tie.{close}
 
 abbrev μ-branch : Measures 3 branch-kinds.ps ℕ
-μ-branch κs a = 2 * (length (a .0 .now) - a .1 .1 .1 .1 .0) + 1
+μ-branch κs a = 2 * (length (a .0 .now) - a .1 .1 .1 .1 .1 .1 .0 .place) + 1
 
 abbrev μ-state : Measures 3 state-kinds.ps ℕ
 μ-state κs a = 2 * (length (a .0 .now) - a .1 .1 .1 .0)
@@ -100,7 +100,7 @@ branch-state-requires t c κs =
     let s = branch-called t b in
     let w = s .pre .1 in
     let g = went w (b .begin .ensures (met w)) (f .follow .ensures) in
-    (state-falls t (length (s .args .plan .now)) (s .args .place) (f .follow .result .at) (s .pre .0) (g .later), g .lower)
+    (state-falls t (length (s .args .plan .now)) (s .args .here .place) (f .follow .result .at) (s .pre .0) (g .later), g .lower)
 
 branch-finish-requires : (t : ℕ) → branch-lts.Need-finish-requires (branch-with t) (branch-at t) branch.Post
 branch-finish-requires t c κs =
@@ -123,11 +123,11 @@ branch-returns t c = λ w.
     branch-done w x (f .follow .ensures) (d .state .ensures (went w x (f .follow .ensures) .lower)) (c .before .before .finish .ensures)
 
 abbrev state-Inv-loop : state-lts.InvT-loop
-state-Inv-loop plan links notes₀ at width made free n first left₀ place₀ next₀ rows₀ notes left place next rows =
-    (w : Ready plan links notes₀ at width made free) → Rest w notes place next rows left
+state-Inv-loop plan links notes₀ at width made free row n first left₀ here₀ notes left here =
+    (w : Ready plan links notes₀ at width made free row) → Rest w notes here left
 
 abbrev state-μ-loop : state-lts.MeasureT-loop
-state-μ-loop plan links notes₀ at width made free n first left₀ place₀ next₀ rows₀ notes left place next rows = left
+state-μ-loop plan links notes₀ at width made free row n first left₀ here₀ notes left here = left
 
 -- the places of `state`: its call, from the loop
 abbrev state-called : (t : ℕ) → state-lts.At-loop (state-with t) (state-at t) state.Post state-Inv-loop state-μ-loop
@@ -146,6 +146,9 @@ state-cast-n t c = omega (arith, c .shared-slice-known2 .given (c .before .befor
 state-add-first : (t : ℕ) → state-lts.Need-add-first (state-with t) (state-at t) state.Post state-Inv-loop state-μ-loop
 state-add-first t c = omega (arith, state-bounds (c .before .before .before .pre .1))
 
+state-add-t17 : (t : ℕ) → state-lts.Need-add-t17 (state-with t) (state-at t) state.Post state-Inv-loop state-μ-loop
+state-add-t17 t c = let w = c .before .before .before .before .pre .1 in omega (arith, leaf-read w (omega arith), w .few)
+
 state-returns : (t : ℕ) → state-lts.Need-returns (state-with t) (state-at t) state.Post state-Inv-loop state-μ-loop
 state-returns t c = λ w. leaf-done w (omega arith)
 
@@ -155,8 +158,8 @@ state-mul-left t c = omega (arith, state-bounds (c .before .before .before .befo
 state-shared-slice-read-left : (t : ℕ) → state-lts.Need-shared-slice-read-left (state-with t) (state-at t) state.Post state-Inv-loop state-μ-loop
 state-shared-slice-read-left t c = inside (c .before .before .before .before .before .pre .1) (omega arith) .reads
 
-state-add-place : (t : ℕ) → state-lts.Need-add-place (state-with t) (state-at t) state.Post state-Inv-loop state-μ-loop
-state-add-place t c = omega (arith, state-bounds (c .before .before .before .before .before .pre .1))
+state-add-t13 : (t : ℕ) → state-lts.Need-add-t13 (state-with t) (state-at t) state.Post state-Inv-loop state-μ-loop
+state-add-t13 t c = omega (arith, state-bounds (c .before .before .before .before .before .pre .1))
 
 state-loop-holds : (t : ℕ) → state-lts.Need-loop-holds (state-with t) (state-at t) state.Post state-Inv-loop state-μ-loop
 state-loop-holds t c = λ w. all-left w (omega arith)
@@ -166,17 +169,9 @@ state-branch-requires t c κs =
     let l = c .before .before in
     let s = state-called t l in
     let r = l .loop .inv (s .pre .1) in (
-      branch-falls t (length (s .args .plan .now)) (s .args .at) (l .loop .place) (s .pre .0) (state-bounds (s .pre .1) .0) (r .rest .later),
+      branch-falls t (length (s .args .plan .now)) (s .args .at) (l .loop .here .place) (s .pre .0) (state-bounds (s .pre .1) .0) (r .rest .later),
       first-left (s .pre .1) r (omega arith) .one,
     )
-
-state-add-rows : (t : ℕ) → state-lts.Need-add-rows (state-with t) (state-at t) state.Post state-Inv-loop state-μ-loop
-state-add-rows t c =
-    let l = c .before .before .before .before .before .before in
-    let w = state-called t l .pre .1 in
-    let f = first-left w (l .loop .inv w) (omega arith) in
-    let b = c .before .before .before .branch in
-    omega (arith, f .others _ (b .result) (b .ensures (f .one)) .rest .has, w .few)
 
 state-sub-left : (t : ℕ) → state-lts.Need-sub-left (state-with t) (state-at t) state.Post state-Inv-loop state-μ-loop
 state-sub-left t c = search needs
@@ -186,8 +181,8 @@ state-loop-less t c = search needs
 
 state-loop-again : (t : ℕ) → state-lts.Need-loop-again (state-with t) (state-at t) state.Post state-Inv-loop state-μ-loop
 state-loop-again t c = λ w.
-    let f = first-left w (c .before .before .before .before .before .before .loop .inv w) (omega arith) in
-    let b = c .before .before .before .branch in
+    let f = first-left w (c .before .before .before .before .before .loop .inv w) (omega arith) in
+    let b = c .before .before .branch in
     f .others _ (b .result) (b .ensures (f .one))
 
 state-same-length : (t : ℕ) → state-lts.Need-same-length (state-with t) (state-at t) state.Post state-Inv-loop state-μ-loop
@@ -222,13 +217,13 @@ pub +branch+state-spec : {M : Type 1} → statement M
     (state-shared-slice-read-n t)
     (state-cast-n t)
     (state-add-first t)
+    (state-add-t17 t)
     (state-returns t)
     (state-mul-left t)
     (state-shared-slice-read-left t)
-    (state-add-place t)
+    (state-add-t13 t)
     (state-loop-holds t)
     (state-branch-requires t)
-    (state-add-rows t)
     (state-sub-left t)
     (state-loop-less t)
     (state-loop-again t)

@@ -13,11 +13,11 @@ use Rattle.notes.proofs.branch.begin.Reads as begin-reads
 use Rattle.notes.proofs.tree.single.Reads as single-reads
 
 abbrev Inv-loop : tie.InvT-loop
-Inv-loop plan links₀ notes₀ at width made free here₀ k₀ next₀ slot₀ links notes here k next slot =
-    (w : Ready plan links₀ notes₀ at width made free) → Went w links notes here k next slot
+Inv-loop plan links₀ notes₀ at width made free row here₀ k₀ next₀ slot₀ links notes here k next slot =
+    (w : Ready plan links₀ notes₀ at width made free row) → Went w links notes here k next slot
 
 abbrev μ-loop : tie.MeasureT-loop
-μ-loop plan links₀ notes₀ at width made free here₀ k₀ next₀ slot₀ links notes here k next slot = length plan - here
+μ-loop plan links₀ notes₀ at width made free row here₀ k₀ next₀ slot₀ links notes here k next slot = length plan - here
 
 abbrev with : lts.Claims
 with = (single-reads.Asked, single-reads.Learnt, begin-reads.Asked, begin-reads.Learnt)
@@ -31,6 +31,7 @@ Turn = lts.Then1 with reads.Pre reads.Post Inv-loop μ-loop
 
 -- the state that is reached, and its only branch
 reached : (c : Loop) → Ready (c .before .before .before .args .plan .now) (c .loop .links) (c .loop .notes) (c .loop .here) (c .loop .k) (c .loop .next) (c .loop .slot)
+    (c .before .before .before .args .row)
 reached c = c .loop .inv (c .before .before .before .pre) .lower
 
 is-single : (c : Turn) → (0 < c .before .before .loop .k) × (getD (c .before .before .before .before .before .args .plan .now) (c .before .before .loop .here + 1) 0 ≡ 1)
@@ -38,6 +39,7 @@ is-single c = single-is _ _ _ (c .before .single .ensures) (c .if1 .taken)
 
 its-branch : (c : Turn) → let l = c .before .before .loop in let plan = c .before .before .before .before .before .args .plan .now in
     ReadyAt plan (l .links) (l .notes) (getD plan (l .here) 0) (l .here + 2) (l .k) (l .next) (l .slot)
+    (c .before .before .before .before .before .args .row)
 its-branch c = let s = is-single c in only (reached (c .before .before)) (s .0) (s .1) .one
 
 loop-holds : tie.Need-loop-holds Inv-loop μ-loop
