@@ -17,7 +17,7 @@ use Rattle.table.specs.Table.{upFrom}
 use Rattle.table.proofs.AllLaws.{all-++, all-front, all-back}
 use Rattle.plan.specs.Runs.{Run, run, runs}
 use Rattle.plan.specs.Plans.{Plan, node, Branches, end, next, branches, branchesIn}
-use Rattle.plan.specs.Notes.{flag, notes, notesIn, word, skipIn, rowsIn, Fits}
+use Rattle.plan.specs.Notes.{flag, notes, notesIn, word, skipIn, rowIn, Fits}
 use Rattle.plan.specs.code.Cells.{Good, Sound, Cells, CellsIn}
 use Rattle.answer.specs.Skeleton.{hole, decide, opened}
 use Rattle.answer.specs.Run.{skeletons, skeletonsIn}
@@ -86,9 +86,9 @@ module _ {k : ℕ} (i : ℕ) (h : i ≤ k) (g : Run) (p : Plan (arity (g .cell) 
   pub whole : Plan (suc k) (x ∷ [])
   whole = node i h only
 
-  pub whole-notes : (slots : List ℕ) (n m : ℕ) → notes whole slots n m ≡ notesIn (next {g = g} p end) i slots n m
+  pub whole-notes : (slots : List ℕ) (m row : ℕ) → notes whole slots m row ≡ notesIn (next {g = g} p end) i slots m row
   unfolding whole notes
-  whole-notes slots n m = as-only (λ (gs : List Run) (b : Branches k gs). notesIn b i slots n m ≡ notesIn (next {g = g} p end) i slots n m) refl
+  whole-notes slots m row = as-only (λ (gs : List Run) (b : Branches k gs). notesIn b i slots m row ≡ notesIn (next {g = g} p end) i slots m row) refl
 
   whole-count : branches whole ≡ suc (branches p)
   unfolding whole branches
@@ -107,10 +107,11 @@ module _ {k : ℕ} (i : ℕ) (h : i ≤ k) (g : Run) (p : Plan (arity (g .cell) 
   pub chain : Chain (suc k) x
   chain = chain-of whole x refl
 
-  pub chain-is-noted : (words : List ℕ) (n : ℕ) (slots : List ℕ) (m : ℕ) (rest : List ℕ) → drop n words ≡ map word (notes whole slots n m) ++ rest → All Fits (notes whole slots n m)
+  pub chain-is-noted : (words : List ℕ) (n : ℕ) (slots : List ℕ) (m row : ℕ) (rest : List ℕ) → drop n words ≡ map word (notes whole slots m row) ++ rest
+      → All Fits (notes whole slots m row)
       → Noted chain words n slots m
   unfolding chain
-  chain-is-noted words n slots m rest d f = chain-noted whole x refl words n slots m rest d f whole-cells
+  chain-is-noted words n slots m row rest d f = chain-noted whole x refl words n slots m row rest d f whole-cells
 
   pub chain-is-long : lengthOf chain ≡ suc (branches p)
   unfolding chain
@@ -166,13 +167,13 @@ module _ {v : ℕ} {G sib rep : List ℕ} (g : Goal v G) (T : Tables G sib rep) 
   abbrev the-chain : Chain (suc (t .k)) (x (t .place) low (t .group) (t .tree) (row-of .0) (row-of .1) is-var S C)
   the-chain = chain (t .place) low (t .group) (t .tree) (row-of .0) (row-of .1) is-var S C
 
-  module _ (words rest : List ℕ) (d : drop n words ≡ map word (notesIn (next {g = t .group} (t .tree) end) (t .place) (t .slots) n (t .free)) ++ rest)
-      (f : All Fits (notesIn (next {g = t .group} (t .tree) end) (t .place) (t .slots) n (t .free))) (to : ℕ) (e : to ≡ n + 1 + branches (t .tree)) (far : to ≤ 2048) where
+  module _ (words rest : List ℕ) (d : drop n words ≡ map word (notesIn (next {g = t .group} (t .tree) end) (t .place) (t .slots) (t .free) row) ++ rest)
+      (f : All Fits (notesIn (next {g = t .group} (t .tree) end) (t .place) (t .slots) (t .free) row)) (to : ℕ) (e : to ≡ n + 1 + branches (t .tree)) (far : to ≤ 2048) where
     pub begins : Begins words rep sib bs ns us rs n to
     unfolding branches
     begins =
         let o = row-of in
-        let q = whole-notes (t .place) low (t .group) (t .tree) (o .0) (o .1) is-var S C (t .slots) n (t .free) in
+        let q = whole-notes (t .place) low (t .group) (t .tree) (o .0) (o .1) is-var S C (t .slots) (t .free) row in
         record {
           w = v;
           G = G;
@@ -189,7 +190,7 @@ module _ {v : ℕ} {G sib rep : List ℕ} (g : Goal v G) (T : Tables G sib rep) 
           x = x (t .place) low (t .group) (t .tree) (o .0) (o .1) is-var S C;
           chain = the-chain;
           loose = row-loose (t .place) low (t .group) (t .tree) (o .0) (o .1) is-var S C;
-          noted = chain-is-noted (t .place) low (t .group) (t .tree) (o .0) (o .1) is-var S C words n (t .slots) (t .free) rest (rw q d) (rw q f);
+          noted = chain-is-noted (t .place) low (t .group) (t .tree) (o .0) (o .1) is-var S C words n (t .slots) (t .free) row rest (rw q d) (rw q f);
           count = omega (arith, chain-is-long (t .place) low (t .group) (t .tree) (o .0) (o .1) is-var S C);
           far = far;
           size-bound = Z .bound;
@@ -226,40 +227,36 @@ unfolding upFrom
 its-row row true = refl
 its-row row false = refl
 
-pub one-hit : {words rep sib bs ns us rs : List ℕ} {from to : ℕ} (b : Begins words rep sib bs ns us rs from to) {t h : ℕ} → Walks b t h → h ≤ 1
-one-hit b (true, e, g) = omega arith
-one-hit b (false, e, g) = omega arith
-
 -- In the walk: the rest of the row, and the walk after it.
-module _ {noted goal room : List ℕ} {count w : ℕ} (b : Begun noted count goal room w) {sib rep bs ns us rs room′ : List ℕ} {i row found tries : ℕ} (T : Tables (renamed goal) sib rep)
-    (A : Walking b rep sib bs ns us rs room′ i row found tries) (l : i < count) (on : flagged b T A l ≡ true) where
+module _ {noted goal room : List ℕ} {count w : ℕ} (b : Begun noted count goal room w) {sib rep bs ns us rs room′ : List ℕ} {i found tries : ℕ} (T : Tables (renamed goal) sib rep)
+    (A : Walking b rep sib bs ns us rs room′ i found tries) (l : i < count) (on : flagged b T A l ≡ true) where
   abbrev G : Goal w (renamed goal)
   G = goal-head (b .is)
 
-  abbrev t : Top (renamed goal) rep sib bs ns us rs (A .left-over) i (A .top) row
+  abbrev t : Top (renamed goal) rep sib bs ns us rs (A .left-over) i (A .top) (A .row)
   t = top-now b T A l
 
   abbrev W : ℕ
   W = getD noted i 0
 
-  words-all : drop i noted ≡ map word (notesIn (next {g = t .group} (t .tree) end) (t .place) (t .slots) i (t .free)) ++ (map word (notesOf (frames G T t) (i + 1 + branches (t .tree))) ++ drop count noted)
+  words-all : drop i noted ≡ map word (notesIn (next {g = t .group} (t .tree) end) (t .place) (t .slots) (t .free) (A .row)) ++ (map word (notesOf (frames G T t) (A .row + length (t .group .rows))) ++ drop count noted)
   words-all =
       drop-cut i count noted (omega arith) ∙ ap (λ (x : List ℕ). x ++ drop count noted) (words-here G T A (inside b T A l))
-      ∙ append-assoc (map word (notesIn (next {g = t .group} (t .tree) end) (t .place) (t .slots) i (t .free))) (map word (notesOf (frames G T t) (i + 1 + branches (t .tree)))) (drop count noted)
+      ∙ append-assoc (map word (notesIn (next {g = t .group} (t .tree) end) (t .place) (t .slots) (t .free) (A .row))) (map word (notesOf (frames G T t) (A .row + length (t .group .rows)))) (drop count noted)
 
-  pub rest-now : (to : ℕ) → to ≡ skipIn W → Begins noted rep sib bs ns us rs i to
+  pub rest-now : (to : ℕ) → to ≡ i + 1 + skipIn W → Begins noted rep sib bs ns us rs i to
   rest-now to e =
       let s = t .sound (A .sound) in
-      let q : to ≡ i + 1 + branches (t .tree) = e ∙ rw (same-word b T A l) at (skip-is G T A (inside b T A l)) in
-      begins G T t (A .sizes) (s .0) (s .1) on noted (map word (notesOf (frames G T t) (i + 1 + branches (t .tree))) ++ drop count noted) words-all (fit-only G T A (inside b T A l)) to q
-      (omega (arith, e, skip-now b T A l .1, count-small b))
+      let q : to ≡ i + 1 + branches (t .tree) = e ∙ ap (λ (s : ℕ). i + 1 + s) (rw (same-word b T A l) at (skip-is G T A (inside b T A l))) in
+      begins G T t (A .sizes) (s .0) (s .1) on noted (map word (notesOf (frames G T t) (A .row + length (t .group .rows))) ++ drop count noted) words-all (fit-only G T A (inside b T A l)) to q
+      (omega (arith, e, skip-now b T A l, count-small b))
 
-  pub alone-now : {to : ℕ} (e : to ≡ skipIn W) {t′ h : ℕ} → Walks (rest-now to e) t′ h → {room″ : List ℕ} → room″ ≡ sets room′ found (upFrom row h)
-      → {i′ row′ found′ tries′ : ℕ} (n : ℕ) → n ≡ rowsIn W → i′ ≡ to → row′ ≡ row + n → found′ ≡ found + h → tries′ ≡ tries + t′
-      → Walking b rep sib bs ns us rs room″ i′ row′ found′ tries′
+  pub alone-now : {to : ℕ} (e : to ≡ i + 1 + skipIn W) {t′ h : ℕ} → Walks (rest-now to e) t′ h → {room″ : List ℕ} (r : ℕ) → r ≡ rowIn W → room″ ≡ sets room′ found (upFrom r h)
+      → {i′ found′ tries′ : ℕ} → i′ ≡ to → found′ ≡ found + h → tries′ ≡ tries + t′ → Walking b rep sib bs ns us rs room″ i′ found′ tries′
   unfolding rest-now
-  alone-now {to} e {t′} {h} (hit, eh, a) {room″} y n en ei er ef et =
-      let y′ : room″ ≡ sets room′ found (cond hit (row ∷ []) []) = y ∙ ap (λ (z : ℕ). sets room′ found (upFrom row z)) eh ∙ ap (sets room′ found) (its-row row hit) in
+  alone-now {to} e {t′} {h} (hit, eh, a) {room″} r er y ei ef et =
+      let y′ : room″ ≡ sets room′ found (cond hit (rowIn (getD (take count noted) i 0) ∷ []) []) =
+      y ∙ ap (λ (z : ℕ). sets room′ found (upFrom r z)) eh ∙ ap (sets room′ found) (its-row r hit) ∙ rw (same-word b T A l, er) in
       let s = t .sound (A .sound) in
-      let g = gone G T t (A .sizes) (s .0) (s .1) on noted (map word (notesOf (frames G T t) (i + 1 + branches (t .tree))) ++ drop count noted) words-all (fit-only G T A (inside b T A l)) to _ _ a in
-      rw (ei, er, ef, et, en, eh, e) (rw (same-word b T A l) at (on-alone G T A (inside b T A l) t′ hit on (g .0) (g .1) y′))
+      let g = gone G T t (A .sizes) (s .0) (s .1) on noted (map word (notesOf (frames G T t) (A .row + length (t .group .rows))) ++ drop count noted) words-all (fit-only G T A (inside b T A l)) to _ _ a in
+      rw (ei, ef, et, eh, e) (rw (same-word b T A l) at (on-alone G T A (inside b T A l) t′ hit on (g .0) (g .1) y′))

@@ -63,23 +63,23 @@ word-at words at x xs e =
 mutual
   unfolding notes Noted Cells chain-of
 
-  pub chain-noted : {k : ℕ} {rows : List (List ℕ)} (p : Plan k rows) (x : List ℕ) (e : rows ≡ x ∷ []) (words : List ℕ) (at : ℕ) (slots : List ℕ) (m : ℕ) (rest : List ℕ)
-      → drop at words ≡ map word (notes p slots at m) ++ rest → All Fits (notes p slots at m) → Cells RowCell p → Noted (chain-of p x e) words at slots m
-  chain-noted leaf x e words at slots m rest d f c = tt
-  chain-noted (node i h bs) x e words at slots m rest d f c = chain-notedIn bs (root i x) (close i x) (ap (runs i) e) i h words at slots m rest d f c
+  pub chain-noted : {k : ℕ} {rows : List (List ℕ)} (p : Plan k rows) (x : List ℕ) (e : rows ≡ x ∷ []) (words : List ℕ) (at : ℕ) (slots : List ℕ) (m row : ℕ) (rest : List ℕ)
+      → drop at words ≡ map word (notes p slots m row) ++ rest → All Fits (notes p slots m row) → Cells RowCell p → Noted (chain-of p x e) words at slots m
+  chain-noted leaf x e words at slots m row rest d f c = tt
+  chain-noted (node i h bs) x e words at slots m row rest d f c = chain-notedIn bs (root i x) (close i x) (ap (runs i) e) i h words at slots m row rest d f c
 
-  chain-notedIn : {k : ℕ} {gs : List Run} (bs : Branches k gs) (c : ℕ) (y : List ℕ) (e : gs ≡ run c (y ∷ []) ∷ []) (i : ℕ) → i ≤ k → (words : List ℕ) (at : ℕ) (slots : List ℕ) (m : ℕ) (rest : List ℕ)
-      → drop at words ≡ map word (notesIn bs i slots at m) ++ rest → All Fits (notesIn bs i slots at m) → CellsIn RowCell bs
+  chain-notedIn : {k : ℕ} {gs : List Run} (bs : Branches k gs) (c : ℕ) (y : List ℕ) (e : gs ≡ run c (y ∷ []) ∷ []) (i : ℕ) → i ≤ k → (words : List ℕ) (at : ℕ) (slots : List ℕ) (m row : ℕ) (rest : List ℕ)
+      → drop at words ≡ map word (notesIn bs i slots m row) ++ rest → All Fits (notesIn bs i slots m row) → CellsIn RowCell bs
       → (cellIn (getD words at 0) ≡ c) × (slotIn (getD words at 0) ≡ getD slots i 0) × (nextIn (getD words at 0) ≡ m) × (m + arity c < 64)
       × (isVar c ≡ true → c < 32) × (c ≢ hole) × Noted (chain-in bs c y e) words (at + 1) (below i (arity c) m slots) (m + arity c)
-  chain-notedIn end c y e i h words at slots m rest d f cs = let z : _≡_ {A = ℕ} 0 1 = cc in absurd (let y : ⊥ = omega arith in y)
-  chain-notedIn (next {k} {g} {gs} p bs) c y e i h words at slots m rest d f cs =
+  chain-notedIn end c y e i h words at slots m row rest d f cs = let z : _≡_ {A = ℕ} 0 1 = cc in absurd (let y : ⊥ = omega arith in y)
+  chain-notedIn (next {k} {g} {gs} p bs) c y e i h words at slots m row rest d f cs =
       let q = cell-is g gs c y e in
-      let N = notes p (below i (arity (g .cell)) m slots) (at + 1) (m + arity (g .cell)) in
-      let M = notesIn bs i slots (at + 1 + branches p) m in
+      let N = notes p (below i (arity (g .cell)) m slots) (m + arity (g .cell)) row in
+      let M = notesIn bs i slots m (row + length (g .rows)) in
       let w = word-at words at _ (map word (N ++ M) ++ rest) d in
       let P = word-parts _ (f .0) in
       let d′ : drop (at + 1) words ≡ map word N ++ (map word M ++ rest) = w .1 ∙ ap (λ (l : List ℕ). l ++ rest) (map-append word N M) ∙ append-assoc (map word N) (map word M) rest in
-      let n = chain-noted p y (q .1) words (at + 1) (below i (arity (g .cell)) m slots) (m + arity (g .cell)) (map word M ++ rest) d′ (all-front Fits N M (f .1)) (cs .1) in
+      let n = chain-noted p y (q .1) words (at + 1) (below i (arity (g .cell)) m slots) (m + arity (g .cell)) row (map word M ++ rest) d′ (all-front Fits N M (f .1)) (cs .1) in
       let o = noted-subst k (q .0) (chain-of p y (q .1)) words (at + 1) (below i (arity (g .cell)) m slots) (m + arity (g .cell)) n in
       (rw (w .0) (P .cell ∙ q .0), rw (w .0) (P .slot), rw (w .0) (P .next), rw (q .0) at (f .0 .next), rw (q .0) at (cs .0 .cell .0), rw (q .0) at (cs .0 .cell .1), subst (λ (d : ℕ). Noted (chain-in (next {g = g} p bs) c y e) words (at + 1) (below i (arity d) m slots) (m + arity d)) (q .0) o)

@@ -29,23 +29,23 @@ unfolding branches hits tried
 none-in end z i m R f = (refl, refl, refl)
 none-in (next p bs) z i m R f = absurd (let y : ⊥ = omega arith in y)
 
--- no branch below a branch: a leaf
-pub leaf-all : {k : ℕ} {rows : List (List ℕ)} (p : Plan k rows) → branches p ≡ 0 → (m : ℕ) (R : List ℕ) (f : ℕ) → (hits p m R f ≡ upFrom f (length rows)) × (tried p m R ≡ 0)
+-- no branch below a branch: a leaf, and its only row
+pub leaf-one : {k : ℕ} {rows : List (List ℕ)} (p : Plan k rows) → branches p ≡ 0 → 0 < length rows → (k ≡ 0 → length rows ≡ 1) → (m : ℕ) (R : List ℕ) (f : ℕ)
+    → (hits p m R f ≡ f ∷ []) × (tried p m R ≡ 0)
 unfolding branches hits tried upFrom
-leaf-all leaf z m R f = (refl, refl)
-leaf-all (node {rows = rows} i h bs) z m R f =
+leaf-one (leaf {rows}) z some one m R f = let e : length rows ≡ 1 = one refl in (rw e refl, refl)
+leaf-one (node {rows = rows} i h bs) z some one m R f =
     let n = none-in bs z i m R f in
-    let e : length rows ≡ 0 = sym (group-rows (root i) (close i) rows) ∙ n .2 in
-    (rw e (n .0), n .1)
+    absurd (let y : ⊥ = omega (arith, group-rows (root i) (close i) rows, n .2) in y)
 
 -- no branch is left in any frame
-pub none-of : (fs : List Frame) (n row : ℕ) → length (notesOf fs n) ≡ 0 → (hitsOf fs row ≡ []) × (triedOf fs ≡ 0)
-none-of [] n row z = (refl, refl)
-none-of (f ∷ fs) n row z =
-    let l = length-append (notesIn (f .trees) (f .place) (f .slots) n (f .free)) (notesOf fs (n + branchesIn (f .trees))) in
-    let c = notesIn-count (f .trees) (f .place) (f .slots) n (f .free) in
+pub none-of : (fs : List Frame) (row : ℕ) → length (notesOf fs row) ≡ 0 → (hitsOf fs row ≡ []) × (triedOf fs ≡ 0)
+none-of [] row z = (refl, refl)
+none-of (f ∷ fs) row z =
+    let l = length-append (notesIn (f .trees) (f .place) (f .slots) (f .free) row) (notesOf fs (row + rowCount (f .groups))) in
+    let c = notesIn-count (f .trees) (f .place) (f .slots) (f .free) row in
     let h = none-in (f .trees) (omega arith) (f .place) (f .free) (f .R) row in
-    let t = none-of fs (n + branchesIn (f .trees)) (row + rowCount (f .groups)) (omega arith) in
+    let t = none-of fs (row + rowCount (f .groups)) (omega arith) in
     (ap₂ _++_ (h .0) (t .0), omega (arith, h .1, t .1))
 
 -- The state below a branch, as a frame.
@@ -58,7 +58,7 @@ pub record Below {k : ℕ} {rows : List (List ℕ)} (p : Plan k rows) (m : ℕ) 
   pub width : suc (first .k) ≡ k
   pub low : first .place ≤ first .k
   pub count : branchesIn (first .trees) ≡ branches p
-  pub same-notes : (n : ℕ) → notesIn (first .trees) (first .place) (first .slots) n (first .free) ≡ notes p slots n m
+  pub same-notes : (row : ℕ) → notesIn (first .trees) (first .place) (first .slots) (first .free) row ≡ notes p slots m row
   pub same-hits : (f : ℕ) → hitsIn (first .trees) (first .place) (first .free) (first .R) f ≡ hits p m R f
   pub same-tried : triedIn (first .trees) (first .place) (first .free) (first .R) ≡ tried p m R
   pub same-rows : rowCount (first .groups) ≡ length rows
@@ -75,7 +75,7 @@ below-frame (node {rows = rows} i h bs) m slots R z = record {
   width = refl;
   low = h;
   count = refl;
-  same-notes = λ n. refl;
+  same-notes = λ row. refl;
   same-hits = λ f. refl;
   same-tried = refl;
   same-rows = group-rows (root i) (close i) rows;
@@ -136,7 +136,7 @@ pub record Top (G rep sib bs ns us rs : List ℕ) (fs : List Frame) (n top row :
   pub R : List ℕ
   pub others : List Frame
   pub stands : Stands G rep sib bs ns us rs (frame (next {g = group} tree trees) place free slots R ∷ others) n top
-  pub same-notes : notesOf fs n ≡ notesOf (frame (next {g = group} tree trees) place free slots R ∷ others) n
+  pub same-notes : notesOf fs row ≡ notesOf (frame (next {g = group} tree trees) place free slots R ∷ others) row
   pub same-hits : hitsOf fs row ≡ hitsOf (frame (next {g = group} tree trees) place free slots R ∷ others) row
   pub same-tried : triedOf fs ≡ triedOf (frame (next {g = group} tree trees) place free slots R ∷ others)
   pub same-rows : rowsOf fs ≡ rowsOf (frame (next {g = group} tree trees) place free slots R ∷ others)
@@ -144,15 +144,15 @@ pub record Top (G rep sib bs ns us rs : List ℕ) (fs : List Frame) (n top row :
 
 -- a frame with a branch, or the first one further out
 first-in : {G rep sib bs ns us rs : List ℕ} {k : ℕ} {gs : List Run} (ts : Branches k gs) (i m : ℕ) (slots R : List ℕ) (fs : List Frame) (n top row : ℕ)
-    → ((top : ℕ) → 0 < length (notesOf fs n) → Stands G rep sib bs ns us rs fs n top → Top G rep sib bs ns us rs fs n top row)
-    → 0 < length (notesOf (frame ts i m slots R ∷ fs) n) → Stands G rep sib bs ns us rs (frame ts i m slots R ∷ fs) n top
+    → ((top : ℕ) → 0 < length (notesOf fs row) → Stands G rep sib bs ns us rs fs n top → Top G rep sib bs ns us rs fs n top row)
+    → 0 < length (notesOf (frame ts i m slots R ∷ fs) row) → Stands G rep sib bs ns us rs (frame ts i m slots R ∷ fs) n top
     → Top G rep sib bs ns us rs (frame ts i m slots R ∷ fs) n top row
 unfolding notes hits tried branches Cells
 first-in {G} {rep} {sib} {bs} {ns} {us} {rs} end i m slots R fs n top row f h (within x l s) =
     let zn : n + 0 ≡ n = add-zero n in
     let zr : row + 0 ≡ row = add-zero row in
     let s′ : Stands G rep sib bs ns us rs fs n m = rw zn at s in
-    let t = f top (rw zn at h) (stands-more top l s′) in
+    let t = f top (rw zr at h) (stands-more top l s′) in
     record {
       k = t .k;
       group = t .group;
@@ -165,7 +165,7 @@ first-in {G} {rep} {sib} {bs} {ns} {us} {rs} end i m slots R fs n top row f h (w
       R = t .R;
       others = t .others;
       stands = t .stands;
-      same-notes = ap (notesOf fs) zn ∙ t .same-notes;
+      same-notes = ap (notesOf fs) zr ∙ t .same-notes;
       same-hits = ap (hitsOf fs) zr ∙ t .same-hits;
       same-tried = omega (arith, t .same-tried);
       same-rows = omega (arith, t .same-rows);
@@ -190,6 +190,6 @@ first-in (next {k} {g} {gs} p ts) i m slots R fs n top row f h s = record {
   sound = λ a. (a .0 .0, a .0 .1, a .0 .2, a .1);
 }
 
-pub top-of : {G rep sib bs ns us rs : List ℕ} (fs : List Frame) (n top row : ℕ) → 0 < length (notesOf fs n) → Stands G rep sib bs ns us rs fs n top → Top G rep sib bs ns us rs fs n top row
+pub top-of : {G rep sib bs ns us rs : List ℕ} (fs : List Frame) (n top row : ℕ) → 0 < length (notesOf fs row) → Stands G rep sib bs ns us rs fs n top → Top G rep sib bs ns us rs fs n top row
 top-of [] n top row h s = absurd (let z : ⊥ = omega arith in z)
 top-of (f ∷ fs) n top row h s = first-in (f .trees) (f .place) (f .free) (f .slots) (f .R) fs n top row (λ top. top-of fs n top row) h s

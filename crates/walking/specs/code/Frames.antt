@@ -38,10 +38,10 @@ RowCell c = (isVar c ≡ true → c < 32) × (c ≢ hole)
 abbrev pub SoundOf : List Frame → Type 0
 SoundOf fs = All (λ (f : Frame). CellsIn RowCell (f .trees)) fs
 
--- their notes, the first of them being number n
+-- their notes, the first row being `row`
 abbrev pub notesOf : List Frame → ℕ → List Branch
-notesOf [] n = []
-notesOf (f ∷ fs) n = notesIn (f .trees) (f .place) (f .slots) n (f .free) ++ notesOf fs (n + branchesIn (f .trees))
+notesOf [] row = []
+notesOf (f ∷ fs) row = notesIn (f .trees) (f .place) (f .slots) (f .free) row ++ notesOf fs (row + rowCount (f .groups))
 
 -- their hits, the first row being `row`
 abbrev pub hitsOf : List Frame → ℕ → List ℕ

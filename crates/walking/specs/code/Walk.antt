@@ -17,7 +17,7 @@ pub record Begun (noted : List ℕ) (count : ℕ) (goal room : List ℕ) (w : �
   pub accepted : IsTable table w rows
   pub tree : Plan w rows
   pub number : count ≡ branches tree
-  pub words : take count noted ≡ map word (notes tree (upFrom 1 w) 0 32)
+  pub words : take count noted ≡ map word (notes tree (upFrom 1 w) 32 0)
   pub is : IsGoal w goal
   pub roomy : length rows ≤ length room
 
