@@ -1,7 +1,7 @@
-// One branch of the walk: the node that it looks at, its test, and what it writes. What a branch binds is bound for the branches below it,
-// that is before the branch number `skip`; after them it is unbound by itself, and nothing is undone.
+// One branch of the walk: the node that it looks at, its test, and what it writes. What a branch binds is bound for the branches below it;
+// after them it is unbound by itself, and nothing is undone.
 ghost use mathlib.Core.Path.{_≡_};
-ghost use Prim.Native.Nat.{_<_};
+ghost use Prim.Native.Nat.{_+_, _<_};
 ghost use lib.ListN.{getD};
 ghost use Rattle.plan.specs.Notes.{cellIn, skipIn, slotIn, nextIn};
 ghost use Rattle.walking.specs.code.Steps.{Safe, Step};
@@ -56,9 +56,10 @@ pub fn meets(
     until: &mut [u16; 64],
     refs: &mut [u8; 64],
 ) -> bool
+    requires { ⌜ i < 2048 ⌝ }
     ensures { λ r. ⌜ (Safe (now (sib .entry)) (now (bound .entry)) (now (args .entry)) (now (until .entry)) i (cellIn w)
         (getD (now (refs .entry)) (slotIn w) 0) (nextIn w)
-        → Step (now (rep .entry)) (now (sib .entry)) i (cellIn w) (getD (now (refs .entry)) (slotIn w) 0) (nextIn w) (skipIn w)
+        → Step (now (rep .entry)) (now (sib .entry)) i (cellIn w) (getD (now (refs .entry)) (slotIn w) 0) (nextIn w) (i + 1 + skipIn w)
         (now (bound .entry)) (now (args .entry)) (now (until .entry)) (now (refs .entry)) (now (bound .exit)) (now (args .exit))
         (now (until .exit)) (now (refs .exit)) r) ⌝ }
 {
@@ -74,10 +75,10 @@ pub fn meets(
         }
         Found::Unbound => {
             let next = next_of(w);
-            let skip = skip_of(w);
+            let past = i + 1 + skip_of(w);
             bound[v] = c;
             args[v] = next as u8;
-            until[v] = skip;
+            until[v] = past as u16;
             put_terms(refs, next, cell::arity_of(c), next, rep, sib);
             true
         }

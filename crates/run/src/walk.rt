@@ -1,6 +1,6 @@
 // The walk along a plan: one loop over what is noted of each branch, in plan order. A branch whose test fails is left with all below
-// it, by the number of the branch after them; one that succeeds is followed by the branches below it, or, where there is none, its rows are
-// hits. A row that repeats a variable is run by itself from the branch of its first variable on.
+// it, which are counted; one that succeeds is followed by the branches below it, or, where there is none, its only row (02, W-208) is a hit. A
+// row that repeats a variable is run by itself from the branch of its first variable on.
 ghost use mathlib.Core.Path.{_≡_};
 ghost use Prim.Native.Nat.{_+_, _^_, _≤_, _<_};
 ghost use lib.ListN.{length, set};
@@ -12,9 +12,9 @@ use super::nodes::siblings;
 use super::step::meets;
 use joins::node;
 use notes::packed::alone_of;
-use notes::packed::rows_of;
+use notes::packed::row_of;
 use notes::packed::skip_of;
-use notes::packed::wide16;
+use notes::packed::wide;
 use repeats::end_of;
 use repeats::put_terms;
 use repeats::rest;
@@ -45,11 +45,13 @@ pub fn put_rows(room: &mut [u8], at: usize, n: usize, row: usize)
     }
 }
 
-// The branch after all below one, and no earlier one than that which comes `next`.
-fn past(next: usize, skip: usize) -> usize
-    ensures { λ r. ⌜ (next ≤ r) × (next ≤ skip → r ≡ skip) ⌝ }
+// The row as the byte at `at`, where the room has a place for it.
+fn put_row(room: &mut [u8], at: usize, row: u8)
+    ensures { λ _. ⌜ (at < length (now (room .entry)) → now (room .exit) ≡ set (now (room .entry)) at row) ⌝ }
 {
-    if next < skip { skip } else { next }
+    if at < room.len() {
+        room[at] = row;
+    }
 }
 
 // A run of an accepted plan on a goal of `width` terms: the hits as bytes from the room's first on, and how many branches were tried.
@@ -73,20 +75,18 @@ pub fn walk(
     put_terms(&mut refs, 1, width, 0, &rep, &sib);
     let end = end_of(branches);
     let mut i = 0;
-    let mut row = 0;
     let mut hits = 0;
     let mut tried = 0;
     while i < end {
         let w = notes[i];
-        let skip = wide16(skip_of(w));
-        let after = i + 1;
+        let skip = skip_of(w);
         if alone_of(w) {
-            let o = rest(notes, i, skip, &rep, &sib, &bound, &args, &until, &refs);
-            put_rows(room, hits, o.hits, row);
+            let past = i + 1 + skip;
+            let o = rest(notes, i, past, &rep, &sib, &bound, &args, &until, &refs);
+            put_rows(room, hits, o.hits, wide(row_of(w)));
             hits += o.hits;
             tried += o.tried;
-            row += rows_of(w);
-            i = past(after, skip);
+            i = past;
         } else {
             tried += 1;
             if meets(
@@ -99,16 +99,14 @@ pub fn walk(
                 &mut until,
                 &mut refs,
             ) {
-                if after == skip {
-                    let n = rows_of(w);
-                    put_rows(room, hits, n, row);
-                    hits += n;
-                    row += n;
+                let next = i + 1;
+                if skip == 0 {
+                    put_row(room, hits, row_of(w));
+                    hits += 1;
                 }
-                i = after;
+                i = next;
             } else {
-                row += rows_of(w);
-                i = past(after, skip);
+                i += 1 + skip;
             }
         }
     }

@@ -1,4 +1,4 @@
-use Prim.Native.Nat.{ℕ}
+use Prim.Native.Nat.{ℕ, _+_}
 use mathlib.Core.Path.{_≡_, refl, _∙_, ap, ap₂, subst}
 use native.Mathlib.Omega.{arith}
 use lib.ListN.{getD, set}
@@ -84,8 +84,14 @@ enum-told-3 c = search needs
 next-of-requires-2 : tie.Need-next-of-requires-2
 next-of-requires-2 c κs = search needs
 
+add-past : tie.Need-add-past
+add-past c = search needs
+
 skip-of-requires : tie.Need-skip-of-requires
 skip-of-requires c κs = search needs
+
+add-past-2 : tie.Need-add-past-2
+add-past-2 c = omega (arith, c .skip-of .ensures)
 
 mul-bound : tie.Need-mul-bound
 mul-bound c = search needs
@@ -98,6 +104,9 @@ cast-args c = search needs
 
 element-write-args : tie.Need-element-write-args
 element-write-args c = search needs
+
+cast-until : tie.Need-cast-until
+cast-until c = omega (arith, c .skip-of .ensures)
 
 mul-until : tie.Need-mul-until
 mul-until c = search needs
@@ -142,7 +151,7 @@ returns-4 c = λ S.
     step-binds (s .0) (s .1)
     (ap₂ (λ (v d : ℕ). set (a .bound .now) v d) e r)
     (ap₂ (λ (v d : ℕ). set (a .args .now) v d) e (n .next-of2 .ensures))
-    (ap₂ (λ (v d : ℕ). set (a .until .now) v d) e (c .before .before .before .skip-of .ensures))
+    (ap₂ (λ (v d : ℕ). set (a .until .now) v (a .i + 1 + d)) e (c .before .before .before .skip-of .ensures))
     (f (S .room) (S .new))
 
 pub meets-spec : {M : Type 1} → statement M
@@ -163,11 +172,14 @@ meets-spec =
     put-terms-requires
     enum-told-3
     next-of-requires-2
+    add-past
     skip-of-requires
+    add-past-2
     mul-bound
     element-write-bound
     cast-args
     element-write-args
+    cast-until
     mul-until
     element-write-until
     arity-of-requires-2

@@ -9,12 +9,12 @@ use lib.Seq.{sets}
 use Rattle.term.specs.Unify.{renamed}
 use Rattle.answer.proofs.AcceptedLaws.{goal-head}
 use Rattle.table.specs.Table.{upFrom}
-use Rattle.plan.specs.Notes.{skipIn, rowsIn}
+use Rattle.plan.specs.Notes.{skipIn, rowIn}
 use Rattle.walking.specs.code.Link.{Tables}
 use Rattle.walking.specs.code.Walk.{Begun}
 use Rattle.walking.proofs.StartLaws.{whole, tables, arguments}
 use Rattle.walking.proofs.AlongLaws.{ended}
-use Rattle.walking.proofs.WalkLaws.{Walking, words-count, count-small, began, safe-now, rows-now, skip-now, flagged, flag-now, some-now}
+use Rattle.walking.proofs.WalkLaws.{Walking, words-count, count-small, began, safe-now, found-now, flagged, flag-now}
 use Rattle.walking.proofs.WalkLaws.{fail-now, leaf-now, down-now}
 use Rattle.alone.specs.code.Rest.{Begins}
 use Rattle.alone.proofs.FlagLaws.{rest-now, alone-now}
@@ -22,13 +22,12 @@ use Rattle.run.proofs.walk.walk.Statement.{statement}
 use Rattle.run.proofs.walk.walk.Tie as tie
 
 abbrev Inv-loop : tie.InvT-loop
-Inv-loop notes branches goal width room₀ sib bound₀ args₀ until₀ rep refs₀ end i₀ row₀ hits₀ tried₀ room bound args until refs i row hits tried =
-    Tables (renamed goal) sib rep × (length room ≡ length room₀) × (row ≤ 127 * i) × (hits ≤ 127 * i) × (tried ≤ 2048 * i)
-    × ((b : Begun notes branches goal room₀ width) → Walking b rep sib bound args until refs room i row hits tried)
+Inv-loop notes branches goal width room₀ sib bound₀ args₀ until₀ rep refs₀ end i₀ hits₀ tried₀ room bound args until refs i hits tried =
+    Tables (renamed goal) sib rep × (length room ≡ length room₀) × (hits ≤ i) × (tried ≤ 2048 * i)
+    × ((b : Begun notes branches goal room₀ width) → Walking b rep sib bound args until refs room i hits tried)
 
 abbrev μ-loop : tie.MeasureT-loop
-μ-loop notes branches goal width room₀ sib bound₀ args₀ until₀ rep refs₀ end i₀ row₀ hits₀ tried₀ room bound args until refs i row hits tried =
-    end - i
+μ-loop notes branches goal width room₀ sib bound₀ args₀ until₀ rep refs₀ end i₀ hits₀ tried₀ room bound args until refs i hits tried = end - i
 
 -- a place in the loop
 module _ (c : tie.At-loop Inv-loop μ-loop) where
@@ -49,8 +48,8 @@ module _ (c : tie.At-loop Inv-loop μ-loop) where
   T = c .loop .inv .0
 
   abbrev walking : (b : Granted)
-      → (let l = c .loop in Walking b rep sib (l .bound) (l .args) (l .until) (l .refs) (l .room) (l .i) (l .row) (l .hits) (l .tried))
-  walking b = c .loop .inv .5 b
+      → (let l = c .loop in Walking b rep sib (l .bound) (l .args) (l .until) (l .refs) (l .room) (l .i) (l .hits) (l .tried))
+  walking b = c .loop .inv .4 b
 
   at-end : Granted → c .before .end-of .result ≡ start .args .branches
   at-end b = c .before .end-of .ensures .1 (count-small b)
@@ -77,7 +76,6 @@ loop-holds c =
       refl,
       omega arith,
       omega arith,
-      omega arith,
       λ b. began b S N (t .put-terms .ensures (omega (arith, b .accepted .width .1)) (arguments p S N .small)),
     )
 
@@ -90,49 +88,50 @@ element-copy-out-w c = search needs
 skip-of-requires : tie.Need-skip-of-requires Inv-loop μ-loop
 skip-of-requires c κs = search needs
 
-wide16-requires : tie.Need-wide16-requires Inv-loop μ-loop
-wide16-requires c κs = search needs
-
-add-after : tie.Need-add-after Inv-loop μ-loop
-add-after c = search needs
-
 alone-of-requires : tie.Need-alone-of-requires Inv-loop μ-loop
 alone-of-requires c κs = search needs
 
 -- a branch whose number is taken apart
 module _ (c : tie.After-alone-of Inv-loop μ-loop) where
   abbrev turn : tie.At-loop Inv-loop μ-loop
-  turn = c .before .before .before .before .before
+  turn = c .before .before .before .before
 
   -- what is read of it
   abbrev Word : ℕ
   Word = getD (start turn .args .notes .now) (turn .loop .i) 0
 
-  in-notes : turn .loop .i < 2048
-  in-notes = omega (arith, turn .before .end-of .ensures .0, c .before .before .before .before .loop-test .taken)
-
   abbrev below : turn .loop .i < turn .before .end-of .result
-  below = c .before .before .before .before .loop-test .taken
+  below = c .before .before .before .loop-test .taken
+
+  in-notes : turn .loop .i < 2048
+  in-notes = omega (arith, turn .before .end-of .ensures .0, below)
 
   lower : Granted turn → turn .loop .i < start turn .args .branches
   lower b = omega (arith, at-end turn b, below)
 
-  skip-read : c .before .wide16 .result ≡ skipIn Word
-  skip-read = c .before .wide16 .ensures ∙ c .before .before .skip-of .ensures
+  -- how many branches are below it, and the branch after them
+  abbrev skip : ℕ
+  skip = c .before .skip-of .result
 
-  few-read : rowsIn Word ≤ 127
-  few-read = omega arith
+  past-read : turn .loop .i + 1 + skip ≡ turn .loop .i + 1 + skipIn Word
+  past-read = omega (arith, c .before .skip-of .ensures)
 
-  fits-now : (b : Granted turn) → turn .loop .row + rowsIn Word ≤ length (b .rows)
-  fits-now b = rows-now b (T turn) (walking turn b) (lower b)
+  few-skipped : skip < 4096
+  few-skipped = omega (arith, c .before .skip-of .ensures)
 
-  -- the branch after all below it
-  skip-on : (b : Granted turn) → turn .loop .i + 1 ≤ c .before .wide16 .result
-  skip-on b = omega (arith, skip-read, skip-now b (T turn) (walking turn b) (lower b) .0)
+  -- where there is a hit, the room has a place for it
+  has-room : (b : Granted turn) → turn .loop .hits < length (turn .loop .room)
+  has-room b = omega (arith, found-now b (T turn) (walking turn b) (lower b), b .roomy, turn .loop .inv .1)
 
   -- whether the rest of its row is run by itself
   flag-read : (b : Granted turn) → flagged b (T turn) (walking turn b) (lower b) ≡ c .alone-of .result
   flag-read b = flag-now b (T turn) (walking turn b) (lower b) _ (c .alone-of .ensures)
+
+add-past : tie.Need-add-past Inv-loop μ-loop
+add-past c = omega (arith, in-notes (c .before))
+
+add-past-2 : tie.Need-add-past-2 Inv-loop μ-loop
+add-past-2 c = omega (arith, in-notes (c .before), few-skipped (c .before))
 
 -- a row that is run by itself
 module _ (c : tie.After-refs2 Inv-loop μ-loop) where
@@ -144,84 +143,71 @@ module _ (c : tie.After-refs2 Inv-loop μ-loop) where
 
   -- the walk as the call of `rest` finds it
   abbrev begins : (b : Granted (turn its)) → (let t = turn its in let l = t .loop in
-      Begins (start t .args .notes .now) (rep t) (sib t) (l .bound) (l .args) (l .until) (l .refs) (l .i) (its .before .wide16 .result))
-  begins b = rest-now b (T (turn its)) (walking (turn its) b) (lower its b) (flag-read its b ∙ on) _ (skip-read its)
+      Begins (start t .args .notes .now) (rep t) (sib t) (l .bound) (l .args) (l .until) (l .refs) (l .i) (l .i + 1 + skip its))
+  begins b = rest-now b (T (turn its)) (walking (turn its) b) (lower its b) (flag-read its b ∙ on) _ (past-read its)
 
 rest-requires : tie.Need-rest-requires Inv-loop μ-loop
 rest-requires c κs = search needs
 
--- and as it leaves it
-module _ (c : tie.After-rest Inv-loop μ-loop) where
-  abbrev done : tie.After-alone-of Inv-loop μ-loop
-  done = its (c .before)
+row-of-requires : tie.Need-row-of-requires Inv-loop μ-loop
+row-of-requires c κs = search needs
 
-  -- where there is a hit, the room has a place for it
-  its-fit : (b : Granted (turn done)) → (let l = turn done .loop in let h = c .rest .result .hits in
-      (l .hits + h ≤ length (l .room)) × (l .row + h ≤ 64))
-  its-fit b =
-      let some = some-now b (T (turn done)) (walking (turn done) b) (lower done b) (flag-read done b ∙ on (c .before)) in
-      let f : turn done .loop .row + c .rest .result .hits ≤ length (b .rows) = omega (arith, c .rest .ensures .1, fits-now done b, some) in
-      (omega (arith, f, walking (turn done) b .fewer, b .roomy, turn done .loop .inv .1), omega (arith, f, b .accepted .count .1))
+wide-requires : tie.Need-wide-requires Inv-loop μ-loop
+wide-requires c κs = search needs
+
+-- and as it leaves it
+module _ (c : tie.After-wide Inv-loop μ-loop) where
+  abbrev ran : tie.After-rest Inv-loop μ-loop
+  ran = c .before .before .before
+
+  abbrev done : tie.After-alone-of Inv-loop μ-loop
+  done = its (ran .before)
+
+  row-read : c .wide .result ≡ rowIn (Word done)
+  row-read = c .wide .ensures ∙ c .before .row-of .ensures
 
   -- the walk goes on, once the hit is put
-  after : (b : Granted (turn done)) {room : List ℕ} (i : ℕ) → i ≡ done .before .wide16 .result
-      → (let t = turn done in let l = t .loop in let r = c .rest .result in
-      room ≡ sets (l .room) (l .hits) (upFrom (l .row) (r .hits))
-      → Walking b (rep t) (sib t) (l .bound) (l .args) (l .until) (l .refs) room i (l .row + rowsIn (Word done)) (l .hits + r .hits) (l .tried + r .tried))
-  after b i ei e =
-      alone-now b (T (turn done)) (walking (turn done) b) (lower done b) (flag-read done b ∙ on (c .before)) (skip-read done)
-      (c .rest .ensures .2 (begins (c .before) b)) e _ refl ei refl refl refl
+  after : (b : Granted (turn done)) {room : List ℕ} → (let t = turn done in let l = t .loop in let r = ran .rest .result in
+      room ≡ sets (l .room) (l .hits) (upFrom (c .wide .result) (r .hits))
+      → Walking b (rep t) (sib t) (l .bound) (l .args) (l .until) (l .refs) room (l .i + 1 + skip done) (l .hits + r .hits) (l .tried + r .tried))
+  after b e =
+      alone-now b (T (turn done)) (walking (turn done) b) (lower done b) (flag-read done b ∙ on (ran .before)) (past-read done)
+      (ran .rest .ensures .2 (begins (ran .before) b)) _ row-read e refl refl refl
 
 put-rows-requires : tie.Need-put-rows-requires Inv-loop μ-loop
 put-rows-requires c κs =
-    let r = c .before in
-    let l = turn (done r) .loop .inv in
-    (omega (arith, l .3, r .rest .ensures .1, in-notes (done r)), omega (arith, l .2, r .rest .ensures .1, in-notes (done r)))
+    let d = done c in
+    (omega (arith, turn d .loop .inv .2, ran c .rest .ensures .1, in-notes d), omega (arith, row-read c, ran c .rest .ensures .1))
 
 add-hits : tie.Need-add-hits Inv-loop μ-loop
 add-hits c =
-    let r = c .before .before .before .before .before in
-    omega (arith, turn (done r) .loop .inv .3, r .rest .ensures .1, in-notes (done r))
+    let w = c .before .before .before .before in
+    omega (arith, turn (done w) .loop .inv .2, ran w .rest .ensures .1, in-notes (done w))
 
 add-tried : tie.Need-add-tried Inv-loop μ-loop
 add-tried c =
-    let r = c .before .before .before .before .before .before in
-    omega (arith, turn (done r) .loop .inv .4, r .rest .ensures .0, in-notes (done r))
-
-rows-of-requires : tie.Need-rows-of-requires Inv-loop μ-loop
-rows-of-requires c κs = search needs
-
-add-row : tie.Need-add-row Inv-loop μ-loop
-add-row c =
-    let d = done (c .before .before .before .before .before .before .before) in
-    omega (arith, turn d .loop .inv .2, c .rows-of .ensures, few-read d, in-notes d)
-
-past-requires : tie.Need-past-requires Inv-loop μ-loop
-past-requires c κs = search needs
+    let w = c .before .before .before .before .before in
+    omega (arith, turn (done w) .loop .inv .3, ran w .rest .ensures .0, in-notes (done w))
 
 loop-less : tie.Need-loop-less Inv-loop μ-loop
-loop-less c =
-    let d = done (c .before .before .before .before .before .before .before .before) in
-    omega (arith, below d, c .past .ensures .0)
+loop-less c = omega (arith, below (done (c .before .before .before .before .before)))
 
 loop-again : tie.Need-loop-again Inv-loop μ-loop
 loop-again c =
-    let n = c .before in
-    let p = n .before .before .before .before .before in
-    let r = p .before .before in
-    let d = done r in
+    let p = c .before .before .before .before in
+    let w = p .before in
+    let d = done w in
     let l = turn d .loop .inv in
-    let g = c .past .ensures in (
+    let h = ran w .rest .ensures in (
       l .0,
       p .put-rows .kept .0 ∙ l .1,
-      omega (arith, l .2, n .rows-of .ensures, few-read d, g .0),
-      omega (arith, l .3, r .rest .ensures .1, g .0),
-      omega (arith, l .4, r .rest .ensures .0, g .0),
-      λ b. rw (n .rows-of .ensures) (after r b _ (g .1 (skip-on d b)) (p .put-rows .ensures (its-fit r b .0) (its-fit r b .1))),
+      omega (arith, l .2, h .1),
+      omega (arith, l .3, h .0),
+      λ b. after w b (p .put-rows .ensures (omega (arith, has-room d b, h .1)) (omega (arith, row-read w, h .1))),
     )
 
 add-tried-2 : tie.Need-add-tried-2 Inv-loop μ-loop
-add-tried-2 c = omega (arith, turn (c .before) .loop .inv .4, in-notes (c .before))
+add-tried-2 c = omega (arith, turn (c .before) .loop .inv .3, in-notes (c .before))
 
 -- a branch that is tested
 module _ (c : tie.After-refs3 Inv-loop μ-loop) where
@@ -232,31 +218,27 @@ module _ (c : tie.After-refs3 Inv-loop μ-loop) where
   off b = flag-read read b ∙ c .before .before .before .before .before .before .if1 .left
 
 meets-requires : tie.Need-meets-requires Inv-loop μ-loop
-meets-requires c κs = search needs
+meets-requires c κs = in-notes (read c)
 
-rows-of-requires-2 : tie.Need-rows-of-requires-2 Inv-loop μ-loop
-rows-of-requires-2 c κs = search needs
+add-next : tie.Need-add-next Inv-loop μ-loop
+add-next c = omega (arith, in-notes (read (c .before .before)))
 
-put-rows-requires-2 : tie.Need-put-rows-requires-2 Inv-loop μ-loop
-put-rows-requires-2 c κs =
-    let r = read (c .before .before .before .before .before) in
-    let n = c .before .rows-of2 .ensures in
-    let l = turn r .loop .inv in
-    (omega (arith, l .2, l .3, n, few-read r, in-notes r), omega (arith, l .2, n, few-read r, in-notes r))
+row-of-requires-2 : tie.Need-row-of-requires-2 Inv-loop μ-loop
+row-of-requires-2 c κs = search needs
 
--- the rows of a branch with none below are hits
+put-row-requires : tie.Need-put-row-requires Inv-loop μ-loop
+put-row-requires c κs = search needs
+
+-- the row of a branch with none below is a hit
 module _ (c : tie.After-slice-known3 Inv-loop μ-loop) where
-  abbrev leaf : tie.After-rows-of2 Inv-loop μ-loop
-  leaf = c .before .before .before .before
+  abbrev leaf : tie.Then3 Inv-loop μ-loop
+  leaf = c .before .before .before .before .before
 
   abbrev tested : tie.After-refs3 Inv-loop μ-loop
-  tested = leaf .before .before .before .before
+  tested = leaf .before .before .before
 
 add-hits-2 : tie.Need-add-hits-2 Inv-loop μ-loop
-add-hits-2 c = let r = read (tested c) in omega (arith, turn r .loop .inv .3, leaf c .rows-of2 .ensures, few-read r, in-notes r)
-
-add-row-2 : tie.Need-add-row-2 Inv-loop μ-loop
-add-row-2 c = let r = read (tested c) in omega (arith, turn r .loop .inv .2, leaf c .rows-of2 .ensures, few-read r, in-notes r)
+add-hits-2 c = let r = read (tested c) in omega (arith, turn r .loop .inv .2, in-notes r)
 
 loop-less-2 : tie.Need-loop-less-2 Inv-loop μ-loop
 loop-less-2 c = omega (arith, below (read (tested c)))
@@ -264,21 +246,18 @@ loop-less-2 c = omega (arith, below (read (tested c)))
 loop-again-2 : tie.Need-loop-again-2 Inv-loop μ-loop
 loop-again-2 c =
     let t = c .before .before .before .before .before .before in
-    let r = read (tested c) in
+    let r = read (t .before .before) in
     let l = turn r .loop .inv in
-    let n = leaf c .rows-of2 .ensures in (
+    let p = c .before .before in (
       l .0,
-      c .before .before .put-rows2 .kept .0 ∙ l .1,
-      omega (arith, l .2, n, few-read r),
-      omega (arith, l .3, n, few-read r),
-      omega (arith, l .4),
+      p .put-row .kept .0 ∙ l .1,
+      omega (arith, l .2),
+      omega (arith, l .3),
       λ b.
           let A = walking (turn r) b in
           let s = rw (t .if2 .taken) at (t .before .meets .ensures (safe-now b (l .0) A (lower r b))) in
-          let f = fits-now r b in
-          leaf-now b (l .0) A (lower r b) (off (tested c) b) _ _ n (skip-read r) s (leaf c .before .if3 .taken)
-          (c .before .before .put-rows2 .ensures (omega (arith, f, n, A .fewer, b .roomy, l .1)) (omega (arith, f, n, b .accepted .count .1)))
-          (omega arith) (omega arith) (omega arith) (omega arith),
+          leaf-now b (l .0) A (lower r b) (off (tested c) b) _ _ (p .before .row-of2 .ensures) (r .before .skip-of .ensures) s (leaf c .if3 .taken)
+          (p .put-row .ensures (has-room r b)) (omega arith) (omega arith) (omega arith),
     )
 
 loop-less-3 : tie.Need-loop-less-3 Inv-loop μ-loop
@@ -294,42 +273,34 @@ loop-again-3 c =
       l .1,
       omega (arith, l .2),
       omega (arith, l .3),
-      omega (arith, l .4),
       λ b.
           let A = walking (turn r) b in
           let s = rw (t .if2 .taken) at (t .before .meets .ensures (safe-now b (l .0) A (lower r b))) in
-          down-now b (l .0) A (lower r b) (off m b) _ (skip-read r) s (c .if3 .left) (omega arith) (omega arith),
+          down-now b (l .0) A (lower r b) (off m b) _ (r .before .skip-of .ensures) s (c .if3 .left) (omega arith) (omega arith),
     )
 
-rows-of-requires-3 : tie.Need-rows-of-requires-3 Inv-loop μ-loop
-rows-of-requires-3 c κs = search needs
+add-i : tie.Need-add-i Inv-loop μ-loop
+add-i c = let r = read (c .before .before) in omega (arith, few-skipped r)
 
-add-row-3 : tie.Need-add-row-3 Inv-loop μ-loop
-add-row-3 c = let r = read (c .before .before .before) in omega (arith, turn r .loop .inv .2, c .rows-of3 .ensures, few-read r, in-notes r)
-
-past-requires-2 : tie.Need-past-requires-2 Inv-loop μ-loop
-past-requires-2 c κs = search needs
+add-i-2 : tie.Need-add-i-2 Inv-loop μ-loop
+add-i-2 c = let r = read (c .before .before) in omega (arith, in-notes r, few-skipped r)
 
 loop-less-4 : tie.Need-loop-less-4 Inv-loop μ-loop
-loop-less-4 c = omega (arith, below (read (c .before .before .before .before)), c .past2 .ensures .0)
+loop-less-4 c = omega (arith, below (read (c .before .before)))
 
 loop-again-4 : tie.Need-loop-again-4 Inv-loop μ-loop
 loop-again-4 c =
-    let n = c .before .rows-of3 .ensures in
-    let e = c .before .before in
-    let m = e .before .before in
+    let m = c .before .before in
     let r = read m in
-    let l = turn r .loop .inv in
-    let g = c .past2 .ensures in (
+    let l = turn r .loop .inv in (
       l .0,
       l .1,
-      omega (arith, l .2, n, few-read r, g .0),
-      omega (arith, l .3, g .0),
-      omega (arith, l .4, g .0),
+      omega (arith, l .2),
+      omega (arith, l .3),
       λ b.
           let A = walking (turn r) b in
-          let s = rw (e .if2 .left) at (e .before .meets .ensures (safe-now b (l .0) A (lower r b))) in
-          fail-now b (l .0) A (lower r b) (off m b) _ n s (omega (arith, skip-read r, g .1 (skip-on r b))) (omega arith) (omega arith),
+          let s = rw (c .if2 .left) at (c .before .meets .ensures (safe-now b (l .0) A (lower r b))) in
+          fail-now b (l .0) A (lower r b) (off m b) s (omega (arith, past-read r)) (omega arith),
     )
 
 same-length : tie.Need-same-length Inv-loop μ-loop
@@ -355,31 +326,29 @@ walk-spec =
     mul-w
     element-copy-out-w
     skip-of-requires
-    wide16-requires
-    add-after
     alone-of-requires
+    add-past
+    add-past-2
     rest-requires
+    row-of-requires
+    wide-requires
     put-rows-requires
     add-hits
     add-tried
-    rows-of-requires
-    add-row
-    past-requires
     loop-less
     loop-again
     add-tried-2
     meets-requires
-    rows-of-requires-2
-    put-rows-requires-2
+    add-next
+    row-of-requires-2
+    put-row-requires
     add-hits-2
-    add-row-2
     loop-less-2
     loop-again-2
     loop-less-3
     loop-again-3
-    rows-of-requires-3
-    add-row-3
-    past-requires-2
+    add-i
+    add-i-2
     loop-less-4
     loop-again-4
     same-length
