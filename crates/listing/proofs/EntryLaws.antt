@@ -1,7 +1,7 @@
 -- The way from any bytes to what is written: a table that is read, its plan with the marks, and the front of the room.
 use mathlib.Core.Path.{_≡_, refl, sym, ap, _∙_}
 use mathlib.Core.Bool.{true, false}
-use mathlib.Core.List.{List, [], _++_, map, append-nil, map-append}
+use mathlib.Core.List.{List, [], _++_, map, append-nil}
 use Prim.Native.Nat.{ℕ, _-_, _%_, _≤_, _<_}
 use native.Mathlib.Omega.{arith}
 use lib.ListN.{length, take, drop, replicate, length-append}
@@ -18,7 +18,7 @@ use Rattle.table.specs.Table.{Table, tableOf, upFrom}
 use Rattle.table.proofs.ReadLaws.{apart, read-one}
 use Rattle.table.proofs.Accepted.{is-table}
 use Rattle.plan.specs.Plans.{Plan, write, branches, plain, cost}
-use Rattle.plan.specs.Notes.{notes, word, rowsIn}
+use Rattle.plan.specs.Notes.{notes, word}
 use Rattle.plan.specs.code.Fits.{Fits}
 use Rattle.notes.specs.Noted.{Handed, refused}
 use Rattle.notes.specs.declared.Noted as handed
@@ -36,16 +36,20 @@ use Rattle.builder.specs.declared.BuildAnswer.the-variants as build-answer
 use Rattle.builder.proofs.AskedLaws.{plain-table}
 use Rattle.builder.proofs.ColumnsLaws.{plain-built}
 use Rattle.listing.specs.Listing.{header, listingOf, unread}
-use Rattle.listing.specs.code.Walk.{sizes, Ready, Walked, Planned}
+use Rattle.listing.specs.code.Walk.{Marked, Ready, Walked, Planned}
 use Rattle.listing.specs.declared.walk.Stand.{Stand}
 use Rattle.listing.proofs.LengthLaws.{listing-few}
-use Rattle.listing.proofs.SizesLaws.{noted-sizes}
+use Rattle.listing.proofs.MarkLaws.{marked}
 use Rattle.listing.proofs.WalkLaws.{stand}
 
--- the numbers of rows do not depend on which plan wrote the cells
-same-sizes : (T T′ : Table) → T ≡ T′ → (p : Plan (T .width) (T .rows)) (q : Plan (T′ .width) (T′ .rows)) → write p ≡ write q → sizes p ≡ sizes q
-same-sizes T T′ e p q w =
-    plan-tells (λ k rows p. sizes p) (ap (λ (T : Table). T .width) e) (ap (λ (T : Table). T .rows) e) p q [] [] (ap (λ (l : List ℕ). l ++ []) w) .0
+-- what is noted does not depend on which plan wrote the cells
+abbrev whole : (before : List ℕ) (k : ℕ) (rows : List (List ℕ)) → Plan k rows → List ℕ
+whole before k rows p = map word (notes p (upFrom 1 k) 32 0) ++ drop (branches p) before
+
+same-notes : (before : List ℕ) (T T′ : Table) → T ≡ T′ → (p : Plan (T .width) (T .rows)) (q : Plan (T′ .width) (T′ .rows)) → write p ≡ write q
+    → whole before (T .width) (T .rows) p ≡ whole before (T′ .width) (T′ .rows) q
+same-notes before T T′ e p q w =
+    plan-tells (whole before) (ap (λ (T : Table). T .width) e) (ap (λ (T : Table). T .rows) e) p q [] [] (ap (λ (l : List ℕ). l ++ []) w) .0
 
 -- a table that is read, as the laws of plans want it
 few : (t : List ℕ) {T : Table} → tableOf t ≡ read T
@@ -56,24 +60,20 @@ pub planned-few : {t plan : List ℕ} {costs : ℕ} (w : Planned t plan costs) �
 planned-few {t} w = let f = few t (w .reads) in listing-few (w .table) (w .tree) (f .0) (f .1) (f .2) (f .3)
 
 module _ {t plan : List ℕ} {costs : ℕ} where
-  -- the check accepts the plan, and what is noted are the numbers of rows of the plan's branches
+  -- the check accepts the plan, and the plan's branches are noted
   record Noted (w : Planned t plan costs) (after : List ℕ) (m : handed.Noted) : Type 0 where
     rows : m .rows ≡ length (w .table .rows)
     width : m .width ≡ w .table .width
-    marks : List ℕ
-    many : map rowsIn after ≡ sizes (w .tree) ++ marks
+    marks : Marked (w .tree) after 0 0
 
   noted : {before after : List ℕ} (w : Planned t plan costs) (m : handed.Noted) → Handed t plan before after m → Noted w after m
   noted {before} w m (Handed.noted T tree r c a wide rows k) =
       let e : T ≡ w .table = read-one (sym r ∙ w .reads) in
-      let rest : List ℕ = map rowsIn (drop (branches tree) before) in
-      let s : List ℕ = upFrom 1 (T .width) in
       record {
         rows = rows ∙ ap (λ (T : Table). length (T .rows)) e;
         width = wide ∙ ap (λ (T : Table). T .width) e;
-        marks = rest;
-        many = ap (map rowsIn) k ∙ map-append rowsIn (map word (notes tree s 0 32)) (drop (branches tree) before)
-            ∙ ap (λ (l : List ℕ). l ++ rest) (noted-sizes tree s 0 32 (notes-fit (is-table t r) tree) ∙ same-sizes T (w .table) e tree (w .tree) (sym c ∙ w .cells));
+        marks = marked (w .tree) (upFrom 1 (w .table .width)) 32 0 0 _ (drop (branches (w .tree)) before)
+            (k ∙ same-notes before T (w .table) e tree (w .tree) (sym c ∙ w .cells)) (notes-fit (is-table t (w .reads)) (w .tree));
       }
   noted w m (refused f e a wide rows k) =
       let x = few t (w .reads) in
@@ -82,8 +82,8 @@ module _ {t plan : List ℕ} {costs : ℕ} where
 
   -- so the walk may begin once the header is put, and with its lines the listing is
   pub record Begins (w : Planned t plan costs) (after : List ℕ) (m : handed.Noted) (old mid : List ℕ) (to : ℕ) : Type 0 where
-    pub ready : Ready plan after (m .width) 0 0 (stand 0 0 to)
-    pub back : {new : List ℕ} {r : Stand} → Walked mid new 0 0 (stand 0 0 to) (ready .tree) r → Put old new 0 (listingOf (w .table) (w .tree)) (r .to)
+    pub ready : Ready plan after (m .width) 0 (m .rows) (stand 0 0 to)
+    pub back : {new : List ℕ} {r : Stand} → Walked mid new 0 (ready .first) (stand 0 0 to) (ready .tree) r → Put old new 0 (listingOf (w .table) (w .tree)) (r .to)
 
   pub begins : {before after old mid : List ℕ} {to : ℕ} (w : Planned t plan costs) (m : handed.Noted) → Handed t plan before after m
       → Put old mid 0 (header (m .rows) (m .width) costs) to → Begins w after m old mid to
@@ -93,15 +93,16 @@ module _ {t plan : List ℕ} {costs : ℕ} where
       let same : header (m .rows) (m .width) costs ≡ header (length (w .table .rows)) (w .table .width) (cost plain (w .tree)) = rw (n .rows, n .width, w .costs-it) in
       record {
         ready = record {
+          first = 0;
           k = w .table .width;
           rows = w .table .rows;
           tree = w .tree;
           rest = [];
-          marks = n .marks;
           open-places = n .width;
           cells = w .cells ∙ sym (append-nil (write (w .tree)));
-          marked = n .many;
-          few = omega (arith, f .2);
+          marked = n .marks;
+          ends = omega (arith, n .rows);
+          few = omega (arith, n .rows, f .2);
           deep = omega arith;
           numbered = omega (arith, bound (w .tree) 32 (f .0) (f .1), f .2);
           wide = omega (arith, n .width, f .3);

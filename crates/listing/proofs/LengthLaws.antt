@@ -5,19 +5,20 @@ use Prim.Native.Nat.{ℕ, suc, pred, _+_, _-_, _*_, _^_, _≤_, _<_}
 use native.Mathlib.Omega.{arith}
 use lib.ListN.{length, length-append}
 use Rattle.cell.specs.Cell.{arity}
+use Rattle.term.specs.Terms.{root, close}
 use Rattle.term.proofs.TermsLaws.{terms-long}
 use Rattle.octets.proofs.DecimalLaws.{digits-few}
 use Rattle.printing.proofs.LengthLaws.{symbol-few}
 use Rattle.table.specs.All.{All}
 use Rattle.table.specs.Table.{Table}
-use Rattle.plan.specs.Runs.{Run}
+use Rattle.plan.specs.Runs.{Run, runs}
 use Rattle.plan.specs.Plans.{Plan, leaf, node, Branches, end, next, branches, branchesIn, plain, cost}
-use Rattle.plan.proofs.RunsLaws.{Each, fits-some, runs-fit}
+use Rattle.plan.proofs.RunsLaws.{Each, Sized, group-sizes, group-rows, fits-some, runs-fit}
 use Rattle.plan.specs.code.Fits.{Fits}
+use Rattle.plan.specs.code.Rows.{rowCount}
 use Rattle.plan.proofs.PlansLaws.{cost-plain}
 use Rattle.plan.proofs.SizeLaws.{bound}
 use Rattle.listing.specs.Listing.{line, linesIn, linesOf, header, listingOf}
-use Rattle.listing.proofs.WalkLaws.{Within, within, within-first}
 
 -- a line has at most 21 bytes: `31 31 n65535/4 63-63`
 line-few : (depth index c first last : ℕ) → depth < 100 → index < 100 → first < 100 → last < 100 → length (line depth index c first last) ≤ 21
@@ -29,6 +30,24 @@ line-few depth index c first last hd hi hf hl =
 open-few : (n k : ℕ) (rows : List (List ℕ)) → All (Fits n k) rows → 0 < length rows → k ≤ n
 open-few n k [] f h = absurd (omega arith)
 open-few n k (r ∷ rs) f h = omega (arith, terms-long (f .0 .0))
+
+-- runs of which none is empty, the first beginning at row `first`, within 64 rows
+abbrev Within : ℕ → List Run → Type 0
+Within first [] = first ≤ 64
+Within first (g ∷ gs) = (0 < length (g .rows)) × Within (first + length (g .rows)) gs
+
+within-runs : (n first : ℕ) (gs : List Run) → Sized n gs → first + rowCount gs ≤ 64 → Within first gs
+within-runs n first [] s h = omega arith
+within-runs n first (g ∷ gs) s h = (s .0 .0, within-runs n (first + length (g .rows)) gs (s .1) (omega arith))
+
+-- a state's runs lie within its rows
+within : (i first : ℕ) (rows : List (List ℕ)) → first + length rows ≤ 64 → Within first (runs i rows)
+within i first rows h =
+    within-runs (length rows) first (runs i rows) (group-sizes (root i) (close i) rows) (omega (arith, group-rows (root i) (close i) rows))
+
+within-first : (first : ℕ) (gs : List Run) → Within first gs → first ≤ 64
+within-first first [] w = w
+within-first first (g ∷ gs) w = omega (arith, within-first (first + length (g .rows)) gs (w .1))
 
 -- so the lines of a plan have at most 21 bytes for each branch
 mutual

@@ -1,4 +1,4 @@
-pub mod SizesLaws
+pub mod MarkLaws
 pub mod WalkLaws
 pub mod LengthLaws
 pub mod EntryLaws

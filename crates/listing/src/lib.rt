@@ -14,7 +14,7 @@ use least::By;
 use printing::put_refusal;
 use refusal::Reason;
 
-// The listing of a plan that was built for the table. How many rows a branch has is noted for the asking.
+// The listing of a plan that was built for the table. Which rows a branch has is told by what the check notes of it.
 fn list_plan(table: &[u32], plan: &[u32], out: &mut [u8], cost: usize) -> usize
     requires { ⌜ Planned (now table) (now plan) cost ⌝ }
     ensures { λ r. ⌜ PutsPlan (now (table .entry)) (now (plan .entry)) (now (out .entry)) (now (out .exit)) cost r ⌝ }
@@ -29,7 +29,7 @@ fn list_plan(table: &[u32], plan: &[u32], out: &mut [u8], cost: usize) -> usize
         number: 0,
         to,
     };
-    let s = state(plan, &numbers, out, width, 0, 0, from);
+    let s = state(plan, &numbers, out, width, 0, rows, from);
     s.to
 }
 

@@ -1,7 +1,16 @@
 // The walk over a plan that writes its lines. It looks at the plan and at what is noted of its branches, and at no row.
+ghost use mathlib.Core.Path.{_≡_};
+ghost use mathlib.Core.Logic.{_≢_};
+ghost use mathlib.Core.Bool.{cond};
+ghost use Prim.Native.Nat.{_<_};
+ghost use lib.Dec.{eqb};
+ghost use lib.ListN.{getD};
+ghost use Rattle.plan.specs.Notes.{rowIn};
 ghost use Rattle.listing.specs.code.Walk.{Ready, Walks};
 use crate::text::put_line;
-use notes::packed::rows_of;
+use notes::packed::row_of;
+use notes::packed::skip_of;
+use notes::packed::wide;
 
 // Where the walk stands: the next cell of the plan, the number of the next branch in plan order, and the place of the next line.
 pub struct Stand {
@@ -10,18 +19,31 @@ pub struct Stand {
     pub to: usize,
 }
 
-// The lines below a state with so many open places: for each of its branches the branch's own line, then those below it.
+// The row after those of a branch of a state whose rows are before `stop`, where `left` of its branches are left with this one: the first row of
+// the next one, which has the number `next`; after the last one `stop`.
+fn row_after(noted: &[u64; 2048], next: usize, left: u32, stop: usize) -> usize
+    requires { ⌜ (left ≢ 1 → next < 2048) ⌝ }
+    ensures { λ r. ⌜ r ≡ cond (eqb left 1) stop (rowIn (getD (now (noted .entry)) next 0)) ⌝ }
+{
+    if left == 1 {
+        return stop;
+    }
+    wide(row_of(noted[next]))
+}
+
+// The lines below a state with so many open places, whose rows are before `stop`: for each of its branches the branch's own line, then those
+// below it.
 pub fn state(
     plan: &[u32],
     noted: &[u64; 2048],
     out: &mut [u8],
     places: usize,
     depth: usize,
-    first: usize,
+    stop: usize,
     from: Stand,
 ) -> Stand
-    requires { ⌜ Ready (now plan) (now noted) places depth first from ⌝ }
-    ensures { λ r. ⌜ Walks (now (plan .entry)) (now (noted .entry)) (now (out .entry)) (now (out .exit)) places depth first from r ⌝ }
+    requires { ⌜ Ready (now plan) (now noted) places depth stop from ⌝ }
+    ensures { λ r. ⌜ Walks (now (plan .entry)) (now (noted .entry)) (now (out .entry)) (now (out .exit)) places depth stop from r ⌝ }
 {
     let at = from.at;
     let number = from.number;
@@ -35,7 +57,6 @@ pub fn state(
     }
     let index = plan[at];
     let mut left = plan[at + 1];
-    let mut row = first;
     let mut here = Stand {
         at: at + 2,
         number,
@@ -45,16 +66,16 @@ pub fn state(
         let p = here.at;
         let c = plan[p];
         let n = here.number;
-        let after = row + rows_of(noted[n]);
-        let on = put_line(out, here.to, depth, index, c, row, after - 1);
+        let w = noted[n];
+        let after = row_after(noted, n + 1 + skip_of(w), left, stop);
+        let on = put_line(out, here.to, depth, index, c, wide(row_of(w)), after - 1);
         let wider = cell::arity_of(c) + places - 1;
         let below = Stand {
             at: p + 1,
-            number: here.number + 1,
+            number: n + 1,
             to: on,
         };
-        here = state(plan, noted, out, wider, depth + 1, row, below);
-        row = after;
+        here = state(plan, noted, out, wider, depth + 1, after, below);
         left -= 1;
     }
     here

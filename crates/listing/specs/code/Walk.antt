@@ -1,41 +1,44 @@
 -- What the listing's private functions ask and answer.
 use Prim.Native.Nat.{ℕ, _+_, _*_, _≤_}
 use mathlib.Core.Path.{_≡_}
-use mathlib.Core.List.{List, [], _∷_, _++_, map}
-use lib.ListN.{length, drop}
+use mathlib.Core.List.{List, [], _++_}
+use lib.ListN.{length, getD, drop}
 use Rattle.refusal.specs.Read.{read}
 use Rattle.octets.specs.Octets.{Put}
 use Rattle.table.specs.Table.{Table, tableOf}
 use Rattle.plan.specs.Runs.{Run}
 use Rattle.plan.specs.Plans.{Plan, leaf, node, Branches, end, next, write, branches, plain, cost}
-use Rattle.plan.specs.Notes.{rowsIn}
+use Rattle.plan.specs.Notes.{skipIn, rowIn}
 use Rattle.least.specs.Least.{Built}
 use Rattle.listing.specs.Listing.{linesIn, listingOf}
 use Rattle.listing.specs.declared.walk.Stand.{Stand}
 
--- Each branch's number of rows, in plan order.
+-- What is noted of each branch of a plan, in plan order from the number n on: its first row, the plan's being `row`, and how many branches are
+-- below it.
 unfoldable mutual
-  pub sizes : {k : ℕ} {rows : List (List ℕ)} → Plan k rows → List ℕ
-  sizes leaf = []
-  sizes (node i h bs) = sizesOf bs
+  pub Marked : {k : ℕ} {rows : List (List ℕ)} → Plan k rows → (noted : List ℕ) (n row : ℕ) → Type 0
+  Marked leaf noted n row = Unit {0}
+  Marked (node i h bs) noted n row = MarkedIn bs noted n row
 
-  pub sizesOf : {k : ℕ} {gs : List Run} → Branches k gs → List ℕ
-  sizesOf end = []
-  sizesOf (next {g = g} p bs) = length (g .rows) ∷ (sizes p ++ sizesOf bs)
+  pub MarkedIn : {k : ℕ} {gs : List Run} → Branches k gs → (noted : List ℕ) (n row : ℕ) → Type 0
+  MarkedIn end noted n row = Unit {0}
+  MarkedIn (next {g = g} p bs) noted n row =
+      (rowIn (getD noted n 0) ≡ row) × (skipIn (getD noted n 0) ≡ branches p) × Marked p noted (n + 1) row
+      × MarkedIn bs noted (n + 1 + branches p) (row + length (g .rows))
 
--- A state stands in the plan where the walk does, with its branches' numbers of rows in what is noted: `places` open places, `depth`
--- branches above it, its rows from `first` on. The last five bound the numbers: each branch takes a cell of the plan and opens at
--- most 4 places
-pub record Ready (plan noted : List ℕ) (places depth first : ℕ) (from : Stand) : Type 0 where
+-- A state stands in the plan where the walk does, with its branches in what is noted: `places` open places, `depth` branches above it, its
+-- rows from `first` to before `stop`. The last five bound the numbers: each branch takes a cell of the plan and opens at most 4 places
+pub record Ready (plan noted : List ℕ) (places depth stop : ℕ) (from : Stand) : Type 0 where
+  pub first : ℕ
   pub k : ℕ
   pub rows : List (List ℕ)
   pub tree : Plan k rows
   pub rest : List ℕ
-  pub marks : List ℕ
   pub open-places : places ≡ k
   pub cells : drop (from .at) plan ≡ write tree ++ rest
-  pub marked : drop (from .number) (map rowsIn noted) ≡ sizes tree ++ marks
-  pub few : first + length rows ≤ 64
+  pub marked : Marked tree noted (from .number) first
+  pub ends : first + length rows ≡ stop
+  pub few : stop ≤ 64
   pub deep : depth ≤ from .at
   pub numbered : from .number + branches tree ≤ 2048
   pub wide : places ≤ 4 * from .at + 8
@@ -47,9 +50,9 @@ pub record Walked (old new : List ℕ) (depth first : ℕ) (from : Stand) {k : �
   pub past : r .at ≡ from .at + length (write tree)
   pub counted : r .number ≡ from .number + branches tree
 
-abbrev pub Walks : (plan noted old new : List ℕ) (places depth first : ℕ) (from r : Stand) → Type 0
-Walks plan noted old new places depth first from r =
-    (w : Ready plan noted places depth first from) → Walked old new depth first from (w .tree) r
+abbrev pub Walks : (plan noted old new : List ℕ) (places depth stop : ℕ) (from r : Stand) → Type 0
+Walks plan noted old new places depth stop from r =
+    (w : Ready plan noted places depth stop from) → Walked old new depth (w .first) from (w .tree) r
 
 -- the builder's plan of a table that is read, and what it costs
 pub record Planned (t plan : List ℕ) (costs : ℕ) : Type 0 where

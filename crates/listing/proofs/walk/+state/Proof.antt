@@ -1,13 +1,17 @@
-use mathlib.Core.Path.{refl}
+use mathlib.Core.Path.{_≡_, refl, _∙_, ap}
+use mathlib.Core.Bool.{cond}
+use mathlib.Core.Logic.{_≢_}
+use mathlib.Core.List.{List}
 use Prim.Native.Nat.{ℕ, _+_, _-_, _*_, _≤_, _<_}
 use native.Mathlib.Omega.{arith}
 use borrow.Author.Needs.{needs}
+use lib.Dec.{eqb}
 use lib.ListN.{length, getD}
 use Rattle.cell.specs.Cell.{arity}
-use Rattle.plan.specs.Notes.{rowsIn}
+use Rattle.plan.specs.Notes.{skipIn, rowIn}
 use Rattle.octets.proofs.PutLaws.{put-length}
 use Rattle.listing.specs.code.Walk.{Ready}
-use Rattle.listing.proofs.WalkLaws.{stand, leaf-inside, leaf-walked, Left, enters-inside, enters, none-left, Goes, goes}
+use Rattle.listing.proofs.WalkLaws.{stand, leaf-inside, leaf-walked, Left, enters-inside, enters, none-left, Goes, numbered, goes}
 use borrow.Fn.Kinds.{In}
 use borrow.Fn.PlainCycle.{Measures, is, falls, and}
 use Rattle.listing.proofs.walk.state.Reads as state
@@ -15,7 +19,10 @@ use Rattle.listing.proofs.walk.state.Kinds as state-kinds
 use Rattle.listing.proofs.walk.+state.Lts-state as state-lts
 use Rattle.cell.proofs.arity_of.Reads as arity-of-reads
 use Rattle.listing.proofs.text.put_line.Reads as put-line-reads
-use Rattle.notes.proofs.packed.rows_of.Reads as rows-of-reads
+use Rattle.listing.proofs.walk.row_after.Reads as row-after-reads
+use Rattle.notes.proofs.packed.row_of.Reads as row-of-reads
+use Rattle.notes.proofs.packed.skip_of.Reads as skip-of-reads
+use Rattle.notes.proofs.packed.wide.Reads as wide-reads
 use Rattle.listing.proofs.walk.+state.{statement}
 use Rattle.listing.proofs.walk.+state.Tie.{close}
 
@@ -30,33 +37,83 @@ abbrev state-below : ℕ → In 3 state-kinds.ps
 state-below t = and 3 state-kinds.ps (falls 3 state-kinds.ps _<_ μ-state t) state.Pre
 
 abbrev with : ℕ → state-lts.Claims
-with t = (rows-of-reads.Asked, rows-of-reads.Learnt, put-line-reads.Asked, put-line-reads.Learnt, arity-of-reads.Asked, arity-of-reads.Learnt, state-below t, state.Post)
+with t = (
+  skip-of-reads.Asked,
+  skip-of-reads.Learnt,
+  row-after-reads.Asked,
+  row-after-reads.Learnt,
+  row-of-reads.Asked,
+  row-of-reads.Learnt,
+  wide-reads.Asked,
+  wide-reads.Learnt,
+  put-line-reads.Asked,
+  put-line-reads.Learnt,
+  arity-of-reads.Asked,
+  arity-of-reads.Learnt,
+  state-below t,
+  state.Post,
+)
 
 -- what is done and what is left are the whole
 abbrev Inv-loop : state-lts.InvT-loop
-Inv-loop plan noted out₀ places depth first at number to index left₀ row₀ here₀ out left row here =
-    (w : Ready plan noted places depth first (stand at number to)) → Left w out₀ out index left row here
+Inv-loop plan noted out₀ places depth stop at number to index left₀ here₀ out left here =
+    (w : Ready plan noted places depth stop (stand at number to)) → Left w out₀ out index left here
 
 abbrev μ-loop : state-lts.MeasureT-loop
-μ-loop plan noted out₀ places depth first at number to index left₀ row₀ here₀ out left row here = left
+μ-loop plan noted out₀ places depth stop at number to index left₀ here₀ out left here = left
 
 -- where a state has an open place, its first two cells are inside the plan
 inner : (t : ℕ) (c : state-lts.Else1 (with t) (state-at t) state.Post Inv-loop μ-loop)
     → (c .before .before .before .args .from .at + 1 < length (c .before .before .before .args .plan .now)) × (length (c .before .before .before .args .plan .now) ≤ 6082)
 inner t c = let w = c .before .before .before .pre .1 in (enters-inside w (omega arith), w .size)
 
--- where a branch is left, what is known of it
-turn : (t : ℕ) (c : state-lts.In-loop (with t) (state-at t) state.Post Inv-loop μ-loop)
-    → Goes (c .before .loop .inv (c .before .before .before .before .before .before .before .pre .1))
-    (rowsIn (getD (c .before .before .before .before .before .before .before .args .noted .now) (c .before .loop .here .number) 0))
-    (arity (getD (c .before .before .before .before .before .before .before .args .plan .now) (c .before .loop .here .at) 0))
-turn t c = goes (c .before .loop .inv (c .before .before .before .before .before .before .before .pre .1)) _ _ (omega arith) refl refl
+-- where a branch is left
+module _ (t : ℕ) (c : state-lts.In-loop (with t) (state-at t) state.Post Inv-loop μ-loop) where
+  abbrev entry : state-lts.Start (with t) (state-at t) state.Post Inv-loop μ-loop
+  entry = c .before .before .before .before .before .before .before
 
--- the same once its number of rows and of arguments is
+  abbrev noted : List ℕ
+  noted = entry .args .noted .now
+
+  abbrev number : ℕ
+  number = c .before .loop .here .number
+
+  -- its first row, and the row after its last
+  abbrev its-row : ℕ
+  its-row = rowIn (getD noted number 0)
+
+  abbrev its-end : ℕ
+  its-end = cond (eqb (c .before .loop .left) 1) (entry .args .stop) (rowIn (getD noted (number + 1 + skipIn (getD noted number 0)) 0))
+
+  -- what is known of it
+  turn : Goes (c .before .loop .inv (entry .pre .1)) its-row its-end (arity (getD (entry .args .plan .now) (c .before .loop .here .at) 0))
+  turn = goes (c .before .loop .inv (entry .pre .1)) _ _ _ (omega arith) refl refl refl
+
+  in-notes : (number < 2048) × (c .before .loop .left ≢ 1 → number + 1 + skipIn (getD noted number 0) < 2048)
+  in-notes = numbered (c .before .loop .inv (entry .pre .1)) (omega arith)
+
+-- and what the code reads of it
+module _ (t : ℕ) (c : state-lts.After-wide (with t) (state-at t) state.Post Inv-loop μ-loop) where
+  abbrev stands : state-lts.In-loop (with t) (state-at t) state.Post Inv-loop μ-loop
+  stands = c .before .before .before .before .before .before .before
+
+  row-read : c .wide .result ≡ its-row t stands
+  row-read = c .wide .ensures ∙ c .before .row-of .ensures
+
+  after-read : c .before .before .before .row-after .result ≡ its-end t stands
+  after-read =
+      let a = c .before .before .before in
+      a .row-after .ensures ∙ ap (λ (s : ℕ). cond (eqb (stands .before .loop .left) 1) (entry t stands .args .stop) (rowIn (getD (noted t stands) (number t stands + 1 + s) 0)))
+      (a .before .skip-of .ensures)
+
+-- with its number of arguments
+abbrev lined : (t : ℕ) → state-lts.After-arity-of (with t) (state-at t) state.Post Inv-loop μ-loop → state-lts.After-wide (with t) (state-at t) state.Post Inv-loop μ-loop
+lined t c = c .before .before .before .before
+
 branch : (t : ℕ) (c : state-lts.After-arity-of (with t) (state-at t) state.Post Inv-loop μ-loop)
-    → Goes (c .before .before .before .before .before .before .before .before .before .loop .inv (c .before .before .before .before .before .before .before .before .before .before .before .before .before .before .before .pre .1))
-    (c .before .before .before .before .before .rows-of .result) (c .arity-of .result)
-branch t c = goes _ _ _ (omega arith) (c .before .before .before .before .before .rows-of .ensures) (c .arity-of .ensures)
+    → let w = lined t c in let i = stands t w in
+    Goes (i .before .loop .inv (entry t i .pre .1)) (w .wide .result) (w .before .before .before .row-after .result) (c .arity-of .result)
+branch t c = goes _ _ _ _ (omega arith) (row-read t (lined t c)) (after-read t (lined t c)) (c .arity-of .ensures)
 
 state-add-t23 : (t : ℕ) → state-lts.Need-add-t23 (with t) (state-at t) state.Post Inv-loop μ-loop
 state-add-t23 t c =
@@ -93,20 +150,32 @@ state-mul-c t c = let g = turn t c in omega arith
 state-shared-slice-read-c : (t : ℕ) → state-lts.Need-shared-slice-read-c (with t) (state-at t) state.Post Inv-loop μ-loop
 state-shared-slice-read-c t c = let g = turn t (c .before) in omega arith
 
-state-mul-rows-of : (t : ℕ) → state-lts.Need-mul-rows-of (with t) (state-at t) state.Post Inv-loop μ-loop
-state-mul-rows-of t c = let g = turn t (c .before) in omega arith
+state-mul-w : (t : ℕ) → state-lts.Need-mul-w (with t) (state-at t) state.Post Inv-loop μ-loop
+state-mul-w t c = omega (arith, in-notes t (c .before) .0)
 
-state-element-copy-out-rows-of : (t : ℕ) → state-lts.Need-element-copy-out-rows-of (with t) (state-at t) state.Post Inv-loop μ-loop
-state-element-copy-out-rows-of t c = let g = turn t (c .before) in omega arith
+state-element-copy-out-w : (t : ℕ) → state-lts.Need-element-copy-out-w (with t) (state-at t) state.Post Inv-loop μ-loop
+state-element-copy-out-w t c = omega (arith, in-notes t (c .before) .0)
 
-state-rows-of-requires : (t : ℕ) → state-lts.Need-rows-of-requires (with t) (state-at t) state.Post Inv-loop μ-loop
-state-rows-of-requires t c κs = search needs
+state-add-row-after : (t : ℕ) → state-lts.Need-add-row-after (with t) (state-at t) state.Post Inv-loop μ-loop
+state-add-row-after t c = omega (arith, in-notes t (c .before .before) .0)
 
-state-add-after : (t : ℕ) → state-lts.Need-add-after (with t) (state-at t) state.Post Inv-loop μ-loop
-state-add-after t c = let g = turn t (c .before .before .before) in omega (arith, c .rows-of .ensures)
+state-skip-of-requires : (t : ℕ) → state-lts.Need-skip-of-requires (with t) (state-at t) state.Post Inv-loop μ-loop
+state-skip-of-requires t c κs = search needs
+
+state-add-row-after-2 : (t : ℕ) → state-lts.Need-add-row-after-2 (with t) (state-at t) state.Post Inv-loop μ-loop
+state-add-row-after-2 t c = omega (arith, in-notes t (c .before .before .before) .0, c .skip-of .ensures)
+
+state-row-after-requires : (t : ℕ) → state-lts.Need-row-after-requires (with t) (state-at t) state.Post Inv-loop μ-loop
+state-row-after-requires t c κs = λ n. rw (c .skip-of .ensures) (in-notes t (c .before .before .before) .1 n)
+
+state-row-of-requires : (t : ℕ) → state-lts.Need-row-of-requires (with t) (state-at t) state.Post Inv-loop μ-loop
+state-row-of-requires t c κs = search needs
+
+state-wide-requires : (t : ℕ) → state-lts.Need-wide-requires (with t) (state-at t) state.Post Inv-loop μ-loop
+state-wide-requires t c κs = search needs
 
 state-sub-put-line : (t : ℕ) → state-lts.Need-sub-put-line (with t) (state-at t) state.Post Inv-loop μ-loop
-state-sub-put-line t c = let g = turn t (c .before .before .before .before) in omega (arith, c .before .rows-of .ensures)
+state-sub-put-line t c = omega (arith, turn t (stands t c) .some, after-read t c)
 
 state-put-line-requires : (t : ℕ) → state-lts.Need-put-line-requires (with t) (state-at t) state.Post Inv-loop μ-loop
 state-put-line-requires t c κs = search needs
@@ -115,24 +184,24 @@ state-arity-of-requires : (t : ℕ) → state-lts.Need-arity-of-requires (with t
 state-arity-of-requires t c κs = search needs
 
 state-add-wider : (t : ℕ) → state-lts.Need-add-wider (with t) (state-at t) state.Post Inv-loop μ-loop
-state-add-wider t c = let g = turn t (c .before .before .before .before .before .before .before .before) in omega (arith, c .arity-of .ensures)
+state-add-wider t c = let g = turn t (stands t (lined t c)) in omega (arith, c .arity-of .ensures)
 
 state-sub-wider : (t : ℕ) → state-lts.Need-sub-wider (with t) (state-at t) state.Post Inv-loop μ-loop
-state-sub-wider t c = let g = turn t (c .before .before .before .before .before .before .before .before) in omega arith
-
-state-add-state : (t : ℕ) → state-lts.Need-add-state (with t) (state-at t) state.Post Inv-loop μ-loop
-state-add-state t c = let g = turn t (c .before .before .before .before .before .before .before .before) in omega arith
+state-sub-wider t c = let g = turn t (stands t (lined t c)) in omega arith
 
 state-add-t30 : (t : ℕ) → state-lts.Need-add-t30 (with t) (state-at t) state.Post Inv-loop μ-loop
-state-add-t30 t c = let g = turn t (c .before .before .before .before .before .before .before .before .before) in omega arith
+state-add-t30 t c = let g = turn t (stands t (lined t c)) in omega arith
 
-state-add-state-2 : (t : ℕ) → state-lts.Need-add-state-2 (with t) (state-at t) state.Post Inv-loop μ-loop
-state-add-state-2 t c = let g = turn t (c .before .before .before .before .before .before .before .before .before .before) in omega arith
+state-add-t37 : (t : ℕ) → state-lts.Need-add-t37 (with t) (state-at t) state.Post Inv-loop μ-loop
+state-add-t37 t c = omega (arith, in-notes t (stands t (lined t c)) .0)
+
+state-add-state : (t : ℕ) → state-lts.Need-add-state (with t) (state-at t) state.Post Inv-loop μ-loop
+state-add-state t c = let g = turn t (stands t (lined t (c .before))) in omega arith
 
 state-state-requires : (t : ℕ) → state-lts.Need-state-requires (with t) (state-at t) state.Post Inv-loop μ-loop
 state-state-requires t c κs =
-    let g = branch t (c .before .before) in
-    (omega (arith, g), g .below (c .before .before .before .before .before .put-line .result))
+    let g = branch t (c .before) in
+    (omega (arith, g), g .below (c .before .before .before .before .put-line .result))
 
 state-sub-left : (t : ℕ) → state-lts.Need-sub-left (with t) (state-at t) state.Post Inv-loop μ-loop
 state-sub-left t c = search needs
@@ -143,11 +212,11 @@ state-loop-less t c = search needs
 state-loop-again : (t : ℕ) → state-lts.Need-loop-again (with t) (state-at t) state.Post Inv-loop μ-loop
 state-loop-again t c =
     λ w.
-    let a = c .before .before .before .before .before in
-    let l = a .before .before .before .before .before .before .before .before .before .loop in
-    let g = goes (l .inv w) (a .before .before .before .before .before .rows-of .result) (a .arity-of .result) (omega arith) (a .before .before .before .before .before .rows-of .ensures) (a .arity-of .ensures) in
-    let p = a .before .before .before .put-line .ensures in
-    g .beside p (c .before .before .state .ensures (g .below _))
+    let a = c .before .before .before .before in
+    let p = a .before .before .before in
+    let i = stands t (lined t a) in
+    let g = goes (i .before .loop .inv w) _ _ _ (omega arith) (row-read t (lined t a)) (after-read t (lined t a)) (a .arity-of .ensures) in
+    g .beside (p .put-line .ensures) (c .before .before .state .ensures (g .below _))
 
 state-same-length : (t : ℕ) → state-lts.Need-same-length (with t) (state-at t) state.Post Inv-loop μ-loop
 state-same-length t c = put-length (c .before .loop .inv (c .before .before .before .before .before .before .before .pre .1) .puts)
@@ -168,18 +237,22 @@ pub +state-spec : {M : Type 1} → statement M
     (state-loop-holds t)
     (state-mul-c t)
     (state-shared-slice-read-c t)
-    (state-mul-rows-of t)
-    (state-element-copy-out-rows-of t)
-    (state-rows-of-requires t)
-    (state-add-after t)
+    (state-mul-w t)
+    (state-element-copy-out-w t)
+    (state-add-row-after t)
+    (state-skip-of-requires t)
+    (state-add-row-after-2 t)
+    (state-row-after-requires t)
+    (state-row-of-requires t)
+    (state-wide-requires t)
     (state-sub-put-line t)
     (state-put-line-requires t)
     (state-arity-of-requires t)
     (state-add-wider t)
     (state-sub-wider t)
-    (state-add-state t)
     (state-add-t30 t)
-    (state-add-state-2 t)
+    (state-add-t37 t)
+    (state-add-state t)
     (state-state-requires t)
     (state-sub-left t)
     (state-loop-less t)

@@ -1,0 +1,53 @@
+-- What the check notes of a plan's branches: the first row of each, and how many branches are below it.
+use mathlib.Core.Path.{_≡_, sym, _∙_, ap}
+use mathlib.Core.List.{List, _∷_, _++_, map, append-assoc, map-append}
+use Prim.Native.Nat.{ℕ, _+_, _<_}
+use native.Mathlib.Numerals.{add-one}
+use native.Mathlib.Omega.{arith}
+use lib.ListN.{length, getD, drop, length-drop, length-map}
+use lib.Seq.{drop-cons, drop-drop, drop-append-seam}
+use Rattle.cell.specs.Cell.{arity}
+use Rattle.table.specs.All.{All}
+use Rattle.table.proofs.AllLaws.{all-front, all-back}
+use Rattle.plan.specs.Runs.{Run}
+use Rattle.plan.specs.Plans.{Plan, leaf, node, Branches, end, next, branches}
+use Rattle.plan.specs.Notes.{below, notes, notesIn, word, Fits}
+use Rattle.plan.proofs.NotesLaws.{word-parts, notes-count}
+use Rattle.listing.specs.code.Walk.{Marked, MarkedIn}
+
+-- what stands at a place, and after a part
+pub head-at : (xs : List ℕ) (at c : ℕ) (ys : List ℕ) → drop at xs ≡ c ∷ ys → (at < length xs) × (getD xs at 0 ≡ c) × (drop (at + 1) xs ≡ ys)
+head-at xs at c ys e =
+    let h : at < length xs = omega (arith, length-drop at xs, ap length e) in
+    let d = drop-cons xs at 0 h in
+    (h, cc, rw add-one (cc))
+
+pub part-at : (xs : List ℕ) (at : ℕ) (ys zs : List ℕ) → drop at xs ≡ ys ++ zs → drop (at + length ys) xs ≡ zs
+part-at xs at ys zs e = sym (drop-drop (length ys) at xs) ∙ ap (drop (length ys)) e ∙ drop-append-seam ys zs
+
+mutual
+  unfolding notes Marked
+
+  pub marked : {k : ℕ} {rows : List (List ℕ)} (p : Plan k rows) (slots : List ℕ) (free row n : ℕ) (noted rest : List ℕ)
+      → drop n noted ≡ map word (notes p slots free row) ++ rest → All Fits (notes p slots free row) → Marked p noted n row
+  marked leaf slots free row n noted rest d f = tt
+  marked (node i h bs) slots free row n noted rest d f = marked-in bs i slots free row n noted rest d f
+
+  marked-in : {k : ℕ} {gs : List Run} (bs : Branches k gs) (i : ℕ) (slots : List ℕ) (free row n : ℕ) (noted rest : List ℕ)
+      → drop n noted ≡ map word (notesIn bs i slots free row) ++ rest → All Fits (notesIn bs i slots free row) → MarkedIn bs noted n row
+  marked-in end i slots free row n noted rest d f = tt
+  marked-in (next {g = g} p bs) i slots free row n noted rest d f =
+      let a = arity (g .cell) in
+      let N = notes p (below i a free slots) (free + a) row in
+      let M = notesIn bs i slots free (row + length (g .rows)) in
+      let w = head-at noted n _ (map word (N ++ M) ++ rest) d in
+      let parts = word-parts _ (f .0) in
+      let d′ : drop (n + 1) noted ≡ map word N ++ (map word M ++ rest) =
+      w .2 ∙ ap (λ (l : List ℕ). l ++ rest) (map-append word N M) ∙ append-assoc (map word N) (map word M) rest in
+      let many : length (map word N) ≡ branches p = length-map N word ∙ notes-count p (below i a free slots) (free + a) row in (
+        rw (w .1) (parts .row),
+        rw (w .1) (parts .skip),
+        marked p (below i a free slots) (free + a) row (n + 1) noted (map word M ++ rest) d′ (all-front Fits N M (f .1)),
+        marked-in bs i slots free (row + length (g .rows)) (n + 1 + branches p) noted rest
+            (rw many at (part-at noted (n + 1) (map word N) (map word M ++ rest) d′)) (all-back Fits N M (f .1)),
+      )
