@@ -54,7 +54,8 @@ fn put_row(room: &mut [u8], at: usize, row: u8)
     }
 }
 
-// A run of an accepted plan on a goal of `width` terms: the hits as bytes from the room's first on, and how many branches were tried.
+// A run of an accepted plan on a goal of `width` terms: the hits as bytes from the room's first on, and how many branches were tried. Those of
+// rows that are run by themselves are counted apart, so that a turn for any other branch adds 1 and nothing else.
 pub fn walk(
     notes: &[u64; 2048],
     branches: usize,
@@ -77,6 +78,7 @@ pub fn walk(
     let mut i = 0;
     let mut hits = 0;
     let mut tried = 0;
+    let mut apart = 0;
     while i < end {
         let w = notes[i];
         let skip = skip_of(w);
@@ -85,7 +87,7 @@ pub fn walk(
             let o = rest(notes, i, past, &rep, &sib, &bound, &args, &until, &refs);
             put_rows(room, hits, o.hits, wide(row_of(w)));
             hits += o.hits;
-            tried += o.tried;
+            apart += o.tried;
             i = past;
         } else {
             tried += 1;
@@ -110,5 +112,8 @@ pub fn walk(
             }
         }
     }
-    Out { hits, tried }
+    Out {
+        hits,
+        tried: tried + apart,
+    }
 }

@@ -22,12 +22,12 @@ use Rattle.run.proofs.walk.walk.Statement.{statement}
 use Rattle.run.proofs.walk.walk.Tie as tie
 
 abbrev Inv-loop : tie.InvT-loop
-Inv-loop notes branches goal width room₀ sib bound₀ args₀ until₀ rep refs₀ end i₀ hits₀ tried₀ room bound args until refs i hits tried =
-    Tables (renamed goal) sib rep × (length room ≡ length room₀) × (hits ≤ i) × (tried ≤ 2048 * i)
-    × ((b : Begun notes branches goal room₀ width) → Walking b rep sib bound args until refs room i hits tried)
+Inv-loop notes branches goal width room₀ sib bound₀ args₀ until₀ rep refs₀ end i₀ hits₀ tried₀ apart₀ room bound args until refs i hits tried apart =
+    Tables (renamed goal) sib rep × (length room ≡ length room₀) × (hits ≤ i) × (tried + apart ≤ 2048 * i) × (i < 8192)
+    × ((b : Begun notes branches goal room₀ width) → Walking b rep sib bound args until refs room i hits (tried + apart))
 
 abbrev μ-loop : tie.MeasureT-loop
-μ-loop notes branches goal width room₀ sib bound₀ args₀ until₀ rep refs₀ end i₀ hits₀ tried₀ room bound args until refs i hits tried = end - i
+μ-loop notes branches goal width room₀ sib bound₀ args₀ until₀ rep refs₀ end i₀ hits₀ tried₀ apart₀ room bound args until refs i hits tried apart = end - i
 
 -- a place in the loop
 module _ (c : tie.At-loop Inv-loop μ-loop) where
@@ -48,8 +48,8 @@ module _ (c : tie.At-loop Inv-loop μ-loop) where
   T = c .loop .inv .0
 
   abbrev walking : (b : Granted)
-      → (let l = c .loop in Walking b rep sib (l .bound) (l .args) (l .until) (l .refs) (l .room) (l .i) (l .hits) (l .tried))
-  walking b = c .loop .inv .4 b
+      → (let l = c .loop in Walking b rep sib (l .bound) (l .args) (l .until) (l .refs) (l .room) (l .i) (l .hits) (l .tried + l .apart))
+  walking b = c .loop .inv .5 b
 
   at-end : Granted → c .before .end-of .result ≡ start .args .branches
   at-end b = c .before .end-of .ensures .1 (count-small b)
@@ -74,6 +74,7 @@ loop-holds c =
     let p = t .before .before .before .before .before .before .before .before .before .before .before .pre in (
       tables p S N,
       refl,
+      omega arith,
       omega arith,
       omega arith,
       λ b. began b S N (t .put-terms .ensures (omega (arith, b .accepted .width .1)) (arguments p S N .small)),
@@ -169,10 +170,10 @@ module _ (c : tie.After-wide Inv-loop μ-loop) where
   -- the walk goes on, once the hit is put
   after : (b : Granted (turn done)) {room : List ℕ} → (let t = turn done in let l = t .loop in let r = ran .rest .result in
       room ≡ sets (l .room) (l .hits) (upFrom (c .wide .result) (r .hits))
-      → Walking b (rep t) (sib t) (l .bound) (l .args) (l .until) (l .refs) room (l .i + 1 + skip done) (l .hits + r .hits) (l .tried + r .tried))
+      → Walking b (rep t) (sib t) (l .bound) (l .args) (l .until) (l .refs) room (l .i + 1 + skip done) (l .hits + r .hits) (l .tried + (l .apart + r .tried)))
   after b e =
       alone-now b (T (turn done)) (walking (turn done) b) (lower done b) (flag-read done b ∙ on (ran .before)) (past-read done)
-      (ran .rest .ensures .2 (begins (ran .before) b)) _ row-read e refl refl refl
+      (ran .rest .ensures .2 (begins (ran .before) b)) _ row-read e refl refl (omega arith)
 
 put-rows-requires : tie.Need-put-rows-requires Inv-loop μ-loop
 put-rows-requires c κs =
@@ -184,8 +185,8 @@ add-hits c =
     let w = c .before .before .before .before in
     omega (arith, turn (done w) .loop .inv .2, ran w .rest .ensures .1, in-notes (done w))
 
-add-tried : tie.Need-add-tried Inv-loop μ-loop
-add-tried c =
+add-apart : tie.Need-add-apart Inv-loop μ-loop
+add-apart c =
     let w = c .before .before .before .before .before in
     omega (arith, turn (done w) .loop .inv .3, ran w .rest .ensures .0, in-notes (done w))
 
@@ -203,11 +204,12 @@ loop-again c =
       p .put-rows .kept .0 ∙ l .1,
       omega (arith, l .2, h .1),
       omega (arith, l .3, h .0),
+      omega (arith, in-notes d, few-skipped d),
       λ b. after w b (p .put-rows .ensures (omega (arith, has-room d b, h .1)) (omega (arith, row-read w, h .1))),
     )
 
-add-tried-2 : tie.Need-add-tried-2 Inv-loop μ-loop
-add-tried-2 c = omega (arith, turn (c .before) .loop .inv .3, in-notes (c .before))
+add-tried : tie.Need-add-tried Inv-loop μ-loop
+add-tried c = omega (arith, turn (c .before) .loop .inv .3, in-notes (c .before))
 
 -- a branch that is tested
 module _ (c : tie.After-refs3 Inv-loop μ-loop) where
@@ -253,6 +255,7 @@ loop-again-2 c =
       p .put-row .kept .0 ∙ l .1,
       omega (arith, l .2),
       omega (arith, l .3),
+      omega (arith, in-notes r, few-skipped r),
       λ b.
           let A = walking (turn r) b in
           let s = rw (t .if2 .taken) at (t .before .meets .ensures (safe-now b (l .0) A (lower r b))) in
@@ -273,6 +276,7 @@ loop-again-3 c =
       l .1,
       omega (arith, l .2),
       omega (arith, l .3),
+      omega (arith, in-notes r, few-skipped r),
       λ b.
           let A = walking (turn r) b in
           let s = rw (t .if2 .taken) at (t .before .meets .ensures (safe-now b (l .0) A (lower r b))) in
@@ -297,11 +301,15 @@ loop-again-4 c =
       l .1,
       omega (arith, l .2),
       omega (arith, l .3),
+      omega (arith, in-notes r, few-skipped r),
       λ b.
           let A = walking (turn r) b in
           let s = rw (c .if2 .left) at (c .before .meets .ensures (safe-now b (l .0) A (lower r b))) in
           fail-now b (l .0) A (lower r b) (off m b) s (omega (arith, past-read r)) (omega arith),
     )
+
+add-t60 : tie.Need-add-t60 Inv-loop μ-loop
+add-t60 c = let l = c .before .loop .inv in omega (arith, l .3, l .4)
 
 same-length : tie.Need-same-length Inv-loop μ-loop
 same-length c = c .before .loop .inv .1
@@ -334,10 +342,10 @@ walk-spec =
     wide-requires
     put-rows-requires
     add-hits
-    add-tried
+    add-apart
     loop-less
     loop-again
-    add-tried-2
+    add-tried
     meets-requires
     add-next
     row-of-requires-2
@@ -351,5 +359,6 @@ walk-spec =
     add-i-2
     loop-less-4
     loop-again-4
+    add-t60
     same-length
     returns)
