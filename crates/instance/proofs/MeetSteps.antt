@@ -51,7 +51,7 @@ module _ {row goal cells : List ℕ} {v : ℕ} {t : List ℕ} {i n at′ len tur
   row-over l = record { over = λ Y q. omega (arith, l, left-long there Y q .1) }
 
   -- all three stand at the front of a list
-  pub bind-there : (cells′ : List ℕ) (q l m : ℕ) → length cells′ ≡ 2048 → q ≡ length first → l ≡ length first + length second
+  pub bind-there : (cells′ : List ℕ) (q l m : ℕ) → m ≤ length cells′ → q ≡ length first → l ≡ length first + length second
       → m ≡ l + length third → l ≤ 1024 → m ≤ l + 1024 → take m cells′ ≡ (first ++ second) ++ third
       → Meeting row goal cells′ l m q l turns
   bind-there cells′ q l m lc eq el em sl sm x =
@@ -64,8 +64,7 @@ module _ {row goal cells : List ℕ} {v : ℕ} {t : List ℕ} {i n at′ len tur
         started = omega (arith, em);
         goal-short = sl;
         row-short = sm;
-        held = omega (arith, sl, sm, lc);
-        long = lc;
+        held = lc;
         left = rw (y, z, take-at first second q (sym eq), drop-at first second q (sym eq)) there;
       }
 
@@ -184,7 +183,6 @@ module _ {row goal cells : List ℕ} {i n at′ len turns : ℕ} (w : Meeting ro
     goal-short = w .goal-short;
     row-short = omega (arith, w .row-short);
     held = w .held;
-    long = w .long;
     left = rw (add-one i, sym next-C, add-one at′) (left-cell e here);
   }
 
@@ -251,7 +249,7 @@ both-few {row = row} {goal} r g =
 
 -- The start: the goal's cells, its variables moved apart, then the row's.
 pub start-there : {wide : ℕ} {row goal cells Y : List ℕ} {len n : ℕ} → Head wide row → Head wide goal → Terms wide (renamed goal) → Common row goal Y
-    → length cells ≡ 2048 → len ≡ length (renamed goal) → n ≡ len + length row → take n cells ≡ renamed goal ++ row
+    → 64 ≤ length cells → len ≡ length (renamed goal) → n ≡ len + length row → take n cells ≡ renamed goal ++ row
     → Meeting row goal cells len n 0 len 64
 unfolding renamed
 start-there {wide} {row} {goal} {cells} {Y} {len} {n} r g tg q lc el en x =
@@ -267,7 +265,6 @@ start-there {wide} {row} {goal} {cells} {Y} {len} {n} r g tg q lc el en x =
       goal-short = omega (arith, el, k, g .short);
       row-short = omega (arith, en, r .short);
       held = omega (arith, en, el, k, r .short, g .short, lc);
-      long = lc;
       left = rw (y, z) (record {
         gives = λ Z. (solves-common a b Z .1, solves-common a b Z .0);
         made = Y;

@@ -70,7 +70,7 @@ pub reply-there : {row goal cells : List ℕ} {n : ℕ} → Met row goal cells n
 reply-there m = general-reply (m .general) (m .few)
 
 -- the list filled, the work can start
-pub hit-start : {row goal : List ℕ} → Hit row goal → (cells cells₁ cells₂ : List ℕ) (len n : ℕ) → length cells ≡ 2048
+pub hit-start : {row goal : List ℕ} → Hit row goal → (cells cells₁ cells₂ : List ℕ) (len n : ℕ) → 64 ≤ length cells
     → Put cells cells₁ 0 (renamed goal) len → Put cells₁ cells₂ len row n → Meeting row goal cells₂ len n 0 len 64
 unfolding renamed
 hit-start {row} {goal} h cells cells₁ cells₂ len n lc p q =
@@ -79,4 +79,4 @@ hit-start {row} {goal} h cells cells₁ cells₂ len n lc p q =
     let x = put-found p (omega (arith, a, lc)) .0 in
     let y = put-found (put-put p q) (omega (arith, a, lc, length-append (renamed goal) row)) in
     start-there (h .row-head) (h .goal-head) (renamed-terms (h .goal-head .terms) (head-below (h .goal-head))) (h .common)
-    (put-length q ∙ put-length p ∙ lc) x (omega (arith, x, y .0, length-append (renamed goal) row)) (y .1)
+    (omega (arith, put-length q, put-length p, lc)) x (omega (arith, x, y .0, length-append (renamed goal) row)) (y .1)

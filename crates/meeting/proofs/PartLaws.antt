@@ -23,30 +23,17 @@ pub part-put : {out out′ : List ℕ} {to r : ℕ} (v : ℕ) (t xs : List ℕ) 
     → Put out out′ to (put v t (take (e - a) (drop a xs))) r → Put out out′ to (put v t (slice a e xs)) r
 part-put {out} {out′} {to} {r} v t xs a e h = subst (λ (l : List ℕ). Put out out′ to (put v t l) r) (part-slice xs a e h)
 
--- The list has one cell more than twice 1,024, so that what was put says how long the parts are.
-module _ {other other₁ other₂ A B : List ℕ} {q l : ℕ} (long : length other ≡ 2049) (a : Put other other₁ 0 A q)
-    (b : Put other₁ other₂ q B l) where
-  two : (l ≤ length A + length B) × (l ≤ 1024 → l ≡ length A + length B)
-  two =
-      let c = put-counted (put-put a b) in
-      (omega (arith, c .0, length-append A B), λ s. c .1 (omega (arith, s, long)) ∙ length-append A B)
-
+-- No more is put than there is, and all of it where a cell is left.
+module _ {other other₁ other₂ A B : List ℕ} {q l : ℕ} (a : Put other other₁ 0 A q) (b : Put other₁ other₂ q B l) where
   pub two-long : 1024 < l → 1024 < length A + length B
-  two-long h = omega (arith, h, two .0)
+  two-long h = omega (arith, h, put-counted (put-put a b) .0, length-append A B)
 
-  module _ {other₃ D : List ℕ} {m : ℕ} (d : Put other₂ other₃ l D m) (short : l ≤ 1024) where
-    three : (m ≤ l + length D) × (m ≤ 2048 → m ≡ l + length D)
-    three =
-        let c = put-counted (put-put (put-put a b) d) in
-        let n : length (A ++ B) ≡ l = length-append A B ∙ sym (two .1 short) in
-        let e : length ((A ++ B) ++ D) ≡ l + length D = length-append (A ++ B) D ∙ ap (λ (k : ℕ). k + length D) n in
-        (omega (arith, c .0, e), λ s. c .1 (omega (arith, s, long)) ∙ e)
-
+  module _ {other₃ D : List ℕ} {m : ℕ} (d : Put other₂ other₃ l D m) where
     pub third-long : 1024 < m - l → 1024 < length D
-    third-long h = omega (arith, h, three .0)
+    third-long h = omega (arith, h, d .after, length-take (length other₂ - l) D)
 
-    pub three-fit : m - l ≤ 1024 → length A + length B + length D ≤ length other
-    three-fit h = omega (arith, h, short, long, two .1 short, three .1 (omega (arith, h, short)))
+    pub three-fit : m < length other → length A + length B + length D ≤ length other
+    three-fit h = omega (arith, h, put-counted (put-put (put-put a b) d) .1 h, length-append (A ++ B) D, length-append A B)
 
 module _ {other other₁ other₂ other₃ A B D : List ℕ} {q l m : ℕ} (h : length A + length B + length D ≤ length other)
     (a : Put other other₁ 0 A q) (b : Put other₁ other₂ q B l) (d : Put other₂ other₃ l D m) where

@@ -62,14 +62,14 @@ module _ (cells₀ cells : List ℕ) (v c i : ℕ) (h : i < length cells₀) (w 
       ap (λ (n : ℕ). set cells i (f n)) y ∙ z ∙ sym (ap₂ _++_ m d ∙ append-assoc before (f x ∷ []) after)
 
 -- what is left stays what it was
-pub swapped-there : {row goal cells cells′ : List ℕ} {v c : ℕ} (k : Stand) → Sound k → length cells ≡ 2048 → Swapped cells cells′ v c (k .n)
+pub swapped-there : {row goal cells cells′ : List ℕ} {v c : ℕ} (k : Stand) → Sound (length cells) k → Swapped cells cells′ v c (k .n)
     → Turning row goal cells v (c ∷ []) k → MeetingAt row goal cells′ (turned k)
-swapped-there {cells = cells} {cells′} {v} {c} k s long w t =
+swapped-there {cells = cells} {cells′} {v} {c} k s w t =
     let f = instead v c in
     let L = take (k .n) cells in
     let G = take (k .len) cells in
     let g : k .len ≤ k .n = omega (arith, s .apart, s .started) in
-    let l : length (map f L) ≡ k .n = length-map L f ∙ length-take-le (k .n) cells (omega (arith, s .held, long)) in
+    let l : length (map f L) ≡ k .n = length-map L f ∙ length-take-le (k .n) cells (s .held) in
     let N : take (k .n) cells′ ≡ map f L = ap (take (k .n)) w ∙ take-at (map f L) (drop (k .n) cells) (k .n) l in
     let M : take (k .len) cells′ ≡ map f G =
     sym (take-take (k .len) (k .n) cells′ g) ∙ ap (take (k .len)) N ∙ take-map f (k .len) L ∙ ap (map f) (take-take (k .len) (k .n) cells g) in
@@ -79,8 +79,8 @@ swapped-there {cells = cells} {cells′} {v} {c} k s long w t =
     ap (take (k .at)) M ∙ take-map f (k .at) G ∙ sym (put-map v c (take (k .at) G)) in
     let z : drop (k .at) (take (k .len) cells′) ≡ put v (c ∷ []) (drop (k .at) G) =
     ap (drop (k .at)) M ∙ drop-map f (k .at) G ∙ sym (put-map v c (drop (k .at) G)) in
-    let r : length cells′ ≡ 2048 =
-    omega (arith, ap length w, length-append (map f L) (drop (k .n) cells), l, length-drop (k .n) cells, long, s .held) in
+    let r : length cells′ ≡ length cells =
+    omega (arith, ap length w, length-append (map f L) (drop (k .n) cells), l, length-drop (k .n) cells, s .held) in
     record {
       inside = s .inside;
       apart = s .apart;
@@ -88,6 +88,5 @@ swapped-there {cells = cells} {cells′} {v} {c} k s long w t =
       goal-short = t .goal-short;
       row-short = t .row-short;
       held = omega (arith, s .held, r);
-      long = r;
       left = rw (x, y, z) (t .after .left);
     }

@@ -1,5 +1,6 @@
--- What is answered of a row and a goal (crate instance, specs/code/Meet): for a hit, made in lists of 2,048 and 2,049 cells, the most general
--- common instance, or that all they have in common is too long. For anything else only that the cells are there.
+-- What is answered of a row and a goal (crate instance, specs/code/Meet), made in two lists that are lent: for a hit the most general common
+-- instance, or that the lists are too short for it; in lists of 2,048 and 2,049 cells this says that all they have in common is too long. For
+-- anything else only that the cells are there.
 use Prim.Native.Nat.{ℕ, _≤_}
 use mathlib.Core.Path.{_≡_}
 use mathlib.Core.List.{List}
@@ -8,11 +9,11 @@ use Rattle.instance.specs.code.Meet.{Hit, Met, Over}
 use Rattle.meeting.specs.declared.Made.{Made}
 use Rattle.meeting.specs.declared.Made.the-variants.{Cells, Big}
 
--- the two lists that are lent
+-- two lists that are long enough for all that has at most 1,024 cells
 pub record Lent (cells other : List ℕ) : Type 0 where
   pub long : length cells ≡ 2048
   pub other-long : length other ≡ 2049
 
 pub data Ended (row goal cells other cells′ : List ℕ) : Made → Type 0 where
-  ended : {n : ℕ} → n ≤ length cells′ → (Hit row goal → Lent cells other → Met row goal cells′ n) → Ended row goal cells other cells′ (Cells n)
+  ended : {n : ℕ} → n ≤ length cells′ → (Hit row goal → Met row goal cells′ n) → Ended row goal cells other cells′ (Cells n)
   ended-over : (Hit row goal → Lent cells other → Over row goal) → Ended row goal cells other cells′ Big

@@ -2,7 +2,7 @@
 // side, and is replaced everywhere by the term on the other: the run has found that they unify, so only their lengths are tested here. One list
 // holds the goal so far, then what is left of the row.
 // Row and goal may be anything: what they have to be stands as a premise inside the `ensures`. Where they do not unify the answer is some
-// cells, or Big.
+// cells, or Big. The two lists may be shorter than what is in common may need, since clearing them is most of what a short reply costs.
 ghost use mathlib.Core.Path.{_≡_};
 ghost use mathlib.Core.Logic.{_≢_};
 ghost use mathlib.Core.Bool.{true, false};
@@ -15,7 +15,8 @@ ghost use Rattle.meeting.specs.code.Turns.{instead, Swapped, Sound, Bind
 use octets::cells::put_cells;
 use term::End;
 
-// How many cells they have in common, or that it is over 1,024 (02, W-209, BIG).
+// How many cells they have in common, or that the lists are too short for it: those of 2,048 and 2,049 cells, that it has over 1,024 (02,
+// W-209, BIG).
 pub enum Made {
     Cells(usize),
     Big,
@@ -31,8 +32,8 @@ pub struct Stand {
     pub turns: usize,
 }
 
-// Where they stand then, or that all they have in common has over 1,024 cells: no cell ever goes away, so one of the two lists being that
-// long says it.
+// Where they stand then, or that the lists are too short. That all they have in common has over 1,024 cells is said by one of the two having
+// as many, since no cell ever goes away.
 pub enum Turn {
     Fits(Stand),
     Big,
@@ -60,7 +61,7 @@ fn swap(cells: &mut [u32], n: usize, v: u32, c: u32)
 
 // The variable `v` replaced by a term that is the cell `c`: it is put in the variable's place, and nothing moves.
 fn bind_cell(v: u32, c: u32, cells: &mut [u32], k: Stand) -> Turn
-    requires { ⌜ (length (now cells) ≡ 2048) × Sound k ⌝ }
+    requires { ⌜ Sound (length (now cells)) k ⌝ }
     ensures { λ r. ⌜ Bound (now (cells .entry)) v (c ∷ []) (now (cells .exit)) k r ⌝ }
 {
     if k.turns == 0 {
@@ -78,7 +79,7 @@ fn bind_cell(v: u32, c: u32, cells: &mut [u32], k: Stand) -> Turn
 }
 
 // The variable `v` replaced by the term from `a` up to `e`, in the goal so far and in what is left of the row: put together in another list,
-// then put back. That list has one cell more than both may have, so that a full one is told from one that was too short.
+// then put back. That list has one cell more at least, so that a full one is told from one that was too short.
 fn bind(v: u32, a: usize, e: usize, cells: &mut [u32], other: &mut [u32], k: Stand) -> Turn
     requires { ⌜ Binding (now cells) (now other) a e k ⌝ }
     ensures { λ r. ⌜ Bound (now (cells .entry)) v (take (e - a) (drop a (now (cells .entry)))) (now (cells .exit)) k r ⌝ }
@@ -98,6 +99,9 @@ fn bind(v: u32, a: usize, e: usize, cells: &mut [u32], other: &mut [u32], k: Sta
     }
     let last = rewrite::put_with(other, len, &all[i..n], v, &all[a..e]);
     if 1024 < last - len {
+        return Turn::Big;
+    }
+    if cells.len() < last {
         return Turn::Big;
     }
     put_cells(cells, 0, &other[..last]);
@@ -216,15 +220,18 @@ fn meet(cells: &mut [u32], other: &mut [u32], len: usize, n: usize) -> Made
     Made::Cells(k.len)
 }
 
-// One hit: the most general common instance of a row and a goal, at the front of `cells`. Of the two lists lent to work in the first has 2,048
-// cells, the second 2,049.
+// One hit: the most general common instance of a row and a goal, at the front of `cells`. Of the two lists lent to work in the first has 64
+// cells at least, so that row and goal fit, and 2,048 at most; the second has more.
 pub fn common(row: &[u32], goal: &[u32], cells: &mut [u32], other: &mut [u32]) -> Made
     ensures { λ r. ⌜ Ended (now (row .entry)) (now (goal .entry)) (now (cells .entry)) (now (other .entry)) (now (cells .exit)) r ⌝ }
 {
-    if cells.len() != 2048 {
+    if cells.len() < 64 {
         return Made::Big;
     }
-    if other.len() != 2049 {
+    if 2048 < cells.len() {
+        return Made::Big;
+    }
+    if other.len() <= cells.len() {
         return Made::Big;
     }
     let len = rewrite::put_apart(cells, 0, goal);

@@ -31,6 +31,36 @@ fn turned_away(reason: Reason, input: Input, place: usize) -> RepliesAnswer
 
 // The replies of the hits of a table. Their cells are put into a list first: there is no knowing before the last whether one has over 1,024, and
 // then the room is left as it is. Where the list is too short for them, they are made once more, in the room.
+fn put_by(
+    table: &[u32],
+    starts: &[usize; 64],
+    rows: usize,
+    goal: &[u32],
+    hits: &[u8],
+    list: &mut [u32],
+    room: &mut [u32],
+) -> RepliesAnswer
+    ensures { λ r. ⌜ ((plan : List ℕ) → Held (now (table .entry)) (now (starts .entry)) rows
+        → Found (now (table .entry)) plan (now (goal .entry)) (now (hits .entry)) → Replied
+        (now (table .entry)) plan (now (goal .entry)) (now (room .entry)) (now (room .exit)) r) ⌝ }
+{
+    match pass(table, starts, rows, goal, hits, list) {
+        Sum::Big => turned_away(Reason::Big, Input::Goal, 0),
+        Sum::Cells(needed) => {
+            if room.len() < needed {
+                return turned_away(Reason::Room, Input::Lent, needed);
+            }
+            if needed <= list.len() {
+                put_cells(room, 0, &list[..needed]);
+                return RepliesAnswer::Replied(hits.len(), needed);
+            }
+            pass(table, starts, rows, goal, hits, room);
+            RepliesAnswer::Replied(hits.len(), needed)
+        }
+    }
+}
+
+// The replies by way of a list that is long enough for most replies of so many hits: it is cleared for each goal.
 // Table, goal and hits may be anything: what they have to be stands as a premise inside the `ensures`.
 pub fn put_replies(
     table: &[u32],
@@ -44,42 +74,12 @@ pub fn put_replies(
         → Found (now (table .entry)) plan (now (goal .entry)) (now (hits .entry)) → Replied
         (now (table .entry)) plan (now (goal .entry)) (now (room .entry)) (now (room .exit)) r) ⌝ }
 {
-    let mut cells = [0u32; 2048];
-    let mut other = [0u32; 2049];
-    let mut list = [0u32; 2048];
-    let sum = pass(
-        table,
-        starts,
-        rows,
-        goal,
-        hits,
-        &mut cells,
-        &mut other,
-        &mut list,
-    );
-    match sum {
-        Sum::Big => turned_away(Reason::Big, Input::Goal, 0),
-        Sum::Cells(needed) => {
-            if room.len() < needed {
-                return turned_away(Reason::Room, Input::Lent, needed);
-            }
-            if needed <= 2048 {
-                put_cells(room, 0, &list[..needed]);
-                return RepliesAnswer::Replied(hits.len(), needed);
-            }
-            pass(
-                table,
-                starts,
-                rows,
-                goal,
-                hits,
-                &mut cells,
-                &mut other,
-                room,
-            );
-            RepliesAnswer::Replied(hits.len(), needed)
-        }
+    if hits.len() <= 8 {
+        let mut few = [0u32; 256];
+        return put_by(table, starts, rows, goal, hits, &mut few, room);
     }
+    let mut many = [0u32; 2048];
+    put_by(table, starts, rows, goal, hits, &mut many, room)
 }
 
 // The replies of what a run has found.

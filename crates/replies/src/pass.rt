@@ -1,11 +1,14 @@
 // A pass over the hits: for each its row and the goal made equal, then put into the room.
+// The lists to work in are cleared for each goal, and most replies are far shorter than 1,024 cells: they are made in short lists, and only
+// from the first on that these are too short for in lists that are long enough for any.
 ghost use mathlib.Core.Path.{_≡_};
 ghost use mathlib.Core.List.{List};
-ghost use Prim.Native.Nat.{ℕ, _<_};
+ghost use Prim.Native.Nat.{ℕ, _≤_, _<_};
 ghost use lib.ListN.{length};
 ghost use Rattle.table.specs.Table.{tableOf, RowPlace};
 ghost use Rattle.instance.specs.code.Passes.{Held};
-ghost use Rattle.replies.specs.code.Sums.{Passing, PassedAt};
+ghost use Rattle.meeting.specs.Ended.{Lent};
+ghost use Rattle.replies.specs.code.Sums.{Passing, Upto, Stops, PassedAt};
 use meeting::Made;
 use notes::packed::wide;
 use table::Part;
@@ -28,14 +31,15 @@ fn row_at(table: &[u32], starts: &[usize; 64], rows: usize, hit: u8) -> Part
     }
 }
 
-// How many cells the replies have together, or that one has over 1,024.
-pub enum Sum {
-    Cells(usize),
-    Big,
+// How far a pass has come: so many hits are done, their replies have so many cells together, and the room is filled up to a place.
+pub struct Done {
+    pub hits: usize,
+    pub cells: usize,
+    pub on: usize,
 }
 
-// The replies of the hits, put one after another into the room as far as it goes. Two lists are lent to work in.
-pub fn pass(
+// The replies of the hits, put one after another into the room as far as it goes: up to the first that the two lent lists are too short for.
+fn pass_in(
     table: &[u32],
     starts: &[usize; 64],
     rows: usize,
@@ -44,17 +48,22 @@ pub fn pass(
     cells: &mut [u32],
     other: &mut [u32],
     room: &mut [u32],
-) -> Sum
-    requires { ⌜ (length (now cells) ≡ 2048) × (length (now other) ≡ 2049) ⌝ }
-    ensures { λ r. ⌜ ((all : List (List ℕ)) → Passing (now (table .entry)) (now (starts .entry)) rows (now (goal .entry)) (now (hits .entry)) all
-        → PassedAt (now (room .entry)) (now (room .exit)) all r) ⌝ }
+) -> Done
+    requires { ⌜ length (now cells) ≤ 2048 ⌝ }
+    ensures { λ r. ⌜ Upto (now (table .entry)) (now (starts .entry)) rows (now (goal .entry)) (now (hits .entry)) (now (room .entry)) (now (room .exit)) r
+        × (Lent (now (cells .entry)) (now (other .entry)) → Stops (now (table .entry)) (now (starts .entry)) rows (now (goal .entry))
+        (now (hits .entry)) r) ⌝ }
 {
-    if 64 < hits.len() {
-        return Sum::Big;
-    }
     let mut sum = 0;
     let mut on = 0;
     let mut i = 0;
+    if 64 < hits.len() {
+        return Done {
+            hits: i,
+            cells: sum,
+            on,
+        };
+    }
     while i < hits.len() {
         let p = row_at(table, starts, rows, hits[i]);
         let row = doubles::part(table, p.start, p.end);
@@ -65,9 +74,99 @@ pub fn pass(
                 i += 1;
             }
             Made::Big => {
-                return Sum::Big;
+                return Done {
+                    hits: i,
+                    cells: sum,
+                    on,
+                };
             }
         }
     }
-    Sum::Cells(sum)
+    Done {
+        hits: i,
+        cells: sum,
+        on,
+    }
+}
+
+// In lists for replies of up to 64 cells or so.
+fn pass_short(
+    table: &[u32],
+    starts: &[usize; 64],
+    rows: usize,
+    goal: &[u32],
+    hits: &[u8],
+    room: &mut [u32],
+) -> Done
+    ensures { λ r. ⌜ Upto (now (table .entry)) (now (starts .entry)) rows (now (goal .entry)) (now (hits .entry)) (now (room .entry)) (now (room .exit)) r ⌝ }
+{
+    let mut cells = [0u32; 128];
+    let mut other = [0u32; 129];
+    pass_in(
+        table,
+        starts,
+        rows,
+        goal,
+        hits,
+        &mut cells,
+        &mut other,
+        room,
+    )
+}
+
+// In lists that are long enough for any reply of up to 1,024 cells.
+fn pass_long(
+    table: &[u32],
+    starts: &[usize; 64],
+    rows: usize,
+    goal: &[u32],
+    hits: &[u8],
+    room: &mut [u32],
+) -> Done
+    ensures { λ r. ⌜ Upto (now (table .entry)) (now (starts .entry)) rows (now (goal .entry)) (now (hits .entry)) (now (room .entry)) (now (room .exit)) r
+        × Stops (now (table .entry)) (now (starts .entry)) rows (now (goal .entry)) (now (hits .entry)) r ⌝ }
+{
+    let mut cells = [0u32; 2048];
+    let mut other = [0u32; 2049];
+    pass_in(
+        table,
+        starts,
+        rows,
+        goal,
+        hits,
+        &mut cells,
+        &mut other,
+        room,
+    )
+}
+
+// How many cells the replies have together, or that one has over 1,024.
+pub enum Sum {
+    Cells(usize),
+    Big,
+}
+
+// The replies of the hits, put one after another into the room as far as it goes.
+pub fn pass(
+    table: &[u32],
+    starts: &[usize; 64],
+    rows: usize,
+    goal: &[u32],
+    hits: &[u8],
+    room: &mut [u32],
+) -> Sum
+    ensures { λ r. ⌜ ((all : List (List ℕ)) → Passing (now (table .entry)) (now (starts .entry)) rows (now (goal .entry)) (now (hits .entry)) all
+        → PassedAt (now (room .entry)) (now (room .exit)) all r) ⌝ }
+{
+    let short = pass_short(table, starts, rows, goal, hits, room);
+    let i = short.hits;
+    let on = short.on;
+    if i == hits.len() {
+        return Sum::Cells(short.cells);
+    }
+    let long = pass_long(table, starts, rows, goal, &hits[i..], &mut room[on..]);
+    if long.hits < hits.len() - i {
+        return Sum::Big;
+    }
+    Sum::Cells(short.cells + long.cells)
 }

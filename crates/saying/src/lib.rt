@@ -5,9 +5,9 @@ ghost use Prim.Native.Nat.{_≤_, _<_};
 ghost use lib.ListN.{length, getD};
 ghost use Rattle.cell.specs.Cell.{valuesAt};
 ghost use Rattle.octets.specs.Octets.{Put};
-ghost use Rattle.asking.specs.Saying.{wordsIn, wordsOf, symbolWord, saidIn};
+ghost use Rattle.asking.specs.Saying.{wordsIn, wordsOf, symbolWord, termsText, saidIn};
 ghost use Rattle.saying.specs.Terms.{termsSaid};
-ghost use Rattle.saying.specs.code.Levels.{Closes, Marks};
+ghost use Rattle.saying.specs.code.Levels.{levels, Closes, Marks};
 use asking::Predicate;
 use cell::Shape;
 use octets::put_byte;
@@ -112,8 +112,39 @@ fn put_mark(out: &mut [u8], to: usize, owed: &mut [usize], depth: usize, args: u
     }
 }
 
-// The terms of some cells, so many of them owed in the bracket that is open, and the bracket after them. There is an open bracket for each
-// cell before at most, and that one: the counters are enough for 1,024 cells.
+// The terms of some cells, and the bracket after them. `owed` has first what is owed in the bracket that is open. There is an open bracket for
+// each cell before at most, and that one, so that one counter more than cells is enough.
+fn put_counted(
+    out: &mut [u8],
+    to: usize,
+    text: &[u8],
+    names: &[u32],
+    goal: &[u8],
+    new: &[u32],
+    owed: &mut [usize],
+    cells: &[u32],
+) -> usize
+    requires { ⌜ length (now cells) < length (now owed) ⌝ }
+    ensures { λ r. ⌜ Put (now (out .entry)) (now (out .exit)) to
+        (termsText (wordsOf (now (text .entry)) (now (names .entry)) (now (goal .entry)) (now (new .entry))) (levels (now (owed .entry)) 1)
+        (now (cells .entry))) r ⌝ }
+{
+    let mut on = to;
+    let mut depth = 1;
+    let mut i = 0;
+    while i < cells.len() {
+        let c = cells[i];
+        on = put_symbol(out, on, text, names, goal, new, c);
+        let next = put_mark(out, on, owed, depth, cell::arity_of(c));
+        on = next.to;
+        depth = next.depth;
+        i += 1;
+    }
+    on
+}
+
+// The terms of some cells, so many of them owed in the bracket that is open, and the bracket after them. Few answers have over 63 cells, and
+// no other waits until counters for 1,024 are cleared.
 pub fn put_terms(
     out: &mut [u8],
     to: usize,
@@ -130,20 +161,14 @@ pub fn put_terms(
     if 1024 < cells.len() {
         return to;
     }
+    if cells.len() < 64 {
+        let mut few = [0usize; 64];
+        few[0] = width;
+        return put_counted(out, to, text, names, goal, new, &mut few, cells);
+    }
     let mut owed = [0usize; 1025];
     owed[0] = width;
-    let mut on = to;
-    let mut depth = 1;
-    let mut i = 0;
-    while i < cells.len() {
-        let c = cells[i];
-        on = put_symbol(out, on, text, names, goal, new, c);
-        let next = put_mark(out, on, &mut owed, depth, cell::arity_of(c));
-        on = next.to;
-        depth = next.depth;
-        i += 1;
-    }
-    on
+    put_counted(out, to, text, names, goal, new, &mut owed, cells)
 }
 
 // "The answer as Prolog text in the file's own names", at the front of the room.

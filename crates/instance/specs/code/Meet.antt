@@ -30,7 +30,6 @@ pub record Meeting (row goal cells : List ℕ) (i n at len turns : ℕ) : Type 0
   pub goal-short : len ≤ 1024
   pub row-short : n ≤ i + 1024
   pub held : n ≤ length cells
-  pub long : length cells ≡ 2048
   pub left : Left row goal (drop i (take n cells)) (take at (take len cells)) (drop at (take len cells)) turns
 
 -- a variable v is about to be replaced by a term t: in the goal so far, of which `at` cells are passed then, and in the row's cells from i on

@@ -51,7 +51,7 @@ module _ (c : tie.After-put-with2) where
       (start .pre .sound .inside) (c .put-with2 .ensures)
 
   goal-large : 1024 < c .put-with2 .result → (row goal : List ℕ) → Replaced row goal → Over row goal
-  goal-large l row goal w = goal-over (w .after) (start .pre .sound .inside) (two-long (start .pre .lent .other-long) first-put second-put l)
+  goal-large l row goal w = goal-over (w .after) (start .pre .sound .inside) (two-long first-put second-put l)
 
 -- once all three parts are
 module _ (c : tie.After-put-with3) where
@@ -70,11 +70,9 @@ module _ (c : tie.After-put-with3) where
   short = omega (arith, c .before .before .before .before .if2 .left)
 
   row-large : 1024 < c .put-with3 .result - two .put-with2 .result → (row goal : List ℕ) → Replaced two row goal → Over row goal
-  row-large l row goal w =
-      let p = start two .pre in
-      row-over (w .after) (p .sound .inside) (third-long (p .lent .other-long) (first-put two) (second-put two) third-put short l)
+  row-large l row goal w = row-over (w .after) (start two .pre .sound .inside) (third-long (first-put two) (second-put two) third-put l)
 
--- and all of them fit
+-- at most 1,024 cells are left of the row
 module _ (c : tie.Else3) where
   abbrev three : tie.After-put-with3
   three = c .before .before .before
@@ -85,23 +83,34 @@ module _ (c : tie.Else3) where
   row-short : three .put-with3 .result - both .put-with2 .result ≤ 1024
   row-short = omega (arith, c .if3 .left)
 
-  room : length (A both) + length (B both) + length (D three) ≤ length (start both .args .other .now)
-  room = three-fit (start both .pre .lent .other-long) (first-put both) (second-put both) (third-put three) (short three) row-short
+-- and all of them fit
+module _ (c : tie.Else4) where
+  abbrev parts : tie.After-put-with3
+  parts = three (c .before)
 
-  ends : (one both .put-with .result ≡ length (A both)) × (both .put-with2 .result ≡ length (A both) + length (B both))
-      × (three .put-with3 .result ≡ both .put-with2 .result + length (D three))
-  ends = put-three room (first-put both) (second-put both) (third-put three)
+  abbrev goal-parts : tie.After-put-with2
+  goal-parts = two parts
 
-  held : three .put-with3 .result ≤ length (three .put-with3 .last .0)
-  held = put-held room (first-put both) (second-put both) (third-put three)
+  here : parts .put-with3 .result ≤ length (start goal-parts .args .cells .now)
+  here = omega (arith, c .if4 .left)
+
+  room : length (A goal-parts) + length (B goal-parts) + length (D parts) ≤ length (start goal-parts .args .other .now)
+  room = three-fit (first-put goal-parts) (second-put goal-parts) (third-put parts) (omega (arith, here, start goal-parts .pre .lists .beside))
+
+  ends : (one goal-parts .put-with .result ≡ length (A goal-parts)) × (goal-parts .put-with2 .result ≡ length (A goal-parts) + length (B goal-parts))
+      × (parts .put-with3 .result ≡ goal-parts .put-with2 .result + length (D parts))
+  ends = put-three room (first-put goal-parts) (second-put goal-parts) (third-put parts)
+
+  held : parts .put-with3 .result ≤ length (parts .put-with3 .last .0)
+  held = put-held room (first-put goal-parts) (second-put goal-parts) (third-put parts)
 
 returns : tie.Need-returns
-returns c = bound-over (λ row goal h w. absurd (let z : ⊥ = omega (arith, h, c .if1 .taken) in z))
+returns c = bound-over (λ y row goal h w. absurd (let z : ⊥ = omega (arith, h, c .if1 .taken) in z))
 
 slice-aggregate-put-with : tie.Need-slice-aggregate-put-with
 slice-aggregate-put-with c =
     let at-start = c .before .before .before .before .before .before .before in
-    let s = at-start .pre in sym (length-take-le _ _ (omega (arith, s .sound .inside, s .sound .apart, s .sound .started, s .sound .held, s .lent .long)))
+    let s = at-start .pre in sym (length-take-le _ _ (omega (arith, s .sound .inside, s .sound .apart, s .sound .started, s .sound .held)))
 
 mul-put-with : tie.Need-mul-put-with
 mul-put-with c = search needs
@@ -152,7 +161,7 @@ same-length-2 : tie.Need-same-length-2
 same-length-2 c = search needs
 
 returns-2 : tie.Need-returns-2
-returns-2 c = bound-over (λ row goal h w. goal-large (c .before .before .before) (c .if2 .taken) row goal w)
+returns-2 c = bound-over (λ y row goal h w. goal-large (c .before .before .before) (c .if2 .taken) row goal w)
 
 mul-put-with-4 : tie.Need-mul-put-with-4
 mul-put-with-4 c = search needs
@@ -191,7 +200,19 @@ same-length-4 : tie.Need-same-length-4
 same-length-4 c = search needs
 
 returns-3 : tie.Need-returns-3
-returns-3 c = bound-over (λ row goal h w. row-large (c .before .before .before) (c .if3 .taken) row goal w)
+returns-3 c = bound-over (λ y row goal h w. row-large (c .before .before .before) (c .if3 .taken) row goal w)
+
+same-length-5 : tie.Need-same-length-5
+same-length-5 c = search needs
+
+same-length-6 : tie.Need-same-length-6
+same-length-6 c = search needs
+
+returns-4 : tie.Need-returns-4
+returns-4 c =
+    let at-else3 = c .before in
+    let w = at-else3 in
+    bound-over (λ y row goal h v. absurd (let z : ⊥ = omega (arith, y, c .if4 .taken, short (three w), row-short w) in z))
 
 slice-reshare-prefix-put-cells : tie.Need-slice-reshare-prefix-put-cells
 slice-reshare-prefix-put-cells c = search needs
@@ -205,37 +226,36 @@ put-cells-requires c κs = search needs
 sub-t23 : tie.Need-sub-t23
 sub-t23 c =
     let w = c .before .before .before .before .before .before in
-    let at-else1 = one (both w) .before .before .before .before .before in
+    let at-else1 = one (goal-parts w) .before .before .before .before .before in
     pos-of-ne-zero (at-else1 .if1 .left)
 
-same-length-5 : tie.Need-same-length-5
-same-length-5 c = search needs
+same-length-7 : tie.Need-same-length-7
+same-length-7 c = search needs
 
-same-length-6 : tie.Need-same-length-6
-same-length-6 c =
-    let at-else3 = c .before .before .before .before .before .before in
-    let w = at-else3 in put-length (third-put (three w)) ∙ put-length (second-put (both w)) ∙ put-length (first-put (both w))
+same-length-8 : tie.Need-same-length-8
+same-length-8 c =
+    let at-else4 = c .before .before .before .before .before .before in
+    let w = at-else4 in put-length (third-put (parts w)) ∙ put-length (second-put (goal-parts w)) ∙ put-length (first-put (goal-parts w))
 
-returns-4 : tie.Need-returns-4
-returns-4 c =
+returns-5 : tie.Need-returns-5
+returns-5 c =
     let at-put-cells = c .before .before .before in
-    let at-else3 = at-put-cells .before .before .before in
-    let at-else1 = one (both at-else3) .before .before .before .before .before in
-    let w = at-else3 in
-    let t = both w in
+    let at-else4 = at-put-cells .before .before .before in
+    let at-else1 = one (goal-parts at-else4) .before .before .before .before .before in
+    let w = at-else4 in
+    let t = goal-parts w in
     let p = start t .pre in
     let e = ends w in
-    let s = short (three w) in
-    let d = row-short w in
+    let s = short (parts w) in
+    let d = row-short (w .before) in
     let x = at-put-cells .put-cells in
-    let f : length (A t) + length (B t) + length (D (three w)) ≤ length (start t .args .cells .now) =
-    omega (arith, e .1, e .2, s, d, p .lent .long) in
-    let back = put-back (room w) (first-put t) (second-put t) (third-put (three w)) f (x .ensures) in
+    let f : length (A t) + length (B t) + length (D (parts w)) ≤ length (start t .args .cells .now) = omega (arith, e .1, e .2, here w) in
+    let back = put-back (room w) (first-put t) (second-put t) (third-put (parts w)) f (x .ensures) in
     let i : one t .put-with .result ≤ t .put-with2 .result = omega (arith, e .0, e .1) in
-    let a : t .put-with2 .result ≤ three w .put-with3 .result = omega (arith, e .2) in
-    let h : three w .put-with3 .result ≤ 2048 = omega (arith, s, d) in
-    bound-fits i a h (pos-of-ne-zero (at-else1 .if1 .left))
-    (λ row goal v. bind-there (v .after) (p .sound .inside) _ _ _ _ (x .kept .0 ∙ p .lent .long) (e .0) (e .1) (e .2) s (omega (arith, d)) back)
+    let a : t .put-with2 .result ≤ parts w .put-with3 .result = omega (arith, e .2) in
+    bound-fits i a (here w) (pos-of-ne-zero (at-else1 .if1 .left))
+    (λ row goal v.
+    bind-there (v .after) (p .sound .inside) _ _ _ _ (omega (arith, here w, x .kept .0)) (e .0) (e .1) (e .2) s (omega (arith, d)) back)
 
 pub bind-spec : {M : Type 1} → statement M
 bind-spec =
@@ -273,10 +293,13 @@ bind-spec =
     same-length-3
     same-length-4
     returns-3
+    same-length-5
+    same-length-6
+    returns-4
     slice-reshare-prefix-put-cells
     slice-aggregate-put-cells
     put-cells-requires
     sub-t23
-    same-length-5
-    same-length-6
-    returns-4)
+    same-length-7
+    same-length-8
+    returns-5)

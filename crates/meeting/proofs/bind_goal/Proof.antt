@@ -16,7 +16,7 @@ use Rattle.meeting.proofs.bind_goal.Tie as tie
 
 -- the row is in the list
 inside : (c : tie.Start) → c .args .k .n ≤ length (c .args .cells .now)
-inside c = omega (arith, c .pre .0 .sound .held, c .pre .0 .lent .long)
+inside c = c .pre .0 .sound .held
 
 -- the term that the variable meets
 module _ (c : tie.After-e) where
@@ -66,7 +66,7 @@ bind-cell-requires : tie.Need-bind-cell-requires
 bind-cell-requires c κs =
     let at-e = c .before .before .before .before .before in
     let at-start = at-e .before .before .before .before .before .before in
-    let p = at-start .pre in let x = found at-e in (p .0 .lent .long, goal-sound (p .0 .sound) (p .1) (x .0) (x .1))
+    let p = at-start .pre in let x = found at-e in goal-sound (p .0 .sound) (p .1) (x .0) (x .1)
 
 same-length : tie.Need-same-length
 same-length c = search needs
@@ -81,7 +81,7 @@ returns c =
     let x = found at-e in
     let h : at-start .args .k .i < length (at-start .args .cells .now) = omega (arith, x .1, inside at-start, at-then1 .if1 .taken) in
     let y = cell-at (at-start .args .cells .now) (at-start .args .k .n) (at-then1 .if1 .taken) h (x .2) in
-    bound-stepped refl
+    bound-stepped (p .0 .lists .most) refl
     (λ row goal w.
     let f = second-bind w (p .0 .more) (p .2) (p .3) (p .4) y in
     (f .0, record { after = f .2; goal-short = w .goal-short; row-short = omega (arith, w .row-short, x .0) })) (at-bind-cell .bind-cell .ensures)
@@ -90,7 +90,7 @@ bind-requires : tie.Need-bind-requires
 bind-requires c κs =
     let p = c .before .before .before .before .before .before .before .before .before .before .before .pre in
     let x = found (c .before .before .before .before .before) in
-    record { lent = p .0 .lent; sound = goal-sound (p .0 .sound) (p .1) (x .0) (x .1); begun = x .0; ended = omega (arith, x .1, p .0 .sound .held) }
+    record { lists = p .0 .lists; sound = goal-sound (p .0 .sound) (p .1) (x .0) (x .1); begun = x .0; ended = omega (arith, x .1, p .0 .sound .held) }
 
 enum-told : tie.Need-enum-told
 enum-told c = search needs
@@ -108,7 +108,7 @@ returns-2 c =
     let at-start = at-e .before .before .before .before .before .before in
     let p = at-start .pre in
     let x = found at-e in
-    bound-stepped refl
+    bound-stepped (p .0 .lists .most) refl
     (λ row goal w.
     let f = second-bind w (p .0 .more) (p .2) (p .3) (p .4) (x .2) in
     (f .0, record { after = f .2; goal-short = w .goal-short; row-short = omega (arith, w .row-short, x .0) })) (at-bind .bind .ensures)
@@ -119,7 +119,7 @@ same-length-4 c = search needs
 returns-3 : tie.Need-returns-3
 returns-3 c =
     let p = c .before .before .before .before .before .before .pre .0 in
-    stepped-over (λ row goal w. absurd (term-there (row-term w (p .more) .0) (c .before .before .term-end .ensures) (c .enum-told .given .1)))
+    stepped-over (λ y row goal w. absurd (term-there (row-term w (p .more) .0) (c .before .before .term-end .ensures) (c .enum-told .given .1)))
 
 pub bind-goal-spec : {M : Type 1} → statement M
 bind-goal-spec =

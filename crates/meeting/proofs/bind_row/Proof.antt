@@ -16,7 +16,7 @@ use Rattle.meeting.proofs.bind_row.Tie as tie
 
 -- the goal so far is in the list
 inside : (c : tie.Start) → c .args .k .len ≤ length (c .args .cells .now)
-inside c = let s = c .pre .0 .sound in omega (arith, s .apart, s .started, s .held, c .pre .0 .lent .long)
+inside c = let s = c .pre .0 .sound in omega (arith, s .apart, s .started, s .held)
 
 -- the term that the variable meets
 module _ (c : tie.After-e) where
@@ -66,7 +66,7 @@ bind-cell-requires : tie.Need-bind-cell-requires
 bind-cell-requires c κs =
     let at-e = c .before .before .before .before .before in
     let at-start = at-e .before .before .before .before .before .before in
-    let p = at-start .pre .0 in (p .lent .long, row-sound (p .sound) (p .more) (found at-e .1))
+    let p = at-start .pre .0 in row-sound (p .sound) (p .more) (found at-e .1)
 
 same-length : tie.Need-same-length
 same-length c = search needs
@@ -81,7 +81,7 @@ returns c =
     let x = found at-e in
     let h : at-start .args .k .at < length (at-start .args .cells .now) = omega (arith, x .1, inside at-start, at-then1 .if1 .taken) in
     let y = cell-at (at-start .args .cells .now) (at-start .args .k .len) (at-then1 .if1 .taken) h (x .2) in
-    bound-stepped refl
+    bound-stepped (p .0 .lists .most) refl
     (λ row goal w.
     let f = first-bind w (p .0 .more) (p .1) (p .2) (p .3) y in
     (f .0, record { after = f .2; goal-short = w .goal-short; row-short = omega (arith, w .row-short) })) (at-bind-cell .bind-cell .ensures)
@@ -91,7 +91,7 @@ bind-requires c κs =
     let p = c .before .before .before .before .before .before .before .before .before .before .before .pre .0 in
     let x = found (c .before .before .before .before .before) in
     record {
-      lent = p .lent;
+      lists = p .lists;
       sound = row-sound (p .sound) (p .more) (x .1);
       begun = x .0;
       ended = omega (arith, x .1, p .sound .apart, p .sound .started, p .sound .held);
@@ -113,7 +113,7 @@ returns-2 c =
     let at-start = at-e .before .before .before .before .before .before in
     let p = at-start .pre in
     let x = found at-e in
-    bound-stepped refl
+    bound-stepped (p .0 .lists .most) refl
     (λ row goal w.
     let f = first-bind w (p .0 .more) (p .1) (p .2) (p .3) (x .2) in
     (f .0, record { after = f .2; goal-short = w .goal-short; row-short = omega (arith, w .row-short) })) (at-bind .bind .ensures)
@@ -124,7 +124,7 @@ same-length-4 c = search needs
 returns-3 : tie.Need-returns-3
 returns-3 c =
     let p = c .before .before .before .before .before .before .pre .0 in
-    stepped-over (λ row goal w. absurd (term-there (goal-term w (p .more) .0) (c .before .before .term-end .ensures) (c .enum-told .given .1)))
+    stepped-over (λ y row goal w. absurd (term-there (goal-term w (p .more) .0) (c .before .before .term-end .ensures) (c .enum-told .given .1)))
 
 pub bind-row-spec : {M : Type 1} → statement M
 bind-row-spec =

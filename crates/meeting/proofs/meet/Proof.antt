@@ -1,19 +1,19 @@
 -- `meet` meets its contract: the loop over the steps.
 use Prim.Native.Nat.{ℕ, _≤_}
-use mathlib.Core.Path.{_≡_, refl, _∙_}
+use mathlib.Core.Path.{_≡_, refl, sym, _∙_}
 use mathlib.Core.List.{List}
 use native.Mathlib.Omega.{arith}
 use lib.ListN.{length}
 use Rattle.instance.proofs.MeetSteps.{met}
 use Rattle.meeting.specs.code.Turns.{MeetingAt, Sound, atStart, toDo, finished-over}
-use Rattle.meeting.proofs.TurnLaws.{step-fits, step-over, finished-at}
+use Rattle.meeting.proofs.TurnLaws.{sound-by, step-fits, step-over, finished-at}
 use borrow.Author.Needs.{needs}
 use Rattle.meeting.proofs.meet.Statement.{statement}
 use Rattle.meeting.proofs.meet.Tie as tie
 
 abbrev Inv-loop : tie.InvT-loop
 Inv-loop cells₀ other₀ len n k₀ cells other k =
-    (length cells ≡ length cells₀) × (length other ≡ length other₀) × Sound k × (k .turns ≤ 64)
+    (length cells ≡ length cells₀) × (length other ≡ length other₀) × Sound (length cells₀) k × (k .turns ≤ 64)
     × ((row goal : List ℕ) → MeetingAt row goal cells₀ (atStart len n) → MeetingAt row goal cells k)
 
 abbrev μ-loop : tie.MeasureT-loop
@@ -25,8 +25,12 @@ loop-holds c = (refl, refl, c .before .before .pre .sound, omega arith, λ row g
 step-requires : tie.Need-step-requires Inv-loop μ-loop
 step-requires c κs =
     let l = c .before .before .before .before .loop .inv in
-    let p = c .before .before .before .before .before .before .before .pre .lent in
-    record { lent = record { long = l .0 ∙ p .long; other-long = l .1 ∙ p .other-long }; sound = l .2; more = c .before .before .if1 .taken }
+    let p = c .before .before .before .before .before .before .before .pre .lists in
+    record {
+      lists = record { most = omega (arith, l .0, p .most); beside = omega (arith, l .0, l .1, p .beside) };
+      sound = sound-by (sym (l .0)) (l .2);
+      more = c .before .before .if1 .taken;
+    }
 
 enum-known-s : tie.Need-enum-known-s Inv-loop μ-loop
 enum-known-s c = search needs
@@ -39,7 +43,7 @@ loop-again c =
     let l = c .before .before .before .before .before .before .before .before .before .before .before .before .loop .inv in
     let e = c .before .before .before .before .before .before .before .step in
     let w = step-fits (c .before .s .given .1) (e .ensures) in
-    (e .kept .0 ∙ l .0, e .kept .1 .0 ∙ l .1, w .sound, omega (arith, w .turn, l .3), λ row goal v. w .meeting row goal (l .4 row goal v))
+    (e .kept .0 ∙ l .0, e .kept .1 .0 ∙ l .1, sound-by (l .0) (w .sound), omega (arith, w .turn, l .3), λ row goal v. w .meeting row goal (l .4 row goal v))
 
 enum-told : tie.Need-enum-told Inv-loop μ-loop
 enum-told c = search needs
@@ -61,7 +65,7 @@ returns c =
     let at-step = c .before .before .before .before .before .before in
     let at-loop = at-step .before .before .before .before .before in
     let o = step-over (c .enum-told .given .1) (at-step .step .ensures) in
-    finished-over (λ row goal v. o row goal (at-loop .loop .inv .4 row goal v))
+    finished-over (λ y row goal v. o (at-loop .loop .inv .0 ∙ y) row goal (at-loop .loop .inv .4 row goal v))
 
 same-length-3 : tie.Need-same-length-3 Inv-loop μ-loop
 same-length-3 c = c .before .before .loop .inv .0

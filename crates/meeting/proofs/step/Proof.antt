@@ -13,7 +13,7 @@ use Rattle.meeting.proofs.step.Tie as tie
 returns : tie.Need-returns
 returns c =
     let s = c .before .before .before .before .pre in
-    stepped-over (λ row goal w. absurd (let z : ⊥ = omega (arith, goal-left w (s .more), c .if1 .taken) in z))
+    stepped-over (λ y row goal w. absurd (let z : ⊥ = omega (arith, goal-left w (s .more), c .if1 .taken) in z))
 
 mul-c : tie.Need-mul-c
 mul-c c = search needs

@@ -1,183 +1,96 @@
--- `pass::pass` meets its contract: the hits one after another.
-use Prim.Native.Nat.{ℕ, _-_, _*_, _≤_, _<_}
-use mathlib.Core.Path.{_≡_, refl, sym, _∙_}
-use mathlib.Core.List.{List}
+-- `pass::pass` meets its contract: in short lists, and from where these are too short on in long ones.
 use native.Mathlib.Omega.{arith}
-use lib.ListN.{length}
-use lib.Seq.{length-take-le}
-use Rattle.octets.proofs.PutLaws.{put-length}
-use Rattle.meeting.specs.Ended.{Lent}
-use Rattle.instance.specs.code.Passes.{Pass}
-use Rattle.instance.proofs.PassLaws.{pass-start, pass-next, pass-large, pass-end}
-use Rattle.replies.specs.code.Sums.{Passing, passed, passed-over}
-use Rattle.replies.proofs.PassedLaws.{within-by, hit-met, hit-over}
+use Rattle.instance.proofs.PassLaws.{pass-end}
+use Rattle.replies.specs.code.Sums.{passed, passed-over}
+use Rattle.replies.proofs.PassedLaws.{rest-large, rest-passed}
 use borrow.Author.Needs.{needs}
 use Rattle.replies.proofs.pass.pass.Statement.{statement}
 use Rattle.replies.proofs.pass.pass.Tie as tie
 
-abbrev Inv-loop : tie.InvT-loop
-Inv-loop table starts rows goal hits cells₀ other₀ room₀ sum₀ on₀ i₀ cells other room sum on i =
-    (i ≤ length hits) × (length hits ≤ 64) × (length cells ≡ 2048) × (length other ≡ 2049) × (length room ≡ length room₀)
-    × (sum ≤ i * 2048)
-    × ((all : List (List ℕ)) → Passing table starts rows goal hits all → Pass table goal hits i all room₀ room on sum)
+-- where the pass in short lists has stopped
+abbrev stopped : tie.After-pass-long → tie.After-pass-short
+stopped c = c .before .before .before .before .before .before
 
-abbrev μ-loop : tie.MeasureT-loop
-μ-loop table starts rows goal hits cells₀ other₀ room₀ sum₀ on₀ i₀ cells other room sum on i = length hits - i
+pass-short-requires : tie.Need-pass-short-requires
+pass-short-requires c κs = search needs
 
--- where a hit is made: where the loop stood before it, and what is lent
-module _ (c : tie.After-common Inv-loop μ-loop) where
-  abbrev start : tie.Start Inv-loop μ-loop
-  start = c .before .before .before .before .before .before .before .before .before .before .before .before .before .before .before
+same-length : tie.Need-same-length
+same-length c = search needs
 
-  abbrev stood : tie.At-loop Inv-loop μ-loop
-  stood = c .before .before .before .before .before .before .before
+returns : tie.Need-returns
+returns c =
+    let at-pass-short = c .before .before .before in
+    let u = at-pass-short .pass-short .ensures in λ all a. passed (pass-end (u .pass all a) (omega (arith, c .if1 .taken)))
 
-  abbrev looked : tie.After-row-at Inv-loop μ-loop
-  looked = c .before .before .before .before
+sub-pass-long : tie.Need-sub-pass-long
+sub-pass-long c = search needs
 
-  abbrev cut : tie.After-part Inv-loop μ-loop
-  cut = c .before .before .before
+part-pass-long-start : tie.Need-part-pass-long-start
+part-pass-long-start c = search needs
 
-  lent : Lent (stood .loop .cells) (stood .loop .other)
-  lent = record { long = stood .loop .inv .2; other-long = stood .loop .inv .3 }
+part-pass-long-end : tie.Need-part-pass-long-end
+part-pass-long-end c = search needs
 
-  inside : stood .loop .i < length (start .args .hits .now)
-  inside = omega arith
+mul-pass-long : tie.Need-mul-pass-long
+mul-pass-long c = search needs
 
-returns : tie.Need-returns Inv-loop μ-loop
-returns c = λ all a. absurd (let z : ⊥ = omega (arith, a .few, c .if1 .taken) in z)
+sub-pass-long-2 : tie.Need-sub-pass-long-2
+sub-pass-long-2 c = search needs
 
-loop-holds : tie.Need-loop-holds Inv-loop μ-loop
-loop-holds c =
-    let at-start = c .before .before .before .before .before .before .before in
-    let p = at-start .pre in (omega arith, omega (arith, c .if1 .left), p .0, p .1, refl, omega arith, λ all a. pass-start (a .at))
+part-pass-long-start-2 : tie.Need-part-pass-long-start-2
+part-pass-long-start-2 c = search needs
 
-shared-slice-read-row-at : tie.Need-shared-slice-read-row-at Inv-loop μ-loop
-shared-slice-read-row-at c = search needs
+part-pass-long-end-2 : tie.Need-part-pass-long-end-2
+part-pass-long-end-2 c = search needs
 
-row-at-requires : tie.Need-row-at-requires Inv-loop μ-loop
-row-at-requires c κs = search needs
+pass-long-requires : tie.Need-pass-long-requires
+pass-long-requires c κs = search needs
 
-part-requires : tie.Need-part-requires Inv-loop μ-loop
-part-requires c κs = search needs
+sub-if2 : tie.Need-sub-if2
+sub-if2 c = search needs
 
-common-requires : tie.Need-common-requires Inv-loop μ-loop
-common-requires c κs = search needs
+same-length-2 : tie.Need-same-length-2
+same-length-2 c = search needs
 
-enum-known-n : tie.Need-enum-known-n Inv-loop μ-loop
-enum-known-n c = search needs
-
-slice-reshare-prefix-put-numbered : tie.Need-slice-reshare-prefix-put-numbered Inv-loop μ-loop
-slice-reshare-prefix-put-numbered c =
-    let at-n = c .before .before in
-    let at-common = at-n .before .before .before .before .before .before in
-    within-by (at-n .n .given .1) (at-common .common .ensures)
-
-slice-aggregate-put-numbered : tie.Need-slice-aggregate-put-numbered Inv-loop μ-loop
-slice-aggregate-put-numbered c =
-    let at-n = c .before .before .before in
-    let at-common = at-n .before .before .before .before .before .before in
-    sym (length-take-le _ _ (within-by (at-n .n .given .1) (at-common .common .ensures)))
-
-put-numbered-requires : tie.Need-put-numbered-requires Inv-loop μ-loop
-put-numbered-requires c κs = search needs
-
-add-sum : tie.Need-add-sum Inv-loop μ-loop
-add-sum c =
-    let at-n = c .before .before .before .before .before .before in
-    let at-common = at-n .before .before .before .before .before .before in
-    let o = at-common in
-    let l = stood o .loop .inv in
-    omega (arith, l .0, l .1, l .5, within-by (at-n .n .given .1) (o .common .ensures), o .common .kept .1 .1 .0, l .2)
-
-add-i : tie.Need-add-i Inv-loop μ-loop
-add-i c =
-    let at-common = c .before .before .before .before .before .before .before .before .before .before .before .before in
-    let l = stood at-common .loop .inv in omega (arith, l .0, l .1)
-
-loop-less : tie.Need-loop-less Inv-loop μ-loop
-loop-less c = search needs
-
-loop-again : tie.Need-loop-again Inv-loop μ-loop
-loop-again c =
-    let o = c .before .before .before .before .before .before .before .before .before .before .before .before in
-    let l = stood o .loop .inv in
-    let q = c .before .before .put-numbered .ensures in
-    let g = c .before .before .before .before .before .before .n .given .1 in
-    let m = within-by g (o .common .ensures) in
-    let e = o .common .kept .1 .1 .0 ∙ l .2 in (
-      omega arith,
-      l .1,
-      e,
-      o .common .kept .1 .1 .1 .0 ∙ l .3,
-      put-length q ∙ l .4,
-      omega (arith, l .5, m, e),
-      λ all a.
-          pass-next (l .6 all a) (inside o)
-          (hit-met a (l .6 all a) (inside o) (looked o .row-at .ensures) (cut o .part .ensures) (o .common .ensures) (lent o) g) q,
-    )
-
-enum-told : tie.Need-enum-told Inv-loop μ-loop
-enum-told c = search needs
-
-same-length : tie.Need-same-length Inv-loop μ-loop
-same-length c =
-    let at-common = c .before .before .before .before .before .before in
-    let o = at-common in o .common .kept .1 .1 .0 ∙ stood o .loop .inv .2 ∙ sym (start o .pre .0)
-
-same-length-2 : tie.Need-same-length-2 Inv-loop μ-loop
-same-length-2 c =
-    let at-common = c .before .before .before .before .before .before in
-    let o = at-common in o .common .kept .1 .1 .1 .0 ∙ stood o .loop .inv .3 ∙ sym (start o .pre .1)
-
-same-length-3 : tie.Need-same-length-3 Inv-loop μ-loop
-same-length-3 c = stood (c .before .before .before .before .before .before) .loop .inv .4
-
-returns-2 : tie.Need-returns-2 Inv-loop μ-loop
+returns-2 : tie.Need-returns-2
 returns-2 c =
-    let o = c .before .before .before .before .before .before in
-    let l = stood o .loop .inv in
-    λ all a. passed-over (pass-large (l .6 all a) (inside o)
-    (hit-over a (l .6 all a) (inside o) (looked o .row-at .ensures) (cut o .part .ensures) (o .common .ensures) (lent o) (c .enum-told .given .1)))
+    let at-pass-long = c .before .before .before .before in
+    let u = stopped at-pass-long .pass-short .ensures in
+    λ all a. passed-over (rest-large a (u .pass all a) (at-pass-long .pass-long .result) (at-pass-long .pass-long .ensures .1) (c .if2 .taken))
 
-same-length-4 : tie.Need-same-length-4 Inv-loop μ-loop
-same-length-4 c = c .before .loop .inv .2 ∙ sym (c .before .before .before .before .before .before .before .before .before .pre .0)
+add-t18 : tie.Need-add-t18
+add-t18 c = search needs
 
-same-length-5 : tie.Need-same-length-5 Inv-loop μ-loop
-same-length-5 c = c .before .loop .inv .3 ∙ sym (c .before .before .before .before .before .before .before .before .before .pre .1)
+same-length-3 : tie.Need-same-length-3
+same-length-3 c = search needs
 
-same-length-6 : tie.Need-same-length-6 Inv-loop μ-loop
-same-length-6 c = c .before .loop .inv .4
-
-returns-3 : tie.Need-returns-3 Inv-loop μ-loop
-returns-3 c = let l = c .before .loop in λ all a. passed (pass-end (l .inv .6 all a) (omega arith))
+returns-3 : tie.Need-returns-3
+returns-3 c =
+    let at-else2 = c .before .before in
+    let at-pass-long = at-else2 .before .before .before .before in
+    let k = stopped at-pass-long .pass-short in
+    let u = k .ensures in
+    λ all a.
+    passed (rest-passed a (u .pass all a) (omega (arith, u .inside, k .kept)) (at-pass-long .pass-long .ensures .0) (omega (arith, at-else2 .if2 .left)))
 
 pub pass-spec : {M : Type 1} → statement M
 pass-spec =
     tie.close
     (tie.spec
-    Inv-loop
-    μ-loop
-    returns
-    loop-holds
-    shared-slice-read-row-at
-    row-at-requires
-    part-requires
-    common-requires
-    enum-known-n
-    slice-reshare-prefix-put-numbered
-    slice-aggregate-put-numbered
-    put-numbered-requires
-    add-sum
-    add-i
-    loop-less
-    loop-again
-    enum-told
+    pass-short-requires
     same-length
+    returns
+    sub-pass-long
+    part-pass-long-start
+    part-pass-long-end
+    mul-pass-long
+    sub-pass-long-2
+    part-pass-long-start-2
+    part-pass-long-end-2
+    pass-long-requires
+    sub-if2
     same-length-2
-    same-length-3
     returns-2
-    same-length-4
-    same-length-5
-    same-length-6
+    add-t18
+    same-length-3
     returns-3)

@@ -8,10 +8,10 @@ use Rattle.asking.specs.Saying.{wordsOf, termsText}
 use Rattle.saying.specs.code.Levels.{levels}
 use Rattle.saying.proofs.LevelLaws.{terms-next, terms-done, terms-over, terms-are}
 use borrow.Author.Needs.{needs}
-use Rattle.saying.proofs.put_terms.Statement.{statement}
-use Rattle.saying.proofs.put_terms.Tie as tie
-use Rattle.saying.proofs.put_terms.Reads as reads
-use Rattle.saying.proofs.put_terms.Lts as lts
+use Rattle.saying.proofs.put_counted.Statement.{statement}
+use Rattle.saying.proofs.put_counted.Tie as tie
+use Rattle.saying.proofs.put_counted.Reads as reads
+use Rattle.saying.proofs.put_counted.Lts as lts
 use Rattle.cell.proofs.arity_of.Reads as arity-of-reads
 use Rattle.saying.proofs.put_mark.Reads as put-mark-reads
 use Rattle.saying.proofs.put_symbol.Reads as put-symbol-reads
@@ -21,60 +21,48 @@ abbrev rest : (text names goal new owed : List ℕ) (depth i : ℕ) (cells : Lis
 rest text names goal new owed depth i cells = termsText (wordsOf text names goal new) (levels owed depth) (drop i cells)
 
 abbrev Inv-loop : tie.InvT-loop
-Inv-loop out₀ to text names goal new width cells owed₀ on₀ depth₀ i₀ out owed on depth i =
-    (i ≤ length cells) × (depth ≤ i + 1) × (length owed ≡ 1025)
+Inv-loop out₀ to text names goal new owed₀ cells on₀ depth₀ i₀ out owed on depth i =
+    (i ≤ length cells) × (depth ≤ i + 1) × (length owed ≡ length owed₀)
     × Putting out₀ out on₀ on (rest text names goal new owed depth i cells) (rest text names goal new owed₀ depth₀ 0 cells)
 
 abbrev μ-loop : tie.MeasureT-loop
-μ-loop out₀ to text names goal new width cells owed₀ on₀ depth₀ i₀ out owed on depth i = length cells - i
+μ-loop out₀ to text names goal new owed₀ cells on₀ depth₀ i₀ out owed on depth i = length cells - i
 
--- src/lib.rt:130:9
 returns : tie.Need-returns Inv-loop μ-loop
 returns c =
     let a = c .before .before .before .before .before .before .before .args in
     rw (terms-over (wordsOf (a .text .now) (a .names .now) (a .goal .now) (a .new .now)) (a .width) (a .cells .now) (omega arith)) put-nothing
 
--- src/lib.rt:133:5
 array-write-owed : tie.Need-array-write-owed Inv-loop μ-loop
 array-write-owed c = search needs
 
--- src/lib.rt:137:5
 loop-holds : tie.Need-loop-holds Inv-loop μ-loop
 loop-holds c = (omega arith, omega arith, search needs, put-begins)
 
--- src/lib.rt:138:17
 mul-c : tie.Need-mul-c Inv-loop μ-loop
 mul-c c = search needs
 
--- src/lib.rt:138:17
 shared-slice-read-c : tie.Need-shared-slice-read-c Inv-loop μ-loop
 shared-slice-read-c c = search needs
 
--- src/lib.rt:139:9
 put-symbol-requires : tie.Need-put-symbol-requires Inv-loop μ-loop
 put-symbol-requires c κs = search needs
 
--- src/lib.rt:140:38
 slice-aggregate-put-mark : tie.Need-slice-aggregate-put-mark Inv-loop μ-loop
 slice-aggregate-put-mark c = search needs
 
--- src/lib.rt:140:56
 arity-of-requires : tie.Need-arity-of-requires Inv-loop μ-loop
 arity-of-requires c κs = search needs
 
--- src/lib.rt:140:13
 put-mark-requires : tie.Need-put-mark-requires Inv-loop μ-loop
 put-mark-requires c κs = search needs
 
--- src/lib.rt:143:9
 add-i : tie.Need-add-i Inv-loop μ-loop
 add-i c = search needs
 
--- src/lib.rt:137:5
 loop-less : tie.Need-loop-less Inv-loop μ-loop
 loop-less c = search needs
 
--- src/lib.rt:137:5
 loop-again : tie.Need-loop-again Inv-loop μ-loop
 loop-again c =
     let m = c .before .before .before in
@@ -89,11 +77,9 @@ loop-again c =
     let here = put-part (rw next at (l .inv .3)) (s .put-symbol .ensures) in
     (omega arith, omega (arith, k .few), search needs, rw (k .still, arity) (put-part here (rw arity at (k .puts))))
 
--- src/lib.rt:116:1
 same-length : tie.Need-same-length Inv-loop μ-loop
 same-length c = put-length (c .before .loop .inv .3 .puts)
 
--- src/lib.rt:116:1
 returns-2 : tie.Need-returns-2 Inv-loop μ-loop
 returns-2 c =
     let a = c .before .before .before .before .before .before .before .before .before .args in
@@ -102,8 +88,8 @@ returns-2 c =
     rw (terms-are words (a .width) (a .cells .now) (omega arith))
     (put-ends (rw (terms-done words (levels (l .owed) (l .depth)) (a .cells .now) (l .i) (omega arith)) at (l .inv .3)))
 
-pub put-terms-spec : {M : Type 1} → statement M
-put-terms-spec =
+pub put-counted-spec : {M : Type 1} → statement M
+put-counted-spec =
     tie.close
     (tie.spec
     Inv-loop
