@@ -124,7 +124,7 @@ fn put_counted(
     owed: &mut [usize],
     cells: &[u32],
 ) -> usize
-    requires { ⌜ length (now cells) < length (now owed) ⌝ }
+    requires { ⌜ (length (now cells) < length (now owed)) × (length (now cells) ≤ 1024) ⌝ }
     ensures { λ r. ⌜ Put (now (out .entry)) (now (out .exit)) to
         (termsText (wordsOf (now (text .entry)) (now (names .entry)) (now (goal .entry)) (now (new .entry))) (levels (now (owed .entry)) 1)
         (now (cells .entry))) r ⌝ }

@@ -1,20 +1,16 @@
+-- `put_counted` meets its contract: cell by cell, what is put so far and what is left are the whole.
 use Prim.Native.Nat.{ℕ, _+_, _-_, _≤_}
-use mathlib.Core.Path.{_≡_}
+use mathlib.Core.Path.{_≡_, refl}
 use mathlib.Core.List.{List}
 use native.Mathlib.Omega.{arith}
 use lib.ListN.{length, drop}
-use Rattle.octets.proofs.PutLaws.{Putting, put-begins, put-part, put-ends, put-length, put-nothing}
+use Rattle.octets.proofs.PutLaws.{Putting, put-begins, put-part, put-ends, put-length}
 use Rattle.asking.specs.Saying.{wordsOf, termsText}
 use Rattle.saying.specs.code.Levels.{levels}
-use Rattle.saying.proofs.LevelLaws.{terms-next, terms-done, terms-over, terms-are}
+use Rattle.saying.proofs.LevelLaws.{terms-next, terms-done}
 use borrow.Author.Needs.{needs}
 use Rattle.saying.proofs.put_counted.Statement.{statement}
 use Rattle.saying.proofs.put_counted.Tie as tie
-use Rattle.saying.proofs.put_counted.Reads as reads
-use Rattle.saying.proofs.put_counted.Lts as lts
-use Rattle.cell.proofs.arity_of.Reads as arity-of-reads
-use Rattle.saying.proofs.put_mark.Reads as put-mark-reads
-use Rattle.saying.proofs.put_symbol.Reads as put-symbol-reads
 
 -- the text of the cells from one on
 abbrev rest : (text names goal new owed : List ℕ) (depth i : ℕ) (cells : List ℕ) → List ℕ
@@ -28,16 +24,8 @@ Inv-loop out₀ to text names goal new owed₀ cells on₀ depth₀ i₀ out owe
 abbrev μ-loop : tie.MeasureT-loop
 μ-loop out₀ to text names goal new owed₀ cells on₀ depth₀ i₀ out owed on depth i = length cells - i
 
-returns : tie.Need-returns Inv-loop μ-loop
-returns c =
-    let a = c .before .before .before .before .before .before .before .args in
-    rw (terms-over (wordsOf (a .text .now) (a .names .now) (a .goal .now) (a .new .now)) (a .width) (a .cells .now) (omega arith)) put-nothing
-
-array-write-owed : tie.Need-array-write-owed Inv-loop μ-loop
-array-write-owed c = search needs
-
 loop-holds : tie.Need-loop-holds Inv-loop μ-loop
-loop-holds c = (omega arith, omega arith, search needs, put-begins)
+loop-holds c = (omega arith, omega arith, refl, put-begins)
 
 mul-c : tie.Need-mul-c Inv-loop μ-loop
 mul-c c = search needs
@@ -47,9 +35,6 @@ shared-slice-read-c c = search needs
 
 put-symbol-requires : tie.Need-put-symbol-requires Inv-loop μ-loop
 put-symbol-requires c κs = search needs
-
-slice-aggregate-put-mark : tie.Need-slice-aggregate-put-mark Inv-loop μ-loop
-slice-aggregate-put-mark c = search needs
 
 arity-of-requires : tie.Need-arity-of-requires Inv-loop μ-loop
 arity-of-requires c κs = search needs
@@ -65,7 +50,7 @@ loop-less c = search needs
 
 loop-again : tie.Need-loop-again Inv-loop μ-loop
 loop-again c =
-    let m = c .before .before .before in
+    let m = c .before .before .before .before in
     let s = m .before .before .before .before .before .before in
     let q = s .before .before .before .before in
     let l = q .loop in
@@ -75,18 +60,20 @@ loop-again c =
     let arity = m .before .arity-of .ensures in
     let next = terms-next words (levels (l .owed) (l .depth)) (a .cells .now) (l .i) (omega arith) in
     let here = put-part (rw next at (l .inv .3)) (s .put-symbol .ensures) in
-    (omega arith, omega (arith, k .few), search needs, rw (k .still, arity) (put-part here (rw arity at (k .puts))))
+    (omega arith, omega (arith, k .few), omega (arith, m .put-mark .kept, l .inv .2), rw (k .still, arity) (put-part here (rw arity at (k .puts))))
 
 same-length : tie.Need-same-length Inv-loop μ-loop
 same-length c = put-length (c .before .loop .inv .3 .puts)
 
-returns-2 : tie.Need-returns-2 Inv-loop μ-loop
-returns-2 c =
+same-length-2 : tie.Need-same-length-2 Inv-loop μ-loop
+same-length-2 c = c .before .loop .inv .2
+
+returns : tie.Need-returns Inv-loop μ-loop
+returns c =
     let a = c .before .before .before .before .before .before .before .before .before .args in
     let l = c .before .loop in
     let words = wordsOf (a .text .now) (a .names .now) (a .goal .now) (a .new .now) in
-    rw (terms-are words (a .width) (a .cells .now) (omega arith))
-    (put-ends (rw (terms-done words (levels (l .owed) (l .depth)) (a .cells .now) (l .i) (omega arith)) at (l .inv .3)))
+    put-ends (rw (terms-done words (levels (l .owed) (l .depth)) (a .cells .now) (l .i) (omega arith)) at (l .inv .3))
 
 pub put-counted-spec : {M : Type 1} → statement M
 put-counted-spec =
@@ -94,17 +81,15 @@ put-counted-spec =
     (tie.spec
     Inv-loop
     μ-loop
-    returns
-    array-write-owed
     loop-holds
     mul-c
     shared-slice-read-c
     put-symbol-requires
-    slice-aggregate-put-mark
     arity-of-requires
     put-mark-requires
     add-i
     loop-less
     loop-again
     same-length
-    returns-2)
+    same-length-2
+    returns)

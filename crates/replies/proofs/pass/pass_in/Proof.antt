@@ -140,8 +140,7 @@ same-length-3 c = stood (c .before .before .before .before .before .before) .loo
 returns-2 : tie.Need-returns-2 Inv-loop μ-loop
 returns-2 c =
     let o = c .before .before .before .before .before .before in
-    let l = stood o .loop .inv in
-    (
+    let l = stood o .loop .inv in (
       record { within = l .0; inside = omega (arith, l .4, l .6); small = omega (arith, l .0, l .1, l .5); pass = l .7 },
       λ k all a h.
           pass-large (l .7 all a) (inside o)
