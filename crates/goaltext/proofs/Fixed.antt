@@ -24,13 +24,13 @@ predicate-of-fixed {t} (first x) (none y) = absurd (let e = taken-fixed t x y in
 predicate-of-fixed {t} (none x) (first y) = absurd (let e = taken-fixed t x y in let z : _≡_ {A = ℕ} 0 1 = cc in omega arith)
 predicate-of-fixed (none x) (none y) = refl
 
-told-text : (a b : GoalText) → textTold a ≡ textTold b → a ≡ b
+pub told-text : (a b : GoalText) → textTold a ≡ textTold b → a ≡ b
 told-text (goal-text.Read c n) (goal-text.Read d m) e = cc
 told-text (goal-text.Read c n) (goal-text.Refused g) e = absurd (let z : _≡_ {A = ℕ} 0 1 = cc in omega arith)
 told-text (goal-text.Refused f) (goal-text.Read d m) e = absurd (let z : _≡_ {A = ℕ} 0 1 = cc in omega arith)
 told-text (goal-text.Refused f) (goal-text.Refused g) e = let q : told f ≡ told g = cc in ap goal-text.Refused (told-one q)
 
-asked-one : {text names : List ℕ} {p : Predicate} {goal : List ℕ} {a b : Read Goal} → Asked text names p goal a
+pub asked-one : {text names : List ℕ} {p : Predicate} {goal : List ℕ} {a b : Read Goal} → Asked text names p goal a
     → Asked text names p goal b → a ≡ b
 asked-one (too-many h) (too-many k) = refl
 asked-one (too-many h) (asked k y) = absurd (omega arith)

@@ -1,2 +1,3 @@
 pub mod WordLaws
 pub mod LevelLaws
+pub mod BytesLaws
