@@ -17,9 +17,16 @@ use Rattle.answer.specs.Run.{runTold}
 use Rattle.answer.specs.declared.RunAnswer.{RunAnswer}
 use Rattle.answer.proofs.Fixed.{run-fixed}
 use Rattle.loading.proofs.Fixed.{text-fixed}
+use Rattle.goaltext.specs.Asked.{textTold}
+use Rattle.goaltext.specs.declared.GoalText.{GoalText}
+use Rattle.goalroom.proofs.Fixed.{goal-into-fixed}
+use Rattle.answerroom.specs.Room.{answerTold}
+use Rattle.answerroom.specs.declared.AnswerText.{AnswerText}
+use Rattle.answerroom.proofs.Fixed.{answer-into-fixed}
 use Rattle.refusal.specs.Refusal.{Answer}
 use Rattle.refusal.specs.Coded.{coded}
 use Rattle.exports.specs.Coded.{WorkCoded, EditCoded, BuildCoded, RunCoded, TextCoded, JobsCoded, RepliesCoded, ClausesCoded}
+use Rattle.exports.specs.Coded.{GoalTextCoded, AnswerCoded}
 use Rattle.exports.specs.Coded.{ReplyJobsCoded, cut, FileWriteCoded, FileReadCoded, salvageSays, reportAfter, SalvageCoded, BuildForCoded, LikedCoded}
 use Rattle.answer.specs.declared.Job.{Job}
 use Rattle.answer.proofs.JobsLaws.{jobs-fixed}
@@ -75,6 +82,18 @@ pub text-coded-fixed : {t cells names cells′ names′ cells″ names″ : List
 text-coded-fixed a b =
     let f = text-fixed (a .loaded) (b .loaded) in
     (a .code ∙ ap coded (f .0) ∙ sym (b .code), f .1, f .2)
+
+pub goal-text-coded-fixed : {t names goal cells new cells′ new′ cells″ new″ : List ℕ} {m n : ℕ} → GoalTextCoded t names goal cells cells′ new new′ m
+    → GoalTextCoded t names goal cells cells″ new new″ n → (m ≡ n) × (cells′ ≡ cells″) × (new′ ≡ new″)
+goal-text-coded-fixed a b =
+    let f = goal-into-fixed (a .into) (b .into) in
+    (a .code ∙ ap (λ (x : GoalText). coded (textTold x)) (f .0) ∙ sym (b .code), f .1, f .2)
+
+pub answer-coded-fixed : {t names goal new cells room room′ room″ : List ℕ} {m n : ℕ} → AnswerCoded t names goal new cells room room′ m
+    → AnswerCoded t names goal new cells room room″ n → (m ≡ n) × (room′ ≡ room″)
+answer-coded-fixed a b =
+    let f = answer-into-fixed (a .into) (b .into) in
+    (a .code ∙ ap (λ (x : AnswerText). coded (answerTold x)) (f .0) ∙ sym (b .code), f .1)
 
 pub jobs-coded-fixed : {t p cells : List ℕ} {jobs jobs′ jobs″ : List Job} {m n : ℕ} → JobsCoded t p cells jobs jobs′ m → JobsCoded t p cells jobs jobs″ n
     → (m ≡ n) × (jobs′ ≡ jobs″)

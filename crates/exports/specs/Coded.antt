@@ -17,6 +17,11 @@ use Rattle.liked.specs.Liked.{LikedInto}
 use Rattle.record.specs.Record.{cellsIn, Holds, tableIn}
 use Rattle.record.specs.Edits.{Edit, WorkedOut, Edited}
 use Rattle.loading.specs.Load.{TextLoads}
+use Rattle.goaltext.specs.declared.GoalText.{GoalText}
+use Rattle.goaltext.specs.Asked.{textTold}
+use Rattle.goalroom.specs.Rooms.{GoalInto}
+use Rattle.answerroom.specs.declared.AnswerText.{AnswerText}
+use Rattle.answerroom.specs.Room.{AnswerInto, answerTold}
 use Rattle.answer.specs.declared.RunAnswer.{RunAnswer}
 use Rattle.answer.specs.Run.{Ran, runTold}
 use Rattle.answer.specs.declared.Job.{Job}
@@ -82,6 +87,19 @@ pub record TextCoded (text cells names cells′ names′ : List ℕ) (number : �
   pub answer : Answer
   pub loaded : TextLoads text cells names cells′ names′ answer
   pub code : number ≡ coded answer
+
+-- what the entry for a goal's text answers and leaves in the two rooms
+pub record GoalTextCoded (text names goal cells cells′ new new′ : List ℕ) (number : ℕ) : Type 0 where
+  pub answer : GoalText
+  pub into : GoalInto text names goal cells cells′ new new′ answer
+  pub code : number ≡ coded (textTold answer)
+
+-- what the entry for an answer's text answers and leaves in the room. The bytes fit their bits, for a listed name has 16 bits for its own
+pub record AnswerCoded (text names goal new cells room room′ : List ℕ) (number : ℕ) : Type 0 where
+  pub answer : AnswerText
+  pub into : AnswerInto text names goal new cells room room′ answer
+  pub small : Small (answerTold answer)
+  pub code : number ≡ coded (answerTold answer)
 
 -- what the entry of a list of goals answers and leaves in the records
 pub record JobsCoded (cells plan lent : List ℕ) (jobs after : List Job) (number : ℕ) : Type 0 where

@@ -8,6 +8,8 @@ ghost use Rattle.checker.specs.Checked.{planTold};
 ghost use Rattle.builder.specs.Build.{buildTold};
 ghost use Rattle.answer.specs.Run.{runTold};
 ghost use Rattle.prolog.specs.Entry.{textTold};
+ghost use Rattle.goaltext.specs.Asked as goals;
+ghost use Rattle.answerroom.specs.Room.{answerTold};
 ghost use Rattle.instance.specs.Replied.{repliesTold};
 ghost use Rattle.clauses.specs.Handed.{handTold};
 ghost use Rattle.filing.specs.Answers.{fileTold};
@@ -15,10 +17,12 @@ ghost use Rattle.salvaging.specs.Salvage.{saved};
 ghost use Rattle.salvaging.specs.Answers.{reportTold, salvageTold};
 ghost use Rattle.exports.specs.Coded.{cut, salvageSays, reportAfter};
 use answer::RunAnswer;
+use answerroom::AnswerText;
 use builder::BuildAnswer;
 use checker::PlanAnswer;
 use clauses::HandAnswer;
 use filing::FileAnswer;
+use goaltext::GoalText;
 use instance::RepliesAnswer;
 use prolog::TextAnswer;
 use refusal::Refusal;
@@ -136,6 +140,26 @@ pub fn code_text(a: TextAnswer) -> u64
     match a {
         TextAnswer::Read(cells, names) => code_answer(cells, names),
         TextAnswer::Refused(f) => code_refusal(f),
+    }
+}
+
+pub fn code_goal_text(a: GoalText) -> u64
+    requires { ⌜ Small (goals.textTold a) ⌝ }
+    ensures { λ r. ⌜ r ≡ coded (goals.textTold a) ⌝ }
+{
+    match a {
+        GoalText::Read(cells, new) => code_answer(cells, new),
+        GoalText::Refused(f) => code_refusal(f),
+    }
+}
+
+pub fn code_answer_text(a: AnswerText) -> u64
+    requires { ⌜ Small (answerTold a) ⌝ }
+    ensures { λ r. ⌜ r ≡ coded (answerTold a) ⌝ }
+{
+    match a {
+        AnswerText::Said(cells, bytes) => code_answer(cells, bytes),
+        AnswerText::Refused(f) => code_refusal(f),
     }
 }
 

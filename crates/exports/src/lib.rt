@@ -9,6 +9,7 @@ ghost use Rattle.refusal.specs.Coded.{coded};
 ghost use Rattle.record.specs.Record.{tableIn};
 ghost use Rattle.record.specs.Edits.{append, drop-last, replace};
 ghost use Rattle.exports.specs.Coded.{rowSays, WorkCoded, EditCoded, BuildCoded, RunCoded, TextCoded, JobsCoded, RepliesCoded, ClausesCoded};
+ghost use Rattle.exports.specs.Coded.{GoalTextCoded, AnswerCoded};
 ghost use Rattle.exports.specs.Coded.{ReplyJobsCoded, FileWriteCoded, FileReadCoded, SalvageCoded, BuildForCoded, LikedCoded};
 
 mod code;
@@ -119,6 +120,39 @@ pub extern "C" fn dudowiej_read_text(text: &[u8], cells: &mut [u32], names: &mut
     ensures { λ r. ⌜ TextCoded (now (text .entry)) (now (cells .entry)) (now (names .entry)) (now (cells .exit)) (now (names .exit)) r ⌝ }
 {
     code::code_text(prolog::read_text(text, cells, names))
+}
+
+// A goal from its text, by the names of a text of facts and by its predicate: the number of its cells and of its names that the facts have not.
+// The cells are the first of one room, the list of these names is the first of the other.
+#[no_mangle]
+pub extern "C" fn dudowiej_read_goal_text(
+    text: &[u8],
+    names: &[u32],
+    goal: &[u8],
+    cells: &mut [u32],
+    new: &mut [u32],
+) -> u64
+    ensures { λ r. ⌜ GoalTextCoded (now (text .entry)) (now (names .entry)) (now (goal .entry)) (now (cells .entry)) (now (cells .exit))
+        (now (new .entry)) (now (new .exit)) r ⌝ }
+{
+    code::code_goal_text(goalroom::read_goal_text(text, names, goal, cells, new))
+}
+
+// A reply's cells as text, in the names of the facts and in the goal's own: how many cells are said, and in how many bytes; they are the room's
+// first bytes.
+#[no_mangle]
+pub extern "C" fn dudowiej_put_answer(
+    text: &[u8],
+    names: &[u32],
+    goal: &[u8],
+    new: &[u32],
+    cells: &[u32],
+    room: &mut [u8],
+) -> u64
+    ensures { λ r. ⌜ AnswerCoded (now (text .entry)) (now (names .entry)) (now (goal .entry)) (now (new .entry)) (now (cells .entry))
+        (now (room .entry)) (now (room .exit)) r ⌝ }
+{
+    code::code_answer_text(answerroom::put_answer(text, names, goal, new, cells, room))
 }
 
 // The plan's number of branches; each goal of the list is answered in its record.
