@@ -38,9 +38,9 @@ use Rattle.prolog.specs.Entry.{textTold}
 use Rattle.prolog.specs.declared.TextAnswer.{TextAnswer}
 use Rattle.prolog.proofs.Fixed.{read-text-fixed}
 use Rattle.exports.specs.Coded.{WorkCoded, EditCoded, BuildCoded, BuildForCoded, RunCoded, TextCoded, JobsCoded, RepliesCoded, ClausesCoded}
-use Rattle.exports.specs.Coded.{ReplyJobsCoded, FileWriteCoded, FileReadCoded, SalvageCoded, LikedCoded}
+use Rattle.exports.specs.Coded.{GoalTextCoded, AnswerCoded, ReplyJobsCoded, FileWriteCoded, FileReadCoded, SalvageCoded, LikedCoded}
 use Rattle.exports.proofs.Fixed.{work-coded-fixed, edit-coded-fixed, build-coded-fixed, run-coded-fixed, text-coded-fixed, jobs-coded-fixed, replies-coded-fixed, build-for-coded-fixed, liked-coded-fixed}
-use Rattle.exports.proofs.Fixed.{reply-jobs-coded-fixed, clauses-coded-fixed, written-coded-fixed, loaded-coded-fixed, salvage-coded-fixed}
+use Rattle.exports.proofs.Fixed.{goal-text-coded-fixed, answer-coded-fixed, reply-jobs-coded-fixed, clauses-coded-fixed, written-coded-fixed, loaded-coded-fixed, salvage-coded-fixed}
 use Rattle.answer.specs.declared.Job.{Job}
 use Rattle.answer.specs.Jobs.{JobsRun}
 use Rattle.shift.proofs.Fixed.{run-jobs-fixed}
@@ -151,6 +151,14 @@ held-text = read-text-fixed
 pub held-exported-text : {t cells names cells′ names′ cells″ names″ : List ℕ} {r s : ℕ} → TextCoded t cells names cells′ names′ r
     → TextCoded t cells names cells″ names″ s → (r ≡ s) × (cells′ ≡ cells″) × (names′ ≡ names″)
 held-exported-text = text-coded-fixed
+
+pub held-exported-goal-text : {t names goal cells new cells′ new′ cells″ new″ : List ℕ} {r s : ℕ} → GoalTextCoded t names goal cells cells′ new new′ r
+    → GoalTextCoded t names goal cells cells″ new new″ s → (r ≡ s) × (cells′ ≡ cells″) × (new′ ≡ new″)
+held-exported-goal-text = goal-text-coded-fixed
+
+pub held-exported-answer : {t names goal new cells room room′ room″ : List ℕ} {r s : ℕ} → AnswerCoded t names goal new cells room room′ r
+    → AnswerCoded t names goal new cells room room″ s → (r ≡ s) × (room′ ≡ room″)
+held-exported-answer = answer-coded-fixed
 
 pub held-exported-work-out : {figure : ℕ} {cells rec rec′ rec″ : List ℕ} {r s : ℕ} → WorkCoded figure cells rec rec′ r
     → WorkCoded figure cells rec rec″ s → (r ≡ s) × (rec′ ≡ rec″)

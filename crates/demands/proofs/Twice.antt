@@ -48,6 +48,8 @@ use Rattle.demands.specs.Liked as likes
 use Rattle.demands.specs.Demands.{BuildTurned, no-figure, no-table, no-column, no-room, RunTurned, bad-table, bad-plan, bad-goal, bad-room}
 use Rattle.demands.specs.Texts.{TextTurned, Request201}
 use Rattle.demands.specs.Texts as texts
+use Rattle.demands.specs.Asking.{GoalTurned, ReadsGoal, AnswerTurned, PutsAnswer}
+use Rattle.demands.specs.Asking as asks
 use Rattle.demands.specs.Shift.{Shift, OneJob, goalIn}
 use Rattle.demands.specs.Replies.{RepliesTurned, RepliesRefused}
 use Rattle.demands.specs.Replies as replies
@@ -132,6 +134,25 @@ never-text {t} {cells} {names} x f e = go (x .refuses f .0 e)
     go (texts.no-cells fs h u o l) = named reason.Room refl
     go (texts.no-names fs h u o l m) = named reason.Room refl
     go (texts.no-table fs f h q) = placed (placed-table _) q
+
+pub never-goal-text : {text names t cells cells′ new new′ : List ℕ} {a : Answer} → ReadsGoal text names t cells cells′ new new′ a → NeverTwice a
+never-goal-text {text} {names} {t} {cells} {new = new} x f e = go (x .refuses f .0 e)
+  where
+    go : {f : Refused} → GoalTurned text names t cells new f → f .number ≢ 8
+    go (asks.too-many h) = named reason.Length refl
+    go (asks.bytes l h) = named reason.Bytes refl
+    go (asks.no-text k l h n) = named reason.Text refl
+    go (asks.other p whole g gs l h q w n) = named reason.Other refl
+    go (asks.no-goal p goal f l h q u z) = placed (placed-goal (p .width) (goal .cells)) z
+    go (asks.no-cells goal i l) = named reason.Room refl
+    go (asks.no-names goal i l m) = named reason.Room refl
+
+pub never-answer : {text names goal new cells room room′ : List ℕ} {a : Answer} → PutsAnswer text names goal new cells room room′ a → NeverTwice a
+never-answer {text} {names} {goal} {new} {cells} {room} x f e = go (x .refuses f .0 e)
+  where
+    go : {f : Refused} → AnswerTurned text names goal new cells room f → f .number ≢ 8
+    go (asks.big h) = named reason.Big refl
+    go (asks.no-room p h q l) = named reason.Room refl
 
 -- of a list of goals, and of each record of it
 pub never-jobs : {t p lent : List ℕ} {jobs after : List Job} {a : Answer} → Shift t p lent jobs after a → NeverTwice a

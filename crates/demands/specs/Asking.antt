@@ -1,56 +1,106 @@
--- The request "ask", a shop's rules and a job in Prolog text, as statements of what its three library functions are given and what they answer.
--- proofs/Asking proves them of the functions' promises, and src/lib.rt ties them to the functions.
+-- The request "ask", a shop's rules and a job in Prolog text, as statements of what its two entries are given and what they answer ("Export what
+-- `ask` uses: `dudowiej_read_goal_text` .. and `dudowiej_put_answer`"). proofs/Asking proves them of the entries' promises, and src/lib.rt ties
+-- them to the entries.
 --
--- `text` is the facts' text and `names` its list of names, `p` where its predicate stands; `goal` is a goal's text and `new` the list of the
--- names that the table has not. Rooms are given before and after, as `cells` and `cells′`.
-use Prim.Native.Nat.{ℕ, _≤_}
+-- `text` is the facts' text and `names` its list of names; `goal` is a goal's text and `new` the list of the names that the table has not. Rooms
+-- are given before and after, as `cells` and `cells′`. `PredicateIs text p` is "the facts' predicate": where the first fact's name stands and its
+-- number of arguments; a text that is turned away has none (goaltext/specs/Asked).
+use Prim.Native.Nat.{ℕ, _≤_, _<_}
 use mathlib.Core.Path.{_≡_}
 use mathlib.Core.Logic.{_↔_}
-use mathlib.Core.List.{List, _∷_, List·Memᴰ}
-use lib.ListN.{length, take}
-use Rattle.refusal.specs.Refusal.{Refused, answered}
+use mathlib.Core.List.{List, _∷_, _++_, List·Memᴰ}
+use lib.ListN.{length, take, drop}
+use Rattle.refusal.specs.Refusal.{Refused, refused, Answer, answered, turned}
 use Rattle.refusal.specs.Read.{read, refuse}
-use Rattle.table.specs.Table.{Table, tableOf, IsGoal}
+use Rattle.refusal.specs.declared.Reason.the-variants as reason
+use Rattle.refusal.specs.declared.Input.the-variants as input
+use Rattle.table.specs.Table.{Table, tableOf, goalOf, IsGoal}
 use Rattle.grammar.specs.Grammar.{Fact}
 use Rattle.grammar.specs.Taken.{Taken}
 use Rattle.loading.specs.Load.{Loaded, Loads}
 use Rattle.instance.specs.Reply.{Replies, Short}
 use Rattle.asking.specs.declared.Predicate.{Predicate}
 use Rattle.asking.specs.Saying.{wordsIn, wordsOf, predicateIn, saidIn, known}
-use Rattle.asking.specs.Goal.{Goal, Asks, GoalRead}
-use Rattle.goaltext.specs.declared.GoalText.{GoalText}
-use Rattle.goaltext.specs.Asked.{textTold, predicateOf}
+use Rattle.asking.specs.Goal.{Whole, NoGoal, Ours, Goal, Asks, GoalRead}
+use Rattle.goaltext.specs.Asked.{PredicateIs}
 
--- "a term of the facts' predicate": where the first fact's name stands, and its number of arguments. A text that is turned away has none
-pub record FindsPredicate (text : List ℕ) (p : Predicate) : Type 0 where
-  pub first : (f : Fact) (fs : List Fact) → Taken text (read (f ∷ fs)) → p ≡ predicateOf f
-  pub none : (g : Refused) → Taken text (refuse g) → p ≡ record { start = 0; end = 0; width = 0 }
-
--- this goal is answered, and stands at the front of the two rooms
-pub record Gives (goal : Goal) (cells′ new′ : List ℕ) (r : GoalText) : Type 0 where
-  pub tells : textTold r ≡ answered (length (goal .cells)) (length (goal .new))
-  pub cells : take (length (goal .cells)) cells′ ≡ goal .cells
-  pub new : take (length (goal .new)) new′ ≡ goal .new
+-- A GOAL'S TEXT
 
 -- "A goal is a term of the facts' predicate in W-201's grammar (final `.` allowed, not wanted) ..; names that the table does not have are
 -- sound", and it is one of 01's for the table's width
-pub record IsAsked (text names : List ℕ) (p : Predicate) (t : List ℕ) (goal : Goal) : Type 0 where
+pub record IsAsked (text names t : List ℕ) (goal : Goal) : Type 0 where
+  pub p : Predicate
+  pub predicate : PredicateIs text p
   pub listed : length names ≤ 2048
   pub bytes : length t ≤ 65533
   pub asks : Asks (wordsIn text names) (predicateIn text p) (p .width) t goal
   pub is-goal : IsGoal (p .width) (goal .cells)
 
--- exactly the goals are accepted, each as itself
-abbrev pub ReadsGoal : (text names : List ℕ) → Predicate → (t cells′ new′ : List ℕ) → GoalText → Type 0
-ReadsGoal text names p t cells′ new′ r = (goal : Goal) → Gives goal cells′ new′ r ↔ IsAsked text names p t goal
+-- "room for cells and for new names"
+pub record Roomy (goal : Goal) (cells new : List ℕ) : Type 0 where
+  pub holds : length (goal .cells) ≤ length cells
+  pub lists : length (goal .new) ≤ length new
+
+-- this goal is answered and stands at the front of the two rooms, the rest of which is kept
+pub record Gives (goal : Goal) (cells cells′ new new′ : List ℕ) (answer : Answer) : Type 0 where
+  pub tells : answer ≡ answered (length (goal .cells)) (length (goal .new))
+  pub wrote : cells′ ≡ goal .cells ++ drop (length (goal .cells)) cells
+  pub listed : new′ ≡ goal .new ++ drop (length (goal .new)) new
+
+-- what turns a goal's text away, in this order, and the refusal that it gets: LENGTH of a list of over 2,048 names; BYTES; TEXT; OTHER where the
+-- first fact begins; 01's of a goal; ROOM, of the cells first, then of the new names
+pub data GoalTurned (text names t cells new : List ℕ) : Refused → Type 0 where
+  too-many : 2048 < length names → GoalTurned text names t cells new (refused reason.Length input.Table 0)
+  bytes : length names ≤ 2048 → 65533 < length t → GoalTurned text names t cells new (refused reason.Bytes input.Text 0)
+  no-text : (k : ℕ) → length names ≤ 2048 → length t ≤ 65533 → NoGoal t k → GoalTurned text names t cells new (refused reason.Text input.Text k)
+  other : (p : Predicate) (whole : List ℕ) (f : Fact) (fs : List Fact) → length names ≤ 2048 → length t ≤ 65533 → PredicateIs text p
+      → Whole t whole (f ∷ fs) → (Ours (predicateIn text p) (p .width) whole f fs → ⊥)
+      → GoalTurned text names t cells new (refused reason.Other input.Text (f .start))
+  no-goal : (p : Predicate) (goal : Goal) (refusal : Refused) → length names ≤ 2048 → length t ≤ 65533 → PredicateIs text p
+      → Asks (wordsIn text names) (predicateIn text p) (p .width) t goal → goalOf (p .width) (goal .cells) ≡ refuse refusal
+      → GoalTurned text names t cells new refusal
+  no-cells : (goal : Goal) → IsAsked text names t goal → length cells < length (goal .cells)
+      → GoalTurned text names t cells new (refused reason.Room input.Lent (length (goal .cells)))
+  no-names : (goal : Goal) → IsAsked text names t goal → length (goal .cells) ≤ length cells → length new < length (goal .new)
+      → GoalTurned text names t cells new (refused reason.Room input.Lent (length (goal .new)))
+
+-- exactly the goals that there is room for are accepted, each as itself; all else is refused as above, with nothing written to either room
+pub record ReadsGoal (text names t cells cells′ new new′ : List ℕ) (answer : Answer) : Type 0 where
+  pub accepts : (goal : Goal) → Gives goal cells cells′ new new′ answer ↔ (IsAsked text names t goal × Roomy goal cells new)
+  pub refuses : (f : Refused) → (answer ≡ turned f) ↔ GoalTurned text names t cells new f
+  pub untouched : (f : Refused) → answer ≡ turned f → (cells′ ≡ cells) × (new′ ≡ new)
+  -- ROOM's place is above the cells lent where it is that of the cells, and otherwise it is that of the names
+  pub room : (goal : Goal) (place : ℕ) → IsAsked text names t goal → answer ≡ turned (refused reason.Room input.Lent place)
+      → (length cells < place → place ≡ length (goal .cells)) × (place ≤ length cells → place ≡ length (goal .new))
+  -- facts that are refused have no predicate: every text of a goal is OTHER
+  pub none : (g : Refused) (whole : List ℕ) (f : Fact) (fs : List Fact) → Taken text (refuse g) → length names ≤ 2048 → length t ≤ 65533
+      → Whole t whole (f ∷ fs) → answer ≡ turned (refused reason.Other input.Text (f .start))
+
+-- AN ANSWER'S TEXT
+
+-- what turns an answer away, and the refusal that it gets: BIG, for no reply has over 1,024 cells (W-203); then ROOM
+pub data AnswerTurned (text names goal new cells room : List ℕ) : Refused → Type 0 where
+  big : 1024 < length cells → AnswerTurned text names goal new cells room (refused reason.Big input.Goal 0)
+  no-room : (p : Predicate) → length cells ≤ 1024 → PredicateIs text p → length room < length (saidIn text names goal new p cells)
+      → AnswerTurned text names goal new cells room (refused reason.Room input.Lent (length (saidIn text names goal new p cells)))
+
+-- "the reply's cells to bytes": the text of an answer (asking/specs/Saying) comes first in the room, the rest of which is kept; refused as above,
+-- with nothing written
+pub record PutsAnswer (text names goal new cells room room′ : List ℕ) (answer : Answer) : Type 0 where
+  pub says : (p : Predicate) → length cells ≤ 1024 → PredicateIs text p → length (saidIn text names goal new p cells) ≤ length room
+      → (answer ≡ answered (length cells) (length (saidIn text names goal new p cells)))
+      × (room′ ≡ saidIn text names goal new p cells ++ drop (length (saidIn text names goal new p cells)) room)
+  pub refuses : (f : Refused) → (answer ≡ turned f) ↔ AnswerTurned text names goal new cells room f
+  pub untouched : (f : Refused) → answer ≡ turned f → room′ ≡ room
 
 -- "The text of an answer is a promised, total library function (cells and the list of names to bytes, and W-201's reader of that text gives
--- the cells back: a theorem)": for each of the replies of a table that was read from a text, to a goal that was read from one, what is put
--- into a room that is large enough is read, by the table's names and the goal's new ones, as a goal of exactly the reply's cells. A reply
--- of over 1,024 cells has no text, since W-203's entry never gives one (W-209, BIG): what it gives is `Short` (`small` of specs/Replies)
-abbrev pub ReadsBack : (text names goal new : List ℕ) → Predicate → (cells out out′ : List ℕ) → ℕ → Type 0
-ReadsBack text names goal new p cells out out′ r =
-    (c n : ℕ) (L : Loaded) (T : Table) (G : Goal) (all : List (List ℕ)) → Loads text c n (read L) → names ≡ L .names → tableOf (L .cells) ≡ read T
-    → GoalRead (wordsIn text names) (predicateIn text p) (p .width) goal (read G) → new ≡ G .new → Replies (G .cells) (T .rows) all
-    → List·Memᴰ cells all → Short cells → length (saidIn text names goal new p cells) ≤ length out
-    → (H : Goal) → Asks (wordsOf text names goal new) (predicateIn text p) (p .width) (take r out′) H ↔ (H ≡ known cells)
+-- the cells back: a theorem)": for each of the replies of a table that was read from a text, to a goal that was read from one, the bytes that are
+-- answered are read, by the table's names and the goal's new ones, as a goal of exactly the reply's cells. W-203's entry gives no reply of over
+-- 1,024 cells (W-209, BIG): what it gives is `Short` (`small` of specs/Replies)
+abbrev pub ReadsBack : (text names goal new cells room′ : List ℕ) → Answer → Type 0
+ReadsBack text names goal new cells room′ answer =
+    (c n : ℕ) (L : Loaded) (T : Table) (p : Predicate) (G : Goal) (all : List (List ℕ)) → Loads text c n (read L) → names ≡ L .names
+    → tableOf (L .cells) ≡ read T → PredicateIs text p → GoalRead (wordsIn text names) (predicateIn text p) (p .width) goal (read G)
+    → new ≡ G .new → Replies (G .cells) (T .rows) all → List·Memᴰ cells all → Short cells
+    → (said bytes : ℕ) → answer ≡ answered said bytes
+    → (H : Goal) → Asks (wordsOf text names goal new) (predicateIn text p) (p .width) (take bytes room′) H ↔ (H ≡ known cells)

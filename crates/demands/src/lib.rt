@@ -1,8 +1,8 @@
 // The demands (document 00) and the requests (document 02), tied to the entries that customers link: each function calls one `dudowiej_*` and
 // ensures what is said of it (specs/), by the theorem of proofs/; `decoded` is the number read back by the header's masks and shifts. So an
 // entry whose contract no longer gives it is an error here. What is no entry is tied to the function that has it: the row as a part of the
-// table, a cell's value and symbol, the listing, goals and answers in text. Nothing calls these functions; they are private, since what they
-// ensure is less than what the entries promise.
+// table, a cell's value and symbol, the listing. Nothing calls these functions; they are private, since what they ensure is less than what the
+// entries promise.
 ghost use Prim.Native.Nat.{ℕ};
 ghost use mathlib.Core.Path.{_≡_};
 ghost use lib.ListN.{length};
@@ -26,10 +26,8 @@ ghost use Rattle.demands.specs.Liked.{BuildsLiked};
 ghost use Rattle.demands.specs.Clauses.{ClausesRefused, HandsBack};
 ghost use Rattle.demands.specs.Files.{WriteRefused, WritesFile, ThereAndBack, ReadRefused, ReadsFile, BackAgain};
 ghost use Rattle.demands.specs.Salvage.{SalvageRefused, Salvages, Unchanged, Originals};
-ghost use Rattle.demands.specs.Asking.{FindsPredicate, ReadsGoal, ReadsBack};
-use asking::Predicate;
+ghost use Rattle.demands.specs.Asking.{ReadsGoal, PutsAnswer, ReadsBack};
 use cell::Shape;
-use goaltext::GoalText;
 use instance::ReplyJob;
 use shift::Job;
 
@@ -290,36 +288,25 @@ fn count(cells: &[u32]) -> usize
 }
 
 // ask (specs/Asking)
-fn request_predicate(text: &[u8]) -> Predicate
-    ensures { λ r. ⌜ FindsPredicate (now (text .entry)) r ⌝ }
+fn request_goal(text: &[u8], names: &[u32], goal: &[u8], cells: &mut [u32], new: &mut [u32]) -> u64
+    ensures { λ r. ⌜ ReadsGoal (now (text .entry)) (now (names .entry)) (now (goal .entry)) (now (cells .entry)) (now (cells .exit))
+        (now (new .entry)) (now (new .exit)) (decoded r) ⌝ }
 {
-    goaltext::predicate_of(text)
-}
-
-fn request_goal(
-    text: &[u8],
-    names: &[u32],
-    p: Predicate,
-    goal: &[u8],
-    cells: &mut [u32; 32],
-    new: &mut [u32; 32],
-) -> GoalText
-    ensures { λ r. ⌜ ReadsGoal (now (text .entry)) (now (names .entry)) p (now (goal .entry)) (now (cells .exit)) (now (new .exit)) r ⌝ }
-{
-    goaltext::read_goal(text, names, p, goal, cells, new)
+    exports::dudowiej_read_goal_text(text, names, goal, cells, new)
 }
 
 fn request_answer(
-    out: &mut [u8],
     text: &[u8],
     names: &[u32],
     goal: &[u8],
     new: &[u32],
-    p: Predicate,
     cells: &[u32],
-) -> usize
-    ensures { λ r. ⌜ ReadsBack (now (text .entry)) (now (names .entry)) (now (goal .entry)) (now (new .entry)) p (now (cells .entry))
-        (now (out .entry)) (now (out .exit)) r ⌝ }
+    room: &mut [u8],
+) -> u64
+    ensures { λ r. ⌜ PutsAnswer (now (text .entry)) (now (names .entry)) (now (goal .entry)) (now (new .entry)) (now (cells .entry))
+        (now (room .entry)) (now (room .exit)) (decoded r) ⌝ }
+    ensures { λ r. ⌜ ReadsBack (now (text .entry)) (now (names .entry)) (now (goal .entry)) (now (new .entry)) (now (cells .entry))
+        (now (room .exit)) (decoded r) ⌝ }
 {
-    saying::put_answer(out, text, names, goal, new, p, cells)
+    exports::dudowiej_put_answer(text, names, goal, new, cells, room)
 }
