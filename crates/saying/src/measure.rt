@@ -1,5 +1,5 @@
 // How many bytes the text of some terms has, before it is put. A name is measured where it stands. All else is short: it is put into a small
-// room of this side, and counted there.
+// room of this side and counted there, so that one code says how it is written.
 ghost use mathlib.Core.Path.{_≡_};
 ghost use mathlib.Core.List.{[]};
 ghost use Prim.Native.Nat.{_^_, _≤_, _<_};
@@ -32,28 +32,22 @@ fn name_bytes(text: &[u8], names: &[u32], goal: &[u8], new: &[u32], k: usize) ->
     listed_bytes(goal, new, k - names.len())
 }
 
-// The bytes of a symbol's word, by way of a room for what is no name.
-fn symbol_bytes(
-    room: &mut [u8],
-    text: &[u8],
-    names: &[u32],
-    goal: &[u8],
-    new: &[u32],
-    c: u32,
-) -> usize
-    requires { ⌜ 6 ≤ length (now room) ⌝ }
+// The bytes of a symbol's word. A variable and a number have 16 bits, and so a mark and five digits at most.
+fn symbol_bytes(text: &[u8], names: &[u32], goal: &[u8], new: &[u32], c: u32) -> usize
     ensures { λ r. ⌜ (r ≡ length (symbolWord (wordsOf (now (text .entry)) (now (names .entry)) (now (goal .entry)) (now (new .entry)))
         (valuesAt c))) × (r ≤ 65535) ⌝ }
 {
+    let mut room = [0u8; 6];
     match cell::shape_of(c) {
-        Shape::Variable(_) => put_symbol(room, 0, text, names, goal, new, c),
+        Shape::Variable(_) => put_symbol(&mut room, 0, text, names, goal, new, c),
         Shape::Name(_, n) => name_bytes(text, names, goal, new, n as usize),
-        Shape::Number(_) => put_symbol(room, 0, text, names, goal, new, c),
+        Shape::Number(_) => put_symbol(&mut room, 0, text, names, goal, new, c),
         Shape::Refused => 0,
     }
 }
 
-// The bytes of what `put_terms` puts where there is room. After a cell at most 1,025 brackets are closed.
+// The bytes of what `put_terms` puts where there is room. After a cell at most the 1,024 open brackets are closed, or all but one and `, ` follows:
+// 1,025 bytes are enough for that.
 pub fn terms_bytes(
     text: &[u8],
     names: &[u32],
@@ -68,7 +62,7 @@ pub fn terms_bytes(
     if 1024 < cells.len() {
         return 0;
     }
-    let mut room = [0u8; 1027];
+    let mut room = [0u8; 1025];
     let mut owed = [0usize; 1025];
     owed[0] = width;
     let mut sum = 0;
@@ -76,7 +70,7 @@ pub fn terms_bytes(
     let mut i = 0;
     while i < cells.len() {
         let c = cells[i];
-        let word = symbol_bytes(&mut room, text, names, goal, new, c);
+        let word = symbol_bytes(text, names, goal, new, c);
         let next = put_mark(&mut room, 0, &mut owed, depth, cell::arity_of(c));
         sum += word + next.to;
         depth = next.depth;

@@ -17,7 +17,7 @@ rest text names goal new owed depth i cells = length (termsText (wordsOf text na
 
 abbrev Inv-loop : tie.InvT-loop
 Inv-loop text names goal new width cells room₀ owed₀ sum₀ depth₀ i₀ room owed sum depth i =
-    (i ≤ length cells) × (depth ≤ i + 1) × (length owed ≡ 1025) × (length room ≡ 1027) × (sum ≤ 66562 * i)
+    (i ≤ length cells) × (depth ≤ i + 1) × (length owed ≡ 1025) × (length room ≡ 1025) × (sum ≤ 66560 * i)
     × (sum + rest text names goal new owed depth i cells ≡ rest text names goal new owed₀ depth₀ 0 cells)
 
 abbrev μ-loop : tie.MeasureT-loop
@@ -41,9 +41,6 @@ mul-c c = search needs
 shared-slice-read-c : tie.Need-shared-slice-read-c Inv-loop μ-loop
 shared-slice-read-c c = search needs
 
-slice-aggregate-symbol-bytes : tie.Need-slice-aggregate-symbol-bytes Inv-loop μ-loop
-slice-aggregate-symbol-bytes c = search needs
-
 symbol-bytes-requires : tie.Need-symbol-bytes-requires Inv-loop μ-loop
 symbol-bytes-requires c κs = search needs
 
@@ -62,16 +59,16 @@ put-mark-requires c κs = search needs
 add-sum : tie.Need-add-sum Inv-loop μ-loop
 add-sum c =
     let m = c .before .before .before in
-    let w = m .before .before .before .before .before in
-    let l = w .before .before .before .before .loop in
+    let w = m .before .before .before .before in
+    let l = w .before .before .before .loop in
     let t = mark-counted (m .before .arity-of .result) (l .owed) (l .depth) (m .put-mark .ensures .puts) (omega arith) in
     record { fits = omega (arith, t .1, w .symbol-bytes .ensures .1) }
 
 add-sum-2 : tie.Need-add-sum-2 Inv-loop μ-loop
 add-sum-2 c =
     let m = c .before .before .before in
-    let w = m .before .before .before .before .before in
-    let l = w .before .before .before .before .loop in
+    let w = m .before .before .before .before in
+    let l = w .before .before .before .loop in
     let t = mark-counted (m .before .arity-of .result) (l .owed) (l .depth) (m .put-mark .ensures .puts) (omega arith) in
     record { fits = omega (arith, t .1, w .symbol-bytes .ensures .1) }
 
@@ -84,8 +81,8 @@ loop-less c = search needs
 loop-again : tie.Need-loop-again Inv-loop μ-loop
 loop-again c =
     let m = c .before .before .before in
-    let w = m .before .before .before .before .before in
-    let q = w .before .before .before .before in
+    let w = m .before .before .before .before in
+    let q = w .before .before .before in
     let l = q .loop in
     let a = q .before .before .before .before .before .before .before .args in
     let words = wordsOf (a .text .now) (a .names .now) (a .goal .now) (a .new .now) in
@@ -124,7 +121,6 @@ terms-bytes-spec =
     loop-holds
     mul-c
     shared-slice-read-c
-    slice-aggregate-symbol-bytes
     symbol-bytes-requires
     slice-aggregate-put-mark
     slice-aggregate-put-mark-2
