@@ -1,6 +1,6 @@
-/* The rule tables as a C library: tables from Prolog text, reading tables and goals, the least plan, also for columns that are always filled
- * in, and the one that a list of goals likes best, the check of any plan, the run of a plan on a goal, what the rows say to it, edits of a row
- * at a time, a plan handed back as Prolog, one file for a table and its plan, and what is saved of a bad one.
+/* The rule tables as a C library: tables and goals from Prolog text, reading tables and goals, the least plan, also for columns that are always
+ * filled in, and the one that a list of goals likes best, the check of any plan, the run of a plan on a goal, what the rows say to it, also as
+ * Prolog text, edits of a row at a time, a plan handed back as Prolog, one file for a table and its plan, and what is saved of a bad one.
  *
  * Link target/staticlib/libexports.a, which `rt staticlib exports` writes (x86-64).
  *
@@ -36,9 +36,9 @@ extern "C" {
 #endif
 
 /* The version of what this header declares. The first number is 0 while requests are open. The second counts the base and the requests that
- * have landed on it, W-201 to W-213, dudowiej_build_liked and dudowiej_reply_jobs. The third counts changes of this header since the last of
- * them. */
-#define DUDOWIEJ_VERSION "0.16.0"
+ * have landed on it, W-201 to W-213, dudowiej_build_liked, dudowiej_reply_jobs, and goals and answers as text (dudowiej_read_goal_text,
+ * dudowiej_put_answer). The third counts changes of this header since the last of them. */
+#define DUDOWIEJ_VERSION "0.17.0"
 
 /* What no table, row, goal, plan, text, reply, program or file exceeds. */
 enum {
@@ -61,7 +61,7 @@ enum { DUDOWIEJ_RECORD_CELLS = 14340 };
 
 /* Why an input is refused. */
 enum dudowiej_refusal {
-    DUDOWIEJ_REFUSED_LENGTH = 1, /* table under 2 or over 2,050 cells; goal of 0 or over 32: place 0 */
+    DUDOWIEJ_REFUSED_LENGTH = 1, /* table under 2 or over 2,050 cells, over 2,048 names; goal of 0 or over 32: place 0 */
     DUDOWIEJ_REFUSED_WIDTH = 2,  /* width not 1 to 8: place 0 */
     DUDOWIEJ_REFUSED_COUNT = 3,  /* row count not 1 to 64: place 1 */
     DUDOWIEJ_REFUSED_LONG = 4,   /* a row not complete after 32 cells: the next cell */
@@ -77,15 +77,15 @@ enum dudowiej_refusal {
     DUDOWIEJ_REFUSED_LABEL = 14, /* a branch cell that is not the run's symbol: that cell */
     DUDOWIEJ_REFUSED_ROWS = 15,  /* a leaf cell that is not its number of rows: that cell */
     DUDOWIEJ_REFUSED_ROOM = 16,  /* the lent room is too small: cells, bytes or numbers needed */
-    DUDOWIEJ_REFUSED_BYTES = 17, /* text over 65,535 bytes: place 0 */
-    DUDOWIEJ_REFUSED_TEXT = 18,  /* no text goes on so: that byte, or the number of bytes */
-    DUDOWIEJ_REFUSED_OTHER = 19, /* a fact of another predicate or width than the first: the first byte of its name */
+    DUDOWIEJ_REFUSED_BYTES = 17, /* text over 65,535 bytes, a goal's over 65,533: place 0 */
+    DUDOWIEJ_REFUSED_TEXT = 18,  /* no text, or no goal's, goes on so: that byte, or the number of bytes */
+    DUDOWIEJ_REFUSED_OTHER = 19, /* a fact of another predicate or width than the first, a goal that is not one of theirs: the first byte of its name */
     DUDOWIEJ_REFUSED_FIGURE = 20,  /* a figure above 15: place 0 */
     DUDOWIEJ_REFUSED_FULL = 21,    /* a row appended to 64: place 0 */
     DUDOWIEJ_REFUSED_LAST = 22,    /* the only row dropped: place 0 */
     DUDOWIEJ_REFUSED_INDEX = 23,   /* a row replaced that is not there: place 0 */
     DUDOWIEJ_REFUSED_SAME = 24,    /* a row without variables equals an earlier one: its first cell; in an edit any other: place 0 */
-    DUDOWIEJ_REFUSED_BIG = 25,     /* a reply to a goal needs over 1,024 cells: place 0 */
+    DUDOWIEJ_REFUSED_BIG = 25,     /* a reply to a goal, or an answer to be written, of over 1,024 cells: place 0 */
     DUDOWIEJ_REFUSED_NAMES = 26,   /* a listed place holds no lower-case name, two hold the same, a name is not listed: place 0 */
     DUDOWIEJ_REFUSED_BLOCKS = 27,  /* a file of no byte, or not of whole blocks of 512 bytes: place 0 */
     DUDOWIEJ_REFUSED_DAMAGE = 28,  /* a block whose number is not its place, or with a wrong check: the first such block, from 0 */
@@ -213,6 +213,24 @@ uint64_t dudowiej_run_plan(const dudowiej_record *record, const uint32_t *plan, 
  * enough for every table. */
 uint64_t dudowiej_read_text(const uint8_t *text, size_t text_bytes, uint32_t *cells, size_t cells_room, uint32_t *names, size_t names_room);
 
+/* Reads a goal in Prolog text: a term of the facts' predicate, as `rule(9, red, Piece, Firing)`, by the grammar of the facts; a full stop after
+ * it is allowed and not wanted. The text and the names are what dudowiej_read_text took and listed. A name that the facts have is theirs; the
+ * others are numbered on from theirs, so that they fit no name of a row. A variable that stands twice is one, and `_` another each time. The
+ * cells are written to the front of one room; the new names to the front of the other, in the order of their numbers, as places in the goal's
+ * own bytes: start in bits 15 to 0, bytes in bits 31 to 16. The rest of both rooms is untouched. First: the cells. Second: the new names.
+ *
+ * With the facts `rule(9, red, ring, soft). rule(_, _, _, medium).`, whose names are red 0, ring 1, soft 2 and medium 3, the goal
+ * `rule(9, red, tray, F)` has the cells 0x80000009, 0x40000000, 0x40000004 and 0; its new name is 0x0004000d, 4 bytes from byte 13 on.
+ *
+ * Refused in this order: LENGTH, which concerns DUDOWIEJ_TABLE at 0, where over DUDOWIEJ_NAMES names are listed; BYTES at 0 for a goal of over
+ * 65,533 bytes, TEXT at the byte of the goal where no goal goes on so, or at its end, and OTHER at the first byte of its name, for another
+ * predicate or number of arguments, for more than one fact, and for any goal where the facts' text is itself refused with one of these three,
+ * all of which concern DUDOWIEJ_TEXT; LENGTH, which concerns DUDOWIEJ_GOAL at 0, for a goal of over DUDOWIEJ_GOAL_CELLS cells; then the room for
+ * the cells, and that for the new names, the place being what is needed there. Where anything is refused nothing is written. Two rooms of
+ * DUDOWIEJ_GOAL_CELLS are always large enough. */
+uint64_t dudowiej_read_goal_text(const uint8_t *text, size_t text_bytes, const uint32_t *names, size_t name_count, const uint8_t *goal,
+                                 size_t goal_bytes, uint32_t *cells, size_t cells_room, uint32_t *new_names, size_t new_room);
+
 /* One goal of a list. Before the call start and count say where its cells lie among the lent cells; they stay. After the call number and
  * place hold the goal's refusal (enum dudowiej_refusal; places count from the goal's own first cell), or 0 and 0; hits has bit r set when
  * row r unifies with the goal; tried is the number of branches tried. A refused goal has hits and tried 0. What the last four held before
@@ -294,6 +312,19 @@ _Static_assert(offsetof(struct dudowiej_reply_job, at) == 32 && offsetof(struct 
  * goals after it are answered all the same. Goals may share cells. First: the plan's branches. Second: 0. */
 uint64_t dudowiej_reply_jobs(const dudowiej_record *record, const uint32_t *plan, size_t plan_cells, const uint32_t *cells,
                              size_t cells_count, struct dudowiej_reply_job *jobs, size_t jobs_count, uint32_t *room, size_t room_cells);
+
+/* Writes an answer as Prolog text to the front of the room; the rest of it is untouched. It is a term of the facts' predicate: names by their
+ * words, numbers with their sign, variables as `_0`, `_1`, `, ` between arguments, and no full stop. The text and the names are the facts', the
+ * goal and the new names what dudowiej_read_goal_text took and listed; for a goal of cells both have the length 0. The cells are a reply, the
+ * goal, a row, or any at all: what is no cell has no word, nor has a name that is in neither list, nor the predicate where the facts' text is
+ * refused; terms that are missing are left out.
+ *
+ * To the goal of dudowiej_read_goal_text's example the second rule says `rule(9, red, tray, medium)`, 26 bytes. First: the cells said. Second:
+ * the bytes. Refused in this order: BIG, which concerns DUDOWIEJ_GOAL at 0, for over DUDOWIEJ_REPLY_CELLS cells; then the room, the place being
+ * the bytes needed. Where anything is refused nothing is written. */
+uint64_t dudowiej_put_answer(const uint8_t *text, size_t text_bytes, const uint32_t *names, size_t name_count, const uint8_t *goal,
+                             size_t goal_bytes, const uint32_t *new_names, size_t new_count, const uint32_t *cells, size_t cell_count,
+                             uint8_t *room, size_t room_bytes);
 
 /* Writes a plan as a Prolog program to the front of the room; the rest of it is untouched. A clause stands on a line of its own, with a
  * line feed at its end. There is a predicate for the first state and for each with several branches, 'P0', 'P1' and so on in the plan's
