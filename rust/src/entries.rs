@@ -86,6 +86,21 @@ pub(crate) fn read_text(text: &[u8], cells: &mut [u32], names: &mut [u32]) -> An
     apart(unsafe { sys::dudowiej_read_text(text.as_ptr(), text.len(), cells, cells_room, names, names_room) })
 }
 
+pub(crate) fn read_goal_text(text: &[u8], names: &[u32], goal: &[u8], cells: &mut [u32], new: &mut [u32]) -> Answer {
+    let ((text, bytes), (names, count)) = ((text.as_ptr(), text.len()), (names.as_ptr(), names.len()));
+    let ((cells, cells_room), (new, new_room)) = ((cells.as_mut_ptr(), cells.len()), (new.as_mut_ptr(), new.len()));
+    apart(unsafe { sys::dudowiej_read_goal_text(text, bytes, names, count, goal.as_ptr(), goal.len(), cells, cells_room, new, new_room) })
+}
+
+pub(crate) fn put_answer(text: &[u8], names: &[u32], goal: &[u8], new: &[u32], cells: &[u32], room: &mut [u8]) -> Answer {
+    let ((text, bytes), (names, count)) = ((text.as_ptr(), text.len()), (names.as_ptr(), names.len()));
+    let ((goal, goal_bytes), (new, new_count)) = ((goal.as_ptr(), goal.len()), (new.as_ptr(), new.len()));
+    let ((cells, cell_count), (room, room_bytes)) = ((cells.as_ptr(), cells.len()), (room.as_mut_ptr(), room.len()));
+    apart(unsafe {
+        sys::dudowiej_put_answer(text, bytes, names, count, goal, goal_bytes, new, new_count, cells, cell_count, room, room_bytes)
+    })
+}
+
 pub(crate) fn clauses(record: &Record, plan: &[u32], text: &[u8], names: &[u32], room: &mut [u8]) -> Answer {
     let ((plan, plan_cells), (text, bytes), (names, count)) =
         ((plan.as_ptr(), plan.len()), (text.as_ptr(), text.len()), (names.as_ptr(), names.len()));

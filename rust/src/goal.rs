@@ -1,12 +1,15 @@
 //! Goals, alone and in a list.
 
+use crate::cell::Symbol;
 use crate::entries;
+use crate::names::word_at;
 use crate::record::Record;
 use crate::refusal::Refusal;
 use std::ops::Deref;
 
-/// A goal that was read for a record's table: as many terms as the table has columns. It can stand wherever a goal's cells are taken; any
-/// other cells can too, and are refused there if they are no goal.
+/// A goal that was read, from cells for a record's table or from text for the facts' names ([`Names::goal`](crate::Names::goal)): as many
+/// terms as the table has columns. It can stand wherever a goal's cells are taken; any other cells can too, and are refused there if they
+/// are no goal.
 ///
 /// ```
 /// use dudowiej::{name, variable, Goal, Record};
@@ -22,6 +25,9 @@ use std::ops::Deref;
 pub struct Goal {
     cells: Vec<u32>,
     variables: usize,
+    /// Its text, and the places in it of the names that the facts have not. A goal of cells has neither.
+    text: Vec<u8>,
+    new: Vec<u32>,
 }
 
 impl Goal {
@@ -30,12 +36,29 @@ impl Goal {
     /// Refused is what is no goal for the table: LENGTH, SHORT, CELL, FRESH, EXTRA.
     pub fn read(record: &Record, cells: &[u32]) -> Result<Goal, Refusal> {
         let (_, variables) = entries::read_goal(record.as_numbers(), cells)?;
-        Ok(Goal { cells: cells.to_vec(), variables })
+        Ok(Goal { cells: cells.to_vec(), variables, text: Vec::new(), new: Vec::new() })
+    }
+
+    /// A goal that was read from text. Its variables are numbered from 0.
+    pub(crate) fn of_text(text: &[u8], cells: &[u32], new: &[u32]) -> Goal {
+        let variables = cells.iter().filter(|&&cell| matches!(Symbol::of(cell), Some(Symbol::Variable(_)))).max();
+        let variables = variables.map_or(0, |&last| last as usize + 1);
+        Goal { cells: cells.to_vec(), variables, text: text.to_vec(), new: new.to_vec() }
     }
 
     /// How many variables it has.
     pub fn variables(&self) -> usize {
         self.variables
+    }
+
+    /// The names that the facts have not, in the order of their numbers, which come after those of the facts. A goal of cells says none.
+    pub fn new_names(&self) -> impl Iterator<Item = &str> {
+        self.new.iter().map(|&entry| word_at(&self.text, entry))
+    }
+
+    /// The text and the list of new names in it.
+    pub(crate) fn listed(&self) -> (&[u8], &[u32]) {
+        (&self.text, &self.new)
     }
 }
 

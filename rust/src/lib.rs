@@ -5,7 +5,7 @@
 //! table is worked out into a [`Record`] once; a [`Plan`] is built from the record; and a goal is answered by the record and the plan.
 //!
 //! ```
-//! use dudowiej::{variable, whole, Plan, Record};
+//! use dudowiej::{Plan, Record};
 //!
 //! let rules = "
 //!     rule(9, red, ring, soft).        % urgency, enamel, piece, firing
@@ -15,13 +15,12 @@
 //! let (record, names) = Record::from_text(rules, 0)?;
 //! let plan = Plan::build(&record).plan;
 //! // A red ring of urgency 9: which firing?
-//! let [red, ring] = ["red", "ring"].map(|word| names.cell(word, 0).expect("a name of the rules"));
-//! let goal = [whole(9), red, ring, variable(0)];
+//! let goal = names.goal("rule(9, red, ring, Firing)")?;
 //! let hits = record.run(&plan, &goal)?;
 //! assert_eq!(hits.rows().collect::<Vec<_>>(), [0, 2]);
 //! let replies = record.replies(&plan, &goal)?;
-//! let said: Vec<String> = replies.iter().map(|reply| names.show(reply)).collect();
-//! assert_eq!(said, ["9, red, ring, soft", "9, red, ring, medium"]);
+//! let said: Result<Vec<String>, _> = replies.iter().map(|reply| names.say(&goal, reply)).collect();
+//! assert_eq!(said?, ["rule(9, red, ring, soft)", "rule(9, red, ring, medium)"]);
 //! # Ok::<(), dudowiej::Refusal>(())
 //! ```
 //!

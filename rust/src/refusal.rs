@@ -39,7 +39,7 @@ macro_rules! reasons {
 }
 
 reasons! {
-    Length = 1, "LENGTH", "a table has 2 to 2,050 cells, and a goal 1 to 32";
+    Length = 1, "LENGTH", "a table has 2 to 2,050 cells and at most 2,048 names, a goal 1 to 32 cells";
     Width = 2, "WIDTH", "a table has 1 to 8 columns";
     Count = 3, "COUNT", "a table has 1 to 64 rows";
     Long = 4, "LONG", "a row is not complete after 32 cells";
@@ -55,15 +55,15 @@ reasons! {
     Label = 14, "LABEL", "this is not the cell of the branch's rows";
     Rows = 15, "ROWS", "this is not the leaf's number of rows";
     Room = 16, "ROOM", "the lent room is too small, and the place says how much is needed";
-    Bytes = 17, "BYTES", "a text has at most 65,535 bytes";
-    Text = 18, "TEXT", "no text of facts goes on so";
-    Other = 19, "OTHER", "a fact has another predicate or width than the first";
+    Bytes = 17, "BYTES", "a text has at most 65,535 bytes, a goal's 65,533";
+    Text = 18, "TEXT", "no text of facts, or no goal, goes on so";
+    Other = 19, "OTHER", "a fact has another predicate or width than the first, or the goal is not one of theirs";
     Figure = 20, "FIGURE", "a figure is 0 to 15";
     Full = 21, "FULL", "the table has 64 rows already";
     Last = 22, "LAST", "the only row cannot be dropped";
     Index = 23, "INDEX", "there is no such row";
     Same = 24, "SAME", "a row without variables stands in the table already";
-    Big = 25, "BIG", "a reply has over 1,024 cells";
+    Big = 25, "BIG", "a reply, or an answer that is to be written, has over 1,024 cells";
     Names = 26, "NAMES", "a listed place holds no lower-case name, two hold the same, or a name is not listed";
     Blocks = 27, "BLOCKS", "a file is one or more whole blocks of 512 bytes";
     Damage = 28, "DAMAGE", "this block has another number than its place, or a wrong check";

@@ -138,6 +138,19 @@ extern "C" {
         names: *mut u32,
         names_room: usize,
     ) -> u64;
+    /// Reads a goal in Prolog text: the goal's cells, how many of its names the facts have not.
+    pub fn dudowiej_read_goal_text(
+        text: *const u8,
+        text_bytes: usize,
+        names: *const u32,
+        name_count: usize,
+        goal: *const u8,
+        goal_bytes: usize,
+        cells: *mut u32,
+        cells_room: usize,
+        new_names: *mut u32,
+        new_room: usize,
+    ) -> u64;
     /// Runs a plan on every goal of a list: the plan's branches, 0.
     pub fn dudowiej_run_jobs(
         record: *const Record,
@@ -181,6 +194,21 @@ extern "C" {
         jobs_count: usize,
         room: *mut u32,
         room_cells: usize,
+    ) -> u64;
+    /// Writes an answer as Prolog text: the cells said, the bytes written.
+    pub fn dudowiej_put_answer(
+        text: *const u8,
+        text_bytes: usize,
+        names: *const u32,
+        name_count: usize,
+        goal: *const u8,
+        goal_bytes: usize,
+        new_names: *const u32,
+        new_count: usize,
+        cells: *const u32,
+        cell_count: usize,
+        room: *mut u8,
+        room_bytes: usize,
     ) -> u64;
     /// Writes a plan as a Prolog program: the clauses, the bytes written.
     pub fn dudowiej_clauses(

@@ -101,13 +101,16 @@ fn every_refusal_says_why() {
 #[test]
 fn some_refusals_in_full() {
     let said = |refusal: &Refusal| refusal.to_string();
-    assert_eq!(said(&of_tables()[0]), "goal refused, LENGTH 1 at 0: a table has 2 to 2,050 cells, and a goal 1 to 32");
-    assert_eq!(said(&of_tables()[9]), "text refused, TEXT 18 at 5: no text of facts goes on so");
+    assert_eq!(
+        said(&of_tables()[0]),
+        "goal refused, LENGTH 1 at 0: a table has 2 to 2,050 cells and at most 2,048 names, a goal 1 to 32 cells"
+    );
+    assert_eq!(said(&of_tables()[9]), "text refused, TEXT 18 at 5: no text of facts, or no goal, goes on so");
     assert_eq!(said(&of_edits()[3]), "table refused, SAME 24 at 0: a row without variables stands in the table already");
     assert_eq!(said(&of_plans()[1]), "plan refused, ENDS 11 at 8: the cells end before the plan is complete");
     assert_eq!(said(&of_plans()[6]), "room refused, ROOM 16 at 9: the lent room is too small, and the place says how much is needed");
     let error: Box<dyn std::error::Error> = Box::new(of_replies()[0]);
-    assert_eq!(error.to_string(), "goal refused, BIG 25 at 0: a reply has over 1,024 cells");
+    assert_eq!(error.to_string(), "goal refused, BIG 25 at 0: a reply, or an answer that is to be written, has over 1,024 cells");
 }
 
 /// The names and numbers are those of docs/FORMAT.md and of the header, and each reason has words of its own.
