@@ -14,7 +14,7 @@ pub mod repeats;
 mod replies;
 pub mod salvage;
 mod saved;
-mod small;
+pub(crate) mod small;
 mod tally;
 mod texts;
 
@@ -150,7 +150,7 @@ const FIGURES: [u32; 5] = [0, 1, 2, 15, 16];
 const SHORT: usize = 8;
 
 /// Cells or bytes on either side of a lent room, which no call may touch.
-const MARGIN: usize = 8;
+pub(crate) const MARGIN: usize = 8;
 
 impl<E: Engine> Comparison<'_, E> {
     /// A table, sound or damaged, with rows, rooms, plans and goals of all kinds.
@@ -336,7 +336,7 @@ impl<E: Engine> Comparison<'_, E> {
 }
 
 /// A call with the middle of the lent cells or bytes as its room; its answer, and all of them afterwards.
-fn lend<T: Clone>(lent: &[T], call: impl FnOnce(&mut [T]) -> u64) -> (u64, Vec<T>) {
+pub(crate) fn lend<T: Clone>(lent: &[T], call: impl FnOnce(&mut [T]) -> u64) -> (u64, Vec<T>) {
     let mut left = lent.to_vec();
     let end = left.len() - MARGIN;
     let answer = call(&mut left[MARGIN..end]);
@@ -344,7 +344,7 @@ fn lend<T: Clone>(lent: &[T], call: impl FnOnce(&mut [T]) -> u64) -> (u64, Vec<T
 }
 
 /// Two rooms lent in one call.
-fn lend_two(lent: &[Vec<u32>; 2], call: impl FnOnce(&mut [u32], &mut [u32]) -> u64) -> (u64, [Vec<u32>; 2]) {
+pub(crate) fn lend_two(lent: &[Vec<u32>; 2], call: impl FnOnce(&mut [u32], &mut [u32]) -> u64) -> (u64, [Vec<u32>; 2]) {
     let mut second_left = Vec::new();
     let (answer, first_left) = lend(&lent[0], |first| {
         let (answer, left) = lend(&lent[1], |second| call(first, second));

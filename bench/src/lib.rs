@@ -1,5 +1,6 @@
 //! An independent implementation of the rule tables, compared with the functions that the library exports and timed beside them.
 
+pub mod asking;
 pub mod believe;
 pub mod branches;
 pub mod cases;

@@ -7,7 +7,7 @@ use std::process::ExitCode;
 use dudowiej_bench::compare::{self, listings, ROUNDS, SEED};
 use dudowiej_bench::engine::Exported;
 use dudowiej_bench::model::listing::listing;
-use dudowiej_bench::{believe, clauses, columns, count, edits, files, liked, map, prolog, reply_shift, salvage, shift, stack, time};
+use dudowiej_bench::{asking, believe, clauses, columns, count, edits, files, liked, map, prolog, reply_shift, salvage, shift, stack, time};
 
 const USAGE: &str = "usage:
   compare [ROUNDS [SEED]]   the exported functions against the independent implementation
@@ -20,6 +20,7 @@ const USAGE: &str = "usage:
   programs FOLDER COUNT SEED   plans handed back as Prolog with goals and replies, as files
   count-shift, instructions-shift FOLDER   the same for a list of goals
   count-reply-shift, instructions-reply-shift FOLDER   the same for the replies to a list of goals
+  count-asking, instructions-asking FOLDER   the same for goals and answers as text
   count-replies, instructions-replies FOLDER   the same for replies alone
   count-repeats, instructions-repeats FOLDER   the same for rows that repeat a variable
   count-edits, instructions-edits FOLDER   the same for a record's edits
@@ -69,6 +70,8 @@ fn main() -> ExitCode {
         ["instructions-shift", folder] => done(|| shift::count::instructions(Path::new(folder))),
         ["count-reply-shift"] => done(reply_shift::count::count),
         ["instructions-reply-shift", folder] => done(|| reply_shift::count::instructions(Path::new(folder))),
+        ["count-asking"] => done(asking::count::count),
+        ["instructions-asking", folder] => done(|| asking::count::instructions(Path::new(folder))),
         ["count-replies"] => done(count::count_replies),
         ["instructions-replies", folder] => done(|| {
             count::reply_instructions(Path::new(folder), 0);
@@ -120,6 +123,9 @@ fn compared(rounds: usize, seed: u64) -> ExitCode {
     println!("{lists}");
     let replied = reply_shift::compare::compare(&Exported, rounds / 4, seed);
     println!("{replied}");
+    let asked = asking::compare::compare(&Exported, rounds / 8, seed);
+    let asked = asking::compare::families(&Exported, asked, seed);
+    println!("{asked}");
     let more = dudowiej_bench::knowing::compare(&Exported, rounds / 4, seed);
     println!("{more}");
     let tally = compare::compare(&Exported, rounds, seed);
@@ -132,7 +138,7 @@ fn compared(rounds: usize, seed: u64) -> ExitCode {
     let tally = compare::files(&Exported, tally, rounds, seed);
     let tally = compare::salvages(&Exported, tally, rounds, seed);
     println!("{tally}");
-    if tally.passed() && lists.passed() && replied.passed() && more.passed() && listings_differ == 0 {
+    if tally.passed() && lists.passed() && replied.passed() && asked.passed() && more.passed() && listings_differ == 0 {
         ExitCode::SUCCESS
     } else {
         ExitCode::FAILURE

@@ -1,5 +1,6 @@
 //! Random inputs: tables, rows, records, goals, plans, lists of goals, of names and of columns, files and cards, sound and damaged.
 
+pub mod asked;
 pub mod big;
 pub mod cards;
 pub mod columns;

@@ -1,6 +1,7 @@
 //! Document 01 ("Tables, plans and runs") in plain Rust: terms as trees and a textbook unifier; and of 02 the requests that have landed. It was
 //! written from the documents alone and shares nothing with the library.
 
+pub mod asking;
 pub mod clauses;
 pub mod columns;
 pub mod files;

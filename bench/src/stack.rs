@@ -4,6 +4,7 @@ mod touched;
 
 use std::hint::black_box;
 
+use crate::asking::Asking;
 use crate::branches::{flat, with_argument};
 use crate::cases::SEED;
 use crate::compare::clauses::most_clauses;
@@ -13,6 +14,7 @@ use crate::make::lists::List;
 use crate::make::names::{entry, letters};
 use crate::make::tables::{longest_replies, table, Kind};
 use crate::make::{big, goals, records};
+use crate::model::asking::GOAL_BYTES;
 use crate::model::files::{filled, sealed, BLOCK_BYTES, BLOCK_CELLS, FILE_BYTES};
 use crate::model::least::least;
 use crate::model::liked::Liked;
@@ -62,6 +64,7 @@ pub fn stack() {
     most.of_clauses(&records::worked_out(&table, MOST_FIGURE), &plans(&read_table(&table).expect("a sound table")));
     for (_, text) in measured_texts() {
         most.of_text(&text);
+        most.of_asking(&text);
     }
     println!("Bytes of stack that a call touches below its caller's frame, the most over all inputs");
     for (entry, bytes) in most.0 {
@@ -213,6 +216,25 @@ impl Most {
             for (cells, names) in [(0, 0), (TABLE_CELLS, 0), (TABLE_CELLS, TABLE_CELLS), (ROOM, 0), (ROOM, 1), (ROOM, TABLE_CELLS), (ROOM, ROOM)] {
                 let (mut cells, mut names) = (vec![0; cells], vec![0; names]);
                 self.note("dudowiej_read_text", || Exported.read_text(text, &mut cells, &mut names));
+            }
+        }
+    }
+
+    /// The text as facts, as a goal for itself and as one for other facts, cut too, and with a list of too many names; as many names said one in
+    /// another as an answer may have, and one more. In room enough and in none.
+    fn of_asking(&mut self, text: &[u8]) {
+        let (names, short, other) = ([2 << 16; 2049], &b"p(a)"[..], &b"p(a)."[..]);
+        let shorter = text.len().min(GOAL_BYTES);
+        for (facts, goal) in [(text, text), (text, &text[..shorter]), (text, short), (other, text), (other, &text[..shorter]), (other, short)] {
+            for room in [32, 0] {
+                let (mut cells, mut new) = (vec![0; room], vec![0; room]);
+                for names in [&names[..2048], &names] {
+                    self.note("dudowiej_read_goal_text", || Exported.read_goal_text(facts, names, goal, &mut cells, &mut new));
+                }
+                let mut room = vec![0; 4096 * room];
+                for cells in [&[with_argument(2050); 1025][1..], &[with_argument(0); 1025], &[]] {
+                    self.note("dudowiej_put_answer", || Exported.put_answer(facts, &names[..2048], goal, &names, cells, &mut room));
+                }
             }
         }
     }

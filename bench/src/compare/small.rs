@@ -108,7 +108,7 @@ impl<E: Engine> Comparison<'_, E> {
 }
 
 /// Every list of up to so many cells or bytes of an alphabet.
-pub(super) fn words<T: Copy>(alphabet: &[T], most: usize, visit: &mut impl FnMut(&[T])) {
+pub(crate) fn words<T: Copy>(alphabet: &[T], most: usize, visit: &mut impl FnMut(&[T])) {
     fn longer<T: Copy>(alphabet: &[T], left: usize, word: &mut Vec<T>, visit: &mut impl FnMut(&[T])) {
         visit(word);
         if left == 0 {

@@ -33,9 +33,13 @@ pub fn any(random: &mut Random) -> Vec<u8> {
 
 /// The table of a shop, printed as a shop would.
 pub fn shop(random: &mut Random, rows: usize) -> Vec<u8> {
-    let table = read_table(&tables::table(random, Kind::Shop, rows)).expect("a sound table");
-    let mut printer =
-        Printer { random, gaps: Gaps::None, naming: Naming::Shop, twice: false, predicate: b"rule".to_vec(), words: Vec::new(), text: Vec::new() };
+    plain(random, Kind::Shop, rows)
+}
+
+/// The same for a table of any kind.
+pub fn plain(random: &mut Random, kind: Kind, rows: usize) -> Vec<u8> {
+    let table = read_table(&tables::table(random, kind, rows)).expect("a sound table");
+    let mut printer = Printer { naming: Naming::Shop, ..Printer::new(random, b"rule") };
     for row in &table.rows {
         printer.fact(row);
         printer.text.push(10);
@@ -44,7 +48,7 @@ pub fn shop(random: &mut Random, rows: usize) -> Vec<u8> {
 }
 
 /// One byte changed, put in, left out, or two exchanged.
-fn damage(random: &mut Random, text: &mut Vec<u8>) {
+pub(super) fn damage(random: &mut Random, text: &mut Vec<u8>) {
     const BYTES: &[u8] = b"aZ_09.,()% \n\r\t'\"-:[]{}|!/*\0\x0c\x7f\x80\xe4\xff";
     let byte = if random.one_in(4) { random.number() as u8 } else { *random.pick(BYTES) };
     let place = random.below(text.len());
@@ -62,7 +66,7 @@ fn damage(random: &mut Random, text: &mut Vec<u8>) {
 }
 
 /// Something put in that is Prolog, or nearly.
-fn strange(random: &mut Random, text: &mut Vec<u8>) {
+pub(super) fn strange(random: &mut Random, text: &mut Vec<u8>) {
     const PIECES: [&[u8]; 26] = [
         b"f(a,b,c,d,e)",
         b"32768",
@@ -119,6 +123,8 @@ enum Naming {
     Alike,
     /// What a shop might write.
     Shop,
+    /// By a list of words; `new_12` for a number that it has not.
+    Listed,
 }
 
 struct Printer<'r> {
@@ -128,6 +134,7 @@ struct Printer<'r> {
     /// Whether a row's variables may share a name.
     twice: bool,
     predicate: Vec<u8>,
+    listed: Vec<String>,
     /// What stands for each variable of a fact, by its number.
     words: Vec<(u16, String)>,
     text: Vec<u8>,
@@ -140,7 +147,7 @@ fn print(random: &mut Random, rows: &[Row]) -> Vec<u8> {
     // One text in ten has a fact of another predicate or width, one in ten may repeat a variable.
     let (other, twice) = (random.one_in(10), random.one_in(10));
     let odd = random.below(rows.len());
-    let mut printer = Printer { random, gaps, naming, twice, predicate, words: Vec::new(), text: Vec::new() };
+    let mut printer = Printer { gaps, naming, twice, ..Printer::new(random, &predicate) };
     printer.gap();
     for (number, row) in rows.iter().enumerate() {
         if number > 0 {
@@ -153,7 +160,33 @@ fn print(random: &mut Random, rows: &[Row]) -> Vec<u8> {
     printer.text
 }
 
-impl Printer<'_> {
+/// A goal of these terms, its names by a list of words; with a full stop, layout or a comment behind it, or nothing.
+pub fn goal(random: &mut Random, predicate: &[u8], listed: Vec<String>, terms: &[Term]) -> Vec<u8> {
+    let gaps = *random.pick(&[Gaps::None, Gaps::Spaces, Gaps::All]);
+    let mut printer = Printer { gaps, naming: Naming::Listed, listed, ..Printer::new(random, predicate) };
+    printer.gap();
+    printer.text.extend(predicate);
+    printer.arguments(terms);
+    if printer.random.one_in(3) {
+        printer.gap();
+        printer.text.push(b'.');
+        // Layout, or what is no text any more.
+        match printer.random.below(8) {
+            0 => printer.text.extend(*printer.random.pick(&[&b"."[..], b"a", b" .", b"p(a)"])),
+            1..=3 => printer.blank(),
+            _ => {}
+        }
+    }
+    printer.end();
+    printer.text
+}
+
+impl<'r> Printer<'r> {
+    fn new(random: &'r mut Random, predicate: &[u8]) -> Printer<'r> {
+        let (gaps, naming, predicate) = (Gaps::None, Naming::Numbered, predicate.to_vec());
+        Printer { random, gaps, naming, twice: false, predicate, listed: Vec::new(), words: Vec::new(), text: Vec::new() }
+    }
+
     fn fact_or_other(&mut self, row: &Row, other: bool) {
         if !other {
             return self.fact(row);
@@ -212,6 +245,7 @@ impl Printer<'_> {
             Naming::Numbered => format!("n{number}"),
             Naming::Words => WORDS[number % WORDS.len()].to_string(),
             Naming::Alike => format!("{}aaaaaaaaaaaaaaaa{}", ["x", "xx", "y"][number % 3], ["", "b", "_1"][number / 3 % 3]),
+            Naming::Listed => self.listed.get(number).cloned().unwrap_or_else(|| format!("new_{number}")),
             Naming::Shop => format!("{}{}", SHOP[number % SHOP.len()], ["", "s", "_light", "2"][number / SHOP.len() % 4]),
         }
     }
@@ -417,7 +451,7 @@ fn padded(bytes: usize, text: Vec<u8>) -> Vec<u8> {
     [vec![b' '; bytes.saturating_sub(text.len())], text].concat()
 }
 
-fn different(count: usize) -> Vec<String> {
+pub fn different(count: usize) -> Vec<String> {
     (0..count).map(word).collect()
 }
 
@@ -439,7 +473,7 @@ fn word(number: usize) -> String {
     String::from_utf8(word).expect("letters and digits")
 }
 
-fn fact(arguments: &[String]) -> Vec<u8> {
+pub fn fact(arguments: &[String]) -> Vec<u8> {
     format!("p({}).", arguments.join(",")).into_bytes()
 }
 

@@ -32,6 +32,22 @@ pub fn read_text(text: &[u8], cells: &mut [u32], names: &mut [u32]) -> Answer {
 
 /// What the text says, or BYTES, TEXT or OTHER.
 pub fn load(text: &[u8]) -> Result<Loaded, Refusal> {
+    let facts = taken(text)?;
+    let mut cells = vec![facts[0].width as u32, facts.len() as u32];
+    let mut names = Names::default();
+    for fact in &facts {
+        cells.extend(row(fact, |symbol| names.number(symbol)));
+    }
+    Ok(Loaded { cells, names: names.list })
+}
+
+/// The predicate of a text's facts, and how many arguments it has; none where the text is refused.
+pub fn predicate(text: &[u8]) -> Option<(&[u8], usize)> {
+    taken(text).ok().map(|facts| (facts[0].name, facts[0].width))
+}
+
+/// The facts of a text, which are of one predicate and width; or BYTES, TEXT or OTHER.
+fn taken(text: &[u8]) -> Result<Vec<Fact<'_>>, Refusal> {
     let refused = |number, place| Err(Refusal { number, input: Input::Text, place });
     if text.len() > TEXT_BYTES {
         return refused(Number::Bytes, 0);
@@ -44,17 +60,18 @@ pub fn load(text: &[u8]) -> Result<Loaded, Refusal> {
     if let Some(fact) = facts.iter().find(of_another) {
         return refused(Number::Other, fact.start);
     }
-    let mut cells = vec![facts[0].width as u32, facts.len() as u32];
-    let mut names = Names::default();
-    for fact in &facts {
-        let mut variables = Variables::default();
-        cells.extend(fact.symbols.iter().map(|symbol| match symbol.word[0] {
-            b'a'..=b'z' => 1 << 30 | (symbol.arguments as u32) << 16 | names.number(symbol),
-            b'-' | b'0'..=b'9' => Term::Number(value(symbol.word)).cell(),
-            _ => Term::Var(variables.number(symbol.word)).cell(),
-        }));
-    }
-    Ok(Loaded { cells, names: names.list })
+    Ok(facts)
+}
+
+/// The cells of a fact's arguments, by the numbers that its names have.
+pub(super) fn row<'t>(fact: &Fact<'t>, mut number: impl FnMut(&Symbol<'t>) -> u32) -> Vec<u32> {
+    let mut variables = Variables::default();
+    let cell = |symbol: &Symbol<'t>| match symbol.word[0] {
+        b'a'..=b'z' => 1 << 30 | (symbol.arguments as u32) << 16 | number(symbol),
+        b'-' | b'0'..=b'9' => Term::Number(value(symbol.word)).cell(),
+        _ => Term::Var(variables.number(symbol.word)).cell(),
+    };
+    fact.symbols.iter().map(cell).collect()
 }
 
 fn value(word: &[u8]) -> i16 {
@@ -62,21 +79,21 @@ fn value(word: &[u8]) -> i16 {
 }
 
 /// A name, variable or number inside a fact.
-struct Symbol<'t> {
-    start: usize,
-    word: &'t [u8],
+pub(super) struct Symbol<'t> {
+    pub start: usize,
+    pub word: &'t [u8],
     arguments: usize,
 }
 
-struct Fact<'t> {
-    start: usize,
-    name: &'t [u8],
-    width: usize,
+pub(super) struct Fact<'t> {
+    pub start: usize,
+    pub name: &'t [u8],
+    pub width: usize,
     symbols: Vec<Symbol<'t>>,
 }
 
 /// The facts of bytes that are a text: words and marks, comments blanked out first.
-fn facts(text: &[u8]) -> Vec<Fact<'_>> {
+pub(super) fn facts(text: &[u8]) -> Vec<Fact<'_>> {
     let mut facts = Vec::new();
     let mut symbols: Vec<Symbol> = Vec::new();
     // The symbols whose brackets are open; the first of a fact's symbols is its own name.
