@@ -17,7 +17,7 @@ use octets::put_decimal;
 use octets::put_word;
 
 // The word at a number of one list; nothing for a number that the list has not.
-fn put_listed(out: &mut [u8], to: usize, text: &[u8], names: &[u32], k: usize) -> usize
+pub fn put_listed(out: &mut [u8], to: usize, text: &[u8], names: &[u32], k: usize) -> usize
     ensures { λ r. ⌜ Put (now (out .entry)) (now (out .exit)) to (getD (wordsIn (now (text .entry)) (now (names .entry))) k []) r ⌝ }
 {
     if names.len() <= k {
@@ -46,7 +46,7 @@ fn put_name(
 }
 
 // A symbol's word.
-fn put_symbol(
+pub fn put_symbol(
     out: &mut [u8],
     to: usize,
     text: &[u8],

@@ -2,8 +2,8 @@ use mathlib.Core.Path.{_≡_}
 use Prim.Native.Nat.{_-_, _≤_}
 use lib.ListN.{length}
 use borrow.Author.Needs.{needs}
-use Rattle.treetext.proofs.put_arguments.Statement.{statement}
-use Rattle.treetext.proofs.put_arguments.Tie as tie
+use Rattle.branchlist.proofs.put_arguments.Statement.{statement}
+use Rattle.branchlist.proofs.put_arguments.Tie as tie
 
 abbrev Inv-loop : tie.InvT-loop
 Inv-loop places₀ to owner count on₀ i₀ places on i = (length places ≡ length places₀) × (i ≤ 8)
@@ -17,17 +17,17 @@ loop-holds c = search needs
 add-i : tie.Need-add-i Inv-loop μ-loop
 add-i c = search needs
 
-mul-put-place : tie.Need-mul-put-place Inv-loop μ-loop
-mul-put-place c = search needs
+mul-put-cell : tie.Need-mul-put-cell Inv-loop μ-loop
+mul-put-cell c = search needs
 
-cast-put-place : tie.Need-cast-put-place Inv-loop μ-loop
-cast-put-place c = search needs
+cast-put-cell : tie.Need-cast-put-cell Inv-loop μ-loop
+cast-put-cell c = search needs
 
-add-put-place : tie.Need-add-put-place Inv-loop μ-loop
-add-put-place c = search needs
+add-put-cell : tie.Need-add-put-cell Inv-loop μ-loop
+add-put-cell c = search needs
 
-put-place-requires : tie.Need-put-place-requires Inv-loop μ-loop
-put-place-requires c κs = search needs
+put-cell-requires : tie.Need-put-cell-requires Inv-loop μ-loop
+put-cell-requires c κs = search needs
 
 loop-less : tie.Need-loop-less Inv-loop μ-loop
 loop-less c = search needs
@@ -55,10 +55,10 @@ put-arguments-spec =
     μ-loop
     loop-holds
     add-i
-    mul-put-place
-    cast-put-place
-    add-put-place
-    put-place-requires
+    mul-put-cell
+    cast-put-cell
+    add-put-cell
+    put-cell-requires
     loop-less
     loop-again
     same-length
