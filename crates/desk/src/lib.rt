@@ -1,19 +1,13 @@
 // The program `ask`: a shop's rules and its goals in Prolog text, answered in Prolog text. What is read and what is answered is decided and
-// promised in the libraries. This crate finds the file and does what is asked of it; it is proved safe and ending.
-use askall::Goals;
-use clauses::HandAnswer;
+// promised in the libraries. This crate finds the file and hands on what is asked of it; it is proved safe and ending.
 use doubles::part;
 use known::Listed;
-use page::Page;
 use reading::Got;
-use refusal::Refusal;
-use shop::Loaded;
-use shop::Shop;
 use wishes::Asked;
 use wishes::Wish;
 
-// The program's arguments: `[--known LIST] [--count] FILE GOAL ..`, `[--known LIST] --plan FILE`, the same with `--prolog`, `--tune JOBS FILE`,
-// `--help` or `--version`.
+// The program's arguments: `[--known LIST] [--count] FILE GOAL ..`, `[--known LIST] --plan FILE`, the same with `--dot` or `--prolog`,
+// `--tune JOBS FILE`, `--help` or `--version`.
 pub fn answer() {
     answer_call(1, os::arg_count());
 }
@@ -26,7 +20,8 @@ pub fn answer_call(first: usize, end: usize) {
         Wish::Help => helptext::print(),
         Wish::Version => helptext::version(),
         Wish::Nothing => helptext::refuse(),
-        _ => find_columns(asked),
+        Wish::Answers | Wish::Counts => find_columns(asked),
+        Wish::Tree | Wish::Picture | Wish::Clauses | Wish::Tuned => find_columns(asked),
     }
 }
 
@@ -69,7 +64,7 @@ fn open(
 ) {
     let mut text = [0u8; 65536];
     match reading::read_path(path, &mut text) {
-        Got::Bytes(n) => load(
+        Got::Bytes(n) => askwork::answer(
             path,
             parts::part(&text, 0, n),
             asked,
@@ -80,84 +75,4 @@ fn open(
         ),
         Got::Failed => reading::cannot_read(path, out),
     }
-}
-
-fn load(
-    path: &[u8],
-    text: &[u8],
-    asked: Asked,
-    columns: &[u32],
-    room: &mut [u32],
-    kept: &mut [u32],
-    out: &mut [u8],
-) {
-    match shop::load_for(text, columns, room, kept) {
-        Loaded::Kept(shop) => show(path, text, kept, shop, asked, room, out),
-        Loaded::Refused(f) => refuse(path, text, asked.known, f, out),
-    }
-}
-
-fn show(
-    path: &[u8],
-    text: &[u8],
-    kept: &mut [u32],
-    shop: Shop,
-    asked: Asked,
-    room: &mut [u32],
-    out: &mut [u8],
-) {
-    let wish = asked.wish;
-    match wish {
-        Wish::Tree => show_tree(text, &*kept, shop, out),
-        Wish::Clauses => show_clauses(path, text, &*kept, shop, out),
-        Wish::Tuned => tune::answer(asked.jobs, path, text, kept, shop, room, out),
-        _ => askall::answer_all(text, &*kept, shop, goals_of(asked), room, out),
-    }
-}
-
-fn goals_of(asked: Asked) -> Goals {
-    let wish = asked.wish;
-    Goals {
-        first: asked.goal,
-        end: asked.end,
-        counts: counts(wish),
-    }
-}
-
-fn counts(wish: Wish) -> bool {
-    match wish {
-        Wish::Counts => true,
-        _ => false,
-    }
-}
-
-fn show_tree(text: &[u8], kept: &[u32], shop: Shop, out: &mut [u8]) {
-    let last = treetext::print(text, kept, shop, out, page::blank());
-    page::flush(out, last);
-}
-
-fn show_clauses(path: &[u8], text: &[u8], kept: &[u32], shop: Shop, out: &mut [u8]) {
-    match clausetext::put_clauses(out, text, kept, shop) {
-        HandAnswer::Handed(_, bytes) => {
-            page::flush(
-                out,
-                Page {
-                    to: bytes,
-                    open: true,
-                },
-            );
-        }
-        HandAnswer::Refused(f) => refuse(path, text, 0, f, out),
-    }
-}
-
-// Why a file is not taken, or why a list of known columns is not.
-fn refuse(path: &[u8], text: &[u8], list: usize, f: Refusal, out: &mut [u8]) {
-    let reason = f.reason;
-    if refusal::number_of(reason) == known::COLUMN {
-        known::complain(list, path, shop::width_of(text), out);
-        return;
-    }
-    let n = refusals::put_facts_refusal(out, path, text, f);
-    page::complain(out, n);
 }

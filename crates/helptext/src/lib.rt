@@ -39,14 +39,18 @@ fn uses(going: bool) -> bool {
     );
     let d = line(
         c,
-        b"ask --prolog FILE    that order as Prolog clauses, which answer as the rules do\n",
+        b"ask --dot FILE       that order as a picture: ask --dot FILE | dot -Tsvg\n",
     );
     let e = line(
         d,
+        b"ask --prolog FILE    that order as Prolog clauses, which answer as the rules do\n",
+    );
+    let f = line(
+        e,
         b"ask --tune JOBS FILE which columns to look at first for goals like those of JOBS\n",
     );
-    let f = line(e, b"ask --help, -h       this\n");
-    line(f, b"ask --version        the version\n\n")
+    let g = line(f, b"ask --help, -h       this\n");
+    line(g, b"ask --version        the version\n\n")
 }
 
 fn columns(going: bool) -> bool {
@@ -174,7 +178,7 @@ pub fn version() {
 pub fn refuse() {
     io::write_all(
         STDERR_FILENO,
-        b"usage: ask [--known LIST] [--count] FILE [GOAL ..], ask [--known LIST] --plan FILE, ask [--known LIST] --prolog FILE, ask --tune JOBS FILE, ask --help or ask --version\n",
+        b"usage: ask [--known LIST] [--count] FILE [GOAL ..], ask [--known LIST] --plan FILE, ask [--known LIST] --dot FILE, ask [--known LIST] --prolog FILE, ask --tune JOBS FILE, ask --help or ask --version\n",
     );
 }
 

@@ -1,12 +1,13 @@
 // What the arguments of the program ask ask for: options, then the file, then goals.
 use lex::name::same_bytes;
 
-// What is printed: the answers to goals; these, and what they add up to; the plan as a tree, or as Prolog; the plan that a file of goals likes
-// best; the help; the version; or nothing, since the arguments make no sense.
+// What is printed: the answers to goals; these, and what they add up to; the plan as a tree, as a picture, or as Prolog; the plan that a file of
+// goals likes best; the help; the version; or nothing, since the arguments make no sense.
 pub enum Wish {
     Answers,
     Counts,
     Tree,
+    Picture,
     Clauses,
     Tuned,
     Help,
@@ -54,6 +55,9 @@ fn printed_by(word: &[u8]) -> Wish {
     }
     if same_bytes(word, b"--plan") {
         return Wish::Tree;
+    }
+    if same_bytes(word, b"--dot") {
+        return Wish::Picture;
     }
     if same_bytes(word, b"--prolog") {
         return Wish::Clauses;
@@ -133,7 +137,7 @@ fn naming(asked: Asked, file: usize, goal: usize, end: usize) -> Asked {
     let wish = asked.wish;
     match wish {
         Wish::Answers | Wish::Counts => {}
-        Wish::Tree | Wish::Clauses => {
+        Wish::Tree | Wish::Picture | Wish::Clauses => {
             if goal < end {
                 return nothing();
             }
@@ -143,7 +147,7 @@ fn naming(asked: Asked, file: usize, goal: usize, end: usize) -> Asked {
                 return nothing();
             }
         }
-        _ => {
+        Wish::Help | Wish::Version | Wish::Nothing => {
             return nothing();
         }
     }
