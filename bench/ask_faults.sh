@@ -46,6 +46,7 @@ yes 'rule(f(1, 2, 3, f(1, 2, 3, f(1, 2, 3, 4))), f(1, 2, 3, f(1, 2, 3, 4)), f(1,
 say 'a full disk'
 $ask shop.pl "$goal" >/dev/full
 $ask --plan shop.pl >/dev/full
+$ask --dot shop.pl >/dev/full
 $ask --tune jobs.pl shop.pl >/dev/full
 $ask --help >/dev/full
 say 'a reader that is gone after a line, and goals without end'
@@ -55,12 +56,14 @@ say 'a reader that is gone after a line, and goals without end'
 )
 say 'an argument too many, one too few, one that there is not'
 $ask --plan shop.pl "$goal"
+$ask --dot shop.pl "$goal"
 $ask --plan
 $ask --plans shop.pl
 $ask --tune jobs.pl
 $ask --tune jobs.pl shop.pl "$goal"
 say 'options that make no sense together'
 $ask --plan --count shop.pl
+$ask --plan --dot shop.pl
 $ask --known 1 --known 3 shop.pl "$goal"
 $ask --known 1,3
 $ask --known 1,3 --tune jobs.pl shop.pl
