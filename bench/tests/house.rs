@@ -8,6 +8,8 @@ const README: &str = include_str!("../../README.md");
 const CRATES: &str = include_str!("../../crates.txt");
 const LINES: &str = include_str!("../../docs/CRATES.md");
 const BENCH: &str = include_str!("../../docs/BENCH.md");
+const STORED: &str = include_str!("../../crates/ask_cases/stdout");
+const PICTURE: &str = include_str!("../../docs/shop.svg");
 
 #[test]
 fn the_drawing_is_that_of_crates_txt() {
@@ -44,6 +46,27 @@ fn each_crate_has_its_words() {
     named.sort_unstable();
     crates.sort_unstable();
     assert_eq!(named, crates);
+}
+
+/// The README's picture has the nodes and arrows, with their words, of what is stored for `ask --dot`.
+#[test]
+fn the_picture_is_that_of_the_stored_graph() {
+    let graph = STORED.split("$ ask ").find_map(|call| call.strip_prefix("--dot shop.pl\n")).expect("a call with --dot");
+    let labelled = |line: &str| {
+        let (name, rest) = line.trim().split_once(" [label=\"")?;
+        Some((name.replace("graph", "plan"), rest.split_once('"')?.0.to_string()))
+    };
+    let titled = |part: &str| {
+        let (name, rest) = part.split_once("</title>")?;
+        let words = rest.split_once("<text")?.1.split_once('>')?.1.split_once("</text>")?.0;
+        Some((name.replace("&#45;&gt;", " -> "), words.to_string()))
+    };
+    let mut stored: Vec<(String, String)> = graph.lines().filter_map(labelled).collect();
+    let mut drawn: Vec<(String, String)> = PICTURE.split("<title>").filter_map(titled).collect();
+    stored.sort_unstable();
+    drawn.sort_unstable();
+    assert_eq!(drawn, stored);
+    assert!(README.contains("](docs/shop.svg)") && stored.len() > 2 * 39);
 }
 
 /// The bytes of stack that the README has are among those of docs/BENCH.md.
