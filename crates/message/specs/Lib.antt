@@ -1,2 +1,3 @@
 pub mod Words
 pub mod Message
+pub mod code

@@ -1,6 +1,7 @@
 // The refusal's name and number, and what is expected.
 ghost use Rattle.octets.specs.Octets.{Put};
-ghost use Rattle.message.specs.Message.{byNumber, stopped, factsReason, goalReason, reasonOf};
+ghost use Rattle.message.specs.Message.{byNumber, stopped, reasonOf};
+ghost use Rattle.message.specs.code.Numbers.{factsNumber, goalNumber};
 use octets::put_decimal;
 use octets::put_word;
 use refusal::Reason;
@@ -23,7 +24,7 @@ pub fn put_reason(out: &mut [u8], to: usize, whose: Whose, reason: Reason, said:
 
 // By 01's number. No text of facts is refused for another reason than these.
 fn put_facts_reason(out: &mut [u8], to: usize, number: usize, said: &[u8]) -> usize
-    ensures { λ r. ⌜ Put (now (out .entry)) (now (out .exit)) to (factsReason number (now (said .entry))) r ⌝ }
+    ensures { λ r. ⌜ Put (now (out .entry)) (now (out .exit)) to (factsNumber number (now (said .entry))) r ⌝ }
 {
     match number {
         1 => put_word(
@@ -56,7 +57,7 @@ fn put_facts_reason(out: &mut [u8], to: usize, number: usize, said: &[u8]) -> us
 
 // And no goal for another than these.
 fn put_goal_reason(out: &mut [u8], to: usize, number: usize, said: &[u8]) -> usize
-    ensures { λ r. ⌜ Put (now (out .entry)) (now (out .exit)) to (goalReason number (now (said .entry))) r ⌝ }
+    ensures { λ r. ⌜ Put (now (out .entry)) (now (out .exit)) to (goalNumber number (now (said .entry))) r ⌝ }
 {
     match number {
         1 => put_word(

@@ -1,5 +1,6 @@
 use Rattle.message.specs.Words.{ascii}
 use Rattle.message.specs.Message.{factsReason}
+use Rattle.message.specs.code.Numbers.{factsNumber}
 use Rattle.message.proofs.ReasonLaws.{facts-other}
 use borrow.Author.Needs.{needs}
 use Rattle.message.proofs.reason.put_facts_reason.Statement.{statement}
@@ -57,56 +58,56 @@ same-length : tie.Need-same-length
 same-length c = search needs
 
 returns : tie.Need-returns
-unfolding ascii factsReason
+unfolding ascii factsReason factsNumber
 returns c = rw (c .before .before .before .before .before .match .keys1) (c .before .before .put-word .ensures)
 
 same-length-2 : tie.Need-same-length-2
 same-length-2 c = search needs
 
 returns-2 : tie.Need-returns-2
-unfolding ascii factsReason
+unfolding ascii factsReason factsNumber
 returns-2 c = rw (c .before .before .before .before .before .match .keys2) (c .before .before .put-word2 .ensures)
 
 same-length-3 : tie.Need-same-length-3
 same-length-3 c = search needs
 
 returns-3 : tie.Need-returns-3
-unfolding ascii factsReason
+unfolding ascii factsReason factsNumber
 returns-3 c = rw (c .before .before .before .before .before .match .keys3) (c .before .before .put-word3 .ensures)
 
 same-length-4 : tie.Need-same-length-4
 same-length-4 c = search needs
 
 returns-4 : tie.Need-returns-4
-unfolding ascii factsReason
+unfolding ascii factsReason factsNumber
 returns-4 c = rw (c .before .before .before .before .before .match .keys4) (c .before .before .put-word4 .ensures)
 
 same-length-5 : tie.Need-same-length-5
 same-length-5 c = search needs
 
 returns-5 : tie.Need-returns-5
-unfolding ascii factsReason
+unfolding ascii factsReason factsNumber
 returns-5 c = rw (c .before .before .before .before .before .match .keys5) (c .before .before .put-word5 .ensures)
 
 same-length-6 : tie.Need-same-length-6
 same-length-6 c = search needs
 
 returns-6 : tie.Need-returns-6
-unfolding ascii factsReason
+unfolding ascii factsReason factsNumber
 returns-6 c = rw (c .before .before .before .before .match .keys6) (c .before .before .put-text .ensures)
 
 same-length-7 : tie.Need-same-length-7
 same-length-7 c = search needs
 
 returns-7 : tie.Need-returns-7
-unfolding ascii factsReason
+unfolding ascii factsReason factsNumber
 returns-7 c = rw (c .before .before .before .before .before .match .keys7) (c .before .before .put-word6 .ensures)
 
 same-length-8 : tie.Need-same-length-8
 same-length-8 c = search needs
 
 returns-8 : tie.Need-returns-8
-unfolding ascii factsReason
+unfolding ascii factsReason factsNumber
 returns-8 c = rw (c .before .before .before .before .before .match .keys8) (c .before .before .put-word7 .ensures)
 
 same-length-9 : tie.Need-same-length-9

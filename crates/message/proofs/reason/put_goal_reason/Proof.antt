@@ -1,5 +1,6 @@
 use Rattle.message.specs.Words.{ascii}
 use Rattle.message.specs.Message.{goalReason}
+use Rattle.message.specs.code.Numbers.{goalNumber}
 use Rattle.message.proofs.ReasonLaws.{goal-other}
 use borrow.Author.Needs.{needs}
 use Rattle.message.proofs.reason.put_goal_reason.Statement.{statement}
@@ -39,35 +40,35 @@ same-length : tie.Need-same-length
 same-length c = search needs
 
 returns : tie.Need-returns
-unfolding ascii goalReason
+unfolding ascii goalReason goalNumber
 returns c = rw (c .before .before .before .before .before .match .keys1) (c .before .before .put-word .ensures)
 
 same-length-2 : tie.Need-same-length-2
 same-length-2 c = search needs
 
 returns-2 : tie.Need-returns-2
-unfolding ascii goalReason
+unfolding ascii goalReason goalNumber
 returns-2 c = rw (c .before .before .before .before .before .match .keys2) (c .before .before .put-word2 .ensures)
 
 same-length-3 : tie.Need-same-length-3
 same-length-3 c = search needs
 
 returns-3 : tie.Need-returns-3
-unfolding ascii goalReason
+unfolding ascii goalReason goalNumber
 returns-3 c = rw (c .before .before .before .before .match .keys3) (c .before .before .put-text .ensures)
 
 same-length-4 : tie.Need-same-length-4
 same-length-4 c = search needs
 
 returns-4 : tie.Need-returns-4
-unfolding ascii goalReason
+unfolding ascii goalReason goalNumber
 returns-4 c = rw (c .before .before .before .before .before .match .keys4) (c .before .before .put-word3 .ensures)
 
 same-length-5 : tie.Need-same-length-5
 same-length-5 c = search needs
 
 returns-5 : tie.Need-returns-5
-unfolding ascii goalReason
+unfolding ascii goalReason goalNumber
 returns-5 c = rw (c .before .before .before .before .before .match .keys5) (c .before .before .put-word4 .ensures)
 
 same-length-6 : tie.Need-same-length-6

@@ -1,4 +1,5 @@
 use Rattle.message.specs.Message.{reasonOf}
+use Rattle.message.proofs.ReasonLaws.{facts-by-reason, goal-by-reason}
 use borrow.Author.Needs.{needs}
 use Rattle.message.proofs.reason.put_reason.Statement.{statement}
 use Rattle.message.proofs.reason.put_reason.Tie as tie
@@ -25,7 +26,7 @@ returns : tie.Need-returns
 unfolding reasonOf
 returns c =
     let e = c .before .before .before .before in
-    rw (e .enum-told .given .1, ← e .before .before .number-of .ensures .0) (c .before .before .put-facts-reason .ensures)
+    rw (e .enum-told .given .1, ← facts-by-reason _ _, ← e .before .before .number-of .ensures .0) (c .before .before .put-facts-reason .ensures)
 
 same-length-2 : tie.Need-same-length-2
 same-length-2 c = search needs
@@ -34,7 +35,7 @@ returns-2 : tie.Need-returns-2
 unfolding reasonOf
 returns-2 c =
     let e = c .before .before .before .before in
-    rw (e .enum-told2 .given .1, ← e .before .before .number-of .ensures .0) (c .before .before .put-goal-reason .ensures)
+    rw (e .enum-told2 .given .1, ← goal-by-reason _ _, ← e .before .before .number-of .ensures .0) (c .before .before .put-goal-reason .ensures)
 
 pub put-reason-spec : {M : Type 1} → statement M
 put-reason-spec =
