@@ -3,7 +3,7 @@
 use std::path::Path;
 
 /// The crate that is made a static library, and so the name of the archive.
-const LIBRARY: &str = "exports";
+const LIBRARY: &str = "dudowiej";
 
 fn main() {
     let manifest = std::env::var("CARGO_MANIFEST_DIR").expect("cargo names the manifest's folder");

@@ -1,5 +1,5 @@
 -- The request "ask" of what its two entries promise: `GoalTextCoded` for dudowiej_read_goal_text, `AnswerCoded` for dudowiej_put_answer (crate
--- exports). The statements are in specs/Asking.
+-- dudowiej). The statements are in specs/Asking.
 use Prim.Native.Nat.{ℕ, _+_, _≤_, _<_}
 use mathlib.Core.Path.{_≡_, refl, sym, ap, ap₂, subst, _∙_}
 use mathlib.Core.Logic.{_↔_, by-cases}
@@ -36,8 +36,8 @@ use Rattle.answerroom.specs.Room as into
 use Rattle.answerroom.specs.Room.{answerTold, AnswerInto}
 use Rattle.answerroom.specs.declared.AnswerText.{AnswerText}
 use Rattle.answering.proofs.ReplyBack.{replies-back}
-use Rattle.exports.specs.Coded.{GoalTextCoded, AnswerCoded}
-use Rattle.exports.proofs.Back.{goal-text-back, answer-back}
+use Rattle.dudowiej.specs.Coded.{GoalTextCoded, AnswerCoded}
+use Rattle.dudowiej.proofs.Back.{goal-text-back, answer-back}
 use Rattle.demands.specs.Asking.{IsAsked, Roomy, Gives, GoalTurned, ReadsGoal, AnswerTurned, PutsAnswer, ReadsBack}
 use Rattle.demands.specs.Asking as asks
 use Rattle.demands.proofs.Cited.{clash, turned-one, answered-one}

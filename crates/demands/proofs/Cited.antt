@@ -37,7 +37,7 @@ use Rattle.builder.specs.declared.BuildAnswer.the-variants as build-answer
 use Rattle.builder.specs.Build.{tableFor, BuiltInto, table-refused, room-refused, built, buildTold}
 use Rattle.builder.proofs.AskedLaws.{for-refused, for-column, for-read, read-for}
 use Rattle.builder.proofs.Fixed.{build-fixed}
-use Rattle.exports.specs.Coded.{rowSays}
+use Rattle.dudowiej.specs.Coded.{rowSays}
 use Rattle.least.specs.Measures.{measureOf, costBy, tableBy}
 use Rattle.least.specs.declared.By.{By}
 use Rattle.least.specs.Least.{Built}

@@ -26,8 +26,8 @@ use Rattle.clauses.proofs.WordLaws.{names-apart, names-bare, words-apart}
 use Rattle.clauses.proofs.OneLaws.{reads-one}
 use Rattle.clauses.proofs.UnlistedLaws.{unlisted}
 use Rattle.clauses.proofs.Fixed.{handed-fixed}
-use Rattle.exports.specs.Coded.{ClausesCoded}
-use Rattle.exports.proofs.Back.{clauses-back}
+use Rattle.dudowiej.specs.Coded.{ClausesCoded}
+use Rattle.dudowiej.proofs.Back.{clauses-back}
 use Rattle.demands.specs.Clauses.{ClausesTurned, bad-table, bad-plan, bad-names, bad-room, ClausesRefused}
 use Rattle.demands.specs.Clauses.{AnswersReplies, NoClash, HandedBack, HandsBack}
 use Rattle.demands.proofs.Cited.{clash, turned-one, reads, writes, tree-read}

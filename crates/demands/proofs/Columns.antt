@@ -25,8 +25,8 @@ use Rattle.checker.specs.Checked.{planSays}
 use Rattle.record.specs.Record.{tableIn}
 use Rattle.builder.specs.Build.{buildTold, BuiltInto}
 use Rattle.builder.proofs.ColumnsLaws.{same-list}
-use Rattle.exports.specs.Coded.{BuildForCoded}
-use Rattle.exports.proofs.Back.{under-back, build-for-back}
+use Rattle.dudowiej.specs.Coded.{BuildForCoded}
+use Rattle.dudowiej.proofs.Back.{under-back, build-for-back}
 use Rattle.demands.specs.Kind.{There, Missing, SameColumns, NoneOrAll}
 use Rattle.demands.specs.Demands.{Demand1Build, Demand3Build}
 use Rattle.demands.specs.Columns.{CheckForTurned, bad-table, no-column, bad-plan, WritesKind, ChecksKind, ChecksFor, BuildsFor}

@@ -32,8 +32,8 @@ use Rattle.plan.specs.Check.{planOf}
 use Rattle.plan.proofs.OneRow.{table-one-row}
 use Rattle.answer.proofs.Theorems.{same-hits}
 use Rattle.answer.specs.declared.Job.{Job}
-use Rattle.exports.specs.Coded.{rowSays, RunCoded, JobsCoded}
-use Rattle.exports.proofs.Back.{table-back, goal-back, row-back, plan-back, run-back, jobs-back}
+use Rattle.dudowiej.specs.Coded.{rowSays, RunCoded, JobsCoded}
+use Rattle.dudowiej.proofs.Back.{table-back, goal-back, row-back, plan-back, run-back, jobs-back}
 use Rattle.demands.specs.Demands.{Demand1Table, Demand1Goal, Demand1Row, Demand1Place, Demand1Check, Demand1Run, Demand2, TriedFew}
 use Rattle.demands.specs.Demands.{Demand3Check, Demand3Run}
 use Rattle.demands.specs.Shift.{Shift}

@@ -29,10 +29,10 @@ use Rattle.filing.proofs.Fixed.{written-fixed, loaded-fixed}
 use Rattle.filing.proofs.ReadingLaws as tests
 use Rattle.filing.proofs.WriteLaws.{file-size, file-few}
 use Rattle.filing.proofs.Undo.{accepted-sizes, read-sizes, there-and-back, back-again}
-use Rattle.exports.specs.Coded.{cut, FileWriteCoded, FileReadCoded}
-use Rattle.exports.proofs.CutLaws.{cut-small}
-use Rattle.exports.proofs.Small.{checked-small}
-use Rattle.exports.proofs.Back.{written-back, loaded-back}
+use Rattle.dudowiej.specs.Coded.{cut, FileWriteCoded, FileReadCoded}
+use Rattle.dudowiej.proofs.CutLaws.{cut-small}
+use Rattle.dudowiej.proofs.Small.{checked-small}
+use Rattle.dudowiej.proofs.Back.{written-back, loaded-back}
 use Rattle.demands.specs.Files.{WriteTurned, WriteRefused, Wrote, WritesFile, FirstBad, AllSound, BlockCells, Shape, Holds}
 use Rattle.demands.specs.Files.{ReadTurned, ReadRefused, ReadsFile}
 use Rattle.demands.specs.Files.{no-blocks, damage, bad-sizes, bad-padding, ThereAndBack, BackAgain, ChecksTell}

@@ -37,10 +37,10 @@ use Rattle.loading.specs.Load.{TextLoads}
 use Rattle.prolog.specs.Entry.{textTold}
 use Rattle.prolog.specs.declared.TextAnswer.{TextAnswer}
 use Rattle.prolog.proofs.Fixed.{read-text-fixed}
-use Rattle.exports.specs.Coded.{WorkCoded, EditCoded, BuildCoded, BuildForCoded, RunCoded, TextCoded, JobsCoded, RepliesCoded, ClausesCoded}
-use Rattle.exports.specs.Coded.{GoalTextCoded, AnswerCoded, ReplyJobsCoded, FileWriteCoded, FileReadCoded, SalvageCoded, LikedCoded}
-use Rattle.exports.proofs.Fixed.{work-coded-fixed, edit-coded-fixed, build-coded-fixed, run-coded-fixed, text-coded-fixed, jobs-coded-fixed, replies-coded-fixed, build-for-coded-fixed, liked-coded-fixed}
-use Rattle.exports.proofs.Fixed.{goal-text-coded-fixed, answer-coded-fixed, reply-jobs-coded-fixed, clauses-coded-fixed, written-coded-fixed, loaded-coded-fixed, salvage-coded-fixed}
+use Rattle.dudowiej.specs.Coded.{WorkCoded, EditCoded, BuildCoded, BuildForCoded, RunCoded, TextCoded, JobsCoded, RepliesCoded, ClausesCoded}
+use Rattle.dudowiej.specs.Coded.{GoalTextCoded, AnswerCoded, ReplyJobsCoded, FileWriteCoded, FileReadCoded, SalvageCoded, LikedCoded}
+use Rattle.dudowiej.proofs.Fixed.{work-coded-fixed, edit-coded-fixed, build-coded-fixed, run-coded-fixed, text-coded-fixed, jobs-coded-fixed, replies-coded-fixed, build-for-coded-fixed, liked-coded-fixed}
+use Rattle.dudowiej.proofs.Fixed.{goal-text-coded-fixed, answer-coded-fixed, reply-jobs-coded-fixed, clauses-coded-fixed, written-coded-fixed, loaded-coded-fixed, salvage-coded-fixed}
 use Rattle.answer.specs.declared.Job.{Job}
 use Rattle.answer.specs.Jobs.{JobsRun}
 use Rattle.shift.proofs.Fixed.{run-jobs-fixed}
@@ -214,7 +214,7 @@ pub held-exported-salvage : {f t p b o t′ p′ b′ o′ t″ p″ b″ o″ :
 held-exported-salvage = salvage-coded-fixed
 
 -- The number that an exported entry answers tells its answer: two answers with one code are equal. That the header's masks and shifts
--- (`decoded`) read back what was answered is in every theorem of proofs/Demands, of each entry by crate exports, proofs/Back.
+-- (`decoded`) read back what was answered is in every theorem of proofs/Demands, of each entry by crate dudowiej, proofs/Back.
 pub held-code : {a b : Answer} → Small a → Small b → coded a ≡ coded b → a ≡ b
 held-code = coded-one
 

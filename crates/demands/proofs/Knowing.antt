@@ -16,8 +16,8 @@ use Rattle.answer.specs.declared.Job.{Job}
 use Rattle.answer.specs.declared.RunAnswer.{RunAnswer}
 use Rattle.knowing.specs.Knowing.{reported, triedOf, Singles, single}
 use Rattle.knowing.proofs.SumLaws.{found-reported, run-more, sums, singles-there, means}
-use Rattle.exports.specs.Coded.{RunCoded, JobsCoded}
-use Rattle.exports.proofs.Back.{run-back}
+use Rattle.dudowiej.specs.Coded.{RunCoded, JobsCoded}
+use Rattle.dudowiej.proofs.Back.{run-back}
 use Rattle.demands.specs.Knowing.{KnowingMore, Sums}
 use Rattle.demands.specs.Shift.{goalIn}
 use Rattle.demands.proofs.Cited.{tree-read, run-answers}

@@ -50,8 +50,8 @@ use Rattle.liked.specs.Liked as likes
 use Rattle.liked.proofs.ColumnLaws.{columns-named, columns-none, columns-there}
 use Rattle.liked.proofs.MaskLaws.{mask-of}
 use Rattle.liked.proofs.SearchLaws.{Written, written, tries-for-one}
-use Rattle.exports.specs.Coded.{LikedCoded}
-use Rattle.exports.proofs.Back.{liked-back}
+use Rattle.dudowiej.specs.Coded.{LikedCoded}
+use Rattle.dudowiej.proofs.Back.{liked-back}
 use Rattle.demands.specs.Kind.{There, none-named}
 use Rattle.demands.specs.Demands.{LeastBy, LeastFor}
 use Rattle.demands.specs.Liked.{Total, LikedBest, LikedTurned, no-figure, no-table, no-room, LikesMost, BuildsLiked}

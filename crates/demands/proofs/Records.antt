@@ -23,8 +23,8 @@ use Rattle.record.proofs.EditKeeps.{edit-keeps}
 use Rattle.record.proofs.PartLaws.{table-in}
 use Rattle.record.proofs.Fixed.{made-holds, made-anew}
 use Rattle.refusal.specs.Coded.{decoded}
-use Rattle.exports.specs.Coded.{WorkCoded, EditCoded, BuildCoded}
-use Rattle.exports.proofs.Back.{work-back, edit-back, build-back}
+use Rattle.dudowiej.specs.Coded.{WorkCoded, EditCoded, BuildCoded}
+use Rattle.dudowiej.proofs.Back.{work-back, edit-back, build-back}
 use Rattle.demands.specs.Demands.{Demand1Build, Demand3Build}
 use Rattle.demands.specs.Records.{WorkTurned, no-figure, no-table, MakesRecord, EditTurned, full, last, index, bad-append, bad-replace}
 use Rattle.demands.specs.Records.{EditsRecord, Anew, BuildsFrom, TablePart}

@@ -31,8 +31,8 @@ use Rattle.instance.proofs.StartLaws.{head-below}
 use Rattle.instance.proofs.RepliesLaws.{replies-take, replies-few, short-flat, not-large}
 use Rattle.instance.proofs.Fixed.{not-both}
 use Rattle.refusal.specs.Coded.{decoded}
-use Rattle.exports.specs.Coded.{RunCoded, RepliesCoded}
-use Rattle.exports.proofs.Back.{run-back, replies-back}
+use Rattle.dudowiej.specs.Coded.{RunCoded, RepliesCoded}
+use Rattle.dudowiej.proofs.Back.{run-back, replies-back}
 use Rattle.demands.specs.Replies.{RepliesTurned, bad-table, bad-plan, bad-goal, big, bad-room, RepliesRefused, Said, Says}
 use Rattle.demands.proofs.Cited.{clash, turned-one, answered-one, reads, writes, tree-read}
 

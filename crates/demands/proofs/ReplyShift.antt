@@ -27,8 +27,8 @@ use Rattle.instance.specs.ReplyJobs.{filled, declined, goalOfJob, ReplyAsked, o
 use Rattle.instance.specs.ReplyJobs as list
 use Rattle.instance.proofs.Fixed.{replied-fixed}
 use Rattle.replyjobs.proofs.Fixed.{reply-jobs-told}
-use Rattle.exports.specs.Coded.{ReplyJobsCoded}
-use Rattle.exports.proofs.Back.{reply-jobs-back}
+use Rattle.dudowiej.specs.Coded.{ReplyJobsCoded}
+use Rattle.dudowiej.proofs.Back.{reply-jobs-back}
 use Rattle.demands.specs.ReplyShift.{Declined, ReplyAnswered, OneReply, InTurn, nil, cons, ListReplied, ReplyShift}
 use Rattle.demands.proofs.Cited.{clash, turned-one, answered-one, plan-kept}
 

@@ -26,8 +26,8 @@ use Rattle.salvaging.specs.Salvage as saving
 use Rattle.salvaging.proofs.Fixed.{salvaged-fixed}
 use Rattle.salvaging.proofs.Unchanged.{unchanged}
 use Rattle.salvaging.proofs.Original.{original}
-use Rattle.exports.specs.Coded.{cut, salvageSays, reportAfter, SalvageCoded}
-use Rattle.exports.proofs.Back.{salvaged-back}
+use Rattle.dudowiej.specs.Coded.{cut, salvageSays, reportAfter, SalvageCoded}
+use Rattle.dudowiej.proofs.Back.{salvaged-back}
 use Rattle.demands.specs.Salvage.{widthOn, countOn, Longest, Kept, tableWith, PlanOut, old, new, Had}
 use Rattle.demands.specs.Salvage.{SalvageTurned, no-head, no-row, table-short, plan-short, bad-short, SalvageRefused, Written, Salvages}
 use Rattle.demands.specs.Salvage.{Unchanged, AsWritten, Originals}

@@ -1,4 +1,4 @@
--- Request W-201 (document 02), tables from Prolog text: its sentences, proved of what the entry promises (`TextCoded`, crate exports).
+-- Request W-201 (document 02), tables from Prolog text: its sentences, proved of what the entry promises (`TextCoded`, crate dudowiej).
 use Prim.Native.Nat.{ℕ, _≤_, _<_}
 use mathlib.Core.Path.{_≡_, refl, sym, _∙_, ap, subst}
 use mathlib.Core.Logic.{_⊎_, _↔_}
@@ -29,8 +29,8 @@ use Rattle.loading.proofs.Fixed.{load-is}
 use Rattle.loading.proofs.LentLaws.{table-never-lent}
 use Rattle.textlines.proofs.Enough.{names-fewer}
 use Rattle.refusal.specs.Coded.{decoded}
-use Rattle.exports.specs.Coded.{TextCoded}
-use Rattle.exports.proofs.Back.{text-back}
+use Rattle.dudowiej.specs.Coded.{TextCoded}
+use Rattle.dudowiej.proofs.Back.{text-back}
 use Rattle.demands.specs.Texts.{TextTurned, Request201, Sizes, NamesListed, ZeroInFront, ZeroAfterMinus, Nine}
 use Rattle.demands.specs.Texts as texts
 

@@ -39,7 +39,7 @@ use Rattle.instance.specs.declared.RepliesAnswer.{RepliesAnswer}
 use Rattle.instance.specs.declared.ReplyJob.{ReplyJob}
 use Rattle.instance.specs.Replied.{Replied, repliesTold}
 use Rattle.instance.specs.ReplyJobs.{goalOfJob}
-use Rattle.exports.proofs.Places.{Placed, good, turned, placed-table, placed-row, placed-goal, placed-asked, placed-checked, placed-with}
+use Rattle.dudowiej.proofs.Places.{Placed, good, turned, placed-table, placed-row, placed-goal, placed-asked, placed-checked, placed-with}
 use Rattle.demands.specs.Demands.{Demand1Table, Demand1Goal, Demand1Check, Demand1Build, Demand1Run}
 use Rattle.demands.specs.Columns.{CheckForTurned, ChecksFor}
 use Rattle.demands.specs.Columns as kinds
@@ -69,7 +69,7 @@ use Rattle.demands.proofs.Replies.{refuses-kept}
 pub request-209-twice : (r : Reason) → numberOf r ≢ 8
 request-209-twice = never-twice
 
--- So none of what this page says of an entry allows it: what an entry refuses has a reason by name (`Placed`, exports/proofs/Places).
+-- So none of what this page says of an entry allows it: what an entry refuses has a reason by name (`Placed`, dudowiej/proofs/Places).
 named : (r : Reason) {n : ℕ} → n ≡ numberOf r → n ≢ 8
 named r e q = never-twice r (sym e ∙ q)
 

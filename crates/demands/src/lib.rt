@@ -35,19 +35,19 @@ use shift::Job;
 fn demand_read_table(cells: &[u32]) -> u64
     ensures { λ r. ⌜ Demand1Table (now (cells .entry)) (decoded r) ⌝ }
 {
-    exports::dudowiej_read_table(cells)
+    dudowiej::dudowiej_read_table(cells)
 }
 
 fn demand_read_goal(rec: &[u32; 14340], goal: &[u32]) -> u64
     ensures { λ r. ⌜ Demand1Goal (tableIn (now (rec .entry))) (now (goal .entry)) (decoded r) ⌝ }
 {
-    exports::dudowiej_read_goal(rec, goal)
+    dudowiej::dudowiej_read_goal(rec, goal)
 }
 
 fn demand_row(rec: &[u32; 14340], number: usize) -> u64
     ensures { λ r. ⌜ Demand1Place (tableIn (now (rec .entry))) number (decoded r) ⌝ }
 {
-    exports::dudowiej_row(rec, number)
+    dudowiej::dudowiej_row(rec, number)
 }
 
 fn demand_row_part(cells: &[u32], number: usize) -> &[u32]
@@ -61,14 +61,14 @@ fn demand_check_plan(rec: &[u32; 14340], plan: &[u32]) -> u64
     ensures { λ r. ⌜ Demand1Check (tableIn (now (rec .entry))) (now (plan .entry)) (decoded r) ⌝ }
     ensures { λ r. ⌜ Demand3Check (tableIn (now (rec .entry))) (now (plan .entry)) (decoded r) ⌝ }
 {
-    exports::dudowiej_check_plan(rec, plan)
+    dudowiej::dudowiej_check_plan(rec, plan)
 }
 
 // Demands 1 and 3: building, by the record's figure (W-204, W-207).
 fn demand_build_plan(rec: &[u32; 14340], room: &mut [u32]) -> u64
     ensures { λ r. ⌜ BuildsFrom (now (rec .entry)) (now (room .entry)) (now (room .exit)) (decoded r) ⌝ }
 {
-    exports::dudowiej_build_plan(rec, room)
+    dudowiej::dudowiej_build_plan(rec, room)
 }
 
 // Demand 3 by 01's measure, which the listing keeps.
@@ -88,7 +88,7 @@ fn demand_run_plan(rec: &[u32; 14340], plan: &[u32], goal: &[u32], room: &mut [u
     ensures { λ r. ⌜ Demand3Run (tableIn (now (rec .entry))) (now (plan .entry)) (now (goal .entry)) (now (room .entry)) (now (room .exit))
         (decoded r) ⌝ }
 {
-    exports::dudowiej_run_plan(rec, plan, goal, room)
+    dudowiej::dudowiej_run_plan(rec, plan, goal, room)
 }
 
 // W-201 (specs/Texts)
@@ -96,7 +96,7 @@ fn request_read_text(text: &[u8], cells: &mut [u32], names: &mut [u32]) -> u64
     ensures { λ r. ⌜ Request201 (now (text .entry)) (now (cells .entry)) (now (names .entry)) (now (cells .exit)) (now (names .exit))
         (decoded r) ⌝ }
 {
-    exports::dudowiej_read_text(text, cells, names)
+    dudowiej::dudowiej_read_text(text, cells, names)
 }
 
 // W-202 (specs/Shift), and what its records add up to, W-214 (specs/Knowing)
@@ -104,7 +104,7 @@ fn request_run_jobs(rec: &[u32; 14340], plan: &[u32], lent: &[u32], jobs: &mut [
     ensures { λ r. ⌜ Shift (tableIn (now (rec .entry))) (now (plan .entry)) (now (lent .entry)) (now (jobs .entry)) (now (jobs .exit)) (decoded r)
         × Sums (tableIn (now (rec .entry))) (now (plan .entry)) (now (lent .entry)) (now (jobs .entry)) (now (jobs .exit)) ⌝ }
 {
-    exports::dudowiej_run_jobs(rec, plan, lent, jobs)
+    dudowiej::dudowiej_run_jobs(rec, plan, lent, jobs)
 }
 
 // W-214 (specs/Knowing): one plan, run on two goals, and what it answers to each.
@@ -119,8 +119,8 @@ fn request_run_plan(
     ensures { λ r. ⌜ KnowingMore (tableIn (now (rec .entry))) (now (plan .entry)) (now (wide .entry)) (now (narrow .entry))
         (now (room .entry)) (now (room .exit)) (now (other .entry)) (now (other .exit)) (decoded (r .first)) (decoded (r .second)) ⌝ }
 {
-    let first = exports::dudowiej_run_plan(rec, plan, wide, room);
-    let second = exports::dudowiej_run_plan(rec, plan, narrow, other);
+    let first = dudowiej::dudowiej_run_plan(rec, plan, wide, room);
+    let second = dudowiej::dudowiej_run_plan(rec, plan, narrow, other);
     Runs { first, second }
 }
 
@@ -136,7 +136,7 @@ fn request_replies(rec: &[u32; 14340], plan: &[u32], goal: &[u32], room: &mut [u
     ensures { λ r. ⌜ Says (tableIn (now (rec .entry))) (now (plan .entry)) (now (goal .entry)) (now (room .entry)) (now (room .exit))
         (decoded r) ⌝ }
 {
-    exports::dudowiej_replies(rec, plan, goal, room)
+    dudowiej::dudowiej_replies(rec, plan, goal, room)
 }
 
 // A shift's replies in one call (specs/ReplyShift)
@@ -150,7 +150,7 @@ fn request_reply_jobs(
     ensures { λ r. ⌜ ReplyShift (tableIn (now (rec .entry))) (now (plan .entry)) (now (lent .entry)) (now (room .entry)) (now (room .exit))
         (now (jobs .entry)) (now (jobs .exit)) (decoded r) ⌝ }
 {
-    exports::dudowiej_reply_jobs(rec, plan, lent, jobs, room)
+    dudowiej::dudowiej_reply_jobs(rec, plan, lent, jobs, room)
 }
 
 // W-206 (specs/Numbers)
@@ -170,28 +170,28 @@ fn request_symbol(out: &mut [u8], to: usize, c: u32) -> usize
 fn request_work_out(cells: &[u32], figure: u32, rec: &mut [u32; 14340]) -> u64
     ensures { λ r. ⌜ MakesRecord figure (now (cells .entry)) (now (rec .entry)) (now (rec .exit)) (decoded r) ⌝ }
 {
-    exports::dudowiej_work_out(cells, figure, rec)
+    dudowiej::dudowiej_work_out(cells, figure, rec)
 }
 
 fn request_append(rec: &mut [u32; 14340], row: &[u32]) -> u64
     ensures { λ r. ⌜ ((figure : ℕ) (T : Table) → Holds (now (rec .entry)) figure T
         → EditsRecord (append (now (row .entry))) figure T (now (rec .entry)) (now (rec .exit)) (decoded r)) ⌝ }
 {
-    exports::dudowiej_append(rec, row)
+    dudowiej::dudowiej_append(rec, row)
 }
 
 fn request_drop_last(rec: &mut [u32; 14340]) -> u64
     ensures { λ r. ⌜ ((figure : ℕ) (T : Table) → Holds (now (rec .entry)) figure T
         → EditsRecord drop-last figure T (now (rec .entry)) (now (rec .exit)) (decoded r)) ⌝ }
 {
-    exports::dudowiej_drop_last(rec)
+    dudowiej::dudowiej_drop_last(rec)
 }
 
 fn request_replace(rec: &mut [u32; 14340], number: usize, row: &[u32]) -> u64
     ensures { λ r. ⌜ ((figure : ℕ) (T : Table) → Holds (now (rec .entry)) figure T
         → EditsRecord (replace number (now (row .entry))) figure T (now (rec .entry)) (now (rec .exit)) (decoded r)) ⌝ }
 {
-    exports::dudowiej_replace(rec, number, row)
+    dudowiej::dudowiej_replace(rec, number, row)
 }
 
 // W-210 (specs/Clauses)
@@ -207,7 +207,7 @@ fn request_clauses(
     ensures { λ r. ⌜ HandsBack (tableIn (now (rec .entry))) (now (plan .entry)) (now (text .entry)) (now (names .entry))
         (now (room .entry)) (now (room .exit)) (decoded r) ⌝ }
 {
-    exports::dudowiej_clauses(rec, plan, text, names, room)
+    dudowiej::dudowiej_clauses(rec, plan, text, names, room)
 }
 
 // W-211 (specs/Files)
@@ -217,7 +217,7 @@ fn request_write_file(rec: &[u32; 14340], plan: &[u32], room: &mut [u8]) -> u64
     ensures { λ r. ⌜ ThereAndBack (tableIn (now (rec .entry))) (now (plan .entry)) (now (room .exit)) (decoded r) ⌝ }
 {
     lent_words(record::table_of(rec));
-    exports::dudowiej_write_file(rec, plan, room)
+    dudowiej::dudowiej_write_file(rec, plan, room)
 }
 
 fn request_read_file(file: &[u8], table: &mut [u32], plan: &mut [u32]) -> u64
@@ -225,7 +225,7 @@ fn request_read_file(file: &[u8], table: &mut [u32], plan: &mut [u32]) -> u64
     ensures { λ r. ⌜ ReadsFile (now (file .entry)) (now (table .entry)) (now (plan .entry)) (now (table .exit)) (now (plan .exit)) (decoded r) ⌝ }
     ensures { λ r. ⌜ BackAgain (now (file .entry)) (now (table .exit)) (now (plan .exit)) (decoded r) ⌝ }
 {
-    exports::dudowiej_read_file(file, table, plan)
+    dudowiej::dudowiej_read_file(file, table, plan)
 }
 
 // W-212 (specs/Salvage)
@@ -244,20 +244,20 @@ fn request_salvage(
         (now (table .exit)) (now (plan .exit)) (now (bad .exit)) (now (report .exit)) (decoded r) ⌝ }
     ensures { λ r. ⌜ Originals (now (file .entry)) (now (table .exit)) (decoded r) ⌝ }
 {
-    exports::dudowiej_salvage(file, table, plan, bad, report)
+    dudowiej::dudowiej_salvage(file, table, plan, bad, report)
 }
 
 // W-213 (specs/Columns)
 fn request_check_for(rec: &[u32; 14340], columns: &[u32], plan: &[u32]) -> u64
     ensures { λ r. ⌜ ChecksFor (tableIn (now (rec .entry))) (now (columns .entry)) (now (plan .entry)) (decoded r) ⌝ }
 {
-    exports::dudowiej_check_for(rec, columns, plan)
+    dudowiej::dudowiej_check_for(rec, columns, plan)
 }
 
 fn request_build_for(rec: &[u32; 14340], columns: &[u32], room: &mut [u32]) -> u64
     ensures { λ r. ⌜ BuildsFor (now (rec .entry)) (now (columns .entry)) (now (room .entry)) (now (room .exit)) (decoded r) ⌝ }
 {
-    exports::dudowiej_build_for(rec, columns, room)
+    dudowiej::dudowiej_build_for(rec, columns, room)
 }
 
 // The plan that a list of goals likes best (specs/Liked)
@@ -271,7 +271,7 @@ fn request_build_liked(
     ensures { λ r. ⌜ BuildsLiked (now (rec .entry)) (now (goals .entry)) (now (list .entry)) (now (room .entry)) (now (room .exit))
         (now (liked .entry)) (now (liked .exit)) (decoded r) ⌝ }
 {
-    exports::dudowiej_build_liked(rec, goals, list, room, liked)
+    dudowiej::dudowiej_build_liked(rec, goals, list, room, liked)
 }
 
 // What is lent as cells of 32 bits is that, and so can be read back.
@@ -292,7 +292,7 @@ fn request_goal(text: &[u8], names: &[u32], goal: &[u8], cells: &mut [u32], new:
     ensures { λ r. ⌜ ReadsGoal (now (text .entry)) (now (names .entry)) (now (goal .entry)) (now (cells .entry)) (now (cells .exit))
         (now (new .entry)) (now (new .exit)) (decoded r) ⌝ }
 {
-    exports::dudowiej_read_goal_text(text, names, goal, cells, new)
+    dudowiej::dudowiej_read_goal_text(text, names, goal, cells, new)
 }
 
 fn request_answer(
@@ -308,5 +308,5 @@ fn request_answer(
     ensures { λ r. ⌜ ReadsBack (now (text .entry)) (now (names .entry)) (now (goal .entry)) (now (new .entry)) (now (cells .entry))
         (now (room .exit)) (decoded r) ⌝ }
 {
-    exports::dudowiej_put_answer(text, names, goal, new, cells, room)
+    dudowiej::dudowiej_put_answer(text, names, goal, new, cells, room)
 }

@@ -44,11 +44,11 @@ use Rattle.refusal.specs.Coded.{decoded}
 use Rattle.instance.specs.declared.ReplyJob.{ReplyJob}
 use Rattle.instance.proofs.ReplyJob as T
 use Rattle.record.specs.Record.{tableIn}
-use Rattle.exports.specs.Coded.{ReplyJobsCoded}
-use Rattle.exports.proofs.dudowiej_reply_jobs as reply-jobs
-use Rattle.exports.proofs.dudowiej_reply_jobs.Symbol as reply-jobs-def
-use Rattle.exports.proofs.dudowiej_reply_jobs.Symbol.{name as #reply-jobs}
-use Rattle.exports.proofs.dudowiej_reply_jobs.Met as reply-jobs-thm
+use Rattle.dudowiej.specs.Coded.{ReplyJobsCoded}
+use Rattle.dudowiej.proofs.dudowiej_reply_jobs as reply-jobs
+use Rattle.dudowiej.proofs.dudowiej_reply_jobs.Symbol as reply-jobs-def
+use Rattle.dudowiej.proofs.dudowiej_reply_jobs.Symbol.{name as #reply-jobs}
+use Rattle.dudowiej.proofs.dudowiej_reply_jobs.Met as reply-jobs-thm
 use Rattle.demands.specs.ReplyShift.{ReplyShift}
 use Rattle.demands.proofs.ReplyShift.{request-replies}
 use Rattle.demands.proofs.request_reply_jobs.Key.{name as #request-reply-jobs}
@@ -251,5 +251,5 @@ request-reply-jobs-spec 𝓤 H 𝓜 𝓖 𝓡 =
     entered 𝓤 H (tripleOf 𝓤 H (𝓖 .A) f.signature (f.spec 𝓤 H (𝓖 .A) (𝓜 .mem) (𝓡 .run)))
     (tables 𝓤 H 𝓜 𝓡 code.env .C) (tables 𝓤 H 𝓜 𝓡 code.env .Λ) #request-reply-jobs code.function (code.unfolded 𝓤 H 𝓜 𝓡)
     (meets 𝓤 H (𝓖 .A) (𝓜 .mem) (𝓡 .run) (givenOf 𝓤 H 𝓜 𝓖) (tablesOf 𝓤 H 𝓜 (tables 𝓤 H 𝓜 𝓡 code.env))
-    (cited 𝓤 H (Run 𝓤 H (𝓖 .A) (𝓜 .mem) (𝓡 .run)) 𝓜 𝓡 code.env #reply-jobs reply-jobs-def.routine code.calls-exports·dudowiej-reply-jobs
+    (cited 𝓤 H (Run 𝓤 H (𝓖 .A) (𝓜 .mem) (𝓡 .run)) 𝓜 𝓡 code.env #reply-jobs reply-jobs-def.routine code.calls-dudowiej·dudowiej-reply-jobs
     (reply-jobs-thm.met 𝓤 H 𝓜 𝓖 𝓡)))

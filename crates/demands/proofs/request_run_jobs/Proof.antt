@@ -44,11 +44,11 @@ use Rattle.refusal.specs.Coded.{decoded}
 use Rattle.answer.specs.declared.Job.{Job}
 use Rattle.answer.proofs.Job as T
 use Rattle.record.specs.Record.{tableIn}
-use Rattle.exports.specs.Coded.{JobsCoded}
-use Rattle.exports.proofs.dudowiej_run_jobs as run-jobs
-use Rattle.exports.proofs.dudowiej_run_jobs.Symbol as run-jobs-def
-use Rattle.exports.proofs.dudowiej_run_jobs.Symbol.{name as #run-jobs}
-use Rattle.exports.proofs.dudowiej_run_jobs.Met as run-jobs-thm
+use Rattle.dudowiej.specs.Coded.{JobsCoded}
+use Rattle.dudowiej.proofs.dudowiej_run_jobs as run-jobs
+use Rattle.dudowiej.proofs.dudowiej_run_jobs.Symbol as run-jobs-def
+use Rattle.dudowiej.proofs.dudowiej_run_jobs.Symbol.{name as #run-jobs}
+use Rattle.dudowiej.proofs.dudowiej_run_jobs.Met as run-jobs-thm
 use Rattle.demands.specs.Shift.{Shift}
 use Rattle.demands.specs.Knowing.{Sums}
 use Rattle.demands.proofs.Demands.{request-202}
@@ -230,5 +230,5 @@ request-run-jobs-spec 𝓤 H 𝓜 𝓖 𝓡 =
     entered 𝓤 H (tripleOf 𝓤 H (𝓖 .A) f.signature (f.spec 𝓤 H (𝓖 .A) (𝓜 .mem) (𝓡 .run)))
     (tables 𝓤 H 𝓜 𝓡 code.env .C) (tables 𝓤 H 𝓜 𝓡 code.env .Λ) #request-run-jobs code.function (code.unfolded 𝓤 H 𝓜 𝓡)
     (meets 𝓤 H (𝓖 .A) (𝓜 .mem) (𝓡 .run) (givenOf 𝓤 H 𝓜 𝓖) (tablesOf 𝓤 H 𝓜 (tables 𝓤 H 𝓜 𝓡 code.env))
-    (cited 𝓤 H (Run 𝓤 H (𝓖 .A) (𝓜 .mem) (𝓡 .run)) 𝓜 𝓡 code.env #run-jobs run-jobs-def.routine code.calls-exports·dudowiej-run-jobs
+    (cited 𝓤 H (Run 𝓤 H (𝓖 .A) (𝓜 .mem) (𝓡 .run)) 𝓜 𝓡 code.env #run-jobs run-jobs-def.routine code.calls-dudowiej·dudowiej-run-jobs
     (run-jobs-thm.met 𝓤 H 𝓜 𝓖 𝓡)))
