@@ -75,7 +75,7 @@ pub fn put_replies(
         (now (table .entry)) plan (now (goal .entry)) (now (room .entry)) (now (room .exit)) r) ⌝ }
 {
     if hits.len() <= 8 {
-        let mut few = [0u32; 256];
+        let mut few = [0u32; 512];
         return put_by(table, starts, rows, goal, hits, &mut few, room);
     }
     let mut many = [0u32; 2048];
