@@ -32,7 +32,8 @@ struct Case {
 impl Case {
     fn new(kind: Kind) -> Case {
         let random = &mut Random::new(SEED);
-        let facts = facts_of(texts::plain(random, kind, ROWS)).expect("a table");
+        // A number may be printed as one that no text has, or as another row's.
+        let facts = std::iter::repeat_with(|| texts::plain(random, kind, ROWS)).find_map(facts_of).expect("texts do not end");
         let (mut goals, mut replies) = (Vec::new(), Vec::new());
         while goals.len() < GOALS {
             let cells = if goals.len() % 2 == 0 { goals::instance(random, &facts.table) } else { goals::general(random, &facts.table) };
