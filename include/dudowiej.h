@@ -22,7 +22,7 @@
  * appended again is copied out of its record first. The functions keep nothing between calls, and allocate nothing. Of its caller's stack a
  * call touches at most 128,648 bytes to read a goal's text, 124,120 to build the plan that a list likes best, 116,536 to salvage a file, 82,776
  * to build a plan for named columns, 62,040 to load a text, 50,944 to read a file, 49,936 to write one, 45,480 for the replies to a list, 44,376
- * for replies, 35,616 to hand a plan back, 33,632 to run one, 29,168 to build one, 17,112 to write an answer's text, 17,000 to edit a record,
+ * for replies, 35,616 to hand a plan back, 33,632 to run one, 29,168 to build one, 17,488 to write an answer's text, 17,000 to edit a record,
  * 16,864 to check a plan, 8,664 to work a record out and 2,536 to read (measured: docs/BENCH.md, "Stack"). */
 #ifndef DUDOWIEJ_H
 #define DUDOWIEJ_H
