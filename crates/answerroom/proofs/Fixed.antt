@@ -9,8 +9,8 @@ use Rattle.refusal.specs.declared.Reason.the-variants as reason
 use Rattle.refusal.specs.declared.Input.the-variants as input
 use Rattle.refusal.proofs.RefusalLaws.{told-one}
 use Rattle.loading.specs.Load.{front}
-use Rattle.asking.specs.Saying.{saidIn}
-use Rattle.asking.specs.declared.Predicate.{Predicate}
+use Rattle.termtext.specs.Saying.{saidIn}
+use Rattle.termtext.specs.declared.Predicate.{Predicate}
 use Rattle.goaltext.proofs.Fixed.{predicate-of-fixed}
 use Rattle.answerroom.specs.Room.{answerTold, AnswerInto, too-big, no-room, is-said}
 use Rattle.answerroom.specs.declared.AnswerText.{AnswerText}

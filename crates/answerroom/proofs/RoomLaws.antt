@@ -10,12 +10,12 @@ use Rattle.refusal.specs.declared.Input.the-variants as input
 use Rattle.grammar.specs.Taken.{taken}
 use Rattle.octets.specs.Octets.{Put}
 use Rattle.octets.proofs.PutLaws.{put-front}
-use Rattle.asking.specs.Saying.{termsText, wordsOf, predicateIn, saidIn}
-use Rattle.asking.specs.declared.Predicate.{Predicate}
+use Rattle.termtext.specs.Saying.{termsText, wordsOf, predicateIn, saidIn}
+use Rattle.termtext.specs.declared.Predicate.{Predicate}
 use Rattle.goaltext.specs.Asked.{PredicateIs, first, none}
-use Rattle.saying.specs.Terms.{termsSaid}
-use Rattle.saying.proofs.LevelLaws.{said-is, terms-are}
-use Rattle.saying.proofs.BytesLaws.{slice-few, slice-within}
+use Rattle.answertext.specs.Terms.{termsSaid}
+use Rattle.answertext.proofs.LevelLaws.{said-is, terms-are}
+use Rattle.answertext.proofs.BytesLaws.{slice-few, slice-within}
 use Rattle.answerroom.specs.Room.{answerTold, AnswerInto, no-room, is-said}
 use Rattle.answerroom.specs.declared.AnswerText.{AnswerText}
 use Rattle.answerroom.specs.declared.AnswerText.the-variants as answer-text

@@ -8,8 +8,8 @@ use Rattle.refusal.specs.Refusal.{refused, told, Answer, answered, turned}
 use Rattle.refusal.specs.declared.Reason.the-variants as reason
 use Rattle.refusal.specs.declared.Input.the-variants as input
 use Rattle.loading.specs.Load.{front}
-use Rattle.asking.specs.Saying.{saidIn}
-use Rattle.asking.specs.declared.Predicate.{Predicate}
+use Rattle.termtext.specs.Saying.{saidIn}
+use Rattle.termtext.specs.declared.Predicate.{Predicate}
 use Rattle.goaltext.specs.Asked.{PredicateIs}
 use Rattle.answerroom.specs.declared.AnswerText.{AnswerText}
 use Rattle.answerroom.specs.declared.AnswerText.the-variants as answer-text

@@ -6,13 +6,13 @@ ghost use Rattle.refusal.specs.Refusal.{refused, turned};
 ghost use Rattle.refusal.specs.Coded.{Small};
 ghost use Rattle.refusal.specs.declared.Reason.{Reason};
 ghost use Rattle.refusal.specs.declared.Input.{Input};
-ghost use Rattle.asking.specs.Saying.{predicateIn, saidIn};
+ghost use Rattle.termtext.specs.Saying.{predicateIn, saidIn};
 ghost use Rattle.answerroom.specs.Room.{answerTold, AnswerInto};
-use asking::Predicate;
+use termtext::Predicate;
 use refusal::Input;
 use refusal::Reason;
 use refusal::Refusal;
-use saying::measure::terms_bytes;
+use answertext::measure::terms_bytes;
 
 // So many cells are said, in so many bytes; or why they are not.
 pub enum AnswerText {
@@ -68,6 +68,6 @@ pub fn put_answer(
     if room.len() < need {
         return refuse(Reason::Room, Input::Lent, need);
     }
-    saying::put_answer(room, text, names, goal, new, p, cells);
+    answertext::put_answer(room, text, names, goal, new, p, cells);
     AnswerText::Said(cells.len(), need)
 }

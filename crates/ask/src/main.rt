@@ -1,4 +1,4 @@
 // The program `ask`: which rules of a file of Prolog facts fit a goal, and what they answer.
 fn main() {
-    desk::answer();
+    askmain::answer();
 }

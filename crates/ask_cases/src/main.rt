@@ -10,7 +10,7 @@ fn main() {
         let next = i + 1;
         if calls::ends(i) {
             calls::print(b"ask", first, i);
-            desk::answer_call(first, i);
+            askmain::answer_call(first, i);
             first = next;
         }
         i = next;

@@ -1,10 +1,10 @@
 // One goal: read, run, and what each rule that fits says.
 use answer::RunAnswer;
-use doubles::part;
+use samerows::part;
 use goalsay::Source;
 use goaltext::GoalText;
 use instance::RepliesAnswer;
-use notes::Noted;
+use plannotes::Noted;
 use page::Page;
 use shop::Shop;
 use tally::Tally;
@@ -20,7 +20,7 @@ pub struct Ready {
 // The plan is checked and the table read once for all goals. What is noted of each branch stands in the lent numbers.
 pub fn make_ready(kept: &[u32], shop: Shop, numbers: &mut [u64; 2048]) -> Ready {
     let table = shop::table_in(kept, shop);
-    let noted = notes::check_noted(table, shop::plan_in(kept, shop), numbers);
+    let noted = plannotes::check_noted(table, shop::plan_in(kept, shop), numbers);
     let read = table::read_table(table);
     let starts = read.starts;
     Ready {

@@ -1,7 +1,7 @@
 // The plan that a list of goals likes best (liked), printed: which columns it looks at first, what the goals try by it and by the plain plan, and
 // its words.
 use builder::BuildAnswer;
-use doubles::part;
+use samerows::part;
 use page::Page;
 use refusal::Refusal;
 use shop::Shop;

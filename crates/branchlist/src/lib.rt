@@ -1,6 +1,6 @@
 // The branches of a plan, in its order, as a list of numbers: what is printed of a plan is printed by it.
 ghost use Prim.Native.Nat.{_≤_};
-use doubles::part;
+use samerows::part;
 use octets::cells::put_cell;
 use octets::cells::put_cells;
 use shop::Shop;

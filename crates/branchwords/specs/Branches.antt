@@ -8,7 +8,7 @@ use Rattle.cell.specs.Cell.{kindOf, valuesAt, arity}
 use Rattle.octets.specs.Octets.{decimal}
 use Rattle.message.specs.Words.{ascii}
 use Rattle.message.specs.Message.{numberedBy}
-use Rattle.asking.specs.Saying.{wordsIn, symbolWord}
+use Rattle.termtext.specs.Saying.{wordsIn, symbolWord}
 
 -- `plan of 12 rules, 39 branches`
 unfoldable pub sizesText : (rules branches : ℕ) → List ℕ

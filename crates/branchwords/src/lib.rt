@@ -36,7 +36,7 @@ fn put_owner(out: &mut [u8], to: usize, text: &[u8], names: &[u32], owner: u32) 
         return to;
     }
     let on = put_word(out, to, b" of ");
-    saying::put_listed(out, on, text, names, (owner - 1) as usize)
+    answertext::put_listed(out, on, text, names, (owner - 1) as usize)
 }
 
 // A place, as crate branchlist has it.
@@ -68,7 +68,7 @@ fn put_symbol(out: &mut [u8], to: usize, text: &[u8], names: &[u32], c: u32) -> 
         return put_word(out, to, b"anything");
     }
     let none = [0u32; 0];
-    let on = saying::put_symbol(out, to, text, names, text, &none, c);
+    let on = answertext::put_symbol(out, to, text, names, text, &none, c);
     put_blanks(out, on, cell::arity_of(c))
 }
 

@@ -32,8 +32,8 @@ use Rattle.least.proofs.Best.{least-one}
 use Rattle.least.proofs.Building.{built-least}
 use Rattle.least.proofs.Weighed.{by-light}
 use Rattle.least.proofs.FollowLaws.{follows-built}
-use Rattle.entries.specs.Fill.{Filled, Fills}
-use Rattle.entries.proofs.WorkedLaws.{all-asked}
+use Rattle.paircosts.specs.Fill.{Filled, Fills}
+use Rattle.paircosts.proofs.WorkedLaws.{all-asked}
 use Rattle.builder.specs.code.Writing.{Planned, KeptOf, Right, Put, fitted, short}
 use Rattle.builder.specs.Build.{tableFor, BuiltInto, table-refused, room-refused, built}
 use Rattle.builder.specs.declared.BuildAnswer.{BuildAnswer}

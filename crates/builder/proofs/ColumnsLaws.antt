@@ -14,7 +14,7 @@ use Rattle.least.specs.Least.{Least, Built}
 use Rattle.least.specs.Measures.{tableBy}
 use Rattle.least.specs.declared.By.{By}
 use Rattle.least.proofs.NoneNamed.{free-built, free-least}
-use Rattle.entries.proofs.PlainLaws.{plain-free}
+use Rattle.paircosts.proofs.PlainLaws.{plain-free}
 use Rattle.builder.specs.Build.{tableFor, BuiltInto, table-refused, room-refused, built}
 use Rattle.builder.specs.declared.BuildAnswer.{BuildAnswer}
 

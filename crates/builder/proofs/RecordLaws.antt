@@ -21,7 +21,7 @@ use Rattle.least.proofs.Measured.{by-table}
 use Rattle.least.proofs.NoneNamed.{free-least}
 use Rattle.record.specs.Record.{cellsIn, Costs, no-rows, some-rows, Holds, tableIn}
 use Rattle.record.proofs.PartLaws.{table-in}
-use Rattle.entries.proofs.PlainLaws.{plain-free, zero-free, free-entry}
+use Rattle.paircosts.proofs.PlainLaws.{plain-free, zero-free, free-entry}
 use Rattle.builder.specs.code.Writing.{KeptOf, Right}
 use Rattle.builder.specs.Build.{BuiltInto}
 use Rattle.builder.specs.declared.BuildAnswer.{BuildAnswer}

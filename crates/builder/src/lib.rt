@@ -102,7 +102,7 @@ pub fn build_for(by: By, columns: &[u32], cells: &[u32], room: &mut [u32]) -> Bu
 {
     let named = named_of(columns);
     let mut kept = [0; 12288];
-    let read = entries::fill(by, named.mask, cells, &mut kept[..], 64, 0);
+    let read = paircosts::fill(by, named.mask, cells, &mut kept[..], 64, 0);
     build(cells, read, named, &kept[..], room)
 }
 

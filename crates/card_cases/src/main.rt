@@ -10,7 +10,7 @@ fn main() {
         let next = i + 1;
         if calls::ends(i) {
             calls::print(b"card", first, i);
-            cabinet::answer_call(first, i);
+            cardmain::answer_call(first, i);
             first = next;
         }
         i = next;

@@ -1,5 +1,5 @@
 // What is said of a card's bytes: what it holds, or why it is refused.
-use doubles::part;
+use samerows::part;
 use filing::FileAnswer;
 use refusal::Refusal;
 

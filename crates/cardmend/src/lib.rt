@@ -2,7 +2,7 @@
 ghost use Prim.Native.Nat.{_+_, _≤_};
 ghost use lib.ListN.{length};
 use cardmake::Made;
-use doubles::part;
+use samerows::part;
 use filing::FileAnswer;
 use octets::put_word;
 use page::Page;

@@ -8,7 +8,7 @@ use Rattle.term.specs.Terms.{root, close, front, back}
 use Rattle.table.specs.Table.{count, appear, upFrom}
 use Rattle.octets.specs.Octets.{digitsOf, decimal}
 use Rattle.grammar.specs.Numbering.{Words}
-use Rattle.asking.specs.Saying.{symbolWord, closing, owing, termsText, answerText}
+use Rattle.termtext.specs.Saying.{symbolWord, closing, owing, termsText, answerText}
 use Rattle.plan.specs.Runs.{agree}
 use Rattle.plan.specs.Plans.{Plan, leaf, node, end, next}
 use Rattle.answer.specs.Skeleton.{hole, fill, decide}

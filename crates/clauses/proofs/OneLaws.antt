@@ -13,7 +13,7 @@ use Rattle.grammar.proofs.NthLaws.{parted-none}
 use Rattle.grammar.proofs.RowLaws.{Named, row-one}
 use Rattle.grammar.proofs.LongLaws.{gap-place}
 use Rattle.grammar.proofs.Complete.{Follows}
-use Rattle.asking.proofs.SpellLaws.{decimal-read}
+use Rattle.termtext.proofs.SpellLaws.{decimal-read}
 use Rattle.clauses.specs.Clauses.{Body, calls, Clause, clauseOf, handed}
 use Rattle.clauses.specs.Text.{predicateWord}
 use Rattle.clauses.specs.Reading.{AtomAt, atom, ClauseAt, a-fact, a-rule, ClausesAt, none, last, next, Reads}

@@ -29,7 +29,7 @@ use Rattle.answer.proofs.CountLaws.{up-distinct, count-same}
 use Rattle.answer.proofs.SkeletonLaws.{fill-hole, fill-cell, fill-all, count-all}
 use Rattle.instance.specs.Reply.{Numbered}
 use Rattle.grammar.specs.Numbering.{Words}
-use Rattle.asking.proofs.SayLaws.{Good, good-variable, good-name, good-number, Goods}
+use Rattle.termtext.proofs.SayLaws.{Good, good-variable, good-name, good-number, Goods}
 use Rattle.clauses.specs.Clauses.{handed}
 use Rattle.clauses.specs.Translate.{Predicate, done, fact, rule, headOf, single, each, clause, clauseIn, predicate}
 use Rattle.clauses.specs.Program.{callees, own, below, numbered}

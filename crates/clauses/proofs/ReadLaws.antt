@@ -12,10 +12,10 @@ use Rattle.table.specs.code.Looks.{cellsFrom}
 use Rattle.grammar.specs.Grammar as G
 use Rattle.grammar.specs.Grammar.{Symbol, Args}
 use Rattle.grammar.specs.Numbering.{Words}
-use Rattle.asking.specs.Saying.{closing, owing, termsText, answerText}
-use Rattle.asking.proofs.SayLaws as say
-use Rattle.asking.proofs.SayLaws.{Spells, terms-said, Goods}
-use Rattle.asking.proofs.Back.{Apart, spelt-row}
+use Rattle.termtext.specs.Saying.{closing, owing, termsText, answerText}
+use Rattle.termtext.proofs.SayLaws as say
+use Rattle.termtext.proofs.SayLaws.{Spells, terms-said, Goods}
+use Rattle.termtext.proofs.Back.{Apart, spelt-row}
 use Rattle.clauses.specs.Clauses.{nothing, calls, Clause, clauseOf, handed}
 use Rattle.clauses.specs.Text.{predicateWord, atomText, bodyText, lineText, programText}
 use Rattle.clauses.specs.Reading as reading

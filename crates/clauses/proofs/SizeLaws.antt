@@ -12,7 +12,7 @@ use Rattle.term.specs.Terms.{Terms}
 use Rattle.term.proofs.TermsLaws.{Terms-1, zero-nil, nil-zero}
 use Rattle.table.specs.All.{All}
 use Rattle.grammar.specs.Numbering.{Words}
-use Rattle.asking.specs.Saying.{symbolWord, closing, owing, markAfter, owedAfter, termsText, answerText}
+use Rattle.termtext.specs.Saying.{symbolWord, closing, owing, markAfter, owedAfter, termsText, answerText}
 use Rattle.clauses.specs.Clauses.{calls, Clause, handed}
 use Rattle.clauses.specs.Text.{predicateWord, atomText, bodyText, lineText, programText}
 use Rattle.clauses.specs.code.Size.{cellBytes, atomBytes, lineBytes, programBytes}

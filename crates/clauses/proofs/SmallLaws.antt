@@ -20,8 +20,8 @@ use Rattle.plan.specs.Plans.{Plan}
 use Rattle.octets.specs.Octets.{digitsOf, decimal}
 use Rattle.printing.specs.Printing.{signedDecimal}
 use Rattle.grammar.specs.Numbering.{Words, Nth, here, later}
-use Rattle.asking.specs.Saying.{wordIn, wordsIn, symbolWord}
-use Rattle.asking.proofs.SayLaws.{Good, good-variable, good-name, good-number, Goods}
+use Rattle.termtext.specs.Saying.{wordIn, wordsIn, symbolWord}
+use Rattle.termtext.proofs.SayLaws.{Good, good-variable, good-name, good-number, Goods}
 use Rattle.clauses.specs.Clauses.{Body, nothing, calls, Clause, handed}
 use Rattle.clauses.specs.Translate.{Predicate, done, fact, rule, predicate}
 use Rattle.clauses.specs.Program.{callees, own, below, numbered, program}

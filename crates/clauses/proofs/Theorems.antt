@@ -23,9 +23,9 @@ use Rattle.instance.proofs.StartLaws.{renamed-terms}
 use Rattle.instance.proofs.RepliesLaws.{picks-given}
 use Rattle.grammar.specs.Numbering.{Words, Nth, here, later}
 use Rattle.lex.specs.Names.{IsName}
-use Rattle.asking.specs.Saying.{wordIn, wordsIn}
-use Rattle.asking.proofs.SayLaws.{Goods}
-use Rattle.asking.proofs.Back.{Named, cells-good}
+use Rattle.termtext.specs.Saying.{wordIn, wordsIn}
+use Rattle.termtext.proofs.SayLaws.{Goods}
+use Rattle.termtext.proofs.Back.{Named, cells-good}
 use Rattle.clauses.specs.Answers.{Answers}
 use Rattle.clauses.specs.Translate.{predicate}
 use Rattle.clauses.specs.Program.{program}

@@ -19,8 +19,8 @@ use Rattle.grammar.specs.Numbering.{Words, Nth, here, later}
 use Rattle.grammar.proofs.NthLaws.{nth-below, nth-one}
 use Rattle.lex.specs.Names.{IsName}
 use Rattle.lex.proofs.NameLaws.{no-bytes, no-lower}
-use Rattle.asking.specs.Saying.{wordIn, wordsIn}
-use Rattle.asking.proofs.SpellLaws.{Going, Lower, lower, name-lower, lower-name}
+use Rattle.termtext.specs.Saying.{wordIn, wordsIn}
+use Rattle.termtext.proofs.SpellLaws.{Going, Lower, lower, name-lower, lower-name}
 use Rattle.clauses.specs.Handed.{Listed}
 use Rattle.clauses.specs.Unlisted.{Unlisted, no-name, the-same, no-number}
 

@@ -11,7 +11,7 @@ use Rattle.table.proofs.ReadLaws.{not-both}
 use Rattle.octets.specs.Octets.{decimal}
 use Rattle.grammar.specs.Grammar.{isLower}
 use Rattle.lex.specs.Names.{IsName}
-use Rattle.asking.proofs.SpellLaws.{Lower, lower, name-lower, decimal-one}
+use Rattle.termtext.proofs.SpellLaws.{Lower, lower, name-lower, decimal-one}
 use Rattle.clauses.specs.Text.{predicateWord}
 
 lower-first : {b : ℕ} {rest : List ℕ} → IsName (b ∷ rest) → isLower b ≡ true

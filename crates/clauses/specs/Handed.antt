@@ -14,7 +14,7 @@ use Rattle.plan.specs.Plans.{Plan, write}
 use Rattle.plan.specs.Check.{planFor}
 use Rattle.grammar.specs.Numbering.{Nth}
 use Rattle.lex.specs.Names.{IsName}
-use Rattle.asking.specs.Saying.{wordIn, wordsIn}
+use Rattle.termtext.specs.Saying.{wordIn, wordsIn}
 use Rattle.clauses.specs.Clauses.{Clause}
 use Rattle.clauses.specs.Program.{program}
 use Rattle.clauses.specs.Text.{programText}

@@ -1,13 +1,13 @@
 -- The text of a program, byte for byte (02, W-210): a clause to a line. Predicates are `'P0'`, `'P1'` and on: a quoted name that begins
 -- with a capital is no name of W-201's ("the predicates' names can't clash with them"). Heads and calls are as `ask` prints an answer
--- (crate asking): a blank after each comma, names by their words ("Names come from W-201's list"), numbers with their sign, variables as
+-- (crate termtext): a blank after each comma, names by their words ("Names come from W-201's list"), numbers with their sign, variables as
 -- `_0`, `_1`.
 use Prim.Native.Nat.{ℕ}
 use mathlib.Core.List.{List, [], _∷_, _++_}
 use lib.ListN.{length}
 use Rattle.octets.specs.Octets.{decimal}
 use Rattle.grammar.specs.Numbering.{Words}
-use Rattle.asking.specs.Saying.{answerText}
+use Rattle.termtext.specs.Saying.{answerText}
 use Rattle.clauses.specs.Clauses.{Body, nothing, calls, Clause, handed}
 
 -- `'P`, the number, `'`: "the predicates' names can't clash with them"

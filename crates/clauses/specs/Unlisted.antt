@@ -7,7 +7,7 @@ use lib.ListN.{length}
 use Rattle.cell.specs.Cell.{kindOf, numberOf}
 use Rattle.grammar.specs.Numbering.{Nth}
 use Rattle.lex.specs.Names.{IsName}
-use Rattle.asking.specs.Saying.{wordIn, wordsIn}
+use Rattle.termtext.specs.Saying.{wordIn, wordsIn}
 
 pub data Unlisted (text names : List ℕ) (rows : List (List ℕ)) : Type 0 where
   no-name : (k n : ℕ) → Nth names k n → ((n % 65536 + n / 65536 ≤ length text) × IsName (wordIn text n) → ⊥) → Unlisted text names rows

@@ -1,11 +1,11 @@
 // A shop's plan as Prolog clauses (02, W-210), and before them the clause that ties the facts' own predicate to the first of them, so that
 // what calls it goes on as it is.
-use asking::Predicate;
+use termtext::Predicate;
 use clauses::HandAnswer;
-use doubles::part;
+use samerows::part;
 use octets::put_word;
-use saying::put_answer;
-use saying::put_terms;
+use answertext::put_answer;
+use answertext::put_terms;
 use shop::Shop;
 
 // A rule has at most 8 arguments.

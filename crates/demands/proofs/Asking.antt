@@ -19,11 +19,11 @@ use Rattle.grammar.specs.Taken.{Taken}
 use Rattle.grammar.specs.Numbering.{Nth, First}
 use Rattle.grammar.proofs.Sizes.{text-wide}
 use Rattle.loading.specs.Load.{front}
-use Rattle.asking.specs.declared.Predicate.{Predicate}
-use Rattle.asking.specs.Saying.{wordsIn, wordsOf, predicateIn, saidIn}
-use Rattle.asking.specs.Goal as asking
-use Rattle.asking.specs.Goal.{Whole, Ours, Goal, GoalRead}
-use Rattle.asking.proofs.ListLaws.{new-apart, new-fewer}
+use Rattle.termtext.specs.declared.Predicate.{Predicate}
+use Rattle.termtext.specs.Saying.{wordsIn, wordsOf, predicateIn, saidIn}
+use Rattle.termtext.specs.Goal as asking
+use Rattle.termtext.specs.Goal.{Whole, Ours, Goal, GoalRead}
+use Rattle.termtext.proofs.ListLaws.{new-apart, new-fewer}
 use Rattle.goaltext.specs.Asked as goaltext
 use Rattle.goaltext.specs.Asked.{PredicateIs, Asked, said, cellsOf, newOf}
 use Rattle.goaltext.specs.declared.GoalText.{GoalText}
@@ -35,7 +35,7 @@ use Rattle.goalroom.proofs.Fixed.{fits-is, fits-one}
 use Rattle.answerroom.specs.Room as into
 use Rattle.answerroom.specs.Room.{answerTold, AnswerInto}
 use Rattle.answerroom.specs.declared.AnswerText.{AnswerText}
-use Rattle.answering.proofs.ReplyBack.{replies-back}
+use Rattle.replyback.proofs.ReplyBack.{replies-back}
 use Rattle.dudowiej.specs.Coded.{GoalTextCoded, AnswerCoded}
 use Rattle.dudowiej.proofs.Back.{goal-text-back, answer-back}
 use Rattle.demands.specs.Asking.{IsAsked, Roomy, Gives, GoalTurned, ReadsGoal, AnswerTurned, PutsAnswer, ReadsBack}

@@ -16,9 +16,9 @@ use Rattle.plan.specs.Check.{planOf, planUnder}
 use Rattle.checker.specs.declared.PlanAnswer.{PlanAnswer}
 use Rattle.checker.specs.Checked.{planTold, planSays}
 use Rattle.checker.proofs.Fixed.{plan-fixed, under-fixed}
-use Rattle.notes.specs.declared.Noted.{Noted}
-use Rattle.notes.specs.Noted.{Handed}
-use Rattle.notes.proofs.Fixed.{handed-fixed}
+use Rattle.plannotes.specs.declared.Noted.{Noted}
+use Rattle.plannotes.specs.Noted.{Handed}
+use Rattle.plannotes.proofs.Fixed.{handed-fixed}
 use Rattle.builder.specs.declared.BuildAnswer.{BuildAnswer}
 use Rattle.least.specs.declared.By.{By}
 use Rattle.record.specs.Record.{Holds}

@@ -15,7 +15,7 @@ use Rattle.printing.specs.Printing.{symbolOf, symbol}
 use Rattle.grammar.specs.Grammar.{number}
 use Rattle.grammar.proofs.Range.{leaves, plain-leaves, minus-leaves}
 use Rattle.grammar.proofs.Written.{plain-value, negative-value, negative-small, value-bits, plain-term, minus-term}
-use Rattle.asking.proofs.ValueLaws.{number-term}
+use Rattle.termtext.proofs.ValueLaws.{number-term}
 use Rattle.demands.specs.Numbers.{Request206, ReadsCell, PrintsSymbol, PrintsMinusOne, TakesMinus, TakesDigits, OutOfRange}
 
 pub request-206 : (bits : ℕ) → bits < 2 ^ 16 → Request206 bits

@@ -19,9 +19,9 @@ use Rattle.grammar.specs.Grammar.{Fact}
 use Rattle.grammar.specs.Taken.{Taken}
 use Rattle.loading.specs.Load.{Loaded, Loads}
 use Rattle.instance.specs.Reply.{Replies, Short}
-use Rattle.asking.specs.declared.Predicate.{Predicate}
-use Rattle.asking.specs.Saying.{wordsIn, wordsOf, predicateIn, saidIn, known}
-use Rattle.asking.specs.Goal.{Whole, NoGoal, Ours, Goal, Asks, GoalRead}
+use Rattle.termtext.specs.declared.Predicate.{Predicate}
+use Rattle.termtext.specs.Saying.{wordsIn, wordsOf, predicateIn, saidIn, known}
+use Rattle.termtext.specs.Goal.{Whole, NoGoal, Ours, Goal, Asks, GoalRead}
 use Rattle.goaltext.specs.Asked.{PredicateIs}
 
 -- A GOAL'S TEXT
@@ -84,7 +84,7 @@ pub data AnswerTurned (text names goal new cells room : List ℕ) : Refused → 
   no-room : (p : Predicate) → length cells ≤ 1024 → PredicateIs text p → length room < length (saidIn text names goal new p cells)
       → AnswerTurned text names goal new cells room (refused reason.Room input.Lent (length (saidIn text names goal new p cells)))
 
--- "the reply's cells to bytes": the text of an answer (asking/specs/Saying) comes first in the room, the rest of which is kept; refused as above,
+-- "the reply's cells to bytes": the text of an answer (termtext/specs/Saying) comes first in the room, the rest of which is kept; refused as above,
 -- with nothing written
 pub record PutsAnswer (text names goal new cells room room′ : List ℕ) (answer : Answer) : Type 0 where
   pub says : (p : Predicate) → length cells ≤ 1024 → PredicateIs text p → length (saidIn text names goal new p cells) ≤ length room

@@ -18,7 +18,7 @@ use Rattle.plan.specs.Plans.{Plan, write}
 use Rattle.plan.specs.Check.{planOf}
 use Rattle.octets.specs.Octets.{decimal}
 use Rattle.grammar.specs.Numbering.{Nth}
-use Rattle.asking.specs.Saying.{wordsIn}
+use Rattle.termtext.specs.Saying.{wordsIn}
 use Rattle.instance.specs.Reply.{Replies}
 use Rattle.clauses.specs.Clauses.{Clause}
 use Rattle.clauses.specs.Program.{program}

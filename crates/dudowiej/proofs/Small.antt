@@ -63,9 +63,9 @@ use Rattle.grammar.specs.Taken.{Taken, too-long, no-text, other-fact, taken}
 use Rattle.grammar.proofs.LongLaws.{text-long, other-place, names-few}
 use Rattle.loading.specs.Load.{Loaded, Loads, not-taken, no-cells, no-names, no-table, loads, loadSays, TextLoads}
 use Rattle.prolog.proofs.EntryLaws.{cells-long, names-long}
-use Rattle.asking.specs.Goal as asking
-use Rattle.asking.specs.Goal.{Goal}
-use Rattle.asking.specs.declared.Predicate.{Predicate}
+use Rattle.termtext.specs.Goal as asking
+use Rattle.termtext.specs.Goal.{Goal}
+use Rattle.termtext.specs.declared.Predicate.{Predicate}
 use Rattle.goaltext.specs.Asked as goals
 use Rattle.goaltext.proofs.AskedLaws.{whole-text}
 use Rattle.goaltext.specs.declared.GoalText.{GoalText}

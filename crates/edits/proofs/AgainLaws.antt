@@ -23,9 +23,9 @@ use Rattle.record.proofs.KeptLaws.{kept-zero, right-kept}
 use Rattle.record.proofs.PartLaws.{few-cells, kept-long, length-room, holds-parts, parts-hold}
 use Rattle.record.proofs.RowLaws.{with-length, with-between}
 use Rattle.record.proofs.StoreLaws.{lent-all, kept-put, room-put}
-use Rattle.entries.specs.Fill.{NoPair, Unasked, KeptRight, Fills}
-use Rattle.entries.proofs.WorkedLaws.{turned-by}
-use Rattle.entries.proofs.PlainLaws.{plain-free, zero-free, free-kept}
+use Rattle.paircosts.specs.Fill.{NoPair, Unasked, KeptRight, Fills}
+use Rattle.paircosts.proofs.WorkedLaws.{turned-by}
+use Rattle.paircosts.proofs.PlainLaws.{plain-free, zero-free, free-kept}
 use Rattle.edits.specs.code.Joining.{Ready}
 use Rattle.edits.proofs.WorkLaws.{plain-filled, filled-kept}
 

@@ -7,7 +7,7 @@ use lib.ListN.{length, take, replicate}
 use Rattle.refusal.specs.Refusal.{Answer, told, turned}
 use Rattle.refusal.specs.declared.Refusal.{Refusal}
 use Rattle.refusal.specs.Read.{Read, read, refuse}
-use Rattle.doubles.specs.Starts.{rowsLent}
+use Rattle.samerows.specs.Starts.{rowsLent}
 use Rattle.table.specs.declared.RowAnswer.{RowAnswer}
 use Rattle.table.specs.declared.RowAnswer.the-variants as row-answer
 use Rattle.table.specs.Table.{Table, tableOf, startsIn, others, rowOf, rowTold, tableSays, Row, Apart}

@@ -8,8 +8,8 @@ use lib.ListN.{length, getD, set, drop, replicate, length-set}
 use lib.Seq.{sets, drop-cons}
 use Rattle.term.proofs.Lists.{store-next}
 use Rattle.least.specs.Entries.{SameAt}
-use Rattle.entries.specs.code.Filling.{putPair}
-use Rattle.entries.proofs.FillLaws.{Where, here, there, where-is}
+use Rattle.paircosts.specs.code.Filling.{putPair}
+use Rattle.paircosts.proofs.FillLaws.{Where, here, there, where-is}
 use Rattle.record.specs.code.Zeros.{ZeroAt, Cleared}
 use Rattle.record.proofs.KeptLaws.{zero-same}
 

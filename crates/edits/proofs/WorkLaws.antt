@@ -26,9 +26,9 @@ use Rattle.record.specs.code.Rows.{inRoom}
 use Rattle.record.proofs.KeptLaws.{kept-when, zero-same}
 use Rattle.record.proofs.PartLaws.{length-room, parts-hold}
 use Rattle.record.proofs.StoreLaws.{kept-lent, kept-put, cells-anew}
-use Rattle.entries.specs.Fill.{NoPair, Filled, Fills}
-use Rattle.entries.proofs.WorkedLaws.{figure-small, rows-by, turned-by, all-asked}
-use Rattle.entries.proofs.PlainLaws.{plain-free, zero-free, free-filled}
+use Rattle.paircosts.specs.Fill.{NoPair, Filled, Fills}
+use Rattle.paircosts.proofs.WorkedLaws.{figure-small, rows-by, turned-by, all-asked}
+use Rattle.paircosts.proofs.PlainLaws.{plain-free, zero-free, free-filled}
 
 -- no column is named
 pub plain-filled : {m : Measure} {width : ℕ} {rows : List (List ℕ)} {old new : List ℕ} → Filled m (flagsIn width 0) width rows old new → Filled m [] width rows old new

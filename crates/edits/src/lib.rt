@@ -61,7 +61,7 @@ fn work_again(rec: &mut [u32; 14340], next: &[u32; 2050], size: usize, r: usize)
     let all = &mut rec[..];
     let figure = all[1];
     let room = &next[..];
-    let read = entries::fill(
+    let read = paircosts::fill(
         By::Work(figure),
         0,
         &room[..size],
@@ -109,7 +109,7 @@ pub fn work_out(cells: &[u32], figure: u32, rec: &mut [u32; 14340]) -> TableAnsw
         let all = &mut rec[..];
         store::clear(&mut *all, 2, 14340);
         store::copy(&mut *all, 2, cells);
-        entries::fill(By::Work(figure), 0, cells, &mut all[2052..], 64, 0);
+        paircosts::fill(By::Work(figure), 0, cells, &mut all[2052..], 64, 0);
         store::put(&mut *all, 0, cells.len());
         all[1] = figure;
     }

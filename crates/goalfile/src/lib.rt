@@ -3,7 +3,7 @@
 use answer::RunAnswer;
 use askgoal::Found;
 use askgoal::Ready;
-use doubles::part;
+use samerows::part;
 use goallines::Piece;
 use goallines::Place;
 use goallist::Added;

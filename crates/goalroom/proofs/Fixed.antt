@@ -10,8 +10,8 @@ use Rattle.refusal.specs.Read.{Read, read, refuse, when, andThen}
 use Rattle.refusal.specs.declared.Reason.the-variants as reason
 use Rattle.refusal.specs.declared.Input.the-variants as input
 use Rattle.loading.specs.Load.{front}
-use Rattle.asking.specs.Goal.{Goal}
-use Rattle.asking.specs.declared.Predicate.{Predicate}
+use Rattle.termtext.specs.Goal.{Goal}
+use Rattle.termtext.specs.declared.Predicate.{Predicate}
 use Rattle.goaltext.specs.Asked.{PredicateIs, Asked, said, cellsOf, newOf}
 use Rattle.goaltext.specs.declared.GoalText.{GoalText}
 use Rattle.goaltext.proofs.Fixed.{predicate-of-fixed, asked-one, told-text}

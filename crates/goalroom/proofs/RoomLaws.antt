@@ -17,10 +17,10 @@ use Rattle.grammar.proofs.LongLaws.{gap-place}
 use Rattle.loading.specs.Load.{front}
 use Rattle.octets.specs.Octets.{Put}
 use Rattle.octets.proofs.PutLaws.{put-front}
-use Rattle.asking.specs.Goal as asking
-use Rattle.asking.specs.Goal.{Whole, NoGoal, Goal}
-use Rattle.asking.specs.declared.Predicate.{Predicate}
-use Rattle.asking.proofs.ListLaws.{new-fewer}
+use Rattle.termtext.specs.Goal as asking
+use Rattle.termtext.specs.Goal.{Whole, NoGoal, Goal}
+use Rattle.termtext.specs.declared.Predicate.{Predicate}
+use Rattle.termtext.proofs.ListLaws.{new-fewer}
 use Rattle.goaltext.specs.Asked.{PredicateIs, Asked, asked, textTold, Answers, GoalAsked}
 use Rattle.goaltext.specs.declared.GoalText.{GoalText}
 use Rattle.goaltext.specs.declared.GoalText.the-variants as goal-text

@@ -7,8 +7,8 @@ use Rattle.refusal.specs.Refusal.{Refused, refused}
 use Rattle.refusal.specs.Read.{Read, read, refuse}
 use Rattle.refusal.specs.declared.Reason.the-variants as reason
 use Rattle.refusal.specs.declared.Input.the-variants as input
-use Rattle.asking.specs.Goal.{Goal}
-use Rattle.asking.specs.declared.Predicate.{Predicate}
+use Rattle.termtext.specs.Goal.{Goal}
+use Rattle.termtext.specs.declared.Predicate.{Predicate}
 use Rattle.goaltext.specs.Asked.{PredicateIs, Asked, Answers}
 use Rattle.goaltext.specs.declared.GoalText.{GoalText}
 

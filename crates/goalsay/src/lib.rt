@@ -95,7 +95,7 @@ fn put_answer(
     let end = to + page::LINE + 1;
     let p = shop.p;
     let line = &mut out[to..end];
-    let n = saying::put_answer(line, text, names, goal, new, p, cells);
+    let n = answertext::put_answer(line, text, names, goal, new, p, cells);
     if n <= page::LINE {
         return to + n;
     }

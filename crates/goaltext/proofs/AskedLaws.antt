@@ -36,14 +36,14 @@ use Rattle.prolog.specs.declared.FactsAnswer.the-variants as facts-answer
 use Rattle.prolog.specs.declared.Sizes.{Sizes}
 use Rattle.prolog.proofs.EntryLaws.{cells-long, front-kept}
 use Rattle.parts.proofs.PartLaws.{part-is}
-use Rattle.asking.specs.Saying.{wordIn, wordsIn, predicateIn}
-use Rattle.asking.specs.Goal.{Whole, stopped, unstopped, Ours, Goal, Asks, GoalRead}
-use Rattle.asking.specs.Goal as goal
-use Rattle.asking.specs.code.Renumber.{wordNumber, numbersFrom, newOnes, newCells}
-use Rattle.asking.specs.declared.Predicate.{Predicate}
-use Rattle.asking.proofs.LieLaws.{goal-lies}
-use Rattle.asking.proofs.ListLaws.{firsts-in, listed-words, new-fewer}
-use Rattle.asking.proofs.RenumberLaws.{new-few, new-numbered, goal-new}
+use Rattle.termtext.specs.Saying.{wordIn, wordsIn, predicateIn}
+use Rattle.termtext.specs.Goal.{Whole, stopped, unstopped, Ours, Goal, Asks, GoalRead}
+use Rattle.termtext.specs.Goal as goal
+use Rattle.termtext.specs.code.Renumber.{wordNumber, numbersFrom, newOnes, newCells}
+use Rattle.termtext.specs.declared.Predicate.{Predicate}
+use Rattle.termtext.proofs.LieLaws.{goal-lies}
+use Rattle.termtext.proofs.ListLaws.{firsts-in, listed-words, new-fewer}
+use Rattle.termtext.proofs.RenumberLaws.{new-few, new-numbered, goal-new}
 use Rattle.goaltext.specs.Asked.{Asked, too-many, asked, textTold, Answers, GoalAsked}
 use Rattle.goaltext.specs.code.Steps.{NameIs, Same, NamesNumbered, FactAsked, Reads}
 use Rattle.goaltext.specs.declared.GoalText.{GoalText}

@@ -9,10 +9,10 @@ use Rattle.refusal.specs.Read.{Read}
 use Rattle.refusal.proofs.RefusalLaws.{told-one}
 use Rattle.grammar.proofs.Fixed.{taken-fixed}
 use Rattle.loading.specs.Load.{front}
-use Rattle.asking.specs.Saying.{wordsIn, predicateIn}
-use Rattle.asking.specs.Goal.{Goal}
-use Rattle.asking.specs.declared.Predicate.{Predicate}
-use Rattle.asking.proofs.One.{read-one}
+use Rattle.termtext.specs.Saying.{wordsIn, predicateIn}
+use Rattle.termtext.specs.Goal.{Goal}
+use Rattle.termtext.specs.declared.Predicate.{Predicate}
+use Rattle.termtext.proofs.One.{read-one}
 use Rattle.goaltext.specs.Asked.{predicateOf, PredicateIs, first, none, Asked, too-many, asked, said, textTold, cellsOf, newOf}
 use Rattle.goaltext.specs.Asked.{GoalAsked}
 use Rattle.goaltext.specs.declared.GoalText.{GoalText}

@@ -14,11 +14,11 @@ use Rattle.cell.specs.declared.Shape.the-variants.{Name}
 use Rattle.cell.proofs.CellLaws.{values-small}
 use Rattle.cell.specs.Same.{same}
 use Rattle.grammar.specs.Numbering.{Words}
-use Rattle.asking.specs.Saying.{wordIn, wordsIn}
+use Rattle.termtext.specs.Saying.{wordIn, wordsIn}
 use Rattle.goaltext.specs.code.Steps.{NumberIs, listed, fresh}
 use Rattle.goaltext.specs.declared.names.Numbered.{Numbered}
-use Rattle.asking.specs.code.Renumber.{wordNumber, numbersFrom, newOnes, newCell, newCells}
-use Rattle.asking.proofs.RenumberLaws.{new-listed, new-first}
+use Rattle.termtext.specs.code.Renumber.{wordNumber, numbersFrom, newOnes, newCell, newCells}
+use Rattle.termtext.proofs.RenumberLaws.{new-listed, new-first}
 use Rattle.term.proofs.Lists.{store-next}
 
 pub words-many : (t names : List ℕ) → length (wordsIn t names) ≡ length names

@@ -25,11 +25,11 @@ use Rattle.scan.specs.declared.Counted.{Counted}
 use Rattle.scan.specs.declared.Scan.the-variants as scan
 use Rattle.parts.specs.declared.Span.{Span}
 use Rattle.scan.proofs.SaysLaws.{scan-turned}
-use Rattle.asking.specs.Saying.{predicateIn}
-use Rattle.asking.specs.Goal.{withStop, stopped, unstopped}
-use Rattle.asking.specs.Goal as goal
-use Rattle.asking.specs.declared.Predicate.{Predicate}
-use Rattle.asking.proofs.HeadLaws.{first-head}
+use Rattle.termtext.specs.Saying.{predicateIn}
+use Rattle.termtext.specs.Goal.{withStop, stopped, unstopped}
+use Rattle.termtext.specs.Goal as goal
+use Rattle.termtext.specs.declared.Predicate.{Predicate}
+use Rattle.termtext.proofs.HeadLaws.{first-head}
 use Rattle.goaltext.specs.Asked.{predicateOf, PredicateIs, first, none}
 use Rattle.goaltext.specs.code.Steps.{NameIs, EndsAre, SizeOf, OursIs}
 use Rattle.goaltext.specs.declared.Ends.the-variants as ends

@@ -1,4 +1,4 @@
--- What the reader of a goal's text answers (asking/specs/Goal), and what its rooms then hold.
+-- What the reader of a goal's text answers (termtext/specs/Goal), and what its rooms then hold.
 use Prim.Native.Nat.{ℕ, _≤_, _<_}
 use mathlib.Core.Path.{_≡_}
 use mathlib.Core.List.{List, [], _∷_}
@@ -10,9 +10,9 @@ use Rattle.refusal.specs.declared.Input.the-variants as input
 use Rattle.grammar.specs.Grammar.{Fact}
 use Rattle.grammar.specs.Taken.{Taken}
 use Rattle.loading.specs.Load.{front}
-use Rattle.asking.specs.Saying.{wordsIn, predicateIn}
-use Rattle.asking.specs.Goal.{Goal, GoalRead}
-use Rattle.asking.specs.declared.Predicate.{Predicate}
+use Rattle.termtext.specs.Saying.{wordsIn, predicateIn}
+use Rattle.termtext.specs.Goal.{Goal, GoalRead}
+use Rattle.termtext.specs.declared.Predicate.{Predicate}
 use Rattle.goaltext.specs.declared.GoalText.{GoalText}
 use Rattle.goaltext.specs.declared.GoalText.the-variants as goal-text
 

@@ -10,7 +10,7 @@ ghost use Rattle.refusal.specs.declared.Reason.{Reason};
 ghost use Rattle.refusal.specs.declared.Input.{Input};
 ghost use Rattle.goaltext.specs.Asked.{PredicateIs, textTold, GoalAsked};
 ghost use Rattle.goaltext.specs.code.Steps.{NameIs, EndsAre, SizeIs, OursIs, FactAsked, TextAsked, StoppedAsked};
-use asking::Predicate;
+use termtext::Predicate;
 use lex::fact::Head;
 use parts::Span;
 use prolog::FactsAnswer;

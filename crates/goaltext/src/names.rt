@@ -3,9 +3,9 @@ ghost use mathlib.Core.Path.{_≡_};
 ghost use mathlib.Core.List.{_++_};
 ghost use Prim.Native.Nat.{_≤_, _<_};
 ghost use lib.ListN.{length, getD, drop};
-ghost use Rattle.asking.specs.Saying.{wordsIn};
+ghost use Rattle.termtext.specs.Saying.{wordsIn};
 ghost use Rattle.goaltext.specs.code.Steps.{NumberIs, NamesNumbered};
-ghost use Rattle.asking.specs.code.Renumber.{wordNumber, newCell, newCells};
+ghost use Rattle.termtext.specs.code.Renumber.{wordNumber, newCell, newCells};
 use cell::Shape;
 use lex::name::same_bytes;
 

@@ -12,7 +12,7 @@ use Rattle.printing.specs.Printing.{signedDecimal}
 use Rattle.grammar.specs.Numbering.{Words, Nth, here, later}
 use Rattle.table.specs.Table.{IsTable}
 use Rattle.plan.specs.Plans.{Plan}
-use Rattle.asking.specs.Saying.{wordsIn, variableWord, symbolWord}
+use Rattle.termtext.specs.Saying.{wordsIn, variableWord, symbolWord}
 use Rattle.clauses.specs.Clauses.{Body, nothing, calls, Clause, handed}
 use Rattle.clauses.specs.Program.{program}
 use Rattle.clauses.specs.Handed.{Listed, textFor}

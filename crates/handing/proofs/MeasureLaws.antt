@@ -15,7 +15,7 @@ use Rattle.octets.proofs.DecimalLaws.{decimal-small, decimal-more, digits-few}
 use Rattle.printing.specs.Printing.{value}
 use Rattle.printing.proofs.SymbolLaws.{value-low, value-high}
 use Rattle.grammar.specs.Numbering.{Words}
-use Rattle.asking.specs.Saying.{symbolWord}
+use Rattle.termtext.specs.Saying.{symbolWord}
 use Rattle.clauses.specs.code.Size.{cellBytes}
 use Rattle.handing.specs.code.Lines.{blanks, metIn}
 

@@ -18,7 +18,7 @@ use Rattle.table.proofs.ReadLaws.{first}
 use Rattle.table.proofs.SoundLaws.{Seen, symbol, new, old, seen, down, cells-sound}
 use Rattle.plan.specs.Plans.{Plan}
 use Rattle.grammar.specs.Numbering.{Words}
-use Rattle.asking.specs.Saying.{wordsIn}
+use Rattle.termtext.specs.Saying.{wordsIn}
 use Rattle.clauses.specs.Clauses.{nothing, calls, Clause, handed}
 use Rattle.clauses.specs.Translate.{Predicate, done, fact, rule, predicate}
 use Rattle.clauses.specs.Program.{callees, own, below, numbered, program}

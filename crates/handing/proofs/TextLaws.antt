@@ -5,9 +5,9 @@ use mathlib.Core.List.{List, [], _∷_, _++_, append-assoc, append-nil}
 use native.Mathlib.Omega.{arith}
 use lib.ListN.{length}
 use Rattle.octets.specs.Octets.{decimal}
-use Rattle.asking.specs.Saying.{wordsIn, wordsOf, termsText, answerText}
-use Rattle.saying.specs.Terms.{termsSaid}
-use Rattle.saying.proofs.LevelLaws.{terms-are}
+use Rattle.termtext.specs.Saying.{wordsIn, wordsOf, termsText, answerText}
+use Rattle.answertext.specs.Terms.{termsSaid}
+use Rattle.answertext.proofs.LevelLaws.{terms-are}
 use Rattle.clauses.specs.Text.{atomText}
 
 pub atom-is : (text names goal cells : List ℕ) (k w : ℕ) → length cells ≤ 32

@@ -7,7 +7,7 @@ use lib.ListN.{length, getD, take, drop, length-append, length-drop}
 use lib.Seq.{take-at, drop-at, drop-drop, getD-drop}
 use Rattle.octets.specs.Octets.{Put}
 use Rattle.octets.proofs.PutLaws.{Putting, put-begins, put-part, put-ends}
-use Rattle.asking.specs.Saying.{wordsIn}
+use Rattle.termtext.specs.Saying.{wordsIn}
 use Rattle.clauses.specs.Clauses.{Clause}
 use Rattle.clauses.specs.Text.{lineText, programText}
 use Rattle.clauses.specs.Handed.{textFor}

@@ -8,7 +8,7 @@ ghost use lib.ListN.{length, getD};
 ghost use Rattle.cell.specs.Cell.{valuesAt};
 ghost use Rattle.octets.specs.Octets.{decimal};
 ghost use Rattle.printing.specs.Printing.{value};
-ghost use Rattle.asking.specs.Saying.{symbolWord};
+ghost use Rattle.termtext.specs.Saying.{symbolWord};
 ghost use Rattle.clauses.specs.code.Size.{atomBytes, lineBytes};
 ghost use Rattle.handing.specs.code.Lines.{blanks, metIn, One, Written, Begins};
 ghost use Rattle.handing.specs.code.Sizes.{Measured};

@@ -2,7 +2,7 @@
 ghost use Prim.Native.Nat.{_≤_};
 ghost use lib.ListN.{length};
 ghost use Rattle.octets.specs.Octets.{Put};
-ghost use Rattle.asking.specs.Saying.{wordsIn};
+ghost use Rattle.termtext.specs.Saying.{wordsIn};
 ghost use Rattle.clauses.specs.Text.{atomText, lineText};
 ghost use Rattle.clauses.specs.Handed.{textFor};
 ghost use Rattle.handing.specs.code.Lines.{One, Written};
@@ -30,7 +30,7 @@ fn put_atom(
     let a = put_word(out, to, b"'P");
     let b = put_decimal(out, a, predicate);
     let c = put_word(out, b, b"'(");
-    saying::put_terms(out, c, text, names, &text[..0], &names[..0], width, cells)
+    answertext::put_terms(out, c, text, names, &text[..0], &names[..0], width, cells)
 }
 
 // A clause and its line's end. A call is made on the head's variables.

@@ -11,7 +11,7 @@ ghost use Rattle.octets.specs.Octets.{Put};
 ghost use Rattle.clauses.specs.Translate.{headOf};
 ghost use Rattle.clauses.specs.code.Walk.{holeAt};
 ghost use Rattle.heads.specs.Heads.{clauseCells};
-use doubles::part;
+use samerows::part;
 use octets::cells::put_cell;
 use octets::cells::put_cells;
 

@@ -20,8 +20,8 @@ use Rattle.table.proofs.Accepted.{is-table}
 use Rattle.plan.specs.Plans.{Plan, write, branches, plain, cost}
 use Rattle.plan.specs.Notes.{notes, word}
 use Rattle.plan.specs.code.Fits.{Fits}
-use Rattle.notes.specs.Noted.{Handed, refused}
-use Rattle.notes.specs.declared.Noted as handed
+use Rattle.plannotes.specs.Noted.{Handed, refused}
+use Rattle.plannotes.specs.declared.Noted as handed
 use Rattle.plan.proofs.NotesLaws.{notes-fit}
 use Rattle.plan.proofs.PlansLaws.{plan-tells, cost-plain}
 use Rattle.plan.proofs.SizeLaws.{bound, size-bound}

@@ -20,7 +20,7 @@ fn list_plan(table: &[u32], plan: &[u32], out: &mut [u8], cost: usize) -> usize
     ensures { λ r. ⌜ PutsPlan (now (table .entry)) (now (plan .entry)) (now (out .entry)) (now (out .exit)) cost r ⌝ }
 {
     let mut numbers = [0u64; 2048];
-    let noted = notes::check_noted(table, plan, &mut numbers);
+    let noted = plannotes::check_noted(table, plan, &mut numbers);
     let rows = noted.rows;
     let width = noted.width;
     let to = put_header(out, rows, width, cost);

@@ -8,9 +8,9 @@ ghost use lib.ListN.{getD};
 ghost use Rattle.plan.specs.Notes.{rowIn};
 ghost use Rattle.listing.specs.code.Walk.{Ready, Walks};
 use crate::text::put_line;
-use notes::packed::row_of;
-use notes::packed::skip_of;
-use notes::packed::wide;
+use plannotes::packed::row_of;
+use plannotes::packed::skip_of;
+use plannotes::packed::wide;
 
 // Where the walk stands: the next cell of the plan, the number of the next branch in plan order, and the place of the next line.
 pub struct Stand {

@@ -8,7 +8,7 @@ use lib.ListN.{length, take, drop, length-drop}
 use lib.Seq.{take-all}
 use Rattle.refusal.specs.Refusal.{Refused, numberOf}
 use Rattle.refusal.specs.declared.Refusal.{Refusal}
-use Rattle.doubles.specs.Starts.{rowsLent}
+use Rattle.samerows.specs.Starts.{rowsLent}
 use Rattle.table.specs.Table.{rowOf, rowTold}
 use Rattle.table.specs.declared.RowAnswer.{RowAnswer}
 use Rattle.table.specs.declared.RowAnswer.the-variants as row-answer

@@ -3,7 +3,7 @@ ghost use mathlib.Core.Path.{_≡_};
 ghost use mathlib.Core.List.{[], _∷_};
 ghost use Prim.Native.Nat.{_+_, _/_, _≤_, min};
 ghost use lib.ListN.{length, take, drop};
-ghost use Rattle.doubles.specs.Starts.{rowsLent};
+ghost use Rattle.samerows.specs.Starts.{rowsLent};
 ghost use Rattle.octets.specs.Octets.{Put};
 ghost use Rattle.salvaging.specs.Kept.{keptFrom};
 ghost use Rattle.mending.specs.Mending.{Keeps, badOn, Listed};

@@ -9,7 +9,7 @@ use native.Mathlib.Decide.{decLt}
 use lib.ListN.{length, getD}
 use Rattle.cell.specs.Same.{same}
 use Rattle.cell.proofs.SameLaws.{same-eq, same-differ}
-use Rattle.asking.specs.Saying.{wordIn}
+use Rattle.termtext.specs.Saying.{wordIn}
 use Rattle.naming.specs.Says.{Says}
 use Rattle.naming.specs.code.Names.{FreshTo, ApartTo}
 

@@ -14,7 +14,7 @@ use Rattle.table.proofs.AllLaws.{all-++, all-front, all-back}
 use Rattle.table.specs.Table.{Table, tableOf}
 use Rattle.table.proofs.Accepted.{is-table}
 use Rattle.grammar.specs.Numbering.{Nth, here, later}
-use Rattle.asking.specs.Saying.{wordIn, wordsIn}
+use Rattle.termtext.specs.Saying.{wordIn, wordsIn}
 use Rattle.clauses.specs.Handed.{Listed}
 use Rattle.naming.specs.Says.{Says}
 use Rattle.naming.specs.code.Names.{Entry, Entries, Known, AllKnown, ApartTo}

@@ -1,7 +1,7 @@
 // A part of a text, and the word that a number of W-201's list of names says. What does not lie in the text is left out.
 ghost use mathlib.Core.Path.{_≡_};
 ghost use lib.Seq.{slice};
-ghost use Rattle.asking.specs.Saying.{wordIn};
+ghost use Rattle.termtext.specs.Saying.{wordIn};
 ghost use Rattle.parts.specs.Parts.{Inside};
 
 // From a place up to another.

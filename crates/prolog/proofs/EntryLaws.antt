@@ -23,13 +23,13 @@ use Rattle.grammar.specs.Taken.{Taken, taken}
 use Rattle.loading.specs.Load.{Loaded, loaded, Loads, not-taken, no-cells, no-names, no-table, loads, TextLoads, loadSays, cellsAfter, namesAfter, front}
 use Rattle.scan.specs.Scan.{Counts}
 use Rattle.scan.specs.declared.Counted.{Counted}
-use Rattle.words.specs.Words.{WordsAre}
-use Rattle.words.specs.Words as words
-use Rattle.words.specs.declared.NamesRead.the-variants as names-read
-use Rattle.words.specs.declared.TextWords.the-variants as text-words
+use Rattle.texttable.specs.Words.{WordsAre}
+use Rattle.texttable.specs.Words as words
+use Rattle.texttable.specs.declared.NamesRead.the-variants as names-read
+use Rattle.texttable.specs.declared.TextWords.the-variants as text-words
 use Rattle.prolog.specs.Entry.{textTold, sizes, FactsAre, are-made}
 use Rattle.prolog.specs.Entry as entry
-pub use Rattle.words.proofs.TableLaws.{cells-long}
+pub use Rattle.texttable.proofs.TableLaws.{cells-long}
 use Rattle.prolog.specs.code.Parts.{overOf, given, Gives}
 use Rattle.prolog.specs.declared.FactsAnswer.the-variants as facts-answer
 use Rattle.prolog.specs.declared.TextAnswer.{TextAnswer}

@@ -14,7 +14,7 @@ use Rattle.loading.proofs.Fixed.{text-fixed}
 use Rattle.scan.specs.Scan.{Counts}
 use Rattle.scan.specs.declared.Counted.{Counted}
 use Rattle.scan.proofs.Fixed.{counts-fixed}
-use Rattle.words.proofs.Fixed.{taken-apart}
+use Rattle.texttable.proofs.Fixed.{taken-apart}
 use Rattle.prolog.specs.Entry.{textTold, sizes, FactsAre, are-made, too-long, not-taken}
 use Rattle.prolog.specs.declared.FactsAnswer.{FactsAnswer}
 use Rattle.prolog.specs.declared.FactsAnswer.the-variants as facts-answer

@@ -16,8 +16,8 @@ use refusal::Reason;
 use refusal::Refusal;
 use scan::Counted;
 use table::TableAnswer;
-use words::NamesRead;
-use words::TextWords;
+use texttable::NamesRead;
+use texttable::TextWords;
 
 // So many cells are written and so many names listed; or why the text is turned away.
 pub enum TextAnswer {
@@ -85,7 +85,7 @@ pub fn read_text(text: &[u8], cells: &mut [u32], names: &mut [u32]) -> TextAnswe
 {
     let mut list = [0u32; 2048];
     let mut made = [0u32; 2050];
-    match words::read_words(text, cells.len(), &mut list, &mut made) {
+    match texttable::read_words(text, cells.len(), &mut list, &mut made) {
         TextWords::Facts(c, known) => match known {
             NamesRead::Listed(n) => {
                 if names.len() < n {
@@ -118,7 +118,7 @@ pub enum FactsAnswer {
 pub fn make_facts(text: &[u8], made: &mut [u32; 2050], list: &mut [u32; 2048]) -> FactsAnswer
     ensures { λ r. ⌜ FactsAre (now (text .entry)) (now (made .entry)) (now (list .entry)) (now (made .exit)) (now (list .exit)) r ⌝ }
 {
-    match words::read_words(text, 2050, list, made) {
+    match texttable::read_words(text, 2050, list, made) {
         TextWords::Facts(c, known) => match known {
             NamesRead::Listed(names) => {
                 let cells = c.symbols + 2;

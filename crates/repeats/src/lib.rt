@@ -17,11 +17,11 @@ ghost use Rattle.walking.specs.code.Link.{steps, nodes};
 ghost use Rattle.alone.specs.code.Alone.{Symbols};
 ghost use Rattle.alone.specs.code.Rest.{Safe, Takes, Begins, Walks};
 use joins::node;
-use notes::packed::cell_of;
-use notes::packed::next_of;
-use notes::packed::slot_of;
-use notes::packed::wide;
-use notes::packed::wide16;
+use plannotes::packed::cell_of;
+use plannotes::packed::next_of;
+use plannotes::packed::slot_of;
+use plannotes::packed::wide;
+use plannotes::packed::wide16;
 
 // No node.
 const NONE: u8 = 64;

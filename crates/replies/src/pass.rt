@@ -10,7 +10,7 @@ ghost use Rattle.instance.specs.code.Passes.{Held};
 ghost use Rattle.meeting.specs.Ended.{Lent};
 ghost use Rattle.replies.specs.code.Sums.{Passing, Upto, Stops, PassedAt};
 use meeting::Made;
-use notes::packed::wide;
+use plannotes::packed::wide;
 use table::Part;
 
 // Where the cells of a hit's row are in an accepted table: a row ends where the next one starts, and the last where the table ends. Numbers
@@ -66,7 +66,7 @@ fn pass_in(
     }
     while i < hits.len() {
         let p = row_at(table, starts, rows, hits[i]);
-        let row = doubles::part(table, p.start, p.end);
+        let row = samerows::part(table, p.start, p.end);
         match meeting::common(row, goal, cells, other) {
             Made::Cells(n) => {
                 on = rewrite::put_numbered(room, on, &cells[..n]);

@@ -9,9 +9,9 @@ use Rattle.plan.specs.Check.{planOf}
 use Rattle.checker.specs.Checked.{planTold, planSays}
 use Rattle.checker.specs.declared.PlanAnswer.{PlanAnswer}
 use Rattle.checker.specs.declared.PlanAnswer.the-variants as plan-answer
-use Rattle.notes.specs.Noted.{Handed}
-use Rattle.notes.specs.declared.Noted.{Noted}
-use Rattle.notes.proofs.HandedLaws.{handed-says}
+use Rattle.plannotes.specs.Noted.{Handed}
+use Rattle.plannotes.specs.declared.Noted.{Noted}
+use Rattle.plannotes.proofs.HandedLaws.{handed-says}
 use Rattle.shift.specs.code.Asked.{isAccepted}
 use Rattle.instance.specs.ReplyJobs.{RepliesEach, ReplyJobsRun, refusal, asked}
 use Rattle.instance.specs.declared.ReplyJob.{ReplyJob}

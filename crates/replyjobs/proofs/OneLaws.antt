@@ -10,8 +10,8 @@ use Rattle.refusal.specs.declared.Reason.the-variants as reason
 use Rattle.refusal.specs.declared.Refusal.{Refusal}
 use Rattle.table.specs.Table.{tableOf, startsIn}
 use Rattle.table.proofs.ReadLaws.{apart}
-use Rattle.notes.specs.Noted.{Handed, noted, refused}
-use Rattle.notes.specs.declared.Noted.{Noted}
+use Rattle.plannotes.specs.Noted.{Handed, noted, refused}
+use Rattle.plannotes.specs.declared.Noted.{Noted}
 use Rattle.answer.specs.Run.{Ran}
 use Rattle.answer.specs.Run as runs
 use Rattle.answer.specs.Jobs.{bitsOf}

@@ -7,7 +7,7 @@ ghost use Prim.Native.Nat.{ℕ, _-_, _≤_};
 ghost use lib.ListN.{length};
 ghost use Rattle.refusal.specs.Refusal.{numberOf};
 ghost use Rattle.table.specs.Table.{tableOf, startsIn};
-ghost use Rattle.notes.specs.Noted.{Handed};
+ghost use Rattle.plannotes.specs.Noted.{Handed};
 ghost use Rattle.checker.specs.Checked.{planTold};
 ghost use Rattle.instance.specs.ReplyJobs.{declined, filled, ReplyAsked, RepliesEach, ReplyJobsRun};
 ghost use Rattle.instance.specs.code.Passes.{Held, Found};
@@ -16,7 +16,7 @@ use answer::RunAnswer;
 use checker::PlanAnswer;
 use instance::RepliesAnswer;
 use instance::ReplyJob;
-use notes::Noted;
+use plannotes::Noted;
 use refusal::Reason;
 
 // The record of a goal that is turned away.
@@ -185,7 +185,7 @@ pub fn reply_jobs(
         (now (jobs .entry)) (now (jobs .exit)) (planTold r) ⌝ }
 {
     let mut numbers = [0u64; 2048];
-    let noted = notes::check_noted(table, plan, &mut numbers);
+    let noted = plannotes::check_noted(table, plan, &mut numbers);
     let starts = starts_of(table);
     if shift::accepted(noted) {
         reply_each(&numbers, noted, table, &starts, cells, jobs, room);

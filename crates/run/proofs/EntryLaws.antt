@@ -21,8 +21,8 @@ use Rattle.plan.specs.Check.{planFor, planOf}
 use Rattle.plan.proofs.CheckLaws.{accepted-one}
 use Rattle.plan.proofs.PlansLaws.{write-one}
 use Rattle.checker.specs.declared.PlanAnswer.the-variants as plan-answer
-use Rattle.notes.specs.Noted.{Handed}
-use Rattle.notes.specs.declared.Noted.{Noted}
+use Rattle.plannotes.specs.Noted.{Handed}
+use Rattle.plannotes.specs.declared.Noted.{Noted}
 use Rattle.answer.specs.Skeleton.{hole}
 use Rattle.answer.specs.Run.{Picks, Counts, skeletons, Tried, runOf, Ran, refusal, ran}
 use Rattle.answer.specs.code.Tree.{hits, tried}
@@ -33,8 +33,8 @@ use Rattle.answer.proofs.OpenGoalLaws.{distinct, every-hit}
 use Rattle.answer.proofs.Theorems.{every-try}
 use Rattle.answer.proofs.TakesLaws.{run-table, run-plan, run-goal, run-room, takes-run}
 use Rattle.walking.specs.code.Walk.{Begun, Walked}
-use Rattle.notes.specs.code.ForRun.{ForRun}
-use Rattle.notes.proofs.HandedLaws.{no-run}
+use Rattle.plannotes.specs.code.ForRun.{ForRun}
+use Rattle.plannotes.proofs.HandedLaws.{no-run}
 
 -- what the goal's answer tells of its reading
 pub says-goal : (g : List ℕ) (x : Read ℕ) {a : GoalAnswer} {n v : ℕ} → goalTold a ≡ goalSays g x → a ≡ goal-answer.Accepted n v → (x ≡ read v) × (n ≡ length g)

@@ -4,8 +4,8 @@
 ghost use mathlib.Core.List.{List};
 ghost use Prim.Native.Nat.{ℕ};
 ghost use Rattle.answer.specs.Run.{Ran};
-ghost use Rattle.notes.specs.Noted.{Handed};
-ghost use Rattle.notes.specs.code.ForRun.{ForRun};
+ghost use Rattle.plannotes.specs.Noted.{Handed};
+ghost use Rattle.plannotes.specs.code.ForRun.{ForRun};
 
 mod nodes;
 mod step;
@@ -13,7 +13,7 @@ mod walk;
 
 use answer::RunAnswer;
 use checker::PlanAnswer;
-use notes::Noted;
+use plannotes::Noted;
 use refusal::Input;
 use refusal::Reason;
 use refusal::Refusal;
@@ -73,6 +73,6 @@ pub fn run_plan(table: &[u32], plan: &[u32], goal: &[u32], room: &mut [u8]) -> R
     ensures { λ r. ⌜ Ran (now (table .entry)) (now (plan .entry)) (now (goal .entry)) (now (room .entry)) (now (room .exit)) r ⌝ }
 {
     let mut numbers = [0u64; 2048];
-    let noted = notes::check_noted(table, plan, &mut numbers);
+    let noted = plannotes::check_noted(table, plan, &mut numbers);
     run_noted(&numbers, noted, goal, room)
 }

@@ -7,7 +7,7 @@ ghost use Rattle.table.specs.All.{All};
 ghost use Rattle.table.specs.Table.{upFrom};
 ghost use Rattle.walking.specs.code.Link.{steps};
 ghost use Rattle.walking.specs.code.Goal.{hopOf, Whole, Stepped, Named, firstOf};
-use notes::packed::wide;
+use plannotes::packed::wide;
 
 // Past the number of every branch.
 pub const EVER: u16 = 4095;

@@ -7,12 +7,12 @@ ghost use Rattle.plan.specs.Notes.{cellIn, skipIn, slotIn, nextIn};
 ghost use Rattle.walking.specs.code.Steps.{Safe, Step};
 ghost use Rattle.run.specs.code.Finds.{Finds};
 use joins::node;
-use notes::packed::cell_of;
-use notes::packed::next_of;
-use notes::packed::skip_of;
-use notes::packed::slot_of;
-use notes::packed::wide;
-use notes::packed::wide16;
+use plannotes::packed::cell_of;
+use plannotes::packed::next_of;
+use plannotes::packed::skip_of;
+use plannotes::packed::slot_of;
+use plannotes::packed::wide;
+use plannotes::packed::wide16;
 use repeats::put_terms;
 
 // What a test finds: a row's variable; another symbol; the same one, and where its arguments are; a node that is to be bound.

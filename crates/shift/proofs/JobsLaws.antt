@@ -18,9 +18,9 @@ use Rattle.plan.specs.Check.{planOf}
 use Rattle.checker.specs.Checked.{planTold, planSays}
 use Rattle.checker.specs.declared.PlanAnswer.{PlanAnswer}
 use Rattle.checker.specs.declared.PlanAnswer.the-variants as plan-answer
-use Rattle.notes.specs.Noted.{Handed}
-use Rattle.notes.specs.declared.Noted.{Noted}
-use Rattle.notes.proofs.HandedLaws.{handed-says}
+use Rattle.plannotes.specs.Noted.{Handed}
+use Rattle.plannotes.specs.declared.Noted.{Noted}
+use Rattle.plannotes.proofs.HandedLaws.{handed-says}
 use Rattle.answer.specs.Run.{runTold, Ran, refusal, ran}
 use Rattle.answer.specs.Jobs.{bitsOf, filled, entered, outside, alone, Each, JobsRun}
 use Rattle.answer.specs.Jobs as job

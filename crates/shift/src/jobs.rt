@@ -6,15 +6,15 @@ ghost use Prim.Native.Nat.{ℕ, _≤_};
 ghost use lib.ListN.{take};
 ghost use Rattle.refusal.specs.Refusal.{numberOf};
 ghost use Rattle.answer.specs.Jobs.{bitsOf, filled, Each};
-ghost use Rattle.notes.specs.Noted.{Handed};
+ghost use Rattle.plannotes.specs.Noted.{Handed};
 ghost use Rattle.shift.specs.Totals.{TriesInAll};
 ghost use Rattle.shift.specs.code.Asked.{isAccepted, AskedBy, Hits};
 use answer::Job;
 use answer::RunAnswer;
 use checker::PlanAnswer;
 use joins::node;
-use notes::Noted;
-use notes::packed::wide;
+use plannotes::Noted;
+use plannotes::packed::wide;
 use refusal::Reason;
 use sums::plus;
 

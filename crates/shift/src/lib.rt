@@ -18,7 +18,7 @@ pub fn run_jobs(table: &[u32], plan: &[u32], cells: &[u32], jobs: &mut [Job]) ->
         r) ⌝ }
 {
     let mut numbers = [0u64; 2048];
-    let noted = notes::check_noted(table, plan, &mut numbers);
+    let noted = plannotes::check_noted(table, plan, &mut numbers);
     if jobs::accepted(noted) {
         jobs::ask_all(&numbers, noted, cells, jobs);
     }
@@ -31,6 +31,6 @@ pub fn total_tried(table: &[u32], plan: &[u32], cells: &[u32], list: &[usize]) -
     ensures { λ r. ⌜ TriesInAll (now (table .entry)) (now (plan .entry)) (now (cells .entry)) (now (list .entry)) r ⌝ }
 {
     let mut numbers = [0u64; 2048];
-    let noted = notes::check_noted(table, plan, &mut numbers);
+    let noted = plannotes::check_noted(table, plan, &mut numbers);
     jobs::add_all(&numbers, noted, cells, list)
 }

@@ -1,8 +1,8 @@
 // A file of facts, read once: what is kept of it for every goal.
-use asking::Predicate;
+use termtext::Predicate;
 use builder::BuildAnswer;
 use checker::PlanAnswer;
-use doubles::part;
+use samerows::part;
 use least::By;
 use octets::cells::put_cells;
 use prolog::TextAnswer;

@@ -12,8 +12,8 @@ use borrow.Author.Tests.{eqb-true, eqb-false}
 use Rattle.cell.specs.Same.{same, among}
 use Rattle.refusal.specs.Read.{read}
 use Rattle.table.specs.Table.{Table, tableOf, termsFrom, others, rowOf, starts, startsIn}
-use Rattle.doubles.specs.Starts.{rowsBut, rowsLent}
-use Rattle.doubles.proofs.StartLaws.{rows-lent}
+use Rattle.samerows.specs.Starts.{rowsBut, rowsLent}
+use Rattle.samerows.proofs.StartLaws.{rows-lent}
 use Rattle.table.proofs.ReadLaws.{then-both}
 use Rattle.table.proofs.RowsLaws.{length-starts}
 use Rattle.table.proofs.PartLaws.{start-at, all-cells, cells-at}

@@ -11,7 +11,7 @@ ghost use Rattle.refusal.specs.Refusal.{refused};
 ghost use Rattle.refusal.specs.declared.Input.the-variants as input;
 ghost use Rattle.refusal.specs.Read.{read, refuse, andThen};
 ghost use Rattle.table.specs.Table.{table, rowsFrom, tableOf, goalOf, goalWith, rowOf, rowIn};
-ghost use Rattle.doubles.specs.Starts.{rowsLent};
+ghost use Rattle.samerows.specs.Starts.{rowsLent};
 ghost use Rattle.table.specs.Table.{TableReads, RowPlace, goalTold, goalSays, rowTold};
 use refusal::Input;
 use refusal::Reason;
@@ -90,7 +90,7 @@ fn read_rows(cells: &[u32], width: usize, count: usize) -> TableRead
         match terms::read_terms(cells, at, width, true) {
             TermsRead::Whole(e, vars, mark) => {
                 if vars == 0 {
-                    if doubles::seen_before(
+                    if samerows::seen_before(
                         &cells[at..e],
                         mark,
                         &cells[..at],
@@ -148,7 +148,7 @@ pub fn goal_for(width: usize, goal: &[u32]) -> GoalAnswer
     }
     match terms::read_terms(goal, 0, width, false) {
         TermsRead::Whole(e, vars, _) => {
-            if 0 < goal::cells_left(goal, e) {
+            if 0 < goalreader::cells_left(goal, e) {
                 return GoalAnswer::Refused(terms::refusal(false, Reason::Extra, e));
             }
             GoalAnswer::Accepted(goal.len(), vars)
@@ -182,7 +182,7 @@ pub fn row_beside(
     match terms::read_terms(row, 0, width, true) {
         TermsRead::Whole(e, v, _) => {
             if v == 0 {
-                if doubles::stands_among(&row[..e], cells, starts, but) {
+                if samerows::stands_among(&row[..e], cells, starts, but) {
                     return RowAnswer::Refused(terms::refusal(true, Reason::Same, 0));
                 }
             }

@@ -8,7 +8,7 @@ ghost use Rattle.cell.specs.Cell.{arity};
 ghost use Rattle.refusal.specs.Refusal.{told};
 ghost use Rattle.table.specs.Table.{bad, termsFrom};
 ghost use Rattle.table.specs.code.Looks.{cellFrom, testedTold, argsTold, termsTold, MarkTold, notWhole};
-use goal::Step;
+use goalreader::Step;
 use refusal::Input;
 use refusal::Reason;
 use refusal::Refusal;
@@ -80,7 +80,7 @@ fn cell_in(cells: &[u32], at: usize, row: bool) -> u32
     if row {
         return cells[at];
     }
-    match goal::cell_at(cells, at) {
+    match goalreader::cell_at(cells, at) {
         Step::Cell(c) => c,
         Step::End => 0,
     }
@@ -130,7 +130,7 @@ pub fn read_terms(cells: &[u32], from: usize, width: usize, row: bool) -> TermsR
                 return TermsRead::Turned(f);
             }
         }
-        mark = doubles::mixed(mark, c);
+        mark = samerows::mixed(mark, c);
         at += 1;
     }
     TermsRead::Whole(at, vars, mark)

@@ -1,5 +1,5 @@
 // `ask --tune JOBS FILE`: the goals of a file gathered, and the plan that they like best printed.
-use doubles::part;
+use samerows::part;
 use lex::name::same_bytes;
 use libc::STDIN_FILENO;
 use shop::Shop;

@@ -2,7 +2,7 @@ use mathlib.Core.Path.{sym, ap, _∙_}
 use mathlib.Core.List.{append-nil}
 use borrow.Author.Tests.{eq-eqb, ne-eqb}
 use Rattle.message.specs.Words.{ascii}
-use Rattle.asking.specs.Saying.{wordsIn}
+use Rattle.termtext.specs.Saying.{wordsIn}
 use Rattle.octets.proofs.PutLaws.{put-put}
 use Rattle.branchwords.specs.Branches.{symbolText}
 use borrow.Author.Needs.{needs}

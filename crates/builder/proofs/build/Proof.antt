@@ -7,7 +7,7 @@ use Rattle.state.specs.code.First.{TableRows}
 use Rattle.least.specs.Measures.{tableBy}
 use Rattle.least.specs.declared.By.{By}
 use Rattle.least.proofs.Measured.{by-table}
-use Rattle.entries.proofs.WorkedLaws.{figure-small, turned-by}
+use Rattle.paircosts.proofs.WorkedLaws.{figure-small, turned-by}
 use Rattle.builder.specs.code.Writing.{Right}
 use Rattle.builder.proofs.BuildLaws.{no-table, no-column, cells-there, handed}
 use borrow.Author.Needs.{needs}

@@ -1,5 +1,5 @@
 use mathlib.Core.Path.{refl, _∙_}
-use Rattle.entries.proofs.WorkedLaws.{rows-by}
+use Rattle.paircosts.proofs.WorkedLaws.{rows-by}
 use Rattle.builder.proofs.BuildLaws.{filled-right, flags-few}
 use borrow.Author.Needs.{needs}
 use Rattle.builder.proofs.build_for.Statement.{statement}

@@ -5,7 +5,7 @@ use mathlib.Core.List.{List, [], _∷_}
 use lib.ListN.{length}
 use Rattle.cell.specs.Cell.{valuesAt}
 use Rattle.grammar.specs.Numbering.{Words}
-use Rattle.asking.specs.Saying.{symbolWord}
+use Rattle.termtext.specs.Saying.{symbolWord}
 use Rattle.clauses.specs.Clauses.{Body, nothing, calls, Clause, handed}
 use Rattle.clauses.specs.Text.{predicateWord}
 

@@ -2,7 +2,7 @@ use mathlib.Core.Path.{_≡_, refl, sym}
 use lib.ListN.{take, replicate}
 use lib.Seq.{length-take-le}
 use Rattle.table.specs.declared.RowAnswer.the-variants as row-answer
-use Rattle.doubles.specs.Starts.{rowsLent}
+use Rattle.samerows.specs.Starts.{rowsLent}
 use Rattle.table.specs.Table.{rowOf, rowTold}
 use Rattle.record.specs.Record.{tableIn}
 use Rattle.edits.specs.code.Joining.{Joins, Placed}

@@ -1,7 +1,7 @@
 use mathlib.Core.Path.{refl}
 use native.Mathlib.Omega.{arith}
 use Rattle.refusal.specs.Read.{refuse}
-use Rattle.asking.specs.Goal.{too-long}
+use Rattle.termtext.specs.Goal.{too-long}
 use Rattle.goaltext.specs.Asked.{too-many, asked}
 use borrow.Author.Needs.{needs}
 use Rattle.goaltext.proofs.read_goal.Statement.{statement}

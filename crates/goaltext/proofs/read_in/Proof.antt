@@ -4,7 +4,7 @@ use Prim.Native.Nat.{ℕ}
 use native.Mathlib.Omega.{arith}
 use lib.ListN.{length, take, length-append}
 use Rattle.octets.proofs.PutLaws.{put-put, put-found, put-length}
-use Rattle.asking.specs.Goal.{withStop}
+use Rattle.termtext.specs.Goal.{withStop}
 use Rattle.goaltext.specs.Asked.{asked}
 use borrow.Author.Needs.{needs}
 use Rattle.goaltext.proofs.read_in.Statement.{statement}

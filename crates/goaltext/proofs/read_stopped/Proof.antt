@@ -5,7 +5,7 @@ use native.Mathlib.Omega.{arith}
 use lib.ListN.{length, length-append}
 use lib.Seq.{length-take-le}
 use Rattle.refusal.specs.Read.{refuse}
-use Rattle.asking.specs.Goal.{no-text}
+use Rattle.termtext.specs.Goal.{no-text}
 use Rattle.goaltext.specs.code.Steps.{SizeIs}
 use Rattle.goaltext.specs.declared.Size.{Size}
 use borrow.Author.Needs.{needs}

@@ -12,10 +12,10 @@ use Rattle.grammar.specs.Stops.{Stops}
 use Rattle.grammar.specs.Numbering.{Words}
 use Rattle.scan.specs.declared.Counted.{Counted}
 use Rattle.parts.specs.declared.Span.{Span}
-use Rattle.asking.specs.Saying.{wordIn, wordsIn, predicateIn}
-use Rattle.asking.specs.Goal.{withStop, Whole, NoGoal, Goal, GoalRead}
-use Rattle.asking.specs.code.Renumber.{numbersFrom, newOnes, newCells}
-use Rattle.asking.specs.declared.Predicate.{Predicate}
+use Rattle.termtext.specs.Saying.{wordIn, wordsIn, predicateIn}
+use Rattle.termtext.specs.Goal.{withStop, Whole, NoGoal, Goal, GoalRead}
+use Rattle.termtext.specs.code.Renumber.{numbersFrom, newOnes, newCells}
+use Rattle.termtext.specs.declared.Predicate.{Predicate}
 use Rattle.goaltext.specs.Asked.{Answers}
 use Rattle.goaltext.specs.declared.Ends.{Ends}
 use Rattle.goaltext.specs.declared.Ends.the-variants as ends

@@ -7,7 +7,7 @@ use lib.ListN.{length, getD}
 use Rattle.cell.specs.Cell.{kindOf, numberOf}
 use Rattle.table.specs.All.{All}
 use Rattle.lex.specs.Names.{IsName}
-use Rattle.asking.specs.Saying.{wordIn}
+use Rattle.termtext.specs.Saying.{wordIn}
 
 -- an entry lies in the text and is a name
 abbrev pub Entry : List ℕ → ℕ → Type 0

@@ -1,17 +1,17 @@
 use mathlib.Core.Path.{_≡_, subst}
 use native.Mathlib.Omega.{arith}
 use Rattle.scan.proofs.SaysLaws.{counts-read}
-use Rattle.words.specs.Words.{WordsAre}
-use Rattle.words.specs.declared.NamesRead.{NamesRead}
-use Rattle.words.specs.declared.TextWords.{TextWords}
-use Rattle.words.specs.declared.TextWords.the-variants as text-words
+use Rattle.texttable.specs.Words.{WordsAre}
+use Rattle.texttable.specs.declared.NamesRead.{NamesRead}
+use Rattle.texttable.specs.declared.TextWords.{TextWords}
+use Rattle.texttable.specs.declared.TextWords.the-variants as text-words
 use Rattle.prolog.proofs.EntryLaws.{Listed, listed-are, facts-made, facts-many, facts-passed, facts-turned}
 use borrow.Author.Needs.{needs}
 use Rattle.prolog.proofs.make_facts.Statement.{statement}
 use Rattle.prolog.proofs.make_facts.Tie as tie
 use Rattle.prolog.proofs.make_facts.Reads as reads
 use Rattle.prolog.proofs.make_facts.Lts as lts
-use Rattle.words.proofs.read_words.Reads as read-words-reads
+use Rattle.texttable.proofs.read_words.Reads as read-words-reads
 
 -- what is said of the text's words
 abbrev start : tie.After-read-words → tie.Start

@@ -3,10 +3,10 @@ use native.Mathlib.Omega.{arith}
 use lib.ListN.{length, replicate}
 use lib.Seq.{length-take-le}
 use Rattle.scan.proofs.SaysLaws.{counts-read}
-use Rattle.words.specs.Words.{WordsAre}
-use Rattle.words.specs.declared.NamesRead.{NamesRead}
-use Rattle.words.specs.declared.TextWords.{TextWords}
-use Rattle.words.specs.declared.TextWords.the-variants as text-words
+use Rattle.texttable.specs.Words.{WordsAre}
+use Rattle.texttable.specs.declared.NamesRead.{NamesRead}
+use Rattle.texttable.specs.declared.TextWords.{TextWords}
+use Rattle.texttable.specs.declared.TextWords.the-variants as text-words
 use Rattle.prolog.proofs.EntryLaws.{Listed, listed-are, counted-are, passed-are, turned-are, names-within, cells-within, cells-fit, names-fit}
 use Rattle.prolog.proofs.EntryLaws.{no-room-cells, no-room-names, over-loads, turned-loads, listed-loads}
 use borrow.Author.Needs.{needs}
@@ -17,7 +17,7 @@ use Rattle.prolog.proofs.read_text.Lts as lts
 use Rattle.prolog.proofs.give.Reads as give-reads
 use Rattle.prolog.proofs.no_room.Reads as no-room-reads
 use Rattle.prolog.proofs.over.Reads as over-reads
-use Rattle.words.proofs.read_words.Reads as read-words-reads
+use Rattle.texttable.proofs.read_words.Reads as read-words-reads
 
 -- what is said of the text's words
 abbrev start : tie.After-read-words → tie.Start

@@ -56,10 +56,10 @@ use denote.Triple.Walked.{says, needs, Stays, stay-dropped, stay-slice, walkOf, 
 use denote.Exit.{yes}
 use denote.Signature.{plain, shrRefTo, shrSliceOf}
 use Rattle.table.specs.Table.{tableOf, startsIn}
-use Rattle.notes.specs.Noted.{Handed}
-use Rattle.notes.specs.declared.Noted.{Noted}
-use Rattle.notes.proofs.Noted as N
-use Rattle.notes.proofs.Noted.Laws as N′
+use Rattle.plannotes.specs.Noted.{Handed}
+use Rattle.plannotes.specs.declared.Noted.{Noted}
+use Rattle.plannotes.proofs.Noted as N
+use Rattle.plannotes.proofs.Noted.Laws as N′
 use Rattle.instance.specs.ReplyJobs.{ReplyAsked, RepliesEach}
 use Rattle.instance.specs.declared.ReplyJob.{ReplyJob}
 use Rattle.instance.proofs.ReplyJob as T

@@ -5,8 +5,8 @@ use mathlib.Core.List.{List, _++_}
 use lib.ListN.{take, drop}
 use Rattle.refusal.specs.Refusal.{Refused, answered, turned}
 use Rattle.table.specs.Table.{tableOf, startsIn}
-use Rattle.notes.specs.Noted.{Handed}
-use Rattle.notes.specs.declared.Noted.{Noted}
+use Rattle.plannotes.specs.Noted.{Handed}
+use Rattle.plannotes.specs.declared.Noted.{Noted}
 use Rattle.instance.specs.Replied.{Replied, repliesTold}
 use Rattle.instance.specs.ReplyJobs.{declined, filled}
 use Rattle.instance.specs.declared.RepliesAnswer.{RepliesAnswer}

@@ -1,4 +1,4 @@
-use Rattle.notes.proofs.HandedLaws.{for-run}
+use Rattle.plannotes.proofs.HandedLaws.{for-run}
 use Rattle.run.proofs.EntryLaws.{handed-refused}
 use borrow.Author.Needs.{needs}
 use Rattle.run.proofs.run_noted.Statement.{statement}

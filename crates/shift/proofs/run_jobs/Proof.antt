@@ -52,14 +52,14 @@ use Rattle.checker.specs.declared.PlanAnswer.{PlanAnswer}
 use Rattle.checker.specs.Checked.{planTold}
 use Rattle.checker.proofs.PlanAnswer as X
 use Rattle.checker.proofs.PlanAnswer.Laws as X′
-use Rattle.notes.specs.Noted.{Handed}
-use Rattle.notes.specs.declared.Noted.{Noted}
-use Rattle.notes.proofs.Noted as N
-use Rattle.notes.proofs.Noted.Laws as N′
-use Rattle.notes.proofs.check_noted as check
-use Rattle.notes.proofs.check_noted.Symbol as check-def
-use Rattle.notes.proofs.check_noted.Symbol.{name as #check-noted}
-use Rattle.notes.proofs.check_noted.Met as check-thm
+use Rattle.plannotes.specs.Noted.{Handed}
+use Rattle.plannotes.specs.declared.Noted.{Noted}
+use Rattle.plannotes.proofs.Noted as N
+use Rattle.plannotes.proofs.Noted.Laws as N′
+use Rattle.plannotes.proofs.check_noted as check
+use Rattle.plannotes.proofs.check_noted.Symbol as check-def
+use Rattle.plannotes.proofs.check_noted.Symbol.{name as #check-noted}
+use Rattle.plannotes.proofs.check_noted.Met as check-thm
 use Rattle.answer.specs.Jobs.{Each, JobsRun}
 use Rattle.answer.specs.declared.Job.{Job}
 use Rattle.answer.proofs.Job as T
@@ -502,7 +502,7 @@ run-jobs-spec 𝓤 H 𝓜 𝓖 𝓡 =
     entered 𝓤 H (tripleOf 𝓤 H (𝓖 .A) f.signature (f.spec 𝓤 H (𝓖 .A) (𝓜 .mem) (𝓡 .run)))
     (tables 𝓤 H 𝓜 𝓡 code.env .C) (tables 𝓤 H 𝓜 𝓡 code.env .Λ) #run-jobs code.function (code.unfolded 𝓤 H 𝓜 𝓡)
     (run-jobs-meets 𝓤 H (𝓖 .A) (givenOf 𝓤 H 𝓜 𝓖) (𝓜 .mem) (𝓡 .run) (tablesOf 𝓤 H 𝓜 (tables 𝓤 H 𝓜 𝓡 code.env))
-    (cited 𝓤 H (Check 𝓤 H (𝓖 .A) (𝓜 .mem) (𝓡 .run)) 𝓜 𝓡 code.env #check-noted check-def.routine code.calls-notes·check-noted (check-thm.met 𝓤 H 𝓜 𝓖 𝓡))
+    (cited 𝓤 H (Check 𝓤 H (𝓖 .A) (𝓜 .mem) (𝓡 .run)) 𝓜 𝓡 code.env #check-noted check-def.routine code.calls-plannotes·check-noted (check-thm.met 𝓤 H 𝓜 𝓖 𝓡))
     (cited 𝓤 H (Acc 𝓤 H (𝓖 .A) (𝓜 .mem) (𝓡 .run)) 𝓜 𝓡 code.env #accepted accepted-def.routine code.calls-shift·jobs·accepted (accepted-thm.met 𝓤 H 𝓜 𝓖 𝓡))
     (cited 𝓤 H (Ans 𝓤 H (𝓖 .A) (𝓜 .mem) (𝓡 .run)) 𝓜 𝓡 code.env #answer-of answer-of-def.routine code.calls-shift·jobs·answer-of (answer-of-thm.met 𝓤 H 𝓜 𝓖 𝓡))
     (cited 𝓤 H (All 𝓤 H (𝓖 .A) (𝓜 .mem) (𝓡 .run)) 𝓜 𝓡 code.env #ask-all ask-all-def.routine code.calls-shift·jobs·ask-all (ask-all-thm.met 𝓤 H 𝓜 𝓖 𝓡)))

@@ -1,4 +1,4 @@
--- What the check has answered and noted of a plan (crate notes), for a list of goals.
+-- What the check has answered and noted of a plan (crate plannotes), for a list of goals.
 use Prim.Native.Nat.{ℕ, _≤_, _<_}
 use mathlib.Core.Path.{_≡_}
 use mathlib.Core.Bool.{Bool, true, false}
@@ -7,8 +7,8 @@ use lib.ListN.{length, take}
 use Rattle.table.specs.All.{All}
 use Rattle.checker.specs.declared.PlanAnswer.{PlanAnswer}
 use Rattle.checker.specs.declared.PlanAnswer.the-variants as plan-answer
-use Rattle.notes.specs.Noted.{Handed}
-use Rattle.notes.specs.declared.Noted.{Noted}
+use Rattle.plannotes.specs.Noted.{Handed}
+use Rattle.plannotes.specs.declared.Noted.{Noted}
 use Rattle.answer.specs.Run.{Ascends}
 use Rattle.answer.specs.Jobs.{Asked}
 use Rattle.answer.specs.declared.Job.{Job}

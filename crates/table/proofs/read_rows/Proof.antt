@@ -12,13 +12,13 @@ use Rattle.refusal.specs.Refusal.{told}
 use Rattle.cell.specs.Same.{among}
 use Rattle.table.specs.Table.{met, doubled, termsFrom, rowsFrom}
 use Rattle.table.specs.code.Looks.{termsTold, MarkTold}
-use Rattle.doubles.specs.Starts.{between, rowsBut, rowsLent, Ascends}
-use Rattle.doubles.specs.Marks.{markOf, has, Marked}
+use Rattle.samerows.specs.Starts.{between, rowsBut, rowsLent, Ascends}
+use Rattle.samerows.specs.Marks.{markOf, has, Marked}
 use Rattle.table.proofs.ReadLaws.{not-both}
 use Rattle.table.proofs.WholeLaws.{whole-within}
 use Rattle.table.proofs.ApartLaws.{is-doubled, has-variable, none-of-them}
-use Rattle.doubles.proofs.StartLaws.{row-noted, start-noted}
-use Rattle.doubles.proofs.MarkLaws.{seen-is, marked-more}
+use Rattle.samerows.proofs.StartLaws.{row-noted, start-noted}
+use Rattle.samerows.proofs.MarkLaws.{seen-is, marked-more}
 use Rattle.table.proofs.RowsLaws.{after, outcome-turned, after-end, next-row}
 use Rattle.table.proofs.RowsLaws.{rows-end, rows-extra, rows-turned, rows-same, rows-answer}
 use Rattle.table.proofs.read_rows.Statement.{statement}

@@ -7,7 +7,7 @@ use native.Mathlib.Omega.{arith}
 use lib.ListN.{length, take}
 use lib.Seq.{length-take-le}
 use Rattle.refusal.specs.Read.{read, refuse}
-use Rattle.doubles.specs.Starts.{rowsLent}
+use Rattle.samerows.specs.Starts.{rowsLent}
 use Rattle.table.specs.Table.{met, doubled, termsFrom}
 use Rattle.table.specs.code.Looks.{termsTold}
 use Rattle.table.proofs.ReadLaws.{not-both}

@@ -3,8 +3,8 @@ use mathlib.Core.Path.{_≡_, sym, ap, _∙_}
 use native.Mathlib.Omega.{arith}
 use lib.ListN.{length, drop}
 use Rattle.cell.specs.Same.{same}
-use Rattle.asking.specs.Saying.{wordsIn}
-use Rattle.asking.specs.code.Renumber.{wordNumber}
+use Rattle.termtext.specs.Saying.{wordsIn}
+use Rattle.termtext.specs.code.Renumber.{wordNumber}
 use Rattle.goaltext.proofs.NameLaws.{find-here, find-on, find-none}
 use borrow.Author.Needs.{needs}
 use Rattle.goaltext.proofs.names.find.Statement.{statement}

@@ -5,8 +5,8 @@ use native.Mathlib.Omega.{arith}
 use lib.ListN.{length}
 use lib.Seq.{sets}
 use Rattle.term.proofs.Lists.{store-next, store-end}
-use Rattle.asking.specs.Saying.{wordsIn}
-use Rattle.asking.specs.code.Renumber.{wordNumber}
+use Rattle.termtext.specs.Saying.{wordsIn}
+use Rattle.termtext.specs.code.Renumber.{wordNumber}
 use Rattle.goaltext.proofs.NameLaws.{words-many, numbersLeft, newsLeft, numbers-next, news-next, numbers-none, news-none}
 use Rattle.goaltext.proofs.NameLaws.{number-small}
 use borrow.Author.Needs.{needs}

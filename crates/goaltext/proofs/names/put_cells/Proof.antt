@@ -5,7 +5,7 @@ use native.Mathlib.Omega.{arith}
 use lib.ListN.{length, drop}
 use lib.Seq.{sets}
 use Rattle.term.proofs.Lists.{store-next, store-end}
-use Rattle.asking.specs.code.Renumber.{newCells}
+use Rattle.termtext.specs.code.Renumber.{newCells}
 use Rattle.goaltext.proofs.NameLaws.{cells-next, cells-none, cells-many, stored-front}
 use borrow.Author.Needs.{needs}
 use Rattle.goaltext.proofs.names.put_cells.Statement.{statement}

@@ -2,7 +2,7 @@ use mathlib.Core.Path.{_∙_, sym, ap}
 use native.Mathlib.Omega.{arith}
 use lib.ListN.{length}
 use Rattle.octets.proofs.DecimalLaws.{digits-few}
-use Rattle.saying.proofs.WordLaws.{word-variable, word-name, word-number, word-refused}
+use Rattle.answertext.proofs.WordLaws.{word-variable, word-name, word-number, word-refused}
 use Rattle.handing.specs.code.Lines.{blanks}
 use borrow.Author.Needs.{needs}
 use Rattle.handing.proofs.measure.word_bytes.Statement.{statement}

@@ -1,6 +1,6 @@
 use native.Mathlib.Omega.{arith}
 use Rattle.octets.proofs.PutLaws.{put-put}
-use Rattle.asking.specs.Saying.{wordsIn}
+use Rattle.termtext.specs.Saying.{wordsIn}
 use Rattle.handing.proofs.LineLaws.{cut-short, met-short, ups-long, fact-text, rule-text}
 use borrow.Author.Needs.{needs}
 use Rattle.handing.proofs.text.put_line.Statement.{statement}

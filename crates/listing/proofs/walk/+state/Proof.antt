@@ -20,9 +20,9 @@ use Rattle.listing.proofs.walk.+state.Lts-state as state-lts
 use Rattle.cell.proofs.arity_of.Reads as arity-of-reads
 use Rattle.listing.proofs.text.put_line.Reads as put-line-reads
 use Rattle.listing.proofs.walk.row_after.Reads as row-after-reads
-use Rattle.notes.proofs.packed.row_of.Reads as row-of-reads
-use Rattle.notes.proofs.packed.skip_of.Reads as skip-of-reads
-use Rattle.notes.proofs.packed.wide.Reads as wide-reads
+use Rattle.plannotes.proofs.packed.row_of.Reads as row-of-reads
+use Rattle.plannotes.proofs.packed.skip_of.Reads as skip-of-reads
+use Rattle.plannotes.proofs.packed.wide.Reads as wide-reads
 use Rattle.listing.proofs.walk.+state.{statement}
 use Rattle.listing.proofs.walk.+state.Tie.{close}
 

@@ -4,7 +4,7 @@ use native.Mathlib.Omega.{arith}
 use borrow.Author.Needs.{needs}
 use lib.ListN.{length}
 use Rattle.walking.proofs.NodeLaws.{Naming, naming-none, number-small, naming-variable, naming-symbol}
-use Rattle.notes.proofs.AloneLaws.{kind-var, kind-symbol}
+use Rattle.plannotes.proofs.AloneLaws.{kind-var, kind-symbol}
 use Rattle.run.proofs.nodes.name_cells.Statement.{statement}
 use Rattle.run.proofs.nodes.name_cells.Tie as tie
 

@@ -2,7 +2,7 @@ use Prim.Native.Nat.{_≤_, _<_}
 use native.Mathlib.Omega.{arith}
 use lib.ListN.{getD}
 use Rattle.run.specs.code.Finds.{any, other, same, unbound}
-use Rattle.notes.proofs.AloneLaws.{kind-var, kind-symbol}
+use Rattle.plannotes.proofs.AloneLaws.{kind-var, kind-symbol}
 use borrow.Author.Needs.{needs}
 use Rattle.run.proofs.step.test.Statement.{statement}
 use Rattle.run.proofs.step.test.Tie as tie

@@ -4,7 +4,7 @@ use mathlib.Core.List.{List}
 use native.Mathlib.Omega.{arith}
 use borrow.Author.Needs.{needs}
 use lib.ListN.{length}
-use Rattle.notes.specs.Noted.{Handed}
+use Rattle.plannotes.specs.Noted.{Handed}
 use Rattle.shift.proofs.TotalLaws.{Rest, rest-all, rest-on, rest-none}
 use Rattle.shift.proofs.jobs.add_all.Statement.{statement}
 use Rattle.shift.proofs.jobs.add_all.Tie as tie

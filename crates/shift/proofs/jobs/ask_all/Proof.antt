@@ -49,9 +49,9 @@ use denote.Triple.Table.{entered, cited}
 use denote.Triple.Walked.{says, Stays, stay-none, stay-none-ref, stay-none-slice, stay-slice, walkOf, goes-none, goes-none-ref, goes-none-slice, goes-slice, Walks, ends-at, walked, walk-meets}
 use denote.Exit.{yes}
 use denote.Signature.{plain}
-use Rattle.notes.specs.declared.Noted.{Noted}
-use Rattle.notes.proofs.Noted as N
-use Rattle.notes.proofs.Noted.Laws as N′
+use Rattle.plannotes.specs.declared.Noted.{Noted}
+use Rattle.plannotes.proofs.Noted as N
+use Rattle.plannotes.proofs.Noted.Laws as N′
 use Rattle.answer.specs.declared.Job.{Job}
 use Rattle.answer.specs.Jobs.{Each}
 use Rattle.answer.proofs.Job as T

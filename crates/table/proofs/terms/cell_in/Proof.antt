@@ -4,8 +4,8 @@ use native.Mathlib.Omega.{arith}
 use borrow.Author.Tests.{lt-ltb}
 use borrow.Author.Needs.{needs}
 use lib.ListN.{length, getD}
-use Rattle.goal.specs.declared.Step.the-variants.{Cell}
-use Rattle.goal.specs.Read.{stepAt}
+use Rattle.goalreader.specs.declared.Step.the-variants.{Cell}
+use Rattle.goalreader.specs.Read.{stepAt}
 use Rattle.table.proofs.terms.cell_in.Statement.{statement}
 use Rattle.table.proofs.terms.cell_in.Tie as tie
 

@@ -4,9 +4,9 @@ use native.Mathlib.Omega.{arith}
 use lib.ListN.{length, getD, drop}
 use Rattle.cell.specs.Cell.{arity}
 use Rattle.cell.proofs.CellLaws.{arity-small}
-use Rattle.doubles.specs.Starts.{between}
-use Rattle.doubles.specs.Marks.{mix, markOf}
-use Rattle.doubles.proofs.MarkLaws.{mark-none, mark-longer}
+use Rattle.samerows.specs.Starts.{between}
+use Rattle.samerows.specs.Marks.{mix, markOf}
+use Rattle.samerows.proofs.MarkLaws.{mark-none, mark-longer}
 use Rattle.refusal.specs.Read.{refuse, andThen}
 use Rattle.table.specs.Table.{termsFrom}
 use Rattle.table.specs.declared.terms.Tested.{Tested}

@@ -1,0 +1,126 @@
+use Prim.Native.Nat.{_-_}
+use mathlib.Core.Path.{_≡_, refl}
+use native.Mathlib.Omega.{arith}
+use lib.ListN.{length}
+use borrow.Author.Needs.{needs}
+use Rattle.texttable.specs.code.Cells.{State, Ready}
+use Rattle.texttable.proofs.MakeLaws.{ready, went, ended}
+use Rattle.texttable.proofs.cells.make_all.Statement.{statement}
+use Rattle.texttable.proofs.cells.make_all.Tie as tie
+use Rattle.texttable.proofs.cells.make_all.Reads as reads
+use Rattle.texttable.proofs.cells.make_all.Lts as lts
+use Rattle.texttable.proofs.cells.make_on.Reads as make-on-reads
+
+abbrev Inv-loop : tie.InvT-loop
+Inv-loop text from list₀ links₀ words₀ ways₀ given₀ cells₀ owners₀ m₀ k₀ list links words ways given cells owners m k =
+    ((length list ≡ length list₀) × (length links ≡ length links₀) × (length words ≡ length words₀) × (length ways ≡ length ways₀)
+    × (length given ≡ length given₀)
+    × (length cells ≡ length cells₀) × (length owners ≡ length owners₀))
+    × ((R : Ready text list₀ links₀ words₀ ways₀ given₀ cells₀ owners₀ m₀ k₀)
+    → State text (R .facts) (R .start) (R .listed) list links words ways given cells owners m k)
+
+abbrev μ-loop : tie.MeasureT-loop
+μ-loop text from list₀ links₀ words₀ ways₀ given₀ cells₀ owners₀ m₀ k₀ list links words ways given cells owners m k =
+    length text - m .at
+
+loop-holds : tie.Need-loop-holds Inv-loop μ-loop
+loop-holds c = ((refl, refl, refl, refl, refl, refl, refl), λ R. R .state)
+
+make-on-requires : tie.Need-make-on-requires Inv-loop μ-loop
+make-on-requires c κs =
+    let R = c .before .before .before .before .before .before .before .before .before .before .before .before .before .before .before .before .pre in
+    let l = c .before .before .before .before .before .before .before .loop in
+    ready (l .list) (l .links) (l .words) (l .ways) (l .given) (l .cells) (l .owners) (l .m) (l .k) R (l .inv .0 .0) (l .inv .0 .2) (l .inv .0 .5)
+    (l .inv .0 .6) (l .inv .1 R)
+
+enum-known-next : tie.Need-enum-known-next Inv-loop μ-loop
+enum-known-next c = search needs
+
+loop-less : tie.Need-loop-less Inv-loop μ-loop
+loop-less c =
+    let R = c .before .before .before .before .before .before .before .before .before .before .before .before .before .before .before .before .before
+    .before .before .before .before .before .before .before .before .before .before .before .before .before .before .before .before .before .pre in
+    let a = c .before .before .before .before .before .before .before .before .before .before .before .before .before .before .before .before .before
+    .before .before .before .before .before .before .before .before .before .before .before .before .before .before .before .before .before .args in
+    let l = c .before .before .before .before .before .before .before .before .before .before .before .before .before .before .before .before .before
+    .before .before .before .before .before .before .before .before .loop in
+    let n = c .before .before .before .before .before .before .before .before .before .before .before .before .before .before .before .before .before
+    .make-on in
+    let w = went (a .text .now) (R .start) (R .listed) (n .last .1 .1 .1 .0) (n .last .1 .1 .1 .1 .0) (n .last .1 .1 .1 .1 .1 .0)
+    (n .last .1 .1 .1 .1 .1 .1 .0) (n .last .1 .1 .1 .1 .1 .1 .1 .0) (n .last .1 .1 .1 .1 .1 .1 .1 .1 .0) (n .last .1 .1 .1 .1 .1 .1 .1 .1 .1 .0)
+    (R .facts) (l .m) (c .before .next .given .1) (n .ensures (ready (l .list) (l .links) (l .words) (l .ways) (l .given) (l .cells) (l .owners)
+    (l .m) (l .k) R (l .inv .0 .0) (l .inv .0 .2) (l .inv .0 .5) (l .inv .0 .6) (l .inv .1 R))) in
+    omega (arith, w .0, w .1 .makes .within)
+
+loop-again : tie.Need-loop-again Inv-loop μ-loop
+loop-again c =
+    let a = c .before .before .before .before .before .before .before .before .before .before .before .before .before .before .before .before .before
+    .before .before .before .before .before .before .before .before .before .before .before .before .before .before .before .before .before .args in
+    let l = c .before .before .before .before .before .before .before .before .before .before .before .before .before .before .before .before .before
+    .before .before .before .before .before .before .before .before .loop in
+    let n = c .before .before .before .before .before .before .before .before .before .before .before .before .before .before .before .before .before
+    .make-on in (
+      (search needs, search needs, search needs, search needs, search needs, search needs, search needs),
+      λ R. went (a .text .now) (R .start) (R .listed) (n .last .1 .1 .1 .0) (n .last .1 .1 .1 .1 .0) (n .last .1 .1 .1 .1 .1 .0)
+          (n .last .1 .1 .1 .1 .1 .1 .0) (n .last .1 .1 .1 .1 .1 .1 .1 .0) (n .last .1 .1 .1 .1 .1 .1 .1 .1 .0) (n .last .1 .1 .1 .1 .1 .1 .1 .1 .1 .0)
+          (R .facts) (l .m) (c .before .next .given .1) (n .ensures (ready (l .list) (l .links) (l .words) (l .ways) (l .given) (l .cells) (l .owners)
+          (l .m) (l .k) R (l .inv .0 .0) (l .inv .0 .2) (l .inv .0 .5) (l .inv .0 .6) (l .inv .1 R))) .1,
+    )
+
+enum-known-n : tie.Need-enum-known-n Inv-loop μ-loop
+enum-known-n c = search needs
+
+same-length : tie.Need-same-length Inv-loop μ-loop
+same-length c = search needs
+
+same-length-2 : tie.Need-same-length-2 Inv-loop μ-loop
+same-length-2 c = search needs
+
+same-length-3 : tie.Need-same-length-3 Inv-loop μ-loop
+same-length-3 c = search needs
+
+same-length-4 : tie.Need-same-length-4 Inv-loop μ-loop
+same-length-4 c = search needs
+
+same-length-5 : tie.Need-same-length-5 Inv-loop μ-loop
+same-length-5 c = search needs
+
+same-length-6 : tie.Need-same-length-6 Inv-loop μ-loop
+same-length-6 c = search needs
+
+same-length-7 : tie.Need-same-length-7 Inv-loop μ-loop
+same-length-7 c = search needs
+
+returns : tie.Need-returns Inv-loop μ-loop
+returns c =
+    let a = c .before .before .before .before .before .before .before .before .before .before .before .before .before .before .before .before .before
+    .before .before .before .before .before .before .before .before .before .before .before .before .before .before .before .before .before .args in
+    let l = c .before .before .before .before .before .before .before .before .before .before .before .before .before .before .before .before .before
+    .before .before .before .before .before .before .before .before .loop in
+    let n = c .before .before .before .before .before .before .before .before .before .before .before .before .before .before .before .before .before
+    .make-on in
+    λ R. ended (a .text .now) (R .start) (R .listed) (n .last .1 .1 .1 .0) (n .last .1 .1 .1 .1 .0) (n .last .1 .1 .1 .1 .1 .0)
+    (n .last .1 .1 .1 .1 .1 .1 .0) (n .last .1 .1 .1 .1 .1 .1 .1 .0) (n .last .1 .1 .1 .1 .1 .1 .1 .1 .0) (n .last .1 .1 .1 .1 .1 .1 .1 .1 .1 .0)
+    (R .facts) (l .m) (c .before .n .given .1) (n .ensures (ready (l .list) (l .links) (l .words) (l .ways) (l .given) (l .cells) (l .owners)
+    (l .m) (l .k) R (l .inv .0 .0) (l .inv .0 .2) (l .inv .0 .5) (l .inv .0 .6) (l .inv .1 R)))
+
+pub make-all-spec : {M : Type 1} → statement M
+make-all-spec =
+    tie.close
+    (tie.spec
+    Inv-loop
+    μ-loop
+    loop-holds
+    make-on-requires
+    enum-known-next
+    loop-less
+    loop-again
+    enum-known-n
+    same-length
+    same-length-2
+    same-length-3
+    same-length-4
+    same-length-5
+    same-length-6
+    same-length-7
+    returns)

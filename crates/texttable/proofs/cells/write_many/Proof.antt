@@ -1,0 +1,75 @@
+use mathlib.Core.Path.{refl}
+use native.Mathlib.Omega.{arith}
+use lib.ListN.{replicate}
+use Rattle.symbols.proofs.LeftLaws.{start-reads}
+use Rattle.texttable.proofs.TreeLaws.{no-words, zero-at, empty-tree}
+use Rattle.texttable.proofs.MakeLaws.{first-ready}
+use borrow.Author.Needs.{needs}
+use Rattle.texttable.proofs.cells.write_many.Statement.{statement}
+use Rattle.texttable.proofs.cells.write_many.Tie as tie
+use Rattle.texttable.proofs.cells.write_many.Reads as reads
+use Rattle.texttable.proofs.cells.write_many.Lts as lts
+use Rattle.texttable.proofs.cells.make_all.Reads as make-all-reads
+use Rattle.symbols.proofs.begin.Reads as begin-reads
+
+begin-requires : tie.Need-begin-requires
+begin-requires c κs = search needs
+
+slice-aggregate-make-all : tie.Need-slice-aggregate-make-all
+slice-aggregate-make-all c = search needs
+
+slice-aggregate-make-all-2 : tie.Need-slice-aggregate-make-all-2
+slice-aggregate-make-all-2 c = search needs
+
+slice-aggregate-make-all-3 : tie.Need-slice-aggregate-make-all-3
+slice-aggregate-make-all-3 c = search needs
+
+slice-aggregate-make-all-4 : tie.Need-slice-aggregate-make-all-4
+slice-aggregate-make-all-4 c = search needs
+
+slice-aggregate-make-all-5 : tie.Need-slice-aggregate-make-all-5
+slice-aggregate-make-all-5 c = search needs
+
+make-all-requires : tie.Need-make-all-requires
+make-all-requires c κs =
+    let st = c .before .before .before .before .before .before .before .before .before .before .before in
+    let a = st .args in
+    let t = a .text .now in
+    let W = st .pre in
+    let bg = c .before .before .before .before .before .before .before .begin in
+    let s = start-reads (bg .ensures) in
+    first-ready (bg .result) W (omega arith) (W .for-list) s (no-words t (a .list .now) (replicate 4097 0) (omega (arith, W .for-list))
+    (zero-at 4097)) (empty-tree t 2048 4097 (omega arith)) refl refl refl
+
+same-length : tie.Need-same-length
+same-length c = search needs
+
+same-length-2 : tie.Need-same-length-2
+same-length-2 c = search needs
+
+returns : tie.Need-returns
+returns c = λ W.
+    let a = c .before .before .before .before .before .before .before .before .before .before .before .before .before .before .before .before .before
+    .before .before .before .before .args in
+    let t = a .text .now in
+    let bg = c .before .before .before .before .before .before .before .before .before .before .before .before .before .before .before .before .before
+    .begin in
+    let s = start-reads (bg .ensures) in
+    c .before .before .before .before .before .before .before .before .before .make-all .ensures (first-ready (bg .result) W (omega arith)
+    (W .for-list) s (no-words t (a .list .now) (replicate 4097 0) (omega (arith, W .for-list)) (zero-at 4097))
+    (empty-tree t 2048 4097 (omega arith)) refl refl refl)
+
+pub write-many-spec : {M : Type 1} → statement M
+write-many-spec =
+    tie.close
+    (tie.spec
+    begin-requires
+    slice-aggregate-make-all
+    slice-aggregate-make-all-2
+    slice-aggregate-make-all-3
+    slice-aggregate-make-all-4
+    slice-aggregate-make-all-5
+    make-all-requires
+    same-length
+    same-length-2
+    returns)
