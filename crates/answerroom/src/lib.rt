@@ -8,11 +8,11 @@ ghost use Rattle.refusal.specs.declared.Reason.{Reason};
 ghost use Rattle.refusal.specs.declared.Input.{Input};
 ghost use Rattle.termtext.specs.Saying.{predicateIn, saidIn};
 ghost use Rattle.answerroom.specs.Room.{answerTold, AnswerInto};
-use termtext::Predicate;
+use answertext::measure::terms_bytes;
 use refusal::Input;
 use refusal::Reason;
 use refusal::Refusal;
-use answertext::measure::terms_bytes;
+use termtext::Predicate;
 
 // So many cells are said, in so many bytes; or why they are not.
 pub enum AnswerText {
@@ -43,7 +43,7 @@ fn answer_bytes(
     ensures { λ r. ⌜ (r ≡ length (saidIn (now (text .entry)) (now (names .entry)) (now (goal .entry)) (now (new .entry)) p (now (cells .entry))))
         × (r < 2 ^ 32) ⌝ }
 {
-    let called = parts::part(text, p.start, p.end).len();
+    let called = slices::bytes::part(text, p.start, p.end).len();
     called + 1 + terms_bytes(text, names, goal, new, p.width, cells)
 }
 

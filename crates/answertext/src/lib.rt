@@ -10,11 +10,11 @@ ghost use Rattle.octets.specs.Octets.{Put};
 ghost use Rattle.termtext.specs.Saying.{wordsIn, wordsOf, symbolWord, termsText, saidIn};
 ghost use Rattle.answertext.specs.Terms.{termsSaid};
 ghost use Rattle.answertext.specs.code.Levels.{levels, Closes, Marks};
-use termtext::Predicate;
 use cell::Shape;
 use octets::put_byte;
 use octets::put_decimal;
 use octets::put_word;
+use termtext::Predicate;
 
 // The word at a number of one list; nothing for a number that the list has not.
 pub fn put_listed(out: &mut [u8], to: usize, text: &[u8], names: &[u32], k: usize) -> usize
@@ -23,7 +23,7 @@ pub fn put_listed(out: &mut [u8], to: usize, text: &[u8], names: &[u32], k: usiz
     if names.len() <= k {
         return to;
     }
-    put_word(out, to, parts::word(text, names[k]))
+    put_word(out, to, nameword::word(text, names[k]))
 }
 
 // The word of a name by its number: the table's names come first, and the goal's new ones are numbered on from them.
@@ -189,7 +189,7 @@ pub fn put_answer(
     if 1024 < cells.len() {
         return 0;
     }
-    let on = put_word(out, 0, parts::part(text, p.start, p.end));
+    let on = put_word(out, 0, slices::bytes::part(text, p.start, p.end));
     let inside = put_byte(out, on, b'(');
     put_terms(out, inside, text, names, goal, new, p.width, cells)
 }

@@ -18,7 +18,7 @@ fn listed_bytes(text: &[u8], names: &[u32], k: usize) -> usize
     if names.len() <= k {
         return 0;
     }
-    parts::word(text, names[k]).len()
+    nameword::word(text, names[k]).len()
 }
 
 // The bytes of the word of a name by its number.

@@ -11,7 +11,7 @@ use shop::Shop;
 fn put(text: &[u8], whose: Whose, f: Refusal) {
     let mut out = [0u8; 256];
     let n = refusals::put_refusal(&mut out, 0, text, 0, whose, f);
-    io::write_all(STDOUT_FILENO, parts::part(&out, 0, n));
+    io::write_all(STDOUT_FILENO, slices::bytes::part(&out, 0, n));
 }
 
 // Why a text of facts is refused.
@@ -111,7 +111,7 @@ fn big() {
 }
 
 fn write(out: &[u8], n: usize) {
-    io::write_all(STDOUT_FILENO, parts::part(out, 0, n));
+    io::write_all(STDOUT_FILENO, slices::bytes::part(out, 0, n));
 }
 
 // COLUMN: a list that `--known` has, of a file's rules.

@@ -62,7 +62,7 @@ fn ask_arguments(
         let n = argument(i, buf);
         let source = source_of(i, goals);
         i += 1;
-        let goal = parts::part(buf, 0, n);
+        let goal = slices::bytes::part(buf, 0, n);
         sheet = askgoal::ask(text, kept, numbers, ready, goal, source, room, out, sheet);
     }
     sheet

@@ -1,12 +1,12 @@
 // One goal: read, run, and what each rule that fits says.
 use answer::RunAnswer;
-use samerows::part;
 use goalsay::Source;
 use goaltext::GoalText;
 use instance::RepliesAnswer;
-use plannotes::Noted;
 use page::Page;
+use plannotes::Noted;
 use shop::Shop;
+use slices::cells::part;
 use tally::Tally;
 use term::End;
 
@@ -56,7 +56,7 @@ fn front(cells: &[u32; 32], count: usize) -> &[u32] {
 // The rules that fit.
 fn rules_of(hits: &[u8; 64], count: usize) -> &[u8] {
     let all = &hits[..];
-    parts::part(all, 0, count)
+    slices::bytes::part(all, 0, count)
 }
 
 // A goal asked of a file of facts. `room` is lent for its answers, and all that is printed is gathered in `out`. Nothing of a goal is printed
@@ -161,7 +161,13 @@ fn run_goal(
     let noted = ready.noted;
     match run::run_noted(numbers, noted, goal, hits) {
         RunAnswer::Ran(rules, tried) => {
-            match reply(kept, ready, goal, parts::part(&*hits, 0, rules), room) {
+            match reply(
+                kept,
+                ready,
+                goal,
+                slices::bytes::part(&*hits, 0, rules),
+                room,
+            ) {
                 RepliesAnswer::Replied(_, _) => RunAnswer::Ran(rules, tried),
                 RepliesAnswer::Refused(f) => RunAnswer::Refused(f),
             }

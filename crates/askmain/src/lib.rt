@@ -1,8 +1,8 @@
 // The program `ask`: a shop's rules and its goals in Prolog text, answered in Prolog text. What is read and what is answered is decided and
 // promised in the libraries. This crate finds the file and hands on what is asked of it; it is proved safe and ending.
-use samerows::part;
 use known::Listed;
 use reading::Got;
+use slices::cells::part;
 use wishes::Asked;
 use wishes::Wish;
 
@@ -66,7 +66,7 @@ fn open(
     match reading::read_path(path, &mut text) {
         Got::Bytes(n) => askwork::answer(
             path,
-            parts::part(&text, 0, n),
+            slices::bytes::part(&text, 0, n),
             asked,
             columns,
             room,

@@ -1,10 +1,10 @@
 // The plan that a list of goals likes best (liked), printed: which columns it looks at first, what the goals try by it and by the plain plan, and
 // its words.
 use builder::BuildAnswer;
-use samerows::part;
 use page::Page;
 use refusal::Refusal;
 use shop::Shop;
+use slices::cells::part;
 
 // For a list of goals, of which so many more were refused. A table that was read is refused no more, and 6,082 cells are enough for every plan.
 pub fn print(

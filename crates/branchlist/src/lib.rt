@@ -1,10 +1,10 @@
 // The branches of a plan, in its order, as a list of numbers: what is printed of a plan is printed by it.
 ghost use Prim.Native.Nat.{_≤_};
-use samerows::part;
 use octets::cells::put_cell;
 use octets::cells::put_cells;
 use shop::Shop;
 use shop::cell_at;
+use slices::cells::part;
 
 // A branch: the state that it leaves, and how many branches lead there; the place that is looked at, the cell found there, and where that
 // variable was first met on the way; and the rule at the end of the way, the first being 1. 0 is no place and no rule: where a variable is met

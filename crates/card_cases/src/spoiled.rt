@@ -9,10 +9,10 @@ fn show(file: &[u8]) {
     let a = octets::put_word(&mut out, 0, b"card");
     match cardcheck::put_checked(&mut out, a, file) {
         Checked::Whole(n) => {
-            io::write_all(STDOUT_FILENO, parts::part(&out, 0, n));
+            io::write_all(STDOUT_FILENO, slices::bytes::part(&out, 0, n));
         }
         Checked::Refused(n) => {
-            io::write_all(STDOUT_FILENO, parts::part(&out, 0, n));
+            io::write_all(STDOUT_FILENO, slices::bytes::part(&out, 0, n));
         }
     }
 }
@@ -23,10 +23,10 @@ fn mend(file: &[u8]) {
     let mut card = [0u8; 512];
     match cardmend::put_mended(&mut out, b"card", file, &mut card) {
         Mended::Card(n, _) => {
-            io::write_all(STDOUT_FILENO, parts::part(&out, 0, n));
+            io::write_all(STDOUT_FILENO, slices::bytes::part(&out, 0, n));
         }
         Mended::Refused(n) => {
-            io::write_all(STDOUT_FILENO, parts::part(&out, 0, n));
+            io::write_all(STDOUT_FILENO, slices::bytes::part(&out, 0, n));
         }
     }
 }
@@ -64,9 +64,9 @@ fn files() {
     let cells = [0u32; 125];
     blocks::put_block(&mut file, 0, 0, &cells);
     blocks::put_block(&mut file, 512, 2, &cells);
-    show(parts::part(&file, 0, 1024));
+    show(slices::bytes::part(&file, 0, 1024));
     blocks::put_block(&mut file, 512, 1, &cells);
-    show(parts::part(&file, 0, 1024));
+    show(slices::bytes::part(&file, 0, 1024));
     block(&[3, 504, 1, 1, 0x40000000, 0, 1, 0x40000000, 1]);
     block(&[3, 4, 1, 1, 0x40000000, 0, 1, 0x40000000, 1, 1]);
 }

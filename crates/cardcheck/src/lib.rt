@@ -1,7 +1,7 @@
 // What is said of a card's bytes: what it holds, or why it is refused.
-use samerows::part;
 use filing::FileAnswer;
 use refusal::Refusal;
+use slices::cells::part;
 
 // The end of what was put, of a card that is whole and of one that is refused.
 pub enum Checked {

@@ -11,7 +11,7 @@ pub fn write_card(path: &[u8], card: &[u8], out: &mut [u8]) -> bool {
     let mut name = [0u8; 4128];
     let a = put_word(&mut name, 0, path);
     let b = put_word(&mut name, a, b".new");
-    write_beside(parts::part(&name, 0, b), path, card, out)
+    write_beside(slices::bytes::part(&name, 0, b), path, card, out)
 }
 
 // Nothing, or a file. A folder cannot be opened so, and what is no file, as a device, cannot be given a length, not even its own. Renaming would

@@ -1,7 +1,7 @@
 // The program `card`: a shop's rules written as a card for a terminal, cards checked, and bad ones mended. What is written, what is read and what
 // is said of it is decided and promised in the libraries. This crate finds the arguments; it is proved safe and ending.
 use lex::name::same_bytes;
-use parts::part;
+use slices::bytes::part;
 
 // What the arguments ask for; or nothing that there is.
 pub enum Wish {

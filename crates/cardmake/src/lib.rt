@@ -18,7 +18,7 @@ pub enum Made {
 pub fn make(path: &[u8], card: &mut [u8], out: &mut [u8]) -> Made {
     let mut text = [0u8; 65536];
     match reading::read_path(path, &mut text) {
-        Got::Bytes(n) => load(path, parts::part(&text, 0, n), card, out),
+        Got::Bytes(n) => load(path, slices::bytes::part(&text, 0, n), card, out),
         Got::Failed => {
             reading::cannot_read(path, out);
             Made::Nothing

@@ -2,7 +2,6 @@
 ghost use Prim.Native.Nat.{_+_, _≤_};
 ghost use lib.ListN.{length};
 use cardmake::Made;
-use samerows::part;
 use filing::FileAnswer;
 use octets::put_word;
 use page::Page;
@@ -10,6 +9,7 @@ use reading::Got;
 use refusal::Refusal;
 use salvaging::Report;
 use salvaging::Salvage;
+use slices::cells::part;
 
 // The end of the report, and the card's bytes; or the end of what is said where nothing can be had.
 pub enum Mended {
@@ -26,7 +26,7 @@ pub fn mend(path: &[u8], card: &mut [u8], out: &mut [u8]) -> Made {
 
 fn mend_file(path: &[u8], file: &mut [u8], card: &mut [u8], out: &mut [u8]) -> Made {
     match reading::read_path(path, file) {
-        Got::Bytes(n) => say(path, parts::part(file, 0, n), card, out),
+        Got::Bytes(n) => say(path, slices::bytes::part(file, 0, n), card, out),
         Got::Failed => {
             reading::cannot_read(path, out);
             Made::Nothing

@@ -3,8 +3,8 @@ use cardcheck::Checked;
 use cardmake::Made;
 use octets::put_word;
 use page::Page;
-use parts::part;
 use reading::Got;
+use slices::bytes::part;
 
 // One byte more is read than is looked at, 2,048 blocks, so that a longer file is seen to be one.
 pub fn check(path: &[u8]) {

@@ -1,12 +1,12 @@
 // A shop's plan as Prolog clauses (02, W-210), and before them the clause that ties the facts' own predicate to the first of them, so that
 // what calls it goes on as it is.
-use termtext::Predicate;
-use clauses::HandAnswer;
-use samerows::part;
-use octets::put_word;
 use answertext::put_answer;
 use answertext::put_terms;
+use clauses::HandAnswer;
+use octets::put_word;
 use shop::Shop;
+use slices::cells::part;
+use termtext::Predicate;
 
 // A rule has at most 8 arguments.
 const VARIABLES: [u32; 8] = [0, 1, 2, 3, 4, 5, 6, 7];

@@ -3,7 +3,6 @@
 use answer::RunAnswer;
 use askgoal::Found;
 use askgoal::Ready;
-use samerows::part;
 use goallines::Piece;
 use goallines::Place;
 use goallist::Added;
@@ -12,6 +11,7 @@ use goallist::Held;
 use message::Whose;
 use refusal::Refusal;
 use shop::Shop;
+use slices::cells::part;
 
 // All goals are gathered; the file cannot be read; or there is no room for one.
 pub enum Came {

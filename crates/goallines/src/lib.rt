@@ -164,7 +164,7 @@ pub fn is_goal(buf: &[u8], piece: Piece, place: Place) -> bool {
 
 // The bytes of a piece.
 pub fn bytes_of(buf: &[u8], piece: Piece) -> &[u8] {
-    parts::part(buf, piece.start, piece.end)
+    slices::bytes::part(buf, piece.start, piece.end)
 }
 
 // Whether anything stands in a line but layout and comments.

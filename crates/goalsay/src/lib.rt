@@ -30,7 +30,7 @@ fn say_written(goal: &[u8], out: &mut [u8], page: Page) -> Page {
     let to = message::put_goal(
         out,
         p.to,
-        parts::part(goal, start_of(goal), linecut::goal_end(goal)),
+        slices::bytes::part(goal, start_of(goal), linecut::goal_end(goal)),
     );
     Page { to, open: p.open }
 }

@@ -29,13 +29,13 @@ use Rattle.grammar.proofs.NthLaws.{words-long}
 use Rattle.grammar.proofs.Numbered.{names-are, cells-are}
 use Rattle.scan.specs.Scan.{Counts}
 use Rattle.scan.specs.declared.Counted.{Counted}
-use Rattle.parts.specs.declared.Span.{Span}
+use Rattle.nameword.specs.declared.Span.{Span}
 use Rattle.prolog.specs.Entry.{FactsAre, are-made}
 use Rattle.prolog.specs.Entry as entry
 use Rattle.prolog.specs.declared.FactsAnswer.the-variants as facts-answer
 use Rattle.prolog.specs.declared.Sizes.{Sizes}
 use Rattle.prolog.proofs.EntryLaws.{cells-long, front-kept}
-use Rattle.parts.proofs.PartLaws.{part-is}
+use Rattle.slices.proofs.SliceLaws.{part-is}
 use Rattle.termtext.specs.Saying.{wordIn, wordsIn, predicateIn}
 use Rattle.termtext.specs.Goal.{Whole, stopped, unstopped, Ours, Goal, Asks, GoalRead}
 use Rattle.termtext.specs.Goal as goal

@@ -10,16 +10,16 @@ ghost use Rattle.refusal.specs.declared.Reason.{Reason};
 ghost use Rattle.refusal.specs.declared.Input.{Input};
 ghost use Rattle.goaltext.specs.Asked.{PredicateIs, textTold, GoalAsked};
 ghost use Rattle.goaltext.specs.code.Steps.{NameIs, EndsAre, SizeIs, OursIs, FactAsked, TextAsked, StoppedAsked};
-use termtext::Predicate;
 use lex::fact::Head;
-use parts::Span;
 use prolog::FactsAnswer;
 use refusal::Input;
 use refusal::Reason;
 use refusal::Refusal;
 use scan::Counted;
 use scan::Scan;
+use slices::Span;
 use table::GoalAnswer;
+use termtext::Predicate;
 
 // Where the name of a text's first fact stands.
 fn first_name(text: &[u8]) -> Span
@@ -124,8 +124,8 @@ fn is_ours(text: &[u8], p: Predicate, whole: &[u8], s: Span, c: Counted) -> bool
         return false;
     }
     lex::name::same_bytes(
-        parts::part(whole, s.start, s.end),
-        parts::part(text, p.start, p.end),
+        slices::bytes::part(whole, s.start, s.end),
+        slices::bytes::part(text, p.start, p.end),
     )
 }
 

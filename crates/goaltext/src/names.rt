@@ -15,7 +15,7 @@ fn find(text: &[u8], names: &[u32], word: &[u8]) -> usize
 {
     let mut i = 0;
     while i < names.len() {
-        if same_bytes(word, parts::word(text, names[i])) {
+        if same_bytes(word, nameword::word(text, names[i])) {
             return i;
         }
         i += 1;
@@ -62,7 +62,7 @@ pub fn number_names(
     let mut i = 0;
     while i < list.len() {
         let name = list[i];
-        let at = find(text, names, parts::word(whole, name));
+        let at = find(text, names, nameword::word(whole, name));
         let next = number_one(names.len(), at, name, new, count);
         numbers[i] = next.number as u32;
         count = next.count;

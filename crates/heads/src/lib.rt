@@ -11,9 +11,9 @@ ghost use Rattle.octets.specs.Octets.{Put};
 ghost use Rattle.clauses.specs.Translate.{headOf};
 ghost use Rattle.clauses.specs.code.Walk.{holeAt};
 ghost use Rattle.heads.specs.Heads.{clauseCells};
-use samerows::part;
 use octets::cells::put_cell;
 use octets::cells::put_cells;
+use slices::cells::part;
 
 // What is open in a head.
 const HOLE: u32 = 4294967295;

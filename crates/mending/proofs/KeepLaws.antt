@@ -7,7 +7,8 @@ use native.Mathlib.Omega.{arith}
 use lib.ListN.{length, set, take, drop, length-append, length-drop, length-set}
 use lib.Seq.{drop-drop, length-take-le}
 use Rattle.refusal.specs.Read.{read}
-use Rattle.samerows.specs.Starts.{between, rowsBut, rowsLent, Ascends}
+use Rattle.slices.specs.Slices.{between}
+use Rattle.samerows.specs.Starts.{rowsBut, rowsLent, Ascends}
 use Rattle.samerows.proofs.StartLaws.{rows-before, row-noted, start-noted}
 use Rattle.table.specs.Table.{Met, termsFrom, doubled}
 use Rattle.salvaging.specs.Kept.{keptFrom}

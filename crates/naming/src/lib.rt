@@ -64,7 +64,10 @@ fn fresh(text: &[u8], names: &[u32], k: usize) -> bool
 {
     let mut i = 0;
     while i < k {
-        if same_bytes(parts::word(text, names[i]), parts::word(text, names[k])) {
+        if same_bytes(
+            nameword::word(text, names[i]),
+            nameword::word(text, names[k]),
+        ) {
             return false;
         }
         i += 1;

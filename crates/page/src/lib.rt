@@ -24,7 +24,7 @@ pub fn flush(out: &[u8], page: Page) -> Page {
     if !page.open {
         return Page { to: 0, open: false };
     }
-    if io::write_all(STDOUT_FILENO, parts::part(out, 0, page.to)) {
+    if io::write_all(STDOUT_FILENO, slices::bytes::part(out, 0, page.to)) {
         return blank();
     }
     os::fail(b"cannot write standard output");
@@ -41,5 +41,5 @@ pub fn turn(out: &[u8], page: Page) -> Page {
 
 // The first bytes of a room to standard error. Where they cannot be written, that cannot be said.
 pub fn complain(out: &[u8], to: usize) {
-    io::write_all(STDERR_FILENO, parts::part(out, 0, to));
+    io::write_all(STDERR_FILENO, slices::bytes::part(out, 0, to));
 }

@@ -69,7 +69,7 @@ pub fn read_path(path: &[u8], buf: &mut [u8]) -> Got {
 pub fn cannot(deed: &[u8], path: &[u8], out: &mut [u8]) {
     let a = put_word(out, 0, deed);
     let b = put_word(out, a, path);
-    os::fail(parts::part(out, 0, b));
+    os::fail(slices::bytes::part(out, 0, b));
 }
 
 pub fn cannot_read(path: &[u8], out: &mut [u8]) {

@@ -30,7 +30,7 @@ pub fn put_refusal(
         mark.column,
         whose,
         reason,
-        parts::part(&said, 0, n),
+        slices::bytes::part(&said, 0, n),
     )
 }
 

@@ -66,7 +66,7 @@ fn pass_in(
     }
     while i < hits.len() {
         let p = row_at(table, starts, rows, hits[i]);
-        let row = samerows::part(table, p.start, p.end);
+        let row = slices::cells::part(table, p.start, p.end);
         match meeting::common(row, goal, cells, other) {
             Made::Cells(n) => {
                 on = rewrite::put_numbered(room, on, &cells[..n]);

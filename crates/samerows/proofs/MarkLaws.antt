@@ -11,7 +11,8 @@ use lib.Seq.{drop-cons, drop-length, take-set-le, getD-take, getD-drop, length-t
 use borrow.Author.Tests.{eq-eqb, ne-eqb}
 use Rattle.cell.specs.Same.{same, among}
 use Rattle.cell.proofs.SameLaws.{same-no}
-use Rattle.samerows.specs.Starts.{between, rowsBut, rowsLent, Ascends}
+use Rattle.slices.specs.Slices.{between}
+use Rattle.samerows.specs.Starts.{rowsBut, rowsLent, Ascends}
 use Rattle.samerows.specs.Marks.{mix, markFrom, markOf, has, Marked}
 use Rattle.samerows.proofs.StartLaws.{rows-before}
 

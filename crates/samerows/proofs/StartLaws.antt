@@ -12,20 +12,8 @@ use lib.Seq.{drop-cons, take-nil, take-all, take-take, length-take-le, getD-take
 use borrow.Author.Tests.{eq-eqb, ne-eqb, eqb-true, eqb-false}
 use Rattle.term.proofs.Lists.{slice-take}
 use Rattle.cell.specs.Same.{same, among}
-use Rattle.samerows.specs.Starts.{between, rowsBut, rowsLent, Ascends}
-
--- A PART whose ends may lie outside
-module _ (t : List ℕ) (s e : ℕ) where
-  pub part-late : length t < s → between 0 0 t ≡ between s e t
-  part-late h = let d : drop s t ≡ [] = drop-of-length-le t {i = s} (omega arith) in rw (d, take-nil (e - s))
-
-  pub part-none : e < s → between 0 0 t ≡ between s e t
-  part-none h = let z : e - s ≡ 0 = omega arith in rw z
-
-  pub part-over : length t < e → between s (length t) t ≡ between s e t
-  part-over h =
-      let l = length-drop s t in
-      take-all (length t - s) (drop s t) (omega arith) ∙ sym (take-all (e - s) (drop s t) (omega arith))
+use Rattle.slices.specs.Slices.{between}
+use Rattle.samerows.specs.Starts.{rowsBut, rowsLent, Ascends}
 
 -- ROWS. Two lists that are the same from a place on, and at the place before it
 pub same-back : (xs ys : List ℕ) (n : ℕ) → 0 < n → n ≤ length xs → length xs ≡ length ys → getD xs (n - 1) 0 ≡ getD ys (n - 1) 0

@@ -5,7 +5,7 @@ use mathlib.Core.Bool.{Bool, false, _||_}
 use mathlib.Core.List.{List, [], _∷_}
 use lib.Dec.{eqb}
 use lib.ListN.{getD}
-use Rattle.samerows.specs.Starts.{between}
+use Rattle.slices.specs.Slices.{between}
 
 -- a mark with one cell more. 65,599 is odd and over 65,536, so that cells which differ in a name's or a number's 16 bits rarely meet
 unfoldable pub mix : ℕ → ℕ → ℕ

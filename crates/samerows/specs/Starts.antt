@@ -5,17 +5,7 @@ use mathlib.Core.Bool.{cond}
 use mathlib.Core.List.{List, [], _∷_}
 use lib.Dec.{eqb}
 use lib.ListN.{length, getD, take, drop}
-use Rattle.samerows.specs.declared.Span.{Span}
-
--- the cells from a place up to another
-abbrev pub between : ℕ → ℕ → List ℕ → List ℕ
-between start end cells = take (end - start) (drop start cells)
-
--- the same cells, between two places of the list
-pub record Inside (cells : List ℕ) (start end : ℕ) (r : Span) : Type 0 where
-  pub from : r .start ≤ r .end
-  pub within : r .end ≤ length cells
-  pub same : between (r .start) (r .end) cells ≡ between start end cells
+use Rattle.slices.specs.Slices.{between}
 
 -- so many rows, of which the last ends at a place; one of them is left out
 unfoldable pub rowsBut : (cells starts : List ℕ) (but : ℕ) → (n end : ℕ) → List (List ℕ)

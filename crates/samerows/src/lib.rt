@@ -2,44 +2,11 @@
 // apart.
 ghost use mathlib.Core.Path.{_≡_};
 ghost use mathlib.Core.Bool.{_&&_};
-ghost use Prim.Native.Nat.{_-_};
 ghost use lib.ListN.{length, take, drop};
 ghost use Rattle.cell.specs.Same.{same, among};
-ghost use Rattle.samerows.specs.Starts.{Inside, rowsLent};
+ghost use Rattle.samerows.specs.Starts.{rowsLent};
 ghost use Rattle.samerows.specs.Marks.{mix, has};
-
-// From a place up to another.
-pub struct Span {
-    pub start: usize,
-    pub end: usize,
-}
-
-// The same part of so many cells, with both ends among them.
-fn inside(cells: &[u32], start: usize, end: usize) -> Span
-    ensures { λ r. ⌜ Inside (now (cells .entry)) start end r ⌝ }
-{
-    let n = cells.len();
-    if n < start {
-        return Span { start: 0, end: 0 };
-    }
-    if end < start {
-        return Span { start: 0, end: 0 };
-    }
-    if n < end {
-        return Span { start, end: n };
-    }
-    Span { start, end }
-}
-
-// The cells from a place up to another. What lies outside is left out.
-pub fn part(cells: &[u32], start: usize, end: usize) -> &[u32]
-    ensures { λ r. ⌜ now r ≡ take (end - start) (drop start (now (cells .entry))) ⌝ }
-{
-    let s = inside(cells, start, end);
-    let a = s.start;
-    let e = s.end;
-    &cells[a..e]
-}
+use slices::cells::part;
 
 // Whether two rows are the same, from the last cell to the first: neighbours in a table mostly share their first columns.
 fn same_cells(a: &[u32], b: &[u32]) -> bool

@@ -1,12 +1,12 @@
 // A file of facts, read once: what is kept of it for every goal.
-use termtext::Predicate;
 use builder::BuildAnswer;
 use checker::PlanAnswer;
-use samerows::part;
 use least::By;
 use octets::cells::put_cells;
 use prolog::TextAnswer;
 use refusal::Refusal;
+use slices::cells::part;
+use termtext::Predicate;
 
 // The facts' predicate, the number of the plan's branches, and where the lists end that stand one after another in one room: first the line of
 // each rule, 64 numbers, then the names, the table and the plan.

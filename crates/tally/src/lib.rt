@@ -53,7 +53,7 @@ pub fn add(t: Tally, answer: RunAnswer, room: &[u8]) -> Tally
     let mut fits = t.fits;
     match answer {
         RunAnswer::Ran(hits, tried) => {
-            add_hits(&mut fits, parts::part(room, 0, hits));
+            add_hits(&mut fits, slices::bytes::part(room, 0, hits));
             Tally {
                 fits,
                 answered: plus(t.answered, 1),

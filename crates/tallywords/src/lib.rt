@@ -31,7 +31,11 @@ fn put_number(out: &mut [u8], to: usize, width: usize, n: usize) -> usize
 {
     let more = blanks(width, digits(n));
     let a = put_word(out, to, b"  ");
-    let b = put_word(out, a, parts::part(b"                    ", 0, more));
+    let b = put_word(
+        out,
+        a,
+        slices::bytes::part(b"                    ", 0, more),
+    );
     let c = put_decimal(out, b, n);
     put_word(out, c, b"  ")
 }

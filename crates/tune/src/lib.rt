@@ -1,8 +1,8 @@
 // `ask --tune JOBS FILE`: the goals of a file gathered, and the plan that they like best printed.
-use samerows::part;
 use lex::name::same_bytes;
 use libc::STDIN_FILENO;
 use shop::Shop;
+use slices::cells::part;
 
 // The file of goals that an argument names, `-` being standard input. One that is too long for a name names none.
 pub fn answer(

@@ -43,7 +43,7 @@ fn word_of(word: &[u8]) -> Word {
     if same_bytes(word, b"--tune") {
         return Word::Tune;
     }
-    if same_bytes(parts::part(word, 0, 1), b"-") {
+    if same_bytes(slices::bytes::part(word, 0, 1), b"-") {
         return Word::Prints(printed_by(word));
     }
     Word::File

@@ -7,7 +7,7 @@ use Rattle.answertext.proofs.put_listed.Tie as tie
 use Rattle.answertext.proofs.put_listed.Reads as reads
 use Rattle.answertext.proofs.put_listed.Lts as lts
 use Rattle.octets.proofs.put_word.Reads as put-word-reads
-use Rattle.parts.proofs.word.Reads as word-reads
+use Rattle.nameword.proofs.word.Reads as word-reads
 
 returns : tie.Need-returns
 returns c =

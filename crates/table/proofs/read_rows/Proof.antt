@@ -12,7 +12,8 @@ use Rattle.refusal.specs.Refusal.{told}
 use Rattle.cell.specs.Same.{among}
 use Rattle.table.specs.Table.{met, doubled, termsFrom, rowsFrom}
 use Rattle.table.specs.code.Looks.{termsTold, MarkTold}
-use Rattle.samerows.specs.Starts.{between, rowsBut, rowsLent, Ascends}
+use Rattle.slices.specs.Slices.{between}
+use Rattle.samerows.specs.Starts.{rowsBut, rowsLent, Ascends}
 use Rattle.samerows.specs.Marks.{markOf, has, Marked}
 use Rattle.table.proofs.ReadLaws.{not-both}
 use Rattle.table.proofs.WholeLaws.{whole-within}

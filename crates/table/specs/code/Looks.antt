@@ -6,7 +6,7 @@ use mathlib.Core.Bool.{Bool, cond, _&&_}
 use mathlib.Core.List.{List, [], _∷_}
 use lib.Dec.{leb}
 use Rattle.cell.specs.Cell.{valuesAt}
-use Rattle.samerows.specs.Starts.{between}
+use Rattle.slices.specs.Slices.{between}
 use Rattle.samerows.specs.Marks.{markOf}
 use Rattle.table.specs.declared.terms.Tested.{Tested}
 use Rattle.table.specs.declared.terms.Tested.the-variants.{Good, Bad}

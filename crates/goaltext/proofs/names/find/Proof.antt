@@ -12,7 +12,7 @@ use Rattle.goaltext.proofs.names.find.Tie as tie
 use Rattle.goaltext.proofs.names.find.Reads as reads
 use Rattle.goaltext.proofs.names.find.Lts as lts
 use Rattle.lex.proofs.name.same_bytes.Reads as same-bytes-reads
-use Rattle.parts.proofs.word.Reads as word-reads
+use Rattle.nameword.proofs.word.Reads as word-reads
 
 abbrev Inv-loop : tie.InvT-loop
 Inv-loop text names word i₀ i =

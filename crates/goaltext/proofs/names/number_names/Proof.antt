@@ -16,7 +16,7 @@ use Rattle.goaltext.proofs.names.number_names.Reads as reads
 use Rattle.goaltext.proofs.names.number_names.Lts as lts
 use Rattle.goaltext.proofs.names.find.Reads as find-reads
 use Rattle.goaltext.proofs.names.number_one.Reads as number-one-reads
-use Rattle.parts.proofs.word.Reads as word-reads
+use Rattle.nameword.proofs.word.Reads as word-reads
 
 abbrev Inv-loop : tie.InvT-loop
 Inv-loop text names whole list numbers₀ new₀ count₀ i₀ numbers new count i =

@@ -4,7 +4,7 @@ use native.Mathlib.Omega.{arith}
 use lib.ListN.{length, getD, drop}
 use Rattle.cell.specs.Cell.{arity}
 use Rattle.cell.proofs.CellLaws.{arity-small}
-use Rattle.samerows.specs.Starts.{between}
+use Rattle.slices.specs.Slices.{between}
 use Rattle.samerows.specs.Marks.{mix, markOf}
 use Rattle.samerows.proofs.MarkLaws.{mark-none, mark-longer}
 use Rattle.refusal.specs.Read.{refuse, andThen}
