@@ -5,12 +5,12 @@ use mathlib.Core.List.{List, [], _∷_, List·Memᴰ·not-nil}
 use native.Mathlib.Nat.{zero-add}
 use native.Mathlib.Omega.{arith}
 use lib.ListN.{length, replicate, getD-replicate, length-replicate}
-use Rattle.term.proofs.Step.{nil}
+use Rattle.term.specs.code.Fresh.{nil}
 use Rattle.table.specs.All.{All}
 use Rattle.answer.specs.Skeleton.{hole}
 use Rattle.answer.specs.code.Renamed.{Goal}
-use Rattle.answer.proofs.AfterLaws.{RowLike}
-use Rattle.answer.proofs.LooseLaws.{Loose}
+use Rattle.answer.specs.code.Loose.{RowLike}
+use Rattle.answer.specs.code.Loose.{Loose}
 use Rattle.answer.proofs.SkeletonLaws.{fill-all, count-all}
 use Rattle.walking.specs.code.Link.{entries, Tables, Linked}
 use Rattle.walking.specs.code.Link as link

@@ -11,14 +11,16 @@ use Rattle.cell.specs.Cell.{arity, isVar}
 use Rattle.term.specs.Terms.{Terms, more, root, close}
 use Rattle.term.specs.Unify.{Unifies}
 use Rattle.term.proofs.TermsLaws.{Terms-++, zero-nil}
-use Rattle.term.proofs.Step.{Fresh, nil, cons, Terms-fresh}
+use Rattle.term.specs.code.Fresh.{Fresh, nil, cons}
+use Rattle.term.proofs.Step.{Terms-fresh}
 use Rattle.table.specs.Table.{count, upFrom}
 use Rattle.answer.specs.Skeleton.{hole, fill, decide, opened}
 use Rattle.answer.specs.Run.{Counts, zero-of, one-of, none-of}
-use Rattle.answer.proofs.AfterLaws.{RowLike}
+use Rattle.answer.specs.code.Loose.{RowLike}
 use Rattle.answer.proofs.CountLaws.{count-mem, mem-count, up-mem, up-distinct}
 use Rattle.answer.proofs.SkeletonLaws.{Three, three, three-of, fill-decide, decide-count, count-fill, var-no-hole}
-use Rattle.answer.proofs.LooseLaws.{Loose, refill, no-hole, holes, loose-close, skeleton-low, skeleton-short}
+use Rattle.answer.specs.code.Loose.{Loose}
+use Rattle.answer.proofs.LooseLaws.{refill, no-hole, holes, loose-close, skeleton-low, skeleton-short}
 use Rattle.walking.specs.code.Link.{entries}
 use Rattle.walking.proofs.ListLaws.{entries-length}
 use Rattle.classes.specs.code.Agrees.{Agrees}

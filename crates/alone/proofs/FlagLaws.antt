@@ -11,7 +11,7 @@ use Rattle.cell.proofs.CellLaws.{var-arity}
 use Rattle.term.specs.Terms.{Terms, none, more, front, back, root, close}
 use Rattle.term.proofs.TermsLaws.{Terms-++, front-back, front-terms, back-terms}
 use Rattle.term.proofs.Inst.{Terms-inst, more-var}
-use Rattle.term.proofs.Decide.{unifiable}
+use Rattle.term.specs.code.Unifiable.{unifiable}
 use Rattle.table.specs.All.{All}
 use Rattle.table.specs.Table.{upFrom}
 use Rattle.table.proofs.AllLaws.{all-++, all-front, all-back}
@@ -23,7 +23,7 @@ use Rattle.answer.specs.Skeleton.{hole, decide, opened}
 use Rattle.answer.specs.Run.{skeletons, skeletonsIn}
 use Rattle.answer.specs.code.Renamed.{Goal}
 use Rattle.answer.specs.code.Tree.{insert, triedOn}
-use Rattle.answer.proofs.LooseLaws.{Loose}
+use Rattle.answer.specs.code.Loose.{Loose}
 use Rattle.answer.proofs.SkeletonLaws.{fill-all, count-all}
 use Rattle.answer.proofs.OpenGoalLaws.{skeletons-terms}
 use Rattle.walking.specs.code.Link.{Tables}

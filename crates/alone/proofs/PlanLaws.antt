@@ -7,7 +7,8 @@ use native.Mathlib.Omega.{arith}
 use Rattle.cell.specs.Cell.{arity}
 use Rattle.term.specs.Terms.{Terms, root, close}
 use Rattle.term.specs.Unify.{Unifies}
-use Rattle.term.proofs.Decide.{Decides, says-yes, says-no, unifiable, unifiable-correct}
+use Rattle.term.specs.code.Unifiable.{unifiable}
+use Rattle.term.proofs.Decide.{Decides, says-yes, says-no, unifiable-correct}
 use Rattle.table.specs.All.{All}
 use Rattle.plan.specs.Runs.{Run, run, runs}
 use Rattle.plan.specs.Plans.{Plan, leaf, node, Branches, end, next}

@@ -13,7 +13,7 @@ use Rattle.term.specs.Terms.{Terms, root, close}
 use Rattle.term.specs.Unify.{Unifies}
 use Rattle.table.specs.Table.{upFrom}
 use Rattle.answer.specs.Skeleton.{hole, fill, decide}
-use Rattle.answer.proofs.AfterLaws.{RowLike}
+use Rattle.answer.specs.code.Loose.{RowLike}
 use Rattle.plan.specs.Notes.{below, cellIn, slotIn, nextIn}
 use Rattle.walking.specs.code.Link.{steps, entries}
 use Rattle.alone.specs.code.Alone.{Chain, end, at-place, Going, Gone, Standing}

@@ -15,15 +15,16 @@ use Rattle.cell.proofs.CellLaws.{var-arity, var-small}
 use Rattle.term.specs.Terms.{Terms, more}
 use Rattle.term.specs.Unify.{Unifies}
 use Rattle.term.proofs.TermsLaws.{Terms-++}
-use Rattle.term.proofs.Step.{Fresh, Terms-fresh}
-use Rattle.term.proofs.Step as step
+use Rattle.term.specs.code.Fresh.{Fresh}
+use Rattle.term.proofs.Step.{Terms-fresh}
+use Rattle.term.specs.code.Fresh as fresh
 use Rattle.table.specs.All.{All}
 use Rattle.table.proofs.AllLaws.{all-each, all-front, all-back, all-++}
 use Rattle.table.specs.Table.{count, upFrom}
 use Rattle.table.proofs.HeadLaws.{up-length}
 use Rattle.answer.specs.Skeleton.{hole, fill, decide}
 use Rattle.answer.specs.code.Renamed.{var}
-use Rattle.answer.proofs.AfterLaws.{RowLike}
+use Rattle.answer.specs.code.Loose.{RowLike}
 use Rattle.answer.proofs.CountLaws.{up-mem}
 use Rattle.answer.proofs.SkeletonLaws.{Three, three, three-of, fill-decide, decide-count, part-row}
 use Rattle.walking.specs.code.Link.{steps, entries}
@@ -80,10 +81,10 @@ pub record Split (c w : ℕ) (vs us : List ℕ) : Type 0 where
   pub terms₂ : Terms (length U₂) V₂
 
 split : {c w k : ℕ} {vs us : List ℕ} → Pair c w vs us → Fresh k vs → length us ≡ k → Split c w vs us
-split (here {vs} {us}) (step.cons {k = k} h n f) e =
+split (here {vs} {us}) (fresh.cons {k = k} h n f) e =
     let q : length us ≡ k = omega arith in
     record { V₁ = []; V₂ = vs; U₁ = []; U₂ = us; in-vs = refl; in-us = refl; terms₁ = Rattle.term.specs.Terms.none; terms₂ = rw q (Terms-fresh f) }
-split (there {x} {y} {us = us} p) (step.cons {k = k} h n f) e =
+split (there {x} {y} {us = us} p) (fresh.cons {k = k} h n f) e =
     let q : length us ≡ k = omega arith in
     let r = split p f q in
     record {
@@ -280,7 +281,7 @@ module _ {R sib bs ns cls rs keep : List ℕ} (A : List ℕ) (s : ℕ) (B : List
               (λ d. let g = getD-set-other keep c v u 0 d in rw g (there (S .keeps .some v lv (rw g at q))));
           size = length-set keep c u ∙ S .keeps .size;
         })
-        (step.cons is-var n (S .distinct)) (lc, S .low) (omega (arith, low-Q .0), more-low us (S .met)) z tt refl
+        (fresh.cons is-var n (S .distinct)) (lc, S .low) (omega (arith, low-Q .0), more-low us (S .met)) z tt refl
         (λ A′ D t _ _.
         rw (move A′ (c ∷ D), sym (append-assoc us P (u ∷ Q)))
         (Iff·trans (agree-first (S .steady .fair) cls (vs ++ A′) (us ++ P) (before t) c D u Q is-var)

@@ -20,7 +20,7 @@ use Rattle.term.proofs.Inst.{inst-++, inst-agree, inst-var, Terms-inst, Terms-v
 use Rattle.term.proofs.Step.{inst-symbol}
 use Rattle.table.specs.All.{All}
 use Rattle.answer.specs.code.Renamed.{var, Goal}
-use Rattle.answer.proofs.AfterLaws.{RowLike}
+use Rattle.answer.specs.code.Loose.{RowLike}
 use Rattle.walking.specs.code.Link.{ref, refs, steps, entries, Node, cell, made, Tables, Is, held, free, Bound}
 use Rattle.walking.specs.code.Link as link
 use Rattle.walking.proofs.ListLaws.{steps-length}

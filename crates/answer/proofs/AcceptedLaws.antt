@@ -24,9 +24,9 @@ use Rattle.answer.specs.Skeleton.{hole, fill}
 use Rattle.answer.specs.Run.{Picks, none, hit, miss, Counts, skeletons, Tried}
 use Rattle.answer.specs.code.Renamed.{Goal}
 use Rattle.answer.specs.code.Tree.{hits, tried, Deep, DeepIn}
-use Rattle.answer.proofs.AfterLaws.{GoalLike}
+use Rattle.answer.specs.code.Loose.{GoalLike}
 use Rattle.answer.proofs.SkeletonLaws.{fill-all, count-all, start, var-no-hole}
-use Rattle.answer.proofs.LooseLaws.{Loose}
+use Rattle.answer.specs.code.Loose.{Loose}
 use Rattle.answer.proofs.RenamedLaws.{Small, renamed-length, renamed-terms, renamed-range}
 use Rattle.answer.proofs.MeaningLaws.{Fine, plain, Numbers, hits-mean, tried-mean}
 

@@ -21,13 +21,7 @@ use Rattle.term.proofs.Decide.{inst-mem}
 use Rattle.table.specs.Table.{upFrom}
 use Rattle.answer.specs.code.After.{Left, stuck, left, meet, after}
 use Rattle.answer.proofs.CountLaws.{up-mem, up-distinct}
-
--- the row's variables lie below 2^16, the goal's from there to n
-pub record RowLike (xs : List ℕ) : Type 0 where
-  pub low : (c : ℕ) → List·Memᴰ c xs → isVar c ≡ true → c < 2 ^ 16
-
-pub record GoalLike (n : ℕ) (xs : List ℕ) : Type 0 where
-  pub range : (c : ℕ) → List·Memᴰ c xs → isVar c ≡ true → (2 ^ 16 ≤ c) × (c < n)
+use Rattle.answer.specs.code.Loose.{RowLike, GoalLike}
 
 -- the row's side: A before the place, c at it, B after
 pub record RowAt (c : ℕ) (A B : List ℕ) : Type 0 where

@@ -12,7 +12,7 @@ use borrow.Author.Tests.{eqb-true, eqb-false, ne-eqb}
 use Rattle.cell.specs.Cell.{isVar}
 use Rattle.cell.proofs.CellLaws.{var-small}
 use Rattle.term.proofs.Tests.{bool-cases, eqb-same}
-use Rattle.term.proofs.Step.{Fresh, nil, cons}
+use Rattle.term.specs.code.Fresh.{Fresh, nil, cons}
 use Rattle.table.specs.Table.{count, upFrom}
 
 pub count-same : (v : ℕ) (xs : List ℕ) → count v (v ∷ xs) ≡ suc (count v xs)

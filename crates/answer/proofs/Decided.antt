@@ -7,7 +7,8 @@ use native.Mathlib.Omega.{arith}
 use lib.ListN.{length, drop, replicate}
 use Rattle.term.specs.Terms.{Terms}
 use Rattle.term.specs.Unify.{Unifies, renamed, Matches}
-use Rattle.term.proofs.Decide.{Decides, says-yes, says-no, unifiable, unifiable-correct}
+use Rattle.term.specs.code.Unifiable.{unifiable}
+use Rattle.term.proofs.Decide.{Decides, says-yes, says-no, unifiable-correct}
 use Rattle.table.specs.All.{All}
 use Rattle.refusal.specs.Refusal.{answered}
 use Rattle.table.specs.Table.{Table, table, Row}

@@ -7,7 +7,7 @@ use lib.Dec.{ltb}
 use native.Mathlib.Omega.{arith}
 use lib.ListN.{length, length-append}
 use Rattle.cell.specs.Cell.{arity, isVar}
-use Rattle.term.proofs.Decide.{unifiable}
+use Rattle.term.specs.code.Unifiable.{unifiable}
 use Rattle.table.specs.Table.{count}
 use Rattle.term.specs.Terms.{root, close}
 use Rattle.plan.specs.Runs.{Run}

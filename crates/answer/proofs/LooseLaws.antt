@@ -14,16 +14,10 @@ use Rattle.table.specs.All.{All}
 use Rattle.table.specs.Table.{count}
 use Rattle.answer.specs.Skeleton.{hole, fill, decide}
 use Rattle.answer.proofs.CountLaws.{count-mem, mem-count}
-use Rattle.answer.proofs.AfterLaws.{RowLike}
+use Rattle.answer.specs.code.Loose.{RowLike}
 use Rattle.answer.specs.Run.{Counts, zero-of, one-of, none-of}
 use Rattle.answer.proofs.SkeletonLaws.{fill-decide, decide-count, count-fill, var-no-hole}
-
--- A row under a skeleton: its open terms x.
-pub record Loose (K x : List ℕ) : Type 0 where
-  pub terms : Terms (count hole K) x
-  pub low : (c : ℕ) → List·Memᴰ c (fill K x) → isVar c ≡ true → c < 2 ^ 15
-  pub short : length x ≤ 2 ^ 15
-  pub symbols : ¬ List·Memᴰ hole x
+use Rattle.answer.specs.code.Loose.{Loose}
 
 pub row-like : {K x : List ℕ} → Loose K x → RowLike (fill K x)
 row-like f = record { low = λ c m v. let h = f .low c m v in omega arith }

@@ -15,7 +15,8 @@ use Rattle.term.specs.Unify.{inst, Unifies, renamed}
 use Rattle.term.proofs.TermsLaws.{zero-nil, front-++, back-++}
 use Rattle.term.proofs.Inst.{Subst-id}
 use Rattle.term.proofs.Tests.{bool-cases, eqb-same}
-use Rattle.term.proofs.Decide.{Decides, says-yes, says-no, unifiable, unifiable-correct}
+use Rattle.term.specs.code.Unifiable.{unifiable}
+use Rattle.term.proofs.Decide.{Decides, says-yes, says-no, unifiable-correct}
 use Rattle.term.specs.Bind.{idS}
 use Rattle.table.specs.All.{All}
 use Rattle.table.proofs.AllLaws.{all-each}
@@ -31,8 +32,9 @@ use Rattle.answer.specs.code.After.{Left}
 use Rattle.answer.specs.code.Renamed.{var}
 use Rattle.answer.specs.code.Tree.{insert, triedOn, under, hits, hitsIn, tried, triedIn, Deep, DeepIn}
 use Rattle.answer.proofs.CountLaws.{Linear}
-use Rattle.answer.proofs.AfterLaws.{RowLike}
-use Rattle.answer.proofs.LooseLaws.{Loose, refill, no-hole, loose-close, skeleton-low, skeleton-short}
+use Rattle.answer.specs.code.Loose.{RowLike}
+use Rattle.answer.specs.code.Loose.{Loose}
+use Rattle.answer.proofs.LooseLaws.{refill, no-hole, loose-close, skeleton-low, skeleton-short}
 use Rattle.answer.proofs.LooseLaws.{row-like, parts, some-row, counts-++}
 use Rattle.answer.proofs.RelativeLaws.{dead-all, rel-first, rel-next, rel-tried, rel-skeletons, add}
 use Rattle.answer.proofs.SkeletonLaws.{Settled, settled-linear, decided, Holds, Decided, goes, ends, step, reached, decide-count, count-fill, var-no-hole, three-of, one-row, Opened, opened-row}

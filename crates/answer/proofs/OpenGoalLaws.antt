@@ -26,7 +26,8 @@ use Rattle.answer.specs.Skeleton.{hole, fill, decide, opened}
 use Rattle.answer.specs.Run.{Picks, hit, Counts, zero-of, one-of, skeletons, skeletonsIn, Tried}
 use Rattle.answer.proofs.CountLaws.{up-mem, up-distinct}
 use Rattle.answer.proofs.SkeletonLaws.{count-all, fill-all, Three, three, three-of, fill-decide, decide-count, vars-unify}
-use Rattle.answer.proofs.LooseLaws.{Loose, some-row, no-hole, loose-close, skeleton-short}
+use Rattle.answer.specs.code.Loose.{Loose}
+use Rattle.answer.proofs.LooseLaws.{some-row, no-hole, loose-close, skeleton-short}
 use Rattle.answer.proofs.RelativeLaws.{LooseBelow, opened-low}
 
 -- a skeleton of w arguments: filled with terms it is w terms

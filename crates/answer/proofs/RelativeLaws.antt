@@ -12,7 +12,8 @@ use Rattle.term.specs.Terms.{Terms, more, root, close}
 use Rattle.term.specs.Unify.{Unifies, renamed}
 use Rattle.term.proofs.TermsLaws.{Terms-++}
 use Rattle.term.proofs.Step.{Terms-fresh}
-use Rattle.term.proofs.Decide.{Decides, says-yes, says-no, unifiable, unifiable-correct}
+use Rattle.term.specs.code.Unifiable.{unifiable}
+use Rattle.term.proofs.Decide.{Decides, says-yes, says-no, unifiable-correct}
 use Rattle.table.specs.All.{All}
 use Rattle.table.proofs.AllLaws.{all-each}
 use Rattle.table.specs.Table.{count, upFrom}
@@ -22,10 +23,11 @@ use Rattle.plan.proofs.RunsLaws.{Each, Sized, group-all, group-sizes}
 use Rattle.answer.specs.Skeleton.{hole, fill, decide, opened}
 use Rattle.answer.specs.Run.{Counts, zero-of, one-of, none-of, skeletons, skeletonsIn, Tried}
 use Rattle.answer.specs.code.Tree.{triedOn}
-use Rattle.answer.proofs.AfterLaws.{RowLike}
+use Rattle.answer.specs.code.Loose.{RowLike}
 use Rattle.answer.proofs.CountLaws.{count-mem, mem-count, up-mem, up-distinct}
 use Rattle.answer.proofs.SkeletonLaws.{Holds, Three, three, three-of, fill-decide, decide-count, count-fill, var-no-hole, fill-all, count-all}
-use Rattle.answer.proofs.LooseLaws.{Loose, some-row, counts-++, no-hole, loose-close, skeleton-low, skeleton-short}
+use Rattle.answer.specs.code.Loose.{Loose}
+use Rattle.answer.proofs.LooseLaws.{some-row, counts-++, no-hole, loose-close, skeleton-low, skeleton-short}
 
 tried-++ : (R : List ℕ) (xs ys : List (List ℕ)) → triedOn R (xs ++ ys) ≡ triedOn R xs + triedOn R ys
 unfolding triedOn

@@ -17,12 +17,14 @@ use Rattle.term.proofs.Tests.{bool-cases, eqb-same}
 use Rattle.term.proofs.TermsLaws.{Terms-++, zero-nil, front-back, front-terms, back-terms, front-++, back-++}
 use Rattle.term.proofs.Inst.{inst-agree, inst-id, Subst-id, Terms-symbol}
 use Rattle.term.specs.Bind.{idS}
-use Rattle.term.proofs.Step.{Fresh, spread, Terms-fresh, fresh-var}
+use Rattle.term.specs.code.Fresh.{Fresh}
+use Rattle.term.proofs.Step.{spread, Terms-fresh, fresh-var}
 use Rattle.table.specs.Table.{count, upFrom}
 use Rattle.answer.specs.Skeleton.{hole, fill, decide}
 use Rattle.answer.specs.code.After.{Left, stuck, left, after}
 use Rattle.answer.proofs.CountLaws.{count-same, count-other, count-++, count-mem, mem-count, no-count, Linear, up-mem, up-distinct}
-use Rattle.answer.proofs.AfterLaws.{after-correct, Met, met, unmet, RowLike, RowAt, GoalLike}
+use Rattle.answer.specs.code.Loose.{RowLike, GoalLike}
+use Rattle.answer.proofs.AfterLaws.{after-correct, Met, met, unmet, RowAt}
 
 data Hole? : ℕ → Type 0 where
   a-hole : Hole? hole

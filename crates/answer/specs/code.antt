@@ -2,3 +2,4 @@
 pub mod After
 pub mod Renamed
 pub mod Tree
+pub mod Loose

@@ -10,7 +10,8 @@ use lib.ListN.{length}
 use Rattle.cell.specs.Cell.{arity, isVar}
 use Rattle.term.specs.Unify.{inst}
 use Rattle.term.proofs.Inst.{inst-++, inst-agree, Terms-inst}
-use Rattle.term.proofs.Step.{Fresh, Spread, spread}
+use Rattle.term.specs.code.Fresh.{Fresh}
+use Rattle.term.proofs.Step.{Spread, spread}
 use Rattle.table.specs.All.{All}
 use Rattle.classes.specs.code.Nodes.{Nodes, owns, at, Solves, Fair, Merges, Closed}
 use Rattle.classes.specs.code.Finite.{Fin, bare, over, FinAll, no-more, and-more, Sort, literal, variable, Within}

@@ -7,7 +7,8 @@ use native.Mathlib.Omega.{arith}
 use Rattle.term.specs.Terms.{Terms}
 use Rattle.term.specs.Unify.{inst, Subst}
 use Rattle.term.proofs.Inst.{Terms-inst}
-use Rattle.term.proofs.Step.{Fresh, Terms-fresh, spread}
+use Rattle.term.specs.code.Fresh.{Fresh}
+use Rattle.term.proofs.Step.{Terms-fresh, spread}
 use Rattle.table.specs.All.{All}
 use Rattle.table.specs.Table.{count, upFrom}
 use Rattle.table.proofs.HeadLaws.{appear-has}

@@ -19,7 +19,8 @@ use Rattle.term.proofs.TermsLaws.{front-back, front-terms, back-terms}
 use Rattle.term.proofs.Inst.{then, inst-then, Terms-inst, Subst-then, bind-same, Subst-id, Subst-bind, inst-var, Terms-var, absorb, unbound}
 use Rattle.term.proofs.Tests.{cond-case}
 use Rattle.term.proofs.Step.{at-place, other-symbol}
-use Rattle.term.proofs.Decide.{Decides, says-yes, says-no, occurs, occurs-decides, bindTest, walk, unify, remove, Within-inst, Within-part, Within-tail, remove-shorter, occurs-apart}
+use Rattle.term.specs.code.Unifiable.{occurs, bindTest, walk, unify}
+use Rattle.term.proofs.Decide.{Decides, says-yes, says-no, occurs-decides, remove, Within-inst, Within-part, Within-tail, remove-shorter, occurs-apart}
 use Rattle.term.specs.Bind.{Within, bind, idS}
 use Rattle.instance.specs.Instance.{Instance, Common, MostGeneral}
 use Rattle.instance.specs.code.Left.{Solves}

@@ -17,7 +17,8 @@ use Rattle.plan.proofs.RunsLaws.{Each, Sized, group-all, group-sizes}
 use Rattle.answer.specs.Skeleton.{hole, decide, opened}
 use Rattle.answer.specs.Run.{Picks, none, hit, miss, Counts, zero-of, one-of, none-of, skeletons, skeletonsIn, Tried}
 use Rattle.answer.proofs.SkeletonLaws.{decide-count, count-all}
-use Rattle.answer.proofs.LooseLaws.{Loose, some-row, no-hole, loose-close}
+use Rattle.answer.specs.code.Loose.{Loose}
+use Rattle.answer.proofs.LooseLaws.{some-row, no-hole, loose-close}
 use Rattle.answer.proofs.RelativeLaws.{LooseBelow, opened-low}
 use Rattle.answer.proofs.AcceptedLaws.{table-loose}
 use Rattle.instance.specs.Instance.{Instance}

@@ -11,7 +11,7 @@ use Rattle.cell.specs.Same.{same, among}
 use Rattle.term.specs.Terms.{front, back, root, close}
 use Rattle.term.specs.Unify.{inst, renamed}
 use Rattle.term.specs.Bind.{bind, idS}
-use Rattle.term.proofs.Decide.{unifiable, unify, walk, bindTest, occurs}
+use Rattle.term.specs.code.Unifiable.{unifiable, unify, walk, bindTest, occurs}
 use Rattle.table.specs.All.{All}
 use Rattle.refusal.specs.declared.Input.the-variants as input
 use Rattle.refusal.specs.Refusal.{refused}

@@ -20,6 +20,7 @@ use Rattle.term.proofs.Inst.{Terms-inst, Subst-id, Subst-bind, bind-sam
 use Rattle.term.specs.Bind.{idS, bind, Within}
 use Rattle.term.proofs.Step.{at-place, eliminate, other-symbol}
 use Rattle.term.proofs.Occurs.{occurs-check}
+use Rattle.term.specs.code.Unifiable.{occurs, bindTest, walk, unify, unifiable}
 
 -- a Boolean that is the answer to P
 pub data Decides (P : Type 0) : Bool → Type 0 where
@@ -35,10 +36,6 @@ pub Decides-iff : {b : Bool} {P Q : Type 0} → P ↔ Q → Decides P b → Deci
 Decides-iff e (says-yes p) = says-yes (e .0 p)
 Decides-iff e (says-no p) = says-no (λ q. p (e .1 q))
 
-unfoldable pub occurs : ℕ → List ℕ → Bool
-occurs v [] = false
-occurs v (c ∷ xs) = let r = occurs v xs in cond (eqb v c) true r
-
 pub occurs-decides : (v : ℕ) (xs : List ℕ) → Decides (List·Memᴰ v xs) (occurs v xs)
 unfolding occurs
 occurs-decides v [] = says-no List·Memᴰ·not-nil
@@ -46,27 +43,6 @@ occurs-decides v (c ∷ xs) =
     by-test (eqb v c)
     (λ e. says-yes (List·Memᴰ·head (eqb-true v c e)))
     (λ e. Decides-iff (List·Memᴰ·tail, λ m. ⊎-elim (λ p. absurd (eqb-false v c e p)) (λ q. q) (List·Memᴰ·cases-cons m)) (occurs-decides v xs))
-
-unfoldable pub bindTest : (List ℕ → List ℕ → Bool) → ℕ → List ℕ → List ℕ → Bool
-bindTest rec v xs ys =
-    let t = front 1 ys in
-    let r = rec (inst (bind v t idS) xs) (inst (bind v t idS) (back 1 ys)) in
-    cond (occurs v t) false r
-
-unfoldable pub walk : (List ℕ → List ℕ → Bool) → List ℕ → List ℕ → Bool
-walk rec [] ys = true
-walk rec (c ∷ xs) [] = false
-walk rec (c ∷ xs) (d ∷ ys) =
-    let deeper = walk rec xs ys in
-    let left = bindTest rec c xs (d ∷ ys) in
-    let right = bindTest rec d ys (c ∷ xs) in
-    let last = cond (isVar d) right false in
-    let other = cond (isVar c) left last in
-    cond (eqb c d) deeper other
-
-unfoldable pub unify : ℕ → List ℕ → List ℕ → Bool
-unify zero = walk (λ xs ys. false)
-unify (suc n) = walk (unify n)
 
 unfoldable pub remove : ℕ → List ℕ → List ℕ
 remove v [] = []
@@ -190,9 +166,6 @@ unify-correct : (n : ℕ) → Correct (unify n) (suc n)
 unfolding unify
 unify-correct zero = record { decides = λ {k} {xs} {ys} {us} t u wx wy h. walk-correct us (record { decides = λ t′ u′ wx′ wy′ h′. absurd (let z : ⊥ = omega arith in z) }) t u wx wy }
 unify-correct (suc n) = record { decides = λ {k} {xs} {ys} {us} t u wx wy h. walk-correct us (record { decides = λ t′ u′ wx′ wy′ h′. unify-correct n .decides t′ u′ wx′ wy′ (omega arith) }) t u wx wy }
-
-unfoldable pub unifiable : List ℕ → List ℕ → Bool
-unifiable xs ys = unify (length (xs ++ ys)) xs ys
 
 pub unifiable-correct : {k : ℕ} (xs ys : List ℕ) → Terms k xs → Terms k ys → Decides (Unifies xs ys) (unifiable xs ys)
 unfolding unifiable

@@ -7,7 +7,8 @@ use Rattle.cell.specs.Cell.{nameCell, variableCell, valuesAt, arity, isVar}
 use Rattle.term.specs.Terms.{none, more, front, back}
 use Rattle.term.specs.Unify.{inst, renamed, Matches}
 use Rattle.term.specs.Bind.{bind, idS}
-use Rattle.term.proofs.Decide.{unifiable, unify, walk, bindTest, occurs, unifiable-correct, yes-means, no-means}
+use Rattle.term.specs.code.Unifiable.{unifiable, unify, walk, bindTest, occurs}
+use Rattle.term.proofs.Decide.{unifiable-correct, yes-means, no-means}
 
 abbrev a : ℕ
 a = nameCell 0 1

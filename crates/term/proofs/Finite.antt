@@ -7,7 +7,8 @@ use Rattle.cell.specs.Cell.{isVar}
 use Rattle.term.specs.Terms.{Terms}
 use Rattle.term.specs.Unify.{inst, Subst, Finite, Unifies}
 use Rattle.term.proofs.Inst.{inst-agree, Terms-var}
-use Rattle.term.proofs.Decide.{occurs, occurs-decides, Decides, says-yes, says-no}
+use Rattle.term.specs.code.Unifiable.{occurs}
+use Rattle.term.proofs.Decide.{occurs-decides, Decides, says-yes, says-no}
 
 -- σ on the cells of xs, and nothing elsewhere
 unfoldable restricted : List ℕ → (ℕ → List ℕ) → ℕ → List ℕ

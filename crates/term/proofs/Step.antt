@@ -12,6 +12,7 @@ use native.Mathlib.Numerals.{one-add}
 use Rattle.term.specs.Unify.{inst, Subst, Unifies}
 use Rattle.term.proofs.Inst.{inst-++, inst-agree, then, inst-then, Terms-inst, Subst-then, bind-same, bind-other, Subst-bind, inst-bind, Terms-var, inst-var, more-var, absorb, unbound, Subst-id}
 use Rattle.term.specs.Bind.{idS, bind}
+use Rattle.term.specs.code.Fresh.{Fresh, nil, cons, Apart}
 
 mk : {xs ys : List ℕ} (σ : ℕ → List ℕ) → Subst σ → inst σ xs ≡ inst σ ys → Unifies xs ys
 mk σ s e = record { by = σ; good = s; same = e }
@@ -84,14 +85,6 @@ eliminate v {t} xs ys hv ht n = (
       let here : inst (then ρ σ) (v ∷ []) ≡ inst (then ρ σ) t = inst-var (then ρ σ) v ∙ ap (inst σ) (bind-same v t idS) ∙ sym (ap (inst σ) (unbound v t t n)) ∙ inst-then ρ σ t in
       mk (then ρ σ) s (at-place xs ys s (Terms-var hv) ht .1 (here, sym (inst-then ρ σ xs) ∙ u .same ∙ inst-then ρ σ ys)),
 )
-
--- distinct variables, so many of them; and variables that do not occur in a list
-pub data Fresh : ℕ → List ℕ → Type 0 where
-  nil : Fresh 0 []
-  cons : {w k : ℕ} {ws : List ℕ} → isVar w ≡ true → ¬ List·Memᴰ w ws → Fresh k ws → Fresh (suc k) (w ∷ ws)
-
-abbrev pub Apart : List ℕ → List ℕ → Type 0
-Apart ws xs = (w : ℕ) → List·Memᴰ w ws → ¬ List·Memᴰ w xs
 
 -- distinct variables take any terms
 pub record Spread (σ : ℕ → List ℕ) (ws us : List ℕ) : Type 0 where

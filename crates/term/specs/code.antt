@@ -1,2 +1,4 @@
 -- what only private functions need
 pub mod Owed
+pub mod Fresh
+pub mod Unifiable

@@ -21,7 +21,7 @@ use Rattle.answer.specs.Skeleton.{hole, decide}
 use Rattle.answer.specs.Run.{skeletons}
 use Rattle.answer.proofs.FewLaws.{tried-few}
 use Rattle.answer.proofs.Theorems.{skeletons-length}
-use Rattle.term.proofs.Decide.{unifiable}
+use Rattle.term.specs.code.Unifiable.{unifiable}
 use Rattle.plan.specs.Notes.{Branch, branch, flag, below, notes, notesIn, word, cellIn, skipIn, rowIn, slotIn, nextIn, aloneIn}
 use Rattle.walking.specs.code.Link.{Tables}
 use Rattle.walking.specs.code.Steps.{Safe, Step}

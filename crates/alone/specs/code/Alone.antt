@@ -10,14 +10,14 @@ use lib.ListN.{length, getD}
 use Rattle.cell.specs.Cell.{arity}
 use Rattle.term.specs.Terms.{Terms, root, close}
 use Rattle.term.specs.Unify.{Unifies}
-use Rattle.term.proofs.Step.{Fresh}
+use Rattle.term.specs.code.Fresh.{Fresh}
 use Rattle.table.specs.All.{All}
 use Rattle.table.specs.Table.{count}
 use Rattle.answer.specs.Skeleton.{hole, fill, decide, opened}
 use Rattle.answer.specs.Run.{Counts}
 use Rattle.answer.specs.code.Renamed.{var}
-use Rattle.answer.proofs.AfterLaws.{RowLike}
-use Rattle.answer.proofs.LooseLaws.{Loose}
+use Rattle.answer.specs.code.Loose.{RowLike}
+use Rattle.answer.specs.code.Loose.{Loose}
 use Rattle.walking.specs.code.Link.{steps, entries}
 use Rattle.classes.specs.code.Nodes.{Nodes, at, Fair, Closed}
 use Rattle.classes.specs.code.Finite.{Fin, Within}

@@ -14,7 +14,7 @@ use Rattle.answer.specs.Skeleton.{hole}
 use Rattle.plan.specs.Notes.{below, cellIn, slotIn, nextIn}
 use Rattle.walking.specs.code.Link.{steps, entries, Tables, Linked}
 use Rattle.answer.specs.code.Renamed.{Goal}
-use Rattle.answer.proofs.LooseLaws.{Loose}
+use Rattle.answer.specs.code.Loose.{Loose}
 use Rattle.classes.specs.code.Arrays.{Ready}
 use Rattle.classes.specs.code.Search.{Equals}
 use Rattle.alone.specs.code.Alone.{Chain, end, at-place, skeletonsOf, Going, Gone}

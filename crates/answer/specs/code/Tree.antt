@@ -5,7 +5,7 @@ use mathlib.Core.List.{List, [], _∷_, _++_, flatten}
 use lib.ListN.{length, replicate}
 use Rattle.cell.specs.Cell.{arity}
 use Rattle.term.specs.Terms.{front, back}
-use Rattle.term.proofs.Decide.{unifiable}
+use Rattle.term.specs.code.Unifiable.{unifiable}
 use Rattle.table.specs.Table.{upFrom}
 use Rattle.plan.specs.Runs.{Run}
 use Rattle.plan.specs.Plans.{Plan, leaf, node, Branches, end, next}

@@ -6,7 +6,7 @@ use mathlib.Core.Logic.{_≢_}
 use mathlib.Core.List.{List, List·Memᴰ}
 use lib.ListN.{length}
 use Rattle.term.specs.Unify.{inst}
-use Rattle.term.proofs.Step.{Fresh}
+use Rattle.term.specs.code.Fresh.{Fresh}
 use Rattle.classes.specs.code.Nodes.{Nodes, owns, at, Solves}
 
 -- some substitution solves the classes and makes the terms xs equal to what the nodes rs stand for. Of a row in a run, xs are its variables
