@@ -43,6 +43,7 @@ use Rattle.alone.specs.code.Rest.{lengthOf, Noted, Begins, Walks}
 use Rattle.alone.proofs.NewLaws.{all-mem}
 use Rattle.alone.proofs.PlanLaws.{chain-of, chain-skeletons, gone-is}
 use Rattle.alone.proofs.NotedLaws.{chain-length, chain-noted}
+use Rattle.limits.specs.Limits.{mostBranches}
 
 -- a cell put before the rest of a row, at place i
 root-in : {i : ℕ} {A : List ℕ} (c : ℕ) (B : List ℕ) → Terms i A → (root i (A ++ (c ∷ B)) ≡ c) × (close i (A ++ (c ∷ B)) ≡ A ++ B)
@@ -168,7 +169,7 @@ module _ {v : ℕ} {G sib rep : List ℕ} (g : Goal v G) (T : Tables G sib rep) 
   the-chain = chain (t .place) low (t .group) (t .tree) (row-of .0) (row-of .1) is-var S C
 
   module _ (words rest : List ℕ) (d : drop n words ≡ map word (notesIn (next {g = t .group} (t .tree) end) (t .place) (t .slots) (t .free) row) ++ rest)
-      (f : All Fits (notesIn (next {g = t .group} (t .tree) end) (t .place) (t .slots) (t .free) row)) (to : ℕ) (e : to ≡ n + 1 + branches (t .tree)) (far : to ≤ 2048) where
+      (f : All Fits (notesIn (next {g = t .group} (t .tree) end) (t .place) (t .slots) (t .free) row)) (to : ℕ) (e : to ≡ n + 1 + branches (t .tree)) (far : to ≤ mostBranches) where
     pub begins : Begins words rep sib bs ns us rs n to
     unfolding branches
     begins =

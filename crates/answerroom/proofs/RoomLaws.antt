@@ -19,14 +19,15 @@ use Rattle.answertext.proofs.BytesLaws.{slice-few, slice-within}
 use Rattle.answerroom.specs.Room.{answerTold, AnswerInto, no-room, is-said}
 use Rattle.answerroom.specs.declared.AnswerText.{AnswerText}
 use Rattle.answerroom.specs.declared.AnswerText.the-variants as answer-text
+use Rattle.limits.specs.Limits.{mostReplyCells, mostTextBytes}
 
 -- a predicate stands in a text that is taken, which has at most 65,535 bytes; or there is none
-pub predicate-short : {t : List ℕ} {p : Predicate} → PredicateIs t p → length (predicateIn t p) ≤ 65535
+pub predicate-short : {t : List ℕ} {p : Predicate} → PredicateIs t p → length (predicateIn t p) ≤ mostTextBytes
 predicate-short {t} (first {f = f} (taken h x o)) = omega (arith, slice-within (f .start) (f .end) t)
 predicate-short {t} (none x) = omega (arith, slice-few 0 0 t)
 
 -- the measured text
-pub said-long : (text names goal new : List ℕ) (p : Predicate) (cells : List ℕ) → length cells ≤ 1024
+pub said-long : (text names goal new : List ℕ) (p : Predicate) (cells : List ℕ) → length cells ≤ mostReplyCells
     → length (saidIn text names goal new p cells)
     ≡ length (predicateIn text p) + 1 + length (termsSaid (wordsOf text names goal new) (p .width) cells)
 said-long text names goal new p cells h =
@@ -36,7 +37,7 @@ said-long text names goal new p cells h =
     omega (arith, e, t, length-append (predicateIn text p) (40 ∷ termsText words (p .width ∷ []) cells))
 
 -- and its room
-module _ {text names goal new : List ℕ} {p : Predicate} {cells : List ℕ} {need : ℕ} (h : length cells ≤ 1024) (q : PredicateIs text p)
+module _ {text names goal new : List ℕ} {p : Predicate} {cells : List ℕ} {need : ℕ} (h : length cells ≤ mostReplyCells) (q : PredicateIs text p)
     (e : need ≡ length (saidIn text names goal new p cells)) {room : List ℕ} where
   pub short-room : {r : AnswerText} → length room < need → answerTold r ≡ turned (refused reason.Room input.Lent need)
       → AnswerInto text names goal new cells room room r

@@ -13,6 +13,7 @@ use Rattle.termtext.specs.declared.Predicate.{Predicate}
 use Rattle.goaltext.specs.Asked.{PredicateIs}
 use Rattle.answerroom.specs.declared.AnswerText.{AnswerText}
 use Rattle.answerroom.specs.declared.AnswerText.the-variants as answer-text
+use Rattle.limits.specs.Limits.{mostReplyCells}
 
 -- how many cells are said and how many bytes they have; or a refusal
 abbrev pub answerTold : AnswerText → Answer
@@ -22,12 +23,12 @@ answerTold (answer-text.Refused f) = turned (told f)
 -- The promise. No reply has over 1,024 cells (W-203), so more of them are refused as a reply is that would have them: BIG. ROOM's place is the
 -- bytes needed. Refused: nothing is written. Otherwise the text comes first, and the rest of the room is kept
 pub data AnswerInto (text names goal new cells room room′ : List ℕ) (r : AnswerText) : Type 0 where
-  too-big : 1024 < length cells → answerTold r ≡ turned (refused reason.Big input.Goal 0) → room′ ≡ room
+  too-big : mostReplyCells < length cells → answerTold r ≡ turned (refused reason.Big input.Goal 0) → room′ ≡ room
       → AnswerInto text names goal new cells room room′ r
-  no-room : (p : Predicate) → length cells ≤ 1024 → PredicateIs text p → length room < length (saidIn text names goal new p cells)
+  no-room : (p : Predicate) → length cells ≤ mostReplyCells → PredicateIs text p → length room < length (saidIn text names goal new p cells)
       → answerTold r ≡ turned (refused reason.Room input.Lent (length (saidIn text names goal new p cells))) → room′ ≡ room
       → AnswerInto text names goal new cells room room′ r
-  is-said : (p : Predicate) → length cells ≤ 1024 → PredicateIs text p → length (saidIn text names goal new p cells) ≤ length room
+  is-said : (p : Predicate) → length cells ≤ mostReplyCells → PredicateIs text p → length (saidIn text names goal new p cells) ≤ length room
       → answerTold r ≡ answered (length cells) (length (saidIn text names goal new p cells))
       → room′ ≡ front (saidIn text names goal new p cells) room
       → AnswerInto text names goal new cells room room′ r

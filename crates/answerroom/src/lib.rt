@@ -8,7 +8,9 @@ ghost use Rattle.refusal.specs.declared.Reason.{Reason};
 ghost use Rattle.refusal.specs.declared.Input.{Input};
 ghost use Rattle.termtext.specs.Saying.{predicateIn, saidIn};
 ghost use Rattle.answerroom.specs.Room.{answerTold, AnswerInto};
+ghost use Rattle.limits.specs.Limits.{mostReplyCells, mostTextBytes};
 use answertext::measure::terms_bytes;
+use limits::REPLY_CELLS;
 use refusal::Input;
 use refusal::Reason;
 use refusal::Refusal;
@@ -39,7 +41,7 @@ fn answer_bytes(
     p: Predicate,
     cells: &[u32],
 ) -> usize
-    requires { ⌜ (length (now cells) ≤ 1024) × (length (predicateIn (now text) p) ≤ 65535) ⌝ }
+    requires { ⌜ (length (now cells) ≤ mostReplyCells) × (length (predicateIn (now text) p) ≤ mostTextBytes) ⌝ }
     ensures { λ r. ⌜ (r ≡ length (saidIn (now (text .entry)) (now (names .entry)) (now (goal .entry)) (now (new .entry)) p (now (cells .entry))))
         × (r < 2 ^ 32) ⌝ }
 {
@@ -60,7 +62,7 @@ pub fn put_answer(
         (now (room .entry)) (now (room .exit)) r ⌝ }
     ensures { λ r. ⌜ Small (answerTold r) ⌝ }
 {
-    if 1024 < cells.len() {
+    if REPLY_CELLS < cells.len() {
         return refuse(Reason::Big, Input::Goal, 0);
     }
     let p = goaltext::predicate_of(text);

@@ -12,6 +12,7 @@ use Rattle.termtext.specs.Saying.{symbolWord, closing, owing, markAfter, owedAf
 use Rattle.termtext.specs.declared.Predicate.{Predicate}
 use Rattle.answertext.specs.Terms.{termsSaid}
 use Rattle.answertext.specs.code.Levels.{levels}
+use Rattle.limits.specs.Limits.{mostReplyCells}
 
 -- a store above the levels
 pub levels-set : (owed : List ℕ) (k n d : ℕ) → d ≤ k → levels (set owed k n) d ≡ levels owed d
@@ -92,22 +93,22 @@ module _ (words : Words) (owed cells : List ℕ) (i : ℕ) where
 
 -- all of them, or too many
 module _ (words : Words) (width : ℕ) (cells : List ℕ) where
-  pub terms-over : 1024 < length cells → termsSaid words width cells ≡ []
+  pub terms-over : mostReplyCells < length cells → termsSaid words width cells ≡ []
   unfolding termsSaid
-  terms-over h = rw (lt-leb (length cells) 1024 h)
+  terms-over h = rw (lt-leb (length cells) mostReplyCells h)
 
-  pub terms-are : length cells ≤ 1024 → termsSaid words width cells ≡ termsText words (width ∷ []) cells
+  pub terms-are : length cells ≤ mostReplyCells → termsSaid words width cells ≡ termsText words (width ∷ []) cells
   unfolding termsSaid
-  terms-are h = rw (le-leb (length cells) 1024 h)
+  terms-are h = rw (le-leb (length cells) mostReplyCells h)
 
 -- THE WHOLE ANSWER
 module _ (text names goal new : List ℕ) (p : Predicate) (cells : List ℕ) where
-  pub said-over : 1024 < length cells → saidIn text names goal new p cells ≡ []
+  pub said-over : mostReplyCells < length cells → saidIn text names goal new p cells ≡ []
   unfolding saidIn
-  said-over h = rw (lt-leb (length cells) 1024 h)
+  said-over h = rw (lt-leb (length cells) mostReplyCells h)
 
-  pub said-is : length cells ≤ 1024
+  pub said-is : length cells ≤ mostReplyCells
       → saidIn text names goal new p cells
       ≡ predicateIn text p ++ ((40 ∷ []) ++ termsText (wordsOf text names goal new) (p .width ∷ []) cells)
   unfolding saidIn answerText
-  said-is h = rw (le-leb (length cells) 1024 h)
+  said-is h = rw (le-leb (length cells) mostReplyCells h)

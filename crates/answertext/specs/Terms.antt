@@ -7,6 +7,7 @@ use lib.Dec.{leb}
 use lib.ListN.{length}
 use Rattle.grammar.specs.Numbering.{Words}
 use Rattle.termtext.specs.Saying.{termsText}
+use Rattle.limits.specs.Limits.{mostReplyCells}
 
 unfoldable pub termsSaid : Words → (width : ℕ) (cells : List ℕ) → List ℕ
-termsSaid words width cells = cond (leb (length cells) 1024) (termsText words (width ∷ []) cells) []
+termsSaid words width cells = cond (leb (length cells) mostReplyCells) (termsText words (width ∷ []) cells) []

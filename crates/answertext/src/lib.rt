@@ -10,7 +10,9 @@ ghost use Rattle.octets.specs.Octets.{Put};
 ghost use Rattle.termtext.specs.Saying.{wordsIn, wordsOf, symbolWord, termsText, saidIn};
 ghost use Rattle.answertext.specs.Terms.{termsSaid};
 ghost use Rattle.answertext.specs.code.Levels.{levels, Closes, Marks};
+ghost use Rattle.limits.specs.Limits.{mostReplyCells};
 use cell::Shape;
+use limits::REPLY_CELLS;
 use octets::put_byte;
 use octets::put_decimal;
 use octets::put_word;
@@ -126,7 +128,7 @@ fn put_counted(
     owed: &mut [usize],
     cells: &[u32],
 ) -> usize
-    requires { ⌜ (length (now cells) < length (now owed)) × (length (now cells) ≤ 1024) ⌝ }
+    requires { ⌜ (length (now cells) < length (now owed)) × (length (now cells) ≤ mostReplyCells) ⌝ }
     ensures { λ r. ⌜ Put (now (out .entry)) (now (out .exit)) to
         (termsText (wordsOf (now (text .entry)) (now (names .entry)) (now (goal .entry)) (now (new .entry))) (levels (now (owed .entry)) 1)
         (now (cells .entry))) r ⌝ }
@@ -160,7 +162,7 @@ pub fn put_terms(
     ensures { λ r. ⌜ Put (now (out .entry)) (now (out .exit)) to
         (termsSaid (wordsOf (now (text .entry)) (now (names .entry)) (now (goal .entry)) (now (new .entry))) width (now (cells .entry))) r ⌝ }
 {
-    if 1024 < cells.len() {
+    if REPLY_CELLS < cells.len() {
         return to;
     }
     if cells.len() < 64 {
@@ -186,7 +188,7 @@ pub fn put_answer(
     ensures { λ r. ⌜ Put (now (out .entry)) (now (out .exit)) 0
         (saidIn (now (text .entry)) (now (names .entry)) (now (goal .entry)) (now (new .entry)) p (now (cells .entry))) r ⌝ }
 {
-    if 1024 < cells.len() {
+    if REPLY_CELLS < cells.len() {
         return 0;
     }
     let on = put_word(out, 0, slices::bytes::part(text, p.start, p.end));

@@ -10,6 +10,7 @@ ghost use Rattle.answertext.specs.Terms.{termsSaid};
 use super::put_mark;
 use super::put_symbol;
 use cell::Shape;
+use limits::REPLY_CELLS;
 
 // The bytes of the word at a number of one list; none for a number that the list has not.
 fn listed_bytes(text: &[u8], names: &[u32], k: usize) -> usize
@@ -59,7 +60,7 @@ pub fn terms_bytes(
     ensures { λ r. ⌜ (r ≡ length (termsSaid (wordsOf (now (text .entry)) (now (names .entry)) (now (goal .entry)) (now (new .entry))) width
         (now (cells .entry)))) × (r < 2 ^ 27) ⌝ }
 {
-    if 1024 < cells.len() {
+    if REPLY_CELLS < cells.len() {
         return 0;
     }
     let mut room = [0u8; 1025];

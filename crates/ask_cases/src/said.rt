@@ -3,6 +3,7 @@
 use answer::RunAnswer;
 use goallist::Full;
 use libc::STDOUT_FILENO;
+use limits::BRANCHES;
 use message::Whose;
 use refusal::Refusal;
 use shop::Loaded;
@@ -35,7 +36,7 @@ fn goal_of(rules: &[u8], text: &[u8]) {
 }
 
 fn asked(rules: &[u8], kept: &[u32], shop: Shop, text: &[u8], room: &mut [u32]) {
-    let mut numbers = [0u64; 2048];
+    let mut numbers = [0u64; BRANCHES];
     let ready = askgoal::make_ready(kept, shop, &mut numbers);
     let found = askgoal::find(rules, kept, &numbers, ready, text, room);
     let answer = found.answer;

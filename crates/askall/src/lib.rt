@@ -2,6 +2,7 @@
 use askgoal::Ready;
 use askgoal::Sheet;
 use goalsay::Source;
+use limits::BRANCHES;
 use shop::Shop;
 
 // Which arguments are goals, from a first one up to an end; and whether what they add up to is printed after all answers.
@@ -38,7 +39,7 @@ fn ask_all(
     out: &mut [u8],
 ) -> Sheet {
     let mut buf = [0u8; 65534];
-    let mut numbers = [0u64; 2048];
+    let mut numbers = [0u64; BRANCHES];
     let ready = askgoal::make_ready(kept, shop, &mut numbers);
     if goals.end <= goals.first {
         return asklines::ask_lines(text, kept, &numbers, ready, &mut buf, room, out);
@@ -49,7 +50,7 @@ fn ask_all(
 fn ask_arguments(
     text: &[u8],
     kept: &[u32],
-    numbers: &[u64; 2048],
+    numbers: &[u64; BRANCHES],
     ready: Ready,
     goals: Goals,
     buf: &mut [u8],

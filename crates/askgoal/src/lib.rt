@@ -3,6 +3,8 @@ use answer::RunAnswer;
 use goalsay::Source;
 use goaltext::GoalText;
 use instance::RepliesAnswer;
+use limits::BRANCHES;
+use limits::ROWS;
 use page::Page;
 use plannotes::Noted;
 use shop::Shop;
@@ -14,11 +16,11 @@ use term::End;
 pub struct Ready {
     pub shop: Shop,
     pub noted: Noted,
-    pub starts: [usize; 64],
+    pub starts: [usize; ROWS],
 }
 
 // The plan is checked and the table read once for all goals. What is noted of each branch stands in the lent numbers.
-pub fn make_ready(kept: &[u32], shop: Shop, numbers: &mut [u64; 2048]) -> Ready {
+pub fn make_ready(kept: &[u32], shop: Shop, numbers: &mut [u64; BRANCHES]) -> Ready {
     let table = shop::table_in(kept, shop);
     let noted = plannotes::check_noted(table, shop::plan_in(kept, shop), numbers);
     let read = table::read_table(table);
@@ -64,7 +66,7 @@ fn rules_of(hits: &[u8; 64], count: usize) -> &[u8] {
 pub fn ask(
     text: &[u8],
     kept: &[u32],
-    numbers: &[u64; 2048],
+    numbers: &[u64; BRANCHES],
     ready: Ready,
     goal: &[u8],
     source: Source,
@@ -108,7 +110,7 @@ pub fn blank() -> Sheet {
 pub fn find(
     text: &[u8],
     kept: &[u32],
-    numbers: &[u64; 2048],
+    numbers: &[u64; BRANCHES],
     ready: Ready,
     goal: &[u8],
     room: &mut [u32],
@@ -152,7 +154,7 @@ pub fn find(
 // answers are refused, one of them has more.
 fn run_goal(
     kept: &[u32],
-    numbers: &[u64; 2048],
+    numbers: &[u64; BRANCHES],
     ready: Ready,
     goal: &[u32],
     hits: &mut [u8],

@@ -5,6 +5,7 @@ use goallines::Piece;
 use goallines::Place;
 use goalsay::Source;
 use libc::STDIN_FILENO;
+use limits::BRANCHES;
 
 // Where the reading stands, and what the goals so far have come to.
 pub struct Stand {
@@ -18,7 +19,7 @@ pub struct Stand {
 pub fn ask_lines(
     text: &[u8],
     kept: &[u32],
-    numbers: &[u64; 2048],
+    numbers: &[u64; BRANCHES],
     ready: Ready,
     buf: &mut [u8],
     room: &mut [u32],
@@ -40,7 +41,7 @@ pub fn ask_lines(
 fn ask_next(
     text: &[u8],
     kept: &[u32],
-    numbers: &[u64; 2048],
+    numbers: &[u64; BRANCHES],
     ready: Ready,
     buf: &mut [u8],
     stand: Stand,
@@ -73,7 +74,7 @@ fn before_reading(buf: &[u8], out: &[u8], stand: Stand) -> Stand {
 fn ask_piece(
     text: &[u8],
     kept: &[u32],
-    numbers: &[u64; 2048],
+    numbers: &[u64; BRANCHES],
     ready: Ready,
     buf: &[u8],
     piece: Piece,

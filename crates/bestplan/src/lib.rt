@@ -1,6 +1,7 @@
 // The plan that a list of goals likes best (liked), printed: which columns it looks at first, what the goals try by it and by the plain plan, and
 // its words.
 use builder::BuildAnswer;
+use limits::PLAN_CELLS;
 use page::Page;
 use refusal::Refusal;
 use shop::Shop;
@@ -17,7 +18,7 @@ pub fn print(
     refused: usize,
     out: &mut [u8],
 ) {
-    let mut plan = [0u32; 6082];
+    let mut plan = [0u32; PLAN_CELLS];
     let mut best = [0usize; 3];
     match liked::build_liked(
         shop::measure(),

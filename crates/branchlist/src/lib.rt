@@ -1,5 +1,9 @@
 // The branches of a plan, in its order, as a list of numbers: what is printed of a plan is printed by it.
 ghost use Prim.Native.Nat.{_≤_};
+use limits::BRANCHES;
+use limits::COLUMNS;
+use limits::ROW_CELLS;
+use limits::ROWS;
 use octets::cells::put_cell;
 use octets::cells::put_cells;
 use shop::Shop;
@@ -24,8 +28,7 @@ pub struct Branch {
 // A branch is 6 numbers of the list. Each has a symbol of a rule of its own, so that no plan has more than 64 rules have symbols.
 const NUMBERS: usize = 6;
 
-pub const BRANCHES: u32 = 2048;
-
+// six times BRANCHES
 pub const LIST: usize = 12288;
 
 // A state: its number, how many branches lead there, and the place that it looks at.
@@ -41,7 +44,7 @@ struct Stand {
     at: usize,
     rule: u32,
     count: u32,
-    met: [u32; 32],
+    met: [u32; ROW_CELLS],
 }
 
 // One further, and no further than the end.
@@ -57,13 +60,13 @@ fn more(n: u32, most: u32) -> u32 {
 // Those of a shop's plan; how many there are.
 pub fn put_branches(list: &mut [u32], kept: &[u32], shop: Shop) -> u32 {
     let table = shop::table_in(kept, shop);
-    let mut places = [0u32; 32];
+    let mut places = [0u32; ROW_CELLS];
     let n = put_arguments(&mut places, 0, 0, cell_at(table, 0) as usize);
     let first = Stand {
         at: 0,
         rule: 1,
         count: 0,
-        met: [0u32; 32],
+        met: [0u32; ROW_CELLS],
     };
     let last = walk(
         list,
@@ -89,13 +92,13 @@ pub fn branch_at(list: &[u32], i: u32) -> Branch {
     }
 }
 
-// The places of so many arguments, of which nothing has more than 8.
+// The places of so many arguments: of columns, which are at most COLUMNS, or of a name, which has fewer.
 fn put_arguments(places: &mut [u32], to: usize, owner: u32, count: usize) -> usize
     requires { ⌜ owner ≤ 65536 ⌝ }
 {
     let mut on = to;
     let mut i = 0;
-    while i < 8 && i < count {
+    while i < COLUMNS && i < count {
         i += 1;
         on = put_cell(places, on, 16 * owner + i as u32);
     }
@@ -146,7 +149,7 @@ fn put_branch(list: &mut [u32], plan: &[u32], state: State, open: usize, from: S
     Stand {
         at: next(from.at, plan.len()),
         rule: from.rule,
-        count: more(from.count, BRANCHES),
+        count: more(from.count, BRANCHES as u32),
         met,
     }
 }
@@ -155,9 +158,9 @@ fn put_branch(list: &mut [u32], plan: &[u32], state: State, open: usize, from: S
 fn ended(from: Stand, end: usize) -> Stand {
     Stand {
         at: next(from.at, end),
-        rule: more(from.rule, 64),
+        rule: more(from.rule, ROWS as u32),
         count: from.count,
-        met: [0u32; 32],
+        met: [0u32; ROW_CELLS],
     }
 }
 
@@ -175,7 +178,7 @@ fn walk(
     if places.len() == 0 {
         return ended(from, end);
     }
-    if 32 <= depth {
+    if ROW_CELLS as u32 <= depth {
         return from;
     }
     let index = cell_at(plan, from.at) as usize;
@@ -186,7 +189,7 @@ fn walk(
     here.at = next(count, end);
     while 0 < left {
         left -= 1;
-        let mut below = [0u32; 32];
+        let mut below = [0u32; ROW_CELLS];
         let n = put_below(&mut below, places, index, cell_at(plan, here.at));
         let state = State {
             number,

@@ -22,6 +22,7 @@ use Rattle.state.proofs.RowsLaws.{rows-none, rows-first, same-self}
 use Rattle.least.specs.code.Follow.{agreedFrom, taken, Follows}
 use Rattle.builder.specs.code.Writing.{chain, ToWrite, Written}
 use Rattle.builder.proofs.WritingLaws.{node-cells, next-plan, no-plan}
+use Rattle.limits.specs.Limits.{mostPlanCells}
 
 -- there is a cell for the leaf
 chain-some : (row : List ℕ) → 0 < length (chain row)
@@ -31,17 +32,17 @@ chain-some (c ∷ row) = omega arith
 
 -- THE LOOP. Some of the row's cells are written: what the others write from the next place on is all of it.
 pub record Chained (row out : List ℕ) (at : ℕ) (left out₁ : List ℕ) (next : ℕ) : Type 0 where
-  pub size : length out₁ ≡ 6082
-  pub fits : next + length (chain left) ≤ 6082
+  pub size : length out₁ ≡ mostPlanCells
+  pub fits : next + length (chain left) ≤ mostPlanCells
   pub next-is : next + length (chain left) ≡ at + length (chain row)
   pub out-is : sets out₁ next (chain left) ≡ sets out at (chain row)
 
-pub chained-start : (row out : List ℕ) (at : ℕ) → length out ≡ 6082 → at + length (chain row) ≤ 6082 → Chained row out at row out at
+pub chained-start : (row out : List ℕ) (at : ℕ) → length out ≡ mostPlanCells → at + length (chain row) ≤ mostPlanCells → Chained row out at row out at
 chained-start row out at s f = record { size = s; fits = f; next-is = refl; out-is = refl }
 
 module _ {row out : List ℕ} {at : ℕ} {left out₁ : List ℕ} {next : ℕ} (g : Chained row out at left out₁ next) where
   -- there is room for the leaf, which ends it
-  pub chained-room : next < 6082
+  pub chained-room : next < mostPlanCells
   chained-room = omega (arith, g .fits, chain-some left)
 
   pub chained-end : left ≡ [] → (r : ℕ) (out₂ : List ℕ) → (r ≡ next + 1) × (out₂ ≡ set out₁ next 1)
@@ -54,7 +55,7 @@ module _ {row out : List ℕ} {at : ℕ} {left out₁ : List ℕ} {next : ℕ} (
 
   -- one cell more
   module _ (c : ℕ) (rest : List ℕ) (e : left ≡ c ∷ rest) where
-    pub chained-more : next + 3 < 6082
+    pub chained-more : next + 3 < mostPlanCells
     unfolding chain
     chained-more = let f = rw e at (g .fits) in omega (arith, f, chain-some rest)
 
@@ -114,7 +115,7 @@ module _ {t ss ms hs kept out : List ℕ} {first last k named at : ℕ} (q : ToW
       (λ p f. chain-cells kept first (flagsIn k named) no-flag fits-row p f) (q .plan) (q .follows)
 
   -- what the loop asks
-  pub alone-fits : at + length (chain row) ≤ 6082
+  pub alone-fits : at + length (chain row) ≤ mostPlanCells
   alone-fits = omega (arith, q .fits, ap length chain-is)
 
   pub alone-written : (r : ℕ) (out₁ : List ℕ) → (r ≡ at + length (chain row)) × (out₁ ≡ sets out at (chain row))

@@ -39,6 +39,7 @@ use Rattle.builder.specs.Build.{tableFor, BuiltInto, table-refused, room
 use Rattle.builder.specs.declared.BuildAnswer.{BuildAnswer}
 use Rattle.builder.specs.declared.BuildAnswer.the-variants as build-answer
 use Rattle.builder.proofs.AskedLaws.{column, for-refused, for-column, for-read}
+use Rattle.limits.specs.Limits.{keptCells}
 
 pub no-table : {by : By} {columns t : List ℕ} (room : List ℕ) {f : Refusal} → tableBy by t ≡ refuse (told f)
     → BuiltInto by columns t room room (build-answer.Refused f)
@@ -122,7 +123,7 @@ pub flags-few : (columns : List ℕ) {named : Named} → named .mask ≡ maskFro
 flags-few columns m p width h = rw m (mask-few width columns (omega (arith, p)))
 
 pub filled-right : (by : By) (columns t : List ℕ) {named : Named} {old new : List ℕ} {r : TableRead} → named .mask ≡ maskFrom 0 columns
-    → named .past ≡ pastFrom 0 columns → Fills by (named .mask) t 64 0 old new r → length old ≡ 12288 → Right by columns t r named new
+    → named .past ≡ pastFrom 0 columns → Fills by (named .mask) t 64 0 old new r → length old ≡ keptCells → Right by columns t r named new
 filled-right by columns t m p f h = record {
   reads = f .reads;
   mask = m;

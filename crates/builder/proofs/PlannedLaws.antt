@@ -20,6 +20,7 @@ use Rattle.state.proofs.FirstLaws.{few-rows, rows-open}
 use Rattle.least.specs.code.Follow.{Follows}
 use Rattle.least.proofs.FollowLaws.{Followed, followed}
 use Rattle.builder.specs.code.Writing.{ToWrite, Written, Planned}
+use Rattle.limits.specs.Limits.{keptCells, mostPlanCells}
 
 -- what is known of a state, of an equal one
 module _ {w w′ : ℕ} {rows rows′ : List (List ℕ)} (e : w ≡ w′) (f : rows ≡ rows′) where
@@ -44,7 +45,7 @@ module _ (kept : List ℕ) (named : ℕ) {t ss : List ℕ} {w n : ℕ} (k : Tabl
   pub plan-of : Followed kept (flagsIn (T .width) named) 0 (T .width) (T .rows)
   plan-of = followed kept 32 (flagsIn (T .width) named) 0 (T .width) (T .rows) fits (is .count .0)
 
-  few : length (write (plan-of .plan)) ≤ 6082
+  few : length (write (plan-of .plan)) ≤ mostPlanCells
   few = size-bound (plan-of .plan) fits (is .count .0) (is .count .1)
 
   -- the first state, to be written from place 0 on
@@ -52,8 +53,8 @@ module _ (kept : List ℕ) (named : ℕ) {t ss : List ℕ} {w n : ℕ} (k : Tabl
     pub state : ToWrite t ss ms hs kept out 0 n w named 0
     pub same : write (state .plan) ≡ write (plan-of .plan)
 
-  pub first-state : {ms hs out : List ℕ} → OpenRows ss n (length t) ms → named < 2 ^ w → length hs ≡ 64 → length kept ≡ 12288
-      → length out ≡ 6082 → First ms hs out
+  pub first-state : {ms hs out : List ℕ} → OpenRows ss n (length t) ms → named < 2 ^ w → length hs ≡ 64 → length kept ≡ keptCells
+      → length out ≡ mostPlanCells → First ms hs out
   first-state {ms} {hs} {out} o small lh lk lo =
       let r : rowsIn t ss ms 0 n ≡ T .rows = rows-open k o in
       let p = same-plan (k .width) r kept named (plan-of .plan) (plan-of .follows) in
@@ -71,7 +72,7 @@ module _ (kept : List ℕ) (named : ℕ) {t ss : List ℕ} {w n : ℕ} (k : Tabl
         same = p .2;
       }
 
-  pub planned : {ms hs out ms′ hs′ out′ : List ℕ} {size cost : ℕ} → length out ≡ 6082 → (s : First ms hs out)
+  pub planned : {ms hs out ms′ hs′ out′ : List ℕ} {size cost : ℕ} → length out ≡ mostPlanCells → (s : First ms hs out)
       → Written ms hs out ms′ hs′ out′ (write (s .state .plan)) n 0 size → cost ≡ getD kept (n - 1) 0 → Planned T named kept out′ size cost
   planned {out = out} {out′ = out′} {size} {cost} lo s x e =
       let l : List ℕ = write (plan-of .plan) in

@@ -26,6 +26,7 @@ use Rattle.least.specs.code.Follow.{taken, Follows, FollowsIn}
 use Rattle.least.proofs.FollowLaws.{taken-open}
 use Rattle.builder.specs.code.Writing.{ToWrite, ToWriteAll, Written}
 use Rattle.builder.proofs.ChooseLaws.{few-open}
+use Rattle.limits.specs.Limits.{mostPlanCells}
 
 -- a state's own two cells, and those of its branches
 two-cells : (l xs ys cells : List ℕ) (at i n : ℕ) → xs ≡ ys → cells ≡ i ∷ (n ∷ ys)
@@ -91,7 +92,7 @@ module _ {t ss ms hs kept out : List ℕ} {first last k named at : ℕ} (q : ToW
   leaf-is : write (q .plan) ≡ (last - first) ∷ []
   leaf-is = leaf-cells (q .plan) z ∙ rw (rows-length t ss ms (last - first) first)
 
-  pub leaf-room : at < 6082
+  pub leaf-room : at < mostPlanCells
   leaf-room = omega (arith, q .fits, ap length leaf-is)
 
   pub leaf-written : (r : ℕ) (out₁ : List ℕ) → (r ≡ at + 1) × (out₁ ≡ set out at (last - first))
@@ -100,7 +101,7 @@ module _ {t ss ms hs kept out : List ℕ} {first last k named at : ℕ} (q : ToW
 
 -- An inner state: the place i is taken and closed, and the branches are next.
 pub record Inner (t ss ms hs kept out : List ℕ) (first last k named i at : ℕ) (ms₁ hs₁ out₁ cells : List ℕ) : Type 0 where
-  pub room : at + 1 < 6082
+  pub room : at + 1 < mostPlanCells
   pub ready : ToWriteAll t ss ms₁ hs₁ kept out₁ first last (k - 1) named i (at + 2)
   pub done : (ms₂ hs₂ out₂ : List ℕ) (m : ℕ) → Written ms₁ hs₁ out₁ ms₂ hs₂ out₂ (writes (ready .plans)) last (at + 2) m
       → Written ms hs out ms₂ hs₂ out₂ cells last at m
@@ -192,7 +193,7 @@ going-start {ms = ms} {hs} {last = last} q =
 pub record Branch (t ss kept ms hs out : List ℕ) (last k named i at : ℕ) (cells ms₁ hs₁ out₁ : List ℕ) (row next n c a below-named : ℕ) : Type 0 where
   pub some : 0 < n
   pub few : row + n ≤ last
-  pub room : next < 6082
+  pub room : next < mostPlanCells
   pub below : ToWrite t ss ms₁ hs₁ kept (set out₁ next c) row (row + n) (a + k) below-named (next + 1)
   pub on : (ms₂ hs₂ out₂ : List ℕ) (m : ℕ) → Written ms₁ hs₁ (set out₁ next c) ms₂ hs₂ out₂ (write (below .plan)) (row + n) (next + 1) m
       → Going t ss kept ms hs out last k named i at cells ms₂ hs₂ out₂ (row + n) m
@@ -262,7 +263,7 @@ module _ {t ss kept ms hs out : List ℕ} {last k named i at : ℕ} {cells ms₁
         rw (x .column .after, rows-kept t ss ms₁ ms₂ (last - (row + n)) (row + n) (x .masks .after)) in
         let many : length (rowsIn t ss ms₁ row (row + n)) ≡ n = rows-length t ss ms₁ (row + n - row) row ∙ omega arith in
         let y = same-plans kept fs-here (row + n) i same (plan .plans) (rw many at (plan .all-follow)) in
-        let size : length out₂ ≡ 6082 =
+        let size : length out₂ ≡ mostPlanCells =
         ap length (x .out-is) ∙ length-sets (set out₁ next c) (next + 1) (write (plan .plan))
         ∙ length-set out₁ next c ∙ g .rest .room .cells in
         let w = length-append (write (plan .plan)) (writes (plan .plans)) in (

@@ -8,7 +8,11 @@ ghost use lib.ListN.{length, take, drop};
 ghost use Rattle.builder.specs.Build.{BuiltInto, BuiltFrom};
 ghost use Rattle.least.specs.declared.By.{By};
 ghost use Rattle.builder.specs.code.Writing.{Known, Right, Put};
+ghost use Rattle.limits.specs.Limits.{keptCells, mostPlanCells};
 use least::By;
+use limits::KEPT_CELLS;
+use limits::PLAN_CELLS;
+use limits::RECORD_CELLS;
 use refusal::Input;
 use refusal::Reason;
 use refusal::Refusal;
@@ -25,8 +29,8 @@ pub enum BuildAnswer {
 }
 
 // The first cells of a plan, to the front of the room.
-fn copy(from: &[u32; 6082], size: usize, room: &mut [u32])
-    requires { ⌜ (size ≤ 6082) × (size ≤ length (now from)) × (size ≤ length (now room)) ⌝ }
+fn copy(from: &[u32; PLAN_CELLS], size: usize, room: &mut [u32])
+    requires { ⌜ (size ≤ mostPlanCells) × (size ≤ length (now from)) × (size ≤ length (now room)) ⌝ }
     ensures { λ _. ⌜ now (room .exit) ≡ take size (now (from .entry)) ++ drop size (now (room .entry)) ⌝ }
 {
     let mut i = 0;
@@ -38,8 +42,8 @@ fn copy(from: &[u32; 6082], size: usize, room: &mut [u32])
 
 // The answer for a plan that was written: its cells go to the front of the room where they fit; where they do not it is ROOM,
 // and nothing is written.
-fn put(from: &[u32; 6082], plan: Extent, room: &mut [u32]) -> BuildAnswer
-    requires { ⌜ (plan .cells ≤ 6082) × (plan .cells ≤ length (now from)) ⌝ }
+fn put(from: &[u32; PLAN_CELLS], plan: Extent, room: &mut [u32]) -> BuildAnswer
+    requires { ⌜ (plan .cells ≤ mostPlanCells) × (plan .cells ≤ length (now from)) ⌝ }
     ensures { λ r. ⌜ Put (now (from .entry)) (plan .cells) (plan .cost) (now (room .entry)) (now (room .exit)) r ⌝ }
 {
     let size = plan.cells;
@@ -64,7 +68,7 @@ fn build(
     kept: &[u32],
     room: &mut [u32],
 ) -> BuildAnswer
-    requires { ⌜ Known (now cells) read named × (length (now kept) ≡ 12288) ⌝ }
+    requires { ⌜ Known (now cells) read named × (length (now kept) ≡ keptCells) ⌝ }
     ensures { λ r. ⌜ ((by : By) (columns : List ℕ) → Right by columns (now (cells .entry)) read named (now (kept .entry))
         → BuiltInto by columns (now (cells .entry)) (now (room .entry)) (now (room .exit)) r) ⌝ }
 {
@@ -79,7 +83,7 @@ fn build(
                 });
             }
             let starts = read.starts;
-            let mut written = [0; 6082];
+            let mut written = [0; PLAN_CELLS];
             let plan = writer::write_plan(
                 cells,
                 &starts,
@@ -101,7 +105,7 @@ pub fn build_for(by: By, columns: &[u32], cells: &[u32], room: &mut [u32]) -> Bu
     ensures { λ r. ⌜ BuiltInto by (now (columns .entry)) (now (cells .entry)) (now (room .entry)) (now (room .exit)) r ⌝ }
 {
     let named = named_of(columns);
-    let mut kept = [0; 12288];
+    let mut kept = [0; KEPT_CELLS];
     let read = paircosts::fill(by, named.mask, cells, &mut kept[..], 64, 0);
     build(cells, read, named, &kept[..], room)
 }
@@ -116,7 +120,7 @@ pub fn build_plan(by: By, cells: &[u32], room: &mut [u32]) -> BuildAnswer
 
 // The same for the table of a record, by its figure (02, W-207). The table is read again, so that its rows are right whatever
 // the rest holds; nothing is worked out, and of any record at all what is written is a plan of its table.
-pub fn build_from(rec: &[u32; 14340], room: &mut [u32]) -> BuildAnswer
+pub fn build_from(rec: &[u32; RECORD_CELLS], room: &mut [u32]) -> BuildAnswer
     ensures { λ r. ⌜ BuiltFrom (now (rec .entry)) (now (room .entry)) (now (room .exit)) r ⌝ }
 {
     let cells = record::table_of(rec);

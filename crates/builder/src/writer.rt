@@ -15,6 +15,9 @@ ghost use Rattle.state.specs.code.First.{TableRows};
 ghost use Rattle.least.specs.code.Follow as follow;
 ghost use Rattle.builder.specs.code.Writing.{openIn, chain, ToWrite, ToWriteAll, Written, Planned};
 ghost use Rattle.builder.specs.code.Ahead.{AheadIn, ToCloseRow, ClosedRow, ToClose, ClosedAhead, Again, ToTake, Taken};
+ghost use Rattle.limits.specs.Limits.{keptCells, mostPlanCells, mostRows};
+use limits::PLAN_CELLS;
+use limits::ROWS;
 use state::column::run_count;
 use state::column::run_length;
 use state::column::same_symbol;
@@ -38,13 +41,13 @@ struct Rows {
 // itself everywhere, and is not looked at.
 fn agreed_at(
     table: &[u32],
-    starts: &[usize; 64],
-    masks: &[u32; 64],
+    starts: &[usize; ROWS],
+    masks: &[u32; ROWS],
     i: u32,
     first: usize,
     end: usize,
 ) -> bool
-    requires { ⌜ (first < end) × (end ≤ 64) ⌝ }
+    requires { ⌜ (first < end) × (end ≤ mostRows) ⌝ }
     ensures { λ r. ⌜ r ≡ eqb (runCount (map (root i)
         (rowsIn (now (table .entry)) (now (starts .entry)) (now (masks .entry)) first end))) 1 ⌝ }
 {
@@ -74,8 +77,14 @@ fn within(place: u32, opens: usize) -> u32
 // The leftmost place from `from` on that may be chosen and that all rows agree on, and the number of open places where there is none. The
 // terms before `from` are passed: `ahead` has the masks of the cells after them. While a place inside a named column is open, an agreed
 // place outside them is passed over.
-fn leftmost(table: &[u32], starts: &[usize; 64], ahead: &[u32; 64], rows: Rows, from: u32) -> u32
-    requires { ⌜ (rows .first < rows .end) × (rows .end ≤ 64) × (rows .opens ≤ 32) × (rows .named < 2 ^ rows .opens) ⌝ }
+fn leftmost(
+    table: &[u32],
+    starts: &[usize; ROWS],
+    ahead: &[u32; ROWS],
+    rows: Rows,
+    from: u32,
+) -> u32
+    requires { ⌜ (rows .first < rows .end) × (rows .end ≤ mostRows) × (rows .opens ≤ 32) × (rows .named < 2 ^ rows .opens) ⌝ }
     ensures { λ r. ⌜ ((ms : List ℕ) → AheadIn (now (table .entry)) (now (starts .entry)) ms (now (ahead .entry)) from (rows .first) (rows .end)
         → r ≡ follow.agreedFrom (flagsIn (rows .opens) (rows .named)) (rows .opens - from) from
         (rowsIn (now (table .entry)) (now (starts .entry)) ms (rows .first) (rows .end))) ⌝ }
@@ -113,9 +122,9 @@ fn close_row(table: &[u32], start: usize, mask: u32, ahead: u32, i: u32) -> Row
 // The same for the rows from first to before end.
 fn close_ahead(
     table: &[u32],
-    starts: &[usize; 64],
-    masks: &mut [u32; 64],
-    ahead: &mut [u32; 64],
+    starts: &[usize; ROWS],
+    masks: &mut [u32; ROWS],
+    ahead: &mut [u32; ROWS],
     i: u32,
     first: usize,
     end: usize,
@@ -136,7 +145,7 @@ fn close_ahead(
 
 // Where to go on looking once place i is closed. The places before it are still not agreed; but with flags set another may become free to be
 // chosen, so that all are looked at again.
-fn again(named: u64, i: u32, masks: &[u32; 64], ahead: &mut [u32; 64]) -> u32
+fn again(named: u64, i: u32, masks: &[u32; ROWS], ahead: &mut [u32; ROWS]) -> u32
     ensures { λ r. ⌜ Again named i (now (masks .entry)) (now (ahead .entry)) (now (ahead .exit)) r ⌝ }
 {
     if named == 0 {
@@ -157,9 +166,9 @@ struct Reached {
 // once, since those before a place that is taken are passed.
 fn agreed(
     table: &[u32],
-    starts: &[usize; 64],
-    masks: &mut [u32; 64],
-    out: &mut [u32; 6082],
+    starts: &[usize; ROWS],
+    masks: &mut [u32; ROWS],
+    out: &mut [u32; PLAN_CELLS],
     rows: Rows,
     at: usize,
 ) -> Reached
@@ -202,8 +211,8 @@ fn agreed(
 }
 
 // A leaf at a place: its number of rows. The place after it.
-fn leaf(out: &mut [u32; 6082], rows: usize, at: usize) -> usize
-    requires { ⌜ (rows ≤ 64) × (at < 6082) ⌝ }
+fn leaf(out: &mut [u32; PLAN_CELLS], rows: usize, at: usize) -> usize
+    requires { ⌜ (rows ≤ mostRows) × (at < mostPlanCells) ⌝ }
     ensures { λ r. ⌜ (r ≡ at + 1) × (now (out .exit) ≡ set (now (out .entry)) at rows) ⌝ }
 {
     out[at] = rows as u32;
@@ -212,8 +221,8 @@ fn leaf(out: &mut [u32; 6082], rows: usize, at: usize) -> usize
 
 // The plan of a state with one row, where no open place is inside a named column: its open cells in order, each the one branch of the
 // leftmost place, and then the leaf. A row that is alone needs no column and no run, and goes down with no call.
-fn alone(table: &[u32], start: usize, mask: u32, out: &mut [u32; 6082], at: usize) -> usize
-    requires { ⌜ (length (now out) ≡ 6082) × (at + length (chain (openIn (now table) start mask)) ≤ 6082) ⌝ }
+fn alone(table: &[u32], start: usize, mask: u32, out: &mut [u32; PLAN_CELLS], at: usize) -> usize
+    requires { ⌜ (length (now out) ≡ mostPlanCells) × (at + length (chain (openIn (now table) start mask)) ≤ mostPlanCells) ⌝ }
     ensures { λ r. ⌜ (r ≡ at + length (chain (openIn (now (table .entry)) start mask)))
         × (now (out .exit) ≡ sets (now (out .entry)) at (chain (openIn (now (table .entry)) start mask))) ⌝ }
 {
@@ -244,11 +253,11 @@ fn alone(table: &[u32], start: usize, mask: u32, out: &mut [u32; 6082], at: usiz
 // kept for the first and last row is taken.
 fn state(
     table: &[u32],
-    starts: &[usize; 64],
-    masks: &mut [u32; 64],
-    column: &mut [u32; 64],
+    starts: &[usize; ROWS],
+    masks: &mut [u32; ROWS],
+    column: &mut [u32; ROWS],
     kept: &[u32],
-    out: &mut [u32; 6082],
+    out: &mut [u32; PLAN_CELLS],
     rows: Rows,
     at: usize,
 ) -> usize
@@ -271,7 +280,7 @@ fn state(
         return leaf(out, end - first, next);
     }
     let last = end - 1;
-    let pair = 64 * first + last;
+    let pair = ROWS * first + last;
     let i = within(kept[8192 + pair], opens);
     close_rows(table, starts, masks, column, i, first, end);
     let cells = &column[..];
@@ -292,11 +301,11 @@ fn state(
 // beside its symbol's arguments. The flags are those of the state, place i among them.
 fn branches(
     table: &[u32],
-    starts: &[usize; 64],
-    masks: &mut [u32; 64],
-    column: &mut [u32; 64],
+    starts: &[usize; ROWS],
+    masks: &mut [u32; ROWS],
+    column: &mut [u32; ROWS],
     kept: &[u32],
-    out: &mut [u32; 6082],
+    out: &mut [u32; PLAN_CELLS],
     rows: Rows,
     i: u32,
     at: usize,
@@ -339,20 +348,20 @@ pub struct Extent {
 // the named ones among them as bits. What it costs is kept for the pair of the first row and the last.
 pub fn write_plan(
     table: &[u32],
-    starts: &[usize; 64],
+    starts: &[usize; ROWS],
     kept: &[u32],
-    out: &mut [u32; 6082],
+    out: &mut [u32; PLAN_CELLS],
     named: u64,
     width: usize,
     count: usize,
 ) -> Extent
-    requires { ⌜ TableRows (now table) (now starts) width count × (named < 2 ^ width) × (length (now kept) ≡ 12288)
-        × (length (now out) ≡ 6082) ⌝ }
+    requires { ⌜ TableRows (now table) (now starts) width count × (named < 2 ^ width) × (length (now kept) ≡ keptCells)
+        × (length (now out) ≡ mostPlanCells) ⌝ }
     ensures { λ r. ⌜ ((k : TableRows (now (table .entry)) (now (starts .entry)) width count)
         → Planned (k .table) named (now (kept .entry)) (now (out .exit)) (r .cells) (r .cost)) ⌝ }
 {
     let mut masks = open_rows(starts, count, table.len());
-    let mut column = [0u32; 64];
+    let mut column = [0u32; ROWS];
     let all = Rows {
         first: 0,
         end: count,

@@ -1,5 +1,7 @@
 // What is said of a card's bytes: what it holds, or why it is refused.
 use filing::FileAnswer;
+use limits::PLAN_CELLS;
+use limits::TABLE_CELLS;
 use refusal::Refusal;
 use slices::cells::part;
 
@@ -11,8 +13,8 @@ pub enum Checked {
 
 // After the card's name. 2,050 and 6,082 cells are enough for every table and plan.
 pub fn put_checked(out: &mut [u8], to: usize, file: &[u8]) -> Checked {
-    let mut table = [0u32; 2050];
-    let mut plan = [0u32; 6082];
+    let mut table = [0u32; TABLE_CELLS];
+    let mut plan = [0u32; PLAN_CELLS];
     match filereading::read_file(file, &mut table, &mut plan) {
         FileAnswer::Done(n, m) => Checked::Whole(put_held(
             out,

@@ -3,6 +3,8 @@ ghost use Prim.Native.Nat.{_+_, _≤_};
 ghost use lib.ListN.{length};
 use cardmake::Made;
 use filing::FileAnswer;
+use limits::PLAN_CELLS;
+use limits::TABLE_CELLS;
 use octets::put_word;
 use page::Page;
 use reading::Got;
@@ -56,8 +58,8 @@ fn say(path: &[u8], file: &[u8], card: &mut [u8], out: &mut [u8]) -> Made {
 // 2,050 and 6,082 cells are enough for every table and plan, 2,048 numbers for the blocks of a file that is looked at. What was saved is not refused
 // when it is written, and a room of 33,792 bytes is enough for every card.
 pub fn put_mended(out: &mut [u8], path: &[u8], file: &[u8], card: &mut [u8]) -> Mended {
-    let mut table = [0u32; 2050];
-    let mut plan = [0u32; 6082];
+    let mut table = [0u32; TABLE_CELLS];
+    let mut plan = [0u32; PLAN_CELLS];
     let mut bad = [0usize; 2048];
     match salvage::salvage(file, &mut table, &mut plan, &mut bad) {
         Salvage::Saved(r) => {

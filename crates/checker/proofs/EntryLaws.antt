@@ -27,6 +27,7 @@ use Rattle.checker.specs.Checked.{planSays}
 use Rattle.checker.specs.code.Steps.{namedPlan, saidBy, Ready, Done}
 use Rattle.checker.specs.declared.check.Step.{Step}
 use Rattle.checker.specs.declared.check.Step.the-variants as step
+use Rattle.limits.specs.Limits.{mostPlanCells}
 
 -- The table is turned away.
 pub table-refused : (t columns p : List ℕ) (f : Refused) → tableOf t ≡ refuse f → turned f ≡ planSays (planUnder t columns p)
@@ -49,7 +50,7 @@ module _ {t ss : List ℕ} {w n : ℕ} (k : TableRows t ss w n) (mask past : ℕ
     turned-plan x e q = ap turned q ∙ says-plan (refuse x) e
 
     -- SIZE
-    pub entry-size : {x : Refused} → 6082 < length p → x ≡ bad reason.Size 0 → turned x ≡ planSays (namedPlan mask past t p)
+    pub entry-size : {x : Refused} → mostPlanCells < length p → x ≡ bad reason.Size 0 → turned x ≡ planSays (namedPlan mask past t p)
     entry-size h = turned-plan (bad reason.Size 0) (plan-size fs (k .table) p h)
 
     module _ {ms : List ℕ} (o : OpenRows ss n (length t) ms) {hs : List ℕ} where
@@ -62,7 +63,7 @@ module _ {t ss : List ℕ} {w n : ℕ} (k : TableRows t ss w n) (mask past : ℕ
         flags = omega (arith, pow-mono {i = past} below);
       }
 
-      module _ (h : length p ≤ 6082) {ms′ hs′ : List ℕ} {r : Step} (d : Done t ss ms hs ms′ hs′ p 0 n mask w 0 r) where
+      module _ (h : length p ≤ mostPlanCells) {ms′ hs′ : List ℕ} {r : Step} (d : Done t ss ms hs ms′ hs′ p 0 n mask w 0 r) where
         says : stateFrom 32 fs (k .table .width) (k .table .rows) 0 p ≡ saidBy p r
         says = rw (k .width, rows-open k o) at (d .says)
 
@@ -79,7 +80,7 @@ module _ {t ss : List ℕ} {w n : ℕ} (k : TableRows t ss w n) (mask past : ℕ
         unfolding planWith
         entry-accepted {b} {e} q l =
             let s = says ∙ ap (saidBy p) q in
-            says-plan (read b) (rw (le-ltb 6082 (length p) h, s, drop-of-length-le p l))
+            says-plan (read b) (rw (le-ltb mostPlanCells (length p) h, s, drop-of-length-le p l))
 
 -- A LIST'S mask and the largest of its numbers are the list, for every table that is read
 named-under : (t columns p : List ℕ) → namedPlan (maskFrom 0 columns) (pastFrom 0 columns) t p ≡ planUnder t columns p

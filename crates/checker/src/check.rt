@@ -6,6 +6,8 @@ ghost use Rattle.plan.specs.Check.{bad};
 ghost use Rattle.plan.specs.code.Fits.{Fits};
 ghost use Rattle.state.specs.Mask.{kept};
 ghost use Rattle.checker.specs.code.Steps.{LeafDone, AloneDone, Ready, ReadyIn, Done, DoneIn};
+ghost use Rattle.limits.specs.Limits.{mostRowCells};
+use limits::ROWS;
 use refusal::Input;
 use refusal::Reason;
 use refusal::Refusal;
@@ -49,7 +51,7 @@ fn leaf(plan: &[u32], rows: usize, count: usize, at: usize) -> Step
 // A state with one row, at place `at` of the plan, with k open places, none of them inside a named column: a chain of single branches, one
 // for each cell that the row still has, down to its leaf. A row that is alone needs no column and no run, and goes down with no call.
 fn alone(table: &[u32], start: usize, mask: u32, plan: &[u32], k: usize, at: usize) -> Step
-    requires { ⌜ Fits 32 k (kept mask (drop start (now table))) ⌝ }
+    requires { ⌜ Fits mostRowCells k (kept mask (drop start (now table))) ⌝ }
     ensures { λ r. ⌜ AloneDone (now (table .entry)) start mask (now (plan .entry)) k at r ⌝ }
 {
     let mut left = mask;
@@ -93,9 +95,9 @@ fn alone(table: &[u32], start: usize, mask: u32, plan: &[u32], k: usize, at: usi
 // of its rows.
 pub fn state(
     table: &[u32],
-    starts: &[usize; 64],
-    masks: &mut [u32; 64],
-    column: &mut [u32; 64],
+    starts: &[usize; ROWS],
+    masks: &mut [u32; ROWS],
+    column: &mut [u32; ROWS],
     plan: &[u32],
     first: usize,
     end: usize,
@@ -152,9 +154,9 @@ pub fn state(
 // beside its symbol's arguments, which are inside the column of their place.
 fn branches(
     table: &[u32],
-    starts: &[usize; 64],
-    masks: &mut [u32; 64],
-    column: &mut [u32; 64],
+    starts: &[usize; ROWS],
+    masks: &mut [u32; ROWS],
+    column: &mut [u32; ROWS],
     plan: &[u32],
     first: usize,
     end: usize,

@@ -11,6 +11,8 @@ ghost use Rattle.checker.specs.Checked.{planSays, planTold};
 ghost use Rattle.checker.specs.code.Steps.{namedPlan};
 ghost use Rattle.state.specs.code.First.{TableRows};
 use check::Step;
+use limits::PLAN_CELLS;
+use limits::ROWS;
 use refusal::Input;
 use refusal::Reason;
 use refusal::Refusal;
@@ -38,7 +40,7 @@ fn no_column() -> Refusal
 // The check of a plan for a table that is read: COLUMN, SIZE, the first state, EXTRA.
 fn check_rows(
     table: &[u32],
-    starts: &[usize; 64],
+    starts: &[usize; ROWS],
     width: usize,
     rows: usize,
     named: Named,
@@ -50,11 +52,11 @@ fn check_rows(
     if width < named.past {
         return PlanAnswer::Refused(no_column());
     }
-    if 6082 < plan.len() {
+    if PLAN_CELLS < plan.len() {
         return PlanAnswer::Refused(check::refusal(Reason::Size, 0));
     }
     let mut masks = state::mask::open_rows(starts, rows, table.len());
-    let mut column = [0u32; 64];
+    let mut column = [0u32; ROWS];
     match check::state(
         table,
         starts,

@@ -41,6 +41,7 @@ use Rattle.dudowiej.proofs.Back.{goal-text-back, answer-back}
 use Rattle.demands.specs.Asking.{IsAsked, Roomy, Gives, GoalTurned, ReadsGoal, AnswerTurned, PutsAnswer, ReadsBack}
 use Rattle.demands.specs.Asking as asks
 use Rattle.demands.proofs.Cited.{clash, turned-one, answered-one}
+use Rattle.limits.specs.Limits.{mostReplyCells}
 
 -- A GOAL
 
@@ -187,7 +188,7 @@ same-said : (names goal new cells : List ℕ) {text : List ℕ} {p q : Predicate
 same-said names goal new cells {text} a b = ap (λ (p : Predicate). saidIn text names goal new p cells) (predicate-of-fixed a b)
 
 module _ {text names goal new cells room room′ : List ℕ} {r : AnswerText} where
-  said-there : AnswerInto text names goal new cells room room′ r → (p : Predicate) → length cells ≤ 1024 → PredicateIs text p
+  said-there : AnswerInto text names goal new cells room room′ r → (p : Predicate) → length cells ≤ mostReplyCells → PredicateIs text p
       → length (saidIn text names goal new p cells) ≤ length room
       → (answerTold r ≡ answered (length cells) (length (saidIn text names goal new p cells)))
       × (room′ ≡ front (saidIn text names goal new p cells) room)

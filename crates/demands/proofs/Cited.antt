@@ -56,6 +56,7 @@ use Rattle.demands.specs.Kind.{There, Missing, NoneOrAll}
 use Rattle.demands.specs.Demands.{BuildTurned, no-figure, no-table, no-column, no-room, RunTurned, bad-table, bad-plan, bad-goal, bad-room}
 use Rattle.demands.specs.Demands.{Answers, Demand2, TriedFew, Writes, Demand3Check, Demand3Run, LeastBy, LeastFor, Demand3Build}
 use Rattle.demands.proofs.KindLaws.{Listed, one-missing, all-there, listed, missing-past, there-past, past-there, free-flags}
+use Rattle.limits.specs.Limits.{mostPlanCells}
 
 -- Refusals.
 
@@ -253,7 +254,7 @@ module _ {by : By} {columns t room room′ : List ℕ} {r : BuildAnswer} where
   pub build-kept : BuiltInto by columns t room room′ r → Demand1Build by columns t room room′ (buildTold r)
   build-kept b = record { refuses = build-is-turned b; untouched = build-writes-nothing b }
 
-  pub builds : (w : ℕ) (rows : List (List ℕ)) → measureOf by .figure ≤ 15 → IsTable t w rows → There w columns → 6082 ≤ length room
+  pub builds : (w : ℕ) (rows : List (List ℕ)) → measureOf by .figure ≤ 15 → IsTable t w rows → There w columns → mostPlanCells ≤ length room
       → BuiltInto by columns t room room′ r → (n : ℕ) × (cost : ℕ) × (buildTold r ≡ answered n cost)
   builds w rows s i h l (table-refused g a x c) = apart (sym (for-there by columns t s (reads i) h) ∙ a)
   builds w rows s i h l (room-refused T plan a u z x c) =

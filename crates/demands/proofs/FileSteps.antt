@@ -31,6 +31,7 @@ use Rattle.filing.proofs.WriteLaws.{file-size}
 use Rattle.filing.proofs.ReadingLaws.{good-from, no-byte, no-blocks, damaged, other-sizes, not-zeros, all-tests}
 use Rattle.demands.specs.Files.{Whole, SoundAt, FirstBad, AllSound, BlockCells, Sized, padding, Padded, tableOn, planOn, Holds}
 use Rattle.demands.proofs.Cited.{writes, tree-read}
+use Rattle.limits.specs.Limits.{mostPlanCells, mostTableCells}
 
 -- A block that is sound by the code's test is sound by 02's words,
 pub sound-at : (f : List ℕ) (k : ℕ) → sound k (blockAt f k) ≡ true → SoundAt f k
@@ -255,7 +256,7 @@ module _ (f : List ℕ) where
       go (inr a) (inr b) = let d = eqb-false (length f % 512) 0 b in as-blocks (inr d) (no-blocks f d)
 
 -- the cells of a written file
-pub written-cells : (t p : List ℕ) → Words t → Words p → (length t ≤ 2050) × (length p ≤ 6082)
+pub written-cells : (t p : List ℕ) → Words t → Words p → (length t ≤ mostTableCells) × (length p ≤ mostPlanCells)
     → (goodCells (fileOf t p) 0 ≡ filled (stream t p)) × (whole (fileOf t p) ≡ needed (length (stream t p)))
 written-cells t p v w z =
     let s = stream t p in

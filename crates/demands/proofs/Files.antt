@@ -41,6 +41,7 @@ use Rattle.demands.proofs.Cited.{clash, turned-one, answered-one, write
 use Rattle.demands.proofs.FileSteps.{is-damaged, is-other-sizes, is-not-zero, is-refused, is-card, table-first, looked}
 use Rattle.demands.proofs.FileSteps.{block-cells, written-cells}
 use Rattle.demands.proofs.FileSteps.{Looked, as-blocks, as-damage, as-sizes, as-padding, as-table, as-plan, as-card}
+use Rattle.limits.specs.Limits.{mostPlanCells}
 
 -- Writing.
 
@@ -152,7 +153,7 @@ held-again f {t} {p} by h room after a w l =
       v .wrote l′ ∙ ap (λ (g : List ℕ). g ++ drop (length g) room) again,
     )
 
-pub room-small : (n : ℕ) → n ≤ 6082 → cut (noRoom n) ≡ noRoom n
+pub room-small : (n : ℕ) → n ≤ mostPlanCells → cut (noRoom n) ≡ noRoom n
 room-small n h = cut-small (noRoom n) (refused-small reason.Room input.Lent n (omega arith))
 
 -- the check's refusals are not cut

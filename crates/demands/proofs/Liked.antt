@@ -57,6 +57,7 @@ use Rattle.demands.specs.Demands.{LeastBy, LeastFor}
 use Rattle.demands.specs.Liked.{Total, LikedBest, LikedTurned, no-figure, no-table, no-room, LikesMost, BuildsLiked}
 use Rattle.demands.proofs.KindLaws.{there-past, past-there, listed-occurs, occurs-listed}
 use Rattle.demands.proofs.Cited.{clash, turned-one, answered-one, reads, TakenBy, too-much, small, taken-by, builds, least-of, plain-of, build-writes-nothing}
+use Rattle.limits.specs.Limits.{mostPlanCells}
 
 -- Totals.
 
@@ -243,7 +244,7 @@ module _ {by : By} {t goals list room room′ liked liked′ : List ℕ} {r : Bu
   kept f (likes.table-refused g a e c d) q = (c, d)
   kept f (likes.found T mask total plain d x b w) q = (build-writes-nothing b f q, w ∙ rw q)
 
-  made : (width : ℕ) (rows : List (List ℕ)) → measureOf by .figure ≤ 15 → IsTable t width rows → 6082 ≤ length room → LikedInto by t goals list room room′ liked liked′ r
+  made : (width : ℕ) (rows : List (List ℕ)) → measureOf by .figure ≤ 15 → IsTable t width rows → mostPlanCells ≤ length room → LikedInto by t goals list room room′ liked liked′ r
       → (n : ℕ) × (cost : ℕ) × (buildTold r ≡ answered n cost)
   made width rows l i h (likes.table-refused g a e c d) = apart (sym (by-table by t l ∙ reads i) ∙ a)
   made width rows l i h (likes.found T mask total plain d x b w) =

@@ -35,6 +35,7 @@ use Rattle.dudowiej.specs.Coded.{RunCoded, RepliesCoded}
 use Rattle.dudowiej.proofs.Back.{run-back, replies-back}
 use Rattle.demands.specs.Replies.{RepliesTurned, bad-table, bad-plan, bad-goal, big, bad-room, RepliesRefused, Said, Says}
 use Rattle.demands.proofs.Cited.{clash, turned-one, answered-one, reads, writes, tree-read}
+use Rattle.limits.specs.Limits.{mostReplyCells}
 
 -- BIG is not ROOM
 not-room : {k : ℕ} → turned (refused reason.Big input.Goal 0) ≡ turned (refused reason.Room input.Lent k) → ⊥
@@ -118,7 +119,7 @@ asked-by t p g {T} a =
     record { is = i; tree = s .tree; cells = s .cells; goal = is-goal }
 
 -- under a table, a plan and a goal: what the three cases say of BIG, of ROOM and of the replies
-enough-cells : {g : List ℕ} {rows all : List (List ℕ)} → Replies g rows all → All Short all → length (flatten all) ≤ length rows * 1024
+enough-cells : {g : List ℕ} {rows all : List (List ℕ)} → Replies g rows all → All Short all → length (flatten all) ≤ length rows * mostReplyCells
 enough-cells {all = all} w s = omega (arith, replies-few w, short-flat all s)
 
 module _ {g room room′ : List ℕ} {answer : Answer} {rows all : List (List ℕ)} (w : Replies g rows all) where

@@ -37,6 +37,7 @@ use Rattle.demands.proofs.Files.{room-small, held-again}
 use Rattle.demands.proofs.SalvageSteps.{sound-block, is-headed, headed, sizes-of, good-some, kept-longest, longest-kept, with-kept}
 use Rattle.demands.proofs.SalvageSteps.{run-table, plan-out, plan-had}
 use Rattle.demands.proofs.BadSteps.{bad-blocks, bad-few, bad-one}
+use Rattle.limits.specs.Limits.{mostPlanCells}
 
 -- What crate salvaging says of a file is what 02's words say,
 module _ (f : List ℕ) (h : noHead f ≡ false) (s : 1 ≤ length (kept f)) where
@@ -98,10 +99,10 @@ module _ {f : List ℕ} {rows : List (List ℕ)} (k : Kept f rows) where
   abbrev is-kept : IsTable (tableWith f rows) (widthOn f) rows
   is-kept = run-table f (k .head) rows (k .are .run) (k .some)
 
-  table-few : length (tableWith f rows) ≤ 6082
+  table-few : length (tableWith f rows) ≤ mostPlanCells
   table-few = omega (arith, tables.table-short (tableWith f rows) (reads is-kept))
 
-  plan-few : {number : ℕ} {cells : List ℕ} → PlanOut f rows number cells → length cells ≤ 6082
+  plan-few : {number : ℕ} {cells : List ℕ} → PlanOut f rows number cells → length cells ≤ mostPlanCells
   plan-few (old {cells} x) = accepted-sizes (tableWith f rows) cells (tree-read is-kept (x .tree) (x .written)) .1
   plan-few (new {cells} cost none x) = accepted-sizes (tableWith f rows) cells (x .checked) .1
 

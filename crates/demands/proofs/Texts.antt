@@ -33,6 +33,7 @@ use Rattle.dudowiej.specs.Coded.{TextCoded}
 use Rattle.dudowiej.proofs.Back.{text-back}
 use Rattle.demands.specs.Texts.{TextTurned, Request201, Sizes, NamesListed, ZeroInFront, ZeroAfterMinus, Nine}
 use Rattle.demands.specs.Texts as texts
+use Rattle.limits.specs.Limits.{mostTextBytes}
 
 -- "and the reading is unique"
 pub reading-unique : (text : List ℕ) {facts others : List Fact} → Text text facts → Text text others → facts ≡ others
@@ -64,7 +65,7 @@ sizes text facts x =
     record { some-fact = text-some x; some-argument = λ f m. text-wide x m; at-most-4 = λ s e args m. text-few x m }
 
 -- "a list of where each name first stands in the text, start and bytes"
-pub names-first : (text : List ℕ) (facts : List Fact) → length text ≤ 65535 → Text text facts → NamesListed text facts (nameList text facts)
+pub names-first : (text : List ℕ) (facts : List Fact) → length text ≤ mostTextBytes → Text text facts → NamesListed text facts (nameList text facts)
 names-first text facts h x =
     record {
       first = λ k entry i. entry-first x h i;
@@ -84,7 +85,7 @@ unfolding textOf run step finish layout isBlank put close past isLower isUpper i
 nine = record { with-zero = grammar.accepted _ _ .0 refl; without = grammar.accepted _ _ .0 refl }
 
 -- facts of one predicate and width
-alike : {text : List ℕ} (fs : List Fact) → length text ≤ 65535 → Text text fs → OtherAmong text fs none → Taken text (read fs)
+alike : {text : List ℕ} (fs : List Fact) → length text ≤ mostTextBytes → Text text fs → OtherAmong text fs none → Taken text (read fs)
 alike {text} fs h x o = taken h x (other-among text fs none .0 o)
 
 -- the refusals, as the promise has them and as the request lists them

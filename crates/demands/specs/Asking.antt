@@ -23,6 +23,7 @@ use Rattle.termtext.specs.declared.Predicate.{Predicate}
 use Rattle.termtext.specs.Saying.{wordsIn, wordsOf, predicateIn, saidIn, known}
 use Rattle.termtext.specs.Goal.{Whole, NoGoal, Ours, Goal, Asks, GoalRead}
 use Rattle.goaltext.specs.Asked.{PredicateIs}
+use Rattle.limits.specs.Limits.{mostGoalBytes, mostNames, mostReplyCells}
 
 -- A GOAL'S TEXT
 
@@ -31,8 +32,8 @@ use Rattle.goaltext.specs.Asked.{PredicateIs}
 pub record IsAsked (text names t : List ℕ) (goal : Goal) : Type 0 where
   pub p : Predicate
   pub predicate : PredicateIs text p
-  pub listed : length names ≤ 2048
-  pub bytes : length t ≤ 65533
+  pub listed : length names ≤ mostNames
+  pub bytes : length t ≤ mostGoalBytes
   pub asks : Asks (wordsIn text names) (predicateIn text p) (p .width) t goal
   pub is-goal : IsGoal (p .width) (goal .cells)
 
@@ -50,13 +51,13 @@ pub record Gives (goal : Goal) (cells cells′ new new′ : List ℕ) (answer : 
 -- what turns a goal's text away, in this order, and the refusal that it gets: LENGTH of a list of over 2,048 names; BYTES; TEXT; OTHER where the
 -- first fact begins; 01's of a goal; ROOM, of the cells first, then of the new names
 pub data GoalTurned (text names t cells new : List ℕ) : Refused → Type 0 where
-  too-many : 2048 < length names → GoalTurned text names t cells new (refused reason.Length input.Table 0)
-  bytes : length names ≤ 2048 → 65533 < length t → GoalTurned text names t cells new (refused reason.Bytes input.Text 0)
-  no-text : (k : ℕ) → length names ≤ 2048 → length t ≤ 65533 → NoGoal t k → GoalTurned text names t cells new (refused reason.Text input.Text k)
-  other : (p : Predicate) (whole : List ℕ) (f : Fact) (fs : List Fact) → length names ≤ 2048 → length t ≤ 65533 → PredicateIs text p
+  too-many : mostNames < length names → GoalTurned text names t cells new (refused reason.Length input.Table 0)
+  bytes : length names ≤ mostNames → mostGoalBytes < length t → GoalTurned text names t cells new (refused reason.Bytes input.Text 0)
+  no-text : (k : ℕ) → length names ≤ mostNames → length t ≤ mostGoalBytes → NoGoal t k → GoalTurned text names t cells new (refused reason.Text input.Text k)
+  other : (p : Predicate) (whole : List ℕ) (f : Fact) (fs : List Fact) → length names ≤ mostNames → length t ≤ mostGoalBytes → PredicateIs text p
       → Whole t whole (f ∷ fs) → (Ours (predicateIn text p) (p .width) whole f fs → ⊥)
       → GoalTurned text names t cells new (refused reason.Other input.Text (f .start))
-  no-goal : (p : Predicate) (goal : Goal) (refusal : Refused) → length names ≤ 2048 → length t ≤ 65533 → PredicateIs text p
+  no-goal : (p : Predicate) (goal : Goal) (refusal : Refused) → length names ≤ mostNames → length t ≤ mostGoalBytes → PredicateIs text p
       → Asks (wordsIn text names) (predicateIn text p) (p .width) t goal → goalOf (p .width) (goal .cells) ≡ refuse refusal
       → GoalTurned text names t cells new refusal
   no-cells : (goal : Goal) → IsAsked text names t goal → length cells < length (goal .cells)
@@ -73,21 +74,21 @@ pub record ReadsGoal (text names t cells cells′ new new′ : List ℕ) (answer
   pub room : (goal : Goal) (place : ℕ) → IsAsked text names t goal → answer ≡ turned (refused reason.Room input.Lent place)
       → (length cells < place → place ≡ length (goal .cells)) × (place ≤ length cells → place ≡ length (goal .new))
   -- facts that are refused have no predicate: every text of a goal is OTHER
-  pub none : (g : Refused) (whole : List ℕ) (f : Fact) (fs : List Fact) → Taken text (refuse g) → length names ≤ 2048 → length t ≤ 65533
+  pub none : (g : Refused) (whole : List ℕ) (f : Fact) (fs : List Fact) → Taken text (refuse g) → length names ≤ mostNames → length t ≤ mostGoalBytes
       → Whole t whole (f ∷ fs) → answer ≡ turned (refused reason.Other input.Text (f .start))
 
 -- AN ANSWER'S TEXT
 
 -- what turns an answer away, and the refusal that it gets: BIG, for no reply has over 1,024 cells (W-203); then ROOM
 pub data AnswerTurned (text names goal new cells room : List ℕ) : Refused → Type 0 where
-  big : 1024 < length cells → AnswerTurned text names goal new cells room (refused reason.Big input.Goal 0)
-  no-room : (p : Predicate) → length cells ≤ 1024 → PredicateIs text p → length room < length (saidIn text names goal new p cells)
+  big : mostReplyCells < length cells → AnswerTurned text names goal new cells room (refused reason.Big input.Goal 0)
+  no-room : (p : Predicate) → length cells ≤ mostReplyCells → PredicateIs text p → length room < length (saidIn text names goal new p cells)
       → AnswerTurned text names goal new cells room (refused reason.Room input.Lent (length (saidIn text names goal new p cells)))
 
 -- "the reply's cells to bytes": the text of an answer (termtext/specs/Saying) comes first in the room, the rest of which is kept; refused as above,
 -- with nothing written
 pub record PutsAnswer (text names goal new cells room room′ : List ℕ) (answer : Answer) : Type 0 where
-  pub says : (p : Predicate) → length cells ≤ 1024 → PredicateIs text p → length (saidIn text names goal new p cells) ≤ length room
+  pub says : (p : Predicate) → length cells ≤ mostReplyCells → PredicateIs text p → length (saidIn text names goal new p cells) ≤ length room
       → (answer ≡ answered (length cells) (length (saidIn text names goal new p cells)))
       × (room′ ≡ saidIn text names goal new p cells ++ drop (length (saidIn text names goal new p cells)) room)
   pub refuses : (f : Refused) → (answer ≡ turned f) ↔ AnswerTurned text names goal new cells room f

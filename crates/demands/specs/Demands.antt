@@ -25,6 +25,7 @@ use Rattle.least.specs.declared.By.{By}
 use Rattle.answer.specs.Skeleton.{hole}
 use Rattle.answer.specs.Run.{Ascends, Counts, skeletons, Tried}
 use Rattle.demands.specs.Kind.{There, Missing, NoneOrAll, OfKind}
+use Rattle.limits.specs.Limits.{mostPlanCells}
 
 -- DEMAND 1. "Every entry takes any cells at all and ends. .. Nobody has to check first." No public function has a `requires`, and that a
 -- function returns is part of what the checker proves of it. "A bad table, plan or goal is refused by the number and place document 01
@@ -166,7 +167,7 @@ pub record LeastFor (by : By) (columns cells plan : List ℕ) (cost : ℕ) : Typ
 -- plan": so this is demand 3 for the empty list
 pub record Demand3Build (by : By) (columns cells room after : List ℕ) (answer : Answer) : Type 0 where
   pub builds : (width : ℕ) (rows : List (List ℕ)) → measureOf by .figure ≤ 15 → IsTable cells width rows → There width columns
-      → 6082 ≤ length room → (n : ℕ) × (cost : ℕ) × (answer ≡ answered n cost)
+      → mostPlanCells ≤ length room → (n : ℕ) × (cost : ℕ) × (answer ≡ answered n cost)
   pub least : (n cost : ℕ) → answer ≡ answered n cost → LeastFor by columns cells (take n after) cost
   pub plain : (width : ℕ) (rows : List (List ℕ)) (n cost : ℕ) → IsTable cells width rows → NoneOrAll width columns
       → answer ≡ answered n cost → LeastBy by cells (take n after) cost

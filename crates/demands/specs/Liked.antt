@@ -26,6 +26,7 @@ use Rattle.sums.specs.Sums.{held}
 use Rattle.liked.specs.Liked.{columnsOf}
 use Rattle.demands.specs.Kind.{There}
 use Rattle.demands.specs.Demands.{LeastBy, LeastFor}
+use Rattle.limits.specs.Limits.{mostPlanCells}
 
 -- "the total tried over the list" by a plan: what W-202's records of the goals say that they tried, which is W-214's sum of the single runs.
 -- "Refused goals add nothing": a refused run tries 0
@@ -71,7 +72,7 @@ pub record LikesMost (by : By) (cells goals list room after liked liked′ : Lis
   pub refuses : (f : Refused) → (answer ≡ turned f) ↔ LikedTurned by cells goals list room f
   pub untouched : (f : Refused) → answer ≡ turned f → (after ≡ room) × (liked′ ≡ liked)
   -- given a small figure, a table and room for any plan it writes one
-  pub builds : (width : ℕ) (rows : List (List ℕ)) → measureOf by .figure ≤ 15 → IsTable cells width rows → 6082 ≤ length room
+  pub builds : (width : ℕ) (rows : List (List ℕ)) → measureOf by .figure ≤ 15 → IsTable cells width rows → mostPlanCells ≤ length room
       → (n : ℕ) × (cost : ℕ) × (answer ≡ answered n cost)
   -- "It answers the plan's cells and, in a record of its own, the columns as a mask, the total tried, and what the plain plan would have tried"
   pub best : (n cost : ℕ) → answer ≡ answered n cost → (mask : ℕ) × (total : ℕ) × (plain : ℕ) × (liked′ ≡ mask ∷ total ∷ plain ∷ [])

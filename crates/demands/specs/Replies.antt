@@ -14,6 +14,7 @@ use Rattle.table.specs.Table.{tableOf, goalOf, IsTable, IsGoal}
 use Rattle.plan.specs.Plans.{Plan, write}
 use Rattle.plan.specs.Check.{planOf}
 use Rattle.instance.specs.Reply.{Replies, Short, Large}
+use Rattle.limits.specs.Limits.{mostReplyCells}
 
 -- "Refusals: table, plan, goal, then ROOM when the lent cells are too few for all replies", and W-209, "W-203 gives BIG, before ROOM,
 -- exactly when a reply needs over 1,024 cells": what turns it away, and the refusal that it gets
@@ -51,7 +52,7 @@ pub record Said (rows : List (List ℕ)) (goal room after : List ℕ) (answer : 
   pub wrote : All Short all → length (flatten all) ≤ length room → after ≡ flatten all ++ drop (length (flatten all)) room
   -- so what is answered has at most 1,024 cells each, and so many for every row are always enough
   pub small : (n m : ℕ) → answer ≡ answered n m → All Short all
-  pub enough : All Short all → length (flatten all) ≤ length rows * 1024
+  pub enough : All Short all → length (flatten all) ≤ length rows * mostReplyCells
 
 abbrev pub Says : (cells plan goal room after : List ℕ) → Answer → Type 0
 Says cells plan goal room after answer =

@@ -20,10 +20,11 @@ use Rattle.grammar.specs.Stops.{Stops}
 use Rattle.grammar.specs.Meaning.{symbolsOf, tableCells, nameList, none, found}
 use Rattle.grammar.specs.Numbering.{Nth, FirstAt}
 use Rattle.grammar.specs.Other.{OtherAmong}
+use Rattle.limits.specs.Limits.{mostTextBytes}
 
 -- the text is one, of one predicate and width, and its table and its names fit the rooms
 pub record Fits (text cells names : List ℕ) (facts : List Fact) : Type 0 where
-  pub bytes : length text ≤ 65535
+  pub bytes : length text ≤ mostTextBytes
   pub reading : Text text facts
   pub alike : OtherAmong text facts none
   pub room : length (tableCells text facts) ≤ length cells
@@ -32,14 +33,14 @@ pub record Fits (text cells names : List ℕ) (facts : List Fact) : Type 0 where
 -- "Refusals in order: BYTES for over 65,535 bytes; TEXT at the first byte (or the end) where no accepted text could go on so; OTHER at the
 -- first fact of another predicate or width; ROOM; then 01's": what turns a text away, and the refusal that it gets
 pub data TextTurned (text cells names : List ℕ) : Refused → Type 0 where
-  bytes : 65535 < length text → TextTurned text cells names (refused reason.Bytes input.Text 0)
-  no-text : (k : ℕ) → length text ≤ 65535 → Stops text k → TextTurned text cells names (refused reason.Text input.Text k)
-  other : (facts : List Fact) (k : ℕ) → length text ≤ 65535 → Text text facts → OtherAmong text facts (found k)
+  bytes : mostTextBytes < length text → TextTurned text cells names (refused reason.Bytes input.Text 0)
+  no-text : (k : ℕ) → length text ≤ mostTextBytes → Stops text k → TextTurned text cells names (refused reason.Text input.Text k)
+  other : (facts : List Fact) (k : ℕ) → length text ≤ mostTextBytes → Text text facts → OtherAmong text facts (found k)
       → TextTurned text cells names (refused reason.Other input.Text k)
-  no-cells : (facts : List Fact) → length text ≤ 65535 → Text text facts → OtherAmong text facts none
+  no-cells : (facts : List Fact) → length text ≤ mostTextBytes → Text text facts → OtherAmong text facts none
       → length cells < length (tableCells text facts)
       → TextTurned text cells names (refused reason.Room input.Lent (length (tableCells text facts)))
-  no-names : (facts : List Fact) → length text ≤ 65535 → Text text facts → OtherAmong text facts none
+  no-names : (facts : List Fact) → length text ≤ mostTextBytes → Text text facts → OtherAmong text facts none
       → length (tableCells text facts) ≤ length cells → length names < length (nameList text facts)
       → TextTurned text cells names (refused reason.Room input.Lent (length (nameList text facts)))
   no-table : (facts : List Fact) (refusal : Refused) → Fits text cells names facts → tableOf (tableCells text facts) ≡ refuse refusal

@@ -29,6 +29,7 @@ ghost use Rattle.demands.specs.Salvage.{SalvageRefused, Salvages, Unchan
 ghost use Rattle.demands.specs.Asking.{ReadsGoal, PutsAnswer, ReadsBack};
 use cell::Shape;
 use instance::ReplyJob;
+use limits::RECORD_CELLS;
 use shift::Job;
 
 // Demand 1: reading.
@@ -38,13 +39,13 @@ fn demand_read_table(cells: &[u32]) -> u64
     dudowiej::dudowiej_read_table(cells)
 }
 
-fn demand_read_goal(rec: &[u32; 14340], goal: &[u32]) -> u64
+fn demand_read_goal(rec: &[u32; RECORD_CELLS], goal: &[u32]) -> u64
     ensures { λ r. ⌜ Demand1Goal (tableIn (now (rec .entry))) (now (goal .entry)) (decoded r) ⌝ }
 {
     dudowiej::dudowiej_read_goal(rec, goal)
 }
 
-fn demand_row(rec: &[u32; 14340], number: usize) -> u64
+fn demand_row(rec: &[u32; RECORD_CELLS], number: usize) -> u64
     ensures { λ r. ⌜ Demand1Place (tableIn (now (rec .entry))) number (decoded r) ⌝ }
 {
     dudowiej::dudowiej_row(rec, number)
@@ -57,7 +58,7 @@ fn demand_row_part(cells: &[u32], number: usize) -> &[u32]
 }
 
 // Demands 1 and 3: the check.
-fn demand_check_plan(rec: &[u32; 14340], plan: &[u32]) -> u64
+fn demand_check_plan(rec: &[u32; RECORD_CELLS], plan: &[u32]) -> u64
     ensures { λ r. ⌜ Demand1Check (tableIn (now (rec .entry))) (now (plan .entry)) (decoded r) ⌝ }
     ensures { λ r. ⌜ Demand3Check (tableIn (now (rec .entry))) (now (plan .entry)) (decoded r) ⌝ }
 {
@@ -65,7 +66,7 @@ fn demand_check_plan(rec: &[u32; 14340], plan: &[u32]) -> u64
 }
 
 // Demands 1 and 3: building, by the record's figure (W-204, W-207).
-fn demand_build_plan(rec: &[u32; 14340], room: &mut [u32]) -> u64
+fn demand_build_plan(rec: &[u32; RECORD_CELLS], room: &mut [u32]) -> u64
     ensures { λ r. ⌜ BuildsFrom (now (rec .entry)) (now (room .entry)) (now (room .exit)) (decoded r) ⌝ }
 {
     dudowiej::dudowiej_build_plan(rec, room)
@@ -79,7 +80,7 @@ fn demand_listing(bytes: &[u8], out: &mut [u8; 43035]) -> usize
 }
 
 // Demands 1, 2 and 3: a run.
-fn demand_run_plan(rec: &[u32; 14340], plan: &[u32], goal: &[u32], room: &mut [u8]) -> u64
+fn demand_run_plan(rec: &[u32; RECORD_CELLS], plan: &[u32], goal: &[u32], room: &mut [u8]) -> u64
     ensures { λ r. ⌜ Demand1Run (tableIn (now (rec .entry))) (now (plan .entry)) (now (goal .entry)) (now (room .entry)) (now (room .exit))
         (decoded r) ⌝ }
     ensures { λ r. ⌜ Demand2 (tableIn (now (rec .entry))) (now (plan .entry)) (now (goal .entry)) (now (room .entry)) (now (room .exit))
@@ -100,7 +101,7 @@ fn request_read_text(text: &[u8], cells: &mut [u32], names: &mut [u32]) -> u64
 }
 
 // W-202 (specs/Shift), and what its records add up to, W-214 (specs/Knowing)
-fn request_run_jobs(rec: &[u32; 14340], plan: &[u32], lent: &[u32], jobs: &mut [Job]) -> u64
+fn request_run_jobs(rec: &[u32; RECORD_CELLS], plan: &[u32], lent: &[u32], jobs: &mut [Job]) -> u64
     ensures { λ r. ⌜ Shift (tableIn (now (rec .entry))) (now (plan .entry)) (now (lent .entry)) (now (jobs .entry)) (now (jobs .exit)) (decoded r)
         × Sums (tableIn (now (rec .entry))) (now (plan .entry)) (now (lent .entry)) (now (jobs .entry)) (now (jobs .exit)) ⌝ }
 {
@@ -109,7 +110,7 @@ fn request_run_jobs(rec: &[u32; 14340], plan: &[u32], lent: &[u32], jobs: &mut [
 
 // W-214 (specs/Knowing): one plan, run on two goals, and what it answers to each.
 fn request_run_plan(
-    rec: &[u32; 14340],
+    rec: &[u32; RECORD_CELLS],
     plan: &[u32],
     wide: &[u32],
     narrow: &[u32],
@@ -130,7 +131,7 @@ struct Runs {
 }
 
 // W-203 (specs/Replies)
-fn request_replies(rec: &[u32; 14340], plan: &[u32], goal: &[u32], room: &mut [u32]) -> u64
+fn request_replies(rec: &[u32; RECORD_CELLS], plan: &[u32], goal: &[u32], room: &mut [u32]) -> u64
     ensures { λ r. ⌜ RepliesRefused (tableIn (now (rec .entry))) (now (plan .entry)) (now (goal .entry)) (now (room .entry))
         (now (room .exit)) (decoded r) ⌝ }
     ensures { λ r. ⌜ Says (tableIn (now (rec .entry))) (now (plan .entry)) (now (goal .entry)) (now (room .entry)) (now (room .exit))
@@ -141,7 +142,7 @@ fn request_replies(rec: &[u32; 14340], plan: &[u32], goal: &[u32], room: &mut [u
 
 // A shift's replies in one call (specs/ReplyShift)
 fn request_reply_jobs(
-    rec: &[u32; 14340],
+    rec: &[u32; RECORD_CELLS],
     plan: &[u32],
     lent: &[u32],
     jobs: &mut [ReplyJob],
@@ -167,27 +168,27 @@ fn request_symbol(out: &mut [u8], to: usize, c: u32) -> usize
 }
 
 // W-207 (specs/Records)
-fn request_work_out(cells: &[u32], figure: u32, rec: &mut [u32; 14340]) -> u64
+fn request_work_out(cells: &[u32], figure: u32, rec: &mut [u32; RECORD_CELLS]) -> u64
     ensures { λ r. ⌜ MakesRecord figure (now (cells .entry)) (now (rec .entry)) (now (rec .exit)) (decoded r) ⌝ }
 {
     dudowiej::dudowiej_work_out(cells, figure, rec)
 }
 
-fn request_append(rec: &mut [u32; 14340], row: &[u32]) -> u64
+fn request_append(rec: &mut [u32; RECORD_CELLS], row: &[u32]) -> u64
     ensures { λ r. ⌜ ((figure : ℕ) (T : Table) → Holds (now (rec .entry)) figure T
         → EditsRecord (append (now (row .entry))) figure T (now (rec .entry)) (now (rec .exit)) (decoded r)) ⌝ }
 {
     dudowiej::dudowiej_append(rec, row)
 }
 
-fn request_drop_last(rec: &mut [u32; 14340]) -> u64
+fn request_drop_last(rec: &mut [u32; RECORD_CELLS]) -> u64
     ensures { λ r. ⌜ ((figure : ℕ) (T : Table) → Holds (now (rec .entry)) figure T
         → EditsRecord drop-last figure T (now (rec .entry)) (now (rec .exit)) (decoded r)) ⌝ }
 {
     dudowiej::dudowiej_drop_last(rec)
 }
 
-fn request_replace(rec: &mut [u32; 14340], number: usize, row: &[u32]) -> u64
+fn request_replace(rec: &mut [u32; RECORD_CELLS], number: usize, row: &[u32]) -> u64
     ensures { λ r. ⌜ ((figure : ℕ) (T : Table) → Holds (now (rec .entry)) figure T
         → EditsRecord (replace number (now (row .entry))) figure T (now (rec .entry)) (now (rec .exit)) (decoded r)) ⌝ }
 {
@@ -196,7 +197,7 @@ fn request_replace(rec: &mut [u32; 14340], number: usize, row: &[u32]) -> u64
 
 // W-210 (specs/Clauses)
 fn request_clauses(
-    rec: &[u32; 14340],
+    rec: &[u32; RECORD_CELLS],
     plan: &[u32],
     text: &[u8],
     names: &[u32],
@@ -211,7 +212,7 @@ fn request_clauses(
 }
 
 // W-211 (specs/Files)
-fn request_write_file(rec: &[u32; 14340], plan: &[u32], room: &mut [u8]) -> u64
+fn request_write_file(rec: &[u32; RECORD_CELLS], plan: &[u32], room: &mut [u8]) -> u64
     ensures { λ r. ⌜ WriteRefused (tableIn (now (rec .entry))) (now (plan .entry)) (now (room .entry)) (now (room .exit)) (decoded r) ⌝ }
     ensures { λ r. ⌜ WritesFile (tableIn (now (rec .entry))) (now (plan .entry)) (now (room .entry)) (now (room .exit)) (decoded r) ⌝ }
     ensures { λ r. ⌜ ThereAndBack (tableIn (now (rec .entry))) (now (plan .entry)) (now (room .exit)) (decoded r) ⌝ }
@@ -248,13 +249,13 @@ fn request_salvage(
 }
 
 // W-213 (specs/Columns)
-fn request_check_for(rec: &[u32; 14340], columns: &[u32], plan: &[u32]) -> u64
+fn request_check_for(rec: &[u32; RECORD_CELLS], columns: &[u32], plan: &[u32]) -> u64
     ensures { λ r. ⌜ ChecksFor (tableIn (now (rec .entry))) (now (columns .entry)) (now (plan .entry)) (decoded r) ⌝ }
 {
     dudowiej::dudowiej_check_for(rec, columns, plan)
 }
 
-fn request_build_for(rec: &[u32; 14340], columns: &[u32], room: &mut [u32]) -> u64
+fn request_build_for(rec: &[u32; RECORD_CELLS], columns: &[u32], room: &mut [u32]) -> u64
     ensures { λ r. ⌜ BuildsFor (now (rec .entry)) (now (columns .entry)) (now (room .entry)) (now (room .exit)) (decoded r) ⌝ }
 {
     dudowiej::dudowiej_build_for(rec, columns, room)
@@ -262,7 +263,7 @@ fn request_build_for(rec: &[u32; 14340], columns: &[u32], room: &mut [u32]) -> u
 
 // The plan that a list of goals likes best (specs/Liked)
 fn request_build_liked(
-    rec: &[u32; 14340],
+    rec: &[u32; RECORD_CELLS],
     goals: &[u32],
     list: &[usize],
     room: &mut [u32],

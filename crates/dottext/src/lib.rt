@@ -4,6 +4,7 @@
 // All that stands between quotes are words of ours, numbers, and names of the rules, which have letters, digits and `_` alone. So no quote and no
 // backslash is there, and DOT takes every other byte as it is.
 use branchlist::Branch;
+use branchlist::LIST;
 use branchlist::branch_at;
 use octets::put_decimal;
 use octets::put_word;
@@ -13,7 +14,7 @@ use shop::cell_at;
 
 // After what is gathered on a page.
 pub fn print(text: &[u8], kept: &[u32], shop: Shop, out: &mut [u8], page: Page) -> Page {
-    let mut list = [0u32; 12288];
+    let mut list = [0u32; LIST];
     let count = branchlist::put_branches(&mut list, kept, shop);
     let p = page::turn(out, page);
     let a = put_head(out, p.to, kept, shop);

@@ -30,6 +30,7 @@ use Rattle.table.proofs.Accepted.{is-table}
 use Rattle.refusal.specs.Read.{Read, read, refuse, when, andThen}
 use Rattle.table.specs.Table.{Table, Met, met, counted, termsFrom, before, doubled, rowsFrom, tableOf, table, goalOf, goalWith, others, rowOf}
 use Rattle.record.specs.Edits.{Edit, append, drop-last, replace, editOf}
+use Rattle.limits.specs.Limits.{mostPlanCells, mostTableCells}
 
 -- a refusal has its names and a place of at most n; what is read has P
 pub data Placed {A : Type 0} (n : ℕ) (P : A → Type 0) : Read A → Type 0 where
@@ -147,13 +148,13 @@ or-false : (a b : Bool) → (a || b) ≡ false → (a ≡ false) × (b ≡ false
 or-false true b e = let z : _≡_ {A = ℕ} 0 1 = cc in absurd (omega arith)
 or-false false b e = (refl, e)
 
-pub placed-table : (t : List ℕ) → Placed 2050 (Any {A = Table}) (tableOf t)
+pub placed-table : (t : List ℕ) → Placed mostTableCells (Any {A = Table}) (tableOf t)
 unfolding tableOf
 placed-table t =
-    placed-when (ltb (length t) 2 || ltb 2050 (length t)) reason.Length input.Table 0 (omega arith) (λ h.
-    let e = or-false (ltb (length t) 2) (ltb 2050 (length t)) h in
+    placed-when (ltb (length t) 2 || ltb mostTableCells (length t)) reason.Length input.Table 0 (omega arith) (λ h.
+    let e = or-false (ltb (length t) 2) (ltb mostTableCells (length t)) h in
     let lo = ltb-false (length t) 2 (e .0) in
-    let hi = ltb-false 2050 (length t) (e .1) in
+    let hi = ltb-false mostTableCells (length t) (e .1) in
     placed-when (ltb (getD t 0 0) 1 || ltb 8 (getD t 0 0)) reason.Width input.Table 0 (omega arith) (λ _.
     placed-when (ltb (getD t 1 0) 1 || ltb 64 (getD t 1 0)) reason.Count input.Table 1 (omega arith) (λ _.
     let rows = placed-rows (getD t 0 0) (getD t 1 0) [] (drop 2 t) 2 (length t) (omega (arith, length-drop 2 t)) in
@@ -172,7 +173,7 @@ placed-goal w g =
     narrow l (good {x} w) = good {x = x} (omega arith)
     narrow l (turned k i p q) = turned k i p (omega arith)
 
-pub placed-asked : (t g : List ℕ) → Placed 2050 (Any {A = ℕ}) (goalWith t g)
+pub placed-asked : (t g : List ℕ) → Placed mostTableCells (Any {A = ℕ}) (goalWith t g)
 placed-asked t g = placed-then (λ (T : Table). goalOf (T .width) g) (placed-table t) (λ T _. widen (omega arith) (placed-goal (T .width) g))
 
 -- a plan's cells: what is read and what is left of it make up the whole
@@ -212,38 +213,38 @@ module _ (n : ℕ) where
       placed-cell (λ c. eqb c (length (runs i rows))) reason.Edges (suc p) _ ys l (λ b zs o.
       placed-branches (λ gs j rs q us. stateFrom m gs j rs q us) (placed-state m) fs i k (runs i rows) (suc (suc p)) zs o)))
 
-pub placed-with : (fs : List Bool) (T : Table) (cells : List ℕ) → Placed 6082 (Any {A = ℕ}) (planWith fs T cells)
+pub placed-with : (fs : List Bool) (T : Table) (cells : List ℕ) → Placed mostPlanCells (Any {A = ℕ}) (planWith fs T cells)
 unfolding planWith
 placed-with fs T cells =
-    placed-when (ltb 6082 (length cells)) reason.Size input.Plan 0 (omega arith) (λ h.
-    let hi = ltb-false 6082 (length cells) h in
+    placed-when (ltb mostPlanCells (length cells)) reason.Size input.Plan 0 (omega arith) (λ h.
+    let hi = ltb-false mostPlanCells (length cells) h in
     placed-then nothingAfter (narrow hi (placed-state (length cells) 32 fs (T .width) (T .rows) 0 cells (omega arith)))
     (λ s l. placed-when (ltb 0 (length (s .rest))) reason.Extra input.Plan (s .next) l (λ _. good tt)))
   where
-    narrow : {n : ℕ} {r : Read Seen} → n ≤ 6082 → Placed n (Left n) r → Placed 6082 (λ (s : Seen). s .next ≤ 6082) r
+    narrow : {n : ℕ} {r : Read Seen} → n ≤ mostPlanCells → Placed n (Left n) r → Placed mostPlanCells (λ (s : Seen). s .next ≤ mostPlanCells) r
     narrow l (good {x} w) = good {x = x} (omega arith)
     narrow l (turned k i p q) = turned k i p (omega arith)
 
-pub placed-plan : (T : Table) (cells : List ℕ) → Placed 6082 (Any {A = ℕ}) (planFor T cells)
+pub placed-plan : (T : Table) (cells : List ℕ) → Placed mostPlanCells (Any {A = ℕ}) (planFor T cells)
 placed-plan = placed-with []
 
 -- the check for named columns: COLUMN between the table's and the plan's
-placed-columns : (T : Table) (columns : List ℕ) → Placed 6082 (Any {A = List Bool}) (columnsFor T columns)
+placed-columns : (T : Table) (columns : List ℕ) → Placed mostPlanCells (Any {A = List Bool}) (columnsFor T columns)
 placed-columns T columns = placed-when (anyPast (T .width) columns) reason.Column input.Columns 0 (omega arith) (λ _. good tt)
 
-pub placed-under : (t columns p : List ℕ) → Placed 6082 (Any {A = ℕ}) (planUnder t columns p)
+pub placed-under : (t columns p : List ℕ) → Placed mostPlanCells (Any {A = ℕ}) (planUnder t columns p)
 placed-under t columns p =
     placed-then _ (widen (omega arith) (placed-table t)) (λ T _. placed-then _ (placed-columns T columns) (λ fs _. placed-with fs T p))
 
 -- a run: the table's, the plan's and the goal's refusals, and ROOM at the number of rows
-pub placed-checked : (t p : List ℕ) → Placed 6082 (Any {A = ℕ}) (planOf t p)
+pub placed-checked : (t p : List ℕ) → Placed mostPlanCells (Any {A = ℕ}) (planOf t p)
 placed-checked t p = placed-then (λ (T : Table). planFor T p) (widen (omega arith) (placed-table t)) (λ T _. placed-plan T p)
 
-pub placed-run : (t p g room : List ℕ) → Placed 6082 (Any {A = Table}) (runOf t p g room)
+pub placed-run : (t p g room : List ℕ) → Placed mostPlanCells (Any {A = Table}) (runOf t p g room)
 unfolding runOf
 placed-run t p g room = go (tableOf t) refl
   where
-    rest : (T : Table) → length (T .rows) ≤ 64 → Placed 6082 Any (andThen (planOf t p) (λ (n : ℕ).
+    rest : (T : Table) → length (T .rows) ≤ 64 → Placed mostPlanCells Any (andThen (planOf t p) (λ (n : ℕ).
         andThen (goalOf (T .width) g) (λ (v : ℕ).
         when (ltb (length room) (length (T .rows))) (refused reason.Room input.Lent (length (T .rows))) (read T))))
     rest T l =
@@ -251,7 +252,7 @@ placed-run t p g room = go (tableOf t) refl
         placed-then _ (widen (omega arith) (placed-goal (T .width) g)) (λ v _.
         placed-when (ltb (length room) (length (T .rows))) reason.Room input.Lent (length (T .rows)) (omega arith) (λ _. good tt)))
 
-    go : (r : Read Table) → tableOf t ≡ r → Placed 6082 Any (andThen r (λ (T : Table).
+    go : (r : Read Table) → tableOf t ≡ r → Placed mostPlanCells Any (andThen r (λ (T : Table).
         andThen (planOf t p) (λ (n : ℕ).
         andThen (goalOf (T .width) g) (λ (v : ℕ).
         when (ltb (length room) (length (T .rows))) (refused reason.Room input.Lent (length (T .rows))) (read T)))))
@@ -259,7 +260,7 @@ placed-run t p g room = go (tableOf t) refl
     go (refuse f) e = widen (omega arith) (rw e at (placed-table t))
 
 -- the replies: the same without the room
-pub placed-replies : (t p g : List ℕ) → Placed 6082 (Any {A = Table}) (repliesOf t p g)
+pub placed-replies : (t p g : List ℕ) → Placed mostPlanCells (Any {A = Table}) (repliesOf t p g)
 unfolding repliesOf
 placed-replies t p g =
     placed-then _ (widen (omega arith) (placed-table t)) (λ T _.
@@ -267,13 +268,13 @@ placed-replies t p g =
     placed-then _ (widen (omega arith) (placed-goal (T .width) g)) (λ v _. good tt)))
 
 -- a plan handed back: the table's and the plan's
-pub placed-handed : (t p : List ℕ) → Placed 6082 (Any {A = Table}) (handOf t p)
+pub placed-handed : (t p : List ℕ) → Placed mostPlanCells (Any {A = Table}) (handOf t p)
 unfolding handOf
 placed-handed t p =
     placed-then _ (widen (omega arith) (placed-table t)) (λ T _. placed-then _ (placed-plan T p) (λ n _. good tt))
 
 -- a file: a block's place in it, then the table's and the plan's
-pub placed-file : (f : List ℕ) → Placed (blocks.whole f + 6082) (Any {A = Card}) (fileRead f)
+pub placed-file : (f : List ℕ) → Placed (blocks.whole f + mostPlanCells) (Any {A = Card}) (fileRead f)
 unfolding fileRead cardOf
 placed-file f =
     let cells = blocks.goodCells f 0 in

@@ -88,6 +88,7 @@ use Rattle.dudowiej.specs.Coded.{cut, salvageSays}
 use Rattle.dudowiej.proofs.CutLaws.{placed-cut}
 use Rattle.dudowiej.proofs.Places.{placed-small, placed-table, placed-edit, placed-plan, placed-run, placed-goal, placed-replies, placed-handed}
 use Rattle.dudowiej.proofs.Places.{placed-checked, placed-under, placed-file}
+use Rattle.limits.specs.Limits.{mostBranches, mostPlanCells, mostTableCells, mostTextBytes}
 
 pub table-small : (t : List ℕ) → Small (tableSays (tableOf t))
 table-small t = go (tableOf t) refl
@@ -124,10 +125,10 @@ row-short w (x ∷ rows) zero a = a .0 .short
 row-short w (x ∷ rows) (suc r) a = row-short w rows r (a .1)
 
 -- where a row starts in the table and how many cells it has, both 0 where there is no such row
-pub row-small : (t : List ℕ) (r : ℕ) → (getD (startsIn (tableOf t)) r 0 ≤ 2050) × (length (rowIn (tableOf t) r) ≤ 32)
+pub row-small : (t : List ℕ) (r : ℕ) → (getD (startsIn (tableOf t)) r 0 ≤ mostTableCells) × (length (rowIn (tableOf t) r) ≤ 32)
 row-small t r = go (tableOf t) refl
   where
-    go : (x : Read Table) → tableOf t ≡ x → (getD (startsIn x) r 0 ≤ 2050) × (length (rowIn x r) ≤ 32)
+    go : (x : Read Table) → tableOf t ≡ x → (getD (startsIn x) r 0 ≤ mostTableCells) × (length (rowIn x r) ≤ 32)
     go (read T) e =
         let i = is-table t e in
         let l = table-short t e in
@@ -136,7 +137,7 @@ row-small t r = go (tableOf t) refl
     go (refuse f) e = (omega (arith, getD-zeros 64 r), omega arith)
 
 -- a plan of an accepted table has at most 2,048 branches
-few-branches : (t p : List ℕ) (T : Table) → tableOf t ≡ read T → {n : ℕ} → planFor T p ≡ read n → n ≤ 2048
+few-branches : (t p : List ℕ) (T : Table) → tableOf t ≡ read T → {n : ℕ} → planFor T p ≡ read n → n ≤ mostBranches
 few-branches t p T e {n} f =
     let i = is-table t e in
     let a = accepted-one T i p n .0 f in
@@ -168,7 +169,7 @@ under-small t columns p = go (planUnder t columns p) refl
 
 -- a plan of an accepted table has at most 6,082 cells and 2,048 branches
 plan-cells : (t : List ℕ) (T : Table) (plan : Plan (T .width) (T .rows)) → tableOf t ≡ read T
-    → (length (write plan) ≤ 6082) × (branches plan ≤ 2048)
+    → (length (write plan) ≤ mostPlanCells) × (branches plan ≤ mostBranches)
 plan-cells t T plan e =
     let i = is-table t e in
     let f = rows-fit (T .width) (T .rows) (i .each) in
@@ -234,7 +235,7 @@ liked-small b {t} (likes.table-refused f a e c d) = rw e (for-small b [] t (plai
 liked-small b (likes.found T mask total plain a x y e) = build-small b y
 
 -- a text has at most 65,535 bytes and 32,766 symbols, and a place in it is at most its end
-stops-small : {t : List ℕ} {k : ℕ} → Stops t k → length t ≤ 65535 → k < 2 ^ 48
+stops-small : {t : List ℕ} {k : ℕ} → Stops t k → length t ≤ mostTextBytes → k < 2 ^ 48
 stops-small (at-byte l a b) h = omega arith
 stops-small (at-end a b) h = omega arith
 

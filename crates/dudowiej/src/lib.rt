@@ -16,6 +16,7 @@ mod code;
 
 use instance::ReplyJob;
 use least::By;
+use limits::RECORD_CELLS;
 use shift::Job;
 
 // A table's width and number of rows.
@@ -30,7 +31,11 @@ pub extern "C" fn dudowiej_read_table(cells: &[u32]) -> u64
 
 // A record worked out for a table and a figure: the table's width and number of rows.
 #[no_mangle]
-pub extern "C" fn dudowiej_work_out(cells: &[u32], figure: u32, rec: &mut [u32; 14340]) -> u64
+pub extern "C" fn dudowiej_work_out(
+    cells: &[u32],
+    figure: u32,
+    rec: &mut [u32; RECORD_CELLS],
+) -> u64
     ensures { λ r. ⌜ WorkCoded figure (now (cells .entry)) (now (rec .entry)) (now (rec .exit)) r ⌝ }
 {
     code::code_table(edits::work_out(cells, figure, rec))
@@ -38,7 +43,7 @@ pub extern "C" fn dudowiej_work_out(cells: &[u32], figure: u32, rec: &mut [u32; 
 
 // A row appended in a record: the table's width and number of rows then.
 #[no_mangle]
-pub extern "C" fn dudowiej_append(rec: &mut [u32; 14340], row: &[u32]) -> u64
+pub extern "C" fn dudowiej_append(rec: &mut [u32; RECORD_CELLS], row: &[u32]) -> u64
     ensures { λ r. ⌜ EditCoded (append (now (row .entry))) (now (rec .entry)) (now (rec .exit)) r ⌝ }
 {
     code::code_edit(edits::append(rec, row))
@@ -46,7 +51,7 @@ pub extern "C" fn dudowiej_append(rec: &mut [u32; 14340], row: &[u32]) -> u64
 
 // The last row dropped.
 #[no_mangle]
-pub extern "C" fn dudowiej_drop_last(rec: &mut [u32; 14340]) -> u64
+pub extern "C" fn dudowiej_drop_last(rec: &mut [u32; RECORD_CELLS]) -> u64
     ensures { λ r. ⌜ EditCoded drop-last (now (rec .entry)) (now (rec .exit)) r ⌝ }
 {
     code::code_edit(edits::drop_last(rec))
@@ -54,7 +59,7 @@ pub extern "C" fn dudowiej_drop_last(rec: &mut [u32; 14340]) -> u64
 
 // Row r replaced.
 #[no_mangle]
-pub extern "C" fn dudowiej_replace(rec: &mut [u32; 14340], r: usize, row: &[u32]) -> u64
+pub extern "C" fn dudowiej_replace(rec: &mut [u32; RECORD_CELLS], r: usize, row: &[u32]) -> u64
     ensures { λ n. ⌜ EditCoded (replace r (now (row .entry))) (now (rec .entry)) (now (rec .exit)) n ⌝ }
 {
     code::code_edit(edits::replace(rec, r, row))
@@ -62,7 +67,7 @@ pub extern "C" fn dudowiej_replace(rec: &mut [u32; 14340], r: usize, row: &[u32]
 
 // A goal's number of cells and of variables.
 #[no_mangle]
-pub extern "C" fn dudowiej_read_goal(rec: &[u32; 14340], goal: &[u32]) -> u64
+pub extern "C" fn dudowiej_read_goal(rec: &[u32; RECORD_CELLS], goal: &[u32]) -> u64
     ensures { λ r. ⌜ r ≡ coded (goalSays (now (goal .entry)) (goalWith (tableIn (now (rec .entry))) (now (goal .entry)))) ⌝ }
 {
     let cells = record::table_of(rec);
@@ -71,7 +76,7 @@ pub extern "C" fn dudowiej_read_goal(rec: &[u32; 14340], goal: &[u32]) -> u64
 
 // Where the r-th row's cells start in the table, and how many they are; both 0 where there is no such row.
 #[no_mangle]
-pub extern "C" fn dudowiej_row(rec: &[u32; 14340], r: usize) -> u64
+pub extern "C" fn dudowiej_row(rec: &[u32; RECORD_CELLS], r: usize) -> u64
     ensures { λ n. ⌜ n ≡ coded (rowSays (tableOf (tableIn (now (rec .entry)))) r) ⌝ }
 {
     let cells = record::table_of(rec);
@@ -83,7 +88,7 @@ pub extern "C" fn dudowiej_row(rec: &[u32; 14340], r: usize) -> u64
 
 // An accepted plan's number of branches.
 #[no_mangle]
-pub extern "C" fn dudowiej_check_plan(rec: &[u32; 14340], plan: &[u32]) -> u64
+pub extern "C" fn dudowiej_check_plan(rec: &[u32; RECORD_CELLS], plan: &[u32]) -> u64
     ensures { λ r. ⌜ r ≡ coded (planSays (planOf (tableIn (now (rec .entry))) (now (plan .entry)))) ⌝ }
 {
     let cells = record::table_of(rec);
@@ -92,7 +97,7 @@ pub extern "C" fn dudowiej_check_plan(rec: &[u32; 14340], plan: &[u32]) -> u64
 
 // The number of cells of the least plan by the record's figure (W-204), and its cost; its cells are the room's first.
 #[no_mangle]
-pub extern "C" fn dudowiej_build_plan(rec: &[u32; 14340], room: &mut [u32]) -> u64
+pub extern "C" fn dudowiej_build_plan(rec: &[u32; RECORD_CELLS], room: &mut [u32]) -> u64
     ensures { λ r. ⌜ BuildCoded (now (rec .entry)) (now (room .entry)) (now (room .exit)) r ⌝ }
 {
     code::code_built(builder::build_from(rec, room))
@@ -101,7 +106,7 @@ pub extern "C" fn dudowiej_build_plan(rec: &[u32; 14340], room: &mut [u32]) -> u
 // A run's number of hits and of branches tried; the hits are the room's first bytes.
 #[no_mangle]
 pub extern "C" fn dudowiej_run_plan(
-    rec: &[u32; 14340],
+    rec: &[u32; RECORD_CELLS],
     plan: &[u32],
     goal: &[u32],
     room: &mut [u8],
@@ -158,7 +163,7 @@ pub extern "C" fn dudowiej_put_answer(
 // The plan's number of branches; each goal of the list is answered in its record.
 #[no_mangle]
 pub extern "C" fn dudowiej_run_jobs(
-    rec: &[u32; 14340],
+    rec: &[u32; RECORD_CELLS],
     plan: &[u32],
     cells: &[u32],
     jobs: &mut [Job],
@@ -173,7 +178,7 @@ pub extern "C" fn dudowiej_run_jobs(
 // How many replies there are and how many cells they have together; they are the room's first cells.
 #[no_mangle]
 pub extern "C" fn dudowiej_replies(
-    rec: &[u32; 14340],
+    rec: &[u32; RECORD_CELLS],
     plan: &[u32],
     goal: &[u32],
     room: &mut [u32],
@@ -188,7 +193,7 @@ pub extern "C" fn dudowiej_replies(
 // The plan's number of branches; each goal of the list is answered in its record, and the replies follow one another in the room.
 #[no_mangle]
 pub extern "C" fn dudowiej_reply_jobs(
-    rec: &[u32; 14340],
+    rec: &[u32; RECORD_CELLS],
     plan: &[u32],
     cells: &[u32],
     jobs: &mut [ReplyJob],
@@ -204,7 +209,7 @@ pub extern "C" fn dudowiej_reply_jobs(
 // A plan handed back as Prolog: how many clauses it is and how many bytes they have; they are the room's first bytes.
 #[no_mangle]
 pub extern "C" fn dudowiej_clauses(
-    rec: &[u32; 14340],
+    rec: &[u32; RECORD_CELLS],
     plan: &[u32],
     text: &[u8],
     names: &[u32],
@@ -219,7 +224,11 @@ pub extern "C" fn dudowiej_clauses(
 
 // The bytes and the blocks of the file of the record's table and a plan; its bytes are the room's first.
 #[no_mangle]
-pub extern "C" fn dudowiej_write_file(rec: &[u32; 14340], plan: &[u32], room: &mut [u8]) -> u64
+pub extern "C" fn dudowiej_write_file(
+    rec: &[u32; RECORD_CELLS],
+    plan: &[u32],
+    room: &mut [u8],
+) -> u64
     ensures { λ r. ⌜ FileWriteCoded (tableIn (now (rec .entry))) (now (plan .entry)) (now (room .entry)) (now (room .exit)) r ⌝ }
 {
     let cells = record::table_of(rec);
@@ -253,7 +262,11 @@ pub extern "C" fn dudowiej_salvage(
 // The number of cells of the least plan that looks into named columns first, by the record's figure, and its cost; its cells are the room's
 // first. What the record keeps is for plans of any kind, so its table and figure alone are used (02, W-213).
 #[no_mangle]
-pub extern "C" fn dudowiej_build_for(rec: &[u32; 14340], columns: &[u32], room: &mut [u32]) -> u64
+pub extern "C" fn dudowiej_build_for(
+    rec: &[u32; RECORD_CELLS],
+    columns: &[u32],
+    room: &mut [u32],
+) -> u64
     ensures { λ r. ⌜ BuildForCoded (now (rec .entry)) (now (columns .entry)) (now (room .entry)) (now (room .exit)) r ⌝ }
 {
     let figure = rec[1];
@@ -263,7 +276,11 @@ pub extern "C" fn dudowiej_build_for(rec: &[u32; 14340], columns: &[u32], room: 
 
 // The number of branches of a plan that looks into named columns first.
 #[no_mangle]
-pub extern "C" fn dudowiej_check_for(rec: &[u32; 14340], columns: &[u32], plan: &[u32]) -> u64
+pub extern "C" fn dudowiej_check_for(
+    rec: &[u32; RECORD_CELLS],
+    columns: &[u32],
+    plan: &[u32],
+) -> u64
     ensures { λ r. ⌜ r ≡ coded (planSays (planUnder (tableIn (now (rec .entry))) (now (columns .entry)) (now (plan .entry)))) ⌝ }
 {
     let cells = record::table_of(rec);
@@ -274,7 +291,7 @@ pub extern "C" fn dudowiej_check_for(rec: &[u32; 14340], columns: &[u32], plan: 
 // cells are the room's first. Beside it are its columns as a mask, what it tries over the list and what the plain plan tries.
 #[no_mangle]
 pub extern "C" fn dudowiej_build_liked(
-    rec: &[u32; 14340],
+    rec: &[u32; RECORD_CELLS],
     goals: &[u32],
     list: &[usize],
     room: &mut [u32],

@@ -28,6 +28,7 @@ use Rattle.paircosts.proofs.WorkedLaws.{turned-by}
 use Rattle.paircosts.proofs.PlainLaws.{plain-free, zero-free, free-kept}
 use Rattle.edits.specs.code.Joining.{Ready}
 use Rattle.edits.proofs.WorkLaws.{plain-filled, filled-kept}
+use Rattle.limits.specs.Limits.{mostTableCells}
 
 module _ {rec : List ℕ} {figure : ℕ} {T : Table} (x : Holds rec figure T)
     {r : ℕ} {row next : List ℕ} {size : ℕ} (y : Ready T r row next size) where
@@ -63,7 +64,7 @@ module _ {rec : List ℕ} {figure : ℕ} {T : Table} (x : Holds rec figure T)
       (given : Fills (Work (getD rec 1 0)) 0 (take size next) (r + 1) r (take (length rec - 2052) (drop 2052 rec)) kept s) where
     fills : Fills (Work figure) 0 cells (r + 1) r (drop 2052 rec) kept s
     fills =
-        let e : take size next ≡ cells = ap (take size) (y .is) ∙ take-at cells (replicate (2050 - length cells) 0) size (sym (y .many)) in
+        let e : take size next ≡ cells = ap (take size) (y .is) ∙ take-at cells (replicate (mostTableCells - length cells) 0) size (sym (y .many)) in
         rw (x .figure-is, e, lent-all rec) at given
 
     pub again-read : {f : Refusal} {X : Type 0} → s .answer ≡ table-answer.Refused f → X
@@ -80,7 +81,7 @@ module _ {rec : List ℕ} {figure : ℕ} {T : Table} (x : Holds rec figure T)
     again-held {copied} c d =
         let n : ℕ = length (cellsIn T) in
         let old : List ℕ = inRoom (cellsIn T) in
-        let long : length old ≡ 2050 = length-room (cellsIn T) (few-cells x) in
+        let long : length old ≡ mostTableCells = length-room (cellsIn T) (few-cells x) in
         let lent : take 2052 rec ++ (kept ++ drop (length rec - 2052) (drop 2052 rec)) ≡ n ∷ figure ∷ (old ++ kept) =
         ap (λ (w : List ℕ). take 2052 w ++ (kept ++ drop (length w - 2052) (drop 2052 w))) (holds-parts x)
         ∙ kept-put n figure old (drop 2052 rec) long kept in

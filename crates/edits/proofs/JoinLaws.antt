@@ -18,6 +18,7 @@ use Rattle.record.proofs.RowLaws.{with-length, Sizes, with-sizes, with-stored, 
 use Rattle.edits.specs.declared.rows.Place.{Place}
 use Rattle.edits.specs.code.Joining.{Joins, Joined}
 use Rattle.edits.proofs.TableLaws.{all-cells}
+use Rattle.limits.specs.Limits.{mostTableCells}
 
 module _ {cells row starts : List ℕ} {at : Place} {next : List ℕ} (g : Joins cells row starts at next) where
   abbrev T : Table
@@ -29,8 +30,8 @@ module _ {cells row starts : List ℕ} {at : Place} {next : List ℕ} (g : Joins
   pub few : at .count ≤ 64
   few = few-rows (g .rows) .1
 
-  pub room : length next ≡ 2050
-  room = ap length (g .empty) ∙ length-replicate {A = ℕ} 2050 0
+  pub room : length next ≡ mostTableCells
+  room = ap length (g .empty) ∙ length-replicate {A = ℕ} mostTableCells 0
 
   there : at .number ≤ length (T .rows)
   there = omega (arith, g .there, g .rows .rows)
@@ -39,7 +40,7 @@ module _ {cells row starts : List ℕ} {at : Place} {next : List ℕ} (g : Joins
   new-accepted =
       with-accepted T (at .number) row (rw (← all-cells (g .rows)) (g .rows .here)) there (g .low) (g .is-row) (g .apart)
 
-  pub small : length (cellsIn new) ≤ 2050
+  pub small : length (cellsIn new) ≤ mostTableCells
   small = table-short (cellsIn new) new-accepted
 
   edge-at : (r : ℕ) → cond (ltb r (at .count)) (getD starts r 0) (length cells) ≡ 2 + length (flatten (take r (T .rows)))

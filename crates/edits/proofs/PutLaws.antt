@@ -19,6 +19,7 @@ use Rattle.record.specs.code.Rows.{tableWith, putRow}
 use Rattle.edits.specs.declared.rows.Place.{Place}
 use Rattle.edits.specs.code.Joining.{Joins, Joined, Placed, Ready}
 use Rattle.edits.proofs.JoinLaws.{new-accepted}
+use Rattle.limits.specs.Limits.{mostTableCells}
 
 module _ {rec starts : List ℕ} {at : Place} (g : Placed rec starts at) where
   abbrev T : Table
@@ -64,7 +65,7 @@ module _ {rec starts : List ℕ} {at : Place} (g : Placed rec starts at) where
       row-is = row-accepted (T .width) (others (at .number) (T .rows)) row .0 (v, sym row-there ∙ ap rowTold q)
 
       -- what joining asks, and with it what working again asks
-      module _ {next : List ℕ} (z : next ≡ replicate 2050 0) where
+      module _ {next : List ℕ} (z : next ≡ replicate mostTableCells 0) where
         unfoldable pub joins : Joins cells row starts at next
         joins = record {
           rows = record { table = T; here = rw c (g .rows .here); starts = g .rows .starts; width = g .rows .width; rows = g .rows .rows };
@@ -79,7 +80,7 @@ module _ {rec starts : List ℕ} {at : Place} (g : Placed rec starts at) where
         unfolding joins
         accepted = new-accepted joins
 
-        pub size-small : {done : List ℕ} {size : ℕ} → Joined joins done size → size ≤ 2050
+        pub size-small : {done : List ℕ} {size : ℕ} → Joined joins done size → size ≤ mostTableCells
         unfolding joins
         size-small j = omega (arith, j .many, table-short (cellsIn (tableWith T (at .number) row)) accepted)
 

@@ -12,6 +12,7 @@ use Rattle.paircosts.specs.code.Filling.{putPair}
 use Rattle.paircosts.proofs.FillLaws.{Where, here, there, where-is}
 use Rattle.record.specs.code.Zeros.{ZeroAt, Cleared}
 use Rattle.record.proofs.KeptLaws.{zero-same}
+use Rattle.limits.specs.Limits.{keptCells}
 
 -- one 0 of those still to be put
 pub zeros-next : (i to : ℕ) → i < to → replicate {A = ℕ} (to - i) 0 ≡ 0 ∷ replicate (to - (i + 1)) 0
@@ -47,7 +48,7 @@ clearing-start last old = record {
   others = λ first j h l n. record { whole = refl; cost = refl; place = refl };
 }
 
-module _ {last upto : ℕ} {old new : List ℕ} (room : length old ≡ 12288) (row : last < 64) (low : upto < 64)
+module _ {last upto : ℕ} {old new : List ℕ} (room : length old ≡ keptCells) (row : last < 64) (low : upto < 64)
     (c : Clearing last upto old new) where
   abbrev next : List ℕ
   next = putPair new (64 * upto + last) 0 0 0

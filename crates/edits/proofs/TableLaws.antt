@@ -17,6 +17,7 @@ use Rattle.record.specs.Record.{cellsIn, Holds, tableIn}
 use Rattle.record.proofs.PartLaws.{table-in}
 use Rattle.table.proofs.PartLaws.{start-at}
 use Rattle.record.proofs.StartLaws.{before-few}
+use Rattle.limits.specs.Limits.{mostTableCells}
 
 -- a record that holds a table is read as that table
 held-read : {rec t : List ℕ} {figure : ℕ} {T : Table} → t ≡ tableIn rec → Holds rec figure T → tableOf t ≡ read T
@@ -30,7 +31,7 @@ module _ {t ss : List ℕ} {w n : ℕ} (k : TableRows t ss w n) where
   pub all-cells : t ≡ cellsIn (k .table)
   all-cells = is-table t (k .here) .cells
 
-  pub few-cells : length t ≤ 2050
+  pub few-cells : length t ≤ mostTableCells
   few-cells = table-short t (k .here)
 
   pub held-table : {rec : List ℕ} {figure : ℕ} {T : Table} → t ≡ tableIn rec → Holds rec figure T → k .table ≡ T

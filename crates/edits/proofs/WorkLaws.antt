@@ -29,6 +29,7 @@ use Rattle.record.proofs.StoreLaws.{kept-lent, kept-put, cells-anew}
 use Rattle.paircosts.specs.Fill.{NoPair, Filled, Fills}
 use Rattle.paircosts.proofs.WorkedLaws.{figure-small, rows-by, turned-by, all-asked}
 use Rattle.paircosts.proofs.PlainLaws.{plain-free, zero-free, free-filled}
+use Rattle.limits.specs.Limits.{keptCells, mostTableCells, recordCells}
 
 -- no column is named
 pub plain-filled : {m : Measure} {width : ℕ} {rows : List (List ℕ)} {old new : List ℕ} → Filled m (flagsIn width 0) width rows old new → Filled m [] width rows old new
@@ -59,7 +60,7 @@ module _ (figure : ℕ) (t rec : List ℕ) {r : TableRead} (reads : TableReads (
     abbrev T : Table
     T = k .table
 
-    pub small : length t ≤ 2050
+    pub small : length t ≤ mostTableCells
     small = table-short t (k .here)
 
     low : figure ≤ 15
@@ -72,12 +73,12 @@ module _ (figure : ℕ) (t rec : List ℕ) {r : TableRead} (reads : TableReads (
     cells-are = is-table t (k .here) .cells
 
     -- the parts that are stored one after another
-    module _ {cleared copied new headed : List ℕ} {s : TableRead} (size : length rec ≡ 14340)
-        (c : cleared ≡ sets rec 2 (replicate (14340 - 2) 0)) (d : copied ≡ sets cleared 2 t)
+    module _ {cleared copied new headed : List ℕ} {s : TableRead} (size : length rec ≡ recordCells)
+        (c : cleared ≡ sets rec 2 (replicate (recordCells - 2) 0)) (d : copied ≡ sets cleared 2 t)
         (f : Fills (Work figure) 0 t 64 0 (take (length copied - 2052) (drop 2052 copied)) new s)
         (h : headed ≡ set (take 2052 copied ++ (new ++ drop (length copied - 2052) (drop 2052 copied))) 0 (length t)) where
       abbrev zeros : List ℕ
-      zeros = replicate 12288 0
+      zeros = replicate keptCells 0
 
       parts : copied ≡ getD rec 0 0 ∷ getD rec 1 0 ∷ (inRoom t ++ zeros)
       parts = d ∙ ap (λ (x : List ℕ). sets x 2 t) c ∙ cells-anew rec t size small
@@ -87,9 +88,9 @@ module _ (figure : ℕ) (t rec : List ℕ) {r : TableRead} (reads : TableReads (
 
       pub worked-anew : WorkedOut figure t rec (set headed 1 figure) (tableTold (r .answer))
       worked-anew =
-          let long : length zeros ≡ 12288 = length-replicate {A = ℕ} 12288 0 in
+          let long : length zeros ≡ keptCells = length-replicate {A = ℕ} keptCells 0 in
           let filled = plain-filled (fills .accepted T here long .filled (all-asked (Work figure) (flagsIn (T .width) 0) t here (omega arith))) in
-          let kept : Kept (work figure) (T .width) (T .rows) new = filled-kept filled (λ first last h l o. zeros-at 12288 first last) in
+          let kept : Kept (work figure) (T .width) (T .rows) new = filled-kept filled (λ first last h l o. zeros-at keptCells first last) in
           let is : set headed 1 figure ≡ length t ∷ figure ∷ (inRoom t ++ new) =
           ap (λ (x : List ℕ). set x 1 figure) (rw parts at h
           ∙ ap (λ (x : List ℕ). set x 0 (length t)) (kept-put (getD rec 0 0) (getD rec 1 0) (inRoom t) zeros (length-room t small) new)) in

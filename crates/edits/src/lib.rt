@@ -17,7 +17,11 @@ ghost use Rattle.record.specs.Edits.{WorkedOut, Edit, Edited, editOf, append, d
 ghost use Rattle.record.specs.code.Rows.{tableWith, putRow};
 ghost use Rattle.record.specs.code.Zeros.{Cleared};
 ghost use Rattle.edits.specs.code.Joining.{Ready, Placed};
+ghost use Rattle.limits.specs.Limits.{keptCells, mostRows, mostTableCells};
 use least::By;
+use limits::RECORD_CELLS;
+use limits::ROWS;
+use limits::TABLE_CELLS;
 use refusal::Input;
 use refusal::Reason;
 use refusal::Refusal;
@@ -27,12 +31,12 @@ use table::TableAnswer;
 
 // What is kept for the pairs that end at a row becomes 0.
 fn clear_pairs(kept: &mut [u32], last: usize)
-    requires { ⌜ (length (now kept) ≡ 12288) × (last < 64) ⌝ }
+    requires { ⌜ (length (now kept) ≡ keptCells) × (last < mostRows) ⌝ }
     ensures { λ _. ⌜ Cleared last (now (kept .entry)) (now (kept .exit)) ⌝ }
 {
     let mut first = 0;
-    while first < 64 {
-        let pair = 64 * first + last;
+    while first < ROWS {
+        let pair = ROWS * first + last;
         kept[pair] = 0;
         kept[4096 + pair] = 0;
         kept[8192 + pair] = 0;
@@ -53,8 +57,13 @@ fn turned_away(reason: Reason) -> TableAnswer
 
 // A record comes to hold the table whose cells are the first in `next`, of which row r alone is new. Only the pairs with that
 // row are worked out, those that begin before row r + 1 and end at row r or later; then the cells and their number are put.
-fn work_again(rec: &mut [u32; 14340], next: &[u32; 2050], size: usize, r: usize) -> TableAnswer
-    requires { ⌜ (size ≤ 2050) × (r < 64) ⌝ }
+fn work_again(
+    rec: &mut [u32; RECORD_CELLS],
+    next: &[u32; TABLE_CELLS],
+    size: usize,
+    r: usize,
+) -> TableAnswer
+    requires { ⌜ (size ≤ mostTableCells) × (r < mostRows) ⌝ }
     ensures { λ a. ⌜ ((figure : ℕ) (T : Table) (row : List ℕ) → Holds (now (rec .entry)) figure T → Ready T r row (now (next .entry)) size
         → Holds (now (rec .exit)) figure (tableWith T r row) × (tableTold a ≡ tableSays (read (tableWith T r row)))) ⌝ }
 {
@@ -79,7 +88,12 @@ fn work_again(rec: &mut [u32; 14340], next: &[u32; 2050], size: usize, r: usize)
 
 // A row is put at its place: LONG to FRESH, SAME, EXTRA for the row beside the others, and then the record of the table with
 // it. The new table's cells are joined in a room of their own, since those of the old one are still to be read.
-fn put_row(rec: &mut [u32; 14340], row: &[u32], starts: &[usize; 64], at: Place) -> TableAnswer
+fn put_row(
+    rec: &mut [u32; RECORD_CELLS],
+    row: &[u32],
+    starts: &[usize; ROWS],
+    at: Place,
+) -> TableAnswer
     requires { ⌜ Placed (now rec) (now starts) at ⌝ }
     ensures { λ a. ⌜ ((g : Placed (now (rec .entry)) (now (starts .entry)) at) (figure : ℕ) (e : Edit)
         → Holds (now (rec .entry)) figure (g .rows .table)
@@ -91,7 +105,7 @@ fn put_row(rec: &mut [u32; 14340], row: &[u32], starts: &[usize; 64], at: Place)
     let count = at.count;
     match table::row_beside(at.width, cells, &noted[..count], at.number, row) {
         RowAnswer::Accepted(_) => {
-            let mut next = [0; 2050];
+            let mut next = [0; TABLE_CELLS];
             let size = rows::join(cells, row, starts, at, &mut next[..]);
             work_again(rec, &next, size, at.number)
         }
@@ -101,13 +115,13 @@ fn put_row(rec: &mut [u32; 14340], row: &[u32], starts: &[usize; 64], at: Place)
 
 // Works a record out for a table and a figure: any cells, any figure. Whatever it held is cleared, so that there is 0 behind
 // the cells and where there is no pair.
-pub fn work_out(cells: &[u32], figure: u32, rec: &mut [u32; 14340]) -> TableAnswer
+pub fn work_out(cells: &[u32], figure: u32, rec: &mut [u32; RECORD_CELLS]) -> TableAnswer
     ensures { λ a. ⌜ WorkedOut figure (now (cells .entry)) (now (rec .entry)) (now (rec .exit)) (tableTold a) ⌝ }
 {
     let answer = measuring::read_by(By::Work(figure), cells).answer;
     if let TableAnswer::Accepted(_, _) = answer {
         let all = &mut rec[..];
-        store::clear(&mut *all, 2, 14340);
+        store::clear(&mut *all, 2, RECORD_CELLS);
         store::copy(&mut *all, 2, cells);
         paircosts::fill(By::Work(figure), 0, cells, &mut all[2052..], 64, 0);
         store::put(&mut *all, 0, cells.len());
@@ -117,7 +131,7 @@ pub fn work_out(cells: &[u32], figure: u32, rec: &mut [u32; 14340]) -> TableAnsw
 }
 
 // Drops the last row, unless it is the only one: its cells and what is kept for the pairs that end there become 0.
-pub fn drop_last(rec: &mut [u32; 14340]) -> TableAnswer
+pub fn drop_last(rec: &mut [u32; RECORD_CELLS]) -> TableAnswer
     ensures { λ a. ⌜ ((figure : ℕ) (T : Table) → Holds (now (rec .entry)) figure T
         → Edited drop-last figure T (now (rec .entry)) (now (rec .exit)) (tableTold a)) ⌝ }
 {
@@ -145,7 +159,7 @@ pub fn drop_last(rec: &mut [u32; 14340]) -> TableAnswer
 }
 
 // Appends a row, any cells, to fewer than 64.
-pub fn append(rec: &mut [u32; 14340], row: &[u32]) -> TableAnswer
+pub fn append(rec: &mut [u32; RECORD_CELLS], row: &[u32]) -> TableAnswer
     ensures { λ a. ⌜ ((figure : ℕ) (T : Table) → Holds (now (rec .entry)) figure T
         → Edited (append (now (row .entry))) figure T (now (rec .entry)) (now (rec .exit)) (tableTold a)) ⌝ }
 {
@@ -153,7 +167,7 @@ pub fn append(rec: &mut [u32; 14340], row: &[u32]) -> TableAnswer
     let answer = read.answer;
     match answer {
         TableAnswer::Accepted(width, count) => {
-            if 64 <= count {
+            if ROWS <= count {
                 return turned_away(Reason::Full);
             }
             let starts = read.starts;
@@ -169,7 +183,7 @@ pub fn append(rec: &mut [u32; 14340], row: &[u32]) -> TableAnswer
 }
 
 // Replaces row r, any number, by a row, any cells.
-pub fn replace(rec: &mut [u32; 14340], r: usize, row: &[u32]) -> TableAnswer
+pub fn replace(rec: &mut [u32; RECORD_CELLS], r: usize, row: &[u32]) -> TableAnswer
     ensures { λ a. ⌜ ((figure : ℕ) (T : Table) → Holds (now (rec .entry)) figure T
         → Edited (replace r (now (row .entry))) figure T (now (rec .entry)) (now (rec .exit)) (tableTold a)) ⌝ }
 {

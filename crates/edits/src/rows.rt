@@ -5,8 +5,10 @@ ghost use Prim.Native.Nat.{suc, _+_, _-_, _≤_, _<_};
 ghost use lib.Dec.{ltb};
 ghost use lib.ListN.{length, getD};
 ghost use Rattle.edits.specs.code.Joining.{Joins, Joined};
+ghost use Rattle.limits.specs.Limits.{mostRows};
 use crate::store::copy;
 use crate::store::put;
+use limits::ROWS;
 
 // Where a row is put into a table of a width and so many rows: instead of the row with a number, or after the last.
 pub struct Place {
@@ -17,7 +19,7 @@ pub struct Place {
 
 // How many rows there are then.
 fn count_with(at: Place) -> usize
-    requires { ⌜ at .number < 64 ⌝ }
+    requires { ⌜ at .number < mostRows ⌝ }
     ensures { λ n. ⌜ n ≡ at .number + suc (at .count - suc (at .number)) ⌝ }
 {
     if at.number < at.count {
@@ -28,8 +30,8 @@ fn count_with(at: Place) -> usize
 }
 
 // Where a row begins, and after the last row where the table ends.
-fn edge(cells: &[u32], starts: &[usize; 64], count: usize, r: usize) -> usize
-    requires { ⌜ count ≤ 64 ⌝ }
+fn edge(cells: &[u32], starts: &[usize; ROWS], count: usize, r: usize) -> usize
+    requires { ⌜ count ≤ mostRows ⌝ }
     ensures { λ e. ⌜ e ≡ cond (ltb r count) (getD (now (starts .entry)) r 0) (length (now (cells .entry))) ⌝ }
 {
     if r < count { starts[r] } else { cells.len() }
@@ -37,7 +39,13 @@ fn edge(cells: &[u32], starts: &[usize; 64], count: usize, r: usize) -> usize
 
 // The table's cells with a row put, in a room that held 0: those before it, the row, those after it, and the number of rows.
 // How many they are.
-pub fn join(cells: &[u32], row: &[u32], starts: &[usize; 64], at: Place, next: &mut [u32]) -> usize
+pub fn join(
+    cells: &[u32],
+    row: &[u32],
+    starts: &[usize; ROWS],
+    at: Place,
+    next: &mut [u32],
+) -> usize
     requires { ⌜ Joins (now cells) (now row) (now starts) at (now next) ⌝ }
     ensures { λ n. ⌜ ((g : Joins (now (cells .entry)) (now (row .entry)) (now (starts .entry)) at (now (next .entry)))
         → Joined g (now (next .exit)) n) ⌝ }

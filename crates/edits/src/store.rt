@@ -3,6 +3,7 @@ ghost use mathlib.Core.Path.{_≡_};
 ghost use Prim.Native.Nat.{_+_, _-_, _≤_, _<_};
 ghost use lib.ListN.{length, set, replicate};
 ghost use lib.Seq.{sets};
+ghost use Rattle.limits.specs.Limits.{mostTableCells};
 
 // Those from a place up to another become 0.
 pub fn clear(out: &mut [u32], from: usize, to: usize)
@@ -30,7 +31,7 @@ pub fn copy(out: &mut [u32], at: usize, cells: &[u32])
 
 // A small number is put at a place.
 pub fn put(out: &mut [u32], at: usize, n: usize)
-    requires { ⌜ (at < length (now out)) × (n ≤ 2050) ⌝ }
+    requires { ⌜ (at < length (now out)) × (n ≤ mostTableCells) ⌝ }
     ensures { λ _. ⌜ now (out .exit) ≡ set (now (out .entry)) at n ⌝ }
 {
     out[at] = n as u32;

@@ -8,6 +8,7 @@ ghost use Rattle.plan.specs.Check.{planOf};
 ghost use Rattle.blocks.specs.Blocks.{blocksFrom};
 ghost use Rattle.filing.specs.Files.{stream, FileWritten};
 ghost use Rattle.filing.specs.Answers.{fileTold};
+ghost use Rattle.limits.specs.Limits.{mostPlanCells, mostTableCells};
 use checker::PlanAnswer;
 use filing::FileAnswer;
 use filing::turn;
@@ -16,7 +17,7 @@ use refusal::Reason;
 
 // The cells of a file laid out at the front of a lent list: the sizes, the table, the plan.
 fn lay(table: &[u32], plan: &[u32], cells: &mut [u32]) -> usize
-    requires { ⌜ (length (now table) ≤ 2050) × (length (now plan) ≤ 6082) ⌝ }
+    requires { ⌜ (length (now table) ≤ mostTableCells) × (length (now plan) ≤ mostPlanCells) ⌝ }
     ensures { λ r. ⌜ Put (now (cells .entry)) (now (cells .exit)) 0 (stream (now (table .entry)) (now (plan .entry))) r ⌝ }
 {
     let sizes = [table.len() as u32, plan.len() as u32];
@@ -43,7 +44,7 @@ fn put_blocks(out: &mut [u8], count: usize, cells: &[u32]) -> usize
 
 // The file of an accepted table and plan, by way of a lent list of zeros.
 fn put_file(table: &[u32], plan: &[u32], cells: &mut [u32], room: &mut [u8]) -> FileAnswer
-    requires { ⌜ (length (now table) ≤ 2050) × (length (now plan) ≤ 6082) × (now cells ≡ replicate 8250 0) ⌝ }
+    requires { ⌜ (length (now table) ≤ mostTableCells) × (length (now plan) ≤ mostPlanCells) × (now cells ≡ replicate 8250 0) ⌝ }
     ensures { λ r. ⌜ ((n : ℕ) → planOf (now (table .entry)) (now (plan .entry)) ≡ read n
         → FileWritten (now (table .entry)) (now (plan .entry)) (now (room .entry)) (now (room .exit)) (fileTold r)) ⌝ }
 {

@@ -23,14 +23,15 @@ use Rattle.filing.specs.Files.{stream, needed, filled, wordsFor, fileOf,
 use Rattle.filing.specs.Files.{tableSize, planSize, sizes, tablePart, planPart, cardOf, fileRead}
 use Rattle.filing.proofs.FileLaws.{filled-size, filled-words, zeros-yes, zeros-are, file-passes, card-passes, Passed, file-passed}
 use Rattle.filing.proofs.FileLaws.{sizes-are, rest-is, table-is, plan-is}
+use Rattle.limits.specs.Limits.{mostPlanCells, mostTableCells}
 
 -- the sizes of what the check accepts
-pub accepted-sizes : (t p : List ℕ) {n : ℕ} → planOf t p ≡ read n → (length t ≤ 2050) × (length p ≤ 6082)
+pub accepted-sizes : (t p : List ℕ) {n : ℕ} → planOf t p ≡ read n → (length t ≤ mostTableCells) × (length p ≤ mostPlanCells)
 unfolding planWith
 accepted-sizes t p e =
     let a = reading.first (tableOf t) (λ (T : Table). planFor T p) e in
-    let b = passed (ltb 6082 (length p)) _ _ (a .2) in
-    (table-short t (a .1), ltb-false 6082 (length p) (b .0))
+    let b = passed (ltb mostPlanCells (length p)) _ _ (a .2) in
+    (table-short t (a .1), ltb-false mostPlanCells (length p) (b .0))
 
 -- what is written is read: a table and a plan that the check accepts, of words of 32 bits
 pub there-and-back : (t p : List ℕ) {n : ℕ} → Words t → Words p → planOf t p ≡ read n → fileRead (fileOf t p) ≡ read (card t p)
@@ -104,7 +105,7 @@ back-again f c by e = go (file-passed f c e)
         ap (λ (x : Card). fileOf (x .table) (x .plan)) (sym (p .is)) ∙ ap bytesOf words ∙ bytes-back f by (omega (arith, p .blocks))
 
 -- the sizes of what is read
-pub read-sizes : (f : List ℕ) (c : Card) → fileRead f ≡ read c → (length (c .table) ≤ 2050) × (length (c .plan) ≤ 6082)
+pub read-sizes : (f : List ℕ) (c : Card) → fileRead f ≡ read c → (length (c .table) ≤ mostTableCells) × (length (c .plan) ≤ mostPlanCells)
 read-sizes f c e =
     let p = file-passed f c e in
     let z = accepted-sizes (tablePart (goodCells f 0)) (planPart (goodCells f 0)) (p .accepted) in

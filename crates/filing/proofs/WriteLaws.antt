@@ -16,6 +16,7 @@ use Rattle.blocks.specs.Blocks.{blockOf, blocksFrom}
 use Rattle.blocks.proofs.BlockLaws.{blocks-length}
 use Rattle.filing.specs.Files.{stream, needed, filled, wordsFor, fileOf, noRoom, FileWritten, room-short, written}
 use Rattle.filing.proofs.FileLaws.{filled-size}
+use Rattle.limits.specs.Limits.{mostPlanCells, mostTableCells}
 
 -- blocks do not depend on cells after their own
 pub blocks-front : (k n : ℕ) (xs ys : List ℕ) → length xs ≡ 125 * k → blocksFrom n k (xs ++ ys) ≡ blocksFrom n k xs
@@ -40,7 +41,7 @@ laid-blocks s m h l =
     ∙ sym (append-assoc s (replicate a 0) (replicate b 0)) in
     ap (blocksFrom 0 k) z ∙ blocks-front k 0 (filled s) (replicate b 0) (filled-size s)
 
-module _ (t p : List ℕ) (short : (length t ≤ 2050) × (length p ≤ 6082)) where
+module _ (t p : List ℕ) (short : (length t ≤ mostTableCells) × (length p ≤ mostPlanCells)) where
   pub stream-size : length (stream t p) ≡ 2 + (length t + length p)
   stream-size = omega (arith, length-append t p)
 

@@ -8,6 +8,7 @@ use goallines::Place;
 use goallist::Added;
 use goallist::Full;
 use goallist::Held;
+use limits::BRANCHES;
 use message::Whose;
 use refusal::Refusal;
 use shop::Shop;
@@ -54,7 +55,7 @@ pub fn gather(
     out: &mut [u8],
 ) -> Stand {
     let mut buf = [0u8; 65534];
-    let mut numbers = [0u64; 2048];
+    let mut numbers = [0u64; BRANCHES];
     let ready = askgoal::make_ready(kept, shop, &mut numbers);
     let last = gather_lines(
         fd,
@@ -79,7 +80,7 @@ fn gather_lines(
     jobs: &[u8],
     text: &[u8],
     kept: &[u32],
-    numbers: &[u64; 2048],
+    numbers: &[u64; BRANCHES],
     ready: Ready,
     buf: &mut [u8],
     cells: &mut [u32],
@@ -115,7 +116,7 @@ fn gather_next(
     jobs: &[u8],
     text: &[u8],
     kept: &[u32],
-    numbers: &[u64; 2048],
+    numbers: &[u64; BRANCHES],
     ready: Ready,
     buf: &mut [u8],
     stand: Stand,
@@ -145,7 +146,7 @@ fn gather_piece(
     jobs: &[u8],
     text: &[u8],
     kept: &[u32],
-    numbers: &[u64; 2048],
+    numbers: &[u64; BRANCHES],
     ready: Ready,
     buf: &[u8],
     piece: Piece,

@@ -50,6 +50,7 @@ use Rattle.goaltext.specs.declared.GoalText.{GoalText}
 use Rattle.goaltext.specs.declared.GoalText.the-variants as goal-text
 use Rattle.goaltext.proofs.StepLaws.{counted-text, some-fact}
 use Rattle.goaltext.proofs.NameLaws.{cells-many, words-many, stored-front}
+use Rattle.limits.specs.Limits.{mostGoalBytes, mostNames, mostTextBytes}
 
 -- A GOAL'S TEXT IS A TEXT
 pub whole-text : {t whole : List ℕ} {fs : List Fact} → Whole t whole fs → Text whole fs
@@ -72,7 +73,7 @@ stored-at : (xs zeros : List ℕ) (k : ℕ) → length xs ≤ length zeros → k
 stored-at xs zeros k h l = ap (λ (ys : List ℕ). getD ys k 0) (stored-front xs zeros h) ∙ List·getD-append xs (drop (length xs) zeros) 0 k l
 
 -- A TEXT OF ONE FACT: its cells by its own names, and with these looked up
-module _ (t whole : List ℕ) (f : Fact) (w : Whole t whole (f ∷ [])) (few : length whole ≤ 65535) (short : length t ≤ 65533) where
+module _ (t whole : List ℕ) (f : Fact) (w : Whole t whole (f ∷ [])) (few : length whole ≤ mostTextBytes) (short : length t ≤ mostGoalBytes) where
   abbrev own : List Place
   own = namesOf whole (f ∷ [])
 
@@ -101,7 +102,7 @@ module _ (t whole : List ℕ) (f : Fact) (w : Whole t whole (f ∷ [])) (few : l
       by (numbering.more {row = r} a numbering.none q) = subst (Row whole (wordsAt whole own) [] (f .symbols)) (sym (q ∙ append-nil r)) a
 
   one-asks : (words : Words) (predicate : List ℕ) (width : ℕ) (row numbers : List ℕ) → Ours predicate width whole f []
-      → tableCells whole (f ∷ []) ≡ f .width ∷ 1 ∷ row → length words ≤ 2048
+      → tableCells whole (f ∷ []) ≡ f .width ∷ 1 ∷ row → length words ≤ mostNames
       → ((k : ℕ) → k < length own → getD numbers k 0 ≡ getD (numbersFrom words 0 (wordsAt whole own)) k 0)
       → Asks words predicate width t (record { cells = newCells numbers row; new = newOnes (wordIn whole) words (nameList whole (f ∷ [])) })
   unfolding nameList
@@ -124,7 +125,7 @@ unfolding goalOf
 goal-long width cells h = rw (le-ltb (length cells) 1 (omega arith), lt-ltb 32 (length cells) h)
 
 -- WHAT IS ANSWERED. The goal's first fact, and the text of facts whose names and predicate it is held against
-module _ (text names : List ℕ) (p : Predicate) (t whole : List ℕ) (few : length whole ≤ 65535) (short : length t ≤ 65533) where
+module _ (text names : List ℕ) (p : Predicate) (t whole : List ℕ) (few : length whole ≤ mostTextBytes) (short : length t ≤ mostGoalBytes) where
   abbrev words : Words
   words = wordsIn text names
 
@@ -209,7 +210,7 @@ module _ (text names : List ℕ) (p : Predicate) (t whole : List ℕ) (few : len
         by (read v) i x = record { says = read g; rule = goal.is-goal short a (e ∙ i); answers = x }
         by (refuse f) i x = record { says = refuse f; rule = goal.no-goal short a (e ∙ i); answers = x }
 
-    one-reads : (f : Fact) {row list cells cells′ new new′ : List ℕ} {r : GoalText} → length names ≤ 2048 → Whole t whole (f ∷ [])
+    one-reads : (f : Fact) {row list cells cells′ new new′ : List ℕ} {r : GoalText} → length names ≤ mostNames → Whole t whole (f ∷ [])
         → Ours (predicateIn text p) (p .width) whole f [] → row ≡ drop 2 (tableCells whole (f ∷ [])) → list ≡ nameList whole (f ∷ [])
         → FactAsked text names (p .width) whole row list cells cells′ new new′ r → Reads text names p t cells cells′ new new′ r
     one-reads f {row} {list} h w o e l A =
@@ -227,8 +228,8 @@ module _ (text names : List ℕ) (p : Predicate) (t whole : List ℕ) (few : len
         (goal-new (p .width) (A .numbers) row) (A .answers)
 
     -- a goal of over 2,048 symbols
-    one-long : (f : Fact) {cells new : List ℕ} {r : GoalText} → length names ≤ 2048 → Whole t whole (f ∷ [])
-        → Ours (predicateIn text p) (p .width) whole f [] → 2048 < length (symbolsOf (f ∷ []))
+    one-long : (f : Fact) {cells new : List ℕ} {r : GoalText} → length names ≤ mostNames → Whole t whole (f ∷ [])
+        → Ours (predicateIn text p) (p .width) whole f [] → mostNames < length (symbolsOf (f ∷ []))
         → textTold r ≡ turned (refused reason.Length input.Goal 0)
         → Reads text names p t cells cells new new r
     one-long f h w o l e =
@@ -251,7 +252,7 @@ module _ (text names : List ℕ) (p : Predicate) (t whole : List ℕ) (few : len
         by (f ∷ g ∷ gs) k l e = absurd (omega arith)
 
     pub goal-reads : {c : Counted} {fs : List Fact} {row list cells cells′ new new′ : List ℕ} {r : GoalText} (C : Counts whole c)
-        → length names ≤ 2048 → Whole t whole fs → Same text p whole s c → row ≡ drop 2 (tableCells whole (C .facts))
+        → length names ≤ mostNames → Whole t whole fs → Same text p whole s c → row ≡ drop 2 (tableCells whole (C .facts))
         → list ≡ nameList whole (C .facts) → FactAsked text names (p .width) whole row list cells cells′ new new′ r
         → Reads text names p t cells cells′ new new′ r
     goal-reads C h w S e l A =
@@ -260,9 +261,9 @@ module _ (text names : List ℕ) (p : Predicate) (t whole : List ℕ) (few : len
         one-reads (o .0) h (o .1 .1) (same-ours (o .0) C q (whole-text (o .1 .1)) S)
         (e ∙ ap (λ (gs : List Fact). drop 2 (tableCells whole gs)) q) (l ∙ ap (nameList whole) q) A
 
-    pub long-reads : {c : Counted} {fs : List Fact} {cells new : List ℕ} {r : GoalText} (C : Counts whole c) → length names ≤ 2048
+    pub long-reads : {c : Counted} {fs : List Fact} {cells new : List ℕ} {r : GoalText} (C : Counts whole c) → length names ≤ mostNames
         → Whole t whole fs
-        → Same text p whole s c → 2048 < c .symbols → textTold r ≡ turned (refused reason.Length input.Goal 0)
+        → Same text p whole s c → mostNames < c .symbols → textTold r ≡ turned (refused reason.Length input.Goal 0)
         → Reads text names p t cells cells new new r
     long-reads C h w S l e =
         let o = counted-one C (S .one) w in
@@ -346,7 +347,7 @@ module _ {t made list : List ℕ} where
         names = take-append-seam names (drop (length names) list);
       }
 
-  pub long-are : {made′ list′ : List ℕ} {c : Counted} → FactsAre t made list made′ list′ (facts-answer.Long c) → Counts t c × (2048 < c .symbols)
+  pub long-are : {made′ list′ : List ℕ} {c : Counted} → FactsAre t made list made′ list′ (facts-answer.Long c) → Counts t c × (mostNames < c .symbols)
   long-are (entry.too-long C h) = (C, h)
 
   pub turned-are : {made′ list′ : List ℕ} (f : Refusal) → FactsAre t made list made′ list′ (facts-answer.Refused f) → Taken t (refuse (told f))

@@ -34,6 +34,7 @@ use Rattle.goaltext.specs.Asked.{predicateOf, PredicateIs, first, none}
 use Rattle.goaltext.specs.code.Steps.{NameIs, EndsAre, SizeOf, OursIs}
 use Rattle.goaltext.specs.declared.Ends.the-variants as ends
 use Rattle.goaltext.specs.declared.Size.the-variants as size
+use Rattle.limits.specs.Limits.{mostTextBytes}
 
 -- A TEXT'S FACTS: those that are counted, and at least one
 pub counted-text : {t : List ℕ} {c : Counted} (C : Counts t c) → Text t (C .facts)
@@ -87,7 +88,7 @@ ends-facts t c C = by (C .taken)
     by : Taken t (read (C .facts)) → (fs : List Fact) × Text t fs
     by (taken h x e) = (C .facts, x)
 
-module _ (t : List ℕ) (f : Refusal) (few : length t ≤ 65535) where
+module _ (t : List ℕ) (f : Refusal) (few : length t ≤ mostTextBytes) where
   pub ends-stop : ScanIs t (scan.Refused f) → numberOf (f .reason) ≡ 18 → EndsAre t (ends.Stop (f .place))
   ends-stop s n = by (scan-turned t f s) refl
     where

@@ -15,6 +15,7 @@ use Rattle.termtext.specs.Goal.{Goal, GoalRead}
 use Rattle.termtext.specs.declared.Predicate.{Predicate}
 use Rattle.goaltext.specs.declared.GoalText.{GoalText}
 use Rattle.goaltext.specs.declared.GoalText.the-variants as goal-text
+use Rattle.limits.specs.Limits.{mostNames}
 
 -- a fact's predicate: where its name stands, and how many arguments it has
 abbrev pub predicateOf : Fact → Predicate
@@ -27,8 +28,8 @@ pub data PredicateIs (t : List ℕ) : Predicate → Type 0 where
 
 -- no table has over 2,048 names (01, LENGTH): a list with more is refused as that table is
 pub data Asked (text names : List ℕ) (p : Predicate) (goal : List ℕ) : Read Goal → Type 0 where
-  too-many : 2048 < length names → Asked text names p goal (refuse (refused reason.Length input.Table 0))
-  asked : {says : Read Goal} → length names ≤ 2048 → GoalRead (wordsIn text names) (predicateIn text p) (p .width) goal says
+  too-many : mostNames < length names → Asked text names p goal (refuse (refused reason.Length input.Table 0))
+  asked : {says : Read Goal} → length names ≤ mostNames → GoalRead (wordsIn text names) (predicateIn text p) (p .width) goal says
       → Asked text names p goal says
 
 -- how many cells it has, and how many names that the table has not; or why it is turned away

@@ -10,7 +10,12 @@ ghost use Rattle.refusal.specs.declared.Reason.{Reason};
 ghost use Rattle.refusal.specs.declared.Input.{Input};
 ghost use Rattle.goaltext.specs.Asked.{PredicateIs, textTold, GoalAsked};
 ghost use Rattle.goaltext.specs.code.Steps.{NameIs, EndsAre, SizeIs, OursIs, FactAsked, TextAsked, StoppedAsked};
+ghost use Rattle.limits.specs.Limits.{mostGoalBytes, mostNames, mostTextBytes};
 use lex::fact::Head;
+use limits::GOAL_BYTES;
+use limits::NAMES;
+use limits::TABLE_CELLS;
+use limits::TEXT_BYTES;
 use prolog::FactsAnswer;
 use refusal::Input;
 use refusal::Reason;
@@ -74,7 +79,7 @@ pub enum Ends {
 }
 
 fn text_ends(text: &[u8]) -> Ends
-    ensures { λ r. ⌜ (length (now (text .entry)) ≤ 65535 → EndsAre (now (text .entry)) r) ⌝ }
+    ensures { λ r. ⌜ (length (now (text .entry)) ≤ mostTextBytes → EndsAre (now (text .entry)) r) ⌝ }
 {
     match scan::scan_text(text) {
         Scan::Facts(_) => Ends::Whole,
@@ -96,7 +101,7 @@ pub enum Size {
 }
 
 fn whole_size(text: &[u8], n: usize) -> Size
-    requires { ⌜ (n + 2 ≡ length (now text)) × (length (now text) ≤ 65535) ⌝ }
+    requires { ⌜ (n + 2 ≡ length (now text)) × (length (now text) ≤ mostTextBytes) ⌝ }
     ensures { λ r. ⌜ SizeIs (now (text .entry)) n r ⌝ }
 {
     match text_ends(&text[..n]) {
@@ -141,7 +146,7 @@ fn put_goal(
     cells: &mut [u32; 32],
     new: &mut [u32; 32],
 ) -> GoalText
-    requires { ⌜ (length (now names) ≤ 2048) × (length (now list) ≤ length (now row)) ⌝ }
+    requires { ⌜ (length (now names) ≤ mostNames) × (length (now list) ≤ length (now row)) ⌝ }
     ensures { λ r. ⌜ FactAsked (now (text .entry)) (now (names .entry)) width (now (whole .entry)) (now (row .entry)) (now (list .entry))
         (now (cells .entry)) (now (cells .exit)) (now (new .entry)) (now (new .exit)) r ⌝ }
 {
@@ -165,13 +170,13 @@ fn read_whole(
     cells: &mut [u32; 32],
     new: &mut [u32; 32],
 ) -> GoalText
-    requires { ⌜ (length (now names) ≤ 2048) × (length (now whole) ≤ 65535) ⌝ }
+    requires { ⌜ (length (now names) ≤ mostNames) × (length (now whole) ≤ mostTextBytes) ⌝ }
     ensures { λ r. ⌜ TextAsked (now (text .entry)) (now (names .entry)) p (now (whole .entry))
         (now (cells .entry)) (now (cells .exit)) (now (new .entry)) (now (new .exit)) r ⌝ }
 {
     let s = first_name(whole);
-    let mut made = [0u32; 2050];
-    let mut list = [0u32; 2048];
+    let mut made = [0u32; TABLE_CELLS];
+    let mut list = [0u32; NAMES];
     match prolog::make_facts(whole, &mut made, &mut list) {
         FactsAnswer::Made(c, size) => {
             if is_ours(text, p, whole, s, c) {
@@ -209,7 +214,7 @@ fn read_stopped(
     cells: &mut [u32; 32],
     new: &mut [u32; 32],
 ) -> GoalText
-    requires { ⌜ (length (now names) ≤ 2048) × (2 ≤ length (now stopped)) × (length (now stopped) ≤ 65535) ⌝ }
+    requires { ⌜ (length (now names) ≤ mostNames) × (2 ≤ length (now stopped)) × (length (now stopped) ≤ mostTextBytes) ⌝ }
     ensures { λ r. ⌜ StoppedAsked (now (text .entry)) (now (names .entry)) p (now (stopped .entry))
         (now (cells .entry)) (now (cells .exit)) (now (new .entry)) (now (new .exit)) r ⌝ }
 {
@@ -229,7 +234,7 @@ fn read_in(
     cells: &mut [u32; 32],
     new: &mut [u32; 32],
 ) -> GoalText
-    requires { ⌜ (length (now names) ≤ 2048) × (length (now goal) ≤ 65533) × (length (now goal) + 2 ≤ length (now stopped)) ⌝ }
+    requires { ⌜ (length (now names) ≤ mostNames) × (length (now goal) ≤ mostGoalBytes) × (length (now goal) + 2 ≤ length (now stopped)) ⌝ }
     ensures { λ r. ⌜ GoalAsked (now (text .entry)) (now (names .entry)) p (now (goal .entry))
         (now (cells .entry)) (now (cells .exit)) (now (new .entry)) (now (new .exit)) r ⌝ }
 {
@@ -251,16 +256,16 @@ pub fn read_goal(
     ensures { λ r. ⌜ GoalAsked (now (text .entry)) (now (names .entry)) p (now (goal .entry))
         (now (cells .entry)) (now (cells .exit)) (now (new .entry)) (now (new .exit)) r ⌝ }
 {
-    if 2048 < names.len() {
+    if NAMES < names.len() {
         return refuse(Reason::Length, Input::Table, 0);
     }
-    if 65533 < goal.len() {
+    if GOAL_BYTES < goal.len() {
         return refuse(Reason::Bytes, Input::Text, 0);
     }
     if goal.len() <= 1022 {
         let mut short = [0u8; 1024];
         return read_in(text, names, p, goal, &mut short, cells, new);
     }
-    let mut long = [0u8; 65535];
+    let mut long = [0u8; TEXT_BYTES];
     read_in(text, names, p, goal, &mut long, cells, new)
 }

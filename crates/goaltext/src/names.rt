@@ -6,6 +6,7 @@ ghost use lib.ListN.{length, getD, drop};
 ghost use Rattle.termtext.specs.Saying.{wordsIn};
 ghost use Rattle.goaltext.specs.code.Steps.{NumberIs, NamesNumbered};
 ghost use Rattle.termtext.specs.code.Renumber.{wordNumber, newCell, newCells};
+ghost use Rattle.limits.specs.Limits.{mostNames};
 use cell::Shape;
 use lex::name::same_bytes;
 
@@ -31,7 +32,7 @@ pub struct Numbered {
 
 // By where it stands among so many known names, and so many new ones before it. A new one is put behind those.
 fn number_one(known: usize, at: usize, name: u32, new: &mut [u32], count: usize) -> Numbered
-    requires { ⌜ (known ≤ 2048) × (count < length (now new)) × (count ≤ 2048) ⌝ }
+    requires { ⌜ (known ≤ mostNames) × (count < length (now new)) × (count ≤ mostNames) ⌝ }
     ensures { λ r. ⌜ NumberIs known at name count (now (new .entry)) (now (new .exit)) r ⌝ }
 {
     if at < known {
@@ -53,8 +54,8 @@ pub fn number_names(
     numbers: &mut [u32],
     new: &mut [u32],
 ) -> usize
-    requires { ⌜ (length (now list) ≤ length (now numbers)) × (length (now list) ≤ length (now new)) × (length (now list) ≤ 2048)
-        × (length (now names) ≤ 2048) ⌝ }
+    requires { ⌜ (length (now list) ≤ length (now numbers)) × (length (now list) ≤ length (now new)) × (length (now list) ≤ mostNames)
+        × (length (now names) ≤ mostNames) ⌝ }
     ensures { λ r. ⌜ NamesNumbered (wordsIn (now (text .entry)) (now (names .entry))) (now (whole .entry)) (now (list .entry))
         (now (numbers .entry)) (now (numbers .exit)) (now (new .entry)) (now (new .exit)) r ⌝ }
 {

@@ -12,6 +12,7 @@ use Rattle.grammar.specs.Numbering as numbering
 use Rattle.grammar.proofs.NthLaws.{nth-left, nth-seam, mem-nth, nth-map, nth-unmap}
 use Rattle.grammar.proofs.Numbered.{names-are, each-name}
 use Rattle.grammar.proofs.Along.{Along, a-name, a-variable, a-number, along-name, text-along}
+use Rattle.limits.specs.Limits.{mostTextBytes}
 
 module _ (t : List ℕ) where
   -- a name that is listed first stands there, and is none of those met before
@@ -86,7 +87,7 @@ Start n = n % 2 ^ 16
 abbrev End : ℕ → ℕ
 End n = n % 2 ^ 16 + n / 2 ^ 16
 
-module _ {t : List ℕ} {fs : List Fact} (x : Text t fs) (h : length t ≤ 65535) where
+module _ {t : List ℕ} {fs : List Fact} (x : Text t fs) (h : length t ≤ mostTextBytes) where
   firsts : Firsts t [] (symbolsOf fs) (namesOf t fs)
   firsts = names-are t fs (namesOf t fs) .1 refl
 

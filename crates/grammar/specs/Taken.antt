@@ -11,10 +11,11 @@ use Rattle.refusal.specs.declared.Input.the-variants as input
 use Rattle.grammar.specs.Grammar.{Fact, Text}
 use Rattle.grammar.specs.Stops.{Stops}
 use Rattle.grammar.specs.Meaning.{none, found, otherIn}
+use Rattle.limits.specs.Limits.{mostTextBytes}
 
 pub data Taken (t : List ℕ) : Read (List Fact) → Type 0 where
-  too-long : 65535 < length t → Taken t (refuse (refused reason.Bytes input.Text 0))
-  no-text : {k : ℕ} → length t ≤ 65535 → Stops t k → Taken t (refuse (refused reason.Text input.Text k))
-  other-fact : {k : ℕ} {fs : List Fact} → length t ≤ 65535 → Text t fs → otherIn t fs ≡ found k
+  too-long : mostTextBytes < length t → Taken t (refuse (refused reason.Bytes input.Text 0))
+  no-text : {k : ℕ} → length t ≤ mostTextBytes → Stops t k → Taken t (refuse (refused reason.Text input.Text k))
+  other-fact : {k : ℕ} {fs : List Fact} → length t ≤ mostTextBytes → Text t fs → otherIn t fs ≡ found k
       → Taken t (refuse (refused reason.Other input.Text k))
-  taken : {fs : List Fact} → length t ≤ 65535 → Text t fs → otherIn t fs ≡ none → Taken t (read fs)
+  taken : {fs : List Fact} → length t ≤ mostTextBytes → Text t fs → otherIn t fs ≡ none → Taken t (read fs)

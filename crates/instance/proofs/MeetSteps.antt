@@ -28,6 +28,7 @@ use Rattle.instance.specs.code.Left.{Left}
 use Rattle.instance.proofs.Apart.{after-cell, Below}
 use Rattle.instance.proofs.General.{solves-common}
 use Rattle.instance.proofs.MeetLaws.{left-long, left-cell, left-first, left-second, left-symbols, left-done}
+use Rattle.limits.specs.Limits.{mostReplyCells}
 
 -- A variable replaced everywhere: in the goal so far, then in what is left of the row.
 module _ {row goal cells : List ℕ} {v : ℕ} {t : List ℕ} {i n at′ len turns : ℕ} (w : After row goal cells v t i n at′ len turns) (inside : at′ ≤ len) where
@@ -44,15 +45,15 @@ module _ {row goal cells : List ℕ} {v : ℕ} {t : List ℕ} {i n at′ len tur
   there = subst (λ (P : List ℕ). Left row goal third P second turns) (ap (put v t) (take-take at′ len cells inside)) (w .left)
 
   -- what is too long already
-  pub goal-over : 1024 < length first + length second → Over row goal
+  pub goal-over : mostReplyCells < length first + length second → Over row goal
   goal-over l = record { over = λ Y q. omega (arith, l, left-long there Y q .0) }
 
-  pub row-over : 1024 < length third → Over row goal
+  pub row-over : mostReplyCells < length third → Over row goal
   row-over l = record { over = λ Y q. omega (arith, l, left-long there Y q .1) }
 
   -- all three stand at the front of a list
   pub bind-there : (cells′ : List ℕ) (q l m : ℕ) → m ≤ length cells′ → q ≡ length first → l ≡ length first + length second
-      → m ≡ l + length third → l ≤ 1024 → m ≤ l + 1024 → take m cells′ ≡ (first ++ second) ++ third
+      → m ≡ l + length third → l ≤ mostReplyCells → m ≤ l + mostReplyCells → take m cells′ ≡ (first ++ second) ++ third
       → Meeting row goal cells′ l m q l turns
   bind-there cells′ q l m lc eq el em sl sm x =
       let b : length (first ++ second) ≡ l = length-append first second ∙ sym el in
@@ -187,10 +188,10 @@ module _ {row goal cells : List ℕ} {i n at′ len turns : ℕ} (w : Meeting ro
   }
 
   -- a term stands on each side, of at most 1,024 cells
-  pub goal-term : TermsAt C at′ × (length C ≤ at′ + 1024)
+  pub goal-term : TermsAt C at′ × (length C ≤ at′ + mostReplyCells)
   goal-term = (record { after = j; terms = goal-owed }, omega (arith, C-long, w .goal-short))
 
-  pub row-term : TermsAt L i × (length L ≤ i + 1024)
+  pub row-term : TermsAt L i × (length L ≤ i + mostReplyCells)
   row-term = (record { after = j; terms = row-owed }, omega (arith, L-long, w .row-short))
 
   -- a variable of the row meets a term of the goal

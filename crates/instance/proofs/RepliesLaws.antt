@@ -22,6 +22,7 @@ use Rattle.instance.specs.code.Meet.{Hit}
 use Rattle.instance.specs.code.Passes.{RepliesAt, done, next}
 use Rattle.instance.proofs.StartLaws.{hit-there, the-reply}
 use Rattle.instance.proofs.Variants.{reply-one}
+use Rattle.limits.specs.Limits.{mostReplyCells}
 
 -- what an accepted table, plan and goal are
 pub replies-take : (t p g : List ℕ) {T : Table} → repliesOf t p g ≡ read T → (tableOf t ≡ read T) × IsGoal (T .width) g
@@ -39,7 +40,7 @@ replies-few replies.none = omega arith
 replies-few (replies.hit m r x) = omega (arith, replies-few x)
 replies-few (replies.miss n x) = omega (arith, replies-few x)
 
-pub short-flat : (all : List (List ℕ)) → All Short all → length (flatten all) ≤ length all * 1024
+pub short-flat : (all : List (List ℕ)) → All Short all → length (flatten all) ≤ length all * mostReplyCells
 unfolding flatten
 short-flat [] s = omega arith
 short-flat (cells ∷ all) s = omega (arith, s .0, short-flat all (s .1), length-append cells (flatten all))
@@ -49,7 +50,7 @@ not-large {all} s l = omega (arith, l .over, all-member Short all s (l .one))
 
 -- so that 64 · 1,024 are enough
 pub replies-room : (t p g : List ℕ) {T : Table} {all : List (List ℕ)} → repliesOf t p g ≡ read T → Replies g (T .rows) all → All Short all
-    → (length all ≤ 64) × (length (flatten all) ≤ 64 * 1024)
+    → (length all ≤ 64) × (length (flatten all) ≤ 64 * mostReplyCells)
 replies-room t p g {all = all} e a s =
     let i = is-table t (replies-take t p g e .0) in
     let n = replies-few a in

@@ -7,6 +7,7 @@ use lib.ListN.{length}
 use Rattle.term.specs.Unify.{Matches}
 use Rattle.table.specs.Table.{appear, upFrom}
 use Rattle.instance.specs.Instance.{MostGeneral}
+use Rattle.limits.specs.Limits.{mostReplyCells}
 
 -- 01, "Variables are numbered 0, 1, 2 in order of first appearance": the same words as `order` of `Head` (table/specs/Table)
 abbrev pub Numbered : List ℕ → Type 0
@@ -24,10 +25,10 @@ pub data Replies (goal : List ℕ) : List (List ℕ) → List (List ℕ) → Typ
 
 -- 02, W-209, "a reply needs over 1,024 cells": one that does not
 abbrev pub Short : List ℕ → Type 0
-Short cells = length cells ≤ 1024
+Short cells = length cells ≤ mostReplyCells
 
 -- and replies of which one does
 pub record Large (all : List (List ℕ)) : Type 0 where
   pub cells : List ℕ
   pub one : List·Memᴰ cells all
-  pub over : 1024 < length cells
+  pub over : mostReplyCells < length cells

@@ -10,6 +10,7 @@ use borrow.Author.Tests.{leb-true, leb-false, ltb-true, ltb-false}
 use lib.ListN.{length, getD}
 use lib.Seq.{ext-getD}
 use Rattle.least.specs.Entries.{SameAt}
+use Rattle.limits.specs.Limits.{keptCells}
 
 -- two numbers are a pair of rows, or there is no such pair
 pub data IsPair (n first last : ℕ) : Type 0 where
@@ -30,7 +31,7 @@ data At (i : ℕ) : Type 0 where
   in-cost : (first last : ℕ) → first < 64 → last < 64 → i ≡ 4096 + (64 * first + last) → At i
   in-place : (first last : ℕ) → first < 64 → last < 64 → i ≡ 8192 + (64 * first + last) → At i
 
-at-is : (i : ℕ) → i < 12288 → At i
+at-is : (i : ℕ) → i < keptCells → At i
 at-is i h = go (ltb i 4096) (ltb i 8192) refl refl
   where
     go : (b c : Bool) → ltb i 4096 ≡ b → ltb i 8192 ≡ c → At i
@@ -40,7 +41,7 @@ at-is i h = go (ltb i 4096) (ltb i 8192) refl refl
     go false false e f = in-place ((i - 8192) / 64) ((i - 8192) % 64) (omega arith) (omega arith) (omega (arith, ltb-false i 8192 f))
 
 -- two arrays that are the same at every pair are one
-pub same-kept : (old new : List ℕ) → length old ≡ 12288 → length new ≡ 12288
+pub same-kept : (old new : List ℕ) → length old ≡ keptCells → length new ≡ keptCells
     → ((first last : ℕ) → first < 64 → last < 64 → SameAt first last old new) → old ≡ new
 same-kept old new l l′ same = ext-getD 0 old new (l ∙ sym l′) (λ i h. go i (at-is i (omega arith)))
   where

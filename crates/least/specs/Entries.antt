@@ -12,6 +12,7 @@ use Rattle.term.specs.Terms.{close}
 use Rattle.plan.specs.Plans.{Measure}
 use Rattle.plan.specs.Named.{spread, May}
 use Rattle.least.specs.Least.{Agree, Stuck, Least, Chosen}
+use Rattle.limits.specs.Limits.{mostRows}
 
 -- the rows from the first to the last, both taken
 abbrev pub between : ℕ → ℕ → List (List ℕ) → List (List ℕ)
@@ -38,13 +39,13 @@ pub data Entry (measure : Measure) (named : List Bool) (width : ℕ) (rows : Lis
 -- Where they are kept: 12,288 numbers in three parts of 4,096, each with a number for every pair of first and last row, at 64 times the
 -- first plus the last. What the pair's rows cost with nothing closed; the pair's entry, its least cost and its place
 abbrev pub wholeIn : List ℕ → ℕ → ℕ → ℕ
-wholeIn kept first last = getD kept (64 * first + last) 0
+wholeIn kept first last = getD kept (mostRows * first + last) 0
 
 abbrev pub costIn : List ℕ → ℕ → ℕ → ℕ
-costIn kept first last = getD kept (4096 + (64 * first + last)) 0
+costIn kept first last = getD kept (4096 + (mostRows * first + last)) 0
 
 abbrev pub placeIn : List ℕ → ℕ → ℕ → ℕ
-placeIn kept first last = getD kept (8192 + (64 * first + last)) 0
+placeIn kept first last = getD kept (8192 + (mostRows * first + last)) 0
 
 -- what is kept for a pair of rows is right
 pub record RightAt (measure : Measure) (named : List Bool) (width : ℕ) (rows : List (List ℕ)) (kept : List ℕ) (first last : ℕ) : Type 0 where

@@ -11,6 +11,7 @@ use Rattle.grammar.specs.Reader.{Mode, arg, after, Work, isBlank, put, push, co
 use Rattle.grammar.specs.Reader.{limit, bitsAfter}
 use Rattle.lex.specs.declared.turn.Turn.{Turn}
 use Rattle.lex.specs.declared.turn.Turn.the-variants as turn
+use Rattle.limits.specs.Limits.{mostTextBytes}
 
 -- where layout ends, in a comment's line or not
 unfoldable pub gapFrom : Bool → List ℕ → ℕ → ℕ
@@ -91,7 +92,7 @@ abbrev pub Leads : List ℕ → ℕ → Turn → Type 0
 Leads t at (turn.Name s e) = (at ≤ s) × (s < e) × (e ≤ length t)
 Leads t at (turn.Open s e) = (at ≤ s) × (s < e) × (e < length t)
 Leads t at (turn.Variable s e) = (at ≤ s) × (s < e) × (e ≤ length t)
-Leads t at (turn.Number v e) = (at < e) × (e ≤ length t) × (v ≤ 65535)
+Leads t at (turn.Number v e) = (at < e) × (e ≤ length t) × (v ≤ mostTextBytes)
 Leads t at (turn.Comma p) = (at ≤ p) × (p < length t)
 Leads t at (turn.Close p) = (at ≤ p) × (p < length t)
 Leads t at (turn.Stop p) = at ≤ length t → p ≤ length t

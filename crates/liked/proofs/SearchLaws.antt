@@ -40,6 +40,7 @@ use Rattle.liked.specs.code.Search.{Totalled, tried, turned-away, Plainl
 use Rattle.liked.specs.declared.Total.{Total}
 use Rattle.liked.specs.declared.Total.the-variants as total
 use Rattle.liked.proofs.ColumnLaws.{columns-none, columns-all, pow-le}
+use Rattle.limits.specs.Limits.{mostPlanCells}
 
 -- an answer is given or a refusal
 clash : {A : Type 0} {a b : ℕ} {f : Refused} → answered a b ≡ turned f → A
@@ -128,7 +129,7 @@ module _ {by : By} {cells goals list : List ℕ} where
         tried n
         (record { room = room; after = after; answer = r; size = size; cost = cost; built = b; told = ap buildTold e; totals = x }) refl
 
-    pub total-refused : {f : Refusal} → r ≡ build-answer.Refused f → 6082 ≤ length room → Totalled by cells goals list mask (total.Refused f)
+    pub total-refused : {f : Refusal} → r ≡ build-answer.Refused f → mostPlanCells ≤ length room → Totalled by cells goals list mask (total.Refused f)
     total-refused {f} e l = go b (ap buildTold e)
       where
         go : BuiltInto by (columnsOf mask) cells room after r → buildTold r ≡ turned (told f) → Totalled by cells goals list mask (total.Refused f)

@@ -8,6 +8,7 @@ ghost use Rattle.liked.specs.code.Search.{Totalled, Plainly, BestBelow};
 use builder::BuildAnswer;
 use builder::build_for;
 use least::By;
+use limits::PLAN_CELLS;
 use refusal::Refusal;
 
 // The columns of a set: the first of the list. The others are 0.
@@ -52,7 +53,7 @@ fn total_for(by: By, mask: usize, cells: &[u32], goals: &[u32], list: &[usize]) 
     let named = columns_of(mask);
     let columns = named.list;
     let count = named.count;
-    let mut plan = [0u32; 6082];
+    let mut plan = [0u32; PLAN_CELLS];
     match build_for(by, &columns[..count], cells, &mut plan[..]) {
         BuildAnswer::Built(size, _) => {
             Total::Tried(shift::total_tried(cells, &plan[..size], goals, list))

@@ -41,6 +41,7 @@ use Rattle.listing.specs.declared.walk.Stand.{Stand}
 use Rattle.listing.proofs.LengthLaws.{listing-few}
 use Rattle.listing.proofs.MarkLaws.{marked}
 use Rattle.listing.proofs.WalkLaws.{stand}
+use Rattle.limits.specs.Limits.{mostPlanCells, mostTableCells}
 
 -- what is noted does not depend on which plan wrote the cells
 abbrev whole : (before : List ℕ) (k : ℕ) (rows : List (List ℕ)) → Plan k rows → List ℕ
@@ -112,7 +113,7 @@ module _ {t plan : List ℕ} {costs : ℕ} where
       }
 
 -- the builder's answer, with room for any plan: the builder's plan of a table that is read, or the table's refusal
-module _ {t room room′ : List ℕ} {r : BuildAnswer} (b : BuiltInto by.Branches [] t room room′ r) (enough : length room ≡ 6082) where
+module _ {t room room′ : List ℕ} {r : BuildAnswer} (b : BuiltInto by.Branches [] t room room′ r) (enough : length room ≡ mostPlanCells) where
   -- 01's measure has no figure to refuse, and no column is named
   reads : tableOf t ≡ tableFor by.Branches [] t
   reads = sym (plain-table by.Branches t ∙ by-table by.Branches t (omega arith))
@@ -165,7 +166,7 @@ module _ (bytes : List ℕ) where
   pub in-fours : length bytes ≤ 8200 → length bytes % 4 ≡ 0 → unread bytes ≡ false
   in-fours h e = rw (le-ltb 8200 (length bytes) h, eq-eqb (length bytes % 4) 0 e)
 
-  pub cells-front : {room room′ : List ℕ} {n : ℕ} → Put room room′ 0 (cellsOf bytes) n → length bytes ≤ 8200 → length room ≡ 2050
+  pub cells-front : {room room′ : List ℕ} {n : ℕ} → Put room room′ 0 (cellsOf bytes) n → length bytes ≤ 8200 → length room ≡ mostTableCells
       → (n ≤ length room′) × (take n room′ ≡ cellsOf bytes)
   cells-front {n = n} p h l =
       let front = put-front p (omega (arith, cells-count bytes)) in

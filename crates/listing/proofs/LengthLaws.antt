@@ -19,6 +19,7 @@ use Rattle.plan.specs.code.Rows.{rowCount}
 use Rattle.plan.proofs.PlansLaws.{cost-plain}
 use Rattle.plan.proofs.SizeLaws.{bound}
 use Rattle.listing.specs.Listing.{line, linesIn, linesOf, header, listingOf}
+use Rattle.limits.specs.Limits.{mostBranches}
 
 -- a line has at most 21 bytes: `31 31 n65535/4 63-63`
 line-few : (depth index c first last : ℕ) → depth < 100 → index < 100 → first < 100 → last < 100 → length (line depth index c first last) ≤ 21
@@ -87,7 +88,7 @@ pub listing-few : (T : Table) (p : Plan (T .width) (T .rows)) → All (Fits 32 (
     → length (listingOf T p) ≤ 43035
 listing-few T p f h l w =
     let b = bound p 32 f h in
-    let c : cost plain p ≤ 2048 = omega (arith, cost-plain p) in
+    let c : cost plain p ≤ mostBranches = omega (arith, cost-plain p) in
     let first = header-few (length (T .rows)) (T .width) (cost plain p) (omega arith) (omega arith) (omega arith) in
     let lines = lines-few p 32 0 0 f h (omega arith) (omega arith) in
     omega (arith, cost-plain p, length-append (header (length (T .rows)) (T .width) (cost plain p)) (linesIn p 0 0))

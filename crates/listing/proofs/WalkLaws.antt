@@ -25,6 +25,7 @@ use Rattle.listing.specs.Listing.{line, linesIn, linesOf}
 use Rattle.listing.specs.code.Walk.{Marked, MarkedIn, Ready, Walked}
 use Rattle.listing.proofs.MarkLaws.{head-at, part-at}
 use Rattle.listing.specs.declared.walk.Stand.{Stand}
+use Rattle.limits.specs.Limits.{mostBranches, mostPlanCells}
 
 abbrev pub stand : (at number to : ℕ) → Stand
 stand at number to = record { at = at; number = number; to = to }
@@ -123,7 +124,7 @@ row-after end noted n row stop left m e c = let one : left ≡ 1 = omega arith i
 row-after (next p bs) noted n row stop left m e c = rw (ne-eqb left 1 (λ one. let z : ⊥ = omega arith in z)) (sym (m .0))
 
 -- where a branch is left, its number is below the last
-more-than : {k : ℕ} {gs : List Run} (bs : Branches k gs) → 0 < length gs → {n : ℕ} → n + branchesIn bs ≤ 2048 → n < 2048
+more-than : {k : ℕ} {gs : List Run} (bs : Branches k gs) → 0 < length gs → {n : ℕ} → n + branchesIn bs ≤ mostBranches → n < mostBranches
 unfolding branches
 more-than end h l = absurd (let z : ⊥ = omega arith in z)
 more-than (next p bs) h l = omega arith
@@ -216,7 +217,7 @@ module _ {plan noted : List ℕ} {places depth stop : ℕ} {from : Stand} where
   pub record Goes {w : Ready plan noted places depth stop from} {old new : List ℕ} {index left : ℕ} {here : Stand}
       (l : Left w old new index left here) (row after a : ℕ) : Type 0 where
     pub inside : here .at < length plan
-    pub size : length plan ≤ 6082
+    pub size : length plan ≤ mostPlanCells
     pub deep : depth ≤ here .at
     pub wide : places ≤ 4 * here .at + 8
     pub inner : 0 < places
@@ -230,7 +231,7 @@ module _ {plan noted : List ℕ} {places depth stop : ℕ} {from : Stand} where
 
   -- where it stands: its own number, and that of the next one
   pub numbered : {w : Ready plan noted places depth stop from} {old new : List ℕ} {index left : ℕ} {here : Stand} (l : Left w old new index left here) → 0 < left
-      → (here .number < 2048) × (left ≢ 1 → here .number + 1 + skipIn (getD noted (here .number) 0) < 2048)
+      → (here .number < mostBranches) × (left ≢ 1 → here .number + 1 + skipIn (getD noted (here .number) 0) < mostBranches)
   numbered {w = w} {left = left} {here} l h =
       let f = first-is (l .trees) (omega (arith, l .count)) in
       let m = f .marks noted (here .number) (l .row) (l .marked) in (

@@ -11,6 +11,9 @@ use crate::walk::Stand;
 use crate::walk::state;
 use builder::BuildAnswer;
 use least::By;
+use limits::BRANCHES;
+use limits::PLAN_CELLS;
+use limits::TABLE_CELLS;
 use printing::put_refusal;
 use refusal::Reason;
 
@@ -19,7 +22,7 @@ fn list_plan(table: &[u32], plan: &[u32], out: &mut [u8], cost: usize) -> usize
     requires { ⌜ Planned (now table) (now plan) cost ⌝ }
     ensures { λ r. ⌜ PutsPlan (now (table .entry)) (now (plan .entry)) (now (out .entry)) (now (out .exit)) cost r ⌝ }
 {
-    let mut numbers = [0u64; 2048];
+    let mut numbers = [0u64; BRANCHES];
     let noted = plannotes::check_noted(table, plan, &mut numbers);
     let rows = noted.rows;
     let width = noted.width;
@@ -37,7 +40,7 @@ fn list_plan(table: &[u32], plan: &[u32], out: &mut [u8], cost: usize) -> usize
 fn list_cells(table: &[u32], out: &mut [u8]) -> usize
     ensures { λ r. ⌜ Listed most (ListsTable (now (table .entry))) (now (out .entry)) (now (out .exit)) r ⌝ }
 {
-    let mut room = [0u32; 6082];
+    let mut room = [0u32; PLAN_CELLS];
     match builder::build_plan(By::Branches, table, &mut room) {
         BuildAnswer::Built(n, cost) => list_plan(table, &room[..n], out, cost),
         BuildAnswer::Refused(f) => {
@@ -60,7 +63,7 @@ pub fn list_table(bytes: &[u8], out: &mut [u8; 43035]) -> usize
     if n % 4 != 0 {
         return put_refusal(out, Reason::Length, 0);
     }
-    let mut cells = [0u32; 2050];
+    let mut cells = [0u32; TABLE_CELLS];
     let m = octets::read_cells(bytes, &mut cells);
     list_cells(&cells[..m], out)
 }

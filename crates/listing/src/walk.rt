@@ -7,7 +7,9 @@ ghost use lib.Dec.{eqb};
 ghost use lib.ListN.{getD};
 ghost use Rattle.plan.specs.Notes.{rowIn};
 ghost use Rattle.listing.specs.code.Walk.{Ready, Walks};
+ghost use Rattle.limits.specs.Limits.{mostBranches};
 use crate::text::put_line;
+use limits::BRANCHES;
 use plannotes::packed::row_of;
 use plannotes::packed::skip_of;
 use plannotes::packed::wide;
@@ -21,8 +23,8 @@ pub struct Stand {
 
 // The row after those of a branch of a state whose rows are before `stop`, where `left` of its branches are left with this one: the first row of
 // the next one, which has the number `next`; after the last one `stop`.
-fn row_after(noted: &[u64; 2048], next: usize, left: u32, stop: usize) -> usize
-    requires { ⌜ (left ≢ 1 → next < 2048) ⌝ }
+fn row_after(noted: &[u64; BRANCHES], next: usize, left: u32, stop: usize) -> usize
+    requires { ⌜ (left ≢ 1 → next < mostBranches) ⌝ }
     ensures { λ r. ⌜ r ≡ cond (eqb left 1) stop (rowIn (getD (now (noted .entry)) next 0)) ⌝ }
 {
     if left == 1 {
@@ -35,7 +37,7 @@ fn row_after(noted: &[u64; 2048], next: usize, left: u32, stop: usize) -> usize
 // below it.
 pub fn state(
     plan: &[u32],
-    noted: &[u64; 2048],
+    noted: &[u64; BRANCHES],
     out: &mut [u8],
     places: usize,
     depth: usize,

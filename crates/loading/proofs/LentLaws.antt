@@ -14,6 +14,7 @@ use Rattle.refusal.specs.declared.Reason.the-variants as reason
 use Rattle.refusal.specs.declared.Input.the-variants as input
 use Rattle.table.specs.Table.{Table, table, Met, counted, termsFrom, before, doubled, rowsFrom, tableOf}
 use Rattle.table.proofs.ReadLaws.{apart, refuse-one}
+use Rattle.limits.specs.Limits.{mostTableCells}
 
 data OfTable {A : Type 0} : Read A → Type 0 where
   good : {x : A} → OfTable (read x)
@@ -55,7 +56,7 @@ of-rows w (suc k) seen xs p =
 of-table : (t : List ℕ) → OfTable (tableOf t)
 unfolding tableOf
 of-table t =
-    of-when (ltb (length t) 2 || ltb 2050 (length t)) reason.Length 0
+    of-when (ltb (length t) 2 || ltb mostTableCells (length t)) reason.Length 0
     (of-when (ltb (getD t 0 0) 1 || ltb 8 (getD t 0 0)) reason.Width 0
     (of-when (ltb (getD t 1 0) 1 || ltb 64 (getD t 1 0)) reason.Count 1
     (of-then (λ (rows : List (List ℕ)). read (table (getD t 0 0) rows)) (of-rows (getD t 0 0) (getD t 1 0) [] (drop 2 t) 2) (λ rows. good))))

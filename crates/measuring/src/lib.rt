@@ -5,6 +5,7 @@ ghost use Prim.Native.Nat.{_≤_};
 ghost use Rattle.table.specs.Table.{TableReads};
 ghost use Rattle.least.specs.Measures.{workOf, measureOf, tableBy};
 use least::By;
+use limits::ROWS;
 use refusal::Input;
 use refusal::Reason;
 use refusal::Refusal;
@@ -52,7 +53,7 @@ pub fn read_by(by: By, cells: &[u32]) -> TableRead
                 input: Input::Figure,
                 place: 0,
             }),
-            starts: [0; 64],
+            starts: [0; ROWS],
         };
     }
     table::read_table(cells)

@@ -9,6 +9,7 @@ use Rattle.term.proofs.Lists.{slice-take}
 use Rattle.octets.specs.Octets.{Put}
 use Rattle.instance.specs.Rewrite.{put}
 use Rattle.octets.proofs.PutLaws.{put-put, put-found, put-length, put-counted}
+use Rattle.limits.specs.Limits.{mostReplyCells}
 
 -- the place after what is put is in the room
 pub put-in : {old new text : List ℕ} {to r : ℕ} → Put old new to text r → to ≤ length old → (to ≤ r) × (r ≤ length old)
@@ -25,11 +26,11 @@ part-put {out} {out′} {to} {r} v t xs a e h = subst (λ (l : List ℕ). Put ou
 
 -- No more is put than there is, and all of it where a cell is left.
 module _ {other other₁ other₂ A B : List ℕ} {q l : ℕ} (a : Put other other₁ 0 A q) (b : Put other₁ other₂ q B l) where
-  pub two-long : 1024 < l → 1024 < length A + length B
+  pub two-long : mostReplyCells < l → mostReplyCells < length A + length B
   two-long h = omega (arith, h, put-counted (put-put a b) .0, length-append A B)
 
   module _ {other₃ D : List ℕ} {m : ℕ} (d : Put other₂ other₃ l D m) where
-    pub third-long : 1024 < m - l → 1024 < length D
+    pub third-long : mostReplyCells < m - l → mostReplyCells < length D
     third-long h = omega (arith, h, d .after, length-take (length other₂ - l) D)
 
     pub three-fit : m < length other → length A + length B + length D ≤ length other

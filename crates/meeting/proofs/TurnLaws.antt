@@ -16,9 +16,10 @@ use Rattle.meeting.specs.code.Turns.{atStart, Starting, Finished, finish
 use Rattle.octets.specs.Octets.{Put}
 use Rattle.octets.proofs.PutLaws.{put-length}
 use Rattle.meeting.proofs.PartLaws.{put-in}
+use Rattle.limits.specs.Limits.{mostMeetingCells}
 
 -- a variable is replaced: one less
-pub bound-stepped : {cells cells′ : List ℕ} {v : ℕ} {t : List ℕ} {k next : Stand} {r : Turn} → length cells ≤ 2048 → next .turns ≡ k .turns
+pub bound-stepped : {cells cells′ : List ℕ} {v : ℕ} {t : List ℕ} {k next : Stand} {r : Turn} → length cells ≤ mostMeetingCells → next .turns ≡ k .turns
     → ((row goal : List ℕ) → MeetingAt row goal cells k → (0 < k .turns) × Turning row goal cells v t next)
     → Bound cells v t cells′ next r → Stepped cells cells′ k r
 bound-stepped h e f (bound g l m) =
@@ -87,15 +88,15 @@ module _ {cells cells′ : List ℕ} {k : Stand} where
       go : Stepped cells cells′ k (turn.Fits s) → Went cells cells′ k s
       go (stepped w) = w
 
-  pub step-over : {r : Turn} → r ≡ turn.Big → Stepped cells cells′ k r → length cells ≡ 2048 → (row goal : List ℕ) → MeetingAt row goal cells k
+  pub step-over : {r : Turn} → r ≡ turn.Big → Stepped cells cells′ k r → length cells ≡ mostMeetingCells → (row goal : List ℕ) → MeetingAt row goal cells k
       → Over row goal
   step-over e x = go (subst (Stepped cells cells′ k) e x)
     where
-      go : Stepped cells cells′ k turn.Big → length cells ≡ 2048 → (row goal : List ℕ) → MeetingAt row goal cells k → Over row goal
+      go : Stepped cells cells′ k turn.Big → length cells ≡ mostMeetingCells → (row goal : List ℕ) → MeetingAt row goal cells k → Over row goal
       go (stepped-over o) = o
 
 -- the goal's cells and the row's are in the list
-pub starting : {cells₀ cells₁ cells other xs ys : List ℕ} {len n : ℕ} → length cells₀ ≤ 2048 → length cells₀ < length other
+pub starting : {cells₀ cells₁ cells other xs ys : List ℕ} {len n : ℕ} → length cells₀ ≤ mostMeetingCells → length cells₀ < length other
     → Put cells₀ cells₁ 0 xs len → Put cells₁ cells len ys n → Starting cells other len n
 starting l o p q =
     let a = put-in p (omega arith) in

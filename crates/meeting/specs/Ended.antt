@@ -8,10 +8,11 @@ use lib.ListN.{length}
 use Rattle.instance.specs.code.Meet.{Hit, Met, Over}
 use Rattle.meeting.specs.declared.Made.{Made}
 use Rattle.meeting.specs.declared.Made.the-variants.{Cells, Big}
+use Rattle.limits.specs.Limits.{mostMeetingCells}
 
 -- two lists that are long enough for all that has at most 1,024 cells
 pub record Lent (cells other : List ℕ) : Type 0 where
-  pub long : length cells ≡ 2048
+  pub long : length cells ≡ mostMeetingCells
   pub other-long : length other ≡ 2049
 
 pub data Ended (row goal cells other cells′ : List ℕ) : Made → Type 0 where

@@ -12,6 +12,8 @@ ghost use lib.ListN.{length, getD, take, drop};
 ghost use Rattle.cell.specs.Cell.{isVar};
 ghost use Rattle.meeting.specs.Ended.{Ended};
 ghost use Rattle.meeting.specs.code.Turns.{instead, Swapped, Sound, Binding, Bound, Stepping, Stepped, Starting, Finished};
+use limits::MEETING_CELLS;
+use limits::REPLY_CELLS;
 use octets::cells::put_cells;
 use term::End;
 
@@ -94,11 +96,11 @@ fn bind(v: u32, a: usize, e: usize, cells: &mut [u32], other: &mut [u32], k: Sta
     let all = &cells[..];
     let at = rewrite::put_with(other, 0, &all[..passed], v, &all[a..e]);
     let len = rewrite::put_with(other, at, &all[passed..end], v, &all[a..e]);
-    if 1024 < len {
+    if REPLY_CELLS < len {
         return Turn::Big;
     }
     let last = rewrite::put_with(other, len, &all[i..n], v, &all[a..e]);
-    if 1024 < last - len {
+    if REPLY_CELLS < last - len {
         return Turn::Big;
     }
     if cells.len() < last {
@@ -228,7 +230,7 @@ pub fn common(row: &[u32], goal: &[u32], cells: &mut [u32], other: &mut [u32]) -
     if cells.len() < 64 {
         return Made::Big;
     }
-    if 2048 < cells.len() {
+    if MEETING_CELLS < cells.len() {
         return Made::Big;
     }
     if other.len() <= cells.len() {

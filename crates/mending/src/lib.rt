@@ -8,6 +8,8 @@ ghost use Rattle.octets.specs.Octets.{Put};
 ghost use Rattle.salvaging.specs.Kept.{keptFrom};
 ghost use Rattle.mending.specs.Mending.{Keeps, badOn, Listed};
 ghost use Rattle.mending.specs.code.Next.{NextIs};
+ghost use Rattle.limits.specs.Limits.{mostRows};
+use limits::ROWS;
 use table::RowAnswer;
 
 // How many rows are kept, and where the last of them ends.
@@ -43,12 +45,12 @@ fn next_row(cells: &[u32], at: usize, starts: &[usize], width: usize) -> Next
 
 // The longest run of rows from the first cell on, at most so many and at most 64: any cells, any width.
 pub fn keep_rows(cells: &[u32], width: usize, count: usize) -> Kept
-    ensures { λ r. ⌜ Keeps (keptFrom width (min count 64) [] (now (cells .entry))) r ⌝ }
+    ensures { λ r. ⌜ Keeps (keptFrom width (min count mostRows) [] (now (cells .entry))) r ⌝ }
 {
-    let mut starts = [0; 64];
+    let mut starts = [0; ROWS];
     let mut at = 0;
     let mut n = 0;
-    while n < count && n < 64 {
+    while n < count && n < ROWS {
         match next_row(cells, at, &starts[..n], width) {
             Next::Ends(e) => {
                 starts[n] = at;

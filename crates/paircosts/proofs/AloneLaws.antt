@@ -26,6 +26,7 @@ use Rattle.least.specs.code.Low.{Light}
 use Rattle.least.proofs.Later.{weight-later}
 use Rattle.paircosts.specs.code.Notes.{note, noteIn, putNote, weightIn, mostAgreed, weightOf, weightsFrom, Numbered, LastRow, Alone}
 use Rattle.paircosts.proofs.RingLaws.{put-other, put-alike, put-room}
+use Rattle.limits.specs.Limits.{mostTableCells}
 
 -- a row's cells cost what they weigh, and what its later meetings cost beyond that
 pub weights-later : {m : Measure} → Light m → (met xs : List ℕ) → weightsFrom m met xs ≡ weightOf m xs + laterIn m met xs
@@ -65,13 +66,13 @@ module _ {before : List ℕ} {n : ℕ} (x : Numbered before n) where
   }
 
   -- the number of the variables met
-  met-next : {c u : ℕ} → n ≤ 2050 → Seen c n (read u) → u ≡ cond (eqb c n) (n + 1) n
+  met-next : {c u : ℕ} → n ≤ mostTableCells → Seen c n (read u) → u ≡ cond (eqb c n) (n + 1) n
   met-next {c} s (symbol C i) = rw (ne-eqb c n (λ e. not-both (var-small c (omega arith)) i))
   met-next {c} s (new C i e) = rw (eq-eqb c n e) (omega arith)
   met-next {c} s (old C i l) = rw (ne-eqb c n (λ e. omega arith))
 
   -- what the cell weighs there
-  weight-next : {c u : ℕ} (m : Measure) → n ≤ 2050 → Seen c n (read u) → weightAt m before c ≡ cond (ltb c n) 1 (m .weight c)
+  weight-next : {c u : ℕ} (m : Measure) → n ≤ mostTableCells → Seen c n (read u) → weightAt m before c ≡ cond (ltb c n) 1 (m .weight c)
   weight-next {c} m s (symbol C i) = rw (i, le-ltb c n (by-cases (decLt c n) (λ (l : c < n). not-both (var-small c (omega arith)) i) (λ l. omega arith)))
   weight-next {c} m s (new C i e) = rw (i, x .below c i)
   weight-next {c} m s (old C i l) = rw (i, x .below c i)
@@ -98,9 +99,9 @@ module _ {cells marks notes₀ : List ℕ} {row at stop : ℕ} (g : LastRow cell
     -- what a turn of the loop asks, and what it adds: a weight is at most 7, and one variable more is met at most
     pub record AloneSafe : Type 0 where
       pub inside : q < length cells
-      pub small : q < 2050
+      pub small : q < mostTableCells
       pub light : n ≤ mostAgreed
-      pub met : k ≤ 2050
+      pub met : k ≤ mostTableCells
       pub weighs : cond (ltb c k) 1 (weightIn marks q) ≤ 7
       pub more : cond (eqb c k) (k + 1) k ≤ k + 1
 

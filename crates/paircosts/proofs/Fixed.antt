@@ -21,6 +21,7 @@ use Rattle.least.proofs.Pairs.{entry-one}
 use Rattle.least.proofs.Places.{IsPair, pair, no-pair, is-pair, same-kept}
 use Rattle.paircosts.specs.Fill.{Filled, KeptRight, Fills}
 use Rattle.paircosts.proofs.WorkedLaws.{all-asked}
+use Rattle.limits.specs.Limits.{keptCells}
 
 -- two arrays that are filled are one
 module _ {m : Measure} {fs : List Bool} {w : ℕ} {rows : List (List ℕ)} {old new new′ : List ℕ} (f : Filled m fs w rows old new) (g : Filled m fs w rows old new′) where
@@ -45,14 +46,14 @@ pub fill-fixed : {by : By} {t : List ℕ} {named top since : ℕ} {old new new�
     → Fills by named t top since old new r → Fills by named t top since old new′ s → (new ≡ new′) × (r ≡ s)
 fill-fixed {by} {t} {old = old} {new} {new′} right f g = (go (tableBy by t) refl, reads-fixed (f .reads) (g .reads))
   where
-    filled : (T : Table) → tableBy by t ≡ read T → (b : Bool) → eqb (length old) 12288 ≡ b → new ≡ new′
+    filled : (T : Table) → tableBy by t ≡ read T → (b : Bool) → eqb (length old) keptCells ≡ b → new ≡ new′
     filled T e true l =
-        let long : length old ≡ 12288 = eqb-true (length old) 12288 l in
+        let long : length old ≡ keptCells = eqb-true (length old) keptCells l in
         same-arrays (f .accepted T e long .filled (right T e)) (g .accepted T e long .filled (right T e))
-    filled T e false l = let n : length old ≢ 12288 = eqb-false (length old) 12288 l in f .other-length n ∙ sym (g .other-length n)
+    filled T e false l = let n : length old ≢ keptCells = eqb-false (length old) keptCells l in f .other-length n ∙ sym (g .other-length n)
 
     go : (x : Read Table) → tableBy by t ≡ x → new ≡ new′
-    go (read T) e = filled T e (eqb (length old) 12288) refl
+    go (read T) e = filled T e (eqb (length old) keptCells) refl
     go (refuse x) e = f .turned-away x e ∙ sym (g .turned-away x e)
 
 -- so where all pairs are asked for

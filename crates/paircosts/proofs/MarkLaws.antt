@@ -16,6 +16,7 @@ use Rattle.term.proofs.TermsLaws.{front-zero}
 use Rattle.plan.specs.Plans.{Measure}
 use Rattle.least.proofs.Suffixes.{front-short, front-back-length, back-drop}
 use Rattle.paircosts.specs.code.Notes.{pastOf, MarkOf, MarkedFrom}
+use Rattle.limits.specs.Limits.{mostTableCells}
 
 -- no term, and no cell left; one term more, and the first cell of a term
 pub past-none : (cells : List ℕ) (k j : ℕ) → k ≤ 0 → pastOf cells k j ≡ j
@@ -49,11 +50,11 @@ mark-is m cells j end weight a w h =
     let f : (8 * end + weight) % 8 ≡ weight = omega arith in
     record { end = e ∙ a; weight = f ∙ w }
 
-pub marked-start : (m : Measure) (cells marks : List ℕ) → length marks ≡ 2050 → MarkedFrom m cells marks (length cells)
+pub marked-start : (m : Measure) (cells marks : List ℕ) → length marks ≡ mostTableCells → MarkedFrom m cells marks (length cells)
 marked-start m cells marks l = record { size = l; at = λ i h h′. absurd (omega arith) }
 
 -- one cell more, in front
-pub marked-step : (m : Measure) (cells marks : List ℕ) (j mark : ℕ) → 0 < j → j ≤ 2050 → MarkOf m cells (j - 1) mark
+pub marked-step : (m : Measure) (cells marks : List ℕ) (j mark : ℕ) → 0 < j → j ≤ mostTableCells → MarkOf m cells (j - 1) mark
     → MarkedFrom m cells marks j → MarkedFrom m cells (set marks (j - 1) mark) (j - 1)
 marked-step m cells marks j mark s h a x = record { size = length-set marks (j - 1) mark ∙ x .size; at = λ i l h. go i l h (eqb i (j - 1)) refl }
   where

@@ -24,6 +24,7 @@ use Rattle.paircosts.proofs.NoteLaws.{note-fair}
 use Rattle.paircosts.proofs.NotedLaws.{From, close-first, back-first, note-is, noteWith, next-note, next-closed, next-opened}
 use Rattle.paircosts.proofs.RingLaws.{put-same, put-room, put-later, put-earlier}
 use Rattle.least.proofs.Suffixes.{front-short, close-drop, back-drop}
+use Rattle.limits.specs.Limits.{mostTableCells}
 
 -- a part of the cells: its first cell, and what follows it and its term
 pub part-root : (p e : ℕ) (cells : List ℕ) → p < e → e ≤ length cells → root 0 (slice p e cells) ≡ getD cells p 0
@@ -246,8 +247,8 @@ module _ {cells marks kept notes₀ : List ℕ} {row new old : ℕ} (g : NextRow
 
     -- what the step asks: the cells are there, and the numbers are small
     pub record RowSafe : Type 0 where
-      pub p-small : p < 2050
-      pub q-small : q < 2050
+      pub p-small : p < mostTableCells
+      pub q-small : q < mostTableCells
       pub p-in : p < length cells
       pub q-in : q < length cells
       pub light : n ≤ mostAgreed

@@ -24,6 +24,7 @@ use Rattle.least.specs.declared.By.{By}
 use Rattle.least.proofs.Measured.{by-table, by-read}
 use Rattle.paircosts.specs.Fill.{Unasked, KeptRight, Refilled, Fills}
 use Rattle.paircosts.specs.code.Notes.{Long}
+use Rattle.limits.specs.Limits.{keptCells}
 
 -- where a table is read for a measure, the figure is small and the table is one
 module _ (by : By) (t : List ℕ) {r : TableRead} (a : TableReads (tableBy by t) r) where
@@ -63,7 +64,7 @@ pub none-filled : {by : By} {t : List ℕ} {x : Refused} {named top since : ℕ}
     → TableReads (tableBy by t) r → Fills by named t top since old old r
 none-filled q r = record { reads = r; size = refl; turned-away = λ x e. refl; other-length = λ n. refl; accepted = λ T e l. apart (sym e ∙ q) }
 
-pub other-filled : {by : By} {t : List ℕ} {named top since : ℕ} {r : TableRead} {old : List ℕ} → length old ≢ 12288 → TableReads (tableBy by t) r
+pub other-filled : {by : By} {t : List ℕ} {named top since : ℕ} {r : TableRead} {old : List ℕ} → length old ≢ keptCells → TableReads (tableBy by t) r
     → Fills by named t top since old old r
 other-filled n r = record { reads = r; size = refl; turned-away = λ x e. refl; other-length = λ n. refl; accepted = λ T e l. absurd (n l) }
 

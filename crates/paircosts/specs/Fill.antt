@@ -15,6 +15,7 @@ use Rattle.least.specs.Least.{Least}
 use Rattle.least.specs.Entries.{between, Entry, wholeIn, costIn, placeIn, RightAt, SameAt}
 use Rattle.least.specs.Measures.{measureOf, tableBy}
 use Rattle.least.specs.declared.By.{By}
+use Rattle.limits.specs.Limits.{keptCells, mostRows}
 
 -- two numbers are no pair of so many rows
 abbrev pub NoPair : ℕ → ℕ → ℕ → Type 0
@@ -26,8 +27,8 @@ pub record Filled (measure : Measure) (named : List Bool) (width : ℕ) (rows : 
   pub whole : (first last : ℕ) → first ≤ last → last < length rows → Least measure named width (between first last rows) (wholeIn new first last)
   pub entry : (first last : ℕ) → first ≤ last → last < length rows
       → Entry measure named width rows first last (costIn new first last) (placeIn new first last)
-  pub other : (first last : ℕ) → first < 64 → last < 64 → NoPair (length rows) first last → SameAt first last old new
-  pub size : (length old ≡ 12288) × (length new ≡ 12288)
+  pub other : (first last : ℕ) → first < mostRows → last < mostRows → NoPair (length rows) first last → SameAt first last old new
+  pub size : (length old ≡ keptCells) × (length new ≡ keptCells)
 
 -- The pairs that begin before row `top` and end at row `since` or later are asked for. A pair that is not
 abbrev pub Unasked : ℕ → ℕ → ℕ → ℕ → Type 0
@@ -41,7 +42,7 @@ pub record KeptRight (measure : Measure) (named : List Bool) (width : ℕ) (rows
 -- they are; and where what is kept is right, it is filled for these rows
 pub record Refilled (measure : Measure) (named : List Bool) (width : ℕ) (rows : List (List ℕ)) (top since : ℕ) (old new : List ℕ)
     : Type 0 where
-  pub same : (first last : ℕ) → first < 64 → last < 64 → Unasked top since first last ⊎ NoPair (length rows) first last
+  pub same : (first last : ℕ) → first < mostRows → last < mostRows → Unasked top since first last ⊎ NoPair (length rows) first last
       → SameAt first last old new
   pub filled : KeptRight measure named width rows top since old → Filled measure named width rows old new
 
@@ -52,6 +53,6 @@ pub record Fills (by : By) (named : ℕ) (cells : List ℕ) (top since : ℕ) (o
   pub reads : TableReads (tableBy by cells) answer
   pub size : length new ≡ length old
   pub turned-away : (f : Refused) → tableBy by cells ≡ refuse f → new ≡ old
-  pub other-length : length old ≢ 12288 → new ≡ old
-  pub accepted : (T : Table) → tableBy by cells ≡ read T → length old ≡ 12288
+  pub other-length : length old ≢ keptCells → new ≡ old
+  pub accepted : (T : Table) → tableBy by cells ≡ read T → length old ≡ keptCells
       → Refilled (measureOf by) (flagsIn (T .width) named) (T .width) (T .rows) top since old new

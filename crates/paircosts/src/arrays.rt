@@ -14,7 +14,10 @@ ghost use Rattle.paircosts.specs.code.Notes.{Small, NextRow, RowNoted, L
 ghost use Rattle.paircosts.specs.code.Reading.{choiceOf, foundOf, partOf, priceOf, foundTo, someTo, sortOf, choiceOver};
 ghost use Rattle.paircosts.specs.code.Reading.{Range, Inside, Column, Columns, Sorted};
 ghost use Rattle.paircosts.specs.code.Filling.{stopOf, rowOf, PairAt, Keeps, KeepsBefore, LastAt, FilledTo, Task, Finished, Rows};
+ghost use Rattle.limits.specs.Limits.{mostRows, mostTableCells};
 use least::By;
+use limits::ROWS;
+use limits::TABLE_CELLS;
 
 // How many runs the rows so far have at this place, the sum of what each of them costs, all but the first, and the row at
 // which the first of them ends. One run: all agree, and the place is closed.
@@ -50,7 +53,7 @@ fn put_note(notes: &mut [u32; 192], q: usize, s: Note)
 
 // A cell's mark: 8 times where its term ends, and what the cell weighs.
 fn mark_of(end: usize, weight: u16) -> u16
-    requires { ⌜ (end ≤ 2050) × (weight ≤ 5) ⌝ }
+    requires { ⌜ (end ≤ mostTableCells) × (weight ≤ 5) ⌝ }
     ensures { λ r. ⌜ r ≡ 8 * end + weight ⌝ }
 {
     8 * (end as u16) + weight
@@ -71,8 +74,8 @@ fn weight_in(mark: u16) -> u32
 
 // The place after so many terms from a cell on, by the marks of the cells from there on; where the cells run out before, the
 // place after them.
-fn past(cells: &[u32], marks: &[u16; 2050], start: usize, terms: usize) -> usize
-    requires { ⌜ (length (now cells) ≤ 2050) × (start ≤ length (now cells)) × EndsFrom (now cells) (now marks) start ⌝ }
+fn past(cells: &[u32], marks: &[u16; TABLE_CELLS], start: usize, terms: usize) -> usize
+    requires { ⌜ (length (now cells) ≤ mostTableCells) × (start ≤ length (now cells)) × EndsFrom (now cells) (now marks) start ⌝ }
     ensures { λ r. ⌜ r ≡ pastOf (now (cells .entry)) terms start ⌝ }
 {
     let mut at = start;
@@ -89,8 +92,8 @@ fn past(cells: &[u32], marks: &[u16; 2050], start: usize, terms: usize) -> usize
 
 // The marks of all cells, from the last to the first, so that a name's term ends where its last argument's does. A table has at
 // most 2,050 cells, so 16 bits are enough, and there is less to clear.
-fn mark_cells(by: By, cells: &[u32], marks: &mut [u16; 2050])
-    requires { ⌜ (length (now cells) ≤ 2050) × (length (now marks) ≡ 2050) ⌝ }
+fn mark_cells(by: By, cells: &[u32], marks: &mut [u16; TABLE_CELLS])
+    requires { ⌜ (length (now cells) ≤ mostTableCells) × (length (now marks) ≡ mostTableCells) ⌝ }
     ensures { λ _. ⌜ MarkedFrom (measureOf by) (now (cells .entry)) (now (marks .exit)) 0 ⌝ }
 {
     let mut j = cells.len();
@@ -105,8 +108,8 @@ fn mark_cells(by: By, cells: &[u32], marks: &mut [u16; 2050])
 }
 
 // The next place: a closed one's first argument, or what follows the term at an open one.
-fn after(marks: &[u16; 2050], s: Note, q: usize) -> usize
-    requires { ⌜ q < 2050 ⌝ }
+fn after(marks: &[u16; TABLE_CELLS], s: Note, q: usize) -> usize
+    requires { ⌜ q < mostTableCells ⌝ }
     ensures { λ r. ⌜ r ≡ cond (eqb (s .runs) 1) (q + 1) (endIn (now (marks .entry)) q) ⌝ }
 {
     if s.runs == 1 { q + 1 } else { end_in(marks[q]) }
@@ -114,10 +117,10 @@ fn after(marks: &[u16; 2050], s: Note, q: usize) -> usize
 
 // What is kept for a pair, and no more than any pair of a table costs: whatever stands there, sums of it fit.
 fn cost_in(kept: &[u32], first: usize, last: usize) -> u32
-    requires { ⌜ (first < 64) × (last < 64) × Long (now kept) ⌝ }
+    requires { ⌜ (first < mostRows) × (last < mostRows) × Long (now kept) ⌝ }
     ensures { λ r. ⌜ r ≡ readIn (now (kept .entry)) first last ⌝ }
 {
-    let n = kept[64 * first + last];
+    let n = kept[ROWS * first + last];
     if n < 65535 { n } else { 65535 }
 }
 
@@ -139,8 +142,8 @@ fn next_note(s: Note, kept: &[u32], row: usize, c: u32, d: u32) -> Note
 }
 
 // What the closed cells of a row weigh, with one cell more where its place is closed.
-fn with_closed(marks: &[u16; 2050], agreed: u32, s: Note, q: usize) -> u32
-    requires { ⌜ (q < 2050) × (agreed ≤ mostAgreed) ⌝ }
+fn with_closed(marks: &[u16; TABLE_CELLS], agreed: u32, s: Note, q: usize) -> u32
+    requires { ⌜ (q < mostTableCells) × (agreed ≤ mostAgreed) ⌝ }
     ensures { λ r. ⌜ r ≡ agreed + cond (eqb (s .runs) 1) (weightIn (now (marks .entry)) q) 0 ⌝ }
 {
     if s.runs == 1 {
@@ -162,7 +165,7 @@ struct Row {
 // what the closed cells weigh.
 fn note_row(
     cells: &[u32],
-    marks: &[u16; 2050],
+    marks: &[u16; TABLE_CELLS],
     kept: &[u32],
     notes: &mut [u32; 192],
     row: Row,
@@ -189,8 +192,8 @@ fn note_row(
 // What the cell c at place q weighs where so many variables of the row are met. Variables are numbered in order of first
 // appearance, so that one below that number is met again: 02, W-209, "a later meeting costs 1". No name or number is below
 // it.
-fn weight_after(marks: &[u16; 2050], c: u32, met: u32, q: usize) -> u32
-    requires { ⌜ q < 2050 ⌝ }
+fn weight_after(marks: &[u16; TABLE_CELLS], c: u32, met: u32, q: usize) -> u32
+    requires { ⌜ q < mostTableCells ⌝ }
     ensures { λ r. ⌜ r ≡ cond (ltb c met) 1 (weightIn (now (marks .entry)) q) ⌝ }
 {
     if c < met { 1 } else { weight_in(marks[q]) }
@@ -198,14 +201,14 @@ fn weight_after(marks: &[u16; 2050], c: u32, met: u32, q: usize) -> u32
 
 // How many variables are met once a cell is: a new one has the next number.
 fn met_after(c: u32, met: u32) -> u32
-    requires { ⌜ met ≤ 2050 ⌝ }
+    requires { ⌜ met ≤ mostTableCells ⌝ }
     ensures { λ r. ⌜ r ≡ cond (eqb c met) (met + 1) met ⌝ }
 {
     if c == met { met + 1 } else { met }
 }
 
 // A row by itself: every place is closed. Answers what its cells cost, met one after another.
-fn note_last(cells: &[u32], marks: &[u16; 2050], notes: &mut [u32; 192], row: Row) -> u32
+fn note_last(cells: &[u32], marks: &[u16; TABLE_CELLS], notes: &mut [u32; 192], row: Row) -> u32
     requires { ⌜ LastRow (now cells) (now marks) (now notes) (row .number) (row .start) (row .end) ⌝ }
     ensures { λ r. ⌜ ((g : LastRow (now (cells .entry)) (now (marks .entry)) (now (notes .entry))
         (row .number) (row .start) (row .end)) → (n : ℕ) × Alone g (row .end) (now (notes .exit)) r n) ⌝ }
@@ -275,7 +278,7 @@ struct Found {
 // Further, over the open places in a range of cells of the pair's first row, all of which may be chosen; the leftmost of the
 // cheapest.
 fn cheapest(
-    marks: &[u16; 2050],
+    marks: &[u16; TABLE_CELLS],
     kept: &[u32],
     notes: &[u32; 192],
     range: Row,
@@ -305,7 +308,7 @@ fn cheapest(
 // Further by a column that is not named, while a place inside named ones is open: nothing in it is closed, so that it is one
 // open place, its argument, and that one may not be chosen.
 fn passed(found: Found) -> Found
-    requires { ⌜ found .place ≤ 2050 ⌝ }
+    requires { ⌜ found .place ≤ mostTableCells ⌝ }
     ensures { λ r. ⌜ r ≡ foundOf (found .best) (found .place + 1) ⌝ }
 {
     let best = found.best;
@@ -317,7 +320,7 @@ fn passed(found: Found) -> Found
 
 // The open places of a pair where only those inside named columns may be chosen. The lowest bit is the column's own.
 fn cheapest_named(
-    marks: &[u16; 2050],
+    marks: &[u16; TABLE_CELLS],
     kept: &[u32],
     notes: &[u32; 192],
     row: Row,
@@ -361,7 +364,13 @@ struct Part {
 }
 
 // With the cells of one named column more.
-fn part_in(marks: &[u16; 2050], notes: &[u32; 192], start: usize, end: usize, part: Part) -> Part
+fn part_in(
+    marks: &[u16; TABLE_CELLS],
+    notes: &[u32; 192],
+    start: usize,
+    end: usize,
+    part: Part,
+) -> Part
     requires { ⌜ Column (now marks) (now notes) start end part ⌝ }
     ensures { λ r. ⌜ ((g : Column (now (marks .entry)) (now (notes .entry)) start end part)
         → (r ≡ partOf (part .agreed + g .weight) (someTo (g .ok) (g .opens))) × (r .agreed ≤ 7 * end)) ⌝ }
@@ -384,7 +393,7 @@ fn part_in(marks: &[u16; 2050], notes: &[u32; 192], start: usize, end: usize, pa
 }
 
 // The cells of all named columns of a row. The lowest bit is the column's own.
-fn part_named(marks: &[u16; 2050], notes: &[u32; 192], row: Row, named: u64) -> Part
+fn part_named(marks: &[u16; TABLE_CELLS], notes: &[u32; 192], row: Row, named: u64) -> Part
     requires { ⌜ Columns (now marks) (now notes) (row .start) (row .end) named ⌝ }
     ensures { λ r. ⌜ ((g : Columns (now (marks .entry)) (now (notes .entry)) (row .start) (row .end) named)
         → (r ≡ partOf (g .weight) (someTo (g .ok) (g .opens))) × (r .agreed ≤ mostAgreed)) ⌝ }
@@ -409,7 +418,13 @@ fn part_named(marks: &[u16; 2050], notes: &[u32; 192], row: Row, named: u64) -> 
 
 // The closed cells of a pair, which weigh `agreed` where every place that its rows agree on is closed. So they are where no
 // column is named, and where no place inside the named ones stays open.
-fn part_of(marks: &[u16; 2050], notes: &[u32; 192], row: Row, agreed: u32, named: u64) -> Part
+fn part_of(
+    marks: &[u16; TABLE_CELLS],
+    notes: &[u32; 192],
+    row: Row,
+    agreed: u32,
+    named: u64,
+) -> Part
     requires { ⌜ Columns (now marks) (now notes) (row .start) (row .end) named × (agreed ≤ mostAgreed) ⌝ }
     ensures { λ r. ⌜ ((g : Columns (now (marks .entry)) (now (notes .entry)) (row .start) (row .end) named)
         → (r ≡ sortOf agreed (g .weight) (someTo (g .ok) (g .opens))) × (r .agreed ≤ mostAgreed)) ⌝ }
@@ -450,7 +465,7 @@ struct Shared {
 // The cheapest place of a pair of those that may be chosen, and what it costs; 0 and 0 where no place is open. Where only some
 // may be chosen, one of them is open.
 fn best_of(
-    marks: &[u16; 2050],
+    marks: &[u16; TABLE_CELLS],
     kept: &[u32],
     notes: &[u32; 192],
     row: Row,
@@ -487,7 +502,7 @@ fn best_of(
 
 // The values of a pair, read off the notes at its first row.
 fn keep_pair(
-    marks: &[u16; 2050],
+    marks: &[u16; TABLE_CELLS],
     kept: &mut [u32],
     notes: &[u32; 192],
     row: Row,
@@ -505,7 +520,7 @@ fn keep_pair(
     let agreed = part.agreed;
     let count = best.cost;
     let chosen = best.place;
-    let pair = 64 * row.number + last;
+    let pair = ROWS * row.number + last;
     kept[pair] = agreed + count;
     kept[4096 + pair] = count;
     kept[8192 + pair] = chosen;
@@ -513,7 +528,7 @@ fn keep_pair(
 
 // A pair's values, where it begins before row `top`.
 fn keep_before(
-    marks: &[u16; 2050],
+    marks: &[u16; TABLE_CELLS],
     kept: &mut [u32],
     notes: &[u32; 192],
     row: Row,
@@ -532,8 +547,8 @@ fn keep_before(
 }
 
 // Where a row's cells end: where the next row's begin, and the last row's where the table's end.
-fn row_end(cells: &[u32], starts: &[usize; 64], count: usize, r: usize) -> usize
-    requires { ⌜ (r < 64) × (count ≤ 64) ⌝ }
+fn row_end(cells: &[u32], starts: &[usize; ROWS], count: usize, r: usize) -> usize
+    requires { ⌜ (r < mostRows) × (count ≤ mostRows) ⌝ }
     ensures { λ e. ⌜ e ≡ stopOf (now (cells .entry)) (now (starts .entry)) count r ⌝ }
 {
     if r + 1 < count {
@@ -544,8 +559,8 @@ fn row_end(cells: &[u32], starts: &[usize; 64], count: usize, r: usize) -> usize
 }
 
 // The row before a row.
-fn row_before(starts: &[usize; 64], row: Row) -> Row
-    requires { ⌜ (0 < row .number) × (row .number < 64) ⌝ }
+fn row_before(starts: &[usize; ROWS], row: Row) -> Row
+    requires { ⌜ (0 < row .number) × (row .number < mostRows) ⌝ }
     ensures { λ r. ⌜ r ≡ rowOf (row .number - 1) (getD (now (starts .entry)) (row .number - 1) 0) (row .start) ⌝ }
 {
     let number = row.number - 1;
@@ -561,8 +576,8 @@ fn row_before(starts: &[usize; 64], row: Row) -> Row
 // are only noted again.
 fn pairs_to(
     cells: &[u32],
-    marks: &[u16; 2050],
-    starts: &[usize; 64],
+    marks: &[u16; TABLE_CELLS],
+    starts: &[usize; ROWS],
     kept: &mut [u32],
     row: Row,
     asked: Asked,
@@ -601,8 +616,8 @@ fn pairs_to(
 // for.
 fn pairs_again(
     cells: &[u32],
-    marks: &[u16; 2050],
-    starts: &[usize; 64],
+    marks: &[u16; TABLE_CELLS],
+    starts: &[usize; ROWS],
     kept: &mut [u32],
     asked: Asked,
 )
@@ -625,14 +640,14 @@ fn pairs_again(
 }
 
 // Marks the cells of a table, and works out the pairs that are asked for.
-pub fn asked_pairs(by: By, cells: &[u32], starts: &[usize; 64], kept: &mut [u32], asked: Asked)
+pub fn asked_pairs(by: By, cells: &[u32], starts: &[usize; ROWS], kept: &mut [u32], asked: Asked)
     requires { ⌜ Rows (now cells) (now starts) (asked .count) × Long (now kept)
         × (asked .figure ≡ measureOf by .figure) × (asked .figure ≤ 15) ⌝ }
     ensures { λ _. ⌜ ((g : Rows (now (cells .entry)) (now (starts .entry)) (asked .count))
         → Refilled (measureOf by) (flagsIn (g .width) (asked .named)) (g .width) (g .rows) (asked .top) (asked .since)
         (now (kept .entry)) (now (kept .exit))) ⌝ }
 {
-    let mut marks = [0; 2050];
+    let mut marks = [0; TABLE_CELLS];
     mark_cells(by, cells, &mut marks);
     pairs_again(cells, &marks, starts, kept, asked);
 }

@@ -4,6 +4,7 @@ mod arrays;
 ghost use Rattle.paircosts.specs.Fill.{Fills};
 use arrays::Asked;
 use least::By;
+use limits::KEPT_CELLS;
 use table::TableAnswer;
 use table::TableRead;
 
@@ -26,7 +27,7 @@ pub fn fill(
     let read = measuring::read_by(by, cells);
     let answer = read.answer;
     if let TableAnswer::Accepted(_, count) = answer {
-        if kept.len() == 12288 {
+        if kept.len() == KEPT_CELLS {
             let starts = read.starts;
             let asked = Asked {
                 figure: measuring::figure_of(by),

@@ -28,6 +28,7 @@ use Rattle.plan.proofs.RunsLaws.{Each, Sized, group-sizes, fits-some, r
 use Rattle.plan.specs.code.Fits.{Fits}
 use Rattle.plan.proofs.PlansLaws.{write-one}
 use Rattle.plan.proofs.SizeLaws.{size-bound}
+use Rattle.limits.specs.Limits.{mostPlanCells}
 
 -- a cell that is read is there, and has passed its test
 cell-read : {A : Type 0} (ok : ℕ → Bool) (n : Reason) (p : ℕ) (f : ℕ → List ℕ → Read A) (xs : List ℕ) (x : A) → cellThen ok n p f xs ≡ read x
@@ -154,20 +155,20 @@ nothing-read s b e =
 
 module _ (fs : List Bool) (T : Table) (cells : List ℕ) where
   -- SIZE; what the first state is refused for; EXTRA
-  pub plan-size : 6082 < length cells → planWith fs T cells ≡ refuse (bad reason.Size 0)
+  pub plan-size : mostPlanCells < length cells → planWith fs T cells ≡ refuse (bad reason.Size 0)
   unfolding planWith
-  plan-size h = rw (lt-ltb 6082 (length cells) h)
+  plan-size h = rw (lt-ltb mostPlanCells (length cells) h)
 
-  pub plan-refused : (f : Refused) → length cells ≤ 6082 → stateFrom 32 fs (T .width) (T .rows) 0 cells ≡ refuse f → planWith fs T cells ≡ refuse f
+  pub plan-refused : (f : Refused) → length cells ≤ mostPlanCells → stateFrom 32 fs (T .width) (T .rows) 0 cells ≡ refuse f → planWith fs T cells ≡ refuse f
   unfolding planWith
-  plan-refused f h e = rw (le-ltb 6082 (length cells) h, e)
+  plan-refused f h e = rw (le-ltb mostPlanCells (length cells) h, e)
 
-  pub plan-extra : (b e : ℕ) → length cells ≤ 6082 → stateFrom 32 fs (T .width) (T .rows) 0 cells ≡ read (seen b e (drop e cells)) → e < length cells
+  pub plan-extra : (b e : ℕ) → length cells ≤ mostPlanCells → stateFrom 32 fs (T .width) (T .rows) 0 cells ≡ read (seen b e (drop e cells)) → e < length cells
       → planWith fs T cells ≡ refuse (bad reason.Extra e)
   unfolding planWith
   plan-extra b e h r l =
       let m : 0 < length (drop e cells) = omega (arith, length-drop e cells) in
-      rw (le-ltb 6082 (length cells) h, r, lt-ltb 0 (length (drop e cells)) m)
+      rw (le-ltb mostPlanCells (length cells) h, r, lt-ltb 0 (length (drop e cells)) m)
 
 -- 02, W-213, the check for the kind: cells are accepted with the answer b exactly where some plan of the kind writes them, and it has b branches
 pub accepted-kind : (fs : List Bool) (T : Table) → All (λ (r : List ℕ). Terms (T .width) r × (length r ≤ 32)) (T .rows) → 0 < length (T .rows) → length (T .rows) ≤ 64
@@ -177,7 +178,7 @@ accepted-kind fs T f h m cells b = (sound, complete)
   where
     sound : planWith fs T cells ≡ read b → (p : Plan (T .width) (T .rows)) × (write p ≡ cells) × (branches p ≡ b) × NamedFirst fs p
     sound e =
-        let w = passed (ltb 6082 (length cells)) _ _ e in
+        let w = passed (ltb mostPlanCells (length cells)) _ _ e in
         let t = first (stateFrom 32 fs (T .width) (T .rows) 0 cells) nothingAfter (w .1) in
         let n = nothing-read (t .0) b (t .2) in
         let s = state-sound 32 fs (T .width) (T .rows) 0 cells (t .0) (t .1) in
@@ -187,7 +188,7 @@ accepted-kind fs T f h m cells b = (sound, complete)
     complete : (p : Plan (T .width) (T .rows)) × (write p ≡ cells) × (branches p ≡ b) × NamedFirst fs p → planWith fs T cells ≡ read b
     complete (p, w, e, s) =
         let r = rw append-nil at (state-complete 32 fs (T .width) (T .rows) f h p s 0 []) in
-        let z = le-ltb 6082 (length (write p)) (size-bound p f h m) in
+        let z = le-ltb mostPlanCells (length (write p)) (size-bound p f h m) in
         rw (← w, z, r, e)
 
 -- Demand 3, "The check accepts it exactly when, written as document 01 sets out, each step names one place not yet looked at and splits its rows there

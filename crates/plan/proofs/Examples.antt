@@ -15,6 +15,7 @@ use Rattle.refusal.specs.Read.{Read, read, refuse}
 use Rattle.table.specs.Table.{termsFrom, rowsFrom, tableOf}
 use Rattle.plan.specs.Runs.{agree}
 use Rattle.plan.specs.Check.{stateFrom, planWith, planOf}
+use Rattle.limits.specs.Limits.{mostPlanCells}
 
 abbrev a : ℕ
 a = nameCell 0 1
@@ -99,7 +100,7 @@ cases =
     -- EXTRA
     ∷ case one (0 ∷ 1 ∷ a ∷ 1 ∷ 1 ∷ []) (no reason.Extra 4)
     -- SIZE, before anything else of the plan, and from 6,083 cells on
-    ∷ case one (replicate 6082 0) (no reason.Edges 1)
+    ∷ case one (replicate mostPlanCells 0) (no reason.Edges 1)
     ∷ case one (replicate 6083 0) (no reason.Size 0)
     -- the table comes first
     ∷ case (1 ∷ []) (1 ∷ []) (refuse (refused reason.Length input.Table 0))

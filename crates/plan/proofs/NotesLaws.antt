@@ -21,6 +21,7 @@ use Rattle.plan.specs.code.Rows.{rowCount}
 use Rattle.plan.proofs.CheckLaws.{rows-fit}
 use Rattle.plan.proofs.RunsLaws.{Each, Sized, group-all, group-sizes, group-rows, fits-some, runs-fit}
 use Rattle.plan.proofs.SizeLaws.{bound}
+use Rattle.limits.specs.Limits.{mostBranches}
 
 mutual
   unfolding notes branches
@@ -127,7 +128,7 @@ mutual
   unfolding notes branches
 
   fits : {k : ℕ} {rows : List (List ℕ)} (p : Plan k rows) (n : ℕ) (slots : List ℕ) (free row : ℕ) → All (of-row.Fits n k) rows → All Low rows
-      → 0 < length rows → row + length rows ≤ 64 → Small slots → branches p ≤ 2048 → free + n ≤ 63 + k → All Fits (notes p slots free row)
+      → 0 < length rows → row + length rows ≤ 64 → Small slots → branches p ≤ mostBranches → free + n ≤ 63 + k → All Fits (notes p slots free row)
   fits leaf n slots free row f a h m s b e = tt
   fits (node {k} {rows} i l bs) n slots free row f a h m s b e =
       let q : n ≡ suc (pred n) = omega (arith, fits-some n k rows f h) in
@@ -135,7 +136,7 @@ mutual
       (group-sizes (root i) (close i) rows) (omega (arith, group-rows (root i) (close i) rows)) s b (omega arith)
 
   fitsIn : {k : ℕ} {gs : List Run} (bs : Branches k gs) (i n m : ℕ) (slots : List ℕ) (free row : ℕ) → Each (λ (c : ℕ). of-row.Fits n (arity c + k)) gs
-      → Each LowRun gs → Sized m gs → row + rowCount gs ≤ 64 → Small slots → branchesIn bs ≤ 2048 → free + n ≤ 63 + k
+      → Each LowRun gs → Sized m gs → row + rowCount gs ≤ 64 → Small slots → branchesIn bs ≤ mostBranches → free + n ≤ 63 + k
       → All Fits (notesIn bs i slots free row)
   fitsIn end i n m slots free row f a z h s b e = tt
   fitsIn (next {k} {g} p bs) i n m slots free row f a z h s b e =
@@ -160,7 +161,7 @@ cells-low (c ∷ xs) f = (cell-low (f c (List·Memᴰ·head refl)), cells-low xs
 
 -- A plan of an accepted table has at most 2,048 branches, and what is noted of each of them fits its number.
 module _ {t : List ℕ} {w : ℕ} {rows : List (List ℕ)} (is : IsTable t w rows) (p : Plan w rows) where
-  pub branches-few : branches p ≤ 2048
+  pub branches-few : branches p ≤ mostBranches
   branches-few = omega (arith, bound p 32 (rows-fit w rows (is .each)) (is .count .0))
 
   pub notes-fit : All Fits (notes p (upFrom 1 w) 32 0)

@@ -13,6 +13,7 @@ use Rattle.plan.specs.Plans.{Plan, leaf, node, Branches, end, next, writ
 use Rattle.plan.proofs.RunsLaws.{Each, Sized, group-sizes, group-some, group-rows, fits-some, runs-fit}
 use Rattle.plan.specs.code.Rows.{rowCount}
 use Rattle.plan.specs.code.Fits.{Fits}
+use Rattle.limits.specs.Limits.{mostPlanCells}
 
 -- 01's number of cells
 mutual
@@ -47,5 +48,5 @@ mutual
       (omega (arith, mul-add (suc n) (leaves p) (leavesIn bs), suc-mul n (leaves p)), omega arith, omega arith)
 
 -- 01, "at most 6,082": SIZE refuses no plan of an accepted table
-pub size-bound : {k : ℕ} {rows : List (List ℕ)} (p : Plan k rows) → All (Fits 32 k) rows → 0 < length rows → length rows ≤ 64 → length (write p) ≤ 6082
+pub size-bound : {k : ℕ} {rows : List (List ℕ)} (p : Plan k rows) → All (Fits 32 k) rows → 0 < length rows → length rows ≤ 64 → length (write p) ≤ mostPlanCells
 size-bound p f h m = let b = bound p 32 f h in omega (arith, size p)

@@ -14,6 +14,7 @@ use Rattle.refusal.specs.Read.{Read, read, refuse, when, andThen}
 use Rattle.table.specs.Table.{Table, tableOf}
 use Rattle.plan.specs.Runs.{Run, runs}
 use Rattle.plan.specs.Named.{spread, may, flagsOf, anyPast}
+use Rattle.limits.specs.Limits.{mostPlanCells, mostRowCells}
 
 -- a state that has been read: its branches, the place after it, and the cells after it
 pub record Seen : Type 0 where
@@ -74,7 +75,7 @@ nothingAfter s = when (ltb 0 (length (s .rest))) (bad reason.Extra (s .next)) (r
 -- a plan for a table that is read, of the kind that looks into the columns first for which a flag stands: SIZE, the first state, EXTRA. A row
 -- has at most 32 cells
 unfoldable pub planWith : List Bool → Table → List ℕ → Read ℕ
-planWith named T p = when (ltb 6082 (length p)) (bad reason.Size 0) (andThen (stateFrom 32 named (T .width) (T .rows) 0 p) nothingAfter)
+planWith named T p = when (ltb mostPlanCells (length p)) (bad reason.Size 0) (andThen (stateFrom mostRowCells named (T .width) (T .rows) 0 p) nothingAfter)
 
 -- any plan: no column is named
 abbrev pub planFor : Table → List ℕ → Read ℕ

@@ -22,6 +22,7 @@ use Rattle.plannotes.specs.code.Places.{Spot, Closed}
 use Rattle.plannotes.specs.code.Steps.{partOf, endOf, ended, finished, Low, Part, Ending, Met, Begun}
 use Rattle.plannotes.proofs.PlacesLaws.{spot-small}
 use Rattle.plannotes.proofs.AloneLaws.{met-mark}
+use Rattle.limits.specs.Limits.{mostBranches}
 
 -- A branch that is met.
 part-cell : (c r n l : ℕ) → c < 2 ^ 32 → cellIn (partOf c r n l) ≡ c
@@ -60,7 +61,7 @@ met-other v c cs d = let e : count v cs ≡ cond (eqb v c) 1 0 + count v cs = rw
 pub record Finishing (notes₀ : List ℕ) (from to past : ℕ) (notes seen : List ℕ) (again i : ℕ) : Type 0 where
   pub down : from ≤ i
   pub up : i ≤ to
-  pub size : length notes ≡ 2048
+  pub size : length notes ≡ mostBranches
   pub done : notes ≡ sets notes₀ i (finished (past - to) (slice i to notes₀) [])
   pub met : (v : ℕ) → v < 32 → getD seen v 0 ≡ cond (ltb 0 (count v (map cellIn (slice i to notes₀)))) 1 0
   pub twice-met : again ≡ cond (twice (map cellIn (slice i to notes₀))) 1 0 * 2 ^ 63

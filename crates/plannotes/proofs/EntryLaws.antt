@@ -30,6 +30,7 @@ use Rattle.plannotes.specs.code.Tree.{Ready, StateDone, Accepted, AllNot
 use Rattle.plannotes.specs.declared.tree.Past.{Past}
 use Rattle.plannotes.proofs.TreeLaws.{words-count}
 use Rattle.plannotes.proofs.PlacesLaws.{up-at, up-all, up-apart, up-path}
+use Rattle.limits.specs.Limits.{mostBranches}
 
 -- the width's arguments stand open in the slots after the head
 start : (w : ℕ) → w ≤ 8 → Open (upFrom 1 64) 32 (upFrom 1 w)
@@ -80,7 +81,7 @@ module _ {t p : List ℕ} {b : ℕ} (x : PlanFor t p b) where
       let c = x .is .cells in
       (omega (arith, ap length c), ap (λ (l : List ℕ). getD l 0 0) c, ap (λ (l : List ℕ). getD l 1 0) c)
 
-  module _ {array : List ℕ} (l : length array ≡ 2048) where
+  module _ {array : List ℕ} (l : length array ≡ mostBranches) where
     accepted-there : Accepted p array (x .table .width)
     accepted-there = record { table = t; rows = x .table .rows; is = x .is; tree = x .tree; cells = sym (x .cells); array = l }
 

@@ -25,6 +25,7 @@ use Rattle.plannotes.specs.code.Places.{Open}
 use Rattle.plannotes.specs.code.Steps.{partOf, Low, Part, Met, Begun}
 use Rattle.plannotes.specs.code.Tree.{Ready, ReadyAt, notesAt, Done, StateDone, BranchDone}
 use Rattle.plannotes.specs.declared.tree.Past.{Past}
+use Rattle.limits.specs.Limits.{mostBranches, mostPlanCells}
 
 -- what stands at a place of a list
 read : (l : List ℕ) (at x : ℕ) (xs : List ℕ) → drop at l ≡ x ∷ xs → (at < length l) × (getD l at 0 ≡ x) × (drop (at + 1) l ≡ xs)
@@ -102,7 +103,7 @@ first-cell plan behind at (node {rows = rows} i l bs) e = read plan at i (length
 pub record ReadyIn (plan links noted slots : List ℕ) (i place k made free row : ℕ) {groups : List Run} (trees : Branches (k - 1) groups) : Type 0 where
   pub behind : List ℕ
   pub cells : drop place plan ≡ writes trees ++ behind
-  pub size : length plan ≤ 6082
+  pub size : length plan ≤ mostPlanCells
   pub most : ℕ
   pub some : Sized most groups
   pub few : row + rowCount groups ≤ 64
@@ -114,12 +115,12 @@ pub record ReadyIn (plan links noted slots : List ℕ) (i place k made free row 
   pub here : i < k
   pub number : length slots ≡ k
   pub opens : Open links free slots
-  pub room : made + branchesIn trees ≤ 2048
-  pub array : length noted ≡ 2048
+  pub room : made + branchesIn trees ≤ mostBranches
+  pub array : length noted ≡ mostBranches
 
 module _ {plan links noted : List ℕ} {at k made free row : ℕ} (w : Ready plan links noted at k made free row) where
   -- the numbers that the code keeps are small
-  pub state-bounds : (at < length plan) × (length plan ≤ 6082) × (k ≤ 32) × (made ≤ 2048) × (free ≤ 63)
+  pub state-bounds : (at < length plan) × (length plan ≤ mostPlanCells) × (k ≤ 32) × (made ≤ mostBranches) × (free ≤ 63)
   state-bounds =
       let l = fits-wide (w .left) k (w .rows) (w .fit) (w .some) in
       (first-cell plan (w .behind) at (w .tree) (w .cells), w .size, omega (arith, w .deep), omega (arith, w .room), omega (arith, w .enough))
@@ -257,7 +258,7 @@ module _ {plan links noted : List ℕ} {i place k made free row : ℕ} (w : Read
   pub branch-read : (place < length plan) × (getD plan place 0 ≡ c) × (drop (place + 1) plan ≡ write (w .tree) ++ w .behind)
   branch-read = read plan place c (write (w .tree) ++ w .behind) (w .cells)
 
-  pub branch-bounds : (place < length plan) × (length plan ≤ 6082) × (0 < k) × (arity c + (k - 1) ≤ 32) × (made < 2048) × (free + arity c ≤ 63)
+  pub branch-bounds : (place < length plan) × (length plan ≤ mostPlanCells) × (0 < k) × (arity c + (k - 1) ≤ 32) × (made < mostBranches) × (free + arity c ≤ 63)
   branch-bounds =
       (branch-read .0, w .size, omega (arith, w .here), omega (arith, open-below, w .deep), omega (arith, w .room), omega (arith, open-below, w .enough, w .here))
 

@@ -11,6 +11,7 @@ ghost use Prim.Native.Nat.{_+_, _^_, _<_};
 ghost use lib.Dec.{eqb, ltb};
 ghost use lib.ListN.{length, getD};
 ghost use Rattle.plannotes.specs.code.Tree.{Ready, ReadyAt, Followed, StateDone, BranchDone};
+ghost use Rattle.limits.specs.Limits.{mostPlanCells};
 use super::branch::begin;
 use super::branch::finish;
 
@@ -31,7 +32,7 @@ pub struct Past {
 
 // Whether the state has one branch only.
 fn single(plan: &[u32], at: usize, width: usize) -> bool
-    requires { ⌜ (at < 6082) × (0 < width → at + 1 < length (now plan)) ⌝ }
+    requires { ⌜ (at < mostPlanCells) × (0 < width → at + 1 < length (now plan)) ⌝ }
     ensures { λ r. ⌜ r ≡ (ltb 0 width && eqb (getD (now (plan .entry)) (at + 1) 0) 1) ⌝ }
 {
     if width == 0 {

@@ -34,6 +34,7 @@ use Rattle.prolog.specs.code.Parts.{overOf, given, Gives}
 use Rattle.prolog.specs.declared.FactsAnswer.the-variants as facts-answer
 use Rattle.prolog.specs.declared.TextAnswer.{TextAnswer}
 use Rattle.prolog.specs.declared.TextAnswer.the-variants as text-answer
+use Rattle.limits.specs.Limits.{mostNames, mostTableCells}
 
 -- A REFUSAL WRITES NOTHING
 turned-away : {t cells names : List ℕ} {a : Answer} {f : Refused} → a ≡ turned f → Loads t (length cells) (length names) (refuse f)
@@ -49,9 +50,9 @@ unfolding nameList
 names-long t facts = length-map (namesOf t facts) entryOf
 
 -- ROOM OF THE CELLS, ROOM OF THE LIST, LENGTH
-long-table : (xs : List ℕ) → 2050 < length xs → tableOf xs ≡ refuse (refused reason.Length input.Table 0)
+long-table : (xs : List ℕ) → mostTableCells < length xs → tableOf xs ≡ refuse (refused reason.Length input.Table 0)
 unfolding tableOf
-long-table xs h = rw (le-ltb (length xs) 2 (omega arith), lt-ltb 2050 (length xs) h)
+long-table xs h = rw (le-ltb (length xs) 2 (omega arith), lt-ltb mostTableCells (length xs) h)
 
 module _ (t cells names : List ℕ) (c : Counted) (C : Counts t c) where
   needs : c .symbols + 2 ≡ length (tableCells t (C .facts))
@@ -69,7 +70,7 @@ module _ (t cells names : List ℕ) (c : Counted) (C : Counts t c) where
       turned-away (e ∙ ap (λ (i : ℕ). turned (refused reason.Room input.Lent i)) q) (no-names (C .taken) (omega (arith, needs)) (omega (arith, q)))
 
   -- over 2,048 symbols
-  pub over-loads : {a : Answer} (n : ℕ) → a ≡ overOf n (length names) → n ≡ length (nameList t (C .facts)) → 2048 < c .symbols → c .symbols + 2 ≤ length cells
+  pub over-loads : {a : Answer} (n : ℕ) → a ≡ overOf n (length names) → n ≡ length (nameList t (C .facts)) → mostNames < c .symbols → c .symbols + 2 ≤ length cells
       → TextLoads t cells names cells names a
   over-loads {a} n e q h l = by (ltb (length names) n) refl e
     where
@@ -145,7 +146,7 @@ table-refused made list cells names f e q = by (tableOf made) refl (sym (ap tabl
 pub record Listed (t : List ℕ) (room : ℕ) (c : Counted) (list made list′ made′ : List ℕ) (n : ℕ) : Type 0 where
   pub counts : Counts t c
   pub room′ : c .symbols + 2 ≤ room
-  pub few : c .symbols ≤ 2048
+  pub few : c .symbols ≤ mostNames
   pub count : n ≡ length (nameList t (counts .facts))
   pub names : list′ ≡ front (nameList t (counts .facts)) list
   pub wrote : made′ ≡ front (tableCells t (counts .facts)) made
@@ -158,7 +159,7 @@ module _ {t list made : List ℕ} {room : ℕ} where
 
   pub counted-are : {list′ made′ : List ℕ} {c : Counted} {n : ℕ}
       → WordsAre t room list made list′ made′ (text-words.Facts c (names-read.Counted n))
-      → (C : Counts t c) × ((c .symbols + 2 ≤ room) × (2048 < c .symbols) × (n ≡ length (nameList t (C .facts))))
+      → (C : Counts t c) × ((c .symbols + 2 ≤ room) × (mostNames < c .symbols) × (n ≡ length (nameList t (C .facts))))
   counted-are (words.facts C (words.many h k)) = (C, (omega (arith, C .symbols), omega (arith, C .symbols), refl))
 
   pub passed-are : {list′ made′ : List ℕ} {c : Counted} → WordsAre t room list made list′ made′ (text-words.Facts c names-read.Passed)
@@ -212,20 +213,20 @@ listed-loads {t} {list′ = list′} {made′ = made′} {n = n} {c = c} cells n
 
 -- made, and read as no table
 module _ {t made list : List ℕ} where
-  pub facts-made : {list′ made′ : List ℕ} {c : Counted} {n : ℕ} (L : Listed t 2050 c list made list′ made′ n)
+  pub facts-made : {list′ made′ : List ℕ} {c : Counted} {n : ℕ} (L : Listed t mostTableCells c list made list′ made′ n)
       → FactsAre t made list made′ list′ (facts-answer.Made c (sizes (c .symbols + 2) n))
   facts-made L = rw (cells-count L, L .wrote, L .names, L .count) (are-made (L .counts) (L .few))
 
   pub facts-many : {list′ made′ : List ℕ} {c : Counted} {n : ℕ}
-      → WordsAre t 2050 list made list′ made′ (text-words.Facts c (names-read.Counted n))
+      → WordsAre t mostTableCells list made list′ made′ (text-words.Facts c (names-read.Counted n))
       → FactsAre t made list made′ list′ (facts-answer.Long c)
   facts-many (words.facts C (words.many h k)) = entry.too-long C (omega (arith, C .symbols))
 
-  pub facts-passed : {list′ made′ : List ℕ} {c : Counted} → WordsAre t 2050 list made list′ made′ (text-words.Facts c names-read.Passed)
+  pub facts-passed : {list′ made′ : List ℕ} {c : Counted} → WordsAre t mostTableCells list made list′ made′ (text-words.Facts c names-read.Passed)
       → FactsAre t made list made′ list′ (facts-answer.Long c)
   facts-passed (words.facts C (words.no-room h)) = entry.too-long C (omega (arith, C .symbols))
 
-  pub facts-turned : {list′ made′ : List ℕ} {f : Refusal} → WordsAre t 2050 list made list′ made′ (text-words.Refused f)
+  pub facts-turned : {list′ made′ : List ℕ} {f : Refusal} → WordsAre t mostTableCells list made list′ made′ (text-words.Refused f)
       → FactsAre t made list made′ list′ (facts-answer.Refused f)
   facts-turned (words.refused x) = entry.not-taken x
 

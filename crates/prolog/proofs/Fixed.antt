@@ -20,6 +20,7 @@ use Rattle.prolog.specs.declared.FactsAnswer.{FactsAnswer}
 use Rattle.prolog.specs.declared.FactsAnswer.the-variants as facts-answer
 use Rattle.prolog.specs.declared.TextAnswer.{TextAnswer}
 use Rattle.prolog.specs.declared.TextAnswer.the-variants as text-answer
+use Rattle.limits.specs.Limits.{mostNames}
 
 textTold-one : (a b : TextAnswer) → textTold a ≡ textTold b → a ≡ b
 textTold-one (text-answer.Read c n) (text-answer.Read d m) e = cc
@@ -32,7 +33,7 @@ pub read-text-fixed : {t cells names cells′ names′ cells″ names″ : List 
     → (r ≡ s) × (cells′ ≡ cells″) × (names′ ≡ names″)
 read-text-fixed {r = r} {s = s} a b = let f = text-fixed a b in (textTold-one r s (f .0), f .1, f .2)
 
-long-apart : {t : List ℕ} {c d : Counted} → Counts t c → Counts t d → c .symbols ≤ 2048 → 2048 < d .symbols → ⊥
+long-apart : {t : List ℕ} {c d : Counted} → Counts t c → Counts t d → c .symbols ≤ mostNames → mostNames < d .symbols → ⊥
 long-apart {t} C D h k = omega (arith, ap (λ (x : Counted). x .symbols) (counts-fixed t C D .1))
 
 pub make-facts-fixed : {t made list m l m′ l′ : List ℕ} {a b : FactsAnswer} → FactsAre t made list m l a → FactsAre t made list m′ l′ b

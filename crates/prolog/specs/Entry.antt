@@ -15,6 +15,7 @@ use Rattle.prolog.specs.declared.FactsAnswer.{FactsAnswer}
 use Rattle.prolog.specs.declared.FactsAnswer.the-variants as facts-answer
 use Rattle.prolog.specs.declared.TextAnswer.{TextAnswer}
 use Rattle.prolog.specs.declared.TextAnswer.the-variants as text-answer
+use Rattle.limits.specs.Limits.{mostNames}
 
 -- 02, "answers the cells written and the names listed"
 abbrev pub textTold : TextAnswer → Answer
@@ -27,8 +28,8 @@ sizes cells names = record { cells = cells; names = names }
 -- what is answered for a text that is made and not read as a table: its cells and its names at the front of two rooms, the rest of which is as
 -- it was; and nothing is written where it has too many symbols for a table, or is turned away
 pub data FactsAre (t made list : List ℕ) : List ℕ → List ℕ → FactsAnswer → Type 0 where
-  are-made : {c : Counted} (C : Counts t c) → c .symbols ≤ 2048
+  are-made : {c : Counted} (C : Counts t c) → c .symbols ≤ mostNames
       → FactsAre t made list (front (tableCells t (C .facts)) made) (front (nameList t (C .facts)) list)
       (facts-answer.Made c (sizes (length (tableCells t (C .facts))) (length (nameList t (C .facts)))))
-  too-long : {c : Counted} → Counts t c → 2048 < c .symbols → FactsAre t made list made list (facts-answer.Long c)
+  too-long : {c : Counted} → Counts t c → mostNames < c .symbols → FactsAre t made list made list (facts-answer.Long c)
   not-taken : {f : Refusal} → Taken t (refuse (told f)) → FactsAre t made list made list (facts-answer.Refused f)

@@ -11,6 +11,8 @@ ghost use Rattle.refusal.specs.declared.Input.the-variants as input;
 ghost use Rattle.loading.specs.Load.{front, TextLoads};
 ghost use Rattle.prolog.specs.Entry.{textTold, FactsAre};
 ghost use Rattle.prolog.specs.code.Parts.{overOf, Gives};
+use limits::NAMES;
+use limits::TABLE_CELLS;
 use refusal::Input;
 use refusal::Reason;
 use refusal::Refusal;
@@ -83,8 +85,8 @@ pub fn read_text(text: &[u8], cells: &mut [u32], names: &mut [u32]) -> TextAnswe
     ensures { λ r. ⌜ TextLoads (now (text .entry)) (now (cells .entry)) (now (names .entry)) (now (cells .exit)) (now (names .exit))
         (textTold r) ⌝ }
 {
-    let mut list = [0u32; 2048];
-    let mut made = [0u32; 2050];
+    let mut list = [0u32; NAMES];
+    let mut made = [0u32; TABLE_CELLS];
     match texttable::read_words(text, cells.len(), &mut list, &mut made) {
         TextWords::Facts(c, known) => match known {
             NamesRead::Listed(n) => {
@@ -115,10 +117,14 @@ pub enum FactsAnswer {
 }
 
 // The cells and the names of a text, made at the front of two rooms and read as no table: what 01 asks of a table is not asked of it.
-pub fn make_facts(text: &[u8], made: &mut [u32; 2050], list: &mut [u32; 2048]) -> FactsAnswer
+pub fn make_facts(
+    text: &[u8],
+    made: &mut [u32; TABLE_CELLS],
+    list: &mut [u32; NAMES],
+) -> FactsAnswer
     ensures { λ r. ⌜ FactsAre (now (text .entry)) (now (made .entry)) (now (list .entry)) (now (made .exit)) (now (list .exit)) r ⌝ }
 {
-    match texttable::read_words(text, 2050, list, made) {
+    match texttable::read_words(text, TABLE_CELLS, list, made) {
         TextWords::Facts(c, known) => match known {
             NamesRead::Listed(names) => {
                 let cells = c.symbols + 2;

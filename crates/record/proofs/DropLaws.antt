@@ -17,6 +17,7 @@ use Rattle.record.proofs.KeptLaws.{dropped-kept}
 use Rattle.record.proofs.PartLaws.{few-cells, kept-long, length-room, holds-parts, parts-hold}
 use Rattle.record.proofs.StartLaws.{flatten-split}
 use Rattle.record.proofs.StoreLaws.{kept-lent, kept-put, back-cleared}
+use Rattle.limits.specs.Limits.{mostTableCells}
 
 module _ {rec : List ℕ} {figure : ℕ} {T : Table} (x : Holds rec figure T)
     {last : ℕ} (is-last : suc last ≡ length (T .rows)) (some : 0 < last) where
@@ -67,7 +68,7 @@ module _ {rec : List ℕ} {figure : ℕ} {T : Table} (x : Holds rec figure T)
       → done ≡ set headed 3 last → Holds done figure (table (T .width) rows)
   row-dropped {start} {size} {cleared} {new} e f g c {headed} {done} h d =
       let n : ℕ = length (cellsIn T) in
-      let long : length (inRoom front) ≡ 2050 = length-room front (omega (arith, lengths, few-cells x)) in
+      let long : length (inRoom front) ≡ mostTableCells = length-room front (omega (arith, lengths, few-cells x)) in
       let is : cleared ≡ n ∷ figure ∷ (inRoom front ++ kept) = g ∙ cells-dropped e f in
       let c′ : Cleared last kept new = rw (is, kept-lent n figure (inRoom front) kept long) at c in
       let put = kept-put n figure (inRoom front) kept long new in

@@ -19,6 +19,7 @@ use Rattle.least.proofs.Pairs.{entry-one}
 use Rattle.least.proofs.Places.{IsPair, pair, no-pair, is-pair, same-kept}
 use Rattle.record.specs.Record.{Costs, no-rows, some-rows, Kept, Holds}
 use Rattle.record.specs.code.Zeros.{ZeroAt, Cleared}
+use Rattle.limits.specs.Limits.{keptCells}
 
 -- the rows of a pair that an edit leaves: the replaced row is before or after them, the new one after them, the dropped one after them
 pub between-set : (first last r : ℕ) (row : List ℕ) (rows : List (List ℕ)) → (r < first) ⊎ (last < r)
@@ -64,7 +65,7 @@ costs-one (some-rows h l x) (some-rows h′ l′ y) = least-one x y
 
 -- two arrays that are kept for one table are one
 pub kept-one : {m : Measure} {width : ℕ} {rows : List (List ℕ)} {a b : List ℕ} → Kept m width rows a → Kept m width rows b
-    → length a ≡ 12288 → length b ≡ 12288 → a ≡ b
+    → length a ≡ keptCells → length b ≡ keptCells → a ≡ b
 kept-one {a = a} {b} x y l l′ =
     same-kept a b l l′ (λ first last h i.
     let e = entry-one (y .entry first last h i) (x .entry first last h i) in

@@ -14,10 +14,11 @@ use Rattle.least.specs.Measures.{work}
 use Rattle.record.specs.Record.{cellsIn, Kept, Holds, tableIn}
 use Rattle.record.specs.code.Rows.{inRoom}
 use Rattle.record.proofs.KeptLaws.{kept-one}
+use Rattle.limits.specs.Limits.{keptCells, mostTableCells}
 
-pub length-room : (cells : List ℕ) → length cells ≤ 2050 → length (inRoom cells) ≡ 2050
+pub length-room : (cells : List ℕ) → length cells ≤ mostTableCells → length (inRoom cells) ≡ mostTableCells
 length-room cells h =
-    length-append cells (replicate (2050 - length cells) 0) ∙ omega (arith, length-replicate {A = ℕ} (2050 - length cells) 0)
+    length-append cells (replicate (mostTableCells - length cells) 0) ∙ omega (arith, length-replicate {A = ℕ} (mostTableCells - length cells) 0)
 
 -- the numbers of a record, part after part
 abbrev pub partsOf : ℕ → List ℕ → List ℕ → List ℕ
@@ -25,7 +26,7 @@ partsOf figure cells kept = length cells ∷ figure ∷ (inRoom cells ++ kept)
 
 -- a record that holds a table has these parts
 module _ {rec : List ℕ} {figure : ℕ} {T : Table} (x : Holds rec figure T) where
-  pub few-cells : length (cellsIn T) ≤ 2050
+  pub few-cells : length (cellsIn T) ≤ mostTableCells
   few-cells = table-short (cellsIn T) (x .accepted)
 
   front-parts : take 2052 rec ≡ length (cellsIn T) ∷ figure ∷ inRoom (cellsIn T)
@@ -36,13 +37,13 @@ module _ {rec : List ℕ} {figure : ℕ} {T : Table} (x : Holds rec figure T) wh
   pub holds-parts : rec ≡ partsOf figure (cellsIn T) (drop 2052 rec)
   holds-parts = sym (take-append-drop 2052 rec) ∙ ap (λ (front : List ℕ). front ++ drop 2052 rec) front-parts
 
-  pub kept-long : length (drop 2052 rec) ≡ 12288
+  pub kept-long : length (drop 2052 rec) ≡ keptCells
   kept-long = length-drop 2052 rec ∙ omega (arith, x .size)
 
 -- the parts are a record's
 module _ {figure : ℕ} {T : Table} {kept : List ℕ} (accepted : tableOf (cellsIn T) ≡ read T) (low : figure ≤ 15)
-    (k : Kept (work figure) (T .width) (T .rows) kept) (size : length kept ≡ 12288) where
-  room-long : length (inRoom (cellsIn T)) ≡ 2050
+    (k : Kept (work figure) (T .width) (T .rows) kept) (size : length kept ≡ keptCells) where
+  room-long : length (inRoom (cellsIn T)) ≡ mostTableCells
   room-long = length-room (cellsIn T) (table-short (cellsIn T) accepted)
 
   pub parts-hold : {rec : List ℕ} → rec ≡ partsOf figure (cellsIn T) kept → Holds rec figure T
@@ -52,19 +53,19 @@ module _ {figure : ℕ} {T : Table} {kept : List ℕ} (accepted : tableOf (cells
     size = omega (arith, length-append (inRoom (cellsIn T)) kept, room-long);
     cells-many = refl;
     figure-is = refl;
-    cells = take-at (inRoom (cellsIn T)) kept 2050 room-long;
-    kept = rw (drop-at (inRoom (cellsIn T)) kept 2050 room-long) k;
+    cells = take-at (inRoom (cellsIn T)) kept mostTableCells room-long;
+    kept = rw (drop-at (inRoom (cellsIn T)) kept mostTableCells room-long) k;
   })
 
 -- the table's part of a record is the table's cells
 pub table-in : {rec : List ℕ} {figure : ℕ} {T : Table} → Holds rec figure T → tableIn rec ≡ cellsIn T
 table-in {rec} {figure} {T} x =
-    let n : getD rec 0 0 ≤ 2050 = omega (arith, x .cells-many, few-cells x) in
-    rw (le-ltb 2050 (getD rec 0 0) n, x .cells-many)
+    let n : getD rec 0 0 ≤ mostTableCells = omega (arith, x .cells-many, few-cells x) in
+    rw (le-ltb mostTableCells (getD rec 0 0) n, x .cells-many)
     (slice-take 2 (length (cellsIn T)) rec
     ∙ ap (λ (r : List ℕ). take (length (cellsIn T)) (drop 2 r)) (holds-parts x)
-    ∙ ap (take (length (cellsIn T))) (append-assoc (cellsIn T) (replicate (2050 - length (cellsIn T)) 0) (drop 2052 rec))
-    ∙ take-at (cellsIn T) (replicate (2050 - length (cellsIn T)) 0 ++ drop 2052 rec) (length (cellsIn T)) refl)
+    ∙ ap (take (length (cellsIn T))) (append-assoc (cellsIn T) (replicate (mostTableCells - length (cellsIn T)) 0) (drop 2052 rec))
+    ∙ take-at (cellsIn T) (replicate (mostTableCells - length (cellsIn T)) 0 ++ drop 2052 rec) (length (cellsIn T)) refl)
 
 -- A RECORD IS DETERMINED by its figure and its table
 pub record-one : {rec rec′ : List ℕ} {figure : ℕ} {T : Table} → Holds rec figure T → Holds rec′ figure T → rec ≡ rec′

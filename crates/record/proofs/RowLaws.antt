@@ -19,6 +19,7 @@ use Rattle.record.specs.Record.{cellsIn}
 use Rattle.record.specs.code.Rows.{inRoom, withRow, tableWith}
 use Rattle.record.proofs.KeptLaws.{between-set}
 use Rattle.record.proofs.StartLaws.{flatten-append, flatten-split, before-few}
+use Rattle.limits.specs.Limits.{mostTableCells}
 
 -- after the last row
 pub with-last : (rows : List (List ℕ)) (row : List ℕ) → rows ++ (row ∷ []) ≡ withRow rows (length rows) row
@@ -120,8 +121,8 @@ module _ (T : Table) (r : ℕ) (row : List ℕ) where
 
   -- they are stored part by part
   all-stored : {start end count : ℕ} → start ≡ begins r → end ≡ begins (suc r)
-      → count ≡ length (withRow (T .rows) r row) → length (cellsIn (tableWith T r row)) ≤ 2050
-      → set (sets (sets (sets (replicate 2050 0) 0 (take start cells)) start row) (start + length row) (drop end cells)) 1 count
+      → count ≡ length (withRow (T .rows) r row) → length (cellsIn (tableWith T r row)) ≤ mostTableCells
+      → set (sets (sets (sets (replicate mostTableCells 0) 0 (take start cells)) start row) (start + length row) (drop end cells)) 1 count
       ≡ inRoom (cellsIn (tableWith T r row))
   all-stored {start} {end} {count} e f g few =
       let xs : List ℕ = take start cells in
@@ -131,14 +132,14 @@ module _ (T : Table) (r : ℕ) (row : List ℕ) where
       let la = length-append xs (row ++ zs) in
       let lb = length-append row zs in
       let m = length-set (xs ++ (row ++ zs)) 1 count in
-      let stored = parts-stored 2050 xs row zs (omega (arith, ap length is)) in
-      ap (λ (s : List ℕ). set s 1 count) (rw lx at stored) ∙ number-stored 2050 count (xs ++ (row ++ zs)) (omega arith) ∙ ap inRoom is
+      let stored = parts-stored mostTableCells xs row zs (omega (arith, ap length is)) in
+      ap (λ (s : List ℕ). set s 1 count) (rw lx at stored) ∙ number-stored mostTableCells count (xs ++ (row ++ zs)) (omega arith) ∙ ap inRoom is
 
-  pub with-stored : {start end count : ℕ} {text next one two three : List ℕ} → text ≡ cells → next ≡ replicate 2050 0
+  pub with-stored : {start end count : ℕ} {text next one two three : List ℕ} → text ≡ cells → next ≡ replicate mostTableCells 0
       → one ≡ sets next 0 (take start text) → two ≡ sets one start row
       → three ≡ sets two (start + length row) (take (length text - end) (drop end text))
       → start ≡ begins r → end ≡ begins (suc r)
-      → count ≡ length (withRow (T .rows) r row) → length (cellsIn (tableWith T r row)) ≤ 2050
+      → count ≡ length (withRow (T .rows) r row) → length (cellsIn (tableWith T r row)) ≤ mostTableCells
       → set three 1 count ≡ inRoom (cellsIn (tableWith T r row))
   with-stored {start} {end} {count} t n a b c e f g few =
       let rest = take-all (length cells - end) (drop end cells) (omega (arith, length-drop end cells)) in

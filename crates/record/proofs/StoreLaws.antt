@@ -7,6 +7,7 @@ use lib.ListN.{length, getD, take, drop, replicate, length-append, length-drop, 
 use lib.ListN.{replicate-append-replicate, drop-of-length-le}
 use lib.Seq.{sets, sets-eq, drop-cons, take-at, drop-at, take-all, drop-append-add}
 use Rattle.record.specs.code.Rows.{inRoom}
+use Rattle.limits.specs.Limits.{keptCells, mostTableCells, recordCells}
 
 -- a part in the middle is exchanged for one of the same length
 sets-middle : (xs ys zs new : List ℕ) → length new ≡ length ys → sets (xs ++ (ys ++ zs)) (length xs) new ≡ xs ++ (new ++ zs)
@@ -19,16 +20,16 @@ sets-middle xs ys zs new l =
 pub lent-all : (rec : List ℕ) → take (length rec - 2052) (drop 2052 rec) ≡ drop 2052 rec
 lent-all rec = take-all (length rec - 2052) (drop 2052 rec) (omega (arith, length-drop 2052 rec))
 
-pub lent-long : (rec : List ℕ) → length rec ≡ 14340 → length (take (length rec - 2052) (drop 2052 rec)) ≡ 12288
+pub lent-long : (rec : List ℕ) → length rec ≡ recordCells → length (take (length rec - 2052) (drop 2052 rec)) ≡ keptCells
 lent-long rec l = ap length (lent-all rec) ∙ length-drop 2052 rec ∙ omega arith
 
 -- the numbers of a record, part after part: the end of it is lent and put back
-module _ (n figure : ℕ) (room kept : List ℕ) (long : length room ≡ 2050) where
+module _ (n figure : ℕ) (room kept : List ℕ) (long : length room ≡ mostTableCells) where
   abbrev whole : List ℕ
   whole = n ∷ figure ∷ (room ++ kept)
 
   pub kept-part : drop 2052 whole ≡ kept
-  kept-part = drop-at room kept 2050 long
+  kept-part = drop-at room kept mostTableCells long
 
   pub kept-lent : take (length whole - 2052) (drop 2052 whole) ≡ kept
   kept-lent = lent-all whole ∙ kept-part
@@ -37,10 +38,10 @@ module _ (n figure : ℕ) (room kept : List ℕ) (long : length room ≡ 2050) w
   kept-put new =
       let none : drop (length whole - 2052) (drop 2052 whole) ≡ [] =
       drop-of-length-le (drop 2052 whole) {i = length whole - 2052} (omega (arith, length-drop 2052 whole)) in
-      rw (none, append-nil new) (ap (λ (r : List ℕ). n ∷ figure ∷ (r ++ new)) (take-at room kept 2050 long))
+      rw (none, append-nil new) (ap (λ (r : List ℕ). n ∷ figure ∷ (r ++ new)) (take-at room kept mostTableCells long))
 
   -- the room of the table's cells is exchanged
-  pub room-put : (new : List ℕ) → length new ≡ 2050 → sets whole 2 new ≡ n ∷ figure ∷ (new ++ kept)
+  pub room-put : (new : List ℕ) → length new ≡ mostTableCells → sets whole 2 new ≡ n ∷ figure ∷ (new ++ kept)
   room-put new l = sets-middle (n ∷ figure ∷ []) room kept new (l ∙ sym long)
 
 -- cells at the end of a table become 0
@@ -52,14 +53,14 @@ cells-exchanged n figure front back behind kept new l =
     let i : 2 + length front ≡ length (n ∷ figure ∷ front) = omega arith in
     rw (e, f, i) (sets-middle (n ∷ figure ∷ front) back (behind ++ kept) new l)
 
-pub back-cleared : (n figure : ℕ) (front back kept : List ℕ) → length front + length back ≤ 2050
+pub back-cleared : (n figure : ℕ) (front back kept : List ℕ) → length front + length back ≤ mostTableCells
     → sets (n ∷ figure ∷ inRoom (front ++ back) ++ kept) (2 + length front) (replicate (length back) 0) ≡ n ∷ figure ∷ inRoom front ++ kept
 back-cleared n figure front back kept h =
-    let k : length back + (2050 - length (front ++ back)) ≡ 2050 - length front = omega (arith, length-append front back) in
-    cells-exchanged n figure front back (replicate (2050 - length (front ++ back)) 0) kept (replicate (length back) 0)
+    let k : length back + (mostTableCells - length (front ++ back)) ≡ mostTableCells - length front = omega (arith, length-append front back) in
+    cells-exchanged n figure front back (replicate (mostTableCells - length (front ++ back)) 0) kept (replicate (length back) 0)
     (length-replicate {A = ℕ} (length back) 0)
     ∙ ap (λ (zeros : List ℕ). n ∷ figure ∷ (front ++ zeros) ++ kept)
-    (replicate-append-replicate {A = ℕ} (length back) (2050 - length (front ++ back)) 0 ∙ ap (λ (k : ℕ). replicate k 0) k)
+    (replicate-append-replicate {A = ℕ} (length back) (mostTableCells - length (front ++ back)) 0 ∙ ap (λ (k : ℕ). replicate k 0) k)
 
 -- a table's cells where everything was cleared
 cleared-all : (a b : ℕ) (rest zeros : List ℕ) → length zeros ≡ length rest → sets (a ∷ b ∷ rest) 2 zeros ≡ a ∷ b ∷ zeros
@@ -83,11 +84,11 @@ cells-anew-at a b n k z rest cells l e h =
     )
     (sets-middle (a ∷ b ∷ []) (replicate (length cells) 0) behind cells (sym (length-replicate {A = ℕ} (length cells) 0)))
 
-pub cells-anew : (rec cells : List ℕ) → length rec ≡ 14340 → length cells ≤ 2050
-    → sets (sets rec 2 (replicate (14340 - 2) 0)) 2 cells ≡ getD rec 0 0 ∷ getD rec 1 0 ∷ (inRoom cells ++ replicate 12288 0)
+pub cells-anew : (rec cells : List ℕ) → length rec ≡ recordCells → length cells ≤ mostTableCells
+    → sets (sets rec 2 (replicate (recordCells - 2) 0)) 2 cells ≡ getD rec 0 0 ∷ getD rec 1 0 ∷ (inRoom cells ++ replicate keptCells 0)
 cells-anew rec cells l h =
     let two : rec ≡ getD rec 0 0 ∷ getD rec 1 0 ∷ drop 2 rec =
     drop-cons rec 0 0 (omega arith) ∙ ap (λ (r : List ℕ). getD rec 0 0 ∷ r) (drop-cons rec 1 0 (omega arith)) in
-    ap (λ (r : List ℕ). sets (sets r 2 (replicate (14340 - 2) 0)) 2 cells) two
-    ∙ cells-anew-at (getD rec 0 0) (getD rec 1 0) 2050 12288 (14340 - 2) (drop 2 rec) cells (length-drop 2 rec ∙ omega arith)
+    ap (λ (r : List ℕ). sets (sets r 2 (replicate (recordCells - 2) 0)) 2 cells) two
+    ∙ cells-anew-at (getD rec 0 0) (getD rec 1 0) mostTableCells keptCells (recordCells - 2) (drop 2 rec) cells (length-drop 2 rec ∙ omega arith)
     (omega arith) h

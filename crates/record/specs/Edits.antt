@@ -13,6 +13,7 @@ use Rattle.table.specs.Table.{Table, table, rowOf, others, tableSays}
 use Rattle.least.specs.Measures.{tableBy}
 use Rattle.least.specs.declared.By.the-variants.{Work}
 use Rattle.record.specs.Record.{Holds}
+use Rattle.limits.specs.Limits.{mostRows}
 
 -- "working it out for an accepted table": FIGURE, then the table's refusals; a refusal leaves the record as it was
 pub data WorkedOut (figure : ℕ) (cells rec rec′ : List ℕ) (answer : Answer) : Type 0 where
@@ -31,7 +32,7 @@ pub data Edit : Type 0 where
 -- then 01's from LONG on for the new row"; SAME "against every other row" (W-208)
 unfoldable pub editOf : Edit → Table → Read Table
 editOf (append row) T =
-    when (leb 64 (length (T .rows))) (refused reason.Full input.Table 0)
+    when (leb mostRows (length (T .rows))) (refused reason.Full input.Table 0)
     (andThen (rowOf (T .width) (T .rows) row) (λ (_ : ℕ). read (table (T .width) (T .rows ++ (row ∷ [])))))
 editOf drop-last T =
     when (leb (length (T .rows)) 1) (refused reason.Last input.Table 0)

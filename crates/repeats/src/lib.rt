@@ -16,7 +16,9 @@ ghost use Rattle.plan.specs.Notes.{cellIn, slotIn, nextIn};
 ghost use Rattle.walking.specs.code.Link.{steps, nodes};
 ghost use Rattle.alone.specs.code.Alone.{Symbols};
 ghost use Rattle.alone.specs.code.Rest.{Safe, Takes, Begins, Walks};
+ghost use Rattle.limits.specs.Limits.{mostBranches};
 use joins::node;
+use limits::BRANCHES;
 use plannotes::packed::cell_of;
 use plannotes::packed::next_of;
 use plannotes::packed::slot_of;
@@ -35,9 +37,9 @@ fn place(c: u32) -> usize
 
 // The number that comes after the last branch; none is noted from 2,048 on.
 pub fn end_of(to: usize) -> usize
-    ensures { λ r. ⌜ (r ≤ 2048) × (to ≤ 2048 → r ≡ to) × (2048 ≤ to → r ≡ 2048) ⌝ }
+    ensures { λ r. ⌜ (r ≤ mostBranches) × (to ≤ mostBranches → r ≡ to) × (mostBranches ≤ to → r ≡ mostBranches) ⌝ }
 {
-    if to < 2048 { to } else { 2048 }
+    if to < BRANCHES { to } else { BRANCHES }
 }
 
 // The symbol of a node at the branch number `at`: 0 where its binding has ended.
@@ -169,7 +171,7 @@ pub struct Alone {
 
 // The rest of a row, whose branches are those from the number `from` to before `to`.
 pub fn rest(
-    notes: &[u64; 2048],
+    notes: &[u64; BRANCHES],
     from: usize,
     to: usize,
     rep: &[u8; 64],
@@ -179,7 +181,7 @@ pub fn rest(
     until: &[u16; 64],
     refs: &[u8; 64],
 ) -> Alone
-    ensures { λ r. ⌜ (r .tried ≤ 2048) × (r .hits ≤ 1) × ((b : Begins (now (notes .entry)) (now (rep .entry)) (now (sib .entry))
+    ensures { λ r. ⌜ (r .tried ≤ mostBranches) × (r .hits ≤ 1) × ((b : Begins (now (notes .entry)) (now (rep .entry)) (now (sib .entry))
         (now (bound .entry)) (now (args .entry)) (now (until .entry)) (now (refs .entry)) from to) → Walks b (r .tried) (r .hits)) ⌝ }
 {
     let mut own = symbols(bound, until, from);

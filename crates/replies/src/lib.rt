@@ -11,6 +11,8 @@ mod pass;
 
 use answer::RunAnswer;
 use instance::RepliesAnswer;
+use limits::MEETING_CELLS;
+use limits::ROWS;
 use octets::cells::put_cells;
 use pass::Sum;
 use pass::pass;
@@ -33,7 +35,7 @@ fn turned_away(reason: Reason, input: Input, place: usize) -> RepliesAnswer
 // then the room is left as it is. Where the list is too short for them, they are made once more, in the room.
 fn put_by(
     table: &[u32],
-    starts: &[usize; 64],
+    starts: &[usize; ROWS],
     rows: usize,
     goal: &[u32],
     hits: &[u8],
@@ -64,7 +66,7 @@ fn put_by(
 // Table, goal and hits may be anything: what they have to be stands as a premise inside the `ensures`.
 pub fn put_replies(
     table: &[u32],
-    starts: &[usize; 64],
+    starts: &[usize; ROWS],
     rows: usize,
     goal: &[u32],
     hits: &[u8],
@@ -78,7 +80,7 @@ pub fn put_replies(
         let mut few = [0u32; 512];
         return put_by(table, starts, rows, goal, hits, &mut few, room);
     }
-    let mut many = [0u32; 2048];
+    let mut many = [0u32; MEETING_CELLS];
     put_by(table, starts, rows, goal, hits, &mut many, room)
 }
 

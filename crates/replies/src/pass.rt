@@ -9,13 +9,16 @@ ghost use Rattle.table.specs.Table.{tableOf, RowPlace};
 ghost use Rattle.instance.specs.code.Passes.{Held};
 ghost use Rattle.meeting.specs.Ended.{Lent};
 ghost use Rattle.replies.specs.code.Sums.{Passing, Upto, Stops, PassedAt};
+ghost use Rattle.limits.specs.Limits.{mostMeetingCells};
+use limits::MEETING_CELLS;
+use limits::ROWS;
 use meeting::Made;
 use plannotes::packed::wide;
 use table::Part;
 
 // Where the cells of a hit's row are in an accepted table: a row ends where the next one starts, and the last where the table ends. Numbers
 // are cut to what there are places for.
-fn row_at(table: &[u32], starts: &[usize; 64], rows: usize, hit: u8) -> Part
+fn row_at(table: &[u32], starts: &[usize; ROWS], rows: usize, hit: u8) -> Part
     ensures { λ p. ⌜ (Held (now (table .entry)) (now (starts .entry)) rows → hit < rows → RowPlace (tableOf (now (table .entry))) hit p) ⌝ }
 {
     let r = wide(hit) % 64;
@@ -41,7 +44,7 @@ pub struct Done {
 // The replies of the hits, put one after another into the room as far as it goes: up to the first that the two lent lists are too short for.
 fn pass_in(
     table: &[u32],
-    starts: &[usize; 64],
+    starts: &[usize; ROWS],
     rows: usize,
     goal: &[u32],
     hits: &[u8],
@@ -49,7 +52,7 @@ fn pass_in(
     other: &mut [u32],
     room: &mut [u32],
 ) -> Done
-    requires { ⌜ length (now cells) ≤ 2048 ⌝ }
+    requires { ⌜ length (now cells) ≤ mostMeetingCells ⌝ }
     ensures { λ r. ⌜ Upto (now (table .entry)) (now (starts .entry)) rows (now (goal .entry)) (now (hits .entry)) (now (room .entry)) (now (room .exit)) r
         × (Lent (now (cells .entry)) (now (other .entry)) → Stops (now (table .entry)) (now (starts .entry)) rows (now (goal .entry))
         (now (hits .entry)) r) ⌝ }
@@ -57,7 +60,7 @@ fn pass_in(
     let mut sum = 0;
     let mut on = 0;
     let mut i = 0;
-    if 64 < hits.len() {
+    if ROWS < hits.len() {
         return Done {
             hits: i,
             cells: sum,
@@ -92,7 +95,7 @@ fn pass_in(
 // In lists for replies of up to 64 cells or so.
 fn pass_short(
     table: &[u32],
-    starts: &[usize; 64],
+    starts: &[usize; ROWS],
     rows: usize,
     goal: &[u32],
     hits: &[u8],
@@ -117,7 +120,7 @@ fn pass_short(
 // In lists that are long enough for any reply of up to 1,024 cells.
 fn pass_long(
     table: &[u32],
-    starts: &[usize; 64],
+    starts: &[usize; ROWS],
     rows: usize,
     goal: &[u32],
     hits: &[u8],
@@ -126,7 +129,7 @@ fn pass_long(
     ensures { λ r. ⌜ Upto (now (table .entry)) (now (starts .entry)) rows (now (goal .entry)) (now (hits .entry)) (now (room .entry)) (now (room .exit)) r
         × Stops (now (table .entry)) (now (starts .entry)) rows (now (goal .entry)) (now (hits .entry)) r ⌝ }
 {
-    let mut cells = [0u32; 2048];
+    let mut cells = [0u32; MEETING_CELLS];
     let mut other = [0u32; 2049];
     pass_in(
         table,
@@ -149,7 +152,7 @@ pub enum Sum {
 // The replies of the hits, put one after another into the room as far as it goes.
 pub fn pass(
     table: &[u32],
-    starts: &[usize; 64],
+    starts: &[usize; ROWS],
     rows: usize,
     goal: &[u32],
     hits: &[u8],

@@ -20,6 +20,7 @@ use Rattle.termtext.proofs.SpellLaws.{lower-name}
 use Rattle.termtext.proofs.ListLaws.{AllIn, listed-words, new-words}
 use Rattle.replyback.proofs.StandLaws.{Stands, NameStands, FactStands, text-stands, symbols-stand}
 use Rattle.replyback.proofs.ListedLaws.{Listed, row-listed}
+use Rattle.limits.specs.Limits.{mostGoalBytes, mostTextBytes}
 
 -- THE PLACES OF NAMES that first stand in a text
 abbrev PlaceStands : List ℕ → Place → Type 0
@@ -56,7 +57,7 @@ names-more t {words} {ns = ns} a f n =
     }
 
 -- A TABLE'S NAMES
-module _ (text : List ℕ) (facts : List Fact) (few : length text ≤ 65535) (x : Text text facts) where
+module _ (text : List ℕ) (facts : List Fact) (few : length text ≤ mostTextBytes) (x : Text text facts) where
   abbrev all-stand : All (NameStands text) (symbolsOf facts)
   all-stand = symbols-stand text facts (text-stands text x)
 
@@ -77,7 +78,7 @@ whole-text : {g whole : List ℕ} {fs : List Fact} → Whole g whole fs → Text
 whole-text (stopped x) = x
 whole-text (unstopped s x) = x
 
-module _ {words : Words} {predicate goal : List ℕ} {width : ℕ} {G : Goal} (few : length goal ≤ 65533)
+module _ {words : Words} {predicate goal : List ℕ} {width : ℕ} {G : Goal} (few : length goal ≤ mostGoalBytes)
     (a : Asks words predicate width goal G) where
   abbrev fact-stands : FactStands (a .whole) (a .fact)
   fact-stands = text-stands (a .whole) (whole-text (a .text)) .0

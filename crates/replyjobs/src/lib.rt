@@ -16,6 +16,8 @@ use answer::RunAnswer;
 use checker::PlanAnswer;
 use instance::RepliesAnswer;
 use instance::ReplyJob;
+use limits::BRANCHES;
+use limits::ROWS;
 use plannotes::Noted;
 use refusal::Reason;
 
@@ -66,7 +68,7 @@ fn within(at: usize, end: usize) -> usize
 // The replies of a run's hits, from the record's place of the room on.
 fn put_one(
     table: &[u32],
-    starts: &[usize; 64],
+    starts: &[usize; ROWS],
     rows: usize,
     goal: &[u32],
     hits: &[u8],
@@ -100,10 +102,10 @@ fn put_one(
 // One goal, asked by itself with what is left of the room: LENGTH where its cells are not all lent, otherwise what a run of it answers, and the
 // replies of its hits. Neither test adds, so that no start and no count is too large.
 pub fn reply_one(
-    numbers: &[u64; 2048],
+    numbers: &[u64; BRANCHES],
     noted: Noted,
     table: &[u32],
-    starts: &[usize; 64],
+    starts: &[usize; ROWS],
     cells: &[u32],
     j: ReplyJob,
     on: usize,
@@ -130,7 +132,7 @@ pub fn reply_one(
             refused(j, reason, f.place)
         }
         RunAnswer::Ran(n, tried) => {
-            if 64 < n {
+            if ROWS < n {
                 return j;
             }
             let one = found(j, on, shift::bits(&bytes, n), tried);
@@ -141,10 +143,10 @@ pub fn reply_one(
 
 // Every record of the list, in place, the replies one goal's after another's.
 fn reply_each(
-    numbers: &[u64; 2048],
+    numbers: &[u64; BRANCHES],
     noted: Noted,
     table: &[u32],
-    starts: &[usize; 64],
+    starts: &[usize; ROWS],
     cells: &[u32],
     jobs: &mut [ReplyJob],
     room: &mut [u32],
@@ -164,7 +166,7 @@ fn reply_each(
 }
 
 // Where the rows of a table start, 0 for each where it is turned away.
-fn starts_of(table: &[u32]) -> [usize; 64]
+fn starts_of(table: &[u32]) -> [usize; ROWS]
     ensures { λ r. ⌜ r ≡ startsIn (tableOf (now (table .entry))) ⌝ }
 {
     let read = table::read_table(table);
@@ -184,7 +186,7 @@ pub fn reply_jobs(
     ensures { λ r. ⌜ ReplyJobsRun (now (table .entry)) (now (plan .entry)) (now (cells .entry)) (now (room .entry)) (now (room .exit))
         (now (jobs .entry)) (now (jobs .exit)) (planTold r) ⌝ }
 {
-    let mut numbers = [0u64; 2048];
+    let mut numbers = [0u64; BRANCHES];
     let noted = plannotes::check_noted(table, plan, &mut numbers);
     let starts = starts_of(table);
     if shift::accepted(noted) {

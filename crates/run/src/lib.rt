@@ -13,6 +13,7 @@ mod walk;
 
 use answer::RunAnswer;
 use checker::PlanAnswer;
+use limits::BRANCHES;
 use plannotes::Noted;
 use refusal::Input;
 use refusal::Reason;
@@ -22,7 +23,7 @@ use table::GoalAnswer;
 // A run of a plan that the check has accepted, with what is noted of it: the goal, the room, then the walk. The goal of distinct variables,
 // which has as many variables as cells, hits every row and tries every branch: it is answered without a walk.
 fn run_accepted(
-    noted: &[u64; 2048],
+    noted: &[u64; BRANCHES],
     branches: usize,
     width: usize,
     rows: usize,
@@ -53,7 +54,12 @@ fn run_accepted(
 }
 
 // A run of a plan by what the check has answered and noted of it: any answer, any numbers.
-pub fn run_noted(numbers: &[u64; 2048], noted: Noted, goal: &[u32], room: &mut [u8]) -> RunAnswer
+pub fn run_noted(
+    numbers: &[u64; BRANCHES],
+    noted: Noted,
+    goal: &[u32],
+    room: &mut [u8],
+) -> RunAnswer
     ensures { λ r. ⌜ ((table plan before : List ℕ) → Handed table plan before (now (numbers .entry)) noted → Ran table plan
         (now (goal .entry)) (now (room .entry)) (now (room .exit)) r) ⌝ }
 {
@@ -72,7 +78,7 @@ pub fn run_noted(numbers: &[u64; 2048], noted: Noted, goal: &[u32], room: &mut [
 pub fn run_plan(table: &[u32], plan: &[u32], goal: &[u32], room: &mut [u8]) -> RunAnswer
     ensures { λ r. ⌜ Ran (now (table .entry)) (now (plan .entry)) (now (goal .entry)) (now (room .entry)) (now (room .exit)) r ⌝ }
 {
-    let mut numbers = [0u64; 2048];
+    let mut numbers = [0u64; BRANCHES];
     let noted = plannotes::check_noted(table, plan, &mut numbers);
     run_noted(&numbers, noted, goal, room)
 }

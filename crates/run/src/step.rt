@@ -6,6 +6,7 @@ ghost use lib.ListN.{getD};
 ghost use Rattle.plan.specs.Notes.{cellIn, skipIn, slotIn, nextIn};
 ghost use Rattle.walking.specs.code.Steps.{Safe, Step};
 ghost use Rattle.run.specs.code.Finds.{Finds};
+ghost use Rattle.limits.specs.Limits.{mostBranches};
 use joins::node;
 use plannotes::packed::cell_of;
 use plannotes::packed::next_of;
@@ -56,7 +57,7 @@ pub fn meets(
     until: &mut [u16; 64],
     refs: &mut [u8; 64],
 ) -> bool
-    requires { ⌜ i < 2048 ⌝ }
+    requires { ⌜ i < mostBranches ⌝ }
     ensures { λ r. ⌜ (Safe (now (sib .entry)) (now (bound .entry)) (now (args .entry)) (now (until .entry)) i (cellIn w)
         (getD (now (refs .entry)) (slotIn w) 0) (nextIn w)
         → Step (now (rep .entry)) (now (sib .entry)) i (cellIn w) (getD (now (refs .entry)) (slotIn w) 0) (nextIn w) (i + 1 + skipIn w)

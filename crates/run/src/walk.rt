@@ -11,6 +11,7 @@ use super::nodes::name_cells;
 use super::nodes::siblings;
 use super::step::meets;
 use joins::node;
+use limits::BRANCHES;
 use plannotes::packed::alone_of;
 use plannotes::packed::row_of;
 use plannotes::packed::skip_of;
@@ -57,7 +58,7 @@ fn put_row(room: &mut [u8], at: usize, row: u8)
 // A run of an accepted plan on a goal of `width` terms: the hits as bytes from the room's first on, and how many branches were tried. Those of
 // rows that are run by themselves are counted apart, so that a turn for any other branch adds 1 and nothing else.
 pub fn walk(
-    notes: &[u64; 2048],
+    notes: &[u64; BRANCHES],
     branches: usize,
     goal: &[u32],
     width: usize,

@@ -11,6 +11,8 @@ ghost use Rattle.salvage.specs.code.Saving.{Fronted, RowsHad, TopIs, Own
 use builder::BuildAnswer;
 use checker::PlanAnswer;
 use least::By;
+use limits::COLUMNS;
+use limits::ROWS;
 use refusal::Input;
 use refusal::Reason;
 use salvaging::Report;
@@ -101,10 +103,10 @@ fn rows_of(file: &[u8], cells: &mut [u32]) -> Rows
     if good == 0 {
         return Rows::NoHead;
     }
-    if outside(wide(cells[2]), 1, 8) {
+    if outside(wide(cells[2]), 1, COLUMNS) {
         return Rows::NoHead;
     }
-    if outside(wide(cells[3]), 1, 64) {
+    if outside(wide(cells[3]), 1, ROWS) {
         return Rows::NoHead;
     }
     rows_in(good, cells)

@@ -25,6 +25,7 @@ use Rattle.filing.proofs.ReadingLaws.{or-true, front-at, front-part, taken}
 use Rattle.salvaging.specs.Kept.{keptFrom}
 use Rattle.salvaging.specs.Salvage.{width, count, noHead, kept}
 use Rattle.salvaging.proofs.KeptLaws.{Starts, kept-are, kept-table, longest, kept-cut, no-rows}
+use Rattle.limits.specs.Limits.{mostRowsCells}
 
 -- two lists, each at the front of the other
 both-start : (a b : List (List ℕ)) → Starts a b → Starts b a → a ≡ b
@@ -38,28 +39,28 @@ module _ (w left : ℕ) (xs : List ℕ) (bounds : (1 ≤ w) × (w ≤ 8)) (few :
   abbrev K : List (List ℕ)
   K = keptFrom w left [] xs
 
-  few-kept : length (flatten K) ≤ 2048
+  few-kept : length (flatten K) ≤ mostRowsCells
   unfolding flatten
   few-kept = go (bool-cases (ltb 0 (length K)))
     where
-      go : (ltb 0 (length K) ≡ true) ⊎ (ltb 0 (length K) ≡ false) → length (flatten K) ≤ 2048
+      go : (ltb 0 (length K) ≡ true) ⊎ (ltb 0 (length K) ≡ false) → length (flatten K) ≤ mostRowsCells
       go (inl t) = omega (arith, table-short (w ∷ length K ∷ flatten K) (kept-table w left xs bounds few (ltb-true 0 (length K) t)))
       go (inr t) =
           let z : K ≡ [] = no-rows K (omega (arith, ltb-false 0 (length K) t)) in
           omega (arith, ap (λ (l : List (List ℕ)). length (flatten l)) z)
 
   -- so the cells after them do not matter
-  kept-short : keptFrom w left [] (take 2048 xs) ≡ K
+  kept-short : keptFrom w left [] (take mostRowsCells xs) ≡ K
   kept-short =
       let k = kept-are w left [] xs in
       let n = length (flatten K) in
-      let m : 2048 ≡ n + (2048 - n) = omega (arith, few-kept) in
-      let e : take 2048 xs ≡ flatten K ++ take (2048 - n) (k .rest) =
-      ap (take 2048) (sym (k .cells)) ∙ ap (λ (j : ℕ). take j (flatten K ++ k .rest)) m ∙ take-append-add (flatten K) (k .rest) (2048 - n) in
-      let s = longest w left [] K (take (2048 - n) (k .rest)) (k .are .each) (k .are .apart) (k .are .distinct) (k .few) in
-      let c = kept-cut w left (take 2048 xs) (drop 2048 xs) in
-      both-start (keptFrom w left [] (take 2048 xs)) K
-      (record { more = c .more; both = c .both ∙ ap (keptFrom w left []) (take-append-drop 2048 xs) })
+      let m : mostRowsCells ≡ n + (mostRowsCells - n) = omega (arith, few-kept) in
+      let e : take mostRowsCells xs ≡ flatten K ++ take (mostRowsCells - n) (k .rest) =
+      ap (take mostRowsCells) (sym (k .cells)) ∙ ap (λ (j : ℕ). take j (flatten K ++ k .rest)) m ∙ take-append-add (flatten K) (k .rest) (mostRowsCells - n) in
+      let s = longest w left [] K (take (mostRowsCells - n) (k .rest)) (k .are .each) (k .are .apart) (k .are .distinct) (k .few) in
+      let c = kept-cut w left (take mostRowsCells xs) (drop mostRowsCells xs) in
+      both-start (keptFrom w left [] (take mostRowsCells xs)) K
+      (record { more = c .more; both = c .both ∙ ap (keptFrom w left []) (take-append-drop mostRowsCells xs) })
       (record { more = s .more; both = s .both ∙ ap (keptFrom w left []) (sym e) })
 
 -- of no cells no row is kept
@@ -104,7 +105,7 @@ module _ (f : List ℕ) where
 three : (m a b : ℕ) → m ≡ min (min a b) 2052 → (m ≤ a) × (m ≤ b) × (m ≤ 2052)
 three m a b e = (omega arith, omega arith, omega arith)
 
-four-less : (k t l : ℕ) → 4 + k ≡ min (min (4 + t) (4 + l)) 2052 → k ≡ min (min t 2048) l
+four-less : (k t l : ℕ) → 4 + k ≡ min (min (4 + t) (4 + l)) 2052 → k ≡ min (min t mostRowsCells) l
 four-less k t l e = omega arith
 
 not-more : (j n : ℕ) {k : ℕ} → k ≡ min j n → k ≤ n
@@ -124,7 +125,7 @@ module _ (f cells : List ℕ) (fits : Front 2052 cells (goodCells f 0)) (some : 
   cell-is i h = front-at cells G fits i (omega arith) (omega (arith, size))
 
   module _ (m : ℕ) (least : m ≡ min (min (2 + tableSize G) (125 * good f 0)) 2052) (four : 4 ≤ m) where
-    cut : take (m - 4) (drop 4 cells) ≡ take 2048 (drop 2 (tablePart G))
+    cut : take (m - 4) (drop 4 cells) ≡ take mostRowsCells (drop 2 (tablePart G))
     cut =
         let t = tableSize G - 2 in
         let X = drop 4 G in
@@ -138,7 +139,7 @@ module _ (f cells : List ℕ) (fits : Front 2052 cells (goodCells f 0)) (some : 
         let p : drop 2 (tablePart G) ≡ take t X =
         ap (λ (j : ℕ). drop 2 (take j (drop 2 G))) (sym n) ∙ slice-take 2 t (drop 2 G) ∙ ap (take t) (drop-drop 2 2 G) in
         front-part cells G fits 4 (m - 4) (omega (arith, b)) (omega (arith, b, size))
-        ∙ take-cut (m - 4) (min t 2048) X (four-less (m - 4) t (length X) e) ∙ taken (min t 2048) t 2048 X refl ∙ ap (take 2048) (sym p)
+        ∙ take-cut (m - 4) (min t mostRowsCells) X (four-less (m - 4) t (length X) e) ∙ taken (min t mostRowsCells) t mostRowsCells X refl ∙ ap (take mostRowsCells) (sym p)
 
     -- the rows that are kept, from the cells that the code hands over
     pub rows-cut : noHead f ≡ false → keptFrom (getD cells 2 0) (min (getD cells 3 0) 64) [] (take (m - 4) (drop 4 cells)) ≡ kept f

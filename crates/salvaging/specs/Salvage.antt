@@ -19,6 +19,7 @@ use Rattle.octets.specs.Octets.{cellsOf}
 use Rattle.blocks.specs.Blocks.{sound, good, goodCells}
 use Rattle.filing.specs.Files.{tableSize, planSize, tablePart}
 use Rattle.salvaging.specs.Kept.{keptFrom}
+use Rattle.limits.specs.Limits.{mostColumns, mostRows}
 
 -- "each bad block": the numbers of those that are not sound, of so many blocks from this number on. A part of a block is not sound
 unfoldable pub badFrom : ℕ → ℕ → List ℕ → List ℕ
@@ -50,7 +51,7 @@ module _ (file : List ℕ) where
 
   -- "HEAD when block 0 is missing or bad or its width or count is out of range"
   abbrev pub noHead : Bool
-  noHead = eqb (good file 0) 0 || ((ltb width 1 || ltb 8 width) || (ltb count 1 || ltb 64 count))
+  noHead = eqb (good file 0) 0 || ((ltb width 1 || ltb mostColumns width) || (ltb count 1 || ltb mostRows count))
 
   -- the rows that end within the table size and before that block, and the table that they are
   abbrev pub kept : List (List ℕ)

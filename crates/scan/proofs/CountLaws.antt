@@ -24,6 +24,7 @@ use Rattle.scan.specs.declared.Scan.{Scan}
 use Rattle.scan.specs.Scan.{scanTold, ScanIs}
 use Rattle.scan.specs.code.Facts as code
 use Rattle.scan.specs.code.Facts.{seenFact, Fits, tallyOf, laterOther, withFact, Sized, Kept, otherSaid, FirstIs, Tallied, withFacts, Going, verdictOf}
+use Rattle.limits.specs.Limits.{mostTextBytes}
 
 -- one fact more, as the code makes it
 pub one-fact : (t : List ℕ) (c : Tally) (x : Seen) → c .facts ≡ 0 → tallyOf 1 (x .start) (x .end) (x .width) (x .symbols) 65536 ≡ withFact t c x
@@ -145,7 +146,7 @@ module _ (t : List ℕ) (at : ℕ) (c : Tally) (G : Going t at (eqb (c .facts) 0
             ∙ ap (λ (b : Bool). withFacts (G .facts ++ (g ∷ [])) (run (drop (x .next) t) (factMode b) nothing (x .next))) (sym (some (G .facts) g T));
       }
 
-  pub all-read : length t ≤ 65535 → {r : Scan} → run (drop at t) (factMode (eqb (c .facts) 0)) nothing at ≡ reads [] → scanTold r ≡ verdictOf c → ScanIs t r
+  pub all-read : length t ≤ mostTextBytes → {r : Scan} → run (drop at t) (factMode (eqb (c .facts) 0)) nothing at ≡ reads [] → scanTold r ≡ verdictOf c → ScanIs t r
   all-read h {r} e q = by (ltb (c .other) 65536) refl
     where
       text : Text t (G .facts)
@@ -163,7 +164,7 @@ module _ (t : List ℕ) (at : ℕ) (c : Tally) (G : Going t at (eqb (c .facts) 0
         answer = q ∙ rw (l, G .counts .number, G .counts .symbols, width-is (G .facts) c (G .counts .first));
       }
 
-  pub stops-there : length t ≤ 65535 → {r : Scan} (p : ℕ) → run (drop at t) (factMode (eqb (c .facts) 0)) nothing at ≡ stops p
+  pub stops-there : length t ≤ mostTextBytes → {r : Scan} (p : ℕ) → run (drop at t) (factMode (eqb (c .facts) 0)) nothing at ≡ stops p
       → scanTold r ≡ refuse (refused reason.Text input.Text p) → ScanIs t r
   stops-there h p e q =
       record {
@@ -172,7 +173,7 @@ module _ (t : List ℕ) (at : ℕ) (c : Tally) (G : Going t at (eqb (c .facts) 0
         answer = q;
       }
 
-pub over-bytes : (t : List ℕ) {r : Scan} → 65535 < length t → scanTold r ≡ refuse (refused reason.Bytes input.Text 0) → ScanIs t r
+pub over-bytes : (t : List ℕ) {r : Scan} → mostTextBytes < length t → scanTold r ≡ refuse (refused reason.Bytes input.Text 0) → ScanIs t r
 over-bytes t h q = record { says = refuse (refused reason.Bytes input.Text 0); rule = too-long h; answer = q }
 
 -- the numbers
@@ -180,7 +181,7 @@ pub kept-none : (t : List ℕ) {c : Tally} → c ≡ code.noFacts → Kept t 0 c
 kept-none t q = subst (Kept t 0) (sym q) (record { first = (omega arith, omega arith); few = omega arith; sum = omega arith })
 
 module _ (t : List ℕ) (at : ℕ) (c : Tally) (K : Kept t at c) (f : Bool) (x : Seen) (F : Fits t at f x) where
-  pub sized : length t ≤ 65535 → Sized t c x
+  pub sized : length t ≤ mostTextBytes → Sized t c x
   sized h =
       record {
         first = K .first;
@@ -189,7 +190,7 @@ module _ (t : List ℕ) (at : ℕ) (c : Tally) (K : Kept t at c) (f : Bool) (x :
         sum = K .sum;
       }
 
-  pub kept-more : length t ≤ 65535 → {c′ : Tally} → c′ ≡ withFact t c x → Kept t (x .next) c′
+  pub kept-more : length t ≤ mostTextBytes → {c′ : Tally} → c′ ≡ withFact t c x → Kept t (x .next) c′
   kept-more h q = subst (Kept t (x .next)) (sym q) (by (decLt 0 (c .facts)))
     where
       by : Dec (0 < c .facts) → Kept t (x .next) (withFact t c x)

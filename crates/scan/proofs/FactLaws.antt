@@ -18,6 +18,7 @@ use Rattle.scan.specs.declared.arguments.Arguments.the-variants as argum
 use Rattle.scan.specs.declared.facts.FactRead.{FactRead}
 use Rattle.scan.specs.code.Arguments.{Whole, argumentsAt, Reads}
 use Rattle.scan.specs.code.Facts.{Fits, FactIs}
+use Rattle.limits.specs.Limits.{mostTextBytes}
 
 module _ (t : List ℕ) (at : ℕ) (first : Bool) {r : Head} (H : Heads t at first r) where
   abbrev whole : Work → Out
@@ -44,7 +45,7 @@ module _ (t : List ℕ) (at : ℕ) (first : Bool) {r : Head} (H : Heads t at fir
         args : (e + 1 < u) × Whole (argumentsAt t (e + 1)) t u d n
         args = subst (Reads t (e + 1)) i A
 
-        pub last-small : length t ≤ 65535 → d < 65535
+        pub last-small : length t ≤ mostTextBytes → d < mostTextBytes
         last-small h = let x = args .1 in omega (arith, x .args, x .within)
 
         closing : (w : Work) → whole w ≡ run (drop u t) closed (work s e d [] (args .1 .out)) u

@@ -19,6 +19,7 @@ use Rattle.scan.specs.declared.arguments.Spot.{Spot}
 use Rattle.scan.specs.code.Levels.{levelAt, stored, levelsOf}
 use Rattle.scan.proofs.LevelLaws.{levels-set}
 use Rattle.scan.specs.code.Arguments.{spot, doneIn, Ready, Under, Goes, Moved, argumentsAt}
+use Rattle.limits.specs.Limits.{mostTextBytes}
 
 -- the innermost open name
 record Innermost (dones : List ℕ) (d : ℕ) (opened : List Frame) : Type 0 where
@@ -245,7 +246,7 @@ module _ (t dones : List ℕ) (sp : Spot) (R : Ready t dones sp) {r : Turn} (T :
         })
 
 -- the start
-pub none-yet : (t dones : List ℕ) (at : ℕ) {v : Spot} → v ≡ spot at false 0 0 0 → at ≤ length t → length t ≤ 65535 → length t < 8 * length dones
+pub none-yet : (t dones : List ℕ) (at : ℕ) {v : Spot} → v ≡ spot at false 0 0 0 → at ≤ length t → length t ≤ mostTextBytes → length t < 8 * length dones
     → Ready t dones v × Under (argumentsAt t at) t dones v
 unfolding levelsOf
 none-yet t dones at q h k l =

@@ -17,6 +17,7 @@ use Rattle.scan.specs.Scan.{counted, countedIn, ScanIs, Counts}
 use Rattle.scan.specs.declared.Counted.{Counted}
 use Rattle.scan.specs.declared.Scan.{Scan}
 use Rattle.scan.specs.declared.Scan.the-variants as scan
+use Rattle.limits.specs.Limits.{mostTextBytes}
 
 pub scan-is : (t : List ℕ) {r x : Scan} → ScanIs t r → r ≡ x → ScanIs t x
 scan-is t c e = subst (ScanIs t) e c
@@ -44,8 +45,8 @@ scan-turned t f s = by (s .says) (s .rule) (s .answer)
     by (refuse g) x e = let q : told f ≡ g = cc in subst (λ (y : Refused). Taken t (refuse y)) (sym q) x
 
 -- the text of facts that are counted: how long it is, what it is read as; and two bytes for each symbol
-pub counts-read : {t : List ℕ} {c : Counted} (C : Counts t c) → (length t ≤ 65535) × (textOf t ≡ reads (C .facts)) × (c .symbols ≤ 32766)
+pub counts-read : {t : List ℕ} {c : Counted} (C : Counts t c) → (length t ≤ mostTextBytes) × (textOf t ≡ reads (C .facts)) × (c .symbols ≤ 32766)
 counts-read {t} {c} C = by (C .taken)
   where
-    by : Taken t (read (C .facts)) → (length t ≤ 65535) × (textOf t ≡ reads (C .facts)) × (c .symbols ≤ 32766)
+    by : Taken t (read (C .facts)) → (length t ≤ mostTextBytes) × (textOf t ≡ reads (C .facts)) × (c .symbols ≤ 32766)
     by (taken h x e) = (h, accepted t (C .facts) .1 x, omega (arith, text-long t x, C .symbols))

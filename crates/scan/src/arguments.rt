@@ -3,6 +3,7 @@ ghost use mathlib.Core.Path.{_≡_};
 ghost use Prim.Native.Nat.{_*_, _≤_, _<_};
 ghost use lib.ListN.{length};
 ghost use Rattle.scan.specs.code.Arguments.{spot, Ready, MoveIs, Reads};
+ghost use Rattle.limits.specs.Limits.{mostTextBytes};
 use super::levels;
 use lex::turn;
 use turn::Turn;
@@ -83,7 +84,7 @@ pub enum Arguments {
 }
 
 pub fn read_arguments(text: &[u8], at: usize, dones: &mut [u8]) -> Arguments
-    requires { ⌜ (at ≤ length (now text)) × (length (now text) ≤ 65535) × (length (now text) < 8 * length (now dones)) ⌝ }
+    requires { ⌜ (at ≤ length (now text)) × (length (now text) ≤ mostTextBytes) × (length (now text) < 8 * length (now dones)) ⌝ }
     ensures { λ r. ⌜ Reads (now (text .entry)) at r ⌝ }
 {
     let mut sp = spot_at(at, false, 0, 0, 0);

@@ -3,6 +3,7 @@ ghost use mathlib.Core.Path.{_≡_};
 ghost use Prim.Native.Nat.{_*_, _≤_, _<_};
 ghost use lib.ListN.{length};
 ghost use Rattle.scan.specs.code.Facts.{FactIs, Sized, noFacts, likeFirst, laterOther, withFact};
+ghost use Rattle.limits.specs.Limits.{mostTextBytes};
 use super::arguments;
 use arguments::Arguments;
 use fact::FactEnd;
@@ -28,7 +29,7 @@ pub enum FactRead {
 
 // The next fact, from the start of the text on (`first`) or from just after a full stop.
 pub fn fact_from(text: &[u8], at: usize, first: bool, dones: &mut [u8]) -> FactRead
-    requires { ⌜ (at ≤ length (now text)) × (length (now text) ≤ 65535) × (length (now text) < 8 * length (now dones)) ⌝ }
+    requires { ⌜ (at ≤ length (now text)) × (length (now text) ≤ mostTextBytes) × (length (now text) < 8 * length (now dones)) ⌝ }
     ensures { λ r. ⌜ FactIs (now (text .entry)) at first r ⌝ }
 {
     match fact::next_fact(text, at, first) {

@@ -13,8 +13,10 @@ ghost use Rattle.refusal.specs.Refusal.{refused};
 ghost use Rattle.refusal.specs.Read.{refuse};
 ghost use Rattle.scan.specs.Scan.{scanTold, ScanIs};
 ghost use Rattle.scan.specs.code.Facts.{verdictOf};
+ghost use Rattle.limits.specs.Limits.{mostTextBytes};
 use facts::FactRead;
 use facts::Tally;
+use limits::TEXT_BYTES;
 use refusal::Input;
 use refusal::Reason;
 use refusal::Refusal;
@@ -59,7 +61,7 @@ fn verdict(tally: Tally) -> Scan
 
 // All facts, one after another. `dones` is room for a number for each open name.
 fn read_facts(text: &[u8], dones: &mut [u8]) -> Scan
-    requires { ⌜ (length (now text) ≤ 65535) × (length (now text) < 8 * length (now dones)) ⌝ }
+    requires { ⌜ (length (now text) ≤ mostTextBytes) × (length (now text) < 8 * length (now dones)) ⌝ }
     ensures { λ r. ⌜ ScanIs (now (text .entry)) r ⌝ }
 {
     let mut at = 0;
@@ -85,7 +87,7 @@ fn read_facts(text: &[u8], dones: &mut [u8]) -> Scan
 pub fn scan_text(text: &[u8]) -> Scan
     ensures { λ r. ⌜ ScanIs (now (text .entry)) r ⌝ }
 {
-    if 65535 < text.len() {
+    if TEXT_BYTES < text.len() {
         return turned(Reason::Bytes, 0);
     }
     if text.len() < 4096 {

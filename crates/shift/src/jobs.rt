@@ -13,6 +13,7 @@ use answer::Job;
 use answer::RunAnswer;
 use checker::PlanAnswer;
 use joins::node;
+use limits::BRANCHES;
 use plannotes::Noted;
 use plannotes::packed::wide;
 use refusal::Reason;
@@ -71,7 +72,7 @@ fn refused(j: Job, reason: Reason, place: usize) -> Job
 
 // One goal, asked by itself: LENGTH where its cells are not all lent, otherwise what a run of it answers. Neither test adds, so that no
 // start and no count is too large.
-fn ask_one(numbers: &[u64; 2048], noted: Noted, cells: &[u32], j: Job) -> Job
+fn ask_one(numbers: &[u64; BRANCHES], noted: Noted, cells: &[u32], j: Job) -> Job
     ensures { λ r. ⌜ AskedBy (now (numbers .entry)) noted (now (cells .entry)) j r ⌝ }
 {
     let start = j.start;
@@ -101,7 +102,7 @@ fn ask_one(numbers: &[u64; 2048], noted: Noted, cells: &[u32], j: Job) -> Job
 }
 
 // Every record of the list, in place.
-pub fn ask_all(numbers: &[u64; 2048], noted: Noted, cells: &[u32], jobs: &mut [Job])
+pub fn ask_all(numbers: &[u64; BRANCHES], noted: Noted, cells: &[u32], jobs: &mut [Job])
     ensures { λ _. ⌜ Each (AskedBy (now (numbers .entry)) noted (now (cells .entry))) (now (jobs .entry)) (now (jobs .exit)) ⌝ }
 {
     let mut i = 0;
@@ -112,7 +113,7 @@ pub fn ask_all(numbers: &[u64; 2048], noted: Noted, cells: &[u32], jobs: &mut [J
 }
 
 // What the goals of a list try together. Two words of the list say where a goal's cells start and how many they are.
-pub fn add_all(numbers: &[u64; 2048], noted: Noted, cells: &[u32], list: &[usize]) -> usize
+pub fn add_all(numbers: &[u64; BRANCHES], noted: Noted, cells: &[u32], list: &[usize]) -> usize
     ensures { λ r. ⌜ ((table plan before : List ℕ) → Handed table plan before (now (numbers .entry)) noted
         → TriesInAll table plan (now (cells .entry)) (now (list .entry)) r) ⌝ }
 {

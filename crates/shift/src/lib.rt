@@ -10,6 +10,7 @@ use checker::PlanAnswer;
 pub use jobs::accepted;
 pub use jobs::answer_of;
 pub use jobs::bits;
+use limits::BRANCHES;
 
 // A run of any plan for any table on every goal of a list. The table and the plan are checked once; where one of them is turned away, no
 // record is touched. The goals' cells lie among the lent ones.
@@ -17,7 +18,7 @@ pub fn run_jobs(table: &[u32], plan: &[u32], cells: &[u32], jobs: &mut [Job]) ->
     ensures { λ r. ⌜ JobsRun (now (table .entry)) (now (plan .entry)) (now (cells .entry)) (now (jobs .entry)) (now (jobs .exit)) (planTold
         r) ⌝ }
 {
-    let mut numbers = [0u64; 2048];
+    let mut numbers = [0u64; BRANCHES];
     let noted = plannotes::check_noted(table, plan, &mut numbers);
     if jobs::accepted(noted) {
         jobs::ask_all(&numbers, noted, cells, jobs);
@@ -30,7 +31,7 @@ pub fn run_jobs(table: &[u32], plan: &[u32], cells: &[u32], jobs: &mut [Job]) ->
 pub fn total_tried(table: &[u32], plan: &[u32], cells: &[u32], list: &[usize]) -> usize
     ensures { λ r. ⌜ TriesInAll (now (table .entry)) (now (plan .entry)) (now (cells .entry)) (now (list .entry)) r ⌝ }
 {
-    let mut numbers = [0u64; 2048];
+    let mut numbers = [0u64; BRANCHES];
     let noted = plannotes::check_noted(table, plan, &mut numbers);
     jobs::add_all(&numbers, noted, cells, list)
 }

@@ -2,6 +2,7 @@
 use builder::BuildAnswer;
 use checker::PlanAnswer;
 use least::By;
+use limits::PLAN_CELLS;
 use octets::cells::put_cells;
 use prolog::TextAnswer;
 use refusal::Refusal;
@@ -49,7 +50,7 @@ pub fn measure() -> By {
 
 // A table that was read is refused here for a column alone, and 6,082 cells are enough for every plan.
 fn keep(text: &[u8], columns: &[u32], names: &[u32], table: &[u32], kept: &mut [u32]) -> Loaded {
-    let mut plan = [0u32; 6082];
+    let mut plan = [0u32; PLAN_CELLS];
     match builder::build_for(measure(), columns, table, &mut plan) {
         BuildAnswer::Built(n, _) => Loaded::Kept(put_lists(
             text,

@@ -9,6 +9,7 @@ use mathlib.Core.Path.{_≡_}
 use Rattle.cell.specs.Cell.{arity}
 use Rattle.term.specs.Terms.{root, close}
 use Rattle.state.specs.declared.mask.Closed.{Closed}
+use Rattle.limits.specs.Limits.{mostRows}
 
 -- the lowest bit is set
 abbrev pub odd : ℕ → Bool
@@ -44,8 +45,8 @@ endAt ss n len r = cond (ltb (r + 1) n) (getD ss (r + 1) 0) len
 -- the masks of a table's rows, all of their cells open: so many rows, at most 64, that start where ss says
 pub record OpenRows (ss : List ℕ) (n len : ℕ) (ms : List ℕ) : Type 0 where
   pub size : length ms ≡ 64
-  pub rows : (r : ℕ) → r < min n 64 → getD ms r 0 ≡ full (endAt ss (min n 64) len r - getD ss r 0)
-  pub others : (r : ℕ) → min n 64 ≤ r → getD ms r 0 ≡ 0
+  pub rows : (r : ℕ) → r < min n mostRows → getD ms r 0 ≡ full (endAt ss (min n mostRows) len r - getD ss r 0)
+  pub others : (r : ℕ) → min n mostRows ≤ r → getD ms r 0 ≡ 0
 
 -- open place i of a row is closed: its cell is the definition's, its bit is out of the mask, and so the list that the mask stands for is
 -- the definition's

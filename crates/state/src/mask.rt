@@ -4,6 +4,8 @@ ghost use Prim.Native.Nat.{_-_, min};
 ghost use lib.ListN.{drop};
 ghost use Rattle.state.specs.Mask.{bitAt, full, OpenRows, ClosedAt};
 ghost use Rattle.state.specs.States.{ClosedRows};
+ghost use Rattle.limits.specs.Limits.{mostRows};
+use limits::ROWS;
 
 // The mask of a row of n cells, all of them open.
 pub fn row_mask(n: usize) -> u32
@@ -23,12 +25,12 @@ fn between(start: usize, end: usize) -> usize
 }
 
 // The masks of a table's rows, all of their cells open: at most 64 rows that start as given, in a table of `length` cells.
-pub fn open_rows(starts: &[usize; 64], rows: usize, length: usize) -> [u32; 64]
+pub fn open_rows(starts: &[usize; ROWS], rows: usize, length: usize) -> [u32; ROWS]
     ensures { λ r. ⌜ OpenRows (now (starts .entry)) rows length r ⌝ }
 {
-    let mut masks = [0; 64];
-    let mut row = 64;
-    if rows < 64 {
+    let mut masks = [0; ROWS];
+    let mut row = ROWS;
+    if rows < ROWS {
         row = rows;
     }
     let mut end = length;
@@ -92,18 +94,18 @@ pub fn close_at(cells: &[u32], start: usize, mask: u32, i: u32) -> Closed
 // its mask. Where end is not after first there is no such row, and nothing changes.
 pub fn close_rows(
     cells: &[u32],
-    starts: &[usize; 64],
-    masks: &mut [u32; 64],
-    column: &mut [u32; 64],
+    starts: &[usize; ROWS],
+    masks: &mut [u32; ROWS],
+    column: &mut [u32; ROWS],
     i: u32,
     first: usize,
     end: usize,
 )
     ensures { λ r. ⌜ ClosedRows (now (cells .entry)) (now (starts .entry)) (now (masks .entry)) (now (column .entry)) (now (masks .exit))
-        (now (column .exit)) i first (min end 64) ⌝ }
+        (now (column .exit)) i first (min end mostRows) ⌝ }
 {
-    let mut row = 64;
-    if end < 64 {
+    let mut row = ROWS;
+    if end < ROWS {
         row = end;
     }
     while first < row {

@@ -24,6 +24,7 @@ use Rattle.table.proofs.HeadLaws.{passed-head, head-passes, head-below,
 use Rattle.table.proofs.RowsLaws.{RowsAre, rows-are, are-rows, read-row}
 use Rattle.table.proofs.AllLaws.{all-members}
 use Rattle.table.proofs.ApartLaws.{tested-apart, apart-tested}
+use Rattle.limits.specs.Limits.{mostTableCells}
 
 -- two cells, and what follows
 pub two-cells : (t : List ℕ) → 2 ≤ length t → t ≡ getD t 0 0 ∷ (getD t 1 0 ∷ drop 2 t)
@@ -35,12 +36,12 @@ two-cells (a ∷ (b ∷ t)) h = refl
 pub is-table : (t : List ℕ) {T : Table} → tableOf t ≡ read T → IsTable t (T .width) (T .rows)
 unfolding tableOf
 is-table t {T} e =
-    let a = passed (ltb (length t) 2 || ltb 2050 (length t)) _ _ e in
+    let a = passed (ltb (length t) 2 || ltb mostTableCells (length t)) _ _ e in
     let b = passed (ltb (getD t 0 0) 1 || ltb 8 (getD t 0 0)) _ _ (a .1) in
     let c = passed (ltb (getD t 1 0) 1 || ltb 64 (getD t 1 0)) _ _ (b .1) in
     let f = first (rowsFrom (getD t 0 0) (getD t 1 0) [] (drop 2 t) 2) (λ (rows : List (List ℕ)). read (table (getD t 0 0) rows)) (c .1) in
     rw (← read-one (f .2))
-    (by-rows t (inside (length t) 2 2050 (a .0) .0) (inside (getD t 0 0) 1 8 (b .0)) (inside (getD t 1 0) 1 64 (c .0))
+    (by-rows t (inside (length t) 2 mostTableCells (a .0) .0) (inside (getD t 0 0) 1 8 (b .0)) (inside (getD t 1 0) 1 64 (c .0))
     (rows-are (getD t 0 0) (getD t 1 0) [] (drop 2 t) 2 (f .1)))
   where
     by-rows : (t : List ℕ) {rows : List (List ℕ)} → 2 ≤ length t → (1 ≤ getD t 0 0) × (getD t 0 0 ≤ 8) → (1 ≤ getD t 1 0) × (getD t 1 0 ≤ 64)
@@ -54,9 +55,9 @@ is-table t {T} e =
     }
 
 -- and has at most 2,050 cells
-pub table-short : (t : List ℕ) {T : Table} → tableOf t ≡ read T → length t ≤ 2050
+pub table-short : (t : List ℕ) {T : Table} → tableOf t ≡ read T → length t ≤ mostTableCells
 unfolding tableOf
-table-short t e = inside (length t) 2 2050 (passed (ltb (length t) 2 || ltb 2050 (length t)) _ _ e .0) .1
+table-short t e = inside (length t) 2 mostTableCells (passed (ltb (length t) 2 || ltb mostTableCells (length t)) _ _ e .0) .1
 
 -- rows of at most 32 cells
 few-cells : (w : ℕ) (rows : List (List ℕ)) → All (Row w) rows → length (flatten rows) ≤ 32 * length rows
@@ -71,7 +72,7 @@ unfolding tableOf
 rows-accepted w rows b c a d =
     let l = few-cells w rows a in
     rw (
-      within-bounds (suc (suc (length (flatten rows)))) 2 2050 (omega arith) (omega arith),
+      within-bounds (suc (suc (length (flatten rows)))) 2 mostTableCells (omega arith) (omega arith),
       within-bounds w 1 8 (b .0) (b .1),
       within-bounds (length rows) 1 64 (c .0) (c .1),
       are-rows w [] rows 2 a (all-members (Apart []) rows (λ s m g n. absurd (List·Memᴰ·not-nil n))) d,

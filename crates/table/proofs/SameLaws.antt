@@ -24,6 +24,7 @@ use Rattle.table.proofs.ApartLaws.{is-doubled, tested-apart, apart-test
 use Rattle.table.proofs.RowsLaws.{RowsAre, rows-put, read-row, reads-row, later-apart}
 use Rattle.table.proofs.WholeLaws.{whole, whole-part}
 use Rattle.table.proofs.Accepted.{two-cells}
+use Rattle.limits.specs.Limits.{mostTableCells}
 
 -- NO REFUSAL OF TERMS IS SAME OR EXTRA: their numbers are at most 7
 few : {A : Type 0} (b row : Bool) (r : Reason) (p : ℕ) (R : Read A) {f : Refused} → numberOf r ≤ 7 → (R ≡ refuse f → f .number ≤ 7)
@@ -173,10 +174,10 @@ module _ (w : ℕ) (row rest : List ℕ) (i : Row w row) (g : Ground row) where
 repeats : (t : List ℕ) (p : ℕ) → tableOf t ≡ refuse (refused reason.Same input.Table p) → Repeats t p
 unfolding tableOf
 repeats t p e =
-    let a = passed-other (ltb (length t) 2 || ltb 2050 (length t)) _ _ (λ z. omega arith) e in
+    let a = passed-other (ltb (length t) 2 || ltb mostTableCells (length t)) _ _ (λ z. omega arith) e in
     let b = passed-other (ltb (getD t 0 0) 1 || ltb 8 (getD t 0 0)) _ _ (λ z. omega arith) (a .1) in
     let c = passed-other (ltb (getD t 1 0) 1 || ltb 64 (getD t 1 0)) _ _ (λ z. omega arith) (b .1) in
-    let l = inside (length t) 2 2050 (a .0) in
+    let l = inside (length t) 2 mostTableCells (a .0) in
     let o = doubling (getD t 0 0) (getD t 1 0) [] (drop 2 t) 2 p (then-refused (rowsFrom (getD t 0 0) (getD t 1 0) [] (drop 2 t) 2) (c .1)) in
     record {
       columns = getD t 0 0;
@@ -210,7 +211,7 @@ repeats-refused t p o =
     let l : length t ≡ suc (suc (length ys)) = ap length (o .cells) in
     ap tableOf (o .cells)
     ∙ rw (
-      within-bounds (suc (suc (length ys))) 2 2050 (omega arith) (omega (arith, o .size)),
+      within-bounds (suc (suc (length ys))) 2 mostTableCells (omega arith) (omega (arith, o .size)),
       within-bounds (o .columns) 1 8 (o .width .0) (o .width .1),
       within-bounds (o .all) 1 64 (omega (arith, o .count .0)) (o .count .1),
       s,

@@ -11,13 +11,14 @@ use Rattle.refusal.specs.declared.Reason.the-variants as reason
 use Rattle.refusal.specs.declared.Input.the-variants as input
 use Rattle.refusal.specs.Read.{read, refuse, andThen}
 use Rattle.table.specs.Table.{met, table, doubled, termsFrom, rowsFrom, tableOf, goalOf, rowOf}
+use Rattle.limits.specs.Limits.{mostTableCells}
 
 module _ (t : List ℕ) where
-  pub table-length : (ltb (length t) 2 || ltb 2050 (length t)) ≡ true → tableOf t ≡ refuse (refused reason.Length input.Table 0)
+  pub table-length : (ltb (length t) 2 || ltb mostTableCells (length t)) ≡ true → tableOf t ≡ refuse (refused reason.Length input.Table 0)
   unfolding tableOf
   table-length a = rw a
 
-  module _ (a : (ltb (length t) 2 || ltb 2050 (length t)) ≡ false) where
+  module _ (a : (ltb (length t) 2 || ltb mostTableCells (length t)) ≡ false) where
     pub table-width : (ltb (getD t 0 0) 1 || ltb 8 (getD t 0 0)) ≡ true → tableOf t ≡ refuse (refused reason.Width input.Table 0)
     unfolding tableOf
     table-width b = rw (a, b)

@@ -23,6 +23,7 @@ use Rattle.refusal.specs.declared.Reason.{Reason}
 use Rattle.refusal.specs.declared.Reason.the-variants as reason
 use Rattle.refusal.specs.declared.Input.the-variants as input
 use Rattle.refusal.specs.Read.{Read, read, refuse, when, andThen}
+use Rattle.limits.specs.Limits.{mostColumns, mostRowCells, mostRows, mostTableCells}
 
 -- The terms of a row or of a goal. LONG is given in a row only. A refusal of a row concerns the table, and one of a goal the goal
 abbrev pub bad : Bool → Reason → ℕ → Refused
@@ -52,10 +53,10 @@ cellTests row cell vars place rest =
 -- far, the variables met and the next cell's place
 unfoldable pub termsFrom : Bool → List ℕ → ℕ → ℕ → ℕ → ℕ → Read Met
 termsFrom row [] zero used vars p = read (met p vars)
-termsFrom row [] (suc owed) used vars p = when (row && leb 32 used) (bad row reason.Long p) (refuse (bad row reason.Short p))
+termsFrom row [] (suc owed) used vars p = when (row && leb mostRowCells used) (bad row reason.Long p) (refuse (bad row reason.Short p))
 termsFrom row (c ∷ xs) zero used vars p = read (met p vars)
 termsFrom row (cell ∷ cells) (suc owed) used vars place =
-    when (row && leb 32 used) (bad row reason.Long place)
+    when (row && leb mostRowCells used) (bad row reason.Long place)
     (cellTests row (valuesAt cell) vars place
     (termsFrom row cells (valuesAt cell .args + owed) (suc used) (counted (valuesAt cell) vars) (suc place)))
 
@@ -90,16 +91,16 @@ rowsFrom width (suc more) seen cells place =
 -- 01, "A table is: width (1 to 8), row count (1 to 64), then the rows": LENGTH, WIDTH, COUNT, then the rows
 unfoldable pub tableOf : List ℕ → Read Table
 tableOf cells =
-    when (ltb (length cells) 2 || ltb 2050 (length cells)) (refused reason.Length input.Table 0)
-    (when (ltb (getD cells 0 0) 1 || ltb 8 (getD cells 0 0)) (refused reason.Width input.Table 0)
-    (when (ltb (getD cells 1 0) 1 || ltb 64 (getD cells 1 0)) (refused reason.Count input.Table 1)
+    when (ltb (length cells) 2 || ltb mostTableCells (length cells)) (refused reason.Length input.Table 0)
+    (when (ltb (getD cells 0 0) 1 || ltb mostColumns (getD cells 0 0)) (refused reason.Width input.Table 0)
+    (when (ltb (getD cells 1 0) 1 || ltb mostRows (getD cells 1 0)) (refused reason.Count input.Table 1)
     (andThen (rowsFrom (getD cells 0 0) (getD cells 1 0) [] (drop 2 cells) 2) (λ (rows : List (List ℕ)).
     read (table (getD cells 0 0) rows)))))
 
 -- 01, "A goal is read with its table: width terms, 1 to 32 cells in all": LENGTH, the terms, EXTRA
 unfoldable pub goalOf : ℕ → List ℕ → Read ℕ
 goalOf width goal =
-    when (ltb (length goal) 1 || ltb 32 (length goal)) (refused reason.Length input.Goal 0)
+    when (ltb (length goal) 1 || ltb mostRowCells (length goal)) (refused reason.Length input.Goal 0)
     (andThen (termsFrom false goal width 0 0 0) (λ (m : Met).
     when (ltb (m .next) (length goal)) (refused reason.Extra input.Goal (m .next)) (read (m .vars))))
 
@@ -120,8 +121,8 @@ starts p (r ∷ rs) = p ∷ starts (p + length r) rs
 
 -- so many of the 64 that the code hands out; the rest is 0, and all of them where the table is turned away
 abbrev pub startsIn : Read Table → List ℕ
-startsIn (read T) = starts 2 (T .rows) ++ replicate (64 - length (T .rows)) 0
-startsIn (refuse f) = replicate 64 0
+startsIn (read T) = starts 2 (T .rows) ++ replicate (mostRows - length (T .rows)) 0
+startsIn (refuse f) = replicate mostRows 0
 
 -- what is answered for a table: its width and number of rows
 abbrev pub tableSays : Read Table → Answer
@@ -192,7 +193,7 @@ upFrom n (suc a) = n ∷ upFrom (suc n) a
 -- what a row and a goal have in common: width terms, good cells, "variables are numbered 0, 1, 2 in order of first appearance"
 pub record Head (width : ℕ) (head : List ℕ) : Type 0 where
   pub terms : Terms width head
-  pub short : length head ≤ 32
+  pub short : length head ≤ mostRowCells
   pub cells : (c : ℕ) → List·Memᴰ c head → Cell c
   pub order : appear [] head ≡ upFrom 0 (length (appear [] head))
 
@@ -217,8 +218,8 @@ Distinct (r ∷ rs) = All (λ (s : List ℕ). Ground s → r ≡ s → ⊥) rs �
 -- 01, "A table is: width (1 to 8), row count (1 to 64), then the rows"
 pub record IsTable (table : List ℕ) (columns : ℕ) (rows : List (List ℕ)) : Type 0 where
   pub cells : table ≡ columns ∷ length rows ∷ flatten rows
-  pub width : (1 ≤ columns) × (columns ≤ 8)
-  pub count : (1 ≤ length rows) × (length rows ≤ 64)
+  pub width : (1 ≤ columns) × (columns ≤ mostColumns)
+  pub count : (1 ≤ length rows) × (length rows ≤ mostRows)
   pub each : All (Row columns) rows
   pub apart : Distinct rows
 
@@ -231,9 +232,9 @@ pub record Repeats (table : List ℕ) (place : ℕ) : Type 0 where
   pub row : List ℕ
   pub rest : List ℕ
   pub cells : table ≡ columns ∷ (all ∷ (flatten rows ++ (row ++ rest)))
-  pub size : length table ≤ 2050
-  pub width : (1 ≤ columns) × (columns ≤ 8)
-  pub count : (length rows < all) × (all ≤ 64)
+  pub size : length table ≤ mostTableCells
+  pub width : (1 ≤ columns) × (columns ≤ mostColumns)
+  pub count : (length rows < all) × (all ≤ mostRows)
   pub each : All (Row columns) (row ∷ rows)
   pub apart : Distinct rows
   pub ground : Ground row

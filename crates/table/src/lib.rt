@@ -13,6 +13,11 @@ ghost use Rattle.refusal.specs.Read.{read, refuse, andThen};
 ghost use Rattle.table.specs.Table.{table, rowsFrom, tableOf, goalOf, goalWith, rowOf, rowIn};
 ghost use Rattle.samerows.specs.Starts.{rowsLent};
 ghost use Rattle.table.specs.Table.{TableReads, RowPlace, goalTold, goalSays, rowTold};
+ghost use Rattle.limits.specs.Limits.{mostRows};
+use limits::COLUMNS;
+use limits::ROW_CELLS;
+use limits::ROWS;
+use limits::TABLE_CELLS;
 use refusal::Input;
 use refusal::Reason;
 use refusal::Refusal;
@@ -27,7 +32,7 @@ pub enum TableAnswer {
 // With it where each row starts, as many as there are rows; the rest is 0, and so is all of it where the table is turned away.
 pub struct TableRead {
     pub answer: TableAnswer,
-    pub starts: [usize; 64],
+    pub starts: [usize; ROWS],
 }
 
 // A goal that is read: its number of cells and of variables; or why it is turned away.
@@ -72,17 +77,17 @@ fn turned(reason: Reason, place: usize) -> TableRead
             input: Input::Table,
             place,
         }),
-        starts: [0; 64],
+        starts: [0; ROWS],
     }
 }
 
 // So many rows from the third cell on, and nothing after them.
 fn read_rows(cells: &[u32], width: usize, count: usize) -> TableRead
-    requires { ⌜ (2 ≤ length (now cells)) × (count ≤ 64) ⌝ }
+    requires { ⌜ (2 ≤ length (now cells)) × (count ≤ mostRows) ⌝ }
     ensures { λ r. ⌜ TableReads (andThen (rowsFrom width count [] (drop 2 (now (cells .entry))) 2) (λ rows. read (table width rows))) r ⌝ }
 {
-    let mut starts = [0; 64];
-    let mut marks = [0u32; 64];
+    let mut starts = [0; ROWS];
+    let mut marks = [0u32; ROWS];
     let mut at: usize = 2;
     let mut n: usize = 0;
     while n < count {
@@ -106,7 +111,7 @@ fn read_rows(cells: &[u32], width: usize, count: usize) -> TableRead
             TermsRead::Turned(f) => {
                 return TableRead {
                     answer: TableAnswer::Refused(f),
-                    starts: [0; 64],
+                    starts: [0; ROWS],
                 };
             }
         }
@@ -125,15 +130,15 @@ fn read_rows(cells: &[u32], width: usize, count: usize) -> TableRead
 pub fn read_table(cells: &[u32]) -> TableRead
     ensures { λ r. ⌜ TableReads (tableOf (now (cells .entry))) r ⌝ }
 {
-    if outside(cells.len(), 2, 2050) {
+    if outside(cells.len(), 2, TABLE_CELLS) {
         return turned(Reason::Length, 0);
     }
     let width = wide(cells[0]);
-    if outside(width, 1, 8) {
+    if outside(width, 1, COLUMNS) {
         return turned(Reason::Width, 0);
     }
     let count = wide(cells[1]);
-    if outside(count, 1, 64) {
+    if outside(count, 1, ROWS) {
         return turned(Reason::Count, 1);
     }
     read_rows(cells, width, count)
@@ -143,7 +148,7 @@ pub fn read_table(cells: &[u32]) -> TableRead
 pub fn goal_for(width: usize, goal: &[u32]) -> GoalAnswer
     ensures { λ r. ⌜ goalTold r ≡ goalSays (now (goal .entry)) (goalOf width (now (goal .entry))) ⌝ }
 {
-    if outside(goal.len(), 1, 32) {
+    if outside(goal.len(), 1, ROW_CELLS) {
         return GoalAnswer::Refused(terms::refusal(false, Reason::Length, 0));
     }
     match terms::read_terms(goal, 0, width, false) {

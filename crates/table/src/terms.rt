@@ -8,7 +8,9 @@ ghost use Rattle.cell.specs.Cell.{arity};
 ghost use Rattle.refusal.specs.Refusal.{told};
 ghost use Rattle.table.specs.Table.{bad, termsFrom};
 ghost use Rattle.table.specs.code.Looks.{cellFrom, testedTold, argsTold, termsTold, MarkTold, notWhole};
+ghost use Rattle.limits.specs.Limits.{mostRowCells};
 use goalreader::Step;
+use limits::ROW_CELLS;
 use refusal::Input;
 use refusal::Reason;
 use refusal::Refusal;
@@ -47,7 +49,7 @@ pub fn refusal(row: bool, reason: Reason, place: usize) -> Refusal
 // One cell, with so many variables met before it: CELL, FRESH. It is told by its high half, which is 0x4000 and the number of arguments in a
 // name; most cells are names, so these come first.
 fn test_cell(c: u32, vars: usize, place: usize, row: bool) -> Tested
-    requires { ⌜ vars ≤ 32 ⌝ }
+    requires { ⌜ vars ≤ mostRowCells ⌝ }
     ensures { λ r. ⌜ (testedTold r ≡ cellFrom row c vars place) × (argsTold r ≡ arity c) ⌝ }
 {
     let high = c >> 16;
@@ -91,7 +93,7 @@ fn not_whole(row: bool, used: usize, place: usize) -> Refusal
     ensures { λ r. ⌜ told r ≡ notWhole row used place ⌝ }
 {
     if row {
-        if 32 <= used {
+        if ROW_CELLS <= used {
             return refusal(row, Reason::Long, place);
         }
     }
@@ -108,10 +110,10 @@ fn lesser(a: usize, b: usize) -> usize
 // So many terms from a place on. They end at `to` at the earliest, a place for each that is owed; no cell after the 32nd is looked at, so of
 // terms that are too many it does not matter how many they are.
 pub fn read_terms(cells: &[u32], from: usize, width: usize, row: bool) -> TermsRead
-    requires { ⌜ (from ≤ length (now cells)) × (row ≡ false → length (now cells) ≤ from + 32) ⌝ }
+    requires { ⌜ (from ≤ length (now cells)) × (row ≡ false → length (now cells) ≤ from + mostRowCells) ⌝ }
     ensures { λ r. ⌜ (termsTold r ≡ termsFrom row (drop from (now (cells .entry))) width 0 0 from) × MarkTold (now (cells .entry)) from r ⌝ }
 {
-    let stop = lesser(cells.len(), from + 32);
+    let stop = lesser(cells.len(), from + ROW_CELLS);
     let mut to = from + lesser(width, 33);
     let mut at = from;
     let mut vars: usize = 0;

@@ -13,6 +13,7 @@ use Rattle.grammar.proofs.FirstLaws.{firsts-first}
 use Rattle.termtext.specs.Saying.{wordIn, wordsIn}
 use Rattle.termtext.specs.Goal.{Whole, stopped, unstopped, Goal, Asks}
 use Rattle.termtext.proofs.LieLaws.{AllLie, goal-lies}
+use Rattle.limits.specs.Limits.{mostGoalBytes}
 
 -- places that lie within so many bytes
 abbrev pub AllIn : ℕ → List Place → Type 0
@@ -67,7 +68,7 @@ own-words {t} (n ∷ ns) (unstopped s x) l =
     ap₂ _∷_ (ap (drop (n .start)) (take-append-le (n .end) t (10 ∷ 46 ∷ []) (l .1))) (own-words ns (unstopped s x) (l .2))
 
 module _ {words : Words} {predicate : List ℕ} {width : ℕ} {t : List ℕ} {goal : Goal} (A : Asks words predicate width t goal)
-    (short : length t ≤ 65533) where
+    (short : length t ≤ mostGoalBytes) where
   -- THE LIST SAYS THE NEW NAMES' WORDS, of the goal's own bytes
   pub new-words : wordsIn t (goal .new) ≡ wordsAt (A .whole) (A .numbered .places)
   new-words =

@@ -19,6 +19,7 @@ use Rattle.grammar.proofs.FirstLaws.{firsts-one}
 use Rattle.grammar.proofs.RowLaws.{Named, row-one}
 use Rattle.termtext.specs.Goal.{withStop, Whole, stopped, unstopped, NoGoal, at-byte, at-end, Ours, Goal, Numbered, Asks}
 use Rattle.termtext.specs.Goal.{GoalRead, too-long, no-text, other, no-goal, is-goal}
+use Rattle.limits.specs.Limits.{mostGoalBytes}
 
 -- THE TEXT THAT IS READ, and its facts
 pub whole-one : {t u v : List ℕ} {fs gs : List Fact} → Whole t u fs → Whole t v gs → (u ≡ v) × (fs ≡ gs)
@@ -75,21 +76,21 @@ module _ (words : Words) (predicate : List ℕ) (width : ℕ) (t : List ℕ) whe
   abbrev Says : Read Goal → Type 0
   Says = GoalRead words predicate width t
 
-  long-one : {r : Read Goal} → 65533 < length t → Says r → r ≡ refuse (refused reason.Bytes input.Text 0)
+  long-one : {r : Read Goal} → mostGoalBytes < length t → Says r → r ≡ refuse (refused reason.Bytes input.Text 0)
   long-one h (too-long k) = refl
   long-one h (no-text k n) = absurd (omega arith)
   long-one h (other k w n) = absurd (omega arith)
   long-one h (no-goal k x e) = absurd (omega arith)
   long-one h (is-goal k x e) = absurd (omega arith)
 
-  text-one : {k : ℕ} {r : Read Goal} → length t ≤ 65533 → NoGoal t k → Says r → r ≡ refuse (refused reason.Text input.Text k)
+  text-one : {k : ℕ} {r : Read Goal} → length t ≤ mostGoalBytes → NoGoal t k → Says r → r ≡ refuse (refused reason.Text input.Text k)
   text-one h n (too-long l) = absurd (omega arith)
   text-one h n (no-text l m) = ap (λ (j : ℕ). refuse (refused reason.Text input.Text j)) (one-place t (no-stops m) (no-stops n))
   text-one h n (other l w m) = absurd (no-whole n w)
   text-one h n (no-goal l x e) = absurd (no-whole n (x .text))
   text-one h n (is-goal l x e) = absurd (no-whole n (x .text))
 
-  other-one : {u : List ℕ} {f : Fact} {fs : List Fact} {r : Read Goal} → length t ≤ 65533 → Whole t u (f ∷ fs)
+  other-one : {u : List ℕ} {f : Fact} {fs : List Fact} {r : Read Goal} → length t ≤ mostGoalBytes → Whole t u (f ∷ fs)
       → (Ours predicate width u f fs → ⊥) → Says r → r ≡ refuse (refused reason.Other input.Text (f .start))
   other-one h w n (too-long l) = absurd (omega arith)
   other-one h w n (no-text l m) = absurd (no-whole m w)
@@ -100,7 +101,7 @@ module _ (words : Words) (predicate : List ℕ) (width : ℕ) (t : List ℕ) whe
   other-one h w n (no-goal l x e) = absurd (n (asks-ours x w))
   other-one h w n (is-goal l x e) = absurd (n (asks-ours x w))
 
-  goal-one : {a : Goal} {r : Read Goal} → length t ≤ 65533 → Asks words predicate width t a → Says r
+  goal-one : {a : Goal} {r : Read Goal} → length t ≤ mostGoalBytes → Asks words predicate width t a → Says r
       → r ≡ andThen (goalOf width (a .cells)) (λ (vars : ℕ). read a)
   goal-one h x (too-long l) = absurd (omega arith)
   goal-one h x (no-text l n) = absurd (no-whole n (x .text))

@@ -14,6 +14,7 @@ use Rattle.grammar.specs.Grammar.{Fact, Text}
 use Rattle.grammar.specs.Meaning.{Place, entryOf}
 use Rattle.grammar.specs.Numbering.{Words, wordsAt, Firsts, Row}
 use Rattle.grammar.specs.Stops.{Stops}
+use Rattle.limits.specs.Limits.{mostGoalBytes}
 
 -- a goal with a full stop (46) on a line of its own after it, so that no comment takes it in
 abbrev pub withStop : List ℕ → List ℕ
@@ -59,11 +60,11 @@ pub record Asks (words : Words) (predicate : List ℕ) (width : ℕ) (t : List �
 -- What the reader of a goal answers: BYTES where the goal with its full stop is over 65,535 bytes; TEXT; OTHER where the first fact begins;
 -- then 01's of a goal, with places in its cells
 pub data GoalRead (words : Words) (predicate : List ℕ) (width : ℕ) (t : List ℕ) : Read Goal → Type 0 where
-  too-long : 65533 < length t → GoalRead words predicate width t (refuse (refused reason.Bytes input.Text 0))
-  no-text : {k : ℕ} → length t ≤ 65533 → NoGoal t k → GoalRead words predicate width t (refuse (refused reason.Text input.Text k))
-  other : {whole : List ℕ} {f : Fact} {fs : List Fact} → length t ≤ 65533 → Whole t whole (f ∷ fs)
+  too-long : mostGoalBytes < length t → GoalRead words predicate width t (refuse (refused reason.Bytes input.Text 0))
+  no-text : {k : ℕ} → length t ≤ mostGoalBytes → NoGoal t k → GoalRead words predicate width t (refuse (refused reason.Text input.Text k))
+  other : {whole : List ℕ} {f : Fact} {fs : List Fact} → length t ≤ mostGoalBytes → Whole t whole (f ∷ fs)
       → (Ours predicate width whole f fs → ⊥) → GoalRead words predicate width t (refuse (refused reason.Other input.Text (f .start)))
-  no-goal : {goal : Goal} {f : Refused} → length t ≤ 65533 → Asks words predicate width t goal → goalOf width (goal .cells) ≡ refuse f
+  no-goal : {goal : Goal} {f : Refused} → length t ≤ mostGoalBytes → Asks words predicate width t goal → goalOf width (goal .cells) ≡ refuse f
       → GoalRead words predicate width t (refuse f)
-  is-goal : {goal : Goal} {vars : ℕ} → length t ≤ 65533 → Asks words predicate width t goal → goalOf width (goal .cells) ≡ read vars
+  is-goal : {goal : Goal} {vars : ℕ} → length t ≤ mostGoalBytes → Asks words predicate width t goal → goalOf width (goal .cells) ≡ read vars
       → GoalRead words predicate width t (read goal)

@@ -17,6 +17,7 @@ use Rattle.grammar.specs.Numbering.{Words, Nth}
 use Rattle.lex.specs.Names.{IsName}
 use Rattle.termtext.specs.Goal.{Goal}
 use Rattle.termtext.specs.declared.Predicate.{Predicate}
+use Rattle.limits.specs.Limits.{mostReplyCells}
 
 -- W-201's list of names has the start in bits 15..0 and the bytes in bits 31..16: the word that a number of the list says of a text
 abbrev pub wordIn : List ℕ → ℕ → List ℕ
@@ -76,7 +77,7 @@ predicateIn text p = slice (p .start) (p .end) text
 
 unfoldable pub saidIn : (text names goal new : List ℕ) → Predicate → (cells : List ℕ) → List ℕ
 saidIn text names goal new p cells =
-    cond (leb (length cells) 1024) (answerText (wordsOf text names goal new) (predicateIn text p) (p .width) cells) []
+    cond (leb (length cells) mostReplyCells) (answerText (wordsOf text names goal new) (predicateIn text p) (p .width) cells) []
 
 -- An answer: so many terms, good cells, "variables are numbered 0, 1, 2 in order of first appearance" (01); its names are in a list of
 -- words, which are names as the predicate is one, and no two of them are equal. W-203's replies are such: crate `answering`

@@ -35,6 +35,7 @@ use Rattle.texttable.specs.declared.cells.Known.{Known}
 use Rattle.texttable.proofs.TreeLaws.{tree-cleared}
 use Rattle.texttable.proofs.NameLaws.{MetIs, met-is}
 use Rattle.texttable.proofs.NumberLaws.{no-variables, entries-more, set-next}
+use Rattle.limits.specs.Limits.{mostTextBytes}
 
 -- what is left begins with the next one
 next-one : (x : ℕ) (xs all : List ℕ) (k : ℕ) → (x ∷ xs) ≡ drop k all → (getD all k 0 ≡ x) × (xs ≡ drop (k + 1) all)
@@ -92,7 +93,7 @@ module _ (t : List ℕ) (facts : List Fact) (list₀ list links words ways given
   names-tree = subst (Tree t list links) (N .number) (N .shown .tree)
 
   -- a name
-  module _ (s e n : ℕ) (to : Spot) (list′ links′ : List ℕ) (A : AheadLeft t (N .from) (ahead.Name s e to)) (h : length t ≤ 65535) (l : n < 65536)
+  module _ (s e n : ℕ) (to : Spot) (list′ links′ : List ℕ) (A : AheadLeft t (N .from) (ahead.Name s e to)) (h : length t ≤ mostTextBytes) (l : n < 65536)
       (μ : Met t list links (k .names) s e list′ links′ n) where
     met : MetIs t list links (N .names) (place s e) list′ links′ n
     met =

@@ -30,6 +30,7 @@ use Rattle.texttable.specs.declared.cells.Made.the-variants as made
 use Rattle.texttable.proofs.NumberLaws.{met-low, variable-few, front-part}
 use Rattle.texttable.proofs.KnowLaws as know
 use Rattle.texttable.proofs.CellLaws as cell
+use Rattle.limits.specs.Limits.{mostNames, mostTextBytes}
 
 module _ (t list links words ways given cells owners : List ℕ) (m : Making) (k : Known) where
   -- what a turn leads to
@@ -43,7 +44,7 @@ module _ (t list links words ways given cells owners : List ℕ) (m : Making) (k
   -- what a symbol needs, where there is room for it
   module _ (R : Ready t list links words ways given cells owners m k) (s e : ℕ) (l : s < e) (h : e ≤ length t)
       (room : m .count < length (symbolsOf (R .facts))) where
-    pub name-room : (s ≤ e) × (e ≤ length t) × (length t < 65536) × (k .names < length list) × (k .names < 65535)
+    pub name-room : (s ≤ e) × (e ≤ length t) × (length t < 65536) × (k .names < length list) × (k .names < mostTextBytes)
         × Tree t list links (k .names) × (m .count < length cells)
     name-room =
         let N = R .state .knows in (
@@ -56,7 +57,7 @@ module _ (t list links words ways given cells owners : List ℕ) (m : Making) (k
           omega (arith, room, R .rooms .roomy .for-cells),
         )
 
-    pub variable-room : (s < e) × (e ≤ length t) × (length t ≤ 65535) × (k .row .all < length words) × (length words < 65535)
+    pub variable-room : (s < e) × (e ≤ length t) × (length t ≤ mostTextBytes) × (k .row .all < length words) × (length words < mostTextBytes)
         × RowVars t words ways given (k .row) × (m .count < length cells)
     variable-room =
         let N = R .state .knows in (
@@ -107,7 +108,7 @@ module _ (t list links words ways given cells owners : List ℕ) (m : Making) (k
         (name s e 0) e (T .leads .2) (T .same)
 
     pub name-fits : Ready t list links words ways given cells owners m k
-        → (s ≤ e) × (e ≤ length t) × (length t < 65536) × (k .names < length list) × (k .names < 65535)
+        → (s ≤ e) × (e ≤ length t) × (length t < 65536) × (k .names < length list) × (k .names < mostTextBytes)
         × Tree t list links (k .names) × (m .count < length cells)
     name-fits R = name-room R s e (T .leads .1) (T .leads .2) (name-few R)
 
@@ -132,7 +133,7 @@ module _ (t list links words ways given cells owners : List ℕ) (m : Making) (k
         (T .same)
 
     pub open-fits : Ready t list links words ways given cells owners m k
-        → (s ≤ e) × (e ≤ length t) × (length t < 65536) × (k .names < length list) × (k .names < 65535)
+        → (s ≤ e) × (e ≤ length t) × (length t < 65536) × (k .names < length list) × (k .names < mostTextBytes)
         × Tree t list links (k .names) × (m .count < length cells)
     open-fits R = name-room R s e (T .leads .1) (omega (arith, T .leads .2)) (open-few R)
 
@@ -162,7 +163,7 @@ module _ (t list links words ways given cells owners : List ℕ) (m : Making) (k
         (variable s e) e (T .leads .2) (T .same)
 
     pub variable-fits : Ready t list links words ways given cells owners m k
-        → (s < e) × (e ≤ length t) × (length t ≤ 65535) × (k .row .all < length words) × (length words < 65535)
+        → (s < e) × (e ≤ length t) × (length t ≤ mostTextBytes) × (k .row .all < length words) × (length words < mostTextBytes)
         × RowVars t words ways given (k .row) × (m .count < length cells)
     variable-fits R = variable-room R s e (T .leads .1) (T .leads .2) (variable-few′ R)
 
@@ -345,7 +346,7 @@ module _ (t start listed list links words ways given cells owners : List ℕ) (f
   ended e x = subst (MadeIs t facts start listed m list links words ways given cells owners) e x
 
 -- ALL: the first fact's arguments, with room for everything; `list` may be a part of the list
-abbrev pub first-ready : {most : ℕ} {t whole list links words ways given cells owners : List ℕ} (from : Spot) (W : Writes most t whole cells) → most ≤ 2048
+abbrev pub first-ready : {most : ℕ} {t whole list links words ways given cells owners : List ℕ} (from : Spot) (W : Writes most t whole cells) → most ≤ mostNames
     → length list ≡ most → StartLeft t from → Tree t list links 0 → Tree t words ways 0 → length given ≡ length words → length words ≡ most
     → length owners ≡ most → Ready t list links words ways given cells owners (making (from .at) false 0 0) (known 0 0 0)
 first-ready {t = t} {list = list} {links = links} {words = words} {ways = ways} {given = given} {cells = cells} {owners = owners} from W u a S T Y g b d =

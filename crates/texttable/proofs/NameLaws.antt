@@ -33,6 +33,7 @@ use Rattle.texttable.specs.declared.names.NextName.the-variants as next-
 use Rattle.texttable.specs.declared.names.Filled.{Filled}
 use Rattle.texttable.specs.declared.names.Batch.{Batch}
 use Rattle.texttable.proofs.TreeLaws.{word-says}
+use Rattle.limits.specs.Limits.{mostTextBytes}
 
 pub ahead-is : (t : List ℕ) (sp : Spot) {r x : Ahead} → NextIs t sp r → r ≡ x → AheadLeft t sp x
 ahead-is t sp c e = next-reads (subst (NextIs t sp) e c)
@@ -182,7 +183,7 @@ filling-tree {t} {list} {links} F = subst (Tree t list links) (F .number) (F .sh
 
 -- a name that is new, and one that is listed
 module _ (t : List ℕ) (from : Spot) (list links list′ links′ : List ℕ) (count : ℕ) (to next : Spot) (s e r : ℕ) (F : Filling t from list links count to)
-    (A : NextNameIs t to (next-name.Name s e next)) (h : length t ≤ 65535) (m : Met t list links count s e list′ links′ r) where
+    (A : NextNameIs t to (next-name.Name s e next)) (h : length t ≤ mostTextBytes) (m : Met t list links count s e list′ links′ r) where
   met : MetIs t list links (F .names) (place s e) list′ links′ r
   met =
       met-is t list links (F .names) s e (F .shown) (omega (arith, A .1)) (omega (arith, A .1, A .2, A .3))

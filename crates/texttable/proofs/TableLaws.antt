@@ -18,6 +18,7 @@ use Rattle.scan.specs.declared.Counted.{Counted}
 use Rattle.scan.proofs.SaysLaws.{counts-read}
 use Rattle.texttable.specs.Words.{numbersOf}
 use Rattle.texttable.specs.code.Cells.{Writes, Written, TableIs}
+use Rattle.limits.specs.Limits.{mostNames, mostTableCells}
 
 pub cells-long : (t : List ℕ) (facts : List Fact) → length (tableCells t facts) ≡ length (symbolsOf facts) + 2
 unfolding tableCells
@@ -43,17 +44,17 @@ front-stored [] w n h = absurd (omega arith)
 front-stored (a ∷ []) w n h = absurd (omega arith)
 front-stored (a ∷ b ∷ made) w n h = refl
 
-module _ (t list made : List ℕ) (c : Counted) (C : Counts t c) (low : c .symbols ≤ 2048) (size : length list ≡ 2048) (room : length made ≡ 2050) where
+module _ (t list made : List ℕ) (c : Counted) (C : Counts t c) (low : c .symbols ≤ mostNames) (size : length list ≡ mostNames) (room : length made ≡ mostTableCells) where
   abbrev pub stored : List ℕ
   stored = set (set made 0 (c .width)) 1 (c .facts)
 
   abbrev pub behind : List ℕ
   behind = take (length stored - 2) (drop 2 stored)
 
-  pub stored-long : length stored ≡ 2050
+  pub stored-long : length stored ≡ mostTableCells
   stored-long = length-set (set made 0 (c .width)) 1 (c .facts) ∙ length-set made 0 (c .width) ∙ room
 
-  pub behind-long : length behind ≡ 2048
+  pub behind-long : length behind ≡ mostNames
   behind-long = mid-len 2 (length stored) stored (omega arith) ∙ omega (arith, stored-long)
 
   -- they are all the others

@@ -16,6 +16,7 @@ use Rattle.texttable.specs.declared.NamesRead.{NamesRead}
 use Rattle.texttable.specs.declared.NamesRead.the-variants as names-read
 use Rattle.texttable.specs.declared.TextWords.{TextWords}
 use Rattle.texttable.specs.declared.TextWords.the-variants as text-words
+use Rattle.limits.specs.Limits.{mostNames}
 
 -- the numbers of the symbols, in their order
 abbrev pub numbersOf : List ℕ → List Fact → List ℕ
@@ -25,9 +26,9 @@ numbersOf t facts = numbering t [] [] (itemsOf facts)
 -- names are counted; otherwise the list and the cells come first, and the rest of both rooms is as it was
 pub data NamesAre (t : List ℕ) (facts : List Fact) (room : ℕ) (list made : List ℕ) : List ℕ → List ℕ → NamesRead → Type 0 where
   no-room : room < length (symbolsOf facts) + 2 → NamesAre t facts room list made list made names-read.Passed
-  many : length (symbolsOf facts) + 2 ≤ room → 2048 < length (symbolsOf facts)
+  many : length (symbolsOf facts) + 2 ≤ room → mostNames < length (symbolsOf facts)
       → NamesAre t facts room list made list made (names-read.Counted (length (nameList t facts)))
-  few : length (symbolsOf facts) + 2 ≤ room → length (symbolsOf facts) ≤ 2048
+  few : length (symbolsOf facts) + 2 ≤ room → length (symbolsOf facts) ≤ mostNames
       → NamesAre t facts room list made (front (nameList t facts) list) (front (tableCells t facts) made)
       (names-read.Listed (length (nameList t facts)))
 

@@ -9,9 +9,11 @@ ghost use Rattle.grammar.specs.Meaning.{place};
 ghost use Rattle.texttable.specs.code.Tree.{Tree};
 ghost use Rattle.texttable.specs.code.Numbers.{RowVars};
 ghost use Rattle.texttable.specs.code.Cells.{making, known, withArgument, NamePut, VariablePut, RowMade, Ready, MadeIs, Writes, Written};
+ghost use Rattle.limits.specs.Limits.{mostNames, mostTextBytes};
 use super::numbers;
 use super::tree;
 use lex::turn::Turn;
+use limits::NAMES;
 use numbers::Row;
 use symbols::RowEnd;
 
@@ -70,7 +72,7 @@ fn put_name(
     start: usize,
     end: usize,
 ) -> usize
-    requires { ⌜ (start ≤ end) × (end ≤ length (now text)) × (length (now text) < 65536) × (names < length (now list)) × (names < 65535)
+    requires { ⌜ (start ≤ end) × (end ≤ length (now text)) × (length (now text) < 65536) × (names < length (now list)) × (names < mostTextBytes)
         × Tree (now text) (now list) (now links) names × (count < length (now cells)) ⌝ }
     ensures { λ r. ⌜ NamePut (now (text .entry)) (now (list .entry)) (now (links .entry)) names start end (now (list .exit))
         (now (links .exit)) (now (cells .entry)) (now (cells .exit)) count r ⌝ }
@@ -95,7 +97,7 @@ fn put_variable(
     start: usize,
     end: usize,
 ) -> Row
-    requires { ⌜ (start < end) × (end ≤ length (now text)) × (length (now text) ≤ 65535) × (row .all < length (now words))
+    requires { ⌜ (start < end) × (end ≤ length (now text)) × (length (now text) ≤ mostTextBytes) × (row .all < length (now words))
         × (length (now words) < 65535) × RowVars (now text) (now words) (now ways) (now given) row × (count < length (now cells)) ⌝ }
     ensures { λ r. ⌜ ((v : RowVars (now (text .entry)) (now (words .entry)) (now (ways .entry)) (now (given .entry)) row)
         → VariablePut (now (text .entry)) (v .places) (place start end) (now (words .exit)) (now (ways .exit)) (now (given .exit))
@@ -271,15 +273,15 @@ fn make_all(
 
 // The cells of an accepted text's symbols, put at the front of `cells`, and its names at the front of `list`; how many names there are.
 fn write_many(text: &[u8], list: &mut [u32], cells: &mut [u32]) -> usize
-    requires { ⌜ Writes 2048 (now text) (now list) (now cells) ⌝ }
-    ensures { λ r. ⌜ ((W : Writes 2048 (now (text .entry)) (now (list .entry)) (now (cells .entry)))
+    requires { ⌜ Writes mostNames (now text) (now list) (now cells) ⌝ }
+    ensures { λ r. ⌜ ((W : Writes mostNames (now (text .entry)) (now (list .entry)) (now (cells .entry)))
         → Written (now (text .entry)) (W .facts) (now (cells .entry)) (now (list .entry)) (now (list .exit)) (now (cells .exit)) r) ⌝ }
 {
     let mut links = [0u16; 4097];
-    let mut words = [0u32; 2048];
+    let mut words = [0u32; NAMES];
     let mut ways = [0u16; 4097];
-    let mut given = [0u16; 2048];
-    let mut owners = [0u16; 2048];
+    let mut given = [0u16; NAMES];
+    let mut owners = [0u16; NAMES];
     let first = symbols::begin(text);
     make_all(
         text,
@@ -321,7 +323,7 @@ fn write_few(text: &[u8], list: &mut [u32], cells: &mut [u32]) -> usize
 
 // The same for at most so many.
 pub fn write_cells(text: &[u8], most: usize, list: &mut [u32], cells: &mut [u32]) -> usize
-    requires { ⌜ Writes most (now text) (now list) (now cells) × (most ≤ 2048) ⌝ }
+    requires { ⌜ Writes most (now text) (now list) (now cells) × (most ≤ mostNames) ⌝ }
     ensures { λ r. ⌜ ((W : Writes most (now (text .entry)) (now (list .entry)) (now (cells .entry)))
         → Written (now (text .entry)) (W .facts) (now (cells .entry)) (now (list .entry)) (now (list .exit)) (now (cells .exit)) r) ⌝ }
 {

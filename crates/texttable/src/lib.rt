@@ -10,6 +10,9 @@ ghost use lib.ListN.{length};
 ghost use Rattle.scan.specs.Scan.{Counts};
 ghost use Rattle.texttable.specs.Words.{NamesAre, WordsAre};
 ghost use Rattle.texttable.specs.code.Cells.{TableIs};
+ghost use Rattle.limits.specs.Limits.{mostNames, mostTableCells};
+use limits::NAMES;
+use limits::TABLE_CELLS;
 use refusal::Refusal;
 use scan::Counted;
 use scan::Scan;
@@ -29,7 +32,7 @@ pub enum TextWords {
 
 // The table's cells: width, number of rows, rows; and the list of names, how many there are.
 fn make_table(text: &[u8], c: Counted, list: &mut [u32], made: &mut [u32]) -> usize
-    requires { ⌜ Counts (now text) c × (c .symbols ≤ 2048) × (length (now list) ≡ 2048) × (length (now made) ≡ 2050) ⌝ }
+    requires { ⌜ Counts (now text) c × (c .symbols ≤ mostNames) × (length (now list) ≡ mostNames) × (length (now made) ≡ mostTableCells) ⌝ }
     ensures { λ r. ⌜ ((C : Counts (now (text .entry)) c) → TableIs (now (text .entry)) (C .facts) (now (list .entry)) (now (list .exit))
         (now (made .entry)) (now (made .exit)) r) ⌝ }
 {
@@ -43,8 +46,8 @@ fn read_names(
     text: &[u8],
     c: Counted,
     room: usize,
-    list: &mut [u32; 2048],
-    made: &mut [u32; 2050],
+    list: &mut [u32; NAMES],
+    made: &mut [u32; TABLE_CELLS],
 ) -> NamesRead
     requires { ⌜ Counts (now text) c ⌝ }
     ensures { λ r. ⌜ ((C : Counts (now (text .entry)) c) → NamesAre (now (text .entry)) (C .facts) room (now (list .entry))
@@ -54,7 +57,7 @@ fn read_names(
     if room < symbols + 2 {
         return NamesRead::Passed;
     }
-    if 2048 < symbols {
+    if NAMES < symbols {
         return NamesRead::Counted(names::count_names(text));
     }
     NamesRead::Listed(make_table(text, c, list, made))
@@ -65,8 +68,8 @@ fn read_names(
 pub fn read_words(
     text: &[u8],
     room: usize,
-    list: &mut [u32; 2048],
-    made: &mut [u32; 2050],
+    list: &mut [u32; NAMES],
+    made: &mut [u32; TABLE_CELLS],
 ) -> TextWords
     ensures { λ r. ⌜ WordsAre (now (text .entry)) room (now (list .entry)) (now (made .entry)) (now (list .exit)) (now (made .exit)) r ⌝ }
 {

@@ -6,6 +6,7 @@ ghost use Prim.Native.Nat.{_≤_, _<_};
 ghost use lib.ListN.{length};
 ghost use Rattle.texttable.specs.code.Tree.{Tree};
 ghost use Rattle.texttable.specs.code.Names.{NextNameIs, FilledTo, Strikes, blankOf, zeros, Batched, CountsNames};
+ghost use Rattle.limits.specs.Limits.{mostTextBytes};
 use super::tree;
 use symbols::Ahead;
 use symbols::Spot;
@@ -51,7 +52,7 @@ pub struct Filled {
 
 // The names from a place on, into an empty list.
 fn fill(text: &[u8], from: Spot, list: &mut [u32], links: &mut [u16]) -> Filled
-    requires { ⌜ (length (now text) ≤ 65535) × (length (now list) < 65535) × Tree (now text) (now list) (now links) 0 ⌝ }
+    requires { ⌜ (length (now text) ≤ mostTextBytes) × (length (now list) < mostTextBytes) × Tree (now text) (now list) (now links) 0 ⌝ }
     ensures { λ r. ⌜ FilledTo (now (text .entry)) from (now (list .exit)) (now (links .exit)) r ⌝ }
 {
     let mut count = 0;
@@ -120,7 +121,7 @@ pub struct Batch {
 }
 
 fn count_batch(text: &[u8], from: Spot) -> Batch
-    requires { ⌜ length (now text) ≤ 65535 ⌝ }
+    requires { ⌜ length (now text) ≤ mostTextBytes ⌝ }
     ensures { λ r. ⌜ Batched (now (text .entry)) from r ⌝ }
 {
     let mut list = [0u32; 3500];
@@ -137,7 +138,7 @@ fn count_batch(text: &[u8], from: Spot) -> Batch
 
 // How many different names an accepted text has.
 pub fn count_names(text: &[u8]) -> usize
-    requires { ⌜ length (now text) ≤ 65535 ⌝ }
+    requires { ⌜ length (now text) ≤ mostTextBytes ⌝ }
     ensures { λ r. ⌜ CountsNames (now (text .entry)) r ⌝ }
 {
     let mut total = 0;

@@ -5,6 +5,7 @@ ghost use lib.ListN.{length};
 ghost use lib.Seq.{slice};
 ghost use Rattle.grammar.specs.Meaning.{place};
 ghost use Rattle.texttable.specs.code.Numbers.{isFresh, RowVars, VariableIs};
+ghost use Rattle.limits.specs.Limits.{mostTextBytes};
 use super::tree;
 
 // The variables of a row so far: those that have a name, and all.
@@ -41,7 +42,7 @@ pub fn number_variable(
     start: usize,
     end: usize,
 ) -> Numbered
-    requires { ⌜ (start < end) × (end ≤ length (now text)) × (length (now text) ≤ 65535) × (row .all < length (now words))
+    requires { ⌜ (start < end) × (end ≤ length (now text)) × (length (now text) ≤ mostTextBytes) × (row .all < length (now words))
         × (length (now words) < 65535) × RowVars (now text) (now words) (now ways) (now given) row ⌝ }
     ensures { λ r. ⌜ ((v : RowVars (now (text .entry)) (now (words .entry)) (now (ways .entry)) (now (given .entry)) row)
         → VariableIs (now (text .entry)) (v .places) (place start end) (now (words .exit)) (now (ways .exit)) (now (given .exit)) r) ⌝ }

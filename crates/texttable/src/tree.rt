@@ -6,6 +6,7 @@ ghost use Prim.Native.Nat.{_+_, _*_, _/_, _%_, _^_, _≤_, _<_};
 ghost use lib.ListN.{length};
 ghost use Rattle.texttable.specs.code.Tree.{startOf, mixOf, MixKept, wordOf, Fits, Tree, Finds, Met, Cleared};
 ghost use Rattle.cell.specs.Same.{same};
+ghost use Rattle.limits.specs.Limits.{mostTextBytes};
 
 // A word's number where it is listed; otherwise the slot at which it would be found.
 pub enum Slot {
@@ -114,7 +115,7 @@ pub fn meet(
     start: usize,
     end: usize,
 ) -> usize
-    requires { ⌜ (start ≤ end) × (end ≤ length (now text)) × (length (now text) < 65536) × (count < length (now list)) × (count < 65535)
+    requires { ⌜ (start ≤ end) × (end ≤ length (now text)) × (length (now text) < 65536) × (count < length (now list)) × (count < mostTextBytes)
         × Tree (now text) (now list) (now links) count ⌝ }
     ensures { λ r. ⌜ Met (now (text .entry)) (now (list .entry)) (now (links .entry)) count start end (now (list .exit))
         (now (links .exit)) r ⌝ }

@@ -1,5 +1,6 @@
 // A plan as an indented tree, in words: where it looks, what it finds there, and the rule at the end of each way.
 use branchlist::Branch;
+use branchlist::LIST;
 use octets::put_byte;
 use octets::put_word;
 use page::Page;
@@ -8,7 +9,7 @@ use shop::cell_at;
 
 // After what is gathered on a page.
 pub fn print(text: &[u8], kept: &[u32], shop: Shop, out: &mut [u8], page: Page) -> Page {
-    let mut list = [0u32; 12288];
+    let mut list = [0u32; LIST];
     let count = branchlist::put_branches(&mut list, kept, shop);
     let rules = cell_at(shop::table_in(kept, shop), 1);
     let p = page::turn(out, page);

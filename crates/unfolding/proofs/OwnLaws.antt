@@ -44,6 +44,7 @@ use Rattle.unfolding.specs.declared.past.Past.{Past}
 use Rattle.unfolding.proofs.PastLaws.{head-at, part-at, splits-short}
 use Rattle.unfolding.proofs.FoldLaws.{count-short, fills-short, FillsAt, fills-close}
 use Rattle.unfolding.proofs.RunLaws.{folded}
+use Rattle.limits.specs.Limits.{mostPlanCells}
 
 -- A BRANCH'S CLAUSE
 -- a head as it is said is as long as it was
@@ -75,7 +76,7 @@ module _ {plan : List ℕ} {p index : ℕ} {o : Own} (w : BranchAt plan p index 
   abbrev K : List ℕ
   K = firstHead plan p index (o .width)
 
-  pub branch-inside : (p + 1 < length plan) × (length plan ≤ 6082)
+  pub branch-inside : (p + 1 < length plan) × (length plan ≤ mostPlanCells)
   branch-inside =
       let s = w .below in
       (omega (arith, length-drop (p + 1) plan, ap length (s .cells), length-append (write (s .tree)) (s .rest), write-some (s .tree)), s .size)
@@ -207,7 +208,7 @@ own-rows {x} {d} h rows a =
 
 -- its first two cells are inside the plan
 pub own-inside : {plan : List ℕ} {at places : ℕ} (w : Peopled plan at places) → 0 < places
-    → (at + 1 < length plan) × (length plan ≤ 6082) × (getD plan at 0 < places) × (places ≤ 4 * at + 8)
+    → (at + 1 < length plan) × (length plan ≤ mostPlanCells) × (getD plan at 0 < places) × (places ≤ 4 * at + 8)
 own-inside {plan} {at} w h =
     let s = w .stands in
     let i = inner-is (s .tree) (omega (arith, s .open-places)) in
@@ -367,13 +368,13 @@ module _ {plan : List ℕ} {at places : ℕ} {w : Peopled plan at places} {j nex
   -- the next branch, with a arguments: the state below it, its clause, the branches beside it
   pub record OwnGoes (a : ℕ) : Type 0 where
     pub here : p + 1 < length plan
-    pub size : length plan ≤ 6082
+    pub size : length plan ≤ mostPlanCells
     pub wide : places ≤ 4 * p + 8
     pub inner : 0 < places
     pub few-args : a ≤ 4
     pub below : Stands plan (p + 1) (a + places - 1)
     pub branch : BranchAt plan p index (mine j called places)
-    pub fits : {s : Past} → PastOf (below .tree) (p + 1) s → called + s .splits ≤ 6082
+    pub fits : {s : Past} → PastOf (below .tree) (p + 1) s → called + s .splits ≤ mostPlanCells
     pub beside : {s : Past} {new′ : List ℕ} {on′ : ℕ} → PastOf (below .tree) (p + 1) s → Put new new′ on (flatOne (branchClause branch)) on′
         → OwnLeft w j next index old to new′ (left - 1) (s .at) on′ (called + s .splits)
 

@@ -16,6 +16,7 @@ use Rattle.plan.specs.Plans.{Plan, leaf, node, Branches, end, next, write, writ
 use Rattle.clauses.specs.code.Walk.{several, splits, splitsIn}
 use Rattle.unfolding.specs.code.Walk.{Stands, PastOf}
 use Rattle.unfolding.specs.declared.past.Past.{Past}
+use Rattle.limits.specs.Limits.{mostPlanCells}
 
 abbrev pub passed : (at splits : ℕ) → Past
 passed at n = record { at = at; splits = n }
@@ -163,14 +164,14 @@ module _ {plan : List ℕ} {at places : ℕ} where
   -- the next branch, with a arguments: the state below it, the branches beside it
   pub record Goes {w : Stands plan at places} {left : ℕ} {here : Past} (l : Left w left here) (a : ℕ) : Type 0 where
     pub inside : here .at < length plan
-    pub size : length plan ≤ 6082
+    pub size : length plan ≤ mostPlanCells
     pub wide : places ≤ 4 * here .at + 8
     pub inner : 0 < places
     pub further : at < here .at
     pub few-args : a ≤ 4
     pub below : Stands plan (here .at + 1) (a + places - 1)
     pub beside : {s : Past} → PastOf (below .tree) (here .at + 1) s → Left w (left - 1) (passed (s .at) (here .splits + s .splits))
-    pub fits : {s : Past} → PastOf (below .tree) (here .at + 1) s → here .splits + s .splits ≤ 6082
+    pub fits : {s : Past} → PastOf (below .tree) (here .at + 1) s → here .splits + s .splits ≤ mostPlanCells
 
   pub goes : {w : Stands plan at places} {left : ℕ} {here : Past} (l : Left w left here) (a : ℕ) → 0 < left
       → a ≡ arity (getD plan (here .at) 0) → Goes l a

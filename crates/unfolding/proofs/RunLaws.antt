@@ -28,6 +28,7 @@ use Rattle.unfolding.specs.code.Folds.{Folds, Folded}
 use Rattle.unfolding.specs.declared.fold.Fold.{Fold}
 use Rattle.unfolding.proofs.PastLaws.{head-at}
 use Rattle.unfolding.proofs.FoldLaws.{one-branch, fills-next, fills-short}
+use Rattle.limits.specs.Limits.{mostPlanCells}
 
 abbrev pub folded : (at places cells : ℕ) → Fold
 folded at places n = record { at = at; places = places; cells = n }
@@ -112,7 +113,7 @@ on-ends {head = head} {here = here} o g =
 
 pub record Turn {plan old head : List ℕ} {from here : Fold} {w : Folds plan old from} (o : On w head here) : Type 0 where
   pub inside : here .at + 2 < length plan
-  pub size : length plan ≤ 6082
+  pub size : length plan ≤ mostPlanCells
   pub inner : 0 < here .places
   pub low : getD plan (here .at) 0 < here .places
   pub wide : here .places ≤ 4 * here .at + 8

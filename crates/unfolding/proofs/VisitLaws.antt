@@ -28,6 +28,7 @@ use Rattle.unfolding.specs.code.Walk.{Stands, Fills}
 use Rattle.unfolding.specs.code.Visits.{Peopled, ownOf, belowOf, splitsBelow, Visits}
 use Rattle.unfolding.specs.declared.walk.Stand.{Stand}
 use Rattle.unfolding.proofs.PastLaws.{head-at, part-at, splits-short}
+use Rattle.limits.specs.Limits.{mostPlanCells}
 
 abbrev pub stand : (at number to : ℕ) → Stand
 stand at number to = record { at = at; number = number; to = to }
@@ -271,7 +272,7 @@ module _ {plan : List ℕ} {at places : ℕ} where
   pub record Goes {w : Peopled plan at places} {number to : ℕ} {old new : List ℕ} {left : ℕ} {here : Stand} (l : Left w number to old new left here)
       (a : ℕ) : Type 0 where
     pub inside : here .at < length plan
-    pub size : length plan ≤ 6082
+    pub size : length plan ≤ mostPlanCells
     pub wide : places ≤ 4 * here .at + 8
     pub inner : 0 < places
     pub further : at < here .at

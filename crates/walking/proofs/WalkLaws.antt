@@ -28,6 +28,7 @@ use Rattle.plan.proofs.TwiceLaws.{table-cells}
 use Rattle.walking.proofs.FrameLaws.{Top, Below, below-frame, below-stands}
 use Rattle.walking.proofs.AlongLaws.{Along, first, alone-here, safe-here, found-here, skip-here, on-fail, on-leaf, on-down}
 use Rattle.walking.proofs.StartLaws.{linked}
+use Rattle.limits.specs.Limits.{mostBranches}
 
 module _ {noted goal room : List ℕ} {count w : ℕ} (b : Begun noted count goal room w) where
   -- at the branch number i
@@ -41,7 +42,7 @@ module _ {noted goal room : List ℕ} {count w : ℕ} (b : Begun noted count goa
       let all = notes (b .tree) (upFrom 1 w) 32 0 in
       ap length (b .words) ∙ length-map all word ∙ notes-count (b .tree) (upFrom 1 w) 32 0 ∙ sym (b .number)
 
-  pub count-small : count ≤ 2048
+  pub count-small : count ≤ mostBranches
   count-small = omega (arith, b .number, branches-few (b .accepted) (b .tree))
 
   -- One branch more, by what the code reads: sk is the number of branches below it.

@@ -18,6 +18,7 @@ use Rattle.answer.specs.code.Loose.{Loose}
 use Rattle.classes.specs.code.Arrays.{Ready}
 use Rattle.classes.specs.code.Search.{Equals}
 use Rattle.alone.specs.code.Alone.{Chain, end, at-place, skeletonsOf, Going, Gone}
+use Rattle.limits.specs.Limits.{mostBranches}
 
 -- how many branches there are
 unfoldable pub lengthOf : {k : ℕ} {x : List ℕ} → Chain k x → ℕ
@@ -93,7 +94,7 @@ pub record Begins (words rep sib bs ns us rs : List ℕ) (from to : ℕ) : Type 
   pub loose : Loose (replicate k hole) x
   pub noted : Noted chain words from slots m
   pub count : from + lengthOf chain ≡ to
-  pub far : to ≤ 2048
+  pub far : to ≤ mostBranches
   pub size-bound : length bs ≡ 64
   pub size-args : length ns ≡ 64
   pub size-until : length us ≡ 64

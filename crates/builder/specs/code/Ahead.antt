@@ -15,6 +15,7 @@ use Rattle.state.specs.Mask.{odd}
 use Rattle.state.specs.States.{rowsIn, Same}
 use Rattle.least.specs.code.Follow.{agreedFrom}
 use Rattle.builder.specs.code.Writing.{openIn, ToWrite}
+use Rattle.limits.specs.Limits.{mostRowCells, mostRows}
 
 -- the mask without the cells of its first i open terms
 unfoldable pub aheadOf : ℕ → ℕ → List ℕ → ℕ
@@ -33,7 +34,7 @@ pub record ToCloseRow (t : List ℕ) (start m a j : ℕ) : Type 0 where
   pub opens : ℕ
   pub inside : from + j < opens
   pub ahead : a ≡ aheadOf from m (drop start t)
-  pub fits : Fits 32 opens (openIn t start m)
+  pub fits : Fits mostRowCells opens (openIn t start m)
 
 pub record ClosedRow (t : List ℕ) (start m i m′ a′ : ℕ) : Type 0 where
   pub row : openIn t start m′ ≡ close i (openIn t start m)
@@ -43,12 +44,12 @@ pub record ClosedRow (t : List ℕ) (start m i m′ a′ : ℕ) : Type 0 where
 pub record ToClose (t ss ms ls : List ℕ) (j first end : ℕ) : Type 0 where
   pub masks : length ms ≡ 64
   pub aheads : length ls ≡ 64
-  pub few : end ≤ 64
+  pub few : end ≤ mostRows
   pub from : ℕ
   pub opens : ℕ
   pub inside : from + j < opens
   pub ahead : AheadIn t ss ms ls from first end
-  pub rows : All (Fits 32 opens) (rowsIn t ss ms first end)
+  pub rows : All (Fits mostRowCells opens) (rowsIn t ss ms first end)
 
 -- place i is closed in each, and the terms before it are passed; masks of the rows after these are as they were
 pub record ClosedAhead (t ss ms ms′ ls′ : List ℕ) (i first end : ℕ) : Type 0 where

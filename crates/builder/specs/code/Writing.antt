@@ -29,6 +29,7 @@ use Rattle.least.specs.declared.By.{By}
 use Rattle.least.specs.code.Follow.{Follows, FollowsIn}
 use Rattle.builder.specs.declared.BuildAnswer.{BuildAnswer}
 use Rattle.builder.specs.declared.BuildAnswer.the-variants as build-answer
+use Rattle.limits.specs.Limits.{keptCells, mostPlanCells, mostRowCells, mostRows}
 
 -- the open cells of the row that begins at `start`, by its mask
 abbrev pub openIn : (t : List ℕ) (start mask : ℕ) → List ℕ
@@ -44,32 +45,32 @@ chain (c ∷ cs) = 0 ∷ (1 ∷ (c ∷ chain cs))
 pub record Room (ms hs kept out : List ℕ) : Type 0 where
   pub masks : length ms ≡ 64
   pub column : length hs ≡ 64
-  pub pairs : length kept ≡ 12288
-  pub cells : length out ≡ 6082
+  pub pairs : length kept ≡ keptCells
+  pub cells : length out ≡ mostPlanCells
 
 -- A state whose plan is to be written at a place; and the branches of the runs of rows whose place i is closed. `ss` is where the table's
 -- rows start; `named` are the flags of the state's open places as bits (02, W-213), of which none is past them
 pub record ToWrite (table ss ms hs kept out : List ℕ) (first end opens named at : ℕ) : Type 0 where
   pub room : Room ms hs kept out
   pub some : first < end
-  pub few : end ≤ 64
-  pub rows : All (Fits 32 opens) (rowsIn table ss ms first end)
+  pub few : end ≤ mostRows
+  pub rows : All (Fits mostRowCells opens) (rowsIn table ss ms first end)
   pub flags : named < 2 ^ opens
   pub plan : Plan opens (rowsIn table ss ms first end)
   pub follows : Follows kept (flagsIn opens named) first plan
-  pub fits : at + length (write plan) ≤ 6082
+  pub fits : at + length (write plan) ≤ mostPlanCells
 
 pub record ToWriteAll (table ss ms hs kept out : List ℕ) (first end others named i at : ℕ) : Type 0 where
   pub room : Room ms hs kept out
   pub order : first ≤ end
-  pub few : end ≤ 64
-  pub each : All (λ (g : Run). All (Fits 32 (arity (g .cell) + others)) (g .rows)) (runsIn table ss ms hs first end)
+  pub few : end ≤ mostRows
+  pub each : All (λ (g : Run). All (Fits mostRowCells (arity (g .cell) + others)) (g .rows)) (runsIn table ss ms hs first end)
   pub place : i ≤ others
   pub flags : named < 2 ^ suc others
   pub many : others < 32
   pub plans : Branches others (runsIn table ss ms hs first end)
   pub follows : FollowsIn kept (flagsIn (suc others) named) i first plans
-  pub fits : at + length (writes plans) ≤ 6082
+  pub fits : at + length (writes plans) ≤ mostPlanCells
 
 -- these cells are written from a place on, up to the next; masks and column of the rows after these are as they were
 pub record Written (ms hs out ms′ hs′ out′ cells : List ℕ) (end at next : ℕ) : Type 0 where
@@ -84,7 +85,7 @@ pub record Planned (table : Table) (named : ℕ) (kept cells : List ℕ) (size c
   pub follows : Follows kept (flagsIn (table .width) named) 0 plan
   pub cells-are : take size cells ≡ write plan
   pub size-is : size ≡ length (write plan)
-  pub few : size ≤ 6082
+  pub few : size ≤ mostPlanCells
   pub cost-is : cost ≡ wholeIn kept 0 (length (table .rows) - 1)
 
 -- what is known of a table that was read, and of columns: where it is accepted, its rows; and no bit is past its width where no column is

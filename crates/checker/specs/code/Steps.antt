@@ -19,6 +19,7 @@ use Rattle.state.specs.Mask.{kept}
 use Rattle.state.specs.States.{rowsIn, runsIn, Same}
 use Rattle.checker.specs.declared.check.Step.{Step}
 use Rattle.checker.specs.declared.check.Step.the-variants as step
+use Rattle.limits.specs.Limits.{mostRowCells, mostRows}
 
 -- what the check of a plan answers with a mask of columns and one more than the largest number named: `planUnder` of plan/specs/Check where both
 -- are a list's (proofs/EntryLaws)
@@ -47,7 +48,7 @@ pub record LeafDone (p : List ℕ) (rows count at : ℕ) (r : Step) : Type 0 whe
 -- the reading of a state with one row, no column being named; and such a state is done: the row is what the mask leaves open of the table's row
 -- that starts there
 abbrev pub aloneFrom : ℕ → List ℕ → List ℕ → ℕ → Read Seen
-aloneFrom k row p at = stateFrom 32 [] k (row ∷ []) at (drop at p)
+aloneFrom k row p at = stateFrom mostRowCells [] k (row ∷ []) at (drop at p)
 
 pub record AloneDone (t : List ℕ) (start mask : ℕ) (p : List ℕ) (k at : ℕ) (r : Step) : Type 0 where
   pub says : aloneFrom k (kept mask (drop start t)) p at ≡ saidBy p r
@@ -58,7 +59,7 @@ pub record Room (ms hs p : List ℕ) (first end at : ℕ) : Type 0 where
   pub masks : length ms ≡ 64
   pub column : length hs ≡ 64
   pub here : at ≤ length p
-  pub few : end ≤ 64
+  pub few : end ≤ mostRows
   pub some : first ≤ end
 
 -- a state with k open places, and the branches at place i of the runs of rows whose place is closed, k being open beside their arguments. No
@@ -66,25 +67,25 @@ pub record Room (ms hs p : List ℕ) (first end at : ℕ) : Type 0 where
 pub record Ready (t ss ms hs p : List ℕ) (first end named k at : ℕ) : Type 0 where
   pub room : Room ms hs p first end at
   pub row : first < end
-  pub rows : All (Fits 32 k) (rowsIn t ss ms first end)
+  pub rows : All (Fits mostRowCells k) (rowsIn t ss ms first end)
   pub flags : named < 2 ^ k
 
 pub record ReadyIn (t ss ms hs p : List ℕ) (first end named i k at : ℕ) : Type 0 where
   pub room : Room ms hs p first end at
-  pub runs : All (λ (g : Run). All (Fits 32 (arity (g .cell) + k)) (g .rows)) (runsIn t ss ms hs first end)
+  pub runs : All (λ (g : Run). All (Fits mostRowCells (arity (g .cell) + k)) (g .rows)) (runsIn t ss ms hs first end)
   pub flags : named < 2 ^ suc k
   pub place : i ≤ k
   pub opens : k < 32
 
 -- a state is done, and some branches are: their reading; masks and column of the rows after them are as they were
 pub record Done (t ss ms hs ms′ hs′ p : List ℕ) (first end named k at : ℕ) (r : Step) : Type 0 where
-  pub says : stateFrom 32 (flagsIn k named) k (rowsIn t ss ms first end) at (drop at p) ≡ saidBy p r
+  pub says : stateFrom mostRowCells (flagsIn k named) k (rowsIn t ss ms first end) at (drop at p) ≡ saidBy p r
   pub inside : Inside p at r
   pub masks : Same end ms ms′
   pub column : Same end hs hs′
 
 pub record DoneIn (t ss ms hs ms′ hs′ p : List ℕ) (first end named i k at : ℕ) (r : Step) : Type 0 where
-  pub says : branchesFrom (stateFrom 32) (flagsIn (suc k) named) i k (runsIn t ss ms hs first end) at (drop at p) ≡ saidBy p r
+  pub says : branchesFrom (stateFrom mostRowCells) (flagsIn (suc k) named) i k (runsIn t ss ms hs first end) at (drop at p) ≡ saidBy p r
   pub inside : Inside p at r
   pub masks : Same end ms ms′
   pub column : Same end hs hs′

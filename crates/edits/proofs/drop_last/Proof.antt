@@ -12,6 +12,7 @@ use Rattle.edits.proofs.DropLaws.{only-row, last-dropped}
 use borrow.Author.Needs.{needs}
 use Rattle.edits.proofs.drop_last.Statement.{statement}
 use Rattle.edits.proofs.drop_last.Tie as tie
+use Rattle.limits.specs.Limits.{mostTableCells}
 
 table-of-requires : tie.Need-table-of-requires
 table-of-requires c κs = search needs
@@ -45,7 +46,7 @@ module _ (c : tie.After-answer) where
   few : (0 < count) × (count ≤ 64)
   few = few-rows table-here
 
-  size : length cells ≤ 2050
+  size : length cells ≤ mostTableCells
   size = few-cells table-here
 
   -- the last row begins within the table

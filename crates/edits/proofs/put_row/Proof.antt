@@ -10,6 +10,7 @@ use Rattle.edits.proofs.PutLaws.{enough, joins, size-small, ready, row-
 use borrow.Author.Needs.{needs}
 use Rattle.edits.proofs.put_row.Statement.{statement}
 use Rattle.edits.proofs.put_row.Tie as tie
+use Rattle.limits.specs.Limits.{mostTableCells}
 
 table-of-requires : tie.Need-table-of-requires
 table-of-requires c κs = search needs
@@ -46,7 +47,7 @@ module _ (c : tie.After-next) where
 
   abbrev joins-here : Placed (start .args .rec .now) (start .args .starts .now) (start .args .at)
       → Joins (c .before .before .before .before .before .before .table-of .result .now) (start .args .row .now) (start .args .starts .now)
-      (start .args .at) (replicate 2050 0)
+      (start .args .at) (replicate mostTableCells 0)
   joins-here g = joins g cells-are _ _ row-said row-good refl
 
 join-requires : tie.Need-join-requires

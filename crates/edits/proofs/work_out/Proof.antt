@@ -5,6 +5,7 @@ use Rattle.edits.proofs.WorkLaws.{small, worked-anew, none-worked}
 use borrow.Author.Needs.{needs}
 use Rattle.edits.proofs.work_out.Statement.{statement}
 use Rattle.edits.proofs.work_out.Tie as tie
+use Rattle.limits.specs.Limits.{mostTableCells}
 
 read-by-requires : tie.Need-read-by-requires
 read-by-requires c κs = search needs
@@ -17,7 +18,7 @@ module _ (c : tie.After-enum-told) where
   abbrev start : tie.Start
   start = c .before .before .before .before
 
-  cells-few : length (start .args .cells .now) ≤ 2050
+  cells-few : length (start .args .cells .now) ≤ mostTableCells
   cells-few = small _ _ (start .args .rec .now) (c .before .before .read-by .ensures) (c .enum-told .given .1)
 
 clear-requires : tie.Need-clear-requires

@@ -9,16 +9,17 @@ use Rattle.state.specs.code.First.{TableRows}
 use Rattle.record.specs.Record.{cellsIn, tableIn}
 use Rattle.record.specs.code.Rows.{inRoom, tableWith}
 use Rattle.edits.specs.declared.rows.Place.{Place}
+use Rattle.limits.specs.Limits.{mostRows, mostTableCells}
 
 -- what is given where a row is put: a table that is read, and a row for it beside its other rows, at a place where there is one or after
 -- the last
 pub record Joins (cells row starts : List ℕ) (at : Place) (next : List ℕ) : Type 0 where
   pub rows : TableRows cells starts (at .width) (at .count)
   pub there : at .number ≤ at .count
-  pub low : at .number < 64
+  pub low : at .number < mostRows
   pub is-row : Row (rows .table .width) row
   pub apart : Apart (others (at .number) (rows .table .rows)) row
-  pub empty : next ≡ replicate 2050 0
+  pub empty : next ≡ replicate mostTableCells 0
 
 -- the cells of the table with the row, in their room, and how many they are
 pub record Joined {cells row starts : List ℕ} {at : Place} {next : List ℕ} (g : Joins cells row starts at next) (new : List ℕ) (size : ℕ)
@@ -30,7 +31,7 @@ pub record Joined {cells row starts : List ℕ} {at : Place} {next : List ℕ} (
 pub record Placed (rec starts : List ℕ) (at : Place) : Type 0 where
   pub rows : TableRows (tableIn rec) starts (at .width) (at .count)
   pub there : at .number ≤ at .count
-  pub low : at .number < 64
+  pub low : at .number < mostRows
 
 -- a table's cells with one row put are ready in their room, and are a table again
 pub record Ready (T : Table) (r : ℕ) (row next : List ℕ) (size : ℕ) : Type 0 where

@@ -15,15 +15,16 @@ use Rattle.goaltext.proofs.first_name.Reads as first-name-reads
 use Rattle.goaltext.proofs.put_goal.Reads as put-goal-reads
 use Rattle.goaltext.proofs.refuse.Reads as refuse-reads
 use Rattle.prolog.proofs.make_facts.Reads as make-facts-reads
+use Rattle.limits.specs.Limits.{mostNames, mostTableCells}
 
 -- what is counted and made of the goal's text
 abbrev at : tie.After-make-facts → tie.Start
 at m = m .before .before .before .before .before .before .before
 
 facts-are : (m : tie.After-make-facts) {x : FactsAnswer} → m .make-facts .result ≡ x
-    → FactsAre (at m .args .whole .now) (replicate 2050 0) (replicate 2048 0) (m .make-facts .last .1 .0) (m .make-facts .last .1 .1 .0) x
+    → FactsAre (at m .args .whole .now) (replicate mostTableCells 0) (replicate mostNames 0) (m .make-facts .last .1 .0) (m .make-facts .last .1 .1 .0) x
 facts-are m e =
-    subst (FactsAre (at m .args .whole .now) (replicate 2050 0) (replicate 2048 0) (m .make-facts .last .1 .0) (m .make-facts .last .1 .1 .0)) e (m .make-facts .ensures)
+    subst (FactsAre (at m .args .whole .now) (replicate mostTableCells 0) (replicate mostNames 0) (m .make-facts .last .1 .0) (m .make-facts .last .1 .1 .0)) e (m .make-facts .ensures)
 
 made-at : (c : tie.After-c)
     → MadeAt (at (c .before .before) .args .whole .now) (c .c .given .0 .0) (c .before .before .make-facts .last .1 .0)

@@ -23,6 +23,7 @@ use Rattle.goaltext.specs.declared.GoalText.{GoalText}
 use Rattle.goaltext.specs.declared.names.Numbered.{Numbered}
 use Rattle.goaltext.specs.declared.Size.{Size}
 use Rattle.goaltext.specs.declared.Size.the-variants as size
+use Rattle.limits.specs.Limits.{mostGoalBytes}
 
 -- where the name of a text's first fact stands
 abbrev pub NameIs : List ℕ → Span → Type 0
@@ -86,8 +87,8 @@ pub record Reads (text names : List ℕ) (p : Predicate) (t cells cells′ new n
 -- a goal's text, whole; and with a full stop after it
 abbrev pub TextAsked : (text names : List ℕ) (p : Predicate) (whole cells cells′ new new′ : List ℕ) → GoalText → Type 0
 TextAsked text names p whole cells cells′ new new′ r =
-    (t : List ℕ) (fs : List Fact) → Whole t whole fs → length t ≤ 65533 → Reads text names p t cells cells′ new new′ r
+    (t : List ℕ) (fs : List Fact) → Whole t whole fs → length t ≤ mostGoalBytes → Reads text names p t cells cells′ new new′ r
 
 abbrev pub StoppedAsked : (text names : List ℕ) (p : Predicate) (stopped cells cells′ new new′ : List ℕ) → GoalText → Type 0
 StoppedAsked text names p stopped cells cells′ new new′ r =
-    (t : List ℕ) → stopped ≡ withStop t → length t ≤ 65533 → Reads text names p t cells cells′ new new′ r
+    (t : List ℕ) → stopped ≡ withStop t → length t ≤ mostGoalBytes → Reads text names p t cells cells′ new new′ r

@@ -10,6 +10,7 @@ use Rattle.table.specs.Table.{Head}
 use Rattle.instance.specs.Instance.{Common, MostGeneral}
 use Rattle.instance.specs.code.Left.{Left}
 use Rattle.instance.specs.Rewrite.{put}
+use Rattle.limits.specs.Limits.{mostReplyCells}
 
 -- at a place of a list stands at least one term
 pub record TermsAt (xs : List ℕ) (at : ℕ) : Type 0 where
@@ -27,8 +28,8 @@ pub record Meeting (row goal cells : List ℕ) (i n at len turns : ℕ) : Type 0
   pub inside : at ≤ len
   pub apart : len ≤ i
   pub started : i ≤ n
-  pub goal-short : len ≤ 1024
-  pub row-short : n ≤ i + 1024
+  pub goal-short : len ≤ mostReplyCells
+  pub row-short : n ≤ i + mostReplyCells
   pub held : n ≤ length cells
   pub left : Left row goal (drop i (take n cells)) (take at (take len cells)) (drop at (take len cells)) turns
 
@@ -45,13 +46,13 @@ pub record Few (n : ℕ) (xs : List ℕ) : Type 0 where
 -- the end: the first n cells are the most general common instance, and it has at most 1,024 cells and 64 variables
 pub record Met (row goal cells : List ℕ) (n : ℕ) : Type 0 where
   pub within : n ≤ length cells
-  pub short : n ≤ 1024
+  pub short : n ≤ mostReplyCells
   pub general : MostGeneral row goal (take n cells)
   pub few : Few 64 (take n cells)
 
 -- or all that a row and a goal have in common has over 1,024 cells
 pub record Over (row goal : List ℕ) : Type 0 where
-  pub over : (Y : List ℕ) → Common row goal Y → 1024 < length Y
+  pub over : (Y : List ℕ) → Common row goal Y → mostReplyCells < length Y
 
 -- a hit: a row and a goal of one width that have something in common
 pub record Hit (row goal : List ℕ) : Type 0 where

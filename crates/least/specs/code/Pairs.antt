@@ -12,6 +12,7 @@ use Rattle.plan.specs.Named.{flag, spread, anyNamed, may}
 use Rattle.least.specs.Entries.{between}
 use Rattle.least.specs.code.Best.{best, firstOver, leastOver}
 use Rattle.least.specs.Later.{laterIn, latersIn}
+use Rattle.limits.specs.Limits.{mostRowCells}
 
 -- what a scan of the open places has found: what the closed cells weigh, the open places left with their flags, and the rows
 pub record Scan : Type 0 where
@@ -79,21 +80,21 @@ limit = 65535
 module _ (m : Measure) (fs : List Bool) (w : ℕ) (rows : List (List ℕ)) where
   -- what the rows from the first to the last cost at least, with no place closed. A row has at most 32 cells
   abbrev pub wholeOf : ℕ → ℕ → ℕ
-  wholeOf first last = best m 32 fs w (between first last rows) + latersIn m [] (between first last rows)
+  wholeOf first last = best m mostRowCells fs w (between first last rows) + latersIn m [] (between first last rows)
 
   -- what a place of the pair's closed state costs, where a run of rows costs N with nothing closed
   abbrev pub priceBy : (ℕ → ℕ → ℕ) → ℕ → ℕ → ℕ → ℕ
   priceBy N first last p =
-      choice m (length (runs p ((closedOf m 32 fs w rows first last) .left)))
-      + (sums N first (runs p ((closedOf m 32 fs w rows first last) .left))
-      - length (runs p ((closedOf m 32 fs w rows first last) .left)) * agreedOf m 32 fs w rows first last)
+      choice m (length (runs p ((closedOf m mostRowCells fs w rows first last) .left)))
+      + (sums N first (runs p ((closedOf m mostRowCells fs w rows first last) .left))
+      - length (runs p ((closedOf m mostRowCells fs w rows first last) .left)) * agreedOf m mostRowCells fs w rows first last)
 
   -- the least over its places, the first place that costs so much, and what the pair costs with nothing closed
   abbrev pub leastBy : (ℕ → ℕ → ℕ) → ℕ → ℕ → ℕ
-  leastBy N first last = leastOver (may ((closedOf m 32 fs w rows first last) .named)) ((closedOf m 32 fs w rows first last) .opens) (priceBy N first last)
+  leastBy N first last = leastOver (may ((closedOf m mostRowCells fs w rows first last) .named)) ((closedOf m mostRowCells fs w rows first last) .opens) (priceBy N first last)
 
   abbrev pub placeBy : (ℕ → ℕ → ℕ) → ℕ → ℕ → ℕ
-  placeBy N first last = firstOver (may ((closedOf m 32 fs w rows first last) .named)) ((closedOf m 32 fs w rows first last) .opens) (priceBy N first last)
+  placeBy N first last = firstOver (may ((closedOf m mostRowCells fs w rows first last) .named)) ((closedOf m mostRowCells fs w rows first last) .opens) (priceBy N first last)
 
   abbrev pub wholeBy : (ℕ → ℕ → ℕ) → ℕ → ℕ → ℕ
-  wholeBy N first last = min (agreedOf m 32 fs w rows first last + leastBy N first last) limit
+  wholeBy N first last = min (agreedOf m mostRowCells fs w rows first last + leastBy N first last) limit

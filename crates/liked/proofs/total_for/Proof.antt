@@ -10,17 +10,18 @@ use Rattle.liked.proofs.SearchLaws.{written, total-tried, total-refused
 use borrow.Author.Needs.{needs}
 use Rattle.liked.proofs.total_for.Statement.{statement}
 use Rattle.liked.proofs.total_for.Tie as tie
+use Rattle.limits.specs.Limits.{mostPlanCells}
 
 -- the plan for the set of columns, in a room that holds any
 module _ (c : tie.After-build-for) where
   abbrev start : tie.Start
   start = c .before .before .before .before .before .before .before .before
 
-  built-for : BuiltInto (start .args .by) (columnsOf (start .args .mask)) (start .args .cells .now) (replicate 6082 0)
+  built-for : BuiltInto (start .args .by) (columnsOf (start .args .mask)) (start .args .cells .now) (replicate mostPlanCells 0)
       (c .build-for .last .1 .1 .1 .0) (c .build-for .result)
   built-for =
       subst
-      (λ (l : List ℕ). BuiltInto (start .args .by) l (start .args .cells .now) (replicate 6082 0) (c .build-for .last .1 .1 .1 .0) (c .build-for .result))
+      (λ (l : List ℕ). BuiltInto (start .args .by) l (start .args .cells .now) (replicate mostPlanCells 0) (c .build-for .last .1 .1 .1 .0) (c .build-for .result))
       (c .before .before .before .before .columns-of .ensures .are) (c .build-for .ensures)
 
 abbrev asked : tie.After-known-told → tie.After-build-for

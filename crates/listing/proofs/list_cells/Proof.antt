@@ -11,13 +11,14 @@ use Rattle.listing.proofs.EntryLaws.{plan-built, plan-refused, planned-
 use borrow.Author.Needs.{needs}
 use Rattle.listing.proofs.list_cells.Statement.{statement}
 use Rattle.listing.proofs.list_cells.Tie as tie
+use Rattle.limits.specs.Limits.{mostPlanCells}
 
 -- what was built
 built : (c : tie.After-n)
     → (c .n .given .0 .0 ≤ length (c .before .before .before .build-plan .last .1 .1 .0))
     × Planned (c .before .before .before .before .before .before .before .args .table .now)
     (take (c .n .given .0 .0) (c .before .before .before .build-plan .last .1 .1 .0)) (c .n .given .0 .1 .0)
-built c = plan-built (c .before .before .before .build-plan .ensures) (length-replicate {A = ℕ} 6082 0) _ _ (c .n .given .1)
+built c = plan-built (c .before .before .before .build-plan .ensures) (length-replicate {A = ℕ} mostPlanCells 0) _ _ (c .n .given .1)
 
 slice-aggregate-build-plan : tie.Need-slice-aggregate-build-plan
 slice-aggregate-build-plan c = search needs
@@ -63,7 +64,7 @@ returns-2 : tie.Need-returns-2
 returns-2 c =
     let x = c .before .before .before .before .before in
     let f = x .f .given .0 .0 in
-    let turned = plan-refused (x .before .before .before .build-plan .ensures) (length-replicate {A = ℕ} 6082 0) f (x .f .given .1) in
+    let turned = plan-refused (x .before .before .before .build-plan .ensures) (length-replicate {A = ℕ} mostPlanCells 0) f (x .f .given .1) in
     let line = c .before .before .put-refusal .ensures in
     listed-text (line .0) (omega arith) (refused (told f) turned)
 

@@ -12,12 +12,13 @@ use Rattle.listing.proofs.EntryLaws.{too-long, not-fours, in-fours, cel
 use borrow.Author.Needs.{needs}
 use Rattle.listing.proofs.list_table.Statement.{statement}
 use Rattle.listing.proofs.list_table.Tie as tie
+use Rattle.limits.specs.Limits.{mostTableCells}
 
 -- the bytes are read as cells
 front : (c : tie.After-read-cells)
     → (c .read-cells .result ≤ length (c .read-cells .last .1 .0))
     × (take (c .read-cells .result) (c .read-cells .last .1 .0) ≡ cellsOf (c .before .before .before .before .before .args .bytes .now))
-front c = cells-front (c .before .before .before .before .before .args .bytes .now) (c .read-cells .ensures) (omega arith) (length-replicate {A = ℕ} 2050 0)
+front c = cells-front (c .before .before .before .before .before .args .bytes .now) (c .read-cells .ensures) (omega arith) (length-replicate {A = ℕ} mostTableCells 0)
 
 put-refusal-requires : tie.Need-put-refusal-requires
 put-refusal-requires c κs = search needs

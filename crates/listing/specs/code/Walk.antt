@@ -12,6 +12,7 @@ use Rattle.plan.specs.Notes.{skipIn, rowIn}
 use Rattle.least.specs.Least.{Built}
 use Rattle.listing.specs.Listing.{linesIn, listingOf}
 use Rattle.listing.specs.declared.walk.Stand.{Stand}
+use Rattle.limits.specs.Limits.{mostBranches, mostPlanCells}
 
 -- What is noted of each branch of a plan, in plan order from the number n on: its first row, the plan's being `row`, and how many branches are
 -- below it.
@@ -40,9 +41,9 @@ pub record Ready (plan noted : List ℕ) (places depth stop : ℕ) (from : Stand
   pub ends : first + length rows ≡ stop
   pub few : stop ≤ 64
   pub deep : depth ≤ from .at
-  pub numbered : from .number + branches tree ≤ 2048
+  pub numbered : from .number + branches tree ≤ mostBranches
   pub wide : places ≤ 4 * from .at + 8
-  pub size : length plan ≤ 6082
+  pub size : length plan ≤ mostPlanCells
 
 -- the state's lines are put, and the walk stands after its cells and its branches
 pub record Walked (old new : List ℕ) (depth first : ℕ) (from : Stand) {k : ℕ} {rows : List (List ℕ)} (tree : Plan k rows) (r : Stand) : Type 0 where

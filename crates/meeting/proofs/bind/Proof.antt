@@ -17,6 +17,7 @@ use Rattle.meeting.proofs.TurnLaws.{bound-fits}
 use borrow.Author.Needs.{needs}
 use Rattle.meeting.proofs.bind.Statement.{statement}
 use Rattle.meeting.proofs.bind.Tie as tie
+use Rattle.limits.specs.Limits.{mostReplyCells}
 
 -- once the goal so far is put
 module _ (c : tie.After-put-with2) where
@@ -50,7 +51,7 @@ module _ (c : tie.After-put-with2) where
       part-put (start .args .v) T (start .args .cells .now) (start .args .k .at) (start .args .k .len)
       (start .pre .sound .inside) (c .put-with2 .ensures)
 
-  goal-large : 1024 < c .put-with2 .result → (row goal : List ℕ) → Replaced row goal → Over row goal
+  goal-large : mostReplyCells < c .put-with2 .result → (row goal : List ℕ) → Replaced row goal → Over row goal
   goal-large l row goal w = goal-over (w .after) (start .pre .sound .inside) (two-long first-put second-put l)
 
 -- once all three parts are
@@ -66,10 +67,10 @@ module _ (c : tie.After-put-with3) where
       let s = start two .args in
       part-put (s .v) (T two) (s .cells .now) (s .k .i) (s .k .n) (start two .pre .sound .started) (c .put-with3 .ensures)
 
-  short : two .put-with2 .result ≤ 1024
+  short : two .put-with2 .result ≤ mostReplyCells
   short = omega (arith, c .before .before .before .before .if2 .left)
 
-  row-large : 1024 < c .put-with3 .result - two .put-with2 .result → (row goal : List ℕ) → Replaced two row goal → Over row goal
+  row-large : mostReplyCells < c .put-with3 .result - two .put-with2 .result → (row goal : List ℕ) → Replaced two row goal → Over row goal
   row-large l row goal w = row-over (w .after) (start two .pre .sound .inside) (third-long (first-put two) (second-put two) third-put l)
 
 -- at most 1,024 cells are left of the row
@@ -80,7 +81,7 @@ module _ (c : tie.Else3) where
   abbrev both : tie.After-put-with2
   both = two three
 
-  row-short : three .put-with3 .result - both .put-with2 .result ≤ 1024
+  row-short : three .put-with3 .result - both .put-with2 .result ≤ mostReplyCells
   row-short = omega (arith, c .if3 .left)
 
 -- and all of them fit

@@ -11,6 +11,7 @@ use Rattle.meeting.specs.declared.Turn.{Turn}
 use Rattle.meeting.specs.declared.Turn.the-variants as turn
 use Rattle.meeting.specs.declared.Made.{Made}
 use Rattle.meeting.specs.declared.Made.the-variants as made
+use Rattle.limits.specs.Limits.{mostMeetingCells, mostReplyCells}
 
 abbrev pub MeetingAt : (row goal cells : List ℕ) → Stand → Type 0
 MeetingAt row goal cells k = Meeting row goal cells (k .i) (k .n) (k .at) (k .len) (k .turns)
@@ -21,7 +22,7 @@ AfterAt row goal cells v t k = After row goal cells v t (k .i) (k .n) (k .at) (k
 
 -- the two lists: the second has a cell more at least, so that a full one is told from one that was too short
 pub record Lists (cells other : List ℕ) : Type 0 where
-  pub most : length cells ≤ 2048
+  pub most : length cells ≤ mostMeetingCells
   pub beside : length cells < length other
 
 -- whatever row and goal are: the goal so far comes before what is left of the row, and both are in the list, which has so many cells
@@ -41,8 +42,8 @@ Swapped cells cells′ v c n = cells′ ≡ map (instead v c) (take n cells) ++ 
 -- a variable is about to be replaced in lists of at most 1,024 cells
 pub record Turning (row goal cells : List ℕ) (v : ℕ) (t : List ℕ) (k : Stand) : Type 0 where
   pub after : AfterAt row goal cells v t k
-  pub goal-short : k .len ≤ 1024
-  pub row-short : k .n ≤ k .i + 1024
+  pub goal-short : k .len ≤ mostReplyCells
+  pub row-short : k .n ≤ k .i + mostReplyCells
 
 -- one less may be replaced
 abbrev pub turned : Stand → Stand
@@ -59,7 +60,7 @@ pub record Binding (cells other : List ℕ) (a e : ℕ) (k : Stand) : Type 0 whe
 pub data Bound (cells : List ℕ) (v : ℕ) (t cells′ : List ℕ) (k : Stand) : Turn → Type 0 where
   bound : {s : Stand} → Sound (length cells) s → s .turns < k .turns
       → ((row goal : List ℕ) → Turning row goal cells v t k → MeetingAt row goal cells′ s) → Bound cells v t cells′ k (turn.Fits s)
-  bound-over : (length cells ≡ 2048 → (row goal : List ℕ) → 0 < k .turns → Turning row goal cells v t k → Over row goal)
+  bound-over : (length cells ≡ mostMeetingCells → (row goal : List ℕ) → 0 < k .turns → Turning row goal cells v t k → Over row goal)
       → Bound cells v t cells′ k turn.Big
 
 -- what the loop goes down by: a variable less, or a cell less of the row
@@ -81,7 +82,7 @@ pub record Went (cells cells′ : List ℕ) (k r : Stand) : Type 0 where
 
 pub data Stepped (cells cells′ : List ℕ) (k : Stand) : Turn → Type 0 where
   stepped : {s : Stand} → Went cells cells′ k s → Stepped cells cells′ k (turn.Fits s)
-  stepped-over : (length cells ≡ 2048 → (row goal : List ℕ) → MeetingAt row goal cells k → Over row goal) → Stepped cells cells′ k turn.Big
+  stepped-over : (length cells ≡ mostMeetingCells → (row goal : List ℕ) → MeetingAt row goal cells k → Over row goal) → Stepped cells cells′ k turn.Big
 
 -- the start: nothing is passed
 abbrev pub atStart : (len n : ℕ) → Stand
@@ -95,5 +96,5 @@ pub record Starting (cells other : List ℕ) (len n : ℕ) : Type 0 where
 pub data Finished (cells cells′ : List ℕ) (len n : ℕ) : Made → Type 0 where
   finished : {m : ℕ} → m ≤ length cells → ((row goal : List ℕ) → MeetingAt row goal cells (atStart len n) → Met row goal cells′ m)
       → Finished cells cells′ len n (made.Cells m)
-  finished-over : (length cells ≡ 2048 → (row goal : List ℕ) → MeetingAt row goal cells (atStart len n) → Over row goal)
+  finished-over : (length cells ≡ mostMeetingCells → (row goal : List ℕ) → MeetingAt row goal cells (atStart len n) → Over row goal)
       → Finished cells cells′ len n made.Big

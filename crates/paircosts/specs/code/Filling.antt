@@ -22,6 +22,7 @@ use Rattle.paircosts.specs.declared.arrays.Row.{Row}
 use Rattle.paircosts.specs.declared.arrays.Shared.{Shared}
 use Rattle.paircosts.specs.Fill.{Unasked}
 use Rattle.paircosts.specs.code.Notes.{noteIn, readIn, mostAgreed, Long, Noted, MarkedFrom}
+use Rattle.limits.specs.Limits.{mostRowCells, mostRows, mostTableCells}
 
 -- a row's cells end where the next row's begin, and the last row's where the table's end
 abbrev pub stopOf : List ℕ → List ℕ → ℕ → ℕ → ℕ
@@ -36,9 +37,9 @@ sharedOf last agreed = record { last = last; agreed = agreed }
 -- the rows of a table of this width stand in its cells, each from its start on
 pub record Laid (cells starts : List ℕ) (count width : ℕ) (rows : List (List ℕ)) : Type 0 where
   pub number : length rows ≡ count
-  pub few : count ≤ 64
-  pub size : length cells ≤ 2050
-  pub fits : All (Fits 32 width) rows
+  pub few : count ≤ mostRows
+  pub size : length cells ≤ mostTableCells
+  pub fits : All (Fits mostRowCells width) rows
   pub heads : All (Head width) rows
   pub order : (r : ℕ) → r < count → (getD starts r 0 ≤ stopOf cells starts count r) × (stopOf cells starts count r ≤ length cells)
   pub row : (r : ℕ) → r < count → getD rows r [] ≡ slice (getD starts r 0) (stopOf cells starts count r) cells
@@ -53,11 +54,11 @@ pub record PairAt (marks kept notes : List ℕ) (row : Row) (shared : Shared) (a
   pub cells : List ℕ
   pub width : ℕ
   pub rows : List (List ℕ)
-  pub few : length rows ≤ 64
-  pub fits : All (Fits 32 width) rows
+  pub few : length rows ≤ mostRows
+  pub fits : All (Fits mostRowCells width) rows
   pub order : row .number ≤ shared .last
   pub inside : shared .last < length rows
-  pub part : (row .start ≤ row .end) × (row .end ≤ length cells) × (length cells ≤ 2050)
+  pub part : (row .start ≤ row .end) × (row .end ≤ length cells) × (length cells ≤ mostTableCells)
   pub row-is : getD rows (row .number) [] ≡ slice (row .start) (row .end) cells
   pub marked : MarkedFrom m cells marks 0
   pub N : ℕ → ℕ → ℕ
@@ -65,7 +66,7 @@ pub record PairAt (marks kept notes : List ℕ) (row : Row) (shared : Shared) (a
   pub weight : ℕ
   pub noted : Noted m N (row .number) (noteIn notes) (row .start) width (getD rows (row .number) [])
       (slice (suc (row .number)) (suc (shared .last)) rows) weight
-  pub agreed-is : shared .agreed ≡ weight + laterOf m 32 [] width rows (row .number) (shared .last)
+  pub agreed-is : shared .agreed ≡ weight + laterOf m mostRowCells [] width rows (row .number) (shared .last)
   pub light : shared .agreed ≤ mostAgreed
   pub known : (j : ℕ) → row .number ≤ j → j < shared .last → readIn kept (row .number) j ≡ N (row .number) j
   pub long : Long kept
@@ -77,7 +78,7 @@ putPair kept pair whole cost place = set (set (set kept pair whole) (4096 + pair
 -- a pair's values are kept, and nothing else is changed
 pub record Keeps (m : Measure) (named : List Bool) (width : ℕ) (rows : List (List ℕ)) (N : ℕ → ℕ → ℕ) (first last : ℕ) (old new : List ℕ) : Type 0 where
   pub is : new
-      ≡ putPair old (64 * first + last) (agreedOf m 32 named width rows first last + leastBy m named width rows N first last)
+      ≡ putPair old (mostRows * first + last) (agreedOf m mostRowCells named width rows first last + leastBy m named width rows N first last)
       (leastBy m named width rows N first last) (placeBy m named width rows N first last)
 
 -- where it begins before row `top`; otherwise nothing is changed
@@ -119,7 +120,7 @@ module _ {cells marks starts : List ℕ} {asked : Asked} {old : List ℕ} (t : T
     left : (Worked (length (t .rows)) asked first last j j′ → ⊥) → SameAt j j′ old kept → Stands first last kept j j′
 
   pub record FilledTo (first last : ℕ) (kept : List ℕ) : Type 0 where
-    pub each : (j j′ : ℕ) → j < 64 → j′ < 64 → Stands first last kept j j′
+    pub each : (j j′ : ℕ) → j < mostRows → j′ < mostRows → Stands first last kept j j′
     pub long : Long kept
 
 -- a row stands in its cells
@@ -139,7 +140,7 @@ module _ {cells marks starts : List ℕ} {asked : Asked} {old : List ℕ} (t : T
     pub weight : ℕ
     pub noted : Noted (t .m) (t .N) (row .number) (noteIn notes) (row .start) (t .width) (getD (t .rows) (row .number) [])
         (slice (suc (row .number)) (suc last) (t .rows)) weight
-    pub agreed-is : agreed ≡ weight + laterOf (t .m) 32 [] (t .width) (t .rows) (row .number) last
+    pub agreed-is : agreed ≡ weight + laterOf (t .m) mostRowCells [] (t .width) (t .rows) (row .number) last
     pub light : agreed ≤ mostAgreed
     pub filled : FilledTo t first last kept
     pub room : length notes ≡ 192

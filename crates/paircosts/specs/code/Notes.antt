@@ -18,6 +18,7 @@ use Rattle.least.specs.Entries.{wholeIn}
 use Rattle.least.specs.Measures.{weightAt}
 use Rattle.least.specs.code.Pairs.{limit}
 use Rattle.paircosts.specs.declared.arrays.Note.{Note}
+use Rattle.limits.specs.Limits.{keptCells, mostRows, mostTableCells}
 
 abbrev pub note : ℕ → ℕ → ℕ → Note
 note n s t = record { runs = n; sum = s; to = t }
@@ -55,7 +56,7 @@ putNote notes q s = set (set (set notes (q % 64) (s .runs)) (64 + q % 64) (s .su
 
 -- how long the array is
 abbrev pub Long : List ℕ → Type 0
-Long kept = length kept ≡ 12288
+Long kept = length kept ≡ keptCells
 
 -- what is read of a pair: whatever stands there, no more than any pair of a table costs
 abbrev pub readIn : List ℕ → ℕ → ℕ → ℕ
@@ -63,10 +64,10 @@ readIn kept first last = min (wholeIn kept first last) limit
 
 -- the numbers of a note of rows from the first on are small
 pub record Small (first : ℕ) (noted : Note) : Type 0 where
-  pub runs : noted .runs ≤ 64
+  pub runs : noted .runs ≤ mostRows
   pub sum : noted .sum ≤ 4194240
-  pub to : noted .to < 64
-  pub row : first < 64
+  pub to : noted .to < mostRows
+  pub row : first < mostRows
 
 -- The notes at the cells of a row, from a cell on, are right: at each place they say what the column there says, of this row and those
 -- after it, in order, all of them from that place on; so many terms are left. Where there is one run the place is closed, and its
@@ -102,7 +103,7 @@ pub record MarkOf (m : Measure) (cells : List ℕ) (j mark : ℕ) : Type 0 where
 
 -- the cells from j on are marked
 pub record MarkedFrom (m : Measure) (cells marks : List ℕ) (j : ℕ) : Type 0 where
-  pub size : length marks ≡ 2050
+  pub size : length marks ≡ mostTableCells
   pub at : (i : ℕ) → j ≤ i → i < length cells → MarkOf m cells i (getD marks i 0)
 
 -- where their terms end
@@ -124,9 +125,9 @@ pub record NextRow (cells marks kept notes : List ℕ) (row new old : ℕ) : Typ
   pub noted : Noted m costs (suc row) (noteIn notes) old width (slice old stop cells) rest shared
   pub old-terms : Terms width (slice old stop cells)
   pub new-terms : Terms width (slice new old cells)
-  pub order : (new ≤ old) × (old ≤ stop) × (stop ≤ length cells) × (length cells ≤ 2050)
+  pub order : (new ≤ old) × (old ≤ stop) × (stop ≤ length cells) × (length cells ≤ mostTableCells)
   pub short : (old ≤ new + 32) × (stop ≤ old + 32)
-  pub rows : (suc row + length rest ≡ last) × (last < count) × (count ≤ 64)
+  pub rows : (suc row + length rest ≡ last) × (last < count) × (count ≤ mostRows)
   pub marked : MarkedFrom m cells marks 0
   pub known : (j : ℕ) → suc row ≤ j → j ≤ last → readIn kept (suc row) j ≡ costs (suc row) j
   pub small : (i k : ℕ) → i ≤ k → k < count → costs i k ≤ 65535
@@ -157,8 +158,8 @@ pub record LastRow (cells marks notes : List ℕ) (row at stop : ℕ) : Type 0 w
   pub width : ℕ
   pub head : Head width (slice at stop cells)
   pub marked : MarkedFrom m cells marks 0
-  pub part : (at ≤ stop) × (stop ≤ length cells) × (length cells ≤ 2050)
-  pub number : row < 64
+  pub part : (at ≤ stop) × (stop ≤ length cells) × (length cells ≤ mostTableCells)
+  pub number : row < mostRows
   pub room : length notes ≡ 192
 
 -- the variables among some cells are those below a number

@@ -15,6 +15,7 @@ use Rattle.paircosts.specs.declared.arrays.Found.{Found}
 use Rattle.paircosts.specs.declared.arrays.Part.{Part}
 use Rattle.paircosts.specs.declared.arrays.Asked.{Asked}
 use Rattle.paircosts.specs.code.Notes.{Fair, noteIn, readIn, endIn, weightIn, mostAgreed, Long}
+use Rattle.limits.specs.Limits.{mostRows, mostTableCells}
 
 abbrev pub choiceOf : ℕ → ℕ → Choice
 choiceOf c i = record { cost = c; place = i }
@@ -89,7 +90,7 @@ pub record Pair (kept : List ℕ) (first agreed figure : ℕ) : Type 0 where
   pub known : (j : ℕ) → first ≤ j → j < last → readIn kept first j ≡ costs first j
   pub small : (j : ℕ) → first ≤ j → j ≤ last → costs first j ≤ 65535
   pub few : (agreed ≤ mostAgreed) × (figure ≤ 15)
-  pub rows : (first ≤ last) × (last < 64)
+  pub rows : (first ≤ last) × (last < mostRows)
   pub long : Long kept
 
 -- the note of an open place that may be chosen gives its price
@@ -109,7 +110,7 @@ pub record Range (marks kept notes : List ℕ) (range : Row) (base : Base) (foun
   pub weight : ℕ
   pub shown : Shown (noteIn notes) (endIn marks) (weightIn marks) (PricedOf pair) (range .end) opens (range .start) (found .place) weight
   pub so-far : found .best ≡ bestTo (pair .ok) (pair .prices) (found .place)
-  pub within : (range .end ≤ 2050) × (found .place ≤ range .start)
+  pub within : (range .end ≤ mostTableCells) × (found .place ≤ range .start)
 
 -- all of them, where those inside named columns alone may be chosen
 pub record Inside (marks kept notes : List ℕ) (row : Row) (base : Base) (named : ℕ) : Type 0 where
@@ -119,7 +120,7 @@ pub record Inside (marks kept notes : List ℕ) (row : Row) (base : Base) (named
   pub weight : ℕ
   pub shown : ShownIn (noteIn notes) (endIn marks) (weightIn marks) (PricedOf pair) (λ (p : ℕ). pair .ok p ≡ false) (row .end) opens
       (flagsIn width named) (row .start) 0 weight
-  pub within : row .end ≤ 2050
+  pub within : row .end ≤ mostTableCells
 
 -- a named column, where those before it are looked at: `ok` are the open places inside named columns
 pub record Column (marks notes : List ℕ) (start end : ℕ) (part : Part) : Type 0 where
@@ -130,7 +131,7 @@ pub record Column (marks notes : List ℕ) (start end : ℕ) (part : Part) : Typ
   pub shown : Shown (noteIn notes) (endIn marks) (weightIn marks) (λ (p : ℕ) (s : Note). ok p ≡ true) end opens start passed weight
   pub so-far : part .only ≡ someTo ok passed
   pub light : part .agreed ≤ 7 * start
-  pub within : end ≤ 2050
+  pub within : end ≤ mostTableCells
 
 -- all columns
 pub record Columns (marks notes : List ℕ) (start end named : ℕ) : Type 0 where
@@ -140,7 +141,7 @@ pub record Columns (marks notes : List ℕ) (start end named : ℕ) : Type 0 whe
   pub weight : ℕ
   pub shown : ShownIn (noteIn notes) (endIn marks) (weightIn marks) (λ (p : ℕ) (s : Note). ok p ≡ true) (λ (p : ℕ). ok p ≡ false)
       end opens (flagsIn width named) start 0 weight
-  pub within : end ≤ 2050
+  pub within : end ≤ mostTableCells
 
 -- the open places of a pair, by which of them may be chosen: all, or those inside named columns, of which there is one
 pub record Sorted (marks kept notes : List ℕ) (row : Row) (part : Part) (asked : Asked) : Type 0 where
@@ -153,4 +154,4 @@ pub record Sorted (marks kept notes : List ℕ) (row : Row) (part : Part) (asked
       (flagsIn width (asked .named)) (row .start) 0 weight
   pub some : 0 < opens → (j : ℕ) × (j < opens) × (pair .ok j ≡ true)
   pub cheap : (j : ℕ) → j < opens → pair .ok j ≡ true → pair .prices j ≤ 4300000
-  pub within : row .end ≤ 2050
+  pub within : row .end ≤ mostTableCells

@@ -9,6 +9,7 @@ use Rattle.cell.specs.Cell.{arity, isVar}
 use Rattle.table.specs.All.{All}
 use Rattle.plan.specs.Notes.{below, repeats, cellIn}
 use Rattle.plannotes.specs.code.Places.{Open, Spot}
+use Rattle.limits.specs.Limits.{mostBranches}
 
 -- The number of a branch that is met, and of one that has ended.
 abbrev pub partOf : (cell row next slot : ℕ) → ℕ
@@ -41,18 +42,18 @@ Parts ws = All Part ws
 pub record Ending (notes : List ℕ) (from to past : ℕ) : Type 0 where
   pub up : from ≤ to
   pub on : to ≤ past
-  pub few : past ≤ 2048
+  pub few : past ≤ mostBranches
   pub parts : Parts (slice from to notes)
   pub low : All (λ (w : ℕ). Low (cellIn w)) (slice from to notes)
-  pub size : length notes ≡ 2048
+  pub size : length notes ≡ mostBranches
 
 -- a branch is met at a cell of the plan
 pub record Met (plan links notes : List ℕ) (i place made free row : ℕ) : Type 0 where
   pub here : place < length plan
   pub spot : Spot links i (arity (getD plan place 0)) free
-  pub few : made < 2048
+  pub few : made < mostBranches
   pub first : row < 64
-  pub size : length notes ≡ 2048
+  pub size : length notes ≡ mostBranches
 
 -- what it leaves
 pub record Begun {plan links notes : List ℕ} {i place made free row : ℕ} (w : Met plan links notes i place made free row) (links′ notes′ : List ℕ)

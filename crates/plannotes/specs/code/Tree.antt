@@ -16,6 +16,7 @@ use Rattle.plan.specs.code.Fits.{Fits}
 use Rattle.plannotes.specs.code.Places.{Open}
 use Rattle.plannotes.specs.code.Steps.{finished, Low, Parts}
 use Rattle.plannotes.specs.declared.tree.Past.{Past}
+use Rattle.limits.specs.Limits.{mostBranches, mostPlanCells}
 
 -- a state at a cell of the plan. Its rows have at most `left` cells each, so that there are slots enough below it
 pub record Ready (plan links noted : List ℕ) (at k made free row : ℕ) : Type 0 where
@@ -23,7 +24,7 @@ pub record Ready (plan links noted : List ℕ) (at k made free row : ℕ) : Type
   pub tree : Plan k rows
   pub behind : List ℕ
   pub cells : drop at plan ≡ write tree ++ behind
-  pub size : length plan ≤ 6082
+  pub size : length plan ≤ mostPlanCells
   pub some : 0 < length rows
   pub few : row + length rows ≤ 64
   pub left : ℕ
@@ -34,8 +35,8 @@ pub record Ready (plan links noted : List ℕ) (at k made free row : ℕ) : Type
   pub slots : List ℕ
   pub number : length slots ≡ k
   pub opens : Open links free slots
-  pub room : made + branches tree ≤ 2048
-  pub array : length noted ≡ 2048
+  pub room : made + branches tree ≤ mostBranches
+  pub array : length noted ≡ mostBranches
 
 -- a branch of a state, at a cell of the plan; the state looks at its open place with index i
 pub record ReadyAt (plan links noted : List ℕ) (i place k made free row : ℕ) : Type 0 where
@@ -43,7 +44,7 @@ pub record ReadyAt (plan links noted : List ℕ) (i place k made free row : ℕ)
   pub tree : Plan (arity (group .cell) + (k - 1)) (group .rows)
   pub behind : List ℕ
   pub cells : drop place plan ≡ group .cell ∷ (write tree ++ behind)
-  pub size : length plan ≤ 6082
+  pub size : length plan ≤ mostPlanCells
   pub some : 0 < length (group .rows)
   pub few : row + length (group .rows) ≤ 64
   pub left : ℕ
@@ -56,8 +57,8 @@ pub record ReadyAt (plan links noted : List ℕ) (i place k made free row : ℕ)
   pub slots : List ℕ
   pub number : length slots ≡ k
   pub opens : Open links free slots
-  pub room : made + suc (branches tree) ≤ 2048
-  pub array : length noted ≡ 2048
+  pub room : made + suc (branches tree) ≤ mostBranches
+  pub array : length noted ≡ mostBranches
 
 -- what is noted of it and of all below it
 abbrev pub notesAt : {k : ℕ} {rows : List (List ℕ)} → Plan k rows → (cell i : ℕ) (slots : List ℕ) (free row : ℕ) → List Branch
@@ -118,7 +119,7 @@ pub record Accepted (plan noted : List ℕ) (width : ℕ) : Type 0 where
   pub is : IsTable table width rows
   pub tree : Plan width rows
   pub cells : plan ≡ write tree
-  pub array : length noted ≡ 2048
+  pub array : length noted ≡ mostBranches
 
 abbrev pub AllNoted : {plan noted : List ℕ} {width : ℕ} → Accepted plan noted width → List ℕ → Type 0
 AllNoted {noted = noted} {width = width} w noted′ = noted′ ≡ sets noted 0 (map word (notes (w .tree) (upFrom 1 width) 32 0))

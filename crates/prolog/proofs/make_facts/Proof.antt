@@ -12,13 +12,14 @@ use Rattle.prolog.proofs.make_facts.Tie as tie
 use Rattle.prolog.proofs.make_facts.Reads as reads
 use Rattle.prolog.proofs.make_facts.Lts as lts
 use Rattle.texttable.proofs.read_words.Reads as read-words-reads
+use Rattle.limits.specs.Limits.{mostTableCells}
 
 -- what is said of the text's words
 abbrev start : tie.After-read-words → tie.Start
 start w = w .before .before .before .before
 
 abbrev Said : tie.After-read-words → TextWords → Type 0
-Said w = WordsAre (start w .args .text .now) 2050 (start w .args .list .now) (start w .args .made .now) (w .read-words .last .1 .1 .0)
+Said w = WordsAre (start w .args .text .now) mostTableCells (start w .args .list .now) (start w .args .made .now) (w .read-words .last .1 .1 .0)
     (w .read-words .last .1 .1 .1 .0)
 
 known : (c : tie.After-c) {k : NamesRead} → c .c .given .0 .1 .0 ≡ k → Said (c .before .before) (text-words.Facts (c .c .given .0 .0) k)
@@ -26,7 +27,7 @@ known c e =
     subst (λ (k : NamesRead). Said (c .before .before) (text-words.Facts (c .c .given .0 .0) k)) e
     (subst (Said (c .before .before)) (c .c .given .1) (c .before .before .read-words .ensures))
 
-listed : (k : tie.After-known) → Listed (start (k .before .before .before .before .before) .args .text .now) 2050
+listed : (k : tie.After-known) → Listed (start (k .before .before .before .before .before) .args .text .now) mostTableCells
     (k .before .before .before .c .given .0 .0) (start (k .before .before .before .before .before) .args .list .now)
     (start (k .before .before .before .before .before) .args .made .now)
     (k .before .before .before .before .before .read-words .last .1 .1 .0)

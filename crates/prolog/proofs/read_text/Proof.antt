@@ -18,13 +18,14 @@ use Rattle.prolog.proofs.give.Reads as give-reads
 use Rattle.prolog.proofs.no_room.Reads as no-room-reads
 use Rattle.prolog.proofs.over.Reads as over-reads
 use Rattle.texttable.proofs.read_words.Reads as read-words-reads
+use Rattle.limits.specs.Limits.{mostNames, mostTableCells}
 
 -- what is said of the text's words
 abbrev start : tie.After-read-words → tie.Start
 start w = w .before .before .before .before .before .before
 
 abbrev Said : tie.After-read-words → TextWords → Type 0
-Said w = WordsAre (start w .args .text .now) (length (start w .args .cells .now)) (replicate 2048 0) (replicate 2050 0) (w .read-words .last .1 .1 .0)
+Said w = WordsAre (start w .args .text .now) (length (start w .args .cells .now)) (replicate mostNames 0) (replicate mostTableCells 0) (w .read-words .last .1 .1 .0)
     (w .read-words .last .1 .1 .1 .0)
 
 known : (c : tie.After-c) {k : NamesRead} → c .c .given .0 .1 .0 ≡ k → Said (c .before .before) (text-words.Facts (c .c .given .0 .0) k)
@@ -34,7 +35,7 @@ known c e =
 
 listed : (k : tie.After-known) → Listed (start (k .before .before .before .before .before) .args .text .now)
     (length (start (k .before .before .before .before .before) .args .cells .now)) (k .before .before .before .c .given .0 .0)
-    (replicate 2048 0) (replicate 2050 0)
+    (replicate mostNames 0) (replicate mostTableCells 0)
     (k .before .before .before .before .before .read-words .last .1 .1 .0)
     (k .before .before .before .before .before .read-words .last .1 .1 .1 .0) (k .known .given .0 .0)
 listed k = listed-are (known (k .before .before .before) (k .known .given .1))

@@ -7,6 +7,7 @@ use Rattle.term.proofs.Lists.{slice-take}
 use borrow.Author.Needs.{needs}
 use Rattle.record.proofs.table_of.Statement.{statement}
 use Rattle.record.proofs.table_of.Tie as tie
+use Rattle.limits.specs.Limits.{mostTableCells}
 
 shared-slice-read-wide : tie.Need-shared-slice-read-wide
 shared-slice-read-wide c = search needs
@@ -27,8 +28,8 @@ returns : tie.Need-returns
 returns c =
     let n = c .before .before .wide in
     let r = c .before .before .before .before .before .args .rec .now in
-    let h : 2050 < getD r 0 0 = omega (arith, n .ensures, c .before .if1 .taken) in
-    rw (lt-ltb 2050 (getD r 0 0) h)
+    let h : mostTableCells < getD r 0 0 = omega (arith, n .ensures, c .before .if1 .taken) in
+    rw (lt-ltb mostTableCells (getD r 0 0) h)
 
 add-end : tie.Need-add-end
 add-end c = search needs
@@ -46,9 +47,9 @@ returns-2 : tie.Need-returns-2
 returns-2 c =
     let n = c .before .before .wide in
     let r = c .before .before .before .before .before .args .rec .now in
-    let h : getD r 0 0 ≤ 2050 = omega (arith, n .ensures, c .before .if1 .left) in
+    let h : getD r 0 0 ≤ mostTableCells = omega (arith, n .ensures, c .before .if1 .left) in
     let e : 2 + n .result - 2 ≡ getD r 0 0 = omega (arith, n .ensures) in
-    rw (le-ltb 2050 (getD r 0 0) h, e) (sym (slice-take 2 (getD r 0 0) r))
+    rw (le-ltb mostTableCells (getD r 0 0) h, e) (sym (slice-take 2 (getD r 0 0) r))
 
 pub table-of-spec : {M : Type 1} → statement M
 table-of-spec =

@@ -4,10 +4,11 @@ use mathlib.Core.List.{List, _∷_, _++_}
 use lib.ListN.{length, take, drop, replicate}
 use Rattle.refusal.specs.Read.{Read, read, andThen}
 use Rattle.table.specs.Table.{Table, table, others, rowOf}
+use Rattle.limits.specs.Limits.{mostTableCells}
 
 -- a table's cells in the room that a record has for them, with 0 behind
 abbrev pub inRoom : List ℕ → List ℕ
-inRoom cells = cells ++ replicate (2050 - length cells) 0
+inRoom cells = cells ++ replicate (mostTableCells - length cells) 0
 
 -- rows with one put at a place: instead of the row that is there, or after the last
 abbrev pub withRow : List (List ℕ) → ℕ → List ℕ → List (List ℕ)

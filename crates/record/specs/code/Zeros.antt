@@ -5,6 +5,7 @@ use mathlib.Core.Logic.{_≢_}
 use mathlib.Core.List.{List}
 use lib.ListN.{length}
 use Rattle.least.specs.Entries.{wholeIn, costIn, placeIn, SameAt}
+use Rattle.limits.specs.Limits.{mostRows}
 
 -- what is kept for a pair is 0
 pub record ZeroAt (first last : ℕ) (kept : List ℕ) : Type 0 where
@@ -15,5 +16,5 @@ pub record ZeroAt (first last : ℕ) (kept : List ℕ) : Type 0 where
 -- 0 at the pairs that end at a row, and all others as they were
 pub record Cleared (last : ℕ) (old new : List ℕ) : Type 0 where
   pub size : length new ≡ length old
-  pub column : (first : ℕ) → first < 64 → ZeroAt first last new
-  pub others : (first j : ℕ) → first < 64 → j < 64 → j ≢ last → SameAt first j old new
+  pub column : (first : ℕ) → first < mostRows → ZeroAt first last new
+  pub others : (first j : ℕ) → first < mostRows → j < mostRows → j ≢ last → SameAt first j old new

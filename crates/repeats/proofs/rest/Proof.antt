@@ -13,11 +13,12 @@ use Rattle.alone.proofs.BeginLaws.{begins-under}
 use Rattle.alone.proofs.RestLaws.{rest-ends, rest-safe, rest-on, rest-off}
 use Rattle.repeats.proofs.rest.Statement.{statement}
 use Rattle.repeats.proofs.rest.Tie as tie
+use Rattle.limits.specs.Limits.{mostBranches}
 
 abbrev Inv-loop : tie.InvT-loop
 Inv-loop notes from to rep sib bound args until refs own₀ kids₀ cls₀ terms₀ keep₀ end i₀ own kids cls terms keep i =
     ((b : Begins notes rep sib bound args until refs from to)
-    → Under (b .R) (b .x) (skeletonsOf (b .chain) (replicate (b .k) hole)) notes sib own kids cls terms keep from i to) × (from ≤ i) × (i - from ≤ 2048)
+    → Under (b .R) (b .x) (skeletonsOf (b .chain) (replicate (b .k) hole)) notes sib own kids cls terms keep from i to) × (from ≤ i) × (i - from ≤ mostBranches)
 
 abbrev μ-loop : tie.MeasureT-loop
 μ-loop notes from to rep sib bound args until refs own₀ kids₀ cls₀ terms₀ keep₀ end i₀ own kids cls terms keep i = end - i

@@ -9,12 +9,13 @@ use Rattle.instance.specs.code.Passes.{RepliesAt, Held, Pass, Passed}
 use Rattle.replies.specs.declared.pass.Done.{Done}
 use Rattle.replies.specs.declared.pass.Sum.{Sum}
 use Rattle.replies.specs.declared.pass.Sum.the-variants.{Cells, Big}
+use Rattle.limits.specs.Limits.{mostRows}
 
 -- the hits of an accepted table, with their replies
 pub record Passing (table starts : List ℕ) (rows : ℕ) (goal hits : List ℕ) (all : List (List ℕ)) : Type 0 where
   pub held : Held table starts rows
   pub below : All (λ (r : ℕ). r < rows) hits
-  pub few : length hits ≤ 64
+  pub few : length hits ≤ mostRows
   pub at : RepliesAt (rowIn (tableOf table)) goal hits all
 
 -- so many of the hits are done; the numbers are in bounds whatever was given

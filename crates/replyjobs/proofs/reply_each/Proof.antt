@@ -76,13 +76,14 @@ use Rattle.replyjobs.proofs.reply_each as f
 use Rattle.replyjobs.proofs.reply_each.Statement as stated
 use Rattle.replyjobs.proofs.reply_each.Code as code
 use Rattle.replyjobs.proofs.reply_each.Code.Mir as body
+use Rattle.limits.specs.Limits.{mostBranches}
 
 abbrev R : RattleType
 R = T.the-row
 
 -- what is noted of the plan's branches, where the rows start, and the check's answer
 abbrev E : RattleType
-E = Array u64 2048
+E = Array u64 mostBranches
 
 abbrev S : RattleType
 S = Array usize 64

@@ -92,6 +92,7 @@ use Rattle.replyjobs.proofs.reply_jobs as f
 use Rattle.replyjobs.proofs.reply_jobs.Statement as stated
 use Rattle.replyjobs.proofs.reply_jobs.Code as code
 use Rattle.replyjobs.proofs.reply_jobs.Code.Mir as body
+use Rattle.limits.specs.Limits.{mostBranches}
 
 abbrev R : RattleType
 R = T.the-row
@@ -104,7 +105,7 @@ Ae = X.the-row
 
 -- the array of numbers, and that of the starts
 abbrev E : RattleType
-E = Array u64 2048
+E = Array u64 mostBranches
 
 abbrev S : RattleType
 S = Array u64 64
@@ -157,7 +158,7 @@ abbrev arrTy : ℕ → Ty
 arrTy k = tyArray (tyInt w64) k
 
 abbrev lentTy : Ty
-lentTy = tyRef erased mut (arrTy 2048)
+lentTy = tyRef erased mut (arrTy mostBranches)
 
 abbrev readTy : ℕ → Ty
 readTy k = tyRef erased imm (arrTy k)
@@ -459,8 +460,8 @@ module _ {M : Type 1} (𝓤 : URA M) (H : Heap 𝓤) (A : Atoms 𝓤) (W : Given
     module _ (l₀ l₁ l₂ l₃ l₄ l₅ l₆ l₇ l₈ l₉ l₁₀ l₁₁ l₁₂ l₁₃ l₁₄ l₁₅ l₁₆ l₁₇ l₁₈ : ℕ) where
       abbrev En : Env 𝓤 H
       En =
-          (X′.mir, l₀) ∷ (inTy 0, l₁) ∷ (inTy 1, l₂) ∷ (inTy 2, l₃) ∷ (jobsTy, l₄) ∷ (roomTy, l₅) ∷ (arrTy 2048, l₆) ∷ (N′.mir, l₇) ∷ (arrTy 64, l₈) ∷
-          (lentTy, l₉) ∷ (arrTy 64, l₁₀) ∷ (tyBool, l₁₁) ∷ (tyUnit, l₁₂) ∷ (readTy 2048, l₁₃) ∷ (readTy 64, l₁₄) ∷ (againJ, l₁₅) ∷
+          (X′.mir, l₀) ∷ (inTy 0, l₁) ∷ (inTy 1, l₂) ∷ (inTy 2, l₃) ∷ (jobsTy, l₄) ∷ (roomTy, l₅) ∷ (arrTy mostBranches, l₆) ∷ (N′.mir, l₇) ∷ (arrTy 64, l₈) ∷
+          (lentTy, l₉) ∷ (arrTy 64, l₁₀) ∷ (tyBool, l₁₁) ∷ (tyUnit, l₁₂) ∷ (readTy mostBranches, l₁₃) ∷ (readTy 64, l₁₄) ∷ (againJ, l₁₅) ∷
           (sliceTy againJ, l₁₆) ∷ (againR, l₁₇) ∷ (sliceTy againR, l₁₈) ∷ []
 
       -- the locals, from the last to the first, with those at 6, 7, 8 and 11 given
@@ -468,9 +469,9 @@ module _ {M : Type 1} (𝓤 : URA M) (H : Heap 𝓤) (A : Atoms 𝓤) (W : Given
       Locals i₆ i₇ i₈ i₁₁ =
           ‵ (froom (sliceTy againR) l₁₈ 0) ∷ ‵ (fdies (sliceTy againR) l₁₈) ∷ ‵ (froom againR l₁₇ 0) ∷ ‵ (fdies againR l₁₇) ∷ ‵ (froom (sliceTy againJ) l₁₆ 0) ∷
           ‵ (fdies (sliceTy againJ) l₁₆) ∷ ‵ (froom againJ l₁₅ 0) ∷ ‵ (fdies againJ l₁₅) ∷ ‵ (froom (readTy 64) l₁₄ 0) ∷ ‵ (fdies (readTy 64) l₁₄) ∷
-          ‵ (froom (readTy 2048) l₁₃ 0) ∷ ‵ (fdies (readTy 2048) l₁₃) ∷ ‵ (froom tyUnit l₁₂ 0) ∷ ‵ (fdies tyUnit l₁₂) ∷ i₁₁ ∷ ‵ (fdies tyBool l₁₁) ∷
+          ‵ (froom (readTy mostBranches) l₁₃ 0) ∷ ‵ (fdies (readTy mostBranches) l₁₃) ∷ ‵ (froom tyUnit l₁₂ 0) ∷ ‵ (fdies tyUnit l₁₂) ∷ i₁₁ ∷ ‵ (fdies tyBool l₁₁) ∷
           ‵ (froom (arrTy 64) l₁₀ 0) ∷ ‵ (fdies (arrTy 64) l₁₀) ∷ ‵ (froom lentTy l₉ 0) ∷ ‵ (fdies lentTy l₉) ∷ i₈ ∷ ‵ (fdies (arrTy 64) l₈) ∷ i₇ ∷
-          ‵ (fdies N′.mir l₇) ∷ i₆ ∷ ‵ (fdies (arrTy 2048) l₆) ∷ ‵ (fat fullShare roomTy l₅ 0 z) ∷ ‵ (fdies roomTy l₅) ∷
+          ‵ (fdies N′.mir l₇) ∷ i₆ ∷ ‵ (fdies (arrTy mostBranches) l₆) ∷ ‵ (fat fullShare roomTy l₅ 0 z) ∷ ‵ (fdies roomTy l₅) ∷
           ‵ (fat fullShare jobsTy l₄ 0 s) ∷ ‵ (fdies jobsTy l₄) ∷ ‵ (fat fullShare (inTy 2) l₃ 0 (sv cs)) ∷ ‵ (fdies (inTy 2) l₃) ∷
           ‵ (fat fullShare (inTy 1) l₂ 0 (sv ps)) ∷ ‵ (fdies (inTy 1) l₂) ∷ ‵ (fat fullShare (inTy 0) l₁ 0 (sv ts)) ∷ ‵ (fdies (inTy 0) l₁) ∷
           ‵ (froom X′.mir l₀ 0) ∷ ‵ (fdies X′.mir l₀) ∷ []
@@ -481,12 +482,12 @@ module _ {M : Type 1} (𝓤 : URA M) (H : Heap 𝓤) (A : Atoms 𝓤) (W : Given
           ‵ Toks ∷ ‵ (flft κ′ q′) ∷ ‵ (flft κ″ q″) ∷ ‵ (finally R γ zs) ∷ ‵ (finally u32 δ ws) ∷ ‵ (Q .own r (u ∷ [])) ∷ ‵ (fat fullShare N′.mir l₇ 0 u) ∷
           ‵ (froom X′.mir l₀ 0) ∷ ‵ (fat fullShare (inTy 0) l₁ 0 (sv ts)) ∷ ‵ (fat fullShare (inTy 1) l₂ 0 (sv ps)) ∷
           ‵ (fat fullShare (inTy 2) l₃ 0 (sv cs)) ∷ ‵ (fat fullShare jobsTy l₄ 0 s) ∷ ‵ (fat fullShare roomTy l₅ 0 z) ∷
-          ‵ (fat fullShare (arrTy 2048) l₆ 0 ev) ∷ ‵ (fat fullShare (arrTy 64) l₈ 0 sw) ∷ ‵ (froom lentTy l₉ 0) ∷ ‵ (froom (arrTy 64) l₁₀ 0) ∷
-          ‵ (froom tyBool l₁₁ 0) ∷ ‵ (froom tyUnit l₁₂ 0) ∷ ‵ (froom (readTy 2048) l₁₃ 0) ∷ ‵ (froom (readTy 64) l₁₄ 0) ∷ ‵ (froom againJ l₁₅ 0) ∷
+          ‵ (fat fullShare (arrTy mostBranches) l₆ 0 ev) ∷ ‵ (fat fullShare (arrTy 64) l₈ 0 sw) ∷ ‵ (froom lentTy l₉ 0) ∷ ‵ (froom (arrTy 64) l₁₀ 0) ∷
+          ‵ (froom tyBool l₁₁ 0) ∷ ‵ (froom tyUnit l₁₂ 0) ∷ ‵ (froom (readTy mostBranches) l₁₃ 0) ∷ ‵ (froom (readTy 64) l₁₄ 0) ∷ ‵ (froom againJ l₁₅ 0) ∷
           ‵ (froom (sliceTy againJ) l₁₆ 0) ∷ ‵ (froom againR l₁₇ 0) ∷ ‵ (froom (sliceTy againR) l₁₈ 0) ∷ ‵ (fdies X′.mir l₀) ∷ ‵ (fdies (inTy 0) l₁) ∷
-          ‵ (fdies (inTy 1) l₂) ∷ ‵ (fdies (inTy 2) l₃) ∷ ‵ (fdies jobsTy l₄) ∷ ‵ (fdies roomTy l₅) ∷ ‵ (fdies (arrTy 2048) l₆) ∷
+          ‵ (fdies (inTy 1) l₂) ∷ ‵ (fdies (inTy 2) l₃) ∷ ‵ (fdies jobsTy l₄) ∷ ‵ (fdies roomTy l₅) ∷ ‵ (fdies (arrTy mostBranches) l₆) ∷
           ‵ (fdies N′.mir l₇) ∷ ‵ (fdies (arrTy 64) l₈) ∷ ‵ (fdies lentTy l₉) ∷ ‵ (fdies (arrTy 64) l₁₀) ∷ ‵ (fdies tyBool l₁₁) ∷
-          ‵ (fdies tyUnit l₁₂) ∷ ‵ (fdies (readTy 2048) l₁₃) ∷ ‵ (fdies (readTy 64) l₁₄) ∷ ‵ (fdies againJ l₁₅) ∷ ‵ (fdies (sliceTy againJ) l₁₆) ∷
+          ‵ (fdies tyUnit l₁₂) ∷ ‵ (fdies (readTy mostBranches) l₁₃) ∷ ‵ (fdies (readTy 64) l₁₄) ∷ ‵ (fdies againJ l₁₅) ∷ ‵ (fdies (sliceTy againJ) l₁₆) ∷
           ‵ (fdies againR l₁₇) ∷ ‵ (fdies (sliceTy againR) l₁₈) ∷ []
 
       ends : (r : Noted) (u ev sw : Val) (zs : List ReplyJob) (ws : List ℕ) → Is Q r (u ∷ []) → ((a : PlanAnswer) → a ≡ r .answer → Says zs ws a)
@@ -512,7 +513,7 @@ module _ {M : Type 1} (𝓤 : URA M) (H : Heap 𝓤) (A : Atoms 𝓤) (W : Given
       abbrev Branch : List ℕ → List ℕ → Noted → Val → Val → Bool → List (Item 𝓤)
       Branch es st r u sw t =
           ‵ (Q .own r (u ∷ [])) ∷ ‵ (E .own es (evals es)) ∷ ‵ (S .own st (sw ∷ [])) ∷ ‵ Toks ∷ ‵ Ins ∷ ‵ Jobs ∷ ‵ Rm ∷ ‵ (flft κ′ q′) ∷ ‵ (flft κ″ q″)
-          ∷ Locals (‵ (fat fullShare (arrTy 2048) l₆ 0 (only (evals es)))) (‵ (fat fullShare N′.mir l₇ 0 u)) (‵ (fat fullShare (arrTy 64) l₈ 0 sw))
+          ∷ Locals (‵ (fat fullShare (arrTy mostBranches) l₆ 0 (only (evals es)))) (‵ (fat fullShare N′.mir l₇ 0 u)) (‵ (fat fullShare (arrTy 64) l₈ 0 sw))
           (‵ (fat fullShare tyBool l₁₁ 0 (vbool t)))
 
       arms : Room R (length ys) → Room u32 (length rs) → {es₀ : List ℕ} (es st : List ℕ) (r : Noted) (u sw : Val) (t : Bool) → Is Q r (u ∷ [])
@@ -532,7 +533,7 @@ module _ {M : Type 1} (𝓤 : URA M) (H : Heap 𝓤) (A : Atoms 𝓤) (W : Given
           (and-then ! (load ! (from ! (fld ! refl (stop !))) (look-in ! 35 (sub ! 1 refl (whole !)))) (no-more !)))) (from ! (stop !))
           (init ! 9 refl (tt, (tt, (record { fits = room′ .0 }, tt)))) $
           -- the arrays are lent for lifetimes of the call
-          move ! (33 ∷ 1 ∷ []) $ use2 W (‵ (partAt E fullShare es l₆ 0)) (to-part 𝓤 H A W 2048 l₆ es (only (evals es))) $ lft-new ! tt (λ α.
+          move ! (33 ∷ 1 ∷ []) $ use2 W (‵ (partAt E fullShare es l₆ 0)) (to-part 𝓤 H A W mostBranches l₆ es (only (evals es))) $ lft-new ! tt (λ α.
           move ! (1 ∷ []) $
           use1 W (later (some (λ (γ₁ : GName). ‵ (Ns l₆ α γ₁ es) ⊛ ‵ (flent (α ∷ []) (partAt E fullShare es l₆ 0)))))
           (lends-shr 𝓤 H A W E (named 0) (α ∷ []) fullShare es l₆ 0) $
@@ -568,7 +569,7 @@ module _ {M : Type 1} (𝓤 : URA M) (H : Heap 𝓤) (A : Atoms 𝓤) (W : Given
           move ! (1 ∷ []) $ split ! $ move ! (1 ∷ []) $ split ! $ move ! (1 ∷ []) $ split ! $
           -- the arrays are taken back
           lft-end ! tt $ move ! (0 ∷ 14 ∷ []) $ lent-back ! tt $
-          use1 W (‵ (fat fullShare (arrTy 2048) l₆ 0 (only (evals es))) ⊛ ‵ (E .own es (evals es))) (of-part 𝓤 H A W 2048 l₆ es) $ split ! $ move ! (2 ∷ []) $
+          use1 W (‵ (fat fullShare (arrTy mostBranches) l₆ 0 (only (evals es))) ⊛ ‵ (E .own es (evals es))) (of-part 𝓤 H A W mostBranches l₆ es) $ split ! $ move ! (2 ∷ []) $
           lft-end ! tt $ move ! (0 ∷ 14 ∷ []) $ lent-back ! tt $
           use1 W (‵ (fat fullShare (arrTy 64) l₈ 0 (only (evals st))) ⊛ ‵ (S .own st (evals st))) (of-part 𝓤 H A W 64 l₈ st) $ split ! $
           land-last ! (from ! (stop !)) (init ! 28 refl (subst (λ (k : Val). Holds (hasTy tyUnit k) × WT k) (sym (ap only is-unit)) (tt, tt))) $
@@ -592,7 +593,7 @@ module _ {M : Type 1} (𝓤 : URA M) (H : Heap 𝓤) (A : Atoms 𝓤) (W : Given
       decides : Room R (length ys) → Room u32 (length rs) → {es₀ : List ℕ} (es st : List ℕ) (r : Noted) (u sw : Val) → Is Q r (u ∷ [])
           → Handed (ts .now) (ps .now) es₀ es r → st ≡ startsIn (tableOf (ts .now))
           → Sq W (‵ (E .own es (evals es)) ∷ ‵ (S .own st (sw ∷ [])) ∷ ‵ Toks ∷ ‵ Ins ∷ ‵ (Q .own r (u ∷ [])) ∷ ‵ Jobs ∷ ‵ Rm ∷ ‵ (flft κ′ q′) ∷
-          ‵ (flft κ″ q″) ∷ Locals (‵ (fat fullShare (arrTy 2048) l₆ 0 (only (evals es)))) (‵ (fat fullShare N′.mir l₇ 0 u))
+          ‵ (flft κ″ q″) ∷ Locals (‵ (fat fullShare (arrTy mostBranches) l₆ 0 (only (evals es)))) (‵ (fat fullShare N′.mir l₇ 0 u))
           (‵ (fat fullShare (arrTy 64) l₈ 0 sw)) (‵ (froom tyBool l₁₁ 0))) (runs C Λ En body.t-6 (atRet En Kf))
       decides room room′ es st r u sw is is-v is-st =
           move ! (4 ∷ []) $ use1 W (raw (Acc 𝓤 H A mem run .pre (to-acc r u)) ⊛ ‵ (Q .own r (u ∷ []))) (asked-acc r u is) $ split ! $
@@ -609,7 +610,7 @@ module _ {M : Type 1} (𝓤 : URA M) (H : Heap 𝓤) (A : Atoms 𝓤) (W : Given
       reads : Room R (length ys) → Room u32 (length rs) → {es₀ : List ℕ} (es : List ℕ) (r : Noted) (u : Val) → Is Q r (u ∷ [])
           → Handed (ts .now) (ps .now) es₀ es r
           → Sq W (‵ (E .own es (evals es)) ∷ ‵ Toks ∷ ‵ Ins ∷ ‵ (Q .own r (u ∷ [])) ∷ ‵ Jobs ∷ ‵ Rm ∷ ‵ (flft κ′ q′) ∷ ‵ (flft κ″ q″) ∷ Locals
-          (‵ (fat fullShare (arrTy 2048) l₆ 0 (only (evals es)))) (‵ (fat fullShare N′.mir l₇ 0 u)) (‵ (froom (arrTy 64) l₈ 0))
+          (‵ (fat fullShare (arrTy mostBranches) l₆ 0 (only (evals es)))) (‵ (fat fullShare N′.mir l₇ 0 u)) (‵ (froom (arrTy 64) l₈ 0))
           (‵ (froom tyBool l₁₁ 0))) (runs C Λ En body.t-4 (atRet En Kf))
       reads room room′ es r u is is-v =
           move ! (1 ∷ 2 ∷ []) $ use2 W (raw (St 𝓤 H A mem run .pre to-st) ⊛ (‵ (fsep (flft κ₂ q₂) (flft κ₃ q₃)) ⊛ ‵ Ins)) asked-st $ split ! $ move ! (1 ∷ []) $
@@ -629,11 +630,11 @@ module _ {M : Type 1} (𝓤 : URA M) (H : Heap 𝓤) (A : Atoms 𝓤) (W : Given
       -- the array is written: it is lent to the check, and taken back
       lends : Room R (length ys) → Room u32 (length rs) → (es₀ : List ℕ) (ev : Val)
           → Sq W (‵ (E .own es₀ (ev ∷ [])) ∷ ‵ Toks ∷ ‵ Ins ∷ ‵ Jobs ∷ ‵ Rm ∷ ‵ (flft κ′ q′) ∷ ‵ (flft κ″ q″) ∷ Locals
-          (‵ (fat fullShare (arrTy 2048) l₆ 0 ev)) (‵ (froom N′.mir l₇ 0)) (‵ (froom (arrTy 64) l₈ 0)) (‵ (froom tyBool l₁₁ 0)))
+          (‵ (fat fullShare (arrTy mostBranches) l₆ 0 ev)) (‵ (froom N′.mir l₇ 0)) (‵ (froom (arrTy 64) l₈ 0)) (‵ (froom tyBool l₁₁ 0)))
           (runs C Λ En body.t-2 (atRet En Kf))
       lends room room′ es₀ ev =
           assigns ! (addr ! (from ! (stop !))) (from ! (stop !)) (init ! 25 refl (tt, tt)) $ move ! (31 ∷ []) $
-          use2 W (‵ (partAt E fullShare es₀ l₆ 0)) (to-part 𝓤 H A W 2048 l₆ es₀ ev) $ lft-new ! tt (λ α.
+          use2 W (‵ (partAt E fullShare es₀ l₆ 0)) (to-part 𝓤 H A W mostBranches l₆ es₀ ev) $ lft-new ! tt (λ α.
           move ! (1 ∷ []) $
           use1 W (later (some (λ (γ₁ : GName). ‵ (Nm l₆ α γ₁ es₀) ⊛ ‵ (flent (α ∷ []) (Body (lain E) l₆ 0 γ₁)))))
           (lends-ref 𝓤 H A W E (named 2) (α ∷ []) es₀ l₆ 0) $
@@ -657,8 +658,8 @@ module _ {M : Type 1} (𝓤 : URA M) (H : Heap 𝓤) (A : Atoms 𝓤) (W : Given
           -- the array is taken back
           move ! (1 ∷ []) $ lft-end ! tt $ move ! (0 ∷ 8 ∷ 4 ∷ []) $
           use3 W (later (‵ (partAt E fullShare (zs .1 .1 .0) l₆ 0))) (ref-back 𝓤 H A W E (α ∷ []) γ₁ (zs .1 .1 .0) l₆ 0) $ await ! tt $
-          use1 W (‵ (fat fullShare (arrTy 2048) l₆ 0 (only (evals (zs .1 .1 .0)))) ⊛ ‵ (E .own (zs .1 .1 .0) (evals (zs .1 .1 .0))))
-          (of-part 𝓤 H A W 2048 l₆ (zs .1 .1 .0)) $
+          use1 W (‵ (fat fullShare (arrTy mostBranches) l₆ 0 (only (evals (zs .1 .1 .0)))) ⊛ ‵ (E .own (zs .1 .1 .0) (evals (zs .1 .1 .0))))
+          (of-part 𝓤 H A W mostBranches l₆ (zs .1 .1 .0)) $
           split ! $ forget ! 30 refl $
           keep ! (1 ∷ 3 ∷ 2 ∷ 4 ∷ 8 ∷ 9 ∷ 10 ∷ 11 ∷ 12 ∷ 13 ∷ 14 ∷ 15 ∷ 16 ∷ 17 ∷ 18 ∷ 19 ∷ 20 ∷ 21 ∷ 22 ∷ 23 ∷ 24 ∷ 25 ∷ 26 ∷ 27 ∷ 28 ∷ 29 ∷ 30 ∷ 31 ∷ 32 ∷ 33 ∷ 34 ∷ 35 ∷ 0 ∷ 36 ∷ 37 ∷ 38 ∷ 39 ∷ 40 ∷ 41 ∷ 42 ∷ 43 ∷ 44 ∷ 45 ∷ 46 ∷ 47 ∷ 48 ∷ []) $
           reads room room′ (zs .1 .1 .0) r u is is-v)))))))
@@ -687,14 +688,14 @@ module _ {M : Type 1} (𝓤 : URA M) (H : Heap 𝓤) (A : Atoms 𝓤) (W : Given
         move ! (1 ∷ []) $ split ! $ move ! (1 ∷ []) $ split ! $ move ! (1 ∷ []) $ split ! $ move ! (44 ∷ []) $ fsplit ! $ move ! (1 ∷ []) $ fsplit ! $
         move ! (1 ∷ []) $ fsplit ! $ move ! (1 ∷ []) $ fsplit ! $ move ! (1 ∷ []) $ fsplit ! $ move ! (4 ∷ 3 ∷ []) $ fjoin ! $ move ! (4 ∷ []) $ fjoin ! $
         move ! (8 ∷ 7 ∷ []) $ fjoin ! $ move ! (8 ∷ []) $ fjoin ! $ owned ! u64 (Is u64) (uint-makes 𝓤 H A W w64) 0 (vint w64 0 ∷ []) (refl, lit< tt) $
-        use1 W (‵ (E .own (replicate 2048 0) (arrayVal (replicate 2048 (vint w64 0)) ∷ [])))
-        (array-repeat 𝓤 H A W u64 (uint-copy 𝓤 H A W w64) 2048 0 (vint w64 0)) $
-        peeks ! E (Is E) (shows 𝓤 H A E) (replicate 2048 0) (arrayVal (replicate 2048 (vint w64 0)) ∷ []) (λ is.
-        assigns ! (rep ! 2048 (lit ! tt)) (from ! (stop !)) (init ! 33 refl (array-lawful 𝓤 H A W u64 (uint-lawful 𝓤 H A W w64) 2048 .typed
-        (replicate 2048 0) _ is .0)) $
+        use1 W (‵ (E .own (replicate mostBranches 0) (arrayVal (replicate mostBranches (vint w64 0)) ∷ [])))
+        (array-repeat 𝓤 H A W u64 (uint-copy 𝓤 H A W w64) mostBranches 0 (vint w64 0)) $
+        peeks ! E (Is E) (shows 𝓤 H A E) (replicate mostBranches 0) (arrayVal (replicate mostBranches (vint w64 0)) ∷ []) (λ is.
+        assigns ! (rep ! mostBranches (lit ! tt)) (from ! (stop !)) (init ! 33 refl (array-lawful 𝓤 H A W u64 (uint-lawful 𝓤 H A W w64) mostBranches .typed
+        (replicate mostBranches 0) _ is .0)) $
         keep ! (0 ∷ 1 ∷ 2 ∷ 5 ∷ 3 ∷ 8 ∷ 6 ∷ 9 ∷ 10 ∷ 11 ∷ 12 ∷ 13 ∷ 14 ∷ 15 ∷ 16 ∷ 17 ∷ 18 ∷ 19 ∷ 20 ∷ 21 ∷ 22 ∷ 23 ∷ 24 ∷ 25 ∷ 26 ∷ 27 ∷ 28 ∷ 29 ∷ 30 ∷ 31 ∷ 32 ∷ 33 ∷ 34 ∷ 35 ∷ 36 ∷ 37 ∷ 38 ∷ 39 ∷ 40 ∷ 41 ∷ 42 ∷ 43 ∷ 44 ∷ 45 ∷ 46 ∷ []) $
-        lends l₀ l₁ l₂ l₃ l₄ l₅ l₆ l₇ l₈ l₉ l₁₀ l₁₁ l₁₂ l₁₃ l₁₄ l₁₅ l₁₆ l₁₇ l₁₈ room room′ (replicate 2048 0)
-        (arrayVal (replicate 2048 (vint w64 0)))))))))))))))))))))))
+        lends l₀ l₁ l₂ l₃ l₄ l₅ l₆ l₇ l₈ l₉ l₁₀ l₁₁ l₁₂ l₁₃ l₁₄ l₁₅ l₁₆ l₁₇ l₁₈ room room′ (replicate mostBranches 0)
+        (arrayVal (replicate mostBranches (vint w64 0)))))))))))))))))))))))
 
 module _ {M : Type 1} (𝓤 : URA M) (H : Heap 𝓤) (A : Atoms 𝓤) (W : Given 𝓤 H A) (mem : Memory → SProp 𝓤) (run : Routine → Fun 𝓤) where
   reply-jobs-walks : (C : Calls 𝓤 H) (Λ : Loops 𝓤 H) → FmC 𝓤 H (W .laws) C → Triple 𝓤 (C #check-noted) (Check 𝓤 H A mem run)

@@ -8,6 +8,7 @@ use Rattle.salvage.proofs.RowsLaws.{keeps-within, short-size, none-kept
 use borrow.Author.Needs.{needs}
 use Rattle.salvage.proofs.rows_in.Statement.{statement}
 use Rattle.salvage.proofs.rows_in.Tie as tie
+use Rattle.limits.specs.Limits.{mostRowsCells}
 
 slice-read-wide : tie.Need-slice-read-wide
 slice-read-wide c = search needs
@@ -64,12 +65,12 @@ module _ (c : tie.After-keep-rows) where
   count : here .before .before .wide3 .result ≡ getD (cells here) 3 0
   count = here .before .before .wide3 .ensures .0
 
-  within : (c .keep-rows .result .rows ≤ 64) × (c .keep-rows .result .end ≤ 2048)
+  within : (c .keep-rows .result .rows ≤ 64) × (c .keep-rows .result .end ≤ mostRowsCells)
   within =
       let w = keeps-within _ _ (here .least2 .result - 4) (drop 4 (cells here)) (c .keep-rows .ensures) in
       (w .0, most (here .before .least .result) (here .least2 .ensures) (w .1))
     where
-      most : (a : ℕ) {m e : ℕ} → m ≡ min a 2052 → e ≤ m - 4 → e ≤ 2048
+      most : (a : ℕ) {m e : ℕ} → m ≡ min a 2052 → e ≤ m - 4 → e ≤ mostRowsCells
       most a e h = omega arith
 
 returns : tie.Need-returns

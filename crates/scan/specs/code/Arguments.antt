@@ -14,6 +14,7 @@ use Rattle.scan.specs.declared.arguments.Move.{Move}
 use Rattle.scan.specs.declared.arguments.Move.the-variants as move
 use Rattle.scan.specs.declared.arguments.Arguments.{Arguments}
 use Rattle.scan.specs.declared.arguments.Arguments.the-variants as arguments
+use Rattle.limits.specs.Limits.{mostTextBytes}
 
 abbrev pub spot : ℕ → Bool → ℕ → ℕ → ℕ → Spot
 spot at past depth done symbols = record { at = at; past = past; depth = depth; done = done; symbols = symbols }
@@ -23,7 +24,7 @@ doneIn fs = map (λ (f : Frame). f .done) fs
 
 -- the numbers: nothing is out of range
 pub record Ready (t dones : List ℕ) (sp : Spot) : Type 0 where
-  pub text : length t ≤ 65535
+  pub text : length t ≤ mostTextBytes
   pub room : length t < 8 * length dones
   pub place : sp .at ≤ length t
   pub deep : 2 * sp .depth ≤ sp .at

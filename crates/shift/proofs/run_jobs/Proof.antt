@@ -82,6 +82,7 @@ use Rattle.shift.proofs.run_jobs as f
 use Rattle.shift.proofs.run_jobs.Statement as stated
 use Rattle.shift.proofs.run_jobs.Code as code
 use Rattle.shift.proofs.run_jobs.Code.Mir as body
+use Rattle.limits.specs.Limits.{mostBranches}
 
 abbrev R : RattleType
 R = T.the-row
@@ -94,7 +95,7 @@ Ae = X.the-row
 
 -- the array of numbers
 abbrev E : RattleType
-E = Array u64 2048
+E = Array u64 mostBranches
 
 abbrev stayed : Stays (f.ended .signature .params) (f.ended .kept)
 stayed = (stay-none-slice (0 ∷ []) tt (plain (λ _. u32)) yes, (stay-none-slice (1 ∷ []) tt (plain (λ _. u32)) yes, (stay-none-slice (2 ∷ []) tt (plain (λ _. u32)) yes, (gave-slice (3 ∷ []) tt (plain (λ _. R)), tt))))
@@ -119,7 +120,7 @@ abbrev againTy : Ty
 againTy = tyRef erased mut (pointee (R .written))
 
 abbrev arrTy : Ty
-arrTy = tyArray (tyInt w64) 2048
+arrTy = tyArray (tyInt w64) mostBranches
 
 abbrev lentTy : Ty
 lentTy = tyRef erased mut arrTy
@@ -132,7 +133,7 @@ abbrev evals : List ℕ → List Val
 evals = array-vals (uint-vals w64)
 
 etells : Tells E (Is E) evals
-etells = array-tells u64 (uint-vals w64) (uint-tells w64) 2048
+etells = array-tells u64 (uint-vals w64) (uint-tells w64) mostBranches
 
 module _ {M : Type 1} (𝓤 : URA M) (H : Heap 𝓤) (A : Atoms 𝓤) (W : Given 𝓤 H A) (l : ℕ) (es : List ℕ) where
   -- a local array that is written whole is what can be lent
@@ -476,10 +477,10 @@ module _ {M : Type 1} (𝓤 : URA M) (H : Heap 𝓤) (A : Atoms 𝓤) (W : Given
         move ! (3 ∷ 2 ∷ []) $ fjoin ! $ move ! (3 ∷ 0 ∷ []) $ fjoin ! $ move ! (6 ∷ 5 ∷ []) $ fjoin ! $ move ! (6 ∷ 0 ∷ []) $ fjoin ! $ move ! (3 ∷ 5 ∷ []) $ drop ! $ drop ! $
         -- [the tokens; the inputs; jobs; κ′; _12; …]
         owned ! u64 (Is u64) (uint-makes 𝓤 H A W w64) 0 (vint w64 0 ∷ []) (refl, lit< tt) $
-        use1 W (‵ (E .own (replicate 2048 0) (arrayVal (replicate 2048 (vint w64 0)) ∷ []))) (array-repeat 𝓤 H A W u64 (uint-copy 𝓤 H A W w64) 2048 0 (vint w64 0)) $
-        peeks ! E (Is E) (shows 𝓤 H A E) (replicate 2048 0) (arrayVal (replicate 2048 (vint w64 0)) ∷ []) (λ is.
-        assigns ! (rep ! 2048 (lit ! tt)) (from ! (stop !)) (init ! 19 refl (array-lawful 𝓤 H A W u64 (uint-lawful 𝓤 H A W w64) 2048 .typed (replicate 2048 0) _ is .0)) $
-        lends l₀ l₁ l₂ l₃ l₄ l₅ l₆ l₇ l₈ l₉ l₁₀ l₁₁ l₁₂ room (replicate 2048 0) (arrayVal (replicate 2048 (vint w64 0)))))))))))))))))
+        use1 W (‵ (E .own (replicate mostBranches 0) (arrayVal (replicate mostBranches (vint w64 0)) ∷ []))) (array-repeat 𝓤 H A W u64 (uint-copy 𝓤 H A W w64) mostBranches 0 (vint w64 0)) $
+        peeks ! E (Is E) (shows 𝓤 H A E) (replicate mostBranches 0) (arrayVal (replicate mostBranches (vint w64 0)) ∷ []) (λ is.
+        assigns ! (rep ! mostBranches (lit ! tt)) (from ! (stop !)) (init ! 19 refl (array-lawful 𝓤 H A W u64 (uint-lawful 𝓤 H A W w64) mostBranches .typed (replicate mostBranches 0) _ is .0)) $
+        lends l₀ l₁ l₂ l₃ l₄ l₅ l₆ l₇ l₈ l₉ l₁₀ l₁₁ l₁₂ room (replicate mostBranches 0) (arrayVal (replicate mostBranches (vint w64 0)))))))))))))))))
 
 module _ {M : Type 1} (𝓤 : URA M) (H : Heap 𝓤) (A : Atoms 𝓤) (W : Given 𝓤 H A) (mem : Memory → SProp 𝓤) (run : Routine → Fun 𝓤) where
   run-jobs-walks : (C : Calls 𝓤 H) (Λ : Loops 𝓤 H) → FmC 𝓤 H (W .laws) C → Triple 𝓤 (C #check-noted) (Check 𝓤 H A mem run) → Triple 𝓤 (C #accepted) (Acc 𝓤 H A mem run) → Triple 𝓤 (C #answer-of) (Ans 𝓤 H A mem run) → Triple 𝓤 (C #ask-all) (All 𝓤 H A mem run) → Walks 𝓤 H A f.ended stayed (WpFn 𝓤 H C Λ code.function) (f.clauses 𝓤 H A mem run)

@@ -9,13 +9,14 @@ use Rattle.table.proofs.TableLaws.{table-length, table-width, table-cou
 use borrow.Author.Needs.{needs}
 use Rattle.table.proofs.read_table.Statement.{statement}
 use Rattle.table.proofs.read_table.Tie as tie
+use Rattle.limits.specs.Limits.{mostTableCells}
 
 -- the tests that are passed, and those that are made, said of the cells
-fine-length : (c : tie.Else1) → let t = c .before .before .before .args .cells .now in (ltb (length t) 2 || ltb 2050 (length t)) ≡ false
+fine-length : (c : tie.Else1) → let t = c .before .before .before .args .cells .now in (ltb (length t) 2 || ltb mostTableCells (length t)) ≡ false
 fine-length c = sym (c .before .outside .ensures) ∙ c .if1 .left
 
-long : (c : tie.Else1) → let t = c .before .before .before .args .cells .now in (2 ≤ length t) × (length t ≤ 2050)
-long c = inside (length (c .before .before .before .args .cells .now)) 2 2050 (fine-length c)
+long : (c : tie.Else1) → let t = c .before .before .before .args .cells .now in (2 ≤ length t) × (length t ≤ mostTableCells)
+long c = inside (length (c .before .before .before .args .cells .now)) 2 mostTableCells (fine-length c)
 
 width-test : (c : tie.After-outside2) → let w = getD (c .before .before .before .before .before .before .args .cells .now) 0 0 in (ltb w 1 || ltb 8 w) ≡ c .outside2 .result
 width-test c = sym (c .outside2 .ensures ∙ ap (λ (n : ℕ). ltb n 1 || ltb 8 n) (c .before .wide .ensures))

@@ -29,6 +29,7 @@ use Rattle.texttable.specs.declared.cells.Making.{Making}
 use Rattle.texttable.specs.declared.cells.Known.{Known}
 use Rattle.texttable.specs.declared.cells.Made.{Made}
 use Rattle.texttable.specs.declared.cells.Made.the-variants as made
+use Rattle.limits.specs.Limits.{mostNames, mostTextBytes}
 
 abbrev pub making : ℕ → Bool → ℕ → ℕ → Making
 making at past depth count = record { at = at; past = past; depth = depth; count = count }
@@ -108,7 +109,7 @@ pub record Roomy (facts : List Fact) (cells owners : List ℕ) : Type 0 where
   pub few : length (symbolsOf facts) < 65536
 
 pub record Rooms (t : List ℕ) (facts : List Fact) (list words cells owners : List ℕ) : Type 0 where
-  pub text : length t ≤ 65535
+  pub text : length t ≤ mostTextBytes
   pub roomy : Roomy facts cells owners
   pub for-names : length (symbolsOf facts) ≤ length list
   pub for-words : length (symbolsOf facts) ≤ length words
@@ -145,8 +146,8 @@ MadeIs t facts start listed m list links words ways given cells owners (made.Don
 pub record Writes (most : ℕ) (t list cells : List ℕ) : Type 0 where
   pub facts : List Fact
   pub accepted : textOf t ≡ reads facts
-  pub text : length t ≤ 65535
-  pub for-list : length list ≡ 2048
+  pub text : length t ≤ mostTextBytes
+  pub for-list : length list ≡ mostNames
   pub for-cells : length (symbolsOf facts) ≤ length cells
   pub few : length (symbolsOf facts) ≤ most
 

@@ -11,6 +11,7 @@ use Rattle.plan.specs.Plans.{Plan, leaf, node, write}
 use Rattle.answer.specs.Skeleton.{hole, fill}
 use Rattle.clauses.specs.code.Walk.{splits}
 use Rattle.unfolding.specs.declared.past.Past.{Past}
+use Rattle.limits.specs.Limits.{mostPlanCells}
 
 -- A state with so many open places stands at this place of the plan. The last two bound the numbers: each branch takes a cell of the plan
 -- and opens at most 4 places
@@ -22,7 +23,7 @@ pub record Stands (plan : List ℕ) (at places : ℕ) : Type 0 where
   pub open-places : places ≡ k
   pub cells : drop at plan ≡ write tree ++ rest
   pub wide : places ≤ 4 * at + 8
-  pub size : length plan ≤ 6082
+  pub size : length plan ≤ mostPlanCells
 
 -- the place after a state that stands at a place, and its states with several branches
 pub record PastOf {k : ℕ} {rows : List (List ℕ)} (tree : Plan k rows) (at : ℕ) (r : Past) : Type 0 where

@@ -35,12 +35,13 @@ use Rattle.state.proofs.flags.spread.Reads as spread-reads
 use Rattle.state.proofs.mask.close_rows.Reads as close-rows-reads
 use Rattle.builder.proofs.writer.+branches+state.{statement}
 use Rattle.builder.proofs.writer.+branches+state.Tie.{close}
+use Rattle.limits.specs.Limits.{mostPlanCells}
 
 abbrev μ-branches : Measures 6 branches-kinds.ps ℕ
-μ-branches κs a = 6082 - a .1 .1 .1 .1 .1 .1 .1 .1 .0
+μ-branches κs a = mostPlanCells - a .1 .1 .1 .1 .1 .1 .1 .1 .0
 
 abbrev μ-state : Measures 6 state-kinds.ps ℕ
-μ-state κs a = 6082 - a .1 .1 .1 .1 .1 .1 .1 .0
+μ-state κs a = mostPlanCells - a .1 .1 .1 .1 .1 .1 .1 .0
 
 abbrev branches-at : ℕ → In 6 branches-kinds.ps
 branches-at t = and 6 branches-kinds.ps (is 6 branches-kinds.ps μ-branches t) branches.Pre
@@ -257,7 +258,7 @@ inner-here t c q =
     (a .agreed .result .opens) _ refl (r .rows .end) (x .none) (rows-end (r .table .now) (r .starts .now) (a .agreed .last .1 .1 .0) (z .some)))
     (c .before .before .before .before .close-rows .ensures) (c .run-count .ensures)
 
-some-inner : (t : ℕ) (c : At-count t) → agreed-at t c .agreed .result .next + 1 < 6082
+some-inner : (t : ℕ) (c : At-count t) → agreed-at t c .agreed .result .next + 1 < mostPlanCells
 some-inner t c = inner-here t c (entered t (agreed-at t c) .pre .1) .room
 
 state-sub-if1 : (t : ℕ) → state-lts.Need-sub-if1 (state-with t) (state-at t) state.Post

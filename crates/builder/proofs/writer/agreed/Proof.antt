@@ -16,6 +16,7 @@ use Rattle.builder.proofs.ChooseLaws.{found-from, found-most, few-open}
 use Rattle.builder.proofs.TakingLaws.{cell-ahead, taking-start, taking-next, taking-from, ahead-start, again-ahead, again-length, again-from}
 use Rattle.builder.proofs.writer.agreed.Statement.{statement}
 use Rattle.builder.proofs.writer.agreed.Tie as tie
+use Rattle.limits.specs.Limits.{mostPlanCells}
 
 abbrev Inv-loop : tie.InvT-loop
 Inv-loop table starts masks₀ out₀ at first end ahead₀ from₀ opens₀ named₀ next₀ i₀ masks out ahead from opens named next i =
@@ -25,7 +26,7 @@ Inv-loop table starts masks₀ out₀ at first end ahead₀ from₀ opens₀ nam
     × (i ≡ agreedFrom (flagsIn opens named) opens 0 (rowsIn table starts masks first end))
 
 abbrev μ-loop : tie.MeasureT-loop
-μ-loop table starts masks₀ out₀ at first end ahead₀ from₀ opens₀ named₀ next₀ i₀ masks out ahead from opens named next i = 6082 - next
+μ-loop table starts masks₀ out₀ at first end ahead₀ from₀ opens₀ named₀ next₀ i₀ masks out ahead from opens named next i = mostPlanCells - next
 
 leftmost-requires : tie.Need-leftmost-requires Inv-loop μ-loop
 leftmost-requires c κs =
@@ -104,14 +105,14 @@ below c hs kept q args n a-is n-is =
 
 some-below : (c : tie.After-close-ahead Inv-loop μ-loop) (args n : ℕ) → args ≡ arity (c .before .before .before .close-at .result .cell)
     → n ≡ spreadOf (turn c .loop .named) (turn c .loop .i) args → let a = call (turn c) .args in
-    (args + (turn c .loop .opens - 1) ≤ 32) × (n < 2 ^ (args + (turn c .loop .opens - 1))) × (turn c .loop .next + 3 ≤ 6082)
+    (args + (turn c .loop .opens - 1) ≤ 32) × (n < 2 ^ (args + (turn c .loop .opens - 1))) × (turn c .loop .next + 3 ≤ mostPlanCells)
 some-below c args n a-is n-is =
     let a = call (turn c) .args in
     let p = call (turn c) .pre in
     let r = below c (p .column) (p .places) (p .state) args n a-is n-is .rest in
     (few-open (a .table .now) (a .starts .now) (c .close-ahead .last .1 .1 .0) (r .rows) (r .some), r .flags, omega (arith, r .fits))
 
-room-here : (c : tie.After-close-ahead Inv-loop μ-loop) → turn c .loop .next + 3 ≤ 6082
+room-here : (c : tie.After-close-ahead Inv-loop μ-loop) → turn c .loop .next + 3 ≤ mostPlanCells
 room-here c = some-below c _ _ refl refl .2
 
 cast-loop : tie.Need-cast-loop Inv-loop μ-loop

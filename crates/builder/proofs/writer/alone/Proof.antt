@@ -12,6 +12,7 @@ use Rattle.builder.proofs.OpenLaws.{open-none, open-outside, open-first
 use Rattle.builder.proofs.AloneLaws.{Chained, chained-start, chained-room, chained-end, chained-more, chained-next}
 use Rattle.builder.proofs.writer.alone.Statement.{statement}
 use Rattle.builder.proofs.writer.alone.Tie as tie
+use Rattle.limits.specs.Limits.{mostPlanCells}
 
 abbrev Inv-loop : tie.InvT-loop
 Inv-loop table start mask out₀ at left₀ next₀ out left next =
@@ -35,7 +36,7 @@ first-here c =
     let a = c .before .before .before .before .before .args in
     open-first (a .table .now) (a .start) (l .left) (omega arith) (omega arith) (omega arith)
 
-room-here : (c : tie.Else2 Inv-loop μ-loop) → c .before .before .loop .next + 3 < 6082
+room-here : (c : tie.Else2 Inv-loop μ-loop) → c .before .before .loop .next + 3 < mostPlanCells
 room-here c = chained-more (c .before .before .loop .inv .2) _ _ (first-here c)
 
 -- the bit is in the mask

@@ -11,6 +11,7 @@ use Rattle.edits.proofs.TableLaws.{few-cells}
 use borrow.Author.Needs.{needs}
 use Rattle.edits.proofs.rows.join.Statement.{statement}
 use Rattle.edits.proofs.rows.join.Tie as tie
+use Rattle.limits.specs.Limits.{mostTableCells}
 
 -- once both edges are known
 module _ (c : tie.After-edge2) where
@@ -24,7 +25,7 @@ module _ (c : tie.After-edge2) where
       (length (cellsIn (new (start .pre))))
   sizes-here = sizes (start .pre) (c .before .before .edge .ensures) (c .edge2 .ensures)
 
-  few-here : length (cellsIn (new (start .pre))) ≤ 2050
+  few-here : length (cellsIn (new (start .pre))) ≤ mostTableCells
   few-here = small (start .pre)
 
 edge-requires : tie.Need-edge-requires

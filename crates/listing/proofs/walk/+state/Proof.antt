@@ -25,6 +25,7 @@ use Rattle.plannotes.proofs.packed.skip_of.Reads as skip-of-reads
 use Rattle.plannotes.proofs.packed.wide.Reads as wide-reads
 use Rattle.listing.proofs.walk.+state.{statement}
 use Rattle.listing.proofs.walk.+state.Tie.{close}
+use Rattle.limits.specs.Limits.{mostBranches, mostPlanCells}
 
 -- what is left of the plan
 abbrev μ-state : Measures 3 state-kinds.ps ℕ
@@ -64,7 +65,7 @@ abbrev μ-loop : state-lts.MeasureT-loop
 
 -- where a state has an open place, its first two cells are inside the plan
 inner : (t : ℕ) (c : state-lts.Else1 (with t) (state-at t) state.Post Inv-loop μ-loop)
-    → (c .before .before .before .args .from .at + 1 < length (c .before .before .before .args .plan .now)) × (length (c .before .before .before .args .plan .now) ≤ 6082)
+    → (c .before .before .before .args .from .at + 1 < length (c .before .before .before .args .plan .now)) × (length (c .before .before .before .args .plan .now) ≤ mostPlanCells)
 inner t c = let w = c .before .before .before .pre .1 in (enters-inside w (omega arith), w .size)
 
 -- where a branch is left
@@ -89,7 +90,7 @@ module _ (t : ℕ) (c : state-lts.In-loop (with t) (state-at t) state.Post Inv-l
   turn : Goes (c .before .loop .inv (entry .pre .1)) its-row its-end (arity (getD (entry .args .plan .now) (c .before .loop .here .at) 0))
   turn = goes (c .before .loop .inv (entry .pre .1)) _ _ _ (omega arith) refl refl refl
 
-  in-notes : (number < 2048) × (c .before .loop .left ≢ 1 → number + 1 + skipIn (getD noted number 0) < 2048)
+  in-notes : (number < mostBranches) × (c .before .loop .left ≢ 1 → number + 1 + skipIn (getD noted number 0) < mostBranches)
   in-notes = numbered (c .before .loop .inv (entry .pre .1)) (omega arith)
 
 -- and what the code reads of it

@@ -10,6 +10,7 @@ use Rattle.paircosts.proofs.RightLaws.{task, refilled}
 use borrow.Author.Needs.{needs}
 use Rattle.paircosts.proofs.arrays.asked_pairs.Statement.{statement}
 use Rattle.paircosts.proofs.arrays.asked_pairs.Tie as tie
+use Rattle.limits.specs.Limits.{mostTableCells}
 
 -- there is such a task
 module _ (c : tie.After-mark-cells) where
@@ -27,7 +28,7 @@ module _ (c : tie.After-mark-cells) where
   all g = task measure low (start .args .asked) (start .pre .2) (g .laid) (c .mark-cells .ensures) (start .args .kept .now) (start .pre .1)
 
 mark-cells-requires : tie.Need-mark-cells-requires
-mark-cells-requires c κs = (c .before .before .before .pre .0 .laid .size, length-replicate {A = ℕ} 2050 0)
+mark-cells-requires c κs = (c .before .before .before .pre .0 .laid .size, length-replicate {A = ℕ} mostTableCells 0)
 
 pairs-again-requires : tie.Need-pairs-again-requires
 pairs-again-requires c κs = (let m = c .before .before in all m (start m .pre .0))

@@ -8,6 +8,7 @@ use Rattle.paircosts.proofs.MarkLaws.{past-cell, past-in, mark-is, mark
 use borrow.Author.Needs.{needs}
 use Rattle.paircosts.proofs.arrays.mark_cells.Statement.{statement}
 use Rattle.paircosts.proofs.arrays.mark_cells.Tie as tie
+use Rattle.limits.specs.Limits.{mostTableCells}
 
 abbrev Inv-loop : tie.InvT-loop
 Inv-loop by cells marks₀ j₀ marks j = MarkedFrom (measureOf by) cells marks j × (j ≤ length cells)
@@ -42,7 +43,7 @@ module _ (c : tie.After-past Inv-loop μ-loop) where
   abbrev j : ℕ
   j = loop .loop .j
 
-  taken : c .past .result ≤ 2050
+  taken : c .past .result ≤ mostTableCells
   taken =
       let s = begin loop in
       omega (

@@ -15,11 +15,12 @@ use Rattle.replies.proofs.PassedLaws.{within-by, hit-met, hit-over}
 use borrow.Author.Needs.{needs}
 use Rattle.replies.proofs.pass.pass_in.Statement.{statement}
 use Rattle.replies.proofs.pass.pass_in.Tie as tie
+use Rattle.limits.specs.Limits.{mostMeetingCells}
 
 abbrev Inv-loop : tie.InvT-loop
 Inv-loop table starts rows goal hits cells₀ other₀ room₀ sum₀ on₀ i₀ cells other room sum on i =
     (i ≤ length hits) × (length hits ≤ 64) × (length cells ≡ length cells₀) × (length other ≡ length other₀) × (length room ≡ length room₀)
-    × (sum ≤ i * 2048) × (on ≤ length room)
+    × (sum ≤ i * mostMeetingCells) × (on ≤ length room)
     × ((all : List (List ℕ)) → Passing table starts rows goal hits all → Pass table goal hits i all room₀ room on sum)
 
 abbrev μ-loop : tie.MeasureT-loop

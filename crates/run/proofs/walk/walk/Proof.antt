@@ -20,10 +20,11 @@ use Rattle.alone.specs.code.Rest.{Begins}
 use Rattle.alone.proofs.FlagLaws.{rest-now, alone-now}
 use Rattle.run.proofs.walk.walk.Statement.{statement}
 use Rattle.run.proofs.walk.walk.Tie as tie
+use Rattle.limits.specs.Limits.{mostBranches}
 
 abbrev Inv-loop : tie.InvT-loop
 Inv-loop notes branches goal width room₀ sib bound₀ args₀ until₀ rep refs₀ end i₀ hits₀ tried₀ apart₀ room bound args until refs i hits tried apart =
-    Tables (renamed goal) sib rep × (length room ≡ length room₀) × (hits ≤ i) × (tried + apart ≤ 2048 * i) × (i < 8192)
+    Tables (renamed goal) sib rep × (length room ≡ length room₀) × (hits ≤ i) × (tried + apart ≤ mostBranches * i) × (i < 8192)
     × ((b : Begun notes branches goal room₀ width) → Walking b rep sib bound args until refs room i hits (tried + apart))
 
 abbrev μ-loop : tie.MeasureT-loop
@@ -104,7 +105,7 @@ module _ (c : tie.After-alone-of Inv-loop μ-loop) where
   abbrev below : turn .loop .i < turn .before .end-of .result
   below = c .before .before .before .loop-test .taken
 
-  in-notes : turn .loop .i < 2048
+  in-notes : turn .loop .i < mostBranches
   in-notes = omega (arith, turn .before .end-of .ensures .0, below)
 
   lower : Granted turn → turn .loop .i < start turn .args .branches

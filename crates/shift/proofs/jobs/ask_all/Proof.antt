@@ -68,13 +68,14 @@ use Rattle.shift.proofs.jobs.ask_all as f
 use Rattle.shift.proofs.jobs.ask_all.Statement as stated
 use Rattle.shift.proofs.jobs.ask_all.Code as code
 use Rattle.shift.proofs.jobs.ask_all.Code.Mir as body
+use Rattle.limits.specs.Limits.{mostBranches}
 
 abbrev R : RattleType
 R = T.the-row
 
 -- what is noted of the plan's branches, and the check's answer
 abbrev E : RattleType
-E = Array u64 2048
+E = Array u64 mostBranches
 
 abbrev Q : RattleType
 Q = N.the-row

@@ -11,6 +11,7 @@ use Rattle.texttable.proofs.cells.write_many.Reads as reads
 use Rattle.texttable.proofs.cells.write_many.Lts as lts
 use Rattle.texttable.proofs.cells.make_all.Reads as make-all-reads
 use Rattle.symbols.proofs.begin.Reads as begin-reads
+use Rattle.limits.specs.Limits.{mostNames}
 
 begin-requires : tie.Need-begin-requires
 begin-requires c κs = search needs
@@ -39,7 +40,7 @@ make-all-requires c κs =
     let bg = c .before .before .before .before .before .before .before .begin in
     let s = start-reads (bg .ensures) in
     first-ready (bg .result) W (omega arith) (W .for-list) s (no-words t (a .list .now) (replicate 4097 0) (omega (arith, W .for-list))
-    (zero-at 4097)) (empty-tree t 2048 4097 (omega arith)) refl refl refl
+    (zero-at 4097)) (empty-tree t mostNames 4097 (omega arith)) refl refl refl
 
 same-length : tie.Need-same-length
 same-length c = search needs
@@ -57,7 +58,7 @@ returns c = λ W.
     let s = start-reads (bg .ensures) in
     c .before .before .before .before .before .before .before .before .before .make-all .ensures (first-ready (bg .result) W (omega arith)
     (W .for-list) s (no-words t (a .list .now) (replicate 4097 0) (omega (arith, W .for-list)) (zero-at 4097))
-    (empty-tree t 2048 4097 (omega arith)) refl refl refl)
+    (empty-tree t mostNames 4097 (omega arith)) refl refl refl)
 
 pub write-many-spec : {M : Type 1} → statement M
 write-many-spec =

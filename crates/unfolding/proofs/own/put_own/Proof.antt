@@ -9,6 +9,7 @@ use Rattle.unfolding.specs.code.Visits.{Peopled}
 use Rattle.unfolding.proofs.OwnLaws.{own-inside, OwnLeft, own-begins, own-ends, OwnGoes, own-goes}
 use Rattle.unfolding.proofs.own.put_own.Statement.{statement}
 use Rattle.unfolding.proofs.own.put_own.Tie as tie
+use Rattle.limits.specs.Limits.{mostPlanCells}
 
 abbrev Inv-loop : tie.InvT-loop
 Inv-loop plan at places k next program₀ to index left₀ p₀ on₀ called₀ program left p on called =
@@ -41,7 +42,7 @@ known c = branch c (c .before .before .before .before .before .before .before .b
 -- the first two cells of the state are inside the plan
 starts : (c : tie.After-shared-slice-known2 Inv-loop μ-loop)
     → (c .before .before .before .args .at + 1 < length (c .before .before .before .args .plan .now))
-    × (length (c .before .before .before .args .plan .now) ≤ 6082)
+    × (length (c .before .before .before .args .plan .now) ≤ mostPlanCells)
 starts c = let s = c .before .before .before in let h = own-inside (s .pre .0) (s .pre .1) in (h .0, h .1)
 
 -- src/own.rt:73:17

@@ -15,6 +15,7 @@ use Rattle.cell.proofs.arity_of.Reads as arity-of-reads
 use Rattle.unfolding.proofs.past.split.Reads as split-reads
 use Rattle.unfolding.proofs.past.+past_state.{statement}
 use Rattle.unfolding.proofs.past.+past_state.Tie.{close}
+use Rattle.limits.specs.Limits.{mostPlanCells}
 
 abbrev μ-past-state : Measures 1 past-state-kinds.ps ℕ
 μ-past-state κs a = length (a .0 .now) - a .1 .0
@@ -38,7 +39,7 @@ abbrev μ-loop : past-state-lts.MeasureT-loop
 
 -- where a state has an open place, its first two cells are inside the plan
 inner : (t : ℕ) (c : past-state-lts.Else1 (with t) (past-state-at t) past-state.Post Inv-loop μ-loop)
-    → (c .before .before .args .at + 1 < length (c .before .before .args .plan .now)) × (length (c .before .before .args .plan .now) ≤ 6082)
+    → (c .before .before .args .at + 1 < length (c .before .before .args .plan .now)) × (length (c .before .before .args .plan .now) ≤ mostPlanCells)
 inner t c = let w = c .before .before .pre .1 in (enters-inside w (omega arith), w .size)
 
 -- where a branch is left, what is known of it

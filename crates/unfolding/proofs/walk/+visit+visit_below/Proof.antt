@@ -20,6 +20,7 @@ use Rattle.cell.proofs.arity_of.Reads as arity-of-reads
 use Rattle.unfolding.proofs.own.put_own.Reads as put-own-reads
 use Rattle.unfolding.proofs.walk.+visit+visit_below.{statement}
 use Rattle.unfolding.proofs.walk.+visit+visit_below.Tie.{close}
+use Rattle.limits.specs.Limits.{mostPlanCells}
 
 abbrev μ-visit : Measures 2 visit-kinds.ps ℕ
 μ-visit κs a = 2 * (length (a .0 .now) - a .1 .1 .1 .0 .at) + 1
@@ -50,7 +51,7 @@ with-below t = (arity-of-reads.Asked, arity-of-reads.Learnt, visit-below t, visi
 -- where a state has an open place, its first two cells are inside the plan
 inner : (t : ℕ) (c : visit-lts.Else1 (with-state t) (visit-at t) visit.Post)
     → (c .before .before .before .args .from .at + 1 < length (c .before .before .before .args .plan .now))
-    × (length (c .before .before .before .args .plan .now) ≤ 6082)
+    × (length (c .before .before .before .args .plan .now) ≤ mostPlanCells)
 inner t c = let w = c .before .before .before .pre .1 .0 .stands in (enters-inside w (omega arith), w .size)
 
 visit-add-t9 : (t : ℕ) → visit-lts.Need-add-t9 (with-state t) (visit-at t) visit.Post
@@ -106,7 +107,7 @@ abbrev μ-loop : visit-below-lts.MeasureT-loop
 μ-loop plan places program₀ first left₀ here₀ program left here = left
 
 entered : (t : ℕ) (c : visit-below-lts.Start (with-below t) (visit-below-at t) visit-below′.Post Inv-loop μ-loop)
-    → (c .args .from .at + 1 < length (c .args .plan .now)) × (length (c .args .plan .now) ≤ 6082)
+    → (c .args .from .at + 1 < length (c .args .plan .now)) × (length (c .args .plan .now) ≤ mostPlanCells)
 entered t c = let w = c .pre .1 .0 .stands in (enters-inside w (c .pre .1 .1), w .size)
 
 -- where a branch is left, what is known of it
