@@ -18,12 +18,13 @@ use Rattle.alone.specs.code.Alone.{Symbols, Standing, Chain, skeletonsOf
 use Rattle.alone.specs.code.Rest.{lengthOf, Noted, Under, Begins}
 use Rattle.alone.proofs.StartLaws.{steady, means-to, means-from, node-m}
 
-module _ {w : ℕ} {G sib rep : List ℕ} (g : Goal w G) (T : Tables G sib rep) {bs ns us rs bs′ keep slots R : List ℕ} {n e m k : ℕ} (L : Linked G rep sib bs ns us rs n e m slots R)
+module _ {w : ℕ} {G sib rep : List ℕ} (g : Goal w G) (T : Tables G sib rep) {bs ns us rs bs′ keep slots R : List ℕ} {n e m k : ℕ}
+    (L : Linked G rep sib bs ns us rs n e m slots R)
     (ne : n < e) (Y : Symbols n bs us bs′) (sn : length ns ≡ 64) (ek : keep ≡ replicate 32 64) (wd : length slots ≡ k) where
   few : m ≤ 64
   few = omega (arith, L .few)
 
-  stand-low : (rs : List ℕ) → link.Nodes G rep m rs → All (λ (r : ℕ). r < m) rs
+  stand-low : (rs : List ℕ) → link.GoalNodes G rep m rs → All (λ (r : ℕ). r < m) rs
   stand-low [] link.nil = tt
   stand-low (r ∷ rs) (link.cons o os) = (node-m g T (L .binds) ne (L .some) few Y sn r o, stand-low rs os)
 
@@ -54,7 +55,8 @@ module _ {w : ℕ} {G sib rep : List ℕ} (g : Goal w G) (T : Tables G sib rep) 
   }
 
   -- the loop's first turn
-  first-under : {x words : List ℕ} {from to : ℕ} (q : Chain k x) → Loose (replicate k hole) x → Noted q words from slots m → from + lengthOf q ≡ to → length rs ≡ 64
+  first-under : {x words : List ℕ} {from to : ℕ} (q : Chain k x) → Loose (replicate k hole) x → Noted q words from slots m → from + lengthOf q ≡ to
+      → length rs ≡ 64
       → Under R x (skeletonsOf q (replicate k hole)) words sib bs′ ns rep rs keep from from to
   first-under {x} q F N l z = record {
     k = k;
@@ -72,6 +74,8 @@ module _ {w : ℕ} {G sib rep : List ℕ} (g : Goal w G) (T : Tables G sib rep) 
   }
 
 -- what the code has, and the loop's first turn
-pub begins-under : {words rep sib bs ns us rs bs′ keep : List ℕ} {from to : ℕ} (b : Begins words rep sib bs ns us rs from to) → Symbols from bs us bs′ → keep ≡ replicate 32 64
+pub begins-under : {words rep sib bs ns us rs bs′ keep : List ℕ} {from to : ℕ} (b : Begins words rep sib bs ns us rs from to) → Symbols from bs us bs′
+    → keep ≡ replicate 32 64
     → Under (b .R) (b .x) (skeletonsOf (b .chain) (replicate (b .k) hole)) words sib bs′ ns rep rs keep from from to
-begins-under b Y ek = first-under (b .goal) (b .tables) (b .linked) (b .on) Y (b .size-args) ek (b .wide) (b .chain) (b .loose) (b .noted) (b .count) (b .size-refs)
+begins-under b Y ek =
+    first-under (b .goal) (b .tables) (b .linked) (b .on) Y (b .size-args) ek (b .wide) (b .chain) (b .loose) (b .noted) (b .count) (b .size-refs)

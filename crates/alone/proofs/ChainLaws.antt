@@ -41,9 +41,11 @@ module _ {R sib bs ns cls rs keep slots K : List ℕ} {m k : ℕ} (S : Standing 
   open-alive : k ≤ 2 ^ 15 → Agrees (graph bs ns sib) cls (S .vs ++ upFrom (2 ^ 15) k) (S .us ++ entries rs slots)
   open-alive l =
       let st = S .steady in
-      let e : length (S .us ++ entries rs slots) ≡ length (S .us) + k = length-append (S .us) (entries rs slots) ∙ ap (λ (n : ℕ). length (S .us) + n) (entries-length rs slots ∙ S .width) in
+      let e : length (S .us ++ entries rs slots) ≡ length (S .us) + k =
+          length-append (S .us) (entries rs slots) ∙ ap (λ (n : ℕ). length (S .us) + n) (entries-length rs slots ∙ S .width) in
       let f : Fresh (length (S .us) + k) (S .vs ++ upFrom (2 ^ 15) k)
-      = fresh-++ (S .distinct) (up-distinct (2 ^ 15) k (omega arith)) (λ c a b. let x = all-mem (λ (v : ℕ). v < 32) (S .vs) (S .low) c a in let y = up-mem (2 ^ 15) k c b in omega arith) in
+      = fresh-++ (S .distinct) (up-distinct (2 ^ 15) k (omega arith)) (λ c a b. let x = all-mem (λ (v : ℕ). v < 32) (S .vs) (S .low) c a in
+          let y = up-mem (2 ^ 15) k c b in omega arith) in
       alive (st .fair) (solution (st .fair) (st .ready .flat) nodeOf 64 (st .within) (st .closed) (st .finite)) (S .us ++ entries rs slots) (rw e f)
       (λ r c a b. let x = own-low r c a in ⊎-elim
       (λ p. let y = all-mem (λ (v : ℕ). v < 32) (S .vs) (S .low) c p in omega arith)
@@ -52,7 +54,8 @@ module _ {R sib bs ns cls rs keep slots K : List ℕ} {m k : ℕ} (S : Standing 
 
 -- each open place a variable of its own, it is a row's
 opened-low : {K x : List ℕ} → Loose K x → (Y : List ℕ) → Terms (count hole K) Y → ((c : ℕ) → List·Memᴰ c Y → isVar c ≡ true → c < 2 ^ 16) → RowLike (fill K Y)
-opened-low {K} {x} F Y t h = record { low = λ c q v. let e = count-fill c K Y (var-no-hole c v) t in let o = count-mem c q in cases c v (count c K) refl (omega arith) }
+opened-low {K} {x} F Y t h =
+    record { low = λ c q v. let e = count-fill c K Y (var-no-hole c v) t in let o = count-mem c q in cases c v (count c K) refl (omega arith) }
   where
     cases : (c : ℕ) → isVar c ≡ true → (n : ℕ) → count c K ≡ n → 1 ≤ count c K + count c Y → c < 2 ^ 16
     cases c v zero e o = h c (mem-count c Y (omega arith)) v
@@ -78,7 +81,8 @@ module _ {R sib bs ns cls rs keep slots K x : List ℕ} {m k : ℕ} (S : Standin
       let n : x ≡ [] = zero-nil (rw (S .holes, z) at (F .terms)) in
       let r : RowLike (fill K x) = opened-low F x (F .terms) (λ c q v. absurd (List·Memᴰ·not-nil (subst (λ (l : List ℕ). List·Memᴰ c l) n q))) in
       let u : upFrom (2 ^ 15) k ≡ x = ap (upFrom (2 ^ 15)) z ∙ sym n in
-      S .means x (rw (S .holes) at (F .terms)) r .1 (subst (λ (X : List ℕ). Agrees (graph bs ns sib) cls (S .vs ++ X) (S .us ++ entries rs slots)) u (open-alive S few-holes))
+      S .means x (rw (S .holes) at (F .terms)) r .1
+          (subst (λ (X : List ℕ). Agrees (graph bs ns sib) cls (S .vs ++ X) (S .us ++ entries rs slots)) u (open-alive S few-holes))
 
 -- where nothing under a skeleton unifies, nothing below it is tried
 abbrev DeadAt : List ℕ → List ℕ → Type 0
@@ -99,7 +103,8 @@ unfolding opened
 dead-open {R} {K} F d u =
     let s = skeleton-short F in
     let t = Terms-fresh (up-distinct (2 ^ 15) (count hole K) (omega arith)) in
-    d (upFrom (2 ^ 15) (count hole K)) t (opened-low F (upFrom (2 ^ 15) (count hole K)) t (λ c q v. let y = up-mem (2 ^ 15) (count hole K) c q in omega arith)) u
+    d (upFrom (2 ^ 15) (count hole K)) t (opened-low F (upFrom (2 ^ 15) (count hole K)) t (λ c q v. let y = up-mem (2 ^ 15) (count hole K) c q in
+        omega arith)) u
 
 dead-chain : {R x : List ℕ} {k : ℕ} (q : Chain k x) (K : List ℕ) → DeadAt R K → count hole K ≡ k → Loose K x → Counts (TriedOn R) (skeletonsOf q K) 0
 unfolding skeletonsOf
@@ -149,5 +154,7 @@ module _ {R x₀ : List ℕ} {all : List (List ℕ)} {sib bs ns cls rs keep slot
   -- the end: the row is a hit
   pub going-ends : {k : ℕ} (q : Chain k x) {done : ℕ} → Going R x₀ all sib bs ns cls rs keep slots K x m k q done → k ≡ 0 → Gone R x₀ all done true
   unfolding skeletonsOf
-  going-ends end {done} G e = let z : done + 0 ≡ done = omega arith in hit (rw z at (G .rest 0 zero-of)) (rw (← (G .same)) (hit-here (G .standing) (G .loose) refl))
+  going-ends end {done} G e =
+      let z : done + 0 ≡ done = omega arith in
+      hit (rw z at (G .rest 0 zero-of)) (rw (← (G .same)) (hit-here (G .standing) (G .loose) refl))
   going-ends (at-place i h q) G e = absurd (let z : ⊥ = omega arith in z)

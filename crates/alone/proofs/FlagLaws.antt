@@ -17,7 +17,7 @@ use Rattle.table.specs.Table.{upFrom}
 use Rattle.table.proofs.AllLaws.{all-++, all-front, all-back}
 use Rattle.plan.specs.Runs.{Run, run, runs}
 use Rattle.plan.specs.Plans.{Plan, node, Branches, end, next, branches, branchesIn}
-use Rattle.plan.specs.Notes.{flag, notes, notesIn, word, skipIn, rowIn, Fits}
+use Rattle.plan.specs.Notes.{flag, notes, notesIn, word, skipIn, rowNoted, BranchFits}
 use Rattle.plan.specs.code.Cells.{Good, Sound, Cells, CellsIn}
 use Rattle.answer.specs.Skeleton.{hole, decide, opened}
 use Rattle.answer.specs.Run.{skeletons, skeletonsIn}
@@ -52,7 +52,8 @@ root-in c B none = (refl, refl)
 root-in c B (more {c = d} t) = let h = root-in c B t in (h .0, ap (λ (l : List ℕ). d ∷ l) (h .1))
 
 -- A branch whose cell is a variable, with the plan below it, of one row y.
-module _ {k : ℕ} (i : ℕ) (h : i ≤ k) (g : Run) (p : Plan (arity (g .cell) + k) (g .rows)) (y : List ℕ) (e : g .rows ≡ y ∷ []) (v : isVar (g .cell) ≡ true) (S : Sound RowCell k g) (C : Cells RowCell p) where
+module _ {k : ℕ} (i : ℕ) (h : i ≤ k) (g : Run) (p : Plan (arity (g .cell) + k) (g .rows)) (y : List ℕ) (e : g .rows ≡ y ∷ [])
+    (v : isVar (g .cell) ≡ true) (S : Sound RowCell k g) (C : Cells RowCell p) where
   abbrev pub x : List ℕ
   x = insert i (g .cell) y
 
@@ -109,7 +110,7 @@ module _ {k : ℕ} (i : ℕ) (h : i ≤ k) (g : Run) (p : Plan (arity (g .cell) 
   chain = chain-of whole x refl
 
   pub chain-is-noted : (words : List ℕ) (n : ℕ) (slots : List ℕ) (m row : ℕ) (rest : List ℕ) → drop n words ≡ map word (notes whole slots m row) ++ rest
-      → All Fits (notes whole slots m row)
+      → All BranchFits (notes whole slots m row)
       → Noted chain words n slots m
   unfolding chain
   chain-is-noted words n slots m row rest d f = chain-noted whole x refl words n slots m row rest d f whole-cells
@@ -154,7 +155,8 @@ one-of [] l = absurd (let z : ⊥ = omega arith in z)
 one-of (y ∷ []) l = (y, refl)
 one-of (y ∷ (x ∷ rows)) l = absurd (let z : ⊥ = omega arith in z)
 
-module _ {v : ℕ} {G sib rep : List ℕ} (g : Goal v G) (T : Tables G sib rep) {bs ns us rs : List ℕ} {fs : List Frame} {n top row : ℕ} (t : Top G rep sib bs ns us rs fs n top row) (Z : Sizes bs ns us rs)
+module _ {v : ℕ} {G sib rep : List ℕ} (g : Goal v G) (T : Tables G sib rep) {bs ns us rs : List ℕ} {fs : List Frame} {n top row : ℕ}
+    (t : Top G rep sib bs ns us rs fs n top row) (Z : Sizes bs ns us rs)
     (S : Sound RowCell (t .k) (t .group)) (C : Cells RowCell (t .tree)) (on : flag (t .group) ≡ true) where
   is-var : isVar (t .group .cell) ≡ true
   is-var = and-true (isVar (t .group .cell)) _ on
@@ -169,7 +171,8 @@ module _ {v : ℕ} {G sib rep : List ℕ} (g : Goal v G) (T : Tables G sib rep) 
   the-chain = chain (t .place) low (t .group) (t .tree) (row-of .0) (row-of .1) is-var S C
 
   module _ (words rest : List ℕ) (d : drop n words ≡ map word (notesIn (next {g = t .group} (t .tree) end) (t .place) (t .slots) (t .free) row) ++ rest)
-      (f : All Fits (notesIn (next {g = t .group} (t .tree) end) (t .place) (t .slots) (t .free) row)) (to : ℕ) (e : to ≡ n + 1 + branches (t .tree)) (far : to ≤ mostBranches) where
+      (f : All BranchFits (notesIn (next {g = t .group} (t .tree) end) (t .place) (t .slots) (t .free) row)) (to : ℕ)
+          (e : to ≡ n + 1 + branches (t .tree)) (far : to ≤ mostBranches) where
     pub begins : Begins words rep sib bs ns us rs n to
     unfolding branches
     begins =
@@ -212,7 +215,8 @@ module _ {v : ℕ} {G sib rep : List ℕ} (g : Goal v G) (T : Tables G sib rep) 
         rw (L .same, ← held g T t .width, ← entries-length rs (t .slots)) (Terms-inst (L .binds .good) (Terms-refs g T (omega (arith, L .few)) (L .stand))) in
         let K = replicate (suc (t .k)) hole in
         let s = chain-decides (t .place) low (t .group) (t .tree) (o .0) (o .1) is-var S C K in
-        let h = gone-is u (row-terms (t .place) low (t .group) (t .tree) (o .0) (o .1) is-var S C) (rw s (decided-terms (t .place) low (t .group) (t .tree) (o .0) (o .1) is-var S C)) a in
+        let h = gone-is u (row-terms (t .place) low (t .group) (t .tree) (o .0) (o .1) is-var S C)
+            (rw s (decided-terms (t .place) low (t .group) (t .tree) (o .0) (o .1) is-var S C)) a in
         (h .0 ∙ ap (triedOn (t .R)) s, rw (o .1, append-nil (o .0)) (h .1))
 
 -- what is noted in the first `n` numbers of an array, in the array
@@ -229,7 +233,8 @@ its-row row true = refl
 its-row row false = refl
 
 -- In the walk: the rest of the row, and the walk after it.
-module _ {noted goal room : List ℕ} {count w : ℕ} (b : Begun noted count goal room w) {sib rep bs ns us rs room′ : List ℕ} {i found tries : ℕ} (T : Tables (renamed goal) sib rep)
+module _ {noted goal room : List ℕ} {count w : ℕ} (b : Begun noted count goal room w) {sib rep bs ns us rs room′ : List ℕ} {i found tries : ℕ}
+    (T : Tables (renamed goal) sib rep)
     (A : Walking b rep sib bs ns us rs room′ i found tries) (l : i < count) (on : flagged b T A l ≡ true) where
   abbrev G : Goal w (renamed goal)
   G = goal-head (b .is)
@@ -240,24 +245,29 @@ module _ {noted goal room : List ℕ} {count w : ℕ} (b : Begun noted count goa
   abbrev W : ℕ
   W = getD noted i 0
 
-  words-all : drop i noted ≡ map word (notesIn (next {g = t .group} (t .tree) end) (t .place) (t .slots) (t .free) (A .row)) ++ (map word (notesOf (frames G T t) (A .row + length (t .group .rows))) ++ drop count noted)
+  words-all : drop i noted ≡ map word (notesIn (next {g = t .group} (t .tree) end) (t .place) (t .slots) (t .free) (A .row))
+      ++ (map word (notesOf (frames G T t) (A .row + length (t .group .rows))) ++ drop count noted)
   words-all =
       drop-cut i count noted (omega arith) ∙ ap (λ (x : List ℕ). x ++ drop count noted) (words-here G T A (inside b T A l))
-      ∙ append-assoc (map word (notesIn (next {g = t .group} (t .tree) end) (t .place) (t .slots) (t .free) (A .row))) (map word (notesOf (frames G T t) (A .row + length (t .group .rows)))) (drop count noted)
+      ∙ append-assoc (map word (notesIn (next {g = t .group} (t .tree) end) (t .place) (t .slots) (t .free) (A .row)))
+          (map word (notesOf (frames G T t) (A .row + length (t .group .rows)))) (drop count noted)
 
   pub rest-now : (to : ℕ) → to ≡ i + 1 + skipIn W → Begins noted rep sib bs ns us rs i to
   rest-now to e =
       let s = t .sound (A .sound) in
       let q : to ≡ i + 1 + branches (t .tree) = e ∙ ap (λ (s : ℕ). i + 1 + s) (rw (same-word b T A l) at (skip-is G T A (inside b T A l))) in
-      begins G T t (A .sizes) (s .0) (s .1) on noted (map word (notesOf (frames G T t) (A .row + length (t .group .rows))) ++ drop count noted) words-all (fit-only G T A (inside b T A l)) to q
+      begins G T t (A .sizes) (s .0) (s .1) on noted (map word (notesOf (frames G T t) (A .row + length (t .group .rows))) ++ drop count noted)
+          words-all (fit-only G T A (inside b T A l)) to q
       (omega (arith, e, skip-now b T A l, count-small b))
 
-  pub alone-now : {to : ℕ} (e : to ≡ i + 1 + skipIn W) {t′ h : ℕ} → Walks (rest-now to e) t′ h → {room″ : List ℕ} (r : ℕ) → r ≡ rowIn W → room″ ≡ sets room′ found (upFrom r h)
+  pub alone-now : {to : ℕ} (e : to ≡ i + 1 + skipIn W) {t′ h : ℕ} → Walks (rest-now to e) t′ h → {room″ : List ℕ} (r : ℕ) → r ≡ rowNoted W
+      → room″ ≡ sets room′ found (upFrom r h)
       → {i′ found′ tries′ : ℕ} → i′ ≡ to → found′ ≡ found + h → tries′ ≡ tries + t′ → Walking b rep sib bs ns us rs room″ i′ found′ tries′
   unfolding rest-now
   alone-now {to} e {t′} {h} (hit, eh, a) {room″} r er y ei ef et =
-      let y′ : room″ ≡ sets room′ found (cond hit (rowIn (getD (take count noted) i 0) ∷ []) []) =
+      let y′ : room″ ≡ sets room′ found (cond hit (rowNoted (getD (take count noted) i 0) ∷ []) []) =
       y ∙ ap (λ (z : ℕ). sets room′ found (upFrom r z)) eh ∙ ap (sets room′ found) (its-row r hit) ∙ rw (same-word b T A l, er) in
       let s = t .sound (A .sound) in
-      let g = gone G T t (A .sizes) (s .0) (s .1) on noted (map word (notesOf (frames G T t) (A .row + length (t .group .rows))) ++ drop count noted) words-all (fit-only G T A (inside b T A l)) to _ _ a in
+      let g = gone G T t (A .sizes) (s .0) (s .1) on noted (map word (notesOf (frames G T t) (A .row + length (t .group .rows))) ++ drop count noted)
+          words-all (fit-only G T A (inside b T A l)) to _ _ a in
       rw (ei, ef, et, eh, e) (rw (same-word b T A l) at (on-alone G T A (inside b T A l) t′ hit on (g .0) (g .1) y′))

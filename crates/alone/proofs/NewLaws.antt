@@ -70,7 +70,9 @@ module _ {sib bs ns cls : List ℕ} {m : ℕ} (S : Steady sib bs ns cls m) where
     selves = λ r q. let e = S .selves r (up-mem m a (at cls r) q .0) in (subst (λ (x : ℕ). List·Memᴰ x (upFrom m a)) e q, e);
     fixed = λ r q. S .fixed r (up-mem m a r q .0);
     bare = λ r q. S .bare r (up-mem m a r q .0);
-    no-kid = λ r nz s q k. let u = up-mem m a s k in let o = all-mem (λ (x : ℕ). x < m) (steps sib (arity (getD bs r 0)) (getD ns r 0)) (S .kids-low r nz) s q in omega arith;
+    no-kid =
+        λ r nz s q k. let u = up-mem m a s k in let o =
+            all-mem (λ (x : ℕ). x < m) (steps sib (arity (getD bs r 0)) (getD ns r 0)) (S .kids-low r nz) s q in omega arith;
   }
 
   pub new-cells : (a : ℕ) (l : m + a ≤ 64) → new-nodes a l .cells ≡ upFrom (var m) a
@@ -108,7 +110,8 @@ module _ {sib bs ns cls : List ℕ} {m : ℕ} (S : Steady sib bs ns cls m) where
 vals-reps : {N : Nodes} {rep : List ℕ} {τ : ℕ → List ℕ} → Solves N rep τ → (rs : List ℕ) → vals N τ (reps rep rs) ≡ vals N τ rs
 unfolding owns inst
 vals-reps s [] = refl
-vals-reps {N} {rep} {τ} s (r ∷ rs) = inst-++ τ (N .own (at rep r)) (owns N (reps rep rs)) ∙ ap₂ _++_ (sym (s .classes r)) (vals-reps s rs) ∙ sym (inst-++ τ (N .own r) (owns N rs))
+vals-reps {N} {rep} {τ} s (r ∷ rs) =
+    inst-++ τ (N .own (at rep r)) (owns N (reps rep rs)) ∙ ap₂ _++_ (sym (s .classes r)) (vals-reps s rs) ∙ sym (inst-++ τ (N .own r) (owns N rs))
 
 pub agree-reps : {N : Nodes} {rep : List ℕ} (xs P ks Q : List ℕ) → Agrees N rep xs (P ++ (ks ++ Q)) ↔ Agrees N rep xs (P ++ (reps rep ks ++ Q))
 agree-reps {N} {rep} xs P ks Q = (

@@ -30,13 +30,16 @@ module _ {R x₀ : List ℕ} {all : List (List ℕ)} {words sib bs ns cls rs kee
   unfolding lengthOf
   rest-ends U l d e = go (U .chain) (U .going) (U .left)
     where
-      go : {k : ℕ} {x : List ℕ} (q : Chain k x) → Going R x₀ all sib bs ns cls rs keep (U .slots) (U .K) x (U .m) k q (U .done) → at + lengthOf q ≡ to → Gone R x₀ all d true
+      go : {k : ℕ} {x : List ℕ} (q : Chain k x) → Going R x₀ all sib bs ns cls rs keep (U .slots) (U .K) x (U .m) k q (U .done) → at + lengthOf q ≡ to
+          → Gone R x₀ all d true
       go end G h = let z : U .done ≡ d = omega (arith, U .so-far) in subst (λ (n : ℕ). Gone R x₀ all n true) z (going-ends end G refl)
       go (at-place i p q) G h = absurd (let z : ⊥ = omega arith in z)
 
 -- A branch: it stands at place i.
-module _ {R x₀ : List ℕ} {all : List (List ℕ)} {sib bs ns cls rs keep : List ℕ} {k : ℕ} {x : List ℕ} {K slots : List ℕ} {m done : ℕ} (i : ℕ) (h : i ≤ k) (q : Chain (arity (root i x) + k) (close i x))
-    (G : Going R x₀ all sib bs ns cls rs keep slots K x m (suc k) (at-place i h q) done) (zr : length rs ≡ 64) (fits : m + arity (root i x) < 64) (nh : root i x ≢ hole)
+module _ {R x₀ : List ℕ} {all : List (List ℕ)} {sib bs ns cls rs keep : List ℕ} {k : ℕ} {x : List ℕ} {K slots : List ℕ} {m done : ℕ} (i : ℕ)
+    (h : i ≤ k) (q : Chain (arity (root i x) + k) (close i x))
+    (G : Going R x₀ all sib bs ns cls rs keep slots K x m (suc k) (at-place i h q) done) (zr : length rs ≡ 64) (fits : m + arity (root i x) < 64)
+        (nh : root i x ≢ hole)
     (low : isVar (root i x) ≡ true → root i x < 32) where
   abbrev c : ℕ
   c = root i x
@@ -65,7 +68,8 @@ module _ {R x₀ : List ℕ} {all : List (List ℕ)} {sib bs ns cls rs keep : Li
   placed : Standing R sib bs ns cls rs keep (A ++ (s ∷ B)) K m (length A + suc (k - i))
   placed = let e : suc k ≡ length A + suc (k - i) = omega (arith, at-i) in rw (← split, ← e) (G .standing)
 
-  back : {bs′ ns′ cls′ rs′ keep′ : List ℕ} → Standing R sib bs′ ns′ cls′ rs′ keep′ (A ++ (upFrom m (arity c) ++ B)) (decide (length A) c K) (m + arity c) (length A + (arity c + (k - i)))
+  back : {bs′ ns′ cls′ rs′ keep′ : List ℕ} → Standing R sib bs′ ns′ cls′ rs′ keep′ (A ++ (upFrom m (arity c) ++ B)) (decide (length A) c K)
+      (m + arity c) (length A + (arity c + (k - i)))
       → Standing R sib bs′ ns′ cls′ rs′ keep′ (below i (arity c) m slots) (decide i c K) (m + arity c) (arity c + k)
   back {bs′} {ns′} {cls′} {rs′} {keep′} T =
       let e : length A + (arity c + (k - i)) ≡ arity c + k = omega (arith, at-i) in
@@ -75,9 +79,12 @@ module _ {R x₀ : List ℕ} {all : List (List ℕ)} {sib bs ns cls rs keep : Li
   few : m + arity c ≤ 64
   few = omega arith
 
-  dead-back : ((X : List ℕ) → Terms (length A + (arity c + (k - i))) X → RowLike (fill (decide (length A) c K) X) → ¬ Unifies (fill (decide (length A) c K) X) R)
+  dead-back : ((X : List ℕ) → Terms (length A + (arity c + (k - i))) X → RowLike (fill (decide (length A) c K) X)
+      → ¬ Unifies (fill (decide (length A) c K) X) R)
       → (X : List ℕ) → Terms (i + (arity c + (k - i))) X → RowLike (fill (decide i c K) X) → ¬ Unifies (fill (decide i c K) X) R
-  dead-back d = subst (λ (n : ℕ). (X : List ℕ) → Terms (n + (arity c + (k - i))) X → RowLike (fill (decide n c K) X) → ¬ Unifies (fill (decide n c K) X) R) at-i d
+  dead-back d =
+      subst (λ (n : ℕ). (X : List ℕ) → Terms (n + (arity c + (k - i))) X → RowLike (fill (decide n c K) X) → ¬ Unifies (fill (decide n c K) X) R) at-i
+          d
 
   not-zero : isVar c ≡ false → c ≢ 0
   not-zero hv e = true≢false (sym (var-small c (omega arith)) ∙ hv)
@@ -107,19 +114,23 @@ module _ {R x₀ : List ℕ} {all : List (List ℕ)} {sib bs ns cls rs keep : Li
 
   -- it succeeds
   takes-on : {bs′ ns′ cls′ rs′ keep′ : List ℕ} {b : Bool} → Takes sib c u m bs ns cls rs keep bs′ ns′ cls′ rs′ keep′ b → b ≡ true
-      → Going R x₀ all sib bs′ ns′ cls′ rs′ keep′ (below i (arity c) m slots) (decide i c K) (close i x) (m + arity c) (arity c + k) q (done + 1) × (length rs′ ≡ 64)
+      → Going R x₀ all sib bs′ ns′ cls′ rs′ keep′ (below i (arity c) m slots) (decide i c K) (close i x) (m + arity c) (arity c + k) q (done + 1)
+          × (length rs′ ≡ 64)
   takes-on (same-symbol hv e eb en ec ek er) o =
-      (rw (eb, en, ec, ek) (going-on i h q G (back (stand-same A s B (k - i) placed zr c nh few hv (λ z. not-zero hv (sym e ∙ z)) e er))), rw er (length-sets rs m (entries cls (steps sib (arity c) (getD ns (getD cls u 0) 0))) ∙ zr))
+      (rw (eb, en, ec, ek) (going-on i h q G (back (stand-same A s B (k - i) placed zr c nh few hv (λ z. not-zero hv (sym e ∙ z)) e er))),
+          rw er (length-sets rs m (entries cls (steps sib (arity c) (getD ns (getD cls u 0) 0))) ∙ zr))
   takes-on (other-symbol hv nz d) o = absurd (true≢false (sym o))
   takes-on (new-symbol hv z eb en ec ek er) o =
-      (rw (eb, en, ec, ek) (going-on i h q G (back (stand-bind A s B (k - i) placed zr c nh few hv z er))), rw er (length-sets rs m (entries cls (steps sib (arity c) m)) ∙ zr))
+      (rw (eb, en, ec, ek) (going-on i h q G (back (stand-bind A s B (k - i) placed zr c nh few hv z er))),
+          rw er (length-sets rs m (entries cls (steps sib (arity c) m)) ∙ zr))
   takes-on (first-met hv e eb en ec ek er) o =
       (rw (eb, en, ec, ek, er) (going-on i h q G (back (stand-first A s B (k - i) placed zr c nh few (low hv) e))), rw er zr)
   takes-on (met-again hv ne E eb en ek er) o =
       (rw (eb, en, ek, er) (going-on i h q G (back (stand-again A s B (k - i) placed zr c nh few (low hv) ne E o))), rw er zr)
 
   -- it fails
-  takes-off : {bs′ ns′ cls′ rs′ keep′ : List ℕ} {b : Bool} → Takes sib c u m bs ns cls rs keep bs′ ns′ cls′ rs′ keep′ b → b ≡ false → Gone R x₀ all (done + 1) false
+  takes-off : {bs′ ns′ cls′ rs′ keep′ : List ℕ} {b : Bool} → Takes sib c u m bs ns cls rs keep bs′ ns′ cls′ rs′ keep′ b → b ≡ false
+      → Gone R x₀ all (done + 1) false
   takes-off (same-symbol hv e eb en ec ek er) o = absurd (true≢false o)
   takes-off (new-symbol hv z eb en ec ek er) o = absurd (true≢false o)
   takes-off (first-met hv e eb en ec ek er) o = absurd (true≢false o)
@@ -127,7 +138,8 @@ module _ {R x₀ : List ℕ} {all : List (List ℕ)} {sib bs ns cls rs keep : Li
   takes-off (met-again hv ne E eb en ek er) o = going-fails i h q G (dead-back (dead-again A s B (k - i) placed zr c nh few (low hv) ne E o))
 
 -- In the loop.
-module _ {R x₀ : List ℕ} {all : List (List ℕ)} {words sib bs ns cls rs keep : List ℕ} {from at to : ℕ} (U : Under R x₀ all words sib bs ns cls rs keep from at to) (l : at < to) where
+module _ {R x₀ : List ℕ} {all : List (List ℕ)} {words sib bs ns cls rs keep : List ℕ} {from at to : ℕ}
+    (U : Under R x₀ all words sib bs ns cls rs keep from at to) (l : at < to) where
   abbrev W : ℕ
   W = getD words at 0
 
@@ -135,17 +147,20 @@ module _ {R x₀ : List ℕ} {all : List (List ℕ)} {words sib bs ns cls rs kee
   unfolding lengthOf Noted
   rest-safe = go (U .chain) (U .going) (U .noted) (U .left)
     where
-      go : {k : ℕ} {x : List ℕ} (q : Chain k x) → Going R x₀ all sib bs ns cls rs keep (U .slots) (U .K) x (U .m) k q (U .done) → Noted q words at (U .slots) (U .m) → at + lengthOf q ≡ to
+      go : {k : ℕ} {x : List ℕ} (q : Chain k x) → Going R x₀ all sib bs ns cls rs keep (U .slots) (U .K) x (U .m) k q (U .done)
+          → Noted q words at (U .slots) (U .m) → at + lengthOf q ≡ to
           → Safe sib bs ns cls keep (cellIn W) (getD rs (slotIn W) 0) (nextIn W)
       go end G n e = absurd (let z : ⊥ = omega arith in z)
       go (at-place i h q) G n e = rw (n .0, n .1, n .2) (safe i h q G (U .size-refs) (n .3) (n .5) (n .4))
 
-  module _ {bs′ ns′ cls′ rs′ keep′ : List ℕ} {b : Bool} (t : Takes sib (cellIn W) (getD rs (slotIn W) 0) (nextIn W) bs ns cls rs keep bs′ ns′ cls′ rs′ keep′ b) where
+  module _ {bs′ ns′ cls′ rs′ keep′ : List ℕ} {b : Bool}
+      (t : Takes sib (cellIn W) (getD rs (slotIn W) 0) (nextIn W) bs ns cls rs keep bs′ ns′ cls′ rs′ keep′ b) where
     pub rest-on : b ≡ true → Under R x₀ all words sib bs′ ns′ cls′ rs′ keep′ from (at + 1) to
     unfolding lengthOf Noted
     rest-on o = go (U .chain) (U .going) (U .noted) (U .left)
       where
-        go : {k : ℕ} {x : List ℕ} (q : Chain k x) → Going R x₀ all sib bs ns cls rs keep (U .slots) (U .K) x (U .m) k q (U .done) → Noted q words at (U .slots) (U .m) → at + lengthOf q ≡ to
+        go : {k : ℕ} {x : List ℕ} (q : Chain k x) → Going R x₀ all sib bs ns cls rs keep (U .slots) (U .K) x (U .m) k q (U .done)
+            → Noted q words at (U .slots) (U .m) → at + lengthOf q ≡ to
             → Under R x₀ all words sib bs′ ns′ cls′ rs′ keep′ from (at + 1) to
         go end G n e = absurd (let z : ⊥ = omega arith in z)
         go (at-place {k} {x} i h q) G n e =
@@ -169,7 +184,8 @@ module _ {R x₀ : List ℕ} {all : List (List ℕ)} {words sib bs ns cls rs kee
     unfolding lengthOf Noted
     rest-off o d f = go (U .chain) (U .going) (U .noted) (U .left)
       where
-        go : {k : ℕ} {x : List ℕ} (q : Chain k x) → Going R x₀ all sib bs ns cls rs keep (U .slots) (U .K) x (U .m) k q (U .done) → Noted q words at (U .slots) (U .m) → at + lengthOf q ≡ to
+        go : {k : ℕ} {x : List ℕ} (q : Chain k x) → Going R x₀ all sib bs ns cls rs keep (U .slots) (U .K) x (U .m) k q (U .done)
+            → Noted q words at (U .slots) (U .m) → at + lengthOf q ≡ to
             → Gone R x₀ all d false
         go end G n e = absurd (let z : ⊥ = omega arith in z)
         go (at-place i h q) G n e =

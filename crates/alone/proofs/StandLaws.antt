@@ -3,7 +3,8 @@ use Prim.Native.Nat.{ℕ, zero, suc, _+_, _^_, _≤_, _<_}
 use mathlib.Core.Path.{_≡_, refl, sym, _∙_, ap, ap₂, subst}
 use mathlib.Core.Logic.{_≢_, _↔_, ⊎-elim, by-cases, Iff·trans}
 use mathlib.Core.Bool.{Bool, true, false}
-use mathlib.Core.List.{List, [], _∷_, _++_, append-assoc, List·Memᴰ, List·Memᴰ·tail, List·Memᴰ·cases-cons, List·Memᴰ·append-cases, Memᴰ·append-left, Memᴰ·append-right}
+use mathlib.Core.List.{List, [], _∷_, _++_, append-assoc, List·Memᴰ, List·Memᴰ·tail, List·Memᴰ·cases-cons, List·Memᴰ·append-cases, Memᴰ·append-left}
+use mathlib.Core.List.{Memᴰ·append-right}
 use native.Mathlib.Decide.{ℕ-discrete}
 use native.Mathlib.Omega.{arith}
 use lib.Dec.{ltb}
@@ -127,7 +128,8 @@ module _ {N : Nodes} {m : ℕ} (K : (r : ℕ) → N .head r ≢ 0 → All (λ (s
     low-all (cons x w) lx ly L = low-all w (lx .1) (ly .1) (low-merged x (lx .0) (ly .0) L)
 
 -- The place: A before it, B after, and the node u there.
-module _ {R sib bs ns cls rs keep : List ℕ} (A : List ℕ) (s : ℕ) (B : List ℕ) {K : List ℕ} {m : ℕ} (j : ℕ) (S : Standing R sib bs ns cls rs keep (A ++ (s ∷ B)) K m (length A + suc j))
+module _ {R sib bs ns cls rs keep : List ℕ} (A : List ℕ) (s : ℕ) (B : List ℕ) {K : List ℕ} {m : ℕ} (j : ℕ)
+    (S : Standing R sib bs ns cls rs keep (A ++ (s ∷ B)) K m (length A + suc j))
     (zr : length rs ≡ 64) (c : ℕ) (hc : c ≢ hole) (fits : m + arity c ≤ 64) where
   abbrev i : ℕ
   i = length A
@@ -166,19 +168,23 @@ module _ {R sib bs ns cls rs keep : List ℕ} (A : List ℕ) (s : ℕ) (B : List
   means-here X t r = rw cut at (S .means X t r)
 
   -- the state below, by a law of agreement
-  below-state : {bs′ ns′ cls′ rs′ keep′ vs′ us′ : List ℕ} (ks : List ℕ) → Steady sib bs′ ns′ cls′ (m + arity c) → Keeps keep′ vs′ us′ → Fresh (length us′) vs′ → All (λ (v : ℕ). v < 32) vs′
+  below-state : {bs′ ns′ cls′ rs′ keep′ vs′ us′ : List ℕ} (ks : List ℕ) → Steady sib bs′ ns′ cls′ (m + arity c) → Keeps keep′ vs′ us′
+      → Fresh (length us′) vs′ → All (λ (v : ℕ). v < 32) vs′
       → All (λ (r : ℕ). r < m + arity c) us′ → arity c ≡ length ks → All (λ (r : ℕ). r < m + arity c) ks → rs′ ≡ sets rs m ks
       → ((A′ D : List ℕ) → Terms i A′ → Terms (arity c + j) D → RowLike (A′ ++ (c ∷ D))
       → Agrees N cls (vs ++ (A′ ++ (c ∷ D))) (us ++ (P ++ (u ∷ Q))) ↔ Agrees (graph bs′ ns′ sib) cls′ (vs′ ++ (A′ ++ D)) (us′ ++ (P ++ (ks ++ Q))))
       → Standing R sib bs′ ns′ cls′ rs′ keep′ (A ++ (upFrom m (arity c) ++ B)) (decide i c K) (m + arity c) (i + (arity c + j))
   below-state {bs′} {ns′} {cls′} {rs′} {keep′} {vs′} {us′} ks st kp ds lv mt ek lk er law =
       let a = arity c in
-      let more : (xs : List ℕ) → All (λ (r : ℕ). r < m) xs → All (λ (r : ℕ). r < m + a) xs = λ xs h. all-each (λ (r : ℕ). r < m) (λ (r : ℕ). r < m + a) (λ r k. omega arith) xs h in
+      let more : (xs : List ℕ) → All (λ (r : ℕ). r < m) xs → All (λ (r : ℕ). r < m + a) xs =
+          λ xs h. all-each (λ (r : ℕ). r < m) (λ (r : ℕ). r < m + a) (λ r k. omega arith) xs h in
       let old = S .made in
       let oA = all-front (λ (x : ℕ). x < m) A (s ∷ B) old in
       let oB = all-back (λ (x : ℕ). x < m) A (s ∷ B) old .1 in
       let q : entries rs′ (A ++ (upFrom m a ++ B)) ≡ P ++ (ks ++ Q)
-      = rw er (entries-++ (sets rs m ks) A (upFrom m a ++ B) ∙ ap₂ _++_ (entries-below rs ks A m oA) (entries-++ (sets rs m ks) (upFrom m a) B ∙ ap₂ _++_ (entries-stored rs ks m a ek (omega arith)) (entries-below rs ks B m oB))) in
+      = rw er (entries-++ (sets rs m ks) A (upFrom m a ++ B)
+          ∙ ap₂ _++_ (entries-below rs ks A m oA) (entries-++ (sets rs m ks) (upFrom m a) B
+          ∙ ap₂ _++_ (entries-stored rs ks m a ek (omega arith)) (entries-below rs ks B m oB))) in
       record {
         steady = st;
         vs = vs′;
@@ -191,7 +197,9 @@ module _ {R sib bs ns cls rs keep : List ℕ} (A : List ℕ) (s : ℕ) (B : List
         stand = rw q (all-++ (λ (r : ℕ). r < m + a) P (ks ++ Q) (more P low-P) (all-++ (λ (r : ℕ). r < m + a) ks Q lk (more Q (low-Q .1))));
         width = omega (arith, S .width, length-append A (s ∷ B), length-append A (upFrom m a ++ B), length-append (upFrom m a) B, up-length m a);
         holes = (let d = decide-count i c K hc (omega (arith, S .holes)) in omega (arith, d, S .holes));
-        means = rw q (means-next K i j c hc (S .holes) (λ (X : List ℕ). Agrees N cls (vs ++ X) (us ++ (P ++ (u ∷ Q)))) (λ (X : List ℕ). Agrees (graph bs′ ns′ sib) cls′ (vs′ ++ X) (us′ ++ (P ++ (ks ++ Q)))) means-here law);
+        means =
+            rw q (means-next K i j c hc (S .holes) (λ (X : List ℕ). Agrees N cls (vs ++ X) (us ++ (P ++ (u ∷ Q))))
+                (λ (X : List ℕ). Agrees (graph bs′ ns′ sib) cls′ (vs′ ++ X) (us′ ++ (P ++ (ks ++ Q)))) means-here law);
       }
 
   abbrev Next : (bs′ ns′ cls′ rs′ keep′ : List ℕ) → Type 0
@@ -220,7 +228,9 @@ module _ {R sib bs ns cls rs keep : List ℕ} (A : List ℕ) (s : ℕ) (B : List
     bare = λ r h. st .bare r (omega arith);
     selves = λ r h. st .selves r (omega arith);
     fixed = λ r h. st .fixed r (omega arith);
-    kids-low = λ r nz. all-each (λ (x : ℕ). x < m) (λ (x : ℕ). x < m + arity c) (λ x k. omega arith) (steps sib (arity (getD bs′ r 0)) (getD ns′ r 0)) (st .kids-low r nz);
+    kids-low =
+        λ r nz. all-each (λ (x : ℕ). x < m) (λ (x : ℕ). x < m + arity c) (λ x k. omega arith) (steps sib (arity (getD bs′ r 0)) (getD ns′ r 0))
+            (st .kids-low r nz);
     some = omega (arith, st .some);
     few = fits;
     size-bound = st .size-bound;
@@ -256,7 +266,8 @@ module _ {R sib bs ns cls rs keep : List ℕ} (A : List ℕ) (s : ℕ) (B : List
     -- (2) another one
     pub dead-other : getD bs (getD cls u 0) 0 ≢ c → Dead
     dead-other d = dead-next K i j c hc (S .holes) (λ (X : List ℕ). Agrees N cls (vs ++ X) (us ++ (P ++ (u ∷ Q)))) (λ (X : List ℕ). Unifies X R) means-here
-        (λ A′ D t _ a. agree-other (S .steady .fair) cls (vs ++ A′) (us ++ P) (before t) c D u Q hv (rw x-is nz) (rw x-is d) (rw (move A′ (c ∷ D), sym (append-assoc us P (u ∷ Q))) at a))
+        (λ A′ D t _ a. agree-other (S .steady .fair) cls (vs ++ A′) (us ++ P) (before t) c D u Q hv (rw x-is nz) (rw x-is d)
+            (rw (move A′ (c ∷ D), sym (append-assoc us P (u ∷ Q))) at a))
 
   -- (3) a variable of the row that is not met yet: it is kept with its node
   module _ (lc : c < 32) where
@@ -339,8 +350,10 @@ module _ {R sib bs ns cls rs keep : List ℕ} (A : List ℕ) (s : ℕ) (B : List
           let p = parts in
           let t₂ : Terms (length (p .U₂ ++ P)) (p .V₂ ++ A′) = rw (length-append (p .U₂) P, entries-length rs A) (Terms-++ (p .terms₂) t) in
           let a = agree-again (S .steady .fair) cls (p .V₁) (p .U₁) (p .V₂ ++ A′) (p .U₂ ++ P) (p .terms₁) t₂ c is-var w D u Q (S .steady .ready .flat) M in
-          let e₁ : (X : List ℕ) → vs ++ (A′ ++ X) ≡ (p .V₁ ++ (c ∷ (p .V₂ ++ A′))) ++ X = λ X. ap (λ (l : List ℕ). l ++ (A′ ++ X)) (p .in-vs) ∙ simp append-assoc in
-          let e₂ : (X : List ℕ) → us ++ (P ++ X) ≡ (p .U₁ ++ (w ∷ (p .U₂ ++ P))) ++ X = λ X. ap (λ (l : List ℕ). l ++ (P ++ X)) (p .in-us) ∙ simp append-assoc in
+          let e₁ : (X : List ℕ) → vs ++ (A′ ++ X) ≡ (p .V₁ ++ (c ∷ (p .V₂ ++ A′))) ++ X =
+              λ X. ap (λ (l : List ℕ). l ++ (A′ ++ X)) (p .in-vs) ∙ simp append-assoc in
+          let e₂ : (X : List ℕ) → us ++ (P ++ X) ≡ (p .U₁ ++ (w ∷ (p .U₂ ++ P))) ++ X =
+              λ X. ap (λ (l : List ℕ). l ++ (P ++ X)) (p .in-us) ∙ simp append-assoc in
           rw (e₁ (c ∷ D), e₁ D, e₂ (u ∷ Q), e₂ Q) a
 
       pub stand-again : {cls′ : List ℕ} {b : Bool} → Equals bs ns sib cls cls′ w u b → b ≡ true → Next bs ns cls′ rs keep
@@ -349,7 +362,8 @@ module _ {R sib bs ns cls rs keep : List ℕ} (A : List ℕ) (s : ℕ) (B : List
           go : {b : Bool} → Equals bs ns sib cls cls′ w u b → b ≡ true → Next bs ns cls′ rs keep
           go (never l n) e = absurd (mathlib.Core.Bool.true≢false (sym e))
           go (equal R′ M t) e =
-              below-state {vs′ = vs} {us′ = us} [] (wider (steady-joined R′ (M own) (t own))) (S .keeps) (S .distinct) (S .low) (more-low us (S .met)) no-args tt refl
+              below-state {vs′ = vs} {us′ = us} [] (wider (steady-joined R′ (M own) (t own))) (S .keeps) (S .distinct) (S .low) (more-low us (S .met))
+                  no-args tt refl
               (λ A′ D t′ _ _. again-law (M own) A′ D t′)
 
       -- (5) nothing makes them equal
@@ -358,12 +372,15 @@ module _ {R sib bs ns cls rs keep : List ℕ} (A : List ℕ) (s : ℕ) (B : List
         where
           go : {b : Bool} → Equals bs ns sib cls cls′ w u b → b ≡ false → Dead
           go (equal R′ M t) e = absurd (mathlib.Core.Bool.true≢false e)
-          go (never l n) e = dead-next K i j c hc (S .holes) (λ (X : List ℕ). Agrees N cls (vs ++ X) (us ++ (P ++ (u ∷ Q)))) (λ (X : List ℕ). Unifies X R) means-here
+          go (never l n) e =
+              dead-next K i j c hc (S .holes) (λ (X : List ℕ). Agrees N cls (vs ++ X) (us ++ (P ++ (u ∷ Q)))) (λ (X : List ℕ). Unifies X R) means-here
               (λ A′ D t _ a.
               let p = parts in
               let t₂ : Terms (length (p .U₂ ++ P)) (p .V₂ ++ A′) = rw (length-append (p .U₂) P, entries-length rs A) (Terms-++ (p .terms₂) t) in
-              let e₁ : vs ++ (A′ ++ (c ∷ D)) ≡ (p .V₁ ++ (c ∷ (p .V₂ ++ A′))) ++ (c ∷ D) = ap (λ (l : List ℕ). l ++ (A′ ++ (c ∷ D))) (p .in-vs) ∙ simp append-assoc in
-              let e₂ : us ++ (P ++ (u ∷ Q)) ≡ (p .U₁ ++ (w ∷ (p .U₂ ++ P))) ++ (u ∷ Q) = ap (λ (l : List ℕ). l ++ (P ++ (u ∷ Q))) (p .in-us) ∙ simp append-assoc in
+              let e₁ : vs ++ (A′ ++ (c ∷ D)) ≡ (p .V₁ ++ (c ∷ (p .V₂ ++ A′))) ++ (c ∷ D) =
+                  ap (λ (l : List ℕ). l ++ (A′ ++ (c ∷ D))) (p .in-vs) ∙ simp append-assoc in
+              let e₂ : us ++ (P ++ (u ∷ Q)) ≡ (p .U₁ ++ (w ∷ (p .U₂ ++ P))) ++ (u ∷ Q) =
+                  ap (λ (l : List ℕ). l ++ (P ++ (u ∷ Q))) (p .in-us) ∙ simp append-assoc in
               let m₂ = agree-met (S .steady .fair) cls (p .V₁) (p .U₁) (p .V₂ ++ A′) (p .U₂ ++ P) (p .terms₁) t₂ c is-var w D u Q (rw (e₁, e₂) at a) in
               n own (m₂ .0) (S .steady .fair) (m₂ .1) (m₂ .2))
 
@@ -442,7 +459,8 @@ module _ {R sib bs ns cls rs keep : List ℕ} (A : List ℕ) (s : ℕ) (B : List
           selves = λ r h. s₀ .selves r (omega arith);
           fixed = λ r h. s₀ .fixed r (omega arith);
           kids-low = λ r nz. by-cases (ℕ-discrete r x) (λ e. rw (e, kids-new) new-in)
-              (λ d. rw (getD-set-other bs x r c 0 d, getD-set-other ns x r m 0 d) (more-low (steps sib (arity (getD bs r 0)) (getD ns r 0)) (s₀ .kids-low r (rw (getD-set-other bs x r c 0 d) at nz))));
+              (λ d. rw (getD-set-other bs x r c 0 d, getD-set-other ns x r m 0 d)
+                  (more-low (steps sib (arity (getD bs r 0)) (getD ns r 0)) (s₀ .kids-low r (rw (getD-set-other bs x r c 0 d) at nz))));
           some = omega (arith, s₀ .some);
           few = fits;
           size-bound = length-set bs x c ∙ s₀ .size-bound;
@@ -460,21 +478,26 @@ module _ {R sib bs ns cls rs keep : List ℕ} (A : List ℕ) (s : ℕ) (B : List
     pub stand-bind : {rs′ : List ℕ} → rs′ ≡ sets rs m (entries cls (steps sib (arity c) m)) → Next bs′ ns′ cls rs′ keep
     unfolding upFrom
     stand-bind {rs′} er =
-        let q : entries cls (steps sib (arity c) m) ≡ new = rw (steps-new (S .steady) (arity c) m (S .steady .some) fits) (entries-new m (arity c) (omega arith) fits) in
+        let q : entries cls (steps sib (arity c) m) ≡ new =
+            rw (steps-new (S .steady) (arity c) m (S .steady .some) fits) (entries-new m (arity c) (omega arith) fits) in
         below-state new steady-bound (S .keeps) (S .distinct) (S .low) (more-low us (S .met)) (sym (up-length m (arity c))) new-in (er ∙ ap (sets rs m) q)
         (λ A′ D t _ r.
         let a = agree-bind (S .steady .fair) cls binds fresh-new hv (up-length m (arity c)) z x-old (vs ++ A′) (us ++ P) (before t) D u Q x-is
         (none-new (us ++ P) (all-++ (λ (y : ℕ). y < m) us P (S .met) low-P)) (none-new Q (low-Q .1))
-        (λ d o k. let v = up-mem (var m) (arity c) d (cells-new d k) in let h = row-cells A′ D r d o in let y : ⊥ = omega (arith, h (var-small d (omega arith))) in y) in
+        (λ d o k. let v = up-mem (var m) (arity c) d (cells-new d k) in let h = row-cells A′ D r d o in
+            let y : ⊥ = omega (arith, h (var-small d (omega arith))) in y) in
         rw (move A′ (c ∷ D), move A′ D, sym (append-assoc us P (u ∷ Q)))
         (Iff·trans a (rw (append-assoc us P (new ++ Q)) (λ y. y, λ y. y))))
       where
         entries-new : (p a : ℕ) → m ≤ p → p + a ≤ 64 → entries cls (upFrom p a) ≡ upFrom p a
         entries-new p zero h l = refl
-        entries-new p (suc a) h l = ap₂ _∷_ (sym (at-is cls p (omega (arith, S .steady .ready .size))) ∙ S .steady .fixed p h) (entries-new (suc p) a (omega arith) (omega arith))
+        entries-new p (suc a) h l =
+            ap₂ _∷_ (sym (at-is cls p (omega (arith, S .steady .ready .size))) ∙ S .steady .fixed p h)
+                (entries-new (suc p) a (omega arith) (omega arith))
 
         row-cells : (A′ D : List ℕ) → RowLike (A′ ++ (c ∷ D)) → (d : ℕ) → List·Memᴰ d ((vs ++ A′) ++ D) → isVar d ≡ true → d < 2 ^ 16
         row-cells A′ D r d o v = ⊎-elim
-            (λ p. ⊎-elim (λ q. let l = all-mem (λ (y : ℕ). y < 32) vs (S .low) d q in omega arith) (λ q. r .low d (Memᴰ·append-left (c ∷ D) q) v) (List·Memᴰ·append-cases vs p))
+            (λ p. ⊎-elim (λ q. let l = all-mem (λ (y : ℕ). y < 32) vs (S .low) d q in omega arith) (λ q. r .low d (Memᴰ·append-left (c ∷ D) q) v)
+                (List·Memᴰ·append-cases vs p))
             (λ p. r .low d (Memᴰ·append-right A′ (List·Memᴰ·tail p)) v)
             (List·Memᴰ·append-cases (vs ++ A′) o)

@@ -52,7 +52,8 @@ unfolding index
 index-low v [] = omega arith
 index-low v (c ∷ xs) = cond-case (eqb v c) (λ (n : ℕ). n ≤ suc (length xs)) (λ e. omega arith) (λ e. let h = index-low v xs in omega arith)
 
-module _ {w : ℕ} {G sib rep : List ℕ} (g : Goal w G) (T : Tables G sib rep) {bs ns us bs′ : List ℕ} {n e m : ℕ} {Θ : ℕ → List ℕ} (b : Bound G rep sib bs ns us n e m Θ)
+module _ {w : ℕ} {G sib rep : List ℕ} (g : Goal w G) (T : Tables G sib rep) {bs ns us bs′ : List ℕ} {n e m : ℕ} {Θ : ℕ → List ℕ}
+    (b : Bound G rep sib bs ns us n e m Θ)
     (ne : n < e) (some : 32 ≤ m) (few : m ≤ 64) (Y : Symbols n bs us bs′) (sn : length ns ≡ 64) where
   abbrev N : Nodes
   N = graph bs′ ns sib
@@ -130,8 +131,8 @@ module _ {w : ℕ} {G sib rep : List ℕ} (g : Goal w G) (T : Tables G sib rep) 
   -- what a node is, at the branch number n
   data Now (r : ℕ) : Type 0 where
     has : Node G rep m r → getD bs′ r 0 ≡ getD bs r 0 → isVar (getD bs r 0) ≡ false
-        → inst Θ (ref G r) ≡ getD bs r 0 ∷ inst Θ (refs G (link.nodes rep sib (arity (getD bs r 0)) (getD ns r 0)))
-        → link.Nodes G rep m (link.nodes rep sib (arity (getD bs r 0)) (getD ns r 0))
+        → inst Θ (ref G r) ≡ getD bs r 0 ∷ inst Θ (refs G (link.goalNodes rep sib (arity (getD bs r 0)) (getD ns r 0)))
+        → link.GoalNodes G rep m (link.goalNodes rep sib (arity (getD bs r 0)) (getD ns r 0))
         → All (λ (x : ℕ). x < 64) (steps sib (arity (getD bs r 0)) (getD ns r 0)) → Now r
     loose : Node G rep m r → getD bs′ r 0 ≡ 0 → (x : ℕ) → x < 64 → ref G r ≡ var x ∷ [] → Θ (var x) ≡ var x ∷ [] → Now r
     no-node : (Node G rep m r → ⊥) → getD bs′ r 0 ≡ 0 → Now r
@@ -154,7 +155,8 @@ module _ {w : ℕ} {G sib rep : List ℕ} (g : Goal w G) (T : Tables G sib rep) 
   ref-long : (r : ℕ) → Node G rep m r → 1 ≤ length (inst Θ (ref G r))
   ref-long r o = terms-long (Terms-inst (b .good) (Terms-ref g T few o))
 
-  fins : (d : ℕ) → ((r : ℕ) → Node G rep m r → length (inst Θ (ref G r)) ≤ d → Fin N rep r) → (ps : List ℕ) → All (λ (x : ℕ). x < 64) ps → link.Nodes G rep m (entries rep ps)
+  fins : (d : ℕ) → ((r : ℕ) → Node G rep m r → length (inst Θ (ref G r)) ≤ d → Fin N rep r) → (ps : List ℕ) → All (λ (x : ℕ). x < 64) ps
+      → link.GoalNodes G rep m (entries rep ps)
       → length (inst Θ (refs G (entries rep ps))) ≤ d → FinAll N rep ps
   unfolding refs
   fins d ih [] a o l = no-more
@@ -173,7 +175,8 @@ module _ {w : ℕ} {G sib rep : List ℕ} (g : Goal w G) (T : Tables G sib rep) 
       go (loose k z x lx t f) ih = bare {r = r} (rw (node-fixed r o) z)
       go (has k q h t ks s) ih =
           let nz : getD bs r 0 ≢ 0 = λ y. true≢false (sym (var-small (getD bs r 0) (omega arith)) ∙ h) in
-          over {r = r} (rw (node-fixed r o, q) nz) (rw (node-fixed r o, q) (fins d ih (steps sib (arity (getD bs r 0)) (getD ns r 0)) s ks (omega (arith, ap length t))))
+          over {r = r} (rw (node-fixed r o, q) nz) (rw (node-fixed r o, q)
+              (fins d ih (steps sib (arity (getD bs r 0)) (getD ns r 0)) s ks (omega (arith, ap length t))))
 
   finite : (r : ℕ) → Fin N rep r
   finite r = go (ltb r 64) refl
@@ -197,24 +200,27 @@ module _ {w : ℕ} {G sib rep : List ℕ} (g : Goal w G) (T : Tables G sib rep) 
 
   -- a node with a symbol
   symbol-node : (r : ℕ) → getD bs′ r 0 ≢ 0 → Node G rep m r × (getD bs′ r 0 ≡ getD bs r 0) × (isVar (getD bs r 0) ≡ false)
-      × (inst Θ (ref G r) ≡ getD bs r 0 ∷ inst Θ (refs G (link.nodes rep sib (arity (getD bs r 0)) (getD ns r 0))))
-      × link.Nodes G rep m (link.nodes rep sib (arity (getD bs r 0)) (getD ns r 0)) × All (λ (x : ℕ). x < 64) (steps sib (arity (getD bs r 0)) (getD ns r 0))
+      × (inst Θ (ref G r) ≡ getD bs r 0 ∷ inst Θ (refs G (link.goalNodes rep sib (arity (getD bs r 0)) (getD ns r 0))))
+      × link.GoalNodes G rep m (link.goalNodes rep sib (arity (getD bs r 0)) (getD ns r 0))
+      × All (λ (x : ℕ). x < 64) (steps sib (arity (getD bs r 0)) (getD ns r 0))
   symbol-node r nz = go (ltb r 64) refl
     where
       by : Now r → Node G rep m r × (getD bs′ r 0 ≡ getD bs r 0) × (isVar (getD bs r 0) ≡ false)
-          × (inst Θ (ref G r) ≡ getD bs r 0 ∷ inst Θ (refs G (link.nodes rep sib (arity (getD bs r 0)) (getD ns r 0))))
-          × link.Nodes G rep m (link.nodes rep sib (arity (getD bs r 0)) (getD ns r 0)) × All (λ (x : ℕ). x < 64) (steps sib (arity (getD bs r 0)) (getD ns r 0))
+          × (inst Θ (ref G r) ≡ getD bs r 0 ∷ inst Θ (refs G (link.goalNodes rep sib (arity (getD bs r 0)) (getD ns r 0))))
+          × link.GoalNodes G rep m (link.goalNodes rep sib (arity (getD bs r 0)) (getD ns r 0))
+          × All (λ (x : ℕ). x < 64) (steps sib (arity (getD bs r 0)) (getD ns r 0))
       by (has o q h t k s) = (o, q, h, t, k, s)
       by (loose o z x lx t f) = absurd (nz z)
       by (no-node f z) = absurd (nz z)
 
       go : (x : Bool) → ltb r 64 ≡ x → Node G rep m r × (getD bs′ r 0 ≡ getD bs r 0) × (isVar (getD bs r 0) ≡ false)
-          × (inst Θ (ref G r) ≡ getD bs r 0 ∷ inst Θ (refs G (link.nodes rep sib (arity (getD bs r 0)) (getD ns r 0))))
-          × link.Nodes G rep m (link.nodes rep sib (arity (getD bs r 0)) (getD ns r 0)) × All (λ (x : ℕ). x < 64) (steps sib (arity (getD bs r 0)) (getD ns r 0))
+          × (inst Θ (ref G r) ≡ getD bs r 0 ∷ inst Θ (refs G (link.goalNodes rep sib (arity (getD bs r 0)) (getD ns r 0))))
+          × link.GoalNodes G rep m (link.goalNodes rep sib (arity (getD bs r 0)) (getD ns r 0))
+          × All (λ (x : ℕ). x < 64) (steps sib (arity (getD bs r 0)) (getD ns r 0))
       go true q = by (now? r (ltb-true r 64 q))
       go false q = absurd (nz (bare-out r (ltb-false r 64 q)))
 
-  raws-low : (ps : List ℕ) → All (λ (x : ℕ). x < 64) ps → link.Nodes G rep m (entries rep ps) → All (λ (x : ℕ). x < m) ps
+  raws-low : (ps : List ℕ) → All (λ (x : ℕ). x < 64) ps → link.GoalNodes G rep m (entries rep ps) → All (λ (x : ℕ). x < m) ps
   raws-low [] a o = tt
   raws-low (p ∷ ps) a (link.cons o os) = (raw-low p (a .0) o, raws-low ps (a .1) os)
 
@@ -239,7 +245,9 @@ module _ {w : ℕ} {G sib rep : List ℕ} (g : Goal w G) (T : Tables G sib rep) 
       rep-in = small;
       out = λ r l. (at-out r l, bare-out r l);
     };
-    bare = λ r l. by-cases (ℕ-discrete (getD bs′ r 0) 0) (λ z. z) (λ nz. absurd (let o = symbol-node r nz in let k = node-m r (o .0) in let z : ⊥ = omega arith in z));
+    bare =
+        λ r l. by-cases (ℕ-discrete (getD bs′ r 0) 0) (λ z. z)
+            (λ nz. absurd (let o = symbol-node r nz in let k = node-m r (o .0) in let z : ⊥ = omega arith in z));
     selves = λ r l. ⊎-elim (λ k. absurd (let i = T .inside r k in let q = at-cell r k in let z : ⊥ = omega (arith, in-goal) in z)) (λ q. q) (place? r);
     fixed = λ r l. ⊎-elim (λ k. absurd (let z : ⊥ = omega (arith, in-goal) in z)) (λ q. q) (place? r);
     kids-low = λ r nz. let o = symbol-node r nz in rw (o .1) (raws-low (steps sib (arity (getD bs r 0)) (getD ns r 0)) (o .5) (o .4));
@@ -305,7 +313,8 @@ module _ {w : ℕ} {G sib rep : List ℕ} (g : Goal w G) (T : Tables G sib rep) 
     unfolding τ
     τ-good = record {
       vars = λ c h. cond-case (ltb c (var 0)) (λ (x : List ℕ). Terms 1 x) (λ q. sσ .vars c h)
-          (λ q. cond-case (ltb c (var 64)) (λ (x : List ℕ). Terms 1 x) (λ o. val-term (c - var 0) (let u = ltb-true c (var 64) o in let w = ltb-false c (var 0) q in omega arith)) (λ o. sσ .vars c h));
+          (λ q. cond-case (ltb c (var 64)) (λ (x : List ℕ). Terms 1 x)
+              (λ o. val-term (c - var 0) (let u = ltb-true c (var 64) o in let w = ltb-false c (var 0) q in omega arith)) (λ o. sσ .vars c h));
       symbols = λ c h. let k = symbol-big c h in rw (le-ltb c (var 0) (omega arith), le-ltb c (var 64) (omega arith)) (sσ .symbols c h);
     }
       where
@@ -320,13 +329,14 @@ module _ {w : ℕ} {G sib rep : List ℕ} (g : Goal w G) (T : Tables G sib rep) 
     worth : (r : ℕ) → r < 64 → (r < length G) ⊎ (32 ≤ r) → inst τ (own r) ≡ inst σ (inst Θ (ref G r))
     worth r l h = ap (inst τ) (own-is r l) ∙ inst-var τ (var r) ∙ τ-node r l ∙ val-is r h
 
-    worths : (ps : List ℕ) → All (λ (x : ℕ). x < 64) ps → link.Nodes G rep m (entries rep ps) → vals N τ ps ≡ inst σ (inst Θ (refs G (entries rep ps)))
+    worths : (ps : List ℕ) → All (λ (x : ℕ). x < 64) ps → link.GoalNodes G rep m (entries rep ps) → vals N τ ps ≡ inst σ (inst Θ (refs G (entries rep ps)))
     unfolding refs owns inst
     worths [] a o = refl
     worths (p ∷ ps) a (link.cons o os) =
         inst-++ τ (own p) (owns N ps)
         ∙ ap₂ _++_ (worth p (a .0) (is-there p (a .0) o) ∙ ap (λ (x : List ℕ). inst σ (inst Θ x)) (sym (ref-rep p (a .0)))) (worths ps (a .1) os)
-        ∙ sym (ap (inst σ) (inst-++ Θ (ref G (getD rep p 0)) (refs G (entries rep ps))) ∙ inst-++ σ (inst Θ (ref G (getD rep p 0))) (inst Θ (refs G (entries rep ps))))
+        ∙ sym (ap (inst σ) (inst-++ Θ (ref G (getD rep p 0)) (refs G (entries rep ps)))
+            ∙ inst-++ σ (inst Θ (ref G (getD rep p 0))) (inst Θ (refs G (entries rep ps))))
 
     node-there : (r : ℕ) → Node G rep m r → (r < length G) ⊎ (32 ≤ r)
     node-there r (cell a c) = inl a
@@ -337,7 +347,8 @@ module _ {w : ℕ} {G sib rep : List ℕ} (g : Goal w G) (T : Tables G sib rep) 
       good = τ-good;
       classes = λ r. ⊎-elim
           (λ k. let l : r < 64 = omega (arith, in-goal) in let i = T .inside r k in
-          worth r l (inl k) ∙ ap (λ (x : List ℕ). inst σ (inst Θ x)) (sym (T .same r k)) ∙ rw (at-cell r k) (sym (worth (getD rep r 0) (omega (arith, in-goal)) (inl i))))
+          worth r l (inl k) ∙ ap (λ (x : List ℕ). inst σ (inst Θ x)) (sym (T .same r k))
+              ∙ rw (at-cell r k) (sym (worth (getD rep r 0) (omega (arith, in-goal)) (inl i))))
           (λ q. ap (λ (x : ℕ). inst τ (own x)) (sym q))
           (place? r);
       heads = λ r nz.
@@ -350,14 +361,14 @@ module _ {w : ℕ} {G sib rep : List ℕ} (g : Goal w G) (T : Tables G sib rep) 
     }
 
     -- the nodes at open places
-    worth-nodes : (rs : List ℕ) → link.Nodes G rep m rs → vals N τ rs ≡ inst σ (inst Θ (refs G rs))
+    worth-nodes : (rs : List ℕ) → link.GoalNodes G rep m rs → vals N τ rs ≡ inst σ (inst Θ (refs G rs))
     unfolding refs owns inst
     worth-nodes [] o = refl
     worth-nodes (r ∷ rs) (link.cons o os) =
         inst-++ τ (own r) (owns N rs) ∙ ap₂ _++_ (worth r (node-64 r o) (node-there r o)) (worth-nodes rs os)
         ∙ sym (ap (inst σ) (inst-++ Θ (ref G r) (refs G rs)) ∙ inst-++ σ (inst Θ (ref G r)) (inst Θ (refs G rs)))
 
-  pub means-to : (X rs : List ℕ) → RowLike X → link.Nodes G rep m rs → Unifies X (inst Θ (refs G rs)) → Agrees N rep X rs
+  pub means-to : (X rs : List ℕ) → RowLike X → link.GoalNodes G rep m rs → Unifies X (inst Θ (refs G rs)) → Agrees N rep X rs
   means-to X rs r o u = record {
     by = τ (u .by) (u .good);
     solves = τ-solves (u .by) (u .good);
@@ -365,7 +376,9 @@ module _ {w : ℕ} {G sib rep : List ℕ} (g : Goal w G) (T : Tables G sib rep) 
   }
     where
       row-cell : (c : ℕ) → List·Memᴰ c X → τ (u .by) (u .good) c ≡ u .by c
-      row-cell c q = ⊎-elim (λ h. τ-row (u .by) (u .good) c (r .low c q h)) (λ h. τ-good (u .by) (u .good) .symbols c h ∙ sym (u .good .symbols c h)) (bool-cases (isVar c))
+      row-cell c q =
+          ⊎-elim (λ h. τ-row (u .by) (u .good) c (r .low c q h)) (λ h. τ-good (u .by) (u .good) .symbols c h ∙ sym (u .good .symbols c h))
+              (bool-cases (isVar c))
 
   -- FROM A SOLUTION TO A UNIFIER. A variable of the goal is worth what its node is.
   cell-var : (r x : ℕ) → x < 64 → r < length G → ref G r ≡ var x ∷ [] → getD G r 0 ≡ var x
@@ -380,7 +393,8 @@ module _ {w : ℕ} {G sib rep : List ℕ} (g : Goal w G) (T : Tables G sib rep) 
   var-cell p x lx l e =
       let k : p < 32 = omega (arith, in-goal) in
       let z : arity (var x) + 0 ≡ 0 = (let y = var-arity (var x) (var-small (var x) (omega arith)) in omega arith) in
-      ref-cell G p k ∙ ap (front 1) (drop-cons G p 0 l ∙ ap (λ (c : ℕ). c ∷ drop (suc p) G) e) ∙ ap (λ (n : ℕ). var x ∷ front n (drop (suc p) G)) z ∙ ap (λ (l : List ℕ). var x ∷ l) (front-zero (drop (suc p) G))
+      ref-cell G p k ∙ ap (front 1) (drop-cons G p 0 l ∙ ap (λ (c : ℕ). c ∷ drop (suc p) G) e) ∙ ap (λ (n : ℕ). var x ∷ front n (drop (suc p) G)) z
+          ∙ ap (λ (l : List ℕ). var x ∷ l) (front-zero (drop (suc p) G))
 
   module _ (ρ : ℕ → List ℕ) (S : Solves N rep ρ) where
     nodeFor : ℕ → ℕ
@@ -406,7 +420,8 @@ module _ {w : ℕ} {G sib rep : List ℕ} (g : Goal w G) (T : Tables G sib rep) 
     φ-good = record {
       vars = λ c h. cond-case (ltb c (var 0)) (λ (x : List ℕ). Terms 1 x) (λ q. S .good .vars c h)
           (λ q. cond-case (ltb c (var 64)) (λ (x : List ℕ). Terms 1 x)
-          (λ o. let u = ltb-true c (var 64) o in let w = ltb-false c (var 0) q in let k = node-small (c - var 0) (omega arith) in S .good .vars (var (nodeFor (c - var 0))) (var-small _ (omega arith)))
+          (λ o. let u = ltb-true c (var 64) o in let w = ltb-false c (var 0) q in let k = node-small (c - var 0) (omega arith) in
+              S .good .vars (var (nodeFor (c - var 0))) (var-small _ (omega arith)))
           (λ o. S .good .vars c h));
       symbols = λ c h. let k = symbol-big c h in rw (le-ltb c (var 0) (omega arith), le-ltb c (var 64) (omega arith)) (S .good .symbols c h);
     }
@@ -433,8 +448,9 @@ module _ {w : ℕ} {G sib rep : List ℕ} (g : Goal w G) (T : Tables G sib rep) 
         let y : 32 ≤ x = omega arith in
         rw (le-ltb x 32 y) (omega arith)
 
-    backs : (d : ℕ) → ((r : ℕ) → Node G rep m r → length (inst Θ (ref G r)) ≤ d → inst φ (inst Θ (ref G r)) ≡ inst ρ (own r)) → (ps : List ℕ) → All (λ (x : ℕ). x < 64) ps
-        → link.Nodes G rep m (entries rep ps) → length (inst Θ (refs G (entries rep ps))) ≤ d → inst φ (inst Θ (refs G (entries rep ps))) ≡ vals N ρ ps
+    backs : (d : ℕ) → ((r : ℕ) → Node G rep m r → length (inst Θ (ref G r)) ≤ d → inst φ (inst Θ (ref G r)) ≡ inst ρ (own r)) → (ps : List ℕ)
+        → All (λ (x : ℕ). x < 64) ps
+        → link.GoalNodes G rep m (entries rep ps) → length (inst Θ (refs G (entries rep ps))) ≤ d → inst φ (inst Θ (refs G (entries rep ps))) ≡ vals N ρ ps
     unfolding refs owns inst
     backs d ih [] a o l = refl
     backs d ih (p ∷ ps) a (link.cons o os) l =
@@ -448,25 +464,28 @@ module _ {w : ℕ} {G sib rep : List ℕ} (g : Goal w G) (T : Tables G sib rep) 
     back-to zero r o l = absurd (let k = ref-long r o in let z : ⊥ = omega arith in z)
     back-to (suc d) r o l = go (now? r (node-64 r o)) (back-to d)
       where
-        go : Now r → ((s : ℕ) → Node G rep m s → length (inst Θ (ref G s)) ≤ d → inst φ (inst Θ (ref G s)) ≡ inst ρ (own s)) → inst φ (inst Θ (ref G r)) ≡ inst ρ (own r)
+        go : Now r → ((s : ℕ) → Node G rep m s → length (inst Θ (ref G s)) ≤ d → inst φ (inst Θ (ref G s)) ≡ inst ρ (own s))
+            → inst φ (inst Θ (ref G r)) ≡ inst ρ (own r)
         go (no-node f z) ih = absurd (f o)
         go (loose k z x lx t f) ih =
-            ap (inst φ) (ap (inst Θ) t ∙ inst-var Θ (var x) ∙ f) ∙ inst-var φ (var x) ∙ φ-var x lx ∙ ap (λ (n : ℕ). ρ (var n)) (found r x o lx t) ∙ sym (ap (inst ρ) (own-is r (node-64 r o)) ∙ inst-var ρ (var r))
+            ap (inst φ) (ap (inst Θ) t ∙ inst-var Θ (var x) ∙ f) ∙ inst-var φ (var x) ∙ φ-var x lx ∙ ap (λ (n : ℕ). ρ (var n)) (found r x o lx t)
+                ∙ sym (ap (inst ρ) (own-is r (node-64 r o)) ∙ inst-var ρ (var r))
         go (has k q h t ks s) ih =
             let c = getD bs r 0 in
             let ps = steps sib (arity c) (getD ns r 0) in
             let nz : getD bs′ r 0 ≢ 0 = λ y. true≢false (sym (var-small c (omega arith)) ∙ h) in
-            ap (inst φ) t ∙ inst-symbol c (inst Θ (refs G (entries rep ps))) φ-good h ∙ ap (λ (x : List ℕ). c ∷ x) (backs d ih ps s ks (omega (arith, ap length t)))
+            ap (inst φ) t ∙ inst-symbol c (inst Θ (refs G (entries rep ps))) φ-good h
+            ∙ ap (λ (x : List ℕ). c ∷ x) (backs d ih ps s ks (omega (arith, ap length t)))
             ∙ sym (rw q at (S .heads r nz))
 
-    back-nodes : (rs : List ℕ) → link.Nodes G rep m rs → inst φ (inst Θ (refs G rs)) ≡ vals N ρ rs
+    back-nodes : (rs : List ℕ) → link.GoalNodes G rep m rs → inst φ (inst Θ (refs G rs)) ≡ vals N ρ rs
     unfolding refs owns inst
     back-nodes [] o = refl
     back-nodes (r ∷ rs) (link.cons o os) =
         ap (inst φ) (inst-++ Θ (ref G r) (refs G rs)) ∙ inst-++ φ (inst Θ (ref G r)) (inst Θ (refs G rs))
         ∙ ap₂ _++_ (back-to (length (inst Θ (ref G r))) r o (omega arith)) (back-nodes rs os) ∙ sym (inst-++ ρ (own r) (owns N rs))
 
-  pub means-from : (X rs : List ℕ) → RowLike X → link.Nodes G rep m rs → Agrees N rep X rs → Unifies X (inst Θ (refs G rs))
+  pub means-from : (X rs : List ℕ) → RowLike X → link.GoalNodes G rep m rs → Agrees N rep X rs → Unifies X (inst Θ (refs G rs))
   means-from X rs r o a = record {
     by = φ (a .by) (a .solves);
     good = φ-good (a .by) (a .solves);
@@ -474,4 +493,6 @@ module _ {w : ℕ} {G sib rep : List ℕ} (g : Goal w G) (T : Tables G sib rep) 
   }
     where
       row-cell : (c : ℕ) → List·Memᴰ c X → φ (a .by) (a .solves) c ≡ a .by c
-      row-cell c q = ⊎-elim (λ h. φ-row (a .by) (a .solves) c (r .low c q h)) (λ h. φ-good (a .by) (a .solves) .symbols c h ∙ sym (a .solves .good .symbols c h)) (bool-cases (isVar c))
+      row-cell c q =
+          ⊎-elim (λ h. φ-row (a .by) (a .solves) c (r .low c q h)) (λ h. φ-good (a .by) (a .solves) .symbols c h ∙ sym (a .solves .good .symbols c h))
+              (bool-cases (isVar c))

@@ -98,7 +98,8 @@ module _ {w : ℕ} {g : List ℕ} (h : IsGoal w g) where
 
 -- What a run then reports.
 
-picks-map : {P Q : List ℕ → Type 0} {rs : List (List ℕ)} {f : ℕ} {hs : List ℕ} (F : List ℕ → Type 0) → ((x : List ℕ) → F x → P x → Q x) → ((x : List ℕ) → F x → Q x → P x) → All F rs
+picks-map : {P Q : List ℕ → Type 0} {rs : List (List ℕ)} {f : ℕ} {hs : List ℕ} (F : List ℕ → Type 0) → ((x : List ℕ) → F x → P x → Q x)
+    → ((x : List ℕ) → F x → Q x → P x) → All F rs
     → Picks P rs f hs → Picks Q rs f hs
 picks-map F g h a none = none
 picks-map F g h a (hit {r} p w) = hit (g r (a .0) p) (picks-map F g h (a .1) w)

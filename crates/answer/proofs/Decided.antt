@@ -42,7 +42,8 @@ module _ (w : ℕ) (g : List ℕ) (t : Terms w (renamed g)) where
   hits-by [] f a = none
   hits-by (r ∷ rs) f a = pick (unifiable-correct r (renamed g) (a .0) t) (hits-by rs (suc f) (a .1))
 
-  tally : {K : List ℕ} {Ks : List (List ℕ)} {n : ℕ} {b : Bool} → Decides (Unifies (opened K) (renamed g)) b → Counts (Tried g) Ks n → Counts (Tried g) (K ∷ Ks) (cond b (suc n) n)
+  tally : {K : List ℕ} {Ks : List (List ℕ)} {n : ℕ} {b : Bool} → Decides (Unifies (opened K) (renamed g)) b → Counts (Tried g) Ks n
+      → Counts (Tried g) (K ∷ Ks) (cond b (suc n) n)
   unfolding Tried
   tally (says-yes p) c = one-of p c
   tally (says-no p) c = none-of p c
@@ -57,8 +58,10 @@ pub row-terms : (w : ℕ) (rows : List (List ℕ)) → All (Row w) rows → All 
 row-terms w [] a = tt
 row-terms w (r ∷ rs) a = (a .0 .terms, row-terms w rs (a .1))
 
-pub run-by : {t p g room room′ : List ℕ} {T : Table} {r : RunAnswer} (tree : Plan (T .width) (T .rows)) → Takes t p g room T → write tree ≡ p → Ran t p g room room′ r
-    → (runTold r ≡ answered (length (hitsBy g (T .rows) 0)) (triedBy g (skeletons tree (replicate (T .width) hole)))) × (room′ ≡ hitsBy g (T .rows) 0 ++ drop (length (hitsBy g (T .rows) 0)) room)
+pub run-by : {t p g room room′ : List ℕ} {T : Table} {r : RunAnswer} (tree : Plan (T .width) (T .rows)) → Takes t p g room T → write tree ≡ p
+    → Ran t p g room room′ r
+    → (runTold r ≡ answered (length (hitsBy g (T .rows) 0)) (triedBy g (skeletons tree (replicate (T .width) hole))))
+        × (room′ ≡ hitsBy g (T .rows) 0 ++ drop (length (hitsBy g (T .rows) 0)) room)
 run-by tree k c (refusal f a b d) = apart (sym (takes-run k) ∙ a)
 run-by {t} {p} {g} {room} {T = T} tree k c (ran T′ tree′ found n a e w u b d) =
     let q : T′ ≡ T = read-one (sym a ∙ takes-run k) in
@@ -70,4 +73,5 @@ run-by {t} {p} {g} {room} {T = T} tree k c (ran T′ tree′ found n a e w u b d
     let Ks = skeletons tree (replicate (T .width) hole) in
     let ts = tried-by (T .width) g h Ks (skeletons-terms (T .width) tree (table-loose i) (omega (arith, i .count))) in
     let en : n ≡ triedBy g Ks = counts-one (subst (λ (l : List (List ℕ)). Counts (Tried g) l n) es u) ts in
-    (b ∙ ap (λ (l : List ℕ). answered (length l) n) ef ∙ ap (answered (length (hitsBy g (T .rows) 0))) en, d ∙ ap (λ (l : List ℕ). l ++ drop (length l) room) ef)
+    (b ∙ ap (λ (l : List ℕ). answered (length l) n) ef ∙ ap (answered (length (hitsBy g (T .rows) 0))) en, d
+        ∙ ap (λ (l : List ℕ). l ++ drop (length l) room) ef)

@@ -29,7 +29,8 @@ one-length : (b : Bool) (f : ℕ) → length (cond b (f ∷ []) []) ≤ 1
 one-length true f = omega arith
 one-length false f = omega arith
 
-test-length : (b : Bool) (rows : List (List ℕ)) → (b ≡ true → 1 ≤ length rows) → (x y : List ℕ) → length x ≤ 1 → length y ≤ length rows → length (cond b x y) ≤ length rows
+test-length : (b : Bool) (rows : List (List ℕ)) → (b ≡ true → 1 ≤ length rows) → (x y : List ℕ) → length x ≤ 1 → length y ≤ length rows
+    → length (cond b x y) ≤ length rows
 test-length true rows h x y k l = let o = h refl in omega arith
 test-length false rows h x y k l = l
 
@@ -66,12 +67,14 @@ mutual
   hitsIn-few end i m R f = omega arith
   hitsIn-few (next {g = g} p bs) i m R f =
       let here = test-length (flag g) (g .rows) (λ q. flag-some g q)
-      (cond (unifiable (insert i (g .cell) (flatten (g .rows))) R) (f ∷ []) []) (under [] (after (var m) i (g .cell) R) (λ R′. hits p (m + arity (g .cell)) R′ f))
+      (cond (unifiable (insert i (g .cell) (flatten (g .rows))) R) (f ∷ []) [])
+          (under [] (after (var m) i (g .cell) R) (λ R′. hits p (m + arity (g .cell)) R′ f))
       (one-length (unifiable (insert i (g .cell) (flatten (g .rows))) R) f)
       (under-length (length (g .rows)) (after (var m) i (g .cell) R) (λ R′. hits p (m + arity (g .cell)) R′ f) (λ R′. hits-few p (m + arity (g .cell)) R′ f)) in
       omega (
         arith,
         here,
-        length-append (cond (flag g) (cond (unifiable (insert i (g .cell) (flatten (g .rows))) R) (f ∷ []) []) (under [] (after (var m) i (g .cell) R) (λ R′. hits p (m + arity (g .cell)) R′ f))) (hitsIn bs i m R (f + length (g .rows))),
+        length-append (cond (flag g) (cond (unifiable (insert i (g .cell) (flatten (g .rows))) R) (f ∷ []) [])
+            (under [] (after (var m) i (g .cell) R) (λ R′. hits p (m + arity (g .cell)) R′ f))) (hitsIn bs i m R (f + length (g .rows))),
         hitsIn-few bs i m R (f + length (g .rows)),
       )

@@ -93,7 +93,8 @@ moved {t} {p} {g} {room} {r = r} other l l′ (ran T tree found n a e w u b c) j
       same ∙ ap (entered j r) (sym c),
     )
 
-pub any-room : {t p g room room₁ other other₁ : List ℕ} {r s : RunAnswer} → Enough t room → Enough t other → Ran t p g room room₁ r → Ran t p g other other₁ s → (j : Job)
+pub any-room : {t p g room room₁ other other₁ : List ℕ} {r s : RunAnswer} → Enough t room → Enough t other → Ran t p g room room₁ r
+    → Ran t p g other other₁ s → (j : Job)
     → entered j r room₁ ≡ entered j s other₁
 any-room {r = r} l l′ x y j =
     let m = moved _ l l′ x j in

@@ -70,7 +70,8 @@ module _ (K : List ℕ) (i j : ℕ) (e : count hole K ≡ i + suc j) {x : List �
 
   pub refill : fill (decide i (root i x) K) (close i x) ≡ fill K x
   refill =
-      ap (fill (decide i (root i x) K)) (parts .closed) ∙ fill-decide i (root i x) K (parts .B) no-hole (parts .tA) (parts .targs) ∙ ap (fill K) (sym (parts .whole))
+      ap (fill (decide i (root i x) K)) (parts .closed) ∙ fill-decide i (root i x) K (parts .B) no-hole (parts .tA) (parts .targs)
+      ∙ ap (fill K) (sym (parts .whole))
 
   pub holes : count hole (decide i (root i x) K) ≡ i + (arity (root i x) + j)
   holes = let d = decide-count i (root i x) K no-hole (omega arith) in omega arith
@@ -96,7 +97,8 @@ some-row P [] l a = absurd (let z : ⊥ = omega arith in z)
 some-row P (r ∷ rs) l a = (r, a .0)
 
 pub skeleton-low : {K x : List ℕ} → Loose K x → (c : ℕ) → List·Memᴰ c K → isVar c ≡ true → c < 2 ^ 15
-skeleton-low {K} {x} F c m v = F .low c (mem-count c (fill K x) (let e = count-fill c K x (var-no-hole c v) (F .terms) in let o = count-mem c m in omega arith)) v
+skeleton-low {K} {x} F c m v =
+    F .low c (mem-count c (fill K x) (let e = count-fill c K x (var-no-hole c v) (F .terms) in let o = count-mem c m in omega arith)) v
 
 pub skeleton-short : {K x : List ℕ} → Loose K x → 2 ^ 15 + count hole K ≤ 2 ^ 16
 skeleton-short F = let h = terms-long (F .terms) in let s = F .short in omega arith

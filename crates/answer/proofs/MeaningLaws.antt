@@ -37,7 +37,8 @@ use Rattle.answer.specs.code.Loose.{Loose}
 use Rattle.answer.proofs.LooseLaws.{refill, no-hole, loose-close, skeleton-low, skeleton-short}
 use Rattle.answer.proofs.LooseLaws.{row-like, parts, some-row, counts-++}
 use Rattle.answer.proofs.RelativeLaws.{dead-all, rel-first, rel-next, rel-tried, rel-skeletons, add}
-use Rattle.answer.proofs.SkeletonLaws.{Settled, settled-linear, decided, Holds, Decided, goes, ends, step, reached, decide-count, count-fill, var-no-hole, three-of, one-row, Opened, opened-row}
+use Rattle.answer.proofs.SkeletonLaws.{Settled, settled-linear, decided, Holds, Decided, goes, ends, step, reached, decide-count, count-fill}
+use Rattle.answer.proofs.SkeletonLaws.{var-no-hole, three-of, one-row, Opened, opened-row}
 
 -- a row that uses each of its variables once
 pub record Once (K x : List ℕ) : Type 0 where
@@ -51,7 +52,8 @@ once-close K i j e {x} f = record { loose = loose-close K i j e (f .loose); lin 
 
 data PicksIn (Q : ℕ → List ℕ → Type 0) : List Run → ℕ → List ℕ → Type 0 where
   none-run : {f : ℕ} → PicksIn Q [] f []
-  one-run : {g : Run} {gs : List Run} {f : ℕ} {hs hs′ : List ℕ} → Picks (Q (g .cell)) (g .rows) f hs → PicksIn Q gs (f + length (g .rows)) hs′ → PicksIn Q (g ∷ gs) f (hs ++ hs′)
+  one-run : {g : Run} {gs : List Run} {f : ℕ} {hs hs′ : List ℕ} → Picks (Q (g .cell)) (g .rows) f hs → PicksIn Q gs (f + length (g .rows)) hs′
+      → PicksIn Q (g ∷ gs) f (hs ++ hs′)
 
 data Head (Q : ℕ → List ℕ → Type 0) (c : ℕ) (r : List ℕ) (gs : List Run) (f : ℕ) : List ℕ → Type 0 where
   head-hit : {hs : List ℕ} → Q c r → PicksIn Q gs (suc f) hs → Head Q c r gs f (f ∷ hs)
@@ -76,12 +78,14 @@ module _ (Q : ℕ → List ℕ → Type 0) where
       go false e (one-run p w) = single c r (g ∷ gs) f p w
 
   -- those of the runs at a place are those of the rows
-  picks-runs : (P : List ℕ → Type 0) (F : List ℕ → Type 0) (i : ℕ) → ((r : List ℕ) → F r → P r ↔ Q (root i r) (close i r)) → (rs : List (List ℕ)) (f : ℕ) {hs : List ℕ} → All F rs
+  picks-runs : (P : List ℕ → Type 0) (F : List ℕ → Type 0) (i : ℕ) → ((r : List ℕ) → F r → P r ↔ Q (root i r) (close i r))
+      → (rs : List (List ℕ)) (f : ℕ) {hs : List ℕ} → All F rs
       → PicksIn Q (runs i rs) f hs → Picks P rs f hs
   picks-runs P F i h [] f a none-run = none
   picks-runs P F i h (r ∷ rs) f a w = go (join-head (root i r) (close i r) (runs i rs) f w) (λ hs. picks-runs P F i h rs (suc f) {hs = hs} (a .1))
     where
-      go : {hs : List ℕ} → Head Q (root i r) (close i r) (runs i rs) f hs → ((hs : List ℕ) → PicksIn Q (runs i rs) (suc f) hs → Picks P rs (suc f) hs) → Picks P (r ∷ rs) f hs
+      go : {hs : List ℕ} → Head Q (root i r) (close i r) (runs i rs) f hs → ((hs : List ℕ) → PicksIn Q (runs i rs) (suc f) hs → Picks P rs (suc f) hs)
+          → Picks P (r ∷ rs) f hs
       go (head-hit {hs} q w) ih = hit (h r (a .0) .1 q) (ih hs w)
       go (head-miss {hs} q w) ih = miss (λ p. q (h r (a .0) .0 p)) (ih hs w)
 
@@ -148,7 +152,8 @@ module _ (K : List ℕ) (i j : ℕ) (e : count hole K ≡ i + suc j) {x : List �
   abbrev y : List ℕ
   y = close i x
 
-  counts : (v : ℕ) → isVar v ≡ true → (count v (decide i c K) ≡ cond (eqb v c) 1 0 + count v K) × (count v (fill K x) ≡ count v K + (cond (eqb v c) 1 0 + count v y))
+  counts : (v : ℕ) → isVar v ≡ true → (count v (decide i c K) ≡ cond (eqb v c) 1 0 + count v K)
+      × (count v (fill K x) ≡ count v K + (cond (eqb v c) 1 0 + count v y))
   counts v hv =
       let q = parts K i j e (F .loose) in
       let d = decided i c j K (no-hole K i j e (F .loose)) e v hv (q .tA) (q .targs) (q .tB) in
@@ -163,8 +168,10 @@ module _ (K : List ℕ) (i j : ℕ) (e : count hole K ≡ i + suc j) {x : List �
       go (plain p) = ⊎-elim
           (λ h. let t : twice (c ∷ y) ≡ false = rw h at z in
           let l = twice-once (c ∷ y) t in
-          linear (record { once = λ v hv. rw (refill K i j e (F .loose)) (let d = counts v hv in let n = l v hv in let o = p v hv in omega (arith, d .1, n, o)) }))
-          (λ h. plain (λ v hv. let d = counts v hv in let o = p v hv in let n : v ≢ c = λ q. true≢false (sym hv ∙ ap isVar q ∙ h) in let u : _≡_ {A = ℕ} (cond (eqb v c) 1 0) 0 = rw (ne-eqb v c n) in omega (arith, d .0, o, u)))
+          linear (record { once = λ v hv. rw (refill K i j e (F .loose)) (let d = counts v hv in let n = l v hv in let o = p v hv in
+              omega (arith, d .1, n, o)) }))
+          (λ h. plain (λ v hv. let d = counts v hv in let o = p v hv in let n : v ≢ c = λ q. true≢false (sym hv ∙ ap isVar q ∙ h) in
+              let u : _≡_ {A = ℕ} (cond (eqb v c) 1 0) 0 = rw (ne-eqb v c n) in omega (arith, d .0, o, u)))
           (bool-cases (isVar c))
 
   from-row : From i K c y
@@ -208,23 +215,27 @@ module _ (i k c : ℕ) (K : List ℕ) (rows : List (List ℕ)) (e : count hole K
   from-loose = all-each (From i K c) (Loose (decide i c K)) (λ x y. y .loose) rows a
 
 -- where the branch is not flagged, each row is fine below it
-flag-off : (i : ℕ) (K : List ℕ) (g : Run) → flag g ≡ false → (isVar (g .cell) ≡ true → length (g .rows) ≡ 1) → All (From i K (g .cell)) (g .rows) → All (Fine (decide i (g .cell) K)) (g .rows)
+flag-off : (i : ℕ) (K : List ℕ) (g : Run) → flag g ≡ false → (isVar (g .cell) ≡ true → length (g .rows) ≡ 1) → All (From i K (g .cell)) (g .rows)
+    → All (Fine (decide i (g .cell) K)) (g .rows)
 flag-off i K g z one a = ⊎-elim
     (λ h. single (g .rows) (one h) (rw h at z) h a)
     (λ h. all-each (From i K (g .cell)) (Fine (decide i (g .cell) K)) (λ y f. record { loose = f .loose; even = f .even (rw h refl) }) (g .rows) a)
     (bool-cases (isVar (g .cell)))
   where
-    single : (rows : List (List ℕ)) → length rows ≡ 1 → twice (g .cell ∷ flatten rows) ≡ false → isVar (g .cell) ≡ true → All (From i K (g .cell)) rows → All (Fine (decide i (g .cell) K)) rows
+    single : (rows : List (List ℕ)) → length rows ≡ 1 → twice (g .cell ∷ flatten rows) ≡ false → isVar (g .cell) ≡ true
+        → All (From i K (g .cell)) rows → All (Fine (decide i (g .cell) K)) rows
     single [] l t h a = tt
     single (y ∷ []) l t h a = (record { loose = a .0 .loose; even = a .0 .even (rw h (rw (flat-one y) at t)) }, tt)
     single (y ∷ (x ∷ rows)) l t h a = absurd (let z : ⊥ = omega arith in z)
 
 -- where it is, no variable is decided above it
-flag-on : (i : ℕ) (K : List ℕ) (g : Run) {k : ℕ} → count hole K ≡ suc k → i ≤ k → flag g ≡ true → (isVar (g .cell) ≡ true → length (g .rows) ≡ 1) → 0 < length (g .rows) → All (From i K (g .cell)) (g .rows)
+flag-on : (i : ℕ) (K : List ℕ) (g : Run) {k : ℕ} → count hole K ≡ suc k → i ≤ k → flag g ≡ true → (isVar (g .cell) ≡ true → length (g .rows) ≡ 1)
+    → 0 < length (g .rows) → All (From i K (g .cell)) (g .rows)
     → (y : List ℕ) × (g .rows ≡ y ∷ []) × From i K (g .cell) y × (isVar (g .cell) ≡ true) × (twice (g .cell ∷ y) ≡ true)
 flag-on i K g e l z one s a = go (g .rows) (isVar (g .cell)) refl z one s a
   where
-    go : (rows : List (List ℕ)) (v : Bool) → isVar (g .cell) ≡ v → (v && twice (g .cell ∷ flatten rows)) ≡ true → (v ≡ true → length rows ≡ 1) → 0 < length rows → All (From i K (g .cell)) rows
+    go : (rows : List (List ℕ)) (v : Bool) → isVar (g .cell) ≡ v → (v && twice (g .cell ∷ flatten rows)) ≡ true → (v ≡ true → length rows ≡ 1)
+        → 0 < length rows → All (From i K (g .cell)) rows
         → (y : List ℕ) × (rows ≡ y ∷ []) × From i K (g .cell) y × (isVar (g .cell) ≡ true) × (twice (g .cell ∷ y) ≡ true)
     go rows false h z one s a = absurd (true≢false (sym z))
     go [] true h z one s a = absurd (let y : ⊥ = omega arith in y)
@@ -242,12 +253,15 @@ module _ (G : List ℕ) where
   abbrev Fills : List ℕ → List ℕ → Type 0
   Fills K x = Unifies (fill K x) G
 
-  one-mean : (i c : ℕ) (K : List ℕ) (m : ℕ) (rows : List (List ℕ)) (f : ℕ) (h : List ℕ → List ℕ) → All (Fine (decide i c K)) rows → {x : Left} → Decided (var m) i c G K x
-      → ((R′ : List ℕ) → Holds (var m + arity c) G (decide i c K) R′ → Picks (Fills (decide i c K)) rows f (h R′)) → Picks (Fills (decide i c K)) rows f (under [] x h)
+  one-mean : (i c : ℕ) (K : List ℕ) (m : ℕ) (rows : List (List ℕ)) (f : ℕ) (h : List ℕ → List ℕ) → All (Fine (decide i c K)) rows → {x : Left}
+      → Decided (var m) i c G K x
+      → ((R′ : List ℕ) → Holds (var m + arity c) G (decide i c K) R′ → Picks (Fills (decide i c K)) rows f (h R′))
+      → Picks (Fills (decide i c K)) rows f (under [] x h)
   one-mean i c K m rows f h F (goes {R} H) ih = ih R H
   one-mean i c K m rows f h F (ends n) ih =
       picks-none (Fills (decide i c K)) rows f
-      (all-each (Fine (decide i c K)) (λ (x : List ℕ). ¬ Fills (decide i c K) x) (λ x y. n x (y .loose .terms) (row-like (y .loose)) (even-settled (y .even))) rows F)
+      (all-each (Fine (decide i c K)) (λ (x : List ℕ). ¬ Fills (decide i c K) x)
+          (λ x y. n x (y .loose .terms) (row-like (y .loose)) (even-settled (y .even))) rows F)
 
   -- a flagged row, by itself
   alone-mean : {n : ℕ} (i c : ℕ) (K R : List ℕ) (f : ℕ) → Holds n G K R → (rows : List (List ℕ)) → length rows ≡ 1 → All (From i K c) rows
@@ -260,11 +274,13 @@ module _ (G : List ℕ) where
       let o = H .same (r .row) (F .loose .terms) (row-like (F .loose)) (even-settled (F .even)) in
       rw (flat-one y, r .whole) (go (unifiable-correct (r .row) R (F .loose .terms) (H .terms)) (λ u. o .0 (rw (r .again) at u)) (λ u. rw (r .again) (o .1 u)))
     where
-      go : {b : Bool} {x : List ℕ} → Decides (Unifies x R) b → (Fills (decide i c K) y → Unifies x R) → (Unifies x R → Fills (decide i c K) y) → Picks (Fills (decide i c K)) (y ∷ []) f (cond b (f ∷ []) [])
+      go : {b : Bool} {x : List ℕ} → Decides (Unifies x R) b → (Fills (decide i c K) y → Unifies x R) → (Unifies x R → Fills (decide i c K) y)
+          → Picks (Fills (decide i c K)) (y ∷ []) f (cond b (f ∷ []) [])
       go (says-yes p) t u = hit (u p) none
       go (says-no p) t u = miss (λ w. p (t w)) none
 
-  picks-test : {P : List ℕ → Type 0} {rows : List (List ℕ)} {f : ℕ} {x y : List ℕ} (b : Bool) → (b ≡ true → Picks P rows f x) → (b ≡ false → Picks P rows f y) → Picks P rows f (cond b x y)
+  picks-test : {P : List ℕ → Type 0} {rows : List (List ℕ)} {f : ℕ} {x y : List ℕ} (b : Bool) → (b ≡ true → Picks P rows f x)
+      → (b ≡ false → Picks P rows f y) → Picks P rows f (cond b x y)
   picks-test true p q = p refl
   picks-test false p q = q refl
 
@@ -272,18 +288,22 @@ module _ (G : List ℕ) where
   mutual
     unfolding hits Deep
 
-    pub hits-mean : {k : ℕ} {rows : List (List ℕ)} (p : Plan k rows) (K R : List ℕ) (m n f : ℕ) → Holds (var m) G K R → count hole K ≡ k → All (Fine K) rows → Numbers k m n → Deep p n
+    pub hits-mean : {k : ℕ} {rows : List (List ℕ)} (p : Plan k rows) (K R : List ℕ) (m n f : ℕ) → Holds (var m) G K R → count hole K ≡ k
+        → All (Fine K) rows → Numbers k m n → Deep p n
         → Picks (Fills K) rows f (hits p m R f)
     hits-mean (leaf {rows}) K R m n f H e a u t =
         picks-all (Fills K) rows f
-        (all-each (Fine K) (Fills K) (λ x F. H .same x (F .loose .terms) (row-like (F .loose)) (even-settled (F .even)) .1 (Unify-none (rw e at (F .loose .terms)) (rw e at (H .terms)))) rows a)
+        (all-each (Fine K) (Fills K) (λ x F. H .same x (F .loose .terms) (row-like (F .loose)) (even-settled (F .even)) .1
+            (Unify-none (rw e at (F .loose .terms)) (rw e at (H .terms)))) rows a)
     hits-mean (node {k} {rows} i h bs) K R m n f H e a u t =
         let q : count hole K ≡ i + suc (k - i) = omega arith in
         picks-runs (λ c x. Fills (decide i c K) x) (Fills K) (Fine K) i
-        (λ r F. let z = refill K i (k - i) q (F .loose) in (λ u. subst (λ (l : List ℕ). Unifies l G) (sym z) u, λ u. subst (λ (l : List ℕ). Unifies l G) z u)) rows f a
+        (λ r F. let z = refill K i (k - i) q (F .loose) in
+            (λ u. subst (λ (l : List ℕ). Unifies l G) (sym z) u, λ u. subst (λ (l : List ℕ). Unifies l G) z u)) rows f a
         (hitsIn-mean bs i K R m n f H e h (from-all K i (k - i) q rows a) (length rows) (group-sizes (root i) (close i) rows) (runs-lone i rows) u t)
 
-    hitsIn-mean : {k : ℕ} {gs : List Run} (bs : Branches k gs) (i : ℕ) (K R : List ℕ) (m n f : ℕ) → Holds (var m) G K R → count hole K ≡ suc k → i ≤ k → Each (From i K) gs
+    hitsIn-mean : {k : ℕ} {gs : List Run} (bs : Branches k gs) (i : ℕ) (K R : List ℕ) (m n f : ℕ) → Holds (var m) G K R → count hole K ≡ suc k → i ≤ k
+        → Each (From i K) gs
         → (z : ℕ) → Sized z gs → Lone gs → Numbers (suc k) m n → DeepIn bs n → PicksIn (λ c x. Fills (decide i c K) x) gs f (hitsIn bs i m R f)
     hitsIn-mean end i K R m n f H e l a z s o u t = none-run
     hitsIn-mean (next {k} {g} {gs} p bs) i K R m n f H e l a z s o u t =
@@ -296,7 +316,8 @@ module _ (G : List ℕ) where
         (λ q. let y = flag-on i K g e l q (o .0) (s .0 .0) (a .0) in alone-mean i c K R f H (g .rows) (o .0 (y .3)) (a .0))
         (λ q. let F = flag-off i K g q (o .0) (a .0) in
         one-mean i c K m (g .rows) f (λ R′. hits p (m + arity c) R′ f) F (step i c H (omega arith) solid (omega arith) (omega arith))
-        (λ R′ H′. hits-mean p (decide i c K) R′ (m + arity c) (n - 1) f (subst (λ (n : ℕ). Holds n G (decide i c K) R′) (add-assoc (2 ^ 16) m (arity c)) H′) d F (v .0) (t .1))))
+        (λ R′ H′. hits-mean p (decide i c K) R′ (m + arity c) (n - 1) f
+            (subst (λ (n : ℕ). Holds n G (decide i c K) R′) (add-assoc (2 ^ 16) m (arity c)) H′) d F (v .0) (t .1))))
         (hitsIn-mean bs i K R m n (f + length (g .rows)) H e l (a .1) z (s .1) (o .1) u (t .2))
 
 -- What a row says of its skeleton.
@@ -373,12 +394,15 @@ module _ (g : List ℕ) where
         let h = holes-below i k c K (r .rows) e l (s .0 .0) (a .0) in
         let F = once-below i k c K (r .rows) e l (s .0 .0) (a .0) in
         none-of n
-        (rw zero-add at (counts-++ (dead-skeletons p (decide i c K) (dead-below K i c (k - i) o q d) h F (s .0 .0)) (dead-skeletonsIn bs i K d e l (a .1) z (s .1) n)))
+        (rw zero-add at (counts-++ (dead-skeletons p (decide i c K) (dead-below K i c (k - i) o q d) h F (s .0 .0))
+            (dead-skeletonsIn bs i K d e l (a .1) z (s .1) n)))
 
   -- where a branch's test fails: no variable is decided above, or there is one row, which uses each once
-  dead-either : {k : ℕ} {rows : List (List ℕ)} (p : Plan k rows) (K : List ℕ) → Dead goal K → count hole K ≡ k → All (Fine K) rows → 0 < length rows → Counts (Tried g) (skeletons p K) 0
+  dead-either : {k : ℕ} {rows : List (List ℕ)} (p : Plan k rows) (K : List ℕ) → Dead goal K → count hole K ≡ k → All (Fine K) rows → 0 < length rows
+      → Counts (Tried g) (skeletons p K) 0
   dead-either {rows = rows} p K d e a s = ⊎-elim
-      (λ n. dead-all g p K (λ X t r. d X t r (record { once = λ v h m. absurd (let z = n v h in let y : ⊥ = omega arith in y) })) e (all-each (Fine K) (Loose K) (λ x F. F .loose) rows a) s)
+      (λ n. dead-all g p K (λ X t r. d X t r (record { once = λ v h m. absurd (let z = n v h in let y : ⊥ = omega arith in y) })) e
+          (all-each (Fine K) (Loose K) (λ x F. F .loose) rows a) s)
       (λ n. dead-skeletons p K d e (all-each (Fine K) (Once K) (λ x F. record { loose = F .loose; lin = only n (F .even) }) rows a) s)
       (some-variable K)
     where
@@ -392,12 +416,14 @@ module _ (g : List ℕ) where
   one-tried i c K m xs h (goes {R} H) ih jh = ih R H
   one-tried i c K m xs h (ends n) ih jh = jh n
 
-  counts-test : {xs : List (List ℕ)} {x y : ℕ} (b : Bool) → (b ≡ true → Counts (Tried g) xs x) → (b ≡ false → Counts (Tried g) xs y) → Counts (Tried g) xs (cond b x y)
+  counts-test : {xs : List (List ℕ)} {x y : ℕ} (b : Bool) → (b ≡ true → Counts (Tried g) xs x) → (b ≡ false → Counts (Tried g) xs y)
+      → Counts (Tried g) xs (cond b x y)
   counts-test true p q = p refl
   counts-test false p q = q refl
 
   -- a flagged row, by itself
-  alone-tried : {n k : ℕ} (i c : ℕ) (K R : List ℕ) {rows : List (List ℕ)} (p : Plan (arity c + k) rows) → Holds n goal K R → count hole K ≡ suc k → i ≤ k → c ≢ hole → ((v : ℕ) → isVar v ≡ true → count v K ≡ 0)
+  alone-tried : {n k : ℕ} (i c : ℕ) (K R : List ℕ) {rows : List (List ℕ)} (p : Plan (arity c + k) rows) → Holds n goal K R → count hole K ≡ suc k
+      → i ≤ k → c ≢ hole → ((v : ℕ) → isVar v ≡ true → count v K ≡ 0)
       → (x : List ℕ) → Loose K x → All (Loose (decide i c K)) rows → 0 < length rows
       → Counts (Tried g) (K ∷ skeletons p (decide i c K)) (triedOn R (replicate (suc k) hole ∷ skeletons p (decide i c (replicate (suc k) hole))))
   unfolding triedOn
@@ -412,15 +438,18 @@ module _ (g : List ℕ) where
   mutual
     unfolding tried skeletons Deep
 
-    pub tried-mean : {k : ℕ} {rows : List (List ℕ)} (p : Plan k rows) (K R : List ℕ) (m n : ℕ) → Holds (var m) goal K R → count hole K ≡ k → All (Fine K) rows → 0 < length rows
+    pub tried-mean : {k : ℕ} {rows : List (List ℕ)} (p : Plan k rows) (K R : List ℕ) (m n : ℕ) → Holds (var m) goal K R → count hole K ≡ k
+        → All (Fine K) rows → 0 < length rows
         → Numbers k m n → Deep p n → Counts (Tried g) (skeletons p K) (tried p m R)
     tried-mean leaf K R m n H e a s u t = zero-of
     tried-mean (node {k} {rows} i h bs) K R m n H e a s u t =
         let q : count hole K ≡ i + suc (k - i) = omega arith in
         let x = some-row (Fine K) rows s a in
-        triedIn-mean bs i K R m n H e h (from-all K i (k - i) q rows a) (length rows) (group-sizes (root i) (close i) rows) (runs-lone i rows) (alive-open (x .1) H) u t
+        triedIn-mean bs i K R m n H e h (from-all K i (k - i) q rows a) (length rows) (group-sizes (root i) (close i) rows) (runs-lone i rows)
+            (alive-open (x .1) H) u t
 
-    triedIn-mean : {k : ℕ} {gs : List Run} (bs : Branches k gs) (i : ℕ) (K R : List ℕ) (m n : ℕ) → Holds (var m) goal K R → count hole K ≡ suc k → i ≤ k → Each (From i K) gs
+    triedIn-mean : {k : ℕ} {gs : List Run} (bs : Branches k gs) (i : ℕ) (K R : List ℕ) (m n : ℕ) → Holds (var m) goal K R → count hole K ≡ suc k
+        → i ≤ k → Each (From i K) gs
         → (z : ℕ) → Sized z gs → Lone gs → Tried g K → Numbers (suc k) m n → DeepIn bs n → Counts (Tried g) (skeletonsIn bs i K) (triedIn bs i m R)
     triedIn-mean end i K R m n H e l a z s o y u t = zero-of
     triedIn-mean (next {k} {g = r} {gs} p bs) i K R m n H e l a z s o y u t =
@@ -431,10 +460,12 @@ module _ (g : List ℕ) where
         counts-++
         (counts-test (flag r)
         (λ q. let w = flag-on i K r e l q (o .0) (s .0 .0) (a .0) in
-        alone-tried i c K R p H e l solid (flag-plain (w .2) (w .4)) (w .2 .row) (w .2 .fine .loose) (from-loose i k c K (r .rows) e l (s .0 .0) (a .0)) (s .0 .0))
+        alone-tried i c K R p H e l solid (flag-plain (w .2) (w .4)) (w .2 .row) (w .2 .fine .loose)
+            (from-loose i k c K (r .rows) e l (s .0 .0) (a .0)) (s .0 .0))
         (λ q. let F = flag-off i K r q (o .0) (a .0) in
         one-of y
         (one-tried i c K m (skeletons p (decide i c K)) (λ R′. tried p (m + arity c) R′) (step i c H (omega arith) solid (omega arith) (omega arith))
-        (λ R′ H′. tried-mean p (decide i c K) R′ (m + arity c) (n - 1) (subst (λ (n : ℕ). Holds n goal (decide i c K) R′) (add-assoc (2 ^ 16) m (arity c)) H′) d F (s .0 .0) (v .0) (t .1))
+        (λ R′ H′. tried-mean p (decide i c K) R′ (m + arity c) (n - 1)
+            (subst (λ (n : ℕ). Holds n goal (decide i c K) R′) (add-assoc (2 ^ 16) m (arity c)) H′) d F (s .0 .0) (v .0) (t .1))
         (λ z. dead-either p (decide i c K) z d F (s .0 .0)))))
         (triedIn-mean bs i K R m n H e l (a .1) z (s .1) (o .1) y u (t .2))

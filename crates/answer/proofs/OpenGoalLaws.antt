@@ -61,14 +61,18 @@ module _ (w : ℕ) (Q : List ℕ → Type 0) (has : (K x : List ℕ) → Wide w 
   mutual
     unfolding skeletons
 
-    all-skeletons : {k : ℕ} {rows : List (List ℕ)} (p : Plan k rows) (K : List ℕ) → Wide w K → count hole K ≡ k → All (Loose K) rows → 0 < length rows → All Q (skeletons p K)
+    all-skeletons : {k : ℕ} {rows : List (List ℕ)} (p : Plan k rows) (K : List ℕ) → Wide w K → count hole K ≡ k → All (Loose K) rows → 0 < length rows
+        → All Q (skeletons p K)
     all-skeletons leaf K W e a s = tt
     all-skeletons (node {k} {rows} i h bs) K W e a s =
         let q : count hole K ≡ i + suc (k - i) = omega arith in
         let x = some-row (Loose K) rows s a in
-        all-skeletonsIn bs i K W e h (group-all (root i) (close i) (Loose K) (LooseBelow i K) (λ x f. (loose-close K i (k - i) q f, no-hole K i (k - i) q f)) rows a) (length rows) (group-sizes (root i) (close i) rows) (has K (x .0) W (x .1))
+        all-skeletonsIn bs i K W e h (group-all (root i) (close i) (Loose K) (LooseBelow i K)
+            (λ x f. (loose-close K i (k - i) q f, no-hole K i (k - i) q f)) rows a) (length rows) (group-sizes (root i) (close i) rows)
+            (has K (x .0) W (x .1))
 
-    all-skeletonsIn : {k : ℕ} {gs : List Run} (bs : Branches k gs) (i : ℕ) (K : List ℕ) → Wide w K → count hole K ≡ suc k → i ≤ k → Each (LooseBelow i K) gs → (z : ℕ) → Sized z gs → Q K
+    all-skeletonsIn : {k : ℕ} {gs : List Run} (bs : Branches k gs) (i : ℕ) (K : List ℕ) → Wide w K → count hole K ≡ suc k → i ≤ k
+        → Each (LooseBelow i K) gs → (z : ℕ) → Sized z gs → Q K
         → All Q (skeletonsIn bs i K)
     all-skeletonsIn end i K W e l a z s y = tt
     all-skeletonsIn (next {k} {g} {gs} p bs) i K W e l a z s y =
@@ -147,6 +151,7 @@ unfolding upFrom
 picks-all P [] f a = Picks.none
 picks-all P (r ∷ rs) f a = hit (a .0) (picks-all P rs (suc f) (a .1))
 
-pub every-hit : (w : ℕ) → w ≤ 32 → (rows : List (List ℕ)) → All (Row w) rows → Picks (λ (row : List ℕ). Matches row (upFrom 0 w)) rows 0 (upFrom 0 (length rows))
+pub every-hit : (w : ℕ) → w ≤ 32 → (rows : List (List ℕ)) → All (Row w) rows
+    → Picks (λ (row : List ℕ). Matches row (upFrom 0 w)) rows 0 (upFrom 0 (length rows))
 every-hit w few rows a =
     picks-all (λ (row : List ℕ). Matches row (upFrom 0 w)) rows 0 (all-each (Row w) (λ (row : List ℕ). Matches row (upFrom 0 w)) (every-row w few) rows a)

@@ -34,7 +34,8 @@ unfolding triedOn
 tried-++ R [] ys = omega arith
 tried-++ R (x ∷ xs) ys = let e = tried-++ R xs ys in go (unifiable (opened x) R) e
   where
-    go : (b : Bool) → triedOn R (xs ++ ys) ≡ triedOn R xs + triedOn R ys → cond b (suc (triedOn R (xs ++ ys))) (triedOn R (xs ++ ys)) ≡ cond b (suc (triedOn R xs)) (triedOn R xs) + triedOn R ys
+    go : (b : Bool) → triedOn R (xs ++ ys) ≡ triedOn R xs + triedOn R ys
+        → cond b (suc (triedOn R (xs ++ ys))) (triedOn R (xs ++ ys)) ≡ cond b (suc (triedOn R xs)) (triedOn R xs) + triedOn R ys
     go true e = omega arith
     go false e = e
 
@@ -47,10 +48,14 @@ pub opened-low : {K x : List ℕ} → Loose K x → RowLike (fill K (upFrom (2 ^
 opened-low {K} {x} F =
     let s = skeleton-short F in
     let t = Terms-fresh (up-distinct (2 ^ 15) (count hole K) (omega arith)) in
-    record { low = λ c q v. let e = count-fill c K (upFrom (2 ^ 15) (count hole K)) (var-no-hole c v) t in let o = count-mem c q in cases c v (count c K) refl (omega arith) }
+    record { low = λ c q v. let e = count-fill c K (upFrom (2 ^ 15) (count hole K)) (var-no-hole c v) t in let o = count-mem c q in
+        cases c v (count c K) refl (omega arith) }
   where
     cases : (c : ℕ) → isVar c ≡ true → (n : ℕ) → count c K ≡ n → 1 ≤ count c K + count c (upFrom (2 ^ 15) (count hole K)) → c < 2 ^ 16
-    cases c v zero e o = let r = up-mem (2 ^ 15) (count hole K) c (mem-count c (upFrom (2 ^ 15) (count hole K)) (omega arith)) in let s = skeleton-short F in omega arith
+    cases c v zero e o =
+        let r = up-mem (2 ^ 15) (count hole K) c (mem-count c (upFrom (2 ^ 15) (count hole K)) (omega arith)) in
+        let s = skeleton-short F in
+        omega arith
     cases c v (suc n) e o = let p = skeleton-low F c (mem-count c K (omega arith)) v in omega arith
 
 module _ (g : List ℕ) {n : ℕ} (K R : List ℕ) (H : Holds n (renamed g) K R) (none : (v : ℕ) → isVar v ≡ true → count v K ≡ 0) where
@@ -82,10 +87,12 @@ module _ (g : List ℕ) {n : ℕ} (K R : List ℕ) (H : Holds n (renamed g) K R)
     where
       go : {X : List ℕ} → Three i (arity c) j X → count hole J′ ≡ i + suc j → fill (decide i c J) X ≡ fill K (fill (decide i c J′) X)
       go (three {A} {args} {B} ta tg tb) e′ =
-          fill-decide i c J B h ta tg ∙ r .fills (A ++ (c ∷ (args ++ B))) (rw e′ (Terms-++ ta (more (Terms-++ tg tb)))) ∙ ap (fill K) (sym (fill-decide i c J′ B h ta tg))
+          fill-decide i c J B h ta tg ∙ r .fills (A ++ (c ∷ (args ++ B))) (rw e′ (Terms-++ ta (more (Terms-++ tg tb))))
+          ∙ ap (fill K) (sym (fill-decide i c J′ B h ta tg))
 
       go-wide : {X : List ℕ} → Three i (arity c) j X → count hole J′ ≡ i + suc j → Terms (count hole K) (fill (decide i c J′) X)
-      go-wide (three {A} {args} {B} ta tg tb) e′ = rw (fill-decide i c J′ B h ta tg) (r .wide (A ++ (c ∷ (args ++ B))) (rw e′ (Terms-++ ta (more (Terms-++ tg tb)))))
+      go-wide (three {A} {args} {B} ta tg tb) e′ =
+          rw (fill-decide i c J′ B h ta tg) (r .wide (A ++ (c ∷ (args ++ B))) (rw e′ (Terms-++ ta (more (Terms-++ tg tb)))))
 
   -- a branch below is tried exactly when what is left of the goal unifies with the decisions below
   pub rel-tried : {J J′ x : List ℕ} → Rel J J′ → Loose J x → Decides (Tried g J) (unifiable (opened J′) R)
@@ -117,10 +124,12 @@ module _ (g : List ℕ) {n : ℕ} (K R : List ℕ) (H : Holds n (renamed g) K R)
     rel-skeletons (node {k} {rows} i h bs) {J} {J′} r e a s =
         let q : count hole J ≡ i + suc (k - i) = omega arith in
         let x = some-row (Loose J) rows s a in
-        rel-skeletonsIn bs i r e h (group-all (root i) (close i) (Loose J) (LooseBelow i J) (λ x f. (loose-close J i (k - i) q f, no-hole J i (k - i) q f)) rows a)
+        rel-skeletonsIn bs i r e h (group-all (root i) (close i) (Loose J) (LooseBelow i J)
+            (λ x f. (loose-close J i (k - i) q f, no-hole J i (k - i) q f)) rows a)
         (length rows) (group-sizes (root i) (close i) rows) (rel-tried r (x .1))
 
-    rel-skeletonsIn : {k : ℕ} {gs : List Run} (bs : Branches k gs) (i : ℕ) {J J′ : List ℕ} → Rel J J′ → count hole J ≡ suc k → i ≤ k → Each (LooseBelow i J) gs → (z : ℕ) → Sized z gs
+    rel-skeletonsIn : {k : ℕ} {gs : List Run} (bs : Branches k gs) (i : ℕ) {J J′ : List ℕ} → Rel J J′ → count hole J ≡ suc k → i ≤ k
+        → Each (LooseBelow i J) gs → (z : ℕ) → Sized z gs
         → Decides (Tried g J) (unifiable (opened J′) R) → Counts (Tried g) (skeletonsIn bs i J) (triedOn R (skeletonsIn bs i J′))
     rel-skeletonsIn end i r e l a z s d = zero-of
     rel-skeletonsIn (next {k} {g = b} {gs} p bs) i {J} {J′} r e l a z s d =
@@ -157,7 +166,8 @@ module _ (g : List ℕ) where
   mutual
     unfolding skeletons
 
-    pub dead-all : {k : ℕ} {rows : List (List ℕ)} (p : Plan k rows) (K : List ℕ) → DeadAll (renamed g) K → count hole K ≡ k → All (Loose K) rows → 0 < length rows → Counts (Tried g) (skeletons p K) 0
+    pub dead-all : {k : ℕ} {rows : List (List ℕ)} (p : Plan k rows) (K : List ℕ) → DeadAll (renamed g) K → count hole K ≡ k → All (Loose K) rows
+        → 0 < length rows → Counts (Tried g) (skeletons p K) 0
     dead-all leaf K d e a s = zero-of
     dead-all (node {k} {rows} i h bs) K d e a s =
         let q : count hole K ≡ i + suc (k - i) = omega arith in
@@ -165,7 +175,8 @@ module _ (g : List ℕ) where
         dead-allIn bs i K d e h (group-all (root i) (close i) (Loose K) (LooseBelow i K) (λ x f. (loose-close K i (k - i) q f, no-hole K i (k - i) q f)) rows a)
         (length rows) (group-sizes (root i) (close i) rows) (dead-all-open g (x .1) d)
 
-    dead-allIn : {k : ℕ} {gs : List Run} (bs : Branches k gs) (i : ℕ) (K : List ℕ) → DeadAll (renamed g) K → count hole K ≡ suc k → i ≤ k → Each (LooseBelow i K) gs → (z : ℕ) → Sized z gs
+    dead-allIn : {k : ℕ} {gs : List Run} (bs : Branches k gs) (i : ℕ) (K : List ℕ) → DeadAll (renamed g) K → count hole K ≡ suc k → i ≤ k
+        → Each (LooseBelow i K) gs → (z : ℕ) → Sized z gs
         → ¬ Tried g K → Counts (Tried g) (skeletonsIn bs i K) 0
     dead-allIn end i K d e l a z s n = zero-of
     dead-allIn (next {k} {g = r} {gs} p bs) i K d e l a z s n =
@@ -174,4 +185,5 @@ module _ (g : List ℕ) where
         let q : count hole K ≡ i + suc (k - i) = omega arith in
         let x : count hole (decide i c K) ≡ arity c + k = (let y = decide-count i c K o (omega arith) in omega arith) in
         let f = all-each (LooseBelow i K c) (Loose (decide i c K)) (λ y w. w .0) (r .rows) (a .0) in
-        none-of n (rw zero-add at (counts-++ (dead-all p (decide i c K) (dead-all-below K i c (k - i) o q d) x f (s .0 .0)) (dead-allIn bs i K d e l (a .1) z (s .1) n)))
+        none-of n (rw zero-add at (counts-++ (dead-all p (decide i c K) (dead-all-below K i c (k - i) o q d) x f (s .0 .0))
+            (dead-allIn bs i K d e l (a .1) z (s .1) n)))

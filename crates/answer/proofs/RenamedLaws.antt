@@ -65,7 +65,8 @@ pub renamed-front : (k : ℕ) (xs : List ℕ) → Small xs → length (front k (
 unfolding front
 renamed-front k [] s = rw renamed-nil
 renamed-front zero (c ∷ xs) s = rw (renamed-cons c xs)
-renamed-front (suc k) (c ∷ xs) s = rw (renamed-cons c xs, lift-arity c (s .vars c (List·Memᴰ·head refl))) (ap suc (renamed-front (arity c + k) xs (small-tail s)))
+renamed-front (suc k) (c ∷ xs) s =
+    rw (renamed-cons c xs, lift-arity c (s .vars c (List·Memᴰ·head refl))) (ap suc (renamed-front (arity c + k) xs (small-tail s)))
 
 pub small-drop : (p : ℕ) (xs : List ℕ) → Small xs → Small (drop p xs)
 small-drop zero xs s = s
@@ -82,7 +83,8 @@ lift-range d c h e v = ⊎-elim
 pub renamed-range : (xs : List ℕ) → Small xs → (c : ℕ) → List·Memᴰ c (renamed xs) → isVar c ≡ true → (2 ^ 16 ≤ c) × (c < 2 ^ 16 + 32)
 renamed-range [] s c m v = absurd (List·Memᴰ·not-nil (rw renamed-nil at m))
 renamed-range (d ∷ xs) s c m v =
-    ⊎-elim (λ e. lift-range d c (s .vars d (List·Memᴰ·head refl)) e v) (λ q. renamed-range xs (small-tail s) c q v) (List·Memᴰ·cases-cons (rw (renamed-cons d xs) at m))
+    ⊎-elim (λ e. lift-range d c (s .vars d (List·Memᴰ·head refl)) e v) (λ q. renamed-range xs (small-tail s) c q v)
+        (List·Memᴰ·cases-cons (rw (renamed-cons d xs) at m))
 
 pub getD-mem : (xs : List ℕ) (p : ℕ) → p < length xs → List·Memᴰ (getD xs p 0) xs
 getD-mem [] p h = absurd (let z : ⊥ = omega arith in z)

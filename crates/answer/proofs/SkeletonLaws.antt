@@ -47,7 +47,9 @@ fill-cell c K X h = rw (ne-eqb c hole h)
 
 -- a hole filled, as terms
 fill-first : (K X : List ℕ) → Terms (count hole (hole ∷ K)) X → Terms 1 (front 1 X) × Terms (count hole K) (back 1 X)
-fill-first K X t = let u : Terms (1 + count hole K) X = rw (one-add, ← count-same hole K) t in (front-terms 1 (count hole K) X u, back-terms 1 (count hole K) X u)
+fill-first K X t =
+    let u : Terms (1 + count hole K) X = rw (one-add, ← count-same hole K) t in
+    (front-terms 1 (count hole K) X u, back-terms 1 (count hole K) X u)
 
 -- what a filled list holds
 pub count-fill : (v : ℕ) (K X : List ℕ) → v ≢ hole → Terms (count hole K) X → count v (fill K X) ≡ count v K + count v X
@@ -105,16 +107,22 @@ unfolding decide fill
 fill-decide i c [] B h a r = refl
 fill-decide i c (d ∷ K) {A} {args} B h a r = go i A (hole? d) a (λ (j : ℕ) (A : List ℕ). fill-decide j c K {A = A} {args = args} B h)
   where
-    later : (j : ℕ) {A : List ℕ} → First j A → ((j : ℕ) (A : List ℕ) → Terms j A → Terms (arity c) args → fill (decide j c K) (A ++ (args ++ B)) ≡ fill K (A ++ (c ∷ (args ++ B))))
+    later : (j : ℕ) {A : List ℕ} → First j A → ((j : ℕ) (A : List ℕ) → Terms j A → Terms (arity c) args
+        → fill (decide j c K) (A ++ (args ++ B)) ≡ fill K (A ++ (c ∷ (args ++ B))))
         → fill (decide (suc j) c (hole ∷ K)) (A ++ (args ++ B)) ≡ fill (hole ∷ K) (A ++ (c ∷ (args ++ B)))
     later j (first {f} {b} u w) ih =
-        rw (decide-later j c K, append-assoc f b (args ++ B), append-assoc f b (c ∷ (args ++ B)), fill-term (decide j c K) (b ++ (args ++ B)) u, fill-term K (b ++ (c ∷ (args ++ B))) u, ih j b w r)
+        rw (decide-later j c K, append-assoc f b (args ++ B), append-assoc f b (c ∷ (args ++ B)), fill-term (decide j c K) (b ++ (args ++ B)) u,
+            fill-term K (b ++ (c ∷ (args ++ B))) u, ih j b w r)
 
-    go : (i : ℕ) (A : List ℕ) {d : ℕ} → Hole? d → Terms i A → ((j : ℕ) (A : List ℕ) → Terms j A → Terms (arity c) args → fill (decide j c K) (A ++ (args ++ B)) ≡ fill K (A ++ (c ∷ (args ++ B))))
+    go : (i : ℕ) (A : List ℕ) {d : ℕ} → Hole? d → Terms i A
+        → ((j : ℕ) (A : List ℕ) → Terms j A → Terms (arity c) args → fill (decide j c K) (A ++ (args ++ B)) ≡ fill K (A ++ (c ∷ (args ++ B))))
         → fill (decide i c (d ∷ K)) (A ++ (args ++ B)) ≡ fill (d ∷ K) (A ++ (c ∷ (args ++ B)))
-    go zero A a-hole a ih = rw (zero-nil a, decide-here c K, fill-cell c (replicate (arity c) hole ++ K) (args ++ B) h, fill-holes K (arity c) B r) (sym (fill-term K B (Terms-symbol c r)))
+    go zero A a-hole a ih =
+        rw (zero-nil a, decide-here c K, fill-cell c (replicate (arity c) hole ++ K) (args ++ B) h, fill-holes K (arity c) B r)
+            (sym (fill-term K B (Terms-symbol c r)))
     go (suc j) A a-hole a ih = later j (first-of a) ih
-    go i A (a-cell {c = d} n) a ih = rw (decide-cell i c d K n, fill-cell d (decide i c K) (A ++ (args ++ B)) n, fill-cell d K (A ++ (c ∷ (args ++ B))) n, ih i A a r)
+    go i A (a-cell {c = d} n) a ih =
+        rw (decide-cell i c d K n, fill-cell d (decide i c K) (A ++ (args ++ B)) n, fill-cell d K (A ++ (c ∷ (args ++ B))) n, ih i A a r)
 
 count-holes : (a : ℕ) (K : List ℕ) → count hole (replicate a hole ++ K) ≡ a + count hole K
 count-holes zero K = omega arith
@@ -127,7 +135,9 @@ decide-count i c (d ∷ K) h l = go i (hole? d) (λ (j : ℕ). decide-count j c 
   where
     go : (i : ℕ) {d : ℕ} → Hole? d → ((j : ℕ) → j < count hole K → suc (count hole (decide j c K)) ≡ arity c + count hole K)
         → i < count hole (d ∷ K) → suc (count hole (decide i c (d ∷ K))) ≡ arity c + count hole (d ∷ K)
-    go zero a-hole ih l = rw (decide-here c K, count-other hole c (replicate (arity c) hole ++ K) (λ p. h (sym p)), count-holes (arity c) K, count-same hole K) (omega arith)
+    go zero a-hole ih l =
+        rw (decide-here c K, count-other hole c (replicate (arity c) hole ++ K) (λ p. h (sym p)), count-holes (arity c) K, count-same hole K)
+            (omega arith)
     go (suc j) a-hole ih l =
         let e = count-same hole K in
         let r = ih j (omega arith) in
@@ -158,7 +168,9 @@ row-at c {A} {B} r l = record {
 }
 
 pub part-row : (K X : List ℕ) → Terms (count hole K) X → RowLike (fill K X) → RowLike X
-part-row K X t r = record { low = λ c m v. r .low c (mem-count c (fill K X) (let e = count-fill c K X (var-no-hole c v) t in let o = count-mem c m in omega arith)) v }
+part-row K X t r =
+    record { low = λ c m v. r .low c (mem-count c (fill K X) (let e = count-fill c K X (var-no-hole c v) t in let o = count-mem c m in omega arith)) v
+        }
 
 -- what is left of the goal G under the skeleton K
 pub record Holds (n : ℕ) (G K R : List ℕ) : Type 0 where
@@ -201,7 +213,8 @@ pub data Decided (n i c : ℕ) (G K : List ℕ) : Left → Type 0 where
 module _ (i c j : ℕ) (K : List ℕ) (h : c ≢ hole) (e : count hole K ≡ i + suc j) where
   -- a variable is decided once more where it is c
   pub decided : (v : ℕ) → isVar v ≡ true → {A args B : List ℕ} → Terms i A → Terms (arity c) args → Terms j B
-      → (count v (decide i c K) ≡ cond (eqb v c) 1 0 + count v K) × (count v (fill K (A ++ (c ∷ (args ++ B)))) ≡ count v K + (cond (eqb v c) 1 0 + count v (A ++ (args ++ B))))
+      → (count v (decide i c K) ≡ cond (eqb v c) 1 0 + count v K)
+          × (count v (fill K (A ++ (c ∷ (args ++ B)))) ≡ count v K + (cond (eqb v c) 1 0 + count v (A ++ (args ++ B))))
   unfolding count
   decided v hv {A} {args} {B} ta tg tb =
       let f = fill-decide i c K B h ta tg in
@@ -221,7 +234,8 @@ module _ (i c j : ℕ) (K : List ℕ) (h : c ≢ hole) (e : count hole K ≡ i +
       let f = fill-decide i c K B h ta tg in
       let t : Terms (count hole K) (A ++ (c ∷ (args ++ B))) = rw e (Terms-++ ta (more (Terms-++ tg tb))) in
       let r′ = rw f at r in
-      let l′ : Settled K (A ++ (c ∷ (args ++ B))) = record { once = λ v hv n. let d = decided v hv ta tg tb in rw (← f) (l .once v hv (omega (arith, d .0))) } in
+      let l′ : Settled K (A ++ (c ∷ (args ++ B))) =
+          record { once = λ v hv n. let d = decided v hv ta tg tb in rw (← f) (l .once v hv (omega (arith, d .0))) } in
       let once-c : isVar c ≡ true → count c (A ++ (c ∷ (args ++ B))) ≤ 1 = λ hc.
       let d = decided c hc ta tg tb in
       let o : _≡_ {A = ℕ} (cond (eqb c c) 1 0) 1 = rw (eqb-same c) in
@@ -231,7 +245,8 @@ module _ (i c j : ℕ) (K : List ℕ) (h : c ≢ hole) (e : count hole K ≡ i +
       omega (arith, d .1, o, u, x, y) in
       (A ++ (c ∷ (args ++ B)), f, t, r′, l′, λ P k. k A (args ++ B) (row-at c (part-row K _ t r′) once-c) ta)
 
-pub step : {n : ℕ} {G K R : List ℕ} (i c : ℕ) → Holds n G K R → i < count hole K → c ≢ hole → 2 ^ 16 ≤ n → n + arity c ≤ 2 ^ 30 → Decided n i c G K (after n i c R)
+pub step : {n : ℕ} {G K R : List ℕ} (i c : ℕ) → Holds n G K R → i < count hole K → c ≢ hole → 2 ^ 16 ≤ n → n + arity c ≤ 2 ^ 30
+    → Decided n i c G K (after n i c R)
 step {n} {G} {K} {R} i c H l h low high = go (after-correct n i c j R (rw e at (H .terms)) (H .goal) low high)
   where
     j : ℕ
@@ -310,4 +325,5 @@ pub reached : {n : ℕ} {G K R : List ℕ} (m : ℕ) → Holds n G K R → Linea
 reached {n} {G} {K} {R} m H l b h =
     let o = opened-row m l b h in
     H .same (upFrom m (count hole K)) (o .terms) (o .row) (o .lin) .1
-    (open-unifies (up-distinct m (count hole K) (omega arith)) (record { low = λ c q v. let r = up-mem m (count hole K) c q in omega arith }) (H .terms) (H .goal))
+    (open-unifies (up-distinct m (count hole K) (omega arith)) (record { low = λ c q v. let r = up-mem m (count hole K) c q in omega arith })
+        (H .terms) (H .goal))

@@ -3,7 +3,7 @@ use Prim.Native.Nat.{ℕ, _+_, _^_, _/_, _%_, _≤_, _<_}
 use mathlib.Core.Path.{_≡_}
 use mathlib.Core.List.{List, [], _∷_}
 use lib.ListN.{length, take, drop, replicate}
-use Rattle.refusal.specs.Refusal.{Refused, numberOf, Answer, answered, turned}
+use Rattle.refusal.specs.Refusal.{Refused, reasonNumber, Answer, answered, turned}
 use Rattle.refusal.specs.declared.Reason.the-variants as reason
 use Rattle.refusal.specs.Read.{read, refuse}
 use Rattle.plan.specs.Check.{planOf}
@@ -29,14 +29,14 @@ filled j number place hits tried =
 -- "A refused goal's record holds number and place, with hits and tried 0; an answered one's are 0 and 0": a run's answer, the first bytes
 -- of its room being the hits
 abbrev pub entered : Job → RunAnswer → (room : List ℕ) → Job
-entered j (run-answer.Refused f) room = filled j (numberOf (f .reason)) (f .place) 0 0
+entered j (run-answer.Refused f) room = filled j (reasonNumber (f .reason)) (f .place) 0 0
 entered j (run-answer.Ran hits tried) room = filled j 0 0 (bitsOf (take hits room)) tried
 
 -- what one record becomes.
 -- "a start or count past the lent cells is that goal's LENGTH"; otherwise "It equals asking one by one": the record holds what a run of
 -- that goal alone answers. 64 bytes are room enough for any table
 pub data Asked (t p cells : List ℕ) (j j′ : Job) : Type 0 where
-  outside : length cells < j .start + j .count → j′ ≡ filled j (numberOf reason.Length) 0 0 0 → Asked t p cells j j′
+  outside : length cells < j .start + j .count → j′ ≡ filled j (reasonNumber reason.Length) 0 0 0 → Asked t p cells j j′
   alone : (room : List ℕ) (r : RunAnswer) → j .start + j .count ≤ length cells
       → Ran t p (take (j .count) (drop (j .start) cells)) (replicate 64 0) room r → j′ ≡ entered j r room → Asked t p cells j j′
 

@@ -8,7 +8,7 @@ use Rattle.refusal.specs.Refusal.{refused, told, Answer, answered, turned}
 use Rattle.refusal.specs.declared.Reason.the-variants as reason
 use Rattle.refusal.specs.declared.Input.the-variants as input
 use Rattle.refusal.proofs.RefusalLaws.{told-one}
-use Rattle.loading.specs.Load.{front}
+use Rattle.loading.specs.Load.{putFirst}
 use Rattle.termtext.specs.Saying.{saidIn}
 use Rattle.termtext.specs.declared.Predicate.{Predicate}
 use Rattle.goaltext.proofs.Fixed.{predicate-of-fixed}
@@ -44,4 +44,4 @@ module _ {text names goal new cells room room′ room″ : List ℕ} {r s : Answ
   answer-into-fixed (is-said p h a l t x) (is-said q k b m u y) =
       let e = predicate-of-fixed a b in
       both {r = r} {s = s} t u (ap (λ (p : Predicate). answered (length cells) (length (saidIn text names goal new p cells))) e) x y
-      (ap (λ (p : Predicate). front (saidIn text names goal new p cells) room) e)
+      (ap (λ (p : Predicate). putFirst (saidIn text names goal new p cells) room) e)

@@ -7,7 +7,7 @@ use lib.ListN.{length}
 use Rattle.refusal.specs.Refusal.{refused, told, Answer, answered, turned}
 use Rattle.refusal.specs.declared.Reason.the-variants as reason
 use Rattle.refusal.specs.declared.Input.the-variants as input
-use Rattle.loading.specs.Load.{front}
+use Rattle.loading.specs.Load.{putFirst}
 use Rattle.termtext.specs.Saying.{saidIn}
 use Rattle.termtext.specs.declared.Predicate.{Predicate}
 use Rattle.goaltext.specs.Asked.{PredicateIs}
@@ -30,5 +30,5 @@ pub data AnswerInto (text names goal new cells room room′ : List ℕ) (r : Ans
       → AnswerInto text names goal new cells room room′ r
   is-said : (p : Predicate) → length cells ≤ mostReplyCells → PredicateIs text p → length (saidIn text names goal new p cells) ≤ length room
       → answerTold r ≡ answered (length cells) (length (saidIn text names goal new p cells))
-      → room′ ≡ front (saidIn text names goal new p cells) room
+      → room′ ≡ putFirst (saidIn text names goal new p cells) room
       → AnswerInto text names goal new cells room room′ r

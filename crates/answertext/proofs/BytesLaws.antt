@@ -11,7 +11,7 @@ use lib.IntN.{ℤ}
 use lib.ListN.{length, getD, take, drop, length-append, length-drop}
 use lib.Seq.{slice}
 use Rattle.cell.specs.Signed.{signedOf}
-use Rattle.cell.specs.Cell.{kindOf, argsOf, numberOf, middleOf, Values, values, numberValues, refused, valuesAt, valuesOf, arity}
+use Rattle.cell.specs.Cell.{kindOf, argsOf, numberOf, middleOf, Values, values, numberValues, noValues, valuesAt, valuesOf, arity}
 use Rattle.cell.specs.declared.Shape.{Shape}
 use Rattle.cell.specs.declared.Shape.the-variants.{Variable, Number}
 use Rattle.octets.specs.Octets.{Put}
@@ -46,8 +46,8 @@ number-small : (c : ℕ) → valuesAt c .number < 2 ^ 16
 unfolding valuesAt
 number-small c = by (eqb (kindOf c) 0) (eqb (middleOf c) 0) (eqb (kindOf c) 1) (leb (middleOf c) 4) (eqb (kindOf c) 2)
   where
-    by : (a z b y d : Bool) → cond a (cond z (values 0 0 (numberOf c)) refused) (cond b (cond y (values 1 (argsOf c) (numberOf c)) refused)
-        (cond d (cond z (numberValues (numberOf c) (signedOf (numberOf c))) refused) refused)) .number
+    by : (a z b y d : Bool) → cond a (cond z (values 0 0 (numberOf c)) noValues) (cond b (cond y (values 1 (argsOf c) (numberOf c)) noValues)
+        (cond d (cond z (numberValues (numberOf c) (signedOf (numberOf c))) noValues) noValues)) .number
         < 2 ^ 16
     by true true b y d = omega arith
     by true false b y d = omega arith

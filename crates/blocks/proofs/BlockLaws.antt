@@ -11,22 +11,22 @@ use lib.Seq.{take-at, drop-at, getD-at, take-all, length-take-le, drop-drop, dro
 use borrow.Author.Tests.{eqb-true}
 use Rattle.term.proofs.Tests.{bool-cases, eqb-same}
 use Rattle.term.proofs.Lists.{nil-of-length}
-use Rattle.octets.specs.Octets.{Words}
+use Rattle.octets.specs.Octets.{AreWords}
 use Rattle.blocks.specs.Sums.{first, second, checks}
 use Rattle.blocks.specs.Blocks.{blockOf, blocksFrom, cellsIn, sound, soundFrom, cellsFrom}
 use Rattle.blocks.proofs.SumsLaws.{first-small, second-small}
 
 -- Words of lists put together and cut.
-pub words-both : (xs ys : List ℕ) → Words xs → Words ys → Words (xs ++ ys)
+pub words-both : (xs ys : List ℕ) → AreWords xs → AreWords ys → AreWords (xs ++ ys)
 words-both [] ys h g = g
 words-both (x ∷ xs) ys h g = (h .0, words-both xs ys (h .1) g)
 
-pub words-take : (n : ℕ) (xs : List ℕ) → Words xs → Words (take n xs)
+pub words-take : (n : ℕ) (xs : List ℕ) → AreWords xs → AreWords (take n xs)
 words-take zero xs h = tt
 words-take (suc n) [] h = tt
 words-take (suc n) (x ∷ xs) h = (h .0, words-take n xs (h .1))
 
-pub words-drop : (n : ℕ) (xs : List ℕ) → Words xs → Words (drop n xs)
+pub words-drop : (n : ℕ) (xs : List ℕ) → AreWords xs → AreWords (drop n xs)
 words-drop zero xs h = h
 words-drop (suc n) [] h = tt
 words-drop (suc n) (x ∷ xs) h = words-drop n xs (h .1)
@@ -63,7 +63,7 @@ block-sound n cells h =
       eqb-same (second 1 0 (n ∷ cells)),
     )
 
-pub block-words : (n : ℕ) (cells : List ℕ) → n < 2 ^ 32 → Words cells → Words (blockOf n cells)
+pub block-words : (n : ℕ) (cells : List ℕ) → n < 2 ^ 32 → AreWords cells → AreWords (blockOf n cells)
 block-words n cells h w =
     words-both (n ∷ cells) (checks (n ∷ cells)) (h, w) (first-small 1 (n ∷ cells) (omega arith), (second-small 1 0 (n ∷ cells) (omega arith), tt))
 
@@ -137,7 +137,7 @@ blocks-sound (suc k) n cells h =
     let r = blocks-sound k (suc n) (drop 125 cells) d in
     (rw (f, s, g) (ap suc (r .0)), rw (f, s, g, c, r .1) (take-append-drop 125 cells))
 
-pub blocks-words : (k n : ℕ) (cells : List ℕ) → n + k ≤ 2 ^ 32 → Words cells → Words (blocksFrom n k cells)
+pub blocks-words : (k n : ℕ) (cells : List ℕ) → n + k ≤ 2 ^ 32 → AreWords cells → AreWords (blocksFrom n k cells)
 unfolding blocksFrom
 blocks-words zero n cells h w = tt
 blocks-words (suc k) n cells h w =

@@ -31,7 +31,8 @@ module _ (by : By) (columns t : List ℕ) where
   unfolding tableFor
   asked = go (tableBy by t) refl
     where
-      test : (T : Table) → tableBy by t ≡ read T → (b : Bool) → anyPast (T .width) columns ≡ b → Asked (andThen (columnsFor T columns) (λ (named : List Bool). read T))
+      test : (T : Table) → tableBy by t ≡ read T → (b : Bool) → anyPast (T .width) columns ≡ b
+          → Asked (andThen (columnsFor T columns) (λ (named : List Bool). read T))
       test T e true p = rw p (past-width e p)
       test T e false p = rw p (is-asked e p)
 

@@ -34,7 +34,8 @@ use Rattle.builder.proofs.ChooseLaws.{column-count, takes, not-agreed, 
 use Rattle.builder.proofs.WritingLaws.{Below, node-cells, NextPlan, next-plan, no-plan}
 
 -- A state's own three cells where all rows agree, and those of the state below.
-three-first : (l xs cells : List ℕ) (at i c : ℕ) → cells ≡ i ∷ (1 ∷ (c ∷ xs)) → sets (set (set (set l at i) (at + 1) 1) (at + 2) c) (at + 3) xs ≡ sets l at cells
+three-first : (l xs cells : List ℕ) (at i c : ℕ) → cells ≡ i ∷ (1 ∷ (c ∷ xs))
+    → sets (set (set (set l at i) (at + 1) 1) (at + 2) c) (at + 3) xs ≡ sets l at cells
 three-first l xs cells at i c e =
     let p : at + 1 ≡ suc at = omega arith in
     let q : at + 2 ≡ suc (suc at) = omega arith in

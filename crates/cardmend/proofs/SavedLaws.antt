@@ -11,12 +11,12 @@ use Rattle.table.proofs.ReadLaws.{inside}
 use Rattle.blocks.specs.Blocks.{good}
 use Rattle.filing.specs.Files.{tablePart}
 use Rattle.filing.proofs.FileLaws.{or-both}
-use Rattle.salvaging.specs.Salvage.{front, width, count, noHead, kept, badIn, Facts, facts, saved, lost}
+use Rattle.salvaging.specs.Salvage.{front, width, count, noHead, kept, badIn, Findings, facts, saved, lost}
 use Rattle.salvaging.specs.Salvage.{Salvaged, head-lost, none-kept, table-short, plan-short, bad-short, all-had}
 use Rattle.salvaging.proofs.KeptLaws.{kept-are}
 
 -- nothing is both saved and lost
-not-lost : {A : Type 0} {f : Facts} {r : Refused} → saved f ≡ lost r → A
+not-lost : {A : Type 0} {f : Findings} {r : Refused} → saved f ≡ lost r → A
 not-lost e = absurd (let z : _≡_ {A = ℕ} 0 1 = cc in omega arith)
 
 count-few : (file : List ℕ) → noHead file ≡ false → count file ≤ 64
@@ -31,7 +31,7 @@ rows-few file h =
     let few = kept-are (width file) (count file) [] (drop 2 (tablePart (front file))) .few in
     omega (arith, count-few file h, few)
 
-pub saved-few : {file table plan bad table′ plan′ bad′ : List ℕ} {f : Facts}
+pub saved-few : {file table plan bad table′ plan′ bad′ : List ℕ} {f : Findings}
     → Salvaged file table plan bad table′ plan′ bad′ (saved f) → (f .rows + f .dropped ≤ 64) × (f .bad ≤ length bad′)
 saved-few (head-lost h r t p b) = not-lost r
 saved-few (none-kept h k r t p b) = not-lost r

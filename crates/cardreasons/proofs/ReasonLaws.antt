@@ -2,7 +2,7 @@
 use mathlib.Core.Path.{_≡_, refl}
 use Prim.Native.Nat.{ℕ}
 use borrow.Author.Tests.{ne-eqb}
-use Rattle.refusal.specs.Refusal.{numberOf}
+use Rattle.refusal.specs.Refusal.{reasonNumber}
 use Rattle.refusal.specs.declared.Reason.{Reason}
 use Rattle.refusal.specs.declared.Reason.the-variants as reason
 use Rattle.message.specs.Message.{byNumber}
@@ -15,7 +15,8 @@ Not n k = n ≡ k → ⊥
 module _ (n : ℕ) where
   pub table-other : Not n 1 → Not n 2 → Not n 3 → Not n 4 → Not n 5 → Not n 6 → Not n 7 → Not n 9 → Not n 24 → tableReason n ≡ byNumber n
   unfolding tableReason
-  table-other a b d f g h i j k = rw (ne-eqb n 1 a, ne-eqb n 2 b, ne-eqb n 3 d, ne-eqb n 4 f, ne-eqb n 5 g, ne-eqb n 6 h, ne-eqb n 7 i, ne-eqb n 9 j, ne-eqb n 24 k)
+  table-other a b d f g h i j k =
+      rw (ne-eqb n 1 a, ne-eqb n 2 b, ne-eqb n 3 d, ne-eqb n 4 f, ne-eqb n 5 g, ne-eqb n 6 h, ne-eqb n 7 i, ne-eqb n 9 j, ne-eqb n 24 k)
 
   pub plan-other : Not n 10 → Not n 11 → Not n 12 → Not n 13 → Not n 14 → Not n 15 → planReason n ≡ tableReason n
   unfolding planReason
@@ -26,7 +27,7 @@ module _ (n : ℕ) where
   file-other a b d f g h = rw (ne-eqb n 27 a, ne-eqb n 28 b, ne-eqb n 29 d, ne-eqb n 30 f, ne-eqb n 31 g, ne-eqb n 32 h)
 
 -- every reason has its words
-pub by-reason : (r : Reason) → fileReason (numberOf r) ≡ cardReason r
+pub by-reason : (r : Reason) → fileReason (reasonNumber r) ≡ cardReason r
 unfolding cardReason fileReason planReason tableReason
 by-reason reason.Length = refl
 by-reason reason.Width = refl

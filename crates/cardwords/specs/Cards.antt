@@ -3,7 +3,7 @@ use Prim.Native.Nat.{ℕ}
 use mathlib.Core.Bool.{cond}
 use mathlib.Core.List.{List, [], _++_}
 use lib.Dec.{eqb}
-use Rattle.refusal.specs.Refusal.{numberOf}
+use Rattle.refusal.specs.Refusal.{reasonNumber}
 use Rattle.refusal.specs.declared.Reason.{Reason}
 use Rattle.refusal.specs.declared.Input.{Input}
 use Rattle.refusal.specs.declared.Input.the-variants as input
@@ -36,7 +36,7 @@ placeText reason input.Text place = []
 placeText reason input.Figure place = []
 placeText reason input.Names place = []
 placeText reason input.Columns place = []
-placeText reason input.File place = blockText (numberOf reason) place
+placeText reason input.File place = blockText (reasonNumber reason) place
 
 -- `: block 1: DAMAGE 28: ..`, after a card's name
 unfoldable pub refusedLine : Reason → Input → ℕ → List ℕ

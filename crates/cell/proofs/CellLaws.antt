@@ -8,7 +8,8 @@ use lib.Dec.{eqb, leb}
 use lib.IntN.{ℤ}
 use borrow.Author.Tests.{ne-eqb, le-leb, lt-leb, leb-true, leb-false, eqb-true, eqb-false}
 use Rattle.cell.specs.Signed.{signedOf, bitsOf}
-use Rattle.cell.specs.Cell.{kindOf, argsOf, numberOf, middleOf, variableCell, nameCell, numberCell, Cell, variable, name, number, Values, values, numberValues, refused, valuesAt, valuesOf, arity, isVar}
+use Rattle.cell.specs.Cell.{kindOf, argsOf, numberOf, middleOf, variableCell, nameCell, numberCell, Cell, variable, name, number, Values}
+use Rattle.cell.specs.Cell.{values, numberValues, noValues, valuesAt, valuesOf, arity, isVar}
 use Rattle.cell.specs.declared.Shape.{Shape}
 use Rattle.cell.specs.declared.Shape.the-variants.{Variable, Name, Number, Refused}
 use Rattle.cell.proofs.SignedLaws.{bits-signed}
@@ -19,7 +20,7 @@ module _ (c : ℕ) where
   unfolding valuesAt
   is-variable k m = simp (k, m)
 
-  pub no-variable : kindOf c ≡ 0 → middleOf c ≢ 0 → valuesAt c ≡ refused
+  pub no-variable : kindOf c ≡ 0 → middleOf c ≢ 0 → valuesAt c ≡ noValues
   unfolding valuesAt
   no-variable k m = simp (k, ne-eqb _ _ m)
 
@@ -27,7 +28,7 @@ module _ (c : ℕ) where
   unfolding valuesAt
   is-name k m = simp (k, le-leb _ _ m)
 
-  pub no-name : kindOf c ≡ 1 → 4 < middleOf c → valuesAt c ≡ refused
+  pub no-name : kindOf c ≡ 1 → 4 < middleOf c → valuesAt c ≡ noValues
   unfolding valuesAt
   no-name k m = simp (k, lt-leb _ _ m)
 
@@ -41,11 +42,11 @@ module _ (c : ℕ) where
       let b : bitsOf z ≡ numberOf c = ap bitsOf e ∙ bits-signed (numberOf c) (omega arith) in
       rw (b, e) (sym (is-number k m))
 
-  pub no-number : kindOf c ≡ 2 → middleOf c ≢ 0 → valuesAt c ≡ refused
+  pub no-number : kindOf c ≡ 2 → middleOf c ≢ 0 → valuesAt c ≡ noValues
   unfolding valuesAt
   no-number k m = simp (k, ne-eqb _ _ m)
 
-  pub no-kind : kindOf c ≢ 0 → kindOf c ≢ 1 → kindOf c ≢ 2 → valuesAt c ≡ refused
+  pub no-kind : kindOf c ≢ 0 → kindOf c ≢ 1 → kindOf c ≢ 2 → valuesAt c ≡ noValues
   unfolding valuesAt
   no-kind k l m = simp (ne-eqb _ _ k, ne-eqb _ _ l, ne-eqb _ _ m)
 
@@ -62,7 +63,7 @@ pub data Reading (c : ℕ) : Values → Type 0 where
   a-variable : kindOf c ≡ 0 → middleOf c ≡ 0 → Reading c (values 0 0 (numberOf c))
   a-name : kindOf c ≡ 1 → middleOf c ≤ 4 → Reading c (values 1 (argsOf c) (numberOf c))
   a-number : kindOf c ≡ 2 → middleOf c ≡ 0 → Reading c (numberValues (numberOf c) (signedOf (numberOf c)))
-  no-cell : ¬ Cell c → Reading c refused
+  no-cell : ¬ Cell c → Reading c noValues
 
 by-test : {c : ℕ} (b : Bool) {x y : Values} → (b ≡ true → Reading c x) → (b ≡ false → Reading c y) → Reading c (cond b x y)
 by-test true f g = f refl
@@ -232,7 +233,9 @@ isVar-kind c = var-by c (reading c)
 
 -- 01's values tell the enum's cases apart: each case is found again from its values
 shapeIn : Values → Shape
-shapeIn v = cond (eqb (v .kind) 0) (Variable (v .number)) (cond (eqb (v .kind) 1) (Name (v .args) (v .number)) (cond (eqb (v .kind) 2) (Number (v .value)) Refused))
+shapeIn v =
+    cond (eqb (v .kind) 0) (Variable (v .number))
+        (cond (eqb (v .kind) 1) (Name (v .args) (v .number)) (cond (eqb (v .kind) 2) (Number (v .value)) Refused))
 
 shape-found : (s : Shape) → shapeIn (valuesOf s) ≡ s
 unfolding shapeIn

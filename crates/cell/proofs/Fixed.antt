@@ -5,7 +5,8 @@ use Rattle.cell.specs.Cell.{valuesAt, valuesOf}
 use Rattle.cell.specs.declared.Shape.{Shape}
 use Rattle.cell.proofs.CellLaws.{valuesOf-one}
 
--- kind, args, number, middle, variable_cell, name_cell, number_cell, arity_of, and functions of other crates: the promise is an equation with what the arguments give
+-- kind, args, number, middle, variable_cell, name_cell, number_cell, arity_of, and functions of other crates: the promise is an equation with what
+-- the arguments give
 pub given-fixed : {A : Type 0} {x r s : A} → r ≡ x → s ≡ x → r ≡ s
 given-fixed p q = p ∙ sym q
 

@@ -55,23 +55,23 @@ values k a n = record { kind = k; args = a; number = n; value = pos n }
 abbrev pub numberValues : ℕ → ℤ → Values
 numberValues n z = record { kind = 2; args = 0; number = n; value = z }
 
-abbrev pub refused : Values
-refused = values 3 0 0
+abbrev pub noValues : Values
+noValues = values 3 0 0
 
 -- the values of any number taken for a cell, by 01's table, row by row
 unfoldable pub valuesAt : ℕ → Values
 valuesAt c =
-    cond (eqb (kindOf c) 0) (cond (eqb (middleOf c) 0) (values 0 0 (numberOf c)) refused)
-    (cond (eqb (kindOf c) 1) (cond (leb (middleOf c) 4) (values 1 (argsOf c) (numberOf c)) refused)
-    (cond (eqb (kindOf c) 2) (cond (eqb (middleOf c) 0) (numberValues (numberOf c) (signedOf (numberOf c))) refused)
-    refused))
+    cond (eqb (kindOf c) 0) (cond (eqb (middleOf c) 0) (values 0 0 (numberOf c)) noValues)
+    (cond (eqb (kindOf c) 1) (cond (leb (middleOf c) 4) (values 1 (argsOf c) (numberOf c)) noValues)
+    (cond (eqb (kindOf c) 2) (cond (eqb (middleOf c) 0) (numberValues (numberOf c) (signedOf (numberOf c))) noValues)
+    noValues))
 
 -- 01's values for each case of the enum that the code answers
 abbrev pub valuesOf : Shape → Values
 valuesOf (Variable n) = values 0 0 n
 valuesOf (Name a n) = values 1 a n
 valuesOf (Number z) = numberValues (bitsOf z) z
-valuesOf Refused = refused
+valuesOf Refused = noValues
 
 -- 01, "each symbol before its arguments": how many terms follow a cell as its arguments
 unfoldable pub arity : ℕ → ℕ

@@ -19,7 +19,7 @@ use Rattle.refusal.specs.declared.Reason.the-variants as reason
 use Rattle.refusal.specs.declared.Refusal.{Refusal}
 use Rattle.refusal.specs.Read.{Read, read, refuse, when}
 use Rattle.plan.specs.Runs.{Run, run}
-use Rattle.plan.specs.Check.{Seen, seen, bad, Reader, branchesFrom, leafFrom, nodeFrom, stateFrom}
+use Rattle.plan.specs.Check.{Seen, seen, badPlan, Reader, branchesFrom, leafFrom, nodeFrom, stateFrom}
 use Rattle.plan.specs.code.Fits.{Fits}
 use Rattle.plan.proofs.ReadingLaws.{
   after,
@@ -46,10 +46,10 @@ use Rattle.checker.specs.declared.check.Step.the-variants as step
 
 -- A leaf: ENDS, ROWS, or read.
 module _ (p : List ℕ) (rows count at : ℕ) where
-  pub leaf-ends : {f : Refusal} → length p ≤ at → told f ≡ bad reason.Ends at → LeafDone p rows count at (step.Refused f)
+  pub leaf-ends : {f : Refusal} → length p ≤ at → told f ≡ badPlan reason.Ends at → LeafDone p rows count at (step.Refused f)
   leaf-ends h q = record { says = rw (drop-of-length-le p h, q); inside = λ from l. tt }
 
-  pub leaf-rows : {f : Refusal} → at < length p → getD p at 0 ≢ rows → told f ≡ bad reason.Rows at → LeafDone p rows count at (step.Refused f)
+  pub leaf-rows : {f : Refusal} → at < length p → getD p at 0 ≢ rows → told f ≡ badPlan reason.Rows at → LeafDone p rows count at (step.Refused f)
   leaf-rows h e q = record { says = rw (drop-cons p at 0 h, ne-eqb _ _ e, q); inside = λ from l. tt }
 
   pub leaf-read : at < length p → getD p at 0 ≡ rows → LeafDone p rows count at (step.Seen count (at + 1))
@@ -63,8 +63,8 @@ after-leaf : (count : ℕ) (rows : List (List ℕ)) (at : ℕ) (xs : List ℕ) �
 after-leaf count rows at [] = refl
 after-leaf count rows at (c ∷ xs) = go (eqb c (length rows))
   where
-    go : (b : Bool) → after count (when (not b) (bad reason.Rows at) (read (seen 0 (suc at) xs)))
-        ≡ when (not b) (bad reason.Rows at) (read (seen count (suc at) xs))
+    go : (b : Bool) → after count (when (not b) (badPlan reason.Rows at) (read (seen 0 (suc at) xs)))
+        ≡ when (not b) (badPlan reason.Rows at) (read (seen count (suc at) xs))
     go true = let e : count + 0 ≡ count = omega arith in ap (λ (b : ℕ). read (seen b (suc at) xs)) e
     go false = refl
 
@@ -118,21 +118,22 @@ module _ {t : List ℕ} {start mask : ℕ} {p : List ℕ} {k at left owed place 
     abbrev as-node : aloneFrom owed row p place ≡ nodeFrom (stateFrom 32) [] (owed - 1) (row ∷ []) place (drop place p)
     as-node = state-again 32 [] owed (row ∷ []) (g .fits, tt) (omega arith) l place (drop place p)
 
-    pub chain-ends : {f : Refusal} → length p ≤ place → told f ≡ bad reason.Ends place → AloneDone t start mask p k at (step.Refused f)
-    chain-ends h = refused (bad reason.Ends place) (as-node ∙ node-ends (stateFrom 32) [] (owed - 1) (row ∷ []) p place h)
+    pub chain-ends : {f : Refusal} → length p ≤ place → told f ≡ badPlan reason.Ends place → AloneDone t start mask p k at (step.Refused f)
+    chain-ends h = refused (badPlan reason.Ends place) (as-node ∙ node-ends (stateFrom 32) [] (owed - 1) (row ∷ []) p place h)
 
-    pub chain-open : {f : Refusal} → place < length p → owed ≤ getD p place 0 → told f ≡ bad reason.Open place
+    pub chain-open : {f : Refusal} → place < length p → owed ≤ getD p place 0 → told f ≡ badPlan reason.Open place
         → AloneDone t start mask p k at (step.Refused f)
-    chain-open h i = refused (bad reason.Open place) (as-node ∙ node-open (stateFrom 32) [] (owed - 1) (row ∷ []) p place h (omega arith))
+    chain-open h i = refused (badPlan reason.Open place) (as-node ∙ node-open (stateFrom 32) [] (owed - 1) (row ∷ []) p place h (omega arith))
 
     module _ (i : getD p place 0 < owed) where
-      pub chain-ends-2 : {f : Refusal} → place < length p → length p ≤ place + 1 → told f ≡ bad reason.Ends (place + 1)
+      pub chain-ends-2 : {f : Refusal} → place < length p → length p ≤ place + 1 → told f ≡ badPlan reason.Ends (place + 1)
           → AloneDone t start mask p k at (step.Refused f)
-      chain-ends-2 h n = refused (bad reason.Ends (place + 1)) (as-node ∙ node-ends-2 (stateFrom 32) [] (owed - 1) (row ∷ []) p place h n (omega arith) refl)
+      chain-ends-2 h n =
+          refused (badPlan reason.Ends (place + 1)) (as-node ∙ node-ends-2 (stateFrom 32) [] (owed - 1) (row ∷ []) p place h n (omega arith) refl)
 
-      pub chain-edges : {f : Refusal} → place + 1 < length p → getD p (place + 1) 0 ≢ 1 → told f ≡ bad reason.Edges (place + 1)
+      pub chain-edges : {f : Refusal} → place + 1 < length p → getD p (place + 1) 0 ≢ 1 → told f ≡ badPlan reason.Edges (place + 1)
           → AloneDone t start mask p k at (step.Refused f)
-      chain-edges h n = refused (bad reason.Edges (place + 1)) (as-node ∙ node-edges (stateFrom 32) [] (owed - 1) (row ∷ []) p place h (omega arith) refl n)
+      chain-edges h n = refused (badPlan reason.Edges (place + 1)) (as-node ∙ node-edges (stateFrom 32) [] (owed - 1) (row ∷ []) p place h (omega arith) refl n)
 
       -- one branch: ENDS at its cell, LABEL, or on with the row below it
       module _ (h : place + 1 < length p) (n : getD p (place + 1) 0 ≡ 1) where
@@ -142,14 +143,16 @@ module _ {t : List ℕ} {start mask : ℕ} {p : List ℕ} {k at left owed place 
         as-branch : aloneFrom owed row p place ≡ branchesFrom (stateFrom 32) [] (getD p place 0) (owed - 1) (branch ∷ []) (place + 2) (drop (place + 2) p)
         as-branch = as-node ∙ node-on (stateFrom 32) [] (owed - 1) (row ∷ []) p place h (omega arith) refl n
 
-        pub chain-ends-3 : {f : Refusal} → length p ≤ place + 2 → told f ≡ bad reason.Ends (place + 2) → AloneDone t start mask p k at (step.Refused f)
-        chain-ends-3 m = refused (bad reason.Ends (place + 2)) (as-branch ∙ branches-ends (stateFrom 32) [] (getD p place 0) (owed - 1) branch [] p (place + 2) m)
+        pub chain-ends-3 : {f : Refusal} → length p ≤ place + 2 → told f ≡ badPlan reason.Ends (place + 2) → AloneDone t start mask p k at (step.Refused f)
+        chain-ends-3 m =
+            refused (badPlan reason.Ends (place + 2)) (as-branch
+                ∙ branches-ends (stateFrom 32) [] (getD p place 0) (owed - 1) branch [] p (place + 2) m)
 
         module _ {c : Closed} (closed : ClosedAt (getD p place 0) left (drop start t) c) (m : place + 2 < length p) where
-          pub chain-label : {f : Refusal} → getD p (place + 2) 0 ≢ c .cell → told f ≡ bad reason.Label (place + 2)
+          pub chain-label : {f : Refusal} → getD p (place + 2) 0 ≢ c .cell → told f ≡ badPlan reason.Label (place + 2)
               → AloneDone t start mask p k at (step.Refused f)
           chain-label d =
-              refused (bad reason.Label (place + 2))
+              refused (badPlan reason.Label (place + 2))
               (as-branch ∙ branches-label (stateFrom 32) [] (getD p place 0) (owed - 1) branch [] p (place + 2) m (λ e. d (e ∙ sym (closed .cell))))
 
           -- the row has one cell less

@@ -16,7 +16,7 @@ use Rattle.refusal.specs.Read.{Read, read, refuse, when, andThen}
 use Rattle.table.specs.Table.{Table, tableOf}
 use Rattle.table.proofs.Accepted.{is-table}
 use Rattle.plan.specs.Named.{flagsOf, anyPast}
-use Rattle.plan.specs.Check.{bad, stateFrom, planWith, columnsFor, planUnder}
+use Rattle.plan.specs.Check.{badPlan, stateFrom, planWith, columnsFor, planUnder}
 use Rattle.plan.proofs.CheckLaws.{rows-fit, plan-size, plan-refused, plan-extra}
 use Rattle.state.specs.Flags.{flagsIn, maskFrom, pastFrom}
 use Rattle.state.specs.Mask.{OpenRows}
@@ -50,8 +50,8 @@ module _ {t ss : List ℕ} {w n : ℕ} (k : TableRows t ss w n) (mask past : ℕ
     turned-plan x e q = ap turned q ∙ says-plan (refuse x) e
 
     -- SIZE
-    pub entry-size : {x : Refused} → mostPlanCells < length p → x ≡ bad reason.Size 0 → turned x ≡ planSays (namedPlan mask past t p)
-    entry-size h = turned-plan (bad reason.Size 0) (plan-size fs (k .table) p h)
+    pub entry-size : {x : Refused} → mostPlanCells < length p → x ≡ badPlan reason.Size 0 → turned x ≡ planSays (namedPlan mask past t p)
+    entry-size h = turned-plan (badPlan reason.Size 0) (plan-size fs (k .table) p h)
 
     module _ {ms : List ℕ} (o : OpenRows ss n (length t) ms) {hs : List ℕ} where
       -- the first state
@@ -72,8 +72,9 @@ module _ {t ss : List ℕ} {w n : ℕ} (k : TableRows t ss w n) (mask past : ℕ
         entry-refused {f} e = says-plan (refuse (told f)) (plan-refused fs (k .table) p (told f) h (says ∙ ap (saidBy p) e))
 
         -- EXTRA
-        pub entry-extra : {x : Refused} {b e : ℕ} → r ≡ step.Seen b e → e < length p → x ≡ bad reason.Extra e → turned x ≡ planSays (namedPlan mask past t p)
-        entry-extra {b = b} {e} q l = turned-plan (bad reason.Extra e) (plan-extra fs (k .table) p b e h (says ∙ ap (saidBy p) q) l)
+        pub entry-extra : {x : Refused} {b e : ℕ} → r ≡ step.Seen b e → e < length p → x ≡ badPlan reason.Extra e
+            → turned x ≡ planSays (namedPlan mask past t p)
+        entry-extra {b = b} {e} q l = turned-plan (badPlan reason.Extra e) (plan-extra fs (k .table) p b e h (says ∙ ap (saidBy p) q) l)
 
         -- the plan is accepted
         pub entry-accepted : {b e : ℕ} → r ≡ step.Seen b e → length p ≤ e → answered b 0 ≡ planSays (namedPlan mask past t p)
@@ -87,7 +88,8 @@ named-under : (t columns p : List ℕ) → namedPlan (maskFrom 0 columns) (pastF
 named-under t columns p = go (tableOf t) refl
   where
     go : (r : Read Table) → tableOf t ≡ r
-        → andThen r (λ (T : Table). when (ltb (T .width) (pastFrom 0 columns)) (refused reason.Column input.Columns 0) (planWith (flagsIn (T .width) (maskFrom 0 columns)) T p))
+        → andThen r (λ (T : Table). when (ltb (T .width) (pastFrom 0 columns)) (refused reason.Column input.Columns 0)
+            (planWith (flagsIn (T .width) (maskFrom 0 columns)) T p))
         ≡ andThen r (λ (T : Table). andThen (columnsFor T columns) (λ (named : List Bool). planWith named T p))
     go (read T) e =
         rw (past-any (T .width) 0 columns (omega arith), mask-flags (T .width) columns (is-table t e .width .1))

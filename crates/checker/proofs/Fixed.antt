@@ -20,5 +20,6 @@ told-apart (plan-answer.Refused f) (plan-answer.Refused g) e = let q : told f �
 pub plan-fixed : (t p : List ℕ) {r s : PlanAnswer} → planTold r ≡ planSays (planOf t p) → planTold s ≡ planSays (planOf t p) → r ≡ s
 plan-fixed t p {r} {s} a b = told-apart r s (a ∙ sym b)
 
-pub under-fixed : (t columns p : List ℕ) {r s : PlanAnswer} → planTold r ≡ planSays (planUnder t columns p) → planTold s ≡ planSays (planUnder t columns p) → r ≡ s
+pub under-fixed : (t columns p : List ℕ) {r s : PlanAnswer} → planTold r ≡ planSays (planUnder t columns p)
+    → planTold s ≡ planSays (planUnder t columns p) → r ≡ s
 under-fixed t columns p {r} {s} a b = told-apart r s (a ∙ sym b)

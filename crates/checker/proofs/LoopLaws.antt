@@ -13,7 +13,7 @@ use Rattle.refusal.specs.Read.{read, refuse}
 use Rattle.refusal.specs.declared.Refusal.{Refusal}
 use Rattle.plan.specs.Named.{spread}
 use Rattle.plan.specs.Runs.{Run, run}
-use Rattle.plan.specs.Check.{seen, bad, branchesFrom, stateFrom}
+use Rattle.plan.specs.Check.{seen, badPlan, branchesFrom, stateFrom}
 use Rattle.state.specs.Column.{runLength}
 use Rattle.state.specs.Flags.{flagsIn, spreadOf}
 use Rattle.state.specs.States.{rowsIn, columnIn, runsIn, Same}
@@ -53,7 +53,8 @@ module _ {t ss p ms hs : List ℕ} {first last named i k at : ℕ} {ms₁ hs₁ 
   left = runsIn t ss ms₁ hs₁ row last
 
   -- what is left is turned away
-  going-refused : {ms₂ hs₂ : List ℕ} {f : Refusal} (x : Refused) → branchesFrom (stateFrom 32) (flagsIn (suc k) named) i k left place (drop place p) ≡ refuse x → told f ≡ x
+  going-refused : {ms₂ hs₂ : List ℕ} {f : Refusal} (x : Refused)
+      → branchesFrom (stateFrom 32) (flagsIn (suc k) named) i k left place (drop place p) ≡ refuse x → told f ≡ x
       → Same last ms₁ ms₂ → Same last hs₁ hs₂ → DoneIn t ss ms hs ms₂ hs₂ p first last named i k at (step.Refused f)
   going-refused x e q a b = record {
     says = sym (g .says) ∙ rw (e, q);
@@ -89,16 +90,17 @@ module _ {t ss p ms hs : List ℕ} {first last named i k at : ℕ} {ms₁ hs₁ 
     abbrev runs-after : List Run
     runs-after = runsIn t ss ms₁ hs₁ (row + size) last
 
-    pub going-ends : {f : Refusal} → length p ≤ place → told f ≡ bad reason.Ends place → DoneIn t ss ms hs ms₁ hs₁ p first last named i k at (step.Refused f)
+    pub going-ends : {f : Refusal} → length p ≤ place → told f ≡ badPlan reason.Ends place
+        → DoneIn t ss ms hs ms₁ hs₁ p first last named i k at (step.Refused f)
     going-ends l q =
         let e = branches-ends (stateFrom 32) (flagsIn (suc k) named) i k first-run runs-after p place l in
-        going-refused (bad reason.Ends place) (rw (first-left .runs) e) q (same-self last ms₁) (same-self last hs₁)
+        going-refused (badPlan reason.Ends place) (rw (first-left .runs) e) q (same-self last ms₁) (same-self last hs₁)
 
-    pub going-label : {f : Refusal} → place < length p → getD p place 0 ≢ getD hs₁ row 0 → told f ≡ bad reason.Label place
+    pub going-label : {f : Refusal} → place < length p → getD p place 0 ≢ getD hs₁ row 0 → told f ≡ badPlan reason.Label place
         → DoneIn t ss ms hs ms₁ hs₁ p first last named i k at (step.Refused f)
     going-label l d q =
         let e = branches-label (stateFrom 32) (flagsIn (suc k) named) i k first-run runs-after p place l d in
-        going-refused (bad reason.Label place) (rw (first-left .runs) e) q (same-self last ms₁) (same-self last hs₁)
+        going-refused (badPlan reason.Label place) (rw (first-left .runs) e) q (same-self last ms₁) (same-self last hs₁)
 
 -- One turn: a branch's cell is there and is the first row's, and n rows are its run.
 pub record Turn (t ss p ms hs : List ℕ) (first last named i k at : ℕ) (ms₁ hs₁ : List ℕ) (row place count n : ℕ) : Type 0 where
@@ -166,7 +168,8 @@ module _ {t ss p ms hs : List ℕ} {first last named i k at : ℕ} {ms₁ hs₁ 
     -- it is turned away
     pub turn-refused : {f : Refusal} → s ≡ step.Refused f → DoneIn t ss ms hs ms₂ hs₂ p first last named i k at (step.Refused f)
     turn-refused {f} e =
-        going-refused g (told f) (rw (r .runs) (branches-refused (stateFrom 32) (flagsIn (suc k) named) i k one others p place (told f) (w .here) (w .label) (says-below ∙ ap (saidBy p) e))) refl
+        going-refused g (told f) (rw (r .runs) (branches-refused (stateFrom 32) (flagsIn (suc k) named) i k one others p place (told f) (w .here)
+            (w .label) (says-below ∙ ap (saidBy p) e))) refl
         (same-later (row + n) last (r .few) (a .masks))
         (same-later (row + n) last (r .few) (a .column))
 
@@ -198,9 +201,11 @@ module _ {t ss p ms hs : List ℕ} {first last named i k at : ℕ} {ms₁ hs₁ 
           ≡ branchesFrom (stateFrom 32) (flagsIn (suc k) named) i k (runsIn t ss ms hs first last) at (drop at p)
       says-next =
           let q : count + (1 + b) ≡ count + (b + 1) = omega arith in
-          let on = branches-on (stateFrom 32) (flagsIn (suc k) named) i k one others p place (seen b m (drop m p)) (w .here) (w .label) (says-below ∙ ap (saidBy p) e) in
+          let on = branches-on (stateFrom 32) (flagsIn (suc k) named) i k one others p place (seen b m (drop m p)) (w .here) (w .label)
+              (says-below ∙ ap (saidBy p) e) in
           rw (others-kept, q)
-          (sym (after-after count (b + 1) (branchesFrom (stateFrom 32) (flagsIn (suc k) named) i k others m (drop m p))) ∙ ap (after count) (sym on) ∙ (rw (r .runs) at (g .says)))
+          (sym (after-after count (b + 1) (branchesFrom (stateFrom 32) (flagsIn (suc k) named) i k others m (drop m p))) ∙ ap (after count) (sym on)
+              ∙ (rw (r .runs) at (g .says)))
 
       pub turn-on : Going t ss p ms hs first last named i k at ms₂ hs₂ (row + n) m (count + (1 + b))
       turn-on = record {

@@ -19,7 +19,7 @@ use Rattle.plan.specs.Named.{may}
 use Rattle.plan.proofs.NamedLaws.{Free, no-place}
 use Rattle.plan.proofs.ColumnsLaws.{state-plain}
 use Rattle.plan.specs.Runs.{Run, runs}
-use Rattle.plan.specs.Check.{bad, nodeFrom, stateFrom}
+use Rattle.plan.specs.Check.{badPlan, nodeFrom, stateFrom}
 use Rattle.plan.specs.code.Fits.{Fits}
 use Rattle.state.specs.Column.{runCount}
 use Rattle.state.specs.Flags.{flagsIn, mayIn}
@@ -106,19 +106,20 @@ module _ {t ss ms hs p : List ℕ} {first last named k at : ℕ} (w : Ready t ss
         → Done t ss ms hs ms hs p first last named k at (step.Refused f)
     refused x e q = untouched (as-node ∙ e ∙ rw q) tt
 
-    pub done-ends : {f : Refusal} → length p ≤ at → told f ≡ bad reason.Ends at → Done t ss ms hs ms hs p first last named k at (step.Refused f)
-    done-ends h = refused (bad reason.Ends at) (node-ends (stateFrom 32) fs (k - 1) rows p at h)
+    pub done-ends : {f : Refusal} → length p ≤ at → told f ≡ badPlan reason.Ends at → Done t ss ms hs ms hs p first last named k at (step.Refused f)
+    done-ends h = refused (badPlan reason.Ends at) (node-ends (stateFrom 32) fs (k - 1) rows p at h)
 
-    pub done-open : {f : Refusal} → at < length p → k ≤ getD p at 0 → told f ≡ bad reason.Open at → Done t ss ms hs ms hs p first last named k at (step.Refused f)
-    done-open h i = refused (bad reason.Open at) (node-open (stateFrom 32) fs (k - 1) rows p at h (omega arith))
+    pub done-open : {f : Refusal} → at < length p → k ≤ getD p at 0 → told f ≡ badPlan reason.Open at
+        → Done t ss ms hs ms hs p first last named k at (step.Refused f)
+    done-open h i = refused (badPlan reason.Open at) (node-open (stateFrom 32) fs (k - 1) rows p at h (omega arith))
 
     -- whether the place may be chosen, by the code's test
     tested : getD p at 0 < k → may fs (getD p at 0) ≡ mayIn named (getD p at 0)
     tested i = sym (may-bits k (getD p at 0) named i (omega (arith, few-open)) (w .flags))
 
-    pub done-early : {f : Refusal} → at < length p → getD p at 0 < k → mayIn named (getD p at 0) ≡ false → told f ≡ bad reason.Early at
+    pub done-early : {f : Refusal} → at < length p → getD p at 0 < k → mayIn named (getD p at 0) ≡ false → told f ≡ badPlan reason.Early at
         → Done t ss ms hs ms hs p first last named k at (step.Refused f)
-    done-early h i m = refused (bad reason.Early at) (node-early (stateFrom 32) fs (k - 1) rows p at h (omega arith) (tested i ∙ m))
+    done-early h i m = refused (badPlan reason.Early at) (node-early (stateFrom 32) fs (k - 1) rows p at h (omega arith) (tested i ∙ m))
 
     module _ (i : getD p at 0 < k) (m : mayIn named (getD p at 0) ≡ true) where
       allowed : may fs (getD p at 0) ≡ true
@@ -133,9 +134,9 @@ module _ {t ss ms hs p : List ℕ} {first last named k at : ℕ} (w : Ready t ss
             → Done t ss ms hs ms₁ hs₁ p first last named k at (step.Refused f)
         closed-refused x e q = record { says = as-node ∙ e ∙ rw q; inside = tt; masks = c .masks; column = c .column }
 
-        pub done-ends-2 : {f : Refusal} → at < length p → length p ≤ at + 1 → told f ≡ bad reason.Ends (at + 1)
+        pub done-ends-2 : {f : Refusal} → at < length p → length p ≤ at + 1 → told f ≡ badPlan reason.Ends (at + 1)
             → Done t ss ms hs ms₁ hs₁ p first last named k at (step.Refused f)
-        done-ends-2 h n = closed-refused (bad reason.Ends (at + 1)) (node-ends-2 (stateFrom 32) fs (k - 1) rows p at h n (omega arith) allowed)
+        done-ends-2 h n = closed-refused (badPlan reason.Ends (at + 1)) (node-ends-2 (stateFrom 32) fs (k - 1) rows p at h n (omega arith) allowed)
 
         number : (n : ℕ) → n ≡ runCount (columnIn hs₁ first last) → n ≡ length (runs (getD p at 0) rows)
         number n e =
@@ -143,10 +144,11 @@ module _ {t ss ms hs p : List ℕ} {first last named k at : ℕ} (w : Ready t ss
             e ∙ sym (run-number t ss ms₁ hs₁ first last z) ∙ ap length (sym (runs-closed c))
 
         pub done-edges : {f : Refusal} (n : ℕ) → at + 1 < length p → n ≡ runCount (columnIn hs₁ first last) → getD p (at + 1) 0 ≢ n
-            → told f ≡ bad reason.Edges (at + 1) → Done t ss ms hs ms₁ hs₁ p first last named k at (step.Refused f)
+            → told f ≡ badPlan reason.Edges (at + 1) → Done t ss ms hs ms₁ hs₁ p first last named k at (step.Refused f)
         done-edges n h e d =
-            closed-refused (bad reason.Edges (at + 1))
-            (node-edges (stateFrom 32) fs (k - 1) rows p at h (omega arith) allowed (λ (x : getD p (at + 1) 0 ≡ length (runs (getD p at 0) rows)). d (x ∙ sym (number n e))))
+            closed-refused (badPlan reason.Edges (at + 1))
+            (node-edges (stateFrom 32) fs (k - 1) rows p at h (omega arith) allowed
+                (λ (x : getD p (at + 1) 0 ≡ length (runs (getD p at 0) rows)). d (x ∙ sym (number n e))))
 
         -- the rows are shorter, and fit, below each branch
         pub shorter : longest (rowsIn t ss ms₁ first last) < longest rows

@@ -2,7 +2,7 @@
 ghost use mathlib.Core.Path.{_≡_};
 ghost use Rattle.refusal.specs.Refusal.{told};
 ghost use lib.ListN.{drop};
-ghost use Rattle.plan.specs.Check.{bad};
+ghost use Rattle.plan.specs.Check.{badPlan};
 ghost use Rattle.plan.specs.code.Fits.{Fits};
 ghost use Rattle.state.specs.Mask.{kept};
 ghost use Rattle.checker.specs.code.Steps.{LeafDone, AloneDone, Ready, ReadyIn, Done, DoneIn};
@@ -26,7 +26,7 @@ pub enum Step {
 
 // A refusal of the plan.
 pub fn refusal(reason: Reason, place: usize) -> Refusal
-    ensures { λ r. ⌜ told r ≡ bad reason place ⌝ }
+    ensures { λ r. ⌜ told r ≡ badPlan reason place ⌝ }
 {
     Refusal {
         reason,

@@ -54,7 +54,8 @@ module _ {N : Nodes} (f : Fair N) where
       λ a. let s = a .solves in
           let τ = a .by in
           let p = cut P (c ∷ B) (u ∷ Q) (s .good) t .0 (a .same) in
-          let q : c ∷ inst τ B ≡ c ∷ (vals N τ ks ++ vals N τ Q) = sym (inst-symbol c B (s .good) h) ∙ p .1 ∙ one τ u Q ∙ ap (λ (l : List ℕ). l ++ vals N τ Q) (value s) in
+          let q : c ∷ inst τ B ≡ c ∷ (vals N τ ks ++ vals N τ Q) =
+              sym (inst-symbol c B (s .good) h) ∙ p .1 ∙ one τ u Q ∙ ap (λ (l : List ℕ). l ++ vals N τ Q) (value s) in
           record { by = τ; solves = s; same = cut P B (ks ++ Q) (s .good) t .1 (p .0, tail-eq-of-cons-eq q ∙ sym (both τ)) },
       λ a. let s = a .solves in
           let τ = a .by in
@@ -63,7 +64,8 @@ module _ {N : Nodes} (f : Fair N) where
             by = τ;
             solves = s;
             same = cut P (c ∷ B) (u ∷ Q) (s .good) t .1
-                (p .0, inst-symbol c B (s .good) h ∙ ap (λ (l : List ℕ). c ∷ l) (p .1 ∙ both τ) ∙ sym (one τ u Q ∙ ap (λ (l : List ℕ). l ++ vals N τ Q) (value s)));
+                (p .0, inst-symbol c B (s .good) h ∙ ap (λ (l : List ℕ). c ∷ l) (p .1 ∙ both τ)
+                    ∙ sym (one τ u Q ∙ ap (λ (l : List ℕ). l ++ vals N τ Q) (value s)));
           },
     )
       where
@@ -82,7 +84,8 @@ module _ {N : Nodes} (f : Fair N) where
         let s = a .solves in
         let τ = a .by in
         let p = cut P (c ∷ B) (u ∷ Q) (s .good) t .0 (a .same) in
-        d (head-eq-of-cons-eq (sym (ap (λ (l : List ℕ). l ++ vals N τ Q) (s .classes u ∙ s .heads (at rep u) nz)) ∙ sym (one τ u Q) ∙ sym (p .1) ∙ inst-symbol c B (s .good) h))
+        d (head-eq-of-cons-eq (sym (ap (λ (l : List ℕ). l ++ vals N τ Q) (s .classes u ∙ s .heads (at rep u) nz)) ∙ sym (one τ u Q) ∙ sym (p .1)
+            ∙ inst-symbol c B (s .good) h))
 
     -- a row's variable met first: it is kept with its node
     pub agree-first : isVar c ≡ true → Agrees N rep (A ++ (c ∷ B)) (P ++ (u ∷ Q)) ↔ Agrees N rep (c ∷ (A ++ B)) (u ∷ (P ++ Q))
@@ -98,7 +101,8 @@ module _ {N : Nodes} (f : Fair N) where
     )
 
   -- met again: the node that it met first is joined to this one
-  module _ (rep A₁ P₁ A₂ P₂ : List ℕ) (t₁ : Terms (length P₁) A₁) (t₂ : Terms (length P₂) A₂) (c : ℕ) (h : isVar c ≡ true) (w : ℕ) (B : List ℕ) (u : ℕ) (Q : List ℕ) where
+  module _ (rep A₁ P₁ A₂ P₂ : List ℕ) (t₁ : Terms (length P₁) A₁) (t₂ : Terms (length P₂) A₂) (c : ℕ) (h : isVar c ≡ true) (w : ℕ) (B : List ℕ)
+      (u : ℕ) (Q : List ℕ) where
     met : {τ : ℕ → List ℕ} → Subst τ → (inst τ (A₁ ++ (c ∷ A₂)) ≡ vals N τ (P₁ ++ (w ∷ P₂))) → τ c ≡ val N τ w
     met s e = cut-var c A₂ w P₂ s h .0 (cut P₁ (c ∷ A₂) (w ∷ P₂) s t₁ .0 e .1) .0
 
@@ -108,7 +112,8 @@ module _ {N : Nodes} (f : Fair N) where
         lengths : (xs : List ℕ) (y : ℕ) (ys : List ℕ) → length (xs ++ (y ∷ ys)) ≡ length xs + suc (length ys)
         lengths xs y ys = lib.ListN.length-append xs (y ∷ ys)
 
-    pub agree-again : {rep′ : List ℕ} → Flat rep → Merges N rep w u rep′ → Agrees N rep ((A₁ ++ (c ∷ A₂)) ++ (c ∷ B)) ((P₁ ++ (w ∷ P₂)) ++ (u ∷ Q)) ↔ Agrees N rep′ ((A₁ ++ (c ∷ A₂)) ++ B) ((P₁ ++ (w ∷ P₂)) ++ Q)
+    pub agree-again : {rep′ : List ℕ} → Flat rep → Merges N rep w u rep′ → Agrees N rep ((A₁ ++ (c ∷ A₂)) ++ (c ∷ B)) ((P₁ ++ (w ∷ P₂)) ++ (u ∷ Q))
+        ↔ Agrees N rep′ ((A₁ ++ (c ∷ A₂)) ++ B) ((P₁ ++ (w ∷ P₂)) ++ Q)
     agree-again F m = (
       λ a. let s = a .solves in
           let p = cut (P₁ ++ (w ∷ P₂)) (c ∷ B) (u ∷ Q) (s .good) whole .0 (a .same) in
@@ -117,7 +122,8 @@ module _ {N : Nodes} (f : Fair N) where
       λ a. let r = unmerged f F m (a .solves) in
           let s = r .0 in
           let p = cut (P₁ ++ (w ∷ P₂)) B Q (s .good) whole .0 (a .same) in
-          record { by = a .by; solves = s; same = cut (P₁ ++ (w ∷ P₂)) (c ∷ B) (u ∷ Q) (s .good) whole .1 (p .0, cut-var c B u Q (s .good) h .1 (met (s .good) (p .0) ∙ r .1, p .1)) },
+          record { by = a .by; solves = s; same = cut (P₁ ++ (w ∷ P₂)) (c ∷ B) (u ∷ Q) (s .good) whole .1
+              (p .0, cut-var c B u Q (s .good) h .1 (met (s .good) (p .0) ∙ r .1, p .1)) },
     )
 
     -- what agrees makes the two nodes equal

@@ -90,7 +90,8 @@ module _ (rep : List ℕ) (x y : ℕ) (h : x < length rep) (fx : at rep x ≡ x)
 
   one-other : (r : ℕ) → r ≢ x → one (join x y rep) r ≡ one rep r
   one-other r n = by-cases (ℕ-discrete (at rep r) x)
-      (λ q. let a : at (join x y rep) r ≢ r = λ e. n (sym (sym q ∙ ap (λ (z : ℕ). at rep z) (sym (sym (join-here rep x y r h q) ∙ e)) ∙ fy ∙ sym (join-here rep x y r h q) ∙ e)) in
+      (λ q. let a : at (join x y rep) r ≢ r = λ e. n
+          (sym (sym q ∙ ap (λ (z : ℕ). at rep z) (sym (sym (join-here rep x y r h q) ∙ e)) ∙ fy ∙ sym (join-here rep x y r h q) ∙ e)) in
       rw (ne-eqb (at (join x y rep) r) r a, ne-eqb (at rep r) r (λ e. n (sym e ∙ q))))
       (λ q. rw (join-other rep x y r h q))
 
@@ -190,16 +191,19 @@ module _ {bs ns sib rep : List ℕ} (R : Ready bs ns sib rep) (a b left : ℕ) (
     two-symbols nx ny e = apart refl (R .size) (λ own. clash {rep = rep} {a = a} {b = b} (rw x-is nx) (rw y-is ny) (rw (x-is, y-is) e))
 
     -- the same symbol: the classes are joined, and then the arguments are compared
-    ready-args : {rep₁ : List ℕ} → getD bs (getD rep a 0) 0 ≢ 0 → getD bs (getD rep a 0) 0 ≡ getD bs (getD rep b 0) 0 → rep₁ ≡ join (getD rep a 0) (getD rep b 0) rep
+    ready-args : {rep₁ : List ℕ} → getD bs (getD rep a 0) 0 ≢ 0 → getD bs (getD rep a 0) 0 ≡ getD bs (getD rep b 0) 0
+        → rep₁ ≡ join (getD rep a 0) (getD rep b 0) rep
         → ReadyAll bs ns sib rep₁ (getD ns (getD rep a 0) 0) (getD ns (getD rep b 0) 0) (arity (getD bs (getD rep a 0) 0)) × (classes rep₁ ≤ left - 1)
     ready-args {rep₁} nz e q =
         let q′ : rep₁ ≡ join (at rep a) (at rep b) rep = rw (x-is, y-is) q in
         let f = fewer R a b ha hb d′ in
         let sx : getD rep a 0 < 64 = rw (← x-is) (R .small a ha) in
         let sy : getD rep b 0 < 64 = rw (← y-is) (R .small b hb) in
-        rw q′ (record { ready = ready-join R a b ha hb d′; left = R .kids (getD rep a 0) sx nz; right = rw e (R .kids (getD rep b 0) sy (λ o. nz (e ∙ o))) }, omega arith)
+        rw q′ (record { ready = ready-join R a b ha hb d′; left = R .kids (getD rep a 0) sx nz; right =
+            rw e (R .kids (getD rep b 0) sy (λ o. nz (e ∙ o))) }, omega arith)
 
-    by-args : {rep₁ rep′ : List ℕ} {n : ℕ} → getD bs (getD rep a 0) 0 ≢ 0 → getD bs (getD rep a 0) 0 ≡ getD bs (getD rep b 0) 0 → rep₁ ≡ join (getD rep a 0) (getD rep b 0) rep
+    by-args : {rep₁ rep′ : List ℕ} {n : ℕ} → getD bs (getD rep a 0) 0 ≢ 0 → getD bs (getD rep a 0) 0 ≡ getD bs (getD rep b 0) 0
+        → rep₁ ≡ join (getD rep a 0) (getD rep b 0) rep
         → UnifiedAll bs ns sib rep₁ rep′ (getD ns (getD rep a 0) 0) (getD ns (getD rep b 0) 0) (arity (getD bs (getD rep a 0) 0)) n
         → Unified bs ns sib rep rep′ a b n
     by-args {rep₁} {rep′} nz e q (all-joined p m r w) =
@@ -282,7 +286,8 @@ module _ {bs ns sib rep : List ℕ} (R : Ready bs ns sib rep) (a b left : ℕ) (
     pub code-apart : f ≢ 0 → g ≢ 0 → f ≢ g → Unified bs ns sib rep rep a b 0
     code-apart nf ng n = two-symbols R a b left ha hb c d (rw (← ei, ← ef) nf) (rw (← ej, ← eg) ng) (rw (← ei, ← ej, ← ef, ← eg) n)
 
-    module _ {p q k : ℕ} {rep₁ : List ℕ} (ep : p ≡ getD ns i 0) (eq : q ≡ getD ns j 0) (ek : k ≡ arity f) (nf : f ≢ 0) (e : f ≡ g) (er : rep₁ ≡ join (getD rep a 0) (getD rep b 0) rep) where
+    module _ {p q k : ℕ} {rep₁ : List ℕ} (ep : p ≡ getD ns i 0) (eq : q ≡ getD ns j 0) (ek : k ≡ arity f) (nf : f ≢ 0) (e : f ≡ g)
+        (er : rep₁ ≡ join (getD rep a 0) (getD rep b 0) rep) where
       code-ready : ReadyAll bs ns sib rep₁ p q k × (classes rep₁ ≤ left - 1)
       code-ready = rw (ep, eq, ek, ef, ei, ej) (ready-args R a b left ha hb c d (rw (← ei, ← ef) nf) (rw (← ei, ← ej, ← ef, ← eg) e) er)
 

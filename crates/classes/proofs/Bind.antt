@@ -3,7 +3,8 @@ use Prim.Native.Nat.{ℕ, _+_, _^_, _<_}
 use mathlib.Core.Path.{_≡_, refl, sym, _∙_, ap, ap₂}
 use mathlib.Core.Logic.{_≢_, _↔_, by-cases, ⊎-elim}
 use mathlib.Core.Bool.{true, false}
-use mathlib.Core.List.{List, [], _∷_, _++_, head-eq-of-cons-eq, tail-eq-of-cons-eq, List·Memᴰ, List·Memᴰ·head, List·Memᴰ·tail, Memᴰ·append-left, Memᴰ·append-right}
+use mathlib.Core.List.{List, [], _∷_, _++_, head-eq-of-cons-eq, tail-eq-of-cons-eq, List·Memᴰ, List·Memᴰ·head, List·Memᴰ·tail, Memᴰ·append-left}
+use mathlib.Core.List.{Memᴰ·append-right}
 use native.Mathlib.Nat.{add-zero}
 use native.Mathlib.Decide.{ℕ-discrete}
 use native.Mathlib.Omega.{arith}
@@ -26,7 +27,8 @@ unfolding owns
 owns-bound b [] = refl
 owns-bound b (r ∷ rs) = ap₂ _++_ (b .own-same r) (owns-bound b rs)
 
-module _ {N N′ : Nodes} (f : Fair N) (rep : List ℕ) {v c : ℕ} {ws : List ℕ} (b : Binds N N′ v c ws) (n : New N rep ws) (hc : isVar c ≡ false) (hl : length ws ≡ arity c) (hz : N .head v ≡ 0)
+module _ {N N′ : Nodes} (f : Fair N) (rep : List ℕ) {v c : ℕ} {ws : List ℕ} (b : Binds N N′ v c ws) (n : New N rep ws) (hc : isVar c ≡ false)
+    (hl : length ws ≡ arity c) (hz : N .head v ≡ 0)
     (nv : ¬ List·Memᴰ v ws) where
   -- what solves the nodes with the binding solves them without it
   solves-less : {τ : ℕ → List ℕ} → Solves N′ rep τ → Solves N rep τ × (val N τ v ≡ c ∷ vals N τ ws)
@@ -38,7 +40,8 @@ module _ {N N′ : Nodes} (f : Fair N) (rep : List ℕ) {v c : ℕ} {ws : List �
           let d : r ≢ v = λ e. nz (ap (N .head) e ∙ hz) in
           let nz′ : N′ .head r ≢ 0 = λ e. nz (sym (b .head-other r d) ∙ e) in
           let h = s .heads r nz′ in
-          ap (inst τ) (sym (b .own-same r)) ∙ h ∙ ap₂ (λ (x : ℕ) (l : List ℕ). x ∷ inst τ l) (b .head-other r d) (owns-bound b (N′ .kids r) ∙ ap (owns N) (b .kids-other r d));
+          ap (inst τ) (sym (b .own-same r)) ∙ h ∙ ap₂ (λ (x : ℕ) (l : List ℕ). x ∷ inst τ l) (b .head-other r d) (owns-bound b (N′ .kids r)
+              ∙ ap (owns N) (b .kids-other r d));
     },
     here,
   )
@@ -47,7 +50,8 @@ module _ {N N′ : Nodes} (f : Fair N) (rep : List ℕ) {v c : ℕ} {ws : List �
       here = by-cases (ℕ-discrete c 0)
           (λ z. absurd (no-zero z))
           (λ z. let nz : N′ .head v ≢ 0 = λ e. z (sym (b .head-here) ∙ e) in
-          ap (inst τ) (sym (b .own-same v)) ∙ s .heads v nz ∙ ap₂ (λ (x : ℕ) (l : List ℕ). x ∷ inst τ l) (b .head-here) (owns-bound b (N′ .kids v) ∙ ap (owns N) (b .kids-here)))
+          ap (inst τ) (sym (b .own-same v)) ∙ s .heads v nz
+          ∙ ap₂ (λ (x : ℕ) (l : List ℕ). x ∷ inst τ l) (b .head-here) (owns-bound b (N′ .kids v) ∙ ap (owns N) (b .kids-here)))
         where
           no-zero : c ≡ 0 → ⊥
           no-zero z = mathlib.Core.Bool.true≢false (sym (Rattle.cell.proofs.CellLaws.var-small c (let q : c < 2 ^ 30 = omega arith in q)) ∙ hc)
@@ -63,7 +67,8 @@ module _ {N N′ : Nodes} (f : Fair N) (rep : List ℕ) {v c : ℕ} {ws : List �
     unfolding owns inst
     offs [] h = refl
     offs (r ∷ rs) h =
-        inst-++ (new .new) (N .own r) (owns N rs) ∙ ap₂ _++_ (off r (h r (List·Memᴰ·head refl))) (offs rs (λ q m. h q (List·Memᴰ·tail m))) ∙ sym (inst-++ τ (N .own r) (owns N rs))
+        inst-++ (new .new) (N .own r) (owns N rs) ∙ ap₂ _++_ (off r (h r (List·Memᴰ·head refl))) (offs rs (λ q m. h q (List·Memᴰ·tail m)))
+        ∙ sym (inst-++ τ (N .own r) (owns N rs))
 
     of-new : vals N (new .new) ws ≡ us
     of-new = ap (inst (new .new)) (n .are) ∙ new .hits
@@ -88,7 +93,8 @@ module _ {N N′ : Nodes} (f : Fair N) (rep : List ℕ) {v c : ℕ} {ws : List �
     }
 
   -- the law
-  pub agree-bind : (A P : List ℕ) → Terms (length P) A → (B : List ℕ) (u : ℕ) (Q : List ℕ) → at rep u ≡ v → ((r : ℕ) → List·Memᴰ r P → ¬ List·Memᴰ r ws) → ((r : ℕ) → List·Memᴰ r Q → ¬ List·Memᴰ r ws)
+  pub agree-bind : (A P : List ℕ) → Terms (length P) A → (B : List ℕ) (u : ℕ) (Q : List ℕ) → at rep u ≡ v
+      → ((r : ℕ) → List·Memᴰ r P → ¬ List·Memᴰ r ws) → ((r : ℕ) → List·Memᴰ r Q → ¬ List·Memᴰ r ws)
       → ((d : ℕ) → List·Memᴰ d (A ++ B) → ¬ List·Memᴰ d (n .cells))
       → Agrees N rep (A ++ (c ∷ B)) (P ++ (u ∷ Q)) ↔ Agrees N′ rep (A ++ B) (P ++ (ws ++ Q))
   agree-bind A P t B u Q hu nP nQ nx = (
@@ -97,15 +103,18 @@ module _ {N N′ : Nodes} (f : Fair N) (rep : List ℕ) {v c : ℕ} {ws : List �
         let p = cut f P (c ∷ B) (u ∷ Q) (s .good) t .0 (a .same) in
         let o = one-cell (Terms-inst (s .good) (f .term v)) in
         let vu : val N τ u ≡ val N τ v = s .classes u ∙ ap (val N τ) hu in
-        let q : c ∷ inst τ B ≡ o .0 ∷ (o .1 ++ vals N τ Q) = sym (inst-symbol c B (s .good) hc) ∙ p .1 ∙ one f τ u Q ∙ ap (λ (l : List ℕ). l ++ vals N τ Q) (vu ∙ o .2) in
+        let q : c ∷ inst τ B ≡ o .0 ∷ (o .1 ++ vals N τ Q) =
+            sym (inst-symbol c B (s .good) hc) ∙ p .1 ∙ one f τ u Q ∙ ap (λ (l : List ℕ). l ++ vals N τ Q) (vu ∙ o .2) in
         let cd = head-eq-of-cons-eq q in
         let e : val N τ v ≡ c ∷ o .1 = o .2 ∙ ap (λ (x : ℕ). x ∷ o .1) (sym cd) in
         let tu : Terms (arity c) (o .1) = rw (cd, ← add-zero (arity (o .0))) (o .3) in
         let σ = new s (o .1) e tu in
-        let on : (xs : List ℕ) → ((d : ℕ) → List·Memᴰ d xs → ¬ List·Memᴰ d (n .cells)) → inst (σ .new) xs ≡ inst τ xs = λ xs h. inst-agree (σ .new) τ xs (λ d m. σ .keeps d (h d m)) in
+        let on : (xs : List ℕ) → ((d : ℕ) → List·Memᴰ d xs → ¬ List·Memᴰ d (n .cells)) → inst (σ .new) xs ≡ inst τ xs =
+            λ xs h. inst-agree (σ .new) τ xs (λ d m. σ .keeps d (h d m)) in
         let eA : inst (σ .new) A ≡ vals N (σ .new) P = on A (λ d m. nx d (Memᴰ·append-left B m)) ∙ p .0 ∙ sym (offs s (o .1) e tu P nP) in
         let eB : inst (σ .new) B ≡ vals N (σ .new) (ws ++ Q)
-        = on B (λ d m. nx d (Memᴰ·append-right A m)) ∙ tail-eq-of-cons-eq q ∙ ap₂ _++_ (sym (of-new s (o .1) e tu)) (sym (offs s (o .1) e tu Q nQ)) ∙ sym (two (σ .new)) in
+        = on B (λ d m. nx d (Memᴰ·append-right A m)) ∙ tail-eq-of-cons-eq q ∙ ap₂ _++_ (sym (of-new s (o .1) e tu)) (sym (offs s (o .1) e tu Q nQ))
+        ∙ sym (two (σ .new)) in
         record {
           by = σ .new;
           solves = solves-more s (o .1) e tu;
@@ -119,7 +128,8 @@ module _ {N N′ : Nodes} (f : Fair N) (rep : List ℕ) {v c : ℕ} {ws : List �
           by = τ;
           solves = s;
           same = cut f P (c ∷ B) (u ∷ Q) (s .good) t .1
-              (p .0, inst-symbol c B (s .good) hc ∙ ap (λ (l : List ℕ). c ∷ l) (p .1 ∙ two τ) ∙ ap (λ (l : List ℕ). l ++ vals N τ Q) (sym (r .1) ∙ ap (val N τ) (sym hu) ∙ sym (s .classes u)) ∙ sym (one f τ u Q));
+              (p .0, inst-symbol c B (s .good) hc ∙ ap (λ (l : List ℕ). c ∷ l) (p .1 ∙ two τ)
+                  ∙ ap (λ (l : List ℕ). l ++ vals N τ Q) (sym (r .1) ∙ ap (val N τ) (sym hu) ∙ sym (s .classes u)) ∙ sym (one f τ u Q));
         },
   )
     where

@@ -37,7 +37,8 @@ module _ {N : Nodes} {rep : List ℕ} where
     images-one (and-more t ts) no-more e = let z : _≡_ {A = ℕ} 0 1 = cc in absurd (let y : ⊥ = omega arith in y)
     images-one (and-more t ts) (and-more u us) e = ap₂ _++_ (image-one t u (head-eq-of-cons-eq e)) (images-one ts us (tail-eq-of-cons-eq e))
 
-module _ {N : Nodes} (f : Fair N) {rep : List ℕ} (F : Flat rep) (node : ℕ → ℕ) (n : ℕ) (W : Within N rep node n) (c : Closed N rep) (all : (r : ℕ) → Fin N rep r) where
+module _ {N : Nodes} (f : Fair N) {rep : List ℕ} (F : Flat rep) (node : ℕ → ℕ) (n : ℕ) (W : Within N rep node n) (c : Closed N rep) (all : (r : ℕ)
+    → Fin N rep r) where
   alls : (rs : List ℕ) → FinAll N rep rs
   alls [] = no-more
   alls (r ∷ rs) = and-more (all r) (alls rs)
@@ -85,7 +86,8 @@ module _ {N : Nodes} (f : Fair N) {rep : List ℕ} (F : Flat rep) (node : ℕ �
   stands-to zero r i h = absurd (let l = terms-long (image-terms (all r)) in let z : ⊥ = omega arith in z)
   stands-to (suc d) r i h = go (W .sorts r i) (stands-to d)
     where
-      go : Sort N rep node r → ((r : ℕ) → r < n → length (image (all r)) ≤ d → inst written (N .own r) ≡ image (all r)) → inst written (N .own r) ≡ image (all r)
+      go : Sort N rep node r → ((r : ℕ) → r < n → length (image (all r)) ≤ d → inst written (N .own r) ≡ image (all r))
+          → inst written (N .own r) ≡ image (all r)
       go (literal nz e) ih =
           let u = opened-up r nz in
           let l : length (images (alls (N .kids r))) ≤ d = omega (arith, ap length u) in

@@ -13,7 +13,8 @@ use borrow.Author.Tests.{eq-eqb, ne-eqb, ltb-true, ltb-false}
 use Rattle.term.specs.Unify.{inst}
 use Rattle.term.proofs.TermsLaws.{prefix}
 use Rattle.term.proofs.Inst.{inst-++, Terms-inst}
-use Rattle.classes.specs.code.Nodes.{Nodes, owns, at, to, join, Solves, Fair, Flat, Merges, same, loose, bound, alike, MergesAll, nil, cons, Fails, clash, within, FailsAll, first, later, reps, ClosedTo, Closed}
+use Rattle.classes.specs.code.Nodes.{Nodes, owns, at, to, join, Solves, Fair, Flat, Merges, same, loose, bound, alike, MergesAll, nil, cons}
+use Rattle.classes.specs.code.Nodes.{Fails, clash, within, FailsAll, first, later, reps, ClosedTo, Closed}
 
 -- Joining, node by node.
 
@@ -83,18 +84,21 @@ module _ {N : Nodes} (f : Fair N) {τ : ℕ → List ℕ} where
         record {
           good = s .good;
           classes = λ r. by-cases (ℕ-discrete (at rep r) x)
-              (λ q. s .classes r ∙ ap (val N τ) (join-here rep x y r h q) ∙ sym e ∙ ap (val N τ) (sym q)) (λ q. s .classes r ∙ ap (val N τ) (join-other rep x y r h q));
+              (λ q. s .classes r ∙ ap (val N τ) (join-here rep x y r h q) ∙ sym e ∙ ap (val N τ) (sym q)) (λ q. s .classes r
+                  ∙ ap (val N τ) (join-other rep x y r h q));
           heads = s .heads;
         },
         e,
       )
 
   -- equal terms with a symbol have the same symbol, and equal arguments
-  same-head : {rep : List ℕ} {x y : ℕ} → Solves N rep τ → N .head x ≢ 0 → N .head y ≢ 0 → val N τ x ≡ val N τ y → (N .head x ≡ N .head y) × (vals N τ (N .kids x) ≡ vals N τ (N .kids y))
+  same-head : {rep : List ℕ} {x y : ℕ} → Solves N rep τ → N .head x ≢ 0 → N .head y ≢ 0 → val N τ x ≡ val N τ y
+      → (N .head x ≡ N .head y) × (vals N τ (N .kids x) ≡ vals N τ (N .kids y))
   same-head {x = x} {y} s nx ny e =
       let q = sym (s .heads x nx) ∙ e ∙ s .heads y ny in (head-eq-of-cons-eq q, tail-eq-of-cons-eq q)
 
-  first-rest : {rep : List ℕ} (a b : ℕ) (xs ys : List ℕ) → Solves N rep τ → (vals N τ (a ∷ xs) ≡ vals N τ (b ∷ ys)) → (val N τ a ≡ val N τ b) × (vals N τ xs ≡ vals N τ ys)
+  first-rest : {rep : List ℕ} (a b : ℕ) (xs ys : List ℕ) → Solves N rep τ → (vals N τ (a ∷ xs) ≡ vals N τ (b ∷ ys))
+      → (val N τ a ≡ val N τ b) × (vals N τ xs ≡ vals N τ ys)
   unfolding owns
   first-rest a b xs ys s e =
       prefix (vals N τ xs) (vals N τ ys) (Terms-inst (s .good) (f .term a)) (Terms-inst (s .good) (f .term b))
@@ -162,14 +166,19 @@ module _ {N : Nodes} (f : Fair N) {τ : ℕ → List ℕ} where
   mutual
     pub unmerged : {rep rep′ : List ℕ} {a b : ℕ} → Flat rep → Merges N rep a b rep′ → Solves N rep′ τ → Solves N rep τ × (inst τ (N .own a) ≡ inst τ (N .own b))
     unmerged F (same {rep} {a = a} {b} e i) s₀ = let s = rw i at s₀ in (s, s .classes a ∙ ap (λ (r : ℕ). inst τ (N .own r)) e ∙ sym (s .classes b))
-    unmerged F (loose {rep} {a = a} {b} d h z i) s = let t = join-less f (at rep a) (at rep b) h (F .fixed a) (rw i at s) in (t .0, ends-back f a b (t .0) (t .1))
-    unmerged F (bound {rep} {a = a} {b} d h z i) s = let t = join-less f (at rep b) (at rep a) h (F .fixed b) (rw i at s) in (t .0, ends-back f a b (t .0) (sym (t .1)))
+    unmerged F (loose {rep} {a = a} {b} d h z i) s =
+        let t = join-less f (at rep a) (at rep b) h (F .fixed a) (rw i at s) in
+        (t .0, ends-back f a b (t .0) (t .1))
+    unmerged F (bound {rep} {a = a} {b} d h z i) s =
+        let t = join-less f (at rep b) (at rep a) h (F .fixed b) (rw i at s) in
+        (t .0, ends-back f a b (t .0) (sym (t .1)))
     unmerged F (alike {rep} {a = a} {b} d h nz e w) s =
         let u = unmerged-all (flat-join (at rep a) (at rep b) F h (F .fixed b) d) w s in
         let t = join-less f (at rep a) (at rep b) h (F .fixed a) (u .0) in
         (t .0, ends-back f a b (t .0) (t .1))
 
-    unmerged-all : {rep rep′ xs ys : List ℕ} → Flat rep → MergesAll N rep xs ys rep′ → Solves N rep′ τ → Solves N rep τ × (inst τ (owns N xs) ≡ inst τ (owns N ys))
+    unmerged-all : {rep rep′ xs ys : List ℕ} → Flat rep → MergesAll N rep xs ys rep′ → Solves N rep′ τ
+        → Solves N rep τ × (inst τ (owns N xs) ≡ inst τ (owns N ys))
     unmerged-all F (nil i) s = (rw i at s, refl)
     unmerged-all F (cons {a = a} {b} {xs} {ys} m w) s =
         let t = unmerged-all (flat-merges F m) w s in
@@ -192,7 +201,8 @@ grow-all rep rep′ g (r ∷ rs) [] e = let z : _≡_ {A = ℕ} 0 1 = cc in absu
 grow-all rep rep′ g (r ∷ rs) (s ∷ ss) e = ap₂ _∷_ (g r s (head-eq-of-cons-eq e)) (grow-all rep rep′ g rs ss (tail-eq-of-cons-eq e))
 
 -- what is joined is in one class
-pub joined-ends : (rep : List ℕ) (a b : ℕ) → at rep a < length rep → at rep a ≢ at rep b → at (join (at rep a) (at rep b) rep) a ≡ at (join (at rep a) (at rep b) rep) b
+pub joined-ends : (rep : List ℕ) (a b : ℕ) → at rep a < length rep → at rep a ≢ at rep b
+    → at (join (at rep a) (at rep b) rep) a ≡ at (join (at rep a) (at rep b) rep) b
 joined-ends rep a b h d = join-here rep (at rep a) (at rep b) a h refl ∙ sym (join-other rep (at rep a) (at rep b) b h (λ e. d (sym e)))
 
 keeps-loose : (N : Nodes) (rep fin : List ℕ) (x y : ℕ) → x < length rep → N .head x ≡ 0 → ClosedTo N fin rep → ClosedTo N fin (join x y rep)

@@ -21,7 +21,8 @@ use Rattle.classes.proofs.Agree.{owns-terms}
 use Rattle.classes.proofs.Bind.{owns-bound}
 
 -- a binding
-module _ {N N′ : Nodes} (rep : List ℕ) {v c : ℕ} {ws : List ℕ} (b : Binds N N′ v c ws) (n : New N rep ws) (hc : isVar c ≡ false) (nc : c ≢ 0) (hl : length ws ≡ arity c) (hz : N .head v ≡ 0)
+module _ {N N′ : Nodes} (rep : List ℕ) {v c : ℕ} {ws : List ℕ} (b : Binds N N′ v c ws) (n : New N rep ws) (hc : isVar c ≡ false) (nc : c ≢ 0)
+    (hl : length ws ≡ arity c) (hz : N .head v ≡ 0)
     (nv : ¬ List·Memᴰ v ws) (fv : at rep v ≡ v) where
   other : (r : ℕ) → N .head r ≢ 0 → r ≢ v
   other r nz e = nz (ap (N .head) e ∙ hz)
@@ -75,11 +76,13 @@ module _ {N N′ : Nodes} (rep : List ℕ) {v c : ℕ} {ws : List ℕ} (b : Bind
       sort-bound : (r : ℕ) → Sort N rep node r → Sort N′ rep node r
       sort-bound r (literal nz e) =
           let d = other r nz in
-          literal (rw (b .head-other r d) nz) (b .own-same r ∙ e ∙ ap₂ _∷_ (sym (b .head-other r d)) (sym (owns-bound b (N′ .kids r) ∙ ap (owns N) (b .kids-other r d))))
+          literal (rw (b .head-other r d) nz) (b .own-same r ∙ e
+              ∙ ap₂ _∷_ (sym (b .head-other r d)) (sym (owns-bound b (N′ .kids r) ∙ ap (owns N) (b .kids-other r d))))
       sort-bound r (variable x h e s) = variable x h (b .own-same r ∙ e) s
 
 -- a joining
-pub within-merged : {N : Nodes} {rep rep′ : List ℕ} {node : ℕ → ℕ} {m a d : ℕ} → Merges N rep a d rep′ → ((r : ℕ) → r < m → at rep′ r < m) → ((r : ℕ) → m ≤ r → at rep′ r ≡ r) → Within N rep node m → Within N rep′ node m
+pub within-merged : {N : Nodes} {rep rep′ : List ℕ} {node : ℕ → ℕ} {m a d : ℕ} → Merges N rep a d rep′ → ((r : ℕ) → r < m → at rep′ r < m)
+    → ((r : ℕ) → m ≤ r → at rep′ r ≡ r) → Within N rep node m → Within N rep′ node m
 within-merged {N} {rep} {rep′} {node} M low out W = record {
   sorts = λ r i. go r (W .sorts r i);
   kids-in = W .kids-in;

@@ -49,7 +49,8 @@ module _ {N : Nodes} {fin : List ℕ} where
           (λ q. let o = moved-all (flat-join (at rep a) (at rep b) F h (F .fixed b) d) w g (kids-fin (at rep a) a (step (at rep a) a (F .fixed a)) nz t) r in
           ⊎-elim (λ p. inl (p ∙ join-other rep (at rep a) (at rep b) r h q)) (λ p. inr p) o)
 
-      moved-all : {rep rep′ xs ys : List ℕ} → Flat rep → MergesAll N rep xs ys rep′ → Grows rep′ fin → FinAll N fin xs → (r : ℕ) → (at rep′ r ≡ at rep r) ⊎ Fin N fin r
+      moved-all : {rep rep′ xs ys : List ℕ} → Flat rep → MergesAll N rep xs ys rep′ → Grows rep′ fin → FinAll N fin xs → (r : ℕ)
+          → (at rep′ r ≡ at rep r) ⊎ Fin N fin r
       moved-all F (nil i) g k r = inl (rw i refl)
       moved-all F (cons m w) g (and-more t ts) r =
           ⊎-elim

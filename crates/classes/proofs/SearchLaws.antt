@@ -133,7 +133,8 @@ module _ {bs ns sib rep mark : List ℕ} {r : ℕ} (S : Searching bs ns sib rep 
       shorter = λ own τ f so g q.
           let a = kid-short so r s (rw x-is nz) (rw x-is m) in
           by-cases (ℕ-discrete g x)
-          (λ e. let b : length (inst τ (own r)) ≡ length (inst τ (own g)) = ap length (so .classes r ∙ ap (λ (n : ℕ). inst τ (own n)) (x-is ∙ sym e)) in omega arith)
+          (λ e. let b : length (inst τ (own r)) ≡ length (inst τ (own g)) =
+              ap length (so .classes r ∙ ap (λ (n : ℕ). inst τ (own n)) (x-is ∙ sym e)) in omega arith)
           (λ e. let b = S .under .shorter own τ f so g (rw (getD-set-other mark x g 1 0 e) at q) in omega arith);
     }
 
@@ -148,7 +149,8 @@ not-both : {A : Type 0} → _≡_ {A = Bool} true false → A
 not-both e = let z : _≡_ {A = ℕ} 0 1 = cc in absurd (let y : ⊥ = omega arith in y)
 
 -- the node x is new: its arguments, and back
-module _ {bs ns sib rep mark : List ℕ} {r x p k : ℕ} (S : Searching bs ns sib rep mark r) (e : x ≡ getD rep r 0) (z : getD mark x 0 ≡ 0) (ek : k ≡ arity (getD bs x 0)) (ep : p ≡ getD ns x 0) where
+module _ {bs ns sib rep mark : List ℕ} {r x p k : ℕ} (S : Searching bs ns sib rep mark r) (e : x ≡ getD rep r 0) (z : getD mark x 0 ≡ 0)
+    (ek : k ≡ arity (getD bs x 0)) (ep : p ≡ getD ns x 0) where
   z′ : getD mark (getD rep r 0) 0 ≡ 0
   z′ = rw e at z
 
@@ -160,7 +162,9 @@ module _ {bs ns sib rep mark : List ℕ} {r x p k : ℕ} (S : Searching bs ns si
         ready = S .ready;
         marks = rw e (marks-down S z′);
         here = rw (ek, ep) (S .ready .kids x (rw e (x-small S)) o);
-        unders = rw (ek, ep, e) (all-under S z′ (Under bs ns sib rep (set mark (getD rep r 0) 1)) (steps sib (arity (getD bs (getD rep r 0) 0)) (getD ns (getD rep r 0) 0))
+        unders =
+            rw (ek, ep, e) (all-under S z′ (Under bs ns sib rep (set mark (getD rep r 0) 1))
+                (steps sib (arity (getD bs (getD rep r 0) 0)) (getD ns (getD rep r 0) 0))
             (λ s m. under-kid S z′ (rw e at o) s m));
       })
 
@@ -168,7 +172,8 @@ module _ {bs ns sib rep mark : List ℕ} {r x p k : ℕ} (S : Searching bs ns si
   down-cycles (one-cycles w) q = cycles w
   down-cycles (all-end m g w) q = not-both q
 
-  pub down-ends : {mark′ : List ℕ} {b : Bool} → SearchedAll bs ns sib rep (set mark x 1) mark′ p k b → b ≡ true → Searched bs ns sib rep mark (set mark′ x 2) r true
+  pub down-ends : {mark′ : List ℕ} {b : Bool} → SearchedAll bs ns sib rep (set mark x 1) mark′ p k b → b ≡ true
+      → Searched bs ns sib rep mark (set mark′ x 2) r true
   down-ends {mark′} s o = go s o
     where
       fx : at rep r ≡ x
@@ -210,7 +215,8 @@ pub record Looking (bs ns sib rep mark₀ mark : List ℕ) (p k q more : ℕ) : 
 pub looking-first : {bs ns sib rep mark : List ℕ} {p k : ℕ} → SearchingAll bs ns sib rep mark p k → Looking bs ns sib rep mark mark p k p k
 looking-first S = record { ready = S .ready; marks = S .marks; grey = λ g e. e; here = S .here; unders = S .unders; whole = λ own w. w }
 
-under-fewer : {bs ns sib rep mark mark′ : List ℕ} {r : ℕ} → ((g : ℕ) → getD mark′ g 0 ≡ 1 → getD mark g 0 ≡ 1) → Under bs ns sib rep mark r → Under bs ns sib rep mark′ r
+under-fewer : {bs ns sib rep mark mark′ : List ℕ} {r : ℕ} → ((g : ℕ) → getD mark′ g 0 ≡ 1 → getD mark g 0 ≡ 1) → Under bs ns sib rep mark r
+    → Under bs ns sib rep mark′ r
 under-fewer h u = record { shorter = λ own τ f s g q. u .shorter own τ f s g (h g q) }
 
 module _ {bs ns sib rep mark₀ mark : List ℕ} {p k q more : ℕ} (L : Looking bs ns sib rep mark₀ mark p k q more) where
@@ -219,9 +225,11 @@ module _ {bs ns sib rep mark₀ mark : List ℕ} {p k q more : ℕ} (L : Looking
     first-under = rw (steps-next sib more q h) at (L .unders)
 
     pub looking-call : Searching bs ns sib rep mark q
-    looking-call = record { ready = L .ready; inside = first-inside sib more q h (L .here) .0; marks = L .marks; under = under-fewer (L .grey) (first-under .0) }
+    looking-call =
+        record { ready = L .ready; inside = first-inside sib more q h (L .here) .0; marks = L .marks; under = under-fewer (L .grey) (first-under .0) }
 
-    pub looking-next : {mark′ : List ℕ} {b : Bool} → Searched bs ns sib rep mark mark′ q b → b ≡ true → Looking bs ns sib rep mark₀ mark′ p k (getD sib q 0) (more - 1)
+    pub looking-next : {mark′ : List ℕ} {b : Bool} → Searched bs ns sib rep mark mark′ q b → b ≡ true
+        → Looking bs ns sib rep mark₀ mark′ p k (getD sib q 0) (more - 1)
     looking-next (cycles w) e = not-both (sym e)
     looking-next (ends m g w) e = record {
       ready = L .ready;

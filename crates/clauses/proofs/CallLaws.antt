@@ -21,7 +21,7 @@ use Rattle.instance.proofs.Apart.{Below}
 use Rattle.instance.proofs.StartLaws.{renamed-terms}
 use Rattle.clauses.specs.Clauses.{handed}
 use Rattle.clauses.specs.Answers as answers
-use Rattle.clauses.specs.Answers.{Apart, Passes, Passed, AllPassed}
+use Rattle.clauses.specs.Answers.{Disjoint, Passes, Passed, AllPassed}
 use Rattle.clauses.specs.Translate.{Predicate, done, fact, rule, headOf}
 use Rattle.clauses.proofs.Nested as says
 use Rattle.clauses.proofs.Nested.{Says}
@@ -32,7 +32,7 @@ use Rattle.clauses.proofs.MeetLaws.{Meets, meets, apart-from, meet}
 pub data Hits (goal : List ℕ) : List (List ℕ) → List (List ℕ) → Type 0 where
   none : Hits goal [] []
   hit : {row cells : List ℕ} {rows all : List (List ℕ)} → Reply row goal cells → Hits goal rows all → Hits goal (row ∷ rows) (cells ∷ all)
-  miss : {row : List ℕ} {rows all : List (List ℕ)} → Apart row goal → Hits goal rows all → Hits goal (row ∷ rows) all
+  miss : {row : List ℕ} {rows all : List (List ℕ)} → Disjoint row goal → Hits goal rows all → Hits goal (row ∷ rows) all
 
 pub hits-both : {goal : List ℕ} {xs ys us ws : List (List ℕ)} → Hits goal xs us → Hits goal ys ws → Hits goal (xs ++ ys) (us ++ ws)
 hits-both none k = k
@@ -107,7 +107,7 @@ module _ (K : List ℕ) (n : ℕ) (a : Solid K) (e : count hole K ≡ n) (l : n 
       let r = spread (inst (i .by) y) (i .good) fresh (Terms-inst (i .good) t) in
       record { by = r .new; good = r .good; same = head-filled (r .good) ∙ ap (fill K) (r .hits) ∙ sym (filled y (i .good) t) ∙ i .same }
 
-  pub apart-over : {y goal : List ℕ} → Terms n y → Apart (headOf K) goal → Apart (fill K y) goal
+  pub apart-over : {y goal : List ℕ} → Terms n y → Disjoint (headOf K) goal → Disjoint (fill K y) goal
   apart-over t h z c = h z (record { first = head-over t (c .first); second = c .second })
 
   module _ {goal : List ℕ} {σ : ℕ → List ℕ} (s : Subst σ) (g : MostGeneral (headOf K) goal (inst σ (headOf K))) where
@@ -156,12 +156,13 @@ module _ (K : List ℕ) (n : ℕ) (a : Solid K) (e : count hole K ≡ n) (l : n 
             most = λ us c.
                 let r = common-passes t c in
                 let here : Instance call (inst (r .by) call) = record { by = r .by; good = r .good; same = refl } in
-                p .most us (record { by = r .by; good = r .good; same = r .same; fits = m .most (inst (r .by) call) (record { first = r .fits; second = here }) });
+                p .most us (record { by = r .by; good = r .good; same = r .same; fits =
+                    m .most (inst (r .by) call) (record { first = r .fits; second = here }) });
           };
           order = p .order;
         }
 
-    pub passed-apart : {y : List ℕ} → Terms n y → Apart y call → Apart (fill K y) goal
+    pub passed-apart : {y : List ℕ} → Terms n y → Disjoint y call → Disjoint (fill K y) goal
     passed-apart {y} t h z c =
         let r = common-passes t c in
         h (inst (r .by) call) (record { first = r .fits; second = record { by = r .by; good = r .good; same = refl } })
@@ -204,12 +205,14 @@ module _ (K : List ℕ) (n : ℕ) (a : Solid K) (e : count hole K ≡ n) (l : n 
           };
           passed = record {
             passes = record { by = p .by; good = p .good; same = p .same; fits = instance-self b };
-            most = λ us q. r .instance .most us (passes-common t (record { by = q .by; good = q .good; same = q .same; fits = instance-then (p .fits) (q .fits) }));
+            most =
+                λ us q. r .instance .most us (passes-common t
+                    (record { by = q .by; good = q .good; same = q .same; fits = instance-then (p .fits) (q .fits) }));
             order = r .order;
           };
         }
 
-    apart-called : {y : List ℕ} → Terms n y → Apart (fill K y) goal → Apart y call
+    apart-called : {y : List ℕ} → Terms n y → Disjoint (fill K y) goal → Disjoint y call
     apart-called t h u c = let z = call-common t c in h (z .0) (z .1)
 
     pub record AllCalled (ys all : List (List ℕ)) : Type 0 where
@@ -234,11 +237,11 @@ module _ (K : List ℕ) (n : ℕ) (a : Solid K) (e : count hole K ≡ n) (l : n 
     passed-hits t (hit r h) (answers.next p q) = hit (passed-reply (t .0) (r .instance) p) (passed-hits (t .1) h q)
     passed-hits t (miss r h) q = miss (passed-apart (t .0) r) (passed-hits (t .1) h q)
 
-  no-hits : {goal : List ℕ} (ys : List (List ℕ)) → All (Terms n) ys → Apart (headOf K) goal → Hits goal (map (fill K) ys) []
+  no-hits : {goal : List ℕ} (ys : List (List ℕ)) → All (Terms n) ys → Disjoint (headOf K) goal → Hits goal (map (fill K) ys) []
   no-hits [] t h = none
   no-hits (y ∷ ys) t h = miss (apart-over (t .0) h) (no-hits ys (t .1) h)
 
-  none-hit : {goal : List ℕ} (ys : List (List ℕ)) {all : List (List ℕ)} → All (Terms n) ys → Apart (headOf K) goal
+  none-hit : {goal : List ℕ} (ys : List (List ℕ)) {all : List (List ℕ)} → All (Terms n) ys → Disjoint (headOf K) goal
       → Hits goal (map (fill K) ys) all → all ≡ []
   none-hit [] t h none = refl
   none-hit (y ∷ ys) t h (hit r k) = absurd (apart-over (t .0) h _ (r .instance .common))

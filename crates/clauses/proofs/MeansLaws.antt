@@ -19,7 +19,8 @@ use Rattle.answer.proofs.SkeletonLaws.{fill-all, count-all}
 use Rattle.clauses.specs.Translate.{Predicate, rule, headOf, single, each, clause, clauseIn, predicate}
 use Rattle.clauses.proofs.SolidLaws.{Solid, Frame, blank-solid, solid-decide, fill-none}
 use Rattle.clauses.proofs.CallLaws.{Means, means-done, means-fact, means-rule}
-use Rattle.clauses.proofs.SeatLaws.{Seat, SeatAt, seat-close, few-places, one-solid, seats, expand, runs-expand, Fixed, runs-fixed, refill, blank, map-expand, below-count, frame-blank, frame-below}
+use Rattle.clauses.proofs.SeatLaws.{Seat, SeatAt, seat-close, few-places, one-solid, seats, expand, runs-expand, Fixed, runs-fixed, refill}
+use Rattle.clauses.proofs.SeatLaws.{blank, map-expand, below-count, frame-blank, frame-below}
 
 pub solid-below : (i : ℕ) (K : List ℕ) (g : Run) → (2 ≤ length (g .rows) → Solid K) → (2 ≤ length (g .rows) → isVar (g .cell) ≡ false)
     → 2 ≤ length (g .rows) → Solid (decide i (g .cell) K)
@@ -27,7 +28,9 @@ solid-below i K g d f l = solid-decide i (g .cell) K (f l) (d l)
 
 -- of several runs none has all the rows
 fewer-rows : (g g′ : Run) (gs : List Run) (z : ℕ) → Sized z (g ∷ (g′ ∷ gs)) → Sized (rowCount (g ∷ (g′ ∷ gs)) - 1) (g ∷ (g′ ∷ gs))
-fewer-rows g g′ gs z s = ((s .0 .0, omega (arith, s .1 .0 .0)), ((s .1 .0 .0, omega (arith, s .0 .0)), rest gs z (rowCount (g ∷ (g′ ∷ gs)) - 1) (s .1 .1) (omega (arith, s .0 .0))))
+fewer-rows g g′ gs z s =
+    ((s .0 .0, omega (arith, s .1 .0 .0)), ((s .1 .0 .0, omega (arith, s .0 .0)),
+        rest gs z (rowCount (g ∷ (g′ ∷ gs)) - 1) (s .1 .1) (omega (arith, s .0 .0))))
   where
     rest : (hs : List Run) (z n : ℕ) → Sized z hs → rowCount hs ≤ n → Sized n hs
     rest [] z n a l = tt
@@ -82,8 +85,10 @@ mutual
       let c = count-all (suc k) in
       let MQ : (y : ℕ) → Sized y (g ∷ gs)
       → Means (clause p (decide i (g .cell) B) (each bs i)) (suc k) (32 * y) (expand (λ (c : ℕ). fill (decide i c B)) (g ∷ gs))
-      = λ y t. clause-means p (suc k) (32 * y) (decide i (g .cell) B) (o .0) (frame-below (suc k) i (g .cell) k B c h n (frame-blank (suc k))) (below-count i (g .cell) k B c h n)
-      (seats k (g .cell) (g .rows) (a .0)) (s .0 .0) (omega (arith, t .0 .1)) (solid-below i B g (λ l. blank-solid (suc k)) (x .0)) (each-means bs i (o .1) h m (a .1) (x .1) y (t .1)) in
+      = λ y t. clause-means p (suc k) (32 * y) (decide i (g .cell) B) (o .0) (frame-below (suc k) i (g .cell) k B c h n (frame-blank (suc k)))
+          (below-count i (g .cell) k B c h n)
+      (seats k (g .cell) (g .rows) (a .0)) (s .0 .0) (omega (arith, t .0 .1)) (solid-below i B g (λ l. blank-solid (suc k)) (x .0))
+          (each-means bs i (o .1) h m (a .1) (x .1) y (t .1)) in
       let M₁ = clause-means p w r (decide i (g .cell) K) (o .0) (frame-below w i (g .cell) k K e h n f) (below-count i (g .cell) k K e h n)
       (seats k (g .cell) (g .rows) (a .0)) (s .0 .0) (omega arith) (solid-below i K g (λ l. d (omega arith)) (x .0)) M in
       one-or-more w i k r K h g gs z f a s e m l d M₁ MQ M
@@ -96,8 +101,10 @@ mutual
       let n = one-solid k (g .cell) (g .rows) (a .0) (s .0 .0) in
       let B = blank k in
       let c = count-all (suc k) in
-      clause-means p (suc k) (32 * z) (decide i (g .cell) B) (o .0) (frame-below (suc k) i (g .cell) k B c h n (frame-blank (suc k))) (below-count i (g .cell) k B c h n)
-      (seats k (g .cell) (g .rows) (a .0)) (s .0 .0) (omega (arith, s .0 .1)) (solid-below i B g (λ l. blank-solid (suc k)) (x .0)) (each-means bs i (o .1) h m (a .1) (x .1) z (s .1))
+      clause-means p (suc k) (32 * z) (decide i (g .cell) B) (o .0) (frame-below (suc k) i (g .cell) k B c h n (frame-blank (suc k)))
+          (below-count i (g .cell) k B c h n)
+      (seats k (g .cell) (g .rows) (a .0)) (s .0 .0) (omega (arith, s .0 .1)) (solid-below i B g (λ l. blank-solid (suc k)) (x .0))
+          (each-means bs i (o .1) h m (a .1) (x .1) z (s .1))
 
 -- W-210's theorem: to every goal the clauses of a plan answer what the rows reply, in row order
 pub clauses-mean : {k : ℕ} {rows : List (List ℕ)} (p : Plan (suc k) rows) → OneRow p → All (Seat (suc k)) rows → 0 < length rows
@@ -109,7 +116,8 @@ clauses-mean {rows = rows} (node {k} i h bs) o a s =
     = runs-expand (λ (c : ℕ). fill (decide i c (blank k))) (fill (blank k)) i (Seat (suc k)) (λ r S. refill i (k - i) (blank k) r (rw q at S)) rows a in
     let v : map (fill (blank k)) rows ≡ rows = same-rows rows a in
     let M = each-means bs i o h (few-places (suc k) rows a s)
-    (group-all (root i) (close i) (Seat (suc k)) (SeatAt k) (seat-close k i h) rows a) (runs-fixed i rows) (length rows) (group-sizes (root i) (close i) rows) in
+    (group-all (root i) (close i) (Seat (suc k)) (SeatAt k) (seat-close k i h) rows a) (runs-fixed i rows) (length rows)
+        (group-sizes (root i) (close i) rows) in
     rw (w, v) at M
   where
     same-rows : (rs : List (List ℕ)) → All (Seat (suc k)) rs → map (fill (blank k)) rs ≡ rs

@@ -7,7 +7,7 @@ use lib.ListN.{length, take, drop}
 use lib.Seq.{take-at}
 use Rattle.octets.specs.Octets.{decimal}
 use Rattle.grammar.specs.Grammar.{isLower, isUpper, isDigit, isWord, Gap, Symbol}
-use Rattle.grammar.specs.Numbering.{Words, Row}
+use Rattle.grammar.specs.Numbering.{Words, NumberedRow}
 use Rattle.grammar.specs.Reader.{isBlank, Solid}
 use Rattle.grammar.proofs.NthLaws.{parted-none}
 use Rattle.grammar.proofs.RowLaws.{Named, row-one}
@@ -88,7 +88,7 @@ module _ (t : List ℕ) (words : Words) where
       → SameClause q q′ ys ys′ c c′
   clause-one (a-fact {zs = ys} {cells = cs} x g r) (a-fact {zs = zs} {cells = ds} y h u) =
       let a = atom-one x y in
-      let d = row-one t words (parted-none Named) r (subst (λ (l : List Symbol). Row t words [] l ds) (sym (a .term .symbols)) u) in
+      let d = row-one t words (parted-none Named) r (subst (λ (l : List Symbol). NumberedRow t words [] l ds) (sym (a .term .symbols)) u) in
       let v = gap-one g (solid-stop ys) (gap-moved (a .term .ends) h) (solid-stop zs) in
       record { clause = same-clause (a .predicate) (a .width) d refl; ends = past v }
   clause-one (a-fact {zs = ys} x g r) (a-rule {zs = zs} y h i z k m n u) =
@@ -105,7 +105,7 @@ module _ (t : List ℕ) (words : Words) where
       let d = atom-one z (atom-moved c w) in
       let e = gap-one k (solid-stop is) (gap-moved (d .term .ends) l) (solid-stop js) in
       let f : ss ++ rs ≡ ss′ ++ rs′ = ap₂ _++_ (a .term .symbols) (d .term .symbols) in
-      let r = row-one t words (parted-none Named) u (subst (λ (s : List Symbol). Row t words [] s (ds ++ handed ds)) (sym f) v) in
+      let r = row-one t words (parted-none Named) u (subst (λ (s : List Symbol). NumberedRow t words [] s (ds ++ handed ds)) (sym f) v) in
       let s = heads-one cs ds (m ∙ ap length (a .term .symbols) ∙ sym o) r in
       record { clause = same-clause (a .predicate) (a .width) s (ap calls (d .predicate)); ends = past e }
 

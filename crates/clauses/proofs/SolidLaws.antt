@@ -3,7 +3,8 @@ use Prim.Native.Nat.{ℕ, zero, suc, _+_, _^_, _≤_}
 use mathlib.Core.Path.{_≡_, refl, sym, _∙_, ap, ap₂}
 use mathlib.Core.Logic.{_≢_, _⊎_, inl, inr, ⊎-elim}
 use mathlib.Core.Bool.{Bool, true, false, cond, _&&_}
-use mathlib.Core.List.{List, [], _∷_, _++_, tail-eq-of-cons-eq, List·Memᴰ, List·Memᴰ·tail, List·Memᴰ·not-nil, List·Memᴰ·append-cases, Memᴰ·append-left, Memᴰ·append-right}
+use mathlib.Core.List.{List, [], _∷_, _++_, tail-eq-of-cons-eq, List·Memᴰ, List·Memᴰ·tail, List·Memᴰ·not-nil, List·Memᴰ·append-cases}
+use mathlib.Core.List.{Memᴰ·append-left, Memᴰ·append-right}
 use native.Mathlib.Numerals.{one-add}
 use native.Mathlib.Omega.{arith}
 use lib.Dec.{eqb}
@@ -148,7 +149,8 @@ appear-fill (c ∷ K) met n a h l = go (hole? c) (a .0) h (λ met n. appear-fill
         let t : Terms 1 (n ∷ []) = Terms-fresh (up-distinct n 1 (omega arith)) in
         let X = upFrom (suc n) (count hole K) in
         let low : Lower (suc n) (n ∷ met) = λ m q. count-other m n met (λ p. (let z : ⊥ = omega arith in z)) ∙ l m (omega arith) in
-        rw (e, fill-hole K (n ∷ X), front-++ X t, back-++ X t) (appear-new met n (fill K X) w (l n (omega arith)) ∙ ap (λ (l : List ℕ). n ∷ l) (ih (n ∷ met) (suc n) (omega arith) low))
+        rw (e, fill-hole K (n ∷ X), front-++ X t, back-++ X t) (appear-new met n (fill K X) w (l n (omega arith))
+            ∙ ap (λ (l : List ℕ). n ∷ l) (ih (n ∷ met) (suc n) (omega arith) low))
     go (a-cell {c} m) v h ih =
         let e = count-other hole c K (λ p. m (sym p)) in
         rw (e, fill-cell c K (upFrom n (count hole K)) m) (appear-symbol met c (fill K (upFrom n (count hole K))) v ∙ ih met n (omega arith) l)
@@ -171,7 +173,8 @@ fill-mem (d ∷ K) X c t m = go (hole? d) t (fill-mem K X c) (fill-mem K (back 1
         → (Terms (count hole K) (back 1 X) → List·Memᴰ c (back 1 X) → List·Memᴰ c (fill K (back 1 X))) → List·Memᴰ c (fill (d ∷ K) X)
     go a-hole u ih jh =
         let m′ : List·Memᴰ c (front 1 X ++ back 1 X) = rw (front-back 1 X) m in
-        rw (fill-hole K X) (⊎-elim (λ q. Memᴰ·append-left (fill K (back 1 X)) q) (λ q. Memᴰ·append-right (front 1 X) (jh (first-hole K X u .1) q)) (List·Memᴰ·append-cases (front 1 X) m′))
+        rw (fill-hole K X) (⊎-elim (λ q. Memᴰ·append-left (fill K (back 1 X)) q) (λ q. Memᴰ·append-right (front 1 X) (jh (first-hole K X u .1) q))
+            (List·Memᴰ·append-cases (front 1 X) m′))
     go (a-cell {c = d} n) u ih jh = rw (fill-cell d K X n) (List·Memᴰ·tail (ih (no-hole K X n u) m))
 
 -- the variables that come first in two lists with one front
@@ -195,7 +198,8 @@ appear-solid (c ∷ K) X met a t = go (hole? c) (a .0) t (λ met. appear-solid K
         → ((met : List ℕ) → Terms (count hole K) (back 1 X) → appear met (fill K (back 1 X)) ≡ appear met (back 1 X))
         → appear met (fill (c ∷ K) X) ≡ appear met X
     go a-hole v u ih jh =
-        ap (appear met) (fill-hole K X) ∙ appear-front (front 1 X) met (fill K (back 1 X)) (back 1 X) (λ m. jh m (first-hole K X u .1)) ∙ ap (appear met) (front-back 1 X)
+        ap (appear met) (fill-hole K X) ∙ appear-front (front 1 X) met (fill K (back 1 X)) (back 1 X) (λ m. jh m (first-hole K X u .1))
+        ∙ ap (appear met) (front-back 1 X)
     go (a-cell {c} n) v u ih jh = ap (appear met) (fill-cell c K X n) ∙ appear-symbol met c (fill K X) v ∙ ih met (no-hole K X n u)
 
 -- so it is numbered where they are

@@ -83,11 +83,14 @@ plan-means (suc k) h p o a s = clauses-mean p o a s
 
 module _ {t : List ℕ} {w : ℕ} {rows : List (List ℕ)} (i : IsTable t w rows) (tree : Plan w rows) where
   means : Means (predicate tree) w (32 * length rows) rows
-  means = plan-means w (i .width .0) tree (one-row tree (all-each (Head w) (Terms w) (λ r x. x .terms) rows (i .each)) (i .apart) (i .count .0)) (all-each (Head w) (Seat w) (seat-row w) rows (i .each)) (i .count .0)
+  means =
+      plan-means w (i .width .0) tree (one-row tree (all-each (Head w) (Terms w) (λ r x. x .terms) rows (i .each)) (i .apart) (i .count .0))
+          (all-each (Head w) (Seat w) (seat-row w) rows (i .each)) (i .count .0)
 
   pub program-few : length (program tree) ≤ 127
   program-few =
-      let f = plan-few w (i .width .0) tree (one-row tree (all-each (Head w) (Terms w) (λ r x. x .terms) rows (i .each)) (i .apart) (i .count .0)) (all-each (Head w) (Seat w) (seat-row w) rows (i .each)) (i .count .0) in
+      let f = plan-few w (i .width .0) tree (one-row tree (all-each (Head w) (Terms w) (λ r x. x .terms) rows (i .each)) (i .apart) (i .count .0))
+          (all-each (Head w) (Seat w) (seat-row w) rows (i .each)) (i .count .0) in
       let n = i .count .1 in
       omega arith
 
@@ -96,7 +99,9 @@ module _ {t : List ℕ} {w : ℕ} {rows : List (List ℕ)} (i : IsTable t w rows
   pub clauses-answer : (all : List (List ℕ)) → Answers (program tree) 0 goal all ↔ Replies goal rows all
   clauses-answer all = (
     λ x. hits-replies (g .head) (i .each) (means i tree .told goal all (numbered-answers w (predicate tree) goal all .0 x)),
-    λ x. numbered-answers w (predicate tree) goal all .1 (means i tree .tells 32 goal all (g .head .terms) (record { vars = few-variables (g .head) }) (let l = i .count .1 in omega arith) (replies-hits (g .head) (i .each) x)),
+    λ x. numbered-answers w (predicate tree) goal all .1
+        (means i tree .tells 32 goal all (g .head .terms) (record { vars = few-variables (g .head) }) (let l = i .count .1 in
+        omega arith) (replies-hits (g .head) (i .each) x)),
   )
 
   -- and that is one list
@@ -127,7 +132,8 @@ module _ {t : List ℕ} {w : ℕ} {rows : List (List ℕ)} (i : IsTable t w rows
   program-printed =
       plan-fine words w (i .width .0) tree (one-row tree (all-each (Head w) (Terms w) (λ r x. x .terms) rows (i .each)) (i .apart) (i .count .0))
       (all-each (Head w) (Seat w) (seat-row w) rows (i .each)) (i .count .0)
-      (all-each (λ (r : List ℕ). Head w r × ((c : ℕ) → List·Memᴰ c r → kindOf c ≡ 1 → numberOf c < length names)) (λ (r : List ℕ). Goods words r × Numbered r) good rows
+      (all-each (λ (r : List ℕ). Head w r × ((c : ℕ) → List·Memᴰ c r → kindOf c ≡ 1 → numberOf c < length names))
+          (λ (r : List ℕ). Goods words r × Numbered r) good rows
       (all-both (Head w) (λ (r : List ℕ). (c : ℕ) → List·Memᴰ c r → kindOf c ≡ 1 → numberOf c < length names) rows (i .each) (l .known)))
 
   pub text-reads : Reads words (textFor text names (program tree)) (program tree)

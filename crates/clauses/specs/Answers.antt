@@ -15,8 +15,8 @@ use Rattle.instance.specs.Reply.{Numbered, Reply}
 use Rattle.clauses.specs.Clauses.{Body, nothing, calls, Clause, clauseOf, handed}
 
 -- nothing is an instance of both (W-203, "common instance": there is none)
-abbrev pub Apart : (xs ys : List ℕ) → Type 0
-Apart xs ys = (zs : List ℕ) → Common xs ys zs → ⊥
+abbrev pub Disjoint : (xs ys : List ℕ) → Type 0
+Disjoint xs ys = (zs : List ℕ) → Common xs ys zs → ⊥
 
 -- zs is an instance of the goal as it is when the call is made, by which the call becomes one of this answer to it
 pub record Passes (goal call answer zs : List ℕ) : Type 0 where
@@ -49,7 +49,7 @@ pub data AnswersFrom (program : List Clause) : List Clause → (predicate : ℕ)
       → MostGeneral head goal (inst by head) → AnswersFrom program program j (inst by (handed head)) found
       → AllPassed (inst by head) (inst by (handed head)) found passed → AnswersFrom program cs k goal others → all ≡ passed ++ others
       → AnswersFrom program (clauseOf k w head (calls j) ∷ cs) k goal all
-  fails : {k w : ℕ} {head goal : List ℕ} {body : Body} {cs : List Clause} {all : List (List ℕ)} → Apart head goal
+  fails : {k w : ℕ} {head goal : List ℕ} {body : Body} {cs : List Clause} {all : List (List ℕ)} → Disjoint head goal
       → AnswersFrom program cs k goal all → AnswersFrom program (clauseOf k w head body ∷ cs) k goal all
 
 -- "what such clauses answer": all of the program's are taken

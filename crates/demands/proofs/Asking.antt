@@ -18,19 +18,19 @@ use Rattle.grammar.specs.Grammar.{Fact}
 use Rattle.grammar.specs.Taken.{Taken}
 use Rattle.grammar.specs.Numbering.{Nth, First}
 use Rattle.grammar.proofs.Sizes.{text-wide}
-use Rattle.loading.specs.Load.{front}
+use Rattle.loading.specs.Load.{putFirst}
 use Rattle.termtext.specs.declared.Predicate.{Predicate}
 use Rattle.termtext.specs.Saying.{wordsIn, wordsOf, predicateIn, saidIn}
 use Rattle.termtext.specs.Goal as asking
 use Rattle.termtext.specs.Goal.{Whole, Ours, Goal, GoalRead}
 use Rattle.termtext.proofs.ListLaws.{new-apart, new-fewer}
 use Rattle.goaltext.specs.Asked as goaltext
-use Rattle.goaltext.specs.Asked.{PredicateIs, Asked, said, cellsOf, newOf}
+use Rattle.goaltext.specs.Asked.{PredicateIs, AskedAs, said, goalCells, newOf}
 use Rattle.goaltext.specs.declared.GoalText.{GoalText}
 use Rattle.goaltext.proofs.AskedLaws.{whole-text}
 use Rattle.goaltext.proofs.Fixed.{predicate-of-fixed}
 use Rattle.goalroom.specs.Rooms as rooms
-use Rattle.goalroom.specs.Rooms.{Fits, GoalInto}
+use Rattle.goalroom.specs.Rooms.{GoalFits, GoalInto}
 use Rattle.goalroom.proofs.Fixed.{fits-is, fits-one}
 use Rattle.answerroom.specs.Room as into
 use Rattle.answerroom.specs.Room.{answerTold, AnswerInto}
@@ -46,7 +46,7 @@ use Rattle.limits.specs.Limits.{mostReplyCells}
 -- A GOAL
 
 -- of a list at the front of a room, what is taken
-front-one : (xs ys room : List ℕ) {room′ : List ℕ} → length xs ≡ length ys → room′ ≡ front xs room → room′ ≡ front ys room → xs ≡ ys
+front-one : (xs ys room : List ℕ) {room′ : List ℕ} → length xs ≡ length ys → room′ ≡ putFirst xs room → room′ ≡ putFirst ys room → xs ≡ ys
 front-one xs ys room l e f =
     sym (take-at xs (drop (length xs) room) (length xs) refl)
     ∙ ap (take (length xs)) (sym e ∙ f)
@@ -65,21 +65,21 @@ none-ours w o = let n = text-wide (whole-text w) (List·Memᴰ·head refl) in om
 
 module _ {text names t : List ℕ} where
   -- a goal, as the promise has it and as the request says it
-  asked-is : {p : Predicate} {goal : Goal} → PredicateIs text p → Asked text names p t (read goal) → IsAsked text names t goal
+  asked-is : {p : Predicate} {goal : Goal} → PredicateIs text p → AskedAs text names p t (read goal) → IsAsked text names t goal
   asked-is {p} {goal} q (goaltext.asked l (asking.is-goal b a e)) =
       record { p = p; predicate = q; listed = l; bytes = b; asks = a; is-goal = goal-accepted (p .width) (goal .cells) .0 (_, e) }
 
-  is-asked : {goal : Goal} (i : IsAsked text names t goal) → Asked text names (i .p) t (read goal)
+  is-asked : {goal : Goal} (i : IsAsked text names t goal) → AskedAs text names (i .p) t (read goal)
   is-asked {goal} i =
       let v = goal-accepted (i .p .width) (goal .cells) .1 (i .is-goal) in
       goaltext.asked (i .listed) (asking.is-goal (i .bytes) (i .asks) (v .1))
 
   -- the refusals likewise
   module _ {cells new : List ℕ} where
-    turned-as : {f : Refused} → Fits text names t (length cells) (length new) (refuse f) → GoalTurned text names t cells new f
+    turned-as : {f : Refused} → GoalFits text names t (length cells) (length new) (refuse f) → GoalTurned text names t cells new f
     turned-as (rooms.not-read q a) = by q a
       where
-        by : {p : Predicate} {g : Refused} → PredicateIs text p → Asked text names p t (refuse g) → GoalTurned text names t cells new g
+        by : {p : Predicate} {g : Refused} → PredicateIs text p → AskedAs text names p t (refuse g) → GoalTurned text names t cells new g
         by q (goaltext.too-many h) = asks.too-many h
         by q (goaltext.asked l (asking.too-long h)) = asks.bytes l h
         by q (goaltext.asked l (asking.no-text {k = k} h n)) = asks.no-text k l h n
@@ -89,7 +89,7 @@ module _ {text names t : List ℕ} where
     turned-as (rooms.no-names {g = g} q a l m) = asks.no-names g (asked-is q a) l m
 
     turned-by : {p : Predicate} {f : Refused} → PredicateIs text p → GoalTurned text names t cells new f
-        → Fits text names t (length cells) (length new) (refuse f)
+        → GoalFits text names t (length cells) (length new) (refuse f)
     turned-by q (asks.too-many h) = rooms.not-read q (goaltext.too-many h)
     turned-by q (asks.bytes l h) = rooms.not-read q (goaltext.asked l (asking.too-long h))
     turned-by q (asks.no-text k l h n) = rooms.not-read q (goaltext.asked l (asking.no-text h n))
@@ -101,16 +101,16 @@ module _ {text names t : List ℕ} where
   -- what is answered, of a goal and its rooms
   module _ {cells cells′ new new′ : List ℕ} {r : GoalText} (x : GoalInto text names t cells cells′ new new′ r) where
     abbrev answer : Answer
-    answer = goaltext.textTold r
+    answer = goaltext.goalTextTold r
 
-    says : {o : Read Goal} → Fits text names t (length cells) (length new) o → x .says ≡ o
+    says : {o : Read Goal} → GoalFits text names t (length cells) (length new) o → x .says ≡ o
     says l = fits-one (x .rule) l
 
     given : (goal : Goal) → x .says ≡ read goal → Gives goal cells cells′ new new′ answer
     given goal e = record {
       tells = x .answers .tells ∙ ap said e;
-      wrote = x .answers .wrote ∙ ap (λ (o : Read Goal). front (cellsOf o) cells) e;
-      listed = x .answers .listed ∙ ap (λ (o : Read Goal). front (newOf o) new) e;
+      wrote = x .answers .wrote ∙ ap (λ (o : Read Goal). putFirst (goalCells o) cells) e;
+      listed = x .answers .listed ∙ ap (λ (o : Read Goal). putFirst (newOf o) new) e;
     }
 
     gives : (goal : Goal) → Gives goal cells cells′ new new′ answer → IsAsked text names t goal × Roomy goal cells new
@@ -123,14 +123,14 @@ module _ {text names t : List ℕ} where
             same-goal G goal (front-one (G .cells) (goal .cells) cells (l .0) (w .wrote) (g .wrote))
             (front-one (G .new) (goal .new) new (l .1) (w .listed) (g .listed))
 
-        by : (o : Read Goal) → x .says ≡ o → Fits text names t (length cells) (length new) o → IsAsked text names t goal × Roomy goal cells new
+        by : (o : Read Goal) → x .says ≡ o → GoalFits text names t (length cells) (length new) o → IsAsked text names t goal × Roomy goal cells new
         by (refuse f) e k = clash (sym (g .tells) ∙ x .answers .tells ∙ ap said e)
         by (read G) e (rooms.fits q a l m) =
             subst (λ (h : Goal). IsAsked text names t h × Roomy h cells new) (same G e) (asked-is q a, record { holds = l; lists = m })
 
     turns : (f : Refused) → (answer ≡ turned f) ↔ GoalTurned text names t cells new f
     turns f = (
-      λ e. turned-as (subst (Fits text names t (length cells) (length new)) (says-turned (x .says) f (sym (x .answers .tells) ∙ e)) (x .rule)),
+      λ e. turned-as (subst (GoalFits text names t (length cells) (length new)) (says-turned (x .says) f (sym (x .answers .tells) ∙ e)) (x .rule)),
       λ k. x .answers .tells ∙ ap said (says (turned-by (fits-is (x .rule) .is) k)),
     )
 
@@ -149,10 +149,10 @@ module _ {text names t : List ℕ} where
         (λ (h : length cells < place). absurd (omega arith), λ (h : place ≤ length cells). omega arith))
         (λ m. clash (told (rooms.fits (i .predicate) (is-asked i) (omega arith) (omega arith)))))
       where
-        told : {o : Read Goal} → Fits text names t (length cells) (length new) o → said o ≡ turned (refused reason.Room input.Lent place)
+        told : {o : Read Goal} → GoalFits text names t (length cells) (length new) o → said o ≡ turned (refused reason.Room input.Lent place)
         told k = ap said (sym (says k)) ∙ sym (x .answers .tells) ∙ e
 
-        placed : {n : ℕ} → Fits text names t (length cells) (length new) (refuse (refused reason.Room input.Lent n)) → n ≡ place
+        placed : {n : ℕ} → GoalFits text names t (length cells) (length new) (refuse (refused reason.Room input.Lent n)) → n ≡ place
         placed k = ap (λ (f : Refused). f .place) (turned-one (told k))
 
     pub reads-goal : ReadsGoal text names t cells cells′ new new′ answer
@@ -161,8 +161,8 @@ module _ {text names t : List ℕ} where
       refuses = turns;
       untouched = λ f e.
           let q = says-turned (x .says) f (sym (x .answers .tells) ∙ e) in (
-            x .answers .wrote ∙ ap (λ (o : Read Goal). front (cellsOf o) cells) q,
-            x .answers .listed ∙ ap (λ (o : Read Goal). front (newOf o) new) q,
+            x .answers .wrote ∙ ap (λ (o : Read Goal). putFirst (goalCells o) cells) q,
+            x .answers .listed ∙ ap (λ (o : Read Goal). putFirst (newOf o) new) q,
           );
       room = short;
       none = λ g whole f fs k l h w.
@@ -191,12 +191,12 @@ module _ {text names goal new cells room room′ : List ℕ} {r : AnswerText} wh
   said-there : AnswerInto text names goal new cells room room′ r → (p : Predicate) → length cells ≤ mostReplyCells → PredicateIs text p
       → length (saidIn text names goal new p cells) ≤ length room
       → (answerTold r ≡ answered (length cells) (length (saidIn text names goal new p cells)))
-      × (room′ ≡ front (saidIn text names goal new p cells) room)
+      × (room′ ≡ putFirst (saidIn text names goal new p cells) room)
   said-there (into.too-big h e f) p k a l = absurd (omega arith)
   said-there (into.no-room q h b m e f) p k a l = absurd (omega (arith, ap length (same-said names goal new cells a b)))
   said-there (into.is-said q h b m e f) p k a l =
       let z = same-said names goal new cells b a in
-      (e ∙ ap (λ (s : List ℕ). answered (length cells) (length s)) z, f ∙ ap (λ (s : List ℕ). front s room) z)
+      (e ∙ ap (λ (s : List ℕ). answered (length cells) (length s)) z, f ∙ ap (λ (s : List ℕ). putFirst s room) z)
 
   answer-turned : AnswerInto text names goal new cells room room′ r → (f : Refused)
       → (answerTold r ≡ turned f) ↔ AnswerTurned text names goal new cells room f

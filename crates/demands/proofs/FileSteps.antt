@@ -19,17 +19,17 @@ use Rattle.table.specs.Table.{Table, tableOf, IsTable}
 use Rattle.table.proofs.Accepted.{is-table}
 use Rattle.table.proofs.ReadLaws.{not-both}
 use Rattle.plan.specs.Check.{planOf, planFor}
-use Rattle.octets.specs.Octets.{cellsOf, bytesOf, Words}
+use Rattle.octets.specs.Octets.{cellsOf, bytesOf, AreWords}
 use Rattle.octets.proofs.BytesLaws.{cells-back}
 use Rattle.blocks.specs.Sums.{checks}
 use Rattle.blocks.specs.Blocks.{whole, good, goodCells, blockAt, cellsIn, sound}
 use Rattle.blocks.proofs.BlockLaws.{and-both, words-both, sound-parts, sound-is, sound-most, cells-size, blocks-sound, blocks-words}
 use Rattle.blocks.proofs.LookLaws.{block-here, good-next, good-ends}
-use Rattle.filing.specs.Files.{stream, needed, filled, wordsFor, fileOf, zeros, card, sizes, fileRead}
+use Rattle.filing.specs.Files.{stream, needed, filledUp, wordsFor, fileOf, zeros, card, sizes, fileRead}
 use Rattle.filing.proofs.FileLaws.{filled-size, filled-words}
 use Rattle.filing.proofs.WriteLaws.{file-size}
 use Rattle.filing.proofs.ReadingLaws.{good-from, no-byte, no-blocks, damaged, other-sizes, not-zeros, all-tests}
-use Rattle.demands.specs.Files.{Whole, SoundAt, FirstBad, AllSound, BlockCells, Sized, padding, Padded, tableOn, planOn, Holds}
+use Rattle.demands.specs.Files.{Whole, SoundAt, FirstBad, AllSound, BlockCells, Sized, padding, Padded, tableOn, planOn, FileHolds}
 use Rattle.demands.proofs.Cited.{writes, tree-read}
 use Rattle.limits.specs.Limits.{mostPlanCells, mostTableCells}
 
@@ -167,7 +167,7 @@ module _ (f : List ℕ) where
   pub is-refused : {g : Refused} → Padded f → planOf (tableOn f) (planOn f) ≡ refuse g → fileRead f ≡ refuse g
   is-refused x e = is-read x ∙ ap (λ (r : Read ℕ). andThen r (λ (n : ℕ). read (card (tableOn f) (planOn f)))) e
 
-  pub is-card : {t p : List ℕ} → Holds f t p → fileRead f ≡ read (card t p)
+  pub is-card : {t p : List ℕ} → FileHolds f t p → fileRead f ≡ read (card t p)
   is-card {t} {p} x =
       let e = tree-read (x .accepted) (x .tree) (x .written) in
       let q = rw (x .table-is, x .plan-is) at (is-read (x .padded)) in
@@ -186,7 +186,7 @@ pub data Looked (f : List ℕ) : Type 0 where
   as-table : (g : Refused) → Padded f → tableOf (tableOn f) ≡ refuse g → fileRead f ≡ refuse g → Looked f
   as-plan : (g : Refused) {w : ℕ} {rows : List (List ℕ)} → Padded f → IsTable (tableOn f) w rows → planOf (tableOn f) (planOn f) ≡ refuse g
       → fileRead f ≡ refuse g → Looked f
-  as-card : Holds f (tableOn f) (planOn f) → Looked f
+  as-card : FileHolds f (tableOn f) (planOn f) → Looked f
 
 module _ (f : List ℕ) where
   by-plan : Padded f → Looked f
@@ -256,15 +256,15 @@ module _ (f : List ℕ) where
       go (inr a) (inr b) = let d = eqb-false (length f % 512) 0 b in as-blocks (inr d) (no-blocks f d)
 
 -- the cells of a written file
-pub written-cells : (t p : List ℕ) → Words t → Words p → (length t ≤ mostTableCells) × (length p ≤ mostPlanCells)
-    → (goodCells (fileOf t p) 0 ≡ filled (stream t p)) × (whole (fileOf t p) ≡ needed (length (stream t p)))
+pub written-cells : (t p : List ℕ) → AreWords t → AreWords p → (length t ≤ mostTableCells) × (length p ≤ mostPlanCells)
+    → (goodCells (fileOf t p) 0 ≡ filledUp (stream t p)) × (whole (fileOf t p) ≡ needed (length (stream t p)))
 written-cells t p v w z =
     let s = stream t p in
     let k = needed (length s) in
     let l : length s ≡ 2 + (length t + length p) = omega (arith, length-append t p) in
-    let ws : Words s = (omega arith, (omega arith, words-both t p v w)) in
+    let ws : AreWords s = (omega arith, (omega arith, words-both t p v w)) in
     let size : length (fileOf t p) ≡ 512 * k = file-size t p z in
     let back : cellsOf (bytesOf (wordsFor s)) ≡ wordsFor s =
-    cells-back (wordsFor s) (blocks-words k 0 (filled s) (omega arith) (filled-words s ws)) in
+    cells-back (wordsFor s) (blocks-words k 0 (filledUp s) (omega arith) (filled-words s ws)) in
     let wh : whole (fileOf t p) - 0 ≡ k = omega arith in
-    (rw (wh, back) (blocks-sound k 0 (filled s) (filled-size s) .1), omega arith)
+    (rw (wh, back) (blocks-sound k 0 (filledUp s) (filled-size s) .1), omega arith)

@@ -19,7 +19,7 @@ use Rattle.table.proofs.ReadLaws as reading
 use Rattle.table.proofs.Accepted.{is-table}
 use Rattle.plan.specs.Plans.{Plan, write, branches}
 use Rattle.plan.specs.Check.{planOf, planFor}
-use Rattle.octets.specs.Octets.{Bytes, Words}
+use Rattle.octets.specs.Octets.{Bytes, AreWords}
 use Rattle.blocks.specs.Sums.{checks, OneWord, Exchanged}
 use Rattle.blocks.proofs.SumsLaws.{one-word-told, exchange-told, blocks-told}
 use Rattle.filing.specs.Files.{stream, needed, fileOf, noRoom, Card, card, fileRead, FileWritten, not-accepted, room-short, written}
@@ -33,7 +33,7 @@ use Rattle.dudowiej.specs.Coded.{cut, FileWriteCoded, FileReadCoded}
 use Rattle.dudowiej.proofs.CutLaws.{cut-small}
 use Rattle.dudowiej.proofs.Small.{checked-small}
 use Rattle.dudowiej.proofs.Back.{written-back, loaded-back}
-use Rattle.demands.specs.Files.{WriteTurned, WriteRefused, Wrote, WritesFile, FirstBad, AllSound, BlockCells, Shape, Holds}
+use Rattle.demands.specs.Files.{WriteTurned, WriteRefused, Wrote, WritesFile, FirstBad, AllSound, BlockCells, Shape, FileHolds}
 use Rattle.demands.specs.Files.{ReadTurned, ReadRefused, ReadsFile}
 use Rattle.demands.specs.Files.{no-blocks, damage, bad-sizes, bad-padding, ThereAndBack, BackAgain, ChecksTell}
 use Rattle.demands.specs.Files as says
@@ -128,20 +128,20 @@ module _ {t p room room′ : List ℕ} {a : Answer} (x : FileWritten t p room ro
 -- Reading.
 
 -- a file that is read holds what was read
-holds-of : (f : List ℕ) {c : Card} → fileRead f ≡ read c → Holds f (c .table) (c .plan)
+holds-of : (f : List ℕ) {c : Card} → fileRead f ≡ read c → FileHolds f (c .table) (c .plan)
 holds-of f {c} e = go (looked f)
   where
-    go : Looked f → Holds f (c .table) (c .plan)
+    go : Looked f → FileHolds f (c .table) (c .plan)
     go (as-blocks b q) = apart (sym e ∙ q)
     go (as-damage b q) = apart (sym e ∙ q)
     go (as-sizes b d q) = apart (sym e ∙ q)
     go (as-padding k b d q) = apart (sym e ∙ q)
     go (as-table g b t q) = apart (sym e ∙ q)
     go (as-plan g b i t q) = apart (sym e ∙ q)
-    go (as-card y) = subst (λ (d : Card). Holds f (d .table) (d .plan)) (read-one (sym (is-card f y) ∙ e)) y
+    go (as-card y) = subst (λ (d : Card). FileHolds f (d .table) (d .plan)) (read-one (sym (is-card f y) ∙ e)) y
 
 -- and writing what it holds gives its bytes again
-pub held-again : (f : List ℕ) {t p : List ℕ} → Bytes f → Holds f t p → (room after : List ℕ) (a : Answer) → WritesFile t p room after a
+pub held-again : (f : List ℕ) {t p : List ℕ} → Bytes f → FileHolds f t p → (room after : List ℕ) (a : Answer) → WritesFile t p room after a
     → length f ≤ length room → (a ≡ answered (length f) (length f / 512)) × (after ≡ f ++ drop (length f) room)
 held-again f {t} {p} by h room after a w l =
     let again = back-again f (card t p) by (is-card f h) in
@@ -268,7 +268,7 @@ module _ {f table plan table′ plan′ : List ℕ} {a : Answer} (x : FileLoaded
       held-again f by (holds-of f (y .reads)) room after b (rw (y .table-front, y .plan-front) at w) l
 
 -- what was written is read back
-written-again : {t p room room′ : List ℕ} {a : Answer} → Words t → Words p → FileWritten t p room room′ a → ThereAndBack t p room′ a
+written-again : {t p room room′ : List ℕ} {a : Answer} → AreWords t → AreWords p → FileWritten t p room room′ a → ThereAndBack t p room′ a
 written-again {t} {p} {room} {room′} {a} v w x bytes blocks q t₁ p₁ t₂ p₂ b y k l = go x
   where
     go : FileWritten t p room room′ a
@@ -285,7 +285,7 @@ written-again {t} {p} {room} {room′} {a} v w x bytes blocks q t₁ p₁ t₂ p
 pub request-211-cells : (f : List ℕ) → AllSound f → BlockCells f
 request-211-cells = block-cells
 
-pub request-211-shape : (t p : List ℕ) {w : ℕ} {rows : List (List ℕ)} → Words t → Words p → IsTable t w rows → (tree : Plan w rows)
+pub request-211-shape : (t p : List ℕ) {w : ℕ} {rows : List (List ℕ)} → AreWords t → AreWords p → IsTable t w rows → (tree : Plan w rows)
     → write tree ≡ p → Shape t p
 request-211-shape t p v w i tree h =
     let e = tree-read i tree h in
@@ -312,7 +312,7 @@ module _ {t p room room′ : List ℕ} {n : ℕ} (x : FileWriteCoded t p room ro
   pub request-211-writes : WritesFile t p room room′ (decoded n)
   request-211-writes = subst (WritesFile t p room room′) (sym (written-back x)) (writes-file (x .wrote))
 
-  pub request-211-there : Words t → Words p → ThereAndBack t p room′ (decoded n)
+  pub request-211-there : AreWords t → AreWords p → ThereAndBack t p room′ (decoded n)
   request-211-there v w = subst (ThereAndBack t p room′) (sym (written-back x)) (written-again v w (x .wrote))
 
 module _ {f table plan table′ plan′ : List ℕ} {n : ℕ} (x : FileReadCoded f table plan table′ plan′ n) where
@@ -326,7 +326,7 @@ module _ {f table plan table′ plan′ : List ℕ} {n : ℕ} (x : FileReadCoded
   request-211-back by = subst (BackAgain f table′ plan′) (sym (loaded-back x)) (read-again (x .loaded) by)
 
 -- the entries' own results, one after the other: what one wrote the other reads, and what one read the other writes
-pub request-211-there-and-back : {t p room room′ t₁ p₁ t₂ p₂ : List ℕ} {m n bytes blocks : ℕ} → Words t → Words p
+pub request-211-there-and-back : {t p room room′ t₁ p₁ t₂ p₂ : List ℕ} {m n bytes blocks : ℕ} → AreWords t → AreWords p
     → FileWriteCoded t p room room′ n → decoded n ≡ answered bytes blocks → FileReadCoded (take bytes room′) t₁ p₁ t₂ p₂ m
     → length t ≤ length t₁ → length p ≤ length p₁
     → (decoded m ≡ answered (length t) (length p)) × (t₂ ≡ t ++ drop (length t) t₁) × (p₂ ≡ p ++ drop (length p) p₁)
@@ -340,7 +340,7 @@ request-211-back-again {room = room} {room′ = room′} {n = n} {k = k} {l = l}
     request-211-back x by k l e room room′ (decoded n) (request-211-writes y)
 
 -- cells and bytes that are lent have their widths
-pub words-of : (xs : List ℕ) → ((k : ℕ) → getD xs k 0 < 2 ^ 32) → Words xs
+pub words-of : (xs : List ℕ) → ((k : ℕ) → getD xs k 0 < 2 ^ 32) → AreWords xs
 words-of [] h = tt
 words-of (x ∷ xs) h = (h 0, words-of xs (λ k. h (suc k)))
 

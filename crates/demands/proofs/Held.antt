@@ -17,7 +17,7 @@ use Rattle.checker.specs.declared.PlanAnswer.{PlanAnswer}
 use Rattle.checker.specs.Checked.{planTold, planSays}
 use Rattle.checker.proofs.Fixed.{plan-fixed, under-fixed}
 use Rattle.plannotes.specs.declared.Noted.{Noted}
-use Rattle.plannotes.specs.Noted.{Handed}
+use Rattle.plannotes.specs.Noted.{NotedInto}
 use Rattle.plannotes.proofs.Fixed.{handed-fixed}
 use Rattle.builder.specs.declared.BuildAnswer.{BuildAnswer}
 use Rattle.least.specs.declared.By.{By}
@@ -39,8 +39,10 @@ use Rattle.prolog.specs.declared.TextAnswer.{TextAnswer}
 use Rattle.prolog.proofs.Fixed.{read-text-fixed}
 use Rattle.dudowiej.specs.Coded.{WorkCoded, EditCoded, BuildCoded, BuildForCoded, RunCoded, TextCoded, JobsCoded, RepliesCoded, ClausesCoded}
 use Rattle.dudowiej.specs.Coded.{GoalTextCoded, AnswerCoded, ReplyJobsCoded, FileWriteCoded, FileReadCoded, SalvageCoded, LikedCoded}
-use Rattle.dudowiej.proofs.Fixed.{work-coded-fixed, edit-coded-fixed, build-coded-fixed, run-coded-fixed, text-coded-fixed, jobs-coded-fixed, replies-coded-fixed, build-for-coded-fixed, liked-coded-fixed}
-use Rattle.dudowiej.proofs.Fixed.{goal-text-coded-fixed, answer-coded-fixed, reply-jobs-coded-fixed, clauses-coded-fixed, written-coded-fixed, loaded-coded-fixed, salvage-coded-fixed}
+use Rattle.dudowiej.proofs.Fixed.{work-coded-fixed, edit-coded-fixed, build-coded-fixed, run-coded-fixed, text-coded-fixed, jobs-coded-fixed}
+use Rattle.dudowiej.proofs.Fixed.{replies-coded-fixed, build-for-coded-fixed, liked-coded-fixed}
+use Rattle.dudowiej.proofs.Fixed.{goal-text-coded-fixed, answer-coded-fixed, reply-jobs-coded-fixed, clauses-coded-fixed, written-coded-fixed}
+use Rattle.dudowiej.proofs.Fixed.{loaded-coded-fixed, salvage-coded-fixed}
 use Rattle.answer.specs.declared.Job.{Job}
 use Rattle.answer.specs.Jobs.{JobsRun}
 use Rattle.shift.proofs.Fixed.{run-jobs-fixed}
@@ -92,7 +94,7 @@ pub held-check-for : (t columns p : List ℕ) {r s : PlanAnswer} → planTold r 
     → planTold s ≡ planSays (planUnder t columns p) → r ≡ s
 held-check-for = under-fixed
 
-pub held-noted : {t p before after after′ : List ℕ} {r s : Noted} → Handed t p before after r → Handed t p before after′ s
+pub held-noted : {t p before after after′ : List ℕ} {r s : Noted} → NotedInto t p before after r → NotedInto t p before after′ s
     → (r ≡ s) × (after ≡ after′)
 held-noted = handed-fixed
 

@@ -56,7 +56,8 @@ use Rattle.demands.specs.Kind.{There, none-named}
 use Rattle.demands.specs.Demands.{LeastBy, LeastFor}
 use Rattle.demands.specs.Liked.{Total, LikedBest, LikedTurned, no-figure, no-table, no-room, LikesMost, BuildsLiked}
 use Rattle.demands.proofs.KindLaws.{there-past, past-there, listed-occurs, occurs-listed}
-use Rattle.demands.proofs.Cited.{clash, turned-one, answered-one, reads, TakenBy, too-much, small, taken-by, builds, least-of, plain-of, build-writes-nothing}
+use Rattle.demands.proofs.Cited.{clash, turned-one, answered-one, reads, TakenBy, too-much, small, taken-by, builds, least-of, plain-of}
+use Rattle.demands.proofs.Cited.{build-writes-nothing}
 use Rattle.limits.specs.Limits.{mostPlanCells}
 
 -- Totals.
@@ -244,13 +245,15 @@ module _ {by : By} {t goals list room room′ liked liked′ : List ℕ} {r : Bu
   kept f (likes.table-refused g a e c d) q = (c, d)
   kept f (likes.found T mask total plain d x b w) q = (build-writes-nothing b f q, w ∙ rw q)
 
-  made : (width : ℕ) (rows : List (List ℕ)) → measureOf by .figure ≤ 15 → IsTable t width rows → mostPlanCells ≤ length room → LikedInto by t goals list room room′ liked liked′ r
+  made : (width : ℕ) (rows : List (List ℕ)) → measureOf by .figure ≤ 15 → IsTable t width rows → mostPlanCells ≤ length room
+      → LikedInto by t goals list room room′ liked liked′ r
       → (n : ℕ) × (cost : ℕ) × (buildTold r ≡ answered n cost)
   made width rows l i h (likes.table-refused g a e c d) = apart (sym (by-table by t l ∙ reads i) ∙ a)
   made width rows l i h (likes.found T mask total plain d x b w) =
       builds (T .width) (T .rows) l (is d x) (past-there (T .width) (columnsOf mask) (columns-there (T .width) mask (x .set))) h b
 
-  most : (n cost : ℕ) → LikedInto by t goals list room room′ liked liked′ r → buildTold r ≡ answered n cost → (mask : ℕ) × (total : ℕ) × (plain : ℕ) × (liked′ ≡ mask ∷ total ∷ plain ∷ [])
+  most : (n cost : ℕ) → LikedInto by t goals list room room′ liked liked′ r → buildTold r ≡ answered n cost
+      → (mask : ℕ) × (total : ℕ) × (plain : ℕ) × (liked′ ≡ mask ∷ total ∷ plain ∷ [])
       × LikedBest by t goals list (take n room′) cost mask total plain
   most n cost (likes.table-refused g a e c d) q = clash (sym q ∙ e)
   most n cost (likes.found T mask total plain d x b w) q =

@@ -11,7 +11,7 @@ use Rattle.cell.proofs.CellLaws.{built-number}
 use Rattle.cell.proofs.Fixed.{shape-fixed}
 use Rattle.octets.specs.Octets.{Put}
 use Rattle.octets.proofs.DecimalLaws.{decimal-small}
-use Rattle.printing.specs.Printing.{symbolOf, symbol}
+use Rattle.printing.specs.Printing.{symbolOf, symbolText}
 use Rattle.grammar.specs.Grammar.{number}
 use Rattle.grammar.proofs.Range.{leaves, plain-leaves, minus-leaves}
 use Rattle.grammar.proofs.Written.{plain-value, negative-value, negative-small, value-bits, plain-term, minus-term}
@@ -27,10 +27,10 @@ reads-cell c answer e bits h q =
     shape-fixed c e (ap (λ (n : ℕ). numberValues n (signedOf bits)) (bits-signed bits h) ∙ sym (built-number bits h) ∙ ap valuesAt (sym q))
 
 -- and what that of `printing::put_symbol` does
-pub prints-symbol : (c : ℕ) (out out′ : List ℕ) (to r : ℕ) → Put out out′ to (symbol c) r → PrintsSymbol c out out′ to r
+pub prints-symbol : (c : ℕ) (out out′ : List ℕ) (to r : ℕ) → Put out out′ to (symbolText c) r → PrintsSymbol c out out′ to r
 unfolding symbolOf
 prints-symbol c out out′ to r x bits h q =
-    subst (λ (text : List ℕ). Put out out′ to text r) (ap symbol q ∙ ap symbolOf (built-number bits h)) x
+    subst (λ (text : List ℕ). Put out out′ to text r) (ap symbolText q ∙ ap symbolOf (built-number bits h)) x
 
 pub prints-minus-one : PrintsMinusOne
 prints-minus-one = ap (λ (digits : List ℕ). 45 ∷ digits) (decimal-small 1 (omega arith))

@@ -23,7 +23,7 @@ use Rattle.instance.specs.declared.RepliesAnswer.{RepliesAnswer}
 use Rattle.instance.specs.declared.ReplyJob.{ReplyJob}
 use Rattle.instance.specs.Replied.{Replied, repliesTold}
 use Rattle.instance.specs.Replied as entry
-use Rattle.instance.specs.ReplyJobs.{filled, declined, goalOfJob, ReplyAsked, outside, refused, replied, RepliesEach, ReplyJobsRun, refusal, asked}
+use Rattle.instance.specs.ReplyJobs.{replyFilled, declined, goalOfJob, ReplyAsked, outside, refused, replied, RepliesEach, ReplyJobsRun, refusal, asked}
 use Rattle.instance.specs.ReplyJobs as list
 use Rattle.instance.proofs.Fixed.{replied-fixed}
 use Rattle.replyjobs.proofs.Fixed.{reply-jobs-told}

@@ -17,7 +17,7 @@ use Rattle.table.specs.Table.{table, IsTable}
 use Rattle.table.proofs.ReadLaws.{not-both}
 use Rattle.table.proofs.Accepted as tables
 use Rattle.plan.specs.Check.{planOf}
-use Rattle.octets.specs.Octets.{Bytes, Words}
+use Rattle.octets.specs.Octets.{Bytes, AreWords}
 use Rattle.filing.specs.Files.{card, fileOf}
 use Rattle.filing.proofs.Undo.{accepted-sizes, there-and-back}
 use Rattle.salvaging.specs.Salvage.{badIn, width, count, noHead, kept, keptCells, planCells, PlanHad, old-plan, facts, Outcome, saved, Salvaged}
@@ -28,7 +28,7 @@ use Rattle.salvaging.proofs.Unchanged.{unchanged}
 use Rattle.salvaging.proofs.Original.{original}
 use Rattle.dudowiej.specs.Coded.{cut, salvageSays, reportAfter, SalvageCoded}
 use Rattle.dudowiej.proofs.Back.{salvaged-back}
-use Rattle.demands.specs.Salvage.{widthOn, countOn, Longest, Kept, tableWith, PlanOut, old, new, Had}
+use Rattle.demands.specs.Salvage.{widthOn, countOn, Longest, RowsKept, tableWith, PlanOut, old, new, Had}
 use Rattle.demands.specs.Salvage.{SalvageTurned, no-head, no-row, table-short, plan-short, bad-short, SalvageRefused, Written, Salvages}
 use Rattle.demands.specs.Salvage.{Unchanged, AsWritten, Originals}
 use Rattle.demands.proofs.Cited.{clash, turned-one, answered-one, reads, tree-read}
@@ -41,7 +41,7 @@ use Rattle.limits.specs.Limits.{mostPlanCells}
 
 -- What crate salvaging says of a file is what 02's words say,
 module _ (f : List ℕ) (h : noHead f ≡ false) (s : 1 ≤ length (kept f)) where
-  kept-of : Kept f (kept f)
+  kept-of : RowsKept f (kept f)
   kept-of = record { head = is-headed f h; are = kept-longest f (is-headed f h); some = s }
 
   had-of : (keeps : Bool) (cells : List ℕ) → PlanHad f keeps cells → Had f (kept f) (cond keeps 1 0) cells (badIn f)
@@ -57,7 +57,7 @@ record Found (f : List ℕ) (rows : List (List ℕ)) (number : ℕ) (cells numbe
   told : cond keeps 1 0 ≡ number
   bad-are : numbers ≡ badIn f
 
-kept-one : (f : List ℕ) {rows : List (List ℕ)} → Kept f rows → (rows ≡ kept f) × (1 ≤ length (kept f))
+kept-one : (f : List ℕ) {rows : List (List ℕ)} → RowsKept f rows → (rows ≡ kept f) × (1 ≤ length (kept f))
 kept-one f {rows} k = let e = longest-kept f (k .head) rows (k .are) in (e, rw (← e) (k .some))
 
 found : (f : List ℕ) {rows : List (List ℕ)} {number : ℕ} {cells numbers : List ℕ} → Had f rows number cells numbers
@@ -76,7 +76,7 @@ found f {rows} {number} {cells} {numbers} x =
     }
 
 -- the width of a file whose block 0 is as it was written
-written-width : (f t p : List ℕ) {n w : ℕ} {rows : List (List ℕ)} → Words t → Words p → planOf t p ≡ read n → IsTable t w rows
+written-width : (f t p : List ℕ) {n w : ℕ} {rows : List (List ℕ)} → AreWords t → AreWords p → planOf t p ≡ read n → IsTable t w rows
     → AsWritten f (fileOf t p) → noHead f ≡ false → width f ≡ w
 written-width f t p v w ok i kept-so h =
     let g = fileOf t p in
@@ -95,7 +95,7 @@ report-same : {a b c d e a′ b′ c′ d′ e′ : ℕ} → a ≡ a′ → b �
 report-same p q r s t = rw (p, q, r, s, t)
 
 -- the cells that are had are few
-module _ {f : List ℕ} {rows : List (List ℕ)} (k : Kept f rows) where
+module _ {f : List ℕ} {rows : List (List ℕ)} (k : RowsKept f rows) where
   abbrev is-kept : IsTable (tableWith f rows) (widthOn f) rows
   is-kept = run-table f (k .head) rows (k .are .run) (k .some)
 

@@ -23,12 +23,12 @@ use Rattle.answer.proofs.BitsLaws.{bits-mem, bits-few}
 use Rattle.answer.proofs.JobsLaws.{each-map, Enough, any-room, enough-64, entered-refused, entered-found}
 use Rattle.shift.proofs.Fixed.{jobs-told}
 use Rattle.demands.specs.Demands.{bad-goal}
-use Rattle.demands.specs.Shift.{Holds, JobAnswered, OneJob, Shift}
+use Rattle.demands.specs.Shift.{JobHolds, JobAnswered, OneJob, Shift}
 use Rattle.demands.proofs.Cited.{reads, tree-read, plan-kept, run-kept, run-answers}
 
 -- What a record holds.
 
-holds : (j : Job) {k : Job} {n p h t : ℕ} → k ≡ filled j n p h t → Holds k n p h t
+holds : (j : Job) {k : Job} {n p h t : ℕ} → k ≡ filled j n p h t → JobHolds k n p h t
 holds j e = record {
   number-is = ap (λ (x : Job). x .number) e;
   place-is = ap (λ (x : Job). x .place) e;
@@ -53,7 +53,7 @@ module _ (t p : List ℕ) {width : ℕ} {rows : List (List ℕ)} (i : IsTable t 
   enough room l = record { for-rows = λ T d. subst (λ (y : Table). length (y .rows) ≤ length room) (read-one (sym (reads i) ∙ d)) l }
 
   module _ {g room : List ℕ} {r : RunAnswer} (x : Ran t p g (replicate 64 0) room r) (j : Job) {k : Job} (is : k ≡ entered j r room) where
-    refused-holds : (f : Refused) → goalOf width g ≡ refuse f → Holds k (f .number) (f .place) 0 0
+    refused-holds : (f : Refused) → goalOf width g ≡ refuse f → JobHolds k (f .number) (f .place) 0 0
     refused-holds f h = holds j (is ∙ entered-refused j r f room (run-kept x .refuses f .1 (bad-goal i tree w h)))
 
     answered-holds : IsGoal width g → JobAnswered tree g k

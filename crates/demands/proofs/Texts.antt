@@ -11,7 +11,7 @@ use Rattle.refusal.specs.declared.Reason.the-variants as reason
 use Rattle.refusal.specs.declared.Input.the-variants as input
 use Rattle.table.proofs.Accepted.{table-accepted}
 use Rattle.grammar.specs.Grammar.{isLower, isUpper, isDigit, isWord, Fact, Text}
-use Rattle.grammar.specs.Reader.{isBlank, layout, put, close, past, step, finish, run, textOf}
+use Rattle.grammar.specs.Reader.{isBlank, layout, put, onClose, past, step, finish, run, textOf}
 use Rattle.grammar.specs.Stops.{Stops}
 use Rattle.grammar.specs.Meaning.{Place, none, found, symbolsOf, namesOf, widthOf, tableCells, nameList}
 use Rattle.grammar.specs.Numbering.{Firsts, Rows}
@@ -81,7 +81,7 @@ pub zero-after-minus : ZeroAfterMinus
 zero-after-minus p q xs ys symbols l = minus-zero-term l
 
 pub nine : Nine
-unfolding textOf run step finish layout isBlank put close past isLower isUpper isDigit isWord
+unfolding textOf run step finish layout isBlank put onClose past isLower isUpper isDigit isWord
 nine = record { with-zero = grammar.accepted _ _ .0 refl; without = grammar.accepted _ _ .0 refl }
 
 -- facts of one predicate and width

@@ -10,7 +10,7 @@ use lib.ListN.{length, drop}
 use Rattle.cell.specs.Cell.{isVar, valuesAt}
 use Rattle.cell.specs.Same.{among}
 use Rattle.term.proofs.Tests.{bool-cases}
-use Rattle.refusal.specs.Refusal.{Refused, refused, numberOf, Answer, answered}
+use Rattle.refusal.specs.Refusal.{Refused, refused, reasonNumber, Answer, answered}
 use Rattle.refusal.specs.Refusal as refusals
 use Rattle.refusal.specs.declared.Reason.{Reason}
 use Rattle.refusal.specs.declared.Reason.the-variants as reason
@@ -66,11 +66,11 @@ use Rattle.demands.specs.Twice.{NeverTwice}
 use Rattle.demands.proofs.Replies.{refuses-kept}
 
 -- "TWICE is never given again, which is proved": 8 is no reason's number.
-pub request-209-twice : (r : Reason) → numberOf r ≢ 8
+pub request-209-twice : (r : Reason) → reasonNumber r ≢ 8
 request-209-twice = never-twice
 
 -- So none of what this page says of an entry allows it: what an entry refuses has a reason by name (`Placed`, dudowiej/proofs/Places).
-named : (r : Reason) {n : ℕ} → n ≡ numberOf r → n ≢ 8
+named : (r : Reason) {n : ℕ} → n ≡ reasonNumber r → n ≢ 8
 named r e q = never-twice r (sym e ∙ q)
 
 same : {f g : Refused} → f ≡ g → f .number ≡ g .number
@@ -107,7 +107,8 @@ never-build {by} {columns} {t} {room} x f e = go (x .refuses f .0 e)
     go (no-column h i m q) = named reason.Column (same q)
     go (no-room h i k tree b l q) = named reason.Room (same q)
 
-pub never-build-liked : {by : By} {t goals list room after liked liked′ : List ℕ} {a : Answer} → LikesMost by t goals list room after liked liked′ a → NeverTwice a
+pub never-build-liked : {by : By} {t goals list room after liked liked′ : List ℕ} {a : Answer} → LikesMost by t goals list room after liked liked′ a
+    → NeverTwice a
 never-build-liked {by} {t} {goals} {list} {room} x f e = go (x .refuses f .0 e)
   where
     go : LikedTurned by t goals list room f → f .number ≢ 8

@@ -3,7 +3,7 @@
 --
 -- Of crate blocks, specs: `checks` are the two check words (Sums), `blockOf` a block's words, `blockAt file k` those of a file's block k, `whole`
 -- the number of a file's whole blocks, `goodCells file 0` the cells of its blocks, up to the first that is not sound (Blocks). Of crate filing,
--- specs/Files: `stream table plan` the cells before the zeros, `filled` those with the zeros, `needed` the blocks for so many cells,
+-- specs/Files: `stream table plan` the cells before the zeros, `filledUp` those with the zeros, `needed` the blocks for so many cells,
 -- `fileOf table plan` the file's bytes; `sizes`, `tablePart`, `planPart` what a file's cells say they hold.
 use Prim.Native.Nat.{ℕ, _+_, _*_, _/_, _%_, _^_, _≤_, _<_}
 use mathlib.Core.Path.{_≡_}
@@ -19,7 +19,7 @@ use Rattle.plan.specs.Plans.{Plan, write}
 use Rattle.plan.specs.Check.{planOf}
 use Rattle.blocks.specs.Sums.{checks, OneWord, Exchanged}
 use Rattle.blocks.specs.Blocks.{whole, goodCells, blockAt, blockOf}
-use Rattle.filing.specs.Files.{stream, needed, filled, fileOf, sizes, tablePart, planPart}
+use Rattle.filing.specs.Files.{stream, needed, filledUp, fileOf, sizes, tablePart, planPart}
 
 -- "Writing refuses by table, plan, ROOM": what turns it away, and the refusal that it gets. ROOM's place is the bytes needed
 pub data WriteTurned (cells plan room : List ℕ) (refusal : Refused) : Type 0 where
@@ -94,7 +94,7 @@ abbrev pub planOn : List ℕ → List ℕ
 planOn file = planPart (goodCells file 0)
 
 -- a file that passes all of them, with the table and the plan that it holds
-pub record Holds (file table plan : List ℕ) : Type 0 where
+pub record FileHolds (file table plan : List ℕ) : Type 0 where
   pub padded : Padded file
   pub table-is : tableOn file ≡ table
   pub plan-is : planOn file ≡ plan
@@ -106,8 +106,8 @@ pub record Holds (file table plan : List ℕ) : Type 0 where
 
 -- "The cells are table size, plan size, table, plan, zeros to the end of the block, and no more blocks than needed": of a written file
 pub record Shape (table plan : List ℕ) : Type 0 where
-  pub holds : Holds (fileOf table plan) table plan
-  pub cells : goodCells (fileOf table plan) 0 ≡ filled (stream table plan)
+  pub holds : FileHolds (fileOf table plan) table plan
+  pub cells : goodCells (fileOf table plan) 0 ≡ filledUp (stream table plan)
   pub blocks : whole (fileOf table plan) ≡ needed (2 + length table + length plan)
 
 -- what turns a file away, and the refusal that it gets; "ROOM" last, of the table's room and then of the plan's, its place the cells needed there.
@@ -122,9 +122,9 @@ pub data ReadTurned (file table plan : List ℕ) (refusal : Refused) : Type 0 wh
   bad-table : Padded file → tableOf (tableOn file) ≡ refuse refusal → ReadTurned file table plan refusal
   bad-plan : {width : ℕ} {rows : List (List ℕ)} → Padded file → IsTable (tableOn file) width rows → planOf (tableOn file) (planOn file) ≡ refuse refusal
       → ReadTurned file table plan refusal
-  table-short : (t p : List ℕ) → Holds file t p → length table < length t → refusal ≡ refused reason.Room input.Lent (length t)
+  table-short : (t p : List ℕ) → FileHolds file t p → length table < length t → refusal ≡ refused reason.Room input.Lent (length t)
       → ReadTurned file table plan refusal
-  plan-short : (t p : List ℕ) → Holds file t p → length t ≤ length table → length plan < length p
+  plan-short : (t p : List ℕ) → FileHolds file t p → length t ≤ length table → length plan < length p
       → refusal ≡ refused reason.Room input.Lent (length p) → ReadTurned file table plan refusal
 
 -- with nothing written to either room (demand 1). Of a file below 2^57 bytes, and so of any that a machine can lend, a bad block's place is whole
@@ -135,9 +135,9 @@ pub record ReadRefused (file table plan table′ plan′ : List ℕ) (answer : A
 
 -- "and read": otherwise the table's and the plan's cells are answered, and they are the first of their rooms, the rest being as it was
 pub record ReadsFile (file table plan table′ plan′ : List ℕ) (answer : Answer) : Type 0 where
-  pub loads : (t p : List ℕ) → Holds file t p → length t ≤ length table → length p ≤ length plan
+  pub loads : (t p : List ℕ) → FileHolds file t p → length t ≤ length table → length p ≤ length plan
       → (answer ≡ answered (length t) (length p)) × (table′ ≡ t ++ drop (length t) table) × (plan′ ≡ p ++ drop (length p) plan)
-  pub only : (m n : ℕ) → answer ≡ answered m n → Holds file (take m table′) (take n plan′)
+  pub only : (m n : ℕ) → answer ≡ answered m n → FileHolds file (take m table′) (take n plan′)
 
 -- "each undoing the other": what was written is read back, whatever the rooms hold,
 abbrev pub ThereAndBack : (cells plan after : List ℕ) → Answer → Type 0

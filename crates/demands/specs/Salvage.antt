@@ -16,11 +16,11 @@ use Rattle.table.specs.Table.{Row, Distinct, IsTable}
 use Rattle.plan.specs.Plans.{Plan, write}
 use Rattle.least.specs.declared.By.the-variants.{Work}
 use Rattle.answer.specs.Run.{Ascends}
-use Rattle.octets.specs.Octets.{Words}
+use Rattle.octets.specs.Octets.{AreWords}
 use Rattle.blocks.specs.Blocks.{whole, blockAt}
 use Rattle.filing.specs.Files.{fileOf}
 use Rattle.demands.specs.Demands.{LeastBy}
-use Rattle.demands.specs.Files.{SoundAt, Holds, WritesFile}
+use Rattle.demands.specs.Files.{SoundAt, FileHolds, WritesFile}
 
 -- "bad or missing block; a part of a block is a bad one": a block that is neither is there, whole, and sound
 pub record SoundBlock (file : List ℕ) (k : ℕ) : Type 0 where
@@ -68,7 +68,7 @@ pub record Longest (file : List ℕ) (rows : List (List ℕ)) : Type 0 where
   pub longest : (others : List (List ℕ)) → RunOf file others → length others ≤ length rows
 
 -- the rows kept, of a file that is refused neither by HEAD nor by NONE, and the table that they are
-pub record Kept (file : List ℕ) (rows : List (List ℕ)) : Type 0 where
+pub record RowsKept (file : List ℕ) (rows : List (List ℕ)) : Type 0 where
   pub head : Headed file
   pub are : Longest file rows
   pub some : 1 ≤ length rows
@@ -99,7 +99,7 @@ pub record BadBlocks (file numbers : List ℕ) : Type 0 where
 
 -- all that is had of a file
 pub record Had (file : List ℕ) (rows : List (List ℕ)) (keeps : ℕ) (cells numbers : List ℕ) : Type 0 where
-  pub kept : Kept file rows
+  pub kept : RowsKept file rows
   pub plan : PlanOut file rows keeps cells
   pub blocks : BadBlocks file numbers
 
@@ -108,9 +108,9 @@ pub record Had (file : List ℕ) (rows : List (List ℕ)) (keeps : ℕ) (cells n
 pub data SalvageTurned (file table plan bad : List ℕ) (refusal : Refused) : Type 0 where
   no-head : (Headed file → ⊥) → refusal ≡ refused reason.Head input.File 0 → SalvageTurned file table plan bad refusal
   no-row : Headed file → Longest file [] → refusal ≡ refused reason.None input.File 0 → SalvageTurned file table plan bad refusal
-  table-short : (rows : List (List ℕ)) → Kept file rows → length table < length (tableWith file rows)
+  table-short : (rows : List (List ℕ)) → RowsKept file rows → length table < length (tableWith file rows)
       → refusal ≡ refused reason.Room input.Lent (length (tableWith file rows)) → SalvageTurned file table plan bad refusal
-  plan-short : (rows : List (List ℕ)) (keeps : ℕ) (cells : List ℕ) → Kept file rows → PlanOut file rows keeps cells
+  plan-short : (rows : List (List ℕ)) (keeps : ℕ) (cells : List ℕ) → RowsKept file rows → PlanOut file rows keeps cells
       → length (tableWith file rows) ≤ length table → length plan < length cells → refusal ≡ refused reason.Room input.Lent (length cells)
       → SalvageTurned file table plan bad refusal
   bad-short : (rows : List (List ℕ)) (keeps : ℕ) (cells numbers : List ℕ) → Had file rows keeps cells numbers
@@ -157,7 +157,7 @@ pub record Same (file t p : List ℕ) (count : ℕ) (table plan bad table′ pla
 
 abbrev pub Unchanged : (file table plan bad table′ plan′ bad′ report′ : List ℕ) → Answer → Type 0
 Unchanged file table plan bad table′ plan′ bad′ report′ answer =
-    (t p : List ℕ) (x : Holds file t p) → length t ≤ length table → length p ≤ length plan
+    (t p : List ℕ) (x : FileHolds file t p) → length t ≤ length table → length p ≤ length plan
     → Same file t p (length (x .rows)) table plan bad table′ plan′ bad′ report′ answer
 
 -- "Kept rows are the original's, cell for cell, where sound blocks are as written": of a file that was written for a table and a plan, whatever
@@ -167,6 +167,6 @@ AsWritten file original = (k : ℕ) → k < whole original → SoundBlock file k
 
 abbrev pub Originals : (file table′ : List ℕ) → Answer → Type 0
 Originals file table′ answer =
-    (t p : List ℕ) (width : ℕ) (rows : List (List ℕ)) (tree : Plan width rows) → Words t → Words p → IsTable t width rows → write tree ≡ p
+    (t p : List ℕ) (width : ℕ) (rows : List (List ℕ)) (tree : Plan width rows) → AreWords t → AreWords p → IsTable t width rows → write tree ≡ p
     → AsWritten file (fileOf t p) → (m n : ℕ) → answer ≡ answered m n
     → (m ≤ length rows) × (take (2 + length (flatten (take m rows))) table′ ≡ width ∷ m ∷ flatten (take m rows))

@@ -25,7 +25,7 @@ abbrev pub goalIn : List ℕ → Job → List ℕ
 goalIn lent j = take (j .count) (drop (j .start) lent)
 
 -- "A refused goal's record holds number and place, with hits and tried 0": the four words that the call writes
-pub record Holds (after : Job) (number place hits tried : ℕ) : Type 0 where
+pub record JobHolds (after : Job) (number place hits tried : ℕ) : Type 0 where
   pub number-is : after .number ≡ number
   pub place-is : after .place ≡ place
   pub hits-is : after .hits ≡ hits
@@ -45,12 +45,12 @@ pub record OneJob (cells plan lent : List ℕ) {width : ℕ} {rows : List (List 
   pub start-stays : after .start ≡ j .start
   pub count-stays : after .count ≡ j .count
   -- "a start or count past the lent cells is that goal's LENGTH"
-  pub past : length lent < j .start + j .count → Holds after 1 0 0 0
+  pub past : length lent < j .start + j .count → JobHolds after 1 0 0 0
   -- "It equals asking one by one": the record is what a run of the goal by itself gives, in any room with a byte for each row
   pub equals : j .start + j .count ≤ length lent → (room room′ : List ℕ) (r : RunAnswer) → length rows ≤ length room
       → Ran cells plan (goalIn lent j) room room′ r → after ≡ entered j r room′
   pub refused : j .start + j .count ≤ length lent → (f : Refused) → goalOf width (goalIn lent j) ≡ refuse f
-      → Holds after (f .number) (f .place) 0 0
+      → JobHolds after (f .number) (f .place) 0 0
   pub answers : j .start + j .count ≤ length lent → IsGoal width (goalIn lent j) → JobAnswered tree (goalIn lent j) after
 
 -- the whole list. "Refusals: table and plan as in 01, for the whole call, no record touched"

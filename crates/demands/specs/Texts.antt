@@ -23,7 +23,7 @@ use Rattle.grammar.specs.Other.{OtherAmong}
 use Rattle.limits.specs.Limits.{mostTextBytes}
 
 -- the text is one, of one predicate and width, and its table and its names fit the rooms
-pub record Fits (text cells names : List ℕ) (facts : List Fact) : Type 0 where
+pub record TextFits (text cells names : List ℕ) (facts : List Fact) : Type 0 where
   pub bytes : length text ≤ mostTextBytes
   pub reading : Text text facts
   pub alike : OtherAmong text facts none
@@ -43,13 +43,13 @@ pub data TextTurned (text cells names : List ℕ) : Refused → Type 0 where
   no-names : (facts : List Fact) → length text ≤ mostTextBytes → Text text facts → OtherAmong text facts none
       → length (tableCells text facts) ≤ length cells → length names < length (nameList text facts)
       → TextTurned text cells names (refused reason.Room input.Lent (length (nameList text facts)))
-  no-table : (facts : List Fact) (refusal : Refused) → Fits text cells names facts → tableOf (tableCells text facts) ≡ refuse refusal
+  no-table : (facts : List Fact) (refusal : Refused) → TextFits text cells names facts → tableOf (tableCells text facts) ≡ refuse refusal
       → TextTurned text cells names refusal
 
 -- "A text of facts for one predicate becomes a table", and "a list of where each name first stands in the text, start and bytes, is given
 -- back"; refused as above, with nothing written to either room
 pub record Request201 (text cells names cells′ names′ : List ℕ) (answer : Answer) : Type 0 where
-  pub loads : (facts : List Fact) (width : ℕ) (rows : List (List ℕ)) → Fits text cells names facts
+  pub loads : (facts : List Fact) (width : ℕ) (rows : List (List ℕ)) → TextFits text cells names facts
       → IsTable (tableCells text facts) width rows
       → (answer ≡ answered (length (tableCells text facts)) (length (nameList text facts)))
       × (cells′ ≡ tableCells text facts ++ drop (length (tableCells text facts)) cells)
@@ -70,11 +70,11 @@ pub record Sizes (facts : List Fact) : Type 0 where
 abbrev pub startIn : ℕ → ℕ
 startIn entry = entry % 2 ^ 16
 
-abbrev pub bytesIn : ℕ → ℕ
-bytesIn entry = entry / 2 ^ 16
+abbrev pub listedBytes : ℕ → ℕ
+listedBytes entry = entry / 2 ^ 16
 
 abbrev pub endIn : ℕ → ℕ
-endIn entry = startIn entry + bytesIn entry
+endIn entry = startIn entry + listedBytes entry
 
 -- "Names are numbered from 0 in order of first appearance, and a list of where each name first stands in the text, start and bytes": each
 -- entry is where a name first stands, each name has an entry, and they stand in the order of the text

@@ -6,7 +6,7 @@
 ghost use Prim.Native.Nat.{ℕ};
 ghost use mathlib.Core.Path.{_≡_};
 ghost use lib.ListN.{length};
-ghost use Rattle.octets.specs.Octets.{Words};
+ghost use Rattle.octets.specs.Octets.{AreWords};
 ghost use Rattle.refusal.specs.Coded.{decoded};
 ghost use Rattle.table.specs.Table.{Table};
 ghost use Rattle.record.specs.Record.{Holds, tableIn};
@@ -277,7 +277,7 @@ fn request_build_liked(
 
 // What is lent as cells of 32 bits is that, and so can be read back.
 fn lent_words(cells: &[u32]) -> usize
-    ensures { λ r. ⌜ Words (now (cells .entry)) ⌝ }
+    ensures { λ r. ⌜ AreWords (now (cells .entry)) ⌝ }
 {
     count(cells)
 }

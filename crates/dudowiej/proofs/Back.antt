@@ -12,13 +12,14 @@ use Rattle.checker.specs.Checked.{planTold, planSays}
 use Rattle.least.specs.declared.By.the-variants.{Work}
 use Rattle.record.specs.Edits.{Edit}
 use Rattle.builder.specs.Build.{buildTold}
-use Rattle.goaltext.specs.Asked.{textTold}
+use Rattle.goaltext.specs.Asked.{goalTextTold}
 use Rattle.answerroom.specs.Room.{answerTold}
 use Rattle.answer.specs.Run.{runTold}
 use Rattle.dudowiej.specs.Coded.{rowSays, WorkCoded, EditSays, BuildSays, RunCoded, TextCoded, JobsCoded, RepliesCoded, ClausesCoded}
 use Rattle.dudowiej.specs.Coded.{GoalTextCoded, AnswerCoded}
 use Rattle.dudowiej.specs.Coded.{ReplyJobsCoded, cut, FileWriteCoded, FileReadCoded, salvageSays, SalvageCoded, BuildForCoded, LikedCoded}
-use Rattle.dudowiej.proofs.Small.{table-small, goal-with-small, row-small, plan-small, work-small, edit-small, build-small, liked-small, run-small, text-small, jobs-small, replies-small}
+use Rattle.dudowiej.proofs.Small.{table-small, goal-with-small, row-small, plan-small, work-small, edit-small, build-small, liked-small}
+use Rattle.dudowiej.proofs.Small.{run-small, text-small, jobs-small, replies-small}
 use Rattle.dudowiej.proofs.Small.{goal-text-small, reply-jobs-small, written-small, loaded-small, salvaged-small, under-small}
 use Rattle.answer.specs.declared.Job.{Job}
 use Rattle.instance.specs.Replied.{repliesTold}
@@ -63,7 +64,7 @@ pub text-back : {t cells names cells′ names′ : List ℕ} {n : ℕ} (x : Text
 text-back x = read-back (text-small (x .loaded)) (x .code)
 
 pub goal-text-back : {t names goal cells cells′ new new′ : List ℕ} {n : ℕ} (x : GoalTextCoded t names goal cells cells′ new new′ n)
-    → decoded n ≡ textTold (x .answer)
+    → decoded n ≡ goalTextTold (x .answer)
 goal-text-back x = read-back (goal-text-small (x .into)) (x .code)
 
 pub answer-back : {t names goal new cells room room′ : List ℕ} {n : ℕ} (x : AnswerCoded t names goal new cells room room′ n)

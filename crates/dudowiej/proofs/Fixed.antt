@@ -17,7 +17,7 @@ use Rattle.answer.specs.Run.{runTold}
 use Rattle.answer.specs.declared.RunAnswer.{RunAnswer}
 use Rattle.answer.proofs.Fixed.{run-fixed}
 use Rattle.loading.proofs.Fixed.{text-fixed}
-use Rattle.goaltext.specs.Asked.{textTold}
+use Rattle.goaltext.specs.Asked.{goalTextTold}
 use Rattle.goaltext.specs.declared.GoalText.{GoalText}
 use Rattle.goalroom.proofs.Fixed.{goal-into-fixed}
 use Rattle.answerroom.specs.Room.{answerTold}
@@ -87,7 +87,7 @@ pub goal-text-coded-fixed : {t names goal cells new cells′ new′ cells″ new
     → GoalTextCoded t names goal cells cells″ new new″ n → (m ≡ n) × (cells′ ≡ cells″) × (new′ ≡ new″)
 goal-text-coded-fixed a b =
     let f = goal-into-fixed (a .into) (b .into) in
-    (a .code ∙ ap (λ (x : GoalText). coded (textTold x)) (f .0) ∙ sym (b .code), f .1, f .2)
+    (a .code ∙ ap (λ (x : GoalText). coded (goalTextTold x)) (f .0) ∙ sym (b .code), f .1, f .2)
 
 pub answer-coded-fixed : {t names goal new cells room room′ room″ : List ℕ} {m n : ℕ} → AnswerCoded t names goal new cells room room′ m
     → AnswerCoded t names goal new cells room room″ n → (m ≡ n) × (room′ ≡ room″)

@@ -28,7 +28,7 @@ use Rattle.blocks.proofs.BlockLaws.{sound-most}
 use Rattle.filing.specs.Files.{needed, zeros, Card, card, sizes, tablePart, planPart, cardOf, fileRead}
 use Rattle.table.proofs.Accepted.{is-table}
 use Rattle.refusal.specs.Read.{Read, read, refuse, when, andThen}
-use Rattle.table.specs.Table.{Table, Met, met, counted, termsFrom, before, doubled, rowsFrom, tableOf, table, goalOf, goalWith, others, rowOf}
+use Rattle.table.specs.Table.{Table, Met, met, counted, termsFrom, rowBefore, doubled, rowsFrom, tableOf, table, goalOf, goalWith, others, rowOf}
 use Rattle.record.specs.Edits.{Edit, append, drop-last, replace, editOf}
 use Rattle.limits.specs.Limits.{mostPlanCells, mostTableCells}
 
@@ -85,7 +85,7 @@ placed-terms row (c ∷ xs) (suc owed) used vars p n e =
 abbrev pub Any : {A : Type 0} → A → Type 0
 Any x = Unit {0}
 
-placed-before : {n : ℕ} (r : List ℕ) {rs : Read (List (List ℕ))} → Placed n Any rs → Placed n Any (before r rs)
+placed-before : {n : ℕ} (r : List ℕ) {rs : Read (List (List ℕ))} → Placed n Any rs → Placed n Any (rowBefore r rs)
 placed-before r (good p) = good tt
 placed-before r (turned k i p l) = turned k i p l
 

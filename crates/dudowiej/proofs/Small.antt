@@ -70,7 +70,7 @@ use Rattle.goaltext.specs.Asked as goals
 use Rattle.goaltext.proofs.AskedLaws.{whole-text}
 use Rattle.goaltext.specs.declared.GoalText.{GoalText}
 use Rattle.goalroom.specs.Rooms as rooms
-use Rattle.goalroom.specs.Rooms.{Fits, GoalInto}
+use Rattle.goalroom.specs.Rooms.{GoalFits, GoalInto}
 use Rattle.goalroom.proofs.RoomLaws.{asked-few, no-goal-within, whole-long, first-within}
 use Rattle.shift.proofs.Fixed.{jobs-told}
 use Rattle.instance.specs.declared.ReplyJob.{ReplyJob}
@@ -262,7 +262,7 @@ pub text-small : {t cells names cells′ names′ : List ℕ} {a : Answer} → T
 text-small x = small-by (x .told) (load-small (x .rule))
 
 -- a goal's text has at most 65,533 bytes and its goal at most 32 cells, and a place in it is at most its end
-goal-turned-small : {text names : List ℕ} {p : Predicate} {t : List ℕ} {f : Refused} → goals.Asked text names p t (refuse f) → Small (turned f)
+goal-turned-small : {text names : List ℕ} {p : Predicate} {t : List ℕ} {f : Refused} → goals.AskedAs text names p t (refuse f) → Small (turned f)
 goal-turned-small (goals.too-many h) = refused-small reason.Length input.Table 0 (omega arith)
 goal-turned-small (goals.asked l (asking.too-long h)) = refused-small reason.Bytes input.Text 0 (omega arith)
 goal-turned-small (goals.asked l (asking.no-text {k = k} h s)) = refused-small reason.Text input.Text k (omega (arith, no-goal-within s))
@@ -270,14 +270,14 @@ goal-turned-small (goals.asked l (asking.other {f = f} h w n)) =
     refused-small reason.Other input.Text (f .start) (omega (arith, first-within (whole-text w), whole-long w))
 goal-turned-small {p = p} (goals.asked l (asking.no-goal {goal = g} h a e)) = placed-small (omega arith) (placed-goal (p .width) (g .cells)) e
 
-fits-small : {text names t : List ℕ} {c k : ℕ} {o : Read Goal} → Fits text names t c k o → Small (goals.said o)
+fits-small : {text names t : List ℕ} {c k : ℕ} {o : Read Goal} → GoalFits text names t c k o → Small (goals.said o)
 fits-small (rooms.not-read q a) = goal-turned-small a
 fits-small (rooms.no-cells {g = g} q a l) = refused-small reason.Room input.Lent (length (g .cells)) (omega (arith, asked-few a .0))
 fits-small (rooms.no-names {g = g} q a l m) = let n = asked-few a in refused-small reason.Room input.Lent (length (g .new)) (omega arith)
 fits-small (rooms.fits q a l m) = let n = asked-few a in (omega arith, omega arith)
 
 pub goal-text-small : {text names t cells cells′ new new′ : List ℕ} {r : GoalText} → GoalInto text names t cells cells′ new new′ r
-    → Small (goals.textTold r)
+    → Small (goals.goalTextTold r)
 goal-text-small x = small-by (x .answers .tells) (fits-small (x .rule))
 
 -- a list of goals answers what the check of the plan does

@@ -18,7 +18,7 @@ use Rattle.record.specs.Record.{cellsIn, Holds, tableIn}
 use Rattle.record.specs.Edits.{Edit, WorkedOut, Edited}
 use Rattle.loading.specs.Load.{TextLoads}
 use Rattle.goaltext.specs.declared.GoalText.{GoalText}
-use Rattle.goaltext.specs.Asked.{textTold}
+use Rattle.goaltext.specs.Asked.{goalTextTold}
 use Rattle.goalroom.specs.Rooms.{GoalInto}
 use Rattle.answerroom.specs.declared.AnswerText.{AnswerText}
 use Rattle.answerroom.specs.Room.{AnswerInto, answerTold}
@@ -92,7 +92,7 @@ pub record TextCoded (text cells names cells′ names′ : List ℕ) (number : �
 pub record GoalTextCoded (text names goal cells cells′ new new′ : List ℕ) (number : ℕ) : Type 0 where
   pub answer : GoalText
   pub into : GoalInto text names goal cells cells′ new new′ answer
-  pub code : number ≡ coded (textTold answer)
+  pub code : number ≡ coded (goalTextTold answer)
 
 -- what the entry for an answer's text answers and leaves in the room. The bytes fit their bits, for a listed name has 16 bits for its own
 pub record AnswerCoded (text names goal new cells room room′ : List ℕ) (number : ℕ) : Type 0 where

@@ -144,8 +144,8 @@ pub fn code_text(a: TextAnswer) -> u64
 }
 
 pub fn code_goal_text(a: GoalText) -> u64
-    requires { ⌜ Small (goals.textTold a) ⌝ }
-    ensures { λ r. ⌜ r ≡ coded (goals.textTold a) ⌝ }
+    requires { ⌜ Small (goals.goalTextTold a) ⌝ }
+    ensures { λ r. ⌜ r ≡ coded (goals.goalTextTold a) ⌝ }
 {
     match a {
         GoalText::Read(cells, new) => code_answer(cells, new),

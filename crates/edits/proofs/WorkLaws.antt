@@ -32,7 +32,8 @@ use Rattle.paircosts.proofs.PlainLaws.{plain-free, zero-free, free-filled}
 use Rattle.limits.specs.Limits.{keptCells, mostTableCells, recordCells}
 
 -- no column is named
-pub plain-filled : {m : Measure} {width : ℕ} {rows : List (List ℕ)} {old new : List ℕ} → Filled m (flagsIn width 0) width rows old new → Filled m [] width rows old new
+pub plain-filled : {m : Measure} {width : ℕ} {rows : List (List ℕ)} {old new : List ℕ} → Filled m (flagsIn width 0) width rows old new
+    → Filled m [] width rows old new
 plain-filled {width = width} f = free-filled (flagsIn width 0) [] (zero-free width) (plain-free width) f
 
 -- an array that is filled, and held 0 where there is no pair, is what is kept

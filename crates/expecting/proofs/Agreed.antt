@@ -11,7 +11,8 @@ use lib.Dec.{eqb, leb, ltb}
 use lib.ListN.{length}
 use borrow.Author.Tests.{leb-true, eqb-true, eqb-false, ne-eqb, lt-leb}
 use Rattle.grammar.specs.Grammar.{isLower, isUpper, isDigit, isWord, Blank, space, feed, return, name, variable, number, Fact}
-use Rattle.grammar.specs.Reader.{Mode, first, head, arg, word, minus, digits, after, closed, stop, between, remark, Frame, frame, Work, Next, dead, go, says, isBlank, layout, push, put, oneMore, limit, bitsAfter, step}
+use Rattle.grammar.specs.Reader.{Mode, first, head, arg, word, minus, digits, after, closed, stop, between, remark, Frame, frame, Work, Next, dead}
+use Rattle.grammar.specs.Reader.{go, says, isBlank, layout, push, put, oneMore, limit, bitsAfter, step}
 use Rattle.grammar.specs.Reader as R
 use Rattle.grammar.proofs.Complete.{or-true, and-true, upper-below, digit-below, not-lower, not-upper}
 use Rattle.grammar.proofs.Sound.{is-blank}
@@ -89,7 +90,8 @@ kept-push level f fs n z h = by (eqb (length fs + 1) level) refl
     by true e = (λ q. sym z, kept-over level fs 0 (omega (arith, eqb-true (length fs + 1) level e)))
     by false e = (λ q. absurd (eqb-false (length fs + 1) level e (omega arith)), h)
 
-kept-comma : (level : ℕ) (f : Frame) (fs : List Frame) (n : ℕ) → Kept level (f ∷ fs) n → Kept level (oneMore f ∷ fs) (cond (eqb (suc (length fs)) level) (n + 1) n)
+kept-comma : (level : ℕ) (f : Frame) (fs : List Frame) (n : ℕ) → Kept level (f ∷ fs) n
+    → Kept level (oneMore f ∷ fs) (cond (eqb (suc (length fs)) level) (n + 1) n)
 kept-comma level f fs n h = by (eqb (suc (length fs)) level) refl
   where
     by : (t : Bool) → eqb (suc (length fs)) level ≡ t → Kept level (oneMore f ∷ fs) (cond t (n + 1) n)
@@ -140,7 +142,8 @@ upper-digit b e =
 seen-word : (level : ℕ) (s : Stand) (d n b : ℕ) → isWord b ≡ true → seen level s d n b ≡ sight (worded s (termed b)) false d n
 unfolding seen
 seen-word level s d n b e =
-    rw (not-mark b 37 e (omega arith), not-blank b e, not-mark b 40 e (omega arith), not-mark b 41 e (omega arith), not-mark b 44 e (omega arith), not-mark b 45 e (omega arith), not-mark b 46 e (omega arith))
+    rw (not-mark b 37 e (omega arith), not-blank b e, not-mark b 40 e (omega arith), not-mark b 41 e (omega arith), not-mark b 44 e (omega arith),
+        not-mark b 45 e (omega arith), not-mark b 46 e (omega arith))
 
 seen-blank : (level : ℕ) (s : Stand) (d n : ℕ) {b : ℕ} → Blank b → seen level s d n b ≡ sight (rested s) false d n
 unfolding seen isBlank
@@ -165,15 +168,16 @@ module _ (level : ℕ) where
       (λ e. by-cond (eqb b 37) (λ q. rw q (on (record { same = h; comment = refl; depth = refl; kept = k; view = noted r }))) (λ q. none))
 
   on-comma : (w : Work) (s : Stand) (n : ℕ) (fs : List Frame) → Kept level fs n
-      → Steps level (seen level s (length fs) n 44) (R.comma (w .start) (w .end) (w .done) fs (w .out))
-  unfolding R.comma seen isBlank
+      → Steps level (seen level s (length fs) n 44) (R.onComma (w .start) (w .end) (w .done) fs (w .out))
+  unfolding R.onComma seen isBlank
   on-comma w s n [] k = on (record { same = refl; comment = refl; depth = refl; kept = tt; view = plain refl })
   on-comma w s n (f ∷ fs) k =
-      by-cond (ltb (f .done) 3) (λ e. on (record { same = refl; comment = refl; depth = refl; kept = kept-comma level f fs n k; view = plain refl })) (λ e. none)
+      by-cond (ltb (f .done) 3) (λ e. on (record { same = refl; comment = refl; depth = refl; kept = kept-comma level f fs n k; view = plain refl }))
+          (λ e. none)
 
   on-close : (w : Work) (s : Stand) (n : ℕ) (fs : List Frame) → Kept level fs n
-      → Steps level (seen level s (length fs) n 41) (R.close (w .start) (w .end) (w .done) fs (w .out))
-  unfolding R.close seen isBlank L.closed
+      → Steps level (seen level s (length fs) n 41) (R.onClose (w .start) (w .end) (w .done) fs (w .out))
+  unfolding R.onClose seen isBlank L.closed
   on-close w s n [] k = on (record { same = refl; comment = refl; depth = refl; kept = tt; view = plain refl })
   on-close w s n (f ∷ fs) k =
       let less : suc (length fs) - 1 ≡ length fs = omega arith in
@@ -191,10 +195,12 @@ module _ (level : ℕ) where
   steps-in : (m : Mode) (w : Work) (p n b : ℕ) → remarks m ≡ false → Kept level (w .opened) n
       → Steps level (seen level (standOf m) (length (w .opened)) n b) (step m w p b)
   unfolding step seen opened isBlank put push termed
-  steps-in first w p n b r k = by-cond (isLower b) (λ e. on-word (head p) w stand.First n b (lower-word b e) refl refl k) (λ e. on-layout first w stand.First n b refl refl k)
+  steps-in first w p n b r k =
+      by-cond (isLower b) (λ e. on-word (head p) w stand.First n b (lower-word b e) refl refl k) (λ e. on-layout first w stand.First n b refl refl k)
   steps-in (head s) w p n b r k =
       by-cond (isWord b) (λ e. on-word (head s) w stand.Head n b e refl refl k)
-      (λ e. by-cond (eqb b 40) (λ q. rw (eqb-true b 40 q) (on (record { same = refl; comment = refl; depth = refl; kept = tt; view = plain refl }))) (λ q. none))
+      (λ e. by-cond (eqb b 40) (λ q. rw (eqb-true b 40 q) (on (record { same = refl; comment = refl; depth = refl; kept = tt; view = plain refl })))
+          (λ q. none))
   steps-in arg w p n b r k =
       by-cond (isLower b) (λ e. on-word (word true p) w stand.Arg n b (lower-word b e) (rw e) refl k)
       (λ e. by-cond (isUpper b) (λ u. on-word (word false p) w stand.Arg n b (upper-word b u) (rw (e, upper-digit b u)) refl k)
@@ -204,14 +210,16 @@ module _ (level : ℕ) where
   steps-in (word true s) w p n b r k =
       by-cond (isWord b) (λ e. on-word (word true s) w stand.Name n b e refl refl k)
       (λ e. by-cond (eqb b 40)
-      (λ q. rw (eqb-true b 40 q) (on (record { same = refl; comment = refl; depth = add-one (length (w .opened)); kept = kept-push level (frame (length (w .out)) s p 0) (w .opened) n refl k; view = plain refl })))
+      (λ q. rw (eqb-true b 40 q) (on (record { same = refl; comment = refl; depth = add-one (length (w .opened)); kept =
+          kept-push level (frame (length (w .out)) s p 0) (w .opened) n refl k; view = plain refl })))
       (λ q. on-past (put (name s p 0) w) stand.Name n b refl k))
   steps-in (word false s) w p n b r k =
       by-cond (isWord b) (λ e. on-word (word false s) w stand.Variable n b e refl refl k) (λ e. on-past (put (variable s p) w) stand.Variable n b refl k)
   steps-in minus w p n b r k = by-cond (isDigit b) (λ e. on-word (digits true (b - 48)) w stand.Minus n b (digit-word b e) refl refl k) (λ e. none)
   steps-in (digits sign v) w p n b r k =
       by-cond (isDigit b)
-      (λ e. by-cond (leb (10 * v + (b - 48)) (limit sign)) (λ q. on-word (digits sign (10 * v + (b - 48))) w stand.Number n b (digit-word b e) refl refl k) (λ q. none))
+      (λ e. by-cond (leb (10 * v + (b - 48)) (limit sign))
+          (λ q. on-word (digits sign (10 * v + (b - 48))) w stand.Number n b (digit-word b e) refl refl k) (λ q. none))
       (λ e. on-past (put (number (bitsAfter sign v)) w) stand.Number n b refl k)
   steps-in after w p n b r k = on-past w stand.After n b refl k
   steps-in closed w p n b r k =
@@ -229,7 +237,8 @@ module _ (level : ℕ) where
       let e : glance level s b ≡ seen level (standOf m) (length (w .opened)) (s .commas) b = rw (a .comment ∙ r, a .same, a .depth) in
       rw e (steps-in m w p (s .commas) b r (a .kept))
 
-  inside : (m : Mode) (w : Work) (p b : ℕ) (s : Sight) → remarks m ≡ false → Agrees level (remark m) w s → Steps level (glance level s b) (step (remark m) w p b)
+  inside : (m : Mode) (w : Work) (p b : ℕ) (s : Sight) → remarks m ≡ false → Agrees level (remark m) w s
+      → Steps level (glance level s b) (step (remark m) w p b)
   unfolding glance step
   inside m w p b s r a =
       rw (a .comment)
@@ -248,10 +257,12 @@ module _ (level : ℕ) where
       → Agrees level m′ w′ (lookFrom level s xs)
   unfolding reach lookFrom
   look-agrees [] m w p s {m′} {w′} e a = let h : m ≡ m′ = cc in let k : w ≡ w′ = cc in rw (← h, ← k) a
-  look-agrees (b ∷ xs) m w p s {m′} {w′} e a = on-next (step m w p b) (steps m w p b s a) e (λ m″ w″ e′ a′. look-agrees xs m″ w″ (suc p) (glance level s b) e′ a′)
+  look-agrees (b ∷ xs) m w p s {m′} {w′} e a =
+      on-next (step m w p b) (steps m w p b s a) e (λ m″ w″ e′ a′. look-agrees xs m″ w″ (suc p) (glance level s b) e′ a′)
     where
       on-next : (n : Next) → Steps level (glance level s b) n → onward n (λ (m″ : Mode) (w″ : Work). reach xs m″ w″ (suc p)) ≡ here m′ w′
-          → ((m″ : Mode) (w″ : Work) → reach xs m″ w″ (suc p) ≡ here m′ w′ → Agrees level m″ w″ (glance level s b) → Agrees level m′ w′ (lookFrom level (glance level s b) xs))
+          → ((m″ : Mode) (w″ : Work) → reach xs m″ w″ (suc p) ≡ here m′ w′ → Agrees level m″ w″ (glance level s b)
+              → Agrees level m′ w′ (lookFrom level (glance level s b) xs))
           → Agrees level m′ w′ (lookFrom level (glance level s b) xs)
       on-next dead z q f = absurd (let o : _≡_ {A = ℕ} 0 1 = cc in omega arith)
       on-next (go m″ w″) (on z) q f = f m″ w″ q z

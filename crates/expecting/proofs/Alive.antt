@@ -9,7 +9,8 @@ use lib.Dec.{eqb, leb, ltb}
 use lib.ListN.{length}
 use borrow.Author.Tests.{ltb-true, ltb-false, eqb-true, le-leb, lt-leb, lt-ltb}
 use Rattle.grammar.specs.Grammar.{isLower, isUpper, isDigit, isWord, Symbol, name, variable, number}
-use Rattle.grammar.specs.Reader.{Mode, first, head, arg, word, minus, digits, after, closed, stop, between, remark, Frame, Work, work, Next, dead, go, says, isBlank, layout, put, limit, bitsAfter, step}
+use Rattle.grammar.specs.Reader.{Mode, first, head, arg, word, minus, digits, after, closed, stop, between, remark, Frame, Work, work, Next, dead}
+use Rattle.grammar.specs.Reader.{go, says, isBlank, layout, put, limit, bitsAfter, step}
 use Rattle.grammar.specs.Reader as R
 use Rattle.expecting.specs.declared.What.the-variants as what
 use Rattle.expecting.specs.Looking.{marks, whatOf}
@@ -42,7 +43,7 @@ past-full m w w′ b =
 
 past-alive : (s e d n b : ℕ) (fs : List Frame) (out : List Symbol) → Kept (length fs) fs n
     → alive (R.past (work s e d fs out) b) ≡ takes (marks (length fs) n) b
-unfolding R.past R.comma R.close
+unfolding R.past R.onComma R.onClose
 past-alive s e d n b [] out k = past-plain closed (work s e d [] out) _ _ b refl
 past-alive s e d n b (f ∷ fs) out k =
     let h = k .0 refl in

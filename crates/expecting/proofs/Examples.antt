@@ -57,6 +57,8 @@ cases =
     ∷ at "p(9a)." 3 "`,` or `)` is expected"
     ∷ []
 
-pub examples : map (λ (c : Case). toldOf (bytes (c .text)) (textOf (bytes (c .text)))) cases ≡ map (λ (c : Case). record { place = c .place; says = bytes (c .says) } ∷ []) cases
-unfolding cases bytes toldOf textOf run step finish layout isBlank push put R.comma R.close past isLower isUpper isDigit isWord termed opened closed seen glance lookFrom foundBy foundAt wantedAt whatWords foundWords
+pub examples : map (λ (c : Case). toldOf (bytes (c .text)) (textOf (bytes (c .text)))) cases
+    ≡ map (λ (c : Case). record { place = c .place; says = bytes (c .says) } ∷ []) cases
+unfolding cases bytes toldOf textOf run step finish layout isBlank push put R.onComma R.onClose past isLower isUpper isDigit isWord termed opened
+    closed seen glance lookFrom foundBy foundAt wantedAt whatWords foundWords
 examples = refl

@@ -7,7 +7,7 @@ use native.Mathlib.Nat.{add-zero}
 use native.Mathlib.Omega.{arith}
 use lib.ListN.{length}
 use Rattle.grammar.specs.Grammar.{Fact}
-use Rattle.grammar.specs.Reader.{Mode, Work, Next, dead, go, says, step, Out, stops, reads, before, run}
+use Rattle.grammar.specs.Reader.{Mode, Work, Next, dead, go, says, step, Out, stops, reads, factBefore, run}
 use Rattle.grammar.proofs.Sound.{clash}
 use Rattle.grammar.proofs.Viable.{mode-lives}
 use Rattle.expecting.specs.Expected.{lost, here, onward, reach}
@@ -18,10 +18,10 @@ pub record Reads (o : Out) : Type 0 where
   pub facts : List Fact
   pub is : o ≡ reads facts
 
-reads-before : (f : Fact) {o : Out} → Reads o → Reads (before f o)
-reads-before f r = record { facts = f ∷ r .facts; is = ap (before f) (r .is) }
+reads-before : (f : Fact) {o : Out} → Reads o → Reads (factBefore f o)
+reads-before f r = record { facts = f ∷ r .facts; is = ap (factBefore f) (r .is) }
 
-before-reads : (f : Fact) (o : Out) → Reads (before f o) → Reads o
+before-reads : (f : Fact) (o : Out) → Reads (factBefore f o) → Reads o
 before-reads f (stops k) r = record { facts = r .facts; is = r .is }
 before-reads f (reads fs) r = record { facts = fs; is = refl }
 
@@ -36,7 +36,8 @@ reads-on [] ys m w p r = (m, w, refl, rw (add-zero p) r)
 reads-on (b ∷ xs) ys m w p r = by (step m w p b) refl r (λ m′ w′. reads-on xs ys m′ w′ (suc p))
   where
     by : (n : Next) → step m w p b ≡ n → Reads (run ((b ∷ xs) ++ ys) m w p)
-        → ((m′ : Mode) (w′ : Work) → Reads (run (xs ++ ys) m′ w′ (suc p)) → (m″ : Mode) × (w″ : Work) × (reach xs m′ w′ (suc p) ≡ here m″ w″) × Reads (run ys m″ w″ (suc p + length xs)))
+        → ((m′ : Mode) (w′ : Work) → Reads (run (xs ++ ys) m′ w′ (suc p))
+            → (m″ : Mode) × (w″ : Work) × (reach xs m′ w′ (suc p) ≡ here m″ w″) × Reads (run ys m″ w″ (suc p + length xs)))
         → (m″ : Mode) × (w″ : Work) × (reach (b ∷ xs) m w p ≡ here m″ w″) × Reads (run ys m″ w″ (p + suc (length xs)))
     by dead e r f = stops-none (rw e at r)
     by (go m′ w′) e r f =
@@ -75,7 +76,8 @@ reach-more (c ∷ xs) m w p b {m′} {w′} e = by (step m w p c) refl e (λ m�
     q = omega arith
 
     by : (n : Next) → step m w p c ≡ n → reach (c ∷ xs) m w p ≡ here m′ w′
-        → ((m″ : Mode) (w″ : Work) → reach xs m″ w″ (suc p) ≡ here m′ w′ → reach (xs ++ (b ∷ [])) m″ w″ (suc p) ≡ onward (step m′ w′ (p + suc (length xs)) b) here)
+        → ((m″ : Mode) (w″ : Work) → reach xs m″ w″ (suc p) ≡ here m′ w′
+            → reach (xs ++ (b ∷ [])) m″ w″ (suc p) ≡ onward (step m′ w′ (p + suc (length xs)) b) here)
         → reach ((c ∷ xs) ++ (b ∷ [])) m w p ≡ onward (step m′ w′ (p + suc (length xs)) b) here
     by dead h e f = absurd (let z : lost ≡ here m′ w′ = rw h at e in let o : _≡_ {A = ℕ} 0 1 = cc in omega arith)
     by (go m″ w″) h e f = rw h (f m″ w″ (rw h at e))

@@ -8,7 +8,8 @@ use mathlib.Core.Logic.{_↔_}
 use lib.Dec.{eqb, leb, ltb}
 use lib.ListN.{length, take, drop}
 use Rattle.grammar.specs.Grammar.{Fact, Text}
-use Rattle.grammar.specs.Reader.{Mode, first, head, arg, word, minus, digits, after, closed, stop, between, remark, Work, nothing, isBlank, step, stops, reads, finish, run, textOf}
+use Rattle.grammar.specs.Reader.{Mode, first, head, arg, word, minus, digits, after, closed, stop, between, remark, Work, nothing, isBlank, step}
+use Rattle.grammar.specs.Reader.{stops, reads, finish, run, textOf}
 use Rattle.grammar.specs.Stops.{Begins}
 use Rattle.grammar.proofs.Sound.{clash}
 use Rattle.grammar.proofs.Accepted.{accepted}
@@ -141,11 +142,15 @@ module _ (t : List ℕ) (k : ℕ) {m : Mode} {w : Work} (e : reach (take k t) fi
 
   pub ahead-plain : remarks m ≡ false → ahead t k ≡ take k t
   unfolding ahead
-  ahead-plain r = let h : inComment false (take k t) ≡ false = sym (look-comment 0 (sight stand.First false 0 0) (take k t)) ∙ begins-agrees 0 .comment ∙ r in rw h
+  ahead-plain r =
+      let h : inComment false (take k t) ≡ false = sym (look-comment 0 (sight stand.First false 0 0) (take k t)) ∙ begins-agrees 0 .comment ∙ r in
+      rw h
 
   ahead-noted : remarks m ≡ true → ahead t k ≡ take k t ++ (10 ∷ [])
   unfolding ahead
-  ahead-noted r = let h : inComment false (take k t) ≡ true = sym (look-comment 0 (sight stand.First false 0 0) (take k t)) ∙ begins-agrees 0 .comment ∙ r in rw h
+  ahead-noted r =
+      let h : inComment false (take k t) ≡ true = sym (look-comment 0 (sight stand.First false 0 0) (take k t)) ∙ begins-agrees 0 .comment ∙ r in
+      rw h
 
   -- the look on the level of the innermost open name
   look-here : Sight

@@ -8,7 +8,8 @@ use mathlib.Core.Logic.{_↔_}
 use lib.Dec.{eqb, leb}
 use lib.ListN.{take, drop}
 use Rattle.grammar.specs.Grammar.{isLower, isUpper, isDigit, isWord, Blank, Fact, Text}
-use Rattle.grammar.specs.Reader.{Mode, first, head, arg, word, minus, digits, after, closed, stop, between, remark, Work, nothing, Next, dead, go, says, isBlank, limit, step}
+use Rattle.grammar.specs.Reader.{Mode, first, head, arg, word, minus, digits, after, closed, stop, between, remark, Work, nothing, Next, dead, go}
+use Rattle.grammar.specs.Reader.{says, isBlank, limit, step}
 use Rattle.grammar.specs.Stops.{Begins}
 use Rattle.expecting.specs.declared.What.{What}
 use Rattle.expecting.specs.declared.What.the-variants as what

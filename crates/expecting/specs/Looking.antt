@@ -78,8 +78,8 @@ unfoldable pub closed : ℕ → ℕ → Sight
 closed depth commas = cond (eqb depth 0) (sight stand.Closed false 0 commas) (sight stand.After false (depth - 1) commas)
 
 -- after `,`
-abbrev pub comma : ℕ → ℕ → ℕ → Sight
-comma level depth commas = sight stand.Arg false depth (cond (eqb depth level) (commas + 1) commas)
+abbrev pub afterComma : ℕ → ℕ → ℕ → Sight
+afterComma level depth commas = sight stand.Arg false depth (cond (eqb depth level) (commas + 1) commas)
 
 -- outside a comment. `%`, `(`, `)`, `,`, `-` and `.` are 37, 40, 41, 44, 45 and 46
 unfoldable pub seen : ℕ → Stand → ℕ → ℕ → ℕ → Sight
@@ -88,7 +88,7 @@ seen level s depth commas b =
     (cond (isBlank b) (sight (rested s) false depth commas)
     (cond (eqb b 40) (opened level s depth commas)
     (cond (eqb b 41) (closed depth commas)
-    (cond (eqb b 44) (comma level depth commas)
+    (cond (eqb b 44) (afterComma level depth commas)
     (cond (eqb b 45) (sight stand.Minus false depth commas)
     (cond (eqb b 46) (sight stand.Stop false 0 commas)
     (sight (worded s (termed b)) false depth commas)))))))

@@ -13,14 +13,14 @@ use borrow.Author.Tests.{eq-eqb, ne-eqb, eqb-true, eqb-false, le-ltb, ltb-false,
 use Rattle.refusal.specs.Read.{Read, read}
 use Rattle.table.proofs.ReadLaws.{passed}
 use Rattle.table.proofs.ReadLaws as reading
-use Rattle.octets.specs.Octets.{Words}
+use Rattle.octets.specs.Octets.{AreWords}
 use Rattle.plan.specs.Check.{planOf}
 use Rattle.blocks.specs.Blocks.{whole, good, goodCells}
 use Rattle.blocks.proofs.BlockLaws.{and-both, words-both}
-use Rattle.filing.specs.Files.{stream, needed, filled, zeros, Card, card, tableSize, planSize, sizes, tablePart, planPart, cardOf, fileRead}
+use Rattle.filing.specs.Files.{stream, needed, filledUp, zeros, Card, card, tableSize, planSize, sizes, tablePart, planPart, cardOf, fileRead}
 
 -- as many cells as the blocks that are needed have, and no more blocks than needed
-pub filled-size : (cells : List ℕ) → length (filled cells) ≡ 125 * needed (length cells)
+pub filled-size : (cells : List ℕ) → length (filledUp cells) ≡ 125 * needed (length cells)
 filled-size cells =
     omega (
       arith,
@@ -28,11 +28,11 @@ filled-size cells =
       length-replicate {A = ℕ} (125 * needed (length cells) - length cells) 0,
     )
 
-words-zeros : (n : ℕ) → Words (replicate n 0)
+words-zeros : (n : ℕ) → AreWords (replicate n 0)
 words-zeros zero = tt
 words-zeros (suc n) = (omega arith, words-zeros n)
 
-pub filled-words : (cells : List ℕ) → Words cells → Words (filled cells)
+pub filled-words : (cells : List ℕ) → AreWords cells → AreWords (filledUp cells)
 filled-words cells w = words-both cells (replicate (125 * needed (length cells) - length cells) 0) w (words-zeros (125 * needed (length cells) - length cells))
 
 -- zeros, as a test and as a list

@@ -14,12 +14,12 @@ use Rattle.table.proofs.ReadLaws.{passed}
 use Rattle.table.proofs.Accepted.{table-short}
 use Rattle.plan.specs.Check.{planOf, planFor, planWith}
 use Rattle.table.specs.Table.{Table, tableOf}
-use Rattle.octets.specs.Octets.{cellsOf, bytesOf, Bytes, Words}
+use Rattle.octets.specs.Octets.{cellsOf, bytesOf, Bytes, AreWords}
 use Rattle.octets.proofs.BytesLaws.{bytes-count, cells-back, bytes-back}
 use Rattle.octets.proofs.CellsLaws.{cells-count}
 use Rattle.blocks.specs.Blocks.{blocksFrom, soundFrom, cellsFrom, whole, good, goodCells}
 use Rattle.blocks.proofs.BlockLaws.{words-both, blocks-length, blocks-sound, blocks-words, blocks-again, sound-most, cells-size}
-use Rattle.filing.specs.Files.{stream, needed, filled, wordsFor, fileOf, zeros, Card, card}
+use Rattle.filing.specs.Files.{stream, needed, filledUp, wordsFor, fileOf, zeros, Card, card}
 use Rattle.filing.specs.Files.{tableSize, planSize, sizes, tablePart, planPart, cardOf, fileRead}
 use Rattle.filing.proofs.FileLaws.{filled-size, filled-words, zeros-yes, zeros-are, file-passes, card-passes, Passed, file-passed}
 use Rattle.filing.proofs.FileLaws.{sizes-are, rest-is, table-is, plan-is}
@@ -34,28 +34,28 @@ accepted-sizes t p e =
     (table-short t (a .1), ltb-false mostPlanCells (length p) (b .0))
 
 -- what is written is read: a table and a plan that the check accepts, of words of 32 bits
-pub there-and-back : (t p : List ℕ) {n : ℕ} → Words t → Words p → planOf t p ≡ read n → fileRead (fileOf t p) ≡ read (card t p)
+pub there-and-back : (t p : List ℕ) {n : ℕ} → AreWords t → AreWords p → planOf t p ≡ read n → fileRead (fileOf t p) ≡ read (card t p)
 there-and-back t p {n} v w e =
     let sz = accepted-sizes t p e in
     let s = stream t p in
     let k = needed (length s) in
     let rest : List ℕ = replicate (125 * k - length s) 0 in
     let l : length s ≡ 2 + (length t + length p) = omega (arith, length-append t p) in
-    let ws : Words s = (omega arith, (omega arith, words-both t p v w)) in
+    let ws : AreWords s = (omega arith, (omega arith, words-both t p v w)) in
     let W = wordsFor s in
-    let lw : length W ≡ 128 * k = blocks-length k 0 (filled s) (filled-size s) in
-    let back : cellsOf (bytesOf W) ≡ W = cells-back W (blocks-words k 0 (filled s) (omega arith) (filled-words s ws)) in
+    let lw : length W ≡ 128 * k = blocks-length k 0 (filledUp s) (filled-size s) in
+    let back : cellsOf (bytesOf W) ≡ W = cells-back W (blocks-words k 0 (filledUp s) (omega arith) (filled-words s ws)) in
     let lf : length (fileOf t p) ≡ 512 * k = omega (arith, bytes-count W) in
     let wh : whole (fileOf t p) - 0 ≡ k = omega arith in
-    let sd = blocks-sound k 0 (filled s) (filled-size s) in
+    let sd = blocks-sound k 0 (filledUp s) (filled-size s) in
     let g : good (fileOf t p) 0 ≡ k = rw (wh, back) (sd .0) in
-    let c : goodCells (fileOf t p) 0 ≡ filled s = rw (wh, back) (sd .1) in
-    let nd : needed (sizes (filled s)) ≡ k = ap needed (sizes-are t p rest) in
+    let c : goodCells (fileOf t p) 0 ≡ filledUp s = rw (wh, back) (sd .1) in
+    let nd : needed (sizes (filledUp s)) ≡ k = ap needed (sizes-are t p rest) in
     let tp = table-is t p rest in
     let pp = plan-is t p rest in
-    let z : zeros (drop (sizes (filled s)) (filled s)) ≡ true = ap zeros (rest-is t p rest) ∙ zeros-yes (125 * k - length s) in
-    let ok : planOf (tablePart (filled s)) (planPart (filled s)) ≡ read n = rw (tp, pp) e in
-    file-passes (fileOf t p) k (filled s) lf (omega arith) g c nd ∙ card-passes (filled s) z ok ∙ ap read (rw (tp, pp) refl)
+    let z : zeros (drop (sizes (filledUp s)) (filledUp s)) ≡ true = ap zeros (rest-is t p rest) ∙ zeros-yes (125 * k - length s) in
+    let ok : planOf (tablePart (filledUp s)) (planPart (filledUp s)) ≡ read n = rw (tp, pp) e in
+    file-passes (fileOf t p) k (filledUp s) lf (omega arith) g c nd ∙ card-passes (filledUp s) z ok ∙ ap read (rw (tp, pp) refl)
 
 -- the cells of a file that is read are its stream, filled up
 cut-three : (cells : List ℕ) → sizes cells ≤ length cells → stream (tablePart cells) (planPart cells) ++ drop (sizes cells) cells ≡ cells
@@ -100,8 +100,8 @@ back-again f c by e = go (file-passed f c e)
         let n : length (drop (sizes cells) cells) ≡ 125 * needed (length s) - length s = omega (arith, length-drop (sizes cells) cells, nk) in
         let zs : drop (sizes cells) cells ≡ replicate (125 * needed (length s) - length s) 0 =
         zeros-are (drop (sizes cells) cells) (p .padding) ∙ ap (λ (j : ℕ). replicate j 0) n in
-        let fl : filled s ≡ cells = ap (λ (l : List ℕ). s ++ l) (sym zs) ∙ three in
-        let words : wordsFor s ≡ W = ap (λ (j : ℕ). blocksFrom 0 j (filled s)) (nk ∙ sym k0) ∙ ap (blocksFrom 0 (k - 0)) fl ∙ again in
+        let fl : filledUp s ≡ cells = ap (λ (l : List ℕ). s ++ l) (sym zs) ∙ three in
+        let words : wordsFor s ≡ W = ap (λ (j : ℕ). blocksFrom 0 j (filledUp s)) (nk ∙ sym k0) ∙ ap (blocksFrom 0 (k - 0)) fl ∙ again in
         ap (λ (x : Card). fileOf (x .table) (x .plan)) (sym (p .is)) ∙ ap bytesOf words ∙ bytes-back f by (omega (arith, p .blocks))
 
 -- the sizes of what is read

@@ -14,7 +14,7 @@ use Rattle.octets.proofs.PutLaws.{put-length, put-whole, put-front}
 use Rattle.octets.proofs.BytesLaws.{bytes-count}
 use Rattle.blocks.specs.Blocks.{blockOf, blocksFrom}
 use Rattle.blocks.proofs.BlockLaws.{blocks-length}
-use Rattle.filing.specs.Files.{stream, needed, filled, wordsFor, fileOf, noRoom, FileWritten, room-short, written}
+use Rattle.filing.specs.Files.{stream, needed, filledUp, wordsFor, fileOf, noRoom, FileWritten, room-short, written}
 use Rattle.filing.proofs.FileLaws.{filled-size}
 use Rattle.limits.specs.Limits.{mostPlanCells, mostTableCells}
 
@@ -36,10 +36,10 @@ laid-blocks s m h l =
     let a = 125 * k - length s in
     let b = m - 125 * k in
     let e : m - length s ≡ a + b = omega arith in
-    let z : s ++ replicate (m - length s) 0 ≡ filled s ++ replicate b 0 =
+    let z : s ++ replicate (m - length s) 0 ≡ filledUp s ++ replicate b 0 =
     ap (λ (j : ℕ). s ++ replicate j 0) e ∙ ap (λ (l : List ℕ). s ++ l) (sym (replicate-append-replicate {A = ℕ} a b 0))
     ∙ sym (append-assoc s (replicate a 0) (replicate b 0)) in
-    ap (blocksFrom 0 k) z ∙ blocks-front k 0 (filled s) (replicate b 0) (filled-size s)
+    ap (blocksFrom 0 k) z ∙ blocks-front k 0 (filledUp s) (replicate b 0) (filled-size s)
 
 module _ (t p : List ℕ) (short : (length t ≤ mostTableCells) × (length p ≤ mostPlanCells)) where
   pub stream-size : length (stream t p) ≡ 2 + (length t + length p)
@@ -48,7 +48,7 @@ module _ (t p : List ℕ) (short : (length t ≤ mostTableCells) × (length p �
   pub file-size : length (fileOf t p) ≡ 512 * needed (length (stream t p))
   file-size =
       let s = stream t p in
-      omega (arith, bytes-count (wordsFor s), blocks-length (needed (length s)) 0 (filled s) (filled-size s))
+      omega (arith, bytes-count (wordsFor s), blocks-length (needed (length s)) 0 (filledUp s) (filled-size s))
 
   -- no file has more than 66 blocks
   pub file-few : (needed (length (stream t p)) ≤ 66) × (length (fileOf t p) ≤ 33792)

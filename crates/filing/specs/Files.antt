@@ -21,12 +21,12 @@ stream table plan = length table ∷ length plan ∷ (table ++ plan)
 abbrev pub needed : ℕ → ℕ
 needed cells = (cells + 124) / 125
 
-abbrev pub filled : List ℕ → List ℕ
-filled cells = cells ++ replicate (125 * needed (length cells) - length cells) 0
+abbrev pub filledUp : List ℕ → List ℕ
+filledUp cells = cells ++ replicate (125 * needed (length cells) - length cells) 0
 
 -- the words of the blocks, which are numbered from 0, and their bytes
 abbrev pub wordsFor : List ℕ → List ℕ
-wordsFor cells = blocksFrom 0 (needed (length cells)) (filled cells)
+wordsFor cells = blocksFrom 0 (needed (length cells)) (filledUp cells)
 
 abbrev pub fileOf : (table plan : List ℕ) → List ℕ
 fileOf table plan = bytesOf (wordsFor (stream table plan))

@@ -1,7 +1,8 @@
 -- The contracts of the thin functions whose result is a function f of the cells and the place, at any type R of the result:
 --     Plain R, plainly f     the cells and the place are the parameters
 --     Held R, heldly f       the parameter is a reader, which holds them
--- One walk proves all those of a kind: it meets such a contract c, and so every contract whose `ensures` E follows from c's (`Gives c E`), as a function's own does.
+-- One walk proves all those of a kind: it meets such a contract c, and so every contract whose `ensures` E follows from c's (`Gives c E`), as a
+-- function's own does.
 -- What such a walk asks of R is that its values are of its one MIR type τ, `Lands R τ`: `step-lands` for a `Step`, `number-lands` for a number.
 use mathlib.Core.Path.{_≡_, refl}
 use Prim.Native.Nat.{ℕ}

@@ -14,29 +14,29 @@ use Rattle.table.proofs.Accepted.{is-goal}
 use Rattle.grammar.specs.Grammar as G
 use Rattle.grammar.specs.Grammar.{Fact, OneFact, Facts, Text}
 use Rattle.grammar.proofs.LongLaws.{gap-place}
-use Rattle.loading.specs.Load.{front}
+use Rattle.loading.specs.Load.{putFirst}
 use Rattle.octets.specs.Octets.{Put}
 use Rattle.octets.proofs.PutLaws.{put-front}
 use Rattle.termtext.specs.Goal as asking
 use Rattle.termtext.specs.Goal.{Whole, NoGoal, Goal}
 use Rattle.termtext.specs.declared.Predicate.{Predicate}
 use Rattle.termtext.proofs.ListLaws.{new-fewer}
-use Rattle.goaltext.specs.Asked.{PredicateIs, Asked, asked, textTold, Answers, GoalAsked}
+use Rattle.goaltext.specs.Asked.{PredicateIs, AskedAs, asked, goalTextTold, Answers, GoalAsked}
 use Rattle.goaltext.specs.declared.GoalText.{GoalText}
 use Rattle.goaltext.specs.declared.GoalText.the-variants as goal-text
-use Rattle.goalroom.specs.Rooms.{Fits, not-read, no-cells, no-names, fits, GoalInto}
+use Rattle.goalroom.specs.Rooms.{GoalFits, not-read, no-cells, no-names, fits, GoalInto}
 
 -- a goal that was read: it stands at the front of the two arrays
 pub record Found (text names : List ℕ) (p : Predicate) (goal made list : List ℕ) (n k : ℕ) : Type 0 where
   pub is : Goal
-  pub rule : Asked text names p goal (read is)
+  pub rule : AskedAs text names p goal (read is)
   pub cells : n ≡ length (is .cells)
   pub new : k ≡ length (is .new)
   pub first : take n made ≡ is .cells
   pub listed : take k list ≡ is .new
   pub inside : (n ≤ length made) × (k ≤ length list)
 
-front-found : (xs room : List ℕ) {room′ : List ℕ} {n : ℕ} → n ≡ length xs → room′ ≡ front xs room
+front-found : (xs room : List ℕ) {room′ : List ℕ} {n : ℕ} → n ≡ length xs → room′ ≡ putFirst xs room
     → (take n room′ ≡ xs) × (n ≤ length room′)
 front-found xs room {n = n} e f =
     (ap (take n) f ∙ take-at xs (drop (length xs) room) n (sym e), omega (arith, ap length f, length-append xs (drop (length xs) room)))
@@ -45,10 +45,10 @@ module _ {text names : List ℕ} {p : Predicate} {goal : List ℕ} {made made′
   pub found : {n k : ℕ} → GoalAsked text names p goal made made′ list list′ r → r ≡ goal-text.Read n k → Found text names p goal made′ list′ n k
   found {n} {k} x e = by (x .says) (x .rule) (x .answers)
     where
-      by : (o : Read Goal) → Asked text names p goal o → Answers o made made′ list list′ r → Found text names p goal made′ list′ n k
+      by : (o : Read Goal) → AskedAs text names p goal o → Answers o made made′ list list′ r → Found text names p goal made′ list′ n k
       by (refuse f) a w = absurd (let t = w .tells in let z : _≡_ {A = ℕ} 0 1 = cc in omega arith)
       by (read g) a w =
-          let t = sym (ap textTold e) ∙ w .tells in
+          let t = sym (ap goalTextTold e) ∙ w .tells in
           let c : n ≡ length (g .cells) = cc in
           let m : k ≡ length (g .new) = cc in
           let u = front-found (g .cells) made c (w .wrote) in
@@ -61,25 +61,25 @@ module _ {text names : List ℕ} {p : Predicate} {goal : List ℕ} {made made′
       → GoalInto text names goal cells cells new new (goal-text.Refused f)
   is-refused {cells} {new} {f} q x e = by (x .says) (x .rule) (x .answers)
     where
-      by : (o : Read Goal) → Asked text names p goal o → Answers o made made′ list list′ r
+      by : (o : Read Goal) → AskedAs text names p goal o → Answers o made made′ list list′ r
           → GoalInto text names goal cells cells new new (goal-text.Refused f)
       by (read g) a w = absurd (let t = w .tells in let z : _≡_ {A = ℕ} 0 1 = cc in omega arith)
       by (refuse g) a w =
-          let t : turned (told f) ≡ turned g = sym (ap textTold e) ∙ w .tells in
+          let t : turned (told f) ≡ turned g = sym (ap goalTextTold e) ∙ w .tells in
           record { says = refuse g; rule = not-read q a; answers = record { tells = t; wrote = refl; listed = refl } }
 
 -- the rooms
 module _ {text names : List ℕ} {p : Predicate} {goal made list : List ℕ} {n k : ℕ} (q : PredicateIs text p) (x : Found text names p goal made list n k) where
-  short : {cells new : List ℕ} {r : GoalText} {need : ℕ} {f : Refused} → textTold r ≡ turned (refused reason.Room input.Lent need)
-      → f ≡ refused reason.Room input.Lent need → Fits text names goal (length cells) (length new) (refuse f)
+  short : {cells new : List ℕ} {r : GoalText} {need : ℕ} {f : Refused} → goalTextTold r ≡ turned (refused reason.Room input.Lent need)
+      → f ≡ refused reason.Room input.Lent need → GoalFits text names goal (length cells) (length new) (refuse f)
       → GoalInto text names goal cells cells new new r
   short {f = f} t e w = record { says = refuse f; rule = w; answers = record { tells = t ∙ ap turned (sym e); wrote = refl; listed = refl } }
 
-  pub short-cells : {cells new : List ℕ} {r : GoalText} → length cells < n → textTold r ≡ turned (refused reason.Room input.Lent n)
+  pub short-cells : {cells new : List ℕ} {r : GoalText} → length cells < n → goalTextTold r ≡ turned (refused reason.Room input.Lent n)
       → GoalInto text names goal cells cells new new r
   short-cells h t = short t (ap (λ (m : ℕ). refused reason.Room input.Lent m) (sym (x .cells))) (no-cells q (x .rule) (omega (arith, x .cells)))
 
-  pub short-names : {cells new : List ℕ} {r : GoalText} → n ≤ length cells → length new < k → textTold r ≡ turned (refused reason.Room input.Lent k)
+  pub short-names : {cells new : List ℕ} {r : GoalText} → n ≤ length cells → length new < k → goalTextTold r ≡ turned (refused reason.Room input.Lent k)
       → GoalInto text names goal cells cells new new r
   short-names h l t =
       short t (ap (λ (m : ℕ). refused reason.Room input.Lent m) (sym (x .new)))
@@ -98,7 +98,7 @@ module _ {text names : List ℕ} {p : Predicate} {goal made list : List ℕ} {n 
       }
 
 -- HOW LARGE what is answered can be: a goal has at most 32 cells, and no more new names than cells
-pub asked-few : {text names : List ℕ} {p : Predicate} {goal : List ℕ} {g : Goal} → Asked text names p goal (read g)
+pub asked-few : {text names : List ℕ} {p : Predicate} {goal : List ℕ} {g : Goal} → AskedAs text names p goal (read g)
     → (length (g .cells) ≤ 32) × (length (g .new) ≤ length (g .cells))
 asked-few {p = p} {g = g} (asked l (asking.is-goal b a e)) = (is-goal (p .width) (g .cells) e .0 .head .short, new-fewer a)
 

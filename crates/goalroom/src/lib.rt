@@ -5,7 +5,7 @@ ghost use mathlib.Core.Path.{_≡_};
 ghost use Rattle.refusal.specs.Refusal.{refused, turned};
 ghost use Rattle.refusal.specs.declared.Reason.the-variants as reason;
 ghost use Rattle.refusal.specs.declared.Input.the-variants as input;
-ghost use Rattle.goaltext.specs.Asked.{textTold};
+ghost use Rattle.goaltext.specs.Asked.{goalTextTold};
 ghost use Rattle.goalroom.specs.Rooms.{GoalInto};
 use goaltext::GoalText;
 use octets::cells::put_cells;
@@ -15,7 +15,7 @@ use refusal::Refusal;
 
 // A lent room that is too small: so many are needed.
 fn no_room(need: usize) -> GoalText
-    ensures { λ r. ⌜ textTold r ≡ turned (refused reason.Room input.Lent need) ⌝ }
+    ensures { λ r. ⌜ goalTextTold r ≡ turned (refused reason.Room input.Lent need) ⌝ }
 {
     GoalText::Refused(Refusal {
         reason: Reason::Room,

@@ -21,7 +21,7 @@ use Rattle.table.proofs.Accepted.{is-goal}
 use Rattle.grammar.specs.Grammar.{Symbol, number, Fact, Text}
 use Rattle.grammar.specs.Meaning.{Place, entryOf, widthOf, symbolsOf, namesOf, tableCells, nameList, none, found, otherIn, otherThan}
 use Rattle.grammar.specs.Numbering as numbering
-use Rattle.grammar.specs.Numbering.{Words, wordsAt, Firsts, Row, Rows}
+use Rattle.grammar.specs.Numbering.{Words, wordsAt, Firsts, NumberedRow, Rows}
 use Rattle.grammar.specs.Taken.{Taken, too-long, no-text, other-fact, taken}
 use Rattle.grammar.proofs.Accepted.{unique, not-both}
 use Rattle.grammar.proofs.LongLaws.{text-long, names-few}
@@ -44,7 +44,7 @@ use Rattle.termtext.specs.declared.Predicate.{Predicate}
 use Rattle.termtext.proofs.LieLaws.{goal-lies}
 use Rattle.termtext.proofs.ListLaws.{firsts-in, listed-words, new-fewer}
 use Rattle.termtext.proofs.RenumberLaws.{new-few, new-numbered, goal-new}
-use Rattle.goaltext.specs.Asked.{Asked, too-many, asked, textTold, Answers, GoalAsked}
+use Rattle.goaltext.specs.Asked.{AskedAs, too-many, asked, goalTextTold, Answers, GoalAsked}
 use Rattle.goaltext.specs.code.Steps.{NameIs, Same, NamesNumbered, FactAsked, Reads}
 use Rattle.goaltext.specs.declared.GoalText.{GoalText}
 use Rattle.goaltext.specs.declared.GoalText.the-variants as goal-text
@@ -94,12 +94,12 @@ module _ (t whole : List ℕ) (f : Fact) (w : Whole t whole (f ∷ [])) (few : l
   unfolding nameList
   own-words = listed-words whole (length t) own (omega arith) (firsts-in whole (length t) (goal-lies w) own-firsts)
 
-  own-row : (row : List ℕ) → tableCells whole (f ∷ []) ≡ f .width ∷ 1 ∷ row → Row whole (wordsAt whole own) [] (f .symbols) row
+  own-row : (row : List ℕ) → tableCells whole (f ∷ []) ≡ f .width ∷ 1 ∷ row → NumberedRow whole (wordsAt whole own) [] (f .symbols) row
   unfolding widthOf
   own-row row e = by (cells-are whole (f ∷ []) row .1 e)
     where
-      by : {cs : List ℕ} → Rows whole own (f ∷ []) cs → Row whole (wordsAt whole own) [] (f .symbols) cs
-      by (numbering.more {row = r} a numbering.none q) = subst (Row whole (wordsAt whole own) [] (f .symbols)) (sym (q ∙ append-nil r)) a
+      by : {cs : List ℕ} → Rows whole own (f ∷ []) cs → NumberedRow whole (wordsAt whole own) [] (f .symbols) cs
+      by (numbering.more {row = r} a numbering.none q) = subst (NumberedRow whole (wordsAt whole own) [] (f .symbols)) (sym (q ∙ append-nil r)) a
 
   one-asks : (words : Words) (predicate : List ℕ) (width : ℕ) (row numbers : List ℕ) → Ours predicate width whole f []
       → tableCells whole (f ∷ []) ≡ f .width ∷ 1 ∷ row → length words ≤ mostNames
@@ -130,7 +130,7 @@ module _ (text names : List ℕ) (p : Predicate) (t whole : List ℕ) (few : len
   words = wordsIn text names
 
   turns : {cells new : List ℕ} {r : GoalText} {g : Refused} → GoalRead words (predicateIn text p) (p .width) t (refuse g)
-      → textTold r ≡ turned g
+      → goalTextTold r ≡ turned g
       → Reads text names p t cells cells new new r
   turns {g = g} x e = record { says = refuse g; rule = x; answers = record { tells = e; wrote = refl; listed = refl } }
 
@@ -160,14 +160,14 @@ module _ (text names : List ℕ) (p : Predicate) (t whole : List ℕ) (few : len
 
     -- OTHER
     other-at : (f : Fact) (fs : List Fact) {cells new : List ℕ} {r : GoalText} → Whole t whole (f ∷ fs)
-        → (Ours (predicateIn text p) (p .width) whole f fs → ⊥) → textTold r ≡ turned (refused reason.Other input.Text (s .start))
+        → (Ours (predicateIn text p) (p .width) whole f fs → ⊥) → goalTextTold r ≡ turned (refused reason.Other input.Text (s .start))
         → Reads text names p t cells cells new new r
     other-at f fs w n e =
         let z = N f fs (whole-text w) .0 in
         turns (goal.other short w n) (e ∙ ap (λ (k : ℕ). turned (refused reason.Other input.Text k)) z)
 
     pub other-reads : {c : Counted} {fs : List Fact} {cells new : List ℕ} {r : GoalText} → Whole t whole fs → Counts whole c
-        → (Same text p whole s c → ⊥) → textTold r ≡ turned (refused reason.Other input.Text (s .start))
+        → (Same text p whole s c → ⊥) → goalTextTold r ≡ turned (refused reason.Other input.Text (s .start))
         → Reads text names p t cells cells new new r
     other-reads {fs = fs} w C n e =
         let x = whole-text w in
@@ -177,7 +177,7 @@ module _ (text names : List ℕ) (p : Predicate) (t whole : List ℕ) (few : len
         (λ O. n (ours-same (o .0) (o .1 .0) C q (subst (Text whole) (o .1 .1) x) O)) e
 
     pub refused-reads : (g : Refused) {fs : List Fact} {cells new : List ℕ} {r : GoalText} → Whole t whole fs → Taken whole (refuse g)
-        → textTold r ≡ turned (refused reason.Other input.Text (s .start)) → Reads text names p t cells cells new new r
+        → goalTextTold r ≡ turned (refused reason.Other input.Text (s .start)) → Reads text names p t cells cells new new r
     unfolding otherIn otherThan
     refused-reads g {fs} {cells} {new} {r} w k e = by k refl
       where
@@ -230,7 +230,7 @@ module _ (text names : List ℕ) (p : Predicate) (t whole : List ℕ) (few : len
     -- a goal of over 2,048 symbols
     one-long : (f : Fact) {cells new : List ℕ} {r : GoalText} → length names ≤ mostNames → Whole t whole (f ∷ [])
         → Ours (predicateIn text p) (p .width) whole f [] → mostNames < length (symbolsOf (f ∷ []))
-        → textTold r ≡ turned (refused reason.Length input.Goal 0)
+        → goalTextTold r ≡ turned (refused reason.Length input.Goal 0)
         → Reads text names p t cells cells new new r
     one-long f h w o l e =
         let made = one-cells t whole f w few short in
@@ -263,7 +263,7 @@ module _ (text names : List ℕ) (p : Predicate) (t whole : List ℕ) (few : len
 
     pub long-reads : {c : Counted} {fs : List Fact} {cells new : List ℕ} {r : GoalText} (C : Counts whole c) → length names ≤ mostNames
         → Whole t whole fs
-        → Same text p whole s c → mostNames < c .symbols → textTold r ≡ turned (refused reason.Length input.Goal 0)
+        → Same text p whole s c → mostNames < c .symbols → goalTextTold r ≡ turned (refused reason.Length input.Goal 0)
         → Reads text names p t cells cells new new r
     long-reads C h w S l e =
         let o = counted-one C (S .one) w in
@@ -394,6 +394,6 @@ module _ (text names : List ℕ) (p : Predicate) (t cells cells′ new new′ : 
             ap length (x .listed) ∙ front-kept (o .new) new (omega arith) ∙ m,
           )
 
-      by : {o : Read Goal} → Asked text names p t o → Answers o cells cells′ new new′ r → (length cells′ ≡ 32) × (length new′ ≡ 32)
+      by : {o : Read Goal} → AskedAs text names p t o → Answers o cells cells′ new new′ r → (length cells′ ≡ 32) × (length new′ ≡ 32)
       by (too-many h) x = nothing x
       by (asked h g) x = on g x

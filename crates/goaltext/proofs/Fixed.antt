@@ -8,12 +8,12 @@ use Rattle.refusal.specs.Refusal.{told}
 use Rattle.refusal.specs.Read.{Read}
 use Rattle.refusal.proofs.RefusalLaws.{told-one}
 use Rattle.grammar.proofs.Fixed.{taken-fixed}
-use Rattle.loading.specs.Load.{front}
+use Rattle.loading.specs.Load.{putFirst}
 use Rattle.termtext.specs.Saying.{wordsIn, predicateIn}
 use Rattle.termtext.specs.Goal.{Goal}
 use Rattle.termtext.specs.declared.Predicate.{Predicate}
 use Rattle.termtext.proofs.One.{read-one}
-use Rattle.goaltext.specs.Asked.{predicateOf, PredicateIs, first, none, Asked, too-many, asked, said, textTold, cellsOf, newOf}
+use Rattle.goaltext.specs.Asked.{predicateOf, PredicateIs, first, none, AskedAs, too-many, asked, said, goalTextTold, goalCells, newOf}
 use Rattle.goaltext.specs.Asked.{GoalAsked}
 use Rattle.goaltext.specs.declared.GoalText.{GoalText}
 use Rattle.goaltext.specs.declared.GoalText.the-variants as goal-text
@@ -24,14 +24,14 @@ predicate-of-fixed {t} (first x) (none y) = absurd (let e = taken-fixed t x y in
 predicate-of-fixed {t} (none x) (first y) = absurd (let e = taken-fixed t x y in let z : _≡_ {A = ℕ} 0 1 = cc in omega arith)
 predicate-of-fixed (none x) (none y) = refl
 
-pub told-text : (a b : GoalText) → textTold a ≡ textTold b → a ≡ b
+pub told-text : (a b : GoalText) → goalTextTold a ≡ goalTextTold b → a ≡ b
 told-text (goal-text.Read c n) (goal-text.Read d m) e = cc
 told-text (goal-text.Read c n) (goal-text.Refused g) e = absurd (let z : _≡_ {A = ℕ} 0 1 = cc in omega arith)
 told-text (goal-text.Refused f) (goal-text.Read d m) e = absurd (let z : _≡_ {A = ℕ} 0 1 = cc in omega arith)
 told-text (goal-text.Refused f) (goal-text.Refused g) e = let q : told f ≡ told g = cc in ap goal-text.Refused (told-one q)
 
-pub asked-one : {text names : List ℕ} {p : Predicate} {goal : List ℕ} {a b : Read Goal} → Asked text names p goal a
-    → Asked text names p goal b → a ≡ b
+pub asked-one : {text names : List ℕ} {p : Predicate} {goal : List ℕ} {a b : Read Goal} → AskedAs text names p goal a
+    → AskedAs text names p goal b → a ≡ b
 asked-one (too-many h) (too-many k) = refl
 asked-one (too-many h) (asked k y) = absurd (omega arith)
 asked-one (asked h x) (too-many k) = absurd (omega arith)
@@ -45,6 +45,6 @@ read-goal-fixed {cells = cells} {new = new} {r = r} {s = s} x y =
     let a = x .answers in
     let b = y .answers in (
       told-text r s (a .tells ∙ ap said e ∙ sym (b .tells)),
-      a .wrote ∙ ap (λ (o : Read Goal). front (cellsOf o) cells) e ∙ sym (b .wrote),
-      a .listed ∙ ap (λ (o : Read Goal). front (newOf o) new) e ∙ sym (b .listed),
+      a .wrote ∙ ap (λ (o : Read Goal). putFirst (goalCells o) cells) e ∙ sym (b .wrote),
+      a .listed ∙ ap (λ (o : Read Goal). putFirst (newOf o) new) e ∙ sym (b .listed),
     )

@@ -6,7 +6,7 @@ use mathlib.Core.List.{List, [], _∷_}
 use native.Mathlib.Omega.{arith}
 use lib.ListN.{length, take, length-append}
 use lib.Seq.{slice, take-at, take-all}
-use Rattle.refusal.specs.Refusal.{Refused, told, numberOf}
+use Rattle.refusal.specs.Refusal.{Refused, told, reasonNumber}
 use Rattle.refusal.specs.Read.{Read, read, refuse}
 use Rattle.refusal.specs.declared.Refusal.{Refusal}
 use Rattle.grammar.specs.Grammar.{Fact, Text}
@@ -89,7 +89,7 @@ ends-facts t c C = by (C .taken)
     by (taken h x e) = (C .facts, x)
 
 module _ (t : List ℕ) (f : Refusal) (few : length t ≤ mostTextBytes) where
-  pub ends-stop : ScanIs t (scan.Refused f) → numberOf (f .reason) ≡ 18 → EndsAre t (ends.Stop (f .place))
+  pub ends-stop : ScanIs t (scan.Refused f) → reasonNumber (f .reason) ≡ 18 → EndsAre t (ends.Stop (f .place))
   ends-stop s n = by (scan-turned t f s) refl
     where
       by : {o : Read (List Fact)} → Taken t o → o ≡ refuse (told f) → Stops t (f .place)
@@ -106,7 +106,7 @@ module _ (t : List ℕ) (f : Refusal) (few : length t ≤ mostTextBytes) where
           number (refuse r) = r .number
       by (taken h x y) e = absurd (let z : _≡_ {A = ℕ} 0 1 = cc in omega arith)
 
-  pub ends-other : ScanIs t (scan.Refused f) → (numberOf (f .reason) ≡ 18 → ⊥) → EndsAre t ends.Whole
+  pub ends-other : ScanIs t (scan.Refused f) → (reasonNumber (f .reason) ≡ 18 → ⊥) → EndsAre t ends.Whole
   ends-other s n = by (scan-turned t f s) refl
     where
       number : Read (List Fact) → ℕ

@@ -9,7 +9,7 @@ use Rattle.refusal.specs.declared.Reason.the-variants as reason
 use Rattle.refusal.specs.declared.Input.the-variants as input
 use Rattle.grammar.specs.Grammar.{Fact}
 use Rattle.grammar.specs.Taken.{Taken}
-use Rattle.loading.specs.Load.{front}
+use Rattle.loading.specs.Load.{putFirst}
 use Rattle.termtext.specs.Saying.{wordsIn, predicateIn}
 use Rattle.termtext.specs.Goal.{Goal, GoalRead}
 use Rattle.termtext.specs.declared.Predicate.{Predicate}
@@ -27,24 +27,24 @@ pub data PredicateIs (t : List ℕ) : Predicate → Type 0 where
   none : {g : Refused} → Taken t (refuse g) → PredicateIs t (record { start = 0; end = 0; width = 0 })
 
 -- no table has over 2,048 names (01, LENGTH): a list with more is refused as that table is
-pub data Asked (text names : List ℕ) (p : Predicate) (goal : List ℕ) : Read Goal → Type 0 where
-  too-many : mostNames < length names → Asked text names p goal (refuse (refused reason.Length input.Table 0))
+pub data AskedAs (text names : List ℕ) (p : Predicate) (goal : List ℕ) : Read Goal → Type 0 where
+  too-many : mostNames < length names → AskedAs text names p goal (refuse (refused reason.Length input.Table 0))
   asked : {says : Read Goal} → length names ≤ mostNames → GoalRead (wordsIn text names) (predicateIn text p) (p .width) goal says
-      → Asked text names p goal says
+      → AskedAs text names p goal says
 
 -- how many cells it has, and how many names that the table has not; or why it is turned away
 abbrev pub said : Read Goal → Answer
 said (read g) = answered (length (g .cells)) (length (g .new))
 said (refuse f) = turned f
 
-abbrev pub textTold : GoalText → Answer
-textTold (goal-text.Read cells new) = answered cells new
-textTold (goal-text.Refused f) = turned (told f)
+abbrev pub goalTextTold : GoalText → Answer
+goalTextTold (goal-text.Read cells new) = answered cells new
+goalTextTold (goal-text.Refused f) = turned (told f)
 
 -- what is written of a goal; and of a refusal, nothing
-abbrev pub cellsOf : Read Goal → List ℕ
-cellsOf (read g) = g .cells
-cellsOf (refuse f) = []
+abbrev pub goalCells : Read Goal → List ℕ
+goalCells (read g) = g .cells
+goalCells (refuse f) = []
 
 abbrev pub newOf : Read Goal → List ℕ
 newOf (read g) = g .new
@@ -52,12 +52,12 @@ newOf (refuse f) = []
 
 -- each at the front of its room, the rest of which is kept
 pub record Answers (says : Read Goal) (cells cells′ new new′ : List ℕ) (r : GoalText) : Type 0 where
-  pub tells : textTold r ≡ said says
-  pub wrote : cells′ ≡ front (cellsOf says) cells
-  pub listed : new′ ≡ front (newOf says) new
+  pub tells : goalTextTold r ≡ said says
+  pub wrote : cells′ ≡ putFirst (goalCells says) cells
+  pub listed : new′ ≡ putFirst (newOf says) new
 
 -- "the reading of a goal against a list of names": a goal's text, by the names of a text of facts and its predicate
 pub record GoalAsked (text names : List ℕ) (p : Predicate) (goal cells cells′ new new′ : List ℕ) (r : GoalText) : Type 0 where
   pub says : Read Goal
-  pub rule : Asked text names p goal says
+  pub rule : AskedAs text names p goal says
   pub answers : Answers says cells cells′ new new′ r

@@ -8,7 +8,7 @@ ghost use lib.ListN.{length};
 ghost use Rattle.refusal.specs.Refusal.{refused, turned};
 ghost use Rattle.refusal.specs.declared.Reason.{Reason};
 ghost use Rattle.refusal.specs.declared.Input.{Input};
-ghost use Rattle.goaltext.specs.Asked.{PredicateIs, textTold, GoalAsked};
+ghost use Rattle.goaltext.specs.Asked.{PredicateIs, goalTextTold, GoalAsked};
 ghost use Rattle.goaltext.specs.code.Steps.{NameIs, EndsAre, SizeIs, OursIs, FactAsked, TextAsked, StoppedAsked};
 ghost use Rattle.limits.specs.Limits.{mostGoalBytes, mostNames, mostTextBytes};
 use lex::fact::Head;
@@ -63,7 +63,7 @@ pub enum GoalText {
 }
 
 fn refuse(reason: Reason, input: Input, place: usize) -> GoalText
-    ensures { λ r. ⌜ textTold r ≡ turned (refused reason input place) ⌝ }
+    ensures { λ r. ⌜ goalTextTold r ≡ turned (refused reason input place) ⌝ }
 {
     GoalText::Refused(Refusal {
         reason,

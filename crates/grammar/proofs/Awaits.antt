@@ -12,7 +12,8 @@ use lib.ListN.{length, set}
 use Rattle.grammar.specs.Grammar.{isLower, isUpper, isDigit, isWord, Symbol, name, variable, number, Fact}
 use Rattle.grammar.specs.Meaning.{symbolsOf}
 use Rattle.grammar.specs.Reader.{Mode, first, head, arg, word, minus, digits, after, closed, stop, between, remark}
-use Rattle.grammar.specs.Reader.{Frame, Work, work, nothing, Next, dead, go, says, isBlank, layout, push, put, comma, close, past, symbol, limit, bitsAfter, step, Out, stops, reads, before, finish, run, textOf}
+use Rattle.grammar.specs.Reader.{Frame, Work, work, nothing, Next, dead, go, says, isBlank, layout, push, put, onComma, onClose, past, symbol}
+use Rattle.grammar.specs.Reader.{limit, bitsAfter, step, Out, stops, reads, factBefore, finish, run, textOf}
 use Rattle.grammar.specs.Numbers.{TermNext}
 use Rattle.grammar.proofs.Complete.{text-read}
 use Rattle.grammar.proofs.Sound.{clash}
@@ -20,11 +21,11 @@ use Rattle.grammar.proofs.Sound.{clash}
 -- the facts that some bytes complete, and then what is read
 abbrev pub said : List Fact → Out → Out
 said [] o = o
-said (f ∷ fs) o = before f (said fs o)
+said (f ∷ fs) o = factBefore f (said fs o)
 
 pub said-stops : (fs : List Fact) (k : ℕ) → said fs (stops k) ≡ stops k
 said-stops [] k = refl
-said-stops (f ∷ fs) k = ap (before f) (said-stops fs k)
+said-stops (f ∷ fs) k = ap (factBefore f) (said-stops fs k)
 
 -- NO NAME STARTS AT p: among symbols, among the open names, in a mode
 record NoName (p : ℕ) (ss : List Symbol) : Type 0 where
@@ -110,16 +111,16 @@ kept-layout : {p : ℕ} {m : Mode} {w : Work} (b : ℕ) → Free p m w → Kept 
 unfolding layout
 kept-layout {m = m} b f = kept-if (isBlank b) (goes f) (kept-if (eqb b 37) (goes (free-in {n = remark m} (f .mode) f)) dies)
 
-kept-comma : {p : ℕ} (s n k : ℕ) (fs : List Frame) (out : List Symbol) → Apart p fs → NoName p out → Kept p (comma s n k fs out)
-unfolding comma
+kept-comma : {p : ℕ} (s n k : ℕ) (fs : List Frame) (out : List Symbol) → Apart p fs → NoName p out → Kept p (onComma s n k fs out)
+unfolding onComma
 kept-comma s n k [] out a f = goes (record { mode = tt; out = f; open′ = tt })
 kept-comma {p} s n k (x ∷ fs) out a f =
     kept-if (ltb (x .done) 3)
     (goes (record { mode = tt; out = no-set (x .owner) _ (named-other p (x .start) (x .end) (suc (x .done)) (a .0)) f; open′ = a }))
     dies
 
-kept-close : {p : ℕ} (s n k : ℕ) (fs : List Frame) (out : List Symbol) → Apart p fs → NoName p out → Kept p (close s n k fs out)
-unfolding close
+kept-close : {p : ℕ} (s n k : ℕ) (fs : List Frame) (out : List Symbol) → Apart p fs → NoName p out → Kept p (onClose s n k fs out)
+unfolding onClose
 kept-close s n k [] out a f = goes (record { mode = tt; out = f; open′ = tt })
 kept-close {p} s n k (x ∷ fs) out a f =
     goes (record { mode = tt; out = no-set (x .owner) _ (named-other p (x .start) (x .end) (suc (x .done)) (a .0)) f; open′ = a .1 })
@@ -170,7 +171,7 @@ kept p q b between w f n = kept-if (isLower b) (goes (free-in {n = head q} tt f)
 kept p q b (remark m) w f n = kept-if (eqb b 10) (goes (free-in {n = m} (f .mode) f)) (goes f)
 
 -- WHAT IS READ from there on has none either
-before-reads : (f : Fact) (o : Out) (F : List Fact) → before f o ≡ reads F → (G : List Fact) × (o ≡ reads G) × (F ≡ f ∷ G)
+before-reads : (f : Fact) (o : Out) (F : List Fact) → factBefore f o ≡ reads F → (G : List Fact) × (o ≡ reads G) × (F ≡ f ∷ G)
 before-reads f (stops k) F e = clash e
 before-reads f (reads G) F e = (G, refl, let z : F ≡ f ∷ G = cc in z)
 
@@ -235,7 +236,7 @@ after-says : {b : ℕ} {u : List ℕ} {t : Fact} {m n : Mode} {w v : Work} {q : 
 unfolding run
 after-says {u = u} {t = t} {q = q} h a =
     let e : q + suc (length u) ≡ suc q + length u = omega arith in
-    record { facts = t ∷ a .facts; work′ = a .work′; on = λ z. rw (h, e) (ap (before t) (a .on z)) }
+    record { facts = t ∷ a .facts; work′ = a .work′; on = λ z. rw (h, e) (ap (factBefore t) (a .on z)) }
 
 module _ (p e a : ℕ) (rest : List ℕ) where
   begun : (u : List ℕ) (m : Mode) (w : Work) (q : ℕ) (F : List Fact) → q + length u ≡ p → Free p m w → run (u ++ rest) m w q ≡ reads F

@@ -10,8 +10,11 @@ use lib.ListN.{length, set}
 use lib.Seq.{set-append-seam}
 use borrow.Author.Tests.{leb-true, le-leb, lt-leb, lt-ltb, eqb-true, ne-eqb}
 use Rattle.grammar.specs.Grammar as G
-use Rattle.grammar.specs.Grammar.{isLower, isUpper, isDigit, isWord, Blank, space, feed, return, Line, Gap, Word, Digits, Symbol, Term, Args, Fact, fact, OneFact, Facts, Text}
-use Rattle.grammar.specs.Reader.{Mode, first, head, arg, word, minus, digits, after, closed, stop, between, remark, Frame, frame, Work, work, nothing, go, isBlank, layout, push, put, comma, close, past, limit, bitsAfter, step, reads, before, finish, run, textOf, Rests, Ends}
+use Rattle.grammar.specs.Grammar.{isLower, isUpper, isDigit, isWord, Blank, space, feed, return, Line, Gap, Word, Digits, Symbol, Term, Args}
+use Rattle.grammar.specs.Grammar.{Fact, fact, OneFact, Facts, Text}
+use Rattle.grammar.specs.Reader.{Mode, first, head, arg, word, minus, digits, after, closed, stop, between, remark, Frame, frame, Work, work}
+use Rattle.grammar.specs.Reader.{nothing, go, isBlank, layout, push, put, onComma, onClose, past, limit, bitsAfter, step, reads, factBefore}
+use Rattle.grammar.specs.Reader.{finish, run, textOf, Rests, Ends}
 
 -- a comment
 pub run-line : {p q : ℕ} {xs ys : List ℕ} (m : Mode) (w : Work) → Line p xs q ys → run xs (remark m) w p ≡ run ys m w q
@@ -221,24 +224,26 @@ module _ (xs : List ℕ) (p : ℕ) where
   at-head-open s w = refl
 
   pub at-comma : (s n k : ℕ) (f : Frame) (fs : List Frame) (out : List Symbol) → f .done < 3
-      → run (44 ∷ xs) after (work s n k (f ∷ fs) out) p ≡ run xs arg (work s n k (frame (f .owner) (f .start) (f .end) (suc (f .done)) ∷ fs) (set out (f .owner) (G.name (f .start) (f .end) (suc (f .done))))) (suc p)
-  unfolding run step past comma
+      → run (44 ∷ xs) after (work s n k (f ∷ fs) out) p
+          ≡ run xs arg (work s n k (frame (f .owner) (f .start) (f .end) (suc (f .done)) ∷ fs)
+          (set out (f .owner) (G.name (f .start) (f .end) (suc (f .done))))) (suc p)
+  unfolding run step past onComma
   at-comma s n k f fs out h = rw (lt-ltb (f .done) 3 h)
 
   pub at-close : (s n k : ℕ) (f : Frame) (fs : List Frame) (out : List Symbol)
       → run (41 ∷ xs) after (work s n k (f ∷ fs) out) p ≡ run xs after (work s n k fs (set out (f .owner) (G.name (f .start) (f .end) (suc (f .done))))) (suc p)
-  unfolding run step past close
+  unfolding run step past onClose
   at-close s n k f fs out = refl
 
   pub at-fact-comma : (s n k : ℕ) (out : List Symbol) → run (44 ∷ xs) after (work s n k [] out) p ≡ run xs arg (work s n (suc k) [] out) (suc p)
-  unfolding run step past comma
+  unfolding run step past onComma
   at-fact-comma s n k out = refl
 
   pub at-fact-close : (s n k : ℕ) (out : List Symbol) → run (41 ∷ xs) after (work s n k [] out) p ≡ run xs closed (work s n k [] out) (suc p)
-  unfolding run step past close
+  unfolding run step past onClose
   at-fact-close s n k out = refl
 
-  pub at-stop : (w : Work) → run (46 ∷ xs) closed w p ≡ before (fact (w .start) (w .end) (suc (w .done)) (w .out)) (run xs stop nothing (suc p))
+  pub at-stop : (w : Work) → run (46 ∷ xs) closed w p ≡ factBefore (fact (w .start) (w .end) (suc (w .done)) (w .out)) (run xs stop nothing (suc p))
   unfolding run step
   at-stop w = refl
 
@@ -270,8 +275,10 @@ mutual
       ∙ at-open zs r p w
       ∙ run-args (w .start) (w .end) (w .done) (length (w .out)) p r (w .opened) (w .out ++ (G.name p r 0 ∷ [])) as′ h
       ∙ ap (λ (o : List Symbol). run ys after (work (w .start) (w .end) (w .done) (w .opened) o) q) (named (w .out) ss (G.name p r 0) (G.name p r (suc d)))
-  run-term w (G.is-variable {p = p} {b = b} {q = q} {xs = xs} {ys = ys} e l) f = at-upper b xs w p e ∙ run-word false p w l ∙ variable-ends p w q ys (follows-ends ys f)
-  run-term w (G.is-number {p = p} {b = b} {q = q} {n = n} {xs = xs} {ys = ys} e d h) f = at-digit b xs w p e ∙ run-digits false w d h ∙ digits-end false n w q ys f
+  run-term w (G.is-variable {p = p} {b = b} {q = q} {xs = xs} {ys = ys} e l) f =
+      at-upper b xs w p e ∙ run-word false p w l ∙ variable-ends p w q ys (follows-ends ys f)
+  run-term w (G.is-number {p = p} {b = b} {q = q} {n = n} {xs = xs} {ys = ys} e d h) f =
+      at-digit b xs w p e ∙ run-digits false w d h ∙ digits-end false n w q ys f
   run-term w (G.is-negative {p = p} {b = b} {q = q} {n = n} {xs = xs} {ys = ys} e d h z) f =
       at-minus (b ∷ xs) w p ∙ after-minus b xs w (suc p) e ∙ run-digits true w d h ∙ digits-end true n w q ys f
       ∙ ap (λ (v : ℕ). run ys after (puts (G.number v ∷ []) w) q) (sym z)
@@ -314,8 +321,9 @@ run-width {c} {q = q} {d = d} {ys = ys} s n out (G.more {comma = u} {rest = vs} 
     ∙ ap (λ (o : List Symbol). run ys closed (work s n d [] o) q) (append-assoc out ss ts ∙ ap (λ (o : List Symbol). out ++ o) (sym e))
 
 -- a fact, from within its name on
-run-rest : {p r s u d : ℕ} {xs zs us ys : List ℕ} {ss : List Symbol} (w : Work) → Word (suc p) xs r (40 ∷ zs) → Args 0 (suc r) zs s us d ss → Gap s us u (46 ∷ ys)
-    → run xs (head p) w (suc p) ≡ before (fact p r (suc d) ss) (run ys stop nothing (suc u))
+run-rest : {p r s u d : ℕ} {xs zs us ys : List ℕ} {ss : List Symbol} (w : Work) → Word (suc p) xs r (40 ∷ zs) → Args 0 (suc r) zs s us d ss
+    → Gap s us u (46 ∷ ys)
+    → run xs (head p) w (suc p) ≡ factBefore (fact p r (suc d) ss) (run ys stop nothing (suc u))
 run-rest {p} {r} {u = u} {d = d} {zs = zs} {ys = ys} {ss = ss} w l as′ g =
     run-head p w l
     ∙ at-head-open zs r p w
@@ -323,10 +331,10 @@ run-rest {p} {r} {u = u} {d = d} {zs = zs} {ys = ys} {ss = ss} w l as′ g =
     ∙ run-gap (rests-closed (work p r d [] ss)) g
     ∙ at-stop ys u (work p r d [] ss)
 
-pub run-first : {p q : ℕ} {xs ys : List ℕ} {f : Fact} (w : Work) → OneFact p xs q ys f → run xs first w p ≡ before f (run ys stop nothing q)
+pub run-first : {p q : ℕ} {xs ys : List ℕ} {f : Fact} (w : Work) → OneFact p xs q ys f → run xs first w p ≡ factBefore f (run ys stop nothing q)
 run-first w (G.one {start = p} {byte = b} {rest = xs} e l as′ g) = at-first b xs w p e ∙ run-rest w l as′ g
 
-pub run-next : {p q : ℕ} {xs ys : List ℕ} {f : Fact} (w : Work) → OneFact p xs q ys f → run xs between w p ≡ before f (run ys stop nothing q)
+pub run-next : {p q : ℕ} {xs ys : List ℕ} {f : Fact} (w : Work) → OneFact p xs q ys f → run xs between w p ≡ factBefore f (run ys stop nothing q)
 run-next w (G.one {start = p} {byte = b} {rest = xs} e l as′ g) = at-between b xs w p e ∙ run-rest w l as′ g
 
 -- what follows a full stop
@@ -337,17 +345,19 @@ stop-layout b xs p w m e = rw e
 pub run-stop : {p q : ℕ} {xs ys : List ℕ} (w : Work) → Gap p xs q ys → p < q → run xs stop w p ≡ run ys between w q
 run-stop w G.none h = absurd (omega arith)
 run-stop w (G.blank {p = p} {b = b} {xs = xs} l g) h = stop-layout b xs p w between (layout-blank between w l) ∙ run-gap (rests-between w) g
-run-stop w (G.remark {p = p} {xs = xs} l g) h = stop-layout 37 xs p w (remark between) (layout-mark between w) ∙ run-line between w l ∙ run-gap (rests-between w) g
+run-stop w (G.remark {p = p} {xs = xs} l g) h =
+    stop-layout 37 xs p w (remark between) (layout-mark between w) ∙ run-line between w l ∙ run-gap (rests-between w) g
 
 run-last : {p q : ℕ} {xs : List ℕ} {ys : List ℕ} (w : Work) → Gap p xs q ys → ys ≡ [] → run xs stop w p ≡ reads []
 unfolding run finish
 run-last w (G.none {xs = xs}) e = rw e
 run-last w (G.blank {p = p} {b = b} {xs = xs} l g) e = stop-layout b xs p w between (layout-blank between w l) ∙ run-gap (rests-between w) g ∙ rw e
-run-last w (G.remark {p = p} {xs = xs} l g) e = stop-layout 37 xs p w (remark between) (layout-mark between w) ∙ run-line between w l ∙ run-gap (rests-between w) g ∙ rw e
+run-last w (G.remark {p = p} {xs = xs} l g) e =
+    stop-layout 37 xs p w (remark between) (layout-mark between w) ∙ run-line between w l ∙ run-gap (rests-between w) g ∙ rw e
 
 pub run-facts : {p : ℕ} {xs : List ℕ} {fs : List Fact} (w : Work) → Facts p xs fs → run xs between w p ≡ reads fs
-run-facts w (G.last {f = f} o g) = run-next w o ∙ ap (before f) (run-last nothing g refl)
-run-facts w (G.more {f = f} o g h fs) = run-next w o ∙ ap (before f) (run-stop nothing g h ∙ run-facts nothing fs)
+run-facts w (G.last {f = f} o g) = run-next w o ∙ ap (factBefore f) (run-last nothing g refl)
+run-facts w (G.more {f = f} o g h fs) = run-next w o ∙ ap (factBefore f) (run-stop nothing g h ∙ run-facts nothing fs)
 
 -- the whole text
 pub text-read : (t : List ℕ) {fs : List Fact} → Text t fs → textOf t ≡ reads fs
@@ -355,8 +365,8 @@ unfolding textOf
 text-read t x = run-gap (rests-first nothing) (x .layout) ∙ from (x .facts)
   where
     from : {p : ℕ} {xs : List ℕ} {fs : List Fact} → Facts p xs fs → run xs first nothing p ≡ reads fs
-    from (G.last {f = f} o g) = run-first nothing o ∙ ap (before f) (run-last nothing g refl)
-    from (G.more {f = f} o g h fs) = run-first nothing o ∙ ap (before f) (run-stop nothing g h ∙ run-facts nothing fs)
+    from (G.last {f = f} o g) = run-first nothing o ∙ ap (factBefore f) (run-last nothing g refl)
+    from (G.more {f = f} o g h fs) = run-first nothing o ∙ ap (factBefore f) (run-stop nothing g h ∙ run-facts nothing fs)
 
 -- THE READING IS UNIQUE
 pub text-one : (t : List ℕ) {fs gs : List Fact} → Text t fs → Text t gs → fs ≡ gs

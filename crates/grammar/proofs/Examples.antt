@@ -14,7 +14,7 @@ use Rattle.refusal.specs.declared.Input.the-variants as input
 use Rattle.grammar.specs.Grammar.{isLower, isUpper, isDigit, isWord, Fact}
 use Rattle.cell.specs.Same.{same}
 use Rattle.grammar.specs.Meaning.{position, meet, namesFrom, variableNumber, variablesWith, cellsFrom, widthOf, tableCells, nameList, otherThan, otherIn}
-use Rattle.grammar.specs.Reader.{isBlank, layout, push, put, comma, close, past, step, finish, run, textOf}
+use Rattle.grammar.specs.Reader.{isBlank, layout, push, put, onComma, onClose, past, step, finish, run, textOf}
 use Rattle.grammar.proofs.Fixed.{takenOf}
 
 -- the bytes of a quoted text, whose characters are one byte each
@@ -96,5 +96,6 @@ cases =
     ∷ []
 
 pub examples : map (λ (c : Case). said (bytes (c .text))) cases ≡ map (λ (c : Case). c .says) cases
-unfolding cases bytes said takenOf textOf run step finish layout isBlank push put comma close past isLower isUpper isDigit isWord same position meet namesFrom variableNumber variablesWith cellsFrom widthOf tableCells nameList otherThan otherIn flatten
+unfolding cases bytes said takenOf textOf run step finish layout isBlank push put onComma onClose past isLower isUpper isDigit isWord same position
+    meet namesFrom variableNumber variablesWith cellsFrom widthOf tableCells nameList otherThan otherIn flatten
 examples = refl

@@ -7,7 +7,7 @@ use native.Mathlib.Omega.{arith}
 use lib.ListN.{length, length-append}
 use lib.Seq.{slice}
 use Rattle.grammar.specs.Grammar.{Symbol, name, variable, number}
-use Rattle.grammar.specs.Meaning.{Place, place, bytesOf, namesFrom}
+use Rattle.grammar.specs.Meaning.{Place, place, bytesAt, namesFrom}
 use Rattle.grammar.specs.Numbering.{Words, Nth, here, later, New, First, wordsAt, Firsts}
 use Rattle.grammar.specs.Numbering as numbering
 use Rattle.grammar.proofs.NumberLaws.{meet-old, meet-new}
@@ -23,11 +23,11 @@ module _ (t : List ℕ) where
       let w = place s e in
       let m = position-new t (slice s e t) ns (subst (λ (m : Words). New m (slice s e t)) q n) in
       ap (λ (ms : List Place). namesFrom t ms ss) (meet-new t ns w m)
-      ∙ firsts-names (ns ++ (w ∷ [])) (ap (λ (m : Words). m ++ (bytesOf t w ∷ [])) q ∙ sym (words-added t ns w)) f
+      ∙ firsts-names (ns ++ (w ∷ [])) (ap (λ (m : Words). m ++ (bytesAt t w ∷ [])) q ∙ sym (words-added t ns w)) f
       ∙ append-assoc ns (w ∷ []) ws
   firsts-names ns q (numbering.again {k = k} {s = s} {e = e} {ss = ss} h f) =
       let w = place s e in
-      let g = subst (λ (m : Words). Nth m k (bytesOf t w)) q h in
+      let g = subst (λ (m : Words). Nth m k (bytesAt t w)) q h in
       let l = position-first t ns g in
       let b = nth-below g in
       let c = words-long t ns in

@@ -6,7 +6,7 @@ use native.Mathlib.Omega.{arith}
 use lib.ListN.{length}
 use lib.Seq.{slice}
 use Rattle.grammar.specs.Grammar.{Symbol, name, Fact, Text}
-use Rattle.grammar.specs.Meaning.{Place, place, bytesOf, symbolsOf, namesOf, entryOf, nameList}
+use Rattle.grammar.specs.Meaning.{Place, place, bytesAt, symbolsOf, namesOf, entryOf, nameList}
 use Rattle.grammar.specs.Numbering.{Words, Nth, here, later, New, Firsts, FirstAt}
 use Rattle.grammar.specs.Numbering as numbering
 use Rattle.grammar.proofs.NthLaws.{nth-left, nth-seam, mem-nth, nth-map, nth-unmap}
@@ -18,7 +18,7 @@ module _ (t : List ℕ) where
   -- a name that is listed first stands there, and is none of those met before
   record Told (met : Words) (ss : List Symbol) (w : Place) : Type 0 where
     at : FirstAt t ss (w .start) (w .end)
-    new : New met (bytesOf t w)
+    new : New met (bytesAt t w)
 
   -- the first of the symbols itself
   told-here : {p q s e a : ℕ} {met : Words} {ss : List Symbol} → Along p (name s e a ∷ ss) q → New met (slice s e t)
@@ -32,14 +32,14 @@ module _ (t : List ℕ) where
 
   -- one behind another name, which has other bytes
   told-later : {s e a : ℕ} {met met′ : Words} {ss : List Symbol} {w : Place} → ((k : ℕ) (v : List ℕ) → Nth met k v → (j : ℕ) × Nth met′ j v)
-      → (slice s e t ≡ bytesOf t w → ⊥) → Told met′ ss w → Told met (name s e a ∷ ss) w
+      → (slice s e t ≡ bytesAt t w → ⊥) → Told met′ ss w → Told met (name s e a ∷ ss) w
   told-later {s} {e} {a} {ss = ss} {w = w} more n x =
       record {
         at = record { args = x .at .args; there = List·Memᴰ·tail (x .at .there); first = λ s′ e′ a′ m q. by m q };
-        new = λ k h. let i = more k (bytesOf t w) h in x .new (i .0) (i .1);
+        new = λ k h. let i = more k (bytesAt t w) h in x .new (i .0) (i .1);
       }
     where
-      by : {s′ e′ a′ : ℕ} → List·Memᴰ (name s′ e′ a′) (name s e a ∷ ss) → slice s′ e′ t ≡ bytesOf t w → w .start ≤ s′
+      by : {s′ e′ a′ : ℕ} → List·Memᴰ (name s′ e′ a′) (name s e a ∷ ss) → slice s′ e′ t ≡ bytesAt t w → w .start ≤ s′
       by {s′} {e′} (List·Memᴰ·head y) q =
           let u : s ≡ s′ = cc in
           let v : e ≡ e′ = cc in
@@ -52,7 +52,7 @@ module _ (t : List ℕ) where
   told-past {x} {ss = ss} {w = w} n o =
       record { at = record { args = o .at .args; there = List·Memᴰ·tail (o .at .there); first = λ s e a m q. by m q }; new = o .new }
     where
-      by : {s e a : ℕ} → List·Memᴰ (name s e a) (x ∷ ss) → slice s e t ≡ bytesOf t w → w .start ≤ s
+      by : {s e a : ℕ} → List·Memᴰ (name s e a) (x ∷ ss) → slice s e t ≡ bytesAt t w → w .start ≤ s
       by {s} {e} {a} (List·Memᴰ·head y) q = absurd (n s e a y)
       by {s} {e} {a} (List·Memᴰ·tail m) q = o .at .first s e a m q
 
@@ -123,6 +123,6 @@ module _ {t : List ℕ} {fs : List Fact} (x : Text t fs) (h : length t ≤ mostT
   unfolding nameList
   entry-each m =
       let j = each-name t firsts (mem-nth m .1) in
-      let g = nth-unmap (bytesOf t) (namesOf t fs) (j .1) in
+      let g = nth-unmap (bytesAt t) (namesOf t fs) (j .1) in
       let b = back (g .1) in
       (j .0, entryOf (g .0), nth-map entryOf (g .1), ap₂ (λ (i k : ℕ). slice i k t) (b .0) (b .1) ∙ sym (g .2))

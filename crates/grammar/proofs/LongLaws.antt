@@ -8,7 +8,7 @@ use native.Mathlib.Omega.{arith}
 use lib.ListN.{length, length-append}
 use Rattle.grammar.specs.Grammar as G
 use Rattle.grammar.specs.Grammar.{Line, Gap, Word, Digits, Symbol, Term, Args, Fact, OneFact, Facts, Text}
-use Rattle.grammar.specs.Meaning.{Place, place, bytesOf, position, meet, namesFrom, symbolsOf, none, found, alike, otherThan, otherIn}
+use Rattle.grammar.specs.Meaning.{Place, place, bytesAt, position, meet, namesFrom, symbolsOf, none, found, alike, otherThan, otherIn}
 
 -- places and the bytes left go together
 line-place : {p q : ℕ} {xs ys : List ℕ} → Line p xs q ys → p + length xs ≡ q + length ys
@@ -106,7 +106,7 @@ other-place t {fs} {k} x e = by fs (x .facts) e
 -- AT MOST ONE NAME A SYMBOL
 met-few : (t : List ℕ) (ns : List Place) (w : Place) → length (meet t ns w) ≤ suc (length ns)
 unfolding meet
-met-few t ns w = go (ltb (position t (bytesOf t w) ns) (length ns))
+met-few t ns w = go (ltb (position t (bytesAt t w) ns) (length ns))
   where
     go : (b : Bool) → length (cond b ns (ns ++ (w ∷ []))) ≤ suc (length ns)
     go true = omega arith

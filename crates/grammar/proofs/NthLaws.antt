@@ -8,7 +8,7 @@ use native.Mathlib.Omega.{arith}
 use native.Mathlib.Decide.{decLt}
 use lib.ListN.{length}
 use Rattle.cell.specs.Same.{same}
-use Rattle.grammar.specs.Meaning.{Place, bytesOf, position}
+use Rattle.grammar.specs.Meaning.{Place, bytesAt, position}
 use Rattle.grammar.specs.Numbering.{Words, Nth, here, later, New, First, wordsAt}
 use Rattle.cell.proofs.SameLaws.{same-refl, same-eq, same-differ}
 
@@ -109,26 +109,26 @@ pub words-long : (t : List ℕ) (vs : List Place) → length (wordsAt t vs) ≡ 
 words-long t [] = refl
 words-long t (v ∷ vs) = ap suc (words-long t vs)
 
-pub words-added : (t : List ℕ) (vs : List Place) (v : Place) → wordsAt t (vs ++ (v ∷ [])) ≡ wordsAt t vs ++ (bytesOf t v ∷ [])
+pub words-added : (t : List ℕ) (vs : List Place) (v : Place) → wordsAt t (vs ++ (v ∷ [])) ≡ wordsAt t vs ++ (bytesAt t v ∷ [])
 words-added t [] v = refl
-words-added t (u ∷ vs) v = ap (λ (ws : Words). bytesOf t u ∷ ws) (words-added t vs v)
+words-added t (u ∷ vs) v = ap (λ (ws : Words). bytesAt t u ∷ ws) (words-added t vs v)
 
 pub position-nth : (t w : List ℕ) (vs : List Place) → position t w vs < length vs → Nth (wordsAt t vs) (position t w vs) w
 unfolding position
 position-nth t w [] h = absurd (omega arith)
-position-nth t w (v ∷ vs) h = go (same w (bytesOf t v)) refl (position-nth t w vs) h
+position-nth t w (v ∷ vs) h = go (same w (bytesAt t v)) refl (position-nth t w vs) h
   where
-    go : (b : Bool) → same w (bytesOf t v) ≡ b → (position t w vs < length vs → Nth (wordsAt t vs) (position t w vs) w)
-        → cond b 0 (suc (position t w vs)) < suc (length vs) → Nth (bytesOf t v ∷ wordsAt t vs) (cond b 0 (suc (position t w vs))) w
-    go true e f l = subst (Nth (bytesOf t v ∷ wordsAt t vs) 0) (sym (same-eq w (bytesOf t v) e)) here
+    go : (b : Bool) → same w (bytesAt t v) ≡ b → (position t w vs < length vs → Nth (wordsAt t vs) (position t w vs) w)
+        → cond b 0 (suc (position t w vs)) < suc (length vs) → Nth (bytesAt t v ∷ wordsAt t vs) (cond b 0 (suc (position t w vs))) w
+    go true e f l = subst (Nth (bytesAt t v ∷ wordsAt t vs) 0) (sym (same-eq w (bytesAt t v) e)) here
     go false e f l = later (f (omega arith))
 
 -- the first of those that are equal
 pub position-first : (t : List ℕ) {w : List ℕ} {k : ℕ} (vs : List Place) → Nth (wordsAt t vs) k w → position t w vs ≤ k
 unfolding position
 position-first t [] h = let i = nth-below h in absurd (omega arith)
-position-first t (v ∷ vs) here = rw (same-refl (bytesOf t v)) (omega arith)
-position-first t {w} (v ∷ vs) (later {k = j} h) = go (same w (bytesOf t v)) (position t w vs) j (position-first t vs h)
+position-first t (v ∷ vs) here = rw (same-refl (bytesAt t v)) (omega arith)
+position-first t {w} (v ∷ vs) (later {k = j} h) = go (same w (bytesAt t v)) (position t w vs) j (position-first t vs h)
   where
     go : (b : Bool) (n j : ℕ) → n ≤ j → cond b 0 (suc n) ≤ suc j
     go true n j l = omega arith

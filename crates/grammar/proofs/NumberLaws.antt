@@ -8,14 +8,14 @@ use lib.ListN.{length, getD}
 use borrow.Author.Tests.{lt-ltb, le-ltb}
 use Rattle.grammar.specs.Grammar.{Symbol, name, variable, number}
 use Rattle.cell.specs.Same.{same}
-use Rattle.grammar.specs.Meaning.{Place, place, bytesOf, position, meet, namesFrom, variableNumber, variablesWith}
+use Rattle.grammar.specs.Meaning.{Place, place, bytesAt, position, meet, namesFrom, variableNumber, variablesWith}
 use Rattle.cell.proofs.SameLaws.{same-refl, same-no}
 
 -- POSITIONS
 pub position-bound : (t w : List ℕ) (vs : List Place) → position t w vs ≤ length vs
 unfolding position
 position-bound t w [] = omega arith
-position-bound t w (v ∷ vs) = go (same w (bytesOf t v)) (position-bound t w vs)
+position-bound t w (v ∷ vs) = go (same w (bytesAt t v)) (position-bound t w vs)
   where
     go : (b : Bool) → position t w vs ≤ length vs → cond b 0 (suc (position t w vs)) ≤ suc (length vs)
     go true h = omega arith
@@ -25,7 +25,7 @@ position-bound t w (v ∷ vs) = go (same w (bytesOf t v)) (position-bound t w vs
 pub position-kept : (t w : List ℕ) (vs us : List Place) → position t w vs < length vs → position t w (vs ++ us) ≡ position t w vs
 unfolding position
 position-kept t w [] us h = absurd (omega arith)
-position-kept t w (v ∷ vs) us h = go (same w (bytesOf t v)) (position-kept t w vs us) h
+position-kept t w (v ∷ vs) us h = go (same w (bytesAt t v)) (position-kept t w vs us) h
   where
     go : (b : Bool) → (position t w vs < length vs → position t w (vs ++ us) ≡ position t w vs) → cond b 0 (suc (position t w vs)) < suc (length vs)
         → cond b 0 (suc (position t w (vs ++ us))) ≡ cond b 0 (suc (position t w vs))
@@ -33,13 +33,14 @@ position-kept t w (v ∷ vs) us h = go (same w (bytesOf t v)) (position-kept t w
     go false f l = ap suc (f (omega arith))
 
 -- a word that is not there is found where it is added
-pub position-added : (t : List ℕ) (v : Place) (vs : List Place) → length vs ≤ position t (bytesOf t v) vs → position t (bytesOf t v) (vs ++ (v ∷ [])) ≡ length vs
+pub position-added : (t : List ℕ) (v : Place) (vs : List Place) → length vs ≤ position t (bytesAt t v) vs
+    → position t (bytesAt t v) (vs ++ (v ∷ [])) ≡ length vs
 unfolding position
-position-added t v [] h = rw (same-refl (bytesOf t v))
-position-added t v (u ∷ vs) h = go (same (bytesOf t v) (bytesOf t u)) (position-added t v vs) h
+position-added t v [] h = rw (same-refl (bytesAt t v))
+position-added t v (u ∷ vs) h = go (same (bytesAt t v) (bytesAt t u)) (position-added t v vs) h
   where
-    go : (b : Bool) → (length vs ≤ position t (bytesOf t v) vs → position t (bytesOf t v) (vs ++ (v ∷ [])) ≡ length vs)
-        → suc (length vs) ≤ cond b 0 (suc (position t (bytesOf t v) vs)) → cond b 0 (suc (position t (bytesOf t v) (vs ++ (v ∷ [])))) ≡ suc (length vs)
+    go : (b : Bool) → (length vs ≤ position t (bytesAt t v) vs → position t (bytesAt t v) (vs ++ (v ∷ [])) ≡ length vs)
+        → suc (length vs) ≤ cond b 0 (suc (position t (bytesAt t v) vs)) → cond b 0 (suc (position t (bytesAt t v) (vs ++ (v ∷ [])))) ≡ suc (length vs)
     go true f l = absurd (omega arith)
     go false f l = ap suc (f (omega arith))
 
@@ -47,28 +48,29 @@ position-added t v (u ∷ vs) h = go (same (bytesOf t v) (bytesOf t u)) (positio
 abbrev pub at : List Place → ℕ → Place
 at vs i = getD vs i (place 0 0)
 
-pub position-is : (t w : List ℕ) (vs : List Place) (r : ℕ) → r < length vs → bytesOf t (at vs r) ≡ w → ((i : ℕ) → i < r → bytesOf t (at vs i) ≡ w → ⊥) → position t w vs ≡ r
+pub position-is : (t w : List ℕ) (vs : List Place) (r : ℕ) → r < length vs → bytesAt t (at vs r) ≡ w → ((i : ℕ) → i < r → bytesAt t (at vs i) ≡ w → ⊥)
+    → position t w vs ≡ r
 unfolding position
 position-is t w [] r h e n = absurd (omega arith)
 position-is t w (v ∷ vs) zero h e n = rw (ap (same w) e ∙ same-refl w)
 position-is t w (v ∷ vs) (suc r) h e n =
-    rw (same-no w (bytesOf t v) (λ q. n 0 (omega arith) (sym q)))
+    rw (same-no w (bytesAt t v) (λ q. n 0 (omega arith) (sym q)))
     (ap suc (position-is t w vs r (omega arith) e (λ i l. n (suc i) (omega arith))))
 
-pub position-none : (t w : List ℕ) (vs : List Place) → ((i : ℕ) → i < length vs → bytesOf t (at vs i) ≡ w → ⊥) → position t w vs ≡ length vs
+pub position-none : (t w : List ℕ) (vs : List Place) → ((i : ℕ) → i < length vs → bytesAt t (at vs i) ≡ w → ⊥) → position t w vs ≡ length vs
 unfolding position
 position-none t w [] n = refl
 position-none t w (v ∷ vs) n =
-    rw (same-no w (bytesOf t v) (λ q. n 0 (omega arith) (sym q))) (ap suc (position-none t w vs (λ i l. n (suc i) (omega arith))))
+    rw (same-no w (bytesAt t v) (λ q. n 0 (omega arith) (sym q))) (ap suc (position-none t w vs (λ i l. n (suc i) (omega arith))))
 
 -- A NAME IS MET
-pub meet-old : (t : List ℕ) (ns : List Place) (w : Place) → position t (bytesOf t w) ns < length ns → meet t ns w ≡ ns
+pub meet-old : (t : List ℕ) (ns : List Place) (w : Place) → position t (bytesAt t w) ns < length ns → meet t ns w ≡ ns
 unfolding meet
-meet-old t ns w h = rw (lt-ltb (position t (bytesOf t w) ns) (length ns) h)
+meet-old t ns w h = rw (lt-ltb (position t (bytesAt t w) ns) (length ns) h)
 
-pub meet-new : (t : List ℕ) (ns : List Place) (w : Place) → length ns ≤ position t (bytesOf t w) ns → meet t ns w ≡ ns ++ (w ∷ [])
+pub meet-new : (t : List ℕ) (ns : List Place) (w : Place) → length ns ≤ position t (bytesAt t w) ns → meet t ns w ≡ ns ++ (w ∷ [])
 unfolding meet
-meet-new t ns w h = rw (le-ltb (position t (bytesOf t w) ns) (length ns) h)
+meet-new t ns w h = rw (le-ltb (position t (bytesAt t w) ns) (length ns) h)
 
 pub names-more : (t : List ℕ) (ns : List Place) (ss us : List Symbol) → namesFrom t ns (ss ++ us) ≡ namesFrom t (namesFrom t ns ss) us
 unfolding namesFrom
@@ -79,11 +81,11 @@ names-more t ns (number v ∷ ss) us = names-more t ns ss us
 
 -- A VARIABLE IS MET. `_` is 95
 module _ (t : List ℕ) (vs : List Place) (w : Place) where
-  pub fresh-number : same (bytesOf t w) (95 ∷ []) ≡ true → variableNumber t vs w ≡ length vs
+  pub fresh-number : same (bytesAt t w) (95 ∷ []) ≡ true → variableNumber t vs w ≡ length vs
   unfolding variableNumber
   fresh-number e = rw e
 
-  pub named-number : same (bytesOf t w) (95 ∷ []) ≡ false → variableNumber t vs w ≡ position t (bytesOf t w) vs
+  pub named-number : same (bytesAt t w) (95 ∷ []) ≡ false → variableNumber t vs w ≡ position t (bytesAt t w) vs
   unfolding variableNumber
   named-number e = rw e
 

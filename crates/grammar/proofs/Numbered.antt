@@ -9,7 +9,7 @@ use lib.ListN.{length}
 use lib.Seq.{slice}
 use Rattle.grammar.specs.Grammar.{Symbol, name, variable, Fact}
 use Rattle.grammar.specs.Meaning.{Place, position, symbolsOf, namesOf, cellsFrom, widthOf, tableCells}
-use Rattle.grammar.specs.Numbering.{Words, Nth, wordsAt, Firsts, Unnamed, Row, Rows}
+use Rattle.grammar.specs.Numbering.{Words, Nth, wordsAt, Firsts, Unnamed, NumberedRow, Rows}
 use Rattle.grammar.proofs.NthLaws.{nth-below, nth-one, Any, Parted, parted-none, words-long, position-nth, position-one}
 use Rattle.grammar.proofs.NthLaws.{position-there}
 use Rattle.grammar.proofs.FirstLaws.{firsts-names, firsts-hold, firsts-parted, firsts-all}
@@ -69,7 +69,7 @@ cells-are t fs cs = (λ r. ap (λ (x : List ℕ). widthOf fs ∷ length fs ∷ x
         subst (Rows t (namesOf t fs) fs) q (r .1)
 
 -- two variables of a row are one exactly when they have the same bytes and are not `_`
-pub one-variable : (t : List ℕ) {ws : Words} {ss : List Symbol} {cs : List ℕ} {i j s e s′ e′ c c′ : ℕ} → Row t ws [] ss cs → i < j
+pub one-variable : (t : List ℕ) {ws : Words} {ss : List Symbol} {cs : List ℕ} {i j s e s′ e′ c c′ : ℕ} → NumberedRow t ws [] ss cs → i < j
     → Nth ss i (variable s e) → Nth cs i c → Nth ss j (variable s′ e′) → Nth cs j c′
     → (c ≡ c′) ↔ ((slice s e t ≡ slice s′ e′ t) × (Unnamed (slice s e t) → ⊥))
 one-variable t {ws} = two-variables t ws (parted-none Named)

@@ -10,8 +10,8 @@ use lib.Seq.{slice}
 use Rattle.cell.specs.Cell.{nameCell, numberCell}
 use Rattle.grammar.specs.Grammar.{Symbol, name, variable, number, Fact}
 use Rattle.cell.specs.Same.{same}
-use Rattle.grammar.specs.Meaning.{Place, place, bytesOf, symbolsOf, variableNumber, cellsFrom}
-use Rattle.grammar.specs.Numbering.{Words, Nth, here, later, New, First, wordsAt, Unnamed, Row, Rows}
+use Rattle.grammar.specs.Meaning.{Place, place, bytesAt, symbolsOf, variableNumber, cellsFrom}
+use Rattle.grammar.specs.Numbering.{Words, Nth, here, later, New, First, wordsAt, Unnamed, NumberedRow, Rows}
 use Rattle.grammar.specs.Numbering as numbering
 use Rattle.cell.proofs.SameLaws.{same-refl, same-eq, same-differ, same-no}
 use Rattle.grammar.proofs.NumberLaws.{position-bound, fresh-number, named-number, with-new, with-old}
@@ -35,21 +35,21 @@ first-parted : {met : Words} {w : List ℕ} → New met w → Parted Named met �
 first-parted {met} {w} n p = parted-added Named met w p (λ q. n)
 
 module _ (t : List ℕ) (vs : List Place) (w : Place) where
-  unnamed-number : Unnamed (bytesOf t w) → variableNumber t vs w ≡ length vs
+  unnamed-number : Unnamed (bytesAt t w) → variableNumber t vs w ≡ length vs
   unnamed-number u = fresh-number t vs w (ap (λ (x : List ℕ). same x (95 ∷ [])) u ∙ same-refl (95 ∷ []))
 
-  again-number : {k : ℕ} → Named (bytesOf t w) → Parted Named (wordsAt t vs)
-      → Nth (wordsAt t vs) k (bytesOf t w) → variableNumber t vs w ≡ k
-  again-number n p h = named-number t vs w (same-no (bytesOf t w) (95 ∷ []) n) ∙ position-one t vs p n h
+  again-number : {k : ℕ} → Named (bytesAt t w) → Parted Named (wordsAt t vs)
+      → Nth (wordsAt t vs) k (bytesAt t w) → variableNumber t vs w ≡ k
+  again-number n p h = named-number t vs w (same-no (bytesAt t w) (95 ∷ []) n) ∙ position-one t vs p n h
 
-  first-number : New (wordsAt t vs) (bytesOf t w) → variableNumber t vs w ≡ length vs
-  first-number n = go (same (bytesOf t w) (95 ∷ [])) refl
+  first-number : New (wordsAt t vs) (bytesAt t w) → variableNumber t vs w ≡ length vs
+  first-number n = go (same (bytesAt t w) (95 ∷ [])) refl
     where
-      go : (b : Bool) → same (bytesOf t w) (95 ∷ []) ≡ b → variableNumber t vs w ≡ length vs
+      go : (b : Bool) → same (bytesAt t w) (95 ∷ []) ≡ b → variableNumber t vs w ≡ length vs
       go true e = fresh-number t vs w e
       go false e =
-          let p = position-new t (bytesOf t w) vs n in
-          let q = position-bound t (bytesOf t w) vs in
+          let p = position-new t (bytesAt t w) vs n in
+          let q = position-bound t (bytesAt t w) vs in
           named-number t vs w e ∙ omega arith
 
 -- THE CELLS. A variable that is numbered as the next; and one that is met again
@@ -75,7 +75,7 @@ module _ (t : List ℕ) (ns : List Place) where
   met-long vs q = ap length q ∙ words-long t vs
 
   row-cells : {met : Words} {ss : List Symbol} {cs : List ℕ} (vs : List Place) → met ≡ wordsAt t vs → Parted Named met
-      → Row t (wordsAt t ns) met ss cs → cellsFrom t ns vs ss ≡ cs
+      → NumberedRow t (wordsAt t ns) met ss cs → cellsFrom t ns vs ss ≡ cs
   unfolding cellsFrom
   row-cells vs q p numbering.none = refl
   row-cells vs q p (numbering.a-name {a = n} h c r) = ap₂ _∷_ (ap (nameCell n) (position-at t ns h) ∙ sym c) (row-cells vs q p r)
@@ -93,7 +93,7 @@ module _ (t : List ℕ) (ns : List Place) where
       variable-again t ns vs s e ss (again-number t vs (place s e) n (subst (Parted Named) q p) g ∙ sym c) (omega arith)
       (row-cells vs q p r)
 
-  row-holds : (met : Words) (ss : List Symbol) → Listed t ns ss → (cs : List ℕ) × Row t (wordsAt t ns) met ss cs
+  row-holds : (met : Words) (ss : List Symbol) → Listed t ns ss → (cs : List ℕ) × NumberedRow t (wordsAt t ns) met ss cs
   row-holds met [] l = ([], numbering.none)
   row-holds met (name s e a ∷ ss) l =
       let h = l 0 s e a here in
@@ -111,8 +111,8 @@ module _ (t : List ℕ) (ns : List Place) where
       rest : Listed t ns ss
       rest i s e a g = l (suc i) s e a (later g)
 
-      go : (b : Bool) → same w (95 ∷ []) ≡ b → ((k : ℕ) × Nth met k w) ⊎ New met w → (cs : List ℕ) × Row t (wordsAt t ns) met ss cs
-          → (cs : List ℕ) × Row t (wordsAt t ns) (met ++ (w ∷ [])) ss cs → (cs : List ℕ) × Row t (wordsAt t ns) met (variable s e ∷ ss) cs
+      go : (b : Bool) → same w (95 ∷ []) ≡ b → ((k : ℕ) × Nth met k w) ⊎ New met w → (cs : List ℕ) × NumberedRow t (wordsAt t ns) met ss cs
+          → (cs : List ℕ) × NumberedRow t (wordsAt t ns) (met ++ (w ∷ [])) ss cs → (cs : List ℕ) × NumberedRow t (wordsAt t ns) met (variable s e ∷ ss) cs
       go true u h r f = (length met ∷ f .0, numbering.unnamed (same-eq w (95 ∷ []) u) refl (f .1))
       go false u (inl h) r f = (h .0 ∷ r .0, numbering.again (same-differ w (95 ∷ []) u) (h .1) refl (r .1))
       go false u (inr n) r f = (length met ∷ f .0, numbering.first n refl (f .1))
@@ -134,7 +134,7 @@ module _ (t : List ℕ) (ns : List Place) where
 
 -- THE CELLS ARE ONE
 module _ (t : List ℕ) (ws : Words) where
-  pub row-one : {met : Words} {ss : List Symbol} {cs ds : List ℕ} → Parted Named met → Row t ws met ss cs → Row t ws met ss ds → cs ≡ ds
+  pub row-one : {met : Words} {ss : List Symbol} {cs ds : List ℕ} → Parted Named met → NumberedRow t ws met ss cs → NumberedRow t ws met ss ds → cs ≡ ds
   row-one p numbering.none numbering.none = refl
   row-one p (numbering.a-name {a = a} h c r) (numbering.a-name g d q) =
       ap₂ _∷_ (c ∙ ap (nameCell a) (first-one h g) ∙ sym d) (row-one p r q)
@@ -172,7 +172,7 @@ more-below : (met : Words) (v : List ℕ) {k : ℕ} → k < length met → k < l
 more-below met v l = omega (arith, length-append met (v ∷ []))
 
 module _ (t : List ℕ) (ws : Words) where
-  later-variable : {met : Words} {ss : List Symbol} {cs : List ℕ} {j k s e c : ℕ} → Row t ws met ss cs → Parted Named met → k < length met
+  later-variable : {met : Words} {ss : List Symbol} {cs : List ℕ} {j k s e c : ℕ} → NumberedRow t ws met ss cs → Parted Named met → k < length met
       → Nth ss j (variable s e) → Nth cs j c → Is met k (slice s e t) c
   later-variable (numbering.unnamed u c r) p l here here = is-new l c (λ h n. n u)
   later-variable {k = k} (numbering.first n c r) p l here here = is-new l c (λ h q. n k h)
@@ -190,10 +190,10 @@ module _ (t : List ℕ) (ws : Words) where
 record After (t : List ℕ) (ws : Words) (ss : List Symbol) (cs : List ℕ) : Type 0 where
   met : Words
   apart : Parted Named met
-  row : Row t ws met ss cs
+  row : NumberedRow t ws met ss cs
 
 module _ (t : List ℕ) (ws : Words) where
-  after-one : {met : Words} {x : Symbol} {ss : List Symbol} {c : ℕ} {cs : List ℕ} → Parted Named met → Row t ws met (x ∷ ss) (c ∷ cs)
+  after-one : {met : Words} {x : Symbol} {ss : List Symbol} {c : ℕ} {cs : List ℕ} → Parted Named met → NumberedRow t ws met (x ∷ ss) (c ∷ cs)
       → After t ws ss cs
   after-one {met} p (numbering.a-name h c r) = record { met = met; apart = p; row = r }
   after-one {met} p (numbering.a-number c r) = record { met = met; apart = p; row = r }
@@ -205,7 +205,7 @@ module _ (t : List ℕ) (ws : Words) where
 
   -- a variable stands at its number from then on
   after-variable : {met : Words} {s e : ℕ} {ss : List Symbol} {c : ℕ} {cs : List ℕ}
-      (p : Parted Named met) (r : Row t ws met (variable s e ∷ ss) (c ∷ cs))
+      (p : Parted Named met) (r : NumberedRow t ws met (variable s e ∷ ss) (c ∷ cs))
       → Nth (after-one p r .met) c (slice s e t)
   unfolding after-one
   after-variable {met} {s} {e} p (numbering.unnamed u c r) =
@@ -215,7 +215,7 @@ module _ (t : List ℕ) (ws : Words) where
   after-variable {met} {s} {e} p (numbering.again n h c r) = subst (λ (k : ℕ). Nth met k (slice s e t)) (sym c) h
 
   pub two-variables : {met : Words} {ss : List Symbol} {cs : List ℕ} {i j s e s′ e′ c c′ : ℕ} → Parted Named met
-      → Row t ws met ss cs → i < j → Nth ss i (variable s e) → Nth cs i c → Nth ss j (variable s′ e′) → Nth cs j c′
+      → NumberedRow t ws met ss cs → i < j → Nth ss i (variable s e) → Nth cs i c → Nth ss j (variable s′ e′) → Nth cs j c′
       → (c ≡ c′) ↔ ((slice s e t ≡ slice s′ e′ t) × Named (slice s e t))
   two-variables p r l here here here here = absurd (omega arith)
   two-variables {s = s} {e = e} {s′ = s′} {e′ = e′} {c = c} {c′ = c′} p r l here here (later x) (later y) =

@@ -9,9 +9,14 @@ use lib.Dec.{eqb, leb, ltb}
 use lib.ListN.{length, set}
 use borrow.Author.Tests.{leb-true, ltb-true, eqb-true}
 use Rattle.grammar.specs.Grammar as G
-use Rattle.grammar.specs.Grammar.{isLower, isUpper, isDigit, isWord, Blank, space, feed, return, Line, Gap, Word, Digits, Symbol, Term, Args, Fact, fact, OneFact, Facts, Text}
-use Rattle.grammar.specs.Reader.{Mode, first, head, arg, word, minus, digits, after, closed, stop, between, remark, Frame, frame, Work, work, nothing, dead, isBlank, layout, push, put, comma, past, limit, bitsAfter, step, Out, stops, reads, before, finish, run, textOf, Solid, Ends}
-use Rattle.grammar.proofs.Complete.{run-gap, rests-first, rests-arg, rests-after, rests-closed, run-word, run-head, name-ends, variable-ends, at-open, at-head-open, at-comma, at-close, at-fact-comma, at-fact-close, at-stop, puts, named, set-over, run-stop}
+use Rattle.grammar.specs.Grammar.{isLower, isUpper, isDigit, isWord, Blank, space, feed, return, Line, Gap, Word, Digits, Symbol, Term, Args}
+use Rattle.grammar.specs.Grammar.{Fact, fact, OneFact, Facts, Text}
+use Rattle.grammar.specs.Reader.{Mode, first, head, arg, word, minus, digits, after, closed, stop, between, remark, Frame, frame, Work, work}
+use Rattle.grammar.specs.Reader.{nothing, dead, isBlank, layout, push, put, onComma, past, limit, bitsAfter, step, Out, stops, reads}
+use Rattle.grammar.specs.Reader.{factBefore, finish, run, textOf, Solid, Ends}
+use Rattle.grammar.proofs.Complete.{run-gap, rests-first, rests-arg, rests-after, rests-closed, run-word, run-head, name-ends, variable-ends}
+use Rattle.grammar.proofs.Complete.{at-open, at-head-open, at-comma, at-close, at-fact-comma, at-fact-close, at-stop, puts, named, set-over}
+use Rattle.grammar.proofs.Complete.{run-stop}
 
 -- a stop is no reading
 pub clash : {A : Type 0} {k : ℕ} {fs : List Fact} → stops k ≡ reads fs → A
@@ -44,11 +49,13 @@ is-blank b e =
     (or-cases (eqb b 32) (eqb b 10 || eqb b 13) e)
 
 skip-byte : (b : ℕ) (xs : List ℕ) (p : ℕ) (t u : Bool) → isBlank b ≡ t → eqb b 37 ≡ u → Skipped (suc p) xs → Lined (suc p) xs → Skipped p (b ∷ xs)
-skip-byte b xs p true u e h s l = record { at = s .at; rest = s .rest; gap = G.blank (is-blank b e) (s .gap); solid = s .solid; within = omega (arith, s .within) }
+skip-byte b xs p true u e h s l =
+    record { at = s .at; rest = s .rest; gap = G.blank (is-blank b e) (s .gap); solid = s .solid; within = omega (arith, s .within) }
 skip-byte b xs p false true e h s l =
     let n = l .next in
     let g : Gap p (37 ∷ xs) (n .at) (n .rest) = G.remark (l .line) (n .gap) in
-    record { at = n .at; rest = n .rest; gap = subst (λ (c : ℕ). Gap p (c ∷ xs) (n .at) (n .rest)) (sym (eqb-true b 37 h)) g; solid = n .solid; within = omega (arith, n .within, l .within) }
+    record { at = n .at; rest = n .rest; gap = subst (λ (c : ℕ). Gap p (c ∷ xs) (n .at) (n .rest)) (sym (eqb-true b 37 h)) g; solid =
+        n .solid; within = omega (arith, n .within, l .within) }
 skip-byte b xs p false false e h s l = record { at = p; rest = b ∷ xs; gap = G.none; solid = (e, h); within = omega arith }
 
 line-byte : (b : ℕ) (xs : List ℕ) (p : ℕ) (t : Bool) → eqb b 10 ≡ t → Skipped (suc p) xs → Lined (suc p) xs → Lined p (b ∷ xs)
@@ -63,7 +70,9 @@ mutual
   skip (b ∷ xs) p = skip-byte b xs p (isBlank b) (eqb b 37) refl refl (skip xs (suc p)) (lined xs (suc p))
 
   lined : (xs : List ℕ) (p : ℕ) → Lined p xs
-  lined [] p = record { at = p; rest = []; line = G.ended; next = record { at = p; rest = []; gap = G.none; solid = tt; within = omega arith }; within = omega arith }
+  lined [] p =
+      record { at = p; rest = []; line = G.ended; next = record { at = p; rest = []; gap = G.none; solid = tt; within = omega arith }; within =
+          omega arith }
   lined (b ∷ xs) p = line-byte b xs p (eqb b 10) refl (skip xs (suc p)) (lined xs (suc p))
 
 -- and a word
@@ -112,7 +121,8 @@ digits-of : (w : Work) (sign : Bool) (v p : ℕ) (xs : List ℕ) (F : List Fact)
 unfolding run finish
 digits-of w sign v p [] F l r = clash r
 digits-of w sign v p (b ∷ xs) F l r =
-    digits-byte w sign v p b xs F (isDigit b) refl (leb (10 * v + (b - 48)) (limit sign)) refl l (λ l′ r′. digits-of w sign (10 * v + (b - 48)) (suc p) xs F l′ r′) r
+    digits-byte w sign v p b xs F (isDigit b) refl (leb (10 * v + (b - 48)) (limit sign)) refl l
+        (λ l′ r′. digits-of w sign (10 * v + (b - 48)) (suc p) xs F l′ r′) r
 
 -- after a term: layout, and then a comma or a bracket
 record Then (b : ℕ) (w : Work) (p : ℕ) (xs : List ℕ) (F : List Fact) : Type 0 where
@@ -122,15 +132,18 @@ record Then (b : ℕ) (w : Work) (p : ℕ) (xs : List ℕ) (F : List Fact) : Typ
   goes : run (b ∷ rest) after w at ≡ reads F
   within : length rest < length xs
 
-after-byte : (w : Work) (p q b : ℕ) (xs ys : List ℕ) (F : List Fact) (t u : Bool) → eqb b 44 ≡ t → eqb b 41 ≡ u → Gap p xs q (b ∷ ys) → length (b ∷ ys) ≤ length xs
+after-byte : (w : Work) (p q b : ℕ) (xs ys : List ℕ) (F : List Fact) (t u : Bool) → eqb b 44 ≡ t → eqb b 41 ≡ u → Gap p xs q (b ∷ ys)
+    → length (b ∷ ys) ≤ length xs
     → isBlank b ≡ false → eqb b 37 ≡ false → run (b ∷ ys) after w q ≡ reads F → Then 44 w p xs F ⊎ Then 41 w p xs F
 unfolding run step past
 after-byte w p q b xs ys F true u e h g l x y r =
     let k = eqb-true b 44 e in
-    inl (record { at = q; rest = ys; gap = subst (λ (c : ℕ). Gap p xs q (c ∷ ys)) k g; goes = subst (λ (c : ℕ). run (c ∷ ys) after w q ≡ reads F) k r; within = omega arith })
+    inl (record { at = q; rest = ys; gap = subst (λ (c : ℕ). Gap p xs q (c ∷ ys)) k g; goes = subst (λ (c : ℕ). run (c ∷ ys) after w q ≡ reads F) k r;
+        within = omega arith })
 after-byte w p q b xs ys F false true e h g l x y r =
     let k = eqb-true b 41 h in
-    inr (record { at = q; rest = ys; gap = subst (λ (c : ℕ). Gap p xs q (c ∷ ys)) k g; goes = subst (λ (c : ℕ). run (c ∷ ys) after w q ≡ reads F) k r; within = omega arith })
+    inr (record { at = q; rest = ys; gap = subst (λ (c : ℕ). Gap p xs q (c ∷ ys)) k g; goes = subst (λ (c : ℕ). run (c ∷ ys) after w q ≡ reads F) k r;
+        within = omega arith })
 after-byte w p q b xs ys F false false e h g l x y r = clash (rw (e, h, not-layout after w b x y) at r)
 
 after-of : (w : Work) (p : ℕ) (xs : List ℕ) (F : List Fact) → run xs after w p ≡ reads F → Then 44 w p xs F ⊎ Then 41 w p xs F
@@ -147,7 +160,7 @@ after-of w p xs F r = go′ (skip xs p)
 -- a comma inside a name that has four arguments is none
 comma-of : (xs : List ℕ) (p s n k : ℕ) (f : Frame) (fs : List Frame) (out : List Symbol) (F : List Fact) (t : Bool) → ltb (f .done) 3 ≡ t
     → run (44 ∷ xs) after (work s n k (f ∷ fs) out) p ≡ reads F → f .done < 3
-unfolding run step past comma
+unfolding run step past onComma
 comma-of xs p s n k f fs out F true e r = ltb-true (f .done) 3 e
 comma-of xs p s n k f fs out F false e r = clash (rw e at r)
 
@@ -193,9 +206,12 @@ name-of : (w : Work) (p b : ℕ) (xs : List ℕ) (F : List Fact) → isLower b �
     → ArgsIs (w .start) (w .end) (w .done) (length (w .out)) p q 0 (w .opened) (w .out ++ (G.name p q 0 ∷ [])) (suc q) ys F)
     → run xs (word true p) w (suc p) ≡ reads F → TermIs w p (b ∷ xs) F
 unfolding run finish put
-name-of w p b xs F e inside r = on (worded xs (suc p) .rest) (worded xs (suc p) .word) (worded xs (suc p) .ends) (worded xs (suc p) .within) (sym (run-word true p w (worded xs (suc p) .word)) ∙ r)
+name-of w p b xs F e inside r =
+    on (worded xs (suc p) .rest) (worded xs (suc p) .word) (worded xs (suc p) .ends) (worded xs (suc p) .within)
+        (sym (run-word true p w (worded xs (suc p) .word)) ∙ r)
   where
-    compound : (q c : ℕ) (ys : List ℕ) → c ≡ 40 → Word (suc p) xs q (c ∷ ys) → length (c ∷ ys) ≤ length xs → run (c ∷ ys) (word true p) w q ≡ reads F → TermIs w p (b ∷ xs) F
+    compound : (q c : ℕ) (ys : List ℕ) → c ≡ 40 → Word (suc p) xs q (c ∷ ys) → length (c ∷ ys) ≤ length xs → run (c ∷ ys) (word true p) w q ≡ reads F
+        → TermIs w p (b ∷ xs) F
     compound q c ys k l h r′ =
         let l′ : Word (suc p) xs q (40 ∷ ys) = subst (λ (x : ℕ). Word (suc p) xs q (x ∷ ys)) k l in
         let r″ : run (40 ∷ ys) (word true p) w q ≡ reads F = subst (λ (x : ℕ). run (x ∷ ys) (word true p) w q ≡ reads F) k r′ in
@@ -205,11 +221,14 @@ name-of w p b xs F e inside r = on (worded xs (suc p) .rest) (worded xs (suc p) 
           rest = a .rest;
           symbols = G.name p q (suc (a .last)) ∷ a .symbols;
           term = G.is-compound e l′ (a .args) (a .small);
-          goes = ap (λ (o : List Symbol). run (a .rest) after (work (w .start) (w .end) (w .done) (w .opened) o) (a .at)) (sym (named (w .out) (a .symbols) (G.name p q 0) (G.name p q (suc (a .last))))) ∙ a .goes;
+          goes =
+              ap (λ (o : List Symbol). run (a .rest) after (work (w .start) (w .end) (w .done) (w .opened) o) (a .at))
+                  (sym (named (w .out) (a .symbols) (G.name p q 0) (G.name p q (suc (a .last))))) ∙ a .goes;
           within = omega (arith, a .within);
         }
 
-    plain : (q c : ℕ) (ys : List ℕ) → eqb c 40 ≡ false → Word (suc p) xs q (c ∷ ys) → isWord c ≡ false → length (c ∷ ys) ≤ length xs → run (c ∷ ys) (word true p) w q ≡ reads F → TermIs w p (b ∷ xs) F
+    plain : (q c : ℕ) (ys : List ℕ) → eqb c 40 ≡ false → Word (suc p) xs q (c ∷ ys) → isWord c ≡ false → length (c ∷ ys) ≤ length xs
+        → run (c ∷ ys) (word true p) w q ≡ reads F → TermIs w p (b ∷ xs) F
     plain q c ys k l n h r′ =
         record {
           at = q;
@@ -220,7 +239,8 @@ name-of w p b xs F e inside r = on (worded xs (suc p) .rest) (worded xs (suc p) 
           within = omega arith;
         }
 
-    by-bracket : (q c : ℕ) (ys : List ℕ) (t : Bool) → eqb c 40 ≡ t → Word (suc p) xs q (c ∷ ys) → isWord c ≡ false → length (c ∷ ys) ≤ length xs → run (c ∷ ys) (word true p) w q ≡ reads F → TermIs w p (b ∷ xs) F
+    by-bracket : (q c : ℕ) (ys : List ℕ) (t : Bool) → eqb c 40 ≡ t → Word (suc p) xs q (c ∷ ys) → isWord c ≡ false → length (c ∷ ys) ≤ length xs
+        → run (c ∷ ys) (word true p) w q ≡ reads F → TermIs w p (b ∷ xs) F
     by-bracket q c ys true k l n h r′ = compound q c ys (eqb-true c 40 k) l h r′
     by-bracket q c ys false k l n h r′ = plain q c ys k l n h r′
 
@@ -245,7 +265,8 @@ number-of : (w : Work) (p b : ℕ) (xs : List ℕ) (F : List Fact) → isDigit b
 unfolding put
 number-of w p b xs F e r =
     let d = digits-of w false (b - 48) (suc p) xs F (omega (arith, digit-small b e)) r in
-    record { at = d .at; rest = d .rest; symbols = G.number (d .value) ∷ []; term = G.is-number e (d .read) (d .small); goes = d .goes; within = omega (arith, d .within) }
+    record { at = d .at; rest = d .rest; symbols = G.number (d .value) ∷ []; term = G.is-number e (d .read) (d .small); goes = d .goes; within =
+        omega (arith, d .within) }
 
 negative-of : (w : Work) (p b : ℕ) (xs : List ℕ) (F : List Fact) → isDigit b ≡ true → run xs (digits true (b - 48)) w (suc (suc p)) ≡ reads F
     → TermIs w p (45 ∷ b ∷ xs) F
@@ -292,9 +313,11 @@ mutual
   term-of (suc n) w p [] F l o r = clash r
   term-of (suc n) w p (b ∷ xs) F l o r =
       term-byte w p b xs F (isLower b) (isUpper b) (isDigit b) (eqb b 45) refl refl refl refl (o .0) (o .1)
-      (λ q ys h r′. args-of n (w .start) (w .end) (w .done) (length (w .out)) p q 0 (w .opened) (w .out ++ (G.name p q 0 ∷ [])) (suc q) ys F (omega arith) (omega arith) r′) r
+      (λ q ys h r′. args-of n (w .start) (w .end) (w .done) (length (w .out)) p q 0 (w .opened) (w .out ++ (G.name p q 0 ∷ [])) (suc q) ys F
+          (omega arith) (omega arith) r′) r
 
-  args-of : (fuel : ℕ) (s n k i a m c : ℕ) (fs : List Frame) (out : List Symbol) (p : ℕ) (xs : List ℕ) (F : List Fact) → suc (length xs + length xs) ≤ fuel → c ≤ 3
+  args-of : (fuel : ℕ) (s n k i a m c : ℕ) (fs : List Frame) (out : List Symbol) (p : ℕ) (xs : List ℕ) (F : List Fact)
+      → suc (length xs + length xs) ≤ fuel → c ≤ 3
       → run xs arg (work s n k (frame i a m c ∷ fs) out) p ≡ reads F → ArgsIs s n k i a m c fs out p xs F
   args-of zero s n k i a m c fs out p xs F l h r = absurd (omega arith)
   args-of (suc u) s n k i a m c fs out p xs F l h r =
@@ -304,7 +327,9 @@ mutual
       ⊎-elim
       (λ (x : Then 44 (puts (t .symbols) w) (t .at) (t .rest) F).
       (let y = comma-of (x .rest) (x .at) s n k (frame i a m c) fs (out ++ t .symbols) F (ltb c 3) refl (x .goes) in
-      let z = args-of u s n k i a m (suc c) fs (set (out ++ t .symbols) i (G.name a m (suc c))) (suc (x .at)) (x .rest) F (omega (arith, x .within, t .within, g .within)) (omega arith) (sym (at-comma (x .rest) (x .at) s n k (frame i a m c) fs (out ++ t .symbols) y) ∙ x .goes) in
+      let z = args-of u s n k i a m (suc c) fs (set (out ++ t .symbols) i (G.name a m (suc c))) (suc (x .at)) (x .rest) F
+          (omega (arith, x .within, t .within, g .within)) (omega arith)
+          (sym (at-comma (x .rest) (x .at) s n k (frame i a m c) fs (out ++ t .symbols) y) ∙ x .goes) in
       record {
         at = z .at;
         rest = z .rest;
@@ -342,7 +367,8 @@ record WidthIs (s n c : ℕ) (out : List Symbol) (p : ℕ) (xs : List ℕ) (F : 
   goes : run rest closed (work s n last [] (out ++ symbols)) at ≡ reads F
   within : length rest < length xs
 
-width-of : (fuel : ℕ) (s n c : ℕ) (out : List Symbol) (p : ℕ) (xs : List ℕ) (F : List Fact) → length xs < fuel → run xs arg (work s n c [] out) p ≡ reads F → WidthIs s n c out p xs F
+width-of : (fuel : ℕ) (s n c : ℕ) (out : List Symbol) (p : ℕ) (xs : List ℕ) (F : List Fact) → length xs < fuel
+    → run xs arg (work s n c [] out) p ≡ reads F → WidthIs s n c out p xs F
 width-of zero s n c out p xs F l r = absurd (omega arith)
 width-of (suc u) s n c out p xs F l r =
     let w = work s n c [] out in
@@ -350,7 +376,8 @@ width-of (suc u) s n c out p xs F l r =
     let t = term-of (length (g .rest) + length (g .rest)) w (g .at) (g .rest) F (omega arith) (g .solid) (sym (run-gap (rests-arg w) (g .gap)) ∙ r) in
     ⊎-elim
     (λ (x : Then 44 (puts (t .symbols) w) (t .at) (t .rest) F).
-    (let z = width-of u s n (suc c) (out ++ t .symbols) (suc (x .at)) (x .rest) F (omega (arith, x .within, t .within, g .within)) (sym (at-fact-comma (x .rest) (x .at) s n c (out ++ t .symbols)) ∙ x .goes) in
+    (let z = width-of u s n (suc c) (out ++ t .symbols) (suc (x .at)) (x .rest) F (omega (arith, x .within, t .within, g .within))
+        (sym (at-fact-comma (x .rest) (x .at) s n c (out ++ t .symbols)) ∙ x .goes) in
     record {
       at = z .at;
       rest = z .rest;
@@ -385,7 +412,8 @@ closed-byte : (w : Work) (p q b : ℕ) (xs ys : List ℕ) (F : List Fact) (t : B
 unfolding run step
 closed-byte w p q b xs ys F true e g l x y r =
     let k = eqb-true b 46 e in
-    record { at = q; rest = ys; gap = subst (λ (c : ℕ). Gap p xs q (c ∷ ys)) k g; goes = subst (λ (c : ℕ). run (c ∷ ys) closed w q ≡ reads F) k r; within = omega arith }
+    record { at = q; rest = ys; gap = subst (λ (c : ℕ). Gap p xs q (c ∷ ys)) k g; goes = subst (λ (c : ℕ). run (c ∷ ys) closed w q ≡ reads F) k r;
+        within = omega arith }
 closed-byte w p q b xs ys F false e g l x y r = clash (rw (e, not-layout closed w b x y) at r)
 
 closed-of : (w : Work) (p : ℕ) (xs : List ℕ) (F : List Fact) → run xs closed w p ≡ reads F → Closed w p xs F
@@ -407,15 +435,18 @@ record FactIs (p : ℕ) (xs : List ℕ) (F : List Fact) : Type 0 where
   goes : run rest stop nothing at ≡ reads others
   within : length rest < length xs
 
-pub before-reads : (f : Fact) (o : Out) (F : List Fact) → before f o ≡ reads F → (H : List Fact) × (o ≡ reads H) × (F ≡ f ∷ H)
+pub before-reads : (f : Fact) (o : Out) (F : List Fact) → factBefore f o ≡ reads F → (H : List Fact) × (o ≡ reads H) × (F ≡ f ∷ H)
 before-reads f (stops k) F e = clash e
 before-reads f (reads H) F e = (H, refl, cc)
 
 head-of : (w : Work) (p b : ℕ) (xs : List ℕ) (F : List Fact) → isLower b ≡ true → run xs (head p) w (suc p) ≡ reads F → FactIs p (b ∷ xs) F
 unfolding run finish step
-head-of w p b xs F e r = on (worded xs (suc p) .rest) (worded xs (suc p) .word) (worded xs (suc p) .ends) (worded xs (suc p) .within) (sym (run-head p w (worded xs (suc p) .word)) ∙ r)
+head-of w p b xs F e r =
+    on (worded xs (suc p) .rest) (worded xs (suc p) .word) (worded xs (suc p) .ends) (worded xs (suc p) .within)
+        (sym (run-head p w (worded xs (suc p) .word)) ∙ r)
   where
-    opened : (q c : ℕ) (ys : List ℕ) → c ≡ 40 → Word (suc p) xs q (c ∷ ys) → length (c ∷ ys) ≤ length xs → run (c ∷ ys) (head p) w q ≡ reads F → FactIs p (b ∷ xs) F
+    opened : (q c : ℕ) (ys : List ℕ) → c ≡ 40 → Word (suc p) xs q (c ∷ ys) → length (c ∷ ys) ≤ length xs → run (c ∷ ys) (head p) w q ≡ reads F
+        → FactIs p (b ∷ xs) F
     opened q c ys k l h r′ =
         let l′ : Word (suc p) xs q (40 ∷ ys) = subst (λ (x : ℕ). Word (suc p) xs q (x ∷ ys)) k l in
         let r″ : run (40 ∷ ys) (head p) w q ≡ reads F = subst (λ (x : ℕ). run (x ∷ ys) (head p) w q ≡ reads F) k r′ in
@@ -437,7 +468,8 @@ head-of w p b xs F e r = on (worded xs (suc p) .rest) (worded xs (suc p) .word) 
     shut : (q c : ℕ) (ys : List ℕ) → eqb c 40 ≡ false → isWord c ≡ false → run (c ∷ ys) (head p) w q ≡ reads F → FactIs p (b ∷ xs) F
     shut q c ys k n r′ = clash (rw (n, k) at r′)
 
-    by-bracket : (q c : ℕ) (ys : List ℕ) (t : Bool) → eqb c 40 ≡ t → Word (suc p) xs q (c ∷ ys) → isWord c ≡ false → length (c ∷ ys) ≤ length xs → run (c ∷ ys) (head p) w q ≡ reads F → FactIs p (b ∷ xs) F
+    by-bracket : (q c : ℕ) (ys : List ℕ) (t : Bool) → eqb c 40 ≡ t → Word (suc p) xs q (c ∷ ys) → isWord c ≡ false → length (c ∷ ys) ≤ length xs
+        → run (c ∷ ys) (head p) w q ≡ reads F → FactIs p (b ∷ xs) F
     by-bracket q c ys true k l n h r′ = opened q c ys (eqb-true c 40 k) l h r′
     by-bracket q c ys false k l n h r′ = shut q c ys k n r′
 
@@ -445,12 +477,14 @@ head-of w p b xs F e r = on (worded xs (suc p) .rest) (worded xs (suc p) .word) 
     on [] l n h r′ = clash r′
     on {q} (c ∷ ys) l n h r′ = by-bracket q c ys (eqb c 40) refl l n h r′
 
-first-byte : (w : Work) (p b : ℕ) (xs : List ℕ) (F : List Fact) (t : Bool) → isLower b ≡ t → isBlank b ≡ false → eqb b 37 ≡ false → run (b ∷ xs) first w p ≡ reads F → FactIs p (b ∷ xs) F
+first-byte : (w : Work) (p b : ℕ) (xs : List ℕ) (F : List Fact) (t : Bool) → isLower b ≡ t → isBlank b ≡ false → eqb b 37 ≡ false
+    → run (b ∷ xs) first w p ≡ reads F → FactIs p (b ∷ xs) F
 unfolding run step
 first-byte w p b xs F true e x y r = head-of w p b xs F e (rw e at r)
 first-byte w p b xs F false e x y r = clash (rw (e, not-layout first w b x y) at r)
 
-next-byte : (w : Work) (p b : ℕ) (xs : List ℕ) (F : List Fact) (t : Bool) → isLower b ≡ t → isBlank b ≡ false → eqb b 37 ≡ false → run (b ∷ xs) between w p ≡ reads F → FactIs p (b ∷ xs) F
+next-byte : (w : Work) (p b : ℕ) (xs : List ℕ) (F : List Fact) (t : Bool) → isLower b ≡ t → isBlank b ≡ false → eqb b 37 ≡ false
+    → run (b ∷ xs) between w p ≡ reads F → FactIs p (b ∷ xs) F
 unfolding run step
 next-byte w p b xs F true e x y r = head-of w p b xs F e (rw e at r)
 next-byte w p b xs F false e x y r = clash (rw (e, not-layout between w b x y) at r)
@@ -509,10 +543,13 @@ stop-ended w F (G.remark l g) e r = reads-nil F (rw e at (sym (run-stop w (G.rem
 facts-of : (fuel p : ℕ) (xs : List ℕ) (F : List Fact) → length xs ≤ fuel → FactIs p xs F → Facts p xs F
 facts-of zero p xs F l x = absurd (omega (arith, x .within))
 facts-of (suc fuel) p xs F l x =
-    subst (λ (H : List Fact). Facts p xs H) (sym (x .all)) (others (stopped (x .at) (x .rest)) (λ q b ys h o r. facts-of fuel q (b ∷ ys) (x .others) (omega (arith, x .within)) (next-byte nothing q b ys (x .others) (isLower b) refl (o .0) (o .1) r)))
+    subst (λ (H : List Fact). Facts p xs H) (sym (x .all))
+        (others (stopped (x .at) (x .rest)) (λ q b ys h o r. facts-of fuel q (b ∷ ys) (x .others) (omega (arith, x .within))
+        (next-byte nothing q b ys (x .others) (isLower b) refl (o .0) (o .1) r)))
   where
     others : Stopped (x .at) (x .rest)
-        → ((q b : ℕ) (ys : List ℕ) → length (b ∷ ys) ≤ length (x .rest) → Solid (b ∷ ys) → run (b ∷ ys) between nothing q ≡ reads (x .others) → Facts q (b ∷ ys) (x .others))
+        → ((q b : ℕ) (ys : List ℕ) → length (b ∷ ys) ≤ length (x .rest) → Solid (b ∷ ys) → run (b ∷ ys) between nothing q ≡ reads (x .others)
+            → Facts q (b ∷ ys) (x .others))
         → Facts p xs (x .fact ∷ x .others)
     others (ended g) k = subst (λ (K : List Fact). Facts p xs (x .fact ∷ K)) (sym (stop-ended nothing (x .others) g refl (x .goes))) (G.last (x .one) g)
     others (on {q = q} {b = b} {ys = ys} g h o j) k = G.more (x .one) g h (k q b ys j o (sym (run-stop nothing g h) ∙ x .goes))
@@ -526,4 +563,5 @@ text-is t F r = on′ (skip t 0 .rest) (skip t 0 .gap) (skip t 0 .solid) (sym (r
     on′ : {q : ℕ} (ys : List ℕ) → Gap 0 t q ys → Solid ys → run ys first nothing q ≡ reads F → Text t F
     on′ [] g o r′ = clash r′
     on′ {q} (b ∷ ys) g o r′ =
-        record { at = q; rest = b ∷ ys; layout = g; facts = facts-of (length (b ∷ ys)) q (b ∷ ys) F (omega arith) (first-byte nothing q b ys F (isLower b) refl (o .0) (o .1) r′) }
+        record { at = q; rest = b ∷ ys; layout = g; facts =
+            facts-of (length (b ∷ ys)) q (b ∷ ys) F (omega arith) (first-byte nothing q b ys F (isLower b) refl (o .0) (o .1) r′) }

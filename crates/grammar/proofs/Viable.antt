@@ -8,9 +8,11 @@ use native.Mathlib.Omega.{arith}
 use lib.ListN.{length, take}
 use Rattle.grammar.specs.Grammar as G
 use Rattle.grammar.specs.Grammar.{isLower, isDigit, Symbol, Fact, fact}
-use Rattle.grammar.specs.Reader.{Mode, first, head, arg, word, minus, digits, after, closed, stop, between, remark, Frame, Work, work, nothing, Next, dead, go, says, put, bitsAfter, step, Out, stops, reads, before, finish, run, textOf}
+use Rattle.grammar.specs.Reader.{Mode, first, head, arg, word, minus, digits, after, closed, stop, between, remark, Frame, Work, work, nothing}
+use Rattle.grammar.specs.Reader.{Next, dead, go, says, put, bitsAfter, step, Out, stops, reads, factBefore, finish, run, textOf}
 use Rattle.grammar.specs.Stops.{Begins, Stops, at-byte, at-end}
-use Rattle.grammar.proofs.Complete.{Follows, name-ends, variable-ends, follows-ends, digits-end, after-minus, at-lower, at-first, at-head-open, at-close, at-fact-close, at-stop, text-read, bracket-follows}
+use Rattle.grammar.proofs.Complete.{Follows, name-ends, variable-ends, follows-ends, digits-end, after-minus, at-lower, at-first}
+use Rattle.grammar.proofs.Complete.{at-head-open, at-close, at-fact-close, at-stop, text-read, bracket-follows}
 use Rattle.grammar.proofs.Sound.{clash, text-is}
 
 -- Every mode can be brought to an end.
@@ -49,7 +51,9 @@ unfolding isLower
 arg-lives w p = let r = name-lives p w (suc p) in record { rest = 97 ∷ r .rest; facts = r .facts; goes = at-lower 97 (r .rest) w p refl ∙ r .goes }
 
 head-lives : (s : ℕ) (w : Work) (p : ℕ) → Lives [] (head s) w p
-head-lives s w p = let r = arg-lives (work s p 0 [] []) (suc p) in record { rest = 40 ∷ r .rest; facts = r .facts; goes = at-head-open (r .rest) p s w ∙ r .goes }
+head-lives s w p =
+    let r = arg-lives (work s p 0 [] []) (suc p) in
+    record { rest = 40 ∷ r .rest; facts = r .facts; goes = at-head-open (r .rest) p s w ∙ r .goes }
 
 digits-live : (sign : Bool) (v : ℕ) (w : Work) (p : ℕ) → Lives [] (digits sign v) w p
 unfolding put
@@ -70,7 +74,8 @@ mode-lives arg w p = arg-lives w p
 mode-lives (word true s) w p = name-lives s w p
 mode-lives (word false s) w p =
     let r = run-closes (w .opened) (w .start) (w .end) (w .done) (w .out ++ (G.variable s p ∷ [])) p in
-    record { rest = closes (w .opened); facts = r .0; goes = variable-ends s w p (closes (w .opened)) (follows-ends (closes (w .opened)) (closes-follow (w .opened))) ∙ r .1 }
+    record { rest = closes (w .opened); facts = r .0; goes =
+        variable-ends s w p (closes (w .opened)) (follows-ends (closes (w .opened)) (closes-follow (w .opened))) ∙ r .1 }
 mode-lives minus w p = minus-lives w p
 mode-lives (digits sign v) w p = digits-live sign v w p
 mode-lives after w p = after-lives w p
@@ -98,7 +103,7 @@ finish-place stop p k e = clash (sym e)
 finish-place between p k e = clash (sym e)
 finish-place (remark m) p k e = finish-place m p k e
 
-before-stops : (f : Fact) (o : Out) (k : ℕ) → before f o ≡ stops k → o ≡ stops k
+before-stops : (f : Fact) (o : Out) (k : ℕ) → factBefore f o ≡ stops k → o ≡ stops k
 before-stops f (stops j) k e = e
 before-stops f (reads F) k e = clash (sym e)
 
@@ -107,17 +112,21 @@ unfolding run
 on-go e (inside j h q f l) = inside (suc j) (omega arith) (omega arith) (λ v. rw e (f v)) (record { rest = l .rest; facts = l .facts; goes = rw e (l .goes) })
 on-go e (outside q l) = outside (omega arith) (record { rest = l .rest; facts = l .facts; goes = rw e (l .goes) })
 
-on-says : {b : ℕ} {xs : List ℕ} {f : Fact} {m m′ : Mode} {w w′ : Work} {p k : ℕ} → step m w p b ≡ says f m′ w′ → Halts xs m′ w′ (suc p) k → Halts (b ∷ xs) m w p k
+on-says : {b : ℕ} {xs : List ℕ} {f : Fact} {m m′ : Mode} {w w′ : Work} {p k : ℕ} → step m w p b ≡ says f m′ w′ → Halts xs m′ w′ (suc p) k
+    → Halts (b ∷ xs) m w p k
 unfolding run
-on-says {f = f} e (inside j h q g l) = inside (suc j) (omega arith) (omega arith) (λ v. rw e (ap (before f) (g v))) (record { rest = l .rest; facts = f ∷ l .facts; goes = rw e (ap (before f) (l .goes)) })
-on-says {f = f} e (outside q l) = outside (omega arith) (record { rest = l .rest; facts = f ∷ l .facts; goes = rw e (ap (before f) (l .goes)) })
+on-says {f = f} e (inside j h q g l) =
+    inside (suc j) (omega arith) (omega arith) (λ v. rw e (ap (factBefore f) (g v)))
+        (record { rest = l .rest; facts = f ∷ l .facts; goes = rw e (ap (factBefore f) (l .goes)) })
+on-says {f = f} e (outside q l) = outside (omega arith) (record { rest = l .rest; facts = f ∷ l .facts; goes = rw e (ap (factBefore f) (l .goes)) })
 
 halts : (xs : List ℕ) (m : Mode) (w : Work) (p k : ℕ) → run xs m w p ≡ stops k → Halts xs m w p k
 unfolding run
 halts [] m w p k e = outside (finish-place m p k e ∙ sym (add-zero p)) (mode-lives m w p)
 halts (b ∷ xs) m w p k e = on (step m w p b) refl (λ m′ w′. halts xs m′ w′ (suc p) k) e
   where
-    on : (n : Next) → step m w p b ≡ n → ((m′ : Mode) (w′ : Work) → run xs m′ w′ (suc p) ≡ stops k → Halts xs m′ w′ (suc p) k) → run (b ∷ xs) m w p ≡ stops k → Halts (b ∷ xs) m w p k
+    on : (n : Next) → step m w p b ≡ n → ((m′ : Mode) (w′ : Work) → run xs m′ w′ (suc p) ≡ stops k → Halts xs m′ w′ (suc p) k)
+        → run (b ∷ xs) m w p ≡ stops k → Halts (b ∷ xs) m w p k
     on dead h f r =
         let q : stops p ≡ stops k = rw h at r in
         let z : k ≡ p = cc in

@@ -18,17 +18,17 @@ abbrev pub place : ℕ → ℕ → Place
 place s e = record { start = s; end = e }
 
 -- its bytes
-abbrev pub bytesOf : List ℕ → Place → List ℕ
-bytesOf t w = slice (w .start) (w .end) t
+abbrev pub bytesAt : List ℕ → Place → List ℕ
+bytesAt t w = slice (w .start) (w .end) t
 
 -- the position in a list of the first place that has these bytes; the list's length where there is none
 unfoldable pub position : List ℕ → List ℕ → List Place → ℕ
 position t w [] = 0
-position t w (v ∷ vs) = cond (same w (bytesOf t v)) 0 (suc (position t w vs))
+position t w (v ∷ vs) = cond (same w (bytesAt t v)) 0 (suc (position t w vs))
 
 -- one more place, where the list has none with its bytes
 unfoldable pub meet : List ℕ → List Place → Place → List Place
-meet t ws w = cond (ltb (position t (bytesOf t w) ws) (length ws)) ws (ws ++ (w ∷ []))
+meet t ws w = cond (ltb (position t (bytesAt t w) ws) (length ws)) ws (ws ++ (w ∷ []))
 
 -- "Names are numbered from 0 in order of first appearance": where each name first stands, some being listed before
 unfoldable pub namesFrom : List ℕ → List Place → List Symbol → List Place
@@ -47,7 +47,7 @@ namesOf t fs = namesFrom t [] (symbolsOf fs)
 -- 01, "Variables are numbered 0, 1, 2 in order of first appearance, in each row"; "`_` as a fresh variable each time": `_` is 95.
 -- The number of a variable, those before it in a list; and the list with it
 unfoldable pub variableNumber : List ℕ → List Place → Place → ℕ
-variableNumber t vs w = cond (same (bytesOf t w) (95 ∷ [])) (length vs) (position t (bytesOf t w) vs)
+variableNumber t vs w = cond (same (bytesAt t w) (95 ∷ [])) (length vs) (position t (bytesAt t w) vs)
 
 unfoldable pub variablesWith : List ℕ → List Place → Place → List Place
 variablesWith t vs w = cond (ltb (variableNumber t vs w) (length vs)) vs (vs ++ (w ∷ []))
@@ -55,7 +55,7 @@ variablesWith t vs w = cond (ltb (variableNumber t vs w) (length vs)) vs (vs ++ 
 -- the cells of a row, a cell for each symbol, by the names and the variables listed
 unfoldable pub cellsFrom : List ℕ → List Place → List Place → List Symbol → List ℕ
 cellsFrom t ns vs [] = []
-cellsFrom t ns vs (name s e a ∷ ss) = nameCell a (position t (bytesOf t (place s e)) ns) ∷ cellsFrom t ns vs ss
+cellsFrom t ns vs (name s e a ∷ ss) = nameCell a (position t (bytesAt t (place s e)) ns) ∷ cellsFrom t ns vs ss
 cellsFrom t ns vs (variable s e ∷ ss) = variableCell (variableNumber t vs (place s e)) ∷ cellsFrom t ns (variablesWith t vs (place s e)) ss
 cellsFrom t ns vs (number v ∷ ss) = numberCell v ∷ cellsFrom t ns vs ss
 

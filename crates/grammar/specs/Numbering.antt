@@ -7,7 +7,7 @@ use lib.ListN.{length}
 use lib.Seq.{slice}
 use Rattle.cell.specs.Cell.{variableCell, nameCell, numberCell}
 use Rattle.grammar.specs.Grammar.{Symbol, name, variable, number, Fact}
-use Rattle.grammar.specs.Meaning.{Place, place, bytesOf}
+use Rattle.grammar.specs.Meaning.{Place, place, bytesAt}
 
 -- a word is a list of bytes
 abbrev pub Words : Type 0
@@ -29,7 +29,7 @@ pub record First (words : Words) (k : ℕ) (w : List ℕ) : Type 0 where
 
 -- the words that stand at these places of a text
 abbrev pub wordsAt : List ℕ → List Place → Words
-wordsAt t = map (bytesOf t)
+wordsAt t = map (bytesAt t)
 
 -- "Names are numbered from 0 in order of first appearance, and a list of where each name first stands in the text": the places of the
 -- symbols' names that are new, in their order, when these words are met before
@@ -56,21 +56,21 @@ Unnamed w = w ≡ 95 ∷ []
 -- The cells of a row by the words of the names, when these variables of the row are met before. A name's number is where its bytes first
 -- stand among the words, which may be those of another text (a goal's names are the table's).
 -- 01, "Variables are numbered 0, 1, 2 in order of first appearance, in each row"
-pub data Row (t : List ℕ) (words : Words) : Words → List Symbol → List ℕ → Type 0 where
-  none : {met : Words} → Row t words met [] []
+pub data NumberedRow (t : List ℕ) (words : Words) : Words → List Symbol → List ℕ → Type 0 where
+  none : {met : Words} → NumberedRow t words met [] []
   a-name : {met : Words} {k s e a c : ℕ} {ss : List Symbol} {cs : List ℕ} → First words k (slice s e t)
-      → c ≡ nameCell a k → Row t words met ss cs → Row t words met (name s e a ∷ ss) (c ∷ cs)
+      → c ≡ nameCell a k → NumberedRow t words met ss cs → NumberedRow t words met (name s e a ∷ ss) (c ∷ cs)
   a-number : {met : Words} {v c : ℕ} {ss : List Symbol} {cs : List ℕ}
-      → c ≡ numberCell v → Row t words met ss cs → Row t words met (number v ∷ ss) (c ∷ cs)
+      → c ≡ numberCell v → NumberedRow t words met ss cs → NumberedRow t words met (number v ∷ ss) (c ∷ cs)
   unnamed : {met : Words} {s e c : ℕ} {ss : List Symbol} {cs : List ℕ} → Unnamed (slice s e t)
-      → c ≡ variableCell (length met) → Row t words (met ++ (slice s e t ∷ [])) ss cs → Row t words met (variable s e ∷ ss) (c ∷ cs)
+      → c ≡ variableCell (length met) → NumberedRow t words (met ++ (slice s e t ∷ [])) ss cs → NumberedRow t words met (variable s e ∷ ss) (c ∷ cs)
   first : {met : Words} {s e c : ℕ} {ss : List Symbol} {cs : List ℕ} → New met (slice s e t)
-      → c ≡ variableCell (length met) → Row t words (met ++ (slice s e t ∷ [])) ss cs → Row t words met (variable s e ∷ ss) (c ∷ cs)
+      → c ≡ variableCell (length met) → NumberedRow t words (met ++ (slice s e t ∷ [])) ss cs → NumberedRow t words met (variable s e ∷ ss) (c ∷ cs)
   again : {met : Words} {k s e c : ℕ} {ss : List Symbol} {cs : List ℕ} → (Unnamed (slice s e t) → ⊥) → Nth met k (slice s e t)
-      → c ≡ variableCell k → Row t words met ss cs → Row t words met (variable s e ∷ ss) (c ∷ cs)
+      → c ≡ variableCell k → NumberedRow t words met ss cs → NumberedRow t words met (variable s e ∷ ss) (c ∷ cs)
 
 -- the cells of all rows, the variables of each by themselves
 pub data Rows (t : List ℕ) (names : List Place) : List Fact → List ℕ → Type 0 where
   none : Rows t names [] []
   more : {f : Fact} {fs : List Fact} {row others all : List ℕ}
-      → Row t (wordsAt t names) [] (f .symbols) row → Rows t names fs others → all ≡ row ++ others → Rows t names (f ∷ fs) all
+      → NumberedRow t (wordsAt t names) [] (f .symbols) row → Rows t names fs others → all ≡ row ++ others → Rows t names (f ∷ fs) all

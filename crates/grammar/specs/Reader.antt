@@ -76,18 +76,18 @@ abbrev pub oneMoreIn : Frame → List Symbol → List Symbol
 oneMoreIn f out = set out (f .owner) (name (f .start) (f .end) (suc (f .done)))
 
 -- a comma, of the fact or of the innermost open name, which has at most 4 arguments; a closing bracket
-unfoldable pub comma : ℕ → ℕ → ℕ → List Frame → List Symbol → Next
-comma s n k [] out = go arg (work s n (suc k) [] out)
-comma s n k (f ∷ fs) out = cond (ltb (f .done) 3) (go arg (work s n k (oneMore f ∷ fs) (oneMoreIn f out))) dead
+unfoldable pub onComma : ℕ → ℕ → ℕ → List Frame → List Symbol → Next
+onComma s n k [] out = go arg (work s n (suc k) [] out)
+onComma s n k (f ∷ fs) out = cond (ltb (f .done) 3) (go arg (work s n k (oneMore f ∷ fs) (oneMoreIn f out))) dead
 
-unfoldable pub close : ℕ → ℕ → ℕ → List Frame → List Symbol → Next
-close s n k [] out = go closed (work s n k [] out)
-close s n k (f ∷ fs) out = go after (work s n k fs (oneMoreIn f out))
+unfoldable pub onClose : ℕ → ℕ → ℕ → List Frame → List Symbol → Next
+onClose s n k [] out = go closed (work s n k [] out)
+onClose s n k (f ∷ fs) out = go after (work s n k fs (oneMoreIn f out))
 
 unfoldable pub past : Work → ℕ → Next
 past now byte =
-    cond (eqb byte 44) (comma (now .start) (now .end) (now .done) (now .opened) (now .out))
-    (cond (eqb byte 41) (close (now .start) (now .end) (now .done) (now .opened) (now .out))
+    cond (eqb byte 44) (onComma (now .start) (now .end) (now .done) (now .opened) (now .out))
+    (cond (eqb byte 41) (onClose (now .start) (now .end) (now .done) (now .opened) (now .out))
     (layout after now byte))
 
 abbrev pub symbol : Bool → ℕ → ℕ → Symbol
@@ -127,9 +127,9 @@ pub data Out : Type 0 where
   stops : ℕ → Out
   reads : List Fact → Out
 
-abbrev pub before : Fact → Out → Out
-before f (stops k) = stops k
-before f (reads fs) = reads (f ∷ fs)
+abbrev pub factBefore : Fact → Out → Out
+factBefore f (stops k) = stops k
+factBefore f (reads fs) = reads (f ∷ fs)
 
 -- the text ends
 unfoldable pub finish : Mode → ℕ → Out
@@ -148,7 +148,7 @@ finish (remark m) p = finish m p
 abbrev pub follow : Next → ℕ → (Mode → Work → Out) → Out
 follow dead p k = stops p
 follow (go m w) p k = k m w
-follow (says f m w) p k = before f (k m w)
+follow (says f m w) p k = factBefore f (k m w)
 
 unfoldable pub run : List ℕ → Mode → Work → ℕ → Out
 run [] m w p = finish m p

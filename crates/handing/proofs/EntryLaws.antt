@@ -31,7 +31,7 @@ use Rattle.unfolding.specs.Unfolds.{Unfolds}
 use Rattle.unfolding.specs.declared.Unfolded.{Unfolded}
 use Rattle.unfolding.specs.declared.Unfolded.the-variants as unfolded
 use Rattle.unfolding.proofs.ShortLaws.{flat-short}
-use Rattle.handing.specs.code.Lines.{blanks, Written}
+use Rattle.handing.specs.code.Lines.{blanks, ProgramWritten}
 use Rattle.handing.specs.code.Sizes.{Gives, short, enough}
 use Rattle.handing.proofs.PlainLaws.{program-plain}
 use Rattle.handing.proofs.BytesLaws.{text-long}
@@ -83,7 +83,7 @@ module _ {t p xs : List ℕ} {n : ℕ} (m : MadeOf t p xs n) where
     not-listed false s e = no-names (m .T) (m .reads) (listed-rows text names t false reads-table s) refl refl
 
     module _ (l : Listed text names (m .T .rows)) where
-      pub written : Written (take n xs)
+      pub written : ProgramWritten (take n xs)
       written = record {
         clauses = cs;
         is = m .found;
@@ -97,7 +97,7 @@ module _ {t p xs : List ℕ} {n : ℕ} (m : MadeOf t p xs n) where
       by-room (enough h e q) = handed (m .T) (m .tree) (m .reads) (m .is) l h e q
 
       pub is-handed : {room room′ : List ℕ} {r : HandAnswer}
-          → ((w : Written (take n xs)) → length (textFor text names (w .clauses)) ≡ programBytes (blanks names) (w .clauses)
+          → ((w : ProgramWritten (take n xs)) → length (textFor text names (w .clauses)) ≡ programBytes (blanks names) (w .clauses)
           → Gives (length (w .clauses)) (textFor text names (w .clauses)) room room′ r)
           → Handed t p text names room room′ r
       unfolding written

@@ -13,7 +13,7 @@ use Rattle.clauses.specs.Text.{lineText, programText}
 use Rattle.clauses.specs.Handed.{textFor}
 use Rattle.clauses.specs.code.Size.{lineBytes, programBytes}
 use Rattle.unfolding.specs.Flat.{flatOne, flat}
-use Rattle.handing.specs.code.Lines.{blanks, One, Written, Left, Begins}
+use Rattle.handing.specs.code.Lines.{blanks, One, ProgramWritten, Left, Begins}
 
 -- the clause at a place, and those after it
 pub record Here (xs : List ℕ) (at end : ℕ) (cs : List Clause) : Type 0 where
@@ -54,7 +54,7 @@ none-here xs at [] l h = refl
 none-here xs at (c ∷ cs) l h =
     absurd (let z : ⊥ = omega (arith, ap length (l .is), length-drop at xs, length-append (flatOne c) (flat cs)) in z)
 
-all-left : {xs : List ℕ} (w : Written xs) → Left xs 0 (w .clauses)
+all-left : {xs : List ℕ} (w : ProgramWritten xs) → Left xs 0 (w .clauses)
 all-left w = record { is = w .is; plain = w .plain }
 
 -- MEASURED: so many clauses and bytes, and those that are left
@@ -64,7 +64,7 @@ pub record Rest (names xs : List ℕ) (all : List Clause) (at clauses bytes : �
   pub count : clauses + length left ≡ length all
   pub sum : bytes + programBytes (blanks names) left ≡ programBytes (blanks names) all
 
-pub rest-begins : (names : List ℕ) {xs : List ℕ} (w : Written xs) → Rest names xs (w .clauses) 0 0 0
+pub rest-begins : (names : List ℕ) {xs : List ℕ} (w : ProgramWritten xs) → Rest names xs (w .clauses) 0 0 0
 rest-begins names w = record { left = w .clauses; here = all-left w; count = omega arith; sum = omega arith }
 
 pub rest-on : {names xs : List ℕ} {all : List Clause} (at end n b r : ℕ) → at < length xs → end ≡ at + 4 + getD xs (at + 3) 0
@@ -93,7 +93,7 @@ pub record Puts (text names xs : List ℕ) (all : List Clause) (at : ℕ) (old n
   pub here : Left xs at left
   pub putting : Putting old new 0 on (textFor text names left) (textFor text names all)
 
-pub puts-begins : (text names : List ℕ) {xs out : List ℕ} (w : Written xs) → Puts text names xs (w .clauses) 0 out out 0
+pub puts-begins : (text names : List ℕ) {xs out : List ℕ} (w : ProgramWritten xs) → Puts text names xs (w .clauses) 0 out out 0
 puts-begins text names w = record { left = w .clauses; here = all-left w; putting = put-begins }
 
 pub puts-on : {text names xs old new newer : List ℕ} {all : List Clause} (at end on r : ℕ) → at < length xs

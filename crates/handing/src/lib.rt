@@ -6,7 +6,7 @@ ghost use mathlib.Core.Path.{_≡_};
 ghost use lib.ListN.{length};
 ghost use Rattle.clauses.specs.Handed.{textFor, Handed};
 ghost use Rattle.clauses.specs.code.Size.{programBytes};
-ghost use Rattle.handing.specs.code.Lines.{blanks, Written};
+ghost use Rattle.handing.specs.code.Lines.{blanks, ProgramWritten};
 ghost use Rattle.handing.specs.code.Sizes.{Gives};
 use clauses::HandAnswer;
 use refusal::Input;
@@ -17,8 +17,8 @@ use unfolding::Unfolded;
 
 // A program's text, put at the front of the room; or, where the room is too small, how many bytes are needed.
 fn put(program: &[u32], text: &[u8], names: &[u32], room: &mut [u8]) -> HandAnswer
-    requires { ⌜ Written (now program) ⌝ }
-    ensures { λ r. ⌜ ((w : Written (now (program .entry)))
+    requires { ⌜ ProgramWritten (now program) ⌝ }
+    ensures { λ r. ⌜ ((w : ProgramWritten (now (program .entry)))
         → length (textFor (now (text .entry)) (now (names .entry)) (w .clauses)) ≡ programBytes (blanks (now (names .entry))) (w .clauses)
         → Gives (length (w .clauses)) (textFor (now (text .entry)) (now (names .entry)) (w .clauses)) (now (room .entry)) (now (room .exit)) r) ⌝ }
 {

@@ -10,7 +10,7 @@ ghost use Rattle.octets.specs.Octets.{decimal};
 ghost use Rattle.printing.specs.Printing.{value};
 ghost use Rattle.termtext.specs.Saying.{symbolWord};
 ghost use Rattle.clauses.specs.code.Size.{atomBytes, lineBytes};
-ghost use Rattle.handing.specs.code.Lines.{blanks, metIn, One, Written, Begins};
+ghost use Rattle.handing.specs.code.Lines.{blanks, metIn, One, ProgramWritten, Begins};
 ghost use Rattle.handing.specs.code.Sizes.{Measured};
 use cell::Shape;
 
@@ -180,8 +180,8 @@ pub struct Sizes {
 }
 
 pub fn measure(names: &[u32], program: &[u32]) -> Sizes
-    requires { ⌜ Written (now program) ⌝ }
-    ensures { λ r. ⌜ ((w : Written (now (program .entry))) → Measured (now (names .entry)) (w .clauses) r) ⌝ }
+    requires { ⌜ ProgramWritten (now program) ⌝ }
+    ensures { λ r. ⌜ ((w : ProgramWritten (now (program .entry))) → Measured (now (names .entry)) (w .clauses) r) ⌝ }
 {
     let mut at = 0;
     let mut clauses = 0;

@@ -5,7 +5,7 @@ ghost use Rattle.octets.specs.Octets.{Put};
 ghost use Rattle.termtext.specs.Saying.{wordsIn};
 ghost use Rattle.clauses.specs.Text.{atomText, lineText};
 ghost use Rattle.clauses.specs.Handed.{textFor};
-ghost use Rattle.handing.specs.code.Lines.{One, Written};
+ghost use Rattle.handing.specs.code.Lines.{One, ProgramWritten};
 use crate::measure::UP;
 use crate::measure::clause_end;
 use crate::measure::variables;
@@ -55,8 +55,8 @@ fn put_line(out: &mut [u8], to: usize, text: &[u8], names: &[u32], clause: &[u32
 
 // All clauses, from the front of the room on.
 pub fn put_program(out: &mut [u8], text: &[u8], names: &[u32], program: &[u32]) -> usize
-    requires { ⌜ Written (now program) ⌝ }
-    ensures { λ r. ⌜ ((w : Written (now (program .entry))) → Put (now (out .entry)) (now (out .exit)) 0
+    requires { ⌜ ProgramWritten (now program) ⌝ }
+    ensures { λ r. ⌜ ((w : ProgramWritten (now (program .entry))) → Put (now (out .entry)) (now (out .exit)) 0
         (textFor (now (text .entry)) (now (names .entry)) (w .clauses)) r) ⌝ }
 {
     let mut on = 0;

@@ -1,4 +1,5 @@
--- A row and a goal made equal, cell by cell: what is left to be made equal stays what it was, and at the end the goal so far is the most general common instance. Nothing here asks
+-- A row and a goal made equal, cell by cell: what is left to be made equal stays what it was, and at the end the goal so far is the most general
+-- common instance. Nothing here asks
 -- that a row's variable is used once.
 use Prim.Native.Nat.{ℕ, _+_, _-_, _≤_, _<_}
 use mathlib.Core.Path.{_≡_, refl, sym, _∙_, ap, subst}
@@ -27,7 +28,8 @@ use Rattle.instance.proofs.General.{solves-cell, solves-bind, solves-tu
 use Rattle.instance.proofs.Apart.{after-cell}
 
 -- a variable does not occur in the term that it meets
-apart-there : (v d : ℕ) (t xs ys : List ℕ) {S Y : List ℕ} → isVar v ≡ true → v ≢ d → Terms 1 (d ∷ t) → Solves (v ∷ xs) ((d ∷ t) ++ ys) S Y → ¬ List·Memᴰ v (d ∷ t)
+apart-there : (v d : ℕ) (t xs ys : List ℕ) {S Y : List ℕ} → isVar v ≡ true → v ≢ d → Terms 1 (d ∷ t) → Solves (v ∷ xs) ((d ∷ t) ++ ys) S Y
+    → ¬ List·Memᴰ v (d ∷ t)
 apart-there v d t xs ys hv h ht u m =
     let p = at-place xs ys (u .good) (Terms-var hv) ht .0 (u .same) in
     occurs-check (u .good) m (two-long t m h) (sym (inst-var (u .by) v) ∙ p .0)
@@ -42,11 +44,13 @@ module _ {row goal xs P ys : List ℕ} {turns : ℕ} (w : Left row goal xs P ys 
       let u = w .gives Y .1 q in
       let a = inst-long (u .good) (P ++ ys) in
       let b = inst-long (u .good) xs in
-      let c : length (inst (u .by) P) + length (inst (u .by) ys) ≡ length Y = sym (length-append (inst (u .by) P) (inst (u .by) ys)) ∙ ap length (sym (inst-++ (u .by) P ys) ∙ u .gives) in
+      let c : length (inst (u .by) P) + length (inst (u .by) ys) ≡ length Y =
+          sym (length-append (inst (u .by) P) (inst (u .by) ys)) ∙ ap length (sym (inst-++ (u .by) P ys) ∙ u .gives) in
       (omega (arith, a, length-append P ys, ap length (u .gives)), omega (arith, b, ap length (u .same), c))
 
 -- the same cell
-pub left-cell : {row goal P : List ℕ} {c d : ℕ} {xs ys : List ℕ} {turns : ℕ} → c ≡ d → Left row goal (c ∷ xs) P (d ∷ ys) turns → Left row goal xs (P ++ (d ∷ [])) ys turns
+pub left-cell : {row goal P : List ℕ} {c d : ℕ} {xs ys : List ℕ} {turns : ℕ} → c ≡ d → Left row goal (c ∷ xs) P (d ∷ ys) turns
+    → Left row goal xs (P ++ (d ∷ [])) ys turns
 left-cell {row} {goal} {P} {c} {d} {xs} {ys} e w =
     let f : (P ++ (d ∷ [])) ++ ys ≡ P ++ (d ∷ ys) = append-assoc P (d ∷ []) ys in
     let t = after-cell (w .row-terms) in
@@ -84,7 +88,8 @@ module _ (v d : ℕ) (t xs ys S : List ℕ) {row goal : List ℕ} (hv : isVar v 
   met-within wt wz = Within-inst v met-apart wt wz
 
 -- the row's
-pub left-first : {row goal P : List ℕ} {v d : ℕ} {t xs : List ℕ} (ys : List ℕ) {turns : ℕ} → isVar v ≡ true → v ≢ d → Terms 1 (d ∷ t) → Left row goal (v ∷ xs) P ((d ∷ t) ++ ys) turns
+pub left-first : {row goal P : List ℕ} {v d : ℕ} {t xs : List ℕ} (ys : List ℕ) {turns : ℕ} → isVar v ≡ true → v ≢ d → Terms 1 (d ∷ t)
+    → Left row goal (v ∷ xs) P ((d ∷ t) ++ ys) turns
     → (0 < turns) × Left row goal (put v (d ∷ t) xs) (put v (d ∷ t) (P ++ (d ∷ t))) (put v (d ∷ t) ys) (turns - 1)
 left-first {row} {goal} {P} {v} {d} {t} {xs} ys {turns} hv ne ht w =
     let T : List ℕ = d ∷ t in
@@ -102,7 +107,9 @@ left-first {row} {goal} {P} {v} {d} {t} {xs} ys {turns} hv ne ht w =
     let wt = Within-part (w .vars) T ys (wS .1) .0 in (
       omega (arith, r, w .few),
       record {
-        gives = λ Y. subst (λ (l : List ℕ). Solves (put v T xs) (put v T ys) l Y ↔ Common row goal Y) e (met-gives v d t xs ys S hv ne ht (w .gives) (w .makes) Y);
+        gives =
+            λ Y. subst (λ (l : List ℕ). Solves (put v T xs) (put v T ys) l Y ↔ Common row goal Y) e
+                (met-gives v d t xs ys S hv ne ht (w .gives) (w .makes) Y);
         made = w .made;
         makes = w .makes;
         owed = a .0;
@@ -116,7 +123,8 @@ left-first {row} {goal} {P} {v} {d} {t} {xs} ys {turns} hv ne ht w =
     )
 
 -- the goal's
-pub left-second : {row goal P : List ℕ} {v d : ℕ} {t : List ℕ} (xs : List ℕ) {ys : List ℕ} {turns : ℕ} → isVar v ≡ true → v ≢ d → Terms 1 (d ∷ t) → Left row goal ((d ∷ t) ++ xs) P (v ∷ ys) turns
+pub left-second : {row goal P : List ℕ} {v d : ℕ} {t : List ℕ} (xs : List ℕ) {ys : List ℕ} {turns : ℕ} → isVar v ≡ true → v ≢ d → Terms 1 (d ∷ t)
+    → Left row goal ((d ∷ t) ++ xs) P (v ∷ ys) turns
     → (0 < turns) × Left row goal (put v (d ∷ t) xs) (put v (d ∷ t) (P ++ (v ∷ []))) (put v (d ∷ t) ys) (turns - 1)
 left-second {row} {goal} {P} {v} {d} {t} xs {ys} {turns} hv ne ht w =
     let T : List ℕ = d ∷ t in
@@ -149,8 +157,11 @@ left-second {row} {goal} {P} {v} {d} {t} xs {ys} {turns} hv ne ht w =
     )
 
 -- two symbols that meet are the same
-pub left-symbols : {row goal P : List ℕ} {c d : ℕ} {xs ys : List ℕ} {turns : ℕ} → isVar c ≡ false → isVar d ≡ false → Left row goal (c ∷ xs) P (d ∷ ys) turns → ¬ (c ≢ d)
-left-symbols {c = c} {d = d} {xs = xs} {ys = ys} hc hd w ne = let u = some-left w in other-symbol c d xs ys hc hd ne none none (record { by = u .by; good = u .good; same = u .same })
+pub left-symbols : {row goal P : List ℕ} {c d : ℕ} {xs ys : List ℕ} {turns : ℕ} → isVar c ≡ false → isVar d ≡ false
+    → Left row goal (c ∷ xs) P (d ∷ ys) turns → ¬ (c ≢ d)
+left-symbols {c = c} {d = d} {xs = xs} {ys = ys} hc hd w ne =
+    let u = some-left w in
+    other-symbol c d xs ys hc hd ne none none (record { by = u .by; good = u .good; same = u .same })
 
 -- nothing is left: the goal so far is the most general common instance
 pub left-done : {row goal P ys : List ℕ} {turns : ℕ} → Left row goal [] P ys turns → MostGeneral row goal (P ++ ys)

@@ -22,7 +22,7 @@ use Rattle.octets.specs.Octets.{Put}
 use Rattle.octets.proofs.PutLaws.{put-found}
 use Rattle.term.specs.Bind.{Within}
 use Rattle.instance.specs.Instance.{Common, MostGeneral}
-use Rattle.instance.specs.code.Meet.{TermsAt, TermAt, Meeting, After, Met, Over}
+use Rattle.instance.specs.code.Meet.{TermsAt, TermAt, Meeting, After, InstanceMet, Over}
 use Rattle.instance.specs.Rewrite.{put}
 use Rattle.instance.specs.code.Left.{Left}
 use Rattle.instance.proofs.Apart.{after-cell, Below}
@@ -71,7 +71,8 @@ module _ {row goal cells : List ℕ} {v : ℕ} {t : List ℕ} {i n at′ len tur
 
 -- The term that stands at a place, put at the front of another list.
 module _ {C : List ℕ} {at′ : ℕ} where
-  pub term-taken : {term term′ : List ℕ} {r : End} {e m : ℕ} → length C ≤ at′ + length term → Ends C at′ r → r ≡ At e → Put term term′ 0 (take (e - at′) (drop at′ C)) m
+  pub term-taken : {term term′ : List ℕ} {r : End} {e m : ℕ} → length C ≤ at′ + length term → Ends C at′ r → r ≡ At e
+      → Put term term′ 0 (take (e - at′) (drop at′ C)) m
       → TermAt C (take (e - at′) term′) at′ e
   term-taken {term′ = term′} {e = e} {m = m} h (at {t} rest u q) p w =
       let z : at′ + length t ≡ e = cc in
@@ -80,7 +81,8 @@ module _ {C : List ℕ} {at′ : ℕ} where
       let l : length (drop at′ C) ≡ length t + length rest = ap length q ∙ length-append t rest in
       let x = put-found w (omega (arith, h, ap length f, l, length-drop at′ C)) in
       let y : take (e - at′) term′ ≡ t = ap (λ (n : ℕ). take n term′) (k ∙ sym (x .0 ∙ ap length f)) ∙ x .1 ∙ f in
-      let d : rest ≡ drop e C = sym (ap (λ (n : ℕ). drop n C) (sym z) ∙ sym (drop-drop (length t) at′ C) ∙ ap (drop (length t)) q ∙ drop-at t rest (length t) refl) in
+      let d : rest ≡ drop e C = sym (ap (λ (n : ℕ). drop n C) (sym z) ∙ sym (drop-drop (length t) at′ C) ∙ ap (drop (length t)) q
+          ∙ drop-at t rest (length t) refl) in
       record {
         term = subst (Terms 1) (sym y) u;
         split = q ∙ ap₂ _++_ (sym y) d;
@@ -211,7 +213,8 @@ module _ {row goal cells : List ℕ} {i n at′ len turns : ℕ} (w : Meeting ro
   -- a variable of the goal meets a term of the row that is none
   second-var : {v : ℕ} → v ≡ d → isVar c ≡ false → v ≢ c → isVar v ≡ true
   second-var {v} q hc ne =
-      ⊎-elim (λ (h : isVar v ≡ true). h) (λ (h : isVar v ≡ false). absurd (left-symbols hc (ap isVar (sym q) ∙ h) here (λ z. ne (q ∙ sym z)))) (bool-cases (isVar v))
+      ⊎-elim (λ (h : isVar v ≡ true). h) (λ (h : isVar v ≡ false). absurd (left-symbols hc (ap isVar (sym q) ∙ h) here (λ z. ne (q ∙ sym z))))
+          (bool-cases (isVar v))
 
   pub second-bind : {v e : ℕ} {T : List ℕ} → v ≡ getD cells at′ 0 → isVar (getD cells i 0) ≡ false → v ≢ getD cells i 0 → TermAt L T i e
       → (0 < turns) × (e ≤ n) × After row goal cells v T e n (at′ + 1) len (turns - 1)
@@ -229,7 +232,7 @@ module _ {row goal cells : List ℕ} {i n at′ len turns : ℕ} (w : Meeting ro
       (g .0, omega (arith, end-in x (omega (arith, w .started, L-long)), L-long), record { left = rw (h .1, sym k, add-one at′) (g .1) })
 
 -- the row is at its end
-pub met : {row goal cells : List ℕ} {i n at′ len turns : ℕ} → Meeting row goal cells i n at′ len turns → n ≤ i → turns ≤ 64 → Met row goal cells len
+pub met : {row goal cells : List ℕ} {i n at′ len turns : ℕ} → Meeting row goal cells i n at′ len turns → n ≤ i → turns ≤ 64 → InstanceMet row goal cells len
 met {row} {goal} {cells} {i} {n} {at′} {len} {turns} w h t =
     let C = take len cells in
     let e : drop i (take n cells) ≡ [] = drop-of-length-le (take n cells) {i = i} (omega (arith, h, length-take-le n cells (w .held))) in

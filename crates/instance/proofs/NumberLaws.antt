@@ -3,7 +3,8 @@ use Prim.Native.Nat.{ℕ, zero, suc, _+_, _≤_, _<_}
 use mathlib.Core.Path.{_≡_, refl, sym, _∙_, ap, subst}
 use mathlib.Core.Logic.{_≢_, _⊎_, inl, inr, ⊎-elim, by-cases}
 use mathlib.Core.Bool.{true, false, _&&_}
-use mathlib.Core.List.{List, [], _∷_, _++_, List·Memᴰ, List·Memᴰ·head, List·Memᴰ·tail, List·Memᴰ·not-nil, List·Memᴰ·cases-cons, Memᴰ·append-left, Memᴰ·append-right}
+use mathlib.Core.List.{List, [], _∷_, _++_, List·Memᴰ, List·Memᴰ·head, List·Memᴰ·tail, List·Memᴰ·not-nil, List·Memᴰ·cases-cons, Memᴰ·append-left}
+use mathlib.Core.List.{Memᴰ·append-right}
 use native.Mathlib.Omega.{arith}
 use lib.Dec.{eqb, ltb}
 use native.Mathlib.Decide.{decLt}
@@ -82,9 +83,11 @@ pub unmet-next : {n c : ℕ} {met xs : List ℕ} → Unmet n met (c ∷ xs) → 
 unmet-next u = record { vars = u .vars; found = λ x m v. u .found x (List·Memᴰ·tail m) v; few = u .few }
 
 -- a variable, new or not
-pub unmet-variable : {n : ℕ} (c : ℕ) (met : List ℕ) {xs : List ℕ} → isVar c ≡ true → Unmet n met (c ∷ xs) → Unmet n (meet c met) xs × (place c met ≡ length met → length met < n)
+pub unmet-variable : {n : ℕ} (c : ℕ) (met : List ℕ) {xs : List ℕ} → isVar c ≡ true → Unmet n met (c ∷ xs)
+    → Unmet n (meet c met) xs × (place c met ≡ length met → length met < n)
 unmet-variable {n} c met {xs} v u = ⊎-elim
-    (λ (h : place c met < length met). (subst (λ (l : List ℕ). Unmet n l xs) (sym (meet-old c met h)) (unmet-next u), λ e. absurd (let z : ⊥ = omega arith in z)))
+    (λ (h : place c met < length met). (subst (λ (l : List ℕ). Unmet n l xs) (sym (meet-old c met h)) (unmet-next u),
+        λ e. absurd (let z : ⊥ = omega arith in z)))
     (λ (h : place c met ≡ length met).
     let m = new h in
     let r = remove-shorter c (u .vars) m in (
@@ -103,7 +106,8 @@ unmet-variable {n} c met {xs} v u = ⊎-elim
     new : place c met ≡ length met → List·Memᴰ c (u .vars)
     new h = ⊎-elim (λ m. absurd (let l = place-found c met m in let z : ⊥ = omega arith in z)) (λ m. m) (u .found c (List·Memᴰ·head refl) v)
 
-    split : (x : ℕ) → (eqb x c ≡ true) ⊎ (eqb x c ≡ false) → List·Memᴰ x met ⊎ List·Memᴰ x (u .vars) → List·Memᴰ x (met ++ (c ∷ [])) ⊎ List·Memᴰ x (remove c (u .vars))
+    split : (x : ℕ) → (eqb x c ≡ true) ⊎ (eqb x c ≡ false) → List·Memᴰ x met ⊎ List·Memᴰ x (u .vars)
+        → List·Memᴰ x (met ++ (c ∷ [])) ⊎ List·Memᴰ x (remove c (u .vars))
     split x (inl e) q = inl (Memᴰ·append-right met (List·Memᴰ·head (eqb-true x c e)))
     split x (inr e) (inl m) = inl (Memᴰ·append-left (c ∷ []) m)
     split x (inr e) (inr m) = inr (remove-keeps c (u .vars) x m (eqb-false x c e))

@@ -122,7 +122,8 @@ numbers-map : (met xs : List ℕ) → numberFrom met xs ≡ map (numbering (fina
 unfolding numberFrom final numbering
 numbers-map met [] = refl
 numbers-map met (c ∷ xs) = ⊎-elim
-    (λ v. rw v (ap (λ (n : ℕ). n ∷ numberFrom (meet c met) xs) (sym (final-here c met xs .0)) ∙ ap (λ (l : List ℕ). place c (final (meet c met) xs) ∷ l) (numbers-map (meet c met) xs)))
+    (λ v. rw v (ap (λ (n : ℕ). n ∷ numberFrom (meet c met) xs) (sym (final-here c met xs .0))
+        ∙ ap (λ (l : List ℕ). place c (final (meet c met) xs) ∷ l) (numbers-map (meet c met) xs)))
     (λ v. rw v (ap (λ (l : List ℕ). c ∷ l) (numbers-map met xs)))
     (bool-cases (isVar c))
 
@@ -162,7 +163,9 @@ module _ (F : List ℕ) (w : Vars F) (few : length F ≤ 2 ^ 30) where
   forth-good : Subst forth
   unfolding forth
   forth-good = record {
-    vars = λ c v. rw v (cond-case (ltb (place c F) (length F)) (Terms 1) (λ e. Terms-var (var-small (place c F) (omega (arith, ltb-true (place c F) (length F) e)))) (λ e. Terms-var v));
+    vars =
+        λ c v. rw v (cond-case (ltb (place c F) (length F)) (Terms 1)
+            (λ e. Terms-var (var-small (place c F) (omega (arith, ltb-true (place c F) (length F) e)))) (λ e. Terms-var v));
     symbols = λ c v. rw v;
   }
 
@@ -180,7 +183,8 @@ module _ (F : List ℕ) (w : Vars F) (few : length F ≤ 2 ^ 30) where
   return-is : (c : ℕ) → (isVar c ≡ true → place c F < length F) → return (numbering F c) ≡ c ∷ []
   unfolding return numbering
   return-is c h = ⊎-elim
-      (λ (v : isVar c ≡ true). let l = h v in let i : isVar (place c F) ≡ true = var-small (place c F) (omega arith) in rw (v, i, lt-ltb (place c F) (length F) l, place-at c F l))
+      (λ (v : isVar c ≡ true). let l = h v in let i : isVar (place c F) ≡ true = var-small (place c F) (omega arith) in
+          rw (v, i, lt-ltb (place c F) (length F) l, place-at c F l))
       (λ (v : isVar c ≡ false). rw (v, v))
       (bool-cases (isVar c))
 
@@ -224,7 +228,9 @@ module _ (xs : List ℕ) (few : length (final [] xs) ≤ 2 ^ 30) where
   instance-numbers = record {
     by = return all all-vars all-few;
     good = return-good all all-vars all-few;
-    same = ap (inst (return all all-vars all-few)) are-numbers ∙ inst-back (return all all-vars all-few) (numbering all) xs (λ c m. return-is all all-vars all-few c (all-has c m));
+    same =
+        ap (inst (return all all-vars all-few)) are-numbers
+        ∙ inst-back (return all all-vars all-few) (numbering all) xs (λ c m. return-is all all-vars all-few c (all-has c m));
   }
 
 -- And it is numbered. `ms` are the numbers given out: those below the number of variables met

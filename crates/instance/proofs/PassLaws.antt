@@ -25,7 +25,7 @@ use Rattle.instance.specs.Rewrite.{numberIn, numberFrom}
 use Rattle.instance.specs.Replied.{repliesOf, repliesTold, Replied, refusal, big, no-room, replied}
 use Rattle.instance.specs.declared.RepliesAnswer.{RepliesAnswer}
 use Rattle.instance.specs.declared.RepliesAnswer.the-variants as replies-answer
-use Rattle.instance.specs.code.Meet.{Hit, Met, Over}
+use Rattle.instance.specs.code.Meet.{Hit, InstanceMet, Over}
 use Rattle.instance.specs.code.Passes.{RepliesAt, done, next, Hits, Pass, Passed, Found}
 use Rattle.instance.proofs.Variants.{reply-one}
 use Rattle.instance.proofs.NumberLaws.{unmet-start, number-fits, number-long}
@@ -42,7 +42,7 @@ module _ {table goal hits room₀ room : List ℕ} {i on sum : ℕ} {all : List 
   pass-hit = at-next hits i h (p .at) .hit
 
   -- one more reply
-  pub pass-next : {cells room′ : List ℕ} {n on′ : ℕ} → Met (rowIn (tableOf table) (getD hits i 0)) goal cells n
+  pub pass-next : {cells room′ : List ℕ} {n on′ : ℕ} → InstanceMet (rowIn (tableOf table) (getD hits i 0)) goal cells n
       → Put room room′ on (numberIn 64 [] (take n cells)) on′ → Pass table goal hits (i + 1) all room₀ room′ on′ (sum + n)
   unfolding flatten
   pass-next {cells} {room′} {n} {on′} m q =

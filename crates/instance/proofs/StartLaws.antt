@@ -18,7 +18,7 @@ use Rattle.table.proofs.Accepted.{few-variables}
 use Rattle.instance.specs.Instance.{MostGeneral}
 use Rattle.instance.specs.Reply.{Reply}
 use Rattle.instance.specs.Rewrite.{numberFrom}
-use Rattle.instance.specs.code.Meet.{Meeting, Few, Met, Hit}
+use Rattle.instance.specs.code.Meet.{Meeting, Few, InstanceMet, Hit}
 use Rattle.instance.proofs.Instances.{general-variant}
 use Rattle.instance.proofs.Numbering.{final, numbers-instance, instance-numbers, numbers-numbered}
 use Rattle.instance.proofs.Apart.{Below, matches-common}
@@ -66,7 +66,7 @@ the-reply {row = row} {goal} r g u =
     (numberFrom [] (t .0), general-reply (t .1) (record { vars = vars; found = found; few = both-few r g }))
 
 -- and what the code has made gives it
-pub reply-there : {row goal cells : List ℕ} {n : ℕ} → Met row goal cells n → Reply row goal (numberFrom [] (take n cells))
+pub reply-there : {row goal cells : List ℕ} {n : ℕ} → InstanceMet row goal cells n → Reply row goal (numberFrom [] (take n cells))
 reply-there m = general-reply (m .general) (m .few)
 
 -- the list filled, the work can start

@@ -3,7 +3,8 @@ use Prim.Native.Nat.{ℕ, _+_, _≤_}
 use mathlib.Core.Path.{_≡_, refl, sym, _∙_, ap}
 use mathlib.Core.Logic.{_≢_, _⊎_, ⊎-elim}
 use mathlib.Core.Bool.{Bool, true, false, cond, true≢false, _&&_}
-use mathlib.Core.List.{List, [], _∷_, map, List·Memᴰ, List·Memᴰ·head, List·Memᴰ·tail, List·Memᴰ·cases-cons, List·Memᴰ·not-nil, head-eq-of-cons-eq, tail-eq-of-cons-eq}
+use mathlib.Core.List.{List, [], _∷_, map, List·Memᴰ, List·Memᴰ·head, List·Memᴰ·tail, List·Memᴰ·cases-cons, List·Memᴰ·not-nil, head-eq-of-cons-eq}
+use mathlib.Core.List.{tail-eq-of-cons-eq}
 use native.Mathlib.Omega.{arith}
 use lib.Dec.{eqb}
 use lib.ListN.{length, getD, length-append, length-map}
@@ -116,7 +117,8 @@ module _ {xs ys : List ℕ} (a : Instance xs ys) (b : Instance ys xs) where
       let h′ : (d : ℕ) → List·Memᴰ d (c ∷ ms) → List·Memᴰ d xs = λ d n. ⊎-elim (λ p. k d (List·Memᴰ·head p)) (h d) (List·Memᴰ·cases-cons n) in
       let k′ : (d : ℕ) → List·Memᴰ d zs → List·Memᴰ d xs = λ d n. k d (List·Memᴰ·tail n) in
       rw (keeps-kind c m, keeps-count c m ms h)
-      (by-cond there (isVar c && eqb (count c ms) 0) (c ∷ appear (c ∷ ms) zs) (appear ms zs) (ap (λ (l : List ℕ). there c ∷ l) (keeps-order (c ∷ ms) zs h′ k′)) (keeps-order ms zs h k′))
+      (by-cond there (isVar c && eqb (count c ms) 0) (c ∷ appear (c ∷ ms) zs) (appear ms zs)
+          (ap (λ (l : List ℕ). there c ∷ l) (keeps-order (c ∷ ms) zs h′ k′)) (keeps-order ms zs h k′))
 
   pub variants-one : Numbered xs → Numbered ys → xs ≡ ys
   unfolding count
@@ -136,7 +138,8 @@ reply-one {xs = xs} {ys = ys} r s =
 
 pub replies-one : {goal : List ℕ} {rows xs ys : List (List ℕ)} → Replies goal rows xs → Replies goal rows ys → xs ≡ ys
 replies-one none none = refl
-replies-one (hit {cells = c} {all = xs} p r a) (hit {cells = d} {all = ys} q s b) = ap (λ (l : List (List ℕ)). c ∷ l) (replies-one a b) ∙ ap (λ (x : List ℕ). x ∷ ys) (reply-one r s)
+replies-one (hit {cells = c} {all = xs} p r a) (hit {cells = d} {all = ys} q s b) =
+    ap (λ (l : List (List ℕ)). c ∷ l) (replies-one a b) ∙ ap (λ (x : List ℕ). x ∷ ys) (reply-one r s)
 replies-one (hit p r a) (miss q b) = absurd (q p)
 replies-one (miss p a) (hit q s b) = absurd (p q)
 replies-one (miss p a) (miss q b) = replies-one a b

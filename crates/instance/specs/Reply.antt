@@ -20,7 +20,8 @@ pub record Reply (row goal cells : List ℕ) : Type 0 where
 -- the replies of rows, from the top: one for each row that unifies with the goal
 pub data Replies (goal : List ℕ) : List (List ℕ) → List (List ℕ) → Type 0 where
   none : Replies goal [] []
-  hit : {row cells : List ℕ} {rows all : List (List ℕ)} → Matches row goal → Reply row goal cells → Replies goal rows all → Replies goal (row ∷ rows) (cells ∷ all)
+  hit : {row cells : List ℕ} {rows all : List (List ℕ)} → Matches row goal → Reply row goal cells → Replies goal rows all
+      → Replies goal (row ∷ rows) (cells ∷ all)
   miss : {row : List ℕ} {rows all : List (List ℕ)} → ¬ Matches row goal → Replies goal rows all → Replies goal (row ∷ rows) all
 
 -- 02, W-209, "a reply needs over 1,024 cells": one that does not

@@ -5,7 +5,7 @@ use Prim.Native.Nat.{ℕ, _+_, _≤_, _<_}
 use mathlib.Core.Path.{_≡_}
 use mathlib.Core.List.{List, [], _∷_, _++_}
 use lib.ListN.{length, take, drop, replicate}
-use Rattle.refusal.specs.Refusal.{Refused, numberOf, Answer, answered, turned}
+use Rattle.refusal.specs.Refusal.{Refused, reasonNumber, Answer, answered, turned}
 use Rattle.refusal.specs.declared.Reason.the-variants as reason
 use Rattle.refusal.specs.Read.{read, refuse}
 use Rattle.plan.specs.Check.{planOf}
@@ -18,13 +18,13 @@ use Rattle.instance.specs.declared.RepliesAnswer.{RepliesAnswer}
 use Rattle.instance.specs.declared.ReplyJob.{ReplyJob}
 
 -- "Start and count stay": a record with the other seven numbers written
-abbrev pub filled : ReplyJob → (number place at replies cells hits tried : ℕ) → ReplyJob
-filled j number place at replies cells hits tried =
+abbrev pub replyFilled : ReplyJob → (number place at replies cells hits tried : ℕ) → ReplyJob
+replyFilled j number place at replies cells hits tried =
     record { start = j .start; count = j .count; number = number; place = place; at = at; replies = replies; cells = cells; hits = hits; tried = tried }
 
 -- "A refused goal's record holds number and place", and 0 in all that is left
 abbrev pub declined : ReplyJob → (number place : ℕ) → ReplyJob
-declined j number place = filled j number place 0 0 0 0 0
+declined j number place = replyFilled j number place 0 0 0 0 0
 
 -- the goal that a record speaks of
 abbrev pub goalOfJob : List ℕ → ReplyJob → List ℕ
@@ -34,7 +34,7 @@ goalOfJob cells j = take (j .count) (drop (j .start) cells)
 -- otherwise "It equals asking one by one with what is left of the room": what is refused so, BIG and ROOM too, is refused in the record, and
 -- nothing is written; what is answered so is written there, and the record says where
 pub data ReplyAsked (t p cells : List ℕ) (on : ℕ) (room room′ : List ℕ) (j j′ : ReplyJob) : Type 0 where
-  outside : length cells < j .start + j .count → j′ ≡ declined j (numberOf reason.Length) 0 → room′ ≡ room
+  outside : length cells < j .start + j .count → j′ ≡ declined j (reasonNumber reason.Length) 0 → room′ ≡ room
       → ReplyAsked t p cells on room room′ j j′
   refused : (f : Refused) (after : List ℕ) (r : RepliesAnswer) → j .start + j .count ≤ length cells
       → Replied t p (goalOfJob cells j) (drop on room) after r → repliesTold r ≡ turned f
@@ -42,7 +42,7 @@ pub data ReplyAsked (t p cells : List ℕ) (on : ℕ) (room room′ : List ℕ) 
   replied : (many size hits tried : ℕ) (after bytes : List ℕ) (r : RepliesAnswer) → j .start + j .count ≤ length cells
       → Replied t p (goalOfJob cells j) (drop on room) after r → repliesTold r ≡ answered many size
       → Ran t p (goalOfJob cells j) (replicate 64 0) bytes (run-answer.Ran hits tried)
-      → j′ ≡ filled j 0 0 on many size (bitsOf (take hits bytes)) tried → room′ ≡ take on room ++ after
+      → j′ ≡ replyFilled j 0 0 on many size (bitsOf (take hits bytes)) tried → room′ ≡ take on room ++ after
       → ReplyAsked t p cells on room room′ j j′
 
 -- "the replies follow one another in the order of the jobs", "goals after it are still answered": record by record, each with what the ones

@@ -9,7 +9,7 @@ use lib.Dec.{eqb}
 use lib.ListN.{length}
 use Rattle.cell.specs.Cell.{arity, valuesAt}
 use Rattle.term.specs.Terms.{root}
-use Rattle.refusal.specs.Refusal.{numberOf}
+use Rattle.refusal.specs.Refusal.{reasonNumber}
 use Rattle.refusal.specs.declared.Reason.the-variants as reason
 use Rattle.refusal.specs.Read.{read}
 use Rattle.table.specs.Table.{tableOf, rowsFrom, termsFrom, count, IsTable}
@@ -71,7 +71,7 @@ abbrev pub RecordsCounted : Type 0
 RecordsCounted = Law (λ branches row after reports tries. length after ≡ timesIn row reports)
 
 -- The table (v0), its plan of one branch, and a list of one goal, past the lent cells: so no run is needed. What a law says of them.
-at-example : {claim : Claim} → Law claim → claim 1 0 (filled (said 0 0) (numberOf reason.Length) 0 0 0 ∷ []) ([] ∷ []) (0 ∷ [])
+at-example : {claim : Claim} → Law claim → claim 1 0 (filled (said 0 0) (reasonNumber reason.Length) 0 0 0 ∷ []) ([] ∷ []) (0 ∷ [])
 unfolding tableOf rowsFrom termsFrom planWith stateFrom root arity valuesAt
 at-example law =
     let it = table-accepted (1 ∷ 1 ∷ 0 ∷ []) 1 ((0 ∷ []) ∷ []) .0 refl in

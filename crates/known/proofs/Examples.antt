@@ -6,11 +6,11 @@ use Prim.Native.Nat.{ℕ}
 use Prim.Native.String.{String}
 use Rattle.message.specs.Words.{ascii}
 use Rattle.octets.specs.Octets.{digitsOf, decimal}
-use Rattle.known.specs.Known.{stepOf, columnsFrom, listFrom, nextText, listText}
+use Rattle.known.specs.Known.{stepOf, columnsTyped, listFrom, nextText, listText}
 
-pub lists : map (λ (s : String). columnsFrom 0 (ascii s)) ("1,3" ∷ "3,1,1" ∷ "08" ∷ "999999999" ∷ [])
+pub lists : map (λ (s : String). columnsTyped 0 (ascii s)) ("1,3" ∷ "3,1,1" ∷ "08" ∷ "999999999" ∷ [])
     ≡ (0 ∷ 2 ∷ []) ∷ (2 ∷ 0 ∷ 0 ∷ []) ∷ (7 ∷ []) ∷ (999999998 ∷ []) ∷ []
-unfolding ascii stepOf columnsFrom
+unfolding ascii stepOf columnsTyped
 lists = refl
 
 pub none : map (λ (s : String). listFrom 0 (ascii s)) ("1,3" ∷ "999999999" ∷ "" ∷ "0" ∷ "1,,2" ∷ ",1" ∷ "1," ∷ "1 ,2" ∷ "x" ∷ "-1" ∷ "1000000000" ∷ [])

@@ -8,24 +8,24 @@ use lib.ListN.{length, getD, drop, drop-of-length-le}
 use lib.Seq.{drop-cons}
 use borrow.Author.Tests.{eq-eqb, ne-eqb}
 use Rattle.octets.proofs.PutLaws.{Putting, put-ends}
-use Rattle.known.specs.Known.{stepOf, columnsFrom, listFrom, Listing, nextText, listText}
+use Rattle.known.specs.Known.{stepOf, columnsTyped, listFrom, Listing, nextText, listText}
 use Rattle.known.specs.declared.Listed.the-variants as listed
 use Rattle.known.specs.declared.Step.the-variants as step
 
 module _ (word : List ℕ) (i number : ℕ) where
   -- by what the next byte makes of the number
   pub columns-number : (n : ℕ) → i < length word → stepOf number (getD word i 0) ≡ step.Number n
-      → columnsFrom number (drop i word) ≡ columnsFrom n (drop (i + 1) word)
-  unfolding columnsFrom
+      → columnsTyped number (drop i word) ≡ columnsTyped n (drop (i + 1) word)
+  unfolding columnsTyped
   columns-number n h e = rw (drop-cons word i 0 h, add-one i, e)
 
   pub columns-column : (c : ℕ) → i < length word → stepOf number (getD word i 0) ≡ step.Column c
-      → columnsFrom number (drop i word) ≡ (c ∷ []) ++ columnsFrom 0 (drop (i + 1) word)
-  unfolding columnsFrom
+      → columnsTyped number (drop i word) ≡ (c ∷ []) ++ columnsTyped 0 (drop (i + 1) word)
+  unfolding columnsTyped
   columns-column c h e = rw (drop-cons word i 0 h, add-one i, e)
 
-  pub columns-wrong : i < length word → stepOf number (getD word i 0) ≡ step.Wrong → columnsFrom number (drop i word) ≡ []
-  unfolding columnsFrom
+  pub columns-wrong : i < length word → stepOf number (getD word i 0) ≡ step.Wrong → columnsTyped number (drop i word) ≡ []
+  unfolding columnsTyped
   columns-wrong h e = rw (drop-cons word i 0 h, e)
 
   pub list-number : (n : ℕ) → i < length word → stepOf number (getD word i 0) ≡ step.Number n
@@ -43,12 +43,12 @@ module _ (word : List ℕ) (i number : ℕ) where
   list-wrong h e = rw (drop-cons word i 0 h, e)
 
   -- and at the end
-  pub columns-none : length word ≤ i → number ≡ 0 → columnsFrom number (drop i word) ≡ []
-  unfolding columnsFrom
+  pub columns-none : length word ≤ i → number ≡ 0 → columnsTyped number (drop i word) ≡ []
+  unfolding columnsTyped
   columns-none h e = rw (drop-of-length-le word h, eq-eqb number 0 e)
 
-  pub columns-last : length word ≤ i → (number ≡ 0 → ⊥) → columnsFrom number (drop i word) ≡ (number - 1) ∷ []
-  unfolding columnsFrom
+  pub columns-last : length word ≤ i → (number ≡ 0 → ⊥) → columnsTyped number (drop i word) ≡ (number - 1) ∷ []
+  unfolding columnsTyped
   columns-last h e = rw (drop-of-length-le word h, ne-eqb number 0 e)
 
   pub list-none : length word ≤ i → number ≡ 0 → listFrom number (drop i word) ≡ false
@@ -61,10 +61,10 @@ module _ (word : List ℕ) (i number : ℕ) where
 
 -- what is answered, once all columns are put
 module _ {word room room′ : List ℕ} {n : ℕ} where
-  pub no-list : Putting room room′ 0 n [] (columnsFrom 0 word) → listFrom 0 word ≡ false → Listing word room room′ listed.NoList
+  pub no-list : Putting room room′ 0 n [] (columnsTyped 0 word) → listFrom 0 word ≡ false → Listing word room room′ listed.NoList
   no-list p e = record { count = n; puts = put-ends p; told = rw e }
 
-  pub is-list : Putting room room′ 0 n [] (columnsFrom 0 word) → listFrom 0 word ≡ true → Listing word room room′ (listed.Columns n)
+  pub is-list : Putting room room′ 0 n [] (columnsTyped 0 word) → listFrom 0 word ≡ true → Listing word room room′ (listed.Columns n)
   is-list p e = record { count = n; puts = put-ends p; told = rw e }
 
 -- columns put as a list, the next one and the end

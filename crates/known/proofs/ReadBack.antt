@@ -13,7 +13,7 @@ use Rattle.term.proofs.Tests.{bool-cases}
 use Rattle.octets.specs.Octets.{decimal, Put}
 use Rattle.octets.proofs.DecimalLaws.{decimal-small, decimal-more}
 use Rattle.octets.proofs.PutLaws.{put-found}
-use Rattle.known.specs.Known.{stepOf, columnsFrom, listFrom, Listing, nextText, listText}
+use Rattle.known.specs.Known.{stepOf, columnsTyped, listFrom, Listing, nextText, listText}
 use Rattle.known.specs.declared.Listed.{Listed}
 use Rattle.known.specs.declared.Listed.the-variants as listed
 use Rattle.known.specs.declared.Step.the-variants as step
@@ -30,22 +30,22 @@ step-comma number h = simp (ne-eqb number 0 (λ i. absurd (omega arith)))
 
 -- what is read of some bytes: these columns, and no fault
 pub record Reads (number : ℕ) (bytes columns : List ℕ) : Type 0 where
-  pub those : columnsFrom number bytes ≡ columns
+  pub those : columnsTyped number bytes ≡ columns
   pub whole : listFrom number bytes ≡ true
 
 reads-digit : {number d : ℕ} {bytes columns : List ℕ} → number < 100000000 → d < 10 → Reads (10 * number + d) bytes columns
     → Reads number ((48 + d) ∷ bytes) columns
-unfolding columnsFrom listFrom
+unfolding columnsTyped listFrom
 reads-digit {number} {d} h g r = let e = step-digit number d h g in record { those = rw e (r .those); whole = rw e (r .whole) }
 
 reads-comma : {number : ℕ} {bytes columns : List ℕ} → 0 < number → Reads 0 bytes columns → Reads number (44 ∷ bytes) ((number - 1) ∷ columns)
-unfolding columnsFrom listFrom
+unfolding columnsTyped listFrom
 reads-comma {number} h r =
     let e = step-comma number h in
     record { those = rw e (ap (λ (l : List ℕ). (number - 1) ∷ l) (r .those)); whole = rw e (r .whole) }
 
 reads-end : {number : ℕ} → 0 < number → Reads number [] ((number - 1) ∷ [])
-unfolding columnsFrom listFrom
+unfolding columnsTyped listFrom
 reads-end {number} h = let e = ne-eqb number 0 (λ i. absurd (omega arith)) in record { those = rw e; whole = rw e }
 
 -- the digits of a number make it; the first number bounds it

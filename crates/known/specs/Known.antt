@@ -28,9 +28,9 @@ byStep (step.Column c) f g wrong = g c
 byStep step.Wrong f g wrong = wrong
 
 -- the columns that end in the bytes of a list, up to its first fault, the first column being 0
-unfoldable pub columnsFrom : (number : ℕ) → List ℕ → List ℕ
-columnsFrom number [] = cond (eqb number 0) [] ((number - 1) ∷ [])
-columnsFrom number (b ∷ bytes) = byStep (stepOf number b) (λ n. columnsFrom n bytes) (λ c. c ∷ columnsFrom 0 bytes) []
+unfoldable pub columnsTyped : (number : ℕ) → List ℕ → List ℕ
+columnsTyped number [] = cond (eqb number 0) [] ((number - 1) ∷ [])
+columnsTyped number (b ∷ bytes) = byStep (stepOf number b) (λ n. columnsTyped n bytes) (λ c. c ∷ columnsTyped 0 bytes) []
 
 -- whether there is no fault
 unfoldable pub listFrom : (number : ℕ) → List ℕ → Bool
@@ -40,7 +40,7 @@ listFrom number (b ∷ bytes) = byStep (stepOf number b) (λ n. listFrom n bytes
 -- what is read of a word: its columns are put at the front of the room, and how many they are is answered where it is a list
 pub record Listing (word room room′ : List ℕ) (r : Listed) : Type 0 where
   pub count : ℕ
-  pub puts : Put room room′ 0 (columnsFrom 0 word) count
+  pub puts : Put room room′ 0 (columnsTyped 0 word) count
   pub told : r ≡ cond (listFrom 0 word) (listed.Columns count) listed.NoList
 
 -- a number of a list, with a comma before it where others stand before it

@@ -60,16 +60,20 @@ module _ (m : Measure) (light : Light m) where
   unfolding place
   place-chosen n fs k rows few a = go (some-may fs k few)
     where
-      go : Some fs (suc k) → (argmin (may fs) k (rank m rows (below m n fs k rows)) ≤ k) × Chosen m fs k rows (argmin (may fs) k (rank m rows (below m n fs k rows)))
+      go : Some fs (suc k) → (argmin (may fs) k (rank m rows (below m n fs k rows)) ≤ k)
+          × Chosen m fs k rows (argmin (may fs) k (rank m rows (below m n fs k rows)))
       go (some j l y) =
           let f = argmin-first (may fs) (rank m rows (below m n fs k rows)) k j (omega arith) y in (
             f .within,
             chosen-first m light fs rows (below m n fs k rows) (all-each (Fits (suc n) (suc k)) (Terms (suc k)) (λ r x. x .0) rows a)
-                (λ j h y. best-runs m n (best-least m n) fs j k few h (runs j rows) (runs-fit n k j h rows a) (length rows) (group-sizes (root j) (close j) rows)) f,
+                (λ j h y. best-runs m n (best-least m n) fs j k few h (runs j rows) (runs-fit n k j h rows a) (length rows)
+                    (group-sizes (root j) (close j) rows)) f,
           )
 
   abbrev Makes : ℕ → Type 0
-  Makes n = (fs : List Bool) (k : ℕ) (rows : List (List ℕ)) → length fs ≤ k → All (Fits n k) rows → 0 < length rows → Builds m fs k rows (planCells m n fs k rows)
+  Makes n =
+      (fs : List Bool) (k : ℕ) (rows : List (List ℕ)) → length fs ≤ k → All (Fits n k) rows → 0 < length rows
+          → Builds m fs k rows (planCells m n fs k rows)
 
   runs-built : (n : ℕ) → Makes n → (fs : List Bool) (i k : ℕ) → length fs ≤ suc k → i ≤ k
       → (gs : List Run) → Each (λ (c : ℕ). Fits n (arity c + k)) gs → (s : ℕ) → Sized s gs

@@ -33,7 +33,8 @@ first-branches : (m : Measure) (fs : List Bool) {k i : ℕ} {rows : List (List �
     → (bs : Branches k (runs i rows)) × (cost m p ≡ choice m (length (runs i rows)) + costs m bs) × NamedFirsts fs i bs × May fs i
 unfolding cost NamedFirst
 first-branches m fs {k} {rows = rows} (node j h bs) e s =
-    subst (λ (i : ℕ). (cs : Branches k (runs i rows)) × (choice m (length (runs j rows)) + costs m bs ≡ choice m (length (runs i rows)) + costs m cs) × NamedFirsts fs i cs × May fs i) e (bs, refl, s .1, s .0)
+    subst (λ (i : ℕ). (cs : Branches k (runs i rows)) × (choice m (length (runs j rows)) + costs m bs ≡ choice m (length (runs i rows)) + costs m cs)
+        × NamedFirsts fs i cs × May fs i) e (bs, refl, s .1, s .0)
 
 module _ (m : Measure) where
   -- the chosen place may be chosen
@@ -43,7 +44,8 @@ module _ (m : Measure) where
 
 module _ (m : Measure) (light : Light m) where
   -- where the branches below the chosen place weigh least, so does the plan
-  chosen-least : (fs : List Bool) (k i : ℕ) (rows : List (List ℕ)) → All (Terms (suc k)) rows → (h : i ≤ k) (bs : Branches k (runs i rows)) → NamedFirsts fs i bs
+  chosen-least : (fs : List Bool) (k i : ℕ) (rows : List (List ℕ)) → All (Terms (suc k)) rows → (h : i ≤ k) (bs : Branches k (runs i rows))
+      → NamedFirsts fs i bs
       → Chosen m fs k rows i → LeastRuns m fs i k (runs i rows) (costs m bs) → Bare m fs (suc k) rows (cost m {rows = rows} (node i h bs))
   unfolding cost NamedFirst
   chosen-least fs k i rows t h bs z (shared c a y s) l = record { plan = node i h bs; kind = (y, z); costs-it = refl; none-less = λ q u. less q u }
@@ -64,7 +66,8 @@ module _ (m : Measure) (light : Light m) where
   mutual
     unfolding Built costs NamedFirst
 
-    built-bare : {k : ℕ} {rows : List (List ℕ)} (fs : List Bool) (p : Plan k rows) → All (Terms k) rows → Built m fs p → Bare m fs k rows (cost m p) × NamedFirst fs p
+    built-bare : {k : ℕ} {rows : List (List ℕ)} (fs : List Bool) (p : Plan k rows) → All (Terms k) rows → Built m fs p
+        → Bare m fs k rows (cost m p) × NamedFirst fs p
     built-bare fs (leaf {rows}) t b = (leaf-least m fs rows, tt)
     built-bare fs (node {k} {rows} i h bs) t b =
         let x = builts-bare fs i bs (runs-terms i k h rows t) (b .1) in
@@ -103,7 +106,8 @@ module _ (m : Measure) where
       go (equal q) = q
       go (after x q h) = absurd (omega (arith, f (r .plan) (r .kind) (omega arith), r .costs-it, least-one l r))
 
-  node-same : (fs : List Bool) {k : ℕ} {rows : List (List ℕ)} {i : ℕ} (h : i ≤ k) (bs : Branches k (runs i rows)) → ((cs : Branches k (runs i rows)) → Builts m fs i cs → bs ≡ cs)
+  node-same : (fs : List Bool) {k : ℕ} {rows : List (List ℕ)} {i : ℕ} (h : i ≤ k) (bs : Branches k (runs i rows))
+      → ((cs : Branches k (runs i rows)) → Builts m fs i cs → bs ≡ cs)
       → {j : ℕ} → i ≡ j → (l : j ≤ k) (cs : Branches k (runs j rows)) → Builts m fs j cs → _≡_ {A = Plan (suc k) rows} (node i h bs) (node j l cs)
   node-same fs {k} {rows} {i} h bs same e =
       pathJ
@@ -154,7 +158,8 @@ module _ (m : Measure) (light : Light m) (fs : List Bool) (rows : List (List ℕ
   rank-agreed i c a = rw (eq-eqb (length (runs i rows)) 1 (ap length (agree-runs i c rows a)))
 
   -- the rule's place, agreed or not
-  pub chosen-first : {k i : ℕ} → All (Terms (suc k)) rows → ((j : ℕ) → j ≤ k → May fs j → LeastRuns m fs j k (runs j rows) (F j)) → First (may fs) k (rank m rows F) i
+  pub chosen-first : {k i : ℕ} → All (Terms (suc k)) rows → ((j : ℕ) → j ≤ k → May fs j → LeastRuns m fs j k (runs j rows) (F j))
+      → First (may fs) k (rank m rows F) i
       → Chosen m fs k rows i
   chosen-first {k} {i} t f a = go (eqb (length (runs i rows)) 1) refl
     where

@@ -69,14 +69,16 @@ module _ {m : Measure} where
       → Bare m fs k rows (weighs m s + x)
   unfolding weighs
   least-before x stop l = rw zero-add l
-  least-before x (step {named = fs} {others = k} {rows = rows} i c h a y s) l = rw add-assoc (agreed-least m fs k i c (weighs m s + x) rows h a y (least-before x s l))
+  least-before x (step {named = fs} {others = k} {rows = rows} i c h a y s) l =
+      rw add-assoc (agreed-least m fs k i c (weighs m s + x) rows h a y (least-before x s l))
 
   pub closes-least : {n : ℕ} {fs fs′ : List Bool} {k k′ : ℕ} {rows rows′ : List (List ℕ)} (x : ℕ) → Closing m n fs k rows fs′ k′ rows′ → Bare m fs′ k′ rows′ x
       → Bare m fs k rows (n + x)
   closes-least x s l = rw (s .weight) at (least-before x (s .closes) l)
 
   -- one closing after another
-  then-closed : {n : ℕ} {fs fs′ fs″ : List Bool} {k k′ k″ : ℕ} {rows rows′ rows″ : List (List ℕ)} (x : Closes fs k rows fs′ k′ rows′) → Closing m n fs′ k′ rows′ fs″ k″ rows″
+  then-closed : {n : ℕ} {fs fs′ fs″ : List Bool} {k k′ k″ : ℕ} {rows rows′ rows″ : List (List ℕ)} (x : Closes fs k rows fs′ k′ rows′)
+      → Closing m n fs′ k′ rows′ fs″ k″ rows″
       → Closing m (weighs m x + n) fs k rows fs″ k″ rows″
   unfolding weighs
   then-closed stop y = rw zero-add y
@@ -94,7 +96,8 @@ module _ {m : Measure} where
   part-closed o t h b (step {rows = rows} i c hi a y x) =
       one-closed i c hi (agree-slice i c o t rows h b a) y (rw slice-map at (part-closed o t h (rw (length-map rows (close i)) b) x))
 
-  pub closes-part : {n : ℕ} {fs fs′ : List Bool} {k k′ : ℕ} {rows rows′ : List (List ℕ)} (o t : ℕ) → o < t → t ≤ length rows → Closing m n fs k rows fs′ k′ rows′
+  pub closes-part : {n : ℕ} {fs fs′ : List Bool} {k k′ : ℕ} {rows rows′ : List (List ℕ)} (o t : ℕ) → o < t → t ≤ length rows
+      → Closing m n fs k rows fs′ k′ rows′
       → Closing m n fs k (slice o t rows) fs′ k′ (slice o t rows′)
   closes-part o t h b x = rw (x .weight) at (part-closed o t h b (x .closes))
 
@@ -125,7 +128,8 @@ module _ {m : Measure} where
       rejoin k₀ i′ j′ ek hi′ ai′ yi′ em ef x =
           let e₁ : arity d + k ≡ suc (arity d + k₀) = omega arith in
           let e₂ : arity d + (arity c + k₀) ≡ arity c + (arity d + k₀) = omega arith in
-          let z : Closing m (x .0) (spread i′ (arity c) (spread j (arity d) fs)) (arity c + (arity d + k₀)) (map (close i′) (map (close j) rows)) fs′ k′ rows′ = rw (em, ef, e₂) at (x .2) in
+          let z : Closing m (x .0) (spread i′ (arity c) (spread j (arity d) fs)) (arity c + (arity d + k₀)) (map (close i′) (map (close j) rows)) fs′
+              k′ rows′ = rw (em, ef, e₂) at (x .2) in
           (m .weight c + x .0, omega arith, rw e₁ (one-closed i′ c hi′ ai′ yi′ z))
 
       go : Tri i j → ((k j d : ℕ) → arity c + k₁ ≡ suc k → j ≤ k → Agree j d (map (close i) rows) → May (spread i (arity c) fs) j
@@ -177,7 +181,8 @@ stuck-stop m (step i c h a y x) s = absurd (s i c (omega arith) a y)
 
 -- THE ORDER DOES NOT MATTER: two closings after which no place that may be chosen is agreed reach the same state, and their cells weigh the
 -- same. So a pair of first and last row fixes a state
-pub order-does-not-matter : (m : Measure) {fs fs′ fs″ : List Bool} {k k′ k″ : ℕ} {rows rows′ rows″ : List (List ℕ)} (x : Closes fs k rows fs′ k′ rows′) → Stuck fs′ k′ rows′
+pub order-does-not-matter : (m : Measure) {fs fs′ fs″ : List Bool} {k k′ k″ : ℕ} {rows rows′ rows″ : List (List ℕ)}
+    (x : Closes fs k rows fs′ k′ rows′) → Stuck fs′ k′ rows′
     → (y : Closes fs k rows fs″ k″ rows″) → Stuck fs″ k″ rows″ → (weighs m x ≡ weighs m y) × (k′ ≡ k″) × (rows′ ≡ rows″) × (fs′ ≡ fs″)
 order-does-not-matter m x s y t =
     let z = confluent {m = m} x s y in

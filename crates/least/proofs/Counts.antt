@@ -33,7 +33,8 @@ pub solved-least : {m : Measure} {fs : List Bool} {k : ℕ} {rows : List (List �
 solved-least {n = n} s = closes-least n (s .closes) (s .counts)
 
 -- and they tell the least cost of each state on the way: what is closed from there on, and the rest
-solved-below : {m : Measure} {fs fs′ : List Bool} {k k′ : ℕ} {rows rows′ : List (List ℕ)} {a n c : ℕ} → Solved m fs k rows a n → Closing m c fs k rows fs′ k′ rows′
+solved-below : {m : Measure} {fs fs′ : List Bool} {k k′ : ℕ} {rows rows′ : List (List ℕ)} {a n c : ℕ} → Solved m fs k rows a n
+    → Closing m c fs k rows fs′ k′ rows′
     → (v : ℕ) × (c ≤ a) × (c + v ≡ a + n) × Bare m fs′ k′ rows′ v
 solved-below {m} {a = a} {n} {c} s x =
     let u = confluent {m = m} (s .closes .closes) (s .stuck) (x .closes) in
@@ -44,14 +45,17 @@ solved-below {m} {a = a} {n} {c} s x =
 pub run-closes : {m : Measure} {fs fs′ : List Bool} {w a k : ℕ} {left : List (List ℕ)} (first end : ℕ) (rows : List (List ℕ)) (p o : ℕ) (g : Run)
     → Closing m a fs w (slice first end rows) fs′ (suc k) left
     → end ≤ length rows → p ≤ k → May fs′ p → PartOf (root p) (close p) left o g
-    → Closing m (a + (m .weight (g .cell) + 0)) fs w (slice (first + o) (first + (o + length (g .rows))) rows) (spread p (arity (g .cell)) fs′) (arity (g .cell) + k) (g .rows)
+    → Closing m (a + (m .weight (g .cell) + 0)) fs w (slice (first + o) (first + (o + length (g .rows))) rows) (spread p (arity (g .cell)) fs′)
+        (arity (g .cell) + k) (g .rows)
 run-closes {m} {fs′ = fs′} {k = k} {left} first end rows p o g x inside h my q =
     let f : List Bool = spread p (arity (g .cell)) fs′ in
-    let y₀ : Closing m 0 f (arity (g .cell) + k) (map (close p) (slice o (o + length (g .rows)) left)) f (arity (g .cell) + k) (g .rows) = rw (← (q .is)) none-closed in
+    let y₀ : Closing m 0 f (arity (g .cell) + k) (map (close p) (slice o (o + length (g .rows)) left)) f (arity (g .cell) + k) (g .rows) =
+        rw (← (q .is)) none-closed in
     let b : length (slice first end rows) ≡ end - first = length-slice first end rows inside in
     let l : length left ≡ length (slice first end rows) = closes-length (x .closes) in
     rw (slice-slice first end o (o + length (g .rows)) rows (omega (arith, q .inside, q .some))) at
-    (closes-then (closes-part o (o + length (g .rows)) (omega (arith, q .some)) (omega (arith, q .inside)) x) (one-closed p (g .cell) h (part-agree p o g left q) my y₀))
+    (closes-then (closes-part o (o + length (g .rows)) (omega (arith, q .some)) (omega (arith, q .inside)) x)
+        (one-closed p (g .cell) h (part-agree p o g left q) my y₀))
 
 -- what a run of rows j to j′ adds to a state whose closed cells weigh a: what its rows agree on beyond that, its own branch with it, and its least cost
 abbrev pub adds : (agreed least : ℕ → ℕ → ℕ) → ℕ → ℕ → ℕ → ℕ
@@ -62,17 +66,20 @@ module _ {m : Measure} {fs fs′ : List Bool} (w : ℕ) (rows : List (List ℕ))
     (table : (j j′ : ℕ) → first ≤ j → j ≤ j′ → j′ ≤ last → j′ - j < last - first → Solved m fs w (between j j′ rows) (agreed j j′) (least j j′)) where
   -- so the table tells what the run adds
   run-value : (p o : ℕ) (g : Run) → p ≤ k → May fs′ p → PartOf (root p) (close p) left o g
-      → (v : ℕ) × (m .weight (g .cell) + v ≡ adds agreed least a (first + o) (pred (first + o + length (g .rows)))) × Bare m (spread p (arity (g .cell)) fs′) (arity (g .cell) + k) (g .rows) v
+      → (v : ℕ) × (m .weight (g .cell) + v ≡ adds agreed least a (first + o) (pred (first + o + length (g .rows))))
+          × Bare m (spread p (arity (g .cell)) fs′) (arity (g .cell) + k) (g .rows) v
       × (a ≤ agreed (first + o) (pred (first + o + length (g .rows))))
   run-value p o g h my q =
       let b : length left ≡ suc last - first = closes-length (x .closes) ∙ length-slice first (suc last) rows inside in
       let less : length (g .rows) < length left = part-proper p o g left q (λ ag. stuck p (g .cell) (omega arith) ag my) in
       let e : first + (o + length (g .rows)) ≡ suc (pred (first + o + length (g .rows))) = omega (arith, q .some) in
-      let s = table (first + o) (pred (first + o + length (g .rows))) (omega arith) (omega (arith, q .some)) (omega (arith, q .inside, q .some)) (omega (arith, q .inside, q .some)) in
+      let s = table (first + o) (pred (first + o + length (g .rows))) (omega arith) (omega (arith, q .some)) (omega (arith, q .inside, q .some))
+          (omega (arith, q .inside, q .some)) in
       let v = solved-below s (rw e at (run-closes first (suc last) rows p o g x inside h my q)) in
       (v .0, omega (arith, v .1, v .2), v .3, omega (arith, v .1))
 
-  runs-least : (p o : ℕ) (gs : List Run) → p ≤ k → May fs′ p → Parts (root p) (close p) left o gs → LeastRuns m fs′ p k gs (sums (adds agreed least a) (first + o) gs)
+  runs-least : (p o : ℕ) (gs : List Run) → p ≤ k → May fs′ p → Parts (root p) (close p) left o gs
+      → LeastRuns m fs′ p k gs (sums (adds agreed least a) (first + o) gs)
   runs-least p o [] h my q = runs-nil m fs′ p k
   runs-least p o (g ∷ gs) h my q =
       let v = run-value p o g h my (q .0) in

@@ -64,6 +64,7 @@ pub least : Least plain [] 4 four 13
 unfolding four best total argmin root close agree arity valuesAt isVar laterIn count
 least = least-later plain-light (all-each (Fits 32 4) (Terms 4) (λ r x. x .0) four fits) (best-least plain 32 [] 4 four (omega arith) fits (omega arith))
 
-pub builds : Builds plain [] 4 four (1 ∷ 3 ∷ x ∷ 0 ∷ 1 ∷ a ∷ 0 ∷ 1 ∷ x ∷ 0 ∷ 1 ∷ x ∷ 1 ∷ y ∷ 1 ∷ 1 ∷ y ∷ 1 ∷ 1 ∷ y ∷ 0 ∷ 2 ∷ a ∷ 1 ∷ b ∷ 1 ∷ z ∷ 0 ∷ 1 ∷ b ∷ 0 ∷ 1 ∷ z ∷ 0 ∷ 1 ∷ z ∷ 1 ∷ [])
+pub builds : Builds plain [] 4 four (1 ∷ 3 ∷ x ∷ 0 ∷ 1 ∷ a ∷ 0 ∷ 1 ∷ x ∷ 0 ∷ 1 ∷ x ∷ 1 ∷ y ∷ 1 ∷ 1 ∷ y ∷ 1 ∷ 1 ∷ y ∷ 0 ∷ 2 ∷ a ∷ 1 ∷ b ∷ 1 ∷ z ∷ 0 ∷ 1
+    ∷ b ∷ 0 ∷ 1 ∷ z ∷ 0 ∷ 1 ∷ z ∷ 1 ∷ [])
 unfolding four planCells place runCells best total argmin root close agree arity valuesAt isVar
 builds = plan-built plain plain-light 32 [] 4 four (omega arith) fits (omega arith)

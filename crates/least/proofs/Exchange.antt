@@ -83,7 +83,8 @@ module _ (m : Measure) where
   one-branch {k} fs i (next {g = g′} p bs) g e s =
       let eg : g′ ≡ g = cc in
       subst
-      (λ (g : Run). Better (spread i (arity (g .cell)) fs) (arity (g .cell) + k) (g .rows) (m .weight (g .cell)) (m .weight (g′ .cell) + (cost m p + costs m bs)))
+      (λ (g : Run). Better (spread i (arity (g .cell)) fs) (arity (g .cell) + k) (g .rows) (m .weight (g .cell))
+          (m .weight (g′ .cell) + (cost m p + costs m bs)))
       eg (record { plan = p; kind = s .0; less = omega arith })
 
   -- the exchange below some branches of place j: c is agreed in each run, at a place h of the run's cell, may be chosen there, and is closed there.
@@ -144,7 +145,8 @@ module _ (m : Measure) where
   mutual
     unfolding cost NamedFirst
 
-    exchange-any : {K : ℕ} {rows : List (List ℕ)} (fs : List Bool) (p : Plan K rows) (k i c : ℕ) → K ≡ suc k → i ≤ k → Agree i c rows → May fs i → NamedFirst fs p
+    exchange-any : {K : ℕ} {rows : List (List ℕ)} (fs : List Bool) (p : Plan K rows) (k i c : ℕ) → K ≡ suc k → i ≤ k → Agree i c rows → May fs i
+        → NamedFirst fs p
         → Better (spread i (arity c) fs) (arity c + k) (map (close i) rows) (m .weight c) (cost m p)
     exchange-any fs leaf k i c e h a y s = absurd (omega arith)
     exchange-any fs (node {k = k′} {rows} j l bs) k i c e h a y s =
@@ -152,7 +154,8 @@ module _ (m : Measure) where
         rw (← ek) (exchange-at fs k′ j i c rows l (omega arith) a bs y (s .0) (s .1)
         (λ gone j₁ k₀ h e f a y q. exchange-below fs gone j j₁ bs k₀ c h e f a y q (s .1)) (tri i j))
 
-    exchange-below : {k : ℕ} {gs : List Run} (fs gone : List Bool) (j j₁ : ℕ) (bs : Branches k gs) (k₀ c : ℕ) (h : ℕ → ℕ) → k ≡ suc k₀ → ((d : ℕ) → h d ≤ arity d + k₀)
+    exchange-below : {k : ℕ} {gs : List Run} (fs gone : List Bool) (j j₁ : ℕ) (bs : Branches k gs) (k₀ c : ℕ) (h : ℕ → ℕ) → k ≡ suc k₀
+        → ((d : ℕ) → h d ≤ arity d + k₀)
         → All (λ (g : Run). Agree (h (g .cell)) c (g .rows)) gs
         → ((d : ℕ) → May (spread j (arity d) fs) (h d)) → ((d : ℕ) → spread (h d) (arity c) (spread j (arity d) fs) ≡ spread j₁ (arity d) gone)
         → NamedFirsts fs j bs → BetterAll gone j₁ (arity c + k₀) (mapRuns (λ (d : ℕ). close (h d)) gs) (m .weight c) (costs m bs)
@@ -165,7 +168,8 @@ module _ (m : Measure) where
         let b₁ : Better (spread j₁ (arity d) gone) (arity d + (arity c + k₀)) (map (close (h d)) (g .rows)) (m .weight c) (cost m p) = rw (ek, q d) at b in
         record { plans = next (b₁ .plan) (cs .plans); kind = (b₁ .kind, cs .kind); less = omega (arith, suc-mul (length gs) (m .weight c), b₁ .less, cs .less) }
 
-  -- THE EXCHANGE: where all rows agree at a place that may be chosen, every plan of the kind can be turned into one of the kind that starts there and costs no more
+  -- THE EXCHANGE: where all rows agree at a place that may be chosen, every plan of the kind can be turned into one of the kind that starts there and
+  -- costs no more
   pub exchange : {k : ℕ} {rows : List (List ℕ)} (fs : List Bool) (i c : ℕ) → i ≤ k → Agree i c rows → May fs i → (p : Plan (suc k) rows) → NamedFirst fs p
       → Better (spread i (arity c) fs) (arity c + k) (map (close i) rows) (m .weight c) (cost m p)
   exchange {k} fs i c h a y p s = exchange-any fs p k i c refl h a y s

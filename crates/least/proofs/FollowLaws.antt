@@ -131,7 +131,8 @@ module _ (m : Measure) (named : List Bool) (kept : List ℕ) (w : ℕ) (rows : L
   -- runs of neighbouring rows, the first of them from `first` on: each of them is such a state
   abbrev AllReached : List Bool → ℕ → ℕ → ℕ → List Run → Type 0
   AllReached fs i first k [] = Unit {0}
-  AllReached fs i first k (g ∷ gs) = Reached (spread i (arity (g .cell)) fs) first (arity (g .cell) + k) (g .rows) × AllReached fs i (first + length (g .rows)) k gs
+  AllReached fs i first k (g ∷ gs) =
+      Reached (spread i (arity (g .cell)) fs) first (arity (g .cell) + k) (g .rows) × AllReached fs i (first + length (g .rows)) k gs
 
   runs-reached : (fs : List Bool) (first k i o : ℕ) (left : List (List ℕ)) → Reached fs first (suc k) left → i ≤ k → May fs i
       → (gs : List Run) → Parts (root i) (close i) left o gs → AllReached fs i (first + o) k gs
@@ -177,16 +178,19 @@ module _ (m : Measure) (named : List Bool) (kept : List ℕ) (w : ℕ) (rows : L
   mutual
     unfolding Follows Built
 
-    state-built : {k : ℕ} {left : List (List ℕ)} (fs : List Bool) (p : Plan k left) (first : ℕ) → Reached fs first k left → Follows kept fs first p → Built m fs p
+    state-built : {k : ℕ} {left : List (List ℕ)} (fs : List Bool) (p : Plan k left) (first : ℕ) → Reached fs first k left → Follows kept fs first p
+        → Built m fs p
     state-built fs leaf first x f = tt
     state-built fs (node {k} {rows = left} i h bs) first x f =
         let e : first + 0 ≡ first = omega arith in
         let c : Chosen m fs k left i = rw (f .0) (taken-chosen fs first k left x) in (
           c,
-          states-built fs i bs first (rw e at (runs-reached fs first k i 0 left x h (chosen-may m c) (runs i left) (group-parts (root i) (close i) left))) (f .1),
+          states-built fs i bs first (rw e at (runs-reached fs first k i 0 left x h (chosen-may m c) (runs i left)
+              (group-parts (root i) (close i) left))) (f .1),
         )
 
-    states-built : {k : ℕ} {gs : List Run} (fs : List Bool) (i : ℕ) (bs : Branches k gs) (first : ℕ) → AllReached fs i first k gs → FollowsIn kept fs i first bs → Builts m fs i bs
+    states-built : {k : ℕ} {gs : List Run} (fs : List Bool) (i : ℕ) (bs : Branches k gs) (first : ℕ) → AllReached fs i first k gs
+        → FollowsIn kept fs i first bs → Builts m fs i bs
     states-built fs i end first x f = tt
     states-built fs i (next {g = g} p bs) first x f =
         (state-built (spread i (arity (g .cell)) fs) p first (x .0) (f .0), states-built fs i bs (first + length (g .rows)) (x .1) (f .1))

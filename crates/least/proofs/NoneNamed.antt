@@ -26,9 +26,11 @@ module _ (m : Measure) where
   free-stuck : (fs gs : List Bool) (k j : ℕ) (rows : List (List ℕ)) → Free fs k → j ≤ k → Stuck fs j rows → Stuck gs j rows
   free-stuck fs gs k j rows f h s i c l a y = s i c l a (free-may fs k i f (omega arith))
 
-  pub free-chosen : {k i : ℕ} {rows : List (List ℕ)} (fs gs : List Bool) → Free fs (suc k) → Free gs (suc k) → i ≤ k → Chosen m fs k rows i → Chosen m gs k rows i
+  pub free-chosen : {k i : ℕ} {rows : List (List ℕ)} (fs gs : List Bool) → Free fs (suc k) → Free gs (suc k) → i ≤ k → Chosen m fs k rows i
+      → Chosen m gs k rows i
   unfolding free-least
-  free-chosen {k} {i} {rows} fs gs f g h (shared c a y s) = shared c a (free-may gs (suc k) i g (omega arith)) (free-stuck fs gs (suc k) i rows f (omega arith) s)
+  free-chosen {k} {i} {rows} fs gs f g h (shared c a y s) =
+      shared c a (free-may gs (suc k) i g (omega arith)) (free-stuck fs gs (suc k) i rows f (omega arith) s)
   free-chosen {k} {rows = rows} fs gs f g h (cheapest s best e u) =
       cheapest (free-stuck fs gs (suc k) (suc k) rows f (omega arith) s) (free-least fs gs f g best) e (λ q t. u q (free-kind fs f q))
 
@@ -39,10 +41,12 @@ module _ (m : Measure) where
     free-built fs gs f g leaf b = tt
     free-built fs gs f g (node i h bs) b = (free-chosen fs gs f g h (b .0), frees-built fs gs i h f g bs (b .1))
 
-    frees-built : {k : ℕ} {rs : List Run} (fs gs : List Bool) (i : ℕ) → i ≤ k → Free fs (suc k) → Free gs (suc k) → (bs : Branches k rs) → Builts m fs i bs → Builts m gs i bs
+    frees-built : {k : ℕ} {rs : List Run} (fs gs : List Bool) (i : ℕ) → i ≤ k → Free fs (suc k) → Free gs (suc k) → (bs : Branches k rs)
+        → Builts m fs i bs → Builts m gs i bs
     frees-built fs gs i h f g end b = tt
     frees-built fs gs i h f g (next {k} {g = r} p bs) b = (
-      free-built (spread i (arity (r .cell)) fs) (spread i (arity (r .cell)) gs) (free-below fs k i (arity (r .cell)) h f) (free-below gs k i (arity (r .cell)) h g) p (b .0),
+      free-built (spread i (arity (r .cell)) fs) (spread i (arity (r .cell)) gs) (free-below fs k i (arity (r .cell)) h f)
+          (free-below gs k i (arity (r .cell)) h g) p (b .0),
       frees-built fs gs i h f g bs (b .1),
     )
 

@@ -34,7 +34,8 @@ outside (inl l) h i = omega arith
 outside (inr l) h i = omega arith
 
 -- an entry is determined
-pub entry-one : {m : Measure} {fs : List Bool} {w : ℕ} {rows : List (List ℕ)} {first last n n′ i i′ : ℕ} → Entry m fs w rows first last n i → Entry m fs w rows first last n′ i′
+pub entry-one : {m : Measure} {fs : List Bool} {w : ℕ} {rows : List (List ℕ)} {first last n n′ i i′ : ℕ} → Entry m fs w rows first last n i
+    → Entry m fs w rows first last n′ i′
     → (n ≡ n′) × (i ≡ i′)
 entry-one (none o) (none o′) = (refl, refl)
 entry-one (none o) (leaf h l x) = absurd (outside o h l)
@@ -55,11 +56,13 @@ entry-one {m} (inner {others = k} {left = left} {count = n} {place = i} h l x s 
 module _ (m : Measure) (n : ℕ) (fs : List Bool) (w : ℕ) (rows : List (List ℕ)) where
   -- the least cost from there
   unfoldable pub leastOf : ℕ → ℕ → ℕ
-  leastOf first last = best m n ((closedOf m n fs w rows first last) .named) ((closedOf m n fs w rows first last) .opens) ((closedOf m n fs w rows first last) .left)
+  leastOf first last =
+      best m n ((closedOf m n fs w rows first last) .named) ((closedOf m n fs w rows first last) .opens) ((closedOf m n fs w rows first last) .left)
 
   -- what the branches of place p there cost: over its runs, the sum of what each adds
   unfoldable pub branchesOf : ℕ → ℕ → ℕ → ℕ
-  branchesOf first last p = sums (adds (weighedOf m n fs w rows) leastOf (weighedOf m n fs w rows first last)) first (runs p ((closedOf m n fs w rows first last) .left))
+  branchesOf first last p =
+      sums (adds (weighedOf m n fs w rows) leastOf (weighedOf m n fs w rows first last)) first (runs p ((closedOf m n fs w rows first last) .left))
 
   -- with the state's own figure
   abbrev pub costOf : ℕ → ℕ → ℕ → ℕ
@@ -88,10 +91,12 @@ module _ (m : Measure) (n : ℕ) (fs : List Bool) (w : ℕ) (rows : List (List �
       pub pair-flags : length ((closedOf m n fs w rows first last) .named) ≤ (closedOf m n fs w rows first last) .opens
       pair-flags = closes-flags (pair-closed .closes .closes) few
 
-      pair-counts : Bare m ((closedOf m n fs w rows first last) .named) ((closedOf m n fs w rows first last) .opens) ((closedOf m n fs w rows first last) .left) (leastOf first last)
+      pair-counts : Bare m ((closedOf m n fs w rows first last) .named) ((closedOf m n fs w rows first last) .opens)
+          ((closedOf m n fs w rows first last) .left) (leastOf first last)
       unfolding leastOf
       pair-counts =
-          best-least m n ((closedOf m n fs w rows first last) .named) ((closedOf m n fs w rows first last) .opens) ((closedOf m n fs w rows first last) .left) pair-flags
+          best-least m n ((closedOf m n fs w rows first last) .named) ((closedOf m n fs w rows first last) .opens)
+              ((closedOf m n fs w rows first last) .left) pair-flags
           (closes-fit n (pair-closed .closes .closes) (pair-state .0))
           (omega (arith, closes-length (pair-closed .closes .closes), pair-state .1))
 
@@ -112,7 +117,8 @@ module _ (m : Measure) (n : ℕ) (fs : List Bool) (w : ℕ) (rows : List (List �
       unfolding branchesOf
       branches-least k e =
           let x = pair-closed first last order inside in
-          place-least w rows (weighedOf m n fs w rows) leastOf first last (weighedOf m n fs w rows first last) k ((closedOf m n fs w rows first last) .left) inside
+          place-least w rows (weighedOf m n fs w rows) leastOf first last (weighedOf m n fs w rows first last) k
+              ((closedOf m n fs w rows first last) .left) inside
           (rw e at (x .closes)) (rw e at (x .stuck)) (λ j j′ h h′ h″ l. pair-solved j j′ h′ (omega arith))
 
       -- and with what the pair's rows agree on, once for each run, what the runs' rows cost with nothing closed
@@ -122,7 +128,8 @@ module _ (m : Measure) (n : ℕ) (fs : List Bool) (w : ℕ) (rows : List (List �
       unfolding branchesOf
       branches-whole k e =
           let x = pair-closed first last order inside in
-          place-whole w rows (weighedOf m n fs w rows) leastOf first last (weighedOf m n fs w rows first last) k ((closedOf m n fs w rows first last) .left) inside
+          place-whole w rows (weighedOf m n fs w rows) leastOf first last (weighedOf m n fs w rows first last) k
+              ((closedOf m n fs w rows first last) .left) inside
           (rw e at (x .closes)) (rw e at (x .stuck)) (λ j j′ h h′ h″ l. pair-solved j j′ h′ (omega arith))
 
       -- THE EQUATION OF LEAST COUNTS, for every pair of first and last row
@@ -130,7 +137,9 @@ module _ (m : Measure) (n : ℕ) (fs : List Bool) (w : ℕ) (rows : List (List �
       equation = go ((closedOf m n fs w rows first last) .opens) refl
         where
           go : (K : ℕ) → (closedOf m n fs w rows first last) .opens ≡ K → leastOf first last ≡ leastOver (mayOf first last) K (costOf first last)
-          go zero e = bare-one (rw e at (pair-counts first last order inside)) (leaf-least m ((closedOf m n fs w rows first last) .named) ((closedOf m n fs w rows first last) .left))
+          go zero e =
+              bare-one (rw e at (pair-counts first last order inside))
+                  (leaf-least m ((closedOf m n fs w rows first last) .named) ((closedOf m n fs w rows first last) .left))
           go (suc k) e =
               bare-one (rw e at (pair-counts first last order inside))
               (node-least m ((closedOf m n fs w rows first last) .named) k ((closedOf m n fs w rows first last) .left) (branchesOf first last)
@@ -140,27 +149,33 @@ module _ (m : Measure) (n : ℕ) (fs : List Bool) (w : ℕ) (rows : List (List �
       pub left-terms : All (Terms ((closedOf m n fs w rows first last) .opens)) ((closedOf m n fs w rows first last) .left)
       left-terms =
           all-each (Fits n ((closedOf m n fs w rows first last) .opens)) (Terms ((closedOf m n fs w rows first last) .opens)) (λ r x. x .0)
-          ((closedOf m n fs w rows first last) .left) (closes-fit n (pair-closed first last order inside .closes .closes) (pair-state first last order inside .0))
+          ((closedOf m n fs w rows first last) .left) (closes-fit n (pair-closed first last order inside .closes .closes)
+              (pair-state first last order inside .0))
 
       -- and the place is the rule's
       place-chosen : Light m → (k : ℕ) → (closedOf m n fs w rows first last) .opens ≡ suc k
           → (argmin (mayOf first last) k (costOf first last) ≤ k)
-          × Chosen m ((closedOf m n fs w rows first last) .named) k ((closedOf m n fs w rows first last) .left) (argmin (mayOf first last) k (costOf first last))
+          × Chosen m ((closedOf m n fs w rows first last) .named) k ((closedOf m n fs w rows first last) .left)
+              (argmin (mayOf first last) k (costOf first last))
       place-chosen light k e = go (some-may ((closedOf m n fs w rows first last) .named) k (omega (arith, pair-flags first last order inside)))
         where
           go : Some ((closedOf m n fs w rows first last) .named) (suc k) → (argmin (mayOf first last) k (costOf first last) ≤ k)
-              × Chosen m ((closedOf m n fs w rows first last) .named) k ((closedOf m n fs w rows first last) .left) (argmin (mayOf first last) k (costOf first last))
+              × Chosen m ((closedOf m n fs w rows first last) .named) k ((closedOf m n fs w rows first last) .left)
+                  (argmin (mayOf first last) k (costOf first last))
           go (some j l y) =
               let a = argmin-first (mayOf first last) (costOf first last) k j (omega arith) y in
-              (a .within, chosen-cheapest m light (rw e at left-terms) (branchesOf first last) (branches-least k e) (rw e at (pair-closed first last order inside .stuck)) a)
+              (a .within, chosen-cheapest m light (rw e at left-terms) (branchesOf first last) (branches-least k e)
+                  (rw e at (pair-closed first last order inside .stuck)) a)
 
       -- so these are the pair's entry, with what the later meetings cost that are left
-      pub pair-entry : Light m → Entry m fs w rows first last (leastOf first last + latersIn m [] ((closedOf m n fs w rows first last) .left)) (placeOf first last)
+      pub pair-entry : Light m → Entry m fs w rows first last (leastOf first last + latersIn m [] ((closedOf m n fs w rows first last) .left))
+          (placeOf first last)
       unfolding placeOf
       pair-entry light = go ((closedOf m n fs w rows first last) .opens) refl equation
         where
           go : (K : ℕ) → (closedOf m n fs w rows first last) .opens ≡ K → leastOf first last ≡ leastOver (mayOf first last) K (costOf first last)
-              → Entry m fs w rows first last (leastOf first last + latersIn m [] ((closedOf m n fs w rows first last) .left)) (firstOver (mayOf first last) K (costOf first last))
+              → Entry m fs w rows first last (leastOf first last + latersIn m [] ((closedOf m n fs w rows first last) .left))
+                  (firstOver (mayOf first last) K (costOf first last))
           go zero e q =
               let s : List (List ℕ) = (closedOf m n fs w rows first last) .left in
               let z : leastOf first last + latersIn m [] s ≡ 0 = omega (arith, q, none-later m s [] (rw e at left-terms)) in

@@ -45,7 +45,8 @@ module _ {A : Type 0} where
   pub slice-both : (a b c : ℕ) (xs : List A) → a ≤ b → b ≤ c → c ≤ length xs → slice a c xs ≡ slice a b xs ++ slice b c xs
   slice-both a b c xs h h′ l =
       let t : take b (take c xs) ≡ take b xs = take-take b c xs h′ in
-      ap (drop a) (sym (take-append-drop b (take c xs))) ∙ drop-append-le a (take b (take c xs)) (slice b c xs) (omega (arith, length-take-le b (take c xs) (omega (arith, length-take-le c xs l))))
+      ap (drop a) (sym (take-append-drop b (take c xs)))
+      ∙ drop-append-le a (take b (take c xs)) (slice b c xs) (omega (arith, length-take-le b (take c xs) (omega (arith, length-take-le c xs l))))
       ∙ ap (λ (ys : List A). drop a ys ++ slice b c xs) t
 
 pub agree-slice : (i c o t : ℕ) (rows : List (List ℕ)) → o < t → t ≤ length rows → Agree i c rows → Agree i c (slice o t rows)

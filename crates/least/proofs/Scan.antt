@@ -83,7 +83,8 @@ module _ (m : Measure) (every : Bool) where
   scan-step : (n : ℕ) → Scans n → (fs : List Bool) (i r : ℕ) (rows : List (List ℕ)) → All (Fits (suc n + i) (i + suc r)) rows → 0 < length rows
       → Lets every fs → Left every fs i rows → (b : Bool) → every || flag i fs ≡ b → (gs : List Run) → runs i rows ≡ gs
       → ScannedBy m every fs (i + suc r) rows (cond b
-      (oneRun gs (λ (g : Run). plus (m .weight (g .cell)) (scan m every n (spread i (arity (g .cell)) fs) i (arity (g .cell) + r) (g .rows))) (scan m every n fs (suc i) r rows))
+      (oneRun gs (λ (g : Run). plus (m .weight (g .cell)) (scan m every n (spread i (arity (g .cell)) fs) i (arity (g .cell) + r) (g .rows)))
+          (scan m every n fs (suc i) r rows))
       (scan m every n fs (suc i) r rows))
   scan-step n ih fs i r rows f h l s b eb gs e = by b eb
     where
@@ -99,7 +100,8 @@ module _ (m : Measure) (every : Bool) where
           rw e₁ (ih fs (suc i) r rows (rw (e₁, e₃) at f) h l (left-next every fs i rows s other))
 
       closed-place : (g : Run) → runs i rows ≡ g ∷ [] → every || flag i fs ≡ true
-          → ScannedBy m every fs (i + suc r) rows (plus (m .weight (g .cell)) (scan m every n (spread i (arity (g .cell)) fs) i (arity (g .cell) + r) (g .rows)))
+          → ScannedBy m every fs (i + suc r) rows (plus (m .weight (g .cell))
+              (scan m every n (spread i (arity (g .cell)) fs) i (arity (g .cell) + r) (g .rows)))
       closed-place g e y =
           let a = run-agrees i g rows e in
           let q : g .rows ≡ map (close i) rows = ap (λ (g : Run). g .rows) (run-is i g rows e) in
@@ -109,7 +111,8 @@ module _ (m : Measure) (every : Bool) where
           rw e₄ at (fits-agreed (n + i) (i + r) i (g .cell) rows (omega arith) a (rw (e₂, e₃) at f)) in
           let x = ih (spread i (arity (g .cell)) fs) i (arity (g .cell) + r) (map (close i) rows) f′ (rw (length-map rows (close i)) h)
           (λ v j. none-spread i (arity (g .cell)) j fs (l v)) (left-close every fs i (arity (g .cell)) rows s) in
-          rw (e₂, q) (record { closes = one-closed {k = i + r} i (g .cell) (omega arith) a (lets-may every fs i l y) (rw (← e₄) at (x .closes)); none = x .none })
+          rw (e₂, q) (record { closes = one-closed {k = i + r} i (g .cell) (omega arith) a (lets-may every fs i l y) (rw (← e₄) at (x .closes));
+              none = x .none })
 
       go : (gs : List Run) → runs i rows ≡ gs → every || flag i fs ≡ true
           → ScannedBy m every fs (i + suc r) rows (oneRun gs (λ (g : Run). plus (m .weight (g .cell))
@@ -120,7 +123,8 @@ module _ (m : Measure) (every : Bool) where
 
       by : (b : Bool) → every || flag i fs ≡ b
           → ScannedBy m every fs (i + suc r) rows (cond b (oneRun gs (λ (g : Run). plus (m .weight (g .cell))
-          (scan m every n (spread i (arity (g .cell)) fs) i (arity (g .cell) + r) (g .rows))) (scan m every n fs (suc i) r rows)) (scan m every n fs (suc i) r rows))
+          (scan m every n (spread i (arity (g .cell)) fs) i (arity (g .cell) + r) (g .rows))) (scan m every n fs (suc i) r rows))
+              (scan m every n fs (suc i) r rows))
       by true y = go gs e y
       by false y = open-place (λ c a v. true≢false (sym v ∙ y))
 
@@ -141,7 +145,8 @@ module _ (m : Measure) (every : Bool) where
       rw zero-add at (scan-is n fs 0 k rows (rw (e, zero-add k) f) h l (λ i c l. absurd (omega arith)))
 
 -- rows that fit still do when agreed places are closed
-pub closes-fit : {fs fs′ : List Bool} {k k′ : ℕ} {rows rows′ : List (List ℕ)} (n : ℕ) → Closes fs k rows fs′ k′ rows′ → All (Fits n k) rows → All (Fits n k′) rows′
+pub closes-fit : {fs fs′ : List Bool} {k k′ : ℕ} {rows rows′ : List (List ℕ)} (n : ℕ) → Closes fs k rows fs′ k′ rows′ → All (Fits n k) rows
+    → All (Fits n k′) rows′
 closes-fit n stop f = f
 closes-fit n (step {others = k} {rows = rows} i c h a y x) f =
     closes-fit n x
@@ -153,7 +158,8 @@ closes-flags stop l = l
 closes-flags (step {named = fs} {others = k} i c h a y x) l = closes-flags x (spread-length i (arity c) k fs l h)
 
 -- THE TWO SCANS close every agreed place that may be chosen
-pub closed-all : (m : Measure) (n : ℕ) (fs : List Bool) (k : ℕ) (rows : List (List ℕ)) → All (Fits n k) rows → 0 < length rows → Scanned m fs k rows (closed m n fs k rows)
+pub closed-all : (m : Measure) (n : ℕ) (fs : List Bool) (k : ℕ) (rows : List (List ℕ)) → All (Fits n k) rows → 0 < length rows
+    → Scanned m fs k rows (closed m n fs k rows)
 unfolding closed
 closed-all m n fs k rows f h = go (anyNamed ((scan m false n fs 0 k rows) .named)) refl
   where
@@ -165,7 +171,8 @@ closed-all m n fs k rows f h = go (anyNamed ((scan m false n fs 0 k rows) .named
         (scan m true n ((scan m false n fs 0 k rows) .named) 0 ((scan m false n fs 0 k rows) .opens) ((scan m false n fs 0 k rows) .left))))
     go true e = record { closes = one .closes; stuck = λ i c l a y. stuck-at i c l a y }
       where
-        stuck-at : (i c : ℕ) → i < (scan m false n fs 0 k rows) .opens → Agree i c ((scan m false n fs 0 k rows) .left) → May ((scan m false n fs 0 k rows) .named) i → ⊥
+        stuck-at : (i c : ℕ) → i < (scan m false n fs 0 k rows) .opens → Agree i c ((scan m false n fs 0 k rows) .left)
+            → May ((scan m false n fs 0 k rows) .named) i → ⊥
         stuck-at i c l a (inside q) = one .none i c l a q
         stuck-at i c l a (freely q) = true≢false (sym e ∙ named-none ((scan m false n fs 0 k rows) .named) q)
     go false e =

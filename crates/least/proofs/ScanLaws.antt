@@ -50,7 +50,8 @@ sizes-close j x rows h =
     ∙ sizes-mapRuns (λ (d : ℕ). close (arity d + x)) (runs j rows)
 
 module _ (m : Measure) (every : Bool) where
-  pub scan-sizes : (n : ℕ) (fs : List Bool) (i r : ℕ) (rows : List (List ℕ)) (j : ℕ) → j < i → sizes (runs j ((scan m every n fs i r rows) .left)) ≡ sizes (runs j rows)
+  pub scan-sizes : (n : ℕ) (fs : List Bool) (i r : ℕ) (rows : List (List ℕ)) (j : ℕ) → j < i
+      → sizes (runs j ((scan m every n fs i r rows) .left)) ≡ sizes (runs j rows)
   unfolding scan
   scan-sizes zero fs i r rows j h = refl
   scan-sizes (suc n) fs i zero rows j h = refl
@@ -60,7 +61,8 @@ module _ (m : Measure) (every : Bool) where
       Below = (fs : List Bool) (i r : ℕ) (rows : List (List ℕ)) → j < i → sizes (runs j ((scan m every n fs i r rows) .left)) ≡ sizes (runs j rows)
 
       go : (gs : List Run) → runs i rows ≡ gs → Below
-          → sizes (runs j ((oneRun gs (λ (g : Run). plus (m .weight (g .cell)) (scan m every n (spread i (arity (g .cell)) fs) i (arity (g .cell) + r) (g .rows)))
+          → sizes (runs j ((oneRun gs (λ (g : Run). plus (m .weight (g .cell))
+              (scan m every n (spread i (arity (g .cell)) fs) i (arity (g .cell) + r) (g .rows)))
           (scan m every n fs (suc i) r rows)) .left)) ≡ sizes (runs j rows)
       go [] e ih = ih fs (suc i) r rows (omega arith)
       go (g ∷ []) e ih =
@@ -70,7 +72,8 @@ module _ (m : Measure) (every : Bool) where
       go (g ∷ (k ∷ gs)) e ih = ih fs (suc i) r rows (omega arith)
 
       by : (b : Bool) → Below
-          → sizes (runs j ((cond b (oneRun (runs i rows) (λ (g : Run). plus (m .weight (g .cell)) (scan m every n (spread i (arity (g .cell)) fs) i (arity (g .cell) + r) (g .rows)))
+          → sizes (runs j ((cond b (oneRun (runs i rows)
+              (λ (g : Run). plus (m .weight (g .cell)) (scan m every n (spread i (arity (g .cell)) fs) i (arity (g .cell) + r) (g .rows)))
           (scan m every n fs (suc i) r rows)) (scan m every n fs (suc i) r rows)) .left)) ≡ sizes (runs j rows)
       by true ih = go (runs i rows) refl ih
       by false ih = ih fs (suc i) r rows (omega arith)
@@ -86,7 +89,8 @@ module _ (m : Measure) where
   scan-plain true (suc n) i (suc r) rows = go (runs i rows) (λ i r rows. scan-plain true n i r rows)
     where
       go : (gs : List Run) → ((i r : ℕ) (rows : List (List ℕ)) → (scan m true n [] i r rows) .named ≡ [])
-          → (oneRun gs (λ (g : Run). plus (m .weight (g .cell)) (scan m true n [] i (arity (g .cell) + r) (g .rows))) (scan m true n [] (suc i) r rows)) .named ≡ []
+          → (oneRun gs (λ (g : Run). plus (m .weight (g .cell)) (scan m true n [] i (arity (g .cell) + r) (g .rows)))
+              (scan m true n [] (suc i) r rows)) .named ≡ []
       go [] ih = ih (suc i) r rows
       go (g ∷ []) ih = ih i (arity (g .cell) + r) (g .rows)
       go (g ∷ (h ∷ gs)) ih = ih (suc i) r rows

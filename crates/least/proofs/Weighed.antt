@@ -1,4 +1,5 @@
--- Our measures' weights are small. What a plan costs by a measure with small weights and a small figure, from its number of branches; and what an open place of a state adds
+-- Our measures' weights are small. What a plan costs by a measure with small weights and a small figure, from its number of branches; and what an
+-- open place of a state adds
 -- at which nothing is agreed that may be chosen.
 use mathlib.Core.Path.{_≡_, refl}
 use mathlib.Core.Bool.{Bool, true, false, cond, _&&_}
@@ -82,7 +83,8 @@ module _ (m : Measure) (l : Low m) where
     costs-few met (next {g = g} p bs) = omega (arith, at-few met (g .cell), cost-few (g .cell ∷ met) p, costs-few met bs)
 
 -- at a state at which no place that may be chosen is agreed each of these has several runs, so that each adds the figure
-pub choice-stuck : (m : Measure) (fs : List Bool) (k i : ℕ) (rows : List (List ℕ)) → 0 < length rows → Stuck fs k rows → i < k → May fs i → choice m (length (runs i rows)) ≡ m .figure
+pub choice-stuck : (m : Measure) (fs : List Bool) (k i : ℕ) (rows : List (List ℕ)) → 0 < length rows → Stuck fs k rows → i < k → May fs i
+    → choice m (length (runs i rows)) ≡ m .figure
 choice-stuck m fs k i rows h s l y = go (length (runs i rows)) refl
   where
     go : (n : ℕ) → length (runs i rows) ≡ n → choice m n ≡ m .figure

@@ -43,7 +43,8 @@ module _ (t : List ℕ) (i : ℕ) (h : i < length t) where
   pub gap-blank : isBlank (getD t i 0) ≡ true → (q : ℕ) (ys : List ℕ) → Gap (i + 1) (drop (i + 1) t) q ys → Gap i (drop i t) q ys
   gap-blank e q ys = begins (λ (k : ℕ) (xs : List ℕ). Gap k xs q ys) (G.blank (is-blank (getD t i 0) e))
 
-  pub gap-remark : getD t i 0 ≡ 37 → (r : ℕ) → Line (i + 1) (drop (i + 1) t) r (drop r t) → (q : ℕ) (ys : List ℕ) → Gap r (drop r t) q ys → Gap i (drop i t) q ys
+  pub gap-remark : getD t i 0 ≡ 37 → (r : ℕ) → Line (i + 1) (drop (i + 1) t) r (drop r t) → (q : ℕ) (ys : List ℕ) → Gap r (drop r t) q ys
+      → Gap i (drop i t) q ys
   gap-remark e r l q ys g =
       subst (λ (xs : List ℕ). Gap i xs q ys) (sym (here t i h ∙ ap (λ (b : ℕ). b ∷ drop (i + 1) t) e))
       (G.remark (subst (λ (k : ℕ). Line k (drop (i + 1) t) r (drop r t)) (add-one i) l) g)

@@ -10,7 +10,8 @@ use lib.Dec.{eqb, ltb}
 use lib.ListN.{length, getD, drop}
 use borrow.Author.Tests.{lt-ltb, le-ltb}
 use Rattle.grammar.specs.Grammar.{isLower, fact}
-use Rattle.grammar.specs.Reader.{Mode, first, head, arg, closed, stop, between, Work, work, nothing, dead, isBlank, step, stops, reads, before, finish, run, Solid, Ends}
+use Rattle.grammar.specs.Reader.{Mode, first, head, arg, closed, stop, between, Work, work, nothing, dead, isBlank, step, stops, reads, factBefore}
+use Rattle.grammar.specs.Reader.{finish, run, Solid, Ends}
 use Rattle.grammar.proofs.Complete.{run-gap, run-head, run-stop, rests-first, rests-closed, at-first, at-between, at-head-open, at-stop}
 use Rattle.grammar.proofs.Sound.{not-layout}
 use Rattle.lex.specs.Turns.{standsAt}
@@ -48,7 +49,8 @@ head-stops [] s w p e o = refl
 head-stops (b ∷ xs) s w p e o = rw (e, o)
 
 -- and with one
-head-opens : (t : List ℕ) (e s : ℕ) (w : Work) → standsAt 40 (drop e t) ≡ true → run (drop e t) (head s) w e ≡ run (drop (e + 1) t) arg (work s e 0 [] []) (e + 1)
+head-opens : (t : List ℕ) (e s : ℕ) (w : Work) → standsAt 40 (drop e t) ≡ true
+    → run (drop e t) (head s) w e ≡ run (drop (e + 1) t) arg (work s e 0 [] []) (e + 1)
 head-opens t e s w o =
     ap (λ (xs : List ℕ). run xs (head s) w e) (stands-here t e 40 o)
     ∙ at-head-open (drop (e + 1) t) e s w
@@ -104,12 +106,14 @@ module _ (t : List ℕ) (at p : ℕ) (g : GapTo t at p) where
   pub first-fact : {f : Bool} (r : Head) → HeadAt t p r → p < length t → f ≡ true → Heads t at f r
   first-fact r x h q =
       subst (λ (f : Bool). Heads t at f r) (sym q)
-      (record { is = x .is ∙ sym (head-of true ∙ rw (lt-ltb p (length t) h)); reaches = reaches-on r (x .reaches); same = λ w. run-gap (rests-first w) (g .gap) ∙ x .first w })
+      (record { is = x .is ∙ sym (head-of true ∙ rw (lt-ltb p (length t) h)); reaches = reaches-on r (x .reaches); same =
+          λ w. run-gap (rests-first w) (g .gap) ∙ x .first w })
 
   pub later-fact : {f : Bool} (r : Head) → HeadAt t p r → p < length t → f ≡ false → at < p → Heads t at f r
   later-fact r x h q l =
       subst (λ (f : Bool). Heads t at f r) (sym q)
-      (record { is = x .is ∙ sym (head-of false ∙ rw (lt-ltb p (length t) h, lt-ltb at p l)); reaches = reaches-on r (x .reaches); same = λ w. run-stop w (g .gap) l ∙ x .later w })
+      (record { is = x .is ∙ sym (head-of false ∙ rw (lt-ltb p (length t) h, lt-ltb at p l)); reaches = reaches-on r (x .reaches); same =
+          λ w. run-stop w (g .gap) l ∙ x .later w })
 
   -- no layout after a full stop
   pub no-layout : {f : Bool} → p < length t → f ≡ false → p ≤ at → Heads t at f (head-is.Stop p)
@@ -129,7 +133,8 @@ module _ (t : List ℕ) (at p : ℕ) (g : GapTo t at p) where
   unfolding finish
   no-facts h q =
       subst (λ (f : Bool). Heads t at f (head-is.Stop p)) (sym q)
-      (record { is = sym (head-of true ∙ rw (le-ltb p (length t) h)); reaches = λ l. g .within l; same = λ w. run-gap (rests-first w) (g .gap) ∙ at-end t p first w h })
+      (record { is = sym (head-of true ∙ rw (le-ltb p (length t) h)); reaches = λ l. g .within l; same = λ w. run-gap (rests-first w) (g .gap)
+          ∙ at-end t p first w h })
 
   pub all-facts : {f : Bool} → length t ≤ p → f ≡ false → Heads t at f head-is.End
   unfolding finish
@@ -157,7 +162,7 @@ module _ (t : List ℕ) (at p : ℕ) (g : GapTo t at p) where
             run-gap (rests-closed w) (g .gap)
             ∙ ap (λ (xs : List ℕ). run xs closed w p) (stands-here t p 46 y)
             ∙ at-stop (drop (p + 1) t) p w
-            ∙ ap (λ (n : ℕ). before (fact (w .start) (w .end) (suc (w .done)) (w .out)) (run (drop (p + 1) t) stop nothing n)) (sym (add-one p));
+            ∙ ap (λ (n : ℕ). factBefore (fact (w .start) (w .end) (suc (w .done)) (w .out)) (run (drop (p + 1) t) stop nothing n)) (sym (add-one p));
       }
 
   closed-stops : (xs : List ℕ) (w : Work) → Solid xs → standsAt 46 xs ≡ false → run xs closed w p ≡ stops p

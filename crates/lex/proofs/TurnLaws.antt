@@ -48,7 +48,8 @@ name-alone [] s w p e o = refl
 name-alone (b ∷ xs) s w p e o = rw (e, o)
 
 -- and with one
-name-opens : (t : List ℕ) (e s : ℕ) (w : Work) → standsAt 40 (drop e t) ≡ true → run (drop e t) (word true s) w e ≡ run (drop (e + 1) t) arg (push s e w) (e + 1)
+name-opens : (t : List ℕ) (e s : ℕ) (w : Work) → standsAt 40 (drop e t) ≡ true
+    → run (drop e t) (word true s) w e ≡ run (drop (e + 1) t) arg (push s e w) (e + 1)
 name-opens t e s w o =
     ap (λ (xs : List ℕ). run xs (word true s) w e) (stands-here t e 40 o)
     ∙ at-open (drop (e + 1) t) e s w
@@ -131,11 +132,15 @@ module _ (t : List ℕ) (i : ℕ) (s : Solid (drop i t)) (h : i < length t) wher
   -- after one
   pub comma-turn : getD t i 0 ≡ 44 → Turns t i true (turn.Comma i)
   unfolding step past markFrom
-  comma-turn e = record { is = sym (mark-here ∙ rw e); leads = (omega arith, h); same = λ w. on-byte t i h after w ∙ ap (λ (b : ℕ). onMark t i (step after w i b)) e }
+  comma-turn e =
+      record { is = sym (mark-here ∙ rw e); leads = (omega arith, h); same = λ w. on-byte t i h after w
+          ∙ ap (λ (b : ℕ). onMark t i (step after w i b)) e }
 
   pub close-turn : getD t i 0 ≡ 41 → Turns t i true (turn.Close i)
   unfolding step past markFrom
-  close-turn e = record { is = sym (mark-here ∙ rw e); leads = (omega arith, h); same = λ w. on-byte t i h after w ∙ ap (λ (b : ℕ). onMark t i (step after w i b)) e }
+  close-turn e =
+      record { is = sym (mark-here ∙ rw e); leads = (omega arith, h); same = λ w. on-byte t i h after w
+          ∙ ap (λ (b : ℕ). onMark t i (step after w i b)) e }
 
   pub no-mark : (getD t i 0 ≡ 44 → ⊥) → (getD t i 0 ≡ 41 → ⊥) → Turns t i true (turn.Stop i)
   unfolding step past markFrom

@@ -6,7 +6,7 @@ use mathlib.Core.List.{List, [], _∷_}
 use lib.Dec.{ltb}
 use lib.ListN.{length, drop}
 use Rattle.grammar.specs.Grammar.{isLower, fact}
-use Rattle.grammar.specs.Reader.{Mode, first, arg, closed, stop, Work, work, nothing, Out, stops, reads, before, run}
+use Rattle.grammar.specs.Reader.{Mode, first, arg, closed, stop, Work, work, nothing, Out, stops, reads, factBefore, run}
 use Rattle.lex.specs.Turns.{gapOf, wordFrom, standsAt}
 use Rattle.lex.specs.declared.fact.Head.{Head}
 use Rattle.lex.specs.declared.fact.Head.the-variants as head
@@ -55,7 +55,7 @@ endOf t at = cond (standsAt 46 (drop (gapOf t at) t)) (fact-end.Full (gapOf t at
 
 -- what follows: the fact is complete, and the text after its full stop
 abbrev pub onEnd : List ℕ → Work → FactEnd → Out
-onEnd t w (fact-end.Full q) = before (fact (w .start) (w .end) (suc (w .done)) (w .out)) (run (drop q t) stop nothing q)
+onEnd t w (fact-end.Full q) = factBefore (fact (w .start) (w .end) (suc (w .done)) (w .out)) (run (drop q t) stop nothing q)
 onEnd t w (fact-end.Stop p) = stops p
 
 abbrev pub Arrives : List ℕ → ℕ → FactEnd → Type 0

@@ -7,7 +7,7 @@ use mathlib.Core.List.{List, [], _∷_}
 use lib.Dec.{eqb, leb}
 use lib.ListN.{length, drop}
 use Rattle.grammar.specs.Grammar.{isLower, isUpper, isDigit, isWord, name, variable, number}
-use Rattle.grammar.specs.Reader.{Mode, arg, after, Work, isBlank, put, push, comma, close, Next, Out, stops, follow, run}
+use Rattle.grammar.specs.Reader.{Mode, arg, after, Work, isBlank, put, push, onComma, onClose, Next, Out, stops, follow, run}
 use Rattle.grammar.specs.Reader.{limit, bitsAfter}
 use Rattle.lex.specs.declared.turn.Turn.{Turn}
 use Rattle.lex.specs.declared.turn.Turn.the-variants as turn
@@ -83,8 +83,8 @@ onTurn t w (turn.Name s e) = run (drop e t) after (put (name s e 0) w) e
 onTurn t w (turn.Open s e) = run (drop (e + 1) t) arg (push s e w) (e + 1)
 onTurn t w (turn.Variable s e) = run (drop e t) after (put (variable s e) w) e
 onTurn t w (turn.Number v e) = run (drop e t) after (put (number v) w) e
-onTurn t w (turn.Comma p) = onMark t p (comma (w .start) (w .end) (w .done) (w .opened) (w .out))
-onTurn t w (turn.Close p) = onMark t p (close (w .start) (w .end) (w .done) (w .opened) (w .out))
+onTurn t w (turn.Comma p) = onMark t p (onComma (w .start) (w .end) (w .done) (w .opened) (w .out))
+onTurn t w (turn.Close p) = onMark t p (onClose (w .start) (w .end) (w .done) (w .opened) (w .out))
 onTurn t w (turn.Stop p) = stops p
 
 -- where it leads: on, within the text

@@ -15,7 +15,7 @@ use borrow.Author.Tests.{eqb-true, eqb-false, eq-eqb, ne-eqb}
 use Rattle.plan.specs.Named.{anyPast, occurs}
 use Rattle.plan.proofs.ColumnsLaws.{column-exactly}
 use Rattle.answer.specs.Jobs.{bit}
-use Rattle.liked.specs.Liked.{columnsFrom, columnsOf, Listed}
+use Rattle.liked.specs.Liked.{columnsFrom, columnsOf, ColumnsListed}
 
 -- "bit c for column c", of so many columns from c on
 pub set-named : (c left mask d : ℕ) → c ≤ d → d < c + left → bit d mask ≡ 1 → occurs d (columnsFrom c left mask) ≡ true
@@ -147,7 +147,7 @@ module _ {mask : ℕ} {list : List ℕ} {count c : ℕ} (f : Filled mask list co
       let z : columnsFrom c (8 - c) mask ≡ columnsFrom (c + 1) (8 - (c + 1)) mask = rw (on, ne-eqb (bit c mask) 1 n, add-one c) in
       record { below = omega arith; few = omega (arith, f .few); size = f .size; rest = rw (← z) (f .rest); others = f .others }
 
-  pub listed : 8 ≤ c → Listed mask (record { list = list; count = count })
+  pub listed : 8 ≤ c → ColumnsListed mask (record { list = list; count = count })
   unfolding columnsFrom
   listed h =
       let z : c ≡ 8 = omega (arith, f .below) in

@@ -11,11 +11,11 @@ use Rattle.least.specs.declared.By.{By}
 use Rattle.builder.specs.Build.{BuiltInto, buildTold}
 use Rattle.builder.specs.declared.BuildAnswer.{BuildAnswer}
 use Rattle.builder.proofs.Fixed.{buildTold-one, build-fixed}
-use Rattle.liked.specs.Liked.{columnsOf, Listed, LikesBest, LikedInto, table-refused, found, likedAfter}
+use Rattle.liked.specs.Liked.{columnsOf, ColumnsListed, LikesBest, LikedInto, table-refused, found, likedAfter}
 use Rattle.liked.specs.declared.Columns.{Columns}
 use Rattle.liked.proofs.SearchLaws.{tries-for-one}
 
-pub columns-fixed : {mask : ℕ} {r s : Columns} → Listed mask r → Listed mask s → (r .list ≡ s .list) × (r .count ≡ s .count)
+pub columns-fixed : {mask : ℕ} {r s : Columns} → ColumnsListed mask r → ColumnsListed mask s → (r .list ≡ s .list) × (r .count ≡ s .count)
 columns-fixed {r = r} {s} p q =
     let e : r .count ≡ s .count = omega (
       arith,

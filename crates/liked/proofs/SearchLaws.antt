@@ -72,7 +72,8 @@ written {room = room} {after} {size = size} (built T p a u l w b c) e =
     }
 
 -- With all columns named the plan is the plain one (02, W-213).
-all-named : (by : By) (cells : List ℕ) {T : Table} (mask : ℕ) → tableBy by cells ≡ read T → T .width ≤ 8 → mask + 1 ≡ 2 ^ T .width → {room after : List ℕ} {r : BuildAnswer}
+all-named : (by : By) (cells : List ℕ) {T : Table} (mask : ℕ) → tableBy by cells ≡ read T → T .width ≤ 8 → mask + 1 ≡ 2 ^ T .width
+    → {room after : List ℕ} {r : BuildAnswer}
     → {size cost : ℕ} → buildTold r ≡ answered size cost → BuiltInto by (columnsOf mask) cells room after r
     → BuiltInto by (columnsOf 0) cells room after r
 all-named by cells mask d l e q (table-refused f a b c) = clash (sym q ∙ b)

@@ -27,7 +27,7 @@ abbrev pub columnsOf : (mask : ℕ) → List ℕ
 columnsOf mask = columnsFrom 0 8 mask
 
 -- these columns as the first of eight numbers; the others are 0
-pub record Listed (mask : ℕ) (r : Columns) : Type 0 where
+pub record ColumnsListed (mask : ℕ) (r : Columns) : Type 0 where
   pub size : length (r .list) ≡ 8
   pub few : r .count ≤ 8
   pub are : take (r .count) (r .list) ≡ columnsOf mask

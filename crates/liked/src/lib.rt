@@ -3,7 +3,7 @@
 ghost use mathlib.Core.List.{List};
 ghost use Prim.Native.Nat.{ℕ, _+_};
 ghost use Rattle.least.specs.declared.By.{By};
-ghost use Rattle.liked.specs.Liked.{Listed, LikedInto};
+ghost use Rattle.liked.specs.Liked.{ColumnsListed, LikedInto};
 ghost use Rattle.liked.specs.code.Search.{Totalled, Plainly, BestBelow};
 use builder::BuildAnswer;
 use builder::build_for;
@@ -31,7 +31,7 @@ pub struct Best {
 
 // The columns of a set that a mask is, ascending.
 pub fn columns_of(mask: usize) -> Columns
-    ensures { λ r. ⌜ Listed mask r ⌝ }
+    ensures { λ r. ⌜ ColumnsListed mask r ⌝ }
 {
     let mut list = [0u32; 8];
     let mut count = 0;

@@ -20,7 +20,7 @@ use Rattle.table.proofs.Accepted.{is-table}
 use Rattle.plan.specs.Plans.{Plan, write, branches, plain, cost}
 use Rattle.plan.specs.Notes.{notes, word}
 use Rattle.plan.specs.code.Fits.{Fits}
-use Rattle.plannotes.specs.Noted.{Handed, refused}
+use Rattle.plannotes.specs.Noted.{NotedInto, refused}
 use Rattle.plannotes.specs.declared.Noted as handed
 use Rattle.plan.proofs.NotesLaws.{notes-fit}
 use Rattle.plan.proofs.PlansLaws.{plan-tells, cost-plain}
@@ -67,8 +67,8 @@ module _ {t plan : List ℕ} {costs : ℕ} where
     width : m .width ≡ w .table .width
     marks : Marked (w .tree) after 0 0
 
-  noted : {before after : List ℕ} (w : Planned t plan costs) (m : handed.Noted) → Handed t plan before after m → Noted w after m
-  noted {before} w m (Handed.noted T tree r c a wide rows k) =
+  noted : {before after : List ℕ} (w : Planned t plan costs) (m : handed.Noted) → NotedInto t plan before after m → Noted w after m
+  noted {before} w m (NotedInto.noted T tree r c a wide rows k) =
       let e : T ≡ w .table = read-one (sym r ∙ w .reads) in
       record {
         rows = rows ∙ ap (λ (T : Table). length (T .rows)) e;
@@ -84,14 +84,16 @@ module _ {t plan : List ℕ} {costs : ℕ} where
   -- so the walk may begin once the header is put, and with its lines the listing is
   pub record Begins (w : Planned t plan costs) (after : List ℕ) (m : handed.Noted) (old mid : List ℕ) (to : ℕ) : Type 0 where
     pub ready : Ready plan after (m .width) 0 (m .rows) (stand 0 0 to)
-    pub back : {new : List ℕ} {r : Stand} → Walked mid new 0 (ready .first) (stand 0 0 to) (ready .tree) r → Put old new 0 (listingOf (w .table) (w .tree)) (r .to)
+    pub back : {new : List ℕ} {r : Stand} → Walked mid new 0 (ready .first) (stand 0 0 to) (ready .tree) r
+        → Put old new 0 (listingOf (w .table) (w .tree)) (r .to)
 
-  pub begins : {before after old mid : List ℕ} {to : ℕ} (w : Planned t plan costs) (m : handed.Noted) → Handed t plan before after m
+  pub begins : {before after old mid : List ℕ} {to : ℕ} (w : Planned t plan costs) (m : handed.Noted) → NotedInto t plan before after m
       → Put old mid 0 (header (m .rows) (m .width) costs) to → Begins w after m old mid to
   begins w m k p =
       let n = noted w m k in
       let f = few t (w .reads) in
-      let same : header (m .rows) (m .width) costs ≡ header (length (w .table .rows)) (w .table .width) (cost plain (w .tree)) = rw (n .rows, n .width, w .costs-it) in
+      let same : header (m .rows) (m .width) costs ≡ header (length (w .table .rows)) (w .table .width) (cost plain (w .tree)) =
+          rw (n .rows, n .width, w .costs-it) in
       record {
         ready = record {
           first = 0;

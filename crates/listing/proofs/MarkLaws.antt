@@ -11,7 +11,7 @@ use Rattle.table.specs.All.{All}
 use Rattle.table.proofs.AllLaws.{all-front, all-back}
 use Rattle.plan.specs.Runs.{Run}
 use Rattle.plan.specs.Plans.{Plan, leaf, node, Branches, end, next, branches}
-use Rattle.plan.specs.Notes.{below, notes, notesIn, word, Fits}
+use Rattle.plan.specs.Notes.{below, notes, notesIn, word, BranchFits}
 use Rattle.plan.proofs.NotesLaws.{word-parts, notes-count}
 use Rattle.listing.specs.code.Walk.{Marked, MarkedIn}
 
@@ -29,12 +29,12 @@ mutual
   unfolding notes Marked
 
   pub marked : {k : ℕ} {rows : List (List ℕ)} (p : Plan k rows) (slots : List ℕ) (free row n : ℕ) (noted rest : List ℕ)
-      → drop n noted ≡ map word (notes p slots free row) ++ rest → All Fits (notes p slots free row) → Marked p noted n row
+      → drop n noted ≡ map word (notes p slots free row) ++ rest → All BranchFits (notes p slots free row) → Marked p noted n row
   marked leaf slots free row n noted rest d f = tt
   marked (node i h bs) slots free row n noted rest d f = marked-in bs i slots free row n noted rest d f
 
   marked-in : {k : ℕ} {gs : List Run} (bs : Branches k gs) (i : ℕ) (slots : List ℕ) (free row n : ℕ) (noted rest : List ℕ)
-      → drop n noted ≡ map word (notesIn bs i slots free row) ++ rest → All Fits (notesIn bs i slots free row) → MarkedIn bs noted n row
+      → drop n noted ≡ map word (notesIn bs i slots free row) ++ rest → All BranchFits (notesIn bs i slots free row) → MarkedIn bs noted n row
   marked-in end i slots free row n noted rest d f = tt
   marked-in (next {g = g} p bs) i slots free row n noted rest d f =
       let a = arity (g .cell) in
@@ -47,7 +47,7 @@ mutual
       let many : length (map word N) ≡ branches p = length-map N word ∙ notes-count p (below i a free slots) (free + a) row in (
         rw (w .1) (parts .row),
         rw (w .1) (parts .skip),
-        marked p (below i a free slots) (free + a) row (n + 1) noted (map word M ++ rest) d′ (all-front Fits N M (f .1)),
+        marked p (below i a free slots) (free + a) row (n + 1) noted (map word M ++ rest) d′ (all-front BranchFits N M (f .1)),
         marked-in bs i slots free (row + length (g .rows)) (n + 1 + branches p) noted rest
-            (rw many at (part-at noted (n + 1) (map word N) (map word M ++ rest) d′)) (all-back Fits N M (f .1)),
+            (rw many at (part-at noted (n + 1) (map word N) (map word M ++ rest) d′)) (all-back BranchFits N M (f .1)),
       )

@@ -18,7 +18,7 @@ use Rattle.octets.proofs.PutLaws.{put-put, put-nothing}
 use Rattle.table.specs.All.{All}
 use Rattle.plan.specs.Runs.{Run, runs}
 use Rattle.plan.specs.Plans.{Plan, leaf, node, Branches, end, next, write, writes, branches, branchesIn}
-use Rattle.plan.specs.Notes.{skipIn, rowIn}
+use Rattle.plan.specs.Notes.{skipIn, rowNoted}
 use Rattle.plan.specs.code.Rows.{rowCount}
 use Rattle.plan.proofs.RunsLaws.{Sized, group-sizes, group-rows}
 use Rattle.listing.specs.Listing.{line, linesIn, linesOf}
@@ -94,7 +94,7 @@ record First {k : ℕ} {gs : List Run} (bs : Branches k gs) : Type 0 where
   runs-are : gs ≡ run ∷ others
   cells : writes bs ≡ run .cell ∷ (write tree ++ writes trees)
   marks : (noted : List ℕ) (n row : ℕ) → MarkedIn bs noted n row
-      → (rowIn (getD noted n 0) ≡ row) × (skipIn (getD noted n 0) ≡ branches tree) × Marked tree noted (n + 1) row
+      → (rowNoted (getD noted n 0) ≡ row) × (skipIn (getD noted n 0) ≡ branches tree) × Marked tree noted (n + 1) row
       × MarkedIn trees noted (n + 1 + branches tree) (row + length (run .rows))
   count : branchesIn bs ≡ suc (branches tree + branchesIn trees)
   lines : (depth index first c after : ℕ) → c ≡ run .cell → after ≡ first + length (run .rows) → linesOf bs depth index first
@@ -118,7 +118,7 @@ first-is (next {g = g} {gs = gs} p bs) h =
 
 -- the row after those of the first branch: where it is the only one the row after all, otherwise the first row of the next one
 row-after : {k : ℕ} {gs : List Run} (bs : Branches k gs) (noted : List ℕ) (n row stop left : ℕ) → MarkedIn bs noted n row → row + rowCount gs ≡ stop
-    → left ≡ suc (length gs) → row ≡ cond (eqb left 1) stop (rowIn (getD noted n 0))
+    → left ≡ suc (length gs) → row ≡ cond (eqb left 1) stop (rowNoted (getD noted n 0))
 unfolding Marked
 row-after end noted n row stop left m e c = let one : left ≡ 1 = omega arith in rw (eq-eqb left 1 one) (omega arith)
 row-after (next p bs) noted n row stop left m e c = rw (ne-eqb left 1 (λ one. let z : ⊥ = omega arith in z)) (sym (m .0))
@@ -230,7 +230,8 @@ module _ {plan noted : List ℕ} {places depth stop : ℕ} {from : Stand} where
         → Left w old last index (left - 1) s
 
   -- where it stands: its own number, and that of the next one
-  pub numbered : {w : Ready plan noted places depth stop from} {old new : List ℕ} {index left : ℕ} {here : Stand} (l : Left w old new index left here) → 0 < left
+  pub numbered : {w : Ready plan noted places depth stop from} {old new : List ℕ} {index left : ℕ} {here : Stand} (l : Left w old new index left here)
+      → 0 < left
       → (here .number < mostBranches) × (left ≢ 1 → here .number + 1 + skipIn (getD noted (here .number) 0) < mostBranches)
   numbered {w = w} {left = left} {here} l h =
       let f = first-is (l .trees) (omega (arith, l .count)) in
@@ -240,20 +241,22 @@ module _ {plan noted : List ℕ} {places depth stop : ℕ} {from : Stand} where
       )
 
   pub goes : {w : Ready plan noted places depth stop from} {old new : List ℕ} {index left : ℕ} {here : Stand}
-      (l : Left w old new index left here) (row after a : ℕ) → 0 < left → row ≡ rowIn (getD noted (here .number) 0)
-      → after ≡ cond (eqb left 1) stop (rowIn (getD noted (here .number + 1 + skipIn (getD noted (here .number) 0)) 0)) → a ≡ arity (getD plan (here .at) 0)
+      (l : Left w old new index left here) (row after a : ℕ) → 0 < left → row ≡ rowNoted (getD noted (here .number) 0)
+      → after ≡ cond (eqb left 1) stop (rowNoted (getD noted (here .number + 1 + skipIn (getD noted (here .number) 0)) 0)) → a ≡ arity (getD plan (here .at) 0)
       → Goes l row after a
   goes {w = w} {old} {new} {index} {left} {here} l row after a h er en ea =
       let at = here .at in
       let f = first-is (l .trees) (omega (arith, l .count)) in
       let cells = head-at plan at (f .run .cell) ((write (f .tree) ++ writes (f .trees)) ++ l .rest) (l .cells ∙ rw (f .cells)) in
       let marks = f .marks noted (here .number) (l .row) (l .marked) in
-      let behind : drop (at + 1) plan ≡ write (f .tree) ++ (writes (f .trees) ++ l .rest) = cells .2 ∙ append-assoc (write (f .tree)) (writes (f .trees)) (l .rest) in
+      let behind : drop (at + 1) plan ≡ write (f .tree) ++ (writes (f .trees) ++ l .rest) =
+          cells .2 ∙ append-assoc (write (f .tree)) (writes (f .trees)) (l .rest) in
       let row-is : row ≡ l .row = er ∙ marks .0 in
       let some = rw (f .runs-are) at (l .some) in
       let ends : l .row + (length (f .run .rows) + rowCount (f .others)) ≡ stop = rw (f .runs-are) at (l .ends) in
       let after-is : after ≡ l .row + length (f .run .rows) =
-      en ∙ rw (marks .1) (sym (row-after (f .trees) noted (here .number + 1 + branches (f .tree)) (l .row + length (f .run .rows)) stop left (marks .3) (omega (arith, ends))
+      en ∙ rw (marks .1) (sym (row-after (f .trees) noted (here .number + 1 + branches (f .tree)) (l .row + length (f .run .rows)) stop left
+          (marks .3) (omega (arith, ends))
       (omega (arith, l .count, ap length (f .runs-are))))) in
       let few-args : a ≤ 4 = omega (arith, ea, arity-small (getD plan at 0)) in
       record {

@@ -5,11 +5,11 @@ use mathlib.Core.Bool.{Bool, true, false, not, _||_}
 use mathlib.Core.List.{List, [], _∷_, _++_}
 use lib.Dec.{eqb, ltb}
 use lib.ListN.{length}
-use Rattle.refusal.specs.Refusal.{Refused, numberOf}
+use Rattle.refusal.specs.Refusal.{Refused, reasonNumber}
 use Rattle.refusal.specs.declared.Reason.the-variants.{Length}
 use Rattle.refusal.specs.Read.{read, refuse}
 use Rattle.octets.specs.Octets.{decimal, field, cellsOf}
-use Rattle.printing.specs.Printing.{space, dash, feed, symbol, refusal}
+use Rattle.printing.specs.Printing.{space, dash, feed, symbolText, refusal}
 use Rattle.table.specs.Table.{Table, tableOf}
 use Rattle.plan.specs.Runs.{Run}
 use Rattle.plan.specs.Plans.{Plan, leaf, node, Branches, end, next, plain, cost}
@@ -18,7 +18,7 @@ use Rattle.least.specs.Least.{Built}
 -- 01, "one line per branch ..: depth from 0, open place's index, symbol, first and last row", in the form of 01's example: `0 0 n1/0 0-1`
 unfoldable pub line : (depth index cell first last : ℕ) → List ℕ
 line depth index cell first last =
-    field depth space ++ (field index space ++ (symbol cell ++ (space ∷ (field first dash ++ field last feed))))
+    field depth space ++ (field index space ++ (symbolText cell ++ (space ∷ (field first dash ++ field last feed))))
 
 -- 01, "in plan order": a branch, then all lines below it, one deeper, then the next branch. `first` is the number of the state's first row
 unfoldable mutual
@@ -64,5 +64,5 @@ unread bytes = ltb 8200 (length bytes) || not (eqb (length bytes % 4) 0)
 -- the listing of any bytes at all: those "print `refused 1 at 0`", and all others, read "as little-endian cells", are a table's
 -- cells. No bytes are a table of no cells
 pub data Lists (bytes : List ℕ) : List ℕ → Type 0 where
-  no-cells : unread bytes ≡ true → Lists bytes (refusal (numberOf Length) 0)
+  no-cells : unread bytes ≡ true → Lists bytes (refusal (reasonNumber Length) 0)
   cells : {text : List ℕ} → unread bytes ≡ false → ListsTable (cellsOf bytes) text → Lists bytes text

@@ -3,7 +3,7 @@ mod text;
 mod walk;
 
 ghost use Rattle.printing.specs.Printing.{Written};
-ghost use Rattle.printing.specs.code.Listed.{Listed};
+ghost use Rattle.printing.specs.code.Listed.{TextListed};
 ghost use Rattle.listing.specs.Listing.{ListsTable, Lists};
 ghost use Rattle.listing.specs.code.Walk.{Planned, PutsPlan, most};
 use crate::text::put_header;
@@ -38,7 +38,7 @@ fn list_plan(table: &[u32], plan: &[u32], out: &mut [u8], cost: usize) -> usize
 
 // The listing of a table's cells: of its least plan by 01's measure (02, W-204, "the listing keeps 01's measure").
 fn list_cells(table: &[u32], out: &mut [u8]) -> usize
-    ensures { λ r. ⌜ Listed most (ListsTable (now (table .entry))) (now (out .entry)) (now (out .exit)) r ⌝ }
+    ensures { λ r. ⌜ TextListed most (ListsTable (now (table .entry))) (now (out .entry)) (now (out .exit)) r ⌝ }
 {
     let mut room = [0u32; PLAN_CELLS];
     match builder::build_plan(By::Branches, table, &mut room) {

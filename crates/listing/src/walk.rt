@@ -5,7 +5,7 @@ ghost use mathlib.Core.Bool.{cond};
 ghost use Prim.Native.Nat.{_<_};
 ghost use lib.Dec.{eqb};
 ghost use lib.ListN.{getD};
-ghost use Rattle.plan.specs.Notes.{rowIn};
+ghost use Rattle.plan.specs.Notes.{rowNoted};
 ghost use Rattle.listing.specs.code.Walk.{Ready, Walks};
 ghost use Rattle.limits.specs.Limits.{mostBranches};
 use crate::text::put_line;
@@ -25,7 +25,7 @@ pub struct Stand {
 // the next one, which has the number `next`; after the last one `stop`.
 fn row_after(noted: &[u64; BRANCHES], next: usize, left: u32, stop: usize) -> usize
     requires { ⌜ (left ≢ 1 → next < mostBranches) ⌝ }
-    ensures { λ r. ⌜ r ≡ cond (eqb left 1) stop (rowIn (getD (now (noted .entry)) next 0)) ⌝ }
+    ensures { λ r. ⌜ r ≡ cond (eqb left 1) stop (rowNoted (getD (now (noted .entry)) next 0)) ⌝ }
 {
     if left == 1 {
         return stop;

@@ -43,7 +43,8 @@ load-is t c n (loads {facts = fs} x l m q) =
     rw (sym (taken-is t x), le-ltb c (length (tableCells t fs)) l, le-ltb n (length (nameList t fs)) m, q)
 
 -- HOW CLOSELY IT IS HELD
-pub text-fixed : {t cells names cells′ names′ cells″ names″ : List ℕ} {a b : Answer} → TextLoads t cells names cells′ names′ a → TextLoads t cells names cells″ names″ b
+pub text-fixed : {t cells names cells′ names′ cells″ names″ : List ℕ} {a b : Answer} → TextLoads t cells names cells′ names′ a
+    → TextLoads t cells names cells″ names″ b
     → (a ≡ b) × (cells′ ≡ cells″) × (names′ ≡ names″)
 text-fixed {t} {cells} {names} x y =
     let e : x .says ≡ y .says = load-is t (length cells) (length names) (x .rule) ∙ sym (load-is t (length cells) (length names) (y .rule)) in (
@@ -68,7 +69,8 @@ load-holds t c n = by-text (takenOf t) (taken-holds t)
     by-names fs false q x l = by-table fs (tableOf (tableCells t fs)) refl x l (ltb-false n (length (nameList t fs)) q)
 
     by-cells : (fs : List Fact) (b : Bool) → ltb c (length (tableCells t fs)) ≡ b → Taken t (read fs)
-        → Loads t c n (when b (refused reason.Room input.Lent (length (tableCells t fs))) (when (ltb n (length (nameList t fs))) (refused reason.Room input.Lent (length (nameList t fs)))
+        → Loads t c n (when b (refused reason.Room input.Lent (length (tableCells t fs)))
+            (when (ltb n (length (nameList t fs))) (refused reason.Room input.Lent (length (nameList t fs)))
         (tabled t fs (tableOf (tableCells t fs)))))
     by-cells fs true q x = no-cells x (ltb-true c (length (tableCells t fs)) q)
     by-cells fs false q x = by-names fs (ltb n (length (nameList t fs))) refl x (ltb-false c (length (tableCells t fs)) q)

@@ -10,9 +10,10 @@ use borrow.Author.Tests.{lt-ltb, le-ltb, ltb-true, ltb-false}
 use Rattle.cell.specs.Cell.{variableCell, nameCell, numberCell}
 use Rattle.grammar.specs.Grammar.{Symbol, name, variable, number, Fact}
 use Rattle.cell.specs.Same.{same}
-use Rattle.grammar.specs.Meaning.{Place, place, bytesOf, position, meet, namesFrom, symbolsOf, namesOf, variableNumber, variablesWith, cellsFrom}
+use Rattle.grammar.specs.Meaning.{Place, place, bytesAt, position, meet, namesFrom, symbolsOf, namesOf, variableNumber, variablesWith, cellsFrom}
 use Rattle.grammar.proofs.NumberLaws.{position-kept, position-added, meet-old, meet-new, names-more, variablesIn}
-use Rattle.loading.specs.Items.{Item, of-name, of-variable, of-number, next-row, itemOf, itemsIn, rowsIn, itemsOf, symbolsAmong, namesMet, numbering, shapeOf, shapes}
+use Rattle.loading.specs.Items.{Item, of-name, of-variable, of-number, next-row, itemOf, itemsIn, rowsIn, itemsOf, symbolsAmong, namesMet}
+use Rattle.loading.specs.Items.{numbering, shapeOf, shapes}
 
 -- A WORD'S NUMBER IS KEPT
 pub record Kept (t w : List ℕ) (ns ns′ : List Place) : Type 0 where
@@ -21,9 +22,9 @@ pub record Kept (t w : List ℕ) (ns ns′ : List Place) : Type 0 where
 
 -- by one more word
 pub meet-keeps : (t w : List ℕ) (ns : List Place) (v : Place) → position t w ns < length ns → Kept t w ns (meet t ns v)
-meet-keeps t w ns v h = go (ltb (position t (bytesOf t v) ns) (length ns)) refl
+meet-keeps t w ns v h = go (ltb (position t (bytesAt t v) ns) (length ns)) refl
   where
-    go : (b : Bool) → ltb (position t (bytesOf t v) ns) (length ns) ≡ b → Kept t w ns (meet t ns v)
+    go : (b : Bool) → ltb (position t (bytesAt t v) ns) (length ns) ≡ b → Kept t w ns (meet t ns v)
     go true e = rw (meet-old t ns v (ltb-true _ _ e)) (record { same = refl; there = h })
     go false e =
         let k = position-kept t w ns (v ∷ []) h in
@@ -42,10 +43,10 @@ names-keep t w ns (of-number v ∷ xs) h = names-keep t w ns xs h
 names-keep t w ns (next-row ∷ xs) h = names-keep t w ns xs h
 
 -- a word that is met is listed
-pub met-there : (t : List ℕ) (ns : List Place) (v : Place) → position t (bytesOf t v) (meet t ns v) < length (meet t ns v)
-met-there t ns v = go (ltb (position t (bytesOf t v) ns) (length ns)) refl
+pub met-there : (t : List ℕ) (ns : List Place) (v : Place) → position t (bytesAt t v) (meet t ns v) < length (meet t ns v)
+met-there t ns v = go (ltb (position t (bytesAt t v) ns) (length ns)) refl
   where
-    go : (b : Bool) → ltb (position t (bytesOf t v) ns) (length ns) ≡ b → position t (bytesOf t v) (meet t ns v) < length (meet t ns v)
+    go : (b : Bool) → ltb (position t (bytesAt t v) ns) (length ns) ≡ b → position t (bytesAt t v) (meet t ns v) < length (meet t ns v)
     go true e = rw (meet-old t ns v (ltb-true _ _ e)) (ltb-true _ _ e)
     go false e =
         rw (meet-new t ns v (ltb-false _ _ e))
@@ -85,7 +86,7 @@ names-items t ns (f ∷ fs) = names-rows-from t ns (f ∷ fs)
 -- THE CELLS BY THE NUMBERS. The numbers of a row's symbols, by a list that holds every name
 unfoldable numbersBy : List ℕ → List Place → List Place → List Symbol → List ℕ
 numbersBy t ns vs [] = []
-numbersBy t ns vs (name s e a ∷ ss) = position t (bytesOf t (place s e)) ns ∷ numbersBy t ns vs ss
+numbersBy t ns vs (name s e a ∷ ss) = position t (bytesAt t (place s e)) ns ∷ numbersBy t ns vs ss
 numbersBy t ns vs (variable s e ∷ ss) = variableNumber t vs (place s e) ∷ numbersBy t ns (variablesWith t vs (place s e)) ss
 numbersBy t ns vs (number v ∷ ss) = v ∷ numbersBy t ns vs ss
 
@@ -95,16 +96,17 @@ row-numbers : (t : List ℕ) (ns vs : List Place) (ss : List Symbol) (more : Lis
 unfolding numbering numbersBy namesMet itemOf variablesIn
 row-numbers t ns vs [] more = refl
 row-numbers t ns vs (name s e a ∷ ss) more =
-    ap₂ _∷_ (sym (names-keep t (bytesOf t (place s e)) (meet t ns (place s e)) (itemsIn ss ++ more) (met-there t ns (place s e)) .same))
+    ap₂ _∷_ (sym (names-keep t (bytesAt t (place s e)) (meet t ns (place s e)) (itemsIn ss ++ more) (met-there t ns (place s e)) .same))
     (row-numbers t (meet t ns (place s e)) vs ss more)
-row-numbers t ns vs (variable s e ∷ ss) more = ap (λ (l : List ℕ). variableNumber t vs (place s e) ∷ l) (row-numbers t ns (variablesWith t vs (place s e)) ss more)
+row-numbers t ns vs (variable s e ∷ ss) more =
+    ap (λ (l : List ℕ). variableNumber t vs (place s e) ∷ l) (row-numbers t ns (variablesWith t vs (place s e)) ss more)
 row-numbers t ns vs (number v ∷ ss) more = ap (λ (l : List ℕ). v ∷ l) (row-numbers t ns vs ss more)
 
 row-shapes : (t : List ℕ) (ns vs : List Place) (ss us : List Symbol) (rest : List ℕ)
     → shapes (ss ++ us) (numbersBy t ns vs ss ++ rest) ≡ cellsFrom t ns vs ss ++ shapes us rest
 unfolding shapes numbersBy cellsFrom
 row-shapes t ns vs [] us rest = refl
-row-shapes t ns vs (name s e a ∷ ss) us rest = ap (λ (l : List ℕ). nameCell a (position t (bytesOf t (place s e)) ns) ∷ l) (row-shapes t ns vs ss us rest)
+row-shapes t ns vs (name s e a ∷ ss) us rest = ap (λ (l : List ℕ). nameCell a (position t (bytesAt t (place s e)) ns) ∷ l) (row-shapes t ns vs ss us rest)
 row-shapes t ns vs (variable s e ∷ ss) us rest =
     ap (λ (l : List ℕ). variableCell (variableNumber t vs (place s e)) ∷ l) (row-shapes t ns (variablesWith t vs (place s e)) ss us rest)
 row-shapes t ns vs (number v ∷ ss) us rest = ap (λ (l : List ℕ). numberCell v ∷ l) (row-shapes t ns vs ss us rest)

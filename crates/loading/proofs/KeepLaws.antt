@@ -9,7 +9,9 @@ use lib.Dec.{eqb, leb, ltb}
 use lib.ListN.{length, getD, set, length-append}
 use lib.Seq.{map-set-same}
 use Rattle.grammar.specs.Grammar.{isLower, isUpper, isDigit, isWord, Symbol, name, variable, number, Fact, fact}
-use Rattle.grammar.specs.Reader.{Mode, arg, word, minus, digits, after, closed, remark, Frame, frame, Work, work, Next, dead, go, says, isBlank, layout, push, put, comma, close, past, symbol, limit, bitsAfter, step, Out, stops, reads, before, finish, follow, run, Held, none, more}
+use Rattle.grammar.specs.Reader.{Mode, arg, word, minus, digits, after, closed, remark, Frame, frame, Work, work, Next, dead, go, says, isBlank}
+use Rattle.grammar.specs.Reader.{layout, push, put, onComma, onClose, past, symbol, limit, bitsAfter, step, Out, stops, reads, factBefore, finish}
+use Rattle.grammar.specs.Reader.{follow, run, Held, none, more}
 use Rattle.grammar.proofs.Sound.{clash, before-reads}
 use Rattle.grammar.proofs.HeldLaws.{held-put, held-push, held-comma, held-close}
 use Rattle.loading.specs.Items.{Item, itemOf, itemsIn}
@@ -51,7 +53,8 @@ items-put [] x = refl
 items-put (y ∷ out) x = ap (λ (l : List Item). itemOf y ∷ l) (items-put out x)
 
 -- one argument more changes no item
-pub items-set : {out : List Symbol} {f : Frame} {fs : List Frame} (k : ℕ) → Held out (f ∷ fs) → itemsIn (set out (f .owner) (name (f .start) (f .end) k)) ≡ itemsIn out
+pub items-set : {out : List Symbol} {f : Frame} {fs : List Frame} (k : ℕ) → Held out (f ∷ fs)
+    → itemsIn (set out (f .owner) (name (f .start) (f .end) k)) ≡ itemsIn out
 unfolding itemOf
 items-set {out} {f} k (more l e u h) = map-set-same itemOf out (f .owner) (name (f .start) (f .end) k) (number 0) (sym (ap itemOf e))
 
@@ -77,13 +80,13 @@ layout-keeps : (m : Mode) (w : Work) (b : ℕ) → Held (w .out) (w .opened) →
 unfolding layout
 layout-keeps m w b h i = choose (isBlank b) (stays h i) (choose (eqb b 37) (stays h (in-remark i)) dies)
 
-comma-keeps : (s n k : ℕ) (fs : List Frame) (out : List Symbol) → Held out fs → Keeps (work s n k fs out) (comma s n k fs out)
-unfolding comma
+comma-keeps : (s n k : ℕ) (fs : List Frame) (out : List Symbol) → Held out fs → Keeps (work s n k fs out) (onComma s n k fs out)
+unfolding onComma
 comma-keeps s n k [] out h = goes in-arg h (same-front refl)
 comma-keeps s n k (f ∷ fs) out h = choose (ltb (f .done) 3) (goes in-arg (held-comma h) (same-front (items-set (suc (f .done)) h))) dies
 
-close-keeps : (s n k : ℕ) (fs : List Frame) (out : List Symbol) → Held out fs → Keeps (work s n k fs out) (close s n k fs out)
-unfolding close
+close-keeps : (s n k : ℕ) (fs : List Frame) (out : List Symbol) → Held out fs → Keeps (work s n k fs out) (onClose s n k fs out)
+unfolding onClose
 close-keeps s n k [] out h = goes in-closed h (same-front refl)
 close-keeps s n k (f ∷ fs) out h = goes in-after (held-close h) (same-front (items-set (suc (f .done)) h))
 

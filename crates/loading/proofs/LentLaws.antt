@@ -12,7 +12,7 @@ use Rattle.refusal.specs.Read.{Read, read, refuse, when, andThen}
 use Rattle.refusal.specs.declared.Reason.{Reason}
 use Rattle.refusal.specs.declared.Reason.the-variants as reason
 use Rattle.refusal.specs.declared.Input.the-variants as input
-use Rattle.table.specs.Table.{Table, table, Met, counted, termsFrom, before, doubled, rowsFrom, tableOf}
+use Rattle.table.specs.Table.{Table, table, Met, counted, termsFrom, rowBefore, doubled, rowsFrom, tableOf}
 use Rattle.table.proofs.ReadLaws.{apart, refuse-one}
 use Rattle.limits.specs.Limits.{mostTableCells}
 
@@ -40,7 +40,7 @@ of-terms (c ∷ xs) (suc owed) used vars p =
     (of-when (eqb (v .kind) 0 && ltb vars (v .number)) reason.Fresh p
     (of-terms xs (v .args + owed) (suc used) (counted v vars) (suc p))))
 
-of-before : (r : List ℕ) {rs : Read (List (List ℕ))} → OfTable rs → OfTable (before r rs)
+of-before : (r : List ℕ) {rs : Read (List (List ℕ))} → OfTable rs → OfTable (rowBefore r rs)
 of-before r good = good
 of-before r (turned k p) = turned k p
 

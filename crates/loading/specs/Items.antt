@@ -6,7 +6,7 @@ use mathlib.Core.List.{List, [], _∷_, _++_, map, flatten}
 use Rattle.cell.specs.Cell.{variableCell, nameCell, numberCell}
 use Rattle.grammar.specs.Grammar.{Symbol, name, variable, number, Fact}
 use Rattle.cell.specs.Same.{same}
-use Rattle.grammar.specs.Meaning.{Place, place, bytesOf, position, meet, variableNumber, variablesWith}
+use Rattle.grammar.specs.Meaning.{Place, place, bytesAt, position, meet, variableNumber, variablesWith}
 
 -- a symbol without its number of arguments; and that a row begins
 pub data Item : Type 0 where
@@ -50,7 +50,7 @@ namesMet t ns (next-row ∷ xs) = namesMet t ns xs
 -- the number of each symbol: a name's by the list so far, a variable's by its row's list so far, a number's value
 unfoldable pub numbering : List ℕ → List Place → List Place → List Item → List ℕ
 numbering t ns vs [] = []
-numbering t ns vs (of-name w ∷ xs) = position t (bytesOf t w) (meet t ns w) ∷ numbering t (meet t ns w) vs xs
+numbering t ns vs (of-name w ∷ xs) = position t (bytesAt t w) (meet t ns w) ∷ numbering t (meet t ns w) vs xs
 numbering t ns vs (of-variable w ∷ xs) = variableNumber t vs w ∷ numbering t ns (variablesWith t vs w) xs
 numbering t ns vs (of-number v ∷ xs) = v ∷ numbering t ns vs xs
 numbering t ns vs (next-row ∷ xs) = numbering t ns [] xs
@@ -69,11 +69,11 @@ shapes (x ∷ ss) (n ∷ ns) = shapeOf x n ∷ shapes ss ns
 -- whether a word is met as a name; and how many of some words are not
 unfoldable pub metIn : List ℕ → List ℕ → List Item → Bool
 metIn t w [] = false
-metIn t w (of-name v ∷ xs) = same (bytesOf t v) w || metIn t w xs
+metIn t w (of-name v ∷ xs) = same (bytesAt t v) w || metIn t w xs
 metIn t w (of-variable v ∷ xs) = metIn t w xs
 metIn t w (of-number v ∷ xs) = metIn t w xs
 metIn t w (next-row ∷ xs) = metIn t w xs
 
 unfoldable pub unmet : List ℕ → List Item → List Place → ℕ
 unmet t xs [] = 0
-unmet t xs (b ∷ bs) = cond (metIn t (bytesOf t b) xs) 0 1 + unmet t xs bs
+unmet t xs (b ∷ bs) = cond (metIn t (bytesAt t b) xs) 0 1 + unmet t xs bs

@@ -42,16 +42,16 @@ loadSays (read x) = answered (length (x .cells)) (length (x .names))
 loadSays (refuse f) = turned f
 
 -- 02, "On success the cells written come first and the rest of the room is untouched"
-abbrev pub front : List ℕ → List ℕ → List ℕ
-front xs room = xs ++ drop (length xs) room
+abbrev pub putFirst : List ℕ → List ℕ → List ℕ
+putFirst xs room = xs ++ drop (length xs) room
 
 -- in both rooms; and "a refusal writes nothing"
 abbrev pub cellsAfter : Read Loaded → List ℕ → List ℕ
-cellsAfter (read x) room = front (x .cells) room
+cellsAfter (read x) room = putFirst (x .cells) room
 cellsAfter (refuse f) room = room
 
 abbrev pub namesAfter : Read Loaded → List ℕ → List ℕ
-namesAfter (read x) room = front (x .names) room
+namesAfter (read x) room = putFirst (x .names) room
 namesAfter (refuse f) room = room
 
 -- the promise of the entry, for every text and both rooms: the rooms as they are lent and as they are left, and the answer

@@ -9,7 +9,7 @@ use Rattle.grammar.specs.Reader.{isBlank}
 use Rattle.expecting.specs.declared.Stand.{Stand}
 use Rattle.expecting.specs.declared.Stand.the-variants as stand
 use Rattle.expecting.specs.declared.Sight.{Sight}
-use Rattle.expecting.specs.Looking.{sight, rested, termed, worded, opened, closed, comma, seen, glance}
+use Rattle.expecting.specs.Looking.{sight, rested, termed, worded, opened, closed, afterComma, seen, glance}
 
 module _ (level : ℕ) (s : Stand) (d n b : ℕ) where
   pub seen-percent : b ≡ 37 → seen level s d n b ≡ sight (rested s) true d n
@@ -30,7 +30,7 @@ module _ (level : ℕ) (s : Stand) (d n b : ℕ) where
   unfolding seen isBlank
   seen-close e = rw e
 
-  pub seen-comma : b ≡ 44 → seen level s d n b ≡ comma level d n
+  pub seen-comma : b ≡ 44 → seen level s d n b ≡ afterComma level d n
   unfolding seen isBlank
   seen-comma e = rw e
 
@@ -46,7 +46,8 @@ module _ (level : ℕ) (s : Stand) (d n b : ℕ) where
       → seen level s d n b ≡ sight (worded s (termed b)) false d n
   unfolding seen isBlank
   seen-other p l o k c m f =
-      rw (ne-eqb b 37 p, ne-eqb b 32 (λ e. l (inr (inr e))), ne-eqb b 10 (λ e. l (inl e)), ne-eqb b 13 (λ e. l (inr (inl e))), ne-eqb b 40 o, ne-eqb b 41 k, ne-eqb b 44 c, ne-eqb b 45 m, ne-eqb b 46 f)
+      rw (ne-eqb b 37 p, ne-eqb b 32 (λ e. l (inr (inr e))), ne-eqb b 10 (λ e. l (inl e)), ne-eqb b 13 (λ e. l (inr (inl e))), ne-eqb b 40 o,
+          ne-eqb b 41 k, ne-eqb b 44 c, ne-eqb b 45 m, ne-eqb b 46 f)
 
 pub glance-comment : (level : ℕ) (s : Sight) (b : ℕ) → s .comment ≡ true → glance level s b ≡ sight (s .stand) (not (eqb b 10)) (s .depth) (s .commas)
 unfolding glance

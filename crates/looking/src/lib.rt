@@ -4,7 +4,7 @@ ghost use mathlib.Core.Path.{_≡_};
 ghost use mathlib.Core.Bool.{false};
 ghost use Prim.Native.Nat.{_+_, _^_, _<_};
 ghost use lib.ListN.{take};
-ghost use Rattle.expecting.specs.Looking.{sight, rested, termed, worded, opened, closed, comma, seen, glance, lookAt, isHead};
+ghost use Rattle.expecting.specs.Looking.{sight, rested, termed, worded, opened, closed, afterComma, seen, glance, lookAt, isHead};
 use expecting::Sight;
 use expecting::Stand;
 
@@ -114,7 +114,7 @@ fn close_at(depth: usize, commas: usize) -> Sight
 // After `,`.
 fn comma_at(level: usize, depth: usize, commas: usize) -> Sight
     requires { ⌜ commas + 1 < 2 ^ 64 ⌝ }
-    ensures { λ r. ⌜ r ≡ comma level depth commas ⌝ }
+    ensures { λ r. ⌜ r ≡ afterComma level depth commas ⌝ }
 {
     if depth == level {
         return sight_of(Stand::Arg, false, depth, commas + 1);

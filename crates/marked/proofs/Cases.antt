@@ -171,7 +171,10 @@ all-say f (x ∷ xs) a = (says (f x) (a .0), all-say f xs (a .1))
 
 all-computed : (map (λ (x : P). computed (x .example)) marked ≡ map (λ (x : P). printed (x .example)) marked)
     × (map computed instances ≡ map printed instances)
-unfolding marked instances computed printed planned aboveAll afterSize tableCells p1 p2 plan2 p3 plan3 p7 p8 plan8 plan9 three planThree single four planTwo planFour tableOf rowsFrom among same termsFrom goalOf planWith stateFrom planCells place runCells best total argmin root close agree arity valuesAt isVar flatten hitsBy triedBy above unifiable unify walk bindTest occurs renamed inst bind idS front back opened fill decide hole count upFrom
+unfolding marked instances computed printed planned aboveAll afterSize tableCells p1 p2 plan2 p3 plan3 p7 p8 plan8 plan9 three planThree single four
+    planTwo planFour tableOf rowsFrom among same termsFrom goalOf planWith stateFrom planCells place runCells best total argmin root close agree arity
+    valuesAt isVar flatten hitsBy triedBy above unifiable unify walk bindTest occurs renamed inst bind idS front back opened fill decide hole count
+    upFrom
 all-computed = (refl, refl)
 
 -- P1 to P10: each says what is so, and none is left out

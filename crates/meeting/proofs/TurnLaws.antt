@@ -4,7 +4,7 @@ use mathlib.Core.Path.{_≡_, _∙_, subst}
 use mathlib.Core.List.{List}
 use native.Mathlib.Omega.{arith}
 use lib.ListN.{length}
-use Rattle.instance.specs.code.Meet.{Hit, Met, Over}
+use Rattle.instance.specs.code.Meet.{Hit, InstanceMet, Over}
 use Rattle.meeting.specs.declared.Stand.{Stand}
 use Rattle.meeting.specs.declared.Turn.{Turn}
 use Rattle.meeting.specs.declared.Turn.the-variants as turn
@@ -109,7 +109,7 @@ starting l o p q =
 
 -- the row is at its end
 pub finished-at : {cells cells′ : List ℕ} {len n : ℕ} {k : Stand} → Sound (length cells) k
-    → ((row goal : List ℕ) → MeetingAt row goal cells (atStart len n) → Met row goal cells′ (k .len))
+    → ((row goal : List ℕ) → MeetingAt row goal cells (atStart len n) → InstanceMet row goal cells′ (k .len))
     → Finished cells cells′ len n (made.Cells (k .len))
 finished-at {cells} {k = k} s f = let h : k .len ≤ length cells = omega (arith, s .apart, s .started, s .held) in finished h f
 

@@ -5,7 +5,7 @@ use Prim.Native.Nat.{ℕ, _≤_}
 use mathlib.Core.Path.{_≡_}
 use mathlib.Core.List.{List}
 use lib.ListN.{length}
-use Rattle.instance.specs.code.Meet.{Hit, Met, Over}
+use Rattle.instance.specs.code.Meet.{Hit, InstanceMet, Over}
 use Rattle.meeting.specs.declared.Made.{Made}
 use Rattle.meeting.specs.declared.Made.the-variants.{Cells, Big}
 use Rattle.limits.specs.Limits.{mostMeetingCells}
@@ -16,5 +16,5 @@ pub record Lent (cells other : List ℕ) : Type 0 where
   pub other-long : length other ≡ 2049
 
 pub data Ended (row goal cells other cells′ : List ℕ) : Made → Type 0 where
-  ended : {n : ℕ} → n ≤ length cells′ → (Hit row goal → Met row goal cells′ n) → Ended row goal cells other cells′ (Cells n)
+  ended : {n : ℕ} → n ≤ length cells′ → (Hit row goal → InstanceMet row goal cells′ n) → Ended row goal cells other cells′ (Cells n)
   ended-over : (Hit row goal → Lent cells other → Over row goal) → Ended row goal cells other cells′ Big

@@ -14,7 +14,7 @@ use Rattle.octets.proofs.PutLaws.{Putting, put-begins, put-part, put-ends}
 use Rattle.blocks.specs.Blocks.{good}
 use Rattle.salvaging.specs.Salvage.{blocksIn, badAt, badIn}
 use Rattle.salvaging.proofs.BadLaws.{bad-all, bad-here, bad-none, Skipped, bad-skip}
-use Rattle.mending.specs.Mending.{badOn, Listed}
+use Rattle.mending.specs.Mending.{badOn, NumbersListed}
 
 on-next : (f : List ℕ) (i : ℕ) → i < blocksIn f → badOn f i ≡ i ∷ badAt f (i + 1)
 on-next f i h = rw (lt-ltb i (blocksIn f) h)
@@ -58,7 +58,7 @@ list-next {f} {i = i} {j = j} l h p e =
       puts = rw e (put-part {xs = i ∷ []} (rw x at (l .puts)) p);
     }
 
-pub list-ends : {f room a : List ℕ} {from on n i : ℕ} → Listing f from room a on n i → blocksIn f ≤ i → Listed (badOn f from) room a n
+pub list-ends : {f room a : List ℕ} {from on n i : ℕ} → Listing f from room a on n i → blocksIn f ≤ i → NumbersListed (badOn f from) room a n
 list-ends {f} {i = i} l h =
     let z = on-none f i h in
     record { many = omega (arith, l .many, ap length z); put = put-ends (rw z at (l .puts)) .wrote }

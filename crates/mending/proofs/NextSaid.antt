@@ -6,7 +6,7 @@ use mathlib.Core.List.{List}
 use native.Mathlib.Omega.{arith}
 use lib.ListN.{length, take, drop, length-drop}
 use lib.Seq.{take-all}
-use Rattle.refusal.specs.Refusal.{Refused, numberOf}
+use Rattle.refusal.specs.Refusal.{Refused, reasonNumber}
 use Rattle.refusal.specs.declared.Refusal.{Refusal}
 use Rattle.samerows.specs.Starts.{rowsLent}
 use Rattle.table.specs.Table.{rowOf, rowTold}
@@ -30,17 +30,17 @@ module _ (w at : ℕ) (cells starts : List ℕ) (h : at ≤ length cells) (a : R
       let e = accepted-ends w seen (drop at cells) (said′ ∙ ap rowTold q) in
       ends (e .0) (length cells) (e .1) (e .2) (omega (arith, e .3)) (omega (arith, e .3, length-drop at cells))
 
-  pub extra-place : {f : Refusal} → a ≡ row-answer.Refused f → numberOf (f .reason) ≡ 9 → at + f .place ≤ length cells
+  pub extra-place : {f : Refusal} → a ≡ row-answer.Refused f → reasonNumber (f .reason) ≡ 9 → at + f .place ≤ length cells
   extra-place q n =
       let e = extra-ends w seen (drop at cells) (said′ ∙ ap rowTold q) n in
       let b = whole-within true (drop at cells) w 0 (omega arith) (e .1) in
       omega (arith, b .1, e .3, length-drop at cells)
 
-  pub on-extra : {f : Refusal} → a ≡ row-answer.Refused f → numberOf (f .reason) ≡ 9 → NextIs w seen (drop at cells) at (next.Ends (at + f .place))
+  pub on-extra : {f : Refusal} → a ≡ row-answer.Refused f → reasonNumber (f .reason) ≡ 9 → NextIs w seen (drop at cells) at (next.Ends (at + f .place))
   on-extra {f} q n =
       let e = extra-ends w seen (drop at cells) (said′ ∙ ap rowTold q) n in
       let b = whole-within true (drop at cells) w 0 (omega arith) (e .1) in
       ends (e .0) (at + f .place) (e .1) (e .2) (b .1) (ap (λ (k : ℕ). at + k) (sym (e .3)))
 
-  pub on-other : {f : Refusal} → a ≡ row-answer.Refused f → (numberOf (f .reason) ≡ 9 → ⊥) → NextIs w seen (drop at cells) at next.Stops
+  pub on-other : {f : Refusal} → a ≡ row-answer.Refused f → (reasonNumber (f .reason) ≡ 9 → ⊥) → NextIs w seen (drop at cells) at next.Stops
   on-other q n = stops (other-stops w seen (drop at cells) (said′ ∙ ap rowTold q) n)

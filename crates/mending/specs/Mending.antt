@@ -20,6 +20,6 @@ abbrev pub badOn : List ℕ → ℕ → List ℕ
 badOn file number = cond (ltb number (blocksIn file)) (number ∷ badAt file (number + 1)) []
 
 -- how many numbers, and as many of them as there is room for
-pub record Listed (numbers room room′ : List ℕ) (count : ℕ) : Type 0 where
+pub record NumbersListed (numbers room room′ : List ℕ) (count : ℕ) : Type 0 where
   pub many : count ≡ length numbers
   pub put : room′ ≡ sets room 0 (fitting room 0 numbers)

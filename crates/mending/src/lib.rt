@@ -6,7 +6,7 @@ ghost use lib.ListN.{length, take, drop};
 ghost use Rattle.samerows.specs.Starts.{rowsLent};
 ghost use Rattle.octets.specs.Octets.{Put};
 ghost use Rattle.salvaging.specs.Kept.{keptFrom};
-ghost use Rattle.mending.specs.Mending.{Keeps, badOn, Listed};
+ghost use Rattle.mending.specs.Mending.{Keeps, badOn, NumbersListed};
 ghost use Rattle.mending.specs.code.Next.{NextIs};
 ghost use Rattle.limits.specs.Limits.{mostRows};
 use limits::ROWS;
@@ -87,7 +87,7 @@ fn put_number(out: &mut [usize], to: usize, n: usize) -> usize
 // A block's number, where the file has it, and those of the bad blocks after it, put into a room as far as it goes; how many they are. The
 // block itself is known to be bad, so that it is not looked at again. No cells are kept of the sound ones.
 pub fn list_bad(file: &[u8], from: usize, room: &mut [usize]) -> usize
-    ensures { λ r. ⌜ Listed (badOn (now (file .entry)) from) (now (room .entry)) (now (room .exit)) r ⌝ }
+    ensures { λ r. ⌜ NumbersListed (badOn (now (file .entry)) from) (now (room .entry)) (now (room .exit)) r ⌝ }
 {
     let total = blocks_of(file);
     let mut none = [0u32; 0];

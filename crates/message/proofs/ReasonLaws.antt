@@ -3,7 +3,7 @@ use mathlib.Core.Path.{_≡_, refl}
 use mathlib.Core.List.{List}
 use Prim.Native.Nat.{ℕ}
 use borrow.Author.Tests.{ne-eqb}
-use Rattle.refusal.specs.Refusal.{numberOf}
+use Rattle.refusal.specs.Refusal.{reasonNumber}
 use Rattle.refusal.specs.declared.Reason.{Reason}
 use Rattle.refusal.specs.declared.Reason.the-variants as reason
 use Rattle.message.specs.Message.{byNumber, factsReason, goalReason}
@@ -24,7 +24,7 @@ module _ (n : ℕ) (said : List ℕ) where
   goal-other a f g h j = rw (ne-eqb n 1 a, ne-eqb n 17 f, ne-eqb n 18 g, ne-eqb n 19 h, ne-eqb n 25 j)
 
 -- every reason has its words
-pub facts-by-reason : (r : Reason) (said : List ℕ) → factsNumber (numberOf r) said ≡ factsReason r said
+pub facts-by-reason : (r : Reason) (said : List ℕ) → factsNumber (reasonNumber r) said ≡ factsReason r said
 unfolding factsNumber factsReason
 facts-by-reason reason.Length said = refl
 facts-by-reason reason.Width said = refl
@@ -60,7 +60,7 @@ facts-by-reason reason.None said = refl
 facts-by-reason reason.Column said = refl
 facts-by-reason reason.Early said = refl
 
-pub goal-by-reason : (r : Reason) (said : List ℕ) → goalNumber (numberOf r) said ≡ goalReason r said
+pub goal-by-reason : (r : Reason) (said : List ℕ) → goalNumber (reasonNumber r) said ≡ goalReason r said
 unfolding goalNumber goalReason
 goal-by-reason reason.Length said = refl
 goal-by-reason reason.Width said = refl

@@ -83,7 +83,8 @@ module _ (text names : List ℕ) where
   rows-known : (rows : List (List ℕ)) → AllKnown (length names) (flatten rows) → All RowKnown rows
   unfolding flatten
   rows-known [] a = tt
-  rows-known (r ∷ rows) a = (row-known r (all-front (Known (length names)) r (flatten rows) a), rows-known rows (all-back (Known (length names)) r (flatten rows) a))
+  rows-known (r ∷ rows) a =
+      (row-known r (all-front (Known (length names)) r (flatten rows) a), rows-known rows (all-back (Known (length names)) r (flatten rows) a))
 
   known-rows : (rows : List (List ℕ)) → All RowKnown rows → AllKnown (length names) (flatten rows)
   unfolding flatten

@@ -24,7 +24,7 @@ use Rattle.least.specs.Measures.{weightAt}
 use Rattle.least.specs.Later.{laterIn}
 use Rattle.least.specs.code.Low.{Light}
 use Rattle.least.proofs.Later.{weight-later}
-use Rattle.paircosts.specs.code.Notes.{note, noteIn, putNote, weightIn, mostAgreed, weightOf, weightsFrom, Numbered, LastRow, Alone}
+use Rattle.paircosts.specs.code.Notes.{note, noteIn, putNote, weightIn, mostAgreed, weightOf, weightsFrom, VariablesBelow, LastRow, Alone}
 use Rattle.paircosts.proofs.RingLaws.{put-other, put-alike, put-room}
 use Rattle.limits.specs.Limits.{mostTableCells}
 
@@ -42,7 +42,7 @@ above-both : (v n k : ℕ) → n ≤ v → k ≤ v → ltb v n ≡ ltb v k
 above-both v n k h l = le-ltb v n h ∙ sym (le-ltb v k l)
 
 -- one cell more
-module _ {before : List ℕ} {n : ℕ} (x : Numbered before n) where
+module _ {before : List ℕ} {n : ℕ} (x : VariablesBelow before n) where
   -- of a variable in front, and of every other
   count-front : (v c : ℕ) → v ≡ c → ltb 0 (count v (c ∷ before)) ≡ true
   unfolding count
@@ -52,7 +52,7 @@ module _ {before : List ℕ} {n : ℕ} (x : Numbered before n) where
   unfolding count
   count-behind v c h d = let e : 0 + count v before ≡ count v before = omega arith in rw (ne-eqb v c d, e) (x .below v h)
 
-  numbered-next : {c u : ℕ} → Seen c n (read u) → Numbered (c ∷ before) u
+  numbered-next : {c u : ℕ} → Seen c n (read u) → VariablesBelow (c ∷ before) u
   numbered-next {c} (symbol C i) = record { below = λ v h. count-behind v c h (λ e. not-both h (ap isVar e ∙ i)) }
   numbered-next {c} (new C i e) = record {
     below = λ v h.

@@ -20,7 +20,7 @@ use Rattle.paircosts.specs.declared.arrays.Asked.{Asked}
 use Rattle.paircosts.specs.declared.arrays.Row.{Row}
 use Rattle.paircosts.specs.Fill.{Unasked}
 use Rattle.paircosts.specs.code.Notes.{readIn, weightOf, Long, NextRow, RowNoted, LastRow, Alone}
-use Rattle.paircosts.specs.code.Filling.{stopOf, rowOf, sharedOf, PairAt, putPair, KeepsBefore, keeps, passes, Task, Worked}
+use Rattle.paircosts.specs.code.Filling.{stopOf, pairRow, sharedOf, PairAt, putPair, KeepsBefore, keeps, passes, Task, Worked}
 use Rattle.paircosts.specs.code.Filling.{Stands, worked, left, FilledTo, RowHere, NotedTo, LastAt, Finished}
 use Rattle.paircosts.proofs.NotedLaws.{noted-alone}
 use Rattle.paircosts.proofs.AloneLaws.{weights-later, alone-sum}
@@ -42,7 +42,8 @@ module _ (kept : List ℕ) (p u v w : ℕ) (long : Long kept) (low : p < 4096) w
   put-same =
       let l₁ : Long one = length-set kept p u ∙ long in
       let l₂ : Long two = length-set one (4096 + p) v ∙ l₁ in (
-        getD-set-other two (8192 + p) p w 0 (λ e. omega arith) ∙ getD-set-other one (4096 + p) p v 0 (λ e. omega arith) ∙ getD-set-same kept p u 0 (omega arith),
+        getD-set-other two (8192 + p) p w 0 (λ e. omega arith) ∙ getD-set-other one (4096 + p) p v 0 (λ e. omega arith)
+        ∙ getD-set-same kept p u 0 (omega arith),
         getD-set-other two (8192 + p) (4096 + p) w 0 (λ e. omega arith) ∙ getD-set-same one (4096 + p) v 0 (omega arith),
         getD-set-same two (8192 + p) w 0 (omega arith),
       )
@@ -97,7 +98,8 @@ module _ {cells marks starts : List ℕ} {asked : Asked} {old : List ℕ} (t : T
   done-as : {first last first′ last′ j j′ : ℕ} → (x : Done first last j j′) → (j′ < last′) ⊎ ((j′ ≡ last′) × (first′ ≤ j)) → Done first′ last′ j j′
   done-as x d = record { order = x .order; inside = x .inside; begins = x .begins; ends = x .ends; done = d }
 
-  stands-map : {first last first′ last′ : ℕ} {a : List ℕ} {j j′ : ℕ} → (Done first last j j′ → Done first′ last′ j j′) → (Done first′ last′ j j′ → Done first last j j′)
+  stands-map : {first last first′ last′ : ℕ} {a : List ℕ} {j j′ : ℕ} → (Done first last j j′ → Done first′ last′ j j′)
+      → (Done first′ last′ j j′ → Done first last j j′)
       → Stands t first last a j j′ → Stands t first′ last′ a j j′
   stands-map f g (worked w e c p) = worked (f w) e c p
   stands-map f g (left w e) = left (λ x. w (g x)) e
@@ -112,7 +114,9 @@ module _ {cells marks starts : List ℕ} {asked : Asked} {old : List ℕ} (t : T
 
   -- the pairs that end at a row, and then those that end at the next
   pub filled-after : {last : ℕ} {a : List ℕ} → FilledTo t 0 last a → FilledTo t (suc (suc last)) (suc last) a
-  filled-after {last} {a} f = record { each = λ j j′ h h′. stands-map (λ x. done-as x (to (x .done))) (λ x. done-as x (back x (x .done))) (f .each j j′ h h′); long = f .long }
+  filled-after {last} {a} f =
+      record { each = λ j j′ h h′. stands-map (λ x. done-as x (to (x .done))) (λ x. done-as x (back x (x .done))) (f .each j j′ h h′); long =
+          f .long }
     where
       to : {j j′ : ℕ} → (j′ < last) ⊎ ((j′ ≡ last) × (0 ≤ j)) → (j′ < suc last) ⊎ ((j′ ≡ suc last) × (suc (suc last) ≤ j))
       to (inl d) = inl (omega arith)
@@ -122,12 +126,14 @@ module _ {cells marks starts : List ℕ} {asked : Asked} {old : List ℕ} (t : T
       at j j′ h true e = inr (eqb-true j′ last e, omega arith)
       at j j′ h false e = let z : j′ ≢ last = eqb-false j′ last e in inl (omega (arith, z))
 
-      back : {j j′ : ℕ} → Done (suc (suc last)) (suc last) j j′ → (j′ < suc last) ⊎ ((j′ ≡ suc last) × (suc (suc last) ≤ j)) → (j′ < last) ⊎ ((j′ ≡ last) × (0 ≤ j))
+      back : {j j′ : ℕ} → Done (suc (suc last)) (suc last) j j′ → (j′ < suc last) ⊎ ((j′ ≡ suc last) × (suc (suc last) ≤ j))
+          → (j′ < last) ⊎ ((j′ ≡ last) × (0 ≤ j))
       back {j} {j′} x (inl d) = at j j′ d (eqb j′ last) refl
       back {j} {j′} x (inr d) = absurd (omega (arith, d .0, d .1, x .order))
 
   -- what is read at a pair that is done, or kept
-  pub whole-there : {first last : ℕ} {a : List ℕ} → FilledTo t first last a → (j j′ : ℕ) → j ≤ j′ → j′ < length (t .rows) → (j′ < last) ⊎ ((j′ ≡ last) × (first ≤ j))
+  pub whole-there : {first last : ℕ} {a : List ℕ} → FilledTo t first last a → (j j′ : ℕ) → j ≤ j′ → j′ < length (t .rows)
+      → (j′ < last) ⊎ ((j′ ≡ last) × (first ≤ j))
       → readIn a j j′ ≡ t .N j j′
   whole-there {first} {last} {a} f j j′ h l d = go (f .each j j′ (omega (arith, few)) (omega (arith, few)))
     where
@@ -140,7 +146,8 @@ module _ {cells marks starts : List ℕ} {asked : Asked} {old : List ℕ} (t : T
       go (left w e) = ap (λ (x : ℕ). min x 65535) (e .whole) ∙ sym (stays w (either j j′ (asked .top) (asked .since)))
 
   -- one pair more
-  module _ {first last : ℕ} {a : List ℕ} (f : FilledTo t (suc first) last a) (order : first ≤ last) (inside : last < length (t .rows)) (late : asked .since ≤ last) where
+  module _ {first last : ℕ} {a : List ℕ} (f : FilledTo t (suc first) last a) (order : first ≤ last) (inside : last < length (t .rows))
+      (late : asked .since ≤ last) where
     later : {j j′ : ℕ} → Done (suc first) last j j′ → Done first last j j′
     later {j} {j′} x = done-as x (go (x .done))
       where
@@ -228,7 +235,8 @@ module _ {cells marks starts : List ℕ} {asked : Asked} {old : List ℕ} (t : T
 
   -- the last row by itself
   pub last-noted : {row : Row} {notes₀ notes kept : List ℕ} {agreed : ℕ} (h : RowHere cells starts (asked .count) row) → asked .since ≤ row .number
-      → FilledTo t (suc (row .number)) (row .number) kept → (room : length notes₀ ≡ 192) → {met : ℕ} → Alone (last-row {row = row} {notes = notes₀} h room) (row .end) notes agreed met
+      → FilledTo t (suc (row .number)) (row .number) kept → (room : length notes₀ ≡ 192) → {met : ℕ}
+      → Alone (last-row {row = row} {notes = notes₀} h room) (row .end) notes agreed met
       → NotedTo t (suc (row .number)) (row .number) row notes kept agreed
   unfolding laterOf
   last-noted {row} {agreed = agreed} h late f room x =
@@ -242,7 +250,9 @@ module _ {cells marks starts : List ℕ} {asked : Asked} {old : List ℕ} (t : T
         late = late;
         weight = weightOf (t .m) own;
         agreed-is = rw (eqb-same (row .number), row-part h) (omega (arith, alone-sum (last-row {row = row} h room) x, weights-later (t .low .light) [] own));
-        noted = rw (slice-empty (suc (row .number)) (t .rows), row-part h) (noted-alone (row .start) (row-fits h .0) (λ j m n. x .each j m (omega (arith, l, b .0))));
+        noted =
+            rw (slice-empty (suc (row .number)) (t .rows), row-part h)
+                (noted-alone (row .start) (row-fits h .0) (λ j m n. x .each j m (omega (arith, l, b .0))));
         light = omega (arith, x .light, b .1, t .laid .size);
         filled = f;
         room = x .room;
@@ -291,7 +301,7 @@ module _ {cells marks starts : List ℕ} {asked : Asked} {old : List ℕ} (t : T
 
   -- from one row to the one before it
   module _ {last agreed : ℕ} {row : Row} {notes kept : List ℕ} (x : NotedTo t (row .number) last row notes kept agreed) (some : 0 < row .number) (row′ : Row)
-      (is : row′ ≡ rowOf (row .number - 1) (getD starts (row .number - 1) 0) (row .start)) where
+      (is : row′ ≡ pairRow (row .number - 1) (getD starts (row .number - 1) 0) (row .start)) where
     pub number-is : suc (row′ .number) ≡ row .number
     number-is = omega (arith, ap (λ (r : Row). r .number) is)
 
@@ -339,7 +349,9 @@ module _ {cells marks starts : List ℕ} {asked : Asked} {old : List ℕ} (t : T
         t .laid .few,
       );
       marked = t .marked;
-      known = λ j h l. rw number-is (whole-there (x .filled) (row .number) j (omega (arith, number-is)) (omega (arith, t .laid .number, x .inside)) (pair-done j l));
+      known =
+          λ j h l. rw number-is (whole-there (x .filled) (row .number) j (omega (arith, number-is)) (omega (arith, t .laid .number, x .inside))
+              (pair-done j l));
       small = λ i k h m. t .small i k h (omega (arith, t .laid .number));
       room = x .room;
       long = x .filled .long;
@@ -352,7 +364,8 @@ module _ {cells marks starts : List ℕ} {asked : Asked} {old : List ℕ} (t : T
         slice-cons (row .number) (suc last) (t .rows) [] (omega (arith, x .order)) (omega (arith, t .laid .number, x .inside)) in
         let b : slice (suc (row′ .number)) (suc last) (t .rows) ≡ slice (row′ .end) (row .end) cells ∷ slice (suc (row .number)) (suc last) (t .rows) =
         ap (λ (n : ℕ). slice n (suc last) (t .rows)) number-is ∙ c
-        ∙ ap (λ (r : List ℕ). r ∷ slice (suc (row .number)) (suc last) (t .rows)) (row-part (x .here) ∙ ap (λ (n : ℕ). slice n (row .end) cells) (sym end-is)) in
+        ∙ ap (λ (r : List ℕ). r ∷ slice (suc (row .number)) (suc last) (t .rows)) (row-part (x .here)
+            ∙ ap (λ (n : ℕ). slice n (row .end) cells) (sym end-is)) in
         record {
           here = next-here;
           order = omega (arith, number-is, x .order);
@@ -366,12 +379,13 @@ module _ {cells marks starts : List ℕ} {asked : Asked} {old : List ℕ} (t : T
           room = y .room;
         }
 
-  pub rows-done : {last agreed : ℕ} {row : Row} {notes kept : List ℕ} → NotedTo t (row .number) last row notes kept agreed → row .number ≤ 0 → FilledTo t 0 last kept
+  pub rows-done : {last agreed : ℕ} {row : Row} {notes kept : List ℕ} → NotedTo t (row .number) last row notes kept agreed → row .number ≤ 0
+      → FilledTo t 0 last kept
   rows-done {row = row} x h = let e : row .number ≡ 0 = omega arith in rw e at (x .filled)
 
   -- the row at which the next pairs end
   abbrev pub last-at : {last end : ℕ} {kept : List ℕ} → last < asked .count → end ≡ stopOf cells starts (asked .count) last → asked .since ≤ last
-      → FilledTo t (suc last) last kept → LastAt cells marks starts kept asked (rowOf last (getD starts last 0) end)
+      → FilledTo t (suc last) last kept → LastAt cells marks starts kept asked (pairRow last (getD starts last 0) end)
   last-at h e late f = record { old = old; task = t; here = record { inside = h; start-is = refl; end-is = e }; late = late; filled = f }
 
   pub finished : {last : ℕ} {kept : List ℕ} → asked .count ≤ last → FilledTo t (suc last) last kept → Finished t kept

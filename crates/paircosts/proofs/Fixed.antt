@@ -24,7 +24,8 @@ use Rattle.paircosts.proofs.WorkedLaws.{all-asked}
 use Rattle.limits.specs.Limits.{keptCells}
 
 -- two arrays that are filled are one
-module _ {m : Measure} {fs : List Bool} {w : ℕ} {rows : List (List ℕ)} {old new new′ : List ℕ} (f : Filled m fs w rows old new) (g : Filled m fs w rows old new′) where
+module _ {m : Measure} {fs : List Bool} {w : ℕ} {rows : List (List ℕ)} {old new new′ : List ℕ} (f : Filled m fs w rows old new)
+    (g : Filled m fs w rows old new′) where
   same-at : (first last : ℕ) → first < 64 → last < 64 → SameAt first last new new′
   same-at first last h l = go (is-pair (length rows) first last)
     where

@@ -63,7 +63,8 @@ module _ (every : Bool) where
           let e₂ : j ≡ a + x = omega arith in
           let e₃ : i + suc x ≡ suc (i + x) = omega arith in
           let l′ : suc x < length (true ∷ bs) = omega (arith, length-own a true bs) in
-          rw (e₁, flag-after i (i + x) a fs (omega arith)) (rw e₃ at (s (suc x) l′) ∙ sym (ap (λ (n : ℕ). flag n (replicate a true ++ bs)) e₂ ∙ past-flag a x true bs))
+          rw (e₁, flag-after i (i + x) a fs (omega arith)) (rw e₃ at (s (suc x) l′)
+              ∙ sym (ap (λ (n : ℕ). flag n (replicate a true ++ bs)) e₂ ∙ past-flag a x true bs))
 
 -- every place is looked at; and the columns are those that are named
 pub sees-every : (w : ℕ) → Sees true [] 0 (replicate w true ++ [])
@@ -91,7 +92,8 @@ module _ (m : Measure) (every : Bool) (P : List Bool → Type 0) (low : ℕ) (ke
       go (g ∷ (k ∷ gs)) ih = ih fs (suc i) r rows (omega arith) p
 
       by : (b : Bool) → Below
-          → P ((cond b (oneRun (runs i rows) (λ (g : Run). plus (m .weight (g .cell)) (scan m every n (spread i (arity (g .cell)) fs) i (arity (g .cell) + r) (g .rows)))
+          → P ((cond b (oneRun (runs i rows) (λ (g : Run). plus (m .weight (g .cell))
+              (scan m every n (spread i (arity (g .cell)) fs) i (arity (g .cell) + r) (g .rows)))
           (scan m every n fs (suc i) r rows)) (scan m every n fs (suc i) r rows)) .named)
       by true ih = go (runs i rows) ih
       by false ih = ih fs (suc i) r rows (omega arith) p
@@ -107,7 +109,8 @@ module _ (m : Measure) (every : Bool) where
       before (suc i) a gs l = flag-before j i a gs (omega arith)
 
   -- and that none stands
-  pub scan-none : (n : ℕ) (fs : List Bool) (i r : ℕ) (rows : List (List ℕ)) → ((j : ℕ) → flag j fs ≡ false) → (j : ℕ) → flag j ((scan m every n fs i r rows) .named) ≡ false
+  pub scan-none : (n : ℕ) (fs : List Bool) (i r : ℕ) (rows : List (List ℕ)) → ((j : ℕ) → flag j fs ≡ false) → (j : ℕ)
+      → flag j ((scan m every n fs i r rows) .named) ≡ false
   scan-none n fs i r rows none =
       scan-keeps m every (λ (gs : List Bool). (j : ℕ) → flag j gs ≡ false) 0 (λ i a gs l p j. none-spread i a j gs p) n fs i r rows (omega arith) none
 

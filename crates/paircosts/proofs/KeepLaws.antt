@@ -39,7 +39,8 @@ terms-drop zero k (c ∷ xs) (more {k = r} t) h = (r, more t)
 terms-drop (suc n) k (c ∷ xs) (more {k = r} t) h = terms-drop n (arity c + r) xs t (omega arith)
 
 -- no open place costs much, whatever the runs cost
-price-small : {W : ℕ → ℕ → ℕ} {first last a f j : ℕ} {ok : ℕ → Bool} {F : ℕ → ℕ} {s : Note} → ((j : ℕ) → first ≤ j → j ≤ last → W first j ≤ 65535) → last < 64 → f ≤ 15
+price-small : {W : ℕ → ℕ → ℕ} {first last a f j : ℕ} {ok : ℕ → Bool} {F : ℕ → ℕ} {s : Note} → ((j : ℕ) → first ≤ j → j ≤ last → W first j ≤ 65535)
+    → last < 64 → f ≤ 15
     → Priced W first last a f ok F j s → F j ≤ 4300000
 price-small {s = s} small row low p =
     let x = p .fair in
@@ -112,13 +113,16 @@ module _ {marks kept notes : List ℕ} {row : Row} {shared : Shared} {asked : As
       (row .end) (names .opens) fs (row .start) 0 (names .agreed)
   columns-shown =
       rw zs-length at
-      (pair-columns (g .m) (g .width) (g .rows) (g .fits) (g .N) (g .small) fs flags first last (g .order) (g .inside) (noteIn notes) (endIn marks) (weightIn marks)
+      (pair-columns (g .m) (g .width) (g .rows) (g .fits) (g .N) (g .small) fs flags first last (g .order) (g .inside) (noteIn notes) (endIn marks)
+          (weightIn marks)
       zs (row .start) ends-right weights-right (omega (arith, zs-length, g .part .0)) (g .row-is) (g .noted))
 
-  inside-shown : sort ≡ true → ShownIn (noteIn notes) (endIn marks) (weightIn marks) PricedAt (λ (p : ℕ). ok p ≡ false) (row .end) (state .opens) fs (row .start) 0 (state .agreed)
+  inside-shown : sort ≡ true → ShownIn (noteIn notes) (endIn marks) (weightIn marks) PricedAt (λ (p : ℕ). ok p ≡ false) (row .end) (state .opens) fs
+      (row .start) 0 (state .agreed)
   inside-shown e =
       rw zs-length at
-      (pair-inside (g .m) (g .width) (g .rows) (g .fits) (g .N) (g .small) fs flags first last (g .order) (g .inside) (noteIn notes) (endIn marks) (weightIn marks)
+      (pair-inside (g .m) (g .width) (g .rows) (g .fits) (g .N) (g .small) fs flags first last (g .order) (g .inside) (noteIn notes) (endIn marks)
+          (weightIn marks)
       zs (row .start) ends-right weights-right (omega (arith, zs-length, g .part .0)) (g .row-is) (g .noted) e)
 
   all-shown : sort ≡ false → (u : ℕ) × Shown (noteIn notes) (endIn marks) (weightIn marks) PricedAt (row .end) (state .opens) (row .start) 0 u
@@ -129,7 +133,8 @@ module _ {marks kept notes : List ℕ} {row : Row} {shared : Shared} {asked : As
 
   weight-is : sort ≡ false → g .weight ≡ state .agreed
   weight-is =
-      pair-weight (g .m) (g .width) (g .rows) (g .fits) (g .N) (g .small) fs flags first last (g .order) (g .inside) (noteIn notes) (endIn marks) (weightIn marks)
+      pair-weight (g .m) (g .width) (g .rows) (g .fits) (g .N) (g .small) fs flags first last (g .order) (g .inside) (noteIn notes) (endIn marks)
+          (weightIn marks)
       zs (row .start) ends-right weights-right (omega (arith, zs-length, g .part .0)) (g .row-is) (g .noted)
 
   state-flags : length (state .named) ≤ state .opens
@@ -164,7 +169,8 @@ module _ {marks kept notes : List ℕ} {row : Row} {shared : Shared} {asked : As
   several : sort ≡ true → first < last
   several e = let j = open-named e in go (j .0) (j .2) (in-each columns-shown (j .0) (omega arith) (j .1))
     where
-      go : (j : ℕ) → flag j (names .named) ≡ true → NoteAt (Is (g .N) first last false (names .named) (names .left)) j ⊎ Out false (names .named) j → first < last
+      go : (j : ℕ) → flag j (names .named) ≡ true → NoteAt (Is (g .N) first last false (names .named) (names .left)) j ⊎ Out false (names .named) j
+          → first < last
       go j y (inl s) = omega (arith, s .1, s .2 .fair .few)
       go j y (inr o) = absurd (true≢false (sym y ∙ o))
 
@@ -214,11 +220,13 @@ module _ {marks kept notes : List ℕ} {row : Row} {shared : Shared} {asked : As
   module _ {part : Part} (x : PartIs part) (light : part .agreed ≤ mostAgreed) where
     -- by the code's own numbers
     pub all-priced : part .only ≡ false → (u : ℕ)
-        × Shown (noteIn notes) (endIn marks) (weightIn marks) (Priced (g .N) first last (part .agreed) (asked .figure) ok prices) (row .end) (state .opens) (row .start) 0 u
+        × Shown (noteIn notes) (endIn marks) (weightIn marks) (Priced (g .N) first last (part .agreed) (asked .figure) ok prices) (row .end)
+            (state .opens) (row .start) 0 u
     all-priced e = rw (x .agreed-is, g .figure-is) (all-shown (sym (x .only-is) ∙ e))
 
     pub inside-priced : part .only ≡ true → (0 < state .opens) × (width : ℕ) × (u : ℕ)
-        × ShownIn (noteIn notes) (endIn marks) (weightIn marks) (Priced (g .N) first last (part .agreed) (asked .figure) ok prices) (λ (p : ℕ). ok p ≡ false) (row .end)
+        × ShownIn (noteIn notes) (endIn marks) (weightIn marks) (Priced (g .N) first last (part .agreed) (asked .figure) ok prices)
+            (λ (p : ℕ). ok p ≡ false) (row .end)
         (state .opens) (flagsIn width (asked .named)) (row .start) 0 u
     inside-priced e =
         let q : sort ≡ true = sym (x .only-is) ∙ e in

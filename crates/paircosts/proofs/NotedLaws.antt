@@ -119,7 +119,8 @@ module _ {m : Measure} {W : ℕ → ℕ → ℕ} {row : ℕ} {N : ℕ → Note} 
     where
       go : (b : Bool) → agree (root 0 x) (root 0 y) ≡ b
           → (cond b (N p) (note (suc ((N p) .runs)) ((N p) .sum + W (suc row) ((N p) .to)) row)) .runs ≡ 1
-          → {w : ℕ} → Noted m W (suc row) N p (suc r) y rest w → (root 0 x ≡ root 0 y) × From m W (suc row) N (suc p) (arity (root 0 y) + r) (close 0 y) (map (close 0) rest)
+          → {w : ℕ} → Noted m W (suc row) N p (suc r) y rest w
+          → (root 0 x ≡ root 0 y) × From m W (suc row) N (suc p) (arity (root 0 y) + r) (close 0 y) (map (close 0) rest)
       go true a e (closed {agreed = w} n o t) = (agree-eq (root 0 x) (root 0 y) a, (w, t))
       go true a e (opened n o t) = absurd (omega arith)
       go false a e t = absurd (omega (arith, has-run))

@@ -90,7 +90,8 @@ module _ {N : ℕ → Note} {E H : ℕ → ℕ} {P : ℕ → Note → Type 0} wh
   in-none no-more = (refl, refl, refl)
 
 -- closed as if no column were named
-plain-closes : (m : Measure) {fs fs′ : List Bool} {k k′ : ℕ} {rows rows′ : List (List ℕ)} (x : Closes fs k rows fs′ k′ rows′) → Closing m (weighs m x) [] k rows [] k′ rows′
+plain-closes : (m : Measure) {fs fs′ : List Bool} {k k′ : ℕ} {rows rows′ : List (List ℕ)} (x : Closes fs k rows fs′ k′ rows′)
+    → Closing m (weighs m x) [] k rows [] k′ rows′
 unfolding weighs
 plain-closes m stop = none-closed
 plain-closes m (step i c h a y x) = one-closed i c h a (freely (λ j. refl)) (plain-closes m x)
@@ -176,7 +177,8 @@ module _ (m : Measure) (w : ℕ) (rows : List (List ℕ)) (fits : All (Fits 32 w
   place-priced i s h y p f =
       let x = pair-closed m 32 fs w rows fits (omega arith) first last order below in
       let l : length (State .left) ≡ suc last - first = closes-length (x .closes .closes) ∙ length-slice first (suc last) rows below in
-      let g : choice m (length (runs i (State .left))) ≡ m .figure = choice-stuck m (State .named) (State .opens) i (State .left) (omega arith) (x .stuck) h y in
+      let g : choice m (length (runs i (State .left))) ≡ m .figure =
+          choice-stuck m (State .named) (State .opens) i (State .left) (omega arith) (x .stuck) h y in
       let t : sums W first (runs i (State .left)) - length (runs i (State .left)) * agreed ≡ s .sum + W first (s .to) - s .runs * agreed =
       ap₂ (λ (u v : ℕ). u - v * agreed) (sym (p .costs)) (sym (p .number)) in
       record { price = ap₂ (λ (u v : ℕ). u + v) g t; fair = f; may = is-may (State .named) i y }
@@ -202,7 +204,9 @@ module _ (m : Measure) (w : ℕ) (rows : List (List ℕ)) (fits : All (Fits 32 w
         rw rows-are (shown-from m W (length rows) small first last below N E H zs at ends weights every 32 gs 0 w a cs at y rest weight (record {
           places = k;
           sees = s;
-          fits = subst (λ (l : List (List ℕ)). All (Fits 32 (0 + w)) l) rows-are (rw zero-add (pair-state m 32 fs w rows fits (omega arith) first last order below .0));
+          fits =
+              subst (λ (l : List (List ℕ)). All (Fits 32 (0 + w)) l) rows-are
+                  (rw zero-add (pair-state m 32 fs w rows fits (omega arith) first last order below .0));
           rows = omega arith;
           low = omega arith;
           high = within;
@@ -225,7 +229,8 @@ module _ (m : Measure) (w : ℕ) (rows : List (List ℕ)) (fits : All (Fits 32 w
           (all .weight, shown-map (λ j n h p. place-priced j n h (freely (no-flag e)) (p .says) (p .fair)) s)
 
     -- the named columns
-    pub pair-columns : ShownIn N E H (Is W first last false (Named .named) (Named .left)) (Out false (Named .named)) (length zs) (Named .opens) fs at 0 (Named .agreed)
+    pub pair-columns : ShownIn N E H (Is W first last false (Named .named) (Named .left)) (Out false (Named .named)) (length zs) (Named .opens) fs at
+        0 (Named .agreed)
     pair-columns =
         let s = shows false fs 0 fs (omega (arith, flags)) (sees-named fs) in
         let f : length (front 0 (back 0 y)) ≡ 0 = ap length (front-zero (back 0 y)) in
@@ -237,7 +242,8 @@ module _ (m : Measure) (w : ℕ) (rows : List (List ℕ)) (fits : All (Fits 32 w
     -- WHERE ONE IS OPEN, they alone are read: only the places inside them may be chosen
     pub pair-inside : sort ≡ true → ShownIn N E H PricedAt (λ (p : ℕ). ok p ≡ false) (length zs) (State .opens) fs at 0 (State .agreed)
     pair-inside e =
-        let c = subst (λ (s : Scan). ShownIn N E H (Is W first last false (s .named) (s .left)) (Out false (s .named)) (length zs) (s .opens) fs at 0 (s .agreed))
+        let c = subst (λ (s : Scan). ShownIn N E H (Is W first last false (s .named) (s .left)) (Out false (s .named)) (length zs) (s .opens) fs at 0
+            (s .agreed))
         (sym (inside-is e)) pair-columns in
         let n : anyNamed (State .named) ≡ true = ap (λ (s : Scan). anyNamed (s .named)) (inside-is e) ∙ e in
         in-map (λ j s h p. place-priced j s h (inside (p .looked)) (p .says) (p .fair)) (λ j o. (let f : flag j (State .named) ≡ false = o in rw (f, n))) c

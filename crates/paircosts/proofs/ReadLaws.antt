@@ -16,7 +16,7 @@ use Rattle.paircosts.specs.declared.arrays.Base.{Base}
 use Rattle.paircosts.specs.declared.arrays.Found.{Found}
 use Rattle.paircosts.specs.code.Notes.{noteIn, readIn, endIn, weightIn, mostAgreed, Long, Small}
 use Rattle.paircosts.specs.code.Reading.{choiceOf, foundOf, priceOf, tooMuch, bestTo, foundTo, Shown, ShownIn, PricedOf, Range, Inside}
-use Rattle.paircosts.specs.code.Filling.{rowOf}
+use Rattle.paircosts.specs.code.Filling.{pairRow}
 use Rattle.paircosts.proofs.WalkLaws.{Here, ended, one, many, here, shown-few, in-over, Looked, on-column, look-in, look-past}
 
 -- THE CHEAPEST PLACE, over a range of cells
@@ -142,14 +142,15 @@ module _ {marks kept notes : List ℕ} {row : Row} {base : Base} {named : ℕ} (
 
   module _ {found : Found} {rest q : ℕ} (h : q < row .end) (x : NamedAt found rest q) where
     pub column-in : rest % 2 ≡ 1
-        → Looked (noteIn notes) (endIn marks) (weightIn marks) (PricedOf (g .pair)) (λ (p : ℕ). g .pair .ok p ≡ false) (row .end) (g .opens) rest q (found .place) (x .weight)
+        → Looked (noteIn notes) (endIn marks) (weightIn marks) (PricedOf (g .pair)) (λ (p : ℕ). g .pair .ok p ≡ false) (row .end) (g .opens) rest q
+            (found .place) (x .weight)
     column-in o = look-in (x .bits) rest (x .shown) h o
 
     module _ (end : ℕ) (is : end ≡ endIn marks q) where
       pub column-on : (q < end) × (end ≤ row .end)
       column-on = rw is (on-column (x .bits) rest (x .shown) h)
 
-      abbrev pub column-range : (o : rest % 2 ≡ 1) → Range marks kept notes (rowOf (row .number) q end) base found
+      abbrev pub column-range : (o : rest % 2 ≡ 1) → Range marks kept notes (pairRow (row .number) q end) base found
       column-range o = record {
         pair = g .pair;
         opens = column-in o .next;
@@ -159,7 +160,8 @@ module _ {marks kept notes : List ℕ} {row : Row} {base : Base} {named : ℕ} (
         within = (omega (arith, column-on .1, g .within), x .small);
       }
 
-      pub column-read : (o : rest % 2 ≡ 1) (found′ : Found) → found′ ≡ foundTo (g .pair .ok) (g .pair .prices) (column-in o .next) → NamedAt found′ (rest / 2) end
+      pub column-read : (o : rest % 2 ≡ 1) (found′ : Found) → found′ ≡ foundTo (g .pair .ok) (g .pair .prices) (column-in o .next)
+          → NamedAt found′ (rest / 2) end
       column-read o found′ e =
           let i = column-in o in
           rw (e, is) (record { bits = i .bits; weight = i .more; shown = i .after; is = refl; small = shown-few (i .shown) (x .small) })

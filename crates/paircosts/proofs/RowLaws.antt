@@ -108,7 +108,8 @@ module _ {cells marks kept notes₀ : List ℕ} {row new old : ℕ} (g : NextRow
       let l : length (slice q old cells) ≡ old - q = length-slice q old cells old-in in
       let z : x .r ≡ 0 = no-terms (x .new-terms) (omega (arith, x .order .3)) in
       let e : n + 0 ≡ n = omega arith in
-      record { noted = rw e at (x .then (noteIn notes) (λ j l m. refl) 0 (rw z done)); light = omega (arith, x .light, x .order .3, old-in, g .order .3); room = x .room }
+      record { noted = rw e at (x .then (noteIn notes) (λ j l m. refl) 0 (rw z done)); light =
+          omega (arith, x .light, x .order .3, old-in, g .order .3); room = x .room }
     where
       no-terms : {r : ℕ} {xs : List ℕ} → Terms r xs → length xs ≡ 0 → r ≡ 0
       no-terms none e = refl
@@ -240,7 +241,9 @@ module _ {cells marks kept notes₀ : List ℕ} {row new old : ℕ} (g : NextRow
         go : (b : Bool) → eqb (stepNote .runs) 1 ≡ b
             → RowAt notes′ (n + cond b (weightIn marks q) 0) (cond b (p + 1) (endIn marks p)) (cond b (q + 1) (endIn marks q))
         go true e = rw (add-one p, add-one q) (step-closed (eqb-true (stepNote .runs) 1 e))
-        go false e = let z : n + 0 ≡ n = omega arith in rw z (step-opened (omega (arith, next-some (readIn kept) (noteIn notes p) row (getD cells q 0) (getD cells p 0) (row-fair .some), ne)))
+        go false e =
+            let z : n + 0 ≡ n = omega arith in
+            rw z (step-opened (omega (arith, next-some (readIn kept) (noteIn notes p) row (getD cells q 0) (getD cells p 0) (row-fair .some), ne)))
           where
             ne : stepNote .runs ≢ 1
             ne = eqb-false (stepNote .runs) 1 e

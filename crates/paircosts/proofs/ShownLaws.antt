@@ -80,7 +80,8 @@ module _ (m : Measure) (W : ℕ → ℕ → ℕ) (count : ℕ) (bound : (i k : �
     pub weight : ℕ
     pub more : ℕ
     pub shown : Shown N E H (Is W first last every (s .named) (s .left)) (q + length (front a (back i y))) next q i weight
-    pub after : ShownIn N E H (Is W first last every (s .named) (s .left)) (Out every (s .named)) (length zs) (s .opens) cs (q + length (front a (back i y))) next more
+    pub after : ShownIn N E H (Is W first last every (s .named) (s .left)) (Out every (s .named)) (length zs) (s .opens) cs
+        (q + length (front a (back i y))) next more
     pub agreed : s .agreed ≡ weight + more
     pub whole : length cs ≡ 0 → b ≡ s .agreed
 
@@ -216,7 +217,9 @@ module _ (m : Measure) (W : ℕ → ℕ → ℕ) (count : ℕ) (bound : (i k : �
             more = s .more;
             shown = rw l (at-open h (on x) o
                 (record {
-                  says = record { number = u .number ∙ sym (length-sizes now (runs i here) k); costs = u .costs ∙ sym (sums-sizes W first now (runs i here) k) };
+                  says =
+                      record { number = u .number ∙ sym (length-sizes now (runs i here) k); costs = u .costs
+                          ∙ sym (sums-sizes W first now (runs i here) k) };
                   fair = fair e;
                   looked = rw (scan-flag m every n fs (suc i) r here i (omega arith)) (sees-first every fs i true (replicate a true ++ cs) (x .sees));
                 }) (s .shown));
@@ -255,7 +258,8 @@ module _ (m : Measure) (W : ℕ → ℕ → ℕ) (count : ℕ) (bound : (i k : �
         → Shows i 0 (true ∷ cs) q y b (scan m every (suc n) fs i (suc r) here)
     look-in cs b x =
         let z : q + 0 ≡ q = omega arith in
-        let s = looked-at 0 cs b (record { places = omega (arith, x .places); sees = x .sees; fits = x .fits; rows = x .rows; low = x .low; high = x .high; cells = x .cells; noted = x .noted }) in
+        let s = looked-at 0 cs b (record { places = omega (arith, x .places); sees = x .sees; fits = x .fits; rows = x .rows; low = x .low; high =
+            x .high; cells = x .cells; noted = x .noted }) in
         record {
           next = i;
           weight = 0;
@@ -266,7 +270,8 @@ module _ (m : Measure) (W : ℕ → ℕ → ℕ) (count : ℕ) (bound : (i k : �
           whole = λ h. absurd (omega arith);
         }
 
-    passed-by : (cs : List Bool) (b : ℕ) → Reached (suc n) fs i (suc r) 0 (false ∷ cs) q y rest b → Shows i 0 (false ∷ cs) q y b (scan m every n fs (suc i) r here)
+    passed-by : (cs : List Bool) (b : ℕ) → Reached (suc n) fs i (suc r) 0 (false ∷ cs) q y rest b
+        → Shows i 0 (false ∷ cs) q y b (scan m every n fs (suc i) r here)
     passed-by cs b x =
         let z : q + 0 ≡ q = omega arith in
         let z′ : E q + 0 ≡ E q = omega arith in
@@ -274,7 +279,8 @@ module _ (m : Measure) (W : ℕ → ℕ → ℕ) (count : ℕ) (bound : (i k : �
         let s = step-over x 0 cs (omega (arith, x .places)) (sees-next every fs i false cs (x .sees)) (d .1) in
         let f : length (front 0 (back (suc i) y)) ≡ 0 = ap length (front-zero (back (suc i) y)) in
         let e = shown-none (s .shown) (omega arith) in
-        let out : Out every ((scan m every n fs (suc i) r here) .named) i = rw (scan-flag m every n fs (suc i) r here i (omega arith)) (sees-first every fs i false cs (x .sees)) in
+        let out : Out every ((scan m every n fs (suc i) r here) .named) i =
+            rw (scan-flag m every n fs (suc i) r here i (omega arith)) (sees-first every fs i false cs (x .sees)) in
         record {
           next = i;
           weight = 0;

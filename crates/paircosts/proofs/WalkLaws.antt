@@ -66,7 +66,8 @@ data AtColumn (N : ℕ → Note) (E H : ℕ → ℕ) (Is : ℕ → Note → Type
   passed : rest % 2 ≢ 1 → q < E q → E q ≤ stop → Passed N E H Is O stop k rest q i w → AtColumn N E H Is O stop k rest q i w
 
 module _ {N : ℕ → Note} {E H : ℕ → ℕ} {Is : ℕ → Note → Type 0} {O : ℕ → Type 0} {stop k : ℕ} where
-  at-column : {fs : List Bool} {q i w : ℕ} (bits rest : ℕ) → ShownIn N E H Is O stop k fs q i w → fs ≡ flagsIn bits rest → q < stop → AtColumn N E H Is O stop k rest q i w
+  at-column : {fs : List Bool} {q i w : ℕ} (bits rest : ℕ) → ShownIn N E H Is O stop k fs q i w → fs ≡ flagsIn bits rest → q < stop
+      → AtColumn N E H Is O stop k rest q i w
   unfolding flagsIn
   at-column bits rest no-more e h = absurd (omega arith)
   at-column zero rest (in-column l s t) e h = let z : _≡_ {A = ℕ} 0 1 = cc in absurd (omega arith)
@@ -75,7 +76,8 @@ module _ {N : ℕ → Note} {E H : ℕ → ℕ} {Is : ℕ → Note → Type 0} {
       let b : eqb (rest % 2) 1 ≡ true = cc in
       let f : fs ≡ flagsIn bits (rest / 2) = cc in
       looked (eqb-true (rest % 2) 1 b) l (in-high t)
-      (record { next = n; here = u; more = v; both = refl; shown = s; bits = bits; after = subst (λ (gs : List Bool). ShownIn N E H Is O stop k gs (E q) n v) f t })
+      (record { next = n; here = u; more = v; both = refl; shown = s; bits = bits; after =
+          subst (λ (gs : List Bool). ShownIn N E H Is O stop k gs (E q) n v) f t })
   at-column {q = q} {i} (suc bits) rest (past-column {flags = fs} {more = v} l o t) e h =
       let b : eqb (rest % 2) 1 ≡ false = cc in
       let f : fs ≡ flagsIn bits (rest / 2) = cc in

@@ -43,10 +43,13 @@ refilled-width : (named : ℕ) {m : Measure} {w v top since : ℕ} {rows : List 
 refilled-width named e f = rw (← e) f
 
 refilled-same : (named : ℕ) {m : Measure} {T T′ : Table} {top since : ℕ} {old new : List ℕ} → T ≡ T′
-    → Refilled m (flagsIn (T .width) named) (T .width) (T .rows) top since old new → Refilled m (flagsIn (T′ .width) named) (T′ .width) (T′ .rows) top since old new
-refilled-same named {m} {top = top} {since} {old} {new} e f = subst (λ (X : Table). Refilled m (flagsIn (X .width) named) (X .width) (X .rows) top since old new) e f
+    → Refilled m (flagsIn (T .width) named) (T .width) (T .rows) top since old new
+    → Refilled m (flagsIn (T′ .width) named) (T′ .width) (T′ .rows) top since old new
+refilled-same named {m} {top = top} {since} {old} {new} e f =
+    subst (λ (X : Table). Refilled m (flagsIn (X .width) named) (X .width) (X .rows) top since old new) e f
 
-pub table-filled : (named : ℕ) {t ss : List ℕ} {w n top since : ℕ} {r : TableRead} {old new : List ℕ} (by : By) (k : TableRows t ss w n) → measureOf by .figure ≤ 15
+pub table-filled : (named : ℕ) {t ss : List ℕ} {w n top since : ℕ} {r : TableRead} {old new : List ℕ} (by : By) (k : TableRows t ss w n)
+    → measureOf by .figure ≤ 15
     → TableReads (tableBy by t) r → length new ≡ length old → Long old → Refilled (measureOf by) (flagsIn w named) w (k .table .rows) top since old new
     → Fills by named t top since old new r
 table-filled named {t} by k h r size long f =

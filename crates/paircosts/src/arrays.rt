@@ -13,7 +13,7 @@ ghost use Rattle.paircosts.specs.code.Notes.{noteIn, noteNext, putNote, 
 ghost use Rattle.paircosts.specs.code.Notes.{Small, NextRow, RowNoted, LastRow, Alone, pastOf, EndsFrom, MarkedFrom};
 ghost use Rattle.paircosts.specs.code.Reading.{choiceOf, foundOf, partOf, priceOf, foundTo, someTo, sortOf, choiceOver};
 ghost use Rattle.paircosts.specs.code.Reading.{Range, Inside, Column, Columns, Sorted};
-ghost use Rattle.paircosts.specs.code.Filling.{stopOf, rowOf, PairAt, Keeps, KeepsBefore, LastAt, FilledTo, Task, Finished, Rows};
+ghost use Rattle.paircosts.specs.code.Filling.{stopOf, pairRow, PairAt, Keeps, KeepsBefore, LastAt, FilledTo, Task, Finished, Rows};
 ghost use Rattle.limits.specs.Limits.{mostRows, mostTableCells};
 use least::By;
 use limits::ROWS;
@@ -561,7 +561,7 @@ fn row_end(cells: &[u32], starts: &[usize; ROWS], count: usize, r: usize) -> usi
 // The row before a row.
 fn row_before(starts: &[usize; ROWS], row: Row) -> Row
     requires { ⌜ (0 < row .number) × (row .number < mostRows) ⌝ }
-    ensures { λ r. ⌜ r ≡ rowOf (row .number - 1) (getD (now (starts .entry)) (row .number - 1) 0) (row .start) ⌝ }
+    ensures { λ r. ⌜ r ≡ pairRow (row .number - 1) (getD (now (starts .entry)) (row .number - 1) 0) (row .start) ⌝ }
 {
     let number = row.number - 1;
     let end = row.start;

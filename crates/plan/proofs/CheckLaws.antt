@@ -23,7 +23,7 @@ use Rattle.plan.specs.Runs.{Run, runs}
 use Rattle.plan.specs.Named.{spread, may, NamedFirst, NamedFirsts}
 use Rattle.plan.proofs.NamedLaws.{may-is, is-may, no-column}
 use Rattle.plan.specs.Plans.{Plan, leaf, node, Branches, end, next, write, writes, branches, branchesIn}
-use Rattle.plan.specs.Check.{Seen, seen, bad, cellThen, Reader, branchesFrom, leafFrom, nodeFrom, stateFrom, nothingAfter, planWith, planFor}
+use Rattle.plan.specs.Check.{Seen, seen, badPlan, cellThen, Reader, branchesFrom, leafFrom, nodeFrom, stateFrom, nothingAfter, planWith, planFor}
 use Rattle.plan.proofs.RunsLaws.{Each, Sized, group-sizes, fits-some, runs-fit}
 use Rattle.plan.specs.code.Fits.{Fits}
 use Rattle.plan.proofs.PlansLaws.{write-one}
@@ -57,7 +57,8 @@ Sound below = (fs : List Bool) (k : ℕ) (rows : List (List ℕ)) (p : ℕ) (xs 
 together : (c d : ℕ) (xs ys w zs v rest : List ℕ) → xs ≡ c ∷ ys → c ≡ d → ys ≡ w ++ zs → zs ≡ v ++ rest → xs ≡ d ∷ ((w ++ v) ++ rest)
 together c d xs ys w zs v rest e l f g = cc (append-assoc w v rest)
 
-branches-sound : (below : Reader) → Sound below → (fs : List Bool) (i k : ℕ) (gs : List Run) (p : ℕ) (xs : List ℕ) (s : Seen) → branchesFrom below fs i k gs p xs ≡ read s
+branches-sound : (below : Reader) → Sound below → (fs : List Bool) (i k : ℕ) (gs : List Run) (p : ℕ) (xs : List ℕ) (s : Seen)
+    → branchesFrom below fs i k gs p xs ≡ read s
     → StandsIn fs i k gs p xs s
 unfolding write branches NamedFirst
 branches-sound below h fs i k [] p xs s e =
@@ -89,7 +90,8 @@ leaf-sound fs rows p xs s e =
     let l : c .0 ≡ length rows = eqb-true (c .0) (length rows) (c .3) in
     rw (← f) (record { plan = leaf; kind = tt; cells = cc (c .2); count = refl; ends = omega arith })
 
-node-sound : (below : Reader) → Sound below → (fs : List Bool) (k : ℕ) (rows : List (List ℕ)) (p : ℕ) (xs : List ℕ) (s : Seen) → nodeFrom below fs k rows p xs ≡ read s
+node-sound : (below : Reader) → Sound below → (fs : List Bool) (k : ℕ) (rows : List (List ℕ)) (p : ℕ) (xs : List ℕ) (s : Seen)
+    → nodeFrom below fs k rows p xs ≡ read s
     → Stands fs (suc k) rows p xs s
 unfolding write branches NamedFirst
 node-sound below h fs k rows p xs s e =
@@ -117,10 +119,13 @@ state-sound (suc n) fs (suc k) rows p xs s e = node-sound (stateFrom n) (state-s
 
 -- and each plan of the kind is read
 abbrev Complete : ℕ → Reader → Type 0
-Complete n below = (fs : List Bool) (k : ℕ) (rows : List (List ℕ)) → All (Fits n k) rows → 0 < length rows → (t : Plan k rows) → NamedFirst fs t → (p : ℕ) (rest : List ℕ)
+Complete n below =
+    (fs : List Bool) (k : ℕ) (rows : List (List ℕ)) → All (Fits n k) rows → 0 < length rows → (t : Plan k rows) → NamedFirst fs t
+        → (p : ℕ) (rest : List ℕ)
     → below fs k rows p (write t ++ rest) ≡ read (seen (branches t) (p + length (write t)) rest)
 
-branches-complete : (n : ℕ) (below : Reader) → Complete n below → (fs : List Bool) (i k m : ℕ) (gs : List Run) → Each (λ (c : ℕ). Fits n (arity c + k)) gs → Sized m gs
+branches-complete : (n : ℕ) (below : Reader) → Complete n below → (fs : List Bool) (i k m : ℕ) (gs : List Run)
+    → Each (λ (c : ℕ). Fits n (arity c + k)) gs → Sized m gs
     → (bs : Branches k gs) → NamedFirsts fs i bs → (p : ℕ) (rest : List ℕ)
     → branchesFrom below fs i k gs p (writes bs ++ rest) ≡ read (seen (branchesIn bs) (p + length (writes bs)) rest)
 unfolding write branches NamedFirst
@@ -141,7 +146,8 @@ state-complete zero fs zero rows f h leaf s p rest = leaf-complete rows p rest
 state-complete (suc n) fs zero rows f h leaf s p rest = leaf-complete rows p rest
 state-complete zero fs (suc k) rows f h t s p rest = absurd (omega (arith, fits-some zero k rows f h))
 state-complete (suc n) fs (suc k) rows f h (node i l bs) s p rest =
-    let x = branches-complete n (stateFrom n) (state-complete n) fs i k (length rows) (runs i rows) (runs-fit n k i l rows f) (group-sizes (root i) (close i) rows) bs (s .1)
+    let x = branches-complete n (stateFrom n) (state-complete n) fs i k (length rows) (runs i rows) (runs-fit n k i l rows f)
+        (group-sizes (root i) (close i) rows) bs (s .1)
     (suc (suc p)) rest in
     let e : suc (suc p) + length (writes bs) ≡ p + suc (suc (length (writes bs))) = omega arith in
     rw (le-leb i k l, is-may fs i (s .0), eqb-same (length (runs i rows)), x, e)
@@ -155,7 +161,7 @@ nothing-read s b e =
 
 module _ (fs : List Bool) (T : Table) (cells : List ℕ) where
   -- SIZE; what the first state is refused for; EXTRA
-  pub plan-size : mostPlanCells < length cells → planWith fs T cells ≡ refuse (bad reason.Size 0)
+  pub plan-size : mostPlanCells < length cells → planWith fs T cells ≡ refuse (badPlan reason.Size 0)
   unfolding planWith
   plan-size h = rw (lt-ltb mostPlanCells (length cells) h)
 
@@ -164,14 +170,15 @@ module _ (fs : List Bool) (T : Table) (cells : List ℕ) where
   plan-refused f h e = rw (le-ltb mostPlanCells (length cells) h, e)
 
   pub plan-extra : (b e : ℕ) → length cells ≤ mostPlanCells → stateFrom 32 fs (T .width) (T .rows) 0 cells ≡ read (seen b e (drop e cells)) → e < length cells
-      → planWith fs T cells ≡ refuse (bad reason.Extra e)
+      → planWith fs T cells ≡ refuse (badPlan reason.Extra e)
   unfolding planWith
   plan-extra b e h r l =
       let m : 0 < length (drop e cells) = omega (arith, length-drop e cells) in
       rw (le-ltb mostPlanCells (length cells) h, r, lt-ltb 0 (length (drop e cells)) m)
 
 -- 02, W-213, the check for the kind: cells are accepted with the answer b exactly where some plan of the kind writes them, and it has b branches
-pub accepted-kind : (fs : List Bool) (T : Table) → All (λ (r : List ℕ). Terms (T .width) r × (length r ≤ 32)) (T .rows) → 0 < length (T .rows) → length (T .rows) ≤ 64
+pub accepted-kind : (fs : List Bool) (T : Table) → All (λ (r : List ℕ). Terms (T .width) r × (length r ≤ 32)) (T .rows) → 0 < length (T .rows)
+    → length (T .rows) ≤ 64
     → (cells : List ℕ) (b : ℕ) → (planWith fs T cells ≡ read b) ↔ ((p : Plan (T .width) (T .rows)) × (write p ≡ cells) × (branches p ≡ b) × NamedFirst fs p)
 unfolding planWith
 accepted-kind fs T f h m cells b = (sound, complete)
@@ -201,7 +208,8 @@ accepted T f h m cells b =
     (λ e. let p = a .0 e in (p .0, p .1, p .2), λ p. a .1 (p .0, p .1, p .2, no-column [] (λ j. refl) (p .0)))
 
 -- so whatever is accepted for the kind is accepted, with the same answer
-pub kind-accepted : (fs : List Bool) (T : Table) → All (λ (r : List ℕ). Terms (T .width) r × (length r ≤ 32)) (T .rows) → 0 < length (T .rows) → length (T .rows) ≤ 64
+pub kind-accepted : (fs : List Bool) (T : Table) → All (λ (r : List ℕ). Terms (T .width) r × (length r ≤ 32)) (T .rows) → 0 < length (T .rows)
+    → length (T .rows) ≤ 64
     → (cells : List ℕ) (b : ℕ) → planWith fs T cells ≡ read b → planFor T cells ≡ read b
 kind-accepted fs T f h m cells b e = let p = accepted-kind fs T f h m cells b .0 e in accepted T f h m cells b .1 (p .0, p .1, p .2)
 

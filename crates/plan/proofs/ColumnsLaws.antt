@@ -17,7 +17,7 @@ use Rattle.table.specs.Table.{Table, tableOf}
 use Rattle.table.proofs.ReadLaws.{then-both}
 use Rattle.plan.specs.Runs.{Run, runs}
 use Rattle.plan.specs.Named.{flag, spread, setFlag, setFlags, flagsOf, anyPast, occurs}
-use Rattle.plan.specs.Check.{Seen, bad, Reader, branchesFrom, nodeFrom, stateFrom, planWith, planFor, planOf, columnsFor, planUnder}
+use Rattle.plan.specs.Check.{Seen, badPlan, Reader, branchesFrom, nodeFrom, stateFrom, planWith, planFor, planOf, columnsFor, planUnder}
 use Rattle.plan.proofs.NamedLaws.{is-may, Free, no-place, each-place, free-may, free-below}
 
 -- WITH NO COLUMN NAMED, OR ALL: a plan is read as any plan.
@@ -31,7 +31,7 @@ branches-plain below h fs i k l n [] p xs = refl
 branches-plain below h fs i k l n (g ∷ gs) p [] = refl
 branches-plain below h fs i k l n (g ∷ gs) p (c ∷ ys) =
     let a : ℕ = arity (g .cell) in
-    ap (when (not (eqb c (g .cell))) (bad reason.Label p))
+    ap (when (not (eqb c (g .cell))) (badPlan reason.Label p))
     (rw (h (spread i a fs) (a + k) (free-below fs k i a l n) (g .rows) (suc p) ys)
     (then-both (below [] (a + k) (g .rows) (suc p) ys) (λ (t : Seen). rw (branches-plain below h fs i k l n gs (t .next) (t .rest)))))
 

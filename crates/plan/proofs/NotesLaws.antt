@@ -15,7 +15,7 @@ use Rattle.table.specs.Table.{upFrom, Row, IsTable}
 use Rattle.table.proofs.HeadLaws.{up-length}
 use Rattle.plan.specs.Runs.{Run, runs}
 use Rattle.plan.specs.Plans.{Plan, leaf, node, Branches, end, next, branches, branchesIn}
-use Rattle.plan.specs.Notes.{Branch, below, notes, notesIn, word, cellIn, skipIn, rowIn, slotIn, nextIn, aloneIn, flag, Fits}
+use Rattle.plan.specs.Notes.{Branch, below, notes, notesIn, word, cellIn, skipIn, rowNoted, slotIn, nextIn, aloneIn, flag, BranchFits}
 use Rattle.plan.specs.code.Fits as of-row
 use Rattle.plan.specs.code.Rows.{rowCount}
 use Rattle.plan.proofs.CheckLaws.{rows-fit}
@@ -50,7 +50,7 @@ below-length i a m slots h =
 pub record Parts (b : Branch) (w : ℕ) : Type 0 where
   pub cell : cellIn w ≡ b .cell
   pub skip : skipIn w ≡ b .skip
-  pub row : rowIn w ≡ b .row
+  pub row : rowNoted w ≡ b .row
   pub slot : slotIn w ≡ b .slot
   pub next : nextIn w ≡ b .next
   pub alone : aloneIn w ≡ b .alone
@@ -61,7 +61,7 @@ fields : (c s r n l a : ℕ) → c < 2 ^ 32 → s < 2 ^ 12 → r < 2 ^ 6 → n <
     × (w / 2 ^ 63 ≡ a)
 fields c s r n l a hc hs hr hn hl = (omega arith, omega arith, omega arith, omega arith, omega arith, omega arith)
 
-pub word-parts : (b : Branch) → Fits b → Parts b (word b)
+pub word-parts : (b : Branch) → BranchFits b → Parts b (word b)
 unfolding word
 word-parts b f =
     let h = fields (b .cell) (b .skip) (b .row) (b .next) (b .slot) (b .alone) (f .cell) (f .skip) (f .row) (omega (arith, f .next)) (f .slot) in
@@ -128,7 +128,7 @@ mutual
   unfolding notes branches
 
   fits : {k : ℕ} {rows : List (List ℕ)} (p : Plan k rows) (n : ℕ) (slots : List ℕ) (free row : ℕ) → All (of-row.Fits n k) rows → All Low rows
-      → 0 < length rows → row + length rows ≤ 64 → Small slots → branches p ≤ mostBranches → free + n ≤ 63 + k → All Fits (notes p slots free row)
+      → 0 < length rows → row + length rows ≤ 64 → Small slots → branches p ≤ mostBranches → free + n ≤ 63 + k → All BranchFits (notes p slots free row)
   fits leaf n slots free row f a h m s b e = tt
   fits (node {k} {rows} i l bs) n slots free row f a h m s b e =
       let q : n ≡ suc (pred n) = omega (arith, fits-some n k rows f h) in
@@ -137,14 +137,14 @@ mutual
 
   fitsIn : {k : ℕ} {gs : List Run} (bs : Branches k gs) (i n m : ℕ) (slots : List ℕ) (free row : ℕ) → Each (λ (c : ℕ). of-row.Fits n (arity c + k)) gs
       → Each LowRun gs → Sized m gs → row + rowCount gs ≤ 64 → Small slots → branchesIn bs ≤ mostBranches → free + n ≤ 63 + k
-      → All Fits (notesIn bs i slots free row)
+      → All BranchFits (notesIn bs i slots free row)
   fitsIn end i n m slots free row f a z h s b e = tt
   fitsIn (next {k} {g} p bs) i n m slots free row f a z h s b e =
       let c = g .cell in
       let r = first-row n k c (g .rows) (f .0) (a .0) (z .0 .0) in
       let more = row + length (g .rows) in (
         record { cell = r .0; skip = omega arith; row = omega (arith, z .0 .0); slot = slot-small slots i s; next = omega arith; alone = bit (flag g) },
-        all-++ Fits (notes p (below i (arity c) free slots) (free + arity c) row) (notesIn bs i slots free more)
+        all-++ BranchFits (notes p (below i (arity c) free slots) (free + arity c) row) (notesIn bs i slots free more)
             (fits p n (below i (arity c) free slots) (free + arity c) row (f .0) (all-each (LowRun c) Low (λ r x. x .1) (g .rows) (a .0)) (z .0 .0)
             (omega arith) (below-small i (arity c) free slots (omega arith) s) (omega arith) (omega arith))
             (fitsIn bs i n m slots free more (f .1) (a .1) (z .1) (omega arith) s (omega arith) e),
@@ -164,7 +164,7 @@ module _ {t : List ℕ} {w : ℕ} {rows : List (List ℕ)} (is : IsTable t w row
   pub branches-few : branches p ≤ mostBranches
   branches-few = omega (arith, bound p 32 (rows-fit w rows (is .each)) (is .count .0))
 
-  pub notes-fit : All Fits (notes p (upFrom 1 w) 32 0)
+  pub notes-fit : All BranchFits (notes p (upFrom 1 w) 32 0)
   notes-fit =
       fits p 32 (upFrom 1 w) 32 0 (rows-fit w rows (is .each)) (all-each (Row w) Low (λ r h. cells-low r (h .cells)) rows (is .each)) (is .count .0)
       (omega (arith, is .count .1)) (up-small 1 w (omega (arith, is .width))) (omega (arith, branches-few)) (omega (arith, is .width))

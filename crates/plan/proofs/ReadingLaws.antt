@@ -20,16 +20,16 @@ use Rattle.refusal.specs.Read.{Read, read, refuse, when, andThen}
 use Rattle.table.proofs.ReadLaws.{then-both}
 use Rattle.plan.specs.Runs.{Run, runs}
 use Rattle.plan.specs.Named.{spread, may}
-use Rattle.plan.specs.Check.{Seen, seen, bad, cellThen, Reader, branchesFrom, leafFrom, nodeFrom, stateFrom}
+use Rattle.plan.specs.Check.{Seen, seen, badPlan, cellThen, Reader, branchesFrom, leafFrom, nodeFrom, stateFrom}
 use Rattle.plan.proofs.RunsLaws.{Each, Sized, group-sizes, fits-some, fits-more, runs-fit}
 use Rattle.plan.specs.code.Fits.{Fits}
 
 -- one cell: ENDS, the test it fails, or on with the cells after it
 module _ {A : Type 0} (ok : ℕ → Bool) (n : Reason) (f : ℕ → List ℕ → Read A) (xs : List ℕ) (i : ℕ) where
-  cell-ends : length xs ≤ i → cellThen ok n i f (drop i xs) ≡ refuse (bad reason.Ends i)
+  cell-ends : length xs ≤ i → cellThen ok n i f (drop i xs) ≡ refuse (badPlan reason.Ends i)
   cell-ends h = rw (drop-of-length-le xs h)
 
-  cell-bad : i < length xs → ok (getD xs i 0) ≡ false → cellThen ok n i f (drop i xs) ≡ refuse (bad n i)
+  cell-bad : i < length xs → ok (getD xs i 0) ≡ false → cellThen ok n i f (drop i xs) ≡ refuse (badPlan n i)
   cell-bad h e = rw (drop-cons xs i 0 h, e)
 
   cell-on : i < length xs → ok (getD xs i 0) ≡ true → cellThen ok n i f (drop i xs) ≡ f (getD xs i 0) (drop (i + 1) xs)
@@ -37,10 +37,10 @@ module _ {A : Type 0} (ok : ℕ → Bool) (n : Reason) (f : ℕ → List ℕ →
 
 -- a leaf: ENDS, ROWS, or read
 module _ (rows : List (List ℕ)) (xs : List ℕ) (i : ℕ) where
-  pub leaf-ends : length xs ≤ i → leafFrom rows i (drop i xs) ≡ refuse (bad reason.Ends i)
+  pub leaf-ends : length xs ≤ i → leafFrom rows i (drop i xs) ≡ refuse (badPlan reason.Ends i)
   leaf-ends h = cell-ends _ reason.Rows _ xs i h
 
-  pub leaf-rows : i < length xs → getD xs i 0 ≢ length rows → leafFrom rows i (drop i xs) ≡ refuse (bad reason.Rows i)
+  pub leaf-rows : i < length xs → getD xs i 0 ≢ length rows → leafFrom rows i (drop i xs) ≡ refuse (badPlan reason.Rows i)
   leaf-rows h e = cell-bad _ reason.Rows _ xs i h (ne-eqb _ _ e)
 
   pub leaf-read : i < length xs → getD xs i 0 ≡ length rows → leafFrom rows i (drop i xs) ≡ read (seen 0 (i + 1) (drop (i + 1) xs))
@@ -48,13 +48,13 @@ module _ (rows : List (List ℕ)) (xs : List ℕ) (i : ℕ) where
 
 -- an inner state with k + 1 open places: ENDS, OPEN, EARLY, ENDS, EDGES, or on with the branches
 module _ (below : Reader) (fs : List Bool) (k : ℕ) (rows : List (List ℕ)) (xs : List ℕ) (i : ℕ) where
-  pub node-ends : length xs ≤ i → nodeFrom below fs k rows i (drop i xs) ≡ refuse (bad reason.Ends i)
+  pub node-ends : length xs ≤ i → nodeFrom below fs k rows i (drop i xs) ≡ refuse (badPlan reason.Ends i)
   node-ends h = cell-ends _ reason.Open _ xs i h
 
-  pub node-open : i < length xs → k < getD xs i 0 → nodeFrom below fs k rows i (drop i xs) ≡ refuse (bad reason.Open i)
+  pub node-open : i < length xs → k < getD xs i 0 → nodeFrom below fs k rows i (drop i xs) ≡ refuse (badPlan reason.Open i)
   node-open h e = cell-bad _ reason.Open _ xs i h (lt-leb _ _ e)
 
-  pub node-early : i < length xs → getD xs i 0 ≤ k → may fs (getD xs i 0) ≡ false → nodeFrom below fs k rows i (drop i xs) ≡ refuse (bad reason.Early i)
+  pub node-early : i < length xs → getD xs i 0 ≤ k → may fs (getD xs i 0) ≡ false → nodeFrom below fs k rows i (drop i xs) ≡ refuse (badPlan reason.Early i)
   node-early h e y = cell-on _ reason.Open _ xs i h (le-leb _ _ e) ∙ rw y
 
   node-edge : i < length xs → getD xs i 0 ≤ k → may fs (getD xs i 0) ≡ true → nodeFrom below fs k rows i (drop i xs)
@@ -62,11 +62,12 @@ module _ (below : Reader) (fs : List Bool) (k : ℕ) (rows : List (List ℕ)) (x
       (λ m zs. branchesFrom below fs (getD xs i 0) k (runs (getD xs i 0) rows) (i + 2) zs) (drop (i + 1) xs)
   node-edge h e y = let z : i + 2 ≡ suc (suc i) = omega arith in cell-on _ reason.Open _ xs i h (le-leb _ _ e) ∙ rw (y, add-one i, z)
 
-  pub node-ends-2 : i < length xs → length xs ≤ i + 1 → getD xs i 0 ≤ k → may fs (getD xs i 0) ≡ true → nodeFrom below fs k rows i (drop i xs) ≡ refuse (bad reason.Ends (i + 1))
+  pub node-ends-2 : i < length xs → length xs ≤ i + 1 → getD xs i 0 ≤ k → may fs (getD xs i 0) ≡ true
+      → nodeFrom below fs k rows i (drop i xs) ≡ refuse (badPlan reason.Ends (i + 1))
   node-ends-2 h l e y = node-edge h e y ∙ cell-ends _ reason.Edges _ xs (i + 1) l
 
   pub node-edges : i + 1 < length xs → getD xs i 0 ≤ k → may fs (getD xs i 0) ≡ true → getD xs (i + 1) 0 ≢ length (runs (getD xs i 0) rows)
-      → nodeFrom below fs k rows i (drop i xs) ≡ refuse (bad reason.Edges (i + 1))
+      → nodeFrom below fs k rows i (drop i xs) ≡ refuse (badPlan reason.Edges (i + 1))
   node-edges h e y m = node-edge (omega arith) e y ∙ cell-bad _ reason.Edges _ xs (i + 1) h (ne-eqb _ _ m)
 
   pub node-on : i + 1 < length xs → getD xs i 0 ≤ k → may fs (getD xs i 0) ≡ true → getD xs (i + 1) 0 ≡ length (runs (getD xs i 0) rows)
@@ -111,10 +112,10 @@ after-each (refuse g) f = refl
 
 -- the branches of some runs: ENDS, LABEL, what the state below is refused for, or on with the other runs
 module _ (below : Reader) (fs : List Bool) (j k : ℕ) (g : Run) (gs : List Run) (xs : List ℕ) (i : ℕ) where
-  pub branches-ends : length xs ≤ i → branchesFrom below fs j k (g ∷ gs) i (drop i xs) ≡ refuse (bad reason.Ends i)
+  pub branches-ends : length xs ≤ i → branchesFrom below fs j k (g ∷ gs) i (drop i xs) ≡ refuse (badPlan reason.Ends i)
   branches-ends h = cell-ends _ reason.Label _ xs i h
 
-  pub branches-label : i < length xs → getD xs i 0 ≢ g .cell → branchesFrom below fs j k (g ∷ gs) i (drop i xs) ≡ refuse (bad reason.Label i)
+  pub branches-label : i < length xs → getD xs i 0 ≢ g .cell → branchesFrom below fs j k (g ∷ gs) i (drop i xs) ≡ refuse (badPlan reason.Label i)
   branches-label h e = cell-bad _ reason.Label _ xs i h (ne-eqb _ _ e)
 
   branches-below : i < length xs → getD xs i 0 ≡ g .cell → branchesFrom below fs j k (g ∷ gs) i (drop i xs)
@@ -123,10 +124,12 @@ module _ (below : Reader) (fs : List Bool) (j k : ℕ) (g : Run) (gs : List Run)
   branches-below h e =
       cell-on _ reason.Label _ xs i h (eq-eqb _ _ e)
       ∙ rw (add-one i)
-      (after-each (below (spread j (arity (g .cell)) fs) (arity (g .cell) + k) (g .rows) (suc i) (drop (suc i) xs)) (λ (s : Seen). branchesFrom below fs j k gs (s .next) (s .rest)))
+      (after-each (below (spread j (arity (g .cell)) fs) (arity (g .cell) + k) (g .rows) (suc i) (drop (suc i) xs))
+          (λ (s : Seen). branchesFrom below fs j k gs (s .next) (s .rest)))
 
   pub branches-refused : (f : Refused) → i < length xs → getD xs i 0 ≡ g .cell
-      → below (spread j (arity (g .cell)) fs) (arity (g .cell) + k) (g .rows) (i + 1) (drop (i + 1) xs) ≡ refuse f → branchesFrom below fs j k (g ∷ gs) i (drop i xs) ≡ refuse f
+      → below (spread j (arity (g .cell)) fs) (arity (g .cell) + k) (g .rows) (i + 1) (drop (i + 1) xs) ≡ refuse f
+      → branchesFrom below fs j k (g ∷ gs) i (drop i xs) ≡ refuse f
   branches-refused f h e b = branches-below h e ∙ rw b
 
   pub branches-on : (s : Seen) → i < length xs → getD xs i 0 ≡ g .cell
@@ -139,12 +142,13 @@ abbrev Alike : ℕ → ℕ → Reader → Reader → Type 0
 Alike m n below other = (fs : List Bool) (k : ℕ) (rows : List (List ℕ)) → All (Fits m k) rows → All (Fits n k) rows → 0 < length rows → (p : ℕ) (xs : List ℕ)
     → below fs k rows p xs ≡ other fs k rows p xs
 
-branches-alike : (m n : ℕ) (below other : Reader) → Alike m n below other → (fs : List Bool) (j k z : ℕ) (gs : List Run) → Each (λ (c : ℕ). Fits m (arity c + k)) gs
+branches-alike : (m n : ℕ) (below other : Reader) → Alike m n below other → (fs : List Bool) (j k z : ℕ) (gs : List Run)
+    → Each (λ (c : ℕ). Fits m (arity c + k)) gs
     → Each (λ (c : ℕ). Fits n (arity c + k)) gs → Sized z gs → (p : ℕ) (xs : List ℕ) → branchesFrom below fs j k gs p xs ≡ branchesFrom other fs j k gs p xs
 branches-alike m n below other h fs j k z [] f f′ s p xs = refl
 branches-alike m n below other h fs j k z (g ∷ gs) f f′ s p [] = refl
 branches-alike m n below other h fs j k z (g ∷ gs) f f′ s p (c ∷ ys) =
-    ap (when (not (eqb c (g .cell))) (bad reason.Label p))
+    ap (when (not (eqb c (g .cell))) (badPlan reason.Label p))
     (rw (h (spread j (arity (g .cell)) fs) (arity (g .cell) + k) (g .rows) (f .0) (f′ .0) (s .0 .0) (suc p) ys)
     (then-both (other (spread j (arity (g .cell)) fs) (arity (g .cell) + k) (g .rows) (suc p) ys)
     (λ (t : Seen). rw (branches-alike m n below other h fs j k z gs (f .1) (f′ .1) (s .1) (t .next) (t .rest)))))
@@ -156,14 +160,15 @@ node-alike m n below other h fs k rows f f′ p (i ∷ []) = refl
 node-alike m n below other h fs k rows f f′ p (i ∷ c ∷ zs) = go (leb i k) refl
   where
     go : (b : Bool) → leb i k ≡ b
-        → when (not b) (bad reason.Open p) (when (not (may fs i)) (bad reason.Early p)
-        (when (not (eqb c (length (runs i rows)))) (bad reason.Edges (suc p)) (branchesFrom below fs i k (runs i rows) (suc (suc p)) zs)))
-        ≡ when (not b) (bad reason.Open p) (when (not (may fs i)) (bad reason.Early p)
-        (when (not (eqb c (length (runs i rows)))) (bad reason.Edges (suc p)) (branchesFrom other fs i k (runs i rows) (suc (suc p)) zs)))
+        → when (not b) (badPlan reason.Open p) (when (not (may fs i)) (badPlan reason.Early p)
+        (when (not (eqb c (length (runs i rows)))) (badPlan reason.Edges (suc p)) (branchesFrom below fs i k (runs i rows) (suc (suc p)) zs)))
+        ≡ when (not b) (badPlan reason.Open p) (when (not (may fs i)) (badPlan reason.Early p)
+        (when (not (eqb c (length (runs i rows)))) (badPlan reason.Edges (suc p)) (branchesFrom other fs i k (runs i rows) (suc (suc p)) zs)))
     go true e =
         let l : i ≤ k = leb-true i k e in
-        ap (λ (x : Read Seen). when (not (may fs i)) (bad reason.Early p) (when (not (eqb c (length (runs i rows)))) (bad reason.Edges (suc p)) x))
-        (branches-alike m n below other h fs i k (length rows) (runs i rows) (runs-fit m k i l rows f) (runs-fit n k i l rows f′) (group-sizes (root i) (close i) rows)
+        ap (λ (x : Read Seen). when (not (may fs i)) (badPlan reason.Early p) (when (not (eqb c (length (runs i rows)))) (badPlan reason.Edges (suc p)) x))
+        (branches-alike m n below other h fs i k (length rows) (runs i rows) (runs-fit m k i l rows f) (runs-fit n k i l rows f′)
+            (group-sizes (root i) (close i) rows)
         (suc (suc p)) zs)
     go false e = refl
 

@@ -46,7 +46,8 @@ twice-once [] e v h = omega arith
 twice-once (c ∷ xs) e v h =
     let o = or-false (isVar c && ltb 0 (count c xs)) (twice xs) e in
     by-cases (ℕ-discrete v c)
-    (λ q. let z = and-off (isVar c) (ltb 0 (count c xs)) (ap isVar (sym q) ∙ h) (o .0) in let n = ltb-false 0 (count c xs) z in rw (q, eqb-same c) (omega arith))
+    (λ q. let z = and-off (isVar c) (ltb 0 (count c xs)) (ap isVar (sym q) ∙ h) (o .0) in let n = ltb-false 0 (count c xs) z in
+        rw (q, eqb-same c) (omega arith))
     (λ q. let n = twice-once xs (o .1) v h in rw (ne-eqb v c q) (omega arith))
 
 pub once-twice : (xs : List ℕ) → ((v : ℕ) → isVar v ≡ true → count v xs ≤ 1) → twice xs ≡ false
@@ -112,10 +113,13 @@ module _ (P : ℕ → Type 0) where
   close-all (suc i) (c ∷ xs) a = (a .0, close-all (arity c + i) xs (a .1))
 
   good-close : (i k : ℕ) (r : List ℕ) → i ≤ k → Good P (suc k) r → Good P (arity (root i r) + k) (close i r)
-  good-close i k r h g = record { terms = close-terms i (g .terms) h; short = omega (arith, close-length i (g .terms) (omega arith), g .short); cells = close-all i r (g .cells) }
+  good-close i k r h g =
+      record { terms = close-terms i (g .terms) h; short = omega (arith, close-length i (g .terms) (omega arith), g .short); cells =
+          close-all i r (g .cells) }
 
   -- of a run's rows
-  first-good : (k c : ℕ) (rows : List (List ℕ)) → 0 < length rows → All (λ (r : List ℕ). P c × Good P (arity c + k) r) rows → P c × All (Good P (arity c + k)) rows
+  first-good : (k c : ℕ) (rows : List (List ℕ)) → 0 < length rows → All (λ (r : List ℕ). P c × Good P (arity c + k) r) rows
+      → P c × All (Good P (arity c + k)) rows
   first-good k c [] h a = absurd (omega arith)
   first-good k c (r ∷ rows) h a = (a .0 .0, all-each (λ (r : List ℕ). P c × Good P (arity c + k) r) (Good P (arity c + k)) (λ r g. g .1) (r ∷ rows) a)
 
@@ -133,7 +137,8 @@ module _ (P : ℕ → Type 0) where
     cells-all (node {k} {rows} i h bs) a d =
         cells-allIn bs (length rows) (group-sizes (root i) (close i) rows) (runs-lone i rows)
         (runs-distinct i k h rows (all-each (Good P (suc k)) (Terms (suc k)) (λ r g. g .terms) rows a) d)
-        (group-all (root i) (close i) (Good P (suc k)) (λ (c : ℕ) (r : List ℕ). P c × Good P (arity c + k) r) (λ r g. (root-all i k r (g .terms) h (g .cells), good-close i k r h g)) rows a)
+        (group-all (root i) (close i) (Good P (suc k)) (λ (c : ℕ) (r : List ℕ). P c × Good P (arity c + k) r)
+            (λ r g. (root-all i k r (g .terms) h (g .cells), good-close i k r h g)) rows a)
 
     cells-allIn : {k : ℕ} {gs : List Run} (bs : Branches k gs) (n : ℕ) → Sized n gs → Lone gs → All (λ (g : Run). Distinct (g .rows)) gs
         → Each (λ (c : ℕ) (r : List ℕ). P c × Good P (arity c + k) r) gs → CellsIn P bs
@@ -146,7 +151,8 @@ module _ (P : ℕ → Type 0) where
         )
 
   -- a plan for an accepted table
-  pub table-cells : {t : List ℕ} {w : ℕ} {rows : List (List ℕ)} → IsTable t w rows → ((r : List ℕ) → Head w r → (c : ℕ) → List·Memᴰ c r → P c) → (p : Plan w rows) → Cells P p
+  pub table-cells : {t : List ℕ} {w : ℕ} {rows : List (List ℕ)} → IsTable t w rows → ((r : List ℕ) → Head w r → (c : ℕ) → List·Memᴰ c r → P c)
+      → (p : Plan w rows) → Cells P p
   table-cells {w = w} {rows} is h p =
       cells-all p (all-each (Row w) (Good P w) (λ r x. record { terms = x .terms; short = x .short; cells = each r (h r x) }) rows (is .each)) (is .apart)
     where

@@ -26,13 +26,13 @@ abbrev pub seen : ℕ → ℕ → List ℕ → Seen
 seen b p xs = record { branches = b; next = p; rest = xs }
 
 -- a refusal of the plan
-abbrev pub bad : Reason → ℕ → Refused
-bad r p = refused r input.Plan p
+abbrev pub badPlan : Reason → ℕ → Refused
+badPlan r p = refused r input.Plan p
 
 -- one cell: ENDS where there is none, the given refusal where it fails the test, otherwise on with the cells after it
 abbrev pub cellThen : {A : Type 0} → (ℕ → Bool) → Reason → ℕ → (ℕ → List ℕ → Read A) → List ℕ → Read A
-cellThen ok n p f [] = refuse (bad reason.Ends p)
-cellThen ok n p f (c ∷ xs) = when (not (ok c)) (bad n p) (f c xs)
+cellThen ok n p f [] = refuse (badPlan reason.Ends p)
+cellThen ok n p f (c ∷ xs) = when (not (ok c)) (badPlan n p) (f c xs)
 
 -- how a state is read: the flags of its open places (02, W-213; none where no column is named), k open places, its rows, the place, the cells
 -- from there on
@@ -57,25 +57,25 @@ leafFrom rows p xs = cellThen (λ c. eqb c (length rows)) reason.Rows p (λ c ys
 abbrev pub nodeFrom : Reader → List Bool → ℕ → List (List ℕ) → ℕ → List ℕ → Read Seen
 nodeFrom below named places rows place cells =
     cellThen (λ c. leb c places) reason.Open place (λ index after.
-    when (not (may named index)) (bad reason.Early place) (
+    when (not (may named index)) (badPlan reason.Early place) (
     cellThen (λ c. eqb c (length (runs index rows))) reason.Edges (suc place) (λ count rest.
     branchesFrom below named index places (runs index rows) (suc (suc place)) rest) after)) cells
 
 -- a state. The first number bounds the depth and never decides: a row of n cells is looked at n times at most
 unfoldable pub stateFrom : ℕ → Reader
 stateFrom zero named zero rows p xs = leafFrom rows p xs
-stateFrom zero named (suc k) rows p xs = refuse (bad reason.Ends p)
+stateFrom zero named (suc k) rows p xs = refuse (badPlan reason.Ends p)
 stateFrom (suc n) named zero rows p xs = leafFrom rows p xs
 stateFrom (suc n) named (suc k) rows p xs = nodeFrom (λ fs j rs q ys. stateFrom n fs j rs q ys) named k rows p xs
 
 -- 01, EXTRA: "cells after the last row, goal or plan", at the first such
 abbrev pub nothingAfter : Seen → Read ℕ
-nothingAfter s = when (ltb 0 (length (s .rest))) (bad reason.Extra (s .next)) (read (s .branches))
+nothingAfter s = when (ltb 0 (length (s .rest))) (badPlan reason.Extra (s .next)) (read (s .branches))
 
 -- a plan for a table that is read, of the kind that looks into the columns first for which a flag stands: SIZE, the first state, EXTRA. A row
 -- has at most 32 cells
 unfoldable pub planWith : List Bool → Table → List ℕ → Read ℕ
-planWith named T p = when (ltb mostPlanCells (length p)) (bad reason.Size 0) (andThen (stateFrom mostRowCells named (T .width) (T .rows) 0 p) nothingAfter)
+planWith named T p = when (ltb mostPlanCells (length p)) (badPlan reason.Size 0) (andThen (stateFrom mostRowCells named (T .width) (T .rows) 0 p) nothingAfter)
 
 -- any plan: no column is named
 abbrev pub planFor : Table → List ℕ → Read ℕ

@@ -70,8 +70,8 @@ cellIn w = w % 2 ^ 32
 abbrev pub skipIn : ℕ → ℕ
 skipIn w = w / 2 ^ 32 % 2 ^ 12
 
-abbrev pub rowIn : ℕ → ℕ
-rowIn w = w / 2 ^ 44 % 2 ^ 6
+abbrev pub rowNoted : ℕ → ℕ
+rowNoted w = w / 2 ^ 44 % 2 ^ 6
 
 abbrev pub slotIn : ℕ → ℕ
 slotIn w = w / 2 ^ 57 % 2 ^ 6
@@ -83,7 +83,7 @@ abbrev pub aloneIn : ℕ → ℕ
 aloneIn w = w / 2 ^ 63
 
 -- every part has the bits that it needs, and the slots of the cell's arguments are below 64
-pub record Fits (b : Branch) : Type 0 where
+pub record BranchFits (b : Branch) : Type 0 where
   pub cell : b .cell < 2 ^ 32
   pub skip : b .skip < 2 ^ 12
   pub row : b .row < 2 ^ 6

@@ -58,7 +58,8 @@ cells-moved : (ps : List ℕ) (y : ℕ) (cs : List ℕ) → map cellIn (ps ++ (y
 cells-moved [] y cs = refl
 cells-moved (p ∷ ps) y cs = ap (λ (l : List ℕ). cellIn p ∷ l) (cells-moved ps y cs)
 
-pub one-moved : (rows : List (List ℕ)) (ps : List ℕ) (y : ℕ) (cs : List ℕ) → One rows (map cellIn ps ++ (cellIn y ∷ cs)) → One rows (map cellIn (ps ++ (y ∷ [])) ++ cs)
+pub one-moved : (rows : List (List ℕ)) (ps : List ℕ) (y : ℕ) (cs : List ℕ) → One rows (map cellIn ps ++ (cellIn y ∷ cs))
+    → One rows (map cellIn (ps ++ (y ∷ [])) ++ cs)
 one-moved rows ps y cs o = rw (cells-moved ps y cs) o
 
 pub finished-more : (s : ℕ) (ps : List ℕ) (y : ℕ) (cs zs : List ℕ)

@@ -19,7 +19,7 @@ use Rattle.table.specs.Table.{count}
 use Rattle.table.proofs.AllLaws.{all-at}
 use Rattle.plan.specs.Notes.{twice, repeats, cellIn}
 use Rattle.plannotes.specs.code.Places.{Spot, Closed}
-use Rattle.plannotes.specs.code.Steps.{partOf, endOf, ended, finished, Low, Part, Ending, Met, Begun}
+use Rattle.plannotes.specs.code.Steps.{partOf, endOf, ended, finished, Low, Part, Ending, BranchMet, Begun}
 use Rattle.plannotes.proofs.PlacesLaws.{spot-small}
 use Rattle.plannotes.proofs.AloneLaws.{met-mark}
 use Rattle.limits.specs.Limits.{mostBranches}
@@ -28,7 +28,8 @@ use Rattle.limits.specs.Limits.{mostBranches}
 part-cell : (c r n l : ℕ) → c < 2 ^ 32 → cellIn (partOf c r n l) ≡ c
 part-cell c r n l h = omega arith
 
-module _ {plan links notes : List ℕ} {i place made free row : ℕ} (w : Met plan links notes i place made free row) {a : ℕ} (e : a ≡ arity (getD plan place 0)) where
+module _ {plan links notes : List ℕ} {i place made free row : ℕ} (w : BranchMet plan links notes i place made free row) {a : ℕ}
+    (e : a ≡ arity (getD plan place 0)) where
   -- its place, with the number of arguments that the code counts
   pub spot-of : Spot links i a free
   spot-of = record { slots = w .spot .slots; opens = w .spot .opens; here = w .spot .here; room = rw e (w .spot .room) }
@@ -118,7 +119,8 @@ module _ {notes₀ : List ℕ} {from to past : ℕ} {notes seen : List ℕ} {aga
         let e : getD (slice from to notes₀) (i - 1 - from) 0 ≡ w =
         getD-drop from (take to notes₀) (i - 1 - from) 0 ∙ getD-take to notes₀ (from + (i - 1 - from)) 0 (omega (arith, f .up))
         ∙ ap (λ (n : ℕ). getD notes₀ n 0) (let q : from + (i - 1 - from) ≡ i - 1 = omega arith in q) in
-        subst P e (all-at P 0 (slice from to notes₀) (i - 1 - from) (omega (arith, length-slice from to notes₀ (omega (arith, E .on, E .few, E .size)), f .up)) a)
+        subst P e (all-at P 0 (slice from to notes₀) (i - 1 - from)
+            (omega (arith, length-slice from to notes₀ (omega (arith, E .on, E .few, E .size)), f .up)) a)
 
     pub word-low : Part (getD notes (i - 1) 0)
     word-low = rw read-is (one-of Part (E .parts))
@@ -126,18 +128,21 @@ module _ {notes₀ : List ℕ} {from to past : ℕ} {notes seen : List ℕ} {aga
     pub cell-low : {c : ℕ} → c ≡ cellIn (getD notes (i - 1) 0) → isVar c ≡ true → c < 32
     cell-low e = rw (e, read-is) (one-of (λ (p : ℕ). Low (cellIn p)) (E .low))
 
-    stored : (y : ℕ) → y ≡ ended (length (slice i to notes₀) + (past - to)) w + cond (repeats (cellIn w) cs) 1 0 * 2 ^ 63 → set notes (i - 1) y ≡ sets notes₀ (i - 1) (finished (past - to) (slice (i - 1) to notes₀) [])
+    stored : (y : ℕ) → y ≡ ended (length (slice i to notes₀) + (past - to)) w + cond (repeats (cellIn w) cs) 1 0 * 2 ^ 63
+        → set notes (i - 1) y ≡ sets notes₀ (i - 1) (finished (past - to) (slice (i - 1) to notes₀) [])
     unfolding finished
     stored y e =
         let q : suc (i - 1) ≡ i = omega arith in
         let F : List ℕ = finished (past - to) (slice i to notes₀) [] in
-        let l : set notes (i - 1) y ≡ sets (set notes₀ (i - 1) y) i F = ap (λ (l : List ℕ). set l (i - 1) y) (f .done) ∙ set-sets notes₀ (i - 1) i y F (omega arith) in
+        let l : set notes (i - 1) y ≡ sets (set notes₀ (i - 1) y) i F =
+            ap (λ (l : List ℕ). set l (i - 1) y) (f .done) ∙ set-sets notes₀ (i - 1) i y F (omega arith) in
         let r : finished (past - to) (slice (i - 1) to notes₀) [] ≡ y ∷ F =
         ap (λ (l : List ℕ). finished (past - to) l []) sliced ∙ rw (append-nil cs) (ap (λ (z : ℕ). z ∷ F) (sym e)) in
         l ∙ ap (λ (n : ℕ). sets (set notes₀ (i - 1) y) n F) (sym q) ∙ ap (sets notes₀ (i - 1)) (sym r)
 
     next : {y again′ : ℕ} {seen′ : List ℕ} → y ≡ ended (length (slice i to notes₀) + (past - to)) w + cond (repeats (cellIn w) cs) 1 0 * 2 ^ 63
-        → ((v : ℕ) → v < 32 → getD seen′ v 0 ≡ cond (ltb 0 (count v (cellIn w ∷ cs))) 1 0) → again′ ≡ cond (twice (cellIn w ∷ cs)) 1 0 * 2 ^ 63 → length seen′ ≡ 32
+        → ((v : ℕ) → v < 32 → getD seen′ v 0 ≡ cond (ltb 0 (count v (cellIn w ∷ cs))) 1 0) → again′ ≡ cond (twice (cellIn w ∷ cs)) 1 0 * 2 ^ 63
+        → length seen′ ≡ 32
         → Finishing notes₀ from to past (set notes (i - 1) y) seen′ again′ (i - 1)
     next {y} e m t z = record {
       down = omega arith;
@@ -168,7 +173,8 @@ module _ {notes₀ : List ℕ} {from to past : ℕ} {notes seen : List ℕ} {aga
         let q : cellIn w ≡ c = rw (← read-is) (sym ec) in
         let hc : isVar (cellIn w) ≡ true = rw q v in
         let l : c < 32 = cell-low ec v in
-        let t : r ≡ cond (twice (cellIn w ∷ cs)) 1 0 * 2 ^ 63 = er ∙ rw (q, v) (met-mark (getD seen c 0) again (ltb 0 (count c cs)) (twice cs) (f .met c l) (f .twice-met)) in
+        let t : r ≡ cond (twice (cellIn w ∷ cs)) 1 0 * 2 ^ 63 =
+            er ∙ rw (q, v) (met-mark (getD seen c 0) again (ltb 0 (count c cs)) (twice cs) (f .met c l) (f .twice-met)) in
         next (rw (read-is, ex, below-it) (ap (λ (z : ℕ). w + endOf (past - i) + z) (t ∙ rw hc refl)))
         (λ u k. rw (es, q) (by-cases (ℕ-discrete u c)
         (λ e. rw e (getD-set-same seen c 1 0 (omega (arith, f .size-seen)) ∙ met-same c cs))

@@ -17,10 +17,11 @@ use Rattle.plan.specs.Runs.{Run, run}
 use Rattle.plan.specs.Plans.{Branches, end, next, write, writes, branches, branchesIn}
 use Rattle.plan.specs.Notes.{Branch, branch, flag, repeats, below, notes, notesIn, word, cellIn}
 use Rattle.plan.specs.code.Rows.{rowCount}
-use Rattle.plannotes.specs.code.Steps.{partOf, ended, finished, Low, Part, Ending, Met, Begun}
+use Rattle.plannotes.specs.code.Steps.{partOf, ended, finished, Low, Part, Ending, BranchMet, Begun}
 use Rattle.plannotes.specs.code.Tree.{Ready, ReadyAt, notesAt, StateDone, BranchDone, One, Went, Followed}
 use Rattle.plannotes.specs.declared.tree.Past.{Past}
-use Rattle.plannotes.proofs.TreeLaws.{ReadyIn, Inside, inside, first-of, met, arity-is, number-is, number-low, number-cell, lower-of, words-count, done-long}
+use Rattle.plannotes.proofs.TreeLaws.{ReadyIn, Inside, inside, first-of, met, arity-is, number-is, number-low, number-cell, lower-of}
+use Rattle.plannotes.proofs.TreeLaws.{words-count, done-long}
 use Rattle.plannotes.proofs.AloneLaws.{flag-is, one-more, one-run, one-leaf, one-moved, finished-more, finished-length}
 
 -- the number of a branch that has ended
@@ -60,7 +61,8 @@ module _ {plan links noted : List ℕ} {at k made free row : ℕ} (w : Ready pla
     pub rows : length (w .rows) ≡ length (one .group .rows)
     pub alone : (cs : List ℕ) → One (one .group .rows) cs → One (w .rows) (one .group .cell ∷ cs)
 
-  only-by : {groups : List Run} (trees : Branches (k - 1) groups) → length groups ≡ 1 → ReadyIn plan links noted (w .slots) (getD plan at 0) (at + 2) k made free row trees
+  only-by : {groups : List Run} (trees : Branches (k - 1) groups) → length groups ≡ 1
+      → ReadyIn plan links noted (w .slots) (getD plan at 0) (at + 2) k made free row trees
       → notes (w .tree) (w .slots) free row ≡ notesIn trees (getD plan at 0) (w .slots) free row → branches (w .tree) ≡ branchesIn trees
       → length (write (w .tree)) ≡ suc (suc (length (writes trees))) → length (w .rows) ≡ rowCount groups
       → ((g : Run) (cs : List ℕ) → groups ≡ g ∷ [] → One (g .rows) cs → One (w .rows) (g .cell ∷ cs)) → Only
@@ -153,7 +155,8 @@ module _ {plan links noted : List ℕ} {at k made free row : ℕ} (w : Ready pla
         })
 
     pub went-on : 0 < k′ → getD plan (at′ + 1) 0 ≡ 1 → {links″ noted″ : List ℕ} {a : ℕ}
-        → ((x : Met plan links′ noted′ (getD plan at′ 0) (at′ + 2) made′ free′ row) → Begun x links″ noted″ a) → Went w links″ noted″ (at′ + 3) (a + (k′ - 1)) (made′ + 1) (free′ + a)
+        → ((x : BranchMet plan links′ noted′ (getD plan at′ 0) (at′ + 2) made′ free′ row) → Begun x links″ noted″ a)
+        → Went w links″ noted″ (at′ + 3) (a + (k′ - 1)) (made′ + 1) (free′ + a)
     went-on l e f = let o = only (g .lower) l e in went-by o (f (met (o .one)))
 
 -- A branch and all below it: numbers that are written over, and the end.
@@ -173,7 +176,8 @@ stored-over l i [] [] B e = refl
 stored-over l i [] (a′ ∷ A′) B e = absurd (omega arith)
 stored-over l i (a ∷ A) [] B e = absurd (omega arith)
 stored-over l i (a ∷ A) (a′ ∷ A′) B e =
-    ap (λ (x : List ℕ). sets x (suc i) A′) (set-sets (set l i a) i (suc i) a′ (A ++ B) (omega arith) ∙ ap (λ (x : List ℕ). sets x (suc i) (A ++ B)) (set-set l i a a′))
+    ap (λ (x : List ℕ). sets x (suc i) A′) (set-sets (set l i a) i (suc i) a′ (A ++ B) (omega arith)
+        ∙ ap (λ (x : List ℕ). sets x (suc i) (A ++ B)) (set-set l i a a′))
     ∙ stored-over (set l i a′) (suc i) A A′ B (omega arith)
 
 -- three stores one after another
@@ -245,7 +249,8 @@ module _ {plan links noted : List ℕ} {i place k made free row : ℕ} (w : Read
           let f : flag (run c (w .group .rows)) ≡ repeats (cellIn y) (map cellIn (went .parts) ++ []) =
           rw (number-cell w b) (flag-is (w .group) (map cellIn (went .parts) ++ []) (w .sound .lone) (h .0)) in
           let n : map word (notesAt (w .tree) c i (w .slots) free row) ≡ X ++ W =
-          ap₂ (λ (x : ℕ) (xs : List ℕ). x ∷ xs) (word-is c (branches (w .tree)) row (getD (w .slots) i 0) free (flag (run c (w .group .rows))) ∙ rw (f, all) refl) (h .1) in
+          ap₂ (λ (x : ℕ) (xs : List ℕ). x ∷ xs) (word-is c (branches (w .tree)) row (getD (w .slots) i 0) free (flag (run c (w .group .rows)))
+              ∙ rw (f, all) refl) (h .1) in
           let z : noted₄ ≡ sets noted₃ made X = rw (over, sliced) at e in
           record {
             wrote = z ∙ rw stored (stored-over noted made (y ∷ went .parts) X W (finished-length s (y ∷ went .parts) [])) ∙ ap (sets noted made) (sym n);

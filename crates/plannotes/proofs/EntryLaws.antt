@@ -23,8 +23,8 @@ use Rattle.checker.specs.Checked.{planSays, planTold}
 use Rattle.checker.specs.declared.PlanAnswer.{PlanAnswer}
 use Rattle.checker.specs.declared.PlanAnswer.the-variants as plan-answer
 use Rattle.checker.proofs.Accepts.{PlanFor}
-use Rattle.plannotes.specs.Noted.{Handed, noted, refused}
-use Rattle.plannotes.specs.code.Places.{Apart, Open}
+use Rattle.plannotes.specs.Noted.{NotedInto, noted, refused}
+use Rattle.plannotes.specs.code.Places.{NoSlotTwice, Open}
 use Rattle.plannotes.specs.code.Steps.{Low}
 use Rattle.plannotes.specs.code.Tree.{Ready, StateDone, Accepted, AllNoted}
 use Rattle.plannotes.specs.declared.tree.Past.{Past}
@@ -34,7 +34,7 @@ use Rattle.limits.specs.Limits.{mostBranches}
 
 -- the width's arguments stand open in the slots after the head
 start : (w : ℕ) → w ≤ 8 → Open (upFrom 1 64) 32 (upFrom 1 w)
-unfolding Apart
+unfolding NoSlotTwice
 start w h = record {
   path = up-path (upFrom 1 64) 0 w (λ j l k. up-at 1 64 j (omega arith) ∙ omega arith);
   made = (omega arith, up-all (λ (x : ℕ). x < 32) 1 w (λ x k l. omega arith));
@@ -89,14 +89,15 @@ module _ {t p : List ℕ} {b : ℕ} (x : PlanFor t p b) where
     accepted-plan = rw (two-cells .1) accepted-there
 
     pub handed-on : {array′ : List ℕ} → ((w : Accepted p array (getD t 0 0)) → AllNoted w array′)
-        → Handed t p array array′ (record { answer = plan-answer.Accepted b; width = getD t 0 0; rows = getD t 1 0 })
+        → NotedInto t p array array′ (record { answer = plan-answer.Accepted b; width = getD t 0 0; rows = getD t 1 0 })
     unfolding accepted-there
     handed-on {array′} f =
         let w : ℕ = x .table .width in
         let W : List ℕ = map word (notes (x .tree) (upFrom 1 w) 32 0) in
         let q : 0 + length W ≡ branches (x .tree) = omega (arith, words-count (x .tree) (upFrom 1 w) 32 0) in
         let s : array′ ≡ sets array 0 W = (rw (two-cells .1) at f) accepted-there in
-        noted (x .table) (x .tree) (table-accepted t w (x .table .rows) .1 (x .is)) (sym (x .cells)) (ap plan-answer.Accepted (sym (x .count))) (two-cells .1) (two-cells .2)
+        noted (x .table) (x .tree) (table-accepted t w (x .table .rows) .1 (x .is)) (sym (x .cells)) (ap plan-answer.Accepted (sym (x .count)))
+            (two-cells .1) (two-cells .2)
         (s ∙ sets-eq W array 0 (omega (arith, branches-few (x .is) (x .tree))) ∙ ap (λ (k : ℕ). W ++ drop k array) q)
 
 -- The table or the plan is turned away.
@@ -105,5 +106,5 @@ says-refused (read n) f e = absurd (let z : _≡_ {A = ℕ} 0 1 = cc in omega ar
 says-refused (refuse g) f e = cc
 
 pub turned-away : (t p array : List ℕ) {r : PlanAnswer} → planTold r ≡ planSays (planOf t p) → {f : Refusal} → r ≡ plan-answer.Refused f
-    → Handed t p array array (record { answer = plan-answer.Refused f; width = 0; rows = 0 })
+    → NotedInto t p array array (record { answer = plan-answer.Refused f; width = 0; rows = 0 })
 turned-away t p array promise {f} e = refused (told f) (says-refused (planOf t p) (told f) (sym promise ∙ ap planTold e)) refl refl refl refl

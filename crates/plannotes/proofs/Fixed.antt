@@ -13,7 +13,7 @@ use Rattle.checker.specs.Checked.{planTold}
 use Rattle.checker.specs.declared.PlanAnswer.{PlanAnswer}
 use Rattle.checker.specs.declared.PlanAnswer.the-variants as plan-answer
 use Rattle.checker.proofs.Fixed.{plan-fixed}
-use Rattle.plannotes.specs.Noted.{Handed, noted, refused}
+use Rattle.plannotes.specs.Noted.{NotedInto, noted, refused}
 use Rattle.plannotes.specs.declared.Noted.{Noted}
 use Rattle.plannotes.proofs.HandedLaws.{handed-says}
 
@@ -26,7 +26,7 @@ not-both : {n : ℕ} {f : Refused} {a : PlanAnswer} {B : Type 0} → a ≡ plan-
 not-both e q = absurd (let z : _≡_ {A = ℕ} 0 1 = cc (ap planTold e) in omega arith)
 
 -- check_noted: the answer is that of the check, and the cells tell the plan, which tells what is noted
-pub handed-fixed : {t p before after after′ : List ℕ} {m n : Noted} → Handed t p before after m → Handed t p before after′ n → (m ≡ n) × (after ≡ after′)
+pub handed-fixed : {t p before after after′ : List ℕ} {m n : Noted} → NotedInto t p before after m → NotedInto t p before after′ n → (m ≡ n) × (after ≡ after′)
 handed-fixed {t} {p} {before} {after} {after′} {m} {n} x y = by-parts (plan-fixed t p (handed-says x) (handed-says y)) (others x y)
   where
     make : PlanAnswer → ℕ → ℕ → Noted
@@ -35,7 +35,7 @@ handed-fixed {t} {p} {before} {after} {after′} {m} {n} x y = by-parts (plan-fi
     by-parts : m .answer ≡ n .answer → (m .width ≡ n .width) × (m .rows ≡ n .rows) × (after ≡ after′) → (m ≡ n) × (after ≡ after′)
     by-parts a o = (ap (λ (x : PlanAnswer). make x (m .width) (m .rows)) a ∙ ap₂ (make (n .answer)) (o .0) (o .1), o .2)
 
-    others : Handed t p before after m → Handed t p before after′ n → (m .width ≡ n .width) × (m .rows ≡ n .rows) × (after ≡ after′)
+    others : NotedInto t p before after m → NotedInto t p before after′ n → (m .width ≡ n .width) × (m .rows ≡ n .rows) × (after ≡ after′)
     others (noted T tree e c a w r k) (noted T′ tree′ e′ c′ a′ w′ r′ k′) =
         let q : T ≡ T′ = cc in
         let s = ap (λ (l : List ℕ). l ++ []) (sym c ∙ c′) in (

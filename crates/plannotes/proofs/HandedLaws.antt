@@ -18,19 +18,19 @@ use Rattle.plan.proofs.NotesLaws.{notes-fit}
 use Rattle.plan.proofs.PlansLaws.{write-one}
 use Rattle.checker.specs.Checked.{planSays, planTold}
 use Rattle.checker.specs.declared.PlanAnswer.the-variants as plan-answer
-use Rattle.plannotes.specs.Noted.{Handed, noted, refused}
+use Rattle.plannotes.specs.Noted.{NotedInto, noted, refused}
 use Rattle.plannotes.specs.code.ForRun.{ForRun}
 use Rattle.plannotes.specs.declared.Noted.{Noted}
 use Rattle.plannotes.proofs.TreeLaws.{words-count}
 
 -- It has the answer of the check.
-pub handed-says : {t p before after : List ℕ} {m : Noted} → Handed t p before after m → planTold (m .answer) ≡ planSays (planOf t p)
+pub handed-says : {t p before after : List ℕ} {m : Noted} → NotedInto t p before after m → planTold (m .answer) ≡ planSays (planOf t p)
 handed-says {t} {p} (noted T tree e c a w n k) =
     ap planTold a ∙ rw (e, accepted-one T (is-table t e) p (branches tree) .1 (tree, sym c, refl, λ q z. write-one q tree (z ∙ c)))
 handed-says (refused f e a w n k) = a ∙ rw e
 
 -- Where the plan is accepted.
-pub for-run : {t p before after : List ℕ} {m : Noted} {b : ℕ} → Handed t p before after m → m .answer ≡ plan-answer.Accepted b
+pub for-run : {t p before after : List ℕ} {m : Noted} {b : ℕ} → NotedInto t p before after m → m .answer ≡ plan-answer.Accepted b
     → ForRun t p after b (m .width) (m .rows)
 for-run {t} {p} {before} {m = m} {b} (noted T tree e c a w n k) d =
     let q : planTold (m .answer) ≡ answered b 0 = ap planTold d in
@@ -54,7 +54,7 @@ for-run {m = m} {b} (refused f e a w n k) d =
     absurd (let z : _≡_ {A = ℕ} 0 1 = cc in omega arith)
 
 -- Where the table or the plan is turned away.
-pub no-run : {t p before after : List ℕ} {m : Noted} {f : Refusal} → Handed t p before after m → m .answer ≡ plan-answer.Refused f
+pub no-run : {t p before after : List ℕ} {m : Noted} {f : Refusal} → NotedInto t p before after m → m .answer ≡ plan-answer.Refused f
     → (planOf t p ≡ refuse (told f)) × (after ≡ before)
 no-run {m = m} {f = f} (noted T tree e c a w n k) d =
     let q : planTold (m .answer) ≡ turned (told f) = ap planTold d in

@@ -12,7 +12,7 @@ use Rattle.table.proofs.AllLaws.{all-each, all-both, all-front, all-back, all-+
 use Rattle.table.specs.Table.{upFrom}
 use Rattle.table.proofs.HeadLaws.{up-length}
 use Rattle.plan.specs.Notes.{below}
-use Rattle.plannotes.specs.code.Places.{steps, hopOf, Path, lastOf, Apart, lastNew, Open, Spot, Closed}
+use Rattle.plannotes.specs.code.Places.{steps, hopOf, Path, lastOf, NoSlotTwice, lastNew, Open, Spot, Closed}
 
 -- Along the links, one at a time.
 
@@ -65,21 +65,21 @@ Off x ys = All (λ (y : ℕ). x ≢ y) ys
 unequal : (x y : ℕ) → x < y → x ≢ y
 unequal x y h e = omega arith
 
-pub up-apart : (m a : ℕ) → Apart (upFrom m a)
-unfolding upFrom Apart
+pub up-apart : (m a : ℕ) → NoSlotTwice (upFrom m a)
+unfolding upFrom NoSlotTwice
 up-apart m zero = tt
 up-apart m (suc a) = (up-all (λ (x : ℕ). m ≢ x) (suc m) a (λ x h k. unequal m x (omega arith)), up-apart (suc m) a)
 
-apart-split : (xs ys : List ℕ) → Apart (xs ++ ys) → Apart xs × Apart ys × All (λ (x : ℕ). Off x ys) xs
-unfolding Apart
+apart-split : (xs ys : List ℕ) → NoSlotTwice (xs ++ ys) → NoSlotTwice xs × NoSlotTwice ys × All (λ (x : ℕ). Off x ys) xs
+unfolding NoSlotTwice
 apart-split [] ys a = (tt, a, tt)
 apart-split (x ∷ xs) ys a =
     let r = apart-split xs ys (a .1) in
     let P : ℕ → Type 0 = λ (y : ℕ). x ≢ y in
     ((all-front P xs ys (a .0), r .0), r .1, (all-back P xs ys (a .0), r .2))
 
-apart-join : (xs ys : List ℕ) → Apart xs → Apart ys → All (λ (x : ℕ). Off x ys) xs → Apart (xs ++ ys)
-unfolding Apart
+apart-join : (xs ys : List ℕ) → NoSlotTwice xs → NoSlotTwice ys → All (λ (x : ℕ). Off x ys) xs → NoSlotTwice (xs ++ ys)
+unfolding NoSlotTwice
 apart-join [] ys a b c = b
 apart-join (x ∷ xs) ys a b c = (all-++ (λ (y : ℕ). x ≢ y) xs ys (a .0) (c .0), apart-join xs ys (a .1) b (c .1))
 
@@ -129,8 +129,8 @@ reads-all P h [] a = tt
 reads-all P h (x ∷ xs) a = (a .0, reads-all P x xs (a .1))
 
 -- the last slot is not read
-reads-apart : (h : ℕ) (xs : List ℕ) → Apart (h ∷ xs) → All (λ (j : ℕ). j ≢ lastOf h xs) (reads h xs)
-unfolding reads lastOf Apart
+reads-apart : (h : ℕ) (xs : List ℕ) → NoSlotTwice (h ∷ xs) → All (λ (j : ℕ). j ≢ lastOf h xs) (reads h xs)
+unfolding reads lastOf NoSlotTwice
 reads-apart h [] a = tt
 reads-apart h (x ∷ xs) a = (all-last (λ (y : ℕ). h ≢ y) x xs (a .0), reads-apart x xs (a .1))
 
@@ -175,7 +175,7 @@ module _ {links : List ℕ} {m : ℕ} (A : List ℕ) (s : ℕ) (B : List ℕ) (o
   made-after : Made (s ∷ B)
   made-after = all-back (λ (x : ℕ). x < m) (0 ∷ A) (s ∷ B) (o .made)
 
-  slots-apart : Apart (0 ∷ A) × Apart (s ∷ B) × All (λ (x : ℕ). Off x (s ∷ B)) (0 ∷ A)
+  slots-apart : NoSlotTwice (0 ∷ A) × NoSlotTwice (s ∷ B) × All (λ (x : ℕ). Off x (s ∷ B)) (0 ∷ A)
   slots-apart = apart-split (0 ∷ A) (s ∷ B) (o .apart)
 
   paths : Path links 0 A × Path links b (s ∷ B)
@@ -264,8 +264,8 @@ module _ {links : List ℕ} {m : ℕ} (A : List ℕ) (s : ℕ) (B : List ℕ) (o
     off-new : (x : ℕ) → x < m → Off x (upFrom m a)
     off-new x h = up-all (λ (y : ℕ). x ≢ y) m a (λ y k l. unequal x y (omega arith))
 
-    news-apart : Apart (upFrom m a ++ B)
-    unfolding Apart
+    news-apart : NoSlotTwice (upFrom m a ++ B)
+    unfolding NoSlotTwice
     news-apart =
         apart-join (upFrom m a) B (up-apart m a) (slots-apart .1 .1)
         (up-all (λ (x : ℕ). Off x B) m a

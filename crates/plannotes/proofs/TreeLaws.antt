@@ -22,7 +22,7 @@ use Rattle.plan.proofs.PlansLaws.{leaf-cells}
 use Rattle.plan.proofs.RunsLaws.{Each, Sized, group-rows, group-sizes, fits-some, runs-fit}
 use Rattle.plan.specs.code.Rows.{rowCount}
 use Rattle.plannotes.specs.code.Places.{Open}
-use Rattle.plannotes.specs.code.Steps.{partOf, Low, Part, Met, Begun}
+use Rattle.plannotes.specs.code.Steps.{partOf, Low, Part, BranchMet, Begun}
 use Rattle.plannotes.specs.code.Tree.{Ready, ReadyAt, notesAt, Done, StateDone, BranchDone}
 use Rattle.plannotes.specs.declared.tree.Past.{Past}
 use Rattle.limits.specs.Limits.{mostBranches, mostPlanCells}
@@ -260,9 +260,10 @@ module _ {plan links noted : List ℕ} {i place k made free row : ℕ} (w : Read
 
   pub branch-bounds : (place < length plan) × (length plan ≤ mostPlanCells) × (0 < k) × (arity c + (k - 1) ≤ 32) × (made < mostBranches) × (free + arity c ≤ 63)
   branch-bounds =
-      (branch-read .0, w .size, omega (arith, w .here), omega (arith, open-below, w .deep), omega (arith, w .room), omega (arith, open-below, w .enough, w .here))
+      (branch-read .0, w .size, omega (arith, w .here), omega (arith, open-below, w .deep), omega (arith, w .room),
+          omega (arith, open-below, w .enough, w .here))
 
-  pub met : Met plan links noted i place made free row
+  pub met : BranchMet plan links noted i place made free row
   met = record {
     here = branch-read .0;
     spot = record { slots = w .slots; opens = w .opens; here = omega (arith, w .here, w .number); room = rw (branch-read .1) (omega (arith, branch-bounds)) };
@@ -383,7 +384,9 @@ module _ {plan links noted₀ : List ℕ} {at k made₀ free row₀ : ℕ} (w : 
           rest = record {
             ready = others-of (r .ready) d;
             number = omega (arith, r .number);
-            wrote = rw (d .wrote, e, d .has) (sets-more noted made (made + 1 + branches p) (map word A) (map word B) (omega arith) ∙ ap (sets noted made) (sym (map-append word A B)) ∙ r .wrote);
+            wrote =
+                rw (d .wrote, e, d .has) (sets-more noted made (made + 1 + branches p) (map word A) (map word B) (omega arith)
+                    ∙ ap (sets noted made) (sym (map-append word A B)) ∙ r .wrote);
             after = omega (arith, r .after, d .after, length-append (write p) (writes bs));
             count = omega (arith, r .count, d .next);
             has = omega (arith, r .has, d .has);

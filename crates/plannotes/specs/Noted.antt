@@ -15,11 +15,12 @@ use Rattle.plannotes.specs.declared.Noted.{Noted}
 
 -- Of a table t, a plan p and the lent numbers, before and after. Where the plan is accepted: its number of branches, the table's width and
 -- number of rows, and in the first of the numbers one for each branch, in plan order; the other numbers are as they were. The goal's
--- arguments have the slots from 1 on, those from 32 on are free, and the first row is row 0. Where the table or the plan is turned away: the refusal, 0 and 0, and
+-- arguments have the slots from 1 on, those from 32 on are free, and the first row is row 0. Where the table or the plan is turned away: the refusal,
+-- 0 and 0, and
 -- no number is changed.
-pub data Handed (t p before after : List ℕ) (m : Noted) : Type 0 where
+pub data NotedInto (t p before after : List ℕ) (m : Noted) : Type 0 where
   noted : (T : Table) (tree : Plan (T .width) (T .rows)) → tableOf t ≡ read T → p ≡ write tree
       → m .answer ≡ plan-answer.Accepted (branches tree) → m .width ≡ T .width → m .rows ≡ length (T .rows)
-      → after ≡ map word (notes tree (upFrom 1 (T .width)) 32 0) ++ drop (branches tree) before → Handed t p before after m
+      → after ≡ map word (notes tree (upFrom 1 (T .width)) 32 0) ++ drop (branches tree) before → NotedInto t p before after m
   refused : (f : Refused) → planOf t p ≡ refuse f → planTold (m .answer) ≡ turned f → m .width ≡ 0 → m .rows ≡ 0 → after ≡ before
-      → Handed t p before after m
+      → NotedInto t p before after m

@@ -7,7 +7,7 @@ ghost use Prim.Native.Nat.{_-_, _^_, _<_};
 ghost use lib.Dec.{eqb};
 ghost use lib.ListN.{length, getD, set};
 ghost use lib.Seq.{sets, slice};
-ghost use Rattle.plannotes.specs.code.Steps.{partOf, endOf, finished, Ending, Met, Begun};
+ghost use Rattle.plannotes.specs.code.Steps.{partOf, endOf, finished, Ending, BranchMet, Begun};
 use super::packed::cell_of;
 use super::places::close;
 
@@ -42,8 +42,8 @@ pub fn begin(
     free: usize,
     row: usize,
 ) -> usize
-    requires { ⌜ Met (now plan) (now links) (now notes) i place made free row ⌝ }
-    ensures { λ a. ⌜ ((w : Met (now (plan .entry)) (now (links .entry)) (now (notes .entry)) i place made free row) → Begun w
+    requires { ⌜ BranchMet (now plan) (now links) (now notes) i place made free row ⌝ }
+    ensures { λ a. ⌜ ((w : BranchMet (now (plan .entry)) (now (links .entry)) (now (notes .entry)) i place made free row) → Begun w
         (now (links .exit)) (now (notes .exit)) a) ⌝ }
 {
     let c = plan[place];

@@ -4,7 +4,7 @@ pub mod packed;
 mod places;
 mod tree;
 
-ghost use Rattle.plannotes.specs.Noted.{Handed};
+ghost use Rattle.plannotes.specs.Noted.{NotedInto};
 ghost use Rattle.plannotes.specs.code.Tree.{Accepted, AllNoted};
 use checker::PlanAnswer;
 use limits::BRANCHES;
@@ -28,7 +28,7 @@ fn note_plan(plan: &[u32], width: usize, notes: &mut [u64])
 // The check of any plan for a table. Of an accepted plan, what a run needs is noted in the first of the lent numbers, one for each branch.
 // Where the table or the plan is turned away, none of them is changed.
 pub fn check_noted(table: &[u32], plan: &[u32], notes: &mut [u64; BRANCHES]) -> Noted
-    ensures { λ r. ⌜ Handed (now (table .entry)) (now (plan .entry)) (now (notes .entry)) (now (notes .exit)) r ⌝ }
+    ensures { λ r. ⌜ NotedInto (now (table .entry)) (now (plan .entry)) (now (notes .entry)) (now (notes .exit)) r ⌝ }
 {
     match checker::check_plan(table, plan) {
         PlanAnswer::Accepted(branches) => {

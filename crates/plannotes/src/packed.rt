@@ -1,7 +1,7 @@
 // The number that is noted of a branch, taken apart (crate plan, specs/Notes).
 ghost use mathlib.Core.Path.{_≡_};
 ghost use lib.Dec.{eqb};
-ghost use Rattle.plan.specs.Notes.{cellIn, skipIn, rowIn, slotIn, nextIn, aloneIn};
+ghost use Rattle.plan.specs.Notes.{cellIn, skipIn, rowNoted, slotIn, nextIn, aloneIn};
 
 pub fn wide(x: u8) -> usize
     ensures { λ r. ⌜ r ≡ x ⌝ }
@@ -31,7 +31,7 @@ pub fn skip_of(w: u64) -> usize
 
 // Bits 49..44: its first row.
 pub fn row_of(w: u64) -> u8
-    ensures { λ r. ⌜ r ≡ rowIn w ⌝ }
+    ensures { λ r. ⌜ r ≡ rowNoted w ⌝ }
 {
     ((w >> 44) & 0x3f) as u8
 }

@@ -10,7 +10,7 @@ use Rattle.cell.proofs.SignedLaws.{signed-range}
 use Rattle.cell.proofs.CellLaws.{Reading, a-variable, a-name, a-number, no-cell, reading, values-small}
 use Rattle.octets.specs.Octets.{decimal}
 use Rattle.octets.proofs.DecimalLaws.{digits-few}
-use Rattle.printing.specs.Printing.{signedDecimal, symbolOf, symbol, refusal}
+use Rattle.printing.specs.Printing.{signedDecimal, symbolOf, symbolText, refusal}
 
 -- a value has at most 6 bytes: `-32768`
 signed-few : (z : ℤ) → InRange z → length (signedDecimal z) ≤ 6
@@ -22,11 +22,12 @@ symbol-by : (c : ℕ) {v : Values} → Reading c v → v .args ≤ 4 → v .numb
 unfolding symbolOf
 symbol-by c (a-variable k m) h l = omega (arith, digits-few 4 (numberOf c) (omega arith))
 symbol-by c (a-name k m) h l =
-    omega (arith, digits-few 4 (numberOf c) (omega arith), digits-few 0 (argsOf c) (omega arith), length-append (decimal (numberOf c)) (47 ∷ decimal (argsOf c)))
+    omega (arith, digits-few 4 (numberOf c) (omega arith), digits-few 0 (argsOf c) (omega arith),
+        length-append (decimal (numberOf c)) (47 ∷ decimal (argsOf c)))
 symbol-by c (a-number k m) h l = omega (arith, signed-few (signedOf (numberOf c)) (signed-range (numberOf c) (omega arith)))
 symbol-by c (no-cell n) h l = omega arith
 
-pub symbol-few : (c : ℕ) → length (symbol c) ≤ 8
+pub symbol-few : (c : ℕ) → length (symbolText c) ≤ 8
 symbol-few c = let v = values-small c in symbol-by c (reading c) (v .0) (v .1)
 
 -- any refusal of numbers of 64 bits

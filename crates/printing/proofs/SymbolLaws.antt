@@ -11,7 +11,7 @@ use Rattle.cell.specs.declared.Shape.{Shape}
 use Rattle.cell.specs.declared.Shape.the-variants.{Variable, Name, Number, Refused}
 use Rattle.cell.proofs.CellLaws.{values-small, number-value}
 use Rattle.octets.specs.Octets.{decimal}
-use Rattle.printing.specs.Printing.{dash, signedDecimal, value, symbolOf, symbol}
+use Rattle.printing.specs.Printing.{dash, signedDecimal, value, symbolOf, symbolText}
 
 -- the value of 16 bits, by their sign
 pub value-low : (c : ℕ) {n : ℕ} → n ≡ numberOf c → n < 32768 → value c ≡ decimal n
@@ -23,22 +23,22 @@ value-high c {n} e h l =
     ap (λ (m : ℕ). signedDecimal (signedOf m)) (sym e) ∙ rw (le-ltb n 32768 h) (ap (λ (m : ℕ). dash ∷ decimal m) q)
 
 module _ (c : ℕ) (s : Shape) (v : valuesOf s ≡ valuesAt c) where
-  pub symbol-variable : (n : ℕ) → s ≡ Variable n → symbol c ≡ 118 ∷ decimal n
+  pub symbol-variable : (n : ℕ) → s ≡ Variable n → symbolText c ≡ 118 ∷ decimal n
   unfolding symbolOf
   symbol-variable n e = ap symbolOf (sym v ∙ ap valuesOf e)
 
-  pub symbol-name : (a n : ℕ) → s ≡ Name a n → symbol c ≡ (110 ∷ decimal n) ++ (47 ∷ decimal a)
+  pub symbol-name : (a n : ℕ) → s ≡ Name a n → symbolText c ≡ (110 ∷ decimal n) ++ (47 ∷ decimal a)
   unfolding symbolOf
   symbol-name a n e = ap symbolOf (sym v ∙ ap valuesOf e)
 
-  pub symbol-number : (z : ℤ) → s ≡ Number z → symbol c ≡ (105 ∷ []) ++ value c
+  pub symbol-number : (z : ℤ) → s ≡ Number z → symbolText c ≡ (105 ∷ []) ++ value c
   unfolding symbolOf
   symbol-number z e =
       let same : valuesAt c ≡ numberValues (bitsOf z) z = sym v ∙ ap valuesOf e in
       let is : z ≡ signedOf (numberOf c) = ap (λ (v : Values). v .value) (sym same) ∙ number-value c (ap (λ (v : Values). v .kind) same) in
       ap symbolOf same ∙ ap (λ (y : ℤ). 105 ∷ signedDecimal y) is
 
-  pub symbol-none : s ≡ Refused → symbol c ≡ []
+  pub symbol-none : s ≡ Refused → symbolText c ≡ []
   unfolding symbolOf
   symbol-none e = ap symbolOf (sym v ∙ ap valuesOf e)
 

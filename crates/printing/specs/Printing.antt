@@ -41,8 +41,8 @@ symbolOf v =
     (cond (eqb (v .kind) 2) (105 ∷ signedDecimal (v .value))
     []))
 
-abbrev pub symbol : ℕ → List ℕ
-symbol c = symbolOf (valuesAt c)
+abbrev pub symbolText : ℕ → List ℕ
+symbolText c = symbolOf (valuesAt c)
 
 -- `refused `, ` at `
 abbrev pub refusedWord : List ℕ

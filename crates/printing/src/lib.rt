@@ -3,9 +3,9 @@
 ghost use mathlib.Core.List.{_∷_};
 ghost use Prim.Native.Nat.{_≤_};
 ghost use lib.ListN.{length};
-ghost use Rattle.refusal.specs.Refusal.{numberOf};
+ghost use Rattle.refusal.specs.Refusal.{reasonNumber};
 ghost use Rattle.octets.specs.Octets.{Put, decimal};
-ghost use Rattle.printing.specs.Printing.{value, symbol, refusal};
+ghost use Rattle.printing.specs.Printing.{value, symbolText, refusal};
 use cell::Shape;
 use octets::put_byte;
 use octets::put_decimal;
@@ -35,7 +35,7 @@ pub fn put_value(out: &mut [u8], to: usize, c: u32) -> usize
 
 // The symbol of a cell. A name has 0 to 4 arguments; what is no cell of 01 has no symbol.
 pub fn put_symbol(out: &mut [u8], to: usize, c: u32) -> usize
-    ensures { λ r. ⌜ Put (now (out .entry)) (now (out .exit)) to (symbol c) r ⌝ }
+    ensures { λ r. ⌜ Put (now (out .entry)) (now (out .exit)) to (symbolText c) r ⌝ }
 {
     match cell::shape_of(c) {
         Shape::Variable(n) => put_tagged(out, to, b'v', n),
@@ -56,8 +56,8 @@ pub fn put_symbol(out: &mut [u8], to: usize, c: u32) -> usize
 
 // The one line of a refusal, at the front of the room. 53 bytes are enough for it.
 pub fn put_refusal(out: &mut [u8], reason: Reason, place: usize) -> usize
-    ensures { λ r. ⌜ Put (now (out .entry)) (now (out .exit)) 0 (refusal (numberOf reason) place) r
-        × (length (refusal (numberOf reason) place) ≤ 53) ⌝ }
+    ensures { λ r. ⌜ Put (now (out .entry)) (now (out .exit)) 0 (refusal (reasonNumber reason) place) r
+        × (length (refusal (reasonNumber reason) place) ≤ 53) ⌝ }
 {
     let number = refusal::number_of(reason);
     let p = put_word(out, 0, b"refused ");

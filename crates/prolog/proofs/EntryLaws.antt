@@ -20,7 +20,7 @@ use Rattle.table.specs.declared.TableAnswer.the-variants as table-answer
 use Rattle.grammar.specs.Grammar.{Fact}
 use Rattle.grammar.specs.Meaning.{namesOf, tableCells, entryOf, nameList}
 use Rattle.grammar.specs.Taken.{Taken, taken}
-use Rattle.loading.specs.Load.{Loaded, loaded, Loads, not-taken, no-cells, no-names, no-table, loads, TextLoads, loadSays, cellsAfter, namesAfter, front}
+use Rattle.loading.specs.Load.{Loaded, loaded, Loads, not-taken, no-cells, no-names, no-table, loads, TextLoads, loadSays, cellsAfter, namesAfter, putFirst}
 use Rattle.scan.specs.Scan.{Counts}
 use Rattle.scan.specs.declared.Counted.{Counted}
 use Rattle.texttable.specs.Words.{WordsAre}
@@ -70,7 +70,8 @@ module _ (t cells names : List ℕ) (c : Counted) (C : Counts t c) where
       turned-away (e ∙ ap (λ (i : ℕ). turned (refused reason.Room input.Lent i)) q) (no-names (C .taken) (omega (arith, needs)) (omega (arith, q)))
 
   -- over 2,048 symbols
-  pub over-loads : {a : Answer} (n : ℕ) → a ≡ overOf n (length names) → n ≡ length (nameList t (C .facts)) → mostNames < c .symbols → c .symbols + 2 ≤ length cells
+  pub over-loads : {a : Answer} (n : ℕ) → a ≡ overOf n (length names) → n ≡ length (nameList t (C .facts)) → mostNames < c .symbols
+      → c .symbols + 2 ≤ length cells
       → TextLoads t cells names cells names a
   over-loads {a} n e q h l = by (ltb (length names) n) refl e
     where
@@ -114,7 +115,7 @@ gives-loads t made list cells names cells′ names′ r facts x e f h k G = by (
 -- what the table's reader answered
 pub table-accepted : (made list cells names cells′ names′ : List ℕ) (w n : ℕ) {a : TableAnswer} → tableTold a ≡ tableSays (tableOf made)
     → a ≡ table-answer.Accepted w n
-    → cells′ ≡ front made cells → names′ ≡ front list names → Gives made list cells names cells′ names′ (text-answer.Read (length made) (length list))
+    → cells′ ≡ putFirst made cells → names′ ≡ putFirst list names → Gives made list cells names cells′ names′ (text-answer.Read (length made) (length list))
 table-accepted made list cells names cells′ names′ w n e q b d = by (tableOf made) refl (sym (ap tableTold q) ∙ e)
   where
     by : (o : Read Table) → tableOf made ≡ o → answered w n ≡ tableSays o
@@ -148,8 +149,8 @@ pub record Listed (t : List ℕ) (room : ℕ) (c : Counted) (list made list′ m
   pub room′ : c .symbols + 2 ≤ room
   pub few : c .symbols ≤ mostNames
   pub count : n ≡ length (nameList t (counts .facts))
-  pub names : list′ ≡ front (nameList t (counts .facts)) list
-  pub wrote : made′ ≡ front (tableCells t (counts .facts)) made
+  pub names : list′ ≡ putFirst (nameList t (counts .facts)) list
+  pub wrote : made′ ≡ putFirst (tableCells t (counts .facts)) made
 
 module _ {t list made : List ℕ} {room : ℕ} where
   pub listed-are : {list′ made′ : List ℕ} {c : Counted} {n : ℕ} → WordsAre t room list made list′ made′ (text-words.Facts c (names-read.Listed n))
@@ -171,7 +172,7 @@ module _ {t list made : List ℕ} {room : ℕ} where
   turned-are f (words.refused x) = x
 
 -- the list and the cells are there
-pub front-kept : (xs room : List ℕ) → length xs ≤ length room → length (front xs room) ≡ length room
+pub front-kept : (xs room : List ℕ) → length xs ≤ length room → length (putFirst xs room) ≡ length room
 front-kept xs room h = omega (arith, length-append xs (drop (length xs) room), length-drop (length xs) room)
 
 module _ {t list made list′ made′ : List ℕ} {room n : ℕ} {c : Counted} (L : Listed t room c list made list′ made′ n) where
@@ -237,7 +238,7 @@ copied-more from room room′ i e h l =
     let z : i ≡ 0 + i = omega arith in
     ap₂ (λ (xs : List ℕ) (n : ℕ). set xs n (getD from i 0)) e z ∙ paste-suc room 0 from i 0 (omega arith) h ∙ ap (paste room 0 from) (sym (add-one i))
 
-pub copied-all : (from room room′ : List ℕ) (i : ℕ) → room′ ≡ paste room 0 from i → i ≡ length from → room′ ≡ front from room
+pub copied-all : (from room room′ : List ℕ) (i : ℕ) → room′ ≡ paste room 0 from i → i ≡ length from → room′ ≡ putFirst from room
 copied-all from room room′ i e q =
     let z : 0 + length from ≡ length from = omega arith in
     e ∙ ap (paste room 0 from) q ∙ ap₂ (λ (xs : List ℕ) (n : ℕ). xs ++ drop n room) (take-length from) z

@@ -9,7 +9,7 @@ use Rattle.refusal.proofs.RefusalLaws.{told-one}
 use Rattle.grammar.specs.Grammar.{Fact}
 use Rattle.grammar.specs.Meaning.{tableCells, nameList}
 use Rattle.grammar.proofs.Fixed.{taken-fixed}
-use Rattle.loading.specs.Load.{TextLoads, front}
+use Rattle.loading.specs.Load.{TextLoads, putFirst}
 use Rattle.loading.proofs.Fixed.{text-fixed}
 use Rattle.scan.specs.Scan.{Counts}
 use Rattle.scan.specs.declared.Counted.{Counted}
@@ -41,8 +41,8 @@ pub make-facts-fixed : {t made list m l m′ l′ : List ℕ} {a b : FactsAnswer
 make-facts-fixed {t} {made} {list} (are-made C h) (are-made D k) =
     let e = counts-fixed t C D in (
       ap₂ (λ (c : Counted) (fs : List Fact). facts-answer.Made c (sizes (length (tableCells t fs)) (length (nameList t fs)))) (e .1) (e .0),
-      ap (λ (fs : List Fact). front (tableCells t fs) made) (e .0),
-      ap (λ (fs : List Fact). front (nameList t fs) list) (e .0),
+      ap (λ (fs : List Fact). putFirst (tableCells t fs) made) (e .0),
+      ap (λ (fs : List Fact). putFirst (nameList t fs) list) (e .0),
     )
 make-facts-fixed (are-made C h) (too-long D k) = absurd (long-apart C D h k)
 make-facts-fixed (are-made C h) (not-taken y) = absurd (taken-apart (C .taken) y)

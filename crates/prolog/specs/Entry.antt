@@ -7,7 +7,7 @@ use Rattle.refusal.specs.Read.{refuse}
 use Rattle.refusal.specs.declared.Refusal.{Refusal}
 use Rattle.grammar.specs.Meaning.{tableCells, nameList}
 use Rattle.grammar.specs.Taken.{Taken}
-use Rattle.loading.specs.Load.{front}
+use Rattle.loading.specs.Load.{putFirst}
 use Rattle.scan.specs.Scan.{Counts}
 use Rattle.scan.specs.declared.Counted.{Counted}
 use Rattle.prolog.specs.declared.Sizes.{Sizes}
@@ -29,7 +29,7 @@ sizes cells names = record { cells = cells; names = names }
 -- it was; and nothing is written where it has too many symbols for a table, or is turned away
 pub data FactsAre (t made list : List ℕ) : List ℕ → List ℕ → FactsAnswer → Type 0 where
   are-made : {c : Counted} (C : Counts t c) → c .symbols ≤ mostNames
-      → FactsAre t made list (front (tableCells t (C .facts)) made) (front (nameList t (C .facts)) list)
+      → FactsAre t made list (putFirst (tableCells t (C .facts)) made) (putFirst (nameList t (C .facts)) list)
       (facts-answer.Made c (sizes (length (tableCells t (C .facts))) (length (nameList t (C .facts)))))
   too-long : {c : Counted} → Counts t c → mostNames < c .symbols → FactsAre t made list made list (facts-answer.Long c)
   not-taken : {f : Refusal} → Taken t (refuse (told f)) → FactsAre t made list made list (facts-answer.Refused f)

@@ -8,7 +8,7 @@ ghost use lib.ListN.{length};
 ghost use Rattle.refusal.specs.Refusal.{refused, turned};
 ghost use Rattle.refusal.specs.declared.Reason.the-variants as reason;
 ghost use Rattle.refusal.specs.declared.Input.the-variants as input;
-ghost use Rattle.loading.specs.Load.{front, TextLoads};
+ghost use Rattle.loading.specs.Load.{putFirst, TextLoads};
 ghost use Rattle.prolog.specs.Entry.{textTold, FactsAre};
 ghost use Rattle.prolog.specs.code.Parts.{overOf, Gives};
 use limits::NAMES;
@@ -41,7 +41,7 @@ fn no_room(need: usize) -> TextAnswer
 // Copied to the front of a room.
 fn put_front(from: &[u32], room: &mut [u32])
     requires { ⌜ length (now from) ≤ length (now room) ⌝ }
-    ensures { λ r. ⌜ now (room .exit) ≡ front (now (from .entry)) (now (room .entry)) ⌝ }
+    ensures { λ r. ⌜ now (room .exit) ≡ putFirst (now (from .entry)) (now (room .entry)) ⌝ }
 {
     let mut i = 0;
     while i < from.len() {

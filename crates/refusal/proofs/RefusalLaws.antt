@@ -16,7 +16,7 @@ use Rattle.refusal.specs.declared.Input.{Input}
 use Rattle.refusal.specs.declared.Input.the-variants.{Table, Plan, Goal, Lent}
 use Rattle.refusal.specs.declared.Input.the-variants as input
 use Rattle.refusal.specs.declared.Refusal.{Refusal}
-use Rattle.refusal.specs.Refusal.{numberOf, inputOf, Refused, told}
+use Rattle.refusal.specs.Refusal.{reasonNumber, inputOf, Refused, told}
 
 -- the first of a list that has this number
 firstWith : {A : Type 0} → (A → ℕ) → A → List A → ℕ → A
@@ -61,9 +61,9 @@ reasons =
     ∷ []
 
 reasonAt : ℕ → Reason
-reasonAt = firstWith numberOf Length reasons
+reasonAt = firstWith reasonNumber Length reasons
 
-reason-found : (r : Reason) → (reasonAt (numberOf r) ≡ r) × (1 ≤ numberOf r) × (numberOf r < 2 ^ 8)
+reason-found : (r : Reason) → (reasonAt (reasonNumber r) ≡ r) × (1 ≤ reasonNumber r) × (reasonNumber r < 2 ^ 8)
 unfolding reasonAt reasons firstWith
 reason-found Length = (refl, omega arith, omega arith)
 reason-found Width = (refl, omega arith, omega arith)
@@ -129,20 +129,20 @@ pub told-one : {f g : Refusal} → told f ≡ told g → f ≡ g
 told-one {f} {g} e = sym (told-found f) ∙ ap found e ∙ told-found g
 
 -- 02, W-209, "TWICE is never given again": 8 is no reason's number
-pub never-twice : (r : Reason) → numberOf r ≢ 8
+pub never-twice : (r : Reason) → reasonNumber r ≢ 8
 unfolding reasonAt reasons firstWith
-never-twice r e = let q : Length ≡ r = rw e at (reason-found r .0) in omega (arith, ap numberOf q)
+never-twice r e = let q : Length ≡ r = rw e at (reason-found r .0) in omega (arith, ap reasonNumber q)
 
 -- and their numbers fit eight bits
-pub number-small : (r : Reason) → (1 ≤ numberOf r) × (numberOf r < 2 ^ 8)
+pub number-small : (r : Reason) → (1 ≤ reasonNumber r) × (reasonNumber r < 2 ^ 8)
 number-small r = let f = reason-found r in (f .1, f .2)
 
 pub input-small : (i : Input) → inputOf i < 2 ^ 8
 input-small i = input-found i .1
 
 -- what an arm of `number_of` or `input_of` answers
-pub number-arm : {r s : Reason} {n : ℕ} → r ≡ s → n ≡ numberOf s → (n ≡ numberOf r) × (n < 2 ^ 8)
-number-arm {s = s} q e = (e ∙ ap numberOf (sym q), rw e (number-small s .1))
+pub number-arm : {r s : Reason} {n : ℕ} → r ≡ s → n ≡ reasonNumber s → (n ≡ reasonNumber r) × (n < 2 ^ 8)
+number-arm {s = s} q e = (e ∙ ap reasonNumber (sym q), rw e (number-small s .1))
 
 pub input-arm : {i j : Input} {n : ℕ} → i ≡ j → n ≡ inputOf j → (n ≡ inputOf i) × (n < 2 ^ 8)
 input-arm {j = j} q e = (e ∙ ap inputOf (sym q), rw e (input-small j))

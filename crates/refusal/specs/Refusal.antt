@@ -12,40 +12,40 @@ use Rattle.refusal.specs.declared.Refusal.{Refusal}
 
 -- 01, the column "no." of the table of refusals, and those of 02 after them: W-201's, W-204's, W-207's, W-208's, W-209's, W-210's and W-211's.
 -- W-209, "TWICE is never given again": 8 is no reason's number
-abbrev pub numberOf : Reason → ℕ
-numberOf Length = 1
-numberOf Width = 2
-numberOf Count = 3
-numberOf Long = 4
-numberOf Short = 5
-numberOf Cell = 6
-numberOf Fresh = 7
-numberOf Extra = 9
-numberOf Size = 10
-numberOf Ends = 11
-numberOf Open = 12
-numberOf Edges = 13
-numberOf Label = 14
-numberOf Rows = 15
-numberOf Room = 16
-numberOf Bytes = 17
-numberOf Text = 18
-numberOf Other = 19
-numberOf Figure = 20
-numberOf Full = 21
-numberOf Last = 22
-numberOf Index = 23
-numberOf Same = 24
-numberOf Big = 25
-numberOf Names = 26
-numberOf Blocks = 27
-numberOf Damage = 28
-numberOf Sizes = 29
-numberOf Padding = 30
-numberOf Head = 31
-numberOf None = 32
-numberOf Column = 33
-numberOf Early = 34
+abbrev pub reasonNumber : Reason → ℕ
+reasonNumber Length = 1
+reasonNumber Width = 2
+reasonNumber Count = 3
+reasonNumber Long = 4
+reasonNumber Short = 5
+reasonNumber Cell = 6
+reasonNumber Fresh = 7
+reasonNumber Extra = 9
+reasonNumber Size = 10
+reasonNumber Ends = 11
+reasonNumber Open = 12
+reasonNumber Edges = 13
+reasonNumber Label = 14
+reasonNumber Rows = 15
+reasonNumber Room = 16
+reasonNumber Bytes = 17
+reasonNumber Text = 18
+reasonNumber Other = 19
+reasonNumber Figure = 20
+reasonNumber Full = 21
+reasonNumber Last = 22
+reasonNumber Index = 23
+reasonNumber Same = 24
+reasonNumber Big = 25
+reasonNumber Names = 26
+reasonNumber Blocks = 27
+reasonNumber Damage = 28
+reasonNumber Sizes = 29
+reasonNumber Padding = 30
+reasonNumber Head = 31
+reasonNumber None = 32
+reasonNumber Column = 33
+reasonNumber Early = 34
 
 -- 01, "which input it concerns (table, plan, goal or lent room)", in that order, and then a text, a figure, a list of names, a file and a list
 -- of columns (02, W-201, W-204, W-210, W-211 and W-213)
@@ -67,7 +67,7 @@ pub record Refused : Type 0 where
   pub place : ℕ
 
 abbrev pub refused : Reason → Input → ℕ → Refused
-refused r i p = record { number = numberOf r; input = inputOf i; place = p }
+refused r i p = record { number = reasonNumber r; input = inputOf i; place = p }
 
 -- what a refusal of the code says
 abbrev pub told : Refusal → Refused

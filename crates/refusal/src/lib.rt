@@ -1,7 +1,7 @@
 // What is turned away (01, "What is turned away"): why, which input, where.
 ghost use mathlib.Core.Path.{_≡_};
 ghost use Prim.Native.Nat.{_<_, _^_};
-ghost use Rattle.refusal.specs.Refusal.{numberOf, inputOf};
+ghost use Rattle.refusal.specs.Refusal.{reasonNumber, inputOf};
 
 // 01, "What is turned away", and 02, W-201, "BYTES; TEXT; OTHER", W-204, "FIGURE", W-207, "FULL .. LAST .. INDEX",
 // W-208, "SAME", W-209, "BIG", W-210, "NAMES", W-211, "BLOCKS .. DAMAGE .. SIZES .. PADDING", W-212, "HEAD .. NONE": the
@@ -66,7 +66,7 @@ pub struct Refusal {
 // 01's number of a reason; it fits eight bits (specs/Coded). A reason added later is a line above, a line here, a line in specs/Refusal,
 // and in proofs/ two lines of RefusalLaws and two of number_of/Proof; an input likewise.
 pub fn number_of(reason: Reason) -> usize
-    ensures { λ r. ⌜ (r ≡ numberOf reason) × (r < 2 ^ 8) ⌝ }
+    ensures { λ r. ⌜ (r ≡ reasonNumber reason) × (r < 2 ^ 8) ⌝ }
 {
     match reason {
         Reason::Length => 1,

@@ -13,7 +13,7 @@ ghost use lib.Seq.{sets};
 ghost use Rattle.cell.specs.Cell.{isVar};
 ghost use Rattle.table.specs.All.{All};
 ghost use Rattle.plan.specs.Notes.{cellIn, slotIn, nextIn};
-ghost use Rattle.walking.specs.code.Link.{steps, nodes};
+ghost use Rattle.walking.specs.code.Link.{steps, goalNodes};
 ghost use Rattle.alone.specs.code.Alone.{Symbols};
 ghost use Rattle.alone.specs.code.Rest.{Safe, Takes, Begins, Walks};
 ghost use Rattle.limits.specs.Limits.{mostBranches};
@@ -66,7 +66,7 @@ fn symbols(bound: &[u32; 64], until: &[u16; 64], at: usize) -> [u32; 64]
 // References to `a` terms that stand one after another, the first at `p`, for the slots from `to` on.
 pub fn put_terms(refs: &mut [u8; 64], to: usize, a: usize, p: usize, rep: &[u8; 64], sib: &[u8; 64])
     ensures { λ r. ⌜ (to + a ≤ 64 → All (λ x. x < 64) (steps (now (sib .entry)) a p)
-        → now (refs .exit) ≡ sets (now (refs .entry)) to (nodes (now (rep .entry)) (now (sib .entry)) a p)) ⌝ }
+        → now (refs .exit) ≡ sets (now (refs .entry)) to (goalNodes (now (rep .entry)) (now (sib .entry)) a p)) ⌝ }
 {
     let mut left = a;
     let mut j = to;

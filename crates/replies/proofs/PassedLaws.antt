@@ -13,7 +13,7 @@ use Rattle.table.proofs.Accepted.{all-at}
 use Rattle.table.proofs.AllLaws.{all-drop}
 use Rattle.table.proofs.PartLaws.{place-cells}
 use Rattle.instance.specs.Reply.{Large}
-use Rattle.instance.specs.code.Meet.{Hit, Met, Over}
+use Rattle.instance.specs.code.Meet.{Hit, InstanceMet, Over}
 use Rattle.instance.specs.code.Passes.{Held, Pass, Passed}
 use Rattle.instance.proofs.PassLaws.{pass-hit, pass-end}
 use Rattle.instance.proofs.RepliesLaws.{not-large}
@@ -35,10 +35,10 @@ within-by {row} {goal} {cells} {other} {cells′} {n = n} e x = go (subst (Ended
 
 -- for a row by another name
 module _ {here row goal cells other cells′ : List ℕ} {r : Made} where
-  pub met-by : {n : ℕ} → here ≡ row → r ≡ made.Cells n → Ended here goal cells other cells′ r → Hit row goal → Met row goal cells′ n
+  pub met-by : {n : ℕ} → here ≡ row → r ≡ made.Cells n → Ended here goal cells other cells′ r → Hit row goal → InstanceMet row goal cells′ n
   met-by {n} p e x = go (subst (Ended row goal cells other cells′) e (subst (λ (l : List ℕ). Ended l goal cells other cells′ r) p x))
     where
-      go : Ended row goal cells other cells′ (made.Cells n) → Hit row goal → Met row goal cells′ n
+      go : Ended row goal cells other cells′ (made.Cells n) → Hit row goal → InstanceMet row goal cells′ n
       go (ended l m) = m
 
   pub over-by : here ≡ row → r ≡ made.Big → Ended here goal cells other cells′ r → Hit row goal → Lent cells other → Over row goal
@@ -84,7 +84,7 @@ module _ {table starts : List ℕ} {rows : ℕ} {goal hits : List ℕ} {all : Li
   row-is : here ≡ rowIn (tableOf table) (getD hits i 0)
   row-is = h ∙ place-cells table (getD hits i 0) (q (a .held) (all-at (λ (n : ℕ). n < rows) hits i 0 (a .below) l))
 
-  pub hit-met : {n : ℕ} → r ≡ made.Cells n → Met (rowIn (tableOf table) (getD hits i 0)) goal cells′ n
+  pub hit-met : {n : ℕ} → r ≡ made.Cells n → InstanceMet (rowIn (tableOf table) (getD hits i 0)) goal cells′ n
   hit-met e = met-by row-is e x (pass-hit w l)
 
   pub hit-over : r ≡ made.Big → Lent cells other → Over (rowIn (tableOf table) (getD hits i 0)) goal
@@ -137,7 +137,8 @@ module _ {table starts : List ℕ} {rows : ℕ} {goal hits : List ℕ} {all : Li
       let b = drop-of-length-le (drop on room) {i = length room - on} (omega (arith, length-drop on room)) in
       let x = pass-end (u .pass (p .left) passing-rest) (omega (arith, l, ap length rest-is, length-drop i hits)) in
       let q : Passed (drop on room) part (p .left) (r .cells) = subst (λ (t : List ℕ). Passed t part (p .left) (r .cells)) e x in
-      let w : Put (drop on room) part 0 (flatten (p .left)) (0 + length (fitting (drop on room) 0 (flatten (p .left)))) = record { wrote = q .wrote; after = refl } in
+      let w : Put (drop on room) part 0 (flatten (p .left)) (0 + length (fitting (drop on room) 0 (flatten (p .left)))) =
+          record { wrote = q .wrote; after = refl } in
       let y = put-put (p .put) (put-behind room on h w) in
       let k : take on room ++ (part ++ drop (length room - on) (drop on room)) ≡ take on room ++ part =
       ap (λ (t : List ℕ). take on room ++ t) (ap (λ (t : List ℕ). part ++ t) b ∙ append-nil part) in

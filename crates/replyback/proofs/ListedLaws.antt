@@ -14,7 +14,7 @@ use Rattle.table.proofs.Accepted.{is-table, table-short}
 use Rattle.grammar.specs.Grammar.{Symbol, Fact}
 use Rattle.grammar.specs.Meaning.{Place, namesOf, tableCells}
 use Rattle.grammar.specs.Numbering as numbering
-use Rattle.grammar.specs.Numbering.{Words, wordsAt, Row, Rows}
+use Rattle.grammar.specs.Numbering.{Words, wordsAt, NumberedRow, Rows}
 use Rattle.grammar.proofs.NthLaws.{nth-below}
 use Rattle.grammar.proofs.Numbered.{cells-are}
 
@@ -43,7 +43,7 @@ variable-other : {n v c : ℕ} → c ≡ variableCell v → v < 2 ^ 30 → kindO
 variable-other e l h = absurd (omega arith)
 
 -- A ROW
-pub row-listed : {t : List ℕ} {words met : Words} {ss : List Symbol} {cells : List ℕ} → Row t words met ss cells
+pub row-listed : {t : List ℕ} {words met : Words} {ss : List Symbol} {cells : List ℕ} → NumberedRow t words met ss cells
     → length met + length cells ≤ 2 ^ 30 → Listed (length words) cells
 row-listed {words = words} numbering.none h = listed-none (length words)
 row-listed (numbering.a-name {a = a} f c r) h = listed-more (name-listed a c (nth-below (f .there))) (row-listed r (omega arith))

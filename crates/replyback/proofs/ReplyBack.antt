@@ -22,7 +22,7 @@ use Rattle.grammar.specs.Numbering.{Words, Nth, here, later}
 use Rattle.grammar.specs.Taken.{Taken, taken}
 use Rattle.loading.specs.Load.{Loaded, Loads, loads}
 use Rattle.lex.specs.Names.{IsName}
-use Rattle.termtext.specs.Saying.{wordsIn, wordsOf, predicateIn, Answer, saidIn, known}
+use Rattle.termtext.specs.Saying.{wordsIn, wordsOf, predicateIn, IsAnswer, saidIn, known}
 use Rattle.termtext.specs.Goal as asking
 use Rattle.termtext.specs.Goal.{Goal, Asks, GoalRead}
 use Rattle.termtext.specs.declared.Predicate.{Predicate}
@@ -41,7 +41,7 @@ all-nth P a (later h) = all-nth P (a .1) h
 
 -- A REPLY is an answer, where it has at most 1,024 cells
 reply-answer : {words : Words} {predicate row goal cells : List ℕ} {w : ℕ} → 1 ≤ w → Row w row → IsGoal w goal → Reply row goal cells
-    → Short cells → Listed (length words) row → Listed (length words) goal → Names words → IsName predicate → Answer words predicate w cells
+    → Short cells → Listed (length words) row → Listed (length words) goal → Names words → IsName predicate → IsAnswer words predicate w cells
 reply-answer some r g p short l m n called =
     record {
       some = some;
@@ -65,7 +65,7 @@ one-width {v} {w} t u p =
 pub reply-is-answer : {text goal cells row : List ℕ} {facts : List Fact} {T : Table} {predicate : List ℕ} {width : ℕ} {G : Goal}
     → Taken text (read facts) → tableOf (tableCells text facts) ≡ read T
     → GoalRead (wordsIn text (nameList text facts)) predicate width goal (read G) → List·Memᴰ row (T .rows) → Reply row (G .cells) cells
-    → Short cells → Answer (wordsOf text (nameList text facts) goal (G .new)) predicate width cells
+    → Short cells → IsAnswer (wordsOf text (nameList text facts) goal (G .new)) predicate width cells
 reply-is-answer {text} {goal} {row = row} {facts} {T} {G = G} (taken few x o) e (asking.is-goal short a i) m p s =
     let t = is-table (tableCells text facts) e in
     let r = all-member (Row (T .width)) (T .rows) (t .each) m in

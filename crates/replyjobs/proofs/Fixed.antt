@@ -14,7 +14,7 @@ use Rattle.answer.specs.Jobs.{bitsOf}
 use Rattle.answer.specs.Run.{runTold}
 use Rattle.answer.proofs.Fixed.{run-fixed}
 use Rattle.instance.specs.Replied.{repliesTold}
-use Rattle.instance.specs.ReplyJobs.{declined, filled, ReplyAsked, outside, refused, replied, RepliesEach, nil, cons, ReplyJobsRun, refusal, asked}
+use Rattle.instance.specs.ReplyJobs.{declined, replyFilled, ReplyAsked, outside, refused, replied, RepliesEach, nil, cons, ReplyJobsRun, refusal, asked}
 use Rattle.instance.specs.declared.ReplyJob.{ReplyJob}
 use Rattle.instance.proofs.Fixed.{replied-fixed}
 
@@ -46,7 +46,7 @@ reply-asked-fixed {on = on} {room = room} {j = j} (replied m s n i a b r h x d y
     let en : n ≡ n′ = cc in
     let ei : i ≡ i′ = cc in
     let eb : bitsOf (take n b) ≡ bitsOf (take n′ b′) = ap₂ (λ (k : ℕ) (l : List ℕ). bitsOf (take k l)) en (v .1) in (
-      e ∙ ap₂ (λ (w z : ℕ). filled j 0 0 on w z (bitsOf (take n b)) i) em es ∙ ap₂ (λ (w z : ℕ). filled j 0 0 on m′ s′ w z) eb ei ∙ sym e′,
+      e ∙ ap₂ (λ (w z : ℕ). replyFilled j 0 0 on w z (bitsOf (take n b)) i) em es ∙ ap₂ (λ (w z : ℕ). replyFilled j 0 0 on m′ s′ w z) eb ei ∙ sym e′,
       c ∙ ap (λ (l : List ℕ). take on room ++ l) (u .1) ∙ sym c′,
     )
 

@@ -9,14 +9,14 @@ use Rattle.plan.specs.Check.{planOf}
 use Rattle.checker.specs.Checked.{planTold, planSays}
 use Rattle.checker.specs.declared.PlanAnswer.{PlanAnswer}
 use Rattle.checker.specs.declared.PlanAnswer.the-variants as plan-answer
-use Rattle.plannotes.specs.Noted.{Handed}
+use Rattle.plannotes.specs.Noted.{NotedInto}
 use Rattle.plannotes.specs.declared.Noted.{Noted}
 use Rattle.plannotes.proofs.HandedLaws.{handed-says}
 use Rattle.shift.specs.code.Asked.{isAccepted}
 use Rattle.instance.specs.ReplyJobs.{RepliesEach, ReplyJobsRun, refusal, asked}
 use Rattle.instance.specs.declared.ReplyJob.{ReplyJob}
 
-module _ {t p before numbers : List ℕ} {m : Noted} (cells : List ℕ) (h : Handed t p before numbers m) {room : List ℕ} {jobs : List ReplyJob} where
+module _ {t p before numbers : List ℕ} {m : Noted} (cells : List ℕ) (h : NotedInto t p before numbers m) {room : List ℕ} {jobs : List ReplyJob} where
   pub jobs-replied : {room′ : List ℕ} {jobs′ : List ReplyJob} → isAccepted (m .answer) ≡ true → RepliesEach t p cells 0 room room′ jobs jobs′
       → ReplyJobsRun t p cells room room′ jobs jobs′ (planTold (m .answer))
   jobs-replied {room′} {jobs′} is each = go (planOf t p) refl (m .answer) (handed-says h) is

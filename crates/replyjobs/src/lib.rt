@@ -5,11 +5,11 @@ ghost use mathlib.Core.Path.{_≡_};
 ghost use mathlib.Core.List.{List};
 ghost use Prim.Native.Nat.{ℕ, _-_, _≤_};
 ghost use lib.ListN.{length};
-ghost use Rattle.refusal.specs.Refusal.{numberOf};
+ghost use Rattle.refusal.specs.Refusal.{reasonNumber};
 ghost use Rattle.table.specs.Table.{tableOf, startsIn};
-ghost use Rattle.plannotes.specs.Noted.{Handed};
+ghost use Rattle.plannotes.specs.Noted.{NotedInto};
 ghost use Rattle.checker.specs.Checked.{planTold};
-ghost use Rattle.instance.specs.ReplyJobs.{declined, filled, ReplyAsked, RepliesEach, ReplyJobsRun};
+ghost use Rattle.instance.specs.ReplyJobs.{declined, replyFilled, ReplyAsked, RepliesEach, ReplyJobsRun};
 ghost use Rattle.instance.specs.code.Passes.{Held, Found};
 ghost use Rattle.replyjobs.specs.code.Shift.{Ready, Placed};
 use answer::RunAnswer;
@@ -23,7 +23,7 @@ use refusal::Reason;
 
 // The record of a goal that is turned away.
 fn refused(j: ReplyJob, reason: Reason, place: usize) -> ReplyJob
-    ensures { λ r. ⌜ r ≡ declined j (numberOf reason) place ⌝ }
+    ensures { λ r. ⌜ r ≡ declined j (reasonNumber reason) place ⌝ }
 {
     ReplyJob {
         start: j.start,
@@ -40,7 +40,7 @@ fn refused(j: ReplyJob, reason: Reason, place: usize) -> ReplyJob
 
 // The record of a goal that a run has answered, its replies to stand in the room from a place on.
 fn found(j: ReplyJob, at: usize, hits: u64, tried: usize) -> ReplyJob
-    ensures { λ r. ⌜ r ≡ filled j 0 0 at 0 0 hits tried ⌝ }
+    ensures { λ r. ⌜ r ≡ replyFilled j 0 0 at 0 0 hits tried ⌝ }
 {
     ReplyJob {
         start: j.start,
@@ -111,7 +111,7 @@ pub fn reply_one(
     on: usize,
     room: &mut [u32],
 ) -> ReplyJob
-    ensures { λ r. ⌜ ((plan before : List ℕ) → Handed (now (table .entry)) plan before (now (numbers .entry)) noted
+    ensures { λ r. ⌜ ((plan before : List ℕ) → NotedInto (now (table .entry)) plan before (now (numbers .entry)) noted
         → now (starts .entry) ≡ startsIn (tableOf (now (table .entry))) → on ≤ length (now (room .entry))
         → ReplyAsked (now (table .entry)) plan (now (cells .entry)) on (now (room .entry)) (now (room .exit)) j r) ⌝ }
 {
@@ -152,7 +152,7 @@ fn reply_each(
     room: &mut [u32],
 )
     requires { ⌜ Ready (now table) (now numbers) (now starts) noted ⌝ }
-    ensures { λ _. ⌜ ((plan before : List ℕ) → Handed (now (table .entry)) plan before (now (numbers .entry)) noted
+    ensures { λ _. ⌜ ((plan before : List ℕ) → NotedInto (now (table .entry)) plan before (now (numbers .entry)) noted
         → RepliesEach (now (table .entry)) plan (now (cells .entry)) 0 (now (room .entry)) (now (room .exit)) (now (jobs .entry)) (now (jobs .exit))) ⌝ }
 {
     let mut on = 0;

@@ -21,7 +21,7 @@ use Rattle.plan.specs.Check.{planFor, planOf}
 use Rattle.plan.proofs.CheckLaws.{accepted-one}
 use Rattle.plan.proofs.PlansLaws.{write-one}
 use Rattle.checker.specs.declared.PlanAnswer.the-variants as plan-answer
-use Rattle.plannotes.specs.Noted.{Handed}
+use Rattle.plannotes.specs.Noted.{NotedInto}
 use Rattle.plannotes.specs.declared.Noted.{Noted}
 use Rattle.answer.specs.Skeleton.{hole}
 use Rattle.answer.specs.Run.{Picks, Counts, skeletons, Tried, runOf, Ran, refusal, ran}
@@ -39,10 +39,14 @@ use Rattle.plannotes.proofs.HandedLaws.{no-run}
 -- what the goal's answer tells of its reading
 pub says-goal : (g : List ℕ) (x : Read ℕ) {a : GoalAnswer} {n v : ℕ} → goalTold a ≡ goalSays g x → a ≡ goal-answer.Accepted n v → (x ≡ read v) × (n ≡ length g)
 says-goal g (read u) {a} {n} {v} e d = let q : goalTold a ≡ answered n v = ap goalTold d in (cc, cc)
-says-goal g (refuse f) {a} {n} {v} e d = let q : goalTold a ≡ answered n v = ap goalTold d in absurd (let z : _≡_ {A = ℕ} 0 1 = cc in let y : ⊥ = omega arith in y)
+says-goal g (refuse f) {a} {n} {v} e d =
+    let q : goalTold a ≡ answered n v = ap goalTold d in
+    absurd (let z : _≡_ {A = ℕ} 0 1 = cc in let y : ⊥ = omega arith in y)
 
 pub says-no-goal : (g : List ℕ) (x : Read ℕ) {a : GoalAnswer} {f : Refusal} → goalTold a ≡ goalSays g x → a ≡ goal-answer.Refused f → x ≡ refuse (told f)
-says-no-goal g (read u) {a} {f} e d = let q : goalTold a ≡ turned (told f) = ap goalTold d in absurd (let z : _≡_ {A = ℕ} 0 1 = cc in let y : ⊥ = omega arith in y)
+says-no-goal g (read u) {a} {f} e d =
+    let q : goalTold a ≡ turned (told f) = ap goalTold d in
+    absurd (let z : _≡_ {A = ℕ} 0 1 = cc in let y : ⊥ = omega arith in y)
 says-no-goal g (refuse h) {a} {f} e d = let q : goalTold a ≡ turned (told f) = ap goalTold d in cc
 
 module _ {t p ns : List ℕ} {b w n : ℕ} (A : ForRun t p ns b w n) where
@@ -50,7 +54,9 @@ module _ {t p ns : List ℕ} {b w n : ℕ} (A : ForRun t p ns b w n) where
   few-rows = omega (arith, A .same-rows, A .is .count .1)
 
   plan-reads : planOf t p ≡ read (branches (A .tree))
-  plan-reads = rw (A .reads) (accepted-one (A .table) (A .is) p (branches (A .tree)) .1 (A .tree, sym (A .writes), refl, λ q e. write-one q (A .tree) (e ∙ A .writes)))
+  plan-reads =
+      rw (A .reads) (accepted-one (A .table) (A .is) p (branches (A .tree)) .1
+          (A .tree, sym (A .writes), refl, λ q e. write-one q (A .tree) (e ∙ A .writes)))
 
   module _ (g : List ℕ) where
     at-width : {x : Read ℕ} → goalOf w g ≡ x → goalOf (A .table .width) g ≡ x
@@ -64,7 +70,8 @@ module _ {t p ns : List ℕ} {b w n : ℕ} (A : ForRun t p ns b w n) where
         → Ran t p g room room (run-answer.Refused (record { reason = reason.Room; input = input.Lent; place = n }))
     no-room room e l =
         refusal (refused reason.Room input.Lent n)
-        (run-room t p g room (A .reads) plan-reads (at-width e) (rw (A .same-rows) at l) ∙ ap (λ (x : ℕ). refuse (refused reason.Room input.Lent x)) (sym (A .same-rows)))
+        (run-room t p g room (A .reads) plan-reads (at-width e) (rw (A .same-rows) at l)
+            ∙ ap (λ (x : ℕ). refuse (refused reason.Room input.Lent x)) (sym (A .same-rows)))
         refl refl
 
     -- neither is
@@ -80,7 +87,8 @@ module _ {t p ns : List ℕ} {b w n : ℕ} (A : ForRun t p ns b w n) where
           let b : 0 + length found ≤ length room = omega arith in
           let q : 0 + length found ≡ length found = omega arith in
           ran (A .table) (A .tree) found k
-          (takes-run (record { table = A .reads; branches = branches (A .tree); plan = plan-reads; variables = v; goal = at-width e; room-for = omega (arith, A .same-rows) }))
+          (takes-run (record { table = A .reads; branches = branches (A .tree); plan = plan-reads; variables = v; goal = at-width e; room-for =
+              omega (arith, A .same-rows) }))
           (A .writes) picks counts (ap₂ answered y z) (x ∙ sets-eq found room 0 b ∙ ap (λ (i : ℕ). found ++ drop i room) q)
 
       -- the goal of distinct variables
@@ -92,8 +100,10 @@ module _ {t p ns : List ℕ} {b w n : ℕ} (A : ForRun t p ns b w n) where
           let q : upFrom 0 n ≡ upFrom 0 (length (A .table .rows)) = ap (upFrom 0) (A .same-rows) in
           let z = up-length 0 (length (A .table .rows)) in
           reports (upFrom 0 (length (A .table .rows))) (branches (A .tree))
-          (subst (λ (l : List ℕ). Picks (λ (row : List ℕ). Matches row l) (A .table .rows) 0 (upFrom 0 (length (A .table .rows)))) o (every-hit (A .table .width) (omega arith) (A .table .rows) (A .is .each)))
-          (subst (λ (l : List ℕ). Counts (Tried l) (skeletons (A .tree) (replicate (A .table .width) hole)) (branches (A .tree))) o (every-try (A .is) (A .tree)))
+          (subst (λ (l : List ℕ). Picks (λ (row : List ℕ). Matches row l) (A .table .rows) 0 (upFrom 0 (length (A .table .rows)))) o
+              (every-hit (A .table .width) (omega arith) (A .table .rows) (A .is .each)))
+          (subst (λ (l : List ℕ). Counts (Tried l) (skeletons (A .tree) (replicate (A .table .width) hole)) (branches (A .tree))) o
+              (every-try (A .is) (A .tree)))
           (omega (arith, z, A .same-rows)) room′ n b (x ∙ ap (sets room 0) q) (A .same-rows ∙ sym z) (A .number)
 
       -- the walk
@@ -126,6 +136,6 @@ run-refused t p g room {f} e = go (tableOf t) refl
         let k : h ≡ f = cc in
         run-table t p g room d ∙ ap refuse k
 
-pub handed-refused : {t p ns ns′ : List ℕ} {m : Noted} {f : Refusal} (g room : List ℕ) → Handed t p ns ns′ m → m .answer ≡ plan-answer.Refused f
+pub handed-refused : {t p ns ns′ : List ℕ} {m : Noted} {f : Refusal} (g room : List ℕ) → NotedInto t p ns ns′ m → m .answer ≡ plan-answer.Refused f
     → Ran t p g room room (run-answer.Refused f)
 handed-refused {t} {p} {f = f} g room h d = refusal (told f) (run-refused t p g room (no-run h d .0)) refl refl

@@ -4,7 +4,7 @@
 ghost use mathlib.Core.List.{List};
 ghost use Prim.Native.Nat.{ℕ};
 ghost use Rattle.answer.specs.Run.{Ran};
-ghost use Rattle.plannotes.specs.Noted.{Handed};
+ghost use Rattle.plannotes.specs.Noted.{NotedInto};
 ghost use Rattle.plannotes.specs.code.ForRun.{ForRun};
 
 mod nodes;
@@ -60,7 +60,7 @@ pub fn run_noted(
     goal: &[u32],
     room: &mut [u8],
 ) -> RunAnswer
-    ensures { λ r. ⌜ ((table plan before : List ℕ) → Handed table plan before (now (numbers .entry)) noted → Ran table plan
+    ensures { λ r. ⌜ ((table plan before : List ℕ) → NotedInto table plan before (now (numbers .entry)) noted → Ran table plan
         (now (goal .entry)) (now (room .entry)) (now (room .exit)) r) ⌝ }
 {
     let answer = noted.answer;

@@ -17,12 +17,12 @@ use Rattle.octets.specs.Octets.{Put, fitting}
 use Rattle.octets.proofs.PutLaws.{put-front}
 use Rattle.blocks.specs.Blocks.{good}
 use Rattle.filing.specs.Files.{tablePart}
-use Rattle.salvaging.specs.Salvage.{badIn, front, width, count, keptCells, Outcome, saved, lost, noRoom, facts}
+use Rattle.salvaging.specs.Salvage.{badIn, front, width, count, keptCells, Outcome, saved, lost, roomShort, facts}
 use Rattle.salvaging.specs.Salvage.{Salvaged, head-lost, none-kept, table-short, plan-short, bad-short, all-had}
 use Rattle.salvaging.specs.Answers.{reportTold}
 use Rattle.salvaging.specs.declared.Report.{Report}
 use Rattle.salvaging.proofs.KeptLaws.{kept-are}
-use Rattle.mending.specs.Mending.{badOn, Listed}
+use Rattle.mending.specs.Mending.{badOn, NumbersListed}
 use Rattle.mending.proofs.ListLaws.{bad-from-front}
 use Rattle.salvage.specs.declared.Top.{Top}
 use Rattle.salvage.specs.declared.Laid.{Laid}
@@ -62,13 +62,13 @@ pub rows-few : {file : List ℕ} {top : Top} → TopIs file top → top .rows �
 rows-few {file} t = omega (arith, t .rows, t .count, kept-are (width file) (count file) [] (drop 2 (tablePart (front file))) .few)
 
 -- the bad blocks counted and listed
-pub bad-count : {file room room′ : List ℕ} {top : Top} {n : ℕ} → TopIs file top → Listed (badOn file (top .good)) room room′ n
-    → Listed (badIn file) room room′ n
+pub bad-count : {file room room′ : List ℕ} {top : Top} {n : ℕ} → TopIs file top → NumbersListed (badOn file (top .good)) room room′ n
+    → NumbersListed (badIn file) room room′ n
 bad-count {file} {room} {room′} {n = n} t l =
-    subst (λ (b : List ℕ). Listed b room room′ n) (ap (badOn file) (t .good) ∙ bad-from-front file) l
+    subst (λ (b : List ℕ). NumbersListed b room room′ n) (ap (badOn file) (t .good) ∙ bad-from-front file) l
 
 -- numbers listed in a room that is enough
-list-front : {numbers room room′ : List ℕ} {n : ℕ} → Listed numbers room room′ n → length numbers ≤ length room
+list-front : {numbers room room′ : List ℕ} {n : ℕ} → NumbersListed numbers room room′ n → length numbers ≤ length room
     → room′ ≡ numbers ++ drop (length numbers) room
 list-front {numbers} {room} {room′} l h =
     let f : fitting room 0 numbers ≡ numbers = take-all (length room - 0) numbers (omega arith) in
@@ -109,21 +109,21 @@ module _ {file cells : List ℕ} {top : Top} {laid : Laid} {report : Report} (t 
   facts-told = rw (r .rows, r .dropped, r .keeps, r .table, size, r .bad)
 
   module _ {table plan bad : List ℕ} {need : ℕ} (short : need ≡ shortOf report (length table) (length plan) (length bad)) where
-    pub too-small : 0 < need → {x : Outcome} → x ≡ noRoom need → Salvaged file table plan bad table plan bad x
+    pub too-small : 0 < need → {x : Outcome} → x ≡ roomShort need → Salvaged file table plan bad table plan bad x
     too-small h {x} q = go (rooms report (length table) (length plan) (length bad) short)
       where
         go : Rooms report (length table) (length plan) (length bad) need → Salvaged file table plan bad table plan bad x
-        go (no-table a e) = table-short (t .head) (t .some) (omega (arith, r .table)) (q ∙ ap noRoom (e ∙ r .table)) refl refl refl
+        go (no-table a e) = table-short (t .head) (t .some) (omega (arith, r .table)) (q ∙ ap roomShort (e ∙ r .table)) refl refl refl
         go (no-plan a b e) =
             plan-short (t .head) (t .some) (omega (arith, r .table)) (laid .keeps) (steps cells laid) (p .is) (omega (arith, size))
-            (q ∙ ap noRoom (e ∙ sym size)) refl refl refl
+            (q ∙ ap roomShort (e ∙ sym size)) refl refl refl
         go (no-list a b c e) =
             bad-short (t .head) (t .some) (omega (arith, r .table)) (laid .keeps) (steps cells laid) (p .is) (omega (arith, size))
-            (omega (arith, r .bad)) (q ∙ ap noRoom (e ∙ r .bad)) refl refl refl
+            (omega (arith, r .bad)) (q ∙ ap roomShort (e ∙ r .bad)) refl refl refl
         go (each a b c e) = absurd (omega arith)
 
     pub all-put : need ≤ 0 → {cells′ : List ℕ} → cells′ ≡ keptCells file → {table′ plan′ bad′ : List ℕ} {i j n : ℕ} → Put table table′ 0 cells′ i
-        → Put plan plan′ 0 (steps cells laid) j → Listed (badOn file (top .good)) bad bad′ n → {x : Outcome} → x ≡ saved (reportTold report)
+        → Put plan plan′ 0 (steps cells laid) j → NumbersListed (badOn file (top .good)) bad bad′ n → {x : Outcome} → x ≡ saved (reportTold report)
         → Salvaged file table plan bad table′ plan′ bad′ x
     all-put h is {table′} {plan′} {bad′} {i} {j} {n} a b c {x} q = go (rooms report (length table) (length plan) (length bad) short)
       where

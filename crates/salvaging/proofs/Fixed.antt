@@ -13,9 +13,9 @@ use Rattle.plan.specs.Plans.{Plan, write}
 use Rattle.least.specs.Least.{Built}
 use Rattle.least.specs.Measures.{work}
 use Rattle.least.proofs.Building.{built-one}
-use Rattle.salvaging.specs.Salvage.{kept, PlanHad, old-plan, new-plan, noRoom, facts, saved, Outcome}
+use Rattle.salvaging.specs.Salvage.{kept, PlanHad, old-plan, new-plan, roomShort, facts, saved, Outcome}
 use Rattle.salvaging.specs.Salvage.{Salvaged, head-lost, none-kept, table-short, plan-short, bad-short, all-had}
-use Rattle.salvaging.specs.Salvage.{Facts}
+use Rattle.salvaging.specs.Salvage.{Findings}
 use Rattle.salvaging.specs.Answers.{reportTold, salvageTold}
 use Rattle.salvaging.specs.declared.Report.{Report}
 use Rattle.salvaging.specs.declared.Salvage.{Salvage}
@@ -82,7 +82,7 @@ salvaged-fixed (plan-short h k l u xs y z r t p b) (none-kept h′ k′ r′ t�
 salvaged-fixed (plan-short h k l u xs y z r t p b) (table-short h′ k′ l′ r′ t′ p′ b′) =
     absurd (omega arith)
 salvaged-fixed (plan-short h k l u xs y z r t p b) (plan-short h′ k′ l′ u′ xs′ y′ z′ r′ t′ p′ b′) =
-    let q = had-fixed y′ y in (same r (r′ ∙ ap (λ (c : List ℕ). noRoom (length c)) (q .1)), same t t′, same p p′, same b b′)
+    let q = had-fixed y′ y in (same r (r′ ∙ ap (λ (c : List ℕ). roomShort (length c)) (q .1)), same t t′, same p p′, same b b′)
 salvaged-fixed (plan-short h k l u xs y z r t p b) (bad-short h′ k′ l′ u′ xs′ y′ z′ v′ r′ t′ p′ b′) =
     absurd (omega (arith, ap length (had-fixed y y′ .1)))
 salvaged-fixed (plan-short h k l u xs y z r t p b) (all-had h′ k′ l′ u′ xs′ y′ z′ v′ r′ t′ p′ b′) =
@@ -118,12 +118,12 @@ salvaged-fixed {f = file} {p = room} (all-had h k l u xs y z v r t p b) (all-had
     )
 
 -- salvage: the promise gives the report's numbers or 01's, which tell the cases apart
-report-of : Facts → Report
+report-of : Findings → Report
 report-of f = record { kept = f .rows; dropped = f .dropped; «plan_kept» = f .keeps; table = f .table; plan = f .plan; bad = f .bad }
 
 told-same : (a b : Salvage) → salvageTold a ≡ salvageTold b → a ≡ b
 unfolding report-of
-told-same (salvage.Saved x) (salvage.Saved y) e = let q : reportTold x ≡ reportTold y = cc in ap (λ (f : Facts). salvage.Saved (report-of f)) q
+told-same (salvage.Saved x) (salvage.Saved y) e = let q : reportTold x ≡ reportTold y = cc in ap (λ (f : Findings). salvage.Saved (report-of f)) q
 told-same (salvage.Saved x) (salvage.Refused g) e = absurd (let z : _≡_ {A = ℕ} 0 1 = cc in omega arith)
 told-same (salvage.Refused f) (salvage.Saved y) e = absurd (let z : _≡_ {A = ℕ} 0 1 = cc in omega arith)
 told-same (salvage.Refused f) (salvage.Refused g) e = let q : told f ≡ told g = cc in ap salvage.Refused (told-one q)

@@ -15,7 +15,7 @@ use Rattle.term.proofs.Lists.{slice-take}
 use Rattle.table.specs.Table.{Table, tableOf, IsTable}
 use Rattle.table.proofs.Accepted.{is-table}
 use Rattle.plan.specs.Check.{planOf}
-use Rattle.octets.specs.Octets.{cellsOf, Words}
+use Rattle.octets.specs.Octets.{cellsOf, AreWords}
 use Rattle.blocks.specs.Blocks.{sound, cellsIn, whole, good, goodCells, blockAt}
 use Rattle.blocks.proofs.BlockLaws.{cells-size, sound-parts}
 use Rattle.blocks.proofs.LookLaws.{good-next, good-ends, good-none}
@@ -107,7 +107,7 @@ cuts G F N ts tg sz same big two short t tF lt = rw sz (go (bool-cases (ltb N (2
           omega (arith, ap length (a ∙ b), length-take-le (N - 2) t (omega (arith, ltb-true N (2 + ts) x))),
         )
 
-pub original : (t p : List ℕ) {n : ℕ} (T : Table) → Words t → Words p → planOf t p ≡ read n → tableOf t ≡ read T
+pub original : (t p : List ℕ) {n : ℕ} (T : Table) → AreWords t → AreWords p → planOf t p ≡ read n → tableOf t ≡ read T
     → (f : List ℕ) → AsWritten f (fileOf t p) → 1 ≤ good f 0 → Starts (kept f) (T .rows)
 original t p T v w ok tab f written some =
     go (file-passed (fileOf t p) (card t p) (there-and-back t p v w ok)) (lesser (good f 0) (whole (fileOf t p)))

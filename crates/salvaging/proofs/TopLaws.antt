@@ -139,7 +139,8 @@ module _ (f cells : List ℕ) (fits : Front 2052 cells (goodCells f 0)) (some : 
         let p : drop 2 (tablePart G) ≡ take t X =
         ap (λ (j : ℕ). drop 2 (take j (drop 2 G))) (sym n) ∙ slice-take 2 t (drop 2 G) ∙ ap (take t) (drop-drop 2 2 G) in
         front-part cells G fits 4 (m - 4) (omega (arith, b)) (omega (arith, b, size))
-        ∙ take-cut (m - 4) (min t mostRowsCells) X (four-less (m - 4) t (length X) e) ∙ taken (min t mostRowsCells) t mostRowsCells X refl ∙ ap (take mostRowsCells) (sym p)
+        ∙ take-cut (m - 4) (min t mostRowsCells) X (four-less (m - 4) t (length X) e) ∙ taken (min t mostRowsCells) t mostRowsCells X refl
+        ∙ ap (take mostRowsCells) (sym p)
 
     -- the rows that are kept, from the cells that the code hands over
     pub rows-cut : noHead f ≡ false → keptFrom (getD cells 2 0) (min (getD cells 3 0) 64) [] (take (m - 4) (drop 4 cells)) ≡ kept f

@@ -3,9 +3,9 @@ use Rattle.refusal.specs.Refusal.{told}
 use Rattle.salvaging.specs.declared.Report.{Report}
 use Rattle.salvaging.specs.declared.Salvage.{Salvage}
 use Rattle.salvaging.specs.declared.Salvage.the-variants as salvage
-use Rattle.salvaging.specs.Salvage.{Facts, Outcome, saved, lost}
+use Rattle.salvaging.specs.Salvage.{Findings, Outcome, saved, lost}
 
-abbrev pub reportTold : Report → Facts
+abbrev pub reportTold : Report → Findings
 reportTold r = record {
   rows = r .kept;
   dropped = r .dropped;

@@ -89,7 +89,7 @@ pub data PlanHad (file : List ℕ) : Bool → List ℕ → Type 0 where
       → Built (work 0) [] plan → PlanHad file false (write plan)
 
 -- "It reports rows kept, rows dropped, whether the plan was kept, and each bad block": the numbers, with the cells and blocks that are written
-pub record Facts : Type 0 where
+pub record Findings : Type 0 where
   pub rows : ℕ
   pub dropped : ℕ
   pub keeps : Bool
@@ -98,13 +98,13 @@ pub record Facts : Type 0 where
   pub bad : ℕ
 
 pub data Outcome : Type 0 where
-  saved : Facts → Outcome
+  saved : Findings → Outcome
   lost : Refused → Outcome
 
-abbrev pub noRoom : ℕ → Outcome
-noRoom need = lost (refused reason.Room input.Lent need)
+abbrev pub roomShort : ℕ → Outcome
+roomShort need = lost (refused reason.Room input.Lent need)
 
-abbrev pub facts : (file : List ℕ) (keeps : Bool) (cells : List ℕ) → Facts
+abbrev pub facts : (file : List ℕ) (keeps : Bool) (cells : List ℕ) → Findings
 facts file keeps cells = record {
   rows = length (kept file);
   dropped = count file - length (kept file);
@@ -121,13 +121,13 @@ pub data Salvaged (file table plan bad table′ plan′ bad′ : List ℕ) (answ
       → Salvaged file table plan bad table′ plan′ bad′ answer
   none-kept : noHead file ≡ false → kept file ≡ [] → answer ≡ lost (refused reason.None input.File 0) → table′ ≡ table → plan′ ≡ plan
       → bad′ ≡ bad → Salvaged file table plan bad table′ plan′ bad′ answer
-  table-short : noHead file ≡ false → 1 ≤ length (kept file) → length table < length (keptCells file) → answer ≡ noRoom (length (keptCells file))
+  table-short : noHead file ≡ false → 1 ≤ length (kept file) → length table < length (keptCells file) → answer ≡ roomShort (length (keptCells file))
       → table′ ≡ table → plan′ ≡ plan → bad′ ≡ bad → Salvaged file table plan bad table′ plan′ bad′ answer
   plan-short : noHead file ≡ false → 1 ≤ length (kept file) → length (keptCells file) ≤ length table → (keeps : Bool) (cells : List ℕ)
-      → PlanHad file keeps cells → length plan < length cells → answer ≡ noRoom (length cells) → table′ ≡ table → plan′ ≡ plan → bad′ ≡ bad
+      → PlanHad file keeps cells → length plan < length cells → answer ≡ roomShort (length cells) → table′ ≡ table → plan′ ≡ plan → bad′ ≡ bad
       → Salvaged file table plan bad table′ plan′ bad′ answer
   bad-short : noHead file ≡ false → 1 ≤ length (kept file) → length (keptCells file) ≤ length table → (keeps : Bool) (cells : List ℕ)
-      → PlanHad file keeps cells → length cells ≤ length plan → length bad < length (badIn file) → answer ≡ noRoom (length (badIn file))
+      → PlanHad file keeps cells → length cells ≤ length plan → length bad < length (badIn file) → answer ≡ roomShort (length (badIn file))
       → table′ ≡ table → plan′ ≡ plan → bad′ ≡ bad → Salvaged file table plan bad table′ plan′ bad′ answer
   all-had : noHead file ≡ false → 1 ≤ length (kept file) → length (keptCells file) ≤ length table → (keeps : Bool) (cells : List ℕ)
       → PlanHad file keeps cells → length cells ≤ length plan → length (badIn file) ≤ length bad → answer ≡ saved (facts file keeps cells)

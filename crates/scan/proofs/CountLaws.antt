@@ -15,7 +15,7 @@ use Rattle.refusal.specs.declared.Input.the-variants as input
 use Rattle.grammar.specs.Grammar.{Symbol, Fact, Text}
 use Rattle.grammar.specs.Meaning.{none, found, alike, otherThan, otherIn, widthOf, symbolsOf}
 use Rattle.grammar.specs.Taken.{too-long, no-text, other-fact, taken}
-use Rattle.grammar.specs.Reader.{stop, nothing, Out, stops, reads, before, run, textOf}
+use Rattle.grammar.specs.Reader.{stop, nothing, Out, stops, reads, factBefore, run, textOf}
 use Rattle.grammar.proofs.Accepted.{accepted, refused-at}
 use Rattle.lex.specs.Heads.{factMode}
 use Rattle.scan.specs.declared.facts.Seen.{Seen}
@@ -23,7 +23,8 @@ use Rattle.scan.specs.declared.facts.Tally.{Tally}
 use Rattle.scan.specs.declared.Scan.{Scan}
 use Rattle.scan.specs.Scan.{scanTold, ScanIs}
 use Rattle.scan.specs.code.Facts as code
-use Rattle.scan.specs.code.Facts.{seenFact, Fits, tallyOf, laterOther, withFact, Sized, Kept, otherSaid, FirstIs, Tallied, withFacts, Going, verdictOf}
+use Rattle.scan.specs.code.Facts.{seenFact, FactFits, tallyOf, laterOther, withFact, Sized, FactsKept, otherSaid, FirstIs, Tallied, withFacts}
+use Rattle.scan.specs.code.Facts.{Going, verdictOf}
 use Rattle.limits.specs.Limits.{mostTextBytes}
 
 -- one fact more, as the code makes it
@@ -40,17 +41,17 @@ one-more t c x n e = rw (ne-eqb (c .facts) 0 n, e)
 with-stops : (fs : List Fact) (p : ℕ) → withFacts fs (stops p) ≡ stops p
 unfolding withFacts
 with-stops [] p = refl
-with-stops (f ∷ fs) p = ap (before f) (with-stops fs p)
+with-stops (f ∷ fs) p = ap (factBefore f) (with-stops fs p)
 
 with-reads : (fs : List Fact) → withFacts fs (reads []) ≡ reads fs
 unfolding withFacts
 with-reads [] = refl
-with-reads (f ∷ fs) = ap (before f) (with-reads fs)
+with-reads (f ∷ fs) = ap (factBefore f) (with-reads fs)
 
-with-more : (fs : List Fact) (g : Fact) (o : Out) → withFacts (fs ++ (g ∷ [])) o ≡ withFacts fs (before g o)
+with-more : (fs : List Fact) (g : Fact) (o : Out) → withFacts (fs ++ (g ∷ [])) o ≡ withFacts fs (factBefore g o)
 unfolding withFacts
 with-more [] g o = refl
-with-more (f ∷ fs) g o = ap (before f) (with-more fs g o)
+with-more (f ∷ fs) g o = ap (factBefore f) (with-more fs g o)
 
 symbols-more : (fs : List Fact) (g : Fact) → length (symbolsOf (fs ++ (g ∷ []))) ≡ length (symbolsOf fs) + length (g .symbols)
 unfolding flatten
@@ -92,7 +93,8 @@ module _ (t : List ℕ) (f g : Fact) (other : ℕ) (h : g .start < 65536) where
       by false = rw (lt-ltb (g .start) 65536 h)
   other-more (x ∷ fs) e = by (alike t x f) (other-more fs) e
     where
-      by : (b : Bool) → (otherThan t f fs ≡ otherSaid other → otherThan t f (fs ++ (g ∷ [])) ≡ otherSaid next) → cond b (otherThan t f fs) (found (x .start)) ≡ otherSaid other
+      by : (b : Bool) → (otherThan t f fs ≡ otherSaid other → otherThan t f (fs ++ (g ∷ [])) ≡ otherSaid next)
+          → cond b (otherThan t f fs) (found (x .start)) ≡ otherSaid other
           → cond b (otherThan t f (fs ++ (g ∷ []))) (found (x .start)) ≡ otherSaid next
       by true k q = k q
       by false k q = rw (found-said other (x .start) q) q
@@ -132,10 +134,12 @@ module _ (t : List ℕ) (at : ℕ) (c : Tally) (G : Going t at (eqb (c .facts) 0
   some : (fs : List Fact) (g : Fact) {c′ : Tally} → Tallied t (fs ++ (g ∷ [])) c′ → eqb (c′ .facts) 0 ≡ false
   some fs g {c′} T = ne-eqb (c′ .facts) 0 (λ e. omega (arith, T .number, length-append fs (g ∷ [])))
 
-  pub fact-more : (x : Seen) {c′ : Tally} → Fits t at (eqb (c .facts) 0) x → x .start < 65536 → c′ ≡ withFact t c x → Going t (x .next) (eqb (c′ .facts) 0) c′
+  pub fact-more : (x : Seen) {c′ : Tally} → FactFits t at (eqb (c .facts) 0) x → x .start < 65536 → c′ ≡ withFact t c x
+      → Going t (x .next) (eqb (c′ .facts) 0) c′
   fact-more x {c′} F h q =
       let g = seenFact x (F .out) in
-      let T : Tallied t (G .facts ++ (g ∷ [])) c′ = subst (Tallied t (G .facts ++ (g ∷ []))) (sym q) (tallied-more t (G .facts) c x (F .out) (F .count) h (G .counts)) in
+      let T : Tallied t (G .facts ++ (g ∷ [])) c′ =
+          subst (Tallied t (G .facts ++ (g ∷ []))) (sym q) (tallied-more t (G .facts) c x (F .out) (F .count) h (G .counts)) in
       record {
         facts = G .facts ++ (g ∷ []);
         counts = T;
@@ -146,7 +150,8 @@ module _ (t : List ℕ) (at : ℕ) (c : Tally) (G : Going t at (eqb (c .facts) 0
             ∙ ap (λ (b : Bool). withFacts (G .facts ++ (g ∷ [])) (run (drop (x .next) t) (factMode b) nothing (x .next))) (sym (some (G .facts) g T));
       }
 
-  pub all-read : length t ≤ mostTextBytes → {r : Scan} → run (drop at t) (factMode (eqb (c .facts) 0)) nothing at ≡ reads [] → scanTold r ≡ verdictOf c → ScanIs t r
+  pub all-read : length t ≤ mostTextBytes → {r : Scan} → run (drop at t) (factMode (eqb (c .facts) 0)) nothing at ≡ reads []
+      → scanTold r ≡ verdictOf c → ScanIs t r
   all-read h {r} e q = by (ltb (c .other) 65536) refl
     where
       text : Text t (G .facts)
@@ -177,10 +182,10 @@ pub over-bytes : (t : List ℕ) {r : Scan} → mostTextBytes < length t → scan
 over-bytes t h q = record { says = refuse (refused reason.Bytes input.Text 0); rule = too-long h; answer = q }
 
 -- the numbers
-pub kept-none : (t : List ℕ) {c : Tally} → c ≡ code.noFacts → Kept t 0 c
-kept-none t q = subst (Kept t 0) (sym q) (record { first = (omega arith, omega arith); few = omega arith; sum = omega arith })
+pub kept-none : (t : List ℕ) {c : Tally} → c ≡ code.noFacts → FactsKept t 0 c
+kept-none t q = subst (FactsKept t 0) (sym q) (record { first = (omega arith, omega arith); few = omega arith; sum = omega arith })
 
-module _ (t : List ℕ) (at : ℕ) (c : Tally) (K : Kept t at c) (f : Bool) (x : Seen) (F : Fits t at f x) where
+module _ (t : List ℕ) (at : ℕ) (c : Tally) (K : FactsKept t at c) (f : Bool) (x : Seen) (F : FactFits t at f x) where
   pub sized : length t ≤ mostTextBytes → Sized t c x
   sized h =
       record {
@@ -190,19 +195,19 @@ module _ (t : List ℕ) (at : ℕ) (c : Tally) (K : Kept t at c) (f : Bool) (x :
         sum = K .sum;
       }
 
-  pub kept-more : length t ≤ mostTextBytes → {c′ : Tally} → c′ ≡ withFact t c x → Kept t (x .next) c′
-  kept-more h q = subst (Kept t (x .next)) (sym q) (by (decLt 0 (c .facts)))
+  pub kept-more : length t ≤ mostTextBytes → {c′ : Tally} → c′ ≡ withFact t c x → FactsKept t (x .next) c′
+  kept-more h q = subst (FactsKept t (x .next)) (sym q) (by (decLt 0 (c .facts)))
     where
-      by : Dec (0 < c .facts) → Kept t (x .next) (withFact t c x)
+      by : Dec (0 < c .facts) → FactsKept t (x .next) (withFact t c x)
       by (yes l) =
-          subst (Kept t (x .next)) (one-more t c x (λ e. omega arith) refl)
+          subst (FactsKept t (x .next)) (one-more t c x (λ e. omega arith) refl)
           (record {
             first = K .first;
             few = omega (arith, K .few, F .from .0, F .from .1, F .within .0);
             sum = omega (arith, K .sum, F .few, F .within .1);
           })
       by (no n) =
-          subst (Kept t (x .next)) (one-fact t c x (omega arith))
+          subst (FactsKept t (x .next)) (one-fact t c x (omega arith))
           (record {
             first = (omega (arith, F .from .1), omega (arith, F .within .0, F .within .1));
             few = omega (arith, F .from .1, F .within .0);

@@ -7,7 +7,7 @@ use native.Mathlib.Omega.{arith}
 use native.Mathlib.Numerals.{add-one}
 use lib.ListN.{length, drop}
 use Rattle.grammar.specs.Grammar.{fact}
-use Rattle.grammar.specs.Reader.{closed, stop, Work, work, nothing, Out, stops, reads, before, run}
+use Rattle.grammar.specs.Reader.{closed, stop, Work, work, nothing, Out, stops, reads, factBefore, run}
 use Rattle.lex.specs.Heads.{factMode, Heads, Closes}
 use Rattle.lex.specs.declared.fact.Head.{Head}
 use Rattle.lex.specs.declared.fact.Head.the-variants as head
@@ -17,7 +17,7 @@ use Rattle.scan.specs.declared.arguments.Arguments.{Arguments}
 use Rattle.scan.specs.declared.arguments.Arguments.the-variants as arguments
 use Rattle.scan.specs.declared.facts.FactRead.{FactRead}
 use Rattle.scan.specs.code.Arguments.{Whole, argumentsAt, Reads}
-use Rattle.scan.specs.code.Facts.{Fits, FactIs}
+use Rattle.scan.specs.code.Facts.{FactFits, FactIs}
 use Rattle.limits.specs.Limits.{mostTextBytes}
 
 module _ (t : List ℕ) (at : ℕ) (first : Bool) {r : Head} (H : Heads t at first r) where
@@ -58,7 +58,7 @@ module _ (t : List ℕ) (at : ℕ) (first : Bool) {r : Head} (H : Heads t at fir
           pub no-end : {p : ℕ} → z ≡ fact-end.Stop p → (w : Work) → whole w ≡ stops p
           no-end j w = closing w ∙ is-end j .same (work s e d [] (args .1 .out))
 
-          pub fact-fits : {next : ℕ} → z ≡ fact-end.Full next → Fits t at first (record { start = s; end = e; width = d + 1; symbols = n; next = next })
+          pub fact-fits : {next : ℕ} → z ≡ fact-end.Full next → FactFits t at first (record { start = s; end = e; width = d + 1; symbols = n; next = next })
           fact-fits {next} j =
               let x = args in
               let y = is-end j in
@@ -73,7 +73,7 @@ module _ (t : List ℕ) (at : ℕ) (first : Bool) {r : Head} (H : Heads t at fir
                     λ w.
                     closing w
                     ∙ y .same (work s e d [] (x .1 .out))
-                    ∙ ap (λ (k : ℕ). before (fact s e k (x .1 .out)) (run (drop next t) stop nothing next)) (sym (add-one d));
+                    ∙ ap (λ (k : ℕ). factBefore (fact s e k (x .1 .out)) (run (drop next t) stop nothing next)) (sym (add-one d));
               }
 
 pub fact-is : (t : List ℕ) (at : ℕ) (first : Bool) {r x : FactRead} → FactIs t at first r → r ≡ x → FactIs t at first x

@@ -13,7 +13,7 @@ use Rattle.grammar.proofs.Fixed.{taken-fixed}
 use Rattle.scan.specs.declared.Counted.{Counted}
 use Rattle.scan.specs.declared.Scan.{Scan}
 use Rattle.scan.specs.declared.Scan.the-variants as scan
-use Rattle.scan.specs.Scan.{counted, countedIn, scanTold, ScanIs, Counts}
+use Rattle.scan.specs.Scan.{countedAs, countedIn, scanTold, ScanIs, Counts}
 
 told-apart : (a b : Scan) → scanTold a ≡ scanTold b → a ≡ b
 told-apart (scan.Facts c) (scan.Facts d) e = ap scan.Facts cc
@@ -29,8 +29,8 @@ reads-one e = cc
 
 counted-alike : {c d : Counted} → c .facts ≡ d .facts → c .width ≡ d .width → c .symbols ≡ d .symbols → c ≡ d
 counted-alike {c} {d} a b e =
-    ap (λ (n : ℕ). counted n (c .width) (c .symbols)) a ∙ ap (λ (n : ℕ). counted (d .facts) n (c .symbols)) b
-    ∙ ap (counted (d .facts) (d .width)) e
+    ap (λ (n : ℕ). countedAs n (c .width) (c .symbols)) a ∙ ap (λ (n : ℕ). countedAs (d .facts) n (c .symbols)) b
+    ∙ ap (countedAs (d .facts) (d .width)) e
 
 pub counts-fixed : (t : List ℕ) {c d : Counted} (C : Counts t c) (D : Counts t d) → (C .facts ≡ D .facts) × (c ≡ d)
 counts-fixed t C D =

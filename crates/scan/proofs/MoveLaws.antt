@@ -9,7 +9,7 @@ use lib.ListN.{length, getD, drop, set, length-set, length-append}
 use lib.Seq.{getD-set-same, getD-set-other}
 use borrow.Author.Tests.{lt-ltb, le-ltb}
 use Rattle.grammar.specs.Grammar.{Symbol, name, variable, number}
-use Rattle.grammar.specs.Reader.{arg, after, Frame, frame, oneMore, oneMoreIn, Work, work, put, push, comma, close, Out, run}
+use Rattle.grammar.specs.Reader.{arg, after, Frame, frame, oneMore, oneMoreIn, Work, work, put, push, onComma, onClose, Out, run}
 use Rattle.lex.specs.Turns.{termMode, onMark, Turns}
 use Rattle.lex.specs.declared.turn.Turn.{Turn}
 use Rattle.lex.specs.declared.turn.Turn.the-variants as turn
@@ -18,7 +18,7 @@ use Rattle.scan.specs.declared.arguments.Move.the-variants as move
 use Rattle.scan.specs.declared.arguments.Spot.{Spot}
 use Rattle.scan.specs.code.Levels.{levelAt, stored, levelsOf}
 use Rattle.scan.proofs.LevelLaws.{levels-set}
-use Rattle.scan.specs.code.Arguments.{spot, doneIn, Ready, Under, Goes, Moved, argumentsAt}
+use Rattle.scan.specs.code.Arguments.{spot, doneIn, Ready, UnderSpot, Goes, Moved, argumentsAt}
 use Rattle.limits.specs.Limits.{mostTextBytes}
 
 -- the innermost open name
@@ -60,7 +60,7 @@ module _ (t dones : List ℕ) (sp : Spot) (R : Ready t dones sp) {r : Turn} (T :
   -- a symbol
   symbol-goes : (x : Symbol) (e : ℕ) → sp .at < e → e ≤ length t
       → ((w : Work) → run (drop (sp .at) t) (termMode (sp .past)) w (sp .at) ≡ run (drop e t) after (put x w) e)
-      → (F : ℕ → ℕ → Out) → Under F t dones sp → Goes F t dones (sp .at) (spot e true (sp .depth) (sp .done) (sp .symbols + 1))
+      → (F : ℕ → ℕ → Out) → UnderSpot F t dones sp → Goes F t dones (sp .at) (spot e true (sp .depth) (sp .done) (sp .symbols + 1))
   unfolding put
   symbol-goes x e l h f F U =
       record {
@@ -76,18 +76,18 @@ module _ (t dones : List ℕ) (sp : Spot) (R : Ready t dones sp) {r : Turn} (T :
       }
 
   module _ {e : ℕ} {v : Spot} (made : v ≡ spot e true (sp .depth) (sp .done) (sp .symbols + 1)) where
-    pub name-moves : {s : ℕ} → r ≡ turn.Name s e → (F : ℕ → ℕ → Out) → Under F t dones sp → Moved F t dones sp (move.Go v)
+    pub name-moves : {s : ℕ} → r ≡ turn.Name s e → (F : ℕ → ℕ → Out) → UnderSpot F t dones sp → Moved F t dones sp (move.Go v)
     name-moves {s} q F U = let x = is-turn q in to made (symbol-goes (name s e 0) e (omega (arith, x .leads .0, x .leads .1)) (x .leads .2) (x .same) F U)
 
-    pub variable-moves : {s : ℕ} → r ≡ turn.Variable s e → (F : ℕ → ℕ → Out) → Under F t dones sp → Moved F t dones sp (move.Go v)
+    pub variable-moves : {s : ℕ} → r ≡ turn.Variable s e → (F : ℕ → ℕ → Out) → UnderSpot F t dones sp → Moved F t dones sp (move.Go v)
     variable-moves {s} q F U = let x = is-turn q in to made (symbol-goes (variable s e) e (omega (arith, x .leads .0, x .leads .1)) (x .leads .2) (x .same) F U)
 
-    pub number-moves : {n : ℕ} → r ≡ turn.Number n e → (F : ℕ → ℕ → Out) → Under F t dones sp → Moved F t dones sp (move.Go v)
+    pub number-moves : {n : ℕ} → r ≡ turn.Number n e → (F : ℕ → ℕ → Out) → UnderSpot F t dones sp → Moved F t dones sp (move.Go v)
     number-moves {n} q F U = let x = is-turn q in to made (symbol-goes (number n) e (x .leads .0) (x .leads .1) (x .same) F U)
 
   -- a name with its bracket
   pub open-moves : {s e : ℕ} {v : Spot} → v ≡ spot (e + 1) false (sp .depth + 1) (sp .done) (sp .symbols + 1) → r ≡ turn.Open s e
-      → (F : ℕ → ℕ → Out) → Under F t dones sp → Moved F t (stored dones (sp .depth) 0) sp (move.Go v)
+      → (F : ℕ → ℕ → Out) → UnderSpot F t dones sp → Moved F t (stored dones (sp .depth) 0) sp (move.Go v)
   unfolding push
   open-moves {s} {e} made q F U =
       let x = is-turn q in
@@ -116,7 +116,7 @@ module _ (t dones : List ℕ) (sp : Spot) (R : Ready t dones sp) {r : Turn} (T :
       })
 
   -- no text goes on so
-  pub stop-moves : {p : ℕ} → r ≡ turn.Stop p → (F : ℕ → ℕ → Out) → Under F t dones sp → Moved F t dones sp (move.Stop p)
+  pub stop-moves : {p : ℕ} → r ≡ turn.Stop p → (F : ℕ → ℕ → Out) → UnderSpot F t dones sp → Moved F t dones sp (move.Stop p)
   stop-moves q F U = record { is = λ s e. U .same s e ∙ is-turn q .same (work s e (sp .done) (U .opened) (U .out)) }
 
   -- a mark: the numbers after it
@@ -125,22 +125,23 @@ module _ (t dones : List ℕ) (sp : Spot) (R : Ready t dones sp) {r : Turn} (T :
   ready-on p depth done past l h a b =
       record { text = R .text; room = R .room; place = omega arith; deep = omega (arith, R .deep); few = omega (arith, R .few); args = omega (arith, R .args) }
 
-  inner : {F : ℕ → ℕ → Out} (U : Under F t dones sp) → (sp .depth ≡ 0 → ⊥) → Innermost dones (sp .depth - 1) (U .opened)
+  inner : {F : ℕ → ℕ → Out} (U : UnderSpot F t dones sp) → (sp .depth ≡ 0 → ⊥) → Innermost dones (sp .depth - 1) (U .opened)
   inner U n =
       let e : suc (sp .depth - 1) ≡ sp .depth = omega arith in
       innermost dones (sp .depth - 1) (U .opened) (ap (levelsOf dones) e ∙ U .levels)
 
   module _ {p : ℕ} (q : r ≡ turn.Comma p) where
-    commas : {F : ℕ → ℕ → Out} (U : Under F t dones sp) {fs : List Frame} → U .opened ≡ fs → (s e : ℕ) → F s e ≡ onMark t p (comma s e (sp .done) fs (U .out))
+    commas : {F : ℕ → ℕ → Out} (U : UnderSpot F t dones sp) {fs : List Frame} → U .opened ≡ fs → (s e : ℕ)
+        → F s e ≡ onMark t p (onComma s e (sp .done) fs (U .out))
     commas U i s e =
         U .same s e
         ∙ is-turn q .same (work s e (sp .done) (U .opened) (U .out))
-        ∙ ap (λ (fs : List Frame). onMark t p (comma s e (sp .done) fs (U .out))) i
+        ∙ ap (λ (fs : List Frame). onMark t p (onComma s e (sp .done) fs (U .out))) i
 
     -- of the fact
     pub comma-fact : {v : Spot} → v ≡ spot (p + 1) false (sp .depth) (sp .done + 1) (sp .symbols) → sp .depth ≡ 0
-        → (F : ℕ → ℕ → Out) → Under F t dones sp → Moved F t dones sp (move.Go v)
-    unfolding comma
+        → (F : ℕ → ℕ → Out) → UnderSpot F t dones sp → Moved F t dones sp (move.Go v)
+    unfolding onComma
     comma-fact made z F U =
         let i = none-open dones (U .opened) (ap (levelsOf dones) (sym z) ∙ U .levels) in
         let l = is-turn q .leads in
@@ -159,8 +160,8 @@ module _ (t dones : List ℕ) (sp : Spot) (R : Ready t dones sp) {r : Turn} (T :
 
     -- of a name that has four arguments
     pub comma-full : (sp .depth ≡ 0 → ⊥) → 3 ≤ levelAt dones (sp .depth - 1)
-        → (F : ℕ → ℕ → Out) → Under F t dones sp → Moved F t dones sp (move.Stop p)
-    unfolding comma
+        → (F : ℕ → ℕ → Out) → UnderSpot F t dones sp → Moved F t dones sp (move.Stop p)
+    unfolding onComma
     comma-full n k F U =
         let i = inner U n in
         record { is = λ s e. commas U (i .is) s e ∙ rw (le-ltb (i .top .done) 3 (omega (arith, i .done))) }
@@ -168,8 +169,8 @@ module _ (t dones : List ℕ) (sp : Spot) (R : Ready t dones sp) {r : Turn} (T :
     -- of a name that has fewer
     pub comma-inside : {v : Spot} → v ≡ spot (p + 1) false (sp .depth) (sp .done) (sp .symbols) → (sp .depth ≡ 0 → ⊥)
         → levelAt dones (sp .depth - 1) < 3
-        → (F : ℕ → ℕ → Out) → Under F t dones sp → Moved F t (stored dones (sp .depth - 1) (levelAt dones (sp .depth - 1) + 1)) sp (move.Go v)
-    unfolding comma
+        → (F : ℕ → ℕ → Out) → UnderSpot F t dones sp → Moved F t (stored dones (sp .depth - 1) (levelAt dones (sp .depth - 1) + 1)) sp (move.Go v)
+    unfolding onComma
     comma-inside made n k F U =
         let i = inner U n in
         let g = i .top in
@@ -200,14 +201,15 @@ module _ (t dones : List ℕ) (sp : Spot) (R : Ready t dones sp) {r : Turn} (T :
         })
 
   module _ {p : ℕ} (q : r ≡ turn.Close p) where
-    closes : {F : ℕ → ℕ → Out} (U : Under F t dones sp) {fs : List Frame} → U .opened ≡ fs → (s e : ℕ) → F s e ≡ onMark t p (close s e (sp .done) fs (U .out))
+    closes : {F : ℕ → ℕ → Out} (U : UnderSpot F t dones sp) {fs : List Frame} → U .opened ≡ fs → (s e : ℕ)
+        → F s e ≡ onMark t p (onClose s e (sp .done) fs (U .out))
     closes U i s e =
         U .same s e
         ∙ is-turn q .same (work s e (sp .done) (U .opened) (U .out))
-        ∙ ap (λ (fs : List Frame). onMark t p (close s e (sp .done) fs (U .out))) i
+        ∙ ap (λ (fs : List Frame). onMark t p (onClose s e (sp .done) fs (U .out))) i
 
-    pub close-fact : sp .depth ≡ 0 → (F : ℕ → ℕ → Out) → Under F t dones sp → Moved F t dones sp (move.Closed (p + 1))
-    unfolding close
+    pub close-fact : sp .depth ≡ 0 → (F : ℕ → ℕ → Out) → UnderSpot F t dones sp → Moved F t dones sp (move.Closed (p + 1))
+    unfolding onClose
     close-fact z F U =
         let i = none-open dones (U .opened) (ap (levelsOf dones) (sym z) ∙ U .levels) in
         let l = is-turn q .leads in
@@ -226,8 +228,8 @@ module _ (t dones : List ℕ) (sp : Spot) (R : Ready t dones sp) {r : Turn} (T :
         }
 
     pub close-inside : {v : Spot} → v ≡ spot (p + 1) true (sp .depth - 1) (sp .done) (sp .symbols) → (sp .depth ≡ 0 → ⊥)
-        → (F : ℕ → ℕ → Out) → Under F t dones sp → Moved F t dones sp (move.Go v)
-    unfolding close
+        → (F : ℕ → ℕ → Out) → UnderSpot F t dones sp → Moved F t dones sp (move.Go v)
+    unfolding onClose
     close-inside made n F U =
         let i = inner U n in
         let g = i .top in
@@ -247,10 +249,10 @@ module _ (t dones : List ℕ) (sp : Spot) (R : Ready t dones sp) {r : Turn} (T :
 
 -- the start
 pub none-yet : (t dones : List ℕ) (at : ℕ) {v : Spot} → v ≡ spot at false 0 0 0 → at ≤ length t → length t ≤ mostTextBytes → length t < 8 * length dones
-    → Ready t dones v × Under (argumentsAt t at) t dones v
+    → Ready t dones v × UnderSpot (argumentsAt t at) t dones v
 unfolding levelsOf
 none-yet t dones at q h k l =
-    subst (λ (v : Spot). Ready t dones v × Under (argumentsAt t at) t dones v) (sym q) (
+    subst (λ (v : Spot). Ready t dones v × UnderSpot (argumentsAt t at) t dones v) (sym q) (
       record { text = k; room = l; place = h; deep = omega arith; few = omega arith; args = omega arith },
       record { opened = []; out = []; levels = refl; count = refl; same = λ s e. refl },
     )

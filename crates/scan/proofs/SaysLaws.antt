@@ -13,7 +13,7 @@ use Rattle.grammar.specs.Meaning.{widthOf, symbolsOf}
 use Rattle.grammar.specs.Taken.{Taken, taken}
 use Rattle.grammar.proofs.Accepted.{accepted}
 use Rattle.grammar.proofs.LongLaws.{text-long}
-use Rattle.scan.specs.Scan.{counted, countedIn, ScanIs, Counts}
+use Rattle.scan.specs.Scan.{countedAs, countedIn, ScanIs, Counts}
 use Rattle.scan.specs.declared.Counted.{Counted}
 use Rattle.scan.specs.declared.Scan.{Scan}
 use Rattle.scan.specs.declared.Scan.the-variants as scan
@@ -27,7 +27,7 @@ scan-facts t c s = by (s .says) (s .rule) (s .answer)
   where
     by : (o : Read (List Fact)) → Taken t o → read c ≡ countedIn o → Counts t c
     by (read fs) x e =
-        let q : c ≡ counted (length fs) (widthOf fs) (length (symbolsOf fs)) = cc in
+        let q : c ≡ countedAs (length fs) (widthOf fs) (length (symbolsOf fs)) = cc in
         record {
           facts = fs;
           taken = x;

@@ -12,12 +12,12 @@ use Rattle.scan.specs.declared.Counted.{Counted}
 use Rattle.scan.specs.declared.Scan.{Scan}
 use Rattle.scan.specs.declared.Scan.the-variants as scan
 
-abbrev pub counted : ℕ → ℕ → ℕ → Counted
-counted f w s = record { facts = f; width = w; symbols = s }
+abbrev pub countedAs : ℕ → ℕ → ℕ → Counted
+countedAs f w s = record { facts = f; width = w; symbols = s }
 
 -- how many facts there are, the first one's number of arguments, the symbols of all
 abbrev pub countedIn : Read (List Fact) → Read Counted
-countedIn (read fs) = read (counted (length fs) (widthOf fs) (length (symbolsOf fs)))
+countedIn (read fs) = read (countedAs (length fs) (widthOf fs) (length (symbolsOf fs)))
 countedIn (refuse f) = refuse f
 
 -- what the code says

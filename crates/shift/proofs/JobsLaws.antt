@@ -8,7 +8,7 @@ use lib.Bits.{bitOr}
 use lib.Pow.{shl-exact}
 use lib.ListN.{length, getD, take, drop, replicate}
 use lib.Seq.{getD-take, length-take-le, take-append-seam}
-use Rattle.refusal.specs.Refusal.{numberOf, answered}
+use Rattle.refusal.specs.Refusal.{reasonNumber, answered}
 use Rattle.refusal.specs.declared.Reason.the-variants as reason
 use Rattle.refusal.specs.declared.Refusal.{Refusal}
 use Rattle.refusal.specs.Read.{Read, read, refuse}
@@ -18,7 +18,7 @@ use Rattle.plan.specs.Check.{planOf}
 use Rattle.checker.specs.Checked.{planTold, planSays}
 use Rattle.checker.specs.declared.PlanAnswer.{PlanAnswer}
 use Rattle.checker.specs.declared.PlanAnswer.the-variants as plan-answer
-use Rattle.plannotes.specs.Noted.{Handed}
+use Rattle.plannotes.specs.Noted.{NotedInto}
 use Rattle.plannotes.specs.declared.Noted.{Noted}
 use Rattle.plannotes.proofs.HandedLaws.{handed-says}
 use Rattle.answer.specs.Run.{runTold, Ran, refusal, ran}
@@ -73,18 +73,20 @@ hits-rise {t} {room = room} {room′ = room′} {r = r} {h} {n} z (ran T tree fo
 
 -- The record, for the table and the plan of which the numbers are noted.
 module _ {numbers : List ℕ} {noted : Noted} (cells : List ℕ) (j : Job) where
-  pub past : {k : Job} → length cells < j .start + j .count → k ≡ filled j (numberOf reason.Length) 0 0 0 → AskedBy numbers noted cells j k
+  pub past : {k : Job} → length cells < j .start + j .count → k ≡ filled j (reasonNumber reason.Length) 0 0 0 → AskedBy numbers noted cells j k
   past l e t p ns h = outside l e
 
   -- the part of the cells from the start to the sum is the goal
   module _ {room : List ℕ} {r : RunAnswer} (l : j .start + j .count ≤ length cells)
-      (x : (t p ns : List ℕ) → Handed t p ns numbers noted → Ran t p (take (j .start + j .count - j .start) (drop (j .start) cells)) (replicate 64 0) room r) where
-    ran-alone : (t p ns : List ℕ) → Handed t p ns numbers noted → Ran t p (take (j .count) (drop (j .start) cells)) (replicate 64 0) room r
+      (x : (t p ns : List ℕ) → NotedInto t p ns numbers noted
+          → Ran t p (take (j .start + j .count - j .start) (drop (j .start) cells)) (replicate 64 0) room r) where
+    ran-alone : (t p ns : List ℕ) → NotedInto t p ns numbers noted → Ran t p (take (j .count) (drop (j .start) cells)) (replicate 64 0) room r
     ran-alone t p ns h =
         let e : j .start + j .count - j .start ≡ j .count = omega arith in
         subst (λ (n : ℕ). Ran t p (take n (drop (j .start) cells)) (replicate 64 0) room r) e (x t p ns h)
 
-    pub refused-alone : {f : Refusal} {k : Job} → r ≡ run-answer.Refused f → k ≡ filled j (numberOf (f .reason)) (f .place) 0 0 → AskedBy numbers noted cells j k
+    pub refused-alone : {f : Refusal} {k : Job} → r ≡ run-answer.Refused f → k ≡ filled j (reasonNumber (f .reason)) (f .place) 0 0
+        → AskedBy numbers noted cells j k
     refused-alone d e t p ns h = alone room r l (ran-alone t p ns h) (e ∙ ap (λ (s : RunAnswer). entered j s room) (sym d))
 
     pub found-alone : {h n b : ℕ} → r ≡ run-answer.Ran h n → length room ≡ 64 → (Hits room h → b ≡ bitsOf (take h room))
@@ -94,8 +96,9 @@ module _ {numbers : List ℕ} {noted : Noted} (cells : List ℕ) (j : Job) where
         alone room r l x (ap (λ (z : ℕ). filled j 0 0 z n) (e (hits-rise z x d)) ∙ ap (λ (s : RunAnswer). entered j s room) (sym d))
 
 -- The list, by the check's answer.
-module _ {t p before numbers : List ℕ} {m : Noted} (cells : List ℕ) (h : Handed t p before numbers m) {jobs : List Job} where
-  pub jobs-asked : {jobs′ : List Job} → isAccepted (m .answer) ≡ true → Each (AskedBy numbers m cells) jobs jobs′ → JobsRun t p cells jobs jobs′ (planTold (m .answer))
+module _ {t p before numbers : List ℕ} {m : Noted} (cells : List ℕ) (h : NotedInto t p before numbers m) {jobs : List Job} where
+  pub jobs-asked : {jobs′ : List Job} → isAccepted (m .answer) ≡ true → Each (AskedBy numbers m cells) jobs jobs′
+      → JobsRun t p cells jobs jobs′ (planTold (m .answer))
   jobs-asked {jobs′} is each = go (planOf t p) refl (m .answer) (handed-says h) is
     where
       go : (x : Read ℕ) → planOf t p ≡ x → (a : PlanAnswer) → planTold a ≡ planSays x → isAccepted a ≡ true → JobsRun t p cells jobs jobs′ (planTold a)

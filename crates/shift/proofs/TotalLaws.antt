@@ -13,7 +13,8 @@ use Rattle.sums.proofs.HeldLaws.{held-up, held-all, held-none}
 use Rattle.shift.specs.Totals.{asks, goalsIn, Tries, none, more, TriesInAll}
 
 -- the goals from the i-th word on
-pub goals-more : (list : List ℕ) (i : ℕ) → 1 < length list - i → goalsIn (drop i list) ≡ asks (getD list i 0) (getD list (i + 1) 0) ∷ goalsIn (drop (i + 2) list)
+pub goals-more : (list : List ℕ) (i : ℕ) → 1 < length list - i
+    → goalsIn (drop i list) ≡ asks (getD list i 0) (getD list (i + 1) 0) ∷ goalsIn (drop (i + 2) list)
 unfolding goalsIn
 goals-more list i h =
     let a : drop i list ≡ getD list i 0 ∷ drop (suc i) list = drop-cons list i 0 (omega arith) in

@@ -4,9 +4,9 @@ ghost use mathlib.Core.Path.{_≡_};
 ghost use mathlib.Core.List.{List};
 ghost use Prim.Native.Nat.{ℕ, _≤_};
 ghost use lib.ListN.{take};
-ghost use Rattle.refusal.specs.Refusal.{numberOf};
+ghost use Rattle.refusal.specs.Refusal.{reasonNumber};
 ghost use Rattle.answer.specs.Jobs.{bitsOf, filled, Each};
-ghost use Rattle.plannotes.specs.Noted.{Handed};
+ghost use Rattle.plannotes.specs.Noted.{NotedInto};
 ghost use Rattle.shift.specs.Totals.{TriesInAll};
 ghost use Rattle.shift.specs.code.Asked.{isAccepted, AskedBy, Hits};
 use answer::Job;
@@ -58,7 +58,7 @@ pub fn bits(room: &[u8; 64], n: usize) -> u64
 
 // The record of a goal that is turned away.
 fn refused(j: Job, reason: Reason, place: usize) -> Job
-    ensures { λ r. ⌜ r ≡ filled j (numberOf reason) place 0 0 ⌝ }
+    ensures { λ r. ⌜ r ≡ filled j (reasonNumber reason) place 0 0 ⌝ }
 {
     Job {
         start: j.start,
@@ -114,7 +114,7 @@ pub fn ask_all(numbers: &[u64; BRANCHES], noted: Noted, cells: &[u32], jobs: &mu
 
 // What the goals of a list try together. Two words of the list say where a goal's cells start and how many they are.
 pub fn add_all(numbers: &[u64; BRANCHES], noted: Noted, cells: &[u32], list: &[usize]) -> usize
-    ensures { λ r. ⌜ ((table plan before : List ℕ) → Handed table plan before (now (numbers .entry)) noted
+    ensures { λ r. ⌜ ((table plan before : List ℕ) → NotedInto table plan before (now (numbers .entry)) noted
         → TriesInAll table plan (now (cells .entry)) (now (list .entry)) r) ⌝ }
 {
     let mut tried = 0;

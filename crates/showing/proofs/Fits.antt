@@ -18,7 +18,8 @@ use Rattle.answer.specs.declared.RunAnswer.the-variants as run-answer
 at-front : (front room : List ℕ) {room′ : List ℕ} → room′ ≡ front ++ drop (length front) room → length front ≤ length room′
 at-front front room e = omega (arith, ap length e, length-append front (drop (length front) room))
 
-pub built-fits : (b : By) {columns t room room′ : List ℕ} {r : BuildAnswer} {n cost : ℕ} → BuiltInto b columns t room room′ r → r ≡ build-answer.Built n cost → n ≤ length room′
+pub built-fits : (b : By) {columns t room room′ : List ℕ} {r : BuildAnswer} {n cost : ℕ} → BuiltInto b columns t room room′ r
+    → r ≡ build-answer.Built n cost → n ≤ length room′
 built-fits b (table-refused f x a s) e = let z : _≡_ {A = ℕ} 0 1 = cc in absurd (omega arith)
 built-fits b (room-refused T tree x y l a s) e = let z : _≡_ {A = ℕ} 0 1 = cc in absurd (omega arith)
 built-fits b {room = room} {n = n} {cost} (built T tree x y m l a s) e =

@@ -18,7 +18,8 @@ pub closed-fixed : {i m : ℕ} {xs : List ℕ} {r s : Closed} → ClosedAt i m x
 closed-fixed p q = ap₂ (λ (c n : ℕ). record { cell = c; mask = n }) (p .cell ∙ sym (q .cell)) (p .mask ∙ sym (q .mask))
 
 -- mask::close_rows: both lists that are left are given
-pub closed-rows-fixed : {t ss ms hs ms′ hs′ ms″ hs″ : List ℕ} {i first end : ℕ} → ClosedRows t ss ms hs ms′ hs′ i first end → ClosedRows t ss ms hs ms″ hs″ i first end
+pub closed-rows-fixed : {t ss ms hs ms′ hs′ ms″ hs″ : List ℕ} {i first end : ℕ} → ClosedRows t ss ms hs ms′ hs′ i first end
+    → ClosedRows t ss ms hs ms″ hs″ i first end
     → (ms′ ≡ ms″) × (hs′ ≡ hs″)
 closed-rows-fixed p q = (p .masks ∙ sym (q .masks), p .column ∙ sym (q .column))
 

@@ -8,7 +8,8 @@ use lib.Dec.{ltb}
 use lib.ListN.{length, drop, set}
 use lib.Seq.{drop-append-seam}
 use Rattle.grammar.specs.Grammar.{Symbol, name, variable, number, Fact, Facts, last, more}
-use Rattle.grammar.specs.Reader.{Mode, arg, after, closed, Frame, frame, Work, work, Next, dead, go, put, push, comma, close, stop, stops, reads, run, textOf, nothing}
+use Rattle.grammar.specs.Reader.{Mode, arg, after, closed, Frame, frame, Work, work, Next, dead, go, put, push, onComma, onClose, stop, stops, reads}
+use Rattle.grammar.specs.Reader.{run, textOf, nothing}
 use Rattle.grammar.proofs.Accepted.{accepted}
 use Rattle.grammar.proofs.Sound.{clash, before-reads}
 use Rattle.grammar.specs.Reader.{Held, none}
@@ -53,14 +54,17 @@ pub record Marked (t : List ℕ) (p : ℕ) (past : Bool) (fs : List Frame) (out 
   pub items : itemsIn (w .out) ≡ itemsIn out
   pub same : run (drop (p + 1) t) (termMode past) w (p + 1) ≡ reads facts
 
-pub comma-marks : (t : List ℕ) (p s n k : ℕ) (fs : List Frame) (out : List Symbol) (facts : List Fact) → Held out fs → onMark t p (comma s n k fs out) ≡ reads facts
+pub comma-marks : (t : List ℕ) (p s n k : ℕ) (fs : List Frame) (out : List Symbol) (facts : List Fact) → Held out fs
+    → onMark t p (onComma s n k fs out) ≡ reads facts
     → Marked t p false fs out facts (commaTo s n k fs out)
-unfolding comma commaTo
+unfolding onComma commaTo
 comma-marks t p s n k [] out facts h e = record { held = h; items = refl; same = e }
 comma-marks t p s n k (f ∷ fs) out facts h e = record { held = held-comma h; items = items-set (suc (f .done)) h; same = by (ltb (f .done) 3) e }
   where
-    by : (b : Bool) → onMark t p (cond b (go arg (work s n k (frame (f .owner) (f .start) (f .end) (suc (f .done)) ∷ fs) (set out (f .owner) (name (f .start) (f .end) (suc (f .done)))))) dead) ≡ reads facts
-        → run (drop (p + 1) t) arg (work s n k (frame (f .owner) (f .start) (f .end) (suc (f .done)) ∷ fs) (set out (f .owner) (name (f .start) (f .end) (suc (f .done))))) (p + 1) ≡ reads facts
+    by : (b : Bool) → onMark t p (cond b (go arg (work s n k (frame (f .owner) (f .start) (f .end) (suc (f .done)) ∷ fs)
+        (set out (f .owner) (name (f .start) (f .end) (suc (f .done)))))) dead) ≡ reads facts
+        → run (drop (p + 1) t) arg (work s n k (frame (f .owner) (f .start) (f .end) (suc (f .done)) ∷ fs)
+            (set out (f .owner) (name (f .start) (f .end) (suc (f .done))))) (p + 1) ≡ reads facts
     by true q = q
     by false q = clash q
 
@@ -73,9 +77,10 @@ pub close-deep : (s n k : ℕ) (f : Frame) (fs : List Frame) (out : List Symbol)
 unfolding closeTo
 close-deep s n k f fs out = refl
 
-pub close-marks : (t : List ℕ) (p s n k : ℕ) (f : Frame) (fs : List Frame) (out : List Symbol) (facts : List Fact) → Held out (f ∷ fs) → onMark t p (close s n k (f ∷ fs) out) ≡ reads facts
+pub close-marks : (t : List ℕ) (p s n k : ℕ) (f : Frame) (fs : List Frame) (out : List Symbol) (facts : List Fact) → Held out (f ∷ fs)
+    → onMark t p (onClose s n k (f ∷ fs) out) ≡ reads facts
     → Marked t p true (f ∷ fs) out facts (closeTo s n k f fs out)
-unfolding close closeTo
+unfolding onClose closeTo
 close-marks t p s n k f fs out facts h e = record { held = held-close h; items = items-set (suc (f .done)) h; same = e }
 
 -- THE END OF A ROW
@@ -110,35 +115,42 @@ goes-on xs m w p facts h i e =
     let a = keep.ahead xs m w p facts h i e in
     record {
       rest = a .keeps .rest ++ rowsIn (a .rest);
-      is = ap itemsOf (a .is) ∙ ap (λ (l : List Item). l ++ rowsIn (a .rest)) (a .keeps .is) ∙ append-assoc (itemsIn (w .out)) (a .keeps .rest) (rowsIn (a .rest));
+      is =
+          ap itemsOf (a .is) ∙ ap (λ (l : List Item). l ++ rowsIn (a .rest)) (a .keeps .is)
+              ∙ append-assoc (itemsIn (w .out)) (a .keeps .rest) (rowsIn (a .rest));
     }
 
 module _ (t : List ℕ) (sp : Spot) (rest : List Item) (L : Left t sp rest) where
   -- a symbol more: it is the first of what was left
-  with-symbol : (x : Symbol) (w′ : Work) (to : Spot) → w′ .out ≡ L .work .out ++ (x ∷ []) → to .at ≤ length t → to .depth ≤ to .at → length (w′ .opened) ≡ to .depth
+  with-symbol : (x : Symbol) (w′ : Work) (to : Spot) → w′ .out ≡ L .work .out ++ (x ∷ []) → to .at ≤ length t → to .depth ≤ to .at
+      → length (w′ .opened) ≡ to .depth
       → Held (w′ .out) (w′ .opened) → run (drop (to .at) t) (termMode (to .past)) w′ (to .at) ≡ reads (L .facts) → LeftAfter t (itemOf x) to rest
   with-symbol x w′ to o h k d held r =
       let g = goes-on (drop (to .at) t) (termMode (to .past)) w′ (to .at) (L .facts) held (inside (to .past)) r in
       let out = itemsIn (L .work .out) in
       let e : out ++ rest ≡ out ++ (itemOf x ∷ g .rest) =
-      sym (L .items) ∙ g .is ∙ ap (λ (l : List Symbol). itemsIn l ++ g .rest) o ∙ ap (λ (l : List Item). l ++ g .rest) (items-put (L .work .out) x) ∙ append-assoc out (itemOf x ∷ []) (g .rest) in
+      sym (L .items) ∙ g .is ∙ ap (λ (l : List Symbol). itemsIn l ++ g .rest) o ∙ ap (λ (l : List Item). l ++ g .rest) (items-put (L .work .out) x)
+          ∙ append-assoc out (itemOf x ∷ []) (g .rest) in
       record {
         after = g .rest;
         is = same-rest out rest (itemOf x ∷ g .rest) e;
         left = record { work = w′; facts = L .facts; within = h; few = k; deep = d; held = held; same = r; items = g .is };
       }
 
-  put-left : (x : Symbol) (e : ℕ) → sp .at < e → e ≤ length t → ((v : Work) → run (drop (sp .at) t) (termMode (sp .past)) v (sp .at) ≡ run (drop e t) after (put x v) e)
+  put-left : (x : Symbol) (e : ℕ) → sp .at < e → e ≤ length t
+      → ((v : Work) → run (drop (sp .at) t) (termMode (sp .past)) v (sp .at) ≡ run (drop e t) after (put x v) e)
       → LeftAfter t (itemOf x) (spot e true (sp .depth)) rest
   unfolding put
   put-left x e l h f =
       with-symbol x (put x (L .work)) (spot e true (sp .depth)) refl h (omega (arith, L .few)) (L .deep) (held-put x (L .held)) (sym (f (L .work)) ∙ L .same)
 
-  push-left : (s e : ℕ) → sp .at < e → e < length t → ((v : Work) → run (drop (sp .at) t) (termMode (sp .past)) v (sp .at) ≡ run (drop (e + 1) t) arg (push s e v) (e + 1))
+  push-left : (s e : ℕ) → sp .at < e → e < length t
+      → ((v : Work) → run (drop (sp .at) t) (termMode (sp .past)) v (sp .at) ≡ run (drop (e + 1) t) arg (push s e v) (e + 1))
       → LeftAfter t (itemOf (name s e 0)) (spot (e + 1) false (sp .depth + 1)) rest
   unfolding push
   push-left s e l h f =
-      with-symbol (name s e 0) (push s e (L .work)) (spot (e + 1) false (sp .depth + 1)) refl (omega arith) (omega (arith, L .few)) (omega (arith, L .deep)) (held-push s e (L .held))
+      with-symbol (name s e 0) (push s e (L .work)) (spot (e + 1) false (sp .depth + 1)) refl (omega arith) (omega (arith, L .few))
+          (omega (arith, L .deep)) (held-push s e (L .held))
       (sym (f (L .work)) ∙ L .same)
 
   -- the same symbols, a mark further
@@ -157,19 +169,21 @@ module _ (t : List ℕ) (sp : Spot) (rest : List Item) (L : Left t sp rest) wher
       }
 
   comma-left : (p : ℕ) → sp .at ≤ p → p < length t
-      → ((v : Work) → run (drop (sp .at) t) (termMode (sp .past)) v (sp .at) ≡ onMark t p (comma (v .start) (v .end) (v .done) (v .opened) (v .out)))
+      → ((v : Work) → run (drop (sp .at) t) (termMode (sp .past)) v (sp .at) ≡ onMark t p (onComma (v .start) (v .end) (v .done) (v .opened) (v .out)))
       → Left t (spot (p + 1) false (sp .depth)) rest
   comma-left p l h f =
       let v = L .work in
-      marked p false (sp .depth) (commaTo (v .start) (v .end) (v .done) (v .opened) (v .out)) l h (omega arith) (comma-deep (v .start) (v .end) (v .done) (v .opened) (v .out) ∙ L .deep)
+      marked p false (sp .depth) (commaTo (v .start) (v .end) (v .done) (v .opened) (v .out)) l h (omega arith)
+          (comma-deep (v .start) (v .end) (v .done) (v .opened) (v .out) ∙ L .deep)
       (comma-marks t p (v .start) (v .end) (v .done) (v .opened) (v .out) (L .facts) (L .held) (sym (f v) ∙ L .same))
 
   module _ (p : ℕ) (l : sp .at ≤ p) (h : p < length t)
-      (f : (v : Work) → run (drop (sp .at) t) (termMode (sp .past)) v (sp .at) ≡ onMark t p (close (v .start) (v .end) (v .done) (v .opened) (v .out))) where
+      (f : (v : Work) → run (drop (sp .at) t) (termMode (sp .past)) v (sp .at) ≡ onMark t p (onClose (v .start) (v .end) (v .done) (v .opened) (v .out))) where
     close-left : (sp .depth ≡ 0 → ⊥) → Left t (spot (p + 1) true (sp .depth - 1)) rest
     close-left n = by (L .work .opened) (L .deep) (L .held) (sym (f (L .work)) ∙ L .same)
       where
-        by : (fs : List Frame) → length fs ≡ sp .depth → Held (L .work .out) fs → onMark t p (close (L .work .start) (L .work .end) (L .work .done) fs (L .work .out)) ≡ reads (L .facts)
+        by : (fs : List Frame) → length fs ≡ sp .depth → Held (L .work .out) fs
+            → onMark t p (onClose (L .work .start) (L .work .end) (L .work .done) fs (L .work .out)) ≡ reads (L .facts)
             → Left t (spot (p + 1) true (sp .depth - 1)) rest
         by [] d held r = absurd (n (sym d))
         by (g ∷ fs) d held r =
@@ -179,10 +193,10 @@ module _ (t : List ℕ) (sp : Spot) (rest : List Item) (L : Left t sp rest) wher
 
     -- the fact's own bracket
     closed-left : sp .depth ≡ 0 → run (drop (p + 1) t) closed (L .work) (p + 1) ≡ reads (L .facts)
-    unfolding close
+    unfolding onClose
     closed-left z = by (L .work .opened) (L .deep ∙ z) (sym (f (L .work)) ∙ L .same)
       where
-        by : (fs : List Frame) → length fs ≡ 0 → onMark t p (close (L .work .start) (L .work .end) (L .work .done) fs (L .work .out)) ≡ reads (L .facts)
+        by : (fs : List Frame) → length fs ≡ 0 → onMark t p (onClose (L .work .start) (L .work .end) (L .work .done) fs (L .work .out)) ≡ reads (L .facts)
             → run (drop (p + 1) t) closed (work (L .work .start) (L .work .end) (L .work .done) fs (L .work .out)) (p + 1) ≡ reads (L .facts)
         by [] d r = r
         by (g ∷ fs) d r = absurd (omega arith)
@@ -195,7 +209,8 @@ module _ (t : List ℕ) (sp : Spot) (rest : List Item) (L : Left t sp rest) wher
         let n = x .2 v (L .facts) (closed-left z) in
         let a = keep.ahead (drop q t) arg (work (n .start) (n .end) 0 [] []) q (n .later) none in-arg (n .same) in
         let e : itemsIn (v .out) ++ rest ≡ itemsIn (v .out) ++ (next-row ∷ itemsOf (n .later)) =
-        sym (L .items) ∙ ap itemsOf (n .is) ∙ ap (λ (gs : List Fact). itemsIn (v .out) ++ rowsIn gs) (a .is) ∙ ap (λ (gs : List Fact). itemsIn (v .out) ++ (next-row ∷ itemsOf gs)) (sym (a .is)) in
+        sym (L .items) ∙ ap itemsOf (n .is) ∙ ap (λ (gs : List Fact). itemsIn (v .out) ++ rowsIn gs) (a .is)
+            ∙ ap (λ (gs : List Fact). itemsIn (v .out) ++ (next-row ∷ itemsOf gs)) (sym (a .is)) in
         record {
           after = itemsOf (n .later);
           is = same-rest (itemsIn (v .out)) rest (next-row ∷ itemsOf (n .later)) e;

@@ -20,14 +20,14 @@ use Rattle.cell.proofs.CellLaws as cell-laws
 use Rattle.term.proofs.Tests.{eqb-same}
 use Rattle.refusal.specs.Refusal.{Refused}
 use Rattle.refusal.specs.Read.{Read, read, refuse, when, andThen}
-use Rattle.table.specs.Table.{Met, met, bad, counted, cellTests, termsFrom}
+use Rattle.table.specs.Table.{Met, met, badTerm, counted, cellTests, termsFrom}
 use Rattle.refusal.specs.declared.Reason.the-variants as reason
 use Rattle.table.specs.code.Looks.{cellFrom, notWhole}
 use Rattle.table.proofs.ReadLaws.{tests-then, passed-tests}
 
 -- One cell, by what it is and the first test that fails.
 module _ (row : Bool) (c vars p : ℕ) where
-  pub not-cell : valuesAt c ≡ cell-specs.refused → cellFrom row c vars p ≡ refuse (bad row reason.Cell p)
+  pub not-cell : valuesAt c ≡ cell-specs.noValues → cellFrom row c vars p ≡ refuse (badTerm row reason.Cell p)
   unfolding cellFrom
   not-cell e = rw e
 
@@ -40,7 +40,7 @@ module _ (row : Bool) (c vars p : ℕ) where
   a-number e = rw e
 
   module _ {n : ℕ} (e : valuesAt c ≡ values 0 0 n) where
-    pub fresh : vars < n → cellFrom row c vars p ≡ refuse (bad row reason.Fresh p)
+    pub fresh : vars < n → cellFrom row c vars p ≡ refuse (badTerm row reason.Fresh p)
     unfolding cellFrom
     fresh h = rw (e, lt-ltb vars n h)
 
@@ -63,10 +63,10 @@ module _ (c : ℕ) where
   pub high-number : c / 2 ^ 16 ≡ 32768 → valuesAt c ≡ numberValues (c % 2 ^ 16) (signedOf (c % 2 ^ 16))
   high-number h = is-number c (omega arith) (omega arith)
 
-  pub high-none : c / 2 ^ 16 ≢ 0 → (16384 ≤ c / 2 ^ 16 → c / 2 ^ 16 ≤ 16388 → ⊥) → c / 2 ^ 16 ≢ 32768 → valuesAt c ≡ cell-specs.refused
+  pub high-none : c / 2 ^ 16 ≢ 0 → (16384 ≤ c / 2 ^ 16 → c / 2 ^ 16 ≤ 16388 → ⊥) → c / 2 ^ 16 ≢ 32768 → valuesAt c ≡ cell-specs.noValues
   high-none v n z = by (reading c)
     where
-      by : {x : Values} → Reading c x → x ≡ cell-specs.refused
+      by : {x : Values} → Reading c x → x ≡ cell-specs.noValues
       by (cell-laws.a-variable k m) = absurd (v (omega arith))
       by (cell-laws.a-name k m) = absurd (n (omega arith) (omega arith))
       by (cell-laws.a-number k m) = absurd (z (omega arith))
@@ -100,7 +100,7 @@ too-many row [] (suc a) (suc b) used vars p u h k l = refl
 too-many row (c ∷ xs) zero b used vars p u h k l = absurd (omega arith)
 too-many row (c ∷ xs) (suc a) zero used vars p u h k l = absurd (omega arith)
 too-many row (c ∷ xs) (suc a) (suc b) used vars p u h k l =
-    when-both (row && leb 32 used) (bad row reason.Long p) (λ e.
+    when-both (row && leb 32 used) (badTerm row reason.Long p) (λ e.
     let n : used < 32 = room row used (length xs) e l in
     ap (λ (r : Read Met). cellTests row (valuesAt c) vars p r)
     (too-many row xs (valuesAt c .args + a) (valuesAt c .args + b) (suc used) (counted (valuesAt c) vars) (suc p) (omega arith) (omega arith) (omega arith)
@@ -118,7 +118,8 @@ unfolding termsFrom
 stopped row [] zero used vars p h f = absurd (omega arith)
 stopped row [] (suc owed) used vars p h f = go (row && leb 32 used)
   where
-    go : (b : Bool) → _≡_ {A = Read Met} (when b (bad row reason.Long p) (refuse (bad row reason.Short p))) (refuse (bad row (cond b reason.Long reason.Short) p))
+    go : (b : Bool) → _≡_ {A = Read Met} (when b (badTerm row reason.Long p) (refuse (badTerm row reason.Short p)))
+        (refuse (badTerm row (cond b reason.Long reason.Short) p))
     go true = refl
     go false = refl
 stopped row (c ∷ xs) zero used vars p h f = absurd (omega arith)
@@ -134,7 +135,8 @@ module _ (row : Bool) (xs : List ℕ) (from : ℕ) (l : row ≡ false → length
       let o : from + (w - (w - 33)) - from ≡ w - (w - 33) = omega arith in
       let z : from - from ≡ 0 = omega arith in
       rw (o, z) (by-cases (decLt 32 w)
-      (λ (h : 32 < w). too-many row (drop from xs) (w - (w - 33)) w 0 0 from (omega arith) (omega arith) (omega arith) (λ q. omega (arith, l q, length-drop from xs)))
+      (λ (h : 32 < w). too-many row (drop from xs) (w - (w - 33)) w 0 0 from (omega arith) (omega arith) (omega arith)
+          (λ q. omega (arith, l q, length-drop from xs)))
       (λ h. let e : w - (w - 33) ≡ w = omega arith in rw e))
 
   module _ (to vars at : ℕ) where
@@ -157,7 +159,8 @@ module _ (row : Bool) (xs : List ℕ) (from to vars at : ℕ) where
       let a : to + arity c - (at + 1) ≡ arity c + (to - (at + 1)) = omega arith in
       let n : at + 1 - from ≡ suc (at - from) = omega arith in
       rw (drop-cons xs at 0 h, o, a, n, lt-leb 32 (at - from) (omega arith), and-false row, add-one at)
-      (tests-then row (valuesAt c) vars at (counted (valuesAt c) vars) (λ (v : ℕ). termsFrom row (drop (suc at) xs) (arity c + (to - suc at)) (suc (at - from)) v (suc at)))
+      (tests-then row (valuesAt c) vars at (counted (valuesAt c) vars)
+          (λ (v : ℕ). termsFrom row (drop (suc at) xs) (arity c + (to - suc at)) (suc (at - from)) v (suc at)))
 
 -- a cell adds one variable at most
 pub one-more : (row : Bool) (c vars p : ℕ) {v : ℕ} → cellFrom row c vars p ≡ read v → v ≤ vars + 1

@@ -68,7 +68,8 @@ module _ (T : Table) (r : ℕ) where
   none h =
       let l = length-starts 2 (T .rows) in
       let e : length (starts 2 (T .rows)) + (r - length (T .rows)) ≡ r = omega arith in
-      rw e at (getD-append-add (starts 2 (T .rows)) (replicate (64 - length (T .rows)) 0) (r - length (T .rows)) 0) ∙ getD-zeros (64 - length (T .rows)) (r - length (T .rows))
+      rw e at (getD-append-add (starts 2 (T .rows)) (replicate (64 - length (T .rows)) 0) (r - length (T .rows)) 0)
+      ∙ getD-zeros (64 - length (T .rows)) (r - length (T .rows))
 
 -- what an answer for a table tells of its reading
 pub says-read : (t : Read Table) {w n : ℕ} → answered w n ≡ tableSays t → (T : Table) × (t ≡ read T) × (T .width ≡ w) × (length (T .rows) ≡ n)
@@ -99,7 +100,9 @@ module _ (t : List ℕ) {T : Table} (g : tableOf t ≡ read T) (r : ℕ) where
 
   module _ {S : List ℕ} (s : S ≡ startsIn (tableOf t)) where
     pub place-next : r + 1 < length (T .rows) → RowPlace (tableOf t) r (part (getD S r 0) (getD S (r + 1) 0))
-    place-next h = rw (s, g) (record { start = refl; end = rw add-one (noted T (suc r) (omega arith) ∙ start-next 2 (T .rows) r (omega arith) ∙ rw (noted T r (omega arith))) })
+    place-next h =
+        rw (s, g) (record { start = refl; end = rw add-one (noted T (suc r) (omega arith) ∙ start-next 2 (T .rows) r (omega arith)
+            ∙ rw (noted T r (omega arith))) })
 
     pub place-last : r + 1 ≡ length (T .rows) → RowPlace (tableOf t) r (part (getD S r 0) (length t))
     place-last h =

@@ -10,7 +10,7 @@ use Rattle.cell.specs.Cell.{Values}
 use Rattle.refusal.specs.Refusal.{Refused}
 use Rattle.refusal.specs.declared.Reason.the-variants as reason
 use Rattle.refusal.specs.Read.{Read, read, refuse, when, andThen}
-use Rattle.table.specs.Table.{bad, cellTests}
+use Rattle.table.specs.Table.{badTerm, cellTests}
 
 module _ {A B : Type 0} where
   pub then-both : (r : Read A) {f g : A → Read B} → ((x : A) → f x ≡ g x) → andThen r f ≡ andThen r g
@@ -29,7 +29,7 @@ module _ {A B : Type 0} where
 
   pub tests-then : (row : Bool) (v : Values) (vars p : ℕ) (x : A) (f : A → Read B) → cellTests row v vars p (f x) ≡ andThen (cellTests row v vars p (read x)) f
   tests-then row v vars p x f =
-      two-then (eqb (v .kind) 3) (eqb (v .kind) 0 && ltb vars (v .number)) (bad row reason.Cell p) (bad row reason.Fresh p) x f
+      two-then (eqb (v .kind) 3) (eqb (v .kind) 0 && ltb vars (v .number)) (badTerm row reason.Cell p) (badTerm row reason.Fresh p) x f
 
 -- a refusal is not a value, and a test has one answer
 pub apart : {A B : Type 0} {x : A} {f : Refused} → read x ≡ refuse f → B

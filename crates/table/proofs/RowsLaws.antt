@@ -14,7 +14,7 @@ use Rattle.refusal.specs.Refusal.{Refused, refused, Answer, answered, turned}
 use Rattle.refusal.specs.declared.Reason.the-variants as reason
 use Rattle.refusal.specs.declared.Input.the-variants as input
 use Rattle.refusal.specs.Read.{Read, read, refuse, andThen}
-use Rattle.table.specs.Table.{Met, met, table, before, doubled, termsFrom, rowsFrom, Row, appear, Ground, Apart, Distinct}
+use Rattle.table.specs.Table.{Met, met, table, rowBefore, doubled, termsFrom, rowsFrom, Row, appear, Ground, Apart, Distinct}
 use Rattle.table.specs.Table.{starts, tableTold, TableReads}
 use Rattle.table.specs.declared.TableRead.{TableRead}
 use Rattle.table.specs.All.{All}
@@ -49,7 +49,7 @@ module _ (w : ℕ) (seen : List (List ℕ)) (t : List ℕ) (p : ℕ) where
 
     pub rows-more : (n : ℕ) → 0 < n → p ≤ e → doubled (met e v) (take (e - p) (drop p t)) seen ≡ false
         → rowsFrom w n seen (drop p t) p
-        ≡ before (take (e - p) (drop p t)) (rowsFrom w (n - 1) (take (e - p) (drop p t) ∷ seen) (drop e t) e)
+        ≡ rowBefore (take (e - p) (drop p t)) (rowsFrom w (n - 1) (take (e - p) (drop p t) ∷ seen) (drop e t) e)
     unfolding rowsFrom
     rows-more zero l k d = absurd (omega arith)
     rows-more (suc n) l k d =
@@ -74,7 +74,8 @@ read-row w xs p e =
     let l : length (o .front .cells) ≤ 32 = omega (arith, o .front .room refl) in
     rw (whole-part o .0) (passed-head (o .front .terms) l true p (o .tested))
 
-before-read : (r : List ℕ) (R : Read (List (List ℕ))) {rows : List (List ℕ)} → before r R ≡ read rows → (rs : List (List ℕ)) × (R ≡ read rs) × (rows ≡ r ∷ rs)
+before-read : (r : List ℕ) (R : Read (List (List ℕ))) {rows : List (List ℕ)} → rowBefore r R ≡ read rows
+    → (rs : List (List ℕ)) × (R ≡ read rs) × (rows ≡ r ∷ rs)
 before-read r (read rs) e = (rs, refl, cc)
 before-read r (refuse f) e = apart (sym e)
 
@@ -155,7 +156,8 @@ unfolding starts
 after-end w n S p e = rw (e, add-zero n)
 
 -- one row further
-pub after-row : (w n : ℕ) (S : List ℕ) (p : ℕ) (r : List ℕ) (R : Read (List (List ℕ))) → after w n S p (before r R) ≡ after w (n + 1) (set S n p) (p + length r) R
+pub after-row : (w n : ℕ) (S : List ℕ) (p : ℕ) (r : List ℕ) (R : Read (List (List ℕ)))
+    → after w n S p (rowBefore r R) ≡ after w (n + 1) (set S n p) (p + length r) R
 unfolding starts
 after-row w n S p r (read rows) = let e : n + suc (length rows) ≡ n + 1 + length rows = omega arith in rw (e, add-one n)
 after-row w n S p r (refuse f) = refl

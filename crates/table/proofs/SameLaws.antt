@@ -10,13 +10,13 @@ use lib.ListN.{length, getD, take, drop, length-append, take-append-drop}
 use lib.Seq.{take-at, drop-at}
 use Rattle.cell.specs.Cell.{Values, valuesAt}
 use Rattle.cell.specs.Same.{among}
-use Rattle.refusal.specs.Refusal.{Refused, refused, numberOf}
+use Rattle.refusal.specs.Refusal.{Refused, refused, reasonNumber}
 use Rattle.refusal.specs.declared.Reason.{Reason}
 use Rattle.refusal.specs.declared.Reason.the-variants as reason
 use Rattle.refusal.specs.declared.Input.the-variants as input
 use Rattle.refusal.specs.Read.{Read, read, refuse, when, andThen}
 use Rattle.table.specs.All.{All}
-use Rattle.table.specs.Table.{Met, met, bad, counted, cellTests, termsFrom, before, doubled, rowsFrom, table, tableOf, Row, appear, Ground, Apart}
+use Rattle.table.specs.Table.{Met, met, badTerm, counted, cellTests, termsFrom, rowBefore, doubled, rowsFrom, table, tableOf, Row, appear, Ground, Apart}
 use Rattle.table.specs.Table.{rowOf, Distinct, Repeats, RowRepeats}
 use Rattle.table.proofs.ReadLaws.{apart, refuse-one, passed-other, inside, within-bounds}
 use Rattle.table.proofs.AllLaws.{all-members}
@@ -27,8 +27,8 @@ use Rattle.table.proofs.Accepted.{two-cells}
 use Rattle.limits.specs.Limits.{mostTableCells}
 
 -- NO REFUSAL OF TERMS IS SAME OR EXTRA: their numbers are at most 7
-few : {A : Type 0} (b row : Bool) (r : Reason) (p : ℕ) (R : Read A) {f : Refused} → numberOf r ≤ 7 → (R ≡ refuse f → f .number ≤ 7)
-    → when b (bad row r p) R ≡ refuse f → f .number ≤ 7
+few : {A : Type 0} (b row : Bool) (r : Reason) (p : ℕ) (R : Read A) {f : Refused} → reasonNumber r ≤ 7 → (R ≡ refuse f → f .number ≤ 7)
+    → when b (badTerm row r p) R ≡ refuse f → f .number ≤ 7
 few true row r p R h k e = omega (arith, ap (λ (g : Refused). g .number) (refuse-one e))
 few false row r p R h k e = k e
 
@@ -101,7 +101,7 @@ module _ (w n : ℕ) (seen : List (List ℕ)) (xs : List ℕ) (p q : ℕ) where
     at = o .at ∙ omega (arith, length-append r (flatten (o .rows)));
   }
 
-before-refused : (r : List ℕ) (R : Read (List (List ℕ))) {f : Refused} → before r R ≡ refuse f → R ≡ refuse f
+before-refused : (r : List ℕ) (R : Read (List (List ℕ))) {f : Refused} → rowBefore r R ≡ refuse f → R ≡ refuse f
 before-refused r (read rows) e = apart e
 before-refused r (refuse g) e = ap refuse (refuse-one e)
 
@@ -121,7 +121,7 @@ doubling w (suc n) seen xs p q e = by-terms (termsFrom true xs w 0 0 p) refl e (
 
     by-terms : (R : Read Met) → termsFrom true xs w 0 0 p ≡ R
         → andThen R (λ (m : Met). let r = take (m .next - p) xs in when (doubled m r seen) (refused reason.Same input.Table p)
-        (before r (rowsFrom w n (r ∷ seen) (drop (m .next - p) xs) (m .next)))) ≡ same q
+        (rowBefore r (rowsFrom w n (r ∷ seen) (drop (m .next - p) xs) (m .next)))) ≡ same q
         → ((r ys : List ℕ) (k : ℕ) → rowsFrom w n (r ∷ seen) ys k ≡ same q → Doubling w n (r ∷ seen) ys k q)
         → Doubling w (suc n) seen xs p q
     by-terms (refuse f) h k ih = absurd (omega (arith, terms-few true xs w 0 0 p h, ap (λ (g : Refused). g .number) (refuse-one k)))
@@ -131,7 +131,7 @@ doubling w (suc n) seen xs p q e = by-terms (termsFrom true xs w 0 0 p) refl e (
         r = take (m .next - p) xs
 
         by-test : (b : Bool) → doubled m r seen ≡ b → when b (refused reason.Same input.Table p)
-            (before r (rowsFrom w n (r ∷ seen) (drop (m .next - p) xs) (m .next))) ≡ same q
+            (rowBefore r (rowsFrom w n (r ∷ seen) (drop (m .next - p) xs) (m .next))) ≡ same q
             → Doubling w (suc n) seen xs p q
         by-test true d k = doubling-here w n seen xs p q m h d (ap (λ (g : Refused). g .place) (refuse-one k))
         by-test false d k =

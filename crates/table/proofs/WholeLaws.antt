@@ -32,7 +32,8 @@ unfolding termsFrom cellsFrom cellFrom arity
 terms-pass none [] row used vars p h = rw (add-zero p)
 terms-pass none (c ∷ rest) row used vars p h = rw (add-zero p)
 terms-pass (more {c} {k} {xs = ys} t) rest row used vars p h =
-    let ih : (v : ℕ) → termsFrom row (ys ++ rest) (arity c + k) (suc used) v (suc p) ≡ andThen (cellsFrom row ys v (suc p)) (λ (u : ℕ). read (met (suc p + length ys) u)) = λ v. terms-pass t rest row (suc used) v (suc p) (λ r. omega (arith, h r)) in
+    let ih : (v : ℕ) → termsFrom row (ys ++ rest) (arity c + k) (suc used) v (suc p) ≡ andThen (cellsFrom row ys v (suc p))
+        (λ (u : ℕ). read (met (suc p + length ys) u)) = λ v. terms-pass t rest row (suc used) v (suc p) (λ r. omega (arith, h r)) in
     let q : suc p + length ys ≡ p + suc (length ys) = omega arith in
     rw (not-full row used (λ r. omega (arith, h r)))
     (tests-then row (valuesAt c) vars p (counted (valuesAt c) vars) (λ (v : ℕ). termsFrom row (ys ++ rest) (arity c + k) (suc used) v (suc p))
@@ -47,14 +48,16 @@ pub record Front (row : Bool) (xs : List ℕ) (k used : ℕ) : Type 0 where
   pub terms : Terms k cells
   pub room : row ≡ true → used + length cells ≤ 32
 
-pub terms-front : (row : Bool) (xs : List ℕ) (k used vars p : ℕ) {m : Met} → (row ≡ true → used ≤ 32) → termsFrom row xs k used vars p ≡ read m → Front row xs k used
+pub terms-front : (row : Bool) (xs : List ℕ) (k used vars p : ℕ) {m : Met} → (row ≡ true → used ≤ 32) → termsFrom row xs k used vars p ≡ read m
+    → Front row xs k used
 unfolding termsFrom arity
 terms-front row [] zero used vars p h e = record { cells = []; rest = []; split = refl; terms = none; room = λ r. omega (arith, h r) }
 terms-front row [] (suc k) used vars p h e = apart (sym (passed (row && leb 32 used) _ _ e .1))
 terms-front row (c ∷ xs) zero used vars p h e = record { cells = []; rest = c ∷ xs; split = refl; terms = none; room = λ r. omega (arith, h r) }
 terms-front row (c ∷ xs) (suc k) used vars p h e =
     let a = passed (row && leb 32 used) _ _ e in
-    let f = terms-front row xs (arity c + k) (suc used) (counted (valuesAt c) vars) (suc p) (full row used (a .0)) (passed-tests row (valuesAt c) vars p _ (a .1)) in
+    let f = terms-front row xs (arity c + k) (suc used) (counted (valuesAt c) vars) (suc p) (full row used (a .0))
+        (passed-tests row (valuesAt c) vars p _ (a .1)) in
     record {
       cells = c ∷ f .cells;
       rest = f .rest;
@@ -72,7 +75,8 @@ pub record Whole (row : Bool) (xs : List ℕ) (k p : ℕ) (m : Met) : Type 0 whe
 pub whole : (row : Bool) (xs : List ℕ) (k p : ℕ) {m : Met} → termsFrom row xs k 0 0 p ≡ read m → Whole row xs k p m
 whole row xs k p {m} e =
     let f = terms-front row xs k 0 0 p (λ r. omega arith) e in
-    let h : andThen (cellsFrom row (f .cells) 0 p) (λ (v : ℕ). read (met (p + length (f .cells)) v)) ≡ read m = sym (terms-pass (f .terms) (f .rest) row 0 0 p (f .room)) ∙ rw (f .split) at e in
+    let h : andThen (cellsFrom row (f .cells) 0 p) (λ (v : ℕ). read (met (p + length (f .cells)) v)) ≡ read m =
+        sym (terms-pass (f .terms) (f .rest) row 0 0 p (f .room)) ∙ rw (f .split) at e in
     let g = first (cellsFrom row (f .cells) 0 p) (λ (v : ℕ). read (met (p + length (f .cells)) v)) h in
     let q : met (p + length (f .cells)) (g .0) ≡ m = read-one (g .2) in
     record { front = f; next = sym (ap (λ (n : Met). n .next) q); tested = g .1 ∙ ap (λ (n : Met). read (n .vars)) q }
@@ -87,8 +91,10 @@ whole-part {p = p} {m = m} o =
     )
 
 -- they end within the list
-pub whole-within : (row : Bool) (xs : List ℕ) (k p : ℕ) {m : Met} → p ≤ length xs → termsFrom row (drop p xs) k 0 0 p ≡ read m → (p ≤ m .next) × (m .next ≤ length xs)
+pub whole-within : (row : Bool) (xs : List ℕ) (k p : ℕ) {m : Met} → p ≤ length xs → termsFrom row (drop p xs) k 0 0 p ≡ read m
+    → (p ≤ m .next) × (m .next ≤ length xs)
 whole-within row xs k p h e =
     let r = whole row (drop p xs) k p e in
-    let l : length (drop p xs) ≡ length (r .front .cells) + length (r .front .rest) = ap length (r .front .split) ∙ length-append (r .front .cells) (r .front .rest) in
+    let l : length (drop p xs) ≡ length (r .front .cells) + length (r .front .rest) =
+        ap length (r .front .split) ∙ length-append (r .front .cells) (r .front .rest) in
     (omega (arith, r .next), omega (arith, r .next, length-drop p xs))

@@ -26,8 +26,8 @@ use Rattle.refusal.specs.Read.{Read, read, refuse, when, andThen}
 use Rattle.limits.specs.Limits.{mostColumns, mostRowCells, mostRows, mostTableCells}
 
 -- The terms of a row or of a goal. LONG is given in a row only. A refusal of a row concerns the table, and one of a goal the goal
-abbrev pub bad : Bool → Reason → ℕ → Refused
-bad row r p = refused r (cond row input.Table input.Goal) p
+abbrev pub badTerm : Bool → Reason → ℕ → Refused
+badTerm row r p = refused r (cond row input.Table input.Goal) p
 
 -- what has been read: the place after it, and how many variables it has
 pub record Met : Type 0 where
@@ -45,18 +45,18 @@ counted cell vars = cond (eqb (cell .kind) 0 && eqb (cell .number) vars) (suc va
 -- may now have that"
 abbrev pub cellTests : {A : Type 0} → Bool → Values → ℕ → ℕ → Read A → Read A
 cellTests row cell vars place rest =
-    when (eqb (cell .kind) 3) (bad row reason.Cell place)
-    (when (eqb (cell .kind) 0 && ltb vars (cell .number)) (bad row reason.Fresh place)
+    when (eqb (cell .kind) 3) (badTerm row reason.Cell place)
+    (when (eqb (cell .kind) 0 && ltb vars (cell .number)) (badTerm row reason.Fresh place)
     rest)
 
 -- 01, "cells are read left to right, and at each place 4, 5, 6, 7, 8 in that order": of the cells left, the terms owed, the cells used so
 -- far, the variables met and the next cell's place
 unfoldable pub termsFrom : Bool → List ℕ → ℕ → ℕ → ℕ → ℕ → Read Met
 termsFrom row [] zero used vars p = read (met p vars)
-termsFrom row [] (suc owed) used vars p = when (row && leb mostRowCells used) (bad row reason.Long p) (refuse (bad row reason.Short p))
+termsFrom row [] (suc owed) used vars p = when (row && leb mostRowCells used) (badTerm row reason.Long p) (refuse (badTerm row reason.Short p))
 termsFrom row (c ∷ xs) zero used vars p = read (met p vars)
 termsFrom row (cell ∷ cells) (suc owed) used vars place =
-    when (row && leb mostRowCells used) (bad row reason.Long place)
+    when (row && leb mostRowCells used) (badTerm row reason.Long place)
     (cellTests row (valuesAt cell) vars place
     (termsFrom row cells (valuesAt cell .args + owed) (suc used) (counted (valuesAt cell) vars) (suc place)))
 
@@ -69,9 +69,9 @@ abbrev pub table : ℕ → List (List ℕ) → Table
 table w rows = record { width = w; rows = rows }
 
 -- one more row before those that are read
-abbrev pub before : List ℕ → Read (List (List ℕ)) → Read (List (List ℕ))
-before r (read rs) = read (r ∷ rs)
-before r (refuse f) = refuse f
+abbrev pub rowBefore : List ℕ → Read (List (List ℕ)) → Read (List (List ℕ))
+rowBefore r (read rs) = read (r ∷ rs)
+rowBefore r (refuse f) = refuse f
 
 -- 02, W-208, "a pasted row without variables that equals an earlier one": what was read of the row, its cells, and the others
 abbrev pub doubled : Met → List ℕ → List (List ℕ) → Bool
@@ -86,7 +86,7 @@ rowsFrom width (suc more) seen cells place =
     andThen (termsFrom true cells width 0 0 place) (λ (m : Met).
     let row = take (m .next - place) cells in
     when (doubled m row seen) (refused reason.Same input.Table place)
-    (before row (rowsFrom width more (row ∷ seen) (drop (m .next - place) cells) (m .next))))
+    (rowBefore row (rowsFrom width more (row ∷ seen) (drop (m .next - place) cells) (m .next))))
 
 -- 01, "A table is: width (1 to 8), row count (1 to 64), then the rows": LENGTH, WIDTH, COUNT, then the rows
 unfoldable pub tableOf : List ℕ → Read Table

@@ -6,7 +6,7 @@ ghost use Prim.Native.Nat.{_+_, _-_, _≤_, _<_};
 ghost use lib.ListN.{length, getD, drop};
 ghost use Rattle.cell.specs.Cell.{arity};
 ghost use Rattle.refusal.specs.Refusal.{told};
-ghost use Rattle.table.specs.Table.{bad, termsFrom};
+ghost use Rattle.table.specs.Table.{badTerm, termsFrom};
 ghost use Rattle.table.specs.code.Looks.{cellFrom, testedTold, argsTold, termsTold, MarkTold, notWhole};
 ghost use Rattle.limits.specs.Limits.{mostRowCells};
 use goalreader::Step;
@@ -29,7 +29,7 @@ pub enum TermsRead {
 
 // A refusal of a row, which is part of the table, or of a goal.
 pub fn refusal(row: bool, reason: Reason, place: usize) -> Refusal
-    ensures { λ r. ⌜ told r ≡ bad row reason place ⌝ }
+    ensures { λ r. ⌜ told r ≡ badTerm row reason place ⌝ }
 {
     if row {
         Refusal {

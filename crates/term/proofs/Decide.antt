@@ -3,7 +3,8 @@ use Prim.Native.Nat.{ℕ, zero, suc, _+_, _≤_, _<_}
 use mathlib.Core.Path.{_≡_, refl, sym, _∙_, ap, ap₂, subst}
 use mathlib.Core.Logic.{_≢_, _↔_, _⊎_, inl, inr, ⊎-elim}
 use mathlib.Core.Bool.{Bool, true, false, cond}
-use mathlib.Core.List.{List, [], _∷_, _++_, append-cancel-left, List·Memᴰ, List·Memᴰ·head, List·Memᴰ·tail, List·Memᴰ·cases-cons, List·Memᴰ·append-cases, List·Memᴰ·not-nil, List·Memᴰ·eq-of-singleton, Memᴰ·append-left, Memᴰ·append-right, Memᴰ·cast}
+use mathlib.Core.List.{List, [], _∷_, _++_, append-cancel-left, List·Memᴰ, List·Memᴰ·head, List·Memᴰ·tail, List·Memᴰ·cases-cons}
+use mathlib.Core.List.{List·Memᴰ·append-cases, List·Memᴰ·not-nil, List·Memᴰ·eq-of-singleton, Memᴰ·append-left, Memᴰ·append-right, Memᴰ·cast}
 use native.Mathlib.Nat.{zero-add}
 use native.Mathlib.Numerals.{one-add}
 use native.Mathlib.Omega.{arith}
@@ -120,7 +121,8 @@ two-long [] m h = absurd (h (List·Memᴰ·eq-of-singleton m))
 two-long (x ∷ xs) m h = omega arith
 
 -- a variable that occurs in the term that it meets
-pub occurs-apart : (v d : ℕ) (xs zs : List ℕ) → isVar v ≡ true → v ≢ d → Terms 1 (front 1 (d ∷ zs)) → List·Memᴰ v (front 1 (d ∷ zs)) → ¬ Unifies (v ∷ xs) (front 1 (d ∷ zs) ++ back 1 (d ∷ zs))
+pub occurs-apart : (v d : ℕ) (xs zs : List ℕ) → isVar v ≡ true → v ≢ d → Terms 1 (front 1 (d ∷ zs)) → List·Memᴰ v (front 1 (d ∷ zs))
+    → ¬ Unifies (v ∷ xs) (front 1 (d ∷ zs) ++ back 1 (d ∷ zs))
 unfolding front
 occurs-apart v d xs zs hv h t m u =
     let p = at-place xs (back 1 (d ∷ zs)) (u .good) (Terms-var hv) t .0 (u .same) in
@@ -147,10 +149,12 @@ same-cell : {c d : ℕ} {xs ys : List ℕ} → c ≡ d → Unifies xs ys ↔ Uni
 unfolding inst
 same-cell {c} {d} {xs} {ys} e = (
   λ u. record { by = u .by; good = u .good; same = ap₂ _++_ (ap (u .by) e) (u .same) },
-  λ u. record { by = u .by; good = u .good; same = append-cancel-left (u .by c) (inst (u .by) xs) (inst (u .by) ys) (u .same ∙ ap (λ (l : List ℕ). l ++ inst (u .by) ys) (ap (u .by) (sym e))) },
+  λ u. record { by = u .by; good = u .good; same =
+      append-cancel-left (u .by c) (inst (u .by) xs) (inst (u .by) ys) (u .same ∙ ap (λ (l : List ℕ). l ++ inst (u .by) ys) (ap (u .by) (sym e))) },
 )
 
-walk-correct : {rec : List ℕ → List ℕ → Bool} (vs : List ℕ) {k : ℕ} {xs ys : List ℕ} → Correct rec (length vs) → Terms k xs → Terms k ys → Within vs xs → Within vs ys → Decides (Unifies xs ys) (walk rec xs ys)
+walk-correct : {rec : List ℕ → List ℕ → Bool} (vs : List ℕ) {k : ℕ} {xs ys : List ℕ} → Correct rec (length vs) → Terms k xs → Terms k ys
+    → Within vs xs → Within vs ys → Decides (Unifies xs ys) (walk rec xs ys)
 unfolding walk
 walk-correct vs ih none none wx wy = says-yes (record { by = idS; good = Subst-id; same = refl })
 walk-correct {rec} vs ih (more {c} {k} {xs} t) (more {c = d} {xs = ys} u) wx wy =
@@ -159,13 +163,18 @@ walk-correct {rec} vs ih (more {c} {k} {xs} t) (more {c = d} {xs = ys} u) wx wy 
     (λ e. by-test (isVar c)
     (λ hc. bind-correct rec c d ys hc (eqb-false c d e) ih (rw (var-arity c hc, zero-add) at t) (more u) wx wy)
     (λ hc. by-test (isVar d)
-    (λ hd. Decides-iff (Unifies-sym, Unifies-sym) (bind-correct rec d c xs hd (λ p. eqb-false c d e (sym p)) ih (rw (var-arity d hd, zero-add) at u) (more t) wy wx))
+    (λ hd. Decides-iff (Unifies-sym, Unifies-sym)
+        (bind-correct rec d c xs hd (λ p. eqb-false c d e (sym p)) ih (rw (var-arity d hd, zero-add) at u) (more t) wy wx))
     (λ hd. says-no (other-symbol c d xs ys hc hd (eqb-false c d e) none none))))
 
 unify-correct : (n : ℕ) → Correct (unify n) (suc n)
 unfolding unify
-unify-correct zero = record { decides = λ {k} {xs} {ys} {us} t u wx wy h. walk-correct us (record { decides = λ t′ u′ wx′ wy′ h′. absurd (let z : ⊥ = omega arith in z) }) t u wx wy }
-unify-correct (suc n) = record { decides = λ {k} {xs} {ys} {us} t u wx wy h. walk-correct us (record { decides = λ t′ u′ wx′ wy′ h′. unify-correct n .decides t′ u′ wx′ wy′ (omega arith) }) t u wx wy }
+unify-correct zero =
+    record { decides = λ {k} {xs} {ys} {us} t u wx wy h. walk-correct us
+        (record { decides = λ t′ u′ wx′ wy′ h′. absurd (let z : ⊥ = omega arith in z) }) t u wx wy }
+unify-correct (suc n) =
+    record { decides = λ {k} {xs} {ys} {us} t u wx wy h. walk-correct us
+        (record { decides = λ t′ u′ wx′ wy′ h′. unify-correct n .decides t′ u′ wx′ wy′ (omega arith) }) t u wx wy }
 
 pub unifiable-correct : {k : ℕ} (xs ys : List ℕ) → Terms k xs → Terms k ys → Decides (Unifies xs ys) (unifiable xs ys)
 unfolding unifiable

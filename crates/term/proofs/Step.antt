@@ -3,16 +3,18 @@ use Prim.Native.Nat.{ℕ, suc, _+_}
 use mathlib.Core.Path.{_≡_, refl, sym, _∙_, ap, ap₂}
 use mathlib.Core.Logic.{_≢_, _↔_, ⊎-elim}
 use mathlib.Core.Bool.{true, false}
-use mathlib.Core.List.{List, [], _∷_, _++_, List·Memᴰ, List·Memᴰ·head, List·Memᴰ·tail, Memᴰ·append-left, Memᴰ·append-right, List·Memᴰ·not-nil, List·Memᴰ·cases-cons, head-eq-of-cons-eq, tail-eq-of-cons-eq}
+use mathlib.Core.List.{List, [], _∷_, _++_, List·Memᴰ, List·Memᴰ·head, List·Memᴰ·tail, Memᴰ·append-left, Memᴰ·append-right, List·Memᴰ·not-nil}
+use mathlib.Core.List.{List·Memᴰ·cases-cons, head-eq-of-cons-eq, tail-eq-of-cons-eq}
 use native.Mathlib.Nat.{add-zero}
 use Rattle.cell.specs.Cell.{arity, isVar}
 use Rattle.term.specs.Terms.{Terms, none, more, front, back}
 use Rattle.term.proofs.TermsLaws.{prefix, one-cell, zero-nil, front-back, front-terms, back-terms}
 use native.Mathlib.Numerals.{one-add}
 use Rattle.term.specs.Unify.{inst, Subst, Unifies}
-use Rattle.term.proofs.Inst.{inst-++, inst-agree, then, inst-then, Terms-inst, Subst-then, bind-same, bind-other, Subst-bind, inst-bind, Terms-var, inst-var, more-var, absorb, unbound, Subst-id}
+use Rattle.term.proofs.Inst.{inst-++, inst-agree, then, inst-then, Terms-inst, Subst-then, bind-same, bind-other, Subst-bind, inst-bind}
+use Rattle.term.proofs.Inst.{Terms-var, inst-var, more-var, absorb, unbound, Subst-id}
 use Rattle.term.specs.Bind.{idS, bind}
-use Rattle.term.specs.code.Fresh.{Fresh, nil, cons, Apart}
+use Rattle.term.specs.code.Fresh.{Fresh, nil, cons, AbsentFrom}
 
 mk : {xs ys : List ℕ} (σ : ℕ → List ℕ) → Subst σ → inst σ xs ≡ inst σ ys → Unifies xs ys
 mk σ s e = record { by = σ; good = s; same = e }
@@ -34,9 +36,11 @@ pub same-symbol : (c : ℕ) {i : ℕ} {A A′ : List ℕ} (B D : List ℕ) → i
     → Unifies (A ++ (c ∷ B)) (A′ ++ (c ∷ D)) ↔ Unifies (A ++ B) (A′ ++ D)
 same-symbol c {i} {A} {A′} B D hc t t′ = (
   λ u. let p = at-place (c ∷ B) (c ∷ D) (u .good) t t′ .0 (u .same) in
-      mk (u .by) (u .good) (at-place B D (u .good) t t′ .1 (p .0, tail-eq-of-cons-eq (sym (inst-symbol c B (u .good) hc) ∙ p .1 ∙ inst-symbol c D (u .good) hc))),
+      mk (u .by) (u .good) (at-place B D (u .good) t t′ .1
+          (p .0, tail-eq-of-cons-eq (sym (inst-symbol c B (u .good) hc) ∙ p .1 ∙ inst-symbol c D (u .good) hc))),
   λ u. let p = at-place B D (u .good) t t′ .0 (u .same) in
-      mk (u .by) (u .good) (at-place (c ∷ B) (c ∷ D) (u .good) t t′ .1 (p .0, inst-symbol c B (u .good) hc ∙ ap (λ (l : List ℕ). c ∷ l) (p .1) ∙ sym (inst-symbol c D (u .good) hc))),
+      mk (u .by) (u .good) (at-place (c ∷ B) (c ∷ D) (u .good) t t′ .1 (p .0, inst-symbol c B (u .good) hc ∙ ap (λ (l : List ℕ). c ∷ l) (p .1)
+          ∙ sym (inst-symbol c D (u .good) hc))),
 )
 
 -- two symbols
@@ -82,7 +86,8 @@ eliminate v {t} xs ys hv ht n = (
   λ u. let σ = u .by in
       let s = Subst-then (Subst-bind v hv ht Subst-id) (u .good) in
       let ρ = bind v t idS in
-      let here : inst (then ρ σ) (v ∷ []) ≡ inst (then ρ σ) t = inst-var (then ρ σ) v ∙ ap (inst σ) (bind-same v t idS) ∙ sym (ap (inst σ) (unbound v t t n)) ∙ inst-then ρ σ t in
+      let here : inst (then ρ σ) (v ∷ []) ≡ inst (then ρ σ) t =
+          inst-var (then ρ σ) v ∙ ap (inst σ) (bind-same v t idS) ∙ sym (ap (inst σ) (unbound v t t n)) ∙ inst-then ρ σ t in
       mk (then ρ σ) s (at-place xs ys s (Terms-var hv) ht .1 (here, sym (inst-then ρ σ xs) ∙ u .same ∙ inst-then ρ σ ys)),
 )
 
@@ -126,7 +131,7 @@ symbol-value {σ} c v B B′ s hc hv e =
 
 -- a symbol against a variable of the goal
 pub goal-variable : (c v : ℕ) {i : ℕ} {A A′ ws : List ℕ} (B B′ : List ℕ) → isVar c ≡ false → isVar v ≡ true → Terms i A → Terms i A′ → Fresh (arity c) ws
-    → ¬ List·Memᴰ v (A ++ B) → Apart ws (v ∷ A ++ B) → Apart ws (A′ ++ B′)
+    → ¬ List·Memᴰ v (A ++ B) → AbsentFrom ws (v ∷ A ++ B) → AbsentFrom ws (A′ ++ B′)
     → Unifies (A ++ (c ∷ B)) (A′ ++ (v ∷ B′)) ↔ Unifies (A ++ B) (inst (bind v (c ∷ ws) idS) A′ ++ (ws ++ inst (bind v (c ∷ ws) idS) B′))
 unfolding then inst
 goal-variable c v {i} {A} {A′} {ws} B B′ hc hv a a′ f n d d′ =
@@ -136,8 +141,10 @@ goal-variable c v {i} {A} {A′} {ws} B B′ hc hv a a′ f n d d′ =
           let p = at-place (c ∷ B) (v ∷ B′) s a a′ .0 (u .same) in
           let q = symbol-value c v B B′ s hc hv (p .1) in
           let r = spread (q .0) s f (q .2) in
-          let off : (xs : List ℕ) → Apart ws xs → inst (r .new) xs ≡ inst (u .by) xs = λ xs h. inst-agree (r .new) (u .by) xs (λ x m. r .keeps x (λ w. h x w m)) in
-          let e : r .new v ≡ inst (r .new) (c ∷ ws) = r .keeps v (λ w. d v w (List·Memᴰ·head refl)) ∙ q .1 ∙ sym (inst-symbol c ws (r .good) hc ∙ ap (λ (l : List ℕ). c ∷ l) (r .hits)) in
+          let off : (xs : List ℕ) → AbsentFrom ws xs → inst (r .new) xs ≡ inst (u .by) xs =
+              λ xs h. inst-agree (r .new) (u .by) xs (λ x m. r .keeps x (λ w. h x w m)) in
+          let e : r .new v ≡ inst (r .new) (c ∷ ws) = r .keeps v (λ w. d v w (List·Memᴰ·head refl)) ∙ q .1
+              ∙ sym (inst-symbol c ws (r .good) hc ∙ ap (λ (l : List ℕ). c ∷ l) (r .hits)) in
           let nA = off A (λ w h m. d w h (List·Memᴰ·tail (Memᴰ·append-left B m))) in
           let nB = off B (λ w h m. d w h (List·Memᴰ·tail (Memᴰ·append-right A m))) in
           let nA′ = absorb (r .new) v (c ∷ ws) A′ e ∙ off A′ (λ w h m. d′ w h (Memᴰ·append-left B′ m)) in
@@ -147,10 +154,13 @@ goal-variable c v {i} {A} {A′} {ws} B B′ hc hv a a′ f n d d′ =
       λ u. let σ = u .by in
           let s = Subst-then sρ (u .good) in
           let p = at-place B (ws ++ inst ρ B′) (u .good) a (Terms-inst sρ a′) .0 (u .same) in
-          let row : (xs : List ℕ) → ¬ List·Memᴰ v xs → inst (then ρ σ) xs ≡ inst σ xs = λ xs h. sym (inst-then ρ σ xs) ∙ ap (inst σ) (unbound v (c ∷ ws) xs h) in
+          let row : (xs : List ℕ) → ¬ List·Memᴰ v xs → inst (then ρ σ) xs ≡ inst σ xs =
+              λ xs h. sym (inst-then ρ σ xs) ∙ ap (inst σ) (unbound v (c ∷ ws) xs h) in
           let nA = row A (λ m. n (Memᴰ·append-left B m)) in
           let nB = row B (λ m. n (Memᴰ·append-right A m)) in
-          let here : inst (then ρ σ) (v ∷ B′) ≡ c ∷ inst σ (ws ++ inst ρ B′) = sym (inst-then ρ σ (v ∷ B′)) ∙ ap (λ (l : List ℕ). inst σ (l ++ inst ρ B′)) (bind-same v (c ∷ ws) idS) ∙ inst-symbol c (ws ++ inst ρ B′) (u .good) hc in
+          let here : inst (then ρ σ) (v ∷ B′) ≡ c ∷ inst σ (ws ++ inst ρ B′) =
+              sym (inst-then ρ σ (v ∷ B′)) ∙ ap (λ (l : List ℕ). inst σ (l ++ inst ρ B′)) (bind-same v (c ∷ ws) idS)
+              ∙ inst-symbol c (ws ++ inst ρ B′) (u .good) hc in
           mk (then ρ σ) s (at-place (c ∷ B) (v ∷ B′) s a a′ .1
           (nA ∙ p .0 ∙ inst-then ρ σ A′, inst-symbol c B s hc ∙ ap (λ (l : List ℕ). c ∷ l) (nB ∙ p .1) ∙ sym here)),
     )

@@ -23,13 +23,13 @@ use Rattle.grammar.specs.Grammar as G
 use Rattle.grammar.specs.Grammar.{isLower, Symbol, Fact, fact, Args, Text}
 use Rattle.grammar.specs.Stops.{Stops}
 use Rattle.grammar.specs.Numbering as numbering
-use Rattle.grammar.specs.Numbering.{Words, Nth, here, later, New, First, Firsts, Row}
+use Rattle.grammar.specs.Numbering.{Words, Nth, here, later, New, First, Firsts, NumberedRow}
 use Rattle.grammar.specs.Reader.{nothing, finish, stops, run, textOf}
 use Rattle.grammar.proofs.Complete.{run-head, at-first, at-head-open, run-width}
 use Rattle.grammar.proofs.Accepted.{refused-at}
 use Rattle.grammar.proofs.NthLaws.{nth-below, nth-left, nth-seam, nth-added}
 use Rattle.lex.specs.Names.{IsName}
-use Rattle.termtext.specs.Saying.{variableWord, closing, owing, termsText, Answer, answerText, known}
+use Rattle.termtext.specs.Saying.{variableWord, closing, owing, termsText, IsAnswer, answerText, known}
 use Rattle.termtext.specs.Goal.{withStop, unstopped, Ours, Asks}
 use Rattle.termtext.proofs.SpellLaws.{Going, Lower, lower, name-lower, going-word, variable-named, variable-one}
 use Rattle.termtext.proofs.SayLaws.{Spells, none, a-name, a-variable, a-number, ArgsSaid, terms-said, slice-word}
@@ -70,13 +70,13 @@ Apart words = (j k : ℕ) (w : List ℕ) → Nth words j w → Nth words k w →
 
 module _ (t : List ℕ) (words : Words) where
   one-variable : {n s e : ℕ} {vars u : ℕ} {ss : List Symbol} {cs : List ℕ} → n < 2 ^ 16 → slice s e t ≡ variableWord n
-      → Seen (variableCell n) vars (read u) → Row t words (met u) ss cs
-      → Row t words (met vars) (G.variable s e ∷ ss) (variableCell n ∷ cs)
+      → Seen (variableCell n) vars (read u) → NumberedRow t words (met u) ss cs
+      → NumberedRow t words (met vars) (G.variable s e ∷ ss) (variableCell n ∷ cs)
   one-variable {n} h e (symbol c i) r = absurd (not-both (var-small n (omega arith)) i)
   one-variable {n} {s} {e} {vars} {ss = ss} {cs = cs} h w (new c i z) r =
       let q : slice s e t ≡ variableWord vars = w ∙ ap variableWord z in
       numbering.first (subst (New (met vars)) (sym q) (met-new vars vars (omega arith))) (z ∙ sym (met-long vars))
-      (subst (λ (v : List ℕ). Row t words (met vars ++ (v ∷ [])) ss cs) (sym q) r)
+      (subst (λ (v : List ℕ). NumberedRow t words (met vars ++ (v ∷ [])) ss cs) (sym q) r)
   one-variable {n} {vars = vars} h w (old c i z) r =
       numbering.again (λ u. variable-named n (sym w ∙ u)) (subst (Nth (met vars) n) (sym w) (met-has vars n z)) refl r
 
@@ -85,7 +85,7 @@ module _ (t : List ℕ) (words : Words) where
   first-there {k} {w} a h = record { there = h; least = λ j g. omega (arith, a j k w g h) }
 
   pub spelt-row : {ss : List Symbol} {cs : List ℕ} (vars p v : ℕ) → Apart words → Spells t words ss cs → cellsFrom false cs vars p ≡ read v
-      → Row t words (met vars) ss cs
+      → NumberedRow t words (met vars) ss cs
   unfolding cellsFrom
   spelt-row vars p v apart none e = numbering.none
   spelt-row vars p v apart (a-name {a = a} {k = k} {cs = cs} l m h x) e =
@@ -224,12 +224,12 @@ module _ (words : Words) (b : ℕ) (rest : List ℕ) (lo : isLower b ≡ true) (
           places = [];
           firsts = spelt-firsts (withStop said) words said-spells;
           listed = refl;
-          row = subst (λ (ws : Words). Row (withStop said) ws [] (A .symbols place) cells) (sym (append-nil words)) r;
+          row = subst (λ (ws : Words). NumberedRow (withStop said) ws [] (A .symbols place) cells) (sym (append-nil words)) r;
         };
       })
 
 -- THE THEOREM
-pub back : {words : Words} {predicate : List ℕ} {width : ℕ} {cells : List ℕ} → Answer words predicate width cells
+pub back : {words : Words} {predicate : List ℕ} {width : ℕ} {cells : List ℕ} → IsAnswer words predicate width cells
     → Asks words predicate width (answerText words predicate width cells) (known cells)
 unfolding down
 back {words} {predicate} {width} {cells} a = by width (a .some) (a .terms) (name-lower (a .called))

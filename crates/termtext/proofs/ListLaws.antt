@@ -6,9 +6,9 @@ use native.Mathlib.Omega.{arith}
 use lib.ListN.{length, drop, length-map}
 use lib.Seq.{slice, take-append-le}
 use Rattle.grammar.specs.Grammar.{Symbol, Fact}
-use Rattle.grammar.specs.Meaning.{Place, bytesOf, entryOf}
+use Rattle.grammar.specs.Meaning.{Place, bytesAt, entryOf}
 use Rattle.grammar.specs.Numbering as numbering
-use Rattle.grammar.specs.Numbering.{Words, Nth, First, wordsAt, Firsts, Row}
+use Rattle.grammar.specs.Numbering.{Words, Nth, First, wordsAt, Firsts, NumberedRow}
 use Rattle.grammar.proofs.FirstLaws.{firsts-first}
 use Rattle.termtext.specs.Saying.{wordIn, wordsIn}
 use Rattle.termtext.specs.Goal.{Whole, stopped, unstopped, Goal, Asks}
@@ -28,7 +28,7 @@ firsts-in t n l (numbering.a-variable f) = firsts-in t n (l .1) f
 firsts-in t n l (numbering.a-number f) = firsts-in t n (l .1) f
 
 -- a place's number says its word, and the list says the words
-pub entry-word : (t : List ℕ) (w : Place) → w .start ≤ w .end → w .start < 65536 → wordIn t (entryOf w) ≡ bytesOf t w
+pub entry-word : (t : List ℕ) (w : Place) → w .start ≤ w .end → w .start < 65536 → wordIn t (entryOf w) ≡ bytesAt t w
 entry-word t w l h =
     let a : entryOf w % 65536 ≡ w .start = omega arith in
     let b : entryOf w % 65536 + entryOf w / 65536 ≡ w .end = omega arith in
@@ -46,7 +46,7 @@ firsts-few t (numbering.again h f) = omega (arith, firsts-few t f)
 firsts-few t (numbering.a-variable f) = omega (arith, firsts-few t f)
 firsts-few t (numbering.a-number f) = omega (arith, firsts-few t f)
 
-row-long : (t : List ℕ) {words met : Words} {ss : List Symbol} {cs : List ℕ} → Row t words met ss cs → length cs ≡ length ss
+row-long : (t : List ℕ) {words met : Words} {ss : List Symbol} {cs : List ℕ} → NumberedRow t words met ss cs → length cs ≡ length ss
 row-long t numbering.none = refl
 row-long t (numbering.a-name h c r) = ap suc (row-long t r)
 row-long t (numbering.a-number c r) = ap suc (row-long t r)

@@ -11,13 +11,13 @@ use Rattle.refusal.specs.declared.Input.the-variants as input
 use Rattle.table.specs.Table.{goalOf}
 use Rattle.grammar.specs.Grammar.{Fact, Text}
 use Rattle.grammar.specs.Meaning.{Place, entryOf}
-use Rattle.grammar.specs.Numbering.{Words, wordsAt, Row}
+use Rattle.grammar.specs.Numbering.{Words, wordsAt, NumberedRow}
 use Rattle.grammar.specs.Stops.{Stops}
 use Rattle.grammar.proofs.Accepted.{unique, not-both, one-place}
 use Rattle.grammar.proofs.NthLaws.{parted-none}
 use Rattle.grammar.proofs.FirstLaws.{firsts-one}
 use Rattle.grammar.proofs.RowLaws.{Named, row-one}
-use Rattle.termtext.specs.Goal.{withStop, Whole, stopped, unstopped, NoGoal, at-byte, at-end, Ours, Goal, Numbered, Asks}
+use Rattle.termtext.specs.Goal.{withStop, Whole, stopped, unstopped, NoGoal, at-byte, at-end, Ours, Goal, GoalNumbered, Asks}
 use Rattle.termtext.specs.Goal.{GoalRead, too-long, no-text, other, no-goal, is-goal}
 use Rattle.limits.specs.Limits.{mostGoalBytes}
 
@@ -43,10 +43,10 @@ abbrev goal : List ℕ → List ℕ → Goal
 goal cells new = record { cells = cells; new = new }
 
 module _ (words : Words) where
-  numbered-one : {whole : List ℕ} {f : Fact} {a b : Goal} → Numbered words whole f a → Numbered words whole f b → a ≡ b
+  numbered-one : {whole : List ℕ} {f : Fact} {a b : Goal} → GoalNumbered words whole f a → GoalNumbered words whole f b → a ≡ b
   numbered-one {whole} {f} {a} {b} x y =
       let p : x .places ≡ y .places = firsts-one whole (x .firsts) (y .firsts) in
-      let r = subst (λ (ns : List Place). Row whole (words ++ wordsAt whole ns) [] (f .symbols) (a .cells)) p (x .row) in
+      let r = subst (λ (ns : List Place). NumberedRow whole (words ++ wordsAt whole ns) [] (f .symbols) (a .cells)) p (x .row) in
       let cells : a .cells ≡ b .cells = row-one whole (words ++ wordsAt whole (y .places)) (parted-none Named) r (y .row) in
       let new : a .new ≡ b .new = x .listed ∙ ap (map entryOf) p ∙ sym (y .listed) in
       ap₂ goal cells new
@@ -58,7 +58,7 @@ module _ (words : Words) (predicate : List ℕ) (width : ℕ) (t : List ℕ) whe
       let w = whole-one (x .text) (y .text) in
       let f : x .fact ≡ y .fact = let e = w .1 in cc in
       numbered-one words
-      (subst (λ (g : Fact). Numbered words (y .whole) g a) f (subst (λ (u : List ℕ). Numbered words u (x .fact) a) (w .0) (x .numbered)))
+      (subst (λ (g : Fact). GoalNumbered words (y .whole) g a) f (subst (λ (u : List ℕ). GoalNumbered words u (x .fact) a) (w .0) (x .numbered)))
       (y .numbered)
 
   -- it is of the table's predicate

@@ -15,14 +15,14 @@ use Rattle.cell.proofs.CellLaws.{built-variable, built-name, built-number, valu
 use Rattle.table.specs.Table.{counted, cellTests, termsFrom, goalOf}
 use Rattle.grammar.specs.Grammar.{Symbol, name, variable, number, Fact}
 use Rattle.cell.specs.Same.{same}
-use Rattle.grammar.specs.Meaning.{Place, place, bytesOf, entryOf}
+use Rattle.grammar.specs.Meaning.{Place, place, bytesAt, entryOf}
 use Rattle.grammar.specs.Numbering as numbering
-use Rattle.grammar.specs.Numbering.{Words, Nth, here, later, New, First, wordsAt, Firsts, Row}
+use Rattle.grammar.specs.Numbering.{Words, Nth, here, later, New, First, wordsAt, Firsts, NumberedRow}
 use Rattle.cell.proofs.SameLaws.{same-refl, same-eq}
 use Rattle.grammar.proofs.NthLaws.{nth-below, nth-left, nth-seam, nth-added, first-left, words-long}
 use Rattle.grammar.proofs.FirstLaws.{firsts-first}
 use Rattle.termtext.specs.Saying.{wordIn}
-use Rattle.termtext.specs.Goal.{Numbered}
+use Rattle.termtext.specs.Goal.{GoalNumbered}
 use Rattle.termtext.specs.code.Renumber.{wordNumber, numbersFrom, newOnes, newCell, newCells}
 use Rattle.termtext.proofs.LieLaws.{AllLie}
 use Rattle.termtext.proofs.ListLaws.{AllIn, firsts-in, entry-word}
@@ -130,7 +130,7 @@ both-new {words} {met} {both} v B =
 
 module _ (t : List ℕ) (words : Words) where
   abbrev newPlaces : List Place → List Place
-  newPlaces ns = newOnes (bytesOf t) words ns
+  newPlaces ns = newOnes (bytesAt t) words ns
 
   new-firsts : {met : Words} {ss : List Symbol} {ns : List Place} (both : Words) → Both words met both → Firsts t met ss ns
       → Firsts t both ss (newPlaces ns)
@@ -159,9 +159,9 @@ module _ (t : List ℕ) (words : Words) where
           → Firsts t both (name s e a ∷ ss) (newPlaces (place s e ∷ ns))
       go (yes l) f =
           let h : In words w = (wordNumber w words, number-nth w words l) in
-          rw (new-listed (bytesOf t) words (place s e) ns l) (numbering.again (B .left w h .1) (f both (both-old w h B)))
+          rw (new-listed (bytesAt t) words (place s e) ns l) (numbering.again (B .left w h .1) (f both (both-old w h B)))
       go (no l) f =
-          rw (new-first (bytesOf t) words (place s e) ns (omega arith)) (numbering.first (apart l) (f (both ++ (w ∷ [])) (both-new w B)))
+          rw (new-first (bytesAt t) words (place s e) ns (omega arith)) (numbering.first (apart l) (f (both ++ (w ∷ [])) (both-new w B)))
 
   -- THE NUMBERS. A word of the goal's list has its number among the words, or among the new ones
   abbrev Stands : (j : ℕ) (ns : List Place) (numbers : List ℕ) (k : ℕ) (w : List ℕ) → Type 0
@@ -171,27 +171,27 @@ module _ (t : List ℕ) (words : Words) where
   number-stands : (j : ℕ) (ns : List Place) {k : ℕ} {w : List ℕ} → Nth (wordsAt t ns) k w
       → Stands j ns (numbersFrom words j (wordsAt t ns)) k w
   unfolding numbersFrom newOnes
-  number-stands j (n ∷ ns) here = go (decLt (wordNumber (bytesOf t n) words) (length words))
+  number-stands j (n ∷ ns) here = go (decLt (wordNumber (bytesAt t n) words) (length words))
     where
-      go : Dec (wordNumber (bytesOf t n) words < length words)
-          → Stands j (n ∷ ns) (numbersFrom words j (wordsAt t (n ∷ ns))) 0 (bytesOf t n)
-      go (yes l) = rw (lt-ltb (wordNumber (bytesOf t n) words) (length words) l) (inl (number-there (bytesOf t n) words l))
-      go (no l) = rw (le-ltb (wordNumber (bytesOf t n) words) (length words) (omega arith)) (inr (0, omega arith, here))
+      go : Dec (wordNumber (bytesAt t n) words < length words)
+          → Stands j (n ∷ ns) (numbersFrom words j (wordsAt t (n ∷ ns))) 0 (bytesAt t n)
+      go (yes l) = rw (lt-ltb (wordNumber (bytesAt t n) words) (length words) l) (inl (number-there (bytesAt t n) words l))
+      go (no l) = rw (le-ltb (wordNumber (bytesAt t n) words) (length words) (omega arith)) (inr (0, omega arith, here))
   number-stands j (n ∷ ns) {w = w} (later {k = k} h) =
-      go (decLt (wordNumber (bytesOf t n) words) (length words)) (number-stands j ns h) (number-stands (suc j) ns h)
+      go (decLt (wordNumber (bytesAt t n) words) (length words)) (number-stands j ns h) (number-stands (suc j) ns h)
     where
       on : (numbers : List ℕ) → Stands (suc j) ns numbers k w
           → First words (getD numbers k 0) w
-          ⊎ ((i : ℕ) × (getD numbers k 0 ≡ length words + (j + i)) × Nth (bytesOf t n ∷ wordsAt t (newPlaces ns)) i w)
+          ⊎ ((i : ℕ) × (getD numbers k 0 ≡ length words + (j + i)) × Nth (bytesAt t n ∷ wordsAt t (newPlaces ns)) i w)
       on numbers (inl g) = inl g
       on numbers (inr g) = inr (suc (g .0), omega (arith, g .1), later (g .2))
 
-      go : Dec (wordNumber (bytesOf t n) words < length words) → Stands j ns (numbersFrom words j (wordsAt t ns)) k w
+      go : Dec (wordNumber (bytesAt t n) words < length words) → Stands j ns (numbersFrom words j (wordsAt t ns)) k w
           → Stands (suc j) ns (numbersFrom words (suc j) (wordsAt t ns)) k w
           → Stands j (n ∷ ns) (numbersFrom words j (wordsAt t (n ∷ ns))) (suc k) w
-      go (yes l) f g = rw (lt-ltb (wordNumber (bytesOf t n) words) (length words) l) f
+      go (yes l) f g = rw (lt-ltb (wordNumber (bytesAt t n) words) (length words) l) f
       go (no l) f g =
-          rw (le-ltb (wordNumber (bytesOf t n) words) (length words) (omega arith)) (on (numbersFrom words (suc j) (wordsAt t ns)) g)
+          rw (le-ltb (wordNumber (bytesAt t n) words) (length words) (omega arith)) (on (numbersFrom words (suc j) (wordsAt t ns)) g)
 
   -- so it first stands at that number among all of them, which is below 65,536
   number-all : (ns : List Place) {ss : List Symbol} {k : ℕ} {w : List ℕ} → Firsts t words ss (newPlaces ns)
@@ -213,7 +213,7 @@ module _ (t : List ℕ) (words : Words) where
           let e : x ≡ length words + g .0 = omega (arith, g .1) in
           let b = nth-below (g .2) in (
             subst (λ (y : ℕ). First (words ++ wordsAt t (newPlaces ns)) y w) (sym e) (firsts-first t f (g .2)),
-            omega (arith, e, b, words-long t (newPlaces ns), new-few (bytesOf t) words ns),
+            omega (arith, e, b, words-long t (newPlaces ns), new-few (bytesAt t) words ns),
           )
 
 -- THE CELLS, one by one
@@ -235,12 +235,12 @@ variable-cell numbers n h = rw (built-variable n h)
 
 -- THE LIST: the new ones of the goal's list are the list of the new ones
 listed-new : (t : List ℕ) (words : Words) (n : ℕ) (ns : List Place) → n < 65536 → AllIn n ns
-    → newOnes (wordIn t) words (map entryOf ns) ≡ map entryOf (newOnes (bytesOf t) words ns)
+    → newOnes (wordIn t) words (map entryOf ns) ≡ map entryOf (newOnes (bytesAt t) words ns)
 unfolding newOnes
 listed-new t words n [] h l = refl
 listed-new t words n (w ∷ ns) h l =
     rw (entry-word t w (l .0) (omega arith))
-    (by (newOnes (bytesOf t) words ns) (ltb (wordNumber (bytesOf t w) words) (length words)) (listed-new t words n ns h (l .2)))
+    (by (newOnes (bytesAt t) words ns) (ltb (wordNumber (bytesAt t w) words) (length words)) (listed-new t words n ns h (l .2)))
   where
     by : {xs : List ℕ} (us : List Place) (b : Bool) → xs ≡ map entryOf us → cond b xs (entryOf w ∷ xs) ≡ map entryOf (cond b us (w ∷ us))
     by us true e = e
@@ -254,8 +254,8 @@ module _ (t : List ℕ) (words : Words) (ns : List Place) (numbers : List ℕ) (
   all = words ++ wordsAt t (newPlaces t words ns)
 
   new-row : {met : Words} {ss : List Symbol} {cs : List ℕ} (n : ℕ) → AllLie n ss → length met + length ss ≤ 65536
-      → Row t (wordsAt t ns) met ss cs
-      → Row t all met ss (newCells numbers cs)
+      → NumberedRow t (wordsAt t ns) met ss cs
+      → NumberedRow t all met ss (newCells numbers cs)
   new-row n l h numbering.none = numbering.none
   new-row {met} n l h (numbering.a-name {k = k} {a = a} g c r) =
       let b = nth-below (g .there) in
@@ -278,14 +278,14 @@ module _ (t : List ℕ) (words : Words) (ns : List Place) (numbers : List ℕ) (
 
 -- ALL OF IT: the cells of a fact by its own names, and by the table's; and its list of names, and of new ones
 pub new-numbered : (t : List ℕ) (words : Words) (f : Fact) (ns : List Place) (numbers cells : List ℕ) (n : ℕ)
-    → Firsts t [] (f .symbols) ns → Row t (wordsAt t ns) [] (f .symbols) cells → AllLie n (f .symbols) → n < 65536
+    → Firsts t [] (f .symbols) ns → NumberedRow t (wordsAt t ns) [] (f .symbols) cells → AllLie n (f .symbols) → n < 65536
     → length (f .symbols) ≤ 65536
     → length words + length ns ≤ 65536 → ((k : ℕ) → k < length ns → getD numbers k 0 ≡ getD (numbersFrom words 0 (wordsAt t ns)) k 0)
-    → Numbered words t f (record { cells = newCells numbers cells; new = newOnes (wordIn t) words (map entryOf ns) })
+    → GoalNumbered words t f (record { cells = newCells numbers cells; new = newOnes (wordIn t) words (map entryOf ns) })
 new-numbered t words f ns numbers cells n fs r l m h few e =
     let news = new-firsts t words words start fs in
     record {
-      places = newOnes (bytesOf t) words ns;
+      places = newOnes (bytesAt t) words ns;
       firsts = news;
       listed = listed-new t words n ns m (firsts-in t n l fs);
       row = new-row t words ns numbers few e (f .symbols) news n l (omega arith) r;

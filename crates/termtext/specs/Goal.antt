@@ -12,7 +12,7 @@ use Rattle.refusal.specs.declared.Input.the-variants as input
 use Rattle.table.specs.Table.{goalOf}
 use Rattle.grammar.specs.Grammar.{Fact, Text}
 use Rattle.grammar.specs.Meaning.{Place, entryOf}
-use Rattle.grammar.specs.Numbering.{Words, wordsAt, Firsts, Row}
+use Rattle.grammar.specs.Numbering.{Words, wordsAt, Firsts, NumberedRow}
 use Rattle.grammar.specs.Stops.{Stops}
 use Rattle.limits.specs.Limits.{mostGoalBytes}
 
@@ -43,11 +43,11 @@ pub record Goal : Type 0 where
   pub new : List ℕ
 
 -- One fact's symbols by the words of a table's names: its names are numbered on from those, as if it stood after the facts
-pub record Numbered (words : Words) (whole : List ℕ) (f : Fact) (goal : Goal) : Type 0 where
+pub record GoalNumbered (words : Words) (whole : List ℕ) (f : Fact) (goal : Goal) : Type 0 where
   pub places : List Place
   pub firsts : Firsts whole words (f .symbols) places
   pub listed : goal .new ≡ map entryOf places
-  pub row : Row whole (words ++ wordsAt whole places) [] (f .symbols) (goal .cells)
+  pub row : NumberedRow whole (words ++ wordsAt whole places) [] (f .symbols) (goal .cells)
 
 -- a text is this goal
 pub record Asks (words : Words) (predicate : List ℕ) (width : ℕ) (t : List ℕ) (goal : Goal) : Type 0 where
@@ -55,7 +55,7 @@ pub record Asks (words : Words) (predicate : List ℕ) (width : ℕ) (t : List �
   pub fact : Fact
   pub text : Whole t whole (fact ∷ [])
   pub ours : Ours predicate width whole fact []
-  pub numbered : Numbered words whole fact goal
+  pub numbered : GoalNumbered words whole fact goal
 
 -- What the reader of a goal answers: BYTES where the goal with its full stop is over 65,535 bytes; TEXT; OTHER where the first fact begins;
 -- then 01's of a goal, with places in its cells

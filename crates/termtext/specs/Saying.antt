@@ -81,7 +81,7 @@ saidIn text names goal new p cells =
 
 -- An answer: so many terms, good cells, "variables are numbered 0, 1, 2 in order of first appearance" (01); its names are in a list of
 -- words, which are names as the predicate is one, and no two of them are equal. W-203's replies are such: crate `answering`
-pub record Answer (words : Words) (predicate : List ℕ) (width : ℕ) (cells : List ℕ) : Type 0 where
+pub record IsAnswer (words : Words) (predicate : List ℕ) (width : ℕ) (cells : List ℕ) : Type 0 where
   pub some : 1 ≤ width
   pub terms : Terms width cells
   pub good : (c : ℕ) → List·Memᴰ c cells → Cell c

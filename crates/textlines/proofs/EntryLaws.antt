@@ -8,7 +8,7 @@ use lib.Seq.{take-at}
 use Rattle.refusal.specs.Refusal.{told, answered, turned}
 use Rattle.refusal.specs.Read.{Read, read, refuse}
 use Rattle.refusal.specs.declared.Refusal.{Refusal}
-use Rattle.printing.specs.code.Listed.{Listed}
+use Rattle.printing.specs.code.Listed.{TextListed}
 use Rattle.table.specs.Table.{Table, tableOf}
 use Rattle.table.proofs.ReadLaws.{apart, read-one}
 use Rattle.loading.specs.Load.{Loaded, loaded, Loads, not-taken, no-cells, no-names, no-table, loads}
@@ -97,7 +97,7 @@ module _ {t cells names cells′ names′ : List ℕ} (r : TextAnswer) (x : Text
 
 -- its lines are put
 pub table-listed : {t cells names old new : List ℕ} {n m r : ℕ} (C : Came t cells names n m)
-    → PutsTable (take n cells) (take m names) old new r → Listed most (Prints t) old new r
+    → PutsTable (take n cells) (take m names) old new r → TextListed most (Prints t) old new r
 table-listed C p = record {
   text = linesOf (C .what) (C .table);
   right = printed (C .what) (C .table) (C .rule) (C .reads);

@@ -14,7 +14,7 @@ use Rattle.grammar.specs.Grammar.{isLower, isUpper, isDigit, isWord}
 use Rattle.cell.specs.Same.{same, among}
 use Rattle.grammar.specs.Meaning.{position, meet, namesFrom, variableNumber, variablesWith, cellsFrom}
 use Rattle.grammar.specs.Meaning.{widthOf, tableCells, nameList, otherThan, otherIn}
-use Rattle.grammar.specs.Reader.{isBlank, layout, push, put, comma, close, past, step, finish, run, textOf}
+use Rattle.grammar.specs.Reader.{isBlank, layout, push, put, onComma, onClose, past, step, finish, run, textOf}
 use Rattle.grammar.proofs.Fixed.{takenOf}
 use Rattle.grammar.proofs.Examples.{bytes}
 use Rattle.loading.specs.Load.{Loaded, Loads}
@@ -42,7 +42,9 @@ unfoldable pub output : List ℕ
 output = bytes "cells 11 names 3\nn0/0 v0 n1/3 n0/0 v1 i9\nn2/0 v0 i9\n2 3\n8 1\n28 4\n"
 
 loads : loadOf text cellRoom nameRoom ≡ read what
-unfolding text what bytes loadOf takenOf textOf run step layout push put comma close past finish isBlank isLower isUpper isDigit isWord tableCells nameList namesFrom meet position same cellsFrom variableNumber variablesWith widthOf otherIn otherThan flatten tableOf rowsFrom among termsFrom valuesAt
+unfolding text what bytes loadOf takenOf textOf run step layout push put onComma onClose past finish isBlank isLower isUpper isDigit isWord tableCells
+    nameList namesFrom meet position same cellsFrom variableNumber variablesWith widthOf otherIn otherThan flatten tableOf rowsFrom among termsFrom
+    valuesAt
 loads = refl
 
 reads : tableOf (what .cells) ≡ read rows
@@ -63,7 +65,7 @@ unfoldable pub other : List ℕ
 other = bytes "p(a)"
 
 stops : loadOf other cellRoom nameRoom ≡ refuse (refused reason.Text input.Text 4)
-unfolding other bytes loadOf takenOf textOf run step layout push put comma close past finish isBlank isLower isUpper isDigit isWord
+unfolding other bytes loadOf takenOf textOf run step layout push put onComma onClose past finish isBlank isLower isUpper isDigit isWord
 stops = refl
 
 line : refusal 18 4 ≡ bytes "refused 18 at 4\n"

@@ -5,7 +5,7 @@ use Prim.Native.Nat.{ℕ, suc, _+_, _*_, _/_, _%_, _^_, _≤_, _<_}
 use native.Mathlib.Omega.{arith}
 use lib.ListN.{length, getD, length-append}
 use Rattle.octets.proofs.DecimalLaws.{digits-few}
-use Rattle.printing.specs.Printing.{symbol}
+use Rattle.printing.specs.Printing.{symbolText}
 use Rattle.printing.proofs.LengthLaws.{symbol-few}
 use Rattle.refusal.specs.Read.{read}
 use Rattle.table.specs.Table.{Table, tableOf}
@@ -23,7 +23,7 @@ heading-few cells names hc hn = simp length-append (omega (arith, digits-few 3 c
 row-few : (row : List ℕ) → length (rowLine row) ≤ 9 * length row
 unfolding rowLine
 row-few [] = omega arith
-row-few (c ∷ row) = omega (arith, row-few row, symbol-few c, length-append (symbol c) (mark (length row) ∷ rowLine row))
+row-few (c ∷ row) = omega (arith, row-few row, symbol-few c, length-append (symbolText c) (mark (length row) ∷ rowLine row))
 
 rows-few : (rows : List (List ℕ)) → length (rowLines rows) ≤ 9 * length (flatten rows)
 unfolding flatten

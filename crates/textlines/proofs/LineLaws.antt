@@ -5,7 +5,7 @@ use Prim.Native.Nat.{ℕ, zero, suc, _+_, _-_, _≤_, _<_}
 use native.Mathlib.Numerals.{add-one}
 use lib.ListN.{length, getD, drop, length-drop, drop-of-length-le}
 use lib.Seq.{drop-cons}
-use Rattle.printing.specs.Printing.{space, symbol}
+use Rattle.printing.specs.Printing.{space, symbolText}
 use Rattle.textlines.specs.Lines.{mark, rowLine}
 
 pub mark-more : (left : ℕ) → (left ≡ 0 → ⊥) → space ≡ mark left
@@ -13,16 +13,16 @@ mark-more zero n = absurd (n refl)
 mark-more (suc left) n = refl
 
 -- from a cell of a row on: its symbol, what follows it, and the cells after it
-row-first : (c : ℕ) (row : List ℕ) → rowLine (c ∷ row) ≡ symbol c ++ (mark (length row) ∷ rowLine row)
+row-first : (c : ℕ) (row : List ℕ) → rowLine (c ∷ row) ≡ symbolText c ++ (mark (length row) ∷ rowLine row)
 unfolding rowLine
 row-first c row = refl
 
 pub row-on : (row : List ℕ) (i : ℕ) → i < length row
-    → rowLine (drop i row) ≡ symbol (getD row i 0) ++ (mark (length row - (i + 1)) ∷ rowLine (drop (i + 1) row))
+    → rowLine (drop i row) ≡ symbolText (getD row i 0) ++ (mark (length row - (i + 1)) ∷ rowLine (drop (i + 1) row))
 row-on row i h =
     rw (drop-cons row i 0 h, add-one i)
     (row-first (getD row i 0) (drop (suc i) row)
-    ∙ ap (λ (n : ℕ). symbol (getD row i 0) ++ (mark n ∷ rowLine (drop (suc i) row))) (length-drop (suc i) row))
+    ∙ ap (λ (n : ℕ). symbolText (getD row i 0) ++ (mark n ∷ rowLine (drop (suc i) row))) (length-drop (suc i) row))
 
 pub row-done : (row : List ℕ) (i : ℕ) → length row ≤ i → rowLine (drop i row) ≡ []
 unfolding rowLine

@@ -6,7 +6,7 @@ use lib.ListN.{length}
 use Rattle.refusal.specs.Refusal.{Refused}
 use Rattle.refusal.specs.Read.{read, refuse}
 use Rattle.octets.specs.Octets.{decimal, field}
-use Rattle.printing.specs.Printing.{space, feed, symbol, refusal}
+use Rattle.printing.specs.Printing.{space, feed, symbolText, refusal}
 use Rattle.table.specs.Table.{Table, tableOf}
 use Rattle.loading.specs.Load.{Loaded, Loads}
 
@@ -28,7 +28,7 @@ mark (suc left) = space
 
 unfoldable pub rowLine : List ℕ → List ℕ
 rowLine [] = []
-rowLine (cell ∷ row) = symbol cell ++ (mark (length row) ∷ rowLine row)
+rowLine (cell ∷ row) = symbolText cell ++ (mark (length row) ∷ rowLine row)
 
 abbrev pub rowLines : List (List ℕ) → List ℕ
 rowLines rows = flatten (map rowLine rows)

@@ -11,7 +11,7 @@ use borrow.Author.Tests.{ltb-true}
 use Rattle.cell.specs.Cell.{nameCell}
 use Rattle.grammar.specs.Grammar.{Symbol, name, number, Fact, fact}
 use Rattle.grammar.specs.Meaning.{symbolsOf}
-use Rattle.grammar.specs.Reader.{Mode, arg, after, closed, Frame, frame, Work, work, dead, go, put, push, comma, close, stops, reads, run}
+use Rattle.grammar.specs.Reader.{Mode, arg, after, closed, Frame, frame, Work, work, dead, go, put, push, onComma, onClose, stops, reads, run}
 use Rattle.grammar.proofs.Sound.{clash}
 use Rattle.grammar.specs.Reader.{Under, Held, none, more}
 use Rattle.grammar.proofs.HeldLaws.{held-put, held-push}
@@ -271,8 +271,8 @@ module _ (t : List ℕ) (facts : List Fact) (numbers start cells owners : List �
         ∙ sym (length-append (symbolsOf (M .before)) (M .work .out))
         ∙ M .count
 
-    comma-low : (p s n k : ℕ) → onMark t p (comma s n k (g ∷ fs) (M .work .out)) ≡ reads (M .later) → g .done < 3
-    unfolding comma
+    comma-low : (p s n k : ℕ) → onMark t p (onComma s n k (g ∷ fs) (M .work .out)) ≡ reads (M .later) → g .done < 3
+    unfolding onComma
     comma-low p s n k r = by (ltb (g .done) 3) refl r
       where
         by : (b : Bool) → ltb (g .done) 3 ≡ b
@@ -286,7 +286,7 @@ module _ (t : List ℕ) (facts : List Fact) (numbers start cells owners : List �
     added = set cells (getD owners (m .depth - 1) 0) (withArgument (getD cells (getD owners (m .depth - 1) 0) 0))
 
     comma-inner : ((i : ℕ) → i < m .count → getD numbers i 0 < 65536) → (p s n k : ℕ) → p < length t
-        → onMark t p (comma s n k (g ∷ fs) (M .work .out)) ≡ reads (M .later)
+        → onMark t p (onComma s n k (g ∷ fs) (M .work .out)) ≡ reads (M .later)
         → Makes t facts numbers start added owners (making (p + 1) false (m .depth) (m .count))
     unfolding commaTo Owned added
     comma-inner small p s n k h r =
@@ -307,7 +307,7 @@ module _ (t : List ℕ) (facts : List Fact) (numbers start cells owners : List �
         }
 
     close-inner : ((i : ℕ) → i < m .count → getD numbers i 0 < 65536) → (p s n k : ℕ) → p < length t
-        → onMark t p (close s n k (g ∷ fs) (M .work .out)) ≡ reads (M .later)
+        → onMark t p (onClose s n k (g ∷ fs) (M .work .out)) ≡ reads (M .later)
         → Makes t facts numbers start added owners (making (p + 1) true (m .depth - 1) (m .count))
     unfolding closeTo Owned added
     close-inner small p s n k h r =
@@ -340,13 +340,13 @@ module _ (t : List ℕ) (facts : List Fact) (numbers start cells owners : List �
 
   module _ (p : ℕ) (l : m .at ≤ p) (h : p < length t) where
     module _ (f : (v : Work) → run (drop (m .at) t) (termMode (m .past)) v (m .at)
-        ≡ onMark t p (comma (v .start) (v .end) (v .done) (v .opened) (v .out))) where
+        ≡ onMark t p (onComma (v .start) (v .end) (v .done) (v .opened) (v .out))) where
       -- a comma of the fact itself
       pub comma-outer : m .depth ≡ 0 → Makes t facts numbers start cells owners (making (p + 1) false (m .depth) (m .count))
-      unfolding comma
+      unfolding onComma
       comma-outer z = by (M .work .opened) (M .deep) (sym (f (M .work)) ∙ M .same)
         where
-          by : (fs : List Frame) → length fs ≡ m .depth → onMark t p (comma (M .work .start) (M .work .end) (M .work .done) fs (M .work .out))
+          by : (fs : List Frame) → length fs ≡ m .depth → onMark t p (onComma (M .work .start) (M .work .end) (M .work .done) fs (M .work .out))
               ≡ reads (M .later)
               → Makes t facts numbers start cells owners (making (p + 1) false (m .depth) (m .count))
           by [] d r =
@@ -372,30 +372,30 @@ module _ (t : List ℕ) (facts : List Fact) (numbers start cells owners : List �
       comma-makes small n = by (M .work .opened) (M .held) (M .owned) (M .deep) (sym (f (M .work)) ∙ M .same)
         where
           by : (fs : List Frame) → Held (M .work .out) fs → Owned (length (symbolsOf (M .before))) owners fs → length fs ≡ m .depth
-              → onMark t p (comma (M .work .start) (M .work .end) (M .work .done) fs (M .work .out)) ≡ reads (M .later)
+              → onMark t p (onComma (M .work .start) (M .work .end) (M .work .done) fs (M .work .out)) ≡ reads (M .later)
               → Makes t facts numbers start addedTo owners (making (p + 1) false (m .depth) (m .count))
           by [] H O d r = absurd (n (sym d))
           by (g ∷ fs) H O d r = comma-inner g fs H O d small p (M .work .start) (M .work .end) (M .work .done) h r
 
     module _ (f : (v : Work) → run (drop (m .at) t) (termMode (m .past)) v (m .at)
-        ≡ onMark t p (close (v .start) (v .end) (v .done) (v .opened) (v .out))) where
+        ≡ onMark t p (onClose (v .start) (v .end) (v .done) (v .opened) (v .out))) where
       pub close-makes : ((i : ℕ) → i < m .count → getD numbers i 0 < 65536) → (m .depth ≡ 0 → ⊥)
           → Makes t facts numbers start addedTo owners (making (p + 1) true (m .depth - 1) (m .count))
       unfolding added
       close-makes small n = by (M .work .opened) (M .held) (M .owned) (M .deep) (sym (f (M .work)) ∙ M .same)
         where
           by : (fs : List Frame) → Held (M .work .out) fs → Owned (length (symbolsOf (M .before))) owners fs → length fs ≡ m .depth
-              → onMark t p (close (M .work .start) (M .work .end) (M .work .done) fs (M .work .out)) ≡ reads (M .later)
+              → onMark t p (onClose (M .work .start) (M .work .end) (M .work .done) fs (M .work .out)) ≡ reads (M .later)
               → Makes t facts numbers start addedTo owners (making (p + 1) true (m .depth - 1) (m .count))
           by [] H O d r = absurd (n (sym d))
           by (g ∷ fs) H O d r = close-inner g fs H O d small p (M .work .start) (M .work .end) (M .work .done) h r
 
       -- the fact's own bracket
       fact-closed : m .depth ≡ 0 → run (drop (p + 1) t) closed (M .work) (p + 1) ≡ reads (M .later)
-      unfolding close
+      unfolding onClose
       fact-closed z = by (M .work .opened) (M .deep ∙ z) (sym (f (M .work)) ∙ M .same)
         where
-          by : (fs : List Frame) → length fs ≡ 0 → onMark t p (close (M .work .start) (M .work .end) (M .work .done) fs (M .work .out)) ≡ reads (M .later)
+          by : (fs : List Frame) → length fs ≡ 0 → onMark t p (onClose (M .work .start) (M .work .end) (M .work .done) fs (M .work .out)) ≡ reads (M .later)
               → run (drop (p + 1) t) closed (work (M .work .start) (M .work .end) (M .work .done) fs (M .work .out)) (p + 1) ≡ reads (M .later)
           by [] d r = r
           by (g ∷ fs) d r = absurd (omega arith)

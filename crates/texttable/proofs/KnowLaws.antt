@@ -11,7 +11,7 @@ use lib.Seq.{drop-cons}
 use Rattle.grammar.specs.Grammar.{Fact}
 use Rattle.grammar.specs.Reader.{reads, textOf}
 use Rattle.grammar.specs.Meaning.{Place, place, meet, namesOf, entryOf, nameList}
-use Rattle.loading.specs.Load.{front}
+use Rattle.loading.specs.Load.{putFirst}
 use Rattle.loading.specs.Items.{Item, of-name, of-variable, of-number, itemsOf, namesMet, numbering}
 use Rattle.loading.proofs.ItemLaws.{names-items}
 use Rattle.lex.specs.Turns.{Turns}
@@ -26,7 +26,7 @@ use Rattle.symbols.specs.declared.Ahead.the-variants as ahead
 use Rattle.symbols.proofs.LeftLaws.{next-reads}
 use Rattle.symbols.proofs.NextLaws.{close-more}
 use Rattle.texttable.specs.Words.{numbersOf}
-use Rattle.texttable.specs.code.Tree.{listed, Tree, Met, Cleared}
+use Rattle.texttable.specs.code.Tree.{listed, Tree, WordMet, Cleared}
 use Rattle.texttable.specs.code.Numbers.{VariableIs}
 use Rattle.texttable.specs.code.Cells.{making, known, Knows}
 use Rattle.texttable.specs.declared.numbers.Numbered.{Numbered}
@@ -94,11 +94,11 @@ module _ (t : List ℕ) (facts : List Fact) (list₀ list links words ways given
 
   -- a name
   module _ (s e n : ℕ) (to : Spot) (list′ links′ : List ℕ) (A : AheadLeft t (N .from) (ahead.Name s e to)) (h : length t ≤ mostTextBytes) (l : n < 65536)
-      (μ : Met t list links (k .names) s e list′ links′ n) where
+      (μ : WordMet t list links (k .names) s e list′ links′ n) where
     met : MetIs t list links (N .names) (place s e) list′ links′ n
     met =
         met-is t list links (N .names) s e (N .shown) (omega (arith, A .1)) (omega (arith, A .1, A .2, A .3 .within))
-        (subst (λ (c : ℕ). Met t list links c s e list′ links′ n) (sym (N .number)) μ)
+        (subst (λ (c : ℕ). WordMet t list links c s e list′ links′ n) (sym (N .number)) μ)
 
     after : LeftAfter t (of-name (place s e)) to (N .rest)
     after = A .3 .left (N .rest) (N .left)
@@ -312,7 +312,7 @@ module _ (t : List ℕ) (facts : List Fact) (list₀ list links words ways given
       on (p + 1) true (m .depth - 1) (omega (arith, N .low, T .leads .0)) (λ x r c a. N .here (turn.Close p) r T (close-more p (m .depth) n c a))
 
   -- the end
-  pub all-known : AheadLeft t (N .from) ahead.End → (k .names ≡ length (nameList t facts)) × (list ≡ front (nameList t facts) list₀)
+  pub all-known : AheadLeft t (N .from) ahead.End → (k .names ≡ length (nameList t facts)) × (list ≡ putFirst (nameList t facts) list₀)
   unfolding namesMet nameList
   all-known A =
       let e = A (N .rest) (N .left) in

@@ -14,7 +14,7 @@ use borrow.Author.Tests.{eq-eqb, ne-eqb}
 use Rattle.grammar.specs.Grammar.{Fact}
 use Rattle.grammar.specs.Reader.{reads, textOf}
 use Rattle.cell.specs.Same.{same}
-use Rattle.grammar.specs.Meaning.{Place, place, bytesOf, position, meet, namesOf}
+use Rattle.grammar.specs.Meaning.{Place, place, bytesAt, position, meet, namesOf}
 use Rattle.cell.proofs.SameLaws.{same-refl, same-no}
 use Rattle.grammar.proofs.NumberLaws.{position-is, position-none, position-added, meet-old, meet-new}
 use Rattle.loading.specs.Items.{Item, of-variable, of-number, next-row, itemsOf, namesMet, metIn, unmet}
@@ -26,8 +26,9 @@ use Rattle.symbols.specs.declared.Spot.{Spot}
 use Rattle.symbols.specs.declared.Ahead.{Ahead}
 use Rattle.symbols.specs.declared.Ahead.the-variants as ahead
 use Rattle.symbols.proofs.LeftLaws.{next-reads}
-use Rattle.texttable.specs.code.Tree.{wordOf, Tree, listed, Met, old, new}
-use Rattle.texttable.specs.code.Names.{at, NoName, Passed, NameMet, NextNameIs, Shown, Filling, FilledTo, lost, Struck, Strikes, blankOf, zeros, Batched, Counting}
+use Rattle.texttable.specs.code.Tree.{wordListed, Tree, listed, WordMet, old, new}
+use Rattle.texttable.specs.code.Names.{at, NoName, Passed, NameMet, NextNameIs, Shown, Filling, FilledTo, lost, Struck, Strikes, blankOf}
+use Rattle.texttable.specs.code.Names.{zeros, Batched, Counting}
 use Rattle.texttable.specs.declared.names.NextName.{NextName}
 use Rattle.texttable.specs.declared.names.NextName.the-variants as next-name
 use Rattle.texttable.specs.declared.names.Filled.{Filled}
@@ -92,19 +93,19 @@ module _ (t : List ℕ) (from at : Spot) (here : (rest : List Item) → Left t f
 
 -- A NAME IS MET: its number, and the list with it
 pub record MetIs (t list links : List ℕ) (ns : List Place) (w : Place) (list′ links′ : List ℕ) (r : ℕ) : Type 0 where
-  pub number : r ≡ position t (bytesOf t w) (meet t ns w)
+  pub number : r ≡ position t (bytesAt t w) (meet t ns w)
   pub grew : r ≡ length ns → meet t ns w ≡ ns ++ (w ∷ [])
   pub stayed : (r ≡ length ns → ⊥) → (meet t ns w ≡ ns) × (list′ ≡ list)
   pub entry : r ≡ length ns → list′ ≡ set list (length ns) (listed (w .start) (w .end))
   pub shown : Shown t list′ links′ (meet t ns w)
 
 module _ (t list links : List ℕ) (ns : List Place) (s e : ℕ) (S : Shown t list links ns) where
-  old-position : (r : ℕ) → r < length ns → wordOf t (getD list r 0) ≡ slice s e t → position t (slice s e t) ns ≡ r
+  old-position : (r : ℕ) → r < length ns → wordListed t (getD list r 0) ≡ slice s e t → position t (slice s e t) ns ≡ r
   old-position r h q =
       position-is t (slice s e t) ns r h (sym (S .says r h) ∙ q)
       (λ i l z. (let y = S .tree .apart i r (omega arith) h (S .says i (omega arith) ∙ z ∙ sym q) in omega arith))
 
-  new-position : ((i : ℕ) → i < length ns → wordOf t (getD list i 0) ≡ slice s e t → ⊥) → position t (slice s e t) ns ≡ length ns
+  new-position : ((i : ℕ) → i < length ns → wordListed t (getD list i 0) ≡ slice s e t → ⊥) → position t (slice s e t) ns ≡ length ns
   new-position n = position-none t (slice s e t) ns (λ i h z. n i h (S .says i h ∙ z))
 
   shown-new : (links′ : List ℕ) → s ≤ e → s < 65536 → Tree t (set list (length ns) (listed s e)) links′ (suc (length ns))
@@ -116,19 +117,21 @@ module _ (t list links : List ℕ) (ns : List Place) (s e : ℕ) (S : Shown t li
       room : length ns < length list
       room = omega (arith, T .room, length-set list (length ns) (listed s e))
 
-      by : (i : ℕ) → i < suc (length ns) → Dec (i ≡ length ns) → wordOf t (getD (set list (length ns) (listed s e)) i 0) ≡ bytesOf t (at (ns ++ (place s e ∷ [])) i)
+      by : (i : ℕ) → i < suc (length ns) → Dec (i ≡ length ns)
+          → wordListed t (getD (set list (length ns) (listed s e)) i 0) ≡ bytesAt t (at (ns ++ (place s e ∷ [])) i)
       by i h (yes y) =
-          ap (λ (j : ℕ). wordOf t (getD (set list (length ns) (listed s e)) j 0)) y
-          ∙ ap (wordOf t) (getD-set-same list (length ns) (listed s e) 0 room)
+          ap (λ (j : ℕ). wordListed t (getD (set list (length ns) (listed s e)) j 0)) y
+          ∙ ap (wordListed t) (getD-set-same list (length ns) (listed s e) 0 room)
           ∙ word-says t s e l k
-          ∙ ap (bytesOf t) (sym (getD-append-seam ns (place s e) [] (place 0 0)))
-          ∙ ap (λ (j : ℕ). bytesOf t (at (ns ++ (place s e ∷ [])) j)) (sym y)
+          ∙ ap (bytesAt t) (sym (getD-append-seam ns (place s e) [] (place 0 0)))
+          ∙ ap (λ (j : ℕ). bytesAt t (at (ns ++ (place s e ∷ [])) j)) (sym y)
       by i h (no y) =
-          ap (wordOf t) (getD-set-other list (length ns) i (listed s e) 0 y)
+          ap (wordListed t) (getD-set-other list (length ns) i (listed s e) 0 y)
           ∙ S .says i (omega arith)
-          ∙ ap (bytesOf t) (sym (List·getD-append ns (place s e ∷ []) (place 0 0) i (omega arith)))
+          ∙ ap (bytesAt t) (sym (List·getD-append ns (place s e ∷ []) (place 0 0) i (omega arith)))
 
-  pub met-is : {list′ links′ : List ℕ} {r : ℕ} → s ≤ e → s < 65536 → Met t list links (length ns) s e list′ links′ r → MetIs t list links ns (place s e) list′ links′ r
+  pub met-is : {list′ links′ : List ℕ} {r : ℕ} → s ≤ e → s < 65536 → WordMet t list links (length ns) s e list′ links′ r
+      → MetIs t list links ns (place s e) list′ links′ r
   met-is l k (old {r = r} h q a b) =
       let p = old-position r h q in
       let m : meet t ns (place s e) ≡ ns = meet-old t ns (place s e) (omega (arith, p)) in
@@ -162,7 +165,8 @@ none-listed t from list links T =
       still = λ rest L. record { rest = rest; left = L; same = refl };
     }
 
-name-listed : (t : List ℕ) (from : Spot) (list links : List ℕ) (count : ℕ) (to next : Spot) (F : Filling t from list links count to) {s e : ℕ} {list′ links′ : List ℕ} {r : ℕ} (n : ℕ)
+name-listed : (t : List ℕ) (from : Spot) (list links : List ℕ) (count : ℕ) (to next : Spot) (F : Filling t from list links count to) {s e : ℕ}
+    {list′ links′ : List ℕ} {r : ℕ} (n : ℕ)
     → NextNameIs t to (next-name.Name s e next) → MetIs t list links (F .names) (place s e) list′ links′ r
     → length (meet t (F .names) (place s e)) ≡ n → n ≤ count + 1 → Filling t from list′ links′ n next
 name-listed t from list links count to next F {s} {e} n A I q h =
@@ -183,11 +187,11 @@ filling-tree {t} {list} {links} F = subst (Tree t list links) (F .number) (F .sh
 
 -- a name that is new, and one that is listed
 module _ (t : List ℕ) (from : Spot) (list links list′ links′ : List ℕ) (count : ℕ) (to next : Spot) (s e r : ℕ) (F : Filling t from list links count to)
-    (A : NextNameIs t to (next-name.Name s e next)) (h : length t ≤ mostTextBytes) (m : Met t list links count s e list′ links′ r) where
+    (A : NextNameIs t to (next-name.Name s e next)) (h : length t ≤ mostTextBytes) (m : WordMet t list links count s e list′ links′ r) where
   met : MetIs t list links (F .names) (place s e) list′ links′ r
   met =
       met-is t list links (F .names) s e (F .shown) (omega (arith, A .1)) (omega (arith, A .1, A .2, A .3))
-      (subst (λ (n : ℕ). Met t list links n s e list′ links′ r) (sym (F .number)) m)
+      (subst (λ (n : ℕ). WordMet t list links n s e list′ links′ r) (sym (F .number)) m)
 
   pub name-grown : r ≡ count → Filling t from list′ links′ (count + 1) next
   name-grown z =
@@ -207,41 +211,44 @@ or-true false = refl
 module _ (t list links : List ℕ) (ns : List Place) (S : Shown t list links ns) (marks : List ℕ) (w : Place) (sp : Spot) (rest rest₀ : List Item)
     (M : NameMet t w sp rest) (k : Struck t ns marks rest rest₀) where
   -- as it is marked before the name is met
-  was : (i : ℕ) → i < length ns → (b : Bool) → same (bytesOf t w) (bytesOf t (at ns i)) ≡ b
-      → (not (eqb (getD marks i 0) 0) || (b || metIn t (bytesOf t (at ns i)) (M .rest))) ≡ metIn t (bytesOf t (at ns i)) rest₀
+  was : (i : ℕ) → i < length ns → (b : Bool) → same (bytesAt t w) (bytesAt t (at ns i)) ≡ b
+      → (not (eqb (getD marks i 0) 0) || (b || metIn t (bytesAt t (at ns i)) (M .rest))) ≡ metIn t (bytesAt t (at ns i)) rest₀
   was i l b e =
-      ap (λ (x : Bool). not (eqb (getD marks i 0) 0) || (x || metIn t (bytesOf t (at ns i)) (M .rest))) (sym e)
-      ∙ ap (λ (x : Bool). not (eqb (getD marks i 0) 0) || x) (sym (M .met (bytesOf t (at ns i))))
+      ap (λ (x : Bool). not (eqb (getD marks i 0) 0) || (x || metIn t (bytesAt t (at ns i)) (M .rest))) (sym e)
+      ∙ ap (λ (x : Bool). not (eqb (getD marks i 0) 0) || x) (sym (M .met (bytesAt t (at ns i))))
       ∙ k .word i l
 
   -- a name that is listed
-  pub strikes-listed : (j : ℕ) → length ns ≤ length marks → j < length ns → wordOf t (getD list j 0) ≡ bytesOf t w → Struck t ns (set marks j 1) (M .rest) rest₀
+  pub strikes-listed : (j : ℕ) → length ns ≤ length marks → j < length ns → wordListed t (getD list j 0) ≡ bytesAt t w
+      → Struck t ns (set marks j 1) (M .rest) rest₀
   strikes-listed j room h e = record { word = λ i l. by i l (ℕ-discrete i j) }
     where
-      by : (i : ℕ) → i < length ns → Dec (i ≡ j) → lost t (bytesOf t (at ns i)) (getD (set marks j 1) i 0) (M .rest) ≡ metIn t (bytesOf t (at ns i)) rest₀
+      by : (i : ℕ) → i < length ns → Dec (i ≡ j) → lost t (bytesAt t (at ns i)) (getD (set marks j 1) i 0) (M .rest) ≡ metIn t (bytesAt t (at ns i)) rest₀
       by i l (yes q) =
-          let g : bytesOf t (at ns i) ≡ bytesOf t w = ap (λ (x : ℕ). bytesOf t (at ns x)) q ∙ sym (S .says j h) ∙ e in
+          let g : bytesAt t (at ns i) ≡ bytesAt t w = ap (λ (x : ℕ). bytesAt t (at ns x)) q ∙ sym (S .says j h) ∙ e in
           let a : getD (set marks j 1) i 0 ≡ 1 = ap (λ (x : ℕ). getD (set marks j 1) x 0) q ∙ getD-set-same marks j 1 0 (omega arith) in
-          ap (λ (m : ℕ). lost t (bytesOf t (at ns i)) m (M .rest)) a
+          ap (λ (m : ℕ). lost t (bytesAt t (at ns i)) m (M .rest)) a
           ∙ sym (or-true (not (eqb (getD marks i 0) 0)))
-          ∙ was i l true (ap (same (bytesOf t w)) g ∙ same-refl (bytesOf t w))
+          ∙ was i l true (ap (same (bytesAt t w)) g ∙ same-refl (bytesAt t w))
       by i l (no q) =
-          ap (λ (m : ℕ). lost t (bytesOf t (at ns i)) m (M .rest)) (getD-set-other marks j i 1 0 q)
-          ∙ was i l false (same-no (bytesOf t w) (bytesOf t (at ns i)) (λ z. q (S .tree .apart i j l h (S .says i l ∙ sym z ∙ sym e))))
+          ap (λ (m : ℕ). lost t (bytesAt t (at ns i)) m (M .rest)) (getD-set-other marks j i 1 0 q)
+          ∙ was i l false (same-no (bytesAt t w) (bytesAt t (at ns i)) (λ z. q (S .tree .apart i j l h (S .says i l ∙ sym z ∙ sym e))))
 
   -- a name that is not
-  pub strikes-other : ((i : ℕ) → i < length ns → wordOf t (getD list i 0) ≡ bytesOf t w → ⊥) → Struck t ns marks (M .rest) rest₀
-  strikes-other n = record { word = λ i l. was i l false (same-no (bytesOf t w) (bytesOf t (at ns i)) (λ z. n i l (S .says i l ∙ sym z))) }
+  pub strikes-other : ((i : ℕ) → i < length ns → wordListed t (getD list i 0) ≡ bytesAt t w → ⊥) → Struck t ns marks (M .rest) rest₀
+  strikes-other n = record { word = λ i l. was i l false (same-no (bytesAt t w) (bytesAt t (at ns i)) (λ z. n i l (S .says i l ∙ sym z))) }
 
 -- no name is left
-pub all-struck : (t : List ℕ) (ns : List Place) (marks : List ℕ) (rest rest₀ : List Item) → NoName t rest → Struck t ns marks rest rest₀ → Struck t ns marks [] rest₀
+pub all-struck : (t : List ℕ) (ns : List Place) (marks : List ℕ) (rest rest₀ : List Item) → NoName t rest → Struck t ns marks rest rest₀
+    → Struck t ns marks [] rest₀
 unfolding metIn
 all-struck t ns marks rest rest₀ n k =
-    record { word = λ i l. ap (λ (x : Bool). not (eqb (getD marks i 0) 0) || x) (sym (n .met (bytesOf t (at ns i)))) ∙ k .word i l }
+    record { word = λ i l. ap (λ (x : Bool). not (eqb (getD marks i 0) 0) || x) (sym (n .met (bytesAt t (at ns i)))) ∙ k .word i l }
 
 -- none yet
-pub none-struck : (t : List ℕ) (ns : List Place) (marks : List ℕ) (rest : List Item) → ((i : ℕ) → i < length ns → getD marks i 0 ≡ 0) → Struck t ns marks rest rest
-none-struck t ns marks rest z = record { word = λ i l. ap (λ (m : ℕ). lost t (bytesOf t (at ns i)) m rest) (z i l) }
+pub none-struck : (t : List ℕ) (ns : List Place) (marks : List ℕ) (rest : List Item) → ((i : ℕ) → i < length ns → getD marks i 0 ≡ 0)
+    → Struck t ns marks rest rest
+none-struck t ns marks rest z = record { word = λ i l. ap (λ (m : ℕ). lost t (bytesAt t (at ns i)) m rest) (z i l) }
 
 -- COUNTED
 pub blank-one : (m : ℕ) → m ≡ 0 → blankOf m ≡ 1
@@ -274,12 +281,13 @@ zeros-all marks count i n q e =
     omega (arith, e, y)
 
 zeros-unmet : (t : List ℕ) (ns : List Place) (marks : List ℕ) (rest : List Item) → length ns ≤ length marks
-    → ((i : ℕ) → i < length ns → lost t (bytesOf t (at ns i)) (getD marks i 0) [] ≡ metIn t (bytesOf t (at ns i)) rest) → zeros (length ns) marks ≡ unmet t rest ns
+    → ((i : ℕ) → i < length ns → lost t (bytesAt t (at ns i)) (getD marks i 0) [] ≡ metIn t (bytesAt t (at ns i)) rest)
+    → zeros (length ns) marks ≡ unmet t rest ns
 unfolding zeros blankOf unmet metIn
 zeros-unmet t [] marks rest h f = refl
 zeros-unmet t (b ∷ bs) [] rest h f = absurd (omega arith)
 zeros-unmet t (b ∷ bs) (m ∷ marks) rest h f =
-    ap₂ _+_ (turn (eqb m 0) (metIn t (bytesOf t b) rest) (f 0 (omega arith))) (zeros-unmet t bs marks rest (omega arith) (λ i l. f (suc i) (omega arith)))
+    ap₂ _+_ (turn (eqb m 0) (metIn t (bytesAt t b) rest) (f 0 (omega arith))) (zeros-unmet t bs marks rest (omega arith) (λ i l. f (suc i) (omega arith)))
   where
     turn : (x y : Bool) → (not x || false) ≡ y → _≡_ {A = ℕ} (cond x 1 0) (cond y 0 1)
     turn true true e = absurd (let z : _≡_ {A = ℕ} 0 1 = cc in omega arith)
@@ -287,17 +295,18 @@ zeros-unmet t (b ∷ bs) (m ∷ marks) rest h f =
     turn false true e = refl
     turn false false e = absurd (let z : _≡_ {A = ℕ} 0 1 = cc in omega arith)
 
-shown-apart : (t : List ℕ) (ns : List Place) → ((i j : ℕ) → i < length ns → j < length ns → bytesOf t (at ns i) ≡ bytesOf t (at ns j) → i ≡ j) → Apart t ns
+shown-apart : (t : List ℕ) (ns : List Place) → ((i j : ℕ) → i < length ns → j < length ns → bytesAt t (at ns i) ≡ bytesAt t (at ns j) → i ≡ j) → Apart t ns
 unfolding Apart
 shown-apart t [] f = tt
 shown-apart t (b ∷ bs) f = (
-  le-of-eq (sym (position-none t (bytesOf t b) bs (λ i l e. (let z = f (suc i) 0 (omega arith) (omega arith) e in omega arith)))),
+  le-of-eq (sym (position-none t (bytesAt t b) bs (λ i l e. (let z = f (suc i) 0 (omega arith) (omega arith) e in omega arith)))),
   shown-apart t bs (λ i j l k e. (let z = f (suc i) (suc j) (omega arith) (omega arith) e in omega arith)),
 )
 
 -- a batch
 module _ (t : List ℕ) (from : Spot) (list links : List ℕ) (r : Filled) (marks : List ℕ) (names : ℕ) (F : FilledTo t from list links r)
-    (K : Strikes t (r .to) list links (r .count) (replicate 3500 0) marks) (e : names ≡ zeros (r .count) marks) (few : names ≤ r .count) (size : length list ≡ 3500)
+    (K : Strikes t (r .to) list links (r .count) (replicate 3500 0) marks) (e : names ≡ zeros (r .count) marks) (few : names ≤ r .count)
+        (size : length list ≡ 3500)
     (size′ : length marks ≡ 3500) where
   none-marked : (i : ℕ) → i < r .count → _≡_ {A = ℕ} (getD (replicate 3500 0) i 0) 0
   none-marked i l = getD-replicate 3500 i 0 0 (omega (arith, F .few))
@@ -326,7 +335,9 @@ module _ (t : List ℕ) (from : Spot) (list links : List ℕ) (r : Filled) (mark
             record {
               rest = S .rest;
               left = S .left;
-              count = ap (λ (n : ℕ). n + length (namesMet t [] (S .rest))) (not-again (S .rest) (S .left)) ∙ sym (batch t (G .names) (S .rest) apart) ∙ ap length (S .same);
+              count =
+                  ap (λ (n : ℕ). n + length (namesMet t [] (S .rest))) (not-again (S .rest) (S .left)) ∙ sym (batch t (G .names) (S .rest) apart)
+                      ∙ ap length (S .same);
               ended = λ q. ap length (F .ended q (S .rest) (S .left) .names []);
             });
       }
@@ -335,7 +346,8 @@ module _ (t : List ℕ) (from : Spot) (list links : List ℕ) (r : Filled) (mark
 pub none-counted : (t : List ℕ) (sp : Spot) → StartLeft t sp → (facts : List Fact) → textOf t ≡ reads facts → Counting t sp 0 facts
 none-counted t sp b facts e = record { rest = itemsOf facts; left = b .left facts e; count = omega arith }
 
-pub batch-counted : (t : List ℕ) (sp : Spot) (total : ℕ) (r : Batch) (facts : List Fact) → Batched t sp r → Counting t sp total facts → Counting t (r .to) (total + r .names) facts
+pub batch-counted : (t : List ℕ) (sp : Spot) (total : ℕ) (r : Batch) (facts : List Fact) → Batched t sp r → Counting t sp total facts
+    → Counting t (r .to) (total + r .names) facts
 batch-counted t sp total r facts b c =
     let B = b .batch (c .rest) (c .left) in
     record { rest = B .rest; left = B .left; count = omega (arith, B .count, c .count) }

@@ -11,11 +11,11 @@ use lib.ListN.{length, getD, set, take, drop, length-append, length-set, take-ap
 use lib.Seq.{drop-append-le, length-take-le}
 use lib.Seq.{slice, slice-cons, slice-empty, length-slice, drop-cons, append-snoc, set-append-seam, getD-set-same, getD-set-other}
 use Rattle.cell.specs.Same.{same}
-use Rattle.grammar.specs.Meaning.{Place, place, bytesOf, position, variableNumber, variablesWith, entryOf}
+use Rattle.grammar.specs.Meaning.{Place, place, bytesAt, position, variableNumber, variablesWith, entryOf}
 use Rattle.cell.proofs.SameLaws.{same-no}
 use Rattle.grammar.proofs.NumberLaws.{position-kept, position-added, fresh-number, named-number, with-new, with-old}
-use Rattle.loading.specs.Load.{front}
-use Rattle.texttable.specs.code.Tree.{wordOf, listed, Tree, Met, old, new}
+use Rattle.loading.specs.Load.{putFirst}
+use Rattle.texttable.specs.code.Tree.{wordListed, listed, Tree, WordMet, old, new}
 use Rattle.texttable.specs.code.Numbers.{isFresh, RowVars, VariableIs}
 use Rattle.texttable.specs.declared.numbers.Row.{Row}
 use Rattle.texttable.specs.declared.numbers.Numbered.{Numbered}
@@ -37,13 +37,13 @@ fresh-is t s e l h q =
     and-true false = refl
 
 -- a word that is not there and not the one that is added
-position-passed : (t w : List ℕ) (vs : List Place) (v : Place) → position t w vs ≡ length vs → same w (bytesOf t v) ≡ false
+position-passed : (t w : List ℕ) (vs : List Place) (v : Place) → position t w vs ≡ length vs → same w (bytesAt t v) ≡ false
     → position t w (vs ++ (v ∷ [])) ≡ length (vs ++ (v ∷ []))
 unfolding position
 position-passed t w [] v h e = rw e
-position-passed t w (b ∷ bs) v h e = go (same w (bytesOf t b)) (position-passed t w bs v) h
+position-passed t w (b ∷ bs) v h e = go (same w (bytesAt t b)) (position-passed t w bs v) h
   where
-    go : (x : Bool) → (position t w bs ≡ length bs → same w (bytesOf t v) ≡ false → position t w (bs ++ (v ∷ [])) ≡ length (bs ++ (v ∷ [])))
+    go : (x : Bool) → (position t w bs ≡ length bs → same w (bytesAt t v) ≡ false → position t w (bs ++ (v ∷ [])) ≡ length (bs ++ (v ∷ [])))
         → cond x 0 (suc (position t w bs)) ≡ suc (length bs) → cond x 0 (suc (position t w (bs ++ (v ∷ [])))) ≡ suc (length (bs ++ (v ∷ [])))
     go true f q = absurd (omega arith)
     go false f q = ap suc (f (omega arith) e)
@@ -68,7 +68,7 @@ module _ (t words ways given : List ℕ) (r : Row) (s e : ℕ) (X : RowVars t wo
           size = X .size;
           found = λ j h. (
               let x = X .found j h in
-              (position-kept t (wordOf t (getD words j 0)) (X .places) (place s e ∷ []) (omega (arith, x .0, x .1, X .all)) ∙ x .0, omega (arith, x .1)));
+              (position-kept t (wordListed t (getD words j 0)) (X .places) (place s e ∷ []) (omega (arith, x .0, x .1, X .all)) ∙ x .0, omega (arith, x .1)));
           missing = λ v n′ g. position-passed t v (X .places) (place s e) (X .missing v n′ g) (other v g);
         };
         with′ = sym m;
@@ -80,7 +80,7 @@ module _ (t words ways given : List ℕ) (r : Row) (s e : ℕ) (X : RowVars t wo
       other v g = same-no v (slice s e t) (λ q. (let z : true ≡ false = sym f ∙ ap isFresh (sym q) ∙ g in let y : _≡_ {A = ℕ} 0 1 = cc in omega arith))
 
   -- a variable that is met again
-  pub old-variable : {words′ ways′ : List ℕ} {j : ℕ} → isFresh (slice s e t) ≡ false → Met t words ways (r .named) s e words′ ways′ j → j < r .named
+  pub old-variable : {words′ ways′ : List ℕ} {j : ℕ} → isFresh (slice s e t) ≡ false → WordMet t words ways (r .named) s e words′ ways′ j → j < r .named
       → VariableIs t (X .places) (place s e) words′ ways′ given (record { number = getD given j 0; row = r })
   old-variable f (old {r = j} h q a b) l =
       let x = X .found j h in
@@ -92,7 +92,7 @@ module _ (t words ways given : List ℕ) (r : Row) (s e : ℕ) (X : RowVars t wo
 
   -- and one that is new
   pub new-variable : {words′ ways′ : List ℕ} {j : ℕ} → s < e → s < 65536 → isFresh (slice s e t) ≡ false
-      → Met t words ways (r .named) s e words′ ways′ j → r .named ≤ j
+      → WordMet t words ways (r .named) s e words′ ways′ j → r .named ≤ j
       → VariableIs t (X .places) (place s e) words′ ways′ (set given (r .named) (r .all)) (record { number = r .all; row = row (r .named + 1) (r .all + 1) })
   new-variable l k f (old h q a b) m = absurd (omega arith)
   new-variable {words′} {ways′} l k f (new n a T) m =
@@ -119,22 +119,22 @@ module _ (t words ways given : List ℕ) (r : Row) (s e : ℕ) (X : RowVars t wo
       room : r .named < length words
       room = omega (arith, T .room, ap length a, length-set words (r .named) (listed s e))
 
-      last : wordOf t (getD words′ (r .named) 0) ≡ slice s e t
-      last = ap (λ (x : List ℕ). wordOf t (getD x (r .named) 0)) a ∙ ap (wordOf t) (getD-set-same words (r .named) (listed s e) 0 room)
+      last : wordListed t (getD words′ (r .named) 0) ≡ slice s e t
+      last = ap (λ (x : List ℕ). wordListed t (getD x (r .named) 0)) a ∙ ap (wordListed t) (getD-set-same words (r .named) (listed s e) 0 room)
           ∙ word-says t s e (omega arith) k
 
-      earlier : (j : ℕ) → j < r .named → wordOf t (getD words′ j 0) ≡ wordOf t (getD words j 0)
-      earlier j h = ap (λ (x : List ℕ). wordOf t (getD x j 0)) a ∙ ap (wordOf t) (getD-set-other words (r .named) j (listed s e) 0 (λ q. omega arith))
+      earlier : (j : ℕ) → j < r .named → wordListed t (getD words′ j 0) ≡ wordListed t (getD words j 0)
+      earlier j h = ap (λ (x : List ℕ). wordListed t (getD x j 0)) a ∙ ap (wordListed t) (getD-set-other words (r .named) j (listed s e) 0 (λ q. omega arith))
 
       by : (j : ℕ) → j < suc (r .named) → Dec (j ≡ r .named)
-          → (position t (wordOf t (getD words′ j 0)) (X .places ++ (place s e ∷ [])) ≡ getD (set given (r .named) (r .all)) j 0)
+          → (position t (wordListed t (getD words′ j 0)) (X .places ++ (place s e ∷ [])) ≡ getD (set given (r .named) (r .all)) j 0)
           × (getD (set given (r .named) (r .all)) j 0 < r .all + 1)
       by j h (yes q) =
           let g = X .missing (slice s e t) n f in
           let p = position-added t (place s e) (X .places) (omega (arith, g)) in
           let v : getD (set given (r .named) (r .all)) j 0 ≡ r .all =
           ap (λ (i : ℕ). getD (set given (r .named) (r .all)) i 0) q ∙ getD-set-same given (r .named) (r .all) 0 (omega (arith, room, X .size)) in (
-            ap (λ (i : ℕ). position t (wordOf t (getD words′ i 0)) (X .places ++ (place s e ∷ []))) q
+            ap (λ (i : ℕ). position t (wordListed t (getD words′ i 0)) (X .places ++ (place s e ∷ []))) q
                 ∙ ap (λ (y : List ℕ). position t y (X .places ++ (place s e ∷ []))) last ∙ p ∙ X .all ∙ sym v,
             omega (arith, v),
           )
@@ -143,7 +143,7 @@ module _ (t words ways given : List ℕ) (r : Row) (s e : ℕ) (X : RowVars t wo
           let x = X .found j i in
           let v = getD-set-other given (r .named) j (r .all) 0 q in (
             ap (λ (y : List ℕ). position t y (X .places ++ (place s e ∷ []))) (earlier j i)
-                ∙ position-kept t (wordOf t (getD words j 0)) (X .places) (place s e ∷ []) (omega (arith, x .0, x .1, X .all))
+                ∙ position-kept t (wordListed t (getD words j 0)) (X .places) (place s e ∷ []) (omega (arith, x .0, x .1, X .all))
                 ∙ x .0 ∙ sym v,
             omega (arith, v, x .1),
           )
@@ -180,12 +180,12 @@ pub variable-few : {t words ways given : List ℕ} {vs : List Place} {w : Place}
     → v .row .all ≤ length vs + 1
 variable-few {t} {vs = vs} {w = w} x = omega (arith, x .vars .all, ap length (x .with′), with-few t vs w)
 
-pub met-low : {t list links list′ links′ : List ℕ} {count s e r : ℕ} → Met t list links count s e list′ links′ r → r ≤ count
+pub met-low : {t list links list′ links′ : List ℕ} {count s e r : ℕ} → WordMet t list links count s e list′ links′ r → r ≤ count
 met-low (old h q a b) = omega arith
 met-low (new n a T) = omega arith
 
 -- the front of a part is the front of the whole
-pub front-part : (xs room : List ℕ) (n : ℕ) → length xs ≤ n → n ≤ length room → front xs (take n room) ++ drop n room ≡ front xs room
+pub front-part : (xs room : List ℕ) (n : ℕ) → length xs ≤ n → n ≤ length room → putFirst xs (take n room) ++ drop n room ≡ putFirst xs room
 front-part xs room n h l =
     append-assoc xs (drop (length xs) (take n room)) (drop n room)
     ∙ ap (λ (ys : List ℕ). xs ++ ys)

@@ -44,7 +44,8 @@ front-stored [] w n h = absurd (omega arith)
 front-stored (a ∷ []) w n h = absurd (omega arith)
 front-stored (a ∷ b ∷ made) w n h = refl
 
-module _ (t list made : List ℕ) (c : Counted) (C : Counts t c) (low : c .symbols ≤ mostNames) (size : length list ≡ mostNames) (room : length made ≡ mostTableCells) where
+module _ (t list made : List ℕ) (c : Counted) (C : Counts t c) (low : c .symbols ≤ mostNames) (size : length list ≡ mostNames)
+    (room : length made ≡ mostTableCells) where
   abbrev pub stored : List ℕ
   stored = set (set made 0 (c .width)) 1 (c .facts)
 

@@ -9,7 +9,8 @@ use native.Mathlib.Decide.{ℕ-discrete, decLt}
 use lib.ListN.{length, getD, set, replicate, length-set, drop, length-replicate, getD-replicate, List·getD-eq-default, drop-of-length-le}
 use lib.Seq.{slice, drop-cons, getD-set-same, getD-set-other}
 use borrow.Author.Tests.{ne-eqb}
-use Rattle.texttable.specs.code.Tree.{mixFrom, startOf, mixOf, bitOf, MixKept, wordOf, Fits, slotOf, Route, here, down, Trail, start, step, Tree, Missing, Finds, listed, Met, new, ClearedTo, Cleared, Seeks}
+use Rattle.texttable.specs.code.Tree.{mixFrom, startOf, mixOf, bitOf, MixKept, wordListed, WordFits, slotOf, Route, here, down, Trail, start}
+use Rattle.texttable.specs.code.Tree.{step, Tree, Missing, Finds, listed, WordMet, new, ClearedTo, Cleared, Seeks}
 use Rattle.cell.specs.Same.{same}
 use Rattle.cell.proofs.SameLaws.{same-refl}
 use Rattle.texttable.specs.declared.tree.Slot.{Slot}
@@ -41,7 +42,7 @@ module _ (t list links : List ℕ) (count : ℕ) (T : Tree t list links count) w
   trail-slot {w} (step {s = s} {d = d} {j = j} r e) = omega (arith, T .lead s, bit-small w d)
 
   -- a listed word's way begins at the first slot
-  pub begins : (w : List ℕ) (i : ℕ) → i < count → wordOf t (getD list i 0) ≡ w → Route links w 0 0 i
+  pub begins : (w : List ℕ) (i : ℕ) → i < count → wordListed t (getD list i 0) ≡ w → Route links w 0 0 i
   begins w i h e = subst (λ (x : List ℕ). Route links x 0 0 i) e (T .found i h)
 
   -- one step of the search: the word in the slot is another
@@ -63,7 +64,8 @@ module _ (t list links : List ℕ) (count : ℕ) (T : Tree t list links count) w
   trail-later {w} j (step {s = s} {d = d} {j = i} r q) e = omega (arith, T .later i (bitOf w d) j (bit-small w d) e, bit-small w d)
 
   -- one step further: the word in the slot is another one
-  pub advance : {w : List ℕ} {slot d : ℕ} (k r : ℕ) → Seeks t list links count w slot d → k ≡ getD links slot 0 → (k ≡ 0 → ⊥) → same w (wordOf t (getD list (k - 1) 0)) ≡ false
+  pub advance : {w : List ℕ} {slot d : ℕ} (k r : ℕ) → Seeks t list links count w slot d → k ≡ getD links slot 0 → (k ≡ 0 → ⊥)
+      → same w (wordListed t (getD list (k - 1) 0)) ≡ false
       → r ≡ bitOf w d → Seeks t list links count w (1 + 2 * (k - 1) + r) (d + 1)
   advance {w} {slot} {d} k r S e n f q =
       let z : getD links slot 0 ≡ suc (k - 1) = omega arith in
@@ -71,20 +73,20 @@ module _ (t list links : List ℕ) (count : ℕ) (T : Tree t list links count) w
       (subst (λ (x : ℕ). Seeks t list links count w (slotOf (k - 1) (bitOf w d)) x) (sym (add-one d))
       (record {
         trail = step (S .trail) z;
-        ways = λ i h y. goes-on (S .ways i h y) z (λ (v : i ≡ k - 1). differs f (sym (ap (λ (x : ℕ). wordOf t (getD list x 0)) v) ∙ y));
+        ways = λ i h y. goes-on (S .ways i h y) z (λ (v : i ≡ k - 1). differs f (sym (ap (λ (x : ℕ). wordListed t (getD list x 0)) v) ∙ y));
       }))
     where
       differs : {x : List ℕ} → same w x ≡ false → x ≡ w → ⊥
       differs g y = let a : true ≡ false = sym (same-refl w) ∙ ap (same w) (sym y) ∙ g in let b : _≡_ {A = ℕ} 0 1 = cc in omega arith
 
   -- one word more
-  pub with-word : {w : List ℕ} {slot : ℕ} (c : ℕ) → Missing t list links count w slot → count < length list → Fits t c → wordOf t c ≡ w
+  pub with-word : {w : List ℕ} {slot : ℕ} (c : ℕ) → Missing t list links count w slot → count < length list → WordFits t c → wordListed t c ≡ w
       → Tree t (set list count c) (set links slot (suc count)) (suc count)
   with-word {w} {slot} c m room f e =
       record {
         room = rw length-set (omega arith);
         slots = rw (length-set list count c, length-set links slot (suc count)) (T .slots);
-        fits = λ i h. by i (λ (x : ℕ). Fits t x) h (T .fits i) f;
+        fits = λ i h. by i (λ (x : ℕ). WordFits t x) h (T .fits i) f;
         lead = lead′;
         clean = λ s h. rw (getD-set-other links slot s (suc count) 0 (λ q. omega (arith, trail-slot (m .trail)))) (T .clean s (omega arith));
         later = later′;
@@ -99,7 +101,9 @@ module _ (t list links : List ℕ) (count : ℕ) (T : Tree t list links count) w
       inside = omega (arith, trail-slot (m .trail), T .slots)
 
       gains : (s v : ℕ) → getD links s 0 ≡ suc v → getD (set links slot (suc count)) s 0 ≡ suc v
-      gains s v q = getD-set-other links slot s (suc count) 0 (λ (z : s ≡ slot). (let y : suc v ≡ 0 = sym q ∙ ap (λ (x : ℕ). getD links x 0) z ∙ m .free in omega arith)) ∙ q
+      gains s v q =
+          getD-set-other links slot s (suc count) 0 (λ (z : s ≡ slot). (let y : suc v ≡ 0 = sym q ∙ ap (λ (x : ℕ). getD links x 0) z ∙ m .free in
+              omega arith)) ∙ q
 
       by : (i : ℕ) (P : ℕ → Type 0) → i < suc count → (i < count → P (getD list i 0)) → P c → P (getD (set list count c) i 0)
       by i P h a b = go (ℕ-discrete i count)
@@ -120,30 +124,32 @@ module _ (t list links : List ℕ) (count : ℕ) (T : Tree t list links count) w
         where
           go : Dec (slotOf j b ≡ slot) → j < v
           go (yes z) =
-              let y : suc count ≡ suc v = sym (getD-set-same links slot (suc count) 0 inside) ∙ ap (λ (x : ℕ). getD (set links slot (suc count)) x 0) (sym z) ∙ q in
+              let y : suc count ≡ suc v = sym (getD-set-same links slot (suc count) 0 inside)
+                  ∙ ap (λ (x : ℕ). getD (set links slot (suc count)) x 0) (sym z) ∙ q in
               omega (arith, trail-slot (m .trail))
           go (no z) = T .later j b v h (sym (getD-set-other links slot (slotOf j b) (suc count) 0 z) ∙ q)
 
-      found′ : (i : ℕ) → i < suc count → Route (set links slot (suc count)) (wordOf t (getD (set list count c) i 0)) 0 0 i
+      found′ : (i : ℕ) → i < suc count → Route (set links slot (suc count)) (wordListed t (getD (set list count c) i 0)) 0 0 i
       found′ i h = go (ℕ-discrete i count)
         where
-          go : Dec (i ≡ count) → Route (set links slot (suc count)) (wordOf t (getD (set list count c) i 0)) 0 0 i
+          go : Dec (i ≡ count) → Route (set links slot (suc count)) (wordListed t (getD (set list count c) i 0)) 0 0 i
           go (yes q) =
-              let a : wordOf t (getD (set list count c) i 0) ≡ w = ap (λ (x : ℕ). wordOf t (getD (set list count c) x 0)) q ∙ ap (wordOf t) (getD-set-same list count c 0 room) ∙ e in
+              let a : wordListed t (getD (set list count c) i 0) ≡ w =
+                  ap (λ (x : ℕ). wordListed t (getD (set list count c) x 0)) q ∙ ap (wordListed t) (getD-set-same list count c 0 room) ∙ e in
               subst (λ (x : List ℕ). Route (set links slot (suc count)) x 0 0 i) (sym a)
               (trail-route (trail-kept gains (m .trail)) (here (getD-set-same links slot (suc count) 0 inside ∙ ap suc (sym q))))
           go (no q) =
-              subst (λ (x : ℕ). Route (set links slot (suc count)) (wordOf t x) 0 0 i) (sym (getD-set-other list count i c 0 q))
+              subst (λ (x : ℕ). Route (set links slot (suc count)) (wordListed t x) 0 0 i) (sym (getD-set-other list count i c 0 q))
               (route-kept gains (T .found i (omega arith)))
 
-      apart′ : (i j : ℕ) → i < suc count → j < suc count → wordOf t (getD (set list count c) i 0) ≡ wordOf t (getD (set list count c) j 0) → i ≡ j
+      apart′ : (i j : ℕ) → i < suc count → j < suc count → wordListed t (getD (set list count c) i 0) ≡ wordListed t (getD (set list count c) j 0) → i ≡ j
       apart′ i j h k q = go (ℕ-discrete i count) (ℕ-discrete j count)
         where
-          at-end : (x : ℕ) → x ≡ count → wordOf t (getD (set list count c) x 0) ≡ w
-          at-end x z = ap (λ (y : ℕ). wordOf t (getD (set list count c) y 0)) z ∙ ap (wordOf t) (getD-set-same list count c 0 room) ∙ e
+          at-end : (x : ℕ) → x ≡ count → wordListed t (getD (set list count c) x 0) ≡ w
+          at-end x z = ap (λ (y : ℕ). wordListed t (getD (set list count c) y 0)) z ∙ ap (wordListed t) (getD-set-same list count c 0 room) ∙ e
 
-          before : (x : ℕ) → (x ≡ count → ⊥) → wordOf t (getD (set list count c) x 0) ≡ wordOf t (getD list x 0)
-          before x z = ap (wordOf t) (getD-set-other list count x c 0 z)
+          before : (x : ℕ) → (x ≡ count → ⊥) → wordListed t (getD (set list count c) x 0) ≡ wordListed t (getD list x 0)
+          before x z = ap (wordListed t) (getD-set-other list count x c 0 z)
 
           go : Dec (i ≡ count) → Dec (j ≡ count) → i ≡ j
           go (yes x) (yes y) = x ∙ sym y
@@ -201,25 +207,26 @@ pub mix-kept : (w : List ℕ) (d mix : ℕ) → mix ≡ mixOf w (d / 16) → Mix
 mix-kept w d mix e = λ h. e ∙ ap (mixOf w) (omega arith)
 
 -- what the search answered, by its case
-pub found-listed : (t list links w : List ℕ) (count : ℕ) {j : ℕ} {r : Slot} → Finds t list links count w r → r ≡ Listed j → (j < count) × (wordOf t (getD list j 0) ≡ w)
+pub found-listed : (t list links w : List ℕ) (count : ℕ) {j : ℕ} {r : Slot} → Finds t list links count w r → r ≡ Listed j
+    → (j < count) × (wordListed t (getD list j 0) ≡ w)
 found-listed t list links w count f e = subst (Finds t list links count w) e f
 
 pub found-free : (t list links w : List ℕ) (count : ℕ) {s : ℕ} {r : Slot} → Finds t list links count w r → r ≡ Free s → Missing t list links count w s
 found-free t list links w count f e = subst (Finds t list links count w) e f
 
 -- the number that says a word
-pub word-says : (t : List ℕ) (from to : ℕ) → from ≤ to → from < 65536 → wordOf t (listed from to) ≡ slice from to t
+pub word-says : (t : List ℕ) (from to : ℕ) → from ≤ to → from < 65536 → wordListed t (listed from to) ≡ slice from to t
 word-says t from to l h =
     let a : listed from to % 65536 ≡ from = omega arith in
     let b : listed from to % 65536 + listed from to / 65536 ≡ to = omega arith in
     ap₂ (λ (x y : ℕ). slice x y t) a b
 
-pub word-fits : (t : List ℕ) (from to : ℕ) → from ≤ to → from < 65536 → to ≤ length t → Fits t (listed from to)
+pub word-fits : (t : List ℕ) (from to : ℕ) → from ≤ to → from < 65536 → to ≤ length t → WordFits t (listed from to)
 word-fits t from to l h k = omega arith
 
 pub meet-new : (t list links : List ℕ) (count from to slot : ℕ) → Tree t list links count → Missing t list links count (slice from to t) slot
     → from ≤ to → from < 65536 → to ≤ length t → count < length list
-    → Met t list links count from to (set list count (listed from to)) (set links slot (count + 1)) count
+    → WordMet t list links count from to (set list count (listed from to)) (set links slot (count + 1)) count
 meet-new t list links count from to slot T m l h k room =
     new (m .none) refl
     (subst (λ (n : ℕ). Tree t (set list count (listed from to)) (set links slot n) (suc count)) (sym (add-one count))

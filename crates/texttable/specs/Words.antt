@@ -8,7 +8,7 @@ use Rattle.refusal.specs.declared.Refusal.{Refusal}
 use Rattle.grammar.specs.Grammar.{Fact}
 use Rattle.grammar.specs.Meaning.{symbolsOf, tableCells, nameList}
 use Rattle.grammar.specs.Taken.{Taken}
-use Rattle.loading.specs.Load.{front}
+use Rattle.loading.specs.Load.{putFirst}
 use Rattle.loading.specs.Items.{itemsOf, numbering}
 use Rattle.scan.specs.Scan.{Counts}
 use Rattle.scan.specs.declared.Counted.{Counted}
@@ -29,7 +29,7 @@ pub data NamesAre (t : List ℕ) (facts : List Fact) (room : ℕ) (list made : L
   many : length (symbolsOf facts) + 2 ≤ room → mostNames < length (symbolsOf facts)
       → NamesAre t facts room list made list made (names-read.Counted (length (nameList t facts)))
   few : length (symbolsOf facts) + 2 ≤ room → length (symbolsOf facts) ≤ mostNames
-      → NamesAre t facts room list made (front (nameList t facts) list) (front (tableCells t facts) made)
+      → NamesAre t facts room list made (putFirst (nameList t facts) list) (putFirst (tableCells t facts) made)
       (names-read.Listed (length (nameList t facts)))
 
 -- of a text: its facts are counted; or it is turned away, and nothing is written

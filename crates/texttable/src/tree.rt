@@ -4,7 +4,7 @@
 ghost use mathlib.Core.Path.{_≡_};
 ghost use Prim.Native.Nat.{_+_, _*_, _/_, _%_, _^_, _≤_, _<_};
 ghost use lib.ListN.{length};
-ghost use Rattle.texttable.specs.code.Tree.{startOf, mixOf, MixKept, wordOf, Fits, Tree, Finds, Met, Cleared};
+ghost use Rattle.texttable.specs.code.Tree.{startOf, mixOf, MixKept, wordListed, WordFits, Tree, Finds, WordMet, Cleared};
 ghost use Rattle.cell.specs.Same.{same};
 ghost use Rattle.limits.specs.Limits.{mostTextBytes};
 
@@ -74,8 +74,8 @@ fn bit(mix: usize, d: usize) -> usize
 
 // Whether this is a word of the list.
 fn is_word(text: &[u8], listed: u32, word: &[u8]) -> bool
-    requires { ⌜ Fits (now text) listed ⌝ }
-    ensures { λ r. ⌜ r ≡ same (now (word .entry)) (wordOf (now (text .entry)) listed) ⌝ }
+    requires { ⌜ WordFits (now text) listed ⌝ }
+    ensures { λ r. ⌜ r ≡ same (now (word .entry)) (wordListed (now (text .entry)) listed) ⌝ }
 {
     let start = (listed % 65536) as usize;
     let bytes = (listed / 65536) as usize;
@@ -117,7 +117,7 @@ pub fn meet(
 ) -> usize
     requires { ⌜ (start ≤ end) × (end ≤ length (now text)) × (length (now text) < 65536) × (count < length (now list)) × (count < mostTextBytes)
         × Tree (now text) (now list) (now links) count ⌝ }
-    ensures { λ r. ⌜ Met (now (text .entry)) (now (list .entry)) (now (links .entry)) count start end (now (list .exit))
+    ensures { λ r. ⌜ WordMet (now (text .entry)) (now (list .entry)) (now (links .entry)) count start end (now (list .exit))
         (now (links .exit)) r ⌝ }
 {
     match find(text, list, links, count, &text[start..end]) {

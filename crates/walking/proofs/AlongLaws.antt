@@ -22,12 +22,12 @@ use Rattle.answer.specs.Run.{skeletons}
 use Rattle.answer.proofs.FewLaws.{tried-few}
 use Rattle.answer.proofs.Theorems.{skeletons-length}
 use Rattle.term.specs.code.Unifiable.{unifiable}
-use Rattle.plan.specs.Notes.{Branch, branch, flag, below, notes, notesIn, word, cellIn, skipIn, rowIn, slotIn, nextIn, aloneIn}
+use Rattle.plan.specs.Notes.{Branch, branch, flag, below, notes, notesIn, word, cellIn, skipIn, rowNoted, slotIn, nextIn, aloneIn}
 use Rattle.walking.specs.code.Link.{Tables}
 use Rattle.walking.specs.code.Steps.{Safe, Step}
 use Rattle.walking.specs.code.Frames.{Frame, RowCell, SoundOf, notesOf, hitsOf, triedOf, rowsOf, Stands}
 use Rattle.plan.proofs.NotesLaws.{Parts, word-parts, notes-count}
-use Rattle.plan.specs.Notes.{Fits}
+use Rattle.plan.specs.Notes.{BranchFits}
 use Rattle.walking.proofs.FrameLaws.{Top, top-of, none-of, leaf-one, Below, below-frame, some-open, below-stands}
 use Rattle.walking.proofs.StepLaws.{Sizes, Goes, frames, node, rest-stands, below-width, safe, fails, goes}
 
@@ -39,7 +39,7 @@ pub record Along (G rep sib words final : List ℕ) (h t r : ℕ) (bs ns us rs r
   pub top : ℕ
   pub stands : Stands G rep sib bs ns us rs left-over i top
   pub noted : map word (notesOf left-over row) ≡ drop i words
-  pub fit : All Fits (notesOf left-over row)
+  pub fit : All BranchFits (notesOf left-over row)
   pub sizes : Sizes bs ns us rs
   pub wrote : sets room found (hitsOf left-over row) ≡ final
   pub more : found + length (hitsOf left-over row) ≡ h
@@ -65,7 +65,8 @@ drop-past l xs ys at x n e z =
 sets-next : (l : List ℕ) {l′ : List ℕ} (xs ys : List ℕ) (at n : ℕ) → l′ ≡ sets l at xs → length xs ≡ n → sets l′ (at + n) ys ≡ sets l at (xs ++ ys)
 sets-next l xs ys at n e z = rw (e, ← z) (sets-sets l at xs ys)
 
-module _ {w : ℕ} {G sib rep : List ℕ} (G-goal : Goal w G) (T : Tables G sib rep) {words final : List ℕ} {h t r : ℕ} {bs ns us rs room : List ℕ} {i found count : ℕ}
+module _ {w : ℕ} {G sib rep : List ℕ} (G-goal : Goal w G) (T : Tables G sib rep) {words final : List ℕ} {h t r : ℕ} {bs ns us rs room : List ℕ}
+    {i found count : ℕ}
     (A : Along G rep sib words final h t r bs ns us rs room i found count) where
   abbrev row : ℕ
   row = A .row
@@ -73,7 +74,8 @@ module _ {w : ℕ} {G sib rep : List ℕ} (G-goal : Goal w G) (T : Tables G sib 
   -- no branch is left
   pub ended : length words ≤ i → (room ≡ final) × (found ≡ h) × (count ≡ t)
   ended l =
-      let z : length (notesOf (A .left-over) row) ≡ 0 = sym (length-map (notesOf (A .left-over) row) word) ∙ ap length (A .noted) ∙ length-drop i words ∙ omega arith in
+      let z : length (notesOf (A .left-over) row) ≡ 0 =
+          sym (length-map (notesOf (A .left-over) row) word) ∙ ap length (A .noted) ∙ length-drop i words ∙ omega arith in
       let n = none-of (A .left-over) row z in
       (rw (n .0) at (A .wrote), omega (arith, A .more, ap length (n .0)), omega (arith, A .tries, n .1))
 
@@ -126,7 +128,7 @@ module _ {w : ℕ} {G sib rep : List ℕ} (G-goal : Goal w G) (T : Tables G sib 
     split-words : drop i words ≡ word b ∷ (map word under-it ++ map word (notesOf others (row + n)))
     split-words = sym (A .noted) ∙ ap (map word) split-notes ∙ ap (λ (xs : List ℕ). word b ∷ xs) (map-append word under-it (notesOf others (row + n)))
 
-    fit-here : All Fits (b ∷ (under-it ++ notesOf others (row + n)))
+    fit-here : All BranchFits (b ∷ (under-it ++ notesOf others (row + n)))
     fit-here = rw split-notes at (A .fit)
 
     parts : Parts b (getD words i 0)
@@ -137,13 +139,14 @@ module _ {w : ℕ} {G sib rep : List ℕ} (G-goal : Goal w G) (T : Tables G sib 
     room-enough = fit-here .0 .next
 
     -- as the only branch of its state, with all below it
-    pub words-here : drop i words ≡ map word (notesIn (next {g = first .group} (first .tree) end) (first .place) (first .slots) m row) ++ map word (notesOf others (row + n))
+    pub words-here : drop i words ≡ map word (notesIn (next {g = first .group} (first .tree) end) (first .place) (first .slots) m row)
+        ++ map word (notesOf others (row + n))
     unfolding b notes
     words-here = rw (append-nil under-it) split-words
 
-    pub fit-only : All Fits (notesIn (next {g = first .group} (first .tree) end) (first .place) (first .slots) m row)
+    pub fit-only : All BranchFits (notesIn (next {g = first .group} (first .tree) end) (first .place) (first .slots) m row)
     unfolding b notes
-    fit-only = (fit-here .0, rw (append-nil under-it) (all-front Fits under-it (notesOf others (row + n)) (fit-here .1)))
+    fit-only = (fit-here .0, rw (append-nil under-it) (all-front BranchFits under-it (notesOf others (row + n)) (fit-here .1)))
 
     pub alone-here : aloneIn (getD words i 0) ≡ cond (flag (first .group)) 1 0
     unfolding b
@@ -215,11 +218,12 @@ module _ {w : ℕ} {G sib rep : List ℕ} (G-goal : Goal w G) (T : Tables G sib 
         sym (drop-past words (map word under-it) (map word (notesOf others (row + n))) i (word b) (branches (first .tree)) split-words
         (length-map under-it word ∙ notes-count (first .tree) (below (first .place) (arity c) m (first .slots)) (m + arity c) row))
 
-    past-fit : All Fits (notesOf others (row + n))
-    past-fit = all-back Fits under-it (notesOf others (row + n)) (fit-here .1)
+    past-fit : All BranchFits (notesOf others (row + n))
+    past-fit = all-back BranchFits under-it (notesOf others (row + n)) (fit-here .1)
 
     -- a row that is finished by itself: so many branches of it are tried, and whether it is a hit
-    pub on-alone : {room′ : List ℕ} (t′ : ℕ) (b′ : Bool) → flag (first .group) ≡ true → t′ ≡ tried-alone → b′ ≡ unifiable alone-row (first .R) → room′ ≡ sets room found (cond b′ (rowIn W ∷ []) [])
+    pub on-alone : {room′ : List ℕ} (t′ : ℕ) (b′ : Bool) → flag (first .group) ≡ true → t′ ≡ tried-alone → b′ ≡ unifiable alone-row (first .R)
+        → room′ ≡ sets room found (cond b′ (rowNoted W ∷ []) [])
         → Along G rep sib words final h t r bs ns us rs room′ (i + 1 + skipIn W) (found + cond b′ 1 0) (count + t′)
     unfolding b
     on-alone {room′} t′ b′ z et eb er =
@@ -245,7 +249,10 @@ module _ {w : ℕ} {G sib rep : List ℕ} (G-goal : Goal w G) (T : Tables G sib 
           tries = omega (arith, A .tries, ts);
           rows = omega (arith, A .rows, split-rows);
           fewer = omega (arith, A .fewer, some-here);
-          least = omega (arith, A .least, et, tried-few (first .R) (replicate (suc (first .k)) hole ∷ skeletons (first .tree) (decide (first .place) c (replicate (suc (first .k)) hole))), skeletons-length (first .tree) (decide (first .place) c (replicate (suc (first .k)) hole)));
+          least =
+              omega (arith, A .least, et, tried-few (first .R)
+                  (replicate (suc (first .k)) hole ∷ skeletons (first .tree) (decide (first .place) c (replicate (suc (first .k)) hole))),
+                  skeletons-length (first .tree) (decide (first .place) c (replicate (suc (first .k)) hole)));
           reach = omega (arith, skip-here, parts .skip);
         })
       where
@@ -269,7 +276,8 @@ module _ {w : ℕ} {G sib rep : List ℕ} (G-goal : Goal w G) (T : Tables G sib 
           → Along G rep sib words final h t r bs′ ns′ us′ rs′ room (i + 1 + skipIn W) found (count + 1)
       unfolding b
       on-fail x =
-          let x′ : Step rep sib i c (node G-goal T first) m sk bs ns us rs bs′ ns′ us′ rs′ false = rw (parts .cell, parts .next, parts .skip, ← same-node) at x in
+          let x′ : Step rep sib i c (node G-goal T first) m sk bs ns us rs bs′ ns′ us′ rs′ false =
+              rw (parts .cell, parts .next, parts .skip, ← same-node) at x in
           let f = fails G-goal T first room-enough (A .sizes) x′ in
           let hs : hitsOf (A .left-over) row ≡ hitsOf others (row + n) = split-hits off ∙ rw (f .0) in
           let ts : triedOf (A .left-over) ≡ suc (triedOf others) = split-tried off ∙ rw (f .0) (omega arith) in
@@ -298,7 +306,8 @@ module _ {w : ℕ} {G sib rep : List ℕ} (G-goal : Goal w G) (T : Tables G sib 
         gone = goes G-goal T first room-enough (A .sizes) (rw (parts .cell, parts .next, parts .skip, ← same-node) at x)
 
         -- a leaf is below it: its row is a hit
-        pub on-leaf : {room′ : List ℕ} → skipIn W ≡ 0 → room′ ≡ set room found (rowIn W) → Along G rep sib words final h t r bs′ ns′ us′ rs′ room′ (i + 1) (found + 1) (count + 1)
+        pub on-leaf : {room′ : List ℕ} → skipIn W ≡ 0 → room′ ≡ set room found (rowNoted W)
+            → Along G rep sib words final h t r bs′ ns′ us′ rs′ room′ (i + 1) (found + 1) (count + 1)
         unfolding b
         on-leaf {room′} e y =
             let z : branches (first .tree) ≡ 0 = omega (arith, parts .skip) in
@@ -334,13 +343,16 @@ module _ {w : ℕ} {G sib rep : List ℕ} (G-goal : Goal w G) (T : Tables G sib 
             let hs : hitsOf (A .left-over) row ≡ hitsOf (F .first ∷ others) row = split-hits off ∙ rw (d .leaves, F .same-hits row, F .same-rows) in
             let ts : triedOf (A .left-over) ≡ suc (triedOf (F .first ∷ others)) = split-tried off ∙ rw (d .leaves) (omega (arith, F .same-tried)) in
             let ns : notesOf (F .first ∷ others) row ≡ under-it ++ notesOf others (row + n) = rw (F .same-notes row, F .same-rows) in
-            let ws : map word under-it ++ map word (notesOf others (row + n)) ≡ drop (i + 1) words = next-words words (map word under-it ++ map word (notesOf others (row + n))) i (word b) split-words in
+            let ws : map word under-it ++ map word (notesOf others (row + n)) ≡ drop (i + 1) words =
+                next-words words (map word under-it ++ map word (notesOf others (row + n))) i (word b) split-words in
             record {
               left-over = F .first ∷ others;
               row = row;
               sound = (F .sound (sound-here .0), sound-here .1);
               top = m + arity c;
-              stands = below-stands (first .tree) (m + arity c) (below (first .place) (arity c) m (first .slots)) (d .rest) F others (i + 1) (d .linked) (below-width G-goal T first) (omega arith) (gone .rest);
+              stands =
+                  below-stands (first .tree) (m + arity c) (below (first .place) (arity c) m (first .slots)) (d .rest) F others (i + 1) (d .linked)
+                      (below-width G-goal T first) (omega arith) (gone .rest);
               noted = ap (map word) ns ∙ map-append word under-it (notesOf others (row + n)) ∙ ws;
               fit = rw ns (fit-here .1);
               sizes = gone .sizes;
@@ -357,4 +369,5 @@ module _ {w : ℕ} {G sib rep : List ℕ} (G-goal : Goal w G) (T : Tables G sib 
         unfolding b
         on-down e =
             let z : 0 < branches (first .tree) = omega (arith, parts .skip, e) in
-            down-with (below-frame (first .tree) (m + arity c) (below (first .place) (arity c) m (first .slots)) (gone .down .rest) (some-open (first .tree) z)) z
+            down-with (below-frame (first .tree) (m + arity c) (below (first .place) (arity c) m (first .slots)) (gone .down .rest)
+                (some-open (first .tree) z)) z

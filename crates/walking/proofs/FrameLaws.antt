@@ -24,7 +24,8 @@ use Rattle.walking.proofs.LinkLaws.{refs-past, binding-past}
 
 -- No branch is left in a state.
 
-pub none-in : {k : ℕ} {gs : List Run} (bs : Branches k gs) → branchesIn bs ≡ 0 → (i m : ℕ) (R : List ℕ) (f : ℕ) → (hitsIn bs i m R f ≡ []) × (triedIn bs i m R ≡ 0) × (rowCount gs ≡ 0)
+pub none-in : {k : ℕ} {gs : List Run} (bs : Branches k gs) → branchesIn bs ≡ 0 → (i m : ℕ) (R : List ℕ) (f : ℕ)
+    → (hitsIn bs i m R f ≡ []) × (triedIn bs i m R ≡ 0) × (rowCount gs ≡ 0)
 unfolding branches hits tried
 none-in end z i m R f = (refl, refl, refl)
 none-in (next p bs) z i m R f = absurd (let y : ⊥ = omega arith in y)
@@ -87,12 +88,14 @@ unfolding branches
 some-open leaf h = absurd (let y : ⊥ = omega arith in y)
 some-open (node i l bs) h = omega arith
 
-pub stands-more : {G rep sib bs ns us rs : List ℕ} {fs : List Frame} {n top : ℕ} (more : ℕ) → top ≤ more → Stands G rep sib bs ns us rs fs n top → Stands G rep sib bs ns us rs fs n more
+pub stands-more : {G rep sib bs ns us rs : List ℕ} {fs : List Frame} {n top : ℕ} (more : ℕ) → top ≤ more → Stands G rep sib bs ns us rs fs n top
+    → Stands G rep sib bs ns us rs fs n more
 stands-more more h nothing = nothing
 stands-more {top = top} more h (within {f} x l s) = let l′ : f .free ≤ more = omega arith in within x l′ s
 
 -- it stands before the others
-pub below-stands : {G rep sib bs ns us rs : List ℕ} {k : ℕ} {rows : List (List ℕ)} (p : Plan k rows) (m : ℕ) (slots R : List ℕ) (F : Below p m slots R) (others : List Frame) (n : ℕ) {o : ℕ}
+pub below-stands : {G rep sib bs ns us rs : List ℕ} {k : ℕ} {rows : List (List ℕ)} (p : Plan k rows) (m : ℕ) (slots R : List ℕ)
+    (F : Below p m slots R) (others : List Frame) (n : ℕ) {o : ℕ}
     → Linked G rep sib bs ns us rs n (n + branches p) m slots R → length slots ≡ k → o ≤ m → Stands G rep sib bs ns us rs others (n + branches p) o
     → Stands G rep sib bs ns us rs (F .first ∷ others) n m
 below-stands {G} {rep} {sib} {bs} {ns} {us} {rs} p m slots R F others n L z h s =
@@ -190,6 +193,7 @@ first-in (next {k} {g} {gs} p ts) i m slots R fs n top row f h s = record {
   sound = λ a. (a .0 .0, a .0 .1, a .0 .2, a .1);
 }
 
-pub top-of : {G rep sib bs ns us rs : List ℕ} (fs : List Frame) (n top row : ℕ) → 0 < length (notesOf fs row) → Stands G rep sib bs ns us rs fs n top → Top G rep sib bs ns us rs fs n top row
+pub top-of : {G rep sib bs ns us rs : List ℕ} (fs : List Frame) (n top row : ℕ) → 0 < length (notesOf fs row) → Stands G rep sib bs ns us rs fs n top
+    → Top G rep sib bs ns us rs fs n top row
 top-of [] n top row h s = absurd (let z : ⊥ = omega arith in z)
 top-of (f ∷ fs) n top row h s = first-in (f .trees) (f .place) (f .free) (f .slots) (f .R) fs n top row (λ top. top-of fs n top row) h s

@@ -26,9 +26,10 @@ use Rattle.table.proofs.HeadLaws.{up-length}
 use Rattle.answer.specs.code.After.{stuck, left, meet, after}
 use Rattle.answer.specs.code.Renamed.{var, Goal}
 use Rattle.answer.proofs.CountLaws.{up-distinct}
-use Rattle.walking.specs.code.Link.{ref, refs, steps, entries, nodes, Node, cell, made, Nodes, nil, Tables, Is, held, free, Bound, Linked}
+use Rattle.walking.specs.code.Link.{ref, refs, steps, entries, goalNodes, Node, cell, made, GoalNodes, nil, Tables, Is, held, free, Bound, Linked}
 use Rattle.walking.proofs.ListLaws.{entries-++, entries-below, entries-stored, entries-length, steps-length, new-made}
-use Rattle.walking.proofs.RefLaws.{ref-made, refs-++, nodes-split, nodes-++, node-more, nodes-more, up-nodes, steps-up, nodes-up, up-all, up-refs, Terms-ref, Terms-refs, one-node}
+use Rattle.walking.proofs.RefLaws.{ref-made, refs-++, nodes-split, nodes-++, node-more, nodes-more, up-nodes, steps-up, nodes-up, up-all}
+use Rattle.walking.proofs.RefLaws.{up-refs, Terms-ref, Terms-refs, one-node}
 
 -- a node that was made before, or one that was not
 older : {G rep : List ℕ} (m : ℕ) {n r : ℕ} → 32 ≤ m → Node G rep n r → Node G rep m r ⊎ ((m ≤ r) × (32 ≤ r))
@@ -52,11 +53,13 @@ module _ {w : ℕ} {G sib rep : List ℕ} (g : Goal w G) (T : Tables G sib rep) 
   not-made s h (made k l) = omega arith
 
   -- what holds for some branches, holds for fewer of them, with more nodes made
-  is-within : {bs ns us : List ℕ} {n e m n′ e′ m′ r : ℕ} {Θ : ℕ → List ℕ} → n ≤ n′ → e′ ≤ e → m ≤ m′ → Is G rep sib bs ns us n e m Θ r → Is G rep sib bs ns us n′ e′ m′ Θ r
+  is-within : {bs ns us : List ℕ} {n e m n′ e′ m′ r : ℕ} {Θ : ℕ → List ℕ} → n ≤ n′ → e′ ≤ e → m ≤ m′ → Is G rep sib bs ns us n e m Θ r
+      → Is G rep sib bs ns us n′ e′ m′ Θ r
   is-within h k l (held a v t o s) = held (omega arith) v t (nodes-more l o) s
   is-within h k l (free x lx a t f) = free x lx (omega arith) t f
 
-  bound-within : {bs ns us : List ℕ} {n e m : ℕ} (n′ e′ m′ : ℕ) {Θ : ℕ → List ℕ} → 32 ≤ m → m′ ≤ 64 → n ≤ n′ → e′ ≤ e → m ≤ m′ → Bound G rep sib bs ns us n e m Θ
+  bound-within : {bs ns us : List ℕ} {n e m : ℕ} (n′ e′ m′ : ℕ) {Θ : ℕ → List ℕ} → 32 ≤ m → m′ ≤ 64 → n ≤ n′ → e′ ≤ e → m ≤ m′
+      → Bound G rep sib bs ns us n e m Θ
       → Bound G rep sib bs ns us n′ e′ m′ Θ
   bound-within {m = m} n′ e′ m′ s few h k l b = record {
     good = b .good;
@@ -85,7 +88,8 @@ module _ {w : ℕ} {G sib rep : List ℕ} (g : Goal w G) (T : Tables G sib rep) 
     is-past : {m r : ℕ} {Θ : ℕ → List ℕ} → Is G rep sib bs ns us n e m Θ r → Is G rep sib (set bs v c) (set ns v x) (set us v sk) n e m Θ r
     is-past {r = r} (held a h t o s) =
         let d : r ≢ v = λ q. let a′ : e ≤ getD us v 0 = rw (← q) a in let z : ⊥ = omega arith in z in
-        held (rw (us-other r d) a) (rw (bs-other r d) h) (rw (bs-other r d, ns-other r d) t) (rw (bs-other r d, ns-other r d) o) (rw (bs-other r d, ns-other r d) s)
+        held (rw (us-other r d) a) (rw (bs-other r d) h) (rw (bs-other r d, ns-other r d) t) (rw (bs-other r d, ns-other r d) o)
+            (rw (bs-other r d, ns-other r d) s)
     is-past {r = r} (free y ly a t f) = by-cases (ℕ-discrete r v)
         (λ q. free y ly (rw (q, us-here) past) t f)
         (λ q. free y ly (rw (us-other r q) a) t f)
@@ -109,10 +113,12 @@ module _ {w : ℕ} {G sib rep : List ℕ} (g : Goal w G) (T : Tables G sib rep) 
   pub binding-past : {bs ns us rs : List ℕ} (v c x : ℕ) {i sk n e m : ℕ} {slots R : List ℕ} → v < length us → getD us v 0 ≤ i → i < sk → sk ≤ n → n ≤ e
       → Linked G rep sib bs ns us rs n e m slots R → Linked G rep sib (set bs v c) (set ns v x) (set us v sk) rs n e m slots R
   binding-past {bs} {ns} {us} v c x lv low on past l L =
-      record { by = L .by; binds = bound-past bs ns us v c x lv low on past l (L .binds); slots-made = L .slots-made; stand = L .stand; same = L .same; some = L .some; few = L .few }
+      record { by = L .by; binds = bound-past bs ns us v c x lv low on past l (L .binds); slots-made = L .slots-made; stand = L .stand; same =
+          L .same; some = L .some; few = L .few }
 
   -- the rest of a state's branches
-  pub linked-rest : {bs ns us rs : List ℕ} {n e m : ℕ} {slots R : List ℕ} (n′ : ℕ) → n ≤ n′ → Linked G rep sib bs ns us rs n e m slots R → Linked G rep sib bs ns us rs n′ e m slots R
+  pub linked-rest : {bs ns us rs : List ℕ} {n e m : ℕ} {slots R : List ℕ} (n′ : ℕ) → n ≤ n′ → Linked G rep sib bs ns us rs n e m slots R
+      → Linked G rep sib bs ns us rs n′ e m slots R
   linked-rest {e = e} {m} n′ h L = record {
     by = L .by;
     binds = bound-within n′ e m (L .some) (omega (arith, L .few)) h (omega arith) (omega arith) (L .binds);
@@ -145,7 +151,7 @@ module _ {w : ℕ} {G sib rep : List ℕ} (g : Goal w G) (T : Tables G sib rep) 
     cut : entries rs (A ++ (s ∷ B)) ≡ P ++ (v ∷ Q)
     cut = entries-++ rs A (s ∷ B)
 
-    split : Nodes G rep m P × Node G rep m v × Nodes G rep m Q
+    split : GoalNodes G rep m P × Node G rep m v × GoalNodes G rep m Q
     split = nodes-split P (L .stand) cut
 
     pub node-small : v < 64
@@ -187,10 +193,11 @@ module _ {w : ℕ} {G sib rep : List ℕ} (g : Goal w G) (T : Tables G sib rep) 
         let old = L .slots-made in
         entries-++ (sets rs m ks) A (upFrom m a ++ B)
         ∙ ap₂ _++_ (entries-below rs ks A m (all-front (λ (x : ℕ). x < m) A (s ∷ B) old))
-        (entries-++ (sets rs m ks) (upFrom m a) B ∙ ap₂ _++_ (entries-stored rs ks m a e h) (entries-below rs ks B m (all-back (λ (x : ℕ). x < m) A (s ∷ B) old .1)))
+        (entries-++ (sets rs m ks) (upFrom m a) B ∙ ap₂ _++_ (entries-stored rs ks m a e h)
+            (entries-below rs ks B m (all-back (λ (x : ℕ). x < m) A (s ∷ B) old .1)))
 
     -- nothing bound: the nodes ks for the one
-    kept : (n′ e′ c : ℕ) (ks : List ℕ) → n ≤ n′ → e′ ≤ e → arity c ≡ length ks → m + arity c < 64 → length rs ≡ 64 → Nodes G rep m ks
+    kept : (n′ e′ c : ℕ) (ks : List ℕ) → n ≤ n′ → e′ ≤ e → arity c ≡ length ks → m + arity c < 64 → length rs ≡ 64 → GoalNodes G rep m ks
         → after (var m) (length A) c R ≡ left (inst Θ (refs G (P ++ (ks ++ Q))))
         → Down bs ns us (sets rs m ks) n′ e′ (m + arity c) (A ++ (upFrom m (arity c) ++ B)) (length A) c m R
     kept n′ e′ c ks hn he ek f z o t =
@@ -221,14 +228,15 @@ module _ {w : ℕ} {G sib rep : List ℕ} (g : Goal w G) (T : Tables G sib rep) 
 
     -- (2) the goal has the same symbol there
     pub down-same : (n′ e′ c : ℕ) → n < e → n ≤ n′ → e′ ≤ e → m + arity c < 64 → length rs ≡ 64 → isVar c ≡ false → n < getD us v 0 → getD bs v 0 ≡ c
-        → Down bs ns us (sets rs m (nodes rep sib (arity c) (getD ns v 0))) n′ e′ (m + arity c) (A ++ (upFrom m (arity c) ++ B)) (length A) c m R
+        → Down bs ns us (sets rs m (goalNodes rep sib (arity c) (getD ns v 0))) n′ e′ (m + arity c) (A ++ (upFrom m (arity c) ++ B)) (length A) c m R
     unfolding meet
     down-same n′ e′ c some hn he f z hc on q = go seen
       where
-        go : Is G rep sib bs ns us n e m Θ v → Down bs ns us (sets rs m (nodes rep sib (arity c) (getD ns v 0))) n′ e′ (m + arity c) (A ++ (upFrom m (arity c) ++ B)) (length A) c m R
+        go : Is G rep sib bs ns us n e m Θ v → Down bs ns us (sets rs m (goalNodes rep sib (arity c) (getD ns v 0))) n′ e′ (m + arity c)
+            (A ++ (upFrom m (arity c) ++ B)) (length A) c m R
         go (free x lx a t y) = absurd (let z : ⊥ = omega arith in z)
         go (held a h t o y) =
-            let ks = nodes rep sib (arity c) (getD ns v 0) in
+            let ks = goalNodes rep sib (arity c) (getD ns v 0) in
             let t′ : inst Θ (ref G v) ≡ c ∷ inst Θ (refs G ks) = rw q at t in
             kept n′ e′ c ks hn he (sym (entries-length rep (steps sib (arity c) (getD ns v 0)) ∙ steps-length sib (arity c) (getD ns v 0))) f z (rw q at o)
             (at-after (var m) c ∙ rw (hc, t′, hc, eqb-same c) (ap left (sym (joined Θ ks))))
@@ -332,7 +340,7 @@ module _ {w : ℕ} {G sib rep : List ℕ} (g : Goal w G) (T : Tables G sib rep) 
         unfolding Θ′ then
         is-here =
             let a = arity c in
-            let k : nodes rep sib a m ≡ upFrom m a = nodes-up T m a (L .some) (omega arith) in
+            let k : goalNodes rep sib a m ≡ upFrom m a = nodes-up T m a (L .some) (omega arith) in
             let k′ : steps sib a m ≡ upFrom m a = steps-up T m a (L .some) (omega arith) in
             held (omega (arith, until-here)) (rw bs-here hc)
             (rw (bs-here, ns-here, k, new-kids) (ap (inst Θ′) hx ∙ inst-var Θ′ (var x) ∙ ap (inst ρ) hf ∙ inst-var ρ (var x) ∙ ρ-here))
@@ -343,21 +351,24 @@ module _ {w : ℕ} {G sib rep : List ℕ} (g : Goal w G) (T : Tables G sib rep) 
         unfolding Θ′ then
         is-other r d o (held a h t k s) =
             let b = getD bs r 0 in
-            let ks = nodes rep sib (arity b) (getD ns r 0) in
+            let ks = goalNodes rep sib (arity b) (getD ns r 0) in
             let xb = getD-set-other bs v r c 0 d in
             let xn = getD-set-other ns v r m 0 d in
             held (rw (getD-set-other us v r e′ 0 d) (omega arith)) (rw xb h)
-            (rw (xb, xn) (sym (inst-then Θ ρ (ref G r)) ∙ ap (inst ρ) t ∙ inst-symbol b (inst Θ (refs G ks)) ρ-good h ∙ ap (λ (l : List ℕ). b ∷ l) (inst-then Θ ρ (refs G ks))))
+            (rw (xb, xn) (sym (inst-then Θ ρ (ref G r)) ∙ ap (inst ρ) t ∙ inst-symbol b (inst Θ (refs G ks)) ρ-good h
+                ∙ ap (λ (l : List ℕ). b ∷ l) (inst-then Θ ρ (refs G ks))))
             (rw (xb, xn) (nodes-more (omega arith) k))
             (rw (xb, xn) s)
         is-other r d o (free y ly a t f) =
-            free y ly (rw (getD-set-other us v r e′ 0 d) (omega arith)) t (still y f (λ q. d (one-node g T r v x lx o (split .1) (t ∙ ap (λ (z : ℕ). var z ∷ []) q) hx)))
+            free y ly (rw (getD-set-other us v r e′ 0 d) (omega arith)) t
+                (still y f (λ q. d (one-node g T r v x lx o (split .1) (t ∙ ap (λ (z : ℕ). var z ∷ []) q) hx)))
 
         is-new : (r : ℕ) → r < 64 → m ≤ r → 32 ≤ r → Is′ r
         is-new r lr h k =
             let q : r ≢ v = λ z. new-node r z h in
             let l = x-low in
-            free r lr (rw (getD-set-other us v r e′ 0 q) (omega (arith, L .binds .later r (not-made (L .some) h)))) (ref-made G r k) (still r (L .binds .fresh r h) (λ z. let y : ⊥ = omega arith in y))
+            free r lr (rw (getD-set-other us v r e′ 0 q) (omega (arith, L .binds .later r (not-made (L .some) h)))) (ref-made G r k)
+                (still r (L .binds .fresh r h) (λ z. let y : ⊥ = omega arith in y))
 
         bound-bind : Bound G rep sib bs′ ns′ us′ n′ e′ (m + arity c) Θ′
         unfolding Θ′
@@ -368,13 +379,16 @@ module _ {w : ℕ} {G sib rep : List ℕ} (g : Goal w G) (T : Tables G sib rep) 
               (λ q. is-new r (node-low o (omega arith)) (q .0) (q .1))
               (older m (L .some) o);
           fresh = λ u h. let l = x-low in still u (L .binds .fresh u (omega arith)) (λ z. let y : ⊥ = omega arith in y);
-          later = λ r o. rw (getD-set-other us v r e′ 0 (λ z. o (rw z (node-more (omega arith) (split .1))))) (omega (arith, L .binds .later r (λ q. o (node-more (omega arith) q))));
+          later =
+              λ r o. rw (getD-set-other us v r e′ 0 (λ z. o (rw z (node-more (omega arith) (split .1)))))
+                  (omega (arith, L .binds .later r (λ q. o (node-more (omega arith) q))));
         }
 
-        down-new : length rs ≡ 64 → Down bs′ ns′ us′ (sets rs m (nodes rep sib (arity c) m)) n′ e′ (m + arity c) (A ++ (upFrom m (arity c) ++ B)) (length A) c m R
+        down-new : length rs ≡ 64 → Down bs′ ns′ us′ (sets rs m (goalNodes rep sib (arity c) m)) n′ e′ (m + arity c) (A ++ (upFrom m (arity c) ++ B))
+            (length A) c m R
         down-new z =
             let a = arity c in
-            let k : nodes rep sib a m ≡ upFrom m a = nodes-up T m a (L .some) (omega arith) in
+            let k : goalNodes rep sib a m ≡ upFrom m a = nodes-up T m a (L .some) (omega arith) in
             let q = below-refs (upFrom m a) a (sym (up-length m a)) (omega arith) in
             let y = split in
             let up : m ≤ m + a = omega arith in
@@ -392,11 +406,14 @@ module _ {w : ℕ} {G sib rep : List ℕ} (g : Goal w G) (T : Tables G sib rep) 
               };
             }
 
-    pub down-bind : (n′ e′ c : ℕ) → n < e → n ≤ n′ → e′ ≤ e → m + arity c < 64 → length bs ≡ 64 → length ns ≡ 64 → length us ≡ 64 → length rs ≡ 64 → isVar c ≡ false → getD us v 0 ≤ n
-        → Down (set bs v c) (set ns v m) (set us v e′) (sets rs m (nodes rep sib (arity c) m)) n′ e′ (m + arity c) (A ++ (upFrom m (arity c) ++ B)) (length A) c m R
+    pub down-bind : (n′ e′ c : ℕ) → n < e → n ≤ n′ → e′ ≤ e → m + arity c < 64 → length bs ≡ 64 → length ns ≡ 64 → length us ≡ 64 → length rs ≡ 64
+        → isVar c ≡ false → getD us v 0 ≤ n
+        → Down (set bs v c) (set ns v m) (set us v e′) (sets rs m (goalNodes rep sib (arity c) m)) n′ e′ (m + arity c)
+            (A ++ (upFrom m (arity c) ++ B)) (length A) c m R
     down-bind n′ e′ c some hn he f zb zn zu zr hc off = go seen
       where
         go : Is G rep sib bs ns us n e m Θ v
-            → Down (set bs v c) (set ns v m) (set us v e′) (sets rs m (nodes rep sib (arity c) m)) n′ e′ (m + arity c) (A ++ (upFrom m (arity c) ++ B)) (length A) c m R
+            → Down (set bs v c) (set ns v m) (set us v e′) (sets rs m (goalNodes rep sib (arity c) m)) n′ e′ (m + arity c)
+                (A ++ (upFrom m (arity c) ++ B)) (length A) c m R
         go (held a h t o y) = absurd (let z : ⊥ = omega arith in z)
         go (free x lx a t y) = down-new c x lx hc f t y n′ e′ hn he zb zn zu zr

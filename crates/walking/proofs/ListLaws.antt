@@ -13,7 +13,7 @@ use Rattle.term.proofs.Lists.{getD-sets}
 use Rattle.table.specs.All.{All}
 use Rattle.table.proofs.AllLaws.{all-each, all-++}
 use Rattle.table.specs.Table.{upFrom}
-use Rattle.walking.specs.code.Link.{steps, entries, nodes}
+use Rattle.walking.specs.code.Link.{steps, entries, goalNodes}
 
 pub up-none : (n a : ℕ) → a ≡ 0 → upFrom n a ≡ []
 unfolding upFrom
@@ -30,7 +30,8 @@ unfolding upFrom
 up-range m zero = tt
 up-range m (suc a) = (
   (omega arith, omega arith),
-  all-each (λ (x : ℕ). (suc m ≤ x) × (x < suc m + a)) (λ (x : ℕ). (m ≤ x) × (x < m + suc a)) (λ x r. (omega arith, omega arith)) (upFrom (suc m) a) (up-range (suc m) a),
+  all-each (λ (x : ℕ). (suc m ≤ x) × (x < suc m + a)) (λ (x : ℕ). (m ≤ x) × (x < m + suc a)) (λ x r. (omega arith, omega arith)) (upFrom (suc m) a)
+      (up-range (suc m) a),
 )
 
 -- slots below m, and new ones from there on
@@ -53,7 +54,8 @@ unfolding steps
 steps-more sib zero p h = absurd (omega arith)
 steps-more sib (suc a) p h = let e : suc a - 1 ≡ a = omega arith in rw e
 
-pub steps-all : (sib : List ℕ) (a p : ℕ) → 0 < a → All (λ (x : ℕ). x < 64) (steps sib a p) → (p < 64) × All (λ (x : ℕ). x < 64) (steps sib (a - 1) (getD sib p 0))
+pub steps-all : (sib : List ℕ) (a p : ℕ) → 0 < a → All (λ (x : ℕ). x < 64) (steps sib a p)
+    → (p < 64) × All (λ (x : ℕ). x < 64) (steps sib (a - 1) (getD sib p 0))
 steps-all sib a p h l = rw (steps-more sib a p h) at l
 
 pub steps-length : (sib : List ℕ) (a p : ℕ) → length (steps sib a p) ≡ a
@@ -61,10 +63,10 @@ unfolding steps
 steps-length sib zero p = refl
 steps-length sib (suc a) p = ap suc (steps-length sib a (getD sib p 0))
 
-pub nodes-none : (rep sib : List ℕ) (a p : ℕ) → a ≡ 0 → nodes rep sib a p ≡ []
+pub nodes-none : (rep sib : List ℕ) (a p : ℕ) → a ≡ 0 → goalNodes rep sib a p ≡ []
 nodes-none rep sib a p h = ap (entries rep) (steps-none sib a p h)
 
-pub nodes-more : (rep sib : List ℕ) (a p : ℕ) → 0 < a → nodes rep sib a p ≡ getD rep p 0 ∷ nodes rep sib (a - 1) (getD sib p 0)
+pub nodes-more : (rep sib : List ℕ) (a p : ℕ) → 0 < a → goalNodes rep sib a p ≡ getD rep p 0 ∷ goalNodes rep sib (a - 1) (getD sib p 0)
 nodes-more rep sib a p h = ap (entries rep) (steps-more sib a p h)
 
 -- Entries.

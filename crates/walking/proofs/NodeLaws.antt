@@ -28,7 +28,8 @@ first-some first v p e = rw (ne-eqb (getD first v 0) 64 e)
 -- The first cells of variables, for the cells before p: none is kept for a variable that none of them has.
 pub record Firsts (goal first : List ℕ) (p : ℕ) : Type 0 where
   pub none : (v : ℕ) → v < 32 → getD first v 0 ≡ 64 → (q : ℕ) → q < p → getD goal q 0 ≢ v
-  pub some : (v : ℕ) → v < 32 → getD first v 0 ≢ 64 → (getD first v 0 < p) × (getD goal (getD first v 0) 0 ≡ v) × ((q : ℕ) → q < getD first v 0 → getD goal q 0 ≢ v)
+  pub some : (v : ℕ) → v < 32 → getD first v 0 ≢ 64
+      → (getD first v 0 < p) × (getD goal (getD first v 0) 0 ≡ v) × ((q : ℕ) → q < getD first v 0 → getD goal q 0 ≢ v)
   pub size : length first ≡ 32
 
 -- the loop's invariant: the cells before p are done
@@ -37,7 +38,8 @@ pub record Naming (goal bs ns us rep first : List ℕ) (p : ℕ) : Type 0 where
   pub firsts : Firsts goal first p
   pub reach : p ≤ length goal
 
-pub naming-none : (goal bs ns us rep first : List ℕ) → length bs ≡ 64 → length ns ≡ 64 → us ≡ replicate 64 0 → rep ≡ upFrom 0 64 → first ≡ replicate 32 64 → Naming goal bs ns us rep first 0
+pub naming-none : (goal bs ns us rep first : List ℕ) → length bs ≡ 64 → length ns ≡ 64 → us ≡ replicate 64 0 → rep ≡ upFrom 0 64
+    → first ≡ replicate 32 64 → Naming goal bs ns us rep first 0
 naming-none goal bs ns us rep first zb zn eu er ef = record {
   done = record {
     symbols = λ p h v. absurd (let z : ⊥ = omega arith in z);
@@ -88,7 +90,8 @@ module _ {goal bs ns us rep first : List ℕ} {p : ℕ} (w : Whole goal) (N : Na
               });
           variables = λ q h k. by-cases (ℕ-discrete q p)
               (λ e. absurd (true≢false (sym k ∙ rw e v)))
-              (λ d. let x = D .variables q (before q h d) k in record { low = x .low; cell = x .cell; first = x .first; ends = getD-set-other us p q 4095 0 d ∙ x .ends });
+              (λ d. let x = D .variables q (before q h d) k in
+                  record { low = x .low; cell = x .cell; first = x .first; ends = getD-set-other us p q 4095 0 d ∙ x .ends });
           others = λ r h k. D .others r (omega arith) k;
           unbound = λ r h. getD-set-other us p r 4095 0 (λ e. let z : ⊥ = omega arith in z) ∙ D .unbound r (omega arith);
           size-rep = D .size-rep;

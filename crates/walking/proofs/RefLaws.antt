@@ -15,7 +15,7 @@ use Rattle.term.proofs.Inst.{Terms-var}
 use Rattle.table.specs.All.{All}
 use Rattle.table.specs.Table.{upFrom}
 use Rattle.answer.specs.code.Renamed.{var, Goal}
-use Rattle.walking.specs.code.Link.{ref, refs, steps, entries, nodes, Node, cell, made, Nodes, nil, cons, Tables}
+use Rattle.walking.specs.code.Link.{ref, refs, steps, entries, goalNodes, Node, cell, made, GoalNodes, nil, cons, Tables}
 use Rattle.walking.proofs.ListLaws.{front-add, back-drop, drop-in, suffix}
 
 pub ref-cell : (G : List ℕ) (r : ℕ) → r < 32 → ref G r ≡ front 1 (drop r G)
@@ -33,7 +33,8 @@ refs-++ G (r ∷ P) Q = rw (refs-++ G P Q, append-assoc)
 
 -- Nodes.
 
-pub nodes-split : {G rep : List ℕ} {m : ℕ} (P : List ℕ) {r : ℕ} {Q xs : List ℕ} → Nodes G rep m xs → xs ≡ P ++ (r ∷ Q) → Nodes G rep m P × Node G rep m r × Nodes G rep m Q
+pub nodes-split : {G rep : List ℕ} {m : ℕ} (P : List ℕ) {r : ℕ} {Q xs : List ℕ} → GoalNodes G rep m xs → xs ≡ P ++ (r ∷ Q)
+    → GoalNodes G rep m P × Node G rep m r × GoalNodes G rep m Q
 nodes-split [] {r} {Q} nil e = let z : _≡_ {A = ℕ} 0 1 = cc in absurd (let y : ⊥ = omega arith in y)
 nodes-split (p ∷ P) {r} {Q} nil e = let z : _≡_ {A = ℕ} 0 1 = cc in absurd (let y : ⊥ = omega arith in y)
 nodes-split [] {r} {Q} (cons {r = s} {rs = rs} o os) e = let a : s ≡ r = cc in let b : rs ≡ Q = cc in (nil, rw a at o, rw b at os)
@@ -43,7 +44,7 @@ nodes-split (p ∷ P) {r} {Q} (cons {r = s} {rs = rs} o os) e =
     let h = nodes-split P os b in
     (cons (rw a at o) (h .0), h .1, h .2)
 
-pub nodes-++ : {G rep : List ℕ} {m : ℕ} {P Q : List ℕ} → Nodes G rep m P → Nodes G rep m Q → Nodes G rep m (P ++ Q)
+pub nodes-++ : {G rep : List ℕ} {m : ℕ} {P Q : List ℕ} → GoalNodes G rep m P → GoalNodes G rep m Q → GoalNodes G rep m (P ++ Q)
 nodes-++ nil q = q
 nodes-++ (cons o p) q = cons o (nodes-++ p q)
 
@@ -51,14 +52,14 @@ pub node-more : {G rep : List ℕ} {m n r : ℕ} → m ≤ n → Node G rep m r 
 node-more h (cell x y) = cell x y
 node-more h (made x y) = made x (omega arith)
 
-pub nodes-more : {G rep : List ℕ} {m n : ℕ} {P : List ℕ} → m ≤ n → Nodes G rep m P → Nodes G rep n P
+pub nodes-more : {G rep : List ℕ} {m n : ℕ} {P : List ℕ} → m ≤ n → GoalNodes G rep m P → GoalNodes G rep n P
 nodes-more h nil = nil
 nodes-more h (cons o p) = cons (node-more h o) (nodes-more h p)
 
 -- Arguments made on the way.
 
 module _ {G sib rep : List ℕ} (T : Tables G sib rep) where
-  pub up-nodes : (m u a : ℕ) → 32 ≤ u → u + a ≤ m → Nodes G rep m (upFrom u a)
+  pub up-nodes : (m u a : ℕ) → 32 ≤ u → u + a ≤ m → GoalNodes G rep m (upFrom u a)
   unfolding upFrom
   up-nodes m u zero h l = nil
   up-nodes m u (suc a) h l = cons (made h (omega arith)) (up-nodes m (suc u) a (omega arith) (omega arith))
@@ -77,7 +78,7 @@ module _ {G sib rep : List ℕ} (T : Tables G sib rep) where
   rep-up u zero h l = refl
   rep-up u (suc a) h l = ap₂ (λ (y : ℕ) (ys : List ℕ). y ∷ ys) (T .up u h (omega arith) .1) (rep-up (suc u) a (omega arith) (omega arith))
 
-  pub nodes-up : (u a : ℕ) → 32 ≤ u → u + a ≤ 64 → nodes rep sib a u ≡ upFrom u a
+  pub nodes-up : (u a : ℕ) → 32 ≤ u → u + a ≤ 64 → goalNodes rep sib a u ≡ upFrom u a
   nodes-up u a h l = rw (steps-up u a h l) (rep-up u a h l)
 
 pub up-all : (u a : ℕ) → u + a ≤ 64 → All (λ (x : ℕ). x < 64) (upFrom u a)
@@ -105,15 +106,15 @@ module _ {w : ℕ} {G sib rep : List ℕ} (g : Goal w G) (T : Tables G sib rep) 
   Terms-ref {r = r} l (cell h k) = rw (ref-cell G r (let s = g .short in omega arith)) (term-at r h)
   Terms-ref {r = r} l (made h u) = rw (ref-made G r h) (Terms-var (var-small (var r) (omega arith)))
 
-  pub Terms-refs : {m : ℕ} {rs : List ℕ} → m ≤ 64 → Nodes G rep m rs → Terms (length rs) (refs G rs)
+  pub Terms-refs : {m : ℕ} {rs : List ℕ} → m ≤ 64 → GoalNodes G rep m rs → Terms (length rs) (refs G rs)
   unfolding refs
   Terms-refs l nil = none
   Terms-refs l (cons o os) = rw one-add at (Terms-++ (Terms-ref l o) (Terms-refs l os))
 
   -- a of them from p on, as nodes
   pub record Stand (m a p : ℕ) (xs : List ℕ) : Type 0 where
-    pub terms : refs G (nodes rep sib a p) ≡ xs
-    pub stand : Nodes G rep m (nodes rep sib a p)
+    pub terms : refs G (goalNodes rep sib a p) ≡ xs
+    pub stand : GoalNodes G rep m (goalNodes rep sib a p)
     pub small : All (λ (x : ℕ). x < 64) (steps sib a p)
 
   pub stand-at : (a p j m : ℕ) → Terms (a + j) (drop p G) → Stand m a p (front a (drop p G))
@@ -125,7 +126,8 @@ module _ {w : ℕ} {G sib rep : List ℕ} (g : Goal w G) (T : Tables G sib rep) 
       let s = T .sibs p h in
       let t₂ : Terms (1 + (a + j)) (drop p G) = rw one-add t₁ in
       let b = back-terms 1 (a + j) (drop p G) t₂ in
-      let e : back 1 (drop p G) ≡ drop (getD sib p 0) G = back-drop 1 (drop p G) ∙ drop-drop (length (front 1 (drop p G))) p G ∙ ap (λ (n : ℕ). drop n G) (sym s) in
+      let e : back 1 (drop p G) ≡ drop (getD sib p 0) G =
+          back-drop 1 (drop p G) ∙ drop-drop (length (front 1 (drop p G))) p G ∙ ap (λ (n : ℕ). drop n G) (sym s) in
       let r = stand-at a (getD sib p 0) j m (rw e at b) in
       let q : p < 32 = (let x = g .short in omega arith) in
       let f : front (suc a) (drop p G) ≡ front 1 (drop p G) ++ front a (back 1 (drop p G)) = rw (← one-add) (front-add 1 a (drop p G)) in

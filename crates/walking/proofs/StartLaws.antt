@@ -24,7 +24,7 @@ use Rattle.answer.specs.code.Renamed.{var, lift}
 use Rattle.answer.proofs.RenamedLaws.{lift-var, lift-symbol}
 use Rattle.answer.proofs.RenamedLaws.{renamed-length, renamed-drop, renamed-at, renamed-front, small-drop, getD-mem}
 use Rattle.answer.proofs.AcceptedLaws.{small, goal-head}
-use Rattle.walking.specs.code.Link.{ref, steps, entries, nodes, Node, cell, made, Tables, Is, held, free, Bound, Linked}
+use Rattle.walking.specs.code.Link.{ref, steps, entries, goalNodes, Node, cell, made, Tables, Is, held, free, Bound, Linked}
 use Rattle.walking.specs.code.Goal.{Whole, Stepped, Named}
 use Rattle.walking.proofs.ListLaws.{suffix, entries-stored, entries-length, steps-length, up-range}
 use Rattle.walking.proofs.RefLaws.{ref-cell, Stand, stand-at}
@@ -95,7 +95,8 @@ module _ {w : ℕ} {goal : List ℕ} (h : IsGoal w goal) where
         let n = renamed-length goal in
         record {
           sibs = λ p l. let l′ : p < length goal = omega arith in
-              S .places p l′ ∙ ap (λ (n : ℕ). p + n) (sym (ap (λ (l : List ℕ). length (front 1 l)) (renamed-drop p goal) ∙ renamed-front 1 (drop p goal) (small-drop p goal (small h))));
+              S .places p l′ ∙ ap (λ (n : ℕ). p + n) (sym (ap (λ (l : List ℕ). length (front 1 l)) (renamed-drop p goal)
+                  ∙ renamed-front 1 (drop p goal) (small-drop p goal (small h))));
           up = λ r a b. (S .numbers r a b, N .others r (omega (arith, h .head .short)) b);
           size = N .size-rep;
           others = λ r a b. N .others r (omega arith) b;
@@ -122,7 +123,8 @@ module _ {w : ℕ} {goal : List ℕ} (h : IsGoal w goal) where
               one-of r s l′ k′ (c .0) (d .0) a b (c .1 ∙ sym (d .1));
         }
       where
-        one-of : (r s : ℕ) → r < length goal → s < length goal → isVar (getD goal r 0) ≡ true → isVar (getD goal s 0) ≡ true → getD rep r 0 ≡ r → getD rep s 0 ≡ s
+        one-of : (r s : ℕ) → r < length goal → s < length goal → isVar (getD goal r 0) ≡ true → isVar (getD goal s 0) ≡ true → getD rep r 0 ≡ r
+            → getD rep s 0 ≡ s
             → getD goal r 0 ≡ getD goal s 0 → r ≡ s
         one-of r s l k v u a b e = ⊎-elim
             (λ t. absurd (one-first r s (ltb-true r s t) k u b e))
@@ -172,11 +174,12 @@ module _ {w : ℕ} {goal : List ℕ} (h : IsGoal w goal) where
     pub arguments : Stand (goal-head h) tables 32 w 0 (front w G)
     arguments = let t : Terms (w + 0) (drop 0 G) = rw add-zero (goal-head h .terms) in stand-at (goal-head h) tables w 0 0 32 t
 
-    pub linked : (rs : List ℕ) (e : ℕ) → rs ≡ sets (replicate 64 0) 1 (nodes rep sib w 0) → w ≤ 8 → e ≤ 4095 → Linked G rep sib bs ns us rs 0 e 32 (upFrom 1 w) G
+    pub linked : (rs : List ℕ) (e : ℕ) → rs ≡ sets (replicate 64 0) 1 (goalNodes rep sib w 0) → w ≤ 8 → e ≤ 4095
+        → Linked G rep sib bs ns us rs 0 e 32 (upFrom 1 w) G
     linked rs e er lw le =
         let z : length (replicate {A = ℕ} 64 0) ≡ 64 = length-replicate {A = ℕ} 64 0 in
-        let n : w ≡ length (nodes rep sib w 0) = sym (entries-length rep (steps sib w 0) ∙ steps-length sib w 0) in
-        let q : entries rs (upFrom 1 w) ≡ nodes rep sib w 0 = rw er (entries-stored (replicate 64 0) (nodes rep sib w 0) 1 w n (omega arith)) in
+        let n : w ≡ length (goalNodes rep sib w 0) = sym (entries-length rep (steps sib w 0) ∙ steps-length sib w 0) in
+        let q : entries rs (upFrom 1 w) ≡ goalNodes rep sib w 0 = rw er (entries-stored (replicate 64 0) (goalNodes rep sib w 0) 1 w n (omega arith)) in
         let f : front w G ≡ G = ap (front w) (sym (append-nil G)) ∙ front-++ [] (goal-head h .terms) in
         record {
           by = idS;

@@ -11,7 +11,7 @@ use Rattle.plan.specs.Plans.{next, branches, branchesIn}
 use Rattle.answer.specs.code.After.{stuck, after}
 use Rattle.answer.specs.code.Renamed.{var, Goal}
 use Rattle.plan.specs.Notes.{below}
-use Rattle.walking.specs.code.Link.{nodes, Tables, Linked}
+use Rattle.walking.specs.code.Link.{goalNodes, Tables, Linked}
 use Rattle.walking.specs.code.Steps.{Safe, Step, step-any, step-same, step-other, step-binds}
 use Rattle.walking.specs.code.Frames.{Frame, frame, Held, Stands, within}
 use Rattle.plan.proofs.NotesLaws.{below-length}
@@ -59,11 +59,13 @@ module _ {v : ℕ} {G sib rep : List ℕ} (G-goal : Goal v G) (T : Tables G sib 
   frames = frame (t .trees) (t .place) (t .free) (t .slots) (t .R) ∷ t .others
 
   -- what the arrays stand for there
-  pub held : Held G rep sib bs ns us rs n (n + branchesIn (next {g = t .group} (t .tree) (t .trees))) (frame (next {g = t .group} (t .tree) (t .trees)) (t .place) (t .free) (t .slots) (t .R))
+  pub held : Held G rep sib bs ns us rs n (n + branchesIn (next {g = t .group} (t .tree) (t .trees)))
+      (frame (next {g = t .group} (t .tree) (t .trees)) (t .place) (t .free) (t .slots) (t .R))
   held = go (t .stands)
     where
       go : {o : ℕ} → Stands G rep sib bs ns us rs (frame (next {g = t .group} (t .tree) (t .trees)) (t .place) (t .free) (t .slots) (t .R) ∷ t .others) n o
-          → Held G rep sib bs ns us rs n (n + branchesIn (next {g = t .group} (t .tree) (t .trees))) (frame (next {g = t .group} (t .tree) (t .trees)) (t .place) (t .free) (t .slots) (t .R))
+          → Held G rep sib bs ns us rs n (n + branchesIn (next {g = t .group} (t .tree) (t .trees)))
+              (frame (next {g = t .group} (t .tree) (t .trees)) (t .place) (t .free) (t .slots) (t .R))
       go (within x l r) = x
 
   -- its place among the slots
@@ -75,7 +77,8 @@ module _ {v : ℕ} {G sib rep : List ℕ} (G-goal : Goal v G) (T : Tables G sib 
     pub width : length (t .slots) ≡ suc (t .k)
     pub rest : Stands G rep sib bs ns us rs frames sk m
 
-  place-in : {o : ℕ} → Stands G rep sib bs ns us rs (frame (next {g = t .group} (t .tree) (t .trees)) (t .place) (t .free) (t .slots) (t .R) ∷ t .others) n o → Place
+  place-in : {o : ℕ} → Stands G rep sib bs ns us rs
+      (frame (next {g = t .group} (t .tree) (t .trees)) (t .place) (t .free) (t .slots) (t .R) ∷ t .others) n o → Place
   unfolding branches
   place-in (within x l r) =
       let L = x .linked in
@@ -90,10 +93,13 @@ module _ {v : ℕ} {G sib rep : List ℕ} (G-goal : Goal v G) (T : Tables G sib 
         linked = rw q at L;
         number = length-take-le i (t .slots) (omega (arith, x .width, x .low));
         width = x .width;
-        rest = within {f = frame (t .trees) (t .place) (t .free) (t .slots) (t .R)} (record { linked = rw d at (linked-rest G-goal T sk (omega arith) L); width = x .width; low = x .low }) o (rw d at r);
+        rest =
+            within {f = frame (t .trees) (t .place) (t .free) (t .slots) (t .R)}
+                (record { linked = rw d at (linked-rest G-goal T sk (omega arith) L); width = x .width; low = x .low }) o (rw d at r);
       }
 
-  place-low : {o : ℕ} → Stands G rep sib bs ns us rs (frame (next {g = t .group} (t .tree) (t .trees)) (t .place) (t .free) (t .slots) (t .R) ∷ t .others) n o → i < length (t .slots)
+  place-low : {o : ℕ} → Stands G rep sib bs ns us rs
+      (frame (next {g = t .group} (t .tree) (t .trees)) (t .place) (t .free) (t .slots) (t .R) ∷ t .others) n o → i < length (t .slots)
   place-low (within x l r) = omega (arith, x .width, x .low)
 
   P : Place
@@ -148,7 +154,7 @@ module _ {v : ℕ} {G sib rep : List ℕ} (G-goal : Goal v G) (T : Tables G sib 
           })
       goes (step-same hc on q eb en eu er) =
           let o = P .some in
-          let ks = nodes rep sib (arity c) (getD ns node 0) in
+          let ks = goalNodes rep sib (arity c) (getD ns node 0) in
           rw (eb, en, eu, er)
           (record {
             down = rw (P .number) at (down-same G-goal T A s B L (n + 1) sk c (omega arith) (omega arith) o fits (z .refers) hc on q);
@@ -157,11 +163,13 @@ module _ {v : ℕ} {G sib rep : List ℕ} (G-goal : Goal v G) (T : Tables G sib 
           })
       goes (step-binds hc off eb en eu er) =
           let o = P .some in
-          let ks = nodes rep sib (arity c) m in
+          let ks = goalNodes rep sib (arity c) m in
           let l : node < length us = omega (arith, node-small G-goal T A s B L, z .until) in
           rw (eb, en, eu, er)
           (record {
-            down = rw (P .number) at (down-bind G-goal T A s B L (n + 1) sk c (omega arith) (omega arith) o fits (z .bound) (z .args) (z .until) (z .refers) hc off);
+            down =
+                rw (P .number) at (down-bind G-goal T A s B L (n + 1) sk c (omega arith) (omega arith) o fits (z .bound) (z .args) (z .until)
+                    (z .refers) hc off);
             rest = stands-refs G-goal T m ks (omega arith) (stands-binding G-goal T node c m {i = n} l off (omega arith) (omega arith) (P .rest));
             sizes = record {
               bound = length-set bs node c ∙ z .bound;

@@ -16,8 +16,8 @@ use Rattle.table.proofs.HeadLaws.{up-length}
 use Rattle.plan.specs.Plans.{branches}
 use Rattle.answer.specs.code.Tree.{hits, tried}
 use Rattle.answer.proofs.AcceptedLaws.{goal-head, no-cell}
-use Rattle.plan.specs.Notes.{flag, notes, word, cellIn, skipIn, rowIn, slotIn, nextIn, aloneIn}
-use Rattle.walking.specs.code.Link.{nodes, Tables}
+use Rattle.plan.specs.Notes.{flag, notes, word, cellIn, skipIn, rowNoted, slotIn, nextIn, aloneIn}
+use Rattle.walking.specs.code.Link.{goalNodes, Tables}
 use Rattle.walking.specs.code.Steps.{Safe, Step}
 use Rattle.walking.specs.code.Goal.{Stepped, Named}
 use Rattle.walking.specs.code.Frames.{RowCell, notesOf, hitsOf, nothing}
@@ -34,7 +34,8 @@ module _ {noted goal room : List ℕ} {count w : ℕ} (b : Begun noted count goa
   -- at the branch number i
   abbrev pub Walking : (rep sib bs ns us rs room′ : List ℕ) (i found tries : ℕ) → Type 0
   Walking rep sib bs ns us rs room′ i found tries =
-      Along (renamed goal) rep sib (take count noted) (sets room 0 (hits (b .tree) 32 (renamed goal) 0)) (length (hits (b .tree) 32 (renamed goal) 0)) (tried (b .tree) 32 (renamed goal)) (length (b .rows))
+      Along (renamed goal) rep sib (take count noted) (sets room 0 (hits (b .tree) 32 (renamed goal) 0)) (length (hits (b .tree) 32 (renamed goal) 0))
+          (tried (b .tree) 32 (renamed goal)) (length (b .rows))
       bs ns us rs room′ i found tries
 
   pub words-count : length (take count noted) ≡ count
@@ -46,7 +47,8 @@ module _ {noted goal room : List ℕ} {count w : ℕ} (b : Begun noted count goa
   count-small = omega (arith, b .number, branches-few (b .accepted) (b .tree))
 
   -- One branch more, by what the code reads: sk is the number of branches below it.
-  module _ {sib rep bs ns us rs room′ : List ℕ} {i found tries : ℕ} (T : Tables (renamed goal) sib rep) (A : Walking rep sib bs ns us rs room′ i found tries) (l : i < count) where
+  module _ {sib rep bs ns us rs room′ : List ℕ} {i found tries : ℕ} (T : Tables (renamed goal) sib rep)
+      (A : Walking rep sib bs ns us rs room′ i found tries) (l : i < count) where
     abbrev W : ℕ
     W = getD noted i 0
 
@@ -84,21 +86,22 @@ module _ {noted goal room : List ℕ} {count w : ℕ} (b : Begun noted count goa
           → i′ ≡ i + 1 + skipIn W → tries′ ≡ tries + 1 → Walking rep sib bs′ ns′ us′ rs′ room′ i′ found tries′
       fail-now x ei et = rw (ei, et) (rw same-word at (on-fail (goal-head (b .is)) T A inside off (rw (← same-word) at x)))
 
-      pub leaf-now : {i′ found′ tries′ : ℕ} (r sk : ℕ) {room″ : List ℕ} → r ≡ rowIn W → sk ≡ skipIn W
+      pub leaf-now : {i′ found′ tries′ : ℕ} (r sk : ℕ) {room″ : List ℕ} → r ≡ rowNoted W → sk ≡ skipIn W
           → Step rep sib i (cellIn W) (getD rs (slotIn W) 0) (nextIn W) (i + 1 + skipIn W) bs ns us rs bs′ ns′ us′ rs′ true → sk ≡ 0 → room″ ≡ set room′ found r
           → i′ ≡ i + 1 → found′ ≡ found + 1 → tries′ ≡ tries + 1 → Walking rep sib bs′ ns′ us′ rs′ room″ i′ found′ tries′
       leaf-now r sk {room″} er es x e y ei ef et =
           let es′ : skipIn (getD (take count noted) i 0) ≡ 0 = rw same-word (sym es ∙ e) in
-          let y′ : room″ ≡ set room′ found (rowIn (getD (take count noted) i 0)) = rw same-word (y ∙ ap (set room′ found) er) in
+          let y′ : room″ ≡ set room′ found (rowNoted (getD (take count noted) i 0)) = rw same-word (y ∙ ap (set room′ found) er) in
           rw (ei, ef, et) (on-leaf (goal-head (b .is)) T A inside off (rw (← same-word) at x) es′ y′)
 
-      pub down-now : {i′ tries′ : ℕ} (sk : ℕ) → sk ≡ skipIn W → Step rep sib i (cellIn W) (getD rs (slotIn W) 0) (nextIn W) (i + 1 + skipIn W) bs ns us rs bs′ ns′ us′ rs′ true
+      pub down-now : {i′ tries′ : ℕ} (sk : ℕ) → sk ≡ skipIn W
+          → Step rep sib i (cellIn W) (getD rs (slotIn W) 0) (nextIn W) (i + 1 + skipIn W) bs ns us rs bs′ ns′ us′ rs′ true
           → sk ≢ 0 → i′ ≡ i + 1 → tries′ ≡ tries + 1 → Walking rep sib bs′ ns′ us′ rs′ room′ i′ found tries′
       down-now sk es x d ei et =
           let es′ : sk ≡ skipIn (getD (take count noted) i 0) = rw same-word es in
           rw (ei, et) (on-down (goal-head (b .is)) T A inside off (rw (← same-word) at x) (λ e. d (es′ ∙ e)))
 
-  module _ {sib rep bs ns us rs : List ℕ} (S : Stepped goal sib) (N : Named goal rep bs ns us) (er : rs ≡ sets (replicate 64 0) 1 (nodes rep sib w 0)) where
+  module _ {sib rep bs ns us rs : List ℕ} (S : Stepped goal sib) (N : Named goal rep bs ns us) (er : rs ≡ sets (replicate 64 0) 1 (goalNodes rep sib w 0)) where
     began-with : Below (b .tree) 32 (upFrom 1 w) (renamed goal) → Walking rep sib bs ns us rs room 0 0 0
     began-with F =
         let all = notes (b .tree) (upFrom 1 w) 32 0 in
@@ -109,10 +112,14 @@ module _ {noted goal room : List ℕ} {count w : ℕ} (b : Begun noted count goa
           left-over = F .first ∷ [];
           row = 0;
           top = 32;
-          stands = below-stands (b .tree) 32 (upFrom 1 w) (renamed goal) F [] 0 {o = 0} (linked (b .is) S N rs (0 + branches (b .tree)) er (b .accepted .width .1) z) (up-length 1 w) (omega arith) nothing;
+          stands =
+              below-stands (b .tree) 32 (upFrom 1 w) (renamed goal) F [] 0 {o = 0}
+                  (linked (b .is) S N rs (0 + branches (b .tree)) er (b .accepted .width .1) z) (up-length 1 w) (omega arith) nothing;
           noted = ap (map word) ns ∙ sym (b .words);
           fit = rw ns (notes-fit (b .accepted) (b .tree));
-          sizes = record { bound = N .size-bound; args = N .size-args; until = N .size-until; refers = rw er (length-sets (replicate 64 0) 1 (nodes rep sib w 0) ∙ length-replicate {A = ℕ} 64 0) };
+          sizes =
+              record { bound = N .size-bound; args = N .size-args; until = N .size-until; refers =
+                  rw er (length-sets (replicate 64 0) 1 (goalNodes rep sib w 0) ∙ length-replicate {A = ℕ} 64 0) };
           wrote = ap (sets room 0) hs;
           more = omega (arith, ap length hs);
           tries = omega (arith, F .same-tried);

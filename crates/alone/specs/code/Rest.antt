@@ -49,7 +49,8 @@ pub data Takes (sib : List ℕ) (c u next : ℕ) (bs ns cls rs keep bs′ ns′ 
   same-symbol : isVar c ≡ false → getD bs (getD cls u 0) 0 ≡ c → bs′ ≡ bs → ns′ ≡ ns → cls′ ≡ cls → keep′ ≡ keep
       → rs′ ≡ sets rs next (entries cls (steps sib (arity c) (getD ns (getD cls u 0) 0))) → Takes sib c u next bs ns cls rs keep bs′ ns′ cls′ rs′ keep′ true
   -- another one
-  other-symbol : isVar c ≡ false → getD bs (getD cls u 0) 0 ≢ 0 → getD bs (getD cls u 0) 0 ≢ c → Takes sib c u next bs ns cls rs keep bs′ ns′ cls′ rs′ keep′ false
+  other-symbol : isVar c ≡ false → getD bs (getD cls u 0) 0 ≢ 0 → getD bs (getD cls u 0) 0 ≢ c
+      → Takes sib c u next bs ns cls rs keep bs′ ns′ cls′ rs′ keep′ false
   -- a node without a symbol gets it, over new nodes
   new-symbol : isVar c ≡ false → getD bs (getD cls u 0) 0 ≡ 0 → bs′ ≡ set bs (getD cls u 0) c → ns′ ≡ set ns (getD cls u 0) next → cls′ ≡ cls → keep′ ≡ keep
       → rs′ ≡ sets rs next (entries cls (steps sib (arity c) next)) → Takes sib c u next bs ns cls rs keep bs′ ns′ cls′ rs′ keep′ true

@@ -53,8 +53,10 @@ pub record Flat (rep : List ℕ) : Type 0 where
 mutual
   pub data Merges (N : Nodes) : List ℕ → ℕ → ℕ → List ℕ → Type 0 where
     same : {rep rep′ : List ℕ} {a b : ℕ} → at rep a ≡ at rep b → rep′ ≡ rep → Merges N rep a b rep′
-    loose : {rep rep′ : List ℕ} {a b : ℕ} → at rep a ≢ at rep b → at rep a < length rep → N .head (at rep a) ≡ 0 → rep′ ≡ join (at rep a) (at rep b) rep → Merges N rep a b rep′
-    bound : {rep rep′ : List ℕ} {a b : ℕ} → at rep a ≢ at rep b → at rep b < length rep → N .head (at rep b) ≡ 0 → rep′ ≡ join (at rep b) (at rep a) rep → Merges N rep a b rep′
+    loose : {rep rep′ : List ℕ} {a b : ℕ} → at rep a ≢ at rep b → at rep a < length rep → N .head (at rep a) ≡ 0
+        → rep′ ≡ join (at rep a) (at rep b) rep → Merges N rep a b rep′
+    bound : {rep rep′ : List ℕ} {a b : ℕ} → at rep a ≢ at rep b → at rep b < length rep → N .head (at rep b) ≡ 0
+        → rep′ ≡ join (at rep b) (at rep a) rep → Merges N rep a b rep′
     alike : {rep rep′ : List ℕ} {a b : ℕ} → at rep a ≢ at rep b → at rep a < length rep → N .head (at rep a) ≢ 0 → N .head (at rep a) ≡ N .head (at rep b)
         → MergesAll N (join (at rep a) (at rep b) rep) (N .kids (at rep a)) (N .kids (at rep b)) rep′ → Merges N rep a b rep′
 

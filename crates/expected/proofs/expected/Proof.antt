@@ -19,7 +19,10 @@ found-at-requires : tie.Need-found-at-requires
 found-at-requires c κs = search needs
 
 returns : tie.Need-returns
-returns c = let s = c .before .before .before in wanted-is _ _ (s .before .look .ensures) (s .look2 .ensures) (c .before .before .mark-of .ensures) (c .before .what-of .ensures) (c .found-at .ensures)
+returns c =
+    let s = c .before .before .before in
+    wanted-is _ _ (s .before .look .ensures) (s .look2 .ensures) (c .before .before .mark-of .ensures) (c .before .what-of .ensures)
+        (c .found-at .ensures)
 
 pub expected-spec : {M : Type 1} → statement M
 expected-spec =

@@ -4,7 +4,8 @@ use lib.ListN.{replicate}
 use Rattle.prolog.specs.Entry.{FactsAre}
 use Rattle.prolog.specs.declared.FactsAnswer.{FactsAnswer}
 use Rattle.goaltext.specs.code.Steps.{OursIs}
-use Rattle.goaltext.proofs.AskedLaws.{MadeAt, made-are, long-are, turned-are, made-two, made-row, made-names, goal-reads, long-reads, other-reads, refused-reads}
+use Rattle.goaltext.proofs.AskedLaws.{MadeAt, made-are, long-are, turned-are, made-two, made-row, made-names, goal-reads, long-reads}
+use Rattle.goaltext.proofs.AskedLaws.{other-reads, refused-reads}
 use borrow.Author.Needs.{needs}
 use Rattle.goaltext.proofs.read_whole.Statement.{statement}
 use Rattle.goaltext.proofs.read_whole.Tie as tie
@@ -24,7 +25,8 @@ at m = m .before .before .before .before .before .before .before
 facts-are : (m : tie.After-make-facts) {x : FactsAnswer} → m .make-facts .result ≡ x
     → FactsAre (at m .args .whole .now) (replicate mostTableCells 0) (replicate mostNames 0) (m .make-facts .last .1 .0) (m .make-facts .last .1 .1 .0) x
 facts-are m e =
-    subst (FactsAre (at m .args .whole .now) (replicate mostTableCells 0) (replicate mostNames 0) (m .make-facts .last .1 .0) (m .make-facts .last .1 .1 .0)) e (m .make-facts .ensures)
+    subst (FactsAre (at m .args .whole .now) (replicate mostTableCells 0) (replicate mostNames 0) (m .make-facts .last .1 .0)
+        (m .make-facts .last .1 .1 .0)) e (m .make-facts .ensures)
 
 made-at : (c : tie.After-c)
     → MadeAt (at (c .before .before) .args .whole .now) (c .c .given .0 .0) (c .before .before .make-facts .last .1 .0)

@@ -33,7 +33,7 @@ pub record One (numbers : List ℕ) : Type 0 where
   pub plain : Plainly it
 
 -- numbers that are a program of such clauses
-pub record Written (numbers : List ℕ) : Type 0 where
+pub record ProgramWritten (numbers : List ℕ) : Type 0 where
   pub clauses : List Clause
   pub is : numbers ≡ flat clauses
   pub plain : All Plainly clauses

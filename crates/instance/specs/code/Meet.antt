@@ -44,7 +44,7 @@ pub record Few (n : ℕ) (xs : List ℕ) : Type 0 where
   pub few : length vars ≤ n
 
 -- the end: the first n cells are the most general common instance, and it has at most 1,024 cells and 64 variables
-pub record Met (row goal cells : List ℕ) (n : ℕ) : Type 0 where
+pub record InstanceMet (row goal cells : List ℕ) (n : ℕ) : Type 0 where
   pub within : n ≤ length cells
   pub short : n ≤ mostReplyCells
   pub general : MostGeneral row goal (take n cells)

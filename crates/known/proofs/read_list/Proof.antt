@@ -3,15 +3,16 @@ use mathlib.Core.Path.{_≡_, refl, sym, _∙_}
 use native.Mathlib.Omega.{arith}
 use lib.ListN.{length, getD, drop}
 use Rattle.octets.proofs.PutLaws.{Putting, put-begins, put-part, put-length}
-use Rattle.known.specs.Known.{columnsFrom, listFrom}
-use Rattle.known.proofs.ListLaws.{columns-number, columns-column, columns-wrong, list-number, list-column, list-wrong, columns-none, columns-last, list-none, list-last, no-list, is-list}
+use Rattle.known.specs.Known.{columnsTyped, listFrom}
+use Rattle.known.proofs.ListLaws.{columns-number, columns-column, columns-wrong, list-number, list-column, list-wrong, columns-none}
+use Rattle.known.proofs.ListLaws.{columns-last, list-none, list-last, no-list, is-list}
 use borrow.Author.Needs.{needs}
 use Rattle.known.proofs.read_list.Statement.{statement}
 use Rattle.known.proofs.read_list.Tie as tie
 
 abbrev Inv-loop : tie.InvT-loop
 Inv-loop word columns₀ n₀ number₀ i₀ columns n number i =
-    (i ≤ length word) × Putting columns₀ columns 0 n (columnsFrom number (drop i word)) (columnsFrom 0 word)
+    (i ≤ length word) × Putting columns₀ columns 0 n (columnsTyped number (drop i word)) (columnsTyped 0 word)
     × (listFrom number (drop i word) ≡ listFrom 0 word)
 
 abbrev μ-loop : tie.MeasureT-loop

@@ -91,10 +91,14 @@ module _ (m : Measure) (fs : List Bool) (w : ℕ) (rows : List (List ℕ)) where
 
   -- the least over its places, the first place that costs so much, and what the pair costs with nothing closed
   abbrev pub leastBy : (ℕ → ℕ → ℕ) → ℕ → ℕ → ℕ
-  leastBy N first last = leastOver (may ((closedOf m mostRowCells fs w rows first last) .named)) ((closedOf m mostRowCells fs w rows first last) .opens) (priceBy N first last)
+  leastBy N first last =
+      leastOver (may ((closedOf m mostRowCells fs w rows first last) .named)) ((closedOf m mostRowCells fs w rows first last) .opens)
+          (priceBy N first last)
 
   abbrev pub placeBy : (ℕ → ℕ → ℕ) → ℕ → ℕ → ℕ
-  placeBy N first last = firstOver (may ((closedOf m mostRowCells fs w rows first last) .named)) ((closedOf m mostRowCells fs w rows first last) .opens) (priceBy N first last)
+  placeBy N first last =
+      firstOver (may ((closedOf m mostRowCells fs w rows first last) .named)) ((closedOf m mostRowCells fs w rows first last) .opens)
+          (priceBy N first last)
 
   abbrev pub wholeBy : (ℕ → ℕ → ℕ) → ℕ → ℕ → ℕ
   wholeBy N first last = min (agreedOf m mostRowCells fs w rows first last + leastBy N first last) limit

@@ -18,7 +18,9 @@ use Rattle.limits.specs.Limits.{mostTableCells}
 front : (c : tie.After-read-cells)
     → (c .read-cells .result ≤ length (c .read-cells .last .1 .0))
     × (take (c .read-cells .result) (c .read-cells .last .1 .0) ≡ cellsOf (c .before .before .before .before .before .args .bytes .now))
-front c = cells-front (c .before .before .before .before .before .args .bytes .now) (c .read-cells .ensures) (omega arith) (length-replicate {A = ℕ} mostTableCells 0)
+front c =
+    cells-front (c .before .before .before .before .before .args .bytes .now) (c .read-cells .ensures) (omega arith)
+        (length-replicate {A = ℕ} mostTableCells 0)
 
 put-refusal-requires : tie.Need-put-refusal-requires
 put-refusal-requires c κs = search needs

@@ -8,7 +8,7 @@ use Rattle.octets.specs.Octets.{Put}
 use Rattle.table.specs.Table.{Table, tableOf}
 use Rattle.plan.specs.Runs.{Run}
 use Rattle.plan.specs.Plans.{Plan, leaf, node, Branches, end, next, write, branches, plain, cost}
-use Rattle.plan.specs.Notes.{skipIn, rowIn}
+use Rattle.plan.specs.Notes.{skipIn, rowNoted}
 use Rattle.least.specs.Least.{Built}
 use Rattle.listing.specs.Listing.{linesIn, listingOf}
 use Rattle.listing.specs.declared.walk.Stand.{Stand}
@@ -24,7 +24,7 @@ unfoldable mutual
   pub MarkedIn : {k : ℕ} {gs : List Run} → Branches k gs → (noted : List ℕ) (n row : ℕ) → Type 0
   MarkedIn end noted n row = Unit {0}
   MarkedIn (next {g = g} p bs) noted n row =
-      (rowIn (getD noted n 0) ≡ row) × (skipIn (getD noted n 0) ≡ branches p) × Marked p noted (n + 1) row
+      (rowNoted (getD noted n 0) ≡ row) × (skipIn (getD noted n 0) ≡ branches p) × Marked p noted (n + 1) row
       × MarkedIn bs noted (n + 1 + branches p) (row + length (g .rows))
 
 -- A state stands in the plan where the walk does, with its branches in what is noted: `places` open places, `depth` branches above it, its

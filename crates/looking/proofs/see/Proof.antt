@@ -40,10 +40,14 @@ sight-of-requires-5 : tie.Need-sight-of-requires-5
 sight-of-requires-5 c κs = search needs
 
 returns : tie.Need-returns
-returns c = let a = c .before .before .before .args in cc (seen-percent (a .level) (a .stand) (a .depth) (a .commas) (a .byte) (c .before .before .match .keys1))
+returns c =
+    let a = c .before .before .before .args in
+    cc (seen-percent (a .level) (a .stand) (a .depth) (a .commas) (a .byte) (c .before .before .match .keys1))
 
 returns-2 : tie.Need-returns-2
-returns-2 c = let a = c .before .before .before .args in cc (seen-layout (a .level) (a .stand) (a .depth) (a .commas) (a .byte) (c .before .before .match .keys2))
+returns-2 c =
+    let a = c .before .before .before .args in
+    cc (seen-layout (a .level) (a .stand) (a .depth) (a .commas) (a .byte) (c .before .before .match .keys2))
 
 returns-3 : tie.Need-returns-3
 returns-3 c = let a = c .before .before .args in cc (seen-open (a .level) (a .stand) (a .depth) (a .commas) (a .byte) (c .before .match .keys3))
@@ -61,7 +65,11 @@ returns-7 : tie.Need-returns-7
 returns-7 c = let a = c .before .before .args in cc (seen-stop (a .level) (a .stand) (a .depth) (a .commas) (a .byte) (c .before .match .keys7))
 
 returns-8 : tie.Need-returns-8
-returns-8 c = let a = c .before .before .before .before .args in let z = c .before .before .before .match .rest in cc (seen-other (a .level) (a .stand) (a .depth) (a .commas) (a .byte) (z .0 .0 .0 .0 .0 .0 .1) (z .0 .0 .0 .0 .0 .1) (z .0 .0 .0 .0 .1) (z .0 .0 .0 .1) (z .0 .0 .1) (z .0 .1) (z .1))
+returns-8 c =
+    let a = c .before .before .before .before .args in
+    let z = c .before .before .before .match .rest in
+    cc (seen-other (a .level) (a .stand) (a .depth) (a .commas) (a .byte) (z .0 .0 .0 .0 .0 .0 .1) (z .0 .0 .0 .0 .0 .1) (z .0 .0 .0 .0 .1)
+        (z .0 .0 .0 .1) (z .0 .0 .1) (z .0 .1) (z .1))
 
 pub see-spec : {M : Type 1} → statement M
 see-spec =

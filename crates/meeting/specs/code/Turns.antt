@@ -5,7 +5,7 @@ use mathlib.Core.Bool.{cond}
 use mathlib.Core.List.{List, _++_, map}
 use lib.Dec.{eqb}
 use lib.ListN.{length, take, drop}
-use Rattle.instance.specs.code.Meet.{Meeting, After, Met, Over}
+use Rattle.instance.specs.code.Meet.{Meeting, After, InstanceMet, Over}
 use Rattle.meeting.specs.declared.Stand.{Stand}
 use Rattle.meeting.specs.declared.Turn.{Turn}
 use Rattle.meeting.specs.declared.Turn.the-variants as turn
@@ -94,7 +94,7 @@ pub record Starting (cells other : List ℕ) (len n : ℕ) : Type 0 where
 
 -- the end
 pub data Finished (cells cells′ : List ℕ) (len n : ℕ) : Made → Type 0 where
-  finished : {m : ℕ} → m ≤ length cells → ((row goal : List ℕ) → MeetingAt row goal cells (atStart len n) → Met row goal cells′ m)
+  finished : {m : ℕ} → m ≤ length cells → ((row goal : List ℕ) → MeetingAt row goal cells (atStart len n) → InstanceMet row goal cells′ m)
       → Finished cells cells′ len n (made.Cells m)
   finished-over : (length cells ≡ mostMeetingCells → (row goal : List ℕ) → MeetingAt row goal cells (atStart len n) → Over row goal)
       → Finished cells cells′ len n made.Big

@@ -35,7 +35,8 @@ returns : tie.Need-returns Inv-loop μ-loop
 returns c =
     let a = c .before .before .before .before .before .before .before .args in
     let l = c .before .before .before .before .loop in
-    λ h. not-here (Entry (a .text .now)) (a .names .now) (l .i) (c .before .entry .result) (omega arith) (c .before .entry .ensures) (c .if1 .taken) (l .inv .1 .1 h)
+    λ h. not-here (Entry (a .text .now)) (a .names .now) (l .i) (c .before .entry .result) (omega arith) (c .before .entry .ensures) (c .if1 .taken)
+        (l .inv .1 .1 h)
 
 -- src/lib.rt:26:9
 add-i : tie.Need-add-i Inv-loop μ-loop

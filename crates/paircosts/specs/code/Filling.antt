@@ -28,8 +28,8 @@ use Rattle.limits.specs.Limits.{mostRowCells, mostRows, mostTableCells}
 abbrev pub stopOf : List ℕ → List ℕ → ℕ → ℕ → ℕ
 stopOf cells starts count r = cond (ltb (r + 1) count) (getD starts (r + 1) 0) (length cells)
 
-abbrev pub rowOf : ℕ → ℕ → ℕ → Row
-rowOf number start end = record { number = number; start = start; end = end }
+abbrev pub pairRow : ℕ → ℕ → ℕ → Row
+pairRow number start end = record { number = number; start = start; end = end }
 
 abbrev pub sharedOf : ℕ → ℕ → Shared
 sharedOf last agreed = record { last = last; agreed = agreed }

@@ -163,7 +163,7 @@ pub record LastRow (cells marks notes : List ℕ) (row at stop : ℕ) : Type 0 w
   pub room : length notes ≡ 192
 
 -- the variables among some cells are those below a number
-pub record Numbered (cells : List ℕ) (met : ℕ) : Type 0 where
+pub record VariablesBelow (cells : List ℕ) (met : ℕ) : Type 0 where
   pub below : (v : ℕ) → isVar v ≡ true → ltb 0 (count v cells) ≡ ltb v met
 
 -- every cell of it is closed; so it is noted up to cell q, and with the cells from there on those so far cost what all of them do. So many
@@ -172,7 +172,7 @@ pub record Alone {cells marks notes : List ℕ} {row at stop : ℕ} (given : Las
     (agreed met : ℕ) : Type 0 where
   pub each : (j : ℕ) → at ≤ j → j < q → noteIn after j ≡ note 1 0 row
   pub before : List ℕ
-  pub numbered : Numbered before met
+  pub numbered : VariablesBelow before met
   pub fresh : (v : ℕ) × (cellsFrom true (slice q stop cells) met q ≡ read v)
   pub sum : agreed + weightsFrom (given .m) before (slice q stop cells) ≡ weightsFrom (given .m) [] (slice at stop cells)
   pub order : (at ≤ q) × (q ≤ stop)

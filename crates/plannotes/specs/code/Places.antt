@@ -29,9 +29,9 @@ lastOf h [] = h
 lastOf h (x ∷ xs) = lastOf x xs
 
 -- no slot twice
-unfoldable pub Apart : List ℕ → Type 0
-Apart [] = Unit {0}
-Apart (x ∷ xs) = All (λ (y : ℕ). x ≢ y) xs × Apart xs
+unfoldable pub NoSlotTwice : List ℕ → Type 0
+NoSlotTwice [] = Unit {0}
+NoSlotTwice (x ∷ xs) = All (λ (y : ℕ). x ≢ y) xs × NoSlotTwice xs
 
 -- the last of a new slots from m on; where there is none, the slot before them
 unfoldable pub lastNew : (before m a : ℕ) → ℕ
@@ -41,7 +41,7 @@ lastNew b m a = cond (eqb a 0) b (m + (a - 1))
 pub record Open (links : List ℕ) (m : ℕ) (slots : List ℕ) : Type 0 where
   pub path : Path links 0 slots
   pub made : All (λ (s : ℕ). s < m) (0 ∷ slots)
-  pub apart : Apart (0 ∷ slots)
+  pub apart : NoSlotTwice (0 ∷ slots)
   pub free : (j : ℕ) → m ≤ j → j < 64 → getD links j 0 ≡ j + 1
   pub size : length links ≡ 64
 

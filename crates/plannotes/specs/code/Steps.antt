@@ -48,7 +48,7 @@ pub record Ending (notes : List ℕ) (from to past : ℕ) : Type 0 where
   pub size : length notes ≡ mostBranches
 
 -- a branch is met at a cell of the plan
-pub record Met (plan links notes : List ℕ) (i place made free row : ℕ) : Type 0 where
+pub record BranchMet (plan links notes : List ℕ) (i place made free row : ℕ) : Type 0 where
   pub here : place < length plan
   pub spot : Spot links i (arity (getD plan place 0)) free
   pub few : made < mostBranches
@@ -56,7 +56,7 @@ pub record Met (plan links notes : List ℕ) (i place made free row : ℕ) : Typ
   pub size : length notes ≡ mostBranches
 
 -- what it leaves
-pub record Begun {plan links notes : List ℕ} {i place made free row : ℕ} (w : Met plan links notes i place made free row) (links′ notes′ : List ℕ)
+pub record Begun {plan links notes : List ℕ} {i place made free row : ℕ} (w : BranchMet plan links notes i place made free row) (links′ notes′ : List ℕ)
     (a : ℕ) : Type 0 where
   pub count : a ≡ arity (getD plan place 0)
   pub wrote : notes′ ≡ set notes made (partOf (getD plan place 0) row free (getD (w .spot .slots) i 0))

@@ -1,6 +1,6 @@
 use mathlib.Core.Path.{_≡_}
 use native.Mathlib.Omega.{arith}
-use Rattle.refusal.specs.Refusal.{numberOf}
+use Rattle.refusal.specs.Refusal.{reasonNumber}
 use Rattle.octets.proofs.PutLaws.{put-put}
 use Rattle.printing.specs.Printing.{refusal}
 use Rattle.printing.proofs.LengthLaws.{refusal-few}
@@ -43,8 +43,8 @@ returns c =
     let start = c1 .before .before .before .before .before in
     let reason = start .args .reason in
     let place = start .args .place in
-    let number : n .result ≡ numberOf reason = n .ensures .0 in
-    let few = refusal-few (numberOf reason) place (omega (arith, n .ensures)) (omega (arith, start .fits .place)) in
+    let number : n .result ≡ reasonNumber reason = n .ensures .0 in
+    let few = refusal-few (reasonNumber reason) place (omega (arith, n .ensures)) (omega (arith, start .fits .place)) in
     let line = put-put (c1 .put-word .ensures) (put-put (c2 .put-decimal .ensures) (put-put (c3 .put-word2 .ensures) (c4 .put-field .ensures))) in
     (rw number at line, few)
 

@@ -3,20 +3,21 @@ use mathlib.Core.List.{[], _∷_, _++_}
 use native.Mathlib.Omega.{arith}
 use Rattle.octets.specs.Octets.{decimal}
 use Rattle.octets.proofs.PutLaws.{put-put, put-nothing}
-use Rattle.printing.specs.Printing.{value, symbol}
+use Rattle.printing.specs.Printing.{value, symbolText}
 use Rattle.printing.proofs.SymbolLaws.{symbol-variable, symbol-name, symbol-number, symbol-none, name-few}
 use borrow.Author.Needs.{needs}
 use Rattle.printing.proofs.put_symbol.Statement.{statement}
 use Rattle.printing.proofs.put_symbol.Tie as tie
 
 -- the cell's symbol in each arm
-variable : (c : tie.After-n) → symbol (c .before .before .before .before .args .c) ≡ 118 ∷ decimal (c .n .given .0 .0)
+variable : (c : tie.After-n) → symbolText (c .before .before .before .before .args .c) ≡ 118 ∷ decimal (c .n .given .0 .0)
 variable c = symbol-variable _ _ (c .before .before .shape-of .ensures) _ (c .n .given .1)
 
-name : (c : tie.After-a) → symbol (c .before .before .before .before .args .c) ≡ (110 ∷ decimal (c .a .given .0 .1 .0)) ++ (47 ∷ decimal (c .a .given .0 .0))
+name : (c : tie.After-a) → symbolText (c .before .before .before .before .args .c) ≡ (110 ∷ decimal (c .a .given .0 .1 .0))
+    ++ (47 ∷ decimal (c .a .given .0 .0))
 name c = symbol-name _ _ (c .before .before .shape-of .ensures) _ _ (c .a .given .1)
 
-number : (c : tie.After-enum-told) → symbol (c .before .before .before .before .args .c) ≡ (105 ∷ []) ++ value (c .before .before .before .before .args .c)
+number : (c : tie.After-enum-told) → symbolText (c .before .before .before .before .args .c) ≡ (105 ∷ []) ++ value (c .before .before .before .before .args .c)
 number c = symbol-number _ _ (c .before .before .shape-of .ensures) _ (c .enum-told .given .1)
 
 shape-of-requires : tie.Need-shape-of-requires

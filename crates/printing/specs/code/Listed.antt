@@ -5,7 +5,7 @@ use lib.ListN.{length}
 use Rattle.octets.specs.Octets.{Put}
 
 -- a text with the property is put at the front, one for which so many bytes are enough
-pub record Listed (most : ℕ) (Is : List ℕ → Type 0) (old new : List ℕ) (r : ℕ) : Type 0 where
+pub record TextListed (most : ℕ) (Is : List ℕ → Type 0) (old new : List ℕ) (r : ℕ) : Type 0 where
   pub text : List ℕ
   pub right : Is text
   pub few : length text ≤ most

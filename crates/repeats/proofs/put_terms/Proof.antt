@@ -6,7 +6,7 @@ use native.Mathlib.Omega.{arith}
 use lib.ListN.{getD}
 use lib.Seq.{sets}
 use Rattle.table.specs.All.{All}
-use Rattle.walking.specs.code.Link.{steps, nodes}
+use Rattle.walking.specs.code.Link.{steps, goalNodes}
 use Rattle.term.proofs.Lists.{store-next, store-end}
 use Rattle.walking.proofs.ListLaws.{steps-all, nodes-more, nodes-none}
 use Rattle.repeats.proofs.put_terms.Statement.{statement}
@@ -16,7 +16,7 @@ abbrev Inv-loop : tie.InvT-loop
 Inv-loop refs₀ to a p rep sib left₀ j₀ q₀ refs left j q =
     to + a ≤ 64 → All (λ (x : ℕ). x < 64) (steps sib a p)
     → (j + left ≤ 64) × All (λ (x : ℕ). x < 64) (steps sib left q)
-    × (sets refs j (nodes rep sib left q) ≡ sets refs₀ to (nodes rep sib a p))
+    × (sets refs j (goalNodes rep sib left q) ≡ sets refs₀ to (goalNodes rep sib a p))
 
 abbrev μ-loop : tie.MeasureT-loop
 μ-loop refs₀ to a p rep sib left₀ j₀ q₀ refs left j q = left

@@ -56,7 +56,7 @@ use denote.Triple.Walked.{says, needs, Stays, stay-dropped, stay-slice, walkOf, 
 use denote.Exit.{yes}
 use denote.Signature.{plain, shrRefTo, shrSliceOf}
 use Rattle.table.specs.Table.{tableOf, startsIn}
-use Rattle.plannotes.specs.Noted.{Handed}
+use Rattle.plannotes.specs.Noted.{NotedInto}
 use Rattle.plannotes.specs.declared.Noted.{Noted}
 use Rattle.plannotes.proofs.Noted as N
 use Rattle.plannotes.proofs.Noted.Laws as N′
@@ -188,14 +188,14 @@ module _ {M : Type 1} (𝓤 : URA M) (H : Heap 𝓤) (A : Atoms 𝓤) (W : Given
   -- what one record and the room become
   abbrev P : ℕ → List ℕ → List ℕ → ReplyJob → ReplyJob → Type 0
   P on rm rm′ h r =
-      (plan before : List ℕ) → Handed (ts .now) plan before (ns .now) mk → ss .now ≡ startsIn (tableOf (ts .now)) → on ≤ length rm
+      (plan before : List ℕ) → NotedInto (ts .now) plan before (ns .now) mk → ss .now ≡ startsIn (tableOf (ts .now)) → on ≤ length rm
       → ReplyAsked (ts .now) plan (cs .now) on rm rm′ h r
 
   abbrev Upto : ℕ → ℕ → List ℕ → List ReplyJob → Type 0
-  Upto i on rm js = (plan before : List ℕ) → Handed (ts .now) plan before (ns .now) mk → RepliedUpto (ts .now) plan (cs .now) i 0 on rs rm ys js
+  Upto i on rm js = (plan before : List ℕ) → NotedInto (ts .now) plan before (ns .now) mk → RepliedUpto (ts .now) plan (cs .now) i 0 on rs rm ys js
 
   abbrev Each : List ℕ → List ReplyJob → Type 0
-  Each rm js = (plan before : List ℕ) → Handed (ts .now) plan before (ns .now) mk → RepliesEach (ts .now) plan (cs .now) 0 rs rm ys js
+  Each rm js = (plan before : List ℕ) → NotedInto (ts .now) plan before (ns .now) mk → RepliesEach (ts .now) plan (cs .now) 0 rs rm ys js
 
   -- the machine values of a slice and of a reference
   abbrev sv : RefT (List ℕ) → Val
@@ -476,7 +476,8 @@ module _ {M : Type 1} (𝓤 : URA M) (H : Heap 𝓤) (A : Atoms 𝓤) (W : Given
         forget ! 16 refl $ forget ! 17 refl $ forget ! 18 refl $ forget ! 19 refl $ forget ! 20 refl $ forget ! 21 refl $ forget ! 22 refl $
         forget ! 23 refl $ rewrite ! 15 (λ (j : ℕ). ‵ (fat fullShare word l₉ 0 (vint w64 j))) next refl $ move ! (0 ∷ 1 ∷ 14 ∷ []) $
         use3 W (Made t) (made t (set js i r) (on + r .cells) (last h on α δ₁ rm ws) (made-is r (last h on α δ₁ rm ws) same′ is-g)) $
-        keep ! (0 ∷ 13 ∷ 14 ∷ 15 ∷ 16 ∷ 17 ∷ 18 ∷ 19 ∷ 20 ∷ 21 ∷ 22 ∷ 23 ∷ 24 ∷ 25 ∷ 26 ∷ 27 ∷ 28 ∷ 29 ∷ 1 ∷ 11 ∷ 30 ∷ 31 ∷ 32 ∷ 33 ∷ 34 ∷ 35 ∷ 36 ∷ 37 ∷ 38 ∷ 39 ∷ 40 ∷ 41 ∷ 42 ∷ 43 ∷ 44 ∷ 45 ∷ 46 ∷ 47 ∷ 48 ∷ 49 ∷ 50 ∷ 51 ∷ 52 ∷ 53 ∷ []) $
+        keep ! (0 ∷ 13 ∷ 14 ∷ 15 ∷ 16 ∷ 17 ∷ 18 ∷ 19 ∷ 20 ∷ 21 ∷ 22 ∷ 23 ∷ 24 ∷ 25 ∷ 26 ∷ 27 ∷ 28 ∷ 29 ∷ 1 ∷ 11 ∷ 30 ∷ 31 ∷ 32 ∷ 33 ∷ 34 ∷ 35 ∷ 36
+            ∷ 37 ∷ 38 ∷ 39 ∷ 40 ∷ 41 ∷ 42 ∷ 43 ∷ 44 ∷ 45 ∷ 46 ∷ 47 ∷ 48 ∷ 49 ∷ 50 ∷ 51 ∷ 52 ∷ 53 ∷ []) $
         again ! _<_ Inv (suc t) t (lt-suc-self t))))))))))
       where
         small : i < n
@@ -594,7 +595,8 @@ module _ {M : Type 1} (𝓤 : URA M) (H : Heap 𝓤) (A : Atoms 𝓤) (W : Given
       move ! (0 ∷ 5 ∷ 33 ∷ []) $ use3 W (Made 𝓣 known room room′ l₀ l₁ l₂ l₃ l₄ l₅ l₆ l₇ l₈ l₉ l₁₀ l₁₁ l₁₂ l₁₃ l₁₄ l₁₅ l₁₆ l₁₇ n)
       (begun 𝓣 known room room′ l₀ l₁ l₂ l₃ l₄ l₅ l₆ l₇ l₈ l₉ l₁₀ l₁₁ l₁₂ l₁₃ l₁₄ l₁₅ l₁₆ l₁₇) $
       rewrite ! 30 (λ (j : ℕ). ‵ (fat fullShare word l₉ 0 (vint w64 j))) (sym (sub-self n)) refl $
-      keep ! (0 ∷ 30 ∷ 28 ∷ 26 ∷ 24 ∷ 22 ∷ 20 ∷ 18 ∷ 16 ∷ 14 ∷ 45 ∷ 43 ∷ 41 ∷ 39 ∷ 37 ∷ 35 ∷ 33 ∷ 47 ∷ 9 ∷ 10 ∷ 1 ∷ 2 ∷ 3 ∷ 5 ∷ 6 ∷ 7 ∷ 48 ∷ 46 ∷ 44 ∷ 42 ∷ 40 ∷ 38 ∷ 36 ∷ 34 ∷ 32 ∷ 31 ∷ 29 ∷ 27 ∷ 25 ∷ 23 ∷ 21 ∷ 19 ∷ 17 ∷ 15 ∷ []) $
+      keep ! (0 ∷ 30 ∷ 28 ∷ 26 ∷ 24 ∷ 22 ∷ 20 ∷ 18 ∷ 16 ∷ 14 ∷ 45 ∷ 43 ∷ 41 ∷ 39 ∷ 37 ∷ 35 ∷ 33 ∷ 47 ∷ 9 ∷ 10 ∷ 1 ∷ 2 ∷ 3 ∷ 5 ∷ 6 ∷ 7 ∷ 48 ∷ 46 ∷ 44
+          ∷ 42 ∷ 40 ∷ 38 ∷ 36 ∷ 34 ∷ 32 ∷ 31 ∷ 29 ∷ 27 ∷ 25 ∷ 23 ∷ 21 ∷ 19 ∷ 17 ∷ 15 ∷ []) $
       begins 𝓣 known room room′ l₀ l₁ l₂ l₃ l₄ l₅ l₆ l₇ l₈ l₉ l₁₀ l₁₁ l₁₂ l₁₃ l₁₄ l₁₅ l₁₆ l₁₇))))))))))))))))))
 
 module _ {M : Type 1} (𝓤 : URA M) (H : Heap 𝓤) (A : Atoms 𝓤) (W : Given 𝓤 H A) (mem : Memory → SProp 𝓤) (run : Routine → Fun 𝓤) where

@@ -57,7 +57,7 @@ use Rattle.checker.specs.declared.PlanAnswer.{PlanAnswer}
 use Rattle.checker.specs.Checked.{planTold}
 use Rattle.checker.proofs.PlanAnswer as X
 use Rattle.checker.proofs.PlanAnswer.Laws as X′
-use Rattle.plannotes.specs.Noted.{Handed}
+use Rattle.plannotes.specs.Noted.{NotedInto}
 use Rattle.plannotes.specs.declared.Noted.{Noted}
 use Rattle.plannotes.proofs.Noted as N
 use Rattle.plannotes.proofs.Noted.Laws as N′
@@ -219,7 +219,7 @@ module _ {M : Type 1} (𝓤 : URA M) (H : Heap 𝓤) (A : Atoms 𝓤) (W : Given
 
   -- what `reply_each` makes of both, es being noted with the answer r
   abbrev Each : List ℕ → Noted → List ReplyJob → List ℕ → Type 0
-  Each es r zs ws = (plan before : List ℕ) → Handed (ts .now) plan before es r → RepliesEach (ts .now) plan (cs .now) 0 rs ws ys zs
+  Each es r zs ws = (plan before : List ℕ) → NotedInto (ts .now) plan before es r → RepliesEach (ts .now) plan (cs .now) 0 rs ws ys zs
 
   -- the machine values of the slices
   abbrev sv : RefT (List ℕ) → Val
@@ -448,12 +448,12 @@ module _ {M : Type 1} (𝓤 : URA M) (H : Heap 𝓤) (A : Atoms 𝓤) (W : Given
   module _ (C : Calls 𝓤 H) (Λ : Loops 𝓤 H) (fm : FmC 𝓤 H (W .laws) C) (known-check : Triple 𝓤 (C #check-noted) (Check 𝓤 H A mem run))
       (known-st : Triple 𝓤 (C #starts-of) (St 𝓤 H A mem run)) (known-acc : Triple 𝓤 (C #accepted) (Acc 𝓤 H A mem run))
       (known-ans : Triple 𝓤 (C #answer-of) (Ans 𝓤 H A mem run)) (known-all : Triple 𝓤 (C #reply-each) (All 𝓤 H A mem run)) where
-    all-are : {es₀ es : List ℕ} (r : Noted) (t : Bool) (zs : List ReplyJob) (ws : List ℕ) → Handed (ts .now) (ps .now) es₀ es r → t ≡ isAccepted
+    all-are : {es₀ es : List ℕ} (r : Noted) (t : Bool) (zs : List ReplyJob) (ws : List ℕ) → NotedInto (ts .now) (ps .now) es₀ es r → t ≡ isAccepted
         (r .answer) → Holds t
         → Each es r zs ws → (a : PlanAnswer) → a ≡ r .answer → Says zs ws a
     all-are {es₀} r t zs ws m is-t y each a e = subst (Says zs ws) (sym e) (jobs-replied (cs .now) m (sym is-t ∙ holds t y) (each (ps .now) es₀ m))
 
-    none-is : {es₀ es : List ℕ} (r : Noted) (t : Bool) → Handed (ts .now) (ps .now) es₀ es r → t ≡ isAccepted (r .answer) → Holds (not t)
+    none-is : {es₀ es : List ℕ} (r : Noted) (t : Bool) → NotedInto (ts .now) (ps .now) es₀ es r → t ≡ isAccepted (r .answer) → Holds (not t)
         → (a : PlanAnswer) → a ≡ r .answer → Says ys rs a
     none-is r t m is-t n a e = subst (Says ys rs) (sym e) (jobs-left (cs .now) m (sym is-t ∙ fails t n))
 
@@ -469,7 +469,8 @@ module _ {M : Type 1} (𝓤 : URA M) (H : Heap 𝓤) (A : Atoms 𝓤) (W : Given
       Locals i₆ i₇ i₈ i₁₁ =
           ‵ (froom (sliceTy againR) l₁₈ 0) ∷ ‵ (fdies (sliceTy againR) l₁₈) ∷ ‵ (froom againR l₁₇ 0) ∷ ‵ (fdies againR l₁₇) ∷ ‵ (froom (sliceTy againJ) l₁₆ 0) ∷
           ‵ (fdies (sliceTy againJ) l₁₆) ∷ ‵ (froom againJ l₁₅ 0) ∷ ‵ (fdies againJ l₁₅) ∷ ‵ (froom (readTy 64) l₁₄ 0) ∷ ‵ (fdies (readTy 64) l₁₄) ∷
-          ‵ (froom (readTy mostBranches) l₁₃ 0) ∷ ‵ (fdies (readTy mostBranches) l₁₃) ∷ ‵ (froom tyUnit l₁₂ 0) ∷ ‵ (fdies tyUnit l₁₂) ∷ i₁₁ ∷ ‵ (fdies tyBool l₁₁) ∷
+          ‵ (froom (readTy mostBranches) l₁₃ 0) ∷ ‵ (fdies (readTy mostBranches) l₁₃) ∷ ‵ (froom tyUnit l₁₂ 0) ∷ ‵ (fdies tyUnit l₁₂) ∷ i₁₁
+              ∷ ‵ (fdies tyBool l₁₁) ∷
           ‵ (froom (arrTy 64) l₁₀ 0) ∷ ‵ (fdies (arrTy 64) l₁₀) ∷ ‵ (froom lentTy l₉ 0) ∷ ‵ (fdies lentTy l₉) ∷ i₈ ∷ ‵ (fdies (arrTy 64) l₈) ∷ i₇ ∷
           ‵ (fdies N′.mir l₇) ∷ i₆ ∷ ‵ (fdies (arrTy mostBranches) l₆) ∷ ‵ (fat fullShare roomTy l₅ 0 z) ∷ ‵ (fdies roomTy l₅) ∷
           ‵ (fat fullShare jobsTy l₄ 0 s) ∷ ‵ (fdies jobsTy l₄) ∷ ‵ (fat fullShare (inTy 2) l₃ 0 (sv cs)) ∷ ‵ (fdies (inTy 2) l₃) ∷
@@ -517,7 +518,7 @@ module _ {M : Type 1} (𝓤 : URA M) (H : Heap 𝓤) (A : Atoms 𝓤) (W : Given
           (‵ (fat fullShare tyBool l₁₁ 0 (vbool t)))
 
       arms : Room R (length ys) → Room u32 (length rs) → {es₀ : List ℕ} (es st : List ℕ) (r : Noted) (u sw : Val) (t : Bool) → Is Q r (u ∷ [])
-          → Handed (ts .now) (ps .now) es₀ es r → st ≡ startsIn (tableOf (ts .now)) → t ≡ isAccepted (r .answer)
+          → NotedInto (ts .now) (ps .now) es₀ es r → st ≡ startsIn (tableOf (ts .now)) → t ≡ isAccepted (r .answer)
           → Sq W (Branch es st r u sw t) (runs C Λ En body.t-7 (atRet En Kf))
       arms room room′ {es₀} es st r u sw t is is-v is-st is-t =
           first ! $ branches ! (load ! (from ! (stop !)) (look ! 23 refl))
@@ -569,13 +570,15 @@ module _ {M : Type 1} (𝓤 : URA M) (H : Heap 𝓤) (A : Atoms 𝓤) (W : Given
           move ! (1 ∷ []) $ split ! $ move ! (1 ∷ []) $ split ! $ move ! (1 ∷ []) $ split ! $
           -- the arrays are taken back
           lft-end ! tt $ move ! (0 ∷ 14 ∷ []) $ lent-back ! tt $
-          use1 W (‵ (fat fullShare (arrTy mostBranches) l₆ 0 (only (evals es))) ⊛ ‵ (E .own es (evals es))) (of-part 𝓤 H A W mostBranches l₆ es) $ split ! $ move ! (2 ∷ []) $
+          use1 W (‵ (fat fullShare (arrTy mostBranches) l₆ 0 (only (evals es))) ⊛ ‵ (E .own es (evals es))) (of-part 𝓤 H A W mostBranches l₆ es) $
+              split ! $ move ! (2 ∷ []) $
           lft-end ! tt $ move ! (0 ∷ 14 ∷ []) $ lent-back ! tt $
           use1 W (‵ (fat fullShare (arrTy 64) l₈ 0 (only (evals st))) ⊛ ‵ (S .own st (evals st))) (of-part 𝓤 H A W 64 l₈ st) $ split ! $
           land-last ! (from ! (stop !)) (init ! 28 refl (subst (λ (k : Val). Holds (hasTy tyUnit k) × WT k) (sym (ap only is-unit)) (tt, tt))) $
           forget ! 30 refl $ forget ! 28 refl $ forget ! 26 refl $ forget ! 24 refl $ forget ! 22 refl $ forget ! 20 refl $ forget ! 18 refl $
           forget ! 16 refl $
-          keep ! (6 ∷ 5 ∷ 4 ∷ 8 ∷ 7 ∷ 15 ∷ 37 ∷ 50 ∷ 48 ∷ 46 ∷ 44 ∷ 42 ∷ 40 ∷ 2 ∷ 0 ∷ 34 ∷ 32 ∷ 30 ∷ 28 ∷ 26 ∷ 24 ∷ 22 ∷ 20 ∷ 18 ∷ 16 ∷ 51 ∷ 49 ∷ 47 ∷ 45 ∷ 43 ∷ 41 ∷ 39 ∷ 38 ∷ 36 ∷ 35 ∷ 33 ∷ 31 ∷ 29 ∷ 27 ∷ 25 ∷ 23 ∷ 21 ∷ 19 ∷ 17 ∷ []) $
+          keep ! (6 ∷ 5 ∷ 4 ∷ 8 ∷ 7 ∷ 15 ∷ 37 ∷ 50 ∷ 48 ∷ 46 ∷ 44 ∷ 42 ∷ 40 ∷ 2 ∷ 0 ∷ 34 ∷ 32 ∷ 30 ∷ 28 ∷ 26 ∷ 24 ∷ 22 ∷ 20 ∷ 18 ∷ 16 ∷ 51 ∷ 49 ∷ 47
+              ∷ 45 ∷ 43 ∷ 41 ∷ 39 ∷ 38 ∷ 36 ∷ 35 ∷ 33 ∷ 31 ∷ 29 ∷ 27 ∷ 25 ∷ 23 ∷ 21 ∷ 19 ∷ 17 ∷ []) $
           exec ! C Λ En body.t-8 (atRet En Kf) $
           ends r u (only (evals es)) (only (evals st)) (lastJ l₆ l₈ α β γ₁ γ₂ es st r u ws) (lastR l₆ l₈ α β γ₁ γ₂ es st r u ws) is
           (all-are r t (lastJ l₆ l₈ α β γ₁ γ₂ es st r u ws) (lastR l₆ l₈ α β γ₁ γ₂ es st r u ws) is-v is-t yes′ e) len len′))))))))))))
@@ -586,12 +589,13 @@ module _ {M : Type 1} (𝓤 : URA M) (H : Heap 𝓤) (A : Atoms 𝓤) (W : Given
           use1 W (‵ (finally R γ ys)) (res-finally 𝓤 H A W (named 3) κ′ R γ ys) $ move ! (8 ∷ []) $ fsplit ! $ move ! (1 ∷ []) $ fsplit ! $
           use1 W (‵ (fres δ (codedHoleys u32 .code (heres u32 rs)))) (W .names .obs-res δ (codedHoleys u32 .code (heres u32 rs))) $
           use1 W (‵ (finally u32 δ rs)) (res-finally 𝓤 H A W (named 4) κ″ u32 δ rs) $ forget ! 27 refl $
-          keep ! (9 ∷ 11 ∷ 12 ∷ 3 ∷ 0 ∷ 6 ∷ 35 ∷ 49 ∷ 47 ∷ 45 ∷ 43 ∷ 41 ∷ 39 ∷ 37 ∷ 33 ∷ 31 ∷ 29 ∷ 27 ∷ 25 ∷ 23 ∷ 21 ∷ 19 ∷ 17 ∷ 15 ∷ 13 ∷ 50 ∷ 48 ∷ 46 ∷ 44 ∷ 42 ∷ 40 ∷ 38 ∷ 36 ∷ 34 ∷ 32 ∷ 30 ∷ 28 ∷ 26 ∷ 24 ∷ 22 ∷ 20 ∷ 18 ∷ 16 ∷ 14 ∷ []) $
+          keep ! (9 ∷ 11 ∷ 12 ∷ 3 ∷ 0 ∷ 6 ∷ 35 ∷ 49 ∷ 47 ∷ 45 ∷ 43 ∷ 41 ∷ 39 ∷ 37 ∷ 33 ∷ 31 ∷ 29 ∷ 27 ∷ 25 ∷ 23 ∷ 21 ∷ 19 ∷ 17 ∷ 15 ∷ 13 ∷ 50 ∷ 48
+              ∷ 46 ∷ 44 ∷ 42 ∷ 40 ∷ 38 ∷ 36 ∷ 34 ∷ 32 ∷ 30 ∷ 28 ∷ 26 ∷ 24 ∷ 22 ∷ 20 ∷ 18 ∷ 16 ∷ 14 ∷ []) $
           exec ! C Λ En body.t-8 (atRet En Kf) $ ends r u (only (evals es)) sw ys rs is (none-is r t is-v is-t other) refl refl)
 
       -- the starts are known: whether the check's answer accepts
       decides : Room R (length ys) → Room u32 (length rs) → {es₀ : List ℕ} (es st : List ℕ) (r : Noted) (u sw : Val) → Is Q r (u ∷ [])
-          → Handed (ts .now) (ps .now) es₀ es r → st ≡ startsIn (tableOf (ts .now))
+          → NotedInto (ts .now) (ps .now) es₀ es r → st ≡ startsIn (tableOf (ts .now))
           → Sq W (‵ (E .own es (evals es)) ∷ ‵ (S .own st (sw ∷ [])) ∷ ‵ Toks ∷ ‵ Ins ∷ ‵ (Q .own r (u ∷ [])) ∷ ‵ Jobs ∷ ‵ Rm ∷ ‵ (flft κ′ q′) ∷
           ‵ (flft κ″ q″) ∷ Locals (‵ (fat fullShare (arrTy mostBranches) l₆ 0 (only (evals es)))) (‵ (fat fullShare N′.mir l₇ 0 u))
           (‵ (fat fullShare (arrTy 64) l₈ 0 sw)) (‵ (froom tyBool l₁₁ 0))) (runs C Λ En body.t-6 (atRet En Kf))
@@ -608,7 +612,7 @@ module _ {M : Type 1} (𝓤 : URA M) (H : Heap 𝓤) (A : Atoms 𝓤) (W : Given
 
       -- the check's answer is known: where the table's rows start
       reads : Room R (length ys) → Room u32 (length rs) → {es₀ : List ℕ} (es : List ℕ) (r : Noted) (u : Val) → Is Q r (u ∷ [])
-          → Handed (ts .now) (ps .now) es₀ es r
+          → NotedInto (ts .now) (ps .now) es₀ es r
           → Sq W (‵ (E .own es (evals es)) ∷ ‵ Toks ∷ ‵ Ins ∷ ‵ (Q .own r (u ∷ [])) ∷ ‵ Jobs ∷ ‵ Rm ∷ ‵ (flft κ′ q′) ∷ ‵ (flft κ″ q″) ∷ Locals
           (‵ (fat fullShare (arrTy mostBranches) l₆ 0 (only (evals es)))) (‵ (fat fullShare N′.mir l₇ 0 u)) (‵ (froom (arrTy 64) l₈ 0))
           (‵ (froom tyBool l₁₁ 0))) (runs C Λ En body.t-4 (atRet En Kf))
@@ -647,10 +651,10 @@ module _ {M : Type 1} (𝓤 : URA M) (H : Heap 𝓤) (A : Atoms 𝓤) (W : Given
           use1 W (later (some (λ (r : Noted). ((‵ (flft κ₁ q₁) ⊛ ‵ (flft κ₂ q₂) ⊛ ‵ (flft (α ∷ []) fullShare) ⊛ ‵ ftrue) ⊛ ‵ (Q .own r (u ∷ []))) ⊛ some
           (λ (zs : Lasts check.ended (κ₁, (κ₂, (α ∷ [], tt))) (ts, (ps, (rn l₆ α γ₁ es₀, tt)))).
           ‵ (lasts check.ended (κ₁, (κ₂, (α ∷ [], tt))) (ts, (ps, (rn l₆ α γ₁ es₀, tt))) zs) ⊛ raw
-          (fact 𝓤 (Handed (ts .now) (ps .now) es₀ (zs .1 .1 .0) r)))))) (id⊢ 𝓤 _) $
+          (fact 𝓤 (NotedInto (ts .now) (ps .now) es₀ (zs .1 .1 .0) r)))))) (id⊢ 𝓤 _) $
           await ! tt $ pick ! (λ r.
           split ! $ move ! (1 ∷ []) $ pick ! (λ zs.
-          split ! $ move ! (1 ∷ []) $ heard ! (Handed (ts .now) (ps .now) es₀ (zs .1 .1 .0) r) (λ is-v.
+          split ! $ move ! (1 ∷ []) $ heard ! (NotedInto (ts .now) (ps .now) es₀ (zs .1 .1 .0) r) (λ is-v.
           fsplit ! $ move ! (1 ∷ []) $ fsplit ! $ move ! (1 ∷ []) $ fsplit ! $ move ! (4 ∷ []) $ split ! $ move ! (1 ∷ []) $
           peeks ! Q (Is Q) (shows 𝓤 H A Q) r (u ∷ []) (λ is.
           land ! (from ! (stop !)) (init ! 34 refl (typed r u is)) $ move ! (1 ∷ 6 ∷ []) $
@@ -661,7 +665,8 @@ module _ {M : Type 1} (𝓤 : URA M) (H : Heap 𝓤) (A : Atoms 𝓤) (W : Given
           use1 W (‵ (fat fullShare (arrTy mostBranches) l₆ 0 (only (evals (zs .1 .1 .0)))) ⊛ ‵ (E .own (zs .1 .1 .0) (evals (zs .1 .1 .0))))
           (of-part 𝓤 H A W mostBranches l₆ (zs .1 .1 .0)) $
           split ! $ forget ! 30 refl $
-          keep ! (1 ∷ 3 ∷ 2 ∷ 4 ∷ 8 ∷ 9 ∷ 10 ∷ 11 ∷ 12 ∷ 13 ∷ 14 ∷ 15 ∷ 16 ∷ 17 ∷ 18 ∷ 19 ∷ 20 ∷ 21 ∷ 22 ∷ 23 ∷ 24 ∷ 25 ∷ 26 ∷ 27 ∷ 28 ∷ 29 ∷ 30 ∷ 31 ∷ 32 ∷ 33 ∷ 34 ∷ 35 ∷ 0 ∷ 36 ∷ 37 ∷ 38 ∷ 39 ∷ 40 ∷ 41 ∷ 42 ∷ 43 ∷ 44 ∷ 45 ∷ 46 ∷ 47 ∷ 48 ∷ []) $
+          keep ! (1 ∷ 3 ∷ 2 ∷ 4 ∷ 8 ∷ 9 ∷ 10 ∷ 11 ∷ 12 ∷ 13 ∷ 14 ∷ 15 ∷ 16 ∷ 17 ∷ 18 ∷ 19 ∷ 20 ∷ 21 ∷ 22 ∷ 23 ∷ 24 ∷ 25 ∷ 26 ∷ 27 ∷ 28 ∷ 29 ∷ 30 ∷ 31
+              ∷ 32 ∷ 33 ∷ 34 ∷ 35 ∷ 0 ∷ 36 ∷ 37 ∷ 38 ∷ 39 ∷ 40 ∷ 41 ∷ 42 ∷ 43 ∷ 44 ∷ 45 ∷ 46 ∷ 47 ∷ 48 ∷ []) $
           reads room room′ (zs .1 .1 .0) r u is is-v)))))))
 
     abbrev Alive : Item 𝓤
@@ -693,7 +698,8 @@ module _ {M : Type 1} (𝓤 : URA M) (H : Heap 𝓤) (A : Atoms 𝓤) (W : Given
         peeks ! E (Is E) (shows 𝓤 H A E) (replicate mostBranches 0) (arrayVal (replicate mostBranches (vint w64 0)) ∷ []) (λ is.
         assigns ! (rep ! mostBranches (lit ! tt)) (from ! (stop !)) (init ! 33 refl (array-lawful 𝓤 H A W u64 (uint-lawful 𝓤 H A W w64) mostBranches .typed
         (replicate mostBranches 0) _ is .0)) $
-        keep ! (0 ∷ 1 ∷ 2 ∷ 5 ∷ 3 ∷ 8 ∷ 6 ∷ 9 ∷ 10 ∷ 11 ∷ 12 ∷ 13 ∷ 14 ∷ 15 ∷ 16 ∷ 17 ∷ 18 ∷ 19 ∷ 20 ∷ 21 ∷ 22 ∷ 23 ∷ 24 ∷ 25 ∷ 26 ∷ 27 ∷ 28 ∷ 29 ∷ 30 ∷ 31 ∷ 32 ∷ 33 ∷ 34 ∷ 35 ∷ 36 ∷ 37 ∷ 38 ∷ 39 ∷ 40 ∷ 41 ∷ 42 ∷ 43 ∷ 44 ∷ 45 ∷ 46 ∷ []) $
+        keep ! (0 ∷ 1 ∷ 2 ∷ 5 ∷ 3 ∷ 8 ∷ 6 ∷ 9 ∷ 10 ∷ 11 ∷ 12 ∷ 13 ∷ 14 ∷ 15 ∷ 16 ∷ 17 ∷ 18 ∷ 19 ∷ 20 ∷ 21 ∷ 22 ∷ 23 ∷ 24 ∷ 25 ∷ 26 ∷ 27 ∷ 28 ∷ 29 ∷ 30
+            ∷ 31 ∷ 32 ∷ 33 ∷ 34 ∷ 35 ∷ 36 ∷ 37 ∷ 38 ∷ 39 ∷ 40 ∷ 41 ∷ 42 ∷ 43 ∷ 44 ∷ 45 ∷ 46 ∷ []) $
         lends l₀ l₁ l₂ l₃ l₄ l₅ l₆ l₇ l₈ l₉ l₁₀ l₁₁ l₁₂ l₁₃ l₁₄ l₁₅ l₁₆ l₁₇ l₁₈ room room′ (replicate mostBranches 0)
         (arrayVal (replicate mostBranches (vint w64 0)))))))))))))))))))))))
 

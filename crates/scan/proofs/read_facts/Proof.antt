@@ -5,7 +5,7 @@ use borrow.Author.Needs.{needs}
 use lib.Dec.{eqb}
 use lib.ListN.{length}
 use Rattle.grammar.specs.Reader.{nothing}
-use Rattle.scan.specs.code.Facts.{Kept, Going}
+use Rattle.scan.specs.code.Facts.{FactsKept, Going}
 use Rattle.scan.proofs.FactLaws.{fact-is}
 use Rattle.scan.proofs.CountLaws.{kept-none, sized, kept-more, none-yet, fact-more, all-read, stops-there}
 use Rattle.scan.proofs.read_facts.Statement.{statement}
@@ -13,7 +13,7 @@ use Rattle.scan.proofs.read_facts.Tie as tie
 
 abbrev Inv-loop : tie.InvT-loop
 Inv-loop text dones₀ at₀ tally₀ dones at tally =
-    (at ≤ length text) × Kept text at tally × Going text at (eqb (tally .facts) 0) tally × (length dones ≡ length dones₀)
+    (at ≤ length text) × FactsKept text at tally × Going text at (eqb (tally .facts) 0) tally × (length dones ≡ length dones₀)
 
 abbrev μ-loop : tie.MeasureT-loop
 μ-loop text dones₀ at₀ tally₀ dones at tally = length text - at

@@ -33,7 +33,7 @@ pub record Ready (t dones : List ℕ) (sp : Spot) : Type 0 where
 
 -- the work under way, of which the counts are kept: what is read in the end, F for each place of the predicate's name, is what is read from
 -- here
-pub record Under (F : ℕ → ℕ → Out) (t dones : List ℕ) (sp : Spot) : Type 0 where
+pub record UnderSpot (F : ℕ → ℕ → Out) (t dones : List ℕ) (sp : Spot) : Type 0 where
   pub opened : List Frame
   pub out : List Symbol
   pub levels : levelsOf dones (sp .depth) ≡ doneIn opened
@@ -56,7 +56,7 @@ Stopped F p = (s e : ℕ) → F s e ≡ stops p
 pub record Goes (F : ℕ → ℕ → Out) (t dones : List ℕ) (from : ℕ) (sp : Spot) : Type 0 where
   pub on : from < sp .at
   pub ready : Ready t dones sp
-  pub under : Under F t dones sp
+  pub under : UnderSpot F t dones sp
 
 -- what a turn answers
 abbrev pub Moves : (ℕ → ℕ → Out) → List ℕ → List ℕ → Spot → Move → Type 0
@@ -69,7 +69,7 @@ pub record Moved (F : ℕ → ℕ → Out) (t dones : List ℕ) (sp : Spot) (r :
 
 -- for every work under way of which these are the counts
 abbrev pub MoveIs : List ℕ → List ℕ → Spot → List ℕ → Move → Type 0
-MoveIs t dones sp dones′ r = (F : ℕ → ℕ → Out) → Under F t dones sp → Moved F t dones′ sp r
+MoveIs t dones sp dones′ r = (F : ℕ → ℕ → Out) → UnderSpot F t dones sp → Moved F t dones′ sp r
 
 -- what the arguments from a place on are
 abbrev pub argumentsAt : List ℕ → ℕ → ℕ → ℕ → Out

@@ -11,9 +11,9 @@ use Rattle.refusal.specs.declared.Reason.the-variants as reason
 use Rattle.refusal.specs.declared.Input.the-variants as input
 use Rattle.grammar.specs.Grammar.{Symbol, Fact, fact}
 use Rattle.grammar.specs.Meaning.{none, Found, found, alike, otherIn, symbolsOf}
-use Rattle.grammar.specs.Reader.{stop, Work, nothing, Out, stops, reads, before, run, textOf}
+use Rattle.grammar.specs.Reader.{stop, Work, nothing, Out, stops, reads, factBefore, run, textOf}
 use Rattle.lex.specs.Heads.{factMode}
-use Rattle.scan.specs.Scan.{counted}
+use Rattle.scan.specs.Scan.{countedAs}
 use Rattle.scan.specs.declared.Counted.{Counted}
 use Rattle.scan.specs.declared.facts.Seen.{Seen}
 use Rattle.scan.specs.declared.facts.Tally.{Tally}
@@ -25,17 +25,17 @@ abbrev pub seenFact : Seen → List Symbol → Fact
 seenFact x out = fact (x .start) (x .end) (x .width) out
 
 -- a fact that is read: its numbers, and the text after it
-pub record Fits (t : List ℕ) (at : ℕ) (first : Bool) (x : Seen) : Type 0 where
+pub record FactFits (t : List ℕ) (at : ℕ) (first : Bool) (x : Seen) : Type 0 where
   pub from : (at ≤ x .start) × (x .start < x .end)
   pub within : (x .end < x .next) × (x .next ≤ length t)
   pub few : x .symbols ≤ x .next
   pub out : List Symbol
   pub count : length out ≡ x .symbols
-  pub same : (w : Work) → run (drop at t) (factMode first) w at ≡ before (seenFact x out) (run (drop (x .next) t) stop nothing (x .next))
+  pub same : (w : Work) → run (drop at t) (factMode first) w at ≡ factBefore (seenFact x out) (run (drop (x .next) t) stop nothing (x .next))
 
 abbrev pub FactIs : List ℕ → ℕ → Bool → FactRead → Type 0
 FactIs t at first fact-read.End = (w : Work) → run (drop at t) (factMode first) w at ≡ reads []
-FactIs t at first (fact-read.Fact x) = Fits t at first x
+FactIs t at first (fact-read.Fact x) = FactFits t at first x
 FactIs t at first (fact-read.Stop p) = (w : Work) → run (drop at t) (factMode first) w at ≡ stops p
 
 abbrev pub tallyOf : ℕ → ℕ → ℕ → ℕ → ℕ → ℕ → Tally
@@ -69,7 +69,7 @@ pub record Sized (t : List ℕ) (c : Tally) (x : Seen) : Type 0 where
   pub sum : c .symbols ≤ 65535 * c .facts
 
 -- the same of the facts so far, which end before a place
-pub record Kept (t : List ℕ) (at : ℕ) (c : Tally) : Type 0 where
+pub record FactsKept (t : List ℕ) (at : ℕ) (c : Tally) : Type 0 where
   pub first : (c .start ≤ c .end) × (c .end ≤ length t)
   pub few : c .facts ≤ at
   pub sum : c .symbols ≤ 65535 * c .facts
@@ -92,7 +92,7 @@ pub record Tallied (t : List ℕ) (fs : List Fact) (c : Tally) : Type 0 where
 -- and then what is read
 unfoldable pub withFacts : List Fact → Out → Out
 withFacts [] o = o
-withFacts (f ∷ fs) o = before f (withFacts fs o)
+withFacts (f ∷ fs) o = factBefore f (withFacts fs o)
 
 pub record Going (t : List ℕ) (at : ℕ) (first : Bool) (c : Tally) : Type 0 where
   pub facts : List Fact
@@ -101,4 +101,4 @@ pub record Going (t : List ℕ) (at : ℕ) (first : Bool) (c : Tally) : Type 0 w
 
 -- what is answered for facts that are counted
 abbrev pub verdictOf : Tally → Read Counted
-verdictOf c = when (ltb (c .other) 65536) (refused reason.Other input.Text (c .other)) (read (counted (c .facts) (c .width) (c .symbols)))
+verdictOf c = when (ltb (c .other) 65536) (refused reason.Other input.Text (c .other)) (read (countedAs (c .facts) (c .width) (c .symbols)))

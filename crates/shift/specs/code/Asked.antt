@@ -7,7 +7,7 @@ use lib.ListN.{length, take}
 use Rattle.table.specs.All.{All}
 use Rattle.checker.specs.declared.PlanAnswer.{PlanAnswer}
 use Rattle.checker.specs.declared.PlanAnswer.the-variants as plan-answer
-use Rattle.plannotes.specs.Noted.{Handed}
+use Rattle.plannotes.specs.Noted.{NotedInto}
 use Rattle.plannotes.specs.declared.Noted.{Noted}
 use Rattle.answer.specs.Run.{Ascends}
 use Rattle.answer.specs.Jobs.{Asked}
@@ -19,7 +19,7 @@ isAccepted (plan-answer.Refused f) = false
 
 -- what a record becomes, for the table and the plan of which this is noted
 abbrev pub AskedBy : (numbers : List ℕ) (noted : Noted) (cells : List ℕ) → Job → Job → Type 0
-AskedBy numbers noted cells j j′ = (table plan before : List ℕ) → Handed table plan before numbers noted → Asked table plan cells j j′
+AskedBy numbers noted cells j j′ = (table plan before : List ℕ) → NotedInto table plan before numbers noted → Asked table plan cells j j′
 
 -- the first n of 64 bytes are numbers of rows, from the top down
 pub record Hits (room : List ℕ) (n : ℕ) : Type 0 where

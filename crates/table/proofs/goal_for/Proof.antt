@@ -16,7 +16,8 @@ use Rattle.table.proofs.goal_for.Tie as tie
 fine-length : (c : tie.Else1) → let g = c .before .before .before .args .goal .now in (ltb (length g) 1 || ltb 32 (length g)) ≡ false
 fine-length c = sym (c .before .outside .ensures) ∙ c .if1 .left
 
-whole : (c : tie.After-e) → let a = c .before .before .before .before .before .before .args in termsFrom false (a .goal .now) (a .width) 0 0 0 ≡ read (met (c .e .given .0 .0) (c .e .given .0 .1 .0))
+whole : (c : tie.After-e) → let a = c .before .before .before .before .before .before .args in
+    termsFrom false (a .goal .now) (a .width) 0 0 0 ≡ read (met (c .e .given .0 .0) (c .e .given .0 .1 .0))
 whole c = sym (c .before .before .read-terms .ensures .0) ∙ ap termsTold (c .e .given .1)
 
 outside-requires : tie.Need-outside-requires
@@ -41,16 +42,23 @@ refusal-requires-2 : tie.Need-refusal-requires-2
 refusal-requires-2 c κs = search needs
 
 returns-2 : tie.Need-returns-2
-returns-2 c = ap turned (c .refusal2 .ensures) ∙ sym (ap (goalSays _) (goal-extra _ _ (fine-length (c .before .before .before .before .before .before .before)) (whole (c .before .before .before .before)) (omega arith)))
+returns-2 c =
+    ap turned (c .refusal2 .ensures) ∙ sym (ap (goalSays _)
+        (goal-extra _ _ (fine-length (c .before .before .before .before .before .before .before)) (whole (c .before .before .before .before))
+        (omega arith)))
 
 enum-known-f : tie.Need-enum-known-f
 enum-known-f c = search needs
 
 returns-3 : tie.Need-returns-3
-returns-3 c = sym (ap (goalSays _) (goal-whole _ _ (fine-length (c .before .before .before .before .before .before)) (whole (c .before .before .before)) (omega arith)))
+returns-3 c =
+    sym (ap (goalSays _) (goal-whole _ _ (fine-length (c .before .before .before .before .before .before)) (whole (c .before .before .before))
+        (omega arith)))
 
 returns-4 : tie.Need-returns-4
-returns-4 c = sym (ap (goalSays _) (goal-turned _ _ (fine-length (c .before .before .before .before)) (sym (c .before .before .before .read-terms .ensures .0) ∙ ap termsTold (c .before .f .given .1))))
+returns-4 c =
+    sym (ap (goalSays _) (goal-turned _ _ (fine-length (c .before .before .before .before)) (sym (c .before .before .before .read-terms .ensures .0)
+        ∙ ap termsTold (c .before .f .given .1))))
 
 pub goal-for-spec : {M : Type 1} → statement M
 goal-for-spec =

@@ -18,13 +18,16 @@ fine-length c = sym (c .before .outside .ensures) ∙ c .if1 .left
 long : (c : tie.Else1) → let t = c .before .before .before .args .cells .now in (2 ≤ length t) × (length t ≤ mostTableCells)
 long c = inside (length (c .before .before .before .args .cells .now)) 2 mostTableCells (fine-length c)
 
-width-test : (c : tie.After-outside2) → let w = getD (c .before .before .before .before .before .before .args .cells .now) 0 0 in (ltb w 1 || ltb 8 w) ≡ c .outside2 .result
+width-test : (c : tie.After-outside2) → let w = getD (c .before .before .before .before .before .before .args .cells .now) 0 0 in
+    (ltb w 1 || ltb 8 w) ≡ c .outside2 .result
 width-test c = sym (c .outside2 .ensures ∙ ap (λ (n : ℕ). ltb n 1 || ltb 8 n) (c .before .wide .ensures))
 
 fine-width : (c : tie.Else2) → let w = getD (c .before .before .before .before .before .before .before .args .cells .now) 0 0 in (ltb w 1 || ltb 8 w) ≡ false
 fine-width c = width-test (c .before) ∙ c .if2 .left
 
-count-test : (c : tie.After-outside3) → let n = getD (c .before .before .before .before .before .before .before .before .before .before .args .cells .now) 1 0 in (ltb n 1 || ltb 64 n) ≡ c .outside3 .result
+count-test : (c : tie.After-outside3) → let n =
+    getD (c .before .before .before .before .before .before .before .before .before .before .args .cells .now) 1 0 in
+    (ltb n 1 || ltb 64 n) ≡ c .outside3 .result
 count-test c = sym (c .outside3 .ensures ∙ ap (λ (n : ℕ). ltb n 1 || ltb 64 n) (c .before .wide2 .ensures))
 
 outside-requires : tie.Need-outside-requires

@@ -6,7 +6,8 @@ use borrow.Author.Needs.{needs}
 use Rattle.table.proofs.row.Statement.{statement}
 use Rattle.table.proofs.row.Tie as tie
 
-inside : (c : tie.After-row-place) → (c .row-place .result .start ≤ c .row-place .result .end) × (c .row-place .result .end ≤ length (c .before .before .args .cells .now))
+inside : (c : tie.After-row-place) → (c .row-place .result .start ≤ c .row-place .result .end)
+    × (c .row-place .result .end ≤ length (c .before .before .args .cells .now))
 inside c = place-inside (c .before .before .args .cells .now) (c .before .before .args .r) (c .row-place .ensures)
 
 row-place-requires : tie.Need-row-place-requires

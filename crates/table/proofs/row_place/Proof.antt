@@ -11,8 +11,11 @@ use Rattle.table.proofs.row_place.Statement.{statement}
 use Rattle.table.proofs.row_place.Tie as tie
 
 -- the table is accepted, with as many rows as are counted
-accepted : (c : tie.After-answer) → (T : Table) × (tableOf (c .before .before .before .before .before .args .cells .now) ≡ read T) × (T .width ≡ c .answer .given .0 .0) × (length (T .rows) ≡ c .answer .given .0 .1 .0)
-accepted c = says-read (tableOf (c .before .before .before .before .before .args .cells .now)) (ap tableTold (sym (c .answer .given .1)) ∙ c .before .before .before .read-table .ensures .answer)
+accepted : (c : tie.After-answer) → (T : Table) × (tableOf (c .before .before .before .before .before .args .cells .now) ≡ read T)
+    × (T .width ≡ c .answer .given .0 .0) × (length (T .rows) ≡ c .answer .given .0 .1 .0)
+accepted c =
+    says-read (tableOf (c .before .before .before .before .before .args .cells .now)) (ap tableTold (sym (c .answer .given .1))
+        ∙ c .before .before .before .read-table .ensures .answer)
 
 small : (c : tie.After-answer) → c .answer .given .0 .1 .0 ≤ 64
 small c = let k = accepted c in omega (arith, k .3, is-table (c .before .before .before .before .before .args .cells .now) (k .1) .count .1)
@@ -50,10 +53,14 @@ array-read-end : tie.Need-array-read-end
 array-read-end c = omega (arith, small (c .before .before .before))
 
 returns-3 : tie.Need-returns-3
-returns-3 c = let k = accepted (c .before .before .before) in place-next _ (k .1) _ (c .before .before .before .before .before .before .read-table .ensures .starts) (omega arith)
+returns-3 c =
+    let k = accepted (c .before .before .before) in
+    place-next _ (k .1) _ (c .before .before .before .before .before .before .read-table .ensures .starts) (omega arith)
 
 returns-4 : tie.Need-returns-4
-returns-4 c = let k = accepted (c .before .before .before) in place-last _ (k .1) _ (c .before .before .before .before .before .before .read-table .ensures .starts) (omega arith)
+returns-4 c =
+    let k = accepted (c .before .before .before) in
+    place-last _ (k .1) _ (c .before .before .before .before .before .before .read-table .ensures .starts) (omega arith)
 
 pub row-place-spec : {M : Type 1} → statement M
 row-place-spec =

@@ -15,7 +15,7 @@ use Rattle.table.specs.declared.terms.TermsRead.the-variants.{Whole, Tur
 use Rattle.refusal.specs.Refusal.{Refused, told}
 use Rattle.refusal.specs.declared.Reason.the-variants as reason
 use Rattle.refusal.specs.Read.{Read, read, refuse, andThen}
-use Rattle.table.specs.Table.{Met, met, bad, counted, cellTests}
+use Rattle.table.specs.Table.{Met, met, badTerm, counted, cellTests}
 use Rattle.limits.specs.Limits.{mostRowCells}
 
 -- one cell: the variables met once it is read, or why it is turned away
@@ -29,7 +29,7 @@ cellsFrom row (c ∷ xs) vars p = andThen (cellFrom row c vars p) (λ (v : ℕ).
 
 -- the cells are used up at place p, so many of them, before the terms are complete: LONG in a row that has its 32, otherwise SHORT
 abbrev pub notWhole : Bool → ℕ → ℕ → Refused
-notWhole row used p = bad row (cond (row && leb mostRowCells used) reason.Long reason.Short) p
+notWhole row used p = badTerm row (cond (row && leb mostRowCells used) reason.Long reason.Short) p
 
 -- what the code's answers say of one cell; one that is turned away has no arguments
 abbrev pub testedTold : Tested → Read ℕ

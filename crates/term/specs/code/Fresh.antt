@@ -10,5 +10,5 @@ pub data Fresh : ℕ → List ℕ → Type 0 where
   nil : Fresh 0 []
   cons : {w k : ℕ} {ws : List ℕ} → isVar w ≡ true → ¬ List·Memᴰ w ws → Fresh k ws → Fresh (suc k) (w ∷ ws)
 
-abbrev pub Apart : List ℕ → List ℕ → Type 0
-Apart ws xs = (w : ℕ) → List·Memᴰ w ws → ¬ List·Memᴰ w xs
+abbrev pub AbsentFrom : List ℕ → List ℕ → Type 0
+AbsentFrom ws xs = (w : ℕ) → List·Memᴰ w ws → ¬ List·Memᴰ w xs

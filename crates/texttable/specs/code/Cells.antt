@@ -10,7 +10,7 @@ use Rattle.cell.specs.Cell.{argsOf, numberOf, variableCell, nameCell}
 use Rattle.grammar.specs.Grammar.{Symbol, Fact}
 use Rattle.grammar.specs.Meaning.{Place, symbolsOf, entryOf, tableCells, nameList}
 use Rattle.grammar.specs.Reader.{Frame, Work, reads, run, textOf, Held}
-use Rattle.loading.specs.Load.{front}
+use Rattle.loading.specs.Load.{putFirst}
 use Rattle.loading.specs.Items.{Item, itemsOf, namesMet, numbering, shapes}
 use Rattle.lex.specs.Turns.{termMode, Turns}
 use Rattle.lex.specs.declared.turn.Turn.{Turn}
@@ -20,7 +20,7 @@ use Rattle.symbols.specs.declared.Spot.{Spot}
 use Rattle.symbols.specs.declared.Ahead.{Ahead}
 use Rattle.symbols.specs.declared.RowEnd.the-variants as row-end
 use Rattle.texttable.specs.Words.{numbersOf}
-use Rattle.texttable.specs.code.Tree.{Met, Cleared}
+use Rattle.texttable.specs.code.Tree.{WordMet, Cleared}
 use Rattle.texttable.specs.code.Names.{Shown}
 use Rattle.texttable.specs.code.Numbers.{RowVars, VariableIs}
 use Rattle.texttable.specs.declared.numbers.Row.{Row}
@@ -43,9 +43,9 @@ withArgument c = nameCell ((argsOf c + 1) % 2 ^ 3) (numberOf c % 2 ^ 16)
 
 -- a name is met and its cell written: it is new, or one that is listed
 pub data NamePut (t list links : List ℕ) (names from to : ℕ) (list′ links′ cells cells′ : List ℕ) (count : ℕ) : ℕ → Type 0 where
-  put-new : Met t list links names from to list′ links′ names → cells′ ≡ set cells count (nameCell 0 names)
+  put-new : WordMet t list links names from to list′ links′ names → cells′ ≡ set cells count (nameCell 0 names)
       → NamePut t list links names from to list′ links′ cells cells′ count (names + 1)
-  put-old : {n : ℕ} → Met t list links names from to list′ links′ n → (n ≡ names → ⊥) → cells′ ≡ set cells count (nameCell 0 n)
+  put-old : {n : ℕ} → WordMet t list links names from to list′ links′ n → (n ≡ names → ⊥) → cells′ ≡ set cells count (nameCell 0 n)
       → NamePut t list links names from to list′ links′ cells cells′ count names
 
 -- a variable is met and its cell written
@@ -133,7 +133,7 @@ cellsIn facts numbers start = shapes (symbolsOf facts) numbers ++ drop (length (
 
 pub record Written (t : List ℕ) (facts : List Fact) (start listed list out : List ℕ) (r : ℕ) : Type 0 where
   pub count : r ≡ length (nameList t facts)
-  pub names : list ≡ front (nameList t facts) listed
+  pub names : list ≡ putFirst (nameList t facts) listed
   pub cells : out ≡ cellsIn facts (numbersOf t facts) start
 
 -- one turn further, or all are written
@@ -154,5 +154,5 @@ pub record Writes (most : ℕ) (t list cells : List ℕ) : Type 0 where
 -- the cells of the table are put at the front of a room, and the names at the front of a list
 pub record TableIs (t : List ℕ) (facts : List Fact) (list list′ made made′ : List ℕ) (r : ℕ) : Type 0 where
   pub count : r ≡ length (nameList t facts)
-  pub names : list′ ≡ front (nameList t facts) list
-  pub wrote : made′ ≡ front (tableCells t facts) made
+  pub names : list′ ≡ putFirst (nameList t facts) list
+  pub wrote : made′ ≡ putFirst (tableCells t facts) made

@@ -9,11 +9,11 @@ use lib.ListN.{length, getD}
 use Rattle.grammar.specs.Grammar.{Fact}
 use Rattle.grammar.specs.Reader.{reads, textOf}
 use Rattle.cell.specs.Same.{same}
-use Rattle.grammar.specs.Meaning.{Place, place, bytesOf, meet, namesOf}
+use Rattle.grammar.specs.Meaning.{Place, place, bytesAt, meet, namesOf}
 use Rattle.loading.specs.Items.{Item, itemsOf, namesMet, metIn}
 use Rattle.symbols.specs.code.Left.{Left}
 use Rattle.symbols.specs.declared.Spot.{Spot}
-use Rattle.texttable.specs.code.Tree.{wordOf, Tree}
+use Rattle.texttable.specs.code.Tree.{wordListed, Tree}
 use Rattle.texttable.specs.declared.names.NextName.{NextName}
 use Rattle.texttable.specs.declared.names.NextName.the-variants as next-name
 use Rattle.texttable.specs.declared.names.Filled.{Filled}
@@ -38,7 +38,7 @@ pub record NameMet (t : List ℕ) (w : Place) (sp : Spot) (rest₀ : List Item) 
   pub rest : List Item
   pub left : Left t sp rest
   pub names : (ns : List Place) → namesMet t ns rest₀ ≡ namesMet t (meet t ns w) rest
-  pub met : (v : List ℕ) → metIn t v rest₀ ≡ (same (bytesOf t w) v || metIn t v rest)
+  pub met : (v : List ℕ) → metIn t v rest₀ ≡ (same (bytesAt t w) v || metIn t v rest)
 
 abbrev pub NextNameIs : List ℕ → Spot → NextName → Type 0
 NextNameIs t from (next-name.Name s e to) =
@@ -48,7 +48,7 @@ NextNameIs t from next-name.End = (rest : List Item) → Left t from rest → No
 -- the list and its tree show these words
 pub record Shown (t list links : List ℕ) (ns : List Place) : Type 0 where
   pub tree : Tree t list links (length ns)
-  pub says : (i : ℕ) → i < length ns → wordOf t (getD list i 0) ≡ bytesOf t (at ns i)
+  pub says : (i : ℕ) → i < length ns → wordListed t (getD list i 0) ≡ bytesAt t (at ns i)
 
 -- so much is left of what was left at a place once, with these names met since then
 pub record Still (t : List ℕ) (ns : List Place) (sp : Spot) (rest₀ : List Item) : Type 0 where
@@ -77,7 +77,7 @@ abbrev pub lost : List ℕ → List ℕ → ℕ → List Item → Bool
 lost t w mark rest = not (eqb mark 0) || metIn t w rest
 
 pub record Struck (t : List ℕ) (ns : List Place) (marks : List ℕ) (rest rest₀ : List Item) : Type 0 where
-  pub word : (i : ℕ) → i < length ns → lost t (bytesOf t (at ns i)) (getD marks i 0) rest ≡ metIn t (bytesOf t (at ns i)) rest₀
+  pub word : (i : ℕ) → i < length ns → lost t (bytesAt t (at ns i)) (getD marks i 0) rest ≡ metIn t (bytesAt t (at ns i)) rest₀
 
 -- under way
 pub record Striking (t : List ℕ) (ns : List Place) (sp : Spot) (marks : List ℕ) (rest₀ : List Item) : Type 0 where

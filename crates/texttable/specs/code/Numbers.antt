@@ -7,7 +7,7 @@ use mathlib.Core.List.{List, [], _∷_}
 use lib.ListN.{length, getD}
 use Rattle.cell.specs.Same.{same}
 use Rattle.grammar.specs.Meaning.{Place, position, variableNumber, variablesWith}
-use Rattle.texttable.specs.code.Tree.{wordOf, Tree}
+use Rattle.texttable.specs.code.Tree.{wordListed, Tree}
 use Rattle.texttable.specs.declared.numbers.Row.{Row}
 use Rattle.texttable.specs.declared.numbers.Numbered.{Numbered}
 
@@ -22,8 +22,8 @@ pub record RowVars (t words ways given : List ℕ) (row : Row) : Type 0 where
   pub few : row .named ≤ row .all
   pub tree : Tree t words ways (row .named)
   pub size : length given ≡ length words
-  pub found : (j : ℕ) → j < row .named → (position t (wordOf t (getD words j 0)) places ≡ getD given j 0) × (getD given j 0 < row .all)
-  pub missing : (w : List ℕ) → ((j : ℕ) → j < row .named → wordOf t (getD words j 0) ≡ w → ⊥) → isFresh w ≡ false
+  pub found : (j : ℕ) → j < row .named → (position t (wordListed t (getD words j 0)) places ≡ getD given j 0) × (getD given j 0 < row .all)
+  pub missing : (w : List ℕ) → ((j : ℕ) → j < row .named → wordListed t (getD words j 0) ≡ w → ⊥) → isFresh w ≡ false
       → position t w places ≡ length places
 
 -- one variable more

@@ -30,12 +30,12 @@ abbrev pub MixKept : List ℕ → ℕ → ℕ → Type 0
 MixKept w mix d = 0 < d % 16 → mix ≡ mixOf w (d / 16)
 
 -- the word that a number of the list says: its start in bits 15..0, its bytes in bits 31..16
-abbrev pub wordOf : List ℕ → ℕ → List ℕ
-wordOf t c = slice (c % 65536) (c % 65536 + c / 65536) t
+abbrev pub wordListed : List ℕ → ℕ → List ℕ
+wordListed t c = slice (c % 65536) (c % 65536 + c / 65536) t
 
 -- such a number says a part of the text
-abbrev pub Fits : List ℕ → ℕ → Type 0
-Fits t c = c % 65536 + c / 65536 ≤ length t
+abbrev pub WordFits : List ℕ → ℕ → Type 0
+WordFits t c = c % 65536 + c / 65536 ≤ length t
 
 -- the slot for the next bit of a word at word j
 abbrev pub slotOf : ℕ → ℕ → ℕ
@@ -55,23 +55,23 @@ pub data Trail (links w : List ℕ) : ℕ → ℕ → Type 0 where
 pub record Tree (t list links : List ℕ) (count : ℕ) : Type 0 where
   pub room : count ≤ length list
   pub slots : 2 * length list < length links
-  pub fits : (i : ℕ) → i < count → Fits t (getD list i 0)
+  pub fits : (i : ℕ) → i < count → WordFits t (getD list i 0)
   pub lead : (s : ℕ) → getD links s 0 ≤ count
   pub clean : (s : ℕ) → 2 * count < s → getD links s 0 ≡ 0
   pub later : (j b v : ℕ) → b ≤ 1 → getD links (slotOf j b) 0 ≡ suc v → j < v
-  pub found : (i : ℕ) → i < count → Route links (wordOf t (getD list i 0)) 0 0 i
-  pub apart : (i j : ℕ) → i < count → j < count → wordOf t (getD list i 0) ≡ wordOf t (getD list j 0) → i ≡ j
+  pub found : (i : ℕ) → i < count → Route links (wordListed t (getD list i 0)) 0 0 i
+  pub apart : (i j : ℕ) → i < count → j < count → wordListed t (getD list i 0) ≡ wordListed t (getD list j 0) → i ≡ j
 
 -- a word that is not listed, and the slot at which it would be found
 pub record Missing (t list links : List ℕ) (count : ℕ) (w : List ℕ) (slot : ℕ) : Type 0 where
-  pub none : (i : ℕ) → i < count → wordOf t (getD list i 0) ≡ w → ⊥
+  pub none : (i : ℕ) → i < count → wordListed t (getD list i 0) ≡ w → ⊥
   pub depth : ℕ
   pub trail : Trail links w slot depth
   pub free : getD links slot 0 ≡ 0
 
 -- what the search answers
 abbrev pub Finds : List ℕ → List ℕ → List ℕ → ℕ → List ℕ → Slot → Type 0
-Finds t list links count w (Listed j) = (j < count) × (wordOf t (getD list j 0) ≡ w)
+Finds t list links count w (Listed j) = (j < count) × (wordListed t (getD list j 0) ≡ w)
 Finds t list links count w (Free s) = Missing t list links count w s
 
 -- the number of the list that says a word from a place up to another
@@ -79,12 +79,12 @@ abbrev pub listed : ℕ → ℕ → ℕ
 listed from to = (to - from) * 65536 + from
 
 -- a word is met, from a place up to another: its number, and the list and the tree with it
-pub data Met (t list links : List ℕ) (count from to : ℕ) (list′ links′ : List ℕ) : ℕ → Type 0 where
-  old : {r : ℕ} → r < count → wordOf t (getD list r 0) ≡ slice from to t → list′ ≡ list → links′ ≡ links
-      → Met t list links count from to list′ links′ r
-  new : ((i : ℕ) → i < count → wordOf t (getD list i 0) ≡ slice from to t → ⊥) → list′ ≡ set list count (listed from to)
+pub data WordMet (t list links : List ℕ) (count from to : ℕ) (list′ links′ : List ℕ) : ℕ → Type 0 where
+  old : {r : ℕ} → r < count → wordListed t (getD list r 0) ≡ slice from to t → list′ ≡ list → links′ ≡ links
+      → WordMet t list links count from to list′ links′ r
+  new : ((i : ℕ) → i < count → wordListed t (getD list i 0) ≡ slice from to t → ⊥) → list′ ≡ set list count (listed from to)
       → Tree t list′ links′ (suc count)
-      → Met t list links count from to list′ links′ count
+      → WordMet t list links count from to list′ links′ count
 
 -- the slots before a place are free again, and the others as they were
 pub record ClearedTo (links links′ : List ℕ) (place : ℕ) : Type 0 where
@@ -99,4 +99,4 @@ Cleared links links′ count = ClearedTo links links′ (2 * count + 1)
 -- the search under way: where it is, and that every listed word with these bytes lies ahead
 pub record Seeks (t list links : List ℕ) (count : ℕ) (w : List ℕ) (slot d : ℕ) : Type 0 where
   pub trail : Trail links w slot d
-  pub ways : (i : ℕ) → i < count → wordOf t (getD list i 0) ≡ w → Route links w slot d i
+  pub ways : (i : ℕ) → i < count → wordListed t (getD list i 0) ≡ w → Route links w slot d i

@@ -31,17 +31,17 @@ abbrev pub entries : (table : List ℕ) → List ℕ → List ℕ
 entries table xs = map (λ (x : ℕ). getD table x 0) xs
 
 -- the nodes of a terms, the first of which begins at p
-abbrev pub nodes : (rep sib : List ℕ) → ℕ → ℕ → List ℕ
-nodes rep sib a p = entries rep (steps sib a p)
+abbrev pub goalNodes : (rep sib : List ℕ) → ℕ → ℕ → List ℕ
+goalNodes rep sib a p = entries rep (steps sib a p)
 
 -- a node that stands for its term: a cell of the goal that no other cell is named instead of, or an argument made so far
 pub data Node (G rep : List ℕ) (m : ℕ) : ℕ → Type 0 where
   cell : {r : ℕ} → r < length G → getD rep r 0 ≡ r → Node G rep m r
   made : {r : ℕ} → 32 ≤ r → r < m → Node G rep m r
 
-pub data Nodes (G rep : List ℕ) (m : ℕ) : List ℕ → Type 0 where
-  nil : Nodes G rep m []
-  cons : {r : ℕ} {rs : List ℕ} → Node G rep m r → Nodes G rep m rs → Nodes G rep m (r ∷ rs)
+pub data GoalNodes (G rep : List ℕ) (m : ℕ) : List ℕ → Type 0 where
+  nil : GoalNodes G rep m []
+  cons : {r : ℕ} {rs : List ℕ} → Node G rep m r → GoalNodes G rep m rs → GoalNodes G rep m (r ∷ rs)
 
 -- the goal's tables: the place after each cell's term, and the node that stands for it; for an argument the next number, and for all that
 -- is no cell of the goal itself
@@ -60,8 +60,8 @@ pub record Tables (G sib rep : List ℕ) : Type 0 where
 -- what a node is, for the branches from n to e: bound to a symbol all along, or unbound all along
 pub data Is (G rep sib bound args until : List ℕ) (n e m : ℕ) (Θ : ℕ → List ℕ) (r : ℕ) : Type 0 where
   held : e ≤ getD until r 0 → isVar (getD bound r 0) ≡ false
-      → inst Θ (ref G r) ≡ getD bound r 0 ∷ inst Θ (refs G (nodes rep sib (arity (getD bound r 0)) (getD args r 0)))
-      → Nodes G rep m (nodes rep sib (arity (getD bound r 0)) (getD args r 0))
+      → inst Θ (ref G r) ≡ getD bound r 0 ∷ inst Θ (refs G (goalNodes rep sib (arity (getD bound r 0)) (getD args r 0)))
+      → GoalNodes G rep m (goalNodes rep sib (arity (getD bound r 0)) (getD args r 0))
       → All (λ x. x < 64) (steps sib (arity (getD bound r 0)) (getD args r 0)) → Is G rep sib bound args until n e m Θ r
   free : (x : ℕ) → x < 64 → getD until r 0 ≤ n → ref G r ≡ var x ∷ [] → Θ (var x) ≡ var x ∷ [] → Is G rep sib bound args until n e m Θ r
 
@@ -77,7 +77,7 @@ pub record Linked (G rep sib bound args until refers : List ℕ) (n e m : ℕ) (
   pub by : ℕ → List ℕ
   pub binds : Bound G rep sib bound args until n e m by
   pub slots-made : All (λ s. s < m) slots
-  pub stand : Nodes G rep m (entries refers slots)
+  pub stand : GoalNodes G rep m (entries refers slots)
   pub same : R ≡ inst by (refs G (entries refers slots))
   pub some : 32 ≤ m
   pub few : m < 64

@@ -10,7 +10,7 @@ use lib.ListN.{getD, set}
 use lib.Seq.{sets}
 use Rattle.cell.specs.Cell.{arity, isVar}
 use Rattle.table.specs.All.{All}
-use Rattle.walking.specs.code.Link.{steps, nodes}
+use Rattle.walking.specs.code.Link.{steps, goalNodes}
 
 -- it can be tested: what it reads and writes is in the arrays
 pub record Safe (sib bound args until : List ℕ) (i c v next : ℕ) : Type 0 where
@@ -26,12 +26,12 @@ pub data Step (rep sib : List ℕ) (i c v next skip : ℕ) (bound args until ref
       → Step rep sib i c v next skip bound args until refers bound′ args′ until′ refers′ true
   -- the same symbol: its arguments get slots
   step-same : isVar c ≡ false → i < getD until v 0 → getD bound v 0 ≡ c → bound′ ≡ bound → args′ ≡ args → until′ ≡ until
-      → refers′ ≡ sets refers next (nodes rep sib (arity c) (getD args v 0))
+      → refers′ ≡ sets refers next (goalNodes rep sib (arity c) (getD args v 0))
       → Step rep sib i c v next skip bound args until refers bound′ args′ until′ refers′ true
   -- another one
   step-other : isVar c ≡ false → i < getD until v 0 → getD bound v 0 ≢ c → bound′ ≡ bound → args′ ≡ args → until′ ≡ until → refers′ ≡ refers
       → Step rep sib i c v next skip bound args until refers bound′ args′ until′ refers′ false
   -- an unbound node: it is bound to the symbol over new nodes, for the branches below
   step-binds : isVar c ≡ false → getD until v 0 ≤ i → bound′ ≡ set bound v c → args′ ≡ set args v next → until′ ≡ set until v skip
-      → refers′ ≡ sets refers next (nodes rep sib (arity c) next)
+      → refers′ ≡ sets refers next (goalNodes rep sib (arity c) next)
       → Step rep sib i c v next skip bound args until refers bound′ args′ until′ refers′ true

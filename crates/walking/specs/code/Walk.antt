@@ -22,7 +22,8 @@ pub record Begun (noted : List ℕ) (count : ℕ) (goal room : List ℕ) (w : �
   pub roomy : length rows ≤ length room
 
 -- the hits are the room's first bytes, and the rest of it is as it was; so many hits there are, and so many branches were tried
-pub record Walked {noted : List ℕ} {count : ℕ} {goal room : List ℕ} {w : ℕ} (b : Begun noted count goal room w) (room′ : List ℕ) (found tries : ℕ) : Type 0 where
+pub record Walked {noted : List ℕ} {count : ℕ} {goal room : List ℕ} {w : ℕ} (b : Begun noted count goal room w) (room′ : List ℕ)
+    (found tries : ℕ) : Type 0 where
   pub wrote : room′ ≡ sets room 0 (hits (b .tree) 32 (renamed goal) 0)
   pub number-found : found ≡ length (hits (b .tree) 32 (renamed goal) 0)
   pub number-tried : tries ≡ tried (b .tree) 32 (renamed goal)

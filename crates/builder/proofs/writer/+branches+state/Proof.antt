@@ -136,7 +136,8 @@ branches-mul-run-length t c = search needs
 branches-sub-run-length : (t : ℕ) → branches-lts.Need-sub-run-length (branches-with t) (branches-at t) branches.Post branches-Inv-loop branches-μ-loop
 branches-sub-run-length t c = search needs
 
-branches-part-run-length-start : (t : ℕ) → branches-lts.Need-part-run-length-start (branches-with t) (branches-at t) branches.Post branches-Inv-loop branches-μ-loop
+branches-part-run-length-start : (t : ℕ) → branches-lts.Need-part-run-length-start (branches-with t) (branches-at t) branches.Post branches-Inv-loop
+    branches-μ-loop
 branches-part-run-length-start t c = search needs
 
 branches-part-run-length-end : (t : ℕ) → branches-lts.Need-part-run-length-end (branches-with t) (branches-at t) branches.Post branches-Inv-loop branches-μ-loop
@@ -237,7 +238,9 @@ some-taken : (t : ℕ) (c : At-agreed t) → let r = entered t c .args in
 some-taken t c = taken-here t c (entered t c .pre .1)
 
 -- its kept place is taken and closed
-inner-here : (t : ℕ) (c : At-count t) → let a = agreed-at t c in let r = entered t a .args in let i = c .before .before .before .before .before .before .before .within .result in
+inner-here : (t : ℕ) (c : At-count t) → let a = agreed-at t c in
+    let r = entered t a .args in
+    let i = c .before .before .before .before .before .before .before .within .result in
     (q : ToWrite (r .table .now) (r .starts .now) (r .masks .now) (r .column .now) (r .kept .now) (r .out .now)
     (r .rows .first) (r .rows .end) (r .rows .opens) (r .rows .named) (r .at))
     → Inner (r .table .now) (r .starts .now) (a .agreed .last .1 .1 .0) (r .column .now) (r .kept .now) (a .agreed .last .1 .1 .1 .0)

@@ -10,8 +10,10 @@ use Rattle.state.specs.Flags.{mayIn, spreadOf}
 use Rattle.state.specs.States.{rowsIn}
 use Rattle.state.proofs.FlagsLaws.{none-below}
 use Rattle.checker.specs.code.Steps.{Done}
-use Rattle.checker.proofs.StateLaws.{longest, few-open, shorter, fits-alone, done-alone, done-leaf, done-ends, done-open, done-early, done-ends-2, done-edges, ready-branches, done-node}
-use Rattle.checker.proofs.LoopLaws.{Going, going-start, going-done, going-ends, going-label, Turn, turn-of, ready-below, shorter-below, turn-refused, turn-next, turn-on}
+use Rattle.checker.proofs.StateLaws.{longest, few-open, shorter, fits-alone, done-alone, done-leaf, done-ends, done-open, done-early}
+use Rattle.checker.proofs.StateLaws.{done-ends-2, done-edges, ready-branches, done-node}
+use Rattle.checker.proofs.LoopLaws.{Going, going-start, going-done, going-ends, going-label, Turn, turn-of, ready-below, shorter-below}
+use Rattle.checker.proofs.LoopLaws.{turn-refused, turn-next, turn-on}
 use Prim.Native.Nat.{ℕ, _+_, _-_, _*_, _<_}
 use borrow.Fn.Kinds.{In}
 use borrow.Fn.PlainCycle.{Measures, is, falls, and}
@@ -54,10 +56,15 @@ abbrev state-below : ℕ → In 5 state-kinds.ps
 state-below t = and 5 state-kinds.ps (falls 5 state-kinds.ps _<_ μ-state t) state.Pre
 
 abbrev branches-with : ℕ → branches-lts.Claims
-branches-with t = (refusal-reads.Asked, refusal-reads.Learnt, run-length-reads.Asked, run-length-reads.Learnt, arity-of-reads.Asked, arity-of-reads.Learnt, spread-reads.Asked, spread-reads.Learnt, state-below t, state.Post)
+branches-with t =
+    (refusal-reads.Asked, refusal-reads.Learnt, run-length-reads.Asked, run-length-reads.Learnt, arity-of-reads.Asked, arity-of-reads.Learnt,
+        spread-reads.Asked, spread-reads.Learnt, state-below t, state.Post)
 
 abbrev state-with : ℕ → state-lts.Claims
-state-with t = (alone-reads.Asked, alone-reads.Learnt, leaf-reads.Asked, leaf-reads.Learnt, refusal-reads.Asked, refusal-reads.Learnt, may-reads.Asked, may-reads.Learnt, close-rows-reads.Asked, close-rows-reads.Learnt, run-count-reads.Asked, run-count-reads.Learnt, branches-below t, branches.Post)
+state-with t =
+    (alone-reads.Asked, alone-reads.Learnt, leaf-reads.Asked, leaf-reads.Learnt, refusal-reads.Asked, refusal-reads.Learnt, may-reads.Asked,
+        may-reads.Learnt, close-rows-reads.Asked, close-rows-reads.Learnt, run-count-reads.Asked, run-count-reads.Learnt, branches-below t,
+        branches.Post)
 
 abbrev branches-Inv-loop : branches-lts.InvT-loop
 branches-Inv-loop table starts masks₀ column₀ plan first end named i k at row₀ place₀ count₀ masks column row place count =
@@ -81,7 +88,10 @@ call-at t c = c .before .before .before .before .before .before .before .before 
 turn : (t : ℕ) (c : At-run t) → let l = turn-at t c .loop in let a = call-at t c .args in
     Turn (a .table .now) (a .starts .now) (a .plan .now) (a .masks .now) (a .column .now) (a .first) (a .end) (a .named) (a .i) (a .k) (a .at)
     (l .masks) (l .column) (l .row) (l .place) (l .count) (c .run-length .result)
-turn t c = turn-of (c .run-length .result) (c .before .before .before .before .before .before .before .before .before .loop .inv) (c .before .before .before .before .before .before .before .before .loop-test .taken) (c .before .before .before .before .before .before .before .if1 .left) (c .before .before .before .before .if2 .left) (c .run-length .ensures)
+turn t c =
+    turn-of (c .run-length .result) (c .before .before .before .before .before .before .before .before .before .loop .inv)
+        (c .before .before .before .before .before .before .before .before .loop-test .taken)
+        (c .before .before .before .before .before .before .before .if1 .left) (c .before .before .before .before .if2 .left) (c .run-length .ensures)
 
 -- the flags below the branch: `spread`'s, which are none where none stand
 abbrev At-flags : ℕ → Type 0
@@ -94,7 +104,10 @@ flags-are t j = ⊎-elim (λ w. w .2 ∙ w .1 .ensures) (λ w. w .1 ∙ sym (non
 abbrev At-state : ℕ → Type 0
 At-state t = branches-lts.After-state (branches-with t) (branches-at t) branches.Post branches-Inv-loop branches-μ-loop
 
-below : (t : ℕ) (s : At-state t) → let c = s .before .before .before .before .before in let l = turn-at t c .loop in let a = call-at t c .args in let z = s .state .last in
+below : (t : ℕ) (s : At-state t) → let c = s .before .before .before .before .before in
+    let l = turn-at t c .loop in
+    let a = call-at t c .args in
+    let z = s .state .last in
     Done (a .table .now) (a .starts .now) (l .masks) (l .column) (z .1 .1 .0) (z .1 .1 .1 .0) (a .plan .now)
     (l .row) (l .row + c .run-length .result) (spreadOf (a .named) (a .i) (arity (getD (l .column) (l .row) 0))) (arity (getD (l .column) (l .row) 0) + a .k)
     (l .place + 1) (s .state .result)
@@ -112,7 +125,8 @@ branches-returns t c = going-ends (c .before .before .before .loop .inv) (c .bef
 branches-mul-label : (t : ℕ) → branches-lts.Need-mul-label (branches-with t) (branches-at t) branches.Post branches-Inv-loop branches-μ-loop
 branches-mul-label t c = search needs
 
-branches-shared-slice-read-label : (t : ℕ) → branches-lts.Need-shared-slice-read-label (branches-with t) (branches-at t) branches.Post branches-Inv-loop branches-μ-loop
+branches-shared-slice-read-label : (t : ℕ) → branches-lts.Need-shared-slice-read-label (branches-with t) (branches-at t) branches.Post
+    branches-Inv-loop branches-μ-loop
 branches-shared-slice-read-label t c = search needs
 
 branches-mul-c : (t : ℕ) → branches-lts.Need-mul-c (branches-with t) (branches-at t) branches.Post branches-Inv-loop branches-μ-loop
@@ -125,7 +139,9 @@ branches-refusal-requires-2 : (t : ℕ) → branches-lts.Need-refusal-requires-2
 branches-refusal-requires-2 t c κs = search needs
 
 branches-returns-2 : (t : ℕ) → branches-lts.Need-returns-2 (branches-with t) (branches-at t) branches.Post branches-Inv-loop branches-μ-loop
-branches-returns-2 t c = going-label (c .before .before .before .before .before .before .loop .inv) (c .before .before .before .before .before .loop-test .taken) (c .before .before .before .before .if1 .left) (c .before .if2 .taken) (c .refusal2 .ensures)
+branches-returns-2 t c =
+    going-label (c .before .before .before .before .before .before .loop .inv) (c .before .before .before .before .before .loop-test .taken)
+        (c .before .before .before .before .if1 .left) (c .before .if2 .taken) (c .refusal2 .ensures)
 
 branches-mul-run-length : (t : ℕ) → branches-lts.Need-mul-run-length (branches-with t) (branches-at t) branches.Post branches-Inv-loop branches-μ-loop
 branches-mul-run-length t c = search needs
@@ -133,7 +149,8 @@ branches-mul-run-length t c = search needs
 branches-sub-run-length : (t : ℕ) → branches-lts.Need-sub-run-length (branches-with t) (branches-at t) branches.Post branches-Inv-loop branches-μ-loop
 branches-sub-run-length t c = search needs
 
-branches-part-run-length-start : (t : ℕ) → branches-lts.Need-part-run-length-start (branches-with t) (branches-at t) branches.Post branches-Inv-loop branches-μ-loop
+branches-part-run-length-start : (t : ℕ) → branches-lts.Need-part-run-length-start (branches-with t) (branches-at t) branches.Post branches-Inv-loop
+    branches-μ-loop
 branches-part-run-length-start t c = search needs
 
 branches-part-run-length-end : (t : ℕ) → branches-lts.Need-part-run-length-end (branches-with t) (branches-at t) branches.Post branches-Inv-loop branches-μ-loop
@@ -158,22 +175,30 @@ branches-add-state : (t : ℕ) → branches-lts.Need-add-state (branches-with t)
 branches-add-state t c = record { fits = omega (arith, ready-below (turn t (c .before .before .before .before)) .room .few) }
 
 branches-state-requires : (t : ℕ) → branches-lts.Need-state-requires (branches-with t) (branches-at t) branches.Post branches-Inv-loop branches-μ-loop
-branches-state-requires t c κs = let w = turn t (c .before .before .before .before) in (omega (arith, shorter-below w), rw (flags-are t (c .before .before), c .before .before .before .arity-of .ensures) (ready-below w))
+branches-state-requires t c κs =
+    let w = turn t (c .before .before .before .before) in
+    (omega (arith, shorter-below w), rw (flags-are t (c .before .before), c .before .before .before .arity-of .ensures) (ready-below w))
 
 branches-enum-known-below : (t : ℕ) → branches-lts.Need-enum-known-below (branches-with t) (branches-at t) branches.Post branches-Inv-loop branches-μ-loop
 branches-enum-known-below t c = search needs
 
 branches-add-count : (t : ℕ) → branches-lts.Need-add-count (branches-with t) (branches-at t) branches.Post branches-Inv-loop branches-μ-loop
-branches-add-count t c = record { fits = omega (arith, turn-next (turn t (c .before .before .before .before .before .before .before .before)) (below t (c .before .before .before)) (c .before .below .given .1)) }
+branches-add-count t c =
+    record { fits = omega (arith, turn-next (turn t (c .before .before .before .before .before .before .before .before))
+        (below t (c .before .before .before)) (c .before .below .given .1)) }
 
 branches-add-count-2 : (t : ℕ) → branches-lts.Need-add-count-2 (branches-with t) (branches-at t) branches.Post branches-Inv-loop branches-μ-loop
-branches-add-count-2 t c = let w = turn t (c .before .before .before .before .before .before .before .before) in record { fits = omega (arith, turn-next w (below t (c .before .before .before)) (c .before .below .given .1), w .going .few) }
+branches-add-count-2 t c =
+    let w = turn t (c .before .before .before .before .before .before .before .before) in
+    record { fits = omega (arith, turn-next w (below t (c .before .before .before)) (c .before .below .given .1), w .going .few) }
 
 branches-enum-known-f : (t : ℕ) → branches-lts.Need-enum-known-f (branches-with t) (branches-at t) branches.Post branches-Inv-loop branches-μ-loop
 branches-enum-known-f t c = search needs
 
 branches-returns-3 : (t : ℕ) → branches-lts.Need-returns-3 (branches-with t) (branches-at t) branches.Post branches-Inv-loop branches-μ-loop
-branches-returns-3 t c = turn-refused (turn t (c .before .before .before .before .before .before .before .before)) (below t (c .before .before .before)) (c .before .f .given .1)
+branches-returns-3 t c =
+    turn-refused (turn t (c .before .before .before .before .before .before .before .before)) (below t (c .before .before .before))
+        (c .before .f .given .1)
 
 branches-add-row : (t : ℕ) → branches-lts.Need-add-row (branches-with t) (branches-at t) branches.Post branches-Inv-loop branches-μ-loop
 branches-add-row t c = record { fits = omega (arith, ready-below (turn t (c .before .before .before .before .before .before .before .before)) .room .few) }
@@ -182,7 +207,9 @@ branches-loop-less : (t : ℕ) → branches-lts.Need-loop-less (branches-with t)
 branches-loop-less t c = omega (arith, turn t (c .before .before .before .before .before .before .before .before) .run .some)
 
 branches-loop-again : (t : ℕ) → branches-lts.Need-loop-again (branches-with t) (branches-at t) branches.Post branches-Inv-loop branches-μ-loop
-branches-loop-again t c = turn-on (turn t (c .before .before .before .before .before .before .before .before)) (below t (c .before .before .before)) (c .before .below .given .1)
+branches-loop-again t c =
+    turn-on (turn t (c .before .before .before .before .before .before .before .before)) (below t (c .before .before .before))
+        (c .before .below .given .1)
 
 branches-returns-4 : (t : ℕ) → branches-lts.Need-returns-4 (branches-with t) (branches-at t) branches.Post branches-Inv-loop branches-μ-loop
 branches-returns-4 t c = going-done (c .before .loop .inv) (c .loop-test .left)
@@ -219,7 +246,9 @@ state-alone-requires : (t : ℕ) → state-lts.Need-alone-requires (state-with t
 state-alone-requires t c κs = fits-alone (c .before .before .before .before .before .before .pre .1) (c .before .before .before .if1 .taken)
 
 state-returns : (t : ℕ) → state-lts.Need-returns (state-with t) (state-at t) state.Post
-state-returns t c = done-alone (c .before .before .before .before .before .before .before .pre .1) (c .before .before .before .before .if1 .taken) (eqb-true _ 0 (c .before .before .before .if2 .taken)) (c .alone .ensures)
+state-returns t c =
+    done-alone (c .before .before .before .before .before .before .before .pre .1) (c .before .before .before .before .if1 .taken)
+        (eqb-true _ 0 (c .before .before .before .if2 .taken)) (c .alone .ensures)
 
 state-leaf-requires : (t : ℕ) → state-lts.Need-leaf-requires (state-with t) (state-at t) state.Post
 state-leaf-requires t c κs = search needs
@@ -246,7 +275,9 @@ state-refusal-requires-2 : (t : ℕ) → state-lts.Need-refusal-requires-2 (stat
 state-refusal-requires-2 t c κs = search needs
 
 state-returns-4 : (t : ℕ) → state-lts.Need-returns-4 (state-with t) (state-at t) state.Post
-state-returns-4 t c = done-open (c .before .before .before .before .before .before .before .before .pre .1) (omega arith) (omega arith) (c .before .if5 .taken) (c .refusal2 .ensures)
+state-returns-4 t c =
+    done-open (c .before .before .before .before .before .before .before .before .pre .1) (omega arith) (omega arith) (c .before .if5 .taken)
+        (c .refusal2 .ensures)
 
 state-may-requires : (t : ℕ) → state-lts.Need-may-requires (state-with t) (state-at t) state.Post
 state-may-requires t c κs = search needs
@@ -257,7 +288,8 @@ state-refusal-requires-3 t c κs = search needs
 state-returns-5 : (t : ℕ) → state-lts.Need-returns-5 (state-with t) (state-at t) state.Post
 state-returns-5 t c =
     let m = c .before .before in
-    done-early (m .before .before .before .before .before .before .before .before .pre .1) (omega arith) (omega arith) (omega arith) (sym (m .may .ensures) ∙ not-true _ (c .before .if6 .taken)) (c .refusal3 .ensures)
+    done-early (m .before .before .before .before .before .before .before .before .pre .1) (omega arith) (omega arith) (omega arith)
+        (sym (m .may .ensures) ∙ not-true _ (c .before .if6 .taken)) (c .refusal3 .ensures)
 
 state-add-next : (t : ℕ) → state-lts.Need-add-next (state-with t) (state-at t) state.Post
 state-add-next t c = search needs
@@ -268,7 +300,8 @@ state-refusal-requires-4 t c κs = search needs
 state-returns-6 : (t : ℕ) → state-lts.Need-returns-6 (state-with t) (state-at t) state.Post
 state-returns-6 t c =
     let r = c .before .before in
-    done-ends-2 (asked t r .pre .1) (omega arith) (omega arith) (chosen t r) (r .close-rows .ensures) (omega arith) (c .before .if7 .taken) (c .refusal4 .ensures)
+    done-ends-2 (asked t r .pre .1) (omega arith) (omega arith) (chosen t r) (r .close-rows .ensures) (omega arith) (c .before .if7 .taken)
+        (c .refusal4 .ensures)
 
 state-close-rows-requires : (t : ℕ) → state-lts.Need-close-rows-requires (state-with t) (state-at t) state.Post
 state-close-rows-requires t c κs = search needs
@@ -280,7 +313,10 @@ state-shared-slice-read-if8 : (t : ℕ) → state-lts.Need-shared-slice-read-if8
 state-shared-slice-read-if8 t c = search needs
 
 state-cast-if8 : (t : ℕ) → state-lts.Need-cast-if8 (state-with t) (state-at t) state.Post
-state-cast-if8 t c = record { fits = omega (arith, c .shared-slice-known4 .given (c .before .before .before .before .before .before .before .before .before .before .before .before .before .before .before .before .args .at + 1)) }
+state-cast-if8 t c =
+    record { fits = omega (arith, c .shared-slice-known4 .given
+        (c .before .before .before .before .before .before .before .before .before .before .before .before .before .before .before .before .args .at +
+        1)) }
 
 state-mul-run-count : (t : ℕ) → state-lts.Need-mul-run-count (state-with t) (state-at t) state.Post
 state-mul-run-count t c = search needs
@@ -304,7 +340,8 @@ state-returns-7 : (t : ℕ) → state-lts.Need-returns-7 (state-with t) (state-a
 state-returns-7 t c =
     let n = c .before .before in
     let r = closed t n in
-    done-edges (asked t r .pre .1) (omega arith) (omega arith) (chosen t r) (r .close-rows .ensures) (n .run-count .result) (omega arith) (n .run-count .ensures) (c .before .if8 .taken) (c .refusal5 .ensures)
+    done-edges (asked t r .pre .1) (omega arith) (omega arith) (chosen t r) (r .close-rows .ensures) (n .run-count .result) (omega arith)
+        (n .run-count .ensures) (c .before .if8 .taken) (c .refusal5 .ensures)
 
 state-sub-branches : (t : ℕ) → state-lts.Need-sub-branches (state-with t) (state-at t) state.Post
 state-sub-branches t c = search needs
@@ -323,7 +360,8 @@ state-returns-8 : (t : ℕ) → state-lts.Need-returns-8 (state-with t) (state-a
 state-returns-8 t c =
     let n = c .before .before .before .before in
     let r = closed t n in
-    done-node (asked t r .pre .1) (omega arith) (omega arith) (chosen t r) (r .close-rows .ensures) (n .run-count .result) (omega arith) (n .run-count .ensures) (c .before .before .before .if8 .left) (c .branches .ensures)
+    done-node (asked t r .pre .1) (omega arith) (omega arith) (chosen t r) (r .close-rows .ensures) (n .run-count .result) (omega arith)
+        (n .run-count .ensures) (c .before .before .before .if8 .left) (c .branches .ensures)
 
 pub +branches+state-spec : {M : Type 1} → statement M
 +branches+state-spec = close μ-branches μ-state (λ t. branches-lts.spec (branches-with t) (branches-at t)

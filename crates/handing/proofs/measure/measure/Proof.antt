@@ -2,7 +2,7 @@ use Prim.Native.Nat.{_-_, _*_, _≤_}
 use native.Mathlib.Omega.{arith}
 use borrow.Author.Needs.{needs}
 use lib.ListN.{length}
-use Rattle.handing.specs.code.Lines.{Written}
+use Rattle.handing.specs.code.Lines.{ProgramWritten}
 use Rattle.handing.proofs.LineLaws.{one-long}
 use Rattle.handing.proofs.WalkLaws.{here, Rest, rest-begins, rest-on, rest-ends}
 use Rattle.handing.proofs.measure.measure.Statement.{statement}
@@ -10,7 +10,7 @@ use Rattle.handing.proofs.measure.measure.Tie as tie
 
 abbrev Inv-loop : tie.InvT-loop
 Inv-loop names program at₀ clauses₀ bytes₀ at clauses bytes =
-    (clauses ≤ at) × (at ≤ length program) × (bytes ≤ 16777216 * clauses) × ((w : Written program) → Rest names program (w .clauses) at clauses bytes)
+    (clauses ≤ at) × (at ≤ length program) × (bytes ≤ 16777216 * clauses) × ((w : ProgramWritten program) → Rest names program (w .clauses) at clauses bytes)
 
 abbrev μ-loop : tie.MeasureT-loop
 μ-loop names program at₀ clauses₀ bytes₀ at clauses bytes = length program - at

@@ -3,14 +3,15 @@ use Prim.Native.Nat.{_-_, _≤_}
 use native.Mathlib.Omega.{arith}
 use borrow.Author.Needs.{needs}
 use lib.ListN.{length}
-use Rattle.handing.specs.code.Lines.{Written}
+use Rattle.handing.specs.code.Lines.{ProgramWritten}
 use Rattle.handing.proofs.LineLaws.{one-long}
 use Rattle.handing.proofs.WalkLaws.{here, Puts, puts-begins, puts-on, puts-end}
 use Rattle.handing.proofs.text.put_program.Statement.{statement}
 use Rattle.handing.proofs.text.put_program.Tie as tie
 
 abbrev Inv-loop : tie.InvT-loop
-Inv-loop out₀ text names program on₀ at₀ out on at = (at ≤ length program) × ((w : Written program) → Puts text names program (w .clauses) at out₀ out on)
+Inv-loop out₀ text names program on₀ at₀ out on at =
+    (at ≤ length program) × ((w : ProgramWritten program) → Puts text names program (w .clauses) at out₀ out on)
 
 abbrev μ-loop : tie.MeasureT-loop
 μ-loop out₀ text names program on₀ at₀ out on at = length program - at

@@ -6,7 +6,8 @@ use borrow.Author.Tests.{not-true, not-false}
 use lib.ListN.{length, getD, drop}
 use Rattle.grammar.specs.Reader.{limit, digits, Work, run}
 use Rattle.lex.specs.Turns.{numberFrom}
-use Rattle.lex.proofs.ByteLaws.{on-go, on-dead, in-digits, digits-over, digits-end-at, digits-end-text, digit-least, limit-most, number-ended, number-ends, number-over, number-digit}
+use Rattle.lex.proofs.ByteLaws.{on-go, on-dead, in-digits, digits-over, digits-end-at, digits-end-text, digit-least, limit-most, number-ended}
+use Rattle.lex.proofs.ByteLaws.{number-ends, number-over, number-digit}
 use Rattle.lex.proofs.TurnLaws.{number-done}
 use Rattle.lex.proofs.turn.number_from.Statement.{statement}
 use Rattle.lex.proofs.turn.number_from.Tie as tie
@@ -113,7 +114,8 @@ loop-again c =
       omega arith,
       l,
       λ w.
-          sym (on-go t i (omega arith) (digits (a .minus) v) (digits (a .minus) (10 * v + (getD t i 0 - 48))) w w (in-digits (a .minus) v w i (getD t i 0) d (omega (arith, e, l)))
+          sym (on-go t i (omega arith) (digits (a .minus) v) (digits (a .minus) (10 * v + (getD t i 0 - 48))) w w
+              (in-digits (a .minus) v w i (getD t i 0) d (omega (arith, e, l)))
           ∙ ap (λ (x : ℕ). run (drop (i + 1) t) (digits (a .minus) x) w (i + 1)) e)
           ∙ o .loop .inv .3 w,
       sym (number-digit t i (a .minus) v (omega arith) d e l) ∙ o .loop .inv .4,

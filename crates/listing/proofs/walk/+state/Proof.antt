@@ -8,7 +8,7 @@ use borrow.Author.Needs.{needs}
 use lib.Dec.{eqb}
 use lib.ListN.{length, getD}
 use Rattle.cell.specs.Cell.{arity}
-use Rattle.plan.specs.Notes.{skipIn, rowIn}
+use Rattle.plan.specs.Notes.{skipIn, rowNoted}
 use Rattle.octets.proofs.PutLaws.{put-length}
 use Rattle.listing.specs.code.Walk.{Ready}
 use Rattle.listing.proofs.WalkLaws.{stand, leaf-inside, leaf-walked, Left, enters-inside, enters, none-left, Goes, numbered, goes}
@@ -65,7 +65,8 @@ abbrev μ-loop : state-lts.MeasureT-loop
 
 -- where a state has an open place, its first two cells are inside the plan
 inner : (t : ℕ) (c : state-lts.Else1 (with t) (state-at t) state.Post Inv-loop μ-loop)
-    → (c .before .before .before .args .from .at + 1 < length (c .before .before .before .args .plan .now)) × (length (c .before .before .before .args .plan .now) ≤ mostPlanCells)
+    → (c .before .before .before .args .from .at + 1 < length (c .before .before .before .args .plan .now))
+        × (length (c .before .before .before .args .plan .now) ≤ mostPlanCells)
 inner t c = let w = c .before .before .before .pre .1 in (enters-inside w (omega arith), w .size)
 
 -- where a branch is left
@@ -81,10 +82,10 @@ module _ (t : ℕ) (c : state-lts.In-loop (with t) (state-at t) state.Post Inv-l
 
   -- its first row, and the row after its last
   abbrev its-row : ℕ
-  its-row = rowIn (getD noted number 0)
+  its-row = rowNoted (getD noted number 0)
 
   abbrev its-end : ℕ
-  its-end = cond (eqb (c .before .loop .left) 1) (entry .args .stop) (rowIn (getD noted (number + 1 + skipIn (getD noted number 0)) 0))
+  its-end = cond (eqb (c .before .loop .left) 1) (entry .args .stop) (rowNoted (getD noted (number + 1 + skipIn (getD noted number 0)) 0))
 
   -- what is known of it
   turn : Goes (c .before .loop .inv (entry .pre .1)) its-row its-end (arity (getD (entry .args .plan .now) (c .before .loop .here .at) 0))
@@ -104,11 +105,13 @@ module _ (t : ℕ) (c : state-lts.After-wide (with t) (state-at t) state.Post In
   after-read : c .before .before .before .row-after .result ≡ its-end t stands
   after-read =
       let a = c .before .before .before in
-      a .row-after .ensures ∙ ap (λ (s : ℕ). cond (eqb (stands .before .loop .left) 1) (entry t stands .args .stop) (rowIn (getD (noted t stands) (number t stands + 1 + s) 0)))
+      a .row-after .ensures ∙ ap (λ (s : ℕ). cond (eqb (stands .before .loop .left) 1) (entry t stands .args .stop)
+          (rowNoted (getD (noted t stands) (number t stands + 1 + s) 0)))
       (a .before .skip-of .ensures)
 
 -- with its number of arguments
-abbrev lined : (t : ℕ) → state-lts.After-arity-of (with t) (state-at t) state.Post Inv-loop μ-loop → state-lts.After-wide (with t) (state-at t) state.Post Inv-loop μ-loop
+abbrev lined : (t : ℕ) → state-lts.After-arity-of (with t) (state-at t) state.Post Inv-loop μ-loop
+    → state-lts.After-wide (with t) (state-at t) state.Post Inv-loop μ-loop
 lined t c = c .before .before .before .before
 
 branch : (t : ℕ) (c : state-lts.After-arity-of (with t) (state-at t) state.Post Inv-loop μ-loop)

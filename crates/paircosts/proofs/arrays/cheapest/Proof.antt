@@ -3,14 +3,14 @@ use mathlib.Core.Logic.{⊎-elim}
 use Prim.Native.Nat.{_-_, _<_}
 use native.Mathlib.Omega.{arith}
 use Rattle.paircosts.specs.code.Reading.{foundOf, Range}
-use Rattle.paircosts.specs.code.Filling.{rowOf}
+use Rattle.paircosts.specs.code.Filling.{pairRow}
 use Rattle.paircosts.proofs.ReadLaws.{CheapAt, cheap-start, cheap-end, turn-open, turn-closed, turn-asks}
 use Rattle.paircosts.proofs.arrays.cheapest.Statement.{statement}
 use Rattle.paircosts.proofs.arrays.cheapest.Tie as tie
 
 abbrev Inv-loop : tie.InvT-loop
 Inv-loop marks kept notes base number stop best₀ place₀ q₀ best place q =
-    (g : Range marks kept notes (rowOf number q₀ stop) base (foundOf best₀ place₀)) → CheapAt g best place q
+    (g : Range marks kept notes (pairRow number q₀ stop) base (foundOf best₀ place₀)) → CheapAt g best place q
 
 abbrev μ-loop : tie.MeasureT-loop
 μ-loop marks kept notes base number stop best₀ place₀ q₀ best place q = stop - q

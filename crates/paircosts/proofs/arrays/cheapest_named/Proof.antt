@@ -3,14 +3,14 @@ use mathlib.Core.Logic.{⊎-elim}
 use Prim.Native.Nat.{_-_, _%_}
 use native.Mathlib.Omega.{arith}
 use Rattle.paircosts.specs.code.Reading.{Inside}
-use Rattle.paircosts.specs.code.Filling.{rowOf}
+use Rattle.paircosts.specs.code.Filling.{pairRow}
 use Rattle.paircosts.proofs.ReadLaws.{NamedAt, named-start, named-end, column-on, column-range, column-read, column-passed}
 use Rattle.paircosts.proofs.arrays.cheapest_named.Statement.{statement}
 use Rattle.paircosts.proofs.arrays.cheapest_named.Tie as tie
 
 abbrev Inv-loop : tie.InvT-loop
 Inv-loop marks kept notes base named number stop found₀ rest₀ start₀ found rest start =
-    (g : Inside marks kept notes (rowOf number start₀ stop) base named) → NamedAt g found rest start
+    (g : Inside marks kept notes (pairRow number start₀ stop) base named) → NamedAt g found rest start
 
 abbrev μ-loop : tie.MeasureT-loop
 μ-loop marks kept notes base named number stop found₀ rest₀ start₀ found rest start = stop - start

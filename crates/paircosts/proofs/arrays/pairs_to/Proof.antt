@@ -27,7 +27,8 @@ module _ (c : tie.After-note-last Inv-loop μ-loop) where
   abbrev start : tie.Start Inv-loop μ-loop
   start = c .before .before .before .before
 
-  row-noted : (g : Given start) → NotedTo (g .task) (suc (start .args .row .number)) (start .args .row .number) (start .args .row) (c .note-last .last .1 .1 .0) (start .args .kept .now)
+  row-noted : (g : Given start) → NotedTo (g .task) (suc (start .args .row .number)) (start .args .row .number) (start .args .row)
+      (c .note-last .last .1 .1 .0) (start .args .kept .now)
       (c .note-last .result)
   row-noted g =
       last-noted (g .task) (g .here) (g .late) (g .filled) (length-replicate {A = ℕ} 192 0)
@@ -38,7 +39,8 @@ module _ (c : tie.After-keep-before Inv-loop μ-loop) where
   abbrev noted : tie.After-note-last Inv-loop μ-loop
   noted = c .before .before .before
 
-  row-kept : (g : Given (start noted)) → NotedTo (g .task) (start noted .args .row .number) (start noted .args .row .number) (start noted .args .row) (noted .note-last .last .1 .1 .0)
+  row-kept : (g : Given (start noted)) → NotedTo (g .task) (start noted .args .row .number) (start noted .args .row .number) (start noted .args .row)
+      (noted .note-last .last .1 .1 .0)
       (c .keep-before .last .1 .0) (noted .note-last .result)
   row-kept g = pair-kept (g .task) (row-noted noted g) (c .keep-before .ensures (pair-at (g .task) (row-noted noted g)))
 

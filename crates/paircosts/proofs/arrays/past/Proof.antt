@@ -55,7 +55,8 @@ loop-again c =
     let l = loop c in
     let s = begin l .args .cells .now in
     let e = passed c in (
-      ap (λ (q : ℕ). pastOf s (l .loop .left - 1) q) e ∙ past-more s (l .loop .left) (l .loop .at) (c .before .before .before .loop-test .taken) ∙ l .loop .inv .0,
+      ap (λ (q : ℕ). pastOf s (l .loop .left - 1) q) e ∙ past-more s (l .loop .left) (l .loop .at) (c .before .before .before .loop-test .taken)
+          ∙ l .loop .inv .0,
       omega (arith, e, l .loop .inv .1),
       omega (arith, e, past-in s 1 (l .loop .at) (l .loop .inv .2)),
     )

@@ -52,7 +52,8 @@ module _ (k : tie.After-kind Inv-loop μ-loop) where
   abbrev turn : tie.At-loop Inv-loop μ-loop
   turn = ends .before .before
 
-  abbrev asked : Ending (turn .before .before .args .notes .now) (turn .before .before .args .from) (turn .before .before .args .to) (turn .before .before .args .past)
+  abbrev asked : Ending (turn .before .before .args .notes .now) (turn .before .before .args .from) (turn .before .before .args .to)
+      (turn .before .before .args .past)
   asked = turn .before .before .pre
 
 cast-meet : tie.Need-cast-meet Inv-loop μ-loop
@@ -88,7 +89,8 @@ loop-again : tie.Need-loop-again Inv-loop μ-loop
 loop-again c =
     let k = c .before .before .before in
     let v = kind-var _ (k .kind .result) (k .kind .ensures) (omega (arith, c .before .before .match .keys1)) in
-    finish-variable (asked k) (turn k .loop .inv) (omega arith) (k .before .cell-of .ensures) v (ends k .end .ensures) (c .meet .ensures .0) (c .meet .ensures .1)
+    finish-variable (asked k) (turn k .loop .inv) (omega arith) (k .before .cell-of .ensures) v (ends k .end .ensures) (c .meet .ensures .0)
+        (c .meet .ensures .1)
 
 add-notes-3 : tie.Need-add-notes-3 Inv-loop μ-loop
 add-notes-3 c =

@@ -30,7 +30,8 @@ element-write-links : tie.Need-element-write-links
 element-write-links c = before-small (c .before .before .before .before .before .before .pre) _ (c .before .before .before .before .hop .ensures)
 
 element-write-links-2 : tie.Need-element-write-links-2
-element-write-links-2 c = last-fits (c .before .before .before .before .before .before .pre) _ (c .before .before .before .before .hop .ensures) _ (c .last-new .ensures)
+element-write-links-2 c =
+    last-fits (c .before .before .before .before .before .before .pre) _ (c .before .before .before .before .hop .ensures) _ (c .last-new .ensures)
 
 returns : tie.Need-returns
 returns c = λ w. closed w _ (c .before .before .before .before .hop .ensures) _ (c .last-new .ensures) _ (c .before .before .wide .ensures)

@@ -4,7 +4,8 @@ use native.Mathlib.Omega.{arith}
 use borrow.Author.Needs.{needs}
 use lib.ListN.{length, getD}
 use Rattle.plannotes.specs.code.Tree.{Ready, ReadyAt, Went}
-use Rattle.plannotes.proofs.TreeLaws.{state-bounds, branch-bounds, leaf-read, leaf-done, inside, met, arity-is, Rest, all-left, none-left, first-left, branch-falls, state-falls}
+use Rattle.plannotes.proofs.TreeLaws.{state-bounds, branch-bounds, leaf-read, leaf-done, inside, met, arity-is, Rest, all-left, none-left}
+use Rattle.plannotes.proofs.TreeLaws.{first-left, branch-falls, state-falls}
 use Rattle.plannotes.proofs.ChainLaws.{under, went, ending, branch-done}
 use borrow.Fn.Kinds.{In}
 use borrow.Fn.PlainCycle.{Measures, is, falls, and}
@@ -39,7 +40,9 @@ abbrev state-below : ℕ → In 3 state-kinds.ps
 state-below t = and 3 state-kinds.ps (falls 3 state-kinds.ps _<_ μ-state t) state.Pre
 
 abbrev branch-with : ℕ → branch-lts.Claims
-branch-with t = (begin-reads.Asked, begin-reads.Learnt, follow-reads.Asked, follow-reads.Learnt, state-below t, state.Post, finish-reads.Asked, finish-reads.Learnt)
+branch-with t =
+    (begin-reads.Asked, begin-reads.Learnt, follow-reads.Asked, follow-reads.Learnt, state-below t, state.Post, finish-reads.Asked,
+        finish-reads.Learnt)
 
 abbrev state-with : ℕ → state-lts.Claims
 state-with t = (branch-below t, branch.Post)

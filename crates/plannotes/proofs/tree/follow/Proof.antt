@@ -30,11 +30,13 @@ abbrev Turn : Type 0
 Turn = lts.Then1 with reads.Pre reads.Post Inv-loop μ-loop
 
 -- the state that is reached, and its only branch
-reached : (c : Loop) → Ready (c .before .before .before .args .plan .now) (c .loop .links) (c .loop .notes) (c .loop .here) (c .loop .k) (c .loop .next) (c .loop .slot)
+reached : (c : Loop) → Ready (c .before .before .before .args .plan .now) (c .loop .links) (c .loop .notes) (c .loop .here) (c .loop .k)
+    (c .loop .next) (c .loop .slot)
     (c .before .before .before .args .row)
 reached c = c .loop .inv (c .before .before .before .pre) .lower
 
-is-single : (c : Turn) → (0 < c .before .before .loop .k) × (getD (c .before .before .before .before .before .args .plan .now) (c .before .before .loop .here + 1) 0 ≡ 1)
+is-single : (c : Turn) → (0 < c .before .before .loop .k)
+    × (getD (c .before .before .before .before .before .args .plan .now) (c .before .before .loop .here + 1) 0 ≡ 1)
 is-single c = single-is _ _ _ (c .before .single .ensures) (c .if1 .taken)
 
 its-branch : (c : Turn) → let l = c .before .before .loop in let plan = c .before .before .before .before .before .args .plan .now in

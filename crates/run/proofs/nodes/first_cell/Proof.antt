@@ -16,10 +16,16 @@ element-write-first : tie.Need-element-write-first
 element-write-first c = search needs
 
 returns : tie.Need-returns
-returns c = let a = c .before .before .args in let e = first-none (a .first .now) (a .v) (a .p) (c .if1 .taken) in (sym e, ap (set (a .first .now) (a .v)) (sym e))
+returns c =
+    let a = c .before .before .args in
+    let e = first-none (a .first .now) (a .v) (a .p) (c .if1 .taken) in
+    (sym e, ap (set (a .first .now) (a .v)) (sym e))
 
 returns-2 : tie.Need-returns-2
-returns-2 c = let a = c .before .before .args in let e = first-some (a .first .now) (a .v) (a .p) (c .if1 .left) in (sym e, sym (ap (set (a .first .now) (a .v)) e ∙ set-getD (a .first .now) (a .v) 0))
+returns-2 c =
+    let a = c .before .before .args in
+    let e = first-some (a .first .now) (a .v) (a .p) (c .if1 .left) in
+    (sym e, sym (ap (set (a .first .now) (a .v)) e ∙ set-getD (a .first .now) (a .v) 0))
 
 pub first-cell-spec : {M : Type 1} → statement M
 first-cell-spec =

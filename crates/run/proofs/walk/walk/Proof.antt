@@ -9,7 +9,7 @@ use lib.Seq.{sets}
 use Rattle.term.specs.Unify.{renamed}
 use Rattle.answer.proofs.AcceptedLaws.{goal-head}
 use Rattle.table.specs.Table.{upFrom}
-use Rattle.plan.specs.Notes.{skipIn, rowIn}
+use Rattle.plan.specs.Notes.{skipIn, rowNoted}
 use Rattle.walking.specs.code.Link.{Tables}
 use Rattle.walking.specs.code.Walk.{Begun}
 use Rattle.walking.proofs.StartLaws.{whole, tables, arguments}
@@ -165,7 +165,7 @@ module _ (c : tie.After-wide Inv-loop μ-loop) where
   abbrev done : tie.After-alone-of Inv-loop μ-loop
   done = its (ran .before)
 
-  row-read : c .wide .result ≡ rowIn (Word done)
+  row-read : c .wide .result ≡ rowNoted (Word done)
   row-read = c .wide .ensures ∙ c .before .row-of .ensures
 
   -- the walk goes on, once the hit is put

@@ -4,14 +4,14 @@ use native.Mathlib.Omega.{arith}
 use borrow.Author.Needs.{needs}
 use lib.ListN.{length}
 use Rattle.scan.specs.declared.arguments.Spot.{Spot}
-use Rattle.scan.specs.code.Arguments.{Ready, Under, argumentsAt}
+use Rattle.scan.specs.code.Arguments.{Ready, UnderSpot, argumentsAt}
 use Rattle.scan.proofs.MoveLaws.{none-yet, moves-is}
 use Rattle.scan.proofs.arguments.read_arguments.Statement.{statement}
 use Rattle.scan.proofs.arguments.read_arguments.Tie as tie
 
 abbrev Inv-loop : tie.InvT-loop
 Inv-loop text at dones₀ sp₀ dones sp =
-    (at ≤ sp .at) × Ready text dones sp × Under (argumentsAt text at) text dones sp × (length dones ≡ length dones₀)
+    (at ≤ sp .at) × Ready text dones sp × UnderSpot (argumentsAt text at) text dones sp × (length dones ≡ length dones₀)
 
 abbrev μ-loop : tie.MeasureT-loop
 μ-loop text at dones₀ sp₀ dones sp = length text - sp .at

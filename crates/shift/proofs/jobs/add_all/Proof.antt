@@ -4,14 +4,14 @@ use mathlib.Core.List.{List}
 use native.Mathlib.Omega.{arith}
 use borrow.Author.Needs.{needs}
 use lib.ListN.{length}
-use Rattle.plannotes.specs.Noted.{Handed}
+use Rattle.plannotes.specs.Noted.{NotedInto}
 use Rattle.shift.proofs.TotalLaws.{Rest, rest-all, rest-on, rest-none}
 use Rattle.shift.proofs.jobs.add_all.Statement.{statement}
 use Rattle.shift.proofs.jobs.add_all.Tie as tie
 
 abbrev Inv-loop : tie.InvT-loop
 Inv-loop numbers noted cells list tried₀ i₀ tried i =
-    (i ≤ length list) × (tried < 2 ^ 64) × ((table plan before : List ℕ) → Handed table plan before numbers noted → Rest table plan cells list i tried)
+    (i ≤ length list) × (tried < 2 ^ 64) × ((table plan before : List ℕ) → NotedInto table plan before numbers noted → Rest table plan cells list i tried)
 
 abbrev μ-loop : tie.MeasureT-loop
 μ-loop numbers noted cells list tried₀ i₀ tried i = length list - i
@@ -55,7 +55,8 @@ loop-again c =
       omega arith,
       omega (arith, c .plus .ensures),
       λ table plan before h. (let o = l .inv .2 table plan before h in
-          subst (Rest table plan _ _ (l .i + 2)) (sym (c .plus .ensures)) (rest-on (omega arith) (omega arith) (c .before .ask-one .ensures table plan before h) o)),
+          subst (Rest table plan _ _ (l .i + 2)) (sym (c .plus .ensures))
+              (rest-on (omega arith) (omega arith) (c .before .ask-one .ensures table plan before h) o)),
     )
 
 returns : tie.Need-returns Inv-loop μ-loop

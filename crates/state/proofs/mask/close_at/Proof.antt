@@ -10,7 +10,8 @@ use Rattle.state.proofs.mask.close_at.Statement.{statement}
 use Rattle.state.proofs.mask.close_at.Tie as tie
 
 -- where the bit is below 32, the cell is there
-there : (c : tie.Then1) → Open (c .before .before .before .args .i) (c .before .before .before .args .mask) (drop (c .before .before .before .args .start) (c .before .before .before .args .cells .now)) (c .before .root-at .result)
+there : (c : tie.Then1) → Open (c .before .before .before .args .i) (c .before .before .before .args .mask)
+    (drop (c .before .before .before .args .start) (c .before .before .before .args .cells .now)) (c .before .root-at .result)
 there c =
     let a = c .before .before .before .args in
     found (a .i) (a .mask) (drop (a .start) (a .cells .now)) (c .before .root-at .result) (c .before .root-at .ensures) (omega arith)

@@ -13,7 +13,8 @@ use Rattle.state.proofs.mask.root_at.Tie as tie
 
 abbrev Inv-loop : tie.InvT-loop
 Inv-loop cells start mask i left₀ bit₀ owed₀ left bit owed =
-    (start + bit ≤ length cells) × (left < 2 ^ 32) × (owed < 2 ^ 32 + 4 * bit) × (bitFrom bit owed left (drop (start + bit) cells) ≡ bitAt i mask (drop start cells))
+    (start + bit ≤ length cells) × (left < 2 ^ 32) × (owed < 2 ^ 32 + 4 * bit)
+        × (bitFrom bit owed left (drop (start + bit) cells) ≡ bitAt i mask (drop start cells))
 
 abbrev μ-loop : tie.MeasureT-loop
 μ-loop cells start mask i left₀ bit₀ owed₀ left bit owed = left
@@ -80,7 +81,8 @@ loop-again c =
       omega arith,
       omega (arith, div-le-self (l .left) (2 ^ trailingZeros 32 (l .left))),
       omega (arith, arity-small (getD (a .cells .now) at 0)),
-      rw (c .arity-of .ensures) (sym (bit-more (a .cells .now) (a .start) (l .bit) (l .owed) (l .left) (omega arith) (omega arith) (omega arith) (omega arith)) ∙ l .inv .3),
+      rw (c .arity-of .ensures) (sym (bit-more (a .cells .now) (a .start) (l .bit) (l .owed) (l .left) (omega arith) (omega arith) (omega arith)
+          (omega arith)) ∙ l .inv .3),
     )
 
 returns-4 : tie.Need-returns-4 Inv-loop μ-loop

@@ -3,7 +3,7 @@ use mathlib.Core.Logic.{⊎-elim}
 use Prim.Native.Nat.{_-_, _/_, _%_, _^_}
 use native.Mathlib.Numerals.{add-one}
 use native.Mathlib.Omega.{arith}
-use Rattle.cell.specs.Cell.{values, refused, valuesAt}
+use Rattle.cell.specs.Cell.{values, noValues, valuesAt}
 use Rattle.refusal.specs.Read.{read, refuse}
 use Rattle.table.proofs.LooksLaws.{high-name, high-variable, high-number, high-none, args-are}
 use Rattle.table.proofs.LooksLaws.{not-cell, a-name, a-number, fresh, new, again}
@@ -18,7 +18,7 @@ name c = high-name _ (omega arith) (omega arith)
 variable : (c : tie.At-match-keys1) → let x = c .before .before .args .c in valuesAt x ≡ values 0 0 x
 variable c = high-variable _ (omega arith)
 
-none : (c : tie.At-match-rest) → valuesAt (c .before .before .args .c) ≡ refused
+none : (c : tie.At-match-rest) → valuesAt (c .before .before .args .c) ≡ noValues
 none c =
     high-none _ (λ e. c .match .rest .0 .1 (omega arith)) (λ l h. ⊎-elim (λ w. omega arith) (λ w. omega arith) (c .before .if1 .came))
     (λ e. c .match .rest .1 (omega arith))

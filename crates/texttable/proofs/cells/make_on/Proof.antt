@@ -4,7 +4,8 @@ use Rattle.lex.specs.Turns.{Turns}
 use Rattle.lex.specs.declared.turn.Turn.{Turn}
 use Rattle.symbols.proofs.NextLaws.{turn-is}
 use Rattle.texttable.proofs.MakeLaws.{name-fits, name-low, name-made, open-fits, open-deep, open-made, variable-fits, variable-low, variable-made}
-use Rattle.texttable.proofs.MakeLaws.{number-fits, number-low, number-made, argument-fits, comma-outer, comma-inner, close-inner, close-outer, never-stops}
+use Rattle.texttable.proofs.MakeLaws.{number-fits, number-low, number-made, argument-fits, comma-outer, comma-inner, close-inner, close-outer}
+use Rattle.texttable.proofs.MakeLaws.{never-stops}
 use borrow.Author.Needs.{needs}
 use Rattle.texttable.proofs.cells.make_on.Statement.{statement}
 use Rattle.texttable.proofs.cells.make_on.Tie as tie

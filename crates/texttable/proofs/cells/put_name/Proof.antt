@@ -2,7 +2,7 @@ use mathlib.Core.Path.{ap, subst, _∙_}
 use native.Mathlib.Omega.{arith}
 use lib.ListN.{set}
 use Rattle.cell.specs.Cell.{nameCell}
-use Rattle.texttable.specs.code.Tree.{Met}
+use Rattle.texttable.specs.code.Tree.{WordMet}
 use Rattle.texttable.specs.code.Cells.{put-new, put-old}
 use Rattle.texttable.proofs.NumberLaws.{met-low}
 use borrow.Author.Needs.{needs}
@@ -46,7 +46,7 @@ returns : tie.Need-returns
 returns c =
     let a = c .before .before .before .before .before .before .before .before .before .before .before .before .before .args in
     let m = c .before .before .before .before .before .before .meet in
-    put-new (subst (Met (a .text .now) (a .list .now) (a .links .now) (a .names) (a .start) (a .end) (m .last .1 .0) (m .last .1 .1 .0))
+    put-new (subst (WordMet (a .text .now) (a .list .now) (a .links .now) (a .names) (a .start) (a .end) (m .last .1 .0) (m .last .1 .1 .0))
     (c .if1 .taken) (m .ensures))
     (ap (set (a .cells .now) (a .count)) (c .before .name .ensures ∙ ap (nameCell 0) (c .if1 .taken)))
 

@@ -47,7 +47,8 @@ returns : tie.Need-returns Inv-loop μ-loop
 returns c =
     let l = c .before .before .before .before .loop in
     let b = c .before .before .before .count-batch in
-    λ facts e. all-counted (c .before .before .before .before .before .before .before .args .text .now) (l .at) (l .total) (b .result) facts (b .ensures) (not-true (b .result .more) (c .if1 .taken)) (l .inv .2 facts e)
+    λ facts e. all-counted (c .before .before .before .before .before .before .before .args .text .now) (l .at) (l .total) (b .result) facts
+        (b .ensures) (not-true (b .result .more) (c .if1 .taken)) (l .inv .2 facts e)
 
 loop-less : tie.Need-loop-less Inv-loop μ-loop
 loop-less c =
@@ -61,7 +62,8 @@ loop-again c =
     let b = c .before .before .before .before .count-batch in (
       omega (arith, b .ensures .on, l .inv .0),
       b .ensures .within (l .inv .1),
-      λ facts e. batch-counted (c .before .before .before .before .before .before .before .before .args .text .now) (l .at) (l .total) (b .result) facts (b .ensures) (l .inv .2 facts e),
+      λ facts e. batch-counted (c .before .before .before .before .before .before .before .before .args .text .now) (l .at) (l .total) (b .result)
+          facts (b .ensures) (l .inv .2 facts e),
     )
 
 pub count-names-spec : {M : Type 1} → statement M

@@ -66,7 +66,8 @@ loop-less c =
     let l = c .before .before .before .before .before .before .before .before .before .before .before .before .before .loop in
     let st = c .before .before .before .before .before .before .before .before .before .before .before .before .before .before .before .before .before .args in
     let x = c .before .before .before .before .before .before .before .before .before .s .given in
-    let A = name-is (st .text .now) (l .to) (c .before .before .before .before .before .before .before .before .before .before .before .next-name .ensures) (x .1) in
+    let A = name-is (st .text .now) (l .to) (c .before .before .before .before .before .before .before .before .before .before .before .next-name
+        .ensures) (x .1) in
     omega (arith, A .0, A .1, A .2, A .3)
 
 loop-again : tie.Need-loop-again Inv-loop μ-loop
@@ -74,15 +75,19 @@ loop-again c =
     let l = c .before .before .before .before .before .before .before .before .before .before .before .before .before .loop in
     let st = c .before .before .before .before .before .before .before .before .before .before .before .before .before .before .before .before .before .args in
     let x = c .before .before .before .before .before .before .before .before .before .s .given in
-    let A = name-is (st .text .now) (l .to) (c .before .before .before .before .before .before .before .before .before .before .before .next-name .ensures) (x .1) in
-    (search needs, search needs, search needs, name-grown (st .text .now) (st .from) (l .list) (l .links) _ _ (l .count) (l .to) (x .0 .1 .1 .0) (x .0 .0) (x .0 .1 .0) (c .before .before .before .before .before .meet .result) (l .inv .3) A (omega arith) (c .before .before .before .before .before .meet .ensures) (c .if1 .taken))
+    let A = name-is (st .text .now) (l .to) (c .before .before .before .before .before .before .before .before .before .before .before .next-name
+        .ensures) (x .1) in
+    (search needs, search needs, search needs, name-grown (st .text .now) (st .from) (l .list) (l .links) _ _ (l .count) (l .to) (x .0 .1 .1 .0)
+        (x .0 .0) (x .0 .1 .0) (c .before .before .before .before .before .meet .result) (l .inv .3) A (omega arith)
+        (c .before .before .before .before .before .meet .ensures) (c .if1 .taken))
 
 loop-less-2 : tie.Need-loop-less-2 Inv-loop μ-loop
 loop-less-2 c =
     let l = c .before .before .before .before .before .before .before .before .before .before .before .before .before .loop in
     let st = c .before .before .before .before .before .before .before .before .before .before .before .before .before .before .before .before .before .args in
     let x = c .before .before .before .before .before .before .before .before .before .s .given in
-    let A = name-is (st .text .now) (l .to) (c .before .before .before .before .before .before .before .before .before .before .before .next-name .ensures) (x .1) in
+    let A = name-is (st .text .now) (l .to) (c .before .before .before .before .before .before .before .before .before .before .before .next-name
+        .ensures) (x .1) in
     omega (arith, A .0, A .1, A .2, A .3)
 
 loop-again-2 : tie.Need-loop-again-2 Inv-loop μ-loop
@@ -90,8 +95,11 @@ loop-again-2 c =
     let l = c .before .before .before .before .before .before .before .before .before .before .before .before .before .loop in
     let st = c .before .before .before .before .before .before .before .before .before .before .before .before .before .before .before .before .before .args in
     let x = c .before .before .before .before .before .before .before .before .before .s .given in
-    let A = name-is (st .text .now) (l .to) (c .before .before .before .before .before .before .before .before .before .before .before .next-name .ensures) (x .1) in
-    (search needs, search needs, search needs, name-stayed (st .text .now) (st .from) (l .list) (l .links) _ _ (l .count) (l .to) (x .0 .1 .1 .0) (x .0 .0) (x .0 .1 .0) (c .before .before .before .before .before .meet .result) (l .inv .3) A (omega arith) (c .before .before .before .before .before .meet .ensures) (c .if1 .left))
+    let A = name-is (st .text .now) (l .to) (c .before .before .before .before .before .before .before .before .before .before .before .next-name
+        .ensures) (x .1) in
+    (search needs, search needs, search needs, name-stayed (st .text .now) (st .from) (l .list) (l .links) _ _ (l .count) (l .to) (x .0 .1 .1 .0)
+        (x .0 .0) (x .0 .1 .0) (c .before .before .before .before .before .meet .result) (l .inv .3) A (omega arith)
+        (c .before .before .before .before .before .meet .ensures) (c .if1 .left))
 
 same-length-3 : tie.Need-same-length-3 Inv-loop μ-loop
 same-length-3 c = search needs

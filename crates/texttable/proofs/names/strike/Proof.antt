@@ -81,7 +81,8 @@ slice-write-marks c =
     let t = st .text .now in
     let x = c .before .before .before .before .before .before .s .given in
     let A = name-is t (l .at) (c .before .before .before .before .before .before .before .before .next-name .ensures) (x .1) in
-    let f = found-listed t (st .list .now) (st .links .now) (part t (x .0 .0) (x .0 .1 .0)) (st .count) (c .before .before .before .find .ensures) (c .before .j .given .1) in
+    let f = found-listed t (st .list .now) (st .links .now) (part t (x .0 .0) (x .0 .1 .0)) (st .count) (c .before .before .before .find .ensures)
+        (c .before .j .given .1) in
     omega (arith, f .0, l .inv .0)
 
 enum-told : tie.Need-enum-told Inv-loop μ-loop
@@ -103,7 +104,8 @@ loop-again c =
     let t = st .text .now in
     let x = c .before .before .before .before .before .before .s .given in
     let A = name-is t (l .at) (c .before .before .before .before .before .before .before .before .next-name .ensures) (x .1) in
-    let f = found-listed t (st .list .now) (st .links .now) (part t (x .0 .0) (x .0 .1 .0)) (st .count) (c .before .before .before .find .ensures) (c .before .j .given .1) in
+    let f = found-listed t (st .list .now) (st .links .now) (part t (x .0 .0) (x .0 .1 .0)) (st .count) (c .before .before .before .find .ensures)
+        (c .before .j .given .1) in
     let e = f .1 ∙ part-is t (x .0 .0) (x .0 .1 .0) (omega (arith, A .1)) (omega (arith, A .2, A .3)) in (
       search needs,
       λ ns rest rest₀ n S L k. (
@@ -112,7 +114,9 @@ loop-again c =
           record {
             rest = M .rest;
             left = M .left;
-            struck = strikes-listed t (st .list .now) (st .links .now) ns S (l .marks) (place (x .0 .0) (x .0 .1 .0)) (x .0 .1 .1 .0) (K .rest) rest₀ M (K .struck) (c .before .j .given .0 .0)
+            struck =
+                strikes-listed t (st .list .now) (st .links .now) ns S (l .marks) (place (x .0 .0) (x .0 .1 .0)) (x .0 .1 .1 .0) (K .rest) rest₀ M
+                    (K .struck) (c .before .j .given .0 .0)
                 (omega (arith, n, l .inv .0)) (omega (arith, n, f .0)) e;
           }),
     )
@@ -133,7 +137,9 @@ loop-again-2 c =
     let t = st .text .now in
     let x = c .before .before .before .before .before .s .given in
     let A = name-is t (l .at) (c .before .before .before .before .before .before .before .next-name .ensures) (x .1) in
-    let m = found-free t (st .list .now) (st .links .now) (part t (x .0 .0) (x .0 .1 .0)) (st .count) (c .before .before .find .ensures) (c .enum-told .given .1) in (
+    let m = found-free t (st .list .now) (st .links .now) (part t (x .0 .0) (x .0 .1 .0)) (st .count) (c .before .before .find .ensures)
+        (c .enum-told .given .1) in
+    (
       l .inv .0,
       λ ns rest rest₀ n S L k. (
           let K = l .inv .1 ns rest rest₀ n S L k in
@@ -141,7 +147,9 @@ loop-again-2 c =
           record {
             rest = M .rest;
             left = M .left;
-            struck = strikes-other t (st .list .now) (st .links .now) ns S (l .marks) (place (x .0 .0) (x .0 .1 .0)) (x .0 .1 .1 .0) (K .rest) rest₀ M (K .struck)
+            struck =
+                strikes-other t (st .list .now) (st .links .now) ns S (l .marks) (place (x .0 .0) (x .0 .1 .0)) (x .0 .1 .1 .0) (K .rest) rest₀ M
+                    (K .struck)
                 (λ i h z. m .none i (omega (arith, n)) (z ∙ sym (part-is t (x .0 .0) (x .0 .1 .0) (omega (arith, A .1)) (omega (arith, A .2, A .3)))));
           }),
     )
@@ -158,7 +166,8 @@ returns c =
     let t = c .before .before .before .before .before .before .before .before .args .text .now in
     λ ns rest rest₀ n S L k. (
     let K = l .inv .1 ns rest rest₀ n S L k in
-    all-struck t ns (l .marks) (K .rest) rest₀ (name-is t (l .at) (c .before .before .next-name .ensures) (c .enum-told2 .given .1) (K .rest) (K .left)) (K .struck))
+    all-struck t ns (l .marks) (K .rest) rest₀ (name-is t (l .at) (c .before .before .next-name .ensures) (c .enum-told2 .given .1) (K .rest)
+        (K .left)) (K .struck))
 
 pub strike-spec : {M : Type 1} → statement M
 strike-spec =

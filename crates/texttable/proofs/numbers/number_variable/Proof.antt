@@ -22,7 +22,8 @@ add-t12 c = search needs
 returns : tie.Need-returns
 returns c =
     let a = c .before .before .before .before .before .before .args in
-    λ v. fresh-variable (a .text .now) (a .words .now) (a .ways .now) (a .given .now) (a .row) (a .start) (a .end) v (sym (c .before .is-fresh .ensures) ∙ c .if1 .taken)
+    λ v. fresh-variable (a .text .now) (a .words .now) (a .ways .now) (a .given .now) (a .row) (a .start) (a .end) v
+        (sym (c .before .is-fresh .ensures) ∙ c .if1 .taken)
 
 meet-requires : tie.Need-meet-requires
 meet-requires c κs = search needs
@@ -46,8 +47,11 @@ returns-2 : tie.Need-returns-2
 returns-2 c =
     let a = c .before .before .before .before .before .before .before .before .before .before .before .before .before .before .before .before .args in
     let m = c .before .before .before .before .before .before .before .meet in
-    λ v. subst (λ (n : ℕ). VariableIs (a .text .now) (v .places) (place (a .start) (a .end)) (m .last .1 .0) (m .last .1 .1 .0) (a .given .now) (record { number = n; row = a .row }))
-    (sym (c .number .ensures)) (old-variable (a .text .now) (a .words .now) (a .ways .now) (a .given .now) (a .row) (a .start) (a .end) v (sym (c .before .before .before .before .before .before .before .before .before .before .before .is-fresh .ensures) ∙ c .before .before .before .before .before .before .before .before .before .before .if1 .left) (m .ensures) (omega arith))
+    λ v. subst (λ (n : ℕ). VariableIs (a .text .now) (v .places) (place (a .start) (a .end)) (m .last .1 .0) (m .last .1 .1 .0) (a .given .now)
+        (record { number = n; row = a .row }))
+    (sym (c .number .ensures)) (old-variable (a .text .now) (a .words .now) (a .ways .now) (a .given .now) (a .row) (a .start) (a .end) v
+        (sym (c .before .before .before .before .before .before .before .before .before .before .before .is-fresh .ensures)
+        ∙ c .before .before .before .before .before .before .before .before .before .before .if1 .left) (m .ensures) (omega arith))
 
 cast-given : tie.Need-cast-given
 cast-given c = search needs
@@ -76,7 +80,10 @@ same-length-5 c = search needs
 returns-3 : tie.Need-returns-3
 returns-3 c =
     let a = c .before .before .before .before .before .before .before .before .before .before .before .before .before .before .args in
-    λ v. new-variable (a .text .now) (a .words .now) (a .ways .now) (a .given .now) (a .row) (a .start) (a .end) v (omega arith) (omega arith) (sym (c .before .before .before .before .before .before .before .before .before .is-fresh .ensures) ∙ c .before .before .before .before .before .before .before .before .if1 .left) (c .before .before .before .before .before .meet .ensures) (omega arith)
+    λ v. new-variable (a .text .now) (a .words .now) (a .ways .now) (a .given .now) (a .row) (a .start) (a .end) v (omega arith) (omega arith)
+        (sym (c .before .before .before .before .before .before .before .before .before .is-fresh .ensures)
+        ∙ c .before .before .before .before .before .before .before .before .if1 .left) (c .before .before .before .before .before .meet .ensures)
+        (omega arith)
 
 pub number-variable-spec : {M : Type 1} → statement M
 number-variable-spec =

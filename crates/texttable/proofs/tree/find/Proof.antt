@@ -3,7 +3,7 @@ use mathlib.Core.Path.{_≡_, sym, ap, subst, _∙_}
 use native.Mathlib.Omega.{arith}
 use borrow.Author.Needs.{needs}
 use lib.ListN.{getD}
-use Rattle.texttable.specs.code.Tree.{MixKept, Seeks, Trail, start, step, Route, wordOf}
+use Rattle.texttable.specs.code.Tree.{MixKept, Seeks, Trail, start, step, Route, wordListed}
 use Rattle.cell.specs.Same.{same}
 use Rattle.cell.proofs.SameLaws.{same-eq}
 use Rattle.texttable.proofs.TreeLaws.{trail-slot, begins, goes-on, no-way, trail-later, advance, bit-is, mix-kept}
@@ -116,7 +116,7 @@ returns-2 c =
     let w = a .word .now in
     let k = c .before .before .before .before .number in (
       lt (c .before .before .before .if1 .left) (k .ensures) (T .lead (o .loop .slot)),
-      sym (same-eq w (wordOf (a .text .now) (getD (a .list .now) (k .result - 1) 0)) (sym (c .before .is-word .ensures) ∙ c .if2 .taken)),
+      sym (same-eq w (wordListed (a .text .now) (getD (a .list .now) (k .result - 1) 0)) (sym (c .before .is-word .ensures) ∙ c .if2 .taken)),
     )
 
 mix-at-requires : tie.Need-mix-at-requires Inv-loop μ-loop
@@ -170,7 +170,8 @@ loop-less c =
     let w = a .word .now in
     let k = c .before .before .before .before .before .before .number in
     let z = nonzero (c .before .before .before .before .before .if1 .left) (k .ensures) in
-    omega (arith, trail-later (a .text .now) (a .list .now) (a .links .now) (a .count) T (k .result - 1) (o .loop .inv .2 .trail) z, T .lead (o .loop .slot), z, c .bit .ensures .1)
+    omega (arith, trail-later (a .text .now) (a .list .now) (a .links .now) (a .count) T (k .result - 1) (o .loop .inv .2 .trail) z,
+        T .lead (o .loop .slot), z, c .bit .ensures .1)
 
 loop-again : tie.Need-loop-again Inv-loop μ-loop
 loop-again c =
@@ -184,7 +185,8 @@ loop-again c =
     let l = trail-later (a .text .now) (a .list .now) (a .links .now) (a .count) T (k .result - 1) (o .loop .inv .2 .trail) z in (
       omega (arith, T .lead (o .loop .slot), z, c .bit .ensures .1),
       omega (arith, l, z, c .bit .ensures .1),
-      advance (a .text .now) (a .list .now) (a .links .now) (a .count) T (k .result) (c .bit .result) (o .loop .inv .2) (k .ensures) (c .before .before .before .before .before .if1 .left)
+      advance (a .text .now) (a .list .now) (a .links .now) (a .count) T (k .result) (c .bit .result) (o .loop .inv .2) (k .ensures)
+          (c .before .before .before .before .before .if1 .left)
           (sym (c .before .before .before .is-word .ensures) ∙ c .before .before .if2 .left)
           (bit-is w (o .loop .d) (c .before .mix-at .result) (c .bit .result) (c .before .mix-at .ensures) (c .bit .ensures .0)),
       mix-kept w (o .loop .d) (c .before .mix-at .result) (c .before .mix-at .ensures),

@@ -67,7 +67,9 @@ arity-of-requires c κs = search needs
 
 -- src/fold.rt:37:21
 add-t16 : tie.Need-add-t16 Inv-loop μ-loop
-add-t16 c = let g = going (c .before .before .before .before .before .before .before .before) in omega (arith, c .before .arity-of .ensures, g .few, g .wide, g .inside, g .size)
+add-t16 c =
+    let g = going (c .before .before .before .before .before .before .before .before) in
+    omega (arith, c .before .arity-of .ensures, g .few, g .wide, g .inside, g .size)
 
 -- src/fold.rt:37:21
 sub-t17 : tie.Need-sub-t17 Inv-loop μ-loop

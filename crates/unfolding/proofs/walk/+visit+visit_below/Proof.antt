@@ -139,7 +139,8 @@ visit-below-loop-holds t c = λ w. below-enters w (omega arith)
 visit-below-mul-arity-of : (t : ℕ) → visit-below-lts.Need-mul-arity-of (with-below t) (visit-below-at t) visit-below′.Post Inv-loop μ-loop
 visit-below-mul-arity-of t c = let g = turn t c in omega arith
 
-visit-below-shared-slice-read-arity-of : (t : ℕ) → visit-below-lts.Need-shared-slice-read-arity-of (with-below t) (visit-below-at t) visit-below′.Post Inv-loop μ-loop
+visit-below-shared-slice-read-arity-of : (t : ℕ)
+    → visit-below-lts.Need-shared-slice-read-arity-of (with-below t) (visit-below-at t) visit-below′.Post Inv-loop μ-loop
 visit-below-shared-slice-read-arity-of t c = let g = turn t (c .before) in omega arith
 
 visit-below-arity-of-requires : (t : ℕ) → visit-below-lts.Need-arity-of-requires (with-below t) (visit-below-at t) visit-below′.Post Inv-loop μ-loop
