@@ -42,10 +42,10 @@ module _ {R sib bs ns cls rs keep slots K : List ℕ} {m k : ℕ} (S : Standing 
   open-alive l =
       let st = S .steady in
       let e : length (S .us ++ entries rs slots) ≡ length (S .us) + k =
-          length-append (S .us) (entries rs slots) ∙ ap (λ (n : ℕ). length (S .us) + n) (entries-length rs slots ∙ S .width) in
+      length-append (S .us) (entries rs slots) ∙ ap (λ (n : ℕ). length (S .us) + n) (entries-length rs slots ∙ S .width) in
       let f : Fresh (length (S .us) + k) (S .vs ++ upFrom (2 ^ 15) k)
       = fresh-++ (S .distinct) (up-distinct (2 ^ 15) k (omega arith)) (λ c a b. let x = all-mem (λ (v : ℕ). v < 32) (S .vs) (S .low) c a in
-          let y = up-mem (2 ^ 15) k c b in omega arith) in
+      let y = up-mem (2 ^ 15) k c b in omega arith) in
       alive (st .fair) (solution (st .fair) (st .ready .flat) nodeOf 64 (st .within) (st .closed) (st .finite)) (S .us ++ entries rs slots) (rw e f)
       (λ r c a b. let x = own-low r c a in ⊎-elim
       (λ p. let y = all-mem (λ (v : ℕ). v < 32) (S .vs) (S .low) c p in omega arith)
@@ -82,7 +82,7 @@ module _ {R sib bs ns cls rs keep slots K x : List ℕ} {m k : ℕ} (S : Standin
       let r : RowLike (fill K x) = opened-low F x (F .terms) (λ c q v. absurd (List·Memᴰ·not-nil (subst (λ (l : List ℕ). List·Memᴰ c l) n q))) in
       let u : upFrom (2 ^ 15) k ≡ x = ap (upFrom (2 ^ 15)) z ∙ sym n in
       S .means x (rw (S .holes) at (F .terms)) r .1
-          (subst (λ (X : List ℕ). Agrees (graph bs ns sib) cls (S .vs ++ X) (S .us ++ entries rs slots)) u (open-alive S few-holes))
+      (subst (λ (X : List ℕ). Agrees (graph bs ns sib) cls (S .vs ++ X) (S .us ++ entries rs slots)) u (open-alive S few-holes))
 
 -- where nothing under a skeleton unifies, nothing below it is tried
 abbrev DeadAt : List ℕ → List ℕ → Type 0
@@ -104,7 +104,7 @@ dead-open {R} {K} F d u =
     let s = skeleton-short F in
     let t = Terms-fresh (up-distinct (2 ^ 15) (count hole K) (omega arith)) in
     d (upFrom (2 ^ 15) (count hole K)) t (opened-low F (upFrom (2 ^ 15) (count hole K)) t (λ c q v. let y = up-mem (2 ^ 15) (count hole K) c q in
-        omega arith)) u
+    omega arith)) u
 
 dead-chain : {R x : List ℕ} {k : ℕ} (q : Chain k x) (K : List ℕ) → DeadAt R K → count hole K ≡ k → Loose K x → Counts (TriedOn R) (skeletonsOf q K) 0
 unfolding skeletonsOf

@@ -172,7 +172,7 @@ module _ {v : ℕ} {G sib rep : List ℕ} (g : Goal v G) (T : Tables G sib rep) 
 
   module _ (words rest : List ℕ) (d : drop n words ≡ map word (notesIn (next {g = t .group} (t .tree) end) (t .place) (t .slots) (t .free) row) ++ rest)
       (f : All BranchFits (notesIn (next {g = t .group} (t .tree) end) (t .place) (t .slots) (t .free) row)) (to : ℕ)
-          (e : to ≡ n + 1 + branches (t .tree)) (far : to ≤ mostBranches) where
+      (e : to ≡ n + 1 + branches (t .tree)) (far : to ≤ mostBranches) where
     pub begins : Begins words rep sib bs ns us rs n to
     unfolding branches
     begins =
@@ -216,7 +216,7 @@ module _ {v : ℕ} {G sib rep : List ℕ} (g : Goal v G) (T : Tables G sib rep) 
         let K = replicate (suc (t .k)) hole in
         let s = chain-decides (t .place) low (t .group) (t .tree) (o .0) (o .1) is-var S C K in
         let h = gone-is u (row-terms (t .place) low (t .group) (t .tree) (o .0) (o .1) is-var S C)
-            (rw s (decided-terms (t .place) low (t .group) (t .tree) (o .0) (o .1) is-var S C)) a in
+        (rw s (decided-terms (t .place) low (t .group) (t .tree) (o .0) (o .1) is-var S C)) a in
         (h .0 ∙ ap (triedOn (t .R)) s, rw (o .1, append-nil (o .0)) (h .1))
 
 -- what is noted in the first `n` numbers of an array, in the array
@@ -250,14 +250,14 @@ module _ {noted goal room : List ℕ} {count w : ℕ} (b : Begun noted count goa
   words-all =
       drop-cut i count noted (omega arith) ∙ ap (λ (x : List ℕ). x ++ drop count noted) (words-here G T A (inside b T A l))
       ∙ append-assoc (map word (notesIn (next {g = t .group} (t .tree) end) (t .place) (t .slots) (t .free) (A .row)))
-          (map word (notesOf (frames G T t) (A .row + length (t .group .rows)))) (drop count noted)
+      (map word (notesOf (frames G T t) (A .row + length (t .group .rows)))) (drop count noted)
 
   pub rest-now : (to : ℕ) → to ≡ i + 1 + skipIn W → Begins noted rep sib bs ns us rs i to
   rest-now to e =
       let s = t .sound (A .sound) in
       let q : to ≡ i + 1 + branches (t .tree) = e ∙ ap (λ (s : ℕ). i + 1 + s) (rw (same-word b T A l) at (skip-is G T A (inside b T A l))) in
       begins G T t (A .sizes) (s .0) (s .1) on noted (map word (notesOf (frames G T t) (A .row + length (t .group .rows))) ++ drop count noted)
-          words-all (fit-only G T A (inside b T A l)) to q
+      words-all (fit-only G T A (inside b T A l)) to q
       (omega (arith, e, skip-now b T A l, count-small b))
 
   pub alone-now : {to : ℕ} (e : to ≡ i + 1 + skipIn W) {t′ h : ℕ} → Walks (rest-now to e) t′ h → {room″ : List ℕ} (r : ℕ) → r ≡ rowNoted W
@@ -269,5 +269,5 @@ module _ {noted goal room : List ℕ} {count w : ℕ} (b : Begun noted count goa
       y ∙ ap (λ (z : ℕ). sets room′ found (upFrom r z)) eh ∙ ap (sets room′ found) (its-row r hit) ∙ rw (same-word b T A l, er) in
       let s = t .sound (A .sound) in
       let g = gone G T t (A .sizes) (s .0) (s .1) on noted (map word (notesOf (frames G T t) (A .row + length (t .group .rows))) ++ drop count noted)
-          words-all (fit-only G T A (inside b T A l)) to _ _ a in
+      words-all (fit-only G T A (inside b T A l)) to _ _ a in
       rw (ei, ef, et, eh, e) (rw (same-word b T A l) at (on-alone G T A (inside b T A l) t′ hit on (g .0) (g .1) y′))

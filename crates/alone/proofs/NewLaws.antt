@@ -72,7 +72,7 @@ module _ {sib bs ns cls : List ℕ} {m : ℕ} (S : Steady sib bs ns cls m) where
     bare = λ r q. S .bare r (up-mem m a r q .0);
     no-kid =
         λ r nz s q k. let u = up-mem m a s k in let o =
-            all-mem (λ (x : ℕ). x < m) (steps sib (arity (getD bs r 0)) (getD ns r 0)) (S .kids-low r nz) s q in omega arith;
+        all-mem (λ (x : ℕ). x < m) (steps sib (arity (getD bs r 0)) (getD ns r 0)) (S .kids-low r nz) s q in omega arith;
   }
 
   pub new-cells : (a : ℕ) (l : m + a ≤ 64) → new-nodes a l .cells ≡ upFrom (var m) a

@@ -32,7 +32,7 @@ noted-subst k {c} {d} {y} e q words at slots m n =
 length-subst : (k : ℕ) {c d : ℕ} {y : List ℕ} (e : c ≡ d) (q : Chain (arity c + k) y) → lengthOf (subst (λ (d : ℕ). Chain (arity d + k) y) e q) ≡ lengthOf q
 length-subst k {c} {d} {y} e q =
     pathJ (λ (d : ℕ) (e : c ≡ d). lengthOf (subst (λ (d : ℕ). Chain (arity d + k) y) e q) ≡ lengthOf q)
-        (ap lengthOf (subst-refl (λ (d : ℕ). Chain (arity d + k) y) q)) e
+    (ap lengthOf (subst-refl (λ (d : ℕ). Chain (arity d + k) y) q)) e
 
 none-branches : {k : ℕ} {gs : List Run} (bs : Branches k gs) → gs ≡ [] → branchesIn bs ≡ 0
 unfolding branches
@@ -86,10 +86,16 @@ mutual
       let w = word-at words at _ (map word (N ++ M) ++ rest) d in
       let P = word-parts _ (f .0) in
       let d′ : drop (at + 1) words ≡ map word N ++ (map word M ++ rest) =
-          w .1 ∙ ap (λ (l : List ℕ). l ++ rest) (map-append word N M) ∙ append-assoc (map word N) (map word M) rest in
+      w .1 ∙ ap (λ (l : List ℕ). l ++ rest) (map-append word N M) ∙ append-assoc (map word N) (map word M) rest in
       let n = chain-noted p y (q .1) words (at + 1) (below i (arity (g .cell)) m slots) (m + arity (g .cell)) row (map word M ++ rest) d′
-          (all-front BranchFits N M (f .1)) (cs .1) in
-      let o = noted-subst k (q .0) (chain-of p y (q .1)) words (at + 1) (below i (arity (g .cell)) m slots) (m + arity (g .cell)) n in
-      (rw (w .0) (P .cell ∙ q .0), rw (w .0) (P .slot), rw (w .0) (P .next), rw (q .0) at (f .0 .next), rw (q .0) at (cs .0 .cell .0),
-          rw (q .0) at (cs .0 .cell .1), subst (λ (d : ℕ). Noted (chain-in (next {g = g} p bs) c y e) words (at + 1) (below i (arity d) m slots)
-          (m + arity d)) (q .0) o)
+      (all-front BranchFits N M (f .1)) (cs .1) in
+      let o = noted-subst k (q .0) (chain-of p y (q .1)) words (at + 1) (below i (arity (g .cell)) m slots) (m + arity (g .cell)) n in (
+        rw (w .0) (P .cell ∙ q .0),
+        rw (w .0) (P .slot),
+        rw (w .0) (P .next),
+        rw (q .0) at (f .0 .next),
+        rw (q .0) at (cs .0 .cell .0),
+        rw (q .0) at (cs .0 .cell .1),
+        subst (λ (d : ℕ). Noted (chain-in (next {g = g} p bs) c y e) words (at + 1) (below i (arity d) m slots)
+            (m + arity d)) (q .0) o,
+      )

@@ -34,7 +34,7 @@ skeletons-subst : (k : ℕ) {c d : ℕ} {y : List ℕ} (e : c ≡ d) (q : Chain 
     → skeletonsOf (subst (λ (d : ℕ). Chain (arity d + k) y) e q) K ≡ skeletonsOf q K
 skeletons-subst k {c} {d} {y} e q K =
     pathJ (λ (d : ℕ) (e : c ≡ d). skeletonsOf (subst (λ (d : ℕ). Chain (arity d + k) y) e q) K ≡ skeletonsOf q K)
-        (ap (λ (r : Chain (arity c + k) y). skeletonsOf r K) (subst-refl (λ (d : ℕ). Chain (arity d + k) y) q)) e
+    (ap (λ (r : Chain (arity c + k) y). skeletonsOf r K) (subst-refl (λ (d : ℕ). Chain (arity d + k) y) q)) e
 
 mutual
   unfolding skeletons skeletonsOf chain-of
@@ -53,7 +53,7 @@ mutual
       let n = none-in bs (q .2) i K in
       let s = skeletons-subst k (q .0) (chain-of p y (q .1)) (decide i c K) ∙ chain-skeletons p y (q .1) (decide i c K) in
       ap (λ (l : List (List ℕ)). K ∷ l) (s ∙ ap (λ (d : ℕ). skeletons p (decide i d K)) (sym (q .0))
-          ∙ sym (append-nil (skeletons p (decide i (g .cell) K))) ∙ ap (λ (l : List (List ℕ)). skeletons p (decide i (g .cell) K) ++ l) (sym n))
+      ∙ sym (append-nil (skeletons p (decide i (g .cell) K))) ∙ ap (λ (l : List (List ℕ)). skeletons p (decide i (g .cell) K) ++ l) (sym n))
 
   none-in : {k : ℕ} {gs : List Run} (bs : Branches k gs) → gs ≡ [] → (i : ℕ) (K : List ℕ) → skeletonsIn bs i K ≡ []
   none-in end e i K = refl

@@ -39,7 +39,7 @@ module _ {R x₀ : List ℕ} {all : List (List ℕ)} {words sib bs ns cls rs kee
 module _ {R x₀ : List ℕ} {all : List (List ℕ)} {sib bs ns cls rs keep : List ℕ} {k : ℕ} {x : List ℕ} {K slots : List ℕ} {m done : ℕ} (i : ℕ)
     (h : i ≤ k) (q : Chain (arity (root i x) + k) (close i x))
     (G : Going R x₀ all sib bs ns cls rs keep slots K x m (suc k) (at-place i h q) done) (zr : length rs ≡ 64) (fits : m + arity (root i x) < 64)
-        (nh : root i x ≢ hole)
+    (nh : root i x ≢ hole)
     (low : isVar (root i x) ≡ true → root i x < 32) where
   abbrev c : ℕ
   c = root i x
@@ -84,7 +84,7 @@ module _ {R x₀ : List ℕ} {all : List (List ℕ)} {sib bs ns cls rs keep : Li
       → (X : List ℕ) → Terms (i + (arity c + (k - i))) X → RowLike (fill (decide i c K) X) → ¬ Unifies (fill (decide i c K) X) R
   dead-back d =
       subst (λ (n : ℕ). (X : List ℕ) → Terms (n + (arity c + (k - i))) X → RowLike (fill (decide n c K) X) → ¬ Unifies (fill (decide n c K) X) R) at-i
-          d
+      d
 
   not-zero : isVar c ≡ false → c ≢ 0
   not-zero hv e = true≢false (sym (var-small c (omega arith)) ∙ hv)
@@ -115,14 +115,16 @@ module _ {R x₀ : List ℕ} {all : List (List ℕ)} {sib bs ns cls rs keep : Li
   -- it succeeds
   takes-on : {bs′ ns′ cls′ rs′ keep′ : List ℕ} {b : Bool} → Takes sib c u m bs ns cls rs keep bs′ ns′ cls′ rs′ keep′ b → b ≡ true
       → Going R x₀ all sib bs′ ns′ cls′ rs′ keep′ (below i (arity c) m slots) (decide i c K) (close i x) (m + arity c) (arity c + k) q (done + 1)
-          × (length rs′ ≡ 64)
-  takes-on (same-symbol hv e eb en ec ek er) o =
-      (rw (eb, en, ec, ek) (going-on i h q G (back (stand-same A s B (k - i) placed zr c nh few hv (λ z. not-zero hv (sym e ∙ z)) e er))),
-          rw er (length-sets rs m (entries cls (steps sib (arity c) (getD ns (getD cls u 0) 0))) ∙ zr))
+      × (length rs′ ≡ 64)
+  takes-on (same-symbol hv e eb en ec ek er) o = (
+    rw (eb, en, ec, ek) (going-on i h q G (back (stand-same A s B (k - i) placed zr c nh few hv (λ z. not-zero hv (sym e ∙ z)) e er))),
+    rw er (length-sets rs m (entries cls (steps sib (arity c) (getD ns (getD cls u 0) 0))) ∙ zr),
+  )
   takes-on (other-symbol hv nz d) o = absurd (true≢false (sym o))
-  takes-on (new-symbol hv z eb en ec ek er) o =
-      (rw (eb, en, ec, ek) (going-on i h q G (back (stand-bind A s B (k - i) placed zr c nh few hv z er))),
-          rw er (length-sets rs m (entries cls (steps sib (arity c) m)) ∙ zr))
+  takes-on (new-symbol hv z eb en ec ek er) o = (
+    rw (eb, en, ec, ek) (going-on i h q G (back (stand-bind A s B (k - i) placed zr c nh few hv z er))),
+    rw er (length-sets rs m (entries cls (steps sib (arity c) m)) ∙ zr),
+  )
   takes-on (first-met hv e eb en ec ek er) o =
       (rw (eb, en, ec, ek, er) (going-on i h q G (back (stand-first A s B (k - i) placed zr c nh few (low hv) e))), rw er zr)
   takes-on (met-again hv ne E eb en ek er) o =

@@ -177,14 +177,14 @@ module _ {R sib bs ns cls rs keep : List ℕ} (A : List ℕ) (s : ℕ) (B : List
   below-state {bs′} {ns′} {cls′} {rs′} {keep′} {vs′} {us′} ks st kp ds lv mt ek lk er law =
       let a = arity c in
       let more : (xs : List ℕ) → All (λ (r : ℕ). r < m) xs → All (λ (r : ℕ). r < m + a) xs =
-          λ xs h. all-each (λ (r : ℕ). r < m) (λ (r : ℕ). r < m + a) (λ r k. omega arith) xs h in
+      λ xs h. all-each (λ (r : ℕ). r < m) (λ (r : ℕ). r < m + a) (λ r k. omega arith) xs h in
       let old = S .made in
       let oA = all-front (λ (x : ℕ). x < m) A (s ∷ B) old in
       let oB = all-back (λ (x : ℕ). x < m) A (s ∷ B) old .1 in
       let q : entries rs′ (A ++ (upFrom m a ++ B)) ≡ P ++ (ks ++ Q)
       = rw er (entries-++ (sets rs m ks) A (upFrom m a ++ B)
-          ∙ ap₂ _++_ (entries-below rs ks A m oA) (entries-++ (sets rs m ks) (upFrom m a) B
-          ∙ ap₂ _++_ (entries-stored rs ks m a ek (omega arith)) (entries-below rs ks B m oB))) in
+      ∙ ap₂ _++_ (entries-below rs ks A m oA) (entries-++ (sets rs m ks) (upFrom m a) B
+      ∙ ap₂ _++_ (entries-stored rs ks m a ek (omega arith)) (entries-below rs ks B m oB))) in
       record {
         steady = st;
         vs = vs′;
@@ -199,7 +199,7 @@ module _ {R sib bs ns cls rs keep : List ℕ} (A : List ℕ) (s : ℕ) (B : List
         holes = (let d = decide-count i c K hc (omega (arith, S .holes)) in omega (arith, d, S .holes));
         means =
             rw q (means-next K i j c hc (S .holes) (λ (X : List ℕ). Agrees N cls (vs ++ X) (us ++ (P ++ (u ∷ Q))))
-                (λ (X : List ℕ). Agrees (graph bs′ ns′ sib) cls′ (vs′ ++ X) (us′ ++ (P ++ (ks ++ Q)))) means-here law);
+            (λ (X : List ℕ). Agrees (graph bs′ ns′ sib) cls′ (vs′ ++ X) (us′ ++ (P ++ (ks ++ Q)))) means-here law);
       }
 
   abbrev Next : (bs′ ns′ cls′ rs′ keep′ : List ℕ) → Type 0
@@ -230,7 +230,7 @@ module _ {R sib bs ns cls rs keep : List ℕ} (A : List ℕ) (s : ℕ) (B : List
     fixed = λ r h. st .fixed r (omega arith);
     kids-low =
         λ r nz. all-each (λ (x : ℕ). x < m) (λ (x : ℕ). x < m + arity c) (λ x k. omega arith) (steps sib (arity (getD bs′ r 0)) (getD ns′ r 0))
-            (st .kids-low r nz);
+        (st .kids-low r nz);
     some = omega (arith, st .some);
     few = fits;
     size-bound = st .size-bound;
@@ -267,7 +267,7 @@ module _ {R sib bs ns cls rs keep : List ℕ} (A : List ℕ) (s : ℕ) (B : List
     pub dead-other : getD bs (getD cls u 0) 0 ≢ c → Dead
     dead-other d = dead-next K i j c hc (S .holes) (λ (X : List ℕ). Agrees N cls (vs ++ X) (us ++ (P ++ (u ∷ Q)))) (λ (X : List ℕ). Unifies X R) means-here
         (λ A′ D t _ a. agree-other (S .steady .fair) cls (vs ++ A′) (us ++ P) (before t) c D u Q hv (rw x-is nz) (rw x-is d)
-            (rw (move A′ (c ∷ D), sym (append-assoc us P (u ∷ Q))) at a))
+        (rw (move A′ (c ∷ D), sym (append-assoc us P (u ∷ Q))) at a))
 
   -- (3) a variable of the row that is not met yet: it is kept with its node
   module _ (lc : c < 32) where
@@ -351,9 +351,9 @@ module _ {R sib bs ns cls rs keep : List ℕ} (A : List ℕ) (s : ℕ) (B : List
           let t₂ : Terms (length (p .U₂ ++ P)) (p .V₂ ++ A′) = rw (length-append (p .U₂) P, entries-length rs A) (Terms-++ (p .terms₂) t) in
           let a = agree-again (S .steady .fair) cls (p .V₁) (p .U₁) (p .V₂ ++ A′) (p .U₂ ++ P) (p .terms₁) t₂ c is-var w D u Q (S .steady .ready .flat) M in
           let e₁ : (X : List ℕ) → vs ++ (A′ ++ X) ≡ (p .V₁ ++ (c ∷ (p .V₂ ++ A′))) ++ X =
-              λ X. ap (λ (l : List ℕ). l ++ (A′ ++ X)) (p .in-vs) ∙ simp append-assoc in
+          λ X. ap (λ (l : List ℕ). l ++ (A′ ++ X)) (p .in-vs) ∙ simp append-assoc in
           let e₂ : (X : List ℕ) → us ++ (P ++ X) ≡ (p .U₁ ++ (w ∷ (p .U₂ ++ P))) ++ X =
-              λ X. ap (λ (l : List ℕ). l ++ (P ++ X)) (p .in-us) ∙ simp append-assoc in
+          λ X. ap (λ (l : List ℕ). l ++ (P ++ X)) (p .in-us) ∙ simp append-assoc in
           rw (e₁ (c ∷ D), e₁ D, e₂ (u ∷ Q), e₂ Q) a
 
       pub stand-again : {cls′ : List ℕ} {b : Bool} → Equals bs ns sib cls cls′ w u b → b ≡ true → Next bs ns cls′ rs keep
@@ -363,7 +363,7 @@ module _ {R sib bs ns cls rs keep : List ℕ} (A : List ℕ) (s : ℕ) (B : List
           go (never l n) e = absurd (mathlib.Core.Bool.true≢false (sym e))
           go (equal R′ M t) e =
               below-state {vs′ = vs} {us′ = us} [] (wider (steady-joined R′ (M own) (t own))) (S .keeps) (S .distinct) (S .low) (more-low us (S .met))
-                  no-args tt refl
+              no-args tt refl
               (λ A′ D t′ _ _. again-law (M own) A′ D t′)
 
       -- (5) nothing makes them equal
@@ -378,9 +378,9 @@ module _ {R sib bs ns cls rs keep : List ℕ} (A : List ℕ) (s : ℕ) (B : List
               let p = parts in
               let t₂ : Terms (length (p .U₂ ++ P)) (p .V₂ ++ A′) = rw (length-append (p .U₂) P, entries-length rs A) (Terms-++ (p .terms₂) t) in
               let e₁ : vs ++ (A′ ++ (c ∷ D)) ≡ (p .V₁ ++ (c ∷ (p .V₂ ++ A′))) ++ (c ∷ D) =
-                  ap (λ (l : List ℕ). l ++ (A′ ++ (c ∷ D))) (p .in-vs) ∙ simp append-assoc in
+              ap (λ (l : List ℕ). l ++ (A′ ++ (c ∷ D))) (p .in-vs) ∙ simp append-assoc in
               let e₂ : us ++ (P ++ (u ∷ Q)) ≡ (p .U₁ ++ (w ∷ (p .U₂ ++ P))) ++ (u ∷ Q) =
-                  ap (λ (l : List ℕ). l ++ (P ++ (u ∷ Q))) (p .in-us) ∙ simp append-assoc in
+              ap (λ (l : List ℕ). l ++ (P ++ (u ∷ Q))) (p .in-us) ∙ simp append-assoc in
               let m₂ = agree-met (S .steady .fair) cls (p .V₁) (p .U₁) (p .V₂ ++ A′) (p .U₂ ++ P) (p .terms₁) t₂ c is-var w D u Q (rw (e₁, e₂) at a) in
               n own (m₂ .0) (S .steady .fair) (m₂ .1) (m₂ .2))
 
@@ -460,7 +460,7 @@ module _ {R sib bs ns cls rs keep : List ℕ} (A : List ℕ) (s : ℕ) (B : List
           fixed = λ r h. s₀ .fixed r (omega arith);
           kids-low = λ r nz. by-cases (ℕ-discrete r x) (λ e. rw (e, kids-new) new-in)
               (λ d. rw (getD-set-other bs x r c 0 d, getD-set-other ns x r m 0 d)
-                  (more-low (steps sib (arity (getD bs r 0)) (getD ns r 0)) (s₀ .kids-low r (rw (getD-set-other bs x r c 0 d) at nz))));
+              (more-low (steps sib (arity (getD bs r 0)) (getD ns r 0)) (s₀ .kids-low r (rw (getD-set-other bs x r c 0 d) at nz))));
           some = omega (arith, s₀ .some);
           few = fits;
           size-bound = length-set bs x c ∙ s₀ .size-bound;
@@ -479,13 +479,13 @@ module _ {R sib bs ns cls rs keep : List ℕ} (A : List ℕ) (s : ℕ) (B : List
     unfolding upFrom
     stand-bind {rs′} er =
         let q : entries cls (steps sib (arity c) m) ≡ new =
-            rw (steps-new (S .steady) (arity c) m (S .steady .some) fits) (entries-new m (arity c) (omega arith) fits) in
+        rw (steps-new (S .steady) (arity c) m (S .steady .some) fits) (entries-new m (arity c) (omega arith) fits) in
         below-state new steady-bound (S .keeps) (S .distinct) (S .low) (more-low us (S .met)) (sym (up-length m (arity c))) new-in (er ∙ ap (sets rs m) q)
         (λ A′ D t _ r.
         let a = agree-bind (S .steady .fair) cls binds fresh-new hv (up-length m (arity c)) z x-old (vs ++ A′) (us ++ P) (before t) D u Q x-is
         (none-new (us ++ P) (all-++ (λ (y : ℕ). y < m) us P (S .met) low-P)) (none-new Q (low-Q .1))
         (λ d o k. let v = up-mem (var m) (arity c) d (cells-new d k) in let h = row-cells A′ D r d o in
-            let y : ⊥ = omega (arith, h (var-small d (omega arith))) in y) in
+        let y : ⊥ = omega (arith, h (var-small d (omega arith))) in y) in
         rw (move A′ (c ∷ D), move A′ D, sym (append-assoc us P (u ∷ Q)))
         (Iff·trans a (rw (append-assoc us P (new ++ Q)) (λ y. y, λ y. y))))
       where
@@ -493,11 +493,11 @@ module _ {R sib bs ns cls rs keep : List ℕ} (A : List ℕ) (s : ℕ) (B : List
         entries-new p zero h l = refl
         entries-new p (suc a) h l =
             ap₂ _∷_ (sym (at-is cls p (omega (arith, S .steady .ready .size))) ∙ S .steady .fixed p h)
-                (entries-new (suc p) a (omega arith) (omega arith))
+            (entries-new (suc p) a (omega arith) (omega arith))
 
         row-cells : (A′ D : List ℕ) → RowLike (A′ ++ (c ∷ D)) → (d : ℕ) → List·Memᴰ d ((vs ++ A′) ++ D) → isVar d ≡ true → d < 2 ^ 16
         row-cells A′ D r d o v = ⊎-elim
             (λ p. ⊎-elim (λ q. let l = all-mem (λ (y : ℕ). y < 32) vs (S .low) d q in omega arith) (λ q. r .low d (Memᴰ·append-left (c ∷ D) q) v)
-                (List·Memᴰ·append-cases vs p))
+            (List·Memᴰ·append-cases vs p))
             (λ p. r .low d (Memᴰ·append-right A′ (List·Memᴰ·tail p)) v)
             (List·Memᴰ·append-cases (vs ++ A′) o)

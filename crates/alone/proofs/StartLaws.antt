@@ -176,7 +176,7 @@ module _ {w : ℕ} {G sib rep : List ℕ} (g : Goal w G) (T : Tables G sib rep) 
       go (has k q h t ks s) ih =
           let nz : getD bs r 0 ≢ 0 = λ y. true≢false (sym (var-small (getD bs r 0) (omega arith)) ∙ h) in
           over {r = r} (rw (node-fixed r o, q) nz) (rw (node-fixed r o, q)
-              (fins d ih (steps sib (arity (getD bs r 0)) (getD ns r 0)) s ks (omega (arith, ap length t))))
+          (fins d ih (steps sib (arity (getD bs r 0)) (getD ns r 0)) s ks (omega (arith, ap length t))))
 
   finite : (r : ℕ) → Fin N rep r
   finite r = go (ltb r 64) refl
@@ -247,7 +247,7 @@ module _ {w : ℕ} {G sib rep : List ℕ} (g : Goal w G) (T : Tables G sib rep) 
     };
     bare =
         λ r l. by-cases (ℕ-discrete (getD bs′ r 0) 0) (λ z. z)
-            (λ nz. absurd (let o = symbol-node r nz in let k = node-m r (o .0) in let z : ⊥ = omega arith in z));
+        (λ nz. absurd (let o = symbol-node r nz in let k = node-m r (o .0) in let z : ⊥ = omega arith in z));
     selves = λ r l. ⊎-elim (λ k. absurd (let i = T .inside r k in let q = at-cell r k in let z : ⊥ = omega (arith, in-goal) in z)) (λ q. q) (place? r);
     fixed = λ r l. ⊎-elim (λ k. absurd (let z : ⊥ = omega (arith, in-goal) in z)) (λ q. q) (place? r);
     kids-low = λ r nz. let o = symbol-node r nz in rw (o .1) (raws-low (steps sib (arity (getD bs r 0)) (getD ns r 0)) (o .5) (o .4));
@@ -314,7 +314,7 @@ module _ {w : ℕ} {G sib rep : List ℕ} (g : Goal w G) (T : Tables G sib rep) 
     τ-good = record {
       vars = λ c h. cond-case (ltb c (var 0)) (λ (x : List ℕ). Terms 1 x) (λ q. sσ .vars c h)
           (λ q. cond-case (ltb c (var 64)) (λ (x : List ℕ). Terms 1 x)
-              (λ o. val-term (c - var 0) (let u = ltb-true c (var 64) o in let w = ltb-false c (var 0) q in omega arith)) (λ o. sσ .vars c h));
+          (λ o. val-term (c - var 0) (let u = ltb-true c (var 64) o in let w = ltb-false c (var 0) q in omega arith)) (λ o. sσ .vars c h));
       symbols = λ c h. let k = symbol-big c h in rw (le-ltb c (var 0) (omega arith), le-ltb c (var 64) (omega arith)) (sσ .symbols c h);
     }
       where
@@ -336,7 +336,7 @@ module _ {w : ℕ} {G sib rep : List ℕ} (g : Goal w G) (T : Tables G sib rep) 
         inst-++ τ (own p) (owns N ps)
         ∙ ap₂ _++_ (worth p (a .0) (is-there p (a .0) o) ∙ ap (λ (x : List ℕ). inst σ (inst Θ x)) (sym (ref-rep p (a .0)))) (worths ps (a .1) os)
         ∙ sym (ap (inst σ) (inst-++ Θ (ref G (getD rep p 0)) (refs G (entries rep ps)))
-            ∙ inst-++ σ (inst Θ (ref G (getD rep p 0))) (inst Θ (refs G (entries rep ps))))
+        ∙ inst-++ σ (inst Θ (ref G (getD rep p 0))) (inst Θ (refs G (entries rep ps))))
 
     node-there : (r : ℕ) → Node G rep m r → (r < length G) ⊎ (32 ≤ r)
     node-there r (cell a c) = inl a
@@ -348,7 +348,7 @@ module _ {w : ℕ} {G sib rep : List ℕ} (g : Goal w G) (T : Tables G sib rep) 
       classes = λ r. ⊎-elim
           (λ k. let l : r < 64 = omega (arith, in-goal) in let i = T .inside r k in
           worth r l (inl k) ∙ ap (λ (x : List ℕ). inst σ (inst Θ x)) (sym (T .same r k))
-              ∙ rw (at-cell r k) (sym (worth (getD rep r 0) (omega (arith, in-goal)) (inl i))))
+          ∙ rw (at-cell r k) (sym (worth (getD rep r 0) (omega (arith, in-goal)) (inl i))))
           (λ q. ap (λ (x : ℕ). inst τ (own x)) (sym q))
           (place? r);
       heads = λ r nz.
@@ -378,7 +378,7 @@ module _ {w : ℕ} {G sib rep : List ℕ} (g : Goal w G) (T : Tables G sib rep) 
       row-cell : (c : ℕ) → List·Memᴰ c X → τ (u .by) (u .good) c ≡ u .by c
       row-cell c q =
           ⊎-elim (λ h. τ-row (u .by) (u .good) c (r .low c q h)) (λ h. τ-good (u .by) (u .good) .symbols c h ∙ sym (u .good .symbols c h))
-              (bool-cases (isVar c))
+          (bool-cases (isVar c))
 
   -- FROM A SOLUTION TO A UNIFIER. A variable of the goal is worth what its node is.
   cell-var : (r x : ℕ) → x < 64 → r < length G → ref G r ≡ var x ∷ [] → getD G r 0 ≡ var x
@@ -394,7 +394,7 @@ module _ {w : ℕ} {G sib rep : List ℕ} (g : Goal w G) (T : Tables G sib rep) 
       let k : p < 32 = omega (arith, in-goal) in
       let z : arity (var x) + 0 ≡ 0 = (let y = var-arity (var x) (var-small (var x) (omega arith)) in omega arith) in
       ref-cell G p k ∙ ap (front 1) (drop-cons G p 0 l ∙ ap (λ (c : ℕ). c ∷ drop (suc p) G) e) ∙ ap (λ (n : ℕ). var x ∷ front n (drop (suc p) G)) z
-          ∙ ap (λ (l : List ℕ). var x ∷ l) (front-zero (drop (suc p) G))
+      ∙ ap (λ (l : List ℕ). var x ∷ l) (front-zero (drop (suc p) G))
 
   module _ (ρ : ℕ → List ℕ) (S : Solves N rep ρ) where
     nodeFor : ℕ → ℕ
@@ -421,7 +421,7 @@ module _ {w : ℕ} {G sib rep : List ℕ} (g : Goal w G) (T : Tables G sib rep) 
       vars = λ c h. cond-case (ltb c (var 0)) (λ (x : List ℕ). Terms 1 x) (λ q. S .good .vars c h)
           (λ q. cond-case (ltb c (var 64)) (λ (x : List ℕ). Terms 1 x)
           (λ o. let u = ltb-true c (var 64) o in let w = ltb-false c (var 0) q in let k = node-small (c - var 0) (omega arith) in
-              S .good .vars (var (nodeFor (c - var 0))) (var-small _ (omega arith)))
+          S .good .vars (var (nodeFor (c - var 0))) (var-small _ (omega arith)))
           (λ o. S .good .vars c h));
       symbols = λ c h. let k = symbol-big c h in rw (le-ltb c (var 0) (omega arith), le-ltb c (var 64) (omega arith)) (S .good .symbols c h);
     }
@@ -469,7 +469,7 @@ module _ {w : ℕ} {G sib rep : List ℕ} (g : Goal w G) (T : Tables G sib rep) 
         go (no-node f z) ih = absurd (f o)
         go (loose k z x lx t f) ih =
             ap (inst φ) (ap (inst Θ) t ∙ inst-var Θ (var x) ∙ f) ∙ inst-var φ (var x) ∙ φ-var x lx ∙ ap (λ (n : ℕ). ρ (var n)) (found r x o lx t)
-                ∙ sym (ap (inst ρ) (own-is r (node-64 r o)) ∙ inst-var ρ (var r))
+            ∙ sym (ap (inst ρ) (own-is r (node-64 r o)) ∙ inst-var ρ (var r))
         go (has k q h t ks s) ih =
             let c = getD bs r 0 in
             let ps = steps sib (arity c) (getD ns r 0) in
@@ -495,4 +495,4 @@ module _ {w : ℕ} {G sib rep : List ℕ} (g : Goal w G) (T : Tables G sib rep) 
       row-cell : (c : ℕ) → List·Memᴰ c X → φ (a .by) (a .solves) c ≡ a .by c
       row-cell c q =
           ⊎-elim (λ h. φ-row (a .by) (a .solves) c (r .low c q h)) (λ h. φ-good (a .by) (a .solves) .symbols c h ∙ sym (a .solves .good .symbols c h))
-              (bool-cases (isVar c))
+          (bool-cases (isVar c))

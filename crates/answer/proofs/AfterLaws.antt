@@ -59,11 +59,11 @@ after-variable n i c k {A′} {D} hc a′ u g =
     met (λ A B r a.
     let low = r .row .low c (Memᴰ·append-right A (List·Memᴰ·head refl)) hc in
     let e = row-variable c B (back 1 D) hc a a′ tf (r .once hc) (λ m. let q =
-        g .range c (subst (λ (l : List ℕ). List·Memᴰ c (A′ ++ l)) fb m) hc in omega arith) in
+    g .range c (subst (λ (l : List ℕ). List·Memᴰ c (A′ ++ l)) fb m) hc in omega arith) in
     subst (λ (l : List ℕ). Unifies (A ++ (c ∷ B)) (A′ ++ l) ↔ Unifies (A ++ B) (A′ ++ back 1 D)) fb e)
     (rw (var-arity c hc, zero-add) (Terms-++ a′ tb))
     (GoalLike-sub (omega arith) (λ x m. mem-++ A′ (back 1 D) (λ p. Memᴰ·append-left D p)
-        (λ q. Memᴰ·append-right A′ (subst (λ (l : List ℕ). List·Memᴰ x l) fb (Memᴰ·append-right (front 1 D) q))) m) g)
+    (λ q. Memᴰ·append-right A′ (subst (λ (l : List ℕ). List·Memᴰ x l) fb (Memᴰ·append-right (front 1 D) q))) m) g)
 
 GoalLike-++ : {n : ℕ} {xs ys : List ℕ} → GoalLike n xs → GoalLike n ys → GoalLike n (xs ++ ys)
 GoalLike-++ {n} {xs} {ys} g h = record { range = λ c m v. mem-++ xs ys (λ p. g .range c p v) (λ q. h .range c q v) m }
@@ -96,13 +96,13 @@ after-symbol n i c k {A′} hc a′ (more {c = d} {xs = D} u) g low high =
     met (λ A B r a. goal-variable c d B D hc hd a a′ f
     (λ m. let q = r .row .low d (mem-place c A B m) hd in omega arith)
     (λ w h m. let q = up-mem n (arity c) w h in ⊎-elim (λ p. omega arith) (λ p. let o = r .row .low w (mem-place c A B p) (newer w h) in
-        omega arith) (List·Memᴰ·cases-cons m))
+    omega arith) (List·Memᴰ·cases-cons m))
     (λ w h m. let q = up-mem n (arity c) w h in let o = (GoalLike-++ gA gD) .range w m (newer w h) in omega arith))
     (Terms-++ (Terms-inst s a′) (Terms-++ (Terms-fresh f) (Terms-inst s (rw (var-arity d hd, zero-add) at u))))
     (GoalLike-++ (GoalLike-inst c d hc low gA) (GoalLike-++ (GoalLike-up n (arity c) low) (GoalLike-inst c d hc low gD))))
     (λ hd. met-test (eqb c d)
     (λ e. met (λ A B r a. rw (← eqb-true c d e) (same-symbol c B D hc a a′)) (Terms-++ a′ (rw (eqb-true c d e) u))
-        (GoalLike-sub (omega arith) (λ x m. m) (GoalLike-++ gA gD)))
+    (GoalLike-sub (omega arith) (λ x m. m) (GoalLike-++ gA gD)))
     (λ e. unmet (λ A B r a. other-symbol c d B D hc hd (eqb-false c d e) a a′)))
 
 pub after-correct : (n i c k : ℕ) (R : List ℕ) → Terms (i + suc k) R → GoalLike n R → 2 ^ 16 ≤ n → n + arity c ≤ 2 ^ 30 → Met n i c k R (after n i c R)

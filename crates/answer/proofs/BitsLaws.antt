@@ -78,8 +78,10 @@ bits-mem (suc r) hs a = go (λ ys b. bits-mem r ys b) (low-of a)
     go i (set ys b e) =
         let n : bitsOf (0 ∷ map suc ys) ≡ bitsOf ys * 2 + 1 = omega (arith, bits-up ys) in
         let h : bit (suc r) (bitsOf (0 ∷ map suc ys)) ≡ bit r (bitsOf ys) = ap (bit (suc r)) n ∙ half r (bitsOf ys) 1 (omega arith) in
-        rw e (λ s. List·Memᴰ·tail (up-mem (i ys b .0 (sym h ∙ s))),
-            λ m. ⊎-elim (λ d. absurd (let z : ⊥ = omega arith in z)) (λ q. h ∙ i ys b .1 (mem-up r ys q)) (List·Memᴰ·cases-cons m))
+        rw e (
+          λ s. List·Memᴰ·tail (up-mem (i ys b .0 (sym h ∙ s))),
+          λ m. ⊎-elim (λ d. absurd (let z : ⊥ = omega arith in z)) (λ q. h ∙ i ys b .1 (mem-up r ys q)) (List·Memᴰ·cases-cons m),
+        )
 
 -- rows from f on and below n
 bits-room : {f n : ℕ} {hs : List ℕ} → f ≤ n → Ascends f hs → All (λ x. x < n) hs → bitsOf hs + 2 ^ f ≤ 2 ^ n

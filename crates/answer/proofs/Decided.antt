@@ -61,7 +61,7 @@ row-terms w (r ∷ rs) a = (a .0 .terms, row-terms w rs (a .1))
 pub run-by : {t p g room room′ : List ℕ} {T : Table} {r : RunAnswer} (tree : Plan (T .width) (T .rows)) → Takes t p g room T → write tree ≡ p
     → Ran t p g room room′ r
     → (runTold r ≡ answered (length (hitsBy g (T .rows) 0)) (triedBy g (skeletons tree (replicate (T .width) hole))))
-        × (room′ ≡ hitsBy g (T .rows) 0 ++ drop (length (hitsBy g (T .rows) 0)) room)
+    × (room′ ≡ hitsBy g (T .rows) 0 ++ drop (length (hitsBy g (T .rows) 0)) room)
 run-by tree k c (refusal f a b d) = apart (sym (takes-run k) ∙ a)
 run-by {t} {p} {g} {room} {T = T} tree k c (ran T′ tree′ found n a e w u b d) =
     let q : T′ ≡ T = read-one (sym a ∙ takes-run k) in
@@ -72,6 +72,8 @@ run-by {t} {p} {g} {room} {T = T} tree k c (ran T′ tree′ found n a e w u b d
     let es = skeletons-one (ap (λ (x : Table). x .width) q) (ap (λ (x : Table). x .rows) q) tree′ tree (sym e ∙ sym c) in
     let Ks = skeletons tree (replicate (T .width) hole) in
     let ts = tried-by (T .width) g h Ks (skeletons-terms (T .width) tree (table-loose i) (omega (arith, i .count))) in
-    let en : n ≡ triedBy g Ks = counts-one (subst (λ (l : List (List ℕ)). Counts (Tried g) l n) es u) ts in
-    (b ∙ ap (λ (l : List ℕ). answered (length l) n) ef ∙ ap (answered (length (hitsBy g (T .rows) 0))) en, d
-        ∙ ap (λ (l : List ℕ). l ++ drop (length l) room) ef)
+    let en : n ≡ triedBy g Ks = counts-one (subst (λ (l : List (List ℕ)). Counts (Tried g) l n) es u) ts in (
+      b ∙ ap (λ (l : List ℕ). answered (length l) n) ef ∙ ap (answered (length (hitsBy g (T .rows) 0))) en,
+      d
+          ∙ ap (λ (l : List ℕ). l ++ drop (length l) room) ef,
+    )

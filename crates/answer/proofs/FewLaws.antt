@@ -68,7 +68,7 @@ mutual
   hitsIn-few (next {g = g} p bs) i m R f =
       let here = test-length (flag g) (g .rows) (λ q. flag-some g q)
       (cond (unifiable (insert i (g .cell) (flatten (g .rows))) R) (f ∷ []) [])
-          (under [] (after (var m) i (g .cell) R) (λ R′. hits p (m + arity (g .cell)) R′ f))
+      (under [] (after (var m) i (g .cell) R) (λ R′. hits p (m + arity (g .cell)) R′ f))
       (one-length (unifiable (insert i (g .cell) (flatten (g .rows))) R) f)
       (under-length (length (g .rows)) (after (var m) i (g .cell) R) (λ R′. hits p (m + arity (g .cell)) R′ f) (λ R′. hits-few p (m + arity (g .cell)) R′ f)) in
       omega (

@@ -168,10 +168,12 @@ module _ (K : List ℕ) (i j : ℕ) (e : count hole K ≡ i + suc j) {x : List �
       go (plain p) = ⊎-elim
           (λ h. let t : twice (c ∷ y) ≡ false = rw h at z in
           let l = twice-once (c ∷ y) t in
-          linear (record { once = λ v hv. rw (refill K i j e (F .loose)) (let d = counts v hv in let n = l v hv in let o = p v hv in
-              omega (arith, d .1, n, o)) }))
+          linear (record {
+            once = λ v hv. rw (refill K i j e (F .loose)) (let d = counts v hv in let n = l v hv in let o = p v hv in
+                omega (arith, d .1, n, o));
+          }))
           (λ h. plain (λ v hv. let d = counts v hv in let o = p v hv in let n : v ≢ c = λ q. true≢false (sym hv ∙ ap isVar q ∙ h) in
-              let u : _≡_ {A = ℕ} (cond (eqb v c) 1 0) 0 = rw (ne-eqb v c n) in omega (arith, d .0, o, u)))
+          let u : _≡_ {A = ℕ} (cond (eqb v c) 1 0) 0 = rw (ne-eqb v c n) in omega (arith, d .0, o, u)))
           (bool-cases (isVar c))
 
   from-row : From i K c y
@@ -261,7 +263,7 @@ module _ (G : List ℕ) where
   one-mean i c K m rows f h F (ends n) ih =
       picks-none (Fills (decide i c K)) rows f
       (all-each (Fine (decide i c K)) (λ (x : List ℕ). ¬ Fills (decide i c K) x)
-          (λ x y. n x (y .loose .terms) (row-like (y .loose)) (even-settled (y .even))) rows F)
+      (λ x y. n x (y .loose .terms) (row-like (y .loose)) (even-settled (y .even))) rows F)
 
   -- a flagged row, by itself
   alone-mean : {n : ℕ} (i c : ℕ) (K R : List ℕ) (f : ℕ) → Holds n G K R → (rows : List (List ℕ)) → length rows ≡ 1 → All (From i K c) rows
@@ -294,12 +296,12 @@ module _ (G : List ℕ) where
     hits-mean (leaf {rows}) K R m n f H e a u t =
         picks-all (Fills K) rows f
         (all-each (Fine K) (Fills K) (λ x F. H .same x (F .loose .terms) (row-like (F .loose)) (even-settled (F .even)) .1
-            (Unify-none (rw e at (F .loose .terms)) (rw e at (H .terms)))) rows a)
+        (Unify-none (rw e at (F .loose .terms)) (rw e at (H .terms)))) rows a)
     hits-mean (node {k} {rows} i h bs) K R m n f H e a u t =
         let q : count hole K ≡ i + suc (k - i) = omega arith in
         picks-runs (λ c x. Fills (decide i c K) x) (Fills K) (Fine K) i
         (λ r F. let z = refill K i (k - i) q (F .loose) in
-            (λ u. subst (λ (l : List ℕ). Unifies l G) (sym z) u, λ u. subst (λ (l : List ℕ). Unifies l G) z u)) rows f a
+        (λ u. subst (λ (l : List ℕ). Unifies l G) (sym z) u, λ u. subst (λ (l : List ℕ). Unifies l G) z u)) rows f a
         (hitsIn-mean bs i K R m n f H e h (from-all K i (k - i) q rows a) (length rows) (group-sizes (root i) (close i) rows) (runs-lone i rows) u t)
 
     hitsIn-mean : {k : ℕ} {gs : List Run} (bs : Branches k gs) (i : ℕ) (K R : List ℕ) (m n f : ℕ) → Holds (var m) G K R → count hole K ≡ suc k → i ≤ k
@@ -317,7 +319,7 @@ module _ (G : List ℕ) where
         (λ q. let F = flag-off i K g q (o .0) (a .0) in
         one-mean i c K m (g .rows) f (λ R′. hits p (m + arity c) R′ f) F (step i c H (omega arith) solid (omega arith) (omega arith))
         (λ R′ H′. hits-mean p (decide i c K) R′ (m + arity c) (n - 1) f
-            (subst (λ (n : ℕ). Holds n G (decide i c K) R′) (add-assoc (2 ^ 16) m (arity c)) H′) d F (v .0) (t .1))))
+        (subst (λ (n : ℕ). Holds n G (decide i c K) R′) (add-assoc (2 ^ 16) m (arity c)) H′) d F (v .0) (t .1))))
         (hitsIn-mean bs i K R m n (f + length (g .rows)) H e l (a .1) z (s .1) (o .1) u (t .2))
 
 -- What a row says of its skeleton.
@@ -395,14 +397,14 @@ module _ (g : List ℕ) where
         let F = once-below i k c K (r .rows) e l (s .0 .0) (a .0) in
         none-of n
         (rw zero-add at (counts-++ (dead-skeletons p (decide i c K) (dead-below K i c (k - i) o q d) h F (s .0 .0))
-            (dead-skeletonsIn bs i K d e l (a .1) z (s .1) n)))
+        (dead-skeletonsIn bs i K d e l (a .1) z (s .1) n)))
 
   -- where a branch's test fails: no variable is decided above, or there is one row, which uses each once
   dead-either : {k : ℕ} {rows : List (List ℕ)} (p : Plan k rows) (K : List ℕ) → Dead goal K → count hole K ≡ k → All (Fine K) rows → 0 < length rows
       → Counts (Tried g) (skeletons p K) 0
   dead-either {rows = rows} p K d e a s = ⊎-elim
       (λ n. dead-all g p K (λ X t r. d X t r (record { once = λ v h m. absurd (let z = n v h in let y : ⊥ = omega arith in y) })) e
-          (all-each (Fine K) (Loose K) (λ x F. F .loose) rows a) s)
+      (all-each (Fine K) (Loose K) (λ x F. F .loose) rows a) s)
       (λ n. dead-skeletons p K d e (all-each (Fine K) (Once K) (λ x F. record { loose = F .loose; lin = only n (F .even) }) rows a) s)
       (some-variable K)
     where
@@ -446,7 +448,7 @@ module _ (g : List ℕ) where
         let q : count hole K ≡ i + suc (k - i) = omega arith in
         let x = some-row (Fine K) rows s a in
         triedIn-mean bs i K R m n H e h (from-all K i (k - i) q rows a) (length rows) (group-sizes (root i) (close i) rows) (runs-lone i rows)
-            (alive-open (x .1) H) u t
+        (alive-open (x .1) H) u t
 
     triedIn-mean : {k : ℕ} {gs : List Run} (bs : Branches k gs) (i : ℕ) (K R : List ℕ) (m n : ℕ) → Holds (var m) goal K R → count hole K ≡ suc k
         → i ≤ k → Each (From i K) gs
@@ -461,11 +463,11 @@ module _ (g : List ℕ) where
         (counts-test (flag r)
         (λ q. let w = flag-on i K r e l q (o .0) (s .0 .0) (a .0) in
         alone-tried i c K R p H e l solid (flag-plain (w .2) (w .4)) (w .2 .row) (w .2 .fine .loose)
-            (from-loose i k c K (r .rows) e l (s .0 .0) (a .0)) (s .0 .0))
+        (from-loose i k c K (r .rows) e l (s .0 .0) (a .0)) (s .0 .0))
         (λ q. let F = flag-off i K r q (o .0) (a .0) in
         one-of y
         (one-tried i c K m (skeletons p (decide i c K)) (λ R′. tried p (m + arity c) R′) (step i c H (omega arith) solid (omega arith) (omega arith))
         (λ R′ H′. tried-mean p (decide i c K) R′ (m + arity c) (n - 1)
-            (subst (λ (n : ℕ). Holds n goal (decide i c K) R′) (add-assoc (2 ^ 16) m (arity c)) H′) d F (s .0 .0) (v .0) (t .1))
+        (subst (λ (n : ℕ). Holds n goal (decide i c K) R′) (add-assoc (2 ^ 16) m (arity c)) H′) d F (s .0 .0) (v .0) (t .1))
         (λ z. dead-either p (decide i c K) z d F (s .0 .0)))))
         (triedIn-mean bs i K R m n H e l (a .1) z (s .1) (o .1) y u (t .2))

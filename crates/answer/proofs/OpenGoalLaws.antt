@@ -68,8 +68,8 @@ module _ (w : ℕ) (Q : List ℕ → Type 0) (has : (K x : List ℕ) → Wide w 
         let q : count hole K ≡ i + suc (k - i) = omega arith in
         let x = some-row (Loose K) rows s a in
         all-skeletonsIn bs i K W e h (group-all (root i) (close i) (Loose K) (LooseBelow i K)
-            (λ x f. (loose-close K i (k - i) q f, no-hole K i (k - i) q f)) rows a) (length rows) (group-sizes (root i) (close i) rows)
-            (has K (x .0) W (x .1))
+        (λ x f. (loose-close K i (k - i) q f, no-hole K i (k - i) q f)) rows a) (length rows) (group-sizes (root i) (close i) rows)
+        (has K (x .0) W (x .1))
 
     all-skeletonsIn : {k : ℕ} {gs : List Run} (bs : Branches k gs) (i : ℕ) (K : List ℕ) → Wide w K → count hole K ≡ suc k → i ≤ k
         → Each (LooseBelow i K) gs → (z : ℕ) → Sized z gs → Q K

@@ -48,8 +48,10 @@ pub opened-low : {K x : List ℕ} → Loose K x → RowLike (fill K (upFrom (2 ^
 opened-low {K} {x} F =
     let s = skeleton-short F in
     let t = Terms-fresh (up-distinct (2 ^ 15) (count hole K) (omega arith)) in
-    record { low = λ c q v. let e = count-fill c K (upFrom (2 ^ 15) (count hole K)) (var-no-hole c v) t in let o = count-mem c q in
-        cases c v (count c K) refl (omega arith) }
+    record {
+      low = λ c q v. let e = count-fill c K (upFrom (2 ^ 15) (count hole K)) (var-no-hole c v) t in let o = count-mem c q in
+          cases c v (count c K) refl (omega arith);
+    }
   where
     cases : (c : ℕ) → isVar c ≡ true → (n : ℕ) → count c K ≡ n → 1 ≤ count c K + count c (upFrom (2 ^ 15) (count hole K)) → c < 2 ^ 16
     cases c v zero e o =
@@ -125,7 +127,7 @@ module _ (g : List ℕ) {n : ℕ} (K R : List ℕ) (H : Holds n (renamed g) K R)
         let q : count hole J ≡ i + suc (k - i) = omega arith in
         let x = some-row (Loose J) rows s a in
         rel-skeletonsIn bs i r e h (group-all (root i) (close i) (Loose J) (LooseBelow i J)
-            (λ x f. (loose-close J i (k - i) q f, no-hole J i (k - i) q f)) rows a)
+        (λ x f. (loose-close J i (k - i) q f, no-hole J i (k - i) q f)) rows a)
         (length rows) (group-sizes (root i) (close i) rows) (rel-tried r (x .1))
 
     rel-skeletonsIn : {k : ℕ} {gs : List Run} (bs : Branches k gs) (i : ℕ) {J J′ : List ℕ} → Rel J J′ → count hole J ≡ suc k → i ≤ k
@@ -186,4 +188,4 @@ module _ (g : List ℕ) where
         let x : count hole (decide i c K) ≡ arity c + k = (let y = decide-count i c K o (omega arith) in omega arith) in
         let f = all-each (LooseBelow i K c) (Loose (decide i c K)) (λ y w. w .0) (r .rows) (a .0) in
         none-of n (rw zero-add at (counts-++ (dead-all p (decide i c K) (dead-all-below K i c (k - i) o q d) x f (s .0 .0))
-            (dead-allIn bs i K d e l (a .1) z (s .1) n)))
+        (dead-allIn bs i K d e l (a .1) z (s .1) n)))

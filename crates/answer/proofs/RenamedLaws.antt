@@ -84,7 +84,7 @@ pub renamed-range : (xs : List ℕ) → Small xs → (c : ℕ) → List·Memᴰ 
 renamed-range [] s c m v = absurd (List·Memᴰ·not-nil (rw renamed-nil at m))
 renamed-range (d ∷ xs) s c m v =
     ⊎-elim (λ e. lift-range d c (s .vars d (List·Memᴰ·head refl)) e v) (λ q. renamed-range xs (small-tail s) c q v)
-        (List·Memᴰ·cases-cons (rw (renamed-cons d xs) at m))
+    (List·Memᴰ·cases-cons (rw (renamed-cons d xs) at m))
 
 pub getD-mem : (xs : List ℕ) (p : ℕ) → p < length xs → List·Memᴰ (getD xs p 0) xs
 getD-mem [] p h = absurd (let z : ⊥ = omega arith in z)

@@ -111,15 +111,21 @@ fill-decide i c (d ∷ K) {A} {args} B h a r = go i A (hole? d) a (λ (j : ℕ) 
         → fill (decide j c K) (A ++ (args ++ B)) ≡ fill K (A ++ (c ∷ (args ++ B))))
         → fill (decide (suc j) c (hole ∷ K)) (A ++ (args ++ B)) ≡ fill (hole ∷ K) (A ++ (c ∷ (args ++ B)))
     later j (first {f} {b} u w) ih =
-        rw (decide-later j c K, append-assoc f b (args ++ B), append-assoc f b (c ∷ (args ++ B)), fill-term (decide j c K) (b ++ (args ++ B)) u,
-            fill-term K (b ++ (c ∷ (args ++ B))) u, ih j b w r)
+        rw (
+          decide-later j c K,
+          append-assoc f b (args ++ B),
+          append-assoc f b (c ∷ (args ++ B)),
+          fill-term (decide j c K) (b ++ (args ++ B)) u,
+          fill-term K (b ++ (c ∷ (args ++ B))) u,
+          ih j b w r,
+        )
 
     go : (i : ℕ) (A : List ℕ) {d : ℕ} → Hole? d → Terms i A
         → ((j : ℕ) (A : List ℕ) → Terms j A → Terms (arity c) args → fill (decide j c K) (A ++ (args ++ B)) ≡ fill K (A ++ (c ∷ (args ++ B))))
         → fill (decide i c (d ∷ K)) (A ++ (args ++ B)) ≡ fill (d ∷ K) (A ++ (c ∷ (args ++ B)))
     go zero A a-hole a ih =
         rw (zero-nil a, decide-here c K, fill-cell c (replicate (arity c) hole ++ K) (args ++ B) h, fill-holes K (arity c) B r)
-            (sym (fill-term K B (Terms-symbol c r)))
+        (sym (fill-term K B (Terms-symbol c r)))
     go (suc j) A a-hole a ih = later j (first-of a) ih
     go i A (a-cell {c = d} n) a ih =
         rw (decide-cell i c d K n, fill-cell d (decide i c K) (A ++ (args ++ B)) n, fill-cell d K (A ++ (c ∷ (args ++ B))) n, ih i A a r)
@@ -137,7 +143,7 @@ decide-count i c (d ∷ K) h l = go i (hole? d) (λ (j : ℕ). decide-count j c 
         → i < count hole (d ∷ K) → suc (count hole (decide i c (d ∷ K))) ≡ arity c + count hole (d ∷ K)
     go zero a-hole ih l =
         rw (decide-here c K, count-other hole c (replicate (arity c) hole ++ K) (λ p. h (sym p)), count-holes (arity c) K, count-same hole K)
-            (omega arith)
+        (omega arith)
     go (suc j) a-hole ih l =
         let e = count-same hole K in
         let r = ih j (omega arith) in
@@ -169,8 +175,9 @@ row-at c {A} {B} r l = record {
 
 pub part-row : (K X : List ℕ) → Terms (count hole K) X → RowLike (fill K X) → RowLike X
 part-row K X t r =
-    record { low = λ c m v. r .low c (mem-count c (fill K X) (let e = count-fill c K X (var-no-hole c v) t in let o = count-mem c m in omega arith)) v
-        }
+    record {
+      low = λ c m v. r .low c (mem-count c (fill K X) (let e = count-fill c K X (var-no-hole c v) t in let o = count-mem c m in omega arith)) v;
+    }
 
 -- what is left of the goal G under the skeleton K
 pub record Holds (n : ℕ) (G K R : List ℕ) : Type 0 where
@@ -214,7 +221,7 @@ module _ (i c j : ℕ) (K : List ℕ) (h : c ≢ hole) (e : count hole K ≡ i +
   -- a variable is decided once more where it is c
   pub decided : (v : ℕ) → isVar v ≡ true → {A args B : List ℕ} → Terms i A → Terms (arity c) args → Terms j B
       → (count v (decide i c K) ≡ cond (eqb v c) 1 0 + count v K)
-          × (count v (fill K (A ++ (c ∷ (args ++ B)))) ≡ count v K + (cond (eqb v c) 1 0 + count v (A ++ (args ++ B))))
+      × (count v (fill K (A ++ (c ∷ (args ++ B)))) ≡ count v K + (cond (eqb v c) 1 0 + count v (A ++ (args ++ B))))
   unfolding count
   decided v hv {A} {args} {B} ta tg tb =
       let f = fill-decide i c K B h ta tg in
@@ -235,7 +242,7 @@ module _ (i c j : ℕ) (K : List ℕ) (h : c ≢ hole) (e : count hole K ≡ i +
       let t : Terms (count hole K) (A ++ (c ∷ (args ++ B))) = rw e (Terms-++ ta (more (Terms-++ tg tb))) in
       let r′ = rw f at r in
       let l′ : Settled K (A ++ (c ∷ (args ++ B))) =
-          record { once = λ v hv n. let d = decided v hv ta tg tb in rw (← f) (l .once v hv (omega (arith, d .0))) } in
+      record { once = λ v hv n. let d = decided v hv ta tg tb in rw (← f) (l .once v hv (omega (arith, d .0))) } in
       let once-c : isVar c ≡ true → count c (A ++ (c ∷ (args ++ B))) ≤ 1 = λ hc.
       let d = decided c hc ta tg tb in
       let o : _≡_ {A = ℕ} (cond (eqb c c) 1 0) 1 = rw (eqb-same c) in
@@ -326,4 +333,4 @@ reached {n} {G} {K} {R} m H l b h =
     let o = opened-row m l b h in
     H .same (upFrom m (count hole K)) (o .terms) (o .row) (o .lin) .1
     (open-unifies (up-distinct m (count hole K) (omega arith)) (record { low = λ c q v. let r = up-mem m (count hole K) c q in omega arith })
-        (H .terms) (H .goal))
+    (H .terms) (H .goal))

@@ -11,6 +11,7 @@ use Rattle.answer.specs.Run.{Ran}
 use Rattle.answer.specs.declared.Job.{Job}
 use Rattle.answer.specs.declared.RunAnswer.{RunAnswer}
 use Rattle.answer.specs.declared.RunAnswer.the-variants as run-answer
+use Rattle.limits.specs.Limits.{mostRows}
 
 -- "the hit rows as 64 bits": bit r is set exactly when row r is among them (proofs/BitsLaws)
 unfoldable pub bitsOf : List ℕ → ℕ
@@ -38,7 +39,7 @@ entered j (run-answer.Ran hits tried) room = filled j 0 0 (bitsOf (take hits roo
 pub data Asked (t p cells : List ℕ) (j j′ : Job) : Type 0 where
   outside : length cells < j .start + j .count → j′ ≡ filled j (reasonNumber reason.Length) 0 0 0 → Asked t p cells j j′
   alone : (room : List ℕ) (r : RunAnswer) → j .start + j .count ≤ length cells
-      → Ran t p (take (j .count) (drop (j .start) cells)) (replicate 64 0) room r → j′ ≡ entered j r room → Asked t p cells j j′
+      → Ran t p (take (j .count) (drop (j .start) cells)) (replicate mostRows 0) room r → j′ ≡ entered j r room → Asked t p cells j j′
 
 -- "after the call each record ..": record by record
 pub data Each {A : Type 0} (P : A → A → Type 0) : List A → List A → Type 0 where

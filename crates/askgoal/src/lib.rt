@@ -4,6 +4,7 @@ use goalsay::Source;
 use goaltext::GoalText;
 use instance::RepliesAnswer;
 use limits::BRANCHES;
+use limits::ROW_CELLS;
 use limits::ROWS;
 use page::Page;
 use plannotes::Noted;
@@ -42,21 +43,21 @@ pub struct Sheet {
 // read has so many cells.
 pub struct Found {
     pub answer: RunAnswer,
-    pub hits: [u8; 64],
+    pub hits: [u8; ROWS],
     pub names: usize,
-    pub new: [u32; 32],
+    pub new: [u32; ROW_CELLS],
     pub size: usize,
-    pub cells: [u32; 32],
+    pub cells: [u32; ROW_CELLS],
 }
 
 // The first of a goal's cells or names.
-fn front(cells: &[u32; 32], count: usize) -> &[u32] {
+fn front(cells: &[u32; ROW_CELLS], count: usize) -> &[u32] {
     let all = &cells[..];
     part(all, 0, count)
 }
 
 // The rules that fit.
-fn rules_of(hits: &[u8; 64], count: usize) -> &[u8] {
+fn rules_of(hits: &[u8; ROWS], count: usize) -> &[u8] {
     let all = &hits[..];
     slices::bytes::part(all, 0, count)
 }
@@ -117,9 +118,9 @@ pub fn find(
 ) -> Found {
     let shop = ready.shop;
     let p = shop.p;
-    let mut cells = [0u32; 32];
-    let mut new = [0u32; 32];
-    let mut hits = [0u8; 64];
+    let mut cells = [0u32; ROW_CELLS];
+    let mut new = [0u32; ROW_CELLS];
+    let mut hits = [0u8; ROWS];
     match goaltext::read_goal(
         text,
         shop::names_in(kept, shop),

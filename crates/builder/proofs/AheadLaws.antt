@@ -145,8 +145,11 @@ module _ (t ss ms ls : List ℕ) (from : ℕ) where
   unfolding rowsAt
   column-from zero r j f = refl
   column-from (suc n) r j f =
-      rw (f r (omega arith) (omega arith), ahead-root from j (getD ms r 0) (drop (getD ss r 0) t),
-          column-from n (r + 1) j (λ s a b. f s (omega arith) (omega arith)))
+      rw (
+        f r (omega arith) (omega arith),
+        ahead-root from j (getD ms r 0) (drop (getD ss r 0) t),
+        column-from n (r + 1) j (λ s a b. f s (omega arith) (omega arith)),
+      )
 
   pub column-ahead : {first end : ℕ} → AheadIn t ss ms ls from first end → (i : ℕ) → from ≤ i
       → map (root (i - from)) (rowsIn t ss ls first end) ≡ map (root i) (rowsIn t ss ms first end)

@@ -110,8 +110,10 @@ module _ {t ss ms ls : List ℕ} {j first end : ℕ} (q : ToClose t ss ms ls j f
               (λ (w : r < row). rw (getD-set-other ms₁ row r n 0 (λ (e : r ≡ row). omega arith)) (g .rows r a w))
               (λ w. let e : r ≡ row = omega arith in rw (e, m′) (rw as-it-was at (d .row)));
           ahead = λ r a z. by-cases (decLt r row)
-              (λ (w : r < row). rw (getD-set-other ms₁ row r n 0 (λ (e : r ≡ row). omega arith),
-                  getD-set-other ls₁ row r l 0 (λ (e : r ≡ row). omega arith)) (g .ahead r a w))
+              (λ (w : r < row). rw (
+                getD-set-other ms₁ row r n 0 (λ (e : r ≡ row). omega arith),
+                getD-set-other ls₁ row r l 0 (λ (e : r ≡ row). omega arith),
+              ) (g .ahead r a w))
               (λ w. let e : r ≡ row = omega arith in rw (e, m′, l′) (d .ahead));
           others = λ r a. (
             getD-set-other ms₁ row r n 0 (λ (e : r ≡ row). omega arith) ∙ g .others r (omega arith) .0,

@@ -13,6 +13,7 @@ use least::By;
 use limits::KEPT_CELLS;
 use limits::PLAN_CELLS;
 use limits::RECORD_CELLS;
+use limits::ROWS;
 use refusal::Input;
 use refusal::Reason;
 use refusal::Refusal;
@@ -106,7 +107,7 @@ pub fn build_for(by: By, columns: &[u32], cells: &[u32], room: &mut [u32]) -> Bu
 {
     let named = named_of(columns);
     let mut kept = [0; KEPT_CELLS];
-    let read = paircosts::fill(by, named.mask, cells, &mut kept[..], 64, 0);
+    let read = paircosts::fill(by, named.mask, cells, &mut kept[..], ROWS, 0);
     build(cells, read, named, &kept[..], room)
 }
 

@@ -15,7 +15,7 @@ ghost use Rattle.state.specs.code.First.{TableRows};
 ghost use Rattle.least.specs.code.Follow as follow;
 ghost use Rattle.builder.specs.code.Writing.{openIn, chain, ToWrite, ToWriteAll, Written, Planned};
 ghost use Rattle.builder.specs.code.Ahead.{AheadIn, ToCloseRow, ClosedRow, ToClose, ClosedAhead, Again, ToTake, Taken};
-ghost use Rattle.limits.specs.Limits.{keptCells, mostPlanCells, mostRows};
+ghost use Rattle.limits.specs.Limits.{keptCells, mostPlanCells, mostRowCells, mostRows};
 use limits::PLAN_CELLS;
 use limits::ROWS;
 use state::column::run_count;
@@ -84,7 +84,7 @@ fn leftmost(
     rows: Rows,
     from: u32,
 ) -> u32
-    requires { ⌜ (rows .first < rows .end) × (rows .end ≤ mostRows) × (rows .opens ≤ 32) × (rows .named < 2 ^ rows .opens) ⌝ }
+    requires { ⌜ (rows .first < rows .end) × (rows .end ≤ mostRows) × (rows .opens ≤ mostRowCells) × (rows .named < 2 ^ rows .opens) ⌝ }
     ensures { λ r. ⌜ ((ms : List ℕ) → AheadIn (now (table .entry)) (now (starts .entry)) ms (now (ahead .entry)) from (rows .first) (rows .end)
         → r ≡ follow.agreedFrom (flagsIn (rows .opens) (rows .named)) (rows .opens - from) from
         (rowsIn (now (table .entry)) (now (starts .entry)) ms (rows .first) (rows .end))) ⌝ }

@@ -1,6 +1,7 @@
 // What can be had of a bad card: what is reported of it, and a card made of that.
 ghost use Prim.Native.Nat.{_+_, _≤_};
 ghost use lib.ListN.{length};
+ghost use Rattle.limits.specs.Limits.{mostRows};
 use cardmake::Made;
 use filing::FileAnswer;
 use limits::PLAN_CELLS;
@@ -75,7 +76,7 @@ pub fn put_mended(out: &mut [u8], path: &[u8], file: &[u8], card: &mut [u8]) -> 
 }
 
 fn put_report(out: &mut [u8], r: Report, bad: &[usize]) -> usize
-    requires { ⌜ (r .kept + r .dropped ≤ 64) × (r .bad ≤ length (now bad)) ⌝ }
+    requires { ⌜ (r .kept + r .dropped ≤ mostRows) × (r .bad ≤ length (now bad)) ⌝ }
 {
     let n = r.bad;
     mendwords::put_report(out, 0, r.kept, r.kept + r.dropped, r.plan_kept, &bad[..n])

@@ -235,7 +235,7 @@ isVar-kind c = var-by c (reading c)
 shapeIn : Values → Shape
 shapeIn v =
     cond (eqb (v .kind) 0) (Variable (v .number))
-        (cond (eqb (v .kind) 1) (Name (v .args) (v .number)) (cond (eqb (v .kind) 2) (Number (v .value)) Refused))
+    (cond (eqb (v .kind) 1) (Name (v .args) (v .number)) (cond (eqb (v .kind) 2) (Number (v .value)) Refused))
 
 shape-found : (s : Shape) → shapeIn (valuesOf s) ≡ s
 unfolding shapeIn

@@ -146,7 +146,7 @@ module _ {t : List ℕ} {start mask : ℕ} {p : List ℕ} {k at left owed place 
         pub chain-ends-3 : {f : Refusal} → length p ≤ place + 2 → told f ≡ badPlan reason.Ends (place + 2) → AloneDone t start mask p k at (step.Refused f)
         chain-ends-3 m =
             refused (badPlan reason.Ends (place + 2)) (as-branch
-                ∙ branches-ends (stateFrom 32) [] (getD p place 0) (owed - 1) branch [] p (place + 2) m)
+            ∙ branches-ends (stateFrom 32) [] (getD p place 0) (owed - 1) branch [] p (place + 2) m)
 
         module _ {c : Closed} (closed : ClosedAt (getD p place 0) left (drop start t) c) (m : place + 2 < length p) where
           pub chain-label : {f : Refusal} → getD p (place + 2) 0 ≢ c .cell → told f ≡ badPlan reason.Label (place + 2)

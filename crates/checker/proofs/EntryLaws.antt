@@ -89,7 +89,7 @@ named-under t columns p = go (tableOf t) refl
   where
     go : (r : Read Table) → tableOf t ≡ r
         → andThen r (λ (T : Table). when (ltb (T .width) (pastFrom 0 columns)) (refused reason.Column input.Columns 0)
-            (planWith (flagsIn (T .width) (maskFrom 0 columns)) T p))
+        (planWith (flagsIn (T .width) (maskFrom 0 columns)) T p))
         ≡ andThen r (λ (T : Table). andThen (columnsFor T columns) (λ (named : List Bool). planWith named T p))
     go (read T) e =
         rw (past-any (T .width) 0 columns (omega arith), mask-flags (T .width) columns (is-table t e .width .1))

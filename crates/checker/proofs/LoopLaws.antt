@@ -169,7 +169,7 @@ module _ {t ss p ms hs : List ℕ} {first last named i k at : ℕ} {ms₁ hs₁ 
     pub turn-refused : {f : Refusal} → s ≡ step.Refused f → DoneIn t ss ms hs ms₂ hs₂ p first last named i k at (step.Refused f)
     turn-refused {f} e =
         going-refused g (told f) (rw (r .runs) (branches-refused (stateFrom 32) (flagsIn (suc k) named) i k one others p place (told f) (w .here)
-            (w .label) (says-below ∙ ap (saidBy p) e))) refl
+        (w .label) (says-below ∙ ap (saidBy p) e))) refl
         (same-later (row + n) last (r .few) (a .masks))
         (same-later (row + n) last (r .few) (a .column))
 
@@ -202,10 +202,10 @@ module _ {t ss p ms hs : List ℕ} {first last named i k at : ℕ} {ms₁ hs₁ 
       says-next =
           let q : count + (1 + b) ≡ count + (b + 1) = omega arith in
           let on = branches-on (stateFrom 32) (flagsIn (suc k) named) i k one others p place (seen b m (drop m p)) (w .here) (w .label)
-              (says-below ∙ ap (saidBy p) e) in
+          (says-below ∙ ap (saidBy p) e) in
           rw (others-kept, q)
           (sym (after-after count (b + 1) (branchesFrom (stateFrom 32) (flagsIn (suc k) named) i k others m (drop m p))) ∙ ap (after count) (sym on)
-              ∙ (rw (r .runs) at (g .says)))
+          ∙ (rw (r .runs) at (g .says)))
 
       pub turn-on : Going t ss p ms hs first last named i k at ms₂ hs₂ (row + n) m (count + (1 + b))
       turn-on = record {

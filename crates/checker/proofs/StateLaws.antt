@@ -148,7 +148,7 @@ module _ {t ss ms hs p : List ℕ} {first last named k at : ℕ} (w : Ready t ss
         done-edges n h e d =
             closed-refused (badPlan reason.Edges (at + 1))
             (node-edges (stateFrom 32) fs (k - 1) rows p at h (omega arith) allowed
-                (λ (x : getD p (at + 1) 0 ≡ length (runs (getD p at 0) rows)). d (x ∙ sym (number n e))))
+            (λ (x : getD p (at + 1) 0 ≡ length (runs (getD p at 0) rows)). d (x ∙ sym (number n e))))
 
         -- the rows are shorter, and fit, below each branch
         pub shorter : longest (rowsIn t ss ms₁ first last) < longest rows

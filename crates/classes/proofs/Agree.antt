@@ -55,7 +55,7 @@ module _ {N : Nodes} (f : Fair N) where
           let τ = a .by in
           let p = cut P (c ∷ B) (u ∷ Q) (s .good) t .0 (a .same) in
           let q : c ∷ inst τ B ≡ c ∷ (vals N τ ks ++ vals N τ Q) =
-              sym (inst-symbol c B (s .good) h) ∙ p .1 ∙ one τ u Q ∙ ap (λ (l : List ℕ). l ++ vals N τ Q) (value s) in
+          sym (inst-symbol c B (s .good) h) ∙ p .1 ∙ one τ u Q ∙ ap (λ (l : List ℕ). l ++ vals N τ Q) (value s) in
           record { by = τ; solves = s; same = cut P B (ks ++ Q) (s .good) t .1 (p .0, tail-eq-of-cons-eq q ∙ sym (both τ)) },
       λ a. let s = a .solves in
           let τ = a .by in
@@ -63,9 +63,11 @@ module _ {N : Nodes} (f : Fair N) where
           record {
             by = τ;
             solves = s;
-            same = cut P (c ∷ B) (u ∷ Q) (s .good) t .1
-                (p .0, inst-symbol c B (s .good) h ∙ ap (λ (l : List ℕ). c ∷ l) (p .1 ∙ both τ)
-                    ∙ sym (one τ u Q ∙ ap (λ (l : List ℕ). l ++ vals N τ Q) (value s)));
+            same = cut P (c ∷ B) (u ∷ Q) (s .good) t .1 (
+              p .0,
+              inst-symbol c B (s .good) h ∙ ap (λ (l : List ℕ). c ∷ l) (p .1 ∙ both τ)
+                  ∙ sym (one τ u Q ∙ ap (λ (l : List ℕ). l ++ vals N τ Q) (value s)),
+            );
           },
     )
       where
@@ -85,7 +87,7 @@ module _ {N : Nodes} (f : Fair N) where
         let τ = a .by in
         let p = cut P (c ∷ B) (u ∷ Q) (s .good) t .0 (a .same) in
         d (head-eq-of-cons-eq (sym (ap (λ (l : List ℕ). l ++ vals N τ Q) (s .classes u ∙ s .heads (at rep u) nz)) ∙ sym (one τ u Q) ∙ sym (p .1)
-            ∙ inst-symbol c B (s .good) h))
+        ∙ inst-symbol c B (s .good) h))
 
     -- a row's variable met first: it is kept with its node
     pub agree-first : isVar c ≡ true → Agrees N rep (A ++ (c ∷ B)) (P ++ (u ∷ Q)) ↔ Agrees N rep (c ∷ (A ++ B)) (u ∷ (P ++ Q))
@@ -122,8 +124,12 @@ module _ {N : Nodes} (f : Fair N) where
       λ a. let r = unmerged f F m (a .solves) in
           let s = r .0 in
           let p = cut (P₁ ++ (w ∷ P₂)) B Q (s .good) whole .0 (a .same) in
-          record { by = a .by; solves = s; same = cut (P₁ ++ (w ∷ P₂)) (c ∷ B) (u ∷ Q) (s .good) whole .1
-              (p .0, cut-var c B u Q (s .good) h .1 (met (s .good) (p .0) ∙ r .1, p .1)) },
+          record {
+            by = a .by;
+            solves = s;
+            same = cut (P₁ ++ (w ∷ P₂)) (c ∷ B) (u ∷ Q) (s .good) whole .1
+                (p .0, cut-var c B u Q (s .good) h .1 (met (s .good) (p .0) ∙ r .1, p .1));
+          },
     )
 
     -- what agrees makes the two nodes equal

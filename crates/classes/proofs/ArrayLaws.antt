@@ -91,7 +91,7 @@ module _ (rep : List ℕ) (x y : ℕ) (h : x < length rep) (fx : at rep x ≡ x)
   one-other : (r : ℕ) → r ≢ x → one (join x y rep) r ≡ one rep r
   one-other r n = by-cases (ℕ-discrete (at rep r) x)
       (λ q. let a : at (join x y rep) r ≢ r = λ e. n
-          (sym (sym q ∙ ap (λ (z : ℕ). at rep z) (sym (sym (join-here rep x y r h q) ∙ e)) ∙ fy ∙ sym (join-here rep x y r h q) ∙ e)) in
+      (sym (sym q ∙ ap (λ (z : ℕ). at rep z) (sym (sym (join-here rep x y r h q) ∙ e)) ∙ fy ∙ sym (join-here rep x y r h q) ∙ e)) in
       rw (ne-eqb (at (join x y rep) r) r a, ne-eqb (at rep r) r (λ e. n (sym e ∙ q))))
       (λ q. rw (join-other rep x y r h q))
 
@@ -199,8 +199,15 @@ module _ {bs ns sib rep : List ℕ} (R : Ready bs ns sib rep) (a b left : ℕ) (
         let f = fewer R a b ha hb d′ in
         let sx : getD rep a 0 < 64 = rw (← x-is) (R .small a ha) in
         let sy : getD rep b 0 < 64 = rw (← y-is) (R .small b hb) in
-        rw q′ (record { ready = ready-join R a b ha hb d′; left = R .kids (getD rep a 0) sx nz; right =
-            rw e (R .kids (getD rep b 0) sy (λ o. nz (e ∙ o))) }, omega arith)
+        rw q′ (
+          record {
+            ready = ready-join R a b ha hb d′;
+            left = R .kids (getD rep a 0) sx nz;
+            right =
+                rw e (R .kids (getD rep b 0) sy (λ o. nz (e ∙ o)));
+          },
+          omega arith,
+        )
 
     by-args : {rep₁ rep′ : List ℕ} {n : ℕ} → getD bs (getD rep a 0) 0 ≢ 0 → getD bs (getD rep a 0) 0 ≡ getD bs (getD rep b 0) 0
         → rep₁ ≡ join (getD rep a 0) (getD rep b 0) rep

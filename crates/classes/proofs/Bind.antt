@@ -41,7 +41,7 @@ module _ {N N′ : Nodes} (f : Fair N) (rep : List ℕ) {v c : ℕ} {ws : List �
           let nz′ : N′ .head r ≢ 0 = λ e. nz (sym (b .head-other r d) ∙ e) in
           let h = s .heads r nz′ in
           ap (inst τ) (sym (b .own-same r)) ∙ h ∙ ap₂ (λ (x : ℕ) (l : List ℕ). x ∷ inst τ l) (b .head-other r d) (owns-bound b (N′ .kids r)
-              ∙ ap (owns N) (b .kids-other r d));
+          ∙ ap (owns N) (b .kids-other r d));
     },
     here,
   )
@@ -104,13 +104,13 @@ module _ {N N′ : Nodes} (f : Fair N) (rep : List ℕ) {v c : ℕ} {ws : List �
         let o = one-cell (Terms-inst (s .good) (f .term v)) in
         let vu : val N τ u ≡ val N τ v = s .classes u ∙ ap (val N τ) hu in
         let q : c ∷ inst τ B ≡ o .0 ∷ (o .1 ++ vals N τ Q) =
-            sym (inst-symbol c B (s .good) hc) ∙ p .1 ∙ one f τ u Q ∙ ap (λ (l : List ℕ). l ++ vals N τ Q) (vu ∙ o .2) in
+        sym (inst-symbol c B (s .good) hc) ∙ p .1 ∙ one f τ u Q ∙ ap (λ (l : List ℕ). l ++ vals N τ Q) (vu ∙ o .2) in
         let cd = head-eq-of-cons-eq q in
         let e : val N τ v ≡ c ∷ o .1 = o .2 ∙ ap (λ (x : ℕ). x ∷ o .1) (sym cd) in
         let tu : Terms (arity c) (o .1) = rw (cd, ← add-zero (arity (o .0))) (o .3) in
         let σ = new s (o .1) e tu in
         let on : (xs : List ℕ) → ((d : ℕ) → List·Memᴰ d xs → ¬ List·Memᴰ d (n .cells)) → inst (σ .new) xs ≡ inst τ xs =
-            λ xs h. inst-agree (σ .new) τ xs (λ d m. σ .keeps d (h d m)) in
+        λ xs h. inst-agree (σ .new) τ xs (λ d m. σ .keeps d (h d m)) in
         let eA : inst (σ .new) A ≡ vals N (σ .new) P = on A (λ d m. nx d (Memᴰ·append-left B m)) ∙ p .0 ∙ sym (offs s (o .1) e tu P nP) in
         let eB : inst (σ .new) B ≡ vals N (σ .new) (ws ++ Q)
         = on B (λ d m. nx d (Memᴰ·append-right A m)) ∙ tail-eq-of-cons-eq q ∙ ap₂ _++_ (sym (of-new s (o .1) e tu)) (sym (offs s (o .1) e tu Q nQ))
@@ -127,9 +127,11 @@ module _ {N N′ : Nodes} (f : Fair N) (rep : List ℕ) {v c : ℕ} {ws : List �
         record {
           by = τ;
           solves = s;
-          same = cut f P (c ∷ B) (u ∷ Q) (s .good) t .1
-              (p .0, inst-symbol c B (s .good) hc ∙ ap (λ (l : List ℕ). c ∷ l) (p .1 ∙ two τ)
-                  ∙ ap (λ (l : List ℕ). l ++ vals N τ Q) (sym (r .1) ∙ ap (val N τ) (sym hu) ∙ sym (s .classes u)) ∙ sym (one f τ u Q));
+          same = cut f P (c ∷ B) (u ∷ Q) (s .good) t .1 (
+            p .0,
+            inst-symbol c B (s .good) hc ∙ ap (λ (l : List ℕ). c ∷ l) (p .1 ∙ two τ)
+                ∙ ap (λ (l : List ℕ). l ++ vals N τ Q) (sym (r .1) ∙ ap (val N τ) (sym hu) ∙ sym (s .classes u)) ∙ sym (one f τ u Q),
+          );
         },
   )
     where

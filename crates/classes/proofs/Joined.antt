@@ -85,7 +85,7 @@ module _ {N : Nodes} (f : Fair N) {τ : ℕ → List ℕ} where
           good = s .good;
           classes = λ r. by-cases (ℕ-discrete (at rep r) x)
               (λ q. s .classes r ∙ ap (val N τ) (join-here rep x y r h q) ∙ sym e ∙ ap (val N τ) (sym q)) (λ q. s .classes r
-                  ∙ ap (val N τ) (join-other rep x y r h q));
+              ∙ ap (val N τ) (join-other rep x y r h q));
           heads = s .heads;
         },
         e,

@@ -77,7 +77,7 @@ module _ {N N′ : Nodes} (rep : List ℕ) {v c : ℕ} {ws : List ℕ} (b : Bind
       sort-bound r (literal nz e) =
           let d = other r nz in
           literal (rw (b .head-other r d) nz) (b .own-same r ∙ e
-              ∙ ap₂ _∷_ (sym (b .head-other r d)) (sym (owns-bound b (N′ .kids r) ∙ ap (owns N) (b .kids-other r d))))
+          ∙ ap₂ _∷_ (sym (b .head-other r d)) (sym (owns-bound b (N′ .kids r) ∙ ap (owns N) (b .kids-other r d))))
       sort-bound r (variable x h e s) = variable x h (b .own-same r ∙ e) s
 
 -- a joining

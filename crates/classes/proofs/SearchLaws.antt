@@ -134,7 +134,7 @@ module _ {bs ns sib rep mark : List ℕ} {r : ℕ} (S : Searching bs ns sib rep 
           let a = kid-short so r s (rw x-is nz) (rw x-is m) in
           by-cases (ℕ-discrete g x)
           (λ e. let b : length (inst τ (own r)) ≡ length (inst τ (own g)) =
-              ap length (so .classes r ∙ ap (λ (n : ℕ). inst τ (own n)) (x-is ∙ sym e)) in omega arith)
+          ap length (so .classes r ∙ ap (λ (n : ℕ). inst τ (own n)) (x-is ∙ sym e)) in omega arith)
           (λ e. let b = S .under .shorter own τ f so g (rw (getD-set-other mark x g 1 0 e) at q) in omega arith);
     }
 
@@ -164,7 +164,7 @@ module _ {bs ns sib rep mark : List ℕ} {r x p k : ℕ} (S : Searching bs ns si
         here = rw (ek, ep) (S .ready .kids x (rw e (x-small S)) o);
         unders =
             rw (ek, ep, e) (all-under S z′ (Under bs ns sib rep (set mark (getD rep r 0) 1))
-                (steps sib (arity (getD bs (getD rep r 0) 0)) (getD ns (getD rep r 0) 0))
+            (steps sib (arity (getD bs (getD rep r 0) 0)) (getD ns (getD rep r 0) 0))
             (λ s m. under-kid S z′ (rw e at o) s m));
       })
 

@@ -156,8 +156,13 @@ module _ (K : List ℕ) (n : ℕ) (a : Solid K) (e : count hole K ≡ n) (l : n 
             most = λ us c.
                 let r = common-passes t c in
                 let here : Instance call (inst (r .by) call) = record { by = r .by; good = r .good; same = refl } in
-                p .most us (record { by = r .by; good = r .good; same = r .same; fits =
-                    m .most (inst (r .by) call) (record { first = r .fits; second = here }) });
+                p .most us (record {
+                  by = r .by;
+                  good = r .good;
+                  same = r .same;
+                  fits =
+                      m .most (inst (r .by) call) (record { first = r .fits; second = here });
+                });
           };
           order = p .order;
         }
@@ -207,7 +212,7 @@ module _ (K : List ℕ) (n : ℕ) (a : Solid K) (e : count hole K ≡ n) (l : n 
             passes = record { by = p .by; good = p .good; same = p .same; fits = instance-self b };
             most =
                 λ us q. r .instance .most us (passes-common t
-                    (record { by = q .by; good = q .good; same = q .same; fits = instance-then (p .fits) (q .fits) }));
+                (record { by = q .by; good = q .good; same = q .same; fits = instance-then (p .fits) (q .fits) }));
             order = r .order;
           };
         }

@@ -36,19 +36,22 @@ mutual
   visitedAt-long end i n z s l = absurd (omega arith)
   visitedAt-long (next {k} {g} {gs} p bs) i n z s l =
       one gs bs (each-long (next {g = g} p bs) i n (suc k) (suc n) z s) (visited-long p n (s .0 .0)) (visited-long p (suc n) (s .0 .0))
-          (visitedIn-long bs (suc n + splits p) z (s .1))
+      (visitedIn-long bs (suc n + splits p) z (s .1))
     where
       one : (gs : List Run) (bs : Branches k gs) → length (own n (suc k) (suc n) (each (next {g = g} p bs) i)) ≡ suc (length gs)
           → suc (length (visited p n)) ≡ leaves p + splits p
           → suc (length (visited p (suc n))) ≡ leaves p + splits p
           → length (visitedIn bs (suc n + splits p)) + length gs ≡ leavesIn bs + splitsIn bs
           → suc (length (single gs (visited p n) (own n (suc k) (suc n) (each (next {g = g} p bs) i)
-              ++ (visited p (suc n) ++ visitedIn bs (suc n + splits p)))))
+          ++ (visited p (suc n) ++ visitedIn bs (suc n + splits p)))))
           ≡ leaves p + leavesIn bs + (single gs 0 1 + (splits p + splitsIn bs))
       one [] end o a b c = omega arith
       one (g′ ∷ gs) bs o a b c =
-          omega (arith, length-append (own n (suc k) (suc n) (each (next {g = g} p bs) i)) (visited p (suc n) ++ visitedIn bs (suc n + splits p)),
-              length-append (visited p (suc n)) (visitedIn bs (suc n + splits p)))
+          omega (
+            arith,
+            length-append (own n (suc k) (suc n) (each (next {g = g} p bs) i)) (visited p (suc n) ++ visitedIn bs (suc n + splits p)),
+            length-append (visited p (suc n)) (visitedIn bs (suc n + splits p)),
+          )
 
   visitedIn-long : {k : ℕ} {gs : List Run} (bs : Branches k gs) (n z : ℕ) → Sized z gs
       → length (visitedIn bs n) + length gs ≡ leavesIn bs + splitsIn bs

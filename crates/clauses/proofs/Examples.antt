@@ -46,14 +46,14 @@ unfoldable tree : Plan 3 rows
 unfolding root close agree arity valuesAt isVar
 tree = node {k = 2} 0 (omega arith)
     (next (node {k = 1} 0 (omega arith) (next (node {k = 0} 0 (omega arith) (next leaf (next leaf end)))
-        (next (node {k = 0} 0 (omega arith) (next leaf end)) end)))
+    (next (node {k = 0} 0 (omega arith) (next leaf end)) end)))
     (next (node {k = 1} 0 (omega arith) (next (node {k = 0} 0 (omega arith) (next leaf end)) end)) end))
 
 text-p1 : programText words (program tree) ≡
     39 ∷ 80 ∷ 48 ∷ 39 ∷ 40 ∷ 97 ∷ 44 ∷ 32 ∷ 95 ∷ 48 ∷ 44 ∷ 32 ∷ 95 ∷ 49 ∷ 41 ∷ 32 ∷ 58 ∷ 45 ∷ 32 ∷ 39 ∷ 80 ∷ 49 ∷ 39 ∷ 40 ∷ 95 ∷ 48 ∷ 44 ∷ 32 ∷ 95
-        ∷ 49 ∷ 41 ∷ 46 ∷ 10 ∷ 39 ∷ 80 ∷ 48 ∷ 39 ∷ 40 ∷ 98 ∷ 44 ∷ 32 ∷ 97 ∷ 44 ∷ 32 ∷ 99 ∷ 41 ∷ 46 ∷ 10 ∷ 39 ∷ 80 ∷ 49 ∷ 39 ∷ 40 ∷ 98 ∷ 44 ∷ 32 ∷ 95
-        ∷ 48 ∷ 41 ∷ 32 ∷ 58 ∷ 45 ∷ 32 ∷ 39 ∷ 80 ∷ 50 ∷ 39 ∷ 40 ∷ 95 ∷ 48 ∷ 41 ∷ 46 ∷ 10 ∷ 39 ∷ 80 ∷ 49 ∷ 39 ∷ 40 ∷ 99 ∷ 44 ∷ 32 ∷ 99 ∷ 41 ∷ 46 ∷ 10
-        ∷ 39 ∷ 80 ∷ 50 ∷ 39 ∷ 40 ∷ 99 ∷ 41 ∷ 46 ∷ 10 ∷ 39 ∷ 80 ∷ 50 ∷ 39 ∷ 40 ∷ 100 ∷ 41 ∷ 46 ∷ 10 ∷ []
+    ∷ 49 ∷ 41 ∷ 46 ∷ 10 ∷ 39 ∷ 80 ∷ 48 ∷ 39 ∷ 40 ∷ 98 ∷ 44 ∷ 32 ∷ 97 ∷ 44 ∷ 32 ∷ 99 ∷ 41 ∷ 46 ∷ 10 ∷ 39 ∷ 80 ∷ 49 ∷ 39 ∷ 40 ∷ 98 ∷ 44 ∷ 32 ∷ 95
+    ∷ 48 ∷ 41 ∷ 32 ∷ 58 ∷ 45 ∷ 32 ∷ 39 ∷ 80 ∷ 50 ∷ 39 ∷ 40 ∷ 95 ∷ 48 ∷ 41 ∷ 46 ∷ 10 ∷ 39 ∷ 80 ∷ 49 ∷ 39 ∷ 40 ∷ 99 ∷ 44 ∷ 32 ∷ 99 ∷ 41 ∷ 46 ∷ 10
+    ∷ 39 ∷ 80 ∷ 50 ∷ 39 ∷ 40 ∷ 99 ∷ 41 ∷ 46 ∷ 10 ∷ 39 ∷ 80 ∷ 50 ∷ 39 ∷ 40 ∷ 100 ∷ 41 ∷ 46 ∷ 10 ∷ []
 unfolding tree root close agree arity valuesAt isVar each predicate numbered own below callees headOf hole fill decide front back count appear upFrom
     programText answerText termsText symbolWord closing owing decimal digitsOf
 text-p1 = refl
@@ -70,8 +70,8 @@ tree-twice = node {k = 1} 0 (omega arith)
 
 text-twice : programText words (program tree-twice) ≡
     39 ∷ 80 ∷ 48 ∷ 39 ∷ 40 ∷ 102 ∷ 40 ∷ 95 ∷ 48 ∷ 41 ∷ 44 ∷ 32 ∷ 95 ∷ 49 ∷ 41 ∷ 32 ∷ 58 ∷ 45 ∷ 32 ∷ 39 ∷ 80 ∷ 49 ∷ 39 ∷ 40 ∷ 95 ∷ 48 ∷ 44 ∷ 32 ∷ 95
-        ∷ 49 ∷ 41 ∷ 46 ∷ 10 ∷ 39 ∷ 80 ∷ 48 ∷ 39 ∷ 40 ∷ 99 ∷ 44 ∷ 32 ∷ 45 ∷ 49 ∷ 41 ∷ 46 ∷ 10 ∷ 39 ∷ 80 ∷ 49 ∷ 39 ∷ 40 ∷ 95 ∷ 48 ∷ 44 ∷ 32 ∷ 95 ∷ 48
-        ∷ 41 ∷ 46 ∷ 10 ∷ 39 ∷ 80 ∷ 49 ∷ 39 ∷ 40 ∷ 97 ∷ 44 ∷ 32 ∷ 98 ∷ 41 ∷ 46 ∷ 10 ∷ []
+    ∷ 49 ∷ 41 ∷ 46 ∷ 10 ∷ 39 ∷ 80 ∷ 48 ∷ 39 ∷ 40 ∷ 99 ∷ 44 ∷ 32 ∷ 45 ∷ 49 ∷ 41 ∷ 46 ∷ 10 ∷ 39 ∷ 80 ∷ 49 ∷ 39 ∷ 40 ∷ 95 ∷ 48 ∷ 44 ∷ 32 ∷ 95 ∷ 48
+    ∷ 41 ∷ 46 ∷ 10 ∷ 39 ∷ 80 ∷ 49 ∷ 39 ∷ 40 ∷ 97 ∷ 44 ∷ 32 ∷ 98 ∷ 41 ∷ 46 ∷ 10 ∷ []
 unfolding tree-twice root close agree arity valuesAt isVar each predicate numbered own below callees headOf hole fill decide front back count appear
     upFrom programText answerText termsText symbolWord closing owing decimal digitsOf
 text-twice = refl

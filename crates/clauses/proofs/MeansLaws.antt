@@ -28,9 +28,13 @@ solid-below i K g d f l = solid-decide i (g .cell) K (f l) (d l)
 
 -- of several runs none has all the rows
 fewer-rows : (g g′ : Run) (gs : List Run) (z : ℕ) → Sized z (g ∷ (g′ ∷ gs)) → Sized (rowCount (g ∷ (g′ ∷ gs)) - 1) (g ∷ (g′ ∷ gs))
-fewer-rows g g′ gs z s =
-    ((s .0 .0, omega (arith, s .1 .0 .0)), ((s .1 .0 .0, omega (arith, s .0 .0)),
-        rest gs z (rowCount (g ∷ (g′ ∷ gs)) - 1) (s .1 .1) (omega (arith, s .0 .0))))
+fewer-rows g g′ gs z s = (
+  (s .0 .0, omega (arith, s .1 .0 .0)),
+  (
+    (s .1 .0 .0, omega (arith, s .0 .0)),
+    rest gs z (rowCount (g ∷ (g′ ∷ gs)) - 1) (s .1 .1) (omega (arith, s .0 .0)),
+  ),
+)
   where
     rest : (hs : List Run) (z n : ℕ) → Sized z hs → rowCount hs ≤ n → Sized n hs
     rest [] z n a l = tt
@@ -86,9 +90,9 @@ mutual
       let MQ : (y : ℕ) → Sized y (g ∷ gs)
       → Means (clause p (decide i (g .cell) B) (each bs i)) (suc k) (32 * y) (expand (λ (c : ℕ). fill (decide i c B)) (g ∷ gs))
       = λ y t. clause-means p (suc k) (32 * y) (decide i (g .cell) B) (o .0) (frame-below (suc k) i (g .cell) k B c h n (frame-blank (suc k)))
-          (below-count i (g .cell) k B c h n)
+      (below-count i (g .cell) k B c h n)
       (seats k (g .cell) (g .rows) (a .0)) (s .0 .0) (omega (arith, t .0 .1)) (solid-below i B g (λ l. blank-solid (suc k)) (x .0))
-          (each-means bs i (o .1) h m (a .1) (x .1) y (t .1)) in
+      (each-means bs i (o .1) h m (a .1) (x .1) y (t .1)) in
       let M₁ = clause-means p w r (decide i (g .cell) K) (o .0) (frame-below w i (g .cell) k K e h n f) (below-count i (g .cell) k K e h n)
       (seats k (g .cell) (g .rows) (a .0)) (s .0 .0) (omega arith) (solid-below i K g (λ l. d (omega arith)) (x .0)) M in
       one-or-more w i k r K h g gs z f a s e m l d M₁ MQ M
@@ -102,9 +106,9 @@ mutual
       let B = blank k in
       let c = count-all (suc k) in
       clause-means p (suc k) (32 * z) (decide i (g .cell) B) (o .0) (frame-below (suc k) i (g .cell) k B c h n (frame-blank (suc k)))
-          (below-count i (g .cell) k B c h n)
+      (below-count i (g .cell) k B c h n)
       (seats k (g .cell) (g .rows) (a .0)) (s .0 .0) (omega (arith, s .0 .1)) (solid-below i B g (λ l. blank-solid (suc k)) (x .0))
-          (each-means bs i (o .1) h m (a .1) (x .1) z (s .1))
+      (each-means bs i (o .1) h m (a .1) (x .1) z (s .1))
 
 -- W-210's theorem: to every goal the clauses of a plan answer what the rows reply, in row order
 pub clauses-mean : {k : ℕ} {rows : List (List ℕ)} (p : Plan (suc k) rows) → OneRow p → All (Seat (suc k)) rows → 0 < length rows
@@ -117,7 +121,7 @@ clauses-mean {rows = rows} (node {k} i h bs) o a s =
     let v : map (fill (blank k)) rows ≡ rows = same-rows rows a in
     let M = each-means bs i o h (few-places (suc k) rows a s)
     (group-all (root i) (close i) (Seat (suc k)) (SeatAt k) (seat-close k i h) rows a) (runs-fixed i rows) (length rows)
-        (group-sizes (root i) (close i) rows) in
+    (group-sizes (root i) (close i) rows) in
     rw (w, v) at M
   where
     same-rows : (rs : List (List ℕ)) → All (Seat (suc k)) rs → map (fill (blank k)) rs ≡ rs

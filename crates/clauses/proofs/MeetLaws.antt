@@ -88,8 +88,15 @@ module _ (n d : ℕ) (hn : n ≤ 2 ^ 16) (hd : d ≤ 2 ^ 16) where
   back-range c v (of-goal h k) =
       let w : isVar (n + (c - 2 ^ 16)) ≡ true = var-small (n + (c - 2 ^ 16)) (omega arith) in
       let e : n + (c - 2 ^ 16) - n ≡ c - 2 ^ 16 = omega arith in
-      rw (v, le-ltb c (2 ^ 16) h, lt-ltb c (2 ^ 17) (omega arith), w, le-ltb (n + (c - 2 ^ 16)) n (omega arith),
-          lt-ltb (n + (c - 2 ^ 16)) (n + d) (omega arith), e) (omega arith)
+      rw (
+        v,
+        le-ltb c (2 ^ 16) h,
+        lt-ltb c (2 ^ 17) (omega arith),
+        w,
+        le-ltb (n + (c - 2 ^ 16)) n (omega arith),
+        lt-ltb (n + (c - 2 ^ 16)) (n + d) (omega arith),
+        e,
+      ) (omega arith)
 
   lowered : (T : List ℕ) → inst low T ≡ map lowNumber T
   unfolding low

@@ -78,12 +78,12 @@ below-within next (rule h Q P) =
     let R : Clause → Type 0 = λ c. (next ≤ c .predicate) × (c .predicate < next + suc (n + m)) in
     all-++ R (own next (length (handed h)) (suc next) Q) _
     (all-each (λ (c : Clause). c .predicate ≡ next) R (λ c e. (omega arith, omega arith)) (own next (length (handed h)) (suc next) Q)
-        (own-is next (length (handed h)) (suc next) Q))
+    (own-is next (length (handed h)) (suc next) Q))
     (all-++ R (below (suc next) Q) (below (next + suc n) P)
     (all-each (λ (c : Clause). (suc next ≤ c .predicate) × (c .predicate < suc next + n)) R (λ c e. (omega (arith, e .0), omega (arith, e .1)))
-        (below (suc next) Q) (below-within (suc next) Q))
+    (below (suc next) Q) (below-within (suc next) Q))
     (all-each (λ (c : Clause). (next + suc n ≤ c .predicate) × (c .predicate < next + suc n + m)) R
-        (λ c e. (omega (arith, e .0), omega (arith, e .1))) (below (next + suc n) P) (below-within (next + suc n) P)))
+    (λ c e. (omega (arith, e .0), omega (arith, e .1))) (below (next + suc n) P) (below-within (next + suc n) P)))
 
 -- the predicates that are called are there
 abbrev Called : (program : List Clause) → ℕ → Predicate → Type 0
@@ -127,28 +127,28 @@ called-there program next (rule h Q P) pre post e a b =
     let j = below-within (next + suc n) P in
     let q = called-there program (suc next) Q (pre ++ O) (C ++ post) e₁
     (all-++ (Out (suc next) n) pre O (all-each (Out next (suc (n + m))) (Out (suc next) n) (λ c. low c next n m) pre a)
-        (all-each (λ (c : Clause). c .predicate ≡ next) (Out (suc next) n) (λ c z. inl (omega arith)) O o))
+    (all-each (λ (c : Clause). c .predicate ≡ next) (Out (suc next) n) (λ c z. inl (omega arith)) O o))
     (all-++ (Out (suc next) n) C post
     (all-each (λ (c : Clause). (next + suc n ≤ c .predicate) × (c .predicate < next + suc n + m)) (Out (suc next) n)
-        (λ c z. inr (omega (arith, z .0))) C j) (all-each (Out next (suc (n + m))) (Out (suc next) n) (λ c. low c next n m) post b)) in
+    (λ c z. inr (omega (arith, z .0))) C j) (all-each (Out next (suc (n + m))) (Out (suc next) n) (λ c. low c next n m) post b)) in
     let p = called-there program (next + suc n) P ((pre ++ O) ++ B) post e₂
     (all-++ (Out (next + suc n) m) (pre ++ O) B
     (all-++ (Out (next + suc n) m) pre O (all-each (Out next (suc (n + m))) (Out (next + suc n) m) (λ c. high c next n m) pre a)
-        (all-each (λ (c : Clause). c .predicate ≡ next) (Out (next + suc n) m) (λ c z. inl (omega arith)) O o))
+    (all-each (λ (c : Clause). c .predicate ≡ next) (Out (next + suc n) m) (λ c z. inl (omega arith)) O o))
     (all-each (λ (c : Clause). (suc next ≤ c .predicate) × (c .predicate < suc next + n)) (Out (next + suc n) m) (λ c z. inl (omega (arith, z .1))) B i))
     (all-each (Out next (suc (n + m))) (Out (next + suc n) m) (λ c. high c next n m) post b) in
     let not : (c : Clause) → Out next (suc (n + m)) c → c .predicate ≢ next = λ c. away c next (n + m) in
     let Y = B ++ (C ++ post) in
     let ny : Not next Y
     = all-++ (λ (c : Clause). c .predicate ≢ next) B (C ++ post)
-        (all-each (λ (c : Clause). (suc next ≤ c .predicate) × (c .predicate < suc next + n)) (λ (c : Clause). c .predicate ≢ next)
-        (λ c z f. (let y : ⊥ = omega (arith, z .0) in y)) B i)
+    (all-each (λ (c : Clause). (suc next ≤ c .predicate) × (c .predicate < suc next + n)) (λ (c : Clause). c .predicate ≢ next)
+    (λ c z f. (let y : ⊥ = omega (arith, z .0) in y)) B i)
     (all-++ (λ (c : Clause). c .predicate ≢ next) C post
-        (all-each (λ (c : Clause). (next + suc n ≤ c .predicate) × (c .predicate < next + suc n + m)) (λ (c : Clause). c .predicate ≢ next)
-        (λ c z f. (let y : ⊥ = omega (arith, z .0) in y)) C j)
+    (all-each (λ (c : Clause). (next + suc n ≤ c .predicate) × (c .predicate < next + suc n + m)) (λ (c : Clause). c .predicate ≢ next)
+    (λ c z f. (let y : ⊥ = omega (arith, z .0) in y)) C j)
     (all-each (Out next (suc (n + m))) (λ (c : Clause). c .predicate ≢ next) not post b)) in
     let here = collect-past pre (all-each (Out next (suc (n + m))) (λ (c : Clause). c .predicate ≢ next) not pre a)
-        (collect-own next (length (handed h)) (suc next) Q Y q ny) in
+    (collect-own next (length (handed h)) (suc next) Q Y q ny) in
     (subst (λ (cs : List Clause). Collects program next cs Q) (sym e₃) here, p)
   where
     low : (c : Clause) (next n m : ℕ) → (c .predicate < next) ⊎ (next + suc (n + m) ≤ c .predicate)
@@ -175,7 +175,7 @@ numbered-collects w P =
     (all-each (λ (c : Clause). c .predicate ≡ 0) Out (λ c z. inl (omega arith)) O (own-is 0 w 1 P)) tt in
     collect-own 0 w 1 P B c
     (all-each (λ (c : Clause). (1 ≤ c .predicate) × (c .predicate < 1 + callees P)) (λ (c : Clause). c .predicate ≢ 0)
-        (λ c z f. (let y : ⊥ = omega (arith, z .0) in y)) B (below-within 1 P))
+    (λ c z f. (let y : ⊥ = omega (arith, z .0) in y)) B (below-within 1 P))
 
 pub numbered-answers : (w : ℕ) (P : Predicate) (goal : List ℕ) (all : List (List ℕ)) → Answers (numbered w P) 0 goal all ↔ Says P goal all
 numbered-answers w P goal all = let c = numbered-collects w P in (λ x. answers-says c x, λ x. says-answers c x)

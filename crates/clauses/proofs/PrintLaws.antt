@@ -63,7 +63,7 @@ unfolding appear
 appear-again [] ys met h = appear-none ys met (λ c m v. ⊎-elim (λ l. l) (λ q. absurd (List·Memᴰ·not-nil q)) (h c m v))
 appear-again (x ∷ xs) ys met h =
     go (isVar x && eqb (count x met) 0) refl (appear-again xs ys (x ∷ met)
-        (λ c m v. ⊎-elim (λ l. inl (more-count c x met l)) (λ q. fresh c v (List·Memᴰ·cases-cons q)) (h c m v)))
+    (λ c m v. ⊎-elim (λ l. inl (more-count c x met l)) (λ q. fresh c v (List·Memᴰ·cases-cons q)) (h c m v)))
     (λ old. appear-again xs ys met (λ c m v. ⊎-elim inl (λ q. ⊎-elim (λ e. inl (old c e v)) inr (List·Memᴰ·cases-cons q)) (h c m v)))
   where
     fresh : (c : ℕ) → isVar c ≡ true → (c ≡ x) ⊎ List·Memᴰ c xs → (1 ≤ count c (x ∷ met)) ⊎ List·Memᴰ c xs
@@ -134,7 +134,7 @@ module _ (words : Words) where
       go a-hole t g ih jh =
           let x : Goods words (front 1 X ++ fill K (back 1 X)) = rw (fill-hole K X) at g in
           let z = goods-both (front 1 X) (back 1 X) (goods-left (front 1 X) (fill K (back 1 X)) x)
-              (jh (first-hole K X t .1) (goods-right (front 1 X) (fill K (back 1 X)) x)) in
+          (jh (first-hole K X t .1) (goods-right (front 1 X) (fill K (back 1 X)) x)) in
           rw (front-back 1 X) at z
       go (a-cell {c} n) t g ih jh = let x : Goods words (c ∷ fill K X) = rw (fill-cell c K X n) at g in ih (no-hole K X n t) (x .1)
 
@@ -200,7 +200,7 @@ module _ (words : Words) where
       let q : suc k ≡ i + suc (k - i) = omega arith in
       group-all (root i) (close i) (λ (r : List ℕ). Seat (suc k) r × Full K r) (λ (c : ℕ). Full (decide i c K))
       (λ r x. (let e = refill i (k - i) K r (rw q at (x .0)) in (rw e (x .1 .0), rw e (x .1 .1), rw e (x .1 .2)))) rows
-          (all-both (Seat (suc k)) (Full K) rows a f)
+      (all-both (Seat (suc k)) (Full K) rows a f)
 
   -- of a state with no variable decided above it, the rows themselves
   full-blank : (k : ℕ) (K : List ℕ) → Solid K → count hole K ≡ suc k → (rows : List (List ℕ)) → All (Seat (suc k)) rows
@@ -236,7 +236,7 @@ module _ (words : Words) where
       let sh : length hd ≤ 32 = rw is (omega (arith, fill-long K vs tk, fill-long K r (g .0), g .2, up-length 0 (suc k), terms-long (g .0))) in
       let sv : length vs ≤ 32 = omega (arith, up-length 0 (suc k)) in
       fine-rule {n = k} (record { terms = th; goods = gh; short = sh }) (rw h (up-length 0 (suc k)))
-          (rw h (record { terms = tv; goods = u; short = sv })) (rw h (counted (hd ++ vs) (goods-both hd vs gh u) num)) q p
+      (rw h (record { terms = tv; goods = u; short = sv })) (rw h (counted (hd ++ vs) (goods-both hd vs gh u) num)) q p
 
   one-or-more : (w i k : ℕ) (K r : List ℕ) (g : Run) (gs : List Run) {z : ℕ} {P P₁ Q : Predicate} → Frame (suc w) K → count hole K ≡ suc k
       → suc k ≤ 32
@@ -272,9 +272,9 @@ module _ (words : Words) where
         let n = group-rows (root i) (close i) rows in
         clauseIn-fine bs w i K (head-row rows) o f e h (few-places (suc k) rows a s)
         (group-all (root i) (close i) (Seat (suc k)) (SeatAt k) (seat-close k i h) rows a) (runs-fixed i rows) (length rows)
-            (group-sizes (root i) (close i) rows)
+        (group-sizes (root i) (close i) rows)
         (λ l. d (omega (arith, n))) (head-full rows s a x) (full-runs i k K h rows a x)
-            (λ l. full-runs i k (blank k) h rows a (full-blank k K (d (omega (arith, n))) e rows a x)) P
+        (λ l. full-runs i k (blank k) h rows a (full-blank k K (d (omega (arith, n))) e rows a x)) P
       where
         head-row : List (List ℕ) → List ℕ
         head-row [] = []
@@ -298,9 +298,9 @@ module _ (words : Words) where
         (seats k (g .cell) (g .rows) (a .0)) (s .0 .0) (solid-below i K g (λ l. d (omega arith)) (x .0)) (y .0) P in
         one-or-more w i k K r g gs f e m s d v P₁
         (λ two. clause-fine p k (decide i (g .cell) B) (o .0) (frame-below (suc k) i (g .cell) k B c h n (frame-blank (suc k)))
-            (below-count i (g .cell) k B c h n)
+        (below-count i (g .cell) k B c h n)
         (seats k (g .cell) (g .rows) (a .0)) (s .0 .0) (solid-below i B g (λ l. blank-solid (suc k)) (x .0)) (b two .0)
-            (each-fine bs i (o .1) h m (a .1) (x .1) z (s .1) (b two .1))) P
+        (each-fine bs i (o .1) h m (a .1) (x .1) z (s .1) (b two .1))) P
 
     each-fine : {k : ℕ} {gs : List Run} (bs : Branches k gs) (i : ℕ) → OneRows bs → i ≤ k → suc k ≤ 32 → Each (SeatAt k) gs → Fixed gs
         → (z : ℕ) → Sized z gs
@@ -312,7 +312,7 @@ module _ (words : Words) where
         let c = count-all (suc k) in
         clause-fine p k (decide i (g .cell) B) (o .0) (frame-below (suc k) i (g .cell) k B c h n (frame-blank (suc k))) (below-count i (g .cell) k B c h n)
         (seats k (g .cell) (g .rows) (a .0)) (s .0 .0) (solid-below i B g (λ l. blank-solid (suc k)) (x .0)) (b .0)
-            (each-fine bs i (o .1) h m (a .1) (x .1) z (s .1) (b .1))
+        (each-fine bs i (o .1) h m (a .1) (x .1) z (s .1) (b .1))
 
   pub predicate-fine : {k : ℕ} {rows : List (List ℕ)} (p : Plan (suc k) rows) → OneRow p → All (Seat (suc k)) rows → 0 < length rows
       → All (λ (r : List ℕ). Goods words r × Numbered r) rows → Fine k (predicate p)
@@ -321,7 +321,7 @@ module _ (words : Words) where
       let f : All (Full (blank k)) rows
       = all-each (λ (r : List ℕ). Seat (suc k) r × (Goods words r × Numbered r)) (Full (blank k))
       (λ r y. (let z = fill-all (suc k) (y .0 .terms) in (rw z (y .1 .0), rw z (y .1 .1), rw z (y .0 .short)))) rows
-          (all-both (Seat (suc k)) (λ (r : List ℕ). Goods words r × Numbered r) rows a x) in
+      (all-both (Seat (suc k)) (λ (r : List ℕ). Goods words r × Numbered r) rows a x) in
       each-fine bs i o h (few-places (suc k) rows a s)
       (group-all (root i) (close i) (Seat (suc k)) (SeatAt k) (seat-close k i h) rows a) (runs-fixed i rows) (length rows) (group-sizes (root i) (close i) rows)
       (full-runs i k (blank k) h rows a f)

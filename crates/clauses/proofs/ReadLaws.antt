@@ -96,7 +96,7 @@ line-said words apart (fact-printed {k} {w} {head} h n) t pre post e =
     let A = atom-said words pre tail k w head h in
     let x : lineText words (clauseOf k (suc w) head nothing) ++ post ≡ S ++ tail = append-assoc S (46 ∷ 10 ∷ []) post in
     let s : Spells t words (A .symbols) head = subst (λ (l : List ℕ). Spells l words (A .symbols) head) (sym (e ∙ ap (λ (l : List ℕ). pre ++ l) x))
-        (A .spells) in
+    (A .spells) in
     let r = spelt-row t words 0 0 (n .0) apart s (n .1) in
     record {
       at = suc (length pre + length S);

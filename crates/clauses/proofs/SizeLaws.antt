@@ -109,8 +109,13 @@ line-long words (rule-printed {k} {w} {j} {n} {head} h m g c) =
     let X = handed head in
     let B = bodyText words head (calls j) in
     let q : length (atomText words j (length X) X) ≡ atomBytes words j X = rw m (answer-long words (predicateWord j) n X (g .terms)) in
-    omega (arith, answer-long words (predicateWord k) w head (h .terms), q, length-append (atomText words k (suc w) head) (B ++ (46 ∷ 10 ∷ [])),
-        length-append B (46 ∷ 10 ∷ []))
+    omega (
+      arith,
+      answer-long words (predicateWord k) w head (h .terms),
+      q,
+      length-append (atomText words k (suc w) head) (B ++ (46 ∷ 10 ∷ [])),
+      length-append B (46 ∷ 10 ∷ []),
+    )
 
 -- so a program is measured clause by clause
 pub program-long : (words : Words) (cs : List Clause) → All (Printed words) cs → length (programText words cs) ≡ programBytes words cs

@@ -150,7 +150,7 @@ appear-fill (c ∷ K) met n a h l = go (hole? c) (a .0) h (λ met n. appear-fill
         let X = upFrom (suc n) (count hole K) in
         let low : Lower (suc n) (n ∷ met) = λ m q. count-other m n met (λ p. (let z : ⊥ = omega arith in z)) ∙ l m (omega arith) in
         rw (e, fill-hole K (n ∷ X), front-++ X t, back-++ X t) (appear-new met n (fill K X) w (l n (omega arith))
-            ∙ ap (λ (l : List ℕ). n ∷ l) (ih (n ∷ met) (suc n) (omega arith) low))
+        ∙ ap (λ (l : List ℕ). n ∷ l) (ih (n ∷ met) (suc n) (omega arith) low))
     go (a-cell {c} m) v h ih =
         let e = count-other hole c K (λ p. m (sym p)) in
         rw (e, fill-cell c K (upFrom n (count hole K)) m) (appear-symbol met c (fill K (upFrom n (count hole K))) v ∙ ih met n (omega arith) l)
@@ -174,7 +174,7 @@ fill-mem (d ∷ K) X c t m = go (hole? d) t (fill-mem K X c) (fill-mem K (back 1
     go a-hole u ih jh =
         let m′ : List·Memᴰ c (front 1 X ++ back 1 X) = rw (front-back 1 X) m in
         rw (fill-hole K X) (⊎-elim (λ q. Memᴰ·append-left (fill K (back 1 X)) q) (λ q. Memᴰ·append-right (front 1 X) (jh (first-hole K X u .1) q))
-            (List·Memᴰ·append-cases (front 1 X) m′))
+        (List·Memᴰ·append-cases (front 1 X) m′))
     go (a-cell {c = d} n) u ih jh = rw (fill-cell d K X n) (List·Memᴰ·tail (ih (no-hole K X n u) m))
 
 -- the variables that come first in two lists with one front

@@ -85,12 +85,12 @@ module _ {t : List ℕ} {w : ℕ} {rows : List (List ℕ)} (i : IsTable t w rows
   means : Means (predicate tree) w (32 * length rows) rows
   means =
       plan-means w (i .width .0) tree (one-row tree (all-each (Head w) (Terms w) (λ r x. x .terms) rows (i .each)) (i .apart) (i .count .0))
-          (all-each (Head w) (Seat w) (seat-row w) rows (i .each)) (i .count .0)
+      (all-each (Head w) (Seat w) (seat-row w) rows (i .each)) (i .count .0)
 
   pub program-few : length (program tree) ≤ 127
   program-few =
       let f = plan-few w (i .width .0) tree (one-row tree (all-each (Head w) (Terms w) (λ r x. x .terms) rows (i .each)) (i .apart) (i .count .0))
-          (all-each (Head w) (Seat w) (seat-row w) rows (i .each)) (i .count .0) in
+      (all-each (Head w) (Seat w) (seat-row w) rows (i .each)) (i .count .0) in
       let n = i .count .1 in
       omega arith
 
@@ -133,7 +133,7 @@ module _ {t : List ℕ} {w : ℕ} {rows : List (List ℕ)} (i : IsTable t w rows
       plan-fine words w (i .width .0) tree (one-row tree (all-each (Head w) (Terms w) (λ r x. x .terms) rows (i .each)) (i .apart) (i .count .0))
       (all-each (Head w) (Seat w) (seat-row w) rows (i .each)) (i .count .0)
       (all-each (λ (r : List ℕ). Head w r × ((c : ℕ) → List·Memᴰ c r → kindOf c ≡ 1 → numberOf c < length names))
-          (λ (r : List ℕ). Goods words r × Numbered r) good rows
+      (λ (r : List ℕ). Goods words r × Numbered r) good rows
       (all-both (Head w) (λ (r : List ℕ). (c : ℕ) → List·Memᴰ c r → kindOf c ≡ 1 → numberOf c < length names) rows (i .each) (l .known)))
 
   pub text-reads : Reads words (textFor text names (program tree)) (program tree)

@@ -37,7 +37,7 @@ mutual
   clauseIn-callees end i K P z s l = absurd (omega arith)
   clauseIn-callees (next {k} {g} {gs} p bs) i K P z s l =
       one gs bs (clause-callees p (decide i (g .cell) K) P (s .0 .0)) (clause-callees p (decide i (g .cell) (blank k)) (each bs i) (s .0 .0))
-          (each-callees bs i z (s .1))
+      (each-callees bs i z (s .1))
     where
       one : (gs : List Run) (bs : Branches k gs) → callees (clause p (decide i (g .cell) K) P) ≡ splits p + callees P
           → callees (clause p (decide i (g .cell) (blank k)) (each bs i)) ≡ splits p + callees (each bs i)
@@ -68,7 +68,7 @@ mutual
   clauseIn-own end i K P j w n z s l = absurd (omega arith)
   clauseIn-own (next {k} {g} {gs} p bs) i K P j w n z s l =
       one gs bs (clause-own p (decide i (g .cell) K) P j w n (s .0 .0)) (clause-callees p (decide i (g .cell) (blank k)) (each bs i) (s .0 .0))
-          (each-callees bs i z (s .1))
+      (each-callees bs i z (s .1))
     where
       one : (gs : List Run) (bs : Branches k gs)
           → own j w n (clause p (decide i (g .cell) K) P) ≡ clauseOf j w (foldHead p (decide i (g .cell) K)) (foldBody p n) ∷ own j w (n + splits p) P
@@ -76,7 +76,7 @@ mutual
           → callees (each bs i) ≡ splitsIn bs
           → own j w n (single gs (clause p (decide i (g .cell) K) P) (rule (headOf K) (clause p (decide i (g .cell) (blank k)) (each bs i)) P))
           ≡ clauseOf j w (single gs (foldHead p (decide i (g .cell) K)) (headOf K)) (single gs (foldBody p n) (calls n))
-              ∷ own j w (n + (single gs 0 1 + (splits p + splitsIn bs))) P
+          ∷ own j w (n + (single gs 0 1 + (splits p + splitsIn bs))) P
       one [] end a b c = let e : n + (0 + (splits p + 0)) ≡ n + splits p = omega arith in rw e a
       one (g′ ∷ gs) bs a b c =
           let Q = clause p (decide i (g .cell) (blank k)) (each bs i) in
@@ -94,7 +94,7 @@ mutual
   clause-below (node {k} {rows} i h bs) K P n e a s d =
       let r = group-rows (root i) (close i) rows in
       clauseIn-below bs i K P n e h (few-places (suc k) rows a s) (group-all (root i) (close i) (Seat (suc k)) (SeatAt k) (seat-close k i h) rows a)
-          (runs-fixed i rows)
+      (runs-fixed i rows)
       (length rows) (group-sizes (root i) (close i) rows) (group-some (root i) (close i) rows s) (λ l. d (omega (arith, r)))
 
   clauseIn-below : {k : ℕ} {gs : List Run} (bs : Branches k gs) (i : ℕ) (K : List ℕ) (P : Predicate) (n : ℕ) → count hole K ≡ suc k
@@ -106,12 +106,12 @@ mutual
       let c = one-solid k (g .cell) (g .rows) (a .0) (s .0 .0) in
       let B = blank k in
       let u = clause-below p (decide i (g .cell) K) P n (below-count i (g .cell) k K e h c) (seats k (g .cell) (g .rows) (a .0)) (s .0 .0)
-          (solid-below i K g (λ l. d (omega arith)) (x .0)) in
+      (solid-below i K g (λ l. d (omega arith)) (x .0)) in
       let v = clause-below p (decide i (g .cell) B) (each bs i) (suc n) (below-count i (g .cell) k B (count-all (suc k)) h c)
-          (seats k (g .cell) (g .rows) (a .0)) (s .0 .0)
+      (seats k (g .cell) (g .rows) (a .0)) (s .0 .0)
       (solid-below i B g (λ l. blank-solid (suc k)) (x .0)) in
       one gs bs s (λ two. d two) u v (each-below bs i (suc n + splits p) h m (a .1) (x .1) z (s .1))
-          (clause-callees p (decide i (g .cell) B) (each bs i) (s .0 .0)) (each-callees bs i z (s .1))
+      (clause-callees p (decide i (g .cell) B) (each bs i) (s .0 .0)) (each-callees bs i z (s .1))
     where
       one : (gs : List Run) (bs : Branches k gs) → Sized z (g ∷ gs) → (2 ≤ rowCount (g ∷ gs) → Solid K)
           → below n (clause p (decide i (g .cell) K) P) ≡ visited p n ++ below (n + splits p) P
@@ -126,7 +126,7 @@ mutual
       one (g′ ∷ gs) bs s d u v b q r =
           let Q = clause p (decide i (g .cell) (blank k)) (each bs i) in
           let w : length (handed (headOf K)) ≡ suc k = ap length (handed-is K (suc k) (d (omega (arith, s .0 .0, s .1 .0 .0))) e (omega arith))
-              ∙ up-length 0 (suc k) in
+          ∙ up-length 0 (suc k) in
           let f : n + (1 + (splits p + splitsIn bs)) ≡ n + suc (callees Q) = omega arith in
           let o = own n (suc k) (suc n) Q in
           let t : below (suc n) Q ≡ visited p (suc n) ++ visitedIn bs (suc n + splits p) = v ∙ ap (λ (l : List Clause). visited p (suc n) ++ l) b in

@@ -15,6 +15,7 @@ use Rattle.least.specs.declared.By.the-variants.{Work}
 use Rattle.record.specs.Record.{cellsIn, Holds, tableIn}
 use Rattle.demands.specs.Demands.{Demand1Build, Demand3Build}
 use Rattle.record.specs.Edits.{Edit, append, drop-last, replace, editOf, WorkedOut, Without, Made}
+use Rattle.limits.specs.Limits.{mostRows}
 
 -- 02, W-204, "FIGURE for a figure above 15, before the table's": what turns a working out away, and the refusal that it gets
 pub data WorkTurned (figure : ℕ) (cells : List ℕ) (refusal : Refused) : Type 0 where
@@ -32,10 +33,10 @@ pub record MakesRecord (figure : ℕ) (cells rec rec′ : List ℕ) (answer : An
 -- "Refusals: FULL to append at 64 rows, LAST to drop the only row, INDEX for a missing r, then 01's from LONG on for the new row, places
 -- from its start", and W-208's "against every other row, at 0": what turns an edit away, and the refusal that it gets
 pub data EditTurned (T : Table) : Edit → Refused → Type 0 where
-  full : {row : List ℕ} → 64 ≤ length (T .rows) → EditTurned T (append row) (refused reason.Full input.Table 0)
+  full : {row : List ℕ} → mostRows ≤ length (T .rows) → EditTurned T (append row) (refused reason.Full input.Table 0)
   last : length (T .rows) ≤ 1 → EditTurned T drop-last (refused reason.Last input.Table 0)
   index : {r : ℕ} {row : List ℕ} → length (T .rows) ≤ r → EditTurned T (replace r row) (refused reason.Index input.Table 0)
-  bad-append : {row : List ℕ} {f : Refused} → length (T .rows) < 64 → rowOf (T .width) (T .rows) row ≡ refuse f
+  bad-append : {row : List ℕ} {f : Refused} → length (T .rows) < mostRows → rowOf (T .width) (T .rows) row ≡ refuse f
       → EditTurned T (append row) f
   bad-replace : {r : ℕ} {row : List ℕ} {f : Refused} → r < length (T .rows) → rowOf (T .width) (others r (T .rows)) row ≡ refuse f
       → EditTurned T (replace r row) f

@@ -21,6 +21,7 @@ use Rattle.blocks.specs.Blocks.{whole, blockAt}
 use Rattle.filing.specs.Files.{fileOf}
 use Rattle.demands.specs.Demands.{LeastBy}
 use Rattle.demands.specs.Files.{SoundAt, FileHolds, WritesFile}
+use Rattle.limits.specs.Limits.{mostColumns, mostRows}
 
 -- "bad or missing block; a part of a block is a bad one": a block that is neither is there, whole, and sound
 pub record SoundBlock (file : List ℕ) (k : ℕ) : Type 0 where
@@ -48,8 +49,8 @@ module _ (file : List ℕ) where
 -- "HEAD when block 0 is missing or bad or its width or count is out of range": a file that has none of these
 pub record Headed (file : List ℕ) : Type 0 where
   pub block : SoundBlock file 0
-  pub width-in : (1 ≤ widthOn file) × (widthOn file ≤ 8)
-  pub count-in : (1 ≤ countOn file) × (countOn file ≤ 64)
+  pub width-in : (1 ≤ widthOn file) × (widthOn file ≤ mostColumns)
+  pub count-in : (1 ≤ countOn file) × (countOn file ≤ mostRows)
 
 -- "rows from the top that the table's checks accept and that end within the table size and before the first bad or missing block": rows of 01
 -- of the file's width, none doubled (W-208) and no more than it counts, which are its cells from cell 4 on; the table size counts width and

@@ -73,7 +73,7 @@ module _ {rec : List ℕ} {figure : ℕ} {T : Table} (x : Holds rec figure T)
     again-kept : Kept (work figure) (T .width) (new .rows) kept
     again-kept =
         filled-kept (plain-filled (fills .accepted new here (kept-long x) .filled
-            (free-kept [] (flagsIn (T .width) 0) (plain-free (T .width)) (zero-free (T .width)) right)))
+        (free-kept [] (flagsIn (T .width) 0) (plain-free (T .width)) (zero-free (T .width)) right)))
         (λ first last h l o. kept-zero (x .kept) first last h l (no-pair o))
 
     pub again-held : {copied done : List ℕ}

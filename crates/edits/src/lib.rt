@@ -123,7 +123,7 @@ pub fn work_out(cells: &[u32], figure: u32, rec: &mut [u32; RECORD_CELLS]) -> Ta
         let all = &mut rec[..];
         store::clear(&mut *all, 2, RECORD_CELLS);
         store::copy(&mut *all, 2, cells);
-        paircosts::fill(By::Work(figure), 0, cells, &mut all[2052..], 64, 0);
+        paircosts::fill(By::Work(figure), 0, cells, &mut all[2052..], ROWS, 0);
         store::put(&mut *all, 0, cells.len());
         all[1] = figure;
     }

@@ -142,8 +142,15 @@ upper-digit b e =
 seen-word : (level : ℕ) (s : Stand) (d n b : ℕ) → isWord b ≡ true → seen level s d n b ≡ sight (worded s (termed b)) false d n
 unfolding seen
 seen-word level s d n b e =
-    rw (not-mark b 37 e (omega arith), not-blank b e, not-mark b 40 e (omega arith), not-mark b 41 e (omega arith), not-mark b 44 e (omega arith),
-        not-mark b 45 e (omega arith), not-mark b 46 e (omega arith))
+    rw (
+      not-mark b 37 e (omega arith),
+      not-blank b e,
+      not-mark b 40 e (omega arith),
+      not-mark b 41 e (omega arith),
+      not-mark b 44 e (omega arith),
+      not-mark b 45 e (omega arith),
+      not-mark b 46 e (omega arith),
+    )
 
 seen-blank : (level : ℕ) (s : Stand) (d n : ℕ) {b : ℕ} → Blank b → seen level s d n b ≡ sight (rested s) false d n
 unfolding seen isBlank
@@ -173,7 +180,7 @@ module _ (level : ℕ) where
   on-comma w s n [] k = on (record { same = refl; comment = refl; depth = refl; kept = tt; view = plain refl })
   on-comma w s n (f ∷ fs) k =
       by-cond (ltb (f .done) 3) (λ e. on (record { same = refl; comment = refl; depth = refl; kept = kept-comma level f fs n k; view = plain refl }))
-          (λ e. none)
+      (λ e. none)
 
   on-close : (w : Work) (s : Stand) (n : ℕ) (fs : List Frame) → Kept level fs n
       → Steps level (seen level s (length fs) n 41) (R.onClose (w .start) (w .end) (w .done) fs (w .out))
@@ -200,7 +207,7 @@ module _ (level : ℕ) where
   steps-in (head s) w p n b r k =
       by-cond (isWord b) (λ e. on-word (head s) w stand.Head n b e refl refl k)
       (λ e. by-cond (eqb b 40) (λ q. rw (eqb-true b 40 q) (on (record { same = refl; comment = refl; depth = refl; kept = tt; view = plain refl })))
-          (λ q. none))
+      (λ q. none))
   steps-in arg w p n b r k =
       by-cond (isLower b) (λ e. on-word (word true p) w stand.Arg n b (lower-word b e) (rw e) refl k)
       (λ e. by-cond (isUpper b) (λ u. on-word (word false p) w stand.Arg n b (upper-word b u) (rw (e, upper-digit b u)) refl k)
@@ -210,8 +217,14 @@ module _ (level : ℕ) where
   steps-in (word true s) w p n b r k =
       by-cond (isWord b) (λ e. on-word (word true s) w stand.Name n b e refl refl k)
       (λ e. by-cond (eqb b 40)
-      (λ q. rw (eqb-true b 40 q) (on (record { same = refl; comment = refl; depth = add-one (length (w .opened)); kept =
-          kept-push level (frame (length (w .out)) s p 0) (w .opened) n refl k; view = plain refl })))
+      (λ q. rw (eqb-true b 40 q) (on (record {
+        same = refl;
+        comment = refl;
+        depth = add-one (length (w .opened));
+        kept =
+            kept-push level (frame (length (w .out)) s p 0) (w .opened) n refl k;
+        view = plain refl;
+      })))
       (λ q. on-past (put (name s p 0) w) stand.Name n b refl k))
   steps-in (word false s) w p n b r k =
       by-cond (isWord b) (λ e. on-word (word false s) w stand.Variable n b e refl refl k) (λ e. on-past (put (variable s p) w) stand.Variable n b refl k)
@@ -219,7 +232,7 @@ module _ (level : ℕ) where
   steps-in (digits sign v) w p n b r k =
       by-cond (isDigit b)
       (λ e. by-cond (leb (10 * v + (b - 48)) (limit sign))
-          (λ q. on-word (digits sign (10 * v + (b - 48))) w stand.Number n b (digit-word b e) refl refl k) (λ q. none))
+      (λ q. on-word (digits sign (10 * v + (b - 48))) w stand.Number n b (digit-word b e) refl refl k) (λ q. none))
       (λ e. on-past (put (number (bitsAfter sign v)) w) stand.Number n b refl k)
   steps-in after w p n b r k = on-past w stand.After n b refl k
   steps-in closed w p n b r k =
@@ -262,7 +275,7 @@ module _ (level : ℕ) where
     where
       on-next : (n : Next) → Steps level (glance level s b) n → onward n (λ (m″ : Mode) (w″ : Work). reach xs m″ w″ (suc p)) ≡ here m′ w′
           → ((m″ : Mode) (w″ : Work) → reach xs m″ w″ (suc p) ≡ here m′ w′ → Agrees level m″ w″ (glance level s b)
-              → Agrees level m′ w′ (lookFrom level (glance level s b) xs))
+          → Agrees level m′ w′ (lookFrom level (glance level s b) xs))
           → Agrees level m′ w′ (lookFrom level (glance level s b) xs)
       on-next dead z q f = absurd (let o : _≡_ {A = ℕ} 0 1 = cc in omega arith)
       on-next (go m″ w″) (on z) q f = f m″ w″ q z

@@ -72,14 +72,28 @@ module _ (t : List ℕ) (k : ℕ) (l : k < length t) (g : Begins (take k t)) (no
       let a = and-true (inNumber (standOf m)) (isDigit byte) h in
       let o = digit-over m w (0 + length (take k t)) byte r (a .0) (a .1) (not-alive e) in
       rw h
-      (record { digit = byte; others = drop (suc k) t; stands = refl; one = a .1; sign = o .sign; value = o .value; work = w; number =
-          rw (ahead-plain t k e r) (e ∙ ap (λ (x : Mode). here x w) (o .is)); over = o .over }))
+      (record {
+        digit = byte;
+        others = drop (suc k) t;
+        stands = refl;
+        one = a .1;
+        sign = o .sign;
+        value = o .value;
+        work = w;
+        number =
+            rw (ahead-plain t k e r) (e ∙ ap (λ (x : Mode). here x w) (o .is));
+        over = o .over;
+      }))
       (λ h. rw h
       (test (spaced (wantedAt t k .what) && eqb byte 9)
       (λ q.
       let a = and-true (spaced (wantedAt t k .what)) (eqb byte 9) q in
-      rw q (record { others = drop (suc k) t; stands = ap (λ (x : ℕ). x ∷ drop (suc k) t) (eqb-true byte 9 (a .1)); taken =
-          blank-taken (begins-right t k g) (a .0) }))
+      rw q (record {
+        others = drop (suc k) t;
+        stands = ap (λ (x : ℕ). x ∷ drop (suc k) t) (eqb-true byte 9 (a .1));
+        taken =
+            blank-taken (begins-right t k g) (a .0);
+      }))
       (λ q. rw q tt)))
 
   instead-right : RightOf (ahead t k) (drop k t) (wantedAt t k .found)

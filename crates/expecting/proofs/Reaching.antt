@@ -37,7 +37,7 @@ reads-on (b ∷ xs) ys m w p r = by (step m w p b) refl r (λ m′ w′. reads-o
   where
     by : (n : Next) → step m w p b ≡ n → Reads (run ((b ∷ xs) ++ ys) m w p)
         → ((m′ : Mode) (w′ : Work) → Reads (run (xs ++ ys) m′ w′ (suc p))
-            → (m″ : Mode) × (w″ : Work) × (reach xs m′ w′ (suc p) ≡ here m″ w″) × Reads (run ys m″ w″ (suc p + length xs)))
+        → (m″ : Mode) × (w″ : Work) × (reach xs m′ w′ (suc p) ≡ here m″ w″) × Reads (run ys m″ w″ (suc p + length xs)))
         → (m″ : Mode) × (w″ : Work) × (reach (b ∷ xs) m w p ≡ here m″ w″) × Reads (run ys m″ w″ (p + suc (length xs)))
     by dead e r f = stops-none (rw e at r)
     by (go m′ w′) e r f =
@@ -77,7 +77,7 @@ reach-more (c ∷ xs) m w p b {m′} {w′} e = by (step m w p c) refl e (λ m�
 
     by : (n : Next) → step m w p c ≡ n → reach (c ∷ xs) m w p ≡ here m′ w′
         → ((m″ : Mode) (w″ : Work) → reach xs m″ w″ (suc p) ≡ here m′ w′
-            → reach (xs ++ (b ∷ [])) m″ w″ (suc p) ≡ onward (step m′ w′ (p + suc (length xs)) b) here)
+        → reach (xs ++ (b ∷ [])) m″ w″ (suc p) ≡ onward (step m′ w′ (p + suc (length xs)) b) here)
         → reach ((c ∷ xs) ++ (b ∷ [])) m w p ≡ onward (step m′ w′ (p + suc (length xs)) b) here
     by dead h e f = absurd (let z : lost ≡ here m′ w′ = rw h at e in let o : _≡_ {A = ℕ} 0 1 = cc in omega arith)
     by (go m″ w″) h e f = rw h (f m″ w″ (rw h at e))

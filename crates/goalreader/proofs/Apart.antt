@@ -96,9 +96,9 @@ module _ {M : Type 1} (𝓤 : URA M) (H : Heap 𝓤) (A : Atoms 𝓤) (W : Given
     apart =
         qed W ((‵ (flft κ q) ⊛ ‵ ftrue) ∷ ‵ (owns (B (κ, tt) ∷ []) (d, tt) (mach ∷ [], tt)) ∷ []) ∵
         move ! (1 ∷ []) $ fsplit ! $ move ! (1 ∷ []) $ drop ! $
-            use1 W (‵ Own ⊛ ‵ Own) (LL.copy (D (κ, tt)) (T′.the-copy (namedLft 1 0 tt (κ, tt))) 𝓤 H A W .twice d (mach ∷ [])) $ split ! $
+        use1 W (‵ Own ⊛ ‵ Own) (LL.copy (D (κ, tt)) (T′.the-copy (namedLft 1 0 tt (κ, tt))) 𝓤 H A W .twice d (mach ∷ [])) $ split ! $
         use1 W (given (mach ∷ [] ≡ mach ∷ []) (‵ (all-own (D (κ, tt) .parts) (L (κ, tt)) vd))) (own-open 𝓤 H A W (D (κ, tt)) (L (κ, tt)) vd mach) $
-            learn ! (λ _.
+        learn ! (λ _.
         -- [what the fields own together; what the reader owns; the token]
         move ! (2 ∷ 0 ∷ []) $ use2 W (raw (Callee .pre to)) asked $ frame ! $ done !)
 
@@ -110,7 +110,7 @@ module _ {M : Type 1} (𝓤 : URA M) (H : Heap 𝓤) (A : Atoms 𝓤) (W : Given
     exits r u e =
         qed W (‵ (R .own r (u ∷ [])) ∷ (‵ (flft κ q) ⊛ ‵ ftrue) ∷ ‵ Own ∷ []) ∵
         suffices ! _ (ends-at 𝓤 H A (Held R) held-stays (heldly 𝓤 R f) W (((κ, tt), (q, tt), tt, (d, tt), (mach ∷ [], tt)), tt) u r (tt, tt) (tt, tt))
-            $ says ! e $
+        $ says ! e $
         move ! (1 ∷ []) $ frame ! $ nothing ! $ move ! (2 ∷ 0 ∷ []) $ fjoin ! $ frame ! $ done !
 
     module _ (τ : Ty) (callee : Name) (typed : Lands R τ) (C : Calls 𝓤 H) (Λ : Loops 𝓤 H) (fm : FmC 𝓤 H (W .laws) C) (known : Triple 𝓤 (C callee) Callee) where
@@ -121,33 +121,33 @@ module _ {M : Type 1} (𝓤 : URA M) (H : Heap 𝓤) (A : Atoms 𝓤) (W : Given
           alloc1 ! (λ l₀. alloc1 ! (λ l₁. alloc1 ! (λ l₂. alloc1 ! (λ l₃. alloc0 ! $ params1 ! $ pass1 ! (init ! 4 refl wt) $ pass0 ! $
           assigns ! (of-opd ! (load ! (from ! (fld ! refl (stop !))) (look-in ! 4 (sub ! 0 refl (whole !))))) (from ! (stop !)) (init ! 2 refl (tt, wt .1 .0)) $
           assigns ! (of-opd ! (load ! (from ! (fld ! refl (stop !))) (look-in ! 4 (sub ! 1 refl (whole !))))) (from ! (stop !))
-              (init ! 0 refl (tt, wt .1 .1 .0)) $
+          (init ! 0 refl (tt, wt .1 .1 .0)) $
           move ! (8 ∷ []) $ use1 W (raw (Callee .pre to) ⊛ ‵ Own) apart $ split ! $
           calls-at ! fm Callee known to (and-then ! (load ! (from ! (stop !)) (look ! 4 refl))
-              (and-then ! (load ! (from ! (stop !)) (look ! 2 refl)) (no-more !))) (λ u.
+          (and-then ! (load ! (from ! (stop !)) (look ! 2 refl)) (no-more !))) (λ u.
           use1 W (later (some (λ (r : R .Denot). ((‵ (flft κ q) ⊛ ‵ ftrue) ⊛ ‵ (R .own r (u ∷ [])))
-              ⊛ raw (ensured 𝓤 H A (Plain R) (plainly 𝓤 R f) (κ, tt) vd tt r)))) (id⊢ 𝓤 _) $ await ! tt $ pick ! (λ r.
+          ⊛ raw (ensured 𝓤 H A (Plain R) (plainly 𝓤 R f) (κ, tt) vd tt r)))) (id⊢ 𝓤 _) $ await ! tt $ pick ! (λ r.
           split ! $ move ! (1 ∷ []) $ use1 W (raw (fact 𝓤 (r ≡ found))) (said r) $ heard ! (r ≡ found) (λ e. split ! $ move ! (1 ∷ []) $
           -- [the result; the token; what the reader owns; _3; …; _2; …; _1; …; room for _0; …]
           peeks ! R (Is R) (shows 𝓤 H A R) r (u ∷ []) (λ is.
           land ! (from ! (stop !)) (init ! 9 refl (typed r u is)) $
           returns ! (look ! 9 refl) $ forget ! 3 refl $ forget ! 5 refl $ forget ! 7 refl $ forget ! 9 refl $
           move ! (9 ∷ 10 ∷ []) $ free1 ! $ move ! (7 ∷ 8 ∷ []) $ free1 ! $ move ! (5 ∷ 6 ∷ []) $ free1 ! $ move ! (3 ∷ 4 ∷ []) $ free1 ! $ free0 ! $
-              by ! (exits r u e)))))))))
+          by ! (exits r u e)))))))))
 
   module _ (τ : Ty) (callee : Name) (typed : Lands R τ) where
     walks : (C : Calls 𝓤 H) (Λ : Loops 𝓤 H) → FmC 𝓤 H (W .laws) C → Triple 𝓤 (C callee) Callee
         → Walks 𝓤 H A (Held R) held-stays (WpFn 𝓤 H C Λ (taking-apart τ callee)) (heldly 𝓤 R f)
     walks C Λ fm known =
         walked 𝓤 H A (Held R) held-stays (heldly 𝓤 R f) (WpFn 𝓤 H C Λ (taking-apart τ callee)) (λ κs. (LL.vals (D κs) (L κs), tt))
-            (λ κs. (LL.tells (D κs) (L κs), tt))
+        (λ κs. (LL.tells (D κs) (L κs), tt))
         (λ κs qs bounds a g are. via 𝓤 _ (fst∗ 𝓤 _ (emp 𝓤))
-            (walk (κs .0) (qs .0) (a .0) τ callee typed C Λ fm known (LL.lawful (D κs) (L κs) 𝓤 H A W .typed (a .0) _ (are .0) .0)))
+        (walk (κs .0) (qs .0) (a .0) τ callee typed C Λ fm known (LL.lawful (D κs) (L κs) 𝓤 H A W .typed (a .0) _ (are .0) .0)))
 
     pub apart-meets : (E : Ensures 𝓤 (Held R) (heldly 𝓤 R f)) → Gives 𝓤 (Held R) (heldly 𝓤 R f) E → (𝓣 : Tables 𝓤 H) → Triple 𝓤 (𝓣 .C callee) Callee
         → Meets 𝓤 H A (Held R .signature) (WpFn 𝓤 H (𝓣 .C) (𝓣 .Λ) (taking-apart τ callee)) (closing 𝓤 H A (Held R) (ensuring 𝓤 (Held R) (heldly 𝓤 R f) E))
     apart-meets E gives 𝓣 known =
         weaken 𝓤 H A (Held R) W (heldly 𝓤 R f) E gives (WpFn 𝓤 H (𝓣 .C) (𝓣 .Λ) (taking-apart τ callee)) (WpFn-mono 𝓤 H (W .laws) 𝓣 (taking-apart τ callee))
         (walk-meets 𝓤 H A (Held R) held-stays W (held-go 𝓤 H A W) (heldly 𝓤 R f) (WpFn 𝓤 H (𝓣 .C) (𝓣 .Λ) (taking-apart τ callee))
-            (WpFn-mono 𝓤 H (W .laws) 𝓣 (taking-apart τ callee))
+        (WpFn-mono 𝓤 H (W .laws) 𝓣 (taking-apart τ callee))
         (walks (𝓣 .C) (𝓣 .Λ) (fmOf 𝓤 H (W .laws) 𝓣) known))

@@ -98,10 +98,10 @@ module _ {M : Type 1} (𝓤 : URA M) (H : Heap 𝓤) (A : Atoms 𝓤) (W : Given
     goes-maker =
         qed W ((‵ (flft κ q) ⊛ ‵ ftrue) ∷ ‵ (owns (ShrSlice (named 0) κ u32 ∷ usize ∷ []) given passed) ∷ []) ∵
         move ! (1 ∷ []) $ fsplit ! $ use1 W (‵ Own ⊛ ‵ Own) (shr-slice-copy 𝓤 H A W (named 0) κ u32 .twice s (v ∷ [])) $ split ! $
-            move ! (0 ∷ 2 ∷ []) $ fjoin ! $
+        move ! (0 ∷ 2 ∷ []) $ fjoin ! $
         move ! (2 ∷ 0 ∷ []) $ use2 W (raw (Maker .pre to-maker))
-            (qed W ((‵ (flft κ q) ⊛ ‵ ftrue) ∷ ‵ (owns (ShrSlice (named 0) κ u32 ∷ usize ∷ []) given passed) ∷ []) ∵ join ! $ frame ! $ done !) $
-            frame ! $ done !
+        (qed W ((‵ (flft κ q) ⊛ ‵ ftrue) ∷ ‵ (owns (ShrSlice (named 0) κ u32 ∷ usize ∷ []) given passed) ∷ []) ∵ join ! $ frame ! $ done !) $
+        frame ! $ done !
 
     abbrev Is-made : Reader → Type 0
     Is-made r = (r .cells ≡ s) × (r .at ≡ n)
@@ -116,7 +116,7 @@ module _ {M : Type 1} (𝓤 : URA M) (H : Heap 𝓤) (A : Atoms 𝓤) (W : Given
     goes-callee : (r : Reader) (u : Val) → ent 𝓤 (⋆ 𝓤 H A (‵ (B (κ, tt) .own r (u ∷ [])) ∷ (‵ (flft κ q) ⊛ ‵ ftrue) ∷ [])) (Callee .pre (to-callee r u))
     goes-callee r u =
         qed W (‵ (B (κ, tt) .own r (u ∷ [])) ∷ (‵ (flft κ q) ⊛ ‵ ftrue) ∷ []) ∵ nothing ! $ move ! (1 ∷ 0 ∷ []) $ fjoin ! $ move ! (1 ∷ 0 ∷ []) $
-            join ! $ frame ! $ done !
+        join ! $ frame ! $ done !
 
     abbrev Is-answer : Reader → R .Denot → Type 0
     Is-answer r t = t ≡ f (now (r .cells)) (r .at)
@@ -132,10 +132,10 @@ module _ {M : Type 1} (𝓤 : URA M) (H : Heap 𝓤) (A : Atoms 𝓤) (W : Given
     exits t u e =
         qed W (‵ (R .own t (u ∷ [])) ∷ (‵ (flft κ q) ⊛ ‵ ftrue) ∷ ‵ Own ∷ []) ∵
         suffices ! _ (ends-at 𝓤 H A (Plain R) plain-stays (plainly 𝓤 R f) W (((κ, tt), (q, tt), tt, given, passed), tt) u t (tt, (tt, tt))
-            (tt, (tt, tt))) $ says ! e $
+        (tt, (tt, tt))) $ says ! e $
         -- [the result; what s owns], once the token is handed back: the facts of n are made anew
         move ! (1 ∷ []) $ frame ! $ nothing ! $ owned ! usize (Is usize) (uint-makes 𝓤 H A W w64) n _ (refl, ok) $ fjoin ! $ move ! (2 ∷ 0 ∷ []) $
-            fjoin ! $ frame ! $ done !
+        fjoin ! $ frame ! $ done !
 
     module _ (τ : Ty) (callee : Name) (typed : Lands R τ) (C : Calls 𝓤 H) (Λ : Loops 𝓤 H) (fm : FmC 𝓤 H (W .laws) C)
         (known-maker : Triple 𝓤 (C #goal·reader-at) Maker) (known-callee : Triple 𝓤 (C callee) Callee) where
@@ -144,13 +144,13 @@ module _ {M : Type 1} (𝓤 : URA M) (H : Heap 𝓤) (A : Atoms 𝓤) (W : Given
       walk p =
           qed W (raw (onEntry 𝓤 H A (Plain R .signature) (κ, tt) (q, tt) given passed) ∷ []) ∵ enter ! C Λ (making τ callee) (v ∷ vint w64 n ∷ []) _ $
           alloc1 ! (λ l₀. alloc1 ! (λ l₁. alloc1 ! (λ l₂. alloc1 !
-              (λ l₃. alloc0 ! $ params1 ! $ pass1 ! (init ! 4 refl (shr-slice-lawful 𝓤 H A W (named 0) κ u32 .typed s (v ∷ []) p .0)) $
-              pass1 ! (init ! 2 refl (tt, record { fits = ok })) $ pass0 ! $
+          (λ l₃. alloc0 ! $ params1 ! $ pass1 ! (init ! 4 refl (shr-slice-lawful 𝓤 H A W (named 0) κ u32 .typed s (v ∷ []) p .0)) $
+          pass1 ! (init ! 2 refl (tt, record { fits = ok })) $ pass0 ! $
           move ! (8 ∷ []) $ use1 W (raw (Maker .pre to-maker) ⊛ ‵ Own) goes-maker $ split ! $
           calls-at ! fm Maker known-maker to-maker (and-then ! (load ! (from ! (stop !)) (look ! 6 refl))
-              (and-then ! (load ! (from ! (stop !)) (look ! 4 refl)) (no-more !))) (λ u.
+          (and-then ! (load ! (from ! (stop !)) (look ! 4 refl)) (no-more !))) (λ u.
           use1 W (later (some (λ (r : Reader). ((‵ (flft κ q) ⊛ ‵ ftrue) ⊛ ‵ (B (κ, tt) .own r (u ∷ [])))
-              ⊛ raw (ensured 𝓤 H A reader-at.ended (reader-at.clauses 𝓤 H A mem run) (κ, tt) given tt r)))) (id⊢ 𝓤 _) $ await ! tt $ pick ! (λ r.
+          ⊛ raw (ensured 𝓤 H A reader-at.ended (reader-at.clauses 𝓤 H A mem run) (κ, tt) given tt r)))) (id⊢ 𝓤 _) $ await ! tt $ pick ! (λ r.
           split ! $ move ! (1 ∷ []) $ use1 W (raw (fact 𝓤 (Is-made r))) (maker-said r) $ heard ! (Is-made r) (λ made. split ! $ move ! (1 ∷ []) $
           -- [what the reader owns; the token; what s owns; room for _3; …; _2; …; _1; …; room for _0; …]
           peeks ! (B (κ, tt)) (Is (B (κ, tt))) (shows 𝓤 H A (B (κ, tt))) r (u ∷ []) (λ is.
@@ -158,23 +158,23 @@ module _ {M : Type 1} (𝓤 : URA M) (H : Heap 𝓤) (A : Atoms 𝓤) (W : Given
           use2 W (raw (Callee .pre (to-callee r u))) (goes-callee r u) $
           calls-at ! fm Callee known-callee (to-callee r u) (and-then ! (load ! (from ! (stop !)) (look ! 2 refl)) (no-more !)) (λ u′.
           use1 W (later (some (λ (t : R .Denot). ((‵ (flft κ q) ⊛ ‵ ftrue) ⊛ ‵ (R .own t (u′ ∷ [])))
-              ⊛ raw (ensured 𝓤 H A (Held R) (heldly 𝓤 R f) (κ, tt) (r, tt) tt t)))) (id⊢ 𝓤 _) $ await ! tt $ pick ! (λ t.
+          ⊛ raw (ensured 𝓤 H A (Held R) (heldly 𝓤 R f) (κ, tt) (r, tt) tt t)))) (id⊢ 𝓤 _) $ await ! tt $ pick ! (λ t.
           split ! $ move ! (1 ∷ []) $ use1 W (raw (fact 𝓤 (Is-answer r t))) (callee-said r t) $ heard ! (Is-answer r t) (λ e. split ! $ move ! (1 ∷ []) $
           -- [the result; the token; what s owns; _3; …; _2; …; _1; …; room for _0; …]
           peeks ! R (Is R) (shows 𝓤 H A R) t (u′ ∷ []) (λ is′.
           land ! (from ! (stop !)) (init ! 9 refl (typed t u′ is′)) $
           returns ! (look ! 9 refl) $ forget ! 3 refl $ forget ! 5 refl $ forget ! 7 refl $ forget ! 9 refl $
           move ! (9 ∷ 10 ∷ []) $ free1 ! $ move ! (7 ∷ 8 ∷ []) $ free1 ! $ move ! (5 ∷ 6 ∷ []) $ free1 ! $ move ! (3 ∷ 4 ∷ []) $ free1 ! $ free0 ! $
-              by ! (exits t u′ (answers r t made e))))))))))))))
+          by ! (exits t u′ (answers r t made e))))))))))))))
 
   module _ (τ : Ty) (callee : Name) (typed : Lands R τ) where
     walks : (C : Calls 𝓤 H) (Λ : Loops 𝓤 H) → FmC 𝓤 H (W .laws) C → Triple 𝓤 (C #goal·reader-at) Maker → Triple 𝓤 (C callee) Callee
         → Walks 𝓤 H A (Plain R) plain-stays (WpFn 𝓤 H C Λ (making τ callee)) (plainly 𝓤 R f)
     walks C Λ fm known-maker known-callee =
         walked 𝓤 H A (Plain R) plain-stays (plainly 𝓤 R f) (WpFn 𝓤 H C Λ (making τ callee)) (λ κs. (slice-vals, (uint-vals w64, tt)))
-            (λ κs. (shr-slice-tells (named 0) (κs .0) u32, (uint-tells w64, tt)))
+        (λ κs. (shr-slice-tells (named 0) (κs .0) u32, (uint-tells w64, tt)))
         (λ κs qs bounds a g are. via 𝓤 _ (fst∗ 𝓤 _ (emp 𝓤))
-            (walk (κs .0) (qs .0) (a .0) (a .1 .0) (are .1 .0 .1) τ callee typed C Λ fm known-maker known-callee (are .0)))
+        (walk (κs .0) (qs .0) (a .0) (a .1 .0) (are .1 .0 .1) τ callee typed C Λ fm known-maker known-callee (are .0)))
 
     pub made-meets : (E : Ensures 𝓤 (Plain R) (plainly 𝓤 R f)) → Gives 𝓤 (Plain R) (plainly 𝓤 R f) E → (𝓣 : Tables 𝓤 H)
         → Triple 𝓤 (𝓣 .C #goal·reader-at) Maker → Triple 𝓤 (𝓣 .C callee) Callee
@@ -182,5 +182,5 @@ module _ {M : Type 1} (𝓤 : URA M) (H : Heap 𝓤) (A : Atoms 𝓤) (W : Given
     made-meets E gives 𝓣 known-maker known-callee =
         weaken 𝓤 H A (Plain R) W (plainly 𝓤 R f) E gives (WpFn 𝓤 H (𝓣 .C) (𝓣 .Λ) (making τ callee)) (WpFn-mono 𝓤 H (W .laws) 𝓣 (making τ callee))
         (walk-meets 𝓤 H A (Plain R) plain-stays W (plain-go 𝓤 H A W) (plainly 𝓤 R f) (WpFn 𝓤 H (𝓣 .C) (𝓣 .Λ) (making τ callee))
-            (WpFn-mono 𝓤 H (W .laws) 𝓣 (making τ callee))
+        (WpFn-mono 𝓤 H (W .laws) 𝓣 (making τ callee))
         (walks (𝓣 .C) (𝓣 .Λ) (fmOf 𝓤 H (W .laws) 𝓣) known-maker known-callee))

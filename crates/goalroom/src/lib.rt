@@ -8,6 +8,7 @@ ghost use Rattle.refusal.specs.declared.Input.the-variants as input;
 ghost use Rattle.goaltext.specs.Asked.{goalTextTold};
 ghost use Rattle.goalroom.specs.Rooms.{GoalInto};
 use goaltext::GoalText;
+use limits::ROW_CELLS;
 use octets::cells::put_cells;
 use refusal::Input;
 use refusal::Reason;
@@ -36,8 +37,8 @@ pub fn read_goal_text(
         (now (new .entry)) (now (new .exit)) r ⌝ }
 {
     let p = goaltext::predicate_of(text);
-    let mut made = [0u32; 32];
-    let mut list = [0u32; 32];
+    let mut made = [0u32; ROW_CELLS];
+    let mut list = [0u32; ROW_CELLS];
     match goaltext::read_goal(text, names, p, goal, &mut made, &mut list) {
         GoalText::Read(n, k) => {
             if cells.len() < n {

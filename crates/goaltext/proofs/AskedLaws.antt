@@ -29,7 +29,7 @@ use Rattle.grammar.proofs.NthLaws.{words-long}
 use Rattle.grammar.proofs.Numbered.{names-are, cells-are}
 use Rattle.scan.specs.Scan.{Counts}
 use Rattle.scan.specs.declared.Counted.{Counted}
-use Rattle.nameword.specs.declared.Span.{Span}
+use Rattle.slices.specs.declared.Span.{Span}
 use Rattle.prolog.specs.Entry.{FactsAre, are-made}
 use Rattle.prolog.specs.Entry as entry
 use Rattle.prolog.specs.declared.FactsAnswer.the-variants as facts-answer
@@ -362,7 +362,7 @@ module _ {t made list : List ℕ} {c : Counted} {s : Sizes} (M : MadeAt t c made
   made-two = omega (arith, length-take-le (s .cells) made (M .within .0), ap length (M .cells), cells-long t facts)
 
   pub made-row : take (s .cells - 2) (drop 2 made) ≡ drop 2 (tableCells t facts)
-  made-row = part-is made 2 (s .cells) made-two ∙ ap (drop 2) (M .cells)
+  made-row = part-is 2 (s .cells) made ∙ ap (drop 2) (M .cells)
 
   -- it has a cell for each symbol, and at most one name
   pub made-names : length (take (s .names) list) ≤ length (take (s .cells - 2) (drop 2 made))

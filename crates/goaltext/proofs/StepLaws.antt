@@ -23,7 +23,7 @@ use Rattle.lex.specs.declared.fact.Head.the-variants as head
 use Rattle.scan.specs.Scan.{ScanIs, Counts}
 use Rattle.scan.specs.declared.Counted.{Counted}
 use Rattle.scan.specs.declared.Scan.the-variants as scan
-use Rattle.nameword.specs.declared.Span.{Span}
+use Rattle.slices.specs.declared.Span.{Span}
 use Rattle.scan.proofs.SaysLaws.{scan-turned}
 use Rattle.termtext.specs.Saying.{predicateIn}
 use Rattle.termtext.specs.Goal.{withStop, stopped, unstopped}

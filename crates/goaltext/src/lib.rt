@@ -14,6 +14,7 @@ ghost use Rattle.limits.specs.Limits.{mostGoalBytes, mostNames, mostTextBytes};
 use lex::fact::Head;
 use limits::GOAL_BYTES;
 use limits::NAMES;
+use limits::ROW_CELLS;
 use limits::TABLE_CELLS;
 use limits::TEXT_BYTES;
 use prolog::FactsAnswer;
@@ -143,8 +144,8 @@ fn put_goal(
     whole: &[u8],
     row: &[u32],
     list: &[u32],
-    cells: &mut [u32; 32],
-    new: &mut [u32; 32],
+    cells: &mut [u32; ROW_CELLS],
+    new: &mut [u32; ROW_CELLS],
 ) -> GoalText
     requires { ⌜ (length (now names) ≤ mostNames) × (length (now list) ≤ length (now row)) ⌝ }
     ensures { λ r. ⌜ FactAsked (now (text .entry)) (now (names .entry)) width (now (whole .entry)) (now (row .entry)) (now (list .entry))
@@ -152,7 +153,7 @@ fn put_goal(
 {
     match table::goal_for(width, row) {
         GoalAnswer::Accepted(n, _) => {
-            let mut numbers = [0u32; 32];
+            let mut numbers = [0u32; ROW_CELLS];
             let k = names::number_names(text, names, whole, list, &mut numbers, new);
             names::put_cells(row, &numbers, cells);
             GoalText::Read(n, k)
@@ -167,8 +168,8 @@ fn read_whole(
     names: &[u32],
     p: Predicate,
     whole: &[u8],
-    cells: &mut [u32; 32],
-    new: &mut [u32; 32],
+    cells: &mut [u32; ROW_CELLS],
+    new: &mut [u32; ROW_CELLS],
 ) -> GoalText
     requires { ⌜ (length (now names) ≤ mostNames) × (length (now whole) ≤ mostTextBytes) ⌝ }
     ensures { λ r. ⌜ TextAsked (now (text .entry)) (now (names .entry)) p (now (whole .entry))
@@ -211,8 +212,8 @@ fn read_stopped(
     names: &[u32],
     p: Predicate,
     stopped: &[u8],
-    cells: &mut [u32; 32],
-    new: &mut [u32; 32],
+    cells: &mut [u32; ROW_CELLS],
+    new: &mut [u32; ROW_CELLS],
 ) -> GoalText
     requires { ⌜ (length (now names) ≤ mostNames) × (2 ≤ length (now stopped)) × (length (now stopped) ≤ mostTextBytes) ⌝ }
     ensures { λ r. ⌜ StoppedAsked (now (text .entry)) (now (names .entry)) p (now (stopped .entry))
@@ -231,8 +232,8 @@ fn read_in(
     p: Predicate,
     goal: &[u8],
     stopped: &mut [u8],
-    cells: &mut [u32; 32],
-    new: &mut [u32; 32],
+    cells: &mut [u32; ROW_CELLS],
+    new: &mut [u32; ROW_CELLS],
 ) -> GoalText
     requires { ⌜ (length (now names) ≤ mostNames) × (length (now goal) ≤ mostGoalBytes) × (length (now goal) + 2 ≤ length (now stopped)) ⌝ }
     ensures { λ r. ⌜ GoalAsked (now (text .entry)) (now (names .entry)) p (now (goal .entry))
@@ -250,8 +251,8 @@ pub fn read_goal(
     names: &[u32],
     p: Predicate,
     goal: &[u8],
-    cells: &mut [u32; 32],
-    new: &mut [u32; 32],
+    cells: &mut [u32; ROW_CELLS],
+    new: &mut [u32; ROW_CELLS],
 ) -> GoalText
     ensures { λ r. ⌜ GoalAsked (now (text .entry)) (now (names .entry)) p (now (goal .entry))
         (now (cells .entry)) (now (cells .exit)) (now (new .entry)) (now (new .exit)) r ⌝ }

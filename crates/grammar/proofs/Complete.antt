@@ -225,8 +225,8 @@ module _ (xs : List ℕ) (p : ℕ) where
 
   pub at-comma : (s n k : ℕ) (f : Frame) (fs : List Frame) (out : List Symbol) → f .done < 3
       → run (44 ∷ xs) after (work s n k (f ∷ fs) out) p
-          ≡ run xs arg (work s n k (frame (f .owner) (f .start) (f .end) (suc (f .done)) ∷ fs)
-          (set out (f .owner) (G.name (f .start) (f .end) (suc (f .done))))) (suc p)
+      ≡ run xs arg (work s n k (frame (f .owner) (f .start) (f .end) (suc (f .done)) ∷ fs)
+      (set out (f .owner) (G.name (f .start) (f .end) (suc (f .done))))) (suc p)
   unfolding run step past onComma
   at-comma s n k f fs out h = rw (lt-ltb (f .done) 3 h)
 

@@ -35,7 +35,7 @@ pub held-comma : {out : List Symbol} {f : Frame} {fs : List Frame} → Held out 
 held-comma {out} {f} (more l e u h) =
     let k : f .owner < length (oneMoreIn f out) = rw length-set l in
     more k (getD-set-same out (f .owner) (name (f .start) (f .end) (suc (f .done))) (number 0) l) u
-        (held-below (f .owner) (name (f .start) (f .end) (suc (f .done))) u h)
+    (held-below (f .owner) (name (f .start) (f .end) (suc (f .done))) u h)
 
 pub held-close : {out : List Symbol} {f : Frame} {fs : List Frame} → Held out (f ∷ fs) → Held (oneMoreIn f out) fs
 held-close {out} {f} (more l e u h) = held-below (f .owner) (name (f .start) (f .end) (suc (f .done))) u h

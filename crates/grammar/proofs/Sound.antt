@@ -54,8 +54,14 @@ skip-byte b xs p true u e h s l =
 skip-byte b xs p false true e h s l =
     let n = l .next in
     let g : Gap p (37 ∷ xs) (n .at) (n .rest) = G.remark (l .line) (n .gap) in
-    record { at = n .at; rest = n .rest; gap = subst (λ (c : ℕ). Gap p (c ∷ xs) (n .at) (n .rest)) (sym (eqb-true b 37 h)) g; solid =
-        n .solid; within = omega (arith, n .within, l .within) }
+    record {
+      at = n .at;
+      rest = n .rest;
+      gap = subst (λ (c : ℕ). Gap p (c ∷ xs) (n .at) (n .rest)) (sym (eqb-true b 37 h)) g;
+      solid =
+          n .solid;
+      within = omega (arith, n .within, l .within);
+    }
 skip-byte b xs p false false e h s l = record { at = p; rest = b ∷ xs; gap = G.none; solid = (e, h); within = omega arith }
 
 line-byte : (b : ℕ) (xs : List ℕ) (p : ℕ) (t : Bool) → eqb b 10 ≡ t → Skipped (suc p) xs → Lined (suc p) xs → Lined p (b ∷ xs)
@@ -71,8 +77,14 @@ mutual
 
   lined : (xs : List ℕ) (p : ℕ) → Lined p xs
   lined [] p =
-      record { at = p; rest = []; line = G.ended; next = record { at = p; rest = []; gap = G.none; solid = tt; within = omega arith }; within =
-          omega arith }
+      record {
+        at = p;
+        rest = [];
+        line = G.ended;
+        next = record { at = p; rest = []; gap = G.none; solid = tt; within = omega arith };
+        within =
+            omega arith;
+      }
   lined (b ∷ xs) p = line-byte b xs p (eqb b 10) refl (skip xs (suc p)) (lined xs (suc p))
 
 -- and a word
@@ -122,7 +134,7 @@ unfolding run finish
 digits-of w sign v p [] F l r = clash r
 digits-of w sign v p (b ∷ xs) F l r =
     digits-byte w sign v p b xs F (isDigit b) refl (leb (10 * v + (b - 48)) (limit sign)) refl l
-        (λ l′ r′. digits-of w sign (10 * v + (b - 48)) (suc p) xs F l′ r′) r
+    (λ l′ r′. digits-of w sign (10 * v + (b - 48)) (suc p) xs F l′ r′) r
 
 -- after a term: layout, and then a comma or a bracket
 record Then (b : ℕ) (w : Work) (p : ℕ) (xs : List ℕ) (F : List Fact) : Type 0 where
@@ -138,12 +150,22 @@ after-byte : (w : Work) (p q b : ℕ) (xs ys : List ℕ) (F : List Fact) (t u : 
 unfolding run step past
 after-byte w p q b xs ys F true u e h g l x y r =
     let k = eqb-true b 44 e in
-    inl (record { at = q; rest = ys; gap = subst (λ (c : ℕ). Gap p xs q (c ∷ ys)) k g; goes = subst (λ (c : ℕ). run (c ∷ ys) after w q ≡ reads F) k r;
-        within = omega arith })
+    inl (record {
+      at = q;
+      rest = ys;
+      gap = subst (λ (c : ℕ). Gap p xs q (c ∷ ys)) k g;
+      goes = subst (λ (c : ℕ). run (c ∷ ys) after w q ≡ reads F) k r;
+      within = omega arith;
+    })
 after-byte w p q b xs ys F false true e h g l x y r =
     let k = eqb-true b 41 h in
-    inr (record { at = q; rest = ys; gap = subst (λ (c : ℕ). Gap p xs q (c ∷ ys)) k g; goes = subst (λ (c : ℕ). run (c ∷ ys) after w q ≡ reads F) k r;
-        within = omega arith })
+    inr (record {
+      at = q;
+      rest = ys;
+      gap = subst (λ (c : ℕ). Gap p xs q (c ∷ ys)) k g;
+      goes = subst (λ (c : ℕ). run (c ∷ ys) after w q ≡ reads F) k r;
+      within = omega arith;
+    })
 after-byte w p q b xs ys F false false e h g l x y r = clash (rw (e, h, not-layout after w b x y) at r)
 
 after-of : (w : Work) (p : ℕ) (xs : List ℕ) (F : List Fact) → run xs after w p ≡ reads F → Then 44 w p xs F ⊎ Then 41 w p xs F
@@ -208,7 +230,7 @@ name-of : (w : Work) (p b : ℕ) (xs : List ℕ) (F : List Fact) → isLower b �
 unfolding run finish put
 name-of w p b xs F e inside r =
     on (worded xs (suc p) .rest) (worded xs (suc p) .word) (worded xs (suc p) .ends) (worded xs (suc p) .within)
-        (sym (run-word true p w (worded xs (suc p) .word)) ∙ r)
+    (sym (run-word true p w (worded xs (suc p) .word)) ∙ r)
   where
     compound : (q c : ℕ) (ys : List ℕ) → c ≡ 40 → Word (suc p) xs q (c ∷ ys) → length (c ∷ ys) ≤ length xs → run (c ∷ ys) (word true p) w q ≡ reads F
         → TermIs w p (b ∷ xs) F
@@ -223,7 +245,7 @@ name-of w p b xs F e inside r =
           term = G.is-compound e l′ (a .args) (a .small);
           goes =
               ap (λ (o : List Symbol). run (a .rest) after (work (w .start) (w .end) (w .done) (w .opened) o) (a .at))
-                  (sym (named (w .out) (a .symbols) (G.name p q 0) (G.name p q (suc (a .last))))) ∙ a .goes;
+              (sym (named (w .out) (a .symbols) (G.name p q 0) (G.name p q (suc (a .last))))) ∙ a .goes;
           within = omega (arith, a .within);
         }
 
@@ -265,8 +287,15 @@ number-of : (w : Work) (p b : ℕ) (xs : List ℕ) (F : List Fact) → isDigit b
 unfolding put
 number-of w p b xs F e r =
     let d = digits-of w false (b - 48) (suc p) xs F (omega (arith, digit-small b e)) r in
-    record { at = d .at; rest = d .rest; symbols = G.number (d .value) ∷ []; term = G.is-number e (d .read) (d .small); goes = d .goes; within =
-        omega (arith, d .within) }
+    record {
+      at = d .at;
+      rest = d .rest;
+      symbols = G.number (d .value) ∷ [];
+      term = G.is-number e (d .read) (d .small);
+      goes = d .goes;
+      within =
+          omega (arith, d .within);
+    }
 
 negative-of : (w : Work) (p b : ℕ) (xs : List ℕ) (F : List Fact) → isDigit b ≡ true → run xs (digits true (b - 48)) w (suc (suc p)) ≡ reads F
     → TermIs w p (45 ∷ b ∷ xs) F
@@ -314,7 +343,7 @@ mutual
   term-of (suc n) w p (b ∷ xs) F l o r =
       term-byte w p b xs F (isLower b) (isUpper b) (isDigit b) (eqb b 45) refl refl refl refl (o .0) (o .1)
       (λ q ys h r′. args-of n (w .start) (w .end) (w .done) (length (w .out)) p q 0 (w .opened) (w .out ++ (G.name p q 0 ∷ [])) (suc q) ys F
-          (omega arith) (omega arith) r′) r
+      (omega arith) (omega arith) r′) r
 
   args-of : (fuel : ℕ) (s n k i a m c : ℕ) (fs : List Frame) (out : List Symbol) (p : ℕ) (xs : List ℕ) (F : List Fact)
       → suc (length xs + length xs) ≤ fuel → c ≤ 3
@@ -328,8 +357,8 @@ mutual
       (λ (x : Then 44 (puts (t .symbols) w) (t .at) (t .rest) F).
       (let y = comma-of (x .rest) (x .at) s n k (frame i a m c) fs (out ++ t .symbols) F (ltb c 3) refl (x .goes) in
       let z = args-of u s n k i a m (suc c) fs (set (out ++ t .symbols) i (G.name a m (suc c))) (suc (x .at)) (x .rest) F
-          (omega (arith, x .within, t .within, g .within)) (omega arith)
-          (sym (at-comma (x .rest) (x .at) s n k (frame i a m c) fs (out ++ t .symbols) y) ∙ x .goes) in
+      (omega (arith, x .within, t .within, g .within)) (omega arith)
+      (sym (at-comma (x .rest) (x .at) s n k (frame i a m c) fs (out ++ t .symbols) y) ∙ x .goes) in
       record {
         at = z .at;
         rest = z .rest;
@@ -377,7 +406,7 @@ width-of (suc u) s n c out p xs F l r =
     ⊎-elim
     (λ (x : Then 44 (puts (t .symbols) w) (t .at) (t .rest) F).
     (let z = width-of u s n (suc c) (out ++ t .symbols) (suc (x .at)) (x .rest) F (omega (arith, x .within, t .within, g .within))
-        (sym (at-fact-comma (x .rest) (x .at) s n c (out ++ t .symbols)) ∙ x .goes) in
+    (sym (at-fact-comma (x .rest) (x .at) s n c (out ++ t .symbols)) ∙ x .goes) in
     record {
       at = z .at;
       rest = z .rest;
@@ -412,8 +441,13 @@ closed-byte : (w : Work) (p q b : ℕ) (xs ys : List ℕ) (F : List Fact) (t : B
 unfolding run step
 closed-byte w p q b xs ys F true e g l x y r =
     let k = eqb-true b 46 e in
-    record { at = q; rest = ys; gap = subst (λ (c : ℕ). Gap p xs q (c ∷ ys)) k g; goes = subst (λ (c : ℕ). run (c ∷ ys) closed w q ≡ reads F) k r;
-        within = omega arith }
+    record {
+      at = q;
+      rest = ys;
+      gap = subst (λ (c : ℕ). Gap p xs q (c ∷ ys)) k g;
+      goes = subst (λ (c : ℕ). run (c ∷ ys) closed w q ≡ reads F) k r;
+      within = omega arith;
+    }
 closed-byte w p q b xs ys F false e g l x y r = clash (rw (e, not-layout closed w b x y) at r)
 
 closed-of : (w : Work) (p : ℕ) (xs : List ℕ) (F : List Fact) → run xs closed w p ≡ reads F → Closed w p xs F
@@ -443,7 +477,7 @@ head-of : (w : Work) (p b : ℕ) (xs : List ℕ) (F : List Fact) → isLower b �
 unfolding run finish step
 head-of w p b xs F e r =
     on (worded xs (suc p) .rest) (worded xs (suc p) .word) (worded xs (suc p) .ends) (worded xs (suc p) .within)
-        (sym (run-head p w (worded xs (suc p) .word)) ∙ r)
+    (sym (run-head p w (worded xs (suc p) .word)) ∙ r)
   where
     opened : (q c : ℕ) (ys : List ℕ) → c ≡ 40 → Word (suc p) xs q (c ∷ ys) → length (c ∷ ys) ≤ length xs → run (c ∷ ys) (head p) w q ≡ reads F
         → FactIs p (b ∷ xs) F
@@ -544,12 +578,12 @@ facts-of : (fuel p : ℕ) (xs : List ℕ) (F : List Fact) → length xs ≤ fuel
 facts-of zero p xs F l x = absurd (omega (arith, x .within))
 facts-of (suc fuel) p xs F l x =
     subst (λ (H : List Fact). Facts p xs H) (sym (x .all))
-        (others (stopped (x .at) (x .rest)) (λ q b ys h o r. facts-of fuel q (b ∷ ys) (x .others) (omega (arith, x .within))
-        (next-byte nothing q b ys (x .others) (isLower b) refl (o .0) (o .1) r)))
+    (others (stopped (x .at) (x .rest)) (λ q b ys h o r. facts-of fuel q (b ∷ ys) (x .others) (omega (arith, x .within))
+    (next-byte nothing q b ys (x .others) (isLower b) refl (o .0) (o .1) r)))
   where
     others : Stopped (x .at) (x .rest)
         → ((q b : ℕ) (ys : List ℕ) → length (b ∷ ys) ≤ length (x .rest) → Solid (b ∷ ys) → run (b ∷ ys) between nothing q ≡ reads (x .others)
-            → Facts q (b ∷ ys) (x .others))
+        → Facts q (b ∷ ys) (x .others))
         → Facts p xs (x .fact ∷ x .others)
     others (ended g) k = subst (λ (K : List Fact). Facts p xs (x .fact ∷ K)) (sym (stop-ended nothing (x .others) g refl (x .goes))) (G.last (x .one) g)
     others (on {q = q} {b = b} {ys = ys} g h o j) k = G.more (x .one) g h (k q b ys j o (sym (run-stop nothing g h) ∙ x .goes))
@@ -563,5 +597,10 @@ text-is t F r = on′ (skip t 0 .rest) (skip t 0 .gap) (skip t 0 .solid) (sym (r
     on′ : {q : ℕ} (ys : List ℕ) → Gap 0 t q ys → Solid ys → run ys first nothing q ≡ reads F → Text t F
     on′ [] g o r′ = clash r′
     on′ {q} (b ∷ ys) g o r′ =
-        record { at = q; rest = b ∷ ys; layout = g; facts =
-            facts-of (length (b ∷ ys)) q (b ∷ ys) F (omega arith) (first-byte nothing q b ys F (isLower b) refl (o .0) (o .1) r′) }
+        record {
+          at = q;
+          rest = b ∷ ys;
+          layout = g;
+          facts =
+              facts-of (length (b ∷ ys)) q (b ∷ ys) F (omega arith) (first-byte nothing q b ys F (isLower b) refl (o .0) (o .1) r′);
+        }

@@ -74,8 +74,12 @@ mode-lives arg w p = arg-lives w p
 mode-lives (word true s) w p = name-lives s w p
 mode-lives (word false s) w p =
     let r = run-closes (w .opened) (w .start) (w .end) (w .done) (w .out ++ (G.variable s p ∷ [])) p in
-    record { rest = closes (w .opened); facts = r .0; goes =
-        variable-ends s w p (closes (w .opened)) (follows-ends (closes (w .opened)) (closes-follow (w .opened))) ∙ r .1 }
+    record {
+      rest = closes (w .opened);
+      facts = r .0;
+      goes =
+          variable-ends s w p (closes (w .opened)) (follows-ends (closes (w .opened)) (closes-follow (w .opened))) ∙ r .1;
+    }
 mode-lives minus w p = minus-lives w p
 mode-lives (digits sign v) w p = digits-live sign v w p
 mode-lives after w p = after-lives w p
@@ -117,7 +121,7 @@ on-says : {b : ℕ} {xs : List ℕ} {f : Fact} {m m′ : Mode} {w w′ : Work} {
 unfolding run
 on-says {f = f} e (inside j h q g l) =
     inside (suc j) (omega arith) (omega arith) (λ v. rw e (ap (factBefore f) (g v)))
-        (record { rest = l .rest; facts = f ∷ l .facts; goes = rw e (ap (factBefore f) (l .goes)) })
+    (record { rest = l .rest; facts = f ∷ l .facts; goes = rw e (ap (factBefore f) (l .goes)) })
 on-says {f = f} e (outside q l) = outside (omega arith) (record { rest = l .rest; facts = f ∷ l .facts; goes = rw e (ap (factBefore f) (l .goes)) })
 
 halts : (xs : List ℕ) (m : Mode) (w : Work) (p k : ℕ) → run xs m w p ≡ stops k → Halts xs m w p k

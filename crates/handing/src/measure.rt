@@ -12,6 +12,7 @@ ghost use Rattle.termtext.specs.Saying.{symbolWord};
 ghost use Rattle.clauses.specs.code.Size.{atomBytes, lineBytes};
 ghost use Rattle.handing.specs.code.Lines.{blanks, metIn, One, ProgramWritten, Begins};
 ghost use Rattle.handing.specs.code.Sizes.{Measured};
+ghost use Rattle.limits.specs.Limits.{mostRowCells};
 use cell::Shape;
 
 // How many digits a number has.
@@ -69,7 +70,7 @@ fn word_bytes(names: &[u32], c: u32) -> usize
 
 // A predicate's word, and for each cell its own and two bytes of marks.
 fn atom_bytes(names: &[u32], k: u32, cells: &[u32]) -> usize
-    requires { ⌜ length (now cells) ≤ 32 ⌝ }
+    requires { ⌜ length (now cells) ≤ mostRowCells ⌝ }
     ensures { λ r. ⌜ (r ≡ atomBytes (blanks (now (names .entry))) k (now (cells .entry))) × (r < 2 ^ 22) ⌝ }
 {
     let mut sum = 3 + digits(k as usize);
@@ -94,7 +95,7 @@ fn met_after(c: u32, most: usize) -> usize
 
 // How many variables a head has, which are numbered by first appearance.
 pub fn variables(head: &[u32]) -> usize
-    requires { ⌜ length (now head) ≤ 32 ⌝ }
+    requires { ⌜ length (now head) ≤ mostRowCells ⌝ }
     ensures { λ r. ⌜ r ≡ metIn (now (head .entry)) 0 ⌝ }
 {
     let mut most = 0;

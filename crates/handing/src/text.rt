@@ -6,6 +6,7 @@ ghost use Rattle.termtext.specs.Saying.{wordsIn};
 ghost use Rattle.clauses.specs.Text.{atomText, lineText};
 ghost use Rattle.clauses.specs.Handed.{textFor};
 ghost use Rattle.handing.specs.code.Lines.{One, ProgramWritten};
+ghost use Rattle.limits.specs.Limits.{mostRowCells};
 use crate::measure::UP;
 use crate::measure::clause_end;
 use crate::measure::variables;
@@ -23,7 +24,7 @@ fn put_atom(
     width: usize,
     cells: &[u32],
 ) -> usize
-    requires { ⌜ length (now cells) ≤ 32 ⌝ }
+    requires { ⌜ length (now cells) ≤ mostRowCells ⌝ }
     ensures { λ r. ⌜ Put (now (out .entry)) (now (out .exit)) to
         (atomText (wordsIn (now (text .entry)) (now (names .entry))) predicate width (now (cells .entry))) r ⌝ }
 {

@@ -7,7 +7,8 @@ use mathlib.Core.List.{List, [], _∷_}
 use lib.Dec.{leb}
 use lib.ListN.{length}
 use Rattle.clauses.specs.Translate.{headOf}
+use Rattle.limits.specs.Limits.{mostRowCells}
 
 abbrev pub clauseCells : (predicate called width : ℕ) → List ℕ → List ℕ
 clauseCells predicate called width head =
-    cond (leb (length head) 32) (predicate ∷ called ∷ width ∷ length head ∷ headOf head) []
+    cond (leb (length head) mostRowCells) (predicate ∷ called ∷ width ∷ length head ∷ headOf head) []

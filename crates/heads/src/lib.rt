@@ -11,6 +11,8 @@ ghost use Rattle.octets.specs.Octets.{Put};
 ghost use Rattle.clauses.specs.Translate.{headOf};
 ghost use Rattle.clauses.specs.code.Walk.{holeAt};
 ghost use Rattle.heads.specs.Heads.{clauseCells};
+ghost use Rattle.limits.specs.Limits.{mostRowCells};
+use limits::ROW_CELLS;
 use octets::cells::put_cell;
 use octets::cells::put_cells;
 use slices::cells::part;
@@ -67,9 +69,9 @@ fn put_decided(out: &mut [u32], head: &[u32], i: usize, c: u32) -> usize
 
 // The same in the head's own room, of which the head is the first n cells; how many it then is. A head has at most 32, as a row has.
 pub fn decide_in(head: &mut [u32], n: usize, i: usize, c: u32) -> usize
-    ensures { λ r. ⌜ Put (now (head .entry)) (now (head .exit)) 0 (take 32 (skeleton.decide i c (take n (now (head .entry))))) r ⌝ }
+    ensures { λ r. ⌜ Put (now (head .entry)) (now (head .exit)) 0 (take mostRowCells (skeleton.decide i c (take n (now (head .entry))))) r ⌝ }
 {
-    let mut next = [0u32; 32];
+    let mut next = [0u32; ROW_CELLS];
     let m = put_decided(&mut next, part(&*head, 0, n), i, c);
     put_cells(head, 0, &next[..m])
 }
@@ -96,7 +98,7 @@ fn said(c: u32, v: u32) -> u32
 
 // A head, its open places being the variables 0, 1, 2 from the left.
 fn put_head(out: &mut [u32], to: usize, head: &[u32]) -> usize
-    requires { ⌜ length (now head) ≤ 32 ⌝ }
+    requires { ⌜ length (now head) ≤ mostRowCells ⌝ }
     ensures { λ r. ⌜ Put (now (out .entry)) (now (out .exit)) to (headOf (now (head .entry))) r ⌝ }
 {
     let mut on = to;
@@ -122,7 +124,7 @@ pub fn put_clause(
 ) -> usize
     ensures { λ r. ⌜ Put (now (out .entry)) (now (out .exit)) to (clauseCells predicate called width (now (head .entry))) r ⌝ }
 {
-    if 32 < head.len() {
+    if ROW_CELLS < head.len() {
         return to;
     }
     let a = put_cell(out, to, predicate);

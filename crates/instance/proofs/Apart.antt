@@ -34,7 +34,7 @@ unfolding moved
 moved-good {σ} s = record {
   vars =
       λ c v. rw v (cond-case (ltb c (2 ^ 16)) (Terms 1)
-          (λ e. s .vars (2 ^ 16 + c) (var-small (2 ^ 16 + c) (let l = ltb-true c (2 ^ 16) e in omega arith))) (λ e. Terms-var v));
+      (λ e. s .vars (2 ^ 16 + c) (var-small (2 ^ 16 + c) (let l = ltb-true c (2 ^ 16) e in omega arith))) (λ e. Terms-var v));
   symbols = λ c v. rw v;
 }
 
@@ -73,7 +73,7 @@ module _ {σ τ : ℕ → List ℕ} (s : Subst σ) (t : Subst τ) where
   both-good = record {
     vars = λ c v. cond-case (ltb c (2 ^ 16)) (Terms 1) (λ e. s .vars c v)
         (λ e. cond-case (ltb c (2 ^ 17)) (Terms 1) (λ f. t .vars (c - 2 ^ 16) (var-small (c - 2 ^ 16) (let l = ltb-true c (2 ^ 17) f in omega arith)))
-            (λ f. Terms-var v));
+        (λ f. Terms-var v));
     symbols = both-symbol;
   }
 
@@ -81,7 +81,7 @@ module _ {σ τ : ℕ → List ℕ} (s : Subst σ) (t : Subst τ) where
   unfolding both
   both-row xs a =
       inst-agree (both σ τ) σ xs (λ c m. ⊎-elim (λ v. rw (lt-ltb c (2 ^ 16) (a .vars c m v))) (λ v. both-symbol c v ∙ sym (s .symbols c v))
-          (bool-cases (isVar c)))
+      (bool-cases (isVar c)))
 
   both-up : (c : ℕ) → c < 2 ^ 16 → both σ τ (2 ^ 16 + c) ≡ τ c
   unfolding both

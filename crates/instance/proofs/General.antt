@@ -65,9 +65,13 @@ answers (built S) = true
 pub solves-cell : {c d : ℕ} (xs ys S Y : List ℕ) → c ≡ d → Solves (c ∷ xs) (d ∷ ys) S Y ↔ Solves xs ys S Y
 unfolding inst
 solves-cell {c} {d} xs ys S Y e = (
-  λ u. record { by = u .by; good = u .good; same =
-      append-cancel-left (u .by c) (inst (u .by) xs) (inst (u .by) ys) (u .same ∙ ap (λ (l : List ℕ). l ++ inst (u .by) ys) (ap (u .by) (sym e)));
-      gives = u .gives },
+  λ u. record {
+    by = u .by;
+    good = u .good;
+    same =
+        append-cancel-left (u .by c) (inst (u .by) xs) (inst (u .by) ys) (u .same ∙ ap (λ (l : List ℕ). l ++ inst (u .by) ys) (ap (u .by) (sym e)));
+    gives = u .gives;
+  },
   λ u. record { by = u .by; good = u .good; same = ap₂ _++_ (ap (u .by) e) (u .same); gives = u .gives },
 )
 
@@ -83,9 +87,13 @@ solves-bind v {t} xs ys S Y hv ht n = (
       let s = Subst-then (Subst-bind v hv ht Subst-id) (u .good) in
       let ρ = bind v t idS in
       let here : inst (then ρ σ) (v ∷ []) ≡ inst (then ρ σ) t =
-          inst-var (then ρ σ) v ∙ ap (inst σ) (bind-same v t idS) ∙ sym (ap (inst σ) (unbound v t t n)) ∙ inst-then ρ σ t in
-      record { by = then ρ σ; good = s; same = at-place xs ys s (Terms-var hv) ht .1 (here, sym (inst-then ρ σ xs) ∙ u .same ∙ inst-then ρ σ ys);
-          gives = sym (inst-then ρ σ S) ∙ u .gives },
+      inst-var (then ρ σ) v ∙ ap (inst σ) (bind-same v t idS) ∙ sym (ap (inst σ) (unbound v t t n)) ∙ inst-then ρ σ t in
+      record {
+        by = then ρ σ;
+        good = s;
+        same = at-place xs ys s (Terms-var hv) ht .1 (here, sym (inst-then ρ σ xs) ∙ u .same ∙ inst-then ρ σ ys);
+        gives = sym (inst-then ρ σ S) ∙ u .gives;
+      },
 )
 
 pub solves-turn : {xs ys S Y : List ℕ} → Solves xs ys S Y → Solves ys xs S Y
@@ -149,7 +157,7 @@ bind-right rec v d {k} {xs} zs {vs} S hv h ih t u wx wy =
     (λ us a b c. let p = Within-part us (front 1 (d ∷ zs)) (back 1 (d ∷ zs)) b in
     (wider v (Within-inst v n (p .0) (Within-tail a)), wider v (Within-inst v n (p .0) (p .1)), wider v (Within-inst v n (p .0) c)))
     (ih .right (inst (bind v (front 1 (d ∷ zs)) idS) S) (Terms-inst s t) (Terms-inst s tb) (Within-inst v n (w .0) (Within-tail wx))
-        (Within-inst v n (w .0) (w .1)) r)))
+    (Within-inst v n (w .0) (w .1)) r)))
 
 solved-empty : (S Y : List ℕ) → Solves [] [] S Y ↔ Instance S Y
 solved-empty S Y = (λ u. record { by = u .by; good = u .good; same = u .gives }, λ i. record { by = i .by; good = i .good; same = refl; gives = i .same })
@@ -162,22 +170,26 @@ walk-right vs S ih none none wx wy = solved (solved-empty S) (λ us a b c. c)
 walk-right {rec} vs S ih (more {c} {k} {xs} t) (more {c = d} {xs = ys} u) wx wy =
     solved-test (eqb c d)
     (λ e. solved-by (λ Y. solves-cell xs ys S Y (eqb-true c d e)) (λ us a b c. (Within-tail a, Within-tail b, c))
-        (walk-right vs S ih t (rw (eqb-true c d e) u) (Within-tail wx) (Within-tail wy)))
+    (walk-right vs S ih t (rw (eqb-true c d e) u) (Within-tail wx) (Within-tail wy)))
     (λ e. solved-test (isVar c)
     (λ hc. bind-right rec c d ys S hc (eqb-false c d e) ih (rw (var-arity c hc, zero-add) at t) (more u) wx wy)
     (λ hc. solved-test (isVar d)
     (λ hd. solved-by (λ Y. (solves-turn, solves-turn)) (λ us a b c. (b, a, c))
-        (bind-right rec d c xs S hd (λ p. eqb-false c d e (sym p)) ih (rw (var-arity d hd, zero-add) at u) (more t) wy wx))
+    (bind-right rec d c xs S hd (λ p. eqb-false c d e (sym p)) ih (rw (var-arity d hd, zero-add) at u) (more t) wy wx))
     (λ hd. unsolved (λ Y z. other-symbol c d xs ys hc hd (eqb-false c d e) none none (unifies z)))))
 
 solve-right : (n : ℕ) → RightBelow (solve n) (suc n)
 unfolding solve
 solve-right zero =
-    record { right = λ {k} {xs} {ys} {us} S t u wx wy h. walk-right us S
-        (record { right = λ S′ t′ u′ wx′ wy′ h′. absurd (let z : ⊥ = omega arith in z) }) t u wx wy }
+    record {
+      right = λ {k} {xs} {ys} {us} S t u wx wy h. walk-right us S
+          (record { right = λ S′ t′ u′ wx′ wy′ h′. absurd (let z : ⊥ = omega arith in z) }) t u wx wy;
+    }
 solve-right (suc n) =
-    record { right = λ {k} {xs} {ys} {us} S t u wx wy h. walk-right us S
-        (record { right = λ S′ t′ u′ wx′ wy′ h′. solve-right n .right S′ t′ u′ wx′ wy′ (omega arith) }) t u wx wy }
+    record {
+      right = λ {k} {xs} {ys} {us} S t u wx wy h. walk-right us S
+          (record { right = λ S′ t′ u′ wx′ wy′ h′. solve-right n .right S′ t′ u′ wx′ wy′ (omega arith) }) t u wx wy;
+    }
 
 -- It is the procedure that decides `Unifies`.
 answers-test : (b : Bool) (x y : Built) {p q : Bool} → answers x ≡ p → answers y ≡ q → answers (cond b x y) ≡ cond b p q
@@ -215,8 +227,13 @@ solves-common {row} {goal} a b Y = (
   λ c. let s = c .first in
       let t = c .second in
       let g = both-goal (s .good) (t .good) goal b in
-      record { by = both (s .by) (t .by); good = both-good (s .good) (t .good); same = both-row (s .good) (t .good) row a ∙ s .same ∙ sym (t .same)
-          ∙ sym g; gives = g ∙ t .same },
+      record {
+        by = both (s .by) (t .by);
+        good = both-good (s .good) (t .good);
+        same = both-row (s .good) (t .good) row a ∙ s .same ∙ sym (t .same)
+            ∙ sym g;
+        gives = g ∙ t .same;
+      },
   λ u. record {
     first = record { by = u .by; good = u .good; same = u .same ∙ u .gives };
     second = record { by = moved (u .by); good = moved-good (u .good); same = moved-same (u .good) goal b ∙ u .gives };
@@ -230,7 +247,7 @@ unified-general {row = row} {goal = goal} t u a b m =
     let G = renamed goal in
     go (solve (length (row ++ G)) row G G)
     (solve-right (length (row ++ G)) .right G t u (record { found = λ c n v. Memᴰ·append-left G n })
-        (record { found = λ c n v. Memᴰ·append-right row n }) (omega arith))
+    (record { found = λ c n v. Memᴰ·append-right row n }) (omega arith))
   where
     go : (x : Built) → Solved row (renamed goal) (renamed goal) x
         → (T : List ℕ) × MostGeneral row goal T × ((vs : List ℕ) → Within vs row → Within vs (renamed goal) → Within vs T)

@@ -45,7 +45,7 @@ module _ {row goal xs P ys : List ℕ} {turns : ℕ} (w : Left row goal xs P ys 
       let a = inst-long (u .good) (P ++ ys) in
       let b = inst-long (u .good) xs in
       let c : length (inst (u .by) P) + length (inst (u .by) ys) ≡ length Y =
-          sym (length-append (inst (u .by) P) (inst (u .by) ys)) ∙ ap length (sym (inst-++ (u .by) P ys) ∙ u .gives) in
+      sym (length-append (inst (u .by) P) (inst (u .by) ys)) ∙ ap length (sym (inst-++ (u .by) P ys) ∙ u .gives) in
       (omega (arith, a, length-append P ys, ap length (u .gives)), omega (arith, b, ap length (u .same), c))
 
 -- the same cell
@@ -109,7 +109,7 @@ left-first {row} {goal} {P} {v} {d} {t} {xs} ys {turns} hv ne ht w =
       record {
         gives =
             λ Y. subst (λ (l : List ℕ). Solves (put v T xs) (put v T ys) l Y ↔ Common row goal Y) e
-                (met-gives v d t xs ys S hv ne ht (w .gives) (w .makes) Y);
+            (met-gives v d t xs ys S hv ne ht (w .gives) (w .makes) Y);
         made = w .made;
         makes = w .makes;
         owed = a .0;

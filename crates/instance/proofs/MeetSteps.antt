@@ -82,7 +82,7 @@ module _ {C : List ℕ} {at′ : ℕ} where
       let x = put-found w (omega (arith, h, ap length f, l, length-drop at′ C)) in
       let y : take (e - at′) term′ ≡ t = ap (λ (n : ℕ). take n term′) (k ∙ sym (x .0 ∙ ap length f)) ∙ x .1 ∙ f in
       let d : rest ≡ drop e C = sym (ap (λ (n : ℕ). drop n C) (sym z) ∙ sym (drop-drop (length t) at′ C) ∙ ap (drop (length t)) q
-          ∙ drop-at t rest (length t) refl) in
+      ∙ drop-at t rest (length t) refl) in
       record {
         term = subst (Terms 1) (sym y) u;
         split = q ∙ ap₂ _++_ (sym y) d;
@@ -214,7 +214,7 @@ module _ {row goal cells : List ℕ} {i n at′ len turns : ℕ} (w : Meeting ro
   second-var : {v : ℕ} → v ≡ d → isVar c ≡ false → v ≢ c → isVar v ≡ true
   second-var {v} q hc ne =
       ⊎-elim (λ (h : isVar v ≡ true). h) (λ (h : isVar v ≡ false). absurd (left-symbols hc (ap isVar (sym q) ∙ h) here (λ z. ne (q ∙ sym z))))
-          (bool-cases (isVar v))
+      (bool-cases (isVar v))
 
   pub second-bind : {v e : ℕ} {T : List ℕ} → v ≡ getD cells at′ 0 → isVar (getD cells i 0) ≡ false → v ≢ getD cells i 0 → TermAt L T i e
       → (0 < turns) × (e ≤ n) × After row goal cells v T e n (at′ + 1) len (turns - 1)

@@ -86,8 +86,10 @@ unmet-next u = record { vars = u .vars; found = λ x m v. u .found x (List·Mem�
 pub unmet-variable : {n : ℕ} (c : ℕ) (met : List ℕ) {xs : List ℕ} → isVar c ≡ true → Unmet n met (c ∷ xs)
     → Unmet n (meet c met) xs × (place c met ≡ length met → length met < n)
 unmet-variable {n} c met {xs} v u = ⊎-elim
-    (λ (h : place c met < length met). (subst (λ (l : List ℕ). Unmet n l xs) (sym (meet-old c met h)) (unmet-next u),
-        λ e. absurd (let z : ⊥ = omega arith in z)))
+    (λ (h : place c met < length met). (
+      subst (λ (l : List ℕ). Unmet n l xs) (sym (meet-old c met h)) (unmet-next u),
+      λ e. absurd (let z : ⊥ = omega arith in z),
+    ))
     (λ (h : place c met ≡ length met).
     let m = new h in
     let r = remove-shorter c (u .vars) m in (

@@ -123,7 +123,7 @@ unfolding numberFrom final numbering
 numbers-map met [] = refl
 numbers-map met (c ∷ xs) = ⊎-elim
     (λ v. rw v (ap (λ (n : ℕ). n ∷ numberFrom (meet c met) xs) (sym (final-here c met xs .0))
-        ∙ ap (λ (l : List ℕ). place c (final (meet c met) xs) ∷ l) (numbers-map (meet c met) xs)))
+    ∙ ap (λ (l : List ℕ). place c (final (meet c met) xs) ∷ l) (numbers-map (meet c met) xs)))
     (λ v. rw v (ap (λ (l : List ℕ). c ∷ l) (numbers-map met xs)))
     (bool-cases (isVar c))
 
@@ -165,7 +165,7 @@ module _ (F : List ℕ) (w : Vars F) (few : length F ≤ 2 ^ 30) where
   forth-good = record {
     vars =
         λ c v. rw v (cond-case (ltb (place c F) (length F)) (Terms 1)
-            (λ e. Terms-var (var-small (place c F) (omega (arith, ltb-true (place c F) (length F) e)))) (λ e. Terms-var v));
+        (λ e. Terms-var (var-small (place c F) (omega (arith, ltb-true (place c F) (length F) e)))) (λ e. Terms-var v));
     symbols = λ c v. rw v;
   }
 
@@ -184,7 +184,7 @@ module _ (F : List ℕ) (w : Vars F) (few : length F ≤ 2 ^ 30) where
   unfolding return numbering
   return-is c h = ⊎-elim
       (λ (v : isVar c ≡ true). let l = h v in let i : isVar (place c F) ≡ true = var-small (place c F) (omega arith) in
-          rw (v, i, lt-ltb (place c F) (length F) l, place-at c F l))
+      rw (v, i, lt-ltb (place c F) (length F) l, place-at c F l))
       (λ (v : isVar c ≡ false). rw (v, v))
       (bool-cases (isVar c))
 

@@ -79,7 +79,7 @@ module _ (row : ℕ → List ℕ) {w : ℕ} {goal : List ℕ} (g : IsGoal w goal
         replies = replies.hit m (t .1) (rest .replies);
         at =
             next (subst (λ (x : List ℕ). Hit x goal) (sym is) (hit-there (a .0) (g .head) m))
-                (subst (λ (x : List ℕ). Reply x goal cells) (sym is) (t .1)) (rest .at);
+            (subst (λ (x : List ℕ). Reply x goal cells) (sym is) (t .1)) (rest .at);
         below = (omega arith, rest .below);
         many = ap suc (rest .many);
         few = omega (arith, rest .few);

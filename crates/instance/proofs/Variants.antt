@@ -118,7 +118,7 @@ module _ {xs ys : List ℕ} (a : Instance xs ys) (b : Instance ys xs) where
       let k′ : (d : ℕ) → List·Memᴰ d zs → List·Memᴰ d xs = λ d n. k d (List·Memᴰ·tail n) in
       rw (keeps-kind c m, keeps-count c m ms h)
       (by-cond there (isVar c && eqb (count c ms) 0) (c ∷ appear (c ∷ ms) zs) (appear ms zs)
-          (ap (λ (l : List ℕ). there c ∷ l) (keeps-order (c ∷ ms) zs h′ k′)) (keeps-order ms zs h k′))
+      (ap (λ (l : List ℕ). there c ∷ l) (keeps-order (c ∷ ms) zs h′ k′)) (keeps-order ms zs h k′))
 
   pub variants-one : Numbered xs → Numbered ys → xs ≡ ys
   unfolding count

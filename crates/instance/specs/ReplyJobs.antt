@@ -16,6 +16,7 @@ use Rattle.answer.specs.declared.RunAnswer.the-variants as run-answer
 use Rattle.instance.specs.Replied.{Replied, repliesTold}
 use Rattle.instance.specs.declared.RepliesAnswer.{RepliesAnswer}
 use Rattle.instance.specs.declared.ReplyJob.{ReplyJob}
+use Rattle.limits.specs.Limits.{mostRows}
 
 -- "Start and count stay": a record with the other seven numbers written
 abbrev pub replyFilled : ReplyJob → (number place at replies cells hits tried : ℕ) → ReplyJob
@@ -41,7 +42,7 @@ pub data ReplyAsked (t p cells : List ℕ) (on : ℕ) (room room′ : List ℕ) 
       → j′ ≡ declined j (f .number) (f .place) → room′ ≡ room → ReplyAsked t p cells on room room′ j j′
   replied : (many size hits tried : ℕ) (after bytes : List ℕ) (r : RepliesAnswer) → j .start + j .count ≤ length cells
       → Replied t p (goalOfJob cells j) (drop on room) after r → repliesTold r ≡ answered many size
-      → Ran t p (goalOfJob cells j) (replicate 64 0) bytes (run-answer.Ran hits tried)
+      → Ran t p (goalOfJob cells j) (replicate mostRows 0) bytes (run-answer.Ran hits tried)
       → j′ ≡ replyFilled j 0 0 on many size (bitsOf (take hits bytes)) tried → room′ ≡ take on room ++ after
       → ReplyAsked t p cells on room room′ j j′
 

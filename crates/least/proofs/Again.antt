@@ -94,14 +94,14 @@ module _ (m : Measure) (fs : List Bool) (w : ℕ) (rows : List (List ℕ)) where
       sums-within U N p h y e o (g ∷ gs) q =
           let x = pair-closed m 32 fs w rows fits flags first last order inside in
           let l : length ((closedOf m 32 fs w rows first last) .left) ≡ suc last - first =
-              closes-length (x .closes .closes) ∙ length-slice first (suc last) rows inside in
+          closes-length (x .closes .closes) ∙ length-slice first (suc last) rows inside in
           let less = part-proper p o g ((closedOf m 32 fs w rows first last) .left) (q .0) (λ a. x .stuck p (g .cell) h a y) in
           let a : first + (o + length (g .rows)) ≡ first + o + length (g .rows) = omega arith in
           let here : U (first + o) (pred (first + o + length (g .rows))) ≡ N (first + o) (pred (first + o + length (g .rows))) =
           e (first + o) (pred (first + o + length (g .rows))) (omega arith) (omega (arith, q .0 .some)) (omega (arith, q .0 .inside, q .0 .some))
-              (omega (arith, q .0 .inside, q .0 .some)) in
+          (omega (arith, q .0 .inside, q .0 .some)) in
           let rest : sums U (first + o + length (g .rows)) gs ≡ sums N (first + o + length (g .rows)) gs =
-              rw a at (sums-within U N p h y e (o + length (g .rows)) gs (q .1)) in
+          rw a at (sums-within U N p h y e (o + length (g .rows)) gs (q .1)) in
           omega arith
 
       cost-same : (U N : ℕ → ℕ → ℕ) → ((j j′ : ℕ) → first ≤ j → j ≤ j′ → j′ ≤ last → j′ - j < last - first → U j j′ ≡ N j j′)
@@ -111,7 +111,7 @@ module _ (m : Measure) (fs : List Bool) (w : ℕ) (rows : List (List ℕ)) where
           let z : first + 0 ≡ first = omega arith in
           let s : sums U first (runs p ((closedOf m 32 fs w rows first last) .left)) ≡ sums N first (runs p ((closedOf m 32 fs w rows first last) .left)) =
           rw z at (sums-within U N p h y e 0 (runs p ((closedOf m 32 fs w rows first last) .left))
-              (group-parts (root p) (close p) ((closedOf m 32 fs w rows first last) .left))) in
+          (group-parts (root p) (close p) ((closedOf m 32 fs w rows first last) .left))) in
           rw s
 
       -- a pair's values go by those of smaller pairs
@@ -119,7 +119,7 @@ module _ (m : Measure) (fs : List Bool) (w : ℕ) (rows : List (List ℕ)) where
           → (leastBy m fs w rows U first last ≡ leastBy m fs w rows N first last) × (placeBy m fs w rows U first last ≡ placeBy m fs w rows N first last)
       by-same U N e =
           over-same ((closedOf m 32 fs w rows first last) .named) ((closedOf m 32 fs w rows first last) .opens) (priceBy m fs w rows U first last)
-              (priceBy m fs w rows N first last)
+          (priceBy m fs w rows N first last)
           (pair-flags m 32 fs w rows fits flags first last order inside) (cost-same U N e)
 
     -- the bound on the rows of a pair does not matter
@@ -132,7 +132,7 @@ module _ (m : Measure) (fs : List Bool) (w : ℕ) (rows : List (List ℕ)) where
         let e = by-same first last o i (λ (j j′ : ℕ). solved again old n j j′) (λ (j j′ : ℕ). solved again old n′ j j′)
         (λ j j′ a b c d. solved-more again old n n′ j j′ (omega arith) (omega arith) b (omega arith)) in
         let q : wholeBy m fs w rows (λ (j j′ : ℕ). solved again old n j j′) first last ≡ wholeBy m fs w rows (λ (j j′ : ℕ). solved again old n′ j j′)
-            first last = rw (e .0) in
+        first last = rw (e .0) in
         rw q
 
     module _ (again : ℕ → ℕ → Bool) (old : ℕ → ℕ → ℕ) (few : length rows ≤ 64) where
@@ -220,8 +220,12 @@ module _ (m : Measure) (low : Low m) (fs : List Bool) (w : ℕ) (rows : List (Li
     several : (k : ℕ) → opens ≡ suc k → first < last
     several k e =
         let f : length names ≤ suc k = omega (arith, pair-flags m 32 fs w rows fits flags first last order inside) in
-        omega (arith, left-length, stuck-many names k Left f (rw e at (pair-closed m 32 fs w rows fits flags first last order inside .stuck))
-            (omega (arith, left-length)))
+        omega (
+          arith,
+          left-length,
+          stuck-many names k Left f (rw e at (pair-closed m 32 fs w rows fits flags first last order inside .stuck))
+              (omega (arith, left-length)),
+        )
 
     -- a pair's later meetings are those of a single row, or they are left when all that is agreed on is closed
     later-splits : latersIn m [] (between first last rows) ≡ laterOf m 32 fs w rows first last + latersIn m [] Left
@@ -236,7 +240,7 @@ module _ (m : Measure) (low : Low m) (fs : List Bool) (w : ℕ) (rows : List (Li
         go true e =
             let q : first ≡ last = eqb-true first last e in
             let c : between first last rows ≡ getD rows first [] ∷ slice (suc first) (suc last) rows =
-                slice-cons first (suc last) rows [] (omega arith) inside in
+            slice-cons first (suc last) rows [] (omega arith) inside in
             let d : slice (suc first) (suc last) rows ≡ [] = rw (← q) (slice-empty (suc first) rows) in
             rw (c, d) (omega (arith, none opens refl q))
         go false e =
@@ -253,9 +257,9 @@ module _ (m : Measure) (low : Low m) (fs : List Bool) (w : ℕ) (rows : List (Li
         let b = branches-whole m 32 fs w rows fits flags first last order inside k e p h y in
         let z : first + 0 ≡ first = omega arith in
         let s : sums (λ (j j′ : ℕ). best m 32 fs w (between j j′ rows)) first gs
-            ≡ sums (λ (j j′ : ℕ). weighedOf m 32 fs w rows j j′ + leastOf m 32 fs w rows j j′) first gs =
+        ≡ sums (λ (j j′ : ℕ). weighedOf m 32 fs w rows j j′ + leastOf m 32 fs w rows j j′) first gs =
         rw z at (sums-within m fs w rows fits flags first last order inside (λ (j j′ : ℕ). best m 32 fs w (between j j′ rows))
-            (λ (j j′ : ℕ). weighedOf m 32 fs w rows j j′ + leastOf m 32 fs w rows j j′)
+        (λ (j j′ : ℕ). weighedOf m 32 fs w rows j j′ + leastOf m 32 fs w rows j j′)
         p (omega arith) y (λ j j′ a b c d. whole-splits j j′ b (omega arith)) 0 gs (group-parts (root p) (close p) Left)) in
         let n : rowCount gs ≡ length Left = group-rows (root p) (close p) Left in
         let t : first + rowCount gs ≡ suc last = omega (arith, n, left-length) in
@@ -263,7 +267,7 @@ module _ (m : Measure) (low : Low m) (fs : List Bool) (w : ℕ) (rows : List (Li
         let v = sums-plus (λ (j j′ : ℕ). best m 32 fs w (between j j′ rows)) (λ (j j′ : ℕ). latersIn m [] (between j j′ rows)) first gs in
         let o : laterOf m 32 fs w rows first last ≡ 0 = rw (ne-eqb first last (λ q. omega (arith, several k e))) in
         let f : length gs * agreedOf m 32 fs w rows first last ≡ length gs * weighedOf m 32 fs w rows first last =
-            ap (λ (a : ℕ). length gs * a) (omega (arith, o)) in
+        ap (λ (a : ℕ). length gs * a) (omega (arith, o)) in
         omega (arith, b, s, u, v, f, later-splits, o)
 
   -- at right values the pair's entry

@@ -67,13 +67,13 @@ module _ (m : Measure) (light : Light m) where
             f .within,
             chosen-first m light fs rows (below m n fs k rows) (all-each (Fits (suc n) (suc k)) (Terms (suc k)) (λ r x. x .0) rows a)
                 (λ j h y. best-runs m n (best-least m n) fs j k few h (runs j rows) (runs-fit n k j h rows a) (length rows)
-                    (group-sizes (root j) (close j) rows)) f,
+                (group-sizes (root j) (close j) rows)) f,
           )
 
   abbrev Makes : ℕ → Type 0
   Makes n =
       (fs : List Bool) (k : ℕ) (rows : List (List ℕ)) → length fs ≤ k → All (Fits n k) rows → 0 < length rows
-          → Builds m fs k rows (planCells m n fs k rows)
+      → Builds m fs k rows (planCells m n fs k rows)
 
   runs-built : (n : ℕ) → Makes n → (fs : List Bool) (i k : ℕ) → length fs ≤ suc k → i ≤ k
       → (gs : List Run) → Each (λ (c : ℕ). Fits n (arity c + k)) gs → (s : ℕ) → Sized s gs

@@ -34,7 +34,7 @@ first-branches : (m : Measure) (fs : List Bool) {k i : ℕ} {rows : List (List �
 unfolding cost NamedFirst
 first-branches m fs {k} {rows = rows} (node j h bs) e s =
     subst (λ (i : ℕ). (cs : Branches k (runs i rows)) × (choice m (length (runs j rows)) + costs m bs ≡ choice m (length (runs i rows)) + costs m cs)
-        × NamedFirsts fs i cs × May fs i) e (bs, refl, s .1, s .0)
+    × NamedFirsts fs i cs × May fs i) e (bs, refl, s .1, s .0)
 
 module _ (m : Measure) where
   -- the chosen place may be chosen

@@ -129,7 +129,7 @@ module _ {m : Measure} where
           let e₁ : arity d + k ≡ suc (arity d + k₀) = omega arith in
           let e₂ : arity d + (arity c + k₀) ≡ arity c + (arity d + k₀) = omega arith in
           let z : Closing m (x .0) (spread i′ (arity c) (spread j (arity d) fs)) (arity c + (arity d + k₀)) (map (close i′) (map (close j) rows)) fs′
-              k′ rows′ = rw (em, ef, e₂) at (x .2) in
+          k′ rows′ = rw (em, ef, e₂) at (x .2) in
           (m .weight c + x .0, omega arith, rw e₁ (one-closed i′ c hi′ ai′ yi′ z))
 
       go : Tri i j → ((k j d : ℕ) → arity c + k₁ ≡ suc k → j ≤ k → Agree j d (map (close i) rows) → May (spread i (arity c) fs) j

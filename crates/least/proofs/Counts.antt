@@ -46,16 +46,16 @@ pub run-closes : {m : Measure} {fs fs′ : List Bool} {w a k : ℕ} {left : List
     → Closing m a fs w (slice first end rows) fs′ (suc k) left
     → end ≤ length rows → p ≤ k → May fs′ p → PartOf (root p) (close p) left o g
     → Closing m (a + (m .weight (g .cell) + 0)) fs w (slice (first + o) (first + (o + length (g .rows))) rows) (spread p (arity (g .cell)) fs′)
-        (arity (g .cell) + k) (g .rows)
+    (arity (g .cell) + k) (g .rows)
 run-closes {m} {fs′ = fs′} {k = k} {left} first end rows p o g x inside h my q =
     let f : List Bool = spread p (arity (g .cell)) fs′ in
     let y₀ : Closing m 0 f (arity (g .cell) + k) (map (close p) (slice o (o + length (g .rows)) left)) f (arity (g .cell) + k) (g .rows) =
-        rw (← (q .is)) none-closed in
+    rw (← (q .is)) none-closed in
     let b : length (slice first end rows) ≡ end - first = length-slice first end rows inside in
     let l : length left ≡ length (slice first end rows) = closes-length (x .closes) in
     rw (slice-slice first end o (o + length (g .rows)) rows (omega (arith, q .inside, q .some))) at
     (closes-then (closes-part o (o + length (g .rows)) (omega (arith, q .some)) (omega (arith, q .inside)) x)
-        (one-closed p (g .cell) h (part-agree p o g left q) my y₀))
+    (one-closed p (g .cell) h (part-agree p o g left q) my y₀))
 
 -- what a run of rows j to j′ adds to a state whose closed cells weigh a: what its rows agree on beyond that, its own branch with it, and its least cost
 abbrev pub adds : (agreed least : ℕ → ℕ → ℕ) → ℕ → ℕ → ℕ → ℕ
@@ -67,14 +67,14 @@ module _ {m : Measure} {fs fs′ : List Bool} (w : ℕ) (rows : List (List ℕ))
   -- so the table tells what the run adds
   run-value : (p o : ℕ) (g : Run) → p ≤ k → May fs′ p → PartOf (root p) (close p) left o g
       → (v : ℕ) × (m .weight (g .cell) + v ≡ adds agreed least a (first + o) (pred (first + o + length (g .rows))))
-          × Bare m (spread p (arity (g .cell)) fs′) (arity (g .cell) + k) (g .rows) v
+      × Bare m (spread p (arity (g .cell)) fs′) (arity (g .cell) + k) (g .rows) v
       × (a ≤ agreed (first + o) (pred (first + o + length (g .rows))))
   run-value p o g h my q =
       let b : length left ≡ suc last - first = closes-length (x .closes) ∙ length-slice first (suc last) rows inside in
       let less : length (g .rows) < length left = part-proper p o g left q (λ ag. stuck p (g .cell) (omega arith) ag my) in
       let e : first + (o + length (g .rows)) ≡ suc (pred (first + o + length (g .rows))) = omega (arith, q .some) in
       let s = table (first + o) (pred (first + o + length (g .rows))) (omega arith) (omega (arith, q .some)) (omega (arith, q .inside, q .some))
-          (omega (arith, q .inside, q .some)) in
+      (omega (arith, q .inside, q .some)) in
       let v = solved-below s (rw e at (run-closes first (suc last) rows p o g x inside h my q)) in
       (v .0, omega (arith, v .1, v .2), v .3, omega (arith, v .1))
 

@@ -84,7 +84,7 @@ module _ (m : Measure) where
       let eg : g′ ≡ g = cc in
       subst
       (λ (g : Run). Better (spread i (arity (g .cell)) fs) (arity (g .cell) + k) (g .rows) (m .weight (g .cell))
-          (m .weight (g′ .cell) + (cost m p + costs m bs)))
+      (m .weight (g′ .cell) + (cost m p + costs m bs)))
       eg (record { plan = p; kind = s .0; less = omega arith })
 
   -- the exchange below some branches of place j: c is agreed in each run, at a place h of the run's cell, may be chosen there, and is closed there.

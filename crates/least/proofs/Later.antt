@@ -216,5 +216,5 @@ module _ (m : Measure) where
   closes-later (step {others = k} {rows = rows} i c h a y x) l t =
       closes-later x (omega (arith, length-map rows (close i)))
       (all-map (λ (r : List ℕ). Terms (suc k) r × (root i r ≡ c)) (Terms (arity c + k)) (close i) (λ r u. rw (u .1) at (close-terms i (u .0) h)) rows
-          (all-both (Terms (suc k)) (λ (r : List ℕ). root i r ≡ c) rows t (a .cells)))
+      (all-both (Terms (suc k)) (λ (r : List ℕ). root i r ≡ c) rows t (a .cells)))
       ∙ agreed-later i c k rows h (⊎-elim (λ f. f) (λ s. absurd (let z : ⊥ = omega arith in z)) (a .fixed)) (a .cells) t

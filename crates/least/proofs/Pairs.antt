@@ -96,7 +96,7 @@ module _ (m : Measure) (n : ℕ) (fs : List Bool) (w : ℕ) (rows : List (List �
       unfolding leastOf
       pair-counts =
           best-least m n ((closedOf m n fs w rows first last) .named) ((closedOf m n fs w rows first last) .opens)
-              ((closedOf m n fs w rows first last) .left) pair-flags
+          ((closedOf m n fs w rows first last) .left) pair-flags
           (closes-fit n (pair-closed .closes .closes) (pair-state .0))
           (omega (arith, closes-length (pair-closed .closes .closes), pair-state .1))
 
@@ -118,7 +118,7 @@ module _ (m : Measure) (n : ℕ) (fs : List Bool) (w : ℕ) (rows : List (List �
       branches-least k e =
           let x = pair-closed first last order inside in
           place-least w rows (weighedOf m n fs w rows) leastOf first last (weighedOf m n fs w rows first last) k
-              ((closedOf m n fs w rows first last) .left) inside
+          ((closedOf m n fs w rows first last) .left) inside
           (rw e at (x .closes)) (rw e at (x .stuck)) (λ j j′ h h′ h″ l. pair-solved j j′ h′ (omega arith))
 
       -- and with what the pair's rows agree on, once for each run, what the runs' rows cost with nothing closed
@@ -129,7 +129,7 @@ module _ (m : Measure) (n : ℕ) (fs : List Bool) (w : ℕ) (rows : List (List �
       branches-whole k e =
           let x = pair-closed first last order inside in
           place-whole w rows (weighedOf m n fs w rows) leastOf first last (weighedOf m n fs w rows first last) k
-              ((closedOf m n fs w rows first last) .left) inside
+          ((closedOf m n fs w rows first last) .left) inside
           (rw e at (x .closes)) (rw e at (x .stuck)) (λ j j′ h h′ h″ l. pair-solved j j′ h′ (omega arith))
 
       -- THE EQUATION OF LEAST COUNTS, for every pair of first and last row
@@ -139,7 +139,7 @@ module _ (m : Measure) (n : ℕ) (fs : List Bool) (w : ℕ) (rows : List (List �
           go : (K : ℕ) → (closedOf m n fs w rows first last) .opens ≡ K → leastOf first last ≡ leastOver (mayOf first last) K (costOf first last)
           go zero e =
               bare-one (rw e at (pair-counts first last order inside))
-                  (leaf-least m ((closedOf m n fs w rows first last) .named) ((closedOf m n fs w rows first last) .left))
+              (leaf-least m ((closedOf m n fs w rows first last) .named) ((closedOf m n fs w rows first last) .left))
           go (suc k) e =
               bare-one (rw e at (pair-counts first last order inside))
               (node-least m ((closedOf m n fs w rows first last) .named) k ((closedOf m n fs w rows first last) .left) (branchesOf first last)
@@ -150,22 +150,24 @@ module _ (m : Measure) (n : ℕ) (fs : List Bool) (w : ℕ) (rows : List (List �
       left-terms =
           all-each (Fits n ((closedOf m n fs w rows first last) .opens)) (Terms ((closedOf m n fs w rows first last) .opens)) (λ r x. x .0)
           ((closedOf m n fs w rows first last) .left) (closes-fit n (pair-closed first last order inside .closes .closes)
-              (pair-state first last order inside .0))
+          (pair-state first last order inside .0))
 
       -- and the place is the rule's
       place-chosen : Light m → (k : ℕ) → (closedOf m n fs w rows first last) .opens ≡ suc k
           → (argmin (mayOf first last) k (costOf first last) ≤ k)
           × Chosen m ((closedOf m n fs w rows first last) .named) k ((closedOf m n fs w rows first last) .left)
-              (argmin (mayOf first last) k (costOf first last))
+          (argmin (mayOf first last) k (costOf first last))
       place-chosen light k e = go (some-may ((closedOf m n fs w rows first last) .named) k (omega (arith, pair-flags first last order inside)))
         where
           go : Some ((closedOf m n fs w rows first last) .named) (suc k) → (argmin (mayOf first last) k (costOf first last) ≤ k)
               × Chosen m ((closedOf m n fs w rows first last) .named) k ((closedOf m n fs w rows first last) .left)
-                  (argmin (mayOf first last) k (costOf first last))
+              (argmin (mayOf first last) k (costOf first last))
           go (some j l y) =
-              let a = argmin-first (mayOf first last) (costOf first last) k j (omega arith) y in
-              (a .within, chosen-cheapest m light (rw e at left-terms) (branchesOf first last) (branches-least k e)
-                  (rw e at (pair-closed first last order inside .stuck)) a)
+              let a = argmin-first (mayOf first last) (costOf first last) k j (omega arith) y in (
+                a .within,
+                chosen-cheapest m light (rw e at left-terms) (branchesOf first last) (branches-least k e)
+                    (rw e at (pair-closed first last order inside .stuck)) a,
+              )
 
       -- so these are the pair's entry, with what the later meetings cost that are left
       pub pair-entry : Light m → Entry m fs w rows first last (leastOf first last + latersIn m [] ((closedOf m n fs w rows first last) .left))
@@ -175,7 +177,7 @@ module _ (m : Measure) (n : ℕ) (fs : List Bool) (w : ℕ) (rows : List (List �
         where
           go : (K : ℕ) → (closedOf m n fs w rows first last) .opens ≡ K → leastOf first last ≡ leastOver (mayOf first last) K (costOf first last)
               → Entry m fs w rows first last (leastOf first last + latersIn m [] ((closedOf m n fs w rows first last) .left))
-                  (firstOver (mayOf first last) K (costOf first last))
+              (firstOver (mayOf first last) K (costOf first last))
           go zero e q =
               let s : List (List ℕ) = (closedOf m n fs w rows first last) .left in
               let z : leastOf first last + latersIn m [] s ≡ 0 = omega (arith, q, none-later m s [] (rw e at left-terms)) in

@@ -84,7 +84,7 @@ module _ (m : Measure) (every : Bool) where
       → Lets every fs → Left every fs i rows → (b : Bool) → every || flag i fs ≡ b → (gs : List Run) → runs i rows ≡ gs
       → ScannedBy m every fs (i + suc r) rows (cond b
       (oneRun gs (λ (g : Run). plus (m .weight (g .cell)) (scan m every n (spread i (arity (g .cell)) fs) i (arity (g .cell) + r) (g .rows)))
-          (scan m every n fs (suc i) r rows))
+      (scan m every n fs (suc i) r rows))
       (scan m every n fs (suc i) r rows))
   scan-step n ih fs i r rows f h l s b eb gs e = by b eb
     where
@@ -101,7 +101,7 @@ module _ (m : Measure) (every : Bool) where
 
       closed-place : (g : Run) → runs i rows ≡ g ∷ [] → every || flag i fs ≡ true
           → ScannedBy m every fs (i + suc r) rows (plus (m .weight (g .cell))
-              (scan m every n (spread i (arity (g .cell)) fs) i (arity (g .cell) + r) (g .rows)))
+          (scan m every n (spread i (arity (g .cell)) fs) i (arity (g .cell) + r) (g .rows)))
       closed-place g e y =
           let a = run-agrees i g rows e in
           let q : g .rows ≡ map (close i) rows = ap (λ (g : Run). g .rows) (run-is i g rows e) in
@@ -111,8 +111,10 @@ module _ (m : Measure) (every : Bool) where
           rw e₄ at (fits-agreed (n + i) (i + r) i (g .cell) rows (omega arith) a (rw (e₂, e₃) at f)) in
           let x = ih (spread i (arity (g .cell)) fs) i (arity (g .cell) + r) (map (close i) rows) f′ (rw (length-map rows (close i)) h)
           (λ v j. none-spread i (arity (g .cell)) j fs (l v)) (left-close every fs i (arity (g .cell)) rows s) in
-          rw (e₂, q) (record { closes = one-closed {k = i + r} i (g .cell) (omega arith) a (lets-may every fs i l y) (rw (← e₄) at (x .closes));
-              none = x .none })
+          rw (e₂, q) (record {
+            closes = one-closed {k = i + r} i (g .cell) (omega arith) a (lets-may every fs i l y) (rw (← e₄) at (x .closes));
+            none = x .none;
+          })
 
       go : (gs : List Run) → runs i rows ≡ gs → every || flag i fs ≡ true
           → ScannedBy m every fs (i + suc r) rows (oneRun gs (λ (g : Run). plus (m .weight (g .cell))
@@ -124,7 +126,7 @@ module _ (m : Measure) (every : Bool) where
       by : (b : Bool) → every || flag i fs ≡ b
           → ScannedBy m every fs (i + suc r) rows (cond b (oneRun gs (λ (g : Run). plus (m .weight (g .cell))
           (scan m every n (spread i (arity (g .cell)) fs) i (arity (g .cell) + r) (g .rows))) (scan m every n fs (suc i) r rows))
-              (scan m every n fs (suc i) r rows))
+          (scan m every n fs (suc i) r rows))
       by true y = go gs e y
       by false y = open-place (λ c a v. true≢false (sym v ∙ y))
 

@@ -62,7 +62,7 @@ module _ (m : Measure) (every : Bool) where
 
       go : (gs : List Run) → runs i rows ≡ gs → Below
           → sizes (runs j ((oneRun gs (λ (g : Run). plus (m .weight (g .cell))
-              (scan m every n (spread i (arity (g .cell)) fs) i (arity (g .cell) + r) (g .rows)))
+          (scan m every n (spread i (arity (g .cell)) fs) i (arity (g .cell) + r) (g .rows)))
           (scan m every n fs (suc i) r rows)) .left)) ≡ sizes (runs j rows)
       go [] e ih = ih fs (suc i) r rows (omega arith)
       go (g ∷ []) e ih =
@@ -73,7 +73,7 @@ module _ (m : Measure) (every : Bool) where
 
       by : (b : Bool) → Below
           → sizes (runs j ((cond b (oneRun (runs i rows)
-              (λ (g : Run). plus (m .weight (g .cell)) (scan m every n (spread i (arity (g .cell)) fs) i (arity (g .cell) + r) (g .rows)))
+          (λ (g : Run). plus (m .weight (g .cell)) (scan m every n (spread i (arity (g .cell)) fs) i (arity (g .cell) + r) (g .rows)))
           (scan m every n fs (suc i) r rows)) (scan m every n fs (suc i) r rows)) .left)) ≡ sizes (runs j rows)
       by true ih = go (runs i rows) refl ih
       by false ih = ih fs (suc i) r rows (omega arith)
@@ -90,7 +90,7 @@ module _ (m : Measure) where
     where
       go : (gs : List Run) → ((i r : ℕ) (rows : List (List ℕ)) → (scan m true n [] i r rows) .named ≡ [])
           → (oneRun gs (λ (g : Run). plus (m .weight (g .cell)) (scan m true n [] i (arity (g .cell) + r) (g .rows)))
-              (scan m true n [] (suc i) r rows)) .named ≡ []
+          (scan m true n [] (suc i) r rows)) .named ≡ []
       go [] ih = ih (suc i) r rows
       go (g ∷ []) ih = ih i (arity (g .cell) + r) (g .rows)
       go (g ∷ (h ∷ gs)) ih = ih (suc i) r rows

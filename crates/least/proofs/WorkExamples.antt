@@ -60,14 +60,14 @@ new-plan = 0 ∷ 2 ∷ a ∷ 1 ∷ 3 ∷ c ∷ 0 ∷ 1 ∷ b ∷ 1 ∷ d ∷ 0 �
 unfoldable pub cases : List Case
 cases =
     case 15 1 ((0 ∷ []) ∷ []) ∷ case 15 1 ((0 ∷ []) ∷ (0 ∷ []) ∷ []) ∷ case 3 2 ((f1 ∷ a ∷ numberCell 9 ∷ []) ∷ []) ∷ case 0 3 p1 ∷ case 1 3 p1
-        ∷ case 2 3 p1 ∷ case 15 3 p1
+    ∷ case 2 3 p1 ∷ case 15 3 p1
     ∷ case 0 2 ((b ∷ a ∷ []) ∷ (0 ∷ b ∷ []) ∷ (0 ∷ b ∷ []) ∷ []) ∷ case 1 2 ((b ∷ a ∷ []) ∷ (0 ∷ b ∷ []) ∷ (0 ∷ b ∷ []) ∷ [])
     ∷ case 0 2 ((a ∷ a ∷ []) ∷ (a ∷ g2 ∷ b ∷ 0 ∷ []) ∷ (0 ∷ g2 ∷ a ∷ 1 ∷ []) ∷ []) ∷ []
 
 unfoldable pub answers : List Says
 answers =
     says 0 (0 ∷ 1 ∷ 0 ∷ 1 ∷ []) ∷ says 15 (0 ∷ 2 ∷ 0 ∷ 1 ∷ 0 ∷ 1 ∷ []) ∷ says 4 (0 ∷ 1 ∷ f1 ∷ 0 ∷ 1 ∷ a ∷ 0 ∷ 1 ∷ numberCell 9 ∷ 1 ∷ [])
-        ∷ says 9 old-plan ∷ says 12 old-plan
+    ∷ says 9 old-plan ∷ says 12 old-plan
     ∷ says 14 new-plan ∷ says 40 new-plan ∷ says 3 (1 ∷ 2 ∷ a ∷ 0 ∷ 1 ∷ b ∷ 1 ∷ b ∷ 0 ∷ 2 ∷ 0 ∷ 1 ∷ 0 ∷ 1 ∷ [])
     ∷ says 5 (0 ∷ 3 ∷ b ∷ 0 ∷ 1 ∷ a ∷ 1 ∷ 0 ∷ 0 ∷ 1 ∷ b ∷ 1 ∷ 0 ∷ 0 ∷ 1 ∷ b ∷ 1 ∷ [])
     ∷ says 8 (1 ∷ 2 ∷ a ∷ 0 ∷ 1 ∷ a ∷ 1 ∷ g2 ∷ 0 ∷ 2 ∷ a ∷ 0 ∷ 1 ∷ b ∷ 0 ∷ 1 ∷ 0 ∷ 1 ∷ 0 ∷ 0 ∷ 1 ∷ a ∷ 0 ∷ 1 ∷ 1 ∷ 1 ∷ []) ∷ []
@@ -96,7 +96,7 @@ repeats-cost = refl
 -- the builder's plans of four of them, by the work with figure 3
 pub repeats-plan : map (λ (T : Table). planCells (work 3) 8 [] (T .width) (T .rows))
     (table 2 ((0 ∷ 0 ∷ []) ∷ []) ∷ table 2 ((0 ∷ f1 ∷ 0 ∷ []) ∷ []) ∷ table 2 ((0 ∷ 0 ∷ []) ∷ (0 ∷ 0 ∷ []) ∷ [])
-        ∷ table 3 ((a ∷ 0 ∷ 0 ∷ []) ∷ (a ∷ b ∷ 0 ∷ []) ∷ []) ∷ [])
+    ∷ table 3 ((a ∷ 0 ∷ 0 ∷ []) ∷ (a ∷ b ∷ 0 ∷ []) ∷ []) ∷ [])
     ≡ (0 ∷ 1 ∷ 0 ∷ 0 ∷ 1 ∷ 0 ∷ 1 ∷ []) ∷ (0 ∷ 1 ∷ 0 ∷ 0 ∷ 1 ∷ f1 ∷ 0 ∷ 1 ∷ 0 ∷ 1 ∷ []) ∷ (0 ∷ 2 ∷ 0 ∷ 0 ∷ 1 ∷ 0 ∷ 1 ∷ 0 ∷ 0 ∷ 1 ∷ 0 ∷ 1 ∷ [])
     ∷ (0 ∷ 1 ∷ a ∷ 0 ∷ 2 ∷ 0 ∷ 0 ∷ 1 ∷ 0 ∷ 1 ∷ b ∷ 0 ∷ 1 ∷ 0 ∷ 1 ∷ []) ∷ []
 unfolding workOf planCells place runCells best total argmin root close agree arity valuesAt isVar

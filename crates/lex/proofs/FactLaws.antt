@@ -106,14 +106,22 @@ module _ (t : List ℕ) (at p : ℕ) (g : GapTo t at p) where
   pub first-fact : {f : Bool} (r : Head) → HeadAt t p r → p < length t → f ≡ true → Heads t at f r
   first-fact r x h q =
       subst (λ (f : Bool). Heads t at f r) (sym q)
-      (record { is = x .is ∙ sym (head-of true ∙ rw (lt-ltb p (length t) h)); reaches = reaches-on r (x .reaches); same =
-          λ w. run-gap (rests-first w) (g .gap) ∙ x .first w })
+      (record {
+        is = x .is ∙ sym (head-of true ∙ rw (lt-ltb p (length t) h));
+        reaches = reaches-on r (x .reaches);
+        same =
+            λ w. run-gap (rests-first w) (g .gap) ∙ x .first w;
+      })
 
   pub later-fact : {f : Bool} (r : Head) → HeadAt t p r → p < length t → f ≡ false → at < p → Heads t at f r
   later-fact r x h q l =
       subst (λ (f : Bool). Heads t at f r) (sym q)
-      (record { is = x .is ∙ sym (head-of false ∙ rw (lt-ltb p (length t) h, lt-ltb at p l)); reaches = reaches-on r (x .reaches); same =
-          λ w. run-stop w (g .gap) l ∙ x .later w })
+      (record {
+        is = x .is ∙ sym (head-of false ∙ rw (lt-ltb p (length t) h, lt-ltb at p l));
+        reaches = reaches-on r (x .reaches);
+        same =
+            λ w. run-stop w (g .gap) l ∙ x .later w;
+      })
 
   -- no layout after a full stop
   pub no-layout : {f : Bool} → p < length t → f ≡ false → p ≤ at → Heads t at f (head-is.Stop p)
@@ -133,8 +141,12 @@ module _ (t : List ℕ) (at p : ℕ) (g : GapTo t at p) where
   unfolding finish
   no-facts h q =
       subst (λ (f : Bool). Heads t at f (head-is.Stop p)) (sym q)
-      (record { is = sym (head-of true ∙ rw (le-ltb p (length t) h)); reaches = λ l. g .within l; same = λ w. run-gap (rests-first w) (g .gap)
-          ∙ at-end t p first w h })
+      (record {
+        is = sym (head-of true ∙ rw (le-ltb p (length t) h));
+        reaches = λ l. g .within l;
+        same = λ w. run-gap (rests-first w) (g .gap)
+            ∙ at-end t p first w h;
+      })
 
   pub all-facts : {f : Bool} → length t ≤ p → f ≡ false → Heads t at f head-is.End
   unfolding finish

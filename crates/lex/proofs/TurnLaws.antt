@@ -133,14 +133,22 @@ module _ (t : List ℕ) (i : ℕ) (s : Solid (drop i t)) (h : i < length t) wher
   pub comma-turn : getD t i 0 ≡ 44 → Turns t i true (turn.Comma i)
   unfolding step past markFrom
   comma-turn e =
-      record { is = sym (mark-here ∙ rw e); leads = (omega arith, h); same = λ w. on-byte t i h after w
-          ∙ ap (λ (b : ℕ). onMark t i (step after w i b)) e }
+      record {
+        is = sym (mark-here ∙ rw e);
+        leads = (omega arith, h);
+        same = λ w. on-byte t i h after w
+            ∙ ap (λ (b : ℕ). onMark t i (step after w i b)) e;
+      }
 
   pub close-turn : getD t i 0 ≡ 41 → Turns t i true (turn.Close i)
   unfolding step past markFrom
   close-turn e =
-      record { is = sym (mark-here ∙ rw e); leads = (omega arith, h); same = λ w. on-byte t i h after w
-          ∙ ap (λ (b : ℕ). onMark t i (step after w i b)) e }
+      record {
+        is = sym (mark-here ∙ rw e);
+        leads = (omega arith, h);
+        same = λ w. on-byte t i h after w
+            ∙ ap (λ (b : ℕ). onMark t i (step after w i b)) e;
+      }
 
   pub no-mark : (getD t i 0 ≡ 44 → ⊥) → (getD t i 0 ≡ 41 → ⊥) → Turns t i true (turn.Stop i)
   unfolding step past markFrom

@@ -16,6 +16,7 @@ use Rattle.builder.specs.declared.BuildAnswer.{BuildAnswer}
 use Rattle.answer.specs.Jobs.{bit}
 use Rattle.shift.specs.Totals.{TriesInAll}
 use Rattle.liked.specs.declared.Columns.{Columns}
+use Rattle.limits.specs.Limits.{mostColumns}
 
 -- "bit c for column c": of the columns from c on, so many, those whose bit is set
 unfoldable pub columnsFrom : (c left mask : ℕ) → List ℕ
@@ -24,14 +25,14 @@ columnsFrom c (suc left) mask = cond (eqb (bit c mask) 1) (c ∷ columnsFrom (su
 
 -- the set of columns that a mask is; a table has at most 8 (proofs/ColumnLaws says it by membership)
 abbrev pub columnsOf : (mask : ℕ) → List ℕ
-columnsOf mask = columnsFrom 0 8 mask
+columnsOf mask = columnsFrom 0 mostColumns mask
 
 -- these columns as the first of eight numbers; the others are 0
 pub record ColumnsListed (mask : ℕ) (r : Columns) : Type 0 where
-  pub size : length (r .list) ≡ 8
-  pub few : r .count ≤ 8
+  pub size : length (r .list) ≡ mostColumns
+  pub few : r .count ≤ mostColumns
   pub are : take (r .count) (r .list) ≡ columnsOf mask
-  pub others : drop (r .count) (r .list) ≡ replicate (8 - r .count) 0
+  pub others : drop (r .count) (r .list) ≡ replicate (mostColumns - r .count) 0
 
 -- "the total tried over the list" by the plan that `build_for` gives for a set of columns, whatever room it is given
 pub record TriesFor (by : By) (cells goals list : List ℕ) (mask total : ℕ) : Type 0 where

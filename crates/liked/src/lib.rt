@@ -8,12 +8,13 @@ ghost use Rattle.liked.specs.code.Search.{Totalled, Plainly, BestBelow};
 use builder::BuildAnswer;
 use builder::build_for;
 use least::By;
+use limits::COLUMNS;
 use limits::PLAN_CELLS;
 use refusal::Refusal;
 
 // The columns of a set: the first of the list. The others are 0.
 pub struct Columns {
-    pub list: [u32; 8],
+    pub list: [u32; COLUMNS],
     pub count: usize,
 }
 
@@ -33,10 +34,10 @@ pub struct Best {
 pub fn columns_of(mask: usize) -> Columns
     ensures { λ r. ⌜ ColumnsListed mask r ⌝ }
 {
-    let mut list = [0u32; 8];
+    let mut list = [0u32; COLUMNS];
     let mut count = 0;
     let mut c: u32 = 0;
-    while c < 8 {
+    while c < COLUMNS as u32 {
         if (mask >> c) % 2 == 1 {
             list[count] = c;
             count += 1;

@@ -93,7 +93,7 @@ module _ {t plan : List ℕ} {costs : ℕ} where
       let n = noted w m k in
       let f = few t (w .reads) in
       let same : header (m .rows) (m .width) costs ≡ header (length (w .table .rows)) (w .table .width) (cost plain (w .tree)) =
-          rw (n .rows, n .width, w .costs-it) in
+      rw (n .rows, n .width, w .costs-it) in
       record {
         ready = record {
           first = 0;

@@ -61,7 +61,7 @@ mutual
       let some = fits-some n k rows f h in
       let e : n ≡ suc (pred n) = omega arith in
       lines-fews bs (pred n) depth i first (runs-fit (pred n) k i g rows (rw e at f)) (within i first rows l)
-          (omega (arith, open-few n (suc k) rows f h)) (omega arith)
+      (omega (arith, open-few n (suc k) rows f h)) (omega arith)
 
   lines-fews : {k : ℕ} {gs : List Run} (bs : Branches k gs) (n depth index first : ℕ) → Each (λ (c : ℕ). Fits n (arity c + k)) gs → Within first gs
       → index < 100 → depth + suc n ≤ 32 → length (linesOf bs depth index first) ≤ 21 * branchesIn bs

@@ -250,13 +250,13 @@ module _ {plan noted : List ℕ} {places depth stop : ℕ} {from : Stand} where
       let cells = head-at plan at (f .run .cell) ((write (f .tree) ++ writes (f .trees)) ++ l .rest) (l .cells ∙ rw (f .cells)) in
       let marks = f .marks noted (here .number) (l .row) (l .marked) in
       let behind : drop (at + 1) plan ≡ write (f .tree) ++ (writes (f .trees) ++ l .rest) =
-          cells .2 ∙ append-assoc (write (f .tree)) (writes (f .trees)) (l .rest) in
+      cells .2 ∙ append-assoc (write (f .tree)) (writes (f .trees)) (l .rest) in
       let row-is : row ≡ l .row = er ∙ marks .0 in
       let some = rw (f .runs-are) at (l .some) in
       let ends : l .row + (length (f .run .rows) + rowCount (f .others)) ≡ stop = rw (f .runs-are) at (l .ends) in
       let after-is : after ≡ l .row + length (f .run .rows) =
       en ∙ rw (marks .1) (sym (row-after (f .trees) noted (here .number + 1 + branches (f .tree)) (l .row + length (f .run .rows)) stop left
-          (marks .3) (omega (arith, ends))
+      (marks .3) (omega (arith, ends))
       (omega (arith, l .count, ap length (f .runs-are))))) in
       let few-args : a ≤ 4 = omega (arith, ea, arity-small (getD plan at 0)) in
       record {

@@ -74,12 +74,12 @@ module _ (t : List ℕ) (v : Place) (xs : List Item) where
           → (position t (bytesAt t v) bs < length bs → unmet t xs bs ≡ unmet t (of-name v ∷ xs) bs + unmet t xs (v ∷ []))
           → cond x 0 (suc (position t (bytesAt t v) bs)) < suc (length bs)
           → _≡_ {A = ℕ} (cond (metIn t (bytesAt t b) xs) 0 1 + unmet t xs bs)
-              (cond (x || metIn t (bytesAt t b) xs) 0 1 + unmet t (of-name v ∷ xs) bs + unmet t xs (v ∷ []))
+          (cond (x || metIn t (bytesAt t b) xs) 0 1 + unmet t (of-name v ∷ xs) bs + unmet t xs (v ∷ []))
       go true e f l =
           let q = same-eq (bytesAt t v) (bytesAt t b) e in
           let n : unmet t (of-name v ∷ xs) bs ≡ unmet t xs bs = strikes-none bs (subst (λ (w : List ℕ). length bs ≤ position t w bs) (sym q) (a .0)) in
           let m : _≡_ {A = ℕ} (cond (metIn t (bytesAt t b) xs) 0 1) (cond (metIn t (bytesAt t v) xs) 0 1) =
-              ap (λ (w : List ℕ). cond {A = ℕ} (metIn t w xs) 0 1) (sym q) in
+          ap (λ (w : List ℕ). cond {A = ℕ} (metIn t w xs) 0 1) (sym q) in
           omega (arith, n, m)
       go false e f l = omega (arith, f (omega arith))
 

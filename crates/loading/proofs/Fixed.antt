@@ -70,7 +70,7 @@ load-holds t c n = by-text (takenOf t) (taken-holds t)
 
     by-cells : (fs : List Fact) (b : Bool) → ltb c (length (tableCells t fs)) ≡ b → Taken t (read fs)
         → Loads t c n (when b (refused reason.Room input.Lent (length (tableCells t fs)))
-            (when (ltb n (length (nameList t fs))) (refused reason.Room input.Lent (length (nameList t fs)))
+        (when (ltb n (length (nameList t fs))) (refused reason.Room input.Lent (length (nameList t fs)))
         (tabled t fs (tableOf (tableCells t fs)))))
     by-cells fs true q x = no-cells x (ltb-true c (length (tableCells t fs)) q)
     by-cells fs false q x = by-names fs (ltb n (length (nameList t fs))) refl x (ltb-false c (length (tableCells t fs)) q)

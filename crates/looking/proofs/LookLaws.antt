@@ -37,7 +37,7 @@ seen-few level s d n b =
     (either (isBlank b) (few-of d n _ _ d n (omega arith) (omega arith))
     (either (eqb b 40)
     (either (isHead s) (few-of d n _ _ 0 n (omega arith) (omega arith))
-        (few-of d n _ _ (d + 1) _ (omega arith) (either-number (eqb (d + 1) level) 0 n (n + 1) (omega arith) (omega arith))))
+    (few-of d n _ _ (d + 1) _ (omega arith) (either-number (eqb (d + 1) level) 0 n (n + 1) (omega arith) (omega arith))))
     (either (eqb b 41) (either (eqb d 0) (few-of d n _ _ 0 n (omega arith) (omega arith)) (few-of d n _ _ (d - 1) n (omega arith) (omega arith)))
     (either (eqb b 44) (few-of d n _ _ d _ (omega arith) (either-number (eqb d level) (n + 1) n (n + 1) (omega arith) (omega arith)))
     (either (eqb b 45) (few-of d n _ _ d n (omega arith) (omega arith))
@@ -47,7 +47,7 @@ glance-few : (level : ℕ) (s : Sight) (b : ℕ) → Few (s .depth) (s .commas) 
 unfolding glance
 glance-few level s b =
     either (s .comment) (few-of (s .depth) (s .commas) _ _ (s .depth) (s .commas) (omega arith) (omega arith))
-        (seen-few level (s .stand) (s .depth) (s .commas) b)
+    (seen-few level (s .stand) (s .depth) (s .commas) b)
 
 look-more : (level : ℕ) (s : Sight) (xs : List ℕ) (b : ℕ) → lookFrom level s (xs ++ (b ∷ [])) ≡ glance level (lookFrom level s xs) b
 unfolding lookFrom

@@ -46,8 +46,17 @@ module _ (level : ℕ) (s : Stand) (d n b : ℕ) where
       → seen level s d n b ≡ sight (worded s (termed b)) false d n
   unfolding seen isBlank
   seen-other p l o k c m f =
-      rw (ne-eqb b 37 p, ne-eqb b 32 (λ e. l (inr (inr e))), ne-eqb b 10 (λ e. l (inl e)), ne-eqb b 13 (λ e. l (inr (inl e))), ne-eqb b 40 o,
-          ne-eqb b 41 k, ne-eqb b 44 c, ne-eqb b 45 m, ne-eqb b 46 f)
+      rw (
+        ne-eqb b 37 p,
+        ne-eqb b 32 (λ e. l (inr (inr e))),
+        ne-eqb b 10 (λ e. l (inl e)),
+        ne-eqb b 13 (λ e. l (inr (inl e))),
+        ne-eqb b 40 o,
+        ne-eqb b 41 k,
+        ne-eqb b 44 c,
+        ne-eqb b 45 m,
+        ne-eqb b 46 f,
+      )
 
 pub glance-comment : (level : ℕ) (s : Sight) (b : ℕ) → s .comment ≡ true → glance level s b ≡ sight (s .stand) (not (eqb b 10)) (s .depth) (s .commas)
 unfolding glance

@@ -1,4 +1,4 @@
-// A part of a text, and the word that a number of W-201's list of names says. What does not lie in the text is left out.
+// The word that a number of W-201's list of names says. What does not lie in the text is left out.
 ghost use mathlib.Core.Path.{_≡_};
 ghost use Rattle.termtext.specs.Saying.{wordIn};
 use slices::bytes::part;

@@ -43,7 +43,7 @@ module _ (kept : List ℕ) (p u v w : ℕ) (long : Long kept) (low : p < 4096) w
       let l₁ : Long one = length-set kept p u ∙ long in
       let l₂ : Long two = length-set one (4096 + p) v ∙ l₁ in (
         getD-set-other two (8192 + p) p w 0 (λ e. omega arith) ∙ getD-set-other one (4096 + p) p v 0 (λ e. omega arith)
-        ∙ getD-set-same kept p u 0 (omega arith),
+            ∙ getD-set-same kept p u 0 (omega arith),
         getD-set-other two (8192 + p) (4096 + p) w 0 (λ e. omega arith) ∙ getD-set-same one (4096 + p) v 0 (omega arith),
         getD-set-same two (8192 + p) w 0 (omega arith),
       )
@@ -115,8 +115,11 @@ module _ {cells marks starts : List ℕ} {asked : Asked} {old : List ℕ} (t : T
   -- the pairs that end at a row, and then those that end at the next
   pub filled-after : {last : ℕ} {a : List ℕ} → FilledTo t 0 last a → FilledTo t (suc (suc last)) (suc last) a
   filled-after {last} {a} f =
-      record { each = λ j j′ h h′. stands-map (λ x. done-as x (to (x .done))) (λ x. done-as x (back x (x .done))) (f .each j j′ h h′); long =
-          f .long }
+      record {
+        each = λ j j′ h h′. stands-map (λ x. done-as x (to (x .done))) (λ x. done-as x (back x (x .done))) (f .each j j′ h h′);
+        long =
+            f .long;
+      }
     where
       to : {j j′ : ℕ} → (j′ < last) ⊎ ((j′ ≡ last) × (0 ≤ j)) → (j′ < suc last) ⊎ ((j′ ≡ suc last) × (suc (suc last) ≤ j))
       to (inl d) = inl (omega arith)
@@ -252,7 +255,7 @@ module _ {cells marks starts : List ℕ} {asked : Asked} {old : List ℕ} (t : T
         agreed-is = rw (eqb-same (row .number), row-part h) (omega (arith, alone-sum (last-row {row = row} h room) x, weights-later (t .low .light) [] own));
         noted =
             rw (slice-empty (suc (row .number)) (t .rows), row-part h)
-                (noted-alone (row .start) (row-fits h .0) (λ j m n. x .each j m (omega (arith, l, b .0))));
+            (noted-alone (row .start) (row-fits h .0) (λ j m n. x .each j m (omega (arith, l, b .0))));
         light = omega (arith, x .light, b .1, t .laid .size);
         filled = f;
         room = x .room;
@@ -351,7 +354,7 @@ module _ {cells marks starts : List ℕ} {asked : Asked} {old : List ℕ} (t : T
       marked = t .marked;
       known =
           λ j h l. rw number-is (whole-there (x .filled) (row .number) j (omega (arith, number-is)) (omega (arith, t .laid .number, x .inside))
-              (pair-done j l));
+          (pair-done j l));
       small = λ i k h m. t .small i k h (omega (arith, t .laid .number));
       room = x .room;
       long = x .filled .long;
@@ -365,7 +368,7 @@ module _ {cells marks starts : List ℕ} {asked : Asked} {old : List ℕ} (t : T
         let b : slice (suc (row′ .number)) (suc last) (t .rows) ≡ slice (row′ .end) (row .end) cells ∷ slice (suc (row .number)) (suc last) (t .rows) =
         ap (λ (n : ℕ). slice n (suc last) (t .rows)) number-is ∙ c
         ∙ ap (λ (r : List ℕ). r ∷ slice (suc (row .number)) (suc last) (t .rows)) (row-part (x .here)
-            ∙ ap (λ (n : ℕ). slice n (row .end) cells) (sym end-is)) in
+        ∙ ap (λ (n : ℕ). slice n (row .end) cells) (sym end-is)) in
         record {
           here = next-here;
           order = omega (arith, number-is, x .order);

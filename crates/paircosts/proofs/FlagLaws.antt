@@ -64,7 +64,7 @@ module _ (every : Bool) where
           let e₃ : i + suc x ≡ suc (i + x) = omega arith in
           let l′ : suc x < length (true ∷ bs) = omega (arith, length-own a true bs) in
           rw (e₁, flag-after i (i + x) a fs (omega arith)) (rw e₃ at (s (suc x) l′)
-              ∙ sym (ap (λ (n : ℕ). flag n (replicate a true ++ bs)) e₂ ∙ past-flag a x true bs))
+          ∙ sym (ap (λ (n : ℕ). flag n (replicate a true ++ bs)) e₂ ∙ past-flag a x true bs))
 
 -- every place is looked at; and the columns are those that are named
 pub sees-every : (w : ℕ) → Sees true [] 0 (replicate w true ++ [])
@@ -93,7 +93,7 @@ module _ (m : Measure) (every : Bool) (P : List Bool → Type 0) (low : ℕ) (ke
 
       by : (b : Bool) → Below
           → P ((cond b (oneRun (runs i rows) (λ (g : Run). plus (m .weight (g .cell))
-              (scan m every n (spread i (arity (g .cell)) fs) i (arity (g .cell) + r) (g .rows)))
+          (scan m every n (spread i (arity (g .cell)) fs) i (arity (g .cell) + r) (g .rows)))
           (scan m every n fs (suc i) r rows)) (scan m every n fs (suc i) r rows)) .named)
       by true ih = go (runs i rows) ih
       by false ih = ih fs (suc i) r rows (omega arith) p

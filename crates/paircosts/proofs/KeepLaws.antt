@@ -114,7 +114,7 @@ module _ {marks kept notes : List ℕ} {row : Row} {shared : Shared} {asked : As
   columns-shown =
       rw zs-length at
       (pair-columns (g .m) (g .width) (g .rows) (g .fits) (g .N) (g .small) fs flags first last (g .order) (g .inside) (noteIn notes) (endIn marks)
-          (weightIn marks)
+      (weightIn marks)
       zs (row .start) ends-right weights-right (omega (arith, zs-length, g .part .0)) (g .row-is) (g .noted))
 
   inside-shown : sort ≡ true → ShownIn (noteIn notes) (endIn marks) (weightIn marks) PricedAt (λ (p : ℕ). ok p ≡ false) (row .end) (state .opens) fs
@@ -122,7 +122,7 @@ module _ {marks kept notes : List ℕ} {row : Row} {shared : Shared} {asked : As
   inside-shown e =
       rw zs-length at
       (pair-inside (g .m) (g .width) (g .rows) (g .fits) (g .N) (g .small) fs flags first last (g .order) (g .inside) (noteIn notes) (endIn marks)
-          (weightIn marks)
+      (weightIn marks)
       zs (row .start) ends-right weights-right (omega (arith, zs-length, g .part .0)) (g .row-is) (g .noted) e)
 
   all-shown : sort ≡ false → (u : ℕ) × Shown (noteIn notes) (endIn marks) (weightIn marks) PricedAt (row .end) (state .opens) (row .start) 0 u
@@ -134,7 +134,7 @@ module _ {marks kept notes : List ℕ} {row : Row} {shared : Shared} {asked : As
   weight-is : sort ≡ false → g .weight ≡ state .agreed
   weight-is =
       pair-weight (g .m) (g .width) (g .rows) (g .fits) (g .N) (g .small) fs flags first last (g .order) (g .inside) (noteIn notes) (endIn marks)
-          (weightIn marks)
+      (weightIn marks)
       zs (row .start) ends-right weights-right (omega (arith, zs-length, g .part .0)) (g .row-is) (g .noted)
 
   state-flags : length (state .named) ≤ state .opens
@@ -221,12 +221,12 @@ module _ {marks kept notes : List ℕ} {row : Row} {shared : Shared} {asked : As
     -- by the code's own numbers
     pub all-priced : part .only ≡ false → (u : ℕ)
         × Shown (noteIn notes) (endIn marks) (weightIn marks) (Priced (g .N) first last (part .agreed) (asked .figure) ok prices) (row .end)
-            (state .opens) (row .start) 0 u
+        (state .opens) (row .start) 0 u
     all-priced e = rw (x .agreed-is, g .figure-is) (all-shown (sym (x .only-is) ∙ e))
 
     pub inside-priced : part .only ≡ true → (0 < state .opens) × (width : ℕ) × (u : ℕ)
         × ShownIn (noteIn notes) (endIn marks) (weightIn marks) (Priced (g .N) first last (part .agreed) (asked .figure) ok prices)
-            (λ (p : ℕ). ok p ≡ false) (row .end)
+        (λ (p : ℕ). ok p ≡ false) (row .end)
         (state .opens) (flagsIn width (asked .named)) (row .start) 0 u
     inside-priced e =
         let q : sort ≡ true = sym (x .only-is) ∙ e in

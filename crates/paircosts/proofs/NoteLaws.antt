@@ -95,8 +95,15 @@ module _ (W : ℕ → ℕ → ℕ) (count : ℕ) (bound : (i k : ℕ) → i ≤ 
   from-fair : (j c : ℕ) (cs : List ℕ) → j + length cs < count → Fair j (j + length cs) (noteFrom W j c cs)
   unfolding noteFrom
   from-fair j c [] h =
-      record { some = omega arith; few = omega arith; low = omega arith; high = omega arith; earlier = λ l. absurd (omega arith); small =
-          omega arith }
+      record {
+        some = omega arith;
+        few = omega arith;
+        low = omega arith;
+        high = omega arith;
+        earlier = λ l. absurd (omega arith);
+        small =
+            omega arith;
+      }
   from-fair j c (d ∷ cs) h =
       let e : j + suc (length cs) ≡ suc j + length cs = omega arith in
       rw e (next-fair j (suc j + length cs) c d (noteFrom W (suc j) d cs) (omega arith) (from-fair (suc j) d cs (omega arith)))

@@ -178,7 +178,7 @@ module _ (m : Measure) (w : ℕ) (rows : List (List ℕ)) (fits : All (Fits 32 w
       let x = pair-closed m 32 fs w rows fits (omega arith) first last order below in
       let l : length (State .left) ≡ suc last - first = closes-length (x .closes .closes) ∙ length-slice first (suc last) rows below in
       let g : choice m (length (runs i (State .left))) ≡ m .figure =
-          choice-stuck m (State .named) (State .opens) i (State .left) (omega arith) (x .stuck) h y in
+      choice-stuck m (State .named) (State .opens) i (State .left) (omega arith) (x .stuck) h y in
       let t : sums W first (runs i (State .left)) - length (runs i (State .left)) * agreed ≡ s .sum + W first (s .to) - s .runs * agreed =
       ap₂ (λ (u v : ℕ). u - v * agreed) (sym (p .costs)) (sym (p .number)) in
       record { price = ap₂ (λ (u v : ℕ). u + v) g t; fair = f; may = is-may (State .named) i y }
@@ -206,7 +206,7 @@ module _ (m : Measure) (w : ℕ) (rows : List (List ℕ)) (fits : All (Fits 32 w
           sees = s;
           fits =
               subst (λ (l : List (List ℕ)). All (Fits 32 (0 + w)) l) rows-are
-                  (rw zero-add (pair-state m 32 fs w rows fits (omega arith) first last order below .0));
+              (rw zero-add (pair-state m 32 fs w rows fits (omega arith) first last order below .0));
           rows = omega arith;
           low = omega arith;
           high = within;
@@ -243,7 +243,7 @@ module _ (m : Measure) (w : ℕ) (rows : List (List ℕ)) (fits : All (Fits 32 w
     pub pair-inside : sort ≡ true → ShownIn N E H PricedAt (λ (p : ℕ). ok p ≡ false) (length zs) (State .opens) fs at 0 (State .agreed)
     pair-inside e =
         let c = subst (λ (s : Scan). ShownIn N E H (Is W first last false (s .named) (s .left)) (Out false (s .named)) (length zs) (s .opens) fs at 0
-            (s .agreed))
+        (s .agreed))
         (sym (inside-is e)) pair-columns in
         let n : anyNamed (State .named) ≡ true = ap (λ (s : Scan). anyNamed (s .named)) (inside-is e) ∙ e in
         in-map (λ j s h p. place-priced j s h (inside (p .looked)) (p .says) (p .fair)) (λ j o. (let f : flag j (State .named) ≡ false = o in rw (f, n))) c

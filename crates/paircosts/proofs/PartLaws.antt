@@ -55,7 +55,7 @@ module _ {marks notes : List ℕ} {start end : ℕ} {part : Part} (g : Column ma
 
   module _ {agreed : ℕ} {only : Bool} {q : ℕ} (h : q < end) (x : PartAt agreed only q) (t : Note) (n : t ≡ noteIn notes q)
       (agreed′ : ℕ) (ea : agreed′ ≡ agreed + cond (eqb (t .runs) 1) (weightIn marks q) 0) (q′ : ℕ)
-          (eq : q′ ≡ cond (eqb (t .runs) 1) (q + 1) (endIn marks q)) where
+      (eq : q′ ≡ cond (eqb (t .runs) 1) (q + 1) (endIn marks q)) where
     abbrev View-at : Type 0
     View-at = Here (noteIn notes) (endIn marks) (weightIn marks) (λ (p : ℕ) (s : Note). g .ok p ≡ true) end (g .opens) q (x .place) (x .weight)
 
@@ -72,9 +72,18 @@ module _ {marks notes : List ℕ} {start end : ℕ} {part : Part} (g : Column ma
         go (many l m o p s) =
             let b : eqb (t .runs) 1 ≡ false = ne-eqb (t .runs) 1 ne in
             let f : q′ ≡ endIn marks q = eq ∙ rw b in
-            let a : agreed′ ≡ agreed + 0 = ea ∙ rw b in
-            (rw f (record { place = suc (x .place); weight = x .weight; shown = s; is = sym (rw p (or-true (someTo (g .ok) (x .place)))); sum =
-                omega (arith, x .sum); light = omega (arith, x .light) }), omega arith)
+            let a : agreed′ ≡ agreed + 0 = ea ∙ rw b in (
+              rw f (record {
+                place = suc (x .place);
+                weight = x .weight;
+                shown = s;
+                is = sym (rw p (or-true (someTo (g .ok) (x .place))));
+                sum =
+                    omega (arith, x .sum);
+                light = omega (arith, x .light);
+              }),
+              omega arith,
+            )
 
     pub part-closed : t .runs ≡ 1 → (only′ : Bool) → only′ ≡ only → PartAt agreed′ only′ q′ × (q < q′)
     part-closed o only′ eo = rw eo (go (here (x .shown)))
@@ -93,7 +102,7 @@ module _ {marks notes : List ℕ} {start end named : ℕ} (g : Columns marks not
   abbrev Parts : List Bool → ℕ → ℕ → ℕ → Type 0
   Parts fs q i w =
       ShownIn (noteIn notes) (endIn marks) (weightIn marks) (λ (p : ℕ) (s : Note). g .ok p ≡ true) (λ (p : ℕ). g .ok p ≡ false) end (g .opens) fs q i
-          w
+      w
 
   -- with no column named no place is looked at
   none-looked : {fs : List Bool} {q i w : ℕ} → ((j : ℕ) → flag j fs ≡ false) → Parts fs q i w → someTo (g .ok) i ≡ false → someTo (g .ok) (g .opens) ≡ false
@@ -129,7 +138,7 @@ module _ {marks notes : List ℕ} {start end named : ℕ} (g : Columns marks not
   module _ {part : Part} {rest q : ℕ} (h : q < end) (x : PartsAt part rest q) where
     pub part-in : rest % 2 ≡ 1
         → Looked (noteIn notes) (endIn marks) (weightIn marks) (λ (p : ℕ) (s : Note). g .ok p ≡ true) (λ (p : ℕ). g .ok p ≡ false) end (g .opens) rest
-            q (x .place) (x .weight)
+        q (x .place) (x .weight)
     part-in o = look-in (x .bits) rest (x .shown) h o
 
     module _ (next : ℕ) (is : next ≡ endIn marks q) where
@@ -154,8 +163,16 @@ module _ {marks notes : List ℕ} {start end named : ℕ} (g : Columns marks not
       part-read o part′ e =
           let i = part-in o in
           let l : part .agreed + i .here ≤ 7 * endIn marks q = rw (e .0, is) at (e .1) in
-          rw (e .0, is) (record { bits = i .bits; place = i .next; weight = i .more; shown = i .after; is = refl; sum =
-              omega (arith, i .both, x .sum); light = l })
+          rw (e .0, is) (record {
+            bits = i .bits;
+            place = i .next;
+            weight = i .more;
+            shown = i .after;
+            is = refl;
+            sum =
+                omega (arith, i .both, x .sum);
+            light = l;
+          })
 
       pub part-passed : rest % 2 ≢ 1 → (part′ : Part) → part′ ≡ part → PartsAt part′ (rest / 2) next
       unfolding someTo

@@ -143,7 +143,7 @@ module _ {marks kept notes : List ℕ} {row : Row} {base : Base} {named : ℕ} (
   module _ {found : Found} {rest q : ℕ} (h : q < row .end) (x : NamedAt found rest q) where
     pub column-in : rest % 2 ≡ 1
         → Looked (noteIn notes) (endIn marks) (weightIn marks) (PricedOf (g .pair)) (λ (p : ℕ). g .pair .ok p ≡ false) (row .end) (g .opens) rest q
-            (found .place) (x .weight)
+        (found .place) (x .weight)
     column-in o = look-in (x .bits) rest (x .shown) h o
 
     module _ (end : ℕ) (is : end ≡ endIn marks q) where

@@ -96,8 +96,11 @@ module _ {cells marks starts : List ℕ} {w : ℕ} {rows : List (List ℕ)} (m :
         go : Either j j′ (asked .top) (asked .since) → readIn old j j′ ≡ wholeOf m fs w rows j j′
         go (again-pair a b) = absurd (let z : _≡_ {A = Bool} true false = sym (chosen-yes asked j j′ a b) ∙ e in let y : _≡_ {A = ℕ} 0 1 = cc in omega arith)
         go (kept-pair o) =
-            omega (arith, least-one (right .at j j′ h l o .whole) (whole-least m low fs w rows (laid .fits) flags few j j′ h l),
-                whole-small m low fs w rows (laid .fits) flags few j j′ h l)
+            omega (
+              arith,
+              least-one (right .at j j′ h l o .whole) (whole-least m low fs w rows (laid .fits) flags few j j′ h l),
+              whole-small m low fs w rows (laid .fits) flags few j j′ h l,
+            )
 
     values : (j j′ : ℕ) → j ≤ j′ → j′ < length rows → N j j′ ≡ wholeOf m fs w rows j j′
     values j j′ h l = values-right m low fs w rows (laid .fits) flags few (chosen asked) (readIn old) kept-right j j′ h l
@@ -111,9 +114,12 @@ module _ {cells marks starts : List ℕ} {w : ℕ} {rows : List (List ℕ)} (m :
             let s = by-same m fs w rows (laid .fits) flags j j′ h l N (wholeOf m fs w rows) (λ i i′ u v q r. values i i′ v (omega arith)) in
             let y = by-right m low fs w rows (laid .fits) flags few j j′ h l in
             let v : wholeIn kept j j′ ≡ wholeOf m fs w rows j j′ =
-                omega (arith, values j j′ h l, whole-small m low fs w rows (laid .fits) flags few j j′ h l) in
-            record { whole = rw v (whole-least m low fs w rows (laid .fits) flags few j j′ h l); entry =
-                rw (c, p, s .0, s .1, y .0, y .1) (pair-entry m 32 fs w rows (laid .fits) flags j j′ h l (low .light)) }
+            omega (arith, values j j′ h l, whole-small m low fs w rows (laid .fits) flags few j j′ h l) in
+            record {
+              whole = rw v (whole-least m low fs w rows (laid .fits) flags few j j′ h l);
+              entry =
+                  rw (c, p, s .0, s .1, y .0, y .1) (pair-entry m 32 fs w rows (laid .fits) flags j j′ h l (low .light));
+            }
         go (left x e) = stays (either j j′ (asked .top) (asked .since))
           where
             stays : Either j j′ (asked .top) (asked .since) → RightAt m fs w rows kept j j′

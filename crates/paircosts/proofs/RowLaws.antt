@@ -108,8 +108,12 @@ module _ {cells marks kept notes₀ : List ℕ} {row new old : ℕ} (g : NextRow
       let l : length (slice q old cells) ≡ old - q = length-slice q old cells old-in in
       let z : x .r ≡ 0 = no-terms (x .new-terms) (omega (arith, x .order .3)) in
       let e : n + 0 ≡ n = omega arith in
-      record { noted = rw e at (x .then (noteIn notes) (λ j l m. refl) 0 (rw z done)); light =
-          omega (arith, x .light, x .order .3, old-in, g .order .3); room = x .room }
+      record {
+        noted = rw e at (x .then (noteIn notes) (λ j l m. refl) 0 (rw z done));
+        light =
+            omega (arith, x .light, x .order .3, old-in, g .order .3);
+        room = x .room;
+      }
     where
       no-terms : {r : ℕ} {xs : List ℕ} → Terms r xs → length xs ≡ 0 → r ≡ 0
       no-terms none e = refl

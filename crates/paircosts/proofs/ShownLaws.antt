@@ -218,8 +218,11 @@ module _ (m : Measure) (W : ℕ → ℕ → ℕ) (count : ℕ) (bound : (i k : �
             shown = rw l (at-open h (on x) o
                 (record {
                   says =
-                      record { number = u .number ∙ sym (length-sizes now (runs i here) k); costs = u .costs
-                          ∙ sym (sums-sizes W first now (runs i here) k) };
+                      record {
+                        number = u .number ∙ sym (length-sizes now (runs i here) k);
+                        costs = u .costs
+                            ∙ sym (sums-sizes W first now (runs i here) k);
+                      };
                   fair = fair e;
                   looked = rw (scan-flag m every n fs (suc i) r here i (omega arith)) (sees-first every fs i true (replicate a true ++ cs) (x .sees));
                 }) (s .shown));
@@ -258,8 +261,17 @@ module _ (m : Measure) (W : ℕ → ℕ → ℕ) (count : ℕ) (bound : (i k : �
         → Shows i 0 (true ∷ cs) q y b (scan m every (suc n) fs i (suc r) here)
     look-in cs b x =
         let z : q + 0 ≡ q = omega arith in
-        let s = looked-at 0 cs b (record { places = omega (arith, x .places); sees = x .sees; fits = x .fits; rows = x .rows; low = x .low; high =
-            x .high; cells = x .cells; noted = x .noted }) in
+        let s = looked-at 0 cs b (record {
+          places = omega (arith, x .places);
+          sees = x .sees;
+          fits = x .fits;
+          rows = x .rows;
+          low = x .low;
+          high =
+              x .high;
+          cells = x .cells;
+          noted = x .noted;
+        }) in
         record {
           next = i;
           weight = 0;
@@ -280,7 +292,7 @@ module _ (m : Measure) (W : ℕ → ℕ → ℕ) (count : ℕ) (bound : (i k : �
         let f : length (front 0 (back (suc i) y)) ≡ 0 = ap length (front-zero (back (suc i) y)) in
         let e = shown-none (s .shown) (omega arith) in
         let out : Out every ((scan m every n fs (suc i) r here) .named) i =
-            rw (scan-flag m every n fs (suc i) r here i (omega arith)) (sees-first every fs i false cs (x .sees)) in
+        rw (scan-flag m every n fs (suc i) r here i (omega arith)) (sees-first every fs i false cs (x .sees)) in
         record {
           next = i;
           weight = 0;

@@ -76,8 +76,16 @@ module _ {N : ℕ → Note} {E H : ℕ → ℕ} {Is : ℕ → Note → Type 0} {
       let b : eqb (rest % 2) 1 ≡ true = cc in
       let f : fs ≡ flagsIn bits (rest / 2) = cc in
       looked (eqb-true (rest % 2) 1 b) l (in-high t)
-      (record { next = n; here = u; more = v; both = refl; shown = s; bits = bits; after =
-          subst (λ (gs : List Bool). ShownIn N E H Is O stop k gs (E q) n v) f t })
+      (record {
+        next = n;
+        here = u;
+        more = v;
+        both = refl;
+        shown = s;
+        bits = bits;
+        after =
+            subst (λ (gs : List Bool). ShownIn N E H Is O stop k gs (E q) n v) f t;
+      })
   at-column {q = q} {i} (suc bits) rest (past-column {flags = fs} {more = v} l o t) e h =
       let b : eqb (rest % 2) 1 ≡ false = cc in
       let f : fs ≡ flagsIn bits (rest / 2) = cc in

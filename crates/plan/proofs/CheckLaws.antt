@@ -121,7 +121,7 @@ state-sound (suc n) fs (suc k) rows p xs s e = node-sound (stateFrom n) (state-s
 abbrev Complete : ℕ → Reader → Type 0
 Complete n below =
     (fs : List Bool) (k : ℕ) (rows : List (List ℕ)) → All (Fits n k) rows → 0 < length rows → (t : Plan k rows) → NamedFirst fs t
-        → (p : ℕ) (rest : List ℕ)
+    → (p : ℕ) (rest : List ℕ)
     → below fs k rows p (write t ++ rest) ≡ read (seen (branches t) (p + length (write t)) rest)
 
 branches-complete : (n : ℕ) (below : Reader) → Complete n below → (fs : List Bool) (i k m : ℕ) (gs : List Run)
@@ -147,7 +147,7 @@ state-complete (suc n) fs zero rows f h leaf s p rest = leaf-complete rows p res
 state-complete zero fs (suc k) rows f h t s p rest = absurd (omega (arith, fits-some zero k rows f h))
 state-complete (suc n) fs (suc k) rows f h (node i l bs) s p rest =
     let x = branches-complete n (stateFrom n) (state-complete n) fs i k (length rows) (runs i rows) (runs-fit n k i l rows f)
-        (group-sizes (root i) (close i) rows) bs (s .1)
+    (group-sizes (root i) (close i) rows) bs (s .1)
     (suc (suc p)) rest in
     let e : suc (suc p) + length (writes bs) ≡ p + suc (suc (length (writes bs))) = omega arith in
     rw (le-leb i k l, is-may fs i (s .0), eqb-same (length (runs i rows)), x, e)

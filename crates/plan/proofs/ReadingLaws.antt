@@ -125,7 +125,7 @@ module _ (below : Reader) (fs : List Bool) (j k : ℕ) (g : Run) (gs : List Run)
       cell-on _ reason.Label _ xs i h (eq-eqb _ _ e)
       ∙ rw (add-one i)
       (after-each (below (spread j (arity (g .cell)) fs) (arity (g .cell) + k) (g .rows) (suc i) (drop (suc i) xs))
-          (λ (s : Seen). branchesFrom below fs j k gs (s .next) (s .rest)))
+      (λ (s : Seen). branchesFrom below fs j k gs (s .next) (s .rest)))
 
   pub branches-refused : (f : Refused) → i < length xs → getD xs i 0 ≡ g .cell
       → below (spread j (arity (g .cell)) fs) (arity (g .cell) + k) (g .rows) (i + 1) (drop (i + 1) xs) ≡ refuse f
@@ -168,7 +168,7 @@ node-alike m n below other h fs k rows f f′ p (i ∷ c ∷ zs) = go (leb i k) 
         let l : i ≤ k = leb-true i k e in
         ap (λ (x : Read Seen). when (not (may fs i)) (badPlan reason.Early p) (when (not (eqb c (length (runs i rows)))) (badPlan reason.Edges (suc p)) x))
         (branches-alike m n below other h fs i k (length rows) (runs i rows) (runs-fit m k i l rows f) (runs-fit n k i l rows f′)
-            (group-sizes (root i) (close i) rows)
+        (group-sizes (root i) (close i) rows)
         (suc (suc p)) zs)
     go false e = refl
 

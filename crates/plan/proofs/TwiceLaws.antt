@@ -47,7 +47,7 @@ twice-once (c ∷ xs) e v h =
     let o = or-false (isVar c && ltb 0 (count c xs)) (twice xs) e in
     by-cases (ℕ-discrete v c)
     (λ q. let z = and-off (isVar c) (ltb 0 (count c xs)) (ap isVar (sym q) ∙ h) (o .0) in let n = ltb-false 0 (count c xs) z in
-        rw (q, eqb-same c) (omega arith))
+    rw (q, eqb-same c) (omega arith))
     (λ q. let n = twice-once xs (o .1) v h in rw (ne-eqb v c q) (omega arith))
 
 pub once-twice : (xs : List ℕ) → ((v : ℕ) → isVar v ≡ true → count v xs ≤ 1) → twice xs ≡ false
@@ -114,8 +114,12 @@ module _ (P : ℕ → Type 0) where
 
   good-close : (i k : ℕ) (r : List ℕ) → i ≤ k → Good P (suc k) r → Good P (arity (root i r) + k) (close i r)
   good-close i k r h g =
-      record { terms = close-terms i (g .terms) h; short = omega (arith, close-length i (g .terms) (omega arith), g .short); cells =
-          close-all i r (g .cells) }
+      record {
+        terms = close-terms i (g .terms) h;
+        short = omega (arith, close-length i (g .terms) (omega arith), g .short);
+        cells =
+            close-all i r (g .cells);
+      }
 
   -- of a run's rows
   first-good : (k c : ℕ) (rows : List (List ℕ)) → 0 < length rows → All (λ (r : List ℕ). P c × Good P (arity c + k) r) rows
@@ -138,7 +142,7 @@ module _ (P : ℕ → Type 0) where
         cells-allIn bs (length rows) (group-sizes (root i) (close i) rows) (runs-lone i rows)
         (runs-distinct i k h rows (all-each (Good P (suc k)) (Terms (suc k)) (λ r g. g .terms) rows a) d)
         (group-all (root i) (close i) (Good P (suc k)) (λ (c : ℕ) (r : List ℕ). P c × Good P (arity c + k) r)
-            (λ r g. (root-all i k r (g .terms) h (g .cells), good-close i k r h g)) rows a)
+        (λ r g. (root-all i k r (g .terms) h (g .cells), good-close i k r h g)) rows a)
 
     cells-allIn : {k : ℕ} {gs : List Run} (bs : Branches k gs) (n : ℕ) → Sized n gs → Lone gs → All (λ (g : Run). Distinct (g .rows)) gs
         → Each (λ (c : ℕ) (r : List ℕ). P c × Good P (arity c + k) r) gs → CellsIn P bs

@@ -120,7 +120,7 @@ module _ {notes₀ : List ℕ} {from to past : ℕ} {notes seen : List ℕ} {aga
         getD-drop from (take to notes₀) (i - 1 - from) 0 ∙ getD-take to notes₀ (from + (i - 1 - from)) 0 (omega (arith, f .up))
         ∙ ap (λ (n : ℕ). getD notes₀ n 0) (let q : from + (i - 1 - from) ≡ i - 1 = omega arith in q) in
         subst P e (all-at P 0 (slice from to notes₀) (i - 1 - from)
-            (omega (arith, length-slice from to notes₀ (omega (arith, E .on, E .few, E .size)), f .up)) a)
+        (omega (arith, length-slice from to notes₀ (omega (arith, E .on, E .few, E .size)), f .up)) a)
 
     pub word-low : Part (getD notes (i - 1) 0)
     word-low = rw read-is (one-of Part (E .parts))
@@ -135,7 +135,7 @@ module _ {notes₀ : List ℕ} {from to past : ℕ} {notes seen : List ℕ} {aga
         let q : suc (i - 1) ≡ i = omega arith in
         let F : List ℕ = finished (past - to) (slice i to notes₀) [] in
         let l : set notes (i - 1) y ≡ sets (set notes₀ (i - 1) y) i F =
-            ap (λ (l : List ℕ). set l (i - 1) y) (f .done) ∙ set-sets notes₀ (i - 1) i y F (omega arith) in
+        ap (λ (l : List ℕ). set l (i - 1) y) (f .done) ∙ set-sets notes₀ (i - 1) i y F (omega arith) in
         let r : finished (past - to) (slice (i - 1) to notes₀) [] ≡ y ∷ F =
         ap (λ (l : List ℕ). finished (past - to) l []) sliced ∙ rw (append-nil cs) (ap (λ (z : ℕ). z ∷ F) (sym e)) in
         l ∙ ap (λ (n : ℕ). sets (set notes₀ (i - 1) y) n F) (sym q) ∙ ap (sets notes₀ (i - 1)) (sym r)
@@ -174,7 +174,7 @@ module _ {notes₀ : List ℕ} {from to past : ℕ} {notes seen : List ℕ} {aga
         let hc : isVar (cellIn w) ≡ true = rw q v in
         let l : c < 32 = cell-low ec v in
         let t : r ≡ cond (twice (cellIn w ∷ cs)) 1 0 * 2 ^ 63 =
-            er ∙ rw (q, v) (met-mark (getD seen c 0) again (ltb 0 (count c cs)) (twice cs) (f .met c l) (f .twice-met)) in
+        er ∙ rw (q, v) (met-mark (getD seen c 0) again (ltb 0 (count c cs)) (twice cs) (f .met c l) (f .twice-met)) in
         next (rw (read-is, ex, below-it) (ap (λ (z : ℕ). w + endOf (past - i) + z) (t ∙ rw hc refl)))
         (λ u k. rw (es, q) (by-cases (ℕ-discrete u c)
         (λ e. rw e (getD-set-same seen c 1 0 (omega (arith, f .size-seen)) ∙ met-same c cs))

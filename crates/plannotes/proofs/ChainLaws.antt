@@ -177,7 +177,7 @@ stored-over l i [] (a′ ∷ A′) B e = absurd (omega arith)
 stored-over l i (a ∷ A) [] B e = absurd (omega arith)
 stored-over l i (a ∷ A) (a′ ∷ A′) B e =
     ap (λ (x : List ℕ). sets x (suc i) A′) (set-sets (set l i a) i (suc i) a′ (A ++ B) (omega arith)
-        ∙ ap (λ (x : List ℕ). sets x (suc i) (A ++ B)) (set-set l i a a′))
+    ∙ ap (λ (x : List ℕ). sets x (suc i) (A ++ B)) (set-set l i a a′))
     ∙ stored-over (set l i a′) (suc i) A A′ B (omega arith)
 
 -- three stores one after another
@@ -250,7 +250,7 @@ module _ {plan links noted : List ℕ} {i place k made free row : ℕ} (w : Read
           rw (number-cell w b) (flag-is (w .group) (map cellIn (went .parts) ++ []) (w .sound .lone) (h .0)) in
           let n : map word (notesAt (w .tree) c i (w .slots) free row) ≡ X ++ W =
           ap₂ (λ (x : ℕ) (xs : List ℕ). x ∷ xs) (word-is c (branches (w .tree)) row (getD (w .slots) i 0) free (flag (run c (w .group .rows)))
-              ∙ rw (f, all) refl) (h .1) in
+          ∙ rw (f, all) refl) (h .1) in
           let z : noted₄ ≡ sets noted₃ made X = rw (over, sliced) at e in
           record {
             wrote = z ∙ rw stored (stored-over noted made (y ∷ went .parts) X W (finished-length s (y ∷ went .parts) [])) ∙ ap (sets noted made) (sym n);

@@ -97,7 +97,7 @@ module _ {t p : List ℕ} {b : ℕ} (x : PlanFor t p b) where
         let q : 0 + length W ≡ branches (x .tree) = omega (arith, words-count (x .tree) (upFrom 1 w) 32 0) in
         let s : array′ ≡ sets array 0 W = (rw (two-cells .1) at f) accepted-there in
         noted (x .table) (x .tree) (table-accepted t w (x .table .rows) .1 (x .is)) (sym (x .cells)) (ap plan-answer.Accepted (sym (x .count)))
-            (two-cells .1) (two-cells .2)
+        (two-cells .1) (two-cells .2)
         (s ∙ sets-eq W array 0 (omega (arith, branches-few (x .is) (x .tree))) ∙ ap (λ (k : ℕ). W ++ drop k array) q)
 
 -- The table or the plan is turned away.

@@ -259,9 +259,14 @@ module _ {plan links noted : List ℕ} {i place k made free row : ℕ} (w : Read
   branch-read = read plan place c (write (w .tree) ++ w .behind) (w .cells)
 
   pub branch-bounds : (place < length plan) × (length plan ≤ mostPlanCells) × (0 < k) × (arity c + (k - 1) ≤ 32) × (made < mostBranches) × (free + arity c ≤ 63)
-  branch-bounds =
-      (branch-read .0, w .size, omega (arith, w .here), omega (arith, open-below, w .deep), omega (arith, w .room),
-          omega (arith, open-below, w .enough, w .here))
+  branch-bounds = (
+    branch-read .0,
+    w .size,
+    omega (arith, w .here),
+    omega (arith, open-below, w .deep),
+    omega (arith, w .room),
+    omega (arith, open-below, w .enough, w .here),
+  )
 
   pub met : BranchMet plan links noted i place made free row
   met = record {
@@ -386,7 +391,7 @@ module _ {plan links noted₀ : List ℕ} {at k made₀ free row₀ : ℕ} (w : 
             number = omega (arith, r .number);
             wrote =
                 rw (d .wrote, e, d .has) (sets-more noted made (made + 1 + branches p) (map word A) (map word B) (omega arith)
-                    ∙ ap (sets noted made) (sym (map-append word A B)) ∙ r .wrote);
+                ∙ ap (sets noted made) (sym (map-append word A B)) ∙ r .wrote);
             after = omega (arith, r .after, d .after, length-append (write p) (writes bs));
             count = omega (arith, r .count, d .next);
             has = omega (arith, r .has, d .has);

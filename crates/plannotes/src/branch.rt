@@ -8,8 +8,10 @@ ghost use lib.Dec.{eqb};
 ghost use lib.ListN.{length, getD, set};
 ghost use lib.Seq.{sets, slice};
 ghost use Rattle.plannotes.specs.code.Steps.{partOf, endOf, finished, Ending, BranchMet, Begun};
+ghost use Rattle.limits.specs.Limits.{mostRowCells};
 use super::packed::cell_of;
 use super::places::close;
+use limits::ROW_CELLS;
 
 // Bit 63.
 const ALONE: u64 = 1 << 63;
@@ -54,8 +56,8 @@ pub fn begin(
 }
 
 // Meets the variable `v` again or for the first time: `again` is 0 until one is met that was met before.
-fn meet(seen: &mut [u8; 32], v: usize, again: u64) -> u64
-    requires { ⌜ (v < 32) × (length (now seen) ≡ 32) ⌝ }
+fn meet(seen: &mut [u8; ROW_CELLS], v: usize, again: u64) -> u64
+    requires { ⌜ (v < mostRowCells) × (length (now seen) ≡ mostRowCells) ⌝ }
     ensures { λ r. ⌜ (r ≡ cond (eqb (getD (now (seen .entry)) v 0) 0) again (2 ^ 63)) × (now (seen .exit) ≡ set (now (seen .entry)) v 1) ⌝ }
 {
     let before = seen[v];
@@ -69,7 +71,7 @@ pub fn finish(notes: &mut [u64], from: usize, to: usize, past: usize)
     requires { ⌜ Ending (now notes) from to past ⌝ }
     ensures { λ _. ⌜ now (notes .exit) ≡ sets (now (notes .entry)) from (finished (past - to) (slice from to (now (notes .entry))) []) ⌝ }
 {
-    let mut seen = [0u8; 32];
+    let mut seen = [0u8; ROW_CELLS];
     let mut again = 0;
     let mut i = to;
     while from < i {

@@ -22,8 +22,12 @@ symbol-by : (c : ℕ) {v : Values} → Reading c v → v .args ≤ 4 → v .numb
 unfolding symbolOf
 symbol-by c (a-variable k m) h l = omega (arith, digits-few 4 (numberOf c) (omega arith))
 symbol-by c (a-name k m) h l =
-    omega (arith, digits-few 4 (numberOf c) (omega arith), digits-few 0 (argsOf c) (omega arith),
-        length-append (decimal (numberOf c)) (47 ∷ decimal (argsOf c)))
+    omega (
+      arith,
+      digits-few 4 (numberOf c) (omega arith),
+      digits-few 0 (argsOf c) (omega arith),
+      length-append (decimal (numberOf c)) (47 ∷ decimal (argsOf c)),
+    )
 symbol-by c (a-number k m) h l = omega (arith, signed-few (signedOf (numberOf c)) (signed-range (numberOf c) (omega arith)))
 symbol-by c (no-cell n) h l = omega arith
 

@@ -138,7 +138,7 @@ module _ {table starts : List ℕ} {rows : ℕ} {goal hits : List ℕ} {all : Li
       let x = pass-end (u .pass (p .left) passing-rest) (omega (arith, l, ap length rest-is, length-drop i hits)) in
       let q : Passed (drop on room) part (p .left) (r .cells) = subst (λ (t : List ℕ). Passed t part (p .left) (r .cells)) e x in
       let w : Put (drop on room) part 0 (flatten (p .left)) (0 + length (fitting (drop on room) 0 (flatten (p .left)))) =
-          record { wrote = q .wrote; after = refl } in
+      record { wrote = q .wrote; after = refl } in
       let y = put-put (p .put) (put-behind room on h w) in
       let k : take on room ++ (part ++ drop (length room - on) (drop on room)) ≡ take on room ++ part =
       ap (λ (t : List ℕ). take on room ++ t) (ap (λ (t : List ℕ). part ++ t) b ∙ append-nil part) in

@@ -103,7 +103,7 @@ fn reply_all(table: &[u32], goal: &[u32], hits: &[u8], room: &mut [u32]) -> Repl
 pub fn replies(table: &[u32], plan: &[u32], goal: &[u32], room: &mut [u32]) -> RepliesAnswer
     ensures { λ r. ⌜ Replied (now (table .entry)) (now (plan .entry)) (now (goal .entry)) (now (room .entry)) (now (room .exit)) r ⌝ }
 {
-    let mut hits = [0u8; 64];
+    let mut hits = [0u8; ROWS];
     match run::run_plan(table, plan, goal, &mut hits) {
         RunAnswer::Refused(f) => RepliesAnswer::Refused(f),
         RunAnswer::Ran(n, _) => reply_all(table, goal, &hits[..n], room),

@@ -21,11 +21,11 @@ use table::Part;
 fn row_at(table: &[u32], starts: &[usize; ROWS], rows: usize, hit: u8) -> Part
     ensures { λ p. ⌜ (Held (now (table .entry)) (now (starts .entry)) rows → hit < rows → RowPlace (tableOf (now (table .entry))) hit p) ⌝ }
 {
-    let r = wide(hit) % 64;
+    let r = wide(hit) % ROWS;
     let start = starts[r];
     let next = r + 1;
     if next < rows {
-        let end = starts[next % 64];
+        let end = starts[next % ROWS];
         return Part { start, end };
     }
     Part {

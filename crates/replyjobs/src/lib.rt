@@ -125,7 +125,7 @@ pub fn reply_one(
     }
     let end = start + count;
     let goal = &cells[start..end];
-    let mut bytes = [0u8; 64];
+    let mut bytes = [0u8; ROWS];
     match run::run_noted(numbers, noted, goal, &mut bytes) {
         RunAnswer::Refused(f) => {
             let reason = f.reason;

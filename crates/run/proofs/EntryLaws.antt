@@ -56,7 +56,7 @@ module _ {t p ns : List ℕ} {b w n : ℕ} (A : ForRun t p ns b w n) where
   plan-reads : planOf t p ≡ read (branches (A .tree))
   plan-reads =
       rw (A .reads) (accepted-one (A .table) (A .is) p (branches (A .tree)) .1
-          (A .tree, sym (A .writes), refl, λ q e. write-one q (A .tree) (e ∙ A .writes)))
+      (A .tree, sym (A .writes), refl, λ q e. write-one q (A .tree) (e ∙ A .writes)))
 
   module _ (g : List ℕ) where
     at-width : {x : Read ℕ} → goalOf w g ≡ x → goalOf (A .table .width) g ≡ x
@@ -71,7 +71,7 @@ module _ {t p ns : List ℕ} {b w n : ℕ} (A : ForRun t p ns b w n) where
     no-room room e l =
         refusal (refused reason.Room input.Lent n)
         (run-room t p g room (A .reads) plan-reads (at-width e) (rw (A .same-rows) at l)
-            ∙ ap (λ (x : ℕ). refuse (refused reason.Room input.Lent x)) (sym (A .same-rows)))
+        ∙ ap (λ (x : ℕ). refuse (refused reason.Room input.Lent x)) (sym (A .same-rows)))
         refl refl
 
     -- neither is
@@ -87,8 +87,15 @@ module _ {t p ns : List ℕ} {b w n : ℕ} (A : ForRun t p ns b w n) where
           let b : 0 + length found ≤ length room = omega arith in
           let q : 0 + length found ≡ length found = omega arith in
           ran (A .table) (A .tree) found k
-          (takes-run (record { table = A .reads; branches = branches (A .tree); plan = plan-reads; variables = v; goal = at-width e; room-for =
-              omega (arith, A .same-rows) }))
+          (takes-run (record {
+            table = A .reads;
+            branches = branches (A .tree);
+            plan = plan-reads;
+            variables = v;
+            goal = at-width e;
+            room-for =
+                omega (arith, A .same-rows);
+          }))
           (A .writes) picks counts (ap₂ answered y z) (x ∙ sets-eq found room 0 b ∙ ap (λ (i : ℕ). found ++ drop i room) q)
 
       -- the goal of distinct variables
@@ -101,9 +108,9 @@ module _ {t p ns : List ℕ} {b w n : ℕ} (A : ForRun t p ns b w n) where
           let z = up-length 0 (length (A .table .rows)) in
           reports (upFrom 0 (length (A .table .rows))) (branches (A .tree))
           (subst (λ (l : List ℕ). Picks (λ (row : List ℕ). Matches row l) (A .table .rows) 0 (upFrom 0 (length (A .table .rows)))) o
-              (every-hit (A .table .width) (omega arith) (A .table .rows) (A .is .each)))
+          (every-hit (A .table .width) (omega arith) (A .table .rows) (A .is .each)))
           (subst (λ (l : List ℕ). Counts (Tried l) (skeletons (A .tree) (replicate (A .table .width) hole)) (branches (A .tree))) o
-              (every-try (A .is) (A .tree)))
+          (every-try (A .is) (A .tree)))
           (omega (arith, z, A .same-rows)) room′ n b (x ∙ ap (sets room 0) q) (A .same-rows ∙ sym z) (A .number)
 
       -- the walk

@@ -7,6 +7,8 @@ ghost use Rattle.table.specs.All.{All};
 ghost use Rattle.table.specs.Table.{upFrom};
 ghost use Rattle.walking.specs.code.Link.{steps};
 ghost use Rattle.walking.specs.code.Goal.{hopOf, Whole, Stepped, Named, firstOf};
+ghost use Rattle.limits.specs.Limits.{mostRowCells};
+use limits::ROW_CELLS;
 use plannotes::packed::wide;
 
 // Past the number of every branch.
@@ -61,8 +63,8 @@ pub fn siblings(goal: &[u32]) -> [u8; 64]
 }
 
 // The first cell of the variable `v`: `p` where it has none so far.
-fn first_cell(first: &mut [u8; 32], v: usize, p: usize) -> u8
-    requires { ⌜ (v < 32) × (p < 32) × (length (now first) ≡ 32) ⌝ }
+fn first_cell(first: &mut [u8; ROW_CELLS], v: usize, p: usize) -> u8
+    requires { ⌜ (v < mostRowCells) × (p < mostRowCells) × (length (now first) ≡ mostRowCells) ⌝ }
     ensures { λ r. ⌜ (r ≡ firstOf (now (first .entry)) v p) × (now (first .exit) ≡ set (now (first .entry)) v (firstOf
         (now (first .entry)) v p)) ⌝ }
 {
@@ -86,7 +88,7 @@ pub fn name_cells(
     ensures { λ r. ⌜ Named (now (goal .entry)) r (now (bound .exit)) (now (args .exit)) (now (until .exit)) ⌝ }
 {
     let mut rep = numbers(0);
-    let mut first = [NONE; 32];
+    let mut first = [NONE; ROW_CELLS];
     let mut p = 0;
     while p < goal.len() {
         let c = goal[p];

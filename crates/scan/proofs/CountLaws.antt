@@ -139,7 +139,7 @@ module _ (t : List ℕ) (at : ℕ) (c : Tally) (G : Going t at (eqb (c .facts) 0
   fact-more x {c′} F h q =
       let g = seenFact x (F .out) in
       let T : Tallied t (G .facts ++ (g ∷ [])) c′ =
-          subst (Tallied t (G .facts ++ (g ∷ []))) (sym q) (tallied-more t (G .facts) c x (F .out) (F .count) h (G .counts)) in
+      subst (Tallied t (G .facts ++ (g ∷ []))) (sym q) (tallied-more t (G .facts) c x (F .out) (F .count) h (G .counts)) in
       record {
         facts = G .facts ++ (g ∷ []);
         counts = T;

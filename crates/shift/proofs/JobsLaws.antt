@@ -79,7 +79,7 @@ module _ {numbers : List ℕ} {noted : Noted} (cells : List ℕ) (j : Job) where
   -- the part of the cells from the start to the sum is the goal
   module _ {room : List ℕ} {r : RunAnswer} (l : j .start + j .count ≤ length cells)
       (x : (t p ns : List ℕ) → NotedInto t p ns numbers noted
-          → Ran t p (take (j .start + j .count - j .start) (drop (j .start) cells)) (replicate 64 0) room r) where
+      → Ran t p (take (j .start + j .count - j .start) (drop (j .start) cells)) (replicate 64 0) room r) where
     ran-alone : (t p ns : List ℕ) → NotedInto t p ns numbers noted → Ran t p (take (j .count) (drop (j .start) cells)) (replicate 64 0) room r
     ran-alone t p ns h =
         let e : j .start + j .count - j .start ≡ j .count = omega arith in

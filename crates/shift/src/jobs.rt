@@ -9,11 +9,13 @@ ghost use Rattle.answer.specs.Jobs.{bitsOf, filled, Each};
 ghost use Rattle.plannotes.specs.Noted.{NotedInto};
 ghost use Rattle.shift.specs.Totals.{TriesInAll};
 ghost use Rattle.shift.specs.code.Asked.{isAccepted, AskedBy, Hits};
+ghost use Rattle.limits.specs.Limits.{mostRows};
 use answer::Job;
 use answer::RunAnswer;
 use checker::PlanAnswer;
 use joins::node;
 use limits::BRANCHES;
+use limits::ROWS;
 use plannotes::Noted;
 use plannotes::packed::wide;
 use refusal::Reason;
@@ -37,13 +39,13 @@ pub fn answer_of(noted: Noted) -> PlanAnswer
 
 // A number of hits: there are no more than 64.
 fn few(n: usize) -> usize
-    ensures { λ r. ⌜ (r ≤ 64) × (n ≤ 64 → r ≡ n) ⌝ }
+    ensures { λ r. ⌜ (r ≤ mostRows) × (n ≤ mostRows → r ≡ n) ⌝ }
 {
-    if n < 64 { n } else { 64 }
+    if n < ROWS { n } else { ROWS }
 }
 
 // The first `n` bytes, numbers of rows, as bits. Where they are the hits of a run, nothing is cut.
-pub fn bits(room: &[u8; 64], n: usize) -> u64
+pub fn bits(room: &[u8; ROWS], n: usize) -> u64
     ensures { λ r. ⌜ (Hits (now (room .entry)) n → r ≡ bitsOf (take n (now (room .entry)))) ⌝ }
 {
     let end = few(n);
@@ -84,7 +86,7 @@ fn ask_one(numbers: &[u64; BRANCHES], noted: Noted, cells: &[u32], j: Job) -> Jo
         return refused(j, Reason::Length, 0);
     }
     let end = start + count;
-    let mut room = [0u8; 64];
+    let mut room = [0u8; ROWS];
     match run::run_noted(numbers, noted, &cells[start..end], &mut room) {
         RunAnswer::Refused(f) => {
             let reason = f.reason;

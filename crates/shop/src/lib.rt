@@ -3,6 +3,7 @@ use builder::BuildAnswer;
 use checker::PlanAnswer;
 use least::By;
 use limits::PLAN_CELLS;
+use limits::ROWS;
 use octets::cells::put_cells;
 use prolog::TextAnswer;
 use refusal::Refusal;
@@ -127,7 +128,7 @@ pub fn cell_at(cells: &[u32], at: usize) -> u32 {
 // A rule, the first being row 0: its number as printed and its line.
 pub fn put_rule(out: &mut [u8], to: usize, kept: &[u32], row: usize) -> usize {
     let line = cell_at(kept, row) as usize;
-    if row < 64 {
+    if row < ROWS {
         return message::put_rule(out, to, row + 1, line);
     }
     to

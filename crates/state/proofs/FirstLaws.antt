@@ -74,4 +74,4 @@ module _ {t ss : List ℕ} {w n : ℕ} (k : TableRows t ss w n) where
         let z : n - 0 ≡ n = omega arith in
         let l = rows-length t ss ms n 0 in
         rw z (ext-getD [] (rowsAt t ss ms n 0) (T .rows) (l ∙ k .rows) (λ i h. row-in t ss ms n 0 i (omega arith)
-            ∙ (let q : 0 + i ≡ i = omega arith in rw q (row-open i (omega arith)))))
+        ∙ (let q : 0 + i ≡ i = omega arith in rw q (row-open i (omega arith)))))

@@ -218,7 +218,7 @@ module _ (n i a : ℕ) (hn : n < 2 ^ 32) (ha : a < 5) where
   pub odd-sum : R % 2 ≡ 1 → n - R * 2 ^ i % 2 ^ 64 + (1 * 2 ^ a % 2 ^ 64 - 1 + R / 2 * 2 ^ a % 2 ^ 64) * 2 ^ i % 2 ^ 64 ≡ spreadIn n i a
   odd-sum e =
       let m : (2 ^ a - 1 + R / 2 * 2 ^ a) * 2 ^ i % 2 ^ 64 ≡ (2 ^ a - 1 + R / 2 * 2 ^ a) * 2 ^ i =
-          cut ((2 ^ a - 1 + R / 2 * 2 ^ a) * 2 ^ i) (omega (arith, odd-small e)) in
+      cut ((2 ^ a - 1 + R / 2 * 2 ^ a) * 2 ^ i) (omega (arith, odd-small e)) in
       rw (low-is, high-is, ones-is, m) (odd-is e)
 
   pub even-few : R % 2 ≡ 0 → spreadIn n i a ≤ 17 * n

@@ -57,7 +57,7 @@ module _ (m c : ℕ) (xs : List ℕ) (j : ℕ) where
       let e : (m - 1) % 2 ≡ 0 = omega arith in
       let f : (m - 1) / 2 ≡ m / 2 = omega arith in
       let g : Found 0 m (c ∷ xs) j (j + 0) = there 0 (omega arith) (omega arith) (rw (kept-set m c xs h))
-          (rw (kept-set m c xs h, kept-unset (m - 1) c xs e, f)) in
+      (rw (kept-set m c xs h, kept-unset (m - 1) c xs e, f)) in
       rw add-zero at g
 
   -- the first cell is looked at already
@@ -68,7 +68,7 @@ module _ (m c : ℕ) (xs : List ℕ) (j : ℕ) where
       let e : (m - 2 ^ suc d) % 2 ≡ 0 = omega arith in
       let f : (m - 2 ^ suc d) / 2 ≡ m / 2 - 2 ^ d = omega arith in
       let g : Found i m (c ∷ xs) j (j + suc d) = there (suc d) (omega arith) (omega arith) (rw (kept-unset m c xs h) r)
-          (rw (kept-unset m c xs h, kept-unset (m - 2 ^ suc d) c xs e, f) l) in
+      (rw (kept-unset m c xs h, kept-unset (m - 2 ^ suc d) c xs e, f) l) in
       rw q at g
 
   -- the first cell is open, and the place is after it
@@ -180,9 +180,9 @@ zeros (suc n) j i m xs = go (m % 2) refl (λ h. bit-skip j i m xs h ∙ zeros n 
   where
     go : (r : ℕ) → m % 2 ≡ r
         → (m % 2 ≡ 0 → bitFrom j i m xs ≡ bitFrom (j + 1 + trailingZeros n (m / 2)) i (m / 2 / 2 ^ trailingZeros n (m / 2))
-            (drop (trailingZeros n (m / 2)) (drop 1 xs)))
+        (drop (trailingZeros n (m / 2)) (drop 1 xs)))
         → bitFrom j i m xs ≡ bitFrom (j + under r (trailingZeros n (m / 2))) i (m / 2 ^ under r (trailingZeros n (m / 2)))
-            (drop (under r (trailingZeros n (m / 2))) xs)
+        (drop (under r (trailingZeros n (m / 2))) xs)
     go zero e ih =
         let t : ℕ = trailingZeros n (m / 2) in
         let q : j + suc t ≡ j + 1 + t = omega arith in

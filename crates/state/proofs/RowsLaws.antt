@@ -97,8 +97,14 @@ run-first t ss ms hs row end n h l e =
     let tk : take n (rowsIn t ss ms row end) ≡ rowsIn t ss ms row (row + n) = rw (m, z) (rows-take t ss ms n (end - (row + n)) row) in
     let dr : drop n (rowsIn t ss ms row end) ≡ rowsIn t ss ms (row + n) end = rw m (rows-drop t ss ms n (end - (row + n)) row) in
     let dc : drop n (c ∷ cs) ≡ columnIn hs (row + n) end = ap (drop n) (sym col) ∙ column-drop hs row end n (omega arith) in
-    record { some = omega arith; few = omega arith; front = sym tk; back = sym dr; runs = ap (λ (l : List ℕ). runsOn l (rowsIn t ss ms row end)) col
-        ∙ (rw (← q, tk, dr, dc) at r) }
+    record {
+      some = omega arith;
+      few = omega arith;
+      front = sym tk;
+      back = sym dr;
+      runs = ap (λ (l : List ℕ). runsOn l (rowsIn t ss ms row end)) col
+          ∙ (rw (← q, tk, dr, dc) at r);
+    }
 
 -- How many runs there are.
 pub run-number : (t ss ms hs : List ℕ) (first end : ℕ) → end ≤ length hs → length (runsIn t ss ms hs first end) ≡ runCount (columnIn hs first end)

@@ -3,6 +3,7 @@ use Prim.Native.Nat.{ℕ, zero, suc, _+_, _-_, _*_, _/_, _%_, _^_, max}
 use mathlib.Core.Bool.{Bool, cond, _&&_, _||_}
 use mathlib.Core.List.{List, [], _∷_}
 use lib.Dec.{eqb, ltb}
+use Rattle.limits.specs.Limits.{mostColumns}
 
 -- the k lowest bits of a number
 unfoldable pub flagsIn : ℕ → ℕ → List Bool
@@ -23,7 +24,7 @@ spreadOf n i a = cond (ltb i 32 && (ltb a 5 && ltb n (2 ^ 32))) (spreadIn n i a)
 
 -- the columns of a list as bits, and one more than the largest of its numbers. A table has at most 8 columns
 abbrev pub withColumn : ℕ → ℕ → ℕ
-withColumn mask c = cond (ltb c 8 && eqb (mask / 2 ^ c % 2) 0) (mask + 2 ^ c) mask
+withColumn mask c = cond (ltb c mostColumns && eqb (mask / 2 ^ c % 2) 0) (mask + 2 ^ c) mask
 
 unfoldable pub maskFrom : ℕ → List ℕ → ℕ
 maskFrom mask [] = mask

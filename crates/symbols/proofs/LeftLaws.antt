@@ -64,7 +64,7 @@ comma-marks t p s n k (f ∷ fs) out facts h e = record { held = held-comma h; i
     by : (b : Bool) → onMark t p (cond b (go arg (work s n k (frame (f .owner) (f .start) (f .end) (suc (f .done)) ∷ fs)
         (set out (f .owner) (name (f .start) (f .end) (suc (f .done)))))) dead) ≡ reads facts
         → run (drop (p + 1) t) arg (work s n k (frame (f .owner) (f .start) (f .end) (suc (f .done)) ∷ fs)
-            (set out (f .owner) (name (f .start) (f .end) (suc (f .done))))) (p + 1) ≡ reads facts
+        (set out (f .owner) (name (f .start) (f .end) (suc (f .done))))) (p + 1) ≡ reads facts
     by true q = q
     by false q = clash q
 
@@ -117,7 +117,7 @@ goes-on xs m w p facts h i e =
       rest = a .keeps .rest ++ rowsIn (a .rest);
       is =
           ap itemsOf (a .is) ∙ ap (λ (l : List Item). l ++ rowsIn (a .rest)) (a .keeps .is)
-              ∙ append-assoc (itemsIn (w .out)) (a .keeps .rest) (rowsIn (a .rest));
+          ∙ append-assoc (itemsIn (w .out)) (a .keeps .rest) (rowsIn (a .rest));
     }
 
 module _ (t : List ℕ) (sp : Spot) (rest : List Item) (L : Left t sp rest) where
@@ -130,7 +130,7 @@ module _ (t : List ℕ) (sp : Spot) (rest : List Item) (L : Left t sp rest) wher
       let out = itemsIn (L .work .out) in
       let e : out ++ rest ≡ out ++ (itemOf x ∷ g .rest) =
       sym (L .items) ∙ g .is ∙ ap (λ (l : List Symbol). itemsIn l ++ g .rest) o ∙ ap (λ (l : List Item). l ++ g .rest) (items-put (L .work .out) x)
-          ∙ append-assoc out (itemOf x ∷ []) (g .rest) in
+      ∙ append-assoc out (itemOf x ∷ []) (g .rest) in
       record {
         after = g .rest;
         is = same-rest out rest (itemOf x ∷ g .rest) e;
@@ -150,7 +150,7 @@ module _ (t : List ℕ) (sp : Spot) (rest : List Item) (L : Left t sp rest) wher
   unfolding push
   push-left s e l h f =
       with-symbol (name s e 0) (push s e (L .work)) (spot (e + 1) false (sp .depth + 1)) refl (omega arith) (omega (arith, L .few))
-          (omega (arith, L .deep)) (held-push s e (L .held))
+      (omega (arith, L .deep)) (held-push s e (L .held))
       (sym (f (L .work)) ∙ L .same)
 
   -- the same symbols, a mark further
@@ -174,7 +174,7 @@ module _ (t : List ℕ) (sp : Spot) (rest : List Item) (L : Left t sp rest) wher
   comma-left p l h f =
       let v = L .work in
       marked p false (sp .depth) (commaTo (v .start) (v .end) (v .done) (v .opened) (v .out)) l h (omega arith)
-          (comma-deep (v .start) (v .end) (v .done) (v .opened) (v .out) ∙ L .deep)
+      (comma-deep (v .start) (v .end) (v .done) (v .opened) (v .out) ∙ L .deep)
       (comma-marks t p (v .start) (v .end) (v .done) (v .opened) (v .out) (L .facts) (L .held) (sym (f v) ∙ L .same))
 
   module _ (p : ℕ) (l : sp .at ≤ p) (h : p < length t)
@@ -210,7 +210,7 @@ module _ (t : List ℕ) (sp : Spot) (rest : List Item) (L : Left t sp rest) wher
         let a = keep.ahead (drop q t) arg (work (n .start) (n .end) 0 [] []) q (n .later) none in-arg (n .same) in
         let e : itemsIn (v .out) ++ rest ≡ itemsIn (v .out) ++ (next-row ∷ itemsOf (n .later)) =
         sym (L .items) ∙ ap itemsOf (n .is) ∙ ap (λ (gs : List Fact). itemsIn (v .out) ++ rowsIn gs) (a .is)
-            ∙ ap (λ (gs : List Fact). itemsIn (v .out) ++ (next-row ∷ itemsOf gs)) (sym (a .is)) in
+        ∙ ap (λ (gs : List Fact). itemsIn (v .out) ++ (next-row ∷ itemsOf gs)) (sym (a .is)) in
         record {
           after = itemsOf (n .later);
           is = same-rest (itemsIn (v .out)) rest (next-row ∷ itemsOf (n .later)) e;

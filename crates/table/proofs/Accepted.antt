@@ -99,7 +99,7 @@ is-goal w g {v} e =
     let a = passed (ltb (length g) 1 || ltb 32 (length g)) _ _ e in
     let b = inside (length g) 1 32 (a .0) in
     let f = first (termsFrom false g w 0 0 0) (λ (m : Met). when (ltb (m .next) (length g)) (refused reason.Extra input.Goal (m .next))
-        (read (m .vars))) (a .1) in
+    (read (m .vars))) (a .1) in
     let c = passed (ltb (f .0 .next) (length g)) _ _ (f .2) in
     let o = whole false g w 0 (f .1) in
     let h = by-whole o (c .0) (b .1) in

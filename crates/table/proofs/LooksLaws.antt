@@ -136,7 +136,7 @@ module _ (row : Bool) (xs : List ℕ) (from : ℕ) (l : row ≡ false → length
       let z : from - from ≡ 0 = omega arith in
       rw (o, z) (by-cases (decLt 32 w)
       (λ (h : 32 < w). too-many row (drop from xs) (w - (w - 33)) w 0 0 from (omega arith) (omega arith) (omega arith)
-          (λ q. omega (arith, l q, length-drop from xs)))
+      (λ q. omega (arith, l q, length-drop from xs)))
       (λ h. let e : w - (w - 33) ≡ w = omega arith in rw e))
 
   module _ (to vars at : ℕ) where
@@ -160,7 +160,7 @@ module _ (row : Bool) (xs : List ℕ) (from to vars at : ℕ) where
       let n : at + 1 - from ≡ suc (at - from) = omega arith in
       rw (drop-cons xs at 0 h, o, a, n, lt-leb 32 (at - from) (omega arith), and-false row, add-one at)
       (tests-then row (valuesAt c) vars at (counted (valuesAt c) vars)
-          (λ (v : ℕ). termsFrom row (drop (suc at) xs) (arity c + (to - suc at)) (suc (at - from)) v (suc at)))
+      (λ (v : ℕ). termsFrom row (drop (suc at) xs) (arity c + (to - suc at)) (suc (at - from)) v (suc at)))
 
 -- a cell adds one variable at most
 pub one-more : (row : Bool) (c vars p : ℕ) {v : ℕ} → cellFrom row c vars p ≡ read v → v ≤ vars + 1

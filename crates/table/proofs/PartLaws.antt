@@ -101,8 +101,11 @@ module _ (t : List ℕ) {T : Table} (g : tableOf t ≡ read T) (r : ℕ) where
   module _ {S : List ℕ} (s : S ≡ startsIn (tableOf t)) where
     pub place-next : r + 1 < length (T .rows) → RowPlace (tableOf t) r (part (getD S r 0) (getD S (r + 1) 0))
     place-next h =
-        rw (s, g) (record { start = refl; end = rw add-one (noted T (suc r) (omega arith) ∙ start-next 2 (T .rows) r (omega arith)
-            ∙ rw (noted T r (omega arith))) })
+        rw (s, g) (record {
+          start = refl;
+          end = rw add-one (noted T (suc r) (omega arith) ∙ start-next 2 (T .rows) r (omega arith)
+              ∙ rw (noted T r (omega arith)));
+        })
 
     pub place-last : r + 1 ≡ length (T .rows) → RowPlace (tableOf t) r (part (getD S r 0) (length t))
     place-last h =

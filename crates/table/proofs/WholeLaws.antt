@@ -33,7 +33,7 @@ terms-pass none [] row used vars p h = rw (add-zero p)
 terms-pass none (c ∷ rest) row used vars p h = rw (add-zero p)
 terms-pass (more {c} {k} {xs = ys} t) rest row used vars p h =
     let ih : (v : ℕ) → termsFrom row (ys ++ rest) (arity c + k) (suc used) v (suc p) ≡ andThen (cellsFrom row ys v (suc p))
-        (λ (u : ℕ). read (met (suc p + length ys) u)) = λ v. terms-pass t rest row (suc used) v (suc p) (λ r. omega (arith, h r)) in
+    (λ (u : ℕ). read (met (suc p + length ys) u)) = λ v. terms-pass t rest row (suc used) v (suc p) (λ r. omega (arith, h r)) in
     let q : suc p + length ys ≡ p + suc (length ys) = omega arith in
     rw (not-full row used (λ r. omega (arith, h r)))
     (tests-then row (valuesAt c) vars p (counted (valuesAt c) vars) (λ (v : ℕ). termsFrom row (ys ++ rest) (arity c + k) (suc used) v (suc p))
@@ -57,7 +57,7 @@ terms-front row (c ∷ xs) zero used vars p h e = record { cells = []; rest = c 
 terms-front row (c ∷ xs) (suc k) used vars p h e =
     let a = passed (row && leb 32 used) _ _ e in
     let f = terms-front row xs (arity c + k) (suc used) (counted (valuesAt c) vars) (suc p) (full row used (a .0))
-        (passed-tests row (valuesAt c) vars p _ (a .1)) in
+    (passed-tests row (valuesAt c) vars p _ (a .1)) in
     record {
       cells = c ∷ f .cells;
       rest = f .rest;
@@ -76,7 +76,7 @@ pub whole : (row : Bool) (xs : List ℕ) (k p : ℕ) {m : Met} → termsFrom row
 whole row xs k p {m} e =
     let f = terms-front row xs k 0 0 p (λ r. omega arith) e in
     let h : andThen (cellsFrom row (f .cells) 0 p) (λ (v : ℕ). read (met (p + length (f .cells)) v)) ≡ read m =
-        sym (terms-pass (f .terms) (f .rest) row 0 0 p (f .room)) ∙ rw (f .split) at e in
+    sym (terms-pass (f .terms) (f .rest) row 0 0 p (f .room)) ∙ rw (f .split) at e in
     let g = first (cellsFrom row (f .cells) 0 p) (λ (v : ℕ). read (met (p + length (f .cells)) v)) h in
     let q : met (p + length (f .cells)) (g .0) ≡ m = read-one (g .2) in
     record { front = f; next = sym (ap (λ (n : Met). n .next) q); tested = g .1 ∙ ap (λ (n : Met). read (n .vars)) q }
@@ -96,5 +96,5 @@ pub whole-within : (row : Bool) (xs : List ℕ) (k p : ℕ) {m : Met} → p ≤ 
 whole-within row xs k p h e =
     let r = whole row (drop p xs) k p e in
     let l : length (drop p xs) ≡ length (r .front .cells) + length (r .front .rest) =
-        ap length (r .front .split) ∙ length-append (r .front .cells) (r .front .rest) in
+    ap length (r .front .split) ∙ length-append (r .front .cells) (r .front .rest) in
     (omega (arith, r .next), omega (arith, r .next, length-drop p xs))

@@ -8,6 +8,7 @@ use Rattle.table.specs.Table.{count}
 use Rattle.knowing.specs.Knowing.{reported, triedOf}
 use Rattle.sums.specs.Sums.{upBy}
 use Rattle.tally.specs.declared.Tally.{Tally}
+use Rattle.limits.specs.Limits.{mostRows}
 
 -- one goal answered, or one refused
 abbrev pub isAnswered : Answer → ℕ
@@ -20,7 +21,7 @@ isRefused (turned f) = 1
 
 -- nothing is counted yet
 pub record Nothing (r : Tally) : Type 0 where
-  pub fits : r .fits ≡ replicate 64 0
+  pub fits : r .fits ≡ replicate mostRows 0
   pub answers : r .answered ≡ 0
   pub refusals : r .refused ≡ 0
   pub tries : r .tried ≡ 0

@@ -5,11 +5,12 @@ ghost use Rattle.answer.specs.Run.{runTold};
 ghost use Rattle.tally.specs.Tally.{Nothing, Added};
 ghost use Rattle.tally.specs.code.Hits.{oneMore, addedTo};
 use answer::RunAnswer;
+use limits::ROWS;
 use sums::plus;
 
 // Rule 1 is row 0, as the hits of a run have it.
 pub struct Tally {
-    pub fits: [usize; 64],
+    pub fits: [usize; ROWS],
     pub answered: usize,
     pub refused: usize,
     pub tried: usize,
@@ -20,7 +21,7 @@ pub fn nothing() -> Tally
     ensures { λ r. ⌜ Nothing r ⌝ }
 {
     Tally {
-        fits: [0usize; 64],
+        fits: [0usize; ROWS],
         answered: 0,
         refused: 0,
         tried: 0,

@@ -1,4 +1,5 @@
 // What the goals of a call add up to, printed: a line for each rule, and the totals.
+use limits::ROWS;
 use octets::put_word;
 use page::Page;
 use shop::Shop;
@@ -14,7 +15,7 @@ fn largest(t: Tally) -> usize {
     let fits = t.fits;
     let mut most = larger(t.tried, larger(t.answered, t.refused));
     let mut i = 0;
-    while i < 64 {
+    while i < ROWS {
         most = larger(most, fits[i]);
         i += 1;
     }
@@ -35,14 +36,14 @@ pub fn say(kept: &[u32], shop: Shop, t: Tally, out: &mut [u8], page: Page) -> Pa
 fn say_rules(
     kept: &[u32],
     rules: usize,
-    fits: [usize; 64],
+    fits: [usize; ROWS],
     width: usize,
     out: &mut [u8],
     page: Page,
 ) -> Page {
     let mut now = page;
     let mut i = 0;
-    while i < 64 && i < rules {
+    while i < ROWS && i < rules {
         let p = page::turn(out, now);
         let line = cell_at(kept, i) as usize;
         let to = tallywords::put_fitted(out, p.to, width, fits[i], i + 1, line);

@@ -149,8 +149,12 @@ same-cell : {c d : ℕ} {xs ys : List ℕ} → c ≡ d → Unifies xs ys ↔ Uni
 unfolding inst
 same-cell {c} {d} {xs} {ys} e = (
   λ u. record { by = u .by; good = u .good; same = ap₂ _++_ (ap (u .by) e) (u .same) },
-  λ u. record { by = u .by; good = u .good; same =
-      append-cancel-left (u .by c) (inst (u .by) xs) (inst (u .by) ys) (u .same ∙ ap (λ (l : List ℕ). l ++ inst (u .by) ys) (ap (u .by) (sym e))) },
+  λ u. record {
+    by = u .by;
+    good = u .good;
+    same =
+        append-cancel-left (u .by c) (inst (u .by) xs) (inst (u .by) ys) (u .same ∙ ap (λ (l : List ℕ). l ++ inst (u .by) ys) (ap (u .by) (sym e)));
+  },
 )
 
 walk-correct : {rec : List ℕ → List ℕ → Bool} (vs : List ℕ) {k : ℕ} {xs ys : List ℕ} → Correct rec (length vs) → Terms k xs → Terms k ys
@@ -164,17 +168,21 @@ walk-correct {rec} vs ih (more {c} {k} {xs} t) (more {c = d} {xs = ys} u) wx wy 
     (λ hc. bind-correct rec c d ys hc (eqb-false c d e) ih (rw (var-arity c hc, zero-add) at t) (more u) wx wy)
     (λ hc. by-test (isVar d)
     (λ hd. Decides-iff (Unifies-sym, Unifies-sym)
-        (bind-correct rec d c xs hd (λ p. eqb-false c d e (sym p)) ih (rw (var-arity d hd, zero-add) at u) (more t) wy wx))
+    (bind-correct rec d c xs hd (λ p. eqb-false c d e (sym p)) ih (rw (var-arity d hd, zero-add) at u) (more t) wy wx))
     (λ hd. says-no (other-symbol c d xs ys hc hd (eqb-false c d e) none none))))
 
 unify-correct : (n : ℕ) → Correct (unify n) (suc n)
 unfolding unify
 unify-correct zero =
-    record { decides = λ {k} {xs} {ys} {us} t u wx wy h. walk-correct us
-        (record { decides = λ t′ u′ wx′ wy′ h′. absurd (let z : ⊥ = omega arith in z) }) t u wx wy }
+    record {
+      decides = λ {k} {xs} {ys} {us} t u wx wy h. walk-correct us
+          (record { decides = λ t′ u′ wx′ wy′ h′. absurd (let z : ⊥ = omega arith in z) }) t u wx wy;
+    }
 unify-correct (suc n) =
-    record { decides = λ {k} {xs} {ys} {us} t u wx wy h. walk-correct us
-        (record { decides = λ t′ u′ wx′ wy′ h′. unify-correct n .decides t′ u′ wx′ wy′ (omega arith) }) t u wx wy }
+    record {
+      decides = λ {k} {xs} {ys} {us} t u wx wy h. walk-correct us
+          (record { decides = λ t′ u′ wx′ wy′ h′. unify-correct n .decides t′ u′ wx′ wy′ (omega arith) }) t u wx wy;
+    }
 
 pub unifiable-correct : {k : ℕ} (xs ys : List ℕ) → Terms k xs → Terms k ys → Decides (Unifies xs ys) (unifiable xs ys)
 unfolding unifiable

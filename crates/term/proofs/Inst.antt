@@ -78,8 +78,11 @@ Subst-id = record { vars = λ c v. Terms-var v; symbols = λ c v. refl }
 pub Subst-bind : (v : ℕ) {t : List ℕ} {σ : ℕ → List ℕ} → isVar v ≡ true → Terms 1 t → Subst σ → Subst (bind v t σ)
 unfolding bind
 Subst-bind v {t} {σ} hv u s =
-    record { vars = λ c e. go c e (eqb c v) refl; symbols =
-        λ c e. rw (ne-eqb c v (λ p. true≢false (sym hv ∙ ap isVar (sym p) ∙ e))) (s .symbols c e) }
+    record {
+      vars = λ c e. go c e (eqb c v) refl;
+      symbols =
+          λ c e. rw (ne-eqb c v (λ p. true≢false (sym hv ∙ ap isVar (sym p) ∙ e))) (s .symbols c e);
+    }
   where
     go : (c : ℕ) → isVar c ≡ true → (b : Bool) → eqb c v ≡ b → Terms 1 (cond b t (σ c))
     go c e true p = u

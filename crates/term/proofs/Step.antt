@@ -37,10 +37,13 @@ pub same-symbol : (c : ℕ) {i : ℕ} {A A′ : List ℕ} (B D : List ℕ) → i
 same-symbol c {i} {A} {A′} B D hc t t′ = (
   λ u. let p = at-place (c ∷ B) (c ∷ D) (u .good) t t′ .0 (u .same) in
       mk (u .by) (u .good) (at-place B D (u .good) t t′ .1
-          (p .0, tail-eq-of-cons-eq (sym (inst-symbol c B (u .good) hc) ∙ p .1 ∙ inst-symbol c D (u .good) hc))),
+      (p .0, tail-eq-of-cons-eq (sym (inst-symbol c B (u .good) hc) ∙ p .1 ∙ inst-symbol c D (u .good) hc))),
   λ u. let p = at-place B D (u .good) t t′ .0 (u .same) in
-      mk (u .by) (u .good) (at-place (c ∷ B) (c ∷ D) (u .good) t t′ .1 (p .0, inst-symbol c B (u .good) hc ∙ ap (λ (l : List ℕ). c ∷ l) (p .1)
-          ∙ sym (inst-symbol c D (u .good) hc))),
+      mk (u .by) (u .good) (at-place (c ∷ B) (c ∷ D) (u .good) t t′ .1 (
+        p .0,
+        inst-symbol c B (u .good) hc ∙ ap (λ (l : List ℕ). c ∷ l) (p .1)
+            ∙ sym (inst-symbol c D (u .good) hc),
+      )),
 )
 
 -- two symbols
@@ -87,7 +90,7 @@ eliminate v {t} xs ys hv ht n = (
       let s = Subst-then (Subst-bind v hv ht Subst-id) (u .good) in
       let ρ = bind v t idS in
       let here : inst (then ρ σ) (v ∷ []) ≡ inst (then ρ σ) t =
-          inst-var (then ρ σ) v ∙ ap (inst σ) (bind-same v t idS) ∙ sym (ap (inst σ) (unbound v t t n)) ∙ inst-then ρ σ t in
+      inst-var (then ρ σ) v ∙ ap (inst σ) (bind-same v t idS) ∙ sym (ap (inst σ) (unbound v t t n)) ∙ inst-then ρ σ t in
       mk (then ρ σ) s (at-place xs ys s (Terms-var hv) ht .1 (here, sym (inst-then ρ σ xs) ∙ u .same ∙ inst-then ρ σ ys)),
 )
 
@@ -142,9 +145,9 @@ goal-variable c v {i} {A} {A′} {ws} B B′ hc hv a a′ f n d d′ =
           let q = symbol-value c v B B′ s hc hv (p .1) in
           let r = spread (q .0) s f (q .2) in
           let off : (xs : List ℕ) → AbsentFrom ws xs → inst (r .new) xs ≡ inst (u .by) xs =
-              λ xs h. inst-agree (r .new) (u .by) xs (λ x m. r .keeps x (λ w. h x w m)) in
+          λ xs h. inst-agree (r .new) (u .by) xs (λ x m. r .keeps x (λ w. h x w m)) in
           let e : r .new v ≡ inst (r .new) (c ∷ ws) = r .keeps v (λ w. d v w (List·Memᴰ·head refl)) ∙ q .1
-              ∙ sym (inst-symbol c ws (r .good) hc ∙ ap (λ (l : List ℕ). c ∷ l) (r .hits)) in
+          ∙ sym (inst-symbol c ws (r .good) hc ∙ ap (λ (l : List ℕ). c ∷ l) (r .hits)) in
           let nA = off A (λ w h m. d w h (List·Memᴰ·tail (Memᴰ·append-left B m))) in
           let nB = off B (λ w h m. d w h (List·Memᴰ·tail (Memᴰ·append-right A m))) in
           let nA′ = absorb (r .new) v (c ∷ ws) A′ e ∙ off A′ (λ w h m. d′ w h (Memᴰ·append-left B′ m)) in
@@ -155,12 +158,12 @@ goal-variable c v {i} {A} {A′} {ws} B B′ hc hv a a′ f n d d′ =
           let s = Subst-then sρ (u .good) in
           let p = at-place B (ws ++ inst ρ B′) (u .good) a (Terms-inst sρ a′) .0 (u .same) in
           let row : (xs : List ℕ) → ¬ List·Memᴰ v xs → inst (then ρ σ) xs ≡ inst σ xs =
-              λ xs h. sym (inst-then ρ σ xs) ∙ ap (inst σ) (unbound v (c ∷ ws) xs h) in
+          λ xs h. sym (inst-then ρ σ xs) ∙ ap (inst σ) (unbound v (c ∷ ws) xs h) in
           let nA = row A (λ m. n (Memᴰ·append-left B m)) in
           let nB = row B (λ m. n (Memᴰ·append-right A m)) in
           let here : inst (then ρ σ) (v ∷ B′) ≡ c ∷ inst σ (ws ++ inst ρ B′) =
-              sym (inst-then ρ σ (v ∷ B′)) ∙ ap (λ (l : List ℕ). inst σ (l ++ inst ρ B′)) (bind-same v (c ∷ ws) idS)
-              ∙ inst-symbol c (ws ++ inst ρ B′) (u .good) hc in
+          sym (inst-then ρ σ (v ∷ B′)) ∙ ap (λ (l : List ℕ). inst σ (l ++ inst ρ B′)) (bind-same v (c ∷ ws) idS)
+          ∙ inst-symbol c (ws ++ inst ρ B′) (u .good) hc in
           mk (then ρ σ) s (at-place (c ∷ B) (v ∷ B′) s a a′ .1
           (nA ∙ p .0 ∙ inst-then ρ σ A′, inst-symbol c B s hc ∙ ap (λ (l : List ℕ). c ∷ l) (nB ∙ p .1) ∙ sym here)),
     )

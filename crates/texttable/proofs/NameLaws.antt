@@ -306,7 +306,7 @@ shown-apart t (b ∷ bs) f = (
 -- a batch
 module _ (t : List ℕ) (from : Spot) (list links : List ℕ) (r : Filled) (marks : List ℕ) (names : ℕ) (F : FilledTo t from list links r)
     (K : Strikes t (r .to) list links (r .count) (replicate 3500 0) marks) (e : names ≡ zeros (r .count) marks) (few : names ≤ r .count)
-        (size : length list ≡ 3500)
+    (size : length list ≡ 3500)
     (size′ : length marks ≡ 3500) where
   none-marked : (i : ℕ) → i < r .count → _≡_ {A = ℕ} (getD (replicate 3500 0) i 0) 0
   none-marked i l = getD-replicate 3500 i 0 0 (omega (arith, F .few))
@@ -337,7 +337,7 @@ module _ (t : List ℕ) (from : Spot) (list links : List ℕ) (r : Filled) (mark
               left = S .left;
               count =
                   ap (λ (n : ℕ). n + length (namesMet t [] (S .rest))) (not-again (S .rest) (S .left)) ∙ sym (batch t (G .names) (S .rest) apart)
-                      ∙ ap length (S .same);
+                  ∙ ap length (S .same);
               ended = λ q. ap length (F .ended q (S .rest) (S .left) .names []);
             });
       }

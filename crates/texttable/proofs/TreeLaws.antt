@@ -103,7 +103,7 @@ module _ (t list links : List ℕ) (count : ℕ) (T : Tree t list links count) w
       gains : (s v : ℕ) → getD links s 0 ≡ suc v → getD (set links slot (suc count)) s 0 ≡ suc v
       gains s v q =
           getD-set-other links slot s (suc count) 0 (λ (z : s ≡ slot). (let y : suc v ≡ 0 = sym q ∙ ap (λ (x : ℕ). getD links x 0) z ∙ m .free in
-              omega arith)) ∙ q
+          omega arith)) ∙ q
 
       by : (i : ℕ) (P : ℕ → Type 0) → i < suc count → (i < count → P (getD list i 0)) → P c → P (getD (set list count c) i 0)
       by i P h a b = go (ℕ-discrete i count)
@@ -125,7 +125,7 @@ module _ (t list links : List ℕ) (count : ℕ) (T : Tree t list links count) w
           go : Dec (slotOf j b ≡ slot) → j < v
           go (yes z) =
               let y : suc count ≡ suc v = sym (getD-set-same links slot (suc count) 0 inside)
-                  ∙ ap (λ (x : ℕ). getD (set links slot (suc count)) x 0) (sym z) ∙ q in
+              ∙ ap (λ (x : ℕ). getD (set links slot (suc count)) x 0) (sym z) ∙ q in
               omega (arith, trail-slot (m .trail))
           go (no z) = T .later j b v h (sym (getD-set-other links slot (slotOf j b) (suc count) 0 z) ∙ q)
 
@@ -135,7 +135,7 @@ module _ (t list links : List ℕ) (count : ℕ) (T : Tree t list links count) w
           go : Dec (i ≡ count) → Route (set links slot (suc count)) (wordListed t (getD (set list count c) i 0)) 0 0 i
           go (yes q) =
               let a : wordListed t (getD (set list count c) i 0) ≡ w =
-                  ap (λ (x : ℕ). wordListed t (getD (set list count c) x 0)) q ∙ ap (wordListed t) (getD-set-same list count c 0 room) ∙ e in
+              ap (λ (x : ℕ). wordListed t (getD (set list count c) x 0)) q ∙ ap (wordListed t) (getD-set-same list count c 0 room) ∙ e in
               subst (λ (x : List ℕ). Route (set links slot (suc count)) x 0 0 i) (sym a)
               (trail-route (trail-kept gains (m .trail)) (here (getD-set-same links slot (suc count) 0 inside ∙ ap suc (sym q))))
           go (no q) =

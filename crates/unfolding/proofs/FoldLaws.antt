@@ -38,8 +38,15 @@ one-in (next {k} {g} {gs} p bs) i e = go gs bs e
   where
     go : (gs : List Run) (bs : Branches k gs) → suc (length gs) ≡ 1 → OneIn (next {g = g} p bs) i
     go [] end e =
-        record { run = g; tree = p; runs-are = refl; cells = ap (λ (l : List ℕ). g .cell ∷ l) (append-nil (write p)); heads = λ K. refl; bodies =
-            λ n. refl }
+        record {
+          run = g;
+          tree = p;
+          runs-are = refl;
+          cells = ap (λ (l : List ℕ). g .cell ∷ l) (append-nil (write p));
+          heads = λ K. refl;
+          bodies =
+              λ n. refl;
+        }
     go (g′ ∷ gs) bs e = absurd (omega arith)
 
 pub record One {k : ℕ} {rows : List (List ℕ)} (p : Plan k rows) : Type 0 where

@@ -180,9 +180,9 @@ module _ {plan : List ℕ} {at places : ℕ} where
       let f = first-is (l .trees) (omega (arith, l .count)) in
       let cells = head-at plan p (f .run .cell) ((write (f .tree) ++ writes (f .trees)) ++ l .rest) (l .cells ∙ rw (f .cells)) in
       let after : drop (p + 1) plan ≡ write (f .tree) ++ (writes (f .trees) ++ l .rest) =
-          cells .2 ∙ append-assoc (write (f .tree)) (writes (f .trees)) (l .rest) in
+      cells .2 ∙ append-assoc (write (f .tree)) (writes (f .trees)) (l .rest) in
       let whole : at + length (write (w .tree)) ≤ length plan =
-          omega (arith, length-drop at plan, ap length (w .cells), length-append (write (w .tree)) (w .rest), cells .0, l .after) in
+      omega (arith, length-drop at plan, ap length (w .cells), length-append (write (w .tree)) (w .rest), cells .0, l .after) in
       record {
         inside = cells .0;
         size = w .size;

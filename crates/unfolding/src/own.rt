@@ -12,6 +12,7 @@ use crate::fold::fold_run;
 use crate::past::past_state;
 use heads::decide_in;
 use heads::put_clause;
+use limits::ROW_CELLS;
 
 // What a branch's clause has from its state: its predicate, the one that is called if the run does not end at a leaf, and its width.
 pub struct Own {
@@ -37,7 +38,7 @@ fn put_branch(plan: &[u32], p: usize, index: usize, o: Own, program: &mut [u32],
         → Put (now (program .entry)) (now (program .exit)) to (flatOne (branchClause w)) r) ⌝ }
 {
     let c = plan[p];
-    let mut head = [4294967295u32; 32];
+    let mut head = [4294967295u32; ROW_CELLS];
     let n = decide_in(&mut head, o.width, index, c);
     let start = Fold {
         at: p + 1,

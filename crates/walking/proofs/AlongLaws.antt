@@ -75,7 +75,7 @@ module _ {w : ℕ} {G sib rep : List ℕ} (G-goal : Goal w G) (T : Tables G sib 
   pub ended : length words ≤ i → (room ≡ final) × (found ≡ h) × (count ≡ t)
   ended l =
       let z : length (notesOf (A .left-over) row) ≡ 0 =
-          sym (length-map (notesOf (A .left-over) row) word) ∙ ap length (A .noted) ∙ length-drop i words ∙ omega arith in
+      sym (length-map (notesOf (A .left-over) row) word) ∙ ap length (A .noted) ∙ length-drop i words ∙ omega arith in
       let n = none-of (A .left-over) row z in
       (rw (n .0) at (A .wrote), omega (arith, A .more, ap length (n .0)), omega (arith, A .tries, n .1))
 
@@ -250,9 +250,14 @@ module _ {w : ℕ} {G sib rep : List ℕ} (G-goal : Goal w G) (T : Tables G sib 
           rows = omega (arith, A .rows, split-rows);
           fewer = omega (arith, A .fewer, some-here);
           least =
-              omega (arith, A .least, et, tried-few (first .R)
-                  (replicate (suc (first .k)) hole ∷ skeletons (first .tree) (decide (first .place) c (replicate (suc (first .k)) hole))),
-                  skeletons-length (first .tree) (decide (first .place) c (replicate (suc (first .k)) hole)));
+              omega (
+                arith,
+                A .least,
+                et,
+                tried-few (first .R)
+                    (replicate (suc (first .k)) hole ∷ skeletons (first .tree) (decide (first .place) c (replicate (suc (first .k)) hole))),
+                skeletons-length (first .tree) (decide (first .place) c (replicate (suc (first .k)) hole)),
+              );
           reach = omega (arith, skip-here, parts .skip);
         })
       where
@@ -277,7 +282,7 @@ module _ {w : ℕ} {G sib rep : List ℕ} (G-goal : Goal w G) (T : Tables G sib 
       unfolding b
       on-fail x =
           let x′ : Step rep sib i c (node G-goal T first) m sk bs ns us rs bs′ ns′ us′ rs′ false =
-              rw (parts .cell, parts .next, parts .skip, ← same-node) at x in
+          rw (parts .cell, parts .next, parts .skip, ← same-node) at x in
           let f = fails G-goal T first room-enough (A .sizes) x′ in
           let hs : hitsOf (A .left-over) row ≡ hitsOf others (row + n) = split-hits off ∙ rw (f .0) in
           let ts : triedOf (A .left-over) ≡ suc (triedOf others) = split-tried off ∙ rw (f .0) (omega arith) in
@@ -344,7 +349,7 @@ module _ {w : ℕ} {G sib rep : List ℕ} (G-goal : Goal w G) (T : Tables G sib 
             let ts : triedOf (A .left-over) ≡ suc (triedOf (F .first ∷ others)) = split-tried off ∙ rw (d .leaves) (omega (arith, F .same-tried)) in
             let ns : notesOf (F .first ∷ others) row ≡ under-it ++ notesOf others (row + n) = rw (F .same-notes row, F .same-rows) in
             let ws : map word under-it ++ map word (notesOf others (row + n)) ≡ drop (i + 1) words =
-                next-words words (map word under-it ++ map word (notesOf others (row + n))) i (word b) split-words in
+            next-words words (map word under-it ++ map word (notesOf others (row + n))) i (word b) split-words in
             record {
               left-over = F .first ∷ others;
               row = row;
@@ -352,7 +357,7 @@ module _ {w : ℕ} {G sib rep : List ℕ} (G-goal : Goal w G) (T : Tables G sib 
               top = m + arity c;
               stands =
                   below-stands (first .tree) (m + arity c) (below (first .place) (arity c) m (first .slots)) (d .rest) F others (i + 1) (d .linked)
-                      (below-width G-goal T first) (omega arith) (gone .rest);
+                  (below-width G-goal T first) (omega arith) (gone .rest);
               noted = ap (map word) ns ∙ map-append word under-it (notesOf others (row + n)) ∙ ws;
               fit = rw ns (fit-here .1);
               sizes = gone .sizes;
@@ -370,4 +375,4 @@ module _ {w : ℕ} {G sib rep : List ℕ} (G-goal : Goal w G) (T : Tables G sib 
         on-down e =
             let z : 0 < branches (first .tree) = omega (arith, parts .skip, e) in
             down-with (below-frame (first .tree) (m + arity c) (below (first .place) (arity c) m (first .slots)) (gone .down .rest)
-                (some-open (first .tree) z)) z
+            (some-open (first .tree) z)) z

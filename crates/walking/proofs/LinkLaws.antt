@@ -89,7 +89,7 @@ module _ {w : ℕ} {G sib rep : List ℕ} (g : Goal w G) (T : Tables G sib rep) 
     is-past {r = r} (held a h t o s) =
         let d : r ≢ v = λ q. let a′ : e ≤ getD us v 0 = rw (← q) a in let z : ⊥ = omega arith in z in
         held (rw (us-other r d) a) (rw (bs-other r d) h) (rw (bs-other r d, ns-other r d) t) (rw (bs-other r d, ns-other r d) o)
-            (rw (bs-other r d, ns-other r d) s)
+        (rw (bs-other r d, ns-other r d) s)
     is-past {r = r} (free y ly a t f) = by-cases (ℕ-discrete r v)
         (λ q. free y ly (rw (q, us-here) past) t f)
         (λ q. free y ly (rw (us-other r q) a) t f)
@@ -113,8 +113,16 @@ module _ {w : ℕ} {G sib rep : List ℕ} (g : Goal w G) (T : Tables G sib rep) 
   pub binding-past : {bs ns us rs : List ℕ} (v c x : ℕ) {i sk n e m : ℕ} {slots R : List ℕ} → v < length us → getD us v 0 ≤ i → i < sk → sk ≤ n → n ≤ e
       → Linked G rep sib bs ns us rs n e m slots R → Linked G rep sib (set bs v c) (set ns v x) (set us v sk) rs n e m slots R
   binding-past {bs} {ns} {us} v c x lv low on past l L =
-      record { by = L .by; binds = bound-past bs ns us v c x lv low on past l (L .binds); slots-made = L .slots-made; stand = L .stand; same =
-          L .same; some = L .some; few = L .few }
+      record {
+        by = L .by;
+        binds = bound-past bs ns us v c x lv low on past l (L .binds);
+        slots-made = L .slots-made;
+        stand = L .stand;
+        same =
+            L .same;
+        some = L .some;
+        few = L .few;
+      }
 
   -- the rest of a state's branches
   pub linked-rest : {bs ns us rs : List ℕ} {n e m : ℕ} {slots R : List ℕ} (n′ : ℕ) → n ≤ n′ → Linked G rep sib bs ns us rs n e m slots R
@@ -194,7 +202,7 @@ module _ {w : ℕ} {G sib rep : List ℕ} (g : Goal w G) (T : Tables G sib rep) 
         entries-++ (sets rs m ks) A (upFrom m a ++ B)
         ∙ ap₂ _++_ (entries-below rs ks A m (all-front (λ (x : ℕ). x < m) A (s ∷ B) old))
         (entries-++ (sets rs m ks) (upFrom m a) B ∙ ap₂ _++_ (entries-stored rs ks m a e h)
-            (entries-below rs ks B m (all-back (λ (x : ℕ). x < m) A (s ∷ B) old .1)))
+        (entries-below rs ks B m (all-back (λ (x : ℕ). x < m) A (s ∷ B) old .1)))
 
     -- nothing bound: the nodes ks for the one
     kept : (n′ e′ c : ℕ) (ks : List ℕ) → n ≤ n′ → e′ ≤ e → arity c ≡ length ks → m + arity c < 64 → length rs ≡ 64 → GoalNodes G rep m ks
@@ -356,19 +364,19 @@ module _ {w : ℕ} {G sib rep : List ℕ} (g : Goal w G) (T : Tables G sib rep) 
             let xn = getD-set-other ns v r m 0 d in
             held (rw (getD-set-other us v r e′ 0 d) (omega arith)) (rw xb h)
             (rw (xb, xn) (sym (inst-then Θ ρ (ref G r)) ∙ ap (inst ρ) t ∙ inst-symbol b (inst Θ (refs G ks)) ρ-good h
-                ∙ ap (λ (l : List ℕ). b ∷ l) (inst-then Θ ρ (refs G ks))))
+            ∙ ap (λ (l : List ℕ). b ∷ l) (inst-then Θ ρ (refs G ks))))
             (rw (xb, xn) (nodes-more (omega arith) k))
             (rw (xb, xn) s)
         is-other r d o (free y ly a t f) =
             free y ly (rw (getD-set-other us v r e′ 0 d) (omega arith)) t
-                (still y f (λ q. d (one-node g T r v x lx o (split .1) (t ∙ ap (λ (z : ℕ). var z ∷ []) q) hx)))
+            (still y f (λ q. d (one-node g T r v x lx o (split .1) (t ∙ ap (λ (z : ℕ). var z ∷ []) q) hx)))
 
         is-new : (r : ℕ) → r < 64 → m ≤ r → 32 ≤ r → Is′ r
         is-new r lr h k =
             let q : r ≢ v = λ z. new-node r z h in
             let l = x-low in
             free r lr (rw (getD-set-other us v r e′ 0 q) (omega (arith, L .binds .later r (not-made (L .some) h)))) (ref-made G r k)
-                (still r (L .binds .fresh r h) (λ z. let y : ⊥ = omega arith in y))
+            (still r (L .binds .fresh r h) (λ z. let y : ⊥ = omega arith in y))
 
         bound-bind : Bound G rep sib bs′ ns′ us′ n′ e′ (m + arity c) Θ′
         unfolding Θ′
@@ -381,7 +389,7 @@ module _ {w : ℕ} {G sib rep : List ℕ} (g : Goal w G) (T : Tables G sib rep) 
           fresh = λ u h. let l = x-low in still u (L .binds .fresh u (omega arith)) (λ z. let y : ⊥ = omega arith in y);
           later =
               λ r o. rw (getD-set-other us v r e′ 0 (λ z. o (rw z (node-more (omega arith) (split .1)))))
-                  (omega (arith, L .binds .later r (λ q. o (node-more (omega arith) q))));
+              (omega (arith, L .binds .later r (λ q. o (node-more (omega arith) q))));
         }
 
         down-new : length rs ≡ 64 → Down bs′ ns′ us′ (sets rs m (goalNodes rep sib (arity c) m)) n′ e′ (m + arity c) (A ++ (upFrom m (arity c) ++ B))
@@ -409,11 +417,11 @@ module _ {w : ℕ} {G sib rep : List ℕ} (g : Goal w G) (T : Tables G sib rep) 
     pub down-bind : (n′ e′ c : ℕ) → n < e → n ≤ n′ → e′ ≤ e → m + arity c < 64 → length bs ≡ 64 → length ns ≡ 64 → length us ≡ 64 → length rs ≡ 64
         → isVar c ≡ false → getD us v 0 ≤ n
         → Down (set bs v c) (set ns v m) (set us v e′) (sets rs m (goalNodes rep sib (arity c) m)) n′ e′ (m + arity c)
-            (A ++ (upFrom m (arity c) ++ B)) (length A) c m R
+        (A ++ (upFrom m (arity c) ++ B)) (length A) c m R
     down-bind n′ e′ c some hn he f zb zn zu zr hc off = go seen
       where
         go : Is G rep sib bs ns us n e m Θ v
             → Down (set bs v c) (set ns v m) (set us v e′) (sets rs m (goalNodes rep sib (arity c) m)) n′ e′ (m + arity c)
-                (A ++ (upFrom m (arity c) ++ B)) (length A) c m R
+            (A ++ (upFrom m (arity c) ++ B)) (length A) c m R
         go (held a h t o y) = absurd (let z : ⊥ = omega arith in z)
         go (free x lx a t y) = down-new c x lx hc f t y n′ e′ hn he zb zn zu zr

@@ -91,7 +91,7 @@ module _ {goal bs ns us rep first : List ℕ} {p : ℕ} (w : Whole goal) (N : Na
           variables = λ q h k. by-cases (ℕ-discrete q p)
               (λ e. absurd (true≢false (sym k ∙ rw e v)))
               (λ d. let x = D .variables q (before q h d) k in
-                  record { low = x .low; cell = x .cell; first = x .first; ends = getD-set-other us p q 4095 0 d ∙ x .ends });
+              record { low = x .low; cell = x .cell; first = x .first; ends = getD-set-other us p q 4095 0 d ∙ x .ends });
           others = λ r h k. D .others r (omega arith) k;
           unbound = λ r h. getD-set-other us p r 4095 0 (λ e. let z : ⊥ = omega arith in z) ∙ D .unbound r (omega arith);
           size-rep = D .size-rep;

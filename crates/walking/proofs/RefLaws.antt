@@ -127,7 +127,7 @@ module _ {w : ℕ} {G sib rep : List ℕ} (g : Goal w G) (T : Tables G sib rep) 
       let t₂ : Terms (1 + (a + j)) (drop p G) = rw one-add t₁ in
       let b = back-terms 1 (a + j) (drop p G) t₂ in
       let e : back 1 (drop p G) ≡ drop (getD sib p 0) G =
-          back-drop 1 (drop p G) ∙ drop-drop (length (front 1 (drop p G))) p G ∙ ap (λ (n : ℕ). drop n G) (sym s) in
+      back-drop 1 (drop p G) ∙ drop-drop (length (front 1 (drop p G))) p G ∙ ap (λ (n : ℕ). drop n G) (sym s) in
       let r = stand-at a (getD sib p 0) j m (rw e at b) in
       let q : p < 32 = (let x = g .short in omega arith) in
       let f : front (suc a) (drop p G) ≡ front 1 (drop p G) ++ front a (back 1 (drop p G)) = rw (← one-add) (front-add 1 a (drop p G)) in

@@ -96,7 +96,7 @@ module _ {w : ℕ} {goal : List ℕ} (h : IsGoal w goal) where
         record {
           sibs = λ p l. let l′ : p < length goal = omega arith in
               S .places p l′ ∙ ap (λ (n : ℕ). p + n) (sym (ap (λ (l : List ℕ). length (front 1 l)) (renamed-drop p goal)
-                  ∙ renamed-front 1 (drop p goal) (small-drop p goal (small h))));
+              ∙ renamed-front 1 (drop p goal) (small-drop p goal (small h))));
           up = λ r a b. (S .numbers r a b, N .others r (omega (arith, h .head .short)) b);
           size = N .size-rep;
           others = λ r a b. N .others r (omega arith) b;

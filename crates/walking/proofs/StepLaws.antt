@@ -65,7 +65,7 @@ module _ {v : ℕ} {G sib rep : List ℕ} (G-goal : Goal v G) (T : Tables G sib 
     where
       go : {o : ℕ} → Stands G rep sib bs ns us rs (frame (next {g = t .group} (t .tree) (t .trees)) (t .place) (t .free) (t .slots) (t .R) ∷ t .others) n o
           → Held G rep sib bs ns us rs n (n + branchesIn (next {g = t .group} (t .tree) (t .trees)))
-              (frame (next {g = t .group} (t .tree) (t .trees)) (t .place) (t .free) (t .slots) (t .R))
+          (frame (next {g = t .group} (t .tree) (t .trees)) (t .place) (t .free) (t .slots) (t .R))
       go (within x l r) = x
 
   -- its place among the slots
@@ -95,7 +95,7 @@ module _ {v : ℕ} {G sib rep : List ℕ} (G-goal : Goal v G) (T : Tables G sib 
         width = x .width;
         rest =
             within {f = frame (t .trees) (t .place) (t .free) (t .slots) (t .R)}
-                (record { linked = rw d at (linked-rest G-goal T sk (omega arith) L); width = x .width; low = x .low }) o (rw d at r);
+            (record { linked = rw d at (linked-rest G-goal T sk (omega arith) L); width = x .width; low = x .low }) o (rw d at r);
       }
 
   place-low : {o : ℕ} → Stands G rep sib bs ns us rs
@@ -169,7 +169,7 @@ module _ {v : ℕ} {G sib rep : List ℕ} (G-goal : Goal v G) (T : Tables G sib 
           (record {
             down =
                 rw (P .number) at (down-bind G-goal T A s B L (n + 1) sk c (omega arith) (omega arith) o fits (z .bound) (z .args) (z .until)
-                    (z .refers) hc off);
+                (z .refers) hc off);
             rest = stands-refs G-goal T m ks (omega arith) (stands-binding G-goal T node c m {i = n} l off (omega arith) (omega arith) (P .rest));
             sizes = record {
               bound = length-set bs node c ∙ z .bound;

@@ -35,7 +35,7 @@ module _ {noted goal room : List ℕ} {count w : ℕ} (b : Begun noted count goa
   abbrev pub Walking : (rep sib bs ns us rs room′ : List ℕ) (i found tries : ℕ) → Type 0
   Walking rep sib bs ns us rs room′ i found tries =
       Along (renamed goal) rep sib (take count noted) (sets room 0 (hits (b .tree) 32 (renamed goal) 0)) (length (hits (b .tree) 32 (renamed goal) 0))
-          (tried (b .tree) 32 (renamed goal)) (length (b .rows))
+      (tried (b .tree) 32 (renamed goal)) (length (b .rows))
       bs ns us rs room′ i found tries
 
   pub words-count : length (take count noted) ≡ count
@@ -114,12 +114,17 @@ module _ {noted goal room : List ℕ} {count w : ℕ} (b : Begun noted count goa
           top = 32;
           stands =
               below-stands (b .tree) 32 (upFrom 1 w) (renamed goal) F [] 0 {o = 0}
-                  (linked (b .is) S N rs (0 + branches (b .tree)) er (b .accepted .width .1) z) (up-length 1 w) (omega arith) nothing;
+              (linked (b .is) S N rs (0 + branches (b .tree)) er (b .accepted .width .1) z) (up-length 1 w) (omega arith) nothing;
           noted = ap (map word) ns ∙ sym (b .words);
           fit = rw ns (notes-fit (b .accepted) (b .tree));
           sizes =
-              record { bound = N .size-bound; args = N .size-args; until = N .size-until; refers =
-                  rw er (length-sets (replicate 64 0) 1 (goalNodes rep sib w 0) ∙ length-replicate {A = ℕ} 64 0) };
+              record {
+                bound = N .size-bound;
+                args = N .size-args;
+                until = N .size-until;
+                refers =
+                    rw er (length-sets (replicate 64 0) 1 (goalNodes rep sib w 0) ∙ length-replicate {A = ℕ} 64 0);
+              };
           wrote = ap (sets room 0) hs;
           more = omega (arith, ap length hs);
           tries = omega (arith, F .same-tried);

@@ -5,6 +5,7 @@ use mathlib.Core.List.{List}
 use lib.ListN.{length}
 use Rattle.cell.specs.Cell.{isVar}
 use Rattle.term.specs.Terms.{Terms}
+use Rattle.limits.specs.Limits.{mostRowCells}
 
 -- a variable's cell: the goal's are numbered below 32, those made for arguments from there; all are renamed apart from a row's
 abbrev pub var : ℕ → ℕ
@@ -17,4 +18,4 @@ lift c = cond (isVar c) (var c) c
 -- a goal, its variables renamed apart
 pub record Goal (w : ℕ) (G : List ℕ) : Type 0 where
   pub terms : Terms w G
-  pub short : length G ≤ 32
+  pub short : length G ≤ mostRowCells

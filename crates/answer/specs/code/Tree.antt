@@ -39,7 +39,7 @@ unfoldable mutual
   hitsIn end i m R f = []
   hitsIn (next {g = g} p bs) i m R f =
       cond (flag g) (cond (unifiable (insert i (g .cell) (flatten (g .rows))) R) (f ∷ []) [])
-          (under [] (after (var m) i (g .cell) R) (λ R′. hits p (m + arity (g .cell)) R′ f))
+      (under [] (after (var m) i (g .cell) R) (λ R′. hits p (m + arity (g .cell)) R′ f))
       ++ hitsIn bs i m R (f + length (g .rows))
 
 -- the branches that are tried

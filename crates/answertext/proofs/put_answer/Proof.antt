@@ -9,7 +9,7 @@ use Rattle.answertext.proofs.put_answer.Reads as reads
 use Rattle.answertext.proofs.put_answer.Lts as lts
 use Rattle.octets.proofs.put_byte.Reads as put-byte-reads
 use Rattle.octets.proofs.put_word.Reads as put-word-reads
-use Rattle.nameword.proofs.part.Reads as part-reads
+use Rattle.slices.proofs.bytes.part.Reads as part-reads
 use Rattle.answertext.proofs.put_terms.Reads as put-terms-reads
 
 returns : tie.Need-returns

@@ -12,7 +12,7 @@ use Rattle.branchlist.proofs.ended.Reads as ended-reads
 use Rattle.branchlist.proofs.next.Reads as next-reads
 use Rattle.branchlist.proofs.put_below.Reads as put-below-reads
 use Rattle.branchlist.proofs.put_branch.Reads as put-branch-reads
-use Rattle.samerows.proofs.part.Reads as part-reads
+use Rattle.slices.proofs.cells.part.Reads as part-reads
 use Rattle.shop.proofs.cell_at.Reads as cell-at-reads
 use Rattle.branchlist.proofs.+walk.{statement}
 use Rattle.branchlist.proofs.+walk.Tie.{close}

@@ -24,9 +24,10 @@ part-build-end c = search needs
 
 build-requires : tie.Need-build-requires
 build-requires c κs =
-    let s = c .before .before .before .before .before .before in
-    (record { rows = λ e. table-rows _ (c .before .before .before .read-table .ensures) e; flags = λ w h. pow-pos w },
-        lent-long (s .args .rec .now) (omega arith))
+    let s = c .before .before .before .before .before .before in (
+      record { rows = λ e. table-rows _ (c .before .before .before .read-table .ensures) e; flags = λ w h. pow-pos w },
+      lent-long (s .args .rec .now) (omega arith),
+    )
 
 same-length : tie.Need-same-length
 same-length c = search needs

@@ -42,8 +42,8 @@ pub record ClosedRow (t : List ℕ) (start m i m′ a′ : ℕ) : Type 0 where
 
 -- rows whose place j after those that are passed is to be closed: there is such a place in each
 pub record ToClose (t ss ms ls : List ℕ) (j first end : ℕ) : Type 0 where
-  pub masks : length ms ≡ 64
-  pub aheads : length ls ≡ 64
+  pub masks : length ms ≡ mostRows
+  pub aheads : length ls ≡ mostRows
   pub few : end ≤ mostRows
   pub from : ℕ
   pub opens : ℕ
@@ -55,7 +55,7 @@ pub record ToClose (t ss ms ls : List ℕ) (j first end : ℕ) : Type 0 where
 pub record ClosedAhead (t ss ms ms′ ls′ : List ℕ) (i first end : ℕ) : Type 0 where
   pub rows : rowsIn t ss ms′ first end ≡ map (close i) (rowsIn t ss ms first end)
   pub ahead : AheadIn t ss ms′ ls′ i first end
-  pub aheads : length ls′ ≡ 64
+  pub aheads : length ls′ ≡ mostRows
   pub masks : Same end ms ms′
 
 -- where to go on looking once place i is closed: from there where no flag was set, and otherwise from the first place on

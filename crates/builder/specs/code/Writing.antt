@@ -43,8 +43,8 @@ chain (c ∷ cs) = 0 ∷ (1 ∷ (c ∷ chain cs))
 
 -- masks ms and a column hs for 64 rows, what is kept for every pair of rows, and the cells that are written
 pub record Room (ms hs kept out : List ℕ) : Type 0 where
-  pub masks : length ms ≡ 64
-  pub column : length hs ≡ 64
+  pub masks : length ms ≡ mostRows
+  pub column : length hs ≡ mostRows
   pub pairs : length kept ≡ keptCells
   pub cells : length out ≡ mostPlanCells
 
@@ -67,7 +67,7 @@ pub record ToWriteAll (table ss ms hs kept out : List ℕ) (first end others nam
   pub each : All (λ (g : Run). All (Fits mostRowCells (arity (g .cell) + others)) (g .rows)) (runsIn table ss ms hs first end)
   pub place : i ≤ others
   pub flags : named < 2 ^ suc others
-  pub many : others < 32
+  pub many : others < mostRowCells
   pub plans : Branches others (runsIn table ss ms hs first end)
   pub follows : FollowsIn kept (flagsIn (suc others) named) i first plans
   pub fits : at + length (writes plans) ≤ mostPlanCells

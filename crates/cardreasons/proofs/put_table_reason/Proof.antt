@@ -133,7 +133,7 @@ returns-10 : tie.Need-returns-10
 returns-10 c =
     let m = c .before .before .before .before .match in
     rw (table-other _ (m .rest .0 .0 .0 .0 .0 .0 .0 .0 .1) (m .rest .0 .0 .0 .0 .0 .0 .0 .1) (m .rest .0 .0 .0 .0 .0 .0 .1)
-        (m .rest .0 .0 .0 .0 .0 .1) (m .rest .0 .0 .0 .0 .1) (m .rest .0 .0 .0 .1) (m .rest .0 .0 .1) (m .rest .0 .1) (m .rest .1))
+    (m .rest .0 .0 .0 .0 .0 .1) (m .rest .0 .0 .0 .0 .1) (m .rest .0 .0 .0 .1) (m .rest .0 .0 .1) (m .rest .0 .1) (m .rest .1))
     (c .before .before .put-number .ensures)
 
 pub put-table-reason-spec : {M : Type 1} → statement M

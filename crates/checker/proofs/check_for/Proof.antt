@@ -18,9 +18,10 @@ named-of-requires c κs = search needs
 check-rows-requires : tie.Need-check-rows-requires
 check-rows-requires c κs =
     let r = c .before .before .before .before .before .before in
-    let n = c .before .before .named-of .ensures in
-    (table-rows _ (r .read-table .ensures) (c .before .before .before .before .answer .given .1),
-        rw (n .0, n .1) (mask-few _ (r .before .before .before .before .args .columns .now) (omega arith)))
+    let n = c .before .before .named-of .ensures in (
+      table-rows _ (r .read-table .ensures) (c .before .before .before .before .answer .given .1),
+      rw (n .0, n .1) (mask-few _ (r .before .before .before .before .args .columns .now) (omega arith)),
+    )
 
 enum-known-answer-2 : tie.Need-enum-known-answer-2
 enum-known-answer-2 c = search needs
@@ -35,7 +36,7 @@ returns-2 : tie.Need-returns-2
 returns-2 c =
     let a = c .before .before .before .before .before .before .before .args in
     table-refused _ (a .columns .now) (a .plan .now) _
-        (table-turned _ (c .before .before .before .read-table .ensures) (c .before .answer2 .given .1))
+    (table-turned _ (c .before .before .before .read-table .ensures) (c .before .answer2 .given .1))
 
 pub check-for-spec : {M : Type 1} → statement M
 check-for-spec =

@@ -16,7 +16,7 @@ refusal-requires c κs = search needs
 returns-2 : tie.Need-returns-2
 returns-2 c =
     entry-size (c .before .before .before .before .before .before .pre .0) _ _ _ (c .before .before .if1 .left) (c .before .if2 .taken)
-        (c .refusal .ensures)
+    (c .refusal .ensures)
 
 open-rows-requires : tie.Need-open-rows-requires
 open-rows-requires c κs = search needs
@@ -38,7 +38,7 @@ returns-3 c =
     let s = c .before .before .before .before .before in
     let o = s .before .before .before in
     entry-extra (o .before .before .before .before .before .before .pre .0) _ _ _ (o .before .before .if1 .left) (o .open-rows .ensures)
-        (o .before .if2 .left) (s .state .ensures) (c .before .before .before .branches .given .1) (c .before .if3 .taken) (c .refusal2 .ensures)
+    (o .before .if2 .left) (s .state .ensures) (c .before .before .before .branches .given .1) (c .before .if3 .taken) (c .refusal2 .ensures)
 
 enum-known-f : tie.Need-enum-known-f
 enum-known-f c = search needs
@@ -48,14 +48,14 @@ returns-4 c =
     let s = c .before .before .before .before in
     let o = s .before .before .before in
     entry-accepted (o .before .before .before .before .before .before .pre .0) _ _ _ (o .before .before .if1 .left) (o .open-rows .ensures)
-        (o .before .if2 .left) (s .state .ensures) (c .before .before .branches .given .1) (c .if3 .left)
+    (o .before .if2 .left) (s .state .ensures) (c .before .before .branches .given .1) (c .if3 .left)
 
 returns-5 : tie.Need-returns-5
 returns-5 c =
     let s = c .before .before .before in
     let o = s .before .before .before in
     entry-refused (o .before .before .before .before .before .before .pre .0) _ _ _ (o .before .before .if1 .left) (o .open-rows .ensures)
-        (o .before .if2 .left) (s .state .ensures) (c .before .f .given .1)
+    (o .before .if2 .left) (s .state .ensures) (c .before .f .given .1)
 
 pub check-rows-spec : {M : Type 1} → statement M
 check-rows-spec =

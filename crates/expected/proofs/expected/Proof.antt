@@ -22,7 +22,7 @@ returns : tie.Need-returns
 returns c =
     let s = c .before .before .before in
     wanted-is _ _ (s .before .look .ensures) (s .look2 .ensures) (c .before .before .mark-of .ensures) (c .before .what-of .ensures)
-        (c .found-at .ensures)
+    (c .found-at .ensures)
 
 pub expected-spec : {M : Type 1} → statement M
 expected-spec =

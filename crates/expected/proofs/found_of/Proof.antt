@@ -25,8 +25,11 @@ tab-of-requires-2 c κs = search needs
 returns-3 : tie.Need-returns-3
 unfolding foundBy
 returns-3 c =
-    rw (not-false (c .before .before .before .before .args .number) (c .before .before .before .if1 .left), sym (c .before .before .is-digit .ensures)
-        ∙ c .before .if2 .left) (c .tab-of2 .ensures)
+    rw (
+      not-false (c .before .before .before .before .args .number) (c .before .before .before .if1 .left),
+      sym (c .before .before .is-digit .ensures)
+          ∙ c .before .if2 .left,
+    ) (c .tab-of2 .ensures)
 
 pub found-of-spec : {M : Type 1} → statement M
 found-of-spec =

@@ -30,6 +30,6 @@ cells-left-spec 𝓤 H 𝓜 𝓖 𝓡 =
     (number-lands 𝓤 H (𝓖 .A) (givenOf 𝓤 H 𝓜 𝓖)) (λ κs a. cells-left.clauses 𝓤 H (𝓖 .A) (𝓜 .mem) (𝓡 .run) κs a .ensures) (λ κs a g r ws. id⊢ 𝓤 _)
     (tablesOf 𝓤 H 𝓜 (tables 𝓤 H 𝓜 𝓡 code.env))
     (cited 𝓤 H (tripleOf 𝓤 H (𝓖 .A) reader-at.signature (reader-at.spec 𝓤 H (𝓖 .A) (𝓜 .mem) (𝓡 .run))) 𝓜 𝓡 code.env #goal·reader-at
-        reader-at-def.routine code.calls-goalreader·reader-at (reader-at-thm.met 𝓤 H 𝓜 𝓖 𝓡))
+    reader-at-def.routine code.calls-goalreader·reader-at (reader-at-thm.met 𝓤 H 𝓜 𝓖 𝓡))
     (cited 𝓤 H (tripleOf 𝓤 H (𝓖 .A) left.signature (left.spec 𝓤 H (𝓖 .A) (𝓜 .mem) (𝓡 .run))) 𝓜 𝓡 code.env #goal·left left-def.routine
-        code.calls-goalreader·left (left-thm.met 𝓤 H 𝓜 𝓖 𝓡)))
+    code.calls-goalreader·left (left-thm.met 𝓤 H 𝓜 𝓖 𝓡)))

@@ -26,4 +26,4 @@ left-spec 𝓤 H 𝓜 𝓖 𝓡 =
     (number-lands 𝓤 H (𝓖 .A) (givenOf 𝓤 H 𝓜 𝓖)) (λ κs a. left.clauses 𝓤 H (𝓖 .A) (𝓜 .mem) (𝓡 .run) κs a .ensures) (λ κs a g r ws. id⊢ 𝓤 _)
     (tablesOf 𝓤 H 𝓜 (tables 𝓤 H 𝓜 𝓡 code.env))
     (cited 𝓤 H (tripleOf 𝓤 H (𝓖 .A) left-of.signature (left-of.spec 𝓤 H (𝓖 .A) (𝓜 .mem) (𝓡 .run))) 𝓜 𝓡 code.env #goal·left-of left-of-def.routine
-        code.calls-goalreader·left-of (left-of-thm.met 𝓤 H 𝓜 𝓖 𝓡)))
+    code.calls-goalreader·left-of (left-of-thm.met 𝓤 H 𝓜 𝓖 𝓡)))

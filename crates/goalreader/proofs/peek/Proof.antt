@@ -26,4 +26,4 @@ peek-spec 𝓤 H 𝓜 𝓖 𝓡 =
     (step-lands 𝓤 H (𝓖 .A) (givenOf 𝓤 H 𝓜 𝓖)) (λ κs a. peek.clauses 𝓤 H (𝓖 .A) (𝓜 .mem) (𝓡 .run) κs a .ensures) (λ κs a g r ws. id⊢ 𝓤 _)
     (tablesOf 𝓤 H 𝓜 (tables 𝓤 H 𝓜 𝓡 code.env))
     (cited 𝓤 H (tripleOf 𝓤 H (𝓖 .A) step.signature (step.spec 𝓤 H (𝓖 .A) (𝓜 .mem) (𝓡 .run))) 𝓜 𝓡 code.env #goal·step-at step-def.routine
-        code.calls-goalreader·step-at (step-thm.met 𝓤 H 𝓜 𝓖 𝓡)))
+    code.calls-goalreader·step-at (step-thm.met 𝓤 H 𝓜 𝓖 𝓡)))

@@ -23,7 +23,7 @@ returns c =
     let n = c .before .before .before in
     let g = n .before .before in
     short-cells (g .before .before .before .predicate-of .ensures) (found (g .read-goal .ensures) (n .n .given .1)) (c .before .if1 .taken)
-        (c .no-room .ensures)
+    (c .no-room .ensures)
 
 no-room-requires-2 : tie.Need-no-room-requires-2
 no-room-requires-2 c κs = search needs

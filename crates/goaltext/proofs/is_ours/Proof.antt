@@ -6,7 +6,7 @@ use Rattle.goaltext.proofs.is_ours.Tie as tie
 use Rattle.goaltext.proofs.is_ours.Reads as reads
 use Rattle.goaltext.proofs.is_ours.Lts as lts
 use Rattle.lex.proofs.name.same_bytes.Reads as same-bytes-reads
-use Rattle.nameword.proofs.part.Reads as part-reads
+use Rattle.slices.proofs.bytes.part.Reads as part-reads
 
 returns : tie.Need-returns
 returns c = search needs

@@ -26,7 +26,7 @@ facts-are : (m : tie.After-make-facts) {x : FactsAnswer} → m .make-facts .resu
     → FactsAre (at m .args .whole .now) (replicate mostTableCells 0) (replicate mostNames 0) (m .make-facts .last .1 .0) (m .make-facts .last .1 .1 .0) x
 facts-are m e =
     subst (FactsAre (at m .args .whole .now) (replicate mostTableCells 0) (replicate mostNames 0) (m .make-facts .last .1 .0)
-        (m .make-facts .last .1 .1 .0)) e (m .make-facts .ensures)
+    (m .make-facts .last .1 .1 .0)) e (m .make-facts .ensures)
 
 made-at : (c : tie.After-c)
     → MadeAt (at (c .before .before) .args .whole .now) (c .c .given .0 .0) (c .before .before .make-facts .last .1 .0)

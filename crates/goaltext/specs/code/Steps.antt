@@ -11,7 +11,7 @@ use Rattle.grammar.specs.Grammar.{Fact, Text}
 use Rattle.grammar.specs.Stops.{Stops}
 use Rattle.grammar.specs.Numbering.{Words}
 use Rattle.scan.specs.declared.Counted.{Counted}
-use Rattle.nameword.specs.declared.Span.{Span}
+use Rattle.slices.specs.declared.Span.{Span}
 use Rattle.termtext.specs.Saying.{wordIn, wordsIn, predicateIn}
 use Rattle.termtext.specs.Goal.{withStop, Whole, NoGoal, Goal, GoalRead}
 use Rattle.termtext.specs.code.Renumber.{numbersFrom, newOnes, newCells}

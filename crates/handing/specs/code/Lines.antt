@@ -10,6 +10,7 @@ use Rattle.table.specs.Table.{upFrom}
 use Rattle.grammar.specs.Numbering.{Words}
 use Rattle.clauses.specs.Clauses.{calls, Clause, handed}
 use Rattle.unfolding.specs.Flat.{flatOne, flat}
+use Rattle.limits.specs.Limits.{mostRowCells}
 
 -- words of as many bytes as the list says: all that has to be known of them to measure a text
 abbrev pub blanks : List ℕ → Words
@@ -22,7 +23,7 @@ metIn (c ∷ cells) v = metIn cells (cond (eqb c v) (suc v) v)
 
 -- what the code can put: at most 32 cells, whose variables are 0, 1, 2 and on, and no call of the first predicate
 pub record Plainly (c : Clause) : Type 0 where
-  pub short : length (c .head) ≤ 32
+  pub short : length (c .head) ≤ mostRowCells
   pub order : handed (c .head) ≡ upFrom 0 (metIn (c .head) 0)
   pub called : (j : ℕ) → c .body ≡ calls j → 0 < j
 

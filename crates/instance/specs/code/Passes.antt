@@ -14,6 +14,7 @@ use Rattle.answer.specs.Run.{Picks}
 use Rattle.instance.specs.Replied.{repliesOf}
 use Rattle.instance.specs.Reply.{Reply, Short, Large}
 use Rattle.instance.specs.code.Meet.{Hit}
+use Rattle.limits.specs.Limits.{mostRows}
 
 -- `row` gives each number's row
 pub data RepliesAt (row : ℕ → List ℕ) (goal : List ℕ) : List ℕ → List (List ℕ) → Type 0 where
@@ -31,7 +32,7 @@ pub record Held (table starts : List ℕ) (rows : ℕ) : Type 0 where
 -- numbers of rows that are hits
 pub record Hits (table goal hits : List ℕ) (rows : ℕ) : Type 0 where
   pub below : All (λ (r : ℕ). r < rows) hits
-  pub few : length hits ≤ 64
+  pub few : length hits ≤ mostRows
   pub all : List (List ℕ)
   pub at : RepliesAt (rowIn (tableOf table)) goal hits all
 

@@ -93,12 +93,12 @@ module _ (m : Measure) (fs : List Bool) (w : ℕ) (rows : List (List ℕ)) where
   abbrev pub leastBy : (ℕ → ℕ → ℕ) → ℕ → ℕ → ℕ
   leastBy N first last =
       leastOver (may ((closedOf m mostRowCells fs w rows first last) .named)) ((closedOf m mostRowCells fs w rows first last) .opens)
-          (priceBy N first last)
+      (priceBy N first last)
 
   abbrev pub placeBy : (ℕ → ℕ → ℕ) → ℕ → ℕ → ℕ
   placeBy N first last =
       firstOver (may ((closedOf m mostRowCells fs w rows first last) .named)) ((closedOf m mostRowCells fs w rows first last) .opens)
-          (priceBy N first last)
+      (priceBy N first last)
 
   abbrev pub wholeBy : (ℕ → ℕ → ℕ) → ℕ → ℕ → ℕ
   wholeBy N first last = min (agreedOf m mostRowCells fs w rows first last + leastBy N first last) limit

@@ -15,6 +15,9 @@ abbrev μ-loop : tie.MeasureT-loop
 loop-holds : tie.Need-loop-holds Inv-loop μ-loop
 loop-holds c = filled-none (c .args .mask)
 
+cast-loop : tie.Need-cast-loop Inv-loop μ-loop
+cast-loop c = search needs
+
 cast-if1 : tie.Need-cast-if1 Inv-loop μ-loop
 cast-if1 c = search needs
 
@@ -56,6 +59,7 @@ columns-of-spec =
     Inv-loop
     μ-loop
     loop-holds
+    cast-loop
     cast-if1
     shr-if1
     mul-list

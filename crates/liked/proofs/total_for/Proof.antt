@@ -22,7 +22,7 @@ module _ (c : tie.After-build-for) where
   built-for =
       subst
       (λ (l : List ℕ). BuiltInto (start .args .by) l (start .args .cells .now) (replicate mostPlanCells 0) (c .build-for .last .1 .1 .1 .0)
-          (c .build-for .result))
+      (c .build-for .result))
       (c .before .before .before .before .columns-of .ensures .are) (c .build-for .ensures)
 
 abbrev asked : tie.After-known-told → tie.After-build-for

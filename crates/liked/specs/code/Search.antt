@@ -12,6 +12,7 @@ use Rattle.builder.specs.Build.{tableFor}
 use Rattle.liked.specs.Liked.{columnsOf, TriesFor}
 use Rattle.liked.specs.declared.Total.{Total}
 use Rattle.liked.specs.declared.Total.the-variants as total
+use Rattle.limits.specs.Limits.{mostColumns}
 
 -- what a set of columns tries, or why no plan is built for it
 pub data Totalled (by : By) (cells goals list : List ℕ) (mask : ℕ) (r : Total) : Type 0 where
@@ -23,7 +24,7 @@ pub record Plainly (by : By) (cells goals list : List ℕ) (sets plain : ℕ) : 
   pub table : Table
   pub here : tableBy by cells ≡ read table
   pub count : sets ≡ 2 ^ table .width
-  pub narrow : (1 ≤ table .width) × (table .width ≤ 8)
+  pub narrow : (1 ≤ table .width) × (table .width ≤ mostColumns)
   pub tries : TriesFor by cells goals list 0 plain
 
 -- the best of the sets below `end`

@@ -20,7 +20,7 @@ front : (c : tie.After-read-cells)
     × (take (c .read-cells .result) (c .read-cells .last .1 .0) ≡ cellsOf (c .before .before .before .before .before .args .bytes .now))
 front c =
     cells-front (c .before .before .before .before .before .args .bytes .now) (c .read-cells .ensures) (omega arith)
-        (length-replicate {A = ℕ} mostTableCells 0)
+    (length-replicate {A = ℕ} mostTableCells 0)
 
 put-refusal-requires : tie.Need-put-refusal-requires
 put-refusal-requires c κs = search needs

@@ -12,7 +12,7 @@ use Rattle.plan.specs.Notes.{skipIn, rowNoted}
 use Rattle.least.specs.Least.{Built}
 use Rattle.listing.specs.Listing.{linesIn, listingOf}
 use Rattle.listing.specs.declared.walk.Stand.{Stand}
-use Rattle.limits.specs.Limits.{mostBranches, mostPlanCells}
+use Rattle.limits.specs.Limits.{mostBranches, mostPlanCells, mostRows}
 
 -- What is noted of each branch of a plan, in plan order from the number n on: its first row, the plan's being `row`, and how many branches are
 -- below it.
@@ -39,7 +39,7 @@ pub record Ready (plan noted : List ℕ) (places depth stop : ℕ) (from : Stand
   pub cells : drop (from .at) plan ≡ write tree ++ rest
   pub marked : Marked tree noted (from .number) first
   pub ends : first + length rows ≡ stop
-  pub few : stop ≤ 64
+  pub few : stop ≤ mostRows
   pub deep : depth ≤ from .at
   pub numbered : from .number + branches tree ≤ mostBranches
   pub wide : places ≤ 4 * from .at + 8

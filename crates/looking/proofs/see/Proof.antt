@@ -69,7 +69,7 @@ returns-8 c =
     let a = c .before .before .before .before .args in
     let z = c .before .before .before .match .rest in
     cc (seen-other (a .level) (a .stand) (a .depth) (a .commas) (a .byte) (z .0 .0 .0 .0 .0 .0 .1) (z .0 .0 .0 .0 .0 .1) (z .0 .0 .0 .0 .1)
-        (z .0 .0 .0 .1) (z .0 .0 .1) (z .0 .1) (z .1))
+    (z .0 .0 .0 .1) (z .0 .0 .1) (z .0 .1) (z .1))
 
 pub see-spec : {M : Type 1} → statement M
 see-spec =

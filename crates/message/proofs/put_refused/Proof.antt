@@ -43,8 +43,8 @@ returns c =
     let c2 = c3 .before .before .before .before in
     let c1 = c2 .before .before .before .before in
     put-put (c1 .put-byte .ensures) (put-put (c2 .put-decimal .ensures)
-        (put-put (c3 .put-byte2 .ensures) (put-put (c4 .put-decimal2 .ensures)
-        (put-put (c5 .put-word .ensures) (put-put (c6 .put-reason .ensures) (c7 .put-byte3 .ensures))))))
+    (put-put (c3 .put-byte2 .ensures) (put-put (c4 .put-decimal2 .ensures)
+    (put-put (c5 .put-word .ensures) (put-put (c6 .put-reason .ensures) (c7 .put-byte3 .ensures))))))
 
 pub put-refused-spec : {M : Type 1} → statement M
 put-refused-spec =

@@ -36,7 +36,7 @@ returns c =
     let a = c .before .before .before .before .before .before .before .args in
     let l = c .before .before .before .before .loop in
     λ h. not-here (Entry (a .text .now)) (a .names .now) (l .i) (c .before .entry .result) (omega arith) (c .before .entry .ensures) (c .if1 .taken)
-        (l .inv .1 .1 h)
+    (l .inv .1 .1 h)
 
 -- src/lib.rt:26:9
 add-i : tie.Need-add-i Inv-loop μ-loop

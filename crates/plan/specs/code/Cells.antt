@@ -9,11 +9,12 @@ use Rattle.term.specs.Terms.{Terms}
 use Rattle.table.specs.All.{All}
 use Rattle.plan.specs.Runs.{Run}
 use Rattle.plan.specs.Plans.{Plan, leaf, node, Branches, end, next}
+use Rattle.limits.specs.Limits.{mostRowCells}
 
 -- a row of k terms in at most 32 cells, each of which has P
 pub record Good (P : ℕ → Type 0) (k : ℕ) (r : List ℕ) : Type 0 where
   pub terms : Terms k r
-  pub short : length r ≤ 32
+  pub short : length r ≤ mostRowCells
   pub cells : All P r
 
 -- a run of such rows; k places are open beside the one that is looked at. 01, "or the single row's variable": a variable's run has one row.

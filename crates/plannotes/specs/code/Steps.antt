@@ -9,7 +9,7 @@ use Rattle.cell.specs.Cell.{arity, isVar}
 use Rattle.table.specs.All.{All}
 use Rattle.plan.specs.Notes.{below, repeats, cellIn}
 use Rattle.plannotes.specs.code.Places.{Open, Spot}
-use Rattle.limits.specs.Limits.{mostBranches}
+use Rattle.limits.specs.Limits.{mostBranches, mostRowCells, mostRows}
 
 -- The number of a branch that is met, and of one that has ended.
 abbrev pub partOf : (cell row next slot : ℕ) → ℕ
@@ -29,7 +29,7 @@ finished s (w ∷ ws) cells = (ended (length ws + s) w + cond (repeats (cellIn w
 
 -- variables are below 32
 abbrev pub Low : ℕ → Type 0
-Low c = isVar c ≡ true → c < 32
+Low c = isVar c ≡ true → c < mostRowCells
 
 -- numbers of branches that are met: with what is added to them they are below 2 ^ 63
 abbrev pub Part : ℕ → Type 0
@@ -52,7 +52,7 @@ pub record BranchMet (plan links notes : List ℕ) (i place made free row : ℕ)
   pub here : place < length plan
   pub spot : Spot links i (arity (getD plan place 0)) free
   pub few : made < mostBranches
-  pub first : row < 64
+  pub first : row < mostRows
   pub size : length notes ≡ mostBranches
 
 -- what it leaves

@@ -16,7 +16,7 @@ use Rattle.plan.specs.code.Fits.{Fits}
 use Rattle.plannotes.specs.code.Places.{Open}
 use Rattle.plannotes.specs.code.Steps.{finished, Low, Parts}
 use Rattle.plannotes.specs.declared.tree.Past.{Past}
-use Rattle.limits.specs.Limits.{mostBranches, mostPlanCells}
+use Rattle.limits.specs.Limits.{mostBranches, mostPlanCells, mostRowCells, mostRows}
 
 -- a state at a cell of the plan. Its rows have at most `left` cells each, so that there are slots enough below it
 pub record Ready (plan links noted : List ℕ) (at k made free row : ℕ) : Type 0 where
@@ -26,9 +26,9 @@ pub record Ready (plan links noted : List ℕ) (at k made free row : ℕ) : Type
   pub cells : drop at plan ≡ write tree ++ behind
   pub size : length plan ≤ mostPlanCells
   pub some : 0 < length rows
-  pub few : row + length rows ≤ 64
+  pub few : row + length rows ≤ mostRows
   pub left : ℕ
-  pub deep : left ≤ 32
+  pub deep : left ≤ mostRowCells
   pub fit : All (Fits left k) rows
   pub low : Cells Low tree
   pub enough : free + left ≤ 63 + k
@@ -46,9 +46,9 @@ pub record ReadyAt (plan links noted : List ℕ) (i place k made free row : ℕ)
   pub cells : drop place plan ≡ group .cell ∷ (write tree ++ behind)
   pub size : length plan ≤ mostPlanCells
   pub some : 0 < length (group .rows)
-  pub few : row + length (group .rows) ≤ 64
+  pub few : row + length (group .rows) ≤ mostRows
   pub left : ℕ
-  pub deep : left ≤ 32
+  pub deep : left ≤ mostRowCells
   pub fit : All (Fits left (arity (group .cell) + (k - 1))) (group .rows)
   pub sound : Sound Low (k - 1) group
   pub low : Cells Low tree

@@ -33,18 +33,18 @@ returns c =
     let a = c .before .before .before .before .before .before .before .before .before .before .before .before .before .before .before .args in
     let r = c .before .before .before .before .before .before .before .before .before .before .read-table in
     table-accepted (a .made .now) (a .list .now) (a .cells .now) (a .names .now)
-        (c .before .before .before .before .before .before .put-front .last .1 .0) (c .before .before .put-front2 .last .1 .0)
-        (c .before .before .before .before .before .before .before .before .enum-told .given .0 .0)
-        (c .before .before .before .before .before .before .before .before .enum-told .given .0 .1 .0)
+    (c .before .before .before .before .before .before .put-front .last .1 .0) (c .before .before .put-front2 .last .1 .0)
+    (c .before .before .before .before .before .before .before .before .enum-told .given .0 .0)
+    (c .before .before .before .before .before .before .before .before .enum-told .given .0 .1 .0)
     (r .ensures .answer) (c .before .before .before .before .before .before .before .before .enum-told .given .1)
-        (c .before .before .before .before .before .before .put-front .ensures) (c .before .before .put-front2 .ensures)
+    (c .before .before .before .before .before .before .put-front .ensures) (c .before .before .put-front2 .ensures)
 
 returns-2 : tie.Need-returns-2
 returns-2 c =
     let a = c .before .before .before .before .before .before .before .before .args in
     let r = c .before .before .before .read-table in
     table-refused (a .made .now) (a .list .now) (a .cells .now) (a .names .now) (c .before .answer .given .0 .0) (r .ensures .answer)
-        (c .before .answer .given .1)
+    (c .before .answer .given .1)
 
 pub give-spec : {M : Type 1} → statement M
 give-spec =

@@ -27,7 +27,7 @@ start w = w .before .before .before .before .before .before
 abbrev Said : tie.After-read-words → TextWords → Type 0
 Said w =
     WordsAre (start w .args .text .now) (length (start w .args .cells .now)) (replicate mostNames 0) (replicate mostTableCells 0)
-        (w .read-words .last .1 .1 .0)
+    (w .read-words .last .1 .1 .0)
     (w .read-words .last .1 .1 .1 .0)
 
 known : (c : tie.After-c) {k : NamesRead} → c .c .given .0 .1 .0 ≡ k → Said (c .before .before) (text-words.Facts (c .c .given .0 .0) k)

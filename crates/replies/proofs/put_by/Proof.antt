@@ -61,7 +61,7 @@ returns-2 c =
     λ plan h f.
     let x = passed-by (at-needed .needed .given .1) (at-pass .pass .ensures (found-given f .all) (passing h f)) in
     enough f (passed-copied x (omega (arith, at-then2 .if2 .taken, at-pass .pass .kept)) (at-put-cells .put-cells .ensures))
-        (omega (arith, at-else1 .if1 .left)) refl
+    (omega (arith, at-else1 .if1 .left)) refl
 
 pass-requires-2 : tie.Need-pass-requires-2
 pass-requires-2 c κs = search needs

@@ -470,7 +470,7 @@ module _ {M : Type 1} (𝓤 : URA M) (H : Heap 𝓤) (A : Atoms 𝓤) (W : Given
           ‵ (froom (sliceTy againR) l₁₈ 0) ∷ ‵ (fdies (sliceTy againR) l₁₈) ∷ ‵ (froom againR l₁₇ 0) ∷ ‵ (fdies againR l₁₇) ∷ ‵ (froom (sliceTy againJ) l₁₆ 0) ∷
           ‵ (fdies (sliceTy againJ) l₁₆) ∷ ‵ (froom againJ l₁₅ 0) ∷ ‵ (fdies againJ l₁₅) ∷ ‵ (froom (readTy 64) l₁₄ 0) ∷ ‵ (fdies (readTy 64) l₁₄) ∷
           ‵ (froom (readTy mostBranches) l₁₃ 0) ∷ ‵ (fdies (readTy mostBranches) l₁₃) ∷ ‵ (froom tyUnit l₁₂ 0) ∷ ‵ (fdies tyUnit l₁₂) ∷ i₁₁
-              ∷ ‵ (fdies tyBool l₁₁) ∷
+          ∷ ‵ (fdies tyBool l₁₁) ∷
           ‵ (froom (arrTy 64) l₁₀ 0) ∷ ‵ (fdies (arrTy 64) l₁₀) ∷ ‵ (froom lentTy l₉ 0) ∷ ‵ (fdies lentTy l₉) ∷ i₈ ∷ ‵ (fdies (arrTy 64) l₈) ∷ i₇ ∷
           ‵ (fdies N′.mir l₇) ∷ i₆ ∷ ‵ (fdies (arrTy mostBranches) l₆) ∷ ‵ (fat fullShare roomTy l₅ 0 z) ∷ ‵ (fdies roomTy l₅) ∷
           ‵ (fat fullShare jobsTy l₄ 0 s) ∷ ‵ (fdies jobsTy l₄) ∷ ‵ (fat fullShare (inTy 2) l₃ 0 (sv cs)) ∷ ‵ (fdies (inTy 2) l₃) ∷
@@ -571,14 +571,14 @@ module _ {M : Type 1} (𝓤 : URA M) (H : Heap 𝓤) (A : Atoms 𝓤) (W : Given
           -- the arrays are taken back
           lft-end ! tt $ move ! (0 ∷ 14 ∷ []) $ lent-back ! tt $
           use1 W (‵ (fat fullShare (arrTy mostBranches) l₆ 0 (only (evals es))) ⊛ ‵ (E .own es (evals es))) (of-part 𝓤 H A W mostBranches l₆ es) $
-              split ! $ move ! (2 ∷ []) $
+          split ! $ move ! (2 ∷ []) $
           lft-end ! tt $ move ! (0 ∷ 14 ∷ []) $ lent-back ! tt $
           use1 W (‵ (fat fullShare (arrTy 64) l₈ 0 (only (evals st))) ⊛ ‵ (S .own st (evals st))) (of-part 𝓤 H A W 64 l₈ st) $ split ! $
           land-last ! (from ! (stop !)) (init ! 28 refl (subst (λ (k : Val). Holds (hasTy tyUnit k) × WT k) (sym (ap only is-unit)) (tt, tt))) $
           forget ! 30 refl $ forget ! 28 refl $ forget ! 26 refl $ forget ! 24 refl $ forget ! 22 refl $ forget ! 20 refl $ forget ! 18 refl $
           forget ! 16 refl $
           keep ! (6 ∷ 5 ∷ 4 ∷ 8 ∷ 7 ∷ 15 ∷ 37 ∷ 50 ∷ 48 ∷ 46 ∷ 44 ∷ 42 ∷ 40 ∷ 2 ∷ 0 ∷ 34 ∷ 32 ∷ 30 ∷ 28 ∷ 26 ∷ 24 ∷ 22 ∷ 20 ∷ 18 ∷ 16 ∷ 51 ∷ 49 ∷ 47
-              ∷ 45 ∷ 43 ∷ 41 ∷ 39 ∷ 38 ∷ 36 ∷ 35 ∷ 33 ∷ 31 ∷ 29 ∷ 27 ∷ 25 ∷ 23 ∷ 21 ∷ 19 ∷ 17 ∷ []) $
+          ∷ 45 ∷ 43 ∷ 41 ∷ 39 ∷ 38 ∷ 36 ∷ 35 ∷ 33 ∷ 31 ∷ 29 ∷ 27 ∷ 25 ∷ 23 ∷ 21 ∷ 19 ∷ 17 ∷ []) $
           exec ! C Λ En body.t-8 (atRet En Kf) $
           ends r u (only (evals es)) (only (evals st)) (lastJ l₆ l₈ α β γ₁ γ₂ es st r u ws) (lastR l₆ l₈ α β γ₁ γ₂ es st r u ws) is
           (all-are r t (lastJ l₆ l₈ α β γ₁ γ₂ es st r u ws) (lastR l₆ l₈ α β γ₁ γ₂ es st r u ws) is-v is-t yes′ e) len len′))))))))))))
@@ -590,7 +590,7 @@ module _ {M : Type 1} (𝓤 : URA M) (H : Heap 𝓤) (A : Atoms 𝓤) (W : Given
           use1 W (‵ (fres δ (codedHoleys u32 .code (heres u32 rs)))) (W .names .obs-res δ (codedHoleys u32 .code (heres u32 rs))) $
           use1 W (‵ (finally u32 δ rs)) (res-finally 𝓤 H A W (named 4) κ″ u32 δ rs) $ forget ! 27 refl $
           keep ! (9 ∷ 11 ∷ 12 ∷ 3 ∷ 0 ∷ 6 ∷ 35 ∷ 49 ∷ 47 ∷ 45 ∷ 43 ∷ 41 ∷ 39 ∷ 37 ∷ 33 ∷ 31 ∷ 29 ∷ 27 ∷ 25 ∷ 23 ∷ 21 ∷ 19 ∷ 17 ∷ 15 ∷ 13 ∷ 50 ∷ 48
-              ∷ 46 ∷ 44 ∷ 42 ∷ 40 ∷ 38 ∷ 36 ∷ 34 ∷ 32 ∷ 30 ∷ 28 ∷ 26 ∷ 24 ∷ 22 ∷ 20 ∷ 18 ∷ 16 ∷ 14 ∷ []) $
+          ∷ 46 ∷ 44 ∷ 42 ∷ 40 ∷ 38 ∷ 36 ∷ 34 ∷ 32 ∷ 30 ∷ 28 ∷ 26 ∷ 24 ∷ 22 ∷ 20 ∷ 18 ∷ 16 ∷ 14 ∷ []) $
           exec ! C Λ En body.t-8 (atRet En Kf) $ ends r u (only (evals es)) sw ys rs is (none-is r t is-v is-t other) refl refl)
 
       -- the starts are known: whether the check's answer accepts
@@ -666,7 +666,7 @@ module _ {M : Type 1} (𝓤 : URA M) (H : Heap 𝓤) (A : Atoms 𝓤) (W : Given
           (of-part 𝓤 H A W mostBranches l₆ (zs .1 .1 .0)) $
           split ! $ forget ! 30 refl $
           keep ! (1 ∷ 3 ∷ 2 ∷ 4 ∷ 8 ∷ 9 ∷ 10 ∷ 11 ∷ 12 ∷ 13 ∷ 14 ∷ 15 ∷ 16 ∷ 17 ∷ 18 ∷ 19 ∷ 20 ∷ 21 ∷ 22 ∷ 23 ∷ 24 ∷ 25 ∷ 26 ∷ 27 ∷ 28 ∷ 29 ∷ 30 ∷ 31
-              ∷ 32 ∷ 33 ∷ 34 ∷ 35 ∷ 0 ∷ 36 ∷ 37 ∷ 38 ∷ 39 ∷ 40 ∷ 41 ∷ 42 ∷ 43 ∷ 44 ∷ 45 ∷ 46 ∷ 47 ∷ 48 ∷ []) $
+          ∷ 32 ∷ 33 ∷ 34 ∷ 35 ∷ 0 ∷ 36 ∷ 37 ∷ 38 ∷ 39 ∷ 40 ∷ 41 ∷ 42 ∷ 43 ∷ 44 ∷ 45 ∷ 46 ∷ 47 ∷ 48 ∷ []) $
           reads room room′ (zs .1 .1 .0) r u is is-v)))))))
 
     abbrev Alive : Item 𝓤
@@ -699,7 +699,7 @@ module _ {M : Type 1} (𝓤 : URA M) (H : Heap 𝓤) (A : Atoms 𝓤) (W : Given
         assigns ! (rep ! mostBranches (lit ! tt)) (from ! (stop !)) (init ! 33 refl (array-lawful 𝓤 H A W u64 (uint-lawful 𝓤 H A W w64) mostBranches .typed
         (replicate mostBranches 0) _ is .0)) $
         keep ! (0 ∷ 1 ∷ 2 ∷ 5 ∷ 3 ∷ 8 ∷ 6 ∷ 9 ∷ 10 ∷ 11 ∷ 12 ∷ 13 ∷ 14 ∷ 15 ∷ 16 ∷ 17 ∷ 18 ∷ 19 ∷ 20 ∷ 21 ∷ 22 ∷ 23 ∷ 24 ∷ 25 ∷ 26 ∷ 27 ∷ 28 ∷ 29 ∷ 30
-            ∷ 31 ∷ 32 ∷ 33 ∷ 34 ∷ 35 ∷ 36 ∷ 37 ∷ 38 ∷ 39 ∷ 40 ∷ 41 ∷ 42 ∷ 43 ∷ 44 ∷ 45 ∷ 46 ∷ []) $
+        ∷ 31 ∷ 32 ∷ 33 ∷ 34 ∷ 35 ∷ 36 ∷ 37 ∷ 38 ∷ 39 ∷ 40 ∷ 41 ∷ 42 ∷ 43 ∷ 44 ∷ 45 ∷ 46 ∷ []) $
         lends l₀ l₁ l₂ l₃ l₄ l₅ l₆ l₇ l₈ l₉ l₁₀ l₁₁ l₁₂ l₁₃ l₁₄ l₁₅ l₁₆ l₁₇ l₁₈ room room′ (replicate mostBranches 0)
         (arrayVal (replicate mostBranches (vint w64 0)))))))))))))))))))))))
 

@@ -73,9 +73,12 @@ returns-4 c =
     let f = c .before .before in
     let p = f .before .before .before .before .pre in
     let e : place (v f) (take (k f) (met f)) ≡ k f = omega (arith, f .find .ensures, least f, c .before .if2 .left) in
-    let l : suc (k f) ≤ 64 = omega (arith, c .if3 .left) in
-    (rw (variable f) (f .find .ensures), named-new (met f) (k f) (v f) (held f) 64 (variable f) e l (omega (arith, l, p .1)), omega (arith, l),
-        length-set (met f) (k f) (v f) ∙ p .1)
+    let l : suc (k f) ≤ 64 = omega (arith, c .if3 .left) in (
+      rw (variable f) (f .find .ensures),
+      named-new (met f) (k f) (v f) (held f) 64 (variable f) e l (omega (arith, l, p .1)),
+      omega (arith, l),
+      length-set (met f) (k f) (v f) ∙ p .1,
+    )
 
 pub number-spec : {M : Type 1} → statement M
 number-spec =

@@ -42,7 +42,7 @@ returns-2 c =
     let k = c .before .before .before .before .before .before .before in
     let a = k .before .before .before .before .before .args in
     λ t p A. opened A (a .goal .now) (told k .0) (a .room .now) (omega arith) (omega (arith, told k .1)) _
-        (c .before .before .put-rows .ensures (omega arith) (omega (arith, few-rows A)))
+    (c .before .before .put-rows .ensures (omega arith) (omega (arith, few-rows A)))
 
 walk-requires : tie.Need-walk-requires
 walk-requires c κs =
@@ -55,7 +55,7 @@ returns-3 c =
     let k = c .before in
     let a = k .before .before .before .before .before .args in
     λ t p A. no-goal A (a .goal .now) (a .room .now)
-        (says-no-goal (a .goal .now) (goalOf (a .width) (a .goal .now)) (k .before .before .goal-for .ensures) (k .f .given .1))
+    (says-no-goal (a .goal .now) (goalOf (a .width) (a .goal .now)) (k .before .before .goal-for .ensures) (k .f .given .1))
 
 same-length-2 : tie.Need-same-length-2
 same-length-2 c = search needs

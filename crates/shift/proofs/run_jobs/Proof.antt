@@ -101,10 +101,13 @@ abbrev E : RattleType
 E = Array u64 mostBranches
 
 abbrev stayed : Stays (f.ended .signature .params) (f.ended .kept)
-stayed =
-    (stay-none-slice (0 ∷ []) tt (plain (λ _. u32)) yes,
-        (stay-none-slice (1 ∷ []) tt (plain (λ _. u32)) yes,
-        (stay-none-slice (2 ∷ []) tt (plain (λ _. u32)) yes, (gave-slice (3 ∷ []) tt (plain (λ _. R)), tt))))
+stayed = (
+  stay-none-slice (0 ∷ []) tt (plain (λ _. u32)) yes,
+  (
+    stay-none-slice (1 ∷ []) tt (plain (λ _. u32)) yes,
+    (stay-none-slice (2 ∷ []) tt (plain (λ _. u32)) yes, (gave-slice (3 ∷ []) tt (plain (λ _. R)), tt)),
+  ),
+)
 
 -- ---- truth values
 holds : (t : Bool) → Holds t → t ≡ true
@@ -147,7 +150,7 @@ module _ {M : Type 1} (𝓤 : URA M) (H : Heap 𝓤) (A : Atoms 𝓤) (W : Given
   unfolding partOf
   to-part m =
       qed W (‵ (fat fullShare arrTy l 0 m) ∷ ‵ (E .own es (m ∷ [])) ∷ [])
-          ∵ use1 W (‵ (cellAt fullShare (E .mir) (m ∷ []) l 0)) (W .laws .at-raw fullShare arrTy l 0 m) $ fjoin ! $
+      ∵ use1 W (‵ (cellAt fullShare (E .mir) (m ∷ []) l 0)) (W .laws .at-raw fullShare arrTy l 0 m) $ fjoin ! $
       fpack ! (List Val) (λ us. fsep (cellAt fullShare (E .mir) us l 0) (E .own es us)) (m ∷ []) $ done !
 
   -- and back
@@ -219,12 +222,12 @@ module _ {M : Type 1} (𝓤 : URA M) (H : Heap 𝓤) (A : Atoms 𝓤) (W : Given
   exits r u zs e l =
       qed W (‵ (Ae .own r (u ∷ [])) ∷ ‵ Toks ∷ ‵ (flft κ′ q′) ∷ ‵ Ins ∷ ‵ (finally R γ zs) ∷ []) ∵
       suffices ! _ (ends-at 𝓤 H A f.ended stayed (f.clauses 𝓤 H A mem run) W bound u r (tt, (tt, (tt, (zs, tt)))) (tt, (tt, (tt, (l, tt))))) $
-          says ! e $ move ! (1 ∷ 2 ∷ 3 ∷ 4 ∷ []) $
+      says ! e $ move ! (1 ∷ 2 ∷ 3 ∷ 4 ∷ []) $
       nothing ! $ move ! (2 ∷ 0 ∷ []) $ join ! $ move ! (1 ∷ []) $ fsplit ! $ move ! (1 ∷ []) $ fsplit ! $
       move ! (1 ∷ 3 ∷ []) $ join ! $ move ! (1 ∷ 0 ∷ []) $ join ! $ move ! (1 ∷ 0 ∷ []) $ join ! $ frame ! $
       -- [the inputs; the last list; the result]
       fsplit ! $ move ! (1 ∷ []) $ fsplit ! $ nothing ! $ move ! (4 ∷ 0 ∷ []) $ fjoin ! $ move ! (2 ∷ 0 ∷ []) $ fjoin ! $ move ! (1 ∷ 0 ∷ []) $
-          fjoin ! $ move ! (1 ∷ 0 ∷ []) $ fjoin ! $ done !
+      fjoin ! $ move ! (1 ∷ 0 ∷ []) $ fjoin ! $ done !
 
   -- a `&` is Copy
   two : (j : ℕ) (κ : Lft) (c : RefT (List ℕ)) → ent 𝓤 (sem 𝓤 H A (In j κ c)) (sep 𝓤 (sem 𝓤 H A (In j κ c)) (sem 𝓤 H A (In j κ c)))
@@ -245,8 +248,8 @@ module _ {M : Type 1} (𝓤 : URA M) (H : Heap 𝓤) (A : Atoms 𝓤) (W : Given
         (sv ts ∷ [], (sv ps ∷ [], (vptr l 0 ∷ [], tt)))) (Check 𝓤 H A mem run .pre to-check)
     asks-check =
         qed W ((‵ (flft κ₁ q₁) ⊛ ‵ (flft κ₂ q₂) ⊛ ‵ (flft (α ∷ []) fullShare) ⊛ ‵ ftrue)
-            ∷ ‵ (owns (ShrSlice (named 0) κ₁ u32 ∷ ShrSlice (named 1) κ₂ u32 ∷ MutRef (named 2) (α ∷ []) E ∷ []) (ts, (ps, (rn, tt)))
-            (sv ts ∷ [], (sv ps ∷ [], (vptr l 0 ∷ [], tt)))) ∷ []) ∵ join ! $ frame ! $ done !
+        ∷ ‵ (owns (ShrSlice (named 0) κ₁ u32 ∷ ShrSlice (named 1) κ₂ u32 ∷ MutRef (named 2) (α ∷ []) E ∷ []) (ts, (ps, (rn, tt)))
+        (sv ts ∷ [], (sv ps ∷ [], (vptr l 0 ∷ [], tt)))) ∷ []) ∵ join ! $ frame ! $ done !
 
     asked-check : ent 𝓤 (sep 𝓤 (sem 𝓤 H A (fsep (flft (α ∷ []) fullShare) Nm)) (sep 𝓤 (sem 𝓤 H A Toks) (sem 𝓤 H A Ins)))
         (sep 𝓤 (Check 𝓤 H A mem run .pre to-check) (sep 𝓤 (A .lft κ₃ q₃) (sem 𝓤 H A Ins)))
@@ -260,13 +263,13 @@ module _ {M : Type 1} (𝓤 : URA M) (H : Heap 𝓤) (A : Atoms 𝓤) (W : Given
         -- [what the parameters own; plan; cells; table; κ₂; κ₃; κ₁; α]
         nothing ! $ move ! (8 ∷ 0 ∷ []) $ join ! $ move ! (5 ∷ 0 ∷ []) $ join ! $ move ! (6 ∷ 0 ∷ []) $ join ! $
         use2 W (raw (Check 𝓤 H A mem run .pre to-check)) asks-check $ frame ! $ move ! (3 ∷ []) $ frame ! $ move ! (0 ∷ 1 ∷ []) $ fjoin ! $
-            move ! (1 ∷ 0 ∷ []) $ fjoin ! $ done !
+        move ! (1 ∷ 0 ∷ []) $ fjoin ! $ done !
 
   back-check : (α : ℕ) → ent 𝓤 (sep 𝓤 (sep 𝓤 (A .lft κ₁ q₁) (sep 𝓤 (A .lft κ₂ q₂) (sep 𝓤 (A .lft (α ∷ []) fullShare) (sem 𝓤 H A ftrue))))
       (sep 𝓤 (A .lft κ₃ q₃) (sem 𝓤 H A Ins))) (sep 𝓤 (sem 𝓤 H A Toks) (sep 𝓤 (sem 𝓤 H A Ins) (A .lft (α ∷ []) fullShare)))
   back-check α =
       qed W ((‵ (flft κ₁ q₁) ⊛ ‵ (flft κ₂ q₂) ⊛ ‵ (flft (α ∷ []) fullShare) ⊛ ‵ ftrue) ∷ (‵ (flft κ₃ q₃) ⊛ ‵ Ins) ∷ [])
-          ∵ split ! $ move ! (1 ∷ []) $ split ! $ move ! (1 ∷ []) $ split ! $ move ! (4 ∷ []) $ split ! $
+      ∵ split ! $ move ! (1 ∷ []) $ split ! $ move ! (1 ∷ []) $ split ! $ move ! (4 ∷ []) $ split ! $
       -- [κ₃; the inputs; α; true; κ₂; κ₁]
       move ! (4 ∷ 0 ∷ []) $ fjoin ! $ move ! (4 ∷ 0 ∷ []) $ fjoin ! $ keep ! (0 ∷ 1 ∷ 2 ∷ []) $ done !
 
@@ -331,7 +334,7 @@ module _ {M : Type 1} (𝓤 : URA M) (H : Heap 𝓤) (A : Atoms 𝓤) (W : Given
 
     passed-all : Is Q r (u ∷ [])
         → ent 𝓤 (sep 𝓤 (sem 𝓤 H A (fsep Jobs (flft κ′ q′)))
-            (sep 𝓤 (sem 𝓤 H A (fsep (flft κ₃ q₃) (In 2 κ₃ cs))) (sem 𝓤 H A (fsep (flft (α ∷ []) fullShare) Ns))))
+        (sep 𝓤 (sem 𝓤 H A (fsep (flft κ₃ q₃) (In 2 κ₃ cs))) (sem 𝓤 H A (fsep (flft (α ∷ []) fullShare) Ns))))
         (onEntry 𝓤 H A ask-all.signature (α ∷ [], (κ₃, (κ′, tt))) (fullShare, (q₃, (q′, tt))) args vals-all)
     passed-all is =
         qed W (‵ (fsep Jobs (flft κ′ q′)) ∷ ‵ (fsep (flft κ₃ q₃) (In 2 κ₃ cs)) ∷ ‵ (fsep (flft (α ∷ []) fullShare) Ns) ∷ []) ∵
@@ -340,11 +343,11 @@ module _ {M : Type 1} (𝓤 : URA M) (H : Heap 𝓤) (A : Atoms 𝓤) (W : Given
         nothing ! $ move ! (6 ∷ 0 ∷ []) $ join ! $ move ! (3 ∷ 0 ∷ []) $ join ! $ move ! (1 ∷ 0 ∷ []) $ join ! $ frame ! $
         -- [numbers; cells; jobs]
         nothing ! $ move ! (3 ∷ 0 ∷ []) $ fjoin ! $ move ! (2 ∷ 0 ∷ []) $ fjoin ! $
-            owned ! Q (Is Q) ((LL.makes N.the-type N′.the-plain) 𝓤 H A) r _ is $ fjoin ! $ move ! (1 ∷ 0 ∷ []) $ fjoin ! $ done !
+        owned ! Q (Is Q) ((LL.makes N.the-type N′.the-plain) 𝓤 H A) r _ is $ fjoin ! $ move ! (1 ∷ 0 ∷ []) $ fjoin ! $ done !
 
     asks-all : Is Q r (u ∷ [])
         → ent 𝓤 (sep 𝓤 (sem 𝓤 H A (fsep Jobs (flft κ′ q′)))
-            (sep 𝓤 (sem 𝓤 H A (fsep (flft κ₃ q₃) (In 2 κ₃ cs))) (sem 𝓤 H A (fsep (flft (α ∷ []) fullShare) Ns)))) (All 𝓤 H A mem run .pre to-all)
+        (sep 𝓤 (sem 𝓤 H A (fsep (flft κ₃ q₃) (In 2 κ₃ cs))) (sem 𝓤 H A (fsep (flft (α ∷ []) fullShare) Ns)))) (All 𝓤 H A mem run .pre to-all)
     asks-all is = via 𝓤 _ (passed-all is) entry-all
 
     asked-all : Is Q r (u ∷ [])
@@ -352,7 +355,7 @@ module _ {M : Type 1} (𝓤 : URA M) (H : Heap 𝓤) (A : Atoms 𝓤) (W : Given
         (sep 𝓤 (All 𝓤 H A mem run .pre to-all) (sep 𝓤 (sem 𝓤 H A (fsep (flft κ₁ q₁) (flft κ₂ q₂))) (sem 𝓤 H A Ins)))
     asked-all is =
         qed W (‵ (fsep Jobs (flft κ′ q′)) ∷ ‵ (fsep Toks Ins) ∷ ‵ (fsep (flft (α ∷ []) fullShare) Ns) ∷ []) ∵ move ! (1 ∷ []) $ fsplit ! $ fsplit ! $
-            move ! (1 ∷ []) $ fsplit ! $
+        move ! (1 ∷ []) $ fsplit ! $
         -- [κ₂; κ₃; κ₁; the inputs; jobs and κ′; α and numbers]
         move ! (3 ∷ []) $ fsplit ! $ move ! (1 ∷ []) $ fsplit ! $ move ! (1 ∷ []) $ use1 W (‵ (In 2 κ₃ cs) ⊛ ‵ (In 2 κ₃ cs)) (two 2 κ₃ cs) $ split ! $
         -- [cells; cells; plan; table; κ₂; κ₃; κ₁; jobs and κ′; α and numbers]
@@ -365,7 +368,7 @@ module _ {M : Type 1} (𝓤 : URA M) (H : Heap 𝓤) (A : Atoms 𝓤) (W : Given
       (sep 𝓤 (sem 𝓤 H A Toks) (sep 𝓤 (sem 𝓤 H A Ins) (sep 𝓤 (A .lft κ′ q′) (A .lft (α ∷ []) fullShare))))
   back-all α =
       qed W ((‵ (flft (α ∷ []) fullShare) ⊛ ‵ (flft κ₃ q₃) ⊛ ‵ (flft κ′ q′) ⊛ ‵ ftrue) ∷ (‵ (fsep (flft κ₁ q₁) (flft κ₂ q₂)) ⊛ ‵ Ins) ∷ [])
-          ∵ split ! $ move ! (1 ∷ []) $ split ! $ move ! (1 ∷ []) $ split ! $ move ! (4 ∷ []) $ split ! $ fsplit ! $
+      ∵ split ! $ move ! (1 ∷ []) $ split ! $ move ! (1 ∷ []) $ split ! $ move ! (4 ∷ []) $ split ! $ fsplit ! $
       -- [κ₁; κ₂; the inputs; κ′; true; κ₃; α]
       move ! (1 ∷ 5 ∷ []) $ fjoin ! $ move ! (1 ∷ 0 ∷ []) $ fjoin ! $ keep ! (0 ∷ 1 ∷ 2 ∷ 4 ∷ []) $ done !
 
@@ -387,28 +390,28 @@ module _ {M : Type 1} (𝓤 : URA M) (H : Heap 𝓤) (A : Atoms 𝓤) (W : Given
       abbrev En : Env 𝓤 H
       En =
           (X′.mir, l₀) ∷ (inTy 0, l₁) ∷ (inTy 1, l₂) ∷ (inTy 2, l₃) ∷ (jobsTy, l₄) ∷ (arrTy, l₅) ∷ (N′.mir, l₆) ∷ (lentTy, l₇) ∷ (tyBool, l₈)
-              ∷ (tyUnit, l₉) ∷ (readTy, l₁₀) ∷ (againTy, l₁₁) ∷ (sliceTy againTy, l₁₂) ∷ []
+          ∷ (tyUnit, l₉) ∷ (readTy, l₁₀) ∷ (againTy, l₁₁) ∷ (sliceTy againTy, l₁₂) ∷ []
 
       -- the locals, from the last to the first, with those at 5, 6 and 8 given
       abbrev Locals : Item 𝓤 → Item 𝓤 → Item 𝓤 → List (Item 𝓤)
       Locals i₅ i₆ i₈ =
           ‵ (froom (sliceTy againTy) l₁₂ 0) ∷ ‵ (fdies (sliceTy againTy) l₁₂) ∷ ‵ (froom againTy l₁₁ 0) ∷ ‵ (fdies againTy l₁₁)
-              ∷ ‵ (froom readTy l₁₀ 0) ∷ ‵ (fdies readTy l₁₀) ∷ ‵ (froom tyUnit l₉ 0) ∷ ‵ (fdies tyUnit l₉)
+          ∷ ‵ (froom readTy l₁₀ 0) ∷ ‵ (fdies readTy l₁₀) ∷ ‵ (froom tyUnit l₉ 0) ∷ ‵ (fdies tyUnit l₉)
           ∷ i₈ ∷ ‵ (fdies tyBool l₈) ∷ ‵ (froom lentTy l₇ 0) ∷ ‵ (fdies lentTy l₇) ∷ i₆ ∷ ‵ (fdies N′.mir l₆) ∷ i₅ ∷ ‵ (fdies arrTy l₅)
           ∷ ‵ (fat fullShare jobsTy l₄ 0 s) ∷ ‵ (fdies jobsTy l₄) ∷ ‵ (fat fullShare (inTy 2) l₃ 0 (sv cs)) ∷ ‵ (fdies (inTy 2) l₃)
-              ∷ ‵ (fat fullShare (inTy 1) l₂ 0 (sv ps)) ∷ ‵ (fdies (inTy 1) l₂) ∷ ‵ (fat fullShare (inTy 0) l₁ 0 (sv ts)) ∷ ‵ (fdies (inTy 0) l₁)
-              ∷ ‵ (froom X′.mir l₀ 0) ∷ ‵ (fdies X′.mir l₀) ∷ []
+          ∷ ‵ (fat fullShare (inTy 1) l₂ 0 (sv ps)) ∷ ‵ (fdies (inTy 1) l₂) ∷ ‵ (fat fullShare (inTy 0) l₁ 0 (sv ts)) ∷ ‵ (fdies (inTy 0) l₁)
+          ∷ ‵ (froom X′.mir l₀ 0) ∷ ‵ (fdies X′.mir l₀) ∷ []
 
       -- the end, from either arm
       abbrev End : Noted → Val → Val → List Job → List (Item 𝓤)
       End r u ev zs = ‵ Toks ∷ ‵ (flft κ′ q′) ∷ ‵ Ins ∷ ‵ (finally R γ zs) ∷ ‵ (Q .own r (u ∷ [])) ∷ ‵ (fat fullShare N′.mir l₆ 0 u)
           ∷ ‵ (froom X′.mir l₀ 0) ∷ ‵ (fat fullShare (inTy 0) l₁ 0 (sv ts)) ∷ ‵ (fat fullShare (inTy 1) l₂ 0 (sv ps))
-              ∷ ‵ (fat fullShare (inTy 2) l₃ 0 (sv cs)) ∷ ‵ (fat fullShare jobsTy l₄ 0 s) ∷ ‵ (fat fullShare arrTy l₅ 0 ev)
+          ∷ ‵ (fat fullShare (inTy 2) l₃ 0 (sv cs)) ∷ ‵ (fat fullShare jobsTy l₄ 0 s) ∷ ‵ (fat fullShare arrTy l₅ 0 ev)
           ∷ ‵ (froom lentTy l₇ 0) ∷ ‵ (froom tyBool l₈ 0) ∷ ‵ (froom tyUnit l₉ 0) ∷ ‵ (froom readTy l₁₀ 0) ∷ ‵ (froom againTy l₁₁ 0)
-              ∷ ‵ (froom (sliceTy againTy) l₁₂ 0)
+          ∷ ‵ (froom (sliceTy againTy) l₁₂ 0)
           ∷ ‵ (fdies X′.mir l₀) ∷ ‵ (fdies (inTy 0) l₁) ∷ ‵ (fdies (inTy 1) l₂) ∷ ‵ (fdies (inTy 2) l₃) ∷ ‵ (fdies jobsTy l₄) ∷ ‵ (fdies arrTy l₅)
-              ∷ ‵ (fdies N′.mir l₆) ∷ ‵ (fdies lentTy l₇) ∷ ‵ (fdies tyBool l₈) ∷ ‵ (fdies tyUnit l₉) ∷ ‵ (fdies readTy l₁₀) ∷ ‵ (fdies againTy l₁₁)
-              ∷ ‵ (fdies (sliceTy againTy) l₁₂) ∷ []
+          ∷ ‵ (fdies N′.mir l₆) ∷ ‵ (fdies lentTy l₇) ∷ ‵ (fdies tyBool l₈) ∷ ‵ (fdies tyUnit l₉) ∷ ‵ (fdies readTy l₁₀) ∷ ‵ (fdies againTy l₁₁)
+          ∷ ‵ (fdies (sliceTy againTy) l₁₂) ∷ []
 
       ends : (r : Noted) (u ev : Val) (zs : List Job) → Is Q r (u ∷ []) → ((a : PlanAnswer) → a ≡ r .answer → Says zs a) → length zs ≡ length ys
           → Sq W (End r u ev zs) (runs C Λ En body.t-6 (atRet En Kf))
@@ -417,89 +420,89 @@ module _ {M : Type 1} (𝓤 : URA M) (H : Heap 𝓤) (A : Atoms 𝓤) (W : Given
           -- [what `answer_of` asks; what r owns; the tokens; κ′; the inputs; the last list; _6; room for _0; _1; …]
           calls-at ! fm (Ans 𝓤 H A mem run) known-ans (to-ans r u) (and-then ! (load ! (from ! (stop !)) (look ! 6 refl)) (no-more !)) (λ w.
           use1 W (later (some (λ (a : PlanAnswer). (‵ ftrue ⊛ ‵ (Ae .own a (w ∷ [])))
-              ⊛ raw (ensured 𝓤 H A answer-of.ended (answer-of.clauses 𝓤 H A mem run) tt (r, tt) tt a)))) (id⊢ 𝓤 _) $ await ! tt $ pick ! (λ a.
+          ⊛ raw (ensured 𝓤 H A answer-of.ended (answer-of.clauses 𝓤 H A mem run) tt (r, tt) tt a)))) (id⊢ 𝓤 _) $ await ! tt $ pick ! (λ a.
           split ! $ move ! (1 ∷ []) $ use1 W (raw (fact 𝓤 (a ≡ r .answer))) (said-ans r a) $
-              heard ! (a ≡ r .answer) (λ is-a. split ! $ drop ! $ peeks ! Ae (Is Ae) (shows 𝓤 H A Ae) a (w ∷ []) (λ isa.
+          heard ! (a ≡ r .answer) (λ is-a. split ! $ drop ! $ peeks ! Ae (Is Ae) (shows 𝓤 H A Ae) a (w ∷ []) (λ isa.
           -- [the result; what r owns; the tokens; κ′; the inputs; the last list; _6; room for _0; …]
           land ! (from ! (stop !)) (init ! 7 refl (EL.lawful X.the-type X′.the-laws 𝓤 H A W tt .typed a _ isa .0)) $ move ! (1 ∷ []) $ drop ! $
           returns ! (look ! 6 refl) $ forget ! 5 refl $ forget ! 6 refl $ forget ! 7 refl $ forget ! 8 refl $ forget ! 9 refl $ forget ! 10 refl $
-              forget ! 11 refl $
+          forget ! 11 refl $
           move ! (6 ∷ 18 ∷ []) $ free1 ! $ move ! (6 ∷ 17 ∷ []) $ free1 ! $ move ! (6 ∷ 16 ∷ []) $ free1 ! $ move ! (6 ∷ 15 ∷ []) $ free1 ! $
-              move ! (6 ∷ 14 ∷ []) $ free1 ! $ move ! (6 ∷ 13 ∷ []) $ free1 ! $ move ! (5 ∷ 12 ∷ []) $ free1 ! $
+          move ! (6 ∷ 14 ∷ []) $ free1 ! $ move ! (6 ∷ 13 ∷ []) $ free1 ! $ move ! (5 ∷ 12 ∷ []) $ free1 ! $
           move ! (5 ∷ 11 ∷ []) $ free1 ! $ move ! (5 ∷ 10 ∷ []) $ free1 ! $ move ! (5 ∷ 9 ∷ []) $ free1 ! $ move ! (5 ∷ 8 ∷ []) $ free1 ! $
-              move ! (5 ∷ 7 ∷ []) $ free1 ! $ move ! (5 ∷ 6 ∷ []) $ free1 ! $ free0 ! $ by ! (exits a w zs (e a is-a) l)))))
+          move ! (5 ∷ 7 ∷ []) $ free1 ! $ move ! (5 ∷ 6 ∷ []) $ free1 ! $ free0 ! $ by ! (exits a w zs (e a is-a) l)))))
 
       -- the branch, and the rest of the body
       arms : Room R (length ys) → {es₀ : List ℕ} (es : List ℕ) (r : Noted) (u : Val) (t : Bool) → Is Q r (u ∷ [])
           → NotedInto (ts .now) (ps .now) es₀ es r → t ≡ isAccepted (r .answer)
           → Sq W (‵ (Q .own r (u ∷ [])) ∷ ‵ (E .own es (evals es)) ∷ ‵ Toks ∷ ‵ Ins ∷ ‵ Jobs ∷ ‵ (flft κ′ q′)
-              ∷ Locals (‵ (fat fullShare arrTy l₅ 0 (only (evals es)))) (‵ (fat fullShare N′.mir l₆ 0 u)) (‵ (fat fullShare tyBool l₈ 0 (vbool t))))
-              (runs C Λ En body.t-5 (atRet En Kf))
+          ∷ Locals (‵ (fat fullShare arrTy l₅ 0 (only (evals es)))) (‵ (fat fullShare N′.mir l₆ 0 u)) (‵ (fat fullShare tyBool l₈ 0 (vbool t))))
+          (runs C Λ En body.t-5 (atRet En Kf))
       arms room {es₀} es r u t is is-v is-t =
           first ! $ branches ! (load ! (from ! (stop !)) (look ! 14 refl))
           (λ yes′. assigns ! (addr ! (from ! (stop !))) (from ! (stop !)) (init ! 10 refl (tt, tt)) $
           assigns ! (addr ! (from ! (fld ! refl (hop ! (look-in ! 22 (sub ! 0 refl (whole !))) (stop !))))) (from ! (stop !)) (init ! 8 refl (tt, tt)) $
           assigns ! (agg ! (and-then ! (load ! (from ! (stop !)) (look ! 8 refl))
-              (and-then ! (load ! (from ! (fld ! refl (stop !))) (look-in ! 22 (sub ! 1 refl (whole !)))) (no-more !)))) (from ! (stop !))
-              (init ! 6 refl (tt, (tt, (record { fits = room .0 }, tt)))) $
+          (and-then ! (load ! (from ! (fld ! refl (stop !))) (look-in ! 22 (sub ! 1 refl (whole !)))) (no-more !)))) (from ! (stop !))
+          (init ! 6 refl (tt, (tt, (record { fits = room .0 }, tt)))) $
           move ! (20 ∷ 1 ∷ []) $ use2 W (‵ (partAt E fullShare es l₅ 0)) (to-part 𝓤 H A W l₅ es (only (evals es))) $
           -- the array is lent for a lifetime of the call
           lft-new ! tt (λ α. move ! (1 ∷ []) $
           use1 W (later (some (λ (γ₁ : GName). ‵ (Ns l₅ α γ₁ es r u) ⊛ ‵ (flent (α ∷ []) (partAt E fullShare es l₅ 0)))))
-              (lends-shr 𝓤 H A W E (named 0) (α ∷ []) fullShare es l₅ 0) $ await ! tt $ pick ! (λ γ₁. split ! $
+          (lends-shr 𝓤 H A W E (named 0) (α ∷ []) fullShare es l₅ 0) $ await ! tt $ pick ! (λ γ₁. split ! $
           -- [numbers; the lender's part; α; what r owns; the tokens; the inputs; jobs; κ′; _12; …]
           move ! (2 ∷ 0 ∷ []) $ fjoin ! $ move ! (3 ∷ 4 ∷ []) $ fjoin ! $ move ! (4 ∷ 5 ∷ []) $ fjoin ! $
           use3 W (raw (All 𝓤 H A mem run .pre (to-all l₅ α γ₁ es r u)) ⊛ (‵ (fsep (flft κ₁ q₁) (flft κ₂ q₂)) ⊛ ‵ Ins)) (asked-all l₅ α γ₁ es r u is) $ split ! $
           -- [what `ask_all` asks; two tokens and the inputs; the lender's part; what r owns; _12; …; _11; …; _10; …; _9; …; _8; …; _7; …; _6; …; …;
           -- _4; …; _3; …]
           calls-at-last ! fm (All 𝓤 H A mem run) known-all (to-all l₅ α γ₁ es r u)
-              (and-then ! (load ! (from ! (stop !)) (look ! 8 refl))
-              (and-then ! (load ! (from ! (stop !)) (look ! 16 refl))
-              (and-then ! (load ! (from ! (stop !)) (look ! 21 refl)) (and-then ! (load ! (from ! (stop !)) (look ! 4 refl)) (no-more !))))) (λ w.
+          (and-then ! (load ! (from ! (stop !)) (look ! 8 refl))
+          (and-then ! (load ! (from ! (stop !)) (look ! 16 refl))
+          (and-then ! (load ! (from ! (stop !)) (look ! 21 refl)) (and-then ! (load ! (from ! (stop !)) (look ! 4 refl)) (no-more !))))) (λ w.
           use1 W (later (some (λ (z : Unit {0}). ((‵ (flft (α ∷ []) fullShare) ⊛ ‵ (flft κ₃ q₃) ⊛ ‵ (flft κ′ q′) ⊛ ‵ ftrue)
-              ⊛ ‵ (unit .own z (w ∷ []))) ⊛ some (λ (zs : Lasts ask-all.ended (α ∷ [], (κ₃, (κ′, tt))) (args l₅ α γ₁ es r u)). ‵
-              (lasts ask-all.ended (α ∷ [], (κ₃, (κ′, tt))) (args l₅ α γ₁ es r u) zs) ⊛ raw (fact 𝓤 (Each (P l₅ α γ₁ es r u) ys (zs .1 .1 .1 .0)))))))
-              (id⊢ 𝓤 _) $ await ! tt $ pick ! (λ z.
+          ⊛ ‵ (unit .own z (w ∷ []))) ⊛ some (λ (zs : Lasts ask-all.ended (α ∷ [], (κ₃, (κ′, tt))) (args l₅ α γ₁ es r u)). ‵
+          (lasts ask-all.ended (α ∷ [], (κ₃, (κ′, tt))) (args l₅ α γ₁ es r u) zs) ⊛ raw (fact 𝓤 (Each (P l₅ α γ₁ es r u) ys (zs .1 .1 .1 .0)))))))
+          (id⊢ 𝓤 _) $ await ! tt $ pick ! (λ z.
           split ! $ move ! (1 ∷ []) $ pick ! (λ zs. split ! $ move ! (1 ∷ []) $ heard ! (Each (P l₅ α γ₁ es r u) ys (zs .1 .1 .1 .0)) (λ e.
           fsplit ! $ move ! (1 ∷ []) $ fsplit ! $ move ! (1 ∷ []) $ fsplit ! $ move ! (1 ∷ []) $ fsplit ! $ fsplit ! $
           -- [the last list; its length; true, four times; the tokens and the result; two tokens and the inputs; the lender's part; what r owns; _12; …]
           move ! (1 ∷ []) $ feqL ! (λ len. move ! (5 ∷ []) $ split ! $ move ! (1 ∷ []) $ feqL ! (λ is-unit. move ! (0 ∷ 6 ∷ []) $
           use2 W (‵ Toks ⊛ (‵ Ins ⊛ (‵ (flft κ′ q′) ⊛ ‵ (flft (α ∷ []) fullShare)))) (back-all α) $ split ! $ move ! (1 ∷ []) $ split ! $
-              move ! (1 ∷ []) $ split ! $
+          move ! (1 ∷ []) $ split ! $
           -- [κ′; α; the inputs; the tokens; the last list; true, four times; the lender's part; what r owns; _12; …]; the array is taken back
           move ! (1 ∷ []) $ lft-end ! tt $ move ! (0 ∷ 9 ∷ []) $ lent-back ! tt $
-              use1 W (‵ (fat fullShare arrTy l₅ 0 (only (evals es))) ⊛ ‵ (E .own es (evals es))) (of-part 𝓤 H A W l₅ es) $ split ! $
+          use1 W (‵ (fat fullShare arrTy l₅ 0 (only (evals es))) ⊛ ‵ (E .own es (evals es))) (of-part 𝓤 H A W l₅ es) $ split ! $
           -- [_5; what it owns; κ′; the inputs; the tokens; the last list; true, four times; what r owns; _12; …]
           land-last ! (from ! (stop !)) (init ! 17 refl (subst (λ (m : Val). Holds (hasTy tyUnit m) × WT m) (sym (ap only is-unit)) (tt, tt))) $
           forget ! 11 refl $ forget ! 13 refl $ forget ! 15 refl $ forget ! 17 refl $ forget ! 19 refl $
           keep ! (4 ∷ 2 ∷ 3 ∷ 5 ∷ 10 ∷ 23 ∷ 34 ∷ 32 ∷ 30 ∷ 28 ∷ 26 ∷ 0 ∷ 21 ∷ 19 ∷ 17 ∷ 15 ∷ 13 ∷ 11 ∷ 35 ∷ 33 ∷ 31 ∷ 29 ∷ 27 ∷ 25 ∷ 24 ∷ 22 ∷ 20 ∷ 18
-              ∷ 16 ∷ 14 ∷ 12 ∷ []) $
+          ∷ 16 ∷ 14 ∷ 12 ∷ []) $
           exec ! C Λ En body.t-6 (atRet En Kf) $
           ends r u (only (evals es)) (zs .1 .1 .1 .0) is (all-are r t (zs .1 .1 .1 .0) is-v is-t yes′ e) len)))))))))
           -- no record is touched: the list's last value is the one passed
           (λ other. skips ! $ move ! (4 ∷ []) $ fsplit ! $ move ! (1 ∷ []) $ fsplit ! $
           use1 W (‵ (fres γ (codedHoleys R .code (heres R ys)))) (W .names .obs-res γ (codedHoleys R .code (heres R ys))) $
-              use1 W (‵ (finally R γ ys)) (res-finally 𝓤 H A W (named 3) κ′ R γ ys) $
+          use1 W (‵ (finally R γ ys)) (res-finally 𝓤 H A W (named 3) κ′ R γ ys) $
           -- [the last list; the borrow; its fact; what r owns; what the array owns; the tokens; the inputs; κ′; _12; …]
           forget ! 16 refl $
           keep ! (5 ∷ 7 ∷ 6 ∷ 0 ∷ 3 ∷ 20 ∷ 32 ∷ 30 ∷ 28 ∷ 26 ∷ 24 ∷ 22 ∷ 18 ∷ 16 ∷ 14 ∷ 12 ∷ 10 ∷ 8 ∷ 33 ∷ 31 ∷ 29 ∷ 27 ∷ 25 ∷ 23 ∷ 21 ∷ 19 ∷ 17 ∷ 15
-              ∷ 13 ∷ 11 ∷ 9 ∷ []) $
+          ∷ 13 ∷ 11 ∷ 9 ∷ []) $
           exec ! C Λ En body.t-6 (atRet En Kf) $
           ends r u (only (evals es)) ys is (none-is r t is-v is-t other) refl)
 
       -- the check's answer is known: whether it accepts
       decides : Room R (length ys) → {es₀ : List ℕ} (es : List ℕ) (r : Noted) (u : Val) → Is Q r (u ∷ []) → NotedInto (ts .now) (ps .now) es₀ es r
           → Sq W (‵ (E .own es (evals es)) ∷ ‵ Toks ∷ ‵ Ins ∷ ‵ (Q .own r (u ∷ [])) ∷ ‵ Jobs ∷ ‵ (flft κ′ q′)
-              ∷ Locals (‵ (fat fullShare arrTy l₅ 0 (only (evals es)))) (‵ (fat fullShare N′.mir l₆ 0 u)) (‵ (froom tyBool l₈ 0)))
-              (runs C Λ En body.t-4 (atRet En Kf))
+          ∷ Locals (‵ (fat fullShare arrTy l₅ 0 (only (evals es)))) (‵ (fat fullShare N′.mir l₆ 0 u)) (‵ (froom tyBool l₈ 0)))
+          (runs C Λ En body.t-4 (atRet En Kf))
       decides room es r u is is-v =
           move ! (3 ∷ []) $ use1 W (raw (Acc 𝓤 H A mem run .pre (to-acc r u)) ⊛ ‵ (Q .own r (u ∷ []))) (asked-acc r u is) $ split ! $
           -- [what `accepted` asks; what r owns; what the array owns; the tokens; the inputs; jobs; κ′; _12; …]
           calls-at ! fm (Acc 𝓤 H A mem run) known-acc (to-acc r u) (and-then ! (load ! (from ! (stop !)) (look ! 19 refl)) (no-more !)) (λ c.
           use1 W (later (some (λ (t : Bool). (‵ ftrue ⊛ ‵ (bool .own t (c ∷ [])))
-              ⊛ raw (ensured 𝓤 H A accepted.ended (accepted.clauses 𝓤 H A mem run) tt (r, tt) tt t)))) (id⊢ 𝓤 _) $ await ! tt $ pick ! (λ t.
+          ⊛ raw (ensured 𝓤 H A accepted.ended (accepted.clauses 𝓤 H A mem run) tt (r, tt) tt t)))) (id⊢ 𝓤 _) $ await ! tt $ pick ! (λ t.
           split ! $ move ! (1 ∷ []) $ use1 W (raw (fact 𝓤 (t ≡ isAccepted (r .answer)))) (said-acc r t) $
-              heard ! (t ≡ isAccepted (r .answer)) (λ is-t. split ! $ drop ! $ feqL ! (λ is-bool.
+          heard ! (t ≡ isAccepted (r .answer)) (λ is-t. split ! $ drop ! $ feqL ! (λ is-bool.
           land ! (from ! (stop !)) (init ! 14 refl (subst (λ (m : Val). Holds (hasTy tyBool m) × WT m) (sym (ap only is-bool)) (tt, tt))) $
           rewrite ! 14 (λ (m : Val). ‵ (fat fullShare tyBool l₈ 0 m)) (ap only is-bool) refl $
           arms room es r u t is is-v is-t))))
@@ -507,25 +510,25 @@ module _ {M : Type 1} (𝓤 : URA M) (H : Heap 𝓤) (A : Atoms 𝓤) (W : Given
       -- the array is written: it is lent to the check, and taken back
       lends : Room R (length ys) → (es₀ : List ℕ) (ev : Val)
           → Sq W (‵ (E .own es₀ (ev ∷ [])) ∷ ‵ Toks ∷ ‵ Ins ∷ ‵ Jobs ∷ ‵ (flft κ′ q′)
-              ∷ Locals (‵ (fat fullShare arrTy l₅ 0 ev)) (‵ (froom N′.mir l₆ 0)) (‵ (froom tyBool l₈ 0))) (runs C Λ En body.t-2 (atRet En Kf))
+          ∷ Locals (‵ (fat fullShare arrTy l₅ 0 ev)) (‵ (froom N′.mir l₆ 0)) (‵ (froom tyBool l₈ 0))) (runs C Λ En body.t-2 (atRet En Kf))
       lends room es₀ ev =
           assigns ! (addr ! (from ! (stop !))) (from ! (stop !)) (init ! 15 refl (tt, tt)) $
           move ! (19 ∷ 0 ∷ []) $ use2 W (‵ (partAt E fullShare es₀ l₅ 0)) (to-part 𝓤 H A W l₅ es₀ ev) $
           lft-new ! tt (λ α. move ! (1 ∷ []) $
           use1 W (later (some (λ (γ₁ : GName). ‵ (Nm l₅ α γ₁ es₀) ⊛ ‵ (flent (α ∷ []) (Body (lain E) l₅ 0 γ₁)))))
-              (lends-ref 𝓤 H A W E (named 2) (α ∷ []) es₀ l₅ 0) $ await ! tt $ pick ! (λ γ₁. split ! $
+          (lends-ref 𝓤 H A W E (named 2) (α ∷ []) es₀ l₅ 0) $ await ! tt $ pick ! (λ γ₁. split ! $
           -- [numbers; the lender's part; α; the tokens; the inputs; jobs; κ′; _12; …]
           move ! (2 ∷ 0 ∷ []) $ fjoin ! $ move ! (0 ∷ 2 ∷ 3 ∷ []) $
-              use3 W (raw (Check 𝓤 H A mem run .pre (to-check l₅ α γ₁ es₀)) ⊛ (‵ (flft κ₃ q₃) ⊛ ‵ Ins)) (asked-check l₅ α γ₁ es₀) $ split ! $
+          use3 W (raw (Check 𝓤 H A mem run .pre (to-check l₅ α γ₁ es₀)) ⊛ (‵ (flft κ₃ q₃) ⊛ ‵ Ins)) (asked-check l₅ α γ₁ es₀) $ split ! $
           -- [what `check_noted` asks; κ₃ and the inputs; the lender's part; jobs; κ′; _12; …; _11; …; _10; …; _9; …; _8; …; _7; …; _6; …; …; _4; …;
           -- _3; …; _2; …; _1; …]
           calls-at ! fm (Check 𝓤 H A mem run) known-check (to-check l₅ α γ₁ es₀)
-              (and-then ! (load ! (from ! (stop !)) (look ! 26 refl))
-              (and-then ! (load ! (from ! (stop !)) (look ! 24 refl)) (and-then ! (load ! (from ! (stop !)) (look ! 15 refl)) (no-more !)))) (λ u.
+          (and-then ! (load ! (from ! (stop !)) (look ! 26 refl))
+          (and-then ! (load ! (from ! (stop !)) (look ! 24 refl)) (and-then ! (load ! (from ! (stop !)) (look ! 15 refl)) (no-more !)))) (λ u.
           use1 W (later (some (λ (r : Noted). ((‵ (flft κ₁ q₁) ⊛ ‵ (flft κ₂ q₂) ⊛ ‵ (flft (α ∷ []) fullShare) ⊛ ‵ ftrue) ⊛ ‵ (Q .own r (u ∷ [])))
-              ⊛ some (λ (zs : Lasts check.ended (κ₁, (κ₂, (α ∷ [], tt))) (ts, (ps, (rn l₅ α γ₁ es₀, tt)))). ‵
-              (lasts check.ended (κ₁, (κ₂, (α ∷ [], tt))) (ts, (ps, (rn l₅ α γ₁ es₀, tt))) zs)
-              ⊛ raw (fact 𝓤 (NotedInto (ts .now) (ps .now) es₀ (zs .1 .1 .0) r)))))) (id⊢ 𝓤 _) $ await ! tt $ pick ! (λ r.
+          ⊛ some (λ (zs : Lasts check.ended (κ₁, (κ₂, (α ∷ [], tt))) (ts, (ps, (rn l₅ α γ₁ es₀, tt)))). ‵
+          (lasts check.ended (κ₁, (κ₂, (α ∷ [], tt))) (ts, (ps, (rn l₅ α γ₁ es₀, tt))) zs)
+          ⊛ raw (fact 𝓤 (NotedInto (ts .now) (ps .now) es₀ (zs .1 .1 .0) r)))))) (id⊢ 𝓤 _) $ await ! tt $ pick ! (λ r.
           split ! $ move ! (1 ∷ []) $ pick ! (λ zs. split ! $ move ! (1 ∷ []) $ heard ! (NotedInto (ts .now) (ps .now) es₀ (zs .1 .1 .0) r) (λ is-v.
           fsplit ! $ move ! (1 ∷ []) $ fsplit ! $ move ! (1 ∷ []) $ fsplit ! $
           -- [the last array; true, three times; the tokens and the result; κ₃ and the inputs; the lender's part; jobs; κ′; _12; …]
@@ -535,41 +538,41 @@ module _ {M : Type 1} (𝓤 : URA M) (H : Heap 𝓤) (A : Atoms 𝓤) (W : Given
           move ! (1 ∷ 6 ∷ []) $ use2 W (‵ Toks ⊛ (‵ Ins ⊛ ‵ (flft (α ∷ []) fullShare))) (back-check α) $ split ! $ move ! (1 ∷ []) $ split ! $
           -- [the inputs; α; the tokens; what r owns; the last array; true, three times; the lender's part; jobs; κ′; _12; …]
           move ! (1 ∷ []) $ lft-end ! tt $ move ! (0 ∷ 8 ∷ 4 ∷ []) $
-              use3 W (later (‵ (partAt E fullShare (zs .1 .1 .0) l₅ 0))) (ref-back 𝓤 H A W E (α ∷ []) γ₁ (zs .1 .1 .0) l₅ 0) $ await ! tt $
+          use3 W (later (‵ (partAt E fullShare (zs .1 .1 .0) l₅ 0))) (ref-back 𝓤 H A W E (α ∷ []) γ₁ (zs .1 .1 .0) l₅ 0) $ await ! tt $
           use1 W (‵ (fat fullShare arrTy l₅ 0 (only (evals (zs .1 .1 .0)))) ⊛ ‵ (E .own (zs .1 .1 .0) (evals (zs .1 .1 .0))))
-              (of-part 𝓤 H A W l₅ (zs .1 .1 .0)) $ split ! $
+          (of-part 𝓤 H A W l₅ (zs .1 .1 .0)) $ split ! $
           -- [_5; what it owns; the inputs; the tokens; what r owns; true, three times; jobs; κ′; _12; …]
           forget ! 20 refl $ keep ! (1 ∷ 3 ∷ 2 ∷ 4 ∷ 8 ∷ 9 ∷ 10 ∷ 11 ∷ 12 ∷ 13 ∷ 14 ∷ 15 ∷ 16 ∷ 17 ∷ 18 ∷ 19 ∷ 20 ∷ 21 ∷ 22 ∷ 23 ∷ 0 ∷ 24 ∷ 25 ∷ 26
-              ∷ 27 ∷ 28 ∷ 29 ∷ 30 ∷ 31 ∷ 32 ∷ 33 ∷ 34 ∷ []) $
+          ∷ 27 ∷ 28 ∷ 29 ∷ 30 ∷ 31 ∷ 32 ∷ 33 ∷ 34 ∷ []) $
           decides room (zs .1 .1 .0) r u is is-v)))))))
 
     walk : length (ts .now) < 2 ^ 64 → length (ps .now) < 2 ^ 64 → length (cs .now) < 2 ^ 64 → Room R (length ys)
         → ent 𝓤 (onEntry 𝓤 H A f.signature (κ₁, (κ₂, (κ₃, (κ′, tt)))) (q₁, (q₂, (q₃, (q′, tt)))) a vals)
-            (WpFn 𝓤 H C Λ code.function (sv ts ∷ sv ps ∷ sv cs ∷ s ∷ []) Kf)
+        (WpFn 𝓤 H C Λ code.function (sv ts ∷ sv ps ∷ sv cs ∷ s ∷ []) Kf)
     walk f₁ f₂ f₃ room =
         qed W ((‵ (flft κ₁ q₁) ⊛ ‵ (flft κ₂ q₂) ⊛ ‵ (flft κ₃ q₃) ⊛ ‵ (flft κ′ q′) ⊛ ‵ ftrue)
-            ∷ ‵ (owns (ShrSlice (named 0) κ₁ u32 ∷ ShrSlice (named 1) κ₂ u32 ∷ ShrSlice (named 2) κ₃ u32 ∷ MutSlice (named 3) κ′ R ∷ []) a vals) ∷ [])
-            ∵
+        ∷ ‵ (owns (ShrSlice (named 0) κ₁ u32 ∷ ShrSlice (named 1) κ₂ u32 ∷ ShrSlice (named 2) κ₃ u32 ∷ MutSlice (named 3) κ′ R ∷ []) a vals) ∷ [])
+        ∵
         enter ! C Λ code.function (sv ts ∷ sv ps ∷ sv cs ∷ s ∷ []) _ $
         alloc1 ! (λ l₀. alloc1 ! (λ l₁. alloc1 ! (λ l₂. alloc1 !
-            (λ l₃. alloc1 ! (λ l₄. alloc1 ! (λ l₅. alloc1 !
-            (λ l₆. alloc1 ! (λ l₇. alloc1 ! (λ l₈. alloc1 ! (λ l₉. alloc1 ! (λ l₁₀. alloc1 ! (λ l₁₁. alloc1 ! (λ l₁₂. alloc0 ! $ params1 ! $
+        (λ l₃. alloc1 ! (λ l₄. alloc1 ! (λ l₅. alloc1 !
+        (λ l₆. alloc1 ! (λ l₇. alloc1 ! (λ l₈. alloc1 ! (λ l₉. alloc1 ! (λ l₁₀. alloc1 ! (λ l₁₁. alloc1 ! (λ l₁₂. alloc0 ! $ params1 ! $
         pass1 ! (init ! 22 refl (tt, (tt, (record { fits = f₁ }, tt)))) $ pass1 ! (init ! 20 refl (tt, (tt, (record { fits = f₂ }, tt)))) $
-            pass1 ! (init ! 18 refl (tt, (tt, (record { fits = f₃ }, tt)))) $ pass1 ! (init ! 16 refl (tt, (tt, (record { fits = room .0 }, tt)))) $
-            pass0 ! $
+        pass1 ! (init ! 18 refl (tt, (tt, (record { fits = f₃ }, tt)))) $ pass1 ! (init ! 16 refl (tt, (tt, (record { fits = room .0 }, tt)))) $
+        pass0 ! $
         move ! (26 ∷ 27 ∷ []) $ split ! $ move ! (1 ∷ []) $ split ! $ move ! (1 ∷ []) $ split ! $ move ! (1 ∷ []) $ split ! $
         -- [κ′; true; κ₃; κ₂; κ₁; what the parameters own; _12; …]
         move ! (5 ∷ []) $ fsplit ! $ move ! (1 ∷ []) $ fsplit ! $ move ! (1 ∷ []) $ fsplit ! $ move ! (1 ∷ []) $ fsplit ! $
         -- [jobs; true; cells; plan; table; κ′; true; κ₃; κ₂; κ₁; _12; …]
         move ! (3 ∷ 2 ∷ []) $ fjoin ! $ move ! (3 ∷ 0 ∷ []) $ fjoin ! $ move ! (6 ∷ 5 ∷ []) $ fjoin ! $ move ! (6 ∷ 0 ∷ []) $ fjoin ! $
-            move ! (3 ∷ 5 ∷ []) $ drop ! $ drop ! $
+        move ! (3 ∷ 5 ∷ []) $ drop ! $ drop ! $
         -- [the tokens; the inputs; jobs; κ′; _12; …]
         owned ! u64 (Is u64) (uint-makes 𝓤 H A W w64) 0 (vint w64 0 ∷ []) (refl, lit< tt) $
         use1 W (‵ (E .own (replicate mostBranches 0) (arrayVal (replicate mostBranches (vint w64 0)) ∷ [])))
-            (array-repeat 𝓤 H A W u64 (uint-copy 𝓤 H A W w64) mostBranches 0 (vint w64 0)) $
+        (array-repeat 𝓤 H A W u64 (uint-copy 𝓤 H A W w64) mostBranches 0 (vint w64 0)) $
         peeks ! E (Is E) (shows 𝓤 H A E) (replicate mostBranches 0) (arrayVal (replicate mostBranches (vint w64 0)) ∷ []) (λ is.
         assigns ! (rep ! mostBranches (lit ! tt)) (from ! (stop !))
-            (init ! 19 refl (array-lawful 𝓤 H A W u64 (uint-lawful 𝓤 H A W w64) mostBranches .typed (replicate mostBranches 0) _ is .0)) $
+        (init ! 19 refl (array-lawful 𝓤 H A W u64 (uint-lawful 𝓤 H A W w64) mostBranches .typed (replicate mostBranches 0) _ is .0)) $
         lends l₀ l₁ l₂ l₃ l₄ l₅ l₆ l₇ l₈ l₉ l₁₀ l₁₁ l₁₂ room (replicate mostBranches 0) (arrayVal (replicate mostBranches (vint w64 0)))))))))))))))))
 
 module _ {M : Type 1} (𝓤 : URA M) (H : Heap 𝓤) (A : Atoms 𝓤) (W : Given 𝓤 H A) (mem : Memory → SProp 𝓤) (run : Routine → Fun 𝓤) where
@@ -578,13 +581,20 @@ module _ {M : Type 1} (𝓤 : URA M) (H : Heap 𝓤) (A : Atoms 𝓤) (W : Given
       → Walks 𝓤 H A f.ended stayed (WpFn 𝓤 H C Λ code.function) (f.clauses 𝓤 H A mem run)
   run-jobs-walks C Λ fm known-check known-acc known-ans known-all = walked 𝓤 H A f.ended stayed (f.clauses 𝓤 H A mem run) (WpFn 𝓤 H C Λ code.function)
       (λ κs. (slice-vals, (slice-vals, (slice-vals, (slice-vals, tt)))))
-          (λ κs. (shr-slice-tells (named 0) (κs .0) u32,
-          (shr-slice-tells (named 1) (κs .1 .0) u32, (shr-slice-tells (named 2) (κs .1 .1 .0) u32,
-          (mut-slice-tells (named 3) (κs .1 .1 .1 .0) R, tt)))))
+      (λ κs. (
+        shr-slice-tells (named 0) (κs .0) u32,
+        (
+          shr-slice-tells (named 1) (κs .1 .0) u32,
+          (
+            shr-slice-tells (named 2) (κs .1 .1 .0) u32,
+            (mut-slice-tells (named 3) (κs .1 .1 .1 .0) R, tt),
+          ),
+        ),
+      ))
       (λ κs qs bounds a g are. via 𝓤 _ (fst∗ 𝓤 _ (emp 𝓤))
       (let jobs = a .1 .1 .1 .0 in
       walk 𝓤 H A W mem run (κs .0) (κs .1 .0) (κs .1 .1 .0) (κs .1 .1 .1 .0) (qs .0) (qs .1 .0) (qs .1 .1 .0) (qs .1 .1 .1 .0) (a .0) (a .1 .0)
-          (a .1 .1 .0) (jobs .ptr .0) (jobs .ptr .1) (jobs .name) (jobs .now) C Λ fm known-check known-acc known-ans known-all
+      (a .1 .1 .0) (jobs .ptr .0) (jobs .ptr .1) (jobs .name) (jobs .now) C Λ fm known-check known-acc known-ans known-all
       (are .0 .0 .1 .0) (are .1 .0 .0 .1 .0) (are .1 .1 .0 .0 .1 .0) (are .1 .1 .1 .0 .0 .1)))
 
 run-jobs-meets : {M : Type 1} (𝓤 : URA M) (H : Heap 𝓤) (A : Atoms 𝓤) → Given 𝓤 H A → (mem : Memory → SProp 𝓤) (run : Routine → Fun 𝓤) (𝓣 : Tables 𝓤 H)
@@ -592,12 +602,16 @@ run-jobs-meets : {M : Type 1} (𝓤 : URA M) (H : Heap 𝓤) (A : Atoms 𝓤) �
     → Triple 𝓤 (𝓣 .C #answer-of) (Ans 𝓤 H A mem run) → Triple 𝓤 (𝓣 .C #ask-all) (All 𝓤 H A mem run)
     → Meets 𝓤 H A f.signature (WpFn 𝓤 H (𝓣 .C) (𝓣 .Λ) code.function) (f.spec 𝓤 H A mem run)
 run-jobs-meets 𝓤 H A W mem run 𝓣 known-check known-acc known-ans known-all =
-    walk-meets 𝓤 H A f.ended stayed W (goes-none-slice 𝓤 H A W 4 (0 ∷ []) tt (plain (λ _. u32)) yes,
-        (goes-none-slice 𝓤 H A W 4 (1 ∷ []) tt (plain (λ _. u32)) yes,
-        (goes-none-slice 𝓤 H A W 4 (2 ∷ []) tt (plain (λ _. u32)) yes, (goes-gave-slice 𝓤 H A W 4 3 tt (plain (λ _. R)), tt))))
-        (f.clauses 𝓤 H A mem run)
+    walk-meets 𝓤 H A f.ended stayed W (
+      goes-none-slice 𝓤 H A W 4 (0 ∷ []) tt (plain (λ _. u32)) yes,
+      (
+        goes-none-slice 𝓤 H A W 4 (1 ∷ []) tt (plain (λ _. u32)) yes,
+        (goes-none-slice 𝓤 H A W 4 (2 ∷ []) tt (plain (λ _. u32)) yes, (goes-gave-slice 𝓤 H A W 4 3 tt (plain (λ _. R)), tt)),
+      ),
+    )
+    (f.clauses 𝓤 H A mem run)
     (WpFn 𝓤 H (𝓣 .C) (𝓣 .Λ) code.function) (WpFn-mono 𝓤 H (W .laws) 𝓣 code.function)
-        (run-jobs-walks 𝓤 H A W mem run (𝓣 .C) (𝓣 .Λ) (fmOf 𝓤 H (W .laws) 𝓣) known-check known-acc known-ans known-all)
+    (run-jobs-walks 𝓤 H A W mem run (𝓣 .C) (𝓣 .Λ) (fmOf 𝓤 H (W .laws) 𝓣) known-check known-acc known-ans known-all)
 
 pub run-jobs-spec : {M : Type 1} → stated.statement M
 unfolding code.routine tablesOf

@@ -12,6 +12,7 @@ use Rattle.plannotes.specs.declared.Noted.{Noted}
 use Rattle.answer.specs.Run.{Ascends}
 use Rattle.answer.specs.Jobs.{Asked}
 use Rattle.answer.specs.declared.Job.{Job}
+use Rattle.limits.specs.Limits.{mostRows}
 
 abbrev pub isAccepted : PlanAnswer → Bool
 isAccepted (plan-answer.Accepted n) = true
@@ -23,7 +24,7 @@ AskedBy numbers noted cells j j′ = (table plan before : List ℕ) → NotedInt
 
 -- the first n of 64 bytes are numbers of rows, from the top down
 pub record Hits (room : List ℕ) (n : ℕ) : Type 0 where
-  pub size : length room ≡ 64
-  pub few : n ≤ 64
+  pub size : length room ≡ mostRows
+  pub few : n ≤ mostRows
   pub ascends : Ascends 0 (take n room)
-  pub low : All (λ x. x < 64) (take n room)
+  pub low : All (λ x. x < mostRows) (take n room)

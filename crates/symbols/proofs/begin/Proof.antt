@@ -18,7 +18,7 @@ enum-known-e c = search needs
 add-at : tie.Need-add-at
 add-at c =
     let h = head-is (c .before .before .before .before .before .args .text .now) 0 true (c .before .before .before .next-fact .ensures)
-        (c .before .e .given .1) in
+    (c .before .e .given .1) in
     search needs
 
 enum-told : tie.Need-enum-told

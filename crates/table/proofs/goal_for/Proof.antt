@@ -44,8 +44,8 @@ refusal-requires-2 c κs = search needs
 returns-2 : tie.Need-returns-2
 returns-2 c =
     ap turned (c .refusal2 .ensures) ∙ sym (ap (goalSays _)
-        (goal-extra _ _ (fine-length (c .before .before .before .before .before .before .before)) (whole (c .before .before .before .before))
-        (omega arith)))
+    (goal-extra _ _ (fine-length (c .before .before .before .before .before .before .before)) (whole (c .before .before .before .before))
+    (omega arith)))
 
 enum-known-f : tie.Need-enum-known-f
 enum-known-f c = search needs
@@ -53,12 +53,12 @@ enum-known-f c = search needs
 returns-3 : tie.Need-returns-3
 returns-3 c =
     sym (ap (goalSays _) (goal-whole _ _ (fine-length (c .before .before .before .before .before .before)) (whole (c .before .before .before))
-        (omega arith)))
+    (omega arith)))
 
 returns-4 : tie.Need-returns-4
 returns-4 c =
     sym (ap (goalSays _) (goal-turned _ _ (fine-length (c .before .before .before .before)) (sym (c .before .before .before .read-terms .ensures .0)
-        ∙ ap termsTold (c .before .f .given .1))))
+    ∙ ap termsTold (c .before .f .given .1))))
 
 pub goal-for-spec : {M : Type 1} → statement M
 goal-for-spec =

@@ -20,13 +20,13 @@ enum-known-answer-2 c = search needs
 returns : tie.Need-returns
 returns c =
     let r = says-read (tableOf (c .before .before .before .before .before .before .before .args .table .now))
-        (ap tableTold (sym (c .before .before .answer .given .1)) ∙ c .before .before .before .before .read-table .ensures .answer) in
+    (ap tableTold (sym (c .before .before .answer .given .1)) ∙ c .before .before .before .before .read-table .ensures .answer) in
     rw (r .1, r .2) (c .goal-for .ensures)
 
 returns-2 : tie.Need-returns-2
 returns-2 c =
     rw (says-turned (tableOf (c .before .before .before .before .before .before .args .table .now)) (ap tableTold (sym (c .before .answer2 .given .1))
-        ∙ c .before .before .before .read-table .ensures .answer))
+    ∙ c .before .before .before .read-table .ensures .answer))
 
 pub read-goal-spec : {M : Type 1} → statement M
 read-goal-spec =

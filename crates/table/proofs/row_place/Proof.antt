@@ -15,7 +15,7 @@ accepted : (c : tie.After-answer) → (T : Table) × (tableOf (c .before .before
     × (T .width ≡ c .answer .given .0 .0) × (length (T .rows) ≡ c .answer .given .0 .1 .0)
 accepted c =
     says-read (tableOf (c .before .before .before .before .before .args .cells .now)) (ap tableTold (sym (c .answer .given .1))
-        ∙ c .before .before .before .read-table .ensures .answer)
+    ∙ c .before .before .before .read-table .ensures .answer)
 
 small : (c : tie.After-answer) → c .answer .given .0 .1 .0 ≤ 64
 small c = let k = accepted c in omega (arith, k .3, is-table (c .before .before .before .before .before .args .cells .now) (k .1) .count .1)

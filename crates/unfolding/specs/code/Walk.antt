@@ -11,7 +11,7 @@ use Rattle.plan.specs.Plans.{Plan, leaf, node, write}
 use Rattle.answer.specs.Skeleton.{hole, fill}
 use Rattle.clauses.specs.code.Walk.{splits}
 use Rattle.unfolding.specs.declared.past.Past.{Past}
-use Rattle.limits.specs.Limits.{mostPlanCells}
+use Rattle.limits.specs.Limits.{mostPlanCells, mostRowCells}
 
 -- A state with so many open places stands at this place of the plan. The last two bound the numbers: each branch takes a cell of the plan
 -- and opens at most 4 places
@@ -39,4 +39,4 @@ goesOn (node {rows = rows} i h bs) = eqb (length (runs i rows)) 1
 pub record Fills (k : ℕ) (K x : List ℕ) : Type 0 where
   pub terms : Terms k x
   pub symbols : ¬ List·Memᴰ hole x
-  pub short : length (fill K x) ≤ 32
+  pub short : length (fill K x) ≤ mostRowCells

@@ -123,7 +123,7 @@ cast-loop c = record {
     c .loop .inv .4,
     found-most (flagsIn (c .loop .opens) (c .loop .named))
         (rowsIn (call c .args .table .now) (call c .args .starts .now) (c .loop .masks) (call c .args .rows .first) (call c .args .rows .end))
-            (c .loop .opens) 0,
+        (c .loop .opens) 0,
   );
 }
 
@@ -227,7 +227,7 @@ loop-again c =
     let r = z .before .again .result in
     let from-is = again-from gs rows k′ g
     (taking-from (reached l) (l .loop .i) (l .loop .inv .4) (k .before .before .before .before .before .loop-test .taken) m _ (y .arity-of .result)
-        (z .spread .result) (cell-here k) (d .rows) (d .masks)
+    (z .spread .result) (cell-here k) (d .rows) (d .masks)
     (y .arity-of .ensures) (z .spread .ensures)) in (
       λ hs kept q. below k hs kept q (y .arity-of .result) (z .spread .result) (y .arity-of .ensures) (z .spread .ensures),
       ahead,

@@ -56,15 +56,36 @@ abbrev state-below : ℕ → In 5 state-kinds.ps
 state-below t = and 5 state-kinds.ps (falls 5 state-kinds.ps _<_ μ-state t) state.Pre
 
 abbrev branches-with : ℕ → branches-lts.Claims
-branches-with t =
-    (refusal-reads.Asked, refusal-reads.Learnt, run-length-reads.Asked, run-length-reads.Learnt, arity-of-reads.Asked, arity-of-reads.Learnt,
-        spread-reads.Asked, spread-reads.Learnt, state-below t, state.Post)
+branches-with t = (
+  refusal-reads.Asked,
+  refusal-reads.Learnt,
+  run-length-reads.Asked,
+  run-length-reads.Learnt,
+  arity-of-reads.Asked,
+  arity-of-reads.Learnt,
+  spread-reads.Asked,
+  spread-reads.Learnt,
+  state-below t,
+  state.Post,
+)
 
 abbrev state-with : ℕ → state-lts.Claims
-state-with t =
-    (alone-reads.Asked, alone-reads.Learnt, leaf-reads.Asked, leaf-reads.Learnt, refusal-reads.Asked, refusal-reads.Learnt, may-reads.Asked,
-        may-reads.Learnt, close-rows-reads.Asked, close-rows-reads.Learnt, run-count-reads.Asked, run-count-reads.Learnt, branches-below t,
-        branches.Post)
+state-with t = (
+  alone-reads.Asked,
+  alone-reads.Learnt,
+  leaf-reads.Asked,
+  leaf-reads.Learnt,
+  refusal-reads.Asked,
+  refusal-reads.Learnt,
+  may-reads.Asked,
+  may-reads.Learnt,
+  close-rows-reads.Asked,
+  close-rows-reads.Learnt,
+  run-count-reads.Asked,
+  run-count-reads.Learnt,
+  branches-below t,
+  branches.Post,
+)
 
 abbrev branches-Inv-loop : branches-lts.InvT-loop
 branches-Inv-loop table starts masks₀ column₀ plan first end named i k at row₀ place₀ count₀ masks column row place count =
@@ -90,8 +111,8 @@ turn : (t : ℕ) (c : At-run t) → let l = turn-at t c .loop in let a = call-at
     (l .masks) (l .column) (l .row) (l .place) (l .count) (c .run-length .result)
 turn t c =
     turn-of (c .run-length .result) (c .before .before .before .before .before .before .before .before .before .loop .inv)
-        (c .before .before .before .before .before .before .before .before .loop-test .taken)
-        (c .before .before .before .before .before .before .before .if1 .left) (c .before .before .before .before .if2 .left) (c .run-length .ensures)
+    (c .before .before .before .before .before .before .before .before .loop-test .taken)
+    (c .before .before .before .before .before .before .before .if1 .left) (c .before .before .before .before .if2 .left) (c .run-length .ensures)
 
 -- the flags below the branch: `spread`'s, which are none where none stand
 abbrev At-flags : ℕ → Type 0
@@ -141,7 +162,7 @@ branches-refusal-requires-2 t c κs = search needs
 branches-returns-2 : (t : ℕ) → branches-lts.Need-returns-2 (branches-with t) (branches-at t) branches.Post branches-Inv-loop branches-μ-loop
 branches-returns-2 t c =
     going-label (c .before .before .before .before .before .before .loop .inv) (c .before .before .before .before .before .loop-test .taken)
-        (c .before .before .before .before .if1 .left) (c .before .if2 .taken) (c .refusal2 .ensures)
+    (c .before .before .before .before .if1 .left) (c .before .if2 .taken) (c .refusal2 .ensures)
 
 branches-mul-run-length : (t : ℕ) → branches-lts.Need-mul-run-length (branches-with t) (branches-at t) branches.Post branches-Inv-loop branches-μ-loop
 branches-mul-run-length t c = search needs
@@ -184,8 +205,13 @@ branches-enum-known-below t c = search needs
 
 branches-add-count : (t : ℕ) → branches-lts.Need-add-count (branches-with t) (branches-at t) branches.Post branches-Inv-loop branches-μ-loop
 branches-add-count t c =
-    record { fits = omega (arith, turn-next (turn t (c .before .before .before .before .before .before .before .before))
-        (below t (c .before .before .before)) (c .before .below .given .1)) }
+    record {
+      fits = omega (
+        arith,
+        turn-next (turn t (c .before .before .before .before .before .before .before .before))
+            (below t (c .before .before .before)) (c .before .below .given .1),
+      );
+    }
 
 branches-add-count-2 : (t : ℕ) → branches-lts.Need-add-count-2 (branches-with t) (branches-at t) branches.Post branches-Inv-loop branches-μ-loop
 branches-add-count-2 t c =
@@ -198,7 +224,7 @@ branches-enum-known-f t c = search needs
 branches-returns-3 : (t : ℕ) → branches-lts.Need-returns-3 (branches-with t) (branches-at t) branches.Post branches-Inv-loop branches-μ-loop
 branches-returns-3 t c =
     turn-refused (turn t (c .before .before .before .before .before .before .before .before)) (below t (c .before .before .before))
-        (c .before .f .given .1)
+    (c .before .f .given .1)
 
 branches-add-row : (t : ℕ) → branches-lts.Need-add-row (branches-with t) (branches-at t) branches.Post branches-Inv-loop branches-μ-loop
 branches-add-row t c = record { fits = omega (arith, ready-below (turn t (c .before .before .before .before .before .before .before .before)) .room .few) }
@@ -209,7 +235,7 @@ branches-loop-less t c = omega (arith, turn t (c .before .before .before .before
 branches-loop-again : (t : ℕ) → branches-lts.Need-loop-again (branches-with t) (branches-at t) branches.Post branches-Inv-loop branches-μ-loop
 branches-loop-again t c =
     turn-on (turn t (c .before .before .before .before .before .before .before .before)) (below t (c .before .before .before))
-        (c .before .below .given .1)
+    (c .before .below .given .1)
 
 branches-returns-4 : (t : ℕ) → branches-lts.Need-returns-4 (branches-with t) (branches-at t) branches.Post branches-Inv-loop branches-μ-loop
 branches-returns-4 t c = going-done (c .before .loop .inv) (c .loop-test .left)
@@ -248,7 +274,7 @@ state-alone-requires t c κs = fits-alone (c .before .before .before .before .be
 state-returns : (t : ℕ) → state-lts.Need-returns (state-with t) (state-at t) state.Post
 state-returns t c =
     done-alone (c .before .before .before .before .before .before .before .pre .1) (c .before .before .before .before .if1 .taken)
-        (eqb-true _ 0 (c .before .before .before .if2 .taken)) (c .alone .ensures)
+    (eqb-true _ 0 (c .before .before .before .if2 .taken)) (c .alone .ensures)
 
 state-leaf-requires : (t : ℕ) → state-lts.Need-leaf-requires (state-with t) (state-at t) state.Post
 state-leaf-requires t c κs = search needs
@@ -277,7 +303,7 @@ state-refusal-requires-2 t c κs = search needs
 state-returns-4 : (t : ℕ) → state-lts.Need-returns-4 (state-with t) (state-at t) state.Post
 state-returns-4 t c =
     done-open (c .before .before .before .before .before .before .before .before .pre .1) (omega arith) (omega arith) (c .before .if5 .taken)
-        (c .refusal2 .ensures)
+    (c .refusal2 .ensures)
 
 state-may-requires : (t : ℕ) → state-lts.Need-may-requires (state-with t) (state-at t) state.Post
 state-may-requires t c κs = search needs
@@ -289,7 +315,7 @@ state-returns-5 : (t : ℕ) → state-lts.Need-returns-5 (state-with t) (state-a
 state-returns-5 t c =
     let m = c .before .before in
     done-early (m .before .before .before .before .before .before .before .before .pre .1) (omega arith) (omega arith) (omega arith)
-        (sym (m .may .ensures) ∙ not-true _ (c .before .if6 .taken)) (c .refusal3 .ensures)
+    (sym (m .may .ensures) ∙ not-true _ (c .before .if6 .taken)) (c .refusal3 .ensures)
 
 state-add-next : (t : ℕ) → state-lts.Need-add-next (state-with t) (state-at t) state.Post
 state-add-next t c = search needs
@@ -301,7 +327,7 @@ state-returns-6 : (t : ℕ) → state-lts.Need-returns-6 (state-with t) (state-a
 state-returns-6 t c =
     let r = c .before .before in
     done-ends-2 (asked t r .pre .1) (omega arith) (omega arith) (chosen t r) (r .close-rows .ensures) (omega arith) (c .before .if7 .taken)
-        (c .refusal4 .ensures)
+    (c .refusal4 .ensures)
 
 state-close-rows-requires : (t : ℕ) → state-lts.Need-close-rows-requires (state-with t) (state-at t) state.Post
 state-close-rows-requires t c κs = search needs
@@ -314,9 +340,14 @@ state-shared-slice-read-if8 t c = search needs
 
 state-cast-if8 : (t : ℕ) → state-lts.Need-cast-if8 (state-with t) (state-at t) state.Post
 state-cast-if8 t c =
-    record { fits = omega (arith, c .shared-slice-known4 .given
-        (c .before .before .before .before .before .before .before .before .before .before .before .before .before .before .before .before .args .at +
-        1)) }
+    record {
+      fits = omega (
+        arith,
+        c .shared-slice-known4 .given
+            (c .before .before .before .before .before .before .before .before .before .before .before .before .before .before .before .before .args .at +
+            1),
+      );
+    }
 
 state-mul-run-count : (t : ℕ) → state-lts.Need-mul-run-count (state-with t) (state-at t) state.Post
 state-mul-run-count t c = search needs
@@ -341,7 +372,7 @@ state-returns-7 t c =
     let n = c .before .before in
     let r = closed t n in
     done-edges (asked t r .pre .1) (omega arith) (omega arith) (chosen t r) (r .close-rows .ensures) (n .run-count .result) (omega arith)
-        (n .run-count .ensures) (c .before .if8 .taken) (c .refusal5 .ensures)
+    (n .run-count .ensures) (c .before .if8 .taken) (c .refusal5 .ensures)
 
 state-sub-branches : (t : ℕ) → state-lts.Need-sub-branches (state-with t) (state-at t) state.Post
 state-sub-branches t c = search needs
@@ -361,7 +392,7 @@ state-returns-8 t c =
     let n = c .before .before .before .before in
     let r = closed t n in
     done-node (asked t r .pre .1) (omega arith) (omega arith) (chosen t r) (r .close-rows .ensures) (n .run-count .result) (omega arith)
-        (n .run-count .ensures) (c .before .before .before .if8 .left) (c .branches .ensures)
+    (n .run-count .ensures) (c .before .before .before .if8 .left) (c .branches .ensures)
 
 pub +branches+state-spec : {M : Type 1} → statement M
 +branches+state-spec = close μ-branches μ-state (λ t. branches-lts.spec (branches-with t) (branches-at t)

@@ -48,7 +48,7 @@ refusal-requires-3 c κs = search needs
 returns-3 : tie.Need-returns-3 Inv-loop μ-loop
 returns-3 c =
     chain-ends-2 (c .before .before .before .before .before .before .loop .inv) (omega arith) (omega arith) (omega arith) (c .before .if3 .taken)
-        (c .refusal3 .ensures)
+    (c .refusal3 .ensures)
 
 mul-if4 : tie.Need-mul-if4 Inv-loop μ-loop
 mul-if4 c = search needs
@@ -62,7 +62,7 @@ refusal-requires-4 c κs = search needs
 returns-4 : tie.Need-returns-4 Inv-loop μ-loop
 returns-4 c =
     chain-edges (c .before .before .before .before .before .before .before .before .loop .inv) (omega arith) (omega arith) (omega arith)
-        (c .before .if4 .taken) (c .refusal4 .ensures)
+    (c .before .if4 .taken) (c .refusal4 .ensures)
 
 add-third : tie.Need-add-third Inv-loop μ-loop
 add-third c = search needs
@@ -73,7 +73,7 @@ refusal-requires-5 c κs = search needs
 returns-5 : tie.Need-returns-5 Inv-loop μ-loop
 returns-5 c =
     chain-ends-3 (c .before .before .before .before .before .before .before .before .before .loop .inv) (omega arith) (omega arith) (omega arith)
-        (c .before .before .if4 .left) (c .before .if5 .taken) (c .refusal5 .ensures)
+    (c .before .before .if4 .left) (c .before .if5 .taken) (c .refusal5 .ensures)
 
 close-at-requires : tie.Need-close-at-requires Inv-loop μ-loop
 close-at-requires c κs = search needs
@@ -90,8 +90,8 @@ refusal-requires-6 c κs = search needs
 returns-6 : tie.Need-returns-6 Inv-loop μ-loop
 returns-6 c =
     chain-label (c .before .before .before .before .before .before .before .before .before .before .before .before .loop .inv) (omega arith)
-        (omega arith) (omega arith) (c .before .before .before .before .before .if4 .left) (c .before .before .before .close-at .ensures)
-        (omega arith) (c .before .if6 .taken) (c .refusal6 .ensures)
+    (omega arith) (omega arith) (c .before .before .before .before .before .if4 .left) (c .before .before .before .close-at .ensures)
+    (omega arith) (c .before .if6 .taken) (c .refusal6 .ensures)
 
 arity-of-requires : tie.Need-arity-of-requires Inv-loop μ-loop
 arity-of-requires c κs = search needs
@@ -101,8 +101,15 @@ sub-owed c = search needs
 
 add-owed : tie.Need-add-owed Inv-loop μ-loop
 add-owed c =
-    record { fits = omega (arith, few-owed (c .before .before .before .before .before .before .before .before .before .before .before .before .loop
-        .inv), arity-small (c .before .before .before .close-at .result .cell), c .arity-of .ensures) }
+    record {
+      fits = omega (
+        arith,
+        few-owed (c .before .before .before .before .before .before .before .before .before .before .before .before .loop
+            .inv),
+        arity-small (c .before .before .before .close-at .result .cell),
+        c .arity-of .ensures,
+      );
+    }
 
 add-place : tie.Need-add-place Inv-loop μ-loop
 add-place c = search needs
@@ -113,14 +120,14 @@ add-count c = search needs
 loop-less : tie.Need-loop-less Inv-loop μ-loop
 loop-less c =
     chain-less (c .before .before .before .before .before .before .before .before .before .before .before .before .loop .inv) (omega arith)
-        (omega arith) (omega arith) (c .before .before .before .before .before .if4 .left) (c .before .before .before .close-at .ensures)
-        (omega arith)
+    (omega arith) (omega arith) (c .before .before .before .before .before .if4 .left) (c .before .before .before .close-at .ensures)
+    (omega arith)
 
 loop-again : tie.Need-loop-again Inv-loop μ-loop
 loop-again c =
     rw (c .arity-of .ensures) (chain-on (c .before .before .before .before .before .before .before .before .before .before .before .before .loop .inv)
-        (omega arith) (omega arith) (omega arith) (c .before .before .before .before .before .if4 .left)
-        (c .before .before .before .close-at .ensures) (omega arith) (c .before .if6 .left))
+    (omega arith) (omega arith) (omega arith) (c .before .before .before .before .before .if4 .left)
+    (c .before .before .before .close-at .ensures) (omega arith) (c .before .if6 .left))
 
 leaf-requires : tie.Need-leaf-requires Inv-loop μ-loop
 leaf-requires c κs = search needs

@@ -21,13 +21,16 @@ returns-2 : tie.Need-returns-2
 unfolding isWord
 returns-2 c =
     rw (sym (c .before .before .before .is-lower .ensures) ∙ c .before .before .if1 .left, sym (c .before .is-upper .ensures) ∙ c .if2 .taken)
-        (c .if2 .taken)
+    (c .if2 .taken)
 
 returns-3 : tie.Need-returns-3
 unfolding isWord
 returns-3 c =
-    rw (sym (c .before .before .before .before .is-lower .ensures) ∙ c .before .before .before .if1 .left, sym (c .before .before .is-upper .ensures)
-        ∙ c .before .if2 .left) (c .is-digit .ensures)
+    rw (
+      sym (c .before .before .before .before .is-lower .ensures) ∙ c .before .before .before .if1 .left,
+      sym (c .before .before .is-upper .ensures)
+          ∙ c .before .if2 .left,
+    ) (c .is-digit .ensures)
 
 pub is-word-spec : {M : Type 1} → statement M
 is-word-spec =

@@ -115,7 +115,7 @@ loop-again c =
       l,
       λ w.
           sym (on-go t i (omega arith) (digits (a .minus) v) (digits (a .minus) (10 * v + (getD t i 0 - 48))) w w
-              (in-digits (a .minus) v w i (getD t i 0) d (omega (arith, e, l)))
+          (in-digits (a .minus) v w i (getD t i 0) d (omega (arith, e, l)))
           ∙ ap (λ (x : ℕ). run (drop (i + 1) t) (digits (a .minus) x) w (i + 1)) e)
           ∙ o .loop .inv .3 w,
       sym (number-digit t i (a .minus) v (omega arith) d e l) ∙ o .loop .inv .4,

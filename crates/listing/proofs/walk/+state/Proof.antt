@@ -66,7 +66,7 @@ abbrev μ-loop : state-lts.MeasureT-loop
 -- where a state has an open place, its first two cells are inside the plan
 inner : (t : ℕ) (c : state-lts.Else1 (with t) (state-at t) state.Post Inv-loop μ-loop)
     → (c .before .before .before .args .from .at + 1 < length (c .before .before .before .args .plan .now))
-        × (length (c .before .before .before .args .plan .now) ≤ mostPlanCells)
+    × (length (c .before .before .before .args .plan .now) ≤ mostPlanCells)
 inner t c = let w = c .before .before .before .pre .1 in (enters-inside w (omega arith), w .size)
 
 -- where a branch is left
@@ -106,7 +106,7 @@ module _ (t : ℕ) (c : state-lts.After-wide (with t) (state-at t) state.Post In
   after-read =
       let a = c .before .before .before in
       a .row-after .ensures ∙ ap (λ (s : ℕ). cond (eqb (stands .before .loop .left) 1) (entry t stands .args .stop)
-          (rowNoted (getD (noted t stands) (number t stands + 1 + s) 0)))
+      (rowNoted (getD (noted t stands) (number t stands + 1 + s) 0)))
       (a .before .skip-of .ensures)
 
 -- with its number of arguments

@@ -55,7 +55,7 @@ loop-again c =
       omega (arith, i .before .loop .inv .0),
       λ t. rw (add-one (i .before .loop .last))
           (filled-after t (c .before .before .pairs-to .ensures
-              (last-at t (i .loop-test .taken) (e .row-end .ensures) (i .before .loop .inv .0) (i .before .loop .inv .1 t)))),
+          (last-at t (i .loop-test .taken) (e .row-end .ensures) (i .before .loop .inv .0) (i .before .loop .inv .1 t)))),
     )
 
 same-length : tie.Need-same-length Inv-loop μ-loop

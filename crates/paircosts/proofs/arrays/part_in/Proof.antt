@@ -35,9 +35,9 @@ module _ (c : tie.After-after Inv-loop μ-loop) where
       let x = turn .before .loop .inv g in
       ⊎-elim
       (λ u. part-open g (turn .loop-test .taken) x (n .result) (n .ensures) (w .with-closed .result) (w .with-closed .ensures) (c .after .result)
-          (c .after .ensures) (u .0 .taken) (c .before .if1 .only) (u .1))
+      (c .after .ensures) (u .0 .taken) (c .before .if1 .only) (u .1))
       (λ u. part-closed g (turn .loop-test .taken) x (n .result) (n .ensures) (w .with-closed .result) (w .with-closed .ensures) (c .after .result)
-          (c .after .ensures) (u .0 .left) (c .before .if1 .only) (u .1))
+      (c .after .ensures) (u .0 .left) (c .before .if1 .only) (u .1))
       (c .before .if1 .came)
 
 note-at-requires : tie.Need-note-at-requires Inv-loop μ-loop

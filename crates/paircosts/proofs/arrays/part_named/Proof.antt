@@ -48,7 +48,7 @@ loop-again c = λ g.
     let e = c .before .end-in in
     ⊎-elim
     (λ w. part-read g h x (e .result) (e .ensures) (w .0 .taken) (c .if1 .part)
-        (rw (w .2) (w .1 .ensures (part-column g h x (e .result) (e .ensures) (w .0 .taken)))))
+    (rw (w .2) (w .1 .ensures (part-column g h x (e .result) (e .ensures) (w .0 .taken)))))
     (λ w. part-passed g h x (e .result) (e .ensures) (w .0 .left) (c .if1 .part) (w .1))
     (c .if1 .came))
 

@@ -37,7 +37,7 @@ returns : tie.Need-returns
 returns c = λ w.
     let k = c .before .before .before .before in
     begun w (c .before .before .before .arity-of .ensures) (c .before .close .ensures) _
-        (omega (arith, k .shared-slice-known2 .given (k .before .before .before .args .place))) (c .part .ensures)
+    (omega (arith, k .shared-slice-known2 .given (k .before .before .before .args .place))) (c .part .ensures)
 
 pub begin-spec : {M : Type 1} → statement M
 begin-spec =

@@ -90,7 +90,7 @@ loop-again c =
     let k = c .before .before .before in
     let v = kind-var _ (k .kind .result) (k .kind .ensures) (omega (arith, c .before .before .match .keys1)) in
     finish-variable (asked k) (turn k .loop .inv) (omega arith) (k .before .cell-of .ensures) v (ends k .end .ensures) (c .meet .ensures .0)
-        (c .meet .ensures .1)
+    (c .meet .ensures .1)
 
 add-notes-3 : tie.Need-add-notes-3 Inv-loop μ-loop
 add-notes-3 c =

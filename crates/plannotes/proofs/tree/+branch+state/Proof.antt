@@ -40,9 +40,16 @@ abbrev state-below : ℕ → In 3 state-kinds.ps
 state-below t = and 3 state-kinds.ps (falls 3 state-kinds.ps _<_ μ-state t) state.Pre
 
 abbrev branch-with : ℕ → branch-lts.Claims
-branch-with t =
-    (begin-reads.Asked, begin-reads.Learnt, follow-reads.Asked, follow-reads.Learnt, state-below t, state.Post, finish-reads.Asked,
-        finish-reads.Learnt)
+branch-with t = (
+  begin-reads.Asked,
+  begin-reads.Learnt,
+  follow-reads.Asked,
+  follow-reads.Learnt,
+  state-below t,
+  state.Post,
+  finish-reads.Asked,
+  finish-reads.Learnt,
+)
 
 abbrev state-with : ℕ → state-lts.Claims
 state-with t = (branch-below t, branch.Post)

@@ -41,8 +41,11 @@ hop-requires c κs =
 cast-sib : tie.Need-cast-sib Inv-loop μ-loop
 cast-sib c =
     let b = c .before .before .before .before .before in
-    omega (arith, hop-small (b .before .before .before .pre) (b .loop .inv) (b .loop .p - 1) (c .hop .result) (omega arith) (c .hop .ensures
-        ∙ rw (c .before .before .arity-of .ensures)))
+    omega (
+      arith,
+      hop-small (b .before .before .before .pre) (b .loop .inv) (b .loop .p - 1) (c .hop .result) (omega arith) (c .hop .ensures
+          ∙ rw (c .before .before .arity-of .ensures)),
+    )
 
 array-write-sib : tie.Need-array-write-sib Inv-loop μ-loop
 array-write-sib c = let b = c .before .before .before .before .before in omega (arith, b .loop .inv .reach, b .before .before .before .pre .few)
@@ -54,7 +57,7 @@ loop-again : tie.Need-loop-again Inv-loop μ-loop
 loop-again c =
     let b = c .before .before .before .before .before in
     step-done (b .before .before .before .pre) (b .loop .inv) (b .loop .p - 1) (c .hop .result) (omega arith) (c .hop .ensures
-        ∙ rw (c .before .before .arity-of .ensures))
+    ∙ rw (c .before .before .arity-of .ensures))
 
 returns : tie.Need-returns Inv-loop μ-loop
 returns c = let D = c .before .loop .inv in record { places = λ p h. D .places p (omega arith) h; numbers = D .numbers }

@@ -36,7 +36,7 @@ returns c =
     let i = c .before .before .before .before .before .before .before .before in
     let a = i .before .before .args in
     let l : a .i < getD (a .until .now) (a .v) 0 =
-        omega (arith, c .before .before .before .before .if3 .taken, c .before .before .before .before .before .wide16 .ensures) in
+    omega (arith, c .before .before .before .before .if3 .taken, c .before .before .before .before .before .wide16 .ensures) in
     rw (c .wide .ensures) (same (kind-symbol (a .c) (i .before .kind .result) (i .before .kind .ensures) (i .if1 .left)) l (c .before .before .if4 .taken))
 
 returns-2 : tie.Need-returns-2

@@ -87,7 +87,7 @@ returns c =
     let s = k .before .before .before .before .before .before in
     let n = k .before .before .before .next-turn in
     comma-fact (s .args .text .now) (s .args .dones .now) (s .args .sp) (s .pre) (n .ensures) (k .before .p .given .1) (c .spot-at5 .ensures)
-        (c .before .if1 .taken)
+    (c .before .if1 .taken)
 
 sub-top : tie.Need-sub-top
 sub-top c = search needs
@@ -104,7 +104,7 @@ returns-2 c =
     let s = k .before .before .before .before .before .before in
     let n = k .before .before .before .next-turn in
     comma-full (s .args .text .now) (s .args .dones .now) (s .args .sp) (s .pre) (n .ensures) (k .before .p .given .1)
-        (c .before .before .before .if1 .left) (omega (arith, c .before .level .ensures .0, c .if2 .taken))
+    (c .before .before .before .if1 .left) (omega (arith, c .before .level .ensures .0, c .if2 .taken))
 
 add-put-level : tie.Need-add-put-level
 add-put-level c = search needs
@@ -175,7 +175,7 @@ returns-5 c =
     let n = k .before .before .before .next-turn in
     λ F U.
     subst (λ (dones : List ℕ). Moved F (s .args .text .now) dones (s .args .sp) (move.Go (c .spot-at2 .result)))
-        (sym (c .before .before .before .put-level .ensures))
+    (sym (c .before .before .before .put-level .ensures))
     (open-moves (s .args .text .now) (s .args .dones .now) (s .args .sp) (s .pre) (n .ensures) (c .spot-at2 .ensures) (k .before .e2 .given .1) F U)
 
 returns-6 : tie.Need-returns-6
@@ -205,8 +205,8 @@ returns-8 c =
     λ F U.
     subst (λ (dones : List ℕ). Moved F (s .args .text .now) dones (s .args .sp) (move.Go (c .spot-at6 .result))) (sym e)
     (comma-inside (s .args .text .now) (s .args .dones .now) (s .args .sp) (s .pre) (n .ensures) (k .before .p .given .1) (c .spot-at6 .ensures)
-        (c .before .before .before .before .before .before .before .before .if1 .left)
-        (omega (arith, l, c .before .before .before .before .before .if2 .left)) F U)
+    (c .before .before .before .before .before .before .before .before .if1 .left)
+    (omega (arith, l, c .before .before .before .before .before .if2 .left)) F U)
 
 returns-9 : tie.Need-returns-9
 returns-9 c =
@@ -214,7 +214,7 @@ returns-9 c =
     let s = k .before .before .before .before .before .before in
     let n = k .before .before .before .next-turn in
     close-inside (s .args .text .now) (s .args .dones .now) (s .args .sp) (s .pre) (n .ensures) (k .before .p2 .given .1) (c .spot-at7 .ensures)
-        (c .before .if3 .left)
+    (c .before .if3 .left)
 
 returns-10 : tie.Need-returns-10
 returns-10 c =

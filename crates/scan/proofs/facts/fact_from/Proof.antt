@@ -47,10 +47,10 @@ add-t23 : tie.Need-add-t23
 add-t23 c =
     let a = c .before .before .before .before .before .before .before .before .before .before .before .before .before .before .before .before .before .args in
     let l = last-small (a .text .now) (a .at) (a .first)
-        (c .before .before .before .before .before .before .before .before .before .before .before .before .before .before .next-fact .ensures)
-        (c .before .before .before .before .before .before .before .before .before .before .before .before .start .given .1)
-        (c .before .before .before .before .before .before .before .before .before .read-arguments .ensures)
-        (c .before .before .before .before .before .q .given .1) (omega arith) in
+    (c .before .before .before .before .before .before .before .before .before .before .before .before .before .before .next-fact .ensures)
+    (c .before .before .before .before .before .before .before .before .before .before .before .before .start .given .1)
+    (c .before .before .before .before .before .before .before .before .before .read-arguments .ensures)
+    (c .before .before .before .before .before .q .given .1) (omega arith) in
     search needs
 
 returns : tie.Need-returns
@@ -70,9 +70,9 @@ returns-3 : tie.Need-returns-3
 returns-3 c =
     let a = c .before .before .before .before .before .before .before .before .before .before .before .before .before .args in
     no-arguments (a .text .now) (a .at) (a .first)
-        (c .before .before .before .before .before .before .before .before .before .before .next-fact .ensures)
-        (c .before .before .before .before .before .before .before .before .start .given .1)
-        (c .before .before .before .before .before .read-arguments .ensures) (c .before .p2 .given .1)
+    (c .before .before .before .before .before .before .before .before .before .before .next-fact .ensures)
+    (c .before .before .before .before .before .before .before .before .start .given .1)
+    (c .before .before .before .before .before .read-arguments .ensures) (c .before .p2 .given .1)
 
 same-length-2 : tie.Need-same-length-2
 same-length-2 c = search needs
@@ -81,9 +81,9 @@ returns-4 : tie.Need-returns-4
 returns-4 c =
     let a = c .before .before .before .before .before .before .before .before .before .before .before .before .before .before .before .before .before .args in
     no-end (a .text .now) (a .at) (a .first) (c .before .before .before .before .before .before .before .before .before .before .before .before
-        .before .before .next-fact .ensures) (c .before .before .before .before .before .before .before .before .before .before .before .before .start
-        .given .1) (c .before .before .before .before .before .before .before .before .before .read-arguments .ensures)
-        (c .before .before .before .before .before .q .given .1) (c .before .before .before .fact-end .ensures) (c .before .p3 .given .1)
+    .before .before .next-fact .ensures) (c .before .before .before .before .before .before .before .before .before .before .before .before .start
+    .given .1) (c .before .before .before .before .before .before .before .before .before .read-arguments .ensures)
+    (c .before .before .before .before .before .q .given .1) (c .before .before .before .fact-end .ensures) (c .before .p3 .given .1)
 
 same-length-3 : tie.Need-same-length-3
 same-length-3 c = search needs
@@ -92,9 +92,9 @@ returns-5 : tie.Need-returns-5
 returns-5 c =
     let a = c .before .before .before .before .before .before .before .before .before .before .before .before .before .before .before .before .before .args in
     fact-fits (a .text .now) (a .at) (a .first) (c .before .before .before .before .before .before .before .before .before .before .before .before
-        .before .before .next-fact .ensures) (c .before .before .before .before .before .before .before .before .before .before .before .before .start
-        .given .1) (c .before .before .before .before .before .before .before .before .before .read-arguments .ensures)
-        (c .before .before .before .before .before .q .given .1) (c .before .before .before .fact-end .ensures) (c .before .next .given .1)
+    .before .before .next-fact .ensures) (c .before .before .before .before .before .before .before .before .before .before .before .before .start
+    .given .1) (c .before .before .before .before .before .before .before .before .before .read-arguments .ensures)
+    (c .before .before .before .before .before .q .given .1) (c .before .before .before .fact-end .ensures) (c .before .next .given .1)
 
 pub fact-from-spec : {M : Type 1} → statement M
 fact-from-spec =

@@ -56,7 +56,7 @@ loop-again c =
       omega (arith, c .plus .ensures),
       λ table plan before h. (let o = l .inv .2 table plan before h in
           subst (Rest table plan _ _ (l .i + 2)) (sym (c .plus .ensures))
-              (rest-on (omega arith) (omega arith) (c .before .ask-one .ensures table plan before h) o)),
+          (rest-on (omega arith) (omega arith) (c .before .ask-one .ensures table plan before h) o)),
     )
 
 returns : tie.Need-returns Inv-loop μ-loop

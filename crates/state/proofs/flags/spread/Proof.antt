@@ -45,8 +45,13 @@ add-result : tie.Need-add-result
 add-result c =
     let a = c .before .before .before .before .before .args in
     let e = sym (lowest (a .named / 2 ^ a .i)) ∙ c .if5 .taken in
-    record { fits = omega (arith, even-sum (a .named) (a .i) (a .args) (omega arith) (omega arith) e,
-        even-few (a .named) (a .i) (a .args) (omega arith) (omega arith) e) }
+    record {
+      fits = omega (
+        arith,
+        even-sum (a .named) (a .i) (a .args) (omega arith) (omega arith) e,
+        even-few (a .named) (a .i) (a .args) (omega arith) (omega arith) e,
+      );
+    }
 
 returns-5 : tie.Need-returns-5
 unfolding spreadOf
@@ -74,8 +79,13 @@ add-result-3 : tie.Need-add-result-3
 add-result-3 c =
     let a = c .before .before .before .before .before .args in
     let e = is-odd (a .named / 2 ^ a .i) (c .if5 .left) in
-    record { fits = omega (arith, odd-sum (a .named) (a .i) (a .args) (omega arith) (omega arith) e,
-        odd-few (a .named) (a .i) (a .args) (omega arith) (omega arith) e) }
+    record {
+      fits = omega (
+        arith,
+        odd-sum (a .named) (a .i) (a .args) (omega arith) (omega arith) e,
+        odd-few (a .named) (a .i) (a .args) (omega arith) (omega arith) e,
+      );
+    }
 
 returns-6 : tie.Need-returns-6
 unfolding spreadOf

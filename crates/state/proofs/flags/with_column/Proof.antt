@@ -19,8 +19,13 @@ shl-result c = search needs
 add-result : tie.Need-add-result
 add-result c =
     let a = c .before .before .args in
-    record { fits = omega (arith, one-up (a .c) (omega arith),
-        bit-room 8 (a .mask) (a .c) (c .before .before .pre) (omega arith) (sym (lowest (a .mask / 2 ^ a .c)) ∙ c .if2 .taken)) }
+    record {
+      fits = omega (
+        arith,
+        one-up (a .c) (omega arith),
+        bit-room 8 (a .mask) (a .c) (c .before .before .pre) (omega arith) (sym (lowest (a .mask / 2 ^ a .c)) ∙ c .if2 .taken),
+      );
+    }
 
 returns-2 : tie.Need-returns-2
 returns-2 c =

@@ -18,9 +18,12 @@ abbrev μ-loop : tie.MeasureT-loop
 loop-holds : tie.Need-loop-holds Inv-loop μ-loop
 loop-holds c =
     let a = c .before .before .args in
-    let e : c .if1 .row ≡ min (a .end) 64 = ⊎-elim (λ w. omega arith) (λ w. omega arith) (c .if1 .came) in
-    (omega arith, omega arith, closed-none (a .cells .now) (a .starts .now) (a .masks .now) (a .column .now) (a .i) (c .if1 .row) (min (a .end) 64)
-        (omega arith))
+    let e : c .if1 .row ≡ min (a .end) 64 = ⊎-elim (λ w. omega arith) (λ w. omega arith) (c .if1 .came) in (
+      omega arith,
+      omega arith,
+      closed-none (a .cells .now) (a .starts .now) (a .masks .now) (a .column .now) (a .i) (c .if1 .row) (min (a .end) 64)
+          (omega arith),
+    )
 
 sub-row : tie.Need-sub-row Inv-loop μ-loop
 sub-row c = search needs
@@ -71,7 +74,7 @@ returns c =
     let a = c .before .before .before .before .args in
     let l = c .before .loop in
     closed-all (a .cells .now) (a .starts .now) (a .masks .now) (a .column .now) (a .i) (a .first) (l .row) (min (a .end) 64) (omega arith)
-        (omega arith) (omega arith) (l .inv .2)
+    (omega arith) (omega arith) (l .inv .2)
 
 pub close-rows-spec : {M : Type 1} → statement M
 close-rows-spec =

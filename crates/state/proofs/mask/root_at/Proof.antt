@@ -14,7 +14,7 @@ use Rattle.state.proofs.mask.root_at.Tie as tie
 abbrev Inv-loop : tie.InvT-loop
 Inv-loop cells start mask i left₀ bit₀ owed₀ left bit owed =
     (start + bit ≤ length cells) × (left < 2 ^ 32) × (owed < 2 ^ 32 + 4 * bit)
-        × (bitFrom bit owed left (drop (start + bit) cells) ≡ bitAt i mask (drop start cells))
+    × (bitFrom bit owed left (drop (start + bit) cells) ≡ bitAt i mask (drop start cells))
 
 abbrev μ-loop : tie.MeasureT-loop
 μ-loop cells start mask i left₀ bit₀ owed₀ left bit owed = left

@@ -57,7 +57,7 @@ next c q =
     let l = round c .loop in
     let t = tested c q in
     sym (next-cell (a .row) (a .cells .now) (a .from) (l .to) (l .vars) (l .at) (omega arith) (omega arith) (omega arith) (omega arith)
-        ∙ rw (t .0, t .1)) ∙ l .inv .5
+    ∙ rw (t .0, t .1)) ∙ l .inv .5
 
 few : (c : tie.After-v Inv-loop μ-loop) → c .v .given .0 .1 .0 ≤ 4
 few c =

@@ -48,7 +48,7 @@ returns c =
     let f = c .before .before .before .before .before .before .before .before .before .before .fill in
     let s = c .before .before .before .strike in
     batched (a .text .now) (a .from) (f .last .1 .1 .0) (f .last .1 .1 .1 .0) (f .result) (s .last .1 .1 .1 .1 .1 .0) (c .unmarked .result)
-        (f .ensures) (s .ensures)
+    (f .ensures) (s .ensures)
     (c .unmarked .ensures .0) (c .unmarked .ensures .1) (search needs) (search needs)
 
 pub count-batch-spec : {M : Type 1} → statement M

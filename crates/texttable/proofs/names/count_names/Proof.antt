@@ -48,7 +48,7 @@ returns c =
     let l = c .before .before .before .before .loop in
     let b = c .before .before .before .count-batch in
     λ facts e. all-counted (c .before .before .before .before .before .before .before .args .text .now) (l .at) (l .total) (b .result) facts
-        (b .ensures) (not-true (b .result .more) (c .if1 .taken)) (l .inv .2 facts e)
+    (b .ensures) (not-true (b .result .more) (c .if1 .taken)) (l .inv .2 facts e)
 
 loop-less : tie.Need-loop-less Inv-loop μ-loop
 loop-less c =

@@ -67,7 +67,7 @@ loop-less c =
     let st = c .before .before .before .before .before .before .before .before .before .before .before .before .before .before .before .before .before .args in
     let x = c .before .before .before .before .before .before .before .before .before .s .given in
     let A = name-is (st .text .now) (l .to) (c .before .before .before .before .before .before .before .before .before .before .before .next-name
-        .ensures) (x .1) in
+    .ensures) (x .1) in
     omega (arith, A .0, A .1, A .2, A .3)
 
 loop-again : tie.Need-loop-again Inv-loop μ-loop
@@ -76,10 +76,14 @@ loop-again c =
     let st = c .before .before .before .before .before .before .before .before .before .before .before .before .before .before .before .before .before .args in
     let x = c .before .before .before .before .before .before .before .before .before .s .given in
     let A = name-is (st .text .now) (l .to) (c .before .before .before .before .before .before .before .before .before .before .before .next-name
-        .ensures) (x .1) in
-    (search needs, search needs, search needs, name-grown (st .text .now) (st .from) (l .list) (l .links) _ _ (l .count) (l .to) (x .0 .1 .1 .0)
-        (x .0 .0) (x .0 .1 .0) (c .before .before .before .before .before .meet .result) (l .inv .3) A (omega arith)
-        (c .before .before .before .before .before .meet .ensures) (c .if1 .taken))
+    .ensures) (x .1) in (
+      search needs,
+      search needs,
+      search needs,
+      name-grown (st .text .now) (st .from) (l .list) (l .links) _ _ (l .count) (l .to) (x .0 .1 .1 .0)
+          (x .0 .0) (x .0 .1 .0) (c .before .before .before .before .before .meet .result) (l .inv .3) A (omega arith)
+          (c .before .before .before .before .before .meet .ensures) (c .if1 .taken),
+    )
 
 loop-less-2 : tie.Need-loop-less-2 Inv-loop μ-loop
 loop-less-2 c =
@@ -87,7 +91,7 @@ loop-less-2 c =
     let st = c .before .before .before .before .before .before .before .before .before .before .before .before .before .before .before .before .before .args in
     let x = c .before .before .before .before .before .before .before .before .before .s .given in
     let A = name-is (st .text .now) (l .to) (c .before .before .before .before .before .before .before .before .before .before .before .next-name
-        .ensures) (x .1) in
+    .ensures) (x .1) in
     omega (arith, A .0, A .1, A .2, A .3)
 
 loop-again-2 : tie.Need-loop-again-2 Inv-loop μ-loop
@@ -96,10 +100,14 @@ loop-again-2 c =
     let st = c .before .before .before .before .before .before .before .before .before .before .before .before .before .before .before .before .before .args in
     let x = c .before .before .before .before .before .before .before .before .before .s .given in
     let A = name-is (st .text .now) (l .to) (c .before .before .before .before .before .before .before .before .before .before .before .next-name
-        .ensures) (x .1) in
-    (search needs, search needs, search needs, name-stayed (st .text .now) (st .from) (l .list) (l .links) _ _ (l .count) (l .to) (x .0 .1 .1 .0)
-        (x .0 .0) (x .0 .1 .0) (c .before .before .before .before .before .meet .result) (l .inv .3) A (omega arith)
-        (c .before .before .before .before .before .meet .ensures) (c .if1 .left))
+    .ensures) (x .1) in (
+      search needs,
+      search needs,
+      search needs,
+      name-stayed (st .text .now) (st .from) (l .list) (l .links) _ _ (l .count) (l .to) (x .0 .1 .1 .0)
+          (x .0 .0) (x .0 .1 .0) (c .before .before .before .before .before .meet .result) (l .inv .3) A (omega arith)
+          (c .before .before .before .before .before .meet .ensures) (c .if1 .left),
+    )
 
 same-length-3 : tie.Need-same-length-3 Inv-loop μ-loop
 same-length-3 c = search needs

@@ -101,7 +101,7 @@ returns-2 c =
     let l = c .before .before .before .loop in
     let st = c .before .before .before .before .before .args in
     no-name (st .text .now) (st .from) (l .at) (l .inv .1) (l .inv .0)
-        (ahead-is (st .text .now) (l .at) (c .before .before .next-item .ensures) (c .enum-told .given .1))
+    (ahead-is (st .text .now) (l .at) (c .before .before .next-item .ensures) (c .enum-told .given .1))
 
 pub next-name-spec : {M : Type 1} → statement M
 next-name-spec =

@@ -82,7 +82,7 @@ slice-write-marks c =
     let x = c .before .before .before .before .before .before .s .given in
     let A = name-is t (l .at) (c .before .before .before .before .before .before .before .before .next-name .ensures) (x .1) in
     let f = found-listed t (st .list .now) (st .links .now) (part t (x .0 .0) (x .0 .1 .0)) (st .count) (c .before .before .before .find .ensures)
-        (c .before .j .given .1) in
+    (c .before .j .given .1) in
     omega (arith, f .0, l .inv .0)
 
 enum-told : tie.Need-enum-told Inv-loop μ-loop
@@ -105,7 +105,7 @@ loop-again c =
     let x = c .before .before .before .before .before .before .s .given in
     let A = name-is t (l .at) (c .before .before .before .before .before .before .before .before .next-name .ensures) (x .1) in
     let f = found-listed t (st .list .now) (st .links .now) (part t (x .0 .0) (x .0 .1 .0)) (st .count) (c .before .before .before .find .ensures)
-        (c .before .j .given .1) in
+    (c .before .j .given .1) in
     let e = f .1 ∙ part-is t (x .0 .0) (x .0 .1 .0) (omega (arith, A .1)) (omega (arith, A .2, A .3)) in (
       search needs,
       λ ns rest rest₀ n S L k. (
@@ -116,7 +116,7 @@ loop-again c =
             left = M .left;
             struck =
                 strikes-listed t (st .list .now) (st .links .now) ns S (l .marks) (place (x .0 .0) (x .0 .1 .0)) (x .0 .1 .1 .0) (K .rest) rest₀ M
-                    (K .struck) (c .before .j .given .0 .0)
+                (K .struck) (c .before .j .given .0 .0)
                 (omega (arith, n, l .inv .0)) (omega (arith, n, f .0)) e;
           }),
     )
@@ -138,8 +138,7 @@ loop-again-2 c =
     let x = c .before .before .before .before .before .s .given in
     let A = name-is t (l .at) (c .before .before .before .before .before .before .before .next-name .ensures) (x .1) in
     let m = found-free t (st .list .now) (st .links .now) (part t (x .0 .0) (x .0 .1 .0)) (st .count) (c .before .before .find .ensures)
-        (c .enum-told .given .1) in
-    (
+    (c .enum-told .given .1) in (
       l .inv .0,
       λ ns rest rest₀ n S L k. (
           let K = l .inv .1 ns rest rest₀ n S L k in
@@ -149,7 +148,7 @@ loop-again-2 c =
             left = M .left;
             struck =
                 strikes-other t (st .list .now) (st .links .now) ns S (l .marks) (place (x .0 .0) (x .0 .1 .0)) (x .0 .1 .1 .0) (K .rest) rest₀ M
-                    (K .struck)
+                (K .struck)
                 (λ i h z. m .none i (omega (arith, n)) (z ∙ sym (part-is t (x .0 .0) (x .0 .1 .0) (omega (arith, A .1)) (omega (arith, A .2, A .3)))));
           }),
     )
@@ -167,7 +166,7 @@ returns c =
     λ ns rest rest₀ n S L k. (
     let K = l .inv .1 ns rest rest₀ n S L k in
     all-struck t ns (l .marks) (K .rest) rest₀ (name-is t (l .at) (c .before .before .next-name .ensures) (c .enum-told2 .given .1) (K .rest)
-        (K .left)) (K .struck))
+    (K .left)) (K .struck))
 
 pub strike-spec : {M : Type 1} → statement M
 strike-spec =

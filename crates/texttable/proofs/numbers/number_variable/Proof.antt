@@ -23,7 +23,7 @@ returns : tie.Need-returns
 returns c =
     let a = c .before .before .before .before .before .before .args in
     λ v. fresh-variable (a .text .now) (a .words .now) (a .ways .now) (a .given .now) (a .row) (a .start) (a .end) v
-        (sym (c .before .is-fresh .ensures) ∙ c .if1 .taken)
+    (sym (c .before .is-fresh .ensures) ∙ c .if1 .taken)
 
 meet-requires : tie.Need-meet-requires
 meet-requires c κs = search needs
@@ -48,10 +48,10 @@ returns-2 c =
     let a = c .before .before .before .before .before .before .before .before .before .before .before .before .before .before .before .before .args in
     let m = c .before .before .before .before .before .before .before .meet in
     λ v. subst (λ (n : ℕ). VariableIs (a .text .now) (v .places) (place (a .start) (a .end)) (m .last .1 .0) (m .last .1 .1 .0) (a .given .now)
-        (record { number = n; row = a .row }))
+    (record { number = n; row = a .row }))
     (sym (c .number .ensures)) (old-variable (a .text .now) (a .words .now) (a .ways .now) (a .given .now) (a .row) (a .start) (a .end) v
-        (sym (c .before .before .before .before .before .before .before .before .before .before .before .is-fresh .ensures)
-        ∙ c .before .before .before .before .before .before .before .before .before .before .if1 .left) (m .ensures) (omega arith))
+    (sym (c .before .before .before .before .before .before .before .before .before .before .before .is-fresh .ensures)
+    ∙ c .before .before .before .before .before .before .before .before .before .before .if1 .left) (m .ensures) (omega arith))
 
 cast-given : tie.Need-cast-given
 cast-given c = search needs
@@ -81,9 +81,9 @@ returns-3 : tie.Need-returns-3
 returns-3 c =
     let a = c .before .before .before .before .before .before .before .before .before .before .before .before .before .before .args in
     λ v. new-variable (a .text .now) (a .words .now) (a .ways .now) (a .given .now) (a .row) (a .start) (a .end) v (omega arith) (omega arith)
-        (sym (c .before .before .before .before .before .before .before .before .before .is-fresh .ensures)
-        ∙ c .before .before .before .before .before .before .before .before .if1 .left) (c .before .before .before .before .before .meet .ensures)
-        (omega arith)
+    (sym (c .before .before .before .before .before .before .before .before .before .is-fresh .ensures)
+    ∙ c .before .before .before .before .before .before .before .before .if1 .left) (c .before .before .before .before .before .meet .ensures)
+    (omega arith)
 
 pub number-variable-spec : {M : Type 1} → statement M
 number-variable-spec =

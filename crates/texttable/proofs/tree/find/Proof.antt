@@ -170,8 +170,13 @@ loop-less c =
     let w = a .word .now in
     let k = c .before .before .before .before .before .before .number in
     let z = nonzero (c .before .before .before .before .before .if1 .left) (k .ensures) in
-    omega (arith, trail-later (a .text .now) (a .list .now) (a .links .now) (a .count) T (k .result - 1) (o .loop .inv .2 .trail) z,
-        T .lead (o .loop .slot), z, c .bit .ensures .1)
+    omega (
+      arith,
+      trail-later (a .text .now) (a .list .now) (a .links .now) (a .count) T (k .result - 1) (o .loop .inv .2 .trail) z,
+      T .lead (o .loop .slot),
+      z,
+      c .bit .ensures .1,
+    )
 
 loop-again : tie.Need-loop-again Inv-loop μ-loop
 loop-again c =

@@ -68,7 +68,7 @@ mul-links c =
     let a = st .args in
     let T = st .pre .5 in
     let m = found-free (a .text .now) (a .list .now) (a .links .now) (part (a .text .now) (a .start) (a .end)) (a .count)
-        (c .before .before .before .find .ensures) (c .before .slot .given .1) in
+    (c .before .before .before .find .ensures) (c .before .slot .given .1) in
     omega (arith, trail-slot (a .text .now) (a .list .now) (a .links .now) (a .count) T (m .trail), T .slots, T .room)
 
 slice-write-links : tie.Need-slice-write-links
@@ -77,7 +77,7 @@ slice-write-links c =
     let a = st .args in
     let T = st .pre .5 in
     let m = found-free (a .text .now) (a .list .now) (a .links .now) (part (a .text .now) (a .start) (a .end)) (a .count)
-        (c .before .before .before .find .ensures) (c .before .slot .given .1) in
+    (c .before .before .before .find .ensures) (c .before .slot .given .1) in
     omega (arith, trail-slot (a .text .now) (a .list .now) (a .links .now) (a .count) T (m .trail), T .slots, T .room)
 
 same-length : tie.Need-same-length
@@ -105,7 +105,7 @@ returns-2 c =
     let a = st .args in
     let T = st .pre .5 in
     let m = found-free (a .text .now) (a .list .now) (a .links .now) (part (a .text .now) (a .start) (a .end)) (a .count)
-        (c .before .before .before .find .ensures) (c .before .slot .given .1) in
+    (c .before .before .before .find .ensures) (c .before .slot .given .1) in
     let e = part-is (a .text .now) (a .start) (a .end) (omega arith) (omega arith) in
     meet-new (a .text .now) (a .list .now) (a .links .now) (a .count) (a .start) (a .end) (c .before .slot .given .0 .0) T
     (subst (λ (w : List ℕ). Missing (a .text .now) (a .list .now) (a .links .now) (a .count) w (c .before .slot .given .0 .0)) e m)

@@ -29,7 +29,7 @@ turn c =
 -- the same once its number of arguments is
 branch : (c : tie.After-arity-of Inv-loop μ-loop) (w : Peopled (c .before .before .before .before .before .before .before .before .args .plan .now)
     (c .before .before .before .before .before .before .before .before .args .at)
-        (c .before .before .before .before .before .before .before .before .args .places))
+    (c .before .before .before .before .before .before .before .before .args .places))
     → OwnGoes (c .before .before .before .loop .inv w) (c .arity-of .result)
 branch c w =
     let s = c .before .before .before .before .before .before .before .before in

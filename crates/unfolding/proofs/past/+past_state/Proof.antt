@@ -45,7 +45,7 @@ inner t c = let w = c .before .before .pre .1 in (enters-inside w (omega arith),
 -- where a branch is left, what is known of it
 turn : (t : ℕ) (c : past-state-lts.In-loop (with t) (past-state-at t) past-state.Post Inv-loop μ-loop)
     → Goes (c .before .loop .inv (c .before .before .before .before .before .before .pre .1))
-        (arity (getD (c .before .before .before .before .before .before .args .plan .now) (c .before .loop .here .at) 0))
+    (arity (getD (c .before .before .before .before .before .before .args .plan .now) (c .before .loop .here .at) 0))
 turn t c = goes (c .before .loop .inv (c .before .before .before .before .before .before .pre .1)) _ (omega arith) refl
 
 -- the same once its number of arguments is
