@@ -90,37 +90,46 @@ fn alone(table: &[u32], start: usize, mask: u32, plan: &[u32], k: usize, at: usi
     leaf(plan, 1, count, place)
 }
 
-// The state at place `at` of the plan, with k open places and the rows from first to before end. Bit i of `named` is set where open place i
-// is inside a named column (02, W-213); with none set any place may be chosen. It goes no deeper than 32: each state closes one cell of each
-// of its rows.
+// The rows of a state, from first to before end, how many places are open in each, and which of these are inside a named column (02, W-213):
+// bit i for open place i.
+pub struct Rows {
+    pub first: usize,
+    pub end: usize,
+    pub opens: usize,
+    pub named: u64,
+}
+
+// The state at place `at` of the plan, with these rows; where no flag is set any place may be chosen. It goes no deeper than 32: each state
+// closes one cell of each of its rows.
 pub fn state(
     table: &[u32],
     starts: &[usize; ROWS],
     masks: &mut [u32; ROWS],
     column: &mut [u32; ROWS],
     plan: &[u32],
-    first: usize,
-    end: usize,
-    named: u64,
-    k: usize,
+    rows: Rows,
     at: usize,
 ) -> Step
-    requires { ⌜ Ready (now table) (now starts) (now masks) (now column) (now plan) first end named k at ⌝ }
+    requires { ⌜ Ready (now table) (now starts) (now masks) (now column) (now plan) (rows .first) (rows .end) (rows .named) (rows .opens) at ⌝ }
     ensures { λ r. ⌜ Done (now (table .entry)) (now (starts .entry)) (now (masks .entry)) (now (column .entry)) (now (masks .exit))
-        (now (column .exit)) (now (plan .entry)) first end named k at r ⌝ }
+        (now (column .exit)) (now (plan .entry)) (rows .first) (rows .end) (rows .named) (rows .opens) at r ⌝ }
 {
-    let rows = end - first;
-    if rows == 1 && named == 0 {
-        return alone(table, starts[first], masks[first], plan, k, at);
+    let first = rows.first;
+    let end = rows.end;
+    let opens = rows.opens;
+    let named = rows.named;
+    let count = end - first;
+    if count == 1 && named == 0 {
+        return alone(table, starts[first], masks[first], plan, opens, at);
     }
-    if k == 0 {
-        return leaf(plan, rows, 0, at);
+    if opens == 0 {
+        return leaf(plan, count, 0, at);
     }
     if plan.len() <= at {
         return Step::Refused(refusal(Reason::Ends, at));
     }
     let i = plan[at];
-    if k <= i as usize {
+    if opens <= i as usize {
         return Step::Refused(refusal(Reason::Open, at));
     }
     if !may(named, i) {
@@ -135,41 +144,35 @@ pub fn state(
     if plan[next] as usize != run_count(&cells[first..end]) {
         return Step::Refused(refusal(Reason::Edges, next));
     }
-    branches(
-        table,
-        starts,
-        masks,
-        column,
-        plan,
+    let left = opens - 1;
+    let closed = Rows {
         first,
         end,
+        opens: left,
         named,
-        i,
-        k - 1,
-        at + 2,
-    )
+    };
+    branches(table, starts, masks, column, plan, closed, i, at + 2)
 }
 
-// The branches from place `at` on, one for each run of the rows from first to before end, at open place i; below each, k places are open
-// beside its symbol's arguments, which are inside the column of their place.
+// The branches from place `at` on, one for each run of these rows, whose open place i is closed. Below each, the places that are left open are
+// open beside its symbol's arguments, which are inside the column of their place. The flags are those of the state, place i among them.
 fn branches(
     table: &[u32],
     starts: &[usize; ROWS],
     masks: &mut [u32; ROWS],
     column: &mut [u32; ROWS],
     plan: &[u32],
-    first: usize,
-    end: usize,
-    named: u64,
+    rows: Rows,
     i: u32,
-    k: usize,
     at: usize,
 ) -> Step
-    requires { ⌜ ReadyIn (now table) (now starts) (now masks) (now column) (now plan) first end named i k at ⌝ }
+    requires { ⌜ ReadyIn (now table) (now starts) (now masks) (now column) (now plan)
+        (rows .first) (rows .end) (rows .named) i (rows .opens) at ⌝ }
     ensures { λ r. ⌜ DoneIn (now (table .entry)) (now (starts .entry)) (now (masks .entry)) (now (column .entry)) (now (masks .exit))
-        (now (column .exit)) (now (plan .entry)) first end named i k at r ⌝ }
+        (now (column .exit)) (now (plan .entry)) (rows .first) (rows .end) (rows .named) i (rows .opens) at r ⌝ }
 {
-    let mut row = first;
+    let end = rows.end;
+    let mut row = rows.first;
     let mut place = at;
     let mut count = 0;
     while row < end {
@@ -185,24 +188,20 @@ fn branches(
         let n = run_length(&cells[row..end]);
         let args = cell::arity_of(c);
         // where no flag stands none does below, and no call is made
-        let mut flags = 0;
-        if named != 0 {
-            flags = spread(named, i, args);
+        let mut named = 0;
+        if rows.named != 0 {
+            named = spread(rows.named, i, args);
         }
-        let open = args + k;
+        let opens = args + rows.opens;
+        let after = row + n;
+        let run = Rows {
+            first: row,
+            end: after,
+            opens,
+            named,
+        };
         let under = place + 1;
-        match state(
-            table,
-            starts,
-            masks,
-            column,
-            plan,
-            row,
-            row + n,
-            flags,
-            open,
-            under,
-        ) {
+        match state(table, starts, masks, column, plan, run, under) {
             Step::Seen(below, next) => {
                 count += 1 + below;
                 place = next;
@@ -211,7 +210,7 @@ fn branches(
                 return Step::Refused(f);
             }
         }
-        row += n;
+        row = after;
     }
     Step::Seen(count, place)
 }

@@ -10,6 +10,7 @@ ghost use Rattle.plan.specs.Check.{planOf, planUnder};
 ghost use Rattle.checker.specs.Checked.{planSays, planTold};
 ghost use Rattle.checker.specs.code.Steps.{namedPlan};
 ghost use Rattle.state.specs.code.First.{TableRows};
+use check::Rows;
 use check::Step;
 use limits::PLAN_CELLS;
 use limits::ROWS;
@@ -57,18 +58,13 @@ fn check_rows(
     }
     let mut masks = state::mask::open_rows(starts, rows, table.len());
     let mut column = [0u32; ROWS];
-    match check::state(
-        table,
-        starts,
-        &mut masks,
-        &mut column,
-        plan,
-        0,
-        rows,
-        named.mask,
-        width,
-        0,
-    ) {
+    let all = Rows {
+        first: 0,
+        end: rows,
+        opens: width,
+        named: named.mask,
+    };
+    match check::state(table, starts, &mut masks, &mut column, plan, all, 0) {
         Step::Seen(branches, next) => {
             if next < plan.len() {
                 return PlanAnswer::Refused(check::refusal(Reason::Extra, next));
