@@ -15,6 +15,13 @@ Inv-loop table start mask plan k at left₀ owed₀ place₀ count₀ left owed 
 abbrev μ-loop : tie.MeasureT-loop
 μ-loop table start mask plan k at left₀ owed₀ place₀ count₀ left owed place count = length (kept left (drop start table))
 
+-- the places that the answers go back to: where the row's place is closed, and the turn of the loop before that
+abbrev At-closed : Type 0
+At-closed = tie.After-close-at Inv-loop μ-loop
+
+abbrev turn-at : At-closed → tie.At-loop Inv-loop μ-loop
+turn-at r = r .before .before .before .before .before .before .before .before .before
+
 loop-holds : tie.Need-loop-holds Inv-loop μ-loop
 loop-holds c = chain-start (c .before .before .pre)
 
@@ -89,9 +96,9 @@ refusal-requires-6 c κs = search needs
 
 returns-6 : tie.Need-returns-6 Inv-loop μ-loop
 returns-6 c =
-    chain-label (c .before .before .before .before .before .before .before .before .before .before .before .before .loop .inv) (omega arith)
-    (omega arith) (omega arith) (c .before .before .before .before .before .if4 .left) (c .before .before .before .close-at .ensures)
-    (omega arith) (c .before .if6 .taken) (c .refusal6 .ensures)
+    let r = c .before .before .before in
+    chain-label (turn-at r .loop .inv) (omega arith) (omega arith) (omega arith) (r .before .before .if4 .left) (r .close-at .ensures) (omega arith)
+    (c .before .if6 .taken) (c .refusal6 .ensures)
 
 arity-of-requires : tie.Need-arity-of-requires Inv-loop μ-loop
 arity-of-requires c κs = search needs
@@ -101,15 +108,8 @@ sub-owed c = search needs
 
 add-owed : tie.Need-add-owed Inv-loop μ-loop
 add-owed c =
-    record {
-      fits = omega (
-        arith,
-        few-owed (c .before .before .before .before .before .before .before .before .before .before .before .before .loop
-            .inv),
-        arity-small (c .before .before .before .close-at .result .cell),
-        c .arity-of .ensures,
-      );
-    }
+    let r = c .before .before .before in
+    record { fits = omega (arith, few-owed (turn-at r .loop .inv), arity-small (r .close-at .result .cell), c .arity-of .ensures) }
 
 add-place : tie.Need-add-place Inv-loop μ-loop
 add-place c = search needs
@@ -119,15 +119,14 @@ add-count c = search needs
 
 loop-less : tie.Need-loop-less Inv-loop μ-loop
 loop-less c =
-    chain-less (c .before .before .before .before .before .before .before .before .before .before .before .before .loop .inv) (omega arith)
-    (omega arith) (omega arith) (c .before .before .before .before .before .if4 .left) (c .before .before .before .close-at .ensures)
-    (omega arith)
+    let r = c .before .before .before in
+    chain-less (turn-at r .loop .inv) (omega arith) (omega arith) (omega arith) (r .before .before .if4 .left) (r .close-at .ensures) (omega arith)
 
 loop-again : tie.Need-loop-again Inv-loop μ-loop
 loop-again c =
-    rw (c .arity-of .ensures) (chain-on (c .before .before .before .before .before .before .before .before .before .before .before .before .loop .inv)
-    (omega arith) (omega arith) (omega arith) (c .before .before .before .before .before .if4 .left)
-    (c .before .before .before .close-at .ensures) (omega arith) (c .before .if6 .left))
+    let r = c .before .before .before in
+    rw (c .arity-of .ensures) (chain-on (turn-at r .loop .inv) (omega arith) (omega arith) (omega arith) (r .before .before .if4 .left)
+    (r .close-at .ensures) (omega arith) (c .before .if6 .left))
 
 leaf-requires : tie.Need-leaf-requires Inv-loop μ-loop
 leaf-requires c κs = search needs
