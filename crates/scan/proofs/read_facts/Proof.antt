@@ -18,6 +18,16 @@ Inv-loop text dones₀ at₀ tally₀ dones at tally =
 abbrev μ-loop : tie.MeasureT-loop
 μ-loop text dones₀ at₀ tally₀ dones at tally = length text - at
 
+-- where a fact is read: where the loop stood before it, and the call
+abbrev At-fact : Type 0
+At-fact = tie.After-fact-from Inv-loop μ-loop
+
+abbrev stood : At-fact → tie.At-loop Inv-loop μ-loop
+stood r = r .before .before .before
+
+abbrev call-at : At-fact → tie.Start Inv-loop μ-loop
+call-at r = stood r .before .before .before .before
+
 no-facts-requires : tie.Need-no-facts-requires Inv-loop μ-loop
 no-facts-requires c κs = search needs
 
@@ -42,10 +52,11 @@ same-length c = search needs
 
 returns : tie.Need-returns Inv-loop μ-loop
 returns c =
-    let s = c .before .before .before .before .before .before .before .before .before .before .before .before in
-    let l = c .before .before .before .before .before .before .before .before .loop in
+    let r = c .before .before .before .before .before in
+    let s = call-at r in
+    let l = stood r .loop in
     let t = s .args .text .now in
-    let f = fact-is t (l .at) (eqb (l .tally .facts) 0) (c .before .before .before .before .before .fact-from .ensures) (c .before .enum-told .given .1) in
+    let f = fact-is t (l .at) (eqb (l .tally .facts) 0) (r .fact-from .ensures) (c .before .enum-told .given .1) in
     all-read t (l .at) (l .tally) (l .inv .2) (s .pre .0) (f nothing) (c .verdict .ensures)
 
 enum-known-seen : tie.Need-enum-known-seen Inv-loop μ-loop
@@ -53,29 +64,32 @@ enum-known-seen c = search needs
 
 count-fact-requires : tie.Need-count-fact-requires Inv-loop μ-loop
 count-fact-requires c κs =
-    let s = c .before .before .before .before .before .before .before .before .before .before .before .before in
-    let l = c .before .before .before .before .before .before .before .before .loop in
+    let r = c .before .before .before .before .before in
+    let s = call-at r in
+    let l = stood r .loop in
     let t = s .args .text .now in
     let x = c .before .seen .given in
-    let f = fact-is t (l .at) (eqb (l .tally .facts) 0) (c .before .before .before .before .before .fact-from .ensures) (x .1) in
+    let f = fact-is t (l .at) (eqb (l .tally .facts) 0) (r .fact-from .ensures) (x .1) in
     sized t (l .at) (l .tally) (l .inv .1) (eqb (l .tally .facts) 0) (x .0 .0) f (s .pre .0)
 
 loop-less : tie.Need-loop-less Inv-loop μ-loop
 loop-less c =
-    let s = c .before .before .before .before .before .before .before .before .before .before .before .before .before in
-    let l = c .before .before .before .before .before .before .before .before .before .loop in
+    let r = c .before .before .before .before .before .before in
+    let s = call-at r in
+    let l = stood r .loop in
     let t = s .args .text .now in
     let x = c .before .before .seen .given in
-    let f = fact-is t (l .at) (eqb (l .tally .facts) 0) (c .before .before .before .before .before .before .fact-from .ensures) (x .1) in
+    let f = fact-is t (l .at) (eqb (l .tally .facts) 0) (r .fact-from .ensures) (x .1) in
     omega (arith, f .from .0, f .from .1, f .within .0, f .within .1)
 
 loop-again : tie.Need-loop-again Inv-loop μ-loop
 loop-again c =
-    let s = c .before .before .before .before .before .before .before .before .before .before .before .before .before in
-    let l = c .before .before .before .before .before .before .before .before .before .loop in
+    let r = c .before .before .before .before .before .before in
+    let s = call-at r in
+    let l = stood r .loop in
     let t = s .args .text .now in
     let x = c .before .before .seen .given in
-    let f = fact-is t (l .at) (eqb (l .tally .facts) 0) (c .before .before .before .before .before .before .fact-from .ensures) (x .1) in (
+    let f = fact-is t (l .at) (eqb (l .tally .facts) 0) (r .fact-from .ensures) (x .1) in (
       f .within .1,
       kept-more t (l .at) (l .tally) (l .inv .1) (eqb (l .tally .facts) 0) (x .0 .0) f (s .pre .0) (c .count-fact .ensures),
       fact-more t (l .at) (l .tally) (l .inv .2) (x .0 .0) f (omega (arith, f .from .1, f .within .0, f .within .1, s .pre .0)) (c .count-fact .ensures),
@@ -93,11 +107,12 @@ same-length-2 c = search needs
 
 returns-2 : tie.Need-returns-2 Inv-loop μ-loop
 returns-2 c =
-    let s = c .before .before .before .before .before .before .before .before .before .before .before .before .before in
-    let l = c .before .before .before .before .before .before .before .before .before .loop in
+    let r = c .before .before .before .before .before .before in
+    let s = call-at r in
+    let l = stood r .loop in
     let t = s .args .text .now in
     let x = c .before .before .p .given in
-    let f = fact-is t (l .at) (eqb (l .tally .facts) 0) (c .before .before .before .before .before .before .fact-from .ensures) (x .1) in
+    let f = fact-is t (l .at) (eqb (l .tally .facts) 0) (r .fact-from .ensures) (x .1) in
     stops-there t (l .at) (l .tally) (l .inv .2) (s .pre .0) (x .0 .0) (f nothing) (c .turned .ensures)
 
 pub read-facts-spec : {M : Type 1} → statement M
