@@ -1,99 +1,75 @@
 -- Where the first fact of a text has its name: the place that the code finds is the grammar's.
-use Prim.Native.Nat.{ℕ, zero, suc, _+_, _≤_, _<_}
-use mathlib.Core.Path.{_≡_, refl, ap, subst, _∙_}
-use mathlib.Core.Bool.{Bool, true, false, _&&_}
-use mathlib.Core.List.{List, [], _∷_}
+use Prim.Native.Nat.{ℕ, suc, _≤_, _<_}
+use mathlib.Core.Path.{_≡_, refl, sym, ap, subst, _∙_}
+use mathlib.Core.Bool.{true}
+use mathlib.Core.List.{List, _∷_}
 use native.Mathlib.Omega.{arith}
 use native.Mathlib.Numerals.{add-one}
-use lib.Dec.{eqb, leb, ltb}
-use lib.ListN.{length, drop}
-use borrow.Author.Tests.{lt-ltb, ne-eqb, leb-true}
+use native.Mathlib.Decide.{decLt}
+use lib.ListN.{length, getD, drop}
+use lib.Seq.{drop-cons}
+use borrow.Author.Tests.{ne-eqb}
 use Rattle.grammar.specs.Grammar as G
-use Rattle.grammar.specs.Grammar.{isLower, isUpper, isDigit, isWord, Line, Gap, Word, Fact, OneFact, Facts, Text}
-use Rattle.grammar.specs.Reader.{isBlank}
-use Rattle.lex.specs.Turns.{gapFrom, wordFrom, standsAt}
-use Rattle.lex.specs.Heads.{headFrom, headOf}
+use Rattle.grammar.specs.Grammar.{isLower, isUpper, isDigit, isWord, Gap, Word, Fact, OneFact, Facts, Text}
+use Rattle.grammar.specs.Reader.{isBlank, Solid, Ends}
+use Rattle.grammar.proofs.Complete.{not-lower}
+use Rattle.grammar.proofs.LongLaws.{word-on}
+use Rattle.lex.specs.Turns.{standsAt}
+use Rattle.lex.specs.Heads.{headOf}
+use Rattle.lex.specs.code.Ends.{GapTo, WordTo}
 use Rattle.lex.specs.declared.fact.Head.the-variants as head
-
--- what is left at a place, one byte on
-drop-on : (t : List ℕ) (p : ℕ) {b : ℕ} {xs : List ℕ} → drop p t ≡ b ∷ xs → drop (suc p) t ≡ xs
-drop-on [] zero e = absurd (let z : _≡_ {A = ℕ} 0 1 = cc in omega arith)
-drop-on [] (suc p) e = absurd (let z : _≡_ {A = ℕ} 0 1 = cc in omega arith)
-drop-on (a ∷ t) zero e = cc
-drop-on (a ∷ t) (suc p) e = drop-on t p e
-
-drop-within : (t : List ℕ) (p : ℕ) {b : ℕ} {xs : List ℕ} → drop p t ≡ b ∷ xs → p < length t
-drop-within [] zero e = absurd (let z : _≡_ {A = ℕ} 0 1 = cc in omega arith)
-drop-within [] (suc p) e = absurd (let z : _≡_ {A = ℕ} 0 1 = cc in omega arith)
-drop-within (a ∷ t) zero e = omega arith
-drop-within (a ∷ t) (suc p) e = omega (arith, drop-within t p e)
-
-line-left : (t : List ℕ) {p q : ℕ} {xs ys : List ℕ} → drop p t ≡ xs → Line p xs q ys → drop q t ≡ ys
-line-left t e G.ended = e
-line-left t {p} e G.feed = drop-on t p e
-line-left t {p} e (G.byte n l) = line-left t (drop-on t p e) l
-
-gap-left : (t : List ℕ) {p q : ℕ} {xs ys : List ℕ} → drop p t ≡ xs → Gap p xs q ys → drop q t ≡ ys
-gap-left t e G.none = e
-gap-left t {p} e (G.blank b g) = gap-left t (drop-on t p e) g
-gap-left t {p} e (G.remark l g) = gap-left t (line-left t (drop-on t p e) l) g
-
-word-left : (t : List ℕ) {p q : ℕ} {xs ys : List ℕ} → drop p t ≡ xs → Word p xs q ys → drop q t ≡ ys
-word-left t e G.none = e
-word-left t {p} e (G.more b g) = word-left t (drop-on t p e) g
+use Rattle.lex.proofs.FactLaws.{head-open, first-fact}
+use Rattle.termtext.proofs.TextLaws.{Left, left-within, left-on, gap-left, word-left}
 
 -- layout ends before a letter, and a word at a bracket
-lower-solid : (b : ℕ) → isLower b ≡ true → (isBlank b ≡ false) × (eqb b 37 ≡ false)
-unfolding isLower isBlank
-lower-solid b e =
-    let l = least (leb 97 b) (leb b 122) refl e in
+lower-solid : (b : ℕ) (xs : List ℕ) → isLower b ≡ true → Solid (b ∷ xs)
+unfolding isBlank
+lower-solid b xs e =
+    let l = least (decLt b 97) in
     (rw (ne-eqb b 32 (λ q. omega arith), ne-eqb b 10 (λ q. omega arith), ne-eqb b 13 (λ q. omega arith)), ne-eqb b 37 (λ q. omega arith))
   where
-    least : (x y : Bool) → leb 97 b ≡ x → (x && y) ≡ true → 97 ≤ b
-    least true y q h = leb-true 97 b q
-    least false y q h = absurd (let z : _≡_ {A = ℕ} 0 1 = cc in omega arith)
+    least : Dec (b < 97) → 97 ≤ b
+    least (yes h) = absurd (let z = sym e ∙ not-lower b h in let y : _≡_ {A = ℕ} 0 1 = cc in omega arith)
+    least (no h) = omega arith
 
-line-end : {p q : ℕ} {xs ys : List ℕ} → Line p xs q ys → gapFrom true xs p ≡ gapFrom false ys q
-unfolding gapFrom
-line-end G.ended = refl
-line-end G.feed = refl
-line-end (G.byte n l) = rw n (line-end l)
-
-gap-end : {p q : ℕ} {xs zs ys : List ℕ} {b : ℕ} → isLower b ≡ true → Gap p xs q zs → zs ≡ b ∷ ys → gapFrom false xs p ≡ q
-unfolding gapFrom isBlank
-gap-end {b = b} e G.none z = rw (z, lower-solid b e .0, lower-solid b e .1)
-gap-end e (G.blank G.space g) z = gap-end e g z
-gap-end e (G.blank G.feed g) z = gap-end e g z
-gap-end e (G.blank G.return g) z = gap-end e g z
-gap-end e (G.remark l g) z = line-end l ∙ gap-end e g z
-
-word-stops : (xs : List ℕ) (p : ℕ) → wordFrom (40 ∷ xs) p ≡ p
-unfolding wordFrom isWord isLower isUpper isDigit
-word-stops xs p = refl
-
-word-end : {p q : ℕ} {xs zs ys : List ℕ} → Word p xs q zs → zs ≡ 40 ∷ ys → wordFrom xs p ≡ q
-unfolding wordFrom
-word-end {p} {ys = ys} G.none z = rw z (word-stops ys p)
-word-end (G.more b g) z = rw b (word-end g z)
+bracket-ends : (xs : List ℕ) → Ends (40 ∷ xs)
+unfolding isWord isLower isUpper isDigit
+bracket-ends xs = refl
 
 -- THE FIRST FACT'S NAME
 one-head : (t : List ℕ) {p q : ℕ} {xs ys : List ℕ} {f : Fact} → Gap 0 t p xs → OneFact p xs q ys f
     → headOf t 0 true ≡ head.Open (f .start) (f .end)
-unfolding headOf headFrom standsAt
-one-head t g (G.one {start = s} {byte = b} {bracket = e} {rest = rest} {inside = inside} lo w a h) =
-    let here = gap-left t refl g in
-    let end : wordFrom rest (s + 1) ≡ e = ap (wordFrom rest) (add-one s) ∙ word-end w refl in
-    let open′ = word-left t (drop-on t s here) w in
-    rw (gap-end lo g refl, lt-ltb s (length t) (drop-within t s here), here, lo, end, open′)
+unfolding standsAt
+one-head t g (G.one {start = s} {byte = b} {bracket = e} {rest = rest} {inside = inside} lower w a h) =
+    let here : Left t s (b ∷ rest) = gap-left (record { is = refl }) g in
+    let next = left-on here in
+    let open′ = word-left next w in
+    let within : s < length t = omega (arith, left-within here) in
+    let gap : GapTo t 0 s
+    = record {
+      gap = subst (Gap 0 t s) (sym (here .is)) g;
+      solid = subst Solid (sym (here .is)) (lower-solid b rest lower);
+      from = omega arith;
+      within = λ l. omega arith;
+    } in
+    let word : WordTo t (suc s) e
+    = record {
+      word = subst (λ (xs : List ℕ). Word (suc s) xs e (drop e t)) (sym (next .is)) (subst (Word (suc s) rest e) (sym (open′ .is)) w);
+      ends = subst Ends (sym (open′ .is)) (bracket-ends inside);
+      from = word-on w .0;
+      within = λ l. omega (arith, left-within open′);
+    } in
+    let first = sym (here .is) ∙ drop-cons t s 0 within in
+    let letter : b ≡ getD t s 0 = cc in
+    let opens
+    = head-open t s e within (sym (ap isLower letter) ∙ lower)
+    (subst (λ (k : ℕ). WordTo t k e) (sym (add-one s)) word) (ap (standsAt 40) (open′ .is)) in
+    sym (first-fact t 0 s gap (head.Open s e) opens within refl .is)
 
 pub first-head : (t : List ℕ) {f : Fact} {fs : List Fact} → Text t (f ∷ fs) → headOf t 0 true ≡ head.Open (f .start) (f .end)
-first-head t x = by (x .layout) (x .facts) refl
+first-head t x = by (x .layout) (x .facts)
   where
-    by : {p : ℕ} {xs : List ℕ} {f : Fact} {gs fs : List Fact} → Gap 0 t p xs → Facts p xs gs → gs ≡ f ∷ fs
+    by : {p : ℕ} {xs : List ℕ} {f : Fact} {fs : List Fact} → Gap 0 t p xs → Facts p xs (f ∷ fs)
         → headOf t 0 true ≡ head.Open (f .start) (f .end)
-    by {f = f} g (G.last {f = h} o r) e =
-        let z : h ≡ f = cc in
-        subst (λ (y : Fact). headOf t 0 true ≡ head.Open (y .start) (y .end)) z (one-head t g o)
-    by {f = f} g (G.more {f = h} o r l k) e =
-        let z : h ≡ f = cc in
-        subst (λ (y : Fact). headOf t 0 true ≡ head.Open (y .start) (y .end)) z (one-head t g o)
+    by g (G.last o r) = one-head t g o
+    by g (G.more o r l k) = one-head t g o

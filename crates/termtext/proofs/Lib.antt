@@ -2,6 +2,7 @@ pub mod SpellLaws
 pub mod ValueLaws
 pub mod SayLaws
 pub mod Back
+pub mod TextLaws
 pub mod HeadLaws
 pub mod LieLaws
 pub mod ListLaws
