@@ -5,10 +5,8 @@ ghost use mathlib.Core.Bool.{false};
 ghost use Prim.Native.Nat.{_*_, _≤_, _<_};
 ghost use lib.ListN.{length, getD, set};
 ghost use Rattle.cell.specs.Cell.{variableCell, nameCell, numberCell};
-ghost use Rattle.grammar.specs.Meaning.{place};
 ghost use Rattle.texttable.specs.code.Tree.{Tree};
-ghost use Rattle.texttable.specs.code.Numbers.{RowVars};
-ghost use Rattle.texttable.specs.code.Cells.{making, known, withArgument, NamePut, VariablePut, RowMade, Ready, MadeIs, Writes, Written};
+ghost use Rattle.texttable.specs.code.Cells.{making, known, withArgument, NamePut, RowMade, Ready, MadeIs, Writes, Written};
 ghost use Rattle.limits.specs.Limits.{mostNames, mostTextBytes};
 use super::numbers;
 use super::tree;
@@ -85,27 +83,11 @@ fn put_name(
     names
 }
 
-// A variable is met, and its cell is written; the row's variables with it.
-fn put_variable(
-    text: &[u8],
-    words: &mut [u32],
-    ways: &mut [u16],
-    given: &mut [u16],
-    cells: &mut [u32],
-    row: Row,
-    count: usize,
-    start: usize,
-    end: usize,
-) -> Row
-    requires { ⌜ (start < end) × (end ≤ length (now text)) × (length (now text) ≤ mostTextBytes) × (row .all < length (now words))
-        × (length (now words) < 65535) × RowVars (now text) (now words) (now ways) (now given) row × (count < length (now cells)) ⌝ }
-    ensures { λ r. ⌜ ((v : RowVars (now (text .entry)) (now (words .entry)) (now (ways .entry)) (now (given .entry)) row)
-        → VariablePut (now (text .entry)) (v .places) (place start end) (now (words .exit)) (now (ways .exit)) (now (given .exit))
-        (now (cells .entry)) (now (cells .exit)) count r) ⌝ }
+fn put_variable(cells: &mut [u32], count: usize, number: usize)
+    requires { ⌜ (count < length (now cells)) × (number ≤ 65535) ⌝ }
+    ensures { λ r. ⌜ now (cells .exit) ≡ set (now (cells .entry)) count (variableCell number) ⌝ }
 {
-    let v = numbers::number_variable(text, words, ways, given, row, start, end);
-    cells[count] = variable(v.number as u16);
-    v.row
+    cells[count] = variable(number as u16);
 }
 
 fn put_number(cells: &mut [u32], count: usize, v: usize)
@@ -205,8 +187,10 @@ fn make_on(
             go(e + 1, false, depth + 1, count + 1, Known { names: n, row })
         }
         Turn::Variable(s, e) => {
-            let met = put_variable(text, words, ways, given, cells, row, count, s, e);
-            go(e, true, depth, count + 1, Known { names, row: met })
+            let met = numbers::number_variable(text, words, ways, given, row, s, e);
+            put_variable(cells, count, met.number);
+            let row = met.row;
+            go(e, true, depth, count + 1, Known { names, row })
         }
         Turn::Number(v, e) => {
             put_number(cells, count, v);

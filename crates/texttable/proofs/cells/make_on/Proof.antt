@@ -1,11 +1,14 @@
-use mathlib.Core.Path.{_≡_}
+use mathlib.Core.Path.{_≡_, refl}
+use Prim.Native.Nat.{_<_}
 use native.Mathlib.Omega.{arith}
+use lib.ListN.{length}
 use Rattle.lex.specs.Turns.{Turns}
 use Rattle.lex.specs.declared.turn.Turn.{Turn}
 use Rattle.symbols.proofs.NextLaws.{turn-is}
 use Rattle.texttable.proofs.MakeLaws.{name-fits, name-low, name-made, open-fits, open-deep, open-made, variable-fits, variable-low, variable-made}
 use Rattle.texttable.proofs.MakeLaws.{number-fits, number-low, number-made, argument-fits, comma-outer, comma-inner, close-inner, close-outer}
 use Rattle.texttable.proofs.MakeLaws.{never-stops}
+use Rattle.texttable.proofs.NumberLaws.{variable-few}
 use borrow.Author.Needs.{needs}
 use Rattle.texttable.proofs.cells.make_on.Statement.{statement}
 use Rattle.texttable.proofs.cells.make_on.Tie as tie
@@ -18,6 +21,7 @@ use Rattle.texttable.proofs.cells.go.Reads as go-reads
 use Rattle.texttable.proofs.cells.put_name.Reads as put-name-reads
 use Rattle.texttable.proofs.cells.put_number.Reads as put-number-reads
 use Rattle.texttable.proofs.cells.put_variable.Reads as put-variable-reads
+use Rattle.texttable.proofs.numbers.number_variable.Reads as number-variable-reads
 
 -- where the function starts, and the turn that is met
 abbrev start : tie.After-next-turn → tie.Start
@@ -25,6 +29,39 @@ start c = c .before .before .before .before .before .before .before .before .bef
 
 turned : (c : tie.After-next-turn) {x : Turn} → c .next-turn .result ≡ x → Turns (start c .args .text .now) (start c .args .m .at) (start c .args .m .past) x
 turned c e = turn-is (start c .args .text .now) (start c .args .m .at) (start c .args .m .past) (c .next-turn .ensures) e
+
+-- where a name is met, from where it is put and from where its turn is done
+abbrev name-met : tie.After-put-name → tie.After-s
+name-met c = c .before .before .before .before .before
+
+abbrev name-put : tie.After-slice-known10 → tie.After-put-name
+name-put c = c .before .before .before .before .before .before
+
+-- the same for a name that opens
+abbrev open-met : tie.After-put-name2 → tie.After-s2
+open-met c = c .before .before .before .before .before
+
+abbrev open-put : tie.After-slice-known13 → tie.After-put-name2
+open-put c = c .before .before .before .before .before .before
+
+-- the same for a variable, which first has its number
+abbrev variable-met : tie.After-number-variable → tie.After-s3
+variable-met c = c .before .before .before .before .before
+
+abbrev variable-numbered : tie.After-put-variable → tie.After-number-variable
+variable-numbered c = c .before .before .before .before .before .before .before .before
+
+-- where a name opens, its cell and its depth are low
+deep : (c : tie.After-slice-known13)
+    → let a = start (open-met (open-put c) .before .before) .args in
+    (a .m .count < 65536) × (a .m .depth < length (a .owners .now)) × (a .m .depth < 65536)
+deep c =
+    let s = open-met (open-put c) in
+    let n = s .before .before in
+    let a = start n .args in
+    let x = s .s2 .given in
+    open-deep (a .text .now) (a .list .now) (a .links .now) (a .words .now) (a .ways .now) (a .given .now) (a .cells .now) (a .owners .now)
+    (a .m) (a .k) (x .0 .0) (x .0 .1 .0) (turned n (x .1)) (start n .pre)
 
 next-turn-requires : tie.Need-next-turn-requires
 next-turn-requires c κs = search needs
@@ -34,18 +71,20 @@ enum-known-s c = search needs
 
 put-name-requires : tie.Need-put-name-requires
 put-name-requires c κs =
-    let n = c .before .before .before .before .before .before in
+    let s = c .before .before .before .before in
+    let n = s .before .before in
     let a = start n .args in
-    let x = c .before .before .before .before .s .given in
+    let x = s .s .given in
     let T = turned n (x .1) in
     name-fits (a .text .now) (a .list .now) (a .links .now) (a .words .now) (a .ways .now) (a .given .now) (a .cells .now) (a .owners .now) (a .m)
     (a .k) (x .0 .0) (x .0 .1 .0) T (start n .pre)
 
 add-go : tie.Need-add-go
 add-go c =
-    let n = c .before .before .before .before .before .before .before .before .before .before .before .before .before in
+    let s = name-met (name-put c) in
+    let n = s .before .before in
     let a = start n .args in
-    let x = c .before .before .before .before .before .before .before .before .before .before .before .s .given in
+    let x = s .s .given in
     let T = turned n (x .1) in
     record {
       fits = omega (
@@ -63,70 +102,35 @@ enum-known-s-2 c = search needs
 
 put-name-requires-2 : tie.Need-put-name-requires-2
 put-name-requires-2 c κs =
-    let n = c .before .before .before .before .before .before in
+    let s = c .before .before .before .before in
+    let n = s .before .before in
     let a = start n .args in
-    let x = c .before .before .before .before .s2 .given in
+    let x = s .s2 .given in
     let T = turned n (x .1) in
     open-fits (a .text .now) (a .list .now) (a .links .now) (a .words .now) (a .ways .now) (a .given .now) (a .cells .now) (a .owners .now) (a .m)
     (a .k) (x .0 .0) (x .0 .1 .0) T (start n .pre)
 
 cast-owners : tie.Need-cast-owners
-cast-owners c =
-    let n = c .before .before .before .before .before .before .before .before .before .before .before .before .before in
-    let a = start n .args in
-    let x = c .before .before .before .before .before .before .before .before .before .before .before .s2 .given in
-    let T = turned n (x .1) in
-    let k = open-deep (a .text .now) (a .list .now) (a .links .now) (a .words .now) (a .ways .now) (a .given .now) (a .cells .now) (a .owners .now)
-    (a .m) (a .k) (x .0 .0) (x .0 .1 .0) T (start n .pre) in
-    record { fits = omega (arith, k .0) }
+cast-owners c = record { fits = omega (arith, deep c .0) }
 
 mul-owners : tie.Need-mul-owners
-mul-owners c =
-    let n = c .before .before .before .before .before .before .before .before .before .before .before .before .before in
-    let a = start n .args in
-    let x = c .before .before .before .before .before .before .before .before .before .before .before .s2 .given in
-    let T = turned n (x .1) in
-    let k = open-deep (a .text .now) (a .list .now) (a .links .now) (a .words .now) (a .ways .now) (a .given .now) (a .cells .now) (a .owners .now)
-    (a .m) (a .k) (x .0 .0) (x .0 .1 .0) T (start n .pre) in
-    record { fits = omega (arith, k .2) }
+mul-owners c = record { fits = omega (arith, deep c .2) }
 
 slice-write-owners : tie.Need-slice-write-owners
-slice-write-owners c =
-    let n = c .before .before .before .before .before .before .before .before .before .before .before .before .before in
-    let a = start n .args in
-    let x = c .before .before .before .before .before .before .before .before .before .before .before .s2 .given in
-    let T = turned n (x .1) in
-    let k = open-deep (a .text .now) (a .list .now) (a .links .now) (a .words .now) (a .ways .now) (a .given .now) (a .cells .now) (a .owners .now)
-    (a .m) (a .k) (x .0 .0) (x .0 .1 .0) T (start n .pre) in
-    k .1
+slice-write-owners c = deep c .1
 
 add-go-2 : tie.Need-add-go-2
 add-go-2 c =
-    let n = c .before .before .before .before .before .before .before .before .before .before .before .before .before in
-    let a = start n .args in
-    let x = c .before .before .before .before .before .before .before .before .before .before .before .s2 .given in
-    let T = turned n (x .1) in
-    let k = T .leads in
+    let s = open-met (open-put c) in
+    let k = turned (s .before .before) (s .s2 .given .1) .leads in
     search needs
 
 add-go-3 : tie.Need-add-go-3
-add-go-3 c =
-    let n = c .before .before .before .before .before .before .before .before .before .before .before .before .before in
-    let a = start n .args in
-    let x = c .before .before .before .before .before .before .before .before .before .before .before .s2 .given in
-    let T = turned n (x .1) in
-    let k = open-deep (a .text .now) (a .list .now) (a .links .now) (a .words .now) (a .ways .now) (a .given .now) (a .cells .now) (a .owners .now)
-    (a .m) (a .k) (x .0 .0) (x .0 .1 .0) T (start n .pre) in
-    record { fits = omega (arith, k .2) }
+add-go-3 c = record { fits = omega (arith, deep c .2) }
 
 add-go-4 : tie.Need-add-go-4
 add-go-4 c =
-    let n = c .before .before .before .before .before .before .before .before .before .before .before .before .before in
-    let a = start n .args in
-    let x = c .before .before .before .before .before .before .before .before .before .before .before .s2 .given in
-    let T = turned n (x .1) in
-    let k = open-deep (a .text .now) (a .list .now) (a .links .now) (a .words .now) (a .ways .now) (a .given .now) (a .cells .now) (a .owners .now)
-    (a .m) (a .k) (x .0 .0) (x .0 .1 .0) T (start n .pre) in
+    let k = deep c in
     search needs
 
 go-requires-2 : tie.Need-go-requires-2
@@ -135,20 +139,37 @@ go-requires-2 c κs = search needs
 enum-known-s-3 : tie.Need-enum-known-s-3
 enum-known-s-3 c = search needs
 
+number-variable-requires : tie.Need-number-variable-requires
+number-variable-requires c κs =
+    let s = c .before .before .before .before in
+    let n = s .before .before in
+    let a = start n .args in
+    let x = s .s3 .given in
+    let T = turned n (x .1) in
+    let f = variable-fits (a .text .now) (a .list .now) (a .links .now) (a .words .now) (a .ways .now) (a .given .now) (a .cells .now) (a .owners .now)
+    (a .m) (a .k) (x .0 .0) (x .0 .1 .0) T (start n .pre) in
+    (f .0, f .1, f .2, f .3, f .4, f .5)
+
 put-variable-requires : tie.Need-put-variable-requires
 put-variable-requires c κs =
-    let n = c .before .before .before .before .before .before .before in
+    let v = c .before .before .before .before .before .before .before in
+    let s = variable-met v in
+    let n = s .before .before in
     let a = start n .args in
-    let x = c .before .before .before .before .before .s3 .given in
+    let x = s .s3 .given in
     let T = turned n (x .1) in
-    variable-fits (a .text .now) (a .list .now) (a .links .now) (a .words .now) (a .ways .now) (a .given .now) (a .cells .now) (a .owners .now) (a .m)
-    (a .k) (x .0 .0) (x .0 .1 .0) T (start n .pre)
+    let f = variable-fits (a .text .now) (a .list .now) (a .links .now) (a .words .now) (a .ways .now) (a .given .now) (a .cells .now) (a .owners .now)
+    (a .m) (a .k) (x .0 .0) (x .0 .1 .0) T (start n .pre) in
+    let vars = start n .pre .state .knows .vars in
+    let is = v .number-variable .ensures vars in
+    (f .6, omega (arith, is .low, variable-few is, vars .all, f .3, f .4))
 
 add-go-5 : tie.Need-add-go-5
 add-go-5 c =
-    let n = c .before .before .before .before .before .before .before .before .before .before .before .before .before .before .before .before in
+    let s = variable-met (variable-numbered (c .before .before .before)) in
+    let n = s .before .before in
     let a = start n .args in
-    let x = c .before .before .before .before .before .before .before .before .before .before .before .before .before .before .s3 .given in
+    let x = s .s3 .given in
     let T = turned n (x .1) in
     record {
       fits = omega (
@@ -307,12 +328,14 @@ same-length-4 c = search needs
 
 returns-3 : tie.Need-returns-3
 returns-3 c =
-    let n = c .before .before .before .before .before .before .before .before .before .before .before .before .before .before in
+    let p = name-put (c .before) in
+    let s = name-met p in
+    let n = s .before .before in
     let a = start n .args in
-    let x = c .before .before .before .before .before .before .before .before .before .before .before .before .s .given in
+    let x = s .s .given in
     let T = turned n (x .1) in
     name-made (a .text .now) (a .list .now) (a .links .now) (a .words .now) (a .ways .now) (a .given .now) (a .cells .now) (a .owners .now) (a .m)
-    (a .k) (x .0 .0) (x .0 .1 .0) T (c .before .before .before .before .before .before .before .put-name .ensures) (c .go .ensures)
+    (a .k) (x .0 .0) (x .0 .1 .0) T (p .put-name .ensures) (c .go .ensures)
 
 same-length-5 : tie.Need-same-length-5
 same-length-5 c = search needs
@@ -328,12 +351,14 @@ same-length-8 c = search needs
 
 returns-4 : tie.Need-returns-4
 returns-4 c =
-    let n = c .before .before .before .before .before .before .before .before .before .before .before .before .before .before in
+    let p = open-put (c .before) in
+    let s = open-met p in
+    let n = s .before .before in
     let a = start n .args in
-    let x = c .before .before .before .before .before .before .before .before .before .before .before .before .s2 .given in
+    let x = s .s2 .given in
     let T = turned n (x .1) in
     open-made (a .text .now) (a .list .now) (a .links .now) (a .words .now) (a .ways .now) (a .given .now) (a .cells .now) (a .owners .now) (a .m)
-    (a .k) (x .0 .0) (x .0 .1 .0) T (c .before .before .before .before .before .before .before .put-name2 .ensures) (c .go2 .ensures)
+    (a .k) (x .0 .0) (x .0 .1 .0) T (p .put-name2 .ensures) (c .go2 .ensures)
 
 same-length-9 : tie.Need-same-length-9
 same-length-9 c = search needs
@@ -349,13 +374,22 @@ same-length-12 c = search needs
 
 returns-5 : tie.Need-returns-5
 returns-5 c =
-    let n = c .before .before .before .before .before .before .before .before .before .before .before .before .before .before .before .before .before in
+    let p = c .before .before .before .before in
+    let v = variable-numbered p in
+    let s = variable-met v in
+    let n = s .before .before in
     let a = start n .args in
-    let x = c .before .before .before .before .before .before .before .before .before .before .before .before .before .before .before .s3 .given in
+    let x = s .s3 .given in
     let T = turned n (x .1) in
     λ R. variable-made (a .text .now) (a .list .now) (a .links .now) (a .words .now) (a .ways .now) (a .given .now) (a .cells .now) (a .owners .now)
-    (a .m) (a .k) (x .0 .0) (x .0 .1 .0) T R (c .before .before .before .before .before .before .before .before .before .put-variable .ensures
-    (R .state .knows .vars)) (c .go3 .ensures)
+    (a .m) (a .k) (x .0 .0) (x .0 .1 .0) T R
+    (record {
+      numbered = v .number-variable .result;
+      is = v .number-variable .ensures (R .state .knows .vars);
+      row = refl;
+      cell = p .put-variable .ensures;
+    })
+    (c .go3 .ensures)
 
 same-length-13 : tie.Need-same-length-13
 same-length-13 c = search needs
@@ -426,6 +460,7 @@ make-on-spec =
     add-go-4
     go-requires-2
     enum-known-s-3
+    number-variable-requires
     put-variable-requires
     add-go-5
     go-requires-3
