@@ -11,6 +11,10 @@ use Rattle.texttable.proofs.make_table.Reads as reads
 use Rattle.texttable.proofs.make_table.Lts as lts
 use Rattle.texttable.proofs.cells.write_cells.Reads as write-cells-reads
 
+-- where the function starts, from where the cells are written
+abbrev start : tie.After-write-cells → tie.Start
+start c = c .before .before .before .before .before .before .before .before
+
 cast-made : tie.Need-cast-made
 cast-made c =
     let st = c .before .before .before .before in
@@ -60,20 +64,20 @@ same-length c = search needs
 
 same-length-2 : tie.Need-same-length-2
 same-length-2 c =
-    let st = c .before .before .before .before .before .before .before .before .before .before .before .before in
-    let a = st .args in
-    let P = st .pre in
-    let w = c .before .before .before .before .write-cells in
+    let n = c .before .before .before .before in
+    let a = start n .args in
+    let P = start n .pre in
+    let w = n .write-cells in
     let xs = stored (a .text .now) (a .list .now) (a .made .now) (a .c) (P .0) (P .1) (P .2) (P .3) in
     same-len-mid 2 (length xs - 2) xs (w .last .1 .1 .1 .0) (w .kept .1 .1 .1 .0)
     ∙ stored-long (a .text .now) (a .list .now) (a .made .now) (a .c) (P .0) (P .1) (P .2) (P .3) ∙ sym (P .3)
 
 returns : tie.Need-returns
 returns c = λ C.
-    let st = c .before .before .before .before .before .before .before .before .before .before .before .before in
-    let a = st .args in
-    let P = st .pre in
-    let w = c .before .before .before .before .write-cells in
+    let n = c .before .before .before .before in
+    let a = start n .args in
+    let P = start n .pre in
+    let w = n .write-cells in
     table-made (a .text .now) (a .list .now) (a .made .now) (a .c) C (P .1) (P .2) (P .3) (w .last .1 .1 .0) (w .last .1 .1 .1 .0) (w .result)
     (w .ensures (writes (a .text .now) (a .list .now) (a .made .now) (a .c) C (P .1) (P .2) (P .3)))
 

@@ -41,17 +41,23 @@ enum-told c = search needs
 same-length : tie.Need-same-length
 same-length c = search needs
 
+-- where the function starts, from where the fact's end is seen
+abbrev start : tie.After-row-end → tie.Start
+start c = c .before .before .before .before
+
 returns : tie.Need-returns
 returns c =
-    let a = c .before .before .before .before .before .before .before .before .before .before .before .before .args in
-    let x = c .before .before .before .before .before .before .q .given in
+    let q = c .before .before .before .before .before .before in
+    let n = q .before .before in
+    let a = start n .args in
+    let x = q .q .given in
     begun (a .text .now) (a .at) (a .count) (a .k) (a .ways .now) (c .before .before .before .clear .last .0) (x .0 .0) (c .go .ensures)
-    (subst (RowEnds (a .text .now) (a .at)) (x .1) (c .before .before .before .before .before .before .before .before .row-end .ensures))
+    (subst (RowEnds (a .text .now) (a .at)) (x .1) (n .row-end .ensures))
     (c .before .before .before .clear .ensures)
 
 returns-2 : tie.Need-returns-2
 returns-2 c =
-    let a = c .before .before .before .before .before .before .args in
+    let a = start (c .before .before) .args in
     (subst (RowEnds (a .text .now) (a .at)) (c .enum-told .given .1) (c .before .before .row-end .ensures), refl)
 
 pub after-row-spec : {M : Type 1} → statement M

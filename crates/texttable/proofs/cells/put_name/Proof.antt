@@ -13,6 +13,10 @@ use Rattle.texttable.proofs.cells.put_name.Lts as lts
 use Rattle.texttable.proofs.cells.name.Reads as name-reads
 use Rattle.texttable.proofs.tree.meet.Reads as meet-reads
 
+-- where the function starts, from where the name is met
+abbrev start : tie.After-meet → tie.Start
+start c = c .before .before .before .before .before .before .before
+
 meet-requires : tie.Need-meet-requires
 meet-requires c κs = search needs
 
@@ -44,8 +48,9 @@ same-length-3 c = search needs
 
 returns : tie.Need-returns
 returns c =
-    let a = c .before .before .before .before .before .before .before .before .before .before .before .before .before .args in
-    let m = c .before .before .before .before .before .before .meet in
+    let n = c .before .before .before .before .before .before in
+    let a = start n .args in
+    let m = n .meet in
     put-new (subst (WordMet (a .text .now) (a .list .now) (a .links .now) (a .names) (a .start) (a .end) (m .last .1 .0) (m .last .1 .1 .0))
     (c .if1 .taken) (m .ensures))
     (ap (set (a .cells .now) (a .count)) (c .before .name .ensures ∙ ap (nameCell 0) (c .if1 .taken)))
@@ -61,8 +66,9 @@ same-length-6 c = search needs
 
 returns-2 : tie.Need-returns-2
 returns-2 c =
-    let a = c .before .before .before .before .before .before .before .before .before .before .before .before .before .args in
-    let m = c .before .before .before .before .before .before .meet in
+    let n = c .before .before .before .before .before .before in
+    let a = start n .args in
+    let m = n .meet in
     put-old (m .ensures) (c .if1 .left) (ap (set (a .cells .now) (a .count)) (c .before .name .ensures))
 
 pub put-name-spec : {M : Type 1} → statement M

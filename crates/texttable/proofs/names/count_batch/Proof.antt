@@ -42,10 +42,15 @@ slice-aggregate-unmarked c = search needs
 unmarked-requires : tie.Need-unmarked-requires
 unmarked-requires c κs = search needs
 
+-- where the function starts, from where the first names are listed
+abbrev start : tie.After-fill → tie.Start
+start c = c .before .before .before .before
+
 returns : tie.Need-returns
 returns c =
-    let a = c .before .before .before .before .before .before .before .before .before .before .before .before .before .before .args in
-    let f = c .before .before .before .before .before .before .before .before .before .before .fill in
+    let n = c .before .before .before .before .before .before .before .before .before .before in
+    let a = start n .args in
+    let f = n .fill in
     let s = c .before .before .before .strike in
     batched (a .text .now) (a .from) (f .last .1 .1 .0) (f .last .1 .1 .1 .0) (f .result) (s .last .1 .1 .1 .1 .1 .0) (c .unmarked .result)
     (f .ensures) (s .ensures)

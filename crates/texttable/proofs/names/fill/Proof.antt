@@ -1,5 +1,6 @@
 use Rattle.texttable.proofs.NameLaws.{name-is, none-listed, filling-tree, name-grown, name-stayed}
-use Rattle.texttable.specs.code.Names.{Filling}
+use Rattle.texttable.specs.code.Names.{Filling, NextNameIs}
+use Rattle.texttable.specs.declared.names.NextName.the-variants as next-name
 use lib.ListN.{length}
 use borrow.Author.Needs.{needs}
 use native.Mathlib.Omega.{arith}
@@ -18,6 +19,23 @@ Inv-loop text list₀ links₀ count₀ to₀ list links count to =
 
 abbrev μ-loop : tie.MeasureT-loop
 μ-loop text list₀ links₀ count₀ to₀ list links count to = length text - to .at
+
+-- where the function and its loop stand, from where a name is met
+abbrev start : tie.At-loop Inv-loop μ-loop → tie.Start Inv-loop μ-loop
+start c = c .before .before .before .before
+
+abbrev round : tie.After-s Inv-loop μ-loop → tie.At-loop Inv-loop μ-loop
+round c = c .before .before .before .before
+
+-- and where it is met, from where its word is listed
+abbrev met : tie.After-meet Inv-loop μ-loop → tie.After-s Inv-loop μ-loop
+met c = c .before .before .before .before
+
+-- the name that is met there
+named : (c : tie.After-s Inv-loop μ-loop)
+    → let x = c .s .given .0 in
+    NextNameIs (start (round c) .args .text .now) (round c .loop .to) (next-name.Name (x .0) (x .1 .0) (x .1 .1 .0))
+named c = name-is (start (round c) .args .text .now) (round c .loop .to) (c .before .before .next-name .ensures) (c .s .given .1)
 
 loop-holds : tie.Need-loop-holds Inv-loop μ-loop
 loop-holds c =
@@ -41,72 +59,60 @@ same-length-2 c = search needs
 
 returns : tie.Need-returns Inv-loop μ-loop
 returns c =
-    let l = c .before .before .before .before .loop in
-    let st = c .before .before .before .before .before .before .before .before .args in
+    let r = c .before .before .before .before in
+    let l = r .loop in
     record {
       filling = l .inv .3;
       few = l .inv .2;
       full = λ e. absurd (let z : _≡_ {A = ℕ} 0 1 = cc in omega arith);
-      ended = λ e. name-is (st .text .now) (l .to) (c .before .before .next-name .ensures) (c .enum-told .given .1);
+      ended = λ e. name-is (start r .args .text .now) (l .to) (c .before .before .next-name .ensures) (c .enum-told .given .1);
     }
 
 meet-requires : tie.Need-meet-requires Inv-loop μ-loop
 meet-requires c κs =
-    let l = c .before .before .before .before .before .before .before .loop in
-    let st = c .before .before .before .before .before .before .before .before .before .before .before .args in
-    let x = c .before .before .before .s .given in
-    let A = name-is (st .text .now) (l .to) (c .before .before .before .before .before .next-name .ensures) (x .1) in
-    (omega (arith, A .1), omega (arith, A .2, A .3), omega arith, omega arith, omega arith, filling-tree (l .inv .3))
+    let s = c .before .before .before in
+    let A = named s in
+    (omega (arith, A .1), omega (arith, A .2, A .3), omega arith, omega arith, omega arith, filling-tree (round s .loop .inv .3))
 
 add-count : tie.Need-add-count Inv-loop μ-loop
 add-count c = search needs
 
 loop-less : tie.Need-loop-less Inv-loop μ-loop
 loop-less c =
-    let l = c .before .before .before .before .before .before .before .before .before .before .before .before .before .loop in
-    let st = c .before .before .before .before .before .before .before .before .before .before .before .before .before .before .before .before .before .args in
-    let x = c .before .before .before .before .before .before .before .before .before .s .given in
-    let A = name-is (st .text .now) (l .to) (c .before .before .before .before .before .before .before .before .before .before .before .next-name
-    .ensures) (x .1) in
+    let A = named (met (c .before .before .before .before .before)) in
     omega (arith, A .0, A .1, A .2, A .3)
 
 loop-again : tie.Need-loop-again Inv-loop μ-loop
 loop-again c =
-    let l = c .before .before .before .before .before .before .before .before .before .before .before .before .before .loop in
-    let st = c .before .before .before .before .before .before .before .before .before .before .before .before .before .before .before .before .before .args in
-    let x = c .before .before .before .before .before .before .before .before .before .s .given in
-    let A = name-is (st .text .now) (l .to) (c .before .before .before .before .before .before .before .before .before .before .before .next-name
-    .ensures) (x .1) in (
+    let m = c .before .before .before .before .before in
+    let s = met m in
+    let l = round s .loop in
+    let a = start (round s) .args in
+    let x = s .s .given .0 in (
       search needs,
       search needs,
       search needs,
-      name-grown (st .text .now) (st .from) (l .list) (l .links) _ _ (l .count) (l .to) (x .0 .1 .1 .0)
-          (x .0 .0) (x .0 .1 .0) (c .before .before .before .before .before .meet .result) (l .inv .3) A (omega arith)
-          (c .before .before .before .before .before .meet .ensures) (c .if1 .taken),
+      name-grown (a .text .now) (a .from) (l .list) (l .links) _ _ (l .count) (l .to) (x .1 .1 .0) (x .0) (x .1 .0) (m .meet .result)
+          (l .inv .3) (named s) (omega (arith, named s .1)) (m .meet .ensures) (c .if1 .taken),
     )
 
 loop-less-2 : tie.Need-loop-less-2 Inv-loop μ-loop
 loop-less-2 c =
-    let l = c .before .before .before .before .before .before .before .before .before .before .before .before .before .loop in
-    let st = c .before .before .before .before .before .before .before .before .before .before .before .before .before .before .before .before .before .args in
-    let x = c .before .before .before .before .before .before .before .before .before .s .given in
-    let A = name-is (st .text .now) (l .to) (c .before .before .before .before .before .before .before .before .before .before .before .next-name
-    .ensures) (x .1) in
+    let A = named (met (c .before .before .before .before .before)) in
     omega (arith, A .0, A .1, A .2, A .3)
 
 loop-again-2 : tie.Need-loop-again-2 Inv-loop μ-loop
 loop-again-2 c =
-    let l = c .before .before .before .before .before .before .before .before .before .before .before .before .before .loop in
-    let st = c .before .before .before .before .before .before .before .before .before .before .before .before .before .before .before .before .before .args in
-    let x = c .before .before .before .before .before .before .before .before .before .s .given in
-    let A = name-is (st .text .now) (l .to) (c .before .before .before .before .before .before .before .before .before .before .before .next-name
-    .ensures) (x .1) in (
+    let m = c .before .before .before .before .before in
+    let s = met m in
+    let l = round s .loop in
+    let a = start (round s) .args in
+    let x = s .s .given .0 in (
       search needs,
       search needs,
       search needs,
-      name-stayed (st .text .now) (st .from) (l .list) (l .links) _ _ (l .count) (l .to) (x .0 .1 .1 .0)
-          (x .0 .0) (x .0 .1 .0) (c .before .before .before .before .before .meet .result) (l .inv .3) A (omega arith)
-          (c .before .before .before .before .before .meet .ensures) (c .if1 .left),
+      name-stayed (a .text .now) (a .from) (l .list) (l .links) _ _ (l .count) (l .to) (x .1 .1 .0) (x .0) (x .1 .0) (m .meet .result)
+          (l .inv .3) (named s) (omega (arith, named s .1)) (m .meet .ensures) (c .if1 .left),
     )
 
 same-length-3 : tie.Need-same-length-3 Inv-loop μ-loop

@@ -3,7 +3,8 @@ use Rattle.texttable.proofs.TreeLaws.{found-listed, found-free}
 use Rattle.lex.proofs.NameLaws.{part-is}
 use Rattle.grammar.specs.Meaning.{place}
 use lib.ListN.{take, drop}
-use Rattle.texttable.specs.code.Names.{Shown, Struck, Striking}
+use Rattle.texttable.specs.code.Names.{Shown, Struck, Striking, NextNameIs}
+use Rattle.texttable.specs.declared.names.NextName.the-variants as next-name
 use Rattle.symbols.specs.code.Left.{Left}
 use Rattle.loading.specs.Items.{Item}
 use Rattle.grammar.specs.Meaning.{Place}
@@ -32,6 +33,23 @@ Inv-loop text list links count marks₀ at₀ marks at =
 abbrev μ-loop : tie.MeasureT-loop
 μ-loop text list links count marks₀ at₀ marks at = length text - at .at
 
+-- where the function and its loop stand, from where a name is met
+abbrev start : tie.At-loop Inv-loop μ-loop → tie.Start Inv-loop μ-loop
+start c = c .before .before .before .before .before
+
+abbrev round : tie.After-s Inv-loop μ-loop → tie.At-loop Inv-loop μ-loop
+round c = c .before .before .before
+
+-- and where it is met, from where it is looked for
+abbrev met : tie.After-find Inv-loop μ-loop → tie.After-s Inv-loop μ-loop
+met c = c .before .before .before
+
+-- the name that is met there
+named : (c : tie.After-s Inv-loop μ-loop)
+    → let x = c .s .given .0 in
+    NextNameIs (start (round c) .args .text .now) (round c .loop .at) (next-name.Name (x .0) (x .1 .0) (x .1 .1 .0))
+named c = name-is (start (round c) .args .text .now) (round c .loop .at) (c .before .before .next-name .ensures) (c .s .given .1)
+
 loop-holds : tie.Need-loop-holds Inv-loop μ-loop
 loop-holds c = (refl, λ ns rest rest₀ n S L k. record { rest = rest; left = L; struck = k })
 
@@ -42,30 +60,14 @@ enum-known-s : tie.Need-enum-known-s Inv-loop μ-loop
 enum-known-s c = search needs
 
 sub-find : tie.Need-sub-find Inv-loop μ-loop
-sub-find c =
-    let l = c .before .before .before .before .loop in
-    let st = c .before .before .before .before .before .before .before .before .before .args in
-    let t = st .text .now in
-    let x = c .before .s .given in
-    let A = name-is t (l .at) (c .before .before .before .next-name .ensures) (x .1) in
-    omega (arith, A .1)
+sub-find c = omega (arith, named (c .before) .1)
 
 part-find-start : tie.Need-part-find-start Inv-loop μ-loop
-part-find-start c =
-    let l = c .before .before .before .before .loop in
-    let st = c .before .before .before .before .before .before .before .before .before .args in
-    let t = st .text .now in
-    let x = c .before .s .given in
-    let A = name-is t (l .at) (c .before .before .before .next-name .ensures) (x .1) in
-    omega (arith, A .1)
+part-find-start c = omega (arith, named (c .before) .1)
 
 part-find-end : tie.Need-part-find-end Inv-loop μ-loop
 part-find-end c =
-    let l = c .before .before .before .before .loop in
-    let st = c .before .before .before .before .before .before .before .before .before .args in
-    let t = st .text .now in
-    let x = c .before .s .given in
-    let A = name-is t (l .at) (c .before .before .before .next-name .ensures) (x .1) in
+    let A = named (c .before) in
     omega (arith, A .2, A .3)
 
 find-requires : tie.Need-find-requires Inv-loop μ-loop
@@ -76,37 +78,34 @@ enum-known-j c = search needs
 
 slice-write-marks : tie.Need-slice-write-marks Inv-loop μ-loop
 slice-write-marks c =
-    let l = c .before .before .before .before .before .before .before .before .before .loop in
-    let st = c .before .before .before .before .before .before .before .before .before .before .before .before .before .before .args in
-    let t = st .text .now in
-    let x = c .before .before .before .before .before .before .s .given in
-    let A = name-is t (l .at) (c .before .before .before .before .before .before .before .before .next-name .ensures) (x .1) in
-    let f = found-listed t (st .list .now) (st .links .now) (part t (x .0 .0) (x .0 .1 .0)) (st .count) (c .before .before .before .find .ensures)
-    (c .before .j .given .1) in
-    omega (arith, f .0, l .inv .0)
+    let f = c .before .before .before in
+    let s = met f in
+    let l = round s .loop in
+    let a = start (round s) .args in
+    let t = a .text .now in
+    let x = s .s .given .0 in
+    let i = found-listed t (a .list .now) (a .links .now) (part t (x .0) (x .1 .0)) (a .count) (f .find .ensures) (c .before .j .given .1) in
+    omega (arith, i .0, l .inv .0, start (round s) .pre .0)
 
 enum-told : tie.Need-enum-told Inv-loop μ-loop
 enum-told c = search needs
 
 loop-less : tie.Need-loop-less Inv-loop μ-loop
 loop-less c =
-    let l = c .before .before .before .before .before .before .before .before .before .loop in
-    let st = c .before .before .before .before .before .before .before .before .before .before .before .before .before .before .args in
-    let t = st .text .now in
-    let x = c .before .before .before .before .before .before .s .given in
-    let A = name-is t (l .at) (c .before .before .before .before .before .before .before .before .next-name .ensures) (x .1) in
+    let A = named (met (c .before .before .before)) in
     omega (arith, A .0, A .1, A .2, A .3)
 
 loop-again : tie.Need-loop-again Inv-loop μ-loop
 loop-again c =
-    let l = c .before .before .before .before .before .before .before .before .before .loop in
-    let st = c .before .before .before .before .before .before .before .before .before .before .before .before .before .before .args in
-    let t = st .text .now in
-    let x = c .before .before .before .before .before .before .s .given in
-    let A = name-is t (l .at) (c .before .before .before .before .before .before .before .before .next-name .ensures) (x .1) in
-    let f = found-listed t (st .list .now) (st .links .now) (part t (x .0 .0) (x .0 .1 .0)) (st .count) (c .before .before .before .find .ensures)
-    (c .before .j .given .1) in
-    let e = f .1 ∙ part-is t (x .0 .0) (x .0 .1 .0) (omega (arith, A .1)) (omega (arith, A .2, A .3)) in (
+    let f = c .before .before .before in
+    let s = met f in
+    let l = round s .loop in
+    let a = start (round s) .args in
+    let t = a .text .now in
+    let x = s .s .given .0 in
+    let A = named s in
+    let i = found-listed t (a .list .now) (a .links .now) (part t (x .0) (x .1 .0)) (a .count) (f .find .ensures) (c .before .j .given .1) in
+    let e = i .1 ∙ part-is t (x .0) (x .1 .0) (omega (arith, A .1)) (omega (arith, A .2, A .3)) in (
       search needs,
       λ ns rest rest₀ n S L k. (
           let K = l .inv .1 ns rest rest₀ n S L k in
@@ -115,30 +114,27 @@ loop-again c =
             rest = M .rest;
             left = M .left;
             struck =
-                strikes-listed t (st .list .now) (st .links .now) ns S (l .marks) (place (x .0 .0) (x .0 .1 .0)) (x .0 .1 .1 .0) (K .rest) rest₀ M
+                strikes-listed t (a .list .now) (a .links .now) ns S (l .marks) (place (x .0) (x .1 .0)) (x .1 .1 .0) (K .rest) rest₀ M
                 (K .struck) (c .before .j .given .0 .0)
-                (omega (arith, n, l .inv .0)) (omega (arith, n, f .0)) e;
+                (omega (arith, n, l .inv .0, start (round s) .pre .0)) (omega (arith, n, i .0)) e;
           }),
     )
 
 loop-less-2 : tie.Need-loop-less-2 Inv-loop μ-loop
 loop-less-2 c =
-    let l = c .before .before .before .before .before .before .before .before .loop in
-    let st = c .before .before .before .before .before .before .before .before .before .before .before .before .before .args in
-    let t = st .text .now in
-    let x = c .before .before .before .before .before .s .given in
-    let A = name-is t (l .at) (c .before .before .before .before .before .before .before .next-name .ensures) (x .1) in
+    let A = named (met (c .before .before)) in
     omega (arith, A .0, A .1, A .2, A .3)
 
 loop-again-2 : tie.Need-loop-again-2 Inv-loop μ-loop
 loop-again-2 c =
-    let l = c .before .before .before .before .before .before .before .before .loop in
-    let st = c .before .before .before .before .before .before .before .before .before .before .before .before .before .args in
-    let t = st .text .now in
-    let x = c .before .before .before .before .before .s .given in
-    let A = name-is t (l .at) (c .before .before .before .before .before .before .before .next-name .ensures) (x .1) in
-    let m = found-free t (st .list .now) (st .links .now) (part t (x .0 .0) (x .0 .1 .0)) (st .count) (c .before .before .find .ensures)
-    (c .enum-told .given .1) in (
+    let f = c .before .before in
+    let s = met f in
+    let l = round s .loop in
+    let a = start (round s) .args in
+    let t = a .text .now in
+    let x = s .s .given .0 in
+    let A = named s in
+    let m = found-free t (a .list .now) (a .links .now) (part t (x .0) (x .1 .0)) (a .count) (f .find .ensures) (c .enum-told .given .1) in (
       l .inv .0,
       λ ns rest rest₀ n S L k. (
           let K = l .inv .1 ns rest rest₀ n S L k in
@@ -147,9 +143,9 @@ loop-again-2 c =
             rest = M .rest;
             left = M .left;
             struck =
-                strikes-other t (st .list .now) (st .links .now) ns S (l .marks) (place (x .0 .0) (x .0 .1 .0)) (x .0 .1 .1 .0) (K .rest) rest₀ M
+                strikes-other t (a .list .now) (a .links .now) ns S (l .marks) (place (x .0) (x .1 .0)) (x .1 .1 .0) (K .rest) rest₀ M
                 (K .struck)
-                (λ i h z. m .none i (omega (arith, n)) (z ∙ sym (part-is t (x .0 .0) (x .0 .1 .0) (omega (arith, A .1)) (omega (arith, A .2, A .3)))));
+                (λ i h z. m .none i (omega (arith, n)) (z ∙ sym (part-is t (x .0) (x .1 .0) (omega (arith, A .1)) (omega (arith, A .2, A .3)))));
           }),
     )
 
@@ -161,8 +157,9 @@ same-length c = search needs
 
 returns : tie.Need-returns Inv-loop μ-loop
 returns c =
-    let l = c .before .before .before .loop in
-    let t = c .before .before .before .before .before .before .before .before .args .text .now in
+    let r = c .before .before .before in
+    let l = r .loop in
+    let t = start r .args .text .now in
     λ ns rest rest₀ n S L k. (
     let K = l .inv .1 ns rest rest₀ n S L k in
     all-struck t ns (l .marks) (K .rest) rest₀ (name-is t (l .at) (c .before .before .next-name .ensures) (c .enum-told2 .given .1) (K .rest)

@@ -13,6 +13,13 @@ use Rattle.texttable.proofs.numbers.is_fresh.Reads as is-fresh-reads
 use Rattle.texttable.proofs.tree.meet.Reads as meet-reads
 use Rattle.texttable.proofs.tree.number.Reads as number-reads
 
+-- where the function starts, and where a variable has a name, from where its word is met
+abbrev start : tie.After-is-fresh → tie.Start
+start c = c .before .before .before .before .before
+
+abbrev named : tie.After-meet → tie.Else1
+named c = c .before .before .before
+
 is-fresh-requires : tie.Need-is-fresh-requires
 is-fresh-requires c κs = search needs
 
@@ -21,7 +28,7 @@ add-t12 c = search needs
 
 returns : tie.Need-returns
 returns c =
-    let a = c .before .before .before .before .before .before .args in
+    let a = start (c .before) .args in
     λ v. fresh-variable (a .text .now) (a .words .now) (a .ways .now) (a .given .now) (a .row) (a .start) (a .end) v
     (sym (c .before .is-fresh .ensures) ∙ c .if1 .taken)
 
@@ -45,13 +52,15 @@ same-length-2 c = search needs
 
 returns-2 : tie.Need-returns-2
 returns-2 c =
-    let a = c .before .before .before .before .before .before .before .before .before .before .before .before .before .before .before .before .args in
-    let m = c .before .before .before .before .before .before .before .meet in
+    let w = c .before .before .before .before .before .before .before in
+    let n = named w in
+    let a = start (n .before) .args in
+    let m = w .meet in
     λ v. subst (λ (n : ℕ). VariableIs (a .text .now) (v .places) (place (a .start) (a .end)) (m .last .1 .0) (m .last .1 .1 .0) (a .given .now)
     (record { number = n; row = a .row }))
     (sym (c .number .ensures)) (old-variable (a .text .now) (a .words .now) (a .ways .now) (a .given .now) (a .row) (a .start) (a .end) v
-    (sym (c .before .before .before .before .before .before .before .before .before .before .before .is-fresh .ensures)
-    ∙ c .before .before .before .before .before .before .before .before .before .before .if1 .left) (m .ensures) (omega arith))
+    (sym (n .before .is-fresh .ensures)
+    ∙ n .if1 .left) (m .ensures) (omega arith))
 
 cast-given : tie.Need-cast-given
 cast-given c = search needs
@@ -79,10 +88,12 @@ same-length-5 c = search needs
 
 returns-3 : tie.Need-returns-3
 returns-3 c =
-    let a = c .before .before .before .before .before .before .before .before .before .before .before .before .before .before .args in
+    let w = c .before .before .before .before .before in
+    let n = named w in
+    let a = start (n .before) .args in
     λ v. new-variable (a .text .now) (a .words .now) (a .ways .now) (a .given .now) (a .row) (a .start) (a .end) v (omega arith) (omega arith)
-    (sym (c .before .before .before .before .before .before .before .before .before .is-fresh .ensures)
-    ∙ c .before .before .before .before .before .before .before .before .if1 .left) (c .before .before .before .before .before .meet .ensures)
+    (sym (n .before .is-fresh .ensures)
+    ∙ n .if1 .left) (w .meet .ensures)
     (omega arith)
 
 pub number-variable-spec : {M : Type 1} → statement M
