@@ -88,7 +88,7 @@ module _ {k : ℕ} (i : ℕ) (h : i ≤ k) (g : Run) (p : Plan (arity (g .cell) 
   pub whole : Plan (suc k) (x ∷ [])
   whole = node i h only
 
-  pub whole-notes : (slots : List ℕ) (m row : ℕ) → notes whole slots m row ≡ notesIn (next {g = g} p end) i slots m row
+  whole-notes : (slots : List ℕ) (m row : ℕ) → notes whole slots m row ≡ notesIn (next {g = g} p end) i slots m row
   unfolding whole notes
   whole-notes slots m row = as-only (λ (gs : List Run) (b : Branches k gs). notesIn b i slots m row ≡ notesIn (next {g = g} p end) i slots m row) refl
 
@@ -109,17 +109,17 @@ module _ {k : ℕ} (i : ℕ) (h : i ≤ k) (g : Run) (p : Plan (arity (g .cell) 
   pub chain : Chain (suc k) x
   chain = chain-of whole x refl
 
-  pub chain-is-noted : (words : List ℕ) (n : ℕ) (slots : List ℕ) (m row : ℕ) (rest : List ℕ) → drop n words ≡ map word (notes whole slots m row) ++ rest
+  chain-is-noted : (words : List ℕ) (n : ℕ) (slots : List ℕ) (m row : ℕ) (rest : List ℕ) → drop n words ≡ map word (notes whole slots m row) ++ rest
       → All BranchFits (notes whole slots m row)
       → Noted chain words n slots m
   unfolding chain
   chain-is-noted words n slots m row rest d f = chain-noted whole x refl words n slots m row rest d f whole-cells
 
-  pub chain-is-long : lengthOf chain ≡ suc (branches p)
+  chain-is-long : lengthOf chain ≡ suc (branches p)
   unfolding chain
   chain-is-long = chain-length whole x refl ∙ whole-count
 
-  pub chain-decides : (K : List ℕ) → skeletonsOf chain K ≡ K ∷ skeletons p (decide i (g .cell) K)
+  chain-decides : (K : List ℕ) → skeletonsOf chain K ≡ K ∷ skeletons p (decide i (g .cell) K)
   unfolding chain
   chain-decides K = chain-skeletons whole x refl K ∙ whole-skeletons K
 
@@ -142,7 +142,7 @@ module _ {k : ℕ} (i : ℕ) (h : i ≤ k) (g : Run) (p : Plan (arity (g .cell) 
           all-++ RowCell (front i y) (g .cell ∷ back i y) (all-front RowCell (front i y) (back i y) a)
           (S .cell, all-back RowCell (front i y) (back i y) a)
 
-  pub decided-terms : All (λ (K : List ℕ). Terms (suc k) (opened K)) (replicate (suc k) hole ∷ skeletons p (decide i (g .cell) (replicate (suc k) hole)))
+  decided-terms : All (λ (K : List ℕ). Terms (suc k) (opened K)) (replicate (suc k) hole ∷ skeletons p (decide i (g .cell) (replicate (suc k) hole)))
   decided-terms = rw (whole-skeletons (replicate (suc k) hole)) at (skeletons-terms (suc k) whole (row-loose, tt) (omega arith))
 
 -- The flagged branch, number n, as the walk stands at it.

@@ -1,8 +1,8 @@
 -- From an accepted table, plan and goal to what the walk takes for granted, and from what it gives to what a run is to report.
-use Prim.Native.Nat.{ℕ, zero, suc, _+_, _-_, _^_, _≤_, _<_}
+use Prim.Native.Nat.{ℕ, zero, suc, _+_, _-_, _^_, _<_}
 use mathlib.Core.Path.{_≡_, refl, sym, subst}
 use mathlib.Core.Bool.{true}
-use mathlib.Core.List.{List, [], _∷_, List·Memᴰ}
+use mathlib.Core.List.{List, List·Memᴰ}
 use native.Mathlib.Omega.{arith}
 use lib.ListN.{length, replicate}
 use Rattle.cell.specs.Cell.{arity, isVar, valuesAt}
@@ -10,7 +10,6 @@ use borrow.Author.Tests.{ne-eqb}
 use Rattle.cell.proofs.CellLaws.{cell-accepted}
 use Rattle.term.specs.Terms.{none, root, close}
 use Rattle.term.specs.Unify.{Unifies, renamed, Matches}
-use Rattle.term.proofs.TermsLaws.{terms-long}
 use Rattle.table.specs.All.{All}
 use Rattle.table.proofs.AllLaws.{all-each}
 use Rattle.table.specs.Table.{count, Row, IsTable, IsGoal}
@@ -18,7 +17,7 @@ use Rattle.table.proofs.Accepted.{few-variables}
 use Rattle.plan.specs.Runs.{Run}
 use Rattle.plan.specs.Plans.{Plan, leaf, node, Branches, end, next}
 use Rattle.plan.proofs.CheckLaws.{rows-fit}
-use Rattle.plan.proofs.RunsLaws.{Each, Sized, fits-some, runs-fit, group-sizes}
+use Rattle.plan.proofs.RunsLaws.{Each, Sized, fits-some, runs-fit, group-sizes, fits-wide}
 use Rattle.plan.specs.code.Fits.{Fits}
 use Rattle.answer.specs.Skeleton.{hole, fill}
 use Rattle.answer.specs.Run.{Picks, none, hit, miss, Counts, skeletons, Tried}
@@ -59,13 +58,7 @@ fine-row w r h =
 pub table-loose : {t : List ℕ} {w : ℕ} {rows : List (List ℕ)} → IsTable t w rows → All (Loose (replicate w hole)) rows
 table-loose {w = w} {rows = rows} i = all-each (Row w) (Loose (replicate w hole)) (λ r h. fine-row w r h .loose) rows (i .each)
 
-pub table-fine : {t : List ℕ} {w : ℕ} {rows : List (List ℕ)} → IsTable t w rows → All (Fine (replicate w hole)) rows
-table-fine {w = w} {rows = rows} i = all-each (Row w) (Fine (replicate w hole)) (fine-row w) rows (i .each)
-
 -- rows that fit: at most so many cells, so what is open below a branch is less
-fits-wide : (n k : ℕ) (rows : List (List ℕ)) → 0 < length rows → All (Fits n k) rows → k ≤ n
-fits-wide n k [] l a = absurd (let z : ⊥ = omega arith in z)
-fits-wide n k (r ∷ rs) l a = omega (arith, terms-long (a .0 .0))
 
 mutual
   unfolding Deep
@@ -80,7 +73,7 @@ mutual
   deepIn : {k : ℕ} {gs : List Run} (bs : Branches k gs) (n : ℕ) → 0 < n → Each (λ (c : ℕ). Fits (n - 1) (arity c + k)) gs → (z : ℕ) → Sized z gs → DeepIn bs n
   deepIn end n l a z s = tt
   deepIn (next {k} {g} p bs) n l a z s = (
-    omega (arith, fits-wide (n - 1) (arity (g .cell) + k) (g .rows) (s .0 .0) (a .0)),
+    omega (arith, fits-wide (n - 1) (arity (g .cell) + k) (g .rows) (a .0) (s .0 .0)),
     deep p (n - 1) (a .0) (s .0 .0),
     deepIn bs n l (a .1) z (s .1),
   )
@@ -113,7 +106,7 @@ module _ {w : ℕ} {g : List ℕ} {rows : List (List ℕ)} (h : IsGoal w g) (a :
   fits = rows-fit w rows a
 
   numbers : Numbers w 32 32
-  numbers = record { wide = fits-wide 32 w rows s fits; few = omega arith }
+  numbers = record { wide = fits-wide 32 w rows fits s; few = omega arith }
 
   pub tree-deep : Deep tree 32
   tree-deep = deep tree 32 fits s

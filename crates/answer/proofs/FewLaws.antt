@@ -44,7 +44,7 @@ tried-few R (K ∷ Ks) = let h = tried-few R Ks in go (unifiable (opened K) R) h
     go false h = omega arith
 
 -- a flagged branch has a row
-pub flag-some : (g : Run) → flag g ≡ true → 1 ≤ length (g .rows)
+flag-some : (g : Run) → flag g ≡ true → 1 ≤ length (g .rows)
 unfolding twice count flatten
 flag-some g e = go (g .rows) e
   where

@@ -23,7 +23,7 @@ pub row-like : {K x : List ℕ} → Loose K x → RowLike (fill K x)
 row-like f = record { low = λ c m v. let h = f .low c m v in omega arith }
 
 -- the cell at a place, and the list without it
-close-front : (i : ℕ) (x : List ℕ) (c : ℕ) (B : List ℕ) → back i x ≡ c ∷ B → (root i x ≡ c) × (close i x ≡ front i x ++ B)
+pub close-front : (i : ℕ) (x : List ℕ) (c : ℕ) (B : List ℕ) → back i x ≡ c ∷ B → (root i x ≡ c) × (close i x ≡ front i x ++ B)
 unfolding root close front back
 close-front i [] c B e = absurd (let z : _≡_ {A = ℕ} 0 1 = cc in let y : ⊥ = omega arith in y)
 close-front zero (d ∷ xs) c B e = (cc, cc)

@@ -102,7 +102,7 @@ picks-none P (r ∷ rs) f a = miss (a .0) (picks-none P rs (suc f) (a .1))
 abbrev pub Below : ℕ → List ℕ → ℕ → List ℕ → Type 0
 Below i K c x = Once (decide i c K) x × (c ≢ hole)
 
-pub below-all : (K : List ℕ) (i j : ℕ) → count hole K ≡ i + suc j → (rows : List (List ℕ)) → All (Once K) rows → Each (Below i K) (runs i rows)
+below-all : (K : List ℕ) (i j : ℕ) → count hole K ≡ i + suc j → (rows : List (List ℕ)) → All (Once K) rows → Each (Below i K) (runs i rows)
 below-all K i j e = group-all (root i) (close i) (Once K) (Below i K) (λ r f. (once-close K i j e f, no-hole K i j e (f .loose)))
 
 -- what a run's rows say of its cell and of what is open below it
@@ -110,10 +110,10 @@ module _ (i k c : ℕ) (K : List ℕ) (rows : List (List ℕ)) (e : count hole K
   pub cell-hole : c ≢ hole
   cell-hole = some-row (Below i K c) rows s a .1 .1
 
-  pub holes-below : count hole (decide i c K) ≡ arity c + k
+  holes-below : count hole (decide i c K) ≡ arity c + k
   holes-below = let z = decide-count i c K cell-hole (omega arith) in omega arith
 
-  pub once-below : All (Once (decide i c K)) rows
+  once-below : All (Once (decide i c K)) rows
   once-below = all-each (Below i K c) (Once (decide i c K)) (λ x y. y .0) rows a
 
 -- A row of which no variable is decided, or that uses each of its variables once.

@@ -74,7 +74,7 @@ small-drop (suc p) [] s = s
 small-drop (suc p) (c ∷ xs) s = small-drop p xs (small-tail s)
 
 -- its variables lie above a row's
-pub lift-range : (d c : ℕ) → (isVar d ≡ true → d < 32) → c ≡ lift d → isVar c ≡ true → (2 ^ 16 ≤ c) × (c < 2 ^ 16 + 32)
+lift-range : (d c : ℕ) → (isVar d ≡ true → d < 32) → c ≡ lift d → isVar c ≡ true → (2 ^ 16 ≤ c) × (c < 2 ^ 16 + 32)
 lift-range d c h e v = ⊎-elim
     (λ y. let l = h y in let q : c ≡ var d = e ∙ lift-var d y in omega arith)
     (λ y. absurd (true≢false (sym v ∙ ap isVar (e ∙ lift-symbol d y) ∙ y)))

@@ -46,8 +46,8 @@ unfolding fill
 fill-cell c K X h = rw (ne-eqb c hole h)
 
 -- a hole filled, as terms
-fill-first : (K X : List ℕ) → Terms (count hole (hole ∷ K)) X → Terms 1 (front 1 X) × Terms (count hole K) (back 1 X)
-fill-first K X t =
+pub first-hole : (K X : List ℕ) → Terms (count hole (hole ∷ K)) X → Terms 1 (front 1 X) × Terms (count hole K) (back 1 X)
+first-hole K X t =
     let u : Terms (1 + count hole K) X = rw (one-add, ← count-same hole K) t in
     (front-terms 1 (count hole K) X u, back-terms 1 (count hole K) X u)
 
@@ -61,7 +61,7 @@ count-fill v (c ∷ K) X h t = go (hole? c) (count-fill v K X h) (count-fill v K
         → (Terms (count hole K) (back 1 X) → count v (fill K (back 1 X)) ≡ count v K + count v (back 1 X))
         → Terms (count hole (c ∷ K)) X → count v (fill (c ∷ K) X) ≡ count v (c ∷ K) + count v X
     go a-hole f g u =
-        let e = g (fill-first K X u .1) in
+        let e = g (first-hole K X u .1) in
         let s : count v X ≡ count v (front 1 X) + count v (back 1 X) = ap (count v) (sym (front-back 1 X)) ∙ count-++ v (front 1 X) (back 1 X) in
         rw (fill-hole K X, count-other v hole K h, count-++ v (front 1 X) (fill K (back 1 X))) (omega arith)
     go (a-cell {c} n) f g u =

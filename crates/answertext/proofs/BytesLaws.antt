@@ -10,6 +10,7 @@ use lib.Dec.{eqb, leb}
 use lib.IntN.{ℤ}
 use lib.ListN.{length, getD, take, drop, length-append, length-drop}
 use lib.Seq.{slice}
+use Rattle.slices.proofs.SliceLaws.{take-few}
 use Rattle.cell.specs.Signed.{signedOf}
 use Rattle.cell.specs.Cell.{kindOf, argsOf, numberOf, middleOf, Values, values, numberValues, noValues, valuesAt, valuesOf, arity}
 use Rattle.cell.specs.declared.Shape.{Shape}
@@ -26,10 +27,6 @@ use Rattle.answertext.proofs.WordLaws.{word-variable, word-number}
 use Rattle.answertext.proofs.LevelLaws.{terms-next, terms-done}
 
 -- a part of a text
-take-few : (n : ℕ) (l : List ℕ) → (length (take n l) ≤ n) × (length (take n l) ≤ length l)
-take-few zero l = (omega arith, omega arith)
-take-few (suc n) [] = (omega arith, omega arith)
-take-few (suc n) (x ∷ xs) = let r = take-few n xs in (omega arith, omega arith)
 
 pub slice-few : (f t : ℕ) (l : List ℕ) → length (slice f t l) ≤ t - f
 slice-few f t l = omega (arith, length-drop f (take t l), take-few t l .0)

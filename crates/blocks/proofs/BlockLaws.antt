@@ -1,13 +1,13 @@
 -- One block, and blocks one after another: what is written is sound and its cells are found again; what is sound is the block of its cells.
-use Prim.Native.Nat.{ℕ, zero, suc, _+_, _-_, _*_, _^_, _≤_, _<_}
+use Prim.Native.Nat.{ℕ, zero, suc, _+_, _*_, _^_, _≤_, _<_}
 use mathlib.Core.Path.{_≡_, refl, sym, _∙_, ap}
-use mathlib.Core.Logic.{_⊎_, inl, inr, ⊎-elim}
+use mathlib.Core.Logic.{_⊎_, inl, inr}
 use mathlib.Core.Bool.{Bool, true, false, cond, _&&_}
-use mathlib.Core.List.{List, [], _∷_, _++_, append-assoc}
+use mathlib.Core.List.{List, [], _∷_, _++_}
 use native.Mathlib.Omega.{arith}
 use lib.Dec.{eqb}
 use lib.ListN.{length, getD, take, drop, length-append, length-drop, take-append-drop}
-use lib.Seq.{take-at, drop-at, getD-at, take-all, length-take-le, drop-drop, drop-cons, drop-length, getD-append-add, take-take}
+use lib.Seq.{take-at, drop-at, getD-at, length-take-le, drop-cons, getD-append-add}
 use borrow.Author.Tests.{eqb-true}
 use Rattle.term.proofs.Tests.{bool-cases, eqb-same}
 use Rattle.term.proofs.Lists.{nil-of-length}
@@ -63,7 +63,7 @@ block-sound n cells h =
       eqb-same (second 1 0 (n ∷ cells)),
     )
 
-pub block-words : (n : ℕ) (cells : List ℕ) → n < 2 ^ 32 → AreWords cells → AreWords (blockOf n cells)
+block-words : (n : ℕ) (cells : List ℕ) → n < 2 ^ 32 → AreWords cells → AreWords (blockOf n cells)
 block-words n cells h w =
     words-both (n ∷ cells) (checks (n ∷ cells)) (h, w) (first-small 1 (n ∷ cells) (omega arith), (second-small 1 0 (n ∷ cells) (omega arith), tt))
 

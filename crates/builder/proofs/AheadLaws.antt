@@ -151,7 +151,7 @@ module _ (t ss ms ls : List ℕ) (from : ℕ) where
         column-from n (r + 1) j (λ s a b. f s (omega arith) (omega arith)),
       )
 
-  pub column-ahead : {first end : ℕ} → AheadIn t ss ms ls from first end → (i : ℕ) → from ≤ i
+  column-ahead : {first end : ℕ} → AheadIn t ss ms ls from first end → (i : ℕ) → from ≤ i
       → map (root (i - from)) (rowsIn t ss ls first end) ≡ map (root i) (rowsIn t ss ms first end)
   column-ahead {first} {end} a i h =
       let e : from + (i - from) ≡ i = omega arith in

@@ -10,10 +10,10 @@ use Rattle.plan.specs.Named.{flagsOf, occurs}
 use Rattle.plan.specs.Plans.{Plan, Measure}
 use Rattle.plan.proofs.NamedLaws.{Free}
 use Rattle.plan.proofs.ColumnsLaws.{free-columns, same-flags, same-columns}
-use Rattle.least.specs.Least.{Least, Built}
+use Rattle.least.specs.Least.{Built}
 use Rattle.least.specs.Measures.{tableBy}
 use Rattle.least.specs.declared.By.{By}
-use Rattle.least.proofs.NoneNamed.{free-built, free-least}
+use Rattle.least.proofs.NoneNamed.{free-built}
 use Rattle.paircosts.proofs.PlainLaws.{plain-free}
 use Rattle.builder.specs.Build.{tableFor, BuiltInto, table-refused, room-refused, built}
 use Rattle.builder.specs.declared.BuildAnswer.{BuildAnswer}
@@ -26,12 +26,6 @@ no-column-free w = free-columns [] w (inr (λ c h. refl))
 module _ (m : Measure) {w : ℕ} {rows : List (List ℕ)} where
   pub plain-built : (p : Plan w rows) → Built m (flagsOf w []) p → Built m [] p
   plain-built p b = free-built m (flagsOf w []) [] (no-column-free w) (plain-free w) p b
-
-  pub built-plain : (p : Plan w rows) → Built m [] p → Built m (flagsOf w []) p
-  built-plain p b = free-built m [] (flagsOf w []) (plain-free w) (no-column-free w) p b
-
-  pub least-plain : {n : ℕ} → Least m (flagsOf w []) w rows n → Least m [] w rows n
-  least-plain l = free-least m (flagsOf w []) [] (no-column-free w) (plain-free w) l
 
 -- THE LIST AS A SET: what is built for one list is built for every other that names the same columns
 module _ (xs ys : List ℕ) (alike : (c : ℕ) → occurs c xs ≡ occurs c ys) where

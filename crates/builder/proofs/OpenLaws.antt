@@ -10,6 +10,7 @@ use lib.ListN.{length, getD, drop, length-drop, drop-of-length-le}
 use lib.Seq.{getD-drop}
 use borrow.Author.Tests.{eq-eqb, ne-eqb}
 use Rattle.state.specs.Mask.{odd, kept}
+use Rattle.state.proofs.MaskLaws.{kept-set, kept-unset}
 use Rattle.builder.specs.code.Writing.{openIn}
 
 pub is-odd : (m : ℕ) → m % 2 ≡ 1 → odd m ≡ true
@@ -24,14 +25,6 @@ parity m = go (m % 2) refl
     go : (r : ℕ) → m % 2 ≡ r → (m % 2 ≡ 1) ⊎ (m % 2 ≡ 0)
     go zero e = inr e
     go (suc r) e = inl (omega arith)
-
-kept-odd : (m c : ℕ) (xs : List ℕ) → m % 2 ≡ 1 → kept m (c ∷ xs) ≡ c ∷ kept (m / 2) xs
-unfolding kept
-kept-odd m c xs h = rw (is-odd m h)
-
-kept-even : (m c : ℕ) (xs : List ℕ) → m % 2 ≡ 0 → kept m (c ∷ xs) ≡ kept (m / 2) xs
-unfolding kept
-kept-even m c xs h = rw (is-even m h)
 
 pub kept-none : (xs : List ℕ) → kept 0 xs ≡ []
 unfolding kept
@@ -54,12 +47,12 @@ lowest (suc n) m (c ∷ xs) p h l = go (m % 2) refl l (λ e q. lowest n (m / 2) 
         let t : ℕ = trailingZeros n (m / 2) in
         let d : (m - 2 ^ suc t) % 2 ≡ 0 = omega arith in
         let f : (m - 2 ^ suc t) / 2 ≡ m / 2 - 2 ^ t = omega arith in
-        rw (kept-even m c xs e, kept-even (m - 2 ^ suc t) c xs d, f) (ih e (omega arith))
+        rw (kept-unset m c xs e, kept-unset (m - 2 ^ suc t) c xs d, f) (ih e (omega arith))
     go (suc r) e l ih =
         let o : m % 2 ≡ 1 = omega arith in
         let d : (m - 2 ^ 0) % 2 ≡ 0 = omega arith in
         let f : (m - 2 ^ 0) / 2 ≡ m / 2 = omega arith in
-        rw (kept-odd m c xs o, kept-even (m - 2 ^ 0) c xs d, f)
+        rw (kept-set m c xs o, kept-unset (m - 2 ^ 0) c xs d, f)
 
 no-lowest : (n m : ℕ) (xs : List ℕ) → 0 < m → m < 2 ^ n → length xs ≤ trailingZeros n m → kept m xs ≡ []
 unfolding trailingZeros kept
@@ -69,7 +62,7 @@ no-lowest (suc n) m (c ∷ xs) p h l = go (m % 2) refl l (λ e q. no-lowest n (m
   where
     go : (r : ℕ) → m % 2 ≡ r → length (c ∷ xs) ≤ under r (trailingZeros n (m / 2))
         → (m % 2 ≡ 0 → length xs ≤ trailingZeros n (m / 2) → kept (m / 2) xs ≡ []) → kept m (c ∷ xs) ≡ []
-    go zero e l ih = kept-even m c xs e ∙ ih e (omega arith)
+    go zero e l ih = kept-unset m c xs e ∙ ih e (omega arith)
     go (suc r) e l ih = absurd (omega arith)
 
 pub lowest-set : (n m : ℕ) → 0 < m → m < 2 ^ n → 2 ^ trailingZeros n m ≤ m

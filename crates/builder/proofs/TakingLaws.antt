@@ -15,7 +15,7 @@ use Rattle.term.proofs.PlaceLaws.{root-before}
 use Rattle.table.specs.All.{All}
 use Rattle.plan.specs.Runs.{run, runs}
 use Rattle.plan.specs.Plans.{write, writes}
-use Rattle.plan.specs.Named.{may, flag, freely, spread}
+use Rattle.plan.specs.Named.{may, freely, spread}
 use Rattle.plan.specs.code.Fits.{Fits}
 use Rattle.plan.proofs.NamedLaws.{none-named, is-may}
 use Rattle.plan.proofs.RunsLaws.{fits-more, runs-fit}
@@ -123,7 +123,7 @@ module _ {t ss ms hs kept out : List ℕ} {first last k named at : ℕ} (q : ToW
     }
 
     -- with no flag set, the places before i are not to be taken below either
-    pub after-from : named ≡ 0 → let gs = flagsIn (arity c + (k - 1)) (spreadOf named i (arity c)) in let rs = rowsIn t ss ms₁ first last in
+    after-from : named ≡ 0 → let gs = flagsIn (arity c + (k - 1)) (spreadOf named i (arity c)) in let rs = rowsIn t ss ms₁ first last in
         agreedFrom gs (arity c + (k - 1)) 0 rs ≡ agreedFrom gs (arity c + (k - 1) - i) i rs
     after-from z =
         let n : i + (arity c + (k - 1) - i) ≡ arity c + (k - 1) = omega arith in

@@ -54,7 +54,7 @@ module _ (c : ℕ) where
   unfolding arity
   arity-name k m = ap (λ (v : Values). v .args) (is-name k m)
 
-  pub arity-no-name : kindOf c ≡ 1 → 4 < middleOf c → arity c ≡ 0
+  arity-no-name : kindOf c ≡ 1 → 4 < middleOf c → arity c ≡ 0
   unfolding arity
   arity-no-name k m = ap (λ (v : Values). v .args) (no-name k m)
 

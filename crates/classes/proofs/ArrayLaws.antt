@@ -12,6 +12,7 @@ use lib.Seq.{take-suc, take-suc-set, drop-cons}
 use borrow.Author.Tests.{eq-eqb, ne-eqb}
 use Rattle.cell.specs.Cell.{arity}
 use Rattle.walking.specs.code.Link.{steps}
+use Rattle.walking.proofs.ListLaws.{steps-more}
 use Rattle.classes.specs.code.Nodes.{at, to, join, same, loose, bound, alike, nil, cons, clash, within, first, later}
 use Rattle.classes.specs.code.Arrays.{rootsFrom, classes, Inside, Ready, ReadyAll, Unified, joined, apart, UnifiedAll, all-joined, one-apart}
 use Rattle.classes.proofs.Joined.{join-here, join-other, flat-join, length-join}
@@ -232,13 +233,8 @@ pub going-first : {bs ns sib rep : List ℕ} {p q k left : ℕ} → ReadyAll bs 
     → Going bs ns sib rep rep p q k p q k left
 going-first R c h = record { ready = R .ready; some = h; number = c; here = R .left; there = R .right; whole = λ rep′ n′ u. u }
 
-pub steps-next : (sib : List ℕ) (a p : ℕ) → 0 < a → steps sib a p ≡ p ∷ steps sib (a - 1) (getD sib p 0)
-unfolding steps
-steps-next sib zero p h = absurd (omega arith)
-steps-next sib (suc a) p h = let e : suc a - 1 ≡ a = omega arith in rw e
-
 pub first-inside : (sib : List ℕ) (a p : ℕ) → 0 < a → Inside (steps sib a p) → (p < 64) × Inside (steps sib (a - 1) (getD sib p 0))
-first-inside sib a p h l = rw (steps-next sib a p h) at l
+first-inside sib a p h l = rw (steps-more sib a p h) at l
 
 module _ {bs ns sib rep₀ rep rep₁ : List ℕ} {p q k i j more n₁ n : ℕ} (G : Going bs ns sib rep₀ rep p q k i j more n) (h : 0 < more) where
   pub going-next : Unified bs ns sib rep rep₁ i j n₁ → n₁ ≢ 0 → Going bs ns sib rep₀ rep₁ p q k (getD sib i 0) (getD sib j 0) (more - 1) n₁
@@ -258,12 +254,12 @@ module _ {bs ns sib rep₀ rep rep₁ : List ℕ} {p q k i j more n₁ n : ℕ} 
       add : {rep′ : List ℕ} {n′ : ℕ} → UnifiedAll bs ns sib rep₁ rep′ (getD sib i 0) (getD sib j 0) (more - 1) n′
           → UnifiedAll bs ns sib rep rep′ i j more n′
       add (all-joined s′ m′ r′ w′) =
-          all-joined s′ m′ r′ (λ own. rw (steps-next sib more i h, steps-next sib more j h) (cons (w own) (w′ own)))
-      add (one-apart z l′ w′) = one-apart z l′ (λ own. rw (steps-next sib more i h, steps-next sib more j h) (later (w own) (w′ own)))
+          all-joined s′ m′ r′ (λ own. rw (steps-more sib more i h, steps-more sib more j h) (cons (w own) (w′ own)))
+      add (one-apart z l′ w′) = one-apart z l′ (λ own. rw (steps-more sib more i h, steps-more sib more j h) (later (w own) (w′ own)))
 
   pub going-apart : Unified bs ns sib rep rep₁ i j n₁ → n₁ ≡ 0 → UnifiedAll bs ns sib rep₀ rep₁ p q k 0
   going-apart (joined s m r w) e = absurd (let z : ⊥ = omega arith in z)
-  going-apart (apart z l w) e = G .whole rep₁ 0 (one-apart refl l (λ own. rw (steps-next sib more i h, steps-next sib more j h) (first (w own))))
+  going-apart (apart z l w) e = G .whole rep₁ 0 (one-apart refl l (λ own. rw (steps-more sib more i h, steps-more sib more j h) (first (w own))))
 
 pub steps-none : (sib : List ℕ) (a p : ℕ) → a ≡ 0 → steps sib a p ≡ []
 unfolding steps

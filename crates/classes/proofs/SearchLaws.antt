@@ -15,6 +15,7 @@ use Rattle.cell.specs.Cell.{arity}
 use Rattle.term.specs.Unify.{inst}
 use Rattle.table.specs.All.{All}
 use Rattle.walking.specs.code.Link.{steps}
+use Rattle.walking.proofs.ListLaws.{steps-more}
 use Rattle.classes.specs.code.Nodes.{Nodes, at, Flat}
 use Rattle.classes.specs.code.Finite.{Fin, bare, over, FinAll, no-more, and-more}
 use Rattle.classes.specs.code.Arrays.{nodes, Inside, Ready, rootsFrom, classes, Unified, joined, apart}
@@ -22,7 +23,7 @@ use Rattle.classes.specs.code.Search.{newFrom, news, Fewer, Under, Marks
 use Rattle.classes.specs.code.Search.{ends, cycles, Equals, equal, never, SearchedAll, all-end, one-cycles}
 use Rattle.classes.proofs.Joined.{merged, failed}
 use Rattle.classes.proofs.Finite.{kid-short}
-use Rattle.classes.proofs.ArrayLaws.{at-is, steps-next, steps-none, first-inside}
+use Rattle.classes.proofs.ArrayLaws.{at-is, steps-none, first-inside}
 
 -- Counting what is new.
 
@@ -222,7 +223,7 @@ under-fewer h u = record { shorter = λ own τ f s g q. u .shorter own τ f s g 
 module _ {bs ns sib rep mark₀ mark : List ℕ} {p k q more : ℕ} (L : Looking bs ns sib rep mark₀ mark p k q more) where
   module _ (h : 0 < more) where
     first-under : Under bs ns sib rep mark₀ q × All (Under bs ns sib rep mark₀) (steps sib (more - 1) (getD sib q 0))
-    first-under = rw (steps-next sib more q h) at (L .unders)
+    first-under = rw (steps-more sib more q h) at (L .unders)
 
     pub looking-call : Searching bs ns sib rep mark q
     looking-call =
@@ -237,7 +238,7 @@ module _ {bs ns sib rep mark₀ mark : List ℕ} {p k q more : ℕ} (L : Looking
       grey = λ i v. L .grey i (g i v);
       here = first-inside sib more q h (L .here) .1;
       unders = first-under .1;
-      whole = λ own v. L .whole own (rw (steps-next sib more q h) (and-more (w own) v));
+      whole = λ own v. L .whole own (rw (steps-more sib more q h) (and-more (w own) v));
     }
 
     pub looking-cycles : {mark′ : List ℕ} {b : Bool} → Searched bs ns sib rep mark mark′ q b → b ≡ false → SearchedAll bs ns sib rep mark₀ mark′ p k false

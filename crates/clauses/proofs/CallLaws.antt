@@ -146,7 +146,7 @@ module _ (K : List ℕ) (n : ℕ) (a : Solid K) (e : count hole K ≡ n) (l : n 
         }
 
     -- an answer to the call, which is the reply of a row to it: for the goal, that of the filled head
-    pub passed-reply : {y b cells : List ℕ} → Terms n y → MostGeneral y call b → Passed (inst σ (headOf K)) call b cells
+    passed-reply : {y b cells : List ℕ} → Terms n y → MostGeneral y call b → Passed (inst σ (headOf K)) call b cells
         → Reply (fill K y) goal cells
     passed-reply {y} {b} t m p =
         let q = p .passes in
@@ -167,7 +167,7 @@ module _ (K : List ℕ) (n : ℕ) (a : Solid K) (e : count hole K ≡ n) (l : n 
           order = p .order;
         }
 
-    pub passed-apart : {y : List ℕ} → Terms n y → Disjoint y call → Disjoint (fill K y) goal
+    passed-apart : {y : List ℕ} → Terms n y → Disjoint y call → Disjoint (fill K y) goal
     passed-apart {y} t h z c =
         let r = common-passes t c in
         h (inst (r .by) call) (record { first = r .fits; second = record { by = r .by; good = r .good; same = refl } })

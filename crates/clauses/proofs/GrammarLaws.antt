@@ -12,7 +12,7 @@ use Rattle.grammar.specs.Grammar as G
 use Rattle.grammar.specs.Grammar.{isLower, isUpper, isDigit, isWord, space, feed, return, Line, Gap, Word, Digits, Symbol, Term, Args}
 use Rattle.grammar.specs.Reader.{isBlank, Solid, Ends}
 use Rattle.grammar.proofs.LongLaws.{gap-place, word-on}
-use Rattle.grammar.proofs.Complete.{Follows, comma-follows, bracket-follows, follows-ends, upper-below, digit-below, not-lower, not-upper}
+use Rattle.grammar.proofs.Complete.{Follows, comma-follows, bracket-follows, follows-ends, upper-below, digit-below, not-lower, not-upper, gap-follows}
 
 -- GAPS. What is left of a text after its blanks and comments; in a comment or not
 skip : List ℕ → Bool → List ℕ
@@ -47,14 +47,6 @@ pub gap-one : {p q q′ : ℕ} {xs ys ys′ : List ℕ} → Gap p xs q ys → So
 gap-one {ys = ys} {ys′} g s h u =
     let e : ys ≡ ys′ = sym (solid-skip ys s) ∙ sym (gap-skip g) ∙ gap-skip h ∙ solid-skip ys′ u in
     record { place = omega (arith, gap-place g, gap-place h, ap length e); rest = e }
-
-gap-follows : {p q : ℕ} {xs ys : List ℕ} → Gap p xs q ys → Follows ys → Follows xs
-unfolding isWord isLower isUpper isDigit
-gap-follows G.none f = f
-gap-follows (G.blank space g) f = (refl, refl, refl)
-gap-follows (G.blank feed g) f = (refl, refl, refl)
-gap-follows (G.blank return g) f = (refl, refl, refl)
-gap-follows (G.remark l g) f = (refl, refl, refl)
 
 -- WORDS
 chop : List ℕ → List ℕ

@@ -165,7 +165,7 @@ called-there program next (rule h Q P) pre post e a b =
     away c next s (inl x) f = omega arith
     away c next s (inr x) f = omega arith
 
-pub numbered-collects : (w : ℕ) (P : Predicate) → Collects (numbered w P) 0 (numbered w P) P
+numbered-collects : (w : ℕ) (P : Predicate) → Collects (numbered w P) 0 (numbered w P) P
 unfolding numbered
 numbered-collects w P =
     let O = own 0 w 1 P in

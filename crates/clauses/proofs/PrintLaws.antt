@@ -26,14 +26,14 @@ use Rattle.plan.specs.code.Rows.{rowCount}
 use Rattle.plan.proofs.RunsLaws.{Each, Sized, group-all, group-sizes, group-rows}
 use Rattle.answer.specs.Skeleton.{hole, fill, decide}
 use Rattle.answer.proofs.CountLaws.{up-distinct, count-same}
-use Rattle.answer.proofs.SkeletonLaws.{fill-hole, fill-cell, fill-all, count-all}
+use Rattle.answer.proofs.SkeletonLaws.{fill-hole, fill-cell, fill-all, count-all, first-hole}
 use Rattle.instance.specs.Reply.{Numbered}
 use Rattle.grammar.specs.Numbering.{Words}
 use Rattle.termtext.proofs.SayLaws.{Good, good-variable, good-name, good-number, Goods}
 use Rattle.clauses.specs.Clauses.{handed}
 use Rattle.clauses.specs.Translate.{Predicate, done, fact, rule, headOf, single, each, clause, clauseIn, predicate}
 use Rattle.clauses.specs.Program.{callees, own, below, numbered}
-use Rattle.clauses.proofs.SolidLaws.{Solid, Frame, Hole?, a-hole, a-cell, hole?, first-hole, no-hole, blank-solid, fill-none, fill-mem}
+use Rattle.clauses.proofs.SolidLaws.{Solid, Frame, Hole?, a-hole, a-cell, hole?, no-hole, blank-solid, fill-none, fill-mem}
 use Rattle.clauses.proofs.SolidLaws.{handed-is, head-is, numbered-solid, fill-long}
 use Rattle.clauses.proofs.SeatLaws.{Seat, SeatAt, seat-close, few-places, one-solid, seats, Fixed, runs-fixed, refill, blank, below-count}
 use Rattle.clauses.proofs.SeatLaws.{frame-blank, frame-below}

@@ -14,19 +14,12 @@ use Rattle.grammar.specs.Grammar.{Symbol, Args}
 use Rattle.grammar.specs.Numbering.{Words}
 use Rattle.termtext.specs.Saying.{closing, owing, termsText, answerText}
 use Rattle.termtext.proofs.SayLaws as say
-use Rattle.termtext.proofs.SayLaws.{Spells, terms-said, Goods}
+use Rattle.termtext.proofs.SayLaws.{Spells, terms-said, Goods, spells-both}
 use Rattle.termtext.proofs.Back.{Apart, spelt-row}
 use Rattle.clauses.specs.Clauses.{nothing, calls, Clause, clauseOf, handed}
 use Rattle.clauses.specs.Text.{predicateWord, atomText, bodyText, lineText, programText}
 use Rattle.clauses.specs.Reading as reading
 use Rattle.clauses.specs.Reading.{AtomAt, ClauseAt, ClausesAt, Reads}
-
-spells-both : {t : List ℕ} {words : Words} {ss us : List Symbol} {cs ds : List ℕ} → Spells t words ss cs → Spells t words us ds
-    → Spells t words (ss ++ us) (cs ++ ds)
-spells-both say.none z = z
-spells-both (say.a-name l m h x) z = say.a-name l m h (spells-both x z)
-spells-both (say.a-variable l h x) z = say.a-variable l h (spells-both x z)
-spells-both (say.a-number l x) z = say.a-number l (spells-both x z)
 
 spells-long : {t : List ℕ} {words : Words} {ss : List Symbol} {cs : List ℕ} → Spells t words ss cs → length cs ≡ length ss
 spells-long say.none = refl

@@ -18,6 +18,7 @@ use Rattle.plan.specs.Runs.{Run, agree, joinIf, join, runs}
 use Rattle.plan.proofs.RunsLaws.{agree-eq, agree-fixed, Each}
 use Rattle.answer.specs.Skeleton.{hole, fill, decide}
 use Rattle.answer.proofs.SkeletonLaws.{fill-all, count-all, fill-decide, decide-count, Three, three, three-of}
+use Rattle.answer.proofs.LooseLaws.{close-front}
 use Rattle.clauses.proofs.SolidLaws.{Frame}
 
 -- a row in a state with k open places
@@ -107,13 +108,6 @@ join-fixed c r (g ∷ gs) a = go (agree c (g .cell)) refl
 pub runs-fixed : (i : ℕ) (rows : List (List ℕ)) → Fixed (runs i rows)
 runs-fixed i [] = tt
 runs-fixed i (r ∷ rs) = join-fixed (root i r) (close i r) (runs i rs) (runs-fixed i rs)
-
--- the cell at a place, and the list without it
-close-front : (i : ℕ) (x : List ℕ) (c : ℕ) (B : List ℕ) → back i x ≡ c ∷ B → (root i x ≡ c) × (close i x ≡ front i x ++ B)
-unfolding root close front back
-close-front i [] c B e = absurd (let z : _≡_ {A = ℕ} 0 1 = cc in let y : ⊥ = omega arith in y)
-close-front zero (d ∷ xs) c B e = (cc, cc)
-close-front (suc i) (d ∷ xs) c B e = let r = close-front (arity d + i) xs c B e in (r .0, ap (λ (l : List ℕ). d ∷ l) (r .1))
 
 -- a place decided, and filled again
 pub refill : (i j : ℕ) (K x : List ℕ) → Seat (i + suc j) x → fill (decide i (root i x) K) (close i x) ≡ fill K x

@@ -5,7 +5,6 @@ use mathlib.Core.Logic.{_≢_, _⊎_, inl, inr, ⊎-elim}
 use mathlib.Core.Bool.{Bool, true, false, cond, _&&_}
 use mathlib.Core.List.{List, [], _∷_, _++_, tail-eq-of-cons-eq, List·Memᴰ, List·Memᴰ·tail, List·Memᴰ·not-nil, List·Memᴰ·append-cases}
 use mathlib.Core.List.{Memᴰ·append-left, Memᴰ·append-right}
-use native.Mathlib.Numerals.{one-add}
 use native.Mathlib.Omega.{arith}
 use lib.Dec.{eqb}
 use lib.ListN.{length, replicate, length-append}
@@ -15,7 +14,7 @@ use Rattle.cell.proofs.CellLaws.{var-small}
 use Rattle.term.specs.Terms.{Terms, front, back}
 use Rattle.term.specs.Unify.{inst, Subst}
 use Rattle.term.proofs.Tests.{bool-cases, cond-case}
-use Rattle.term.proofs.TermsLaws.{front-back, front-terms, back-terms, front-++, back-++, prefix, zero-nil}
+use Rattle.term.proofs.TermsLaws.{front-back, front-++, back-++, prefix, zero-nil}
 use Rattle.term.proofs.Inst.{inst-++, Terms-inst}
 use Rattle.term.proofs.Step.{Terms-fresh, inst-symbol}
 use Rattle.table.specs.All.{All}
@@ -23,7 +22,7 @@ use Rattle.table.proofs.AllLaws.{all-++}
 use Rattle.table.specs.Table.{count, appear, upFrom}
 use Rattle.answer.specs.Skeleton.{hole, fill, decide}
 use Rattle.answer.proofs.CountLaws.{up-distinct, count-same, count-other}
-use Rattle.answer.proofs.SkeletonLaws.{fill-hole, fill-cell, var-no-hole}
+use Rattle.answer.proofs.SkeletonLaws.{fill-hole, fill-cell, var-no-hole, first-hole}
 use Rattle.instance.specs.Reply.{Numbered}
 use Rattle.clauses.specs.Clauses.{handed}
 use Rattle.clauses.specs.Translate.{headOf}
@@ -46,12 +45,6 @@ hole? c = go (bool-cases (eqb c hole))
     go : (eqb c hole ≡ true) ⊎ (eqb c hole ≡ false) → Hole? c
     go (inl e) = rw (eqb-true c hole e) a-hole
     go (inr e) = a-cell (eqb-false c hole e)
-
--- the terms for a first hole, and for the others
-pub first-hole : (K X : List ℕ) → Terms (count hole (hole ∷ K)) X → Terms 1 (front 1 X) × Terms (count hole K) (back 1 X)
-first-hole K X t =
-    let u : Terms (1 + count hole K) X = rw (one-add, ← count-same hole K) t in
-    (front-terms 1 (count hole K) X u, back-terms 1 (count hole K) X u)
 
 pub no-hole : {c : ℕ} (K X : List ℕ) → c ≢ hole → Terms (count hole (c ∷ K)) X → Terms (count hole K) X
 no-hole {c} K X n t = rw (count-other hole c K (λ p. n (sym p))) at t

@@ -17,8 +17,8 @@ use Rattle.table.specs.Table.{table, Row, Apart, IsTable}
 use Rattle.table.proofs.AllLaws.{all-each, all-members}
 use Rattle.table.proofs.ReadLaws.{not-both, within-bounds}
 use Rattle.table.proofs.Accepted.{is-table}
-use Rattle.plan.specs.Plans.{Plan, leaf, node, write}
 use Rattle.plan.specs.Check.{planOf}
+use Rattle.plan.proofs.PlansLaws.{write-some}
 use Rattle.least.specs.Measures.{work}
 use Rattle.least.specs.declared.By.the-variants.{Work}
 use Rattle.least.proofs.Weighed.{by-light}
@@ -210,11 +210,6 @@ run-table f h rows x s = record {
 }
 
 -- The plan.
-write-some : {k : ℕ} {rows : List (List ℕ)} (p : Plan k rows) → 0 < length (write p)
-unfolding write
-write-some leaf = omega arith
-write-some (node i h bs) = omega arith
-
 accepts : (r : Read ℕ) → accepted r ≡ true → (n : ℕ) × (r ≡ read n)
 accepts (read n) e = (n, refl)
 accepts (refuse g) e = not-both refl (sym e)

@@ -30,7 +30,7 @@ cell-next out fin cells at i h e =
     rw (k, j) (store-next out fin (drop i cells) (drop (suc i) cells) (at + i) (getD cells i 0) (drop-cons cells i 0 h) e)
 
 -- three numbers are put and none comes or goes
-pub length-pair : (kept : List ℕ) (pair : ℕ) → length (putPair kept pair 0 0 0) ≡ length kept
+length-pair : (kept : List ℕ) (pair : ℕ) → length (putPair kept pair 0 0 0) ≡ length kept
 length-pair kept pair =
     length-set (set (set kept pair 0) (4096 + pair) 0) (8192 + pair) 0 ∙ length-set (set kept pair 0) (4096 + pair) 0
     ∙ length-set kept pair 0

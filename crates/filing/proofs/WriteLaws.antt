@@ -1,7 +1,7 @@
 -- Writing, in the code's steps: the stream laid out in a list of zeros, its blocks put.
-use Prim.Native.Nat.{ℕ, zero, suc, _+_, _-_, _*_, _/_, _≤_, _<_}
+use Prim.Native.Nat.{ℕ, zero, suc, _+_, _-_, _*_, _≤_, _<_}
 use mathlib.Core.Path.{_≡_, refl, sym, _∙_, ap}
-use mathlib.Core.List.{List, [], _∷_, _++_, append-assoc}
+use mathlib.Core.List.{List, _++_, append-assoc}
 use native.Mathlib.Omega.{arith}
 use lib.ListN.{length, take, drop, replicate, length-append, length-replicate, length-drop, replicate-append-replicate}
 use lib.Seq.{take-append-le, drop-append-le}
@@ -12,7 +12,7 @@ use Rattle.plan.specs.Check.{planOf}
 use Rattle.octets.specs.Octets.{Put, bytesOf}
 use Rattle.octets.proofs.PutLaws.{put-length, put-whole, put-front}
 use Rattle.octets.proofs.BytesLaws.{bytes-count}
-use Rattle.blocks.specs.Blocks.{blockOf, blocksFrom}
+use Rattle.blocks.specs.Blocks.{blocksFrom}
 use Rattle.blocks.proofs.BlockLaws.{blocks-length}
 use Rattle.filing.specs.Files.{stream, needed, filledUp, wordsFor, fileOf, noRoom, FileWritten, room-short, written}
 use Rattle.filing.proofs.FileLaws.{filled-size}
@@ -29,7 +29,7 @@ blocks-front (suc k) n xs ys h =
     rw (a, b, c)
 
 -- so zeros to the end of a longer list are as good as those to the end of the last block
-pub laid-blocks : (s : List ℕ) (m : ℕ) → length s ≤ m → 125 * needed (length s) ≤ m
+laid-blocks : (s : List ℕ) (m : ℕ) → length s ≤ m → 125 * needed (length s) ≤ m
     → blocksFrom 0 (needed (length s)) (s ++ replicate (m - length s) 0) ≡ wordsFor s
 laid-blocks s m h l =
     let k = needed (length s) in

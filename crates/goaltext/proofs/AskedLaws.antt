@@ -34,7 +34,7 @@ use Rattle.prolog.specs.Entry.{FactsAre, are-made}
 use Rattle.prolog.specs.Entry as entry
 use Rattle.prolog.specs.declared.FactsAnswer.the-variants as facts-answer
 use Rattle.prolog.specs.declared.Sizes.{Sizes}
-use Rattle.prolog.proofs.EntryLaws.{cells-long, front-kept}
+use Rattle.prolog.proofs.EntryLaws.{cells-long}
 use Rattle.slices.proofs.SliceLaws.{part-is}
 use Rattle.termtext.specs.Saying.{wordIn, wordsIn, predicateIn}
 use Rattle.termtext.specs.Goal.{Whole, stopped, unstopped, Ours, Goal, Asks, GoalRead}
@@ -42,9 +42,9 @@ use Rattle.termtext.specs.Goal as goal
 use Rattle.termtext.specs.code.Renumber.{wordNumber, numbersFrom, newOnes, newCells}
 use Rattle.termtext.specs.declared.Predicate.{Predicate}
 use Rattle.termtext.proofs.LieLaws.{goal-lies}
-use Rattle.termtext.proofs.ListLaws.{firsts-in, listed-words, new-fewer}
+use Rattle.termtext.proofs.ListLaws.{firsts-in, listed-words}
 use Rattle.termtext.proofs.RenumberLaws.{new-few, new-numbered, goal-new}
-use Rattle.goaltext.specs.Asked.{AskedAs, too-many, asked, goalTextTold, Answers, GoalAsked}
+use Rattle.goaltext.specs.Asked.{goalTextTold, Answers}
 use Rattle.goaltext.specs.code.Steps.{NameIs, Same, NamesNumbered, FactAsked, Reads}
 use Rattle.goaltext.specs.declared.GoalText.{GoalText}
 use Rattle.goaltext.specs.declared.GoalText.the-variants as goal-text
@@ -280,7 +280,7 @@ module _ (width : ℕ) (row : List ℕ) {r : GoalAnswer} (e : goalTold r ≡ goa
       by (read u) i j = (u, i)
       by (refuse f) i j = absurd (let z : answered n v ≡ turned f = sym (ap goalTold q) ∙ j in let y : _≡_ {A = ℕ} 0 1 = cc in omega arith)
 
-  pub refused-read : {f : Refusal} → r ≡ goal-answer.Refused f → goalOf width row ≡ refuse (told f)
+  refused-read : {f : Refusal} → r ≡ goal-answer.Refused f → goalOf width row ≡ refuse (told f)
   refused-read {f} q = by (goalOf width row) refl e
     where
       by : (o : Read ℕ) → goalOf width row ≡ o → goalTold r ≡ goalSays row o → goalOf width row ≡ refuse (told f)
@@ -371,29 +371,3 @@ module _ {t made list : List ℕ} {c : Counted} {s : Sizes} (M : MadeAt t c made
       let cells = ap length made-row ∙ length-drop 2 (tableCells t facts) in
       let names = ap length (M .names) ∙ length-map (namesOf t facts) entryOf in
       omega (arith, cells, names, cells-long t facts, names-few t [] (symbolsOf facts))
-
--- THE ROOMS KEEP THEIR LENGTHS
-module _ (text names : List ℕ) (p : Predicate) (t cells cells′ new new′ : List ℕ) (r : GoalText) where
-  pub rooms-kept : length cells ≡ 32 → length new ≡ 32 → GoalAsked text names p t cells cells′ new new′ r
-      → (length cells′ ≡ 32) × (length new′ ≡ 32)
-  rooms-kept l m A = by (A .rule) (A .answers)
-    where
-      nothing : {f : Refused} → Answers (refuse f) cells cells′ new new′ r → (length cells′ ≡ 32) × (length new′ ≡ 32)
-      nothing x = (ap length (x .wrote) ∙ l, ap length (x .listed) ∙ m)
-
-      on : {o : Read Goal} → GoalRead (wordsIn text names) (predicateIn text p) (p .width) t o → Answers o cells cells′ new new′ r
-          → (length cells′ ≡ 32) × (length new′ ≡ 32)
-      on (goal.too-long h) x = nothing x
-      on (goal.no-text h n) x = nothing x
-      on (goal.other h w n) x = nothing x
-      on (goal.no-goal h a g) x = nothing x
-      on (goal.is-goal {goal = o} h a g) x =
-          let few = goal-few (p .width) (o .cells) g in
-          let fewer = new-fewer a in (
-            ap length (x .wrote) ∙ front-kept (o .cells) cells (omega arith) ∙ l,
-            ap length (x .listed) ∙ front-kept (o .new) new (omega arith) ∙ m,
-          )
-
-      by : {o : Read Goal} → AskedAs text names p t o → Answers o cells cells′ new new′ r → (length cells′ ≡ 32) × (length new′ ≡ 32)
-      by (too-many h) x = nothing x
-      by (asked h g) x = on g x

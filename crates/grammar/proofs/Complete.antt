@@ -95,7 +95,7 @@ abbrev pub Follows : List ℕ → Type 0
 Follows [] = Unit {0}
 Follows (b ∷ xs) = (isWord b ≡ false) × (eqb b 40 ≡ false) × (isDigit b ≡ false)
 
-gap-follows : {p q : ℕ} {xs ys : List ℕ} → Gap p xs q ys → Follows ys → Follows xs
+pub gap-follows : {p q : ℕ} {xs ys : List ℕ} → Gap p xs q ys → Follows ys → Follows xs
 unfolding isWord isLower isUpper isDigit
 gap-follows G.none f = f
 gap-follows (G.blank space g) f = (refl, refl, refl)
@@ -187,7 +187,7 @@ pub at-lower : (b : ℕ) (xs : List ℕ) (w : Work) (p : ℕ) → isLower b ≡ 
 unfolding run step
 at-lower b xs w p e = rw e
 
-pub at-upper : (b : ℕ) (xs : List ℕ) (w : Work) (p : ℕ) → isUpper b ≡ true → run (b ∷ xs) arg w p ≡ run xs (word false p) w (suc p)
+at-upper : (b : ℕ) (xs : List ℕ) (w : Work) (p : ℕ) → isUpper b ≡ true → run (b ∷ xs) arg w p ≡ run xs (word false p) w (suc p)
 unfolding run step
 at-upper b xs w p e = rw (not-lower b (upper-below b e), e)
 

@@ -45,7 +45,7 @@ name-some (m ∷ names) zero h = sym (length-replicate (m / 65536) 32)
 name-some (m ∷ names) (suc n) h = name-some names n (omega arith)
 
 -- the cells' bytes from a place on
-pub cell-sum : (words : Words) (cells : List ℕ) (i : ℕ) → i < length cells
+cell-sum : (words : Words) (cells : List ℕ) (i : ℕ) → i < length cells
     → cellBytes words (drop i cells) ≡ length (symbolWord words (valuesAt (getD cells i 0))) + 2 + cellBytes words (drop (i + 1) cells)
 unfolding cellBytes
 cell-sum words cells i h = let e : i + 1 ≡ suc i = omega arith in rw (e, drop-cons cells i 0 h)

@@ -1,16 +1,16 @@
 -- The steps as the code makes them in its lists: what is left stays what it was.
 use Prim.Native.Nat.{ℕ, suc, _+_, _-_, _^_, _≤_, _<_}
-use mathlib.Core.Path.{_≡_, refl, sym, _∙_, ap, ap₂, subst}
+use mathlib.Core.Path.{_≡_, refl, sym, _∙_, ap, subst}
 use mathlib.Core.Logic.{_≢_, ⊎-elim}
 use mathlib.Core.Bool.{true, false, cond}
 use mathlib.Core.List.{List, [], _∷_, _++_, Memᴰ·append-left, Memᴰ·append-right}
 use native.Mathlib.Numerals.{add-one, one-add}
 use native.Mathlib.Omega.{arith}
 use lib.ListN.{length, getD, take, drop, length-append, length-drop, length-map, take-append-drop, drop-of-length-le}
-use lib.Seq.{slice, take-take, take-at, drop-at, drop-cons, drop-drop, take-suc, take-add, getD-take, length-take-le}
+use lib.Seq.{slice, take-take, take-at, drop-at, drop-cons, take-suc, take-add, getD-take, length-take-le}
 use Rattle.cell.specs.Cell.{isVar}
 use Rattle.term.specs.declared.End.{End}
-use Rattle.term.specs.declared.End.the-variants.{At, Short}
+use Rattle.term.specs.declared.End.the-variants.{Short}
 use Rattle.term.specs.Terms.{Terms, front, back}
 use Rattle.term.specs.Ends.{Ends, at, short}
 use Rattle.term.specs.Unify.{renamed}
@@ -18,8 +18,6 @@ use Rattle.term.proofs.Tests.{bool-cases}
 use Rattle.table.specs.Table.{Head}
 use Rattle.table.proofs.Accepted.{few-variables}
 use Rattle.term.proofs.TermsLaws.{front-back, front-terms, one-cell, terms-long}
-use Rattle.octets.specs.Octets.{Put}
-use Rattle.octets.proofs.PutLaws.{put-found}
 use Rattle.term.specs.Bind.{Within}
 use Rattle.instance.specs.Instance.{Common, MostGeneral}
 use Rattle.instance.specs.code.Meet.{TermsAt, TermAt, Meeting, After, InstanceMet, Over}
@@ -69,35 +67,8 @@ module _ {row goal cells : List ℕ} {v : ℕ} {t : List ℕ} {i n at′ len tur
         left = rw (y, z, take-at first second q (sym eq), drop-at first second q (sym eq)) there;
       }
 
--- The term that stands at a place, put at the front of another list.
+-- The term that stands at a place.
 module _ {C : List ℕ} {at′ : ℕ} where
-  pub term-taken : {term term′ : List ℕ} {r : End} {e m : ℕ} → length C ≤ at′ + length term → Ends C at′ r → r ≡ At e
-      → Put term term′ 0 (take (e - at′) (drop at′ C)) m
-      → TermAt C (take (e - at′) term′) at′ e
-  term-taken {term′ = term′} {e = e} {m = m} h (at {t} rest u q) p w =
-      let z : at′ + length t ≡ e = cc in
-      let k : e - at′ ≡ length t = omega (arith, z) in
-      let f : take (e - at′) (drop at′ C) ≡ t = ap (λ (n : ℕ). take n (drop at′ C)) k ∙ ap (take (length t)) q ∙ take-at t rest (length t) refl in
-      let l : length (drop at′ C) ≡ length t + length rest = ap length q ∙ length-append t rest in
-      let x = put-found w (omega (arith, h, ap length f, l, length-drop at′ C)) in
-      let y : take (e - at′) term′ ≡ t = ap (λ (n : ℕ). take n term′) (k ∙ sym (x .0 ∙ ap length f)) ∙ x .1 ∙ f in
-      let d : rest ≡ drop e C = sym (ap (λ (n : ℕ). drop n C) (sym z) ∙ sym (drop-drop (length t) at′ C) ∙ ap (drop (length t)) q
-      ∙ drop-at t rest (length t) refl) in
-      record {
-        term = subst (Terms 1) (sym y) u;
-        split = q ∙ ap₂ _++_ (sym y) d;
-        end = ap (λ (l : List ℕ). at′ + length l) y ∙ z;
-      }
-  term-taken h (short n) p w = absurd (let z : _≡_ {A = ℕ} 0 1 = cc in omega arith)
-
-  -- its place is in the list
-  pub term-within : {r : End} {e : ℕ} → Ends C at′ r → r ≡ At e → (at′ ≤ e) × (at′ ≤ length C → e ≤ length C)
-  term-within {e = e} (at {t} rest u q) p =
-      let z : at′ + length t ≡ e = cc in
-      let l : length (drop at′ C) ≡ length t + length rest = ap length q ∙ length-append t rest in
-      (omega (arith, z), λ i. omega (arith, z, l, length-drop at′ C, i))
-  term-within (short n) p = absurd (let z : _≡_ {A = ℕ} 0 1 = cc in omega arith)
-
   -- where at least one term is, the cells do not run out
   pub term-there : {r : End} → TermsAt C at′ → Ends C at′ r → r ≢ Short
   term-there w (at {t} rest v q) p = let z : _≡_ {A = ℕ} 0 1 = cc in omega arith

@@ -151,9 +151,6 @@ module _ (met : List ℕ) (k c : ℕ) (h : k ≤ length met) where
   pub named-least : place c (take k met) ≤ k
   named-least = omega (arith, place-most c (take k met), front-long)
 
-  pub named-symbol : (n : ℕ) → isVar c ≡ false → take k met ≡ meetIn n c (take k met)
-  named-symbol n v = rw v
-
   pub named-old : (n : ℕ) → place c (take k met) < k → take k met ≡ meetIn n c (take k met)
   named-old n l = sym (met-old n c (take k met) (omega (arith, l, front-long)))
 

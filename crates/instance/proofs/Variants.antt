@@ -120,7 +120,7 @@ module _ {xs ys : List ℕ} (a : Instance xs ys) (b : Instance ys xs) where
       (by-cond there (isVar c && eqb (count c ms) 0) (c ∷ appear (c ∷ ms) zs) (appear ms zs)
       (ap (λ (l : List ℕ). there c ∷ l) (keeps-order (c ∷ ms) zs h′ k′)) (keeps-order ms zs h k′))
 
-  pub variants-one : Numbered xs → Numbered ys → xs ≡ ys
+  variants-one : Numbered xs → Numbered ys → xs ≡ ys
   unfolding count
   variants-one nx ny =
       let n = length (appear [] xs) in

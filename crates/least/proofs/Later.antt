@@ -21,7 +21,8 @@ use Rattle.table.specs.Table.{count}
 use Rattle.table.proofs.AllLaws.{all-map, all-both}
 use Rattle.plan.specs.Runs.{Run, agree, joinIf, join, runs}
 use Rattle.plan.specs.Plans.{Plan, leaf, node, Branches, end, next, branches, branchesIn, Measure, plain, cost, costs}
-use Rattle.plan.proofs.RunsLaws.{Each, agree-eq, agree-fixed, group-all}
+use Rattle.plan.proofs.RunsLaws.{Each, agree-eq, group-all}
+use Rattle.plan.proofs.TwiceLaws.{Lone, runs-lone}
 use Rattle.least.specs.Entries.{Closes, stop, step}
 use Rattle.least.specs.Measures.{weightAt, costFrom, costsFrom}
 use Rattle.least.specs.code.Low.{Light}
@@ -112,22 +113,6 @@ module _ (m : Measure) where
   unfolding laterIn
   none-later [] met t = refl
   none-later (r ∷ rs) met t = let e : laterIn m met r ≡ 0 = rw (zero-nil (t .0)) in omega (arith, e, none-later rs met (t .1))
-
--- a variable's run has one row
-abbrev Lone : List Run → Type 0
-Lone gs = All (λ (g : Run). isVar (g .cell) ≡ true → length (g .rows) ≡ 1) gs
-
-join-lone : (c : ℕ) (r : List ℕ) (gs : List Run) → Lone gs → Lone (join c r gs)
-join-lone c r [] a = (λ v. refl, tt)
-join-lone c r (g ∷ gs) a = go (agree c (g .cell)) refl
-  where
-    go : (b : Bool) → agree c (g .cell) ≡ b → Lone (joinIf b c r g gs)
-    go true e = (λ v. absurd (true≢false (sym v ∙ ap isVar (sym (agree-eq c (g .cell) e)) ∙ agree-fixed c (g .cell) e)), a .1)
-    go false e = (λ v. refl, a)
-
-runs-lone : (i : ℕ) (rows : List (List ℕ)) → Lone (runs i rows)
-runs-lone i [] = tt
-runs-lone i (r ∷ rs) = join-lone (root i r) (close i r) (runs i rs) (runs-lone i rs)
 
 -- the rows of a state's runs are terms
 pub runs-terms : (i k : ℕ) → i ≤ k → (rows : List (List ℕ)) → All (Terms (suc k)) rows → Each (λ (c : ℕ). Terms (arity c + k)) (runs i rows)

@@ -111,6 +111,3 @@ module _ (m : Measure) where
     where
       same : (s : Scan) → plus 0 s ≡ s
       same s = let z : 0 + s .agreed ≡ s .agreed = omega arith in rw z
-
-  pub named-plain : (n k : ℕ) (rows : List (List ℕ)) → k ≤ n → (closed m n [] k rows) .named ≡ []
-  named-plain n k rows h = ap (λ (s : Scan). s .named) (closed-plain n k rows h) ∙ scan-plain true n 0 k rows

@@ -1,10 +1,10 @@
 -- The way from any bytes to what is written: a table that is read, its plan with the marks, and the front of the room.
 use mathlib.Core.Path.{_≡_, refl, sym, ap, _∙_}
 use mathlib.Core.Bool.{true, false}
-use mathlib.Core.List.{List, [], _++_, map, append-nil}
-use Prim.Native.Nat.{ℕ, _-_, _%_, _≤_, _<_}
+use mathlib.Core.List.{List, [], _++_, append-nil}
+use Prim.Native.Nat.{ℕ, _%_, _≤_, _<_}
 use native.Mathlib.Omega.{arith}
-use lib.ListN.{length, take, drop, replicate, length-append}
+use lib.ListN.{length, take, drop, length-append}
 use lib.Seq.{take-append-seam, take-at}
 use borrow.Author.Tests.{lt-ltb, le-ltb, eq-eqb, ne-eqb}
 use Rattle.refusal.specs.Refusal.{told, answered, turned}
@@ -18,10 +18,10 @@ use Rattle.table.specs.Table.{Table, tableOf, upFrom}
 use Rattle.table.proofs.ReadLaws.{apart, read-one}
 use Rattle.table.proofs.Accepted.{is-table}
 use Rattle.plan.specs.Plans.{Plan, write, branches, plain, cost}
-use Rattle.plan.specs.Notes.{notes, word}
 use Rattle.plan.specs.code.Fits.{Fits}
 use Rattle.plannotes.specs.Noted.{NotedInto, refused}
 use Rattle.plannotes.specs.declared.Noted as handed
+use Rattle.plannotes.proofs.Fixed.{whole}
 use Rattle.plan.proofs.NotesLaws.{notes-fit}
 use Rattle.plan.proofs.PlansLaws.{plan-tells, cost-plain}
 use Rattle.plan.proofs.SizeLaws.{bound, size-bound}
@@ -44,8 +44,6 @@ use Rattle.listing.proofs.WalkLaws.{stand}
 use Rattle.limits.specs.Limits.{mostPlanCells, mostTableCells}
 
 -- what is noted does not depend on which plan wrote the cells
-abbrev whole : (before : List ℕ) (k : ℕ) (rows : List (List ℕ)) → Plan k rows → List ℕ
-whole before k rows p = map word (notes p (upFrom 1 k) 32 0) ++ drop (branches p) before
 
 same-notes : (before : List ℕ) (T T′ : Table) → T ≡ T′ → (p : Plan (T .width) (T .rows)) (q : Plan (T′ .width) (T′ .rows)) → write p ≡ write q
     → whole before (T .width) (T .rows) p ≡ whole before (T′ .width) (T′ .rows) q

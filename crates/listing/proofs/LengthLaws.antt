@@ -1,19 +1,18 @@
 -- How long a listing is: a line has at most 21 bytes, a header at most 27, and a plan of an accepted table at most 2,048 branches.
 use mathlib.Core.Path.{_≡_}
 use mathlib.Core.List.{List, [], _∷_, _++_}
-use Prim.Native.Nat.{ℕ, suc, pred, _+_, _-_, _*_, _^_, _≤_, _<_}
+use Prim.Native.Nat.{ℕ, suc, pred, _+_, _-_, _*_, _≤_, _<_}
 use native.Mathlib.Omega.{arith}
 use lib.ListN.{length, length-append}
 use Rattle.cell.specs.Cell.{arity}
 use Rattle.term.specs.Terms.{root, close}
-use Rattle.term.proofs.TermsLaws.{terms-long}
 use Rattle.octets.proofs.DecimalLaws.{digits-few}
 use Rattle.printing.proofs.LengthLaws.{symbol-few}
 use Rattle.table.specs.All.{All}
 use Rattle.table.specs.Table.{Table}
 use Rattle.plan.specs.Runs.{Run, runs}
 use Rattle.plan.specs.Plans.{Plan, leaf, node, Branches, end, next, branches, branchesIn, plain, cost}
-use Rattle.plan.proofs.RunsLaws.{Each, Sized, group-sizes, group-rows, fits-some, runs-fit}
+use Rattle.plan.proofs.RunsLaws.{Each, Sized, group-sizes, group-rows, fits-some, runs-fit, fits-wide}
 use Rattle.plan.specs.code.Fits.{Fits}
 use Rattle.plan.specs.code.Rows.{rowCount}
 use Rattle.plan.proofs.PlansLaws.{cost-plain}
@@ -26,11 +25,6 @@ line-few : (depth index c first last : ℕ) → depth < 100 → index < 100 → 
 unfolding line
 line-few depth index c first last hd hi hf hl =
     simp length-append (omega (arith, digits-few 1 depth hd, digits-few 1 index hi, symbol-few c, digits-few 1 first hf, digits-few 1 last hl))
-
--- an open place of a row is a cell of it
-open-few : (n k : ℕ) (rows : List (List ℕ)) → All (Fits n k) rows → 0 < length rows → k ≤ n
-open-few n k [] f h = absurd (omega arith)
-open-few n k (r ∷ rs) f h = omega (arith, terms-long (f .0 .0))
 
 -- runs of which none is empty, the first beginning at row `first`, within 64 rows
 abbrev Within : ℕ → List Run → Type 0
@@ -61,7 +55,7 @@ mutual
       let some = fits-some n k rows f h in
       let e : n ≡ suc (pred n) = omega arith in
       lines-fews bs (pred n) depth i first (runs-fit (pred n) k i g rows (rw e at f)) (within i first rows l)
-      (omega (arith, open-few n (suc k) rows f h)) (omega arith)
+      (omega (arith, fits-wide n (suc k) rows f h)) (omega arith)
 
   lines-fews : {k : ℕ} {gs : List Run} (bs : Branches k gs) (n depth index first : ℕ) → Each (λ (c : ℕ). Fits n (arity c + k)) gs → Within first gs
       → index < 100 → depth + suc n ≤ 32 → length (linesOf bs depth index first) ≤ 21 * branchesIn bs

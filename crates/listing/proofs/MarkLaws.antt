@@ -1,11 +1,10 @@
 -- What the check notes of a plan's branches: the first row of each, and how many branches are below it.
-use mathlib.Core.Path.{_≡_, sym, _∙_, ap}
-use mathlib.Core.List.{List, _∷_, _++_, map, append-assoc, map-append}
-use Prim.Native.Nat.{ℕ, _+_, _<_}
-use native.Mathlib.Numerals.{add-one}
+use mathlib.Core.Path.{_≡_, _∙_, ap}
+use mathlib.Core.List.{List, _++_, map, append-assoc, map-append}
+use Prim.Native.Nat.{ℕ, _+_}
 use native.Mathlib.Omega.{arith}
-use lib.ListN.{length, getD, drop, length-drop, length-map}
-use lib.Seq.{drop-cons, drop-drop, drop-append-seam}
+use lib.ListN.{length, drop, length-map}
+use Rattle.term.proofs.Lists.{head-at, part-at}
 use Rattle.cell.specs.Cell.{arity}
 use Rattle.table.specs.All.{All}
 use Rattle.table.proofs.AllLaws.{all-front, all-back}
@@ -14,16 +13,6 @@ use Rattle.plan.specs.Plans.{Plan, leaf, node, Branches, end, next, branches}
 use Rattle.plan.specs.Notes.{below, notes, notesIn, word, BranchFits}
 use Rattle.plan.proofs.NotesLaws.{word-parts, notes-count}
 use Rattle.listing.specs.code.Walk.{Marked, MarkedIn}
-
--- what stands at a place, and after a part
-pub head-at : (xs : List ℕ) (at c : ℕ) (ys : List ℕ) → drop at xs ≡ c ∷ ys → (at < length xs) × (getD xs at 0 ≡ c) × (drop (at + 1) xs ≡ ys)
-head-at xs at c ys e =
-    let h : at < length xs = omega (arith, length-drop at xs, ap length e) in
-    let d = drop-cons xs at 0 h in
-    (h, cc, rw add-one (cc))
-
-pub part-at : (xs : List ℕ) (at : ℕ) (ys zs : List ℕ) → drop at xs ≡ ys ++ zs → drop (at + length ys) xs ≡ zs
-part-at xs at ys zs e = sym (drop-drop (length ys) at xs) ∙ ap (drop (length ys)) e ∙ drop-append-seam ys zs
 
 mutual
   unfolding notes Marked

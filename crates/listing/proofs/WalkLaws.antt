@@ -4,7 +4,6 @@ use mathlib.Core.Logic.{_≢_}
 use mathlib.Core.Bool.{cond}
 use mathlib.Core.List.{List, [], _∷_, _++_, append-assoc, append-nil}
 use Prim.Native.Nat.{ℕ, suc, _+_, _-_, _*_, _≤_, _<_}
-use native.Mathlib.Nat.{add-zero}
 use native.Mathlib.Numerals.{add-one}
 use native.Mathlib.Omega.{arith}
 use lib.Dec.{eqb}
@@ -13,6 +12,7 @@ use borrow.Author.Tests.{eq-eqb, ne-eqb}
 use Rattle.cell.specs.Cell.{arity}
 use Rattle.cell.proofs.CellLaws.{arity-small}
 use Rattle.term.specs.Terms.{root, close}
+use Rattle.term.proofs.Lists.{head-at, part-at}
 use Rattle.octets.specs.Octets.{Put}
 use Rattle.octets.proofs.PutLaws.{put-put, put-nothing}
 use Rattle.table.specs.All.{All}
@@ -23,7 +23,6 @@ use Rattle.plan.specs.code.Rows.{rowCount}
 use Rattle.plan.proofs.RunsLaws.{Sized, group-sizes, group-rows}
 use Rattle.listing.specs.Listing.{line, linesIn, linesOf}
 use Rattle.listing.specs.code.Walk.{Marked, MarkedIn, Ready, Walked}
-use Rattle.listing.proofs.MarkLaws.{head-at, part-at}
 use Rattle.listing.specs.declared.walk.Stand.{Stand}
 use Rattle.limits.specs.Limits.{mostBranches, mostPlanCells}
 

@@ -1,16 +1,16 @@
 -- Names counted in batches: the names of a batch that are met no more, and then those of what is left.
-use Prim.Native.Nat.{ℕ, zero, suc, _+_, _-_, _*_, _≤_, _<_}
-use mathlib.Core.Path.{_≡_, refl, sym, ap, ap₂, subst, _∙_}
+use Prim.Native.Nat.{ℕ, suc, _+_, _≤_, _<_}
+use mathlib.Core.Path.{_≡_, refl, sym, ap, subst, _∙_}
 use mathlib.Core.Bool.{Bool, true, false, cond, _||_}
 use mathlib.Core.List.{List, [], _∷_, _++_}
 use native.Mathlib.Omega.{arith}
-use lib.Dec.{eqb, ltb}
-use lib.ListN.{length, length-append}
+use lib.Dec.{ltb}
+use lib.ListN.{length}
 use borrow.Author.Tests.{lt-ltb, le-ltb, ltb-true, ltb-false}
 use Rattle.cell.specs.Same.{same}
-use Rattle.grammar.specs.Meaning.{Place, place, bytesAt, position, meet}
+use Rattle.grammar.specs.Meaning.{Place, bytesAt, position, meet}
 use Rattle.cell.proofs.SameLaws.{same-eq, same-differ, same-no}
-use Rattle.grammar.proofs.NumberLaws.{position-bound, meet-old, meet-new}
+use Rattle.grammar.proofs.NumberLaws.{meet-old, meet-new}
 use Rattle.loading.specs.Items.{Item, of-name, of-variable, of-number, next-row, namesMet, metIn, unmet}
 
 -- no two of the words are the same
@@ -50,7 +50,7 @@ apart-added t (b ∷ bs) v a h =
     let d = head-differs t (bytesAt t v) b bs h in
     (position-missing t (bytesAt t b) bs v (a .0) (same-sym (bytesAt t v) (bytesAt t b) (d .0)), apart-added t bs v (a .1) (d .1))
 
-pub apart-met : (t : List ℕ) (ns : List Place) (v : Place) → Apart t ns → Apart t (meet t ns v)
+apart-met : (t : List ℕ) (ns : List Place) (v : Place) → Apart t ns → Apart t (meet t ns v)
 apart-met t ns v a = go (ltb (position t (bytesAt t v) ns) (length ns)) refl
   where
     go : (b : Bool) → ltb (position t (bytesAt t v) ns) (length ns) ≡ b → Apart t (meet t ns v)

@@ -1,10 +1,10 @@
 -- Names met one after another, and the numbers that symbols get by them: a number once given stays.
-use Prim.Native.Nat.{ℕ, zero, suc, _+_, _-_, _*_, _≤_, _<_}
-use mathlib.Core.Path.{_≡_, refl, sym, ap, ap₂, subst, _∙_}
-use mathlib.Core.Bool.{Bool, true, false, cond, _||_}
+use Prim.Native.Nat.{ℕ, zero, suc, _+_, _<_}
+use mathlib.Core.Path.{_≡_, refl, sym, ap, ap₂, _∙_}
+use mathlib.Core.Bool.{Bool, true, false}
 use mathlib.Core.List.{List, [], _∷_, _++_, map, flatten, append-assoc}
 use native.Mathlib.Omega.{arith}
-use lib.Dec.{eqb, ltb}
+use lib.Dec.{ltb}
 use lib.ListN.{length, getD, set, length-append}
 use borrow.Author.Tests.{lt-ltb, le-ltb, ltb-true, ltb-false}
 use Rattle.cell.specs.Cell.{variableCell, nameCell, numberCell}
@@ -43,7 +43,7 @@ names-keep t w ns (of-number v ∷ xs) h = names-keep t w ns xs h
 names-keep t w ns (next-row ∷ xs) h = names-keep t w ns xs h
 
 -- a word that is met is listed
-pub met-there : (t : List ℕ) (ns : List Place) (v : Place) → position t (bytesAt t v) (meet t ns v) < length (meet t ns v)
+met-there : (t : List ℕ) (ns : List Place) (v : Place) → position t (bytesAt t v) (meet t ns v) < length (meet t ns v)
 met-there t ns v = go (ltb (position t (bytesAt t v) ns) (length ns)) refl
   where
     go : (b : Bool) → ltb (position t (bytesAt t v) ns) (length ns) ≡ b → position t (bytesAt t v) (meet t ns v) < length (meet t ns v)
@@ -159,11 +159,6 @@ unfolding symbolsAmong flatten
 among-rows [] = refl
 among-rows (f ∷ fs) =
     among-append (itemsIn (f .symbols)) (rowsIn fs) ∙ ap₂ _+_ (among-in (f .symbols)) (among-rows fs) ∙ sym (length-append (f .symbols) (symbolsOf fs))
-
-pub among-items : (fs : List Fact) → symbolsAmong (itemsOf fs) ≡ length (symbolsOf fs)
-unfolding symbolsAmong flatten
-among-items [] = refl
-among-items (f ∷ fs) = among-rows (f ∷ fs)
 
 pub numbering-long : (t : List ℕ) (ns vs : List Place) (xs : List Item) → length (numbering t ns vs xs) ≡ symbolsAmong xs
 unfolding symbolsAmong numbering

@@ -12,24 +12,17 @@ use Rattle.cell.specs.Cell.{arity}
 use Rattle.plan.specs.Runs.{Run, runs}
 use Rattle.plan.specs.Plans.{Measure}
 use Rattle.plan.specs.Named.{flag, spread, anyNamed}
-use Rattle.plan.proofs.NamedLaws.{flag-after, flag-before, none-spread}
+use Rattle.plan.proofs.NamedLaws.{flag-after, flag-before, none-spread, flag-past, length-past}
 use Rattle.state.specs.Flags.{flagsIn}
 use Rattle.least.specs.code.Pairs.{plus, oneRun, scan}
 use Rattle.paircosts.specs.code.Reading.{someTo}
 
 -- a flag a times, and then others
-past-flag : (a x : ℕ) (f : Bool) (fs : List Bool) → flag (a + x) (replicate a f ++ fs) ≡ flag x fs
-past-flag zero x f fs = rw zero-add
-past-flag (suc a) x f fs = let e : suc a + x ≡ suc (a + x) = omega arith in rw e (past-flag a x f fs)
 
 own-flag : (a j : ℕ) (f : Bool) (fs : List Bool) → j < a → flag j (replicate a f ++ fs) ≡ f
 own-flag zero j f fs h = absurd (omega arith)
 own-flag (suc a) zero f fs h = refl
 own-flag (suc a) (suc j) f fs h = own-flag a j f fs (omega arith)
-
-length-own : (a : ℕ) (f : Bool) (fs : List Bool) → length (replicate a f ++ fs) ≡ a + length fs
-length-own zero f fs = omega arith
-length-own (suc a) f fs = omega (arith, length-own a f fs)
 
 -- each argument has its place's flag
 flag-in : (i j a : ℕ) (fs : List Bool) → j < a → flag (i + j) (spread i a fs) ≡ flag i fs
@@ -62,13 +55,13 @@ module _ (every : Bool) where
           let e₁ : i + j ≡ a + (i + x) = omega arith in
           let e₂ : j ≡ a + x = omega arith in
           let e₃ : i + suc x ≡ suc (i + x) = omega arith in
-          let l′ : suc x < length (true ∷ bs) = omega (arith, length-own a true bs) in
+          let l′ : suc x < length (true ∷ bs) = omega (arith, length-past a true bs) in
           rw (e₁, flag-after i (i + x) a fs (omega arith)) (rw e₃ at (s (suc x) l′)
-          ∙ sym (ap (λ (n : ℕ). flag n (replicate a true ++ bs)) e₂ ∙ past-flag a x true bs))
+          ∙ sym (ap (λ (n : ℕ). flag n (replicate a true ++ bs)) e₂ ∙ flag-past a x true bs))
 
 -- every place is looked at; and the columns are those that are named
 pub sees-every : (w : ℕ) → Sees true [] 0 (replicate w true ++ [])
-sees-every w j h = sym (own-flag w j true [] (omega (arith, length-own w true [])))
+sees-every w j h = sym (own-flag w j true [] (omega (arith, length-past w true [])))
 
 pub sees-named : (fs : List Bool) → Sees false fs 0 fs
 sees-named fs j h = rw zero-add

@@ -3,7 +3,7 @@
 use mathlib.Core.Path.{refl}
 use mathlib.Core.Bool.{Bool}
 use mathlib.Core.List.{List, []}
-use Prim.Native.Nat.{ℕ, suc, _+_, _≤_}
+use Prim.Native.Nat.{ℕ, suc}
 use native.Mathlib.Omega.{arith}
 use Rattle.cell.specs.Cell.{arity}
 use Rattle.plan.specs.Named.{spread}
@@ -43,7 +43,7 @@ module _ {m : Measure} {w : ℕ} {rows : List (List ℕ)} (fs gs : List Bool) (f
       inner h l (r .closes) (λ i c l a y. s i c l a (free-may fs′ (suc k) i (r .free .0) l))
       (free-least m fs′ (r .named) (r .free .0) (r .free .1) c) b (free-chosen m fs′ (r .named) (r .free .0) (r .free .1) b d)
 
-  pub free-right : {first last : ℕ} {kept : List ℕ} → RightAt m fs w rows kept first last → RightAt m gs w rows kept first last
+  free-right : {first last : ℕ} {kept : List ℕ} → RightAt m fs w rows kept first last → RightAt m gs w rows kept first last
   free-right r = record { whole = free-least m fs gs f g (r .whole); entry = free-entry (r .entry) }
 
   pub free-filled : {old new : List ℕ} → Filled m fs w rows old new → Filled m gs w rows old new

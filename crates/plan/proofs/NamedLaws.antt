@@ -25,7 +25,7 @@ spread-spread (suc i) (suc x) a b (f ∷ fs) h =
     let e : a + suc x ≡ suc (a + x) = omega arith in
     rw e (ap (λ (l : List Bool). f ∷ l) (spread-spread i x a b fs (omega arith)))
 
-flag-past : (a x : ℕ) (f : Bool) (fs : List Bool) → flag (a + x) (replicate a f ++ fs) ≡ flag x fs
+pub flag-past : (a x : ℕ) (f : Bool) (fs : List Bool) → flag (a + x) (replicate a f ++ fs) ≡ flag x fs
 flag-past zero x f fs = rw zero-add
 flag-past (suc a) x f fs = let e : suc a + x ≡ suc (a + x) = omega arith in rw e (flag-past a x f fs)
 
@@ -105,7 +105,7 @@ some-may fs k h = go (anyNamed fs) refl
     go false e = some 0 (omega arith) (rw (e, none-named fs e 0))
 
 -- there are never more flags than open places
-length-past : (a : ℕ) (f : Bool) (fs : List Bool) → length (replicate a f ++ fs) ≡ a + length fs
+pub length-past : (a : ℕ) (f : Bool) (fs : List Bool) → length (replicate a f ++ fs) ≡ a + length fs
 length-past zero f fs = omega arith
 length-past (suc a) f fs = omega (arith, length-past a f fs)
 

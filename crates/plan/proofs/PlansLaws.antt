@@ -3,7 +3,7 @@
 use mathlib.Core.Path.{_≡_, refl, ap, ap₂, pathJ}
 use mathlib.Core.Bool.{Bool, true, false, cond}
 use mathlib.Core.List.{List, [], _∷_, _++_, append-assoc}
-use Prim.Native.Nat.{ℕ, suc, _≤_}
+use Prim.Native.Nat.{ℕ, suc, _≤_, _<_}
 use native.Mathlib.Bridge.{le-prop}
 use native.Mathlib.Omega.{arith}
 use lib.ListN.{length}
@@ -80,3 +80,9 @@ mutual
   pub costs-plain : {k : ℕ} {gs : List Run} (bs : Branches k gs) → costs plain bs ≡ branchesIn bs
   costs-plain end = refl
   costs-plain (next p bs) = omega (arith, cost-plain p, costs-plain bs)
+
+-- a plan has cells
+pub write-some : {k : ℕ} {rows : List (List ℕ)} (p : Plan k rows) → 0 < length (write p)
+unfolding write
+write-some leaf = omega arith
+write-some (node i h bs) = omega arith

@@ -12,6 +12,7 @@ use borrow.Author.Tests.{eqb-true}
 use Rattle.cell.specs.Cell.{arity, isVar}
 use Rattle.term.specs.Terms.{Terms, more, root, close}
 use Rattle.term.proofs.Tests.{eqb-same}
+use Rattle.term.proofs.TermsLaws.{terms-long}
 use Rattle.term.proofs.PlaceLaws.{close-terms, close-length}
 use Rattle.table.specs.All.{All}
 use Rattle.plan.specs.Runs.{Run, run, agree, joinIf, join, group, runs}
@@ -173,6 +174,11 @@ fits-close n k i h r f = (close-terms i (f .0) h, omega (arith, close-length i (
 pub fits-some : (n k : ℕ) (rows : List (List ℕ)) → All (Fits n (suc k)) rows → 0 < length rows → 0 < n
 fits-some n k [] a h = absurd (omega arith)
 fits-some n k (r ∷ rs) a h = omega (arith, terms-length (a .0 .0))
+
+-- no more places are open than a row has cells
+pub fits-wide : (n k : ℕ) (rows : List (List ℕ)) → All (Fits n k) rows → 0 < length rows → k ≤ n
+fits-wide n k [] f h = absurd (omega arith)
+fits-wide n k (r ∷ rs) f h = omega (arith, terms-long (f .0 .0))
 
 pub fits-more : (n k : ℕ) (rows : List (List ℕ)) → All (Fits n k) rows → All (Fits (suc n) k) rows
 fits-more n k [] a = tt

@@ -6,9 +6,8 @@ use mathlib.Core.List.{List, [], _++_, map, append-nil}
 use native.Mathlib.Omega.{arith}
 use lib.ListN.{length, getD, drop}
 use lib.Seq.{sets, sets-eq}
-use Rattle.refusal.specs.Refusal.{Refused, told, turned}
+use Rattle.refusal.specs.Refusal.{Refused, told}
 use Rattle.refusal.specs.declared.Refusal.{Refusal}
-use Rattle.refusal.specs.Read.{Read, read, refuse}
 use Rattle.table.specs.Table.{upFrom}
 use Rattle.table.proofs.Accepted.{table-accepted, few-variables}
 use Rattle.table.proofs.HeadLaws.{up-length}
@@ -23,6 +22,7 @@ use Rattle.checker.specs.Checked.{planSays, planTold}
 use Rattle.checker.specs.declared.PlanAnswer.{PlanAnswer}
 use Rattle.checker.specs.declared.PlanAnswer.the-variants as plan-answer
 use Rattle.checker.proofs.Accepts.{PlanFor}
+use Rattle.checker.proofs.SaidLaws.{said-refused}
 use Rattle.plannotes.specs.Noted.{NotedInto, noted, refused}
 use Rattle.plannotes.specs.code.Places.{NoSlotTwice, Open}
 use Rattle.plannotes.specs.code.Steps.{Low}
@@ -101,10 +101,6 @@ module _ {t p : List ℕ} {b : ℕ} (x : PlanFor t p b) where
         (s ∙ sets-eq W array 0 (omega (arith, branches-few (x .is) (x .tree))) ∙ ap (λ (k : ℕ). W ++ drop k array) q)
 
 -- The table or the plan is turned away.
-says-refused : (x : Read ℕ) (f : Refused) → planSays x ≡ turned f → x ≡ refuse f
-says-refused (read n) f e = absurd (let z : _≡_ {A = ℕ} 0 1 = cc in omega arith)
-says-refused (refuse g) f e = cc
-
 pub turned-away : (t p array : List ℕ) {r : PlanAnswer} → planTold r ≡ planSays (planOf t p) → {f : Refusal} → r ≡ plan-answer.Refused f
     → NotedInto t p array array (record { answer = plan-answer.Refused f; width = 0; rows = 0 })
-turned-away t p array promise {f} e = refused (told f) (says-refused (planOf t p) (told f) (sym promise ∙ ap planTold e)) refl refl refl refl
+turned-away t p array promise {f} e = refused (told f) (said-refused (planOf t p) promise e) refl refl refl refl

@@ -6,7 +6,7 @@ use native.Mathlib.Omega.{arith}
 use lib.ListN.{length, drop}
 use Rattle.refusal.specs.Refusal.{Refused, turned}
 use Rattle.table.specs.Table.{Table, upFrom}
-use Rattle.plan.specs.Plans.{Plan, write, branches}
+use Rattle.plan.specs.Plans.{Plan, branches}
 use Rattle.plan.specs.Notes.{notes, word}
 use Rattle.plan.proofs.PlansLaws.{plan-tells}
 use Rattle.checker.specs.Checked.{planTold}
@@ -18,7 +18,7 @@ use Rattle.plannotes.specs.declared.Noted.{Noted}
 use Rattle.plannotes.proofs.HandedLaws.{handed-says}
 
 -- what is noted of a plan, before other numbers
-abbrev whole : (before : List ℕ) (k : ℕ) (rows : List (List ℕ)) → Plan k rows → List ℕ
+abbrev pub whole : (before : List ℕ) (k : ℕ) (rows : List (List ℕ)) → Plan k rows → List ℕ
 whole before k rows tree = map word (notes tree (upFrom 1 k) 32 0) ++ drop (branches tree) before
 
 -- an accepted plan is not turned away

@@ -1,14 +1,13 @@
 -- From a state to its branches, and from a branch to the state below it.
-use Prim.Native.Nat.{ℕ, zero, suc, pred, _+_, _-_, _*_, _≤_, _<_}
+use Prim.Native.Nat.{ℕ, suc, pred, _+_, _-_, _*_, _≤_, _<_}
 use mathlib.Core.Path.{_≡_, refl, sym, _∙_, ap, subst}
 use mathlib.Core.List.{List, [], _∷_, _++_, map, append-assoc, map-append}
 use native.Mathlib.Omega.{arith}
 use lib.ListN.{length, getD, take, drop, set, length-set, length-append, length-drop, length-map}
-use lib.Seq.{drop-drop, drop-at, length-take-le, sets, length-sets}
+use lib.Seq.{length-take-le, sets, length-sets}
 use Rattle.cell.specs.Cell.{arity}
 use Rattle.term.specs.Terms.{root, close}
-use Rattle.term.proofs.Lists.{sets-sets}
-use Rattle.term.proofs.TermsLaws.{terms-long}
+use Rattle.term.proofs.Lists.{sets-sets, head-at, part-at}
 use Rattle.table.specs.All.{All}
 use Rattle.table.specs.Table.{upFrom}
 use Rattle.table.proofs.HeadLaws.{up-length}
@@ -19,26 +18,13 @@ use Rattle.plan.specs.code.Cells.{Cells, CellsIn}
 use Rattle.plan.specs.code.Fits.{Fits}
 use Rattle.plan.proofs.NotesLaws.{notes-count}
 use Rattle.plan.proofs.PlansLaws.{leaf-cells}
-use Rattle.plan.proofs.RunsLaws.{Each, Sized, group-rows, group-sizes, fits-some, runs-fit}
+use Rattle.plan.proofs.RunsLaws.{Each, Sized, group-rows, group-sizes, fits-some, runs-fit, fits-wide}
 use Rattle.plan.specs.code.Rows.{rowCount}
 use Rattle.plannotes.specs.code.Places.{Open}
 use Rattle.plannotes.specs.code.Steps.{partOf, Low, Part, BranchMet, Begun}
 use Rattle.plannotes.specs.code.Tree.{Ready, ReadyAt, notesAt, Done, StateDone, BranchDone}
 use Rattle.plannotes.specs.declared.tree.Past.{Past}
 use Rattle.limits.specs.Limits.{mostBranches, mostPlanCells}
-
--- what stands at a place of a list
-read : (l : List ℕ) (at x : ℕ) (xs : List ℕ) → drop at l ≡ x ∷ xs → (at < length l) × (getD l at 0 ≡ x) × (drop (at + 1) l ≡ xs)
-read [] zero x xs e = absurd (let z : _≡_ {A = ℕ} 0 1 = cc in omega arith)
-read [] (suc at) x xs e = absurd (let z : _≡_ {A = ℕ} 0 1 = cc in omega arith)
-read (y ∷ l) zero x xs e = (omega arith, cc, cc)
-read (y ∷ l) (suc at) x xs e =
-    let r = read l at x xs e in
-    let q : suc at + 1 ≡ suc (at + 1) = omega arith in
-    (omega arith, r .1, rw q (r .2))
-
-drop-more : (l xs ys : List ℕ) (at : ℕ) → drop at l ≡ xs ++ ys → drop (at + length xs) l ≡ ys
-drop-more l xs ys at e = sym (drop-drop (length xs) at l) ∙ ap (drop (length xs)) e ∙ drop-at xs ys (length xs) refl
 
 -- how many places are open below a branch
 pub below-long : (i a free : ℕ) (slots : List ℕ) → i < length slots → length (below i a free slots) ≡ a + (length slots - 1)
@@ -88,16 +74,11 @@ inner (node {k} {rows} i h bs) j e =
     subst (λ (j : ℕ). Inner (node {k = k} {rows = rows} i h bs) j) (let z : k ≡ j = omega arith in z)
     (record { i = i; bound = h; trees = bs; cells = refl; noted = λ slots free row. refl; low = λ c. c; count = refl })
 
--- no more places are open than a row has cells
-fits-wide : (n k : ℕ) (rows : List (List ℕ)) → All (Fits n k) rows → 0 < length rows → k ≤ n
-fits-wide n k [] f h = absurd (omega arith)
-fits-wide n k (r ∷ rs) f h = omega (arith, terms-long (f .0 .0))
-
 -- a state's first cell
 first-cell : (plan behind : List ℕ) (at : ℕ) {k : ℕ} {rows : List (List ℕ)} (p : Plan k rows) → drop at plan ≡ write p ++ behind → at < length plan
 unfolding write
-first-cell plan behind at (leaf {rows}) e = read plan at (length rows) behind e .0
-first-cell plan behind at (node {rows = rows} i l bs) e = read plan at i (length (runs i rows) ∷ (writes bs ++ behind)) e .0
+first-cell plan behind at (leaf {rows}) e = head-at plan at (length rows) behind e .0
+first-cell plan behind at (node {rows = rows} i l bs) e = head-at plan at i (length (runs i rows) ∷ (writes bs ++ behind)) e .0
 
 -- some of a state's branches, from a cell of the plan on
 pub record ReadyIn (plan links noted slots : List ℕ) (i place k made free row : ℕ) {groups : List Run} (trees : Branches (k - 1) groups) : Type 0 where
@@ -126,7 +107,7 @@ module _ {plan links noted : List ℕ} {at k made free row : ℕ} (w : Ready pla
       (first-cell plan (w .behind) at (w .tree) (w .cells), w .size, omega (arith, w .deep), omega (arith, w .room), omega (arith, w .enough))
 
   pub leaf-read : k ≡ 0 → getD plan at 0 ≡ length (w .rows)
-  leaf-read e = read plan at (length (w .rows)) (w .behind) (w .cells ∙ ap (λ (x : List ℕ). x ++ w .behind) (leaf-cells (w .tree) e)) .1
+  leaf-read e = head-at plan at (length (w .rows)) (w .behind) (w .cells ∙ ap (λ (x : List ℕ). x ++ w .behind) (leaf-cells (w .tree) e)) .1
 
   pub leaf-done : k ≡ 0 → StateDone w noted (record { place = at + 1; made = made; row = row + getD plan at 0 })
   leaf-done e =
@@ -152,8 +133,8 @@ module _ {plan links noted : List ℕ} {at k made free row : ℕ} (w : Ready pla
   inside-by n l =
       let gs = runs (n .i) (w .rows) in
       let ws = writes (n .trees) ++ w .behind in
-      let r = read plan at (n .i) (length gs ∷ ws) (w .cells ∙ ap (λ (x : List ℕ). x ++ w .behind) (n .cells)) in
-      let s = read plan (at + 1) (length gs) ws (r .2) in
+      let r = head-at plan at (n .i) (length gs ∷ ws) (w .cells ∙ ap (λ (x : List ℕ). x ++ w .behind) (n .cells)) in
+      let s = head-at plan (at + 1) (length gs) ws (r .2) in
       let q : at + 1 + 1 ≡ at + 2 = omega arith in
       let z : k ≡ suc (k - 1) = omega arith in
       let f : All (Fits (w .left) (suc (k - 1))) (w .rows) = rw z at (w .fit) in
@@ -221,14 +202,14 @@ module _ {plan links noted slots : List ℕ} {i place k made free row : ℕ} {g 
     array = w .array;
   }
 
-  pub others-of : {noted′ : List ℕ} {q : Past} → BranchDone first-of noted′ q → ReadyIn plan links noted′ slots i (q .place) k (q .made) free (q .row) bs
+  others-of : {noted′ : List ℕ} {q : Past} → BranchDone first-of noted′ q → ReadyIn plan links noted′ slots i (q .place) k (q .made) free (q .row) bs
   unfolding first-of branches Cells
   others-of {noted′} {q} d =
-      let r = read plan place (g .cell) (write p ++ (writes bs ++ w .behind)) (first-of .cells) in
+      let r = head-at plan place (g .cell) (write p ++ (writes bs ++ w .behind)) (first-of .cells) in
       let e : q .place ≡ place + 1 + length (write p) = d .after ∙ omega arith in
       record {
         behind = w .behind;
-        cells = rw e (drop-more plan (write p) (writes bs ++ w .behind) (place + 1) (r .2));
+        cells = rw e (part-at plan (place + 1) (write p) (writes bs ++ w .behind) (r .2));
         size = w .size;
         most = w .most;
         some = w .some .1;
@@ -256,7 +237,7 @@ module _ {plan links noted : List ℕ} {i place k made free row : ℕ} (w : Read
   open-below = fits-wide (w .left) (arity c + (k - 1)) (w .group .rows) (w .fit) (w .some)
 
   pub branch-read : (place < length plan) × (getD plan place 0 ≡ c) × (drop (place + 1) plan ≡ write (w .tree) ++ w .behind)
-  branch-read = read plan place c (write (w .tree) ++ w .behind) (w .cells)
+  branch-read = head-at plan place c (write (w .tree) ++ w .behind) (w .cells)
 
   pub branch-bounds : (place < length plan) × (length plan ≤ mostPlanCells) × (0 < k) × (arity c + (k - 1) ≤ 32) × (made < mostBranches) × (free + arity c ≤ 63)
   branch-bounds = (

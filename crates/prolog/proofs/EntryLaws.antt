@@ -84,7 +84,7 @@ module _ (t cells names : List ℕ) (c : Counted) (C : Counts t c) where
           (long-table (tableCells t (C .facts)) (omega (arith, needs))))
 
 -- GIVEN
-pub gives-loads : (t made list cells names cells′ names′ : List ℕ) (r : TextAnswer) (facts : List Fact) → Taken t (read facts)
+gives-loads : (t made list cells names cells′ names′ : List ℕ) (r : TextAnswer) (facts : List Fact) → Taken t (read facts)
     → made ≡ tableCells t facts → list ≡ nameList t facts
     → length made ≤ length cells → length list ≤ length names → Gives made list cells names cells′ names′ r
     → TextLoads t cells names cells′ names′ (textTold r)

@@ -44,7 +44,7 @@ module _ {rec : List ℕ} {figure : ℕ} {T : Table} (x : Holds rec figure T)
   fewer = length-take-le last (T .rows) (omega arith)
 
   -- the last row's cells are cleared
-  pub cells-dropped : {start size : ℕ} → start ≡ 2 + length (flatten rows) → size ≡ length (cellsIn T)
+  cells-dropped : {start size : ℕ} → start ≡ 2 + length (flatten rows) → size ≡ length (cellsIn T)
       → sets rec (2 + start) (replicate (2 + size - (2 + start)) 0) ≡ length (cellsIn T) ∷ figure ∷ (inRoom front ++ kept)
   cells-dropped {start} {size} e f =
       let e : start ≡ length front = omega arith in

@@ -128,7 +128,7 @@ module _ {m : Measure} {width : ℕ} {rows : List (List ℕ)} {array : List ℕ}
       entry first last h l (no-pair o) = rw (zero first last h l o .cost, zero first last h l o .place) (none o)
 
 -- at a pair where an array is as it was it is as right
-pub right-same : {m : Measure} {width : ℕ} {rows : List (List ℕ)} {old new : List ℕ} {first last : ℕ} → SameAt first last old new
+right-same : {m : Measure} {width : ℕ} {rows : List (List ℕ)} {old new : List ℕ} {first last : ℕ} → SameAt first last old new
     → RightAt m [] width rows old first last → RightAt m [] width rows new first last
 right-same s x = record { whole = rw (s .whole) (x .whole); entry = rw (s .cost, s .place) (x .entry) }
 

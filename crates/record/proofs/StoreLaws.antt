@@ -28,7 +28,7 @@ module _ (n figure : ℕ) (room kept : List ℕ) (long : length room ≡ mostTab
   abbrev whole : List ℕ
   whole = n ∷ figure ∷ (room ++ kept)
 
-  pub kept-part : drop 2052 whole ≡ kept
+  kept-part : drop 2052 whole ≡ kept
   kept-part = drop-at room kept mostTableCells long
 
   pub kept-lent : take (length whole - 2052) (drop 2052 whole) ≡ kept

@@ -35,13 +35,13 @@ within-by {row} {goal} {cells} {other} {cells′} {n = n} e x = go (subst (Ended
 
 -- for a row by another name
 module _ {here row goal cells other cells′ : List ℕ} {r : Made} where
-  pub met-by : {n : ℕ} → here ≡ row → r ≡ made.Cells n → Ended here goal cells other cells′ r → Hit row goal → InstanceMet row goal cells′ n
+  met-by : {n : ℕ} → here ≡ row → r ≡ made.Cells n → Ended here goal cells other cells′ r → Hit row goal → InstanceMet row goal cells′ n
   met-by {n} p e x = go (subst (Ended row goal cells other cells′) e (subst (λ (l : List ℕ). Ended l goal cells other cells′ r) p x))
     where
       go : Ended row goal cells other cells′ (made.Cells n) → Hit row goal → InstanceMet row goal cells′ n
       go (ended l m) = m
 
-  pub over-by : here ≡ row → r ≡ made.Big → Ended here goal cells other cells′ r → Hit row goal → Lent cells other → Over row goal
+  over-by : here ≡ row → r ≡ made.Big → Ended here goal cells other cells′ r → Hit row goal → Lent cells other → Over row goal
   over-by p e x = go (subst (Ended row goal cells other cells′) e (subst (λ (l : List ℕ). Ended l goal cells other cells′ r) p x))
     where
       go : Ended row goal cells other cells′ made.Big → Hit row goal → Lent cells other → Over row goal

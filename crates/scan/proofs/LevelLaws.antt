@@ -90,13 +90,13 @@ put-small level byte v w e h k =
     subst (λ (u : ℕ). (byte / u % 4 * u ≤ byte) × (byte - byte / u % 4 * u + v * u < 256)) (sym e) (small level byte v h k)
 
 -- A STORE
-pub level-stored : (dones : List ℕ) (level v : ℕ) → level / 4 < length dones → v < 4 → levelAt (stored dones level v) level ≡ v
+level-stored : (dones : List ℕ) (level v : ℕ) → level / 4 < length dones → v < 4 → levelAt (stored dones level v) level ≡ v
 level-stored dones level v h k =
     let byte = getD dones (level / 4) 0 in
     ap (countIn (weightOf (level % 4))) (getD-set-same dones (level / 4) (withCount (weightOf (level % 4)) byte v) 0 h)
     ∙ count-same byte v (place level) k
 
-pub level-kept : (dones : List ℕ) (level v other : ℕ) → level / 4 < length dones → v < 4 → other < level
+level-kept : (dones : List ℕ) (level v other : ℕ) → level / 4 < length dones → v < 4 → other < level
     → levelAt (stored dones level v) other ≡ levelAt dones other
 level-kept dones level v other h k l =
     by (getD dones (level / 4) 0) (withCount (weightOf (level % 4)) (getD dones (level / 4) 0) v) refl refl (eqb (level / 4) (other / 4)) refl

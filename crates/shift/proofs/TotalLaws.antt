@@ -1,6 +1,6 @@
 -- What a list of goals tries together: added up goal by goal, from the first on.
 use Prim.Native.Nat.{ℕ, suc, _+_, _-_, _^_, _≤_, _<_}
-use mathlib.Core.Path.{_≡_, refl, sym, _∙_, ap, subst}
+use mathlib.Core.Path.{_≡_, refl, sym, _∙_, ap}
 use mathlib.Core.List.{List, [], _∷_}
 use native.Mathlib.Omega.{arith}
 use lib.ListN.{length, getD, drop, length-drop}
@@ -13,7 +13,7 @@ use Rattle.sums.proofs.HeldLaws.{held-up, held-all, held-none}
 use Rattle.shift.specs.Totals.{asks, goalsIn, Tries, none, more, TriesInAll}
 
 -- the goals from the i-th word on
-pub goals-more : (list : List ℕ) (i : ℕ) → 1 < length list - i
+goals-more : (list : List ℕ) (i : ℕ) → 1 < length list - i
     → goalsIn (drop i list) ≡ asks (getD list i 0) (getD list (i + 1) 0) ∷ goalsIn (drop (i + 2) list)
 unfolding goalsIn
 goals-more list i h =
@@ -23,7 +23,7 @@ goals-more list i h =
     let y : i + 2 ≡ suc (suc i) = omega arith in
     rw (a, b, x, y)
 
-pub goals-none : (list : List ℕ) (i : ℕ) → length list - i ≤ 1 → goalsIn (drop i list) ≡ []
+goals-none : (list : List ℕ) (i : ℕ) → length list - i ≤ 1 → goalsIn (drop i list) ≡ []
 unfolding goalsIn
 goals-none list i h = go (drop i list) (omega (arith, length-drop i list))
   where

@@ -32,11 +32,11 @@ parity m = go (m % 2) refl
     go zero e = inr e
     go (suc r) e = inl (omega arith)
 
-kept-set : (m c : ℕ) (xs : List ℕ) → m % 2 ≡ 1 → kept m (c ∷ xs) ≡ c ∷ kept (m / 2) xs
+pub kept-set : (m c : ℕ) (xs : List ℕ) → m % 2 ≡ 1 → kept m (c ∷ xs) ≡ c ∷ kept (m / 2) xs
 unfolding kept
 kept-set m c xs h = rw (is-odd m h)
 
-kept-unset : (m c : ℕ) (xs : List ℕ) → m % 2 ≡ 0 → kept m (c ∷ xs) ≡ kept (m / 2) xs
+pub kept-unset : (m c : ℕ) (xs : List ℕ) → m % 2 ≡ 0 → kept m (c ∷ xs) ≡ kept (m / 2) xs
 unfolding kept
 kept-unset m c xs h = rw (is-even m h)
 

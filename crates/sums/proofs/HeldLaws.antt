@@ -17,7 +17,3 @@ held-all n h = omega arith
 
 pub held-none : (n : ℕ) → held (0 + n) ≡ held n
 held-none n = omega arith
-
--- no number is less than what is held of it, and what is less as held is less
-pub held-low : (n : ℕ) → held n < 2 ^ 64
-held-low n = omega arith

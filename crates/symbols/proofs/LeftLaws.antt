@@ -73,7 +73,7 @@ unfolding commaTo
 comma-deep s n k [] out = refl
 comma-deep s n k (f ∷ fs) out = refl
 
-pub close-deep : (s n k : ℕ) (f : Frame) (fs : List Frame) (out : List Symbol) → length (closeTo s n k f fs out .opened) ≡ length fs
+close-deep : (s n k : ℕ) (f : Frame) (fs : List Frame) (out : List Symbol) → length (closeTo s n k f fs out .opened) ≡ length fs
 unfolding closeTo
 close-deep s n k f fs out = refl
 

@@ -1,12 +1,23 @@
--- Laws of lists that the library has not and several crates use: several elements stored one after another (`sets`), a part in the middle (`slice`), one
+-- Laws of lists that the library has not and several crates use: what stands at a place; several elements stored one after another (`sets`), a part in the middle (`slice`), one
 -- element repeated (`replicate`).
 use Prim.Native.Nat.{ℕ, zero, suc, _+_, _-_, _≤_, _<_}
 use mathlib.Core.Path.{_≡_, refl, sym, ap, _∙_}
 use mathlib.Core.List.{List, [], _∷_, _++_, append-assoc}
 use native.Mathlib.Nat.{add-zero, zero-add, suc-add}
+use native.Mathlib.Numerals.{add-one}
 use native.Mathlib.Omega.{arith}
-use lib.ListN.{length, getD, set, take, drop, replicate, length-replicate}
-use lib.Seq.{slice, take-nil, sets, sets-eq, set-comm, length-take-le, take-at, drop-at, take-set-le, drop-set-lt, getD-set-other}
+use lib.ListN.{length, getD, set, take, drop, replicate, length-drop, length-replicate}
+use lib.Seq.{slice, take-nil, sets, sets-eq, set-comm, length-take-le, take-at, drop-at, drop-cons, drop-drop, drop-append-seam, take-set-le, drop-set-lt, getD-set-other}
+
+-- what stands at a place, and after a part
+pub head-at : (xs : List ℕ) (at c : ℕ) (ys : List ℕ) → drop at xs ≡ c ∷ ys → (at < length xs) × (getD xs at 0 ≡ c) × (drop (at + 1) xs ≡ ys)
+head-at xs at c ys e =
+    let h : at < length xs = omega (arith, length-drop at xs, ap length e) in
+    let d = drop-cons xs at 0 h in
+    (h, cc, rw add-one (cc))
+
+pub part-at : (xs : List ℕ) (at : ℕ) (ys zs : List ℕ) → drop at xs ≡ ys ++ zs → drop (at + length ys) xs ≡ zs
+part-at xs at ys zs e = sym (drop-drop (length ys) at xs) ∙ ap (drop (length ys)) e ∙ drop-append-seam ys zs
 
 pub nil-of-length : (xs : List ℕ) → length xs ≡ 0 → xs ≡ []
 nil-of-length [] h = refl

@@ -87,7 +87,7 @@ pub data Spells (t : List ℕ) (words : Words) : List Symbol → List ℕ → Ty
   a-number : {v : ℕ} {ss : List Symbol} {cs : List ℕ} → v < 2 ^ 16 → Spells t words ss cs
       → Spells t words (number v ∷ ss) (numberCell v ∷ cs)
 
-spells-both : {t : List ℕ} {words : Words} {ss us : List Symbol} {cs ds : List ℕ} → Spells t words ss cs → Spells t words us ds
+pub spells-both : {t : List ℕ} {words : Words} {ss us : List Symbol} {cs ds : List ℕ} → Spells t words ss cs → Spells t words us ds
     → Spells t words (ss ++ us) (cs ++ ds)
 spells-both none z = z
 spells-both (a-name l m h x) z = a-name l m h (spells-both x z)

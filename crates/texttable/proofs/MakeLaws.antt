@@ -1,5 +1,5 @@
 -- One turn of the writing, case by case, in the code's own form.
-use Prim.Native.Nat.{ℕ, _+_, _-_, _*_, _≤_, _<_}
+use Prim.Native.Nat.{ℕ, _+_, _-_, _≤_, _<_}
 use mathlib.Core.Path.{_≡_, refl, sym, ap, subst, _∙_}
 use mathlib.Core.Bool.{true, false}
 use mathlib.Core.List.{List, _++_}
@@ -57,7 +57,7 @@ module _ (t list links words ways given cells owners : List ℕ) (m : Making) (k
           omega (arith, room, R .rooms .roomy .for-cells),
         )
 
-    pub variable-room : (s < e) × (e ≤ length t) × (length t ≤ mostTextBytes) × (k .row .all < length words) × (length words < mostTextBytes)
+    variable-room : (s < e) × (e ≤ length t) × (length t ≤ mostTextBytes) × (k .row .all < length words) × (length words < mostTextBytes)
         × RowVars t words ways given (k .row) × (m .count < length cells)
     variable-room =
         let N = R .state .knows in (

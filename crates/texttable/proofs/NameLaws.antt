@@ -246,7 +246,7 @@ all-struck t ns marks rest rest₀ n k =
     record { word = λ i l. ap (λ (x : Bool). not (eqb (getD marks i 0) 0) || x) (sym (n .met (bytesAt t (at ns i)))) ∙ k .word i l }
 
 -- none yet
-pub none-struck : (t : List ℕ) (ns : List Place) (marks : List ℕ) (rest : List Item) → ((i : ℕ) → i < length ns → getD marks i 0 ≡ 0)
+none-struck : (t : List ℕ) (ns : List Place) (marks : List ℕ) (rest : List Item) → ((i : ℕ) → i < length ns → getD marks i 0 ≡ 0)
     → Struck t ns marks rest rest
 none-struck t ns marks rest z = record { word = λ i l. ap (λ (m : ℕ). lost t (bytesAt t (at ns i)) m rest) (z i l) }
 

@@ -2,7 +2,7 @@
 use Prim.Native.Nat.{ℕ, suc, _+_, _-_, _*_, _/_, _%_, _^_, _≤_, _<_}
 use mathlib.Core.Path.{_≡_, refl, sym, ap, ap₂, subst, _∙_}
 use mathlib.Core.Bool.{true, false}
-use mathlib.Core.List.{List, []}
+use mathlib.Core.List.{List}
 use native.Mathlib.Omega.{arith}
 use native.Mathlib.Numerals.{add-one}
 use native.Mathlib.Decide.{ℕ-discrete, decLt}
@@ -80,7 +80,7 @@ module _ (t list links : List ℕ) (count : ℕ) (T : Tree t list links count) w
       differs g y = let a : true ≡ false = sym (same-refl w) ∙ ap (same w) (sym y) ∙ g in let b : _≡_ {A = ℕ} 0 1 = cc in omega arith
 
   -- one word more
-  pub with-word : {w : List ℕ} {slot : ℕ} (c : ℕ) → Missing t list links count w slot → count < length list → WordFits t c → wordListed t c ≡ w
+  with-word : {w : List ℕ} {slot : ℕ} (c : ℕ) → Missing t list links count w slot → count < length list → WordFits t c → wordListed t c ≡ w
       → Tree t (set list count c) (set links slot (suc count)) (suc count)
   with-word {w} {slot} c m room f e =
       record {
@@ -221,7 +221,7 @@ word-says t from to l h =
     let b : listed from to % 65536 + listed from to / 65536 ≡ to = omega arith in
     ap₂ (λ (x y : ℕ). slice x y t) a b
 
-pub word-fits : (t : List ℕ) (from to : ℕ) → from ≤ to → from < 65536 → to ≤ length t → WordFits t (listed from to)
+word-fits : (t : List ℕ) (from to : ℕ) → from ≤ to → from < 65536 → to ≤ length t → WordFits t (listed from to)
 word-fits t from to l h k = omega arith
 
 pub meet-new : (t list links : List ℕ) (count from to slot : ℕ) → Tree t list links count → Missing t list links count (slice from to t) slot

@@ -4,7 +4,7 @@ use mathlib.Core.Path.{_≡_, refl, sym, _∙_, ap}
 use mathlib.Core.List.{List, [], append-nil}
 use native.Mathlib.Omega.{arith}
 use lib.ListN.{length, getD}
-use Rattle.refusal.specs.Refusal.{Refused, told, turned}
+use Rattle.refusal.specs.Refusal.{Refused, told}
 use Rattle.refusal.specs.declared.Refusal.{Refusal}
 use Rattle.refusal.specs.Read.{Read, read, refuse, andThen}
 use Rattle.table.specs.Table.{Table, tableOf, Head}
@@ -19,6 +19,7 @@ use Rattle.checker.specs.Checked.{planSays, planTold}
 use Rattle.checker.specs.declared.PlanAnswer.{PlanAnswer}
 use Rattle.checker.specs.declared.PlanAnswer.the-variants as plan-answer
 use Rattle.checker.proofs.Accepts.{PlanFor}
+use Rattle.checker.proofs.SaidLaws.{said-refused}
 use Rattle.octets.specs.Octets.{Put}
 use Rattle.clauses.specs.Program.{program}
 use Rattle.clauses.specs.Handed.{handOf}
@@ -72,10 +73,6 @@ module _ {t p : List ℕ} {b : ℕ} (x : PlanFor t p b) where
   made-whole {n = n} f = made (x .table) (x .tree) n handed-table (sym (x .cells)) refl (f first-state)
 
 -- THE TABLE OR THE PLAN IS TURNED AWAY
-says-refused : (x : Read ℕ) (f : Refused) → planSays x ≡ turned f → x ≡ refuse f
-says-refused (read n) f e = absurd (let z : _≡_ {A = ℕ} 0 1 = cc in omega arith)
-says-refused (refuse g) f e = cc
-
 hand-refused : (t p : List ℕ) (f : Refused) → planOf t p ≡ refuse f → handOf t p ≡ refuse f
 unfolding handOf
 hand-refused t p f e = go (tableOf t) e
@@ -88,4 +85,4 @@ hand-refused t p f e = go (tableOf t) e
 pub turned-away : (t p room : List ℕ) {r : PlanAnswer} → planTold r ≡ planSays (planOf t p) → {f : Refusal} → r ≡ plan-answer.Refused f
     → Unfolds t p room room (unfolded.Refused f)
 turned-away t p room promise {f} e =
-    refusal f (hand-refused t p (told f) (says-refused (planOf t p) (told f) (sym promise ∙ ap planTold e))) refl refl
+    refusal f (hand-refused t p (told f) (said-refused (planOf t p) promise e)) refl refl

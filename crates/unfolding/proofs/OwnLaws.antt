@@ -12,6 +12,7 @@ use Rattle.cell.specs.Cell.{arity}
 use Rattle.cell.proofs.CellLaws.{arity-small}
 use Rattle.term.specs.Terms.{root, close}
 use Rattle.term.proofs.Step.{Terms-fresh}
+use Rattle.term.proofs.Lists.{head-at, part-at}
 use Rattle.table.specs.All.{All}
 use Rattle.table.specs.Table.{count}
 use Rattle.table.proofs.AllLaws.{all-each}
@@ -19,6 +20,7 @@ use Rattle.table.proofs.HeadLaws.{up-length}
 use Rattle.plan.specs.Runs.{Run, runs}
 use Rattle.plan.specs.Plans.{Plan, leaf, node, Branches, end, next, write, writes}
 use Rattle.plan.proofs.RunsLaws.{Each, Sized, group-all, group-sizes}
+use Rattle.plan.proofs.PlansLaws.{write-some}
 use Rattle.answer.specs.Skeleton.{hole, decide}
 use Rattle.answer.proofs.CountLaws.{up-distinct}
 use Rattle.answer.proofs.SkeletonLaws.{count-all}
@@ -41,7 +43,7 @@ use Rattle.unfolding.specs.code.Branch.{firstHead, BranchAt, branchClaus
 use Rattle.unfolding.specs.declared.fold.Fold.{Fold}
 use Rattle.unfolding.specs.declared.own.Own.{Own}
 use Rattle.unfolding.specs.declared.past.Past.{Past}
-use Rattle.unfolding.proofs.PastLaws.{head-at, part-at, splits-short}
+use Rattle.unfolding.proofs.PastLaws.{splits-short}
 use Rattle.unfolding.proofs.FoldLaws.{count-short, fills-short, FillsAt, fills-close}
 use Rattle.unfolding.proofs.RunLaws.{folded}
 use Rattle.limits.specs.Limits.{mostPlanCells}
@@ -66,11 +68,6 @@ same-clause a b c = rw (a, b, c)
 called-few : (b : Bool) (n : ℕ) → cond b 0 n ≤ n
 called-few true n = omega arith
 called-few false n = omega arith
-
-write-some : {k : ℕ} {rows : List (List ℕ)} (p : Plan k rows) → 0 < length (write p)
-unfolding write
-write-some leaf = omega arith
-write-some (node i h bs) = omega arith
 
 module _ {plan : List ℕ} {p index : ℕ} {o : Own} (w : BranchAt plan p index o) where
   abbrev K : List ℕ

@@ -3,12 +3,11 @@ use Prim.Native.Nat.{ℕ, suc, _+_, _-_, _*_, _≤_, _<_}
 use mathlib.Core.Path.{_≡_, refl, sym, _∙_, ap}
 use mathlib.Core.Bool.{cond}
 use mathlib.Core.List.{List, [], _∷_, _++_, append-assoc}
-use native.Mathlib.Numerals.{add-one}
 use native.Mathlib.Omega.{arith}
 use lib.Dec.{ltb}
 use borrow.Author.Tests.{lt-ltb}
 use lib.ListN.{length, getD, drop, length-append, length-drop}
-use lib.Seq.{drop-cons, drop-drop, drop-append-seam}
+use Rattle.term.proofs.Lists.{head-at, part-at}
 use Rattle.cell.specs.Cell.{arity}
 use Rattle.cell.proofs.CellLaws.{arity-small}
 use Rattle.plan.specs.Runs.{Run, runs}
@@ -20,16 +19,6 @@ use Rattle.limits.specs.Limits.{mostPlanCells}
 
 abbrev pub passed : (at splits : ℕ) → Past
 passed at n = record { at = at; splits = n }
-
--- what stands at a place, and after a part
-pub head-at : (xs : List ℕ) (at c : ℕ) (ys : List ℕ) → drop at xs ≡ c ∷ ys → (at < length xs) × (getD xs at 0 ≡ c) × (drop (at + 1) xs ≡ ys)
-head-at xs at c ys e =
-    let h : at < length xs = omega (arith, length-drop at xs, ap length e) in
-    let d = drop-cons xs at 0 h in
-    (h, cc, rw add-one (cc))
-
-pub part-at : (xs : List ℕ) (at : ℕ) (ys zs : List ℕ) → drop at xs ≡ ys ++ zs → drop (at + length ys) xs ≡ zs
-part-at xs at ys zs e = sym (drop-drop (length ys) at xs) ∙ ap (drop (length ys)) e ∙ drop-append-seam ys zs
 
 -- several runs are counted once
 pub several-is : (gs : List Run) → _≡_ {A = ℕ} (several gs 0 1) (cond (ltb 1 (length gs)) 1 0)

@@ -11,6 +11,7 @@ use borrow.Author.Tests.{eqb-false, ne-eqb}
 use Rattle.cell.specs.Cell.{arity}
 use Rattle.cell.proofs.CellLaws.{arity-small}
 use Rattle.term.specs.Terms.{root, close}
+use Rattle.term.proofs.Lists.{head-at}
 use Rattle.table.specs.All.{All}
 use Rattle.table.specs.Table.{count, upFrom}
 use Rattle.plan.specs.Runs.{Run, runs}
@@ -26,7 +27,6 @@ use Rattle.unfolding.specs.Flat.{calledIn}
 use Rattle.unfolding.specs.code.Walk.{Stands, goesOn, Fills}
 use Rattle.unfolding.specs.code.Folds.{Folds, Folded}
 use Rattle.unfolding.specs.declared.fold.Fold.{Fold}
-use Rattle.unfolding.proofs.PastLaws.{head-at}
 use Rattle.unfolding.proofs.FoldLaws.{one-branch, fills-next, fills-short}
 use Rattle.limits.specs.Limits.{mostPlanCells}
 

@@ -8,6 +8,7 @@ use lib.ListN.{length, getD, drop, replicate, length-append}
 use Rattle.cell.specs.Cell.{arity}
 use Rattle.cell.proofs.CellLaws.{arity-small}
 use Rattle.term.specs.Terms.{root, close}
+use Rattle.term.proofs.Lists.{head-at, part-at}
 use Rattle.table.specs.All.{All}
 use Rattle.table.proofs.AllLaws.{all-each}
 use Rattle.octets.specs.Octets.{Put}
@@ -27,7 +28,7 @@ use Rattle.unfolding.specs.Flat.{flat, flatOne}
 use Rattle.unfolding.specs.code.Walk.{Stands, Fills}
 use Rattle.unfolding.specs.code.Visits.{Peopled, ownOf, belowOf, splitsBelow, Visits}
 use Rattle.unfolding.specs.declared.walk.Stand.{Stand}
-use Rattle.unfolding.proofs.PastLaws.{head-at, part-at, splits-short}
+use Rattle.unfolding.proofs.PastLaws.{splits-short}
 use Rattle.limits.specs.Limits.{mostPlanCells}
 
 abbrev pub stand : (at number to : ℕ) → Stand
@@ -40,10 +41,10 @@ flat-++ [] ys = refl
 flat-++ (c ∷ xs) ys = ap (λ (l : List ℕ). flatOne c ++ l) (flat-++ xs ys) ∙ sym (append-assoc (flatOne c) (flat xs) (flat ys))
 
 -- a row that fills the blank head of its state, and back
-pub seat-of : (k : ℕ) (x : List ℕ) → Fills k (replicate k hole) x → Seat k x
+seat-of : (k : ℕ) (x : List ℕ) → Fills k (replicate k hole) x → Seat k x
 seat-of k x f = record { terms = f .terms; short = rw (fill-all k (f .terms)) at (f .short); symbols = f .symbols }
 
-pub fills-of : (k : ℕ) (x : List ℕ) → Seat k x → Fills k (replicate k hole) x
+fills-of : (k : ℕ) (x : List ℕ) → Seat k x → Fills k (replicate k hole) x
 fills-of k x s = record { terms = s .terms; symbols = s .symbols; short = rw (fill-all k (s .terms)) (s .short) }
 
 pub seats-of : (k : ℕ) (rows : List (List ℕ)) → All (Fills k (replicate k hole)) rows → All (Seat k) rows

@@ -1,6 +1,6 @@
 -- Frames: the first branch, what is left after it, and what it does to the frames further out.
 use Prim.Native.Nat.{ℕ, suc, _+_, _≤_, _<_}
-use mathlib.Core.Path.{_≡_, refl, sym, _∙_, ap, ap₂}
+use mathlib.Core.Path.{_≡_, refl, _∙_, ap, ap₂}
 use mathlib.Core.List.{List, [], _∷_, _++_}
 use native.Mathlib.Nat.{add-zero}
 use native.Mathlib.Omega.{arith}
@@ -55,7 +55,7 @@ pub record Below {k : ℕ} {rows : List (List ℕ)} (p : Plan k rows) (m : ℕ) 
   pub first : Frame
   pub same-free : first .free ≡ m
   pub same-slots : first .slots ≡ slots
-  pub same-R : first .R ≡ R
+  same-R : first .R ≡ R
   pub width : suc (first .k) ≡ k
   pub low : first .place ≤ first .k
   pub count : branchesIn (first .trees) ≡ branches p

@@ -94,7 +94,7 @@ module _ {w : ℕ} {G sib rep : List ℕ} (g : Goal w G) (T : Tables G sib rep) 
         (λ q. free y ly (rw (q, us-here) past) t f)
         (λ q. free y ly (rw (us-other r q) a) t f)
 
-    pub bound-past : {m : ℕ} {Θ : ℕ → List ℕ} → Bound G rep sib bs ns us n e m Θ → Bound G rep sib (set bs v c) (set ns v x) (set us v sk) n e m Θ
+    bound-past : {m : ℕ} {Θ : ℕ → List ℕ} → Bound G rep sib bs ns us n e m Θ → Bound G rep sib (set bs v c) (set ns v x) (set us v sk) n e m Θ
     bound-past b = record {
       good = b .good;
       is = λ r o. is-past (b .is r o);
