@@ -138,28 +138,7 @@ cells-shapes t fs rest =
     skip [] = refl
     skip (g ∷ gs) = refl
 
--- AS MANY ITEMS AS SYMBOLS
-among-append : (xs ys : List Item) → symbolsAmong (xs ++ ys) ≡ symbolsAmong xs + symbolsAmong ys
-unfolding symbolsAmong
-among-append [] ys = omega arith
-among-append (of-name w ∷ xs) ys = omega (arith, among-append xs ys)
-among-append (of-variable w ∷ xs) ys = omega (arith, among-append xs ys)
-among-append (of-number v ∷ xs) ys = omega (arith, among-append xs ys)
-among-append (next-row ∷ xs) ys = among-append xs ys
-
-among-in : (ss : List Symbol) → symbolsAmong (itemsIn ss) ≡ length ss
-unfolding symbolsAmong itemOf
-among-in [] = refl
-among-in (name s e a ∷ ss) = ap suc (among-in ss)
-among-in (variable s e ∷ ss) = ap suc (among-in ss)
-among-in (number v ∷ ss) = ap suc (among-in ss)
-
-among-rows : (fs : List Fact) → symbolsAmong (rowsIn fs) ≡ length (symbolsOf fs)
-unfolding symbolsAmong flatten
-among-rows [] = refl
-among-rows (f ∷ fs) =
-    among-append (itemsIn (f .symbols)) (rowsIn fs) ∙ ap₂ _+_ (among-in (f .symbols)) (among-rows fs) ∙ sym (length-append (f .symbols) (symbolsOf fs))
-
+-- AS MANY NUMBERS AS SYMBOLS
 pub numbering-long : (t : List ℕ) (ns vs : List Place) (xs : List Item) → length (numbering t ns vs xs) ≡ symbolsAmong xs
 unfolding symbolsAmong numbering
 numbering-long t ns vs [] = refl

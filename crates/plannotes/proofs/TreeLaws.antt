@@ -299,9 +299,6 @@ module _ {plan links noted : List ℕ} {i place k made free row : ℕ} (w : Read
 
 -- The loop over a state's branches: those that are left, and that with them all is noted.
 module _ {plan links noted₀ : List ℕ} {at k made₀ free row₀ : ℕ} (w : Ready plan links noted₀ at k made₀ free row₀) where
-  abbrev at-place : ℕ
-  at-place = getD plan at 0
-
   pub record RestOf (noted : List ℕ) (here : Past) (left : ℕ) {groups : List Run} (trees : Branches (k - 1) groups) : Type 0 where
     pub ready : ReadyIn plan links noted (w .slots) (getD plan at 0) (here .place) k (here .made) free (here .row) trees
     pub number : left ≡ length groups

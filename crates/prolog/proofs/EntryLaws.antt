@@ -6,7 +6,7 @@ use mathlib.Core.List.{List, _++_}
 use native.Mathlib.Omega.{arith}
 use native.Mathlib.Numerals.{add-one}
 use lib.Dec.{ltb}
-use lib.ListN.{length, take, drop, set, getD, length-append, length-drop, length-map}
+use lib.ListN.{length, take, drop, set, getD, length-append, length-map}
 use lib.Seq.{take-length, length-take-le, take-append-seam, paste, paste-suc}
 use borrow.Author.Tests.{lt-ltb, le-ltb, ltb-true, ltb-false}
 use Rattle.refusal.specs.Refusal.{Refused, refused, told, Answer, answered, turned}
@@ -172,9 +172,6 @@ module _ {t list made : List ℕ} {room : ℕ} where
   turned-are f (words.refused x) = x
 
 -- the list and the cells are there
-pub front-kept : (xs room : List ℕ) → length xs ≤ length room → length (putFirst xs room) ≡ length room
-front-kept xs room h = omega (arith, length-append xs (drop (length xs) room), length-drop (length xs) room)
-
 module _ {t list made list′ made′ : List ℕ} {room n : ℕ} {c : Counted} (L : Listed t room c list made list′ made′ n) where
   pub names-within : n ≤ length list′
   names-within =
