@@ -28,8 +28,7 @@ pub struct Branch {
 // A branch is 6 numbers of the list. Each has a symbol of a rule of its own, so that no plan has more than 64 rules have symbols.
 const NUMBERS: usize = 6;
 
-// six times BRANCHES
-pub const LIST: usize = 12288;
+pub const LIST: usize = NUMBERS * BRANCHES;
 
 // A state: its number, how many branches lead there, and the place that it looks at.
 struct State {

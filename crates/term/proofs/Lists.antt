@@ -1,4 +1,5 @@
--- Laws of lists that the library has not and several crates use: what stands at a place; several elements stored one after another (`sets`), a part in the middle (`slice`), one
+-- Laws of lists that the library has not and several crates use: what stands at a place; several elements stored one after another (`sets`), a part
+-- in the middle (`slice`), one
 -- element repeated (`replicate`).
 use Prim.Native.Nat.{ℕ, zero, suc, _+_, _-_, _≤_, _<_}
 use mathlib.Core.Path.{_≡_, refl, sym, ap, _∙_}
@@ -7,7 +8,8 @@ use native.Mathlib.Nat.{add-zero, zero-add, suc-add}
 use native.Mathlib.Numerals.{add-one}
 use native.Mathlib.Omega.{arith}
 use lib.ListN.{length, getD, set, take, drop, replicate, length-drop, length-replicate}
-use lib.Seq.{slice, take-nil, sets, sets-eq, set-comm, length-take-le, take-at, drop-at, drop-cons, drop-drop, drop-append-seam, take-set-le, drop-set-lt, getD-set-other}
+use lib.Seq.{slice, take-nil, sets, sets-eq, set-comm, length-take-le, take-at, drop-at, drop-cons, drop-drop, drop-append-seam, take-set-le}
+use lib.Seq.{drop-set-lt, getD-set-other}
 
 -- what stands at a place, and after a part
 pub head-at : (xs : List ℕ) (at c : ℕ) (ys : List ℕ) → drop at xs ≡ c ∷ ys → (at < length xs) × (getD xs at 0 ≡ c) × (drop (at + 1) xs ≡ ys)
