@@ -18,6 +18,7 @@ ghost use Rattle.builder.specs.code.Ahead.{AheadIn, ToCloseRow, ClosedRo
 ghost use Rattle.limits.specs.Limits.{keptCells, mostPlanCells, mostRowCells, mostRows};
 use limits::PLAN_CELLS;
 use limits::ROWS;
+use state::Rows;
 use state::column::run_count;
 use state::column::run_length;
 use state::column::same_symbol;
@@ -27,15 +28,6 @@ use state::mask::close_at;
 use state::mask::close_rows;
 use state::mask::open_rows;
 use state::mask::root_at;
-
-// The rows of a state, from first to before end, how many places are open in each, and which of these are inside a named
-// column: bit i for place i.
-struct Rows {
-    first: usize,
-    end: usize,
-    opens: usize,
-    named: u64,
-}
 
 // All rows agree at place i: each holds the symbol of the row before it. A single row, which most states have, agrees with
 // itself everywhere, and is not looked at.

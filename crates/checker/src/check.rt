@@ -11,6 +11,7 @@ use limits::ROWS;
 use refusal::Input;
 use refusal::Reason;
 use refusal::Refusal;
+use state::Rows;
 use state::column::run_count;
 use state::column::run_length;
 use state::flags::may;
@@ -88,15 +89,6 @@ fn alone(table: &[u32], start: usize, mask: u32, plan: &[u32], k: usize, at: usi
         count += 1;
     }
     leaf(plan, 1, count, place)
-}
-
-// The rows of a state, from first to before end, how many places are open in each, and which of these are inside a named column (02, W-213):
-// bit i for open place i.
-pub struct Rows {
-    pub first: usize,
-    pub end: usize,
-    pub opens: usize,
-    pub named: u64,
 }
 
 // The state at place `at` of the plan, with these rows; where no flag is set any place may be chosen. It goes no deeper than 32: each state
