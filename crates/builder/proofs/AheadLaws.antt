@@ -14,8 +14,8 @@ use Rattle.term.specs.Terms.{root}
 use Rattle.state.specs.Column.{runCount}
 use Rattle.state.specs.Mask.{odd, kept, bitFrom, bitAt}
 use Rattle.state.specs.States.{rowsAt, rowsIn}
+use Rattle.state.proofs.MaskLaws.{is-odd, is-even, parity}
 use Rattle.builder.specs.code.Ahead.{aheadOf, AheadIn}
-use Rattle.builder.proofs.OpenLaws.{is-odd, is-even, parity}
 
 pub ahead-none : (m : ℕ) (xs : List ℕ) → aheadOf 0 m xs ≡ m
 unfolding aheadOf

@@ -1,30 +1,14 @@
 -- The open cells of a row by its mask: the lowest bit is the first of them, and the mask without it has the others.
 use mathlib.Core.Path.{_≡_, refl, ap, _∙_}
-use mathlib.Core.Logic.{_⊎_, inl, inr}
-use mathlib.Core.Bool.{true, false}
 use mathlib.Core.List.{List, [], _∷_}
 use Prim.Native.Nat.{ℕ, zero, suc, _+_, _-_, _/_, _%_, _^_, _≤_, _<_}
 use native.Mathlib.Omega.{arith}
 use lib.Count.{trailingZeros, under}
 use lib.ListN.{length, getD, drop, length-drop, drop-of-length-le}
 use lib.Seq.{getD-drop}
-use borrow.Author.Tests.{eq-eqb, ne-eqb}
-use Rattle.state.specs.Mask.{odd, kept}
+use Rattle.state.specs.Mask.{kept}
 use Rattle.state.proofs.MaskLaws.{kept-set, kept-unset}
 use Rattle.builder.specs.code.Writing.{openIn}
-
-pub is-odd : (m : ℕ) → m % 2 ≡ 1 → odd m ≡ true
-is-odd m h = eq-eqb _ _ h
-
-pub is-even : (m : ℕ) → m % 2 ≡ 0 → odd m ≡ false
-is-even m h = ne-eqb _ _ (λ (e : m % 2 ≡ 1). omega arith)
-
-pub parity : (m : ℕ) → (m % 2 ≡ 1) ⊎ (m % 2 ≡ 0)
-parity m = go (m % 2) refl
-  where
-    go : (r : ℕ) → m % 2 ≡ r → (m % 2 ≡ 1) ⊎ (m % 2 ≡ 0)
-    go zero e = inr e
-    go (suc r) e = inl (omega arith)
 
 pub kept-none : (xs : List ℕ) → kept 0 xs ≡ []
 unfolding kept

@@ -19,13 +19,13 @@ use Rattle.term.proofs.Lists.{getD-zeros}
 use Rattle.state.specs.Mask.{odd, kept, bitFrom, bitAt, without, full, endAt, OpenRows, ClosedAt}
 use Rattle.state.specs.declared.mask.Closed.{Closed}
 
-is-odd : (m : ℕ) → m % 2 ≡ 1 → odd m ≡ true
+pub is-odd : (m : ℕ) → m % 2 ≡ 1 → odd m ≡ true
 is-odd m h = eq-eqb _ _ h
 
-is-even : (m : ℕ) → m % 2 ≡ 0 → odd m ≡ false
+pub is-even : (m : ℕ) → m % 2 ≡ 0 → odd m ≡ false
 is-even m h = ne-eqb _ _ (λ (e : m % 2 ≡ 1). omega arith)
 
-parity : (m : ℕ) → (m % 2 ≡ 1) ⊎ (m % 2 ≡ 0)
+pub parity : (m : ℕ) → (m % 2 ≡ 1) ⊎ (m % 2 ≡ 0)
 parity m = go (m % 2) refl
   where
     go : (r : ℕ) → m % 2 ≡ r → (m % 2 ≡ 1) ⊎ (m % 2 ≡ 0)
