@@ -6,6 +6,20 @@ use borrow.Author.Needs.{needs}
 use Rattle.handing.proofs.text.put_line.Statement.{statement}
 use Rattle.handing.proofs.text.put_line.Tie as tie
 
+-- the places that the answers go back to: the call from where the called predicate is read, that from where the head is put, and the head from
+-- where the rule's body is begun
+abbrev call-at : tie.After-wide → tie.Start
+call-at c = c .before .before .before .before .before .before .before
+
+abbrev called-at : tie.After-put-atom → tie.After-wide
+called-at p = p .before .before .before .before .before .before
+
+abbrev head-at : tie.After-slice-known4 → tie.After-put-atom
+head-at b = b .before .before .before .before .before .before .before .before
+
+abbrev rule-at : tie.After-slice-known4 → tie.Start
+rule-at b = call-at (called-at (head-at b))
+
 -- src/text.rt:43:16
 sub-head : tie.Need-sub-head
 sub-head c = search needs
@@ -45,8 +59,7 @@ wide-requires-3 c κs = search needs
 -- src/text.rt:45:9
 put-atom-requires : tie.Need-put-atom-requires
 put-atom-requires c κs =
-    let p₀ = c .before .before .before .before .before .before in
-    let p = p₀ .before .before .before .before .before .before in
+    let p = call-at (c .before .before .before .before .before) in
     cut-short (p .args .clause .now) (p .pre .0)
 
 -- src/text.rt:47:33
@@ -67,9 +80,9 @@ returns c =
     let t = c .before .before in
     let h = t .before .before .before in
     let p = h .before .before .before in
-    let a = p .before .before .before .before .before .before .before .before .before .before .before .before .before .args in
+    let a = call-at (called-at p) .args in
     let k = p .before .before .before .wide2 in
-    let j = p .before .before .before .before .before .before .wide in
+    let j = called-at p .wide in
     let n = p .before .wide3 in
     let words = wordsIn (a .text .now) (a .names .now) in
     λ w. rw (fact-text (a .clause .now) w words (k .result) (j .result) (n .result) (k .ensures .0) (j .ensures .0) (n .ensures .0) (h .if1 .taken))
@@ -86,30 +99,26 @@ put-word-requires-2 c κs = search needs
 -- src/text.rt:51:9
 variables-requires : tie.Need-variables-requires
 variables-requires c κs =
-    let p₀ = c .before .before .before .before .before .before .before .before .before .before in
-    let p = p₀ .before .before .before .before .before .before .before .before .before .before .before in
+    let p = rule-at c in
     cut-short (p .args .clause .now) (p .pre .0)
 
 -- src/text.rt:52:54
 array-share-prefix-up : tie.Need-array-share-prefix-up
 array-share-prefix-up c =
-    let p₀ = c .before .before .before .before .before .before .before .before .before .before .before in
-    let p = p₀ .before .before .before .before .before .before .before .before .before .before .before .before in
+    let p = rule-at (c .before .before) in
     omega (arith, c .before .variables .ensures, met-short (p .args .clause .now) (p .pre .0))
 
 -- src/text.rt:52:54
 slice-aggregate-put-atom : tie.Need-slice-aggregate-put-atom
 slice-aggregate-put-atom c =
-    let p₀ = c .before .before .before .before .before .before .before .before .before .before .before .before in
-    let p = p₀ .before .before .before .before .before .before .before .before .before .before .before .before in
+    let p = rule-at (c .before .before .before) in
     let v = c .before .before .variables in
     ups-long (v .result) (omega (arith, v .ensures, met-short (p .args .clause .now) (p .pre .0)))
 
 -- src/text.rt:52:9
 put-atom-requires-2 : tie.Need-put-atom-requires-2
 put-atom-requires-2 c κs =
-    let p₀ = c .before .before .before .before .before .before .before .before .before .before .before .before in
-    let p = p₀ .before .before .before .before .before .before .before .before .before .before .before .before in
+    let p = rule-at (c .before .before .before) in
     let h = met-short (p .args .clause .now) (p .pre .0) in
     let v = c .before .before .variables in
     omega (arith, v .ensures, ups-long (v .result) (omega (arith, v .ensures)))
@@ -135,9 +144,9 @@ returns-2 c =
     let s = q .before .before .before .before .before .before in
     let h = s .before .before .before in
     let p = h .before .before .before in
-    let a = p .before .before .before .before .before .before .before .before .before .before .before .before .before .args in
+    let a = call-at (called-at p) .args in
     let k = p .before .before .before .wide2 in
-    let j = p .before .before .before .before .before .before .wide in
+    let j = called-at p .wide in
     let n = p .before .wide3 in
     let words = wordsIn (a .text .now) (a .names .now) in
     let is = rule-text (a .clause .now) in
