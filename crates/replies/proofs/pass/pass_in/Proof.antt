@@ -28,11 +28,11 @@ abbrev μ-loop : tie.MeasureT-loop
 
 -- where a hit is made: where the loop stood before it, and what is lent
 module _ (c : tie.After-common Inv-loop μ-loop) where
-  abbrev start : tie.Start Inv-loop μ-loop
-  start = c .before .before .before .before .before .before .before .before .before .before .before .before .before .before .before
-
   abbrev stood : tie.At-loop Inv-loop μ-loop
   stood = c .before .before .before .before .before .before .before
+
+  abbrev start : tie.Start Inv-loop μ-loop
+  start = stood .before .before .before .before .before .before .before .before
 
   abbrev looked : tie.After-row-at Inv-loop μ-loop
   looked = c .before .before .before .before
@@ -45,6 +45,13 @@ module _ (c : tie.After-common Inv-loop μ-loop) where
 
   inside : stood .loop .i < length (start .args .hits .now)
   inside = omega arith
+
+-- where its cells are counted: where it was made; and where it is put: where its cells were counted
+abbrev made : tie.After-n Inv-loop μ-loop → tie.After-common Inv-loop μ-loop
+made n = n .before .before .before .before .before .before
+
+abbrev counted : tie.After-slice-known6 Inv-loop μ-loop → tie.After-n Inv-loop μ-loop
+counted c = c .before .before .before .before .before .before
 
 returns : tie.Need-returns Inv-loop μ-loop
 returns c = (
@@ -74,40 +81,37 @@ enum-known-n c = search needs
 slice-reshare-prefix-put-numbered : tie.Need-slice-reshare-prefix-put-numbered Inv-loop μ-loop
 slice-reshare-prefix-put-numbered c =
     let at-n = c .before .before in
-    let at-common = at-n .before .before .before .before .before .before in
-    within-by (at-n .n .given .1) (at-common .common .ensures)
+    within-by (at-n .n .given .1) (made at-n .common .ensures)
 
 slice-aggregate-put-numbered : tie.Need-slice-aggregate-put-numbered Inv-loop μ-loop
 slice-aggregate-put-numbered c =
     let at-n = c .before .before .before in
-    let at-common = at-n .before .before .before .before .before .before in
-    sym (length-take-le _ _ (within-by (at-n .n .given .1) (at-common .common .ensures)))
+    sym (length-take-le _ _ (within-by (at-n .n .given .1) (made at-n .common .ensures)))
 
 put-numbered-requires : tie.Need-put-numbered-requires Inv-loop μ-loop
 put-numbered-requires c κs = search needs
 
 add-sum : tie.Need-add-sum Inv-loop μ-loop
 add-sum c =
-    let at-n = c .before .before .before .before .before .before in
-    let at-common = at-n .before .before .before .before .before .before in
-    let o = at-common in
+    let at-n = counted c in
+    let o = made at-n in
     let l = stood o .loop .inv in
     omega (arith, l .0, l .1, l .5, within-by (at-n .n .given .1) (o .common .ensures), o .common .kept .1 .1 .0, l .2, start o .pre)
 
 add-i : tie.Need-add-i Inv-loop μ-loop
 add-i c =
-    let at-common = c .before .before .before .before .before .before .before .before .before .before .before .before in
-    let l = stood at-common .loop .inv in omega (arith, l .0, l .1)
+    let l = stood (made (counted c)) .loop .inv in omega (arith, l .0, l .1)
 
 loop-less : tie.Need-loop-less Inv-loop μ-loop
 loop-less c = search needs
 
 loop-again : tie.Need-loop-again Inv-loop μ-loop
 loop-again c =
-    let o = c .before .before .before .before .before .before .before .before .before .before .before .before in
+    let at-n = counted c in
+    let o = made at-n in
     let l = stood o .loop .inv in
     let q = c .before .before .put-numbered .ensures in
-    let g = c .before .before .before .before .before .before .n .given .1 in
+    let g = at-n .n .given .1 in
     let m = within-by g (o .common .ensures) in
     let e = o .common .kept .1 .1 .0 ∙ l .2 in (
       omega arith,
