@@ -1,9 +1,10 @@
 use Prim.Native.Nat.{_-_}
 use mathlib.Core.Path.{_≡_, refl}
+use mathlib.Core.Bool.{false}
 use native.Mathlib.Omega.{arith}
 use lib.ListN.{length}
 use borrow.Author.Needs.{needs}
-use Rattle.texttable.specs.code.Cells.{State, Ready}
+use Rattle.texttable.specs.code.Cells.{State, Ready, making, known}
 use Rattle.texttable.proofs.MakeLaws.{ready, went, ended}
 use Rattle.texttable.proofs.cells.make_all.Statement.{statement}
 use Rattle.texttable.proofs.cells.make_all.Tie as tie
@@ -23,48 +24,65 @@ abbrev μ-loop : tie.MeasureT-loop
 μ-loop text from list₀ links₀ words₀ ways₀ given₀ cells₀ owners₀ m₀ k₀ list links words ways given cells owners m k =
     length text - m .at
 
+-- where the function and its loop stand, from where a turn is done
+abbrev start : tie.At-loop Inv-loop μ-loop → tie.Start Inv-loop μ-loop
+start c = c .before .before .before .before .before .before .before .before .before
+
+abbrev round : tie.After-make-on Inv-loop μ-loop → tie.At-loop Inv-loop μ-loop
+round c = c .before .before .before .before .before .before .before .before
+
+-- and where it is done, from where all that was lent is back: after `words`, and before it
+abbrev words-back : tie.After-slice-known14 Inv-loop μ-loop → tie.After-words Inv-loop μ-loop
+words-back c = c .before .before .before .before .before .before .before .before .before
+
+abbrev turn-done : tie.After-words Inv-loop μ-loop → tie.After-make-on Inv-loop μ-loop
+turn-done c = c .before .before .before .before .before
+
+abbrev done : tie.After-slice-known14 Inv-loop μ-loop → tie.After-make-on Inv-loop μ-loop
+done c = turn-done (words-back c)
+
+-- what a turn needs
+abbrev ready-at : (c : tie.At-loop Inv-loop μ-loop)
+    → let a = start c .args in
+    let l = c .loop in
+    Ready (a .text .now) (a .list .now) (a .links .now) (a .words .now) (a .ways .now) (a .given .now) (a .cells .now) (a .owners .now) (making (a .from) false 0 0)
+    (known 0 0 0) → Ready (a .text .now) (l .list) (l .links) (l .words) (l .ways) (l .given) (l .cells) (l .owners) (l .m) (l .k)
+ready-at c R =
+    let l = c .loop in
+    ready (l .list) (l .links) (l .words) (l .ways) (l .given) (l .cells) (l .owners) (l .m) (l .k) R (l .inv .0 .0) (l .inv .0 .2) (l .inv .0 .5)
+    (l .inv .0 .6) (l .inv .1 R)
+
 loop-holds : tie.Need-loop-holds Inv-loop μ-loop
 loop-holds c = ((refl, refl, refl, refl, refl, refl, refl), λ R. R .state)
 
 make-on-requires : tie.Need-make-on-requires Inv-loop μ-loop
 make-on-requires c κs =
-    let R = c .before .before .before .before .before .before .before .before .before .before .before .before .before .before .before .before .pre in
-    let l = c .before .before .before .before .before .before .before .loop in
-    ready (l .list) (l .links) (l .words) (l .ways) (l .given) (l .cells) (l .owners) (l .m) (l .k) R (l .inv .0 .0) (l .inv .0 .2) (l .inv .0 .5)
-    (l .inv .0 .6) (l .inv .1 R)
+    let r = c .before .before .before .before .before .before .before in
+    ready-at r (start r .pre)
 
 enum-known-next : tie.Need-enum-known-next Inv-loop μ-loop
 enum-known-next c = search needs
 
 loop-less : tie.Need-loop-less Inv-loop μ-loop
 loop-less c =
-    let R = c .before .before .before .before .before .before .before .before .before .before .before .before .before .before .before .before .before
-    .before .before .before .before .before .before .before .before .before .before .before .before .before .before .before .before .before .pre in
-    let a = c .before .before .before .before .before .before .before .before .before .before .before .before .before .before .before .before .before
-    .before .before .before .before .before .before .before .before .before .before .before .before .before .before .before .before .before .args in
-    let l = c .before .before .before .before .before .before .before .before .before .before .before .before .before .before .before .before .before
-    .before .before .before .before .before .before .before .before .loop in
-    let n = c .before .before .before .before .before .before .before .before .before .before .before .before .before .before .before .before .before
-    .make-on in
-    let w = went (a .text .now) (R .start) (R .listed) (n .last .1 .1 .1 .0) (n .last .1 .1 .1 .1 .0) (n .last .1 .1 .1 .1 .1 .0)
+    let d = done (c .before .before .before) in
+    let r = round d in
+    let n = d .make-on in
+    let R = start r .pre in
+    let w = went (start r .args .text .now) (R .start) (R .listed) (n .last .1 .1 .1 .0) (n .last .1 .1 .1 .1 .0) (n .last .1 .1 .1 .1 .1 .0)
     (n .last .1 .1 .1 .1 .1 .1 .0) (n .last .1 .1 .1 .1 .1 .1 .1 .0) (n .last .1 .1 .1 .1 .1 .1 .1 .1 .0) (n .last .1 .1 .1 .1 .1 .1 .1 .1 .1 .0)
-    (R .facts) (l .m) (c .before .next .given .1) (n .ensures (ready (l .list) (l .links) (l .words) (l .ways) (l .given) (l .cells) (l .owners)
-    (l .m) (l .k) R (l .inv .0 .0) (l .inv .0 .2) (l .inv .0 .5) (l .inv .0 .6) (l .inv .1 R))) in
+    (R .facts) (r .loop .m) (c .before .next .given .1) (n .ensures (ready-at r R)) in
     omega (arith, w .0, w .1 .makes .within)
 
 loop-again : tie.Need-loop-again Inv-loop μ-loop
 loop-again c =
-    let a = c .before .before .before .before .before .before .before .before .before .before .before .before .before .before .before .before .before
-    .before .before .before .before .before .before .before .before .before .before .before .before .before .before .before .before .before .args in
-    let l = c .before .before .before .before .before .before .before .before .before .before .before .before .before .before .before .before .before
-    .before .before .before .before .before .before .before .before .loop in
-    let n = c .before .before .before .before .before .before .before .before .before .before .before .before .before .before .before .before .before
-    .make-on in (
+    let d = done (c .before .before .before) in
+    let r = round d in
+    let n = d .make-on in (
       (search needs, search needs, search needs, search needs, search needs, search needs, search needs),
-      λ R. went (a .text .now) (R .start) (R .listed) (n .last .1 .1 .1 .0) (n .last .1 .1 .1 .1 .0) (n .last .1 .1 .1 .1 .1 .0)
+      λ R. went (start r .args .text .now) (R .start) (R .listed) (n .last .1 .1 .1 .0) (n .last .1 .1 .1 .1 .0) (n .last .1 .1 .1 .1 .1 .0)
           (n .last .1 .1 .1 .1 .1 .1 .0) (n .last .1 .1 .1 .1 .1 .1 .1 .0) (n .last .1 .1 .1 .1 .1 .1 .1 .1 .0) (n .last .1 .1 .1 .1 .1 .1 .1 .1 .1 .0)
-          (R .facts) (l .m) (c .before .next .given .1) (n .ensures (ready (l .list) (l .links) (l .words) (l .ways) (l .given) (l .cells) (l .owners)
-          (l .m) (l .k) R (l .inv .0 .0) (l .inv .0 .2) (l .inv .0 .5) (l .inv .0 .6) (l .inv .1 R))) .1,
+          (R .facts) (r .loop .m) (c .before .next .given .1) (n .ensures (ready-at r R)) .1,
     )
 
 enum-known-n : tie.Need-enum-known-n Inv-loop μ-loop
@@ -93,16 +111,12 @@ same-length-7 c = search needs
 
 returns : tie.Need-returns Inv-loop μ-loop
 returns c =
-    let a = c .before .before .before .before .before .before .before .before .before .before .before .before .before .before .before .before .before
-    .before .before .before .before .before .before .before .before .before .before .before .before .before .before .before .before .before .args in
-    let l = c .before .before .before .before .before .before .before .before .before .before .before .before .before .before .before .before .before
-    .before .before .before .before .before .before .before .before .loop in
-    let n = c .before .before .before .before .before .before .before .before .before .before .before .before .before .before .before .before .before
-    .make-on in
-    λ R. ended (a .text .now) (R .start) (R .listed) (n .last .1 .1 .1 .0) (n .last .1 .1 .1 .1 .0) (n .last .1 .1 .1 .1 .1 .0)
+    let d = done (c .before .before .before) in
+    let r = round d in
+    let n = d .make-on in
+    λ R. ended (start r .args .text .now) (R .start) (R .listed) (n .last .1 .1 .1 .0) (n .last .1 .1 .1 .1 .0) (n .last .1 .1 .1 .1 .1 .0)
     (n .last .1 .1 .1 .1 .1 .1 .0) (n .last .1 .1 .1 .1 .1 .1 .1 .0) (n .last .1 .1 .1 .1 .1 .1 .1 .1 .0) (n .last .1 .1 .1 .1 .1 .1 .1 .1 .1 .0)
-    (R .facts) (l .m) (c .before .n .given .1) (n .ensures (ready (l .list) (l .links) (l .words) (l .ways) (l .given) (l .cells) (l .owners)
-    (l .m) (l .k) R (l .inv .0 .0) (l .inv .0 .2) (l .inv .0 .5) (l .inv .0 .6) (l .inv .1 R)))
+    (R .facts) (r .loop .m) (c .before .n .given .1) (n .ensures (ready-at r R))
 
 pub make-all-spec : {M : Type 1} → statement M
 make-all-spec =

@@ -14,6 +14,13 @@ use Rattle.texttable.proofs.cells.write_few.Lts as lts
 use Rattle.texttable.proofs.cells.make_all.Reads as make-all-reads
 use Rattle.symbols.proofs.begin.Reads as begin-reads
 
+-- where the function starts, and where the text is begun, from where everything is lent
+abbrev start : tie.After-begin → tie.Start
+start c = c .before .before .before .before
+
+abbrev begun : tie.After-owners → tie.After-begin
+begun c = c .before .before .before .before .before .before .before
+
 begin-requires : tie.Need-begin-requires
 begin-requires c κs = search needs
 
@@ -42,11 +49,11 @@ slice-aggregate-make-all-6 c = search needs
 
 make-all-requires : tie.Need-make-all-requires
 make-all-requires c κs =
-    let st = c .before .before .before .before .before .before .before .before .before .before .before in
-    let a = st .args in
+    let b = begun c in
+    let a = start b .args in
     let t = a .text .now in
-    let W = st .pre in
-    let bg = c .before .before .before .before .before .before .before .begin in
+    let W = start b .pre in
+    let bg = b .begin in
     let s = start-reads (bg .ensures) in
     let h : 512 ≤ length (a .list .now) = omega (arith, W .for-list) in
     let l = length-take-le 512 (a .list .now) h in
@@ -61,15 +68,15 @@ same-length-2 c = search needs
 
 returns : tie.Need-returns
 returns c = λ W.
-    let a = c .before .before .before .before .before .before .before .before .before .before .before .before .before .before .before .before .before
-    .before .before .before .before .args in
+    let m = c .before .before .before .before .before .before .before .before .before in
+    let b = begun (m .before) in
+    let a = start b .args in
     let t = a .text .now in
-    let bg = c .before .before .before .before .before .before .before .before .before .before .before .before .before .before .before .before .before
-    .begin in
+    let bg = b .begin in
     let s = start-reads (bg .ensures) in
     let h : 512 ≤ length (a .list .now) = omega (arith, W .for-list) in
     let l = length-take-le 512 (a .list .now) h in
-    let n = c .before .before .before .before .before .before .before .before .before .make-all in
+    let n = m .make-all in
     written-part 512 h (n .kept .1 .1 .0 ∙ l) (n .ensures (first-ready (bg .result) W (omega arith) l s (no-words t (take 512 (a .list .now))
     (replicate 1025 0) (omega (arith, l)) (zero-at 1025)) (empty-tree t 512 1025 (omega arith)) refl refl refl))
 

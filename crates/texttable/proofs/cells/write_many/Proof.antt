@@ -13,6 +13,13 @@ use Rattle.texttable.proofs.cells.make_all.Reads as make-all-reads
 use Rattle.symbols.proofs.begin.Reads as begin-reads
 use Rattle.limits.specs.Limits.{mostNames}
 
+-- where the function starts, and where the text is begun, from where everything is lent
+abbrev start : tie.After-begin → tie.Start
+start c = c .before .before .before .before
+
+abbrev begun : tie.After-owners → tie.After-begin
+begun c = c .before .before .before .before .before .before .before
+
 begin-requires : tie.Need-begin-requires
 begin-requires c κs = search needs
 
@@ -33,11 +40,11 @@ slice-aggregate-make-all-5 c = search needs
 
 make-all-requires : tie.Need-make-all-requires
 make-all-requires c κs =
-    let st = c .before .before .before .before .before .before .before .before .before .before .before in
-    let a = st .args in
+    let b = begun c in
+    let a = start b .args in
     let t = a .text .now in
-    let W = st .pre in
-    let bg = c .before .before .before .before .before .before .before .begin in
+    let W = start b .pre in
+    let bg = b .begin in
     let s = start-reads (bg .ensures) in
     first-ready (bg .result) W (omega arith) (W .for-list) s (no-words t (a .list .now) (replicate 4097 0) (omega (arith, W .for-list))
     (zero-at 4097)) (empty-tree t mostNames 4097 (omega arith)) refl refl refl
@@ -50,13 +57,13 @@ same-length-2 c = search needs
 
 returns : tie.Need-returns
 returns c = λ W.
-    let a = c .before .before .before .before .before .before .before .before .before .before .before .before .before .before .before .before .before
-    .before .before .before .before .args in
+    let m = c .before .before .before .before .before .before .before .before .before in
+    let b = begun (m .before) in
+    let a = start b .args in
     let t = a .text .now in
-    let bg = c .before .before .before .before .before .before .before .before .before .before .before .before .before .before .before .before .before
-    .begin in
+    let bg = b .begin in
     let s = start-reads (bg .ensures) in
-    c .before .before .before .before .before .before .before .before .before .make-all .ensures (first-ready (bg .result) W (omega arith)
+    m .make-all .ensures (first-ready (bg .result) W (omega arith)
     (W .for-list) s (no-words t (a .list .now) (replicate 4097 0) (omega (arith, W .for-list)) (zero-at 4097))
     (empty-tree t mostNames 4097 (omega arith)) refl refl refl)
 
