@@ -6,7 +6,7 @@ ghost use Prim.Native.Nat.{_*_, _≤_, _<_};
 ghost use lib.ListN.{length, getD, set};
 ghost use Rattle.cell.specs.Cell.{variableCell, nameCell, numberCell};
 ghost use Rattle.texttable.specs.code.Tree.{Tree};
-ghost use Rattle.texttable.specs.code.Cells.{making, known, withArgument, NamePut, RowMade, Ready, MadeIs, Writes, Written};
+ghost use Rattle.texttable.specs.code.Cells.{making, withArgument, NamePut, RowMade, Ready, MadeIs, Fresh, Writes, Written};
 ghost use Rattle.limits.specs.Limits.{mostNames, mostTextBytes};
 use super::numbers;
 use super::tree;
@@ -217,7 +217,6 @@ fn make_on(
 // Turn after turn, from the first fact's arguments on; how many names there are.
 fn make_all(
     text: &[u8],
-    from: usize,
     list: &mut [u32],
     links: &mut [u16],
     words: &mut [u32],
@@ -226,14 +225,14 @@ fn make_all(
     cells: &mut [u32],
     owners: &mut [u16],
 ) -> usize
-    requires { ⌜ Ready (now text) (now list) (now links) (now words) (now ways) (now given) (now cells) (now owners) (making from false 0 0)
-        (known 0 0 0) ⌝ }
-    ensures { λ r. ⌜ ((R : Ready (now (text .entry)) (now (list .entry)) (now (links .entry)) (now (words .entry)) (now (ways .entry))
-        (now (given .entry)) (now (cells .entry)) (now (owners .entry)) (making from false 0 0) (known 0 0 0))
-        → Written (now (text .entry)) (R .facts) (R .start) (R .listed) (now (list .exit)) (now (cells .exit)) r) ⌝ }
+    requires { ⌜ Fresh (now text) (now list) (now links) (now words) (now ways) (now given) (now cells) (now owners) ⌝ }
+    ensures { λ r. ⌜ ((F : Fresh (now (text .entry)) (now (list .entry)) (now (links .entry)) (now (words .entry)) (now (ways .entry))
+        (now (given .entry)) (now (cells .entry)) (now (owners .entry)))
+        → Written (now (text .entry)) (F .writes .facts) (now (cells .entry)) (now (list .entry)) (now (list .exit)) (now (cells .exit)) r) ⌝ }
 {
+    let first = symbols::begin(text);
     let mut m = Making {
-        at: from,
+        at: first.at,
         past: false,
         depth: 0,
         count: 0,
@@ -266,10 +265,8 @@ fn write_many(text: &[u8], list: &mut [u32], cells: &mut [u32]) -> usize
     let mut ways = [0u16; 4097];
     let mut given = [0u16; NAMES];
     let mut owners = [0u16; NAMES];
-    let first = symbols::begin(text);
     make_all(
         text,
-        first.at,
         list,
         &mut links,
         &mut words,
@@ -291,10 +288,8 @@ fn write_few(text: &[u8], list: &mut [u32], cells: &mut [u32]) -> usize
     let mut ways = [0u16; 1025];
     let mut given = [0u16; 512];
     let mut owners = [0u16; 512];
-    let first = symbols::begin(text);
     make_all(
         text,
-        first.at,
         &mut list[..512],
         &mut links,
         &mut words,

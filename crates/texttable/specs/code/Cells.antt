@@ -20,7 +20,7 @@ use Rattle.symbols.specs.declared.Spot.{Spot}
 use Rattle.symbols.specs.declared.Ahead.{Ahead}
 use Rattle.symbols.specs.declared.RowEnd.the-variants as row-end
 use Rattle.texttable.specs.Words.{numbersOf}
-use Rattle.texttable.specs.code.Tree.{WordMet, Cleared}
+use Rattle.texttable.specs.code.Tree.{Tree, WordMet, Cleared}
 use Rattle.texttable.specs.code.Names.{Shown}
 use Rattle.texttable.specs.code.Numbers.{RowVars, VariableIs}
 use Rattle.texttable.specs.declared.numbers.Row.{Row}
@@ -150,6 +150,19 @@ pub record Writes (most : ℕ) (t list cells : List ℕ) : Type 0 where
   pub for-list : length list ≡ mostNames
   pub for-cells : length (symbolsOf facts) ≤ length cells
   pub few : length (symbolsOf facts) ≤ most
+
+-- the same, with nothing met yet: `list` is the whole list or its first part
+pub record Fresh (t list links words ways given cells owners : List ℕ) : Type 0 where
+  pub most : ℕ
+  pub whole : List ℕ
+  pub writes : Writes most t whole cells
+  pub low : most ≤ mostNames
+  pub for-list : length list ≡ most
+  pub for-words : length words ≡ most
+  pub for-given : length given ≡ length words
+  pub for-owners : length owners ≡ most
+  pub names : Tree t list links 0
+  pub vars : Tree t words ways 0
 
 -- the cells of the table are put at the front of a room, and the names at the front of a list
 pub record TableIs (t : List ℕ) (facts : List Fact) (list list′ made made′ : List ℕ) (r : ℕ) : Type 0 where

@@ -1,19 +1,21 @@
 use Prim.Native.Nat.{_-_}
-use mathlib.Core.Path.{_≡_, refl}
+use mathlib.Core.Path.{_≡_, refl, _∙_}
 use mathlib.Core.Bool.{false}
 use native.Mathlib.Omega.{arith}
 use lib.ListN.{length}
 use borrow.Author.Needs.{needs}
-use Rattle.texttable.specs.code.Cells.{State, Ready, making, known}
-use Rattle.texttable.proofs.MakeLaws.{ready, went, ended}
+use Rattle.symbols.proofs.LeftLaws.{start-reads}
+use Rattle.texttable.specs.code.Cells.{State, Ready, Fresh, making, known}
+use Rattle.texttable.proofs.MakeLaws.{first-ready, ready, went, ended}
 use Rattle.texttable.proofs.cells.make_all.Statement.{statement}
 use Rattle.texttable.proofs.cells.make_all.Tie as tie
 use Rattle.texttable.proofs.cells.make_all.Reads as reads
 use Rattle.texttable.proofs.cells.make_all.Lts as lts
 use Rattle.texttable.proofs.cells.make_on.Reads as make-on-reads
+use Rattle.symbols.proofs.begin.Reads as begin-reads
 
 abbrev Inv-loop : tie.InvT-loop
-Inv-loop text from list₀ links₀ words₀ ways₀ given₀ cells₀ owners₀ m₀ k₀ list links words ways given cells owners m k =
+Inv-loop text list₀ links₀ words₀ ways₀ given₀ cells₀ owners₀ m₀ k₀ list links words ways given cells owners m k =
     ((length list ≡ length list₀) × (length links ≡ length links₀) × (length words ≡ length words₀) × (length ways ≡ length ways₀)
     × (length given ≡ length given₀)
     × (length cells ≡ length cells₀) × (length owners ≡ length owners₀))
@@ -21,17 +23,17 @@ Inv-loop text from list₀ links₀ words₀ ways₀ given₀ cells₀ owners₀
     → State text (R .facts) (R .start) (R .listed) list links words ways given cells owners m k)
 
 abbrev μ-loop : tie.MeasureT-loop
-μ-loop text from list₀ links₀ words₀ ways₀ given₀ cells₀ owners₀ m₀ k₀ list links words ways given cells owners m k =
+μ-loop text list₀ links₀ words₀ ways₀ given₀ cells₀ owners₀ m₀ k₀ list links words ways given cells owners m k =
     length text - m .at
 
 -- where the function and its loop stand, from where a turn is done
 abbrev start : tie.At-loop Inv-loop μ-loop → tie.Start Inv-loop μ-loop
-start c = c .before .before .before .before .before .before .before .before .before
+start c = c .before .before .before .before .before .before .before .before .before .before
 
 abbrev round : tie.After-make-on Inv-loop μ-loop → tie.At-loop Inv-loop μ-loop
 round c = c .before .before .before .before .before .before .before .before
 
--- and where it is done, from where all that was lent is back: after `words`, and before it
+-- and where it is done, from where all that was lent is back, in two parts
 abbrev words-back : tie.After-slice-known14 Inv-loop μ-loop → tie.After-words Inv-loop μ-loop
 words-back c = c .before .before .before .before .before .before .before .before .before
 
@@ -41,16 +43,29 @@ turn-done c = c .before .before .before .before .before
 abbrev done : tie.After-slice-known14 Inv-loop μ-loop → tie.After-make-on Inv-loop μ-loop
 done c = turn-done (words-back c)
 
--- what a turn needs
+-- what the first turn needs, and any other
+abbrev first-at : (c : tie.At-loop Inv-loop μ-loop)
+    → let a = start c .args in
+    Fresh (a .text .now) (a .list .now) (a .links .now) (a .words .now) (a .ways .now) (a .given .now) (a .cells .now) (a .owners .now)
+    → Ready (a .text .now) (a .list .now) (a .links .now) (a .words .now) (a .ways .now) (a .given .now) (a .cells .now) (a .owners .now)
+    (making (c .before .begin .result .at) false 0 0) (known 0 0 0)
+first-at c F =
+    first-ready (c .before .begin .result) (F .writes) (F .low) (F .for-list) (start-reads (c .before .begin .ensures)) (F .names) (F .vars)
+    (F .for-given) (F .for-words) (F .for-owners)
+
 abbrev ready-at : (c : tie.At-loop Inv-loop μ-loop)
     → let a = start c .args in
     let l = c .loop in
-    Ready (a .text .now) (a .list .now) (a .links .now) (a .words .now) (a .ways .now) (a .given .now) (a .cells .now) (a .owners .now) (making (a .from) false 0 0)
-    (known 0 0 0) → Ready (a .text .now) (l .list) (l .links) (l .words) (l .ways) (l .given) (l .cells) (l .owners) (l .m) (l .k)
+    Ready (a .text .now) (a .list .now) (a .links .now) (a .words .now) (a .ways .now) (a .given .now) (a .cells .now) (a .owners .now)
+    (making (c .before .begin .result .at) false 0 0) (known 0 0 0)
+    → Ready (a .text .now) (l .list) (l .links) (l .words) (l .ways) (l .given) (l .cells) (l .owners) (l .m) (l .k)
 ready-at c R =
     let l = c .loop in
     ready (l .list) (l .links) (l .words) (l .ways) (l .given) (l .cells) (l .owners) (l .m) (l .k) R (l .inv .0 .0) (l .inv .0 .2) (l .inv .0 .5)
     (l .inv .0 .6) (l .inv .1 R)
+
+begin-requires : tie.Need-begin-requires Inv-loop μ-loop
+begin-requires c κs = search needs
 
 loop-holds : tie.Need-loop-holds Inv-loop μ-loop
 loop-holds c = ((refl, refl, refl, refl, refl, refl, refl), λ R. R .state)
@@ -58,7 +73,7 @@ loop-holds c = ((refl, refl, refl, refl, refl, refl, refl), λ R. R .state)
 make-on-requires : tie.Need-make-on-requires Inv-loop μ-loop
 make-on-requires c κs =
     let r = c .before .before .before .before .before .before .before in
-    ready-at r (start r .pre)
+    ready-at r (first-at r (start r .pre))
 
 enum-known-next : tie.Need-enum-known-next Inv-loop μ-loop
 enum-known-next c = search needs
@@ -68,7 +83,7 @@ loop-less c =
     let d = done (c .before .before .before) in
     let r = round d in
     let n = d .make-on in
-    let R = start r .pre in
+    let R = first-at r (start r .pre) in
     let w = went (start r .args .text .now) (R .start) (R .listed) (n .last .1 .1 .1 .0) (n .last .1 .1 .1 .1 .0) (n .last .1 .1 .1 .1 .1 .0)
     (n .last .1 .1 .1 .1 .1 .1 .0) (n .last .1 .1 .1 .1 .1 .1 .1 .0) (n .last .1 .1 .1 .1 .1 .1 .1 .1 .0) (n .last .1 .1 .1 .1 .1 .1 .1 .1 .1 .0)
     (R .facts) (r .loop .m) (c .before .next .given .1) (n .ensures (ready-at r R)) in
@@ -78,8 +93,17 @@ loop-again : tie.Need-loop-again Inv-loop μ-loop
 loop-again c =
     let d = done (c .before .before .before) in
     let r = round d in
+    let l = r .loop .inv in
     let n = d .make-on in (
-      (search needs, search needs, search needs, search needs, search needs, search needs, search needs),
+      (
+        n .kept .1 .1 .1 .0 ∙ l .0 .0,
+        n .kept .1 .1 .1 .1 .0 ∙ l .0 .1,
+        n .kept .1 .1 .1 .1 .1 .0 ∙ l .0 .2,
+        n .kept .1 .1 .1 .1 .1 .1 .0 ∙ l .0 .3,
+        n .kept .1 .1 .1 .1 .1 .1 .1 .0 ∙ l .0 .4,
+        n .kept .1 .1 .1 .1 .1 .1 .1 .1 .0 ∙ l .0 .5,
+        n .kept .1 .1 .1 .1 .1 .1 .1 .1 .1 .0 ∙ l .0 .6,
+      ),
       λ R. went (start r .args .text .now) (R .start) (R .listed) (n .last .1 .1 .1 .0) (n .last .1 .1 .1 .1 .0) (n .last .1 .1 .1 .1 .1 .0)
           (n .last .1 .1 .1 .1 .1 .1 .0) (n .last .1 .1 .1 .1 .1 .1 .1 .0) (n .last .1 .1 .1 .1 .1 .1 .1 .1 .0) (n .last .1 .1 .1 .1 .1 .1 .1 .1 .1 .0)
           (R .facts) (r .loop .m) (c .before .next .given .1) (n .ensures (ready-at r R)) .1,
@@ -114,7 +138,8 @@ returns c =
     let d = done (c .before .before .before) in
     let r = round d in
     let n = d .make-on in
-    λ R. ended (start r .args .text .now) (R .start) (R .listed) (n .last .1 .1 .1 .0) (n .last .1 .1 .1 .1 .0) (n .last .1 .1 .1 .1 .1 .0)
+    λ F. let R = first-at r F in
+    ended (start r .args .text .now) (R .start) (R .listed) (n .last .1 .1 .1 .0) (n .last .1 .1 .1 .1 .0) (n .last .1 .1 .1 .1 .1 .0)
     (n .last .1 .1 .1 .1 .1 .1 .0) (n .last .1 .1 .1 .1 .1 .1 .1 .0) (n .last .1 .1 .1 .1 .1 .1 .1 .1 .0) (n .last .1 .1 .1 .1 .1 .1 .1 .1 .1 .0)
     (R .facts) (r .loop .m) (c .before .n .given .1) (n .ensures (ready-at r R))
 
@@ -124,6 +149,7 @@ make-all-spec =
     (tie.spec
     Inv-loop
     μ-loop
+    begin-requires
     loop-holds
     make-on-requires
     enum-known-next
