@@ -4,8 +4,8 @@ use Rattle.texttable.specs.declared.names.NextName.the-variants as next-
 use lib.ListN.{length}
 use borrow.Author.Needs.{needs}
 use native.Mathlib.Omega.{arith}
-use mathlib.Core.Path.{_≡_, refl, sym, ap, _∙_}
-use Prim.Native.Nat.{ℕ, _+_, _-_, _≤_, _<_}
+use mathlib.Core.Path.{_≡_, refl}
+use Prim.Native.Nat.{ℕ, _-_, _≤_}
 use Rattle.texttable.proofs.names.fill.Statement.{statement}
 use Rattle.texttable.proofs.names.fill.Tie as tie
 use Rattle.texttable.proofs.names.fill.Reads as reads

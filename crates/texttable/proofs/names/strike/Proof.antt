@@ -12,8 +12,8 @@ use lib.ListN.{length}
 use borrow.Author.Needs.{needs}
 use native.Mathlib.Omega.{arith}
 use mathlib.Core.List.{List}
-use mathlib.Core.Path.{_≡_, refl, sym, ap, _∙_}
-use Prim.Native.Nat.{ℕ, _+_, _-_, _≤_, _<_}
+use mathlib.Core.Path.{_≡_, refl, sym, _∙_}
+use Prim.Native.Nat.{ℕ, _-_}
 use Rattle.texttable.proofs.names.strike.Statement.{statement}
 use Rattle.texttable.proofs.names.strike.Tie as tie
 use Rattle.texttable.proofs.names.strike.Reads as reads

@@ -3,7 +3,7 @@ use Rattle.grammar.specs.Meaning.{place}
 use Prim.Native.Nat.{ℕ}
 use Rattle.texttable.proofs.NumberLaws.{fresh-variable, old-variable, new-variable}
 use native.Mathlib.Omega.{arith}
-use mathlib.Core.Path.{_≡_, sym, ap, subst, _∙_}
+use mathlib.Core.Path.{sym, subst, _∙_}
 use borrow.Author.Needs.{needs}
 use Rattle.texttable.proofs.numbers.number_variable.Statement.{statement}
 use Rattle.texttable.proofs.numbers.number_variable.Tie as tie
