@@ -1,5 +1,6 @@
 // The check of a plan, state by state (01, "Plans" and the plan's rows of "What is turned away").
 ghost use mathlib.Core.Path.{_≡_};
+ghost use Prim.Native.Nat.{_-_, _<_};
 ghost use Rattle.refusal.specs.Refusal.{told};
 ghost use lib.ListN.{drop};
 ghost use Rattle.plan.specs.Check.{badPlan};
@@ -136,18 +137,11 @@ pub fn state(
     if plan[next] as usize != run_count(&cells[first..end]) {
         return Step::Refused(refusal(Reason::Edges, next));
     }
-    let left = opens - 1;
-    let closed = Rows {
-        first,
-        end,
-        opens: left,
-        named,
-    };
-    branches(table, starts, masks, column, plan, closed, i, at + 2)
+    branches(table, starts, masks, column, plan, rows, i, at + 2)
 }
 
-// The branches from place `at` on, one for each run of these rows, whose open place i is closed. Below each, the places that are left open are
-// open beside its symbol's arguments, which are inside the column of their place. The flags are those of the state, place i among them.
+// The branches from place `at` on, one for each run of the state's rows, whose open place i is closed by now. Below each, the other places are
+// open beside its symbol's arguments, which are inside the column of their place.
 fn branches(
     table: &[u32],
     starts: &[usize; ROWS],
@@ -158,12 +152,13 @@ fn branches(
     i: u32,
     at: usize,
 ) -> Step
-    requires { ⌜ ReadyIn (now table) (now starts) (now masks) (now column) (now plan)
-        (rows .first) (rows .end) (rows .named) i (rows .opens) at ⌝ }
+    requires { ⌜ (0 < rows .opens) × ReadyIn (now table) (now starts) (now masks) (now column) (now plan)
+        (rows .first) (rows .end) (rows .named) i (rows .opens - 1) at ⌝ }
     ensures { λ r. ⌜ DoneIn (now (table .entry)) (now (starts .entry)) (now (masks .entry)) (now (column .entry)) (now (masks .exit))
-        (now (column .exit)) (now (plan .entry)) (rows .first) (rows .end) (rows .named) i (rows .opens) at r ⌝ }
+        (now (column .exit)) (now (plan .entry)) (rows .first) (rows .end) (rows .named) i (rows .opens - 1) at r ⌝ }
 {
     let end = rows.end;
+    let others = rows.opens - 1;
     let mut row = rows.first;
     let mut place = at;
     let mut count = 0;
@@ -184,7 +179,7 @@ fn branches(
         if rows.named != 0 {
             named = spread(rows.named, i, args);
         }
-        let opens = args + rows.opens;
+        let opens = args + others;
         let after = row + n;
         let run = Rows {
             first: row,

@@ -86,11 +86,11 @@ state-with t = (
 )
 
 abbrev branches-Inv-loop : branches-lts.InvT-loop
-branches-Inv-loop table starts masks₀ column₀ plan rows i at end row₀ place₀ count₀ masks column row place count =
-    Going table starts plan masks₀ column₀ (rows .first) (rows .end) (rows .named) i (rows .opens) at masks column row place count
+branches-Inv-loop table starts masks₀ column₀ plan rows i at end others row₀ place₀ count₀ masks column row place count =
+    Going table starts plan masks₀ column₀ (rows .first) (rows .end) (rows .named) i (rows .opens - 1) at masks column row place count
 
 abbrev branches-μ-loop : branches-lts.MeasureT-loop
-branches-μ-loop table starts masks₀ column₀ plan rows i at end row₀ place₀ count₀ masks column row place count =
+branches-μ-loop table starts masks₀ column₀ plan rows i at end others row₀ place₀ count₀ masks column row place count =
     end - row
 
 -- the places of `branches` that its answers go back to: where the flags below the branch are known, where the run's length is known before that,
@@ -105,7 +105,7 @@ abbrev turn-at : (t : ℕ) → At-flags t → branches-lts.At-loop (branches-wit
 turn-at t j = run-at t j .before .before .before .before .before .before .before .before .before
 
 abbrev call-at : (t : ℕ) → At-flags t → branches-lts.Start (branches-with t) (branches-at t) branches.Post branches-Inv-loop branches-μ-loop
-call-at t j = turn-at t j .before .before .before
+call-at t j = turn-at t j .before .before .before .before
 
 -- the flags are `spread`'s, which are none where none stand
 flags-are : (t : ℕ) (j : At-flags t) → let a = call-at t j .args in
@@ -115,7 +115,7 @@ flags-are t j = ⊎-elim (λ w. w .2 ∙ w .1 .ensures) (λ w. w .1 ∙ sym (non
 -- the turn
 turn : (t : ℕ) (j : At-flags t) → let l = turn-at t j .loop in let a = call-at t j .args in
     Turn (a .table .now) (a .starts .now) (a .plan .now) (a .masks .now) (a .column .now)
-    (a .rows .first) (a .rows .end) (a .rows .named) (a .i) (a .rows .opens) (a .at) (l .masks) (l .column) (l .row) (l .place) (l .count)
+    (a .rows .first) (a .rows .end) (a .rows .named) (a .i) (a .rows .opens - 1) (a .at) (l .masks) (l .column) (l .row) (l .place) (l .count)
     (run-at t j .run-length .result) (j .before .before .arity-of .result) (j .if3 .named)
 turn t j =
     let c = run-at t j in
@@ -126,10 +126,13 @@ turn t j =
 
 -- where the state below the branch is asked, the flags are known
 abbrev flags-at : (t : ℕ) → branches-lts.After-state (branches-with t) (branches-at t) branches.Post branches-Inv-loop branches-μ-loop → At-flags t
-flags-at t s = s .before .before .before .before
+flags-at t s = s .before .before .before
+
+branches-sub-others : (t : ℕ) → branches-lts.Need-sub-others (branches-with t) (branches-at t) branches.Post branches-Inv-loop branches-μ-loop
+branches-sub-others t c = search needs
 
 branches-loop-holds : (t : ℕ) → branches-lts.Need-loop-holds (branches-with t) (branches-at t) branches.Post branches-Inv-loop branches-μ-loop
-branches-loop-holds t c = going-start (c .before .before .pre .1)
+branches-loop-holds t c = going-start (c .before .before .before .pre .1 .1)
 
 branches-refusal-requires : (t : ℕ) → branches-lts.Need-refusal-requires (branches-with t) (branches-at t) branches.Post branches-Inv-loop branches-μ-loop
 branches-refusal-requires t c κs = search needs
@@ -181,16 +184,16 @@ branches-spread-requires : (t : ℕ) → branches-lts.Need-spread-requires (bran
 branches-spread-requires t c κs = search needs
 
 branches-add-opens : (t : ℕ) → branches-lts.Need-add-opens (branches-with t) (branches-at t) branches.Post branches-Inv-loop branches-μ-loop
-branches-add-opens t c = record { fits = omega (arith, few-open (ready-below (turn t (c .before)))) }
+branches-add-opens t c = record { fits = omega (arith, few-open (ready-below (turn t c))) }
 
 branches-add-after : (t : ℕ) → branches-lts.Need-add-after (branches-with t) (branches-at t) branches.Post branches-Inv-loop branches-μ-loop
-branches-add-after t c = record { fits = omega (arith, ready-below (turn t (c .before)) .room .few) }
+branches-add-after t c = record { fits = omega (arith, ready-below (turn t c) .room .few) }
 
 branches-add-under : (t : ℕ) → branches-lts.Need-add-under (branches-with t) (branches-at t) branches.Post branches-Inv-loop branches-μ-loop
 branches-add-under t c = search needs
 
 branches-state-requires : (t : ℕ) → branches-lts.Need-state-requires (branches-with t) (branches-at t) branches.Post branches-Inv-loop branches-μ-loop
-branches-state-requires t c κs = let w = turn t (c .before .before .before) in (omega (arith, shorter-below w), ready-below w)
+branches-state-requires t c κs = let w = turn t (c .before .before) in (omega (arith, shorter-below w), ready-below w)
 
 branches-enum-known-below : (t : ℕ) → branches-lts.Need-enum-known-below (branches-with t) (branches-at t) branches.Post branches-Inv-loop branches-μ-loop
 branches-enum-known-below t c = search needs
@@ -360,9 +363,6 @@ state-returns-7 t c =
     done-edges (asked t r .pre .1) (omega arith) (omega arith) (chosen t r) (r .close-rows .ensures) (n .run-count .result) (omega arith)
     (n .run-count .ensures) (c .before .if8 .taken) (c .refusal5 .ensures)
 
-state-sub-left : (t : ℕ) → state-lts.Need-sub-left (state-with t) (state-at t) state.Post
-state-sub-left t c = search needs
-
 state-add-branches : (t : ℕ) → state-lts.Need-add-branches (state-with t) (state-at t) state.Post
 state-add-branches t c = search needs
 
@@ -370,7 +370,7 @@ state-branches-requires : (t : ℕ) → state-lts.Need-branches-requires (state-
 state-branches-requires t c κs =
     let r = closed t (c .before .before .before) in (
       omega (arith, asked t r .pre .0, shorter (asked t r .pre .1) (omega arith) (omega arith) (chosen t r) (r .close-rows .ensures)),
-      ready-branches (asked t r .pre .1) (omega arith) (omega arith) (chosen t r) (r .close-rows .ensures) (omega arith),
+      (omega arith, ready-branches (asked t r .pre .1) (omega arith) (omega arith) (chosen t r) (r .close-rows .ensures) (omega arith)),
     )
 
 state-returns-8 : (t : ℕ) → state-lts.Need-returns-8 (state-with t) (state-at t) state.Post
@@ -385,6 +385,7 @@ pub +branches+state-spec : {M : Type 1} → statement M
     branches.Post
     branches-Inv-loop
     branches-μ-loop
+    (branches-sub-others t)
     (branches-loop-holds t)
     (branches-refusal-requires t)
     (branches-returns t)
@@ -448,7 +449,6 @@ pub +branches+state-spec : {M : Type 1} → statement M
     (state-run-count-requires t)
     (state-refusal-requires-5 t)
     (state-returns-7 t)
-    (state-sub-left t)
     (state-add-branches t)
     (state-branches-requires t)
     (state-returns-8 t)
