@@ -56,6 +56,9 @@ walk-ended-requires t c κs = search needs
 walk-returns : (t : ℕ) → walk-lts.Need-returns (with t) (walk-at t) walk.Post walk-Inv-loop walk-μ-loop
 walk-returns t c = search needs
 
+walk-cast-if2 : (t : ℕ) → walk-lts.Need-cast-if2 (with t) (walk-at t) walk.Post walk-Inv-loop walk-μ-loop
+walk-cast-if2 t c = search needs
+
 walk-returns-2 : (t : ℕ) → walk-lts.Need-returns-2 (with t) (walk-at t) walk.Post walk-Inv-loop walk-μ-loop
 walk-returns-2 t c = search needs
 
@@ -130,6 +133,7 @@ pub +walk-spec : {M : Type 1} → statement M
     walk-μ-loop
     (walk-ended-requires t)
     (walk-returns t)
+    (walk-cast-if2 t)
     (walk-returns-2 t)
     (walk-cell-at-requires t)
     (walk-cast-index t)
