@@ -32,8 +32,8 @@ fn a_wrong_drawing_is_found() {
     assert_eq!(found(&[("| liked  ", "| liked  checker  ")]), ["checker: 2 times in the drawing"]);
     assert_eq!(found(&[("| answer*", "| answer ")]), ["answer: is mathematics in crates.txt"]);
     assert_eq!(found(&[("| blocks  ", "| blocks*  ")]), ["blocks: no mathematics in crates.txt"]);
-    assert_eq!(found(&[("| cell  ", "| celt  ")]), ["celt: in ground, and unknown to crates.txt", "cell: 0 times in the drawing"]);
-    let lower = [("| plan*  state  checker ", "| plan*  state "), ("| goal  doubles  table ", "| goal  doubles  table  checker ")];
+    assert_eq!(found(&[("| limits  ", "| limit  ")]), ["limit: in ground, and unknown to crates.txt", "limits: 0 times in the drawing"]);
+    let lower = [("| plan*  state  checker ", "| plan*  state "), ("| goalreader  samerows  table ", "| goalreader  samerows  table  checker ")];
     assert_eq!(found(&lower), ["checker: below plan, which it uses", "checker: below state, which it uses"]);
 }
 
