@@ -102,30 +102,25 @@ module _ {t ss p ms hs : List ℕ} {first last named i k at : ℕ} {ms₁ hs₁ 
         let e = branches-label (stateFrom 32) (flagsIn (suc k) named) i k first-run runs-after p place l d in
         going-refused (badPlan reason.Label place) (rw (first-left .runs) e) q (same-self last ms₁) (same-self last hs₁)
 
--- One turn: a branch's cell is there and is the first row's, and n rows are its run; so many arguments are below it, with their flags.
-pub record Turn (t ss p ms hs : List ℕ) (first last named i k at : ℕ) (ms₁ hs₁ : List ℕ) (row place count n args down : ℕ) : Type 0 where
+-- One turn: a branch's cell is there and is the first row's, and n rows are its run.
+pub record Turn (t ss p ms hs : List ℕ) (first last named i k at : ℕ) (ms₁ hs₁ : List ℕ) (row place count n : ℕ) : Type 0 where
   pub going : Going t ss p ms hs first last named i k at ms₁ hs₁ row place count
   pub here : place < length p
   pub label : getD p place 0 ≡ getD hs₁ row 0
   pub run : FirstRun t ss ms₁ hs₁ row last n
-  pub args-are : args ≡ arity (getD hs₁ row 0)
-  pub down-is : down ≡ spreadOf named i args
 
-pub turn-of : {t ss p ms hs : List ℕ} {first last named i k at : ℕ} {ms₁ hs₁ : List ℕ} {row place count : ℕ} (n : ℕ) {args down : ℕ}
+pub turn-of : {t ss p ms hs : List ℕ} {first last named i k at : ℕ} {ms₁ hs₁ : List ℕ} {row place count : ℕ} (n : ℕ)
     → Going t ss p ms hs first last named i k at ms₁ hs₁ row place count → row < last → place < length p → getD p place 0 ≡ getD hs₁ row 0
-    → n ≡ runLength (columnIn hs₁ row last) → args ≡ arity (getD hs₁ row 0) → down ≡ spreadOf named i args
-    → Turn t ss p ms hs first last named i k at ms₁ hs₁ row place count n args down
-turn-of {t} {ss} {last = last} {ms₁ = ms₁} {hs₁} {row = row} n g h l d e x y = record {
+    → n ≡ runLength (columnIn hs₁ row last) → Turn t ss p ms hs first last named i k at ms₁ hs₁ row place count n
+turn-of {t} {ss} {last = last} {ms₁ = ms₁} {hs₁} {row = row} n g h l d e = record {
   going = g;
   here = l;
   label = d;
   run = run-first t ss ms₁ hs₁ row last n h (omega (arith, g .ready .room .column, g .ready .room .few)) e;
-  args-are = x;
-  down-is = y;
 }
 
-module _ {t ss p ms hs : List ℕ} {first last named i k at : ℕ} {ms₁ hs₁ : List ℕ} {row place count n args down : ℕ}
-    (w : Turn t ss p ms hs first last named i k at ms₁ hs₁ row place count n args down) where
+module _ {t ss p ms hs : List ℕ} {first last named i k at : ℕ} {ms₁ hs₁ : List ℕ} {row place count n : ℕ}
+    (w : Turn t ss p ms hs first last named i k at ms₁ hs₁ row place count n) where
   abbrev g : Going t ss p ms hs first last named i k at ms₁ hs₁ row place count
   g = w .going
 
@@ -141,11 +136,15 @@ module _ {t ss p ms hs : List ℕ} {first last named i k at : ℕ} {ms₁ hs₁ 
   abbrev others : List Run
   others = runsIn t ss ms₁ hs₁ (row + n) last
 
+  -- the flags below the branch
+  abbrev down : ℕ
+  down = spreadOf named i (arity c)
+
   few-args : arity c < 5
   few-args = omega (arith, arity-small c)
 
   -- the state below the branch: its rows fit, and are no longer than all were
-  pub ready-below : Ready t ss ms₁ hs₁ p row (row + n) down (args + k) (place + 1)
+  pub ready-below : Ready t ss ms₁ hs₁ p row (row + n) down (arity c + k) (place + 1)
   ready-below = record {
     room = record {
       masks = g .ready .room .masks;
@@ -155,16 +154,16 @@ module _ {t ss p ms hs : List ℕ} {first last named i k at : ℕ} {ms₁ hs₁ 
       some = omega arith;
     };
     row = omega (arith, r .some);
-    rows = rw (w .args-are) ((rw (r .runs) at (g .ready .runs)) .0);
-    flags = rw (w .down-is, w .args-are) (few-below named i (arity c) k (g .ready .flags) (g .ready .opens) (g .ready .place) few-args);
+    rows = (rw (r .runs) at (g .ready .runs)) .0;
+    flags = few-below named i (arity c) k (g .ready .flags) (g .ready .opens) (g .ready .place) few-args;
   }
 
   pub shorter-below : longest (rowsIn t ss ms₁ row (row + n)) ≤ longest (rowsIn t ss ms first last)
   shorter-below = omega (arith, g .deep, ap longest (r .front), longest-take n (rowsIn t ss ms₁ row last))
 
-  module _ {ms₂ hs₂ : List ℕ} {s : Step} (a : Done t ss ms₁ hs₁ ms₂ hs₂ p row (row + n) down (args + k) (place + 1) s) where
+  module _ {ms₂ hs₂ : List ℕ} {s : Step} (a : Done t ss ms₁ hs₁ ms₂ hs₂ p row (row + n) down (arity c + k) (place + 1) s) where
     says-below : stateFrom 32 (spread i (arity c) (flagsIn (suc k) named)) (arity c + k) (one .rows) (place + 1) (drop (place + 1) p) ≡ saidBy p s
-    says-below = rw (w .down-is, w .args-are, flags-below named i (arity c) k (g .ready .flags) (g .ready .opens) (g .ready .place) few-args) at (a .says)
+    says-below = rw (flags-below named i (arity c) k (g .ready .flags) (g .ready .opens) (g .ready .place) few-args) at (a .says)
 
     -- it is turned away
     pub turn-refused : {f : Refusal} → s ≡ step.Refused f → DoneIn t ss ms hs ms₂ hs₂ p first last named i k at (step.Refused f)

@@ -1,6 +1,5 @@
 // The check of a plan, state by state (01, "Plans" and the plan's rows of "What is turned away").
 ghost use mathlib.Core.Path.{_≡_};
-ghost use Prim.Native.Nat.{_-_, _<_};
 ghost use Rattle.refusal.specs.Refusal.{told};
 ghost use lib.ListN.{drop};
 ghost use Rattle.plan.specs.Check.{badPlan};
@@ -12,7 +11,6 @@ use limits::ROWS;
 use refusal::Input;
 use refusal::Reason;
 use refusal::Refusal;
-use state::Rows;
 use state::column::run_count;
 use state::column::run_length;
 use state::flags::may;
@@ -92,37 +90,37 @@ fn alone(table: &[u32], start: usize, mask: u32, plan: &[u32], k: usize, at: usi
     leaf(plan, 1, count, place)
 }
 
-// The state at place `at` of the plan, with these rows; where no flag is set any place may be chosen. It goes no deeper than 32: each state
-// closes one cell of each of its rows.
+// The state at place `at` of the plan, with k open places and the rows from first to before end. Bit i of `named` is set where open place i
+// is inside a named column (02, W-213); with none set any place may be chosen. It goes no deeper than 32: each state closes one cell of each
+// of its rows.
 pub fn state(
     table: &[u32],
     starts: &[usize; ROWS],
     masks: &mut [u32; ROWS],
     column: &mut [u32; ROWS],
     plan: &[u32],
-    rows: Rows,
+    first: usize,
+    end: usize,
+    named: u64,
+    k: usize,
     at: usize,
 ) -> Step
-    requires { ⌜ Ready (now table) (now starts) (now masks) (now column) (now plan) (rows .first) (rows .end) (rows .named) (rows .opens) at ⌝ }
+    requires { ⌜ Ready (now table) (now starts) (now masks) (now column) (now plan) first end named k at ⌝ }
     ensures { λ r. ⌜ Done (now (table .entry)) (now (starts .entry)) (now (masks .entry)) (now (column .entry)) (now (masks .exit))
-        (now (column .exit)) (now (plan .entry)) (rows .first) (rows .end) (rows .named) (rows .opens) at r ⌝ }
+        (now (column .exit)) (now (plan .entry)) first end named k at r ⌝ }
 {
-    let first = rows.first;
-    let end = rows.end;
-    let opens = rows.opens;
-    let named = rows.named;
-    let count = end - first;
-    if count == 1 && named == 0 {
-        return alone(table, starts[first], masks[first], plan, opens, at);
+    let rows = end - first;
+    if rows == 1 && named == 0 {
+        return alone(table, starts[first], masks[first], plan, k, at);
     }
-    if opens == 0 {
-        return leaf(plan, count, 0, at);
+    if k == 0 {
+        return leaf(plan, rows, 0, at);
     }
     if plan.len() <= at {
         return Step::Refused(refusal(Reason::Ends, at));
     }
     let i = plan[at];
-    if opens <= i as usize {
+    if k <= i as usize {
         return Step::Refused(refusal(Reason::Open, at));
     }
     if !may(named, i) {
@@ -137,29 +135,41 @@ pub fn state(
     if plan[next] as usize != run_count(&cells[first..end]) {
         return Step::Refused(refusal(Reason::Edges, next));
     }
-    branches(table, starts, masks, column, plan, rows, i, at + 2)
+    branches(
+        table,
+        starts,
+        masks,
+        column,
+        plan,
+        first,
+        end,
+        named,
+        i,
+        k - 1,
+        at + 2,
+    )
 }
 
-// The branches from place `at` on, one for each run of the state's rows, whose open place i is closed by now. Below each, the other places are
-// open beside its symbol's arguments, which are inside the column of their place.
+// The branches from place `at` on, one for each run of the rows from first to before end, at open place i; below each, k places are open
+// beside its symbol's arguments, which are inside the column of their place.
 fn branches(
     table: &[u32],
     starts: &[usize; ROWS],
     masks: &mut [u32; ROWS],
     column: &mut [u32; ROWS],
     plan: &[u32],
-    rows: Rows,
+    first: usize,
+    end: usize,
+    named: u64,
     i: u32,
+    k: usize,
     at: usize,
 ) -> Step
-    requires { ⌜ (0 < rows .opens) × ReadyIn (now table) (now starts) (now masks) (now column) (now plan)
-        (rows .first) (rows .end) (rows .named) i (rows .opens - 1) at ⌝ }
+    requires { ⌜ ReadyIn (now table) (now starts) (now masks) (now column) (now plan) first end named i k at ⌝ }
     ensures { λ r. ⌜ DoneIn (now (table .entry)) (now (starts .entry)) (now (masks .entry)) (now (column .entry)) (now (masks .exit))
-        (now (column .exit)) (now (plan .entry)) (rows .first) (rows .end) (rows .named) i (rows .opens - 1) at r ⌝ }
+        (now (column .exit)) (now (plan .entry)) first end named i k at r ⌝ }
 {
-    let end = rows.end;
-    let others = rows.opens - 1;
-    let mut row = rows.first;
+    let mut row = first;
     let mut place = at;
     let mut count = 0;
     while row < end {
@@ -175,20 +185,24 @@ fn branches(
         let n = run_length(&cells[row..end]);
         let args = cell::arity_of(c);
         // where no flag stands none does below, and no call is made
-        let mut named = 0;
-        if rows.named != 0 {
-            named = spread(rows.named, i, args);
+        let mut flags = 0;
+        if named != 0 {
+            flags = spread(named, i, args);
         }
-        let opens = args + others;
-        let after = row + n;
-        let run = Rows {
-            first: row,
-            end: after,
-            opens,
-            named,
-        };
+        let open = args + k;
         let under = place + 1;
-        match state(table, starts, masks, column, plan, run, under) {
+        match state(
+            table,
+            starts,
+            masks,
+            column,
+            plan,
+            row,
+            row + n,
+            flags,
+            open,
+            under,
+        ) {
             Step::Seen(below, next) => {
                 count += 1 + below;
                 place = next;
@@ -197,7 +211,7 @@ fn branches(
                 return Step::Refused(f);
             }
         }
-        row = after;
+        row += n;
     }
     Step::Seen(count, place)
 }

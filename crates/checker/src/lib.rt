@@ -16,7 +16,6 @@ use limits::ROWS;
 use refusal::Input;
 use refusal::Reason;
 use refusal::Refusal;
-use state::Rows;
 use state::flags::Named;
 use state::flags::named_of;
 use table::TableAnswer;
@@ -58,13 +57,18 @@ fn check_rows(
     }
     let mut masks = state::mask::open_rows(starts, rows, table.len());
     let mut column = [0u32; ROWS];
-    let all = Rows {
-        first: 0,
-        end: rows,
-        opens: width,
-        named: named.mask,
-    };
-    match check::state(table, starts, &mut masks, &mut column, plan, all, 0) {
+    match check::state(
+        table,
+        starts,
+        &mut masks,
+        &mut column,
+        plan,
+        0,
+        rows,
+        named.mask,
+        width,
+        0,
+    ) {
         Step::Seen(branches, next) => {
             if next < plan.len() {
                 return PlanAnswer::Refused(check::refusal(Reason::Extra, next));

@@ -5,9 +5,11 @@ use native.Mathlib.Omega.{arith}
 use borrow.Author.Needs.{needs}
 use borrow.Author.Tests.{eqb-true, not-true, not-false}
 use lib.ListN.{getD}
+use Rattle.cell.specs.Cell.{arity}
 use Rattle.state.specs.Flags.{mayIn, spreadOf}
 use Rattle.state.specs.States.{rowsIn}
 use Rattle.state.proofs.FlagsLaws.{none-below}
+use Rattle.checker.specs.code.Steps.{Done}
 use Rattle.checker.proofs.StateLaws.{longest, few-open, shorter, fits-alone, done-alone, done-leaf, done-ends, done-open, done-early}
 use Rattle.checker.proofs.StateLaws.{done-ends-2, done-edges, ready-branches, done-node}
 use Rattle.checker.proofs.LoopLaws.{Going, going-start, going-done, going-ends, going-label, Turn, turn-of, ready-below, shorter-below}
@@ -35,10 +37,10 @@ use Rattle.checker.proofs.check.+branches+state.Tie.{close}
 
 -- two calls for each cell that the longest row still has: at most 64
 abbrev μ-branches : Measures 5 branches-kinds.ps ℕ
-μ-branches κs a = 2 * longest (rowsIn (a .0 .now) (a .1 .0 .now) (a .1 .1 .0 .now) (a .1 .1 .1 .1 .1 .0 .first) (a .1 .1 .1 .1 .1 .0 .end)) + 1
+μ-branches κs a = 2 * longest (rowsIn (a .0 .now) (a .1 .0 .now) (a .1 .1 .0 .now) (a .1 .1 .1 .1 .1 .0) (a .1 .1 .1 .1 .1 .1 .0)) + 1
 
 abbrev μ-state : Measures 5 state-kinds.ps ℕ
-μ-state κs a = 2 * longest (rowsIn (a .0 .now) (a .1 .0 .now) (a .1 .1 .0 .now) (a .1 .1 .1 .1 .1 .0 .first) (a .1 .1 .1 .1 .1 .0 .end))
+μ-state κs a = 2 * longest (rowsIn (a .0 .now) (a .1 .0 .now) (a .1 .1 .0 .now) (a .1 .1 .1 .1 .1 .0) (a .1 .1 .1 .1 .1 .1 .0))
 
 abbrev branches-at : ℕ → In 5 branches-kinds.ps
 branches-at t = and 5 branches-kinds.ps (is 5 branches-kinds.ps μ-branches t) branches.Pre
@@ -86,53 +88,54 @@ state-with t = (
 )
 
 abbrev branches-Inv-loop : branches-lts.InvT-loop
-branches-Inv-loop table starts masks₀ column₀ plan rows i at end others row₀ place₀ count₀ masks column row place count =
-    Going table starts plan masks₀ column₀ (rows .first) (rows .end) (rows .named) i (rows .opens - 1) at masks column row place count
+branches-Inv-loop table starts masks₀ column₀ plan first end named i k at row₀ place₀ count₀ masks column row place count =
+    Going table starts plan masks₀ column₀ first end named i k at masks column row place count
 
 abbrev branches-μ-loop : branches-lts.MeasureT-loop
-branches-μ-loop table starts masks₀ column₀ plan rows i at end others row₀ place₀ count₀ masks column row place count =
+branches-μ-loop table starts masks₀ column₀ plan first end named i k at row₀ place₀ count₀ masks column row place count =
     end - row
 
--- the places of `branches` that its answers go back to: where the flags below the branch are known, where the run's length is known before that,
--- the turn of the loop, and the call
+-- the places of `branches` that its answers go back to: where the run's length is known, the turn of the loop before that, and the call before that
+abbrev At-run : ℕ → Type 0
+At-run t = branches-lts.After-run-length (branches-with t) (branches-at t) branches.Post branches-Inv-loop branches-μ-loop
+
+abbrev turn-at : (t : ℕ) → At-run t → branches-lts.At-loop (branches-with t) (branches-at t) branches.Post branches-Inv-loop branches-μ-loop
+turn-at t c = c .before .before .before .before .before .before .before .before .before
+
+abbrev call-at : (t : ℕ) → At-run t → branches-lts.Start (branches-with t) (branches-at t) branches.Post branches-Inv-loop branches-μ-loop
+call-at t c = c .before .before .before .before .before .before .before .before .before .before .before .before
+
+-- the turn
+turn : (t : ℕ) (c : At-run t) → let l = turn-at t c .loop in let a = call-at t c .args in
+    Turn (a .table .now) (a .starts .now) (a .plan .now) (a .masks .now) (a .column .now) (a .first) (a .end) (a .named) (a .i) (a .k) (a .at)
+    (l .masks) (l .column) (l .row) (l .place) (l .count) (c .run-length .result)
+turn t c =
+    turn-of (c .run-length .result) (c .before .before .before .before .before .before .before .before .before .loop .inv)
+    (c .before .before .before .before .before .before .before .before .loop-test .taken)
+    (c .before .before .before .before .before .before .before .if1 .left) (c .before .before .before .before .if2 .left) (c .run-length .ensures)
+
+-- the flags below the branch: `spread`'s, which are none where none stand
 abbrev At-flags : ℕ → Type 0
 At-flags t = branches-lts.Joined3 (branches-with t) (branches-at t) branches.Post branches-Inv-loop branches-μ-loop
 
-abbrev run-at : (t : ℕ) → At-flags t → branches-lts.After-run-length (branches-with t) (branches-at t) branches.Post branches-Inv-loop branches-μ-loop
-run-at t j = j .before .before .before
-
-abbrev turn-at : (t : ℕ) → At-flags t → branches-lts.At-loop (branches-with t) (branches-at t) branches.Post branches-Inv-loop branches-μ-loop
-turn-at t j = run-at t j .before .before .before .before .before .before .before .before .before
-
-abbrev call-at : (t : ℕ) → At-flags t → branches-lts.Start (branches-with t) (branches-at t) branches.Post branches-Inv-loop branches-μ-loop
-call-at t j = turn-at t j .before .before .before .before
-
--- the flags are `spread`'s, which are none where none stand
-flags-are : (t : ℕ) (j : At-flags t) → let a = call-at t j .args in
-    j .if3 .named ≡ spreadOf (a .rows .named) (a .i) (j .before .before .arity-of .result)
+flags-are : (t : ℕ) (j : At-flags t) → let a = call-at t (j .before .before) .args in j .if3 .flags ≡ spreadOf (a .named) (a .i) (j .before .arity-of .result)
 flags-are t j = ⊎-elim (λ w. w .2 ∙ w .1 .ensures) (λ w. w .1 ∙ sym (none-below _ _ _ (w .0 .left))) (j .if3 .came)
 
--- the turn
-turn : (t : ℕ) (j : At-flags t) → let l = turn-at t j .loop in let a = call-at t j .args in
-    Turn (a .table .now) (a .starts .now) (a .plan .now) (a .masks .now) (a .column .now)
-    (a .rows .first) (a .rows .end) (a .rows .named) (a .i) (a .rows .opens - 1) (a .at) (l .masks) (l .column) (l .row) (l .place) (l .count)
-    (run-at t j .run-length .result) (j .before .before .arity-of .result) (j .if3 .named)
-turn t j =
-    let c = run-at t j in
-    let e = c .before .before .before .before in
-    let o = e .before .before .before in
-    turn-of (c .run-length .result) (turn-at t j .loop .inv) (o .before .loop-test .taken) (o .if1 .left) (e .if2 .left) (c .run-length .ensures)
-    (j .before .before .arity-of .ensures) (flags-are t j)
+-- the state below the branch, and its answer
+abbrev At-state : ℕ → Type 0
+At-state t = branches-lts.After-state (branches-with t) (branches-at t) branches.Post branches-Inv-loop branches-μ-loop
 
--- where the state below the branch is asked, the flags are known
-abbrev flags-at : (t : ℕ) → branches-lts.After-state (branches-with t) (branches-at t) branches.Post branches-Inv-loop branches-μ-loop → At-flags t
-flags-at t s = s .before .before .before
-
-branches-sub-others : (t : ℕ) → branches-lts.Need-sub-others (branches-with t) (branches-at t) branches.Post branches-Inv-loop branches-μ-loop
-branches-sub-others t c = search needs
+below : (t : ℕ) (s : At-state t) → let c = s .before .before .before .before .before in
+    let l = turn-at t c .loop in
+    let a = call-at t c .args in
+    let z = s .state .last in
+    Done (a .table .now) (a .starts .now) (l .masks) (l .column) (z .1 .1 .0) (z .1 .1 .1 .0) (a .plan .now)
+    (l .row) (l .row + c .run-length .result) (spreadOf (a .named) (a .i) (arity (getD (l .column) (l .row) 0))) (arity (getD (l .column) (l .row) 0) + a .k)
+    (l .place + 1) (s .state .result)
+below t s = rw (flags-are t (s .before .before .before), s .before .before .before .before .arity-of .ensures) at (s .state .ensures)
 
 branches-loop-holds : (t : ℕ) → branches-lts.Need-loop-holds (branches-with t) (branches-at t) branches.Post branches-Inv-loop branches-μ-loop
-branches-loop-holds t c = going-start (c .before .before .before .pre .1 .1)
+branches-loop-holds t c = going-start (c .before .before .pre .1)
 
 branches-refusal-requires : (t : ℕ) → branches-lts.Need-refusal-requires (branches-with t) (branches-at t) branches.Post branches-Inv-loop branches-μ-loop
 branches-refusal-requires t c κs = search needs
@@ -183,75 +186,75 @@ branches-arity-of-requires t c κs = search needs
 branches-spread-requires : (t : ℕ) → branches-lts.Need-spread-requires (branches-with t) (branches-at t) branches.Post branches-Inv-loop branches-μ-loop
 branches-spread-requires t c κs = search needs
 
-branches-add-opens : (t : ℕ) → branches-lts.Need-add-opens (branches-with t) (branches-at t) branches.Post branches-Inv-loop branches-μ-loop
-branches-add-opens t c = record { fits = omega (arith, few-open (ready-below (turn t c))) }
-
-branches-add-after : (t : ℕ) → branches-lts.Need-add-after (branches-with t) (branches-at t) branches.Post branches-Inv-loop branches-μ-loop
-branches-add-after t c = record { fits = omega (arith, ready-below (turn t c) .room .few) }
+branches-add-open : (t : ℕ) → branches-lts.Need-add-open (branches-with t) (branches-at t) branches.Post branches-Inv-loop branches-μ-loop
+branches-add-open t c = record { fits = omega (arith, few-open (ready-below (turn t (c .before .before))), c .before .arity-of .ensures) }
 
 branches-add-under : (t : ℕ) → branches-lts.Need-add-under (branches-with t) (branches-at t) branches.Post branches-Inv-loop branches-μ-loop
 branches-add-under t c = search needs
 
+branches-add-state : (t : ℕ) → branches-lts.Need-add-state (branches-with t) (branches-at t) branches.Post branches-Inv-loop branches-μ-loop
+branches-add-state t c = record { fits = omega (arith, ready-below (turn t (c .before .before .before .before)) .room .few) }
+
 branches-state-requires : (t : ℕ) → branches-lts.Need-state-requires (branches-with t) (branches-at t) branches.Post branches-Inv-loop branches-μ-loop
-branches-state-requires t c κs = let w = turn t (c .before .before) in (omega (arith, shorter-below w), ready-below w)
+branches-state-requires t c κs =
+    let w = turn t (c .before .before .before .before) in
+    (omega (arith, shorter-below w), rw (flags-are t (c .before .before), c .before .before .before .arity-of .ensures) (ready-below w))
 
 branches-enum-known-below : (t : ℕ) → branches-lts.Need-enum-known-below (branches-with t) (branches-at t) branches.Post branches-Inv-loop branches-μ-loop
 branches-enum-known-below t c = search needs
 
 branches-add-count : (t : ℕ) → branches-lts.Need-add-count (branches-with t) (branches-at t) branches.Post branches-Inv-loop branches-μ-loop
 branches-add-count t c =
-    let s = c .before .before .before in
-    record { fits = omega (arith, turn-next (turn t (flags-at t s)) (s .state .ensures) (c .before .below .given .1)) }
+    record {
+      fits = omega (
+        arith,
+        turn-next (turn t (c .before .before .before .before .before .before .before .before))
+            (below t (c .before .before .before)) (c .before .below .given .1),
+      );
+    }
 
 branches-add-count-2 : (t : ℕ) → branches-lts.Need-add-count-2 (branches-with t) (branches-at t) branches.Post branches-Inv-loop branches-μ-loop
 branches-add-count-2 t c =
-    let s = c .before .before .before in
-    let w = turn t (flags-at t s) in
-    record { fits = omega (arith, turn-next w (s .state .ensures) (c .before .below .given .1), w .going .few) }
+    let w = turn t (c .before .before .before .before .before .before .before .before) in
+    record { fits = omega (arith, turn-next w (below t (c .before .before .before)) (c .before .below .given .1), w .going .few) }
 
 branches-enum-known-f : (t : ℕ) → branches-lts.Need-enum-known-f (branches-with t) (branches-at t) branches.Post branches-Inv-loop branches-μ-loop
 branches-enum-known-f t c = search needs
 
 branches-returns-3 : (t : ℕ) → branches-lts.Need-returns-3 (branches-with t) (branches-at t) branches.Post branches-Inv-loop branches-μ-loop
 branches-returns-3 t c =
-    let s = c .before .before .before in turn-refused (turn t (flags-at t s)) (s .state .ensures) (c .before .f .given .1)
+    turn-refused (turn t (c .before .before .before .before .before .before .before .before)) (below t (c .before .before .before))
+    (c .before .f .given .1)
+
+branches-add-row : (t : ℕ) → branches-lts.Need-add-row (branches-with t) (branches-at t) branches.Post branches-Inv-loop branches-μ-loop
+branches-add-row t c = record { fits = omega (arith, ready-below (turn t (c .before .before .before .before .before .before .before .before)) .room .few) }
 
 branches-loop-less : (t : ℕ) → branches-lts.Need-loop-less (branches-with t) (branches-at t) branches.Post branches-Inv-loop branches-μ-loop
-branches-loop-less t c = omega (arith, turn t (flags-at t (c .before .before .before)) .run .some)
+branches-loop-less t c = omega (arith, turn t (c .before .before .before .before .before .before .before .before) .run .some)
 
 branches-loop-again : (t : ℕ) → branches-lts.Need-loop-again (branches-with t) (branches-at t) branches.Post branches-Inv-loop branches-μ-loop
 branches-loop-again t c =
-    let s = c .before .before .before in turn-on (turn t (flags-at t s)) (s .state .ensures) (c .before .below .given .1)
+    turn-on (turn t (c .before .before .before .before .before .before .before .before)) (below t (c .before .before .before))
+    (c .before .below .given .1)
 
 branches-returns-4 : (t : ℕ) → branches-lts.Need-returns-4 (branches-with t) (branches-at t) branches.Post branches-Inv-loop branches-μ-loop
 branches-returns-4 t c = going-done (c .before .loop .inv) (c .loop-test .left)
 
--- the places of `state` that its answers go back to the call from: where the row is not alone, and where the place to close is read; then where
--- its rows are closed, and where its runs are counted
-abbrev At-call : ℕ → Type 0
-At-call t = state-lts.Start (state-with t) (state-at t) state.Post
-
-abbrev entered : (t : ℕ) → state-lts.Joined1 (state-with t) (state-at t) state.Post → At-call t
-entered t c = c .before .before .before
-
-abbrev place-read : (t : ℕ) → state-lts.After-shared-slice-known3 (state-with t) (state-at t) state.Post → At-call t
-place-read t c = entered t (c .before .before .before)
-
+-- the places of `state` that its answers go back to: where its runs are counted, where its rows are closed, and the call; and that the place may be chosen
 abbrev At-closed : ℕ → Type 0
 At-closed t = state-lts.After-close-rows (state-with t) (state-at t) state.Post
-
-abbrev asked : (t : ℕ) → At-closed t → At-call t
-asked t r = place-read t (r .before .before .before .before .before .before)
 
 abbrev closed : (t : ℕ) → state-lts.After-run-count (state-with t) (state-at t) state.Post → At-closed t
 closed t c = c .before .before .before .before .before .before
 
--- the place may be chosen
-chosen : (t : ℕ) (r : At-closed t) → let a = asked t r .args in mayIn (a .rows .named) (getD (a .plan .now) (a .at) 0) ≡ true
+abbrev asked : (t : ℕ) → At-closed t → state-lts.Start (state-with t) (state-at t) state.Post
+asked t r = r .before .before .before .before .before .before .before .before .before .before .before .before
+
+chosen : (t : ℕ) (r : At-closed t) → let a = asked t r .args in mayIn (a .named) (getD (a .plan .now) (a .at) 0) ≡ true
 chosen t r = let e = r .before .before .before in sym (e .before .may .ensures) ∙ not-false _ (e .if6 .left)
 
-state-sub-count : (t : ℕ) → state-lts.Need-sub-count (state-with t) (state-at t) state.Post
-state-sub-count t c = search needs
+state-sub-rows : (t : ℕ) → state-lts.Need-sub-rows (state-with t) (state-at t) state.Post
+state-sub-rows t c = search needs
 
 state-mul-alone : (t : ℕ) → state-lts.Need-mul-alone (state-with t) (state-at t) state.Post
 state-mul-alone t c = search needs
@@ -266,25 +269,24 @@ state-element-copy-out-alone-2 : (t : ℕ) → state-lts.Need-element-copy-out-a
 state-element-copy-out-alone-2 t c = search needs
 
 state-alone-requires : (t : ℕ) → state-lts.Need-alone-requires (state-with t) (state-at t) state.Post
-state-alone-requires t c κs = let o = c .before .before .before in fits-alone (o .before .before .before .pre .1) (o .if1 .taken)
+state-alone-requires t c κs = fits-alone (c .before .before .before .before .before .before .pre .1) (c .before .before .before .if1 .taken)
 
 state-returns : (t : ℕ) → state-lts.Need-returns (state-with t) (state-at t) state.Post
 state-returns t c =
-    let n = c .before .before .before in
-    let o = n .before in
-    done-alone (o .before .before .before .pre .1) (o .if1 .taken) (eqb-true _ 0 (n .if2 .taken)) (c .alone .ensures)
+    done-alone (c .before .before .before .before .before .before .before .pre .1) (c .before .before .before .before .if1 .taken)
+    (eqb-true _ 0 (c .before .before .before .if2 .taken)) (c .alone .ensures)
 
 state-leaf-requires : (t : ℕ) → state-lts.Need-leaf-requires (state-with t) (state-at t) state.Post
 state-leaf-requires t c κs = search needs
 
 state-returns-2 : (t : ℕ) → state-lts.Need-returns-2 (state-with t) (state-at t) state.Post
-state-returns-2 t c = done-leaf (entered t (c .before .before) .pre .1) (c .before .if3 .taken) (c .leaf .ensures)
+state-returns-2 t c = done-leaf (c .before .before .before .before .before .pre .1) (c .before .if3 .taken) (c .leaf .ensures)
 
 state-refusal-requires : (t : ℕ) → state-lts.Need-refusal-requires (state-with t) (state-at t) state.Post
 state-refusal-requires t c κs = search needs
 
 state-returns-3 : (t : ℕ) → state-lts.Need-returns-3 (state-with t) (state-at t) state.Post
-state-returns-3 t c = done-ends (entered t (c .before .before .before) .pre .1) (omega arith) (c .before .if4 .taken) (c .refusal .ensures)
+state-returns-3 t c = done-ends (c .before .before .before .before .before .before .pre .1) (omega arith) (c .before .if4 .taken) (c .refusal .ensures)
 
 state-mul-i : (t : ℕ) → state-lts.Need-mul-i (state-with t) (state-at t) state.Post
 state-mul-i t c = search needs
@@ -293,14 +295,15 @@ state-shared-slice-read-i : (t : ℕ) → state-lts.Need-shared-slice-read-i (st
 state-shared-slice-read-i t c = search needs
 
 state-cast-if5 : (t : ℕ) → state-lts.Need-cast-if5 (state-with t) (state-at t) state.Post
-state-cast-if5 t c = record { fits = omega (arith, c .shared-slice-known3 .given (place-read t c .args .at)) }
+state-cast-if5 t c = record { fits = omega (arith, c .shared-slice-known3 .given (c .before .before .before .before .before .before .args .at)) }
 
 state-refusal-requires-2 : (t : ℕ) → state-lts.Need-refusal-requires-2 (state-with t) (state-at t) state.Post
 state-refusal-requires-2 t c κs = search needs
 
 state-returns-4 : (t : ℕ) → state-lts.Need-returns-4 (state-with t) (state-at t) state.Post
 state-returns-4 t c =
-    done-open (place-read t (c .before .before) .pre .1) (omega arith) (omega arith) (c .before .if5 .taken) (c .refusal2 .ensures)
+    done-open (c .before .before .before .before .before .before .before .before .pre .1) (omega arith) (omega arith) (c .before .if5 .taken)
+    (c .refusal2 .ensures)
 
 state-may-requires : (t : ℕ) → state-lts.Need-may-requires (state-with t) (state-at t) state.Post
 state-may-requires t c κs = search needs
@@ -311,7 +314,7 @@ state-refusal-requires-3 t c κs = search needs
 state-returns-5 : (t : ℕ) → state-lts.Need-returns-5 (state-with t) (state-at t) state.Post
 state-returns-5 t c =
     let m = c .before .before in
-    done-early (place-read t (m .before .before) .pre .1) (omega arith) (omega arith) (omega arith)
+    done-early (m .before .before .before .before .before .before .before .before .pre .1) (omega arith) (omega arith) (omega arith)
     (sym (m .may .ensures) ∙ not-true _ (c .before .if6 .taken)) (c .refusal3 .ensures)
 
 state-add-next : (t : ℕ) → state-lts.Need-add-next (state-with t) (state-at t) state.Post
@@ -336,7 +339,15 @@ state-shared-slice-read-if8 : (t : ℕ) → state-lts.Need-shared-slice-read-if8
 state-shared-slice-read-if8 t c = search needs
 
 state-cast-if8 : (t : ℕ) → state-lts.Need-cast-if8 (state-with t) (state-at t) state.Post
-state-cast-if8 t c = record { fits = omega (arith, c .shared-slice-known4 .given (asked t (c .before .before .before .before) .args .at + 1)) }
+state-cast-if8 t c =
+    record {
+      fits = omega (
+        arith,
+        c .shared-slice-known4 .given
+            (c .before .before .before .before .before .before .before .before .before .before .before .before .before .before .before .before .args .at +
+            1),
+      );
+    }
 
 state-mul-run-count : (t : ℕ) → state-lts.Need-mul-run-count (state-with t) (state-at t) state.Post
 state-mul-run-count t c = search needs
@@ -363,6 +374,9 @@ state-returns-7 t c =
     done-edges (asked t r .pre .1) (omega arith) (omega arith) (chosen t r) (r .close-rows .ensures) (n .run-count .result) (omega arith)
     (n .run-count .ensures) (c .before .if8 .taken) (c .refusal5 .ensures)
 
+state-sub-branches : (t : ℕ) → state-lts.Need-sub-branches (state-with t) (state-at t) state.Post
+state-sub-branches t c = search needs
+
 state-add-branches : (t : ℕ) → state-lts.Need-add-branches (state-with t) (state-at t) state.Post
 state-add-branches t c = search needs
 
@@ -370,7 +384,7 @@ state-branches-requires : (t : ℕ) → state-lts.Need-branches-requires (state-
 state-branches-requires t c κs =
     let r = closed t (c .before .before .before) in (
       omega (arith, asked t r .pre .0, shorter (asked t r .pre .1) (omega arith) (omega arith) (chosen t r) (r .close-rows .ensures)),
-      (omega arith, ready-branches (asked t r .pre .1) (omega arith) (omega arith) (chosen t r) (r .close-rows .ensures) (omega arith)),
+      ready-branches (asked t r .pre .1) (omega arith) (omega arith) (chosen t r) (r .close-rows .ensures) (omega arith),
     )
 
 state-returns-8 : (t : ℕ) → state-lts.Need-returns-8 (state-with t) (state-at t) state.Post
@@ -385,7 +399,6 @@ pub +branches+state-spec : {M : Type 1} → statement M
     branches.Post
     branches-Inv-loop
     branches-μ-loop
-    (branches-sub-others t)
     (branches-loop-holds t)
     (branches-refusal-requires t)
     (branches-returns t)
@@ -402,21 +415,22 @@ pub +branches+state-spec : {M : Type 1} → statement M
     (branches-run-length-requires t)
     (branches-arity-of-requires t)
     (branches-spread-requires t)
-    (branches-add-opens t)
-    (branches-add-after t)
+    (branches-add-open t)
     (branches-add-under t)
+    (branches-add-state t)
     (branches-state-requires t)
     (branches-enum-known-below t)
     (branches-add-count t)
     (branches-add-count-2 t)
     (branches-enum-known-f t)
     (branches-returns-3 t)
+    (branches-add-row t)
     (branches-loop-less t)
     (branches-loop-again t)
     (branches-returns-4 t))
     λ t. state-lts.spec (state-with t) (state-at t)
     state.Post
-    (state-sub-count t)
+    (state-sub-rows t)
     (state-mul-alone t)
     (state-element-copy-out-alone t)
     (state-mul-alone-2 t)
@@ -449,6 +463,7 @@ pub +branches+state-spec : {M : Type 1} → statement M
     (state-run-count-requires t)
     (state-refusal-requires-5 t)
     (state-returns-7 t)
+    (state-sub-branches t)
     (state-add-branches t)
     (state-branches-requires t)
     (state-returns-8 t)
