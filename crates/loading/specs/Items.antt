@@ -1,4 +1,4 @@
--- The symbols of a text in their order, what numbers they get, and how the names among them are counted. The promise of `words` rests on
+-- The symbols of a text in their order, what numbers they get, and how the names among them are counted. The promise of `texttable` rests on
 -- `numbering`; no promise of the entry cites these definitions.
 use Prim.Native.Nat.{ℕ, suc, _+_}
 use mathlib.Core.Bool.{Bool, false, cond, _||_}

@@ -80,7 +80,7 @@ saidIn text names goal new p cells =
     cond (leb (length cells) mostReplyCells) (answerText (wordsOf text names goal new) (predicateIn text p) (p .width) cells) []
 
 -- An answer: so many terms, good cells, "variables are numbered 0, 1, 2 in order of first appearance" (01); its names are in a list of
--- words, which are names as the predicate is one, and no two of them are equal. W-203's replies are such: crate `answering`
+-- words, which are names as the predicate is one, and no two of them are equal. W-203's replies are such: crate `replyback`
 pub record IsAnswer (words : Words) (predicate : List ℕ) (width : ℕ) (cells : List ℕ) : Type 0 where
   pub some : 1 ≤ width
   pub terms : Terms width cells
