@@ -246,3 +246,6 @@ shape-found Refused = refl
 
 pub values_of-one : {s t : Shape} → values_of s ≡ values_of t → s ≡ t
 values_of-one {s} {t} e = sym (shape-found s) ∙ ap shape_in e ∙ shape-found t
+
+-- The arguments of a name, where `arity_of` meets one.
+pub ruleset name_arity = (arity-name)

@@ -77,6 +77,7 @@ pub enum Shape {
     Refused,
 }
 
+#[tactic(auto, using(crate::proofs::CellLaws::is_name))]
 pub fn shape_of(c: u32) -> Shape
     ensures { values_of result ≡ values_at c }
 {
@@ -107,6 +108,7 @@ fn high(c: u32) -> u32
 }
 
 // How many terms follow the cell as its arguments: of a name with 0 to 4 of them the high half is 0x4000 to 0x4004.
+#[tactic(auto, using(crate::proofs::CellLaws::name_arity))]
 pub fn arity_of(c: u32) -> usize
     ensures { result ≡ arity c }
 {

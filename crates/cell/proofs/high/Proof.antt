@@ -5,5 +5,5 @@ use Rattle.cell.proofs.high.Tie as tie
 returns : tie.Need-returns
 returns c = refl
 
-pub high-spec : {M : Type 1} → statement M
-high-spec = tie.close (tie.spec returns)
+pub high_spec : {M : Type 1} → statement M
+high_spec = tie.close (tie.spec returns)

@@ -5,5 +5,5 @@ use Rattle.cell.proofs.kind.Tie as tie
 returns : tie.Need-returns
 returns c = refl
 
-pub kind-spec : {M : Type 1} → statement M
-kind-spec = tie.close (tie.spec returns)
+pub kind_spec : {M : Type 1} → statement M
+kind_spec = tie.close (tie.spec returns)

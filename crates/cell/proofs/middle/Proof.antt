@@ -6,5 +6,5 @@ use Rattle.cell.proofs.middle.Tie as tie
 returns : tie.Need-returns
 returns c = and_mask (c.args.c / 2 ^ 16) 14
 
-pub middle-spec : {M : Type 1} → statement M
-middle-spec = tie.close (tie.spec returns)
+pub middle_spec : {M : Type 1} → statement M
+middle_spec = tie.close (tie.spec returns)

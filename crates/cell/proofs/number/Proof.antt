@@ -5,5 +5,5 @@ use Rattle.cell.proofs.number.Tie as tie
 returns : tie.Need-returns
 returns c = and_mask c.args.c 16
 
-pub number-spec : {M : Type 1} → statement M
-number-spec = tie.close (tie.spec returns)
+pub number_spec : {M : Type 1} → statement M
+number_spec = tie.close (tie.spec returns)

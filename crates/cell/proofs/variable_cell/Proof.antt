@@ -5,5 +5,5 @@ use Rattle.cell.proofs.variable_cell.Tie as tie
 returns : tie.Need-returns
 returns c = and_mask c.args.n 16
 
-pub variable-cell-spec : {M : Type 1} → statement M
-variable-cell-spec = tie.close (tie.spec returns)
+pub variable_cell_spec : {M : Type 1} → statement M
+variable_cell_spec = tie.close (tie.spec returns)
