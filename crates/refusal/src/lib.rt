@@ -5,7 +5,7 @@ ghost use Rattle.refusal.specs.Refusal.{reason_number, input_of};
 // 01, "What is turned away", and 02, W-201, "BYTES; TEXT; OTHER", W-204, "FIGURE", W-207, "FULL .. LAST .. INDEX",
 // W-208, "SAME", W-209, "BIG", W-210, "NAMES", W-211, "BLOCKS .. DAMAGE .. SIZES .. PADDING", W-212, "HEAD .. NONE": the
 // names, in the order of their numbers. "TWICE is never given again" (W-209): 8 is no reason's number.
-#[derive(Drop)]
+#[derive(Clone, Copy)]
 pub enum Reason {
     Length,
     Width,
@@ -44,7 +44,7 @@ pub enum Reason {
 
 // 01, "which input it concerns (table, plan, goal or lent room)"; or a text (02, W-201), a figure (W-204),
 // a list of names (W-210), a file (W-211), or a list of columns (W-213).
-#[derive(Drop)]
+#[derive(Clone, Copy)]
 pub enum Input {
     Table,
     Plan,
@@ -58,7 +58,7 @@ pub enum Input {
 }
 
 // What a refusal returns: its reason, by which it has 01's number, the input that it concerns, and a place.
-#[derive(Drop)]
+#[derive(Clone, Copy)]
 pub struct Refusal {
     pub reason: Reason,
     pub input: Input,

@@ -5,8 +5,8 @@ use Rattle.refusal.proofs.input_of.Statement.{statement}
 use Rattle.refusal.proofs.input_of.Tie as tie
 
 -- which input each arm has, and then what each answers: two lines for an input
-pub input-of-spec : {M : Type 1} → statement M
-input-of-spec =
+pub input_of_spec : {M : Type 1} → statement M
+input_of_spec =
     tie.close
     (tie.spec
     (λ c. search rules)
@@ -18,12 +18,12 @@ input-of-spec =
     (λ c. search rules)
     (λ c. search rules)
     (λ c. search rules)
-    (λ c. input-arm c.enum_told.given.1 refl)
-    (λ c. input-arm c.enum-told2.given.1 refl)
-    (λ c. input-arm c.enum-told3.given.1 refl)
-    (λ c. input-arm c.enum-told4.given.1 refl)
-    (λ c. input-arm c.enum-told5.given.1 refl)
-    (λ c. input-arm c.enum-told6.given.1 refl)
-    (λ c. input-arm c.enum-told7.given.1 refl)
-    (λ c. input-arm c.enum-told8.given.1 refl)
-    (λ c. input-arm c.enum-told9.given.1 refl))
+    (λ c. input-arm c.in-Table.is refl)
+    (λ c. input-arm c.in-Plan.is refl)
+    (λ c. input-arm c.in-Goal.is refl)
+    (λ c. input-arm c.in-Lent.is refl)
+    (λ c. input-arm c.in-Text.is refl)
+    (λ c. input-arm c.in-Figure.is refl)
+    (λ c. input-arm c.in-Names.is refl)
+    (λ c. input-arm c.in-File.is refl)
+    (λ c. input-arm c.in-Columns.is refl))
