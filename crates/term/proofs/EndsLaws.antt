@@ -38,6 +38,7 @@ data Found (ys : List ℕ) (k p : ℕ) : End → Type 0 where
 
 no-terms : {k : ℕ} (t rest : List ℕ) → Terms (suc k) t → [] ≡ t ++ rest → ⊥
 no-terms (c ∷ t) rest (more u) e = let z : ◌≡◌ {A = ℕ} 0 1 = cc in omega arith
+no-terms {k = k} [] rest x'' e = elim x'' [ ]
 
 found_here : (ys : List ℕ) (p : ℕ) → Found ys 0 p (At p)
 found_here ys p = let e : p + 0 ≡ p = omega arith in let f : Found ys 0 p (At (p + 0)) = found ys none refl in rw e at f
@@ -55,6 +56,7 @@ found-more {c} {k} {p} {ys} (lost n) = lost go
         let cd : c ≡ d = cc in
         let f : ys ≡ t ++ rest = cc in
         n t rest (rw cd u) f
+    go [] rest x3 e = elim x3 [ ]
 
 find : (ys : List ℕ) (k p : ℕ) → Found ys k p (ends ys k p)
 unfolding ends
