@@ -1,4 +1,1 @@
-pub mod Shared
-pub mod Apart
-pub mod Made
 pub mod Fixed

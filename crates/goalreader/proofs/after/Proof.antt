@@ -6,14 +6,14 @@ use lib.ListN.{length}
 use Rattle.goalreader.proofs.after.Statement.{statement}
 use Rattle.goalreader.proofs.after.Tie as tie
 
-add-result : tie.Need-overflow-add-result
+add-result : tie.Need-overflow_add-result
 add-result c = search rules
 
-returns : tie.Need-returns
-returns c = simp (le-ltb c.before.args.at (length c.before.args.cells.now) (omega arith))
+returns : tie.Need-returns-then-cells-at
+returns c = simp (le-ltb c.args.at (length c.args.cells.now) (omega arith))
 
-returns-2 : tie.Need-returns-2
-returns-2 c = simp (lt-ltb c.before.args.at (length c.before.args.cells.now) (omega arith))
+returns-2 : tie.Need-returns-else-cells-at
+returns-2 c = simp (lt-ltb c.args.at (length c.args.cells.now) (omega arith))
 
-pub after-spec : {M : Type 1} → statement M
-after-spec = tie.close (tie.spec add-result returns returns-2)
+pub after_spec : {M : Type 1} → statement M
+after_spec = tie.close (tie.spec add-result returns returns-2)
