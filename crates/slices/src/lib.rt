@@ -5,7 +5,7 @@ pub mod bytes;
 pub mod cells;
 
 // From a place up to another.
-#[derive(Drop)]
+#[derive(Clone, Copy)]
 pub struct Span {
     pub start: usize,
     pub end: usize,

@@ -4,25 +4,25 @@ use Rattle.slices.proofs.SliceLaws.{part-is}
 use Rattle.slices.proofs.bytes.part.Statement.{statement}
 use Rattle.slices.proofs.bytes.part.Tie as tie
 
-inside-requires : tie.Need-inside-requires
+inside-requires : tie.Need-inside-s-requires
 inside-requires c κs = search rules
 
-sub-result : tie.Need-overflow-sub-result
+sub-result : tie.Need-slice_bounds-result-count
 sub-result c = search rules
 
-part-result-start : tie.Need-slice-bounds-result-start
+part-result-start : tie.Need-slice_bounds-result-start
 part-result-start c = search rules
 
-part-result-end : tie.Need-slice-bounds-result-end
+part-result-end : tie.Need-slice_bounds-result-end
 part-result-end c = search rules
 
 returns : tie.Need-returns
 returns c =
-    let i = c.before.inside in
-    let a = c.before.before.before.args in
+    let i = c.inside-s in
+    let a = c.args in
     i.ensures.same a.text.now refl ∙ part-is a.start a.end a.text.now
 
-pub part-spec : {M : Type 1} → statement M
-part-spec =
+pub part_spec : {M : Type 1} → statement M
+part_spec =
     tie.close
     (tie.spec inside-requires sub-result part-result-start part-result-end returns)
