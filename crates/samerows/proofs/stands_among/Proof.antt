@@ -10,67 +10,67 @@ use Rattle.samerows.proofs.stands_among.Statement.{statement}
 use Rattle.samerows.proofs.stands_among.Tie as tie
 
 -- the rows that are left are as many as n, and end where the last one before them starts
-abbrev invariant-loop : tie.invariant-loop
+abbrev invariant-loop : tie.invariant-loop-n
 invariant-loop row cells starts but n₀ end₀ n end =
     (n ≤ length starts) × (among row (rows_but cells starts but n end) ≡ among row (rows_lent cells starts but))
 
-abbrev decreases-loop : tie.decreases-loop
+abbrev decreases-loop : tie.decreases-loop-n
 decreases-loop row cells starts but n₀ end₀ n end = n
 
-loop-holds : tie.Need-loop-init invariant-loop decreases-loop
+loop-holds : tie.Need-loop-n-init invariant-loop decreases-loop
 loop-holds c = (omega arith, refl)
 
-sub-n : tie.Need-overflow-sub-n invariant-loop decreases-loop
+sub-n : tie.Need-overflow_sub-n invariant-loop decreases-loop
 sub-n c = search rules
 
-mul-start : tie.Need-overflow-mul-start invariant-loop decreases-loop
+mul-start : tie.Need-offset_bounds-starts-n invariant-loop decreases-loop
 mul-start c = search rules
 
-shared-slice-read-start : tie.Need-shared-slice-read-start invariant-loop decreases-loop
+shared-slice-read-start : tie.Need-bounds-starts-n invariant-loop decreases-loop
 shared-slice-read-start c = search rules
 
 part-requires : tie.Need-part-requires invariant-loop decreases-loop
 part-requires c κs = search rules
 
-same-cells-requires : tie.Need-same-cells-requires invariant-loop decreases-loop
+same-cells-requires : tie.Need-same_cells-requires invariant-loop decreases-loop
 same-cells-requires c κs = search rules
 
-returns : tie.Need-returns invariant-loop decreases-loop
+returns : tie.Need-returns-then-same_cells invariant-loop decreases-loop
 returns c =
-    let s = c.before.before.before.before.before.before.before.before.before.before.args in
-    let l = c.before.before.before.before.before.before.loop in
-    let q = c.before.before.before.if1.true in
-    let f = ap (same s.row.now) (sym c.before.before.part.ensures) ∙ sym c.before.same-cells.ensures ∙ c.if2.true in
+    let s = c.args in
+    let l = c.loop-n in
+    let q = c.if-n-but.true in
+    let f = ap (same s.row.now) (sym c.part.ensures) ∙ sym c.same_cells.ensures ∙ c.if-same_cells.true in
     sym (found-last s.cells.now s.starts.now s.but s.row.now l.n l.end (omega arith) q f) ∙ l.invariant.1
 
-loop-less : tie.Need-loop-smaller invariant-loop decreases-loop
+loop-less : tie.Need-loop-n-smaller-else-same_cells invariant-loop decreases-loop
 loop-less c = search rules
 
-loop-again : tie.Need-loop-preserved invariant-loop decreases-loop
+loop-again : tie.Need-loop-n-preserved-else-same_cells invariant-loop decreases-loop
 loop-again c =
-    let s = c.before.before.before.before.before.before.before.before.before.before.args in
-    let l = c.before.before.before.before.before.before.loop in
-    let f = ap (same s.row.now) (sym c.before.before.part.ensures) ∙ sym c.before.same-cells.ensures ∙ c.if2.false in
+    let s = c.args in
+    let l = c.loop-n in
+    let f = ap (same s.row.now) (sym c.part.ensures) ∙ sym c.same_cells.ensures ∙ c.if-same_cells.false in
     (omega arith, sym (not_last s.cells.now s.starts.now s.but s.row.now l.n l.end (omega arith) f) ∙ l.invariant.1)
 
-loop-less-2 : tie.Need-loop-smaller-2 invariant-loop decreases-loop
+loop-less-2 : tie.Need-loop-n-smaller invariant-loop decreases-loop
 loop-less-2 c = search rules
 
-loop-again-2 : tie.Need-loop-preserved-2 invariant-loop decreases-loop
+loop-again-2 : tie.Need-loop-n-preserved invariant-loop decreases-loop
 loop-again-2 c =
-    let s = c.before.before.before.before.before.before.before.args in
-    let l = c.before.before.before.loop in
-    let o = left_out s.cells.now s.starts.now s.but l.n l.end (omega arith) c.if1.false in
+    let s = c.args in
+    let l = c.loop-n in
+    let o = left_out s.cells.now s.starts.now s.but l.n l.end (omega arith) c.if-n-but.false in
     (omega arith, sym (ap (among s.row.now) o) ∙ l.invariant.1)
 
-returns-2 : tie.Need-returns-2 invariant-loop decreases-loop
+returns-2 : tie.Need-returns invariant-loop decreases-loop
 returns-2 c =
-    let s = c.before.before.before.before.before.args in
-    let l = c.before.loop in
+    let s = c.args in
+    let l = c.loop-n in
     sym (none_left s.cells.now s.starts.now s.but s.row.now l.end (omega arith)) ∙ l.invariant.1
 
-pub stands-among-spec : {M : Type 1} → statement M
-stands-among-spec =
+pub stands_among_spec : {M : Type 1} → statement M
+stands_among_spec =
     tie.close
     (tie.spec
     invariant-loop
