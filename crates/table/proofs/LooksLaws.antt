@@ -76,6 +76,13 @@ module _ (c : ℕ) where
   unfolding arity
   args_are e = sym (ap (λ (v : Values). v.args) e)
 
+-- A cell whose high half is that of a name, as it is looked at.
+pub name_read : (row : Bool) (c vars p : ℕ) → 16384 ≤ c / 2 ^ 16 → c / 2 ^ 16 ≤ 16388 → cell_from row c vars p ≡ read vars
+name_read row c vars p l h = a-name row c vars p (high-name c l h)
+
+pub name_args : (c : ℕ) → 16384 ≤ c / 2 ^ 16 → c / 2 ^ 16 ≤ 16388 → arity c ≡ c / 2 ^ 16 - 16384
+name_args c l h = sym (args_are c (high-name c l h))
+
 -- A test that holds decides, and otherwise what comes after it.
 when-both : {A : Type 0} (b : Bool) (f : Refused) {r s : Read A} → (b ≡ false → r ≡ s) → when b f r ≡ when b f s
 when-both true f e = refl

@@ -8,7 +8,7 @@ use Prim.Native.Nat.{ℕ, zero, suc, ◌+◌, ◌≤◌, ◌<◌}
 use native.Mathlib.Decide.{dec_lt}
 use native.Mathlib.Omega.{arith}
 use lib.Dec.{eqb}
-use borrow.Author.Tests.{ne_eqb}
+use borrow.Author.Tests.{ne_eqb, eq-eqb}
 use Rattle.cell.specs.Cell.{Cell, Values, values, values_at, is_var}
 use Rattle.cell.specs.Cell as cell-specs
 use Rattle.cell.proofs.CellLaws.{Reading, a-variable, no_cell, reading, cell-accepted, is_var-kind}
@@ -70,7 +70,7 @@ met-old c zero h = absurd (omega arith)
 met-old c (suc n) h =
     by_cases (dec_lt c n)
     (λ (l : c < n). rw (ne_eqb c n (λ e. omega arith), met-old c n l))
-    (λ l. let e : c ≡ n = omega arith in rw (e, eqb_same n, met-new n n (omega arith)))
+    (λ l. let e : c ≡ n = omega arith in rw (eq-eqb c n e, met-new c n (omega arith)))
 
 -- the first appearances in a list with one more cell in front
 module _ (c : ℕ) (ys : List ℕ) where

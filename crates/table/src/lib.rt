@@ -15,7 +15,7 @@ use refusal::{Input, Reason, Refusal};
 use terms::TermsRead;
 
 // A table that is read: its width and its number of rows; or why it is turned away.
-#[derive(Drop)]
+#[derive(Clone, Copy)]
 pub enum TableAnswer {
     Accepted(usize, usize),
     Refused(Refusal),
@@ -43,7 +43,7 @@ pub enum RowAnswer {
 }
 
 // Where the cells of a row are in the table: from a start up to an end, both 0 where there is no such row.
-#[derive(Drop)]
+#[derive(Clone, Copy)]
 pub struct Part {
     pub start: usize,
     pub end: usize,

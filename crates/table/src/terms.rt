@@ -46,6 +46,7 @@ pub fn refusal(row: bool, reason: Reason, place: usize) -> Refusal
 
 // One cell, with so many variables met before it: CELL, FRESH. It is told by its high half, which is 0x4000 and the number of arguments in a
 // name; most cells are names, so these come first.
+#[tactic(auto, using(crate::proofs::LooksLaws::name_read, crate::proofs::LooksLaws::name_args))]
 fn test_cell(c: u32, vars: usize, place: usize, row: bool) -> Tested
     requires { vars ≤ most_row_cells }
     ensures { (tested_told result ≡ cell_from row c vars place) × (args_told result ≡ arity c) }

@@ -5,31 +5,31 @@ use borrow.Author.Rules.{rules}
 use Rattle.table.proofs.read_goal.Statement.{statement}
 use Rattle.table.proofs.read_goal.Tie as tie
 
-read-table-requires : tie.Need-read-table-requires
+read-table-requires : tie.Need-read_table-answer-requires
 read-table-requires c κs = search rules
 
-enum-known-answer : tie.Need-enum-known-answer
+enum-known-answer : tie.Need-enum_known-answer
 enum-known-answer c = search rules
 
-goal-for-requires : tie.Need-goal-for-requires
+goal-for-requires : tie.Need-goal_for-requires
 goal-for-requires c κs = search rules
 
-enum-known-answer-2 : tie.Need-enum-known-answer-2
+enum-known-answer-2 : tie.Need-enum_known-answer-in-Refused-1
 enum-known-answer-2 c = search rules
 
-returns : tie.Need-returns
+returns : tie.Need-returns-in-Accepted
 returns c =
-    let r = says-read (table_of c.before.before.before.before.before.before.before.args.table.now)
-    (ap table_told (sym c.before.before.answer.given.1) ∙ c.before.before.before.before.read_table.ensures.answer) in
-    rw (r.1, r.2) c.goal-for.ensures
+    let r = says-read (table_of c.args.table.now)
+    (ap table_told (sym c.in-Accepted.is) ∙ c.read_table-answer.ensures.answer) in
+    rw (r.1, r.2) c.goal_for.ensures
 
-returns-2 : tie.Need-returns-2
+returns-2 : tie.Need-returns-in-Refused
 returns-2 c =
-    rw (says-turned (table_of c.before.before.before.before.before.before.args.table.now) (ap table_told (sym c.before.answer2.given.1)
-    ∙ c.before.before.before.read_table.ensures.answer))
+    rw (says-turned (table_of c.args.table.now) (ap table_told (sym c.in-Refused.is)
+    ∙ c.read_table-answer.ensures.answer))
 
-pub read-goal-spec : {M : Type 1} → statement M
-read-goal-spec =
+pub read_goal_spec : {M : Type 1} → statement M
+read_goal_spec =
     tie.close
     (tie.spec
     read-table-requires

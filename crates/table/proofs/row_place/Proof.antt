@@ -11,59 +11,59 @@ use Rattle.table.proofs.row_place.Statement.{statement}
 use Rattle.table.proofs.row_place.Tie as tie
 
 -- the table is accepted, with as many rows as are counted
-accepted : (c : tie.After-answer) → (T : Table) × (table_of c.before.before.before.before.before.args.cells.now ≡ read T)
-    × (T.width ≡ c.answer.given.0.0) × (length T.rows ≡ c.answer.given.0.1.0)
+accepted : (c : tie.In-Accepted) → (T : Table) × (table_of c.args.cells.now ≡ read T)
+    × (T.width ≡ c.in-Accepted.field-0) × (length T.rows ≡ c.in-Accepted.count)
 accepted c =
-    says-read (table_of c.before.before.before.before.before.args.cells.now) (ap table_told (sym c.answer.given.1)
-    ∙ c.before.before.before.read_table.ensures.answer)
+    says-read (table_of c.args.cells.now) (ap table_told (sym c.in-Accepted.is)
+    ∙ c.read_table-read.ensures.answer)
 
-small : (c : tie.After-answer) → c.answer.given.0.1.0 ≤ 64
-small c = let k = accepted c in omega (arith, k.3, (is-table c.before.before.before.before.before.args.cells.now k.1).count.1)
+small : (c : tie.In-Accepted) → c.in-Accepted.count ≤ 64
+small c = let k = accepted c in omega (arith, k.3, (is-table c.args.cells.now k.1).count.1)
 
-read-table-requires : tie.Need-read-table-requires
+read-table-requires : tie.Need-read_table-read-requires
 read-table-requires c κs = search rules
 
-enum-known-answer : tie.Need-enum-known-answer
+enum-known-answer : tie.Need-enum_known-answer
 enum-known-answer c = search rules
 
-enum_told : tie.Need-enum-told
+enum_told : tie.Need-enum_told-1
 enum_told c = search rules
 
-returns : tie.Need-returns
+returns : tie.Need-returns-in_default
 returns c =
-    let t = c.before.before.before.before.before.args.cells.now in
-    place-turned (table_of t) _ (says-turned (table_of t) (ap table_told (sym c.enum_told.given.1) ∙ c.before.before.before.read_table.ensures.answer))
+    let t = c.args.cells.now in
+    place-turned (table_of t) _ (says-turned (table_of t) (ap table_told (sym c.in_default.is) ∙ c.read_table-read.ensures.answer))
 
-returns-2 : tie.Need-returns-2
-returns-2 c = let k = accepted c.before.before in place_none _ k.1 _ (omega arith)
+returns-2 : tie.Need-returns-then-count-r
+returns-2 c = let k = accepted c.before in place_none _ k.1 _ (omega arith)
 
-mul-start : tie.Need-overflow-mul-start
-mul-start c = omega (arith, small c.before.before)
+mul-start : tie.Need-offset_bounds-starts-r
+mul-start c = omega (arith, small c.before)
 
-array-read-start : tie.Need-array-read-start
-array-read-start c = omega (arith, small c.before.before)
+array-read-start : tie.Need-bounds-starts-r
+array-read-start c = omega (arith, small c.before)
 
-add-next : tie.Need-overflow-add-next
+add-next : tie.Need-overflow_add-next
 add-next c = search rules
 
-mul-end : tie.Need-overflow-mul-end
-mul-end c = omega (arith, small c.before.before.before)
+mul-end : tie.Need-offset_bounds-starts-next
+mul-end c = omega (arith, small c.before.before)
 
-array-read-end : tie.Need-array-read-end
-array-read-end c = omega (arith, small c.before.before.before)
+array-read-end : tie.Need-bounds-starts-next
+array-read-end c = omega (arith, small c.before.before)
 
-returns-3 : tie.Need-returns-3
+returns-3 : tie.Need-returns-then-next-count
 returns-3 c =
-    let k = accepted c.before.before.before in
-    place-next _ k.1 _ c.before.before.before.before.before.before.read_table.ensures.starts (omega arith)
+    let k = accepted c.before.before in
+    place-next _ k.1 _ c.read_table-read.ensures.starts (omega arith)
 
-returns-4 : tie.Need-returns-4
+returns-4 : tie.Need-returns-else-next-count
 returns-4 c =
-    let k = accepted c.before.before.before in
-    place-last _ k.1 _ c.before.before.before.before.before.before.read_table.ensures.starts (omega arith)
+    let k = accepted c.before.before in
+    place-last _ k.1 _ c.read_table-read.ensures.starts (omega arith)
 
-pub row-place-spec : {M : Type 1} → statement M
-row-place-spec =
+pub row_place_spec : {M : Type 1} → statement M
+row_place_spec =
     tie.close
     (tie.spec
     read-table-requires

@@ -1,11 +1,11 @@
 use Rattle.table.proofs.terms.refusal.Statement.{statement}
 use Rattle.table.proofs.terms.refusal.Tie as tie
 
-returns : tie.Need-returns
-returns c = rw c.if1.true
+returns : tie.Need-returns-then-row
+returns c = rw c.if-row.true
 
-returns-2 : tie.Need-returns-2
-returns-2 c = rw c.if1.false
+returns-2 : tie.Need-returns-else-row
+returns-2 c = rw c.if-row.false
 
-pub refusal-spec : {M : Type 1} → statement M
-refusal-spec = tie.close (tie.spec returns returns-2)
+pub refusal_spec : {M : Type 1} → statement M
+refusal_spec = tie.close (tie.spec returns returns-2)
