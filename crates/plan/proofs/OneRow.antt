@@ -35,6 +35,12 @@ whole_of (suc i) (suc k) (c ∷ xs) (d ∷ ys) (more t) (more u) h er ec =
     let rest : xs ≡ ys =
     whole_of (arity c + i) (arity c + k) xs ys (rw q at t) (rw q' at u) (omega arith) (er ∙ rw cd) (es ∙ rw cd) in
     cc
+whole_of zero k [] ys t u h er ec = elim t [ ]
+whole_of zero k (c ∷ xs) [] t u h er ec = elim u [ ]
+whole_of (suc i) zero [] ys t u h er ec = elim t [ ]
+whole_of (suc i) zero (c ∷ xs) [] t u h er ec = elim u [ ]
+whole_of (suc i) (suc k) [] ys t u h er ec = elim t [ ]
+whole_of (suc i) (suc k) (c ∷ xs) [] t u h er ec = elim u [ ]
 
 -- and whether it has a variable
 ground-of : (i k : ℕ) (xs : List ℕ) → Terms (suc k) xs → i ≤ k → is_var (root i xs) ≡ false → Ground (close i xs) → Ground xs
@@ -44,6 +50,9 @@ ground-of (suc i) zero (c ∷ xs) t h v g = absurd (omega arith)
 ground-of (suc i) (suc k) (c ∷ xs) (more t) h v g =
     let q : arity c + suc k ≡ suc (arity c + k) = omega arith in
     (g.0, ground-of (arity c + i) (arity c + k) xs (rw q at t) (omega arith) v g.1)
+ground-of zero k [] t h v g = elim t [ ]
+ground-of (suc i) zero [] t h v g = elim t [ ]
+ground-of (suc i) (suc k) [] t h v g = elim t [ ]
 
 module _ (i k : ℕ) (h : i ≤ k) where
   -- what is left of a row that has this cell at the place and is not a later copy of r

@@ -38,44 +38,53 @@ module _ {A : Type 0} (ok : ℕ → Bool) (n : Reason) (f : ℕ → List ℕ →
 -- a leaf: ENDS, ROWS, or read
 module _ (rows : List (List ℕ)) (xs : List ℕ) (i : ℕ) where
   pub leaf-ends : length xs ≤ i → leaf_from rows i (drop i xs) ≡ refuse (bad_plan reason.Ends i)
-  leaf-ends h = cell-ends _ reason.Rows _ xs i h
+  leaf-ends h = cell-ends (λ c. eqb c (length rows)) reason.Rows (λ c ys. read (seen 0 (suc i) ys)) xs i h
 
   pub leaf-rows : i < length xs → get_or xs i 0 ≢ length rows → leaf_from rows i (drop i xs) ≡ refuse (bad_plan reason.Rows i)
-  leaf-rows h e = cell-bad _ reason.Rows _ xs i h (ne_eqb _ _ e)
+  leaf-rows h e = cell-bad (λ c. eqb c (length rows)) reason.Rows (λ c ys. read (seen 0 (suc i) ys)) xs i h (ne_eqb _ _ e)
 
   pub leaf-read : i < length xs → get_or xs i 0 ≡ length rows → leaf_from rows i (drop i xs) ≡ read (seen 0 (i + 1) (drop (i + 1) xs))
-  leaf-read h e = cell-on _ reason.Rows (λ c ys. read (seen 0 (suc i) ys)) xs i h (eq-eqb _ _ e) ∙ rw (add-one i)
+  leaf-read h e = cell-on (λ c. eqb c (length rows)) reason.Rows (λ c ys. read (seen 0 (suc i) ys)) xs i h (eq-eqb _ _ e) ∙ rw (add-one i)
 
 -- an inner state with k + 1 open places: ENDS, OPEN, EARLY, ENDS, EDGES, or on with the branches
 module _ (below : Reader) (fs : List Bool) (k : ℕ) (rows : List (List ℕ)) (xs : List ℕ) (i : ℕ) where
+  -- what is read once the place is known, and once the number of branches is
+  abbrev at-edges : ℕ → ℕ → List ℕ → Read Seen
+  at-edges x c zs = branches_from below fs x k (runs x rows) (suc (suc i)) zs
+
+  abbrev at-open : ℕ → List ℕ → Read Seen
+  at-open x ys =
+      when (not (may fs x)) (bad_plan reason.Early i) (
+      cell_then (λ c. eqb c (length (runs x rows))) reason.Edges (suc i) (at-edges x) ys)
+
   pub node-ends : length xs ≤ i → node_from below fs k rows i (drop i xs) ≡ refuse (bad_plan reason.Ends i)
-  node-ends h = cell-ends _ reason.Open _ xs i h
+  node-ends h = cell-ends (λ c. leb c k) reason.Open at-open xs i h
 
   pub node-open : i < length xs → k < get_or xs i 0 → node_from below fs k rows i (drop i xs) ≡ refuse (bad_plan reason.Open i)
-  node-open h e = cell-bad _ reason.Open _ xs i h (lt-leb _ _ e)
+  node-open h e = cell-bad (λ c. leb c k) reason.Open at-open xs i h (lt-leb _ _ e)
 
   pub node-early : i < length xs → get_or xs i 0 ≤ k → may fs (get_or xs i 0) ≡ false → node_from below fs k rows i (drop i xs) ≡ refuse (bad_plan reason.Early i)
-  node-early h e y = cell-on _ reason.Open _ xs i h (le-leb _ _ e) ∙ rw y
+  node-early h e y = cell-on (λ c. leb c k) reason.Open at-open xs i h (le-leb _ _ e) ∙ rw y
 
   node-edge : i < length xs → get_or xs i 0 ≤ k → may fs (get_or xs i 0) ≡ true → node_from below fs k rows i (drop i xs)
       ≡ cell_then (λ c. eqb c (length (runs (get_or xs i 0) rows))) reason.Edges (i + 1)
       (λ m zs. branches_from below fs (get_or xs i 0) k (runs (get_or xs i 0) rows) (i + 2) zs) (drop (i + 1) xs)
-  node-edge h e y = let z : i + 2 ≡ suc (suc i) = omega arith in cell-on _ reason.Open _ xs i h (le-leb _ _ e) ∙ rw (y, add-one i, z)
+  node-edge h e y = let z : i + 2 ≡ suc (suc i) = omega arith in cell-on (λ c. leb c k) reason.Open at-open xs i h (le-leb _ _ e) ∙ rw (y, add-one i, z)
 
   pub node-ends-2 : i < length xs → length xs ≤ i + 1 → get_or xs i 0 ≤ k → may fs (get_or xs i 0) ≡ true
       → node_from below fs k rows i (drop i xs) ≡ refuse (bad_plan reason.Ends (i + 1))
-  node-ends-2 h l e y = node-edge h e y ∙ cell-ends _ reason.Edges _ xs (i + 1) l
+  node-ends-2 h l e y = node-edge h e y ∙ cell-ends (λ c. eqb c (length (runs (get_or xs i 0) rows))) reason.Edges (λ m zs. branches_from below fs (get_or xs i 0) k (runs (get_or xs i 0) rows) (i + 2) zs) xs (i + 1) l
 
   pub node-edges : i + 1 < length xs → get_or xs i 0 ≤ k → may fs (get_or xs i 0) ≡ true → get_or xs (i + 1) 0 ≢ length (runs (get_or xs i 0) rows)
       → node_from below fs k rows i (drop i xs) ≡ refuse (bad_plan reason.Edges (i + 1))
-  node-edges h e y m = node-edge (omega arith) e y ∙ cell-bad _ reason.Edges _ xs (i + 1) h (ne_eqb _ _ m)
+  node-edges h e y m = node-edge (omega arith) e y ∙ cell-bad (λ c. eqb c (length (runs (get_or xs i 0) rows))) reason.Edges (λ m zs. branches_from below fs (get_or xs i 0) k (runs (get_or xs i 0) rows) (i + 2) zs) xs (i + 1) h (ne_eqb _ _ m)
 
   pub node-on : i + 1 < length xs → get_or xs i 0 ≤ k → may fs (get_or xs i 0) ≡ true → get_or xs (i + 1) 0 ≡ length (runs (get_or xs i 0) rows)
       → node_from below fs k rows i (drop i xs) ≡ branches_from below fs (get_or xs i 0) k (runs (get_or xs i 0) rows) (i + 2) (drop (i + 2) xs)
   node-on h e y m =
       let z : i + 1 + 1 ≡ i + 2 = omega arith in
       node-edge (omega arith) e y
-      ∙ cell-on _ reason.Edges (λ m zs. branches_from below fs (get_or xs i 0) k (runs (get_or xs i 0) rows) (i + 2) zs) xs (i + 1) h (eq-eqb _ _ m)
+      ∙ cell-on (λ c. eqb c (length (runs (get_or xs i 0) rows))) reason.Edges (λ m zs. branches_from below fs (get_or xs i 0) k (runs (get_or xs i 0) rows) (i + 2) zs) xs (i + 1) h (eq-eqb _ _ m)
       ∙ ap (λ (j : ℕ). branches_from below fs (get_or xs i 0) k (runs (get_or xs i 0) rows) (i + 2) (drop j xs)) z
 
 -- a state by its number of open places: a leaf where there is none
@@ -112,17 +121,23 @@ after-each (refuse g) f = refl
 
 -- the branches of some runs: ENDS, LABEL, what the state below is refused for, or on with the other runs
 module _ (below : Reader) (fs : List Bool) (j k : ℕ) (g : Run) (gs : List Run) (xs : List ℕ) (i : ℕ) where
+  abbrev at-label : ℕ → List ℕ → Read Seen
+  at-label c ys =
+      and_then (below (spread j (arity g.cell) fs) (arity g.cell + k) g.rows (suc i) ys) (λ (s : Seen).
+      and_then (branches_from below fs j k gs s.next s.rest) (λ (t : Seen).
+      read (seen (suc (s.branches + t.branches)) t.next t.rest)))
+
   pub branches-ends : length xs ≤ i → branches_from below fs j k (g ∷ gs) i (drop i xs) ≡ refuse (bad_plan reason.Ends i)
-  branches-ends h = cell-ends _ reason.Label _ xs i h
+  branches-ends h = cell-ends (λ c. eqb c g.cell) reason.Label at-label xs i h
 
   pub branches-label : i < length xs → get_or xs i 0 ≢ g.cell → branches_from below fs j k (g ∷ gs) i (drop i xs) ≡ refuse (bad_plan reason.Label i)
-  branches-label h e = cell-bad _ reason.Label _ xs i h (ne_eqb _ _ e)
+  branches-label h e = cell-bad (λ c. eqb c g.cell) reason.Label at-label xs i h (ne_eqb _ _ e)
 
   branches-below : i < length xs → get_or xs i 0 ≡ g.cell → branches_from below fs j k (g ∷ gs) i (drop i xs)
       ≡ and_then (below (spread j (arity g.cell) fs) (arity g.cell + k) g.rows (i + 1) (drop (i + 1) xs))
       (λ (s : Seen). after (s.branches + 1) (branches_from below fs j k gs s.next s.rest))
   branches-below h e =
-      cell-on _ reason.Label _ xs i h (eq-eqb _ _ e)
+      cell-on (λ c. eqb c g.cell) reason.Label at-label xs i h (eq-eqb _ _ e)
       ∙ rw (add-one i)
       (after-each (below (spread j (arity g.cell) fs) (arity g.cell + k) g.rows (suc i) (drop (suc i) xs))
       (λ (s : Seen). branches_from below fs j k gs s.next s.rest))

@@ -1,6 +1,6 @@
 -- A variable that stands twice, by how often each cell stands in a list; and the rows of runs, cell by cell.
 use Prim.Native.Nat.{ℕ, zero, suc, ◌+◌, ◌≤◌, ◌<◌}
-use mathlib.Core.Path.{◌≡◌, refl, sym, ◌∙◌, ap}
+use mathlib.Core.Path.{◌≡◌, refl, sym, ◌∙◌, ap, subst}
 use mathlib.Core.Logic.{⊎_elim, by_cases}
 use mathlib.Core.Bool.{Bool, true, false, cond, ◌&&◌, ◌||◌, true≢false}
 use mathlib.Core.List.{List, [], ◌∷◌, Memᴰ}
@@ -8,7 +8,7 @@ use native.Mathlib.Decide.{ℕ_discrete}
 use native.Mathlib.Omega.{arith}
 use lib.Dec.{eqb, ltb}
 use lib.ListN.{length}
-use borrow.Author.Tests.{ne_eqb, le-ltb, ltb-false}
+use borrow.Author.Tests.{ne_eqb, eq-eqb, le-ltb, ltb-false}
 use Rattle.cell.specs.Cell.{arity, is_var}
 use Rattle.term.specs.Terms.{Terms, more, root, close}
 use Rattle.term.proofs.Tests.{bool_cases, eqb_same}
@@ -47,7 +47,8 @@ twice-once (c ∷ xs) e v h =
     let o = or-false (is_var c && ltb 0 (count c xs)) (twice xs) e in
     by_cases (ℕ_discrete v c)
     (λ q. let z = and-off (is_var c) (ltb 0 (count c xs)) (ap is_var (sym q) ∙ h) o.0 in let n = ltb-false 0 (count c xs) z in
-    rw (q, eqb_same c) (omega arith))
+    let m : count v xs ≤ 0 = subst (λ (x : ℕ). count x xs ≤ 0) (sym q) n in
+    rw (eq-eqb v c q) (omega arith))
     (λ q. let n = twice-once xs o.1 v h in rw (ne_eqb v c q) (omega arith))
 
 pub once-twice : (xs : List ℕ) → ((v : ℕ) → is_var v ≡ true → count v xs ≤ 1) → twice xs ≡ false
@@ -79,6 +80,9 @@ count-close v (suc i) (suc k) (c ∷ xs) (more t) h =
     let q : arity c + suc k ≡ suc (arity c + k) = omega arith in
     let ih = count-close v (arity c + i) (arity c + k) xs (rw q at t) (omega arith) in
     omega arith
+count-close v zero k [] t h = elim t [ ]
+count-close v (suc i) zero [] t h = elim t [ ]
+count-close v (suc i) (suc k) [] t h = elim t [ ]
 
 -- a variable's run has one row
 abbrev pub Lone : List Run → Type 0
@@ -105,6 +109,9 @@ module _ (P : ℕ → Type 0) where
   root-all (suc i) (suc k) (c ∷ xs) (more t) h a =
       let q : arity c + suc k ≡ suc (arity c + k) = omega arith in
       root-all (arity c + i) (arity c + k) xs (rw q at t) (omega arith) a.1
+  root-all zero k [] t h a = elim t [ ]
+  root-all (suc i) zero [] t h a = elim t [ ]
+  root-all (suc i) (suc k) [] t h a = elim t [ ]
 
   close-all : (i : ℕ) (xs : List ℕ) → All P xs → All P (close i xs)
   unfolding close
