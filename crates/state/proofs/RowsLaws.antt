@@ -197,7 +197,8 @@ module _ (t ss ms hs : List ℕ) (i : ℕ) where
       let e : sets (set ms r m) (suc r) rest ≡ set ns r m = rw q (sym (set-sets ms r (r + 1) m rest (omega arith))) in
       let here = get_or-set_same ns r m 0 (omega (arith, length-sets ms (r + 1) rest)) in
       let others = rows-kept t ss ns (set ns r m) n (r + 1) (drop-set-lt (r + 1) ns r m (omega arith)) in
-      rw (e, here, others, f r (omega arith) (omega arith), rows-closed n (r + 1) (omega arith) (λ s a b. f s (omega arith) (omega arith)))
+      ap (λ (z : List ℕ). rows_at t ss z (suc n) r) e
+      ∙ rw (here, others, f r (omega arith) (omega arith), rows-closed n (r + 1) (omega arith) (λ s a b. f s (omega arith) (omega arith)))
 
   pub closes-of : {ns ks : List ℕ} {first end : ℕ} → first ≤ end → end ≤ 64 → length ms ≡ 64 → length hs ≡ 64 → ClosedRows t ss ms hs ns ks i first (min end 64)
       → Closes t ss ms hs ns ks i first end

@@ -5,7 +5,7 @@ pub mod mask;
 
 // The rows of a state, from first to before end, how many places are open in each, and which of these are inside a named column (02, W-213):
 // bit i for open place i.
-#[derive(Drop)]
+#[derive(Clone, Copy)]
 pub struct Rows {
     pub first: usize,
     pub end: usize,

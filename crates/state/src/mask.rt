@@ -70,7 +70,7 @@ pub fn root_at(cells: &[u32], start: usize, mask: u32, i: u32) -> usize
 }
 
 // The cell at an open place, and the mask with that place closed; 0 and the mask itself where there is no such place.
-#[derive(Drop)]
+#[derive(Clone, Copy)]
 pub struct Closed {
     pub cell: u32,
     pub mask: u32,

@@ -8,43 +8,43 @@ use Rattle.state.proofs.FlagsLaws.{none_below, even_sum, odd-sum, even-few, odd-
 use Rattle.state.proofs.flags.spread.Statement.{statement}
 use Rattle.state.proofs.flags.spread.Tie as tie
 
-returns : tie.Need-returns
-returns c = let a = c.before.args in sym (none_below a.named a.i a.args c.if1.true)
+returns : tie.Need-returns-then-named-eq0
+returns c = let a = c.args in sym (none_below a.named a.i a.args c.if-named-eq0.true)
 
-returns-2 : tie.Need-returns-2
+returns-2 : tie.Need-returns-then-i-gt31
 unfolding spread_of
-returns-2 c = let a = c.before.before.args in rw (le-ltb a.i 32 (omega arith))
+returns-2 c = let a = c.args in rw (le-ltb a.i 32 (omega arith))
 
-returns-3 : tie.Need-returns-3
+returns-3 : tie.Need-returns-then-args-gt4
 unfolding spread_of
-returns-3 c = let a = c.before.before.before.args in rw (lt-ltb a.i 32 (omega arith), le-ltb a.args 5 (omega arith))
+returns-3 c = let a = c.args in rw (lt-ltb a.i 32 (omega arith), le-ltb a.args 5 (omega arith))
 
-returns-4 : tie.Need-returns-4
+returns-4 : tie.Need-returns-then-named-gt4294967295
 unfolding spread_of
 returns-4 c =
-    let a = c.before.before.before.before.args in
+    let a = c.args in
     rw (lt-ltb a.i 32 (omega arith), lt-ltb a.args 5 (omega arith), le-ltb a.named (2 ^ 32) (omega arith))
 
-shr-rest : tie.Need-overflow-shr-rest
+shr-rest : tie.Need-overflow_shr-rest
 shr-rest c = search rules
 
-shl-low : tie.Need-overflow-shl-low
+shl-low : tie.Need-overflow_shl-low
 shl-low c = search rules
 
-sub_low : tie.Need-overflow-sub-low
-sub_low c = let a = c.before.before.before.before.args in low-less a.named a.i a.args (omega arith) (omega arith)
+sub_low : tie.Need-overflow_sub-low
+sub_low c = let a = c.args in low-less a.named a.i a.args (omega arith) (omega arith)
 
-shl-high : tie.Need-overflow-shl-high
+shl-high : tie.Need-overflow_shl-high
 shl-high c = search rules
 
-shl-result : tie.Need-overflow-shl-result
+shl-result : tie.Need-overflow_shl-result
 shl-result c = search rules
 
 -- the place's flag does not stand
-add-result : tie.Need-overflow-add-result
+add-result : tie.Need-overflow_add-result
 add-result c =
-    let a = c.before.before.before.before.before.args in
-    let e = sym (lowest (a.named / 2 ^ a.i)) ∙ c.if5.true in
+    let a = c.args in
+    let e = sym (lowest (a.named / 2 ^ a.i)) ∙ c.if-rest-eq0.true in
     record {
       fits = omega (
         arith,
@@ -53,32 +53,32 @@ add-result c =
       );
     }
 
-returns-5 : tie.Need-returns-5
+returns-5 : tie.Need-returns-then-rest-eq0
 unfolding spread_of
 returns-5 c =
-    let a = c.before.before.before.before.before.args in
+    let a = c.args in
     rw (lt-ltb a.named (2 ^ 32) (omega arith), lt-ltb a.i 32 (omega arith), lt-ltb a.args 5 (omega arith))
-    (even_sum a.named a.i a.args (omega arith) (omega arith) (sym (lowest (a.named / 2 ^ a.i)) ∙ c.if5.true))
+    (even_sum a.named a.i a.args (omega arith) (omega arith) (sym (lowest (a.named / 2 ^ a.i)) ∙ c.if-rest-eq0.true))
 
-shl-ones : tie.Need-overflow-shl-ones
+shl-ones : tie.Need-overflow_shl-ones
 shl-ones c = search rules
 
-sub-ones : tie.Need-overflow-sub-ones
-sub-ones c = let a = c.before.before.before.before.before.args in some-ones a.named a.i a.args (omega arith) (omega arith)
+sub-ones : tie.Need-overflow_sub-ones
+sub-ones c = let a = c.args in some-ones a.named a.i a.args (omega arith) (omega arith)
 
-add-result-2 : tie.Need-overflow-add-result-2
+add-result-2 : tie.Need-overflow_add-result-2
 add-result-2 c =
-    let a = c.before.before.before.before.before.args in
+    let a = c.args in
     record { fits = omega (arith, ones-few a.named a.i a.args (omega arith) (omega arith)) }
 
-shl-result-2 : tie.Need-overflow-shl-result-2
+shl-result-2 : tie.Need-overflow_shl-result-2
 shl-result-2 c = search rules
 
 -- it stands
-add-result-3 : tie.Need-overflow-add-result-3
+add-result-3 : tie.Need-overflow_add-result-3
 add-result-3 c =
-    let a = c.before.before.before.before.before.args in
-    let e = is_odd (a.named / 2 ^ a.i) c.if5.false in
+    let a = c.args in
+    let e = is_odd (a.named / 2 ^ a.i) c.if-rest-eq0.false in
     record {
       fits = omega (
         arith,
@@ -87,15 +87,15 @@ add-result-3 c =
       );
     }
 
-returns-6 : tie.Need-returns-6
+returns-6 : tie.Need-returns
 unfolding spread_of
 returns-6 c =
-    let a = c.before.before.before.before.before.args in
+    let a = c.args in
     rw (lt-ltb a.named (2 ^ 32) (omega arith), lt-ltb a.i 32 (omega arith), lt-ltb a.args 5 (omega arith))
-    (odd-sum a.named a.i a.args (omega arith) (omega arith) (is_odd (a.named / 2 ^ a.i) c.if5.false))
+    (odd-sum a.named a.i a.args (omega arith) (omega arith) (is_odd (a.named / 2 ^ a.i) c.if-rest-eq0.false))
 
-pub spread-spec : {M : Type 1} → statement M
-spread-spec =
+pub spread_spec : {M : Type 1} → statement M
+spread_spec =
     tie.close
     (tie.spec
     returns
