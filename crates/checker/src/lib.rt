@@ -17,7 +17,7 @@ use state::flags::{Named, named_of};
 use table::TableAnswer;
 
 // The number of branches of an accepted plan, or why the table or the plan is turned away.
-#[derive(Drop)]
+#[derive(Clone, Copy)]
 pub enum PlanAnswer {
     Accepted(usize),
     Refused(Refusal),

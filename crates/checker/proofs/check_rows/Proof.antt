@@ -4,61 +4,61 @@ use borrow.Author.Rules.{rules}
 use Rattle.checker.proofs.check_rows.Statement.{statement}
 use Rattle.checker.proofs.check_rows.Tie as tie
 
-no-column-requires : tie.Need-no-column-requires
+no-column-requires : tie.Need-no_column-requires
 no-column-requires c κs = search rules
 
-returns : tie.Need-returns
-returns c = entry-column c.before.before.before.before.before.requires.0 _ _ _ c.before.if1.true c.no-column.ensures
+returns : tie.Need-returns-then-width-named
+returns c = entry-column c.requires.0 _ _ _ c.if-width-named.true c.no_column.ensures
 
 refusal-requires : tie.Need-refusal-requires
 refusal-requires c κs = search rules
 
-returns-2 : tie.Need-returns-2
+returns-2 : tie.Need-returns-then-plan-gt-PLAN_CELLS
 returns-2 c =
-    entry-size c.before.before.before.before.before.before.requires.0 _ _ _ c.before.before.if1.false c.before.if2.true
+    entry-size c.requires.0 _ _ _ c.if-width-named.false c.if-plan-gt-PLAN_CELLS.true
     c.refusal.ensures
 
-open-rows-requires : tie.Need-open-rows-requires
+open-rows-requires : tie.Need-open_rows-masks-requires
 open-rows-requires c κs = search rules
 
 state-requires : tie.Need-state-requires
 state-requires c κs =
-    let o = c.before.before in
-    let k = o.before.before.before.before.before.before.requires in
-    ready-first k.0 _ _ _ o.before.before.if1.false o.open-rows.ensures k.1 refl
+    let o = c in
+    let k = o.requires in
+    ready-first k.0 _ _ _ o.if-width-named.false o.open_rows-masks.ensures k.1 refl
 
-enum-known-branches : tie.Need-enum-known-branches
+enum-known-branches : tie.Need-enum_known-branches
 enum-known-branches c = search rules
 
-refusal-requires-2 : tie.Need-refusal-requires-2
+refusal-requires-2 : tie.Need-refusal-requires-then-next-plan
 refusal-requires-2 c κs = search rules
 
-returns-3 : tie.Need-returns-3
+returns-3 : tie.Need-returns-then-next-plan
 returns-3 c =
-    let s = c.before.before.before.before.before in
-    let o = s.before.before.before in
-    entry-extra o.before.before.before.before.before.before.requires.0 _ _ _ o.before.before.if1.false o.open-rows.ensures
-    o.before.if2.false s.state.ensures c.before.before.before.branches.given.1 c.before.if3.true c.refusal2.ensures
+    let s = c.before.before.before in
+    let o = s in
+    entry-extra o.requires.0 _ _ _ o.if-width-named.false o.open_rows-masks.ensures
+    o.if-plan-gt-PLAN_CELLS.false s.state.ensures c.in-Seen.is c.if-next-plan.true c.refusal-then-next-plan.ensures
 
-enum-known-f : tie.Need-enum-known-f
+enum-known-f : tie.Need-enum_known-f
 enum-known-f c = search rules
 
-returns-4 : tie.Need-returns-4
+returns-4 : tie.Need-returns-else-next-plan
 returns-4 c =
-    let s = c.before.before.before.before in
-    let o = s.before.before.before in
-    entry-accepted o.before.before.before.before.before.before.requires.0 _ _ _ o.before.before.if1.false o.open-rows.ensures
-    o.before.if2.false s.state.ensures c.before.before.branches.given.1 c.if3.false
+    let s = c.before.before in
+    let o = s in
+    entry-accepted o.requires.0 _ _ _ o.if-width-named.false o.open_rows-masks.ensures
+    o.if-plan-gt-PLAN_CELLS.false s.state.ensures c.in-Seen.is c.if-next-plan.false
 
-returns-5 : tie.Need-returns-5
+returns-5 : tie.Need-returns-in-Refused
 returns-5 c =
-    let s = c.before.before.before in
-    let o = s.before.before.before in
-    entry-refused o.before.before.before.before.before.before.requires.0 _ _ _ o.before.before.if1.false o.open-rows.ensures
-    o.before.if2.false s.state.ensures c.before.f.given.1
+    let s = c.before in
+    let o = s in
+    entry-refused o.requires.0 _ _ _ o.if-width-named.false o.open_rows-masks.ensures
+    o.if-plan-gt-PLAN_CELLS.false s.state.ensures c.in-Refused.is
 
-pub check-rows-spec : {M : Type 1} → statement M
-check-rows-spec =
+pub check_rows_spec : {M : Type 1} → statement M
+check_rows_spec =
     tie.close
     (tie.spec
     no-column-requires

@@ -34,6 +34,7 @@ use Rattle.state.proofs.flags.spread.Reads as spread-reads
 use Rattle.state.proofs.mask.close_rows.Reads as close-rows-reads
 use Rattle.checker.proofs.check.+branches_state.{statement}
 use Rattle.checker.proofs.check.+branches_state.Tie.{close}
+use Rattle.checker.proofs.check.+branches_state.Lts-branches.{else-named-ne0, then-named-ne0}
 
 -- two calls for each cell that the longest row still has: at most 64
 abbrev μ-branches : Measures 5 branches-kinds.ps ℕ
@@ -87,315 +88,315 @@ state-with t = (
   branches.Post,
 )
 
-abbrev branches-Inv-loop : branches-lts.invariant-loop
+abbrev branches-Inv-loop : branches-lts.invariant-loop-row
 branches-Inv-loop table starts masks₀ column₀ plan first end named i k at row₀ place₀ count₀ masks column row place count =
     Going table starts plan masks₀ column₀ first end named i k at masks column row place count
 
-abbrev branches-μ-loop : branches-lts.decreases-loop
+abbrev branches-μ-loop : branches-lts.decreases-loop-row
 branches-μ-loop table starts masks₀ column₀ plan first end named i k at row₀ place₀ count₀ masks column row place count =
     end - row
 
 -- the places of `branches` that its answers go back to: where the run's length is known, the turn of the loop before that, and the call before that
 abbrev At-run : ℕ → Type 0
-At-run t = branches-lts.After-run-length (branches-with t) (branches_at t) branches.Post branches-Inv-loop branches-μ-loop
+At-run t = branches-lts.After-run_length-n (branches-with t) (branches_at t) branches.Post branches-Inv-loop branches-μ-loop
 
-abbrev turn_at : (t : ℕ) → At-run t → branches-lts.At-loop (branches-with t) (branches_at t) branches.Post branches-Inv-loop branches-μ-loop
-turn_at t c = c.before.before.before.before.before.before.before.before.before
+abbrev turn_at : (t : ℕ) → At-run t → branches-lts.At-loop-row (branches-with t) (branches_at t) branches.Post branches-Inv-loop branches-μ-loop
+turn_at t c = c.before.before.before.before.before.before.before.before.before.before
 
 abbrev call_at : (t : ℕ) → At-run t → branches-lts.Start (branches-with t) (branches_at t) branches.Post branches-Inv-loop branches-μ-loop
-call_at t c = c.before.before.before.before.before.before.before.before.before.before.before.before
+call_at t c = c.before.before.before.before.before.before.before.before.before.before.before.before.before
 
 -- the turn
-turn : (t : ℕ) (c : At-run t) → let l = (turn_at t c).loop in let a = (call_at t c).args in
+turn : (t : ℕ) (c : At-run t) → let l = (turn_at t c).loop-row in let a = (call_at t c).args in
     Turn a.table.now a.starts.now a.plan.now a.masks.now a.column.now a.first a.end a.named a.i a.k a.at
-    l.masks l.column l.row l.place l.count c.run_length.result
+    l.masks l.column l.row l.place l.count c.run_length-n.result
 turn t c =
-    turn-of c.run_length.result c.before.before.before.before.before.before.before.before.before.loop.invariant
-    c.before.before.before.before.before.before.before.before.loop-test.true
-    c.before.before.before.before.before.before.before.if1.false c.before.before.before.before.if2.false c.run_length.ensures
+    turn-of c.run_length-n.result c.loop-row.invariant
+    c.loop-row-test.true
+    c.if-plan-place.false c.if-label-c.false c.run_length-n.ensures
 
 -- the flags below the branch: `spread`'s, which are none where none stand
 abbrev At-flags : ℕ → Type 0
-At-flags t = branches-lts.Joined3 (branches-with t) (branches_at t) branches.Post branches-Inv-loop branches-μ-loop
+At-flags t = branches-lts.Joined-named-ne0 (branches-with t) (branches_at t) branches.Post branches-Inv-loop branches-μ-loop
 
-flags-are : (t : ℕ) (j : At-flags t) → let a = (call_at t j.before.before).args in j.if3.flags ≡ spread_of a.named a.i j.before.arity-of.result
-flags-are t j = ⊎_elim (λ w. w.2 ∙ w.1.ensures) (λ w. w.1 ∙ sym (none_below _ _ _ w.0.left)) j.if3.branch
+flags-are : (t : ℕ) (j : At-flags t) → let a = (call_at t j.before.before).args in j.if-named-ne0.flags ≡ spread_of a.named a.i j.arity_of-args.result
+flags-are t j = elim j.if-named-ne0.branch [ then-named-ne0 w ↦ w.flags-is ∙ w.spread-flags.ensures | else-named-ne0 w ↦ w.flags-is ∙ sym (none_below _ _ _ w.if-named-ne0.false) ]
 
 -- the state below the branch, and its answer
 abbrev At-state : ℕ → Type 0
 At-state t = branches-lts.After-state (branches-with t) (branches_at t) branches.Post branches-Inv-loop branches-μ-loop
 
 below : (t : ℕ) (s : At-state t) → let c = s.before.before.before.before.before in
-    let l = (turn_at t c).loop in
+    let l = (turn_at t c).loop-row in
     let a = (call_at t c).args in
     let z = s.state.new in
-    Done a.table.now a.starts.now l.masks l.column z.1.1.0 z.1.1.1.0 a.plan.now
-    l.row (l.row + c.run_length.result) (spread_of a.named a.i (arity (get_or l.column l.row 0))) (arity (get_or l.column l.row 0) + a.k)
+    Done a.table.now a.starts.now l.masks l.column z.masks z.column a.plan.now
+    l.row (l.row + c.run_length-n.result) (spread_of a.named a.i (arity (get_or l.column l.row 0))) (arity (get_or l.column l.row 0) + a.k)
     (l.place + 1) s.state.result
-below t s = rw (flags-are t s.before.before.before, s.before.before.before.before.arity-of.ensures) at s.state.ensures
+below t s = rw (flags-are t s.before.before.before, s.arity_of-args.ensures) at s.state.ensures
 
-branches-loop-holds : (t : ℕ) → branches-lts.Need-loop-init (branches-with t) (branches_at t) branches.Post branches-Inv-loop branches-μ-loop
-branches-loop-holds t c = going_start c.before.before.requires.1
+branches-loop-holds : (t : ℕ) → branches-lts.Need-loop-row-init (branches-with t) (branches_at t) branches.Post branches-Inv-loop branches-μ-loop
+branches-loop-holds t c = going_start c.requires.1
 
 branches-refusal-requires : (t : ℕ) → branches-lts.Need-refusal-requires (branches-with t) (branches_at t) branches.Post branches-Inv-loop branches-μ-loop
 branches-refusal-requires t c κs = search rules
 
-branches-returns : (t : ℕ) → branches-lts.Need-returns (branches-with t) (branches_at t) branches.Post branches-Inv-loop branches-μ-loop
-branches-returns t c = going-ends c.before.before.before.loop.invariant c.before.before.loop-test.true c.before.if1.true c.refusal.ensures
+branches-returns : (t : ℕ) → branches-lts.Need-returns-then-plan-place (branches-with t) (branches_at t) branches.Post branches-Inv-loop branches-μ-loop
+branches-returns t c = going-ends c.loop-row.invariant c.loop-row-test.true c.if-plan-place.true c.refusal.ensures
 
-branches-mul-label : (t : ℕ) → branches-lts.Need-overflow-mul-label (branches-with t) (branches_at t) branches.Post branches-Inv-loop branches-μ-loop
+branches-mul-label : (t : ℕ) → branches-lts.Need-offset_bounds-plan-place (branches-with t) (branches_at t) branches.Post branches-Inv-loop branches-μ-loop
 branches-mul-label t c = search rules
 
-branches-shared-slice-read-label : (t : ℕ) → branches-lts.Need-shared-slice-read-label (branches-with t) (branches_at t) branches.Post
+branches-shared-slice-read-label : (t : ℕ) → branches-lts.Need-bounds-plan-place (branches-with t) (branches_at t) branches.Post
     branches-Inv-loop branches-μ-loop
 branches-shared-slice-read-label t c = search rules
 
-branches-mul-c : (t : ℕ) → branches-lts.Need-overflow-mul-c (branches-with t) (branches_at t) branches.Post branches-Inv-loop branches-μ-loop
+branches-mul-c : (t : ℕ) → branches-lts.Need-offset_bounds-column-row (branches-with t) (branches_at t) branches.Post branches-Inv-loop branches-μ-loop
 branches-mul-c t c = search rules
 
-branches-element-copy-out-c : (t : ℕ) → branches-lts.Need-element-copy-out-c (branches-with t) (branches_at t) branches.Post branches-Inv-loop branches-μ-loop
+branches-element-copy-out-c : (t : ℕ) → branches-lts.Need-bounds-column-row (branches-with t) (branches_at t) branches.Post branches-Inv-loop branches-μ-loop
 branches-element-copy-out-c t c = search rules
 
-branches-refusal-requires-2 : (t : ℕ) → branches-lts.Need-refusal-requires-2 (branches-with t) (branches_at t) branches.Post branches-Inv-loop branches-μ-loop
+branches-refusal-requires-2 : (t : ℕ) → branches-lts.Need-refusal-requires-then-label-c (branches-with t) (branches_at t) branches.Post branches-Inv-loop branches-μ-loop
 branches-refusal-requires-2 t c κs = search rules
 
-branches-returns-2 : (t : ℕ) → branches-lts.Need-returns-2 (branches-with t) (branches_at t) branches.Post branches-Inv-loop branches-μ-loop
+branches-returns-2 : (t : ℕ) → branches-lts.Need-returns-then-label-c (branches-with t) (branches_at t) branches.Post branches-Inv-loop branches-μ-loop
 branches-returns-2 t c =
-    going-label c.before.before.before.before.before.before.loop.invariant c.before.before.before.before.before.loop-test.true
-    c.before.before.before.before.if1.false c.before.if2.true c.refusal2.ensures
+    going-label c.loop-row.invariant c.loop-row-test.true
+    c.if-plan-place.false c.if-label-c.true c.refusal-then-label-c.ensures
 
-branches-mul-run-length : (t : ℕ) → branches-lts.Need-overflow-mul-run-length (branches-with t) (branches_at t) branches.Post branches-Inv-loop branches-μ-loop
+branches-mul-run-length : (t : ℕ) → branches-lts.Need-offset_bounds-cells-row (branches-with t) (branches_at t) branches.Post branches-Inv-loop branches-μ-loop
 branches-mul-run-length t c = search rules
 
-branches-sub-run-length : (t : ℕ) → branches-lts.Need-overflow-sub-run-length (branches-with t) (branches_at t) branches.Post branches-Inv-loop branches-μ-loop
+branches-sub-run-length : (t : ℕ) → branches-lts.Need-slice_bounds-run_length-count (branches-with t) (branches_at t) branches.Post branches-Inv-loop branches-μ-loop
 branches-sub-run-length t c = search rules
 
-branches-part-run-length-start : (t : ℕ) → branches-lts.Need-slice-bounds-run-length-start (branches-with t) (branches_at t) branches.Post branches-Inv-loop
+branches-part-run-length-start : (t : ℕ) → branches-lts.Need-slice_bounds-run_length-start (branches-with t) (branches_at t) branches.Post branches-Inv-loop
     branches-μ-loop
 branches-part-run-length-start t c = search rules
 
-branches-part-run-length-end : (t : ℕ) → branches-lts.Need-slice-bounds-run-length-end (branches-with t) (branches_at t) branches.Post branches-Inv-loop branches-μ-loop
+branches-part-run-length-end : (t : ℕ) → branches-lts.Need-slice_bounds-run_length-end (branches-with t) (branches_at t) branches.Post branches-Inv-loop branches-μ-loop
 branches-part-run-length-end t c = search rules
 
-branches-run-length-requires : (t : ℕ) → branches-lts.Need-run-length-requires (branches-with t) (branches_at t) branches.Post branches-Inv-loop branches-μ-loop
+branches-run-length-requires : (t : ℕ) → branches-lts.Need-run_length-n-requires (branches-with t) (branches_at t) branches.Post branches-Inv-loop branches-μ-loop
 branches-run-length-requires t c κs = search rules
 
-branches-arity-of-requires : (t : ℕ) → branches-lts.Need-arity-of-requires (branches-with t) (branches_at t) branches.Post branches-Inv-loop branches-μ-loop
+branches-arity-of-requires : (t : ℕ) → branches-lts.Need-arity_of-args-requires (branches-with t) (branches_at t) branches.Post branches-Inv-loop branches-μ-loop
 branches-arity-of-requires t c κs = search rules
 
-branches-spread-requires : (t : ℕ) → branches-lts.Need-spread-requires (branches-with t) (branches_at t) branches.Post branches-Inv-loop branches-μ-loop
+branches-spread-requires : (t : ℕ) → branches-lts.Need-spread-flags-requires (branches-with t) (branches_at t) branches.Post branches-Inv-loop branches-μ-loop
 branches-spread-requires t c κs = search rules
 
-branches-add-open : (t : ℕ) → branches-lts.Need-overflow-add-open (branches-with t) (branches_at t) branches.Post branches-Inv-loop branches-μ-loop
-branches-add-open t c = record { fits = omega (arith, few-open (ready-below (turn t c.before.before)), c.before.arity-of.ensures) }
+branches-add-open : (t : ℕ) → branches-lts.Need-overflow_add-open (branches-with t) (branches_at t) branches.Post branches-Inv-loop branches-μ-loop
+branches-add-open t c = record { fits = omega (arith, few-open (ready-below (turn t c.before.before)), c.arity_of-args.ensures) }
 
-branches-add-under : (t : ℕ) → branches-lts.Need-overflow-add-under (branches-with t) (branches_at t) branches.Post branches-Inv-loop branches-μ-loop
+branches-add-under : (t : ℕ) → branches-lts.Need-overflow_add-under (branches-with t) (branches_at t) branches.Post branches-Inv-loop branches-μ-loop
 branches-add-under t c = search rules
 
-branches-add-state : (t : ℕ) → branches-lts.Need-overflow-add-state (branches-with t) (branches_at t) branches.Post branches-Inv-loop branches-μ-loop
+branches-add-state : (t : ℕ) → branches-lts.Need-overflow_add-row (branches-with t) (branches_at t) branches.Post branches-Inv-loop branches-μ-loop
 branches-add-state t c = record { fits = omega (arith, (ready-below (turn t c.before.before.before.before)).room.few) }
 
 branches-state-requires : (t : ℕ) → branches-lts.Need-state-requires (branches-with t) (branches_at t) branches.Post branches-Inv-loop branches-μ-loop
 branches-state-requires t c κs =
     let w = turn t c.before.before.before.before in
-    (omega (arith, shorter-below w), rw (flags-are t c.before.before, c.before.before.before.arity-of.ensures) (ready-below w))
+    (omega (arith, shorter-below w), rw (flags-are t c.before.before, c.arity_of-args.ensures) (ready-below w))
 
-branches-enum-known-below : (t : ℕ) → branches-lts.Need-enum-known-below (branches-with t) (branches_at t) branches.Post branches-Inv-loop branches-μ-loop
+branches-enum-known-below : (t : ℕ) → branches-lts.Need-enum_known-below (branches-with t) (branches_at t) branches.Post branches-Inv-loop branches-μ-loop
 branches-enum-known-below t c = search rules
 
-branches-add-count : (t : ℕ) → branches-lts.Need-overflow-add-count (branches-with t) (branches_at t) branches.Post branches-Inv-loop branches-μ-loop
+branches-add-count : (t : ℕ) → branches-lts.Need-overflow_add-count (branches-with t) (branches_at t) branches.Post branches-Inv-loop branches-μ-loop
 branches-add-count t c =
     record {
       fits = omega (
         arith,
-        turn-next (turn t c.before.before.before.before.before.before.before.before)
-            (below t c.before.before.before) c.before.below.given.1,
+        turn-next (turn t c.before.before.before.before.before.before)
+            (below t c.before) c.in-Seen.is,
       );
     }
 
-branches-add-count-2 : (t : ℕ) → branches-lts.Need-overflow-add-count-2 (branches-with t) (branches_at t) branches.Post branches-Inv-loop branches-μ-loop
+branches-add-count-2 : (t : ℕ) → branches-lts.Need-overflow_add-count-in-Seen (branches-with t) (branches_at t) branches.Post branches-Inv-loop branches-μ-loop
 branches-add-count-2 t c =
-    let w = turn t c.before.before.before.before.before.before.before.before in
-    record { fits = omega (arith, turn-next w (below t c.before.before.before) c.before.below.given.1, w.going.few) }
+    let w = turn t c.before.before.before.before.before.before in
+    record { fits = omega (arith, turn-next w (below t c.before) c.in-Seen.is, w.going.few) }
 
-branches-enum-known-f : (t : ℕ) → branches-lts.Need-enum-known-f (branches-with t) (branches_at t) branches.Post branches-Inv-loop branches-μ-loop
+branches-enum-known-f : (t : ℕ) → branches-lts.Need-enum_known-f (branches-with t) (branches_at t) branches.Post branches-Inv-loop branches-μ-loop
 branches-enum-known-f t c = search rules
 
-branches-returns-3 : (t : ℕ) → branches-lts.Need-returns-3 (branches-with t) (branches_at t) branches.Post branches-Inv-loop branches-μ-loop
+branches-returns-3 : (t : ℕ) → branches-lts.Need-returns-in-Refused (branches-with t) (branches_at t) branches.Post branches-Inv-loop branches-μ-loop
 branches-returns-3 t c =
-    turn-refused (turn t c.before.before.before.before.before.before.before.before) (below t c.before.before.before)
-    c.before.f.given.1
+    turn-refused (turn t c.before.before.before.before.before.before) (below t c.before)
+    c.in-Refused.is
 
-branches-add-row : (t : ℕ) → branches-lts.Need-overflow-add-row (branches-with t) (branches_at t) branches.Post branches-Inv-loop branches-μ-loop
-branches-add-row t c = record { fits = omega (arith, (ready-below (turn t c.before.before.before.before.before.before.before.before)).room.few) }
+branches-add-row : (t : ℕ) → branches-lts.Need-overflow_add-row-in-loop-row (branches-with t) (branches_at t) branches.Post branches-Inv-loop branches-μ-loop
+branches-add-row t c = record { fits = omega (arith, (ready-below (turn t c.before.before.before.before.before.before)).room.few) }
 
-branches-loop-less : (t : ℕ) → branches-lts.Need-loop-smaller (branches-with t) (branches_at t) branches.Post branches-Inv-loop branches-μ-loop
-branches-loop-less t c = omega (arith, (turn t c.before.before.before.before.before.before.before.before).run.some)
+branches-loop-less : (t : ℕ) → branches-lts.Need-loop-row-smaller (branches-with t) (branches_at t) branches.Post branches-Inv-loop branches-μ-loop
+branches-loop-less t c = omega (arith, (turn t c.before.before.before.before.before.before).run.some)
 
-branches-loop-again : (t : ℕ) → branches-lts.Need-loop-preserved (branches-with t) (branches_at t) branches.Post branches-Inv-loop branches-μ-loop
+branches-loop-again : (t : ℕ) → branches-lts.Need-loop-row-preserved (branches-with t) (branches_at t) branches.Post branches-Inv-loop branches-μ-loop
 branches-loop-again t c =
-    turn_on (turn t c.before.before.before.before.before.before.before.before) (below t c.before.before.before)
-    c.before.below.given.1
+    turn_on (turn t c.before.before.before.before.before.before) (below t c.before)
+    c.in-Seen.is
 
-branches-returns-4 : (t : ℕ) → branches-lts.Need-returns-4 (branches-with t) (branches_at t) branches.Post branches-Inv-loop branches-μ-loop
-branches-returns-4 t c = going_done c.before.loop.invariant c.loop-test.false
+branches-returns-4 : (t : ℕ) → branches-lts.Need-returns (branches-with t) (branches_at t) branches.Post branches-Inv-loop branches-μ-loop
+branches-returns-4 t c = going_done c.loop-row.invariant c.loop-row-test.false
 
 -- the places of `state` that its answers go back to: where its runs are counted, where its rows are closed, and the call; and that the place may be chosen
 abbrev At-closed : ℕ → Type 0
-At-closed t = state-lts.After-close-rows (state-with t) (state-at t) state.Post
+At-closed t = state-lts.After-close_rows (state-with t) (state-at t) state.Post
 
-abbrev closed : (t : ℕ) → state-lts.After-run-count (state-with t) (state-at t) state.Post → At-closed t
+abbrev closed : (t : ℕ) → state-lts.After-run_count (state-with t) (state-at t) state.Post → At-closed t
 closed t c = c.before.before.before.before.before.before
 
 abbrev asked : (t : ℕ) → At-closed t → state-lts.Start (state-with t) (state-at t) state.Post
 asked t r = r.before.before.before.before.before.before.before.before.before.before.before.before
 
 chosen : (t : ℕ) (r : At-closed t) → let a = (asked t r).args in may_in a.named (get_or a.plan.now a.at 0) ≡ true
-chosen t r = let e = r.before.before.before in sym e.before.may.ensures ∙ not-false _ e.if6.false
+chosen t r = let e = r in sym e.may.ensures ∙ not-false _ e.if-not-may.false-raw
 
-state-sub-rows : (t : ℕ) → state-lts.Need-overflow-sub-rows (state-with t) (state-at t) state.Post
+state-sub-rows : (t : ℕ) → state-lts.Need-overflow_sub-rows (state-with t) (state-at t) state.Post
 state-sub-rows t c = search rules
 
-state-mul-alone : (t : ℕ) → state-lts.Need-overflow-mul-alone (state-with t) (state-at t) state.Post
+state-mul-alone : (t : ℕ) → state-lts.Need-offset_bounds-starts-first (state-with t) (state-at t) state.Post
 state-mul-alone t c = search rules
 
-state-element-copy-out-alone : (t : ℕ) → state-lts.Need-element-copy-out-alone (state-with t) (state-at t) state.Post
+state-element-copy-out-alone : (t : ℕ) → state-lts.Need-bounds-starts-first (state-with t) (state-at t) state.Post
 state-element-copy-out-alone t c = search rules
 
-state-mul-alone-2 : (t : ℕ) → state-lts.Need-overflow-mul-alone-2 (state-with t) (state-at t) state.Post
+state-mul-alone-2 : (t : ℕ) → state-lts.Need-offset_bounds-masks-first (state-with t) (state-at t) state.Post
 state-mul-alone-2 t c = search rules
 
-state-element-copy-out-alone-2 : (t : ℕ) → state-lts.Need-element-copy-out-alone-2 (state-with t) (state-at t) state.Post
+state-element-copy-out-alone-2 : (t : ℕ) → state-lts.Need-bounds-masks-first (state-with t) (state-at t) state.Post
 state-element-copy-out-alone-2 t c = search rules
 
 state-alone-requires : (t : ℕ) → state-lts.Need-alone-requires (state-with t) (state-at t) state.Post
-state-alone-requires t c κs = fits-alone c.before.before.before.before.before.before.requires.1 c.before.before.before.if1.true
+state-alone-requires t c κs = fits-alone c.requires.1 c.if-rows-eq1.true
 
-state-returns : (t : ℕ) → state-lts.Need-returns (state-with t) (state-at t) state.Post
+state-returns : (t : ℕ) → state-lts.Need-returns-then-named-eq0 (state-with t) (state-at t) state.Post
 state-returns t c =
-    done-alone c.before.before.before.before.before.before.before.requires.1 c.before.before.before.before.if1.true
-    (eqb-true _ 0 c.before.before.before.if2.true) c.alone.ensures
+    done-alone c.requires.1 c.if-rows-eq1.true
+    c.if-named-eq0.true c.alone.ensures
 
 state-leaf-requires : (t : ℕ) → state-lts.Need-leaf-requires (state-with t) (state-at t) state.Post
 state-leaf-requires t c κs = search rules
 
-state-returns-2 : (t : ℕ) → state-lts.Need-returns-2 (state-with t) (state-at t) state.Post
-state-returns-2 t c = done-leaf c.before.before.before.before.before.requires.1 c.before.if3.true c.leaf.ensures
+state-returns-2 : (t : ℕ) → state-lts.Need-returns-then-k-eq0 (state-with t) (state-at t) state.Post
+state-returns-2 t c = done-leaf c.requires.1 c.if-k-eq0.true c.leaf.ensures
 
 state-refusal-requires : (t : ℕ) → state-lts.Need-refusal-requires (state-with t) (state-at t) state.Post
 state-refusal-requires t c κs = search rules
 
-state-returns-3 : (t : ℕ) → state-lts.Need-returns-3 (state-with t) (state-at t) state.Post
-state-returns-3 t c = done-ends c.before.before.before.before.before.before.requires.1 (omega arith) c.before.if4.true c.refusal.ensures
+state-returns-3 : (t : ℕ) → state-lts.Need-returns-then-plan-at (state-with t) (state-at t) state.Post
+state-returns-3 t c = done-ends c.requires.1 (omega arith) c.if-plan-at.true c.refusal.ensures
 
-state-mul-i : (t : ℕ) → state-lts.Need-overflow-mul-i (state-with t) (state-at t) state.Post
+state-mul-i : (t : ℕ) → state-lts.Need-offset_bounds-plan-at (state-with t) (state-at t) state.Post
 state-mul-i t c = search rules
 
-state-shared-slice-read-i : (t : ℕ) → state-lts.Need-shared-slice-read-i (state-with t) (state-at t) state.Post
+state-shared-slice-read-i : (t : ℕ) → state-lts.Need-bounds-plan-at (state-with t) (state-at t) state.Post
 state-shared-slice-read-i t c = search rules
 
-state-cast-if5 : (t : ℕ) → state-lts.Need-overflow-cast-if5 (state-with t) (state-at t) state.Post
-state-cast-if5 t c = record { fits = omega (arith, c.shared-slice-known3.given c.before.before.before.before.before.before.args.at) }
+state-cast-if5 : (t : ℕ) → state-lts.Need-overflow_cast-i (state-with t) (state-at t) state.Post
+state-cast-if5 t c = record { fits = omega (arith, c.shared_slice_known-3-1.given c.args.at) }
 
-state-refusal-requires-2 : (t : ℕ) → state-lts.Need-refusal-requires-2 (state-with t) (state-at t) state.Post
+state-refusal-requires-2 : (t : ℕ) → state-lts.Need-refusal-requires-then-k-i (state-with t) (state-at t) state.Post
 state-refusal-requires-2 t c κs = search rules
 
-state-returns-4 : (t : ℕ) → state-lts.Need-returns-4 (state-with t) (state-at t) state.Post
+state-returns-4 : (t : ℕ) → state-lts.Need-returns-then-k-i (state-with t) (state-at t) state.Post
 state-returns-4 t c =
-    done-open c.before.before.before.before.before.before.before.before.requires.1 (omega arith) (omega arith) c.before.if5.true
-    c.refusal2.ensures
+    done-open c.requires.1 (omega arith) (omega arith) c.if-k-i.true
+    c.refusal-then-k-i.ensures
 
 state-may-requires : (t : ℕ) → state-lts.Need-may-requires (state-with t) (state-at t) state.Post
 state-may-requires t c κs = search rules
 
-state-refusal-requires-3 : (t : ℕ) → state-lts.Need-refusal-requires-3 (state-with t) (state-at t) state.Post
+state-refusal-requires-3 : (t : ℕ) → state-lts.Need-refusal-requires-then-not-may (state-with t) (state-at t) state.Post
 state-refusal-requires-3 t c κs = search rules
 
-state-returns-5 : (t : ℕ) → state-lts.Need-returns-5 (state-with t) (state-at t) state.Post
+state-returns-5 : (t : ℕ) → state-lts.Need-returns-then-not-may (state-with t) (state-at t) state.Post
 state-returns-5 t c =
-    let m = c.before.before in
-    done-early m.before.before.before.before.before.before.before.before.requires.1 (omega arith) (omega arith) (omega arith)
-    (sym m.may.ensures ∙ not-true _ c.before.if6.true) c.refusal3.ensures
+    let m = c in
+    done-early m.requires.1 (omega arith) (omega arith) (omega arith)
+    (sym m.may.ensures ∙ not-true _ c.if-not-may.true-raw) c.refusal-then-not-may.ensures
 
-state-add-next : (t : ℕ) → state-lts.Need-overflow-add-next (state-with t) (state-at t) state.Post
+state-add-next : (t : ℕ) → state-lts.Need-overflow_add-next (state-with t) (state-at t) state.Post
 state-add-next t c = search rules
 
-state-refusal-requires-4 : (t : ℕ) → state-lts.Need-refusal-requires-4 (state-with t) (state-at t) state.Post
+state-refusal-requires-4 : (t : ℕ) → state-lts.Need-refusal-requires-then-plan-next (state-with t) (state-at t) state.Post
 state-refusal-requires-4 t c κs = search rules
 
-state-returns-6 : (t : ℕ) → state-lts.Need-returns-6 (state-with t) (state-at t) state.Post
+state-returns-6 : (t : ℕ) → state-lts.Need-returns-then-plan-next (state-with t) (state-at t) state.Post
 state-returns-6 t c =
     let r = c.before.before in
-    done-ends-2 (asked t r).requires.1 (omega arith) (omega arith) (chosen t r) r.close-rows.ensures (omega arith) c.before.if7.true
-    c.refusal4.ensures
+    done-ends-2 (asked t r).requires.1 (omega arith) (omega arith) (chosen t r) r.close_rows.ensures (omega arith) c.if-plan-next.true
+    c.refusal-then-plan-next.ensures
 
-state-close-rows-requires : (t : ℕ) → state-lts.Need-close-rows-requires (state-with t) (state-at t) state.Post
+state-close-rows-requires : (t : ℕ) → state-lts.Need-close_rows-requires (state-with t) (state-at t) state.Post
 state-close-rows-requires t c κs = search rules
 
-state-mul-if8 : (t : ℕ) → state-lts.Need-overflow-mul-if8 (state-with t) (state-at t) state.Post
+state-mul-if8 : (t : ℕ) → state-lts.Need-offset_bounds-plan-next (state-with t) (state-at t) state.Post
 state-mul-if8 t c = search rules
 
-state-shared-slice-read-if8 : (t : ℕ) → state-lts.Need-shared-slice-read-if8 (state-with t) (state-at t) state.Post
+state-shared-slice-read-if8 : (t : ℕ) → state-lts.Need-bounds-plan-next (state-with t) (state-at t) state.Post
 state-shared-slice-read-if8 t c = search rules
 
-state-cast-if8 : (t : ℕ) → state-lts.Need-overflow-cast-if8 (state-with t) (state-at t) state.Post
+state-cast-if8 : (t : ℕ) → state-lts.Need-overflow_cast-plan (state-with t) (state-at t) state.Post
 state-cast-if8 t c =
     record {
       fits = omega (
         arith,
-        c.shared-slice-known4.given
-            (c.before.before.before.before.before.before.before.before.before.before.before.before.before.before.before.before.args.at +
+        c.shared_slice_known-4-1.given
+            (c.args.at +
             1),
       );
     }
 
-state-mul-run-count : (t : ℕ) → state-lts.Need-overflow-mul-run-count (state-with t) (state-at t) state.Post
+state-mul-run-count : (t : ℕ) → state-lts.Need-offset_bounds-cells-first (state-with t) (state-at t) state.Post
 state-mul-run-count t c = search rules
 
-state-sub-run-count : (t : ℕ) → state-lts.Need-overflow-sub-run-count (state-with t) (state-at t) state.Post
+state-sub-run-count : (t : ℕ) → state-lts.Need-slice_bounds-run_count-count (state-with t) (state-at t) state.Post
 state-sub-run-count t c = search rules
 
-state-part-run-count-start : (t : ℕ) → state-lts.Need-slice-bounds-run-count-start (state-with t) (state-at t) state.Post
+state-part-run-count-start : (t : ℕ) → state-lts.Need-slice_bounds-run_count-start (state-with t) (state-at t) state.Post
 state-part-run-count-start t c = search rules
 
-state-part-run-count-end : (t : ℕ) → state-lts.Need-slice-bounds-run-count-end (state-with t) (state-at t) state.Post
+state-part-run-count-end : (t : ℕ) → state-lts.Need-slice_bounds-run_count-end (state-with t) (state-at t) state.Post
 state-part-run-count-end t c = search rules
 
-state-run-count-requires : (t : ℕ) → state-lts.Need-run-count-requires (state-with t) (state-at t) state.Post
+state-run-count-requires : (t : ℕ) → state-lts.Need-run_count-requires (state-with t) (state-at t) state.Post
 state-run-count-requires t c κs = search rules
 
-state-refusal-requires-5 : (t : ℕ) → state-lts.Need-refusal-requires-5 (state-with t) (state-at t) state.Post
+state-refusal-requires-5 : (t : ℕ) → state-lts.Need-refusal-requires-then-plan-next-2 (state-with t) (state-at t) state.Post
 state-refusal-requires-5 t c κs = search rules
 
-state-returns-7 : (t : ℕ) → state-lts.Need-returns-7 (state-with t) (state-at t) state.Post
+state-returns-7 : (t : ℕ) → state-lts.Need-returns-then-plan-next-2 (state-with t) (state-at t) state.Post
 state-returns-7 t c =
     let n = c.before.before in
     let r = closed t n in
-    done-edges (asked t r).pre.1 (omega arith) (omega arith) (chosen t r) r.close-rows.ensures n.run-count.result (omega arith)
-    n.run-count.ensures c.before.if8.true c.refusal5.ensures
+    done-edges (asked t r).requires.1 (omega arith) (omega arith) (chosen t r) r.close_rows.ensures n.run_count.result (omega arith)
+    n.run_count.ensures c.if-plan-next-2.true c.refusal-then-plan-next-2.ensures
 
-state-sub-branches : (t : ℕ) → state-lts.Need-overflow-sub-branches (state-with t) (state-at t) state.Post
+state-sub-branches : (t : ℕ) → state-lts.Need-overflow_sub-k (state-with t) (state-at t) state.Post
 state-sub-branches t c = search rules
 
-state-add-branches : (t : ℕ) → state-lts.Need-overflow-add-branches (state-with t) (state-at t) state.Post
+state-add-branches : (t : ℕ) → state-lts.Need-overflow_add-at (state-with t) (state-at t) state.Post
 state-add-branches t c = search rules
 
 state-branches-requires : (t : ℕ) → state-lts.Need-branches-requires (state-with t) (state-at t) state.Post
 state-branches-requires t c κs =
     let r = closed t c.before.before.before in (
-      omega (arith, (asked t r).pre.0, shorter (asked t r).pre.1 (omega arith) (omega arith) (chosen t r) r.close-rows.ensures),
-      ready-branches (asked t r).pre.1 (omega arith) (omega arith) (chosen t r) r.close-rows.ensures (omega arith),
+      omega (arith, (asked t r).requires.0, shorter (asked t r).requires.1 (omega arith) (omega arith) (chosen t r) r.close_rows.ensures),
+      ready-branches (asked t r).requires.1 (omega arith) (omega arith) (chosen t r) r.close_rows.ensures (omega arith),
     )
 
-state-returns-8 : (t : ℕ) → state-lts.Need-returns-8 (state-with t) (state-at t) state.Post
+state-returns-8 : (t : ℕ) → state-lts.Need-returns (state-with t) (state-at t) state.Post
 state-returns-8 t c =
     let n = c.before.before.before.before in
     let r = closed t n in
-    done-node (asked t r).pre.1 (omega arith) (omega arith) (chosen t r) r.close-rows.ensures n.run-count.result (omega arith)
-    n.run-count.ensures c.before.before.before.if8.false c.branches.ensures
+    done-node (asked t r).requires.1 (omega arith) (omega arith) (chosen t r) r.close_rows.ensures n.run_count.result (omega arith)
+    n.run_count.ensures c.if-plan-next-2.false c.branches.ensures
 
-pub +branches-state-spec : {M : Type 1} → statement M
-+branches-state-spec = close μ-branches μ-state (λ t. branches-lts.spec (branches-with t) (branches_at t)
+pub +branches_state_spec : {M : Type 1} → statement M
++branches_state_spec = close μ-branches μ-state (λ t. branches-lts.spec (branches-with t) (branches_at t)
     branches.Post
     branches-Inv-loop
     branches-μ-loop

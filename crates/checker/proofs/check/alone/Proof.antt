@@ -8,134 +8,134 @@ use Rattle.checker.proofs.AloneLaws.{chain-ends-3, chain-label, chain-less, chai
 use Rattle.checker.proofs.check.alone.Statement.{statement}
 use Rattle.checker.proofs.check.alone.Tie as tie
 
-abbrev invariant-loop : tie.invariant-loop
+abbrev invariant-loop : tie.invariant-loop-owed
 invariant-loop table start mask plan k at left₀ owed₀ place₀ count₀ left owed place count =
     Chain table start mask plan k at left owed place count
 
-abbrev decreases-loop : tie.decreases-loop
+abbrev decreases-loop : tie.decreases-loop-owed
 decreases-loop table start mask plan k at left₀ owed₀ place₀ count₀ left owed place count = length (kept left (drop start table))
 
 -- the places that the answers go back to: where the row's place is closed, and the turn of the loop before that
 abbrev At-closed : Type 0
-At-closed = tie.After-close-at invariant-loop decreases-loop
+At-closed = tie.After-close_at-closed invariant-loop decreases-loop
 
-abbrev turn_at : At-closed → tie.At-loop invariant-loop decreases-loop
+abbrev turn_at : At-closed → tie.At-loop-owed invariant-loop decreases-loop
 turn_at r = r.before.before.before.before.before.before.before.before.before
 
-loop-holds : tie.Need-loop-init invariant-loop decreases-loop
-loop-holds c = chain-start c.before.before.requires
+loop-holds : tie.Need-loop-owed-init invariant-loop decreases-loop
+loop-holds c = chain-start c.requires
 
 refusal-requires : tie.Need-refusal-requires invariant-loop decreases-loop
 refusal-requires c κs = search rules
 
-returns : tie.Need-returns invariant-loop decreases-loop
-returns c = chain-ends c.before.before.before.loop.invariant (omega arith) c.before.if1.true c.refusal.ensures
+returns : tie.Need-returns-then-plan-place invariant-loop decreases-loop
+returns c = chain-ends c.loop-owed.invariant (omega arith) c.if-plan-place.true c.refusal.ensures
 
-mul-i : tie.Need-overflow-mul-i invariant-loop decreases-loop
+mul-i : tie.Need-offset_bounds-plan-place invariant-loop decreases-loop
 mul-i c = search rules
 
-shared-slice-read-i : tie.Need-shared-slice-read-i invariant-loop decreases-loop
+shared-slice-read-i : tie.Need-bounds-plan-place invariant-loop decreases-loop
 shared-slice-read-i c = search rules
 
-cast-if2 : tie.Need-overflow-cast-if2 invariant-loop decreases-loop
-cast-if2 c = record { fits = omega (arith, c.shared-slice-known3.given c.before.before.before.loop.place) }
+cast-if2 : tie.Need-overflow_cast-i invariant-loop decreases-loop
+cast-if2 c = record { fits = omega (arith, c.shared_slice_known-in-loop-owed-1.given c.loop-owed.place) }
 
-refusal-requires-2 : tie.Need-refusal-requires-2 invariant-loop decreases-loop
+refusal-requires-2 : tie.Need-refusal-requires-then-owed-i invariant-loop decreases-loop
 refusal-requires-2 c κs = search rules
 
-returns-2 : tie.Need-returns-2 invariant-loop decreases-loop
-returns-2 c = chain-open c.before.before.before.before.before.loop.invariant (omega arith) (omega arith) c.before.if2.true c.refusal2.ensures
+returns-2 : tie.Need-returns-then-owed-i invariant-loop decreases-loop
+returns-2 c = chain-open c.loop-owed.invariant (omega arith) (omega arith) c.if-owed-i.true c.refusal-then-owed-i.ensures
 
-add-second : tie.Need-overflow-add-second invariant-loop decreases-loop
+add-second : tie.Need-overflow_add-second invariant-loop decreases-loop
 add-second c = search rules
 
-refusal-requires-3 : tie.Need-refusal-requires-3 invariant-loop decreases-loop
+refusal-requires-3 : tie.Need-refusal-requires-then-plan-second invariant-loop decreases-loop
 refusal-requires-3 c κs = search rules
 
-returns-3 : tie.Need-returns-3 invariant-loop decreases-loop
+returns-3 : tie.Need-returns-then-plan-second invariant-loop decreases-loop
 returns-3 c =
-    chain-ends-2 c.before.before.before.before.before.before.loop.invariant (omega arith) (omega arith) (omega arith) c.before.if3.true
-    c.refusal3.ensures
+    chain-ends-2 c.loop-owed.invariant (omega arith) (omega arith) (omega arith) c.if-plan-second.true
+    c.refusal-then-plan-second.ensures
 
-mul-if4 : tie.Need-overflow-mul-if4 invariant-loop decreases-loop
+mul-if4 : tie.Need-offset_bounds-plan-second invariant-loop decreases-loop
 mul-if4 c = search rules
 
-shared-slice-read-if4 : tie.Need-shared-slice-read-if4 invariant-loop decreases-loop
+shared-slice-read-if4 : tie.Need-bounds-plan-second invariant-loop decreases-loop
 shared-slice-read-if4 c = search rules
 
-refusal-requires-4 : tie.Need-refusal-requires-4 invariant-loop decreases-loop
+refusal-requires-4 : tie.Need-refusal-requires-then-plan-second-ne1 invariant-loop decreases-loop
 refusal-requires-4 c κs = search rules
 
-returns-4 : tie.Need-returns-4 invariant-loop decreases-loop
+returns-4 : tie.Need-returns-then-plan-second-ne1 invariant-loop decreases-loop
 returns-4 c =
-    chain-edges c.before.before.before.before.before.before.before.before.loop.invariant (omega arith) (omega arith) (omega arith)
-    c.before.if4.true c.refusal4.ensures
+    chain-edges c.loop-owed.invariant (omega arith) (omega arith) (omega arith)
+    c.if-plan-second-ne1.true c.refusal-then-plan-second-ne1.ensures
 
-add-third : tie.Need-overflow-add-third invariant-loop decreases-loop
+add-third : tie.Need-overflow_add-third invariant-loop decreases-loop
 add-third c = search rules
 
-refusal-requires-5 : tie.Need-refusal-requires-5 invariant-loop decreases-loop
+refusal-requires-5 : tie.Need-refusal-requires-then-plan-third invariant-loop decreases-loop
 refusal-requires-5 c κs = search rules
 
-returns-5 : tie.Need-returns-5 invariant-loop decreases-loop
+returns-5 : tie.Need-returns-then-plan-third invariant-loop decreases-loop
 returns-5 c =
-    chain-ends-3 c.before.before.before.before.before.before.before.before.before.loop.invariant (omega arith) (omega arith) (omega arith)
-    c.before.before.if4.false c.before.if5.true c.refusal5.ensures
+    chain-ends-3 c.loop-owed.invariant (omega arith) (omega arith) (omega arith)
+    c.if-plan-second-ne1.false c.if-plan-third.true c.refusal-then-plan-third.ensures
 
-close-at-requires : tie.Need-close-at-requires invariant-loop decreases-loop
+close-at-requires : tie.Need-close_at-closed-requires invariant-loop decreases-loop
 close-at-requires c κs = search rules
 
-mul-if6 : tie.Need-overflow-mul-if6 invariant-loop decreases-loop
+mul-if6 : tie.Need-offset_bounds-plan-third invariant-loop decreases-loop
 mul-if6 c = search rules
 
-shared-slice-read-if6 : tie.Need-shared-slice-read-if6 invariant-loop decreases-loop
+shared-slice-read-if6 : tie.Need-bounds-plan-third invariant-loop decreases-loop
 shared-slice-read-if6 c = search rules
 
-refusal-requires-6 : tie.Need-refusal-requires-6 invariant-loop decreases-loop
+refusal-requires-6 : tie.Need-refusal-requires-then-plan-third-2 invariant-loop decreases-loop
 refusal-requires-6 c κs = search rules
 
-returns-6 : tie.Need-returns-6 invariant-loop decreases-loop
+returns-6 : tie.Need-returns-then-plan-third-2 invariant-loop decreases-loop
 returns-6 c =
     let r = c.before.before.before in
-    chain-label (turn_at r).loop.invariant (omega arith) (omega arith) (omega arith) r.before.before.if4.false r.close_at.ensures (omega arith)
-    c.before.if6.true c.refusal6.ensures
+    chain-label (turn_at r).loop-owed.invariant (omega arith) (omega arith) (omega arith) r.if-plan-second-ne1.false r.close_at-closed.ensures (omega arith)
+    c.if-plan-third-2.true c.refusal-then-plan-third-2.ensures
 
-arity-of-requires : tie.Need-arity-of-requires invariant-loop decreases-loop
+arity-of-requires : tie.Need-arity_of-requires invariant-loop decreases-loop
 arity-of-requires c κs = search rules
 
-sub-owed : tie.Need-overflow-sub-owed invariant-loop decreases-loop
+sub-owed : tie.Need-overflow_sub-owed invariant-loop decreases-loop
 sub-owed c = search rules
 
-add-owed : tie.Need-overflow-add-owed invariant-loop decreases-loop
+add-owed : tie.Need-overflow_add-owed invariant-loop decreases-loop
 add-owed c =
     let r = c.before.before.before in
-    record { fits = omega (arith, few-owed (turn_at r).loop.invariant, arity-small r.close_at.result.cell, c.arity-of.ensures) }
+    record { fits = omega (arith, few-owed (turn_at r).loop-owed.invariant, arity-small r.close_at-closed.result.cell, c.arity_of.ensures) }
 
-add-place : tie.Need-overflow-add-place invariant-loop decreases-loop
+add-place : tie.Need-overflow_add-place invariant-loop decreases-loop
 add-place c = search rules
 
-add-count : tie.Need-overflow-add-count invariant-loop decreases-loop
+add-count : tie.Need-overflow_add-count invariant-loop decreases-loop
 add-count c = search rules
 
-loop-less : tie.Need-loop-smaller invariant-loop decreases-loop
+loop-less : tie.Need-loop-owed-smaller invariant-loop decreases-loop
 loop-less c =
     let r = c.before.before.before in
-    chain-less (turn_at r).loop.invariant (omega arith) (omega arith) (omega arith) r.before.before.if4.false r.close_at.ensures (omega arith)
+    chain-less (turn_at r).loop-owed.invariant (omega arith) (omega arith) (omega arith) r.if-plan-second-ne1.false r.close_at-closed.ensures (omega arith)
 
-loop-again : tie.Need-loop-preserved invariant-loop decreases-loop
+loop-again : tie.Need-loop-owed-preserved invariant-loop decreases-loop
 loop-again c =
     let r = c.before.before.before in
-    rw c.arity-of.ensures (chain-on (turn_at r).loop.invariant (omega arith) (omega arith) (omega arith) r.before.before.if4.false
-    r.close_at.ensures (omega arith) c.before.if6.false)
+    rw c.arity_of.ensures (chain-on (turn_at r).loop-owed.invariant (omega arith) (omega arith) (omega arith) r.if-plan-second-ne1.false
+    r.close_at-closed.ensures (omega arith) c.if-plan-third-2.false)
 
 leaf-requires : tie.Need-leaf-requires invariant-loop decreases-loop
 leaf-requires c κs = search rules
 
-returns-7 : tie.Need-returns-7 invariant-loop decreases-loop
-returns-7 c = chain-leaf c.before.before.loop.invariant (omega arith) c.leaf.ensures
+returns-7 : tie.Need-returns invariant-loop decreases-loop
+returns-7 c = chain-leaf c.loop-owed.invariant (omega arith) c.leaf.ensures
 
-pub alone-spec : {M : Type 1} → statement M
-alone-spec =
+pub alone_spec : {M : Type 1} → statement M
+alone_spec =
     tie.close
     (tie.spec
     invariant-loop

@@ -7,32 +7,32 @@ use Rattle.checker.proofs.check.leaf.Tie as tie
 refusal-requires : tie.Need-refusal-requires
 refusal-requires c κs = search rules
 
-returns : tie.Need-returns
-returns c = leaf-ends _ _ _ _ c.before.if1.true c.refusal.ensures
+returns : tie.Need-returns-then-plan-at
+returns c = leaf-ends _ _ _ _ c.if-plan-at.true c.refusal.ensures
 
-mul-if2 : tie.Need-overflow-mul-if2
+mul-if2 : tie.Need-offset_bounds-plan-at
 mul-if2 c = search rules
 
-shared-slice-read-if2 : tie.Need-shared-slice-read-if2
+shared-slice-read-if2 : tie.Need-bounds-plan-at
 shared-slice-read-if2 c = search rules
 
-cast-if2 : tie.Need-overflow-cast-if2
-cast-if2 c = record { fits = omega (arith, c.shared-slice-known2.given c.before.before.before.args.at) }
+cast-if2 : tie.Need-overflow_cast-plan
+cast-if2 c = record { fits = omega (arith, c.shared_slice_known-2-1.given c.args.at) }
 
-refusal-requires-2 : tie.Need-refusal-requires-2
+refusal-requires-2 : tie.Need-refusal-requires-then-plan-at-2
 refusal-requires-2 c κs = search rules
 
-returns-2 : tie.Need-returns-2
-returns-2 c = leaf-rows _ _ _ _ c.before.before.before.if1.false c.before.if2.true c.refusal2.ensures
+returns-2 : tie.Need-returns-then-plan-at-2
+returns-2 c = leaf-rows _ _ _ _ c.if-plan-at.false c.if-plan-at-2.true c.refusal-then-plan-at-2.ensures
 
-add-t5 : tie.Need-overflow-add-t5
+add-t5 : tie.Need-overflow_add-result
 add-t5 c = search rules
 
-returns-3 : tie.Need-returns-3
-returns-3 c = leaf-read _ _ _ _ c.before.before.if1.false c.if2.false
+returns-3 : tie.Need-returns
+returns-3 c = leaf-read _ _ _ _ c.if-plan-at.false c.if-plan-at-2.false
 
-pub leaf-spec : {M : Type 1} → statement M
-leaf-spec =
+pub leaf_spec : {M : Type 1} → statement M
+leaf_spec =
     tie.close
     (tie.spec
     refusal-requires
