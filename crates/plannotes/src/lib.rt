@@ -11,7 +11,7 @@ use checker::PlanAnswer;
 use limits::BRANCHES;
 
 // The answer of the check; and the width and the number of rows of the table, both 0 where it or the plan is turned away.
-#[derive(Drop)]
+#[derive(Clone, Copy)]
 pub struct Noted {
     pub answer: PlanAnswer,
     pub width: usize,

@@ -9,38 +9,38 @@ use Rattle.cell.proofs.arity_of.Reads as arity-of-reads
 use Rattle.plannotes.proofs.branch.part.Reads as part-reads
 use Rattle.plannotes.proofs.places.close.Reads as close-reads
 
-mul-c : tie.Need-overflow-mul-c
+mul-c : tie.Need-offset_bounds-plan-place
 mul-c c = search rules
 
-shared-slice-read-c : tie.Need-shared-slice-read-c
+shared-slice-read-c : tie.Need-bounds-plan-place
 shared-slice-read-c c = search rules
 
-arity-of-requires : tie.Need-arity-of-requires
+arity-of-requires : tie.Need-arity_of-a-requires
 arity-of-requires c κs = search rules
 
-close-requires : tie.Need-close-requires
-close-requires c κs = spot_of c.before.before.before.before.before.requires c.before.arity-of.ensures
+close-requires : tie.Need-close-slot-requires
+close-requires c κs = spot_of c.requires c.arity_of-a.ensures
 
 part-requires : tie.Need-part-requires
-part-requires c κs = slot-low c.before.before.before.before.before.before.requires c.before.before.arity-of.ensures c.close.ensures
+part-requires c κs = slot-low c.requires c.arity_of-a.ensures c.close-slot.ensures
 
-mul-notes : tie.Need-overflow-mul-notes
+mul-notes : tie.Need-offset_bounds-notes-made
 mul-notes c = search rules
 
-slice-write-notes : tie.Need-slice-write-notes
+slice-write-notes : tie.Need-bounds-notes-made
 slice-write-notes c = search rules
 
-same_length : tie.Need-same-length
+same_length : tie.Need-shape_of-notes
 same_length c = search rules
 
 returns : tie.Need-returns
 returns c = λ w.
-    let k = c.before.before.before.before in
-    begun w c.before.before.before.arity-of.ensures c.before.close.ensures _
-    (omega (arith, k.shared-slice-known2.given k.before.before.before.args.place)) c.part.ensures
+    let k = c in
+    begun w c.arity_of-a.ensures c.close-slot.ensures _
+    (omega (arith, k.shared_slice_known-2-1.given k.args.place)) c.part.ensures
 
-pub begin-spec : {M : Type 1} → statement M
-begin-spec =
+pub begin_spec : {M : Type 1} → statement M
+begin_spec =
     tie.close
     (tie.spec
     mul-c

@@ -14,31 +14,31 @@ use Rattle.plannotes.proofs.branch.end.Reads as end_reads
 use Rattle.plannotes.proofs.branch.meet.Reads as meet-reads
 use Rattle.plannotes.proofs.packed.cell_of.Reads as cell-of-reads
 
-abbrev invariant-loop : tie.invariant-loop
+abbrev invariant-loop : tie.invariant-loop-i
 invariant-loop notes₀ from to past seen₀ again₀ i₀ notes seen again i = Finishing notes₀ «from» to past notes seen again i
 
-abbrev decreases-loop : tie.decreases-loop
+abbrev decreases-loop : tie.decreases-loop-i
 decreases-loop notes₀ from to past seen₀ again₀ i₀ notes seen again i = i
 
-loop-holds : tie.Need-loop-init invariant-loop decreases-loop
-loop-holds c = finish-first c.before.requires
+loop-holds : tie.Need-loop-i-init invariant-loop decreases-loop
+loop-holds c = finish-first c.requires
 
-sub-end : tie.Need-overflow-sub-end invariant-loop decreases-loop
-sub-end c = let l = c.before in omega (arith, l.loop.invariant.up, l.before.before.requires.on)
+sub-end : tie.Need-overflow_sub-past invariant-loop decreases-loop
+sub-end c = let l = c in omega (arith, l.loop-i.invariant.up, l.requires.on)
 
-end-requires : tie.Need-end-requires invariant-loop decreases-loop
-end-requires c κs = omega (arith, c.before.before.before.requires.few)
+end-requires : tie.Need-end-more-requires invariant-loop decreases-loop
+end-requires c κs = omega (arith, c.requires.few)
 
-sub-i : tie.Need-overflow-sub-i invariant-loop decreases-loop
+sub-i : tie.Need-overflow_sub-i invariant-loop decreases-loop
 sub-i c = search rules
 
-mul-w : tie.Need-overflow-mul-w invariant-loop decreases-loop
+mul-w : tie.Need-offset_bounds-notes-i invariant-loop decreases-loop
 mul-w c = search rules
 
-slice-read-w : tie.Need-slice-read-w invariant-loop decreases-loop
+slice-read-w : tie.Need-bounds-notes-i invariant-loop decreases-loop
 slice-read-w c = search rules
 
-cell-of-requires : tie.Need-cell-of-requires invariant-loop decreases-loop
+cell-of-requires : tie.Need-cell_of-c-requires invariant-loop decreases-loop
 cell-of-requires c κs = search rules
 
 kind-requires : tie.Need-kind-requires invariant-loop decreases-loop
@@ -46,77 +46,77 @@ kind-requires c κs = search rules
 
 -- a branch whose kind is known: what is asked of the call, and what the loop has
 module _ (k : tie.After-kind invariant-loop decreases-loop) where
-  abbrev ends : tie.After-end invariant-loop decreases-loop
+  abbrev ends : tie.After-end-more invariant-loop decreases-loop
   ends = k.before.before.before
 
-  abbrev turn : tie.At-loop invariant-loop decreases-loop
+  abbrev turn : tie.At-loop-i invariant-loop decreases-loop
   turn = ends.before.before
 
-  abbrev asked : Ending turn.before.before.args.notes.now turn.before.before.args.from turn.before.before.args.to
-      turn.before.before.args.past
-  asked = turn.before.before.pre
+  abbrev asked : Ending turn.args.notes.now turn.args.from turn.args.to
+      turn.args.past
+  asked = turn.before.before.requires
 
-cast-meet : tie.Need-overflow-cast-meet invariant-loop decreases-loop
+cast-meet : tie.Need-overflow_cast-c invariant-loop decreases-loop
 cast-meet c = search rules
 
-meet-requires : tie.Need-meet-requires invariant-loop decreases-loop
+meet-requires : tie.Need-meet-again-requires invariant-loop decreases-loop
 meet-requires c κs =
     let k = c.before.before in
-    let v = kind-var _ k.kind.result k.kind.ensures (omega (arith, c.before.match.keys1)) in
-    (cell-low (asked k) (turn k).loop.invariant (omega arith) k.before.cell-of.ensures v, (turn k).loop.invariant.size-seen)
+    let v = kind-var _ k.kind.result k.kind.ensures (omega (arith, c.in-0.is)) in
+    (cell-low (asked k) (turn k).loop-i.invariant (omega arith) k.cell_of-c.ensures v, (turn k).loop-i.invariant.size-seen)
 
-add-notes : tie.Need-overflow-add-notes invariant-loop decreases-loop
+add-notes : tie.Need-overflow_add-notes invariant-loop decreases-loop
 add-notes c =
     let k = c.before.before.before in
-    omega (arith, word_low (asked k) (turn k).loop.invariant (omega arith), (ends k).end.ensures, (asked k).few)
+    omega (arith, word_low (asked k) (turn k).loop-i.invariant (omega arith), (ends k).end-more.ensures, (asked k).few)
 
-add-notes-2 : tie.Need-overflow-add-notes-2 invariant-loop decreases-loop
+add-notes-2 : tie.Need-overflow_add-notes-in-0 invariant-loop decreases-loop
 add-notes-2 c =
     let k = c.before.before.before in
-    let m = mark-low (asked k) (turn k).loop.invariant (eqb (get_or (turn k).loop.seen k.before.cell-of.result 0) 0) c.meet.ensures.0 in
-    omega (arith, word_low (asked k) (turn k).loop.invariant (omega arith), (ends k).end.ensures, (asked k).few, m)
+    let m = mark-low (asked k) (turn k).loop-i.invariant (eqb (get_or (turn k).loop-i.seen k.cell_of-c.result 0) 0) c.meet-again.ensures.0 in
+    omega (arith, word_low (asked k) (turn k).loop-i.invariant (omega arith), (ends k).end-more.ensures, (asked k).few, m)
 
-mul-notes : tie.Need-overflow-mul-notes invariant-loop decreases-loop
+mul-notes : tie.Need-offset_bounds-notes-i-in-0 invariant-loop decreases-loop
 mul-notes c = search rules
 
-slice-write-notes : tie.Need-slice-write-notes invariant-loop decreases-loop
+slice-write-notes : tie.Need-bounds-notes-i-in-0 invariant-loop decreases-loop
 slice-write-notes c = search rules
 
-loop-less : tie.Need-loop-smaller invariant-loop decreases-loop
+loop-less : tie.Need-loop-i-smaller-in-0 invariant-loop decreases-loop
 loop-less c = search rules
 
-loop-again : tie.Need-loop-preserved invariant-loop decreases-loop
+loop-again : tie.Need-loop-i-preserved-in-0 invariant-loop decreases-loop
 loop-again c =
     let k = c.before.before.before in
-    let v = kind-var _ k.kind.result k.kind.ensures (omega (arith, c.before.before.match.keys1)) in
-    finish-variable (asked k) (turn k).loop.invariant (omega arith) k.before.cell-of.ensures v (ends k).end.ensures c.meet.ensures.0
-    c.meet.ensures.1
+    let v = kind-var _ k.kind.result k.kind.ensures (omega (arith, c.in-0.is)) in
+    finish-variable (asked k) (turn k).loop-i.invariant (omega arith) k.cell_of-c.ensures v (ends k).end-more.ensures c.meet-again.ensures.0
+    c.meet-again.ensures.1
 
-add-notes-3 : tie.Need-overflow-add-notes-3 invariant-loop decreases-loop
+add-notes-3 : tie.Need-overflow_add-notes-in_default invariant-loop decreases-loop
 add-notes-3 c =
     let k = c.before in
-    omega (arith, word_low (asked k) (turn k).loop.invariant (omega arith), (ends k).end.ensures, (asked k).few)
+    omega (arith, word_low (asked k) (turn k).loop-i.invariant (omega arith), (ends k).end-more.ensures, (asked k).few)
 
-mul-notes-2 : tie.Need-overflow-mul-notes-2 invariant-loop decreases-loop
+mul-notes-2 : tie.Need-offset_bounds-notes-i-in_default invariant-loop decreases-loop
 mul-notes-2 c = search rules
 
-slice-write-notes-2 : tie.Need-slice-write-notes-2 invariant-loop decreases-loop
+slice-write-notes-2 : tie.Need-bounds-notes-i-in_default invariant-loop decreases-loop
 slice-write-notes-2 c = search rules
 
-loop-less-2 : tie.Need-loop-smaller-2 invariant-loop decreases-loop
+loop-less-2 : tie.Need-loop-i-smaller invariant-loop decreases-loop
 loop-less-2 c = search rules
 
-loop-again-2 : tie.Need-loop-preserved-2 invariant-loop decreases-loop
+loop-again-2 : tie.Need-loop-i-preserved invariant-loop decreases-loop
 loop-again-2 c =
     let k = c.before in
-    let v = kind-symbol _ k.kind.result k.kind.ensures (omega (arith, c.match.rest)) in
-    finish-symbol (asked k) (turn k).loop.invariant (omega arith) k.before.cell-of.ensures v (ends k).end.ensures
+    let v = kind-symbol _ k.kind.result k.kind.ensures (omega (arith, c.in_default.in_default-own.rest)) in
+    finish-symbol (asked k) (turn k).loop-i.invariant (omega arith) k.cell_of-c.ensures v (ends k).end-more.ensures
 
-same_length : tie.Need-same-length invariant-loop decreases-loop
-same_length c = omega (arith, c.before.loop.invariant.size)
+same_length : tie.Need-shape_of-notes invariant-loop decreases-loop
+same_length c = omega (arith, c.loop-i.invariant.size)
 
 returns : tie.Need-returns invariant-loop decreases-loop
-returns c = finish-over c.before.before.before.requires c.before.loop.invariant (omega arith)
+returns c = finish-over c.requires c.loop-i.invariant (omega arith)
 
 pub finish_spec : {M : Type 1} → statement M
 finish_spec =

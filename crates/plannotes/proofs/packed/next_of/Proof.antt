@@ -6,5 +6,5 @@ use Rattle.plannotes.proofs.packed.next_of.Tie as tie
 returns : tie.Need-returns
 returns c = and_mask (c.args.w / 2 ^ 51) 6
 
-pub next-of-spec : {M : Type 1} → statement M
-next-of-spec = tie.close (tie.spec returns)
+pub next_of_spec : {M : Type 1} → statement M
+next_of_spec = tie.close (tie.spec returns)

@@ -6,5 +6,5 @@ use Rattle.plannotes.proofs.packed.skip_of.Tie as tie
 returns : tie.Need-returns
 returns c = and_mask (c.args.w / 2 ^ 32) 12
 
-pub skip-of-spec : {M : Type 1} → statement M
-skip-of-spec = tie.close (tie.spec returns)
+pub skip_of_spec : {M : Type 1} → statement M
+skip_of_spec = tie.close (tie.spec returns)

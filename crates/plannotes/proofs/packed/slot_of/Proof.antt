@@ -6,5 +6,5 @@ use Rattle.plannotes.proofs.packed.slot_of.Tie as tie
 returns : tie.Need-returns
 returns c = and_mask (c.args.w / 2 ^ 57) 6
 
-pub slot-of-spec : {M : Type 1} → statement M
-slot-of-spec = tie.close (tie.spec returns)
+pub slot_of_spec : {M : Type 1} → statement M
+slot_of_spec = tie.close (tie.spec returns)

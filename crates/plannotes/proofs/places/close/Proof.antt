@@ -8,33 +8,33 @@ use Rattle.plannotes.proofs.places.hop.Reads as hop-reads
 use Rattle.plannotes.proofs.places.last_new.Reads as last-new-reads
 use Rattle.plannotes.proofs.places.wide.Reads as wide-reads
 
-hop-requires : tie.Need-hop-requires
-hop-requires c κs = hops-small c.before.requires
+hop-requires : tie.Need-hop-before-requires
+hop-requires c κs = hops-small c.requires
 
-element-copy-out-wide : tie.Need-element-copy-out-wide
-element-copy-out-wide c = before_small c.before.before.requires _ c.hop.ensures
+element-copy-out-wide : tie.Need-bounds-links-before
+element-copy-out-wide c = before_small c.requires _ c.hop-before.ensures
 
-wide-requires : tie.Need-wide-requires
+wide-requires : tie.Need-wide-slot-requires
 wide-requires c κs = search rules
 
-element-copy-out-past : tie.Need-element-copy-out-past
-element-copy-out-past c = rw c.wide.ensures (slot_small c.before.before.before.before.requires _ c.before.before.hop.ensures)
+element-copy-out-past : tie.Need-bounds-links-slot
+element-copy-out-past c = rw c.wide-slot.ensures (slot_small c.requires _ c.hop-before.ensures)
 
-last-new-requires : tie.Need-last-new-requires
+last-new-requires : tie.Need-last_new-last-requires
 last-new-requires c κs = search rules
 
-cast-links : tie.Need-overflow-cast-links
+cast-links : tie.Need-overflow_cast-links
 cast-links c = search rules
 
-element-write-links : tie.Need-element-write-links
-element-write-links c = before_small c.before.before.before.before.before.before.requires _ c.before.before.before.before.hop.ensures
+element-write-links : tie.Need-bounds-links-before-2
+element-write-links c = before_small c.requires _ c.hop-before.ensures
 
-element-write-links-2 : tie.Need-element-write-links-2
+element-write-links-2 : tie.Need-bounds-links-last
 element-write-links-2 c =
-    last_fits c.before.before.before.before.before.before.requires _ c.before.before.before.before.hop.ensures _ c.last-new.ensures
+    last_fits c.requires _ c.hop-before.ensures _ c.last_new-last.ensures
 
 returns : tie.Need-returns
-returns c = λ w. closed w _ c.before.before.before.before.hop.ensures _ c.last-new.ensures _ c.before.before.wide.ensures
+returns c = λ w. closed w _ c.hop-before.ensures _ c.last_new-last.ensures _ c.wide-slot.ensures
 
 pub close_spec : {M : Type 1} → statement M
 close_spec =

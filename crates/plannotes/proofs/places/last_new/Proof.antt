@@ -4,17 +4,17 @@ use borrow.Author.Rules.{rules}
 use Rattle.plannotes.proofs.places.last_new.Statement.{statement}
 use Rattle.plannotes.proofs.places.last_new.Tie as tie
 
-sub-result : tie.Need-overflow-sub-result
+sub-result : tie.Need-overflow_sub-result
 sub-result c = search rules
 
-add-result : tie.Need-overflow-add-result
+add-result : tie.Need-overflow_add-result
 add-result c = search rules
 
-returns : tie.Need-returns
-returns c = sym (last_none _ _ _ c.match.keys1)
+returns : tie.Need-returns-in-0
+returns c = sym (last_none _ _ _ c.in-0.is)
 
-returns-2 : tie.Need-returns-2
-returns-2 c = sym (last_some _ _ _ (λ z. c.match.rest.1 z))
+returns-2 : tie.Need-returns-in_default
+returns-2 c = sym (last_some _ _ _ (λ z. c.in_default.in_default-own.rest.1 z))
 
-pub last-new-spec : {M : Type 1} → statement M
-last-new-spec = tie.close (tie.spec sub-result add-result returns returns-2)
+pub last_new_spec : {M : Type 1} → statement M
+last_new_spec = tie.close (tie.spec sub-result add-result returns returns-2)
