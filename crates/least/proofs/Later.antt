@@ -85,6 +85,9 @@ module _ (m : Measure) where
       let e = later-alike y (alike-turn d c met) in
       let o = later-turn c d met in
       omega (arith, ih, e, o)
+  place-later zero k [] met t h = elim t [ ]
+  place-later (suc i) zero [] met t h = elim t [ ]
+  place-later (suc i) (suc k) [] met t h = elim t [ ]
 
   -- what a run's rows have later, with the run's cell for each
   abbrev in_run : List ℕ → Run → ℕ

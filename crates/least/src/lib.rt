@@ -2,7 +2,7 @@
 // name of a measure.
 
 // By what a plan is least: 01's number of branches, or the work of 02's W-204 with the figure that the caller sets.
-#[derive(Drop)]
+#[derive(Clone, Copy)]
 pub enum By {
     Branches,
     Work(u32),
