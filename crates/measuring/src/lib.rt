@@ -40,6 +40,7 @@ pub fn figure_of(by: By) -> u32
 }
 
 // FIGURE, and then what reading the table answers.
+#[tactic(auto, using(crate::proofs::Figure::by_measure))]
 pub fn read_by(by: By, cells: &[u32]) -> TableRead
     ensures { TableReads (table_by by cells.now) result }
 {
