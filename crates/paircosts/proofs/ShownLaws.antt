@@ -1,6 +1,6 @@
 -- The notes at a row's cells show what a scan of the rows from it on finds: what the closed cells weigh, and the runs of each open place
 -- that it looks at. It looks at every place, or at those inside named columns.
-use mathlib.Core.Path.{◌≡◌, refl, sym, ap, ◌∙◌}
+use mathlib.Core.Path.{◌≡◌, refl, sym, ap, ◌∙◌, subst}
 use mathlib.Core.Bool.{Bool, true, false, ◌||◌}
 use mathlib.Core.List.{List, [], ◌∷◌, ◌++◌, map}
 use Prim.Native.Nat.{ℕ, zero, suc, ◌+◌, ◌≤◌, ◌<◌}
@@ -142,7 +142,7 @@ module _ (m : Measure) (W : ℕ → ℕ → ℕ) (count : ℕ) (bound : (i k : �
           ih fs (suc i) r a' cs' (E q) y rest b' (record {
             places = k;
             sees = s;
-            fits = rw (e₁, e₂) at x.fits;
+            fits = subst (λ (p : ℕ). All (Fits p (suc i + r)) here) e₁ (subst (λ (p : ℕ). All (Fits (suc n + i) p) here) e₂ x.fits);
             rows = x.rows;
             low = omega (arith, on, x.low);
             high = omega (arith, inside, ends_at, ap length x.cells, length-drop q zs, front-short 1 (back i y));
@@ -175,7 +175,8 @@ module _ (m : Measure) (W : ℕ → ℕ → ℕ) (count : ℕ) (bound : (i k : �
           let s = ih (spread i (arity g.cell) fs) i (arity g.cell + r) (arity g.cell + a) cs (suc q) (close i y) (map (close i) rest) b' (record {
             places = omega (arith, x.places);
             sees = rw replicate-both at (sees_below every (arity g.cell) fs i (replicate a true ++ cs) x.sees);
-            fits = rw e₃ at (fits-agreed (n + i) (i + r) i g.cell here (omega arith) agrees (rw (e₁, e₂) at x.fits));
+            fits = subst (λ (p : ℕ). All (Fits (n + i) p) (close i y ∷ map (close i) rest)) e₃ (fits-agreed (n + i) (i + r) i g.cell here (omega arith) agrees
+                (subst (λ (p : ℕ). All (Fits p (suc (i + r))) here) e₁ (subst (λ (p : ℕ). All (Fits (suc n + i) p) here) e₂ x.fits)));
             rows = ap (λ (n : ℕ). first + n) (length-map rest (close i)) ∙ x.rows;
             low = omega (arith, x.low);
             high = omega (arith, inside x);

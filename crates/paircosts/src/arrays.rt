@@ -17,7 +17,7 @@ use limits::{ROWS, TABLE_CELLS};
 
 // How many runs the rows so far have at this place, the sum of what each of them costs, all but the first, and the row at
 // which the first of them ends. One run: all agree, and the place is closed.
-#[derive(Drop)]
+#[derive(Clone, Copy)]
 struct Note {
     runs: u32,
     sum: u32,
@@ -151,7 +151,7 @@ fn with_closed(marks: &[u16; TABLE_CELLS], agreed: u32, s: Note, q: usize) -> u3
 }
 
 // A row by its number, and where its cells are in the table.
-#[derive(Drop)]
+#[derive(Clone, Copy)]
 struct Row {
     number: usize,
     start: usize,
@@ -231,7 +231,7 @@ fn note_last(cells: &[u32], marks: &[u16; TABLE_CELLS], notes: &mut [u32; 192], 
 }
 
 // The cheapest open place so far, and what it costs. No place costs as much as the first one is compared with, 0xffffffff.
-#[derive(Drop)]
+#[derive(Clone, Copy)]
 struct Choice {
     cost: u32,
     place: u32,
@@ -248,7 +248,7 @@ fn consider(best: Choice, place: u32, cost: u32) -> Choice
 }
 
 // What every open place of a pair is priced by: what the closed cells weigh, and the figure.
-#[derive(Drop)]
+#[derive(Clone, Copy)]
 struct Base {
     agreed: u32,
     figure: u32,
@@ -270,7 +270,7 @@ fn open_cost(s: Note, kept: &[u32], first: usize, base: Base) -> u32
 }
 
 // How far the open places of a pair are looked at: the cheapest of those that may be chosen, and how many are passed.
-#[derive(Drop)]
+#[derive(Clone, Copy)]
 struct Found {
     best: Choice,
     place: u32,
@@ -359,7 +359,7 @@ fn cheapest_named(
 
 // What the closed cells of a pair weigh, and whether they are those inside named columns only: so it is while a place inside
 // them is open.
-#[derive(Drop)]
+#[derive(Clone, Copy)]
 struct Part {
     agreed: u32,
     only: bool,
@@ -450,7 +450,7 @@ fn part_of(
 // Which pairs are worked out, of a table with so many rows: those that begin before row `top` and end at row `since` or
 // later. All others are kept as they stand. With the figure of the measure, and the named columns, a bit for each; where there
 // is none, every place may be chosen (02, W-213).
-#[derive(Drop)]
+#[derive(Clone, Copy)]
 pub struct Asked {
     pub figure: u32,
     pub named: u64,

@@ -8,56 +8,51 @@ use borrow.Author.Rules.{rules}
 use Rattle.paircosts.proofs.fill.Statement.{statement}
 use Rattle.paircosts.proofs.fill.Tie as tie
 
-read-by-requires : tie.Need-read-by-requires
+read-by-requires : tie.Need-read_by-read-requires
 read-by-requires c κs = search rules
 
-enum-known-answer : tie.Need-enum-known-answer
+enum-known-answer : tie.Need-enum_known-answer
 enum-known-answer c = search rules
 
 -- where the table is accepted
-module _ (c : tie.After-answer) where
+module _ (c : tie.In-Accepted) where
   abbrev start : tie.Start
-  start = c.before.before.before.before.before
+  start = c.before.before.before.before
 
-  table_here : TableRows start.args.cells.now c.before.before.read_by.result.starts c.answer.given.0.0 c.answer.given.0.1.0
-  table_here = rows-by start.args.by start.args.cells.now c.before.before.read_by.ensures c.answer.given.1
+  table_here : TableRows start.args.cells.now c.read_by-read.result.starts c.in-Accepted.field-0 c.in-Accepted.count
+  table_here = rows-by start.args.by start.args.cells.now c.read_by-read.ensures c.in-Accepted.is
 
   small : (measure_of start.args.by).figure ≤ 15
-  small = figure-small start.args.by start.args.cells.now c.before.before.read_by.ensures c.answer.given.1
+  small = figure-small start.args.by start.args.cells.now c.read_by-read.ensures c.in-Accepted.is
 
-figure-of-requires : tie.Need-figure-of-requires
+figure-of-requires : tie.Need-figure_of-requires
 figure-of-requires c κs = search rules
 
-asked-pairs-requires : tie.Need-asked-pairs-requires
+asked-pairs-requires : tie.Need-asked_pairs-requires
 asked-pairs-requires c κs =
-    let f = c.before.before in
-    let a = f.before.before.before.before in
-    (laid-rows (table_here a), f.before.before.if1.true, f.figure-of.ensures, omega (arith, f.figure-of.ensures, small a))
+    let a = c.before.before.before.before.before in
+    (laid-rows (table_here a), c.if-kept-eq-KEPT_CELLS.true, c.figure_of.ensures, omega (arith, c.figure_of.ensures, small a))
 
-enum_told : tie.Need-enum-told
+enum_told : tie.Need-enum_told-1
 enum_told c = search rules
 
-same_length : tie.Need-same-length
+same_length : tie.Need-shape_of-kept
 same_length c = search rules
 
-returns : tie.Need-returns
+returns : tie.Need-returns-then-kept-eq-KEPT_CELLS
 unfolding laid-rows
 returns c =
-    let p = c.before.before in
-    let h = p.before.before.before.before.before in
-    let a = h.before.before in
+    let a = c.before.before.before.before.before.before.before.before in
     let k = table_here a in
-    table_filled (start a).args.named (start a).args.by k (small a) a.before.before.read_by.ensures c.before.kept.given h.if1.true
-    (p.asked-pairs.ensures (laid-rows k))
+    table_filled (start a).args.named (start a).args.by k (small a) a.read_by-read.ensures c.kept-1.given c.if-kept-eq-KEPT_CELLS.true
+    (c.asked_pairs.ensures (laid-rows k))
 
-returns-2 : tie.Need-returns-2
-returns-2 c = other-filled c.if1.false c.before.before.before.before.read_by.ensures
+returns-2 : tie.Need-returns-else-kept-eq-KEPT_CELLS
+returns-2 c = other-filled c.if-kept-eq-KEPT_CELLS.false c.read_by-read.ensures
 
-returns-3 : tie.Need-returns-3
+returns-3 : tie.Need-returns-in_default
 returns-3 c =
-    let r = c.before.before in
-    let s = r.before.before.before in
-    none_filled (turned_by s.args.by s.args.cells.now r.read_by.ensures c.enum_told.given.1) r.read_by.ensures
+    none_filled (turned_by c.args.by c.args.cells.now c.read_by-read.ensures c.in_default.is) c.read_by-read.ensures
 
 pub fill_spec : {M : Type 1} → statement M
 fill_spec =

@@ -7,72 +7,73 @@ use Rattle.paircosts.specs.code.Filling.{pair_row}
 use Rattle.paircosts.proofs.ReadLaws.{CheapAt, cheap_start, cheap-end, turn-open, turn-closed, turn-asks}
 use Rattle.paircosts.proofs.arrays.cheapest.Statement.{statement}
 use Rattle.paircosts.proofs.arrays.cheapest.Tie as tie
+use Rattle.paircosts.proofs.arrays.cheapest.Lts.{else-s-ne1, then-s-ne1}
 
-abbrev invariant-loop : tie.invariant-loop
+abbrev invariant-loop : tie.invariant-loop-q
 invariant-loop marks kept notes base number stop best₀ place₀ q₀ best place q =
     (g : Range marks kept notes (pair_row number q₀ stop) base (found_of best₀ place₀)) → CheapAt g best place q
 
-abbrev decreases-loop : tie.decreases-loop
+abbrev decreases-loop : tie.decreases-loop-q
 decreases-loop marks kept notes base number stop best₀ place₀ q₀ best place q = stop - q
 
 -- what is given
-abbrev start : tie.At-loop invariant-loop decreases-loop → tie.Start invariant-loop decreases-loop
+abbrev start : tie.At-loop-q invariant-loop decreases-loop → tie.Start invariant-loop decreases-loop
 start l = l.before.before.before
 
 abbrev Given : tie.Start invariant-loop decreases-loop → Type 0
 Given s = Range s.args.marks.now s.args.kept.now s.args.notes.now s.args.range s.args.base s.args.found
 
-loop-holds : tie.Need-loop-init invariant-loop decreases-loop
+loop-holds : tie.Need-loop-q-init invariant-loop decreases-loop
 loop-holds c = λ g. cheap_start g
 
 -- what one turn does
-module _ (c : tie.After-after invariant-loop decreases-loop) where
-  abbrev turn : tie.In-loop invariant-loop decreases-loop
+module _ (c : tie.After-after-q invariant-loop decreases-loop) where
+  abbrev turn : tie.In-loop-q invariant-loop decreases-loop
   turn = c.before.before.before.before
 
   turned : (g : Given (start turn.before))
-      → CheapAt g c.before.if1.best c.before.if1.place c.after.result × (turn.before.loop.q < c.after.result)
+      → CheapAt g c.if-s-ne1.best c.if-s-ne1.place c.after-q.result × (turn.loop-q.q < c.after-q.result)
   turned g =
-      let n = c.before.before.before.note-at in
-      ⊎_elim
-      (λ w. turn-open g turn.loop-test.taken (turn.before.loop.inv g) n.result n.ensures c.after.result c.after.ensures
-      w.0.taken w.1.result w.1.ensures c.before.if1.best (w.3 ∙ w.2.ensures) c.before.if1.place w.4)
-      (λ w. turn-closed g turn.loop-test.taken (turn.before.loop.inv g) n.result n.ensures c.after.result c.after.ensures
-      w.0.left c.before.if1.best w.1 c.before.if1.place w.2)
-      c.before.if1.branch
+      let n = c.note_at-s in
+      elim c.if-s-ne1.branch [
+        | then-s-ne1 w ↦ turn-open g turn.loop-q-test.true (turn.loop-q.invariant g) n.result n.ensures c.after-q.result c.after-q.ensures
+            w.if-s-ne1.true w.open_cost.result w.open_cost.ensures c.if-s-ne1.best (w.best-is ∙ w.consider-best.ensures) c.if-s-ne1.place w.place-is
+        | else-s-ne1 w ↦ turn-closed g turn.loop-q-test.true (turn.loop-q.invariant g) n.result n.ensures c.after-q.result c.after-q.ensures
+            w.if-s-ne1.false c.if-s-ne1.best w.best-is c.if-s-ne1.place w.place-is
+      ]
 
-note-at-requires : tie.Need-note-at-requires invariant-loop decreases-loop
+note-at-requires : tie.Need-note_at-s-requires invariant-loop decreases-loop
 note-at-requires c κs = tt
 
-open-cost-requires : tie.Need-open-cost-requires invariant-loop decreases-loop
+open-cost-requires : tie.Need-open_cost-requires invariant-loop decreases-loop
 open-cost-requires c κs =
     let i = c.before.before.before in
-    let g = (start i.before).pre in
-    turn-asks g i.loop-test.true (i.before.loop.invariant g) c.before.before.note-at.result c.before.before.note-at.ensures _ refl c.if1.true
+    let g = (start i.before).requires in
+    turn-asks g i.loop-q-test.true (i.loop-q.invariant g) c.note_at-s.result c.note_at-s.ensures _ refl c.if-s-ne1.true
 
-consider-requires : tie.Need-consider-requires invariant-loop decreases-loop
+consider-requires : tie.Need-consider-best-requires invariant-loop decreases-loop
 consider-requires c κs = tt
 
-add-place : tie.Need-overflow-add-place invariant-loop decreases-loop
+add-place : tie.Need-overflow_add-place invariant-loop decreases-loop
 add-place c =
     let i = c.before.before.before.before.before in
-    let g = (start i.before).pre in
-    record { fits = omega (arith, i.loop-test.true, g.within.0, (i.before.loop.invariant g).small) }
+    let g = (start i.before).requires in
+    record { fits = omega (arith, i.loop-q-test.true, g.within.0, (i.loop-q.invariant g).small) }
 
-after-requires : tie.Need-after-requires invariant-loop decreases-loop
-after-requires c κs = let i = c.before.before.before in omega (arith, i.loop-test.true, (start i.before).pre.within.0)
+after-requires : tie.Need-after-q-requires invariant-loop decreases-loop
+after-requires c κs = let i = c.before.before.before in omega (arith, i.loop-q-test.true, (start i.before).requires.within.0)
 
-loop-less : tie.Need-loop-smaller invariant-loop decreases-loop
-loop-less c = omega (arith, (turn c).loop-test.true, (turned c (start (turn c).before).pre).1)
+loop-less : tie.Need-loop-q-smaller invariant-loop decreases-loop
+loop-less c = omega (arith, (turn c).loop-q-test.true, (turned c (start (turn c).before).requires).1)
 
-loop-again : tie.Need-loop-preserved invariant-loop decreases-loop
+loop-again : tie.Need-loop-q-preserved invariant-loop decreases-loop
 loop-again c = λ g. (turned c g).0
 
 returns : tie.Need-returns invariant-loop decreases-loop
-returns c = λ g. cheap-end g c.loop-test.false (c.before.loop.invariant g)
+returns c = λ g. cheap-end g c.loop-q-test.false (c.loop-q.invariant g)
 
-pub cheapest-spec : {M : Type 1} → statement M
-cheapest-spec =
+pub cheapest_spec : {M : Type 1} → statement M
+cheapest_spec =
     tie.close
     (tie.spec
     invariant-loop

@@ -17,14 +17,14 @@ abbrev Given : tie.Start → Type 0
 Given s = PairAt s.args.marks.now s.args.kept.now s.args.notes.now s.args.row s.args.shared s.args.asked
 
 -- what is closed
-module _ (c : tie.After-part-of) (g : Given c.before.before) where
-  closed : PartIs g c.part_of.result
-  closed = part-is g c.part_of.result (c.part_of.ensures (columns-given g)).0
+module _ (c : tie.After-part_of-part) (g : Given c.before.before) where
+  closed : PartIs g c.part_of-part.result
+  closed = part-is g c.part_of-part.result (c.part_of-part.ensures (columns-given g)).0
 
 -- what the calls give, for rows that the pair stands for
-module _ (c : tie.After-best-of) where
-  abbrev parted : tie.After-part-of
-  parted = c.before.before
+module _ (c : tie.After-best_of-best) where
+  abbrev parted : tie.After-part_of-part
+  parted = c.before
 
   abbrev start : tie.Start
   start = parted.before.before
@@ -34,78 +34,78 @@ module _ (c : tie.After-best-of) where
 
   -- the array with one value put, and with two
   abbrev one : List ℕ
-  one = set start.args.kept.now pair (parted.part_of.result.agreed + c.best_of.result.cost)
+  one = set start.args.kept.now pair (parted.part_of-part.result.agreed + c.best_of-best.result.cost)
 
   abbrev two : List ℕ
-  two = set one (4096 + pair) c.best_of.result.cost
+  two = set one (4096 + pair) c.best_of-best.result.cost
 
-module _ (c : tie.After-best-of) (g : Given (start c)) where
+module _ (c : tie.After-best_of-best) (g : Given (start c)) where
   one-long : Long (one c)
-  one-long = length-set (start c).args.kept.now (pair c) ((parted c).part_of.result.agreed + c.best_of.result.cost) ∙ g.long
+  one-long = length-set (start c).args.kept.now (pair c) ((parted c).part_of-part.result.agreed + c.best_of-best.result.cost) ∙ g.long
 
   two-long : Long (two c)
-  two-long = length-set (one c) (4096 + pair c) c.best_of.result.cost ∙ one-long
+  two-long = length-set (one c) (4096 + pair c) c.best_of-best.result.cost ∙ one-long
 
   low : pair c < 4096
   low = omega (arith, g.order, g.inside, g.few)
 
-  abbrev sort : PartIs g (parted c).part_of.result
+  abbrev sort : PartIs g (parted c).part_of-part.result
   sort = closed (parted c) g
 
-  least : c.best_of.result.cost
+  least : c.best_of-best.result.cost
       ≡ least_by g.m (flags_in g.width (start c).args.asked.named) g.width g.rows g.N (start c).args.row.number (start c).args.shared.last
-  least = ap (λ (x : Choice). x.cost) (c.best_of.ensures (sorted g sort ((parted c).part_of.ensures (columns-given g)).1))
+  least = ap (λ (x : Choice). x.cost) (c.best_of-best.ensures (sorted g sort ((parted c).part_of-part.ensures (columns-given g)).1))
 
-  chosen : c.best_of.result.place
+  chosen : c.best_of-best.result.place
       ≡ place_by g.m (flags_in g.width (start c).args.asked.named) g.width g.rows g.N (start c).args.row.number (start c).args.shared.last
-  chosen = ap (λ (x : Choice). x.place) (c.best_of.ensures (sorted g sort ((parted c).part_of.ensures (columns-given g)).1))
+  chosen = ap (λ (x : Choice). x.place) (c.best_of-best.ensures (sorted g sort ((parted c).part_of-part.ensures (columns-given g)).1))
 
-part-of-requires : tie.Need-part-of-requires
-part-of-requires c κs = let g = c.before.requires in (columns-given g, g.light)
+part-of-requires : tie.Need-part_of-part-requires
+part-of-requires c κs = let g = c.requires in (columns-given g, g.light)
 
-best-of-requires : tie.Need-best-of-requires
+best-of-requires : tie.Need-best_of-best-requires
 best-of-requires c κs =
-    let p = c.before in
-    let g = p.before.before.requires in
-    sorted g (closed p g) (p.part_of.ensures (columns-given g)).1
+    let p = c in
+    let g = p.requires in
+    sorted g (closed p g) (p.part_of-part.ensures (columns-given g)).1
 
-mul-pair : tie.Need-overflow-mul-pair
-mul-pair c = record { fits = omega (arith, low c.before (start c.before).pre) }
+mul-pair : tie.Need-overflow_mul-pair
+mul-pair c = record { fits = omega (arith, low c.before (start c.before).requires) }
 
-add-pair : tie.Need-overflow-add-pair
-add-pair c = record { fits = omega (arith, low c.before (start c.before).pre) }
+add-pair : tie.Need-overflow_add-pair
+add-pair c = record { fits = omega (arith, low c.before (start c.before).requires) }
 
-add_kept : tie.Need-overflow-add-kept
+add_kept : tie.Need-overflow_add-kept
 add_kept c =
     let b = c.before in
     let g = (start b).requires in
-    record { fits = omega (arith, least b g, keep-small g, ((parted b).part_of.ensures (columns-given g)).1) }
+    record { fits = omega (arith, least b g, keep-small g, ((parted b).part_of-part.ensures (columns-given g)).1) }
 
-mul-kept : tie.Need-overflow-mul-kept
+mul-kept : tie.Need-offset_bounds-kept-pair
 mul-kept c = search rules
 
-slice-write-kept : tie.Need-slice-write-kept
+slice-write-kept : tie.Need-bounds-kept-pair
 slice-write-kept c = search rules
 
-add-kept-2 : tie.Need-overflow-add-kept-2
+add-kept-2 : tie.Need-overflow_add-kept-2
 add-kept-2 c = search rules
 
-mul-kept-2 : tie.Need-overflow-mul-kept-2
+mul-kept-2 : tie.Need-offset_bounds-kept-pair-2
 mul-kept-2 c = search rules
 
-slice-write-kept-2 : tie.Need-slice-write-kept-2
+slice-write-kept-2 : tie.Need-bounds-kept-pair-2
 slice-write-kept-2 c = (let h = c.before in omega (arith, low h (start h).requires, one-long h (start h).requires))
 
-add-kept-3 : tie.Need-overflow-add-kept-3
+add-kept-3 : tie.Need-overflow_add-kept-3
 add-kept-3 c = search rules
 
-mul-kept-3 : tie.Need-overflow-mul-kept-3
+mul-kept-3 : tie.Need-offset_bounds-kept-pair-3
 mul-kept-3 c = search rules
 
-slice-write-kept-3 : tie.Need-slice-write-kept-3
+slice-write-kept-3 : tie.Need-bounds-kept-pair-3
 slice-write-kept-3 c = (let h = c.before in omega (arith, low h (start h).requires, two-long h (start h).requires))
 
-same_length : tie.Need-same-length
+same_length : tie.Need-shape_of-kept
 same_length c = search rules
 
 returns : tie.Need-returns
@@ -113,8 +113,8 @@ returns c = λ g.
     (let b = c.before in
     record { is = put-same-values (start b).args.kept.now (pair b) (sort b g).agreed-is (least b g) (chosen b g) })
 
-pub keep-pair-spec : {M : Type 1} → statement M
-keep-pair-spec =
+pub keep_pair_spec : {M : Type 1} → statement M
+keep_pair_spec =
     tie.close
     (tie.spec
     part-of-requires

@@ -6,41 +6,41 @@ use borrow.Author.Rules.{rules}
 use Rattle.paircosts.proofs.arrays.next_note.Statement.{statement}
 use Rattle.paircosts.proofs.arrays.next_note.Tie as tie
 
-same-symbol-requires : tie.Need-same-symbol-requires
+same-symbol-requires : tie.Need-same_symbol-requires
 same-symbol-requires c κs = search rules
 
-returns : tie.Need-returns
+returns : tie.Need-returns-then-same_symbol
 returns c =
-    let e : agree c.before.before.before.args.c c.before.before.before.args.d ≡ true = sym c.before.same-symbol.ensures ∙ c.if1.true in
+    let e : agree c.args.c c.args.d ≡ true = sym c.same_symbol.ensures ∙ c.if-same_symbol.true in
     rw e
 
-cast-to : tie.Need-overflow-cast-to
+cast-to : tie.Need-overflow_cast-to
 cast-to c = search rules
 
-add-cost-in : tie.Need-overflow-add-cost-in
+add-cost-in : tie.Need-overflow_add-row
 add-cost-in c = search rules
 
-cost-in-requires : tie.Need-cost-in-requires
+cost-in-requires : tie.Need-cost_in-ended-requires
 cost-in-requires c κs = search rules
 
-add-t10 : tie.Need-overflow-add-t10
+add-t10 : tie.Need-overflow_add-result
 add-t10 c = search rules
 
-add-t11 : tie.Need-overflow-add-t11
+add-t11 : tie.Need-overflow_add-result-2
 add-t11 c = search rules
 
-cast-t12 : tie.Need-overflow-cast-t12
+cast-t12 : tie.Need-overflow_cast-result
 cast-t12 c = search rules
 
-returns-2 : tie.Need-returns-2
+returns-2 : tie.Need-returns
 returns-2 c =
-    let a = c.before.before.before.before.before.before.before.args in
+    let a = c.args in
     let e : agree a.c a.d ≡ false =
-    sym c.before.before.before.before.before.same-symbol.ensures ∙ c.before.before.before.before.if1.false in
-    rw (e, c.before.before.cost-in.ensures, add-one a.s.runs, add-one a.row)
+    sym c.same_symbol.ensures ∙ c.if-same_symbol.false in
+    rw (e, c.cost_in-ended.ensures, add-one a.s.runs, add-one a.row)
 
-pub next-note-spec : {M : Type 1} → statement M
-next-note-spec =
+pub next_note_spec : {M : Type 1} → statement M
+next_note_spec =
     tie.close
     (tie.spec
     same-symbol-requires

@@ -7,65 +7,65 @@ use Rattle.paircosts.proofs.FillLaws.{filled-start, filled-after, last-at, finis
 use Rattle.paircosts.proofs.arrays.pairs_again.Statement.{statement}
 use Rattle.paircosts.proofs.arrays.pairs_again.Tie as tie
 
-abbrev invariant-loop : tie.invariant-loop
+abbrev invariant-loop : tie.invariant-loop-last
 invariant-loop cells marks starts kept₀ asked count last₀ kept last =
     (asked.since ≤ last) × ((t : Task cells marks starts asked kept₀) → FilledTo t (suc last) last kept)
 
-abbrev decreases-loop : tie.decreases-loop
+abbrev decreases-loop : tie.decreases-loop-last
 decreases-loop cells marks starts kept₀ asked count last₀ kept last = count - last
 
-loop-holds : tie.Need-loop-init invariant-loop decreases-loop
+loop-holds : tie.Need-loop-last-init invariant-loop decreases-loop
 loop-holds c = (omega arith, λ t. filled-start t)
 
-row-end-requires : tie.Need-row-end-requires invariant-loop decreases-loop
+row-end-requires : tie.Need-row_end-end-requires invariant-loop decreases-loop
 row-end-requires c κs =
-    let t = c.before.before.before.before.requires in
-    (omega (arith, c.loop-test.true, t.laid.few), t.laid.few)
+    let t = c.requires in
+    (omega (arith, c.loop-last-test.true, t.laid.few), t.laid.few)
 
-mul-t11 : tie.Need-overflow-mul-t11 invariant-loop decreases-loop
+mul-t11 : tie.Need-offset_bounds-starts-last invariant-loop decreases-loop
 mul-t11 c =
-    let t = c.before.before.before.before.before.requires in
-    record { fits = omega (arith, c.before.loop-test.true, t.laid.few) }
+    let t = c.requires in
+    record { fits = omega (arith, c.loop-last-test.true, t.laid.few) }
 
-element-copy-out-t14 : tie.Need-element-copy-out-t14 invariant-loop decreases-loop
+element-copy-out-t14 : tie.Need-bounds-starts-last invariant-loop decreases-loop
 element-copy-out-t14 c =
-    let t = c.before.before.before.before.before.requires in
-    omega (arith, c.before.loop-test.true, t.laid.few)
+    let t = c.requires in
+    omega (arith, c.loop-last-test.true, t.laid.few)
 
-pairs-to-requires : tie.Need-pairs-to-requires invariant-loop decreases-loop
+pairs-to-requires : tie.Need-pairs_to-requires invariant-loop decreases-loop
 pairs-to-requires c κs =
     let e = c.before.before in
-    let i = e.before in
-    let t = i.before.before.before.before.requires in
-    last-at t i.loop-test.true e.row-end.ensures i.before.loop.invariant.0 (i.before.loop.invariant.1 t)
+    let i = e in
+    let t = i.requires in
+    last-at t i.loop-last-test.true e.row_end-end.ensures i.loop-last.invariant.0 (i.loop-last.invariant.1 t)
 
-add-last : tie.Need-overflow-add-last invariant-loop decreases-loop
+add-last : tie.Need-overflow_add-last invariant-loop decreases-loop
 add-last c =
-    let i = c.before.before.before.before.before.before in
-    let t = i.before.before.before.before.requires in
-    record { fits = omega (arith, i.loop-test.true, t.laid.few) }
+    let i = c in
+    let t = i.requires in
+    record { fits = omega (arith, i.loop-last-test.true, t.laid.few) }
 
-loop-less : tie.Need-loop-smaller invariant-loop decreases-loop
-loop-less c = (let i = c.before.before.before.before.before.before in omega (arith, i.loop-test.true))
+loop-less : tie.Need-loop-last-smaller invariant-loop decreases-loop
+loop-less c = (let i = c in omega (arith, i.loop-last-test.true))
 
-loop-again : tie.Need-loop-preserved invariant-loop decreases-loop
+loop-again : tie.Need-loop-last-preserved invariant-loop decreases-loop
 loop-again c =
     let e = c.before.before.before.before.before in
-    let i = e.before in (
-      omega (arith, i.before.loop.invariant.0),
-      λ t. rw (add-one i.before.loop.last)
-          (filled-after t (c.before.before.pairs-to.ensures
-          (last-at t i.loop-test.true e.row-end.ensures i.before.loop.invariant.0 (i.before.loop.invariant.1 t)))),
+    let i = e in (
+      omega (arith, i.loop-last.invariant.0),
+      λ t. rw (add-one i.loop-last.last)
+          (filled-after t (c.pairs_to.ensures
+          (last-at t i.loop-last-test.true e.row_end-end.ensures i.loop-last.invariant.0 (i.loop-last.invariant.1 t)))),
     )
 
-same_length : tie.Need-same-length invariant-loop decreases-loop
-same_length c = (let t = c.before.before.before.before.requires in (c.before.loop.invariant.1 t).long ∙ sym t.long)
+same_length : tie.Need-shape_of-kept invariant-loop decreases-loop
+same_length c = (let t = c.requires in (c.loop-last.invariant.1 t).long ∙ sym t.long)
 
 returns : tie.Need-returns invariant-loop decreases-loop
-returns c = λ t. finished t c.loop-test.false (c.before.loop.invariant.1 t)
+returns c = λ t. finished t c.loop-last-test.false (c.loop-last.invariant.1 t)
 
-pub pairs-again-spec : {M : Type 1} → statement M
-pairs-again-spec =
+pub pairs_again_spec : {M : Type 1} → statement M
+pairs_again_spec =
     tie.close
     (tie.spec
     invariant-loop

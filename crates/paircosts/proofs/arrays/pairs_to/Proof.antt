@@ -10,12 +10,12 @@ use Rattle.paircosts.proofs.arrays.pairs_to.Statement.{statement}
 use Rattle.paircosts.proofs.arrays.pairs_to.Tie as tie
 
 -- for each task for which it is so where the loop begins, a row is noted and its pair is done
-abbrev invariant-loop : tie.invariant-loop
+abbrev invariant-loop : tie.invariant-loop-first
 invariant-loop cells marks starts kept₀ asked last notes₀ agreed₀ first₀ kept notes agreed first =
     (old : List ℕ) (t : Task cells marks starts asked old) → NotedTo t first₀.number last first₀ notes₀ kept₀ agreed₀
     → NotedTo t first.number last first notes kept agreed
 
-abbrev decreases-loop : tie.decreases-loop
+abbrev decreases-loop : tie.decreases-loop-first
 decreases-loop cells marks starts kept₀ asked last notes₀ agreed₀ first₀ kept notes agreed first = first.number
 
 -- what is given
@@ -23,109 +23,109 @@ abbrev Given : tie.Start invariant-loop decreases-loop → Type 0
 Given s = LastAt s.args.cells.now s.args.marks.now s.args.starts.now s.args.kept.now s.args.asked s.args.row
 
 -- the last row by itself
-module _ (c : tie.After-note-last invariant-loop decreases-loop) where
+module _ (c : tie.After-note_last-agreed invariant-loop decreases-loop) where
   abbrev start : tie.Start invariant-loop decreases-loop
   start = c.before.before.before.before
 
   row-noted : (g : Given start) → NotedTo g.task (suc start.args.row.number) start.args.row.number start.args.row
-      c.note-last.new.1.1.0 start.args.kept.now
-      c.note-last.result
+      c.note_last-agreed.new.notes start.args.kept.now
+      c.note_last-agreed.result
   row-noted g =
       last-noted g.task g.here g.late g.filled (length-replicate {A = ℕ} 192 0)
-      (c.note-last.ensures (last_row g.task g.here (length-replicate {A = ℕ} 192 0))).1
+      (c.note_last-agreed.ensures (last_row g.task g.here (length-replicate {A = ℕ} 192 0))).1
 
 -- and its pair
-module _ (c : tie.After-keep-before invariant-loop decreases-loop) where
-  abbrev noted : tie.After-note-last invariant-loop decreases-loop
+module _ (c : tie.After-keep_before invariant-loop decreases-loop) where
+  abbrev noted : tie.After-note_last-agreed invariant-loop decreases-loop
   noted = c.before.before.before
 
   row_kept : (g : Given (start noted)) → NotedTo g.task (start noted).args.row.number (start noted).args.row.number (start noted).args.row
-      noted.note-last.last.1.1.0
-      c.keep-before.new.1.0 noted.note-last.result
-  row_kept g = pair-kept g.task (row-noted noted g) (c.keep-before.ensures (pair-at g.task (row-noted noted g)))
+      noted.note_last-agreed.new.notes
+      c.keep_before.new.kept noted.note_last-agreed.result
+  row_kept g = pair-kept g.task (row-noted noted g) (c.keep_before.ensures (pair-at g.task (row-noted noted g)))
 
-abbrev kept_at : tie.At-loop invariant-loop decreases-loop → tie.After-keep-before invariant-loop decreases-loop
+abbrev kept_at : tie.At-loop-first invariant-loop decreases-loop → tie.After-keep_before invariant-loop decreases-loop
 kept_at l = l.before.before.before
 
 -- one row more in front
-module _ (c : tie.After-note-row invariant-loop decreases-loop) where
-  abbrev turn : tie.Then1 invariant-loop decreases-loop
-  turn = c.before.before.before.before
+module _ (c : tie.After-note_row-agreed invariant-loop decreases-loop) where
+  abbrev turn : tie.In-loop-first invariant-loop decreases-loop
+  turn = c.before.before.before
 
-  abbrev loop : tie.At-loop invariant-loop decreases-loop
+  abbrev loop : tie.At-loop-first invariant-loop decreases-loop
   loop = turn.before.before
 
   abbrev entry : tie.Start invariant-loop decreases-loop
   entry = start (noted (kept_at loop))
 
   next-row-noted : {old : List ℕ} (t : Task entry.args.cells.now entry.args.marks.now entry.args.starts.now entry.args.asked old)
-      → NotedTo t loop.loop.first.number entry.args.row.number loop.loop.first loop.loop.notes loop.loop.kept loop.loop.agreed
-      → NotedTo t (suc c.before.before.before.row_before.result.number) entry.args.row.number c.before.before.before.row_before.result
-      c.note-row.new.1.1.1.0 loop.loop.kept c.note-row.result
+      → NotedTo t loop.loop-first.first.number entry.args.row.number loop.loop-first.first loop.loop-first.notes loop.loop-first.kept loop.loop-first.agreed
+      → NotedTo t (suc c.row_before-first.result.number) entry.args.row.number c.row_before-first.result
+      c.note_row-agreed.new.notes loop.loop-first.kept c.note_row-agreed.result
   next-row-noted t x =
-      let r = c.before.before.before.row_before in
-      next-noted t x turn.if1.taken r.result r.ensures c.note-row.new.1.1.1.0 c.note-row.result
-      (c.note-row.ensures (next_row t x turn.if1.taken r.result r.ensures))
+      let r = c.row_before-first in
+      next-noted t x turn.loop-first-test.true r.result r.ensures c.note_row-agreed.new.notes c.note_row-agreed.result
+      (c.note_row-agreed.ensures (next_row t x turn.loop-first-test.true r.result r.ensures))
 
-note-last-requires : tie.Need-note-last-requires invariant-loop decreases-loop
+note-last-requires : tie.Need-note_last-agreed-requires invariant-loop decreases-loop
 note-last-requires c κs =
-    let g = c.before.before.before.requires in
+    let g = c.requires in
     last_row g.task g.here (length-replicate {A = ℕ} 192 0)
 
-keep-before-requires : tie.Need-keep-before-requires invariant-loop decreases-loop
+keep-before-requires : tie.Need-keep_before-requires invariant-loop decreases-loop
 keep-before-requires c κs =
     let n = c.before.before in
     let g = (start n).requires in
     pair-at g.task (row-noted n g)
 
-loop-holds : tie.Need-loop-init invariant-loop decreases-loop
+loop-holds : tie.Need-loop-first-init invariant-loop decreases-loop
 loop-holds c = λ old t x. x
 
-row-before-requires : tie.Need-row-before-requires invariant-loop decreases-loop
+row-before-requires : tie.Need-row_before-first-requires invariant-loop decreases-loop
 row-before-requires c κs =
     let l = c.before.before in
-    let g = (start (noted (kept_at l))).pre in
-    let x = l.loop.invariant g.old g.task (row_kept (kept_at l) g) in
-    (c.if1.true, omega (arith, x.here.inside, g.task.laid.few))
+    let g = (start (noted (kept_at l))).requires in
+    let x = l.loop-first.invariant g.old g.task (row_kept (kept_at l) g) in
+    (c.loop-first-test.true, omega (arith, x.here.inside, g.task.laid.few))
 
-note-row-requires : tie.Need-note-row-requires invariant-loop decreases-loop
+note-row-requires : tie.Need-note_row-agreed-requires invariant-loop decreases-loop
 note-row-requires c κs =
-    let r = c.before.before.row_before in
+    let r = c.row_before-first in
     let i = c.before.before.before in
-    let l = i.before.before in
-    let g = (start (noted (kept_at l))).pre in
-    next_row g.task (l.loop.invariant g.old g.task (row_kept (kept_at l) g)) i.if1.true r.result r.ensures
+    let l = i.before in
+    let g = (start (noted (kept_at l))).requires in
+    next_row g.task (l.loop-first.invariant g.old g.task (row_kept (kept_at l) g)) c.loop-first-test.true r.result r.ensures
 
-keep-before-requires-2 : tie.Need-keep-before-requires-2 invariant-loop decreases-loop
+keep-before-requires-2 : tie.Need-keep_before-requires-in-loop-first invariant-loop decreases-loop
 keep-before-requires-2 c κs =
     let n = c.before.before in
     let g = (entry n).requires in
-    pair-at g.task (next-row-noted n g.task ((loop n).loop.invariant g.old g.task (row_kept (kept_at (loop n)) g)))
+    pair-at g.task (next-row-noted n g.task ((loop n).loop-first.invariant g.old g.task (row_kept (kept_at (loop n)) g)))
 
-loop-less : tie.Need-loop-smaller invariant-loop decreases-loop
+loop-less : tie.Need-loop-first-smaller invariant-loop decreases-loop
 loop-less c =
     let n = c.before.before.before.before.before in
-    omega (arith, (turn n).if1.true, ap (λ (r : Row). r.number) n.before.before.before.row_before.ensures)
+    omega (arith, (turn n).loop-first-test.true, ap (λ (r : Row). r.number) n.row_before-first.ensures)
 
-loop-again : tie.Need-loop-preserved invariant-loop decreases-loop
+loop-again : tie.Need-loop-first-preserved invariant-loop decreases-loop
 loop-again c = λ old t x.
     (let n = c.before.before.before.before.before in
-    let y = next-row-noted n t ((loop n).loop.invariant old t x) in
-    pair-kept t y (c.before.before.keep-before2.ensures (pair-at t y)))
+    let y = next-row-noted n t ((loop n).loop-first.invariant old t x) in
+    pair-kept t y (c.keep_before-in-loop-first.ensures (pair-at t y)))
 
-same_length : tie.Need-same-length invariant-loop decreases-loop
+same_length : tie.Need-shape_of-kept invariant-loop decreases-loop
 same_length c =
     let l = c.before.before in
-    let g = (start (noted (kept_at l))).pre in
-    (l.loop.invariant g.old g.task (row_kept (kept_at l) g)).filled.long ∙ sym g.filled.long
+    let g = (start (noted (kept_at l))).requires in
+    (l.loop-first.invariant g.old g.task (row_kept (kept_at l) g)).filled.long ∙ sym g.filled.long
 
 returns : tie.Need-returns invariant-loop decreases-loop
 returns c = λ g.
     (let l = c.before.before in
-    rows-done g.task (l.loop.invariant g.old g.task (row_kept (kept_at l) g)) c.if1.false)
+    rows-done g.task (l.loop-first.invariant g.old g.task (row_kept (kept_at l) g)) c.loop-first-test.false)
 
-pub pairs-to-spec : {M : Type 1} → statement M
-pairs-to-spec =
+pub pairs_to_spec : {M : Type 1} → statement M
+pairs_to_spec =
     tie.close
     (tie.spec
     invariant-loop

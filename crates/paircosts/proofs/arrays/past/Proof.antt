@@ -9,65 +9,65 @@ use Rattle.paircosts.proofs.arrays.past.Statement.{statement}
 use Rattle.paircosts.proofs.arrays.past.Tie as tie
 
 -- the terms that are left end where all of them do
-abbrev invariant-loop : tie.invariant-loop
+abbrev invariant-loop : tie.invariant-loop-left
 invariant-loop cells marks start terms at₀ left₀ at left = (past_of cells left at ≡ past_of cells terms start) × (start ≤ at) × (at ≤ length cells)
 
-abbrev decreases-loop : tie.decreases-loop
+abbrev decreases-loop : tie.decreases-loop-left
 decreases-loop cells marks start terms at₀ left₀ at left = left
 
 -- what is given
-abbrev begin : tie.At-loop invariant-loop decreases-loop → tie.Start invariant-loop decreases-loop
+abbrev begin : tie.At-loop-left invariant-loop decreases-loop → tie.Start invariant-loop decreases-loop
 begin l = l.before.before
 
-loop-holds : tie.Need-loop-init invariant-loop decreases-loop
-loop-holds c = (refl, omega arith, c.before.requires.1)
+loop-holds : tie.Need-loop-left-init invariant-loop decreases-loop
+loop-holds c = (refl, omega arith, c.requires.1)
 
-returns : tie.Need-returns invariant-loop decreases-loop
+returns : tie.Need-returns-then-cells-at invariant-loop decreases-loop
 returns c =
     let l = c.before.before in
-    sym (past-out (begin l).args.cells.now l.loop.left l.loop.at c.if1.true) ∙ l.loop.invariant.0
+    sym (past-out (begin l).args.cells.now l.loop-left.left l.loop-left.at c.if-cells-at.true) ∙ l.loop-left.invariant.0
 
-mul-end-in : tie.Need-overflow-mul-end-in invariant-loop decreases-loop
+mul-end-in : tie.Need-offset_bounds-marks-at invariant-loop decreases-loop
 mul-end-in c = search rules
 
-element-copy-out-end-in : tie.Need-element-copy-out-end-in invariant-loop decreases-loop
-element-copy-out-end-in c = let l = c.before.before in omega (arith, c.if1.false, (begin l).requires.0)
+element-copy-out-end-in : tie.Need-bounds-marks-at invariant-loop decreases-loop
+element-copy-out-end-in c = let l = c.before.before.before in omega (arith, c.if-cells-at.false, (begin l).requires.0)
 
-end-in-requires : tie.Need-end-in-requires invariant-loop decreases-loop
+end-in-requires : tie.Need-end_in-at-requires invariant-loop decreases-loop
 end-in-requires c κs = tt
 
-sub-left : tie.Need-overflow-sub-left invariant-loop decreases-loop
+sub-left : tie.Need-overflow_sub-left invariant-loop decreases-loop
 sub-left c = search rules
 
-loop-less : tie.Need-loop-smaller invariant-loop decreases-loop
+loop-less : tie.Need-loop-left-smaller invariant-loop decreases-loop
 loop-less c = search rules
 
 -- one term is passed
-module _ (c : tie.After-end-in invariant-loop decreases-loop) where
-  abbrev loop : tie.At-loop invariant-loop decreases-loop
-  loop = c.before.before.before.before
+module _ (c : tie.After-end_in-at invariant-loop decreases-loop) where
+  abbrev loop : tie.At-loop-left invariant-loop decreases-loop
+  loop = c.before.before.before.before.before
 
-  passed : c.end-in.result ≡ past_of (begin loop).args.cells.now 1 loop.loop.at
-  passed = c.end-in.ensures ∙ (begin loop).pre.2 loop.loop.at loop.loop.inv.1 (omega (arith, c.before.before.if1.false))
+  passed : c.end_in-at.result ≡ past_of (begin loop).args.cells.now 1 loop.loop-left.at
+  passed = c.end_in-at.ensures ∙ (begin loop).requires.2 loop.loop-left.at loop.loop-left.invariant.1 (omega (arith, c.if-cells-at.false))
 
-loop-again : tie.Need-loop-preserved invariant-loop decreases-loop
+loop-again : tie.Need-loop-left-preserved invariant-loop decreases-loop
 loop-again c =
     let l = loop c in
     let s = (begin l).args.cells.now in
     let e = passed c in (
-      ap (λ (q : ℕ). past_of s (l.loop.left - 1) q) e ∙ past_more s l.loop.left l.loop.at c.before.before.before.loop-test.true
-          ∙ l.loop.inv.0,
-      omega (arith, e, l.loop.inv.1),
-      omega (arith, e, past-in s 1 l.loop.at l.loop.inv.2),
+      ap (λ (q : ℕ). past_of s (l.loop-left.left - 1) q) e ∙ past_more s l.loop-left.left l.loop-left.at c.loop-left-test.true
+          ∙ l.loop-left.invariant.0,
+      omega (arith, e, l.loop-left.invariant.1),
+      omega (arith, e, past-in s 1 l.loop-left.at l.loop-left.invariant.2),
     )
 
-returns-2 : tie.Need-returns-2 invariant-loop decreases-loop
+returns-2 : tie.Need-returns invariant-loop decreases-loop
 returns-2 c =
     let l = c.before in
-    sym (past-none (begin l).args.cells.now l.loop.left l.loop.at c.loop-test.false) ∙ l.loop.invariant.0
+    sym (past-none (begin l).args.cells.now l.loop-left.left l.loop-left.at c.loop-left-test.false) ∙ l.loop-left.invariant.0
 
-pub past-spec : {M : Type 1} → statement M
-past-spec =
+pub past_spec : {M : Type 1} → statement M
+past_spec =
     tie.close
     (tie.spec
     invariant-loop
