@@ -7,7 +7,7 @@ use crate::store::{copy, put};
 use limits::ROWS;
 
 // Where a row is put into a table of a width and so many rows: instead of the row with a number, or after the last.
-#[derive(Drop)]
+#[derive(Clone, Copy)]
 pub struct Place {
     pub width: usize,
     pub count: usize,

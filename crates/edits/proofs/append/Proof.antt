@@ -10,59 +10,59 @@ use borrow.Author.Rules.{rules}
 use Rattle.edits.proofs.append.Statement.{statement}
 use Rattle.edits.proofs.append.Tie as tie
 
-table-of-requires : tie.Need-table-of-requires
+table-of-requires : tie.Need-table_of-requires
 table-of-requires c κs = search rules
 
-read-table-requires : tie.Need-read-table-requires
+read-table-requires : tie.Need-read_table-read-requires
 read-table-requires c κs = search rules
 
-enum-known-answer : tie.Need-enum-known-answer
+enum-known-answer : tie.Need-enum_known-answer
 enum-known-answer c = search rules
 
-turned-away-requires : tie.Need-turned-away-requires
+turned-away-requires : tie.Need-turned_away-requires
 turned-away-requires c κs = search rules
 
 -- the record's table, where it is one
-module _ (c : tie.After-answer) where
+module _ (c : tie.In-Accepted) where
   abbrev start : tie.Start
-  start = c.before.before.before.before.before.before
+  start = c.before.before.before.before
 
   abbrev count : ℕ
-  count = c.answer.given.0.1.0
+  count = c.in-Accepted.count
 
-  cells_are : c.before.before.before.table_of.result.now ≡ table_in start.args.rec.now
-  cells_are = c.before.before.before.table_of.ensures
+  cells_are : c.table_of.result.now ≡ table_in start.args.rec.now
+  cells_are = c.table_of.ensures
 
-  table_here : TableRows c.before.before.before.table_of.result.now c.before.before.read_table.result.starts
-      c.answer.given.0.0 count
-  table_here = table-rows _ c.before.before.read_table.ensures c.answer.given.1
+  table_here : TableRows c.table_of.result.now c.read_table-read.result.starts
+      c.in-Accepted.width count
+  table_here = table-rows _ c.read_table-read.ensures c.in-Accepted.is
 
-returns : tie.Need-returns
+returns : tie.Need-returns-then-count-ge-ROWS
 returns c =
-    let a = c.before.before.before in
-    λ figure T x. full (cells_are a) (table_here a) x _ c.before.if1.true c.turned-away.ensures
+    let a = c.before.before in
+    λ figure T x. full (cells_are a) (table_here a) x _ c.if-count-ge-ROWS.true c.turned_away.ensures
 
-put-row-requires : tie.Need-put-row-requires
+put-row-requires : tie.Need-put_row-requires
 put-row-requires c κs =
-    let a = c.before.before.before.before.before in
-    placed (cells_are a) (table_here a) (count a) (omega arith) c.before.before.before.if1.false
+    let a = c.before.before.before.before in
+    placed (cells_are a) (table_here a) (count a) (omega arith) c.if-count-ge-ROWS.false
 
-enum-known-answer-2 : tie.Need-enum-known-answer-2
+enum-known-answer-2 : tie.Need-enum_known-answer-in-Refused-1
 enum-known-answer-2 c = search rules
 
-returns-2 : tie.Need-returns-2
+returns-2 : tie.Need-returns-else-count-ge-ROWS
 returns-2 c =
-    let a = c.before.before.before.before.before.before in
-    let e = c.before.before.before.before in
-    λ figure T x. appended (cells_are a) (table_here a) x _ (omega arith) e.if1.false c.put-row.ensures refl
+    let a = c.before.before.before.before.before in
+    let e = c in
+    λ figure T x. appended (cells_are a) (table_here a) x _ (omega arith) e.if-count-ge-ROWS.false c.put_row.ensures refl
 
-returns-3 : tie.Need-returns-3
+returns-3 : tie.Need-returns-in-Refused
 returns-3 c =
-    let r = c.before.before.before in
-    λ figure T x. no_table r.before.table_of.ensures r.read_table.ensures c.before.answer2.given.1 x
+    let r = c in
+    λ figure T x. no_table r.table_of.ensures r.read_table-read.ensures c.in-Refused.is x
 
-pub append-spec : {M : Type 1} → statement M
-append-spec =
+pub append_spec : {M : Type 1} → statement M
+append_spec =
     tie.close
     (tie.spec
     table-of-requires

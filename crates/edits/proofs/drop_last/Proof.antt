@@ -14,34 +14,34 @@ use Rattle.edits.proofs.drop_last.Statement.{statement}
 use Rattle.edits.proofs.drop_last.Tie as tie
 use Rattle.limits.specs.Limits.{most_table_cells}
 
-table-of-requires : tie.Need-table-of-requires
+table-of-requires : tie.Need-table_of-cells-requires
 table-of-requires c κs = search rules
 
-read-table-requires : tie.Need-read-table-requires
+read-table-requires : tie.Need-read_table-read-requires
 read-table-requires c κs = search rules
 
-enum-known-answer : tie.Need-enum-known-answer
+enum-known-answer : tie.Need-enum_known-answer
 enum-known-answer c = search rules
 
-turned-away-requires : tie.Need-turned-away-requires
+turned-away-requires : tie.Need-turned_away-requires
 turned-away-requires c κs = search rules
 
 -- the record's table, where it is one
-module _ (c : tie.After-answer) where
+module _ (c : tie.In-Accepted) where
   abbrev cells : List ℕ
-  cells = c.before.before.before.before.table_of.result.now
+  cells = c.table_of-cells.result.now
 
   abbrev starts : List ℕ
-  starts = c.before.before.before.read_table.result.starts
+  starts = c.read_table-read.result.starts
 
   abbrev count : ℕ
-  count = c.answer.given.0.1.0
+  count = c.in-Accepted.count
 
-  cells_are : cells ≡ table_in c.before.before.before.before.before.before.args.rec.now
-  cells_are = c.before.before.before.before.table_of.ensures
+  cells_are : cells ≡ table_in c.args.rec.now
+  cells_are = c.table_of-cells.ensures
 
-  table_here : TableRows cells starts c.answer.given.0.0 count
-  table_here = table-rows cells c.before.before.before.read_table.ensures c.answer.given.1
+  table_here : TableRows cells starts c.in-Accepted.width count
+  table_here = table-rows cells c.read_table-read.ensures c.in-Accepted.is
 
   few : (0 < count) × (count ≤ 64)
   few = few-rows table_here
@@ -53,75 +53,75 @@ module _ (c : tie.After-answer) where
   begins : get_or starts (count - 1) 0 ≤ length cells
   begins = start-within table_here (count - 1) (omega (arith, few))
 
-returns : tie.Need-returns
+returns : tie.Need-returns-then-count-le1
 returns c =
-    let a = c.before.before.before in
-    λ figure T x. only_row (cells_are a) (table_here a) x c.before.if1.true c.turned-away.ensures
+    let a = c.before.before in
+    λ figure T x. only_row (cells_are a) (table_here a) x c.if-count-le1.true c.turned_away.ensures
 
-sub-last : tie.Need-overflow-sub-last
+sub-last : tie.Need-overflow_sub-last
 sub-last c = search rules
 
-mul-start : tie.Need-overflow-mul-start
-mul-start c = omega (arith, few c.before.before)
+mul-start : tie.Need-offset_bounds-starts-last
+mul-start c = omega (arith, few c.before)
 
-array-read-start : tie.Need-array-read-start
-array-read-start c = omega (arith, few c.before.before)
+array-read-start : tie.Need-bounds-starts-last
+array-read-start c = omega (arith, few c.before)
 
-add-clear : tie.Need-overflow-add-clear
-add-clear c = (let a = c.before.before.before.before in omega (arith, begins a, size a))
+add-clear : tie.Need-overflow_add-start
+add-clear c = (let a = c.before.before.before in omega (arith, begins a, size a))
 
-add-clear-2 : tie.Need-overflow-add-clear-2
+add-clear-2 : tie.Need-overflow_add-size
 add-clear-2 c = search rules
 
 clear-requires : tie.Need-clear-requires
-clear-requires c κs = (let a = c.before.before.before.before in (omega (arith, begins a), omega (arith, size a)))
+clear-requires c κs = (let a = c.before.before.before in (omega (arith, begins a), omega (arith, size a)))
 
-sub-clear-pairs : tie.Need-overflow-sub-clear-pairs
+sub-clear-pairs : tie.Need-slice_bounds-clear_pairs-count
 sub-clear-pairs c = search rules
 
-part-clear-pairs-start : tie.Need-slice-bounds-clear-pairs-start
+part-clear-pairs-start : tie.Need-slice_bounds-clear_pairs-start
 part-clear-pairs-start c = search rules
 
-part-clear-pairs-end : tie.Need-slice-bounds-clear-pairs-end
+part-clear-pairs-end : tie.Need-slice_bounds-clear_pairs-end
 part-clear-pairs-end c = search rules
 
-clear-pairs-requires : tie.Need-clear-pairs-requires
+clear-pairs-requires : tie.Need-clear_pairs-requires
 clear-pairs-requires c κs =
     let s = c.before.before.before in
-    let a = s.before.before.before.before.before in
-    (lent-long s.clear.new.0 (omega arith), omega (arith, few a))
+    let a = s.before.before.before.before in
+    (lent-long s.clear.new.out (omega arith), omega (arith, few a))
 
 put-requires : tie.Need-put-requires
 put-requires c κs =
     let s = c.before.before.before.before.before.before.before in
-    let a = s.before.before.before.before.before in
+    let a = s.before.before.before.before in
     (search rules, omega (arith, begins a, size a))
 
-put-requires-2 : tie.Need-put-requires-2
+put-requires-2 : tie.Need-put-requires-in-Accepted
 put-requires-2 c κs =
     let s = c.before.before.before.before.before.before.before.before.before.before in
-    let a = s.before.before.before.before.before in
+    let a = s.before.before.before.before in
     (search rules, omega (arith, few a))
 
-enum-known-answer-2 : tie.Need-enum-known-answer-2
+enum-known-answer-2 : tie.Need-enum_known-answer-in-Refused-1
 enum-known-answer-2 c = search rules
 
-returns-2 : tie.Need-returns-2
+returns-2 : tie.Need-returns-else-count-le1
 returns-2 c =
     let h = c.before.before.before in
     let q = h.before.before.before.before in
     let s = q.before.before.before.before in
-    let a = s.before.before.before.before.before in
-    λ figure T x. last-dropped (cells_are a) (table_here a) x s.before.before.before.if1.false s.clear.ensures
-    q.clear-pairs.ensures h.put.ensures c.put2.ensures
+    let a = s.before.before.before.before in
+    λ figure T x. last-dropped (cells_are a) (table_here a) x s.if-count-le1.false s.clear.ensures
+    q.clear_pairs.ensures h.put.ensures c.put-in-Accepted.ensures
 
-returns-3 : tie.Need-returns-3
+returns-3 : tie.Need-returns-in-Refused
 returns-3 c =
-    let r = c.before.before.before.before in
-    λ figure T x. no_table r.before.table_of.ensures r.read_table.ensures c.before.answer2.given.1 x
+    let r = c in
+    λ figure T x. no_table r.table_of-cells.ensures r.read_table-read.ensures c.in-Refused.is x
 
-pub drop-last-spec : {M : Type 1} → statement M
-drop-last-spec =
+pub drop_last_spec : {M : Type 1} → statement M
+drop_last_spec =
     tie.close
     (tie.spec
     table-of-requires

@@ -10,57 +10,57 @@ use borrow.Author.Rules.{rules}
 use Rattle.edits.proofs.replace.Statement.{statement}
 use Rattle.edits.proofs.replace.Tie as tie
 
-table-of-requires : tie.Need-table-of-requires
+table-of-requires : tie.Need-table_of-requires
 table-of-requires c κs = search rules
 
-read-table-requires : tie.Need-read-table-requires
+read-table-requires : tie.Need-read_table-read-requires
 read-table-requires c κs = search rules
 
-enum-known-answer : tie.Need-enum-known-answer
+enum-known-answer : tie.Need-enum_known-answer
 enum-known-answer c = search rules
 
-turned-away-requires : tie.Need-turned-away-requires
+turned-away-requires : tie.Need-turned_away-requires
 turned-away-requires c κs = search rules
 
 -- the record's table, where it is one
-module _ (c : tie.After-answer) where
+module _ (c : tie.In-Accepted) where
   abbrev start : tie.Start
-  start = c.before.before.before.before.before.before
+  start = c.before.before.before.before
 
   abbrev count : ℕ
-  count = c.answer.given.0.1.0
+  count = c.in-Accepted.count
 
-  cells_are : c.before.before.before.table_of.result.now ≡ table_in start.args.rec.now
-  cells_are = c.before.before.before.table_of.ensures
+  cells_are : c.table_of.result.now ≡ table_in start.args.rec.now
+  cells_are = c.table_of.ensures
 
-  table_here : TableRows c.before.before.before.table_of.result.now c.before.before.read_table.result.starts
-      c.answer.given.0.0 count
-  table_here = table-rows _ c.before.before.read_table.ensures c.answer.given.1
+  table_here : TableRows c.table_of.result.now c.read_table-read.result.starts
+      c.in-Accepted.width count
+  table_here = table-rows _ c.read_table-read.ensures c.in-Accepted.is
 
-returns : tie.Need-returns
+returns : tie.Need-returns-then-count-r
 returns c =
-    let a = c.before.before.before in
-    λ figure T x. no_row (cells_are a) (table_here a) x _ (start a).args.r c.before.if1.true c.turned-away.ensures
+    let a = c.before.before in
+    λ figure T x. no_row (cells_are a) (table_here a) x _ (start a).args.r c.if-count-r.true c.turned_away.ensures
 
-put-row-requires : tie.Need-put-row-requires
+put-row-requires : tie.Need-put_row-requires
 put-row-requires c κs =
-    let a = c.before.before.before.before.before in
+    let a = c.before.before.before.before in
     placed (cells_are a) (table_here a) (start a).args.r (omega arith) (omega (arith, few-rows (table_here a)))
 
-enum-known-answer-2 : tie.Need-enum-known-answer-2
+enum-known-answer-2 : tie.Need-enum_known-answer-in-Refused-1
 enum-known-answer-2 c = search rules
 
-returns-2 : tie.Need-returns-2
+returns-2 : tie.Need-returns-else-count-r
 returns-2 c =
-    let a = c.before.before.before.before.before.before in
-    let e = c.before.before.before.before in
+    let a = c.before.before.before.before.before in
+    let e = c in
     let few = few-rows (table_here a) in
-    λ figure T x. replaced (cells_are a) (table_here a) x _ (omega arith) (omega (arith, few)) c.put-row.ensures e.if1.false
+    λ figure T x. replaced (cells_are a) (table_here a) x _ (omega arith) (omega (arith, few)) c.put_row.ensures e.if-count-r.false
 
-returns-3 : tie.Need-returns-3
+returns-3 : tie.Need-returns-in-Refused
 returns-3 c =
-    let r = c.before.before.before in
-    λ figure T x. no_table r.before.table_of.ensures r.read_table.ensures c.before.answer2.given.1 x
+    let r = c in
+    λ figure T x. no_table r.table_of.ensures r.read_table-read.ensures c.in-Refused.is x
 
 pub replace_spec : {M : Type 1} → statement M
 replace_spec =

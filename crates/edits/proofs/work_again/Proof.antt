@@ -6,29 +6,29 @@ use borrow.Author.Rules.{rules}
 use Rattle.edits.proofs.work_again.Statement.{statement}
 use Rattle.edits.proofs.work_again.Tie as tie
 
-slice-read-figure : tie.Need-slice-read-figure
+slice-read-figure : tie.Need-bounds-all-1
 slice-read-figure c = search rules
 
-slice-aggregate-fill : tie.Need-slice-aggregate-fill
+slice-aggregate-fill : tie.Need-slice_bounds-fill-end
 slice-aggregate-fill c =
-    (let a = c.before.before.before.before.args in sym (length-take-le a.size a.next.now (omega arith)))
+    (let a = c.args in sym (length-take-le a.size a.next.now (omega arith)))
 
-sub-fill : tie.Need-overflow-sub-fill
+sub-fill : tie.Need-slice_bounds-fill-count
 sub-fill c = search rules
 
-part-fill-start : tie.Need-slice-bounds-fill-start
+part-fill-start : tie.Need-slice_bounds-fill-start
 part-fill-start c = search rules
 
-part-fill-end : tie.Need-slice-bounds-fill-end
+part-fill-end : tie.Need-slice_bounds-fill-end-2
 part-fill-end c = search rules
 
-add-fill : tie.Need-overflow-add-fill
+add-fill : tie.Need-overflow_add-r
 add-fill c = search rules
 
-fill-requires : tie.Need-fill-requires
+fill-requires : tie.Need-fill-read-requires
 fill-requires c κs = search rules
 
-enum_told : tie.Need-enum-told
+enum_told : tie.Need-enum_told-1
 enum_told c = search rules
 
 copy-requires : tie.Need-copy-requires
@@ -37,20 +37,20 @@ copy-requires c κs = search rules
 put-requires : tie.Need-put-requires
 put-requires c κs = search rules
 
-enum-told-2 : tie.Need-enum-told-2
+enum-told-2 : tie.Need-enum_told-in_default
 enum-told-2 c = search rules
 
-returns : tie.Need-returns
+returns : tie.Need-returns-in-Accepted
 returns c =
     let s = c.before.before.before in
-    let f = s.before.before.before.before.before.before in
-    λ figure T row x y. again-held x y f.fill.ensures s.copy.ensures c.put.ensures
+    let f = s in
+    λ figure T row x y. again-held x y f.fill-read.ensures s.copy.ensures c.put.ensures
 
-returns-2 : tie.Need-returns-2
-returns-2 c = λ figure T row x y. again-read x y c.before.before.before.before.fill.ensures c.enum-told2.given.1
+returns-2 : tie.Need-returns-in_default
+returns-2 c = λ figure T row x y. again-read x y c.fill-read.ensures c.in_default.is
 
-pub work-again-spec : {M : Type 1} → statement M
-work-again-spec =
+pub work_again_spec : {M : Type 1} → statement M
+work_again_spec =
     tie.close
     (tie.spec
     slice-read-figure
