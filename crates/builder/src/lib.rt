@@ -35,6 +35,7 @@ fn copy(from: &[u32; PLAN_CELLS], size: usize, room: &mut [u32])
 
 // The answer for a plan that was written: its cells go to the front of the room where they fit; where they do not it is ROOM,
 // and nothing is written.
+#[tactic(auto, using(crate::specs::code::Writing::fitted, crate::specs::code::Writing::short))]
 fn put(from: &[u32; PLAN_CELLS], plan: Extent, room: &mut [u32]) -> BuildAnswer
     requires { (plan.cells ≤ most_plan_cells) × (plan.cells ≤ length from.now) }
     ensures { Put from.now plan.cells plan.cost room.old room.new result }

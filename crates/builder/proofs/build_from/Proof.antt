@@ -7,38 +7,38 @@ use borrow.Author.Rules.{rules}
 use Rattle.builder.proofs.build_from.Statement.{statement}
 use Rattle.builder.proofs.build_from.Tie as tie
 
-table-of-requires : tie.Need-table-of-requires
+table-of-requires : tie.Need-table_of-cells-requires
 table-of-requires c κs = search rules
 
-read-table-requires : tie.Need-read-table-requires
+read-table-requires : tie.Need-read_table-read-requires
 read-table-requires c κs = search rules
 
-sub-build : tie.Need-overflow-sub-build
+sub-build : tie.Need-slice_bounds-build-count
 sub-build c = search rules
 
-part-build-start : tie.Need-slice-bounds-build-start
+part-build-start : tie.Need-slice_bounds-build-start
 part-build-start c = search rules
 
-part-build-end : tie.Need-slice-bounds-build-end
+part-build-end : tie.Need-slice_bounds-build-end
 part-build-end c = search rules
 
 build-requires : tie.Need-build-requires
 build-requires c κs =
-    let s = c.before.before.before.before.before.before in (
-      record { rows = λ e. table-rows _ c.before.before.before.read_table.ensures e; flags = λ w h. pow_pos w },
+    let s = c in (
+      record { rows = λ e. table-rows _ c.read_table-read.ensures e; flags = λ w h. pow_pos w },
       lent-long s.args.rec.now (omega arith),
     )
 
-same_length : tie.Need-same-length
+same_length : tie.Need-shape_of-room
 same_length c = search rules
 
 returns : tie.Need-returns
 returns c =
-    λ figure T x. built-from x c.before.before.before.before.before.before.before.table_of.ensures
-    c.before.before.before.before.before.before.read_table.ensures c.before.before.build.ensures
+    λ figure T x. built-from x c.table_of-cells.ensures
+    c.read_table-read.ensures c.build.ensures
 
-pub build-from-spec : {M : Type 1} → statement M
-build-from-spec =
+pub build_from_spec : {M : Type 1} → statement M
+build_from_spec =
     tie.close
     (tie.spec
     table-of-requires

@@ -20,55 +20,55 @@ one_more d s j a b =
 as_long : (d s : List ℕ) (j : ℕ) → j ≤ length d → j ≤ length s → length (take j s ++ drop j d) ≡ length d
 as_long d s j a b = omega (arith, length-append (take j s) (drop j d), length-take-le j s b, length-drop j d)
 
-abbrev invariant-loop : tie.invariant-loop
+abbrev invariant-loop : tie.invariant-loop-i
 invariant-loop from size room₀ i₀ room i = (i ≤ size) × (room ≡ take i «from» ++ drop i room₀)
 
-abbrev decreases-loop : tie.decreases-loop
+abbrev decreases-loop : tie.decreases-loop-i
 decreases-loop from size room₀ i₀ room i = size - i
 
-loop-holds : tie.Need-loop-init invariant-loop decreases-loop
+loop-holds : tie.Need-loop-i-init invariant-loop decreases-loop
 loop-holds c = (omega arith, refl)
 
-mul-room : tie.Need-overflow-mul-room invariant-loop decreases-loop
+mul-room : tie.Need-offset_bounds-from-i invariant-loop decreases-loop
 mul-room c = search rules
 
-element-copy-out-room : tie.Need-element-copy-out-room invariant-loop decreases-loop
+element-copy-out-room : tie.Need-bounds-from-i invariant-loop decreases-loop
 element-copy-out-room c = search rules
 
-mul-room-2 : tie.Need-overflow-mul-room-2 invariant-loop decreases-loop
+mul-room-2 : tie.Need-offset_bounds-room-i invariant-loop decreases-loop
 mul-room-2 c = search rules
 
-slice-write-room : tie.Need-slice-write-room invariant-loop decreases-loop
+slice-write-room : tie.Need-bounds-room-i invariant-loop decreases-loop
 slice-write-room c =
-    let l = c.before.before.loop in
-    let a = c.before.before.before in
+    let l = c.loop-i in
+    let a = c in
     omega (arith, ap length l.invariant.1, as_long a.args.room.now a.args.from.now l.i (omega arith) (omega arith))
 
-add-i : tie.Need-overflow-add-i invariant-loop decreases-loop
+add-i : tie.Need-overflow_add-i invariant-loop decreases-loop
 add-i c = search rules
 
-loop-less : tie.Need-loop-smaller invariant-loop decreases-loop
+loop-less : tie.Need-loop-i-smaller invariant-loop decreases-loop
 loop-less c = search rules
 
-loop-again : tie.Need-loop-preserved invariant-loop decreases-loop
+loop-again : tie.Need-loop-i-preserved invariant-loop decreases-loop
 loop-again c =
-    let l = c.before.before.loop in
-    let a = c.before.before.before in (
+    let l = c.loop-i in
+    let a = c in (
       omega arith,
       ap (λ (r : List ℕ). set r l.i (get_or a.args.from.now l.i 0)) l.invariant.1
           ∙ one_more a.args.room.now a.args.from.now l.i (omega arith) (omega arith),
     )
 
-same_length : tie.Need-same-length invariant-loop decreases-loop
+same_length : tie.Need-shape_of-room invariant-loop decreases-loop
 same_length c =
-    let l = c.before.loop in
-    let a = c.before.before in
+    let l = c.loop-i in
+    let a = c in
     ap length l.invariant.1 ∙ as_long a.args.room.now a.args.from.now l.i (omega arith) (omega arith)
 
 returns : tie.Need-returns invariant-loop decreases-loop
 returns c =
-    let l = c.before.loop in
-    let e : l.i ≡ c.before.before.args.size = omega arith in
+    let l = c.loop-i in
+    let e : l.i ≡ c.args.size = omega arith in
     rw e at l.invariant.1
 
 pub copy_spec : {M : Type 1} → statement M
