@@ -11,7 +11,7 @@ use Rattle.term.specs.code.Unifiable.{unifiable}
 use Rattle.term.proofs.Decide.{Decides, says-yes, says-no, unifiable-correct}
 use Rattle.table.specs.All.{All}
 use Rattle.refusal.specs.Refusal.{answered}
-use Rattle.table.specs.Table.{Table, table, Row}
+use Rattle.table.specs.Table.{Table, Row}
 use Rattle.table.proofs.ReadLaws.{apart, read_one}
 use Rattle.table.proofs.Accepted.{is-table, is-goal}
 use Rattle.plan.specs.Plans.{Plan, write}

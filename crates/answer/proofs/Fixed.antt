@@ -4,7 +4,7 @@ use mathlib.Core.Path.{◌≡◌, refl, sym, ◌∙◌, ap, subst}
 use mathlib.Core.List.{List, [], ◌∷◌, ◌++◌}
 use native.Mathlib.Omega.{arith}
 use lib.ListN.{length, drop, replicate}
-use Rattle.refusal.specs.Refusal.{Refused, told, answered, turned}
+use Rattle.refusal.specs.Refusal.{told, answered, turned}
 use Rattle.table.specs.Table.{Table}
 use Rattle.table.proofs.ReadLaws.{apart, read_one}
 use Rattle.refusal.proofs.RefusalLaws.{told-one}

@@ -9,7 +9,7 @@ use native.Mathlib.Omega.{arith}
 use lib.ListN.{length, get_or, drop}
 use Rattle.cell.specs.Cell.{arity, is_var}
 use Rattle.cell.proofs.CellLaws.{var-arity, var-small}
-use Rattle.term.specs.Terms.{Terms, none, more, front}
+use Rattle.term.specs.Terms.{Terms, more, front}
 use Rattle.term.specs.Unify.{renamed}
 use Rattle.term.proofs.Tests.{bool_cases}
 use Rattle.answer.specs.code.Renamed.{var, lift}

@@ -21,9 +21,9 @@ run_in t g room plan =
     and_then (goal_of T.width g) (λ (v : ℕ).
     when (ltb (length room) (length T.rows)) (refused reason.Room input.Lent (length T.rows)) (read T))))
 
-run_in : (t p g room : List ℕ) → run_of t p g room ≡ run_in t g room (plan_of t p)
+run_in_lem : (t p g room : List ℕ) → run_of t p g room ≡ run_in t g room (plan_of t p)
 unfolding run_of run_in
-run_in t p g room = refl
+run_in_lem t p g room = refl
 
 -- what a run takes: the table, the plan, the goal, the room
 pub record Takes (t p g room : List ℕ) (T : Table) : Type 0 where
@@ -37,7 +37,7 @@ pub record Takes (t p g room : List ℕ) (T : Table) : Type 0 where
 pub run-takes : {t p g room : List ℕ} {T : Table} → run_of t p g room ≡ read T → Takes t p g room T
 unfolding run_in
 run-takes {t} {p} {g} {room} {T} e =
-    let e₁ = sym (run_in t p g room) ∙ e in
+    let e₁ = sym (run_in_lem t p g room) ∙ e in
     let a = first (table_of t) _ e₁ in
     let b = first (plan_of t p) _ a.2 in
     let c = first (goal_of a.0.width g) _ b.2 in
@@ -54,12 +54,12 @@ run-takes {t} {p} {g} {room} {T} e =
 
 pub takes_run : {t p g room : List ℕ} {T : Table} → Takes t p g room T → run_of t p g room ≡ read T
 unfolding run_in
-takes_run {t} {p} {g} {room} {T} k = run_in t p g room ∙ rw (k.plan, k.table, k.goal, le-ltb (length room) (length T.rows) k.room_for)
+takes_run {t} {p} {g} {room} {T} k = run_in_lem t p g room ∙ rw (k.plan, k.table, k.goal, le-ltb (length room) (length T.rows) k.room_for)
 
 -- any two accepted plans are taken alike
 pub any-plan : (t p p' g room : List ℕ) {b b' : ℕ} → plan_of t p ≡ read b → plan_of t p' ≡ read b' → run_of t p g room ≡ run_of t p' g room
 unfolding run_in
-any-plan t p p' g room e e' = run_in t p g room ∙ go (plan_of t p) (plan_of t p') e e' ∙ sym (run_in t p' g room)
+any-plan t p p' g room e e' = run_in_lem t p g room ∙ go (plan_of t p) (plan_of t p') e e' ∙ sym (run_in_lem t p' g room)
   where
     go : (x y : Read ℕ) {b b' : ℕ} → x ≡ read b → y ≡ read b' → run_in t g room x ≡ run_in t g room y
     go x y e e' = rw (e, e')
@@ -68,17 +68,17 @@ any-plan t p p' g room e e' = run_in t p g room ∙ go (plan_of t p) (plan_of t 
 module _ (t p g room : List ℕ) where
   pub run-table : {f : Refused} → table_of t ≡ refuse f → run_of t p g room ≡ refuse f
   unfolding run_in
-  run-table e = run_in t p g room ∙ rw e
+  run-table e = run_in_lem t p g room ∙ rw e
 
   pub run-plan : {f : Refused} {T : Table} → table_of t ≡ read T → plan_of t p ≡ refuse f → run_of t p g room ≡ refuse f
   unfolding run_in
-  run-plan d e = run_in t p g room ∙ rw (e, d)
+  run-plan d e = run_in_lem t p g room ∙ rw (e, d)
 
   pub run-goal : {f : Refused} {T : Table} {b : ℕ} → table_of t ≡ read T → plan_of t p ≡ read b → goal_of T.width g ≡ refuse f → run_of t p g room ≡ refuse f
   unfolding run_in
-  run-goal d e h = run_in t p g room ∙ rw (e, d, h)
+  run-goal d e h = run_in_lem t p g room ∙ rw (e, d, h)
 
   pub run_room : {T : Table} {b v : ℕ} → table_of t ≡ read T → plan_of t p ≡ read b → goal_of T.width g ≡ read v → length room < length T.rows
       → run_of t p g room ≡ refuse (refused reason.Room input.Lent (length T.rows))
   unfolding run_in
-  run_room {T} d e h l = run_in t p g room ∙ rw (e, d, h, lt-ltb (length room) (length T.rows) l)
+  run_room {T} d e h l = run_in_lem t p g room ∙ rw (e, d, h, lt-ltb (length room) (length T.rows) l)
