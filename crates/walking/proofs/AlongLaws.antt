@@ -11,7 +11,7 @@ use Rattle.cell.specs.Cell.{arity}
 use Rattle.term.proofs.Lists.{sets-sets}
 use Rattle.table.specs.All.{All}
 use Rattle.table.proofs.AllLaws.{all-front, all_back}
-use Rattle.plan.specs.Plans.{end, next, branches, branches_in}
+use Rattle.plan.specs.Plans.{end, next, branches}
 use Rattle.plan.specs.code.Cells.{Cells}
 use Rattle.plan.specs.code.Rows.{row_count}
 use Rattle.answer.specs.code.After.{Left, after}
