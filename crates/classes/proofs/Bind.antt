@@ -1,5 +1,5 @@
 -- A symbol of the row against a node without one: the node gets the symbol over new nodes.
-use Prim.Native.Nat.{ℕ, ◌+◌, ◌^◌, ◌<◌}
+use Prim.Native.Nat.{ℕ, ◌^◌, ◌<◌}
 use mathlib.Core.Path.{◌≡◌, refl, sym, ◌∙◌, ap, ap₂}
 use mathlib.Core.Logic.{◌≢◌, ◌↔◌, by_cases, ⊎_elim}
 use mathlib.Core.Bool.{true, false}
@@ -16,7 +16,6 @@ use Rattle.term.proofs.TermsLaws.{one_cell}
 use Rattle.term.proofs.Inst.{inst-++, inst-agree, Terms-inst}
 use Rattle.term.proofs.Step.{inst-symbol, Spread, spread}
 use Rattle.classes.specs.code.Nodes.{Nodes, owns, at, Solves, Fair}
-use Rattle.classes.specs.code.Finite.{bare}
 use Rattle.classes.specs.code.Agrees.{Agrees, Binds, New}
 use Rattle.classes.proofs.Joined.{val, vals}
 use Rattle.classes.proofs.Agree.{owns-++, cut, one}

@@ -1,6 +1,6 @@
 -- What joining classes means, for every substitution at once: `merged` and `unmerged` say that the joined classes say exactly what the
 -- equation of the two terms says, `failed` that nothing solves it where the symbols clash, `closed` what classes are afterwards.
-use Prim.Native.Nat.{ℕ, zero, suc, ◌+◌, ◌≤◌, ◌<◌}
+use Prim.Native.Nat.{ℕ, zero, suc, ◌≤◌, ◌<◌}
 use mathlib.Core.Path.{◌≡◌, refl, sym, ◌∙◌, ap, ap₂}
 use mathlib.Core.Logic.{◌≢◌, by_cases}
 use mathlib.Core.Bool.{Bool, true, false}

@@ -1,5 +1,5 @@
 -- Terms at nodes: finite ones, written out, and what a node is.
-use Rattle.std.specs.Prelude.{ℕ, ◌+◌, ◌≤◌, ◌<◌, ◌≡◌, ◌≢◌, true, List, [], ◌∷◌, ◌++◌}
+use Rattle.std.specs.Prelude.{ℕ, ◌≤◌, ◌<◌, ◌≡◌, ◌≢◌, true, List, [], ◌∷◌, ◌++◌}
 use Rattle.cell.specs.Cell.{is_var}
 use Rattle.table.specs.All.{All}
 use Rattle.classes.specs.code.Nodes.{Nodes, owns, at}

@@ -1,6 +1,6 @@
 -- Nodes in classes (02, W-209): terms by reference, none of them written out. These definitions describe the code's own state; no promise of
 -- a public function cites them.
-use Rattle.std.specs.Prelude.{ℕ, ◌+◌, ◌<◌, ◌≡◌, ◌≢◌, false, cond, List, [], ◌∷◌, ◌++◌, map, eqb, length, get_or}
+use Rattle.std.specs.Prelude.{ℕ, ◌<◌, ◌≡◌, ◌≢◌, false, cond, List, [], ◌∷◌, ◌++◌, map, eqb, length, get_or}
 use Rattle.cell.specs.Cell.{arity, is_var}
 use Rattle.term.specs.Terms.{Terms}
 use Rattle.term.specs.Unify.{inst, Subst}
