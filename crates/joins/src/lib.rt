@@ -3,6 +3,8 @@
 // argument, `sib` the next argument, and `rep` what stands for its class.
 // The arrays may hold anything: a node's number is cut to its low six bits where it is used, so every access is in bounds, and what the arrays
 // have to be stands as a premise inside the `ensures`, under which nothing is cut.
+#![tactic(auto)]
+
 ghost use Rattle.std.specs.Prelude.{◌≡◌, ◌%◌, ◌<◌, ◌≤◌, length};
 ghost use Rattle.classes.specs.code.Nodes.{to, join};
 ghost use Rattle.classes.specs.code.Arrays.{classes, Ready, ReadyAll, Unified, UnifiedAll};

@@ -8,44 +8,44 @@ use Rattle.classes.proofs.ArrayLaws.{Moving, moving-first, moving-next, moving-l
 use Rattle.joins.proofs.join_to.Statement.{statement}
 use Rattle.joins.proofs.join_to.Tie as tie
 
-abbrev invariant-loop : tie.invariant-loop
+abbrev invariant-loop : tie.invariant-loop-r
 invariant-loop rep₀ x y r₀ rep r = length rep₀ ≡ 64 → Moving rep₀ rep x y r
 
-abbrev decreases-loop : tie.decreases-loop
+abbrev decreases-loop : tie.decreases-loop-r
 decreases-loop rep₀ x y r₀ rep r = 64 - r
 
-loop-holds : tie.Need-loop-init invariant-loop decreases-loop
+loop-holds : tie.Need-loop-r-init invariant-loop decreases-loop
 loop-holds c = moving-first c.args.rep.now c.args.x c.args.y
 
-element-copy-out-z : tie.Need-element-copy-out-z invariant-loop decreases-loop
+element-copy-out-z : tie.Need-bounds-rep-r invariant-loop decreases-loop
 element-copy-out-z c = search rules
 
 moved-requires : tie.Need-moved-requires invariant-loop decreases-loop
 moved-requires c κs = search rules
 
-element-write-rep : tie.Need-element-write-rep invariant-loop decreases-loop
+element-write-rep : tie.Need-bounds-rep-r-in-loop-r invariant-loop decreases-loop
 element-write-rep c = search rules
 
-add_r : tie.Need-overflow-add-r invariant-loop decreases-loop
+add_r : tie.Need-overflow_add-r invariant-loop decreases-loop
 add_r c = search rules
 
-loop-less : tie.Need-loop-smaller invariant-loop decreases-loop
+loop-less : tie.Need-loop-r-smaller invariant-loop decreases-loop
 loop-less c = search rules
 
-loop-again : tie.Need-loop-preserved invariant-loop decreases-loop
+loop-again : tie.Need-loop-r-preserved invariant-loop decreases-loop
 loop-again c =
-    let l = c.before.before.before.loop in
-    let a = c.before.before.before.before.args in
+    let l = c.loop-r in
+    let a = c.args in
     λ h. rw c.moved.ensures (moving-next a.rep.now l.rep a.x a.y l.r (l.invariant h) (omega arith))
 
 returns : tie.Need-returns invariant-loop decreases-loop
 returns c =
-    let l = c.before.loop in
-    let a = c.before.before.args in
+    let l = c.loop-r in
+    let a = c.args in
     λ h. moving-last a.rep.now l.rep a.x a.y l.r (l.invariant h) (omega arith)
 
-pub join-to-spec : {M : Type 1} → statement M
-join-to-spec =
+pub join_to_spec : {M : Type 1} → statement M
+join_to_spec =
     tie.close
     (tie.spec
     invariant-loop

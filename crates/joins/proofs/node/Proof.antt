@@ -7,5 +7,5 @@ use Rattle.joins.proofs.node.Tie as tie
 returns : tie.Need-returns
 returns c = let e = and_mask c.args.x 6 in (omega arith, λ h. omega arith, omega arith)
 
-pub node-spec : {M : Type 1} → statement M
-node-spec = tie.close (tie.spec returns)
+pub node_spec : {M : Type 1} → statement M
+node_spec = tie.close (tie.spec returns)
