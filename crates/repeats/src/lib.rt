@@ -3,6 +3,8 @@
 // each node the one that stands for its class, and `keep` for each of the row's variables the node that it met first.
 // The arrays may hold anything: a number is cut to what an array has places for where it is used, so every access is in bounds, and what the
 // arrays have to be stands as a premise inside the `ensures`, under which nothing is cut.
+#![tactic(auto)]
+
 ghost use Rattle.std.specs.Prelude.{◌≡◌, true, false, cond, List, ℕ, ◌+◌, ◌≤◌, ◌<◌, ltb, length, get_or};
 ghost use Rattle.std.proofs.lemmas.List.Edits.{sets};
 ghost use Rattle.cell.specs.Cell.{is_var};
