@@ -60,7 +60,7 @@ module _ {t p ns : List ℕ} {b w n : ℕ} (A : ForRun t p ns b w n) where
 
   module _ (g : List ℕ) where
     at_width : {x : Read ℕ} → goal_of w g ≡ x → goal_of A.table.width g ≡ x
-    at_width e = rw A.same_width_lem at e
+    at_width e = rw A.same_width at e
 
     -- the goal is turned away, or the room
     pub no-goal : (room : List ℕ) {f : Refusal} → goal_of w g ≡ refuse (told f) → Ran t p g room room (run-answer.Refused f)
@@ -116,7 +116,7 @@ module _ {t p ns : List ℕ} {b w n : ℕ} (A : ForRun t p ns b w n) where
       -- the walk
       pub walked : (room' : List ℕ) (h k : ℕ) → ((x : Begun ns b g room w) → Walked x room' h k) → Ran t p g room room' (run-answer.Ran h k)
       walked room' h k u =
-          let u' : (x : Begun ns b g room A.table.width) → Walked x room' h k = rw A.same_width_lem at u in
+          let u' : (x : Begun ns b g room A.table.width) → Walked x room' h k = rw A.same_width at u in
           let x = u' (record {
             table = t;
             rows = A.table.rows;

@@ -1,6 +1,8 @@
 // A run (01, "A run"): the rows that unify with a goal, from the top, and the number of branches tried.
 // What is noted of a plan may be anything: a number is cut to what an array has places for where it is used, so every access is in bounds, and
 // that it is what the check notes stands as a premise inside the `ensures`, under which nothing is cut.
+#![tactic(auto)]
+
 ghost use Rattle.std.specs.Prelude.{List, ℕ};
 ghost use Rattle.answer.specs.Run.{Ran};
 ghost use Rattle.plannotes.specs.Noted.{NotedInto};

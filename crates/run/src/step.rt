@@ -11,7 +11,7 @@ use plannotes::packed::{cell_of, next_of, skip_of, slot_of, wide, wide16};
 use repeats::put_terms;
 
 // What a test finds: a row's variable; another symbol; the same one, and where its arguments are; a node that is to be bound.
-#[derive(Drop)]
+#[derive(Clone, Copy)]
 pub enum Found {
     Any,
     Other,

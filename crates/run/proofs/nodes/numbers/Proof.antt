@@ -10,46 +10,46 @@ use Rattle.walking.proofs.ListLaws.{up_none, up_more}
 use Rattle.run.proofs.nodes.numbers.Statement.{statement}
 use Rattle.run.proofs.nodes.numbers.Tie as tie
 
-abbrev invariant-loop : tie.invariant-loop
+abbrev invariant-loop : tie.invariant-loop-r
 invariant-loop first table₀ r₀ table r = (r ≤ 64) × (sets table r (up_from (first + r) (64 - r)) ≡ up_from first 64)
 
-abbrev decreases-loop : tie.decreases-loop
+abbrev decreases-loop : tie.decreases-loop-r
 decreases-loop first table₀ r₀ table r = 64 - r
 
-loop-holds : tie.Need-loop-init invariant-loop decreases-loop
+loop-holds : tie.Need-loop-r-init invariant-loop decreases-loop
 unfolding up_from
 loop-holds c = (omega arith, rw (add-zero c.args.first))
 
-add-x : tie.Need-overflow-add-x invariant-loop decreases-loop
+add-x : tie.Need-overflow_add-x invariant-loop decreases-loop
 add-x c = search rules
 
-cast-table : tie.Need-overflow-cast-table invariant-loop decreases-loop
+cast-table : tie.Need-overflow_cast-table invariant-loop decreases-loop
 cast-table c = search rules
 
-array-write-table : tie.Need-array-write-table invariant-loop decreases-loop
+array-write-table : tie.Need-bounds-table-r invariant-loop decreases-loop
 array-write-table c = search rules
 
-add_r : tie.Need-overflow-add-r invariant-loop decreases-loop
+add_r : tie.Need-overflow_add-r invariant-loop decreases-loop
 add_r c = search rules
 
-loop-less : tie.Need-loop-smaller invariant-loop decreases-loop
+loop-less : tie.Need-loop-r-smaller invariant-loop decreases-loop
 loop-less c = search rules
 
-loop-again : tie.Need-loop-preserved invariant-loop decreases-loop
+loop-again : tie.Need-loop-r-preserved invariant-loop decreases-loop
 loop-again c =
-    let l = c.before.loop in
-    let x = c.before.before.args.first in
+    let l = c.loop-r in
+    let x = c.args.first in
     let e : 64 - l.r - 1 ≡ 64 - (l.r + 1) = omega arith in
     let f : x + l.r + 1 ≡ x + (l.r + 1) = omega arith in
     (omega arith, rw (e, f) at (store-next l.table _ _ _ l.r (x + l.r) (up_more (x + l.r) (64 - l.r) (omega arith)) l.invariant.1))
 
 returns : tie.Need-returns invariant-loop decreases-loop
 returns c =
-    let l = c.before.loop in
-    store-end l.table _ _ l.r (up_none (c.before.before.args.first + l.r) (64 - l.r) (omega arith)) l.invariant.1
+    let l = c.loop-r in
+    store-end l.table _ _ l.r (up_none (c.args.first + l.r) (64 - l.r) (omega arith)) l.invariant.1
 
-pub numbers-spec : {M : Type 1} → statement M
-numbers-spec =
+pub numbers_spec : {M : Type 1} → statement M
+numbers_spec =
     tie.close
     (tie.spec
     invariant-loop

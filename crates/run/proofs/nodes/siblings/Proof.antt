@@ -6,64 +6,64 @@ use Rattle.walking.proofs.GoalLaws.{Done, hop-here, hop-small, step-done, done_n
 use Rattle.run.proofs.nodes.siblings.Statement.{statement}
 use Rattle.run.proofs.nodes.siblings.Tie as tie
 
-abbrev invariant-loop : tie.invariant-loop
+abbrev invariant-loop : tie.invariant-loop-p
 invariant-loop goal sib₀ p₀ sib p = Done goal sib p
 
-abbrev decreases-loop : tie.decreases-loop
+abbrev decreases-loop : tie.decreases-loop-p
 decreases-loop goal sib₀ p₀ sib p = p
 
-numbers-requires : tie.Need-numbers-requires invariant-loop decreases-loop
+numbers-requires : tie.Need-numbers-sib-requires invariant-loop decreases-loop
 numbers-requires c κs = search rules
 
-loop-holds : tie.Need-loop-init invariant-loop decreases-loop
-loop-holds c = rw c.numbers.ensures (done_none c.before.before.args.goal.now)
+loop-holds : tie.Need-loop-p-init invariant-loop decreases-loop
+loop-holds c = rw c.numbers-sib.ensures (done_none c.args.goal.now)
 
-sub-p : tie.Need-overflow-sub-p invariant-loop decreases-loop
+sub-p : tie.Need-overflow_sub-p invariant-loop decreases-loop
 sub-p c = search rules
 
-mul-arity-of : tie.Need-overflow-mul-arity-of invariant-loop decreases-loop
-mul-arity-of c = omega (arith, c.before.loop.invariant.reach, c.before.before.before.before.requires.few)
+mul-arity-of : tie.Need-offset_bounds-goal-p invariant-loop decreases-loop
+mul-arity-of c = omega (arith, c.loop-p.invariant.reach, c.requires.few)
 
-shared-slice-read-arity-of : tie.Need-shared-slice-read-arity-of invariant-loop decreases-loop
-shared-slice-read-arity-of c = omega (arith, c.before.before.loop.invariant.reach, c.before.before.before.before.before.requires.few)
+shared-slice-read-arity-of : tie.Need-bounds-goal-p invariant-loop decreases-loop
+shared-slice-read-arity-of c = omega (arith, c.loop-p.invariant.reach, c.requires.few)
 
-arity-of-requires : tie.Need-arity-of-requires invariant-loop decreases-loop
+arity-of-requires : tie.Need-arity_of-a-requires invariant-loop decreases-loop
 arity-of-requires c κs = search rules
 
-add-hop : tie.Need-overflow-add-hop invariant-loop decreases-loop
-add-hop c = let b = c.before.before.before.before in omega (arith, b.loop.invariant.reach, b.before.before.before.requires.few)
+add-hop : tie.Need-overflow_add-p invariant-loop decreases-loop
+add-hop c = let b = c.before.before.before.before in omega (arith, b.loop-p.invariant.reach, b.requires.few)
 
-hop-requires : tie.Need-hop-requires invariant-loop decreases-loop
+hop-requires : tie.Need-hop-q-requires invariant-loop decreases-loop
 hop-requires c κs =
     let b = c.before.before.before.before in
-    rw c.before.arity-of.ensures (hop-here b.before.before.before.requires b.loop.invariant (b.loop.p - 1) (omega arith)).1
+    rw c.arity_of-a.ensures (hop-here b.requires b.loop-p.invariant (b.loop-p.p - 1) (omega arith)).1
 
-cast-sib : tie.Need-overflow-cast-sib invariant-loop decreases-loop
+cast-sib : tie.Need-overflow_cast-sib invariant-loop decreases-loop
 cast-sib c =
     let b = c.before.before.before.before.before in
     omega (
       arith,
-      hop-small b.before.before.before.requires b.loop.invariant (b.loop.p - 1) c.hop.result (omega arith) (c.hop.ensures
-          ∙ rw c.before.before.arity-of.ensures),
+      hop-small b.requires b.loop-p.invariant (b.loop-p.p - 1) c.hop-q.result (omega arith) (c.hop-q.ensures
+          ∙ rw c.arity_of-a.ensures),
     )
 
-array-write-sib : tie.Need-array-write-sib invariant-loop decreases-loop
-array-write-sib c = let b = c.before.before.before.before.before in omega (arith, b.loop.invariant.reach, b.before.before.before.requires.few)
+array-write-sib : tie.Need-bounds-sib-p invariant-loop decreases-loop
+array-write-sib c = let b = c.before.before.before.before.before in omega (arith, b.loop-p.invariant.reach, b.requires.few)
 
-loop-less : tie.Need-loop-smaller invariant-loop decreases-loop
+loop-less : tie.Need-loop-p-smaller invariant-loop decreases-loop
 loop-less c = search rules
 
-loop-again : tie.Need-loop-preserved invariant-loop decreases-loop
+loop-again : tie.Need-loop-p-preserved invariant-loop decreases-loop
 loop-again c =
     let b = c.before.before.before.before.before in
-    step-done b.before.before.before.requires b.loop.invariant (b.loop.p - 1) c.hop.result (omega arith) (c.hop.ensures
-    ∙ rw c.before.before.arity-of.ensures)
+    step-done b.requires b.loop-p.invariant (b.loop-p.p - 1) c.hop-q.result (omega arith) (c.hop-q.ensures
+    ∙ rw c.arity_of-a.ensures)
 
 returns : tie.Need-returns invariant-loop decreases-loop
-returns c = let D = c.before.loop.invariant in record { places = λ p h. D.places p (omega arith) h; numbers = D.numbers }
+returns c = let D = c.loop-p.invariant in record { places = λ p h. D.places p (omega arith) h; numbers = D.numbers }
 
-pub siblings-spec : {M : Type 1} → statement M
-siblings-spec =
+pub siblings_spec : {M : Type 1} → statement M
+siblings_spec =
     tie.close
     (tie.spec
     invariant-loop
