@@ -1,5 +1,4 @@
-// A list of goals, each answered in its record (02, W-202). A slice of records is beyond what is proved without a walk of the code by hand:
-// so `ask_all` and `run_jobs` do nothing but call, and what there is to do for a goal is done on a record by value.
+// A list of goals, each answered in its record (02, W-202). What there is to do for a goal is done on a record by value.
 ghost use Rattle.std.specs.Prelude.{◌≡◌, List, ℕ, ◌≤◌, take};
 ghost use Rattle.refusal.specs.Refusal.{reason_number};
 ghost use Rattle.answer.specs.Jobs.{bits_of, filled, Each};

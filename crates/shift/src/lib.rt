@@ -1,4 +1,6 @@
 // A list of goals (02, W-202), each answered in its record; and what goals try together (02, W-214).
+#![tactic(auto)]
+
 ghost use Rattle.answer.specs.Jobs.{JobsRun};
 ghost use Rattle.checker.specs.Checked.{plan_told};
 ghost use Rattle.shift.specs.Totals.{TriesInAll};
