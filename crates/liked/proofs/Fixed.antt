@@ -1,17 +1,16 @@
 -- Two results that the promises of `columns_of` and `build_liked` allow are equal.
 use Prim.Native.Nat.{ℕ, ◌-◌, ◌<◌}
-use mathlib.Core.Path.{◌≡◌, refl, sym, ◌∙◌, ap, ap₂, subst}
+use mathlib.Core.Path.{◌≡◌, sym, ◌∙◌, ap, ap₂, subst}
 use mathlib.Core.List.{List, ◌++◌}
 use native.Mathlib.Omega.{arith}
-use lib.ListN.{length, take, replicate, length-take, take-append-drop}
-use Rattle.refusal.specs.Refusal.{Answer, turned}
+use lib.ListN.{length, replicate, length-take, take-append-drop}
+use Rattle.refusal.specs.Refusal.{turned}
 use Rattle.table.specs.Table.{Table}
 use Rattle.table.proofs.ReadLaws.{apart, read_one, refuse-one}
 use Rattle.least.specs.declared.By.{By}
-use Rattle.builder.specs.Build.{BuiltInto, build_told}
 use Rattle.builder.specs.declared.BuildAnswer.{BuildAnswer}
 use Rattle.builder.proofs.Fixed.{build_told-one, build-fixed}
-use Rattle.liked.specs.Liked.{columns_of, ColumnsListed, LikesBest, LikedInto, table-refused, found, liked_after}
+use Rattle.liked.specs.Liked.{ColumnsListed, LikesBest, LikedInto, table-refused, found}
 use Rattle.liked.specs.declared.Columns.{Columns}
 use Rattle.liked.proofs.SearchLaws.{tries-for-one}
 

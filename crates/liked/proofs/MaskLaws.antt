@@ -1,7 +1,7 @@
 -- Every set of columns has its mask: of columns that are there, one below the power of two of the width, and its columns are these.
 use Prim.Native.Nat.{ℕ, zero, suc, ◌+◌, ◌^◌, ◌≤◌, ◌<◌}
 use mathlib.Core.Path.{◌≡◌, refl, sym, ◌∙◌}
-use mathlib.Core.Logic.{◌↔◌, ⊎_elim}
+use mathlib.Core.Logic.{⊎_elim}
 use mathlib.Core.Bool.{Bool, true, false, true≢false, cond}
 use mathlib.Core.List.Memᴰ
 use mathlib.Core.List.{List, [], ◌∷◌, Memᴰ}
@@ -11,7 +11,7 @@ use Rattle.table.specs.All.{All}
 use Rattle.plan.specs.Named.{any_past, occurs}
 use Rattle.plan.proofs.ColumnsLaws.{column-exactly}
 use Rattle.answer.specs.Run.{Ascends, done, more_of}
-use Rattle.answer.specs.Jobs.{bit, bits_of}
+use Rattle.answer.specs.Jobs.{bits_of}
 use Rattle.answer.proofs.BitsLaws.{bits-mem, bits-few}
 use Rattle.liked.specs.Liked.{columns_of}
 use Rattle.liked.proofs.ColumnLaws.{columns-named}

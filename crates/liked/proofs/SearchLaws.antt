@@ -1,19 +1,18 @@
 -- The search through the sets of columns: what a set tries is one number, the set of all columns tries what the plain plan does, and what has been
 -- seen so far after each set.
-use Prim.Native.Nat.{ℕ, zero, suc, ◌+◌, ◌*◌, ◌^◌, ◌%◌, ◌≤◌, ◌<◌}
+use Prim.Native.Nat.{ℕ, ◌+◌, ◌*◌, ◌^◌, ◌%◌, ◌≤◌, ◌<◌}
 use mathlib.Core.Path.{◌≡◌, refl, sym, ◌∙◌, ap, subst}
 use mathlib.Core.Logic.{inl}
-use mathlib.Core.Bool.{Bool, true, false}
-use mathlib.Core.List.{List, [], ◌∷◌, ◌++◌}
+use mathlib.Core.List.{List, []}
 use native.Mathlib.Omega.{arith}
 use native.Mathlib.Decide.{dec_lt}
 use lib.ListN.{length, get_or, take, drop, length-take}
 use lib.Pow.{shl_exact}
 use lib.Seq.{take_at}
-use Rattle.refusal.specs.Refusal.{Refused, told, Answer, answered, turned}
+use Rattle.refusal.specs.Refusal.{Refused, told, answered, turned}
 use Rattle.refusal.specs.declared.Refusal.{Refusal}
 use Rattle.refusal.specs.Read.{read, refuse}
-use Rattle.table.specs.Table.{Table, table_of, IsTable}
+use Rattle.table.specs.Table.{Table}
 use Rattle.table.proofs.Accepted.{is-table}
 use Rattle.table.proofs.ReadLaws.{apart, read_one}
 use Rattle.plan.specs.Plans.{Plan, write}
@@ -29,7 +28,7 @@ use Rattle.least.proofs.NoneNamed.{free-built, free-least}
 use Rattle.builder.specs.Build.{table_for, BuiltInto, table-refused, room-refused, built, build_told}
 use Rattle.builder.specs.declared.BuildAnswer.{BuildAnswer}
 use Rattle.builder.specs.declared.BuildAnswer.TheVariants as build-answer
-use Rattle.builder.proofs.AskedLaws.{read-for, for-read, plain-table}
+use Rattle.builder.proofs.AskedLaws.{read-for, plain-table}
 use Rattle.builder.proofs.ColumnsLaws.{no-column-free}
 use Rattle.builder.proofs.Fixed.{same-built}
 use Rattle.shift.specs.Totals.{TriesInAll}

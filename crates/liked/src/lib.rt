@@ -1,5 +1,7 @@
 // The plan that a list of goals likes best: of the plans that `build_for` gives for each set of columns (02, W-213), the one that tries the
 // fewest branches over the list (W-214).
+#![tactic(auto)]
+
 ghost use Rattle.std.specs.Prelude.{List, ℕ, ◌+◌};
 ghost use Rattle.least.specs.declared.By.{By};
 ghost use Rattle.liked.specs.Liked.{ColumnsListed, LikedInto};
@@ -11,7 +13,7 @@ use limits::{COLUMNS, PLAN_CELLS};
 use refusal::Refusal;
 
 // The columns of a set: the first of the list. The others are 0.
-#[derive(Drop)]
+#[derive(Clone, Copy)]
 pub struct Columns {
     pub list: [u32; COLUMNS],
     pub count: usize,
