@@ -46,6 +46,7 @@ along-name (a-variable l) (Memᴰ.head x) = absurd (let z : ◌≡◌ {A = ℕ} 
 along-name (a-variable l) (Memᴰ.tail m) = along-name l m
 along-name (a-number l) (Memᴰ.head x) = absurd (let z : ◌≡◌ {A = ℕ} 0 1 = cc in omega arith)
 along-name (a-number l) (Memᴰ.tail m) = along-name l m
+along-name {s = s} {e = e} {a = a} (none {p = p} {q = q} _) x6 = elim x6 [ ]
 
 -- a name, and what stands after it
 after : {s e q a r : ℕ} {ss : List Symbol} → s < e → e ≤ r → Along r ss q → Along s (name s e a ∷ ss) q

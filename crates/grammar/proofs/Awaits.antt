@@ -12,7 +12,7 @@ use lib.ListN.{length, set}
 use Rattle.grammar.specs.Grammar.{is_lower, is_upper, is_digit, is_word, Symbol, name, variable, number, Fact}
 use Rattle.grammar.specs.Meaning.{symbols_of}
 use Rattle.grammar.specs.Reader.{Mode, first, head, arg, word, minus, digits, after, closed, stop, between, remark}
-use Rattle.grammar.specs.Reader.{Frame, Work, work, nothing, Next, dead, go, says, is_blank, layout, push, put, on_comma, on_close, past, symbol}
+use Rattle.grammar.specs.Reader.{Frame, Work, nothing, Next, dead, go, says, is_blank, layout, push, put, on_comma, on_close, past, symbol}
 use Rattle.grammar.specs.Reader.{limit, bits_after, step, Out, stops, reads, fact_before, finish, run, text_of}
 use Rattle.grammar.specs.Numbers.{TermNext}
 use Rattle.grammar.proofs.Complete.{text-read}

@@ -66,6 +66,7 @@ module _ (t : List ℕ) where
   firsts-all (numbering.again g f) (later h) = firsts-all f h
   firsts-all (numbering.a-variable f) (later h) = firsts-all f h
   firsts-all (numbering.a-number f) (later h) = firsts-all f h
+  firsts-all {i = i} {s = s'} {e = e'} {a = a} (Rattle.grammar.specs.Numbering.none {met = met}) x5 = elim x5 [ ]
 
   -- THE LIST IS ONE
   pub firsts-one : {met : Words} {ss : List Symbol} {ns ms : List Place} → Firsts t met ss ns → Firsts t met ss ms → ns ≡ ms
@@ -91,3 +92,4 @@ module _ (t : List ℕ) where
   firsts-first (numbering.again g f) h = firsts-first f h
   firsts-first (numbering.a-variable f) h = firsts-first f h
   firsts-first (numbering.a-number f) h = firsts-first f h
+  firsts-first {i = i} {w = w} (Rattle.grammar.specs.Numbering.none {met = met}) h = elim h [ ]

@@ -1,9 +1,9 @@
 -- The open names, one step further: each stands among the symbols so far where its owner says, with the arguments that are complete.
 use Prim.Native.Nat.{ℕ, suc, ◌<◌}
-use mathlib.Core.Path.{◌≡◌, ◌∙◌}
+use mathlib.Core.Path.{◌∙◌}
 use mathlib.Core.List.{List, [], ◌∷◌, ◌++◌}
 use native.Mathlib.Omega.{arith}
-use lib.ListN.{length, get_or, set, length-set, length-append, get_or-append}
+use lib.ListN.{length, set, length-set, length-append, get_or-append}
 use lib.Seq.{get_or-append_seam, get_or-set_same, get_or-set_other}
 use Rattle.grammar.specs.Grammar.{Symbol, name, number}
 use Rattle.grammar.specs.Reader.{Frame, frame, one_more, one_more_in, Under, Held, none, more}

@@ -56,7 +56,7 @@ module _ (t : List ℕ) where
       by {s} {e} {a} (Memᴰ.head y) q = absurd (n s e a y)
       by {s} {e} {a} (Memᴰ.tail m) q = o.at.first s e a m q
 
-  told : {p q k : ℕ} {met : Words} {ss : List Symbol} {ns : List Place} {w : Place} → Along p ss q → Firsts t met ss ns → Nth ns k w
+  told : {met : Words} {ss : List Symbol} {ns : List Place} {p q k : ℕ} {w : Place} → Along p ss q → Firsts t met ss ns → Nth ns k w
       → Told met ss w
   told l (numbering.first n f) here = told_here l n
   told {met = met} {w = w} (a-name h k l) (numbering.first {s = s} {e = e} n f) (later i) =
@@ -68,9 +68,10 @@ module _ (t : List ℕ) where
       told-later (λ k v y. (k, y)) (λ q. x.new j (subst (Nth met j) q g)) x
   told (a-variable l) (numbering.a-variable f) i = told-past (λ s e a q. absurd (let z : ◌≡◌ {A = ℕ} 0 1 = cc in omega arith)) (told l f i)
   told (a-number l) (numbering.a-number f) i = told-past (λ s e a q. absurd (let z : ◌≡◌ {A = ℕ} 0 1 = cc in omega arith)) (told l f i)
+  told {p = p} {q = q} {k = k} {w = w} l (Rattle.grammar.specs.Numbering.none {met = met}) i = elim i [ ]
 
   -- in the order of the text
-  rising : {p q j k : ℕ} {met : Words} {ss : List Symbol} {ns : List Place} {v w : Place} → Along p ss q → Firsts t met ss ns
+  rising : {met : Words} {ss : List Symbol} {ns : List Place} {p q j k : ℕ} {v w : Place} → Along p ss q → Firsts t met ss ns
       → Nth ns j v → Nth ns k w → j < k → v.start < w.start
   rising l (numbering.first n f) here here h = absurd (omega arith)
   rising (a-name x y l) (numbering.first n f) here (later i) h = omega (arith, along-name l (told l f i).at.there)
@@ -79,6 +80,7 @@ module _ (t : List ℕ) where
   rising (a-name x y l) (numbering.again z f) i g h = rising l f i g h
   rising (a-variable l) (numbering.a-variable f) i g h = rising l f i g h
   rising (a-number l) (numbering.a-number f) i g h = rising l f i g h
+  rising {p = p} {q = q} {j = j} {k = k} {v = v} {w = w} l (Rattle.grammar.specs.Numbering.none {met = met}) i g h = elim i [ ]
 
 -- THE LIST OF A TEXT, whose entries have the start in bits 15..0 and the bytes in 31..16
 abbrev Start : ℕ → ℕ

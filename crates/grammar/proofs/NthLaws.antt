@@ -56,7 +56,7 @@ module _ {A : Type 0} where
       go (inr l) = inr (omega arith)
 
   -- what is one of them stands somewhere
-  pub mem-nth : {xs : List A} {x : A} → Memᴰ x xs → (k : ℕ) × Nth xs k x
+  pub mem-nth : {x : A} {xs : List A} → Memᴰ x xs → (k : ℕ) × Nth xs k x
   mem-nth {x = x} (Memᴰ.head {xs = xs} e) = (0, subst (λ (y : A). Nth (y ∷ xs) 0 x) e here)
   mem-nth (Memᴰ.tail m) = let i = mem-nth m in (suc i.0, later i.1)
 

@@ -185,6 +185,7 @@ module _ (t : List ℕ) (ws : Words) where
   later-variable {met} (numbering.first {s = s} {e = e} n c r) p l (later x) (later y) =
       is-more met (slice s e t) l (later-variable r (first-parted n p) (more-below met (slice s e t) l) x y)
   later-variable (numbering.again n h c r) p l (later x) (later y) = later-variable r p l x y
+  later-variable {j = j} {k = k} {s = s} {e = e} {c = c} (Rattle.grammar.specs.Numbering.none {met = met}) p l x17 _ = elim x17 [ ]
 
 -- the row after its first symbol, and the variables with it
 record After (t : List ℕ) (ws : Words) (ss : List Symbol) (cs : List ℕ) : Type 0 where
@@ -214,11 +215,12 @@ module _ (t : List ℕ) (ws : Words) where
       subst (λ (k : ℕ). Nth (met ++ (slice s e t ∷ [])) k (slice s e t)) (sym c) (nth_seam met (slice s e t) [])
   after-variable {met} {s} {e} p (numbering.again n h c r) = subst (λ (k : ℕ). Nth met k (slice s e t)) (sym c) h
 
-  pub two-variables : {met : Words} {ss : List Symbol} {cs : List ℕ} {i j s e s' e' c c' : ℕ} → Parted Named met
-      → NumberedRow t ws met ss cs → i < j → Nth ss i (variable s e) → Nth cs i c → Nth ss j (variable s' e') → Nth cs j c'
+  -- the row comes after the places, so that a case of a place can tell its first symbol
+  variables-at : {ss : List Symbol} {cs : List ℕ} {i j s e s' e' c c' : ℕ} → Nth ss i (variable s e) → Nth cs i c
+      → Nth ss j (variable s' e') → Nth cs j c' → i < j → {met : Words} → Parted Named met → NumberedRow t ws met ss cs
       → (c ≡ c') ↔ ((slice s e t ≡ slice s' e' t) × Named (slice s e t))
-  two-variables p r l here here here here = absurd (omega arith)
-  two-variables {s = s} {e = e} {s' = s'} {e' = e'} {c = c} {c' = c'} p r l here here (later x) (later y) =
+  variables-at here here here here l p r = absurd (omega arith)
+  variables-at {s = s} {e = e} {s' = s'} {e' = e'} {c = c} {c' = c'} here here (later x) (later y) l p r =
       let a = after_one p r in
       let h = after-variable p r in
       let i = later-variable t ws a.row a.apart (nth-below h) x y in
@@ -227,7 +229,12 @@ module _ (t : List ℕ) (ws : Words) where
         λ q. (let g = i.0 (sym q) in let b = nth-one h g.0 in (b, subst Named (sym b) g.1)),
         λ g. sym (i.1 (subst (Nth a.met c) g.0 h, subst Named g.0 g.1)),
       )
-  two-variables p r l (later x) (later y) here here = absurd (omega arith)
-  two-variables p r l (later x) (later y) (later x') (later y') =
+  variables-at (later x) (later y) here here l p r = absurd (omega arith)
+  variables-at (later x) (later y) (later x') (later y') l p r =
       let a = after_one p r in
-      two-variables a.apart a.row (omega arith) x y x' y'
+      variables-at x y x' y' (omega arith) a.apart a.row
+
+  pub two-variables : {met : Words} {ss : List Symbol} {cs : List ℕ} {i j s e s' e' c c' : ℕ} → Parted Named met
+      → NumberedRow t ws met ss cs → i < j → Nth ss i (variable s e) → Nth cs i c → Nth ss j (variable s' e') → Nth cs j c'
+      → (c ≡ c') ↔ ((slice s e t ≡ slice s' e' t) × Named (slice s e t))
+  two-variables p r l x y x' y' = variables-at x y x' y' l p r

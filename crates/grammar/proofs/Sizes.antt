@@ -28,6 +28,7 @@ facts-wide : {p : ℕ} {xs : List ℕ} {f : Fact} {fs : List Fact} → Facts p x
 facts-wide (G.last o g) (Memᴰ.head e) = of_one (fact-wide o) e
 facts-wide (G.more o g h r) (Memᴰ.head e) = of_one (fact-wide o) e
 facts-wide (G.more o g h r) (Memᴰ.tail m) = facts-wide r m
+facts-wide (Rattle.grammar.specs.Grammar.last {p = p} {q = q} {r = r} {xs = xs} {ys = ys} {f = f} o g) (Memᴰ.tail m) = elim m [ ]
 
 pub text-wide : {t : List ℕ} {f : Fact} {fs : List Fact} → Text t fs → Memᴰ f fs → 1 ≤ f.width
 text-wide x = facts-wide x.facts

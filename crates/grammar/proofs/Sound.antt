@@ -11,7 +11,7 @@ use borrow.Author.Tests.{leb-true, ltb-true, eqb-true}
 use Rattle.grammar.specs.Grammar as G
 use Rattle.grammar.specs.Grammar.{is_lower, is_upper, is_digit, is_word, Blank, space, feed, return, Line, Gap, Word, Digits, Symbol, Term, Args}
 use Rattle.grammar.specs.Grammar.{Fact, fact, OneFact, Facts, Text}
-use Rattle.grammar.specs.Reader.{Mode, first, head, arg, word, minus, digits, after, closed, stop, between, remark, Frame, frame, Work, work}
+use Rattle.grammar.specs.Reader.{Mode, first, head, arg, word, minus, digits, after, closed, stop, between, Frame, frame, Work, work}
 use Rattle.grammar.specs.Reader.{nothing, dead, is_blank, layout, push, put, on_comma, past, limit, bits_after, step, Out, stops, reads}
 use Rattle.grammar.specs.Reader.{fact_before, finish, run, text_of, Solid, Ends}
 use Rattle.grammar.proofs.Complete.{run-gap, rests-first, rests-arg, rests-after, rests-closed, run-word, run-head, name-ends, variable-ends}
