@@ -63,9 +63,9 @@ module _ (t : List ℕ) (i : ℕ) (h : i < length t) where
   ends_at e = subst Ends (sym (here t i h)) e
 
   -- a byte that is asked for
-  pub stands_at : (b : ℕ) → stands_at b (drop i t) ≡ eqb (get_or t i 0) b
+  pub stands_at_lem : (b : ℕ) → stands_at b (drop i t) ≡ eqb (get_or t i 0) b
   unfolding stands_at
-  stands_at b = ap (stands_at b) (here t i h)
+  stands_at_lem b = ap (stands_at b) (here t i h)
 
   -- the reader
   pub on-byte : (m : Mode) (w : Work) → run (drop i t) m w i ≡ on_mark t i (step m w i (get_or t i 0))
@@ -101,7 +101,7 @@ stands-within t i b e = by (dec_lt i (length t))
 pub stands_here : (t : List ℕ) (i b : ℕ) → stands_at b (drop i t) ≡ true → drop i t ≡ b ∷ drop (i + 1) t
 stands_here t i b e =
     let h = stands-within t i b e in
-    here t i h ∙ ap (λ (x : ℕ). x ∷ drop (i + 1) t) (eqb-true (get_or t i 0) b (sym (stands_at t i h b) ∙ e))
+    here t i h ∙ ap (λ (x : ℕ). x ∷ drop (i + 1) t) (eqb-true (get_or t i 0) b (sym (stands_at_lem t i h b) ∙ e))
 
 pub at-end : (t : List ℕ) (i : ℕ) (m : Mode) (w : Work) → length t ≤ i → run (drop i t) m w i ≡ finish m i
 unfolding run

@@ -8,7 +8,7 @@ use super::{ends, kind};
 
 // What follows the start of a text or a full stop, layout passed over: nothing more; a fact's name, its start and the place of its bracket;
 // or no text goes on so.
-#[derive(Drop)]
+#[derive(Clone, Copy)]
 pub enum Head {
     End,
     Open(usize, usize),

@@ -12,74 +12,74 @@ use Rattle.lex.proofs.ends.gap_end.Statement.{statement}
 use Rattle.lex.proofs.ends.gap_end.Tie as tie
 
 -- layout from here on is layout from the start
-abbrev invariant-loop : tie.invariant-loop
+abbrev invariant-loop : tie.invariant-loop-i
 invariant-loop text at i₀ i =
     (at ≤ i) × (at ≤ length text → i ≤ length text) × ((q : ℕ) (ys : List ℕ) → Gap i (drop i text) q ys → Gap at (drop at text) q ys)
 
-abbrev decreases-loop : tie.decreases-loop
+abbrev decreases-loop : tie.decreases-loop-i
 decreases-loop text at i₀ i = length text - i
 
-loop-holds : tie.Need-loop-init invariant-loop decreases-loop
+loop-holds : tie.Need-loop-i-init invariant-loop decreases-loop
 loop-holds c = (omega arith, λ h. h, λ q ys g. g)
 
-shared-slice-read-byte : tie.Need-shared-slice-read-byte invariant-loop decreases-loop
+shared-slice-read-byte : tie.Need-bounds-text-i invariant-loop decreases-loop
 shared-slice-read-byte c = search rules
 
-add-line-end : tie.Need-overflow-add-line-end invariant-loop decreases-loop
+add-line-end : tie.Need-overflow_add-i invariant-loop decreases-loop
 add-line-end c = search rules
 
-line-end-requires : tie.Need-line-end-requires invariant-loop decreases-loop
+line-end-requires : tie.Need-line_end-i-requires invariant-loop decreases-loop
 line-end-requires c κs = search rules
 
-loop-less : tie.Need-loop-smaller invariant-loop decreases-loop
-loop-less c = omega (arith, c.line-end.ensures.from, c.line-end.ensures.within)
+loop-less : tie.Need-loop-i-smaller-then-byte-eq37 invariant-loop decreases-loop
+loop-less c = omega (arith, c.line_end-i.ensures.from, c.line_end-i.ensures.within)
 
-loop-again : tie.Need-loop-preserved invariant-loop decreases-loop
+loop-again : tie.Need-loop-i-preserved-then-byte-eq37 invariant-loop decreases-loop
 loop-again c =
     let o = c.before.before.before.before in
-    let t = o.before.before.args.text.now in
-    let i = o.loop.i in
-    let l = c.line-end.ensures in
-    (omega (arith, l.from), λ h. l.within, λ q ys g. o.loop.invariant.2 q ys (gap-remark t i (omega arith) c.before.if1.true _ l.line q ys g))
+    let t = o.args.text.now in
+    let i = o.loop-i.i in
+    let l = c.line_end-i.ensures in
+    (omega (arith, l.from), λ h. l.within, λ q ys g. o.loop-i.invariant.2 q ys (gap-remark t i (omega arith) c.if-byte-eq37.true _ l.line q ys g))
 
-is-blank-requires : tie.Need-is-blank-requires invariant-loop decreases-loop
+is-blank-requires : tie.Need-is_blank-requires invariant-loop decreases-loop
 is-blank-requires c κs = search rules
 
-returns : tie.Need-returns invariant-loop decreases-loop
+returns : tie.Need-returns-then-not-is_blank invariant-loop decreases-loop
 returns c =
     let o = c.before.before.before.before.before in
-    let t = o.before.before.args.text.now in
-    let i = o.loop.i in
+    let t = o.args.text.now in
+    let i = o.loop-i.i in
     record {
-      gap = o.loop.invariant.2 _ _ G.none;
-      solid = solid-at t i (omega arith) (sym c.before.is-blank.ensures ∙ not-true _ c.if2.true) c.before.before.if1.false;
+      gap = o.loop-i.invariant.2 _ _ G.none;
+      solid = solid-at t i (omega arith) (sym c.is_blank.ensures ∙ not-true _ c.if-not-is_blank.true-raw) c.if-byte-eq37.false;
       from = omega arith;
-      within = o.loop.invariant.1;
+      within = o.loop-i.invariant.1;
     }
 
-add-i : tie.Need-overflow-add-i invariant-loop decreases-loop
+add-i : tie.Need-overflow_add-i-in-loop-i invariant-loop decreases-loop
 add-i c = search rules
 
-loop-less-2 : tie.Need-loop-smaller-2 invariant-loop decreases-loop
+loop-less-2 : tie.Need-loop-i-smaller invariant-loop decreases-loop
 loop-less-2 c = search rules
 
-loop-again-2 : tie.Need-loop-preserved-2 invariant-loop decreases-loop
+loop-again-2 : tie.Need-loop-i-preserved invariant-loop decreases-loop
 loop-again-2 c =
     let o = c.before.before.before.before.before in
-    let t = o.before.before.args.text.now in
-    let i = o.loop.i in
-    let e = sym c.before.is-blank.ensures ∙ not-false _ c.if2.false in
-    (omega arith, λ h. omega arith, λ q ys g. o.loop.invariant.2 q ys (gap-blank t i (omega arith) e q ys g))
+    let t = o.args.text.now in
+    let i = o.loop-i.i in
+    let e = sym c.is_blank.ensures ∙ not-false _ c.if-not-is_blank.false-raw in
+    (omega arith, λ h. omega arith, λ q ys g. o.loop-i.invariant.2 q ys (gap-blank t i (omega arith) e q ys g))
 
-returns-2 : tie.Need-returns-2 invariant-loop decreases-loop
+returns-2 : tie.Need-returns invariant-loop decreases-loop
 returns-2 c =
     let o = c.before in
-    let t = o.before.before.args.text.now in
-    let i = o.loop.i in
-    record { gap = o.loop.invariant.2 _ _ G.none; solid = solid-end t i (omega arith); from = omega arith; within = o.loop.invariant.1 }
+    let t = o.args.text.now in
+    let i = o.loop-i.i in
+    record { gap = o.loop-i.invariant.2 _ _ G.none; solid = solid-end t i (omega arith); from = omega arith; within = o.loop-i.invariant.1 }
 
-pub gap-end-spec : {M : Type 1} → statement M
-gap-end-spec =
+pub gap_end_spec : {M : Type 1} → statement M
+gap_end_spec =
     tie.close
     (tie.spec
     invariant-loop

@@ -9,50 +9,50 @@ use Rattle.lex.proofs.ends.line_end.Statement.{statement}
 use Rattle.lex.proofs.ends.line_end.Tie as tie
 
 -- a line from here on is a line from the start
-abbrev invariant-loop : tie.invariant-loop
+abbrev invariant-loop : tie.invariant-loop-i
 invariant-loop text at i₀ i = (at ≤ i) × (i ≤ length text) × ((q : ℕ) (ys : List ℕ) → Line i (drop i text) q ys → Line at (drop at text) q ys)
 
-abbrev decreases-loop : tie.decreases-loop
+abbrev decreases-loop : tie.decreases-loop-i
 decreases-loop text at i₀ i = length text - i
 
-loop-holds : tie.Need-loop-init invariant-loop decreases-loop
+loop-holds : tie.Need-loop-i-init invariant-loop decreases-loop
 loop-holds c = (omega arith, omega arith, λ q ys l. l)
 
-shared-slice-read-if1 : tie.Need-shared-slice-read-if1 invariant-loop decreases-loop
+shared-slice-read-if1 : tie.Need-bounds-text-i invariant-loop decreases-loop
 shared-slice-read-if1 c = search rules
 
-add-result : tie.Need-overflow-add-result invariant-loop decreases-loop
+add-result : tie.Need-overflow_add-result invariant-loop decreases-loop
 add-result c = search rules
 
-returns : tie.Need-returns invariant-loop decreases-loop
+returns : tie.Need-returns-then-text-i-eq10 invariant-loop decreases-loop
 returns c =
     let o = c.before.before.before in
-    let t = o.before.args.text.now in
-    let i = o.loop.i in
-    record { line = o.loop.invariant.2 _ _ (line-feed t i (omega arith) c.if1.true); from = omega arith; within = omega arith }
+    let t = o.args.text.now in
+    let i = o.loop-i.i in
+    record { line = o.loop-i.invariant.2 _ _ (line-feed t i (omega arith) c.if-text-i-eq10.true); from = omega arith; within = omega arith }
 
-add-i : tie.Need-overflow-add-i invariant-loop decreases-loop
+add-i : tie.Need-overflow_add-i invariant-loop decreases-loop
 add-i c = search rules
 
-loop-less : tie.Need-loop-smaller invariant-loop decreases-loop
+loop-less : tie.Need-loop-i-smaller invariant-loop decreases-loop
 loop-less c = search rules
 
-loop-again : tie.Need-loop-preserved invariant-loop decreases-loop
+loop-again : tie.Need-loop-i-preserved invariant-loop decreases-loop
 loop-again c =
     let o = c.before.before.before in
-    let t = o.before.args.text.now in
-    let i = o.loop.i in
-    (omega arith, omega arith, λ q ys l. o.loop.invariant.2 q ys (line-byte t i (omega arith) c.if1.false q ys l))
+    let t = o.args.text.now in
+    let i = o.loop-i.i in
+    (omega arith, omega arith, λ q ys l. o.loop-i.invariant.2 q ys (line-byte t i (omega arith) c.if-text-i-eq10.false q ys l))
 
-returns-2 : tie.Need-returns-2 invariant-loop decreases-loop
+returns-2 : tie.Need-returns invariant-loop decreases-loop
 returns-2 c =
     let o = c.before in
-    let t = o.before.args.text.now in
-    let i = o.loop.i in
-    record { line = o.loop.invariant.2 _ _ (line-ended t i (omega arith)); from = omega arith; within = omega arith }
+    let t = o.args.text.now in
+    let i = o.loop-i.i in
+    record { line = o.loop-i.invariant.2 _ _ (line-ended t i (omega arith)); from = omega arith; within = omega arith }
 
-pub line-end-spec : {M : Type 1} → statement M
-line-end-spec =
+pub line_end_spec : {M : Type 1} → statement M
+line_end_spec =
     tie.close
     (tie.spec
     invariant-loop

@@ -7,106 +7,106 @@ use Rattle.lex.proofs.TurnLaws.{term-ends, name-turn, open_turn, variable-turn, 
 use Rattle.lex.proofs.turn.term_at.Statement.{statement}
 use Rattle.lex.proofs.turn.term_at.Tie as tie
 
-returns : tie.Need-returns
-returns c = let s = c.before.before in term-ends s.args.text.now s.args.at s.requires c.if1.true
+returns : tie.Need-returns-then-text-at
+returns c = let s = c.before.before in term-ends s.args.text.now s.args.at s.requires c.if-text-at.true
 
-shared-slice-read-byte : tie.Need-shared-slice-read-byte
+shared-slice-read-byte : tie.Need-bounds-text-at
 shared-slice-read-byte c = search rules
 
-is-lower-requires : tie.Need-is-lower-requires
+is-lower-requires : tie.Need-is_lower-requires
 is-lower-requires c κs = search rules
 
-add-word-end : tie.Need-overflow-add-word-end
+add-word-end : tie.Need-overflow_add-at
 add-word-end c = search rules
 
-word-end-requires : tie.Need-word-end-requires
+word-end-requires : tie.Need-word_end-e-requires
 word-end-requires c κs = search rules
 
 stands-requires : tie.Need-stands-requires
 stands-requires c κs = search rules
 
-returns-2 : tie.Need-returns-2
+returns-2 : tie.Need-returns-then-stands
 returns-2 c =
     let s = c.before.before.before.before.before.before.before.before in
-    let e = c.before.before.word-end in
+    let e = c.word_end-e in
     open_turn s.args.text.now s.args.at s.requires (omega arith) e.result
-    (sym c.before.before.before.before.is-lower.ensures ∙ c.before.before.before.if2.true)
+    (sym c.is_lower.ensures ∙ c.if-is_lower.true)
     e.ensures
-    (sym c.before.stands.ensures ∙ c.if3.true)
+    (sym c.stands.ensures ∙ c.if-stands.true)
 
-returns-3 : tie.Need-returns-3
+returns-3 : tie.Need-returns-then-is_lower
 returns-3 c =
     let s = c.before.before.before.before.before.before.before.before in
-    let e = c.before.before.word-end in
+    let e = c.word_end-e in
     name-turn s.args.text.now s.args.at s.requires (omega arith) e.result
-    (sym c.before.before.before.before.is-lower.ensures ∙ c.before.before.before.if2.true)
+    (sym c.is_lower.ensures ∙ c.if-is_lower.true)
     e.ensures
-    (sym c.before.stands.ensures ∙ c.if3.false)
+    (sym c.stands.ensures ∙ c.if-stands.false)
 
-is-upper-requires : tie.Need-is-upper-requires
+is-upper-requires : tie.Need-is_upper-requires
 is-upper-requires c κs = search rules
 
-add-word-end-2 : tie.Need-overflow-add-word-end-2
+add-word-end-2 : tie.Need-overflow_add-at-then-is_upper
 add-word-end-2 c = search rules
 
-word-end-requires-2 : tie.Need-word-end-requires-2
+word-end-requires-2 : tie.Need-word_end-requires
 word-end-requires-2 c κs = search rules
 
-returns-4 : tie.Need-returns-4
+returns-4 : tie.Need-returns-then-is_upper
 returns-4 c =
     let s = c.before.before.before.before.before.before.before.before in
-    variable-turn s.args.text.now s.args.at s.requires (omega arith) c.word-end2.result
-    (sym c.before.before.before.before.is-lower.ensures ∙ c.before.before.before.if2.false)
-    (sym c.before.before.is-upper.ensures ∙ c.before.if4.true)
-    c.word-end2.ensures
+    variable-turn s.args.text.now s.args.at s.requires (omega arith) c.word_end.result
+    (sym c.is_lower.ensures ∙ c.if-is_lower.false)
+    (sym c.is_upper.ensures ∙ c.if-is_upper.true)
+    c.word_end.ensures
 
-is-digit-requires : tie.Need-is-digit-requires
+is-digit-requires : tie.Need-is_digit-requires
 is-digit-requires c κs = search rules
 
-add-number-from : tie.Need-overflow-add-number-from
+add-number-from : tie.Need-overflow_add-at-then-is_digit
 add-number-from c = search rules
 
 wide-requires : tie.Need-wide-requires
 wide-requires c κs = search rules
 
-sub-number-from : tie.Need-overflow-sub-number-from
-sub-number-from c = omega (arith, digit-least _ (sym c.before.before.is_digit.ensures ∙ c.before.if5.true), c.wide.ensures)
+sub-number-from : tie.Need-overflow_sub-wide
+sub-number-from c = omega (arith, digit-least _ (sym c.is_digit.ensures ∙ c.if-is_digit.true), c.wide.ensures)
 
-number-from-requires : tie.Need-number-from-requires
-number-from-requires c κs = (omega arith, omega (arith, digit-least _ (sym c.before.before.is_digit.ensures ∙ c.before.if5.true), c.wide.ensures))
+number-from-requires : tie.Need-number_from-requires
+number-from-requires c κs = (omega arith, omega (arith, digit-least _ (sym c.is_digit.ensures ∙ c.if-is_digit.true), c.wide.ensures))
 
-returns-5 : tie.Need-returns-5
+returns-5 : tie.Need-returns-then-is_digit
 returns-5 c =
     let s = c.before.before.before.before.before.before.before.before.before.before.before in
-    number-turn s.args.text.now s.args.at s.requires (omega arith) c.number-from.result
-    (sym c.before.before.before.before.before.before.before.is-lower.ensures ∙ c.before.before.before.before.before.before.if2.false)
-    (sym c.before.before.before.before.before.is-upper.ensures ∙ c.before.before.before.before.if4.false)
-    (sym c.before.before.before.is_digit.ensures ∙ c.before.before.if5.true)
-    (ap (λ (x : ℕ). x - 48) c.before.wide.ensures)
-    c.number-from.ensures
+    number-turn s.args.text.now s.args.at s.requires (omega arith) c.number_from.result
+    (sym c.is_lower.ensures ∙ c.if-is_lower.false)
+    (sym c.is_upper.ensures ∙ c.if-is_upper.false)
+    (sym c.is_digit.ensures ∙ c.if-is_digit.true)
+    (ap (λ (x : ℕ). x - 48) c.wide.ensures)
+    c.number_from.ensures
 
-add-negative-at : tie.Need-overflow-add-negative-at
+add-negative-at : tie.Need-overflow_add-at-then-byte-eq45
 add-negative-at c = search rules
 
-negative-at-requires : tie.Need-negative-at-requires
+negative-at-requires : tie.Need-negative_at-requires
 negative-at-requires c κs = search rules
 
-returns-6 : tie.Need-returns-6
+returns-6 : tie.Need-returns-then-byte-eq45
 returns-6 c =
     let s = c.before.before.before.before.before.before.before.before.before.before.before in
-    minus-turn s.args.text.now s.args.at s.requires (omega arith) c.negative-at.result c.before.if6.true c.negative-at.ensures
+    minus-turn s.args.text.now s.args.at s.requires (omega arith) c.negative_at.result c.if-byte-eq45.true c.negative_at.ensures
 
-returns-7 : tie.Need-returns-7
+returns-7 : tie.Need-returns
 returns-7 c =
     let s = c.before.before.before.before.before.before.before.before.before.before in
     no-term s.args.text.now s.args.at s.requires (omega arith)
-    (sym c.before.before.before.before.before.before.is-lower.ensures ∙ c.before.before.before.before.before.if2.false)
-    (sym c.before.before.before.before.is-upper.ensures ∙ c.before.before.before.if4.false)
-    (sym c.before.before.is_digit.ensures ∙ c.before.if5.false)
-    c.if6.false
+    (sym c.is_lower.ensures ∙ c.if-is_lower.false)
+    (sym c.is_upper.ensures ∙ c.if-is_upper.false)
+    (sym c.is_digit.ensures ∙ c.if-is_digit.false)
+    c.if-byte-eq45.false
 
-pub term-at-spec : {M : Type 1} → statement M
-term-at-spec =
+pub term_at_spec : {M : Type 1} → statement M
+term_at_spec =
     tie.close
     (tie.spec
     returns
