@@ -9,7 +9,7 @@ use turn::Turn;
 
 // Where the reader is inside a fact: the place, whether a term has just been read, how many names are open, the fact's complete arguments,
 // its symbols.
-#[derive(Drop)]
+#[derive(Clone, Copy)]
 pub struct Spot {
     pub at: usize,
     pub past: bool,

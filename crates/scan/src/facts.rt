@@ -9,7 +9,7 @@ use fact::{FactEnd, Head};
 use lex::{fact, name};
 
 // A fact that is read: where its predicate's name stands, its number of arguments and of symbols, the place after its full stop.
-#[derive(Drop)]
+#[derive(Clone, Copy)]
 pub struct Seen {
     pub start: usize,
     pub end: usize,
@@ -52,7 +52,7 @@ pub fn fact_from(text: &[u8], at: usize, first: bool, dones: &mut [u8]) -> FactR
 
 // The facts so far: how many, the first one's place and number of arguments, the symbols of all, and where the first fact of another
 // predicate or width begins, 65,536 where none does.
-#[derive(Drop)]
+#[derive(Clone, Copy)]
 pub struct Tally {
     pub facts: usize,
     pub start: usize,

@@ -1,5 +1,7 @@
 // A text read once (02, W-201): BYTES, TEXT and OTHER are decided here, and the facts of a text that is taken are counted. Nothing is kept
 // of it but a number for each open name.
+#![tactic(auto)]
+
 mod arguments;
 mod facts;
 mod levels;
@@ -18,7 +20,7 @@ use limits::TEXT_BYTES;
 use refusal::{Input, Reason, Refusal};
 
 // The facts of a text: how many, the first one's number of arguments, and the symbols of all.
-#[derive(Drop)]
+#[derive(Clone, Copy)]
 pub struct Counted {
     pub facts: usize,
     pub width: usize,

@@ -6,11 +6,11 @@ use Rattle.scan.proofs.verdict.Tie as tie
 turned-requires : tie.Need-turned-requires
 turned-requires c κs = search rules
 
-returns : tie.Need-returns
-returns c = rw (lt-ltb _ _ c.before.if1.true) c.turned.ensures
+returns : tie.Need-returns-then-other-lt65536
+returns c = rw (lt-ltb _ _ c.if-other-lt65536.true) c.turned.ensures
 
-returns-2 : tie.Need-returns-2
-returns-2 c = rw (le-ltb _ _ c.if1.false)
+returns-2 : tie.Need-returns
+returns-2 c = rw (le-ltb _ _ c.if-other-lt65536.false)
 
-pub verdict-spec : {M : Type 1} → statement M
-verdict-spec = tie.close (tie.spec turned-requires returns returns-2)
+pub verdict_spec : {M : Type 1} → statement M
+verdict_spec = tie.close (tie.spec turned-requires returns returns-2)

@@ -1,0 +1,103 @@
+use Prim.Native.Nat.{ℕ, ◌+◌, ◌-◌}
+use mathlib.Core.Path.{sym, ap, subst, ◌∙◌}
+use mathlib.Core.List.{List}
+use native.Mathlib.Omega.{arith}
+use borrow.Author.Rules.{rules}
+use Rattle.scan.specs.code.Levels.{stored}
+use Rattle.scan.specs.code.Arguments.{Moved}
+use Rattle.scan.specs.declared.arguments.Move.TheVariants as move
+use Rattle.scan.proofs.MoveLaws.{open-small, comma-small, close-small, name-moves, variable-moves, number-moves, open-moves}
+use Rattle.scan.proofs.MoveLaws.{stop-moves, comma-fact, comma-full, comma-inside, close-fact, close-inside}
+use Rattle.scan.proofs.arguments.move_on.Goals as goal
+
+pub overflow_add-e : goal.overflow_add-e
+overflow_add-e c =
+    let n = c.next_turn in
+    let l = open-small c.args.text.now c.args.dones.now c.args.sp c.requires n.ensures c.in-Open.is in
+    search rules
+
+pub overflow_add-p : goal.overflow_add-p
+overflow_add-p c =
+    let n = c.next_turn in
+    let l = comma-small c.args.text.now c.args.dones.now c.args.sp c.requires n.ensures c.in-Comma.is in
+    search rules
+
+pub returns-then-depth-eq0 : goal.returns-then-depth-eq0
+returns-then-depth-eq0 c =
+    let n = c.next_turn in
+    comma-fact c.args.text.now c.args.dones.now c.args.sp c.requires n.ensures c.in-Comma.is c.spot_at-then-depth-eq0.ensures
+    c.if-depth-eq0.true
+
+pub returns-then-k-ge3 : goal.returns-then-k-ge3
+returns-then-k-ge3 c =
+    let n = c.next_turn in
+    comma-full c.args.text.now c.args.dones.now c.args.sp c.requires n.ensures c.in-Comma.is
+    c.if-depth-eq0.false (omega (arith, c.level-k.ensures.0, c.if-k-ge3.true))
+
+pub overflow_add-p-in-Comma : goal.overflow_add-p-in-Comma
+overflow_add-p-in-Comma c =
+    let n = c.next_turn in
+    let l = comma-small c.args.text.now c.args.dones.now c.args.sp c.requires n.ensures c.in-Comma.is in
+    search rules
+
+pub overflow_add-result : goal.overflow_add-result
+overflow_add-result c =
+    let n = c.next_turn in
+    let l = close-small c.args.text.now c.args.dones.now c.args.sp c.requires n.ensures c.in-Close.is in
+    search rules
+
+pub returns-then-depth-eq0-2 : goal.returns-then-depth-eq0-2
+returns-then-depth-eq0-2 c =
+    let n = c.next_turn in
+    close-fact c.args.text.now c.args.dones.now c.args.sp c.requires n.ensures c.in-Close.is c.if-depth-eq0-2.true
+
+pub overflow_add-p-in-Close : goal.overflow_add-p-in-Close
+overflow_add-p-in-Close c =
+    let n = c.next_turn in
+    let l = close-small c.args.text.now c.args.dones.now c.args.sp c.requires n.ensures c.in-Close.is in
+    search rules
+
+pub returns-in-Name : goal.returns-in-Name
+returns-in-Name c =
+    let n = c.next_turn in
+    name-moves c.args.text.now c.args.dones.now c.args.sp c.requires n.ensures c.spot_at.ensures c.in-Name.is
+
+pub returns-in-Open : goal.returns-in-Open
+returns-in-Open c =
+    let n = c.next_turn in
+    λ F U.
+    subst (λ (dones : List ℕ). Moved F c.args.text.now dones c.args.sp (move.Go c.spot_at-in-Open.result))
+    (sym c.put_level.ensures)
+    (open-moves c.args.text.now c.args.dones.now c.args.sp c.requires n.ensures c.spot_at-in-Open.ensures c.in-Open.is F U)
+
+pub returns-in-Variable : goal.returns-in-Variable
+returns-in-Variable c =
+    let n = c.next_turn in
+    variable-moves c.args.text.now c.args.dones.now c.args.sp c.requires n.ensures c.spot_at-in-Variable.ensures c.in-Variable.is
+
+pub returns-in-Number : goal.returns-in-Number
+returns-in-Number c =
+    let n = c.next_turn in
+    number-moves c.args.text.now c.args.dones.now c.args.sp c.requires n.ensures c.spot_at-in-Number.ensures c.in-Number.is
+
+pub returns-else-k-ge3 : goal.returns-else-k-ge3
+returns-else-k-ge3 c =
+    let n = c.next_turn in
+    let l = c.level-k.ensures.0 in
+    let e = c.put_level-in-Comma.ensures ∙ ap (λ (v : ℕ). stored c.args.dones.now (c.args.sp.depth - 1) (v + 1)) l in
+    λ F U.
+    subst (λ (dones : List ℕ). Moved F c.args.text.now dones c.args.sp (move.Go c.spot_at-in-Comma.result)) (sym e)
+    (comma-inside c.args.text.now c.args.dones.now c.args.sp c.requires n.ensures c.in-Comma.is c.spot_at-in-Comma.ensures
+    c.if-depth-eq0.false
+    (omega (arith, l, c.if-k-ge3.false)) F U)
+
+pub returns-else-depth-eq0-2 : goal.returns-else-depth-eq0-2
+returns-else-depth-eq0-2 c =
+    let n = c.next_turn in
+    close-inside c.args.text.now c.args.dones.now c.args.sp c.requires n.ensures c.in-Close.is c.spot_at-in-Close.ensures
+    c.if-depth-eq0-2.false
+
+pub returns-in-Stop : goal.returns-in-Stop
+returns-in-Stop c =
+    let n = c.next_turn in
+    stop-moves c.args.text.now c.args.dones.now c.args.sp c.requires n.ensures c.in-Stop.is
