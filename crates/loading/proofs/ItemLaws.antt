@@ -1,15 +1,14 @@
 -- Names met one after another, and the numbers that symbols get by them: a number once given stays.
-use Prim.Native.Nat.{ℕ, zero, suc, ◌+◌, ◌<◌}
+use Prim.Native.Nat.{ℕ, zero, suc, ◌<◌}
 use mathlib.Core.Path.{◌≡◌, refl, sym, ap, ap₂, ◌∙◌}
 use mathlib.Core.Bool.{Bool, true, false}
 use mathlib.Core.List.{List, [], ◌∷◌, ◌++◌, map, flatten, append_assoc}
 use native.Mathlib.Omega.{arith}
 use lib.Dec.{ltb}
 use lib.ListN.{length, get_or, set, length-append}
-use borrow.Author.Tests.{lt-ltb, le-ltb, ltb-true, ltb-false}
+use borrow.Author.Tests.{ltb-true, ltb-false}
 use Rattle.cell.specs.Cell.{variable_cell, name_cell, number_cell}
 use Rattle.grammar.specs.Grammar.{Symbol, name, variable, number, Fact}
-use Rattle.cell.specs.Same.{same}
 use Rattle.grammar.specs.Meaning.{Place, place, bytes_at, position, meet, names_from, symbols_of, names_of, variable_number, variables_with, cells_from}
 use Rattle.grammar.proofs.NumberLaws.{position-kept, position-added, meet-old, meet-new, names_more, variables_in}
 use Rattle.loading.specs.Items.{Item, of-name, of-variable, of_number, next_row, item_of, items_in, rows_in, items_of, symbols_among, names_met}

@@ -1,14 +1,13 @@
 -- A reading that succeeds keeps every symbol that it has met: the fact under way is the next fact, and its symbols begin with these, but for their numbers
 -- of arguments.
-use Prim.Native.Nat.{ℕ, zero, suc, ◌+◌, ◌-◌, ◌*◌, ◌≤◌, ◌<◌}
-use mathlib.Core.Path.{◌≡◌, refl, sym, ap, subst, ◌∙◌}
+use Prim.Native.Nat.{ℕ, suc, ◌+◌, ◌-◌, ◌*◌}
+use mathlib.Core.Path.{◌≡◌, refl, sym, ap, ◌∙◌}
 use mathlib.Core.Bool.{Bool, true, false, cond, ◌&&◌}
-use mathlib.Core.List.{List, [], ◌∷◌, ◌++◌, map, append-nil, append_assoc}
-use native.Mathlib.Omega.{arith}
+use mathlib.Core.List.{List, [], ◌∷◌, ◌++◌, append-nil, append_assoc}
 use lib.Dec.{eqb, leb, ltb}
-use lib.ListN.{length, get_or, set, length-append}
+use lib.ListN.{set}
 use lib.Seq.{map-set_same}
-use Rattle.grammar.specs.Grammar.{is_lower, is_upper, is_digit, is_word, Symbol, name, variable, number, Fact, fact}
+use Rattle.grammar.specs.Grammar.{is_lower, is_upper, is_digit, is_word, Symbol, name, number, Fact}
 use Rattle.grammar.specs.Reader.{Mode, arg, word, minus, digits, after, closed, remark, Frame, frame, Work, work, Next, dead, go, says, is_blank}
 use Rattle.grammar.specs.Reader.{layout, push, put, on_comma, on_close, past, symbol, limit, bits_after, step, Out, stops, reads, fact_before, finish}
 use Rattle.grammar.specs.Reader.{follow, run, Held, none, more}
@@ -35,6 +34,10 @@ ended (digits sign v) p in-digits e = clash e
 ended after p in_after e = clash e
 ended closed p in-closed e = clash e
 ended (remark m) p (in-remark i) e = ended m p i e
+ended Rattle.grammar.specs.Reader.first p {F = F} x'' e = elim x'' [ ]
+ended (Rattle.grammar.specs.Reader.head _) p {F = F} x4 e = elim x4 [ ]
+ended Rattle.grammar.specs.Reader.stop p {F = F} x4 e = elim x4 [ ]
+ended Rattle.grammar.specs.Reader.between p {F = F} x5 e = elim x5 [ ]
 
 -- a list begins with another
 pub record Front (xs ys : List Item) : Type 0 where
@@ -118,6 +121,10 @@ step_keeps (digits sign v) w p b h i =
 step_keeps after w p b h i = past-keeps w b h
 step_keeps closed w p b h i = choose (eqb b 46) (ends (same-front refl)) (layout-keeps closed w b h in-closed)
 step_keeps (remark m) w p b h (in-remark i) = choose (eqb b 10) (stays h i) (stays h (in-remark i))
+step_keeps Rattle.grammar.specs.Reader.first w p b h i = elim i [ ]
+step_keeps (Rattle.grammar.specs.Reader.head _) w p b h i = elim i [ ]
+step_keeps Rattle.grammar.specs.Reader.stop w p b h i = elim i [ ]
+step_keeps Rattle.grammar.specs.Reader.between w p b h i = elim i [ ]
 
 -- the next fact
 pub record Ahead (w : Work) (F : List Fact) : Type 0 where
