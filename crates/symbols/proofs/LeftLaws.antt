@@ -8,7 +8,7 @@ use lib.Dec.{ltb}
 use lib.ListN.{length, drop, set}
 use lib.Seq.{drop-append_seam}
 use Rattle.grammar.specs.Grammar.{Symbol, name, variable, number, Fact, Facts, last, more}
-use Rattle.grammar.specs.Reader.{Mode, arg, after, closed, Frame, frame, Work, work, Next, dead, go, put, push, on_comma, on_close, stop, stops, reads}
+use Rattle.grammar.specs.Reader.{Mode, arg, after, closed, Frame, frame, Work, work, dead, go, put, push, on_comma, on_close, stop, stops, reads}
 use Rattle.grammar.specs.Reader.{run, text_of, nothing}
 use Rattle.grammar.proofs.Accepted.{accepted}
 use Rattle.grammar.proofs.Sound.{clash, before-reads}

@@ -1,12 +1,14 @@
 // The symbols of a text, one after another (02, W-201), by what stands at a place: nothing is kept but how many names are open. What is read
 // of a text that is none ends where it stops.
+#![tactic(auto)]
+
 ghost use Rattle.symbols.specs.Next.{RowEnds, Begins, RowAhead, NextIs};
 
 use lex::fact::{FactEnd, Head};
 use lex::turn::Turn;
 
 // A place inside a fact: whether a term has just been read, and how many names are open.
-#[derive(Drop)]
+#[derive(Clone, Copy)]
 pub struct Spot {
     pub at: usize,
     pub past: bool,

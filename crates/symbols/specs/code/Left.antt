@@ -1,7 +1,7 @@
 -- What is left of an accepted text from a place on: its symbols, in their order. By the reader: the text from there on is read to the end,
 -- and what it is read as begins with what has been met. Callers who know that a text is accepted go by these; that they follow from the
 -- promises (specs/Next) is proved in proofs/LeftLaws.
-use Rattle.std.specs.Prelude.{ℕ, suc, ◌+◌, ◌≤◌, ◌<◌, ◌≡◌, false, List, [], ◌∷◌, ◌++◌, length, drop}
+use Rattle.std.specs.Prelude.{ℕ, suc, ◌≤◌, ◌<◌, ◌≡◌, false, List, [], ◌∷◌, ◌++◌, length, drop}
 use Rattle.grammar.specs.Grammar.{Fact, fact}
 use Rattle.grammar.specs.Meaning.{place}
 use Rattle.grammar.specs.Reader.{arg, closed, Work, work, reads, run, text_of, Held}
