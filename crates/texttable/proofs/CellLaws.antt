@@ -9,7 +9,7 @@ use lib.ListN.{length, get_or, drop, set, length-append, length-set, get_or-appe
 use lib.Seq.{set-append_left, get_or-append-add, get_or-set_same, get_or-set_other}
 use borrow.Author.Tests.{ltb-true}
 use Rattle.cell.specs.Cell.{name_cell}
-use Rattle.grammar.specs.Grammar.{Symbol, name, number, Fact, fact}
+use Rattle.grammar.specs.Grammar.{Symbol, name, number, Fact}
 use Rattle.grammar.specs.Meaning.{symbols_of}
 use Rattle.grammar.specs.Reader.{Mode, arg, after, closed, Frame, frame, Work, work, dead, go, put, push, on_comma, on_close, stops, reads, run}
 use Rattle.grammar.proofs.Sound.{clash}

@@ -284,7 +284,7 @@ module _ (t : List ℕ) (facts : List Fact) (list₀ list links words ways given
   on : (at : ℕ) (past : Bool) (depth : ℕ) → N.from.at ≤ at
       → ((x : Turn) (r : Ahead) → Turns t at past x → After t depth x r → NextIs t N.from r)
       → Knows t facts list₀ list links words ways given (making at past depth m.count) k
-  on at past depth l f =
+  on at _ depth l f =
       record {
         names = N.names;
         number = N.number;

@@ -1,4 +1,6 @@
 // Words of a text (02, W-201): the scan, and then the list of its names and the cells of its table, or how many names it has.
+#![tactic(auto)]
+
 mod cells;
 mod names;
 mod numbers;

@@ -8,7 +8,7 @@ ghost use Rattle.limits.specs.Limits.{most_text_bytes};
 use super::tree;
 
 // The variables of a row so far: those that have a name, and all.
-#[derive(Drop)]
+#[derive(Clone, Copy)]
 pub struct Row {
     pub named: usize,
     pub all: usize,

@@ -4,24 +4,22 @@ use mathlib.Core.Path.{sym}
 use borrow.Author.Rules.{rules}
 use Rattle.texttable.proofs.numbers.is_fresh.Statement.{statement}
 use Rattle.texttable.proofs.numbers.is_fresh.Tie as tie
-use Rattle.texttable.proofs.numbers.is_fresh.Reads as reads
-use Rattle.texttable.proofs.numbers.is_fresh.Lts as lts
 
-sub-if1 : tie.Need-overflow-sub-if1
+sub-if1 : tie.Need-overflow_sub-end
 sub-if1 c = search rules
 
-returns : tie.Need-returns
+returns : tie.Need-returns-then-end-start-ne1
 returns c =
-    let a = c.before.args in
-    sym (long-not-fresh a.text.now a.start a.end (omega arith) c.if1.true)
+    let a = c.args in
+    sym (long-not-fresh a.text.now a.start a.end (omega arith) c.if-end-start-ne1.true)
 
-shared-slice-read-result : tie.Need-shared-slice-read-result
+shared-slice-read-result : tie.Need-bounds-text-start
 shared-slice-read-result c = search rules
 
-returns-2 : tie.Need-returns-2
+returns-2 : tie.Need-returns
 returns-2 c =
-    let a = c.before.before.args in
+    let a = c.args in
     sym (fresh-is a.text.now a.start a.end (omega arith) (omega arith) (omega arith))
 
-pub is-fresh-spec : {M : Type 1} → statement M
-is-fresh-spec = tie.close (tie.spec sub-if1 returns shared-slice-read-result returns-2)
+pub is_fresh_spec : {M : Type 1} → statement M
+is_fresh_spec = tie.close (tie.spec sub-if1 returns shared-slice-read-result returns-2)

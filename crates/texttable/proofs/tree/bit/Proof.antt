@@ -3,16 +3,14 @@ use native.Mathlib.Omega.{arith}
 use borrow.Author.Rules.{rules}
 use Rattle.texttable.proofs.tree.bit.Statement.{statement}
 use Rattle.texttable.proofs.tree.bit.Tie as tie
-use Rattle.texttable.proofs.tree.bit.Reads as reads
-use Rattle.texttable.proofs.tree.bit.Lts as lts
 
-shr-result : tie.Need-overflow-shr-result
+shr-result : tie.Need-overflow_shr-result
 shr-result c = search rules
 
 returns : tie.Need-returns
 returns c = (refl, omega arith)
 
-pub bit-spec : {M : Type 1} → statement M
-bit-spec =
+pub bit_spec : {M : Type 1} → statement M
+bit_spec =
     tie.close
     (tie.spec shr-result returns)

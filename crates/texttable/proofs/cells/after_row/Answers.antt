@@ -1,0 +1,28 @@
+use Prim.Native.Nat.{ℕ}
+use mathlib.Core.Path.{◌≡◌, refl, sym, subst}
+use mathlib.Core.Bool.{false}
+use mathlib.Core.List.{List}
+use Rattle.symbols.specs.Next.{RowEnds}
+use Rattle.symbols.specs.declared.RowEnd.TheVariants as row-end
+use Rattle.texttable.specs.code.Tree.{Cleared}
+use Rattle.texttable.specs.code.Cells.{making, known, RowMade}
+use Rattle.texttable.specs.declared.cells.Known.{Known}
+use Rattle.texttable.specs.declared.cells.Made.{Made}
+use Rattle.texttable.specs.declared.cells.Made.TheVariants as made
+use Rattle.texttable.proofs.cells.after_row.Goals as goal
+
+begun : (t : List ℕ) (at count : ℕ) (k : Known) (ways ways' : List ℕ) (q : ℕ) {r : Made} → r ≡ made.Go (making q false 0 count) (known k.names 0 0)
+    → RowEnds t at (row-end.Next q) → Cleared ways ways' k.row.named → RowMade t at count k ways ways' r
+begun t at count k ways ways' q e x y = subst (RowMade t at count k ways ways') (sym e) (x, refl, refl, y)
+
+pub returns-in-Next : goal.returns-in-Next
+returns-in-Next c =
+    let a = c.args in
+    begun a.text.now a.at a.count a.k a.ways.now c.clear.new.links c.in-Next.q c.go.ensures
+    (subst (RowEnds a.text.now a.at) c.in-Next.is c.row_end.ensures)
+    c.clear.ensures
+
+pub returns-in-Last : goal.returns-in-Last
+returns-in-Last c =
+    let a = c.args in
+    (subst (RowEnds a.text.now a.at) c.in-Last.is c.row_end.ensures, refl)
