@@ -1,6 +1,6 @@
 -- The entry's answers, law by law.
 use Prim.Native.Nat.{ℕ, ◌+◌, ◌≤◌, ◌<◌}
-use mathlib.Core.Path.{◌≡◌, refl, sym, ap, ap₂, ◌∙◌}
+use mathlib.Core.Path.{◌≡◌, refl, sym, ap, ap₂, subst, ◌∙◌}
 use mathlib.Core.Bool.{Bool, true, false, cond}
 use mathlib.Core.List.{List, ◌++◌}
 use native.Mathlib.Omega.{arith}
@@ -19,12 +19,13 @@ use Rattle.table.specs.declared.TableAnswer.{TableAnswer}
 use Rattle.table.specs.declared.TableAnswer.TheVariants as table-answer
 use Rattle.grammar.specs.Grammar.{Fact}
 use Rattle.grammar.specs.Meaning.{names_of, table_cells, entry_of, name_list}
-use Rattle.grammar.specs.Taken.{Taken, taken}
+use Rattle.grammar.specs.Taken.{Taken}
 use Rattle.loading.specs.Load.{Loaded, loaded, Loads, not_taken, no_cells, no_names, no_table, loads, TextLoads, load_says, cells_after, names_after, put_first}
 use Rattle.scan.specs.Scan.{Counts}
 use Rattle.scan.specs.declared.Counted.{Counted}
-use Rattle.texttable.specs.Words.{WordsAre}
+use Rattle.texttable.specs.Words.{WordsAre, NamesAre}
 use Rattle.texttable.specs.Words as words
+use Rattle.texttable.specs.declared.NamesRead.{NamesRead}
 use Rattle.texttable.specs.declared.NamesRead.TheVariants as names-read
 use Rattle.texttable.specs.declared.TextWords.TheVariants as text-words
 use Rattle.prolog.specs.Entry.{text_told, sizes, FactsAre, are-made}
@@ -153,19 +154,36 @@ pub record Listed (t : List ℕ) (room : ℕ) (c : Counted) (list made list' mad
   pub wrote : made' ≡ put_first (table_cells t counts.facts) made
 
 module _ {t list made : List ℕ} {room : ℕ} where
+  -- what is known of the names is one of its kinds
+  pub words-known : {list' made' : List ℕ} {c : Counted} {known k : NamesRead} → WordsAre t room list made list' made' (text-words.Facts c known)
+      → known ≡ k → WordsAre t room list made list' made' (text-words.Facts c k)
+  words-known {list'} {made'} {c} w e = subst (λ (k : NamesRead). WordsAre t room list made list' made' (text-words.Facts c k)) e w
+
   pub listed-are : {list' made' : List ℕ} {c : Counted} {n : ℕ} → WordsAre t room list made list' made' (text-words.Facts c (names-read.Listed n))
       → Listed t room c list made list' made' n
-  listed-are (words.facts C (words.few h k)) =
-      record { counts = C; room' = omega (arith, C.symbols); few = omega (arith, C.symbols); count = refl; names = refl; wrote = refl }
+  listed-are (words.facts C x) = by C x
+    where
+      by : {c : Counted} (C : Counts t c) {list' made' : List ℕ} {n : ℕ} → NamesAre t C.facts room list made list' made' (names-read.Listed n)
+          → Listed t room c list made list' made' n
+      by C (words.few h k) =
+          record { counts = C; room' = omega (arith, C.symbols); few = omega (arith, C.symbols); count = refl; names = refl; wrote = refl }
 
   pub counted-are : {list' made' : List ℕ} {c : Counted} {n : ℕ}
       → WordsAre t room list made list' made' (text-words.Facts c (names-read.Counted n))
       → (C : Counts t c) × ((c.symbols + 2 ≤ room) × (most_names < c.symbols) × (n ≡ length (name_list t C.facts)))
-  counted-are (words.facts C (words.many h k)) = (C, (omega (arith, C.symbols), omega (arith, C.symbols), refl))
+  counted-are (words.facts C x) = by C x
+    where
+      by : {c : Counted} (C : Counts t c) {list' made' : List ℕ} {n : ℕ} → NamesAre t C.facts room list made list' made' (names-read.Counted n)
+          → (C : Counts t c) × ((c.symbols + 2 ≤ room) × (most_names < c.symbols) × (n ≡ length (name_list t C.facts)))
+      by C (words.many h k) = (C, (omega (arith, C.symbols), omega (arith, C.symbols), refl))
 
   pub passed-are : {list' made' : List ℕ} {c : Counted} → WordsAre t room list made list' made' (text-words.Facts c names-read.Passed)
       → Counts t c × (room < c.symbols + 2)
-  passed-are (words.facts C (words.no_room h)) = (C, omega (arith, C.symbols))
+  passed-are (words.facts C x) = by C x
+    where
+      by : {c : Counted} (C : Counts t c) {list' made' : List ℕ} → NamesAre t C.facts room list made list' made' names-read.Passed
+          → Counts t c × (room < c.symbols + 2)
+      by C (words.no_room h) = (C, omega (arith, C.symbols))
 
   pub turned-are : {list' made' : List ℕ} (f : Refusal) → WordsAre t room list made list' made' (text-words.Refused f)
       → Taken t (refuse (told f))
@@ -218,11 +236,20 @@ module _ {t made list : List ℕ} where
   pub facts-many : {list' made' : List ℕ} {c : Counted} {n : ℕ}
       → WordsAre t most_table_cells list made list' made' (text-words.Facts c (names-read.Counted n))
       → FactsAre t made list made' list' (facts-answer.Long c)
-  facts-many (words.facts C (words.many h k)) = entry.too_long C (omega (arith, C.symbols))
+  facts-many (words.facts C x) = by C x
+    where
+      by : {c : Counted} (C : Counts t c) {list' made' : List ℕ} {n : ℕ}
+          → NamesAre t C.facts most_table_cells list made list' made' (names-read.Counted n)
+          → FactsAre t made list made' list' (facts-answer.Long c)
+      by C (words.many h k) = entry.too_long C (omega (arith, C.symbols))
 
   pub facts-passed : {list' made' : List ℕ} {c : Counted} → WordsAre t most_table_cells list made list' made' (text-words.Facts c names-read.Passed)
       → FactsAre t made list made' list' (facts-answer.Long c)
-  facts-passed (words.facts C (words.no_room h)) = entry.too_long C (omega (arith, C.symbols))
+  facts-passed (words.facts C x) = by C x
+    where
+      by : {c : Counted} (C : Counts t c) {list' made' : List ℕ} → NamesAre t C.facts most_table_cells list made list' made' names-read.Passed
+          → FactsAre t made list made' list' (facts-answer.Long c)
+      by C (words.no_room h) = entry.too_long C (omega (arith, C.symbols))
 
   pub facts-turned : {list' made' : List ℕ} {f : Refusal} → WordsAre t most_table_cells list made list' made' (text-words.Refused f)
       → FactsAre t made list made' list' (facts-answer.Refused f)

@@ -1,6 +1,7 @@
 // Tables from Prolog text (02, W-201): the entry. Nothing is written to a lent room before everything is decided: the list of names and the
 // cells are made in arrays of this side, for at most 2,048 symbols; where there are more, the table is too long, and names are only
 // counted.
+#![tactic(auto)]
 
 ghost use Rattle.std.specs.Prelude.{◌≡◌, ◌≤◌, length};
 ghost use Rattle.refusal.specs.Refusal.{refused, turned};
@@ -100,7 +101,7 @@ pub fn read_text(text: &[u8], cells: &mut [u32], names: &mut [u32]) -> TextAnswe
 }
 
 // How many cells and names are made.
-#[derive(Drop)]
+#[derive(Clone, Copy)]
 pub struct Sizes {
     pub cells: usize,
     pub names: usize,
