@@ -8,44 +8,44 @@ use borrow.Author.Rules.{rules}
 use Rattle.octets.proofs.cells.put_cells.Statement.{statement}
 use Rattle.octets.proofs.cells.put_cells.Tie as tie
 
-abbrev invariant-loop : tie.invariant-loop
+abbrev invariant-loop : tie.invariant-loop-i
 invariant-loop out₀ to cells on₀ i₀ out on i = (i ≤ length cells) × Put out₀ out to (take i cells) on
 
-abbrev decreases-loop : tie.decreases-loop
+abbrev decreases-loop : tie.decreases-loop-i
 decreases-loop out₀ to cells on₀ i₀ out on i = length cells - i
 
-loop-holds : tie.Need-loop-init invariant-loop decreases-loop
+loop-holds : tie.Need-loop-i-init invariant-loop decreases-loop
 loop-holds c = (omega arith, put-nothing)
 
-mul-put-cell : tie.Need-overflow-mul-put-cell invariant-loop decreases-loop
+mul-put-cell : tie.Need-offset_bounds-cells-i invariant-loop decreases-loop
 mul-put-cell c = search rules
 
-shared-slice-read-put-cell : tie.Need-shared-slice-read-put-cell invariant-loop decreases-loop
+shared-slice-read-put-cell : tie.Need-bounds-cells-i invariant-loop decreases-loop
 shared-slice-read-put-cell c = search rules
 
-put-cell-requires : tie.Need-put-cell-requires invariant-loop decreases-loop
+put-cell-requires : tie.Need-put_cell-on-requires invariant-loop decreases-loop
 put-cell-requires c κs = search rules
 
-add-i : tie.Need-overflow-add-i invariant-loop decreases-loop
+add-i : tie.Need-overflow_add-i invariant-loop decreases-loop
 add-i c = search rules
 
-loop-less : tie.Need-loop-smaller invariant-loop decreases-loop
+loop-less : tie.Need-loop-i-smaller invariant-loop decreases-loop
 loop-less c = search rules
 
-loop-again : tie.Need-loop-preserved invariant-loop decreases-loop
+loop-again : tie.Need-loop-i-preserved invariant-loop decreases-loop
 loop-again c =
-    let l = c.before.before.before.before.before.before.loop in
-    let cells = c.before.before.before.before.before.before.before.before.before.args.cells.now in
-    (search rules, put_next cells l.i (omega arith) refl l.invariant.1 c.before.before.put-cell.ensures)
+    let l = c.loop-i in
+    let cells = c.args.cells.now in
+    (search rules, put_next cells l.i (omega arith) refl l.invariant.1 c.put_cell-on.ensures)
 
-same_length : tie.Need-same-length invariant-loop decreases-loop
-same_length c = put-length c.before.loop.invariant.1
+same_length : tie.Need-shape_of-out invariant-loop decreases-loop
+same_length c = put-length c.loop-i.invariant.1
 
 returns : tie.Need-returns invariant-loop decreases-loop
-returns c = put_all _ c.before.loop.i (omega arith) c.before.loop.invariant.1
+returns c = put_all _ c.loop-i.i (omega arith) c.loop-i.invariant.1
 
-pub put-cells-spec : {M : Type 1} → statement M
-put-cells-spec =
+pub put_cells_spec : {M : Type 1} → statement M
+put_cells_spec =
     tie.close
     (tie.spec
     invariant-loop

@@ -9,47 +9,47 @@ use Rattle.octets.proofs.BytesLaws.{bytes_next, bytes-end}
 use Rattle.octets.proofs.cells.write_cells.Statement.{statement}
 use Rattle.octets.proofs.cells.write_cells.Tie as tie
 
-abbrev invariant-loop : tie.invariant-loop
+abbrev invariant-loop : tie.invariant-loop-i
 invariant-loop out₀ to cells on₀ i₀ out on i = (i ≤ length cells) × Putting out₀ out to on (bytes_of (drop i cells)) (bytes_of cells)
 
-abbrev decreases-loop : tie.decreases-loop
+abbrev decreases-loop : tie.decreases-loop-i
 decreases-loop out₀ to cells on₀ i₀ out on i = length cells - i
 
-loop-holds : tie.Need-loop-init invariant-loop decreases-loop
+loop-holds : tie.Need-loop-i-init invariant-loop decreases-loop
 loop-holds c = (omega arith, put-begins)
 
-mul-write-cell : tie.Need-overflow-mul-write-cell invariant-loop decreases-loop
+mul-write-cell : tie.Need-offset_bounds-cells-i invariant-loop decreases-loop
 mul-write-cell c = search rules
 
-shared-slice-read-write-cell : tie.Need-shared-slice-read-write-cell invariant-loop decreases-loop
+shared-slice-read-write-cell : tie.Need-bounds-cells-i invariant-loop decreases-loop
 shared-slice-read-write-cell c = search rules
 
-write-cell-requires : tie.Need-write-cell-requires invariant-loop decreases-loop
+write-cell-requires : tie.Need-write_cell-on-requires invariant-loop decreases-loop
 write-cell-requires c κs = search rules
 
-add-i : tie.Need-overflow-add-i invariant-loop decreases-loop
+add-i : tie.Need-overflow_add-i invariant-loop decreases-loop
 add-i c = search rules
 
-loop-less : tie.Need-loop-smaller invariant-loop decreases-loop
+loop-less : tie.Need-loop-i-smaller invariant-loop decreases-loop
 loop-less c = search rules
 
-loop-again : tie.Need-loop-preserved invariant-loop decreases-loop
+loop-again : tie.Need-loop-i-preserved invariant-loop decreases-loop
 loop-again c =
-    let l = c.before.before.before.before.before.before.loop in
-    let cells = c.before.before.before.before.before.before.before.before.before.args.cells.now in
-    (search rules, put-part (rw (bytes_next cells l.i (omega arith)) at l.invariant.1) c.before.before.write_cell.ensures)
+    let l = c.loop-i in
+    let cells = c.args.cells.now in
+    (search rules, put-part (rw (bytes_next cells l.i (omega arith)) at l.invariant.1) c.write_cell-on.ensures)
 
-same_length : tie.Need-same-length invariant-loop decreases-loop
-same_length c = put-length c.before.loop.invariant.1.puts
+same_length : tie.Need-shape_of-out invariant-loop decreases-loop
+same_length c = put-length c.loop-i.invariant.1.puts
 
 returns : tie.Need-returns invariant-loop decreases-loop
 returns c =
-    let l = c.before.loop in
-    let cells = c.before.before.before.before.args.cells.now in
+    let l = c.loop-i in
+    let cells = c.args.cells.now in
     put-ends (rw (bytes-end cells l.i (omega arith)) at l.invariant.1)
 
-pub write-cells-spec : {M : Type 1} → statement M
-write-cells-spec =
+pub write_cells_spec : {M : Type 1} → statement M
+write_cells_spec =
     tie.close
     (tie.spec
     invariant-loop
