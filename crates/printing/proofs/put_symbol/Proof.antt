@@ -1,89 +1,70 @@
-use mathlib.Core.Path.{◌≡◌}
-use mathlib.Core.List.{[], ◌∷◌, ◌++◌}
 use native.Mathlib.Omega.{arith}
-use Rattle.octets.specs.Octets.{decimal}
 use Rattle.octets.proofs.PutLaws.{put-put, put-nothing}
-use Rattle.printing.specs.Printing.{value, symbol_text}
 use Rattle.printing.proofs.SymbolLaws.{symbol-variable, symbol-name, symbol-number, symbol-none, name-few}
 use borrow.Author.Rules.{rules}
 use Rattle.printing.proofs.put_symbol.Statement.{statement}
 use Rattle.printing.proofs.put_symbol.Tie as tie
 
--- the cell's symbol in each arm
-variable : (c : tie.After-n) → symbol_text c.before.before.before.before.args.c ≡ 118 ∷ decimal c.n.given.0.0
-variable c = symbol-variable _ _ c.before.before.shape_of.ensures _ c.n.given.1
-
-name : (c : tie.After-a) → symbol_text c.before.before.before.before.args.c ≡ (110 ∷ decimal c.a.given.0.1.0)
-    ++ (47 ∷ decimal c.a.given.0.0)
-name c = symbol-name _ _ c.before.before.shape_of.ensures _ _ c.a.given.1
-
-number : (c : tie.After-enum-told) → symbol_text c.before.before.before.before.args.c ≡ (105 ∷ []) ++ value c.before.before.before.before.args.c
-number c = symbol-number _ _ c.before.before.shape_of.ensures _ c.enum_told.given.1
-
-shape-of-requires : tie.Need-shape-of-requires
+shape-of-requires : tie.Need-shape_of-requires
 shape-of-requires c κs = search rules
 
-enum-known-n : tie.Need-enum-known-n
+enum-known-n : tie.Need-enum_known-n
 enum-known-n c = search rules
 
-put-tagged-requires : tie.Need-put-tagged-requires
+put-tagged-requires : tie.Need-put_tagged-requires
 put-tagged-requires c κs = search rules
 
-enum-known-a : tie.Need-enum-known-a
+enum-known-a : tie.Need-enum_known-a
 enum-known-a c = search rules
 
-put-tagged-requires-2 : tie.Need-put-tagged-requires-2
+put-tagged-requires-2 : tie.Need-put_tagged-on-requires
 put-tagged-requires-2 c κs = search rules
 
-put-tagged-requires-3 : tie.Need-put-tagged-requires-3
+put-tagged-requires-3 : tie.Need-put_tagged-requires-in-0-to-4
 put-tagged-requires-3 c κs = search rules
 
-enum_told : tie.Need-enum-told
+enum_told : tie.Need-enum_told-1
 enum_told c = search rules
 
-put-byte-requires : tie.Need-put-byte-requires
+put-byte-requires : tie.Need-put_byte-on-requires
 put-byte-requires c κs = search rules
 
-put-value-requires : tie.Need-put-value-requires
+put-value-requires : tie.Need-put_value-requires
 put-value-requires c κs = search rules
 
-enum-told-2 : tie.Need-enum-told-2
+enum-told-2 : tie.Need-enum_told-in-Refused
 enum-told-2 c = search rules
 
-same_length : tie.Need-same-length
+same_length : tie.Need-shape_of-out-in-Variable
 same_length c = search rules
 
-returns : tie.Need-returns
-returns c = rw (variable c.before.before.before.before.before) c.before.before.put-tagged.ensures
+returns : tie.Need-returns-in-Variable
+returns c = rw (symbol-variable _ _ c.shape_of.ensures _ c.in-Variable.is) c.put_tagged.ensures
 
-same-length-2 : tie.Need-same-length-2
+same-length-2 : tie.Need-shape_of-out-in-0-to-4
 same-length-2 c = search rules
 
-returns-2 : tie.Need-returns-2
+returns-2 : tie.Need-returns-in-0-to-4
 returns-2 c =
-    let c3 = c.before.before in
-    let c2 = c3.before.before.before.before in
-    rw (name c2.before.before.before.before) (put-put c2.put-tagged2.ensures c3.put-tagged3.ensures)
+    rw (symbol-name _ _ c.shape_of.ensures _ _ c.in-Name.is) (put-put c.put_tagged-on.ensures c.put_tagged-in-0-to-4.ensures)
 
-returns-3 : tie.Need-returns-3
+returns-3 : tie.Need-returns-in_default
 returns-3 c =
-    let few = name-few _ _ c.before.before.before.before.shape_of.ensures _ _ c.before.before.a.given.1 in
+    let few = name-few _ _ c.shape_of.ensures _ _ c.in-Name.is in
     absurd (omega arith)
 
-same-length-3 : tie.Need-same-length-3
+same-length-3 : tie.Need-shape_of-out-in-Number
 same-length-3 c = search rules
 
-returns-4 : tie.Need-returns-4
+returns-4 : tie.Need-returns-in-Number
 returns-4 c =
-    let c2 = c.before.before in
-    let c1 = c2.before.before.before.before in
-    rw (number c1.before.before) (put-put c1.put_byte.ensures c2.put-value.ensures)
+    rw (symbol-number _ _ c.shape_of.ensures _ c.in-Number.is) (put-put c.put_byte-on.ensures c.put_value.ensures)
 
-returns-5 : tie.Need-returns-5
-returns-5 c = rw (symbol-none _ _ c.before.before.shape_of.ensures c.enum-told2.given.1) put-nothing
+returns-5 : tie.Need-returns-in-Refused
+returns-5 c = rw (symbol-none _ _ c.shape_of.ensures c.in-Refused.is) put-nothing
 
-pub put-symbol-spec : {M : Type 1} → statement M
-put-symbol-spec =
+pub put_symbol_spec : {M : Type 1} → statement M
+put_symbol_spec =
     tie.close
     (tie.spec
     shape-of-requires
