@@ -9,7 +9,7 @@ use Rattle.refusal.specs.Read.{Read, read, refuse, and_then}
 use Rattle.refusal.specs.declared.Reason.TheVariants as reason
 use Rattle.refusal.specs.declared.Input.TheVariants as input
 use Rattle.table.specs.Table.{goal_of}
-use Rattle.grammar.specs.Grammar.{Fact, Text}
+use Rattle.grammar.specs.Grammar.{Fact}
 use Rattle.grammar.specs.Meaning.{Place, entry_of}
 use Rattle.grammar.specs.Numbering.{Words, words_at, NumberedRow}
 use Rattle.grammar.specs.Stops.{Stops}

@@ -13,7 +13,7 @@ use borrow.Author.Tests.{lt-ltb, le-ltb, eqb-true}
 use Rattle.cell.specs.Cell.{variable_cell, name_cell, number_cell, Values, values, values_at}
 use Rattle.cell.proofs.CellLaws.{built-variable, built-name, built-number, values-small}
 use Rattle.table.specs.Table.{counted, cell_tests, terms_from, goal_of}
-use Rattle.grammar.specs.Grammar.{Symbol, name, variable, number, Fact}
+use Rattle.grammar.specs.Grammar.{Symbol, name, Fact}
 use Rattle.cell.specs.Same.{same}
 use Rattle.grammar.specs.Meaning.{Place, place, bytes_at, entry_of}
 use Rattle.grammar.specs.Numbering as numbering
@@ -46,6 +46,7 @@ number-first w (v ∷ words) (later {k = k} h) = go (same w v) (number-first w w
     go : (b : Bool) → word_number w words ≤ k → cond b 0 (suc (word_number w words)) ≤ suc k
     go true l = omega arith
     go false l = omega arith
+number-first w [] {k = k} x' = elim x' [ ]
 
 number-new : (w : List ℕ) (words : Words) → (word_number w words < length words → ⊥) → New words w
 number-new w words n k h = n (let l = number-first w words h in let b = nth-below h in omega arith)
@@ -192,6 +193,7 @@ module _ (t : List ℕ) (words : Words) where
       go (yes l) f g = rw (lt-ltb (word_number (bytes_at t n) words) (length words) l) f
       go (no l) f g =
           rw (le-ltb (word_number (bytes_at t n) words) (length words) (omega arith)) (on (numbers_from words (suc j) (words_at t ns)) g)
+  number-stands j [] {k = k} {w = w} x' = elim x' [ ]
 
   -- so it first stands at that number among all of them, which is below 65,536
   number-all : (ns : List Place) {ss : List Symbol} {k : ℕ} {w : List ℕ} → Firsts t words ss (new_places ns)

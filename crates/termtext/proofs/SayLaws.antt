@@ -58,6 +58,7 @@ part zero (suc a) k xs h t = absurd (let e : suc a + k ≡ suc (a + k) = omega a
   where
     no : (xs : List ℕ) → length xs ≤ 0 → Terms (suc (a + k)) xs → ⊥
     no (c ∷ xs) h t = omega arith
+    no [] h t = elim t [ ]
 part (suc n) zero k xs h t = no-terms k xs t
 part (suc n) (suc a) k xs h t = let e : suc a + k ≡ suc (a + k) = omega arith in by xs h (rw e at t) (λ a k xs h t. part n a k xs h t)
   where
@@ -67,6 +68,7 @@ part (suc n) (suc a) k xs h t = let e : suc a + k ≡ suc (a + k) = omega arith 
         let p = f (arity c) (a + k) xs (omega arith) t in
         let l = ap length p.both ∙ length-append p.front p.back in
         first-term p (f a k p.back (omega arith) p.left)
+    by [] h x5 f = elim x5 [ ]
 
 all-trees : {k : ℕ} {xs : List ℕ} → Terms k xs → Trees k xs
 all-trees {k} {xs} t =
