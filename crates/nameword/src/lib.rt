@@ -1,4 +1,6 @@
 // The word that a number of W-201's list of names says. What does not lie in the text is left out.
+#![tactic(auto)]
+
 ghost use Rattle.std.specs.Prelude.{◌≡◌};
 ghost use Rattle.termtext.specs.Saying.{word_in};
 
