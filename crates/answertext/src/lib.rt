@@ -1,5 +1,7 @@
 // The text of an answer, put into a lent room as the functions of `octets` put their texts: a reply's cells as a Prolog term, in the names of
 // the text that the table was read from, and in the goal's own where the table has them not.
+#![tactic(auto)]
+
 pub mod measure;
 
 ghost use Rattle.std.specs.Prelude.{[], ◌≤◌, ◌<◌, length, get_or};

@@ -1,5 +1,5 @@
 use Prim.Native.Nat.{ℕ, ◌+◌, ◌-◌, ◌*◌, ◌≤◌}
-use mathlib.Core.Path.{◌≡◌, refl, sym, ap}
+use mathlib.Core.Path.{◌≡◌, sym, ap}
 use mathlib.Core.List.{List, [], ◌∷◌}
 use native.Mathlib.Omega.{arith}
 use lib.ListN.{length, drop}
@@ -15,82 +15,82 @@ use Rattle.answertext.proofs.measure.terms_bytes.Tie as tie
 abbrev rest : (text names goal new owed : List ℕ) (depth i : ℕ) (cells : List ℕ) → ℕ
 rest text names goal new owed depth i cells = length (terms_text (words_of text names goal new) (levels owed depth) (drop i cells))
 
-abbrev invariant-loop : tie.invariant-loop
+abbrev invariant-loop : tie.invariant-loop-i
 invariant-loop text names goal new width cells room₀ owed₀ sum₀ depth₀ i₀ room owed sum depth i =
     (i ≤ length cells) × (depth ≤ i + 1) × (length owed ≡ 1025) × (length room ≡ 1025) × (sum ≤ 66560 * i)
     × (sum + rest text names goal new owed depth i cells ≡ rest text names goal new owed₀ depth₀ 0 cells)
 
-abbrev decreases-loop : tie.decreases-loop
+abbrev decreases-loop : tie.decreases-loop-i
 decreases-loop text names goal new width cells room₀ owed₀ sum₀ depth₀ i₀ room owed sum depth i = length cells - i
 
-returns : tie.Need-returns invariant-loop decreases-loop
+returns : tie.Need-returns-then-cells-gt-REPLY_CELLS invariant-loop decreases-loop
 returns c =
-    let a = c.before.before.before.before.before.before.args in
+    let a = c.args in
     let words = words_of a.text.now a.names.now a.goal.now a.new.now in
     (sym (ap length (terms-over words a.width a.cells.now (omega arith))), omega arith)
 
-array-write-owed : tie.Need-array-write-owed invariant-loop decreases-loop
+array-write-owed : tie.Need-bounds-owed-0 invariant-loop decreases-loop
 array-write-owed c = search rules
 
-loop-holds : tie.Need-loop-init invariant-loop decreases-loop
+loop-holds : tie.Need-loop-i-init invariant-loop decreases-loop
 loop-holds c = (omega arith, omega arith, search rules, search rules, omega arith, omega arith)
 
-mul-c : tie.Need-overflow-mul-c invariant-loop decreases-loop
+mul-c : tie.Need-offset_bounds-cells-i invariant-loop decreases-loop
 mul-c c = search rules
 
-shared-slice-read-c : tie.Need-shared-slice-read-c invariant-loop decreases-loop
+shared-slice-read-c : tie.Need-bounds-cells-i invariant-loop decreases-loop
 shared-slice-read-c c = search rules
 
-symbol-bytes-requires : tie.Need-symbol-bytes-requires invariant-loop decreases-loop
+symbol-bytes-requires : tie.Need-symbol_bytes-word-requires invariant-loop decreases-loop
 symbol-bytes-requires c κs = search rules
 
-slice-aggregate-put-mark : tie.Need-slice-aggregate-put-mark invariant-loop decreases-loop
+slice-aggregate-put-mark : tie.Need-slice_bounds-put_mark-end invariant-loop decreases-loop
 slice-aggregate-put-mark c = search rules
 
-slice-aggregate-put-mark-2 : tie.Need-slice-aggregate-put-mark-2 invariant-loop decreases-loop
+slice-aggregate-put-mark-2 : tie.Need-slice_bounds-put_mark-end-in-loop-i invariant-loop decreases-loop
 slice-aggregate-put-mark-2 c = search rules
 
-arity-of-requires : tie.Need-arity-of-requires invariant-loop decreases-loop
+arity-of-requires : tie.Need-arity_of-requires invariant-loop decreases-loop
 arity-of-requires c κs = search rules
 
-put-mark-requires : tie.Need-put-mark-requires invariant-loop decreases-loop
+put-mark-requires : tie.Need-put_mark-next-requires invariant-loop decreases-loop
 put-mark-requires c κs = search rules
 
-add-sum : tie.Need-overflow-add-sum invariant-loop decreases-loop
+add-sum : tie.Need-overflow_add-sum invariant-loop decreases-loop
 add-sum c =
     let m = c.before.before.before in
     let w = m.before.before.before.before in
-    let l = w.before.before.before.loop in
-    let t = mark-counted m.before.arity-of.result l.owed l.depth m.put-mark.ensures.puts (omega arith) in
-    record { fits = omega (arith, t.1, w.symbol-bytes.ensures.1) }
+    let l = w.loop-i in
+    let t = mark-counted m.arity_of.result l.owed l.depth m.put_mark-next.ensures.puts (omega arith) in
+    record { fits = omega (arith, t.1, w.symbol_bytes-word.ensures.1) }
 
-add-sum-2 : tie.Need-overflow-add-sum-2 invariant-loop decreases-loop
+add-sum-2 : tie.Need-overflow_add-sum-in-loop-i invariant-loop decreases-loop
 add-sum-2 c =
     let m = c.before.before.before in
     let w = m.before.before.before.before in
-    let l = w.before.before.before.loop in
-    let t = mark-counted m.before.arity-of.result l.owed l.depth m.put-mark.ensures.puts (omega arith) in
-    record { fits = omega (arith, t.1, w.symbol-bytes.ensures.1) }
+    let l = w.loop-i in
+    let t = mark-counted m.arity_of.result l.owed l.depth m.put_mark-next.ensures.puts (omega arith) in
+    record { fits = omega (arith, t.1, w.symbol_bytes-word.ensures.1) }
 
-add-i : tie.Need-overflow-add-i invariant-loop decreases-loop
+add-i : tie.Need-overflow_add-i invariant-loop decreases-loop
 add-i c = search rules
 
-loop-less : tie.Need-loop-smaller invariant-loop decreases-loop
+loop-less : tie.Need-loop-i-smaller invariant-loop decreases-loop
 loop-less c = search rules
 
-loop-again : tie.Need-loop-preserved invariant-loop decreases-loop
+loop-again : tie.Need-loop-i-preserved invariant-loop decreases-loop
 loop-again c =
     let m = c.before.before.before in
     let w = m.before.before.before.before in
     let q = w.before.before.before in
-    let l = q.loop in
-    let a = q.before.before.before.before.before.before.before.args in
+    let l = q.loop-i in
+    let a = q.args in
     let words = words_of a.text.now a.names.now a.goal.now a.new.now in
-    let k = m.put-mark.ensures in
-    let arity = m.before.arity-of.ensures in
-    let t = mark-counted m.before.arity-of.result l.owed l.depth k.puts (omega arith) in
+    let k = m.put_mark-next.ensures in
+    let arity = m.arity_of.ensures in
+    let t = mark-counted m.arity_of.result l.owed l.depth k.puts (omega arith) in
     let next = bytes_next words (levels l.owed l.depth) a.cells.now l.i (omega arith) in
-    let said = w.symbol-bytes.ensures in
+    let said = w.symbol_bytes-word.ensures in
     let here = rw arity at t.0 in (
       omega arith,
       omega (arith, k.few),
@@ -100,18 +100,18 @@ loop-again c =
       rw (k.still, arity) (omega (arith, next, here, said.0, l.invariant.5)),
     )
 
-returns-2 : tie.Need-returns-2 invariant-loop decreases-loop
+returns-2 : tie.Need-returns invariant-loop decreases-loop
 returns-2 c =
-    let l = c.before.loop in
-    let a = c.before.before.before.before.before.before.before.before.args in
+    let l = c.loop-i in
+    let a = c.args in
     let words = words_of a.text.now a.names.now a.goal.now a.new.now in
     let e : l.sum + length (terms_text words (levels l.owed l.depth) (drop l.i a.cells.now))
     ≡ length (terms_text words (a.width ∷ []) a.cells.now) = l.invariant.5 in
     let d = bytes-done words (levels l.owed l.depth) a.cells.now l.i (omega arith) in
     (rw (terms-are words a.width a.cells.now (omega arith)) (omega (arith, d, e)), omega arith)
 
-pub terms-bytes-spec : {M : Type 1} → statement M
-terms-bytes-spec =
+pub terms_bytes_spec : {M : Type 1} → statement M
+terms_bytes_spec =
     tie.close
     (tie.spec
     invariant-loop
