@@ -18,7 +18,7 @@ use Rattle.table.specs.Table.{goal_of, goal_says, goal_told}
 use Rattle.table.specs.declared.GoalAnswer.{GoalAnswer}
 use Rattle.table.specs.declared.GoalAnswer.TheVariants as goal-answer
 use Rattle.table.proofs.Accepted.{is-goal}
-use Rattle.grammar.specs.Grammar.{Symbol, number, Fact, Text}
+use Rattle.grammar.specs.Grammar.{Symbol, Fact, Text}
 use Rattle.grammar.specs.Meaning.{Place, entry_of, width_of, symbols_of, names_of, table_cells, name_list, none, found, other_in, other_than}
 use Rattle.grammar.specs.Numbering as numbering
 use Rattle.grammar.specs.Numbering.{Words, words_at, Firsts, NumberedRow, Rows}

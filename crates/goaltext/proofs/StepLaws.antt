@@ -6,7 +6,7 @@ use mathlib.Core.List.{List, [], ◌∷◌}
 use native.Mathlib.Omega.{arith}
 use lib.ListN.{length, take, length-append}
 use lib.Seq.{slice, take_at, take_all}
-use Rattle.refusal.specs.Refusal.{Refused, told, reason_number}
+use Rattle.refusal.specs.Refusal.{told, reason_number}
 use Rattle.refusal.specs.Read.{Read, read, refuse}
 use Rattle.refusal.specs.declared.Refusal.{Refusal}
 use Rattle.grammar.specs.Grammar.{Fact, Text}

@@ -1,5 +1,7 @@
 // ask: "A goal is a term of the facts' predicate in W-201's grammar (final `.` allowed, not wanted)": a goal's text is read as one fact of
 // the table's predicate and width, its names numbered on from the table's.
+#![tactic(auto)]
+
 mod names;
 
 ghost use Rattle.std.specs.Prelude.{◌≡◌, ◌+◌, ◌≤◌, length};
@@ -67,7 +69,7 @@ fn refuse(reason: Reason, input: Input, place: usize) -> GoalText
 }
 
 // It is a text, of whatever facts; or where no text goes on so.
-#[derive(Drop)]
+#[derive(Clone, Copy)]
 pub enum Ends {
     Whole,
     Stop(usize),
@@ -90,7 +92,7 @@ fn text_ends(text: &[u8]) -> Ends
 }
 
 // How many bytes of a goal with a full stop after it are read: all, or those before the full stop's line; or TEXT's place.
-#[derive(Drop)]
+#[derive(Clone, Copy)]
 pub enum Size {
     Bytes(usize),
     Stop(usize),

@@ -1,0 +1,50 @@
+use mathlib.Core.Path.{sym, subst}
+use native.Mathlib.Omega.{arith}
+use lib.Seq.{length-take-le}
+use Rattle.goaltext.specs.code.Steps.{EndsAre}
+use Rattle.goaltext.proofs.StepLaws.{size-whole, size-byte, size-stopped, size_none}
+use Rattle.goaltext.proofs.whole_size.Goals as goal
+
+pub slice_bounds-text_ends-end : goal.slice_bounds-text_ends-end
+slice_bounds-text_ends-end c =
+    let a = c.args in sym (length-take-le a.n a.text.now (omega (arith, c.requires)))
+
+pub returns-then-k-n : goal.returns-then-k-n
+returns-then-k-n c =
+    let a = c.args in
+    record {
+      fits = tt;
+      read = λ t e l.
+          size-byte t a.text.now a.n e l (c.in-Stop.ensures (omega (arith, length-take-le c.args.n c.args.text.now (omega (arith, c.requires)), c.requires))) (omega arith);
+    }
+
+pub returns-in-Whole : goal.returns-in-Whole
+returns-in-Whole c =
+    let a = c.args in
+    record {
+      fits = omega (arith, c.requires);
+      read = λ t e l.
+          size-whole t a.text.now a.n e l (c.in-Whole.ensures (omega (arith, length-take-le c.args.n c.args.text.now (omega (arith, c.requires)), c.requires)));
+    }
+
+pub returns-in-Whole-text_ends : goal.returns-in-Whole-text_ends
+returns-in-Whole-text_ends c =
+    let a = c.args in
+    record {
+      fits = omega (arith, c.requires);
+      read = λ t e l.
+          size-stopped t a.text.now a.n e l (c.in-Stop.ensures (omega (arith, length-take-le c.args.n c.args.text.now (omega (arith, c.requires)), c.requires))) (omega arith)
+          (subst (EndsAre a.text.now) c.in-Whole-text_ends.is
+          (c.text_ends-in-Stop.ensures (omega (arith, c.requires))));
+    }
+
+pub returns-in-Stop-text_ends : goal.returns-in-Stop-text_ends
+returns-in-Stop-text_ends c =
+    let a = c.args in
+    record {
+      fits = tt;
+      read = λ t e l.
+          size_none t a.text.now a.n e l (c.in-Stop.ensures (omega (arith, length-take-le c.args.n c.args.text.now (omega (arith, c.requires)), c.requires))) (omega arith)
+          (subst (EndsAre a.text.now) c.in-Stop-text_ends.is
+          (c.text_ends-in-Stop.ensures (omega (arith, c.requires))));
+    }
