@@ -1,6 +1,8 @@
 // A goal's text, read for a caller that lends rooms of any size: by the predicate of the facts' text, into a room for its cells and one for
 // the names that the facts have not. Both are read on this side first, for a goal has at most 32 cells, so that nothing is written where
 // anything is refused.
+#![tactic(auto)]
+
 ghost use Rattle.std.specs.Prelude.{◌≡◌};
 ghost use Rattle.refusal.specs.Refusal.{refused, turned};
 ghost use Rattle.refusal.specs.declared.Reason.TheVariants as reason;
