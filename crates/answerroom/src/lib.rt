@@ -1,4 +1,6 @@
 // An answer's text, put for a caller that lends a room of any size: it is measured first, so that nothing is written where it has no room.
+#![tactic(auto)]
+
 ghost use Rattle.std.specs.Prelude.{◌≡◌, ◌^◌, ◌≤◌, ◌<◌, length};
 ghost use Rattle.refusal.specs.Refusal.{refused, turned};
 ghost use Rattle.refusal.specs.Coded.{Small};

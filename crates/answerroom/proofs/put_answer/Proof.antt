@@ -12,44 +12,44 @@ use Rattle.answerroom.proofs.put_answer.Tie as tie
 refuse-requires : tie.Need-refuse-requires
 refuse-requires c κs = search rules
 
-returns : tie.Need-returns
+returns : tie.Need-returns-then-cells-gt-REPLY_CELLS
 returns c =
     let e = c.refuse.ensures in
-    (too-big c.before.if1.true e refl, small_by e (refused-small reason.Big input.Goal 0 (omega arith)))
+    (too-big c.if-cells-gt-REPLY_CELLS.true e refl, small_by e (refused-small reason.Big input.Goal 0 (omega arith)))
 
-predicate-of-requires : tie.Need-predicate-of-requires
+predicate-of-requires : tie.Need-predicate_of-p-requires
 predicate-of-requires c κs = search rules
 
-answer-bytes-requires : tie.Need-answer-bytes-requires
-answer-bytes-requires c κs = (omega arith, predicate-short c.predicate-of.ensures)
+answer-bytes-requires : tie.Need-answer_bytes-need-requires
+answer-bytes-requires c κs = (omega arith, predicate-short c.predicate_of-p.ensures)
 
-refuse-requires-2 : tie.Need-refuse-requires-2
+refuse-requires-2 : tie.Need-refuse-requires-then-room-need
 refuse-requires-2 c κs = search rules
 
-returns-2 : tie.Need-returns-2
+returns-2 : tie.Need-returns-then-room-need
 returns-2 c =
     let n = c.before.before in
-    let b = n.answer-bytes.ensures in
-    let e = c.refuse2.ensures in (
-      short-room (omega arith) n.before.predicate-of.ensures b.0 c.before.if2.true e,
-      small_by e (refused-small reason.Room input.Lent n.answer-bytes.result (omega (arith, b.1))),
+    let b = n.answer_bytes-need.ensures in
+    let e = c.refuse-then-room-need.ensures in (
+      short-room (omega arith) n.predicate_of-p.ensures b.0 c.if-room-need.true e,
+      small_by e (refused-small reason.Room input.Lent n.answer_bytes-need.result (omega (arith, b.1))),
     )
 
-put-answer-requires : tie.Need-put-answer-requires
+put-answer-requires : tie.Need-put_answer-requires
 put-answer-requires c κs = search rules
 
-same_length : tie.Need-same-length
+same_length : tie.Need-shape_of-room
 same_length c = search rules
 
-returns-3 : tie.Need-returns-3
+returns-3 : tie.Need-returns
 returns-3 c =
     let p = c.before.before in
     let n = p.before.before.before in
-    let b = n.answer-bytes.ensures in
-    (is-put (omega arith) n.before.predicate-of.ensures b.0 (omega arith) p.put-answer.ensures, (omega arith, omega (arith, b.1)))
+    let b = n.answer_bytes-need.ensures in
+    (is-put (omega arith) n.predicate_of-p.ensures b.0 (omega arith) p.put_answer.ensures, (omega arith, omega (arith, b.1)))
 
-pub put-answer-spec : {M : Type 1} → statement M
-put-answer-spec =
+pub put_answer_spec : {M : Type 1} → statement M
+put_answer_spec =
     tie.close
     (tie.spec
     refuse-requires
