@@ -1,6 +1,6 @@
 -- Variables renumbered by first appearance: what comes out is numbered, and is a variant of what went in.
 use Prim.Native.Nat.{ℕ, zero, suc, ◌^◌, ◌≤◌, ◌<◌}
-use mathlib.Core.Path.{◌≡◌, refl, sym, ◌∙◌, ap}
+use mathlib.Core.Path.{◌≡◌, refl, sym, ◌∙◌, ap, subst}
 use mathlib.Core.Logic.{◌≢◌, ⊎_elim, by_cases}
 use mathlib.Core.Bool.{true, false, cond, ◌&&◌}
 use mathlib.Core.List.Memᴰ
@@ -119,13 +119,23 @@ final-has met (d ∷ xs) c m v = ⊎_elim
 numbering : List ℕ → ℕ → ℕ
 numbering F c = cond (is_var c) (place c F) c
 
+final-var : (met xs : List ℕ) (c : ℕ) → is_var c ≡ true → final met (c ∷ xs) ≡ final (meet c met) xs
+unfolding final
+final-var met xs c v = rw v
+
+final-symbol : (met xs : List ℕ) (c : ℕ) → is_var c ≡ false → final met (c ∷ xs) ≡ final met xs
+unfolding final
+final-symbol met xs c v = rw v
+
 numbers-map : (met xs : List ℕ) → number_from met xs ≡ map (numbering (final met xs)) xs
 unfolding number_from final numbering
 numbers-map met [] = refl
 numbers-map met (c ∷ xs) = ⊎_elim
-    (λ v. rw v (ap (λ (n : ℕ). n ∷ number_from (meet c met) xs) (sym (final-here c met xs).0)
-    ∙ ap (λ (l : List ℕ). place c (final (meet c met) xs) ∷ l) (numbers-map (meet c met) xs)))
-    (λ v. rw v (ap (λ (l : List ℕ). c ∷ l) (numbers-map met xs)))
+    (λ v. subst (λ (F : List ℕ). number_from met (c ∷ xs) ≡ map (numbering F) (c ∷ xs)) (sym (final-var met xs c v))
+    (rw v (ap (λ (n : ℕ). n ∷ number_from (meet c met) xs) (sym (final-here c met xs).0)
+    ∙ ap (λ (l : List ℕ). place c (final (meet c met) xs) ∷ l) (numbers-map (meet c met) xs))))
+    (λ v. subst (λ (F : List ℕ). number_from met (c ∷ xs) ≡ map (numbering F) (c ∷ xs)) (sym (final-symbol met xs c v))
+    (rw v (ap (λ (l : List ℕ). c ∷ l) (numbers-map met xs))))
     (bool_cases (is_var c))
 
 record Vars (met : List ℕ) : Type 0 where

@@ -1,5 +1,5 @@
 -- The passes over the hits, one hit after another; and what the entry answers after them.
-use Prim.Native.Nat.{ℕ, ◌+◌, ◌-◌, ◌≤◌, ◌<◌}
+use Prim.Native.Nat.{ℕ, ◌+◌, ◌≤◌, ◌<◌}
 use mathlib.Core.Path.{◌≡◌, refl, sym, ◌∙◌, ap, subst}
 use mathlib.Core.List.Memᴰ
 use mathlib.Core.List.{List, [], ◌++◌, flatten, append_assoc, append-nil}
@@ -8,7 +8,7 @@ use lib.Dec.{ltb}
 use lib.ListN.{length, get_or, take, drop, length-append, drop_of_length-le}
 use lib.Seq.{sets, take_at, length-take-le}
 use borrow.Author.Tests.{le-ltb}
-use Rattle.refusal.specs.Refusal.{Refused, refused, answered, turned}
+use Rattle.refusal.specs.Refusal.{refused, answered, turned}
 use Rattle.refusal.specs.declared.Refusal.{Refusal}
 use Rattle.refusal.specs.declared.Reason.TheVariants as reason
 use Rattle.refusal.specs.declared.Input.TheVariants as input

@@ -8,7 +8,6 @@ use Rattle.refusal.specs.Read.{read, refuse}
 use Rattle.plan.specs.Check.{plan_of}
 use Rattle.answer.specs.Run.{Ran}
 use Rattle.answer.specs.Jobs.{bits_of}
-use Rattle.answer.specs.declared.RunAnswer.{RunAnswer}
 use Rattle.answer.specs.declared.RunAnswer.TheVariants as run-answer
 use Rattle.instance.specs.Replied.{Replied, replies_told}
 use Rattle.instance.specs.declared.RepliesAnswer.{RepliesAnswer}

@@ -1,5 +1,7 @@
 // What a row and a goal have in common (02, W-203), as mathematics: specs/ says what a reply is, proofs/ what holds of it. The code is in
 // crate replies.
+#![tactic(auto)]
+
 use refusal::Refusal;
 
 // How many replies there are and how many cells they have together, or why the table, the plan, the goal or the room is turned away.
@@ -13,7 +15,7 @@ pub enum RepliesAnswer {
 // call for the list fills in the rest: the refusal's number and place, or 0 and 0; where its replies begin in the room, how many they are and how
 // many cells they have together; the rows that are hit, row r being bit r; the branches tried.
 #[repr(C)]
-#[derive(Drop)]
+#[derive(Clone, Copy)]
 pub struct ReplyJob {
     pub start: usize,
     pub count: usize,
