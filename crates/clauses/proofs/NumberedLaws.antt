@@ -36,20 +36,26 @@ module _ {program : List Clause} where
   says-answers (a-rule d c) (says.rule_fits by b g s p o e) = answers.rule_fits by b g (says-answers d s) p (says-answers c o) e
   says-answers (a-rule d c) (says.rule-not r s) = answers.fails r (says-answers c s)
 
+  -- at two numbers that are the same: a case at one number would need axiom K
+  answers-says-at : {k m : ℕ} {cs : List Clause} {P : Predicate} {goal : List ℕ} {all : List (List ℕ)} → Collects program k cs P
+      → m ≡ k → AnswersFrom program cs m goal all
+      → Says P goal all
+  answers-says-at none e answers.none = says.none
+  answers-says-at (other n c) e (answers.other m s) = answers-says-at c e s
+  answers-says-at (other n c) e (answers.fact-fits r s) = absurd (n e)
+  answers-says-at (other n c) e (answers.rule_fits by b g s p o q) = absurd (n e)
+  answers-says-at (other n c) e (answers.fails r s) = absurd (n e)
+  answers-says-at (a-fact c) e (answers.other m s) = absurd (m (sym e))
+  answers-says-at (a-fact c) e (answers.fact-fits r s) = says.fact-fits r (answers-says-at c e s)
+  answers-says-at (a-fact c) e (answers.fails r s) = says.fact-not r (answers-says-at c e s)
+  answers-says-at (a-rule d c) e (answers.other m s) = absurd (m (sym e))
+  answers-says-at (a-rule d c) e (answers.rule_fits by b g s p o q) = says.rule_fits by b g (answers-says-at d refl s) p (answers-says-at c e o) q
+  answers-says-at (a-rule d c) e (answers.fails r s) = says.rule-not r (answers-says-at c e s)
+
   pub answers-says : {k : ℕ} {cs : List Clause} {P : Predicate} {goal : List ℕ} {all : List (List ℕ)} → Collects program k cs P
       → AnswersFrom program cs k goal all
       → Says P goal all
-  answers-says none answers.none = says.none
-  answers-says (other n c) (answers.other m s) = answers-says c s
-  answers-says (other n c) (answers.fact-fits r s) = absurd (n refl)
-  answers-says (other n c) (answers.rule_fits by b g s p o e) = absurd (n refl)
-  answers-says (other n c) (answers.fails r s) = absurd (n refl)
-  answers-says (a-fact c) (answers.other m s) = absurd (m refl)
-  answers-says (a-fact c) (answers.fact-fits r s) = says.fact-fits r (answers-says c s)
-  answers-says (a-fact c) (answers.fails r s) = says.fact-not r (answers-says c s)
-  answers-says (a-rule d c) (answers.other m s) = absurd (m refl)
-  answers-says (a-rule d c) (answers.rule_fits by b g s p o e) = says.rule_fits by b g (answers-says d s) p (answers-says c o) e
-  answers-says (a-rule d c) (answers.fails r s) = says.rule-not r (answers-says c s)
+  answers-says c s = answers-says-at c refl s
 
 -- WHERE THE NUMBERS ARE
 abbrev Not : ℕ → List Clause → Type 0

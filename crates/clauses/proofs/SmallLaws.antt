@@ -7,10 +7,10 @@ use mathlib.Core.Bool.{Bool, true, false, cond}
 use mathlib.Core.List.{List, [], ◌∷◌, ◌++◌}
 use native.Mathlib.Omega.{arith}
 use lib.Dec.{ltb}
-use lib.IntN.{ℤ, pos, negsuc}
+use lib.IntN.{pos, negsuc}
 use lib.ListN.{length, get_or, length-append}
 use lib.Seq.{length-slice}
-use Rattle.cell.specs.Cell.{variable_cell, name_cell, number_cell, values_at}
+use Rattle.cell.specs.Cell.{values_at}
 use Rattle.cell.specs.Signed.{signed_of}
 use Rattle.cell.proofs.CellLaws.{built-variable, built-name, built-number}
 use Rattle.table.specs.All.{All}
@@ -20,7 +20,7 @@ use Rattle.plan.specs.Plans.{Plan}
 use Rattle.octets.specs.Octets.{digits_of, decimal}
 use Rattle.printing.specs.Printing.{signed_decimal}
 use Rattle.grammar.specs.Numbering.{Words, Nth, here, later}
-use Rattle.termtext.specs.Saying.{word_in, words_in, symbol_word}
+use Rattle.termtext.specs.Saying.{words_in, symbol_word}
 use Rattle.termtext.proofs.SayLaws.{Good, good-variable, good-name, good-number, Goods}
 use Rattle.clauses.specs.Clauses.{Body, nothing, calls, Clause, handed}
 use Rattle.clauses.specs.Translate.{Predicate, done, fact, rule, predicate}
@@ -141,6 +141,7 @@ word-brief text (n ∷ names) h s k w here =
     let e = length-slice (n % 65536) (n % 65536 + n / 65536) text (h 0 n here) in
     omega (arith, s 0)
 word-brief text (n ∷ names) h s (suc k) w (later m) = word-brief text names (λ j x y. h (suc j) x (later y)) (λ j. s (suc j)) k w m
+word-brief text [] h s k w x3 = elim x3 [ ]
 
 -- so where the names are listed, each a number of 32 bits
 pub text-small : {t : List ℕ} {w : ℕ} {rows : List (List ℕ)} → IsTable t w rows → (tree : Plan w rows) → {text names : List ℕ}

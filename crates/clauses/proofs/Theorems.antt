@@ -44,6 +44,7 @@ use Rattle.clauses.proofs.PrintLaws.{numbered-printed, predicate-fine}
 nth-map : {f : ℕ → List ℕ} (xs : List ℕ) {k : ℕ} {w : List ℕ} → Nth (map f xs) k w → (n : ℕ) × Nth xs k n × (w ≡ f n)
 nth-map (x ∷ xs) here = (x, here, refl)
 nth-map (x ∷ xs) (later h) = let z = nth-map xs h in (z.0, later z.1, z.2)
+nth-map {f = f} [] {k = k} {w = w} x' = elim x' [ ]
 
 plan-fine : (words : Words) {rows : List (List ℕ)} (w : ℕ) → 1 ≤ w → (p : Plan w rows) → OneRow p → All (Seat w) rows → 0 < length rows
     → All (λ (r : List ℕ). Goods words r × Numbered r) rows → All (Printed words) (program p)

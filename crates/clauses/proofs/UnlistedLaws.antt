@@ -1,5 +1,5 @@
 -- The names are listed, or one of the three that NAMES is given for holds.
-use Prim.Native.Nat.{ℕ, zero, suc, ◌+◌, ◌/◌, ◌%◌, ◌≤◌, ◌<◌}
+use Prim.Native.Nat.{ℕ, suc, ◌+◌, ◌/◌, ◌%◌, ◌≤◌, ◌<◌}
 use mathlib.Core.Path.{◌≡◌, refl, sym, ap, subst}
 use mathlib.Core.Logic.{◌↔◌, ◌⊎◌, inl, inr, ⊎_elim}
 use mathlib.Core.Bool.{Bool, true, false}
@@ -17,7 +17,7 @@ use Rattle.table.specs.All.{All}
 use Rattle.table.proofs.ReadLaws.{not-both}
 use Rattle.grammar.specs.Grammar.{is_lower, is_word}
 use Rattle.grammar.specs.Numbering.{Words, Nth, here, later}
-use Rattle.grammar.proofs.NthLaws.{nth-below, nth-one}
+use Rattle.grammar.proofs.NthLaws.{nth-below}
 use Rattle.lex.specs.Names.{IsName}
 use Rattle.lex.proofs.NameLaws.{no_bytes, no_lower}
 use Rattle.termtext.specs.Saying.{word_in, words_in}
@@ -100,15 +100,15 @@ apart-or : (ws : Words) → Apart ws ⊎ Twice ws
 apart-or [] = inl (λ j k w h g. absurd (omega (arith, nth-below h)))
 apart-or (x ∷ ws) = by (find x ws) (apart-or ws)
   where
-    each : ((k : ℕ) → Nth ws k x → ⊥) → Apart ws → Apart (x ∷ ws)
-    each n h j k w here here = refl
-    each n h j (suc k) w here (later g) = absurd (n k g)
-    each n h (suc j) k w (later f) here = absurd (n j f)
-    each n h (suc j) (suc k) w (later f) (later g) = ap suc (h j k w f g)
+    each : ((k : ℕ) → Nth ws k x → ⊥) → Apart ws → (j k : ℕ) (w v : List ℕ) → w ≡ v → Nth (x ∷ ws) j w → Nth (x ∷ ws) k v → j ≡ k
+    each n h j k w v e here here = refl
+    each n h j (suc k) w v e here (later g) = absurd (n k (subst (λ (u : List ℕ). Nth ws k u) (sym e) g))
+    each n h (suc j) k w v e (later f) here = absurd (n j (subst (λ (u : List ℕ). Nth ws j u) e f))
+    each n h (suc j) (suc k) w v e (later f) (later g) = ap suc (h j k w f (subst (λ (u : List ℕ). Nth ws k u) (sym e) g))
 
     by : ((k : ℕ) × Nth ws k x) ⊎ ((k : ℕ) → Nth ws k x → ⊥) → Apart ws ⊎ Twice ws → Apart (x ∷ ws) ⊎ Twice (x ∷ ws)
     by (inl f) s = inr (0, suc f.0, x, here, later f.1, omega arith)
-    by (inr n) (inl h) = inl (each n h)
+    by (inr n) (inl h) = inl (λ j k w f g. each n h j k w w refl f g)
     by (inr n) (inr e) = inr (suc e.0, suc e.1, e.2, later e.3, later e.4, omega (arith, e.5))
 
 -- A NUMBER NOT LISTED, or none
