@@ -1,5 +1,7 @@
 // Cells put into a lent room from a place on: with a variable replaced, with variables moved apart or renumbered. Each function
 // answers the place after them. What has no room is left out, so that nobody has to measure first.
+#![tactic(auto)]
+
 ghost use Rattle.std.specs.Prelude.{◌≡◌, [], ◌∷◌, cond, ◌+◌, ◌^◌, ◌≤◌, length, take};
 ghost use Rattle.cell.specs.Cell.{is_var};
 ghost use Rattle.term.specs.Unify.{renamed};

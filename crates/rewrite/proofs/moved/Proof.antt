@@ -7,14 +7,14 @@ use Rattle.rewrite.proofs.moved.Tie as tie
 kind-requires : tie.Need-kind-requires
 kind-requires c κs = search rules
 
-add-result : tie.Need-overflow-add-result
+add-result : tie.Need-overflow_add-result
 add-result c = search rules
 
-returns : tie.Need-returns
-returns c = let k = c.before.kind.ensures in rw (is-var _ (sym k ∙ c.if1.true))
+returns : tie.Need-returns-then-kind-eq0
+returns c = let k = c.kind.ensures in rw (is-var _ (sym k ∙ c.if-kind-eq0.true))
 
-returns-2 : tie.Need-returns-2
-returns-2 c = let k = c.before.kind.ensures in rw (not-var _ (λ z. c.if1.false (k ∙ z)))
+returns-2 : tie.Need-returns
+returns-2 c = let k = c.kind.ensures in rw (not-var _ (λ z. c.if-kind-eq0.false (k ∙ z)))
 
-pub moved-spec : {M : Type 1} → statement M
-moved-spec = tie.close (tie.spec kind-requires add-result returns returns-2)
+pub moved_spec : {M : Type 1} → statement M
+moved_spec = tie.close (tie.spec kind-requires add-result returns returns-2)
