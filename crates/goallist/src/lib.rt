@@ -5,14 +5,14 @@ ghost use Rattle.goallist.specs.Gathering.{Adding};
 use octets::cells::put_cells;
 
 // So many cells and words of the rooms are in use.
-#[derive(Drop)]
+#[derive(Clone, Copy)]
 pub struct Held {
     pub cells: usize,
     pub words: usize,
 }
 
 // What there is no room for: the words of a goal more, or its cells.
-#[derive(Drop)]
+#[derive(Clone, Copy)]
 pub enum Full {
     Goals,
     Cells,

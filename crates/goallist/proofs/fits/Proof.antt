@@ -5,14 +5,14 @@ use borrow.Author.Tests.{lt-leb, le-leb}
 use Rattle.goallist.proofs.fits.Statement.{statement}
 use Rattle.goallist.proofs.fits.Tie as tie
 
-returns : tie.Need-returns
-returns c = let a = c.before.args in sym (lt-leb (a.to + a.n) a.room (omega arith))
+returns : tie.Need-returns-then-room-to
+returns c = let a = c.args in sym (lt-leb (a.to + a.n) a.room (omega arith))
 
-returns-2 : tie.Need-returns-2
-returns-2 c = let a = c.before.before.args in sym (lt-leb (a.to + a.n) a.room (omega arith))
+returns-2 : tie.Need-returns-then-room-to-2
+returns-2 c = let a = c.args in sym (lt-leb (a.to + a.n) a.room (omega arith))
 
-returns-3 : tie.Need-returns-3
-returns-3 c = let a = c.before.before.args in sym (le-leb (a.to + a.n) a.room (omega arith))
+returns-3 : tie.Need-returns
+returns-3 c = let a = c.args in sym (le-leb (a.to + a.n) a.room (omega arith))
 
-pub fits-spec : {M : Type 1} → statement M
-fits-spec = tie.close (tie.spec returns returns-2 returns-3)
+pub fits_spec : {M : Type 1} → statement M
+fits_spec = tie.close (tie.spec returns returns-2 returns-3)
