@@ -1,5 +1,5 @@
 -- The code's looks at blocks: the tests of one block, a block's words from a file's bytes, and blocks one after another.
-use Rattle.std.proofs.Common.{◌≡◌, ℕ, zero, suc, ◌+◌, ◌-◌, ◌*◌, ◌/◌, ◌<◌, ◌≤◌, Bool, true, false, eqb, List, [], ◌∷◌, ◌++◌, length, get_or, take, drop, sym, refl, ap, ◌∙◌, append-nil, arith, length-drop, drop_of_length-le, length-take-le, drop-cons, drop-drop, eq-eqb, ne_eqb}
+use Rattle.std.proofs.Common.{◌≡◌, ℕ, suc, ◌+◌, ◌-◌, ◌*◌, ◌<◌, ◌≤◌, true, false, eqb, List, [], ◌∷◌, ◌++◌, length, get_or, take, drop, sym, ap, ◌∙◌, append-nil, arith, length-drop, drop_of_length-le, length-take-le, drop-cons, drop-drop, eq-eqb, ne_eqb}
 use Rattle.octets.specs.Octets.{Put, cells_of}
 use Rattle.octets.proofs.PutLaws.{Putting, put-begins, put-part, put-ends, put_front}
 use Rattle.octets.proofs.CellsLaws.{cells_count}

@@ -4,22 +4,22 @@ use Rattle.std.proofs.Common.{rules}
 use Rattle.blocks.proofs.put_block.Statement.{statement}
 use Rattle.blocks.proofs.put_block.Tie as tie
 
-sums-requires : tie.Need-sums-requires
+sums-requires : tie.Need-sums-s-requires
 sums-requires c κs = search rules
 
-write-cell-requires : tie.Need-write-cell-requires
+write-cell-requires : tie.Need-write_cell-a-requires
 write-cell-requires c κs = search rules
 
-write-cells-requires : tie.Need-write-cells-requires
+write-cells-requires : tie.Need-write_cells-b-requires
 write-cells-requires c κs = search rules
 
-write-cell-requires-2 : tie.Need-write-cell-requires-2
+write-cell-requires-2 : tie.Need-write_cell-d-requires
 write-cell-requires-2 c κs = search rules
 
-write-cell-requires-3 : tie.Need-write-cell-requires-3
+write-cell-requires-3 : tie.Need-write_cell-requires
 write-cell-requires-3 c κs = search rules
 
-same_length : tie.Need-same-length
+same_length : tie.Need-shape_of-out
 same_length c = search rules
 
 returns : tie.Need-returns
@@ -29,13 +29,13 @@ returns c =
     let r = q.before.before.before.before in
     let s = r.before.before.before.before in
     let u = s.before.before in
-    let a = u.before.before.before.args in
-    let front = put-put s.write_cell.ensures r.write-cells.ensures in
-    rw (block-bytes a.number a.cells.now, ← u.sums.ensures.0, ← u.sums.ensures.1)
-    (put-put (put-put front q.write-cell2.ensures) p.write-cell3.ensures)
+    let a = u.args in
+    let front = put-put s.write_cell-a.ensures r.write_cells-b.ensures in
+    rw (block-bytes a.number a.cells.now, ← u.sums-s.ensures.0, ← u.sums-s.ensures.1)
+    (put-put (put-put front q.write_cell-d.ensures) p.write_cell.ensures)
 
-pub put-block-spec : {M : Type 1} → statement M
-put-block-spec =
+pub put_block_spec : {M : Type 1} → statement M
+put_block_spec =
     tie.close
     (tie.spec
     sums-requires
