@@ -1,23 +1,23 @@
 -- A file's reading, test by test, and the parts of its cells.
-use Prim.Native.Nat.{ℕ, zero, suc, ◌+◌, ◌-◌, ◌*◌, ◌/◌, ◌%◌, ◌^◌, ◌≤◌, ◌<◌}
+use Prim.Native.Nat.{ℕ, zero, suc, ◌+◌, ◌-◌, ◌*◌, ◌/◌, ◌%◌, ◌≤◌, ◌<◌}
 use mathlib.Core.Path.{◌≡◌, refl, sym, ◌∙◌, ap}
-use mathlib.Core.Bool.{Bool, true, false, not, ◌&&◌, ◌||◌}
+use mathlib.Core.Bool.{Bool, true, false, not, ◌||◌}
 use mathlib.Core.List.{List, [], ◌∷◌, ◌++◌, append_assoc}
 use native.Mathlib.Nat.{add_comm}
 use native.Mathlib.Numerals.{add-one}
 use native.Mathlib.Omega.{arith}
 use lib.Dec.{eqb, ltb}
-use lib.ListN.{length, get_or, take, drop, replicate, length-append, length-replicate, length-drop, drop_of_length-le}
+use lib.ListN.{length, get_or, drop, replicate, length-append, length-replicate, drop_of_length-le}
 use lib.Seq.{take_at, drop_at, drop-cons}
-use borrow.Author.Tests.{eq-eqb, ne_eqb, eqb-true, eqb-false, le-ltb, ltb-false, not-false, not-true}
-use Rattle.refusal.specs.Read.{Read, read}
+use borrow.Author.Tests.{eq-eqb, ne_eqb, eqb-true, eqb-false, le-ltb, ltb-false, not-false}
+use Rattle.refusal.specs.Read.{read}
 use Rattle.table.proofs.ReadLaws.{passed}
 use Rattle.table.proofs.ReadLaws as reading
 use Rattle.octets.specs.Octets.{AreWords}
 use Rattle.plan.specs.Check.{plan_of}
 use Rattle.blocks.specs.Blocks.{whole, good, good_cells}
 use Rattle.blocks.proofs.BlockLaws.{and_both, words-both}
-use Rattle.filing.specs.Files.{stream, needed, filled_up, zeros, Card, card, table_size, plan_size, sizes, table_part, plan_part, card_of, file_read}
+use Rattle.filing.specs.Files.{stream, needed, filled_up, zeros, Card, card, sizes, table_part, plan_part, card_of, file_read}
 
 -- as many cells as the blocks that are needed have, and no more blocks than needed
 pub filled-size : (cells : List ℕ) → length (filled_up cells) ≡ 125 * needed (length cells)

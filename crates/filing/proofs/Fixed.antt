@@ -1,14 +1,13 @@
 -- Two results that a promise allows are equal: the answer, and what the rooms hold.
-use Prim.Native.Nat.{ℕ, ◌≤◌, ◌<◌}
-use mathlib.Core.Path.{◌≡◌, refl, sym, ◌∙◌, ap}
+use Prim.Native.Nat.{ℕ}
+use mathlib.Core.Path.{◌≡◌, sym, ◌∙◌, ap}
 use mathlib.Core.List.{List, ◌++◌}
 use native.Mathlib.Omega.{arith}
 use lib.ListN.{length, drop}
 use Rattle.refusal.specs.Refusal.{told, Answer, answered, turned}
-use Rattle.refusal.specs.Read.{Read, read, refuse}
 use Rattle.refusal.proofs.RefusalLaws.{told-one}
 use Rattle.table.proofs.ReadLaws.{apart, read_one, refuse-one}
-use Rattle.filing.specs.Files.{Card, file_of, file_read, no_room, FileWritten, not-accepted, room-short, written}
+use Rattle.filing.specs.Files.{Card, no_room, FileWritten, not-accepted, room-short, written}
 use Rattle.filing.specs.Files.{FileLoaded, not-read, table-short, plan-short, loaded}
 use Rattle.filing.specs.Answers.{file_told}
 use Rattle.filing.specs.declared.FileAnswer.{FileAnswer}

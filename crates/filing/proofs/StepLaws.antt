@@ -1,21 +1,21 @@
 -- The steps of reading a file of whole blocks, as the code takes them.
 use Prim.Native.Nat.{ℕ, ◌+◌, ◌-◌, ◌*◌, ◌/◌, ◌%◌, ◌≤◌, ◌<◌}
 use mathlib.Core.Path.{◌≡◌, refl, sym, ◌∙◌, ap}
-use mathlib.Core.Bool.{Bool, true, false}
+use mathlib.Core.Bool.{true, false}
 use mathlib.Core.List.{List, [], ◌++◌, append-nil}
 use native.Mathlib.Omega.{arith}
 use lib.ListN.{length, get_or, take, drop, length-drop}
 use lib.Seq.{sets, sets-eq, take_all}
 use Rattle.term.proofs.Lists.{nil-of-length}
-use Rattle.refusal.specs.Refusal.{Refused, refused, Answer, turned}
+use Rattle.refusal.specs.Refusal.{refused, Answer, turned}
 use Rattle.refusal.specs.declared.Reason.TheVariants as reason
 use Rattle.refusal.specs.declared.Input.TheVariants as input
 use Rattle.octets.specs.Octets.{cells_of, fitting}
 use Rattle.blocks.specs.Blocks.{whole, good, good_cells, Found}
 use Rattle.blocks.proofs.BlockLaws.{cells-size, sound-most}
-use Rattle.filing.specs.Files.{needed, zeros, table_size, plan_size, sizes, file_read, FileLoaded, not-read}
+use Rattle.filing.specs.Files.{needed, zeros, table_size, plan_size, sizes, FileLoaded, not-read}
 use Rattle.filing.specs.code.Front.{Front, Sized}
-use Rattle.filing.proofs.ReadingLaws.{front-found, front_at, rest-in-last, no_byte, no_blocks, damaged, other-sizes, not_zeros, all-tests}
+use Rattle.filing.proofs.ReadingLaws.{front-found, front_at, rest-in-last, damaged, other-sizes, not_zeros, all-tests}
 
 -- a room that is just filled
 last-is : (old new all : List ℕ) → length old ≡ 125 → length all ≡ 125 → new ≡ sets old 0 (fitting old 0 all) → new ≡ all

@@ -1,14 +1,14 @@
 -- 02, W-211, "Write and read, each undoing the other".
-use Prim.Native.Nat.{ℕ, zero, suc, ◌+◌, ◌-◌, ◌*◌, ◌/◌, ◌%◌, ◌^◌, ◌≤◌, ◌<◌}
+use Prim.Native.Nat.{ℕ, ◌+◌, ◌-◌, ◌*◌, ◌≤◌}
 use mathlib.Core.Path.{◌≡◌, refl, sym, ◌∙◌, ap}
 use mathlib.Core.Bool.{true}
-use mathlib.Core.List.{List, [], ◌∷◌, ◌++◌, append_assoc}
+use mathlib.Core.List.{List, ◌∷◌, ◌++◌, append_assoc}
 use native.Mathlib.Omega.{arith}
 use borrow.Author.Tests.{ltb-false}
 use lib.Dec.{ltb}
-use lib.ListN.{length, get_or, take, drop, replicate, length-append, length-drop, take-append-drop}
-use lib.Seq.{length-take-le, take-add, drop-cons, drop-drop}
-use Rattle.refusal.specs.Read.{Read, read}
+use lib.ListN.{length, drop, replicate, length-append, length-drop, take-append-drop}
+use lib.Seq.{length-take-le, drop-cons, drop-drop}
+use Rattle.refusal.specs.Read.{read}
 use Rattle.table.proofs.ReadLaws as reading
 use Rattle.table.proofs.ReadLaws.{passed}
 use Rattle.table.proofs.Accepted.{table-short}
@@ -17,10 +17,10 @@ use Rattle.table.specs.Table.{Table, table_of}
 use Rattle.octets.specs.Octets.{cells_of, bytes_of, Bytes, AreWords}
 use Rattle.octets.proofs.BytesLaws.{bytes_count, cells-back, bytes_back}
 use Rattle.octets.proofs.CellsLaws.{cells_count}
-use Rattle.blocks.specs.Blocks.{blocks_from, sound_from, cells_from, whole, good, good_cells}
+use Rattle.blocks.specs.Blocks.{blocks_from, sound_from, whole, good, good_cells}
 use Rattle.blocks.proofs.BlockLaws.{words-both, blocks-length, blocks-sound, blocks-words, blocks-again, sound-most, cells-size}
 use Rattle.filing.specs.Files.{stream, needed, filled_up, words_for, file_of, zeros, Card, card}
-use Rattle.filing.specs.Files.{table_size, plan_size, sizes, table_part, plan_part, card_of, file_read}
+use Rattle.filing.specs.Files.{table_size, plan_size, sizes, table_part, plan_part, file_read}
 use Rattle.filing.proofs.FileLaws.{filled-size, filled-words, zeros-yes, zeros-are, file-passes, card-passes, Passed, file-passed}
 use Rattle.filing.proofs.FileLaws.{sizes-are, rest-is, table_is, plan-is}
 use Rattle.limits.specs.Limits.{most_plan_cells, most_table_cells}

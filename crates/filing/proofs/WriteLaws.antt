@@ -69,9 +69,9 @@ module _ (t p : List ℕ) (short : (length t ≤ most_table_cells) × (length p 
       )
 
   -- what is answered then
-  pub no_room : {room : List ℕ} {n bytes : ℕ} {a : Answer} → plan_of t p ≡ read n → bytes ≡ 512 * needed (length (stream t p))
+  pub no_room_lem : {room : List ℕ} {n bytes : ℕ} {a : Answer} → plan_of t p ≡ read n → bytes ≡ 512 * needed (length (stream t p))
       → length room < bytes → a ≡ no_room bytes → FileWritten t p room room a
-  no_room {n = n} e b h r = room-short n e (omega (arith, b, file-size)) (r ∙ ap no_room (b ∙ sym file-size)) refl
+  no_room_lem {n = n} e b h r = room-short n e (omega (arith, b, file-size)) (r ∙ ap no_room (b ∙ sym file-size)) refl
 
   pub file-put : {room room' cells : List ℕ} {n bytes blocks r : ℕ} {a : Answer} → plan_of t p ≡ read n
       → cells ≡ stream t p ++ replicate (8250 - length (stream t p)) 0 → blocks ≡ needed (length (stream t p)) → bytes ≡ 512 * blocks
