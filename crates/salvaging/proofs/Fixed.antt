@@ -13,7 +13,7 @@ use Rattle.plan.specs.Plans.{Plan, write}
 use Rattle.least.specs.Least.{Built}
 use Rattle.least.specs.Measures.{work}
 use Rattle.least.proofs.Building.{built-one}
-use Rattle.salvaging.specs.Salvage.{kept, PlanHad, old-plan, new-plan, room_short, facts, saved, Outcome}
+use Rattle.salvaging.specs.Salvage.{PlanHad, old-plan, new-plan, room_short, facts, saved, Outcome}
 use Rattle.salvaging.specs.Salvage.{Salvaged, head-lost, none_kept, table-short, plan-short, bad-short, all-had}
 use Rattle.salvaging.specs.Salvage.{Findings}
 use Rattle.salvaging.specs.Answers.{report_told, salvage_told}

@@ -8,7 +8,7 @@ ghost use Rattle.salvaging.specs.Answers.{salvage_told};
 use refusal::{Input, Reason, Refusal};
 
 // The rows kept and dropped, whether the plan is the file's own, the cells of the table and of the plan, and how many blocks are bad.
-#[derive(Drop)]
+#[derive(Clone, Copy)]
 pub struct Report {
     pub kept: usize,
     pub dropped: usize,
