@@ -6,7 +6,7 @@ use mathlib.Core.List.{List}
 use native.Mathlib.Omega.{arith}
 use lib.ListN.{length, take, drop, length-drop}
 use lib.Seq.{take_all}
-use Rattle.refusal.specs.Refusal.{Refused, reason_number}
+use Rattle.refusal.specs.Refusal.{reason_number}
 use Rattle.refusal.specs.declared.Refusal.{Refusal}
 use Rattle.samerows.specs.Starts.{rows_lent}
 use Rattle.table.specs.Table.{row_of, row_told}

@@ -18,7 +18,7 @@ pub struct Kept {
 }
 
 // A row that begins at a place, beside the rows before it: where it ends, or that it is refused.
-#[derive(Drop)]
+#[derive(Clone, Copy)]
 enum Next {
     Ends(usize),
     Stops,
