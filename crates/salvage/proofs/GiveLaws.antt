@@ -15,7 +15,6 @@ use Rattle.refusal.specs.declared.Input.TheVariants as input
 use Rattle.term.proofs.Tests.{bool_cases}
 use Rattle.octets.specs.Octets.{Put, fitting}
 use Rattle.octets.proofs.PutLaws.{put_front}
-use Rattle.blocks.specs.Blocks.{good}
 use Rattle.filing.specs.Files.{table_part}
 use Rattle.salvaging.specs.Salvage.{bad_in, front, width, count, kept_cells, Outcome, saved, lost, room_short, facts}
 use Rattle.salvaging.specs.Salvage.{Salvaged, head-lost, none_kept, table-short, plan-short, bad-short, all-had}

@@ -13,7 +13,7 @@ use salvaging::{Report, Salvage, turn};
 
 // What was had of a file but the cells: its sound blocks before the first that is not, the rows it says it has and those that were kept,
 // where their cells end, where its plan begins, and the size of that.
-#[derive(Drop)]
+#[derive(Clone, Copy)]
 struct Top {
     good: usize,
     count: usize,
@@ -24,7 +24,7 @@ struct Top {
 }
 
 // The rows: that there is no head, or none of them; or what was had.
-#[derive(Drop)]
+#[derive(Clone, Copy)]
 enum Rows {
     NoHead,
     NoRow,
@@ -32,7 +32,7 @@ enum Rows {
 }
 
 // Where a plan lies in a list of cells, and whether it is the file's own.
-#[derive(Drop)]
+#[derive(Clone, Copy)]
 struct Laid {
     keeps: bool,
     start: usize,
