@@ -3,12 +3,12 @@ use Rattle.heads.proofs.open_places.Statement.{statement}
 use Rattle.heads.proofs.open_places.Tie as tie
 
 -- src/lib.rt:82:9
-returns : tie.Need-returns
-returns c = a-hole-is c.before.args.c 1 0 c.if1.true
+returns : tie.Need-returns-then-c-eq-HOLE
+returns c = a-hole-is c.args.c 1 0 c.if-c-eq-HOLE.true
 
 -- src/lib.rt:78:1
-returns-2 : tie.Need-returns-2
-returns-2 c = no-hole-is c.before.args.c 1 0 c.if1.false
+returns-2 : tie.Need-returns
+returns-2 c = no-hole-is c.args.c 1 0 c.if-c-eq-HOLE.false
 
-pub open-places-spec : {M : Type 1} → statement M
-open-places-spec = tie.close (tie.spec returns returns-2)
+pub open_places_spec : {M : Type 1} → statement M
+open_places_spec = tie.close (tie.spec returns returns-2)

@@ -9,52 +9,52 @@ use Rattle.heads.proofs.HeadLaws.{holes-next, holes-none}
 use Rattle.heads.proofs.put_holes.Statement.{statement}
 use Rattle.heads.proofs.put_holes.Tie as tie
 
-abbrev invariant-loop : tie.invariant-loop
+abbrev invariant-loop : tie.invariant-loop-i
 invariant-loop out₀ to n on₀ i₀ out on i =
     (i ≤ n) × Putting out₀ out to on (replicate (n - i) hole) (replicate n hole)
 
-abbrev decreases-loop : tie.decreases-loop
+abbrev decreases-loop : tie.decreases-loop-i
 decreases-loop out₀ to n on₀ i₀ out on i = n - i
 
 -- src/lib.rt:45:5
-loop-holds : tie.Need-loop-init invariant-loop decreases-loop
+loop-holds : tie.Need-loop-i-init invariant-loop decreases-loop
 loop-holds c =
-    let e : c.before.args.n - 0 ≡ c.before.args.n = omega arith in
+    let e : c.args.n - 0 ≡ c.args.n = omega arith in
     (omega arith, rw e put-begins)
 
 -- src/lib.rt:46:9
-put-cell-requires : tie.Need-put-cell-requires invariant-loop decreases-loop
+put-cell-requires : tie.Need-put_cell-on-requires invariant-loop decreases-loop
 put-cell-requires c κs = search rules
 
 -- src/lib.rt:47:9
-add-i : tie.Need-overflow-add-i invariant-loop decreases-loop
+add-i : tie.Need-overflow_add-i invariant-loop decreases-loop
 add-i c = search rules
 
 -- src/lib.rt:45:5
-loop-less : tie.Need-loop-smaller invariant-loop decreases-loop
+loop-less : tie.Need-loop-i-smaller invariant-loop decreases-loop
 loop-less c = search rules
 
 -- src/lib.rt:45:5
-loop-again : tie.Need-loop-preserved invariant-loop decreases-loop
+loop-again : tie.Need-loop-i-preserved invariant-loop decreases-loop
 loop-again c =
     let p = c.before.before in
-    let l = p.before.before.before.loop in
-    let n = p.before.before.before.before.before.args.n in
-    (omega arith, put-part (rw (holes-next n l.i (omega arith)) at l.invariant.1) p.put-cell.ensures)
+    let l = p.loop-i in
+    let n = p.args.n in
+    (omega arith, put-part (rw (holes-next n l.i (omega arith)) at l.invariant.1) p.put_cell-on.ensures)
 
 -- src/lib.rt:40:1
-same_length : tie.Need-same-length invariant-loop decreases-loop
-same_length c = put-length c.before.loop.invariant.1.puts
+same_length : tie.Need-shape_of-out invariant-loop decreases-loop
+same_length c = put-length c.loop-i.invariant.1.puts
 
 -- src/lib.rt:40:1
 returns : tie.Need-returns invariant-loop decreases-loop
 returns c =
-    let l = c.before.loop in
-    let n = c.before.before.before.args.n in
+    let l = c.loop-i in
+    let n = c.args.n in
     put-ends (rw (holes-none n l.i (omega arith)) at l.invariant.1)
 
-pub put-holes-spec : {M : Type 1} → statement M
-put-holes-spec =
+pub put_holes_spec : {M : Type 1} → statement M
+put_holes_spec =
     tie.close
     (tie.spec
     invariant-loop
