@@ -1,13 +1,12 @@
-use Prim.Native.Nat.{ℕ, ◌+◌, ◌-◌, ◌*◌, ◌≤◌, ◌<◌}
+use Prim.Native.Nat.{ℕ, ◌+◌, ◌-◌, ◌*◌, ◌<◌}
 use mathlib.Core.Path.{refl}
 use native.Mathlib.Omega.{arith}
-use Rattle.cell.specs.Cell.{arity}
 use borrow.Author.Rules.{rules}
-use lib.ListN.{length, get_or}
+use lib.ListN.{length}
 use Rattle.octets.proofs.PutLaws.{put-length}
 use Rattle.unfolding.specs.code.Visits.{Peopled}
 use Rattle.unfolding.proofs.PastLaws.{leaf-inside, enters-inside}
-use Rattle.unfolding.proofs.VisitLaws.{leaf-visits, one-visits, several-visits, Left, below-enters, below-done, Goes, goes_on}
+use Rattle.unfolding.proofs.VisitLaws.{leaf-visits, one-visits, several-visits, Left, below-enters, below-done, goes_on}
 use borrow.Fn.Kinds.{In}
 use borrow.Fn.PlainCycle.{Measures, is, falls, and}
 use Rattle.unfolding.proofs.walk.visit.Reads as visit
@@ -20,7 +19,6 @@ use Rattle.cell.proofs.arity_of.Reads as arity-of-reads
 use Rattle.unfolding.proofs.own.put_own.Reads as put-own-reads
 use Rattle.unfolding.proofs.walk.+visit_visit_below.{statement}
 use Rattle.unfolding.proofs.walk.+visit_visit_below.Tie.{close}
-use Rattle.limits.specs.Limits.{most_plan_cells}
 
 abbrev μ-visit : Measures 2 visit-kinds.ps ℕ
 μ-visit κs a = 2 * (length a.0.now - a.1.1.1.0.at) + 1
@@ -48,143 +46,116 @@ with-state t = (visit-below-below t, visit-below'.Post, put-own-reads.Asked, put
 abbrev with-below : ℕ → visit-below-lts.Claims
 with-below t = (arity-of-reads.Asked, arity-of-reads.Learnt, visit-below t, visit.Post)
 
--- where a state has an open place, its first two cells are inside the plan
-inner : (t : ℕ) (c : visit-lts.Else1 (with-state t) (visit-at t) visit.Post)
-    → (c.before.before.before.args.from.at + 1 < length c.before.before.before.args.plan.now)
-    × (length c.before.before.before.args.plan.now ≤ most_plan_cells)
-inner t c = let w = c.before.before.before.requires.1.0.stands in (enters-inside w (omega arith), w.size)
+visit-add-t9 : (t : ℕ) → visit-lts.Need-overflow_add-result (with-state t) (visit-at t) visit.Post
+visit-add-t9 t c = let w = c.requires.1.0 in let h = leaf-inside w.stands (omega arith) in omega (arith, w.stands.size)
 
-visit-add-t9 : (t : ℕ) → visit-lts.Need-overflow-add-t9 (with-state t) (visit-at t) visit.Post
-visit-add-t9 t c = let w = c.before.before.before.before.requires.1.0 in let h = leaf-inside w.stands (omega arith) in omega (arith, w.stands.size)
-
-visit-returns : (t : ℕ) → visit-lts.Need-returns (with-state t) (visit-at t) visit.Post
+visit-returns : (t : ℕ) → visit-lts.Need-returns-then-places-eq0 (with-state t) (visit-at t) visit.Post
 visit-returns t c = λ w. leaf-visits w (omega arith)
 
-visit-add-if2 : (t : ℕ) → visit-lts.Need-overflow-add-if2 (with-state t) (visit-at t) visit.Post
-visit-add-if2 t c = let h = inner t c in omega arith
+visit-add-if2 : (t : ℕ) → visit-lts.Need-overflow_add-at (with-state t) (visit-at t) visit.Post
+visit-add-if2 t c = let w = c.requires.1.0.stands in let h = enters-inside w (omega arith) in omega arith
 
-visit-mul-if2 : (t : ℕ) → visit-lts.Need-overflow-mul-if2 (with-state t) (visit-at t) visit.Post
-visit-mul-if2 t c = let h = inner t c in omega arith
+visit-mul-if2 : (t : ℕ) → visit-lts.Need-offset_bounds-plan-at (with-state t) (visit-at t) visit.Post
+visit-mul-if2 t c = let w = c.requires.1.0.stands in let h = enters-inside w (omega arith) in omega arith
 
-visit-shared-slice-read-if2 : (t : ℕ) → visit-lts.Need-shared-slice-read-if2 (with-state t) (visit-at t) visit.Post
-visit-shared-slice-read-if2 t c = let h = inner t c.before in omega arith
+visit-shared-slice-read-if2 : (t : ℕ) → visit-lts.Need-bounds-plan-at (with-state t) (visit-at t) visit.Post
+visit-shared-slice-read-if2 t c = let w = c.requires.1.0.stands in let h = enters-inside w (omega arith) in omega arith
 
-visit-visit-below-requires : (t : ℕ) → visit-lts.Need-visit-below-requires (with-state t) (visit-at t) visit.Post
-visit-visit-below-requires t c κs = let s = c.before.before.before.before.before.before in (omega arith, (s.requires.1.0, omega arith, omega arith))
+visit-visit-below-requires : (t : ℕ) → visit-lts.Need-visit_below-requires (with-state t) (visit-at t) visit.Post
+visit-visit-below-requires t c κs = (omega arith, (c.requires.1.0, omega arith, omega arith))
 
-visit-same-length : (t : ℕ) → visit-lts.Need-same-length (with-state t) (visit-at t) visit.Post
+visit-same-length : (t : ℕ) → visit-lts.Need-shape_of-program-then-plan-at-eq1 (with-state t) (visit-at t) visit.Post
 visit-same-length t c = search rules
 
-visit-returns-2 : (t : ℕ) → visit-lts.Need-returns-2 (with-state t) (visit-at t) visit.Post
-visit-returns-2 t c = λ w. one-visits w (omega arith) (omega arith) (c.before.before.visit-below.ensures w)
+visit-returns-2 : (t : ℕ) → visit-lts.Need-returns-then-plan-at-eq1 (with-state t) (visit-at t) visit.Post
+visit-returns-2 t c = λ w. one-visits w (omega arith) (omega arith) (c.visit_below.ensures w)
 
-visit-add-next : (t : ℕ) → visit-lts.Need-overflow-add-next (with-state t) (visit-at t) visit.Post
-visit-add-next t c = let h = inner t c.before.before.before in omega arith
+visit-add-next : (t : ℕ) → visit-lts.Need-overflow_add-next (with-state t) (visit-at t) visit.Post
+visit-add-next t c = let w = c.requires.1.0.stands in let h = enters-inside w (omega arith) in omega arith
 
-visit-put-own-requires : (t : ℕ) → visit-lts.Need-put-own-requires (with-state t) (visit-at t) visit.Post
-visit-put-own-requires t c κs = let s = c.before.before.before.before.before.before.before in (s.requires.1.0, omega arith, omega arith, omega arith)
+visit-put-own-requires : (t : ℕ) → visit-lts.Need-put_own-to-requires (with-state t) (visit-at t) visit.Post
+visit-put-own-requires t c κs = (c.requires.1.0, omega arith, omega arith, omega arith)
 
-visit-visit-below-requires-2 : (t : ℕ) → visit-lts.Need-visit-below-requires-2 (with-state t) (visit-at t) visit.Post
+visit-visit-below-requires-2 : (t : ℕ) → visit-lts.Need-visit_below-requires-2 (with-state t) (visit-at t) visit.Post
 visit-visit-below-requires-2 t c κs =
-    let s = c.before.before.before.before.before.before.before.before.before.before.before in
-    (omega arith, (s.requires.1.0, omega arith, omega arith))
+    (omega arith, (c.requires.1.0, omega arith, omega arith))
 
-visit-same-length-2 : (t : ℕ) → visit-lts.Need-same-length-2 (with-state t) (visit-at t) visit.Post
+visit-same-length-2 : (t : ℕ) → visit-lts.Need-shape_of-program (with-state t) (visit-at t) visit.Post
 visit-same-length-2 t c = search rules
 
-visit-returns-3 : (t : ℕ) → visit-lts.Need-returns-3 (with-state t) (visit-at t) visit.Post
+visit-returns-3 : (t : ℕ) → visit-lts.Need-returns (with-state t) (visit-at t) visit.Post
 visit-returns-3 t c =
     λ w.
-    let b = c.before.before in
-    let p = b.before.before.before.before in
-    several-visits w (omega arith) (p.put-own.ensures w) (b.visit-below2.ensures w) (omega arith) (λ e. omega arith)
+    several-visits w (omega arith) (c.put_own-to.ensures w) (c.visit_below-2.ensures w) (omega arith) (λ e. omega arith)
 
-abbrev invariant-loop : visit-below-lts.invariant-loop
+abbrev invariant-loop : visit-below-lts.invariant-loop-left
 invariant-loop plan places program₀ first left₀ here₀ program left here =
     (w : Peopled plan first places) → Left w here₀.number here₀.to program₀ program left here
 
-abbrev decreases-loop : visit-below-lts.decreases-loop
+abbrev decreases-loop : visit-below-lts.decreases-loop-left
 decreases-loop plan places program₀ first left₀ here₀ program left here = left
 
-entered : (t : ℕ) (c : visit-below-lts.Start (with-below t) (visit-below-at t) visit-below'.Post invariant-loop decreases-loop)
-    → (c.args.from.at + 1 < length c.args.plan.now) × (length c.args.plan.now ≤ most_plan_cells)
-entered t c = let w = c.requires.1.0.stands in (enters-inside w c.requires.1.1, w.size)
+visit-below-add-left : (t : ℕ) → visit-below-lts.Need-overflow_add-left (with-below t) (visit-below-at t) visit-below'.Post invariant-loop decreases-loop
+visit-below-add-left t c = let w = c.requires.1.0.stands in let h = enters-inside w c.requires.1.1 in omega arith
 
--- where a branch is left, what is known of it
-turn : (t : ℕ) (c : visit-below-lts.In-loop (with-below t) (visit-below-at t) visit-below'.Post invariant-loop decreases-loop)
-    → Goes (c.before.loop.invariant c.before.before.before.before.before.requires.1.0)
-    (arity (get_or c.before.before.before.before.before.args.plan.now c.before.loop.here.at 0))
-turn t c = goes_on (c.before.loop.invariant c.before.before.before.before.before.requires.1.0) _ (omega arith) refl
+visit-below-mul-left : (t : ℕ) → visit-below-lts.Need-offset_bounds-plan-first (with-below t) (visit-below-at t) visit-below'.Post invariant-loop decreases-loop
+visit-below-mul-left t c = let w = c.requires.1.0.stands in let h = enters-inside w c.requires.1.1 in omega arith
 
--- the same once its number of arguments is
-branch : (t : ℕ) (c : visit-below-lts.After-arity-of (with-below t) (visit-below-at t) visit-below'.Post invariant-loop decreases-loop)
-    → Goes (c.before.before.before.loop.invariant c.before.before.before.before.before.before.before.requires.1.0) c.arity-of.result
-branch t c = goes_on _ _ (omega arith) c.arity-of.ensures
+visit-below-shared-slice-read-left : (t : ℕ) → visit-below-lts.Need-bounds-plan-first (with-below t) (visit-below-at t) visit-below'.Post invariant-loop decreases-loop
+visit-below-shared-slice-read-left t c = let w = c.requires.1.0.stands in let h = enters-inside w c.requires.1.1 in omega arith
 
-visit-below-add-left : (t : ℕ) → visit-below-lts.Need-overflow-add-left (with-below t) (visit-below-at t) visit-below'.Post invariant-loop decreases-loop
-visit-below-add-left t c = let h = entered t c.before.before in omega arith
+visit-below-add-t11 : (t : ℕ) → visit-below-lts.Need-overflow_add-here (with-below t) (visit-below-at t) visit-below'.Post invariant-loop decreases-loop
+visit-below-add-t11 t c = let w = c.requires.1.0.stands in let h = enters-inside w c.requires.1.1 in omega arith
 
-visit-below-mul-left : (t : ℕ) → visit-below-lts.Need-overflow-mul-left (with-below t) (visit-below-at t) visit-below'.Post invariant-loop decreases-loop
-visit-below-mul-left t c = let h = entered t c.before.before in omega arith
-
-visit-below-shared-slice-read-left : (t : ℕ) → visit-below-lts.Need-shared-slice-read-left (with-below t) (visit-below-at t) visit-below'.Post invariant-loop decreases-loop
-visit-below-shared-slice-read-left t c = let h = entered t c.before.before.before in omega arith
-
-visit-below-add-t11 : (t : ℕ) → visit-below-lts.Need-overflow-add-t11 (with-below t) (visit-below-at t) visit-below'.Post invariant-loop decreases-loop
-visit-below-add-t11 t c = let h = entered t c.before.before.before in omega arith
-
-visit-below-loop-holds : (t : ℕ) → visit-below-lts.Need-loop-init (with-below t) (visit-below-at t) visit-below'.Post invariant-loop decreases-loop
+visit-below-loop-holds : (t : ℕ) → visit-below-lts.Need-loop-left-init (with-below t) (visit-below-at t) visit-below'.Post invariant-loop decreases-loop
 visit-below-loop-holds t c = λ w. below-enters w (omega arith)
 
-visit-below-mul-arity-of : (t : ℕ) → visit-below-lts.Need-overflow-mul-arity-of (with-below t) (visit-below-at t) visit-below'.Post invariant-loop decreases-loop
-visit-below-mul-arity-of t c = let g = turn t c in omega arith
+visit-below-mul-arity-of : (t : ℕ) → visit-below-lts.Need-offset_bounds-plan-p (with-below t) (visit-below-at t) visit-below'.Post invariant-loop decreases-loop
+visit-below-mul-arity-of t c = let g = (goes_on (c.loop-left.invariant c.requires.1.0) _ (omega arith) refl) in omega arith
 
 visit-below-shared-slice-read-arity-of : (t : ℕ)
-    → visit-below-lts.Need-shared-slice-read-arity-of (with-below t) (visit-below-at t) visit-below'.Post invariant-loop decreases-loop
-visit-below-shared-slice-read-arity-of t c = let g = turn t c.before in omega arith
+    → visit-below-lts.Need-bounds-plan-p (with-below t) (visit-below-at t) visit-below'.Post invariant-loop decreases-loop
+visit-below-shared-slice-read-arity-of t c = let g = (goes_on (c.loop-left.invariant c.requires.1.0) _ (omega arith) refl) in omega arith
 
-visit-below-arity-of-requires : (t : ℕ) → visit-below-lts.Need-arity-of-requires (with-below t) (visit-below-at t) visit-below'.Post invariant-loop decreases-loop
+visit-below-arity-of-requires : (t : ℕ) → visit-below-lts.Need-arity_of-requires (with-below t) (visit-below-at t) visit-below'.Post invariant-loop decreases-loop
 visit-below-arity-of-requires t c κs = search rules
 
-visit-below-add-wider : (t : ℕ) → visit-below-lts.Need-overflow-add-wider (with-below t) (visit-below-at t) visit-below'.Post invariant-loop decreases-loop
-visit-below-add-wider t c = let g = branch t c in omega arith
+visit-below-add-wider : (t : ℕ) → visit-below-lts.Need-overflow_add-wider (with-below t) (visit-below-at t) visit-below'.Post invariant-loop decreases-loop
+visit-below-add-wider t c = let g = (goes_on (c.loop-left.invariant c.requires.1.0) _ (omega arith) c.arity_of.ensures) in omega arith
 
-visit-below-sub-wider : (t : ℕ) → visit-below-lts.Need-overflow-sub-wider (with-below t) (visit-below-at t) visit-below'.Post invariant-loop decreases-loop
-visit-below-sub-wider t c = let g = branch t c in omega arith
+visit-below-sub-wider : (t : ℕ) → visit-below-lts.Need-overflow_sub-wider (with-below t) (visit-below-at t) visit-below'.Post invariant-loop decreases-loop
+visit-below-sub-wider t c = let g = (goes_on (c.loop-left.invariant c.requires.1.0) _ (omega arith) c.arity_of.ensures) in omega arith
 
-visit-below-add-t16 : (t : ℕ) → visit-below-lts.Need-overflow-add-t16 (with-below t) (visit-below-at t) visit-below'.Post invariant-loop decreases-loop
-visit-below-add-t16 t c = let g = branch t c in omega arith
+visit-below-add-t16 : (t : ℕ) → visit-below-lts.Need-overflow_add-below (with-below t) (visit-below-at t) visit-below'.Post invariant-loop decreases-loop
+visit-below-add-t16 t c = let g = (goes_on (c.loop-left.invariant c.requires.1.0) _ (omega arith) c.arity_of.ensures) in omega arith
 
-visit-below-visit-requires : (t : ℕ) → visit-below-lts.Need-visit-requires (with-below t) (visit-below-at t) visit-below'.Post invariant-loop decreases-loop
+visit-below-visit-requires : (t : ℕ) → visit-below-lts.Need-visit-here-requires (with-below t) (visit-below-at t) visit-below'.Post invariant-loop decreases-loop
 visit-below-visit-requires t c κs =
-    let g = branch t c.before in
-    let l = c.before.before.before.before.loop in
-    let s = c.before.before.before.before.before.before.before.before in
-    (omega (arith, g), (g.below, omega (arith, (l.invariant s.requires.1.0).low s.requires.1.2)))
+    let g = (goes_on (c.loop-left.invariant c.requires.1.0) _ (omega arith) c.arity_of.ensures) in
+    let l = c.loop-left in
+    (omega (arith, g), (g.below, omega (arith, (l.invariant c.requires.1.0).low c.requires.1.2)))
 
-visit-below-sub-left : (t : ℕ) → visit-below-lts.Need-overflow-sub-left (with-below t) (visit-below-at t) visit-below'.Post invariant-loop decreases-loop
+visit-below-sub-left : (t : ℕ) → visit-below-lts.Need-overflow_sub-left (with-below t) (visit-below-at t) visit-below'.Post invariant-loop decreases-loop
 visit-below-sub-left t c = search rules
 
-visit-below-loop-less : (t : ℕ) → visit-below-lts.Need-loop-smaller (with-below t) (visit-below-at t) visit-below'.Post invariant-loop decreases-loop
+visit-below-loop-less : (t : ℕ) → visit-below-lts.Need-loop-left-smaller (with-below t) (visit-below-at t) visit-below'.Post invariant-loop decreases-loop
 visit-below-loop-less t c = search rules
 
-visit-below-loop-again : (t : ℕ) → visit-below-lts.Need-loop-preserved (with-below t) (visit-below-at t) visit-below'.Post invariant-loop decreases-loop
+visit-below-loop-again : (t : ℕ) → visit-below-lts.Need-loop-left-preserved (with-below t) (visit-below-at t) visit-below'.Post invariant-loop decreases-loop
 visit-below-loop-again t c =
     λ w.
-    let v = c.before.before in
-    let a = v.before.before in
-    let l = a.before.before.before.loop in
-    let g = goes_on (l.invariant w) a.arity-of.result (omega arith) a.arity-of.ensures in
-    g.beside (v.visit.ensures g.below)
+    let l = c.loop-left in
+    let g = goes_on (l.invariant w) c.arity_of.result (omega arith) c.arity_of.ensures in
+    g.beside (c.visit-here.ensures g.below)
 
-visit-below-same-length : (t : ℕ) → visit-below-lts.Need-same-length (with-below t) (visit-below-at t) visit-below'.Post invariant-loop decreases-loop
-visit-below-same-length t c = put-length (c.before.loop.invariant c.before.before.before.before.before.requires.1.0).puts
+visit-below-same-length : (t : ℕ) → visit-below-lts.Need-shape_of-program (with-below t) (visit-below-at t) visit-below'.Post invariant-loop decreases-loop
+visit-below-same-length t c = put-length (c.loop-left.invariant c.requires.1.0).puts
 
 visit-below-returns : (t : ℕ) → visit-below-lts.Need-returns (with-below t) (visit-below-at t) visit-below'.Post invariant-loop decreases-loop
-visit-below-returns t c = λ w. below-done w (c.before.loop.invariant w) (omega arith)
+visit-below-returns t c = λ w. below-done w (c.loop-left.invariant w) (omega arith)
 
-pub +visit-visit-below-spec : {M : Type 1} → statement M
-+visit-visit-below-spec = close μ-visit μ-visit-below (λ t. visit-lts.spec (with-state t)
+pub +visit_visit_below_spec : {M : Type 1} → statement M
++visit_visit_below_spec = close μ-visit μ-visit-below (λ t. visit-lts.spec (with-state t)
     (visit-at t)
     visit.Post
     (visit-add-t9 t)
