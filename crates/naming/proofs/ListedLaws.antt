@@ -23,6 +23,7 @@ use Rattle.naming.specs.code.Names.{Entry, Entries, Known, AllKnown, ApartTo}
 nth-all : (P : ℕ → Type 0) (xs : List ℕ) {k n : ℕ} → All P xs → Nth xs k n → P n
 nth-all P (x ∷ xs) a here = a.0
 nth-all P (x ∷ xs) a (later h) = nth-all P xs a.1 h
+nth-all P [] {k = k} {n = n} a x'' = elim x'' [ ]
 
 all-nth : (P : ℕ → Type 0) (xs : List ℕ) → ((k n : ℕ) → Nth xs k n → P n) → All P xs
 all-nth P [] h = tt
@@ -37,6 +38,7 @@ nth-word : (text names : List ℕ) {k : ℕ} {w : List ℕ} → Nth (words_in te
     → (w ≡ word_in text (get_or names k 0)) × (k < length names)
 nth-word text (n ∷ names) here = (refl, omega arith)
 nth-word text (n ∷ names) (later h) = let z = nth-word text names h in (z.0, omega (arith, z.1))
+nth-word text [] {k = k} {w = w} x' = elim x' [ ]
 
 module _ (text names : List ℕ) where
   entries-places : Entries text names → (k n : ℕ) → Nth names k n

@@ -9,22 +9,22 @@ kind-requires : tie.Need-kind-requires
 kind-requires c κs = search rules
 
 -- src/lib.rt:36:9
-returns : tie.Need-returns
+returns : tie.Need-returns-then-kind-ne1
 returns c = search rules
 
 -- src/lib.rt:38:13
-number-requires : tie.Need-number-requires
+number-requires : tie.Need-number-n-requires
 number-requires c κs = search rules
 
 -- src/lib.rt:38:13
-cast-n : tie.Need-overflow-cast-n
+cast-n : tie.Need-overflow_cast-n
 cast-n c = search rules
 
 -- src/lib.rt:32:1
-returns-2 : tie.Need-returns-2
+returns-2 : tie.Need-returns
 returns-2 c =
-    let a = c.before.before.before.args in
-    known-said a.c a.count (sym c.before.before.kind.ensures ∙ c.before.if1.false) c.number.result c.number.ensures
+    let a = c.args in
+    known-said a.c a.count (sym c.kind.ensures ∙ c.if-kind-ne1.false) c.number-n.result c.number-n.ensures
 
-pub known-spec : {M : Type 1} → statement M
-known-spec = tie.close (tie.spec kind-requires returns number-requires cast-n returns-2)
+pub known_spec : {M : Type 1} → statement M
+known_spec = tie.close (tie.spec kind-requires returns number-requires cast-n returns-2)

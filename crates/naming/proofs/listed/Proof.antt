@@ -6,41 +6,40 @@ use Rattle.naming.proofs.listed.Statement.{statement}
 use Rattle.naming.proofs.listed.Tie as tie
 
 -- src/lib.rt:94:9
-each-name-requires : tie.Need-each-name-requires
+each-name-requires : tie.Need-each_name-requires
 each-name-requires c κs = search rules
 
 -- src/lib.rt:95:9
-returns : tie.Need-returns
+returns : tie.Need-returns-then-not-each_name
 returns c =
-    let a = c.before.before.before.before.before.args in
-    λ l. unlisted-entry a.text.now a.names.now c.before.each-name.result c.before.each-name.ensures c.if1.true l
+    let a = c.args in
+    λ l. unlisted-entry a.text.now a.names.now c.each_name.result c.each_name.ensures c.if-not-each_name.true-raw l
 
 -- src/lib.rt:97:9
-no-two-requires : tie.Need-no-two-requires
+no-two-requires : tie.Need-no_two-requires
 no-two-requires c κs = search rules
 
 -- src/lib.rt:98:9
-returns-2 : tie.Need-returns-2
+returns-2 : tie.Need-returns-then-not-no_two
 returns-2 c =
-    let a = c.before.before.before.before.before.before.before.args in
-    λ l. unlisted-twice a.text.now a.names.now c.before.no-two.result c.before.no-two.ensures c.if2.true l
+    let a = c.args in
+    λ l. unlisted-twice a.text.now a.names.now c.no_two.result c.no_two.ensures c.if-not-no_two.true-raw l
 
 -- src/lib.rt:100:5
-all-known-requires : tie.Need-all-known-requires
+all-known-requires : tie.Need-all_known-requires
 all-known-requires c κs = search rules
 
 -- src/lib.rt:91:1
-returns-3 : tie.Need-returns-3
+returns-3 : tie.Need-returns
 returns-3 c =
-    let s = c.before.before.before.before in
-    let a = s.before.before.before.before.args in
+    let a = c.args in
     let t = a.text.now in
     let n = a.names.now in
-    let x = says-yes t n (Entries t n) s.each-name.result s.each-name.ensures c.before.before.before.if1.false in
-    let y = says-yes t n (ApartTo t n (length n)) c.before.before.no-two.result c.before.before.no-two.ensures c.before.if2.false in
+    let x = says-yes t n (Entries t n) c.each_name.result c.each_name.ensures c.if-not-each_name.false-raw in
+    let y = says-yes t n (ApartTo t n (length n)) c.no_two.result c.no_two.ensures c.if-not-no_two.false-raw in
     listed-last t n (drop 2 a.table.now) c.all_known.result x y c.all_known.ensures
 
-pub listed-spec : {M : Type 1} → statement M
-listed-spec =
+pub listed_spec : {M : Type 1} → statement M
+listed_spec =
     tie.close
     (tie.spec each-name-requires returns no-two-requires returns-2 all-known-requires returns-3)
