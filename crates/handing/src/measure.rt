@@ -141,7 +141,7 @@ pub fn clause_end(program: &[u32], at: usize) -> usize
 }
 
 // How many clauses a program has, and how many bytes.
-#[derive(Drop)]
+#[derive(Clone, Copy)]
 pub struct Sizes {
     pub clauses: usize,
     pub bytes: usize,

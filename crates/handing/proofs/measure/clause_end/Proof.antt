@@ -5,19 +5,19 @@ use Rattle.handing.proofs.measure.clause_end.Statement.{statement}
 use Rattle.handing.proofs.measure.clause_end.Tie as tie
 
 -- src/measure.rt:142:5
-add-result : tie.Need-overflow-add-result
+add-result : tie.Need-overflow_add-result
 add-result c = search rules
 
 -- src/measure.rt:142:27
-add_wide : tie.Need-overflow-add-wide
+add_wide : tie.Need-overflow_add-at
 add_wide c = search rules
 
 -- src/measure.rt:142:19
-mul_wide : tie.Need-overflow-mul-wide
+mul_wide : tie.Need-offset_bounds-program-at
 mul_wide c = search rules
 
 -- src/measure.rt:142:19
-shared-slice-read-wide : tie.Need-shared-slice-read-wide
+shared-slice-read-wide : tie.Need-bounds-program-at
 shared-slice-read-wide c = let p = c.before.before in omega (arith, room-here p.args.program.now p.args.at p.requires)
 
 -- src/measure.rt:142:14
@@ -25,7 +25,7 @@ wide-requires : tie.Need-wide-requires
 wide-requires c κs = search rules
 
 -- src/measure.rt:142:5
-add-result-2 : tie.Need-overflow-add-result-2
+add-result-2 : tie.Need-overflow_add-result-2
 add-result-2 c = search rules
 
 -- src/measure.rt:138:1
@@ -35,8 +35,8 @@ returns c =
     let w = c.wide.ensures.0 in
     (omega (arith, w), omega (arith, w), omega (arith, w, room-here p.args.program.now p.args.at p.requires))
 
-pub clause-end-spec : {M : Type 1} → statement M
-clause-end-spec =
+pub clause_end_spec : {M : Type 1} → statement M
+clause_end_spec =
     tie.close
     (tie.spec
     add-result

@@ -7,11 +7,11 @@ use Rattle.handing.proofs.measure.value_bytes.Statement.{statement}
 use Rattle.handing.proofs.measure.value_bytes.Tie as tie
 
 -- src/measure.rt:32:9
-number-requires : tie.Need-number-requires
+number-requires : tie.Need-number-n-requires
 number-requires c κs = search rules
 
 -- src/measure.rt:34:23
-cast-digits : tie.Need-overflow-cast-digits
+cast-digits : tie.Need-overflow_cast-n
 cast-digits c = search rules
 
 -- src/measure.rt:34:9
@@ -19,17 +19,17 @@ digits-requires : tie.Need-digits-requires
 digits-requires c κs = search rules
 
 -- src/measure.rt:34:9
-returns : tie.Need-returns
+returns : tie.Need-returns-then-n-lt32768
 returns c =
-    let n = c.before.before.number in
-    low-bytes c.before.before.before.args.c n.result c.digits.result n.ensures c.before.if1.true c.digits.ensures
+    let n = c.number-n in
+    low-bytes c.args.c n.result c.digits.result n.ensures c.if-n-lt32768.true c.digits.ensures
 
 -- src/measure.rt:36:17
-sub-digits : tie.Need-overflow-sub-digits
+sub-digits : tie.Need-overflow_sub-n
 sub-digits c = search rules
 
 -- src/measure.rt:36:16
-cast-digits-2 : tie.Need-overflow-cast-digits-2
+cast-digits-2 : tie.Need-overflow_cast-n-2
 cast-digits-2 c = search rules
 
 -- src/measure.rt:36:9
@@ -37,17 +37,17 @@ digits-requires-2 : tie.Need-digits-requires-2
 digits-requires-2 c κs = search rules
 
 -- src/measure.rt:36:5
-add-result : tie.Need-overflow-add-result
-add-result c = record { fits = omega (arith, c.digits2.ensures, digits-few 4 (65536 - c.before.before.number.result) (omega arith)) }
+add-result : tie.Need-overflow_add-result
+add-result c = record { fits = omega (arith, c.digits-2.ensures, digits-few 4 (65536 - c.number-n.result) (omega arith)) }
 
 -- src/measure.rt:29:1
-returns-2 : tie.Need-returns-2
+returns-2 : tie.Need-returns
 returns-2 c =
-    let n = c.before.before.number in
-    high-bytes c.before.before.before.args.c n.result c.digits2.result n.ensures (omega arith) c.digits2.ensures
+    let n = c.number-n in
+    high-bytes c.args.c n.result c.digits-2.result n.ensures (omega arith) c.digits-2.ensures
 
-pub value-bytes-spec : {M : Type 1} → statement M
-value-bytes-spec =
+pub value_bytes_spec : {M : Type 1} → statement M
+value_bytes_spec =
     tie.close
     (tie.spec
     number-requires
