@@ -3,6 +3,8 @@
 // holds the goal so far, then what is left of the row.
 // Row and goal may be anything: what they have to be stands as a premise inside the `ensures`. Where they do not unify the answer is some
 // cells, or Big. The two lists may be shorter than what is in common may need, since clearing them is most of what a short reply costs.
+#![tactic(auto)]
+
 ghost use Rattle.std.specs.Prelude.{◌≡◌, ◌≢◌, true, false, [], ◌∷◌, ◌-◌, ◌<◌, ◌≤◌, length, get_or, take, drop};
 ghost use Rattle.cell.specs.Cell.{is_var};
 ghost use Rattle.meeting.specs.Ended.{Ended};

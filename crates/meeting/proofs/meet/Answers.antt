@@ -1,0 +1,54 @@
+-- `meet` meets its contract: the loop over the steps.
+use mathlib.Core.Path.{refl, sym, ◌∙◌}
+use native.Mathlib.Omega.{arith}
+use Rattle.instance.proofs.MeetSteps.{met}
+use Rattle.meeting.specs.code.Turns.{finished-over}
+use Rattle.meeting.proofs.TurnLaws.{sound-by, step_fits, step-over, finished-at}
+use Rattle.meeting.proofs.meet.Goals as goal
+
+pub loop-k-init : goal.loop-k-init
+loop-k-init c = (refl, refl, c.requires.sound, omega arith, λ row goal v. v)
+
+pub step-requires : goal.step-requires
+step-requires c =
+    let l = c.loop-k.invariant in
+    let p = c.requires.lists in
+    record {
+      lists = record { most = omega (arith, l.0, p.most); beside = omega (arith, l.0, l.1, p.beside) };
+      sound = sound-by (sym l.0) l.2;
+      more = c.loop-k-test.true;
+    }
+
+pub loop-k-smaller : goal.loop-k-smaller
+loop-k-smaller c = (step_fits c.in-Fits.is c.step.ensures).less
+
+pub loop-k-preserved : goal.loop-k-preserved
+loop-k-preserved c =
+    let l = c.loop-k.invariant in
+    let e = c.step in
+    let w = step_fits c.in-Fits.is e.ensures in
+    (e.auto.cells ∙ l.0, e.auto.other ∙ l.1, sound-by l.0 w.sound, omega (arith, w.turn, l.3), λ row goal v. w.meeting row goal (l.4 row goal v))
+
+pub shape_of-cells-in-Big : goal.shape_of-cells-in-Big
+shape_of-cells-in-Big c =
+    c.step.auto.cells ∙ c.loop-k.invariant.0
+
+pub shape_of-other-in-Big : goal.shape_of-other-in-Big
+shape_of-other-in-Big c =
+    c.step.auto.other ∙ c.loop-k.invariant.1
+
+pub returns-in-Big : goal.returns-in-Big
+returns-in-Big c =
+    let o = step-over c.in-Big.is c.step.ensures in
+    finished-over (λ y row goal v. o (c.loop-k.invariant.0 ∙ y) row goal (c.loop-k.invariant.4 row goal v))
+
+pub shape_of-cells : goal.shape_of-cells
+shape_of-cells c = c.loop-k.invariant.0
+
+pub shape_of-other : goal.shape_of-other
+shape_of-other c = c.loop-k.invariant.1
+
+pub returns : goal.returns
+returns c =
+    let l = c.loop-k in
+    finished-at l.invariant.2 (λ row goal v. met (l.invariant.4 row goal v) (omega (arith, c.loop-k-test.false)) l.invariant.3)
