@@ -1,5 +1,7 @@
 // What a run's hits say (02, W-203): for each the goal with the row's bindings filled in. The run decides by its plan which rows are hits;
 // what follows it tests only how long a reply is.
+#![tactic(auto)]
+
 ghost use Rattle.std.specs.Prelude.{List, ℕ, ◌≡◌};
 ghost use Rattle.refusal.specs.Refusal.{refused, turned};
 ghost use Rattle.instance.specs.Replied.{Replied, replies_told};

@@ -1,37 +1,36 @@
 -- `pass::row_at` meets its contract: the place of a row, from where the rows start.
-use Prim.Native.Nat.{◌+◌, ◌%◌, ◌≤◌}
 use native.Mathlib.Omega.{arith}
 use Rattle.replies.proofs.RowLaws.{row_next, row_last}
 use borrow.Author.Rules.{rules}
 use Rattle.replies.proofs.pass.row_at.Statement.{statement}
 use Rattle.replies.proofs.pass.row_at.Tie as tie
 
-wide-requires : tie.Need-wide-requires
+wide-requires : tie.Need-wide-r-requires
 wide-requires c κs = search rules
 
-mul-start : tie.Need-overflow-mul-start
+mul-start : tie.Need-offset_bounds-starts-r
 mul-start c = search rules
 
-element-copy-out-start : tie.Need-element-copy-out-start
+element-copy-out-start : tie.Need-bounds-starts-r
 element-copy-out-start c = search rules
 
-add-next : tie.Need-overflow-add-next
+add-next : tie.Need-overflow_add-next
 add-next c = search rules
 
-mul-end : tie.Need-overflow-mul-end
+mul-end : tie.Need-offset_bounds-starts-next
 mul-end c = search rules
 
-element-copy-out-end : tie.Need-element-copy-out-end
+element-copy-out-end : tie.Need-bounds-starts-next
 element-copy-out-end c = search rules
 
-returns : tie.Need-returns
-returns c = let w = c.before.before.before.wide in λ h l. row_next h w.result w.ensures l c.before.if1.true
+returns : tie.Need-returns-then-next-rows
+returns c = let w = c.wide-r in λ h l. row_next h w.result w.ensures l c.if-next-rows.true
 
-returns-2 : tie.Need-returns-2
-returns-2 c = let w = c.before.before.wide in λ h l. row_last h w.result w.ensures l (omega (arith, c.if1.false))
+returns-2 : tie.Need-returns
+returns-2 c = let w = c.wide-r in λ h l. row_last h w.result w.ensures l (omega (arith, c.if-next-rows.false))
 
-pub row-at-spec : {M : Type 1} → statement M
-row-at-spec =
+pub row_at_spec : {M : Type 1} → statement M
+row_at_spec =
     tie.close
     (tie.spec
     wide-requires
