@@ -1,6 +1,7 @@
-// The replies of every goal of a list (02, W-202 and W-203 in one call), each goal's record saying where they stand in the room. A slice of
-// records is beyond what is proved without a walk of the code by hand: so `reply_each` and `reply_jobs` do nothing but call, and what there
-// is to do for a goal is done on a record by value.
+// The replies of every goal of a list (02, W-202 and W-203 in one call), each goal's record saying where they stand in the room. What there is
+// to do for a goal is done on a record by value.
+#![tactic(auto)]
+
 ghost use Rattle.std.specs.Prelude.{◌≡◌, List, ℕ, ◌-◌, ◌≤◌, length};
 ghost use Rattle.refusal.specs.Refusal.{reason_number};
 ghost use Rattle.table.specs.Table.{table_of, starts_in};
