@@ -13,63 +13,55 @@ use Rattle.listing.proofs.list_cells.Statement.{statement}
 use Rattle.listing.proofs.list_cells.Tie as tie
 use Rattle.limits.specs.Limits.{most_plan_cells}
 
--- what was built
-built : (c : tie.After-n)
-    → (c.n.given.0.0 ≤ length c.before.before.before.build-plan.new.1.1.0)
-    × Planned c.before.before.before.before.before.before.before.args.table.now
-    (take c.n.given.0.0 c.before.before.before.build-plan.new.1.1.0) c.n.given.0.1.0
-built c = plan-built c.before.before.before.build-plan.ensures (length-replicate {A = ℕ} most_plan_cells 0) _ _ c.n.given.1
-
-slice-aggregate-build-plan : tie.Need-slice-aggregate-build-plan
+slice-aggregate-build-plan : tie.Need-slice_bounds-build_plan-end
 slice-aggregate-build-plan c = search rules
 
-build-plan-requires : tie.Need-build-plan-requires
+build-plan-requires : tie.Need-build_plan-requires
 build-plan-requires c κs = search rules
 
-enum-known-n : tie.Need-enum-known-n
+enum-known-n : tie.Need-enum_known-n
 enum-known-n c = search rules
 
-array-share-prefix-room : tie.Need-array-share-prefix-room
-array-share-prefix-room c = (built c.before).0
+array-share-prefix-room : tie.Need-slice_bounds-room-end
+array-share-prefix-room c = ((plan-built c.build_plan.ensures (length-replicate {A = ℕ} most_plan_cells 0) _ _ c.in-Built.is)).0
 
-slice-aggregate-list-plan : tie.Need-slice-aggregate-list-plan
-slice-aggregate-list-plan c = sym (length-take-le _ _ (built c.before.before).0)
+slice-aggregate-list-plan : tie.Need-slice_bounds-list_plan-end
+slice-aggregate-list-plan c = sym (length-take-le _ _ ((plan-built c.build_plan.ensures (length-replicate {A = ℕ} most_plan_cells 0) _ _ c.in-Built.is)).0)
 
-list-plan-requires : tie.Need-list-plan-requires
-list-plan-requires c κs = (built c.before.before.before).1
+list-plan-requires : tie.Need-list_plan-requires
+list-plan-requires c κs = ((plan-built c.build_plan.ensures (length-replicate {A = ℕ} most_plan_cells 0) _ _ c.in-Built.is)).1
 
-enum-known-f : tie.Need-enum-known-f
+enum-known-f : tie.Need-enum_known-f
 enum-known-f c = search rules
 
-put-refusal-requires : tie.Need-put-refusal-requires
+put-refusal-requires : tie.Need-put_refusal-requires
 put-refusal-requires c κs = search rules
 
-same_length : tie.Need-same-length
+same_length : tie.Need-shape_of-out-in-Built
 same_length c = search rules
 
-returns : tie.Need-returns
+returns : tie.Need-returns-in-Built
 returns c =
-    let w = (built c.before.before.before.before.before.before).1 in
+    let w = ((plan-built c.build_plan.ensures (length-replicate {A = ℕ} most_plan_cells 0) _ _ c.in-Built.is)).1 in
     record {
       text = listing_of w.table w.tree;
       right = listed w.table w.tree w.reads w.built;
       few = planned-few w;
-      puts = c.before.before.list-plan.ensures w;
+      puts = c.list_plan.ensures w;
     }
 
-same-length-2 : tie.Need-same-length-2
+same-length-2 : tie.Need-shape_of-out-in-Refused
 same-length-2 c = search rules
 
-returns-2 : tie.Need-returns-2
+returns-2 : tie.Need-returns-in-Refused
 returns-2 c =
-    let x = c.before.before.before.before.before in
-    let f = x.f.given.0.0 in
-    let turned = plan-refused x.before.before.before.build-plan.ensures (length-replicate {A = ℕ} most_plan_cells 0) f x.f.given.1 in
-    let line = c.before.before.put-refusal.ensures in
+    let f = c.in-Refused.f in
+    let turned = plan-refused c.build_plan.ensures (length-replicate {A = ℕ} most_plan_cells 0) f c.in-Refused.is in
+    let line = c.put_refusal.ensures in
     listed-text line.0 (omega arith) (refused (told f) turned)
 
-pub list-cells-spec : {M : Type 1} → statement M
-list-cells-spec =
+pub list_cells_spec : {M : Type 1} → statement M
+list_cells_spec =
     tie.close
     (tie.spec
     slice-aggregate-build-plan
