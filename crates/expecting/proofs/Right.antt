@@ -124,14 +124,14 @@ module _ (u : List ℕ) (m : Mode) (w : Work) (e : reach u first nothing 0 ≡ h
   right_of : (n : ℕ) → remarks m ≡ false → Kept (length w.opened) w.opened n → Right u (what_of (stand_of m) (length w.opened) n)
   right_of n r k = record {
     bytes = λ b. (
-      λ g. goes_on b ∙ (bytes-are b).0 g,
-      λ h. (bytes-are b).1 (sym (goes_on b) ∙ h),
+      λ g. goes_on_lem b ∙ (bytes-are b).0 g,
+      λ h. (bytes-are b).1 (sym (goes_on_lem b) ∙ h),
     );
     ends = let x = mode-ends m (0 + length u) (length w.opened) n r in (λ t. x.0 (ends-are.0 t), λ h. ends-are.1 (x.1 h));
   }
     where
-      goes_on : (b : ℕ) → (goes_on u b || takes (what_of (stand_of m) (length w.opened) n) b) ≡ alive (step m w (0 + length u) b)
-      goes_on b = rw e (sym (mode-alive w (0 + length u) n b k m r))
+      goes_on_lem : (b : ℕ) → (goes_on u b || takes (what_of (stand_of m) (length w.opened) n) b) ≡ alive (step m w (0 + length u) b)
+      goes_on_lem b = rw e (sym (mode-alive w (0 + length u) n b k m r))
 
 -- the same of the bytes before a place, a line feed after them where they end inside a comment
 module _ (t : List ℕ) (k : ℕ) {m : Mode} {w : Work} (e : reach (take k t) first nothing 0 ≡ here m w) where

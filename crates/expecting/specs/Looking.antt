@@ -107,17 +107,17 @@ marks depth commas = cond (ltb 0 depth && leb 3 commas) what.Close what.Mark
 
 -- by what was read last, with what follows a term
 abbrev pub what_by : Stand → What → What
-what_by stand.First mark = what.Name
-what_by stand.Head mark = what.Open
-what_by stand.Arg mark = what.Term
-what_by stand.Name mark = mark
-what_by stand.Variable mark = mark
-what_by stand.Minus mark = what.Digit
-what_by stand.Number mark = mark
-what_by stand.After mark = mark
-what_by stand.Closed mark = what.Full
-what_by stand.Stop mark = what.Blank
-what_by stand.Between mark = what.Next
+what_by stand.First next_mark = what.Name
+what_by stand.Head next_mark = what.Open
+what_by stand.Arg next_mark = what.Term
+what_by stand.Name next_mark = next_mark
+what_by stand.Variable next_mark = next_mark
+what_by stand.Minus next_mark = what.Digit
+what_by stand.Number next_mark = next_mark
+what_by stand.After next_mark = next_mark
+what_by stand.Closed next_mark = what.Full
+what_by stand.Stop next_mark = what.Blank
+what_by stand.Between next_mark = what.Next
 
 abbrev pub what_of : Stand → ℕ → ℕ → What
 what_of s depth commas = what_by s (marks depth commas)

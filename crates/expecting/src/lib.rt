@@ -1,8 +1,9 @@
 // What is expected where no text goes on (TEXT): the types of what is said, and of how a text is looked through for it. Mathematics
 // otherwise.
+#![tactic(auto)]
 
 // What a text takes at a place, as a message names it.
-#[derive(Drop)]
+#[derive(Clone, Copy)]
 pub enum What {
     // a rule's name
     Name,
@@ -24,7 +25,7 @@ pub enum What {
 }
 
 // What stands there instead, where a message says so.
-#[derive(Drop)]
+#[derive(Clone, Copy)]
 pub enum Found {
     // a tab, where layout may stand
     Tab,
@@ -41,7 +42,7 @@ pub struct Wanted {
 }
 
 // What was read last: the modes of the grammar's reader without their numbers.
-#[derive(Drop)]
+#[derive(Clone, Copy)]
 pub enum Stand {
     First,
     Head,
