@@ -1,5 +1,7 @@
 // A look at the bytes of a text before a place, one after another, for what is expected there. Every place of every text may be asked, and
 // nothing is kept of the bytes but a few numbers.
+#![tactic(auto)]
+
 ghost use Rattle.std.specs.Prelude.{◌≡◌, false, ◌+◌, ◌^◌, ◌<◌, take};
 ghost use Rattle.expecting.specs.Looking.{sight, rested, termed, worded, opened, closed, after_comma, seen, glance, look_at, is_head};
 

@@ -4,23 +4,23 @@ use borrow.Author.Rules.{rules}
 use Rattle.looking.proofs.close_at.Statement.{statement}
 use Rattle.looking.proofs.close_at.Tie as tie
 
-sight-of-requires : tie.Need-sight-of-requires
+sight-of-requires : tie.Need-sight_of-requires
 sight-of-requires c κs = search rules
 
-returns : tie.Need-returns
+returns : tie.Need-returns-then-depth-eq0
 unfolding closed
-returns c = rw (eq-eqb _ _ c.before.if1.true) c.sight-of.ensures
+returns c = rw (eq-eqb _ _ c.if-depth-eq0.true) c.sight_of.ensures
 
-sub-sight-of : tie.Need-overflow-sub-sight-of
+sub-sight-of : tie.Need-overflow_sub-depth
 sub-sight-of c = search rules
 
-sight-of-requires-2 : tie.Need-sight-of-requires-2
+sight-of-requires-2 : tie.Need-sight_of-requires-2
 sight-of-requires-2 c κs = search rules
 
-returns-2 : tie.Need-returns-2
+returns-2 : tie.Need-returns
 unfolding closed
-returns-2 c = rw (ne_eqb _ _ c.before.if1.false) c.sight-of2.ensures
+returns-2 c = rw (ne_eqb _ _ c.if-depth-eq0.false) c.sight_of-2.ensures
 
-pub close-at-spec : {M : Type 1} → statement M
-close-at-spec =
+pub close_at_spec : {M : Type 1} → statement M
+close_at_spec =
     tie.close (tie.spec sight-of-requires returns sub-sight-of sight-of-requires-2 returns-2)

@@ -7,40 +7,40 @@ use Rattle.looking.proofs.LookLaws.{Looked, looked-none, looked-next, looked-all
 use Rattle.looking.proofs.look.Statement.{statement}
 use Rattle.looking.proofs.look.Tie as tie
 
-abbrev invariant-loop : tie.invariant-loop
+abbrev invariant-loop : tie.invariant-loop-i
 invariant-loop text at level s₀ i₀ s i = Looked level text at i s
 
-abbrev decreases-loop : tie.decreases-loop
+abbrev decreases-loop : tie.decreases-loop-i
 decreases-loop text at level s₀ i₀ s i = length text - i
 
-sight-of-requires : tie.Need-sight-of-requires invariant-loop decreases-loop
+sight-of-requires : tie.Need-sight_of-s-requires invariant-loop decreases-loop
 sight-of-requires c κs = search rules
 
-loop-holds : tie.Need-loop-init invariant-loop decreases-loop
-loop-holds c = looked-none c.sight-of.ensures
+loop-holds : tie.Need-loop-i-init invariant-loop decreases-loop
+loop-holds c = looked-none c.sight_of-s.ensures
 
-shared-slice-read-step : tie.Need-shared-slice-read-step invariant-loop decreases-loop
+shared-slice-read-step : tie.Need-bounds-text-i invariant-loop decreases-loop
 shared-slice-read-step c = search rules
 
-step-requires : tie.Need-step-requires invariant-loop decreases-loop
+step-requires : tie.Need-step-s-requires invariant-loop decreases-loop
 step-requires c κs = search rules
 
-add-i : tie.Need-overflow-add-i invariant-loop decreases-loop
+add-i : tie.Need-overflow_add-i invariant-loop decreases-loop
 add-i c = search rules
 
-loop-less : tie.Need-loop-smaller invariant-loop decreases-loop
+loop-less : tie.Need-loop-i-smaller invariant-loop decreases-loop
 loop-less c = search rules
 
-loop-again : tie.Need-loop-preserved invariant-loop decreases-loop
+loop-again : tie.Need-loop-i-preserved invariant-loop decreases-loop
 loop-again c =
     let o = c.before.before.before.before in
-    looked-next o.loop.invariant (omega arith) (ltb-true _ _ c.before.before.if1.true) c.step.ensures
+    looked-next o.loop-i.invariant (omega arith) (ltb-true _ _ c.if-i-at.true-raw) c.step-s.ensures
 
-returns : tie.Need-returns invariant-loop decreases-loop
-returns c = looked-all c.before.before.loop.invariant (ltb-false _ _ c.if1.false)
+returns : tie.Need-returns-else-i-at invariant-loop decreases-loop
+returns c = looked-all c.loop-i.invariant (ltb-false _ _ c.if-i-at.false-raw)
 
-returns-2 : tie.Need-returns-2 invariant-loop decreases-loop
-returns-2 c = looked-end c.before.loop.invariant (omega arith)
+returns-2 : tie.Need-returns-after-loop-i invariant-loop decreases-loop
+returns-2 c = looked-end c.loop-i.invariant (omega arith)
 
 pub look_spec : {M : Type 1} → statement M
 look_spec =
