@@ -1,5 +1,7 @@
 // What is expected at a place of a text, where it is refused (TEXT), and the bytes of the message. Every place of every text may be asked.
 // Two looks at the bytes before the place are enough, and nothing is kept of them but a few numbers.
+#![tactic(auto)]
+
 mod say;
 
 ghost use Rattle.std.specs.Prelude.{◌≡◌, drop};

@@ -5,26 +5,26 @@ use borrow.Author.Rules.{rules}
 use Rattle.expected.proofs.found_at.Statement.{statement}
 use Rattle.expected.proofs.found_at.Tie as tie
 
-returns : tie.Need-returns
-returns c = let a = c.before.before.args in sym (found-end a.text.now a.at a.stand a.what c.if1.true)
+returns : tie.Need-returns-then-text-at
+returns c = let a = c.args in sym (found-end a.text.now a.at a.stand a.what c.if-text-at.true)
 
-in-number-requires : tie.Need-in-number-requires
+in-number-requires : tie.Need-in_number-requires
 in-number-requires c κs = search rules
 
-is-spaced-requires : tie.Need-is-spaced-requires
+is-spaced-requires : tie.Need-is_spaced-requires
 is-spaced-requires c κs = search rules
 
-shared-slice-read-found-of : tie.Need-shared-slice-read-found-of
+shared-slice-read-found-of : tie.Need-bounds-text-at
 shared-slice-read-found-of c = search rules
 
-found-of-requires : tie.Need-found-of-requires
+found-of-requires : tie.Need-found_of-requires
 found-of-requires c κs = search rules
 
-returns-2 : tie.Need-returns-2
-returns-2 c = let a = c.before.before.before.before.before.before.args in cc (found-byte a.text.now a.at a.stand a.what (omega arith))
+returns-2 : tie.Need-returns
+returns-2 c = let a = c.args in cc (found-byte a.text.now a.at a.stand a.what (omega arith))
 
-pub found-at-spec : {M : Type 1} → statement M
-found-at-spec =
+pub found_at_spec : {M : Type 1} → statement M
+found_at_spec =
     tie.close
     (tie.spec
     returns

@@ -3,17 +3,17 @@ use borrow.Author.Rules.{rules}
 use Rattle.expected.proofs.put_wanted.Statement.{statement}
 use Rattle.expected.proofs.put_wanted.Tie as tie
 
-put-found-requires : tie.Need-put-found-requires
+put-found-requires : tie.Need-put_found-on-requires
 put-found-requires c κs = search rules
 
-put-what-requires : tie.Need-put-what-requires
+put-what-requires : tie.Need-put_what-requires
 put-what-requires c κs = search rules
 
-same_length : tie.Need-same-length
+same_length : tie.Need-shape_of-out
 same_length c = search rules
 
 returns : tie.Need-returns
-returns c = put-put c.before.before.before.before.before.before.put-found.ensures c.before.before.put-what.ensures
+returns c = put-put c.put_found-on.ensures c.put_what.ensures
 
-pub put-wanted-spec : {M : Type 1} → statement M
-put-wanted-spec = tie.close (tie.spec put-found-requires put-what-requires same_length returns)
+pub put_wanted_spec : {M : Type 1} → statement M
+put_wanted_spec = tie.close (tie.spec put-found-requires put-what-requires same_length returns)
