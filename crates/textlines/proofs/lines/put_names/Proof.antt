@@ -9,49 +9,49 @@ use borrow.Author.Rules.{rules}
 use Rattle.textlines.proofs.lines.put_names.Statement.{statement}
 use Rattle.textlines.proofs.lines.put_names.Tie as tie
 
-abbrev invariant-loop : tie.invariant-loop
+abbrev invariant-loop : tie.invariant-loop-i
 invariant-loop out₀ to names on₀ i₀ out on i = (i ≤ length names) × Putting out₀ out to on (name_lines (drop i names)) (name_lines names)
 
-abbrev decreases-loop : tie.decreases-loop
+abbrev decreases-loop : tie.decreases-loop-i
 decreases-loop out₀ to names on₀ i₀ out on i = length names - i
 
-loop-holds : tie.Need-loop-init invariant-loop decreases-loop
+loop-holds : tie.Need-loop-i-init invariant-loop decreases-loop
 loop-holds c = (omega arith, put-begins)
 
-mul-put-name : tie.Need-overflow-mul-put-name invariant-loop decreases-loop
+mul-put-name : tie.Need-offset_bounds-names-i invariant-loop decreases-loop
 mul-put-name c = search rules
 
-shared-slice-read-put-name : tie.Need-shared-slice-read-put-name invariant-loop decreases-loop
+shared-slice-read-put-name : tie.Need-bounds-names-i invariant-loop decreases-loop
 shared-slice-read-put-name c = search rules
 
-put-name-requires : tie.Need-put-name-requires invariant-loop decreases-loop
+put-name-requires : tie.Need-put_name-on-requires invariant-loop decreases-loop
 put-name-requires c κs = search rules
 
-add-i : tie.Need-overflow-add-i invariant-loop decreases-loop
+add-i : tie.Need-overflow_add-i invariant-loop decreases-loop
 add-i c = search rules
 
-loop-less : tie.Need-loop-smaller invariant-loop decreases-loop
+loop-less : tie.Need-loop-i-smaller invariant-loop decreases-loop
 loop-less c = search rules
 
-loop-again : tie.Need-loop-preserved invariant-loop decreases-loop
+loop-again : tie.Need-loop-i-preserved invariant-loop decreases-loop
 loop-again c =
-    let l = c.before.before.before.before.before.before.loop in
-    let names = c.before.before.before.before.before.before.before.before.before.args.names.now in
+    let l = c.loop-i in
+    let names = c.args.names.now in
     let next = lines-on name_line 0 names l.i (omega arith) in
-    (omega arith, put-part (rw next at l.invariant.1) c.before.before.put-name.ensures)
+    (omega arith, put-part (rw next at l.invariant.1) c.put_name-on.ensures)
 
-same_length : tie.Need-same-length invariant-loop decreases-loop
-same_length c = put-length c.before.loop.invariant.1.puts
+same_length : tie.Need-shape_of-out invariant-loop decreases-loop
+same_length c = put-length c.loop-i.invariant.1.puts
 
 returns : tie.Need-returns invariant-loop decreases-loop
 returns c =
-    let l = c.before.loop in
-    let names = c.before.before.before.before.args.names.now in
+    let l = c.loop-i in
+    let names = c.args.names.now in
     let done = lines-done name_line 0 names l.i (omega arith) in
-    record { puts = put-ends (rw done at l.invariant.1); few = names-few names (λ i. (c.before.before.shared-slice-known.given i).fits) }
+    record { puts = put-ends (rw done at l.invariant.1); few = names-few names (λ i. (c.shared_slice_known-1.given i).fits) }
 
-pub put-names-spec : {M : Type 1} → statement M
-put-names-spec =
+pub put_names_spec : {M : Type 1} → statement M
+put_names_spec =
     tie.close
     (tie.spec
     invariant-loop

@@ -8,57 +8,57 @@ use borrow.Author.Rules.{rules}
 use Rattle.textlines.proofs.lines.put_row.Statement.{statement}
 use Rattle.textlines.proofs.lines.put_row.Tie as tie
 
-abbrev invariant-loop : tie.invariant-loop
+abbrev invariant-loop : tie.invariant-loop-i
 invariant-loop out₀ to row on₀ i₀ out on i = (i ≤ length row) × Putting out₀ out to on (row_line (drop i row)) (row_line row)
 
-abbrev decreases-loop : tie.decreases-loop
+abbrev decreases-loop : tie.decreases-loop-i
 decreases-loop out₀ to row on₀ i₀ out on i = length row - i
 
-loop-holds : tie.Need-loop-init invariant-loop decreases-loop
+loop-holds : tie.Need-loop-i-init invariant-loop decreases-loop
 loop-holds c = (omega arith, put-begins)
 
-mul-put-symbol : tie.Need-overflow-mul-put-symbol invariant-loop decreases-loop
+mul-put-symbol : tie.Need-offset_bounds-row-i invariant-loop decreases-loop
 mul-put-symbol c = search rules
 
-shared-slice-read-put-symbol : tie.Need-shared-slice-read-put-symbol invariant-loop decreases-loop
+shared-slice-read-put-symbol : tie.Need-bounds-row-i invariant-loop decreases-loop
 shared-slice-read-put-symbol c = search rules
 
-put-symbol-requires : tie.Need-put-symbol-requires invariant-loop decreases-loop
+put-symbol-requires : tie.Need-put_symbol-p-requires invariant-loop decreases-loop
 put-symbol-requires c κs = search rules
 
-add-i : tie.Need-overflow-add-i invariant-loop decreases-loop
+add-i : tie.Need-overflow_add-i invariant-loop decreases-loop
 add-i c = search rules
 
-sub-mark : tie.Need-overflow-sub-mark invariant-loop decreases-loop
+sub-mark : tie.Need-overflow_sub-row invariant-loop decreases-loop
 sub-mark c = search rules
 
 mark-requires : tie.Need-mark-requires invariant-loop decreases-loop
 mark-requires c κs = search rules
 
-put-byte-requires : tie.Need-put-byte-requires invariant-loop decreases-loop
+put-byte-requires : tie.Need-put_byte-on-requires invariant-loop decreases-loop
 put-byte-requires c κs = search rules
 
-loop-less : tie.Need-loop-smaller invariant-loop decreases-loop
+loop-less : tie.Need-loop-i-smaller invariant-loop decreases-loop
 loop-less c = search rules
 
-loop-again : tie.Need-loop-preserved invariant-loop decreases-loop
+loop-again : tie.Need-loop-i-preserved invariant-loop decreases-loop
 loop-again c =
     let s = c.before.before.before.before.before.before.before in
-    let l = s.before.before.before.before.loop in
-    let next = row_on s.before.before.before.before.before.before.before.args.row.now l.i (omega arith) in
-    let here = put-part (rw next at l.invariant.1) s.put-symbol.ensures in
-    (omega arith, put-part here (rw c.before.before.before.mark.ensures at c.before.before.put_byte.ensures))
+    let l = s.loop-i in
+    let next = row_on s.args.row.now l.i (omega arith) in
+    let here = put-part (rw next at l.invariant.1) s.put_symbol-p.ensures in
+    (omega arith, put-part here (rw c.mark.ensures at c.put_byte-on.ensures))
 
-same_length : tie.Need-same-length invariant-loop decreases-loop
-same_length c = put-length c.before.loop.invariant.1.puts
+same_length : tie.Need-shape_of-out invariant-loop decreases-loop
+same_length c = put-length c.loop-i.invariant.1.puts
 
 returns : tie.Need-returns invariant-loop decreases-loop
 returns c =
-    let row = c.before.before.before.before.args.row.now in
-    put-ends (rw (row_done row c.before.loop.i (omega arith)) at c.before.loop.invariant.1)
+    let row = c.args.row.now in
+    put-ends (rw (row_done row c.loop-i.i (omega arith)) at c.loop-i.invariant.1)
 
-pub put-row-spec : {M : Type 1} → statement M
-put-row-spec =
+pub put_row_spec : {M : Type 1} → statement M
+put_row_spec =
     tie.close
     (tie.spec
     invariant-loop
