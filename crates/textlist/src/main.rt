@@ -1,11 +1,11 @@
 // The text program (02, W-201): a text on standard input; its table's rows and its names on standard output.
-use libc::{STDIN_FILENO, STDOUT_FILENO};
+#![tactic(auto)]
 
-fn main() {
+fn main(rt: HostRuntime) {
     // one byte more than a text may have, so that too long an input is seen to be one
     let mut text = [0u8; 65536];
-    let n = io::read_full(STDIN_FILENO, &mut text);
+    let n = console::read_input(rt, &mut text);
     let mut out = [0u8; 43030];
     let k = textlines::list_text(&text[..n], &mut out);
-    io::write_all(STDOUT_FILENO, &out[..k]);
+    console::say(rt, &out[..k]);
 }
