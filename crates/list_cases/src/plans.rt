@@ -1,8 +1,6 @@
 // Further cases of the program planlist: the listing of each is printed after those before it.
 ghost use Rattle.std.specs.Prelude.{◌≡◌, ◌+◌, ◌≤◌, length};
 
-use libc::STDOUT_FILENO;
-
 // Names by their letters, with as many arguments as the last digit says.
 const A0: u32 = 0x40000001;
 
@@ -24,10 +22,10 @@ const Z0: u32 = 0x4000001a;
 const ZERO: u32 = 0x80000000;
 
 // Prints the listing of any bytes.
-fn show(bytes: &[u8]) {
+fn show(rt: HostRuntime, bytes: &[u8]) {
     let mut out = [0u8; 43035];
     let n = listing::list_table(bytes, &mut out);
-    io::write_all(STDOUT_FILENO, &out[..n]);
+    console::say(rt, &out[..n]);
 }
 
 // A cell as four bytes, the least significant first.
@@ -42,7 +40,7 @@ fn put_cell(bytes: &mut [u8; 8200], at: usize, c: u32)
 }
 
 // Prints the listing of some cells.
-fn show_cells(cells: &[u32])
+fn show_cells(rt: HostRuntime, cells: &[u32])
     requires { length cells.now ≤ 2050 }
 {
     let mut bytes = [0u8; 8200];
@@ -52,31 +50,37 @@ fn show_cells(cells: &[u32])
         i += 1;
     }
     let e = 4 * i;
-    show(&bytes[..e]);
+    show(rt, &bytes[..e]);
 }
 
 // Nested names, variables and numbers.
-fn nested() {
+fn nested(rt: HostRuntime) {
     let seven = ZERO + 7;
     let less = ZERO + 65535;
     // (f(g(a), v0), 7) (f(g(b), v0), v1) (f(g(b), -1), 7) (v0, 7) (h(v0, a, v1, 0), g(v2))
-    show_cells(&[
-        2, 5, F2, G1, A0, 0, seven, F2, G1, B0, 0, 1, F2, G1, B0, less, seven, 0, seven, H4, 0, A0,
-        1, ZERO, G1, 2,
-    ]);
+    show_cells(
+        rt,
+        &[
+            2, 5, F2, G1, A0, 0, seven, F2, G1, B0, 0, 1, F2, G1, B0, less, seven, 0, seven, H4, 0,
+            A0, 1, ZERO, G1, 2,
+        ],
+    );
 }
 
 // -1, -32,768, 32,767, 0: the numbers next to their bounds.
-fn bounds() {
-    show_cells(&[1, 4, ZERO + 65535, ZERO + 32768, ZERO + 32767, ZERO]);
+fn bounds(rt: HostRuntime) {
+    show_cells(rt, &[1, 4, ZERO + 65535, ZERO + 32768, ZERO + 32767, ZERO]);
 }
 
 // Rows whose least plan looks at the second place first: 01's six without the two doubled ones.
-fn second_place() {
+fn second_place(rt: HostRuntime) {
     // (a,x,x,x) (a,y,y,y) (b,y,y,y) (b,z,z,z)
-    show_cells(&[
-        4, 4, A0, X0, X0, X0, A0, Y0, Y0, Y0, B0, Y0, Y0, Y0, B0, Z0, Z0, Z0,
-    ]);
+    show_cells(
+        rt,
+        &[
+            4, 4, A0, X0, X0, X0, A0, Y0, Y0, Y0, B0, Y0, Y0, Y0, B0, Z0, Z0, Z0,
+        ],
+    );
 }
 
 // Width 2, 64 rows: sixteen with n1/0 first, sixteen with n2/0, and so on; each has its own number second.
@@ -94,20 +98,20 @@ fn sixty_four() -> [u32; 130] {
     cells
 }
 
-pub fn show_all() {
+pub fn show_all(rt: HostRuntime) {
     // a variable used twice in a row: v0 where it is first met, and v0 where it is met again
-    show_cells(&[2, 1, 0, 0]);
+    show_cells(rt, &[2, 1, 0, 0]);
     // a row's first variable with the number 1
-    show_cells(&[1, 1, 1]);
+    show_cells(rt, &[1, 1, 1]);
     // a row without variables used twice in a table
-    show_cells(&[1, 3, A0, B0, A0]);
+    show_cells(rt, &[1, 3, A0, B0, A0]);
     // no bytes, a cell and one byte more, one cell too many, and as many as may be
-    show(b"");
-    show(&[2u8, 0, 0, 0, 2]);
-    show(&[0u8; 8204]);
-    show(&[0u8; 8200]);
-    nested();
-    bounds();
-    second_place();
-    show_cells(&sixty_four());
+    show(rt, b"");
+    show(rt, &[2u8, 0, 0, 0, 2]);
+    show(rt, &[0u8; 8204]);
+    show(rt, &[0u8; 8200]);
+    nested(rt);
+    bounds(rt);
+    second_place(rt);
+    show_cells(rt, &sixty_four());
 }

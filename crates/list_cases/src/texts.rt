@@ -1,86 +1,85 @@
 // Further cases of the program textlist: the lines of each text are printed after those before it.
-use libc::STDOUT_FILENO;
-
 // Prints the lines of any bytes.
-fn show(text: &[u8]) {
+fn show(rt: HostRuntime, text: &[u8]) {
     let mut out = [0u8; 43030];
     let n = textlines::list_text(text, &mut out);
-    io::write_all(STDOUT_FILENO, &out[..n]);
+    console::say(rt, &out[..n]);
 }
 
 // BYTES, and TEXT near the start.
-fn no_texts() {
-    show(&[b' '; 65536]);
-    show(&[b' '; 65535]);
-    show(b"");
-    show(b"P(a).");
-    show(b"p");
-    show(b"p.");
-    show(b"p (a).");
-    show(b"p().");
-    show(b"p('a').");
-    show(b"p([]).");
-    show(b"p(+1).");
-    show(b"p(9a).");
-    show(b"p(A(a)).");
+fn no_texts(rt: HostRuntime) {
+    show(rt, &[b' '; 65536]);
+    show(rt, &[b' '; 65535]);
+    show(rt, b"");
+    show(rt, b"P(a).");
+    show(rt, b"p");
+    show(rt, b"p.");
+    show(rt, b"p (a).");
+    show(rt, b"p().");
+    show(rt, b"p('a').");
+    show(rt, b"p([]).");
+    show(rt, b"p(+1).");
+    show(rt, b"p(9a).");
+    show(rt, b"p(A(a)).");
 }
 
 // TEXT further on.
-fn stopped() {
-    show(b"p(a)");
-    show(b"p(f (a)).");
-    show(b"p(a b).");
-    show(b"p(a):-q.");
-    show(b"p(a).p(b).");
-    show(b"p(a).\t");
-    show(b"p(a). .");
-    show(b"p(32768).");
-    show(b"p(f(a,b,c,d,e)).");
-    show(b"p(a). q(b). !");
-    show(b"% no fact");
+fn stopped(rt: HostRuntime) {
+    show(rt, b"p(a)");
+    show(rt, b"p(f (a)).");
+    show(rt, b"p(a b).");
+    show(rt, b"p(a):-q.");
+    show(rt, b"p(a).p(b).");
+    show(rt, b"p(a).\t");
+    show(rt, b"p(a). .");
+    show(rt, b"p(32768).");
+    show(rt, b"p(f(a,b,c,d,e)).");
+    show(rt, b"p(a). q(b). !");
+    show(rt, b"% no fact");
 }
 
 // TEXT at or after a minus sign.
-fn no_numbers() {
-    show(b"p(- 1).");
-    show(b"p(--1).");
-    show(b"p(-a).");
-    show(b"p(-%\n1).");
-    show(b"p(-");
-    show(b"p(a-1).");
-    show(b"p(-32769).");
+fn no_numbers(rt: HostRuntime) {
+    show(rt, b"p(- 1).");
+    show(rt, b"p(--1).");
+    show(rt, b"p(-a).");
+    show(rt, b"p(-%\n1).");
+    show(rt, b"p(-");
+    show(rt, b"p(a-1).");
+    show(rt, b"p(-32769).");
 }
 
 // OTHER, and what is no table: WIDTH, LONG, SAME.
-fn no_tables() {
-    show(b"p(a). q(b).");
-    show(b"p(a). pp(a).");
-    show(b"p(a). p(a,b).");
-    show(b"p(a). p(b). q(c).");
-    show(b"p(a,a,a,a,a,a,a,a,a).");
+fn no_tables(rt: HostRuntime) {
+    show(rt, b"p(a). q(b).");
+    show(rt, b"p(a). pp(a).");
+    show(rt, b"p(a). p(a,b).");
+    show(rt, b"p(a). p(b). q(c).");
+    show(rt, b"p(a,a,a,a,a,a,a,a,a).");
     // f 32 times, each inside the one before
     show(
+        rt,
         b"p(f(f(f(f(f(f(f(f(f(f(f(f(f(f(f(f(f(f(f(f(f(f(f(f(f(f(f(f(f(f(f(f(a))))))))))))))))))))))))))))))))).",
     );
-    show(b"p(a). p(b). p(a).");
+    show(rt, b"p(a). p(b). p(a).");
 }
 
 // What is printed.
-fn tables() {
-    show(b"p(a,b,a).");
-    show(b"p(f,f(a)).");
-    show(b"p(p).");
-    show(b"p(_,_X,_Y,_).");
+fn tables(rt: HostRuntime) {
+    show(rt, b"p(a,b,a).");
+    show(rt, b"p(f,f(a)).");
+    show(rt, b"p(p).");
+    show(rt, b"p(_,_X,_Y,_).");
     // a variable twice in a fact; `_` is another each time
-    show(b"p(X,X).");
-    show(b"p(_,X,f(Y,X,_),Y). p(_,X,_,X).");
-    show(b"p(00000032767,0).");
-    show(b"p(-1,-32768,-0).");
-    show(b"p(32767). p(-7).");
-    show(b"p(-00,f(-007)).");
+    show(rt, b"p(X,X).");
+    show(rt, b"p(_,X,f(Y,X,_),Y). p(_,X,_,X).");
+    show(rt, b"p(00000032767,0).");
+    show(rt, b"p(-1,-32768,-0).");
+    show(rt, b"p(32767). p(-7).");
+    show(rt, b"p(-00,f(-007)).");
     // it ends inside a comment
-    show(b"p(a). % p(b).");
-    show(b"\r\np( a , B )\n. % one\n% two\np(b,\n_).");
+    show(rt, b"p(a). % p(b).");
+    show(rt, b"\r\np( a , B )\n. % one\n% two\np(b,\n_).");
 }
 
 // The fact `p(a00).`, then `p(a01).` and so on, a line to each: 65 of them.
@@ -116,16 +115,16 @@ fn wide() -> [u8; 4101] {
     text
 }
 
-pub fn show_all() {
-    no_texts();
-    stopped();
-    no_numbers();
-    no_tables();
-    tables();
+pub fn show_all(rt: HostRuntime) {
+    no_texts(rt);
+    stopped(rt);
+    no_numbers(rt);
+    no_tables(rt);
+    tables(rt);
     // LENGTH: the table has one cell too many
-    show(&wide());
+    show(rt, &wide());
     // COUNT, and one fact less
     let all = facts();
-    show(&all);
-    show(&all[..512]);
+    show(rt, &all);
+    show(rt, &all[..512]);
 }
