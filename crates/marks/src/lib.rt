@@ -7,7 +7,7 @@ use refusal::{Input, Refusal};
 use symbols::{Ahead, Spot};
 
 // A line and a column, each from 1; columns count bytes.
-#[derive(Drop)]
+#[derive(Clone, Copy)]
 pub struct Mark {
     pub line: usize,
     pub column: usize,
