@@ -5,34 +5,27 @@ use borrow.Author.Rules.{rules}
 use Rattle.message.proofs.put_goal.Statement.{statement}
 use Rattle.message.proofs.put_goal.Tie as tie
 
-slice-aggregate-put-word : tie.Need-slice-aggregate-put-word
-slice-aggregate-put-word c = search rules
-
-put-word-requires : tie.Need-put-word-requires
+put-word-requires : tie.Need-put_word-a-requires
 put-word-requires c κs = search rules
 
-put-in-line-requires : tie.Need-put-in-line-requires
+put-in-line-requires : tie.Need-put_in_line-b-requires
 put-in-line-requires c κs = search rules
 
-put-byte-requires : tie.Need-put-byte-requires
+put-byte-requires : tie.Need-put_byte-requires
 put-byte-requires c κs = search rules
 
-same_length : tie.Need-same-length
+same_length : tie.Need-shape_of-out
 same_length c = search rules
 
 returns : tie.Need-returns
 unfolding ascii goal_line
 returns c =
-    let c3 = c.before.before in
-    let c2 = c3.before.before.before.before in
-    let c1 = c2.before.before.before.before in
-    put-put c1.put_word.ensures (put-put c2.put-in-line.ensures c3.put_byte.ensures)
+    put-put c.put_word-a.ensures (put-put c.put_in_line-b.ensures c.put_byte.ensures)
 
-pub put-goal-spec : {M : Type 1} → statement M
-put-goal-spec =
+pub put_goal_spec : {M : Type 1} → statement M
+put_goal_spec =
     tie.close
     (tie.spec
-    slice-aggregate-put-word
     put-word-requires
     put-in-line-requires
     put-byte-requires

@@ -9,49 +9,49 @@ use borrow.Author.Rules.{rules}
 use Rattle.message.proofs.put_in_line.Statement.{statement}
 use Rattle.message.proofs.put_in_line.Tie as tie
 
-abbrev invariant-loop : tie.invariant-loop
+abbrev invariant-loop : tie.invariant-loop-i
 invariant-loop out₀ to goal on₀ i₀ out on i = (i ≤ length goal) × Putting out₀ out to on (map in_line (drop i goal)) (map in_line goal)
 
-abbrev decreases-loop : tie.decreases-loop
+abbrev decreases-loop : tie.decreases-loop-i
 decreases-loop out₀ to goal on₀ i₀ out on i = length goal - i
 
-loop-holds : tie.Need-loop-init invariant-loop decreases-loop
+loop-holds : tie.Need-loop-i-init invariant-loop decreases-loop
 loop-holds c = (omega arith, put-begins)
 
-shared-slice-read-in-line : tie.Need-shared-slice-read-in-line invariant-loop decreases-loop
+shared-slice-read-in-line : tie.Need-bounds-goal-i invariant-loop decreases-loop
 shared-slice-read-in-line c = search rules
 
-in-line-requires : tie.Need-in-line-requires invariant-loop decreases-loop
+in-line-requires : tie.Need-in_line-requires invariant-loop decreases-loop
 in-line-requires c κs = search rules
 
-put-byte-requires : tie.Need-put-byte-requires invariant-loop decreases-loop
+put-byte-requires : tie.Need-put_byte-on-requires invariant-loop decreases-loop
 put-byte-requires c κs = search rules
 
-add-i : tie.Need-overflow-add-i invariant-loop decreases-loop
+add-i : tie.Need-overflow_add-i invariant-loop decreases-loop
 add-i c = search rules
 
-loop-less : tie.Need-loop-smaller invariant-loop decreases-loop
+loop-less : tie.Need-loop-i-smaller invariant-loop decreases-loop
 loop-less c = search rules
 
-loop-again : tie.Need-loop-preserved invariant-loop decreases-loop
+loop-again : tie.Need-loop-i-preserved invariant-loop decreases-loop
 loop-again c =
-    let l = c.before.before.before.before.before.before.before.loop in
-    let goal = c.before.before.before.before.before.before.before.before.before.before.args.goal.now in
+    let l = c.loop-i in
+    let goal = c.args.goal.now in
     let next = bytes_on in_line goal l.i (omega arith) in
-    let byte = c.before.before.put_byte.ensures in
-    (omega arith, put-part (rw next at l.invariant.1) (rw c.before.before.before.in-line.ensures at byte))
+    let byte = c.put_byte-on.ensures in
+    (omega arith, put-part (rw next at l.invariant.1) (rw c.in_line.ensures at byte))
 
-same_length : tie.Need-same-length invariant-loop decreases-loop
-same_length c = put-length c.before.loop.invariant.1.puts
+same_length : tie.Need-shape_of-out invariant-loop decreases-loop
+same_length c = put-length c.loop-i.invariant.1.puts
 
 returns : tie.Need-returns invariant-loop decreases-loop
 returns c =
-    let l = c.before.loop in
-    let goal = c.before.before.before.before.args.goal.now in
+    let l = c.loop-i in
+    let goal = c.args.goal.now in
     put-ends (rw (bytes-done in_line goal l.i (omega arith)) at l.invariant.1)
 
-pub put-in-line-spec : {M : Type 1} → statement M
-put-in-line-spec =
+pub put_in_line_spec : {M : Type 1} → statement M
+put_in_line_spec =
     tie.close
     (tie.spec
     invariant-loop

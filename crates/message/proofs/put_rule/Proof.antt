@@ -5,44 +5,32 @@ use borrow.Author.Rules.{rules}
 use Rattle.message.proofs.put_rule.Statement.{statement}
 use Rattle.message.proofs.put_rule.Tie as tie
 
-slice-aggregate-put-word : tie.Need-slice-aggregate-put-word
-slice-aggregate-put-word c = search rules
-
-put-word-requires : tie.Need-put-word-requires
+put-word-requires : tie.Need-put_word-a-requires
 put-word-requires c κs = search rules
 
-put-decimal-requires : tie.Need-put-decimal-requires
+put-decimal-requires : tie.Need-put_decimal-b-requires
 put-decimal-requires c κs = search rules
 
-slice-aggregate-put-word-2 : tie.Need-slice-aggregate-put-word-2
-slice-aggregate-put-word-2 c = search rules
-
-put-word-requires-2 : tie.Need-put-word-requires-2
+put-word-requires-2 : tie.Need-put_word-c-requires
 put-word-requires-2 c κs = search rules
 
-put-decimal-requires-2 : tie.Need-put-decimal-requires-2
+put-decimal-requires-2 : tie.Need-put_decimal-requires
 put-decimal-requires-2 c κs = search rules
 
-same_length : tie.Need-same-length
+same_length : tie.Need-shape_of-out
 same_length c = search rules
 
 returns : tie.Need-returns
 unfolding ascii rule_text
 returns c =
-    let c4 = c.before.before in
-    let c3 = c4.before.before.before.before in
-    let c2 = c3.before.before.before.before.before in
-    let c1 = c2.before.before.before.before in
-    put-put c1.put_word.ensures (put-put c2.put-decimal.ensures (put-put c3.put-word2.ensures c4.put-decimal2.ensures))
+    put-put c.put_word-a.ensures (put-put c.put_decimal-b.ensures (put-put c.put_word-c.ensures c.put_decimal.ensures))
 
-pub put-rule-spec : {M : Type 1} → statement M
-put-rule-spec =
+pub put_rule_spec : {M : Type 1} → statement M
+put_rule_spec =
     tie.close
     (tie.spec
-    slice-aggregate-put-word
     put-word-requires
     put-decimal-requires
-    slice-aggregate-put-word-2
     put-word-requires-2
     put-decimal-requires-2
     same_length

@@ -6,92 +6,76 @@ use borrow.Author.Rules.{rules}
 use Rattle.message.proofs.reason.put_goal_reason.Statement.{statement}
 use Rattle.message.proofs.reason.put_goal_reason.Tie as tie
 
-slice-aggregate-put-word : tie.Need-slice-aggregate-put-word
-slice-aggregate-put-word c = search rules
-
-put-word-requires : tie.Need-put-word-requires
+put-word-requires : tie.Need-put_word-requires
 put-word-requires c κs = search rules
 
-slice-aggregate-put-word-2 : tie.Need-slice-aggregate-put-word-2
-slice-aggregate-put-word-2 c = search rules
-
-put-word-requires-2 : tie.Need-put-word-requires-2
+put-word-requires-2 : tie.Need-put_word-requires-in-17
 put-word-requires-2 c κs = search rules
 
-put-text-requires : tie.Need-put-text-requires
+put-text-requires : tie.Need-put_text-requires
 put-text-requires c κs = search rules
 
-slice-aggregate-put-word-3 : tie.Need-slice-aggregate-put-word-3
-slice-aggregate-put-word-3 c = search rules
-
-put-word-requires-3 : tie.Need-put-word-requires-3
+put-word-requires-3 : tie.Need-put_word-requires-in-19
 put-word-requires-3 c κs = search rules
 
-slice-aggregate-put-word-4 : tie.Need-slice-aggregate-put-word-4
-slice-aggregate-put-word-4 c = search rules
-
-put-word-requires-4 : tie.Need-put-word-requires-4
+put-word-requires-4 : tie.Need-put_word-requires-in-25
 put-word-requires-4 c κs = search rules
 
-put-number-requires : tie.Need-put-number-requires
+put-number-requires : tie.Need-put_number-requires
 put-number-requires c κs = search rules
 
-same_length : tie.Need-same-length
+same_length : tie.Need-shape_of-out-in-1
 same_length c = search rules
 
-returns : tie.Need-returns
+returns : tie.Need-returns-in-1
 unfolding ascii goal_reason goal_number
-returns c = rw c.before.before.before.before.before.match.keys1 c.before.before.put_word.ensures
+returns c = rw c.in-1.is c.put_word.ensures
 
-same-length-2 : tie.Need-same-length-2
+same-length-2 : tie.Need-shape_of-out-in-17
 same-length-2 c = search rules
 
-returns-2 : tie.Need-returns-2
+returns-2 : tie.Need-returns-in-17
 unfolding ascii goal_reason goal_number
-returns-2 c = rw c.before.before.before.before.before.match.keys2 c.before.before.put-word2.ensures
+returns-2 c = rw c.in-17.is c.put_word-in-17.ensures
 
-same-length-3 : tie.Need-same-length-3
+same-length-3 : tie.Need-shape_of-out-in-18
 same-length-3 c = search rules
 
-returns-3 : tie.Need-returns-3
+returns-3 : tie.Need-returns-in-18
 unfolding ascii goal_reason goal_number
-returns-3 c = rw c.before.before.before.before.match.keys3 c.before.before.put-text.ensures
+returns-3 c = rw c.in-18.is c.put_text.ensures
 
-same-length-4 : tie.Need-same-length-4
+same-length-4 : tie.Need-shape_of-out-in-19
 same-length-4 c = search rules
 
-returns-4 : tie.Need-returns-4
+returns-4 : tie.Need-returns-in-19
 unfolding ascii goal_reason goal_number
-returns-4 c = rw c.before.before.before.before.before.match.keys4 c.before.before.put-word3.ensures
+returns-4 c = rw c.in-19.is c.put_word-in-19.ensures
 
-same-length-5 : tie.Need-same-length-5
+same-length-5 : tie.Need-shape_of-out-in-25
 same-length-5 c = search rules
 
-returns-5 : tie.Need-returns-5
+returns-5 : tie.Need-returns-in-25
 unfolding ascii goal_reason goal_number
-returns-5 c = rw c.before.before.before.before.before.match.keys5 c.before.before.put-word4.ensures
+returns-5 c = rw c.in-25.is c.put_word-in-25.ensures
 
-same-length-6 : tie.Need-same-length-6
+same-length-6 : tie.Need-shape_of-out-in_default
 same-length-6 c = search rules
 
-returns-6 : tie.Need-returns-6
+returns-6 : tie.Need-returns-in_default
 returns-6 c =
-    let m = c.before.before.before.before.match in
+    let m = c.in_default.in_default-own in
     rw (goal-other _ _ m.rest.0.0.0.0.1 m.rest.0.0.0.1 m.rest.0.0.1 m.rest.0.1 m.rest.1)
-    c.before.before.put-number.ensures
+    c.put_number.ensures
 
-pub put-goal-reason-spec : {M : Type 1} → statement M
-put-goal-reason-spec =
+pub put_goal_reason_spec : {M : Type 1} → statement M
+put_goal_reason_spec =
     tie.close
     (tie.spec
-    slice-aggregate-put-word
     put-word-requires
-    slice-aggregate-put-word-2
     put-word-requires-2
     put-text-requires
-    slice-aggregate-put-word-3
     put-word-requires-3
-    slice-aggregate-put-word-4
     put-word-requires-4
     put-number-requires
     same_length
