@@ -121,3 +121,6 @@ module _ (old new : List ℕ) (from to i n : ℕ) (m : Moved old new from to i n
   moved-past h =
       let size = moved-size.0 in
       put_all (slice from to old) n (omega (arith, m.on)) m.puts
+
+-- where a line ends: what `line_end` needs, whatever its test is named after
+pub ruleset line_ends = (end_none, end-past, end-here, end_later)

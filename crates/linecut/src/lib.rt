@@ -7,6 +7,7 @@ ghost use Rattle.linecut.specs.Cut.{line_end, in_remark, closes, bracket_end};
 use octets::put_byte;
 
 // The first line feed between two places, or the second.
+#[tactic(auto, using(crate::proofs::CutLaws::line_ends))]
 pub fn line_end(buf: &[u8], from: usize, to: usize) -> usize
     ensures { result ≡ line_end buf.now from to }
 {
