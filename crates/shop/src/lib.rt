@@ -11,7 +11,7 @@ use termtext::Predicate;
 
 // The facts' predicate, the number of the plan's branches, and where the lists end that stand one after another in one room: first the line of
 // each rule, 64 numbers, then the names, the table and the plan.
-#[derive(Drop)]
+#[derive(Clone, Copy)]
 pub struct Shop {
     pub p: Predicate,
     pub branches: usize,
