@@ -5,50 +5,50 @@ use borrow.Author.Rules.{rules}
 use Rattle.branchlist.proofs.put_arguments.Statement.{statement}
 use Rattle.branchlist.proofs.put_arguments.Tie as tie
 
-abbrev invariant-loop : tie.invariant-loop
+abbrev invariant-loop : tie.invariant-loop-i
 invariant-loop places₀ to owner count on₀ i₀ places on i = (length places ≡ length places₀) × (i ≤ 8)
 
-abbrev decreases-loop : tie.decreases-loop
+abbrev decreases-loop : tie.decreases-loop-i
 decreases-loop places₀ to owner count on₀ i₀ places on i = 8 - i
 
-loop-holds : tie.Need-loop-init invariant-loop decreases-loop
+loop-holds : tie.Need-loop-i-init invariant-loop decreases-loop
 loop-holds c = search rules
 
-add-i : tie.Need-overflow-add-i invariant-loop decreases-loop
+add-i : tie.Need-overflow_add-i invariant-loop decreases-loop
 add-i c = search rules
 
-mul-put-cell : tie.Need-overflow-mul-put-cell invariant-loop decreases-loop
+mul-put-cell : tie.Need-overflow_mul-owner invariant-loop decreases-loop
 mul-put-cell c = search rules
 
-cast-put-cell : tie.Need-overflow-cast-put-cell invariant-loop decreases-loop
+cast-put-cell : tie.Need-overflow_cast-i invariant-loop decreases-loop
 cast-put-cell c = search rules
 
-add-put-cell : tie.Need-overflow-add-put-cell invariant-loop decreases-loop
+add-put-cell : tie.Need-overflow_add-owner invariant-loop decreases-loop
 add-put-cell c = search rules
 
-put-cell-requires : tie.Need-put-cell-requires invariant-loop decreases-loop
+put-cell-requires : tie.Need-put_cell-on-requires invariant-loop decreases-loop
 put-cell-requires c κs = search rules
 
-loop-less : tie.Need-loop-smaller invariant-loop decreases-loop
+loop-less : tie.Need-loop-i-smaller invariant-loop decreases-loop
 loop-less c = search rules
 
-loop-again : tie.Need-loop-preserved invariant-loop decreases-loop
+loop-again : tie.Need-loop-i-preserved invariant-loop decreases-loop
 loop-again c = search rules
 
-same_length : tie.Need-same-length invariant-loop decreases-loop
+same_length : tie.Need-shape_of-places-else-i-count invariant-loop decreases-loop
 same_length c = search rules
 
-returns : tie.Need-returns invariant-loop decreases-loop
+returns : tie.Need-returns-else-i-count invariant-loop decreases-loop
 returns c = search rules
 
-same-length-2 : tie.Need-same-length-2 invariant-loop decreases-loop
+same-length-2 : tie.Need-shape_of-places-after-loop-i invariant-loop decreases-loop
 same-length-2 c = search rules
 
-returns-2 : tie.Need-returns-2 invariant-loop decreases-loop
+returns-2 : tie.Need-returns-after-loop-i invariant-loop decreases-loop
 returns-2 c = search rules
 
-pub put-arguments-spec : {M : Type 1} → statement M
-put-arguments-spec =
+pub put_arguments_spec : {M : Type 1} → statement M
+put_arguments_spec =
     tie.close
     (tie.spec
     invariant-loop
