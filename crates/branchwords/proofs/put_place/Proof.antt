@@ -5,22 +5,19 @@ use borrow.Author.Rules.{rules}
 use Rattle.branchwords.proofs.put_place.Statement.{statement}
 use Rattle.branchwords.proofs.put_place.Tie as tie
 
-slice-aggregate-put-word : tie.Need-slice-aggregate-put-word
-slice-aggregate-put-word c = search rules
-
-put-word-requires : tie.Need-put-word-requires
+put-word-requires : tie.Need-put_word-a-requires
 put-word-requires c κs = search rules
 
-cast-put-decimal : tie.Need-overflow-cast-put-decimal
+cast-put-decimal : tie.Need-overflow_cast-place
 cast-put-decimal c = search rules
 
-put-decimal-requires : tie.Need-put-decimal-requires
+put-decimal-requires : tie.Need-put_decimal-b-requires
 put-decimal-requires c κs = search rules
 
-put-owner-requires : tie.Need-put-owner-requires
+put-owner-requires : tie.Need-put_owner-requires
 put-owner-requires c κs = search rules
 
-same_length : tie.Need-same-length
+same_length : tie.Need-shape_of-out
 same_length c = search rules
 
 returns : tie.Need-returns
@@ -29,13 +26,12 @@ returns c =
     let c3 = c.before.before in
     let c2 = c3.before.before.before.before in
     let c1 = c2.before.before.before.before in
-    put-put c1.put_word.ensures (put-put c2.put-decimal.ensures c3.put-owner.ensures)
+    put-put c1.put_word-a.ensures (put-put c2.put_decimal-b.ensures c3.put_owner.ensures)
 
-pub put-place-spec : {M : Type 1} → statement M
-put-place-spec =
+pub put_place_spec : {M : Type 1} → statement M
+put_place_spec =
     tie.close
     (tie.spec
-    slice-aggregate-put-word
     put-word-requires
     cast-put-decimal
     put-decimal-requires

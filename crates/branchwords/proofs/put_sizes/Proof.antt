@@ -5,31 +5,16 @@ use borrow.Author.Rules.{rules}
 use Rattle.branchwords.proofs.put_sizes.Statement.{statement}
 use Rattle.branchwords.proofs.put_sizes.Tie as tie
 
-slice-aggregate-put-word : tie.Need-slice-aggregate-put-word
-slice-aggregate-put-word c = search rules
-
-put-word-requires : tie.Need-put-word-requires
+put-word-requires : tie.Need-put_word-a-requires
 put-word-requires c κs = search rules
 
-slice-aggregate-put-number-of : tie.Need-slice-aggregate-put-number-of
-slice-aggregate-put-number-of c = search rules
-
-slice-aggregate-put-number-of-2 : tie.Need-slice-aggregate-put-number-of-2
-slice-aggregate-put-number-of-2 c = search rules
-
-put-number-of-requires : tie.Need-put-number-of-requires
+put-number-of-requires : tie.Need-put_number_of-b-requires
 put-number-of-requires c κs = search rules
 
-slice-aggregate-put-number-of-3 : tie.Need-slice-aggregate-put-number-of-3
-slice-aggregate-put-number-of-3 c = search rules
-
-slice-aggregate-put-number-of-4 : tie.Need-slice-aggregate-put-number-of-4
-slice-aggregate-put-number-of-4 c = search rules
-
-put-number-of-requires-2 : tie.Need-put-number-of-requires-2
+put-number-of-requires-2 : tie.Need-put_number_of-requires
 put-number-of-requires-2 c κs = search rules
 
-same_length : tie.Need-same-length
+same_length : tie.Need-shape_of-out
 same_length c = search rules
 
 returns : tie.Need-returns
@@ -38,19 +23,14 @@ returns c =
     let c3 = c.before.before in
     let c2 = c3.before.before.before.before.before.before in
     let c1 = c2.before.before.before.before.before.before in
-    put-put c1.put_word.ensures (put-put c2.put-number-of.ensures c3.put-number-of2.ensures)
+    put-put c1.put_word-a.ensures (put-put c2.put_number_of-b.ensures c3.put_number_of.ensures)
 
-pub put-sizes-spec : {M : Type 1} → statement M
-put-sizes-spec =
+pub put_sizes_spec : {M : Type 1} → statement M
+put_sizes_spec =
     tie.close
     (tie.spec
-    slice-aggregate-put-word
     put-word-requires
-    slice-aggregate-put-number-of
-    slice-aggregate-put-number-of-2
     put-number-of-requires
-    slice-aggregate-put-number-of-3
-    slice-aggregate-put-number-of-4
     put-number-of-requires-2
     same_length
     returns)

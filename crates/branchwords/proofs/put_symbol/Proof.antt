@@ -12,53 +12,49 @@ use Rattle.branchwords.proofs.put_symbol.Tie as tie
 kind-requires : tie.Need-kind-requires
 kind-requires c κs = search rules
 
-slice-aggregate-put-word : tie.Need-slice-aggregate-put-word
-slice-aggregate-put-word c = search rules
-
-put-word-requires : tie.Need-put-word-requires
+put-word-requires : tie.Need-put_word-requires
 put-word-requires c κs = search rules
 
-same_length : tie.Need-same-length
+same_length : tie.Need-shape_of-out-then-kind-eq0
 same_length c = search rules
 
-returns : tie.Need-returns
+returns : tie.Need-returns-then-kind-eq0
 unfolding ascii symbol_text
 returns c =
     let t = c.before.before.before.before.before in
-    rw (eq-eqb _ _ (sym t.before.kind.ensures ∙ t.if1.true)) c.before.before.put_word.ensures
+    rw (eq-eqb _ _ (sym t.kind.ensures ∙ t.if-kind-eq0.true)) c.put_word.ensures
 
-slice-aggregate-put-symbol : tie.Need-slice-aggregate-put-symbol
+slice-aggregate-put-symbol : tie.Need-slice_bounds-put_symbol-end
 slice-aggregate-put-symbol c = search rules
 
-put-symbol-requires : tie.Need-put-symbol-requires
+put-symbol-requires : tie.Need-put_symbol-on-requires
 put-symbol-requires c κs = search rules
 
-arity-of-requires : tie.Need-arity-of-requires
+arity-of-requires : tie.Need-arity_of-requires
 arity-of-requires c κs = search rules
 
-put-blanks-requires : tie.Need-put-blanks-requires
+put-blanks-requires : tie.Need-put_blanks-requires
 put-blanks-requires c κs = search rules
 
-same-length-2 : tie.Need-same-length-2
+same-length-2 : tie.Need-shape_of-out
 same-length-2 c = search rules
 
-returns-2 : tie.Need-returns-2
+returns-2 : tie.Need-returns
 unfolding ascii symbol_text
 returns-2 c =
     let c2 = c.before.before in
     let c1 = c2.before.before.before.before.before in
     let e = c1.before.before.before in
-    let a = e.before.before.before.before.before.args in
-    let known = e.before.kind.ensures in
-    rw (ne_eqb _ _ (λ z. e.if1.false (known ∙ z)), ← c2.before.arity-of.ensures)
-    (put-put (rw (append-nil (words_in a.text.now a.names.now)) at c1.put-symbol.ensures) c2.put-blanks.ensures)
+    let a = e.args in
+    let known = e.kind.ensures in
+    rw (ne_eqb _ _ (λ z. e.if-kind-eq0.false (known ∙ z)), ← c2.arity_of.ensures)
+    (put-put (rw (append-nil (words_in a.text.now a.names.now)) at c1.put_symbol-on.ensures) c2.put_blanks.ensures)
 
-pub put-symbol-spec : {M : Type 1} → statement M
-put-symbol-spec =
+pub put_symbol_spec : {M : Type 1} → statement M
+put_symbol_spec =
     tie.close
     (tie.spec
     kind-requires
-    slice-aggregate-put-word
     put-word-requires
     same_length
     returns
