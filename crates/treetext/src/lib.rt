@@ -1,24 +1,34 @@
 // A plan as an indented tree, in words: where it looks, what it finds there, and the rule at the end of each way.
+#![tactic(auto)]
+
 use branchlist::{Branch, LIST};
 use octets::{put_byte, put_word};
 use page::Page;
 use shop::{Shop, cell_at};
 
 // After what is gathered on a page.
-pub fn print(text: &[u8], kept: &[u32], shop: Shop, out: &mut [u8], page: Page) -> Page {
+pub fn print(
+    rt: HostRuntime,
+    text: &[u8],
+    kept: &[u32],
+    shop: Shop,
+    out: &mut [u8],
+    page: Page,
+) -> Page {
     let mut list = [0u32; LIST];
     let count = branchlist::put_branches(&mut list, kept, shop);
     let rules = cell_at(shop::table_in(kept, shop), 1);
-    let p = page::turn(out, page);
+    let p = page::turn(rt, out, page);
     let to = branchwords::put_sizes(out, p.to, rules as usize, shop.branches);
     let first = Page {
         to: put_byte(out, to, b'\n'),
         open: p.open,
     };
-    say_branches(text, kept, shop, &list, count, out, first)
+    say_branches(rt, text, kept, shop, &list, count, out, first)
 }
 
 fn say_branches(
+    rt: HostRuntime,
     text: &[u8],
     kept: &[u32],
     shop: Shop,
@@ -30,7 +40,15 @@ fn say_branches(
     let mut here = page;
     let mut i = 0;
     while i < count {
-        here = say_branch(text, kept, shop, branchlist::branch_at(list, i), out, here);
+        here = say_branch(
+            rt,
+            text,
+            kept,
+            shop,
+            branchlist::branch_at(list, i),
+            out,
+            here,
+        );
         i += 1;
     }
     here
@@ -38,6 +56,7 @@ fn say_branches(
 
 // A branch's line, in a room that has space for it: it has two names of the text at most.
 fn say_branch(
+    rt: HostRuntime,
     text: &[u8],
     kept: &[u32],
     shop: Shop,
@@ -46,7 +65,7 @@ fn say_branch(
     page: Page,
 ) -> Page {
     let names = shop::names_in(kept, shop);
-    let p = page::turn(out, page);
+    let p = page::turn(rt, out, page);
     let a = branchwords::put_times(out, p.to, b"  ", branch.depth as usize);
     let b = branchwords::put_place(out, a, text, names, branch.place);
     let c = put_word(out, b, b" is ");
