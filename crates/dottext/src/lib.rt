@@ -3,22 +3,31 @@
 //
 // All that stands between quotes are words of ours, numbers, and names of the rules, which have letters, digits and `_` alone. So no quote and no
 // backslash is there, and DOT takes every other byte as it is.
+#![tactic(auto)]
+
 use branchlist::{Branch, LIST, branch_at};
 use octets::{put_decimal, put_word};
 use page::Page;
 use shop::{Shop, cell_at};
 
 // After what is gathered on a page.
-pub fn print(text: &[u8], kept: &[u32], shop: Shop, out: &mut [u8], page: Page) -> Page {
+pub fn print(
+    rt: HostRuntime,
+    text: &[u8],
+    kept: &[u32],
+    shop: Shop,
+    out: &mut [u8],
+    page: Page,
+) -> Page {
     let mut list = [0u32; LIST];
     let count = branchlist::put_branches(&mut list, kept, shop);
-    let p = page::turn(out, page);
+    let p = page::turn(rt, out, page);
     let a = put_head(out, p.to, kept, shop);
     let first = Page {
         to: put_state(out, a, text, kept, shop, &list, 0),
         open: p.open,
     };
-    let last = say_branches(text, kept, shop, &list, count, out, first);
+    let last = say_branches(rt, text, kept, shop, &list, count, out, first);
     Page {
         to: put_word(out, last.to, b"}\n"),
         open: last.open,
@@ -49,6 +58,7 @@ fn put_head(out: &mut [u8], to: usize, kept: &[u32], shop: Shop) -> usize {
 
 // Each branch, and then the state below it.
 fn say_branches(
+    rt: HostRuntime,
     text: &[u8],
     kept: &[u32],
     shop: Shop,
@@ -62,7 +72,7 @@ fn say_branches(
     while n < count {
         let branch = branch_at(list, n);
         n += 1;
-        let p = page::turn(out, here);
+        let p = page::turn(rt, out, here);
         let to = put_branch(out, p.to, text, shop::names_in(kept, shop), branch, n);
         here = Page {
             to: put_state(out, to, text, kept, shop, list, n),
