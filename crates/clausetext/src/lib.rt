@@ -1,5 +1,7 @@
 // A shop's plan as Prolog clauses (02, W-210), and before them the clause that ties the facts' own predicate to the first of them, so that
 // what calls it goes on as it is.
+#![tactic(auto)]
+
 use answertext::{put_answer, put_terms};
 use clauses::HandAnswer;
 use octets::put_word;
