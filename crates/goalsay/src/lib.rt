@@ -1,4 +1,6 @@
 // What is printed for a goal.
+#![tactic(auto)]
+
 use lex::fact::Head;
 use message::Whose;
 use octets::{put_byte, put_decimal, put_word};
@@ -8,7 +10,7 @@ use shop::Shop;
 
 // Where a goal stands: it is the only argument after the file; it is one of several, of that number, the first being 1; or it is a line of
 // standard input, with so many lines above it.
-#[derive(Drop)]
+#[derive(Clone, Copy)]
 pub enum Source {
     Only,
     Argument(usize),
@@ -16,16 +18,16 @@ pub enum Source {
 }
 
 // The line before the answers, which tells the answers of several goals apart.
-pub fn say_goal(goal: &[u8], source: Source, out: &mut [u8], page: Page) -> Page {
+pub fn say_goal(rt: HostRuntime, goal: &[u8], source: Source, out: &mut [u8], page: Page) -> Page {
     match source {
         Source::Only => page,
-        Source::Argument(_) => say_written(goal, out, page),
-        Source::Line(_) => say_written(goal, out, page),
+        Source::Argument(_) => say_written(rt, goal, out, page),
+        Source::Line(_) => say_written(rt, goal, out, page),
     }
 }
 
-fn say_written(goal: &[u8], out: &mut [u8], page: Page) -> Page {
-    let p = page::turn(out, page);
+fn say_written(rt: HostRuntime, goal: &[u8], out: &mut [u8], page: Page) -> Page {
+    let p = page::turn(rt, out, page);
     let to = message::put_goal(
         out,
         p.to,
@@ -45,6 +47,7 @@ fn start_of(goal: &[u8]) -> usize {
 
 // A rule that fits, and its answer. One that is longer than a line may be is cut.
 pub fn say_answer(
+    rt: HostRuntime,
     text: &[u8],
     kept: &[u32],
     shop: Shop,
@@ -55,7 +58,7 @@ pub fn say_answer(
     out: &mut [u8],
     page: Page,
 ) -> Page {
-    let p = page::turn(out, page);
+    let p = page::turn(rt, out, page);
     let a = shop::put_rule(out, p.to, kept, row as usize);
     let b = put_word(out, a, b": ");
     let c = put_answer(
@@ -102,8 +105,15 @@ fn put_answer(
 }
 
 // The rules that fit, and the branches tried of all that there are.
-pub fn say_counts(rules: usize, tried: usize, branches: usize, out: &mut [u8], page: Page) -> Page {
-    let p = page::turn(out, page);
+pub fn say_counts(
+    rt: HostRuntime,
+    rules: usize,
+    tried: usize,
+    branches: usize,
+    out: &mut [u8],
+    page: Page,
+) -> Page {
+    let p = page::turn(rt, out, page);
     Page {
         to: message::put_counts(out, p.to, rules, tried, branches),
         open: p.open,
@@ -111,11 +121,18 @@ pub fn say_counts(rules: usize, tried: usize, branches: usize, out: &mut [u8], p
 }
 
 // Why a goal is refused, to standard error; what is gathered goes before it.
-pub fn refuse(goal: &[u8], f: Refusal, source: Source, out: &mut [u8], page: Page) -> Page {
-    let p = page::flush(out, page);
+pub fn refuse(
+    rt: HostRuntime,
+    goal: &[u8],
+    f: Refusal,
+    source: Source,
+    out: &mut [u8],
+    page: Page,
+) -> Page {
+    let p = page::flush(rt, out, page);
     let a = put_source(out, source);
     let b = refusals::put_refusal(out, a, goal, above(source), Whose::Goal, f);
-    page::complain(out, b);
+    page::complain(rt, out, b);
     p
 }
 
