@@ -10,7 +10,7 @@ use limits::ROWS;
 use sums::plus;
 
 // Rule 1 is row 0, as the hits of a run have it.
-#[derive(Drop)]
+#[derive(Clone, Copy)]
 pub struct Tally {
     pub fits: [usize; ROWS],
     pub answered: usize,

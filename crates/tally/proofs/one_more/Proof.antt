@@ -5,32 +5,32 @@ use borrow.Author.Rules.{rules}
 use Rattle.tally.proofs.one_more.Statement.{statement}
 use Rattle.tally.proofs.one_more.Tie as tie
 
-mul-plus : tie.Need-overflow-mul-plus
+mul-plus : tie.Need-offset_bounds-fits-row
 mul-plus c = search rules
 
-slice-read-plus : tie.Need-slice-read-plus
+slice-read-plus : tie.Need-bounds-fits-row
 slice-read-plus c = search rules
 
 plus-requires : tie.Need-plus-requires
 plus-requires c κs = search rules
 
-mul-fits : tie.Need-overflow-mul-fits
+mul-fits : tie.Need-offset_bounds-fits-row-then-row-fits
 mul-fits c = search rules
 
-slice-write-fits : tie.Need-slice-write-fits
+slice-write-fits : tie.Need-bounds-fits-row-then-row-fits
 slice-write-fits c = search rules
 
-same_length : tie.Need-same-length
+same_length : tie.Need-shape_of-fits
 same_length c = search rules
 
-returns : tie.Need-returns
+returns : tie.Need-returns-then-row-fits
 returns c = cc
 
-returns-2 : tie.Need-returns-2
+returns-2 : tie.Need-returns-else-row-fits
 returns-2 c = sym (set_out _ _ _ (omega arith))
 
-pub one-more-spec : {M : Type 1} → statement M
-one-more-spec =
+pub one_more_spec : {M : Type 1} → statement M
+one_more_spec =
     tie.close
     (tie.spec
     mul-plus
