@@ -4,19 +4,19 @@ use borrow.Author.Rules.{rules}
 use Rattle.tallywords.proofs.put_fitted.Statement.{statement}
 use Rattle.tallywords.proofs.put_fitted.Tie as tie
 
-put-number-requires : tie.Need-put-number-requires
+put-number-requires : tie.Need-put_number-a-requires
 put-number-requires c κs = search rules
 
-put-rule-requires : tie.Need-put-rule-requires
+put-rule-requires : tie.Need-put_rule-b-requires
 put-rule-requires c κs = search rules
 
-put-mark-requires : tie.Need-put-mark-requires
+put-mark-requires : tie.Need-put_mark-c-requires
 put-mark-requires c κs = search rules
 
-put-byte-requires : tie.Need-put-byte-requires
+put-byte-requires : tie.Need-put_byte-requires
 put-byte-requires c κs = search rules
 
-same_length : tie.Need-same-length
+same_length : tie.Need-shape_of-out
 same_length c = search rules
 
 returns : tie.Need-returns
@@ -26,10 +26,10 @@ returns c =
     let c3 = c4.before.before.before.before in
     let c2 = c3.before.before.before.before in
     let c1 = c2.before.before.before.before in
-    put-put c1.put-number.ensures (put-put c2.put-rule.ensures (put-put c3.put-mark.ensures c4.put_byte.ensures))
+    put-put c1.put_number-a.ensures (put-put c2.put_rule-b.ensures (put-put c3.put_mark-c.ensures c4.put_byte.ensures))
 
-pub put-fitted-spec : {M : Type 1} → statement M
-put-fitted-spec =
+pub put_fitted_spec : {M : Type 1} → statement M
+put_fitted_spec =
     tie.close
     (tie.spec
     put-number-requires

@@ -6,23 +6,20 @@ use borrow.Author.Rules.{rules}
 use Rattle.tallywords.proofs.put_more.Statement.{statement}
 use Rattle.tallywords.proofs.put_more.Tie as tie
 
-slice-aggregate-put-word : tie.Need-slice-aggregate-put-word
-slice-aggregate-put-word c = search rules
-
-put-word-requires : tie.Need-put-word-requires
+put-word-requires : tie.Need-put_word-requires
 put-word-requires c κs = search rules
 
-same_length : tie.Need-same-length
+same_length : tie.Need-shape_of-out-then-n-eq18446744073709551615
 same_length c = search rules
 
-returns : tie.Need-returns
+returns : tie.Need-returns-then-n-eq18446744073709551615
 unfolding ascii more_text
-returns c = rw (eq-eqb _ _ c.before.before.before.before.before.if1.true) c.before.before.put_word.ensures
+returns c = rw (eq-eqb _ _ c.if-n-eq18446744073709551615.true) c.put_word.ensures
 
-returns-2 : tie.Need-returns-2
+returns-2 : tie.Need-returns
 unfolding more_text
-returns-2 c = rw (ne_eqb _ _ c.if1.false) put-nothing
+returns-2 c = rw (ne_eqb _ _ c.if-n-eq18446744073709551615.false) put-nothing
 
-pub put-more-spec : {M : Type 1} → statement M
-put-more-spec =
-    tie.close (tie.spec slice-aggregate-put-word put-word-requires same_length returns returns-2)
+pub put_more_spec : {M : Type 1} → statement M
+put_more_spec =
+    tie.close (tie.spec put-word-requires same_length returns returns-2)
