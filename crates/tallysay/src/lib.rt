@@ -1,4 +1,6 @@
 // What the goals of a call add up to, printed: a line for each rule, and the totals.
+#![tactic(auto)]
+
 use limits::ROWS;
 use octets::put_word;
 use page::Page;
@@ -22,17 +24,25 @@ fn largest(t: Tally) -> usize {
 }
 
 // The rules of the file, of which there are at most 64.
-pub fn say(kept: &[u32], shop: Shop, t: Tally, out: &mut [u8], page: Page) -> Page {
+pub fn say(
+    rt: HostRuntime,
+    kept: &[u32],
+    shop: Shop,
+    t: Tally,
+    out: &mut [u8],
+    page: Page,
+) -> Page {
     let width = tallywords::digits(largest(t));
     let rules = cell_at(shop::table_in(kept, shop), 1) as usize;
-    let p = page::turn(out, page);
+    let p = page::turn(rt, out, page);
     let to = put_word(out, p.to, b"counts over all goals:\n");
     let fits = t.fits;
-    let last = say_rules(kept, rules, fits, width, out, Page { to, open: p.open });
-    say_totals(t, width, out, last)
+    let last = say_rules(rt, kept, rules, fits, width, out, Page { to, open: p.open });
+    say_totals(rt, t, width, out, last)
 }
 
 fn say_rules(
+    rt: HostRuntime,
     kept: &[u32],
     rules: usize,
     fits: [usize; ROWS],
@@ -43,7 +53,7 @@ fn say_rules(
     let mut now = page;
     let mut i = 0;
     while i < ROWS && i < rules {
-        let p = page::turn(out, now);
+        let p = page::turn(rt, out, now);
         let line = cell_at(kept, i) as usize;
         let to = tallywords::put_fitted(out, p.to, width, fits[i], i + 1, line);
         now = Page { to, open: p.open };
@@ -52,8 +62,8 @@ fn say_rules(
     now
 }
 
-fn say_totals(t: Tally, width: usize, out: &mut [u8], page: Page) -> Page {
-    let p = page::turn(out, page);
+fn say_totals(rt: HostRuntime, t: Tally, width: usize, out: &mut [u8], page: Page) -> Page {
+    let p = page::turn(rt, out, page);
     let a = tallywords::put_total(
         out,
         p.to,
