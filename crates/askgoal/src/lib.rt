@@ -1,4 +1,6 @@
 // One goal: read, run, and what each rule that fits says.
+#![tactic(auto)]
+
 use answer::RunAnswer;
 use goalsay::Source;
 use goaltext::GoalText;
@@ -12,7 +14,7 @@ use tally::Tally;
 use term::End;
 
 // What goals are asked of: what is kept of a file of facts, what is noted of its plan, and where the cells of each rule begin in the table.
-#[derive(Drop)]
+#[derive(Clone, Copy)]
 pub struct Ready {
     pub shop: Shop,
     pub noted: Noted,
@@ -33,7 +35,7 @@ pub fn make_ready(kept: &[u32], shop: Shop, numbers: &mut [u64; BRANCHES]) -> Re
 }
 
 // What is printed, and what the goals add up to so far.
-#[derive(Drop)]
+#[derive(Clone, Copy)]
 pub struct Sheet {
     pub page: Page,
     pub tally: Tally,
@@ -41,7 +43,7 @@ pub struct Sheet {
 
 // What a goal finds: the rules that fit, or why it is refused. So many of its names are not the facts', and stand in a list. A goal that is
 // read has so many cells.
-#[derive(Drop)]
+#[derive(Clone, Copy)]
 pub struct Found {
     pub answer: RunAnswer,
     pub hits: [u8; ROWS],
@@ -66,6 +68,7 @@ fn rules_of(hits: &[u8; ROWS], count: usize) -> &[u8] {
 // A goal asked of a file of facts. `room` is lent for its answers, and all that is printed is gathered in `out`. Nothing of a goal is printed
 // before all its answers are there: one that is refused for an answer has none.
 pub fn ask(
+    rt: HostRuntime,
     text: &[u8],
     kept: &[u32],
     numbers: &[u64; BRANCHES],
@@ -79,7 +82,7 @@ pub fn ask(
     let found = find(text, kept, numbers, ready, goal, room);
     let shop = ready.shop;
     let page = say(
-        text, kept, shop, goal, source, found, &*room, out, sheet.page,
+        rt, text, kept, shop, goal, source, found, &*room, out, sheet.page,
     );
     let tally = counted(sheet.tally, found);
     Sheet { page, tally }
@@ -189,6 +192,7 @@ fn reply(kept: &[u32], ready: Ready, goal: &[u32], hits: &[u8], room: &mut [u32]
 
 // What a goal found.
 fn say(
+    rt: HostRuntime,
     text: &[u8],
     kept: &[u32],
     shop: Shop,
@@ -204,8 +208,9 @@ fn say(
     let hits = found.hits;
     match answer {
         RunAnswer::Ran(rules, tried) => {
-            let first = goalsay::say_goal(goal, source, out, page);
+            let first = goalsay::say_goal(rt, goal, source, out, page);
             let last = say_all(
+                rt,
                 text,
                 kept,
                 shop,
@@ -216,15 +221,16 @@ fn say(
                 out,
                 first,
             );
-            goalsay::say_counts(rules, tried, shop.branches, out, last)
+            goalsay::say_counts(rt, rules, tried, shop.branches, out, last)
         }
-        RunAnswer::Refused(f) => goalsay::refuse(goal, f, source, out, page),
+        RunAnswer::Refused(f) => goalsay::refuse(rt, goal, f, source, out, page),
     }
 }
 
 // A line for each rule that fits: its number and line, and its answer in the names of the facts and the goal's new ones. `cells` has an
 // answer for each.
 fn say_all(
+    rt: HostRuntime,
     text: &[u8],
     kept: &[u32],
     shop: Shop,
@@ -245,6 +251,7 @@ fn say_all(
         i += 1;
         let end = terms_end(cells, at, width);
         now = goalsay::say_answer(
+            rt,
             text,
             kept,
             shop,
