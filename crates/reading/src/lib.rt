@@ -1,26 +1,27 @@
 // Reading, in which an error is no end.
+#![tactic(auto)]
+
 ghost use Rattle.std.specs.Prelude.{◌≡◌, ◌+◌, min};
 
+use console::{Reason, Stream};
 use octets::put_word;
 
-// So many bytes; or the reading failed.
+// So many bytes; or the reading failed, and why.
 #[derive(Drop)]
 pub enum Got {
     Bytes(usize),
-    Failed,
+    Failed(Reason),
 }
 
 // Reads some bytes behind those that there are; how many, none at the end.
-pub fn read_behind(fd: i32, buf: &mut [u8], to: usize) -> Got {
+pub fn read_behind(from: &mut Stream, buf: &mut [u8], to: usize) -> Got {
     if buf.len() < to {
         return Got::Bytes(0);
     }
-    let room = &mut buf[to..];
-    let got = libc::read(fd, room);
-    if got < 0 {
-        return Got::Failed;
+    match console::read(from, &mut buf[to..]) {
+        Ok(n) => Got::Bytes(n),
+        Err(why) => Got::Failed(why),
     }
-    Got::Bytes(io::count(got, room))
 }
 
 // So many bytes further, and no further than the end.
@@ -37,18 +38,18 @@ pub fn ahead(to: usize, n: usize, end: usize) -> usize
 }
 
 // A file from its start on, as far as there is room; how many bytes.
-fn read_file(fd: i32, buf: &mut [u8]) -> Got {
+fn read_file(from: &mut Stream, buf: &mut [u8]) -> Got {
     let mut to = 0;
     while to < buf.len() {
-        match read_behind(fd, buf, to) {
+        match read_behind(from, buf, to) {
             Got::Bytes(n) => {
                 if n == 0 {
                     return Got::Bytes(to);
                 }
                 to = ahead(to, n, buf.len());
             }
-            Got::Failed => {
-                return Got::Failed;
+            Got::Failed(why) => {
+                return Got::Failed(why);
             }
         }
     }
@@ -56,23 +57,20 @@ fn read_file(fd: i32, buf: &mut [u8]) -> Got {
 }
 
 // The file of that name.
-pub fn read_path(path: &[u8], buf: &mut [u8]) -> Got {
-    let fd = os::open_read(path);
-    if fd < 0 {
-        return Got::Failed;
+pub fn read_path(rt: HostRuntime, path: &[u8], buf: &mut [u8]) -> Got {
+    match console::open(rt, path) {
+        Ok(mut file) => read_file(&mut file, buf),
+        Err(why) => Got::Failed(why),
     }
-    let got = read_file(fd, buf);
-    libc::close(fd);
-    got
 }
 
 // Says to standard error what could not be done to which file, with the system's reason.
-pub fn cannot(deed: &[u8], path: &[u8], out: &mut [u8]) {
+pub fn cannot(rt: HostRuntime, deed: &[u8], path: &[u8], why: Reason, out: &mut [u8]) {
     let a = put_word(out, 0, deed);
     let b = put_word(out, a, path);
-    os::fail(slices::bytes::part(out, 0, b));
+    console::fail(rt, slices::bytes::part(out, 0, b), why);
 }
 
-pub fn cannot_read(path: &[u8], out: &mut [u8]) {
-    cannot(b"cannot read ", path, out);
+pub fn cannot_read(rt: HostRuntime, path: &[u8], why: Reason, out: &mut [u8]) {
+    cannot(rt, b"cannot read ", path, why, out);
 }
