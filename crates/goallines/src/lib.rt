@@ -1,19 +1,22 @@
 // Goals from a file or from standard input, one to a line; the last may have no line feed. A buffer is lent for the lines.
+#![tactic(auto)]
+
+use console::{Reason, Stream};
 use lex::fact::Head;
 use linecut::line_end;
 use reading::Got;
 
-// A line; a part of one that fills the buffer, which goes on; the last line; or the reading failed.
-#[derive(Drop)]
+// A line; a part of one that fills the buffer, which goes on; the last line; or the reading failed, and why.
+#[derive(Clone, Copy)]
 pub enum Kind {
     Line,
     Part,
     Last,
-    Failed,
+    Failed(Reason),
 }
 
 // Some bytes of the buffer, and up to where there are more behind them that are read and not yet looked at.
-#[derive(Drop)]
+#[derive(Clone, Copy)]
 pub struct Piece {
     pub start: usize,
     pub end: usize,
@@ -24,7 +27,7 @@ pub struct Piece {
 
 // Where the reading stands: bytes that are read and not yet looked at, from a place up to another; how many lines are above; whether this is
 // inside of a line that is too long; and whether it goes on.
-#[derive(Drop)]
+#[derive(Clone, Copy)]
 pub struct Place {
     pub from: usize,
     pub to: usize,
@@ -50,7 +53,7 @@ pub fn has_line(buf: &[u8], place: Place) -> bool {
 }
 
 // The next piece, of which some bytes may be read already.
-pub fn next_piece(fd: i32, buf: &mut [u8], place: Place) -> Piece {
+pub fn next_piece(stream: &mut Stream, buf: &mut [u8], place: Place) -> Piece {
     let from = place.from;
     let to = place.to;
     let end = line_end(buf, from, to);
@@ -64,14 +67,14 @@ pub fn next_piece(fd: i32, buf: &mut [u8], place: Place) -> Piece {
         };
     }
     let have = linecut::move_front(buf, from, to);
-    read_piece(fd, buf, have)
+    read_piece(stream, buf, have)
 }
 
 // The piece that begins at the front of the buffer, of which so many bytes are there and none of them is a line feed.
-fn read_piece(fd: i32, buf: &mut [u8], have: usize) -> Piece {
+fn read_piece(stream: &mut Stream, buf: &mut [u8], have: usize) -> Piece {
     let mut to = have;
     while to < buf.len() {
-        match reading::read_behind(fd, buf, to) {
+        match reading::read_behind(stream, buf, to) {
             Got::Bytes(n) => {
                 let all = reading::ahead(to, n, buf.len());
                 let end = line_end(buf, to, all);
@@ -89,8 +92,8 @@ fn read_piece(fd: i32, buf: &mut [u8], have: usize) -> Piece {
                 }
                 to = all;
             }
-            Got::Failed => {
-                return whole(to, Kind::Failed);
+            Got::Failed(why) => {
+                return whole(to, Kind::Failed(why));
             }
         }
     }
@@ -139,15 +142,16 @@ fn goes_on(kind: Kind) -> bool {
         Kind::Line => true,
         Kind::Part => true,
         Kind::Last => false,
-        Kind::Failed => false,
+        Kind::Failed(_) => false,
     }
 }
 
-pub fn is_failed(piece: Piece) -> bool {
+// Why the reading failed, where it did.
+pub fn failure(piece: Piece) -> Option<Reason> {
     let kind = piece.kind;
     match kind {
-        Kind::Failed => true,
-        _ => false,
+        Kind::Failed(why) => Some(why),
+        _ => None,
     }
 }
 
@@ -159,7 +163,7 @@ pub fn is_goal(buf: &[u8], piece: Piece, place: Place) -> bool {
     let kind = piece.kind;
     match kind {
         Kind::Part => true,
-        Kind::Failed => false,
+        Kind::Failed(_) => false,
         Kind::Line => stands(bytes_of(buf, piece)),
         Kind::Last => stands(bytes_of(buf, piece)),
     }
