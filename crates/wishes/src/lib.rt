@@ -1,9 +1,12 @@
 // What the arguments of the program ask ask for: options, then the file, then goals.
+#![tactic(auto)]
+
+use console::NAME;
 use lex::name::same_bytes;
 
 // What is printed: the answers to goals; these, and what they add up to; the plan as a tree, as a picture, or as Prolog; the plan that a file of
 // goals likes best; the help; the version; or nothing, since the arguments make no sense.
-#[derive(Drop)]
+#[derive(Clone, Copy)]
 pub enum Wish {
     Answers,
     Counts,
@@ -18,7 +21,7 @@ pub enum Wish {
 
 // What is printed, and which arguments are what: the list of known columns, the file of goals and the file of facts, 0 where there is none;
 // and the goals, from a first one up to an end.
-#[derive(Drop)]
+#[derive(Clone, Copy)]
 pub struct Asked {
     pub wish: Wish,
     pub known: usize,
@@ -176,9 +179,9 @@ fn alone(asked: Asked) -> Asked {
     }
 }
 
-fn argument(i: usize) -> Word {
-    let mut word = io::buffer();
-    let n = os::arg(i, &mut word);
+fn argument(rt: HostRuntime, i: usize) -> Word {
+    let mut word = [0u8; NAME];
+    let n = console::word(rt, i, &mut word);
     word_of(&word[..n])
 }
 
@@ -188,7 +191,7 @@ fn follows(asked: Asked, i: usize) -> bool {
 }
 
 // A call by the arguments from a first one up to an end. What stands after `--known` is its list, and after `--tune` its file, whatever it is.
-pub fn read(first: usize, end: usize) -> Asked {
+pub fn read(rt: HostRuntime, first: usize, end: usize) -> Asked {
     let mut asked = Asked {
         wish: Wish::Answers,
         known: 0,
@@ -201,7 +204,7 @@ pub fn read(first: usize, end: usize) -> Asked {
     while i < end {
         let next = i + 1;
         if !follows(asked, i) {
-            match argument(i) {
+            match argument(rt, i) {
                 Word::Prints(more) => {
                     asked = printing(asked, more);
                 }
