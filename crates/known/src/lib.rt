@@ -1,8 +1,11 @@
 // The columns that `--known` lists, columns as such a list, and what is said where one of them is not there.
+#![tactic(auto)]
+
 ghost use Rattle.std.specs.Prelude.{◌≡◌, ◌+◌};
 ghost use Rattle.octets.specs.Octets.{Put};
 ghost use Rattle.known.specs.Known.{step_of, Listing, next_text, list_text, column_line};
 
+use console::NAME;
 use message::put_number_of;
 use octets::cells::put_cell;
 use octets::{put_byte, put_decimal, put_word};
@@ -77,12 +80,12 @@ pub fn read_list(word: &[u8], columns: &mut [u32]) -> Listed
 }
 
 // The columns of the list that is an argument; none where it is argument 0. One that is too long for a name is no list.
-pub fn columns_of(i: usize, columns: &mut [u32]) -> Listed {
+pub fn columns_of(rt: HostRuntime, i: usize, columns: &mut [u32]) -> Listed {
     if i == 0 {
         return Listed::Columns(0);
     }
-    let mut word = io::buffer();
-    let n = os::arg(i, &mut word);
+    let mut word = [0u8; NAME];
+    let n = console::word(rt, i, &mut word);
     read_list(&word[..n], columns)
 }
 
@@ -130,9 +133,9 @@ pub fn put_column(out: &mut [u8], to: usize, list: &[u8], path: &[u8], width: us
 }
 
 // To standard error, of the list that is an argument.
-pub fn complain(i: usize, path: &[u8], width: usize, out: &mut [u8]) {
-    let mut word = io::buffer();
-    let n = os::arg(i, &mut word);
+pub fn complain(rt: HostRuntime, i: usize, path: &[u8], width: usize, out: &mut [u8]) {
+    let mut word = [0u8; NAME];
+    let n = console::word(rt, i, &mut word);
     let to = put_column(out, 0, &word[..n], path, width);
-    page::complain(out, to);
+    page::complain(rt, out, to);
 }

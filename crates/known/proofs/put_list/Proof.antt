@@ -8,54 +8,54 @@ use borrow.Author.Rules.{rules}
 use Rattle.known.proofs.put_list.Statement.{statement}
 use Rattle.known.proofs.put_list.Tie as tie
 
-abbrev invariant-loop : tie.invariant-loop
+abbrev invariant-loop : tie.invariant-loop-i
 invariant-loop out₀ to columns on₀ i₀ out on i =
     (i ≤ length columns) × Putting out₀ out to on (list_text i (drop i columns)) (list_text 0 columns)
 
-abbrev decreases-loop : tie.decreases-loop
+abbrev decreases-loop : tie.decreases-loop-i
 decreases-loop out₀ to columns on₀ i₀ out on i = length columns - i
 
-loop-holds : tie.Need-loop-init invariant-loop decreases-loop
+loop-holds : tie.Need-loop-i-init invariant-loop decreases-loop
 loop-holds c = (omega arith, put-begins)
 
-mul-number-of : tie.Need-overflow-mul-number-of invariant-loop decreases-loop
+mul-number-of : tie.Need-offset_bounds-columns-i invariant-loop decreases-loop
 mul-number-of c = search rules
 
-shared-slice-read-number-of : tie.Need-shared-slice-read-number-of invariant-loop decreases-loop
+shared-slice-read-number-of : tie.Need-bounds-columns-i invariant-loop decreases-loop
 shared-slice-read-number-of c = search rules
 
-number-of-requires : tie.Need-number-of-requires invariant-loop decreases-loop
+number-of-requires : tie.Need-number_of-requires invariant-loop decreases-loop
 number-of-requires c κs = search rules
 
-put-next-requires : tie.Need-put-next-requires invariant-loop decreases-loop
+put-next-requires : tie.Need-put_next-on-requires invariant-loop decreases-loop
 put-next-requires c κs = search rules
 
-add-i : tie.Need-overflow-add-i invariant-loop decreases-loop
+add-i : tie.Need-overflow_add-i invariant-loop decreases-loop
 add-i c = search rules
 
-loop-less : tie.Need-loop-smaller invariant-loop decreases-loop
+loop-less : tie.Need-loop-i-smaller invariant-loop decreases-loop
 loop-less c = search rules
 
-loop-again : tie.Need-loop-preserved invariant-loop decreases-loop
+loop-again : tie.Need-loop-i-preserved invariant-loop decreases-loop
 loop-again c =
     let p = c.before.before in
     let n = p.before in
-    let l = n.before.before.before.before.loop in
-    let columns = n.before.before.before.before.before.before.before.args.columns.now in
-    let put = rw n.number_of.ensures at p.put_next.ensures in
+    let l = n.loop-i in
+    let columns = n.args.columns.now in
+    let put = rw n.number_of.ensures at p.put_next-on.ensures in
     (omega arith, put-part (rw (list-next columns l.i (omega arith)) at l.invariant.1) put)
 
-same_length : tie.Need-same-length invariant-loop decreases-loop
-same_length c = put-length c.before.loop.invariant.1.puts
+same_length : tie.Need-shape_of-out invariant-loop decreases-loop
+same_length c = put-length c.loop-i.invariant.1.puts
 
 returns : tie.Need-returns invariant-loop decreases-loop
 returns c =
-    let l = c.before.loop in
-    let columns = c.before.before.before.before.args.columns.now in
+    let l = c.loop-i in
+    let columns = c.args.columns.now in
     put-ends (rw (list-end columns l.i (omega arith)) at l.invariant.1)
 
-pub put-list-spec : {M : Type 1} → statement M
-put-list-spec =
+pub put_list_spec : {M : Type 1} → statement M
+put_list_spec =
     tie.close
     (tie.spec
     invariant-loop
