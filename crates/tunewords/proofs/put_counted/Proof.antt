@@ -5,43 +5,25 @@ use borrow.Author.Rules.{rules}
 use Rattle.tunewords.proofs.put_counted.Statement.{statement}
 use Rattle.tunewords.proofs.put_counted.Tie as tie
 
-slice-aggregate-put-number-of : tie.Need-slice-aggregate-put-number-of
-slice-aggregate-put-number-of c = search rules
-
-slice-aggregate-put-number-of-2 : tie.Need-slice-aggregate-put-number-of-2
-slice-aggregate-put-number-of-2 c = search rules
-
-put-number-of-requires : tie.Need-put-number-of-requires
+put-number-of-requires : tie.Need-put_number_of-a-requires
 put-number-of-requires c κs = search rules
 
-put-decimal-requires : tie.Need-put-decimal-requires
+put-decimal-requires : tie.Need-put_decimal-b-requires
 put-decimal-requires c κs = search rules
 
-slice-aggregate-put-word : tie.Need-slice-aggregate-put-word
-slice-aggregate-put-word c = search rules
-
-put-word-requires : tie.Need-put-word-requires
+put-word-requires : tie.Need-put_word-c-requires
 put-word-requires c κs = search rules
 
-slice-aggregate-put-number-of-3 : tie.Need-slice-aggregate-put-number-of-3
-slice-aggregate-put-number-of-3 c = search rules
-
-slice-aggregate-put-number-of-4 : tie.Need-slice-aggregate-put-number-of-4
-slice-aggregate-put-number-of-4 c = search rules
-
-put-number-of-requires-2 : tie.Need-put-number-of-requires-2
+put-number-of-requires-2 : tie.Need-put_number_of-d-requires
 put-number-of-requires-2 c κs = search rules
 
-put-decimal-requires-2 : tie.Need-put-decimal-requires-2
+put-decimal-requires-2 : tie.Need-put_decimal-e-requires
 put-decimal-requires-2 c κs = search rules
 
-slice-aggregate-put-word-2 : tie.Need-slice-aggregate-put-word-2
-slice-aggregate-put-word-2 c = search rules
-
-put-word-requires-2 : tie.Need-put-word-requires-2
+put-word-requires-2 : tie.Need-put_word-requires
 put-word-requires-2 c κs = search rules
 
-same_length : tie.Need-same-length
+same_length : tie.Need-shape_of-out
 same_length c = search rules
 
 returns : tie.Need-returns
@@ -53,24 +35,18 @@ returns c =
     let c3 = c4.before.before.before.before.before.before in
     let c2 = c3.before.before.before.before.before in
     let c1 = c2.before.before.before.before in
-    put-put c1.put-number-of.ensures (put-put c2.put-decimal.ensures (put-put c3.put_word.ensures
-    (put-put c4.put-number-of2.ensures (put-put c5.put-decimal2.ensures c6.put-word2.ensures))))
+    put-put c1.put_number_of-a.ensures (put-put c2.put_decimal-b.ensures (put-put c3.put_word-c.ensures
+    (put-put c4.put_number_of-d.ensures (put-put c5.put_decimal-e.ensures c6.put_word.ensures))))
 
-pub put-counted-spec : {M : Type 1} → statement M
-put-counted-spec =
+pub put_counted_spec : {M : Type 1} → statement M
+put_counted_spec =
     tie.close
     (tie.spec
-    slice-aggregate-put-number-of
-    slice-aggregate-put-number-of-2
     put-number-of-requires
     put-decimal-requires
-    slice-aggregate-put-word
     put-word-requires
-    slice-aggregate-put-number-of-3
-    slice-aggregate-put-number-of-4
     put-number-of-requires-2
     put-decimal-requires-2
-    slice-aggregate-put-word-2
     put-word-requires-2
     same_length
     returns)

@@ -4,47 +4,39 @@ use borrow.Author.Rules.{rules}
 use Rattle.tunewords.proofs.put_reason.Statement.{statement}
 use Rattle.tunewords.proofs.put_reason.Tie as tie
 
-enum_told : tie.Need-enum-told
+enum_told : tie.Need-enum_told-1
 enum_told c = search rules
 
-slice-aggregate-put-word : tie.Need-slice-aggregate-put-word
-slice-aggregate-put-word c = search rules
-
-put-word-requires : tie.Need-put-word-requires
+put-word-requires : tie.Need-put_word-requires
 put-word-requires c κs = search rules
 
-enum-told-2 : tie.Need-enum-told-2
+enum-told-2 : tie.Need-enum_told-in-Cells
 enum-told-2 c = search rules
 
-slice-aggregate-put-word-2 : tie.Need-slice-aggregate-put-word-2
-slice-aggregate-put-word-2 c = search rules
-
-put-word-requires-2 : tie.Need-put-word-requires-2
+put-word-requires-2 : tie.Need-put_word-requires-in-Cells
 put-word-requires-2 c κs = search rules
 
-same_length : tie.Need-same-length
+same_length : tie.Need-shape_of-out-in-Goals
 same_length c = search rules
 
-returns : tie.Need-returns
+returns : tie.Need-returns-in-Goals
 unfolding ascii full_reason
-returns c = rw c.before.before.before.before.before.enum_told.given.1 c.before.before.put_word.ensures
+returns c = rw c.in-Goals.is c.put_word.ensures
 
-same-length-2 : tie.Need-same-length-2
+same-length-2 : tie.Need-shape_of-out-in-Cells
 same-length-2 c = search rules
 
-returns-2 : tie.Need-returns-2
+returns-2 : tie.Need-returns-in-Cells
 unfolding ascii full_reason
-returns-2 c = rw c.before.before.before.before.before.enum-told2.given.1 c.before.before.put-word2.ensures
+returns-2 c = rw c.in-Cells.is c.put_word-in-Cells.ensures
 
-pub put-reason-spec : {M : Type 1} → statement M
-put-reason-spec =
+pub put_reason_spec : {M : Type 1} → statement M
+put_reason_spec =
     tie.close
     (tie.spec
     enum_told
-    slice-aggregate-put-word
     put-word-requires
     enum-told-2
-    slice-aggregate-put-word-2
     put-word-requires-2
     same_length
     returns
