@@ -1,7 +1,10 @@
 // The goals of a file, one to a line, gathered in two lent rooms. One that is refused is said and left out; that the file cannot be read, or has
 // more goals than there is room for, is said too.
+#![tactic(auto)]
+
 use answer::RunAnswer;
 use askgoal::{Found, Ready};
+use console::{Reason, Stream};
 use goallines::{Piece, Place};
 use goallist::{Added, Full, Held};
 use limits::BRANCHES;
@@ -10,16 +13,16 @@ use refusal::Refusal;
 use shop::Shop;
 use slices::cells::part;
 
-// All goals are gathered; the file cannot be read; or there is no room for one.
-#[derive(Drop)]
+// All goals are gathered; the file cannot be read, and why; or there is no room for one.
+#[derive(Clone, Copy)]
 pub enum Came {
     All,
-    Failed,
+    Failed(Reason),
     Over(Full),
 }
 
 // Where the reading stands, what is gathered, how many goals are refused, whether it goes on, and how it came out.
-#[derive(Drop)]
+#[derive(Clone, Copy)]
 pub struct Stand {
     pub place: Place,
     pub held: Held,
@@ -42,7 +45,8 @@ fn first() -> Stand {
 // The goals of an open file of that name. Each is read and asked as `ask` does, so that those are refused which it refuses. The buffer has one
 // byte more than a goal may have, so that too long a line is seen to be one.
 pub fn gather(
-    fd: i32,
+    rt: HostRuntime,
+    stream: &mut Stream,
     jobs: &[u8],
     text: &[u8],
     kept: &[u32],
@@ -56,15 +60,16 @@ pub fn gather(
     let mut numbers = [0u64; BRANCHES];
     let ready = askgoal::make_ready(kept, shop, &mut numbers);
     let last = gather_lines(
-        fd, jobs, text, kept, &numbers, ready, &mut buf, cells, list, room, out,
+        rt, stream, jobs, text, kept, &numbers, ready, &mut buf, cells, list, room, out,
     );
-    say(jobs, last, out);
+    say(rt, jobs, last, out);
     last
 }
 
 // There is an end to every file.
 fn gather_lines(
-    fd: i32,
+    rt: HostRuntime,
+    stream: &mut Stream,
     jobs: &[u8],
     text: &[u8],
     kept: &[u32],
@@ -81,7 +86,7 @@ fn gather_lines(
     while 0 < turns && stand.open {
         turns -= 1;
         stand = gather_next(
-            fd, jobs, text, kept, numbers, ready, buf, stand, cells, list, room, out,
+            rt, stream, jobs, text, kept, numbers, ready, buf, stand, cells, list, room, out,
         );
     }
     stand
@@ -89,7 +94,8 @@ fn gather_lines(
 
 // The next line, or a part of one.
 fn gather_next(
-    fd: i32,
+    rt: HostRuntime,
+    stream: &mut Stream,
     jobs: &[u8],
     text: &[u8],
     kept: &[u32],
@@ -102,13 +108,14 @@ fn gather_next(
     room: &mut [u32],
     out: &mut [u8],
 ) -> Stand {
-    let piece = goallines::next_piece(fd, buf, stand.place);
+    let piece = goallines::next_piece(stream, buf, stand.place);
     gather_piece(
-        jobs, text, kept, numbers, ready, buf, piece, stand, cells, list, room, out,
+        rt, jobs, text, kept, numbers, ready, buf, piece, stand, cells, list, room, out,
     )
 }
 
 fn gather_piece(
+    rt: HostRuntime,
     jobs: &[u8],
     text: &[u8],
     kept: &[u32],
@@ -127,11 +134,12 @@ fn gather_piece(
     }
     let goal = goallines::bytes_of(buf, piece);
     let found = askgoal::find(text, kept, numbers, ready, goal, room);
-    let with = gather_goal(jobs, goal, found, stand, cells, list, out);
+    let with = gather_goal(rt, jobs, goal, found, stand, cells, list, out);
     after(with, piece)
 }
 
 fn gather_goal(
+    rt: HostRuntime,
     jobs: &[u8],
     goal: &[u8],
     found: Found,
@@ -143,7 +151,7 @@ fn gather_goal(
     let answer = found.answer;
     match answer {
         RunAnswer::Ran(_, _) => keep(found, stand, cells, list),
-        RunAnswer::Refused(f) => refuse(jobs, goal, f, stand, out),
+        RunAnswer::Refused(f) => refuse(rt, jobs, goal, f, stand, out),
     }
 }
 
@@ -168,12 +176,19 @@ fn with_goal(stand: Stand, held: Held) -> Stand {
 }
 
 // Why a goal is refused, to standard error.
-fn refuse(jobs: &[u8], goal: &[u8], f: Refusal, stand: Stand, out: &mut [u8]) -> Stand {
+fn refuse(
+    rt: HostRuntime,
+    jobs: &[u8],
+    goal: &[u8],
+    f: Refusal,
+    stand: Stand,
+    out: &mut [u8],
+) -> Stand {
     let place = stand.place;
     let held = stand.held;
     let a = octets::put_word(out, 0, jobs);
     let b = refusals::put_refusal(out, a, goal, place.above, Whose::Goal, f);
-    page::complain(out, b);
+    page::complain(rt, out, b);
     Stand {
         place,
         held,
@@ -201,8 +216,8 @@ fn after(stand: Stand, piece: Piece) -> Stand {
     if !stand.open {
         return stand;
     }
-    if goallines::is_failed(piece) {
-        return ended(stand, Came::Failed);
+    if let Some(why) = goallines::failure(piece) {
+        return ended(stand, Came::Failed(why));
     }
     let held = stand.held;
     let place = goallines::after(stand.place, piece);
@@ -216,20 +231,20 @@ fn after(stand: Stand, piece: Piece) -> Stand {
 }
 
 // How it came out, where not all is gathered: to standard error.
-fn say(jobs: &[u8], last: Stand, out: &mut [u8]) {
+fn say(rt: HostRuntime, jobs: &[u8], last: Stand, out: &mut [u8]) {
     let came = last.came;
     match came {
         Came::All => {}
-        Came::Failed => reading::cannot_read(jobs, out),
-        Came::Over(full) => over(jobs, last.place, full, out),
+        Came::Failed(why) => reading::cannot_read(rt, jobs, why, out),
+        Came::Over(full) => over(rt, jobs, last.place, full, out),
     }
 }
 
 // There is no room for the goal at a place.
-fn over(jobs: &[u8], place: Place, full: Full, out: &mut [u8]) {
+fn over(rt: HostRuntime, jobs: &[u8], place: Place, full: Full, out: &mut [u8]) {
     let line = marks::further(place.above, 1);
     let n = tunewords::put_full(out, 0, jobs, line, full);
-    page::complain(out, n);
+    page::complain(rt, out, n);
 }
 
 pub fn is_whole(last: Stand) -> bool {
