@@ -1,29 +1,31 @@
 // Calls of a program whose output is stored, all in one run: their arguments stand one after another, and a `;` after those of each.
+#![tactic(auto)]
+
+use console::NAME;
 use lex::name::same_bytes;
-use libc::STDOUT_FILENO;
 
 // Whether an argument ends a call.
-pub fn ends(i: usize) -> bool {
-    let mut word = io::buffer();
-    let n = os::arg(i, &mut word);
+pub fn ends(rt: HostRuntime, i: usize) -> bool {
+    let mut word = [0u8; NAME];
+    let n = console::word(rt, i, &mut word);
     same_bytes(&word[..n], b";")
 }
 
 // A line with a call: the program's name, and the arguments from a first one up to an end.
-pub fn print(name: &[u8], first: usize, end: usize) {
-    io::write_all(STDOUT_FILENO, b"$ ");
-    io::write_all(STDOUT_FILENO, name);
+pub fn print(rt: HostRuntime, name: &[u8], first: usize, end: usize) {
+    console::say(rt, b"$ ");
+    console::say(rt, name);
     let mut i = first;
     while i < end {
-        print_word(i);
+        print_word(rt, i);
         i += 1;
     }
-    io::write_all(STDOUT_FILENO, b"\n");
+    console::say(rt, b"\n");
 }
 
-fn print_word(i: usize) {
-    let mut word = io::buffer();
-    let n = os::arg(i, &mut word);
-    io::write_all(STDOUT_FILENO, b" ");
-    io::write_all(STDOUT_FILENO, &word[..n]);
+fn print_word(rt: HostRuntime, i: usize) {
+    let mut word = [0u8; NAME];
+    let n = console::word(rt, i, &mut word);
+    console::say(rt, b" ");
+    console::say(rt, &word[..n]);
 }
