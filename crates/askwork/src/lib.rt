@@ -1,4 +1,6 @@
 // What the program ask does with its file: its rules are loaded, and what is asked of them is printed.
+#![tactic(auto)]
+
 use askall::Goals;
 use clauses::HandAnswer;
 use page::Page;
@@ -9,6 +11,7 @@ use wishes::{Asked, Wish};
 // A file with this name and text, and columns that are known. Lent are a room for answers and, before them, for the table, one for what is kept of
 // the file, and one for what is printed.
 pub fn answer(
+    rt: HostRuntime,
     path: &[u8],
     text: &[u8],
     asked: Asked,
@@ -18,12 +21,13 @@ pub fn answer(
     out: &mut [u8],
 ) {
     match shop::load_for(text, columns, room, kept) {
-        Loaded::Kept(shop) => show(path, text, kept, shop, asked, room, out),
-        Loaded::Refused(f) => refuse(path, text, asked.known, f, out),
+        Loaded::Kept(shop) => show(rt, path, text, kept, shop, asked, room, out),
+        Loaded::Refused(f) => refuse(rt, path, text, asked.known, f, out),
     }
 }
 
 fn show(
+    rt: HostRuntime,
     path: &[u8],
     text: &[u8],
     kept: &mut [u32],
@@ -35,12 +39,12 @@ fn show(
     let wish = asked.wish;
     match wish {
         Wish::Answers | Wish::Counts => {
-            askall::answer_all(text, &*kept, shop, goals_of(asked), room, out)
+            askall::answer_all(rt, text, &*kept, shop, goals_of(asked), room, out)
         }
-        Wish::Tree => show_tree(text, &*kept, shop, out),
-        Wish::Picture => show_picture(text, &*kept, shop, out),
-        Wish::Clauses => show_clauses(path, text, &*kept, shop, out),
-        Wish::Tuned => tune::answer(asked.jobs, path, text, kept, shop, room, out),
+        Wish::Tree => show_tree(rt, text, &*kept, shop, out),
+        Wish::Picture => show_picture(rt, text, &*kept, shop, out),
+        Wish::Clauses => show_clauses(rt, path, text, &*kept, shop, out),
+        Wish::Tuned => tune::answer(rt, asked.jobs, path, text, kept, shop, room, out),
         Wish::Help | Wish::Version | Wish::Nothing => {}
     }
 }
@@ -61,20 +65,28 @@ fn counts(wish: Wish) -> bool {
     }
 }
 
-fn show_tree(text: &[u8], kept: &[u32], shop: Shop, out: &mut [u8]) {
-    let last = treetext::print(text, kept, shop, out, page::blank());
-    page::flush(out, last);
+fn show_tree(rt: HostRuntime, text: &[u8], kept: &[u32], shop: Shop, out: &mut [u8]) {
+    let last = treetext::print(rt, text, kept, shop, out, page::blank());
+    page::flush(rt, out, last);
 }
 
-fn show_picture(text: &[u8], kept: &[u32], shop: Shop, out: &mut [u8]) {
-    let last = dottext::print(text, kept, shop, out, page::blank());
-    page::flush(out, last);
+fn show_picture(rt: HostRuntime, text: &[u8], kept: &[u32], shop: Shop, out: &mut [u8]) {
+    let last = dottext::print(rt, text, kept, shop, out, page::blank());
+    page::flush(rt, out, last);
 }
 
-fn show_clauses(path: &[u8], text: &[u8], kept: &[u32], shop: Shop, out: &mut [u8]) {
+fn show_clauses(
+    rt: HostRuntime,
+    path: &[u8],
+    text: &[u8],
+    kept: &[u32],
+    shop: Shop,
+    out: &mut [u8],
+) {
     match clausetext::put_clauses(out, text, kept, shop) {
         HandAnswer::Handed(_, bytes) => {
             page::flush(
+                rt,
                 out,
                 Page {
                     to: bytes,
@@ -82,17 +94,17 @@ fn show_clauses(path: &[u8], text: &[u8], kept: &[u32], shop: Shop, out: &mut [u
                 },
             );
         }
-        HandAnswer::Refused(f) => refuse(path, text, 0, f, out),
+        HandAnswer::Refused(f) => refuse(rt, path, text, 0, f, out),
     }
 }
 
 // Why a file is not taken, or why a list of known columns is not.
-fn refuse(path: &[u8], text: &[u8], list: usize, f: Refusal, out: &mut [u8]) {
+fn refuse(rt: HostRuntime, path: &[u8], text: &[u8], list: usize, f: Refusal, out: &mut [u8]) {
     let reason = f.reason;
     if refusal::number_of(reason) == known::COLUMN {
-        known::complain(list, path, shop::width_of(text), out);
+        known::complain(rt, list, path, shop::width_of(text), out);
         return;
     }
     let n = refusals::put_facts_refusal(out, path, text, f);
-    page::complain(out, n);
+    page::complain(rt, out, n);
 }
