@@ -6,111 +6,87 @@ use borrow.Author.Rules.{rules}
 use Rattle.cardreasons.proofs.put_plan_reason.Statement.{statement}
 use Rattle.cardreasons.proofs.put_plan_reason.Tie as tie
 
-slice-aggregate-put-word : tie.Need-slice-aggregate-put-word
-slice-aggregate-put-word c = search rules
-
-put-word-requires : tie.Need-put-word-requires
+put-word-requires : tie.Need-put_word-requires
 put-word-requires c κs = search rules
 
-slice-aggregate-put-word-2 : tie.Need-slice-aggregate-put-word-2
-slice-aggregate-put-word-2 c = search rules
-
-put-word-requires-2 : tie.Need-put-word-requires-2
+put-word-requires-2 : tie.Need-put_word-requires-in-11
 put-word-requires-2 c κs = search rules
 
-slice-aggregate-put-word-3 : tie.Need-slice-aggregate-put-word-3
-slice-aggregate-put-word-3 c = search rules
-
-put-word-requires-3 : tie.Need-put-word-requires-3
+put-word-requires-3 : tie.Need-put_word-requires-in-12
 put-word-requires-3 c κs = search rules
 
-slice-aggregate-put-word-4 : tie.Need-slice-aggregate-put-word-4
-slice-aggregate-put-word-4 c = search rules
-
-put-word-requires-4 : tie.Need-put-word-requires-4
+put-word-requires-4 : tie.Need-put_word-requires-in-13
 put-word-requires-4 c κs = search rules
 
-slice-aggregate-put-word-5 : tie.Need-slice-aggregate-put-word-5
-slice-aggregate-put-word-5 c = search rules
-
-put-word-requires-5 : tie.Need-put-word-requires-5
+put-word-requires-5 : tie.Need-put_word-requires-in-14
 put-word-requires-5 c κs = search rules
 
-slice-aggregate-put-word-6 : tie.Need-slice-aggregate-put-word-6
-slice-aggregate-put-word-6 c = search rules
-
-put-word-requires-6 : tie.Need-put-word-requires-6
+put-word-requires-6 : tie.Need-put_word-requires-in-15
 put-word-requires-6 c κs = search rules
 
-put-table-reason-requires : tie.Need-put-table-reason-requires
+put-table-reason-requires : tie.Need-put_table_reason-requires
 put-table-reason-requires c κs = search rules
 
-same_length : tie.Need-same-length
+same_length : tie.Need-shape_of-out-in-10
 same_length c = search rules
 
-returns : tie.Need-returns
+returns : tie.Need-returns-in-10
 unfolding ascii card_reason plan_reason
-returns c = rw c.before.before.before.before.before.match.keys1 c.before.before.put_word.ensures
+returns c = rw c.in-10.is c.put_word.ensures
 
-same-length-2 : tie.Need-same-length-2
+same-length-2 : tie.Need-shape_of-out-in-11
 same-length-2 c = search rules
 
-returns-2 : tie.Need-returns-2
+returns-2 : tie.Need-returns-in-11
 unfolding ascii card_reason plan_reason
-returns-2 c = rw c.before.before.before.before.before.match.keys2 c.before.before.put-word2.ensures
+returns-2 c = rw c.in-11.is c.put_word-in-11.ensures
 
-same-length-3 : tie.Need-same-length-3
+same-length-3 : tie.Need-shape_of-out-in-12
 same-length-3 c = search rules
 
-returns-3 : tie.Need-returns-3
+returns-3 : tie.Need-returns-in-12
 unfolding ascii card_reason plan_reason
-returns-3 c = rw c.before.before.before.before.before.match.keys3 c.before.before.put-word3.ensures
+returns-3 c = rw c.in-12.is c.put_word-in-12.ensures
 
-same-length-4 : tie.Need-same-length-4
+same-length-4 : tie.Need-shape_of-out-in-13
 same-length-4 c = search rules
 
-returns-4 : tie.Need-returns-4
+returns-4 : tie.Need-returns-in-13
 unfolding ascii card_reason plan_reason
-returns-4 c = rw c.before.before.before.before.before.match.keys4 c.before.before.put-word4.ensures
+returns-4 c = rw c.in-13.is c.put_word-in-13.ensures
 
-same-length-5 : tie.Need-same-length-5
+same-length-5 : tie.Need-shape_of-out-in-14
 same-length-5 c = search rules
 
-returns-5 : tie.Need-returns-5
+returns-5 : tie.Need-returns-in-14
 unfolding ascii card_reason plan_reason
-returns-5 c = rw c.before.before.before.before.before.match.keys5 c.before.before.put-word5.ensures
+returns-5 c = rw c.in-14.is c.put_word-in-14.ensures
 
-same-length-6 : tie.Need-same-length-6
+same-length-6 : tie.Need-shape_of-out-in-15
 same-length-6 c = search rules
 
-returns-6 : tie.Need-returns-6
+returns-6 : tie.Need-returns-in-15
 unfolding ascii card_reason plan_reason
-returns-6 c = rw c.before.before.before.before.before.match.keys6 c.before.before.put-word6.ensures
+returns-6 c = rw c.in-15.is c.put_word-in-15.ensures
 
-same-length-7 : tie.Need-same-length-7
+same-length-7 : tie.Need-shape_of-out-in_default
 same-length-7 c = search rules
 
-returns-7 : tie.Need-returns-7
+returns-7 : tie.Need-returns-in_default
 returns-7 c =
-    let m = c.before.before.before.before.match in
+    let m = c.in_default.in_default-own in
     rw (plan-other _ m.rest.0.0.0.0.0.1 m.rest.0.0.0.0.1 m.rest.0.0.0.1 m.rest.0.0.1 m.rest.0.1 m.rest.1)
-    c.before.before.put-table-reason.ensures
+    c.put_table_reason.ensures
 
-pub put-plan-reason-spec : {M : Type 1} → statement M
-put-plan-reason-spec =
+pub put_plan_reason_spec : {M : Type 1} → statement M
+put_plan_reason_spec =
     tie.close
     (tie.spec
-    slice-aggregate-put-word
     put-word-requires
-    slice-aggregate-put-word-2
     put-word-requires-2
-    slice-aggregate-put-word-3
     put-word-requires-3
-    slice-aggregate-put-word-4
     put-word-requires-4
-    slice-aggregate-put-word-5
     put-word-requires-5
-    slice-aggregate-put-word-6
     put-word-requires-6
     put-table-reason-requires
     same_length
