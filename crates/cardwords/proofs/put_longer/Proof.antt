@@ -4,19 +4,16 @@ use borrow.Author.Rules.{rules}
 use Rattle.cardwords.proofs.put_longer.Statement.{statement}
 use Rattle.cardwords.proofs.put_longer.Tie as tie
 
-slice-aggregate-put-word : tie.Need-slice-aggregate-put-word
-slice-aggregate-put-word c = search rules
-
-put-word-requires : tie.Need-put-word-requires
+put-word-requires : tie.Need-put_word-requires
 put-word-requires c κs = search rules
 
-same_length : tie.Need-same-length
+same_length : tie.Need-shape_of-out
 same_length c = search rules
 
 returns : tie.Need-returns
 unfolding ascii longer_line
-returns c = c.before.before.put_word.ensures
+returns c = c.put_word.ensures
 
-pub put-longer-spec : {M : Type 1} → statement M
-put-longer-spec =
-    tie.close (tie.spec slice-aggregate-put-word put-word-requires same_length returns)
+pub put_longer_spec : {M : Type 1} → statement M
+put_longer_spec =
+    tie.close (tie.spec put-word-requires same_length returns)
