@@ -6,50 +6,39 @@ use borrow.Author.Rules.{rules}
 use Rattle.mendwords.proofs.put_dropped.Statement.{statement}
 use Rattle.mendwords.proofs.put_dropped.Tie as tie
 
-returns : tie.Need-returns
+returns : tie.Need-returns-then-count-kept
 unfolding dropped_text
-returns c = rw (le-leb _ _ c.if1.true) put-nothing
+returns c = rw (le-leb _ _ c.if-count-kept.true) put-nothing
 
-slice-aggregate-put-word : tie.Need-slice-aggregate-put-word
-slice-aggregate-put-word c = search rules
-
-put-word-requires : tie.Need-put-word-requires
+put-word-requires : tie.Need-put_word-a-requires
 put-word-requires c κs = search rules
 
-sub-put-decimal : tie.Need-overflow-sub-put-decimal
+sub-put-decimal : tie.Need-overflow_sub-count
 sub-put-decimal c = search rules
 
-put-decimal-requires : tie.Need-put-decimal-requires
+put-decimal-requires : tie.Need-put_decimal-b-requires
 put-decimal-requires c κs = search rules
 
-slice-aggregate-put-word-2 : tie.Need-slice-aggregate-put-word-2
-slice-aggregate-put-word-2 c = search rules
-
-put-word-requires-2 : tie.Need-put-word-requires-2
+put-word-requires-2 : tie.Need-put_word-requires
 put-word-requires-2 c κs = search rules
 
-same_length : tie.Need-same-length
+same_length : tie.Need-shape_of-out
 same_length c = search rules
 
-returns-2 : tie.Need-returns-2
+returns-2 : tie.Need-returns
 unfolding ascii dropped_text
 returns-2 c =
-    let c3 = c.before.before in
-    let c2 = c3.before.before.before.before.before in
-    let c1 = c2.before.before.before.before in
-    rw (lt-leb _ _ c1.before.before.before.if1.false)
-    (put-put c1.put_word.ensures (put-put c2.put-decimal.ensures c3.put-word2.ensures))
+    rw (lt-leb _ _ c.if-count-kept.false)
+    (put-put c.put_word-a.ensures (put-put c.put_decimal-b.ensures c.put_word.ensures))
 
-pub put-dropped-spec : {M : Type 1} → statement M
-put-dropped-spec =
+pub put_dropped_spec : {M : Type 1} → statement M
+put_dropped_spec =
     tie.close
     (tie.spec
     returns
-    slice-aggregate-put-word
     put-word-requires
     sub-put-decimal
     put-decimal-requires
-    slice-aggregate-put-word-2
     put-word-requires-2
     same_length
     returns-2)

@@ -5,26 +5,21 @@ use borrow.Author.Rules.{rules}
 use Rattle.mendwords.proofs.put_other.Statement.{statement}
 use Rattle.mendwords.proofs.put_other.Tie as tie
 
-slice-aggregate-put-word : tie.Need-slice-aggregate-put-word
-slice-aggregate-put-word c = search rules
-
-put-word-requires : tie.Need-put-word-requires
+put-word-requires : tie.Need-put_word-a-requires
 put-word-requires c κs = search rules
 
-put-decimal-requires : tie.Need-put-decimal-requires
+put-decimal-requires : tie.Need-put_decimal-requires
 put-decimal-requires c κs = search rules
 
-same_length : tie.Need-same-length
+same_length : tie.Need-shape_of-out
 same_length c = search rules
 
 returns : tie.Need-returns
 unfolding ascii other_text
 returns c =
-    let c2 = c.before.before in
-    let c1 = c2.before.before.before.before in
-    put-put c1.put_word.ensures c2.put-decimal.ensures
+    put-put c.put_word-a.ensures c.put_decimal.ensures
 
-pub put-other-spec : {M : Type 1} → statement M
-put-other-spec =
+pub put_other_spec : {M : Type 1} → statement M
+put_other_spec =
     tie.close
-    (tie.spec slice-aggregate-put-word put-word-requires put-decimal-requires same_length returns)
+    (tie.spec put-word-requires put-decimal-requires same_length returns)

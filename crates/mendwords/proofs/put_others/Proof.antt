@@ -8,48 +8,48 @@ use borrow.Author.Rules.{rules}
 use Rattle.mendwords.proofs.put_others.Statement.{statement}
 use Rattle.mendwords.proofs.put_others.Tie as tie
 
-abbrev invariant-loop : tie.invariant-loop
+abbrev invariant-loop : tie.invariant-loop-i
 invariant-loop out₀ to numbers on₀ i₀ out on i = (i ≤ length numbers) × Putting out₀ out to on (others_text (drop i numbers)) (others_text numbers)
 
-abbrev decreases-loop : tie.decreases-loop
+abbrev decreases-loop : tie.decreases-loop-i
 decreases-loop out₀ to numbers on₀ i₀ out on i = length numbers - i
 
-loop-holds : tie.Need-loop-init invariant-loop decreases-loop
+loop-holds : tie.Need-loop-i-init invariant-loop decreases-loop
 loop-holds c = (omega arith, put-begins)
 
-mul-put-other : tie.Need-overflow-mul-put-other invariant-loop decreases-loop
+mul-put-other : tie.Need-offset_bounds-numbers-i invariant-loop decreases-loop
 mul-put-other c = search rules
 
-shared-slice-read-put-other : tie.Need-shared-slice-read-put-other invariant-loop decreases-loop
+shared-slice-read-put-other : tie.Need-bounds-numbers-i invariant-loop decreases-loop
 shared-slice-read-put-other c = search rules
 
-put-other-requires : tie.Need-put-other-requires invariant-loop decreases-loop
+put-other-requires : tie.Need-put_other-on-requires invariant-loop decreases-loop
 put-other-requires c κs = search rules
 
-add-i : tie.Need-overflow-add-i invariant-loop decreases-loop
+add-i : tie.Need-overflow_add-i invariant-loop decreases-loop
 add-i c = search rules
 
-loop-less : tie.Need-loop-smaller invariant-loop decreases-loop
+loop-less : tie.Need-loop-i-smaller invariant-loop decreases-loop
 loop-less c = search rules
 
-loop-again : tie.Need-loop-preserved invariant-loop decreases-loop
+loop-again : tie.Need-loop-i-preserved invariant-loop decreases-loop
 loop-again c =
-    let l = c.before.before.before.before.before.before.loop in
-    let numbers = c.before.before.before.before.before.before.before.before.before.args.numbers.now in
+    let l = c.loop-i in
+    let numbers = c.args.numbers.now in
     let next = others-on numbers l.i (omega arith) in
-    (omega arith, put-part (rw next at l.invariant.1) c.before.before.put_other.ensures)
+    (omega arith, put-part (rw next at l.invariant.1) c.put_other-on.ensures)
 
-same_length : tie.Need-same-length invariant-loop decreases-loop
-same_length c = put-length c.before.loop.invariant.1.puts
+same_length : tie.Need-shape_of-out invariant-loop decreases-loop
+same_length c = put-length c.loop-i.invariant.1.puts
 
 returns : tie.Need-returns invariant-loop decreases-loop
 returns c =
-    let l = c.before.loop in
-    let numbers = c.before.before.before.before.args.numbers.now in
+    let l = c.loop-i in
+    let numbers = c.args.numbers.now in
     put-ends (rw (others-done numbers l.i (omega arith)) at l.invariant.1)
 
-pub put-others-spec : {M : Type 1} → statement M
-put-others-spec =
+pub put_others_spec : {M : Type 1} → statement M
+put_others_spec =
     tie.close
     (tie.spec
     invariant-loop
