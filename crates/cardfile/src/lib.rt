@@ -1,76 +1,73 @@
 // A card written to a file: under another name first, and renamed when it is whole, so that a write that fails leaves the old card.
+#![tactic(auto)]
+
+use console::Reason;
 use octets::put_word;
 use reading::cannot;
+use std::fs::File;
 
 // The other name is longer by four bytes. Whether the card is there; what failed is said.
-pub fn write_card(path: &[u8], card: &[u8], out: &mut [u8]) -> bool {
-    if !may_replace(path) {
-        cannot(b"cannot replace ", path, out);
+pub fn write_card(rt: HostRuntime, path: &[u8], card: &[u8], out: &mut [u8]) -> bool {
+    if let Err(why) = may_replace(rt, path) {
+        cannot(rt, b"cannot replace ", path, why, out);
         return false;
     }
     let mut name = [0u8; 4128];
     let a = put_word(&mut name, 0, path);
     let b = put_word(&mut name, a, b".new");
-    write_beside(slices::bytes::part(&name, 0, b), path, card, out)
+    write_beside(rt, slices::bytes::part(&name, 0, b), path, card, out)
 }
 
 // Nothing, or a file. A folder cannot be opened so, and what is no file, as a device, cannot be given a length, not even its own. Renaming would
 // put a file in its place.
-fn may_replace(path: &[u8]) -> bool {
-    let fd = os::open_update(path);
-    if fd < 0 {
-        return os::errno() == libc::ENOENT;
+fn may_replace(rt: HostRuntime, path: &[u8]) -> Result<(), Reason> {
+    match console::open_update(rt, path) {
+        Ok(mut file) => console::keep_length(&mut file),
+        Err(why) => {
+            if console::is_no_file(why) {
+                return Ok(());
+            }
+            Err(why)
+        }
     }
-    let length = libc::lseek(fd, 0, libc::SEEK_END);
-    if libc::ftruncate(fd, length) < 0 {
-        // errno is said after this, and a close that succeeds leaves it
-        libc::close(fd);
-        return false;
-    }
-    libc::close(fd);
-    true
 }
 
 // A file that has the other name already is not touched.
-fn write_beside(name: &[u8], path: &[u8], card: &[u8], out: &mut [u8]) -> bool {
-    let fd = os::create(name);
-    if fd < 0 {
-        cannot(b"cannot make ", name, out);
+fn write_beside(rt: HostRuntime, name: &[u8], path: &[u8], card: &[u8], out: &mut [u8]) -> bool {
+    match console::create(rt, name) {
+        Ok(file) => write_into(rt, file, name, path, card, out),
+        Err(why) => {
+            cannot(rt, b"cannot make ", name, why, out);
+            false
+        }
+    }
+}
+
+// All of the card, as far as its device, and the file closed, which is then renamed. The first of these that fails is said, with its own reason,
+// and the other name is not left; std does not say whether the closing fails.
+fn write_into(
+    rt: HostRuntime,
+    file: File,
+    name: &[u8],
+    path: &[u8],
+    card: &[u8],
+    out: &mut [u8],
+) -> bool {
+    if let Err(why) = console::fill(file, card) {
+        cannot(rt, b"cannot write ", name, why, out);
+        remove(rt, name, out);
         return false;
     }
-    if !fill(fd, name, card, out) {
-        remove(name, out);
-        return false;
-    }
-    if os::rename(name, path) < 0 {
-        cannot(b"cannot replace ", path, out);
-        remove(name, out);
+    if let Err(why) = console::rename(rt, name, path) {
+        cannot(rt, b"cannot replace ", path, why, out);
+        remove(rt, name, out);
         return false;
     }
     true
 }
 
-// All of the card, as far as its device, and the file closed. The first of the three that fails is said, with its own reason.
-fn fill(fd: i32, name: &[u8], card: &[u8], out: &mut [u8]) -> bool {
-    if !io::write_all(fd, card) {
-        cannot(b"cannot write ", name, out);
-        libc::close(fd);
-        return false;
-    }
-    if libc::fsync(fd) < 0 {
-        cannot(b"cannot write ", name, out);
-        libc::close(fd);
-        return false;
-    }
-    if libc::close(fd) < 0 {
-        cannot(b"cannot write ", name, out);
-        return false;
-    }
-    true
-}
-
-fn remove(name: &[u8], out: &mut [u8]) {
-    if os::unlink(name) < 0 {
-        cannot(b"cannot remove ", name, out);
+fn remove(rt: HostRuntime, name: &[u8], out: &mut [u8]) {
+    if let Err(why) = console::remove(rt, name) {
+        cannot(rt, b"cannot remove ", name, why, out);
     }
 }
