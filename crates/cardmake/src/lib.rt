@@ -1,4 +1,6 @@
 // A card made of a file of facts: its table and the least plan, as bytes.
+#![tactic(auto)]
+
 use filing::FileAnswer;
 use reading::Got;
 use refusal::Refusal;
@@ -15,28 +17,29 @@ pub enum Made {
 }
 
 // One byte more is read than a text may have, so that too long a file is seen to be one.
-pub fn make(path: &[u8], card: &mut [u8], out: &mut [u8]) -> Made {
+pub fn make(rt: HostRuntime, path: &[u8], card: &mut [u8], out: &mut [u8]) -> Made {
     let mut text = [0u8; 65536];
-    match reading::read_path(path, &mut text) {
-        Got::Bytes(n) => load(path, slices::bytes::part(&text, 0, n), card, out),
-        Got::Failed => {
-            reading::cannot_read(path, out);
+    match reading::read_path(rt, path, &mut text) {
+        Got::Bytes(n) => load(rt, path, slices::bytes::part(&text, 0, n), card, out),
+        Got::Failed(why) => {
+            reading::cannot_read(rt, path, why, out);
             Made::Nothing
         }
     }
 }
 
-fn load(path: &[u8], text: &[u8], card: &mut [u8], out: &mut [u8]) -> Made {
+fn load(rt: HostRuntime, path: &[u8], text: &[u8], card: &mut [u8], out: &mut [u8]) -> Made {
     let mut room = [0u32; 65536];
     let mut kept = [0u32; 10244];
     match shop::load(text, &mut room, &mut kept) {
-        Loaded::Kept(shop) => write(path, text, &kept, shop, card, out),
-        Loaded::Refused(f) => refuse(path, text, f, out),
+        Loaded::Kept(shop) => write(rt, path, text, &kept, shop, card, out),
+        Loaded::Refused(f) => refuse(rt, path, text, f, out),
     }
 }
 
 // A least plan of a table that was read is not refused, and a room of 33,792 bytes is enough for every card.
 fn write(
+    rt: HostRuntime,
     path: &[u8],
     text: &[u8],
     kept: &[u32],
@@ -48,12 +51,12 @@ fn write(
     let plan = shop::plan_in(kept, shop);
     match filewriting::write_file(table, plan, card) {
         FileAnswer::Done(n, _) => Made::Card(n),
-        FileAnswer::Refused(f) => refuse(path, text, f, out),
+        FileAnswer::Refused(f) => refuse(rt, path, text, f, out),
     }
 }
 
-fn refuse(path: &[u8], text: &[u8], f: Refusal, out: &mut [u8]) -> Made {
+fn refuse(rt: HostRuntime, path: &[u8], text: &[u8], f: Refusal, out: &mut [u8]) -> Made {
     let n = refusals::put_facts_refusal(out, path, text, f);
-    page::complain(out, n);
+    page::complain(rt, out, n);
     Made::Nothing
 }
