@@ -1,4 +1,6 @@
 // What can be had of a bad card: what is reported of it, and a card made of that.
+#![tactic(auto)]
+
 ghost use Rattle.std.specs.Prelude.{◌+◌, ◌≤◌, length};
 ghost use Rattle.limits.specs.Limits.{most_rows};
 
@@ -21,35 +23,41 @@ pub enum Mended {
 
 // A file read, what is had of it reported, and a card made of that. One byte more is read than is looked at, 2,048 blocks, so that a longer file is
 // seen to be one.
-pub fn mend(path: &[u8], card: &mut [u8], out: &mut [u8]) -> Made {
+pub fn mend(rt: HostRuntime, path: &[u8], card: &mut [u8], out: &mut [u8]) -> Made {
     let mut file = [0u8; 1048577];
-    mend_file(path, &mut file, card, out)
+    mend_file(rt, path, &mut file, card, out)
 }
 
-fn mend_file(path: &[u8], file: &mut [u8], card: &mut [u8], out: &mut [u8]) -> Made {
-    match reading::read_path(path, file) {
-        Got::Bytes(n) => say(path, slices::bytes::part(file, 0, n), card, out),
-        Got::Failed => {
-            reading::cannot_read(path, out);
+fn mend_file(
+    rt: HostRuntime,
+    path: &[u8],
+    file: &mut [u8],
+    card: &mut [u8],
+    out: &mut [u8],
+) -> Made {
+    match reading::read_path(rt, path, file) {
+        Got::Bytes(n) => say(rt, path, slices::bytes::part(file, 0, n), card, out),
+        Got::Failed(why) => {
+            reading::cannot_read(rt, path, why, out);
             Made::Nothing
         }
     }
 }
 
-fn say(path: &[u8], file: &[u8], card: &mut [u8], out: &mut [u8]) -> Made {
+fn say(rt: HostRuntime, path: &[u8], file: &[u8], card: &mut [u8], out: &mut [u8]) -> Made {
     if 1048576 < file.len() {
         let a = put_word(out, 0, path);
         let b = cardwords::put_longer(out, a);
-        page::complain(out, b);
+        page::complain(rt, out, b);
         return Made::Nothing;
     }
     match put_mended(out, path, file, card) {
         Mended::Card(n, bytes) => {
-            page::flush(out, Page { to: n, open: true });
+            page::flush(rt, out, Page { to: n, open: true });
             Made::Card(bytes)
         }
         Mended::Refused(n) => {
-            page::complain(out, n);
+            page::complain(rt, out, n);
             Made::Nothing
         }
     }
