@@ -1,4 +1,6 @@
 // What is said of a card's bytes: what it holds, or why it is refused.
+#![tactic(auto)]
+
 use filing::FileAnswer;
 use limits::{PLAN_CELLS, TABLE_CELLS};
 use refusal::Refusal;
