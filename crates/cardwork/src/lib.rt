@@ -1,4 +1,6 @@
 // What the program `card` does with the files that its arguments name: cards checked, made of rules, and made of what can be had of bad ones.
+#![tactic(auto)]
+
 use cardcheck::Checked;
 use cardmake::Made;
 use octets::put_word;
@@ -7,58 +9,58 @@ use reading::Got;
 use slices::bytes::part;
 
 // One byte more is read than is looked at, 2,048 blocks, so that a longer file is seen to be one.
-pub fn check(path: &[u8]) {
+pub fn check(rt: HostRuntime, path: &[u8]) {
     let mut file = [0u8; 1048577];
     let mut out = [0u8; 8192];
-    check_file(path, &mut file, &mut out);
+    check_file(rt, path, &mut file, &mut out);
 }
 
-fn check_file(path: &[u8], file: &mut [u8], out: &mut [u8]) {
-    match reading::read_path(path, file) {
-        Got::Bytes(n) => say(path, part(file, 0, n), out),
-        Got::Failed => reading::cannot_read(path, out),
+fn check_file(rt: HostRuntime, path: &[u8], file: &mut [u8], out: &mut [u8]) {
+    match reading::read_path(rt, path, file) {
+        Got::Bytes(n) => say(rt, path, part(file, 0, n), out),
+        Got::Failed(why) => reading::cannot_read(rt, path, why, out),
     }
 }
 
-fn say(path: &[u8], file: &[u8], out: &mut [u8]) {
+fn say(rt: HostRuntime, path: &[u8], file: &[u8], out: &mut [u8]) {
     let a = put_word(out, 0, path);
     if 1048576 < file.len() {
         let b = cardwords::put_longer(out, a);
-        page::complain(out, b);
+        page::complain(rt, out, b);
         return;
     }
     match cardcheck::put_checked(out, a, file) {
         Checked::Whole(n) => {
-            page::flush(out, Page { to: n, open: true });
+            page::flush(rt, out, Page { to: n, open: true });
         }
-        Checked::Refused(n) => page::complain(out, n),
+        Checked::Refused(n) => page::complain(rt, out, n),
     }
 }
 
 // A card of rules, to a file where one is named, and otherwise to standard output.
-pub fn pack(rules: &[u8], path: &[u8], named: bool) {
+pub fn pack(rt: HostRuntime, rules: &[u8], path: &[u8], named: bool) {
     let mut card = [0u8; 33792];
     let mut out = [0u8; 8192];
-    match cardmake::make(rules, &mut card, &mut out) {
+    match cardmake::make(rt, rules, &mut card, &mut out) {
         Made::Card(n) => {
             if named {
-                keep(path, part(&card, 0, n), &mut out);
+                keep(rt, path, part(&card, 0, n), &mut out);
                 return;
             }
-            page::flush(&card, Page { to: n, open: true });
+            page::flush(rt, &card, Page { to: n, open: true });
         }
         Made::Nothing => {}
     }
 }
 
 // What can be had of a bad card, reported, and a card of that to a file where one is named. A report of 2,047 bad blocks has 11,234 bytes at most.
-pub fn mend(bad: &[u8], path: &[u8], named: bool) {
+pub fn mend(rt: HostRuntime, bad: &[u8], path: &[u8], named: bool) {
     let mut card = [0u8; 33792];
     let mut out = [0u8; 12288];
-    match cardmend::mend(bad, &mut card, &mut out) {
+    match cardmend::mend(rt, bad, &mut card, &mut out) {
         Made::Card(n) => {
             if named {
-                keep(path, part(&card, 0, n), &mut out);
+                keep(rt, path, part(&card, 0, n), &mut out);
             }
         }
         Made::Nothing => {}
@@ -66,8 +68,8 @@ pub fn mend(bad: &[u8], path: &[u8], named: bool) {
 }
 
 // To its file; then what `check` says of it.
-fn keep(path: &[u8], card: &[u8], out: &mut [u8]) {
-    if cardfile::write_card(path, card, out) {
-        say(path, card, out);
+fn keep(rt: HostRuntime, path: &[u8], card: &[u8], out: &mut [u8]) {
+    if cardfile::write_card(rt, path, card, out) {
+        say(rt, path, card, out);
     }
 }
