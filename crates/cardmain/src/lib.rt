@@ -1,5 +1,8 @@
 // The program `card`: a shop's rules written as a card for a terminal, cards checked, and bad ones mended. What is written, what is read and what
 // is said of it is decided and promised in the libraries. This crate finds the arguments; it is proved safe and ending.
+#![tactic(auto)]
+
+use console::NAME;
 use lex::name::same_bytes;
 use slices::bytes::part;
 
@@ -15,7 +18,7 @@ pub enum Wish {
 }
 
 // How long the names of two files are, the second empty where none is named; or that one of them cannot be, which is said.
-#[derive(Drop)]
+#[derive(Clone, Copy)]
 pub enum Names {
     Found(usize, usize),
     Wrong,
@@ -42,24 +45,24 @@ fn wish_of(word: &[u8], count: usize) -> Wish {
 }
 
 // The program's arguments: `pack RULES [FILE]`, `check FILE`, `mend BAD [FILE]`, `--help` or `--version`.
-pub fn answer() {
-    answer_call(1, os::arg_count());
+pub fn answer(rt: HostRuntime) {
+    answer_call(rt, 1, console::arg_count(rt));
 }
 
 // A call by some of them: from a first one up to an end.
-pub fn answer_call(first: usize, end: usize) {
+pub fn answer_call(rt: HostRuntime, first: usize, end: usize) {
     let count = count_of(first, end);
-    let mut word = io::buffer();
-    let n = os::arg(first, &mut word);
+    let mut word = [0u8; NAME];
+    let n = console::word(rt, first, &mut word);
     let wish = wish_of(&word[..n], count);
     let file = next(first);
     match wish {
-        Wish::Pack => pack(file, count == 3),
-        Wish::Check => check(file),
-        Wish::Mend => mend(file, count == 3),
-        Wish::Help => cardhelp::print(),
-        Wish::Version => cardhelp::version(),
-        Wish::Nothing => cardhelp::refuse(),
+        Wish::Pack => pack(rt, file, count == 3),
+        Wish::Check => check(rt, file),
+        Wish::Mend => mend(rt, file, count == 3),
+        Wish::Help => cardhelp::print(rt),
+        Wish::Version => cardhelp::version(rt),
+        Wish::Nothing => cardhelp::refuse(rt),
     }
 }
 
@@ -79,52 +82,68 @@ fn next(i: usize) -> usize {
 }
 
 // The file that an argument names. One that is too long for a name names none.
-fn check(file: usize) {
-    let mut path = io::buffer();
-    let n = os::arg(file, &mut path);
-    if os::errno() != 0 {
-        os::fail(b"cannot read FILE");
-        return;
+fn check(rt: HostRuntime, file: usize) {
+    let mut path = [0u8; NAME];
+    match console::arg(rt, file, &mut path) {
+        Ok(n) => cardwork::check(rt, &path[..n]),
+        Err(why) => console::fail(rt, b"cannot read FILE", why),
     }
-    cardwork::check(&path[..n]);
 }
 
 // What a card is made from, which an argument names, and, where it is named after it, the card's file. The first is not written over.
-fn names_in(file: usize, from: &mut [u8], path: &mut [u8], named: bool, unread: &[u8]) -> Names {
-    let n = os::arg(file, from);
-    if os::errno() != 0 {
-        os::fail(unread);
-        return Names::Wrong;
+fn names_in(
+    rt: HostRuntime,
+    file: usize,
+    from: &mut [u8],
+    path: &mut [u8],
+    named: bool,
+    unread: &[u8],
+) -> Names {
+    match console::arg(rt, file, from) {
+        Ok(n) => {
+            if named {
+                return name_after(rt, file, part(from, 0, n), path);
+            }
+            Names::Found(n, 0)
+        }
+        Err(why) => {
+            console::fail(rt, unread, why);
+            Names::Wrong
+        }
     }
-    if !named {
-        return Names::Found(n, 0);
-    }
-    let m = os::arg(next(file), path);
-    if os::errno() != 0 {
-        os::fail(b"cannot write FILE");
-        return Names::Wrong;
-    }
-    if same_bytes(part(from, 0, n), part(path, 0, m)) {
-        cardhelp::refuse();
-        return Names::Wrong;
-    }
-    Names::Found(n, m)
 }
 
-fn pack(file: usize, named: bool) {
-    let mut rules = io::buffer();
-    let mut path = io::buffer();
-    match names_in(file, &mut rules, &mut path, named, b"cannot read RULES") {
-        Names::Found(n, m) => cardwork::pack(part(&rules, 0, n), part(&path, 0, m), named),
+// With the card's file, which is another than that from which it is made.
+fn name_after(rt: HostRuntime, file: usize, from: &[u8], path: &mut [u8]) -> Names {
+    match console::arg(rt, next(file), path) {
+        Ok(m) => {
+            if same_bytes(from, part(path, 0, m)) {
+                cardhelp::refuse(rt);
+                return Names::Wrong;
+            }
+            Names::Found(from.len(), m)
+        }
+        Err(why) => {
+            console::fail(rt, b"cannot write FILE", why);
+            Names::Wrong
+        }
+    }
+}
+
+fn pack(rt: HostRuntime, file: usize, named: bool) {
+    let mut rules = [0u8; NAME];
+    let mut path = [0u8; NAME];
+    match names_in(rt, file, &mut rules, &mut path, named, b"cannot read RULES") {
+        Names::Found(n, m) => cardwork::pack(rt, part(&rules, 0, n), part(&path, 0, m), named),
         Names::Wrong => {}
     }
 }
 
-fn mend(file: usize, named: bool) {
-    let mut bad = io::buffer();
-    let mut path = io::buffer();
-    match names_in(file, &mut bad, &mut path, named, b"cannot read BAD") {
-        Names::Found(n, m) => cardwork::mend(part(&bad, 0, n), part(&path, 0, m), named),
+fn mend(rt: HostRuntime, file: usize, named: bool) {
+    let mut bad = [0u8; NAME];
+    let mut path = [0u8; NAME];
+    match names_in(rt, file, &mut bad, &mut path, named, b"cannot read BAD") {
+        Names::Found(n, m) => cardwork::mend(rt, part(&bad, 0, n), part(&path, 0, m), named),
         Names::Wrong => {}
     }
 }
