@@ -1,19 +1,21 @@
 // What the program `card` says. First calls of it, one after another, each with what it prints: their arguments are this program's. Then what is said
 // of cards that are spoiled.
+#![tactic(auto)]
+
 mod spoiled;
 
-fn main() {
-    let count = os::arg_count();
+fn main(rt: HostRuntime) {
+    let count = console::arg_count(rt);
     let mut first = 1;
     let mut i = 1;
     while i < count {
         let next = i + 1;
-        if calls::ends(i) {
-            calls::print(b"card", first, i);
-            cardmain::answer_call(first, i);
+        if calls::ends(rt, i) {
+            calls::print(rt, b"card", first, i);
+            cardmain::answer_call(rt, first, i);
             first = next;
         }
         i = next;
     }
-    spoiled::show_all();
+    spoiled::show_all(rt);
 }

@@ -1,32 +1,31 @@
 // What the program card says of cards that are spoiled: calls say it to standard error, which is not stored.
 use cardcheck::Checked;
 use cardmend::Mended;
-use libc::STDOUT_FILENO;
 
 // What is said of a file, after a name.
-fn show(file: &[u8]) {
+fn show(rt: HostRuntime, file: &[u8]) {
     let mut out = [0u8; 256];
     let a = octets::put_word(&mut out, 0, b"card");
     match cardcheck::put_checked(&mut out, a, file) {
         Checked::Whole(n) => {
-            io::write_all(STDOUT_FILENO, slices::bytes::part(&out, 0, n));
+            console::say(rt, slices::bytes::part(&out, 0, n));
         }
         Checked::Refused(n) => {
-            io::write_all(STDOUT_FILENO, slices::bytes::part(&out, 0, n));
+            console::say(rt, slices::bytes::part(&out, 0, n));
         }
     }
 }
 
 // What mending says of it.
-fn mend(file: &[u8]) {
+fn mend(rt: HostRuntime, file: &[u8]) {
     let mut out = [0u8; 256];
     let mut card = [0u8; 512];
     match cardmend::put_mended(&mut out, b"card", file, &mut card) {
         Mended::Card(n, _) => {
-            io::write_all(STDOUT_FILENO, slices::bytes::part(&out, 0, n));
+            console::say(rt, slices::bytes::part(&out, 0, n));
         }
         Mended::Refused(n) => {
-            io::write_all(STDOUT_FILENO, slices::bytes::part(&out, 0, n));
+            console::say(rt, slices::bytes::part(&out, 0, n));
         }
     }
 }
@@ -38,78 +37,84 @@ fn put_first(file: &mut [u8], cells: &[u32]) {
     blocks::put_block(file, 0, 0, &all);
 }
 
-fn block(cells: &[u32]) {
+fn block(rt: HostRuntime, cells: &[u32]) {
     let mut file = [0u8; 512];
     put_first(&mut file, cells);
-    show(&file);
+    show(rt, &file);
 }
 
-fn mend_block(cells: &[u32]) {
+fn mend_block(rt: HostRuntime, cells: &[u32]) {
     let mut file = [0u8; 512];
     put_first(&mut file, cells);
-    mend(&file);
+    mend(rt, &file);
 }
 
 // 02's example: the table `1 1 a`, the plan `0 1 a 1`, a being the name 0.
-fn whole() {
-    block(&[3, 4, 1, 1, 0x40000000, 0, 1, 0x40000000, 1]);
+fn whole(rt: HostRuntime) {
+    block(rt, &[3, 4, 1, 1, 0x40000000, 0, 1, 0x40000000, 1]);
 }
 
 // BLOCKS, DAMAGE, SIZES, PADDING.
-fn files() {
+fn files(rt: HostRuntime) {
     let mut file = [0u8; 1025];
-    show(&file[..0]);
-    show(&file[..511]);
-    show(&file);
+    show(rt, &file[..0]);
+    show(rt, &file[..511]);
+    show(rt, &file);
     let cells = [0u32; 125];
     blocks::put_block(&mut file, 0, 0, &cells);
     blocks::put_block(&mut file, 512, 2, &cells);
-    show(slices::bytes::part(&file, 0, 1024));
+    show(rt, slices::bytes::part(&file, 0, 1024));
     blocks::put_block(&mut file, 512, 1, &cells);
-    show(slices::bytes::part(&file, 0, 1024));
-    block(&[3, 504, 1, 1, 0x40000000, 0, 1, 0x40000000, 1]);
-    block(&[3, 4, 1, 1, 0x40000000, 0, 1, 0x40000000, 1, 1]);
+    show(rt, slices::bytes::part(&file, 0, 1024));
+    block(rt, &[3, 504, 1, 1, 0x40000000, 0, 1, 0x40000000, 1]);
+    block(rt, &[3, 4, 1, 1, 0x40000000, 0, 1, 0x40000000, 1, 1]);
 }
 
 // LENGTH, WIDTH, COUNT, LONG, SHORT, CELL, FRESH, SAME, EXTRA, each with the plan `0 1 a 1`.
-fn tables() {
-    block(&[1, 4, 1, 0, 1, 0x40000000, 1]);
-    block(&[3, 4, 9, 1, 0x40000000, 0, 1, 0x40000000, 1]);
-    block(&[3, 4, 1, 65, 0x40000000, 0, 1, 0x40000000, 1]);
-    long();
-    block(&[3, 4, 2, 1, 0x40000000, 0, 1, 0x40000000, 1]);
-    block(&[3, 4, 1, 1, 0xc0000000, 0, 1, 0x40000000, 1]);
-    block(&[3, 4, 1, 1, 1, 0, 1, 0x40000000, 1]);
-    block(&[4, 4, 1, 2, 0x40000000, 0x40000000, 0, 1, 0x40000000, 1]);
-    block(&[4, 4, 1, 1, 0x40000000, 0x40000000, 0, 1, 0x40000000, 1]);
+fn tables(rt: HostRuntime) {
+    block(rt, &[1, 4, 1, 0, 1, 0x40000000, 1]);
+    block(rt, &[3, 4, 9, 1, 0x40000000, 0, 1, 0x40000000, 1]);
+    block(rt, &[3, 4, 1, 65, 0x40000000, 0, 1, 0x40000000, 1]);
+    long(rt);
+    block(rt, &[3, 4, 2, 1, 0x40000000, 0, 1, 0x40000000, 1]);
+    block(rt, &[3, 4, 1, 1, 0xc0000000, 0, 1, 0x40000000, 1]);
+    block(rt, &[3, 4, 1, 1, 1, 0, 1, 0x40000000, 1]);
+    block(
+        rt,
+        &[4, 4, 1, 2, 0x40000000, 0x40000000, 0, 1, 0x40000000, 1],
+    );
+    block(
+        rt,
+        &[4, 4, 1, 1, 0x40000000, 0x40000000, 0, 1, 0x40000000, 1],
+    );
 }
 
 // A rule of 33 cells, and no plan.
-fn long() {
+fn long(rt: HostRuntime) {
     let mut cells = [0x40010000u32; 36];
     cells[0] = 35;
     cells[1] = 0;
     cells[2] = 1;
     cells[3] = 1;
-    block(&cells);
+    block(rt, &cells);
 }
 
 // ENDS, OPEN, EDGES, LABEL, ROWS, EXTRA.
-fn plans() {
-    block(&[3, 3, 1, 1, 0x40000000, 0, 1, 0x40000000]);
-    block(&[3, 4, 1, 1, 0x40000000, 64, 1, 0x40000000, 1]);
-    block(&[3, 4, 1, 1, 0x40000000, 0, 2, 0x40000000, 1]);
-    block(&[3, 4, 1, 1, 0x40000000, 0, 1, 0x40000001, 1]);
-    block(&[3, 4, 1, 1, 0x40000000, 0, 1, 0x40000000, 2]);
-    block(&[3, 5, 1, 1, 0x40000000, 0, 1, 0x40000000, 1, 0]);
+fn plans(rt: HostRuntime) {
+    block(rt, &[3, 3, 1, 1, 0x40000000, 0, 1, 0x40000000]);
+    block(rt, &[3, 4, 1, 1, 0x40000000, 64, 1, 0x40000000, 1]);
+    block(rt, &[3, 4, 1, 1, 0x40000000, 0, 2, 0x40000000, 1]);
+    block(rt, &[3, 4, 1, 1, 0x40000000, 0, 1, 0x40000001, 1]);
+    block(rt, &[3, 4, 1, 1, 0x40000000, 0, 1, 0x40000000, 2]);
+    block(rt, &[3, 5, 1, 1, 0x40000000, 0, 1, 0x40000000, 1, 0]);
 }
 
 // SIZE: a plan of 6,083 cells, in 49 blocks.
-fn size() {
+fn size(rt: HostRuntime) {
     let mut file = [0u8; 25088];
     blocks::put_block(&mut file, 0, 0, &first_of(6083));
     put_rest(&mut file, &[0u32; 125]);
-    show(&file);
+    show(rt, &file);
 }
 
 fn put_rest(file: &mut [u8], cells: &[u32]) {
@@ -132,31 +137,34 @@ fn first_of(plan: u32) -> [u32; 125] {
 }
 
 // HEAD: no byte, a part of a block, 9 columns, 65 rules. NONE: a rule with a cell of no kind, a table of two cells.
-fn lost() {
+fn lost(rt: HostRuntime) {
     let file = [0u8; 511];
-    mend(&file[..0]);
-    mend(&file);
-    mend_block(&[3, 4, 9, 1, 0x40000000, 0, 1, 0x40000000, 1]);
-    mend_block(&[3, 4, 1, 65, 0x40000000, 0, 1, 0x40000000, 1]);
-    mend_block(&[3, 4, 1, 1, 0xc0000000, 0, 1, 0x40000000, 1]);
-    mend_block(&[2, 4, 1, 1, 0, 1, 0x40000000, 1]);
+    mend(rt, &file[..0]);
+    mend(rt, &file);
+    mend_block(rt, &[3, 4, 9, 1, 0x40000000, 0, 1, 0x40000000, 1]);
+    mend_block(rt, &[3, 4, 1, 65, 0x40000000, 0, 1, 0x40000000, 1]);
+    mend_block(rt, &[3, 4, 1, 1, 0xc0000000, 0, 1, 0x40000000, 1]);
+    mend_block(rt, &[2, 4, 1, 1, 0, 1, 0x40000000, 1]);
 }
 
 // A whole card; a second rule with a cell of no kind; a whole card with a block of zeros and a part of one after it.
-fn mended() {
-    mend_block(&[3, 4, 1, 1, 0x40000000, 0, 1, 0x40000000, 1]);
-    mend_block(&[4, 4, 1, 2, 0x40000000, 0xc0000000, 0, 1, 0x40000000, 1]);
+fn mended(rt: HostRuntime) {
+    mend_block(rt, &[3, 4, 1, 1, 0x40000000, 0, 1, 0x40000000, 1]);
+    mend_block(
+        rt,
+        &[4, 4, 1, 2, 0x40000000, 0xc0000000, 0, 1, 0x40000000, 1],
+    );
     let mut file = [0u8; 1025];
     put_first(&mut file, &[3, 4, 1, 1, 0x40000000, 0, 1, 0x40000000, 1]);
-    mend(&file);
+    mend(rt, &file);
 }
 
-pub fn show_all() {
-    whole();
-    files();
-    tables();
-    plans();
-    size();
-    lost();
-    mended();
+pub fn show_all(rt: HostRuntime) {
+    whole(rt);
+    files(rt);
+    tables(rt);
+    plans(rt);
+    size(rt);
+    lost(rt);
+    mended(rt);
 }
