@@ -1,6 +1,9 @@
-// What other programs call. Each entry takes any cells and any record at all and answers one number of 64 bits: the refusal, or its two
-// values (crate refusal, specs/Coded). A table's cells are read, and worked out into a record; all other entries take the record (02,
-// W-207, "as one record that every caller now passes") and go by the table's part of it, which is not copied.
+// What other programs call, those in C and Rust by crate dudowiej_c, which exports each entry under its name. Each entry takes any cells and any
+// record at all and answers one number of 64 bits: the refusal, or its two values (crate refusal, specs/Coded). A table's cells are read, and
+// worked out into a record; all other entries take the record (02, W-207, "as one record that every caller now passes") and go by the table's
+// part of it, which is not copied.
+#![tactic(auto)]
+
 ghost use Rattle.std.specs.Prelude.{◌≡◌};
 ghost use Rattle.table.specs.Table.{table_of, table_says, goal_with, goal_says};
 ghost use Rattle.plan.specs.Check.{plan_of, plan_under};
@@ -20,8 +23,7 @@ use limits::RECORD_CELLS;
 use shift::Job;
 
 // A table's width and number of rows.
-#[unsafe(no_mangle)]
-pub extern "C" fn dudowiej_read_table(cells: &[u32]) -> u64
+pub fn dudowiej_read_table(cells: &[u32]) -> u64
     ensures { result ≡ coded (table_says (table_of cells.now)) }
 {
     let read = table::read_table(cells);
@@ -30,44 +32,35 @@ pub extern "C" fn dudowiej_read_table(cells: &[u32]) -> u64
 }
 
 // A record worked out for a table and a figure: the table's width and number of rows.
-#[unsafe(no_mangle)]
-pub extern "C" fn dudowiej_work_out(
-    cells: &[u32],
-    figure: u32,
-    rec: &mut [u32; RECORD_CELLS],
-) -> u64
+pub fn dudowiej_work_out(cells: &[u32], figure: u32, rec: &mut [u32; RECORD_CELLS]) -> u64
     ensures { WorkCoded figure cells.now rec.old rec.new result }
 {
     code::code_table(edits::work_out(cells, figure, rec))
 }
 
 // A row appended in a record: the table's width and number of rows then.
-#[unsafe(no_mangle)]
-pub extern "C" fn dudowiej_append(rec: &mut [u32; RECORD_CELLS], row: &[u32]) -> u64
+pub fn dudowiej_append(rec: &mut [u32; RECORD_CELLS], row: &[u32]) -> u64
     ensures { EditCoded (append row.now) rec.old rec.new result }
 {
     code::code_edit(edits::append(rec, row))
 }
 
 // The last row dropped.
-#[unsafe(no_mangle)]
-pub extern "C" fn dudowiej_drop_last(rec: &mut [u32; RECORD_CELLS]) -> u64
+pub fn dudowiej_drop_last(rec: &mut [u32; RECORD_CELLS]) -> u64
     ensures { EditCoded drop-last rec.old rec.new result }
 {
     code::code_edit(edits::drop_last(rec))
 }
 
 // Row r replaced.
-#[unsafe(no_mangle)]
-pub extern "C" fn dudowiej_replace(rec: &mut [u32; RECORD_CELLS], r: usize, row: &[u32]) -> u64
+pub fn dudowiej_replace(rec: &mut [u32; RECORD_CELLS], r: usize, row: &[u32]) -> u64
     ensures { EditCoded (replace r row.now) rec.old rec.new result }
 {
     code::code_edit(edits::replace(rec, r, row))
 }
 
 // A goal's number of cells and of variables.
-#[unsafe(no_mangle)]
-pub extern "C" fn dudowiej_read_goal(rec: &[u32; RECORD_CELLS], goal: &[u32]) -> u64
+pub fn dudowiej_read_goal(rec: &[u32; RECORD_CELLS], goal: &[u32]) -> u64
     ensures { result ≡ coded (goal_says goal.now (goal_with (table_in rec.now) goal.now)) }
 {
     let cells = record::table_of(rec);
@@ -75,8 +68,7 @@ pub extern "C" fn dudowiej_read_goal(rec: &[u32; RECORD_CELLS], goal: &[u32]) ->
 }
 
 // Where the r-th row's cells start in the table, and how many they are; both 0 where there is no such row.
-#[unsafe(no_mangle)]
-pub extern "C" fn dudowiej_row(rec: &[u32; RECORD_CELLS], r: usize) -> u64
+pub fn dudowiej_row(rec: &[u32; RECORD_CELLS], r: usize) -> u64
     ensures { result ≡ coded (row_says (table_of (table_in rec.now)) r) }
 {
     let cells = record::table_of(rec);
@@ -87,8 +79,7 @@ pub extern "C" fn dudowiej_row(rec: &[u32; RECORD_CELLS], r: usize) -> u64
 }
 
 // An accepted plan's number of branches.
-#[unsafe(no_mangle)]
-pub extern "C" fn dudowiej_check_plan(rec: &[u32; RECORD_CELLS], plan: &[u32]) -> u64
+pub fn dudowiej_check_plan(rec: &[u32; RECORD_CELLS], plan: &[u32]) -> u64
     ensures { result ≡ coded (plan_says (plan_of (table_in rec.now) plan.now)) }
 {
     let cells = record::table_of(rec);
@@ -96,16 +87,14 @@ pub extern "C" fn dudowiej_check_plan(rec: &[u32; RECORD_CELLS], plan: &[u32]) -
 }
 
 // The number of cells of the least plan by the record's figure (W-204), and its cost; its cells are the room's first.
-#[unsafe(no_mangle)]
-pub extern "C" fn dudowiej_build_plan(rec: &[u32; RECORD_CELLS], room: &mut [u32]) -> u64
+pub fn dudowiej_build_plan(rec: &[u32; RECORD_CELLS], room: &mut [u32]) -> u64
     ensures { BuildCoded rec.now room.old room.new result }
 {
     code::code_built(builder::build_from(rec, room))
 }
 
 // A run's number of hits and of branches tried; the hits are the room's first bytes.
-#[unsafe(no_mangle)]
-pub extern "C" fn dudowiej_run_plan(
+pub fn dudowiej_run_plan(
     rec: &[u32; RECORD_CELLS],
     plan: &[u32],
     goal: &[u32],
@@ -120,8 +109,7 @@ pub extern "C" fn dudowiej_run_plan(
 
 // A table from Prolog text: the number of its cells and of its names. The cells are the first of one room, the list of names is the first
 // of the other.
-#[unsafe(no_mangle)]
-pub extern "C" fn dudowiej_read_text(text: &[u8], cells: &mut [u32], names: &mut [u32]) -> u64
+pub fn dudowiej_read_text(text: &[u8], cells: &mut [u32], names: &mut [u32]) -> u64
     ensures { TextCoded text.now cells.old names.old cells.new names.new result }
 {
     code::code_text(prolog::read_text(text, cells, names))
@@ -129,8 +117,7 @@ pub extern "C" fn dudowiej_read_text(text: &[u8], cells: &mut [u32], names: &mut
 
 // A goal from its text, by the names of a text of facts and by its predicate: the number of its cells and of its names that the facts have not.
 // The cells are the first of one room, the list of these names is the first of the other.
-#[unsafe(no_mangle)]
-pub extern "C" fn dudowiej_read_goal_text(
+pub fn dudowiej_read_goal_text(
     text: &[u8],
     names: &[u32],
     goal: &[u8],
@@ -145,8 +132,7 @@ pub extern "C" fn dudowiej_read_goal_text(
 
 // A reply's cells as text, in the names of the facts and in the goal's own: how many cells are said, and in how many bytes; they are the room's
 // first bytes.
-#[unsafe(no_mangle)]
-pub extern "C" fn dudowiej_put_answer(
+pub fn dudowiej_put_answer(
     text: &[u8],
     names: &[u32],
     goal: &[u8],
@@ -161,8 +147,7 @@ pub extern "C" fn dudowiej_put_answer(
 }
 
 // The plan's number of branches; each goal of the list is answered in its record.
-#[unsafe(no_mangle)]
-pub extern "C" fn dudowiej_run_jobs(
+pub fn dudowiej_run_jobs(
     rec: &[u32; RECORD_CELLS],
     plan: &[u32],
     cells: &[u32],
@@ -176,8 +161,7 @@ pub extern "C" fn dudowiej_run_jobs(
 }
 
 // How many replies there are and how many cells they have together; they are the room's first cells.
-#[unsafe(no_mangle)]
-pub extern "C" fn dudowiej_replies(
+pub fn dudowiej_replies(
     rec: &[u32; RECORD_CELLS],
     plan: &[u32],
     goal: &[u32],
@@ -191,8 +175,7 @@ pub extern "C" fn dudowiej_replies(
 }
 
 // The plan's number of branches; each goal of the list is answered in its record, and the replies follow one another in the room.
-#[unsafe(no_mangle)]
-pub extern "C" fn dudowiej_reply_jobs(
+pub fn dudowiej_reply_jobs(
     rec: &[u32; RECORD_CELLS],
     plan: &[u32],
     cells: &[u32],
@@ -207,8 +190,7 @@ pub extern "C" fn dudowiej_reply_jobs(
 }
 
 // A plan handed back as Prolog: how many clauses it is and how many bytes they have; they are the room's first bytes.
-#[unsafe(no_mangle)]
-pub extern "C" fn dudowiej_clauses(
+pub fn dudowiej_clauses(
     rec: &[u32; RECORD_CELLS],
     plan: &[u32],
     text: &[u8],
@@ -223,12 +205,7 @@ pub extern "C" fn dudowiej_clauses(
 }
 
 // The bytes and the blocks of the file of the record's table and a plan; its bytes are the room's first.
-#[unsafe(no_mangle)]
-pub extern "C" fn dudowiej_write_file(
-    rec: &[u32; RECORD_CELLS],
-    plan: &[u32],
-    room: &mut [u8],
-) -> u64
+pub fn dudowiej_write_file(rec: &[u32; RECORD_CELLS], plan: &[u32], room: &mut [u8]) -> u64
     ensures { FileWriteCoded (table_in rec.now) plan.now room.old room.new result }
 {
     let cells = record::table_of(rec);
@@ -236,8 +213,7 @@ pub extern "C" fn dudowiej_write_file(
 }
 
 // The number of cells of a file's table and of its plan. The table's are the first of one room, the plan's are the first of the other.
-#[unsafe(no_mangle)]
-pub extern "C" fn dudowiej_read_file(file: &[u8], table: &mut [u32], plan: &mut [u32]) -> u64
+pub fn dudowiej_read_file(file: &[u8], table: &mut [u32], plan: &mut [u32]) -> u64
     ensures { FileReadCoded file.now table.old plan.old table.new plan.new result }
 {
     code::code_file(filereading::read_file(file, table, plan))
@@ -245,8 +221,7 @@ pub extern "C" fn dudowiej_read_file(file: &[u8], table: &mut [u32], plan: &mut 
 
 // What can be had of a bad file: the rows kept and the rows dropped. The table's cells, the plan's and the numbers of the bad blocks are the
 // first of their rooms, and the report has the numbers of all.
-#[unsafe(no_mangle)]
-pub extern "C" fn dudowiej_salvage(
+pub fn dudowiej_salvage(
     file: &[u8],
     table: &mut [u32],
     plan: &mut [u32],
@@ -261,12 +236,7 @@ pub extern "C" fn dudowiej_salvage(
 
 // The number of cells of the least plan that looks into named columns first, by the record's figure, and its cost; its cells are the room's
 // first. What the record keeps is for plans of any kind, so its table and figure alone are used (02, W-213).
-#[unsafe(no_mangle)]
-pub extern "C" fn dudowiej_build_for(
-    rec: &[u32; RECORD_CELLS],
-    columns: &[u32],
-    room: &mut [u32],
-) -> u64
+pub fn dudowiej_build_for(rec: &[u32; RECORD_CELLS], columns: &[u32], room: &mut [u32]) -> u64
     ensures { BuildForCoded rec.now columns.now room.old room.new result }
 {
     let figure = rec[1];
@@ -275,12 +245,7 @@ pub extern "C" fn dudowiej_build_for(
 }
 
 // The number of branches of a plan that looks into named columns first.
-#[unsafe(no_mangle)]
-pub extern "C" fn dudowiej_check_for(
-    rec: &[u32; RECORD_CELLS],
-    columns: &[u32],
-    plan: &[u32],
-) -> u64
+pub fn dudowiej_check_for(rec: &[u32; RECORD_CELLS], columns: &[u32], plan: &[u32]) -> u64
     ensures { result ≡ coded (plan_says (plan_under (table_in rec.now) columns.now plan.now)) }
 {
     let cells = record::table_of(rec);
@@ -289,8 +254,7 @@ pub extern "C" fn dudowiej_check_for(
 
 // The number of cells of the plan that a list of goals likes best, of those for each set of columns, by the record's figure, and its cost; its
 // cells are the room's first. Beside it are its columns as a mask, what it tries over the list and what the plain plan tries.
-#[unsafe(no_mangle)]
-pub extern "C" fn dudowiej_build_liked(
+pub fn dudowiej_build_liked(
     rec: &[u32; RECORD_CELLS],
     goals: &[u32],
     list: &[usize],
