@@ -56,13 +56,13 @@ abbrev Right : ℕ → Getter → Type 0
 Right n below = (k : ℕ) (rows : List (List ℕ)) → All (Fits n k) rows → 0 < length rows → (p : Plan k rows) (K rest : List ℕ)
     → below k rows K (write p ++ rest) ≡ got (skeletons p K) rest
 
-above_in : (n : ℕ) (below : Getter) → Right n below → (k m : ℕ) (gs : List Run) → Each (λ (c : ℕ). Fits n (arity c + k)) gs → Sized m gs
+above_in_lem : (n : ℕ) (below : Getter) → Right n below → (k m : ℕ) (gs : List Run) → Each (λ (c : ℕ). Fits n (arity c + k)) gs → Sized m gs
     → (bs : Branches k gs) (i : ℕ) (K rest : List ℕ) → above_in below k gs i K (writes bs ++ rest) ≡ got (skeletons_in bs i K) rest
 unfolding write skeletons
-above_in n below h k m [] f z end i K rest = refl
-above_in n below h k m (g ∷ gs) f z (next p bs) i K rest =
+above_in_lem n below h k m [] f z end i K rest = refl
+above_in_lem n below h k m (g ∷ gs) f z (next p bs) i K rest =
     let x = h (arity g.cell + k) g.rows f.0 z.0.0 p (decide i g.cell K) (writes bs ++ rest) in
-    let y = above_in n below h k m gs f.1 z.1 bs i K rest in
+    let y = above_in_lem n below h k m gs f.1 z.1 bs i K rest in
     rw (append_assoc (write p) (writes bs) rest, x, y)
 
 pub above-right : (n : ℕ) → Right n (above n)
@@ -72,4 +72,4 @@ above-right (suc n) zero rows f h leaf K rest = refl
 above-right zero (suc k) rows f h p K rest = absurd (omega (arith, fits-some zero k rows f h))
 above-right (suc n) (suc k) rows f h (node i l bs) K rest =
     let sized = group-sizes (root i) (close i) rows in
-    above_in n (above n) (above-right n) k (length rows) (runs i rows) (runs_fit n k i l rows f) sized bs i K rest
+    above_in_lem n (above n) (above-right n) k (length rows) (runs i rows) (runs_fit n k i l rows f) sized bs i K rest

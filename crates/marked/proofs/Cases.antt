@@ -1,5 +1,5 @@
 -- 01's examples marked P, all under one theorem: what is printed there is what the promises' own definitions say. Likewise W-214's.
-use Prim.Native.Nat.{ℕ, ◌+◌, ◌≤◌}
+use Prim.Native.Nat.{ℕ, ◌≤◌}
 use mathlib.Core.Path.{◌≡◌, refl, sym, ap, subst, ◌∙◌}
 use mathlib.Core.Bool.{Bool, true, false}
 use mathlib.Core.List.{List, [], ◌∷◌, ◌++◌, map, flatten}
@@ -20,7 +20,7 @@ use Rattle.table.specs.Table.{Table, table_of, terms_from, rows_from, goal_of, c
 use Rattle.table.proofs.ReadLaws.{first}
 use Rattle.table.proofs.Accepted.{is-table, is-goal}
 use Rattle.plan.specs.Runs.{agree}
-use Rattle.plan.specs.Plans.{branches, plain}
+use Rattle.plan.specs.Plans.{plain}
 use Rattle.plan.specs.Check.{state_from, nothing_after, plan_with, plan_for, plan_of}
 use Rattle.plan.proofs.CheckLaws.{accepted-one, rows_fit}
 use Rattle.plan.proofs.PlansLaws.{write-one}
@@ -117,9 +117,9 @@ built-says t p cost e q =
     let same : b.plan ≡ s.tree = write-one b.plan s.tree (b.writes-it ∙ w ∙ sym s.writes) in
     record { plans = s; rule = subst (Built plain []) same b.built }
 
-is_read : (r : Read ℕ) → is_read r ≡ true → (v : ℕ) × (r ≡ read v)
-is_read (read v) e = (v, refl)
-is_read (refuse f) e = let z : ◌≡◌ {A = ℕ} 0 1 = cc in absurd (omega arith)
+is_read_lem : (r : Read ℕ) → is_read r ≡ true → (v : ℕ) × (r ≡ read v)
+is_read_lem (read v) e = (v, refl)
+is_read_lem (refuse f) e = let z : ◌≡◌ {A = ℕ} 0 1 = cc in absurd (omega arith)
 
 module _ (t p : List ℕ) (cost : ℕ) (g hits : List ℕ) (tried : ℕ) (e : plan_of t p ≡ read cost) where
   ran_says : is_read (goal_of (width_in (table_of t)) g) ≡ true → hits_by g (rows_in (table_of t)) 0 ≡ hits
@@ -137,7 +137,7 @@ module _ (t p : List ℕ) (cost : ℕ) (g hits : List ℕ) (tried : ℕ) (e : pl
       ∙ above-right 32 T.width T.rows fit i.count.0 B.tree K [] in
       let k : hits_by g T.rows 0 ≡ hits = rw B.reads at h in
       let n : tried_by g (skeletons B.tree K) ≡ tried = rw (ap (λ (x : Got). x.above) s) at (rw B.reads at c) in
-      let v = is_read (goal_of T.width g) (rw B.reads at r) in
+      let v = is_read_lem (goal_of T.width g) (rw B.reads at r) in
       let u = (goal-head (is-goal T.width g v.1).0).terms in
       let tries = tried-by T.width g u (skeletons B.tree K) (skeletons-terms T.width B.tree (table-loose i) i.count.0) in
       let takes : (room : List ℕ) → length T.rows ≤ length room → Takes t p g room T =
