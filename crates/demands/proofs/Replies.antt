@@ -69,26 +69,26 @@ asked_in : (t g : List ℕ) → Read ℕ → Read Table
 asked_in t g plan = and_then (table_of t) (λ (T : Table). and_then plan (λ (b : ℕ). and_then (goal_of T.width g) (λ (v : ℕ). read T)))
 
 module _ (t p g : List ℕ) where
-  asked_in : replies_of t p g ≡ asked_in t g (plan_of t p)
+  asked_in_lem : replies_of t p g ≡ asked_in t g (plan_of t p)
   unfolding replies_of asked_in
-  asked_in = refl
+  asked_in_lem = refl
 
   asked-table : {f : Refused} → table_of t ≡ refuse f → replies_of t p g ≡ refuse f
   unfolding asked_in
-  asked-table e = asked_in ∙ rw e
+  asked-table e = asked_in_lem ∙ rw e
 
   asked-plan : {T : Table} {f : Refused} → table_of t ≡ read T → plan_of t p ≡ refuse f → replies_of t p g ≡ refuse f
   unfolding asked_in
-  asked-plan e h = asked_in ∙ rw (h, e)
+  asked-plan e h = asked_in_lem ∙ rw (h, e)
 
   asked-goal : {T : Table} {b : ℕ} {f : Refused} → table_of t ≡ read T → plan_of t p ≡ read b → goal_of T.width g ≡ refuse f
       → replies_of t p g ≡ refuse f
   unfolding asked_in
-  asked-goal e h k = asked_in ∙ rw (h, e, k)
+  asked-goal e h k = asked_in_lem ∙ rw (h, e, k)
 
   asked-read : {T : Table} {b v : ℕ} → table_of t ≡ read T → plan_of t p ≡ read b → goal_of T.width g ≡ read v → replies_of t p g ≡ read T
   unfolding asked_in
-  asked-read e h k = asked_in ∙ rw (h, e, k)
+  asked-read e h k = asked_in_lem ∙ rw (h, e, k)
 
   -- the replies of one table are one list
   rows_of : {T T' : Table} {all : List (List ℕ)} → replies_of t p g ≡ read T → replies_of t p g ≡ read T' → Replies g T.rows all

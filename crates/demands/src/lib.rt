@@ -3,6 +3,8 @@
 // entry whose contract no longer gives it is an error here. What is no entry is tied to the function that has it: the row as a part of the
 // table, a cell's value and symbol, the listing. Nothing calls these functions; they are private, since what they ensure is less than what the
 // entries promise.
+#![tactic(auto)]
+
 ghost use Rattle.std.specs.Prelude.{ℕ, ◌≡◌, length};
 ghost use Rattle.octets.specs.Octets.{AreWords};
 ghost use Rattle.refusal.specs.Coded.{decoded};
