@@ -1,4 +1,6 @@
 // Blocks of a file (02, W-211): the two running sums, the sound blocks of a file, a block put into a lent room of bytes.
+#![tactic(auto)]
+
 ghost use Rattle.std.specs.Prelude.{◌≡◌, ◌+◌, ◌*◌, ◌≤◌, ◌∷◌, length};
 ghost use Rattle.octets.specs.Octets.{Put, bytes_of};
 ghost use Rattle.blocks.specs.Sums.{first, second};

@@ -1,4 +1,6 @@
 // The branches of a plan, in its order, as a list of numbers: what is printed of a plan is printed by it.
+#![tactic(auto)]
+
 ghost use Rattle.std.specs.Prelude.{◌≤◌};
 
 use limits::{BRANCHES, COLUMNS, ROW_CELLS, ROWS};

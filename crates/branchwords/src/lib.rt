@@ -1,5 +1,7 @@
 // The words for a plan and its branches, put into a lent room as the functions of `octets` put their texts: its sizes, the places that it looks
 // at, and what it finds there.
+#![tactic(auto)]
+
 ghost use Rattle.octets.specs.Octets.{Put};
 ghost use Rattle.branchwords.specs.Branches.{sizes_text, times_text, owner_text, place_text, blanks_text, symbol_text, found_text};
 

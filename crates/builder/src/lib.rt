@@ -1,4 +1,6 @@
 // The least plan (01, "The least plan"): the builder.
+#![tactic(auto)]
+
 mod writer;
 
 ghost use Rattle.std.specs.Prelude.{◌≡◌, List, [], ◌++◌, ℕ, ◌≤◌, length, take, drop};

@@ -1,5 +1,7 @@
 // Why a card is refused, put into a lent room as the functions of `octets` put their texts: the refusal's name and number, and what is expected. A
 // card is refused for its blocks, its table or its plan.
+#![tactic(auto)]
+
 ghost use Rattle.octets.specs.Octets.{Put};
 ghost use Rattle.cardreasons.specs.Reasons.{card_reason};
 ghost use Rattle.cardreasons.specs.code.Numbers.{file_reason, plan_reason, table_reason};

@@ -1,4 +1,6 @@
 // What the program card says, put into a lent room as the functions of `octets` put their texts: what a card holds, and why one is refused.
+#![tactic(auto)]
+
 ghost use Rattle.octets.specs.Octets.{Put};
 ghost use Rattle.cardwords.specs.Cards.{held_line, refused_line, longer_line, place_text, numbered_place, block_text};
 

@@ -1,5 +1,7 @@
 // One 32-bit cell (01, "Cells"): its kind, its number of arguments and its number, taken out by masks and shifts, and
 // cells built again by them. Every function takes any number at all.
+#![tactic(auto)]
+
 ghost use Rattle.std.specs.Prelude.{◌≡◌, ◌/◌, ◌%◌, ◌^◌};
 ghost use Rattle.cell.specs.Signed.{signed_of};
 ghost use Rattle.cell.specs.Cell.{kind_of, args_of, number_of, middle_of, variable_cell, name_cell, number_cell, values_at, values_of, arity};

@@ -1,4 +1,6 @@
 // Plans (01, "Plans"): the check of any plan for a table, and of plans that look into named columns first (02, W-213).
+#![tactic(auto)]
+
 mod check;
 
 ghost use Rattle.std.specs.Prelude.{◌≡◌, ◌<◌, ◌^◌};

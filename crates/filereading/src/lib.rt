@@ -1,4 +1,6 @@
 // A file of blocks read (02, W-211): its table and its plan.
+#![tactic(auto)]
+
 ghost use Rattle.std.specs.Prelude.{◌≡◌, List, ℕ, ◌-◌, ◌*◌, ◌%◌, ◌^◌, ◌≤◌, ◌<◌, min, length, drop};
 ghost use Rattle.blocks.specs.Blocks.{whole, good, good_cells};
 ghost use Rattle.filing.specs.Files.{zeros, FileLoaded};

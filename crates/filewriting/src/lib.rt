@@ -1,4 +1,6 @@
 // A table and a plan written as a file of blocks (02, W-211).
+#![tactic(auto)]
+
 ghost use Rattle.std.specs.Prelude.{◌≡◌, ℕ, ◌*◌, ◌^◌, ◌≤◌, length, replicate};
 ghost use Rattle.refusal.specs.Read.{read};
 ghost use Rattle.octets.specs.Octets.{Put, bytes_of};

@@ -1,5 +1,7 @@
 // Files of blocks (02, W-211): what their writing and their reading answer. specs/ says what a file is and how it is read, proofs/ that the
 // two undo each other.
+#![tactic(auto)]
+
 ghost use Rattle.std.specs.Prelude.{◌≡◌};
 ghost use Rattle.refusal.specs.Refusal.{refused, turned};
 ghost use Rattle.filing.specs.Answers.{file_told};

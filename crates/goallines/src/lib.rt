@@ -155,18 +155,16 @@ pub fn failure(piece: Piece) -> Option<Reason> {
     }
 }
 
+pub fn is_failed(piece: Piece) -> bool {
+    failure(piece).is_some()
+}
+
 // A line that has nothing but layout and comments is no goal, and neither is the rest of one that is too long, whose front is one without a look.
 pub fn is_goal(buf: &[u8], piece: Piece, place: Place) -> bool {
-    if place.inside {
+    if place.inside || is_failed(piece) {
         return false;
     }
-    let kind = piece.kind;
-    match kind {
-        Kind::Part => true,
-        Kind::Failed(_) => false,
-        Kind::Line => stands(bytes_of(buf, piece)),
-        Kind::Last => stands(bytes_of(buf, piece)),
-    }
+    is_part(piece.kind) || stands(bytes_of(buf, piece))
 }
 
 // The bytes of a piece.

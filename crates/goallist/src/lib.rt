@@ -1,4 +1,6 @@
 // A list of goals in two lent rooms: their cells one after another, and two words for each goal, where it begins and how many cells it has.
+#![tactic(auto)]
+
 ghost use Rattle.std.specs.Prelude.{◌≡◌, ◌+◌, min, leb, take};
 ghost use Rattle.goallist.specs.Gathering.{Adding};
 

@@ -1,9 +1,11 @@
 // A reader over a goal (01, "A reader over the goal holds its cells with the place it has reached"). Every function takes
 // any cells and any place, past the end too.
 //
-// A function over a struct that holds a slice is proved by a walk of its code by hand. So these are few and thin: each takes
-// the reader apart, or makes one, and leaves the work to a function on plain cells and a place. Crate table reads every goal by the two
-// functions at the end, `cell_at` and `cells_left`; `taken` and `place` are what a caller that keeps a reader needs, and 01 asks for it.
+// Each function takes the reader apart, or makes one, and leaves the work to a function on plain cells and a place. Crate table reads every
+// goal by the two functions at the end, `cell_at` and `cells_left`; `taken` and `place` are what a caller that keeps a reader needs, and 01
+// asks for it.
+#![tactic(auto)]
+
 ghost use Rattle.std.specs.Prelude.{◌≡◌};
 ghost use Rattle.goalreader.specs.Read.{step_at, place_after, left_from};
 

@@ -1,4 +1,6 @@
 // A plan handed back as Prolog clauses (02, W-210): the entry.
+#![tactic(auto)]
+
 mod measure;
 mod text;
 

@@ -1,5 +1,7 @@
 // Heads on the way down a plan: what is decided, with a hole at each open place (answer/specs/Skeleton). They are put into lent rooms as
 // the functions of `octets` put their texts: what has no room is left out.
+#![tactic(auto)]
+
 ghost use Rattle.std.specs.Prelude.{◌≤◌, eqb, cond, ◌≡◌, length, take, replicate};
 ghost use Rattle.answer.specs.Skeleton.{hole};
 ghost use Rattle.answer.specs.Skeleton as skeleton;

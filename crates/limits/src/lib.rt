@@ -1,5 +1,6 @@
 // The limits of documents 01 and 02, each once, and what follows from them: what no table, row, goal, plan, text or reply exceeds. For contracts
 // they stand in specs/Limits.
+#![tactic(auto)]
 
 // Columns of a table: 01, "width (1 to 8)".
 pub const COLUMNS: usize = 8;

@@ -1,4 +1,6 @@
 // Lines cut out of bytes, and a goal out of its line.
+#![tactic(auto)]
+
 ghost use Rattle.std.specs.Prelude.{◌≡◌, false};
 ghost use Rattle.std.proofs.Math.Seq.{slice};
 ghost use Rattle.octets.specs.Octets.{Put};

@@ -1,4 +1,6 @@
 // The listing of a table's least plan (01, "On both sides"), as bytes.
+#![tactic(auto)]
+
 mod text;
 mod walk;
 

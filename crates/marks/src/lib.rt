@@ -1,4 +1,6 @@
 // Places of a text: lines and columns, rules and symbols.
+#![tactic(auto)]
+
 ghost use Rattle.std.specs.Prelude.{◌≡◌, ◌+◌, ◌^◌, ◌≤◌, ◌<◌, cond, eqb, take};
 ghost use Rattle.marks.specs.Marks.{feeds, column_after};
 

@@ -1,5 +1,7 @@
 // A measure of plans (02, W-204): what the branch of a cell weighs, what a state with two or more branches adds, and a table as it is
 // read for it.
+#![tactic(auto)]
+
 ghost use Rattle.std.specs.Prelude.{◌≡◌, ◌≤◌};
 ghost use Rattle.table.specs.Table.{TableReads};
 ghost use Rattle.least.specs.Measures.{work_of, measure_of, table_by};

@@ -1,4 +1,6 @@
 // Pieces of saving a bad file (02, W-212): the longest run of rows from the top, and the bad blocks.
+#![tactic(auto)]
+
 ghost use Rattle.std.specs.Prelude.{◌≡◌, [], ◌∷◌, ◌+◌, ◌/◌, ◌≤◌, min, length, take, drop};
 ghost use Rattle.samerows.specs.Starts.{rows_lent};
 ghost use Rattle.octets.specs.Octets.{Put};

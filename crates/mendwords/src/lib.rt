@@ -1,4 +1,6 @@
 // What `card mend` reports of a bad card, put into a lent room as the functions of `octets` put their texts.
+#![tactic(auto)]
+
 ghost use Rattle.octets.specs.Octets.{Put};
 ghost use Rattle.mendwords.specs.Mended.{report_lines, kept_line, dropped_text, plan_line, bad_line, numbers_text, others_text, other_text};
 

@@ -1,5 +1,7 @@
 // What the program ask says, put into a lent room as the functions of `octets` put their texts: why a text or a goal is refused, the rules
 // that fit, how many they are, and the goal itself.
+#![tactic(auto)]
+
 mod reason;
 
 ghost use Rattle.std.specs.Prelude.{◌≡◌, map};

@@ -1,5 +1,7 @@
 // W-201's list of names, looked at (02, W-210: "NAMES when a listed place holds no lower-case name, two hold the same, or the table has a
 // name number not listed").
+#![tactic(auto)]
+
 ghost use Rattle.std.specs.Prelude.{length, drop, ◌<◌, [], ◌∷◌};
 ghost use Rattle.clauses.specs.Handed.{Listed};
 ghost use Rattle.naming.specs.Says.{Says};

@@ -1,5 +1,7 @@
 // Bytes of numbers and words, and cells read from bytes. Each function that puts something puts it into a lent room from a
 // place on and answers the place after it. What has no room is left out, so that nobody has to measure first.
+#![tactic(auto)]
+
 pub mod cells;
 
 ghost use Rattle.std.specs.Prelude.{◌≡◌, [], ◌∷◌};

@@ -1,4 +1,6 @@
 // What is kept for every pair of first and last row of a table (01, "The least plan").
+#![tactic(auto)]
+
 mod arrays;
 
 ghost use Rattle.paircosts.specs.Fill.{Fills};

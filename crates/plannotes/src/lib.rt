@@ -1,4 +1,6 @@
 // What a run needs of an accepted plan: one number for each branch, in plan order, with the answer of the check.
+#![tactic(auto)]
+
 mod branch;
 pub mod packed;
 mod places;

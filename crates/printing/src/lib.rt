@@ -1,5 +1,7 @@
 // What more than one program prints, put into a lent room as the functions of `octets` put their texts: the symbol of a cell, and the line
 // of a refusal.
+#![tactic(auto)]
+
 ghost use Rattle.std.specs.Prelude.{◌∷◌, ◌≤◌, length};
 ghost use Rattle.refusal.specs.Refusal.{reason_number};
 ghost use Rattle.octets.specs.Octets.{Put, decimal};

@@ -1,4 +1,6 @@
 // A table with what is kept for every run of its rows, as one record of numbers (02, W-207).
+#![tactic(auto)]
+
 ghost use Rattle.std.specs.Prelude.{◌≡◌};
 ghost use Rattle.record.specs.Record.{table_in};
 

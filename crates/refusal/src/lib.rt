@@ -1,4 +1,6 @@
 // What is turned away (01, "What is turned away"): why, which input, where.
+#![tactic(auto)]
+
 ghost use Rattle.std.specs.Prelude.{◌≡◌, ◌<◌, ◌^◌};
 ghost use Rattle.refusal.specs.Refusal.{reason_number, input_of};
 

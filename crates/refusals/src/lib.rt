@@ -1,4 +1,6 @@
 // Why a text or a goal is refused, as a line: where, the refusal's name and number, and what is expected there.
+#![tactic(auto)]
+
 use message::Whose;
 use refusal::{Reason, Refusal};
 

@@ -1,4 +1,6 @@
 // A bad file saved (02, W-212): the rows that can be had from its top, a plan for them, and which of its blocks are bad.
+#![tactic(auto)]
+
 ghost use Rattle.std.specs.Prelude.{◌≡◌, ◌||◌, List, ℕ, ◌^◌, ◌≤◌, ◌<◌, min, ltb, length};
 ghost use Rattle.salvaging.specs.Salvage.{kept_cells, Salvaged};
 ghost use Rattle.salvaging.specs.Answers.{salvage_told};

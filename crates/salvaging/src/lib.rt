@@ -1,5 +1,7 @@
 // What can be had of a bad file (02, W-212): what its saving answers. specs/ says which rows are kept and what is reported, proofs/ that
 // they are the longest run from the top, the original's, and that a good file comes through unchanged.
+#![tactic(auto)]
+
 ghost use Rattle.std.specs.Prelude.{◌≡◌};
 ghost use Rattle.refusal.specs.Refusal.{refused};
 ghost use Rattle.salvaging.specs.Salvage.{lost};

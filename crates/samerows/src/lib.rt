@@ -1,5 +1,7 @@
 // Rows compared (02, W-208): whether one stands among others, which are found by where they start; and marks, numbers that tell most rows
 // apart.
+#![tactic(auto)]
+
 ghost use Rattle.std.specs.Prelude.{◌≡◌, ◌&&◌, length, take, drop};
 ghost use Rattle.cell.specs.Same.{same, among};
 ghost use Rattle.samerows.specs.Starts.{rows_lent};

@@ -1,4 +1,6 @@
 // A file of facts, read once: what is kept of it for every goal.
+#![tactic(auto)]
+
 use builder::BuildAnswer;
 use checker::PlanAnswer;
 use least::By;

@@ -1,4 +1,6 @@
 // Parts of lent cells and of lent bytes, from a place up to another. What lies outside is left out.
+#![tactic(auto)]
+
 ghost use Rattle.slices.specs.Slices.{Inside};
 
 pub mod bytes;

@@ -1,4 +1,6 @@
 // How the code holds a state of a plan (01, "Plans"): its rows as masks of their open cells, and the column of cells at a place.
+#![tactic(auto)]
+
 pub mod column;
 pub mod flags;
 pub mod mask;

@@ -1,4 +1,6 @@
 // Counts of 64 bits that never go round: one that would be larger stays at the largest number.
+#![tactic(auto)]
+
 ghost use Rattle.std.specs.Prelude.{◌≡◌};
 ghost use Rattle.sums.specs.Sums.{up_by};
 

@@ -1,4 +1,6 @@
 // Tables, goals and rows (01, "Tables and goals").
+#![tactic(auto)]
+
 mod terms;
 
 ghost use Rattle.std.specs.Prelude.{◌≡◌, ◌||◌, [], ◌≤◌, ltb, length, drop};

@@ -1,5 +1,7 @@
 // What goals add up to (02, W-214): how often each rule fitted, how many goals were answered and how many refused, and the branches tried in
 // all. The counts have 64 bits; one that would be larger stays at the largest number.
+#![tactic(auto)]
+
 ghost use Rattle.std.specs.Prelude.{◌≡◌};
 ghost use Rattle.answer.specs.Run.{run_told};
 ghost use Rattle.tally.specs.Tally.{Nothing, Added};

@@ -1,5 +1,7 @@
 // What the program ask says of its counts, put into a lent room as the functions of `octets` put their texts: lines of a table, each a number
 // at the right of its column and what it counts.
+#![tactic(auto)]
+
 ghost use Rattle.std.specs.Prelude.{◌≡◌, ◌-◌, length};
 ghost use Rattle.octets.specs.Octets.{Put, decimal};
 ghost use Rattle.tallywords.specs.Tallies.{column, more_text, mark_text, fitted_line, words_for, total_line};

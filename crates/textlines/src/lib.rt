@@ -1,4 +1,6 @@
 // What is printed for a text (02, W-201), as bytes.
+#![tactic(auto)]
+
 mod lines;
 
 ghost use Rattle.printing.specs.Printing.{Written};

@@ -1,5 +1,7 @@
 // What `ask --tune` says, put into a lent room as the functions of `octets` put their texts: which columns to look at first, what was counted, and
 // that a file has more goals than there is room for.
+#![tactic(auto)]
+
 ghost use Rattle.octets.specs.Octets.{Put};
 ghost use Rattle.tunewords.specs.Tuned.{call_text, look_line, counted_line, full_reason, full_line};
 

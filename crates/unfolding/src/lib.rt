@@ -1,4 +1,6 @@
 // A plan made a program (02, W-210): the walk over the plan's states that makes its clauses.
+#![tactic(auto)]
+
 mod fold;
 mod own;
 mod past;
