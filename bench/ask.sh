@@ -1,7 +1,7 @@
 #!/bin/sh
 # Goals answered by `ask` and by SWI-Prolog, on random tables: the same answers in the same order up to the names of variables, with the
 # same rules and lines. Then by `ask` alone: with each column known the same answers, whatever is tried for them; and the counts of `--count` are
-# those of the answers. Not part of the gate. `rt check ask` writes target/bin/ask.
+# those of the answers. Not part of the gate. `tools/build ask` writes target/bin/ask.
 #
 # usage: bench/ask.sh [TABLES [SEED]]
 set -eu
@@ -9,7 +9,7 @@ cd "$(dirname "$0")"
 bench=$PWD
 ask=$bench/../target/bin/ask
 command -v swipl >/dev/null || { echo "SWI-Prolog (swipl) is not installed: not compared"; exit 0; }
-[ -x "$ask" ] || { echo "target/bin/ask is not there: run \`rt check ask\` first"; exit 1; }
+[ -x "$ask" ] || { echo "target/bin/ask is not there: run \`tools/build ask\` first"; exit 1; }
 # the texts need no exported function
 cargo build --quiet --release --no-default-features --features stand-in --target-dir target/stand-in
 folder=$(mktemp -d)

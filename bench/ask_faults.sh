@@ -1,6 +1,6 @@
 #!/bin/sh
 # What `ask` says where reading or writing fails, which the gate cannot make, and to lines that are too long. Standard error stands beside standard
-# output here. Not part of the gate. `rt check ask` writes target/bin/ask; strace makes a read fail half-way.
+# output here. Not part of the gate. `tools/build ask` writes target/bin/ask; strace makes a read fail half-way.
 #
 # usage: bench/ask_faults.sh
 set -eu

@@ -1,6 +1,6 @@
 #!/bin/sh
 # 10,000 goals on standard input, answered by `ask` and by SWI-Prolog: seconds on the clock, the least of five runs of each in turn, and the same
-# without goals. Not part of the gate. `rt check ask` writes target/bin/ask; other programs to be timed beside it are named as arguments.
+# without goals. Not part of the gate. `tools/build ask` writes target/bin/ask; other programs to be timed beside it are named as arguments.
 #
 # usage: bench/ask_time.sh [PROGRAM ..]
 set -eu

@@ -1,13 +1,13 @@
 #!/bin/sh
 # `ask --tune` on random tables, by `ask` alone: what it counts is what `--count` counts with the list of columns that it prints and without one,
 # no list that is tried here counts less, its plan is that of `--known` with this list, and it refuses the goals that `ask` refuses. Every list is
-# tried for up to 4 columns, else those of one and of two. Not part of the gate. `rt check ask` writes target/bin/ask.
+# tried for up to 4 columns, else those of one and of two. Not part of the gate. `tools/build ask` writes target/bin/ask.
 #
 # usage: bench/ask_tune.sh [TABLES [SEED]]
 set -eu
 cd "$(dirname "$0")"
 ask=${ASK:-$PWD/../target/bin/ask}
-[ -x "$ask" ] || { echo "target/bin/ask is not there: run \`rt check ask\` first"; exit 1; }
+[ -x "$ask" ] || { echo "target/bin/ask is not there: run \`tools/build ask\` first"; exit 1; }
 # the texts need no exported function
 cargo build --quiet --release --features stand-in --target-dir target/stand-in
 folder=$(mktemp -d)

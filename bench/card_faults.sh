@@ -1,6 +1,6 @@
 #!/bin/sh
 # What `card` says where reading or writing fails, which the gate cannot make, and that the old card is left. Standard error stands beside standard
-# output here. Not part of the gate. `rt check card` writes target/bin/card; strace makes single calls fail. As root a device
+# output here. Not part of the gate. `tools/build card` writes target/bin/card; strace makes single calls fail. As root a device
 # stands in the card's place, as another user a folder that cannot be written.
 #
 # usage: bench/card_faults.sh

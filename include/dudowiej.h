@@ -2,7 +2,7 @@
  * filled in, and the one that a list of goals likes best, the check of any plan, the run of a plan on a goal, what the rows say to it, also as
  * Prolog text, edits of a row at a time, a plan handed back as Prolog, one file for a table and its plan, and what is saved of a bad one.
  *
- * Link target/staticlib/libdudowiej.a, which `rt staticlib dudowiej` writes (x86-64).
+ * Link target/staticlib/libdudowiej.a, which `tools/build dudowiej` writes (x86-64).
  *
  * The cells of terms: bits 31..30 are the kind. 0, a variable: its number in bits 15..0. 1, a name: its number there, and how many
  * arguments it has, 0 to 4, in bits 18..16. 2, a whole number: its value in bits 15..0, two's complement, -32,768 to 32,767. All other

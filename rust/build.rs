@@ -1,4 +1,4 @@
-//! Links the static library that `rt staticlib` writes.
+//! Links the static library that `tools/build dudowiej` writes.
 
 use std::path::Path;
 
@@ -12,7 +12,7 @@ fn main() {
     println!("cargo:rerun-if-changed=build.rs");
     println!("cargo:rerun-if-changed={}", archive.display());
     if !archive.exists() {
-        panic!("{} is not there: run `rt staticlib {LIBRARY}` in the repository's top folder first", archive.display());
+        panic!("{} is not there: run `tools/build {LIBRARY}` in the repository's top folder first", archive.display());
     }
     println!("cargo:rustc-link-search=native={}", folder.display());
     println!("cargo:rustc-link-lib=static={LIBRARY}");

@@ -1,7 +1,7 @@
 //! A rule table for shop terminals. A shop writes one rule to a row; the rows are tried from the top, as written, and neighbouring rows
 //! share their tests.
 //!
-//! This crate is the safe side of a library that is proved: `rt staticlib` writes it as an archive, which this crate links (README.md). A
+//! This crate is the safe side of a library that is proved: `tools/build dudowiej` writes it as an archive, which this crate links (README.md). A
 //! table is worked out into a [`Record`] once; a [`Plan`] is built from the record; and a goal is answered by the record and the plan.
 //!
 //! ```
