@@ -213,6 +213,9 @@ pub record Looking (bs ns sib rep mark₀ mark : List ℕ) (p k q more : ℕ) : 
   pub unders : All (Under bs ns sib rep mark₀) (steps sib more q)
   pub whole : (own : ℕ → List ℕ) → FinAll (nodes own bs ns sib) rep (steps sib more q) → FinAll (nodes own bs ns sib) rep (steps sib k p)
 
+pub looking-first : {bs ns sib rep mark : List ℕ} {p k : ℕ} → SearchingAll bs ns sib rep mark p k → Looking bs ns sib rep mark mark p k p k
+looking-first S = record { ready = S.ready; marks = S.marks; grey = λ g e. e; here = S.here; unders = S.unders; whole = λ own w. w }
+
 under-fewer : {bs ns sib rep mark mark' : List ℕ} {r : ℕ} → ((g : ℕ) → get_or mark' g 0 ≡ 1 → get_or mark g 0 ≡ 1) → Under bs ns sib rep mark r
     → Under bs ns sib rep mark' r
 under-fewer h u = record { shorter = λ own τ f s g q. u.shorter own τ f s g (h g q) }
