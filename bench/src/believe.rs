@@ -209,12 +209,12 @@ fn in_braces(names: &str) -> impl Iterator<Item = &str> {
 
 /// The file of a module, where it is one of ours; and the type, where the module is a declared type or its variants.
 fn module_of(module: &str) -> Option<(String, Option<String>)> {
-    let (name, rest) = module.strip_prefix("Rattle·")?.split_once(".specs.")?;
-    let folder = format!("crates/{}", name.trim_end_matches("·specs"));
+    let (name, rest) = module.strip_prefix("Rattle.")?.split_once(".specs.").filter(|(name, _)| *name != "std")?;
+    let folder = format!("crates/{name}");
     let Some(declared) = rest.strip_prefix("declared.") else {
         return Some((format!("{folder}/specs/{}.antt", rest.replace('.', "/")), None));
     };
-    let declared = declared.trim_end_matches(".the-variants");
+    let declared = declared.trim_end_matches(".TheVariants");
     let (file, name) = declared.rsplit_once('.').unwrap_or(("lib", declared));
     Some((format!("{folder}/src/{}.rt", file.replace('.', "/")), Some(name.to_string())))
 }
@@ -231,9 +231,15 @@ fn named(path: &str, file: &File, block: &Block) -> Vec<Place> {
                 places.push((path.to_string(), word.to_string()));
             } else if let Some(place) = file.taken.get(*word) {
                 places.push(place.clone());
-            } else if let Some((alias, name)) = word.split_once('.') {
-                let of_alias = file.aliases.get(alias);
-                places.extend(of_alias.map(|(from, of_type)| (from.clone(), of_type.clone().unwrap_or(name.to_string()))));
+            } else if let Some((first, name)) = word.split_once('.') {
+                if let Some((from, of_type)) = file.aliases.get(first) {
+                    places.push((from.clone(), of_type.clone().unwrap_or(name.to_string())));
+                // otherwise a value's field
+                } else if file.names.contains_key(first) {
+                    places.push((path.to_string(), first.to_string()));
+                } else {
+                    places.extend(file.taken.get(first).cloned());
+                }
             }
         }
     }
