@@ -54,14 +54,20 @@ fn read_crates(text: &str) -> Crates<'_> {
     for line in text.lines() {
         if let Some(words) = line.strip_prefix('#') {
             said = words.trim();
-        } else if let Some((name, used)) = line.split_once(':') {
-            crates.uses.insert(name.trim(), used.split_whitespace().collect());
+        } else if let Some((name, used)) = listed(line) {
+            crates.uses.insert(name, used.split_whitespace().collect());
             if said.starts_with("mathematics:") {
-                crates.mathematics.insert(name.trim());
+                crates.mathematics.insert(name);
             }
         }
     }
     crates
+}
+
+/// The crate that a line of crates.txt lists, and what it uses. Behind the name may stand what is made of it, as `staticlib`.
+pub fn listed(line: &str) -> Option<(&str, &str)> {
+    let (name, used) = line.split_once(':').filter(|_| !line.starts_with('#'))?;
+    Some((name.split_whitespace().next()?, used))
 }
 
 /// The layers from the ground up, each with the words in it.
