@@ -2,7 +2,7 @@
 
 use std::path::Path;
 
-/// The crate that is made a static library, and so the name of the archive.
+/// What the archive is called, as `tools/build` is told.
 const LIBRARY: &str = "dudowiej";
 
 fn main() {
