@@ -20,10 +20,10 @@
  * A list is passed as a pointer and a length, a record or a report as a pointer. A pointer is aligned for its type and not null, even where
  * the length is 0. What a call writes, a lent room, a record or a report, shares no memory with its other inputs: a row that is to be
  * appended again is copied out of its record first. The functions keep nothing between calls, and allocate nothing. Of its caller's stack a
- * call touches at most 128,648 bytes to read a goal's text, 124,120 to build the plan that a list likes best, 116,536 to salvage a file, 82,776
- * to build a plan for named columns, 62,040 to load a text, 50,944 to read a file, 49,936 to write one, 45,480 for the replies to a list, 44,376
- * for replies, 35,616 to hand a plan back, 33,632 to run one, 29,168 to build one, 17,488 to write an answer's text, 17,000 to edit a record,
- * 16,864 to check a plan, 8,664 to work a record out and 2,536 to read (measured: docs/BENCH.md, "Stack"). */
+ * call touches at most 128,568 bytes to read a goal's text, 124,008 to build the plan that a list likes best, 116,424 to salvage a file, 82,696
+ * to build a plan for named columns, 61,928 to load a text, 48,832 to read a file, 47,856 to write one, 45,440 for the replies to a list, 44,288
+ * for replies, 33,504 to hand a plan back, 31,568 to run one, 28,944 to build one, 17,424 to write an answer's text, 16,984 to edit a record,
+ * 14,752 to check a plan, 8,632 to work a record out and 2,520 to read (measured: docs/BENCH.md, "Stack"). */
 #ifndef DUDOWIEJ_H
 #define DUDOWIEJ_H
 
