@@ -87,11 +87,15 @@ say 'no file may have more than 512 bytes: a write that is cut short'
 ) 2>&1 | cat
 left
 if command -v strace >/dev/null; then
-    for call in write:error=ENOSPC fsync:error=EIO close:error=EIO; do
+    for call in write:error=ENOSPC fsync:error=EIO; do
         say "a call on the new file that fails: $call"
         strace -qq -o /dev/null -P "$PWD/shop.card.new" -e trace="${call%%:*}" -e inject="$call" $card pack badge.pl shop.card
         left
     done
+    say 'its closing alone fails, after all of it is on its device: this is not said, and the new card is there'
+    strace -qq -o /dev/null -P "$PWD/shop.card.new" -e trace=close -e inject=close:error=EIO $card pack badge.pl shop.card
+    $card check shop.card
+    cp old shop.card
     say 'the renaming fails; then the removing too'
     strace -qq -o /dev/null -e trace=rename -e inject=rename:error=EACCES $card pack badge.pl shop.card
     left
