@@ -8,7 +8,8 @@ use std::env::{Env, FillError};
 use std::fmt::Write as _;
 use std::fs::{File, OpenOptions};
 use std::io::{ErrorKind, Print, Read, Seek, SeekFrom, Stdin, Write};
-use std::{fmt, fs, io};
+use std::str::Utf8Error;
+use std::{fmt, fs, io, str};
 
 // How long the name of a file may be, and one byte more.
 pub const NAME: usize = 4096;
@@ -31,18 +32,39 @@ pub struct Reason {
     code: i32,
 }
 
-fn reason_of(error: io::Error) -> Reason {
-    match error.raw_os_error() {
-        Some(code) => Reason { code },
-        None => reason_of_kind(error.kind()),
+impl From<io::Error> for Reason {
+    fn from(error: io::Error) -> Self {
+        match error.raw_os_error() {
+            Some(code) => Reason { code },
+            None => error.kind().into(),
+        }
     }
 }
 
 // An error of std's own, which has no number: a value that it does not hand on to the system, or a write that takes nothing.
-fn reason_of_kind(kind: ErrorKind) -> Reason {
-    match kind {
-        ErrorKind::InvalidInput => Reason { code: EINVAL },
-        _ => Reason { code: EIO },
+impl From<ErrorKind> for Reason {
+    fn from(kind: ErrorKind) -> Self {
+        match kind {
+            ErrorKind::InvalidInput => Reason { code: EINVAL },
+            _ => Reason { code: EIO },
+        }
+    }
+}
+
+// An argument that is not there, or is longer than the buffer that is lent for it.
+impl From<FillError> for Reason {
+    fn from(error: FillError) -> Self {
+        match error {
+            FillError::TooLong => Reason { code: ENAMETOOLONG },
+            FillError::NotPresent => Reason { code: EINVAL },
+        }
+    }
+}
+
+// A file's name that is not UTF-8, which std does not take.
+impl From<Utf8Error> for Reason {
+    fn from(_error: Utf8Error) -> Self {
+        Reason { code: EILSEQ }
     }
 }
 
@@ -50,39 +72,25 @@ fn reason_of_kind(kind: ErrorKind) -> Reason {
 pub fn arg_count(rt: HostRuntime) -> usize {
     let mut none = [0u8; 1];
     for i in 0..usize::MAX {
-        if is_missing(rt.arg(i, &mut none)) {
+        if let Err(FillError::NotPresent) = rt.arg(i, &mut none) {
             return i;
         }
     }
     usize::MAX
 }
 
-fn is_missing(got: Result<usize, FillError>) -> bool {
-    match got {
-        Err(FillError::NotPresent) => true,
-        _ => false,
-    }
-}
-
 // An argument, at the front of a lent buffer: how many bytes. One that is longer than the buffer fills it.
 pub fn arg(rt: HostRuntime, i: usize, buf: &mut [u8]) -> Result<usize, Reason>
     ensures { IfOk result (λ n. n ≤ length buf.new) }
 {
-    match rt.arg(i, buf) {
-        Ok(n) => Ok(n),
-        Err(FillError::TooLong) => Err(Reason { code: ENAMETOOLONG }),
-        Err(FillError::NotPresent) => Err(Reason { code: EINVAL }),
-    }
+    Ok(rt.arg(i, buf)?)
 }
 
 // Likewise; no bytes where it is missing or longer than the buffer.
 pub fn word(rt: HostRuntime, i: usize, buf: &mut [u8]) -> usize
     ensures { result ≤ length buf.new }
 {
-    match arg(rt, i, buf) {
-        Ok(n) => n,
-        Err(_) => 0,
-    }
+    arg(rt, i, buf).unwrap_or(0)
 }
 
 // Likewise; of one that is longer than the buffer as much as fits.
@@ -96,20 +104,9 @@ pub fn front(rt: HostRuntime, i: usize, buf: &mut [u8]) -> usize
     }
 }
 
-// A file's name as std takes it. One that is not UTF-8 names none there.
-fn text_of(path: &[u8]) -> Result<&str, Reason> {
-    match std::str::from_utf8(path) {
-        Ok(text) => Ok(text),
-        Err(_) => Err(Reason { code: EILSEQ }),
-    }
-}
-
 fn open_by(rt: HostRuntime, how: &OpenOptions, path: &[u8]) -> Result<File, Reason> {
-    let text = text_of(path)?;
-    match how.open(&rt, text) {
-        Ok(file) => Ok(file),
-        Err(e) => Err(reason_of(e)),
-    }
+    let text = str::from_utf8(path)?;
+    Ok(how.open(&rt, text)?)
 }
 
 // What bytes are read from: standard input, or an open file, which is closed when it is let go.
@@ -157,10 +154,7 @@ pub fn read(from: &mut Stream, buf: &mut [u8]) -> Result<usize, Reason>
 fn read_from<R: Read>(from: &mut R, buf: &mut [u8]) -> Result<usize, Reason>
     ensures { IfOk result (λ n. n ≤ length buf.new) }
 {
-    match from.read(buf) {
-        Ok(n) => Ok(n),
-        Err(e) => Err(reason_of(e)),
-    }
+    Ok(from.read(buf)?)
 }
 
 // Standard input up to its end, or as much of it as there is room for, or as can be read; how many bytes.
@@ -181,10 +175,7 @@ pub fn read_input(rt: HostRuntime, buf: &mut [u8]) -> usize
 
 // All of the bytes to standard output; or why they, or some of them, are not written.
 pub fn put(rt: HostRuntime, bytes: &[u8]) -> Result<(), Reason> {
-    match Print::write_all(&rt.stdout(), bytes) {
-        Ok(()) => Ok(()),
-        Err(e) => Err(reason_of(e)),
-    }
+    Ok(Print::write_all(&rt.stdout(), bytes)?)
 }
 
 // Likewise, where nothing is to be done if they cannot be written.
@@ -202,25 +193,39 @@ pub fn complain(rt: HostRuntime, bytes: &[u8]) {
     let _ = Print::write_all(&rt.stderr(), bytes);
 }
 
-// The system's words for an error, as std prints it, in a room of its own.
+// The system's words for an error, as std prints it, in a room of its own. What it has no room for is left out.
 #[derive(Drop)]
 struct Words {
     room: [u8; 256],
     to: usize,
+    ghost in_room: { to ≤ 256 },
+}
+
+impl Words {
+    fn of(why: Reason) -> Self {
+        let mut words = Words {
+            room: [0; 256],
+            to: 0,
+        };
+        let error = io::Error::from_raw_os_error(why.code);
+        let _ = write!(words, "{error}");
+        words
+    }
+
+    fn front(&self) -> &[u8] {
+        let said = &self.room[..self.to];
+        &said[..words_end(said)]
+    }
 }
 
 impl fmt::Write for Words {
     fn write_str(&mut self, s: &str) -> fmt::Result {
-        let bytes = s.as_bytes();
-        let mut i = 0;
-        while i < bytes.len() {
-            let to = self.to;
-            if to >= 256 {
+        for byte in s.as_bytes() {
+            if self.to == self.room.len() {
                 return Err(fmt::Error);
             }
-            self.room[to] = bytes[i];
-            self.to = to + 1;
-            i += 1;
+            self.room[self.to] = *byte;
+            self.to += 1;
         }
         Ok(())
     }
@@ -230,9 +235,7 @@ impl fmt::Write for Words {
 fn words_end(words: &[u8]) -> usize
     ensures { result ≤ length words.now }
 {
-    let mut i = words.len();
-    while 1 < i {
-        i -= 1;
+    for i in (1..words.len()).rev() {
         if words[i] == b'(' {
             return i - 1;
         }
@@ -242,29 +245,10 @@ fn words_end(words: &[u8]) -> usize
 
 // A line to standard error: what failed, as the caller names it, a colon and the system's words for the reason.
 pub fn fail(rt: HostRuntime, what: &[u8], why: Reason) {
-    let mut words = Words {
-        room: [0; 256],
-        to: 0,
-    };
-    put_reason(&mut words, why);
-    complain(rt, what);
-    complain(rt, b": ");
-    complain(rt, front_of(&words));
-    complain(rt, b"\n");
-}
-
-fn put_reason(words: &mut Words, why: Reason) {
-    let error = io::Error::from_raw_os_error(why.code);
-    let _ = write!(words, "{error}");
-}
-
-fn front_of(words: &Words) -> &[u8] {
-    let all = &words.room[..];
-    if words.to > all.len() {
-        return all;
+    let words = Words::of(why);
+    for part in [what, b": ", words.front(), b"\n"] {
+        complain(rt, part);
     }
-    let said = &all[..words.to];
-    &said[..words_end(said)]
 }
 
 // Whether the reason is that there is no such file.
@@ -275,49 +259,27 @@ pub fn is_no_file(why: Reason) -> bool {
 // Gives an open file the length that it has. Of what is no file, as a folder or a device, none can be given.
 pub fn keep_length(file: &mut File) -> Result<(), Reason> {
     match file.seek(SeekFrom::End(0)) {
-        Ok(length) => set_length(file, length),
+        Ok(length) => Ok(file.set_len(length)?),
         Err(_) => Err(Reason { code: EINVAL }),
-    }
-}
-
-fn set_length(file: &File, length: u64) -> Result<(), Reason> {
-    match file.set_len(length) {
-        Ok(()) => Ok(()),
-        Err(e) => Err(reason_of(e)),
     }
 }
 
 // All of the bytes into an open file, as far as its device, and the file closed. That the closing fails is not said.
 pub fn fill(mut file: File, bytes: &[u8]) -> Result<(), Reason> {
-    match file.write_all(bytes) {
-        Ok(()) => settle(&file),
-        Err(e) => Err(reason_of(e)),
-    }
-}
-
-fn settle(file: &File) -> Result<(), Reason> {
-    match file.sync_all() {
-        Ok(()) => Ok(()),
-        Err(e) => Err(reason_of(e)),
-    }
+    file.write_all(bytes)?;
+    Ok(file.sync_all()?)
 }
 
 // A file by another name, in place of what has it.
 pub fn rename(rt: HostRuntime, from: &[u8], to: &[u8]) -> Result<(), Reason> {
-    let old = text_of(from)?;
-    let new = text_of(to)?;
-    match fs::rename(&rt, old, new) {
-        Ok(()) => Ok(()),
-        Err(e) => Err(reason_of(e)),
-    }
+    let old = str::from_utf8(from)?;
+    let new = str::from_utf8(to)?;
+    Ok(fs::rename(&rt, old, new)?)
 }
 
 pub fn remove(rt: HostRuntime, path: &[u8]) -> Result<(), Reason> {
-    let name = text_of(path)?;
-    match fs::remove_file(&rt, name) {
-        Ok(()) => Ok(()),
-        Err(e) => Err(reason_of(e)),
-    }
+    let name = str::from_utf8(path)?;
+    Ok(fs::remove_file(&rt, name)?)
 }
 
 #[cfg(test)]
@@ -326,12 +288,8 @@ mod tests {
 
     // What a line says after a colon, for the system's number of an error.
     fn is_said(code: i32, said: &[u8]) -> bool {
-        let mut words = Words {
-            room: [0; 256],
-            to: 0,
-        };
-        put_reason(&mut words, Reason { code });
-        front_of(&words) == said
+        let words = Words::of(Reason { code });
+        words.front() == said
     }
 
     #[test]
