@@ -2,12 +2,11 @@
 use Prim.Native.Nat.{ℕ, ◌+◌, ◌≤◌, ◌<◌}
 use mathlib.Core.Path.{◌≡◌, refl, sym, ap, ap₂, subst, ◌∙◌}
 use mathlib.Core.Bool.{Bool, true, false, cond}
-use mathlib.Core.List.{List, ◌++◌}
+use mathlib.Core.List.{List}
 use native.Mathlib.Omega.{arith}
-use native.Mathlib.Numerals.{add-one}
 use lib.Dec.{ltb}
-use lib.ListN.{length, take, drop, set, get_or, length-append, length-map}
-use lib.Seq.{take-length, length-take-le, take-append_seam, paste, paste-suc}
+use lib.ListN.{length, take, drop, length-append, length-map}
+use lib.Seq.{length-take-le, take-append_seam}
 use borrow.Author.Tests.{lt-ltb, le-ltb, ltb-true, ltb-false}
 use Rattle.refusal.specs.Refusal.{Refused, refused, told, Answer, answered, turned}
 use Rattle.refusal.specs.Read.{Read, read, refuse}
@@ -33,8 +32,8 @@ use Rattle.prolog.specs.Entry as entry
 pub use Rattle.texttable.proofs.TableLaws.{cells-long}
 use Rattle.prolog.specs.code.Parts.{over_of, given, Gives}
 use Rattle.prolog.specs.declared.FactsAnswer.TheVariants as facts-answer
-use Rattle.prolog.specs.declared.TextAnswer.{TextAnswer}
-use Rattle.prolog.specs.declared.TextAnswer.TheVariants as text-answer
+use Rattle.prolog.specs.declared.TextSize.{TextSize}
+use Rattle.std.specs.Prelude.{Result, Ok, Err}
 use Rattle.limits.specs.Limits.{most_names, most_table_cells}
 
 -- A REFUSAL WRITES NOTHING
@@ -85,7 +84,7 @@ module _ (t cells names : List ℕ) (c : Counted) (C : Counts t c) where
           (long-table (table_cells t C.facts) (omega (arith, needs))))
 
 -- GIVEN
-gives-loads : (t made list cells names cells' names' : List ℕ) (r : TextAnswer) (facts : List Fact) → Taken t (read facts)
+gives-loads : (t made list cells names cells' names' : List ℕ) (r : Result TextSize Refusal) (facts : List Fact) → Taken t (read facts)
     → made ≡ table_cells t facts → list ≡ name_list t facts
     → length made ≤ length cells → length list ≤ length names → Gives made list cells names cells' names' r
     → TextLoads t cells names cells' names' (text_told r)
@@ -116,11 +115,11 @@ gives-loads t made list cells names cells' names' r facts x e f h k G = by (tabl
 -- what the table's reader answered
 pub table-accepted : (made list cells names cells' names' : List ℕ) (w n : ℕ) {a : TableAnswer} → table_told a ≡ table_says (table_of made)
     → a ≡ table-answer.Accepted w n
-    → cells' ≡ put_first made cells → names' ≡ put_first list names → Gives made list cells names cells' names' (text-answer.Read (length made) (length list))
+    → cells' ≡ put_first made cells → names' ≡ put_first list names → Gives made list cells names cells' names' (Ok (sizes (length made) (length list)))
 table-accepted made list cells names cells' names' w n e q b d = by (table_of made) refl (sym (ap table_told q) ∙ e)
   where
     by : (o : Read Table) → table_of made ≡ o → answered w n ≡ table_says o
-        → Gives made list cells names cells' names' (text-answer.Read (length made) (length list))
+        → Gives made list cells names cells' names' (Ok (sizes (length made) (length list)))
     by (read T) z y =
         let g = ap (given made list) z in
         record {
@@ -131,10 +130,10 @@ table-accepted made list cells names cells' names' w n e q b d = by (table_of ma
     by (refuse f) z y = absurd (let u : ◌≡◌ {A = ℕ} 0 1 = cc in omega arith)
 
 pub table-refused : (made list cells names : List ℕ) (f : Refusal) {a : TableAnswer} → table_told a ≡ table_says (table_of made) → a ≡ table-answer.Refused f
-    → Gives made list cells names cells names (text-answer.Refused f)
+    → Gives made list cells names cells names (Err f)
 table-refused made list cells names f e q = by (table_of made) refl (sym (ap table_told q) ∙ e)
   where
-    by : (o : Read Table) → table_of made ≡ o → turned (told f) ≡ table_says o → Gives made list cells names cells names (text-answer.Refused f)
+    by : (o : Read Table) → table_of made ≡ o → turned (told f) ≡ table_says o → Gives made list cells names cells names (Err f)
     by (read T) z y = absurd (let u : ◌≡◌ {A = ℕ} 0 1 = cc in omega arith)
     by (refuse g) z y =
         let p = ap (given made list) z in
@@ -220,7 +219,7 @@ module _ {t list made list' made' : List ℕ} {room n : ℕ} {c : Counted} (L : 
   pub names-fit : {r : ℕ} → n ≤ r → length (take n list') ≤ r
   names-fit h = omega (arith, h, length-take-le n list' names-within)
 
-pub listed-loads : {t list made list' made' : List ℕ} {n : ℕ} {c : Counted} (cells names cells' names' : List ℕ) (r : TextAnswer)
+pub listed-loads : {t list made list' made' : List ℕ} {n : ℕ} {c : Counted} (cells names cells' names' : List ℕ) (r : Result TextSize Refusal)
     → Listed t (length cells) c list made list' made' n → n ≤ length names
     → Gives (take (c.symbols + 2) made') (take n list') cells names cells' names' r → TextLoads t cells names cells' names' (text_told r)
 listed-loads {t} {list' = list'} {made' = made'} {n = n} {c = c} cells names cells' names' r L h G =
@@ -254,15 +253,3 @@ module _ {t made list : List ℕ} where
   pub facts-turned : {list' made' : List ℕ} {f : Refusal} → WordsAre t most_table_cells list made list' made' (text-words.Refused f)
       → FactsAre t made list made' list' (facts-answer.Refused f)
   facts-turned (words.refused x) = entry.not_taken x
-
--- COPIED TO THE FRONT
-pub copied_more : (from room room' : List ℕ) (i : ℕ) → room' ≡ paste room 0 from i → i < length from → length from ≤ length room
-    → set room' i (get_or from i 0) ≡ paste room 0 from (i + 1)
-copied_more from room room' i e h l =
-    let z : i ≡ 0 + i = omega arith in
-    ap₂ (λ (xs : List ℕ) (n : ℕ). set xs n (get_or from i 0)) e z ∙ paste-suc room 0 from i 0 (omega arith) h ∙ ap (paste room 0 from) (sym (add-one i))
-
-pub copied_all : (from room room' : List ℕ) (i : ℕ) → room' ≡ paste room 0 from i → i ≡ length from → room' ≡ put_first from room
-copied_all from room room' i e q =
-    let z : 0 + length from ≡ length from = omega arith in
-    e ∙ ap (paste room 0 from) q ∙ ap₂ (λ (xs : List ℕ) (n : ℕ). xs ++ drop n room) (take-length from) z

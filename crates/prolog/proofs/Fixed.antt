@@ -18,17 +18,18 @@ use Rattle.texttable.proofs.Fixed.{taken-apart}
 use Rattle.prolog.specs.Entry.{text_told, sizes, FactsAre, are-made, too_long, not_taken}
 use Rattle.prolog.specs.declared.FactsAnswer.{FactsAnswer}
 use Rattle.prolog.specs.declared.FactsAnswer.TheVariants as facts-answer
-use Rattle.prolog.specs.declared.TextAnswer.{TextAnswer}
-use Rattle.prolog.specs.declared.TextAnswer.TheVariants as text-answer
+use Rattle.prolog.specs.declared.TextSize.{TextSize}
+use Rattle.refusal.specs.declared.Refusal.{Refusal}
+use Rattle.std.specs.Prelude.{Result, Ok, Err}
 use Rattle.limits.specs.Limits.{most_names}
 
-text_told-one : (a b : TextAnswer) → text_told a ≡ text_told b → a ≡ b
-text_told-one (text-answer.Read c n) (text-answer.Read d m) e = cc
-text_told-one (text-answer.Read c n) (text-answer.Refused g) e = absurd (let z : ◌≡◌ {A = ℕ} 0 1 = cc in omega arith)
-text_told-one (text-answer.Refused f) (text-answer.Read d m) e = absurd (let z : ◌≡◌ {A = ℕ} 0 1 = cc in omega arith)
-text_told-one (text-answer.Refused f) (text-answer.Refused g) e = let q : told f ≡ told g = cc in ap text-answer.Refused (told-one q)
+text_told-one : (a b : Result TextSize Refusal) → text_told a ≡ text_told b → a ≡ b
+text_told-one (Ok n) (Ok m) e = let c : n.cells ≡ m.cells = cc in let d : n.names ≡ m.names = cc in ap₂ (λ (x y : ℕ). Ok (sizes x y)) c d
+text_told-one (Ok n) (Err g) e = absurd (let z : ◌≡◌ {A = ℕ} 0 1 = cc in omega arith)
+text_told-one (Err f) (Ok m) e = absurd (let z : ◌≡◌ {A = ℕ} 0 1 = cc in omega arith)
+text_told-one (Err f) (Err g) e = let q : told f ≡ told g = cc in ap Err (told-one q)
 
-pub read-text-fixed : {t cells names cells' names' cells'' names'' : List ℕ} {r s : TextAnswer}
+pub read-text-fixed : {t cells names cells' names' cells'' names'' : List ℕ} {r s : Result TextSize Refusal}
     → TextLoads t cells names cells' names' (text_told r) → TextLoads t cells names cells'' names'' (text_told s)
     → (r ≡ s) × (cells' ≡ cells'') × (names' ≡ names'')
 read-text-fixed {r = r} {s = s} a b = let f = text-fixed a b in (text_told-one r s f.0, f.1, f.2)

@@ -1,5 +1,5 @@
 -- What the entry answers, in the words of the promise (loading/specs/Load).
-use Rattle.std.specs.Prelude.{ℕ, ◌≤◌, ◌<◌, List, length}
+use Rattle.std.specs.Prelude.{ℕ, ◌≤◌, ◌<◌, List, length, Result, Ok, Err}
 use Rattle.refusal.specs.Refusal.{told, Answer, answered, turned}
 use Rattle.refusal.specs.Read.{refuse}
 use Rattle.refusal.specs.declared.Refusal.{Refusal}
@@ -8,19 +8,17 @@ use Rattle.grammar.specs.Taken.{Taken}
 use Rattle.loading.specs.Load.{put_first}
 use Rattle.scan.specs.Scan.{Counts}
 use Rattle.scan.specs.declared.Counted.{Counted}
-use Rattle.prolog.specs.declared.Sizes.{Sizes}
+use Rattle.prolog.specs.declared.TextSize.{TextSize}
 use Rattle.prolog.specs.declared.FactsAnswer.{FactsAnswer}
 use Rattle.prolog.specs.declared.FactsAnswer.TheVariants as facts-answer
-use Rattle.prolog.specs.declared.TextAnswer.{TextAnswer}
-use Rattle.prolog.specs.declared.TextAnswer.TheVariants as text-answer
 use Rattle.limits.specs.Limits.{most_names}
 
--- 02, "answers the cells written and the names listed"
-abbrev pub text_told : TextAnswer → Answer
-text_told (text-answer.Read cells names) = answered cells names
-text_told (text-answer.Refused f) = turned (told f)
+-- the cells written and the names listed
+abbrev pub text_told : Result TextSize Refusal → Answer
+text_told (Ok n) = answered n.cells n.names
+text_told (Err f) = turned (told f)
 
-abbrev pub sizes : ℕ → ℕ → Sizes
+abbrev pub sizes : ℕ → ℕ → TextSize
 sizes cells names = record { cells = cells; names = names }
 
 -- what is answered for a text that is made and not read as a table: its cells and its names at the front of two rooms, the rest of which is as

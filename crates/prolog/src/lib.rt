@@ -4,7 +4,7 @@
 #![tactic(auto)]
 
 ghost use Rattle.std.specs.Prelude.{◌≡◌, ◌≤◌, length};
-ghost use Rattle.refusal.specs.Refusal.{refused, turned};
+ghost use Rattle.refusal.specs.Refusal.{refused, told, turned};
 ghost use Rattle.refusal.specs.declared.Reason.TheVariants as reason;
 ghost use Rattle.refusal.specs.declared.Input.TheVariants as input;
 ghost use Rattle.loading.specs.Load.{put_first, TextLoads};
@@ -17,22 +17,22 @@ use scan::Counted;
 use table::TableAnswer;
 use texttable::{NamesRead, TextWords};
 
-// So many cells are written and so many names listed; or why the text is turned away.
-#[derive(Drop)]
-pub enum TextAnswer {
-    Read(usize, usize),
-    Refused(Refusal),
+// How many cells are made, and how many names listed.
+#[derive(Clone, Copy)]
+pub struct TextSize {
+    pub cells: usize,
+    pub names: usize,
 }
 
 // A lent room that is too small: so many cells are needed.
-fn no_room(need: usize) -> TextAnswer
-    ensures { text_told result ≡ turned (refused reason.Room input.Lent need) }
+fn no_room(need: usize) -> Refusal
+    ensures { told result ≡ refused reason.Room input.Lent need }
 {
-    TextAnswer::Refused(Refusal {
+    Refusal {
         reason: Reason::Room,
         input: Input::Lent,
         place: need,
-    })
+    }
 }
 
 // Copied to the front of a room.
@@ -40,15 +40,16 @@ fn put_front(from: &[u32], room: &mut [u32])
     requires { length from.now ≤ length room.old }
     ensures { room.new ≡ put_first from.now room.old }
 {
-    let mut i = 0;
-    while i < from.len() {
-        room[i] = from[i];
-        i += 1;
-    }
+    room[..from.len()].copy_from_slice(from);
 }
 
 // The cells and the list as they are made: the table is read, and only then are they copied.
-fn give(made: &[u32], list: &[u32], cells: &mut [u32], names: &mut [u32]) -> TextAnswer
+fn give(
+    made: &[u32],
+    list: &[u32],
+    cells: &mut [u32],
+    names: &mut [u32],
+) -> Result<TextSize, Refusal>
     requires { (length made.now ≤ length cells.old) × (length list.now ≤ length names.old) }
     ensures { Gives made.now list.now cells.old names.old cells.new
         names.new result }
@@ -58,27 +59,30 @@ fn give(made: &[u32], list: &[u32], cells: &mut [u32], names: &mut [u32]) -> Tex
         TableAnswer::Accepted(_, _) => {
             put_front(made, cells);
             put_front(list, names);
-            TextAnswer::Read(made.len(), list.len())
+            Ok(TextSize {
+                cells: made.len(),
+                names: list.len(),
+            })
         }
-        TableAnswer::Refused(f) => TextAnswer::Refused(f),
+        TableAnswer::Refused(f) => Err(f),
     }
 }
 
 // Over 2,048 symbols, with so many names, and room for so many.
-fn over(n: usize, room: usize) -> TextAnswer
-    ensures { text_told result ≡ over_of n room }
+fn over(n: usize, room: usize) -> Refusal
+    ensures { turned (told result) ≡ over_of n room }
 {
     if room < n {
         return no_room(n);
     }
-    TextAnswer::Refused(Refusal {
+    Refusal {
         reason: Reason::Length,
         input: Input::Table,
         place: 0,
-    })
+    }
 }
 
-pub fn read_text(text: &[u8], cells: &mut [u32], names: &mut [u32]) -> TextAnswer
+pub fn read_text(text: &[u8], cells: &mut [u32], names: &mut [u32]) -> Result<TextSize, Refusal>
     ensures { TextLoads text.now cells.old names.old cells.new names.new
         (text_told result) }
 {
@@ -88,29 +92,22 @@ pub fn read_text(text: &[u8], cells: &mut [u32], names: &mut [u32]) -> TextAnswe
         TextWords::Facts(c, known) => match known {
             NamesRead::Listed(n) => {
                 if names.len() < n {
-                    return no_room(n);
+                    return Err(no_room(n));
                 }
                 let k = c.symbols + 2;
                 give(&made[..k], &list[..n], cells, names)
             }
-            NamesRead::Counted(n) => over(n, names.len()),
-            NamesRead::Passed => no_room(c.symbols + 2),
+            NamesRead::Counted(n) => Err(over(n, names.len())),
+            NamesRead::Passed => Err(no_room(c.symbols + 2)),
         },
-        TextWords::Refused(f) => TextAnswer::Refused(f),
+        TextWords::Refused(f) => Err(f),
     }
-}
-
-// How many cells and names are made.
-#[derive(Clone, Copy)]
-pub struct Sizes {
-    pub cells: usize,
-    pub names: usize,
 }
 
 // The facts of a text, counted, with their cells and names; or there are over 2,048 symbols; or why the text is turned away.
 #[derive(Drop)]
 pub enum FactsAnswer {
-    Made(Counted, Sizes),
+    Made(Counted, TextSize),
     Long(Counted),
     Refused(Refusal),
 }
@@ -127,7 +124,7 @@ pub fn make_facts(
         TextWords::Facts(c, known) => match known {
             NamesRead::Listed(names) => {
                 let cells = c.symbols + 2;
-                FactsAnswer::Made(c, Sizes { cells, names })
+                FactsAnswer::Made(c, TextSize { cells, names })
             }
             NamesRead::Counted(_) => FactsAnswer::Long(c),
             NamesRead::Passed => FactsAnswer::Long(c),

@@ -1,4 +1,5 @@
-use mathlib.Core.Path.{sym}
+use mathlib.Core.Path.{sym, ap}
+use Rattle.refusal.specs.Refusal.{turned}
 use native.Mathlib.Omega.{arith}
 use lib.Seq.{length-take-le}
 use Rattle.scan.proofs.SaysLaws.{counts-read}
@@ -11,7 +12,7 @@ returns-then-names-n c =
     let a = c.args in
     let L = listed-are (words-known c.in-Facts.ensures c.in-Listed.is) in
     no-room-names a.text.now a.cells.now a.names.now c.in-Facts.c L.counts c.in-Listed.n
-    c.no_room.ensures L.count L.room' c.if-names-n.true
+    (ap turned c.no_room.ensures) L.count L.room' c.if-names-n.true
 
 pub overflow_add-k : goal.overflow_add-k
 overflow_add-k c = omega (arith, (counts-read (listed-are (words-known c.in-Facts.ensures c.in-Listed.is)).counts).2)
@@ -53,7 +54,7 @@ pub returns-in-Passed : goal.returns-in-Passed
 returns-in-Passed c =
     let a = c.args in
     let W = passed-are (words-known c.in-Facts.ensures c.in-Passed.is) in
-    no-room-cells a.text.now a.cells.now a.names.now c.in-Facts.c W.0 c.no_room-in-Passed.ensures W.1
+    no-room-cells a.text.now a.cells.now a.names.now c.in-Facts.c W.0 (ap turned c.no_room-in-Passed.ensures) W.1
 
 pub returns-in-Refused : goal.returns-in-Refused
 returns-in-Refused c =
