@@ -2,7 +2,9 @@
 use Prim.Native.Nat.{ℕ}
 use mathlib.Core.Path.{◌≡◌}
 use mathlib.Core.List.{List}
+use Rattle.std.specs.Prelude.{Result}
 use Rattle.refusal.specs.Refusal.{Answer}
+use Rattle.refusal.specs.declared.Refusal.{Refusal}
 use Rattle.refusal.specs.Coded.{coded, Small}
 use Rattle.refusal.proofs.CodedLaws.{coded-one}
 use Rattle.table.specs.declared.TableRead.{TableRead}
@@ -35,7 +37,7 @@ use Rattle.textlines.specs.Lines.{Prints}
 use Rattle.textlines.proofs.Fixed.{printed-one}
 use Rattle.loading.specs.Load.{TextLoads}
 use Rattle.prolog.specs.Entry.{text_told}
-use Rattle.prolog.specs.declared.TextAnswer.{TextAnswer}
+use Rattle.prolog.specs.declared.TextSize.{TextSize}
 use Rattle.prolog.proofs.Fixed.{read-text-fixed}
 use Rattle.dudowiej.specs.Coded.{WorkCoded, EditCoded, BuildCoded, BuildForCoded, RunCoded, TextCoded, JobsCoded, RepliesCoded, ClausesCoded}
 use Rattle.dudowiej.specs.Coded.{GoalTextCoded, AnswerCoded, ReplyJobsCoded, FileWriteCoded, FileReadCoded, SalvageCoded, LikedCoded}
@@ -145,7 +147,7 @@ pub held-textlines : (text room : List ℕ) {room' room'' : List ℕ} {r s : ℕ
     → (r ≡ s) × (room' ≡ room'')
 held-textlines = printed-one
 
-pub held-text : {t cells names cells' names' cells'' names'' : List ℕ} {r s : TextAnswer}
+pub held-text : {t cells names cells' names' cells'' names'' : List ℕ} {r s : Result TextSize Refusal}
     → TextLoads t cells names cells' names' (text_told r) → TextLoads t cells names cells'' names'' (text_told s)
     → (r ≡ s) × (cells' ≡ cells'') × (names' ≡ names'')
 held-text = read-text-fixed

@@ -24,7 +24,7 @@ use clauses::HandAnswer;
 use filing::FileAnswer;
 use goaltext::GoalText;
 use instance::RepliesAnswer;
-use prolog::TextAnswer;
+use prolog::TextSize;
 use refusal::Refusal;
 use salvaging::{Report, Salvage};
 use table::{GoalAnswer, TableAnswer};
@@ -131,13 +131,13 @@ pub fn code_run(a: RunAnswer) -> u64
     }
 }
 
-pub fn code_text(a: TextAnswer) -> u64
+pub fn code_text(a: Result<TextSize, Refusal>) -> u64
     requires { Small (text_told a) }
     ensures { result ≡ coded (text_told a) }
 {
     match a {
-        TextAnswer::Read(cells, names) => code_answer(cells, names),
-        TextAnswer::Refused(f) => code_refusal(f),
+        Ok(n) => code_answer(n.cells, n.names),
+        Err(f) => code_refusal(f),
     }
 }
 

@@ -33,7 +33,7 @@ use Rattle.slices.specs.declared.Span.{Span}
 use Rattle.prolog.specs.Entry.{FactsAre, are-made}
 use Rattle.prolog.specs.Entry as entry
 use Rattle.prolog.specs.declared.FactsAnswer.TheVariants as facts-answer
-use Rattle.prolog.specs.declared.Sizes.{Sizes}
+use Rattle.prolog.specs.declared.TextSize.{TextSize}
 use Rattle.prolog.proofs.EntryLaws.{cells-long}
 use Rattle.slices.proofs.SliceLaws.{part-is}
 use Rattle.termtext.specs.Saying.{word_in, words_in, predicate_in}
@@ -329,14 +329,14 @@ module _ (text names : List ℕ) (width : ℕ) (whole row list : List ℕ) {g : 
       }
 
 -- WHAT IS MADE OF A GOAL'S TEXT: its cells and its names, before a place of their rooms
-pub record MadeAt (t : List ℕ) (c : Counted) (made list : List ℕ) (s : Sizes) : Type 0 where
+pub record MadeAt (t : List ℕ) (c : Counted) (made list : List ℕ) (s : TextSize) : Type 0 where
   pub counts : Counts t c
   pub within : (s.cells ≤ length made) × (s.names ≤ length list)
   pub cells : take s.cells made ≡ table_cells t counts.facts
   pub names : take s.names list ≡ name_list t counts.facts
 
 module _ {t made list : List ℕ} where
-  pub made-are : {made' list' : List ℕ} {c : Counted} {s : Sizes} → FactsAre t made list made' list' (facts-answer.Made c s) → MadeAt t c made' list' s
+  pub made-are : {made' list' : List ℕ} {c : Counted} {s : TextSize} → FactsAre t made list made' list' (facts-answer.Made c s) → MadeAt t c made' list' s
   made-are (are-made C h) =
       let cells = table_cells t C.facts in
       let names = name_list t C.facts in
@@ -354,7 +354,7 @@ module _ {t made list : List ℕ} where
   turned-are f (entry.not_taken x) = x
 
 -- at least two cells, and the row behind them
-module _ {t made list : List ℕ} {c : Counted} {s : Sizes} (M : MadeAt t c made list s) where
+module _ {t made list : List ℕ} {c : Counted} {s : TextSize} (M : MadeAt t c made list s) where
   abbrev facts : List Fact
   facts = M.counts.facts
 

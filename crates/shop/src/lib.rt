@@ -6,7 +6,6 @@ use checker::PlanAnswer;
 use least::By;
 use limits::{PLAN_CELLS, ROWS};
 use octets::cells::put_cells;
-use prolog::TextAnswer;
 use refusal::Refusal;
 use slices::cells::part;
 use termtext::Predicate;
@@ -42,8 +41,8 @@ pub fn load(text: &[u8], room: &mut [u32], kept: &mut [u32]) -> Loaded {
 pub fn load_for(text: &[u8], columns: &[u32], room: &mut [u32], kept: &mut [u32]) -> Loaded {
     let mut names = [0u32; 32766];
     match prolog::read_text(text, room, &mut names) {
-        TextAnswer::Read(n, m) => keep(text, columns, part(&names, 0, m), part(&*room, 0, n), kept),
-        TextAnswer::Refused(f) => Loaded::Refused(f),
+        Ok(n) => keep(text, columns, part(&names, 0, n.names), part(&*room, 0, n.cells), kept),
+        Err(f) => Loaded::Refused(f),
     }
 }
 

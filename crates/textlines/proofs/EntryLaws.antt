@@ -14,8 +14,8 @@ use Rattle.table.proofs.ReadLaws.{apart, read_one}
 use Rattle.loading.specs.Load.{Loaded, loaded, Loads, not_taken, no_cells, no_names, no_table, loads}
 use Rattle.loading.specs.Load.{TextLoads, load_says, cells_after, names_after}
 use Rattle.prolog.specs.Entry.{text_told}
-use Rattle.prolog.specs.declared.TextAnswer.{TextAnswer}
-use Rattle.prolog.specs.declared.TextAnswer.TheVariants as text-answer
+use Rattle.prolog.specs.declared.TextSize.{TextSize}
+use Rattle.std.specs.Prelude.{Result, Ok, Err}
 use Rattle.textlines.specs.Lines.{cell_room, name_room, lines_of, Prints, printed}
 use Rattle.textlines.specs.code.Puts.{most, PutsTable}
 use Rattle.textlines.proofs.LengthLaws.{lines-few}
@@ -50,23 +50,23 @@ front xs room n e w =
     let tail = drop (length xs) room in
     (ap (take n) w ∙ take_at xs tail n (sym e), omega (arith, ap length w, length-append xs tail))
 
-module _ {t cells names cells' names' : List ℕ} (r : TextAnswer) (x : TextLoads t cells names cells' names' (text_told r))
+module _ {t cells names cells' names' : List ℕ} (r : Result TextSize Refusal) (x : TextLoads t cells names cells' names' (text_told r))
     (hc : length cells ≡ cell_room) (hn : length names ≡ name_room) where
   rule : Loads t cell_room name_room x.says
   rule = rw (hc, hn) at x.rule
 
-  pub came-read : (n m : ℕ) → r ≡ text-answer.Read n m → Came t cells' names' n m
-  came-read n m e = go x.says rule x.told x.wrote x.listed
+  pub came-read : (size : TextSize) → r ≡ Ok size → Came t cells' names' size.cells size.names
+  came-read size e = go x.says rule x.told x.wrote x.listed
     where
       go : (o : Read Loaded) → Loads t cell_room name_room o → text_told r ≡ load_says o → cells' ≡ cells_after o cells
-          → names' ≡ names_after o names → Came t cells' names' n m
+          → names' ≡ names_after o names → Came t cells' names' size.cells size.names
       go (read y) l a w s =
-          let d : answered n m ≡ answered (length y.cells) (length y.names) = ap text_told (sym e) ∙ a in
-          let many : n ≡ length y.cells = cc in
-          let named : m ≡ length y.names = cc in
+          let d : answered size.cells size.names ≡ answered (length y.cells) (length y.names) = ap text_told (sym e) ∙ a in
+          let many : size.cells ≡ length y.cells = cc in
+          let named : size.names ≡ length y.names = cc in
           let k = loaded-table t l y refl in
-          let c = front y.cells cells n many w in
-          let f = front y.names names m named s in
+          let c = front y.cells cells size.cells many w in
+          let f = front y.names names size.names named s in
           record {
             what = y;
             table = k.0;
@@ -78,11 +78,11 @@ module _ {t cells names cells' names' : List ℕ} (r : TextAnswer) (x : TextLoad
             inside = (c.1, f.1);
           }
       go (refuse f) l a w s =
-          let d : answered n m ≡ turned f = ap text_told (sym e) ∙ a in
+          let d : answered size.cells size.names ≡ turned f = ap text_told (sym e) ∙ a in
           let z : ◌≡◌ {A = ℕ} 0 1 = cc in
           absurd (omega arith)
 
-  pub came_refused : (f : Refusal) → r ≡ text-answer.Refused f → Loads t cell_room name_room (refuse (told f))
+  pub came_refused : (f : Refusal) → r ≡ Err f → Loads t cell_room name_room (refuse (told f))
   came_refused f e = go x.says rule x.told
     where
       go : (o : Read Loaded) → Loads t cell_room name_room o → text_told r ≡ load_says o → Loads t cell_room name_room (refuse (told f))

@@ -8,7 +8,6 @@ ghost use Rattle.textlines.specs.Lines.{Prints};
 
 use crate::lines::put_table;
 use printing::put_refusal;
-use prolog::TextAnswer;
 
 // The lines of any bytes at all, put at the front of `out`; how many bytes they have. 43,030 bytes are enough for every text: 22 for the
 // first line, 9 for each of at most 2,048 symbols and 12 for each of at most 2,048 names. The answer is the entry's with the rooms that
@@ -19,11 +18,7 @@ pub fn list_text(text: &[u8], out: &mut [u8; 43030]) -> usize
     let mut cells = [0u32; 32768];
     let mut names = [0u32; 32766];
     match prolog::read_text(text, &mut cells, &mut names) {
-        TextAnswer::Read(n, m) => put_table(out, &cells[..n], &names[..m]),
-        TextAnswer::Refused(f) => {
-            let reason = f.reason;
-            let place = f.place;
-            put_refusal(out, reason, place)
-        }
+        Ok(n) => put_table(out, &cells[..n.cells], &names[..n.names]),
+        Err(f) => put_refusal(out, f.reason, f.place),
     }
 }
