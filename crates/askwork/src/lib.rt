@@ -2,7 +2,6 @@
 #![tactic(auto)]
 
 use askall::Goals;
-use clauses::HandAnswer;
 use page::Page;
 use refusal::Refusal;
 use shop::{Loaded, Shop};
@@ -84,17 +83,17 @@ fn show_clauses(
     out: &mut [u8],
 ) {
     match clausetext::put_clauses(out, text, kept, shop) {
-        HandAnswer::Handed(_, bytes) => {
+        Ok(size) => {
             page::flush(
                 rt,
                 out,
                 Page {
-                    to: bytes,
+                    to: size.bytes,
                     open: true,
                 },
             );
         }
-        HandAnswer::Refused(f) => refuse(rt, path, text, 0, f, out),
+        Err(f) => refuse(rt, path, text, 0, f, out),
     }
 }
 

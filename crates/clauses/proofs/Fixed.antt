@@ -4,9 +4,11 @@ use mathlib.Core.Path.{◌≡◌, sym, ◌∙◌, ap, subst}
 use mathlib.Core.List.{List, [], ◌++◌}
 use native.Mathlib.Omega.{arith}
 use lib.ListN.{length, drop}
+use Rattle.std.specs.Prelude.{Result, Ok, Err}
 use Rattle.refusal.specs.Refusal.{refused, told, answered, turned}
 use Rattle.refusal.specs.declared.Reason.TheVariants as reason
 use Rattle.refusal.specs.declared.Input.TheVariants as input
+use Rattle.refusal.specs.declared.Refusal.{Refusal}
 use Rattle.refusal.proofs.RefusalLaws.{told-one}
 use Rattle.table.specs.Table.{Table}
 use Rattle.table.proofs.ReadLaws.{apart, read_one}
@@ -15,14 +17,21 @@ use Rattle.plan.proofs.PlansLaws.{plan-tells}
 use Rattle.clauses.specs.Clauses.{Clause}
 use Rattle.clauses.specs.Program.{program}
 use Rattle.clauses.specs.Handed.{Listed, hand_told, text_for, Handed, refusal, no_names, no_room, handed}
-use Rattle.clauses.specs.declared.HandAnswer.{HandAnswer}
-use Rattle.clauses.specs.declared.HandAnswer.TheVariants as hand-answer
+use Rattle.clauses.specs.declared.ProgramSize.{ProgramSize}
 
-told_same : (a b : HandAnswer) → hand_told a ≡ hand_told b → a ≡ b
-told_same (hand-answer.Handed n c) (hand-answer.Handed m d) e = cc
-told_same (hand-answer.Handed n c) (hand-answer.Refused g) e = absurd (let z : ◌≡◌ {A = ℕ} 0 1 = cc in omega arith)
-told_same (hand-answer.Refused f) (hand-answer.Handed m d) e = absurd (let z : ◌≡◌ {A = ℕ} 0 1 = cc in omega arith)
-told_same (hand-answer.Refused f) (hand-answer.Refused g) e = let q : told f ≡ told g = cc in ap hand-answer.Refused (told-one q)
+size-one : {n m : ProgramSize} → n.clauses ≡ m.clauses → n.bytes ≡ m.bytes → n ≡ m
+size-one {n} {m} e f =
+    ap (λ (k : ℕ). let size : ProgramSize = record { clauses = k; bytes = n.bytes } in size) e
+    ∙ ap (λ (k : ℕ). let size : ProgramSize = record { clauses = m.clauses; bytes = k } in size) f
+
+told_same : (a b : Result ProgramSize Refusal) → hand_told a ≡ hand_told b → a ≡ b
+told_same (Ok n) (Ok m) e =
+    let a : n.clauses ≡ m.clauses = cc in
+    let b : n.bytes ≡ m.bytes = cc in
+    ap Ok (size-one a b)
+told_same (Ok n) (Err g) e = absurd (let z : ◌≡◌ {A = ℕ} 0 1 = cc in omega arith)
+told_same (Err f) (Ok m) e = absurd (let z : ◌≡◌ {A = ℕ} 0 1 = cc in omega arith)
+told_same (Err f) (Err g) e = let q : told f ≡ told g = cc in ap Err (told-one q)
 
 -- the program is told by the plan's cells
 program-one : {T T' : Table} → T ≡ T' → (p : Plan T.width T.rows) (q : Plan T'.width T'.rows) → write p ≡ write q
@@ -33,7 +42,7 @@ program-one z p q e =
 same-listed : {text names : List ℕ} {T T' : Table} → T ≡ T' → Listed text names T.rows → Listed text names T'.rows
 same-listed {text} {names} z l = subst (λ (x : Table). Listed text names x.rows) z l
 
-pub handed-fixed : {t p text names room room' room'' : List ℕ} {r s : HandAnswer} → Handed t p text names room room' r
+pub handed-fixed : {t p text names room room' room'' : List ℕ} {r s : Result ProgramSize Refusal} → Handed t p text names room room' r
     → Handed t p text names room room'' s
     → (r ≡ s) × (room' ≡ room'')
 handed-fixed {r = r} {s = s} (refusal f a b c) (refusal f' a' b' c') = (told_same r s (let q : f ≡ f' = cc in b ∙ ap turned q ∙ sym b'), c ∙ sym c')

@@ -1,5 +1,5 @@
 -- What the entry answers (02, W-210, "Hand the plan back as Prolog"), and what its room then holds.
-use Rattle.std.specs.Prelude.{ℕ, ◌+◌, ◌/◌, ◌%◌, ◌≤◌, ◌<◌, ◌≡◌, length, drop}
+use Rattle.std.specs.Prelude.{ℕ, ◌+◌, ◌/◌, ◌%◌, ◌≤◌, ◌<◌, ◌≡◌, length, drop, Result, Ok, Err}
 use mathlib.Core.List.{List, ◌++◌, Memᴰ}
 use Rattle.cell.specs.Cell.{kind_of, number_of}
 use Rattle.refusal.specs.Refusal.{Refused, refused, told, Answer, answered, turned}
@@ -16,8 +16,8 @@ use Rattle.termtext.specs.Saying.{word_in, words_in}
 use Rattle.clauses.specs.Clauses.{Clause}
 use Rattle.clauses.specs.Program.{program}
 use Rattle.clauses.specs.Text.{program_text}
-use Rattle.clauses.specs.declared.HandAnswer.{HandAnswer}
-use Rattle.clauses.specs.declared.HandAnswer.TheVariants as hand-answer
+use Rattle.clauses.specs.declared.ProgramSize.{ProgramSize}
+use Rattle.refusal.specs.declared.Refusal.{Refusal}
 
 -- "Refusals, after table and plan: .."
 unfoldable pub hand_of : (table plan : List ℕ) → Read Table
@@ -30,9 +30,9 @@ pub record Listed (text names : List ℕ) (rows : List (List ℕ)) : Type 0 wher
   pub known : All (λ (row : List ℕ). (c : ℕ) → Memᴰ c row → kind_of c ≡ 1 → number_of c < length names) rows
 
 -- the code's answer in numbers: the clauses and the bytes, or a refusal (01, "A refusal returns its number ..")
-abbrev pub hand_told : HandAnswer → Answer
-hand_told (hand-answer.Handed n bytes) = answered n bytes
-hand_told (hand-answer.Refused f) = turned (told f)
+abbrev pub hand_told : Result ProgramSize Refusal → Answer
+hand_told (Ok size) = answered size.clauses size.bytes
+hand_told (Err f) = turned (told f)
 
 -- the text that is handed back: "Names come from W-201's list"
 abbrev pub text_for : (text names : List ℕ) → List Clause → List ℕ
@@ -40,7 +40,7 @@ text_for text names cs = program_text (words_in text names) cs
 
 -- "Refusals, after table and plan: NAMES .. then ROOM". Refused: nothing is written. ROOM's place is the bytes needed (01). Otherwise
 -- the text comes first and the rest of the room is untouched
-pub data Handed (table plan text names room room' : List ℕ) (result : HandAnswer) : Type 0 where
+pub data Handed (table plan text names room room' : List ℕ) (result : Result ProgramSize Refusal) : Type 0 where
   refusal : (f : Refused) → hand_of table plan ≡ refuse f → hand_told result ≡ turned f → room' ≡ room
       → Handed table plan text names room room' result
   no_names : (T : Table) → hand_of table plan ≡ read T → (Listed text names T.rows → ⊥)

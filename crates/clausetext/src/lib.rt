@@ -3,8 +3,9 @@
 #![tactic(auto)]
 
 use answertext::{put_answer, put_terms};
-use clauses::HandAnswer;
+use clauses::ProgramSize;
 use octets::put_word;
+use refusal::Refusal;
 use shop::Shop;
 use slices::cells::part;
 use termtext::Predicate;
@@ -25,23 +26,29 @@ fn put_tie(out: &mut [u8], text: &[u8], p: Predicate) -> usize {
 
 // The clause that ties, and after it the program of the least plan: how many clauses that has, and where all ends. The words come from one text
 // of 65,535 bytes, each at most once, so that a page has room for all.
-pub fn put_clauses(out: &mut [u8], text: &[u8], kept: &[u32], shop: Shop) -> HandAnswer {
+pub fn put_clauses(
+    out: &mut [u8],
+    text: &[u8],
+    kept: &[u32],
+    shop: Shop,
+) -> Result<ProgramSize, Refusal> {
     let to = put_tie(out, text, shop.p);
     let end = out.len();
     if end < to {
-        return HandAnswer::Handed(0, end);
+        return Ok(ProgramSize {
+            clauses: 0,
+            bytes: end,
+        });
     }
-    let answer = handing::hand_back(
+    let size = handing::hand_back(
         shop::table_in(kept, shop),
         shop::plan_in(kept, shop),
         text,
         shop::names_in(kept, shop),
         &mut out[to..],
-    );
-    match answer {
-        HandAnswer::Handed(count, bytes) => {
-            HandAnswer::Handed(count, reading::ahead(to, bytes, end))
-        }
-        HandAnswer::Refused(f) => HandAnswer::Refused(f),
-    }
+    )?;
+    Ok(ProgramSize {
+        clauses: size.clauses,
+        bytes: reading::ahead(to, size.bytes, end),
+    })
 }

@@ -6,6 +6,8 @@ use mathlib.Core.List.{List, ◌++◌}
 use native.Mathlib.Decide.{dec_lt}
 use native.Mathlib.Omega.{arith}
 use lib.ListN.{length, drop}
+use Rattle.std.specs.Prelude.{Result, Ok, Err}
+use Rattle.refusal.specs.declared.Refusal.{Refusal}
 use Rattle.refusal.specs.Refusal.{Refused, refused, Answer, answered, turned}
 use Rattle.refusal.specs.declared.Reason.TheVariants as reason
 use Rattle.refusal.specs.declared.Input.TheVariants as input
@@ -18,8 +20,7 @@ use Rattle.plan.specs.Plans.{Plan, write, branches}
 use Rattle.plan.specs.Check.{plan_of, plan_for}
 use Rattle.clauses.specs.Program.{program}
 use Rattle.clauses.specs.Handed.{hand_of, Listed, hand_told, text_for, Handed, refusal, no_names, no_room, handed}
-use Rattle.clauses.specs.declared.HandAnswer.{HandAnswer}
-use Rattle.clauses.specs.declared.HandAnswer.TheVariants as hand-answer
+use Rattle.clauses.specs.declared.ProgramSize.{ProgramSize}
 use Rattle.clauses.proofs.TakesLaws.{hand_takes, takes-hand, hand-table, hand-plan}
 use Rattle.clauses.proofs.Theorems.{program-few, clauses-answer, answers_one, answers-some, named, text-reads}
 use Rattle.clauses.proofs.WordLaws.{names_apart, names-bare, words-apart}
@@ -110,11 +111,11 @@ module _ {t text names : List ℕ} {w : ℕ} {rows : List (List ℕ)} (i : IsTab
       }
 
 -- the refusals for the names and for the room, as the entry gives them
-abbrev no-list : HandAnswer
-no-list = hand-answer.Refused (record { reason = reason.Names; input = input.Names; place = 0 })
+abbrev no-list : Result ProgramSize Refusal
+no-list = Err (record { reason = reason.Names; input = input.Names; place = 0 })
 
-abbrev short : ℕ → HandAnswer
-short n = hand-answer.Refused (record { reason = reason.Room; input = input.Lent; place = n })
+abbrev short : ℕ → Result ProgramSize Refusal
+short n = Err (record { reason = reason.Room; input = input.Lent; place = n })
 
 module _ {t p text names room : List ℕ} where
   by_names : {w : ℕ} {rows : List (List ℕ)} → IsTable t w rows → (tree : Plan w rows) → write tree ≡ p → (Listed text names rows → ⊥)
@@ -126,7 +127,7 @@ module _ {t p text names room : List ℕ} where
       → Handed t p text names room room (short (length (text_for text names (program tree))))
   by-room {w} {rows} i tree h l n = no_room (table w rows) tree (asked-read i tree h) (sym h) l n refl refl
 
-  module _ {room' : List ℕ} {r : HandAnswer} (x : Handed t p text names room room' r) where
+  module _ {room' : List ℕ} {r : Result ProgramSize Refusal} (x : Handed t p text names room room' r) where
     turned-why : (f : Refused) → hand_told r ≡ turned f → ClausesTurned t p text names room f
     turned-why f e = go x
       where
@@ -176,7 +177,7 @@ module _ {t p text names room : List ℕ} where
         enough : length (text_for text names (program tree)) ≤ length room → HandedBack tree text names room room' (hand_told r)
         enough m =
             let T = text_for text names (program tree) in
-            let y : Handed t p text names room (T ++ drop (length T) room) (hand-answer.Handed (length (program tree)) (length T)) =
+            let y : Handed t p text names room (T ++ drop (length T) room) (Ok (record { clauses = length (program tree); bytes = length T })) =
             handed (table w rows) tree (asked-read i tree h) (sym h) l m refl refl in
             let z = handed-fixed x y in
             hands-all i tree l m (ap hand_told z.0) z.1

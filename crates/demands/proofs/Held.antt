@@ -54,7 +54,7 @@ use Rattle.instance.proofs.Fixed.{replied-fixed}
 use Rattle.instance.specs.declared.ReplyJob.{ReplyJob}
 use Rattle.instance.specs.ReplyJobs.{ReplyJobsRun}
 use Rattle.replyjobs.proofs.Fixed.{reply-jobs-fixed}
-use Rattle.clauses.specs.declared.HandAnswer.{HandAnswer}
+use Rattle.clauses.specs.declared.ProgramSize.{ProgramSize}
 use Rattle.clauses.specs.Handed as hands
 use Rattle.clauses.proofs.Fixed as clauses
 use Rattle.filing.specs.Files.{FileWritten, FileLoaded}
@@ -121,7 +121,7 @@ pub held-reply-jobs : {t p cells room room' room'' : List ℕ} {jobs jobs' jobs'
     → (r ≡ s) × (jobs' ≡ jobs'') × (room' ≡ room'')
 held-reply-jobs = reply-jobs-fixed
 
-pub held-clauses : {t p text names room room' room'' : List ℕ} {r s : HandAnswer} → hands.Handed t p text names room room' r
+pub held-clauses : {t p text names room room' room'' : List ℕ} {r s : Result ProgramSize Refusal} → hands.Handed t p text names room room' r
     → hands.Handed t p text names room room'' s → (r ≡ s) × (room' ≡ room'')
 held-clauses = clauses.handed-fixed
 

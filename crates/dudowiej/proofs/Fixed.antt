@@ -3,6 +3,8 @@
 use Prim.Native.Nat.{ℕ}
 use mathlib.Core.Path.{◌≡◌, sym, ap, ◌∙◌}
 use mathlib.Core.List.{List}
+use Rattle.std.specs.Prelude.{Result}
+use Rattle.refusal.specs.declared.Refusal.{Refusal}
 use Rattle.table.specs.Table.{Table}
 use Rattle.record.specs.Record.{Holds}
 use Rattle.record.specs.Edits.{Edit}
@@ -36,7 +38,7 @@ use Rattle.instance.proofs.Fixed.{replied-fixed}
 use Rattle.instance.specs.declared.ReplyJob.{ReplyJob}
 use Rattle.replyjobs.proofs.Fixed.{reply-jobs-fixed}
 use Rattle.clauses.specs.Handed.{hand_told}
-use Rattle.clauses.specs.declared.HandAnswer.{HandAnswer}
+use Rattle.clauses.specs.declared.ProgramSize.{ProgramSize}
 use Rattle.clauses.proofs.Fixed.{handed-fixed}
 use Rattle.filing.proofs.Fixed.{written-fixed, loaded-fixed}
 use Rattle.salvaging.specs.Salvage.{Outcome}
@@ -116,7 +118,7 @@ pub clauses-coded-fixed : {t p text names room room' room'' : List ℕ} {m n : �
     → ClausesCoded t p text names room room'' n → (m ≡ n) × (room' ≡ room'')
 clauses-coded-fixed a b =
     let f = handed-fixed a.handed b.handed in
-    (a.code ∙ ap (λ (x : HandAnswer). coded (hand_told x)) f.0 ∙ sym b.code, f.1)
+    (a.code ∙ ap (λ (x : Result ProgramSize Refusal). coded (hand_told x)) f.0 ∙ sym b.code, f.1)
 
 pub written-coded-fixed : {t p room room' room'' : List ℕ} {m n : ℕ} → FileWriteCoded t p room room' m → FileWriteCoded t p room room'' n
     → (m ≡ n) × (room' ≡ room'')

@@ -7,6 +7,8 @@ use mathlib.Core.Bool.{Bool, true, false, ◌||◌}
 use lib.Dec.{leb, ltb}
 use borrow.Author.Tests.{leb-true, leb-false}
 use lib.ListN.{length, get_or, drop, replicate, length-append}
+use Rattle.std.specs.Prelude.{Result}
+use Rattle.refusal.specs.declared.Refusal.{Refusal}
 use Rattle.term.proofs.Lists.{get_d-zeros}
 use Rattle.refusal.specs.Coded.{Small}
 use Rattle.refusal.specs.declared.Reason.{Reason}
@@ -45,7 +47,7 @@ use Rattle.instance.specs.declared.RepliesAnswer.{RepliesAnswer}
 use Rattle.instance.specs.Replied.{Replied, replies_told}
 use Rattle.instance.specs.Replied as replies
 use Rattle.instance.proofs.RepliesLaws.{replies-room}
-use Rattle.clauses.specs.declared.HandAnswer.{HandAnswer}
+use Rattle.clauses.specs.declared.ProgramSize.{ProgramSize}
 use Rattle.clauses.specs.Program.{program}
 use Rattle.clauses.specs.Handed.{Handed, hand_told, text_for}
 use Rattle.clauses.specs.Handed as hands
@@ -298,7 +300,7 @@ replies-small {t} {p} {g} (replies.no_room T all a w s l b c) =
 replies-small {t} {p} {g} (replies.replied T all a w s l b c) = let n = replies-room t p g a w s in rw b (omega (arith, n.0), omega (arith, n.1))
 
 -- a program has at most 127 clauses, and its text fewer than 2^29 bytes where the names are numbers of 32 bits
-pub clauses-small : {t p text names room room' : List ℕ} {r : HandAnswer} → ((k : ℕ) → get_or names k 0 < 2 ^ 32)
+pub clauses-small : {t p text names room room' : List ℕ} {r : Result ProgramSize Refusal} → ((k : ℕ) → get_or names k 0 < 2 ^ 32)
     → Handed t p text names room room' r → Small (hand_told r)
 clauses-small {t} {p} s (hands.refusal f a b c) = rw b (placed-small (omega arith) (placed-handed t p) a)
 clauses-small s (hands.no_names T a l b c) = rw b (refused-small reason.Names input.Names 0 (omega arith))

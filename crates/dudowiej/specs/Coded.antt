@@ -1,5 +1,6 @@
 -- What the entries answer as one number (crate refusal, specs/Coded), where the crates that they call do not say it.
-use Rattle.std.specs.Prelude.{ℕ, ◌%◌, ◌^◌, ◌≡◌, cond, List, [], ◌∷◌, length, get_or}
+use Rattle.std.specs.Prelude.{ℕ, ◌%◌, ◌^◌, ◌≡◌, cond, List, [], ◌∷◌, length, get_or, Result}
+use Rattle.refusal.specs.declared.Refusal.{Refusal}
 use Rattle.refusal.specs.Refusal.{Answer, answered, turned}
 use Rattle.refusal.specs.Read.{Read}
 use Rattle.refusal.specs.Coded.{coded, Small}
@@ -26,7 +27,7 @@ use Rattle.instance.specs.declared.RepliesAnswer.{RepliesAnswer}
 use Rattle.instance.specs.Replied.{Replied, replies_told}
 use Rattle.instance.specs.declared.ReplyJob.{ReplyJob}
 use Rattle.instance.specs.ReplyJobs.{ReplyJobsRun}
-use Rattle.clauses.specs.declared.HandAnswer.{HandAnswer}
+use Rattle.clauses.specs.declared.ProgramSize.{ProgramSize}
 use Rattle.clauses.specs.Handed.{Handed, hand_told}
 use Rattle.filing.specs.Files.{FileWritten, FileLoaded}
 use Rattle.salvaging.specs.Salvage.{Outcome, saved, lost, Salvaged}
@@ -118,7 +119,7 @@ pub record ReplyJobsCoded (cells plan lent room room' : List ℕ) (jobs after : 
 -- what the entry that hands a plan back answers and leaves in the room. The bytes fit their bits, for a listed name has 16 bits for its own:
 -- that is said here, since lists of names in `Handed` are of any numbers
 pub record ClausesCoded (cells plan text names room after : List ℕ) (number : ℕ) : Type 0 where
-  pub answer : HandAnswer
+  pub answer : Result ProgramSize Refusal
   pub handed : Handed cells plan text names room after answer
   pub small : Small (hand_told answer)
   pub code : number ≡ coded (hand_told answer)

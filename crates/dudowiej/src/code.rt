@@ -20,7 +20,7 @@ use answer::RunAnswer;
 use answerroom::AnswerText;
 use builder::BuildAnswer;
 use checker::PlanAnswer;
-use clauses::HandAnswer;
+use clauses::ProgramSize;
 use filing::FileAnswer;
 use goaltext::GoalText;
 use instance::RepliesAnswer;
@@ -171,13 +171,13 @@ pub fn code_replies(a: RepliesAnswer) -> u64
     }
 }
 
-pub fn code_hand(a: HandAnswer) -> u64
+pub fn code_hand(a: Result<ProgramSize, Refusal>) -> u64
     requires { Small (hand_told a) }
     ensures { result ≡ coded (hand_told a) }
 {
     match a {
-        HandAnswer::Handed(clauses, bytes) => code_answer(clauses, bytes),
-        HandAnswer::Refused(f) => code_refusal(f),
+        Ok(size) => code_answer(size.clauses, size.bytes),
+        Err(f) => code_refusal(f),
     }
 }
 

@@ -10,6 +10,7 @@ ghost use Rattle.handing.specs.code.Sizes.{Measured};
 ghost use Rattle.limits.specs.Limits.{most_row_cells};
 
 use cell::Shape;
+use clauses::ProgramSize;
 
 // How many digits a number has.
 fn digits(n: usize) -> usize
@@ -141,13 +142,7 @@ pub fn clause_end(program: &[u32], at: usize) -> usize
 }
 
 // How many clauses a program has, and how many bytes.
-#[derive(Clone, Copy)]
-pub struct Sizes {
-    pub clauses: usize,
-    pub bytes: usize,
-}
-
-pub fn measure(names: &[u32], program: &[u32]) -> Sizes
+pub fn measure(names: &[u32], program: &[u32]) -> ProgramSize
     requires { ProgramWritten program.now }
     ensures { (w : ProgramWritten program.now) → Measured names.now w.clauses result }
 {
@@ -160,5 +155,5 @@ pub fn measure(names: &[u32], program: &[u32]) -> Sizes
         clauses += 1;
         at = end;
     }
-    Sizes { clauses, bytes }
+    ProgramSize { clauses, bytes }
 }

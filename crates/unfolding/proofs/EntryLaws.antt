@@ -4,6 +4,7 @@ use mathlib.Core.Path.{◌≡◌, refl, sym, ◌∙◌, ap}
 use mathlib.Core.List.{List, [], append-nil}
 use native.Mathlib.Omega.{arith}
 use lib.ListN.{length, get_or}
+use Rattle.std.specs.Prelude.{Ok, Err}
 use Rattle.refusal.specs.Refusal.{Refused, told}
 use Rattle.refusal.specs.declared.Refusal.{Refusal}
 use Rattle.refusal.specs.Read.{Read, read, refuse, and_then}
@@ -27,7 +28,6 @@ use Rattle.clauses.proofs.SeatLaws.{Seat, seat-row}
 use Rattle.unfolding.specs.Flat.{flat}
 use Rattle.unfolding.specs.Unfolds.{Unfolds, refusal, made}
 use Rattle.unfolding.specs.code.Visits.{Peopled}
-use Rattle.unfolding.specs.declared.Unfolded.TheVariants as unfolded
 use Rattle.unfolding.proofs.VisitLaws.{all-fills}
 
 -- THE PLAN IS ACCEPTED
@@ -68,7 +68,7 @@ module _ {t p : List ℕ} {b : ℕ} (x : PlanFor t p b) where
       rw (g, a)
 
   pub made-whole : {room room' : List ℕ} {n : ℕ} → ((w : Peopled p 0 (get_or t 0 0)) → Put room room' 0 (flat (program w.stands.tree)) n)
-      → Unfolds t p room room' (unfolded.Made n)
+      → Unfolds t p room room' (Ok n)
   unfolding first-state
   made-whole {n = n} f = made x.table x.tree n handed-table (sym x.cells) refl (f first-state)
 
@@ -83,6 +83,6 @@ hand-refused t p f e = go (table_of t) e
     go (refuse g) e = ap refuse (refuse-one e)
 
 pub turned-away : (t p room : List ℕ) {r : PlanAnswer} → plan_told r ≡ plan_says (plan_of t p) → {f : Refusal} → r ≡ plan-answer.Refused f
-    → Unfolds t p room room (unfolded.Refused f)
+    → Unfolds t p room room (Err f)
 turned-away t p room promise {f} e =
     refusal f (hand-refused t p (told f) (said-refused (plan_of t p) promise e)) refl refl

@@ -1,4 +1,4 @@
-// A plan made a program (02, W-210): the walk over the plan's states that makes its clauses.
+// A plan made a program: the walk over the plan's states that makes its clauses.
 #![tactic(auto)]
 
 mod fold;
@@ -18,13 +18,6 @@ use own::put_own;
 use refusal::Refusal;
 use walk::{Stand, visit_below};
 
-// Where the program ends in its room, or why the table or the plan is turned away.
-#[derive(Drop)]
-pub enum Unfolded {
-    Made(usize),
-    Refused(Refusal),
-}
-
 // The program of an accepted plan for a table of this width.
 fn make(plan: &[u32], width: usize, program: &mut [u32]) -> usize
     requires { Peopled plan.now 0 width × (0 < width) }
@@ -42,15 +35,15 @@ fn make(plan: &[u32], width: usize, program: &mut [u32]) -> usize
 }
 
 // The program of any plan for a table, any cells at all for both, put into a room: for each clause four numbers and its head's cells
-// (specs/Flat). 4,572 cells are enough for every one.
-pub fn unfold(table: &[u32], plan: &[u32], program: &mut [u32]) -> Unfolded
+// (specs/Flat). 4,572 cells are enough for every one. Answers where the program ends in the room, or why the table or the plan is turned away.
+pub fn unfold(table: &[u32], plan: &[u32], program: &mut [u32]) -> Result<usize, Refusal>
     ensures { Unfolds table.now plan.now program.old program.new result }
 {
     match checker::check_plan(table, plan) {
-        PlanAnswer::Refused(f) => Unfolded::Refused(f),
+        PlanAnswer::Refused(f) => Err(f),
         PlanAnswer::Accepted(_) => {
             let width = table[0] as usize;
-            Unfolded::Made(make(plan, width, program))
+            Ok(make(plan, width, program))
         }
     }
 }
