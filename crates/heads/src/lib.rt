@@ -23,17 +23,15 @@ fn hole_at(head: &[u32], i: usize) -> usize
     ensures { result ≡ hole_at head.now i }
 {
     let mut left = i;
-    let mut at = 0;
-    while at < head.len() {
-        if head[at] == HOLE {
+    for (at, c) in head.iter().enumerate() {
+        if *c == HOLE {
             if left == 0 {
                 return at;
             }
             left -= 1;
         }
-        at += 1;
     }
-    at
+    head.len()
 }
 
 // So many open places.
@@ -41,10 +39,8 @@ fn put_holes(out: &mut [u32], to: usize, n: usize) -> usize
     ensures { Put out.old out.new to (replicate n hole) result }
 {
     let mut on = to;
-    let mut i = 0;
-    while i < n {
+    for _ in 0..n {
         on = put_cell(out, on, HOLE);
-        i += 1;
     }
     on
 }
@@ -101,12 +97,9 @@ fn put_head(out: &mut [u32], to: usize, head: &[u32]) -> usize
 {
     let mut on = to;
     let mut v = 0;
-    let mut i = 0;
-    while i < head.len() {
-        let c = head[i];
-        on = put_cell(out, on, said(c, v));
-        v += open_places(c);
-        i += 1;
+    for c in head {
+        on = put_cell(out, on, said(*c, v));
+        v += open_places(*c);
     }
     on
 }
