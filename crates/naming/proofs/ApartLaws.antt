@@ -2,7 +2,7 @@
 use Prim.Native.Nat.{ℕ, ◌+◌, ◌<◌}
 use mathlib.Core.Path.{◌≡◌, sym}
 use mathlib.Core.Logic.{◌≢◌}
-use mathlib.Core.Bool.{Bool, true, false, not, true≢false}
+use mathlib.Core.Bool.{Bool, true, false, true≢false}
 use mathlib.Core.List.{List}
 use native.Mathlib.Omega.{arith}
 use native.Mathlib.Decide.{dec_lt}
@@ -31,15 +31,15 @@ module _ (text names : List ℕ) where
   pub apart_none : ApartTo text names 0
   apart_none = record { each = λ j h. absurd (omega arith) }
 
-  pub apart_more : (k : ℕ) (b : Bool) → ApartTo text names k → Says (FreshTo text names k k) b → not b ≡ false → ApartTo text names (k + 1)
+  pub apart_more : (k : ℕ) (b : Bool) → ApartTo text names k → Says (FreshTo text names k k) b → b ≡ true → ApartTo text names (k + 1)
   apart_more k true a s e = record { each = λ j h. go j h (dec_lt j k) }
     where
       go : (j : ℕ) → j < k + 1 → Dec (j < k) → FreshTo text names j j
       go j h (yes l) = a.each j l
       go j h (no l) = let q : j ≡ k = omega arith in rw q s
-  apart_more k false a s e = absurd (true≢false e)
+  apart_more k false a s e = absurd (true≢false (sym e))
 
-  pub apart-not : (k : ℕ) (b : Bool) → k < length names → Says (FreshTo text names k k) b → not b ≡ true
+  pub apart-not : (k : ℕ) (b : Bool) → k < length names → Says (FreshTo text names k k) b → b ≡ false
       → ApartTo text names (length names) → ⊥
-  apart-not k true h s e a = true≢false (sym e)
+  apart-not k true h s e a = true≢false e
   apart-not k false h s e a = s (a.each k h)

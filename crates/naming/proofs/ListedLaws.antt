@@ -2,7 +2,7 @@
 use Prim.Native.Nat.{ℕ, zero, suc, ◌+◌, ◌/◌, ◌%◌, ◌≤◌, ◌<◌}
 use mathlib.Core.Path.{◌≡◌, refl, sym, ◌∙◌, ap, subst}
 use mathlib.Core.Logic.{⊎_elim}
-use mathlib.Core.Bool.{Bool, true, false, not, true≢false}
+use mathlib.Core.Bool.{Bool, true, false, true≢false}
 use mathlib.Core.List.Memᴰ
 use mathlib.Core.List.{List, [], ◌∷◌, flatten, Memᴰ}
 use native.Mathlib.Omega.{arith}
@@ -109,15 +109,15 @@ module _ (text names : List ℕ) where
       let cells : drop 2 t ≡ flatten T.rows = ap (drop 2) (is-table t r).cells in
       λ l. n (record { places = l.places; apart = l.apart; known = (row-known (drop 2 t) (rw cells (known-rows T.rows l.known)), tt) })
 
-  pub unlisted-entry : (b : Bool) {rows : List (List ℕ)} → Says (Entries text names) b → not b ≡ true → Listed text names rows → ⊥
-  unlisted-entry true s e l = true≢false (sym e)
+  pub unlisted-entry : (b : Bool) {rows : List (List ℕ)} → Says (Entries text names) b → b ≡ false → Listed text names rows → ⊥
+  unlisted-entry true s e l = true≢false e
   unlisted-entry false s e l = s (all-nth (Entry text) names l.places)
 
-  pub unlisted-twice : (b : Bool) {rows : List (List ℕ)} → Says (ApartTo text names (length names)) b → not b ≡ true
+  pub unlisted-twice : (b : Bool) {rows : List (List ℕ)} → Says (ApartTo text names (length names)) b → b ≡ false
       → Listed text names rows → ⊥
-  unlisted-twice true s e l = true≢false (sym e)
+  unlisted-twice true s e l = true≢false e
   unlisted-twice false s e l = s (words-apart l.apart)
 
-  pub says-yes : (P : Type 0) (b : Bool) → Says P b → not b ≡ false → P
+  pub says-yes : (P : Type 0) (b : Bool) → Says P b → b ≡ true → P
   says-yes P true s e = s
-  says-yes P false s e = absurd (true≢false e)
+  says-yes P false s e = absurd (true≢false (sym e))

@@ -1,5 +1,5 @@
-// W-201's list of names, looked at (02, W-210: "NAMES when a listed place holds no lower-case name, two hold the same, or the table has a
-// name number not listed").
+// A text's list of names, looked at: "NAMES when a listed place holds no lower-case name, two hold the same, or the table has a name number
+// not listed".
 #![tactic(auto)]
 
 ghost use Rattle.std.specs.Prelude.{length, drop, ◌<◌, [], ◌∷◌};
@@ -22,14 +22,7 @@ fn entry(text: &[u8], name: u32) -> bool
 fn each_name(text: &[u8], names: &[u32]) -> bool
     ensures { Says (Entries text.now names.now) result }
 {
-    let mut i = 0;
-    while i < names.len() {
-        if !entry(text, names[i]) {
-            return false;
-        }
-        i += 1;
-    }
-    true
+    names.iter().all(|name| entry(text, *name))
 }
 
 // Whether a cell's number is listed, if it is a name.
@@ -47,14 +40,7 @@ fn known(c: u32, count: usize) -> bool
 fn all_known(table: &[u32], from: usize, count: usize) -> bool
     ensures { Says (AllKnown count (drop from table.now)) result }
 {
-    let mut i = from;
-    while i < table.len() {
-        if !known(table[i], count) {
-            return false;
-        }
-        i += 1;
-    }
-    true
+    table.iter().skip(from).all(|c| known(*c, count))
 }
 
 // Whether an entry's word stands at none of those before it.
@@ -62,15 +48,13 @@ fn fresh(text: &[u8], names: &[u32], k: usize) -> bool
     requires { k < length names.now }
     ensures { Says (FreshTo text.now names.now k k) result }
 {
-    let mut i = 0;
-    while i < k {
+    for i in 0..k {
         if same_bytes(
             nameword::word(text, names[i]),
             nameword::word(text, names[k]),
         ) {
             return false;
         }
-        i += 1;
     }
     true
 }
@@ -79,12 +63,10 @@ fn fresh(text: &[u8], names: &[u32], k: usize) -> bool
 fn no_two(text: &[u8], names: &[u32]) -> bool
     ensures { Says (ApartTo text.now names.now (length names.now)) result }
 {
-    let mut k = 0;
-    while k < names.len() {
+    for k in 0..names.len() {
         if !fresh(text, names, k) {
             return false;
         }
-        k += 1;
     }
     true
 }
