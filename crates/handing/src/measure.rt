@@ -71,10 +71,8 @@ fn atom_bytes(names: &[u32], k: u32, cells: &[u32]) -> usize
     ensures { (result ≡ atom_bytes (blanks names.now) k cells.now) × (result < 2 ^ 22) }
 {
     let mut sum = 3 + digits(k as usize);
-    let mut i = 0;
-    while i < cells.len() {
-        sum += word_bytes(names, cells[i]) + 2;
-        i += 1;
+    for c in cells {
+        sum += word_bytes(names, *c) + 2;
     }
     sum
 }
@@ -96,10 +94,8 @@ pub fn variables(head: &[u32]) -> usize
     ensures { result ≡ met_in head.now 0 }
 {
     let mut most = 0;
-    let mut i = 0;
-    while i < head.len() {
-        most = met_after(head[i], most);
-        i += 1;
+    for c in head {
+        most = met_after(*c, most);
     }
     most
 }
