@@ -1,6 +1,8 @@
 -- Demand 3, first sentence, of the entry: "The check accepts it exactly when, written as document 01 sets out, each step names one place not yet looked
 -- at and splits its rows there into the longest runs of neighbours that agree, down to rows with no place left."
 use mathlib.Core.Path.{◌≡◌, sym, ap, ◌∙◌}
+use Rattle.std.proofs.Common.{Result, Ok, Err}
+use Rattle.refusal.specs.declared.Refusal.{Refusal}
 use mathlib.Core.Logic.{◌↔◌}
 use mathlib.Core.List.{List}
 use Prim.Native.Nat.{ℕ}
@@ -13,8 +15,6 @@ use Rattle.table.proofs.Accepted.{is-table, table-accepted}
 use Rattle.plan.specs.Plans.{Plan, write, branches}
 use Rattle.plan.specs.Check.{plan_for, plan_of}
 use Rattle.checker.specs.Checked.{plan_says, plan_told}
-use Rattle.checker.specs.declared.PlanAnswer.{PlanAnswer}
-use Rattle.checker.specs.declared.PlanAnswer.TheVariants as plan-answer
 use Rattle.plan.proofs.CheckLaws.{accepted-one}
 
 -- a table of 01, and a plan for its rows that writes these cells and has b branches; no other plan writes them
@@ -30,22 +30,22 @@ says-accepted : (r : Read ℕ) (b : ℕ) → plan_says r ≡ answered b 0 → r 
 says-accepted (read n) b e = cc
 says-accepted (refuse f) b e = absurd (let z : ◌≡◌ {A = ℕ} 0 1 = cc in omega arith)
 
-told-accepted : (r : PlanAnswer) (b : ℕ) → plan_told r ≡ answered b 0 → r ≡ plan-answer.Accepted b
-told-accepted (plan-answer.Accepted n) b e = cc
-told-accepted (plan-answer.Refused f) b e = absurd (let z : ◌≡◌ {A = ℕ} 0 1 = cc in omega arith)
+told-accepted : (r : Result ℕ Refusal) (b : ℕ) → plan_told r ≡ answered b 0 → r ≡ Ok b
+told-accepted (Ok n) b e = cc
+told-accepted (Err f) b e = absurd (let z : ◌≡◌ {A = ℕ} 0 1 = cc in omega arith)
 
 -- check_plan answers that a plan is accepted with b branches exactly where it is one
-pub check-accepts : (t p : List ℕ) (b : ℕ) {r : PlanAnswer} → plan_told r ≡ plan_says (plan_of t p) → (r ≡ plan-answer.Accepted b) ↔ PlanFor t p b
+pub check-accepts : (t p : List ℕ) (b : ℕ) {r : Result ℕ Refusal} → plan_told r ≡ plan_says (plan_of t p) → (r ≡ Ok b) ↔ PlanFor t p b
 check-accepts t p b {r} promise = (sound, complete)
   where
-    sound : r ≡ plan-answer.Accepted b → PlanFor t p b
+    sound : r ≡ Ok b → PlanFor t p b
     sound e =
         let f = first (table_of t) (λ (T : Table). plan_for T p) (says-accepted (plan_of t p) b (sym promise ∙ ap plan_told e)) in
         let i = is-table t f.1 in
         let a = (accepted-one f.0 i p b).0 f.2 in
         record { table = f.0; is = i; tree = a.0; cells = a.1; count = a.2; only = a.3 }
 
-    complete : PlanFor t p b → r ≡ plan-answer.Accepted b
+    complete : PlanFor t p b → r ≡ Ok b
     complete w =
         let T : Table = w.table in
         let g = (table-accepted t T.width T.rows).1 w.is in

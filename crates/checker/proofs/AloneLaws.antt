@@ -40,19 +40,19 @@ use Rattle.plan.proofs.ReadingLaws.{
 use Rattle.state.specs.Mask.{kept, ClosedAt}
 use Rattle.state.specs.declared.mask.Closed.{Closed}
 use Rattle.checker.proofs.StateLaws.{fits_below}
-use Rattle.checker.specs.code.Steps.{leaf_after, LeafDone, alone_from, AloneDone}
-use Rattle.checker.specs.declared.check.Step.{Step}
-use Rattle.checker.specs.declared.check.Step.TheVariants as step
+use Rattle.checker.specs.code.Steps.{Step, leaf_after, LeafDone, alone_from, AloneDone}
+use Rattle.std.proofs.Common.{Ok, Err}
+use Rattle.checker.specs.declared.check.Seen as code
 
 -- A leaf: ENDS, ROWS, or read.
 module _ (p : List ℕ) (rows count at : ℕ) where
-  pub leaf-ends : {f : Refusal} → length p ≤ at → told f ≡ bad_plan reason.Ends at → LeafDone p rows count at (step.Refused f)
+  pub leaf-ends : {f : Refusal} → length p ≤ at → told f ≡ bad_plan reason.Ends at → LeafDone p rows count at (Err f)
   leaf-ends h q = record { says = rw (drop_of_length-le p h, q); inside = λ from l. tt }
 
-  pub leaf-rows : {f : Refusal} → at < length p → get_or p at 0 ≢ rows → told f ≡ bad_plan reason.Rows at → LeafDone p rows count at (step.Refused f)
+  pub leaf-rows : {f : Refusal} → at < length p → get_or p at 0 ≢ rows → told f ≡ bad_plan reason.Rows at → LeafDone p rows count at (Err f)
   leaf-rows h e q = record { says = rw (drop-cons p at 0 h, ne_eqb _ _ e, q); inside = λ from l. tt }
 
-  pub leaf-read : at < length p → get_or p at 0 ≡ rows → LeafDone p rows count at (step.Seen count (at + 1))
+  pub leaf-read : at < length p → get_or p at 0 ≡ rows → LeafDone p rows count at (Ok (record { branches = count; next = at + 1 }))
   leaf-read h e = record {
     says = rw (drop-cons p at 0 h, eq-eqb _ _ e, add-one at);
     inside = λ from l. (omega arith, omega arith);
@@ -111,28 +111,28 @@ module _ {t : List ℕ} {start mask : ℕ} {p : List ℕ} {k at left owed place 
   pub few-owed : owed ≤ 32
   few-owed = omega (arith, terms-long g.fits.0, g.fits.1)
 
-  refused : {f : Refusal} (x : Refused) → alone_from owed row p place ≡ refuse x → told f ≡ x → AloneDone t start mask p k at (step.Refused f)
+  refused : {f : Refusal} (x : Refused) → alone_from owed row p place ≡ refuse x → told f ≡ x → AloneDone t start mask p k at (Err f)
   refused x e q = record { says = sym g.says ∙ rw (e, q); inside = tt }
 
   module _ (l : 0 < owed) where
     abbrev as-node : alone_from owed row p place ≡ node_from (state_from 32) [] (owed - 1) (row ∷ []) place (drop place p)
     as-node = state-again 32 [] owed (row ∷ []) (g.fits, tt) (omega arith) l place (drop place p)
 
-    pub chain-ends : {f : Refusal} → length p ≤ place → told f ≡ bad_plan reason.Ends place → AloneDone t start mask p k at (step.Refused f)
+    pub chain-ends : {f : Refusal} → length p ≤ place → told f ≡ bad_plan reason.Ends place → AloneDone t start mask p k at (Err f)
     chain-ends h = refused (bad_plan reason.Ends place) (as-node ∙ node-ends (state_from 32) [] (owed - 1) (row ∷ []) p place h)
 
     pub chain-open : {f : Refusal} → place < length p → owed ≤ get_or p place 0 → told f ≡ bad_plan reason.Open place
-        → AloneDone t start mask p k at (step.Refused f)
+        → AloneDone t start mask p k at (Err f)
     chain-open h i = refused (bad_plan reason.Open place) (as-node ∙ node-open (state_from 32) [] (owed - 1) (row ∷ []) p place h (omega arith))
 
     module _ (i : get_or p place 0 < owed) where
       pub chain-ends-2 : {f : Refusal} → place < length p → length p ≤ place + 1 → told f ≡ bad_plan reason.Ends (place + 1)
-          → AloneDone t start mask p k at (step.Refused f)
+          → AloneDone t start mask p k at (Err f)
       chain-ends-2 h n =
           refused (bad_plan reason.Ends (place + 1)) (as-node ∙ node-ends-2 (state_from 32) [] (owed - 1) (row ∷ []) p place h n (omega arith) refl)
 
       pub chain-edges : {f : Refusal} → place + 1 < length p → get_or p (place + 1) 0 ≢ 1 → told f ≡ bad_plan reason.Edges (place + 1)
-          → AloneDone t start mask p k at (step.Refused f)
+          → AloneDone t start mask p k at (Err f)
       chain-edges h n = refused (bad_plan reason.Edges (place + 1)) (as-node ∙ node-edges (state_from 32) [] (owed - 1) (row ∷ []) p place h (omega arith) refl n)
 
       -- one branch: ENDS at its cell, LABEL, or on with the row below it
@@ -143,14 +143,14 @@ module _ {t : List ℕ} {start mask : ℕ} {p : List ℕ} {k at left owed place 
         as-branch : alone_from owed row p place ≡ branches_from (state_from 32) [] (get_or p place 0) (owed - 1) (branch ∷ []) (place + 2) (drop (place + 2) p)
         as-branch = as-node ∙ node-on (state_from 32) [] (owed - 1) (row ∷ []) p place h (omega arith) refl n
 
-        pub chain-ends-3 : {f : Refusal} → length p ≤ place + 2 → told f ≡ bad_plan reason.Ends (place + 2) → AloneDone t start mask p k at (step.Refused f)
+        pub chain-ends-3 : {f : Refusal} → length p ≤ place + 2 → told f ≡ bad_plan reason.Ends (place + 2) → AloneDone t start mask p k at (Err f)
         chain-ends-3 m =
             refused (bad_plan reason.Ends (place + 2)) (as-branch
             ∙ branches-ends (state_from 32) [] (get_or p place 0) (owed - 1) branch [] p (place + 2) m)
 
         module _ {c : Closed} (closed : ClosedAt (get_or p place 0) left (drop start t) c) (m : place + 2 < length p) where
           pub chain-label : {f : Refusal} → get_or p (place + 2) 0 ≢ c.cell → told f ≡ bad_plan reason.Label (place + 2)
-              → AloneDone t start mask p k at (step.Refused f)
+              → AloneDone t start mask p k at (Err f)
           chain-label d =
               refused (bad_plan reason.Label (place + 2))
               (as-branch ∙ branches-label (state_from 32) [] (get_or p place 0) (owed - 1) branch [] p (place + 2) m (λ e. d (e ∙ sym closed.cell)))

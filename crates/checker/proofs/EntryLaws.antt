@@ -24,9 +24,9 @@ use Rattle.state.specs.code.First.{TableRows}
 use Rattle.state.proofs.FirstLaws.{is, few-rows, rows-open}
 use Rattle.state.proofs.FlagsLaws.{mask-flags, past-any}
 use Rattle.checker.specs.Checked.{plan_says}
-use Rattle.checker.specs.code.Steps.{named_plan, said_by, Ready, Done}
-use Rattle.checker.specs.declared.check.Step.{Step}
-use Rattle.checker.specs.declared.check.Step.TheVariants as step
+use Rattle.checker.specs.code.Steps.{Step, named_plan, said_by, Ready, Done}
+use Rattle.std.proofs.Common.{Ok, Err}
+use Rattle.checker.specs.declared.check.Seen as code
 use Rattle.limits.specs.Limits.{most_plan_cells}
 
 -- The table is turned away.
@@ -68,20 +68,20 @@ module _ {t ss : List ℕ} {w n : ℕ} (k : TableRows t ss w n) (mask past : ℕ
         says = rw (k.width, rows-open k o) at d.says
 
         -- what it is turned away for
-        pub entry-refused : {f : Refusal} → r ≡ step.Refused f → turned (told f) ≡ plan_says (named_plan mask past t p)
+        pub entry-refused : {f : Refusal} → r ≡ Err f → turned (told f) ≡ plan_says (named_plan mask past t p)
         entry-refused {f} e = says-plan (refuse (told f)) (plan-refused fs k.table p (told f) h (says ∙ ap (said_by p) e))
 
         -- EXTRA
-        pub entry-extra : {x : Refused} {b e : ℕ} → r ≡ step.Seen b e → e < length p → x ≡ bad_plan reason.Extra e
+        pub entry-extra : {x : Refused} {s : code.Seen} → r ≡ Ok s → s.next < length p → x ≡ bad_plan reason.Extra s.next
             → turned x ≡ plan_says (named_plan mask past t p)
-        entry-extra {b = b} {e} q l = turned-plan (bad_plan reason.Extra e) (plan-extra fs k.table p b e h (says ∙ ap (said_by p) q) l)
+        entry-extra {s = s} q l = turned-plan (bad_plan reason.Extra s.next) (plan-extra fs k.table p s.branches s.next h (says ∙ ap (said_by p) q) l)
 
         -- the plan is accepted
-        pub entry-accepted : {b e : ℕ} → r ≡ step.Seen b e → length p ≤ e → answered b 0 ≡ plan_says (named_plan mask past t p)
+        pub entry-accepted : {s : code.Seen} → r ≡ Ok s → length p ≤ s.next → answered s.branches 0 ≡ plan_says (named_plan mask past t p)
         unfolding plan_with
-        entry-accepted {b} {e} q l =
-            let s = says ∙ ap (said_by p) q in
-            says-plan (read b) (rw (le-ltb most_plan_cells (length p) h, s, drop_of_length-le p l))
+        entry-accepted {s} q l =
+            let e = says ∙ ap (said_by p) q in
+            says-plan (read s.branches) (rw (le-ltb most_plan_cells (length p) h, e, drop_of_length-le p l))
 
 -- A LIST'S mask and the largest of its numbers are the list, for every table that is read
 named-under : (t columns p : List ℕ) → named_plan (mask_from 0 columns) (past_from 0 columns) t p ≡ plan_under t columns p

@@ -17,9 +17,9 @@ use Rattle.plan.specs.Check.{seen, bad_plan, branches_from, state_from}
 use Rattle.state.specs.Column.{run_length}
 use Rattle.state.specs.Flags.{flags_in, spread_of}
 use Rattle.state.specs.States.{rows_in, column_in, runs_in, Same}
-use Rattle.checker.specs.code.Steps.{said_by, Ready, ReadyIn, Done, DoneIn}
-use Rattle.checker.specs.declared.check.Step.{Step}
-use Rattle.checker.specs.declared.check.Step.TheVariants as step
+use Rattle.checker.specs.code.Steps.{Step, said_by, Ready, ReadyIn, Done, DoneIn}
+use Rattle.std.proofs.Common.{Ok, Err}
+use Rattle.checker.specs.declared.check.Seen as code
 use Rattle.plan.proofs.ReadingLaws.{after, after_none, after-after, branches-ends, branches-label, branches-refused, branches-on}
 use Rattle.state.proofs.FlagsLaws.{flags-below, few-below}
 use Rattle.state.proofs.RowsLaws.{rows-kept, FirstRun, run-first, same_self, same_then, same-later}
@@ -55,7 +55,7 @@ module _ {t ss p ms hs : List ℕ} {first last named i k at : ℕ} {ms₁ hs₁ 
   -- what is left is turned away
   going-refused : {ms₂ hs₂ : List ℕ} {f : Refusal} (x : Refused)
       → branches_from (state_from 32) (flags_in (suc k) named) i k left place (drop place p) ≡ refuse x → told f ≡ x
-      → Same last ms₁ ms₂ → Same last hs₁ hs₂ → DoneIn t ss ms hs ms₂ hs₂ p first last named i k at (step.Refused f)
+      → Same last ms₁ ms₂ → Same last hs₁ hs₂ → DoneIn t ss ms hs ms₂ hs₂ p first last named i k at (Err f)
   going-refused x e q a b = record {
     says = sym g.says ∙ rw (e, q);
     inside = tt;
@@ -64,7 +64,7 @@ module _ {t ss p ms hs : List ℕ} {first last named i k at : ℕ} {ms₁ hs₁ 
   }
 
   -- no row is left
-  pub going_done : last ≤ row → DoneIn t ss ms hs ms₁ hs₁ p first last named i k at (step.Seen count place)
+  pub going_done : last ≤ row → DoneIn t ss ms hs ms₁ hs₁ p first last named i k at (Ok (record { branches = count; next = place }))
   going_done h =
       let e : last - row ≡ 0 = omega arith in
       let none : left ≡ [] = rw e in
@@ -91,13 +91,13 @@ module _ {t ss p ms hs : List ℕ} {first last named i k at : ℕ} {ms₁ hs₁ 
     runs_after = runs_in t ss ms₁ hs₁ (row + size) last
 
     pub going-ends : {f : Refusal} → length p ≤ place → told f ≡ bad_plan reason.Ends place
-        → DoneIn t ss ms hs ms₁ hs₁ p first last named i k at (step.Refused f)
+        → DoneIn t ss ms hs ms₁ hs₁ p first last named i k at (Err f)
     going-ends l q =
         let e = branches-ends (state_from 32) (flags_in (suc k) named) i k first_run runs_after p place l in
         going-refused (bad_plan reason.Ends place) (rw first-left.runs e) q (same_self last ms₁) (same_self last hs₁)
 
     pub going-label : {f : Refusal} → place < length p → get_or p place 0 ≢ get_or hs₁ row 0 → told f ≡ bad_plan reason.Label place
-        → DoneIn t ss ms hs ms₁ hs₁ p first last named i k at (step.Refused f)
+        → DoneIn t ss ms hs ms₁ hs₁ p first last named i k at (Err f)
     going-label l d q =
         let e = branches-label (state_from 32) (flags_in (suc k) named) i k first_run runs_after p place l d in
         going-refused (bad_plan reason.Label place) (rw first-left.runs e) q (same_self last ms₁) (same_self last hs₁)
@@ -166,7 +166,7 @@ module _ {t ss p ms hs : List ℕ} {first last named i k at : ℕ} {ms₁ hs₁ 
     says-below = rw (flags-below named i (arity c) k g.ready.flags g.ready.opens g.ready.place few-args) at a.says
 
     -- it is turned away
-    pub turn-refused : {f : Refusal} → s ≡ step.Refused f → DoneIn t ss ms hs ms₂ hs₂ p first last named i k at (step.Refused f)
+    pub turn-refused : {f : Refusal} → s ≡ Err f → DoneIn t ss ms hs ms₂ hs₂ p first last named i k at (Err f)
     turn-refused {f} e =
         going-refused g (told f) (rw r.runs (branches-refused (state_from 32) (flags_in (suc k) named) i k one others p place (told f) w.here
         w.label (says-below ∙ ap (said_by p) e))) refl
@@ -174,15 +174,15 @@ module _ {t ss p ms hs : List ℕ} {first last named i k at : ℕ} {ms₁ hs₁ 
         (same-later (row + n) last r.few a.column)
 
     -- it is read: on with the runs after it
-    module _ {b m : ℕ} (e : s ≡ step.Seen b m) where
+    module _ {z : code.Seen} (e : s ≡ Ok z) where
       -- the place after it, and its branches, are within the plan
-      pub turn-next : (place + 1 + b ≤ m) × (m ≤ length p)
+      pub turn-next : (place + 1 + z.branches ≤ z.next) × (z.next ≤ length p)
       turn-next = rw e at a.inside
 
       others-kept : runs_in t ss ms₂ hs₂ (row + n) last ≡ others
       others-kept = rw (a.column.after, rows-kept t ss ms₁ ms₂ (last - (row + n)) (row + n) a.masks.after)
 
-      ready-next : ReadyIn t ss ms₂ hs₂ p (row + n) last named i k m
+      ready-next : ReadyIn t ss ms₂ hs₂ p (row + n) last named i k z.next
       ready-next = record {
         room = record {
           masks = a.masks.size ∙ g.ready.room.masks;
@@ -197,17 +197,17 @@ module _ {t ss p ms hs : List ℕ} {first last named i k at : ℕ} {ms₁ hs₁ 
         opens = g.ready.opens;
       }
 
-      says-next : after (count + (1 + b)) (branches_from (state_from 32) (flags_in (suc k) named) i k (runs_in t ss ms₂ hs₂ (row + n) last) m (drop m p))
+      says-next : after (count + (1 + z.branches)) (branches_from (state_from 32) (flags_in (suc k) named) i k (runs_in t ss ms₂ hs₂ (row + n) last) z.next (drop z.next p))
           ≡ branches_from (state_from 32) (flags_in (suc k) named) i k (runs_in t ss ms hs first last) at (drop at p)
       says-next =
-          let q : count + (1 + b) ≡ count + (b + 1) = omega arith in
-          let on = branches-on (state_from 32) (flags_in (suc k) named) i k one others p place (seen b m (drop m p)) w.here w.label
+          let q : count + (1 + z.branches) ≡ count + (z.branches + 1) = omega arith in
+          let on = branches-on (state_from 32) (flags_in (suc k) named) i k one others p place (seen z.branches z.next (drop z.next p)) w.here w.label
           (says-below ∙ ap (said_by p) e) in
           rw (others-kept, q)
-          (sym (after-after count (b + 1) (branches_from (state_from 32) (flags_in (suc k) named) i k others m (drop m p))) ∙ ap (after count) (sym on)
+          (sym (after-after count (z.branches + 1) (branches_from (state_from 32) (flags_in (suc k) named) i k others z.next (drop z.next p))) ∙ ap (after count) (sym on)
           ∙ (rw r.runs at g.says))
 
-      pub turn_on : Going t ss p ms hs first last named i k at ms₂ hs₂ (row + n) m (count + (1 + b))
+      pub turn_on : Going t ss p ms hs first last named i k at ms₂ hs₂ (row + n) z.next (count + (1 + z.branches))
       turn_on = record {
         ready = ready-next;
         deep = omega (

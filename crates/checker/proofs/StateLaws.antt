@@ -24,9 +24,9 @@ use Rattle.plan.specs.code.Fits.{Fits}
 use Rattle.state.specs.Column.{run_count}
 use Rattle.state.specs.Flags.{flags_in, may_in}
 use Rattle.state.specs.States.{row_at, rows_in, column_in, ClosedRows}
-use Rattle.checker.specs.code.Steps.{said_by, Inside, LeafDone, AloneDone, Ready, ReadyIn, Done, DoneIn}
-use Rattle.checker.specs.declared.check.Step.{Step}
-use Rattle.checker.specs.declared.check.Step.TheVariants as step
+use Rattle.checker.specs.code.Steps.{Step, said_by, Inside, LeafDone, AloneDone, Ready, ReadyIn, Done, DoneIn}
+use Rattle.std.proofs.Common.{Ok, Err}
+use Rattle.checker.specs.declared.check.Seen as code
 use Rattle.plan.proofs.RunsLaws.{group-all, fits-close}
 use Rattle.plan.proofs.ReadingLaws.{node-ends, node-open, node-early, node-ends-2, node-edges, node-on, state-leaf, state-again}
 use Rattle.state.proofs.FlagsLaws.{may-bits, zero_flags}
@@ -103,14 +103,14 @@ module _ {t ss ms hs p : List ℕ} {first last named k at : ℕ} (w : Ready t ss
     as-node = state-again 32 fs k rows w.rows some-row l at (drop at p)
 
     refused : {f : Refusal} (x : Refused) → node_from (state_from 32) fs (k - 1) rows at (drop at p) ≡ refuse x → told f ≡ x
-        → Done t ss ms hs ms hs p first last named k at (step.Refused f)
+        → Done t ss ms hs ms hs p first last named k at (Err f)
     refused x e q = untouched (as-node ∙ e ∙ rw q) tt
 
-    pub done-ends : {f : Refusal} → length p ≤ at → told f ≡ bad_plan reason.Ends at → Done t ss ms hs ms hs p first last named k at (step.Refused f)
+    pub done-ends : {f : Refusal} → length p ≤ at → told f ≡ bad_plan reason.Ends at → Done t ss ms hs ms hs p first last named k at (Err f)
     done-ends h = refused (bad_plan reason.Ends at) (node-ends (state_from 32) fs (k - 1) rows p at h)
 
     pub done-open : {f : Refusal} → at < length p → k ≤ get_or p at 0 → told f ≡ bad_plan reason.Open at
-        → Done t ss ms hs ms hs p first last named k at (step.Refused f)
+        → Done t ss ms hs ms hs p first last named k at (Err f)
     done-open h i = refused (bad_plan reason.Open at) (node-open (state_from 32) fs (k - 1) rows p at h (omega arith))
 
     -- whether the place may be chosen, by the code's test
@@ -118,7 +118,7 @@ module _ {t ss ms hs p : List ℕ} {first last named k at : ℕ} (w : Ready t ss
     tested i = sym (may-bits k (get_or p at 0) named i (omega (arith, few-open)) w.flags)
 
     pub done-early : {f : Refusal} → at < length p → get_or p at 0 < k → may_in named (get_or p at 0) ≡ false → told f ≡ bad_plan reason.Early at
-        → Done t ss ms hs ms hs p first last named k at (step.Refused f)
+        → Done t ss ms hs ms hs p first last named k at (Err f)
     done-early h i m = refused (bad_plan reason.Early at) (node-early (state_from 32) fs (k - 1) rows p at h (omega arith) (tested i ∙ m))
 
     module _ (i : get_or p at 0 < k) (m : may_in named (get_or p at 0) ≡ true) where
@@ -131,11 +131,11 @@ module _ {t ss ms hs p : List ℕ} {first last named k at : ℕ} (w : Ready t ss
 
         -- the rows are closed, and it is turned away
         closed-refused : {f : Refusal} (x : Refused) → node_from (state_from 32) fs (k - 1) rows at (drop at p) ≡ refuse x → told f ≡ x
-            → Done t ss ms hs ms₁ hs₁ p first last named k at (step.Refused f)
+            → Done t ss ms hs ms₁ hs₁ p first last named k at (Err f)
         closed-refused x e q = record { says = as-node ∙ e ∙ rw q; inside = tt; masks = c.masks; column = c.column }
 
         pub done-ends-2 : {f : Refusal} → at < length p → length p ≤ at + 1 → told f ≡ bad_plan reason.Ends (at + 1)
-            → Done t ss ms hs ms₁ hs₁ p first last named k at (step.Refused f)
+            → Done t ss ms hs ms₁ hs₁ p first last named k at (Err f)
         done-ends-2 h n = closed-refused (bad_plan reason.Ends (at + 1)) (node-ends-2 (state_from 32) fs (k - 1) rows p at h n (omega arith) allowed)
 
         number : (n : ℕ) → n ≡ run_count (column_in hs₁ first last) → n ≡ length (runs (get_or p at 0) rows)
@@ -144,7 +144,7 @@ module _ {t ss ms hs p : List ℕ} {first last named k at : ℕ} (w : Ready t ss
             e ∙ sym (run-number t ss ms₁ hs₁ first last z) ∙ ap length (sym (runs_closed c))
 
         pub done-edges : {f : Refusal} (n : ℕ) → at + 1 < length p → n ≡ run_count (column_in hs₁ first last) → get_or p (at + 1) 0 ≢ n
-            → told f ≡ bad_plan reason.Edges (at + 1) → Done t ss ms hs ms₁ hs₁ p first last named k at (step.Refused f)
+            → told f ≡ bad_plan reason.Edges (at + 1) → Done t ss ms hs ms₁ hs₁ p first last named k at (Err f)
         done-edges n h e d =
             closed-refused (bad_plan reason.Edges (at + 1))
             (node-edges (state_from 32) fs (k - 1) rows p at h (omega arith) allowed
@@ -187,5 +187,5 @@ module _ {t ss ms hs p : List ℕ} {first last named k at : ℕ} (w : Ready t ss
         }
           where
             up : (r : Step) → Inside p (at + 2) r → Inside p at r
-            up (step.Seen b n) i = (omega arith, i.1)
-            up (step.Refused f) i = tt
+            up (Ok s) i = (omega arith, i.1)
+            up (Err f) i = tt

@@ -1,4 +1,4 @@
-// The check of a plan, state by state (01, "Plans" and the plan's rows of "What is turned away").
+// The check of a plan, state by state, and for what it is turned away.
 ghost use Rattle.std.specs.Prelude.{◌≡◌, drop};
 ghost use Rattle.refusal.specs.Refusal.{told};
 ghost use Rattle.plan.specs.Check.{bad_plan};
@@ -13,11 +13,11 @@ use state::column::{run_count, run_length};
 use state::flags::{may, spread};
 use state::mask::{close_at, close_rows};
 
-// A state that is read: its number of branches, and the place after it; or why the plan is turned away.
-#[derive(Drop)]
-pub enum Step {
-    Seen(usize, usize),
-    Refused(Refusal),
+// A state that is read: its number of branches, and the place after it.
+#[derive(Clone, Copy)]
+pub struct Seen {
+    pub branches: usize,
+    pub next: usize,
 }
 
 // A refusal of the plan.
@@ -32,21 +32,31 @@ pub fn refusal(reason: Reason, place: usize) -> Refusal
 }
 
 // A leaf at place `at` of the plan: the number of its rows. So many branches are counted above it.
-fn leaf(plan: &[u32], rows: usize, count: usize, at: usize) -> Step
+fn leaf(plan: &[u32], rows: usize, count: usize, at: usize) -> Result<Seen, Refusal>
     ensures { LeafDone plan.now rows count at result }
 {
     if plan.len() <= at {
-        return Step::Refused(refusal(Reason::Ends, at));
+        return Err(refusal(Reason::Ends, at));
     }
     if plan[at] as usize != rows {
-        return Step::Refused(refusal(Reason::Rows, at));
+        return Err(refusal(Reason::Rows, at));
     }
-    Step::Seen(count, at + 1)
+    Ok(Seen {
+        branches: count,
+        next: at + 1,
+    })
 }
 
 // A state with one row, at place `at` of the plan, with k open places, none of them inside a named column: a chain of single branches, one
 // for each cell that the row still has, down to its leaf. A row that is alone needs no column and no run, and goes down with no call.
-fn alone(table: &[u32], start: usize, mask: u32, plan: &[u32], k: usize, at: usize) -> Step
+fn alone(
+    table: &[u32],
+    start: usize,
+    mask: u32,
+    plan: &[u32],
+    k: usize,
+    at: usize,
+) -> Result<Seen, Refusal>
     requires { Fits most_row_cells k (kept mask (drop start table.now)) }
     ensures { AloneDone table.now start mask plan.now k at result }
 {
@@ -56,27 +66,27 @@ fn alone(table: &[u32], start: usize, mask: u32, plan: &[u32], k: usize, at: usi
     let mut count = 0;
     while 0 < owed {
         if plan.len() <= place {
-            return Step::Refused(refusal(Reason::Ends, place));
+            return Err(refusal(Reason::Ends, place));
         }
         let i = plan[place];
         if owed <= i as usize {
-            return Step::Refused(refusal(Reason::Open, place));
+            return Err(refusal(Reason::Open, place));
         }
         let second = place + 1;
         if plan.len() <= second {
-            return Step::Refused(refusal(Reason::Ends, second));
+            return Err(refusal(Reason::Ends, second));
         }
         if plan[second] != 1 {
-            return Step::Refused(refusal(Reason::Edges, second));
+            return Err(refusal(Reason::Edges, second));
         }
         let third = place + 2;
         if plan.len() <= third {
-            return Step::Refused(refusal(Reason::Ends, third));
+            return Err(refusal(Reason::Ends, third));
         }
         let closed = close_at(table, start, left, i);
         let c = closed.cell;
         if plan[third] != c {
-            return Step::Refused(refusal(Reason::Label, third));
+            return Err(refusal(Reason::Label, third));
         }
         left = closed.mask;
         owed = cell::arity_of(c) + (owed - 1);
@@ -87,7 +97,7 @@ fn alone(table: &[u32], start: usize, mask: u32, plan: &[u32], k: usize, at: usi
 }
 
 // The state at place `at` of the plan, with k open places and the rows from first to before end. Bit i of `named` is set where open place i
-// is inside a named column (02, W-213); with none set any place may be chosen. It goes no deeper than 32: each state closes one cell of each
+// is inside a named column; with none set any place may be chosen. It goes no deeper than 32: each state closes one cell of each
 // of its rows.
 #[cycle(branches_state)]
 pub fn state(
@@ -101,7 +111,7 @@ pub fn state(
     named: u64,
     k: usize,
     at: usize,
-) -> Step
+) -> Result<Seen, Refusal>
     requires { Ready table.now starts.now masks.old column.old plan.now first end named k at }
     ensures { Done table.now starts.now masks.old column.old masks.new
         column.new plan.now first end named k at result }
@@ -114,23 +124,23 @@ pub fn state(
         return leaf(plan, rows, 0, at);
     }
     if plan.len() <= at {
-        return Step::Refused(refusal(Reason::Ends, at));
+        return Err(refusal(Reason::Ends, at));
     }
     let i = plan[at];
     if k <= i as usize {
-        return Step::Refused(refusal(Reason::Open, at));
+        return Err(refusal(Reason::Open, at));
     }
     if !may(named, i) {
-        return Step::Refused(refusal(Reason::Early, at));
+        return Err(refusal(Reason::Early, at));
     }
     close_rows(table, starts, masks, column, i, first, end);
     let next = at + 1;
     if plan.len() <= next {
-        return Step::Refused(refusal(Reason::Ends, next));
+        return Err(refusal(Reason::Ends, next));
     }
     let cells = &column[..];
     if plan[next] as usize != run_count(&cells[first..end]) {
-        return Step::Refused(refusal(Reason::Edges, next));
+        return Err(refusal(Reason::Edges, next));
     }
     branches(
         table,
@@ -162,7 +172,7 @@ fn branches(
     i: u32,
     k: usize,
     at: usize,
-) -> Step
+) -> Result<Seen, Refusal>
     requires { ReadyIn table.now starts.now masks.old column.old plan.now first end named i k at }
     ensures { DoneIn table.now starts.now masks.old column.old masks.new
         column.new plan.now first end named i k at result }
@@ -172,12 +182,12 @@ fn branches(
     let mut count = 0;
     while row < end {
         if plan.len() <= place {
-            return Step::Refused(refusal(Reason::Ends, place));
+            return Err(refusal(Reason::Ends, place));
         }
         let label = plan[place];
         let c = column[row];
         if label != c {
-            return Step::Refused(refusal(Reason::Label, place));
+            return Err(refusal(Reason::Label, place));
         }
         let cells = &column[..];
         let n = run_length(&cells[row..end]);
@@ -189,7 +199,7 @@ fn branches(
         }
         let open = args + k;
         let under = place + 1;
-        match state(
+        let below = state(
             table,
             starts,
             masks,
@@ -200,16 +210,13 @@ fn branches(
             flags,
             open,
             under,
-        ) {
-            Step::Seen(below, next) => {
-                count += 1 + below;
-                place = next;
-            }
-            Step::Refused(f) => {
-                return Step::Refused(f);
-            }
-        }
+        )?;
+        count += 1 + below.branches;
+        place = below.next;
         row += n;
     }
-    Step::Seen(count, place)
+    Ok(Seen {
+        branches: count,
+        next: place,
+    })
 }

@@ -1,4 +1,4 @@
-// Plans (01, "Plans"): the check of any plan for a table, and of plans that look into named columns first (02, W-213).
+// The check of any plan for a table, and of plans that look into named columns first.
 #![tactic(auto)]
 
 mod check;
@@ -12,18 +12,10 @@ ghost use Rattle.checker.specs.Checked.{plan_says, plan_told};
 ghost use Rattle.checker.specs.code.Steps.{named_plan};
 ghost use Rattle.state.specs.code.First.{TableRows};
 
-use check::Step;
 use limits::{PLAN_CELLS, ROWS};
 use refusal::{Input, Reason, Refusal};
 use state::flags::{Named, named_of};
 use table::TableAnswer;
-
-// The number of branches of an accepted plan, or why the table or the plan is turned away.
-#[derive(Clone, Copy)]
-pub enum PlanAnswer {
-    Accepted(usize),
-    Refused(Refusal),
-}
 
 // The refusal of a list of columns.
 fn no_column() -> Refusal
@@ -44,19 +36,19 @@ fn check_rows(
     rows: usize,
     named: Named,
     plan: &[u32],
-) -> PlanAnswer
+) -> Result<usize, Refusal>
     requires { TableRows table.now starts.now width rows × (named.mask < 2 ^ named.past) }
     ensures { plan_told result ≡ plan_says (named_plan named.mask named.past table.now plan.now) }
 {
     if width < named.past {
-        return PlanAnswer::Refused(no_column());
+        return Err(no_column());
     }
     if PLAN_CELLS < plan.len() {
-        return PlanAnswer::Refused(check::refusal(Reason::Size, 0));
+        return Err(check::refusal(Reason::Size, 0));
     }
     let mut masks = state::mask::open_rows(starts, rows, table.len());
     let mut column = [0u32; ROWS];
-    match check::state(
+    let seen = check::state(
         table,
         starts,
         &mut masks,
@@ -67,21 +59,16 @@ fn check_rows(
         named.mask,
         width,
         0,
-    ) {
-        Step::Seen(branches, next) => {
-            if next < plan.len() {
-                return PlanAnswer::Refused(check::refusal(Reason::Extra, next));
-            }
-            PlanAnswer::Accepted(branches)
-        }
-        Step::Refused(f) => PlanAnswer::Refused(f),
+    )?;
+    if seen.next < plan.len() {
+        return Err(check::refusal(Reason::Extra, seen.next));
     }
+    Ok(seen.branches)
 }
 
-// The check of a plan that chooses only places inside named columns while any of them is open (02, W-213), any cells at all for the table and
-// the plan: its number of branches, or the first refusal. The columns are named by their numbers, in any order and any number of times. It
+// The check of a plan that chooses only places inside named columns while any of them is open, any cells at all for the table and the plan: its number of branches, or the first refusal. The columns are named by their numbers, in any order and any number of times. It
 // keeps nothing of the plan.
-pub fn check_for(table: &[u32], columns: &[u32], plan: &[u32]) -> PlanAnswer
+pub fn check_for(table: &[u32], columns: &[u32], plan: &[u32]) -> Result<usize, Refusal>
     ensures { plan_told result ≡ plan_says (plan_under table.now columns.now plan.now) }
 {
     let read = table::read_table(table);
@@ -91,12 +78,12 @@ pub fn check_for(table: &[u32], columns: &[u32], plan: &[u32]) -> PlanAnswer
             let named = named_of(columns);
             check_rows(table, &read.starts, width, rows, named, plan)
         }
-        TableAnswer::Refused(f) => PlanAnswer::Refused(f),
+        TableAnswer::Refused(f) => Err(f),
     }
 }
 
 // The check of any plan: no column is named.
-pub fn check_plan(table: &[u32], plan: &[u32]) -> PlanAnswer
+pub fn check_plan(table: &[u32], plan: &[u32]) -> Result<usize, Refusal>
     ensures { plan_told result ≡ plan_says (plan_of table.now plan.now) }
 {
     let none = &table[0..0];

@@ -1,5 +1,7 @@
 -- "How closely it is held" (document 01), sentence by sentence, of what the entries promise. The promises are listed in proofs/Demands.
 use Prim.Native.Nat.{ℕ}
+use Rattle.std.proofs.Common.{Result}
+use Rattle.refusal.specs.declared.Refusal.{Refusal}
 use mathlib.Core.Path.{◌≡◌}
 use mathlib.Core.List.{List}
 use Rattle.std.specs.Prelude.{Result}
@@ -15,7 +17,6 @@ use Rattle.table.specs.Table.{Table, table_of, goal_of, goal_with, goal_told, go
 use Rattle.table.specs.Table.{TableReads, row_in, RowPlace}
 use Rattle.table.proofs.Fixed.{table-fixed, goal-for-fixed, goal-fixed, row-beside-fixed, place-fixed, row-fixed}
 use Rattle.plan.specs.Check.{plan_of, plan_under}
-use Rattle.checker.specs.declared.PlanAnswer.{PlanAnswer}
 use Rattle.checker.specs.Checked.{plan_told, plan_says}
 use Rattle.checker.proofs.Fixed.{plan-fixed, under-fixed}
 use Rattle.plannotes.specs.declared.Noted.{Noted}
@@ -89,10 +90,10 @@ pub held-row-beside : (w : ℕ) (others : List (List ℕ)) (row : List ℕ) {r s
     → row_told s ≡ row_of w others row → r ≡ s
 held-row-beside = row-beside-fixed
 
-pub held-check : (t p : List ℕ) {r s : PlanAnswer} → plan_told r ≡ plan_says (plan_of t p) → plan_told s ≡ plan_says (plan_of t p) → r ≡ s
+pub held-check : (t p : List ℕ) {r s : Result ℕ Refusal} → plan_told r ≡ plan_says (plan_of t p) → plan_told s ≡ plan_says (plan_of t p) → r ≡ s
 held-check = plan-fixed
 
-pub held-check-for : (t columns p : List ℕ) {r s : PlanAnswer} → plan_told r ≡ plan_says (plan_under t columns p)
+pub held-check-for : (t columns p : List ℕ) {r s : Result ℕ Refusal} → plan_told r ≡ plan_says (plan_under t columns p)
     → plan_told s ≡ plan_says (plan_under t columns p) → r ≡ s
 held-check-for = under-fixed
 
@@ -108,7 +109,7 @@ pub held-run : {t p g room room' room'' : List ℕ} {r s : RunAnswer} → Ran t 
     → (r ≡ s) × (room' ≡ room'')
 held-run = run-fixed
 
-pub held-jobs : {t p cells : List ℕ} {jobs jobs' jobs'' : List Job} {r s : PlanAnswer} → JobsRun t p cells jobs jobs' (plan_told r)
+pub held-jobs : {t p cells : List ℕ} {jobs jobs' jobs'' : List Job} {r s : Result ℕ Refusal} → JobsRun t p cells jobs jobs' (plan_told r)
     → JobsRun t p cells jobs jobs'' (plan_told s) → (r ≡ s) × (jobs' ≡ jobs'')
 held-jobs = run-jobs-fixed
 
@@ -116,7 +117,7 @@ pub held-replies : {t p g room room' room'' : List ℕ} {r s : RepliesAnswer} �
     → (r ≡ s) × (room' ≡ room'')
 held-replies = replied-fixed
 
-pub held-reply-jobs : {t p cells room room' room'' : List ℕ} {jobs jobs' jobs'' : List ReplyJob} {r s : PlanAnswer}
+pub held-reply-jobs : {t p cells room room' room'' : List ℕ} {jobs jobs' jobs'' : List ReplyJob} {r s : Result ℕ Refusal}
     → ReplyJobsRun t p cells room room' jobs jobs' (plan_told r) → ReplyJobsRun t p cells room room'' jobs jobs'' (plan_told s)
     → (r ≡ s) × (jobs' ≡ jobs'') × (room' ≡ room'')
 held-reply-jobs = reply-jobs-fixed

@@ -1,6 +1,8 @@
 -- Two results that a promise allows are equal, for the entries with a lent room. The other entries promise an equation with what the
 -- arguments give, and for them this is `given-fixed` of crate cell.
 use Prim.Native.Nat.{ℕ}
+use Rattle.std.proofs.Common.{Result}
+use Rattle.refusal.specs.declared.Refusal.{Refusal}
 use mathlib.Core.Path.{◌≡◌, sym, ap, ◌∙◌}
 use mathlib.Core.List.{List}
 use Rattle.std.specs.Prelude.{Result}
@@ -9,7 +11,6 @@ use Rattle.table.specs.Table.{Table}
 use Rattle.record.specs.Record.{Holds}
 use Rattle.record.specs.Edits.{Edit}
 use Rattle.record.proofs.Fixed.{worked-one, edited-one}
-use Rattle.checker.specs.declared.PlanAnswer.{PlanAnswer}
 use Rattle.checker.specs.Checked.{plan_told}
 use Rattle.builder.specs.Build.{build_told}
 use Rattle.builder.specs.declared.BuildAnswer.{BuildAnswer}
@@ -112,7 +113,7 @@ pub reply-jobs-coded-fixed : {t p cells room room' room'' : List ℕ} {jobs jobs
     → (m ≡ n) × (jobs' ≡ jobs'') × (room' ≡ room'')
 reply-jobs-coded-fixed a b =
     let f = reply-jobs-fixed {r = a.answer} {s = b.answer} a.ran b.ran in
-    (a.code ∙ ap (λ (r : PlanAnswer). coded (plan_told r)) f.0 ∙ sym b.code, f.1, f.2)
+    (a.code ∙ ap (λ (r : Result ℕ Refusal). coded (plan_told r)) f.0 ∙ sym b.code, f.1, f.2)
 
 pub clauses-coded-fixed : {t p text names room room' room'' : List ℕ} {m n : ℕ} → ClausesCoded t p text names room room' m
     → ClausesCoded t p text names room room'' n → (m ≡ n) × (room' ≡ room'')

@@ -5,7 +5,6 @@ use Rattle.refusal.specs.Refusal.{Answer, answered, turned}
 use Rattle.refusal.specs.Read.{Read}
 use Rattle.refusal.specs.Coded.{coded, Small}
 use Rattle.table.specs.Table.{Table, starts_in, row_in}
-use Rattle.checker.specs.declared.PlanAnswer.{PlanAnswer}
 use Rattle.checker.specs.Checked.{plan_told}
 use Rattle.least.specs.declared.By.TheVariants.{Work}
 use Rattle.builder.specs.declared.BuildAnswer.{BuildAnswer}
@@ -112,7 +111,7 @@ pub record RepliesCoded (cells plan goal room after : List ℕ) (number : ℕ) :
 
 -- what the entry for the replies to a list of goals answers and leaves in the records and in the room
 pub record ReplyJobsCoded (cells plan lent room room' : List ℕ) (jobs after : List ReplyJob) (number : ℕ) : Type 0 where
-  pub answer : PlanAnswer
+  pub answer : Result ℕ Refusal
   pub ran : ReplyJobsRun cells plan lent room room' jobs after (plan_told answer)
   pub code : number ≡ coded (plan_told answer)
 

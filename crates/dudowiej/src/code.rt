@@ -19,7 +19,6 @@ ghost use Rattle.dudowiej.specs.Coded.{cut, salvage_says, report_after};
 use answer::RunAnswer;
 use answerroom::AnswerText;
 use builder::BuildAnswer;
-use checker::PlanAnswer;
 use clauses::ProgramSize;
 use filing::FileAnswer;
 use goaltext::GoalText;
@@ -111,13 +110,13 @@ pub fn code_goal(a: GoalAnswer) -> u64
     }
 }
 
-pub fn code_plan(a: PlanAnswer) -> u64
+pub fn code_plan(a: Result<usize, Refusal>) -> u64
     requires { Small (plan_told a) }
     ensures { result ≡ coded (plan_told a) }
 {
     match a {
-        PlanAnswer::Accepted(branches) => code_answer(branches, 0),
-        PlanAnswer::Refused(f) => code_refusal(f),
+        Ok(branches) => code_answer(branches, 0),
+        Err(f) => code_refusal(f),
     }
 }
 

@@ -7,7 +7,6 @@ ghost use Rattle.filing.specs.Files.{zeros, FileLoaded};
 ghost use Rattle.filing.specs.Answers.{file_told};
 ghost use Rattle.filing.specs.code.Front.{Sized};
 
-use checker::PlanAnswer;
 use filing::{FileAnswer, turn};
 use refusal::{Input, Reason};
 
@@ -64,7 +63,7 @@ fn give(
     let m = 2 + least(tables, 2051);
     let e = m + least(plans, 6083);
     match checker::check_plan(&cells[2..m], &cells[m..e]) {
-        PlanAnswer::Accepted(_) => {
+        Ok(_) => {
             if table.len() < tables {
                 return turn(Reason::Room, Input::Lent, tables);
             }
@@ -75,7 +74,7 @@ fn give(
             octets::cells::put_cells(plan, 0, &cells[m..e]);
             FileAnswer::Done(tables, plans)
         }
-        PlanAnswer::Refused(f) => FileAnswer::Refused(f),
+        Err(f) => FileAnswer::Refused(f),
     }
 }
 

@@ -10,7 +10,6 @@ ghost use Rattle.filing.specs.Files.{stream, FileWritten};
 ghost use Rattle.filing.specs.Answers.{file_told};
 ghost use Rattle.limits.specs.Limits.{most_plan_cells, most_table_cells};
 
-use checker::PlanAnswer;
 use filing::{FileAnswer, turn};
 use refusal::{Input, Reason};
 
@@ -62,10 +61,10 @@ pub fn write_file(table: &[u32], plan: &[u32], room: &mut [u8]) -> FileAnswer
     ensures { FileWritten table.now plan.now room.old room.new (file_told result) }
 {
     match checker::check_plan(table, plan) {
-        PlanAnswer::Accepted(_) => {
+        Ok(_) => {
             let mut cells = [0u32; 8250];
             put_file(table, plan, &mut cells, room)
         }
-        PlanAnswer::Refused(f) => FileAnswer::Refused(f),
+        Err(f) => FileAnswer::Refused(f),
     }
 }

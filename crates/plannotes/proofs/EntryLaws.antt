@@ -1,5 +1,6 @@
 -- The entry: from an accepted plan to its first state, and from what is noted to what is handed on.
 use Prim.Native.Nat.{ℕ, ◌+◌, ◌≤◌, ◌<◌}
+use Rattle.std.proofs.Common.{Result, Ok, Err}
 use mathlib.Core.Path.{◌≡◌, refl, sym, ◌∙◌, ap}
 use mathlib.Core.Logic.{◌≢◌}
 use mathlib.Core.List.{List, [], ◌++◌, map, append-nil}
@@ -19,8 +20,6 @@ use Rattle.plan.proofs.NotesLaws.{branches-few}
 use Rattle.plan.proofs.SizeLaws.{size-bound}
 use Rattle.plan.proofs.TwiceLaws.{table-cells}
 use Rattle.checker.specs.Checked.{plan_says, plan_told}
-use Rattle.checker.specs.declared.PlanAnswer.{PlanAnswer}
-use Rattle.checker.specs.declared.PlanAnswer.TheVariants as plan-answer
 use Rattle.checker.proofs.Accepts.{PlanFor}
 use Rattle.checker.proofs.SaidLaws.{said-refused}
 use Rattle.plannotes.specs.Noted.{NotedInto, noted, refused}
@@ -89,18 +88,18 @@ module _ {t p : List ℕ} {b : ℕ} (x : PlanFor t p b) where
     accepted-plan = rw two_cells.1 accepted-there
 
     pub handed-on : {array' : List ℕ} → ((w : Accepted p array (get_or t 0 0)) → AllNoted w array')
-        → NotedInto t p array array' (record { answer = plan-answer.Accepted b; width = get_or t 0 0; rows = get_or t 1 0 })
+        → NotedInto t p array array' (record { answer = Ok b; width = get_or t 0 0; rows = get_or t 1 0 })
     unfolding accepted-there
     handed-on {array'} f =
         let w : ℕ = x.table.width in
         let W : List ℕ = map word (notes x.tree (up_from 1 w) 32 0) in
         let q : 0 + length W ≡ branches x.tree = omega (arith, words_count x.tree (up_from 1 w) 32 0) in
         let s : array' ≡ sets array 0 W = (rw two_cells.1 at f) accepted-there in
-        noted x.table x.tree ((table-accepted t w x.table.rows).1 x.is) (sym x.cells) (ap plan-answer.Accepted (sym x.count))
+        noted x.table x.tree ((table-accepted t w x.table.rows).1 x.is) (sym x.cells) (ap Ok (sym x.count))
         two_cells.1 two_cells.2
         (s ∙ sets-eq W array 0 (omega (arith, branches-few x.is x.tree)) ∙ ap (λ (k : ℕ). W ++ drop k array) q)
 
 -- The table or the plan is turned away.
-pub turned-away : (t p array : List ℕ) {r : PlanAnswer} → plan_told r ≡ plan_says (plan_of t p) → {f : Refusal} → r ≡ plan-answer.Refused f
-    → NotedInto t p array array (record { answer = plan-answer.Refused f; width = 0; rows = 0 })
+pub turned-away : (t p array : List ℕ) {r : Result ℕ Refusal} → plan_told r ≡ plan_says (plan_of t p) → {f : Refusal} → r ≡ Err f
+    → NotedInto t p array array (record { answer = Err f; width = 0; rows = 0 })
 turned-away t p array promise {f} e = refused (told f) (said-refused (plan_of t p) promise e) refl refl refl refl

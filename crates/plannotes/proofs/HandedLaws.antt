@@ -1,5 +1,6 @@
 -- What is handed on, for those who go on with it.
 use Prim.Native.Nat.{ℕ}
+use Rattle.std.proofs.Common.{Ok, Err}
 use mathlib.Core.Path.{◌≡◌, refl, sym, ◌∙◌, ap}
 use mathlib.Core.List.{List, map}
 use native.Mathlib.Omega.{arith}
@@ -17,7 +18,6 @@ use Rattle.plan.proofs.CheckLaws.{accepted-one}
 use Rattle.plan.proofs.NotesLaws.{notes-fit}
 use Rattle.plan.proofs.PlansLaws.{write-one}
 use Rattle.checker.specs.Checked.{plan_says, plan_told}
-use Rattle.checker.specs.declared.PlanAnswer.TheVariants as plan-answer
 use Rattle.plannotes.specs.Noted.{NotedInto, noted, refused}
 use Rattle.plannotes.specs.code.ForRun.{ForRun}
 use Rattle.plannotes.specs.declared.Noted.{Noted}
@@ -30,7 +30,7 @@ handed-says {t} {p} (noted T tree e c a w n k) =
 handed-says (refused f e a w n k) = a ∙ rw e
 
 -- Where the plan is accepted.
-pub for-run : {t p before after : List ℕ} {m : Noted} {b : ℕ} → NotedInto t p before after m → m.answer ≡ plan-answer.Accepted b
+pub for-run : {t p before after : List ℕ} {m : Noted} {b : ℕ} → NotedInto t p before after m → m.answer ≡ Ok b
     → ForRun t p after b m.width m.rows
 for-run {t} {p} {before} {m = m} {b} (noted T tree e c a w n k) d =
     let q : plan_told m.answer ≡ answered b 0 = ap plan_told d in
@@ -54,7 +54,7 @@ for-run {m = m} {b} (refused f e a w n k) d =
     absurd (let z : ◌≡◌ {A = ℕ} 0 1 = cc in omega arith)
 
 -- Where the table or the plan is turned away.
-pub no_run : {t p before after : List ℕ} {m : Noted} {f : Refusal} → NotedInto t p before after m → m.answer ≡ plan-answer.Refused f
+pub no_run : {t p before after : List ℕ} {m : Noted} {f : Refusal} → NotedInto t p before after m → m.answer ≡ Err f
     → (plan_of t p ≡ refuse (told f)) × (after ≡ before)
 no_run {m = m} {f = f} (noted T tree e c a w n k) d =
     let q : plan_told m.answer ≡ turned (told f) = ap plan_told d in

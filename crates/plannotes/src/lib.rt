@@ -9,13 +9,13 @@ mod tree;
 ghost use Rattle.plannotes.specs.Noted.{NotedInto};
 ghost use Rattle.plannotes.specs.code.Tree.{Accepted, AllNoted};
 
-use checker::PlanAnswer;
 use limits::BRANCHES;
+use refusal::Refusal;
 
 // The answer of the check; and the width and the number of rows of the table, both 0 where it or the plan is turned away.
 #[derive(Clone, Copy)]
 pub struct Noted {
-    pub answer: PlanAnswer,
+    pub answer: Result<usize, Refusal>,
     pub width: usize,
     pub rows: usize,
 }
@@ -35,18 +35,18 @@ pub fn check_noted(table: &[u32], plan: &[u32], notes: &mut [u64; BRANCHES]) -> 
     ensures { NotedInto table.now plan.now notes.old notes.new result }
 {
     match checker::check_plan(table, plan) {
-        PlanAnswer::Accepted(branches) => {
+        Ok(branches) => {
             let width = table[0] as usize;
             let rows = table[1] as usize;
             note_plan(plan, width, notes);
             Noted {
-                answer: PlanAnswer::Accepted(branches),
+                answer: Ok(branches),
                 width,
                 rows,
             }
         }
-        PlanAnswer::Refused(f) => Noted {
-            answer: PlanAnswer::Refused(f),
+        Err(f) => Noted {
+            answer: Err(f),
             width: 0,
             rows: 0,
         },

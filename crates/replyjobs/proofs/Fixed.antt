@@ -1,5 +1,7 @@
 -- Two results that the promise of `reply_jobs` allows are equal: the records, the room and the answer.
 use Prim.Native.Nat.{ℕ, ◌+◌}
+use Rattle.std.proofs.Common.{Result}
+use Rattle.refusal.specs.declared.Refusal.{Refusal}
 use mathlib.Core.Path.{◌≡◌, refl, sym, ◌∙◌, ap, ap₂, subst}
 use mathlib.Core.List.{List, ◌∷◌, ◌++◌}
 use native.Mathlib.Omega.{arith}
@@ -7,7 +9,6 @@ use lib.ListN.{take}
 use Rattle.refusal.specs.Refusal.{Refused, Answer}
 use Rattle.table.proofs.ReadLaws.{apart}
 use Rattle.plan.specs.Check.{plan_of}
-use Rattle.checker.specs.declared.PlanAnswer.{PlanAnswer}
 use Rattle.checker.specs.Checked.{plan_told, plan_says}
 use Rattle.checker.proofs.Fixed.{plan-fixed}
 use Rattle.answer.specs.Jobs.{bits_of}
@@ -75,7 +76,7 @@ made-fixed (asked n d e g) (refusal f' d' e' g' o') = apart (sym d ∙ d')
 made-fixed (asked n d e g) (asked n' d' e' g') = replies-each-fixed g g'
 
 -- reply_jobs
-pub reply-jobs-fixed : {t p cells room room' room'' : List ℕ} {jobs jobs' jobs'' : List ReplyJob} {r s : PlanAnswer}
+pub reply-jobs-fixed : {t p cells room room' room'' : List ℕ} {jobs jobs' jobs'' : List ReplyJob} {r s : Result ℕ Refusal}
     → ReplyJobsRun t p cells room room' jobs jobs' (plan_told r) → ReplyJobsRun t p cells room room'' jobs jobs'' (plan_told s)
     → (r ≡ s) × (jobs' ≡ jobs'') × (room' ≡ room'')
 reply-jobs-fixed {t} {p} x y = let m = made-fixed x y in (plan-fixed t p (reply-jobs-told x) (reply-jobs-told y), m.0, m.1)

@@ -1,5 +1,7 @@
 -- The list, by the check's answer.
 use Prim.Native.Nat.{ℕ}
+use Rattle.std.proofs.Common.{Result, Ok, Err}
+use Rattle.refusal.specs.declared.Refusal.{Refusal}
 use mathlib.Core.Path.{◌≡◌, refl}
 use mathlib.Core.Bool.{true, false}
 use mathlib.Core.List.{List}
@@ -7,8 +9,6 @@ use native.Mathlib.Omega.{arith}
 use Rattle.refusal.specs.Read.{Read, read, refuse}
 use Rattle.plan.specs.Check.{plan_of}
 use Rattle.checker.specs.Checked.{plan_told, plan_says}
-use Rattle.checker.specs.declared.PlanAnswer.{PlanAnswer}
-use Rattle.checker.specs.declared.PlanAnswer.TheVariants as plan-answer
 use Rattle.plannotes.specs.Noted.{NotedInto}
 use Rattle.plannotes.specs.declared.Noted.{Noted}
 use Rattle.plannotes.proofs.HandedLaws.{handed-says}
@@ -21,17 +21,17 @@ module _ {t p before numbers : List ℕ} {m : Noted} (cells : List ℕ) (h : Not
       → ReplyJobsRun t p cells room room' jobs jobs' (plan_told m.answer)
   jobs-replied {room'} {jobs'} is each = go (plan_of t p) refl m.answer (handed-says h) is
     where
-      go : (x : Read ℕ) → plan_of t p ≡ x → (a : PlanAnswer) → plan_told a ≡ plan_says x → is_accepted a ≡ true
+      go : (x : Read ℕ) → plan_of t p ≡ x → (a : Result ℕ Refusal) → plan_told a ≡ plan_says x → is_accepted a ≡ true
           → ReplyJobsRun t p cells room room' jobs jobs' (plan_told a)
       go (read n) e a s y = asked n e s each
-      go (refuse f) e (plan-answer.Accepted n) s y = absurd (let z : ◌≡◌ {A = ℕ} 0 1 = cc in let w : ⊥ = omega arith in w)
-      go (refuse f) e (plan-answer.Refused g) s y = absurd (let z : ◌≡◌ {A = ℕ} 0 1 = cc in let w : ⊥ = omega arith in w)
+      go (refuse f) e (Ok n) s y = absurd (let z : ◌≡◌ {A = ℕ} 0 1 = cc in let w : ⊥ = omega arith in w)
+      go (refuse f) e (Err g) s y = absurd (let z : ◌≡◌ {A = ℕ} 0 1 = cc in let w : ⊥ = omega arith in w)
 
   pub jobs-left : is_accepted m.answer ≡ false → ReplyJobsRun t p cells room room jobs jobs (plan_told m.answer)
   jobs-left is = go (plan_of t p) refl m.answer (handed-says h) is
     where
-      go : (x : Read ℕ) → plan_of t p ≡ x → (a : PlanAnswer) → plan_told a ≡ plan_says x → is_accepted a ≡ false
+      go : (x : Read ℕ) → plan_of t p ≡ x → (a : Result ℕ Refusal) → plan_told a ≡ plan_says x → is_accepted a ≡ false
           → ReplyJobsRun t p cells room room jobs jobs (plan_told a)
       go (refuse f) e a s y = refusal f e s refl refl
-      go (read n) e (plan-answer.Accepted k) s y = absurd (let z : ◌≡◌ {A = ℕ} 0 1 = cc in let w : ⊥ = omega arith in w)
-      go (read n) e (plan-answer.Refused g) s y = absurd (let z : ◌≡◌ {A = ℕ} 0 1 = cc in let w : ⊥ = omega arith in w)
+      go (read n) e (Ok k) s y = absurd (let z : ◌≡◌ {A = ℕ} 0 1 = cc in let w : ⊥ = omega arith in w)
+      go (read n) e (Err g) s y = absurd (let z : ◌≡◌ {A = ℕ} 0 1 = cc in let w : ⊥ = omega arith in w)

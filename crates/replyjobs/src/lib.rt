@@ -12,11 +12,10 @@ ghost use Rattle.instance.specs.code.Passes.{Held, Found};
 ghost use Rattle.replyjobs.specs.code.Shift.{Ready, Placed};
 
 use answer::RunAnswer;
-use checker::PlanAnswer;
 use instance::{RepliesAnswer, ReplyJob};
 use limits::{BRANCHES, ROWS};
 use plannotes::Noted;
-use refusal::Reason;
+use refusal::{Reason, Refusal};
 
 // The record of a goal that is turned away.
 fn refused(j: ReplyJob, reason: Reason, place: usize) -> ReplyJob
@@ -179,7 +178,7 @@ pub fn reply_jobs(
     cells: &[u32],
     jobs: &mut [ReplyJob],
     room: &mut [u32],
-) -> PlanAnswer
+) -> Result<usize, Refusal>
     ensures { ReplyJobsRun table.now plan.now cells.now room.old room.new
         jobs.old jobs.new (plan_told result) }
 {

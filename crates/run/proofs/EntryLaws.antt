@@ -1,5 +1,6 @@
 -- A run of an accepted plan: what the walk takes for granted, and what it gives, for each way the entry returns.
 use Prim.Native.Nat.{ℕ, ◌+◌, ◌≤◌, ◌<◌}
+use Rattle.std.proofs.Common.{Err}
 use mathlib.Core.Path.{◌≡◌, refl, sym, ◌∙◌, ap, ap₂, subst}
 use mathlib.Core.List.{List, ◌++◌}
 use native.Mathlib.Omega.{arith}
@@ -20,7 +21,6 @@ use Rattle.plan.specs.Plans.{branches}
 use Rattle.plan.specs.Check.{plan_for, plan_of}
 use Rattle.plan.proofs.CheckLaws.{accepted-one}
 use Rattle.plan.proofs.PlansLaws.{write-one}
-use Rattle.checker.specs.declared.PlanAnswer.TheVariants as plan-answer
 use Rattle.plannotes.specs.Noted.{NotedInto}
 use Rattle.plannotes.specs.declared.Noted.{Noted}
 use Rattle.answer.specs.Skeleton.{hole}
@@ -143,6 +143,6 @@ run-refused t p g room {f} e = go (table_of t) refl
         let k : h ≡ f = cc in
         run-table t p g room d ∙ ap refuse k
 
-pub handed-refused : {t p ns ns' : List ℕ} {m : Noted} {f : Refusal} (g room : List ℕ) → NotedInto t p ns ns' m → m.answer ≡ plan-answer.Refused f
+pub handed-refused : {t p ns ns' : List ℕ} {m : Noted} {f : Refusal} (g room : List ℕ) → NotedInto t p ns ns' m → m.answer ≡ Err f
     → Ran t p g room room (run-answer.Refused f)
 handed-refused {t} {p} {f = f} g room h d = refusal (told f) (run-refused t p g room (no_run h d).0) refl refl

@@ -13,7 +13,6 @@ mod step;
 mod walk;
 
 use answer::RunAnswer;
-use checker::PlanAnswer;
 use limits::BRANCHES;
 use plannotes::Noted;
 use refusal::{Input, Reason, Refusal};
@@ -64,8 +63,8 @@ pub fn run_noted(
 {
     let answer = noted.answer;
     match answer {
-        PlanAnswer::Refused(f) => RunAnswer::Refused(f),
-        PlanAnswer::Accepted(branches) => {
+        Err(f) => RunAnswer::Refused(f),
+        Ok(branches) => {
             let width = noted.width;
             let rows = noted.rows;
             run_accepted(numbers, branches, width, rows, goal, room)

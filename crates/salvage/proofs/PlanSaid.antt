@@ -1,5 +1,6 @@
 -- The plan of the rows that were kept, as the code comes to it.
 use Prim.Native.Nat.{ℕ, ◌+◌, ◌-◌, ◌*◌, ◌/◌, ◌%◌, ◌≤◌, ◌<◌, min}
+use Rattle.std.proofs.Common.{Result, Ok, Err}
 use mathlib.Core.Path.{◌≡◌, refl, sym, ◌∙◌, ap, subst}
 use mathlib.Core.Bool.{Bool, true, false}
 use mathlib.Core.List.{List, []}
@@ -16,8 +17,6 @@ use Rattle.plan.specs.Plans.{write}
 use Rattle.plan.proofs.CheckLaws.{rows_fit}
 use Rattle.plan.proofs.SizeLaws.{size-bound}
 use Rattle.checker.specs.Checked.{plan_told, plan_says}
-use Rattle.checker.specs.declared.PlanAnswer.{PlanAnswer}
-use Rattle.checker.specs.declared.PlanAnswer.TheVariants as plan-answer
 use Rattle.checker.proofs.SaidLaws.{said_read, said-refused}
 use Rattle.least.specs.Measures.{work, cost_by, table_by}
 use Rattle.least.specs.declared.By.TheVariants.{Work}
@@ -68,7 +67,7 @@ module _ {file : List ℕ} {top : Top} (t : TopIs file top) where
     module _ (within : top.start % 125 + top.plans ≤ 125 * n) {k : ℕ} (least : k ≡ min top.plans 6083)
         {table : List ℕ} (is : table ≡ kept_cells file) where
       -- what the check says of the cells that are cut out
-      abbrev Said : PlanAnswer → Type 0
+      abbrev Said : Result ℕ Refusal → Type 0
       Said a = plan_told a ≡ plan_says (plan_of table (take (top.start % 125 + k - top.start % 125) (drop (top.start % 125) new)))
 
       within' : plan_start file % 125 + plan_size (front file) ≤ 125 * good file (plan_start file / 125)
@@ -83,11 +82,11 @@ module _ {file : List ℕ} {top : Top} (t : TopIs file top) where
           ap (λ (l : List ℕ). plan_of l (take (top.start % 125 + k - top.start % 125) (drop (top.start % 125) new))) is
           ∙ ap (λ (s : ℕ). plan_of (kept_cells file) (take (s + k - s) (drop s new))) skip
 
-      pub plan-turned : {a : PlanAnswer} {f : Refusal} → Said a → a ≡ plan-answer.Refused f → OwnPlan file top new false
+      pub plan-turned : {a : Result ℕ Refusal} {f : Refusal} → Said a → a ≡ Err f → OwnPlan file top new false
       plan-turned said e =
           not_own (not-accepted file every t.head t.some within' new fits k least' (sym same_check ∙ said-refused _ said e))
 
-      pub plan-passed : {a : PlanAnswer} {b : ℕ} → Said a → a ≡ plan-answer.Accepted b → OwnPlan file top new true
+      pub plan-passed : {a : Result ℕ Refusal} {b : ℕ} → Said a → a ≡ Ok b → OwnPlan file top new true
       plan-passed said e =
           let p = is-accepted file every t.head t.some within' new fits k least' (sym same_check ∙ said_read _ said e) in
           let l : length new ≡ 6207 = ap length found.put ∙ length-sets old 0 (fitting old 0 (good_cells file (top.start / 125))) ∙ size in

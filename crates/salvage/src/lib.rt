@@ -7,7 +7,6 @@ ghost use Rattle.salvaging.specs.Answers.{salvage_told};
 ghost use Rattle.salvage.specs.code.Saving.{Fronted, RowsHad, TopIs, OwnPlan, PlanLaid, Reported, short_of};
 
 use builder::BuildAnswer;
-use checker::PlanAnswer;
 use least::By;
 use limits::{COLUMNS, ROWS};
 use refusal::{Input, Reason};
@@ -125,8 +124,8 @@ fn own_plan(file: &[u8], top: Top, table: &[u32], cells: &mut [u32]) -> bool
     }
     let e = skip + least(top.plans, 6083);
     match checker::check_plan(table, &cells[skip..e]) {
-        PlanAnswer::Accepted(_) => true,
-        PlanAnswer::Refused(_) => false,
+        Ok(_) => true,
+        Err(_) => false,
     }
 }
 

@@ -1,5 +1,6 @@
 -- A goal of a list: what its record is, for each way the code returns.
 use Prim.Native.Nat.{ℕ, ◌+◌, ◌-◌, ◌*◌, ◌^◌, ◌%◌, ◌≤◌, ◌<◌}
+use Rattle.std.proofs.Common.{Result, Ok, Err}
 use mathlib.Core.Path.{◌≡◌, refl, sym, ◌∙◌, ap, ap₂, subst}
 use mathlib.Core.Bool.{true, false}
 use mathlib.Core.List.{List, []}
@@ -16,8 +17,6 @@ use Rattle.table.proofs.Accepted.{is-table}
 use Rattle.table.proofs.AllLaws.{all-at}
 use Rattle.plan.specs.Check.{plan_of}
 use Rattle.checker.specs.Checked.{plan_told, plan_says}
-use Rattle.checker.specs.declared.PlanAnswer.{PlanAnswer}
-use Rattle.checker.specs.declared.PlanAnswer.TheVariants as plan-answer
 use Rattle.plannotes.specs.Noted.{NotedInto}
 use Rattle.plannotes.specs.declared.Noted.{Noted}
 use Rattle.plannotes.proofs.HandedLaws.{handed-says}
@@ -101,15 +100,15 @@ module _ {t p before numbers : List ℕ} {m : Noted} (cells : List ℕ) (h : Not
       → JobsRun t p cells jobs jobs' (plan_told m.answer)
   jobs-asked {jobs'} is each = go (plan_of t p) refl m.answer (handed-says h) is
     where
-      go : (x : Read ℕ) → plan_of t p ≡ x → (a : PlanAnswer) → plan_told a ≡ plan_says x → is_accepted a ≡ true → JobsRun t p cells jobs jobs' (plan_told a)
+      go : (x : Read ℕ) → plan_of t p ≡ x → (a : Result ℕ Refusal) → plan_told a ≡ plan_says x → is_accepted a ≡ true → JobsRun t p cells jobs jobs' (plan_told a)
       go (read n) e a s y = job.asked n e s (each_map (λ j k q. q t p before h) each)
-      go (refuse f) e (plan-answer.Accepted n) s y = absurd (let z : ◌≡◌ {A = ℕ} 0 1 = cc in let w : ⊥ = omega arith in w)
-      go (refuse f) e (plan-answer.Refused g) s y = absurd (let z : ◌≡◌ {A = ℕ} 0 1 = cc in let w : ⊥ = omega arith in w)
+      go (refuse f) e (Ok n) s y = absurd (let z : ◌≡◌ {A = ℕ} 0 1 = cc in let w : ⊥ = omega arith in w)
+      go (refuse f) e (Err g) s y = absurd (let z : ◌≡◌ {A = ℕ} 0 1 = cc in let w : ⊥ = omega arith in w)
 
   pub jobs-left : is_accepted m.answer ≡ false → JobsRun t p cells jobs jobs (plan_told m.answer)
   jobs-left is = go (plan_of t p) refl m.answer (handed-says h) is
     where
-      go : (x : Read ℕ) → plan_of t p ≡ x → (a : PlanAnswer) → plan_told a ≡ plan_says x → is_accepted a ≡ false → JobsRun t p cells jobs jobs (plan_told a)
+      go : (x : Read ℕ) → plan_of t p ≡ x → (a : Result ℕ Refusal) → plan_told a ≡ plan_says x → is_accepted a ≡ false → JobsRun t p cells jobs jobs (plan_told a)
       go (refuse f) e a s y = job.refusal f e s refl
-      go (read n) e (plan-answer.Accepted k) s y = absurd (let z : ◌≡◌ {A = ℕ} 0 1 = cc in let w : ⊥ = omega arith in w)
-      go (read n) e (plan-answer.Refused g) s y = absurd (let z : ◌≡◌ {A = ℕ} 0 1 = cc in let w : ⊥ = omega arith in w)
+      go (read n) e (Ok k) s y = absurd (let z : ◌≡◌ {A = ℕ} 0 1 = cc in let w : ⊥ = omega arith in w)
+      go (read n) e (Err g) s y = absurd (let z : ◌≡◌ {A = ℕ} 0 1 = cc in let w : ⊥ = omega arith in w)

@@ -8,12 +8,11 @@ ghost use Rattle.shift.specs.code.Asked.{is_accepted, AskedBy, Hits};
 ghost use Rattle.limits.specs.Limits.{most_rows};
 
 use answer::{Job, RunAnswer};
-use checker::PlanAnswer;
 use joins::node;
 use limits::{BRANCHES, ROWS};
 use plannotes::Noted;
 use plannotes::packed::wide;
-use refusal::Reason;
+use refusal::{Reason, Refusal};
 use sums::plus;
 
 pub fn accepted(noted: Noted) -> bool
@@ -21,12 +20,12 @@ pub fn accepted(noted: Noted) -> bool
 {
     let answer = noted.answer;
     match answer {
-        PlanAnswer::Accepted(_) => true,
-        PlanAnswer::Refused(_) => false,
+        Ok(_) => true,
+        Err(_) => false,
     }
 }
 
-pub fn answer_of(noted: Noted) -> PlanAnswer
+pub fn answer_of(noted: Noted) -> Result<usize, Refusal>
     ensures { result ≡ noted.answer }
 {
     noted.answer

@@ -2,7 +2,6 @@
 #![tactic(auto)]
 
 use builder::BuildAnswer;
-use checker::PlanAnswer;
 use least::By;
 use limits::{PLAN_CELLS, ROWS};
 use octets::cells::put_cells;
@@ -96,8 +95,8 @@ pub fn with_plan(shop: Shop, plan: &[u32], kept: &mut [u32]) -> Shop {
 // Of a table and a plan for it; 0 of any others.
 pub fn branches_of(table: &[u32], plan: &[u32]) -> usize {
     match checker::check_plan(table, plan) {
-        PlanAnswer::Accepted(n) => n,
-        PlanAnswer::Refused(_) => 0,
+        Ok(n) => n,
+        Err(_) => 0,
     }
 }
 

@@ -3,7 +3,6 @@
 
 use answer::RunAnswer;
 use builder::BuildAnswer;
-use checker::PlanAnswer;
 use least::By;
 use refusal::Refusal;
 use table::TableAnswer;
@@ -100,12 +99,12 @@ fn build_into(rt: HostRuntime, by: By, table: &[u32], room: &mut [u32]) {
 // The check of a plan that is handed in.
 pub fn check(rt: HostRuntime, table: &[u32], plan: &[u32]) {
     match checker::check_plan(table, plan) {
-        PlanAnswer::Accepted(branches) => {
+        Ok(branches) => {
             say(rt, b"accepted: branches ");
             number(rt, branches);
             say(rt, b"\n");
         }
-        PlanAnswer::Refused(f) => refused(rt, f),
+        Err(f) => refused(rt, f),
     }
 }
 

@@ -1,5 +1,6 @@
 -- The way from any cells to what is put: an accepted plan is a tree for the table's rows, and the walk may begin; or the refusal is the check's.
 use Prim.Native.Nat.{ℕ, ◌≤◌, ◌<◌}
+use Rattle.std.proofs.Common.{Result, Err}
 use mathlib.Core.Path.{◌≡◌, refl, sym, ◌∙◌, ap}
 use mathlib.Core.List.{List, [], append-nil}
 use native.Mathlib.Omega.{arith}
@@ -17,8 +18,6 @@ use Rattle.plan.specs.Check.{plan_for, plan_of}
 use Rattle.plan.proofs.SizeLaws.{size-bound}
 use Rattle.plan.proofs.CheckLaws.{accepted-one, rows_fit}
 use Rattle.checker.specs.Checked.{plan_says, plan_told}
-use Rattle.checker.specs.declared.PlanAnswer.{PlanAnswer}
-use Rattle.checker.specs.declared.PlanAnswer.TheVariants as plan-answer
 use Rattle.checker.proofs.Accepts.{PlanFor}
 use Rattle.checker.proofs.SaidLaws.{said-refused}
 use Rattle.octets.specs.Octets.{Put}
@@ -82,7 +81,7 @@ hand-refused t p f e = go (table_of t) e
     go (read T) e = rw e
     go (refuse g) e = ap refuse (refuse-one e)
 
-pub turned-away : (t p room : List ℕ) {r : PlanAnswer} → plan_told r ≡ plan_says (plan_of t p) → {f : Refusal} → r ≡ plan-answer.Refused f
+pub turned-away : (t p room : List ℕ) {r : Result ℕ Refusal} → plan_told r ≡ plan_says (plan_of t p) → {f : Refusal} → r ≡ Err f
     → Unfolds t p room room (Err f)
 turned-away t p room promise {f} e =
     refusal f (hand-refused t p (told f) (said-refused (plan_of t p) promise e)) refl refl

@@ -13,7 +13,6 @@ ghost use Rattle.unfolding.specs.Flat.{flat};
 ghost use Rattle.unfolding.specs.Unfolds.{Unfolds};
 ghost use Rattle.unfolding.specs.code.Visits.{Peopled};
 
-use checker::PlanAnswer;
 use own::put_own;
 use refusal::Refusal;
 use walk::{Stand, visit_below};
@@ -39,11 +38,7 @@ fn make(plan: &[u32], width: usize, program: &mut [u32]) -> usize
 pub fn unfold(table: &[u32], plan: &[u32], program: &mut [u32]) -> Result<usize, Refusal>
     ensures { Unfolds table.now plan.now program.old program.new result }
 {
-    match checker::check_plan(table, plan) {
-        PlanAnswer::Refused(f) => Err(f),
-        PlanAnswer::Accepted(_) => {
-            let width = table[0] as usize;
-            Ok(make(plan, width, program))
-        }
-    }
+    checker::check_plan(table, plan)?;
+    let width = table[0] as usize;
+    Ok(make(plan, width, program))
 }

@@ -1,5 +1,5 @@
 -- The code's own steps: what the check of a state is given, and what it answers, which is the reading of the definition.
-use Rattle.std.specs.Prelude.{ℕ, suc, ◌+◌, ◌^◌, ◌≤◌, ◌<◌, ◌≡◌, List, [], ◌∷◌, eqb, ltb, length, drop}
+use Rattle.std.specs.Prelude.{ℕ, suc, ◌+◌, ◌^◌, ◌≤◌, ◌<◌, ◌≡◌, List, [], ◌∷◌, Result, Ok, Err, eqb, ltb, length, drop}
 use Rattle.cell.specs.Cell.{arity}
 use Rattle.table.specs.All.{All}
 use Rattle.refusal.specs.Refusal.{refused, told}
@@ -13,8 +13,8 @@ use Rattle.plan.specs.code.Fits.{Fits}
 use Rattle.state.specs.Flags.{flags_in}
 use Rattle.state.specs.Mask.{kept}
 use Rattle.state.specs.States.{rows_in, runs_in, Same}
-use Rattle.checker.specs.declared.check.Step.{Step}
-use Rattle.checker.specs.declared.check.Step.TheVariants as step
+use Rattle.refusal.specs.declared.Refusal.{Refusal}
+use Rattle.checker.specs.declared.check.Seen as code
 use Rattle.limits.specs.Limits.{most_row_cells, most_rows}
 
 -- what the check of a plan answers with a mask of columns and one more than the largest number named: `plan_under` of plan/specs/Check where both
@@ -23,15 +23,19 @@ abbrev pub named_plan : (mask past : ℕ) (t p : List ℕ) → Read ℕ
 named_plan mask past t p =
     and_then (table_of t) (λ (T : Table). when (ltb T.width past) (refused reason.Column input.Columns 0) (plan_with (flags_in T.width mask) T p))
 
+-- what the code answers of a state: its branches and the place after it, or a refusal
+abbrev pub Step : Type 0
+Step = Result code.Seen Refusal
+
 -- what is read where the code answers so: so many branches, and the cells from the next place on; or a refusal
 abbrev pub said_by : List ℕ → Step → Read Seen
-said_by p (step.Seen b n) = read (seen b n (drop n p))
-said_by p (step.Refused f) = refuse (told f)
+said_by p (Ok s) = read (seen s.branches s.next (drop s.next p))
+said_by p (Err f) = refuse (told f)
 
 -- what is read from place at on lies in the plan, and has a cell for each of its branches
 abbrev pub Inside : List ℕ → ℕ → Step → Type 0
-Inside p at (step.Seen b n) = (at + b ≤ n) × (n ≤ length p)
-Inside p at (step.Refused f) = Unit {0}
+Inside p at (Ok s) = (at + s.branches ≤ s.next) × (s.next ≤ length p)
+Inside p at (Err f) = Unit {0}
 
 -- the reading of a leaf with so many rows (`leaf_from`), so many branches being counted above it; and a leaf is done
 abbrev pub leaf_after : ℕ → ℕ → ℕ → List ℕ → Read Seen
