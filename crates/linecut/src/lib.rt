@@ -13,12 +13,10 @@ use octets::put_byte;
 pub fn line_end(buf: &[u8], from: usize, to: usize) -> usize
     ensures { result ≡ line_end buf.now from to }
 {
-    let mut i = from;
-    while i < buf.len() && i < to {
+    for i in from..to.min(buf.len()) {
         if buf[i] == 10 {
             return i;
         }
-        i += 1;
     }
     to
 }
@@ -27,12 +25,10 @@ pub fn line_end(buf: &[u8], from: usize, to: usize) -> usize
 pub fn move_front(buf: &mut [u8], from: usize, to: usize) -> usize
     ensures { Put buf.old buf.new 0 (slice from to buf.old) result }
 {
-    let mut i = from;
     let mut n = 0;
-    while i < buf.len() && i < to {
+    for i in from..to.min(buf.len()) {
         let byte = buf[i];
         n = put_byte(buf, n, byte);
-        i += 1;
     }
     n
 }
@@ -63,13 +59,10 @@ pub fn goal_end(goal: &[u8]) -> usize
 {
     let mut end = 0;
     let mut remark = false;
-    let mut i = 0;
-    while i < goal.len() {
-        let byte = goal[i];
-        remark = in_remark(remark, byte);
-        i += 1;
-        if closes(remark, byte) {
-            end = i;
+    for (i, byte) in goal.iter().enumerate() {
+        remark = in_remark(remark, *byte);
+        if closes(remark, *byte) {
+            end = i + 1;
         }
     }
     end

@@ -82,10 +82,8 @@ fn put_in_line(out: &mut [u8], to: usize, goal: &[u8]) -> usize
     ensures { Put out.old out.new to (map in_line goal.now) result }
 {
     let mut on = to;
-    let mut i = 0;
-    while i < goal.len() {
-        on = put_byte(out, on, in_line(goal[i]));
-        i += 1;
+    for byte in goal {
+        on = put_byte(out, on, in_line(*byte));
     }
     on
 }

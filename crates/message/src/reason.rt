@@ -7,7 +7,7 @@ use octets::{put_decimal, put_word};
 use refusal::Reason;
 
 // What is refused: a file of facts, or a goal.
-#[derive(Drop)]
+#[derive(Clone, Copy)]
 pub enum Whose {
     Facts,
     Goal,
