@@ -1,10 +1,13 @@
 -- How the line and the column of a place go on with the byte there.
-use Prim.Native.Nat.{ℕ, suc, ◌+◌, ◌≤◌, ◌<◌}
-use mathlib.Core.Path.{◌≡◌, refl}
+use Prim.Native.Nat.{ℕ, ◌+◌, ◌≤◌, ◌<◌}
+use mathlib.Core.Path.{◌≡◌, refl, ◌∙◌}
+use mathlib.Core.Logic.{by_cases}
 use mathlib.Core.Bool.{cond}
 use mathlib.Core.List.{List, [], ◌∷◌, ◌++◌}
 use native.Mathlib.Numerals.{add-one}
 use native.Mathlib.Omega.{arith}
+use native.Mathlib.Decide.{dec_le}
+use Rattle.std.specs.Prelude.{min}
 use lib.Dec.{eqb}
 use lib.ListN.{length, take, get_or}
 use lib.Seq.{take-suc, take_all}
@@ -52,15 +55,16 @@ module _ (text : List ℕ) (at i line column : ℕ) (m : Marked text at i line c
         few = (omega arith, omega arith);
       }
 
--- at the place, or at the end of a text that ends before it
-pub marked-at : {text : List ℕ} {at i line column : ℕ} → Marked text at i line column → at ≤ i
-    → (line ≡ 1 + feeds (take at text)) × (column ≡ column_after 1 (take at text))
-marked-at {text} {at} {i} {line} {column} m h =
-    let e : i ≡ at = omega arith in
-    rw (← e) (m.lined, m.columned)
+-- the bytes before a place are as many as it says, or all
+before-place : (text : List ℕ) (at n : ℕ) → n ≡ min at (length text) → take n text ≡ take at text
+before-place text at n e =
+    by_cases (dec_le at (length text)) (λ h. let q : n ≡ at = omega arith in rw q)
+    (λ h. rw (take_all n text (omega arith), take_all at text (omega arith)))
 
-pub marked-end : {text : List ℕ} {at i line column : ℕ} → Marked text at i line column → length text ≤ i
-    → (line ≡ 1 + feeds (take at text)) × (column ≡ column_after 1 (take at text))
-marked-end {text} {at} {i} {line} {column} m h =
-    let e : take at text ≡ take i text = rw (take_all at text (omega arith), take_all i text (omega arith)) in
-    rw e (m.lined, m.columned)
+-- at the end of them
+pub marked-end : (text : List ℕ) (at n : ℕ) {i line column : ℕ} → n ≡ min at (length text)
+    → Marked (take n text) (length (take n text)) i line column
+    → length (take n text) ≤ i → (line ≡ 1 + feeds (take at text)) × (column ≡ column_after 1 (take at text))
+marked-end text at n {i} e m h =
+    let q : take i (take n text) ≡ take at text = take_all i (take n text) h ∙ before-place text at n e in
+    rw (← q) (m.lined, m.columned)

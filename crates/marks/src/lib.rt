@@ -22,12 +22,10 @@ pub fn mark_of(text: &[u8], at: usize) -> Mark
 {
     let mut line = 1;
     let mut column = 1;
-    let mut i = 0;
-    while i < text.len() && i < at {
-        let byte = text[i];
-        line += feed(byte);
-        column = column_past(byte, column);
-        i += 1;
+    let before = &text[..at.min(text.len())];
+    for byte in before {
+        line += feed(*byte);
+        column = column_past(*byte, column);
     }
     Mark { line, column }
 }
@@ -45,31 +43,25 @@ fn column_past(byte: u8, column: usize) -> usize
     if byte == 10 { 1 } else { column + 1 }
 }
 
-fn is_digit(byte: u8) -> bool {
-    48 <= byte && byte <= 57
-}
-
 // Where the number before a place begins, with its minus sign.
 fn number_start(text: &[u8], end: usize) -> usize {
     if text.len() < end {
         return end;
     }
-    let mut i = end;
-    while 0 < i {
-        let byte = text[i - 1];
+    for i in (0..end).rev() {
+        let byte = text[i];
         if byte == b'-' {
-            return i - 1;
-        }
-        if !is_digit(byte) {
             return i;
         }
-        i -= 1;
+        if !byte.is_ascii_digit() {
+            return i + 1;
+        }
     }
-    i
+    0
 }
 
 // What stands next in a text: a symbol, where it begins and where the text goes on; the arguments of the next rule; or nothing.
-#[derive(Drop)]
+#[derive(Clone, Copy)]
 pub enum Item {
     Symbol(usize, Spot),
     Rule(Spot),
@@ -90,9 +82,10 @@ fn item_at(text: &[u8], spot: Spot) -> Item {
 fn arguments_at(text: &[u8], rule: usize) -> usize {
     let mut spot = symbols::begin(text);
     let mut left = rule;
-    let mut turns = text.len();
-    while 0 < turns && 0 < left {
-        turns -= 1;
+    for _ in 0..text.len() {
+        if left == 0 {
+            return spot.at;
+        }
         match item_at(text, spot) {
             Item::Symbol(_, to) => {
                 spot = to;
@@ -109,37 +102,27 @@ fn arguments_at(text: &[u8], rule: usize) -> usize {
     spot.at
 }
 
-// A line's number as a cell. No text has so many lines that it does not fit.
-fn narrow(line: usize) -> u32 {
-    if line < 4294967296 { line as u32 } else { 0 }
-}
-
-// Puts a line at a place of a list that has one; the place after it.
+// Puts a line's number at a place of a list that has one; the place after it. No text has so many lines that the number does not fit a cell.
 fn put_at(lines: &mut [u32], at: usize, line: usize) -> usize {
     if lines.len() <= at {
         return at;
     }
-    lines[at] = narrow(line);
+    lines[at] = u32::try_from(line).unwrap_or(0);
     at + 1
 }
 
 // The line of a place, by that of one before it. No text has so many that they do not fit.
 fn line_on(text: &[u8], from: usize, to: usize, line: usize) -> usize {
-    let mut i = from;
     let mut n = line;
-    while i < text.len() && i < to {
+    for i in from..to.min(text.len()) {
         n = further(n, feed(text[i]));
-        i += 1;
     }
     n
 }
 
 // So many lines further down. No text has so many that they do not fit.
 pub fn further(line: usize, more: usize) -> usize {
-    if more <= usize::MAX - line {
-        return line + more;
-    }
-    line
+    line.checked_add(more).unwrap_or(line)
 }
 
 // The line of each rule, put at the front of a list: that of its arguments, which is that of its name.
@@ -147,9 +130,7 @@ pub fn put_lines(text: &[u8], lines: &mut [u32]) {
     let mut spot = symbols::begin(text);
     let mut line = line_on(text, 0, spot.at, 1);
     let mut rule = put_at(lines, 0, line);
-    let mut turns = text.len();
-    while 0 < turns {
-        turns -= 1;
+    for _ in 0..text.len() {
         match item_at(text, spot) {
             Item::Symbol(_, to) => {
                 line = line_on(text, spot.at, to.at, line);
@@ -187,9 +168,7 @@ fn rule_at(text: &[u8], rule: usize) -> usize {
 fn symbol_at(text: &[u8], symbol: usize) -> usize {
     let mut spot = symbols::begin(text);
     let mut left = symbol;
-    let mut turns = text.len();
-    while 0 < turns {
-        turns -= 1;
+    for _ in 0..text.len() {
         match item_at(text, spot) {
             Item::Symbol(start, to) => {
                 if left == 0 {
@@ -227,11 +206,7 @@ pub fn byte_of(text: &[u8], f: Refusal) -> usize {
             symbol_at(text, at - 2)
         }
         Input::Goal => rule_at(text, 0),
-        Input::Plan => 0,
-        Input::Lent => 0,
-        Input::Figure => 0,
-        Input::Names => 0,
-        Input::File => 0,
-        Input::Columns => 0,
+        Input::Plan | Input::Lent | Input::Figure | Input::Names | Input::File | Input::Columns =>
+            0,
     }
 }
