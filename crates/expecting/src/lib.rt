@@ -35,7 +35,7 @@ pub enum Found {
 }
 
 // A message.
-#[derive(Drop)]
+#[derive(Clone, Copy)]
 pub struct Wanted {
     pub what: What,
     pub found: Found,
@@ -59,7 +59,7 @@ pub enum Stand {
 
 // What is known of the bytes so far: whether they end in a comment, how many names are open inside the rule, and how many commas the open
 // name of one level has.
-#[derive(Drop)]
+#[derive(Clone, Copy)]
 pub struct Sight {
     pub stand: Stand,
     pub comment: bool,

@@ -1,10 +1,13 @@
 -- The look at the first bytes of a text, byte by byte.
 use Prim.Native.Nat.{ℕ, ◌+◌, ◌-◌, ◌≤◌, ◌<◌}
-use mathlib.Core.Path.{◌≡◌, refl, sym, ap, ◌∙◌}
+use mathlib.Core.Path.{◌≡◌, refl, ap, ◌∙◌}
 use mathlib.Core.Bool.{Bool, true, false, cond}
 use mathlib.Core.List.{List, [], ◌∷◌, ◌++◌}
 use native.Mathlib.Numerals.{add-one}
 use native.Mathlib.Omega.{arith}
+use native.Mathlib.Decide.{dec_le}
+use mathlib.Core.Logic.{by_cases}
+use Rattle.std.specs.Prelude.{min}
 use lib.Dec.{eqb}
 use lib.ListN.{length, get_or, take}
 use lib.Seq.{take_all, take-suc}
@@ -79,9 +82,13 @@ module _ {level : ℕ} {t : List ℕ} {at : ℕ} where
         few = omega (arith, f.few, l.few);
       })
 
-  -- all before the place
-  pub looked-all : {i : ℕ} {s : Sight} → Looked level t at i s → at ≤ i → s ≡ look_at level (take at t)
-  looked-all {i} l h = let e : i ≡ at = omega (arith, l.before) in l.is ∙ ap (λ (k : ℕ). look_at level (take k t)) e
+-- the bytes before a place are as many as it says, or all
+before-place : (t : List ℕ) (at n : ℕ) → n ≡ min at (length t) → take n t ≡ take at t
+before-place t at n e =
+    by_cases (dec_le at (length t)) (λ h. let q : n ≡ at = omega arith in rw q)
+    (λ h. rw (take_all n t (omega arith), take_all at t (omega arith)))
 
-  pub looked-end : {i : ℕ} {s : Sight} → Looked level t at i s → length t ≤ i → s ≡ look_at level (take at t)
-  looked-end {i} l h = l.is ∙ ap (look_at level) (take_all i t h ∙ sym (take_all at t (omega (arith, l.before))))
+-- all before the place
+pub looked-end : (level : ℕ) (t : List ℕ) (at n : ℕ) {i : ℕ} {s : Sight} → n ≡ min at (length t)
+    → Looked level (take n t) (length (take n t)) i s → length (take n t) ≤ i → s ≡ look_at level (take at t)
+looked-end level t at n {i} e l h = l.is ∙ ap (look_at level) (take_all i (take n t) h ∙ before-place t at n e)

@@ -65,3 +65,8 @@ glance-comment level s b e = rw e
 pub glance-outside : (level : ℕ) (s : Sight) (b : ℕ) → s.comment ≡ false → glance level s b ≡ seen level s.stand s.depth s.commas b
 unfolding glance
 glance-outside level s b e = rw e
+
+-- what is seen of a byte, case by case
+pub ruleset seen_laws = (seen-percent, seen-layout, seen-open, seen-close, seen-comma, seen-minus, seen-stop, seen_other)
+
+pub ruleset glances = (glance-comment, glance-outside)

@@ -2,38 +2,19 @@
 // nothing is kept of the bytes but a few numbers.
 #![tactic(auto)]
 
-ghost use Rattle.std.specs.Prelude.{◌≡◌, false, ◌+◌, ◌^◌, ◌<◌, take};
-ghost use Rattle.expecting.specs.Looking.{sight, rested, termed, worded, opened, closed, after_comma, seen, glance, look_at, is_head};
+ghost use Rattle.std.specs.Prelude.{◌≡◌, ◌+◌, ◌^◌, ◌<◌, take};
+ghost use Rattle.expecting.specs.Looking.{rested, termed, worded, opened, closed, after_comma, seen, glance, look_at};
 
 use expecting::{Sight, Stand};
-
-fn sight_of(stand: Stand, comment: bool, depth: usize, commas: usize) -> Sight
-    ensures { result ≡ sight stand comment depth commas }
-{
-    Sight {
-        stand,
-        comment,
-        depth,
-        commas,
-    }
-}
 
 // After layout.
 fn rest_of(stand: Stand) -> Stand
     ensures { result ≡ rested stand }
 {
     match stand {
-        Stand::First => Stand::First,
-        Stand::Head => Stand::Head,
-        Stand::Arg => Stand::Arg,
-        Stand::Name => Stand::After,
-        Stand::Variable => Stand::After,
-        Stand::Minus => Stand::Minus,
-        Stand::Number => Stand::After,
-        Stand::After => Stand::After,
-        Stand::Closed => Stand::Closed,
+        Stand::Name | Stand::Variable | Stand::Number => Stand::After,
         Stand::Stop => Stand::Between,
-        Stand::Between => Stand::Between,
+        _ => stand,
     }
 }
 
@@ -53,114 +34,143 @@ fn word_of(stand: Stand, term: Stand) -> Stand
     ensures { result ≡ worded stand term }
 {
     match stand {
-        Stand::First => Stand::Head,
-        Stand::Head => Stand::Head,
+        Stand::First | Stand::Head | Stand::Between => Stand::Head,
         Stand::Arg => term,
-        Stand::Name => Stand::Name,
-        Stand::Variable => Stand::Variable,
         Stand::Minus => Stand::Number,
-        Stand::Number => Stand::Number,
-        Stand::After => Stand::After,
-        Stand::Closed => Stand::Closed,
-        Stand::Stop => Stand::Stop,
-        Stand::Between => Stand::Head,
-    }
-}
-
-fn is_head(stand: Stand) -> bool
-    ensures { result ≡ is_head stand }
-{
-    match stand {
-        Stand::First => false,
-        Stand::Head => true,
-        Stand::Arg => false,
-        Stand::Name => false,
-        Stand::Variable => false,
-        Stand::Minus => false,
-        Stand::Number => false,
-        Stand::After => false,
-        Stand::Closed => false,
-        Stand::Stop => false,
-        Stand::Between => false,
+        _ => stand,
     }
 }
 
 // After `(`.
-fn open_at(level: usize, stand: Stand, depth: usize, commas: usize) -> Sight
-    requires { depth + 1 < 2 ^ 64 }
-    ensures { result ≡ opened level stand depth commas }
+#[tactic(auto, using(std::proofs::lemmas::Bool::Decides::nat_tests), unfolding(expecting::specs::Looking::opened))]
+fn open_at(level: usize, s: Sight) -> Sight
+    requires { s.depth + 1 < 2 ^ 64 }
+    ensures { result ≡ opened level s.stand s.depth s.commas }
 {
-    if is_head(stand) {
-        return sight_of(Stand::Arg, false, 0, commas);
+    if matches!(s.stand, Stand::Head) {
+        return Sight {
+            stand: Stand::Arg,
+            comment: false,
+            depth: 0,
+            ..s
+        };
     }
-    let inner = depth + 1;
-    if inner == level {
-        return sight_of(Stand::Arg, false, inner, 0);
+    let depth = s.depth + 1;
+    let commas = if depth == level { 0 } else { s.commas };
+    Sight {
+        stand: Stand::Arg,
+        comment: false,
+        depth,
+        commas,
     }
-    sight_of(Stand::Arg, false, inner, commas)
 }
 
 // After `)`.
-fn close_at(depth: usize, commas: usize) -> Sight
-    ensures { result ≡ closed depth commas }
+#[tactic(auto, using(std::proofs::lemmas::Bool::Decides::nat_tests), unfolding(expecting::specs::Looking::closed))]
+fn close_at(s: Sight) -> Sight
+    ensures { result ≡ closed s.depth s.commas }
 {
-    if depth == 0 {
-        return sight_of(Stand::Closed, false, 0, commas);
+    if s.depth == 0 {
+        return Sight {
+            stand: Stand::Closed,
+            comment: false,
+            ..s
+        };
     }
-    sight_of(Stand::After, false, depth - 1, commas)
+    Sight {
+        stand: Stand::After,
+        comment: false,
+        depth: s.depth - 1,
+        ..s
+    }
 }
 
 // After `,`.
-fn comma_at(level: usize, depth: usize, commas: usize) -> Sight
-    requires { commas + 1 < 2 ^ 64 }
-    ensures { result ≡ after_comma level depth commas }
+#[tactic(auto, using(std::proofs::lemmas::Bool::Decides::nat_tests))]
+fn comma_at(level: usize, s: Sight) -> Sight
+    requires { s.commas + 1 < 2 ^ 64 }
+    ensures { result ≡ after_comma level s.depth s.commas }
 {
-    if depth == level {
-        return sight_of(Stand::Arg, false, depth, commas + 1);
+    let commas = if s.depth == level {
+        s.commas + 1
+    } else {
+        s.commas
+    };
+    Sight {
+        stand: Stand::Arg,
+        comment: false,
+        commas,
+        ..s
     }
-    sight_of(Stand::Arg, false, depth, commas)
 }
 
 // One byte outside a comment.
-fn see(level: usize, stand: Stand, depth: usize, commas: usize, byte: u8) -> Sight
-    requires { (depth + 1 < 2 ^ 64) × (commas + 1 < 2 ^ 64) }
-    ensures { result ≡ seen level stand depth commas byte }
+#[tactic(auto, using(crate::proofs::SeenLaws::seen_laws))]
+fn see(level: usize, s: Sight, byte: u8) -> Sight
+    requires { (s.depth + 1 < 2 ^ 64) × (s.commas + 1 < 2 ^ 64) }
+    ensures { result ≡ seen level s.stand s.depth s.commas byte }
 {
     match byte {
-        b'%' => sight_of(rest_of(stand), true, depth, commas),
-        b' ' | b'\n' | b'\r' => sight_of(rest_of(stand), false, depth, commas),
-        b'(' => open_at(level, stand, depth, commas),
-        b')' => close_at(depth, commas),
-        b',' => comma_at(level, depth, commas),
-        b'-' => sight_of(Stand::Minus, false, depth, commas),
-        b'.' => sight_of(Stand::Stop, false, 0, commas),
-        _ => sight_of(word_of(stand, term_of(byte)), false, depth, commas),
+        b'%' => Sight {
+            stand: rest_of(s.stand),
+            comment: true,
+            ..s
+        },
+        b' ' | b'\n' | b'\r' => Sight {
+            stand: rest_of(s.stand),
+            comment: false,
+            ..s
+        },
+        b'(' => open_at(level, s),
+        b')' => close_at(s),
+        b',' => comma_at(level, s),
+        b'-' => Sight {
+            stand: Stand::Minus,
+            comment: false,
+            ..s
+        },
+        b'.' => Sight {
+            stand: Stand::Stop,
+            comment: false,
+            depth: 0,
+            ..s
+        },
+        _ => Sight {
+            stand: word_of(s.stand, term_of(byte)),
+            comment: false,
+            ..s
+        },
     }
 }
 
 // One byte.
+#[tactic(auto, using(crate::proofs::SeenLaws::glances))]
 fn step(level: usize, s: Sight, byte: u8) -> Sight
     requires { (s.depth + 1 < 2 ^ 64) × (s.commas + 1 < 2 ^ 64) }
     ensures { result ≡ glance level s byte }
 {
-    let stand = s.stand;
-    let depth = s.depth;
-    let commas = s.commas;
     if s.comment {
-        return sight_of(stand, byte != 10, depth, commas);
+        return Sight {
+            comment: byte != b'\n',
+            ..s
+        };
     }
-    see(level, stand, depth, commas, byte)
+    see(level, s, byte)
 }
 
 // All bytes before a place, and of the open name on one level how many commas it has.
 pub fn look(text: &[u8], at: usize, level: usize) -> Sight
     ensures { result ≡ look_at level (take at text.now) }
 {
-    let mut s = sight_of(Stand::First, false, 0, 0);
-    let mut i = 0;
-    while i < text.len() && i < at {
-        s = step(level, s, text[i]);
-        i += 1;
+    let mut s = Sight {
+        stand: Stand::First,
+        comment: false,
+        depth: 0,
+        commas: 0,
+    };
+    let before = &text[..at.min(text.len())];
+    for byte in before {
+        s = step(level, s, *byte);
     }
     s
 }
