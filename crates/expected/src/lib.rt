@@ -5,7 +5,6 @@
 mod say;
 
 ghost use Rattle.std.specs.Prelude.{◌≡◌, drop};
-ghost use Rattle.grammar.specs.Grammar.{is_digit};
 ghost use Rattle.octets.specs.Octets.{Put};
 ghost use Rattle.expecting.specs.Looking.{marks, what_by, in_number, spaced, tabbed, found_by, found_at, wanted_at};
 ghost use Rattle.expecting.specs.Words.{message};
@@ -13,16 +12,14 @@ ghost use Rattle.expecting.specs.Words.{message};
 use expecting::{Found, Stand, Wanted, What};
 
 // After a term.
+#[tactic(auto, using(std::proofs::lemmas::Bool::Decides::nat_tests))]
 fn mark_of(depth: usize, commas: usize) -> What
     ensures { result ≡ marks depth commas }
 {
-    if depth == 0 {
-        return What::Mark;
+    if 0 < depth && 3 <= commas {
+        return What::Close;
     }
-    if commas < 3 {
-        return What::Mark;
-    }
-    What::Close
+    What::Mark
 }
 
 fn what_of(stand: Stand, mark: What) -> What
@@ -32,11 +29,8 @@ fn what_of(stand: Stand, mark: What) -> What
         Stand::First => What::Name,
         Stand::Head => What::Open,
         Stand::Arg => What::Term,
-        Stand::Name => mark,
-        Stand::Variable => mark,
         Stand::Minus => What::Digit,
-        Stand::Number => mark,
-        Stand::After => mark,
+        Stand::Name | Stand::Variable | Stand::Number | Stand::After => mark,
         Stand::Closed => What::Full,
         Stand::Stop => What::Blank,
         Stand::Between => What::Next,
@@ -46,63 +40,31 @@ fn what_of(stand: Stand, mark: What) -> What
 fn in_number(stand: Stand) -> bool
     ensures { result ≡ in_number stand }
 {
-    match stand {
-        Stand::First => false,
-        Stand::Head => false,
-        Stand::Arg => false,
-        Stand::Name => false,
-        Stand::Variable => false,
-        Stand::Minus => false,
-        Stand::Number => true,
-        Stand::After => false,
-        Stand::Closed => false,
-        Stand::Stop => false,
-        Stand::Between => false,
-    }
+    matches!(stand, Stand::Number)
 }
 
 fn is_spaced(what: What) -> bool
     ensures { result ≡ spaced what }
 {
-    match what {
-        What::Name => true,
-        What::Next => true,
-        What::Open => false,
-        What::Term => true,
-        What::Digit => false,
-        What::Mark => true,
-        What::Close => true,
-        What::Full => true,
-        What::Blank => true,
-    }
+    !matches!(what, What::Open | What::Digit)
 }
 
-fn is_digit(byte: u8) -> bool
-    ensures { result ≡ is_digit byte }
-{
-    48 <= byte && byte <= 57
-}
-
+#[tactic(auto, using(std::proofs::lemmas::Bool::Decides::nat_tests))]
 fn tab_of(layout: bool, byte: u8) -> Found
     ensures { result ≡ tabbed layout byte }
 {
-    if !layout {
-        return Found::Other;
-    }
-    if byte == b'\t' {
+    if layout && byte == b'\t' {
         return Found::Tab;
     }
     Found::Other
 }
 
 // Of a byte, after a number or not, where layout may stand or not.
+#[tactic(auto, using(std::proofs::lemmas::Bool::Decides::nat_tests), unfolding(expecting::specs::Looking::found_by, grammar::specs::Grammar::is_digit))]
 fn found_of(number: bool, layout: bool, byte: u8) -> Found
     ensures { result ≡ found_by number layout byte }
 {
-    if !number {
-        return tab_of(layout, byte);
-    }
-    if is_digit(byte) {
+    if number && byte.is_ascii_digit() {
         return Found::Large;
     }
     tab_of(layout, byte)
@@ -124,9 +86,8 @@ pub fn expected(text: &[u8], at: usize) -> Wanted
 {
     let level = looking::look(text, at, 0).depth;
     let s = looking::look(text, at, level);
-    let stand = s.stand;
-    let what = what_of(stand, mark_of(s.depth, s.commas));
-    let found = found_at(text, at, stand, what);
+    let what = what_of(s.stand, mark_of(s.depth, s.commas));
+    let found = found_at(text, at, s.stand, what);
     Wanted { what, found }
 }
 
@@ -134,8 +95,6 @@ pub fn expected(text: &[u8], at: usize) -> Wanted
 pub fn put_wanted(out: &mut [u8], to: usize, wanted: Wanted) -> usize
     ensures { Put out.old out.new to (message wanted) result }
 {
-    let found = wanted.found;
-    let what = wanted.what;
-    let on = say::put_found(out, to, found);
-    say::put_what(out, on, what)
+    let on = say::put_found(out, to, wanted.found);
+    say::put_what(out, on, wanted.what)
 }
