@@ -3,133 +3,42 @@
 
 use helptext::line;
 
+const LINES: [&[u8]; 26] = [
+    b"card pack RULES [FILE]   a file of Prolog facts with its least plan, as a card\n",
+    b"card check FILE          what a card holds, or why it is refused\n",
+    b"card mend BAD [FILE]     what can be had of a bad card, and a card of that\n",
+    b"card --help, -h          this\n",
+    b"card --version           the version\n\n",
+    b"RULES is a file of facts as `ask` reads it. A card has their table and plan, in\n",
+    b"at most 66 blocks of 512 bytes; names are numbers there, as in a table. With no\n",
+    b"FILE the card goes to standard output. Otherwise it is written as FILE.new, and\n",
+    b"renamed to FILE when it is whole: where that fails, an old FILE is left as it\n",
+    b"was. A FILE.new that is there is not touched; one that a run left behind which\n",
+    b"was cut off may be removed.\n\n",
+    b"Of a card that is whole, packed, checked or mended, there is one line:\n",
+    b"    shop.card: 12 rules, 4 columns, 39 branches, 2 blocks\n\n",
+    b"BAD is any file. Where its block 0 is sound, the rules from the top are kept, up\n",
+    b"to the first bad block or the first rule that no card may have; and the plan, if\n",
+    b"all rules are kept and it is whole and theirs. Otherwise a least plan is made.\n",
+    b"Three lines say so. Where FILE is named, a card of that is written, as from\n",
+    b"RULES; BAD is left as it is:\n",
+    b"    10 of 12 rules kept, 2 dropped\n",
+    b"    the plan is new\n",
+    b"    bad blocks: 1\n\n",
+    b"What is refused is said on standard error, with the refusal's name and number\n",
+    b"and with what is expected: of RULES with line and column, as `ask` says it, of a\n",
+    b"card with the block, or with the cell of its table or its plan, counted from 0:\n",
+    b"    shop.card: table, cell 1: COUNT 3: 1 to 64 rules are expected\n",
+    b"The program needs 2 MB of stack, and always ends with status 0.\n",
+];
+
+// The first line that cannot be written is said and ends it.
 pub fn print(rt: HostRuntime) {
-    let a = uses(rt, true);
-    let b = packs(rt, a);
-    let c = checks(rt, b);
-    let d = mends(rt, c);
-    refusals(rt, d);
-}
-
-fn uses(rt: HostRuntime, going: bool) -> bool {
-    let a = line(
-        rt,
-        going,
-        b"card pack RULES [FILE]   a file of Prolog facts with its least plan, as a card\n",
-    );
-    let b = line(
-        rt,
-        a,
-        b"card check FILE          what a card holds, or why it is refused\n",
-    );
-    let c = line(
-        rt,
-        b,
-        b"card mend BAD [FILE]     what can be had of a bad card, and a card of that\n",
-    );
-    let d = line(rt, c, b"card --help, -h          this\n");
-    line(rt, d, b"card --version           the version\n\n")
-}
-
-fn packs(rt: HostRuntime, going: bool) -> bool {
-    let a = line(
-        rt,
-        going,
-        b"RULES is a file of facts as `ask` reads it. A card has their table and plan, in\n",
-    );
-    let b = line(
-        rt,
-        a,
-        b"at most 66 blocks of 512 bytes; names are numbers there, as in a table. With no\n",
-    );
-    let c = line(
-        rt,
-        b,
-        b"FILE the card goes to standard output. Otherwise it is written as FILE.new, and\n",
-    );
-    let d = line(
-        rt,
-        c,
-        b"renamed to FILE when it is whole: where that fails, an old FILE is left as it\n",
-    );
-    let e = line(
-        rt,
-        d,
-        b"was. A FILE.new that is there is not touched; one that a run left behind which\n",
-    );
-    line(rt, e, b"was cut off may be removed.\n\n")
-}
-
-fn checks(rt: HostRuntime, going: bool) -> bool {
-    let a = line(
-        rt,
-        going,
-        b"Of a card that is whole, packed, checked or mended, there is one line:\n",
-    );
-    line(
-        rt,
-        a,
-        b"    shop.card: 12 rules, 4 columns, 39 branches, 2 blocks\n\n",
-    )
-}
-
-fn mends(rt: HostRuntime, going: bool) -> bool {
-    let a = line(
-        rt,
-        going,
-        b"BAD is any file. Where its block 0 is sound, the rules from the top are kept, up\n",
-    );
-    let b = line(
-        rt,
-        a,
-        b"to the first bad block or the first rule that no card may have; and the plan, if\n",
-    );
-    let c = line(
-        rt,
-        b,
-        b"all rules are kept and it is whole and theirs. Otherwise a least plan is made.\n",
-    );
-    let d = line(
-        rt,
-        c,
-        b"Three lines say so. Where FILE is named, a card of that is written, as from\n",
-    );
-    let e = line(rt, d, b"RULES; BAD is left as it is:\n");
-    reported(rt, e)
-}
-
-fn reported(rt: HostRuntime, going: bool) -> bool {
-    let a = line(rt, going, b"    10 of 12 rules kept, 2 dropped\n");
-    let b = line(rt, a, b"    the plan is new\n");
-    line(rt, b, b"    bad blocks: 1\n\n")
-}
-
-fn refusals(rt: HostRuntime, going: bool) -> bool {
-    let a = line(
-        rt,
-        going,
-        b"What is refused is said on standard error, with the refusal's name and number\n",
-    );
-    let b = line(
-        rt,
-        a,
-        b"and with what is expected: of RULES with line and column, as `ask` says it, of a\n",
-    );
-    let c = line(
-        rt,
-        b,
-        b"card with the block, or with the cell of its table or its plan, counted from 0:\n",
-    );
-    let d = line(
-        rt,
-        c,
-        b"    shop.card: table, cell 1: COUNT 3: 1 to 64 rules are expected\n",
-    );
-    line(
-        rt,
-        d,
-        b"The program needs 2 MB of stack, and always ends with status 0.\n",
-    )
+    for text in LINES {
+        if !line(rt, true, text) {
+            return;
+        }
+    }
 }
 
 pub fn version(rt: HostRuntime) {
