@@ -1,2 +1,1 @@
 pub mod Reasons
-pub mod code

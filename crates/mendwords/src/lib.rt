@@ -45,13 +45,15 @@ fn put_dropped(out: &mut [u8], to: usize, kept: usize, count: usize) -> usize
     put_word(out, b, b" dropped")
 }
 
+#[tactic(auto, unfolding(crate::specs::Mended::plan_line, message::specs::Words::ascii))]
 fn put_plan(out: &mut [u8], to: usize, keeps: bool) -> usize
     ensures { Put out.old out.new to (plan_line keeps) result }
 {
     if keeps {
-        return put_word(out, to, b"the plan is kept\n");
+        put_word(out, to, b"the plan is kept\n")
+    } else {
+        put_word(out, to, b"the plan is new\n")
     }
-    put_word(out, to, b"the plan is new\n")
 }
 
 fn put_bad(out: &mut [u8], to: usize, bad: &[usize]) -> usize
@@ -66,21 +68,21 @@ fn put_bad(out: &mut [u8], to: usize, bad: &[usize]) -> usize
 fn put_numbers(out: &mut [u8], to: usize, numbers: &[usize]) -> usize
     ensures { Put out.old out.new to (numbers_text numbers.now) result }
 {
-    if numbers.len() == 0 {
-        return put_word(out, to, b"none");
+    match numbers {
+        [] => put_word(out, to, b"none"),
+        [first, others @ ..] => {
+            let on = put_decimal(out, to, *first);
+            put_others(out, on, others)
+        }
     }
-    let a = put_decimal(out, to, numbers[0]);
-    put_others(out, a, &numbers[1..])
 }
 
 fn put_others(out: &mut [u8], to: usize, numbers: &[usize]) -> usize
     ensures { Put out.old out.new to (others_text numbers.now) result }
 {
     let mut on = to;
-    let mut i = 0;
-    while i < numbers.len() {
-        on = put_other(out, on, numbers[i]);
-        i += 1;
+    for n in numbers {
+        on = put_other(out, on, *n);
     }
     on
 }

@@ -1,2 +1,0 @@
--- what only private functions need
-pub mod Numbers
