@@ -7,15 +7,12 @@ mod spoiled;
 fn main(rt: HostRuntime) {
     let count = console::arg_count(rt);
     let mut first = 1;
-    let mut i = 1;
-    while i < count {
-        let next = i + 1;
+    for i in 1..count {
         if calls::ends(rt, i) {
             calls::print(rt, b"card", first, i);
             cardmain::answer_call(rt, first, i);
-            first = next;
+            first = i + 1;
         }
-        i = next;
     }
     spoiled::show_all(rt);
 }

@@ -1,33 +1,23 @@
 // What the program card says of cards that are spoiled: calls say it to standard error, which is not stored.
-use cardcheck::Checked;
-use cardmend::Mended;
+use slices::bytes::part;
 
 // What is said of a file, after a name.
 fn show(rt: HostRuntime, file: &[u8]) {
     let mut out = [0u8; 256];
     let a = octets::put_word(&mut out, 0, b"card");
-    match cardcheck::put_checked(&mut out, a, file) {
-        Checked::Whole(n) => {
-            console::say(rt, slices::bytes::part(&out, 0, n));
-        }
-        Checked::Refused(n) => {
-            console::say(rt, slices::bytes::part(&out, 0, n));
-        }
-    }
+    let (Ok(n) | Err(n)) = cardcheck::put_checked(&mut out, a, file);
+    console::say(rt, part(&out, 0, n));
 }
 
 // What mending says of it.
 fn mend(rt: HostRuntime, file: &[u8]) {
     let mut out = [0u8; 256];
     let mut card = [0u8; 512];
-    match cardmend::put_mended(&mut out, b"card", file, &mut card) {
-        Mended::Card(n, _) => {
-            console::say(rt, slices::bytes::part(&out, 0, n));
-        }
-        Mended::Refused(n) => {
-            console::say(rt, slices::bytes::part(&out, 0, n));
-        }
-    }
+    let n = match cardmend::put_mended(&mut out, b"card", file, &mut card) {
+        Ok(mended) => mended.report,
+        Err(n) => n,
+    };
+    console::say(rt, part(&out, 0, n));
 }
 
 // One block of these cells, with its check words, at the front of a file.
@@ -63,9 +53,9 @@ fn files(rt: HostRuntime) {
     let cells = [0u32; 125];
     blocks::put_block(&mut file, 0, 0, &cells);
     blocks::put_block(&mut file, 512, 2, &cells);
-    show(rt, slices::bytes::part(&file, 0, 1024));
+    show(rt, part(&file, 0, 1024));
     blocks::put_block(&mut file, 512, 1, &cells);
-    show(rt, slices::bytes::part(&file, 0, 1024));
+    show(rt, part(&file, 0, 1024));
     block(rt, &[3, 504, 1, 1, 0x40000000, 0, 1, 0x40000000, 1]);
     block(rt, &[3, 4, 1, 1, 0x40000000, 0, 1, 0x40000000, 1, 1]);
 }
@@ -92,21 +82,23 @@ fn tables(rt: HostRuntime) {
 // A rule of 33 cells, and no plan.
 fn long(rt: HostRuntime) {
     let mut cells = [0x40010000u32; 36];
-    cells[0] = 35;
-    cells[1] = 0;
-    cells[2] = 1;
-    cells[3] = 1;
+    cells[..4].copy_from_slice(&[35, 0, 1, 1]);
     block(rt, &cells);
 }
 
 // ENDS, OPEN, EDGES, LABEL, ROWS, EXTRA.
 fn plans(rt: HostRuntime) {
-    block(rt, &[3, 3, 1, 1, 0x40000000, 0, 1, 0x40000000]);
-    block(rt, &[3, 4, 1, 1, 0x40000000, 64, 1, 0x40000000, 1]);
-    block(rt, &[3, 4, 1, 1, 0x40000000, 0, 2, 0x40000000, 1]);
-    block(rt, &[3, 4, 1, 1, 0x40000000, 0, 1, 0x40000001, 1]);
-    block(rt, &[3, 4, 1, 1, 0x40000000, 0, 1, 0x40000000, 2]);
-    block(rt, &[3, 5, 1, 1, 0x40000000, 0, 1, 0x40000000, 1, 0]);
+    let spoiled: [&[u32]; 6] = [
+        &[3, 3, 1, 1, 0x40000000, 0, 1, 0x40000000],
+        &[3, 4, 1, 1, 0x40000000, 64, 1, 0x40000000, 1],
+        &[3, 4, 1, 1, 0x40000000, 0, 2, 0x40000000, 1],
+        &[3, 4, 1, 1, 0x40000000, 0, 1, 0x40000001, 1],
+        &[3, 4, 1, 1, 0x40000000, 0, 1, 0x40000000, 2],
+        &[3, 5, 1, 1, 0x40000000, 0, 1, 0x40000000, 1, 0],
+    ];
+    for cells in spoiled {
+        block(rt, cells);
+    }
 }
 
 // SIZE: a plan of 6,083 cells, in 49 blocks.
@@ -119,20 +111,14 @@ fn size(rt: HostRuntime) {
 
 fn put_rest(file: &mut [u8], cells: &[u32]) {
     let mut to = 512;
-    let mut i = 1;
-    while i < 49 {
+    for i in 1..49 {
         to = blocks::put_block(file, to, i, cells);
-        i += 1;
     }
 }
 
 fn first_of(plan: u32) -> [u32; 125] {
     let mut cells = [0u32; 125];
-    cells[0] = 3;
-    cells[1] = plan;
-    cells[2] = 1;
-    cells[3] = 1;
-    cells[4] = 0x40000000;
+    cells[..5].copy_from_slice(&[3, plan, 1, 1, 0x40000000]);
     cells
 }
 

@@ -3,11 +3,10 @@
 #![tactic(auto)]
 
 use console::NAME;
-use lex::name::same_bytes;
 use slices::bytes::part;
 
 // What the arguments ask for; or nothing that there is.
-#[derive(Drop)]
+#[derive(Clone, Copy)]
 pub enum Wish {
     Pack,
     Check,
@@ -17,31 +16,23 @@ pub enum Wish {
     Nothing,
 }
 
-// How long the names of two files are, the second empty where none is named; or that one of them cannot be, which is said.
+// How long the names of two files are: of what a card is made from and, where it is named, of the card's own.
 #[derive(Clone, Copy)]
-pub enum Names {
-    Found(usize, usize),
-    Wrong,
+struct Names {
+    from: usize,
+    path: Option<usize>,
 }
 
 // By the first argument and by how many there are.
 fn wish_of(word: &[u8], count: usize) -> Wish {
-    if same_bytes(word, b"pack") && (count == 2 || count == 3) {
-        return Wish::Pack;
+    match (word, count) {
+        (b"pack", 2 | 3) => Wish::Pack,
+        (b"check", 2) => Wish::Check,
+        (b"mend", 2 | 3) => Wish::Mend,
+        (b"--help" | b"-h", 1) => Wish::Help,
+        (b"--version", 1) => Wish::Version,
+        _ => Wish::Nothing,
     }
-    if same_bytes(word, b"check") && count == 2 {
-        return Wish::Check;
-    }
-    if same_bytes(word, b"mend") && (count == 2 || count == 3) {
-        return Wish::Mend;
-    }
-    if (same_bytes(word, b"--help") || same_bytes(word, b"-h")) && count == 1 {
-        return Wish::Help;
-    }
-    if same_bytes(word, b"--version") && count == 1 {
-        return Wish::Version;
-    }
-    Wish::Nothing
 }
 
 // The program's arguments: `pack RULES [FILE]`, `check FILE`, `mend BAD [FILE]`, `--help` or `--version`.
@@ -51,34 +42,24 @@ pub fn answer(rt: HostRuntime) {
 
 // A call by some of them: from a first one up to an end.
 pub fn answer_call(rt: HostRuntime, first: usize, end: usize) {
-    let count = count_of(first, end);
+    let count = end.saturating_sub(first);
     let mut word = [0u8; NAME];
     let n = console::word(rt, first, &mut word);
-    let wish = wish_of(&word[..n], count);
     let file = next(first);
-    match wish {
-        Wish::Pack => pack(rt, file, count == 3),
+    let named = count == 3;
+    match wish_of(&word[..n], count) {
+        Wish::Pack => with_files(rt, file, named, b"cannot read RULES", cardwork::pack),
         Wish::Check => check(rt, file),
-        Wish::Mend => mend(rt, file, count == 3),
+        Wish::Mend => with_files(rt, file, named, b"cannot read BAD", cardwork::mend),
         Wish::Help => cardhelp::print(rt),
         Wish::Version => cardhelp::version(rt),
         Wish::Nothing => cardhelp::refuse(rt),
     }
 }
 
-fn count_of(first: usize, end: usize) -> usize {
-    if end < first {
-        return 0;
-    }
-    end - first
-}
-
 // The argument after one.
 fn next(i: usize) -> usize {
-    if i == usize::MAX {
-        return i;
-    }
-    i + 1
+    i.saturating_add(1)
 }
 
 // The file that an argument names. One that is too long for a name names none.
@@ -90,7 +71,26 @@ fn check(rt: HostRuntime, file: usize) {
     }
 }
 
-// What a card is made from, which an argument names, and, where it is named after it, the card's file. The first is not written over.
+// Work on what a card is made from, which an argument names, and on the card's file, where it is named after it.
+fn with_files(
+    rt: HostRuntime,
+    file: usize,
+    named: bool,
+    unread: &[u8],
+    work: impl Fn(HostRuntime, &[u8], Option<&[u8]>),
+) {
+    let mut from = [0u8; NAME];
+    let mut path = [0u8; NAME];
+    if let Some(names) = names_in(rt, file, &mut from, &mut path, named, unread) {
+        let from = part(&from, 0, names.from);
+        match names.path {
+            Some(m) => work(rt, from, Some(part(&path, 0, m))),
+            None => work(rt, from, None),
+        }
+    }
+}
+
+// The names, or nothing where one of them cannot be, which is said.
 fn names_in(
     rt: HostRuntime,
     file: usize,
@@ -98,52 +98,33 @@ fn names_in(
     path: &mut [u8],
     named: bool,
     unread: &[u8],
-) -> Names {
-    match console::arg(rt, file, from) {
-        Ok(n) => {
-            if named {
-                return name_after(rt, file, part(from, 0, n), path);
-            }
-            Names::Found(n, 0)
-        }
+) -> Option<Names> {
+    let n = argument(rt, file, from, unread)?;
+    if !named {
+        return Some(Names {
+            from: n,
+            path: None,
+        });
+    }
+    let m = argument(rt, next(file), path, b"cannot write FILE")?;
+    if part(from, 0, n) == part(path, 0, m) {
+        // What the card is made from is not written over.
+        cardhelp::refuse(rt);
+        return None;
+    }
+    Some(Names {
+        from: n,
+        path: Some(m),
+    })
+}
+
+// An argument at the front of a lent buffer: how many bytes, or why it cannot be is said.
+fn argument(rt: HostRuntime, i: usize, buf: &mut [u8], failed: &[u8]) -> Option<usize> {
+    match console::arg(rt, i, buf) {
+        Ok(n) => Some(n),
         Err(why) => {
-            console::fail(rt, unread, why);
-            Names::Wrong
+            console::fail(rt, failed, why);
+            None
         }
-    }
-}
-
-// With the card's file, which is another than that from which it is made.
-fn name_after(rt: HostRuntime, file: usize, from: &[u8], path: &mut [u8]) -> Names {
-    match console::arg(rt, next(file), path) {
-        Ok(m) => {
-            if same_bytes(from, part(path, 0, m)) {
-                cardhelp::refuse(rt);
-                return Names::Wrong;
-            }
-            Names::Found(from.len(), m)
-        }
-        Err(why) => {
-            console::fail(rt, b"cannot write FILE", why);
-            Names::Wrong
-        }
-    }
-}
-
-fn pack(rt: HostRuntime, file: usize, named: bool) {
-    let mut rules = [0u8; NAME];
-    let mut path = [0u8; NAME];
-    match names_in(rt, file, &mut rules, &mut path, named, b"cannot read RULES") {
-        Names::Found(n, m) => cardwork::pack(rt, part(&rules, 0, n), part(&path, 0, m), named),
-        Names::Wrong => {}
-    }
-}
-
-fn mend(rt: HostRuntime, file: usize, named: bool) {
-    let mut bad = [0u8; NAME];
-    let mut path = [0u8; NAME];
-    match names_in(rt, file, &mut bad, &mut path, named, b"cannot read BAD") {
-        Names::Found(n, m) => cardwork::mend(rt, part(&bad, 0, n), part(&path, 0, m), named),
-        Names::Wrong => {}
     }
 }

@@ -4,7 +4,6 @@
 ghost use Rattle.std.specs.Prelude.{◌+◌, ◌≤◌, length};
 ghost use Rattle.limits.specs.Limits.{most_rows};
 
-use cardmake::Made;
 use filing::FileAnswer;
 use limits::{PLAN_CELLS, TABLE_CELLS};
 use octets::put_word;
@@ -14,16 +13,16 @@ use refusal::Refusal;
 use salvaging::{Report, Salvage};
 use slices::cells::part;
 
-// The end of the report, and the card's bytes; or the end of what is said where nothing can be had.
-#[derive(Drop)]
-pub enum Mended {
-    Card(usize, usize),
-    Refused(usize),
+// Where the report ends, and how many bytes the card has.
+#[derive(Clone, Copy)]
+pub struct Mended {
+    pub report: usize,
+    pub card: usize,
 }
 
-// A file read, what is had of it reported, and a card made of that. One byte more is read than is looked at, 2,048 blocks, so that a longer file is
-// seen to be one.
-pub fn mend(rt: HostRuntime, path: &[u8], card: &mut [u8], out: &mut [u8]) -> Made {
+// A file read, what is had of it reported, and a card made of that: how many bytes, or why there is none is said. One byte more is read than is
+// looked at, 2,048 blocks, so that a longer file is seen to be one.
+pub fn mend(rt: HostRuntime, path: &[u8], card: &mut [u8], out: &mut [u8]) -> Option<usize> {
     let mut file = [0u8; 1048577];
     mend_file(rt, path, &mut file, card, out)
 }
@@ -34,38 +33,67 @@ fn mend_file(
     file: &mut [u8],
     card: &mut [u8],
     out: &mut [u8],
-) -> Made {
+) -> Option<usize> {
     match reading::read_path(rt, path, file) {
         Got::Bytes(n) => say(rt, path, slices::bytes::part(file, 0, n), card, out),
         Got::Failed(why) => {
             reading::cannot_read(rt, path, why, out);
-            Made::Nothing
+            None
         }
     }
 }
 
-fn say(rt: HostRuntime, path: &[u8], file: &[u8], card: &mut [u8], out: &mut [u8]) -> Made {
+fn say(
+    rt: HostRuntime,
+    path: &[u8],
+    file: &[u8],
+    card: &mut [u8],
+    out: &mut [u8],
+) -> Option<usize> {
     if 1048576 < file.len() {
         let a = put_word(out, 0, path);
         let b = cardwords::put_longer(out, a);
         page::complain(rt, out, b);
-        return Made::Nothing;
+        return None;
     }
     match put_mended(out, path, file, card) {
-        Mended::Card(n, bytes) => {
-            page::flush(rt, out, Page { to: n, open: true });
-            Made::Card(bytes)
+        Ok(mended) => {
+            page::flush(
+                rt,
+                out,
+                Page {
+                    to: mended.report,
+                    open: true,
+                },
+            );
+            Some(mended.card)
         }
-        Mended::Refused(n) => {
+        Err(n) => {
             page::complain(rt, out, n);
-            Made::Nothing
+            None
+        }
+    }
+}
+
+// The report; or why nothing can be had, and as an error where that ends.
+pub fn put_mended(
+    out: &mut [u8],
+    path: &[u8],
+    file: &[u8],
+    card: &mut [u8],
+) -> Result<Mended, usize> {
+    match save(out, file, card) {
+        Ok(mended) => Ok(mended),
+        Err(f) => {
+            let a = put_word(out, 0, path);
+            Err(cardwords::put_refused(out, a, f))
         }
     }
 }
 
 // 2,050 and 6,082 cells are enough for every table and plan, 2,048 numbers for the blocks of a file that is looked at. What was saved is not refused
 // when it is written, and a room of 33,792 bytes is enough for every card.
-pub fn put_mended(out: &mut [u8], path: &[u8], file: &[u8], card: &mut [u8]) -> Mended {
+fn save(out: &mut [u8], file: &[u8], card: &mut [u8]) -> Result<Mended, Refusal> {
     let mut table = [0u32; TABLE_CELLS];
     let mut plan = [0u32; PLAN_CELLS];
     let mut bad = [0usize; 2048];
@@ -74,11 +102,14 @@ pub fn put_mended(out: &mut [u8], path: &[u8], file: &[u8], card: &mut [u8]) -> 
             let t = part(&table, 0, r.table);
             let p = part(&plan, 0, r.plan);
             match filewriting::write_file(t, p, card) {
-                FileAnswer::Done(n, _) => Mended::Card(put_report(out, r, &bad), n),
-                FileAnswer::Refused(f) => Mended::Refused(put_refused(out, path, f)),
+                FileAnswer::Done(n, _) => Ok(Mended {
+                    report: put_report(out, r, &bad),
+                    card: n,
+                }),
+                FileAnswer::Refused(f) => Err(f),
             }
         }
-        Salvage::Refused(f) => Mended::Refused(put_refused(out, path, f)),
+        Salvage::Refused(f) => Err(f),
     }
 }
 
@@ -87,11 +118,4 @@ fn put_report(out: &mut [u8], r: Report, bad: &[usize]) -> usize
 {
     let n = r.bad;
     mendwords::put_report(out, 0, r.kept, r.kept + r.dropped, r.plan_kept, &bad[..n])
-}
-
-fn put_refused(out: &mut [u8], path: &[u8], f: Refusal) -> usize {
-    let reason = f.reason;
-    let input = f.input;
-    let a = put_word(out, 0, path);
-    cardwords::put_refused(out, a, reason, input, f.place)
 }

@@ -1,8 +1,6 @@
 // What the program `card` does with the files that its arguments name: cards checked, made of rules, and made of what can be had of bad ones.
 #![tactic(auto)]
 
-use cardcheck::Checked;
-use cardmake::Made;
 use octets::put_word;
 use page::Page;
 use reading::Got;
@@ -30,40 +28,34 @@ fn say(rt: HostRuntime, path: &[u8], file: &[u8], out: &mut [u8]) {
         return;
     }
     match cardcheck::put_checked(out, a, file) {
-        Checked::Whole(n) => {
+        Ok(n) => {
             page::flush(rt, out, Page { to: n, open: true });
         }
-        Checked::Refused(n) => page::complain(rt, out, n),
+        Err(n) => page::complain(rt, out, n),
     }
 }
 
 // A card of rules, to a file where one is named, and otherwise to standard output.
-pub fn pack(rt: HostRuntime, rules: &[u8], path: &[u8], named: bool) {
+pub fn pack(rt: HostRuntime, rules: &[u8], path: Option<&[u8]>) {
     let mut card = [0u8; 33792];
     let mut out = [0u8; 8192];
-    match cardmake::make(rt, rules, &mut card, &mut out) {
-        Made::Card(n) => {
-            if named {
-                keep(rt, path, part(&card, 0, n), &mut out);
-                return;
+    if let Some(n) = cardmake::make(rt, rules, &mut card, &mut out) {
+        match path {
+            Some(path) => keep(rt, path, part(&card, 0, n), &mut out),
+            None => {
+                page::flush(rt, &card, Page { to: n, open: true });
             }
-            page::flush(rt, &card, Page { to: n, open: true });
         }
-        Made::Nothing => {}
     }
 }
 
 // What can be had of a bad card, reported, and a card of that to a file where one is named. A report of 2,047 bad blocks has 11,234 bytes at most.
-pub fn mend(rt: HostRuntime, bad: &[u8], path: &[u8], named: bool) {
+pub fn mend(rt: HostRuntime, bad: &[u8], path: Option<&[u8]>) {
     let mut card = [0u8; 33792];
     let mut out = [0u8; 12288];
-    match cardmend::mend(rt, bad, &mut card, &mut out) {
-        Made::Card(n) => {
-            if named {
-                keep(rt, path, part(&card, 0, n), &mut out);
-            }
-        }
-        Made::Nothing => {}
+    let made = cardmend::mend(rt, bad, &mut card, &mut out);
+    if let (Some(n), Some(path)) = (made, path) {
+        keep(rt, path, part(&card, 0, n), &mut out);
     }
 }
 
