@@ -72,13 +72,15 @@ fn check(rt: HostRuntime, file: usize) {
 }
 
 // Work on what a card is made from, which an argument names, and on the card's file, where it is named after it.
-fn with_files(
+fn with_files<Work: Fn(HostRuntime, &[u8], Option<&[u8]>)>(
     rt: HostRuntime,
     file: usize,
     named: bool,
     unread: &[u8],
-    work: impl Fn(HostRuntime, &[u8], Option<&[u8]>),
-) {
+    work: Work,
+)
+    requires { Work.IsAlwaysCallable work }
+{
     let mut from = [0u8; NAME];
     let mut path = [0u8; NAME];
     if let Some(names) = names_in(rt, file, &mut from, &mut path, named, unread) {
