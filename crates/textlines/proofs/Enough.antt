@@ -1,5 +1,5 @@
 -- The rooms that are lent are enough for every text: ROOM is never printed, and larger rooms would change nothing.
-use mathlib.Core.Path.{◌≡◌, refl, sym, ◌∙◌}
+use mathlib.Core.Path.{◌≡◌, refl}
 use mathlib.Core.Logic.{◌⊎◌, inl, inr}
 use mathlib.Core.List.{List, []}
 use Prim.Native.Nat.{ℕ, ◌+◌, ◌≤◌}
@@ -7,7 +7,7 @@ use native.Mathlib.Omega.{arith}
 use lib.ListN.{length}
 use Rattle.refusal.specs.Refusal.{Refused}
 use Rattle.refusal.specs.Read.{Read, read, refuse}
-use Rattle.table.specs.Table.{Table, table_of}
+use Rattle.table.specs.Table.{table_of}
 use Rattle.table.proofs.ReadLaws.{apart}
 use Rattle.grammar.specs.Grammar.{Fact}
 use Rattle.grammar.specs.Meaning.{symbols_of, table_cells, name_list}

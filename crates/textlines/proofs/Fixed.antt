@@ -2,8 +2,7 @@
 use mathlib.Core.Path.{◌≡◌, sym, ap, ◌∙◌}
 use mathlib.Core.List.{List}
 use Prim.Native.Nat.{ℕ}
-use Rattle.refusal.specs.Refusal.{Refused}
-use Rattle.refusal.specs.Read.{Read, read, refuse}
+use Rattle.refusal.specs.Read.{Read, read}
 use Rattle.printing.specs.Printing.{Written}
 use Rattle.printing.proofs.Fixed.{written-fixed}
 use Rattle.table.specs.Table.{Table, table_of}

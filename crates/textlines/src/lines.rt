@@ -32,11 +32,9 @@ fn put_row(out: &mut [u8], to: usize, row: &[u32]) -> usize
     ensures { Put out.old out.new to (row_line row.now) result }
 {
     let mut on = to;
-    let mut i = 0;
-    while i < row.len() {
-        let p = put_symbol(out, on, row[i]);
-        i += 1;
-        on = put_byte(out, p, mark(row.len() - i));
+    for (i, c) in row.iter().enumerate() {
+        let p = put_symbol(out, on, *c);
+        on = put_byte(out, p, mark(row.len() - (i + 1)));
     }
     on
 }
@@ -52,11 +50,14 @@ fn put_rows(out: &mut [u8], to: usize, cells: &[u32]) -> usize
         return to;
     };
     let mut on = to;
-    let mut r = 0;
-    while r < count {
+    for r in 0..count {
         let start = starts[r];
-        r += 1;
-        let end = if r < count { starts[r] } else { cells.len() };
+        let next = r + 1;
+        let end = if next < count {
+            starts[next]
+        } else {
+            cells.len()
+        };
         on = put_row(out, on, &cells[start..end]);
     }
     on
@@ -74,10 +75,8 @@ fn put_names(out: &mut [u8], to: usize, names: &[u32]) -> usize
     ensures { PutsNames names.now out.old out.new to result }
 {
     let mut on = to;
-    let mut i = 0;
-    while i < names.len() {
-        on = put_name(out, on, names[i]);
-        i += 1;
+    for name in names {
+        on = put_name(out, on, *name);
     }
     on
 }

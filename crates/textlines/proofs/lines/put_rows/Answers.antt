@@ -1,19 +1,15 @@
-use mathlib.Core.Path.{◌≡◌, sym, ap, ◌∙◌}
+use mathlib.Core.Path.{sym, ap, ◌∙◌}
 use mathlib.Core.Logic.{inl, inr}
 use mathlib.Core.List.{[], flatten}
-use Prim.Native.Nat.{ℕ, ◌-◌, ◌≤◌}
 use native.Mathlib.Omega.{arith}
-use lib.ListN.{length, get_or, drop}
-use Rattle.octets.proofs.PutLaws.{Putting, put-begins, put-part, put-ends, put-length, put-nothing}
-use Rattle.refusal.specs.Refusal.{answered}
-use Rattle.table.specs.Table.{table_of, table_says, table_told, RowPlace}
-use Rattle.table.proofs.PartLaws.{part, place_inside, place-cells}
-use Rattle.textlines.specs.Lines.{row_line, row_lines}
+use Rattle.octets.proofs.PutLaws.{put-begins, put-part, put-ends, put-length, put-nothing}
+use Rattle.table.specs.Table.{table_of, table_told}
+use Rattle.table.proofs.PartLaws.{place_inside, place-cells}
+use Rattle.textlines.specs.Lines.{row_line}
 use Rattle.textlines.specs.code.Puts.{rows_of}
 use Rattle.textlines.proofs.LineLaws.{lines-on, lines-done}
 use Rattle.textlines.proofs.RowLaws.{row_is, none-turned, rows-counted, rows_few, row-between}
-use borrow.Author.Rules.{rules}
-use Rattle.textlines.proofs.lines.put_rows.Goals.{then-r-count, else-r-count}
+use Rattle.textlines.proofs.lines.put_rows.Goals.{then-next-count, else-next-count}
 use Rattle.textlines.proofs.lines.put_rows.Goals as goal
 
 pub returns-in_default : goal.returns-in_default
@@ -33,34 +29,34 @@ offset_bounds-starts-r c = omega (arith, rows_few c.args.cells.now (ap table_tol
 pub bounds-starts-r : goal.bounds-starts-r
 bounds-starts-r c = omega (arith, rows_few c.args.cells.now ((ap table_told (sym c.in-Accepted.is) ∙ c.read_table-read.ensures.answer)))
 
-pub offset_bounds-starts-r-then-r-count : goal.offset_bounds-starts-r-then-r-count
-offset_bounds-starts-r-then-r-count c = omega (arith, rows_few c.args.cells.now ((ap table_told (sym c.in-Accepted.is) ∙ c.read_table-read.ensures.answer)))
+pub offset_bounds-starts-next : goal.offset_bounds-starts-next
+offset_bounds-starts-next c = omega (arith, rows_few c.args.cells.now ((ap table_told (sym c.in-Accepted.is) ∙ c.read_table-read.ensures.answer)))
 
-pub bounds-starts-r-then-r-count : goal.bounds-starts-r-then-r-count
-bounds-starts-r-then-r-count c = omega (arith, rows_few c.args.cells.now ((ap table_told (sym c.in-Accepted.is) ∙ c.read_table-read.ensures.answer)))
+pub bounds-starts-next : goal.bounds-starts-next
+bounds-starts-next c = omega (arith, rows_few c.args.cells.now ((ap table_told (sym c.in-Accepted.is) ∙ c.read_table-read.ensures.answer)))
 
 pub offset_bounds-cells-start : goal.offset_bounds-cells-start
 offset_bounds-cells-start c = omega (
   arith,
   (place_inside c.args.cells.now c.loop-r.r ((row-between c.args.cells.now ((ap table_told (sym c.in-Accepted.is) ∙ c.read_table-read.ensures.answer)) c.read_table-read.ensures.starts
-      c.loop-r.r c.if-r-count.end (omega arith)
-      (elim c.if-r-count.branch [ then-r-count x ↦ inl (x.if-r-count.true, x.end-is) | else-r-count x ↦ inr (x.if-r-count.false, x.end-is) ])))),
+      c.loop-r.r c.if-next-count.end (omega arith)
+      (elim c.if-next-count.branch [ then-next-count x ↦ inl (x.if-next-count.true, x.end-is) | else-next-count x ↦ inr (x.if-next-count.false, x.end-is) ])))),
 )
 
 pub slice_bounds-put_row-count : goal.slice_bounds-put_row-count
 slice_bounds-put_row-count c = ((place_inside c.args.cells.now c.loop-r.r ((row-between c.args.cells.now ((ap table_told (sym c.in-Accepted.is) ∙ c.read_table-read.ensures.answer)) c.read_table-read.ensures.starts
-    c.loop-r.r c.if-r-count.end (omega arith)
-    (elim c.if-r-count.branch [ then-r-count x ↦ inl (x.if-r-count.true, x.end-is) | else-r-count x ↦ inr (x.if-r-count.false, x.end-is) ]))))).0
+    c.loop-r.r c.if-next-count.end (omega arith)
+    (elim c.if-next-count.branch [ then-next-count x ↦ inl (x.if-next-count.true, x.end-is) | else-next-count x ↦ inr (x.if-next-count.false, x.end-is) ]))))).0
 
 pub slice_bounds-put_row-start : goal.slice_bounds-put_row-start
 slice_bounds-put_row-start c = ((place_inside c.args.cells.now c.loop-r.r ((row-between c.args.cells.now ((ap table_told (sym c.in-Accepted.is) ∙ c.read_table-read.ensures.answer)) c.read_table-read.ensures.starts
-    c.loop-r.r c.if-r-count.end (omega arith)
-    (elim c.if-r-count.branch [ then-r-count x ↦ inl (x.if-r-count.true, x.end-is) | else-r-count x ↦ inr (x.if-r-count.false, x.end-is) ]))))).0
+    c.loop-r.r c.if-next-count.end (omega arith)
+    (elim c.if-next-count.branch [ then-next-count x ↦ inl (x.if-next-count.true, x.end-is) | else-next-count x ↦ inr (x.if-next-count.false, x.end-is) ]))))).0
 
 pub slice_bounds-put_row-end : goal.slice_bounds-put_row-end
 slice_bounds-put_row-end c = ((place_inside c.args.cells.now c.loop-r.r ((row-between c.args.cells.now ((ap table_told (sym c.in-Accepted.is) ∙ c.read_table-read.ensures.answer)) c.read_table-read.ensures.starts
-    c.loop-r.r c.if-r-count.end (omega arith)
-    (elim c.if-r-count.branch [ then-r-count x ↦ inl (x.if-r-count.true, x.end-is) | else-r-count x ↦ inr (x.if-r-count.false, x.end-is) ]))))).1
+    c.loop-r.r c.if-next-count.end (omega arith)
+    (elim c.if-next-count.branch [ then-next-count x ↦ inl (x.if-next-count.true, x.end-is) | else-next-count x ↦ inr (x.if-next-count.false, x.end-is) ]))))).1
 
 pub loop-r-preserved : goal.loop-r-preserved
 loop-r-preserved c =
@@ -69,8 +65,8 @@ loop-r-preserved c =
     let n = rows-counted t ((ap table_told (sym c.in-Accepted.is) ∙ c.read_table-read.ensures.answer)) in
     let next = lines-on row_line [] (rows_of (table_of t)) l.r (omega arith) in
     let row = place-cells t l.r ((row-between c.args.cells.now ((ap table_told (sym c.in-Accepted.is) ∙ c.read_table-read.ensures.answer)) c.read_table-read.ensures.starts
-    c.loop-r.r c.if-r-count.end (omega arith)
-    (elim c.if-r-count.branch [ then-r-count x ↦ inl (x.if-r-count.true, x.end-is) | else-r-count x ↦ inr (x.if-r-count.false, x.end-is) ]))) ∙ row_is (table_of t) l.r in
+    c.loop-r.r c.if-next-count.end (omega arith)
+    (elim c.if-next-count.branch [ then-next-count x ↦ inl (x.if-next-count.true, x.end-is) | else-next-count x ↦ inr (x.if-next-count.false, x.end-is) ]))) ∙ row_is (table_of t) l.r in
     (omega arith, put-part (rw next at l.invariant.1) (rw row at c.put_row-on.ensures))
 
 pub shape_of-out : goal.shape_of-out
