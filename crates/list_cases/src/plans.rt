@@ -28,29 +28,15 @@ fn show(rt: HostRuntime, bytes: &[u8]) {
     console::say(rt, &out[..n]);
 }
 
-// A cell as four bytes, the least significant first.
-fn put_cell(bytes: &mut [u8; 8200], at: usize, c: u32)
-    requires { at + 4 ≤ 8200 }
-    ensures { length bytes.new ≡ length bytes.old }
-{
-    bytes[at] = (c % 256) as u8;
-    bytes[at + 1] = (c / 256 % 256) as u8;
-    bytes[at + 2] = (c / 65536 % 256) as u8;
-    bytes[at + 3] = (c / 16777216) as u8;
-}
-
-// Prints the listing of some cells.
+// Prints the listing of some cells, each as four bytes, the least significant first.
 fn show_cells(rt: HostRuntime, cells: &[u32])
     requires { length cells.now ≤ 2050 }
 {
     let mut bytes = [0u8; 8200];
-    let mut i = 0;
-    while i < cells.len() {
-        put_cell(&mut bytes, 4 * i, cells[i]);
-        i += 1;
+    for (four, c) in bytes.chunks_exact_mut(4).zip(cells) {
+        four.copy_from_slice(&c.to_le_bytes());
     }
-    let e = 4 * i;
-    show(rt, &bytes[..e]);
+    show(rt, &bytes[..4 * cells.len()]);
 }
 
 // Nested names, variables and numbers.
@@ -88,12 +74,10 @@ fn sixty_four() -> [u32; 130] {
     let mut cells = [0u32; 130];
     cells[0] = 2;
     cells[1] = 64;
-    let mut r = 0;
-    while r < 64 {
+    for r in 0..64u32 {
         let row = r as usize;
         cells[2 * row + 2] = A0 + r / 16;
         cells[2 * row + 3] = ZERO + r;
-        r += 1;
     }
     cells
 }

@@ -85,8 +85,7 @@ fn tables(rt: HostRuntime) {
 // The fact `p(a00).`, then `p(a01).` and so on, a line to each: 65 of them.
 fn facts() -> [u8; 520] {
     let mut text = [b'\n'; 520];
-    let mut n: usize = 0;
-    while n < 65 {
+    for n in 0..65usize {
         let at = 8 * n;
         text[at] = b'p';
         text[at + 1] = b'(';
@@ -95,7 +94,6 @@ fn facts() -> [u8; 520] {
         text[at + 4] = 48 + (n % 10) as u8;
         text[at + 5] = b')';
         text[at + 6] = b'.';
-        n += 1;
     }
     text
 }
@@ -105,10 +103,8 @@ fn wide() -> [u8; 4101] {
     let mut text = [b','; 4101];
     text[0] = b'p';
     text[1] = b'(';
-    let mut n: usize = 0;
-    while n < 2049 {
+    for n in 0..2049usize {
         text[2 * n + 2] = b'a';
-        n += 1;
     }
     text[4099] = b')';
     text[4100] = b'.';
