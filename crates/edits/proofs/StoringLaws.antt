@@ -1,12 +1,12 @@
 -- Numbers that are stored one after another, and the pairs that end at a row cleared.
-use mathlib.Core.Path.{◌≡◌, refl, ◌∙◌}
+use mathlib.Core.Path.{◌≡◌, refl, sym, ap, ◌∙◌}
 use mathlib.Core.Logic.{◌≢◌}
-use mathlib.Core.List.{List, [], ◌∷◌}
+use mathlib.Core.List.{List, ◌++◌, append_assoc}
 use Prim.Native.Nat.{ℕ, suc, ◌+◌, ◌-◌, ◌*◌, ◌≤◌, ◌<◌}
 use native.Mathlib.Omega.{arith}
-use lib.ListN.{length, get_or, set, drop, replicate, length-set}
-use lib.Seq.{sets, drop-cons}
-use Rattle.term.proofs.Lists.{store-next}
+use lib.ListN.{length, set, take, drop, length-set}
+use lib.Seq.{sets, sets-eq, drop-drop}
+use borrow.Rule.Slice.PartMut.{put_mid}
 use Rattle.least.specs.Entries.{SameAt}
 use Rattle.paircosts.specs.code.Filling.{put_pair}
 use Rattle.paircosts.proofs.FillLaws.{Where, here, there, where-is}
@@ -14,20 +14,12 @@ use Rattle.record.specs.code.Zeros.{ZeroAt, Cleared}
 use Rattle.record.proofs.KeptLaws.{zero_same}
 use Rattle.limits.specs.Limits.{kept_cells}
 
--- one 0 of those still to be put
-pub zeros-next : (i to : ℕ) → i < to → replicate {A = ℕ} (to - i) 0 ≡ 0 ∷ replicate (to - (i + 1)) 0
-zeros-next i to h = let e : to - i ≡ suc (to - (i + 1)) = omega arith in rw e
-
-pub zeros-end : (i to : ℕ) → to ≤ i → replicate {A = ℕ} (to - i) 0 ≡ []
-zeros-end i to h = let e : to - i ≡ 0 = omega arith in rw e
-
--- one cell of those still to be put
-pub cell-next : (out fin cells : List ℕ) (at i : ℕ) → i < length cells → sets out (at + i) (drop i cells) ≡ fin
-    → sets (set out (at + i) (get_or cells i 0)) (at + (i + 1)) (drop (i + 1) cells) ≡ fin
-cell-next out fin cells at i h e =
-    let k : at + (i + 1) ≡ at + i + 1 = omega arith in
-    let j : i + 1 ≡ suc i = omega arith in
-    rw (k, j) (store-next out fin (drop i cells) (drop (suc i) cells) (at + i) (get_or cells i 0) (drop-cons cells i 0 h) e)
+-- a part of a list that is written over, as several elements stored one after another
+pub put_mid-sets : (a k : ℕ) (xs ys zs : List ℕ) → ys ≡ zs → length zs ≡ k → a + k ≤ length xs → put_mid a k xs ys ≡ sets xs a zs
+put_mid-sets a k xs ys zs e l b =
+    ap (λ (m : List ℕ). take a xs ++ (m ++ drop k (drop a xs))) e
+    ∙ ap (λ (m : List ℕ). take a xs ++ (zs ++ m)) (drop-drop k a xs ∙ ap (λ (n : ℕ). drop (a + n) xs) (sym l))
+    ∙ sym (append_assoc (take a xs) zs (drop (a + length zs) xs)) ∙ sym (sets-eq zs xs a (omega (arith, l)))
 
 -- three numbers are put and none comes or goes
 length-pair : (kept : List ℕ) (pair : ℕ) → length (put_pair kept pair 0 0 0) ≡ length kept

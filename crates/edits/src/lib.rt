@@ -29,13 +29,11 @@ fn clear_pairs(kept: &mut [u32], last: usize)
     requires { (length kept.old ≡ kept_cells) × (last < most_rows) }
     ensures { Cleared last kept.old kept.new }
 {
-    let mut first = 0;
-    while first < ROWS {
+    for first in 0..ROWS {
         let pair = ROWS * first + last;
         kept[pair] = 0;
         kept[4096 + pair] = 0;
         kept[8192 + pair] = 0;
-        first += 1;
     }
 }
 

@@ -8,11 +8,7 @@ pub fn clear(out: &mut [u32], from: usize, to: usize)
     requires { (from ≤ to) × (to ≤ length out.old) }
     ensures { out.new ≡ sets out.old from (replicate (to - from) 0) }
 {
-    let mut i = from;
-    while i < to {
-        out[i] = 0;
-        i += 1;
-    }
+    out[from..to].fill(0);
 }
 
 // Cells are put from a place on.
@@ -20,11 +16,7 @@ pub fn copy(out: &mut [u32], at: usize, cells: &[u32])
     requires { at + length cells.now ≤ length out.old }
     ensures { out.new ≡ sets out.old at cells.now }
 {
-    let mut i = 0;
-    while i < cells.len() {
-        out[at + i] = cells[i];
-        i += 1;
-    }
+    out[at..at + cells.len()].copy_from_slice(cells);
 }
 
 // A small number is put at a place.

@@ -76,13 +76,11 @@ fn past(cells: &[u32], marks: &[u16; TABLE_CELLS], start: usize, terms: usize) -
     ensures { result ≡ past_of cells.now terms start }
 {
     let mut at = start;
-    let mut left = terms;
-    while 0 < left {
+    for _ in 0..terms {
         if cells.len() <= at {
             return at;
         }
         at = end_in(marks[at]);
-        left -= 1;
     }
     at
 }
@@ -93,9 +91,7 @@ fn mark_cells(by: By, cells: &[u32], marks: &mut [u16; TABLE_CELLS])
     requires { (length cells.now ≤ most_table_cells) × (length marks.old ≡ most_table_cells) }
     ensures { MarkedFrom (measure_of by) cells.now marks.new 0 }
 {
-    let mut j = cells.len();
-    while 0 < j {
-        j -= 1;
+    for j in (0..cells.len()).rev() {
         let c = cells[j];
         let terms = cell::arity_of(c);
         let end = past(cells, &*marks, j + 1, terms);
@@ -216,16 +212,13 @@ fn note_last(cells: &[u32], marks: &[u16; TABLE_CELLS], notes: &mut [u32; 192], 
         sum: 0,
         to: row.number as u32,
     };
-    let stop = row.end;
     let mut agreed = 0;
     let mut met = 0;
-    let mut q = row.start;
-    while q < stop {
+    for q in row.start..row.end {
         put_note(&mut *notes, q, s);
         let c = cells[q];
         agreed += weight_after(marks, c, met, q);
         met = met_after(c, met);
-        q += 1;
     }
     agreed
 }
@@ -562,20 +555,6 @@ fn row_end(cells: &[u32], starts: &[usize; ROWS], count: usize, r: usize) -> usi
     }
 }
 
-// The row before a row.
-fn row_before(starts: &[usize; ROWS], row: Row) -> Row
-    requires { (0 < row.number) × (row.number < most_rows) }
-    ensures { result ≡ pair_row (row.number - 1) (get_or starts.now (row.number - 1) 0) row.start }
-{
-    let number = row.number - 1;
-    let end = row.start;
-    Row {
-        number,
-        start: starts[number],
-        end,
-    }
-}
-
 // All pairs that end at a row: the row by itself, and then with one row more in front after another. The rows from `top` on
 // are only noted again.
 fn pairs_to(
@@ -602,8 +581,12 @@ fn pairs_to(
         asked,
     );
     let mut first = row;
-    while 0 < first.number {
-        first = row_before(starts, first);
+    for number in (0..last).rev() {
+        first = Row {
+            number,
+            start: starts[number],
+            end: first.start,
+        };
         agreed = note_row(cells, marks, &*kept, &mut notes, first);
         keep_before(
             marks,
@@ -629,17 +612,13 @@ fn pairs_again(
     ensures { (t : Task cells.now marks.now starts.now asked kept.old)
         → Finished t kept.new }
 {
-    let count = asked.count;
-    let mut last = asked.since;
-    while last < count {
-        let end = row_end(cells, starts, count, last);
+    for number in asked.since..asked.count {
         let row = Row {
-            number: last,
-            start: starts[last],
-            end,
+            number,
+            start: starts[number],
+            end: row_end(cells, starts, asked.count, number),
         };
         pairs_to(cells, marks, starts, &mut *kept, row, asked);
-        last += 1;
     }
 }
 
