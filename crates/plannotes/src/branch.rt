@@ -70,10 +70,8 @@ pub fn finish(notes: &mut [u64], from: usize, to: usize, past: usize)
 {
     let mut seen = [0u8; ROW_CELLS];
     let mut again = 0;
-    let mut i = to;
-    while from < i {
-        let more = end(past - i);
-        i -= 1;
+    for i in (from..to).rev() {
+        let more = end(past - (i + 1));
         let w = notes[i];
         let c = cell_of(w);
         match cell::kind(c) {

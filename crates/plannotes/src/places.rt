@@ -5,22 +5,13 @@ ghost use Rattle.table.specs.All.{All};
 ghost use Rattle.table.specs.Table.{up_from};
 ghost use Rattle.plannotes.specs.code.Places.{steps, hop_of, last_new, Spot, Closed};
 
-fn wide(x: u8) -> usize
-    ensures { result ≡ x }
-{
-    x as usize
-}
-
 // The links before any place is closed: each slot leads to the next number.
 pub fn first_links() -> [u8; 64]
     ensures { result ≡ up_from 1 64 }
 {
     let mut links = [0u8; 64];
-    let mut s = 0;
-    while s < 64 {
-        let next = s + 1;
-        links[s] = next as u8;
-        s = next;
+    for s in 0..64 {
+        links[s] = (s + 1) as u8;
     }
     links
 }
@@ -30,11 +21,9 @@ fn hop(links: &[u8; 64], i: usize) -> usize
     requires { All (λ x. x < 64) (steps links.now i 0) }
     ensures { result ≡ hop_of links.now i 0 }
 {
-    let mut left = i;
     let mut slot = 0;
-    while 0 < left {
-        slot = wide(links[slot]);
-        left -= 1;
+    for _ in 0..i {
+        slot = usize::from(links[slot]);
     }
     slot
 }
@@ -56,7 +45,7 @@ pub fn close(links: &mut [u8; 64], i: usize, a: usize, free: usize) -> usize
     ensures { (w : Spot links.old i a free) → Closed w links.new result }
 {
     let before = hop(&*links, i);
-    let slot = wide(links[before]);
+    let slot = usize::from(links[before]);
     let past = links[slot];
     let last = last_new(before, free, a);
     links[before] = free as u8;

@@ -134,15 +134,13 @@ pub fn state(
             row: row + n,
         };
     }
-    let mut left = plan[first];
     let mut here = Past {
         place: at + 2,
         made,
         row,
     };
-    while 0 < left {
+    for _ in 0..plan[first] {
         here = branch(plan, links, notes, n, width, free, here);
-        left -= 1;
     }
     here
 }
