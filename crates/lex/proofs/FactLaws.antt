@@ -15,11 +15,11 @@ use Rattle.grammar.specs.Reader.{finish, run, Solid, Ends}
 use Rattle.grammar.proofs.Complete.{run-gap, run-head, run-stop, rests-first, rests-closed, at_first, at-between, at-head-open, at-stop}
 use Rattle.grammar.proofs.Sound.{not-layout}
 use Rattle.lex.specs.Turns.{stands_at}
-use Rattle.lex.specs.Heads.{head_from, head_of, end_of, Reaches, Heads, Closes}
+use Rattle.lex.specs.Heads.{head_from, head_of, stop_at, end_of, Reaches, Heads, Closes}
 use Rattle.lex.specs.code.Ends.{GapTo, WordTo, HeadAt}
 use Rattle.lex.specs.declared.fact.Head.{Head}
 use Rattle.lex.specs.declared.fact.Head.TheVariants as head-is
-use Rattle.lex.specs.declared.fact.FactEnd.TheVariants as fact-end
+use Rattle.std.specs.Prelude.{Ok, Err}
 use Rattle.lex.proofs.ByteLaws.{here, gap-of, word-of, solid-here, stands-within, stands_here, on-dead, at-end}
 
 -- no fact begins with such a byte
@@ -159,11 +159,11 @@ module _ (t : List ℕ) (at p : ℕ) (g : GapTo t at p) where
       by w (no l) = at-end t at stop w (omega (arith, g.from))
 
   -- a full stop
-  end-of : end_of t at ≡ cond (stands_at 46 (drop p t)) (fact-end.Full (p + 1)) (fact-end.Stop p)
+  end-of : end_of t at ≡ cond (stands_at 46 (drop p t)) (Ok (p + 1)) (Err (stop_at p))
   unfolding end_of
-  end-of = ap (λ (q : ℕ). cond (stands_at 46 (drop q t)) (fact-end.Full (q + 1)) (fact-end.Stop q)) (gap-of t at p g)
+  end-of = ap (λ (q : ℕ). cond (stands_at 46 (drop q t)) (Ok (q + 1)) (Err (stop_at q))) (gap-of t at p g)
 
-  pub full-stop : stands_at 46 (drop p t) ≡ true → Closes t at (fact-end.Full (p + 1))
+  pub full-stop : stands_at 46 (drop p t) ≡ true → Closes t at (Ok (p + 1))
   full-stop y =
       let h = stands-within t p 46 y in
       record {
@@ -182,7 +182,7 @@ module _ (t : List ℕ) (at p : ℕ) (g : GapTo t at p) where
   closed-stops [] w s y = refl
   closed-stops (b ∷ xs) w s y = rw (y, not-layout closed w b s.0 s.1)
 
-  pub no_stop : stands_at 46 (drop p t) ≡ false → Closes t at (fact-end.Stop p)
+  pub no_stop : stands_at 46 (drop p t) ≡ false → Closes t at (Err (stop_at p))
   no_stop y =
       record {
         is = sym (end-of ∙ rw y);

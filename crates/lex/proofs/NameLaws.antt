@@ -1,6 +1,6 @@
 -- Names as bytes: two that are the same, and bytes that are one.
 use Prim.Native.Nat.{ℕ, suc, ◌+◌, ◌-◌, ◌≤◌, ◌<◌}
-use mathlib.Core.Path.{◌≡◌, refl, sym, ap, ap₂, subst, ◌∙◌}
+use mathlib.Core.Path.{◌≡◌, refl, sym, ap, subst, ◌∙◌}
 use mathlib.Core.Bool.{Bool, true, false, ◌&&◌}
 use mathlib.Core.List.{List, [], ◌∷◌, ◌++◌}
 use native.Mathlib.Omega.{arith}
@@ -12,23 +12,18 @@ use Rattle.grammar.specs.Grammar as G
 use Rattle.grammar.specs.Grammar.{is_lower, Word, Symbol, name, Term}
 use Rattle.cell.specs.Same.{same}
 use Rattle.grammar.specs.Reader.{Ends}
-use Rattle.cell.proofs.SameLaws.{same-no}
+use Rattle.std.specs.Cmp.Lexicographic.{pointwise}
 use Rattle.lex.specs.Names.{IsName, Names, NameSaid}
 use Rattle.lex.specs.code.Ends.{WordTo}
 use Rattle.lex.proofs.ByteLaws.{here}
 
--- the same bytes, from a place on
-pub same-lengths : (xs ys : List ℕ) → (length xs ≡ length ys → ⊥) → same xs ys ≡ false
-same-lengths xs ys n = same-no xs ys (λ e. n (ap length e))
-
-pub same_here : (xs ys : List ℕ) (i : ℕ) → i < length xs → i < length ys
-    → same (drop i xs) (drop i ys) ≡ (eqb (get_or xs i 0) (get_or ys i 0) && same (drop (i + 1) xs) (drop (i + 1) ys))
+-- the same bytes, as `==` compares them
+pub same-pointwise : (xs ys : List ℕ) → pointwise eqb xs ys ≡ same xs ys
 unfolding same
-same_here xs ys i h k = ap₂ same (here xs i h) (here ys i k)
-
-pub same_end : (xs ys : List ℕ) (i : ℕ) → length xs ≤ i → length ys ≤ i → same (drop i xs) (drop i ys) ≡ true
-unfolding same
-same_end xs ys i h k = ap₂ same (drop_of_length-le xs h) (drop_of_length-le ys k)
+same-pointwise [] [] = refl
+same-pointwise [] (b ∷ ys) = refl
+same-pointwise (a ∷ xs) [] = refl
+same-pointwise (a ∷ xs) (b ∷ ys) = ap (λ (t : Bool). eqb a b && t) (same-pointwise xs ys)
 
 -- a name, taken apart
 record Named (p : ℕ) (w : List ℕ) (q : ℕ) (ys : List ℕ) : Type 0 where

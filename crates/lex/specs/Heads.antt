@@ -1,12 +1,11 @@
 -- Where a fact begins and ends, layout passed over: as a function of the text, and by the reader.
-use Rattle.std.specs.Prelude.{ℕ, suc, ◌+◌, ◌≤◌, ◌<◌, ◌≡◌, Bool, true, false, cond, ◌||◌, List, [], ◌∷◌, ltb, length, drop}
+use Rattle.std.specs.Prelude.{ℕ, suc, ◌+◌, ◌≤◌, ◌<◌, ◌≡◌, Bool, true, false, cond, ◌||◌, List, [], ◌∷◌, ltb, length, drop, Result, Ok, Err}
 use Rattle.grammar.specs.Grammar.{is_lower, fact}
 use Rattle.grammar.specs.Reader.{Mode, first, arg, closed, stop, Work, work, nothing, Out, stops, reads, fact_before, run}
 use Rattle.lex.specs.Turns.{gap_of, word_from, stands_at}
 use Rattle.lex.specs.declared.fact.Head.{Head}
 use Rattle.lex.specs.declared.fact.Head.TheVariants as head
-use Rattle.lex.specs.declared.fact.FactEnd.{FactEnd}
-use Rattle.lex.specs.declared.fact.FactEnd.TheVariants as fact-end
+use Rattle.lex.specs.declared.Stop.{Stop}
 
 -- a fact's name, its bracket at once after it
 unfoldable pub head_from : List ℕ → ℕ → List ℕ → Head
@@ -44,20 +43,23 @@ pub record Heads (t : List ℕ) (at : ℕ) (first : Bool) (r : Head) : Type 0 wh
   pub reaches : Reaches t at r
   pub same : (w : Work) → run (drop at t) (fact_mode first) w at ≡ on_head t r
 
+abbrev pub stop_at : ℕ → Stop
+stop_at p = record { at = p }
+
 -- after a fact's last bracket: its full stop, and the place after it
-unfoldable pub end_of : List ℕ → ℕ → FactEnd
-end_of t at = cond (stands_at 46 (drop (gap_of t at) t)) (fact-end.Full (gap_of t at + 1)) (fact-end.Stop (gap_of t at))
+unfoldable pub end_of : List ℕ → ℕ → Result ℕ Stop
+end_of t at = cond (stands_at 46 (drop (gap_of t at) t)) (Ok (gap_of t at + 1)) (Err (stop_at (gap_of t at)))
 
 -- what follows: the fact is complete, and the text after its full stop
-abbrev pub on_end : List ℕ → Work → FactEnd → Out
-on_end t w (fact-end.Full q) = fact_before (fact w.start w.end (suc w.done) w.out) (run (drop q t) stop nothing q)
-on_end t w (fact-end.Stop p) = stops p
+abbrev pub on_end : List ℕ → Work → Result ℕ Stop → Out
+on_end t w (Ok q) = fact_before (fact w.start w.end (suc w.done) w.out) (run (drop q t) stop nothing q)
+on_end t w (Err p) = stops p.at
 
-abbrev pub Arrives : List ℕ → ℕ → FactEnd → Type 0
-Arrives t at (fact-end.Full q) = (at < q) × (q ≤ length t)
-Arrives t at (fact-end.Stop p) = at ≤ length t → p ≤ length t
+abbrev pub Arrives : List ℕ → ℕ → Result ℕ Stop → Type 0
+Arrives t at (Ok q) = (at < q) × (q ≤ length t)
+Arrives t at (Err p) = at ≤ length t → p.at ≤ length t
 
-pub record Closes (t : List ℕ) (at : ℕ) (r : FactEnd) : Type 0 where
+pub record Closes (t : List ℕ) (at : ℕ) (r : Result ℕ Stop) : Type 0 where
   pub is : r ≡ end_of t at
   pub arrives : Arrives t at r
   pub same : (w : Work) → run (drop at t) closed w at ≡ on_end t w r

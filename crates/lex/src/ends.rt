@@ -9,14 +9,12 @@ fn line_end(text: &[u8], at: usize) -> usize
     requires { at ≤ length text.now }
     ensures { LineTo text.now at result }
 {
-    let mut i = at;
-    while i < text.len() {
-        if text[i] == 10 {
+    for i in at..text.len() {
+        if text[i] == b'\n' {
             return i + 1;
         }
-        i += 1;
     }
-    i
+    text.len()
 }
 
 // Where the layout that begins at a place ends: blanks and comments.
@@ -24,9 +22,10 @@ pub fn gap_end(text: &[u8], at: usize) -> usize
     ensures { GapTo text.now at result }
 {
     let mut i = at;
+    // Stays: a comment jumps to the end of its line, so that no range has these places.
     while i < text.len() {
         let byte = text[i];
-        if byte == 37 {
+        if byte == b'%' {
             i = line_end(text, i + 1);
             continue;
         }
@@ -40,14 +39,13 @@ pub fn gap_end(text: &[u8], at: usize) -> usize
 
 // Where the letters, digits and underscores from a place on end.
 pub fn word_end(text: &[u8], at: usize) -> usize
+    requires { at ≤ length text.now }
     ensures { WordTo text.now at result }
 {
-    let mut i = at;
-    while i < text.len() {
+    for i in at..text.len() {
         if !kind::is_word(text[i]) {
             return i;
         }
-        i += 1;
     }
-    i
+    text.len()
 }

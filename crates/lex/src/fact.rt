@@ -4,7 +4,7 @@ ghost use Rattle.grammar.specs.Reader.{Solid};
 ghost use Rattle.lex.specs.Heads.{Heads, Closes};
 ghost use Rattle.lex.specs.code.Ends.{HeadAt};
 
-use super::{ends, kind};
+use super::{Stop, ends, kind};
 
 // What follows the start of a text or a full stop, layout passed over: nothing more; a fact's name, its start and the place of its bracket;
 // or no text goes on so.
@@ -24,7 +24,7 @@ fn head_at(text: &[u8], at: usize) -> Head
         return Head::Stop(at);
     }
     let e = ends::word_end(text, at + 1);
-    if kind::stands(text, e, 40) {
+    if kind::stands(text, e, b'(') {
         return Head::Open(at, e);
     }
     Head::Stop(e)
@@ -47,19 +47,13 @@ pub fn next_fact(text: &[u8], at: usize, first: bool) -> Head
     Head::End
 }
 
-// After a fact's last bracket: the place after its full stop; or no text goes on so.
-#[derive(Drop)]
-pub enum FactEnd {
-    Full(usize),
-    Stop(usize),
-}
-
-pub fn fact_end(text: &[u8], at: usize) -> FactEnd
+// After a fact's last bracket: the place after its full stop.
+pub fn fact_end(text: &[u8], at: usize) -> Result<usize, Stop>
     ensures { Closes text.now at result }
 {
     let p = ends::gap_end(text, at);
-    if kind::stands(text, p, 46) {
-        return FactEnd::Full(p + 1);
+    if kind::stands(text, p, b'.') {
+        return Ok(p + 1);
     }
-    FactEnd::Stop(p)
+    Err(Stop { at: p })
 }

@@ -9,31 +9,17 @@ use super::{ends, kind};
 pub fn same_bytes(a: &[u8], b: &[u8]) -> bool
     ensures { result ≡ same a.now b.now }
 {
-    let n = a.len();
-    if n != b.len() {
-        return false;
-    }
-    let mut i = 0;
-    while i < n {
-        if a[i] != b[i] {
-            return false;
-        }
-        i += 1;
-    }
-    true
+    a == b
 }
 
 // Whether a part of a text is a name in lower case, from its first byte to its last.
 fn lower_name(word: &[u8]) -> bool
     ensures { Names word.now result }
 {
-    if word.len() == 0 {
+    if word.is_empty() {
         return false;
     }
-    if !kind::is_lower(word[0]) {
-        return false;
-    }
-    ends::word_end(word, 1) == word.len()
+    kind::is_lower(word[0]) && ends::word_end(word, 1) == word.len()
 }
 
 // Whether so many bytes from a place on lie in the text and are a name in lower case.

@@ -23,7 +23,7 @@ pub enum Turn {
     Stop(usize),
 }
 
-// The largest value of a number's digits, after a minus sign or without one (02, W-206).
+// The largest value of a number's digits, after a minus sign or without one.
 fn largest(minus: bool) -> usize
     ensures { result ≡ limit minus }
 {
@@ -48,21 +48,19 @@ fn number_from(text: &[u8], at: usize, first: usize, minus: bool) -> Turn
     ensures { Counts text.now at minus first result }
 {
     let most = largest(minus);
-    let mut i = at;
     let mut value = first;
-    while i < text.len() {
+    for i in at..text.len() {
         let byte = text[i];
         if !kind::is_digit(byte) {
             return Turn::Number(bits_of(value, minus), i);
         }
-        let n = 10 * value + (kind::wide(byte) - 48);
+        let n = 10 * value + usize::from(byte - b'0');
         if most < n {
             return Turn::Stop(i);
         }
         value = n;
-        i += 1;
     }
-    Turn::Number(bits_of(value, minus), i)
+    Turn::Number(bits_of(value, minus), text.len())
 }
 
 // After a minus sign, which a digit follows at once.
@@ -75,7 +73,7 @@ fn negative_at(text: &[u8], next: usize) -> Turn
     }
     let byte = text[next];
     if kind::is_digit(byte) {
-        return number_from(text, next + 1, kind::wide(byte) - 48, true);
+        return number_from(text, next + 1, usize::from(byte - b'0'), true);
     }
     Turn::Stop(next)
 }
@@ -91,7 +89,7 @@ fn term_at(text: &[u8], at: usize) -> Turn
     let byte = text[at];
     if kind::is_lower(byte) {
         let e = ends::word_end(text, at + 1);
-        if kind::stands(text, e, 40) {
+        if kind::stands(text, e, b'(') {
             return Turn::Open(at, e);
         }
         return Turn::Name(at, e);
@@ -100,9 +98,9 @@ fn term_at(text: &[u8], at: usize) -> Turn
         return Turn::Variable(at, ends::word_end(text, at + 1));
     }
     if kind::is_digit(byte) {
-        return number_from(text, at + 1, kind::wide(byte) - 48, false);
+        return number_from(text, at + 1, usize::from(byte - b'0'), false);
     }
-    if byte == 45 {
+    if byte == b'-' {
         return negative_at(text, at + 1);
     }
     Turn::Stop(at)
@@ -117,10 +115,10 @@ fn mark_at(text: &[u8], at: usize) -> Turn
         return Turn::Stop(at);
     }
     let byte = text[at];
-    if byte == 44 {
+    if byte == b',' {
         return Turn::Comma(at);
     }
-    if byte == 41 {
+    if byte == b')' {
         return Turn::Close(at);
     }
     Turn::Stop(at)
