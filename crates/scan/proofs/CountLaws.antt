@@ -5,9 +5,9 @@ use mathlib.Core.Bool.{Bool, true, false, cond}
 use mathlib.Core.List.{List, [], ◌∷◌, ◌++◌, flatten}
 use native.Mathlib.Omega.{arith}
 use native.Mathlib.Decide.{dec_lt}
-use lib.Dec.{eqb, ltb}
+use lib.Dec.{eqb}
 use lib.ListN.{length, drop, length-append}
-use borrow.Author.Tests.{eq-eqb, ne_eqb, lt-ltb}
+use borrow.Author.Tests.{eq-eqb, ne_eqb}
 use Rattle.refusal.specs.Refusal.{refused}
 use Rattle.refusal.specs.Read.{read, refuse}
 use Rattle.refusal.specs.declared.Reason.TheVariants as reason
@@ -20,19 +20,21 @@ use Rattle.grammar.proofs.Accepted.{accepted, refused-at}
 use Rattle.lex.specs.Heads.{fact_mode}
 use Rattle.scan.specs.declared.facts.Seen.{Seen}
 use Rattle.scan.specs.declared.facts.Tally.{Tally}
-use Rattle.scan.specs.declared.Scan.{Scan}
-use Rattle.scan.specs.Scan.{scan_told, ScanIs}
+use Rattle.scan.specs.declared.Counted.{Counted}
+use Rattle.refusal.specs.declared.Refusal.{Refusal}
+use Rattle.std.specs.Prelude.{Option, Some, None, Result}
+use Rattle.scan.specs.Scan.{counted_as, scan_told, ScanIs}
 use Rattle.scan.specs.code.Facts as code
-use Rattle.scan.specs.code.Facts.{seen_fact, FactFits, tally_of, later_other, with_fact, Sized, FactsKept, other_said, FirstIs, Tallied, with_facts}
-use Rattle.scan.specs.code.Facts.{Going, verdict_of}
+use Rattle.scan.specs.code.Facts.{seen_fact, FactFits, tally_of, later, later_other, with_fact, Sized, FactsKept, other_said, FirstIs, Tallied, with_facts}
+use Rattle.scan.specs.code.Facts.{Going, other_or, verdict_of}
 use Rattle.limits.specs.Limits.{most_text_bytes}
 
 -- one fact more, as the code makes it
-pub one-fact : (t : List ℕ) (c : Tally) (x : Seen) → c.facts ≡ 0 → tally_of 1 x.start x.end x.width x.symbols 65536 ≡ with_fact t c x
+pub one-fact : (t : List ℕ) (c : Tally) (x : Seen) → c.facts ≡ 0 → tally_of 1 x.start x.end x.width x.symbols None ≡ with_fact t c x
 unfolding with_fact
 one-fact t c x e = rw (eq-eqb c.facts 0 e)
 
-pub one_more : (t : List ℕ) (c : Tally) (x : Seen) {other : ℕ} → (c.facts ≡ 0 → ⊥) → other ≡ later_other t c x
+pub one_more : (t : List ℕ) (c : Tally) (x : Seen) {other : Option ℕ} → (c.facts ≡ 0 → ⊥) → other ≡ later_other t c x
     → tally_of (c.facts + 1) c.start c.end c.width (c.symbols + x.symbols) other ≡ with_fact t c x
 unfolding with_fact
 one_more t c x n e = rw (ne_eqb c.facts 0 n, e)
@@ -65,57 +67,51 @@ symbols-more (f ∷ fs) g =
 apart : {A : Type 0} {k : ℕ} → found k ≡ none → A
 apart e = absurd (let z : ◌≡◌ {A = ℕ} 0 1 = cc in omega arith)
 
-none_said : (other : ℕ) → none ≡ other_said other → ltb other 65536 ≡ false
-none_said other e = by (ltb other 65536) e
-  where
-    by : (b : Bool) → none ≡ cond b (found other) none → b ≡ false
-    by true h = apart (sym h)
-    by false h = refl
-
-found-said : (other k : ℕ) → found k ≡ other_said other → ltb other 65536 ≡ true
-found-said other k e = by (ltb other 65536) e
-  where
-    by : (b : Bool) → found k ≡ cond b (found other) none → b ≡ true
-    by true h = refl
-    by false h = apart h
-
-module _ (t : List ℕ) (f g : Fact) (other : ℕ) (h : g.start < 65536) where
+module _ (t : List ℕ) (f g : Fact) where
   -- one fact more: the one before, or this one, or still none
-  abbrev next : ℕ
-  next = cond (ltb other 65536) other (cond (alike t g f) other g.start)
+  abbrev next : Option ℕ → Option ℕ
+  next other = later other (cond (alike t g f) None (Some g.start))
 
-  other-more : (fs : List Fact) → other_than t f fs ≡ other_said other → other_than t f (fs ++ (g ∷ [])) ≡ other_said next
+  other-more : (other : Option ℕ) (fs : List Fact) → other_than t f fs ≡ other_said other → other_than t f (fs ++ (g ∷ [])) ≡ other_said (next other)
   unfolding other_than
-  other-more [] e = rw (none_said other e) (by (alike t g f))
+  other-more (Some o) [] e = apart (sym e)
+  other-more None [] e = by (alike t g f)
     where
-      by : (b : Bool) → cond b none (found g.start) ≡ other_said (cond b other g.start)
-      by true = e
-      by false = rw (lt-ltb g.start 65536 h)
-  other-more (x ∷ fs) e = by (alike t x f) (other-more fs) e
+      by : (b : Bool) → cond b none (found g.start) ≡ other_said (cond b None (Some g.start))
+      by true = refl
+      by false = refl
+  other-more (Some o) (x ∷ fs) e = by (alike t x f) (other-more (Some o) fs) e
     where
-      by : (b : Bool) → (other_than t f fs ≡ other_said other → other_than t f (fs ++ (g ∷ [])) ≡ other_said next)
-          → cond b (other_than t f fs) (found x.start) ≡ other_said other
-          → cond b (other_than t f (fs ++ (g ∷ []))) (found x.start) ≡ other_said next
+      by : (b : Bool) → (other_than t f fs ≡ found o → other_than t f (fs ++ (g ∷ [])) ≡ found o)
+          → cond b (other_than t f fs) (found x.start) ≡ found o
+          → cond b (other_than t f (fs ++ (g ∷ []))) (found x.start) ≡ found o
       by true k q = k q
-      by false k q = rw (found-said other x.start q) q
+      by false k q = q
+  other-more None (x ∷ fs) e = by (alike t x f) (other-more None fs) e
+    where
+      by : (b : Bool) → (other_than t f fs ≡ none → other_than t f (fs ++ (g ∷ [])) ≡ other_said (next None))
+          → cond b (other_than t f fs) (found x.start) ≡ none
+          → cond b (other_than t f (fs ++ (g ∷ []))) (found x.start) ≡ other_said (next None)
+      by true k q = k q
+      by false k q = apart q
 
 -- the count, one fact further
-tallied-more : (t : List ℕ) (fs : List Fact) (c : Tally) (x : Seen) (out : List Symbol) → length out ≡ x.symbols → x.start < 65536 → Tallied t fs c
+tallied-more : (t : List ℕ) (fs : List Fact) (c : Tally) (x : Seen) (out : List Symbol) → length out ≡ x.symbols → Tallied t fs c
     → Tallied t (fs ++ (seen_fact x out ∷ [])) (with_fact t c x)
 unfolding other_in other_than flatten later_other
-tallied-more t [] c x out n h T =
+tallied-more t [] c x out n T =
     subst (Tallied t (seen_fact x out ∷ [])) (one-fact t c x (sym T.number))
     (record { number = refl; symbols = length-append out [] ∙ omega (arith, n); first = (refl, refl, refl); other = refl })
-tallied-more t (f ∷ fs) c x out n h T =
+tallied-more t (f ∷ fs) c x out n T =
     let i = T.first in
     let a : alike t (seen_fact x out) f ≡ code.like_first t c x = rw (i.0, i.1, i.2) in
-    let o : cond (ltb c.other 65536) c.other (cond (alike t (seen_fact x out) f) c.other x.start) ≡ later_other t c x = rw a in
+    let o : next t f (seen_fact x out) c.other ≡ later_other t c x = rw a in
     subst (Tallied t ((f ∷ fs) ++ (seen_fact x out ∷ []))) (one_more t c x (λ e. omega (arith, T.number)) o)
     (record {
       number = length-append (f ∷ fs) (seen_fact x out ∷ []) ∙ ap (λ (k : ℕ). k + 1) T.number;
       symbols = symbols-more (f ∷ fs) (seen_fact x out) ∙ ap₂ ◌+◌ T.symbols n;
       first = i;
-      other = other-more t f (seen_fact x out) c.other h fs T.other;
+      other = other-more t f (seen_fact x out) c.other fs T.other;
     })
 
 width_is : (fs : List Fact) (c : Tally) → FirstIs fs c → width_of fs ≡ c.width
@@ -134,12 +130,12 @@ module _ (t : List ℕ) (at : ℕ) (c : Tally) (G : Going t at (eqb c.facts 0) c
   some : (fs : List Fact) (g : Fact) {c' : Tally} → Tallied t (fs ++ (g ∷ [])) c' → eqb c'.facts 0 ≡ false
   some fs g {c'} T = ne_eqb c'.facts 0 (λ e. omega (arith, T.number, length-append fs (g ∷ [])))
 
-  pub fact-more : (x : Seen) {c' : Tally} → FactFits t at (eqb c.facts 0) x → x.start < 65536 → c' ≡ with_fact t c x
+  pub fact-more : (x : Seen) {c' : Tally} → FactFits t at (eqb c.facts 0) x → c' ≡ with_fact t c x
       → Going t x.next (eqb c'.facts 0) c'
-  fact-more x {c'} F h q =
+  fact-more x {c'} F q =
       let g = seen_fact x F.out in
       let T : Tallied t (G.facts ++ (g ∷ [])) c' =
-      subst (Tallied t (G.facts ++ (g ∷ []))) (sym q) (tallied-more t G.facts c x F.out F.count h G.counts) in
+      subst (Tallied t (G.facts ++ (g ∷ []))) (sym q) (tallied-more t G.facts c x F.out F.count G.counts) in
       record {
         facts = G.facts ++ (g ∷ []);
         counts = T;
@@ -150,26 +146,22 @@ module _ (t : List ℕ) (at : ℕ) (c : Tally) (G : Going t at (eqb c.facts 0) c
             ∙ ap (λ (b : Bool). with_facts (G.facts ++ (g ∷ [])) (run (drop x.next t) (fact_mode b) nothing x.next)) (sym (some G.facts g T));
       }
 
-  pub all_read : length t ≤ most_text_bytes → {r : Scan} → run (drop at t) (fact_mode (eqb c.facts 0)) nothing at ≡ reads []
+  pub all_read : length t ≤ most_text_bytes → {r : Result Counted Refusal} → run (drop at t) (fact_mode (eqb c.facts 0)) nothing at ≡ reads []
       → scan_told r ≡ verdict_of c → ScanIs t r
-  all_read h {r} e q = by (ltb c.other 65536) refl
+  all_read h {r} e q = by c.other G.counts.other q
     where
       text : Text t G.facts
       text = (accepted t G.facts).0 (G.same ∙ ap (with_facts G.facts) e ∙ with-reads G.facts)
 
-      by : (b : Bool) → ltb c.other 65536 ≡ b → ScanIs t r
-      by true l = record {
-        says = refuse (refused reason.Other input.Text c.other);
-        rule = other-fact {k = c.other} h text (G.counts.other ∙ rw l);
-        answer = q ∙ rw l;
-      }
-      by false l = record {
+      by : (o : Option ℕ) → other_in t G.facts ≡ other_said o → scan_told r ≡ other_or o (counted_as c.facts c.width c.symbols) → ScanIs t r
+      by (Some p) l a = record { says = refuse (refused reason.Other input.Text p); rule = other-fact {k = p} h text l; answer = a }
+      by None l a = record {
         says = read G.facts;
-        rule = taken h text (G.counts.other ∙ rw l);
-        answer = q ∙ rw (l, G.counts.number, G.counts.symbols, width_is G.facts c G.counts.first);
+        rule = taken h text l;
+        answer = a ∙ rw (G.counts.number, G.counts.symbols, width_is G.facts c G.counts.first);
       }
 
-  pub stops-there : length t ≤ most_text_bytes → {r : Scan} (p : ℕ) → run (drop at t) (fact_mode (eqb c.facts 0)) nothing at ≡ stops p
+  pub stops-there : length t ≤ most_text_bytes → {r : Result Counted Refusal} (p : ℕ) → run (drop at t) (fact_mode (eqb c.facts 0)) nothing at ≡ stops p
       → scan_told r ≡ refuse (refused reason.Text input.Text p) → ScanIs t r
   stops-there h p e q =
       record {
@@ -178,7 +170,7 @@ module _ (t : List ℕ) (at : ℕ) (c : Tally) (G : Going t at (eqb c.facts 0) c
         answer = q;
       }
 
-pub over-bytes : (t : List ℕ) {r : Scan} → most_text_bytes < length t → scan_told r ≡ refuse (refused reason.Bytes input.Text 0) → ScanIs t r
+pub over-bytes : (t : List ℕ) {r : Result Counted Refusal} → most_text_bytes < length t → scan_told r ≡ refuse (refused reason.Bytes input.Text 0) → ScanIs t r
 over-bytes t h q = record { says = refuse (refused reason.Bytes input.Text 0); rule = too_long h; answer = q }
 
 -- the numbers

@@ -11,11 +11,10 @@ use Rattle.grammar.specs.Reader.{closed, stop, Work, work, nothing, Out, stops, 
 use Rattle.lex.specs.Heads.{fact_mode, Heads, Closes}
 use Rattle.lex.specs.declared.fact.Head.{Head}
 use Rattle.lex.specs.declared.fact.Head.TheVariants as head
-use Rattle.lex.specs.declared.fact.FactEnd.{FactEnd}
-use Rattle.lex.specs.declared.fact.FactEnd.TheVariants as fact-end
+use Rattle.lex.specs.declared.Stop.{Stop}
+use Rattle.std.specs.Prelude.{Option, Result, Ok, Err}
 use Rattle.scan.specs.declared.arguments.Arguments.{Arguments}
-use Rattle.scan.specs.declared.arguments.Arguments.TheVariants as arguments
-use Rattle.scan.specs.declared.facts.FactRead.{FactRead}
+use Rattle.scan.specs.declared.facts.Seen.{Seen}
 use Rattle.scan.specs.code.Arguments.{Whole, arguments_at, Reads}
 use Rattle.scan.specs.code.Facts.{FactFits, FactIs}
 use Rattle.limits.specs.Limits.{most_text_bytes}
@@ -37,11 +36,20 @@ module _ (t : List ℕ) (at : ℕ) (first : Bool) {r : Head} (H : Heads t at fir
     pub open-within : e < length t
     open-within = (is-head q).reaches.2
 
-    module _ {a : Arguments} (A : Reads t (e + 1) a) where
-      pub no_arguments : {p : ℕ} → a ≡ arguments.Stop p → (w : Work) → whole w ≡ stops p
+    module _ {a : Result Arguments Stop} (A : Reads t (e + 1) a) where
+      pub no_arguments : {p : Stop} → a ≡ Err p → (w : Work) → whole w ≡ stops p.at
       no_arguments {p} i w = (is-head q).same w ∙ subst (Reads t (e + 1)) i A s e
 
-      module _ {u d n : ℕ} (i : a ≡ arguments.Whole u d n) where
+      module _ {v : Arguments} (i : a ≡ Ok v) where
+        abbrev u : ℕ
+        u = v.next
+
+        abbrev d : ℕ
+        d = v.last
+
+        abbrev n : ℕ
+        n = v.symbols
+
         args : (e + 1 < u) × Whole (arguments_at t (e + 1)) t u d n
         args = subst (Reads t (e + 1)) i A
 
@@ -51,14 +59,14 @@ module _ (t : List ℕ) (at : ℕ) (first : Bool) {r : Head} (H : Heads t at fir
         closing : (w : Work) → whole w ≡ run (drop u t) closed (work s e d [] args.1.out) u
         closing w = (is-head q).same w ∙ args.1.same s e
 
-        module _ {z : FactEnd} (Z : Closes t u z) where
-          is-end : {x : FactEnd} → z ≡ x → Closes t u x
+        module _ {z : Result ℕ Stop} (Z : Closes t u z) where
+          is-end : {x : Result ℕ Stop} → z ≡ x → Closes t u x
           is-end j = subst (Closes t u) j Z
 
-          pub no_end : {p : ℕ} → z ≡ fact-end.Stop p → (w : Work) → whole w ≡ stops p
+          pub no_end : {p : Stop} → z ≡ Err p → (w : Work) → whole w ≡ stops p.at
           no_end j w = closing w ∙ (is-end j).same (work s e d [] args.1.out)
 
-          pub fact-fits : {next : ℕ} → z ≡ fact-end.Full next → FactFits t at first (record { start = s; end = e; width = d + 1; symbols = n; next = next })
+          pub fact-fits : {next : ℕ} → z ≡ Ok next → FactFits t at first (record { start = s; end = e; width = d + 1; symbols = n; next = next })
           fact-fits {next} j =
               let x = args in
               let y = is-end j in
@@ -76,5 +84,5 @@ module _ (t : List ℕ) (at : ℕ) (first : Bool) {r : Head} (H : Heads t at fir
                     ∙ ap (λ (k : ℕ). fact_before (fact s e k x.1.out) (run (drop next t) stop nothing next)) (sym (add-one d));
               }
 
-pub fact-is : (t : List ℕ) (at : ℕ) (first : Bool) {r x : FactRead} → FactIs t at first r → r ≡ x → FactIs t at first x
+pub fact-is : (t : List ℕ) (at : ℕ) (first : Bool) {r x : Result (Option Seen) Stop} → FactIs t at first r → r ≡ x → FactIs t at first x
 fact-is t at first c e = subst (FactIs t at first) e c

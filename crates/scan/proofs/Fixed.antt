@@ -11,17 +11,17 @@ use Rattle.grammar.specs.Grammar.{Fact}
 use Rattle.grammar.specs.Meaning.{width_of, symbols_of}
 use Rattle.grammar.proofs.Fixed.{taken-fixed}
 use Rattle.scan.specs.declared.Counted.{Counted}
-use Rattle.scan.specs.declared.Scan.{Scan}
-use Rattle.scan.specs.declared.Scan.TheVariants as scan
+use Rattle.std.specs.Prelude.{Result, Ok, Err}
+use Rattle.refusal.specs.declared.Refusal.{Refusal}
 use Rattle.scan.specs.Scan.{counted_as, counted_in, scan_told, ScanIs, Counts}
 
-told-apart : (a b : Scan) → scan_told a ≡ scan_told b → a ≡ b
-told-apart (scan.Facts c) (scan.Facts d) e = ap scan.Facts cc
-told-apart (scan.Facts c) (scan.Refused g) e = absurd (let z : ◌≡◌ {A = ℕ} 0 1 = cc in omega arith)
-told-apart (scan.Refused f) (scan.Facts d) e = absurd (let z : ◌≡◌ {A = ℕ} 0 1 = cc in omega arith)
-told-apart (scan.Refused f) (scan.Refused g) e = ap scan.Refused (told-one (let q : told f ≡ told g = cc in q))
+told-apart : (a b : Result Counted Refusal) → scan_told a ≡ scan_told b → a ≡ b
+told-apart (Ok c) (Ok d) e = ap Ok cc
+told-apart (Ok c) (Err g) e = absurd (let z : ◌≡◌ {A = ℕ} 0 1 = cc in omega arith)
+told-apart (Err f) (Ok d) e = absurd (let z : ◌≡◌ {A = ℕ} 0 1 = cc in omega arith)
+told-apart (Err f) (Err g) e = ap Err (told-one (let q : told f ≡ told g = cc in q))
 
-pub scan-fixed : (t : List ℕ) {a b : Scan} → ScanIs t a → ScanIs t b → a ≡ b
+pub scan-fixed : (t : List ℕ) {a b : Result Counted Refusal} → ScanIs t a → ScanIs t b → a ≡ b
 scan-fixed t {a} {b} x y = told-apart a b (x.answer ∙ ap counted_in (taken-fixed t x.rule y.rule) ∙ sym y.answer)
 
 reads-one : {fs gs : List Fact} → read fs ≡ read gs → fs ≡ gs

@@ -15,14 +15,13 @@ use Rattle.grammar.proofs.Accepted.{accepted}
 use Rattle.grammar.proofs.LongLaws.{text-long}
 use Rattle.scan.specs.Scan.{counted_as, counted_in, ScanIs, Counts}
 use Rattle.scan.specs.declared.Counted.{Counted}
-use Rattle.scan.specs.declared.Scan.{Scan}
-use Rattle.scan.specs.declared.Scan.TheVariants as scan
+use Rattle.std.specs.Prelude.{Result, Ok, Err}
 use Rattle.limits.specs.Limits.{most_text_bytes}
 
-pub scan-is : (t : List ℕ) {r x : Scan} → ScanIs t r → r ≡ x → ScanIs t x
+pub scan-is : (t : List ℕ) {r x : Result Counted Refusal} → ScanIs t r → r ≡ x → ScanIs t x
 scan-is t c e = subst (ScanIs t) e c
 
-pub scan-facts : (t : List ℕ) (c : Counted) → ScanIs t (scan.Facts c) → Counts t c
+pub scan-facts : (t : List ℕ) (c : Counted) → ScanIs t (Ok c) → Counts t c
 scan-facts t c s = by s.says s.rule s.answer
   where
     by : (o : Read (List Fact)) → Taken t o → read c ≡ counted_in o → Counts t c
@@ -37,7 +36,7 @@ scan-facts t c s = by s.says s.rule s.answer
         }
     by (refuse f) x e = absurd (let z : ◌≡◌ {A = ℕ} 0 1 = cc in omega arith)
 
-pub scan-turned : (t : List ℕ) (f : Refusal) → ScanIs t (scan.Refused f) → Taken t (refuse (told f))
+pub scan-turned : (t : List ℕ) (f : Refusal) → ScanIs t (Err f) → Taken t (refuse (told f))
 scan-turned t f s = by s.says s.rule s.answer
   where
     by : (o : Read (List Fact)) → Taken t o → refuse (told f) ≡ counted_in o → Taken t (refuse (told f))

@@ -1,10 +1,10 @@
 // The arguments of a fact, read once.
-ghost use Rattle.std.specs.Prelude.{◌≡◌, ◌*◌, ◌≤◌, ◌<◌, length};
+ghost use Rattle.std.specs.Prelude.{◌≡◌, ◌+◌, true, ◌*◌, ◌≤◌, ◌<◌, length};
 ghost use Rattle.scan.specs.code.Arguments.{spot, Ready, MoveIs, Reads};
 ghost use Rattle.limits.specs.Limits.{most_text_bytes};
 
 use super::levels;
-use lex::turn;
+use lex::{Stop, turn};
 use turn::Turn;
 
 // Where the reader is inside a fact: the place, whether a term has just been read, how many names are open, the fact's complete arguments,
@@ -26,15 +26,16 @@ pub enum Move {
     Stop(usize),
 }
 
-fn spot_at(at: usize, past: bool, depth: usize, done: usize, symbols: usize) -> Spot
-    ensures { result ≡ spot at past depth done symbols }
+// After a symbol that opens no bracket.
+fn after_symbol(sp: Spot, at: usize) -> Spot
+    requires { sp.symbols ≤ most_text_bytes }
+    ensures { result ≡ spot at true sp.depth sp.done (sp.symbols + 1) }
 {
     Spot {
         at,
-        past,
-        depth,
-        done,
-        symbols,
+        past: true,
+        symbols: sp.symbols + 1,
+        ..sp
     }
 }
 
@@ -43,63 +44,88 @@ fn move_on(text: &[u8], sp: Spot, dones: &mut [u8]) -> Move
     requires { Ready text.now dones.old sp }
     ensures { MoveIs text.now dones.old sp dones.new result }
 {
-    let at = sp.at;
-    let past = sp.past;
-    let depth = sp.depth;
-    let done = sp.done;
-    let symbols = sp.symbols;
-    match turn::next_turn(text, at, past) {
-        Turn::Name(_, e) => Move::Go(spot_at(e, true, depth, done, symbols + 1)),
+    match turn::next_turn(text, sp.at, sp.past) {
+        Turn::Name(_, e) => Move::Go(after_symbol(sp, e)),
         Turn::Open(_, e) => {
-            levels::put_level(dones, depth, 0);
-            Move::Go(spot_at(e + 1, false, depth + 1, done, symbols + 1))
+            levels::put_level(dones, sp.depth, 0);
+            Move::Go(Spot {
+                at: e + 1,
+                past: false,
+                depth: sp.depth + 1,
+                symbols: sp.symbols + 1,
+                ..sp
+            })
         }
-        Turn::Variable(_, e) => Move::Go(spot_at(e, true, depth, done, symbols + 1)),
-        Turn::Number(_, e) => Move::Go(spot_at(e, true, depth, done, symbols + 1)),
+        Turn::Variable(_, e) => Move::Go(after_symbol(sp, e)),
+        Turn::Number(_, e) => Move::Go(after_symbol(sp, e)),
         Turn::Comma(p) => {
-            if depth == 0 {
-                return Move::Go(spot_at(p + 1, false, depth, done + 1, symbols));
+            let next = Spot {
+                at: p + 1,
+                past: false,
+                ..sp
+            };
+            if sp.depth == 0 {
+                return Move::Go(Spot {
+                    done: sp.done + 1,
+                    ..next
+                });
             }
-            let top = depth - 1;
+            let top = sp.depth - 1;
             let k = levels::level(dones, top);
             if 3 <= k {
                 return Move::Stop(p);
             }
             levels::put_level(dones, top, k + 1);
-            Move::Go(spot_at(p + 1, false, depth, done, symbols))
+            Move::Go(next)
         }
         Turn::Close(p) => {
-            if depth == 0 {
+            if sp.depth == 0 {
                 return Move::Closed(p + 1);
             }
-            Move::Go(spot_at(p + 1, true, depth - 1, done, symbols))
+            Move::Go(Spot {
+                at: p + 1,
+                past: true,
+                depth: sp.depth - 1,
+                ..sp
+            })
         }
         Turn::Stop(p) => Move::Stop(p),
     }
 }
 
-// A fact's arguments: the place after its bracket, how many there are, less one, and how many symbols; or where no text goes on so.
-#[derive(Drop)]
-pub enum Arguments {
-    Whole(usize, usize, usize),
-    Stop(usize),
+// A fact's arguments: the place after its bracket, how many there are, less one, and how many symbols.
+#[derive(Clone, Copy)]
+pub struct Arguments {
+    pub next: usize,
+    pub last: usize,
+    pub symbols: usize,
 }
 
-pub fn read_arguments(text: &[u8], at: usize, dones: &mut [u8]) -> Arguments
+pub fn read_arguments(text: &[u8], at: usize, dones: &mut [u8]) -> Result<Arguments, Stop>
     requires { (at ≤ length text.now) × (length text.now ≤ most_text_bytes) × (length text.now < 8 * length dones.old) }
     ensures { Reads text.now at result }
 {
-    let mut sp = spot_at(at, false, 0, 0, 0);
+    let mut sp = Spot {
+        at,
+        past: false,
+        depth: 0,
+        done: 0,
+        symbols: 0,
+    };
     loop {
         match move_on(text, sp, dones) {
             Move::Go(s) => {
                 sp = s;
             }
             Move::Closed(q) => {
-                return Arguments::Whole(q, sp.done, sp.symbols);
+                return Ok(Arguments {
+                    next: q,
+                    last: sp.done,
+                    symbols: sp.symbols,
+                });
             }
             Move::Stop(p) => {
-                return Arguments::Stop(p);
+                return Err(Stop { at: p });
             }
         }
     }

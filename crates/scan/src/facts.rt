@@ -4,9 +4,8 @@ ghost use Rattle.scan.specs.code.Facts.{FactIs, Sized, no_facts, like_first, lat
 ghost use Rattle.limits.specs.Limits.{most_text_bytes};
 
 use super::arguments;
-use arguments::Arguments;
-use fact::{FactEnd, Head};
-use lex::{fact, name};
+use fact::Head;
+use lex::{Stop, fact, name};
 
 // A fact that is read: where its predicate's name stands, its number of arguments and of symbols, the place after its full stop.
 #[derive(Clone, Copy)]
@@ -18,40 +17,35 @@ pub struct Seen {
     pub next: usize,
 }
 
-// The next fact; or the text ends; or no text goes on so.
-#[derive(Drop)]
-pub enum FactRead {
-    End,
-    Fact(Seen),
-    Stop(usize),
-}
-
-// The next fact, from the start of the text on (`first`) or from just after a full stop.
-pub fn fact_from(text: &[u8], at: usize, first: bool, dones: &mut [u8]) -> FactRead
+// The next fact, from the start of the text on (`first`) or from just after a full stop; None: the text ends.
+pub fn fact_from(
+    text: &[u8],
+    at: usize,
+    first: bool,
+    dones: &mut [u8],
+) -> Result<Option<Seen>, Stop>
     requires { (at ≤ length text.now) × (length text.now ≤ most_text_bytes) × (length text.now < 8 * length dones.old) }
     ensures { FactIs text.now at first result }
 {
     match fact::next_fact(text, at, first) {
-        Head::End => FactRead::End,
-        Head::Stop(p) => FactRead::Stop(p),
-        Head::Open(start, end) => match arguments::read_arguments(text, end + 1, dones) {
-            Arguments::Stop(p) => FactRead::Stop(p),
-            Arguments::Whole(q, last, symbols) => match fact::fact_end(text, q) {
-                FactEnd::Stop(p) => FactRead::Stop(p),
-                FactEnd::Full(next) => FactRead::Fact(Seen {
-                    start,
-                    end,
-                    width: last + 1,
-                    symbols,
-                    next,
-                }),
-            },
-        },
+        Head::End => Ok(None),
+        Head::Stop(p) => Err(Stop { at: p }),
+        Head::Open(start, end) => {
+            let args = arguments::read_arguments(text, end + 1, dones)?;
+            let next = fact::fact_end(text, args.next)?;
+            Ok(Some(Seen {
+                start,
+                end,
+                width: args.last + 1,
+                symbols: args.symbols,
+                next,
+            }))
+        }
     }
 }
 
 // The facts so far: how many, the first one's place and number of arguments, the symbols of all, and where the first fact of another
-// predicate or width begins, 65,536 where none does.
+// predicate or width begins.
 #[derive(Clone, Copy)]
 pub struct Tally {
     pub facts: usize,
@@ -59,7 +53,7 @@ pub struct Tally {
     pub end: usize,
     pub width: usize,
     pub symbols: usize,
-    pub other: usize,
+    pub other: Option<usize>,
 }
 
 pub fn no_facts() -> Tally
@@ -71,7 +65,7 @@ pub fn no_facts() -> Tally
         end: 0,
         width: 0,
         symbols: 0,
-        other: 65536,
+        other: None,
     }
 }
 
@@ -80,29 +74,25 @@ fn like_first(text: &[u8], tally: Tally, seen: Seen) -> bool
     requires { Sized text.now tally seen }
     ensures { result ≡ like_first text.now tally seen }
 {
-    if seen.width != tally.width {
-        return false;
-    }
-    let s = seen.start;
-    let e = seen.end;
-    let a = tally.start;
-    let b = tally.end;
-    name::same_bytes(&text[s..e], &text[a..b])
+    seen.width == tally.width
+        && name::same_bytes(&text[seen.start..seen.end], &text[tally.start..tally.end])
 }
 
 // The first fact that is another: one before, or this one, or still none.
-fn first_other(text: &[u8], tally: Tally, seen: Seen) -> usize
+fn first_other(text: &[u8], tally: Tally, seen: Seen) -> Option<usize>
     requires { Sized text.now tally seen }
     ensures { result ≡ later_other text.now tally seen }
 {
-    let other = tally.other;
-    if other < 65536 {
-        return other;
+    match tally.other {
+        Some(place) => Some(place),
+        None => {
+            if like_first(text, tally, seen) {
+                None
+            } else {
+                Some(seen.start)
+            }
+        }
     }
-    if like_first(text, tally, seen) {
-        return other;
-    }
-    seen.start
 }
 
 // One fact more.
@@ -110,24 +100,21 @@ pub fn count_fact(text: &[u8], tally: Tally, seen: Seen) -> Tally
     requires { Sized text.now tally seen }
     ensures { result ≡ with_fact text.now tally seen }
 {
-    let facts = tally.facts;
-    if facts == 0 {
+    if tally.facts == 0 {
         return Tally {
             facts: 1,
             start: seen.start,
             end: seen.end,
             width: seen.width,
             symbols: seen.symbols,
-            other: 65536,
+            other: None,
         };
     }
     let other = first_other(text, tally, seen);
     Tally {
-        facts: facts + 1,
-        start: tally.start,
-        end: tally.end,
-        width: tally.width,
+        facts: tally.facts + 1,
         symbols: tally.symbols + seen.symbols,
         other,
+        ..tally
     }
 }

@@ -3,12 +3,6 @@
 ghost use Rattle.std.specs.Prelude.{◌≡◌, ◌/◌, ◌%◌, ◌≤◌, ◌<◌, length};
 ghost use Rattle.scan.specs.code.Levels.{weight_of, level_at, stored};
 
-fn wide(byte: u8) -> usize
-    ensures { (result ≡ byte) × (result < 256) }
-{
-    byte as usize
-}
-
 // What one counts in its byte.
 fn weight(level: usize) -> usize
     ensures { (result ≡ weight_of (level % 4)) × (1 ≤ result) × (result ≤ 64) }
@@ -25,7 +19,7 @@ pub fn level(dones: &[u8], level: usize) -> usize
     requires { level / 4 < length dones.now }
     ensures { (result ≡ level_at dones.now level) × (result < 4) }
 {
-    let byte = wide(dones[level / 4]);
+    let byte = usize::from(dones[level / 4]);
     byte / weight(level) % 4
 }
 
@@ -35,7 +29,7 @@ pub fn put_level(dones: &mut [u8], level: usize, done: usize)
 {
     let i = level / 4;
     let w = weight(level);
-    let byte = wide(dones[i]);
+    let byte = usize::from(dones[i]);
     let others = byte - byte / w % 4 * w;
     dones[i] = (others + done * w) as u8;
 }

@@ -1,6 +1,6 @@
 -- A fact's arguments, read once, by the reader. Of the work under way the code keeps only counts: of the open names' complete arguments, of
 -- the fact's, of its symbols.
-use Rattle.std.specs.Prelude.{ℕ, ◌*◌, ◌≤◌, ◌<◌, ◌≡◌, Bool, List, [], map, length, drop}
+use Rattle.std.specs.Prelude.{ℕ, ◌*◌, ◌≤◌, ◌<◌, ◌≡◌, Bool, List, [], map, length, drop, Result, Ok, Err}
 use Rattle.grammar.specs.Grammar.{Symbol}
 use Rattle.grammar.specs.Reader.{arg, closed, Frame, work, Out, stops, run}
 use Rattle.lex.specs.Turns.{term_mode}
@@ -9,7 +9,7 @@ use Rattle.scan.specs.declared.arguments.Spot.{Spot}
 use Rattle.scan.specs.declared.arguments.Move.{Move}
 use Rattle.scan.specs.declared.arguments.Move.TheVariants as move
 use Rattle.scan.specs.declared.arguments.Arguments.{Arguments}
-use Rattle.scan.specs.declared.arguments.Arguments.TheVariants as arguments
+use Rattle.lex.specs.declared.Stop.{Stop}
 use Rattle.limits.specs.Limits.{most_text_bytes}
 
 abbrev pub spot : ℕ → Bool → ℕ → ℕ → ℕ → Spot
@@ -71,6 +71,6 @@ MoveIs t dones sp dones' r = (F : ℕ → ℕ → Out) → UnderSpot F t dones s
 abbrev pub arguments_at : List ℕ → ℕ → ℕ → ℕ → Out
 arguments_at t at s e = run (drop at t) arg (work s e 0 [] []) at
 
-abbrev pub Reads : List ℕ → ℕ → Arguments → Type 0
-Reads t at (arguments.Whole q d n) = (at < q) × Whole (arguments_at t at) t q d n
-Reads t at (arguments.Stop p) = Stopped (arguments_at t at) p
+abbrev pub Reads : List ℕ → ℕ → Result Arguments Stop → Type 0
+Reads t at (Ok a) = (at < a.next) × Whole (arguments_at t at) t a.next a.last a.symbols
+Reads t at (Err p) = Stopped (arguments_at t at) p.at

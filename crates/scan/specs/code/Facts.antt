@@ -1,7 +1,7 @@
 -- The facts of a text, read and counted.
-use Rattle.std.specs.Prelude.{ℕ, ◌+◌, ◌*◌, ◌≤◌, ◌<◌, ◌≡◌, Bool, cond, List, [], ◌∷◌, eqb, ltb, length, drop}
+use Rattle.std.specs.Prelude.{ℕ, ◌+◌, ◌*◌, ◌≤◌, ◌<◌, ◌≡◌, Bool, cond, List, [], ◌∷◌, eqb, length, drop, Option, Some, None, Result, Ok, Err}
 use Rattle.refusal.specs.Refusal.{refused}
-use Rattle.refusal.specs.Read.{Read, read, when}
+use Rattle.refusal.specs.Read.{Read, read, refuse}
 use Rattle.refusal.specs.declared.Reason.TheVariants as reason
 use Rattle.refusal.specs.declared.Input.TheVariants as input
 use Rattle.grammar.specs.Grammar.{Symbol, Fact, fact}
@@ -12,8 +12,7 @@ use Rattle.scan.specs.Scan.{counted_as}
 use Rattle.scan.specs.declared.Counted.{Counted}
 use Rattle.scan.specs.declared.facts.Seen.{Seen}
 use Rattle.scan.specs.declared.facts.Tally.{Tally}
-use Rattle.scan.specs.declared.facts.FactRead.{FactRead}
-use Rattle.scan.specs.declared.facts.FactRead.TheVariants as fact-read
+use Rattle.lex.specs.declared.Stop.{Stop}
 
 -- the fact that was seen, with its symbols, which are not kept
 abbrev pub seen_fact : Seen → List Symbol → Fact
@@ -28,16 +27,16 @@ pub record FactFits (t : List ℕ) (at : ℕ) (first : Bool) (x : Seen) : Type 0
   pub count : length out ≡ x.symbols
   pub same : (w : Work) → run (drop at t) (fact_mode first) w at ≡ fact_before (seen_fact x out) (run (drop x.next t) stop nothing x.next)
 
-abbrev pub FactIs : List ℕ → ℕ → Bool → FactRead → Type 0
-FactIs t at first fact-read.End = (w : Work) → run (drop at t) (fact_mode first) w at ≡ reads []
-FactIs t at first (fact-read.Fact x) = FactFits t at first x
-FactIs t at first (fact-read.Stop p) = (w : Work) → run (drop at t) (fact_mode first) w at ≡ stops p
+abbrev pub FactIs : List ℕ → ℕ → Bool → Result (Option Seen) Stop → Type 0
+FactIs t at first (Ok None) = (w : Work) → run (drop at t) (fact_mode first) w at ≡ reads []
+FactIs t at first (Ok (Some x)) = FactFits t at first x
+FactIs t at first (Err p) = (w : Work) → run (drop at t) (fact_mode first) w at ≡ stops p.at
 
-abbrev pub tally_of : ℕ → ℕ → ℕ → ℕ → ℕ → ℕ → Tally
+abbrev pub tally_of : ℕ → ℕ → ℕ → ℕ → ℕ → Option ℕ → Tally
 tally_of n s e w m o = record { facts = n; start = s; end = e; width = w; symbols = m; other = o }
 
 abbrev pub no_facts : Tally
-no_facts = tally_of 0 0 0 0 0 65536
+no_facts = tally_of 0 0 0 0 0 None
 
 -- the first fact, as far as it is kept
 abbrev pub first_of : Tally → Fact
@@ -47,13 +46,17 @@ abbrev pub like_first : List ℕ → Tally → Seen → Bool
 like_first t c x = alike t (seen_fact x []) (first_of c)
 
 -- where the first other fact begins: one before, or this one, or none
-unfoldable pub later_other : List ℕ → Tally → Seen → ℕ
-later_other t c x = cond (ltb c.other 65536) c.other (cond (like_first t c x) c.other x.start)
+abbrev pub later : Option ℕ → Option ℕ → Option ℕ
+later (Some p) o = Some p
+later None o = o
+
+unfoldable pub later_other : List ℕ → Tally → Seen → Option ℕ
+later_other t c x = later c.other (cond (like_first t c x) None (Some x.start))
 
 -- one fact more
 unfoldable pub with_fact : List ℕ → Tally → Seen → Tally
 with_fact text tally seen =
-    cond (eqb tally.facts 0) (tally_of 1 seen.start seen.end seen.width seen.symbols 65536)
+    cond (eqb tally.facts 0) (tally_of 1 seen.start seen.end seen.width seen.symbols None)
     (tally_of (tally.facts + 1) tally.start tally.end tally.width (tally.symbols + seen.symbols) (later_other text tally seen))
 
 -- the numbers: nothing is out of range
@@ -69,9 +72,10 @@ pub record FactsKept (t : List ℕ) (at : ℕ) (c : Tally) : Type 0 where
   pub few : c.facts ≤ at
   pub sum : c.symbols ≤ 65535 * c.facts
 
--- a place, or 65,536 where there is none
-abbrev pub other_said : ℕ → Found
-other_said n = cond (ltb n 65536) (found n) none
+-- where it begins
+abbrev pub other_said : Option ℕ → Found
+other_said (Some p) = found p
+other_said None = none
 
 -- the facts so far, as far as they are kept
 abbrev pub FirstIs : List Fact → Tally → Type 0
@@ -95,5 +99,9 @@ pub record Going (t : List ℕ) (at : ℕ) (first : Bool) (c : Tally) : Type 0 w
   pub same : text_of t ≡ with_facts facts (run (drop at t) (fact_mode first) nothing at)
 
 -- what is answered for facts that are counted
+abbrev pub other_or : Option ℕ → Counted → Read Counted
+other_or (Some p) n = refuse (refused reason.Other input.Text p)
+other_or None n = read n
+
 abbrev pub verdict_of : Tally → Read Counted
-verdict_of c = when (ltb c.other 65536) (refused reason.Other input.Text c.other) (read (counted_as c.facts c.width c.symbols))
+verdict_of c = other_or c.other (counted_as c.facts c.width c.symbols)

@@ -1,15 +1,14 @@
-use mathlib.Core.Path.{refl, ap}
+use mathlib.Core.Path.{refl}
 use native.Mathlib.Omega.{arith}
 use borrow.Author.Rules.{rules}
-use Rattle.scan.specs.declared.arguments.Spot.{Spot}
 use Rattle.scan.proofs.MoveLaws.{none_yet, moves-is}
 use Rattle.scan.proofs.arguments.read_arguments.Goals as goal
 
 pub loop-s-init : goal.loop-s-init
 loop-s-init c =
     let a = c.args in
-    let z = none_yet a.text.now a.dones.now a.at c.spot_at-sp.ensures (omega arith) (omega arith) (omega arith) in
-    (omega (arith, ap (λ (v : Spot). v.at) c.spot_at-sp.ensures), z.0, z.1, refl)
+    let z = none_yet a.text.now a.dones.now a.at refl (omega arith) (omega arith) (omega arith) in
+    (omega arith, z.0, z.1, refl)
 
 pub move_on-requires : goal.move_on-requires
 move_on-requires c = c.loop-s.invariant.1

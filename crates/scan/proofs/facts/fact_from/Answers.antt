@@ -1,5 +1,6 @@
 use native.Mathlib.Omega.{arith}
 use borrow.Author.Rules.{rules}
+use Rattle.std.proofs.lemmas.Result.{err_from_is_err_and}
 use Rattle.scan.proofs.FactLaws.{no_more, no-head, open-within, no_arguments, last-small, no_end, fact-fits}
 use Rattle.scan.proofs.facts.fact_from.Goals as goal
 
@@ -16,7 +17,7 @@ read_arguments-requires c =
 pub overflow_add-result : goal.overflow_add-result
 overflow_add-result c =
     let l = last-small c.args.text.now c.args.at c.args.first c.next_fact.ensures c.in-Open.is c.read_arguments.ensures
-    c.in-Whole.is (omega arith) in
+    c.in_ok-args-in-Open.was (omega arith) in
     search rules
 
 pub returns-in-End : goal.returns-in-End
@@ -27,17 +28,22 @@ pub returns-in-Stop : goal.returns-in-Stop
 returns-in-Stop c =
     no-head c.args.text.now c.args.at c.args.first c.next_fact.ensures c.in-Stop.is
 
-pub returns-in-Stop-read_arguments : goal.returns-in-Stop-read_arguments
-returns-in-Stop-read_arguments c =
-    no_arguments c.args.text.now c.args.at c.args.first c.next_fact.ensures c.in-Open.is c.read_arguments.ensures
-    c.in-Stop-read_arguments.is
+pub returns-in_err-args-in-Open : goal.returns-in_err-args-in-Open
+returns-in_err-args-in-Open c =
+    let p = err_from_is_err_and c.from_residual.result c.from_residual.ensures.1 in
+    rw (p.1, p.2)
+    (no_arguments c.args.text.now c.args.at c.args.first c.next_fact.ensures c.in-Open.is c.read_arguments.ensures
+    c.in_err-args-in-Open.was)
 
-pub returns-in-Stop-fact_end : goal.returns-in-Stop-fact_end
-returns-in-Stop-fact_end c =
-    no_end c.args.text.now c.args.at c.args.first c.next_fact.ensures c.in-Open.is c.read_arguments.ensures c.in-Whole.is
-    c.fact_end.ensures c.in-Stop-fact_end.is
+pub returns-in_err-next-in-Open : goal.returns-in_err-next-in-Open
+returns-in_err-next-in-Open c =
+    let r = c.from_residual-in_err-next-in-Open in
+    let p = err_from_is_err_and r.result r.ensures.1 in
+    rw (p.1, p.2)
+    (no_end c.args.text.now c.args.at c.args.first c.next_fact.ensures c.in-Open.is c.read_arguments.ensures c.in_ok-args-in-Open.was
+    c.fact_end.ensures c.in_err-next-in-Open.was)
 
-pub returns-in-Full : goal.returns-in-Full
-returns-in-Full c =
-    fact-fits c.args.text.now c.args.at c.args.first c.next_fact.ensures c.in-Open.is c.read_arguments.ensures c.in-Whole.is
-    c.fact_end.ensures c.in-Full.is
+pub returns-in_ok-next-in-Open : goal.returns-in_ok-next-in-Open
+returns-in_ok-next-in-Open c =
+    fact-fits c.args.text.now c.args.at c.args.first c.next_fact.ensures c.in-Open.is c.read_arguments.ensures c.in_ok-args-in-Open.was
+    c.fact_end.ensures c.in_ok-next-in-Open.was
