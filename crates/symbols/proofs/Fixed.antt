@@ -8,32 +8,30 @@ use Rattle.lex.specs.Heads.{head_of, end_of}
 use Rattle.lex.specs.declared.turn.Turn.{Turn}
 use Rattle.lex.specs.declared.fact.Head.{Head}
 use Rattle.lex.specs.declared.fact.Head.TheVariants as head
-use Rattle.lex.specs.declared.fact.FactEnd.{FactEnd}
-use Rattle.lex.specs.declared.fact.FactEnd.TheVariants as fact-end
+use Rattle.lex.specs.declared.Stop.{Stop}
+use Rattle.std.specs.Prelude.{Option, Some, None, Result, Ok, Err}
 use Rattle.lex.proofs.Fixed.{turn-fixed}
 use Rattle.symbols.specs.Next.{spot, RowEnds, Begins, RowAhead, next_row, last_row, After, NextIs, too-deep, stands}
 use Rattle.symbols.specs.Next as next
 use Rattle.symbols.specs.declared.Spot.{Spot}
-use Rattle.symbols.specs.declared.RowEnd.{RowEnd}
-use Rattle.symbols.specs.declared.RowEnd.TheVariants as row-end
 use Rattle.symbols.specs.declared.Ahead.{Ahead}
 
 -- the same as functions of what stands there
-abbrev headed : Head → RowEnd
-headed (head.Open s e) = row-end.Next (e + 1)
-headed head.End = row-end.Last
-headed (head.Stop p) = row-end.Last
+abbrev headed : Head → Option ℕ
+headed (head.Open s e) = Some (e + 1)
+headed head.End = None
+headed (head.Stop p) = None
 
-abbrev ended : List ℕ → FactEnd → RowEnd
-ended t (fact-end.Full q) = headed (head_of t q false)
-ended t (fact-end.Stop p) = row-end.Last
+abbrev ended : List ℕ → Result ℕ Stop → Option ℕ
+ended t (Ok q) = headed (head_of t q false)
+ended t (Err p) = None
 
 abbrev started : Head → Spot
 started (head.Open s e) = spot (e + 1) false 0
 started head.End = spot 0 false 0
 started (head.Stop p) = spot 0 false 0
 
-row-end-is : {t : List ℕ} {at : ℕ} {r : RowEnd} → RowEnds t at r → r ≡ ended t (end_of t at)
+row-end-is : {t : List ℕ} {at : ℕ} {r : Option ℕ} → RowEnds t at r → r ≡ ended t (end_of t at)
 row-end-is {t} (next.another c h) = ap headed h.is ∙ ap (ended t) c.is
 row-end-is {t} (next.no_more c h) = ap headed h.is ∙ ap (ended t) c.is
 row-end-is {t} (next.no-fact c h) = ap headed h.is ∙ ap (ended t) c.is
@@ -44,7 +42,7 @@ begins-is (next.opens h) = ap started h.is
 begins-is (next.empty h) = ap started h.is
 begins-is (next.no-fact h) = ap started h.is
 
-pub row-end-fixed : {t : List ℕ} {at : ℕ} {a b : RowEnd} → RowEnds t at a → RowEnds t at b → a ≡ b
+pub row-end-fixed : {t : List ℕ} {at : ℕ} {a b : Option ℕ} → RowEnds t at a → RowEnds t at b → a ≡ b
 row-end-fixed x y = row-end-is x ∙ sym (row-end-is y)
 
 pub begin-fixed : {t : List ℕ} {a b : Spot} → Begins t a → Begins t b → a ≡ b

@@ -22,15 +22,13 @@ use Rattle.lex.specs.Heads.{Heads, Closes}
 use Rattle.lex.specs.declared.turn.Turn.{Turn}
 use Rattle.lex.specs.declared.turn.Turn.TheVariants as turn
 use Rattle.lex.specs.declared.fact.Head.TheVariants as head
-use Rattle.lex.specs.declared.fact.FactEnd.TheVariants as fact-end
+use Rattle.std.specs.Prelude.{Option, Some, None, Ok}
 use Rattle.symbols.specs.Next.{spot, RowEnds, Begins, RowAhead, After, NextIs}
 use Rattle.symbols.specs.Next as next
 use Rattle.symbols.specs.code.Left.{fact_of, RowLeft, Left, LeftAfter, AheadLeft, StartLeft}
 use Rattle.symbols.specs.declared.Ahead.{Ahead}
 use Rattle.symbols.specs.declared.Ahead.TheVariants as ahead
 use Rattle.symbols.specs.declared.Spot.{Spot}
-use Rattle.symbols.specs.declared.RowEnd.{RowEnd}
-use Rattle.symbols.specs.declared.RowEnd.TheVariants as row-end
 
 -- lists that begin the same go on the same
 same_rest : {A : Type 0} (xs ys zs : List A) → xs ++ ys ≡ xs ++ zs → ys ≡ zs
@@ -84,14 +82,14 @@ unfolding on_close close_to
 close-marks t p s n k f fs out facts h e = record { held = held-close h; items = items-set (suc f.done) h; same = e }
 
 -- THE END OF A ROW
-module _ (t : List ℕ) (at q : ℕ) (c : Closes t at (fact-end.Full q)) (w : Work) (facts : List Fact) (r : run (drop at t) closed w at ≡ reads facts) where
+module _ (t : List ℕ) (at q : ℕ) (c : Closes t at (Ok q)) (w : Work) (facts : List Fact) (r : run (drop at t) closed w at ≡ reads facts) where
   full-stop : (fs : List Fact) × (run (drop q t) stop nothing q ≡ reads fs) × (facts ≡ fact_of w ∷ fs)
   full-stop = before-reads (fact_of w) (run (drop q t) stop nothing q) facts (sym (c.same w) ∙ r)
 
 reads-one : {gs hs : List Fact} → reads gs ≡ reads hs → gs ≡ hs
 reads-one e = cc
 
-pub row_reads : {t : List ℕ} {at : ℕ} {r : RowEnd} → RowEnds t at r → RowLeft t at r
+pub row_reads : {t : List ℕ} {at : ℕ} {r : Option ℕ} → RowEnds t at r → RowLeft t at r
 row_reads {t} {at} (next.another {q = q} {s = s} {e = e} c h) = (
   omega (arith, c.arrives.0, h.reaches.0, h.reaches.1),
   omega (arith, h.reaches.2),
@@ -202,7 +200,7 @@ module _ (t : List ℕ) (sp : Spot) (rest : List Item) (L : Left t sp rest) wher
         by (g ∷ fs) d r = absurd (omega arith)
 
     -- and then the next row, or nothing
-    row-left : (q : ℕ) → sp.depth ≡ 0 → RowLeft t (p + 1) (row-end.Next q) → LeftAfter t next_row (spot q false 0) rest
+    row-left : (q : ℕ) → sp.depth ≡ 0 → RowLeft t (p + 1) (Some q) → LeftAfter t next_row (spot q false 0) rest
     unfolding flatten
     row-left q z x =
         let v = L.work in
@@ -226,7 +224,7 @@ module _ (t : List ℕ) (sp : Spot) (rest : List Item) (L : Left t sp rest) wher
           };
         }
 
-    none_left : sp.depth ≡ 0 → RowLeft t (p + 1) row-end.Last → rest ≡ []
+    none_left : sp.depth ≡ 0 → RowLeft t (p + 1) None → rest ≡ []
     unfolding flatten
     none_left z x =
         let v = L.work in

@@ -9,7 +9,8 @@ use Rattle.lex.specs.Heads.{Heads, Closes}
 use Rattle.lex.specs.declared.turn.Turn.{Turn}
 use Rattle.lex.specs.declared.turn.Turn.TheVariants as turn
 use Rattle.lex.specs.declared.fact.Head.{Head}
-use Rattle.lex.specs.declared.fact.FactEnd.{FactEnd}
+use Rattle.lex.specs.declared.Stop.{Stop}
+use Rattle.std.specs.Prelude.{Result}
 use Rattle.symbols.specs.Next.{RowAhead, After, close, row}
 use Rattle.symbols.specs.declared.Ahead.{Ahead}
 
@@ -20,7 +21,7 @@ turn_is t at past c e = subst (Turns t at past) e c
 pub head-is : (t : List ℕ) (at : ℕ) (first : Bool) {r x : Head} → Heads t at first r → r ≡ x → Heads t at first x
 head-is t at first c e = subst (Heads t at first) e c
 
-pub end_is : (t : List ℕ) (at : ℕ) {r x : FactEnd} → Closes t at r → r ≡ x → Closes t at x
+pub end_is : (t : List ℕ) (at : ℕ) {r x : Result ℕ Stop} → Closes t at r → r ≡ x → Closes t at x
 end_is t at c e = subst (Closes t at) e c
 
 -- a bracket: of a name that is open, or of the fact

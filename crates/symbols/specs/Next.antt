@@ -1,14 +1,12 @@
 -- What stands next in a text, for every text and every place, by what stands there (lex/specs): turn after turn, marks passed over.
-use Rattle.std.specs.Prelude.{ℕ, suc, ◌+◌, ◌≤◌, ◌<◌, Bool, true, false, List, length}
+use Rattle.std.specs.Prelude.{ℕ, suc, ◌+◌, ◌≤◌, ◌<◌, Bool, true, false, List, length, Option, Some, None, Result, Ok, Err}
 use Rattle.lex.specs.Turns.{Turns}
 use Rattle.lex.specs.Heads.{Heads, Closes}
 use Rattle.lex.specs.declared.turn.Turn.{Turn}
 use Rattle.lex.specs.declared.turn.Turn.TheVariants as turn
 use Rattle.lex.specs.declared.fact.Head.TheVariants as head
-use Rattle.lex.specs.declared.fact.FactEnd.TheVariants as fact-end
+use Rattle.lex.specs.declared.Stop.{Stop}
 use Rattle.symbols.specs.declared.Spot.{Spot}
-use Rattle.symbols.specs.declared.RowEnd.{RowEnd}
-use Rattle.symbols.specs.declared.RowEnd.TheVariants as row-end
 use Rattle.symbols.specs.declared.Ahead.{Ahead}
 use Rattle.symbols.specs.declared.Ahead.TheVariants as ahead
 
@@ -17,11 +15,11 @@ spot at past depth = record { at = at; past = past; depth = depth }
 
 -- after a fact's last bracket: its full stop and then another fact's name and bracket, after which its arguments begin; or the text ends
 -- there, or is none
-pub data RowEnds (t : List ℕ) (at : ℕ) : RowEnd → Type 0 where
-  another : {q s e : ℕ} → Closes t at (fact-end.Full q) → Heads t q false (head.Open s e) → RowEnds t at (row-end.Next (e + 1))
-  no_more : {q : ℕ} → Closes t at (fact-end.Full q) → Heads t q false head.End → RowEnds t at row-end.Last
-  no-fact : {q p : ℕ} → Closes t at (fact-end.Full q) → Heads t q false (head.Stop p) → RowEnds t at row-end.Last
-  no_stop : {p : ℕ} → Closes t at (fact-end.Stop p) → RowEnds t at row-end.Last
+pub data RowEnds (t : List ℕ) (at : ℕ) : Option ℕ → Type 0 where
+  another : {q s e : ℕ} → Closes t at (Ok q) → Heads t q false (head.Open s e) → RowEnds t at (Some (e + 1))
+  no_more : {q : ℕ} → Closes t at (Ok q) → Heads t q false head.End → RowEnds t at None
+  no-fact : {q p : ℕ} → Closes t at (Ok q) → Heads t q false (head.Stop p) → RowEnds t at None
+  no_stop : {p : Stop} → Closes t at (Err p) → RowEnds t at None
 
 -- where the first fact's arguments begin; place 0 where there is no fact
 pub data Begins (t : List ℕ) : Spot → Type 0 where
@@ -31,8 +29,8 @@ pub data Begins (t : List ℕ) : Spot → Type 0 where
 
 -- what stands after a fact's last bracket: another row's start, or nothing
 pub data RowAhead (t : List ℕ) (at : ℕ) : Ahead → Type 0 where
-  next_row : {q : ℕ} → RowEnds t at (row-end.Next q) → RowAhead t at (ahead.Row (spot q false 0))
-  last_row : RowEnds t at row-end.Last → RowAhead t at ahead.End
+  next_row : {q : ℕ} → RowEnds t at (Some q) → RowAhead t at (ahead.Row (spot q false 0))
+  last_row : RowEnds t at None → RowAhead t at ahead.End
 
 -- what stands next when a turn comes, with so many names open
 pub data After (t : List ℕ) : ℕ → Turn → Ahead → Type 0 where

@@ -1,10 +1,10 @@
-// The symbols of a text, one after another (02, W-201), by what stands at a place: nothing is kept but how many names are open. What is read
+// The symbols of a text, one after another, by what stands at a place: nothing is kept but how many names are open. What is read
 // of a text that is none ends where it stops.
 #![tactic(auto)]
 
 ghost use Rattle.symbols.specs.Next.{RowEnds, Begins, RowAhead, NextIs};
 
-use lex::fact::{FactEnd, Head};
+use lex::fact::Head;
 use lex::turn::Turn;
 
 // A place inside a fact: whether a term has just been read, and how many names are open.
@@ -15,23 +15,17 @@ pub struct Spot {
     pub depth: usize,
 }
 
-// After a fact's last bracket: where the next one's arguments begin; or it was the last.
-#[derive(Drop)]
-pub enum RowEnd {
-    Next(usize),
-    Last,
-}
-
-pub fn row_end(text: &[u8], at: usize) -> RowEnd
+// After a fact's last bracket: where the next one's arguments begin, unless it was the last.
+pub fn row_end(text: &[u8], at: usize) -> Option<usize>
     ensures { RowEnds text.now at result }
 {
     match lex::fact::fact_end(text, at) {
-        FactEnd::Full(q) => match lex::fact::next_fact(text, q, false) {
-            Head::Open(_, e) => RowEnd::Next(e + 1),
-            Head::End => RowEnd::Last,
-            Head::Stop(_) => RowEnd::Last,
+        Ok(q) => match lex::fact::next_fact(text, q, false) {
+            Head::Open(_, e) => Some(e + 1),
+            Head::End => None,
+            Head::Stop(_) => None,
         },
-        FactEnd::Stop(_) => RowEnd::Last,
+        Err(_) => None,
     }
 }
 
@@ -67,12 +61,12 @@ fn row_ahead(text: &[u8], at: usize) -> Ahead
     ensures { RowAhead text.now at result }
 {
     match row_end(text, at) {
-        RowEnd::Next(q) => Ahead::Row(Spot {
+        Some(q) => Ahead::Row(Spot {
             at: q,
             past: false,
             depth: 0,
         }),
-        RowEnd::Last => Ahead::End,
+        None => Ahead::End,
     }
 }
 

@@ -1,15 +1,13 @@
 -- What is left of an accepted text from a place on: its symbols, in their order. By the reader: the text from there on is read to the end,
 -- and what it is read as begins with what has been met. Callers who know that a text is accepted go by these; that they follow from the
 -- promises (specs/Next) is proved in proofs/LeftLaws.
-use Rattle.std.specs.Prelude.{ℕ, suc, ◌≤◌, ◌<◌, ◌≡◌, false, List, [], ◌∷◌, ◌++◌, length, drop}
+use Rattle.std.specs.Prelude.{ℕ, suc, ◌≤◌, ◌<◌, ◌≡◌, false, List, [], ◌∷◌, ◌++◌, length, drop, Option, Some, None}
 use Rattle.grammar.specs.Grammar.{Fact, fact}
 use Rattle.grammar.specs.Meaning.{place}
 use Rattle.grammar.specs.Reader.{arg, closed, Work, work, reads, run, text_of, Held}
 use Rattle.loading.specs.Items.{Item, of-name, of-variable, of_number, next_row, items_in, items_of}
 use Rattle.lex.specs.Turns.{term_mode}
 use Rattle.symbols.specs.declared.Spot.{Spot}
-use Rattle.symbols.specs.declared.RowEnd.{RowEnd}
-use Rattle.symbols.specs.declared.RowEnd.TheVariants as row-end
 use Rattle.symbols.specs.declared.Ahead.{Ahead}
 use Rattle.symbols.specs.declared.Ahead.TheVariants as ahead
 
@@ -25,10 +23,10 @@ pub record NextRow (t : List ℕ) (w : Work) (q : ℕ) (facts : List Fact) : Typ
   pub is : facts ≡ fact_of w ∷ later
   pub same : run (drop q t) arg (work start end 0 [] []) q ≡ reads later
 
-abbrev pub RowLeft : List ℕ → ℕ → RowEnd → Type 0
-RowLeft t at (row-end.Next q) = (at < q) × (q ≤ length t) × ((w : Work) (facts : List Fact) → run (drop at t) closed w at ≡ reads facts
+abbrev pub RowLeft : List ℕ → ℕ → Option ℕ → Type 0
+RowLeft t at (Some q) = (at < q) × (q ≤ length t) × ((w : Work) (facts : List Fact) → run (drop at t) closed w at ≡ reads facts
     → NextRow t w q facts)
-RowLeft t at row-end.Last = (w : Work) (facts : List Fact) → run (drop at t) closed w at ≡ reads facts → facts ≡ fact_of w ∷ []
+RowLeft t at None = (w : Work) (facts : List Fact) → run (drop at t) closed w at ≡ reads facts → facts ≡ fact_of w ∷ []
 
 -- these items are left at a place inside a fact. `facts` are the fact under way and those after it
 pub record Left (t : List ℕ) (sp : Spot) (rest : List Item) : Type 0 where
