@@ -22,7 +22,7 @@ use Rattle.loading.proofs.KeepLaws as keep
 use Rattle.lex.specs.Turns.{term_mode, on_mark}
 use Rattle.symbols.specs.Next.{RowEnds}
 use Rattle.symbols.specs.code.Left.{fact_of, FirstRow}
-use Rattle.symbols.specs.declared.RowEnd.TheVariants as row-end
+use Rattle.std.specs.Prelude.{Some, None}
 use Rattle.symbols.proofs.LeftLaws.{row_reads, comma_to, close_to, comma-marks, close-marks}
 use Rattle.texttable.proofs.NumberLaws.{set_next}
 use Rattle.texttable.specs.code.Cells.{making, with_argument, Owned, sofar, Makes, Roomy, cells_in}
@@ -404,7 +404,7 @@ module _ (t : List ℕ) (facts : List Fact) (numbers start cells owners : List �
       unfolding flatten
       symbols-so = symbols-append M.before (fact_of M.work ∷ []) ∙ ap (λ (l : List Symbol). symbols_of M.before ++ l) (append-nil M.work.out)
 
-      pub row_makes : (q : ℕ) → m.depth ≡ 0 → RowEnds t (p + 1) (row-end.Next q)
+      pub row_makes : (q : ℕ) → m.depth ≡ 0 → RowEnds t (p + 1) (Some q)
           → (m.at < q) × Makes t facts numbers start cells owners (making q false 0 m.count)
       row_makes q z r =
           let x = row_reads r in
@@ -429,7 +429,7 @@ module _ (t : List ℕ) (facts : List Fact) (numbers start cells owners : List �
             },
           )
 
-      pub all_made : m.depth ≡ 0 → RowEnds t (p + 1) row-end.Last → (m.count ≡ length (symbols_of facts)) × (cells ≡ cells_in facts numbers start)
+      pub all_made : m.depth ≡ 0 → RowEnds t (p + 1) None → (m.count ≡ length (symbols_of facts)) × (cells ≡ cells_in facts numbers start)
       all_made z x =
           let e : symbols_of facts ≡ sofar M.before M.work =
           ap symbols_of M.all ∙ ap (λ (gs : List Fact). symbols_of (M.before ++ gs)) (row_reads x M.work M.later (fact-closed z)) ∙ symbols-so in

@@ -1,5 +1,5 @@
 -- Names listed, struck out and counted, law by law.
-use Prim.Native.Nat.{ℕ, suc, ◌+◌, ◌-◌, ◌≤◌, ◌<◌}
+use Prim.Native.Nat.{ℕ, zero, suc, ◌+◌, ◌-◌, ◌≤◌, ◌<◌}
 use mathlib.Core.Path.{◌≡◌, refl, sym, ap, ap₂, subst, ◌∙◌}
 use mathlib.Core.Bool.{Bool, true, false, not, cond, ◌||◌}
 use mathlib.Core.List.{List, [], ◌∷◌, ◌++◌}
@@ -27,10 +27,12 @@ use Rattle.symbols.specs.declared.Ahead.{Ahead}
 use Rattle.symbols.specs.declared.Ahead.TheVariants as ahead
 use Rattle.symbols.proofs.LeftLaws.{next-reads}
 use Rattle.texttable.specs.code.Tree.{word_listed, Tree, listed, WordMet, old, new}
-use Rattle.texttable.specs.code.Names.{at, NoName, Passed, NameMet, NextNameIs, Shown, Filling, FilledTo, lost, Struck, Strikes, blank_of}
+use Rattle.texttable.specs.code.Names.{at, NoName, Passed, NameMet, name_at, NextNameIs, Shown, Filling, FilledTo, lost, Struck, Strikes, blank_of}
 use Rattle.texttable.specs.code.Names.{zeros, Batched, Counting}
-use Rattle.texttable.specs.declared.names.NextName.{NextName}
-use Rattle.texttable.specs.declared.names.NextName.TheVariants as next-name
+use Rattle.texttable.specs.declared.names.Name.{Name}
+use Rattle.std.specs.Prelude.{Option, Some, None, count_by}
+use lib.ListN.{take}
+use Rattle.std.proofs.lemmas.List.Sums.{sum_by-cons}
 use Rattle.texttable.specs.declared.names.Filled.{Filled}
 use Rattle.texttable.specs.declared.names.Batch.{Batch}
 use Rattle.texttable.proofs.TreeLaws.{word-says}
@@ -39,7 +41,7 @@ use Rattle.limits.specs.Limits.{most_text_bytes}
 pub ahead-is : (t : List ℕ) (sp : Spot) {r x : Ahead} → NextIs t sp r → r ≡ x → AheadLeft t sp x
 ahead-is t sp c e = next-reads (subst (NextIs t sp) e c)
 
-pub name-is : (t : List ℕ) (sp : Spot) {r x : NextName} → NextNameIs t sp r → r ≡ x → NextNameIs t sp x
+pub name-is : (t : List ℕ) (sp : Spot) {r x : Option Name} → NextNameIs t sp r → r ≡ x → NextNameIs t sp x
 name-is t sp c e = subst (NextNameIs t sp) e c
 
 -- THE NEXT NAME: from a place that has been reached with no name between
@@ -71,7 +73,7 @@ module _ (t : List ℕ) (from at : Spot) (here : (rest : List Item) → Left t f
   unfolding names_met met_in
   row-passed to a = other-passed next_row to a (λ ns rest. refl) (λ v rest. refl)
 
-  pub name-met : (s e : ℕ) (to : Spot) → AheadLeft t at (ahead.Name s e to) → NextNameIs t from (next-name.Name s e to)
+  pub name-met : (s e : ℕ) (to : Spot) → AheadLeft t at (ahead.Name s e to) → NextNameIs t from (Some (name_at s e to))
   unfolding names_met met_in
   name-met s e to a = (
     omega (arith, a.0),
@@ -84,7 +86,7 @@ module _ (t : List ℕ) (from at : Spot) (here : (rest : List Item) → Left t f
         record { rest = A.after; left = A.left; names = λ ns. P.names ns ∙ ap (names_met t ns) A.is; met = λ v. P.met v ∙ ap (met_in t v) A.is }),
   )
 
-  pub no_name : AheadLeft t at ahead.End → NextNameIs t from next-name.End
+  pub no_name : AheadLeft t at ahead.End → NextNameIs t from None
   unfolding names_met met_in
   no_name a rest₀ L =
       let P = here rest₀ L in
@@ -167,7 +169,7 @@ none-listed t from list links T =
 
 name-listed : (t : List ℕ) (from : Spot) (list links : List ℕ) (count : ℕ) (to next : Spot) (F : Filling t from list links count to) {s e : ℕ}
     {list' links' : List ℕ} {r : ℕ} (n : ℕ)
-    → NextNameIs t to (next-name.Name s e next) → MetIs t list links F.names (place s e) list' links' r
+    → NextNameIs t to (Some (name_at s e next)) → MetIs t list links F.names (place s e) list' links' r
     → length (meet t F.names (place s e)) ≡ n → n ≤ count + 1 → Filling t from list' links' n next
 name-listed t from list links count to next F {s} {e} n A I q h =
     record {
@@ -187,7 +189,7 @@ filling-tree {t} {list} {links} F = subst (Tree t list links) F.number F.shown.t
 
 -- a name that is new, and one that is listed
 module _ (t : List ℕ) (from : Spot) (list links list' links' : List ℕ) (count : ℕ) (to next : Spot) (s e r : ℕ) (F : Filling t from list links count to)
-    (A : NextNameIs t to (next-name.Name s e next)) (h : length t ≤ most_text_bytes) (m : WordMet t list links count s e list' links' r) where
+    (A : NextNameIs t to (Some (name_at s e next))) (h : length t ≤ most_text_bytes) (m : WordMet t list links count s e list' links' r) where
   met : MetIs t list links F.names (place s e) list' links' r
   met =
       met-is t list links F.names s e F.shown (omega (arith, A.1)) (omega (arith, A.1, A.2, A.3))
@@ -251,34 +253,22 @@ none-struck : (t : List ℕ) (ns : List Place) (marks : List ℕ) (rest : List I
 none-struck t ns marks rest z = record { word = λ i l. ap (λ (m : ℕ). lost t (bytes_at t (at ns i)) m rest) (z i l) }
 
 -- COUNTED
-pub blank-one : (m : ℕ) → m ≡ 0 → blank_of m ≡ 1
-unfolding blank_of
-blank-one m e = rw (eq-eqb m 0 e)
+pub zeros-counted : (count : ℕ) (marks : List ℕ) → count_by (λ (m : ℕ). eqb m 0) (take count marks) ≡ zeros count marks
+unfolding zeros blank_of
+zeros-counted zero marks = refl
+zeros-counted (suc n) [] = refl
+zeros-counted (suc n) (m ∷ ms) =
+    sum_by-cons (λ (k : ℕ). cond (eqb k 0) 1 0) m (take n ms) ∙ ap (λ (k : ℕ). blank_of m + k) (zeros-counted n ms)
 
-pub blank_none : (m : ℕ) → (m ≡ 0 → ⊥) → blank_of m ≡ 0
-unfolding blank_of
-blank_none m e = rw (ne_eqb m 0 e)
-
-pub zeros-step : (marks : List ℕ) (n i count : ℕ) → count ≤ length marks → i < count → n + zeros (count - i) (drop i marks) ≡ zeros count marks
-    → n + blank_of (get_or marks i 0) + zeros (count - (i + 1)) (drop (i + 1) marks) ≡ zeros count marks
-unfolding zeros
-zeros-step marks n i count h l e =
-    let q : count - i ≡ suc (count - (i + 1)) = omega arith in
-    let y : zeros (count - i) (drop i marks) ≡ blank_of (get_or marks i 0) + zeros (count - (i + 1)) (drop (i + 1) marks) =
-    ap (λ (k : ℕ). zeros k (drop i marks)) q
-    ∙ ap (zeros (suc (count - (i + 1)))) (drop-cons marks i 0 (omega arith))
-    ∙ ap (λ (k : ℕ). blank_of (get_or marks i 0) + zeros (count - (i + 1)) (drop k marks)) (sym (add-one i)) in
-    omega (arith, e, y)
-
-pub zeros-none : (marks : List ℕ) (count : ℕ) → 0 + zeros (count - 0) (drop 0 marks) ≡ zeros count marks
-zeros-none marks count = let e : count - 0 ≡ count = omega arith in omega (arith, ap (λ (n : ℕ). zeros n marks) e)
-
-pub zeros-all : (marks : List ℕ) (count i n : ℕ) → i ≡ count → n + zeros (count - i) (drop i marks) ≡ zeros count marks → n ≡ zeros count marks
-unfolding zeros
-zeros-all marks count i n q e =
-    let z : count - i ≡ 0 = omega arith in
-    let y : zeros (count - i) (drop i marks) ≡ 0 = ap (λ (k : ℕ). zeros k (drop i marks)) z in
-    omega (arith, e, y)
+pub zeros-few : (count : ℕ) (marks : List ℕ) → zeros count marks ≤ count
+unfolding zeros blank_of
+zeros-few zero marks = omega arith
+zeros-few (suc n) [] = omega arith
+zeros-few (suc n) (m ∷ ms) = by (eqb m 0) (zeros-few n ms)
+  where
+    by : (b : Bool) → zeros n ms ≤ n → cond b 1 0 + zeros n ms ≤ suc n
+    by true h = omega arith
+    by false h = omega arith
 
 zeros-unmet : (t : List ℕ) (ns : List Place) (marks : List ℕ) (rest : List Item) → length ns ≤ length marks
     → ((i : ℕ) → i < length ns → lost t (bytes_at t (at ns i)) (get_or marks i 0) [] ≡ met_in t (bytes_at t (at ns i)) rest)

@@ -6,8 +6,8 @@ use mathlib.Core.List.{List}
 use native.Mathlib.Omega.{arith}
 use native.Mathlib.Numerals.{add-one}
 use native.Mathlib.Decide.{ℕ_discrete, dec_lt}
-use lib.ListN.{length, get_or, set, replicate, length-set, drop, length-replicate, get_or-replicate, get_or-eq_default, drop_of_length-le}
-use lib.Seq.{slice, drop-cons, get_or-set_same, get_or-set_other}
+use lib.ListN.{length, get_or, set, replicate, length-set, take, drop, length-drop, length-replicate, get_or-replicate, get_or-eq_default, drop_of_length-le}
+use lib.Seq.{slice, take_all, drop-cons, get_or-set_same, get_or-set_other}
 use borrow.Author.Tests.{ne_eqb}
 use Rattle.texttable.specs.code.Tree.{mix_from, start_of, mix_of, bit_of, MixKept, word_listed, WordFits, slot_of, Route, here, down, Trail, start}
 use Rattle.texttable.specs.code.Tree.{step, Tree, Missing, Finds, listed, WordMet, new, ClearedTo, Cleared, Seeks}
@@ -198,6 +198,13 @@ mix-more w i mix h =
 pub mix-end : (w : List ℕ) (i mix : ℕ) → length w ≤ i → mix_from mix (drop i w) ≡ mix
 unfolding mix_from
 mix-end w i mix h = ap (mix_from mix) (drop_of_length-le w {i = i} h)
+
+-- from the place on at which a word's mix begins
+pub mix-part : (w : List ℕ) (turn from : ℕ) → from ≡ start_of turn (length w)
+    → mix_from (turn % 65536) (drop 0 (take (length w - from) (drop from w))) ≡ mix_of w turn
+mix-part w turn from e =
+    ap (mix_from (turn % 65536)) (take_all (length w - from) (drop from w) (omega (arith, length-drop from w)))
+    ∙ ap (λ (i : ℕ). mix_from (turn % 65536) (drop i w)) e
 
 pub bit_is : (w : List ℕ) (d mix r : ℕ) → mix ≡ mix_of w (d / 16) → r ≡ mix / 2 ^ (d % 16) % 2 → r ≡ bit_of w d
 unfolding bit_of

@@ -1,5 +1,5 @@
 -- What is said of a text's words (02, W-201), for every text: its names listed and its cells made, for a table in so many cells of room.
-use Rattle.std.specs.Prelude.{ℕ, ◌+◌, ◌≤◌, ◌<◌, List, [], length}
+use Rattle.std.specs.Prelude.{ℕ, ◌+◌, ◌≤◌, ◌<◌, List, [], length, Result, Ok, Err}
 use Rattle.refusal.specs.Refusal.{told}
 use Rattle.refusal.specs.Read.{refuse}
 use Rattle.refusal.specs.declared.Refusal.{Refusal}
@@ -13,7 +13,6 @@ use Rattle.scan.specs.declared.Counted.{Counted}
 use Rattle.texttable.specs.declared.NamesRead.{NamesRead}
 use Rattle.texttable.specs.declared.NamesRead.TheVariants as names-read
 use Rattle.texttable.specs.declared.TextWords.{TextWords}
-use Rattle.texttable.specs.declared.TextWords.TheVariants as text-words
 use Rattle.limits.specs.Limits.{most_names}
 
 -- the numbers of the symbols, in their order
@@ -30,8 +29,11 @@ pub data NamesAre (t : List ℕ) (facts : List Fact) (room : ℕ) (list made : L
       → NamesAre t facts room list made (put_first (name_list t facts) list) (put_first (table_cells t facts) made)
       (names-read.Listed (length (name_list t facts)))
 
+abbrev pub with_names : Counted → NamesRead → TextWords
+with_names c r = record { facts = c; names = r }
+
 -- of a text: its facts are counted; or it is turned away, and nothing is written
-pub data WordsAre (t : List ℕ) (room : ℕ) (list made : List ℕ) : List ℕ → List ℕ → TextWords → Type 0 where
+pub data WordsAre (t : List ℕ) (room : ℕ) (list made : List ℕ) : List ℕ → List ℕ → Result TextWords Refusal → Type 0 where
   facts : {c : Counted} {list' made' : List ℕ} {r : NamesRead} (C : Counts t c)
-      → NamesAre t C.facts room list made list' made' r → WordsAre t room list made list' made' (text-words.Facts c r)
-  refused : {f : Refusal} → Taken t (refuse (told f)) → WordsAre t room list made list made (text-words.Refused f)
+      → NamesAre t C.facts room list made list' made' r → WordsAre t room list made list' made' (Ok (with_names c r))
+  refused : {f : Refusal} → Taken t (refuse (told f)) → WordsAre t room list made list made (Err f)

@@ -10,7 +10,6 @@ use super::{numbers, tree};
 use lex::turn::Turn;
 use limits::NAMES;
 use numbers::Row;
-use symbols::RowEnd;
 
 // Where the reading is inside a fact: whether a term has just been read, how many names are open, how many cells are written.
 #[derive(Drop)]
@@ -35,28 +34,22 @@ pub enum Made {
     Done(usize),
 }
 
-fn owner(cell: u16) -> usize
-    ensures { result ≡ cell }
-{
-    cell as usize
-}
-
 fn name(number: u16) -> u32
     ensures { result ≡ name_cell 0 number }
 {
-    cell::name_cell(0, number as u32)
+    cell::name_cell(0, u32::from(number))
 }
 
 fn variable(number: u16) -> u32
     ensures { result ≡ variable_cell number }
 {
-    cell::variable_cell(number as u32)
+    cell::variable_cell(u32::from(number))
 }
 
 fn value(number: u16) -> u32
     ensures { result ≡ number_cell number }
 {
-    cell::number_cell(number as u32)
+    cell::number_cell(u32::from(number))
 }
 
 // A name is met, and its cell is written; how many names there are now.
@@ -110,7 +103,7 @@ fn add_argument(cells: &mut [u32], owners: &[u16], depth: usize)
     ensures { cells.new ≡ set cells.old (get_or owners.now depth 0)
         (with_argument (get_or cells.old (get_or owners.now depth 0) 0)) }
 {
-    let own = owner(owners[depth]);
+    let own = usize::from(owners[depth]);
     cells[own] = with_argument(cells[own]);
 }
 
@@ -136,7 +129,7 @@ fn after_row(text: &[u8], at: usize, count: usize, k: Known, ways: &mut [u16]) -
     let names = k.names;
     let row = k.row;
     match symbols::row_end(text, at) {
-        RowEnd::Next(q) => {
+        Some(q) => {
             tree::clear(ways, row.named);
             go(
                 q,
@@ -149,7 +142,7 @@ fn after_row(text: &[u8], at: usize, count: usize, k: Known, ways: &mut [u16]) -
                 },
             )
         }
-        RowEnd::Last => Made::Done(names),
+        None => Made::Done(names),
     }
 }
 

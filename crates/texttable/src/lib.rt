@@ -1,4 +1,4 @@
-// Words of a text (02, W-201): the scan, and then the list of its names and the cells of its table, or how many names it has.
+// Words of a text: the scan, and then the list of its names and the cells of its table, or how many names it has.
 #![tactic(auto)]
 
 mod cells;
@@ -14,21 +14,21 @@ ghost use Rattle.limits.specs.Limits.{most_names, most_table_cells};
 
 use limits::{NAMES, TABLE_CELLS};
 use refusal::Refusal;
-use scan::{Counted, Scan};
+use scan::Counted;
 
 // The names of a text that is one: so many, listed, and the cells are made; so many, of over 2,048 symbols; or they are passed over.
-#[derive(Drop)]
+#[derive(Clone, Copy)]
 pub enum NamesRead {
     Listed(usize),
     Counted(usize),
     Passed,
 }
 
-// The facts of a text, counted, and its names; or why it is turned away.
-#[derive(Drop)]
-pub enum TextWords {
-    Facts(Counted, NamesRead),
-    Refused(Refusal),
+// The facts of a text, counted, and its names.
+#[derive(Clone, Copy)]
+pub struct TextWords {
+    pub facts: Counted,
+    pub names: NamesRead,
 }
 
 // The table's cells: width, number of rows, rows; and the list of names, how many there are.
@@ -54,11 +54,10 @@ fn read_names(
     ensures { (C : Counts text.now c) → NamesAre text.now C.facts room list.old
         made.old list.new made.new result }
 {
-    let symbols = c.symbols;
-    if room < symbols + 2 {
+    if room < c.symbols + 2 {
         return NamesRead::Passed;
     }
-    if NAMES < symbols {
+    if NAMES < c.symbols {
         return NamesRead::Counted(names::count_names(text));
     }
     NamesRead::Listed(make_table(text, c, list, made))
@@ -71,14 +70,10 @@ pub fn read_words(
     room: usize,
     list: &mut [u32; NAMES],
     made: &mut [u32; TABLE_CELLS],
-) -> TextWords
+) -> Result<TextWords, Refusal>
     ensures { WordsAre text.now room list.old made.old list.new made.new result }
 {
-    match scan::scan_text(text) {
-        Scan::Facts(c) => {
-            let known = read_names(text, c, room, list, made);
-            TextWords::Facts(c, known)
-        }
-        Scan::Refused(f) => TextWords::Refused(f),
-    }
+    let facts = scan::scan_text(text)?;
+    let names = read_names(text, facts, room, list, made);
+    Ok(TextWords { facts, names })
 }

@@ -3,28 +3,30 @@
 // and the next batch begins where this one ended. So each name is counted in the batch in which it stands last.
 ghost use Rattle.std.specs.Prelude.{◌≡◌, ◌≤◌, ◌<◌, length};
 ghost use Rattle.texttable.specs.code.Tree.{Tree};
-ghost use Rattle.texttable.specs.code.Names.{NextNameIs, FilledTo, Strikes, blank_of, zeros, Batched, CountsNames};
+ghost use Rattle.texttable.specs.code.Names.{NextNameIs, FilledTo, Strikes, zeros, Batched, CountsNames};
 ghost use Rattle.limits.specs.Limits.{most_text_bytes};
 
 use super::tree;
 use symbols::{Ahead, Spot};
 use tree::Slot;
 
-// The next name from a place on: its start, the place after it, and where the text goes on; or there is none.
-#[derive(Drop)]
-pub enum NextName {
-    Name(usize, usize, Spot),
-    End,
+// A name: its start, the place after it, and where the text goes on.
+#[derive(Clone, Copy)]
+pub struct Name {
+    pub start: usize,
+    pub end: usize,
+    pub next: Spot,
 }
 
-fn next_name(text: &[u8], from: Spot) -> NextName
+// The next name from a place on.
+fn next_name(text: &[u8], from: Spot) -> Option<Name>
     ensures { NextNameIs text.now from result }
 {
     let mut at = from;
     loop {
         match symbols::next_item(text, at) {
-            Ahead::Name(s, e, to) => {
-                return NextName::Name(s, e, to);
+            Ahead::Name(start, end, next) => {
+                return Some(Name { start, end, next });
             }
             Ahead::Variable(_, _, to) => {
                 at = to;
@@ -36,7 +38,7 @@ fn next_name(text: &[u8], from: Spot) -> NextName
                 at = to;
             }
             Ahead::End => {
-                return NextName::End;
+                return None;
             }
         }
     }
@@ -57,15 +59,16 @@ fn fill(text: &[u8], from: Spot, list: &mut [u32], links: &mut [u16]) -> Filled
 {
     let mut count = 0;
     let mut to = from;
+    // Stays: the list is longer only where a name is new, so that no range has these numbers.
     while count < list.len() {
-        let NextName::Name(s, e, next) = next_name(text, to) else {
+        let Some(Name { start, end, next }) = next_name(text, to) else {
             return Filled {
                 count,
                 to,
                 more: false,
             };
         };
-        if tree::meet(text, list, links, count, s, e) == count {
+        if tree::meet(text, list, links, count, start, end) == count {
             count += 1;
         }
         to = next;
@@ -84,19 +87,12 @@ fn strike(text: &[u8], from: Spot, list: &[u32], links: &[u16], count: usize, ma
         marks.new }
 {
     let mut at = from;
-    while let NextName::Name(s, e, next) = next_name(text, at) {
-        if let Slot::Listed(j) = tree::find(text, list, links, count, &text[s..e]) {
+    while let Some(Name { start, end, next }) = next_name(text, at) {
+        if let Slot::Listed(j) = tree::find(text, list, links, count, &text[start..end]) {
             marks[j] = 1;
         }
         at = next;
     }
-}
-
-// 1 for a mark that is 0, otherwise 0.
-fn blank(mark: u8) -> usize
-    ensures { (result ≡ blank_of mark) × (result ≤ 1) }
-{
-    if mark == 0 { 1 } else { 0 }
 }
 
 // How many of the first marks are 0.
@@ -104,13 +100,7 @@ fn unmarked(marks: &[u8], count: usize) -> usize
     requires { count ≤ length marks.now }
     ensures { (result ≡ zeros count marks.now) × (result ≤ count) }
 {
-    let mut n = 0;
-    let mut i = 0;
-    while i < count {
-        n += blank(marks[i]);
-        i += 1;
-    }
-    n
+    marks[..count].iter().filter(|mark| **mark == 0).count()
 }
 
 // The names of a batch that are met no more after it, where it ends, and whether there may be more.
@@ -128,13 +118,14 @@ fn count_batch(text: &[u8], from: Spot) -> Batch
     let mut list = [0u32; 3500];
     let mut links = [0u16; 7001];
     let filled = fill(text, from, &mut list, &mut links);
-    let count = filled.count;
-    let to = filled.to;
-    let more = filled.more;
     let mut marks = [0u8; 3500];
-    strike(text, to, &list, &links, count, &mut marks);
-    let names = unmarked(&marks, count);
-    Batch { names, to, more }
+    strike(text, filled.to, &list, &links, filled.count, &mut marks);
+    let names = unmarked(&marks, filled.count);
+    Batch {
+        names,
+        to: filled.to,
+        more: filled.more,
+    }
 }
 
 // How many different names an accepted text has.

@@ -21,15 +21,12 @@ pub struct Numbered {
     pub row: Row,
 }
 
-// 02, "`_` as a fresh variable each time".
+// `_` is another variable each time.
 fn is_fresh(text: &[u8], start: usize, end: usize) -> bool
     requires { (start < end) × (end ≤ length text.now) }
     ensures { result ≡ is_fresh (slice start end text.now) }
 {
-    if end - start != 1 {
-        return false;
-    }
-    text[start] == 95
+    end - start == 1 && text[start] == b'_'
 }
 
 // One variable more. Those with a name are listed in `words`, found by `ways`, and each has the number that it was given when it was first
@@ -62,7 +59,7 @@ pub fn number_variable(
     let j = tree::meet(text, words, ways, named, start, end);
     if j < named {
         return Numbered {
-            number: tree::number(given[j]),
+            number: usize::from(given[j]),
             row,
         };
     }

@@ -7,22 +7,11 @@ ghost use Rattle.cell.specs.Same.{same};
 ghost use Rattle.limits.specs.Limits.{most_text_bytes};
 
 // A word's number where it is listed; otherwise the slot at which it would be found.
-#[derive(Drop)]
+// Stays: both are answers with a number of their own, and neither is a failure; the names tell them apart.
+#[derive(Clone, Copy)]
 pub enum Slot {
     Listed(usize),
     Free(usize),
-}
-
-fn wide(b: u8) -> usize
-    ensures { (result ≡ b) × (result < 256) }
-{
-    b as usize
-}
-
-pub fn number(x: u16) -> usize
-    ensures { result ≡ x }
-{
-    x as usize
 }
 
 // Where the bytes begin that are mixed: first only the last two, since names that are numbered part there; later all.
@@ -32,21 +21,17 @@ fn mix_start(turn: usize, bytes: usize) -> usize
     if 0 < turn {
         return 0;
     }
-    if bytes < 2 {
-        return 0;
-    }
-    bytes - 2
+    bytes.saturating_sub(2)
 }
 
 // The bytes of a word mixed into 16 bits, in another way at each turn.
 fn mixed(word: &[u8], turn: usize) -> usize
     ensures { result ≡ mix_of word.now turn }
 {
+    let start = mix_start(turn, word.len());
     let mut mix = turn % 65536;
-    let mut i = mix_start(turn, word.len());
-    while i < word.len() {
-        mix = (31 * mix + mix / 256 + wide(word[i])) % 65536;
-        i += 1;
+    for byte in &word[start..] {
+        mix = (31 * mix + mix / 256 + usize::from(*byte)) % 65536;
     }
     mix
 }
@@ -91,7 +76,7 @@ pub fn find(text: &[u8], list: &[u32], links: &[u16], count: usize, word: &[u8])
     let mut d = 0;
     let mut mix = 0;
     loop {
-        let k = number(links[slot]);
+        let k = usize::from(links[slot]);
         if k == 0 {
             return Slot::Free(slot);
         }
@@ -134,9 +119,5 @@ pub fn clear(links: &mut [u16], count: usize)
     requires { 2 * count < length links.old }
     ensures { Cleared links.old links.new count }
 {
-    let mut s = 0;
-    while s <= 2 * count {
-        links[s] = 0;
-        s += 1;
-    }
+    links[..2 * count + 1].fill(0);
 }

@@ -1,7 +1,7 @@
 -- The writing of the cells and the listing of the names (src/cells.rt), beside the reader: a cell for each symbol that is met, a name's with
 -- the arguments that are complete, and for each name that is open which cell is its own. These definitions describe the code's own state; no
 -- promise cites them.
-use Rattle.std.specs.Prelude.{ℕ, ◌+◌, ◌%◌, ◌^◌, ◌≤◌, ◌<◌, ◌≡◌, Bool, false, List, [], ◌∷◌, ◌++◌, map, length, get_or, set, drop}
+use Rattle.std.specs.Prelude.{ℕ, ◌+◌, ◌%◌, ◌^◌, ◌≤◌, ◌<◌, ◌≡◌, Bool, false, List, [], ◌∷◌, ◌++◌, map, length, get_or, set, drop, Some, None}
 use Rattle.cell.specs.Cell.{args_of, number_of, variable_cell, name_cell}
 use Rattle.grammar.specs.Grammar.{Symbol, Fact}
 use Rattle.grammar.specs.Meaning.{Place, symbols_of, entry_of, table_cells, name_list}
@@ -14,7 +14,6 @@ use Rattle.symbols.specs.Next.{RowEnds, After, NextIs}
 use Rattle.symbols.specs.code.Left.{Left}
 use Rattle.symbols.specs.declared.Spot.{Spot}
 use Rattle.symbols.specs.declared.Ahead.{Ahead}
-use Rattle.symbols.specs.declared.RowEnd.TheVariants as row-end
 use Rattle.texttable.specs.Words.{numbers_of}
 use Rattle.texttable.specs.code.Tree.{Tree, WordMet, Cleared}
 use Rattle.texttable.specs.code.Names.{Shown}
@@ -54,8 +53,8 @@ pub record VariablePut (t : List ℕ) (places : List Place) (w : Place) (words w
 -- after a fact's last bracket
 abbrev pub RowMade : (t : List ℕ) (at count : ℕ) (k : Known) (ways ways' : List ℕ) → Made → Type 0
 RowMade t at count k ways ways' (made.Go next k') =
-    RowEnds t at (row-end.Next next.at) × (next ≡ making next.at false 0 count) × (k' ≡ known k.names 0 0) × Cleared ways ways' k.row.named
-RowMade t at count k ways ways' (made.Done n) = RowEnds t at row-end.Last × (n ≡ k.names)
+    RowEnds t at (Some next.at) × (next ≡ making next.at false 0 count) × (k' ≡ known k.names 0 0) × Cleared ways ways' k.row.named
+RowMade t at count k ways ways' (made.Done n) = RowEnds t at None × (n ≡ k.names)
 
 -- the open names, the innermost first: their cells, where those of the fact begin at a place, and at most three arguments complete
 unfoldable pub Owned : ℕ → List ℕ → List Frame → Type 0

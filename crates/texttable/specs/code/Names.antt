@@ -1,6 +1,6 @@
 -- The names of a text as the code has them (src/names.rt): those that are listed, what is left of the text, which of them are met again.
 -- These definitions describe the code's own state.
-use Rattle.std.specs.Prelude.{ℕ, zero, suc, ◌+◌, ◌≤◌, ◌<◌, ◌≡◌, Bool, true, false, not, cond, ◌||◌, List, [], ◌∷◌, eqb, length, get_or}
+use Rattle.std.specs.Prelude.{ℕ, zero, suc, ◌+◌, ◌≤◌, ◌<◌, ◌≡◌, Bool, true, false, not, cond, ◌||◌, List, [], ◌∷◌, eqb, length, get_or, Option, Some, None}
 use Rattle.grammar.specs.Grammar.{Fact}
 use Rattle.grammar.specs.Reader.{reads, text_of}
 use Rattle.cell.specs.Same.{same}
@@ -9,8 +9,7 @@ use Rattle.loading.specs.Items.{Item, items_of, names_met, met_in}
 use Rattle.symbols.specs.code.Left.{Left}
 use Rattle.symbols.specs.declared.Spot.{Spot}
 use Rattle.texttable.specs.code.Tree.{word_listed, Tree}
-use Rattle.texttable.specs.declared.names.NextName.{NextName}
-use Rattle.texttable.specs.declared.names.NextName.TheVariants as next-name
+use Rattle.texttable.specs.declared.names.Name.{Name}
 use Rattle.texttable.specs.declared.names.Filled.{Filled}
 use Rattle.texttable.specs.declared.names.Batch.{Batch}
 
@@ -35,10 +34,14 @@ pub record NameMet (t : List ℕ) (w : Place) (sp : Spot) (rest₀ : List Item) 
   pub names : (ns : List Place) → names_met t ns rest₀ ≡ names_met t (meet t ns w) rest
   pub met : (v : List ℕ) → met_in t v rest₀ ≡ (same (bytes_at t w) v || met_in t v rest)
 
-abbrev pub NextNameIs : List ℕ → Spot → NextName → Type 0
-NextNameIs t from (next-name.Name s e to) =
-    (from.at ≤ s) × (s < e) × (e ≤ to.at) × (to.at ≤ length t) × ((rest : List Item) → Left t from rest → NameMet t (place s e) to rest)
-NextNameIs t from next-name.End = (rest : List Item) → Left t from rest → NoName t rest
+abbrev pub name_at : ℕ → ℕ → Spot → Name
+name_at s e to = record { start = s; end = e; next = to }
+
+abbrev pub NextNameIs : List ℕ → Spot → Option Name → Type 0
+NextNameIs t from (Some n) =
+    (from.at ≤ n.start) × (n.start < n.end) × (n.end ≤ n.next.at) × (n.next.at ≤ length t)
+    × ((rest : List Item) → Left t from rest → NameMet t (place n.start n.end) n.next rest)
+NextNameIs t from None = (rest : List Item) → Left t from rest → NoName t rest
 
 -- the list and its tree show these words
 pub record Shown (t list links : List ℕ) (ns : List Place) : Type 0 where

@@ -21,12 +21,12 @@ returns-in_default c =
 
 pub meet-requires : goal.meet-requires
 meet-requires c =
-    let A = name-is c.args.text.now c.loop-count.to c.next_name.ensures c.in-Name.is in
+    let A = name-is c.args.text.now c.loop-count.to c.next_name.ensures c.in-Some.is in
     (omega (arith, A.1), omega (arith, A.2, A.3), omega arith, omega arith, omega arith, filling-tree c.loop-count.invariant.3)
 
 pub loop-count-smaller-then-meet-count : goal.loop-count-smaller-then-meet-count
 loop-count-smaller-then-meet-count c =
-    let A = name-is c.args.text.now c.loop-count.to c.next_name.ensures c.in-Name.is in
+    let A = name-is c.args.text.now c.loop-count.to c.next_name.ensures c.in-Some.is in
     omega (arith, A.0, A.1, A.2, A.3)
 
 pub loop-count-preserved-then-meet-count : goal.loop-count-preserved-then-meet-count
@@ -36,13 +36,13 @@ loop-count-preserved-then-meet-count c =
       search rules,
       search rules,
       search rules,
-      name-grown a.text.now a.from l.list l.links _ _ l.count l.to c.in-Name.next c.in-Name.s c.in-Name.e c.meet.result
-          l.invariant.3 (name-is c.args.text.now c.loop-count.to c.next_name.ensures c.in-Name.is) (omega (arith, (name-is c.args.text.now c.loop-count.to c.next_name.ensures c.in-Name.is).1)) c.meet.ensures c.if-meet-count.true,
+      name-grown a.text.now a.from l.list l.links _ _ l.count l.to c.in-Some.field-0.next c.in-Some.field-0.start c.in-Some.field-0.end c.meet.result
+          l.invariant.3 (name-is c.args.text.now c.loop-count.to c.next_name.ensures c.in-Some.is) (omega (arith, (name-is c.args.text.now c.loop-count.to c.next_name.ensures c.in-Some.is).1)) c.meet.ensures c.if-meet-count.true,
     )
 
 pub loop-count-smaller : goal.loop-count-smaller
 loop-count-smaller c =
-    let A = name-is c.args.text.now c.loop-count.to c.next_name.ensures c.in-Name.is in
+    let A = name-is c.args.text.now c.loop-count.to c.next_name.ensures c.in-Some.is in
     omega (arith, A.0, A.1, A.2, A.3)
 
 pub loop-count-preserved : goal.loop-count-preserved
@@ -52,8 +52,8 @@ loop-count-preserved c =
       search rules,
       search rules,
       search rules,
-      name-stayed a.text.now a.from l.list l.links _ _ l.count l.to c.in-Name.next c.in-Name.s c.in-Name.e c.meet.result
-          l.invariant.3 (name-is c.args.text.now c.loop-count.to c.next_name.ensures c.in-Name.is) (omega (arith, (name-is c.args.text.now c.loop-count.to c.next_name.ensures c.in-Name.is).1)) c.meet.ensures c.if-meet-count.false,
+      name-stayed a.text.now a.from l.list l.links _ _ l.count l.to c.in-Some.field-0.next c.in-Some.field-0.start c.in-Some.field-0.end c.meet.result
+          l.invariant.3 (name-is c.args.text.now c.loop-count.to c.next_name.ensures c.in-Some.is) (omega (arith, (name-is c.args.text.now c.loop-count.to c.next_name.ensures c.in-Some.is).1)) c.meet.ensures c.if-meet-count.false,
     )
 
 pub returns : goal.returns

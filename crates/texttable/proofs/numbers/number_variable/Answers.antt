@@ -18,7 +18,7 @@ returns-then-j-named c =
     let m = c.meet-j in
     λ v. subst (λ (c : ℕ). VariableIs a.text.now v.places (place a.start a.end) m.new.list m.new.links a.given.now
     (record { number = c; row = a.row }))
-    (sym c.number.ensures) (old-variable a.text.now a.words.now a.ways.now a.given.now a.row a.start a.end v
+    (sym c.from.ensures) (old-variable a.text.now a.words.now a.ways.now a.given.now a.row a.start a.end v
     (sym c.is_fresh.ensures
     ∙ c.if-is_fresh.false) m.ensures (omega arith))
 
