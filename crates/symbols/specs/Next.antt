@@ -1,5 +1,5 @@
 -- What stands next in a text, for every text and every place, by what stands there (lex/specs): turn after turn, marks passed over.
-use Rattle.std.specs.Prelude.{ℕ, suc, ◌+◌, ◌≤◌, ◌<◌, Bool, true, false, List, length, Option, Some, None, Result, Ok, Err}
+use Rattle.std.specs.Prelude.{ℕ, suc, ◌+◌, ◌≤◌, ◌<◌, Bool, true, false, List, length, Option, Some, None, Ok, Err}
 use Rattle.lex.specs.Turns.{Turns}
 use Rattle.lex.specs.Heads.{Heads, Closes}
 use Rattle.lex.specs.declared.turn.Turn.{Turn}

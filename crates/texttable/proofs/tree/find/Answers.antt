@@ -1,17 +1,18 @@
-use Prim.Native.Nat.{ℕ, suc, ◌+◌, ◌-◌, ◌/◌, ◌*◌, ◌≤◌, ◌<◌}
+use Prim.Native.Nat.{ℕ, suc, ◌-◌, ◌≤◌, ◌<◌}
 use mathlib.Core.Path.{◌≡◌, sym, ◌∙◌}
 use native.Mathlib.Omega.{arith}
-use borrow.Author.Rules.{rules}
 use lib.ListN.{get_or}
-use Rattle.texttable.specs.code.Tree.{MixKept, Seeks, start, word_listed}
+use Rattle.texttable.specs.code.Tree.{start, word_listed}
 use Rattle.cell.proofs.SameLaws.{same-eq}
 use Rattle.texttable.proofs.TreeLaws.{begins, no_way, trail-later, advance, bit_is, mix-kept}
 use Rattle.texttable.proofs.tree.find.Goals as goal
 
 lt : {k m count : ℕ} → (k ≡ 0 → ⊥) → k ≡ m → m ≤ count → k - 1 < count
 lt n e h = omega arith
+
 nonzero : {k m : ℕ} → (k ≡ 0 → ⊥) → k ≡ m → m ≡ suc (k - 1)
 nonzero n e = omega arith
+
 pub loop-count-init : goal.loop-count-init
 loop-count-init c =
     let a = c.args in

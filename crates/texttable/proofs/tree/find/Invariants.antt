@@ -1,11 +1,5 @@
-use Prim.Native.Nat.{ℕ, suc, ◌+◌, ◌-◌, ◌/◌, ◌*◌, ◌≤◌, ◌<◌}
-use mathlib.Core.Path.{◌≡◌, sym, ◌∙◌}
-use native.Mathlib.Omega.{arith}
-use borrow.Author.Rules.{rules}
-use lib.ListN.{get_or}
-use Rattle.texttable.specs.code.Tree.{MixKept, Seeks, start, word_listed}
-use Rattle.cell.proofs.SameLaws.{same-eq}
-use Rattle.texttable.proofs.TreeLaws.{begins, no_way, trail-later, advance, bit_is, mix-kept}
+use Prim.Native.Nat.{◌+◌, ◌-◌, ◌/◌, ◌*◌, ◌≤◌}
+use Rattle.texttable.specs.code.Tree.{MixKept, Seeks}
 use Rattle.texttable.proofs.tree.find.Given as goal
 
 abbrev pub invariant-loop-count : goal.invariant-loop-count
