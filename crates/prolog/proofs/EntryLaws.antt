@@ -22,16 +22,16 @@ use Rattle.grammar.specs.Taken.{Taken}
 use Rattle.loading.specs.Load.{Loaded, loaded, Loads, not_taken, no_cells, no_names, no_table, loads, TextLoads, load_says, cells_after, names_after, put_first}
 use Rattle.scan.specs.Scan.{Counts}
 use Rattle.scan.specs.declared.Counted.{Counted}
-use Rattle.texttable.specs.Words.{WordsAre, NamesAre}
+use Rattle.texttable.specs.Words.{with_names, WordsAre, NamesAre}
 use Rattle.texttable.specs.Words as words
 use Rattle.texttable.specs.declared.NamesRead.{NamesRead}
+use Rattle.texttable.specs.declared.TextWords.{TextWords}
 use Rattle.texttable.specs.declared.NamesRead.TheVariants as names-read
-use Rattle.texttable.specs.declared.TextWords.TheVariants as text-words
 use Rattle.prolog.specs.Entry.{text_told, sizes, FactsAre, are-made}
 use Rattle.prolog.specs.Entry as entry
 pub use Rattle.texttable.proofs.TableLaws.{cells-long}
 use Rattle.prolog.specs.code.Parts.{over_of, given, Gives}
-use Rattle.prolog.specs.declared.FactsAnswer.TheVariants as facts-answer
+use Rattle.prolog.specs.declared.FactsMade.TheVariants as made_as
 use Rattle.prolog.specs.declared.TextSize.{TextSize}
 use Rattle.std.specs.Prelude.{Result, Ok, Err}
 use Rattle.limits.specs.Limits.{most_names, most_table_cells}
@@ -153,12 +153,17 @@ pub record Listed (t : List ℕ) (room : ℕ) (c : Counted) (list made list' mad
   pub wrote : made' ≡ put_first (table_cells t counts.facts) made
 
 module _ {t list made : List ℕ} {room : ℕ} where
-  -- what is known of the names is one of its kinds
-  pub words-known : {list' made' : List ℕ} {c : Counted} {known k : NamesRead} → WordsAre t room list made list' made' (text-words.Facts c known)
-      → known ≡ k → WordsAre t room list made list' made' (text-words.Facts c k)
-  words-known {list'} {made'} {c} w e = subst (λ (k : NamesRead). WordsAre t room list made list' made' (text-words.Facts c k)) e w
+  -- the answer is one of its kinds
+  pub words-of : {list' made' : List ℕ} {r k : Result TextWords Refusal} → WordsAre t room list made list' made' r → r ≡ k
+      → WordsAre t room list made list' made' k
+  words-of {list'} {made'} w e = subst (λ (k : Result TextWords Refusal). WordsAre t room list made list' made' k) e w
 
-  pub listed-are : {list' made' : List ℕ} {c : Counted} {n : ℕ} → WordsAre t room list made list' made' (text-words.Facts c (names-read.Listed n))
+  -- and so is what is known of the names
+  pub words-known : {list' made' : List ℕ} {c : Counted} {known k : NamesRead} → WordsAre t room list made list' made' (Ok (with_names c known))
+      → known ≡ k → WordsAre t room list made list' made' (Ok (with_names c k))
+  words-known {list'} {made'} {c} w e = subst (λ (k : NamesRead). WordsAre t room list made list' made' (Ok (with_names c k))) e w
+
+  pub listed-are : {list' made' : List ℕ} {c : Counted} {n : ℕ} → WordsAre t room list made list' made' (Ok (with_names c (names-read.Listed n)))
       → Listed t room c list made list' made' n
   listed-are (words.facts C x) = by C x
     where
@@ -168,7 +173,7 @@ module _ {t list made : List ℕ} {room : ℕ} where
           record { counts = C; room' = omega (arith, C.symbols); few = omega (arith, C.symbols); count = refl; names = refl; wrote = refl }
 
   pub counted-are : {list' made' : List ℕ} {c : Counted} {n : ℕ}
-      → WordsAre t room list made list' made' (text-words.Facts c (names-read.Counted n))
+      → WordsAre t room list made list' made' (Ok (with_names c (names-read.Counted n)))
       → (C : Counts t c) × ((c.symbols + 2 ≤ room) × (most_names < c.symbols) × (n ≡ length (name_list t C.facts)))
   counted-are (words.facts C x) = by C x
     where
@@ -176,7 +181,7 @@ module _ {t list made : List ℕ} {room : ℕ} where
           → (C : Counts t c) × ((c.symbols + 2 ≤ room) × (most_names < c.symbols) × (n ≡ length (name_list t C.facts)))
       by C (words.many h k) = (C, (omega (arith, C.symbols), omega (arith, C.symbols), refl))
 
-  pub passed-are : {list' made' : List ℕ} {c : Counted} → WordsAre t room list made list' made' (text-words.Facts c names-read.Passed)
+  pub passed-are : {list' made' : List ℕ} {c : Counted} → WordsAre t room list made list' made' (Ok (with_names c names-read.Passed))
       → Counts t c × (room < c.symbols + 2)
   passed-are (words.facts C x) = by C x
     where
@@ -184,7 +189,7 @@ module _ {t list made : List ℕ} {room : ℕ} where
           → Counts t c × (room < c.symbols + 2)
       by C (words.no_room h) = (C, omega (arith, C.symbols))
 
-  pub turned-are : {list' made' : List ℕ} (f : Refusal) → WordsAre t room list made list' made' (text-words.Refused f)
+  pub turned-are : {list' made' : List ℕ} (f : Refusal) → WordsAre t room list made list' made' (Err f)
       → Taken t (refuse (told f))
   turned-are f (words.refused x) = x
 
@@ -229,27 +234,27 @@ listed-loads {t} {list' = list'} {made' = made'} {n = n} {c = c} cells names cel
 -- made, and read as no table
 module _ {t made list : List ℕ} where
   pub facts-made : {list' made' : List ℕ} {c : Counted} {n : ℕ} (L : Listed t most_table_cells c list made list' made' n)
-      → FactsAre t made list made' list' (facts-answer.Made c (sizes (c.symbols + 2) n))
+      → FactsAre t made list made' list' (Ok (made_as.Made c (sizes (c.symbols + 2) n)))
   facts-made L = rw (cells_count L, L.wrote, L.names, L.count) (are-made L.counts L.few)
 
   pub facts-many : {list' made' : List ℕ} {c : Counted} {n : ℕ}
-      → WordsAre t most_table_cells list made list' made' (text-words.Facts c (names-read.Counted n))
-      → FactsAre t made list made' list' (facts-answer.Long c)
+      → WordsAre t most_table_cells list made list' made' (Ok (with_names c (names-read.Counted n)))
+      → FactsAre t made list made' list' (Ok (made_as.Long c))
   facts-many (words.facts C x) = by C x
     where
       by : {c : Counted} (C : Counts t c) {list' made' : List ℕ} {n : ℕ}
           → NamesAre t C.facts most_table_cells list made list' made' (names-read.Counted n)
-          → FactsAre t made list made' list' (facts-answer.Long c)
+          → FactsAre t made list made' list' (Ok (made_as.Long c))
       by C (words.many h k) = entry.too_long C (omega (arith, C.symbols))
 
-  pub facts-passed : {list' made' : List ℕ} {c : Counted} → WordsAre t most_table_cells list made list' made' (text-words.Facts c names-read.Passed)
-      → FactsAre t made list made' list' (facts-answer.Long c)
+  pub facts-passed : {list' made' : List ℕ} {c : Counted} → WordsAre t most_table_cells list made list' made' (Ok (with_names c names-read.Passed))
+      → FactsAre t made list made' list' (Ok (made_as.Long c))
   facts-passed (words.facts C x) = by C x
     where
       by : {c : Counted} (C : Counts t c) {list' made' : List ℕ} → NamesAre t C.facts most_table_cells list made list' made' names-read.Passed
-          → FactsAre t made list made' list' (facts-answer.Long c)
+          → FactsAre t made list made' list' (Ok (made_as.Long c))
       by C (words.no_room h) = entry.too_long C (omega (arith, C.symbols))
 
-  pub facts-turned : {list' made' : List ℕ} {f : Refusal} → WordsAre t most_table_cells list made list' made' (text-words.Refused f)
-      → FactsAre t made list made' list' (facts-answer.Refused f)
+  pub facts-turned : {list' made' : List ℕ} {f : Refusal} → WordsAre t most_table_cells list made list' made' (Err f)
+      → FactsAre t made list made' list' (Err f)
   facts-turned (words.refused x) = entry.not_taken x

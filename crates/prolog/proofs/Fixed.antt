@@ -16,8 +16,8 @@ use Rattle.scan.specs.declared.Counted.{Counted}
 use Rattle.scan.proofs.Fixed.{counts-fixed}
 use Rattle.texttable.proofs.Fixed.{taken-apart}
 use Rattle.prolog.specs.Entry.{text_told, sizes, FactsAre, are-made, too_long, not_taken}
-use Rattle.prolog.specs.declared.FactsAnswer.{FactsAnswer}
-use Rattle.prolog.specs.declared.FactsAnswer.TheVariants as facts-answer
+use Rattle.prolog.specs.declared.FactsMade.{FactsMade}
+use Rattle.prolog.specs.declared.FactsMade.TheVariants as facts-made
 use Rattle.prolog.specs.declared.TextSize.{TextSize}
 use Rattle.refusal.specs.declared.Refusal.{Refusal}
 use Rattle.std.specs.Prelude.{Result, Ok, Err}
@@ -37,22 +37,22 @@ read-text-fixed {r = r} {s = s} a b = let f = text-fixed a b in (text_told-one r
 long_apart : {t : List ℕ} {c d : Counted} → Counts t c → Counts t d → c.symbols ≤ most_names → most_names < d.symbols → ⊥
 long_apart {t} C D h k = omega (arith, ap (λ (x : Counted). x.symbols) (counts-fixed t C D).1)
 
-pub make-facts-fixed : {t made list m l m' l' : List ℕ} {a b : FactsAnswer} → FactsAre t made list m l a → FactsAre t made list m' l' b
+pub make-facts-fixed : {t made list m l m' l' : List ℕ} {a b : Result FactsMade Refusal} → FactsAre t made list m l a → FactsAre t made list m' l' b
     → (a ≡ b) × (m ≡ m') × (l ≡ l')
 make-facts-fixed {t} {made} {list} (are-made C h) (are-made D k) =
     let e = counts-fixed t C D in (
-      ap₂ (λ (c : Counted) (fs : List Fact). facts-answer.Made c (sizes (length (table_cells t fs)) (length (name_list t fs)))) e.1 e.0,
+      ap₂ (λ (c : Counted) (fs : List Fact). Ok (facts-made.Made c (sizes (length (table_cells t fs)) (length (name_list t fs))))) e.1 e.0,
       ap (λ (fs : List Fact). put_first (table_cells t fs) made) e.0,
       ap (λ (fs : List Fact). put_first (name_list t fs) list) e.0,
     )
 make-facts-fixed (are-made C h) (too_long D k) = absurd (long_apart C D h k)
 make-facts-fixed (are-made C h) (not_taken y) = absurd (taken-apart C.taken y)
 make-facts-fixed (too_long C h) (are-made D k) = absurd (long_apart D C k h)
-make-facts-fixed {t} (too_long C h) (too_long D k) = (ap facts-answer.Long (counts-fixed t C D).1, refl, refl)
+make-facts-fixed {t} (too_long C h) (too_long D k) = (ap (λ (c : Counted). Ok (facts-made.Long c)) (counts-fixed t C D).1, refl, refl)
 make-facts-fixed (too_long C h) (not_taken y) = absurd (taken-apart C.taken y)
 make-facts-fixed (not_taken x) (are-made D k) = absurd (taken-apart D.taken x)
 make-facts-fixed (not_taken x) (too_long D k) = absurd (taken-apart D.taken x)
 make-facts-fixed {t} (not_taken {f = f} x) (not_taken {f = g} y) =
     let e = taken-fixed t x y in
     let q : told f ≡ told g = cc in
-    (ap facts-answer.Refused (told-one q), refl, refl)
+    (ap Err (told-one q), refl, refl)

@@ -1,4 +1,4 @@
-// Tables from Prolog text (02, W-201): the entry. Nothing is written to a lent room before everything is decided: the list of names and the
+// Tables from Prolog text: the entry. Nothing is written to a lent room before everything is decided: the list of names and the
 // cells are made in arrays of this side, for at most 2,048 symbols; where there are more, the table is too long, and names are only
 // counted.
 #![tactic(auto)]
@@ -15,7 +15,7 @@ use limits::{NAMES, TABLE_CELLS};
 use refusal::{Input, Reason, Refusal};
 use scan::Counted;
 use table::TableAnswer;
-use texttable::{NamesRead, TextWords};
+use texttable::NamesRead;
 
 // How many cells are made, and how many names listed.
 #[derive(Clone, Copy)]
@@ -88,47 +88,43 @@ pub fn read_text(text: &[u8], cells: &mut [u32], names: &mut [u32]) -> Result<Te
 {
     let mut list = [0u32; NAMES];
     let mut made = [0u32; TABLE_CELLS];
-    match texttable::read_words(text, cells.len(), &mut list, &mut made) {
-        TextWords::Facts(c, known) => match known {
-            NamesRead::Listed(n) => {
-                if names.len() < n {
-                    return Err(no_room(n));
-                }
-                let k = c.symbols + 2;
-                give(&made[..k], &list[..n], cells, names)
+    let words = texttable::read_words(text, cells.len(), &mut list, &mut made)?;
+    match words.names {
+        NamesRead::Listed(n) => {
+            if names.len() < n {
+                return Err(no_room(n));
             }
-            NamesRead::Counted(n) => Err(over(n, names.len())),
-            NamesRead::Passed => Err(no_room(c.symbols + 2)),
-        },
-        TextWords::Refused(f) => Err(f),
+            let k = words.facts.symbols + 2;
+            give(&made[..k], &list[..n], cells, names)
+        }
+        NamesRead::Counted(n) => Err(over(n, names.len())),
+        NamesRead::Passed => Err(no_room(words.facts.symbols + 2)),
     }
 }
 
-// The facts of a text, counted, with their cells and names; or there are over 2,048 symbols; or why the text is turned away.
-#[derive(Drop)]
-pub enum FactsAnswer {
+// The facts of a text, counted, with their cells and names; or there are over 2,048 symbols.
+#[derive(Clone, Copy)]
+pub enum FactsMade {
     Made(Counted, TextSize),
     Long(Counted),
-    Refused(Refusal),
 }
 
-// The cells and the names of a text, made at the front of two rooms and read as no table: what 01 asks of a table is not asked of it.
+// The cells and the names of a text, made at the front of two rooms and read as no table: what is asked of a table is not asked of it.
 pub fn make_facts(
     text: &[u8],
     made: &mut [u32; TABLE_CELLS],
     list: &mut [u32; NAMES],
-) -> FactsAnswer
+) -> Result<FactsMade, Refusal>
     ensures { FactsAre text.now made.old list.old made.new list.new result }
 {
-    match texttable::read_words(text, TABLE_CELLS, list, made) {
-        TextWords::Facts(c, known) => match known {
-            NamesRead::Listed(names) => {
-                let cells = c.symbols + 2;
-                FactsAnswer::Made(c, TextSize { cells, names })
-            }
-            NamesRead::Counted(_) => FactsAnswer::Long(c),
-            NamesRead::Passed => FactsAnswer::Long(c),
-        },
-        TextWords::Refused(f) => FactsAnswer::Refused(f),
+    let words = texttable::read_words(text, TABLE_CELLS, list, made)?;
+    let facts = words.facts;
+    match words.names {
+        NamesRead::Listed(names) => {
+            let cells = facts.symbols + 2;
+            Ok(FactsMade::Made(facts, TextSize { cells, names }))
+        }
+        NamesRead::Counted(_) => Ok(FactsMade::Long(facts)),
+        NamesRead::Passed => Ok(FactsMade::Long(facts)),
     }
 }
