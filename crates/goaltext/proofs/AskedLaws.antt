@@ -32,7 +32,8 @@ use Rattle.scan.specs.declared.Counted.{Counted}
 use Rattle.slices.specs.declared.Span.{Span}
 use Rattle.prolog.specs.Entry.{FactsAre, are-made}
 use Rattle.prolog.specs.Entry as entry
-use Rattle.prolog.specs.declared.FactsAnswer.TheVariants as facts-answer
+use Rattle.prolog.specs.declared.FactsMade.TheVariants as facts-made
+use Rattle.std.specs.Prelude.{Ok, Err}
 use Rattle.prolog.specs.declared.TextSize.{TextSize}
 use Rattle.prolog.proofs.EntryLaws.{cells-long}
 use Rattle.slices.proofs.SliceLaws.{part-is}
@@ -336,7 +337,7 @@ pub record MadeAt (t : List ℕ) (c : Counted) (made list : List ℕ) (s : TextS
   pub names : take s.names list ≡ name_list t counts.facts
 
 module _ {t made list : List ℕ} where
-  pub made-are : {made' list' : List ℕ} {c : Counted} {s : TextSize} → FactsAre t made list made' list' (facts-answer.Made c s) → MadeAt t c made' list' s
+  pub made-are : {made' list' : List ℕ} {c : Counted} {s : TextSize} → FactsAre t made list made' list' (Ok (facts-made.Made c s)) → MadeAt t c made' list' s
   made-are (are-made C h) =
       let cells = table_cells t C.facts in
       let names = name_list t C.facts in
@@ -347,10 +348,10 @@ module _ {t made list : List ℕ} where
         names = take-append_seam names (drop (length names) list);
       }
 
-  pub long-are : {made' list' : List ℕ} {c : Counted} → FactsAre t made list made' list' (facts-answer.Long c) → Counts t c × (most_names < c.symbols)
+  pub long-are : {made' list' : List ℕ} {c : Counted} → FactsAre t made list made' list' (Ok (facts-made.Long c)) → Counts t c × (most_names < c.symbols)
   long-are (entry.too_long C h) = (C, h)
 
-  pub turned-are : {made' list' : List ℕ} (f : Refusal) → FactsAre t made list made' list' (facts-answer.Refused f) → Taken t (refuse (told f))
+  pub turned-are : {made' list' : List ℕ} (f : Refusal) → FactsAre t made list made' list' (Err f) → Taken t (refuse (told f))
   turned-are f (entry.not_taken x) = x
 
 -- at least two cells, and the row behind them

@@ -22,7 +22,7 @@ use Rattle.lex.specs.declared.fact.Head.{Head}
 use Rattle.lex.specs.declared.fact.Head.TheVariants as head
 use Rattle.scan.specs.Scan.{ScanIs, Counts}
 use Rattle.scan.specs.declared.Counted.{Counted}
-use Rattle.scan.specs.declared.Scan.TheVariants as scan
+use Rattle.std.specs.Prelude.{Err}
 use Rattle.slices.specs.declared.Span.{Span}
 use Rattle.scan.proofs.SaysLaws.{scan-turned}
 use Rattle.termtext.specs.Saying.{predicate_in}
@@ -78,7 +78,7 @@ predicate-facts t s c N C =
     let w : c.width ≡ o.0.width = sym C.width ∙ ap width_of q in
     one-predicate t o.0 z.0 z.1 w (first (subst (λ (fs : List Fact). Taken t (read fs)) q C.taken))
 
-pub predicate-none : (t : List ℕ) (f : Refusal) → ScanIs t (scan.Refused f) → PredicateIs t (record { start = 0; end = 0; width = 0 })
+pub predicate-none : (t : List ℕ) (f : Refusal) → ScanIs t (Err f) → PredicateIs t (record { start = 0; end = 0; width = 0 })
 predicate-none t f s = none (scan-turned t f s)
 
 -- A TEXT OR NOT
@@ -89,7 +89,7 @@ ends-facts t c C = by C.taken
     by (taken h x e) = (C.facts, x)
 
 module _ (t : List ℕ) (f : Refusal) (few : length t ≤ most_text_bytes) where
-  pub ends-stop : ScanIs t (scan.Refused f) → reason_number f.reason ≡ 18 → EndsAre t (ends.Stop f.place)
+  pub ends-stop : ScanIs t (Err f) → reason_number f.reason ≡ 18 → EndsAre t (ends.Stop f.place)
   ends-stop s n = by (scan-turned t f s) refl
     where
       by : {o : Read (List Fact)} → Taken t o → o ≡ refuse (told f) → Stops t f.place
@@ -106,7 +106,7 @@ module _ (t : List ℕ) (f : Refusal) (few : length t ≤ most_text_bytes) where
           number (refuse r) = r.number
       by (taken h x y) e = absurd (let z : ◌≡◌ {A = ℕ} 0 1 = cc in omega arith)
 
-  pub ends-other : ScanIs t (scan.Refused f) → (reason_number f.reason ≡ 18 → ⊥) → EndsAre t ends.Whole
+  pub ends-other : ScanIs t (Err f) → (reason_number f.reason ≡ 18 → ⊥) → EndsAre t ends.Whole
   ends-other s n = by (scan-turned t f s) refl
     where
       number : Read (List Fact) → ℕ

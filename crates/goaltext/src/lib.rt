@@ -14,9 +14,9 @@ ghost use Rattle.limits.specs.Limits.{most_goal_bytes, most_names, most_text_byt
 
 use lex::fact::Head;
 use limits::{GOAL_BYTES, NAMES, ROW_CELLS, TABLE_CELLS, TEXT_BYTES};
-use prolog::FactsAnswer;
+use prolog::FactsMade;
 use refusal::{Input, Reason, Refusal};
-use scan::{Counted, Scan};
+use scan::Counted;
 use slices::Span;
 use table::GoalAnswer;
 use termtext::Predicate;
@@ -38,12 +38,12 @@ pub fn predicate_of(text: &[u8]) -> Predicate
 {
     let s = first_name(text);
     match scan::scan_text(text) {
-        Scan::Facts(c) => Predicate {
+        Ok(c) => Predicate {
             start: s.start,
             end: s.end,
             width: c.width,
         },
-        Scan::Refused(_) => Predicate {
+        Err(_) => Predicate {
             start: 0,
             end: 0,
             width: 0,
@@ -79,8 +79,8 @@ fn text_ends(text: &[u8]) -> Ends
     ensures { length text.now ≤ most_text_bytes → EndsAre text.now result }
 {
     match scan::scan_text(text) {
-        Scan::Facts(_) => Ends::Whole,
-        Scan::Refused(f) => {
+        Ok(_) => Ends::Whole,
+        Err(f) => {
             let reason = f.reason;
             let place = f.place;
             if refusal::number_of(reason) == 18 {
@@ -176,7 +176,7 @@ fn read_whole(
     let mut made = [0u32; TABLE_CELLS];
     let mut list = [0u32; NAMES];
     match prolog::make_facts(whole, &mut made, &mut list) {
-        FactsAnswer::Made(c, size) => {
+        Ok(FactsMade::Made(c, size)) => {
             if is_ours(text, p, whole, s, c) {
                 let k = size.cells;
                 let n = size.names;
@@ -193,13 +193,13 @@ fn read_whole(
             }
             refuse(Reason::Other, Input::Text, s.start)
         }
-        FactsAnswer::Long(c) => {
+        Ok(FactsMade::Long(c)) => {
             if is_ours(text, p, whole, s, c) {
                 return refuse(Reason::Length, Input::Goal, 0);
             }
             refuse(Reason::Other, Input::Text, s.start)
         }
-        FactsAnswer::Refused(_) => refuse(Reason::Other, Input::Text, s.start),
+        Err(_) => refuse(Reason::Other, Input::Text, s.start),
     }
 }
 
