@@ -24,6 +24,7 @@ use Rattle.least.specs.Measures.{weight_at}
 use Rattle.least.specs.Later.{later_in}
 use Rattle.least.specs.code.Low.{Light}
 use Rattle.least.proofs.Later.{weight-later}
+use Rattle.paircosts.specs.declared.arrays.Note.{Note}
 use Rattle.paircosts.specs.code.Notes.{note, note_in, put_note, weight_in, most_agreed, weight_of, weights_from, VariablesBelow, LastRow, Alone}
 use Rattle.paircosts.proofs.RingLaws.{put_other, put-alike, put-room}
 use Rattle.limits.specs.Limits.{most_table_cells}
@@ -77,7 +78,7 @@ module _ {before : List ℕ} {n : ℕ} (x : VariablesBelow before n) where
   weight-next {c} m s (new C i e) = rw (i, x.below c i)
   weight-next {c} m s (old C i l) = rw (i, x.below c i)
 
-module _ {cells marks notes₀ : List ℕ} {row at stop : ℕ} (g : LastRow cells marks notes₀ row at stop) where
+module _ {cells marks : List ℕ} {notes₀ : List Note} {row at stop : ℕ} (g : LastRow cells marks notes₀ row at stop) where
   pub alone-start : Alone g at notes₀ 0 0
   unfolding count
   alone-start = record {
@@ -92,7 +93,7 @@ module _ {cells marks notes₀ : List ℕ} {row at stop : ℕ} (g : LastRow cell
     room = g.room;
   }
 
-  module _ {notes : List ℕ} {q n k : ℕ} (x : Alone g q notes n k) (h : q < stop) where
+  module _ {notes : List Note} {q n k : ℕ} (x : Alone g q notes n k) (h : q < stop) where
     abbrev c : ℕ
     c = get_or cells q 0
 
@@ -165,9 +166,9 @@ module _ {cells marks notes₀ : List ℕ} {row at stop : ℕ} (g : LastRow cell
       room = put-room notes q (note 1 0 row) ∙ x.room;
     }
 
-  pub alone-end : {notes : List ℕ} {q n k : ℕ} → stop ≤ q → Alone g q notes n k → Alone g stop notes n k
+  pub alone-end : {notes : List Note} {q n k : ℕ} → stop ≤ q → Alone g q notes n k → Alone g stop notes n k
   alone-end {q = q} h x = let e : q ≡ stop = omega (arith, x.order.1) in rw e at x
 
   -- in the end what is counted is what the row's cells cost
-  pub alone-sum : {notes : List ℕ} {n k : ℕ} → Alone g stop notes n k → n ≡ weights_from g.m [] (slice at stop cells)
+  pub alone-sum : {notes : List Note} {n k : ℕ} → Alone g stop notes n k → n ≡ weights_from g.m [] (slice at stop cells)
   alone-sum x = let z : weights_from g.m x.before (slice stop stop cells) ≡ 0 = rw (slice_empty stop cells) in omega (arith, x.sum, z)

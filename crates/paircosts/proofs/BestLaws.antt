@@ -9,6 +9,7 @@ use lib.Dec.{ltb}
 use borrow.Author.Tests.{ltb-true, ltb-false, lt-ltb}
 use Rattle.least.specs.code.Best.{argmin, least_over}
 use Rattle.least.proofs.Minimum.{argmin-within, argmin-first}
+use Rattle.paircosts.specs.declared.arrays.Note.{Note}
 use Rattle.paircosts.specs.declared.arrays.Row.{Row}
 use Rattle.paircosts.specs.declared.arrays.Found.{Found}
 use Rattle.paircosts.specs.declared.arrays.Part.{Part}
@@ -69,7 +70,7 @@ module _ (ok : ℕ → Bool) (F : ℕ → ℕ) where
       h (argmin ok k F) (omega (arith, a.within)) a.chosen
 
 -- a pair by its sort
-module _ {marks kept notes : List ℕ} {row : Row} {part : Part} {asked : Asked} (g : Sorted marks kept notes row part asked) where
+module _ {marks kept : List ℕ} {notes : List Note} {row : Row} {part : Part} {asked : Asked} (g : Sorted marks kept notes row part asked) where
   pub none-yet-is : choice_of too_much 0 ≡ best_to g.pair.ok g.pair.prices 0
   unfolding best_to
   none-yet-is = refl

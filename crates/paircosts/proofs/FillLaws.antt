@@ -16,6 +16,7 @@ use Rattle.table.proofs.AllLaws.{all-at}
 use Rattle.state.specs.Flags.{flags_in}
 use Rattle.least.specs.Entries.{whole_in, cost_in, place_in, SameAt}
 use Rattle.least.specs.code.Pairs.{later_of, agreed_of, least_by, place_by}
+use Rattle.paircosts.specs.declared.arrays.Note.{Note}
 use Rattle.paircosts.specs.declared.arrays.Asked.{Asked}
 use Rattle.paircosts.specs.declared.arrays.Row.{Row}
 use Rattle.paircosts.specs.Fill.{Unasked}
@@ -224,7 +225,7 @@ module _ {cells marks starts : List ℕ} {asked : Asked} {old : List ℕ} (t : T
     pub row-short : row.end ≤ row.start + 32
     row-short = omega (arith, row_fits.1, length-slice row.start row.end cells row-bounds.1)
 
-  abbrev pub last_row : {row : Row} {notes : List ℕ} → RowHere cells starts asked.count row → length notes ≡ 192
+  abbrev pub last_row : {row : Row} {notes : List Note} → RowHere cells starts asked.count row → length notes ≡ 64
       → LastRow cells marks notes row.number row.start row.end
   last_row h room = record {
     m = t.m;
@@ -237,8 +238,8 @@ module _ {cells marks starts : List ℕ} {asked : Asked} {old : List ℕ} (t : T
   }
 
   -- the last row by itself
-  pub last-noted : {row : Row} {notes₀ notes kept : List ℕ} {agreed : ℕ} (h : RowHere cells starts asked.count row) → asked.since ≤ row.number
-      → FilledTo t (suc row.number) row.number kept → (room : length notes₀ ≡ 192) → {met : ℕ}
+  pub last-noted : {row : Row} {notes₀ notes : List Note} {kept : List ℕ} {agreed : ℕ} (h : RowHere cells starts asked.count row) → asked.since ≤ row.number
+      → FilledTo t (suc row.number) row.number kept → (room : length notes₀ ≡ 64) → {met : ℕ}
       → Alone (last_row {row = row} {notes = notes₀} h room) row.end notes agreed met
       → NotedTo t (suc row.number) row.number row notes kept agreed
   unfolding later_of
@@ -261,7 +262,7 @@ module _ {cells marks starts : List ℕ} {asked : Asked} {old : List ℕ} (t : T
         room = x.room;
       }
 
-  abbrev pub pair-at : {last agreed : ℕ} {row : Row} {notes kept : List ℕ} → NotedTo t (suc row.number) last row notes kept agreed
+  abbrev pub pair-at : {last agreed : ℕ} {row : Row} {notes : List Note} {kept : List ℕ} → NotedTo t (suc row.number) last row notes kept agreed
       → PairAt marks kept notes row (shared_of last agreed) asked
   pair-at {row = row} x = record {
     m = t.m;
@@ -287,7 +288,7 @@ module _ {cells marks starts : List ℕ} {asked : Asked} {old : List ℕ} (t : T
     long = x.filled.long;
   }
 
-  pub pair-kept : {last agreed : ℕ} {row : Row} {notes a b : List ℕ} → NotedTo t (suc row.number) last row notes a agreed
+  pub pair-kept : {last agreed : ℕ} {row : Row} {notes : List Note} {a b : List ℕ} → NotedTo t (suc row.number) last row notes a agreed
       → KeepsBefore t.m (named t) t.width t.rows t.N asked.top row.number last a b → NotedTo t row.number last row notes b agreed
   pair-kept x k = record {
     here = x.here;
@@ -303,7 +304,7 @@ module _ {cells marks starts : List ℕ} {asked : Asked} {old : List ℕ} (t : T
   }
 
   -- from one row to the one before it
-  module _ {last agreed : ℕ} {row : Row} {notes kept : List ℕ} (x : NotedTo t row.number last row notes kept agreed) (some : 0 < row.number) (row' : Row)
+  module _ {last agreed : ℕ} {row : Row} {notes : List Note} {kept : List ℕ} (x : NotedTo t row.number last row notes kept agreed) (some : 0 < row.number) (row' : Row)
       (is : row' ≡ pair_row (row.number - 1) (get_or starts (row.number - 1) 0) row.start) where
     pub number_is : suc row'.number ≡ row.number
     number_is = omega (arith, ap (λ (r : Row). r.number) is)
@@ -360,7 +361,7 @@ module _ {cells marks starts : List ℕ} {asked : Asked} {old : List ℕ} (t : T
       long = x.filled.long;
     }
 
-    pub next-noted : (notes' : List ℕ) (agreed' : ℕ) → RowNoted next_row notes' agreed' → NotedTo t (suc row'.number) last row' notes' kept agreed'
+    pub next-noted : (notes' : List Note) (agreed' : ℕ) → RowNoted next_row notes' agreed' → NotedTo t (suc row'.number) last row' notes' kept agreed'
     unfolding later_of
     next-noted notes' agreed' y =
         let c : slice row.number (suc last) t.rows ≡ get_or t.rows row.number [] ∷ slice (suc row.number) (suc last) t.rows =
@@ -382,7 +383,7 @@ module _ {cells marks starts : List ℕ} {asked : Asked} {old : List ℕ} (t : T
           room = y.room;
         }
 
-  pub rows-done : {last agreed : ℕ} {row : Row} {notes kept : List ℕ} → NotedTo t row.number last row notes kept agreed → row.number ≤ 0
+  pub rows-done : {last agreed : ℕ} {row : Row} {notes : List Note} {kept : List ℕ} → NotedTo t row.number last row notes kept agreed → row.number ≤ 0
       → FilledTo t 0 last kept
   rows-done {row = row} x h = let e : row.number ≡ 0 = omega arith in rw e at x.filled
 

@@ -47,7 +47,7 @@ price-small {s = s} small row low p =
     let v = small s.to x.low x.high in
     omega (arith, p.price, x.small, x.few)
 
-module _ {marks kept notes : List ℕ} {row : Row} {shared : Shared} {asked : Asked} (g : PairAt marks kept notes row shared asked) where
+module _ {marks kept : List ℕ} {notes : List Note} {row : Row} {shared : Shared} {asked : Asked} (g : PairAt marks kept notes row shared asked) where
   abbrev fs : List Bool
   fs = flags_in g.width asked.named
 

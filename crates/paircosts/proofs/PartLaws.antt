@@ -26,7 +26,7 @@ or-true true = refl
 or-true false = refl
 
 -- WHAT IS CLOSED, in a named column
-module _ {marks notes : List ℕ} {start end : ℕ} {part : Part} (g : Column marks notes start end part) where
+module _ {marks : List ℕ} {notes : List Note} {start end : ℕ} {part : Part} (g : Column marks notes start end part) where
   abbrev Left-in : ℕ → ℕ → ℕ → Type 0
   Left-in q i w = Shown (note_in notes) (end_in marks) (weight_in marks) (λ (p : ℕ) (s : Note). g.ok p ≡ true) end g.opens q i w
 
@@ -98,7 +98,7 @@ module _ {marks notes : List ℕ} {start end : ℕ} {part : Part} (g : Column ma
             (rw f (record { place = x.place; weight = v; shown = s; is = x.is; sum = omega (arith, x.sum); light = omega (arith, x.light) }), omega arith)
 
 -- and in all of them
-module _ {marks notes : List ℕ} {start end named : ℕ} (g : Columns marks notes start end named) where
+module _ {marks : List ℕ} {notes : List Note} {start end named : ℕ} (g : Columns marks notes start end named) where
   abbrev Parts : List Bool → ℕ → ℕ → ℕ → Type 0
   Parts fs q i w =
       ShownIn (note_in notes) (end_in marks) (weight_in marks) (λ (p : ℕ) (s : Note). g.ok p ≡ true) (λ (p : ℕ). g.ok p ≡ false) end g.opens fs q i

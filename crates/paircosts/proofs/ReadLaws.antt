@@ -20,7 +20,7 @@ use Rattle.paircosts.specs.code.Filling.{pair_row}
 use Rattle.paircosts.proofs.WalkLaws.{Here, ended, one, many, here, shown-few, in-over, Looked, on-column, look_in, look-past}
 
 -- THE CHEAPEST PLACE, over a range of cells
-module _ {marks kept notes : List ℕ} {range : Row} {base : Base} {found : Found} (g : Range marks kept notes range base found) where
+module _ {marks kept : List ℕ} {notes : List Note} {range : Row} {base : Base} {found : Found} (g : Range marks kept notes range base found) where
   abbrev stop : ℕ
   stop = range.end
 
@@ -122,7 +122,7 @@ module _ {marks kept notes : List ℕ} {range : Row} {base : Base} {found : Foun
           (o.small, g.pair.few.0, g.pair.few.1, g.pair.long)
 
 -- over the named columns
-module _ {marks kept notes : List ℕ} {row : Row} {base : Base} {named : ℕ} (g : Inside marks kept notes row base named) where
+module _ {marks kept : List ℕ} {notes : List Note} {row : Row} {base : Base} {named : ℕ} (g : Inside marks kept notes row base named) where
   abbrev Cols : List Bool → ℕ → ℕ → ℕ → Type 0
   Cols fs q i w = ShownIn (note_in notes) (end_in marks) (weight_in marks) (PricedOf g.pair) (λ (p : ℕ). g.pair.ok p ≡ false) row.end g.opens fs q i w
 

@@ -51,7 +51,7 @@ ended_at {cells = cells} {r = r} p e x h l t =
     (x.at p (omega arith) (omega arith)).end ∙ ap (λ (l : List ℕ). p + length l) k
 
 -- the note that one step of the walk puts
-abbrev pub note_step : (cells kept notes : List ℕ) → ℕ → ℕ → ℕ → Note
+abbrev pub note_step : (cells kept : List ℕ) (notes : List Note) → ℕ → ℕ → ℕ → Note
 note_step cells kept notes row p q = note_next (read_in kept) (note_in notes p) row (get_or cells q 0) (get_or cells p 0)
 
 next-some : (W : ℕ → ℕ → ℕ) (s : Note) (row c d : ℕ) → 1 ≤ s.runs → 1 ≤ (note_next W s row c d).runs
@@ -64,13 +64,13 @@ next-some W s row c d h = go (agree c d)
 next-same : (U W : ℕ → ℕ → ℕ) (s : Note) (row c d : ℕ) → U (suc row) s.to ≡ W (suc row) s.to → note_next U s row c d ≡ note_next W s row c d
 next-same U W s row c d e = rw e
 
-module _ {cells marks kept notes₀ : List ℕ} {row new old : ℕ} (g : NextRow cells marks kept notes₀ row new old) where
+module _ {cells marks kept : List ℕ} {notes₀ : List Note} {row new old : ℕ} (g : NextRow cells marks kept notes₀ row new old) where
   abbrev stop : ℕ
   stop = g.stop
 
   -- the walk has come to cell q of the new row and to cell p of the row after it: what is left of each row begins there, what is noted
   -- from q on completes what has been noted so far, and what is closed from q on adds to what is closed so far
-  pub record RowAt (notes : List ℕ) (agreed p q : ℕ) : Type 0 where
+  pub record RowAt (notes : List Note) (agreed p q : ℕ) : Type 0 where
     pub r : ℕ
     pub rest : List (List ℕ)
     pub noted : From g.m g.costs (suc row) (note_in notes₀) p r (slice p stop cells) rest
@@ -83,7 +83,7 @@ module _ {cells marks kept notes₀ : List ℕ} {row new old : ℕ} (g : NextRow
         → (b : ℕ) → Noted g.m g.costs row N q r (slice q old cells) (slice p stop cells ∷ rest) b
         → Noted g.m g.costs row N new g.width (slice new old cells) (slice old stop cells ∷ g.rest) (agreed + b)
     pub light : agreed ≤ 7 * q
-    pub room : length notes ≡ 192
+    pub room : length notes ≡ 64
 
   pub row-start : RowAt notes₀ 0 old new
   row-start = record {
@@ -103,7 +103,7 @@ module _ {cells marks kept notes₀ : List ℕ} {row new old : ℕ} (g : NextRow
   old-in : old ≤ length cells
   old-in = omega (arith, g.order.1, g.order.2)
 
-  pub row-end : {notes : List ℕ} {n p q : ℕ} → RowAt notes n p q → old ≤ q → RowNoted g notes n
+  pub row-end : {notes : List Note} {n p q : ℕ} → RowAt notes n p q → old ≤ q → RowNoted g notes n
   row-end {notes} {n} {p} {q} x h =
       let l : length (slice q old cells) ≡ old - q = length-slice q old cells old-in in
       let z : x.r ≡ 0 = no-terms x.new-terms (omega (arith, x.order.3)) in
@@ -119,7 +119,7 @@ module _ {cells marks kept notes₀ : List ℕ} {row new old : ℕ} (g : NextRow
       no-terms none e = refl
       no-terms (more t) e = absurd (omega arith)
 
-  module _ (notes : List ℕ) (n p q : ℕ) (x : RowAt notes n p q) (h : q < old) where
+  module _ (notes : List Note) (n p q : ℕ) (x : RowAt notes n p q) (h : q < old) where
     abbrev step_note : Note
     step_note = note_step cells kept notes row p q
 
@@ -158,7 +158,7 @@ module _ {cells marks kept notes₀ : List ℕ} {row new old : ℕ} (g : NextRow
         let e : suc row + length (map (root 0) x.rest) ≡ g.last = omega (arith, g.rows.0) in
         rw (x.same p x.order.0 row-after, note-is old-at z) (rw e at f)
 
-    abbrev notes' : List ℕ
+    abbrev notes' : List Note
     notes' = put_note notes q step_note
 
     -- the note that is put is that of the column with the new row

@@ -24,28 +24,19 @@ struct Note {
     to: u32,
 }
 
-// The notes are three numbers for each cell of two neighbouring rows: 64 at most, told apart by their places modulo 64.
-fn note_at(notes: &[u32; 192], q: usize) -> Note
+// The notes of the cells of two neighbouring rows: 64 at most, told apart by their places modulo 64.
+type Notes = [Note; 64];
+
+fn note_at(notes: &Notes, q: usize) -> Note
     ensures { result ≡ note_in notes.now q }
 {
-    let at = q % 64;
-    Note {
-        runs: notes[at],
-        sum: notes[64 + at],
-        to: notes[128 + at],
-    }
+    notes[q % 64]
 }
 
-fn put_note(notes: &mut [u32; 192], q: usize, s: Note)
+fn put_note(notes: &mut Notes, q: usize, s: Note)
     ensures { notes.new ≡ put_note notes.old q s }
 {
-    let at = q % 64;
-    let runs = s.runs;
-    let sum = s.sum;
-    let to = s.to;
-    notes[at] = runs;
-    notes[64 + at] = sum;
-    notes[128 + at] = to;
+    notes[q % 64] = s;
 }
 
 // A cell's mark: 8 times where its term ends, and what the cell weighs.
@@ -161,7 +152,7 @@ fn note_row(
     cells: &[u32],
     marks: &[u16; TABLE_CELLS],
     kept: &[u32],
-    notes: &mut [u32; 192],
+    notes: &mut Notes,
     row: Row,
 ) -> u32
     requires { NextRow cells.now marks.now kept.now notes.old row.number row.start row.end }
@@ -202,7 +193,7 @@ fn met_after(c: u32, met: u32) -> u32
 }
 
 // A row by itself: every place is closed. Answers what its cells cost, met one after another.
-fn note_last(cells: &[u32], marks: &[u16; TABLE_CELLS], notes: &mut [u32; 192], row: Row) -> u32
+fn note_last(cells: &[u32], marks: &[u16; TABLE_CELLS], notes: &mut Notes, row: Row) -> u32
     requires { LastRow cells.now marks.now notes.old row.number row.start row.end }
     ensures { (g : LastRow cells.now marks.now notes.old
         row.number row.start row.end) → (n : ℕ) × Alone g row.end notes.new result n }
@@ -274,7 +265,7 @@ struct Found {
 fn cheapest(
     marks: &[u16; TABLE_CELLS],
     kept: &[u32],
-    notes: &[u32; 192],
+    notes: &Notes,
     range: Row,
     base: Base,
     found: Found,
@@ -316,7 +307,7 @@ fn passed(found: Found) -> Found
 fn cheapest_named(
     marks: &[u16; TABLE_CELLS],
     kept: &[u32],
-    notes: &[u32; 192],
+    notes: &Notes,
     row: Row,
     base: Base,
     named: u64,
@@ -359,13 +350,7 @@ struct Part {
 }
 
 // With the cells of one named column more.
-fn part_in(
-    marks: &[u16; TABLE_CELLS],
-    notes: &[u32; 192],
-    start: usize,
-    end: usize,
-    part: Part,
-) -> Part
+fn part_in(marks: &[u16; TABLE_CELLS], notes: &Notes, start: usize, end: usize, part: Part) -> Part
     requires { Column marks.now notes.now start end part }
     ensures { (g : Column marks.now notes.now start end part)
         → (result ≡ part_of (part.agreed + g.weight) (some_to g.ok g.opens)) × (result.agreed ≤ 7 * end) }
@@ -388,7 +373,7 @@ fn part_in(
 }
 
 // The cells of all named columns of a row. The lowest bit is the column's own.
-fn part_named(marks: &[u16; TABLE_CELLS], notes: &[u32; 192], row: Row, named: u64) -> Part
+fn part_named(marks: &[u16; TABLE_CELLS], notes: &Notes, row: Row, named: u64) -> Part
     requires { Columns marks.now notes.now row.start row.end named }
     ensures { (g : Columns marks.now notes.now row.start row.end named)
         → (result ≡ part_of g.weight (some_to g.ok g.opens)) × (result.agreed ≤ most_agreed) }
@@ -413,13 +398,7 @@ fn part_named(marks: &[u16; TABLE_CELLS], notes: &[u32; 192], row: Row, named: u
 
 // The closed cells of a pair, which weigh `agreed` where every place that its rows agree on is closed. So they are where no
 // column is named, and where no place inside the named ones stays open.
-fn part_of(
-    marks: &[u16; TABLE_CELLS],
-    notes: &[u32; 192],
-    row: Row,
-    agreed: u32,
-    named: u64,
-) -> Part
+fn part_of(marks: &[u16; TABLE_CELLS], notes: &Notes, row: Row, agreed: u32, named: u64) -> Part
     requires { Columns marks.now notes.now row.start row.end named × (agreed ≤ most_agreed) }
     ensures { (g : Columns marks.now notes.now row.start row.end named)
         → (result ≡ sort_of agreed g.weight (some_to g.ok g.opens)) × (result.agreed ≤ most_agreed) }
@@ -464,7 +443,7 @@ struct Shared {
 fn best_of(
     marks: &[u16; TABLE_CELLS],
     kept: &[u32],
-    notes: &[u32; 192],
+    notes: &Notes,
     row: Row,
     part: Part,
     asked: Asked,
@@ -501,7 +480,7 @@ fn best_of(
 fn keep_pair(
     marks: &[u16; TABLE_CELLS],
     kept: &mut [u32],
-    notes: &[u32; 192],
+    notes: &Notes,
     row: Row,
     shared: Shared,
     asked: Asked,
@@ -527,7 +506,7 @@ fn keep_pair(
 fn keep_before(
     marks: &[u16; TABLE_CELLS],
     kept: &mut [u32],
-    notes: &[u32; 192],
+    notes: &Notes,
     row: Row,
     shared: Shared,
     asked: Asked,
@@ -570,7 +549,11 @@ fn pairs_to(
         → FilledTo g.task 0 row.number kept.new }
 {
     let last = row.number;
-    let mut notes = [0; 192];
+    let mut notes = [Note {
+        runs: 0,
+        sum: 0,
+        to: 0,
+    }; 64];
     let mut agreed = note_last(cells, marks, &mut notes, row);
     keep_before(
         marks,

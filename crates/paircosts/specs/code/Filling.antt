@@ -11,6 +11,7 @@ use Rattle.state.specs.Flags.{flags_in}
 use Rattle.least.specs.Entries.{cost_in, place_in, SameAt}
 use Rattle.least.specs.code.Low.{Low}
 use Rattle.least.specs.code.Pairs.{later_of, agreed_of, least_by, place_by, whole_by}
+use Rattle.paircosts.specs.declared.arrays.Note.{Note}
 use Rattle.paircosts.specs.declared.arrays.Asked.{Asked}
 use Rattle.paircosts.specs.declared.arrays.Row.{Row}
 use Rattle.paircosts.specs.declared.arrays.Shared.{Shared}
@@ -41,7 +42,7 @@ pub record Laid (cells starts : List ℕ) (count width : ℕ) (rows : List (List
 -- what is given where the values of a pair are kept: the notes at its first row, whose cells are those from its start up to its end, and
 -- what the closed cells cost where all that its rows agree on is closed, which is what they weigh and the later meetings of a single row.
 -- What a run of rows costs is N
-pub record PairAt (marks kept notes : List ℕ) (row : Row) (shared : Shared) (asked : Asked) : Type 0 where
+pub record PairAt (marks kept : List ℕ) (notes : List Note) (row : Row) (shared : Shared) (asked : Asked) : Type 0 where
   pub m : Measure
   pub low : Low m
   pub figure-is : asked.figure ≡ m.figure
@@ -126,7 +127,7 @@ pub record RowHere (cells starts : List ℕ) (count : ℕ) (row : Row) : Type 0 
 module _ {cells marks starts : List ℕ} {asked : Asked} {old : List ℕ} (t : Task cells marks starts asked old) where
   -- a row is noted with those after it up to the last one, what they agree on costs so much, and the pairs that end there are done from a
   -- first row on
-  pub record NotedTo (first last : ℕ) (row : Row) (notes kept : List ℕ) (agreed : ℕ) : Type 0 where
+  pub record NotedTo (first last : ℕ) (row : Row) (notes : List Note) (kept : List ℕ) (agreed : ℕ) : Type 0 where
     pub here : RowHere cells starts asked.count row
     pub order : row.number ≤ last
     pub inside : last < asked.count
@@ -137,7 +138,7 @@ module _ {cells marks starts : List ℕ} {asked : Asked} {old : List ℕ} (t : T
     pub agreed-is : agreed ≡ weight + later_of t.m most_row_cells [] t.width t.rows row.number last
     pub light : agreed ≤ most_agreed
     pub filled : FilledTo t first last kept
-    pub room : length notes ≡ 192
+    pub room : length notes ≡ 64
 
 -- what is given where the pairs that end at a row are worked out: those that end before it are done
 pub record LastAt (cells marks starts kept : List ℕ) (asked : Asked) (row : Row) : Type 0 where

@@ -41,13 +41,13 @@ pub record Fair (first last : ℕ) (noted : Note) : Type 0 where
   pub earlier : 1 < noted.runs → noted.to < last
   pub small : noted.sum ≤ 65535 * noted.runs
 
--- The notes as they are kept: three numbers for each of 64 cells. Two neighbouring rows have no more cells than that, so that a cell's
--- place modulo 64 tells it from all others that are looked at
-abbrev pub note_in : List ℕ → ℕ → Note
-note_in notes q = note (get_or notes (q % 64) 0) (get_or notes (64 + q % 64) 0) (get_or notes (128 + q % 64) 0)
+-- The notes as they are kept, one for each of 64 cells. Two neighbouring rows have no more cells than that, so that a cell's place modulo 64
+-- tells it from all others that are looked at
+abbrev pub note_in : List Note → ℕ → Note
+note_in notes q = get_or notes (q % 64) (note 0 0 0)
 
-abbrev pub put_note : List ℕ → ℕ → Note → List ℕ
-put_note notes q s = set (set (set notes (q % 64) s.runs) (64 + q % 64) s.sum) (128 + q % 64) s.to
+abbrev pub put_note : List Note → ℕ → Note → List Note
+put_note notes q s = set notes (q % 64) s
 
 -- how long the array is
 abbrev pub Long : List ℕ → Type 0
@@ -108,7 +108,7 @@ EndsFrom cells marks j = (i : ℕ) → j ≤ i → i < length cells → end_in m
 -- What is given where one row more is noted, in front, its cells from `new` up to `old`: the row after it is noted at its cells from
 -- `old` on, with the rows after that up to the last one, and what a run costs is kept for each that begins at that row. No row has more
 -- than 32 cells
-pub record NextRow (cells marks kept notes : List ℕ) (row new old : ℕ) : Type 0 where
+pub record NextRow (cells marks kept : List ℕ) (notes : List Note) (row new old : ℕ) : Type 0 where
   pub m : Measure
   pub costs : ℕ → ℕ → ℕ
   pub count : ℕ
@@ -126,16 +126,16 @@ pub record NextRow (cells marks kept notes : List ℕ) (row new old : ℕ) : Typ
   pub marked : MarkedFrom m cells marks 0
   pub known : (j : ℕ) → suc row ≤ j → j ≤ last → read_in kept (suc row) j ≡ costs (suc row) j
   pub small : (i k : ℕ) → i ≤ k → k < count → costs i k ≤ 65535
-  pub room : length notes ≡ 192
+  pub room : length notes ≡ 64
   pub long : Long kept
 
 -- with it the new row is noted, and its closed cells weigh `agreed`
-pub record RowNoted {cells marks kept notes : List ℕ} {row new old : ℕ} (given : NextRow cells marks kept notes row new old)
-    (after : List ℕ) (agreed : ℕ) : Type 0 where
+pub record RowNoted {cells marks kept : List ℕ} {notes : List Note} {row new old : ℕ} (given : NextRow cells marks kept notes row new old)
+    (after : List Note) (agreed : ℕ) : Type 0 where
   pub noted : Noted given.m given.costs row (note_in after) new given.width (slice new old cells)
       (slice old given.stop cells ∷ given.rest) agreed
   pub light : agreed ≤ most_agreed
-  pub room : length after ≡ 192
+  pub room : length after ≡ 64
 
 -- what some cells weigh together
 abbrev pub weight_of : Measure → List ℕ → ℕ
@@ -148,14 +148,14 @@ weights_from m met [] = 0
 weights_from m met (c ∷ cells) = weight_at m met c + weights_from m (c ∷ met) cells
 
 -- what is given where a row is noted by itself, its cells from `at` up to a stop
-pub record LastRow (cells marks notes : List ℕ) (row at stop : ℕ) : Type 0 where
+pub record LastRow (cells marks : List ℕ) (notes : List Note) (row at stop : ℕ) : Type 0 where
   pub m : Measure
   pub width : ℕ
   pub head : Head width (slice at stop cells)
   pub marked : MarkedFrom m cells marks 0
   pub part : (at ≤ stop) × (stop ≤ length cells) × (length cells ≤ most_table_cells)
   pub number : row < most_rows
-  pub room : length notes ≡ 192
+  pub room : length notes ≡ 64
 
 -- the variables among some cells are those below a number
 pub record VariablesBelow (cells : List ℕ) (met : ℕ) : Type 0 where
@@ -163,7 +163,7 @@ pub record VariablesBelow (cells : List ℕ) (met : ℕ) : Type 0 where
 
 -- every cell of it is closed; so it is noted up to cell q, and with the cells from there on those so far cost what all of them do. So many
 -- variables are met before q, and the cells from there on number theirs further
-pub record Alone {cells marks notes : List ℕ} {row at stop : ℕ} (given : LastRow cells marks notes row at stop) (q : ℕ) (after : List ℕ)
+pub record Alone {cells marks : List ℕ} {notes : List Note} {row at stop : ℕ} (given : LastRow cells marks notes row at stop) (q : ℕ) (after : List Note)
     (agreed met : ℕ) : Type 0 where
   pub each : (j : ℕ) → at ≤ j → j < q → note_in after j ≡ note 1 0 row
   pub before : List ℕ
@@ -173,4 +173,4 @@ pub record Alone {cells marks notes : List ℕ} {row at stop : ℕ} (given : Las
   pub order : (at ≤ q) × (q ≤ stop)
   pub small : met ≤ q
   pub light : agreed ≤ 7 * q
-  pub room : length after ≡ 192
+  pub room : length after ≡ 64

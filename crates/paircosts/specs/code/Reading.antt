@@ -100,7 +100,7 @@ abbrev pub PricedOf : {kept : List ℕ} {first agreed figure : ℕ} → Pair kep
 PricedOf {first = first} {agreed} {figure} pair = Priced pair.costs first pair.last agreed figure pair.ok pair.prices
 
 -- the open places in a range of cells of its first row, where those before them are looked at
-pub record Range (marks kept notes : List ℕ) (range : Row) (base : Base) (found : Found) : Type 0 where
+pub record Range (marks kept : List ℕ) (notes : List Note) (range : Row) (base : Base) (found : Found) : Type 0 where
   pub pair : Pair kept range.number base.agreed base.figure
   pub opens : ℕ
   pub weight : ℕ
@@ -109,7 +109,7 @@ pub record Range (marks kept notes : List ℕ) (range : Row) (base : Base) (foun
   pub within : (range.end ≤ most_table_cells) × (found.place ≤ range.start)
 
 -- all of them, where those inside named columns alone may be chosen
-pub record Inside (marks kept notes : List ℕ) (row : Row) (base : Base) (named : ℕ) : Type 0 where
+pub record Inside (marks kept : List ℕ) (notes : List Note) (row : Row) (base : Base) (named : ℕ) : Type 0 where
   pub pair : Pair kept row.number base.agreed base.figure
   pub width : ℕ
   pub opens : ℕ
@@ -119,7 +119,7 @@ pub record Inside (marks kept notes : List ℕ) (row : Row) (base : Base) (named
   pub within : row.end ≤ most_table_cells
 
 -- a named column, where those before it are looked at: `ok` are the open places inside named columns
-pub record Column (marks notes : List ℕ) (start end : ℕ) (part : Part) : Type 0 where
+pub record Column (marks : List ℕ) (notes : List Note) (start end : ℕ) (part : Part) : Type 0 where
   pub ok : ℕ → Bool
   pub passed : ℕ
   pub opens : ℕ
@@ -130,7 +130,7 @@ pub record Column (marks notes : List ℕ) (start end : ℕ) (part : Part) : Typ
   pub within : end ≤ most_table_cells
 
 -- all columns
-pub record Columns (marks notes : List ℕ) (start end named : ℕ) : Type 0 where
+pub record Columns (marks : List ℕ) (notes : List Note) (start end named : ℕ) : Type 0 where
   pub ok : ℕ → Bool
   pub width : ℕ
   pub opens : ℕ
@@ -140,7 +140,7 @@ pub record Columns (marks notes : List ℕ) (start end named : ℕ) : Type 0 whe
   pub within : end ≤ most_table_cells
 
 -- the open places of a pair, by which of them may be chosen: all, or those inside named columns, of which there is one
-pub record Sorted (marks kept notes : List ℕ) (row : Row) (part : Part) (asked : Asked) : Type 0 where
+pub record Sorted (marks kept : List ℕ) (notes : List Note) (row : Row) (part : Part) (asked : Asked) : Type 0 where
   pub pair : Pair kept row.number part.agreed asked.figure
   pub opens : ℕ
   pub all : part.only ≡ false → (weight : ℕ)

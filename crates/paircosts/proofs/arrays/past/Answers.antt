@@ -12,7 +12,7 @@ loop-preserved c =
     let s = c.args.cells.now in
     let left : ℕ = c.args.terms - c.loop.counter in
     let e : c.end_in-at.result ≡ past_of s 1 c.loop.at =
-        c.end_in-at.ensures ∙ c.requires.2 c.loop.at c.loop.invariant.on (omega (arith, c.if-cells-at.false)) in
+    c.end_in-at.ensures ∙ c.requires.2 c.loop.at c.loop.invariant.on (omega (arith, c.if-cells-at.false)) in
     let n : c.args.terms - (c.loop.counter + 1) ≡ left - 1 = omega arith in
     record {
       ends = ap (λ (k : ℕ). past_of s k c.end_in-at.result) n ∙ ap (λ (q : ℕ). past_of s (left - 1) q) e
