@@ -231,9 +231,9 @@ module _ {plan : List ℕ} {at places : ℕ} (w : Peopled plan at places) (j nex
     pub rows : Each (FillsAt index k (blank k)) gs
     pub puts : Putting old new to on (flat (own j places called (each trees index))) (flat (own_of w.stands.tree j next))
 
-  pub own-begins : {out : List ℕ} {to : ℕ} → 0 < places → next ≤ at + 1
-      → OwnLeft (get_or plan at 0) out to out (get_or plan (at + 1) 0) (at + 2) to next
-  own-begins {out} {to} h n =
+  pub own-begins : {out : List ℕ} {to left : ℕ} → 0 < places → next ≤ at + 1 → left ≡ get_or plan (at + 1) 0
+      → OwnLeft (get_or plan at 0) out to out left (at + 2) to next
+  own-begins {out} {to} h n z =
       let s = w.stands in
       let i = inner-is s.tree (omega (arith, s.open-places)) in
       let x = i.index in
@@ -254,7 +254,7 @@ module _ {plan : List ℕ} {at places : ℕ} (w : Peopled plan at places) (j nex
         most = length s.rows;
         open-places = s.open-places ∙ i.one_more;
         inside = omega (arith, one.1, i.inside);
-        count_of = two.1;
+        count_of = z ∙ two.1;
         cells = rw e at two.2;
         after = omega arith;
         few = omega arith;
@@ -340,9 +340,9 @@ module _ {plan : List ℕ} {at places : ℕ} {w : Peopled plan at places} {j nex
       → flat (own j places called (each l.trees index)) ≡ flat_one (its_clause x) ++ flat (own j places (called + n) (each x.first.trees index))
   own-next x n q = rw (x.heads, q) (first_flat x.first j places called x.some)
 
-  own-beside : (x : Here) {s : Past} {new' : List ℕ} {on' : ℕ} → PastOf x.first.tree (p + 1) s → Put new new' on (flat_one (its_clause x)) on'
-      → OwnLeft w j next index old to new' (left - 1) s.at on' (called + s.splits)
-  own-beside x {s} q y =
+  own-beside : (x : Here) {rest : ℕ} {s : Past} {new' : List ℕ} {on' : ℕ} → rest + 1 ≡ left → PastOf x.first.tree (p + 1) s → Put new new' on (flat_one (its_clause x)) on'
+      → OwnLeft w j next index old to new' rest s.at on' (called + s.splits)
+  own-beside x {s = s} less q y =
       let t = x.first.tree in
       let e = own-next x s.splits q.counts in
       record {
@@ -372,8 +372,8 @@ module _ {plan : List ℕ} {at places : ℕ} {w : Peopled plan at places} {j nex
     pub below : Stands plan (p + 1) (a + places - 1)
     pub branch : BranchAt plan p index (mine j called places)
     pub fits : {s : Past} → PastOf below.tree (p + 1) s → called + s.splits ≤ most_plan_cells
-    pub beside : {s : Past} {new' : List ℕ} {on' : ℕ} → PastOf below.tree (p + 1) s → Put new new' on (flat_one (branch_clause branch)) on'
-        → OwnLeft w j next index old to new' (left - 1) s.at on' (called + s.splits)
+    pub beside : {rest : ℕ} {s : Past} {new' : List ℕ} {on' : ℕ} → rest + 1 ≡ left → PastOf below.tree (p + 1) s → Put new new' on (flat_one (branch_clause branch)) on'
+        → OwnLeft w j next index old to new' rest s.at on' (called + s.splits)
 
   pub own-goes : (a : ℕ) → 0 < left → j ≤ at → a ≡ arity (get_or plan p 0) → OwnGoes a
   own-goes a h m ea =
@@ -388,5 +388,5 @@ module _ {plan : List ℕ} {at places : ℕ} {w : Peopled plan at places} {j nex
         below = own_below x a ea;
         branch = own-branch x m;
         fits = λ q. omega (arith, q.counts, splits-short t, l.few, x.within, w.stands.size);
-        beside = λ q y. own-beside x q y;
+        beside = λ less q y. own-beside x less q y;
       }

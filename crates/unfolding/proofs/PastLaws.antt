@@ -122,9 +122,9 @@ module _ {plan : List ℕ} {at places : ℕ} where
       let i = inner-is w.tree (omega (arith, w.open-places)) in
       omega (arith, length-drop at plan, ap length w.cells, length-append (write w.tree) w.rest, ap length i.cells)
 
-  pub enters : (w : Stands plan at places) {n : ℕ} → 0 < places → n ≡ cond (ltb 1 (get_or plan (at + 1) 0)) 1 0
-      → Left w (get_or plan (at + 1) 0) (passed (at + 2) n)
-  enters w h q =
+  pub enters : (w : Stands plan at places) {n left : ℕ} → 0 < places → n ≡ cond (ltb 1 (get_or plan (at + 1) 0)) 1 0
+      → left ≡ get_or plan (at + 1) 0 → Left w left (passed (at + 2) n)
+  enters w h q z =
       let i = inner-is w.tree (omega (arith, w.open-places)) in
       let gs = runs i.index w.rows in
       let here = head_at plan at i.index (length gs ∷ (writes i.trees ++ w.rest)) (w.cells ∙ rw i.cells) in
@@ -137,7 +137,7 @@ module _ {plan : List ℕ} {at places : ℕ} where
         trees = i.trees;
         rest = w.rest;
         open-places = w.open-places ∙ i.one_more;
-        count = two.1;
+        count = z ∙ two.1;
         cells = rw e at two.2;
         after = omega arith;
         past = omega (arith, ap length i.cells);
@@ -159,7 +159,7 @@ module _ {plan : List ℕ} {at places : ℕ} where
     pub further : at < here.at
     pub few-args : a ≤ 4
     pub below : Stands plan (here.at + 1) (a + places - 1)
-    pub beside : {s : Past} → PastOf below.tree (here.at + 1) s → Left w (left - 1) (passed s.at (here.splits + s.splits))
+    pub beside : {rest : ℕ} {s : Past} → rest + 1 ≡ left → PastOf below.tree (here.at + 1) s → Left w rest (passed s.at (here.splits + s.splits))
     pub fits : {s : Past} → PastOf below.tree (here.at + 1) s → here.splits + s.splits ≤ most_plan_cells
 
   pub goes : {w : Stands plan at places} {left : ℕ} {here : Past} (l : Left w left here) (a : ℕ) → 0 < left
@@ -189,7 +189,7 @@ module _ {plan : List ℕ} {at places : ℕ} where
           wide = omega (arith, w.wide, l.after, ea, arity-small (get_or plan p 0));
           size = w.size;
         };
-        beside = λ q. record {
+        beside = λ less q. record {
           k = l.k;
           gs = f.others;
           trees = f.trees;

@@ -228,10 +228,10 @@ module _ {plan : List ℕ} {at places : ℕ} where
     pub past : here.at + length (writes trees) ≡ at + length (write w.stands.tree)
     pub counted : here.number + splits_in trees ≡ number + splits_below w.stands.tree
 
-  pub below-enters : {out : List ℕ} {number to : ℕ} (w : Peopled plan at places) → 0 < places
-      → Left w number to out out (get_or plan (at + 1) 0) (stand (at + 2) number to)
+  pub below-enters : {out : List ℕ} {number to left : ℕ} (w : Peopled plan at places) → 0 < places → left ≡ get_or plan (at + 1) 0
+      → Left w number to out out left (stand (at + 2) number to)
   unfolding flat
-  below-enters {number = number} w h =
+  below-enters {number = number} w h z =
       let s = w.stands in
       let i = inner s h in
       let b = branches_at s h in
@@ -244,7 +244,7 @@ module _ {plan : List ℕ} {at places : ℕ} where
         rest = s.rest;
         done = [];
         open-places = s.open-places ∙ i.one_more;
-        count = b.0;
+        count = z ∙ b.0;
         cells = b.1;
         seated = group-all (root i.index) (close i.index) (Seat (suc i.below)) (SeatAt i.below)
             (seat-close i.below i.index i.inside) s.rows all;
@@ -279,10 +279,10 @@ module _ {plan : List ℕ} {at places : ℕ} where
     pub further : at < here.at
     pub few-args : a ≤ 4
     pub below : Peopled plan (here.at + 1) (a + places - 1)
-    pub beside : {last : List ℕ} {s : Stand}
+    pub beside : {last : List ℕ} {s : Stand} {rest : ℕ} → rest + 1 ≡ left
         → Visits new last (stand (here.at + 1) here.number here.to) (length (write below.stands.tree)) (splits below.stands.tree)
         (visited below.stands.tree here.number) s
-        → Left w number to old last (left - 1) s
+        → Left w number to old last rest s
 
   pub goes_on : {w : Peopled plan at places} {number to : ℕ} {old new : List ℕ} {left : ℕ} {here : Stand} (l : Left w number to old new left here)
       (a : ℕ) → 0 < left → a ≡ arity (get_or plan here.at 0) → Goes l a
@@ -316,7 +316,7 @@ module _ {plan : List ℕ} {at places : ℕ} where
           some = sized.0.0;
           fills = all-fills places-below f.run.rows (seats l.k f.run.cell f.run.rows seated.0);
         };
-        beside = λ {last} {s} q. record {
+        beside = λ {last} {s} less q. record {
           k = l.k;
           gs = f.others;
           trees = f.trees;

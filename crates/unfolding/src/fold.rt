@@ -6,7 +6,7 @@ ghost use Rattle.unfolding.specs.code.Folds.{Folds, Folded};
 use heads::decide_in;
 
 // A head on the way down a straight run: the state's place in the plan, how many places are open, how many cells the head has.
-#[derive(Drop)]
+#[derive(Clone, Copy)]
 pub struct Fold {
     pub at: usize,
     pub places: usize,

@@ -11,7 +11,7 @@ use heads::{decide_in, put_clause};
 use limits::ROW_CELLS;
 
 // What a branch's clause has from its state: its predicate, the one that is called if the run does not end at a leaf, and its width.
-#[derive(Drop)]
+#[derive(Clone, Copy)]
 pub struct Own {
     pub predicate: usize,
     pub called: usize,
@@ -69,11 +69,11 @@ pub fn put_own(
         → Put program.old program.new to (flat (own_of w.stands.tree k next)) result }
 {
     let index = plan[at] as usize;
-    let mut left = plan[at + 1];
+    let branches = plan[at + 1];
     let mut p = at + 2;
     let mut on = to;
     let mut called = next;
-    while 0 < left {
+    for _ in 0..branches {
         let wider = cell::arity_of(plan[p]) + places - 1;
         let end = past_state(plan, p + 1, wider);
         let o = Own {
@@ -84,7 +84,6 @@ pub fn put_own(
         on = put_branch(plan, p, index, o, program, on);
         called += end.splits;
         p = end.at;
-        left -= 1;
     }
     on
 }

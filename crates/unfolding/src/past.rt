@@ -3,7 +3,7 @@ ghost use Rattle.std.specs.Prelude.{◌≡◌, cond, ltb};
 ghost use Rattle.unfolding.specs.code.Walk.{Stands, PastOf};
 
 // The place in the plan after a state, and how many states with several branches it has, itself and all below counted.
-#[derive(Drop)]
+#[derive(Clone, Copy)]
 pub struct Past {
     pub at: usize,
     pub splits: usize,
@@ -29,12 +29,12 @@ pub fn past_state(plan: &[u32], at: usize, places: usize) -> Past
             splits: 0,
         };
     }
-    let mut left = plan[at + 1];
+    let branches = plan[at + 1];
     let mut here = Past {
         at: at + 2,
-        splits: split(left),
+        splits: split(branches),
     };
-    while 0 < left {
+    for _ in 0..branches {
         let p = here.at;
         let wider = cell::arity_of(plan[p]) + places - 1;
         let below = past_state(plan, p + 1, wider);
@@ -42,7 +42,6 @@ pub fn past_state(plan: &[u32], at: usize, places: usize) -> Past
             at: below.at,
             splits: here.splits + below.splits,
         };
-        left -= 1;
     }
     here
 }

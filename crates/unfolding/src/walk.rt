@@ -7,7 +7,7 @@ ghost use Rattle.unfolding.specs.code.Visits.{Peopled, Visits, below_of, splits_
 use crate::own::put_own;
 
 // Where the walk stands: the next cell of the plan, the number of the next predicate, and the place of the next clause.
-#[derive(Drop)]
+#[derive(Clone, Copy)]
 pub struct Stand {
     pub at: usize,
     pub number: usize,
@@ -56,13 +56,13 @@ pub fn visit_below(plan: &[u32], places: usize, program: &mut [u32], from: Stand
         (below_of w.stands.tree from.number) result }
 {
     let first = from.at;
-    let mut left = plan[first + 1];
+    let branches = plan[first + 1];
     let mut here = Stand {
         at: first + 2,
         number: from.number,
         to: from.to,
     };
-    while 0 < left {
+    for _ in 0..branches {
         let p = here.at;
         let wider = cell::arity_of(plan[p]) + places - 1;
         let below = Stand {
@@ -71,7 +71,6 @@ pub fn visit_below(plan: &[u32], places: usize, program: &mut [u32], from: Stand
             to: here.to,
         };
         here = visit(plan, wider, program, below);
-        left -= 1;
     }
     here
 }

@@ -1,4 +1,3 @@
-use Rattle.std.proofs.Common.{arith}
 use Rattle.std.proofs.lemmas.Result.{err_from_is_err_and}
 use Rattle.checker.proofs.Accepts.{check-accepts}
 use Rattle.unfolding.proofs.EntryLaws.{width_read, first-state, made-whole, turned-away}

@@ -4,11 +4,8 @@ use Rattle.unfolding.specs.code.Walk.{Stands}
 use Rattle.unfolding.proofs.PastLaws.{Left}
 use Rattle.unfolding.proofs.past.+past_state.Given as goal
 
-abbrev pub invariant-loop-left : goal.invariant-loop-left
-invariant-loop-left l = (w : Stands l.plan l.at l.places) → Left w l.left l.here
-
-abbrev pub decreases-loop-left : goal.decreases-loop-left
-decreases-loop-left l = l.left
+abbrev pub invariant-loop : goal.invariant-loop
+invariant-loop l = (w : Stands l.plan l.at l.places) → Left w (l.branches - l.counter) l.here
 
 abbrev pub decreases-past_state : goal.decreases-past_state
 decreases-past_state l = length l.plan.now - l.at
