@@ -172,9 +172,9 @@ module _ {plan noted : List ℕ} {places depth stop : ℕ} {from : Stand} where
       let i = inner-is w.tree (omega (arith, w.open-places)) in
       omega (arith, length-drop from.at plan, ap length w.cells, length-append (write w.tree) w.rest, ap length i.cells)
 
-  pub enters : {out : List ℕ} (w : Ready plan noted places depth stop from) → 0 < places
-      → Left w out out (get_or plan from.at 0) (get_or plan (from.at + 1) 0) (stand (from.at + 2) from.number from.to)
-  enters w h =
+  pub enters : {out : List ℕ} {left : ℕ} (w : Ready plan noted places depth stop from) → 0 < places → left ≡ get_or plan (from.at + 1) 0
+      → Left w out out (get_or plan from.at 0) left (stand (from.at + 2) from.number from.to)
+  enters w h z =
       let at = from.at in
       let i = inner-is w.tree (omega (arith, w.open-places)) in
       let here = head_at plan at i.index (length (runs i.index w.rows) ∷ (writes i.trees ++ w.rest)) (w.cells ∙ rw i.cells) in
@@ -188,7 +188,7 @@ module _ {plan noted : List ℕ} {places depth stop : ℕ} {from : Stand} where
         rest = w.rest;
         done = [];
         open-places = w.open-places ∙ i.one_more;
-        count = two.1;
+        count = z ∙ two.1;
         cells = rw e at two.2;
         marked = i.marks noted from.number w.first w.marked;
         some = i.some;
@@ -224,9 +224,9 @@ module _ {plan noted : List ℕ} {places depth stop : ℕ} {from : Stand} where
     pub some : row < after
     pub few-args : a ≤ 4
     pub below : (to : ℕ) → Ready plan noted (a + places - 1) (depth + 1) after (stand (here.at + 1) (here.number + 1) to)
-    pub beside : {mid last : List ℕ} {to : ℕ} {s : Stand} → Put new mid here.to (line depth index (get_or plan here.at 0) row (after - 1)) to
+    pub beside : {mid last : List ℕ} {to rest : ℕ} {s : Stand} → rest + 1 ≡ left → Put new mid here.to (line depth index (get_or plan here.at 0) row (after - 1)) to
         → Walked mid last (depth + 1) (below to).first (stand (here.at + 1) (here.number + 1) to) (below to).tree s
-        → Left w old last index (left - 1) s
+        → Left w old last index rest s
 
   -- where it stands: its own number, and that of the next one
   pub numbered : {w : Ready plan noted places depth stop from} {old new : List ℕ} {index left : ℕ} {here : Stand} (l : Left w old new index left here)
@@ -283,7 +283,7 @@ module _ {plan noted : List ℕ} {places depth stop : ℕ} {from : Stand} where
           wide = omega (arith, w.wide, l.after);
           size = w.size;
         };
-        beside = λ p q. record {
+        beside = λ less p q. record {
           row = after;
           k = l.k;
           gs = f.others;

@@ -9,7 +9,7 @@ use limits::BRANCHES;
 use plannotes::packed::{row_of, skip_of, wide};
 
 // Where the walk stands: the next cell of the plan, the number of the next branch in plan order, and the place of the next line.
-#[derive(Drop)]
+#[derive(Clone, Copy)]
 pub struct Stand {
     pub at: usize,
     pub number: usize,
@@ -53,18 +53,18 @@ pub fn state(
         };
     }
     let index = plan[at];
-    let mut left = plan[at + 1];
+    let branches = plan[at + 1];
     let mut here = Stand {
         at: at + 2,
         number,
         to,
     };
-    while 0 < left {
+    for passed in 0..branches {
         let p = here.at;
         let c = plan[p];
         let n = here.number;
         let w = noted[n];
-        let after = row_after(noted, n + 1 + skip_of(w), left, stop);
+        let after = row_after(noted, n + 1 + skip_of(w), branches - passed, stop);
         let on = put_line(out, here.to, depth, index, c, wide(row_of(w)), after - 1);
         let wider = cell::arity_of(c) + places - 1;
         let below = Stand {
@@ -73,7 +73,6 @@ pub fn state(
             to: on,
         };
         here = state(plan, noted, out, wider, depth + 1, after, below);
-        left -= 1;
     }
     here
 }

@@ -1,12 +1,11 @@
 use mathlib.Core.Path.{sym}
-use Prim.Native.Nat.{ℕ, ◌≤◌}
+use Prim.Native.Nat.{ℕ}
 use native.Mathlib.Omega.{arith}
-use lib.ListN.{length, take, length-replicate}
+use lib.ListN.{length-replicate}
 use lib.Seq.{length-take-le}
 use Rattle.refusal.specs.Refusal.{told}
 use Rattle.printing.proofs.ListedLaws.{listed-text}
 use Rattle.listing.specs.Listing.{listing_of, refused, listed}
-use Rattle.listing.specs.code.Walk.{Planned}
 use Rattle.listing.proofs.EntryLaws.{plan-built, plan-refused, planned-few}
 use borrow.Author.Rules.{rules}
 use Rattle.listing.proofs.list_cells.Statement.{statement}

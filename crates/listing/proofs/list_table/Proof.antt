@@ -1,12 +1,11 @@
-use mathlib.Core.Path.{◌≡◌, sym, subst}
+use mathlib.Core.Path.{sym, subst}
 use mathlib.Core.List.{List}
-use Prim.Native.Nat.{ℕ, ◌≤◌}
+use Prim.Native.Nat.{ℕ}
 use native.Mathlib.Omega.{arith}
-use lib.ListN.{length, take, length-replicate}
+use lib.ListN.{length-replicate}
 use lib.Seq.{length-take-le}
-use Rattle.octets.specs.Octets.{cells_of}
 use Rattle.printing.proofs.ListedLaws.{listed-text, listed-as, listed-written}
-use Rattle.listing.specs.Listing.{ListsTable, Lists, no_cells, cells}
+use Rattle.listing.specs.Listing.{ListsTable, no_cells, cells}
 use Rattle.listing.specs.code.Walk.{most}
 use Rattle.listing.proofs.EntryLaws.{too_long, not-fours, in-fours, cells-front}
 use borrow.Author.Rules.{rules}
