@@ -1,4 +1,7 @@
 -- Hits and tries computed: by the unifier of proofs/Decide in crate term, row by row and branch by branch, as the definitions say. No plan is walked.
+use Rattle.std.specs.Prelude.{Result}
+use Rattle.answer.specs.declared.RunCounts.{RunCounts}
+use Rattle.refusal.specs.declared.Refusal.{Refusal}
 use Prim.Native.Nat.{ℕ, suc}
 use mathlib.Core.Path.{◌≡◌, sym, ◌∙◌, ap, subst}
 use mathlib.Core.Bool.{Bool, cond}
@@ -17,7 +20,6 @@ use Rattle.table.proofs.Accepted.{is-table, is-goal}
 use Rattle.plan.specs.Plans.{Plan, write}
 use Rattle.answer.specs.Skeleton.{hole, opened}
 use Rattle.answer.specs.Run.{Picks, none, hit, miss, Counts, zero_of, one_of, none_of, skeletons, Tried, run_told, Ran, refusal, ran}
-use Rattle.answer.specs.declared.RunAnswer.{RunAnswer}
 use Rattle.answer.proofs.AcceptedLaws.{goal-head, table-loose}
 use Rattle.answer.proofs.OpenGoalLaws.{skeletons-terms}
 use Rattle.answer.proofs.TakesLaws.{Takes, takes_run}
@@ -58,7 +60,7 @@ pub row-terms : (w : ℕ) (rows : List (List ℕ)) → All (Row w) rows → All 
 row-terms w [] a = tt
 row-terms w (r ∷ rs) a = (a.0.terms, row-terms w rs a.1)
 
-pub run_by : {t p g room room' : List ℕ} {T : Table} {r : RunAnswer} (tree : Plan T.width T.rows) → Takes t p g room T → write tree ≡ p
+pub run_by : {t p g room room' : List ℕ} {T : Table} {r : Result RunCounts Refusal} (tree : Plan T.width T.rows) → Takes t p g room T → write tree ≡ p
     → Ran t p g room room' r
     → (run_told r ≡ answered (length (hits_by g T.rows 0)) (tried_by g (skeletons tree (replicate T.width hole))))
     × (room' ≡ hits_by g T.rows 0 ++ drop (length (hits_by g T.rows 0)) room)

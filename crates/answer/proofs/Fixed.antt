@@ -1,6 +1,9 @@
 -- Two results of a run, and two final contents of its room, that the promise allows are equal. What a run reports is one list of rows and one number.
+use Rattle.std.specs.Prelude.{Result, Ok, Err}
+use Rattle.answer.specs.declared.RunCounts.{RunCounts}
+use Rattle.refusal.specs.declared.Refusal.{Refusal}
 use Prim.Native.Nat.{ℕ, suc}
-use mathlib.Core.Path.{◌≡◌, refl, sym, ◌∙◌, ap, subst}
+use mathlib.Core.Path.{◌≡◌, refl, sym, ◌∙◌, ap, ap₂, subst}
 use mathlib.Core.List.{List, [], ◌∷◌, ◌++◌}
 use native.Mathlib.Omega.{arith}
 use lib.ListN.{length, drop, replicate}
@@ -13,8 +16,6 @@ use Rattle.plan.specs.Plans.{Plan, write}
 use Rattle.plan.proofs.PlansLaws.{plan-tells}
 use Rattle.answer.specs.Skeleton.{hole}
 use Rattle.answer.specs.Run.{Picks, none, hit, miss, Counts, zero_of, one_of, none_of, skeletons, Tried, run_told, Ran, refusal, ran}
-use Rattle.answer.specs.declared.RunAnswer.{RunAnswer}
-use Rattle.answer.specs.declared.RunAnswer.TheVariants as run-answer
 
 -- the rows of which something holds are one list
 pub picks-one : {P : List ℕ → Type 0} {rs : List (List ℕ)} {f : ℕ} {hs hs' : List ℕ} → Picks P rs f hs → Picks P rs f hs' → hs ≡ hs'
@@ -37,14 +38,17 @@ pub skeletons-one : {k k' : ℕ} {rows rows' : List (List ℕ)} → k ≡ k' →
     → skeletons p (replicate k hole) ≡ skeletons q (replicate k' hole)
 skeletons-one ek er p q e = (plan-tells (λ k rows p. skeletons p (replicate k hole)) ek er p q [] [] (ap (λ (l : List ℕ). l ++ []) e)).0
 
-pub run_told-one : (a b : RunAnswer) → run_told a ≡ run_told b → a ≡ b
-run_told-one (run-answer.Ran h t) (run-answer.Ran i u) e = cc
-run_told-one (run-answer.Ran h t) (run-answer.Refused g) e = absurd (let z : ◌≡◌ {A = ℕ} 0 1 = cc in omega arith)
-run_told-one (run-answer.Refused f) (run-answer.Ran i u) e = absurd (let z : ◌≡◌ {A = ℕ} 0 1 = cc in omega arith)
-run_told-one (run-answer.Refused f) (run-answer.Refused g) e = let q : told f ≡ told g = cc in ap run-answer.Refused (told-one q)
+pub run_told-one : (a b : Result RunCounts Refusal) → run_told a ≡ run_told b → a ≡ b
+run_told-one (Ok n) (Ok m) e =
+    let x : n.hits ≡ m.hits = cc in
+    let y : n.tried ≡ m.tried = cc in
+    ap₂ (λ (h t : ℕ). Ok (record { hits = h; tried = t })) x y
+run_told-one (Ok n) (Err g) e = absurd (let z : ◌≡◌ {A = ℕ} 0 1 = cc in omega arith)
+run_told-one (Err f) (Ok m) e = absurd (let z : ◌≡◌ {A = ℕ} 0 1 = cc in omega arith)
+run_told-one (Err f) (Err g) e = let q : told f ≡ told g = cc in ap Err (told-one q)
 
 -- run_plan
-pub run-fixed : {t p g room room' room'' : List ℕ} {r s : RunAnswer} → Ran t p g room room' r → Ran t p g room room'' s → (r ≡ s) × (room' ≡ room'')
+pub run-fixed : {t p g room room' room'' : List ℕ} {r s : Result RunCounts Refusal} → Ran t p g room room' r → Ran t p g room room'' s → (r ≡ s) × (room' ≡ room'')
 run-fixed {r = r} {s = s} (refusal f a b c) (refusal f' a' b' c') = (run_told-one r s (let q : f ≡ f' = cc in b ∙ ap turned q ∙ sym b'), c ∙ sym c')
 run-fixed (refusal f a b c) (ran T tree found n a' e w u b' c') = apart (sym a' ∙ a)
 run-fixed (ran T tree found n a e w u b c) (refusal f' a' b' c') = apart (sym a ∙ a')

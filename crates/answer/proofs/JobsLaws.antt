@@ -1,4 +1,7 @@
 -- What a list of goals becomes is one list, and each of its records is what a run of that goal alone gives, in any room that is enough.
+use Rattle.std.specs.Prelude.{Result, Ok, Err}
+use Rattle.answer.specs.declared.RunCounts.{RunCounts}
+use Rattle.refusal.specs.declared.Refusal.{Refusal}
 use Prim.Native.Nat.{ℕ, ◌≤◌}
 use mathlib.Core.Path.{◌≡◌, refl, sym, ◌∙◌, ap, ap₂}
 use mathlib.Core.List.{List, ◌∷◌, ◌++◌}
@@ -15,8 +18,6 @@ use Rattle.answer.specs.Run.{run_of, run_told, Ran, ran}
 use Rattle.answer.specs.Run as run
 use Rattle.answer.specs.Jobs.{bits_of, filled, entered, Asked, outside, alone, Each, nil, cons, JobsRun, refusal, asked}
 use Rattle.answer.specs.declared.Job.{Job}
-use Rattle.answer.specs.declared.RunAnswer.{RunAnswer}
-use Rattle.answer.specs.declared.RunAnswer.TheVariants as run-answer
 use Rattle.answer.proofs.Fixed.{run_told-one, run-fixed}
 use Rattle.answer.proofs.TakesLaws.{takes_run, run-table, run-plan, run-goal}
 
@@ -36,7 +37,7 @@ asked-fixed (outside h e) (alone room r h' x e') = absurd (let z : ⊥ = omega a
 asked-fixed (alone room r h x e) (outside h' e') = absurd (let z : ⊥ = omega arith in z)
 asked-fixed {j = j} (alone room r h x e) (alone room' r' h' x' e') =
     let f = run-fixed x x' in
-    e ∙ ap₂ (λ (s : RunAnswer) (l : List ℕ). entered j s l) f.0 f.1 ∙ sym e'
+    e ∙ ap₂ (λ (s : Result RunCounts Refusal) (l : List ℕ). entered j s l) f.0 f.1 ∙ sym e'
 
 -- run_jobs
 pub jobs-fixed : {t p cells : List ℕ} {jobs jobs' jobs'' : List Job} {a b : Answer} → JobsRun t p cells jobs jobs' a → JobsRun t p cells jobs jobs'' b
@@ -71,18 +72,18 @@ any-room-takes t p g {room} {room'} l l' = go (table_of t) refl (plan_of t p) re
     go (read T) d (read n) e = with-goal T d n e (goal_of T.width g) refl
 
 -- what is entered of a refusal, and of hits
-pub entered-refused : (j : Job) (r : RunAnswer) (f : Refused) (room : List ℕ) → run_told r ≡ turned f → entered j r room ≡ filled j f.number f.place 0 0
-entered-refused j (run-answer.Ran h n) f room e = absurd (let z : ◌≡◌ {A = ℕ} 0 1 = cc in let y : ⊥ = omega arith in y)
-entered-refused j (run-answer.Refused h) f room e = let q : told h ≡ f = cc in ap (λ (x : Refused). filled j x.number x.place 0 0) q
+pub entered-refused : (j : Job) (r : Result RunCounts Refusal) (f : Refused) (room : List ℕ) → run_told r ≡ turned f → entered j r room ≡ filled j f.number f.place 0 0
+entered-refused j (Ok n) f room e = absurd (let z : ◌≡◌ {A = ℕ} 0 1 = cc in let y : ⊥ = omega arith in y)
+entered-refused j (Err h) f room e = let q : told h ≡ f = cc in ap (λ (x : Refused). filled j x.number x.place 0 0) q
 
-pub entered-found : (j : Job) (r : RunAnswer) (found rest : List ℕ) (n : ℕ) → run_told r ≡ answered (length found) n
+pub entered-found : (j : Job) (r : Result RunCounts Refusal) (found rest : List ℕ) (n : ℕ) → run_told r ≡ answered (length found) n
     → entered j r (found ++ rest) ≡ filled j 0 0 (bits_of found) n
 entered-found j r found rest n e =
-    ap (λ (s : RunAnswer). entered j s (found ++ rest)) (run_told-one r (run-answer.Ran (length found) n) e)
+    ap (λ (s : Result RunCounts Refusal). entered j s (found ++ rest)) (run_told-one r (Ok (record { hits = length found; tried = n })) e)
     ∙ ap (λ (l : List ℕ). filled j 0 0 (bits_of l) n) (take-append_seam found rest)
 
 -- a run in one room is one in any other, with the same answer and the same record
-moved : {t p g room room₁ : List ℕ} {r : RunAnswer} (other : List ℕ) → Enough t room → Enough t other → Ran t p g room room₁ r → (j : Job)
+moved : {t p g room room₁ : List ℕ} {r : Result RunCounts Refusal} (other : List ℕ) → Enough t room → Enough t other → Ran t p g room room₁ r → (j : Job)
     → (other₁ : List ℕ) × Ran t p g other other₁ r × (entered j r other₁ ≡ entered j r room₁)
 moved {t} {p} {g} {r = r} other l l' (run.refusal f a b c) j =
     (other, run.refusal f (any-room-takes t p g l' l ∙ a) b refl, entered-refused j r f other b ∙ sym (entered-refused j r f _ b))
@@ -93,10 +94,10 @@ moved {t} {p} {g} {room} {r = r} other l l' (ran T tree found n a e w u b c) j =
       same ∙ ap (entered j r) (sym c),
     )
 
-pub any-room : {t p g room room₁ other other₁ : List ℕ} {r s : RunAnswer} → Enough t room → Enough t other → Ran t p g room room₁ r
+pub any-room : {t p g room room₁ other other₁ : List ℕ} {r s : Result RunCounts Refusal} → Enough t room → Enough t other → Ran t p g room room₁ r
     → Ran t p g other other₁ s → (j : Job)
     → entered j r room₁ ≡ entered j s other₁
 any-room {r = r} l l' x y j =
     let m = moved _ l l' x j in
     let f = run-fixed m.1 y in
-    sym m.2 ∙ ap₂ (λ (a : RunAnswer) (b : List ℕ). entered j a b) f.0 f.1
+    sym m.2 ∙ ap₂ (λ (a : Result RunCounts Refusal) (b : List ℕ). entered j a b) f.0 f.1

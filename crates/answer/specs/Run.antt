@@ -1,5 +1,7 @@
 -- What a run reports (01, "A run"; demand 2), by unification alone.
-use Rattle.std.specs.Prelude.{ℕ, suc, ◌≤◌, ◌≡◌, List, [], ◌∷◌, ◌++◌, ltb, length, drop, replicate}
+use Rattle.std.specs.Prelude.{Result, Ok, Err, ℕ, suc, ◌≤◌, ◌≡◌, List, [], ◌∷◌, ◌++◌, ltb, length, drop, replicate}
+use Rattle.answer.specs.declared.RunCounts.{RunCounts}
+use Rattle.refusal.specs.declared.Refusal.{Refusal}
 use Rattle.term.specs.Unify.{Unifies, renamed, Matches}
 use Rattle.refusal.specs.Refusal.{Refused, refused, told, Answer, answered, turned}
 use Rattle.refusal.specs.declared.Reason.TheVariants as reason
@@ -10,8 +12,6 @@ use Rattle.plan.specs.Runs.{Run}
 use Rattle.plan.specs.Plans.{Plan, leaf, node, Branches, end, next, write}
 use Rattle.plan.specs.Check.{plan_of}
 use Rattle.answer.specs.Skeleton.{hole, decide, opened}
-use Rattle.answer.specs.declared.RunAnswer.{RunAnswer}
-use Rattle.answer.specs.declared.RunAnswer.TheVariants as run-answer
 
 -- demand 2, "exactly those .., from the top down, each once": the numbers of the rows of which P holds, the first row of the list being f
 pub data Picks (P : List ℕ → Type 0) : List (List ℕ) → ℕ → List ℕ → Type 0 where
@@ -53,13 +53,13 @@ run_of table plan goal room =
     and_then (goal_of T.width goal) (λ (vars : ℕ).
     when (ltb (length room) (length T.rows)) (refused reason.Room input.Lent (length T.rows)) (read T))))
 
-abbrev pub run_told : RunAnswer → Answer
-run_told (run-answer.Ran h t) = answered h t
-run_told (run-answer.Refused f) = turned (told f)
+abbrev pub run_told : Result RunCounts Refusal → Answer
+run_told (Ok n) = answered n.hits n.tried
+run_told (Err f) = turned (told f)
 
 -- what a run of a table, a plan and a goal answers, and what the room then holds.
 -- Refused: nothing is written. Otherwise the hits come first, "and the rest of the room is untouched"
-pub data Ran (table plan goal room room' : List ℕ) (result : RunAnswer) : Type 0 where
+pub data Ran (table plan goal room room' : List ℕ) (result : Result RunCounts Refusal) : Type 0 where
   refusal : (f : Refused) → run_of table plan goal room ≡ refuse f → run_told result ≡ turned f → room' ≡ room → Ran table plan goal room room' result
   ran : (T : Table) (tree : Plan T.width T.rows) (found : List ℕ) (tried : ℕ) → run_of table plan goal room ≡ read T → plan ≡ write tree
       → Picks (λ (row : List ℕ). Matches row goal) T.rows 0 found

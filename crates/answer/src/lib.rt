@@ -1,13 +1,11 @@
-// What a run answers (01, "A run"), as mathematics: specs/ says what it is, proofs/ what holds of it. The code is in crate run.
+// What a run answers, as mathematics: specs/ says what it is, proofs/ what holds of it. The code is in crate run.
 #![tactic(auto)]
 
-use refusal::Refusal;
-
-// How many hits there are and how many branches were tried, or why the table, the plan, the goal or the room is turned away.
+// How many hits a run has, and how many branches it tried.
 #[derive(Clone, Copy)]
-pub enum RunAnswer {
-    Ran(usize, usize),
-    Refused(Refusal),
+pub struct RunCounts {
+    pub hits: usize,
+    pub tried: usize,
 }
 
 // One goal of a list (02, W-202). Its caller says where the goal's cells start among the lent cells, and how many there are. A call for the

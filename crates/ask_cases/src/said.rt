@@ -1,6 +1,5 @@
 // What the program ask says where texts of facts, goals, lists of columns and files of goals are refused: calls say it to standard error, which is
 // not stored. And what it says of counts and columns that no call here reaches.
-use answer::RunAnswer;
 use goallist::Full;
 use limits::BRANCHES;
 use message::Whose;
@@ -39,8 +38,8 @@ fn asked(rt: HostRuntime, rules: &[u8], kept: &[u32], shop: Shop, text: &[u8], r
     let found = askgoal::find(rules, kept, &numbers, ready, text, room);
     let answer = found.answer;
     match answer {
-        RunAnswer::Ran(_, _) => {}
-        RunAnswer::Refused(f) => put(rt, text, Whose::Goal, f),
+        Ok(_) => {}
+        Err(f) => put(rt, text, Whose::Goal, f),
     }
 }
 

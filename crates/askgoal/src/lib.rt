@@ -1,13 +1,14 @@
 // One goal: read, run, and what each rule that fits says.
 #![tactic(auto)]
 
-use answer::RunAnswer;
+use answer::RunCounts;
 use goalsay::Source;
 use goaltext::GoalText;
-use instance::RepliesAnswer;
+use instance::ReplyCounts;
 use limits::{BRANCHES, ROW_CELLS, ROWS};
 use page::Page;
 use plannotes::Noted;
+use refusal::Refusal;
 use shop::Shop;
 use slices::cells::part;
 use tally::Tally;
@@ -45,7 +46,7 @@ pub struct Sheet {
 // read has so many cells.
 #[derive(Clone, Copy)]
 pub struct Found {
-    pub answer: RunAnswer,
+    pub answer: Result<RunCounts, Refusal>,
     pub hits: [u8; ROWS],
     pub names: usize,
     pub new: [u32; ROW_CELLS],
@@ -137,7 +138,7 @@ pub fn find(
             }
         }
         GoalText::Refused(f) => Found {
-            answer: RunAnswer::Refused(f),
+            answer: Err(f),
             hits,
             names: 0,
             new,
@@ -156,27 +157,21 @@ fn run_goal(
     goal: &[u32],
     hits: &mut [u8],
     room: &mut [u32],
-) -> RunAnswer {
+) -> Result<RunCounts, Refusal> {
     let noted = ready.noted;
-    match run::run_noted(numbers, noted, goal, hits) {
-        RunAnswer::Ran(rules, tried) => {
-            match reply(
-                kept,
-                ready,
-                goal,
-                slices::bytes::part(&*hits, 0, rules),
-                room,
-            ) {
-                RepliesAnswer::Replied(_, _) => RunAnswer::Ran(rules, tried),
-                RepliesAnswer::Refused(f) => RunAnswer::Refused(f),
-            }
-        }
-        RunAnswer::Refused(f) => RunAnswer::Refused(f),
-    }
+    let ran = run::run_noted(numbers, noted, goal, hits)?;
+    reply(
+        kept,
+        ready,
+        goal,
+        slices::bytes::part(&*hits, 0, ran.hits),
+        room,
+    )?;
+    Ok(ran)
 }
 
 // The answers of the rules that fit.
-fn reply(kept: &[u32], ready: Ready, goal: &[u32], hits: &[u8], room: &mut [u32]) -> RepliesAnswer {
+fn reply(kept: &[u32], ready: Ready, goal: &[u32], hits: &[u8], room: &mut [u32]) -> Result<ReplyCounts, Refusal> {
     let shop = ready.shop;
     let noted = ready.noted;
     let starts = ready.starts;
@@ -207,7 +202,7 @@ fn say(
     let new = found.new;
     let hits = found.hits;
     match answer {
-        RunAnswer::Ran(rules, tried) => {
+        Ok(RunCounts { hits: rules, tried }) => {
             let first = goalsay::say_goal(rt, goal, source, out, page);
             let last = say_all(
                 rt,
@@ -223,7 +218,7 @@ fn say(
             );
             goalsay::say_counts(rt, rules, tried, shop.branches, out, last)
         }
-        RunAnswer::Refused(f) => goalsay::refuse(rt, goal, f, source, out, page),
+        Err(f) => goalsay::refuse(rt, goal, f, source, out, page),
     }
 }
 

@@ -2,7 +2,6 @@
 // its words.
 #![tactic(auto)]
 
-use builder::BuildAnswer;
 use limits::PLAN_CELLS;
 use page::Page;
 use refusal::Refusal;
@@ -31,15 +30,15 @@ pub fn print(
         &mut plan,
         &mut best,
     ) {
-        BuildAnswer::Built(n, _) => {
+        Ok(built) => {
             let named = liked::columns_of(best[0]);
             let columns = named.list;
             let a = tunewords::put_look(out, 0, part(&columns, 0, named.count), path);
             let b = tunewords::put_counted(out, a, list.len() / 2, refused, best[1], best[2]);
-            let tuned = shop::with_plan(shop, part(&plan, 0, n), kept);
+            let tuned = shop::with_plan(shop, part(&plan, 0, built.cells), kept);
             show(rt, text, &*kept, tuned, b, out);
         }
-        BuildAnswer::Refused(f) => refuse(rt, path, text, f, out),
+        Err(f) => refuse(rt, path, text, f, out),
     }
 }
 

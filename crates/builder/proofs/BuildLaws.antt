@@ -1,4 +1,6 @@
 -- The answers of the builder; and that what is kept for a table's rows is right, where its array was filled for it.
+use Rattle.std.specs.Prelude.{Result, Err}
+use Rattle.builder.specs.declared.BuiltPlan.{BuiltPlan}
 use mathlib.Core.Path.{◌≡◌, refl, sym, ap, ap₂, ◌∙◌}
 use mathlib.Core.Bool.{Bool, true, false}
 use mathlib.Core.List.{List, ◌++◌}
@@ -36,13 +38,11 @@ use Rattle.paircosts.specs.Fill.{Filled, Fills}
 use Rattle.paircosts.proofs.WorkedLaws.{all_asked}
 use Rattle.builder.specs.code.Writing.{Planned, KeptOf, Right, Put, fitted, short}
 use Rattle.builder.specs.Build.{table_for, BuiltInto, table-refused, room-refused, built}
-use Rattle.builder.specs.declared.BuildAnswer.{BuildAnswer}
-use Rattle.builder.specs.declared.BuildAnswer.TheVariants as build-answer
 use Rattle.builder.proofs.AskedLaws.{column, for-refused, for-column, for-read}
 use Rattle.limits.specs.Limits.{kept_cells}
 
 pub no_table : {by : By} {columns t : List ℕ} (room : List ℕ) {f : Refusal} → table_by by t ≡ refuse (told f)
-    → BuiltInto by columns t room room (build-answer.Refused f)
+    → BuiltInto by columns t room room (Err f)
 no_table {by} {columns} {t} room {f} e = table-refused (told f) (for-refused by columns t e) refl refl
 
 pub cells-there : {T : Table} {named : ℕ} {kept cells : List ℕ} {size cost : ℕ} → Planned T named kept cells size cost → size ≤ length cells
@@ -63,7 +63,7 @@ module _ {by : By} {columns t : List ℕ} {r : TableRead} {named : Named} {kept 
     {T : Table} (here : table_by by t ≡ read T) where
   -- COLUMN, by the width that was read
   pub no-column : (room : List ℕ) → T.width < named.past
-      → BuiltInto by columns t room room (build-answer.Refused (record { reason = reason.Column; input = input.Columns; place = 0 }))
+      → BuiltInto by columns t room room (Err (record { reason = reason.Column; input = input.Columns; place = 0 }))
   no-column room h =
       let e : any_past T.width columns ≡ true =
       sym (past-any T.width 0 columns (omega arith)) ∙ lt-ltb T.width (past_from 0 columns) (omega (arith, x.past)) in
@@ -95,7 +95,7 @@ module _ {by : By} {columns t : List ℕ} {r : TableRead} {named : Named} {kept 
     cost-is : cost ≡ cost_by by p.plan
     cost-is = p.cost-is ∙ least-one kept_here.least plan-least
 
-    pub handed : {room room' : List ℕ} {answer : BuildAnswer} → Put cells size cost room room' answer → BuiltInto by columns t room room' answer
+    pub handed : {room room' : List ℕ} {answer : Result BuiltPlan Refusal} → Put cells size cost room room' answer → BuiltInto by columns t room room' answer
     handed {room} (fitted h e) =
         built T p.plan read_here plan-built plan-least (omega (arith, p.size_is)) (ap₂ answered p.size_is cost-is)
         (e ∙ ap₂ (λ (xs : List ℕ) (x : ℕ). xs ++ drop x room) p.cells_are p.size_is)

@@ -1,5 +1,8 @@
 -- Building for named columns (02, W-213): with no column named it is the plain least plan; and which columns the list names is all that counts,
 -- not its order and not how often.
+use Rattle.std.specs.Prelude.{Result}
+use Rattle.builder.specs.declared.BuiltPlan.{BuiltPlan}
+use Rattle.refusal.specs.declared.Refusal.{Refusal}
 use mathlib.Core.Path.{◌≡◌, refl, ◌∙◌}
 use mathlib.Core.Logic.{inr}
 use mathlib.Core.List.{List, []}
@@ -16,7 +19,6 @@ use Rattle.least.specs.declared.By.{By}
 use Rattle.least.proofs.NoneNamed.{free-built}
 use Rattle.paircosts.proofs.PlainLaws.{plain-free}
 use Rattle.builder.specs.Build.{table_for, BuiltInto, table-refused, room-refused, built}
-use Rattle.builder.specs.declared.BuildAnswer.{BuildAnswer}
 
 -- No flag stands where no column is named.
 pub no-column-free : (w : ℕ) → Free (flags_of w []) w
@@ -33,7 +35,7 @@ module _ (xs ys : List ℕ) (alike : (c : ℕ) → occurs c xs ≡ occurs c ys) 
   unfolding table_for
   same-table by t = then-both (table_by by t) (λ (T : Table). rw (same-columns xs ys alike T))
 
-  pub same-list : {by : By} {t room room' : List ℕ} {r : BuildAnswer} → BuiltInto by xs t room room' r → BuiltInto by ys t room room' r
+  pub same-list : {by : By} {t room room' : List ℕ} {r : Result BuiltPlan Refusal} → BuiltInto by xs t room room' r → BuiltInto by ys t room room' r
   same-list {by} {t} (table-refused f a b c) = table-refused f (same-table by t ∙ a) b c
   same-list {by} {t} (room-refused T p a u w b c) =
       room-refused T p (same-table by t ∙ a) (rw (same_flags xs ys alike T.width) at u) w b c

@@ -1,5 +1,8 @@
 -- Two results that a promise allows are equal, for every public function of the crate.
-use mathlib.Core.Path.{◌≡◌, sym, ap, subst, ◌∙◌}
+use Rattle.std.specs.Prelude.{Result, Ok, Err}
+use Rattle.builder.specs.declared.BuiltPlan.{BuiltPlan}
+use Rattle.refusal.specs.declared.Refusal.{Refusal}
+use mathlib.Core.Path.{◌≡◌, sym, ap, ap₂, subst, ◌∙◌}
 use mathlib.Core.List.{List, []}
 use Prim.Native.Nat.{ℕ}
 use native.Mathlib.Omega.{arith}
@@ -15,16 +18,17 @@ use Rattle.least.specs.Measures.{measure_of, cost_from}
 use Rattle.least.specs.declared.By.{By}
 use Rattle.record.specs.Record.{Holds}
 use Rattle.builder.specs.Build.{build_told, BuiltInto, BuiltFrom, table-refused, room-refused, built}
-use Rattle.builder.specs.declared.BuildAnswer.{BuildAnswer}
-use Rattle.builder.specs.declared.BuildAnswer.TheVariants as build-answer
 use Rattle.least.proofs.Building.{built-one}
 
 -- build_for, and build_plan with no column named: the answer tells the case, and the rule the plan
-pub build_told-one : (a b : BuildAnswer) → build_told a ≡ build_told b → a ≡ b
-build_told-one (build-answer.Built n c) (build-answer.Built m d) e = cc
-build_told-one (build-answer.Built n c) (build-answer.Refused g) e = absurd (let z : ◌≡◌ {A = ℕ} 0 1 = cc in omega arith)
-build_told-one (build-answer.Refused f) (build-answer.Built m d) e = absurd (let z : ◌≡◌ {A = ℕ} 0 1 = cc in omega arith)
-build_told-one (build-answer.Refused f) (build-answer.Refused g) e = let q : told f ≡ told g = cc in ap build-answer.Refused (told-one q)
+pub build_told-one : (a b : Result BuiltPlan Refusal) → build_told a ≡ build_told b → a ≡ b
+build_told-one (Ok n) (Ok m) e =
+    let x : n.cells ≡ m.cells = cc in
+    let y : n.cost ≡ m.cost = cc in
+    ap₂ (λ (k l : ℕ). Ok (record { cells = k; cost = l })) x y
+build_told-one (Ok n) (Err g) e = absurd (let z : ◌≡◌ {A = ℕ} 0 1 = cc in omega arith)
+build_told-one (Err f) (Ok m) e = absurd (let z : ◌≡◌ {A = ℕ} 0 1 = cc in omega arith)
+build_told-one (Err f) (Err g) e = let q : told f ≡ told g = cc in ap Err (told-one q)
 
 -- the builder's plans of one table write the same cells, and cost the same
 pub same-built : (m : Measure) (columns : List ℕ) {T T' : Table} → T ≡ T' → (p : Plan T.width T.rows) (q : Plan T'.width T'.rows)
@@ -34,7 +38,7 @@ same-built m columns {T} {T'} e p q b c =
     → (write p ≡ write q) × (cost_from m [] p ≡ cost_from m [] q)) e
     (λ q c. (let d : p ≡ q = built-one m (flags_of T.width columns) p q b c in (ap write d, ap (λ (p : Plan _ _). cost_from m [] p) d))) q c
 
-pub build-fixed : {by : By} {columns t room room' room'' : List ℕ} {r s : BuildAnswer} → BuiltInto by columns t room room' r
+pub build-fixed : {by : By} {columns t room room' room'' : List ℕ} {r s : Result BuiltPlan Refusal} → BuiltInto by columns t room room' r
     → BuiltInto by columns t room room'' s → (r ≡ s) × (room' ≡ room'')
 build-fixed {by} {r = r} {s} (table-refused f a b c) (table-refused f' a' b' c') =
     (build_told-one r s (let q : f ≡ f' = cc in b ∙ ap turned q ∙ sym b'), c ∙ sym c')
@@ -56,6 +60,6 @@ build-fixed {by} {columns} {room = room} {r = r} {s} (built T p a u l w b c) (bu
     (build_told-one r s (b ∙ rw (x.0, x.1) (sym b')), c ∙ rw x.0 (sym c'))
 
 -- build_from: of a record that holds a table
-pub build-from-fixed : {rec room room' room'' : List ℕ} {figure : ℕ} {T : Table} {r s : BuildAnswer} → Holds rec figure T
+pub build-from-fixed : {rec room room' room'' : List ℕ} {figure : ℕ} {T : Table} {r s : Result BuiltPlan Refusal} → Holds rec figure T
     → BuiltFrom rec room room' r → BuiltFrom rec room room'' s → (r ≡ s) × (room' ≡ room'')
 build-from-fixed x p q = build-fixed (p _ _ x) (q _ _ x)

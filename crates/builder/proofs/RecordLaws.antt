@@ -1,4 +1,7 @@
 -- A record that holds a table: its table's part is that table's cells, and what it keeps is right for them.
+use Rattle.std.specs.Prelude.{Result}
+use Rattle.builder.specs.declared.BuiltPlan.{BuiltPlan}
+use Rattle.refusal.specs.declared.Refusal.{Refusal}
 use mathlib.Core.Path.{◌≡◌, refl, sym, ap, subst, ◌∙◌}
 use mathlib.Core.Logic.{inl, inr}
 use mathlib.Core.List.{List, []}
@@ -24,7 +27,6 @@ use Rattle.record.proofs.PartLaws.{table-in}
 use Rattle.paircosts.proofs.PlainLaws.{plain-free, zero-free, free-entry}
 use Rattle.builder.specs.code.Writing.{KeptOf, Right}
 use Rattle.builder.specs.Build.{BuiltInto}
-use Rattle.builder.specs.declared.BuildAnswer.{BuildAnswer}
 use Rattle.builder.proofs.BuildLaws.{all-rows}
 
 -- the part of a record from 2,052 on, as the code takes it
@@ -77,7 +79,7 @@ module _ {rec : List ℕ} {figure : ℕ} {T : Table} (x : Holds rec figure T) wh
           (rw (all-kept rec) kept_here);
     }
 
-    pub built-from : {room room' : List ℕ} {answer : BuildAnswer}
+    pub built-from : {room room' : List ℕ} {answer : Result BuiltPlan Refusal}
         → ((by : By) (columns : List ℕ) → Right by columns t r unnamed (kept_in rec) → BuiltInto by columns t room room' answer)
         → BuiltInto (Work figure) [] (cells_in T) room room' answer
     built-from {room} {room'} {answer} b =

@@ -16,11 +16,11 @@ use state::flags::{Named, named_of};
 use table::{TableAnswer, TableRead};
 use writer::Extent;
 
-// The number of cells of the plan that is built and its cost, or why the figure, the table or the room is turned away.
-#[derive(Drop)]
-pub enum BuildAnswer {
-    Built(usize, usize),
-    Refused(Refusal),
+// How many cells the plan has that is built, and what it costs.
+#[derive(Clone, Copy)]
+pub struct BuiltPlan {
+    pub cells: usize,
+    pub cost: usize,
 }
 
 // The first cells of a plan, to the front of the room.
@@ -38,21 +38,21 @@ fn copy(from: &[u32; PLAN_CELLS], size: usize, room: &mut [u32])
 // The answer for a plan that was written: its cells go to the front of the room where they fit; where they do not it is ROOM,
 // and nothing is written.
 #[tactic(auto, using(crate::specs::code::Writing::fitted, crate::specs::code::Writing::short))]
-fn put(from: &[u32; PLAN_CELLS], plan: Extent, room: &mut [u32]) -> BuildAnswer
+fn put(from: &[u32; PLAN_CELLS], plan: Extent, room: &mut [u32]) -> Result<BuiltPlan, Refusal>
     requires { (plan.cells ≤ most_plan_cells) × (plan.cells ≤ length from.now) }
     ensures { Put from.now plan.cells plan.cost room.old room.new result }
 {
     let size = plan.cells;
     let cost = plan.cost as usize;
     if room.len() < size {
-        return BuildAnswer::Refused(Refusal {
+        return Err(Refusal {
             reason: Reason::Room,
             input: Input::Lent,
             place: size,
         });
     }
     copy(from, size, room);
-    BuildAnswer::Built(size, cost)
+    Ok(BuiltPlan { cells: size, cost })
 }
 
 // The plan of a table that was read, from what is kept for its pairs of rows, into any room. It is written beside the room
@@ -63,7 +63,7 @@ fn build(
     named: Named,
     kept: &[u32],
     room: &mut [u32],
-) -> BuildAnswer
+) -> Result<BuiltPlan, Refusal>
     requires { Known cells.now read named × (length kept.now ≡ kept_cells) }
     ensures { (by : By) (columns : List ℕ) → Right by columns cells.now read named kept.now
         → BuiltInto by columns cells.now room.old room.new result }
@@ -72,7 +72,7 @@ fn build(
     match answer {
         TableAnswer::Accepted(width, count) => {
             if width < named.past {
-                return BuildAnswer::Refused(Refusal {
+                return Err(Refusal {
                     reason: Reason::Column,
                     input: Input::Columns,
                     place: 0,
@@ -91,13 +91,18 @@ fn build(
             );
             put(&written, plan, room)
         }
-        TableAnswer::Refused(f) => BuildAnswer::Refused(f),
+        TableAnswer::Refused(f) => Err(f),
     }
 }
 
 // The builder's plan by a measure for any cells, among the plans that look into named columns first (02, W-213), into any
 // room. The columns are numbers from 0 in any order, and repeats are allowed; with none every plan is of this kind.
-pub fn build_for(by: By, columns: &[u32], cells: &[u32], room: &mut [u32]) -> BuildAnswer
+pub fn build_for(
+    by: By,
+    columns: &[u32],
+    cells: &[u32],
+    room: &mut [u32],
+) -> Result<BuiltPlan, Refusal>
     ensures { BuiltInto by columns.now cells.now room.old room.new result }
 {
     let named = named_of(columns);
@@ -107,7 +112,7 @@ pub fn build_for(by: By, columns: &[u32], cells: &[u32], room: &mut [u32]) -> Bu
 }
 
 // The same with no column named.
-pub fn build_plan(by: By, cells: &[u32], room: &mut [u32]) -> BuildAnswer
+pub fn build_plan(by: By, cells: &[u32], room: &mut [u32]) -> Result<BuiltPlan, Refusal>
     ensures { BuiltInto by [] cells.now room.old room.new result }
 {
     let none = &cells[0..0];
@@ -116,7 +121,7 @@ pub fn build_plan(by: By, cells: &[u32], room: &mut [u32]) -> BuildAnswer
 
 // The same for the table of a record, by its figure (02, W-207). The table is read again, so that its rows are right whatever
 // the rest holds; nothing is worked out, and of any record at all what is written is a plan of its table.
-pub fn build_from(rec: &[u32; RECORD_CELLS], room: &mut [u32]) -> BuildAnswer
+pub fn build_from(rec: &[u32; RECORD_CELLS], room: &mut [u32]) -> Result<BuiltPlan, Refusal>
     ensures { BuiltFrom rec.now room.old room.new result }
 {
     let cells = record::table_of(rec);

@@ -1,4 +1,8 @@
 -- How the demands follow from the theorems of the crates: the steps that proofs/Demands cites.
+use Rattle.std.specs.Prelude.{Result, Err}
+use Rattle.builder.specs.declared.BuiltPlan.{BuiltPlan}
+use Rattle.answer.specs.declared.RunCounts.{RunCounts}
+use Rattle.refusal.specs.declared.Refusal.{Refusal}
 use Prim.Native.Nat.{ℕ, zero, suc, ◌+◌, ◌^◌, ◌≤◌, ◌<◌}
 use mathlib.Core.Path.{◌≡◌, refl, sym, ◌∙◌, ap, ap₂, subst}
 use mathlib.Core.Logic.{◌↔◌}
@@ -32,8 +36,6 @@ use Rattle.plan.proofs.SizeLaws.{size-bound}
 use Rattle.plan.proofs.PlansLaws.{write-one}
 use Rattle.plan.proofs.CheckLaws.{accepted-one, accepted-kind, rows_fit}
 use Rattle.plan.proofs.NamedLaws.{no_place, free-kind}
-use Rattle.builder.specs.declared.BuildAnswer.{BuildAnswer}
-use Rattle.builder.specs.declared.BuildAnswer.TheVariants as build-answer
 use Rattle.builder.specs.Build.{table_for, BuiltInto, table-refused, room-refused, built, build_told}
 use Rattle.builder.proofs.AskedLaws.{for-refused, for-column, for-read, read-for}
 use Rattle.builder.proofs.Fixed.{build-fixed}
@@ -45,7 +47,6 @@ use Rattle.least.proofs.Measured.{by-table, by-figure, by_read}
 use Rattle.least.proofs.Weighed.{by-light}
 use Rattle.least.proofs.Building.{built-least}
 use Rattle.least.proofs.NoneNamed.{free-built}
-use Rattle.answer.specs.declared.RunAnswer.{RunAnswer}
 use Rattle.answer.specs.Run.{Picks, Counts, Tried, run_of, run_told, Ran, refusal, ran, Ascends}
 use Rattle.answer.proofs.Fixed.{skeletons-one}
 use Rattle.table.proofs.HeadLaws.{up-length}
@@ -205,7 +206,7 @@ plain_of {by} {columns} {w = w} {rows} i n x =
       rule = free-built (measure_of by) (flags_of x.width columns) [] free (no_place (λ j. refl)) x.tree x.rule;
     }
 
-module _ {by : By} {columns t room room' : List ℕ} {r : BuildAnswer} where
+module _ {by : By} {columns t room room' : List ℕ} {r : Result BuiltPlan Refusal} where
   build-is-turned : BuiltInto by columns t room room' r → (f : Refused) → (build_told r ≡ turned f) ↔ BuildTurned by columns t room f
   build-is-turned b f = (why b, gets)
     where
@@ -242,7 +243,7 @@ module _ {by : By} {columns t room room' : List ℕ} {r : BuildAnswer} where
       gets (no_table l a) = as_read (for-table by columns t l a)
       gets (no-column l i m q) = as_read (for-missing by columns t l (reads i) m ∙ ap refuse (sym q))
       gets (no_room s i h plan u l q) =
-          let no = build-answer.Refused (record { reason = reason.Room; input = input.Lent; place = length (write plan) }) in
+          let no = Err (record { reason = reason.Room; input = input.Lent; place = length (write plan) }) in
           let short : BuiltInto by columns t room room no = room-refused (table _ _) plan (for-there by columns t s (reads i) h) u l refl refl in
           ap build_told (build-fixed b short).0 ∙ ap turned (sym q)
 
@@ -355,7 +356,7 @@ rows-reported g {rows} {found} p =
     at_row : (j : ℕ) → j < length rows → Memᴰ j found ↔ Matches (get_or rows j []) g
     at_row j l = let e : 0 + j ≡ j = omega arith in rw e at (picked p j l)
 
-module _ {t p g room room' : List ℕ} {r : RunAnswer} where
+module _ {t p g room room' : List ℕ} {r : Result RunCounts Refusal} where
   run-is-turned : Ran t p g room room' r → (f : Refused) → (run_told r ≡ turned f) ↔ RunTurned t p g room f
   run-is-turned b f = (why b, λ k. gets b (turns k))
     where
@@ -425,12 +426,12 @@ variables-goal w h l =
     (goal-accepted w (up_from 0 w)).0 (0 + w, rw (bounds, variables-read w 0 0 0 (omega arith), whole))
 
 -- its run answers, and every branch is tried
-tries-all : {t p g room room' : List ℕ} {r : RunAnswer} → Ran t p g room room' r → (w : ℕ) (rows : List (List ℕ)) (b : ℕ) → IsTable t w rows
+tries-all : {t p g room room' : List ℕ} {r : Result RunCounts Refusal} → Ran t p g room room' r → (w : ℕ) (rows : List (List ℕ)) (b : ℕ) → IsTable t w rows
     → plan_of t p ≡ read b → length rows ≤ length room → g ≡ up_from 0 w → (h : ℕ) × (run_told r ≡ answered h b)
 tries-all {t} {p} {room = room} {room'} {r} x w rows b i k l e =
     let y = subst (λ (goal : List ℕ). Ran t p goal room room' r) e x in
     let a = (any-plan-answers y w rows b i k (variables-goal w i.width.0 i.width.1) l).1 in
     (length a.found, a.told ∙ ap (answered (length a.found)) (tries-every (reads i) k y a.told))
 
-pub tried-few : {t p g room room' : List ℕ} {r : RunAnswer} → Ran t p g room room' r → TriedFew t p g room (run_told r)
+pub tried-few : {t p g room room' : List ℕ} {r : Result RunCounts Refusal} → Ran t p g room room' r → TriedFew t p g room (run_told r)
 tried-few x = record { bound = λ b h n k q. tries-at-most k x q; variables = tries-all x }

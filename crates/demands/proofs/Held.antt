@@ -1,12 +1,13 @@
 -- "How closely it is held" (document 01), sentence by sentence, of what the entries promise. The promises are listed in proofs/Demands.
-use Prim.Native.Nat.{ℕ}
-use Rattle.std.proofs.Common.{Result}
+use Rattle.std.specs.Prelude.{Result}
+use Rattle.instance.specs.declared.ReplyCounts.{ReplyCounts}
+use Rattle.builder.specs.declared.BuiltPlan.{BuiltPlan}
+use Rattle.answer.specs.declared.RunCounts.{RunCounts}
 use Rattle.refusal.specs.declared.Refusal.{Refusal}
+use Prim.Native.Nat.{ℕ}
 use mathlib.Core.Path.{◌≡◌}
 use mathlib.Core.List.{List}
-use Rattle.std.specs.Prelude.{Result}
 use Rattle.refusal.specs.Refusal.{Answer}
-use Rattle.refusal.specs.declared.Refusal.{Refusal}
 use Rattle.refusal.specs.Coded.{coded, Small}
 use Rattle.refusal.proofs.CodedLaws.{coded-one}
 use Rattle.table.specs.declared.TableRead.{TableRead}
@@ -22,13 +23,11 @@ use Rattle.checker.proofs.Fixed.{plan-fixed, under-fixed}
 use Rattle.plannotes.specs.declared.Noted.{Noted}
 use Rattle.plannotes.specs.Noted.{NotedInto}
 use Rattle.plannotes.proofs.Fixed.{handed-fixed}
-use Rattle.builder.specs.declared.BuildAnswer.{BuildAnswer}
 use Rattle.least.specs.declared.By.{By}
 use Rattle.record.specs.Record.{Holds}
 use Rattle.record.specs.Edits.{Edit}
 use Rattle.builder.specs.Build.{BuiltInto}
 use Rattle.builder.proofs.Fixed.{build-fixed}
-use Rattle.answer.specs.declared.RunAnswer.{RunAnswer}
 use Rattle.answer.specs.Run.{Ran}
 use Rattle.answer.proofs.Fixed.{run-fixed}
 use Rattle.printing.specs.Printing.{Written}
@@ -49,7 +48,6 @@ use Rattle.dudowiej.proofs.Fixed.{loaded-coded-fixed, salvage-coded-fixed}
 use Rattle.answer.specs.declared.Job.{Job}
 use Rattle.answer.specs.Jobs.{JobsRun}
 use Rattle.shift.proofs.Fixed.{run-jobs-fixed}
-use Rattle.instance.specs.declared.RepliesAnswer.{RepliesAnswer}
 use Rattle.instance.specs.Replied.{Replied}
 use Rattle.instance.proofs.Fixed.{replied-fixed}
 use Rattle.instance.specs.declared.ReplyJob.{ReplyJob}
@@ -101,11 +99,11 @@ pub held-noted : {t p before after after' : List ℕ} {r s : Noted} → NotedInt
     → (r ≡ s) × (after ≡ after')
 held-noted = handed-fixed
 
-pub held-build : {by : By} {columns t room room' room'' : List ℕ} {r s : BuildAnswer} → BuiltInto by columns t room room' r
+pub held-build : {by : By} {columns t room room' room'' : List ℕ} {r s : Result BuiltPlan Refusal} → BuiltInto by columns t room room' r
     → BuiltInto by columns t room room'' s → (r ≡ s) × (room' ≡ room'')
 held-build = build-fixed
 
-pub held-run : {t p g room room' room'' : List ℕ} {r s : RunAnswer} → Ran t p g room room' r → Ran t p g room room'' s
+pub held-run : {t p g room room' room'' : List ℕ} {r s : Result RunCounts Refusal} → Ran t p g room room' r → Ran t p g room room'' s
     → (r ≡ s) × (room' ≡ room'')
 held-run = run-fixed
 
@@ -113,7 +111,7 @@ pub held-jobs : {t p cells : List ℕ} {jobs jobs' jobs'' : List Job} {r s : Res
     → JobsRun t p cells jobs jobs'' (plan_told s) → (r ≡ s) × (jobs' ≡ jobs'')
 held-jobs = run-jobs-fixed
 
-pub held-replies : {t p g room room' room'' : List ℕ} {r s : RepliesAnswer} → Replied t p g room room' r → Replied t p g room room'' s
+pub held-replies : {t p g room room' room'' : List ℕ} {r s : Result ReplyCounts Refusal} → Replied t p g room room' r → Replied t p g room room'' s
     → (r ≡ s) × (room' ≡ room'')
 held-replies = replied-fixed
 

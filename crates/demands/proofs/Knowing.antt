@@ -3,6 +3,9 @@
 -- How it is carried: what a row has in common with an instance it has in common with the goal (`wider`, knowing/proofs/WiderLaws). That holds of
 -- what is decided above a branch too, each open place a variable, so the instance hits no other row and tries no other branch
 -- (`knowing-more`). A record's bit for a row is how often the run by itself reports the row (`bit-count`, proofs/SumLaws), whatever room it had.
+use Rattle.std.specs.Prelude.{Result}
+use Rattle.answer.specs.declared.RunCounts.{RunCounts}
+use Rattle.refusal.specs.declared.Refusal.{Refusal}
 use Prim.Native.Nat.{ℕ, ◌+◌, ◌≤◌}
 use mathlib.Core.Path.{sym, ◌∙◌, subst}
 use mathlib.Core.List.{List, ◌∷◌}
@@ -13,7 +16,6 @@ use Rattle.table.proofs.ReadLaws.{apart}
 use Rattle.answer.specs.Run.{run_told, Ran}
 use Rattle.answer.specs.Jobs.{JobsRun, refusal, asked}
 use Rattle.answer.specs.declared.Job.{Job}
-use Rattle.answer.specs.declared.RunAnswer.{RunAnswer}
 use Rattle.knowing.specs.Knowing.{reported, tried_of, Singles, single}
 use Rattle.knowing.proofs.SumLaws.{found-reported, run_more, sums, singles-there, means}
 use Rattle.dudowiej.specs.Coded.{RunCoded, JobsCoded}
@@ -23,7 +25,7 @@ use Rattle.demands.specs.Shift.{goal_in}
 use Rattle.demands.proofs.Cited.{tree-read, run-answers}
 
 -- Two runs of one plan.
-knows_more : {t p wide narrow room after other after' : List ℕ} {r s : RunAnswer} → Ran t p wide room after r → Ran t p narrow other after' s
+knows_more : {t p wide narrow room after other after' : List ℕ} {r s : Result RunCounts Refusal} → Ran t p wide room after r → Ran t p narrow other after' s
     → KnowingMore t p wide narrow room after other after' (run_told r) (run_told s)
 knows_more {room = room} {other = other} x y width rows tree e w g g' i l l' =
     let a = run-answers x width rows tree e w g l in

@@ -3,6 +3,9 @@
 -- How it is carried: a set of columns tries one number (`tries-for-one`, liked/proofs/SearchLaws), for the plan that is built for it is one
 -- (`same-built`, builder/proofs/Fixed); every list of columns has a mask (`mask-of`, liked/proofs/MaskLaws); so what is least of all masks is least
 -- of all lists. That totals are sums of single runs is W-214's (`sums`, knowing/proofs/SumLaws).
+use Rattle.std.specs.Prelude.{Result, Ok}
+use Rattle.builder.specs.declared.BuiltPlan.{BuiltPlan}
+use Rattle.refusal.specs.declared.Refusal.{Refusal}
 use Prim.Native.Nat.{ℕ, zero, suc, ◌+◌, ◌^◌, ◌≤◌, ◌<◌}
 use mathlib.Core.Path.{◌≡◌, refl, sym, ◌∙◌, ap, subst}
 use mathlib.Core.Logic.{◌↔◌}
@@ -35,8 +38,6 @@ use Rattle.least.proofs.Weighed.{by-light}
 use Rattle.least.proofs.Building.{built-least}
 use Rattle.record.specs.Record.{table_in}
 use Rattle.builder.specs.Build.{table_for, BuiltInto, table-refused, room-refused, built, build_told}
-use Rattle.builder.specs.declared.BuildAnswer.{BuildAnswer}
-use Rattle.builder.specs.declared.BuildAnswer.TheVariants as build-answer
 use Rattle.builder.proofs.AskedLaws.{for-read, read-for}
 use Rattle.builder.proofs.Fixed.{same-built}
 use Rattle.answer.specs.Jobs.{bit, Asked, Each, nil, cons}
@@ -104,7 +105,7 @@ module _ {by : By} {t goals list : List ℕ} where
       record {
         room = write x.tree;
         after = after;
-        answer = build-answer.Built n (cost_by by x.tree);
+        answer = Ok (record { cells = n; cost = cost_by by x.tree });
         size = n;
         cost = cost_by by x.tree;
         built = built (table x.width x.rows) x.tree
@@ -176,7 +177,7 @@ module _ {by : By} {t goals list : List ℕ} where
         let k = written x.tries.built x.tries.told in
         k.front ∙ (same-built (measure_of by) (columns_of mask) (read_one (sym k.reads ∙ a)) k.plan p k.rule u).0
 
-    same-plan : {room after : List ℕ} {r : BuildAnswer} {size cost : ℕ} → BuiltInto by (columns_of mask) t room after r → build_told r ≡ answered size cost
+    same-plan : {room after : List ℕ} {r : Result BuiltPlan Refusal} {size cost : ℕ} → BuiltInto by (columns_of mask) t room after r → build_told r ≡ answered size cost
         → take x.tries.size x.tries.after ≡ take size after
     same-plan b e = let c = written b e in built-same c.plan c.reads c.rule ∙ sym c.front
 
@@ -206,7 +207,7 @@ module _ {by : By} {t goals list : List ℕ} where
 
 -- The entry.
 
-module _ {by : By} {t goals list room room' liked liked' : List ℕ} {r : BuildAnswer} where
+module _ {by : By} {t goals list room room' liked liked' : List ℕ} {r : Result BuiltPlan Refusal} where
   why : (f : Refused) → LikedInto by t goals list room room' liked liked' r → build_told r ≡ turned f → LikedTurned by t goals list room f
   why f (likes.table-refused g a e c d) q = go (taken-by by t)
     where

@@ -1,4 +1,8 @@
 -- W-203 of what the entry promises: `RepliesCoded t p g room room' n`. The statements are in specs/Replies.
+use Rattle.std.specs.Prelude.{Result}
+use Rattle.instance.specs.declared.ReplyCounts.{ReplyCounts}
+use Rattle.answer.specs.declared.RunCounts.{RunCounts}
+use Rattle.refusal.specs.declared.Refusal.{Refusal}
 use Prim.Native.Nat.{ℕ, suc, ◌*◌, ◌≤◌, ◌<◌}
 use mathlib.Core.Path.{◌≡◌, refl, sym, ◌∙◌, ap, subst}
 use mathlib.Core.Logic.{◌↔◌}
@@ -16,11 +20,9 @@ use Rattle.table.proofs.ReadLaws.{apart, read_one, refuse-one, first}
 use Rattle.table.proofs.Accepted.{is-table, goal-accepted}
 use Rattle.plan.specs.Plans.{Plan, write}
 use Rattle.plan.specs.Check.{plan_of}
-use Rattle.answer.specs.declared.RunAnswer.{RunAnswer}
 use Rattle.answer.specs.Run.{Picks, Ran, run_told}
 use Rattle.answer.specs.Run as runs
 use Rattle.answer.proofs.TakesLaws.{run-takes}
-use Rattle.instance.specs.declared.RepliesAnswer.{RepliesAnswer}
 use Rattle.instance.specs.Instance.{Common}
 use Rattle.instance.specs.Reply.{Reply, Replies, Short, Large, none, hit, miss}
 use Rattle.instance.specs.Replied.{replies_of, replies_told, Replied, refusal, no_room, replied}
@@ -167,7 +169,7 @@ module _ {g room room' : List ℕ} {answer : Answer} {rows all : List (List ℕ)
         enough = enough-cells w;
       }
 
-module _ {t p g room room' : List ℕ} {r : RepliesAnswer} where
+module _ {t p g room room' : List ℕ} {r : Result ReplyCounts Refusal} where
   turned-why : Replied t p g room room' r → (f : Refused) → replies_told r ≡ turned f → RepliesTurned t p g room f
   turned-why (refusal h a x c) f e = asked-turned (a ∙ ap refuse (turned-one (sym x ∙ e)))
   turned-why (entry.big T all a w n x c) f e =
@@ -257,7 +259,7 @@ replies-many (runs.hit m p) (miss k a) = absurd (k m)
 replies-many (runs.miss m p) (hit k r a) = absurd (m k)
 replies-many (runs.miss m p) (miss k a) = replies-many p a
 
-many-hits : {t p g bytes bytes' room room' : List ℕ} {a : RunAnswer} {r : RepliesAnswer} → Ran t p g bytes bytes' a
+many-hits : {t p g bytes bytes' room room' : List ℕ} {a : Result RunCounts Refusal} {r : Result ReplyCounts Refusal} → Ran t p g bytes bytes' a
     → Replied t p g room room' r → (h n k m : ℕ) → run_told a ≡ answered h n → replies_told r ≡ answered k m → h ≡ k
 many-hits (runs.refusal f e x c) y h n k m q s = clash (sym q ∙ x)
 many-hits (runs.ran T tree found n' e w x u y c) (refusal f e' y' c') h n k m q s = clash (sym s ∙ y')

@@ -1,4 +1,8 @@
 -- The replies to a list of goals (specs/ReplyShift), proved of what the entry promises: `ReplyJobsRun t p cells room room' jobs jobs' answer`.
+use Rattle.std.specs.Prelude.{Result, Ok}
+use Rattle.instance.specs.declared.ReplyCounts.{ReplyCounts}
+use Rattle.answer.specs.declared.RunCounts.{RunCounts}
+use Rattle.refusal.specs.declared.Refusal.{Refusal}
 use Prim.Native.Nat.{ℕ, ◌+◌, ◌≤◌, ◌<◌}
 use mathlib.Core.Path.{◌≡◌, refl, sym, ◌∙◌, ap, ap₂, subst}
 use mathlib.Core.Logic.{◌↔◌}
@@ -13,13 +17,10 @@ use Rattle.table.proofs.ReadLaws.{apart}
 use Rattle.plan.specs.Check.{plan_of}
 use Rattle.checker.specs.Checked.{plan_says}
 use Rattle.answer.specs.declared.Job.{Job}
-use Rattle.answer.specs.declared.RunAnswer.{RunAnswer}
-use Rattle.answer.specs.declared.RunAnswer.TheVariants as run-answer
 use Rattle.answer.specs.Run.{Ran}
 use Rattle.answer.specs.Jobs.{bits_of, entered, Asked}
 use Rattle.answer.specs.Jobs as jobs
 use Rattle.answer.proofs.Fixed.{run-fixed}
-use Rattle.instance.specs.declared.RepliesAnswer.{RepliesAnswer}
 use Rattle.instance.specs.declared.ReplyJob.{ReplyJob}
 use Rattle.instance.specs.Replied.{Replied, replies_told}
 use Rattle.instance.specs.Replied as entry
@@ -45,7 +46,7 @@ declines j e = record {
 }
 
 -- what W-203 writes where it answers
-wrote_by : {t p g room room' : List ℕ} {r : RepliesAnswer} {n m : ℕ} → Replied t p g room room' r → replies_told r ≡ answered n m
+wrote_by : {t p g room room' : List ℕ} {r : Result ReplyCounts Refusal} {n m : ℕ} → Replied t p g room room' r → replies_told r ≡ answered n m
     → (w : List ℕ) × (m ≡ length w) × (room' ≡ w ++ drop (length w) room)
 wrote_by (entry.refusal f a b c) e = clash (sym e ∙ b)
 wrote_by (entry.big T all a w l b c) e = clash (sym e ∙ b)
@@ -71,27 +72,27 @@ in_all front said all lent on n s e =
 -- One record, where table and plan are accepted.
 module _ (t p cells : List ℕ) where
   -- what W-203 allows for the goal of a record, where so many cells of the room are taken
-  abbrev Asks : (room : List ℕ) (on : ℕ) (j : ReplyJob) (left : List ℕ) (r : RepliesAnswer) → Type 0
+  abbrev Asks : (room : List ℕ) (on : ℕ) (j : ReplyJob) (left : List ℕ) (r : Result ReplyCounts Refusal) → Type 0
   Asks room on j left r = Replied t p (goal_of_job cells j) (drop on room) left r
 
   -- hits and tried are those of a list of this goal alone
   hits-run : (j : ReplyJob) (h n : ℕ) (bytes : List ℕ) → j.start + j.count ≤ length cells
-      → Ran t p (goal_of_job cells j) (replicate 64 0) bytes (run-answer.Ran h n) → (k k' : Job) → k.start ≡ j.start → k.count ≡ j.count
+      → Ran t p (goal_of_job cells j) (replicate 64 0) bytes (Ok (record { hits = h; tried = n })) → (k k' : Job) → k.start ≡ j.start → k.count ≡ j.count
       → Asked t p cells k k' → (bits_of (take h bytes) ≡ k'.hits) × (n ≡ k'.tried)
   hits-run j h n bytes l x k k' s c (jobs.outside m q) = absurd (let z : ⊥ = omega arith in z)
   hits-run j h n bytes l x k k' s c (jobs.alone room r m y q) =
       let g : take k.count (drop k.start cells) ≡ goal_of_job cells j = ap₂ (λ (a b : ℕ). take a (drop b cells)) c s in
       let f = run-fixed x (subst (λ (v : List ℕ). Ran t p v (replicate 64 0) room r) g y) in
-      let e : k' ≡ entered k (run-answer.Ran h n) bytes = q ∙ sym (ap₂ (λ (a : RunAnswer) (b : List ℕ). entered k a b) f.0 f.1) in
+      let e : k' ≡ entered k (Ok (record { hits = h; tried = n })) bytes = q ∙ sym (ap₂ (λ (a : Result RunCounts Refusal) (b : List ℕ). entered k a b) f.0 f.1) in
       (sym (ap (λ (v : Job). v.hits) e), sym (ap (λ (v : Job). v.tried) e))
 
   -- what a record that is not answered becomes, and writes
   turned-away : {room : List ℕ} {on n m : ℕ} {j k : ReplyJob} → k ≡ declined j n m
       → (length cells < j.start + j.count → Declined k 1 0)
-      → (j.start + j.count ≤ length cells → (left : List ℕ) × (r : RepliesAnswer) × Asks room on j left r)
-      → (j.start + j.count ≤ length cells → (f : Refused) (left : List ℕ) (r : RepliesAnswer) → Asks room on j left r
+      → (j.start + j.count ≤ length cells → (left : List ℕ) × (r : Result ReplyCounts Refusal) × Asks room on j left r)
+      → (j.start + j.count ≤ length cells → (f : Refused) (left : List ℕ) (r : Result ReplyCounts Refusal) → Asks room on j left r
       → replies_told r ≡ turned f → Declined k f.number f.place)
-      → (j.start + j.count ≤ length cells → (a b : ℕ) (left : List ℕ) (r : RepliesAnswer) → Asks room on j left r
+      → (j.start + j.count ≤ length cells → (a b : ℕ) (left : List ℕ) (r : Result ReplyCounts Refusal) → Asks room on j left r
       → replies_told r ≡ answered a b → ⊥) → OneReply t p cells room on j k []
   turned-away e past there refuses answers = record {
     start-stays = ap (λ (x : ReplyJob). x.start) e;

@@ -1,4 +1,7 @@
 -- W-202 (specs/Shift), proved of what the entry promises: `JobsRun t p cells jobs jobs' answer`.
+use Rattle.std.specs.Prelude.{Result, Ok, Err}
+use Rattle.answer.specs.declared.RunCounts.{RunCounts}
+use Rattle.refusal.specs.declared.Refusal.{Refusal}
 use Prim.Native.Nat.{ℕ, ◌≤◌, ◌<◌}
 use mathlib.Core.Path.{◌≡◌, refl, sym, ◌∙◌, ap, subst}
 use mathlib.Core.Logic.{◌↔◌}
@@ -14,8 +17,6 @@ use Rattle.plan.specs.Plans.{Plan, write}
 use Rattle.plan.specs.Check.{plan_of}
 use Rattle.checker.specs.Checked.{plan_says}
 use Rattle.answer.specs.declared.Job.{Job}
-use Rattle.answer.specs.declared.RunAnswer.{RunAnswer}
-use Rattle.answer.specs.declared.RunAnswer.TheVariants as run-answer
 use Rattle.answer.specs.Skeleton.{hole}
 use Rattle.answer.specs.Run.{Counts, skeletons, Tried, Ran}
 use Rattle.answer.specs.Jobs.{bits_of, filled, entered, Asked, outside, alone, Each, JobsRun, refusal, asked}
@@ -36,9 +37,9 @@ holds j e = record {
   tried-is = ap (λ (x : Job). x.tried) e;
 }
 
-entered-stays : (j : Job) (r : RunAnswer) (room : List ℕ) → ((entered j r room).start ≡ j.start) × ((entered j r room).count ≡ j.count)
-entered-stays j (run-answer.Ran h n) room = (refl, refl)
-entered-stays j (run-answer.Refused f) room = (refl, refl)
+entered-stays : (j : Job) (r : Result RunCounts Refusal) (room : List ℕ) → ((entered j r room).start ≡ j.start) × ((entered j r room).count ≡ j.count)
+entered-stays j (Ok n) room = (refl, refl)
+entered-stays j (Err f) room = (refl, refl)
 
 all-below : (n : ℕ) (xs : List ℕ) → ((x : ℕ) → Memᴰ x xs → x < n) → All (λ x. x < n) xs
 all-below n [] h = tt
@@ -52,7 +53,7 @@ module _ (t p : List ℕ) {width : ℕ} {rows : List (List ℕ)} (i : IsTable t 
   enough : (room : List ℕ) → length rows ≤ length room → Enough t room
   enough room l = record { for-rows = λ T d. subst (λ (y : Table). length y.rows ≤ length room) (read_one (sym (reads i) ∙ d)) l }
 
-  module _ {g room : List ℕ} {r : RunAnswer} (x : Ran t p g (replicate 64 0) room r) (j : Job) {k : Job} (is : k ≡ entered j r room) where
+  module _ {g room : List ℕ} {r : Result RunCounts Refusal} (x : Ran t p g (replicate 64 0) room r) (j : Job) {k : Job} (is : k ≡ entered j r room) where
     refused-holds : (f : Refused) → goal_of width g ≡ refuse f → JobHolds k f.number f.place 0 0
     refused-holds f h = holds j (is ∙ entered-refused j r f room (((run-kept x).refuses f).1 (bad-goal i tree w h)))
 

@@ -1,4 +1,7 @@
 -- W-209 (02), "The same enamel twice", where it is not in the demands' own statements (specs/Twice).
+use Rattle.std.specs.Prelude.{Result}
+use Rattle.instance.specs.declared.ReplyCounts.{ReplyCounts}
+use Rattle.refusal.specs.declared.Refusal.{Refusal}
 use Prim.Native.Nat.{ℕ, ◌+◌, ◌≤◌, ◌<◌}
 use mathlib.Core.Path.{◌≡◌, refl, sym, ◌∙◌, ap}
 use mathlib.Core.Logic.{◌≢◌, ⊎_elim, by_cases}
@@ -35,7 +38,6 @@ use Rattle.least.proofs.Later.{cost-from, from-plain}
 use Rattle.least.proofs.Weighed.{by-light}
 use Rattle.record.specs.Edits.{Edit}
 use Rattle.answer.specs.declared.Job.{Job}
-use Rattle.instance.specs.declared.RepliesAnswer.{RepliesAnswer}
 use Rattle.instance.specs.declared.ReplyJob.{ReplyJob}
 use Rattle.instance.specs.Replied.{Replied, replies_told}
 use Rattle.instance.specs.ReplyJobs.{goal_of_job}
@@ -191,7 +193,7 @@ never-reply-job {t} {p} {lent} {room} {on = on} {j} {after} x q =
     (λ (l : length lent < j.start + j.count). let z : ⊥ = omega (arith, (x.past l).number_is) in z)
     (λ l. let k : j.start + j.count ≤ length lent = omega arith in let a = x.asked k in go k a.2 (replies_told a.1) refl)
   where
-    go : j.start + j.count ≤ length lent → {left : List ℕ} {r : RepliesAnswer} → Replied t p (goal_of_job lent j) (drop on room) left r → (b : Answer)
+    go : j.start + j.count ≤ length lent → {left : List ℕ} {r : Result ReplyCounts Refusal} → Replied t p (goal_of_job lent j) (drop on room) left r → (b : Answer)
         → replies_told r ≡ b → ⊥
     go k {left} {r} y (answered n m) e = omega (arith, (x.answers k n m left r y e).0.number-zero)
     go k {left} {r} y (refusals.turned f) e = never-replies (refuses-kept y) f e (sym (x.refused k f left r y e).number_is ∙ q)

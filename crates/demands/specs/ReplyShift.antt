@@ -4,13 +4,14 @@
 --
 -- `cells` and `plan` are the cells of table and plan, `lent` those among which the goals' cells lie; `room` and `room'`, `jobs` and `after` are the
 -- room and the records before and after the call.
-use Rattle.std.specs.Prelude.{ℕ, ◌+◌, ◌≤◌, ◌<◌, ◌≡◌, ◌↔◌, List, [], ◌∷◌, ◌++◌, length, drop}
+use Rattle.std.specs.Prelude.{Result, ℕ, ◌+◌, ◌≤◌, ◌<◌, ◌≡◌, ◌↔◌, List, [], ◌∷◌, ◌++◌, length, drop}
+use Rattle.instance.specs.declared.ReplyCounts.{ReplyCounts}
+use Rattle.refusal.specs.declared.Refusal.{Refusal}
 use Rattle.refusal.specs.Refusal.{Refused, Answer, turned, answered}
 use Rattle.refusal.specs.Read.{read, refuse}
 use Rattle.plan.specs.Check.{plan_of}
 use Rattle.answer.specs.declared.Job.{Job}
 use Rattle.answer.specs.Jobs.{Asked}
-use Rattle.instance.specs.declared.RepliesAnswer.{RepliesAnswer}
 use Rattle.instance.specs.declared.ReplyJob.{ReplyJob}
 use Rattle.instance.specs.Replied.{Replied, replies_told}
 use Rattle.instance.specs.ReplyJobs.{goal_of_job}
@@ -48,10 +49,10 @@ pub record OneReply (cells plan lent room : List ℕ) (on : ℕ) (j after : Repl
   -- such an answer. So "a goal whose replies do not fit what is left is ROOM in its own record, with the cells that it needs as place, and writes
   -- nothing; BIG likewise"
   pub asked : j.start + j.count ≤ length lent
-      → (left : List ℕ) × (r : RepliesAnswer) × Replied cells plan (goal_of_job lent j) (drop on room) left r
-  pub refused : j.start + j.count ≤ length lent → (f : Refused) (left : List ℕ) (r : RepliesAnswer)
+      → (left : List ℕ) × (r : Result ReplyCounts Refusal) × Replied cells plan (goal_of_job lent j) (drop on room) left r
+  pub refused : j.start + j.count ≤ length lent → (f : Refused) (left : List ℕ) (r : Result ReplyCounts Refusal)
       → Replied cells plan (goal_of_job lent j) (drop on room) left r → replies_told r ≡ turned f → Declined after f.number f.place
-  pub answers : j.start + j.count ≤ length lent → (n m : ℕ) (left : List ℕ) (r : RepliesAnswer)
+  pub answers : j.start + j.count ≤ length lent → (n m : ℕ) (left : List ℕ) (r : Result ReplyCounts Refusal)
       → Replied cells plan (goal_of_job lent j) (drop on room) left r → replies_told r ≡ answered n m
       → ReplyAnswered cells plan lent on n m j after × (left ≡ said ++ drop (length said) (drop on room))
 

@@ -3,7 +3,9 @@
 --
 -- `cells` and `plan` are the cells of table and plan, `lent` those among which the goals' cells lie; `jobs` and `after` are the records
 -- before and after the call.
-use Rattle.std.specs.Prelude.{ℕ, ◌+◌, ◌^◌, ◌≤◌, ◌<◌, ◌≡◌, ◌↔◌, List, [], length, get_or, take, drop, replicate}
+use Rattle.std.specs.Prelude.{Result, ℕ, ◌+◌, ◌^◌, ◌≤◌, ◌<◌, ◌≡◌, ◌↔◌, List, [], length, get_or, take, drop, replicate}
+use Rattle.answer.specs.declared.RunCounts.{RunCounts}
+use Rattle.refusal.specs.declared.Refusal.{Refusal}
 use Rattle.term.specs.Unify.{Matches}
 use Rattle.refusal.specs.Refusal.{Refused, Answer, turned, answered}
 use Rattle.refusal.specs.Read.{read, refuse}
@@ -11,7 +13,6 @@ use Rattle.table.specs.Table.{goal_of, IsTable, IsGoal}
 use Rattle.plan.specs.Plans.{Plan, write}
 use Rattle.plan.specs.Check.{plan_of}
 use Rattle.answer.specs.declared.Job.{Job}
-use Rattle.answer.specs.declared.RunAnswer.{RunAnswer}
 use Rattle.answer.specs.Skeleton.{hole}
 use Rattle.answer.specs.Run.{Counts, skeletons, Tried, Ran}
 use Rattle.answer.specs.Jobs.{bit, entered, Each}
@@ -43,7 +44,7 @@ pub record OneJob (cells plan lent : List ℕ) {width : ℕ} {rows : List (List 
   -- "a start or count past the lent cells is that goal's LENGTH"
   pub past : length lent < j.start + j.count → JobHolds after 1 0 0 0
   -- "It equals asking one by one": the record is what a run of the goal by itself gives, in any room with a byte for each row
-  pub equals : j.start + j.count ≤ length lent → (room room' : List ℕ) (r : RunAnswer) → length rows ≤ length room
+  pub equals : j.start + j.count ≤ length lent → (room room' : List ℕ) (r : Result RunCounts Refusal) → length rows ≤ length room
       → Ran cells plan (goal_in lent j) room room' r → after ≡ entered j r room'
   pub refused : j.start + j.count ≤ length lent → (f : Refused) → goal_of width (goal_in lent j) ≡ refuse f
       → JobHolds after f.number f.place 0 0

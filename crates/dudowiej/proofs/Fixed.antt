@@ -1,23 +1,22 @@
 -- Two results that a promise allows are equal, for the entries with a lent room. The other entries promise an equation with what the
 -- arguments give, and for them this is `given-fixed` of crate cell.
-use Prim.Native.Nat.{ℕ}
-use Rattle.std.proofs.Common.{Result}
+use Rattle.std.specs.Prelude.{Result}
+use Rattle.instance.specs.declared.ReplyCounts.{ReplyCounts}
+use Rattle.builder.specs.declared.BuiltPlan.{BuiltPlan}
+use Rattle.answer.specs.declared.RunCounts.{RunCounts}
 use Rattle.refusal.specs.declared.Refusal.{Refusal}
+use Prim.Native.Nat.{ℕ}
 use mathlib.Core.Path.{◌≡◌, sym, ap, ◌∙◌}
 use mathlib.Core.List.{List}
-use Rattle.std.specs.Prelude.{Result}
-use Rattle.refusal.specs.declared.Refusal.{Refusal}
 use Rattle.table.specs.Table.{Table}
 use Rattle.record.specs.Record.{Holds}
 use Rattle.record.specs.Edits.{Edit}
 use Rattle.record.proofs.Fixed.{worked-one, edited-one}
 use Rattle.checker.specs.Checked.{plan_told}
 use Rattle.builder.specs.Build.{build_told}
-use Rattle.builder.specs.declared.BuildAnswer.{BuildAnswer}
 use Rattle.builder.proofs.Fixed.{build-fixed}
 use Rattle.liked.proofs.Fixed.{liked-fixed}
 use Rattle.answer.specs.Run.{run_told}
-use Rattle.answer.specs.declared.RunAnswer.{RunAnswer}
 use Rattle.answer.proofs.Fixed.{run-fixed}
 use Rattle.loading.proofs.Fixed.{text-fixed}
 use Rattle.goaltext.specs.Asked.{goal_text_told}
@@ -34,7 +33,6 @@ use Rattle.dudowiej.specs.Coded.{ReplyJobsCoded, cut, FileWriteCoded, FileReadCo
 use Rattle.answer.specs.declared.Job.{Job}
 use Rattle.answer.proofs.JobsLaws.{jobs-fixed}
 use Rattle.instance.specs.Replied.{replies_told}
-use Rattle.instance.specs.declared.RepliesAnswer.{RepliesAnswer}
 use Rattle.instance.proofs.Fixed.{replied-fixed}
 use Rattle.instance.specs.declared.ReplyJob.{ReplyJob}
 use Rattle.replyjobs.proofs.Fixed.{reply-jobs-fixed}
@@ -60,25 +58,25 @@ pub build-coded-fixed : {figure : ℕ} {T : Table} {rec room room' room'' : List
     → BuildCoded rec room room'' n → (m ≡ n) × (room' ≡ room'')
 build-coded-fixed {figure} {T} x a b =
     let f = build-fixed (a figure T x).built (b figure T x).built in
-    ((a figure T x).code ∙ ap (λ (r : BuildAnswer). coded (build_told r)) f.0 ∙ sym (b figure T x).code, f.1)
+    ((a figure T x).code ∙ ap (λ (r : Result BuiltPlan Refusal). coded (build_told r)) f.0 ∙ sym (b figure T x).code, f.1)
 
 pub build-for-coded-fixed : {rec columns room room' room'' : List ℕ} {m n : ℕ} → BuildForCoded rec columns room room' m
     → BuildForCoded rec columns room room'' n → (m ≡ n) × (room' ≡ room'')
 build-for-coded-fixed a b =
     let f = build-fixed a.built b.built in
-    (a.code ∙ ap (λ (r : BuildAnswer). coded (build_told r)) f.0 ∙ sym b.code, f.1)
+    (a.code ∙ ap (λ (r : Result BuiltPlan Refusal). coded (build_told r)) f.0 ∙ sym b.code, f.1)
 
 pub liked-coded-fixed : {rec goals list room liked room' room'' liked' liked'' : List ℕ} {m n : ℕ} → LikedCoded rec goals list room liked room' liked' m
     → LikedCoded rec goals list room liked room'' liked'' n → (m ≡ n) × (room' ≡ room'') × (liked' ≡ liked'')
 liked-coded-fixed a b =
     let f = liked-fixed a.built b.built in
-    (a.code ∙ ap (λ (r : BuildAnswer). coded (build_told r)) f.0 ∙ sym b.code, f.1, f.2)
+    (a.code ∙ ap (λ (r : Result BuiltPlan Refusal). coded (build_told r)) f.0 ∙ sym b.code, f.1, f.2)
 
 pub run-coded-fixed : {t p g room room' room'' : List ℕ} {m n : ℕ} → RunCoded t p g room room' m → RunCoded t p g room room'' n
     → (m ≡ n) × (room' ≡ room'')
 run-coded-fixed a b =
     let f = run-fixed a.ran b.ran in
-    (a.code ∙ ap (λ (x : RunAnswer). coded (run_told x)) f.0 ∙ sym b.code, f.1)
+    (a.code ∙ ap (λ (x : Result RunCounts Refusal). coded (run_told x)) f.0 ∙ sym b.code, f.1)
 
 pub text-coded-fixed : {t cells names cells' names' cells'' names'' : List ℕ} {m n : ℕ} → TextCoded t cells names cells' names' m
     → TextCoded t cells names cells'' names'' n → (m ≡ n) × (cells' ≡ cells'') × (names' ≡ names'')
@@ -106,7 +104,7 @@ pub replies-coded-fixed : {t p g room room' room'' : List ℕ} {m n : ℕ} → R
     → (m ≡ n) × (room' ≡ room'')
 replies-coded-fixed a b =
     let f = replied-fixed a.replied b.replied in
-    (a.code ∙ ap (λ (x : RepliesAnswer). coded (replies_told x)) f.0 ∙ sym b.code, f.1)
+    (a.code ∙ ap (λ (x : Result ReplyCounts Refusal). coded (replies_told x)) f.0 ∙ sym b.code, f.1)
 
 pub reply-jobs-coded-fixed : {t p cells room room' room'' : List ℕ} {jobs jobs' jobs'' : List ReplyJob} {m n : ℕ}
     → ReplyJobsCoded t p cells room room' jobs jobs' m → ReplyJobsCoded t p cells room room'' jobs jobs'' n

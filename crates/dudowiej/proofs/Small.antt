@@ -1,4 +1,9 @@
 -- Every answer of every entry fits the number that it is coded as.
+use Rattle.std.specs.Prelude.{Result}
+use Rattle.instance.specs.declared.ReplyCounts.{ReplyCounts}
+use Rattle.builder.specs.declared.BuiltPlan.{BuiltPlan}
+use Rattle.answer.specs.declared.RunCounts.{RunCounts}
+use Rattle.refusal.specs.declared.Refusal.{Refusal}
 use mathlib.Core.Path.{◌≡◌, refl, sym, ap, ◌∙◌}
 use mathlib.Core.List.{List, [], ◌∷◌, ◌++◌, flatten}
 use Prim.Native.Nat.{ℕ, zero, suc, ◌+◌, ◌-◌, ◌%◌, ◌^◌, ◌≤◌, ◌<◌}
@@ -7,8 +12,6 @@ use mathlib.Core.Bool.{Bool, true, false, ◌||◌}
 use lib.Dec.{leb, ltb}
 use borrow.Author.Tests.{leb-true, leb-false}
 use lib.ListN.{length, get_or, drop, replicate, length-append}
-use Rattle.std.specs.Prelude.{Result}
-use Rattle.refusal.specs.declared.Refusal.{Refusal}
 use Rattle.term.proofs.Lists.{get_d-zeros}
 use Rattle.refusal.specs.Coded.{Small}
 use Rattle.refusal.specs.declared.Reason.{Reason}
@@ -27,7 +30,6 @@ use Rattle.plan.specs.Check.{plan_for, plan_of, columns_for, plan_under}
 use Rattle.checker.specs.Checked.{plan_says}
 use Rattle.plan.specs.Plans.{Plan, write, branches}
 use Rattle.plan.proofs.SizeLaws.{bound, size-bound}
-use Rattle.builder.specs.declared.BuildAnswer.{BuildAnswer}
 use Rattle.least.specs.Measures.{measure_of, table_by}
 use Rattle.least.specs.declared.By.{By}
 use Rattle.least.specs.declared.By.TheVariants.{Work}
@@ -40,10 +42,8 @@ use Rattle.liked.specs.Liked.{LikedInto}
 use Rattle.liked.specs.Liked as likes
 use Rattle.builder.specs.Build.{table_for, BuiltInto, table-refused, room-refused, built, build_told}
 use Rattle.plan.proofs.CheckLaws.{accepted-one, kind-accepted, rows_fit}
-use Rattle.answer.specs.declared.RunAnswer.{RunAnswer}
 use Rattle.answer.specs.declared.Job.{Job}
 use Rattle.answer.specs.Jobs.{JobsRun}
-use Rattle.instance.specs.declared.RepliesAnswer.{RepliesAnswer}
 use Rattle.instance.specs.Replied.{Replied, replies_told}
 use Rattle.instance.specs.Replied as replies
 use Rattle.instance.proofs.RepliesLaws.{replies-room}
@@ -182,7 +182,7 @@ read_by : (b : By) (t : List ℕ) {T : Table} → table_by b t ≡ read T → ta
 read_by b t e = sym (by-table b t (by_read b t e)) ∙ e
 
 -- hits are rows of the table, and tries are branches of the plan
-pub run_small : {t p g room room' : List ℕ} {r : RunAnswer} → Ran t p g room room' r → Small (run_told r)
+pub run_small : {t p g room room' : List ℕ} {r : Result RunCounts Refusal} → Ran t p g room room' r → Small (run_told r)
 run_small {t} {p} {g} {room} (refusal f a b c) = rw b (placed-small (omega arith) (placed-run t p g room) a)
 run_small {t} {p} (ran T tree found n a e w u b c) =
     let k = (run-takes a).table in
@@ -222,7 +222,7 @@ for-small b columns t {f} e = go (asked b columns t) e
     go (is-asked x p) q = apart q
 
 -- a plan that is built has at most 6,082 cells, and costs at most 20 for each of 2,048 branches
-pub build-small : (b : By) {columns t room room' : List ℕ} {r : BuildAnswer} → BuiltInto b columns t room room' r → Small (build_told r)
+pub build-small : (b : By) {columns t room room' : List ℕ} {r : Result BuiltPlan Refusal} → BuiltInto b columns t room room' r → Small (build_told r)
 build-small b {columns} {t} (table-refused f a e c) = rw e (for-small b columns t a)
 build-small b {columns} {t} (room-refused T plan a e l c d) =
     rw c (refused-small reason.Room input.Lent (length (write plan)) (omega (arith, (plan-cells t T plan (read_by b t (read-for b columns t a).0)).0)))
@@ -231,7 +231,7 @@ build-small b {columns} {t} (built T plan a e l h c d) =
     let n = plan-cells t T plan (read_by b t k) in
     rw c (omega (arith, n.0), omega (arith, n.1, cost-few (measure_of b) (by-low b (by_read b t k)) [] plan))
 
-pub liked-small : (b : By) {t goals list room room' liked liked' : List ℕ} {r : BuildAnswer} → LikedInto b t goals list room room' liked liked' r
+pub liked-small : (b : By) {t goals list room room' liked liked' : List ℕ} {r : Result BuiltPlan Refusal} → LikedInto b t goals list room room' liked liked' r
     → Small (build_told r)
 liked-small b {t} (likes.table-refused f a e c d) = rw e (for-small b [] t (plain-table b t ∙ a))
 liked-small b (likes.found T mask total plain a x y e) = build-small b y
@@ -291,7 +291,7 @@ pub reply-jobs-small : {t p cells room room' : List ℕ} {jobs jobs' : List Repl
 reply-jobs-small {t} {p} x = small_by (reply-jobs-told x) (plan-small t p)
 
 -- the replies of at most 64 rows that are written have at most 1,024 cells each
-pub replies-small : {t p g room room' : List ℕ} {r : RepliesAnswer} → Replied t p g room room' r → Small (replies_told r)
+pub replies-small : {t p g room room' : List ℕ} {r : Result ReplyCounts Refusal} → Replied t p g room room' r → Small (replies_told r)
 replies-small {t} {p} {g} (replies.refusal f a b c) = rw b (placed-small (omega arith) (placed-replies t p g) a)
 replies-small (replies.big T all a w n b c) = rw b (refused-small reason.Big input.Goal 0 (omega arith))
 replies-small {t} {p} {g} (replies.no_room T all a w s l b c) =

@@ -1,5 +1,8 @@
 -- What the entries answer as one number (crate refusal, specs/Coded), where the crates that they call do not say it.
 use Rattle.std.specs.Prelude.{ℕ, ◌%◌, ◌^◌, ◌≡◌, cond, List, [], ◌∷◌, length, get_or, Result}
+use Rattle.instance.specs.declared.ReplyCounts.{ReplyCounts}
+use Rattle.builder.specs.declared.BuiltPlan.{BuiltPlan}
+use Rattle.answer.specs.declared.RunCounts.{RunCounts}
 use Rattle.refusal.specs.declared.Refusal.{Refusal}
 use Rattle.refusal.specs.Refusal.{Answer, answered, turned}
 use Rattle.refusal.specs.Read.{Read}
@@ -7,7 +10,6 @@ use Rattle.refusal.specs.Coded.{coded, Small}
 use Rattle.table.specs.Table.{Table, starts_in, row_in}
 use Rattle.checker.specs.Checked.{plan_told}
 use Rattle.least.specs.declared.By.TheVariants.{Work}
-use Rattle.builder.specs.declared.BuildAnswer.{BuildAnswer}
 use Rattle.builder.specs.Build.{BuiltInto, build_told}
 use Rattle.liked.specs.Liked.{LikedInto}
 use Rattle.record.specs.Record.{cells_in, Holds, table_in}
@@ -18,11 +20,9 @@ use Rattle.goaltext.specs.Asked.{goal_text_told}
 use Rattle.goalroom.specs.Rooms.{GoalInto}
 use Rattle.answerroom.specs.declared.AnswerText.{AnswerText}
 use Rattle.answerroom.specs.Room.{AnswerInto, answer_told}
-use Rattle.answer.specs.declared.RunAnswer.{RunAnswer}
 use Rattle.answer.specs.Run.{Ran, run_told}
 use Rattle.answer.specs.declared.Job.{Job}
 use Rattle.answer.specs.Jobs.{JobsRun}
-use Rattle.instance.specs.declared.RepliesAnswer.{RepliesAnswer}
 use Rattle.instance.specs.Replied.{Replied, replies_told}
 use Rattle.instance.specs.declared.ReplyJob.{ReplyJob}
 use Rattle.instance.specs.ReplyJobs.{ReplyJobsRun}
@@ -37,7 +37,7 @@ row_says t r = answered (get_or (starts_in t) r 0) (length (row_in t r))
 
 -- what the entry of a run answers and leaves in the room
 pub record RunCoded (cells plan goal room after : List ℕ) (number : ℕ) : Type 0 where
-  pub answer : RunAnswer
+  pub answer : Result RunCounts Refusal
   pub ran : Ran cells plan goal room after answer
   pub code : number ≡ coded (run_told answer)
 
@@ -58,7 +58,7 @@ EditCoded e rec after number = (figure : ℕ) (T : Table) → Holds rec figure T
 
 -- what the builder answers and leaves in the room for a record that holds a table: the plan by the record's figure (W-204)
 pub record BuildSays (figure : ℕ) (T : Table) (room after : List ℕ) (number : ℕ) : Type 0 where
-  pub answer : BuildAnswer
+  pub answer : Result BuiltPlan Refusal
   pub built : BuiltInto (Work figure) [] (cells_in T) room after answer
   pub code : number ≡ coded (build_told answer)
 
@@ -68,13 +68,13 @@ BuildCoded rec room after number = (figure : ℕ) (T : Table) → Holds rec figu
 -- what the builder for named columns answers and leaves in the room: the plan by the record's figure for the cells of its table, of any record
 -- at all (W-213)
 pub record BuildForCoded (rec columns room after : List ℕ) (number : ℕ) : Type 0 where
-  pub answer : BuildAnswer
+  pub answer : Result BuiltPlan Refusal
   pub built : BuiltInto (Work (get_or rec 1 0)) columns (table_in rec) room after answer
   pub code : number ≡ coded (build_told answer)
 
 -- what the builder of the plan that a list of goals likes best answers and leaves in the room and in its record, of any record of a table at all
 pub record LikedCoded (rec goals list room liked after liked' : List ℕ) (number : ℕ) : Type 0 where
-  pub answer : BuildAnswer
+  pub answer : Result BuiltPlan Refusal
   pub built : LikedInto (Work (get_or rec 1 0)) (table_in rec) goals list room after liked liked' answer
   pub code : number ≡ coded (build_told answer)
 
@@ -105,7 +105,7 @@ pub record JobsCoded (cells plan lent : List ℕ) (jobs after : List Job) (numbe
 
 -- what the entry for replies answers and leaves in the room
 pub record RepliesCoded (cells plan goal room after : List ℕ) (number : ℕ) : Type 0 where
-  pub answer : RepliesAnswer
+  pub answer : Result ReplyCounts Refusal
   pub replied : Replied cells plan goal room after answer
   pub code : number ≡ coded (replies_told answer)
 

@@ -16,13 +16,13 @@ ghost use Rattle.salvaging.specs.Salvage.{saved};
 ghost use Rattle.salvaging.specs.Answers.{report_told, salvage_told};
 ghost use Rattle.dudowiej.specs.Coded.{cut, salvage_says, report_after};
 
-use answer::RunAnswer;
+use answer::RunCounts;
 use answerroom::AnswerText;
-use builder::BuildAnswer;
+use builder::BuiltPlan;
 use clauses::ProgramSize;
 use filing::FileAnswer;
 use goaltext::GoalText;
-use instance::RepliesAnswer;
+use instance::ReplyCounts;
 use prolog::TextSize;
 use refusal::Refusal;
 use salvaging::{Report, Salvage};
@@ -80,12 +80,12 @@ pub fn code_edit(a: TableAnswer) -> u64
     }
 }
 
-pub fn code_built(a: BuildAnswer) -> u64
+pub fn code_built(a: Result<BuiltPlan, Refusal>) -> u64
     ensures { Small (build_told a) → result ≡ coded (build_told a) }
 {
     match a {
-        BuildAnswer::Built(cells, cost) => cut_answer(cells, cost),
-        BuildAnswer::Refused(f) => cut_refusal(f),
+        Ok(BuiltPlan { cells, cost }) => cut_answer(cells, cost),
+        Err(f) => cut_refusal(f),
     }
 }
 
@@ -120,13 +120,13 @@ pub fn code_plan(a: Result<usize, Refusal>) -> u64
     }
 }
 
-pub fn code_run(a: RunAnswer) -> u64
+pub fn code_run(a: Result<RunCounts, Refusal>) -> u64
     requires { Small (run_told a) }
     ensures { result ≡ coded (run_told a) }
 {
     match a {
-        RunAnswer::Ran(hits, tried) => code_answer(hits, tried),
-        RunAnswer::Refused(f) => code_refusal(f),
+        Ok(RunCounts { hits, tried }) => code_answer(hits, tried),
+        Err(f) => code_refusal(f),
     }
 }
 
@@ -160,13 +160,13 @@ pub fn code_answer_text(a: AnswerText) -> u64
     }
 }
 
-pub fn code_replies(a: RepliesAnswer) -> u64
+pub fn code_replies(a: Result<ReplyCounts, Refusal>) -> u64
     requires { Small (replies_told a) }
     ensures { result ≡ coded (replies_told a) }
 {
     match a {
-        RepliesAnswer::Replied(replies, cells) => code_answer(replies, cells),
-        RepliesAnswer::Refused(f) => code_refusal(f),
+        Ok(ReplyCounts { replies, cells }) => code_answer(replies, cells),
+        Err(f) => code_refusal(f),
     }
 }
 

@@ -2,7 +2,6 @@
 // more goals than there is room for, is said too.
 #![tactic(auto)]
 
-use answer::RunAnswer;
 use askgoal::{Found, Ready};
 use console::{Reason, Stream};
 use goallines::{Piece, Place};
@@ -150,8 +149,8 @@ fn gather_goal(
 ) -> Stand {
     let answer = found.answer;
     match answer {
-        RunAnswer::Ran(_, _) => keep(found, stand, cells, list),
-        RunAnswer::Refused(f) => refuse(rt, jobs, goal, f, stand, out),
+        Ok(_) => keep(found, stand, cells, list),
+        Err(f) => refuse(rt, jobs, goal, f, stand, out),
     }
 }
 

@@ -1,6 +1,9 @@
 -- Two results of the entry, and two final contents of its room, that the promise allows are equal.
+use Rattle.std.specs.Prelude.{Result, Ok, Err}
+use Rattle.instance.specs.declared.ReplyCounts.{ReplyCounts}
+use Rattle.refusal.specs.declared.Refusal.{Refusal}
 use Prim.Native.Nat.{ℕ}
-use mathlib.Core.Path.{◌≡◌, sym, ◌∙◌, ap, subst}
+use mathlib.Core.Path.{◌≡◌, sym, ◌∙◌, ap, ap₂, subst}
 use mathlib.Core.List.{List, ◌++◌, flatten}
 use native.Mathlib.Omega.{arith}
 use lib.ListN.{length, drop}
@@ -13,16 +16,17 @@ use Rattle.table.specs.Table.{Table}
 use Rattle.table.proofs.ReadLaws.{apart, read_one}
 use Rattle.instance.specs.Reply.{Replies, Short, Large}
 use Rattle.instance.specs.Replied.{replies_told, Replied, refusal, big, no_room, replied}
-use Rattle.instance.specs.declared.RepliesAnswer.{RepliesAnswer}
-use Rattle.instance.specs.declared.RepliesAnswer.TheVariants as replies-answer
 use Rattle.instance.proofs.Variants.{replies-one}
 use Rattle.instance.proofs.RepliesLaws.{not-large}
 
-told_same : (a b : RepliesAnswer) → replies_told a ≡ replies_told b → a ≡ b
-told_same (replies-answer.Replied n c) (replies-answer.Replied m d) e = cc
-told_same (replies-answer.Replied n c) (replies-answer.Refused g) e = absurd (let z : ◌≡◌ {A = ℕ} 0 1 = cc in omega arith)
-told_same (replies-answer.Refused f) (replies-answer.Replied m d) e = absurd (let z : ◌≡◌ {A = ℕ} 0 1 = cc in omega arith)
-told_same (replies-answer.Refused f) (replies-answer.Refused g) e = let q : told f ≡ told g = cc in ap replies-answer.Refused (told-one q)
+told_same : (a b : Result ReplyCounts Refusal) → replies_told a ≡ replies_told b → a ≡ b
+told_same (Ok n) (Ok m) e =
+    let x : n.replies ≡ m.replies = cc in
+    let y : n.cells ≡ m.cells = cc in
+    ap₂ (λ (k l : ℕ). Ok (record { replies = k; cells = l })) x y
+told_same (Ok n) (Err g) e = absurd (let z : ◌≡◌ {A = ℕ} 0 1 = cc in omega arith)
+told_same (Err f) (Ok m) e = absurd (let z : ◌≡◌ {A = ℕ} 0 1 = cc in omega arith)
+told_same (Err f) (Err g) e = let q : told f ≡ told g = cc in ap Err (told-one q)
 
 -- the replies of one table are one list
 same-replies : {goal : List ℕ} {T T' : Table} {all all' : List (List ℕ)} → T ≡ T' → Replies goal T.rows all → Replies goal T'.rows all' → all ≡ all'
@@ -33,7 +37,7 @@ pub not-both : {goal : List ℕ} {T T' : Table} {all all' : List (List ℕ)} →
     → Large all → All Short all' → ⊥
 not-both q a b l s = not-large s (subst Large (same-replies q a b) l)
 
-pub replied-fixed : {t p g room room' room'' : List ℕ} {r s : RepliesAnswer} → Replied t p g room room' r → Replied t p g room room'' s
+pub replied-fixed : {t p g room room' room'' : List ℕ} {r s : Result ReplyCounts Refusal} → Replied t p g room room' r → Replied t p g room room'' s
     → (r ≡ s) × (room' ≡ room'')
 replied-fixed {r = r} {s = s} (refusal f a b c) (refusal f' a' b' c') = (told_same r s (let q : f ≡ f' = cc in b ∙ ap turned q ∙ sym b'), c ∙ sym c')
 replied-fixed (refusal f a b c) (big T all a' w n b' c') = apart (sym a' ∙ a)

@@ -1,4 +1,6 @@
 -- The passes over the hits, one hit after another; and what the entry answers after them.
+use Rattle.std.specs.Prelude.{Result, Err, Ok}
+use Rattle.instance.specs.declared.ReplyCounts.{ReplyCounts}
 use Prim.Native.Nat.{ℕ, ◌+◌, ◌≤◌, ◌<◌}
 use mathlib.Core.Path.{◌≡◌, refl, sym, ◌∙◌, ap, subst}
 use mathlib.Core.List.Memᴰ
@@ -20,12 +22,9 @@ use Rattle.table.proofs.Accepted.{is-table}
 use Rattle.plan.specs.Check.{plan_of}
 use Rattle.answer.specs.Run.{run_of, Ran}
 use Rattle.answer.specs.Run as runs
-use Rattle.answer.specs.declared.RunAnswer.TheVariants as run-answer
 use Rattle.instance.specs.Reply.{Large}
 use Rattle.instance.specs.Rewrite.{number_in, number_from}
 use Rattle.instance.specs.Replied.{replies_of, replies_told, Replied, refusal, big, no_room, replied}
-use Rattle.instance.specs.declared.RepliesAnswer.{RepliesAnswer}
-use Rattle.instance.specs.declared.RepliesAnswer.TheVariants as replies-answer
 use Rattle.instance.specs.code.Meet.{Hit, InstanceMet, Over}
 use Rattle.instance.specs.code.Passes.{RepliesAt, done, next, Hits, Pass, Passed, Found}
 use Rattle.instance.proofs.Variants.{reply-one}
@@ -112,18 +111,18 @@ module _ {table plan goal hits : List ℕ} (f : Found table plan goal hits) wher
       record { below = g.below; few = omega (arith, g.few, i.count); all = g.all; at = g.at }
 
   -- the answers: a reply that is too long, too little room, and enough
-  pub too_large : {room room' : List ℕ} {r : RepliesAnswer} → Large found-given.all
+  pub too_large : {room room' : List ℕ} {r : Result ReplyCounts Refusal} → Large found-given.all
       → replies_told r ≡ turned (refused reason.Big input.Goal 0) → room' ≡ room → Replied table plan goal room room' r
   too_large b t e = big f.is found-given.all f.reads found-given.replies b t e
 
-  pub too_few : {room room' none none' : List ℕ} {r : RepliesAnswer} {n : ℕ} → Passed none none' found-given.all n → length room < n
+  pub too_few : {room room' none none' : List ℕ} {r : Result ReplyCounts Refusal} {n : ℕ} → Passed none none' found-given.all n → length room < n
       → replies_told r ≡ turned (refused reason.Room input.Lent n) → room' ≡ room → Replied table plan goal room room' r
   too_few p l t e =
       let g = found-given in
       no_room f.is g.all f.reads g.replies p.short (omega (arith, p.cells, l))
       (t ∙ ap (λ (k : ℕ). turned (refused reason.Room input.Lent k)) p.cells) e
 
-  pub enough : {room room' : List ℕ} {r : RepliesAnswer} {n : ℕ} → Passed room room' found-given.all n → n ≤ length room
+  pub enough : {room room' : List ℕ} {r : Result ReplyCounts Refusal} {n : ℕ} → Passed room room' found-given.all n → n ≤ length room
       → replies_told r ≡ answered (length hits) n → Replied table plan goal room room' r
   enough {room} {room'} {n = n} p l t =
       let g = found-given in
@@ -133,12 +132,12 @@ module _ {table plan goal hits : List ℕ} (f : Found table plan goal hits) wher
       (t ∙ ap (λ (k : ℕ). answered k n) (sym g.many) ∙ ap (λ (k : ℕ). answered (length g.all) k) p.cells) (put_front w h).1
 
 -- a run that is refused, and one that has found its hits
-pub run-refused : {t p g bytes bytes' room : List ℕ} {f : Refusal} → Ran t p g bytes bytes' (run-answer.Refused f) → 64 ≤ length bytes
-    → Replied t p g room room (replies-answer.Refused f)
+pub run-refused : {t p g bytes bytes' room : List ℕ} {f : Refusal} → Ran t p g bytes bytes' (Err f) → 64 ≤ length bytes
+    → Replied t p g room room (Err f)
 run-refused {t} {p} {g} {bytes} (runs.refusal k e q w) h = refusal k (sym (run-replies t p g bytes h) ∙ e) q refl
 run-refused (runs.ran T tree hits n e w x y q z) h = absurd (let o : ◌≡◌ {A = ℕ} 0 1 = cc in omega arith)
 
-pub run-found : {t p g bytes bytes' : List ℕ} {h n : ℕ} → Ran t p g bytes bytes' (run-answer.Ran h n) → 64 ≤ length bytes
+pub run-found : {t p g bytes bytes' : List ℕ} {h n : ℕ} → Ran t p g bytes bytes' (Ok (record { hits = h; tried = n })) → 64 ≤ length bytes
     → Found t p g (take h bytes') × (h ≤ length bytes')
 run-found (runs.refusal k e q w) l = absurd (let o : ◌≡◌ {A = ℕ} 0 1 = cc in omega arith)
 run-found {t} {p} {g} {bytes} {bytes'} {h} (runs.ran T tree hits n e w x y q z) l =

@@ -1,16 +1,16 @@
 -- What a list of goals becomes whose replies are wanted too (02, W-202 and W-203 in one call): "as `dudowiej_run_jobs`, each record also saying
 -- where its replies stand in the room, how many and how many cells". Nothing new is said of a goal: a run answers its record (W-202), and the
 -- replies are those that it gets alone (W-203).
-use Rattle.std.specs.Prelude.{ℕ, ◌+◌, ◌≤◌, ◌<◌, ◌≡◌, List, [], ◌∷◌, ◌++◌, length, take, drop, replicate}
+use Rattle.std.specs.Prelude.{Result, Ok, ℕ, ◌+◌, ◌≤◌, ◌<◌, ◌≡◌, List, [], ◌∷◌, ◌++◌, length, take, drop, replicate}
+use Rattle.instance.specs.declared.ReplyCounts.{ReplyCounts}
+use Rattle.refusal.specs.declared.Refusal.{Refusal}
 use Rattle.refusal.specs.Refusal.{Refused, reason_number, Answer, answered, turned}
 use Rattle.refusal.specs.declared.Reason.TheVariants as reason
 use Rattle.refusal.specs.Read.{read, refuse}
 use Rattle.plan.specs.Check.{plan_of}
 use Rattle.answer.specs.Run.{Ran}
 use Rattle.answer.specs.Jobs.{bits_of}
-use Rattle.answer.specs.declared.RunAnswer.TheVariants as run-answer
 use Rattle.instance.specs.Replied.{Replied, replies_told}
-use Rattle.instance.specs.declared.RepliesAnswer.{RepliesAnswer}
 use Rattle.instance.specs.declared.ReplyJob.{ReplyJob}
 use Rattle.limits.specs.Limits.{most_rows}
 
@@ -33,12 +33,12 @@ goal_of_job cells j = take j.count (drop j.start cells)
 pub data ReplyAsked (t p cells : List ℕ) (on : ℕ) (room room' : List ℕ) (j j' : ReplyJob) : Type 0 where
   outside : length cells < j.start + j.count → j' ≡ declined j (reason_number reason.Length) 0 → room' ≡ room
       → ReplyAsked t p cells on room room' j j'
-  refused : (f : Refused) (after : List ℕ) (r : RepliesAnswer) → j.start + j.count ≤ length cells
+  refused : (f : Refused) (after : List ℕ) (r : Result ReplyCounts Refusal) → j.start + j.count ≤ length cells
       → Replied t p (goal_of_job cells j) (drop on room) after r → replies_told r ≡ turned f
       → j' ≡ declined j f.number f.place → room' ≡ room → ReplyAsked t p cells on room room' j j'
-  replied : (many size hits tried : ℕ) (after bytes : List ℕ) (r : RepliesAnswer) → j.start + j.count ≤ length cells
+  replied : (many size hits tried : ℕ) (after bytes : List ℕ) (r : Result ReplyCounts Refusal) → j.start + j.count ≤ length cells
       → Replied t p (goal_of_job cells j) (drop on room) after r → replies_told r ≡ answered many size
-      → Ran t p (goal_of_job cells j) (replicate most_rows 0) bytes (run-answer.Ran hits tried)
+      → Ran t p (goal_of_job cells j) (replicate most_rows 0) bytes (Ok (record { hits = hits; tried = tried }))
       → j' ≡ reply_filled j 0 0 on many size (bits_of (take hits bytes)) tried → room' ≡ take on room ++ after
       → ReplyAsked t p cells on room room' j j'
 

@@ -1,14 +1,12 @@
-// What a row and a goal have in common (02, W-203), as mathematics: specs/ says what a reply is, proofs/ what holds of it. The code is in
+// What a row and a goal have in common as mathematics: specs/ says what a reply is, proofs/ what holds of it. The code is in
 // crate replies.
 #![tactic(auto)]
 
-use refusal::Refusal;
-
-// How many replies there are and how many cells they have together, or why the table, the plan, the goal or the room is turned away.
-#[derive(Drop)]
-pub enum RepliesAnswer {
-    Replied(usize, usize),
-    Refused(Refusal),
+// How many replies there are, and how many cells they have together.
+#[derive(Clone, Copy)]
+pub struct ReplyCounts {
+    pub replies: usize,
+    pub cells: usize,
 }
 
 // One goal of a list whose replies are wanted too. Its caller says where the goal's cells start among the lent cells, and how many there are. A

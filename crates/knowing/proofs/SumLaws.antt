@@ -1,4 +1,7 @@
 -- W-214 of what the promises of a run and of a list of goals say: `Ran` for run_plan, `Asked` and `JobsRun` for run_jobs (crate answer).
+use Rattle.std.specs.Prelude.{Result, Ok, Err}
+use Rattle.answer.specs.declared.RunCounts.{RunCounts}
+use Rattle.refusal.specs.declared.Refusal.{Refusal}
 use Prim.Native.Nat.{ℕ, zero, suc, ◌+◌, ◌%◌, ◌/◌, ◌^◌, ◌≤◌, ◌<◌}
 use mathlib.Core.Path.{◌≡◌, refl, sym, ◌∙◌, ap, subst}
 use mathlib.Core.Logic.{◌↔◌, ◌⊎◌, inl, inr, ⊎_elim}
@@ -21,8 +24,6 @@ use Rattle.plan.specs.Check.{plan_of}
 use Rattle.answer.specs.Run.{Picks, Counts, Tried, Ascends, done, more_of, run_of, run_told, Ran, refusal, ran}
 use Rattle.answer.specs.Jobs.{bits_of, bit, filled, entered, Asked, outside, alone, Each, nil, cons}
 use Rattle.answer.specs.declared.Job.{Job}
-use Rattle.answer.specs.declared.RunAnswer.{RunAnswer}
-use Rattle.answer.specs.declared.RunAnswer.TheVariants as run-answer
 use Rattle.answer.proofs.Fixed.{skeletons-one}
 use Rattle.answer.proofs.Theorems.{picked, picks-ascend}
 use Rattle.answer.proofs.TakesLaws.{run-takes, takes_run}
@@ -42,7 +43,7 @@ found-reported found room e c = (rw (e, c) (take-append_seam found (drop (length
 
 -- TWO RUNS. "If one accepted goal is an instance of another, for the same table and any accepted plan, its hit rows are among the other's, in
 -- the same order, and it tries no more branches": of two answers that the promise of a run allows, in any two rooms.
-pub run_more : {t p wide narrow room after other after' : List ℕ} {r s : RunAnswer} {h n h' n' : ℕ} → Instance wide narrow
+pub run_more : {t p wide narrow room after other after' : List ℕ} {r s : Result RunCounts Refusal} {h n h' n' : ℕ} → Instance wide narrow
     → Ran t p wide room after r → Ran t p narrow other after' s → run_told r ≡ answered h n → run_told s ≡ answered h' n'
     → Among (reported (run_told s) after') (reported (run_told r) after) × (tried_of (run_told s) ≤ tried_of (run_told r))
 run_more i (refusal f a b c) y e e' = absurd (let z : ◌≡◌ {A = ℕ} 0 1 = cc in let y : ⊥ = omega arith in y)
@@ -99,18 +100,18 @@ bit-count r hs a = go (count r hs) refl
     go (suc k) e = (bits-mem r hs a).1 (mem-count r hs (omega arith)) ∙ (let l = once-at-most r a in omega arith)
 
 -- what a run reports ascends: demand 2, "from the top down, each once"
-reported-ascends : {t p g room after : List ℕ} {r : RunAnswer} → Ran t p g room after r → Ascends 0 (reported (run_told r) after)
+reported-ascends : {t p g room after : List ℕ} {r : Result RunCounts Refusal} → Ran t p g room after r → Ascends 0 (reported (run_told r) after)
 reported-ascends (refusal f a b c) = rw b done
 reported-ascends {room = room} (ran T tree found n a w v u b c) = rw (found-reported found room b c).0 (picks-ascend v).0
 
 -- a record holds the bits of what its run reports, and what it tried
-entered-holds : (j : Job) (r : RunAnswer) (room : List ℕ)
+entered-holds : (j : Job) (r : Result RunCounts Refusal) (room : List ℕ)
     → ((entered j r room).hits ≡ bits_of (reported (run_told r) room)) × ((entered j r room).tried ≡ tried_of (run_told r))
 unfolding bits_of
-entered-holds j (run-answer.Ran h n) room = (refl, refl)
-entered-holds j (run-answer.Refused f) room = (refl, refl)
+entered-holds j (Ok n) room = (refl, refl)
+entered-holds j (Err f) room = (refl, refl)
 
-record-holds : {t p g room after : List ℕ} {r : RunAnswer} (j : Job) {k : Job} → k ≡ entered j r after → Ran t p g room after r → (row : ℕ)
+record-holds : {t p g room after : List ℕ} {r : Result RunCounts Refusal} (j : Job) {k : Job} → k ≡ entered j r after → Ran t p g room after r → (row : ℕ)
     → (bit row k.hits ≡ count row (reported (run_told r) after)) × (k.tried ≡ tried_of (run_told r))
 record-holds {after = after} {r} j e x row =
     let o = entered-holds j r after in (
@@ -163,7 +164,7 @@ module _ (t p lent : List ℕ) {width : ℕ} {rows : List (List ℕ)} (it : IsTa
     abbrev Fits : List ℕ → Type 0
     Fits g = IsGoal width g × (row < length rows) × Matches (get_or rows row []) g
 
-    run-hit : {g room after : List ℕ} {r : RunAnswer} → length rows ≤ length room → Ran t p g room after r
+    run-hit : {g room after : List ℕ} {r : Result RunCounts Refusal} → length rows ≤ length room → Ran t p g room after r
         → Memᴰ row (reported (run_told r) after) ↔ Fits g
     run-hit {g} {room} l (refusal f a e c) =
         let read-it : IsGoal width g → run_of t p g room ≡ read (table width rows) =

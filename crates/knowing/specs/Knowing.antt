@@ -1,13 +1,14 @@
 -- Knowing more never adds rules (02, W-214), and what a list of goals adds up to. That a goal is an instance of another is `Instance` (crate
 -- instance, W-203): one substitution makes its cells of the other's.
-use Rattle.std.specs.Prelude.{ℕ, suc, ◌+◌, ◌≤◌, ◌<◌, List, [], ◌∷◌, length, get_or, take, drop}
+use Rattle.std.specs.Prelude.{Result, ℕ, suc, ◌+◌, ◌≤◌, ◌<◌, List, [], ◌∷◌, length, get_or, take, drop}
+use Rattle.answer.specs.declared.RunCounts.{RunCounts}
+use Rattle.refusal.specs.declared.Refusal.{Refusal}
 use Rattle.term.specs.Unify.{Matches}
 use Rattle.refusal.specs.Refusal.{Answer, answered, turned}
 use Rattle.table.specs.Table.{count, IsGoal}
 use Rattle.answer.specs.Run.{run_told, Ran}
 use Rattle.answer.specs.Jobs.{bit}
 use Rattle.answer.specs.declared.Job.{Job}
-use Rattle.answer.specs.declared.RunAnswer.{RunAnswer}
 
 -- "its hit rows are among the other's, in the same order": some of them are left out
 pub data Among : List ℕ → List ℕ → Type 0 where
@@ -41,7 +42,7 @@ pub data Singles (t p lent : List ℕ) (rows : ℕ) : List Job → (found : List
   past : {j : Job} {jobs : List Job} {found : List (List ℕ)} {tried : List ℕ} → length lent < j.start + j.count
       → Singles t p lent rows jobs found tried → Singles t p lent rows (j ∷ jobs) ([] ∷ found) (0 ∷ tried)
   single : {j : Job} {jobs : List Job} {found : List (List ℕ)} {tried : List ℕ} → j.start + j.count ≤ length lent
-      → (room after : List ℕ) (r : RunAnswer) → rows ≤ length room → Ran t p (take j.count (drop j.start lent)) room after r
+      → (room after : List ℕ) (r : Result RunCounts Refusal) → rows ≤ length room → Ran t p (take j.count (drop j.start lent)) room after r
       → Singles t p lent rows jobs found tried
       → Singles t p lent rows (j ∷ jobs) (reported (run_told r) after ∷ found) (tried_of (run_told r) ∷ tried)
 

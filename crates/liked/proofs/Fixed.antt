@@ -1,4 +1,7 @@
 -- Two results that the promises of `columns_of` and `build_liked` allow are equal.
+use Rattle.std.specs.Prelude.{Result}
+use Rattle.builder.specs.declared.BuiltPlan.{BuiltPlan}
+use Rattle.refusal.specs.declared.Refusal.{Refusal}
 use Prim.Native.Nat.{ℕ, ◌-◌, ◌<◌}
 use mathlib.Core.Path.{◌≡◌, sym, ◌∙◌, ap, ap₂, subst}
 use mathlib.Core.List.{List, ◌++◌}
@@ -8,7 +11,6 @@ use Rattle.refusal.specs.Refusal.{turned}
 use Rattle.table.specs.Table.{Table}
 use Rattle.table.proofs.ReadLaws.{apart, read_one, refuse-one}
 use Rattle.least.specs.declared.By.{By}
-use Rattle.builder.specs.declared.BuildAnswer.{BuildAnswer}
 use Rattle.builder.proofs.Fixed.{build_told-one, build-fixed}
 use Rattle.liked.specs.Liked.{ColumnsListed, LikesBest, LikedInto, table-refused, found}
 use Rattle.liked.specs.declared.Columns.{Columns}
@@ -46,7 +48,7 @@ module _ {by : By} {cells goals list : List ℕ} {width : ℕ} where
       let e : mask ≡ mask' = omega (arith, not-below x y, not-below y x) in
       (e, tries-for-one (rw e at x.tries) y.tries, tries-for-one x.plainly y.plainly)
 
-pub liked-fixed : {by : By} {cells goals list room room' room'' liked liked' liked'' : List ℕ} {r s : BuildAnswer}
+pub liked-fixed : {by : By} {cells goals list room room' room'' liked liked' liked'' : List ℕ} {r s : Result BuiltPlan Refusal}
     → LikedInto by cells goals list room room' liked liked' r → LikedInto by cells goals list room room'' liked liked'' s
     → (r ≡ s) × (room' ≡ room'') × (liked' ≡ liked'')
 liked-fixed {r = r} {s} (table-refused f a b c d) (table-refused g a' b' c' d') =

@@ -1,5 +1,7 @@
 -- The search through the sets of columns: what a set tries is one number, the set of all columns tries what the plain plan does, and what has been
 -- seen so far after each set.
+use Rattle.std.specs.Prelude.{Result, Ok, Err}
+use Rattle.builder.specs.declared.BuiltPlan.{BuiltPlan}
 use Prim.Native.Nat.{ℕ, ◌+◌, ◌*◌, ◌^◌, ◌%◌, ◌≤◌, ◌<◌}
 use mathlib.Core.Path.{◌≡◌, refl, sym, ◌∙◌, ap, subst}
 use mathlib.Core.Logic.{inl}
@@ -26,8 +28,6 @@ use Rattle.least.specs.declared.By.{By}
 use Rattle.least.proofs.Measured.{by-table, by_read}
 use Rattle.least.proofs.NoneNamed.{free-built, free-least}
 use Rattle.builder.specs.Build.{table_for, BuiltInto, table-refused, room-refused, built, build_told}
-use Rattle.builder.specs.declared.BuildAnswer.{BuildAnswer}
-use Rattle.builder.specs.declared.BuildAnswer.TheVariants as build-answer
 use Rattle.builder.proofs.AskedLaws.{read-for, plain-table}
 use Rattle.builder.proofs.ColumnsLaws.{no-column-free}
 use Rattle.builder.proofs.Fixed.{same-built}
@@ -36,8 +36,6 @@ use Rattle.shift.proofs.TotalLaws.{total-fixed}
 use Rattle.liked.specs.Liked.{columns_of, TriesFor, LikesBest, LikedInto, liked_after}
 use Rattle.liked.specs.Liked as liked
 use Rattle.liked.specs.code.Search.{Totalled, tried, turned-away, Plainly, BestBelow}
-use Rattle.liked.specs.declared.Total.{Total}
-use Rattle.liked.specs.declared.Total.TheVariants as total
 use Rattle.liked.proofs.ColumnLaws.{columns-none, columns-all, pow-le}
 use Rattle.limits.specs.Limits.{most_plan_cells}
 
@@ -54,7 +52,7 @@ pub record Written (by : By) (columns cells room after : List ℕ) (size : ℕ) 
   pub there : size ≤ length after
   pub front : take size after ≡ write plan
 
-pub written : {by : By} {columns cells room after : List ℕ} {r : BuildAnswer} {size cost : ℕ} → BuiltInto by columns cells room after r
+pub written : {by : By} {columns cells room after : List ℕ} {r : Result BuiltPlan Refusal} {size cost : ℕ} → BuiltInto by columns cells room after r
     → build_told r ≡ answered size cost → Written by columns cells room after size
 written (table-refused f a b c) e = clash (sym e ∙ b)
 written (room-refused T p a u w b c) e = clash (sym e ∙ b)
@@ -72,7 +70,7 @@ written {room = room} {after} {size = size} (built T p a u l w b c) e =
 
 -- With all columns named the plan is the plain one (02, W-213).
 all_named : (by : By) (cells : List ℕ) {T : Table} (mask : ℕ) → table_by by cells ≡ read T → T.width ≤ 8 → mask + 1 ≡ 2 ^ T.width
-    → {room after : List ℕ} {r : BuildAnswer}
+    → {room after : List ℕ} {r : Result BuiltPlan Refusal}
     → {size cost : ℕ} → build_told r ≡ answered size cost → BuiltInto by (columns_of mask) cells room after r
     → BuiltInto by (columns_of 0) cells room after r
 all_named by cells mask d l e q (table-refused f a b c) = clash (sym q ∙ b)
@@ -122,17 +120,17 @@ module _ {by : By} {cells goals list : List ℕ} where
   }
 
   -- WHAT A SET TRIES, from what the code does.
-  module _ {mask : ℕ} {room after : List ℕ} {r : BuildAnswer} (b : BuiltInto by (columns_of mask) cells room after r) where
-    pub total-tried : {size cost n : ℕ} → r ≡ build-answer.Built size cost → TriesInAll cells (take size after) goals list n
-        → Totalled by cells goals list mask (total.Tried n)
-    total-tried {size} {cost} {n} e x =
+  module _ {mask : ℕ} {room after : List ℕ} {r : Result BuiltPlan Refusal} (b : BuiltInto by (columns_of mask) cells room after r) where
+    pub total-tried : {plan : BuiltPlan} {n : ℕ} → r ≡ Ok plan → TriesInAll cells (take plan.cells after) goals list n
+        → Totalled by cells goals list mask (Ok n)
+    total-tried {plan} {n} e x =
         tried n
-        (record { room = room; after = after; answer = r; size = size; cost = cost; built = b; told = ap build_told e; totals = x }) refl
+        (record { room = room; after = after; answer = r; size = plan.cells; cost = plan.cost; built = b; told = ap build_told e; totals = x }) refl
 
-    pub total-refused : {f : Refusal} → r ≡ build-answer.Refused f → most_plan_cells ≤ length room → Totalled by cells goals list mask (total.Refused f)
+    pub total-refused : {f : Refusal} → r ≡ Err f → most_plan_cells ≤ length room → Totalled by cells goals list mask (Err f)
     total-refused {f} e l = go b (ap build_told e)
       where
-        go : BuiltInto by (columns_of mask) cells room after r → build_told r ≡ turned (told f) → Totalled by cells goals list mask (total.Refused f)
+        go : BuiltInto by (columns_of mask) cells room after r → build_told r ≡ turned (told f) → Totalled by cells goals list mask (Err f)
         go (table-refused g a x c) q = let k : g ≡ told f = cc in turned-away f (rw k at a) refl
         go (room-refused T p a u w x c) q =
             let k = (read-for by (columns_of mask) cells a).0 in
@@ -177,17 +175,17 @@ module _ {by : By} {cells goals list : List ℕ} where
       go other m h y (yes k) = b.least other m k y
       go other m h y (no k) = let z : other ≡ mask = omega (arith, k) in f m (rw z at y)
 
-  pub no_less : {mask least n : ℕ} {r : Total} → Totalled by cells goals list mask r → r ≡ total.Tried n → least ≤ n → (m : ℕ)
+  pub no_less : {mask least n : ℕ} {r : Result ℕ Refusal} → Totalled by cells goals list mask r → r ≡ Ok n → least ≤ n → (m : ℕ)
       → TriesFor by cells goals list mask m → least ≤ m
   no_less {n = n} (tried k x e) d l m y = let z : k ≡ n = cc in let w = tries-for-one y x in omega (arith, z, w)
   no_less (turned-away f a e) d l m y = absurd (let z : ◌≡◌ {A = ℕ} 0 1 = cc in let w : ⊥ = omega arith in w)
 
-  pub no-plan : {mask least : ℕ} {r : Total} {f : Refusal} → Totalled by cells goals list mask r → r ≡ total.Refused f → (m : ℕ)
+  pub no-plan : {mask least : ℕ} {r : Result ℕ Refusal} {f : Refusal} → Totalled by cells goals list mask r → r ≡ Err f → (m : ℕ)
       → TriesFor by cells goals list mask m → least ≤ m
   no-plan (tried k x e) d m y = absurd (let z : ◌≡◌ {A = ℕ} 0 1 = cc in let w : ⊥ = omega arith in w)
   no-plan (turned-away f a e) d m y = apart (sym (written y.built y.told).reads ∙ a)
 
-  pub total-is : {mask n : ℕ} {r : Total} → Totalled by cells goals list mask r → r ≡ total.Tried n → TriesFor by cells goals list mask n
+  pub total-is : {mask n : ℕ} {r : Result ℕ Refusal} → Totalled by cells goals list mask r → r ≡ Ok n → TriesFor by cells goals list mask n
   total-is {n = n} (tried k x e) d = let z : k ≡ n = cc in rw z at x
   total-is (turned-away f a e) d = absurd (let z : ◌≡◌ {A = ℕ} 0 1 = cc in let w : ⊥ = omega arith in w)
 
@@ -206,7 +204,7 @@ module _ {by : By} {cells goals list : List ℕ} where
       rw (← e) (best-kept b (λ n y. b.least 0 n h (all_plain p.here p.narrow.1 all y)))
 
   -- THE WHOLE.
-  pub plain-refused : {f : Refusal} {r : Total} → Totalled by cells goals list 0 r → r ≡ total.Refused f → table_by by cells ≡ refuse (told f)
+  pub plain-refused : {f : Refusal} {r : Result ℕ Refusal} → Totalled by cells goals list 0 r → r ≡ Err f → table_by by cells ≡ refuse (told f)
   plain-refused (tried k x e) d = absurd (let z : ◌≡◌ {A = ℕ} 0 1 = cc in let w : ⊥ = omega arith in w)
   plain-refused {f} (turned-away g a e) d =
       let z : g ≡ f = cc in
@@ -248,7 +246,7 @@ module _ {by : By} {cells goals list : List ℕ} where
     first = b.first;
   }
 
-  pub liked-found : {sets plain mask least : ℕ} {room room' liked liked' : List ℕ} {a r : BuildAnswer} → Plainly by cells goals list sets plain
+  pub liked-found : {sets plain mask least : ℕ} {room room' liked liked' : List ℕ} {a r : Result BuiltPlan Refusal} → Plainly by cells goals list sets plain
       → BestBelow by cells goals list sets mask least → BuiltInto by (columns_of mask) cells room room' a → a ≡ r
       → liked' ≡ liked_after (build_told r) mask least plain liked → LikedInto by cells goals list room room' liked liked' r
   liked-found {plain = plain} {mask} {least} p b x e w =

@@ -1,13 +1,14 @@
 -- The plan that a list of goals likes best: "of the plans that `build_for` gives for each set of columns, the one with the least total tried over
 -- the list".
-use Rattle.std.specs.Prelude.{ℕ, zero, suc, ◌-◌, ◌^◌, ◌≤◌, ◌<◌, ◌≡◌, cond, List, [], ◌∷◌, eqb, length, take, drop, replicate}
+use Rattle.std.specs.Prelude.{Result, ℕ, zero, suc, ◌-◌, ◌^◌, ◌≤◌, ◌<◌, ◌≡◌, cond, List, [], ◌∷◌, eqb, length, take, drop, replicate}
+use Rattle.builder.specs.declared.BuiltPlan.{BuiltPlan}
+use Rattle.refusal.specs.declared.Refusal.{Refusal}
 use Rattle.refusal.specs.Refusal.{Refused, Answer, answered, turned}
 use Rattle.refusal.specs.Read.{read, refuse}
 use Rattle.table.specs.Table.{Table}
 use Rattle.least.specs.Measures.{table_by}
 use Rattle.least.specs.declared.By.{By}
 use Rattle.builder.specs.Build.{BuiltInto, build_told}
-use Rattle.builder.specs.declared.BuildAnswer.{BuildAnswer}
 use Rattle.answer.specs.Jobs.{bit}
 use Rattle.shift.specs.Totals.{TriesInAll}
 use Rattle.liked.specs.declared.Columns.{Columns}
@@ -33,7 +34,7 @@ pub record ColumnsListed (mask : ℕ) (r : Columns) : Type 0 where
 pub record TriesFor (by : By) (cells goals list : List ℕ) (mask total : ℕ) : Type 0 where
   pub room : List ℕ
   pub after : List ℕ
-  pub answer : BuildAnswer
+  pub answer : Result BuiltPlan Refusal
   pub size : ℕ
   pub cost : ℕ
   pub built : BuiltInto by (columns_of mask) cells room after answer
@@ -55,7 +56,7 @@ liked_after (turned f) mask total plain liked = liked
 
 -- What is answered, and what room and record then hold. "Refusals: table .., FIGURE as `build_for`, then ROOM, where the plan found does not fit":
 -- where the table is accepted it is what `build_for` answers and writes for the set of columns that is found, in the room lent
-pub data LikedInto (by : By) (cells goals list room room' liked liked' : List ℕ) (answer : BuildAnswer) : Type 0 where
+pub data LikedInto (by : By) (cells goals list room room' liked liked' : List ℕ) (answer : Result BuiltPlan Refusal) : Type 0 where
   table-refused : (f : Refused) → table_by by cells ≡ refuse f → build_told answer ≡ turned f → room' ≡ room → liked' ≡ liked
       → LikedInto by cells goals list room room' liked liked' answer
   found : (T : Table) (mask total plain : ℕ) → table_by by cells ≡ read T → LikesBest by cells goals list T.width mask total plain

@@ -1,5 +1,5 @@
-// The plan that a list of goals likes best: of the plans that `build_for` gives for each set of columns (02, W-213), the one that tries the
-// fewest branches over the list (W-214).
+// The plan that a list of goals likes best: of the plans that `build_for` gives for each set of columns, the one that tries the
+// fewest branches over the list.
 #![tactic(auto)]
 
 ghost use Rattle.std.specs.Prelude.{List, ℕ, ◌+◌};
@@ -7,7 +7,7 @@ ghost use Rattle.least.specs.declared.By.{By};
 ghost use Rattle.liked.specs.Liked.{ColumnsListed, LikedInto};
 ghost use Rattle.liked.specs.code.Search.{Totalled, Plainly, BestBelow};
 
-use builder::{BuildAnswer, build_for};
+use builder::{BuiltPlan, build_for};
 use least::By;
 use limits::{COLUMNS, PLAN_CELLS};
 use refusal::Refusal;
@@ -17,13 +17,6 @@ use refusal::Refusal;
 pub struct Columns {
     pub list: [u32; COLUMNS],
     pub count: usize,
-}
-
-// What a set of columns tries over the list, or why no plan is built.
-#[derive(Drop)]
-pub enum Total {
-    Tried(usize),
-    Refused(Refusal),
 }
 
 // A set of columns as a mask, bit c for column c, and what it tries.
@@ -39,46 +32,39 @@ pub fn columns_of(mask: usize) -> Columns
 {
     let mut list = [0u32; COLUMNS];
     let mut count = 0;
-    let mut c: u32 = 0;
-    while c < COLUMNS as u32 {
+    for c in 0..COLUMNS as u32 {
         if (mask >> c) % 2 == 1 {
             list[count] = c;
             count += 1;
         }
-        c += 1;
     }
     Columns { list, count }
 }
 
-// The plan for a set of columns, built in a room that holds any, and run on the list.
-fn total_for(by: By, mask: usize, cells: &[u32], goals: &[u32], list: &[usize]) -> Total
+// What a set of columns tries over the list: its plan, built in a room that holds any, and run on the list.
+fn total_for(
+    by: By,
+    mask: usize,
+    cells: &[u32],
+    goals: &[u32],
+    list: &[usize],
+) -> Result<usize, Refusal>
     ensures { Totalled by cells.now goals.now list.now mask result }
 {
     let named = columns_of(mask);
-    let columns = named.list;
-    let count = named.count;
     let mut plan = [0u32; PLAN_CELLS];
-    match build_for(by, &columns[..count], cells, &mut plan[..]) {
-        BuildAnswer::Built(size, _) => {
-            Total::Tried(shift::total_tried(cells, &plan[..size], goals, list))
-        }
-        BuildAnswer::Refused(f) => Total::Refused(f),
-    }
+    let built = build_for(by, &named.list[..named.count], cells, &mut plan[..])?;
+    Ok(shift::total_tried(cells, &plan[..built.cells], goals, list))
 }
 
 // The better of the best set below `mask` and that set itself. One that tries as many does not come in the place of a smaller.
-fn better(best: Best, mask: usize, total: Total) -> Best
+fn better(best: Best, mask: usize, total: Result<usize, Refusal>) -> Best
     ensures { (by : By) (cells goals list : List ℕ) → BestBelow by cells goals list mask best.mask best.tried
         → Totalled by cells goals list mask total → BestBelow by cells goals list (mask + 1) result.mask result.tried }
 {
     match total {
-        Total::Tried(tried) => {
-            if tried < best.tried {
-                return Best { mask, tried };
-            }
-            best
-        }
-        Total::Refused(_) => best,
+        Ok(tried) if tried < best.tried => Best { mask, tried },
+        _ => best,
     }
 }
 
@@ -91,10 +77,8 @@ fn best_of(by: By, cells: &[u32], goals: &[u32], list: &[usize], sets: usize, pl
         mask: 0,
         tried: plain,
     };
-    let mut mask = 1;
-    while mask + 1 < sets {
+    for mask in 1..sets - 1 {
         best = better(best, mask, total_for(by, mask, cells, goals, list));
-        mask += 1;
     }
     best
 }
@@ -108,25 +92,15 @@ pub fn build_liked(
     list: &[usize],
     room: &mut [u32],
     liked: &mut [usize; 3],
-) -> BuildAnswer
+) -> Result<BuiltPlan, Refusal>
     ensures { LikedInto by cells.now goals.now list.now room.old room.new
         liked.old liked.new result }
 {
-    match total_for(by, 0, cells, goals, list) {
-        Total::Refused(f) => BuildAnswer::Refused(f),
-        Total::Tried(plain) => {
-            let width = cells[0] as usize;
-            let best = best_of(by, cells, goals, list, 1 << width, plain);
-            let named = columns_of(best.mask);
-            let columns = named.list;
-            let count = named.count;
-            match build_for(by, &columns[..count], cells, room) {
-                BuildAnswer::Built(size, cost) => {
-                    *liked = [best.mask, best.tried, plain];
-                    BuildAnswer::Built(size, cost)
-                }
-                BuildAnswer::Refused(f) => BuildAnswer::Refused(f),
-            }
-        }
-    }
+    let plain = total_for(by, 0, cells, goals, list)?;
+    let width = cells[0] as usize;
+    let best = best_of(by, cells, goals, list, 1 << width, plain);
+    let named = columns_of(best.mask);
+    let built = build_for(by, &named.list[..named.count], cells, room)?;
+    *liked = [best.mask, best.tried, plain];
+    Ok(built)
 }

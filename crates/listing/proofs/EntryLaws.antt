@@ -1,4 +1,6 @@
 -- The way from any bytes to what is written: a table that is read, its plan with the marks, and the front of the room.
+use Rattle.std.specs.Prelude.{Result, Ok, Err}
+use Rattle.builder.specs.declared.BuiltPlan.{BuiltPlan}
 use mathlib.Core.Path.{◌≡◌, refl, sym, ap, ◌∙◌}
 use mathlib.Core.Bool.{true, false}
 use mathlib.Core.List.{List, [], ◌++◌, append-nil}
@@ -31,8 +33,6 @@ use Rattle.least.specs.declared.By.TheVariants as by
 use Rattle.least.proofs.Measured.{by-table}
 use Rattle.least.proofs.Later.{from-plain}
 use Rattle.builder.specs.Build.{table_for, BuiltInto, table-refused, room-refused, built, build_told}
-use Rattle.builder.specs.declared.BuildAnswer.{BuildAnswer}
-use Rattle.builder.specs.declared.BuildAnswer.TheVariants as build-answer
 use Rattle.builder.proofs.AskedLaws.{plain-table}
 use Rattle.builder.proofs.ColumnsLaws.{plain-built}
 use Rattle.listing.specs.Listing.{header, listing_of, unread}
@@ -113,12 +113,12 @@ module _ {t plan : List ℕ} {costs : ℕ} where
       }
 
 -- the builder's answer, with room for any plan: the builder's plan of a table that is read, or the table's refusal
-module _ {t room room' : List ℕ} {r : BuildAnswer} (b : BuiltInto by.Branches [] t room room' r) (enough : length room ≡ most_plan_cells) where
+module _ {t room room' : List ℕ} {r : Result BuiltPlan Refusal} (b : BuiltInto by.Branches [] t room room' r) (enough : length room ≡ most_plan_cells) where
   -- 01's measure has no figure to refuse, and no column is named
   reads : table_of t ≡ table_for by.Branches [] t
   reads = sym (plain-table by.Branches t ∙ by-table by.Branches t (omega arith))
 
-  pub plan-built : (n costs : ℕ) → r ≡ build-answer.Built n costs → (n ≤ length room') × Planned t (take n room') costs
+  pub plan-built : (n costs : ℕ) → r ≡ Ok (record { cells = n; cost = costs }) → (n ≤ length room') × Planned t (take n room') costs
   plan-built n costs e = go b
     where
       go : BuiltInto by.Branches [] t room room' r → (n ≤ length room') × Planned t (take n room') costs
@@ -139,7 +139,7 @@ module _ {t room room' : List ℕ} {r : BuildAnswer} (b : BuiltInto by.Branches 
             },
           )
 
-  pub plan-refused : (f : Refusal) → r ≡ build-answer.Refused f → table_of t ≡ refuse (told f)
+  pub plan-refused : (f : Refusal) → r ≡ Err f → table_of t ≡ refuse (told f)
   plan-refused f e = go b
     where
       go : BuiltInto by.Branches [] t room room' r → table_of t ≡ refuse (told f)

@@ -11,7 +11,6 @@ ghost use Rattle.listing.specs.code.Walk.{Planned, PutsPlan, most};
 
 use crate::text::put_header;
 use crate::walk::{Stand, state};
-use builder::BuildAnswer;
 use least::By;
 use limits::{BRANCHES, PLAN_CELLS, TABLE_CELLS};
 use printing::put_refusal;
@@ -42,8 +41,8 @@ fn list_cells(table: &[u32], out: &mut [u8]) -> usize
 {
     let mut room = [0u32; PLAN_CELLS];
     match builder::build_plan(By::Branches, table, &mut room) {
-        BuildAnswer::Built(n, cost) => list_plan(table, &room[..n], out, cost),
-        BuildAnswer::Refused(f) => {
+        Ok(built) => list_plan(table, &room[..built.cells], out, built.cost),
+        Err(f) => {
             let reason = f.reason;
             let place = f.place;
             put_refusal(out, reason, place)

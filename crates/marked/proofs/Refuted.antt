@@ -1,5 +1,8 @@
 -- WRONG STATEMENTS about two runs (02, W-214), each in the form of the law `run_more` (knowing/proofs/SumLaws), and that it is false by the runs
 -- of `instances`. Those about a list of goals are in knowing/proofs/Examples.
+use Rattle.std.specs.Prelude.{Result, Ok}
+use Rattle.answer.specs.declared.RunCounts.{RunCounts}
+use Rattle.refusal.specs.declared.Refusal.{Refusal}
 use Prim.Native.Nat.{ℕ, ◌≤◌, ◌<◌}
 use mathlib.Core.Path.{◌≡◌, refl, sym, ◌∙◌}
 use mathlib.Core.List.{List, [], ◌∷◌, ◌++◌}
@@ -17,8 +20,6 @@ use Rattle.table.proofs.Accepted.{is-table, all-at}
 use Rattle.plan.specs.Check.{plan_of}
 use Rattle.plan.proofs.CheckLaws.{accepted-one}
 use Rattle.plan.proofs.PlansLaws.{write-one}
-use Rattle.answer.specs.declared.RunAnswer.{RunAnswer}
-use Rattle.answer.specs.declared.RunAnswer.TheVariants as run-answer
 use Rattle.answer.specs.Run.{run_told, Ran}
 use Rattle.answer.specs.Run as run
 use Rattle.answer.proofs.TakesLaws.{takes_run}
@@ -35,7 +36,7 @@ Claim = (rows rows' : List ℕ) (tried tried' : ℕ) → Type 0
 
 -- and that as a law of a table: the goal is run by the plan p, its instance by the plan q, and both are answered
 pub record Law (t p q : List ℕ) (claim : Claim) : Type 0 where
-  pub holds : {wide narrow room after other after' : List ℕ} {r s : RunAnswer} {h n h' n' : ℕ} → Instance wide narrow
+  pub holds : {wide narrow room after other after' : List ℕ} {r s : Result RunCounts Refusal} {h n h' n' : ℕ} → Instance wide narrow
       → Ran t p wide room after r → Ran t q narrow other after' s → run_told r ≡ answered h n → run_told s ≡ answered h' n'
       → claim (reported (run_told r) after) (reported (run_told s) after') (tried_of (run_told r)) (tried_of (run_told s))
 
@@ -57,7 +58,7 @@ FewerByAnyPlan = (t p q : List ℕ) → Law t p q (λ rows rows' tried tried'. t
 
 -- There is a run such as an example speaks of: in 64 bytes.
 run-there : {t p goal hits : List ℕ} {cost tried : ℕ} → RanSays t p cost goal hits tried
-    → Ran t p goal (replicate 64 0) (hits ++ drop (length hits) (replicate 64 0)) (run-answer.Ran (length hits) tried)
+    → Ran t p goal (replicate 64 0) (hits ++ drop (length hits) (replicate 64 0)) (Ok (record { hits = length hits; tried = tried }))
 run-there {t} {p} {hits = hits} {cost} {tried} s =
     let k = s.plans in
     let i = is-table t k.reads in

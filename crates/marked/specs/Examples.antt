@@ -1,6 +1,8 @@
 -- 01's examples ("On both sides"): those marked P as one table, and what each says by the definitions that the promises are made of. Beside
 -- them the runs that show 02's W-214.
-use Rattle.std.specs.Prelude.{ℕ, ◌≤◌, ◌≡◌, length, drop, replicate}
+use Rattle.std.specs.Prelude.{Result, ℕ, ◌≤◌, ◌≡◌, length, drop, replicate}
+use Rattle.answer.specs.declared.RunCounts.{RunCounts}
+use Rattle.refusal.specs.declared.Refusal.{Refusal}
 use mathlib.Core.List.{List, [], ◌∷◌, ◌++◌, flatten}
 use Rattle.cell.specs.Cell.{name_cell, number_cell, variable_cell}
 use Rattle.term.specs.Unify.{Matches}
@@ -14,7 +16,6 @@ use Rattle.plan.specs.Plans.{Plan, write, branches, plain}
 use Rattle.plan.specs.Check.{plan_of}
 use Rattle.least.specs.Least.{Built}
 use Rattle.answer.specs.Skeleton.{hole}
-use Rattle.answer.specs.declared.RunAnswer.{RunAnswer}
 use Rattle.answer.specs.Run.{Picks, Counts, skeletons, Tried, run_told, Ran}
 
 -- an example: a table that is turned away; every plan that starts so is; a table with the builder's plan and its cost; a run of that plan on
@@ -45,7 +46,7 @@ pub record RanSays (cells plan : List ℕ) (cost : ℕ) (goal hits : List ℕ) (
   pub reads : goal_of plans.table.width goal ≡ read vars
   pub found : Picks (λ (row : List ℕ). Matches row goal) plans.table.rows 0 hits
   pub tries : Counts (Tried goal) (skeletons plans.tree (replicate plans.table.width hole)) tried
-  pub answers : (room after : List ℕ) (r : RunAnswer) → length plans.table.rows ≤ length room → Ran cells plan goal room after r
+  pub answers : (room after : List ℕ) (r : Result RunCounts Refusal) → length plans.table.rows ≤ length room → Ran cells plan goal room after r
       → (run_told r ≡ answered (length hits) tried) × (after ≡ hits ++ drop (length hits) room)
 
 abbrev pub Says : Example → Type 0

@@ -1,4 +1,6 @@
 -- What a run has found, for a table as the code holds it.
+use Rattle.std.specs.Prelude.{Err, Result, Ok}
+use Rattle.answer.specs.declared.RunCounts.{RunCounts}
 use Prim.Native.Nat.{ℕ, ◌≤◌, ◌<◌}
 use mathlib.Core.Path.{◌≡◌, sym, ◌∙◌, ap, subst}
 use mathlib.Core.List.{List}
@@ -8,10 +10,7 @@ use Rattle.table.specs.All.{All}
 use Rattle.table.specs.Table.{Table}
 use Rattle.table.proofs.ReadLaws.{read_one}
 use Rattle.answer.specs.Run.{Ran}
-use Rattle.answer.specs.declared.RunAnswer.{RunAnswer}
-use Rattle.answer.specs.declared.RunAnswer.TheVariants as run-answer
 use Rattle.instance.specs.Replied.{Replied}
-use Rattle.instance.specs.declared.RepliesAnswer.TheVariants as replies-answer
 use Rattle.instance.specs.code.Passes.{Held, Found}
 use Rattle.instance.proofs.PassLaws.{found-table, found-given, found-hits, run-refused, run-found}
 use Rattle.replies.specs.code.Sums.{Passing}
@@ -24,10 +23,10 @@ passing {hits = hits} h f =
     record { held = h; below = subst (λ (n : ℕ). All (λ (r : ℕ). r < n) hits) e g.below; few = (found-hits f).few; at = g.at }
 
 -- the answer of a run, by its case
-pub refused-by : {t p g bytes bytes' room : List ℕ} {f : Refusal} {r : RunAnswer} → r ≡ run-answer.Refused f → Ran t p g bytes bytes' r
-    → 64 ≤ length bytes → Replied t p g room room (replies-answer.Refused f)
-refused-by {t} {p} {g} {bytes} {bytes'} e x l = run-refused (subst (λ (a : RunAnswer). Ran t p g bytes bytes' a) e x) l
+pub refused-by : {t p g bytes bytes' room : List ℕ} {f : Refusal} {r : Result RunCounts Refusal} → r ≡ Err f → Ran t p g bytes bytes' r
+    → 64 ≤ length bytes → Replied t p g room room (Err f)
+refused-by {t} {p} {g} {bytes} {bytes'} e x l = run-refused (subst (λ (a : Result RunCounts Refusal). Ran t p g bytes bytes' a) e x) l
 
-pub found-by : {t p g bytes bytes' : List ℕ} {h n : ℕ} {r : RunAnswer} → r ≡ run-answer.Ran h n → Ran t p g bytes bytes' r → 64 ≤ length bytes
+pub found-by : {t p g bytes bytes' : List ℕ} {h n : ℕ} {r : Result RunCounts Refusal} → r ≡ Ok (record { hits = h; tried = n }) → Ran t p g bytes bytes' r → 64 ≤ length bytes
     → Found t p g (take h bytes') × (h ≤ length bytes')
-found-by {t} {p} {g} {bytes} {bytes'} e x l = run-found (subst (λ (a : RunAnswer). Ran t p g bytes bytes' a) e x) l
+found-by {t} {p} {g} {bytes} {bytes'} e x l = run-found (subst (λ (a : Result RunCounts Refusal). Ran t p g bytes bytes' a) e x) l

@@ -9,18 +9,17 @@ ghost use Rattle.instance.specs.code.Passes.{Held, Found};
 
 mod pass;
 
-use answer::RunAnswer;
-use instance::RepliesAnswer;
+use instance::ReplyCounts;
 use limits::{MEETING_CELLS, ROWS};
 use octets::cells::put_cells;
 use pass::{Sum, pass};
 use refusal::{Input, Reason, Refusal};
 use table::TableAnswer;
 
-fn turned_away(reason: Reason, input: Input, place: usize) -> RepliesAnswer
+fn turned_away(reason: Reason, input: Input, place: usize) -> Result<ReplyCounts, Refusal>
     ensures { replies_told result ≡ turned (refused reason input place) }
 {
-    RepliesAnswer::Refused(Refusal {
+    Err(Refusal {
         reason,
         input,
         place,
@@ -37,7 +36,7 @@ fn put_by(
     hits: &[u8],
     list: &mut [u32],
     room: &mut [u32],
-) -> RepliesAnswer
+) -> Result<ReplyCounts, Refusal>
     ensures { (plan : List ℕ) → Held table.now starts.now rows
         → Found table.now plan goal.now hits.now → Replied
         table.now plan goal.now room.old room.new result }
@@ -50,10 +49,16 @@ fn put_by(
             }
             if needed <= list.len() {
                 put_cells(room, 0, &list[..needed]);
-                return RepliesAnswer::Replied(hits.len(), needed);
+                return Ok(ReplyCounts {
+                    replies: hits.len(),
+                    cells: needed,
+                });
             }
             pass(table, starts, rows, goal, hits, room);
-            RepliesAnswer::Replied(hits.len(), needed)
+            Ok(ReplyCounts {
+                replies: hits.len(),
+                cells: needed,
+            })
         }
     }
 }
@@ -67,7 +72,7 @@ pub fn put_replies(
     goal: &[u32],
     hits: &[u8],
     room: &mut [u32],
-) -> RepliesAnswer
+) -> Result<ReplyCounts, Refusal>
     ensures { (plan : List ℕ) → Held table.now starts.now rows
         → Found table.now plan goal.now hits.now → Replied
         table.now plan goal.now room.old room.new result }
@@ -81,7 +86,12 @@ pub fn put_replies(
 }
 
 // The replies of what a run has found.
-fn reply_all(table: &[u32], goal: &[u32], hits: &[u8], room: &mut [u32]) -> RepliesAnswer
+fn reply_all(
+    table: &[u32],
+    goal: &[u32],
+    hits: &[u8],
+    room: &mut [u32],
+) -> Result<ReplyCounts, Refusal>
     ensures { (plan : List ℕ) → Found table.now plan goal.now hits.now → Replied
         table.now plan goal.now room.old room.new result }
 {
@@ -90,18 +100,21 @@ fn reply_all(table: &[u32], goal: &[u32], hits: &[u8], room: &mut [u32]) -> Repl
     let starts = read.starts;
     match answer {
         TableAnswer::Accepted(_, rows) => put_replies(table, &starts, rows, goal, hits, room),
-        TableAnswer::Refused(f) => RepliesAnswer::Refused(f),
+        TableAnswer::Refused(f) => Err(f),
     }
 }
 
 // Runs a plan on a goal and writes the reply of each hit, one after another, from the room's first cell on. What is turned away, in this
 // order: the table, the plan, the goal; a reply of over 1,024 cells; the room.
-pub fn replies(table: &[u32], plan: &[u32], goal: &[u32], room: &mut [u32]) -> RepliesAnswer
+pub fn replies(
+    table: &[u32],
+    plan: &[u32],
+    goal: &[u32],
+    room: &mut [u32],
+) -> Result<ReplyCounts, Refusal>
     ensures { Replied table.now plan.now goal.now room.old room.new result }
 {
     let mut hits = [0u8; ROWS];
-    match run::run_plan(table, plan, goal, &mut hits) {
-        RunAnswer::Refused(f) => RepliesAnswer::Refused(f),
-        RunAnswer::Ran(n, _) => reply_all(table, goal, &hits[..n], room),
-    }
+    let ran = run::run_plan(table, plan, goal, &mut hits)?;
+    reply_all(table, goal, &hits[..ran.hits], room)
 }

@@ -1,4 +1,7 @@
 -- The loop over a list of records, turn by turn: after as many turns as there are records, each is made anew.
+use Rattle.std.specs.Prelude.{Result}
+use Rattle.instance.specs.declared.ReplyCounts.{ReplyCounts}
+use Rattle.refusal.specs.declared.Refusal.{Refusal}
 use mathlib.Core.Path.{◌≡◌, ap}
 use Prim.Native.Nat.{ℕ, suc, ◌+◌, ◌≤◌, ◌<◌}
 use native.Mathlib.Omega.{arith}
@@ -8,12 +11,11 @@ use Rattle.refusal.specs.Refusal.{answered}
 use Rattle.instance.specs.Replied.{Replied, replies_told, refusal, big, no_room, replied}
 use Rattle.instance.specs.ReplyJobs.{ReplyAsked, RepliesEach, nil, cons}
 use Rattle.instance.specs.ReplyJobs as asks
-use Rattle.instance.specs.declared.RepliesAnswer.{RepliesAnswer}
 use Rattle.instance.specs.declared.ReplyJob.{ReplyJob}
 use Rattle.replyjobs.specs.code.Upto.{RepliedUpto, rest, made}
 
 -- what is answered has room
-size_fits : {t p g room after : List ℕ} {r : RepliesAnswer} {many size : ℕ} → Replied t p g room after r → replies_told r ≡ answered many size
+size_fits : {t p g room after : List ℕ} {r : Result ReplyCounts Refusal} {many size : ℕ} → Replied t p g room after r → replies_told r ≡ answered many size
     → size ≤ length room
 size_fits (refusal f a b c) e = absurd (let z : ◌≡◌ {A = ℕ} 0 1 = cc in let y : ⊥ = omega arith in y)
 size_fits (big T all a w l b c) e = absurd (let z : ◌≡◌ {A = ℕ} 0 1 = cc in let y : ⊥ = omega arith in y)

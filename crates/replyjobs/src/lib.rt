@@ -11,8 +11,8 @@ ghost use Rattle.instance.specs.ReplyJobs.{declined, reply_filled, ReplyAsked, R
 ghost use Rattle.instance.specs.code.Passes.{Held, Found};
 ghost use Rattle.replyjobs.specs.code.Shift.{Ready, Placed};
 
-use answer::RunAnswer;
-use instance::{RepliesAnswer, ReplyJob};
+use answer::RunCounts;
+use instance::{ReplyCounts, ReplyJob};
 use limits::{BRANCHES, ROWS};
 use plannotes::Noted;
 use refusal::{Reason, Refusal};
@@ -77,18 +77,18 @@ fn put_one(
 {
     let on = within(one.at, room.len());
     match replies::put_replies(table, starts, rows, goal, hits, &mut room[on..]) {
-        RepliesAnswer::Refused(f) => {
+        Err(f) => {
             let reason = f.reason;
             refused(one, reason, f.place)
         }
-        RepliesAnswer::Replied(many, size) => ReplyJob {
+        Ok(ReplyCounts { replies, cells }) => ReplyJob {
             start: one.start,
             count: one.count,
             number: 0,
             place: 0,
             at: one.at,
-            replies: many,
-            cells: size,
+            replies,
+            cells,
             hits: one.hits,
             tried: one.tried,
         },
@@ -123,16 +123,16 @@ pub fn reply_one(
     let goal = &cells[start..end];
     let mut bytes = [0u8; ROWS];
     match run::run_noted(numbers, noted, goal, &mut bytes) {
-        RunAnswer::Refused(f) => {
+        Err(f) => {
             let reason = f.reason;
             refused(j, reason, f.place)
         }
-        RunAnswer::Ran(n, tried) => {
-            if ROWS < n {
+        Ok(RunCounts { hits, tried }) => {
+            if ROWS < hits {
                 return j;
             }
-            let one = found(j, on, shift::bits(&bytes, n), tried);
-            put_one(table, starts, noted.rows, goal, &bytes[..n], one, room)
+            let one = found(j, on, shift::bits(&bytes, hits), tried);
+            put_one(table, starts, noted.rows, goal, &bytes[..hits], one, room)
         }
     }
 }

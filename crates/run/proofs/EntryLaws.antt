@@ -1,6 +1,6 @@
 -- A run of an accepted plan: what the walk takes for granted, and what it gives, for each way the entry returns.
 use Prim.Native.Nat.{ℕ, ◌+◌, ◌≤◌, ◌<◌}
-use Rattle.std.proofs.Common.{Err}
+use Rattle.std.proofs.Common.{Ok, Err}
 use mathlib.Core.Path.{◌≡◌, refl, sym, ◌∙◌, ap, ap₂, subst}
 use mathlib.Core.List.{List, ◌++◌}
 use native.Mathlib.Omega.{arith}
@@ -26,7 +26,6 @@ use Rattle.plannotes.specs.declared.Noted.{Noted}
 use Rattle.answer.specs.Skeleton.{hole}
 use Rattle.answer.specs.Run.{Picks, Counts, skeletons, Tried, run_of, Ran, refusal, ran}
 use Rattle.answer.specs.code.Tree.{hits, tried}
-use Rattle.answer.specs.declared.RunAnswer.TheVariants as run-answer
 use Rattle.answer.proofs.FewLaws.{hits_few}
 use Rattle.answer.proofs.AcceptedLaws.{hits-right, tried-right}
 use Rattle.answer.proofs.OpenGoalLaws.{distinct, every-hit}
@@ -63,11 +62,11 @@ module _ {t p ns : List ℕ} {b w n : ℕ} (A : ForRun t p ns b w n) where
     at_width e = rw A.same_width at e
 
     -- the goal is turned away, or the room
-    pub no-goal : (room : List ℕ) {f : Refusal} → goal_of w g ≡ refuse (told f) → Ran t p g room room (run-answer.Refused f)
+    pub no-goal : (room : List ℕ) {f : Refusal} → goal_of w g ≡ refuse (told f) → Ran t p g room room (Err f)
     no-goal room {f} e = refusal (told f) (run-goal t p g room A.reads plan-reads (at_width e)) refl refl
 
     pub no_room : (room : List ℕ) {v : ℕ} → goal_of w g ≡ read v → length room < n
-        → Ran t p g room room (run-answer.Refused (record { reason = reason.Room; input = input.Lent; place = n }))
+        → Ran t p g room room (Err (record { reason = reason.Room; input = input.Lent; place = n }))
     no_room room e l =
         refusal (refused reason.Room input.Lent n)
         (run_room t p g room A.reads plan-reads (at_width e) (rw A.same_rows at l)
@@ -82,7 +81,7 @@ module _ {t p ns : List ℕ} {b w n : ℕ} (A : ForRun t p ns b w n) where
       -- what a run reports is told by the hits and the number tried
       reports : (found : List ℕ) (k : ℕ) → Picks (λ (row : List ℕ). Matches row g) A.table.rows 0 found
           → Counts (Tried g) (skeletons A.tree (replicate A.table.width hole)) k → length found ≤ n → (room' : List ℕ) (h m : ℕ)
-          → room' ≡ sets room 0 found → h ≡ length found → m ≡ k → Ran t p g room room' (run-answer.Ran h m)
+          → room' ≡ sets room 0 found → h ≡ length found → m ≡ k → Ran t p g room room' (Ok (record { hits = h; tried = m }))
       reports found k picks counts few room' h m x y z =
           let b : 0 + length found ≤ length room = omega arith in
           let q : 0 + length found ≡ length found = omega arith in
@@ -99,7 +98,7 @@ module _ {t p ns : List ℕ} {b w n : ℕ} (A : ForRun t p ns b w n) where
           A.writes picks counts (ap₂ answered y z) (x ∙ sets-eq found room 0 b ∙ ap (λ (i : ℕ). found ++ drop i room) q)
 
       -- the goal of distinct variables
-      pub opened : v ≡ length g → (room' : List ℕ) → room' ≡ sets room 0 (up_from 0 n) → Ran t p g room room' (run-answer.Ran n b)
+      pub opened : v ≡ length g → (room' : List ℕ) → room' ≡ sets room 0 (up_from 0 n) → Ran t p g room room' (Ok (record { hits = n; tried = b }))
       opened d room' x =
           let i = is-goal A.table.width g (at_width e) in
           let o : up_from 0 A.table.width ≡ g = sym (distinct i.0 (sym i.1 ∙ d)) in
@@ -114,7 +113,7 @@ module _ {t p ns : List ℕ} {b w n : ℕ} (A : ForRun t p ns b w n) where
           (omega (arith, z, A.same_rows)) room' n b (x ∙ ap (sets room 0) q) (A.same_rows ∙ sym z) A.number
 
       -- the walk
-      pub walked : (room' : List ℕ) (h k : ℕ) → ((x : Begun ns b g room w) → Walked x room' h k) → Ran t p g room room' (run-answer.Ran h k)
+      pub walked : (room' : List ℕ) (h k : ℕ) → ((x : Begun ns b g room w) → Walked x room' h k) → Ran t p g room room' (Ok (record { hits = h; tried = k }))
       walked room' h k u =
           let u' : (x : Begun ns b g room A.table.width) → Walked x room' h k = rw A.same_width at u in
           let x = u' (record {
@@ -144,5 +143,5 @@ run-refused t p g room {f} e = go (table_of t) refl
         run-table t p g room d ∙ ap refuse k
 
 pub handed-refused : {t p ns ns' : List ℕ} {m : Noted} {f : Refusal} (g room : List ℕ) → NotedInto t p ns ns' m → m.answer ≡ Err f
-    → Ran t p g room room (run-answer.Refused f)
+    → Ran t p g room room (Err f)
 handed-refused {t} {p} {f = f} g room h d = refusal (told f) (run-refused t p g room (no_run h d).0) refl refl

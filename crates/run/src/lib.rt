@@ -1,4 +1,4 @@
-// A run (01, "A run"): the rows that unify with a goal, from the top, and the number of branches tried.
+// A run: the rows that unify with a goal, from the top, and the number of branches tried.
 // What is noted of a plan may be anything: a number is cut to what an array has places for where it is used, so every access is in bounds, and
 // that it is what the check notes stands as a premise inside the `ensures`, under which nothing is cut.
 #![tactic(auto)]
@@ -12,7 +12,7 @@ mod nodes;
 mod step;
 mod walk;
 
-use answer::RunAnswer;
+use answer::RunCounts;
 use limits::BRANCHES;
 use plannotes::Noted;
 use refusal::{Input, Reason, Refusal};
@@ -27,15 +27,15 @@ fn run_accepted(
     rows: usize,
     goal: &[u32],
     room: &mut [u8],
-) -> RunAnswer
+) -> Result<RunCounts, Refusal>
     ensures { (table plan : List ℕ) → ForRun table plan noted.now branches width rows → Ran table plan
         goal.now room.old room.new result }
 {
     match table::goal_for(width, goal) {
-        GoalAnswer::Refused(f) => RunAnswer::Refused(f),
+        GoalAnswer::Refused(f) => Err(f),
         GoalAnswer::Accepted(cells, variables) => {
             if room.len() < rows {
-                return RunAnswer::Refused(Refusal {
+                return Err(Refusal {
                     reason: Reason::Room,
                     input: Input::Lent,
                     place: rows,
@@ -43,10 +43,12 @@ fn run_accepted(
             }
             if variables == cells {
                 walk::put_rows(room, 0, rows, 0);
-                return RunAnswer::Ran(rows, branches);
+                return Ok(RunCounts {
+                    hits: rows,
+                    tried: branches,
+                });
             }
-            let o = walk::walk(noted, branches, goal, width, room);
-            RunAnswer::Ran(o.hits, o.tried)
+            Ok(walk::walk(noted, branches, goal, width, room))
         }
     }
 }
@@ -57,13 +59,13 @@ pub fn run_noted(
     noted: Noted,
     goal: &[u32],
     room: &mut [u8],
-) -> RunAnswer
+) -> Result<RunCounts, Refusal>
     ensures { (table plan before : List ℕ) → NotedInto table plan before numbers.now noted → Ran table plan
         goal.now room.old room.new result }
 {
     let answer = noted.answer;
     match answer {
-        Err(f) => RunAnswer::Refused(f),
+        Err(f) => Err(f),
         Ok(branches) => {
             let width = noted.width;
             let rows = noted.rows;
@@ -73,7 +75,12 @@ pub fn run_noted(
 }
 
 // A run of any plan for any table on any goal. What is turned away, in this order: the table, the plan, the goal, the room.
-pub fn run_plan(table: &[u32], plan: &[u32], goal: &[u32], room: &mut [u8]) -> RunAnswer
+pub fn run_plan(
+    table: &[u32],
+    plan: &[u32],
+    goal: &[u32],
+    room: &mut [u8],
+) -> Result<RunCounts, Refusal>
     ensures { Ran table.now plan.now goal.now room.old room.new result }
 {
     let mut numbers = [0u64; BRANCHES];

@@ -8,17 +8,11 @@ ghost use Rattle.walking.specs.code.Walk.{Begun, Walked};
 
 use super::nodes::{name_cells, siblings};
 use super::step::meets;
+use answer::RunCounts;
 use joins::node;
 use limits::BRANCHES;
 use plannotes::packed::{alone_of, row_of, skip_of, wide};
 use repeats::{end_of, put_terms, rest};
-
-// How many hits there are, and how many branches were tried.
-#[derive(Drop)]
-pub struct Out {
-    pub hits: usize,
-    pub tried: usize,
-}
 
 // The rows from `row` on, `n` of them, as bytes from `at` on, where the room has places for all.
 pub fn put_rows(room: &mut [u8], at: usize, n: usize, row: usize)
@@ -57,7 +51,7 @@ pub fn walk(
     goal: &[u32],
     width: usize,
     room: &mut [u8],
-) -> Out
+) -> RunCounts
     requires { IsGoal width goal.now }
     ensures { (b : Begun notes.now branches goal.now room.old width) → Walked b
         room.new result.hits result.tried }
@@ -100,7 +94,7 @@ pub fn walk(
             }
         }
     }
-    Out {
+    RunCounts {
         hits,
         tried: tried + apart,
     }

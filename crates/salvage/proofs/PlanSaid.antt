@@ -1,6 +1,7 @@
 -- The plan of the rows that were kept, as the code comes to it.
+use Rattle.std.specs.Prelude.{Result, Ok, Err}
+use Rattle.builder.specs.declared.BuiltPlan.{BuiltPlan}
 use Prim.Native.Nat.{ℕ, ◌+◌, ◌-◌, ◌*◌, ◌/◌, ◌%◌, ◌≤◌, ◌<◌, min}
-use Rattle.std.proofs.Common.{Result, Ok, Err}
 use mathlib.Core.Path.{◌≡◌, refl, sym, ◌∙◌, ap, subst}
 use mathlib.Core.Bool.{Bool, true, false}
 use mathlib.Core.List.{List, []}
@@ -24,8 +25,6 @@ use Rattle.least.proofs.Measured.{by-table}
 use Rattle.builder.proofs.AskedLaws.{plain-table}
 use Rattle.builder.proofs.ColumnsLaws.{plain-built}
 use Rattle.builder.specs.Build.{table_for, BuiltInto, table-refused, room-refused, built, build_told}
-use Rattle.builder.specs.declared.BuildAnswer.{BuildAnswer}
-use Rattle.builder.specs.declared.BuildAnswer.TheVariants as build-answer
 use Rattle.octets.specs.Octets.{fitting}
 use Rattle.blocks.specs.Blocks.{good, good_cells, Found}
 use Rattle.filing.specs.Files.{plan_size}
@@ -114,7 +113,7 @@ module _ {file : List ℕ} {top : Top} (t : TopIs file top) where
     reads : table_for (Work 0) [] table ≡ table_of (kept_cells file)
     reads = plain-table (Work 0) table ∙ ap (table_by (Work 0)) is ∙ by-table (Work 0) (kept_cells file) (omega arith)
 
-    pub new-laid : {cells' : List ℕ} {r : BuildAnswer} {n cost : ℕ} → BuiltInto (Work 0) [] table cells cells' r → r ≡ build-answer.Built n cost
+    pub new-laid : {cells' : List ℕ} {r : Result BuiltPlan Refusal} {n cost : ℕ} → BuiltInto (Work 0) [] table cells cells' r → r ≡ Ok (record { cells = n; cost = cost })
         → PlanLaid file cells' (record { keeps = false; start = 0; end = n })
     new-laid (table-refused f x a s) e = let z : ◌≡◌ {A = ℕ} 0 1 = cc in absurd (omega arith)
     new-laid (room-refused T p x y l a s) e = let z : ◌≡◌ {A = ℕ} 0 1 = cc in absurd (omega arith)
@@ -131,7 +130,7 @@ module _ {file : List ℕ} {top : Top} (t : TopIs file top) where
           is = subst (PlanHad file false) (sym w) (new-plan (o.is ∙ no) T (sym reads ∙ x) p (plain-built (work 0) p y));
         }
 
-    pub never-refused : {cells' : List ℕ} {r : BuildAnswer} {f : Refusal} → BuiltInto (Work 0) [] table cells cells' r → r ≡ build-answer.Refused f
+    pub never-refused : {cells' : List ℕ} {r : Result BuiltPlan Refusal} {f : Refusal} → BuiltInto (Work 0) [] table cells cells' r → r ≡ Err f
         → {l : Laid} → PlanLaid file cells' l
     never-refused (table-refused g x a s) e = apart (sym (kept_read file t.head t.some) ∙ sym reads ∙ x)
     never-refused (room-refused T p x y l a s) e =

@@ -6,7 +6,6 @@ ghost use Rattle.salvaging.specs.Salvage.{kept_cells, Salvaged};
 ghost use Rattle.salvaging.specs.Answers.{salvage_told};
 ghost use Rattle.salvage.specs.code.Saving.{Fronted, RowsHad, TopIs, OwnPlan, PlanLaid, Reported, short_of};
 
-use builder::BuildAnswer;
 use least::By;
 use limits::{COLUMNS, ROWS};
 use refusal::{Input, Reason};
@@ -145,12 +144,12 @@ fn plan_of(file: &[u8], top: Top, table: &[u32], cells: &mut [u32]) -> Laid
         };
     }
     match builder::build_plan(By::Work(0), table, cells) {
-        BuildAnswer::Built(size, _) => Laid {
+        Ok(built) => Laid {
             keeps: false,
             start: 0,
-            end: size,
+            end: built.cells,
         },
-        BuildAnswer::Refused(_) => Laid {
+        Err(_) => Laid {
             keeps: false,
             start: 0,
             end: 0,

@@ -1,6 +1,7 @@
 -- A goal of a list: what its record is, for each way the code returns.
+use Rattle.std.specs.Prelude.{Result, Ok, Err}
+use Rattle.answer.specs.declared.RunCounts.{RunCounts}
 use Prim.Native.Nat.{ℕ, ◌+◌, ◌-◌, ◌*◌, ◌^◌, ◌%◌, ◌≤◌, ◌<◌}
-use Rattle.std.proofs.Common.{Result, Ok, Err}
 use mathlib.Core.Path.{◌≡◌, refl, sym, ◌∙◌, ap, ap₂, subst}
 use mathlib.Core.Bool.{true, false}
 use mathlib.Core.List.{List, []}
@@ -24,8 +25,6 @@ use Rattle.answer.specs.Run.{run_told, Ran, refusal, ran}
 use Rattle.answer.specs.Jobs.{bits_of, filled, entered, outside, alone, Each, JobsRun}
 use Rattle.answer.specs.Jobs as job
 use Rattle.answer.specs.declared.Job.{Job}
-use Rattle.answer.specs.declared.RunAnswer.{RunAnswer}
-use Rattle.answer.specs.declared.RunAnswer.TheVariants as run-answer
 use Rattle.answer.proofs.BitsLaws.{bits-next}
 use Rattle.answer.proofs.JobsLaws.{each_map}
 use Rattle.answer.proofs.TakesLaws.{run-takes}
@@ -54,7 +53,7 @@ module _ (room : List ℕ) (n : ℕ) (hits : Hits room n) (i : ℕ) (h : i < n) 
       ap₂ bit_or e (s ∙ ap (λ (z : ℕ). 1 * 2 ^ z) d) ∙ bits-next room n i h (omega (arith, hits.size, hits.few)) hits.ascends
 
 -- The hits of a run are rows of a table, from the top down.
-pub hits-rise : {t p g room room' : List ℕ} {r : RunAnswer} {h n : ℕ} → length room' ≡ 64 → Ran t p g room room' r → r ≡ run-answer.Ran h n → Hits room' h
+pub hits-rise : {t p g room room' : List ℕ} {r : Result RunCounts Refusal} {h n : ℕ} → length room' ≡ 64 → Ran t p g room room' r → r ≡ Ok (record { hits = h; tried = n }) → Hits room' h
 hits-rise {r = r} {h} {n} z (refusal f a b c) d =
     let q : run_told r ≡ answered h n = ap run_told d in
     absurd (let z : ◌≡◌ {A = ℕ} 0 1 = cc in let y : ⊥ = omega arith in y)
@@ -76,7 +75,7 @@ module _ {numbers : List ℕ} {noted : Noted} (cells : List ℕ) (j : Job) where
   past l e t p ns h = outside l e
 
   -- the part of the cells from the start to the sum is the goal
-  module _ {room : List ℕ} {r : RunAnswer} (l : j.start + j.count ≤ length cells)
+  module _ {room : List ℕ} {r : Result RunCounts Refusal} (l : j.start + j.count ≤ length cells)
       (x : (t p ns : List ℕ) → NotedInto t p ns numbers noted
       → Ran t p (take (j.start + j.count - j.start) (drop j.start cells)) (replicate 64 0) room r) where
     ran-alone : (t p ns : List ℕ) → NotedInto t p ns numbers noted → Ran t p (take j.count (drop j.start cells)) (replicate 64 0) room r
@@ -84,15 +83,15 @@ module _ {numbers : List ℕ} {noted : Noted} (cells : List ℕ) (j : Job) where
         let e : j.start + j.count - j.start ≡ j.count = omega arith in
         subst (λ (n : ℕ). Ran t p (take n (drop j.start cells)) (replicate 64 0) room r) e (x t p ns h)
 
-    pub refused-alone : {f : Refusal} {k : Job} → r ≡ run-answer.Refused f → k ≡ filled j (reason_number f.reason) f.place 0 0
+    pub refused-alone : {f : Refusal} {k : Job} → r ≡ Err f → k ≡ filled j (reason_number f.reason) f.place 0 0
         → AskedBy numbers noted cells j k
-    refused-alone d e t p ns h = alone room r l (ran-alone t p ns h) (e ∙ ap (λ (s : RunAnswer). entered j s room) (sym d))
+    refused-alone d e t p ns h = alone room r l (ran-alone t p ns h) (e ∙ ap (λ (s : Result RunCounts Refusal). entered j s room) (sym d))
 
-    pub found-alone : {h n b : ℕ} → r ≡ run-answer.Ran h n → length room ≡ 64 → (Hits room h → b ≡ bits_of (take h room))
+    pub found-alone : {h n b : ℕ} → r ≡ Ok (record { hits = h; tried = n }) → length room ≡ 64 → (Hits room h → b ≡ bits_of (take h room))
         → AskedBy numbers noted cells j (filled j 0 0 b n)
     found-alone {n = n} d z e t p ns a =
         let x = ran-alone t p ns a in
-        alone room r l x (ap (λ (z : ℕ). filled j 0 0 z n) (e (hits-rise z x d)) ∙ ap (λ (s : RunAnswer). entered j s room) (sym d))
+        alone room r l x (ap (λ (z : ℕ). filled j 0 0 z n) (e (hits-rise z x d)) ∙ ap (λ (s : Result RunCounts Refusal). entered j s room) (sym d))
 
 -- The list, by the check's answer.
 module _ {t p before numbers : List ℕ} {m : Noted} (cells : List ℕ) (h : NotedInto t p before numbers m) {jobs : List Job} where

@@ -7,7 +7,7 @@ ghost use Rattle.shift.specs.Totals.{TriesInAll};
 ghost use Rattle.shift.specs.code.Asked.{is_accepted, AskedBy, Hits};
 ghost use Rattle.limits.specs.Limits.{most_rows};
 
-use answer::{Job, RunAnswer};
+use answer::{Job, RunCounts};
 use joins::node;
 use limits::{BRANCHES, ROWS};
 use plannotes::Noted;
@@ -82,11 +82,11 @@ fn ask_one(numbers: &[u64; BRANCHES], noted: Noted, cells: &[u32], j: Job) -> Jo
     let end = start + count;
     let mut room = [0u8; ROWS];
     match run::run_noted(numbers, noted, &cells[start..end], &mut room) {
-        RunAnswer::Refused(f) => {
+        Err(f) => {
             let reason = f.reason;
             refused(j, reason, f.place)
         }
-        RunAnswer::Ran(hits, tried) => Job {
+        Ok(RunCounts { hits, tried }) => Job {
             start,
             count,
             number: 0,

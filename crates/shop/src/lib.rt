@@ -1,7 +1,6 @@
 // A file of facts, read once: what is kept of it for every goal.
 #![tactic(auto)]
 
-use builder::BuildAnswer;
 use least::By;
 use limits::{PLAN_CELLS, ROWS};
 use octets::cells::put_cells;
@@ -54,14 +53,14 @@ pub fn measure() -> By {
 fn keep(text: &[u8], columns: &[u32], names: &[u32], table: &[u32], kept: &mut [u32]) -> Loaded {
     let mut plan = [0u32; PLAN_CELLS];
     match builder::build_for(measure(), columns, table, &mut plan) {
-        BuildAnswer::Built(n, _) => Loaded::Kept(put_lists(
+        Ok(built) => Loaded::Kept(put_lists(
             text,
             names,
             table,
-            part(&plan, 0, n),
+            part(&plan, 0, built.cells),
             kept,
         )),
-        BuildAnswer::Refused(f) => Loaded::Refused(f),
+        Err(f) => Loaded::Refused(f),
     }
 }
 

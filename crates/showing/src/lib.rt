@@ -1,8 +1,6 @@
 // What the programs of examples print: a table read, a plan built or checked, a run, what plans cost. Cells are printed as numbers.
 #![tactic(auto)]
 
-use answer::RunAnswer;
-use builder::BuildAnswer;
 use least::By;
 use refusal::Refusal;
 use table::TableAnswer;
@@ -86,13 +84,13 @@ pub fn build_work(rt: HostRuntime, figure: u32, table: &[u32]) {
 
 fn build_into(rt: HostRuntime, by: By, table: &[u32], room: &mut [u32]) {
     match builder::build_plan(by, table, room) {
-        BuildAnswer::Built(n, cost) => {
+        Ok(built) => {
             say(rt, b"cost ");
-            number(rt, cost);
+            number(rt, built.cost);
             say(rt, b", plan");
-            cells(rt, &room[..n]);
+            cells(rt, &room[..built.cells]);
         }
-        BuildAnswer::Refused(f) => refused(rt, f),
+        Err(f) => refused(rt, f),
     }
 }
 
@@ -117,20 +115,20 @@ pub fn ask(rt: HostRuntime, table: &[u32], goal: &[u32]) {
 
 fn ask_with(rt: HostRuntime, table: &[u32], goal: &[u32], room: &mut [u32], hits: &mut [u8]) {
     match builder::build_plan(By::Branches, table, room) {
-        BuildAnswer::Built(n, _) => ask_plan(rt, table, &room[..n], goal, hits),
-        BuildAnswer::Refused(f) => refused(rt, f),
+        Ok(built) => ask_plan(rt, table, &room[..built.cells], goal, hits),
+        Err(f) => refused(rt, f),
     }
 }
 
 fn ask_plan(rt: HostRuntime, table: &[u32], plan: &[u32], goal: &[u32], hits: &mut [u8]) {
     match run::run_plan(table, plan, goal, hits) {
-        RunAnswer::Ran(n, tried) => {
+        Ok(ran) => {
             say(rt, b"tried ");
-            number(rt, tried);
+            number(rt, ran.tried);
             say(rt, b", rows");
-            bytes(rt, &hits[..n]);
+            bytes(rt, &hits[..ran.hits]);
         }
-        RunAnswer::Refused(f) => refused(rt, f),
+        Err(f) => refused(rt, f),
     }
 }
 
@@ -146,10 +144,10 @@ pub fn costs(rt: HostRuntime, table: &[u32]) {
 fn cost(rt: HostRuntime, by: By, table: &[u32]) {
     let mut room = [0u32; 128];
     match builder::build_plan(by, table, &mut room) {
-        BuildAnswer::Built(_, n) => {
+        Ok(built) => {
             say(rt, b" ");
-            number(rt, n);
+            number(rt, built.cost);
         }
-        BuildAnswer::Refused(f) => refused(rt, f),
+        Err(f) => refused(rt, f),
     }
 }

@@ -1,4 +1,6 @@
 -- Hits added one after another: each row's count is what it was and how often the row stands among the hits.
+use Rattle.std.specs.Prelude.{Result, Ok, Err}
+use Rattle.answer.specs.declared.RunCounts.{RunCounts}
 use mathlib.Core.Path.{◌≡◌, refl, ap, ◌∙◌}
 use mathlib.Core.Bool.{Bool, true, false, cond}
 use mathlib.Core.List.{List, [], ◌∷◌}
@@ -12,8 +14,6 @@ use borrow.Author.Tests.{eqb-true, eqb-false}
 use Rattle.table.specs.Table.{count}
 use Rattle.refusal.specs.declared.Refusal.{Refusal}
 use Rattle.answer.specs.Run.{run_told}
-use Rattle.answer.specs.declared.RunAnswer.{RunAnswer}
-use Rattle.answer.specs.declared.RunAnswer.TheVariants as run-answer
 use Rattle.sums.specs.Sums.{up_by}
 use Rattle.sums.proofs.HeldLaws.{up_up}
 use Rattle.tally.specs.Tally.{Added}
@@ -58,8 +58,8 @@ unfolding added_to
 added-done fits hits i h = rw (drop_of_length-le hits h)
 
 -- what a goal adds, from what the code does for one that is answered and for one that is refused
-module _ (t r : Tally) (a : RunAnswer) (room : List ℕ) where
-  pub answered-adds : (hits : List ℕ) (h n : ℕ) → a ≡ run-answer.Ran h n → hits ≡ take h room → r.fits ≡ added_to t.fits hits
+module _ (t r : Tally) (a : Result RunCounts Refusal) (room : List ℕ) where
+  pub answered-adds : (hits : List ℕ) (h n : ℕ) → a ≡ Ok (record { hits = h; tried = n }) → hits ≡ take h room → r.fits ≡ added_to t.fits hits
       → r.answered ≡ up_by t.answered 1 → r.refused ≡ t.refused → r.tried ≡ up_by t.tried n → Added t (run_told a) room r
   answered-adds hits h n e p f x y z =
       rw e
@@ -72,7 +72,7 @@ module _ (t r : Tally) (a : RunAnswer) (room : List ℕ) where
         tries = z;
       })
 
-  pub refused-adds : (f : Refusal) → a ≡ run-answer.Refused f → r.fits ≡ t.fits → r.answered ≡ t.answered
+  pub refused-adds : (f : Refusal) → a ≡ Err f → r.fits ≡ t.fits → r.answered ≡ t.answered
       → r.refused ≡ up_by t.refused 1 → r.tried ≡ t.tried → Added t (run_told a) room r
   unfolding count
   refused-adds f e p x y z =

@@ -7,8 +7,9 @@ ghost use Rattle.answer.specs.Run.{run_told};
 ghost use Rattle.tally.specs.Tally.{Nothing, Added};
 ghost use Rattle.tally.specs.code.Hits.{one_more, added_to};
 
-use answer::RunAnswer;
+use answer::RunCounts;
 use limits::ROWS;
+use refusal::Refusal;
 use sums::plus;
 
 // Rule 1 is row 0, as the hits of a run have it.
@@ -52,12 +53,12 @@ fn add_hits(fits: &mut [usize], hits: &[u8])
 }
 
 // The counts with one goal more: what its run answers, and the room in which its hits stand.
-pub fn add(t: Tally, answer: RunAnswer, room: &[u8]) -> Tally
+pub fn add(t: Tally, answer: Result<RunCounts, Refusal>, room: &[u8]) -> Tally
     ensures { Added t (run_told answer) room.now result }
 {
     let mut fits = t.fits;
     match answer {
-        RunAnswer::Ran(hits, tried) => {
+        Ok(RunCounts { hits, tried }) => {
             add_hits(&mut fits, slices::bytes::part(room, 0, hits));
             Tally {
                 fits,
@@ -66,7 +67,7 @@ pub fn add(t: Tally, answer: RunAnswer, room: &[u8]) -> Tally
                 tried: plus(t.tried, tried),
             }
         }
-        RunAnswer::Refused(_) => Tally {
+        Err(_) => Tally {
             fits,
             answered: t.answered,
             refused: plus(t.refused, 1),

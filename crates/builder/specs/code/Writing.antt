@@ -1,6 +1,8 @@
 -- How a plan is written, state by state (01, "As cells, a plan is written state by state, parents first"), from kept places of which
 -- nothing is known: it is the plan that follows them. A state's rows are held as the check holds them: by the masks of their open cells.
-use Rattle.std.specs.Prelude.{ℕ, suc, ◌+◌, ◌-◌, ◌^◌, ◌≤◌, ◌<◌, ◌≡◌, Bool, List, [], ◌∷◌, ◌++◌, length, take, drop}
+use Rattle.std.specs.Prelude.{Result, Ok, Err, ℕ, suc, ◌+◌, ◌-◌, ◌^◌, ◌≤◌, ◌<◌, ◌≡◌, Bool, List, [], ◌∷◌, ◌++◌, length, take, drop}
+use Rattle.builder.specs.declared.BuiltPlan.{BuiltPlan}
+use Rattle.refusal.specs.declared.Refusal.{Refusal}
 use Rattle.std.proofs.lemmas.List.Edits.{sets}
 use Rattle.cell.specs.Cell.{arity}
 use Rattle.refusal.specs.declared.Reason.TheVariants as reason
@@ -23,8 +25,6 @@ use Rattle.least.specs.Entries.{Entry, whole_in, cost_in, place_in}
 use Rattle.least.specs.Measures.{measure_of, table_by}
 use Rattle.least.specs.declared.By.{By}
 use Rattle.least.specs.code.Follow.{Follows, FollowsIn}
-use Rattle.builder.specs.declared.BuildAnswer.{BuildAnswer}
-use Rattle.builder.specs.declared.BuildAnswer.TheVariants as build-answer
 use Rattle.limits.specs.Limits.{kept_cells, most_plan_cells, most_row_cells, most_rows}
 
 -- the open cells of the row that begins at `start`, by its mask
@@ -105,7 +105,7 @@ pub record Right (by : By) (columns cells : List ℕ) (answer : TableRead) (name
 
 -- what is answered for a plan of so many cells and such a cost: its cells are put at the front of the room where they fit, and otherwise
 -- nothing is written
-pub data Put (cells : List ℕ) (size cost : ℕ) (room room' : List ℕ) : BuildAnswer → Type 0 where
-  fitted : size ≤ length room → room' ≡ take size cells ++ drop size room → Put cells size cost room room' (build-answer.Built size cost)
+pub data Put (cells : List ℕ) (size cost : ℕ) (room room' : List ℕ) : Result BuiltPlan Refusal → Type 0 where
+  fitted : size ≤ length room → room' ≡ take size cells ++ drop size room → Put cells size cost room room' (Ok (record { cells = size; cost = cost }))
   short : length room < size → room' ≡ room
-      → Put cells size cost room room' (build-answer.Refused (record { reason = reason.Room; input = input.Lent; place = size }))
+      → Put cells size cost room room' (Err (record { reason = reason.Room; input = input.Lent; place = size }))

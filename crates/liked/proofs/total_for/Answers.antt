@@ -1,4 +1,5 @@
 use Rattle.std.proofs.Common.{ap, arith}
+use Rattle.std.proofs.lemmas.Result.{err_from_is_err_and}
 use Rattle.builder.specs.Build.{build_told}
 use Rattle.liked.proofs.SearchLaws.{written, total-tried, total-refused}
 use Rattle.liked.proofs.total_for.Goals as goal
@@ -7,14 +8,15 @@ use Rattle.liked.proofs.total_for.Goals as goal
 pub slice_bounds-plan-end : goal.slice_bounds-plan-end
 slice_bounds-plan-end c =
     let b = rw c.columns_of-named.ensures.are at c.build_for.ensures in
-    (written b (ap build_told c.in-Built.is)).there
+    (written b (ap build_told c.in_ok-built.was)).there
 
-pub returns-in-Built : goal.returns-in-Built
-returns-in-Built c =
+pub returns-in_err-built : goal.returns-in_err-built
+returns-in_err-built c =
     let b = rw c.columns_of-named.ensures.are at c.build_for.ensures in
-    total-tried b c.in-Built.is c.total_tried.ensures
+    let p = err_from_is_err_and c.from_residual.result c.from_residual.ensures.1 in
+    rw (p.1, p.2) (total-refused b c.in_err-built.was (omega arith))
 
-pub returns-in-Refused : goal.returns-in-Refused
-returns-in-Refused c =
+pub returns : goal.returns
+returns c =
     let b = rw c.columns_of-named.ensures.are at c.build_for.ensures in
-    total-refused b c.in-Refused.is (omega arith)
+    total-tried b c.in_ok-built.was c.total_tried.ensures

@@ -1,5 +1,5 @@
 -- What the search through the sets of columns has seen.
-use Rattle.std.specs.Prelude.{ℕ, ◌^◌, ◌≤◌, ◌<◌, ◌≡◌, List}
+use Rattle.std.specs.Prelude.{ℕ, ◌^◌, ◌≤◌, ◌<◌, ◌≡◌, List, Result, Ok, Err}
 use Rattle.refusal.specs.Refusal.{told}
 use Rattle.refusal.specs.Read.{read, refuse}
 use Rattle.refusal.specs.declared.Refusal.{Refusal}
@@ -8,14 +8,12 @@ use Rattle.least.specs.Measures.{table_by}
 use Rattle.least.specs.declared.By.{By}
 use Rattle.builder.specs.Build.{table_for}
 use Rattle.liked.specs.Liked.{columns_of, TriesFor}
-use Rattle.liked.specs.declared.Total.{Total}
-use Rattle.liked.specs.declared.Total.TheVariants as total
 use Rattle.limits.specs.Limits.{most_columns}
 
 -- what a set of columns tries, or why no plan is built for it
-pub data Totalled (by : By) (cells goals list : List ℕ) (mask : ℕ) (r : Total) : Type 0 where
-  tried : (n : ℕ) → TriesFor by cells goals list mask n → r ≡ total.Tried n → Totalled by cells goals list mask r
-  turned-away : (f : Refusal) → table_for by (columns_of mask) cells ≡ refuse (told f) → r ≡ total.Refused f → Totalled by cells goals list mask r
+pub data Totalled (by : By) (cells goals list : List ℕ) (mask : ℕ) (r : Result ℕ Refusal) : Type 0 where
+  tried : (n : ℕ) → TriesFor by cells goals list mask n → r ≡ Ok n → Totalled by cells goals list mask r
+  turned-away : (f : Refusal) → table_for by (columns_of mask) cells ≡ refuse (told f) → r ≡ Err f → Totalled by cells goals list mask r
 
 -- an accepted table with so many sets of columns, and what the plain plan tries
 pub record Plainly (by : By) (cells goals list : List ℕ) (sets plain : ℕ) : Type 0 where

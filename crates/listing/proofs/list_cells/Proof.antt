@@ -22,13 +22,13 @@ enum-known-n : tie.Need-enum_known-n
 enum-known-n c = search rules
 
 array-share-prefix-room : tie.Need-slice_bounds-room-end
-array-share-prefix-room c = ((plan-built c.build_plan.ensures (length-replicate {A = ℕ} most_plan_cells 0) _ _ c.in-Built.is)).0
+array-share-prefix-room c = ((plan-built c.build_plan.ensures (length-replicate {A = ℕ} most_plan_cells 0) _ _ c.in-Ok.is)).0
 
 slice-aggregate-list-plan : tie.Need-slice_bounds-list_plan-end
-slice-aggregate-list-plan c = sym (length-take-le _ _ ((plan-built c.build_plan.ensures (length-replicate {A = ℕ} most_plan_cells 0) _ _ c.in-Built.is)).0)
+slice-aggregate-list-plan c = sym (length-take-le _ _ ((plan-built c.build_plan.ensures (length-replicate {A = ℕ} most_plan_cells 0) _ _ c.in-Ok.is)).0)
 
 list-plan-requires : tie.Need-list_plan-requires
-list-plan-requires c κs = ((plan-built c.build_plan.ensures (length-replicate {A = ℕ} most_plan_cells 0) _ _ c.in-Built.is)).1
+list-plan-requires c κs = ((plan-built c.build_plan.ensures (length-replicate {A = ℕ} most_plan_cells 0) _ _ c.in-Ok.is)).1
 
 enum-known-f : tie.Need-enum_known-f
 enum-known-f c = search rules
@@ -36,12 +36,12 @@ enum-known-f c = search rules
 put-refusal-requires : tie.Need-put_refusal-requires
 put-refusal-requires c κs = search rules
 
-same_length : tie.Need-shape_of-out-in-Built
+same_length : tie.Need-shape_of-out-in-Ok
 same_length c = search rules
 
-returns : tie.Need-returns-in-Built
+returns : tie.Need-returns-in-Ok
 returns c =
-    let w = ((plan-built c.build_plan.ensures (length-replicate {A = ℕ} most_plan_cells 0) _ _ c.in-Built.is)).1 in
+    let w = ((plan-built c.build_plan.ensures (length-replicate {A = ℕ} most_plan_cells 0) _ _ c.in-Ok.is)).1 in
     record {
       text = listing_of w.table w.tree;
       right = listed w.table w.tree w.reads w.built;
@@ -49,13 +49,13 @@ returns c =
       puts = c.list_plan.ensures w;
     }
 
-same-length-2 : tie.Need-shape_of-out-in-Refused
+same-length-2 : tie.Need-shape_of-out-in-Err
 same-length-2 c = search rules
 
-returns-2 : tie.Need-returns-in-Refused
+returns-2 : tie.Need-returns-in-Err
 returns-2 c =
-    let f = c.in-Refused.f in
-    let turned = plan-refused c.build_plan.ensures (length-replicate {A = ℕ} most_plan_cells 0) f c.in-Refused.is in
+    let f = c.in-Err.f in
+    let turned = plan-refused c.build_plan.ensures (length-replicate {A = ℕ} most_plan_cells 0) f c.in-Err.is in
     let line = c.put_refusal.ensures in
     listed-text line.0 (omega arith) (refused (told f) turned)
 

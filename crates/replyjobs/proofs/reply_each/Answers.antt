@@ -1,4 +1,4 @@
-use Rattle.std.proofs.Common.{◌≡◌, ◌+◌, ◌≤◌, ◌<◌, ◌^◌, length, add-one, arith}
+use Rattle.std.proofs.Common.{◌≤◌, length, add-one, arith}
 use Rattle.replyjobs.specs.code.Upto.{rest}
 use Rattle.replyjobs.proofs.UptoLaws.{next-within, upto-more, upto_all}
 use Rattle.replyjobs.proofs.reply_each.Goals as goal

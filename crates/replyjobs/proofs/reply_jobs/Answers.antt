@@ -1,4 +1,4 @@
-use Rattle.std.proofs.Common.{◌≡◌, ◌∙◌, sym}
+use Rattle.std.proofs.Common.{◌∙◌, sym}
 use Rattle.replyjobs.proofs.JobsLaws.{jobs-replied, jobs-left}
 use Rattle.replyjobs.proofs.reply_jobs.Goals as goal
 use Rattle.replyjobs.proofs.reply_jobs.Goals.{then-accepted, else-accepted}

@@ -18,28 +18,28 @@ returns-then-cells-start-2 c =
     λ plan before h s l. past a.cells.now a.room.now a.on a.j (omega arith) c.refused-then-cells-start-2.ensures
 
 -- what a run has found is at most 64 rows
-pub returns-then-n-gt-ROWS : goal.returns-then-n-gt-ROWS
-returns-then-n-gt-ROWS c =
+pub returns-then-hits-gt-ROWS : goal.returns-then-hits-gt-ROWS
+returns-then-hits-gt-ROWS c =
     let a = c.args in
     λ plan before h s l.
     let x = c.run_noted.ensures a.table.now plan before h in
-    let e = (hits-rise (omega arith) x c.in-Ran.is).few in
-    absurd (let z : ⊥ = omega (arith, e, c.if-n-gt-ROWS.true) in z)
+    let e = (hits-rise (omega arith) x c.in-Ok.is).few in
+    absurd (let z : ⊥ = omega (arith, e, c.if-hits-gt-ROWS.true) in z)
 
 pub slice_bounds-put_one-end : goal.slice_bounds-put_one-end
 slice_bounds-put_one-end c = sym (length-take-le _ _ (omega arith))
 
-pub returns-in-Refused : goal.returns-in-Refused
-returns-in-Refused c =
+pub returns-in-Err : goal.returns-in-Err
+returns-in-Err c =
     let a = c.args in
     λ plan before h s l.
     refused-alone a.cells.now a.room.now a.on a.j (omega arith) (job-goal a.cells.now a.j)
-    (c.run_noted.ensures a.table.now plan before h) c.in-Refused.is c.refused-in-Refused.ensures
+    (c.run_noted.ensures a.table.now plan before h) c.in-Err.is c.refused-in-Err.ensures
 
-pub returns-else-n-gt-ROWS : goal.returns-else-n-gt-ROWS
-returns-else-n-gt-ROWS c =
+pub returns-else-hits-gt-ROWS : goal.returns-else-hits-gt-ROWS
+returns-else-hits-gt-ROWS c =
     let a = c.args in
-    let d = c.in-Ran.is in
+    let d = c.in-Ok.is in
     λ plan before h s l.
     let x = c.run_noted.ensures a.table.now plan before h in
     let e = ap (λ (i : ReplyJob). i.at) c.found-one.ensures in

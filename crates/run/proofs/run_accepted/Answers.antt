@@ -23,9 +23,9 @@ returns-then-variables-cells c =
     λ t p A. opened A c.args.goal.now (told (goal.at.returns-then-variables-cells c).In-Accepted).0 c.args.room.now (omega arith) (omega (arith, (told (goal.at.returns-then-variables-cells c).In-Accepted).1)) _
     (c.put_rows.ensures (omega arith) (omega (arith, few-rows A)))
 
-pub walk-o-requires : goal.walk-o-requires
-walk-o-requires c =
-    (is-goal c.args.width c.args.goal.now (told (goal.at.walk-o-requires c).In-Accepted).0).0
+pub walk-requires : goal.walk-requires
+walk-requires c =
+    (is-goal c.args.width c.args.goal.now (told (goal.at.walk-requires c).In-Accepted).0).0
 
 pub returns-in-Refused : goal.returns-in-Refused
 returns-in-Refused c =
@@ -34,4 +34,4 @@ returns-in-Refused c =
 
 pub returns-else-variables-cells : goal.returns-else-variables-cells
 returns-else-variables-cells c =
-    λ t p A. walked A c.args.goal.now (told (goal.at.returns-else-variables-cells c).In-Accepted).0 c.args.room.now (omega arith) _ _ _ c.walk-o.ensures
+    λ t p A. walked A c.args.goal.now (told (goal.at.returns-else-variables-cells c).In-Accepted).0 c.args.room.now (omega arith) _ _ _ c.walk.ensures

@@ -28,21 +28,21 @@ enum-known-size c = search rules
 enum_told : tie.Need-enum_told-1
 enum_told c = search rules
 
-same-length-2 : tie.Need-shape_of-cells-in-Built
+same-length-2 : tie.Need-shape_of-cells-in-Ok
 same-length-2 c = search rules
 
-returns-2 : tie.Need-returns-in-Built
+returns-2 : tie.Need-returns-in-Ok
 returns-2 c =
     let a = c.requires in
-    new-laid a.0 c.own_plan.ensures c.if-own_plan.false a.1 (search rules) c.build_plan.ensures c.in-Built.is
+    new-laid a.0 c.own_plan.ensures c.if-own_plan.false a.1 (search rules) c.build_plan.ensures c.in-Ok.is
 
-same-length-3 : tie.Need-shape_of-cells-in-Refused
+same-length-3 : tie.Need-shape_of-cells-in-Err
 same-length-3 c = search rules
 
-returns-3 : tie.Need-returns-in-Refused
+returns-3 : tie.Need-returns-in-Err
 returns-3 c =
     let a = c.requires in
-    never-refused a.0 c.own_plan.ensures c.if-own_plan.false a.1 (search rules) c.build_plan.ensures c.in-Refused.is
+    never-refused a.0 c.own_plan.ensures c.if-own_plan.false a.1 (search rules) c.build_plan.ensures c.in-Err.is
 
 pub plan_of_spec : {M : Type 1} → statement M
 plan_of_spec =

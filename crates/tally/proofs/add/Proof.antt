@@ -19,23 +19,23 @@ add-hits-requires c κs = search rules
 plus-requires : tie.Need-plus-requires
 plus-requires c κs = search rules
 
-plus-requires-2 : tie.Need-plus-requires-in-Ran
+plus-requires-2 : tie.Need-plus-requires-in-Ok
 plus-requires-2 c κs = search rules
 
 enum_told : tie.Need-enum_told-1
 enum_told c = search rules
 
-plus-requires-3 : tie.Need-plus-requires-in-Refused
+plus-requires-3 : tie.Need-plus-requires-in-Err
 plus-requires-3 c κs = search rules
 
-returns : tie.Need-returns-in-Ran
+returns : tie.Need-returns-in-Ok
 returns c =
     let p = c.before.before.before.before in
-    answered-adds _ _ _ _ _ _ _ p.in-Ran.is p.part.ensures c.add_hits.ensures
-    c.plus.ensures refl c.plus-in-Ran.ensures
+    answered-adds _ _ _ _ _ _ _ p.in-Ok.is p.part.ensures c.add_hits.ensures
+    c.plus.ensures refl c.plus-in-Ok.ensures
 
-returns-2 : tie.Need-returns-in-Refused
-returns-2 c = refused-adds _ _ _ _ _ c.in-Refused.is refl refl c.plus-in-Refused.ensures refl
+returns-2 : tie.Need-returns-in-Err
+returns-2 c = refused-adds _ _ _ _ _ c.in-Err.is refl refl c.plus-in-Err.ensures refl
 
 pub add_spec : {M : Type 1} → statement M
 add_spec =

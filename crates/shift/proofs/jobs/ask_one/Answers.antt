@@ -12,12 +12,12 @@ returns-then-cells-start-2 c =
     let a = c.args in
     past a.cells.now a.j (omega arith) c.refused-then-cells-start-2.ensures
 
-pub returns-in-Refused : goal.returns-in-Refused
-returns-in-Refused c =
+pub returns-in-Err : goal.returns-in-Err
+returns-in-Err c =
     let a = c.args in
-    refused-alone a.cells.now a.j (omega arith) c.run_noted.ensures c.in-Refused.is c.refused-in-Refused.ensures
+    refused-alone a.cells.now a.j (omega arith) c.run_noted.ensures c.in-Err.is c.refused-in-Err.ensures
 
-pub returns-in-Ran : goal.returns-in-Ran
-returns-in-Ran c =
+pub returns-in-Ok : goal.returns-in-Ok
+returns-in-Ok c =
     let a = c.args in
-    found-alone a.cells.now a.j (omega arith) c.run_noted.ensures c.in-Ran.is (omega arith) c.bits.ensures
+    found-alone a.cells.now a.j (omega arith) c.run_noted.ensures c.in-Ok.is (omega arith) c.bits.ensures
