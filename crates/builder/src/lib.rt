@@ -1,4 +1,4 @@
-// The least plan (01, "The least plan"): the builder.
+// The least plan: the builder.
 #![tactic(auto)]
 
 mod writer;
@@ -23,18 +23,6 @@ pub struct BuiltPlan {
     pub cost: usize,
 }
 
-// The first cells of a plan, to the front of the room.
-fn copy(from: &[u32; PLAN_CELLS], size: usize, room: &mut [u32])
-    requires { (size ≤ most_plan_cells) × (size ≤ length from.now) × (size ≤ length room.old) }
-    ensures { room.new ≡ take size from.now ++ drop size room.old }
-{
-    let mut i = 0;
-    while i < size {
-        room[i] = from[i];
-        i += 1;
-    }
-}
-
 // The answer for a plan that was written: its cells go to the front of the room where they fit; where they do not it is ROOM,
 // and nothing is written.
 #[tactic(auto, using(crate::specs::code::Writing::fitted, crate::specs::code::Writing::short))]
@@ -43,7 +31,6 @@ fn put(from: &[u32; PLAN_CELLS], plan: Extent, room: &mut [u32]) -> Result<Built
     ensures { Put from.now plan.cells plan.cost room.old room.new result }
 {
     let size = plan.cells;
-    let cost = plan.cost as usize;
     if room.len() < size {
         return Err(Refusal {
             reason: Reason::Room,
@@ -51,8 +38,11 @@ fn put(from: &[u32; PLAN_CELLS], plan: Extent, room: &mut [u32]) -> Result<Built
             place: size,
         });
     }
-    copy(from, size, room);
-    Ok(BuiltPlan { cells: size, cost })
+    room[..size].copy_from_slice(&from[..size]);
+    Ok(BuiltPlan {
+        cells: size,
+        cost: plan.cost as usize,
+    })
 }
 
 // The plan of a table that was read, from what is kept for its pairs of rows, into any room. It is written beside the room
@@ -95,7 +85,7 @@ fn build(
     }
 }
 
-// The builder's plan by a measure for any cells, among the plans that look into named columns first (02, W-213), into any
+// The builder's plan by a measure for any cells, among the plans that look into named columns first, into any
 // room. The columns are numbers from 0 in any order, and repeats are allowed; with none every plan is of this kind.
 pub fn build_for(
     by: By,
@@ -119,7 +109,7 @@ pub fn build_plan(by: By, cells: &[u32], room: &mut [u32]) -> Result<BuiltPlan, 
     build_for(by, none, cells, room)
 }
 
-// The same for the table of a record, by its figure (02, W-207). The table is read again, so that its rows are right whatever
+// The same for the table of a record, by its figure. The table is read again, so that its rows are right whatever
 // the rest holds; nothing is worked out, and of any record at all what is written is a plan of its table.
 pub fn build_from(rec: &[u32; RECORD_CELLS], room: &mut [u32]) -> Result<BuiltPlan, Refusal>
     ensures { BuiltFrom rec.now room.old room.new result }

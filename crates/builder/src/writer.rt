@@ -33,18 +33,16 @@ fn agreed_at(
     ensures { result ≡ eqb (run_count (map (root i)
         (rows_in table.now starts.now masks.now first end))) 1 }
 {
-    let mut row = first + 1;
-    if row == end {
+    if first + 1 == end {
         return true;
     }
     let mut cell = close_at(table, starts[first], masks[first], i).cell;
-    while row < end {
+    for row in first + 1..end {
         let next = close_at(table, starts[row], masks[row], i).cell;
         if !same_symbol(cell, next) {
             return false;
         }
         cell = next;
-        row += 1;
     }
     true
 }
@@ -71,14 +69,13 @@ fn leftmost(
         → result ≡ follow.agreed_from (flags_in rows.opens rows.named) (rows.opens - from) from
         (rows_in table.now starts.now ms rows.first rows.end) }
 {
-    let mut i = from;
-    while (i as usize) < rows.opens {
+    let opens = rows.opens as u32;
+    for i in from..opens {
         if may(rows.named, i) && agreed_at(table, starts, ahead, i - from, rows.first, rows.end) {
             return i;
         }
-        i += 1;
     }
-    i
+    from.max(opens)
 }
 
 // A row's mask, and what of it is ahead of the terms that are passed.
@@ -117,12 +114,10 @@ fn close_ahead(
         → ClosedAhead table.now starts.now masks.old masks.new ahead.new
         (q.from + i) first end }
 {
-    let mut row = first;
-    while row < end {
+    for row in first..end {
         let closed = close_row(table, starts[row], masks[row], ahead[row], i);
         masks[row] = closed.mask;
         ahead[row] = closed.ahead;
-        row += 1;
     }
 }
 
