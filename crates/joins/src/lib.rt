@@ -1,6 +1,6 @@
-// Two terms made equal (02, W-209: "a later one unifies the two terms, a term against a term and a list of arguments against a list, with
-// the occurs check"). Terms are nodes by number, and none is written out: `bound` has a node's symbol, 0 where it has none, `args` its first
-// argument, `sib` the next argument, and `rep` what stands for its class.
+// Two terms made equal: a term against a term, a list of arguments against a list, and then the occurs check. Terms are nodes by number,
+// and none is written out: `bound` has a node's symbol, 0 where it has none, `args` its first argument, `sib` the next argument, and `rep`
+// what stands for its class.
 // The arrays may hold anything: a node's number is cut to its low six bits where it is used, so every access is in bounds, and what the arrays
 // have to be stands as a premise inside the `ensures`, under which nothing is cut.
 #![tactic(auto)]
@@ -34,11 +34,8 @@ fn moved(z: u8, x: u8, y: u8) -> u8
 fn join_to(rep: &mut [u8; 64], x: u8, y: u8)
     ensures { length rep.old ≡ 64 → rep.new ≡ join x y rep.old }
 {
-    let mut r = 0;
-    while r < 64 {
-        let z = rep[r];
-        rep[r] = moved(z, x, y);
-        r += 1;
+    for z in rep.iter_mut() {
+        *z = moved(*z, x, y);
     }
 }
 
@@ -109,8 +106,7 @@ fn unify_args(
     let mut n = left;
     let mut i = p;
     let mut j = q;
-    let mut more = k;
-    while 0 < more {
+    for _ in 0..k {
         let a = node(i);
         let b = node(j);
         n = unify_term(bound, args, sib, rep, a, b, n);
@@ -119,7 +115,6 @@ fn unify_args(
         }
         i = wide(sib[a]);
         j = wide(sib[b]);
-        more -= 1;
     }
     n
 }
@@ -176,15 +171,13 @@ fn finite_args(
         → SearchedAll bound.now args.now sib.now rep.now mark.old mark.new
         p k result) }
 {
-    let mut more = k;
     let mut q = p;
-    while 0 < more {
+    for _ in 0..k {
         let r = node(q);
         if !finite(bound, args, sib, rep, mark, r) {
             return false;
         }
         q = wide(sib[r]);
-        more -= 1;
     }
     true
 }

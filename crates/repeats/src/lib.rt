@@ -1,4 +1,4 @@
-// The rest of a row that uses a variable twice (02, W-209), from its first branch for a variable on: one branch after another, up to the first
+// The rest of a row that uses a variable twice from its first branch for a variable on: one branch after another, up to the first
 // whose test fails. It works on copies of the walk's arrays, so that nothing is undone. A node's symbol is 0 where it has none; `cls` has for
 // each node the one that stands for its class, and `keep` for each of the row's variables the node that it met first.
 // The arrays may hold anything: a number is cut to what an array has places for where it is used, so every access is in bounds, and what the
@@ -33,7 +33,7 @@ fn place(c: u32) -> usize
 pub fn end_of(to: usize) -> usize
     ensures { (result ≤ most_branches) × (to ≤ most_branches → result ≡ to) × (most_branches ≤ to → result ≡ most_branches) }
 {
-    if to < BRANCHES { to } else { BRANCHES }
+    to.min(BRANCHES)
 }
 
 // The symbol of a node at the branch number `at`: 0 where its binding has ended.
@@ -49,10 +49,8 @@ fn symbols(bound: &[u32; 64], until: &[u16; 64], at: usize) -> [u32; 64]
         → Symbols at bound.now until.now result }
 {
     let mut own = [0u32; 64];
-    let mut r = 0;
-    while r < 64 {
+    for r in 0..64 {
         own[r] = symbol(bound[r], until[r], at);
-        r += 1;
     }
     own
 }
@@ -62,16 +60,14 @@ pub fn put_terms(refs: &mut [u8; 64], to: usize, a: usize, p: usize, rep: &[u8; 
     ensures { to + a ≤ 64 → All (λ x. x < 64) (steps sib.now a p)
         → refs.new ≡ sets refs.old to (goal_nodes rep.now sib.now a p) }
 {
-    let mut left = a;
     let mut j = to;
     let mut q = p;
-    while 0 < left {
+    for _ in 0..a {
         let r = node(q);
         let slot = node(j);
         refs[slot] = rep[r];
         q = wide(sib[r]);
         j = slot + 1;
-        left -= 1;
     }
 }
 
@@ -185,17 +181,18 @@ pub fn rest(
     let mut terms = *refs;
     let mut keep = [NONE; 32];
     let end = end_of(to);
-    let mut i = from;
-    while i < end {
-        let w = notes[i];
-        i += 1;
-        if !meets(w, sib, &mut own, &mut kids, &mut cls, &mut terms, &mut keep) {
+    for i in from..end {
+        if !meets(
+            notes[i], sib, &mut own, &mut kids, &mut cls, &mut terms, &mut keep,
+        ) {
             return Alone {
-                tried: i - from,
+                tried: i + 1 - from,
                 hits: 0,
             };
         }
     }
-    let tried = i - from;
-    Alone { tried, hits: 1 }
+    Alone {
+        tried: end.saturating_sub(from),
+        hits: 1,
+    }
 }

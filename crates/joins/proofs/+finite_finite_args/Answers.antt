@@ -1,5 +1,5 @@
 -- `finite` and `finite_args` (src/lib.rt), by the laws of SearchLaws.
-use Rattle.std.proofs.Common.{◌≡◌, ℕ, suc, ◌<◌, ◌%◌, List, length, get_or, set, ◌∙◌, arith}
+use Rattle.std.proofs.Common.{◌≡◌, ℕ, suc, ◌+◌, ◌-◌, ◌<◌, ◌%◌, List, length, get_or, set, ◌∙◌, arith}
 use lib.ListN.{length-set}
 use Rattle.classes.specs.code.Search.{news}
 use Rattle.classes.proofs.SearchLaws.{fewer-new, fewer-same, fewer-more, fewer-down, fewer-end}
@@ -63,25 +63,26 @@ finite-returns t c =
 
 pub finite_args-returns-then-not-finite : goal.finite_args-returns-then-not-finite
 finite_args-returns-then-not-finite t c =
-    let l = c.loop-more in
+    let l = c.loop in
     let f = c.finite.ensures in (
       fewer-more l.invariant.0 f.0,
       λ S.
-          let n = c.node-r.ensures.1 (first-inside c.args.sib.now l.more l.q (omega arith) (l.invariant.1 S).here).0 in
+          let n = c.node-r.ensures.1 (first-inside c.args.sib.now (c.args.k - l.counter) l.q (omega arith) (l.invariant.1 S).here).0 in
           let s = rw n at (f.1 (rw n (looking-call (l.invariant.1 S) (omega arith)))) in
           looking-cycles (l.invariant.1 S) (omega arith) s c.if-not-finite.true,
     )
 
-pub finite_args-loop-more-preserved : goal.finite_args-loop-more-preserved
-finite_args-loop-more-preserved t c =
-    let l = c.loop-more in
+pub finite_args-loop-preserved : goal.finite_args-loop-preserved
+finite_args-loop-preserved t c =
+    let l = c.loop in
     let f = c.finite.ensures in (
       fewer-more l.invariant.0 f.0,
       λ S.
-          let n = c.node-r.ensures.1 (first-inside c.args.sib.now l.more l.q (omega arith) (l.invariant.1 S).here).0 in
+          let n = c.node-r.ensures.1 (first-inside c.args.sib.now (c.args.k - l.counter) l.q (omega arith) (l.invariant.1 S).here).0 in
           let s = rw n at (f.1 (rw n (looking-call (l.invariant.1 S) (omega arith)))) in
-          rw (c.wide-q.ensures, n) (looking-next (l.invariant.1 S) (omega arith) s c.if-not-finite.false),
+          let m : c.args.k - (l.counter + 1) ≡ c.args.k - l.counter - 1 = omega arith in
+          rw (c.wide-q.ensures, n, m) (looking-next (l.invariant.1 S) (omega arith) s c.if-not-finite.false),
     )
 
 pub finite_args-returns : goal.finite_args-returns
-finite_args-returns t c = let l = c.loop-more in (l.invariant.0, λ S. looking-last (l.invariant.1 S) (omega arith))
+finite_args-returns t c = let l = c.loop in (l.invariant.0, λ S. looking-last (l.invariant.1 S) (omega arith))

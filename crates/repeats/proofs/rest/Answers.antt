@@ -23,43 +23,30 @@ module _ (c : At-loop-i) where
   lower b h = omega (arith, at-end b)
 
 pub loop-i-init : goal.loop-i-init
-loop-i-init c = (λ b. begins-under b (c.symbols-own.ensures b.size-bound b.size-until) refl, omega arith, omega arith)
-
-pub overflow_sub-result : goal.overflow_sub-result
-overflow_sub-result c = omega (arith, c.loop-i.invariant.1)
+loop-i-init c = λ b. begins-under b (c.symbols-own.ensures b.size-bound b.size-until) refl
 
 pub returns-then-not-meets : goal.returns-then-not-meets
 returns-then-not-meets c = (
-  omega (arith, c.loop-i.invariant.1, c.end_of-end.ensures.0),
+  omega (arith, c.end_of-end.ensures.0),
   omega arith,
   λ b.
-      let u = c.loop-i.invariant.0 b in
+      let u = c.loop-i.invariant b in
       let h = lower (goal.at.returns-then-not-meets c).At-loop-i b (omega arith) in
-      (false, refl, rest-off u h (c.meets.ensures (rest-safe u h)) c.if-not-meets.true _ (omega (arith, c.loop-i.invariant.1))),
+      (false, refl, rest-off u h (c.meets.ensures (rest-safe u h)) c.if-not-meets.true _ (omega arith)),
 )
-
-pub loop-i-smaller : goal.loop-i-smaller
-loop-i-smaller c = omega arith
 
 pub loop-i-preserved : goal.loop-i-preserved
-loop-i-preserved c = (
-  λ b.
-      let u = c.loop-i.invariant.0 b in
-      let h = lower (goal.at.loop-i-preserved c).At-loop-i b (omega arith) in
-      rest-on u h (c.meets.ensures (rest-safe u h)) c.if-not-meets.false,
-  omega (arith, c.loop-i.invariant.1),
-  omega (arith, c.loop-i.invariant.1, c.end_of-end.ensures.0),
-)
-
-pub overflow_sub-tried : goal.overflow_sub-tried
-overflow_sub-tried c = omega (arith, c.loop-i.invariant.1)
+loop-i-preserved c = λ b.
+    let u = c.loop-i.invariant b in
+    let h = lower (goal.at.loop-i-preserved c).At-loop-i b (omega arith) in
+    rest-on u h (c.meets.ensures (rest-safe u h)) c.if-not-meets.false
 
 pub returns : goal.returns
 returns c = (
-  c.loop-i.invariant.2,
+  omega (arith, c.end_of-end.ensures.0),
   omega arith,
   λ b.
-      let u = c.loop-i.invariant.0 b in
+      let u = c.loop-i.invariant b in
       let h = at-end (goal.at.returns c).At-loop-i b in
-      (true, refl, rest-ends u (omega (arith, h)) _ (omega (arith, h, u.left, c.loop-i.invariant.1))),
+      (true, refl, rest-ends u (omega (arith, h, u.left)) _ (omega (arith, h, u.left))),
 )

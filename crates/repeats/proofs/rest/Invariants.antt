@@ -10,7 +10,4 @@ use Rattle.repeats.proofs.rest.Given as goal
 abbrev pub invariant-loop-i : goal.invariant-loop-i
 invariant-loop-i l =
     ((b : Begins l.notes l.rep l.sib l.bound l.args l.until l.refs l.from l.to)
-    → Under b.R b.x (skeletons_of b.chain (replicate b.k hole)) l.notes l.sib l.own l.kids l.cls l.terms l.keep l.from l.i l.to) × (l.from ≤ l.i) × (l.i - l.from ≤ most_branches)
-
-abbrev pub decreases-loop-i : goal.decreases-loop-i
-decreases-loop-i l = l.end - l.i
+    → Under b.R b.x (skeletons_of b.chain (replicate b.k hole)) l.notes l.sib l.own l.kids l.cls l.terms l.keep l.from l.i l.to)
