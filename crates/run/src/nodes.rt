@@ -22,11 +22,8 @@ fn numbers(first: usize) -> [u8; 64]
     ensures { result ≡ up_from first 64 }
 {
     let mut table = [0u8; 64];
-    let mut r = 0;
-    while r < 64 {
-        let x = first + r;
-        table[r] = x as u8;
-        r += 1;
+    for r in 0..64 {
+        table[r] = (first + r) as u8;
     }
     table
 }
@@ -36,11 +33,9 @@ fn hop(sib: &[u8; 64], from: usize, a: usize) -> usize
     requires { All (λ x. x < 64) (steps sib.now a from) }
     ensures { result ≡ hop_of sib.now a from }
 {
-    let mut left = a;
     let mut q = from;
-    while 0 < left {
+    for _ in 0..a {
         q = wide(sib[q]);
-        left -= 1;
     }
     q
 }
@@ -51,12 +46,9 @@ pub fn siblings(goal: &[u32]) -> [u8; 64]
     ensures { Stepped goal.now result }
 {
     let mut sib = numbers(1);
-    let mut p = goal.len();
-    while 0 < p {
-        p -= 1;
+    for p in (0..goal.len()).rev() {
         let a = cell::arity_of(goal[p]);
-        let q = hop(&sib, p + 1, a);
-        sib[p] = q as u8;
+        sib[p] = hop(&sib, p + 1, a) as u8;
     }
     sib
 }
@@ -88,21 +80,15 @@ pub fn name_cells(
 {
     let mut rep = numbers(0);
     let mut first = [NONE; ROW_CELLS];
-    let mut p = 0;
-    while p < goal.len() {
-        let c = goal[p];
-        let next = p + 1;
+    for (p, &c) in goal.iter().enumerate() {
         match cell::kind(c) {
-            0 => {
-                rep[p] = first_cell(&mut first, c as usize, p);
-            }
+            0 => rep[p] = first_cell(&mut first, c as usize, p),
             _ => {
                 bound[p] = c;
-                args[p] = next as u8;
+                args[p] = (p + 1) as u8;
                 until[p] = EVER;
             }
         }
-        p = next;
     }
     rep
 }

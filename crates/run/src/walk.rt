@@ -23,14 +23,8 @@ pub fn put_rows(room: &mut [u8], at: usize, n: usize, row: usize)
     if room.len() < at + n {
         return;
     }
-    let mut more = n;
-    let mut j = at;
-    let mut q = row;
-    while 0 < more {
-        room[j] = node(q) as u8;
-        q += 1;
-        j += 1;
-        more -= 1;
+    for k in 0..n {
+        room[at + k] = node(row + k) as u8;
     }
 }
 
