@@ -19,7 +19,7 @@ use Rattle.plan.specs.Notes.{Branch, branch, flag, repeats, below, notes, notes_
 use Rattle.plan.specs.code.Rows.{row_count}
 use Rattle.plannotes.specs.code.Steps.{part_of, ended, finished, Low, Part, Ending, BranchMet, Begun}
 use Rattle.plannotes.specs.code.Tree.{Ready, ReadyAt, notes_at, StateDone, BranchDone, One, Went, Followed}
-use Rattle.plannotes.specs.declared.tree.Past.{Past}
+use Rattle.plannotes.specs.declared.branch.Past.{Past}
 use Rattle.plannotes.proofs.TreeLaws.{ReadyIn, Inside, inside, first_of, met, arity-is, number_is, number-low, number-cell, lower_of}
 use Rattle.plannotes.proofs.TreeLaws.{words_count, done-long}
 use Rattle.plannotes.proofs.AloneLaws.{flag_is, one_more, one-run, one-leaf, one-moved, finished-more, finished-length}

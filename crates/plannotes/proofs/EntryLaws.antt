@@ -26,7 +26,7 @@ use Rattle.plannotes.specs.Noted.{NotedInto, noted, refused}
 use Rattle.plannotes.specs.code.Places.{NoSlotTwice, Open}
 use Rattle.plannotes.specs.code.Steps.{Low}
 use Rattle.plannotes.specs.code.Tree.{Ready, StateDone, Accepted, AllNoted}
-use Rattle.plannotes.specs.declared.tree.Past.{Past}
+use Rattle.plannotes.specs.declared.branch.Past.{Past}
 use Rattle.plannotes.proofs.TreeLaws.{words_count}
 use Rattle.plannotes.proofs.PlacesLaws.{up_at, up-all, up_apart, up-path}
 use Rattle.limits.specs.Limits.{most_branches}

@@ -23,7 +23,7 @@ use Rattle.plan.specs.code.Rows.{row_count}
 use Rattle.plannotes.specs.code.Places.{Open}
 use Rattle.plannotes.specs.code.Steps.{part_of, Low, Part, BranchMet, Begun}
 use Rattle.plannotes.specs.code.Tree.{Ready, ReadyAt, notes_at, Done, StateDone, BranchDone}
-use Rattle.plannotes.specs.declared.tree.Past.{Past}
+use Rattle.plannotes.specs.declared.branch.Past.{Past}
 use Rattle.limits.specs.Limits.{most_branches, most_plan_cells}
 
 -- how many places are open below a branch

@@ -29,26 +29,32 @@ fn end(skip: usize) -> u64
     (skip as u64) << 32
 }
 
-// Meets the branch number `made`, whose cell is at `place` of the plan, whose first row is `row` and whose state looks at the open place with
-// index `i`. Its arguments get the slots from `free` on; how many they are is answered.
+// What comes next, after a state or a branch: the plan's cell, the branch's number and the first row.
+#[derive(Clone, Copy)]
+pub struct Past {
+    pub place: usize,
+    pub made: usize,
+    pub row: usize,
+}
+
+// Meets the branch that comes next, whose state looks at the open place with index `i`. Its arguments get the slots from `free` on; how many
+// they are is answered.
 pub fn begin(
     plan: &[u32],
     links: &mut [u8; 64],
     notes: &mut [u64],
     i: usize,
-    place: usize,
-    made: usize,
     free: usize,
-    row: usize,
+    here: Past,
 ) -> usize
-    requires { BranchMet plan.now links.old notes.old i place made free row }
-    ensures { (w : BranchMet plan.now links.old notes.old i place made free row) → Begun w
+    requires { BranchMet plan.now links.old notes.old i here.place here.made free here.row }
+    ensures { (w : BranchMet plan.now links.old notes.old i here.place here.made free here.row) → Begun w
         links.new notes.new result }
 {
-    let c = plan[place];
+    let c = plan[here.place];
     let a = cell::arity_of(c);
     let slot = close(links, i, a, free);
-    notes[made] = part(c, row, free, slot);
+    notes[here.made] = part(c, here.row, free, slot);
     a
 }
 

@@ -26,7 +26,14 @@ fn note_plan(plan: &[u32], width: usize, notes: &mut [u64])
     ensures { (w : Accepted plan.now notes.old width) → AllNoted w notes.new }
 {
     let links = places::first_links();
-    tree::state(plan, &links, notes, 0, width, 0, 32, 0);
+    let whole = tree::Reached {
+        at: 0,
+        width,
+        made: 0,
+        free: 32,
+        row: 0,
+    };
+    tree::state(plan, &links, notes, whole);
 }
 
 // The check of any plan for a table. Of an accepted plan, what a run needs is noted in the first of the lent numbers, one for each branch.

@@ -2,29 +2,20 @@
 //
 // In most plans most states have one branch. Such branches are followed by a loop, with no call for each: those that follow one another have the
 // same first row and end together, and are finished together.
-//
-// `at` is a state's first cell in the plan and `place` a branch's own; `width` is how many places are open, `made` the next branch's
-// number, `free` the first free slot, `row` the first row.
 ghost use Rattle.std.specs.Prelude.{◌≡◌, ◌&&◌, ◌+◌, ◌^◌, ◌<◌, eqb, ltb, length, get_or};
 ghost use Rattle.plannotes.specs.code.Tree.{Ready, ReadyAt, Followed, StateDone, BranchDone};
 ghost use Rattle.limits.specs.Limits.{most_plan_cells};
 
-use super::branch::{begin, finish};
+use super::branch::{Past, begin, finish};
 
-// A state that is reached.
-#[derive(Drop)]
-struct Reached {
-    at: usize,
-    width: usize,
-    made: usize,
-    free: usize,
-}
-
-// What comes next, after a state or a branch: the plan's cell, the branch's number and the row.
-#[derive(Drop)]
-pub struct Past {
-    pub place: usize,
+// A state that is reached: its first cell in the plan, how many places are open, the next branch's number, the first free slot and the
+// first row.
+#[derive(Clone, Copy)]
+pub struct Reached {
+    pub at: usize,
+    pub width: usize,
     pub made: usize,
+    pub free: usize,
     pub row: usize,
 }
 
@@ -40,38 +31,30 @@ fn single(plan: &[u32], at: usize, width: usize) -> bool
 }
 
 // Down from a state, as long as there is one branch.
-fn follow(
-    plan: &[u32],
-    links: &mut [u8; 64],
-    notes: &mut [u64],
-    at: usize,
-    width: usize,
-    made: usize,
-    free: usize,
-    row: usize,
-) -> Reached
-    requires { Ready plan.now links.old notes.old at width made free row }
-    ensures { (w : Ready plan.now links.old notes.old at width made free row) → Followed w
-        links.new notes.new result.at result.width result.made result.free }
+fn follow(plan: &[u32], links: &mut [u8; 64], notes: &mut [u64], start: Reached) -> Reached
+    requires { Ready plan.now links.old notes.old start.at start.width start.made start.free start.row }
+    ensures noted { (w : Ready plan.now links.old notes.old start.at start.width start.made
+        start.free start.row) → Followed w links.new notes.new result.at result.width result.made result.free }
+    ensures row { result.row ≡ start.row }
 {
-    let mut here = at;
-    let mut k = width;
-    let mut next = made;
-    let mut slot = free;
-    while single(plan, here, k) {
-        let i = plan[here] as usize;
-        let a = begin(plan, links, notes, i, here + 2, next, slot, row);
-        here += 3;
-        k = a + (k - 1);
-        next += 1;
-        slot += a;
+    let mut here = start;
+    while single(plan, here.at, here.width) {
+        let i = plan[here.at] as usize;
+        let only = Past {
+            place: here.at + 2,
+            made: here.made,
+            row: start.row,
+        };
+        let a = begin(plan, links, notes, i, here.free, only);
+        here = Reached {
+            at: here.at + 3,
+            width: a + (here.width - 1),
+            made: here.made + 1,
+            free: here.free + a,
+            row: start.row,
+        };
     }
-    Reached {
-        at: here,
-        width: k,
-        made: next,
-        free: slot,
-    }
+    here
 }
 
 // The branch that comes next of a state that looks at the open place with index `i`, and all below it.
@@ -89,58 +72,44 @@ fn branch(
     ensures { (w : ReadyAt plan.now links.now notes.old i here.place width here.made free
         here.row) → BranchDone w notes.new result }
 {
-    let place = here.place;
-    let made = here.made;
-    let row = here.row;
     let mut own = *links;
-    let a = begin(plan, &mut own, notes, i, place, made, free, row);
-    let r = follow(
-        plan,
-        &mut own,
-        notes,
-        place + 1,
-        a + (width - 1),
-        made + 1,
-        free + a,
-        row,
-    );
-    let below = state(plan, &own, notes, r.at, r.width, r.made, r.free, row);
-    finish(notes, made, r.made, below.made);
+    let a = begin(plan, &mut own, notes, i, free, here);
+    let under = Reached {
+        at: here.place + 1,
+        width: a + (width - 1),
+        made: here.made + 1,
+        free: free + a,
+        row: here.row,
+    };
+    let lower = follow(plan, &mut own, notes, under);
+    let below = state(plan, &own, notes, lower);
+    finish(notes, here.made, lower.made, below.made);
     below
 }
 
 // A state and all below it.
 #[cycle(branch_state)]
-pub fn state(
-    plan: &[u32],
-    links: &[u8; 64],
-    notes: &mut [u64],
-    at: usize,
-    width: usize,
-    made: usize,
-    free: usize,
-    row: usize,
-) -> Past
-    requires { Ready plan.now links.now notes.old at width made free row }
-    ensures { (w : Ready plan.now links.now notes.old at width made free row) → StateDone w
+pub fn state(plan: &[u32], links: &[u8; 64], notes: &mut [u64], here: Reached) -> Past
+    requires { Ready plan.now links.now notes.old here.at here.width here.made here.free here.row }
+    ensures { (w : Ready plan.now links.now notes.old here.at here.width here.made here.free here.row) → StateDone w
         notes.new result }
 {
-    let n = plan[at] as usize;
-    let first = at + 1;
-    if width == 0 {
+    let n = plan[here.at] as usize;
+    let first = here.at + 1;
+    if here.width == 0 {
         return Past {
             place: first,
-            made,
-            row: row + n,
+            made: here.made,
+            row: here.row + n,
         };
     }
-    let mut here = Past {
-        place: at + 2,
-        made,
-        row,
+    let mut next = Past {
+        place: here.at + 2,
+        made: here.made,
+        row: here.row,
     };
     for _ in 0..plan[first] {
-        here = branch(plan, links, notes, n, width, free, here);
+        next = branch(plan, links, notes, n, here.width, here.free, next);
     }
-    here
+    next
 }

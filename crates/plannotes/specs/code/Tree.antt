@@ -11,7 +11,7 @@ use Rattle.plan.specs.code.Cells.{Sound, Cells}
 use Rattle.plan.specs.code.Fits.{Fits}
 use Rattle.plannotes.specs.code.Places.{Open}
 use Rattle.plannotes.specs.code.Steps.{finished, Low, Parts}
-use Rattle.plannotes.specs.declared.tree.Past.{Past}
+use Rattle.plannotes.specs.declared.branch.Past.{Past}
 use Rattle.limits.specs.Limits.{most_branches, most_plan_cells, most_row_cells, most_rows}
 
 -- a state at a cell of the plan. Its rows have at most `left` cells each, so that there are slots enough below it

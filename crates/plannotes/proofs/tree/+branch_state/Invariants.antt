@@ -7,8 +7,8 @@ abbrev pub decreases-branch : goal.decreases-branch
 decreases-branch l = 2 * (length l.plan.now - l.here.place) + 1
 
 abbrev pub decreases-state : goal.decreases-state
-decreases-state l = 2 * (length l.plan.now - l.at)
+decreases-state l = 2 * (length l.plan.now - l.here.at)
 
 abbrev pub invariant-state-loop : goal.invariant-state-loop
-invariant-state-loop l = (w : Ready l.plan l.links l.fn.notes l.at l.width l.made l.free l.row)
-    → Rest w l.notes l.here (get_or l.plan (l.at + 1) 0 - l.counter)
+invariant-state-loop l = (w : Ready l.plan l.links l.fn.notes l.here.at l.here.width l.here.made l.here.free l.here.row)
+    → Rest w l.notes l.next (get_or l.plan (l.here.at + 1) 0 - l.counter)
