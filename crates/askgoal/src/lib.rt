@@ -12,7 +12,6 @@ use refusal::Refusal;
 use shop::Shop;
 use slices::cells::part;
 use tally::Tally;
-use term::End;
 
 // What goals are asked of: what is kept of a file of facts, what is noted of its plan, and where the cells of each rule begin in the table.
 #[derive(Clone, Copy)]
@@ -268,10 +267,10 @@ fn terms_end(cells: &[u32], from: usize, count: usize) -> usize {
     let mut k = 0;
     while k < count {
         match term::term_end(cells, at) {
-            End::At(e) => {
+            Some(e) => {
                 at = e;
             }
-            End::Short => {
+            None => {
                 return at;
             }
         }

@@ -10,8 +10,7 @@ use native.Mathlib.Omega.{arith}
 use lib.ListN.{length, get_or, take, drop, length-append, length-drop, length-map, take-append-drop, drop_of_length-le}
 use lib.Seq.{slice, take-take, take_at, drop_at, drop-cons, take-suc, take-add, get_or-take, length-take-le}
 use Rattle.cell.specs.Cell.{is_var}
-use Rattle.term.specs.declared.End.{End}
-use Rattle.term.specs.declared.End.TheVariants.{Short}
+use Rattle.std.specs.Prelude.{Option, None}
 use Rattle.term.specs.Terms.{Terms, front, back}
 use Rattle.term.specs.Ends.{Ends, at, short}
 use Rattle.term.specs.Unify.{renamed}
@@ -71,7 +70,7 @@ module _ {row goal cells : List ℕ} {v : ℕ} {t : List ℕ} {i n at' len turns
 -- The term that stands at a place.
 module _ {C : List ℕ} {at' : ℕ} where
   -- where at least one term is, the cells do not run out
-  pub term-there : {r : End} → TermsAt C at' → Ends C at' r → r ≢ Short
+  pub term-there : {r : Option ℕ} → TermsAt C at' → Ends C at' r → r ≢ None
   term-there w (at {t} rest v q) p = let z : ◌≡◌ {A = ℕ} 0 1 = cc in omega arith
   term-there w (short n) p =
       let v : Terms (1 + w.after) (drop at' C) = rw one-add w.terms in

@@ -5,15 +5,14 @@ use mathlib.Core.List.{List, [], ◌∷◌, ◌++◌}
 use native.Mathlib.Omega.{arith}
 use lib.ListN.{length, get_or, take, drop, length-append, length-drop}
 use lib.Seq.{drop-cons, take-take, take_at, drop_at, drop-drop, length-take-le}
-use Rattle.term.specs.declared.End.{End}
-use Rattle.term.specs.declared.End.TheVariants.{At}
+use Rattle.std.specs.Prelude.{Option, Some, None}
 use Rattle.term.specs.Terms.{Terms}
 use Rattle.term.specs.Ends.{Ends, at, short}
 use Rattle.term.proofs.TermsLaws.{terms-long}
 use Rattle.instance.specs.code.Meet.{TermAt}
 use Rattle.meeting.proofs.PartLaws.{part_slice}
 
-pub term-at : (cells : List ℕ) {m at' e : ℕ} {r : End} → m ≤ length cells → Ends (take m cells) at' r → r ≡ At e
+pub term-at : (cells : List ℕ) {m at' e : ℕ} {r : Option ℕ} → m ≤ length cells → Ends (take m cells) at' r → r ≡ Some e
     → (at' ≤ e) × (e ≤ m) × TermAt (take m cells) (take (e - at') (drop at' cells)) at' e
 term-at cells {m} {at'} {e} h (at {t} rest u q) p =
     let C : List ℕ = take m cells in

@@ -12,7 +12,6 @@ ghost use Rattle.meeting.specs.code.Turns.{instead, Swapped, Sound, Binding, Bou
 
 use limits::{MEETING_CELLS, REPLY_CELLS};
 use octets::cells::put_cells;
-use term::End;
 
 // How many cells they have in common, or that the lists are too short for it: those of 2,048 and 2,049 cells, that it has over 1,024 (02,
 // W-209, BIG).
@@ -125,7 +124,7 @@ fn bind_row(c: u32, cells: &mut [u32], other: &mut [u32], k: Stand) -> Turn
     let at = k.at;
     let len = k.len;
     match term::term_end(&cells[..len], at) {
-        End::At(e) => {
+        Some(e) => {
             let next = Stand {
                 i: k.i + 1,
                 n: k.n,
@@ -139,7 +138,7 @@ fn bind_row(c: u32, cells: &mut [u32], other: &mut [u32], k: Stand) -> Turn
             }
             bind(c, at, e, cells, other, next)
         }
-        End::Short => Turn::Big,
+        None => Turn::Big,
     }
 }
 
@@ -152,7 +151,7 @@ fn bind_goal(d: u32, cells: &mut [u32], other: &mut [u32], k: Stand) -> Turn
     let i = k.i;
     let n = k.n;
     match term::term_end(&cells[..n], i) {
-        End::At(e) => {
+        Some(e) => {
             let next = Stand {
                 i: e,
                 n,
@@ -166,7 +165,7 @@ fn bind_goal(d: u32, cells: &mut [u32], other: &mut [u32], k: Stand) -> Turn
             }
             bind(d, i, e, cells, other, next)
         }
-        End::Short => Turn::Big,
+        None => Turn::Big,
     }
 }
 

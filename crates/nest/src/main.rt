@@ -1,8 +1,6 @@
 // Steps over terms: W-205's worked examples, and a nest that is deeper than calls can go. What is printed is compared with the file stdout.
 #![tactic(auto)]
 
-use term::End;
-
 // Names by their letters, with as many arguments as the digit says.
 const A: u32 = 0x40000001;
 
@@ -18,12 +16,12 @@ const F2: u32 = 0x40020006;
 fn step(rt: HostRuntime, text: &[u8], cells: &[u32], from: usize) {
     console::say(rt, text);
     match term::term_end(cells, from) {
-        End::At(e) => {
+        Some(e) => {
             console::say(rt, b": ends at ");
             console::say_number(rt, e);
             console::say(rt, b"\n");
         }
-        End::Short => console::say(rt, b": the cells run out\n"),
+        None => console::say(rt, b": the cells run out\n"),
     }
 }
 

@@ -8,18 +8,17 @@ use native.Mathlib.Omega.{arith}
 use lib.ListN.{length, get_or, drop, drop_of_length-le}
 use lib.Seq.{drop-cons}
 use Rattle.cell.specs.Cell.{arity}
-use Rattle.term.specs.declared.End.{End}
-use Rattle.term.specs.declared.End.TheVariants.{At, Short}
+use Rattle.std.specs.Prelude.{Option, Some, None}
 use Rattle.term.specs.Terms.{Terms, none, more}
 use Rattle.term.specs.Ends.{Ends, at, short}
 use Rattle.term.specs.code.Owed.{ends}
 
-pub ends-none : (xs : List ℕ) (p : ℕ) → ends xs 0 p ≡ At p
+pub ends-none : (xs : List ℕ) (p : ℕ) → ends xs 0 p ≡ Some p
 unfolding ends
 ends-none [] p = refl
 ends-none (c ∷ xs) p = refl
 
-pub ends-short : (xs : List ℕ) (i k p : ℕ) → length xs ≤ i → 0 < k → ends (drop i xs) k p ≡ Short
+pub ends-short : (xs : List ℕ) (i k p : ℕ) → length xs ≤ i → 0 < k → ends (drop i xs) k p ≡ None
 unfolding ends
 ends-short xs i zero p h l = absurd (omega arith)
 ends-short xs i (suc k) p h l = rw (drop_of_length-le xs h)
@@ -32,22 +31,22 @@ ends_more xs i (suc k) p h l =
     rw (e, add-one i, drop-cons xs i 0 h)
 
 -- k terms at the front of a list, or none
-data Found (ys : List ℕ) (k p : ℕ) : End → Type 0 where
-  found : {t : List ℕ} (rest : List ℕ) → Terms k t → ys ≡ t ++ rest → Found ys k p (At (p + length t))
-  lost : ((t rest : List ℕ) → Terms k t → ys ≡ t ++ rest → ⊥) → Found ys k p Short
+data Found (ys : List ℕ) (k p : ℕ) : Option ℕ → Type 0 where
+  found : {t : List ℕ} (rest : List ℕ) → Terms k t → ys ≡ t ++ rest → Found ys k p (Some (p + length t))
+  lost : ((t rest : List ℕ) → Terms k t → ys ≡ t ++ rest → ⊥) → Found ys k p None
 
 no-terms : {k : ℕ} (t rest : List ℕ) → Terms (suc k) t → [] ≡ t ++ rest → ⊥
 no-terms (c ∷ t) rest (more u) e = let z : ◌≡◌ {A = ℕ} 0 1 = cc in omega arith
 no-terms {k = k} [] rest x'' e = elim x'' [ ]
 
-found_here : (ys : List ℕ) (p : ℕ) → Found ys 0 p (At p)
-found_here ys p = let e : p + 0 ≡ p = omega arith in let f : Found ys 0 p (At (p + 0)) = found ys none refl in rw e at f
+found_here : (ys : List ℕ) (p : ℕ) → Found ys 0 p (Some p)
+found_here ys p = let e : p + 0 ≡ p = omega arith in let f : Found ys 0 p (Some (p + 0)) = found ys none refl in rw e at f
 
 -- one cell further
-found-more : {c k p : ℕ} {ys : List ℕ} {r : End} → Found ys (arity c + k) (p + 1) r → Found (c ∷ ys) (suc k) p r
+found-more : {c k p : ℕ} {ys : List ℕ} {r : Option ℕ} → Found ys (arity c + k) (p + 1) r → Found (c ∷ ys) (suc k) p r
 found-more {c} {k} {p} {ys} (found {t} rest u e) =
     let s : p + suc (length t) ≡ p + 1 + length t = omega arith in
-    let f : Found (c ∷ ys) (suc k) p (At (p + suc (length t))) = found rest (more u) (ap (λ (l : List ℕ). c ∷ l) e) in
+    let f : Found (c ∷ ys) (suc k) p (Some (p + suc (length t))) = found rest (more u) (ap (λ (l : List ℕ). c ∷ l) e) in
     rw s at f
 found-more {c} {k} {p} {ys} (lost n) = lost go
   where
@@ -66,7 +65,7 @@ find (c ∷ ys) zero p = found_here (c ∷ ys) p
 find (c ∷ ys) (suc k) p = found-more (find ys (arity c + k) (p + 1))
 
 -- k terms, whatever follows, end right after themselves
-pub ends_found : {k : ℕ} {t : List ℕ} → Terms k t → (rest : List ℕ) (p : ℕ) → ends (t ++ rest) k p ≡ At (p + length t)
+pub ends_found : {k : ℕ} {t : List ℕ} → Terms k t → (rest : List ℕ) (p : ℕ) → ends (t ++ rest) k p ≡ Some (p + length t)
 unfolding ends
 ends_found none rest p = let e : p + 0 ≡ p = omega arith in rw e (ends-none rest p)
 ends_found (more {xs = t} u) rest p = let e : p + 1 + length t ≡ p + suc (length t) = omega arith in ends_found u rest (p + 1) ∙ rw e
@@ -75,19 +74,19 @@ ends_found (more {xs = t} u) rest p = let e : p + 1 + length t ≡ p + suc (leng
 pub ends-right : (xs : List ℕ) (p : ℕ) → Ends xs p (ends (drop p xs) 1 p)
 ends-right xs p = go (find (drop p xs) 1 p)
   where
-    go : {r : End} → Found (drop p xs) 1 p r → Ends xs p r
+    go : {r : Option ℕ} → Found (drop p xs) 1 p r → Ends xs p r
     go (found rest u e) = at rest u e
     go (lost n) = short n
 
 -- and nothing else is
-pub ends-only : {xs : List ℕ} {p : ℕ} {r : End} → Ends xs p r → r ≡ ends (drop p xs) 1 p
+pub ends-only : {xs : List ℕ} {p : ℕ} {r : Option ℕ} → Ends xs p r → r ≡ ends (drop p xs) 1 p
 ends-only {xs} {p} (at {t} rest u e) = sym (ap (λ (l : List ℕ). ends l 1 p) e ∙ ends_found u rest p)
 ends-only {xs} {p} (short n) = go (find (drop p xs) 1 p)
   where
-    go : {r : End} → Found (drop p xs) 1 p r → Short ≡ r
+    go : {r : Option ℕ} → Found (drop p xs) 1 p r → None ≡ r
     go (found {t} rest u e) = absurd (n t rest u e)
     go (lost m) = refl
 
 -- so an answer that is computed is where the term ends
-pub ends-meant : (xs : List ℕ) (p : ℕ) {r : End} → r ≡ ends (drop p xs) 1 p → Ends xs p r
+pub ends-meant : (xs : List ℕ) (p : ℕ) {r : Option ℕ} → r ≡ ends (drop p xs) 1 p → Ends xs p r
 ends-meant xs p e = rw e (ends-right xs p)
