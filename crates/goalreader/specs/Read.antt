@@ -1,12 +1,10 @@
 -- What a reader finds (01, "A reader over the goal holds its cells with the place it has reached"): of the cells and the place, which may
 -- lie past their end.
-use Rattle.std.specs.Prelude.{ℕ, ◌+◌, ◌-◌, cond, List, ltb, length, get_or}
-use Rattle.goalreader.specs.declared.Step.{Step}
-use Rattle.goalreader.specs.declared.Step.TheVariants.{Cell, End}
+use Rattle.std.specs.Prelude.{ℕ, ◌+◌, ◌-◌, cond, List, ltb, length, get_or, Option, Some, None}
 
 -- 01, "its cells with the place": the cell at that place, or that there is none
-abbrev pub step_at : List ℕ → ℕ → Step
-step_at cells at = cond (ltb at (length cells)) (Cell (get_or cells at 0)) End
+abbrev pub step_at : List ℕ → ℕ → Option ℕ
+step_at cells at = cond (ltb at (length cells)) (Some (get_or cells at 0)) None
 
 -- 01, "the place it has reached": one on, once the cell there is taken; where there is none, the same
 abbrev pub place_after : List ℕ → ℕ → ℕ
