@@ -1,11 +1,11 @@
 -- Laws of readings: how a refusal and a reading that goes on combine, and what a reading that succeeds says of its tests.
 use mathlib.Core.Path.{◌≡◌, refl, sym, ap}
-use mathlib.Core.Logic.{◌≢◌}
+use mathlib.Core.Logic.{◌≢◌, ◌⊎◌, inl, inr}
 use mathlib.Core.Bool.{Bool, true, false, ◌&&◌, ◌||◌}
-use Prim.Native.Nat.{ℕ, ◌≤◌}
+use Prim.Native.Nat.{ℕ, ◌≤◌, ◌<◌}
 use native.Mathlib.Omega.{arith}
 use lib.Dec.{eqb, ltb}
-use borrow.Author.Tests.{ltb-false, le-ltb}
+use borrow.Author.Tests.{ltb-false, le-ltb, lt-ltb}
 use Rattle.cell.specs.Cell.{Values}
 use Rattle.refusal.specs.Refusal.{Refused}
 use Rattle.refusal.specs.declared.Reason.TheVariants as reason
@@ -72,6 +72,14 @@ inside n low high e = let p = both (ltb n low) (ltb high n) e in (ltb-false n lo
     both : (a b : Bool) → (a || b) ≡ false → (a ≡ false) × (b ≡ false)
     both true b h = not-both refl h
     both false b h = (refl, h)
+
+pub outside : (n low high : ℕ) → (n < low) ⊎ ((low ≤ n) × (high < n)) → (ltb n low || ltb high n) ≡ true
+outside n low high (inl l) = rw (lt-ltb n low l)
+outside n low high (inr h) = rw (lt-ltb high n h.1) (or-true (ltb n low))
+  where
+    or-true : (b : Bool) → (b || true) ≡ true
+    or-true true = refl
+    or-true false = refl
 
 pub within-bounds : (n low high : ℕ) → low ≤ n → n ≤ high → (ltb n low || ltb high n) ≡ false
 within-bounds n low high l h = rw (le-ltb n low l, le-ltb high n h)

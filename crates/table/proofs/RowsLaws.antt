@@ -11,12 +11,14 @@ use native.Mathlib.Omega.{arith}
 use lib.ListN.{length, take, drop, set, replicate, length-drop, drop_of_length-le, take-append-drop}
 use lib.Seq.{take_at, drop_at, drop-cons, drop-drop, sets, length-take-le}
 use Rattle.term.proofs.Lists.{sets-replicate}
-use Rattle.refusal.specs.Refusal.{Refused, refused, Answer, answered, turned}
+use Rattle.refusal.specs.Refusal.{Refused, refused, told, Answer, answered, turned}
 use Rattle.refusal.specs.declared.Reason.TheVariants as reason
 use Rattle.refusal.specs.declared.Input.TheVariants as input
 use Rattle.refusal.specs.Read.{Read, read, refuse, and_then}
-use Rattle.table.specs.Table.{Met, met, table, row_before, doubled, terms_from, rows_from, Row, appear, Ground, Apart, Distinct}
-use Rattle.table.specs.Table.{starts, table_told, TableReads}
+use Rattle.table.specs.Table.{Met, met, Table, table, row_before, doubled, terms_from, rows_from, Row, appear, Ground, Apart, Distinct}
+use Rattle.std.specs.Prelude.{Result, Err}
+use Rattle.refusal.specs.declared.Refusal.{Refusal}
+use Rattle.table.specs.Table.{starts, read_told, starts_told, TableReads}
 use Rattle.table.specs.declared.TableRead.{TableRead}
 use Rattle.table.specs.All.{All}
 use Rattle.table.proofs.ReadLaws.{apart, passed, first}
@@ -145,8 +147,8 @@ pub record Outcome : Type 0 where
   pub answer : Answer
   pub starts : List ℕ
 
-abbrev pub outcome : TableRead → Outcome
-outcome r = record { answer = table_told r.answer; starts = r.starts }
+abbrev pub outcome : Result TableRead Refusal → Outcome
+outcome r = record { answer = read_told r; starts = starts_told r }
 
 abbrev pub after : ℕ → ℕ → List ℕ → ℕ → Read (List (List ℕ)) → Outcome
 after w n S p (read rows) = record { answer = answered w (n + length rows); starts = sets S n (starts p rows) }
@@ -174,8 +176,11 @@ next_row w seen t p n i S {e} l k h d =
     ap (after w i S p) (rows_more w seen t p h n l b.0 d) ∙ after-row w i S p r (rows_from w (n - 1) (r ∷ seen) (drop e t) e) ∙ rw q
 
 -- a table that is turned away
-pub outcome-turned : {f : Refused} (r : TableRead) → TableReads (refuse f) r → outcome r ≡ record { answer = turned f; starts = replicate 64 0 }
-outcome-turned r q = rw (q.answer, q.starts)
+pub outcome-turned : (f : Refusal) {g : Refused} → told f ≡ g → outcome (Err f) ≡ record { answer = turned g; starts = replicate 64 0 }
+outcome-turned f e = rw e
+
+pub table-refused : {R : Read Table} (f : Refusal) {g : Refused} → told f ≡ g → R ≡ refuse g → TableReads R (Err f)
+table-refused f e q = rw q (record { answer = ap turned e; starts = refl })
 
 -- What the code answers is what is to be answered for a table of these rows.
 pub length-starts : (p : ℕ) (rows : List (List ℕ)) → length (starts p rows) ≡ length rows
@@ -186,7 +191,7 @@ length-starts p (r ∷ rs) = ap suc (length-starts (p + length r) rs)
 starts-placed : (rows : List (List ℕ)) → length rows ≤ 64 → sets (replicate 64 0) 0 (starts 2 rows) ≡ starts 2 rows ++ replicate (64 - length rows) 0
 starts-placed rows h = let l = length-starts 2 rows in rw l at (sets-replicate 64 0 (starts 2 rows) (omega arith))
 
-pub rows-answer : (w n : ℕ) (xs : List ℕ) (r : TableRead) → n ≤ 64 → outcome r ≡ after w 0 (replicate 64 0) 2 (rows_from w n [] xs 2)
+pub rows-answer : (w n : ℕ) (xs : List ℕ) (r : Result TableRead Refusal) → n ≤ 64 → outcome r ≡ after w 0 (replicate 64 0) 2 (rows_from w n [] xs 2)
     → TableReads (and_then (rows_from w n [] xs 2) (λ (rows : List (List ℕ)). read (table w rows))) r
 rows-answer w n xs r h e = go (rows_from w n [] xs 2) (λ rows q. (rows_are w n [] xs 2 q).count) e
   where

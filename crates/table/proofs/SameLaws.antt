@@ -10,7 +10,6 @@ use lib.Dec.{eqb, leb, ltb}
 use lib.ListN.{length, get_or, take, drop, length-append, take-append-drop}
 use lib.Seq.{take_at, drop_at}
 use Rattle.cell.specs.Cell.{Values, values_at}
-use Rattle.cell.specs.Same.{among}
 use Rattle.refusal.specs.Refusal.{Refused, refused, reason_number}
 use Rattle.refusal.specs.declared.Reason.{Reason}
 use Rattle.refusal.specs.declared.Reason.TheVariants as reason

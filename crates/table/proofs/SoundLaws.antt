@@ -13,7 +13,6 @@ use Rattle.cell.specs.Cell.{Cell, Values, values, values_at, is_var}
 use Rattle.cell.specs.Cell as cell-specs
 use Rattle.cell.proofs.CellLaws.{Reading, a-variable, no_cell, reading, cell-accepted, is_var-kind}
 use Rattle.cell.proofs.CellLaws as cell_laws
-use Rattle.term.proofs.Tests.{eqb_same}
 use Rattle.refusal.specs.Refusal.{Refused}
 use Rattle.refusal.specs.Read.{Read, read, refuse, and_then}
 use Rattle.table.specs.Table.{count, appear, up_from}

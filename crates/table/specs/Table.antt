@@ -1,18 +1,15 @@
 -- Tables and goals (01, "Tables and goals"): how they are read, in 01's order of tests ("1, 2, 3 come first; then cells are read left to
 -- right, and at each place 4, 5, 6, 7, 8 in that order; 9 last"; 8 is given no more by 02, W-209), and what they are.
-use Rattle.std.specs.Prelude.{ℕ, zero, suc, ◌+◌, ◌-◌, ◌≤◌, ◌<◌, ◌≡◌, Bool, true, false, cond, ◌&&◌, ◌||◌, eqb, leb, ltb, length, get_or, take, drop, replicate}
+use Rattle.std.specs.Prelude.{ℕ, zero, suc, ◌+◌, ◌-◌, ◌≤◌, ◌<◌, ◌≡◌, Bool, true, false, cond, ◌&&◌, ◌||◌, eqb, leb, ltb, length, get_or, take, drop, replicate, Result, Ok, Err}
 use mathlib.Core.List.{List, [], ◌∷◌, ◌++◌, flatten, Memᴰ}
 use Rattle.cell.specs.Cell.{Cell, Values, values_at, is_var}
 use Rattle.cell.specs.Same.{among}
 use Rattle.term.specs.Terms.{Terms}
-use Rattle.table.specs.declared.TableAnswer.{TableAnswer}
+use Rattle.table.specs.declared.TableSize.{TableSize}
 use Rattle.table.specs.declared.TableRead.{TableRead}
-use Rattle.table.specs.declared.GoalAnswer.{GoalAnswer}
-use Rattle.table.specs.declared.RowAnswer.{RowAnswer}
+use Rattle.table.specs.declared.GoalSize.{GoalSize}
 use Rattle.table.specs.declared.Part.{Part}
-use Rattle.table.specs.declared.TableAnswer.TheVariants as table-answer
-use Rattle.table.specs.declared.GoalAnswer.TheVariants as goal-answer
-use Rattle.table.specs.declared.RowAnswer.TheVariants as row-answer
+use Rattle.refusal.specs.declared.Refusal.{Refusal}
 use Rattle.table.specs.All.{All}
 use Rattle.refusal.specs.Refusal.{Refused, refused, told, Answer, answered, turned}
 use Rattle.refusal.specs.declared.Reason.{Reason}
@@ -125,14 +122,23 @@ abbrev pub table_says : Read Table → Answer
 table_says (read T) = answered T.width (length T.rows)
 table_says (refuse f) = turned f
 
-abbrev pub table_told : TableAnswer → Answer
-table_told (table-answer.Accepted w n) = answered w n
-table_told (table-answer.Refused f) = turned (told f)
+abbrev pub table_told : Result TableSize Refusal → Answer
+table_told (Ok t) = answered t.width t.rows
+table_told (Err f) = turned (told f)
+
+-- the same of a table that comes with where its rows start; none start in one that is turned away
+abbrev pub read_told : Result TableRead Refusal → Answer
+read_told (Ok t) = answered t.width t.rows
+read_told (Err f) = turned (told f)
+
+abbrev pub starts_told : Result TableRead Refusal → List ℕ
+starts_told (Ok t) = t.starts
+starts_told (Err f) = replicate most_rows 0
 
 -- what is answered for a table, in both parts of the code's answer
-pub record TableReads (reading : Read Table) (result : TableRead) : Type 0 where
-  pub answer : table_told result.answer ≡ table_says reading
-  pub starts : result.starts ≡ starts_in reading
+pub record TableReads (reading : Read Table) (result : Result TableRead Refusal) : Type 0 where
+  pub answer : read_told result ≡ table_says reading
+  pub starts : starts_told result ≡ starts_in reading
 
 -- 01, "A goal is read with its table": the table's refusal first, then the goal's
 abbrev pub goal_with : List ℕ → List ℕ → Read ℕ
@@ -143,9 +149,9 @@ abbrev pub goal_says : List ℕ → Read ℕ → Answer
 goal_says g (read n) = answered (length g) n
 goal_says g (refuse f) = turned f
 
-abbrev pub goal_told : GoalAnswer → Answer
-goal_told (goal-answer.Accepted n v) = answered n v
-goal_told (goal-answer.Refused f) = turned (told f)
+abbrev pub goal_told : Result GoalSize Refusal → Answer
+goal_told (Ok g) = answered g.cells g.vars
+goal_told (Err f) = turned (told f)
 
 -- the rows but the r-th; all of them where there is no such row
 unfoldable pub others : ℕ → List (List ℕ) → List (List ℕ)
@@ -154,9 +160,9 @@ others zero (x ∷ rows) = rows
 others (suc r) (x ∷ rows) = x ∷ others r rows
 
 -- what is answered for a row
-abbrev pub row_told : RowAnswer → Read ℕ
-row_told (row-answer.Accepted v) = read v
-row_told (row-answer.Refused f) = refuse (told f)
+abbrev pub row_told : Result ℕ Refusal → Read ℕ
+row_told (Ok v) = read v
+row_told (Err f) = refuse (told f)
 
 -- 01, "The row handed out by number is that part of the lent table and no copy; where the table is refused or has no such row, that part is
 -- empty"

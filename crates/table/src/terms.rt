@@ -7,69 +7,62 @@ ghost use Rattle.table.specs.Table.{bad_term, terms_from};
 ghost use Rattle.table.specs.code.Looks.{cell_from, tested_told, args_told, terms_told, MarkTold, not_whole};
 ghost use Rattle.limits.specs.Limits.{most_row_cells};
 
-use goalreader::Step;
 use limits::ROW_CELLS;
 use refusal::{Input, Reason, Refusal};
 
-// A cell that is tested: the variables met once it is read, and how many terms follow it as its arguments; or why it is turned away.
-#[derive(Drop)]
-pub enum Tested {
-    Good(usize, usize),
-    Bad(Refusal),
+// A cell that is tested: the variables met once it is read, and how many terms follow it as its arguments.
+#[derive(Clone, Copy)]
+pub struct Tested {
+    pub vars: usize,
+    pub args: usize,
 }
 
-// Terms that are read: the place after them, their number of variables and the mark of their cells; or why they are turned away.
-#[derive(Drop)]
-pub enum TermsRead {
-    Whole(usize, usize, u32),
-    Turned(Refusal),
+// Terms that are read: the place after them, their number of variables and the mark of their cells.
+#[derive(Clone, Copy)]
+pub struct TermsRead {
+    pub end: usize,
+    pub vars: usize,
+    pub mark: u32,
 }
 
 // A refusal of a row, which is part of the table, or of a goal.
 pub fn refusal(row: bool, reason: Reason, place: usize) -> Refusal
     ensures { told result ≡ bad_term row reason place }
 {
-    if row {
-        Refusal {
-            reason,
-            input: Input::Table,
-            place,
-        }
-    } else {
-        Refusal {
-            reason,
-            input: Input::Goal,
-            place,
-        }
+    let input = if row { Input::Table } else { Input::Goal };
+    Refusal {
+        reason,
+        input,
+        place,
     }
 }
 
 // One cell, with so many variables met before it: CELL, FRESH. It is told by its high half, which is 0x4000 and the number of arguments in a
 // name; most cells are names, so these come first.
 #[tactic(auto, using(crate::proofs::LooksLaws::name_read, crate::proofs::LooksLaws::name_args))]
-fn test_cell(c: u32, vars: usize, place: usize, row: bool) -> Tested
+fn test_cell(c: u32, vars: usize, place: usize, row: bool) -> Result<Tested, Refusal>
     requires { vars ≤ most_row_cells }
     ensures { (tested_told result ≡ cell_from row c vars place) × (args_told result ≡ arity c) }
 {
     let high = c >> 16;
-    if 0x4000 <= high {
-        if high <= 0x4004 {
-            return Tested::Good(vars, (high - 0x4000) as usize);
-        }
+    if 0x4000 <= high && high <= 0x4004 {
+        let args = (high - 0x4000) as usize;
+        return Ok(Tested { vars, args });
     }
     match high {
         0 => {
             let n = c as usize;
             if vars < n {
-                return Tested::Bad(refusal(row, Reason::Fresh, place));
+                return Err(refusal(row, Reason::Fresh, place));
             }
             if n == vars {
-                return Tested::Good(vars + 1, 0);
+                let vars = vars + 1;
+                return Ok(Tested { vars, args: 0 });
             }
-            Tested::Good(vars, 0)
+            Ok(Tested { vars, args: 0 })
         }
-        0x8000 => Tested::Good(vars, 0),
-        _ => Tested::Bad(refusal(row, Reason::Cell, place)),
+        0x8000 => Ok(Tested { vars, args: 0 }),
+        _ => Err(refusal(row, Reason::Cell, place)),
     }
 }
 
@@ -81,58 +74,49 @@ fn cell_in(cells: &[u32], at: usize, row: bool) -> u32
     if row {
         return cells[at];
     }
-    match goalreader::cell_at(cells, at) {
-        Step::Cell(c) => c,
-        Step::End => 0,
-    }
+    goalreader::cell_at(cells, at).unwrap_or(0)
 }
 
 // The cells are used up and the terms are not complete: LONG after a row's 32 cells, otherwise SHORT.
 fn not_whole(row: bool, used: usize, place: usize) -> Refusal
     ensures { told result ≡ not_whole row used place }
 {
-    if row {
-        if ROW_CELLS <= used {
-            return refusal(row, Reason::Long, place);
-        }
+    if row && ROW_CELLS <= used {
+        return refusal(row, Reason::Long, place);
     }
     refusal(row, Reason::Short, place)
 }
 
-// The lesser of two numbers.
-fn lesser(a: usize, b: usize) -> usize
-    ensures { result ≡ a - (a - b) }
-{
-    if a < b { a } else { b }
-}
-
-// So many terms from a place on. They end at `to` at the earliest, a place for each that is owed; no cell after the 32nd is looked at, so of
+// So many terms from a place on. Each cell pays for one term that is owed, and owes its arguments; no cell after the 32nd is looked at, so of
 // terms that are too many it does not matter how many they are.
-pub fn read_terms(cells: &[u32], from: usize, width: usize, row: bool) -> TermsRead
+pub fn read_terms(cells: &[u32], from: usize, width: usize, row: bool) -> Result<TermsRead, Refusal>
     requires { (from ≤ length cells.now) × (row ≡ false → length cells.now ≤ from + most_row_cells) }
     ensures { (terms_told result ≡ terms_from row (drop from cells.now) width 0 0 from) × MarkTold cells.now from result }
 {
-    let stop = lesser(cells.len(), from + ROW_CELLS);
-    let mut to = from + lesser(width, 33);
-    let mut at = from;
+    let stop = cells.len().min(from + ROW_CELLS);
+    let mut owed = width.min(ROW_CELLS + 1);
     let mut vars: usize = 0;
     let mut mark = 0;
-    while at < to {
-        if stop <= at {
-            return TermsRead::Turned(not_whole(row, at - from, at));
-        }
-        let c = cell_in(cells, at, row);
-        match test_cell(c, vars, at, row) {
-            Tested::Good(v, args) => {
-                vars = v;
-                to += args;
-            }
-            Tested::Bad(f) => {
-                return TermsRead::Turned(f);
-            }
-        }
-        mark = samerows::mixed(mark, c);
-        at += 1;
+    if owed == 0 {
+        return Ok(TermsRead {
+            end: from,
+            vars,
+            mark,
+        });
     }
-    TermsRead::Whole(at, vars, mark)
+    for at in from..stop {
+        let c = cell_in(cells, at, row);
+        let tested = test_cell(c, vars, at, row)?;
+        vars = tested.vars;
+        mark = samerows::mixed(mark, c);
+        owed = owed - 1 + tested.args;
+        if owed == 0 {
+            return Ok(TermsRead {
+                end: at + 1,
+                vars,
+                mark,
+            });
+        }
+    }
+    Err(not_whole(row, stop - from, stop))
 }

@@ -1,13 +1,12 @@
 -- The code's own steps, in which the cells of a row or of a goal are looked at: one cell, and cells one after another. That the cells of
 -- whole terms are read so is `terms-pass` of proofs/WholeLaws.
-use Rattle.std.specs.Prelude.{ℕ, suc, ◌≡◌, Bool, cond, ◌&&◌, List, [], ◌∷◌, leb}
+use Rattle.std.specs.Prelude.{ℕ, suc, ◌≡◌, Bool, cond, ◌&&◌, List, [], ◌∷◌, leb, Result, Ok, Err}
 use Rattle.cell.specs.Cell.{values_at}
 use Rattle.slices.specs.Slices.{between}
 use Rattle.samerows.specs.Marks.{mark_of}
 use Rattle.table.specs.declared.terms.Tested.{Tested}
-use Rattle.table.specs.declared.terms.Tested.TheVariants.{Good, Bad}
 use Rattle.table.specs.declared.terms.TermsRead.{TermsRead}
-use Rattle.table.specs.declared.terms.TermsRead.TheVariants.{Whole, Turned}
+use Rattle.refusal.specs.declared.Refusal.{Refusal}
 use Rattle.refusal.specs.Refusal.{Refused, told}
 use Rattle.refusal.specs.declared.Reason.TheVariants as reason
 use Rattle.refusal.specs.Read.{Read, read, refuse, and_then}
@@ -28,20 +27,20 @@ abbrev pub not_whole : Bool → ℕ → ℕ → Refused
 not_whole row used p = bad_term row (cond (row && leb most_row_cells used) reason.Long reason.Short) p
 
 -- what the code's answers say of one cell; one that is turned away has no arguments
-abbrev pub tested_told : Tested → Read ℕ
-tested_told (Good v a) = read v
-tested_told (Bad f) = refuse (told f)
+abbrev pub tested_told : Result Tested Refusal → Read ℕ
+tested_told (Ok t) = read t.vars
+tested_told (Err f) = refuse (told f)
 
-abbrev pub args_told : Tested → ℕ
-args_told (Good v a) = a
-args_told (Bad f) = 0
+abbrev pub args_told : Result Tested Refusal → ℕ
+args_told (Ok t) = t.args
+args_told (Err f) = 0
 
 -- and of terms
-abbrev pub terms_told : TermsRead → Read Met
-terms_told (Whole e v m) = read (met e v)
-terms_told (Turned f) = refuse (told f)
+abbrev pub terms_told : Result TermsRead Refusal → Read Met
+terms_told (Ok t) = read (met t.end t.vars)
+terms_told (Err f) = refuse (told f)
 
 -- the mark is that of the cells from a place up to the end of the terms
-abbrev pub MarkTold : List ℕ → ℕ → TermsRead → Type 0
-MarkTold cells from (Whole e v m) = m ≡ mark_of (between from e cells)
-MarkTold cells from (Turned f) = Unit {0}
+abbrev pub MarkTold : List ℕ → ℕ → Result TermsRead Refusal → Type 0
+MarkTold cells from (Ok t) = t.mark ≡ mark_of (between from t.end cells)
+MarkTold cells from (Err f) = Unit {0}

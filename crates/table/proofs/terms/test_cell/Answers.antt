@@ -1,7 +1,7 @@
 use mathlib.Core.Path.{◌≡◌, sym, ◌∙◌, ap}
 use native.Mathlib.Numerals.{add-one}
 use native.Mathlib.Omega.{arith}
-use Rattle.cell.specs.Cell.{values, no_values, values_at}
+use Rattle.cell.specs.Cell.{values, values_at}
 use Rattle.refusal.specs.Read.{read, refuse}
 use Rattle.table.proofs.LooksLaws.{high-variable, high-number, high-none, args_are}
 use Rattle.table.proofs.LooksLaws.{not-cell, a-number, fresh, new, again}
