@@ -25,8 +25,10 @@ pub struct Ready {
 pub fn make_ready(kept: &[u32], shop: Shop, numbers: &mut [u64; BRANCHES]) -> Ready {
     let table = shop::table_in(kept, shop);
     let noted = plannotes::check_noted(table, shop::plan_in(kept, shop), numbers);
-    let read = table::read_table(table);
-    let starts = read.starts;
+    let starts = match table::read_table(table) {
+        Ok(read) => read.starts,
+        Err(_) => [0; ROWS],
+    };
     Ready {
         shop,
         noted,

@@ -17,6 +17,7 @@ use Rattle.refusal.specs.Read.{read, refuse}
 use Rattle.term.specs.Terms.{Terms}
 use Rattle.table.specs.All.{All}
 use Rattle.table.specs.Table.{Table, Row, IsTable}
+use Rattle.std.specs.Prelude.{Result}
 use Rattle.table.specs.declared.TableRead.{TableRead}
 use Rattle.table.proofs.Accepted.{is-table}
 use Rattle.table.proofs.AllLaws.{all-each}
@@ -59,7 +60,7 @@ module _ (by : By) (t : List ℕ) {T : Table} (here : table_by by t ≡ read T) 
   rows-terms : All (Terms T.width) T.rows
   rows-terms = all-each (Row T.width) (Terms T.width) (λ r x. x.terms) T.rows table_is.each
 
-module _ {by : By} {columns t : List ℕ} {r : TableRead} {named : Named} {kept : List ℕ} (x : Right by columns t r named kept)
+module _ {by : By} {columns t : List ℕ} {r : Result TableRead Refusal} {named : Named} {kept : List ℕ} (x : Right by columns t r named kept)
     {T : Table} (here : table_by by t ≡ read T) where
   -- COLUMN, by the width that was read
   pub no-column : (room : List ℕ) → T.width < named.past
@@ -122,7 +123,7 @@ pub flags-few : (columns : List ℕ) {named : Named} → named.mask ≡ mask_fro
     → (width : ℕ) → named.past ≤ width → named.mask < 2 ^ width
 flags-few columns m p width h = rw m (mask-few width columns (omega (arith, p)))
 
-pub filled-right : (by : By) (columns t : List ℕ) {named : Named} {old new : List ℕ} {r : TableRead} → named.mask ≡ mask_from 0 columns
+pub filled-right : (by : By) (columns t : List ℕ) {named : Named} {old new : List ℕ} {r : Result TableRead Refusal} → named.mask ≡ mask_from 0 columns
     → named.past ≡ past_from 0 columns → Fills by named.mask t 64 0 old new r → length old ≡ kept_cells → Right by columns t r named new
 filled-right by columns t m p f h = record {
   reads = f.reads;

@@ -11,6 +11,8 @@ use lib.ListN.{length, take, drop, length-drop}
 use lib.Seq.{take-length}
 use Rattle.refusal.specs.Read.{Read, read}
 use Rattle.table.specs.Table.{Table, table_of, TableReads}
+use Rattle.std.specs.Prelude.{Result}
+use Rattle.refusal.specs.declared.Refusal.{Refusal}
 use Rattle.table.specs.declared.TableRead.{TableRead}
 use Rattle.table.proofs.ReadLaws.{read_one}
 use Rattle.table.proofs.Accepted.{is-table}
@@ -62,7 +64,7 @@ module _ {rec : List ℕ} {figure : ℕ} {T : Table} (x : Holds rec figure T) wh
       }
 
   -- what reading its table answers is what is asked by its figure, so what is built from it is what is built for the table
-  module _ {t : List ℕ} (e : t ≡ table_in rec) {r : TableRead} (a : TableReads (table_of t) r) where
+  module _ {t : List ℕ} (e : t ≡ table_in rec) {r : Result TableRead Refusal} (a : TableReads (table_of t) r) where
     low : table_by (Work figure) t ≡ table_of t
     low = by-table (Work figure) t x.low
 

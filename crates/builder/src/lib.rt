@@ -13,7 +13,7 @@ use least::By;
 use limits::{KEPT_CELLS, PLAN_CELLS, RECORD_CELLS, ROWS};
 use refusal::{Input, Reason, Refusal};
 use state::flags::{Named, named_of};
-use table::{TableAnswer, TableRead};
+use table::TableRead;
 use writer::Extent;
 
 // How many cells the plan has that is built, and what it costs.
@@ -49,7 +49,7 @@ fn put(from: &[u32; PLAN_CELLS], plan: Extent, room: &mut [u32]) -> Result<Built
 // first, since its size is known only then. COLUMN is seen here, by the width that was read.
 fn build(
     cells: &[u32],
-    read: TableRead,
+    read: Result<TableRead, Refusal>,
     named: Named,
     kept: &[u32],
     room: &mut [u32],
@@ -58,30 +58,28 @@ fn build(
     ensures { (by : By) (columns : List ℕ) → Right by columns cells.now read named kept.now
         → BuiltInto by columns cells.now room.old room.new result }
 {
-    let answer = read.answer;
-    match answer {
-        TableAnswer::Accepted(width, count) => {
-            if width < named.past {
+    match read {
+        Ok(read) => {
+            if read.width < named.past {
                 return Err(Refusal {
                     reason: Reason::Column,
                     input: Input::Columns,
                     place: 0,
                 });
             }
-            let starts = read.starts;
             let mut written = [0; PLAN_CELLS];
             let plan = writer::write_plan(
                 cells,
-                &starts,
+                &read.starts,
                 kept,
                 &mut written,
                 named.mask,
-                width,
-                count,
+                read.width,
+                read.rows,
             );
             put(&written, plan, room)
         }
-        TableAnswer::Refused(f) => Err(f),
+        Err(f) => Err(f),
     }
 }
 

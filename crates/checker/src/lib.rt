@@ -15,7 +15,6 @@ ghost use Rattle.state.specs.code.First.{TableRows};
 use limits::{PLAN_CELLS, ROWS};
 use refusal::{Input, Reason, Refusal};
 use state::flags::{Named, named_of};
-use table::TableAnswer;
 
 // The refusal of a list of columns.
 fn no_column() -> Refusal
@@ -71,15 +70,9 @@ fn check_rows(
 pub fn check_for(table: &[u32], columns: &[u32], plan: &[u32]) -> Result<usize, Refusal>
     ensures { plan_told result ≡ plan_says (plan_under table.now columns.now plan.now) }
 {
-    let read = table::read_table(table);
-    let answer = read.answer;
-    match answer {
-        TableAnswer::Accepted(width, rows) => {
-            let named = named_of(columns);
-            check_rows(table, &read.starts, width, rows, named, plan)
-        }
-        TableAnswer::Refused(f) => Err(f),
-    }
+    let read = table::read_table(table)?;
+    let named = named_of(columns);
+    check_rows(table, &read.starts, read.width, read.rows, named, plan)
 }
 
 // The check of any plan: no column is named.

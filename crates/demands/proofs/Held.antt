@@ -11,8 +11,7 @@ use Rattle.refusal.specs.Refusal.{Answer}
 use Rattle.refusal.specs.Coded.{coded, Small}
 use Rattle.refusal.proofs.CodedLaws.{coded-one}
 use Rattle.table.specs.declared.TableRead.{TableRead}
-use Rattle.table.specs.declared.GoalAnswer.{GoalAnswer}
-use Rattle.table.specs.declared.RowAnswer.{RowAnswer}
+use Rattle.table.specs.declared.GoalSize.{GoalSize}
 use Rattle.table.specs.declared.Part.{Part}
 use Rattle.table.specs.Table.{Table, table_of, goal_of, goal_with, goal_told, goal_says, row_of, row_told}
 use Rattle.table.specs.Table.{TableReads, row_in, RowPlace}
@@ -68,7 +67,7 @@ use Rattle.salvaging.proofs.Fixed.{salvage-fixed}
 -- "For all inputs, refused ones too, the promise of a public function determines the result and the final contents of the lent room; the
 -- team proves that two results allowed by it are equal". The small functions of cell, term, goal and state have theirs in proofs/Fixed of
 -- those crates; an exported entry without room promises an equation.
-pub held-table : (t : List ℕ) {r s : TableRead} → TableReads (table_of t) r → TableReads (table_of t) s → r ≡ s
+pub held-table : (t : List ℕ) {r s : Result TableRead Refusal} → TableReads (table_of t) r → TableReads (table_of t) s → r ≡ s
 held-table = table-fixed
 
 pub held-row-place : (t : List ℕ) (j : ℕ) {r s : Part} → RowPlace (table_of t) j r → RowPlace (table_of t) j s → r ≡ s
@@ -77,14 +76,14 @@ held-row-place = place-fixed
 pub held-row : (t : List ℕ) (j : ℕ) {r s : List ℕ} → r ≡ row_in (table_of t) j → s ≡ row_in (table_of t) j → r ≡ s
 held-row = row-fixed
 
-pub held-goal : (t g : List ℕ) {r s : GoalAnswer} → goal_told r ≡ goal_says g (goal_with t g) → goal_told s ≡ goal_says g (goal_with t g) → r ≡ s
+pub held-goal : (t g : List ℕ) {r s : Result GoalSize Refusal} → goal_told r ≡ goal_says g (goal_with t g) → goal_told s ≡ goal_says g (goal_with t g) → r ≡ s
 held-goal = goal-fixed
 
-pub held-goal-for : (w : ℕ) (g : List ℕ) {r s : GoalAnswer} → goal_told r ≡ goal_says g (goal_of w g) → goal_told s ≡ goal_says g (goal_of w g)
+pub held-goal-for : (w : ℕ) (g : List ℕ) {r s : Result GoalSize Refusal} → goal_told r ≡ goal_says g (goal_of w g) → goal_told s ≡ goal_says g (goal_of w g)
     → r ≡ s
 held-goal-for = goal-for-fixed
 
-pub held-row-beside : (w : ℕ) (others : List (List ℕ)) (row : List ℕ) {r s : RowAnswer} → row_told r ≡ row_of w others row
+pub held-row-beside : (w : ℕ) (others : List (List ℕ)) (row : List ℕ) {r s : Result ℕ Refusal} → row_told r ≡ row_of w others row
     → row_told s ≡ row_of w others row → r ≡ s
 held-row-beside = row-beside-fixed
 

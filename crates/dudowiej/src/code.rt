@@ -26,7 +26,7 @@ use instance::ReplyCounts;
 use prolog::TextSize;
 use refusal::Refusal;
 use salvaging::{Report, Salvage};
-use table::{GoalAnswer, TableAnswer};
+use table::{GoalSize, TableSize};
 
 pub fn code_answer(first: usize, second: usize) -> u64
     requires { Small (answered first second) }
@@ -71,12 +71,12 @@ fn cut_answer(first: usize, second: usize) -> u64
 }
 
 // What is answered for a record that no entry made is not known, so what does not fit its bits is cut off.
-pub fn code_edit(a: TableAnswer) -> u64
+pub fn code_edit(a: Result<TableSize, Refusal>) -> u64
     ensures { Small (table_told a) → result ≡ coded (table_told a) }
 {
     match a {
-        TableAnswer::Accepted(width, rows) => cut_answer(width, rows),
-        TableAnswer::Refused(f) => cut_refusal(f),
+        Ok(size) => cut_answer(size.width, size.rows),
+        Err(f) => cut_refusal(f),
     }
 }
 
@@ -90,23 +90,23 @@ pub fn code_built(a: Result<BuiltPlan, Refusal>) -> u64
 }
 
 // What each kind of answer is coded as.
-pub fn code_table(a: TableAnswer) -> u64
+pub fn code_table(a: Result<TableSize, Refusal>) -> u64
     requires { Small (table_told a) }
     ensures { result ≡ coded (table_told a) }
 {
     match a {
-        TableAnswer::Accepted(width, rows) => code_answer(width, rows),
-        TableAnswer::Refused(f) => code_refusal(f),
+        Ok(size) => code_answer(size.width, size.rows),
+        Err(f) => code_refusal(f),
     }
 }
 
-pub fn code_goal(a: GoalAnswer) -> u64
+pub fn code_goal(a: Result<GoalSize, Refusal>) -> u64
     requires { Small (goal_told a) }
     ensures { result ≡ coded (goal_told a) }
 {
     match a {
-        GoalAnswer::Accepted(cells, vars) => code_answer(cells, vars),
-        GoalAnswer::Refused(f) => code_refusal(f),
+        Ok(size) => code_answer(size.cells, size.vars),
+        Err(f) => code_refusal(f),
     }
 }
 

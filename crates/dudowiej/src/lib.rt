@@ -21,14 +21,20 @@ use instance::ReplyJob;
 use least::By;
 use limits::RECORD_CELLS;
 use shift::Job;
+use table::TableSize;
 
 // A table's width and number of rows.
 pub fn dudowiej_read_table(cells: &[u32]) -> u64
     ensures { result ≡ coded (table_says (table_of cells.now)) }
 {
-    let read = table::read_table(cells);
-    let answer = read.answer;
-    code::code_table(answer)
+    let size = match table::read_table(cells) {
+        Ok(read) => Ok(TableSize {
+            width: read.width,
+            rows: read.rows,
+        }),
+        Err(f) => Err(f),
+    };
+    code::code_table(size)
 }
 
 // A record worked out for a table and a figure: the table's width and number of rows.

@@ -9,8 +9,9 @@ use lib.Seq.{sets, take_at}
 use Rattle.refusal.specs.declared.Refusal.{Refusal}
 use Rattle.refusal.specs.Read.{read}
 use Rattle.table.specs.declared.TableRead.{TableRead}
-use Rattle.table.specs.declared.TableAnswer.TheVariants as table-answer
-use Rattle.table.specs.Table.{Table, table_says, table_told}
+use Rattle.std.specs.Prelude.{Result, Ok, Err}
+use Rattle.refusal.specs.Refusal.{answered}
+use Rattle.table.specs.Table.{Table, table_says, read_told}
 use Rattle.table.proofs.Accepted.{is-table, table-short}
 use Rattle.table.proofs.ReadLaws.{apart}
 use Rattle.state.specs.Flags.{flags_in}
@@ -60,14 +61,14 @@ module _ {rec : List ℕ} {figure : ℕ} {T : Table} (x : Holds rec figure T)
   no-pair (inl h) = inl h
   no-pair (inr h) = inr (omega (arith, with-length T.rows r row y.there))
 
-  module _ {kept : List ℕ} {s : TableRead}
+  module _ {kept : List ℕ} {s : Result TableRead Refusal}
       (given : Fills (Work (get_or rec 1 0)) 0 (take size next) (r + 1) r (take (length rec - 2052) (drop 2052 rec)) kept s) where
     fills : Fills (Work figure) 0 cells (r + 1) r (drop 2052 rec) kept s
     fills =
         let e : take size next ≡ cells = ap (take size) y.is ∙ take_at cells (replicate (most_table_cells - length cells) 0) size (sym y.many) in
         rw (x.figure-is, e, lent-all rec) at given
 
-    pub again-read : {f : Refusal} {X : Type 0} → s.answer ≡ table-answer.Refused f → X
+    pub again-read : {f : Refusal} {X : Type 0} → s ≡ Err f → X
     again-read e = apart (sym here ∙ turned_by (Work figure) cells fills.reads e)
 
     again_kept : Kept (work figure) T.width new.rows kept
@@ -76,10 +77,10 @@ module _ {rec : List ℕ} {figure : ℕ} {T : Table} (x : Holds rec figure T)
         (free-kept [] (flags_in T.width 0) (plain-free T.width) (zero-free T.width) right)))
         (λ first last h l o. kept-zero x.kept first last h l (no-pair o))
 
-    pub again-held : {copied done : List ℕ}
+    pub again-held : {a : TableRead} → s ≡ Ok a → {copied done : List ℕ}
         → copied ≡ sets (take 2052 rec ++ (kept ++ drop (length rec - 2052) (drop 2052 rec))) 2 next → done ≡ set copied 0 size
-        → Holds done figure new × (table_told s.answer ≡ table_says (read new))
-    again-held {copied} c d =
+        → Holds done figure new × (answered a.width a.rows ≡ table_says (read new))
+    again-held a {copied} c d =
         let n : ℕ = length (cells_in T) in
         let old : List ℕ = in_room (cells_in T) in
         let long : length old ≡ most_table_cells = length-room (cells_in T) (few-cells x) in
@@ -90,5 +91,5 @@ module _ {rec : List ℕ} {figure : ℕ} {T : Table} (x : Holds rec figure T)
         c ∙ rw (lent, y.is) (room-put n figure old kept long (in_room cells) (length-room cells (table-short cells y.accepted))) in (
           parts-hold y.accepted x.low again_kept (fills.size ∙ kept-long x)
               (d ∙ ap (λ (w : List ℕ). set w 0 size) is ∙ rw y.many),
-          fills.reads.answer ∙ ap table_says here,
+          sym (ap read_told a) ∙ fills.reads.answer ∙ ap table_says here,
         )

@@ -8,8 +8,7 @@ use Rattle.refusal.specs.Refusal.{Answer, told, turned}
 use Rattle.refusal.specs.declared.Refusal.{Refusal}
 use Rattle.refusal.specs.Read.{Read, read, refuse}
 use Rattle.samerows.specs.Starts.{rows_lent}
-use Rattle.table.specs.declared.RowAnswer.{RowAnswer}
-use Rattle.table.specs.declared.RowAnswer.TheVariants as row-answer
+use Rattle.std.specs.Prelude.{Result, Ok, Err}
 use Rattle.table.specs.Table.{Table, table_of, starts_in, others, row_of, row_told, table_says, Row, Apart}
 use Rattle.table.proofs.BesideLaws.{starts-enough, beside}
 use Rattle.table.proofs.Accepted.{row-accepted, table-short}
@@ -35,7 +34,7 @@ module _ {rec starts : List ℕ} {at : Place} (g : Placed rec starts at) where
   abbrev row_read : List ℕ → Read ℕ
   row_read row = row_of T.width (others at.number T.rows) row
 
-  module _ {cells : List ℕ} (c : cells ≡ table_in rec) (row : List ℕ) (a : RowAnswer)
+  module _ {cells : List ℕ} (c : cells ≡ table_in rec) (row : List ℕ) (a : Result ℕ Refusal)
       (row-said : row_told a ≡ row_of at.width (rows_lent cells (take at.count starts) at.number) row) where
     -- what the row answers is what putting it answers
     row-there : row_told a ≡ row_read row
@@ -47,13 +46,13 @@ module _ {rec starts : List ℕ} {at : Place} (g : Placed rec starts at) where
         ∙ beside (table_in rec) k.here s (sym k.rows) at.width at.number row
         ∙ ap (λ (w : ℕ). row_of w (others at.number T.rows) row) k.width
 
-    pub row-turned : {f : Refusal} → a ≡ row-answer.Refused f → {figure : ℕ} {e : Edit} → edit_of e T ≡ put_row T at.number row
+    pub row-turned : {f : Refusal} → a ≡ Err f → {figure : ℕ} {e : Edit} → edit_of e T ≡ put_row T at.number row
         → Edited e figure T rec rec (turned (told f))
     row-turned {f} q m =
         let t : row_read row ≡ refuse (told f) = sym row-there ∙ ap row_told q in
         no-edit (told f) (m ∙ rw t) refl refl
 
-    module _ {v : ℕ} (q : a ≡ row-answer.Accepted v) where
+    module _ {v : ℕ} (q : a ≡ Ok v) where
       pub row_put : {figure : ℕ} {e : Edit} {new : List ℕ} {answer : Answer} → edit_of e T ≡ put_row T at.number row
           → Holds new figure (table_with T at.number row) × (answer ≡ table_says (read (table_with T at.number row)))
           → Edited e figure T rec new answer

@@ -7,7 +7,7 @@ use lib.ListN.{length, get_or, take}
 use Rattle.refusal.specs.declared.Refusal.{Refusal}
 use Rattle.refusal.specs.Read.{read}
 use Rattle.table.specs.declared.TableRead.{TableRead}
-use Rattle.table.specs.declared.TableAnswer.TheVariants as table-answer
+use Rattle.std.specs.Prelude.{Result, Ok, Err}
 use Rattle.table.specs.Table.{Table, table_of, TableReads}
 use Rattle.table.proofs.Accepted.{is-table, table-short}
 use Rattle.table.proofs.ReadLaws.{apart, read_one}
@@ -23,8 +23,8 @@ use Rattle.limits.specs.Limits.{most_table_cells}
 held-read : {rec t : List ℕ} {figure : ℕ} {T : Table} → t ≡ table_in rec → Holds rec figure T → table_of t ≡ read T
 held-read e x = rw (e, table-in x) x.accepted
 
-pub no_table : {rec t : List ℕ} {a : TableRead} → t ≡ table_in rec → TableReads (table_of t) a
-    → {f : Refusal} → a.answer ≡ table-answer.Refused f → {figure : ℕ} {T : Table} → Holds rec figure T → {X : Type 0} → X
+pub no_table : {rec t : List ℕ} {a : Result TableRead Refusal} → t ≡ table_in rec → TableReads (table_of t) a
+    → {f : Refusal} → a ≡ Err f → {figure : ℕ} {T : Table} → Holds rec figure T → {X : Type 0} → X
 no_table {t = t} e reads q {T = T} x {X} = apart {x = T} (sym (held-read e x) ∙ table-turned t reads q)
 
 module _ {t ss : List ℕ} {w n : ℕ} (k : TableRows t ss w n) where

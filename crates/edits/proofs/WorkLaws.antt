@@ -1,17 +1,17 @@
 -- A record is worked out anew, as the code does it.
-use mathlib.Core.Path.{◌≡◌, refl, ap, ◌∙◌}
+use mathlib.Core.Path.{◌≡◌, refl, sym, ap, ◌∙◌}
 use mathlib.Core.List.{List, [], ◌∷◌, ◌++◌}
 use Prim.Native.Nat.{ℕ, ◌+◌, ◌-◌, ◌*◌, ◌≤◌, ◌<◌}
 use native.Mathlib.Omega.{arith}
 use lib.ListN.{length, get_or, set, take, drop, replicate, length-replicate}
 use lib.Seq.{sets}
-use Rattle.refusal.specs.Refusal.{told}
+use Rattle.refusal.specs.Refusal.{told, answered, turned}
 use Rattle.refusal.specs.declared.Refusal.{Refusal}
 use Rattle.refusal.specs.Read.{read}
 use Rattle.term.proofs.Lists.{get_d-zeros}
 use Rattle.table.specs.declared.TableRead.{TableRead}
-use Rattle.table.specs.declared.TableAnswer.TheVariants as table-answer
-use Rattle.table.specs.Table.{Table, table_says, table_told, TableReads}
+use Rattle.std.specs.Prelude.{Result, Ok, Err}
+use Rattle.table.specs.Table.{Table, table_says, read_told, TableReads}
 use Rattle.table.proofs.Accepted.{is-table, table-short}
 use Rattle.state.specs.Flags.{flags_in}
 use Rattle.state.specs.code.First.{TableRows}
@@ -50,12 +50,12 @@ zeros-at n first last = record {
   place = get_d-zeros n (8192 + (64 * first + last));
 }
 
-module _ (figure : ℕ) (t rec : List ℕ) {r : TableRead} (reads : TableReads (table_by (Work figure) t) r) where
-  pub none-worked : {f : Refusal} → r.answer ≡ table-answer.Refused f → WorkedOut figure t rec rec (table_told r.answer)
-  none-worked {f} e = no_record (told f) (turned_by (Work figure) t reads e) (ap table_told e) refl
+module _ (figure : ℕ) (t rec : List ℕ) {r : Result TableRead Refusal} (reads : TableReads (table_by (Work figure) t) r) where
+  pub none-worked : {f : Refusal} → r ≡ Err f → WorkedOut figure t rec rec (turned (told f))
+  none-worked {f} e = no_record (told f) (turned_by (Work figure) t reads e) refl refl
 
-  module _ {w n : ℕ} (e : r.answer ≡ table-answer.Accepted w n) where
-    abbrev k : TableRows t r.starts w n
+  module _ {x : TableRead} (e : r ≡ Ok x) where
+    abbrev k : TableRows t x.starts x.width x.rows
     k = rows-by (Work figure) t reads e
 
     abbrev T : Table
@@ -74,7 +74,7 @@ module _ (figure : ℕ) (t rec : List ℕ) {r : TableRead} (reads : TableReads (
     cells_are = (is-table t k.here).cells
 
     -- the parts that are stored one after another
-    module _ {cleared copied new headed : List ℕ} {s : TableRead} (size : length rec ≡ record_cells)
+    module _ {cleared copied new headed : List ℕ} {s : Result TableRead Refusal} (size : length rec ≡ record_cells)
         (c : cleared ≡ sets rec 2 (replicate (record_cells - 2) 0)) (d : copied ≡ sets cleared 2 t)
         (f : Fills (Work figure) 0 t 64 0 (take (length copied - 2052) (drop 2052 copied)) new s)
         (h : headed ≡ set (take 2052 copied ++ (new ++ drop (length copied - 2052) (drop 2052 copied))) 0 (length t)) where
@@ -87,7 +87,7 @@ module _ (figure : ℕ) (t rec : List ℕ) {r : TableRead} (reads : TableReads (
       fills : Fills (Work figure) 0 t 64 0 zeros new s
       fills = rw (parts, kept-lent (get_or rec 0 0) (get_or rec 1 0) (in_room t) zeros (length-room t small)) at f
 
-      pub worked-anew : WorkedOut figure t rec (set headed 1 figure) (table_told r.answer)
+      pub worked-anew : WorkedOut figure t rec (set headed 1 figure) (answered x.width x.rows)
       worked-anew =
           let long : length zeros ≡ kept_cells = length-replicate {A = ℕ} kept_cells 0 in
           let filled = plain-filled ((fills.accepted T here long).filled (all_asked (Work figure) (flags_in T.width 0) t here (omega arith))) in
@@ -95,5 +95,5 @@ module _ (figure : ℕ) (t rec : List ℕ) {r : TableRead} (reads : TableReads (
           let is : set headed 1 figure ≡ length t ∷ figure ∷ (in_room t ++ new) =
           ap (λ (x : List ℕ). set x 1 figure) (rw parts at h
           ∙ ap (λ (x : List ℕ). set x 0 (length t)) (kept_put (get_or rec 0 0) (get_or rec 1 0) (in_room t) zeros (length-room t small) new)) in
-          worked T here (reads.answer ∙ ap table_says here)
+          worked T here (sym (ap read_told e) ∙ reads.answer ∙ ap table_says here)
           (parts-hold (rw (← cells_are) k.here) low kept (fills.size ∙ long) (rw cells_are at is))

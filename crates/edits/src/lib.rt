@@ -7,7 +7,7 @@ mod rows;
 mod store;
 
 ghost use Rattle.std.specs.Prelude.{◌≡◌, List, ℕ, ◌≤◌, ◌<◌, length};
-ghost use Rattle.refusal.specs.Refusal.{refused, turned};
+ghost use Rattle.refusal.specs.Refusal.{told, refused};
 ghost use Rattle.refusal.specs.declared.Input.TheVariants as input;
 ghost use Rattle.refusal.specs.Read.{read};
 ghost use Rattle.table.specs.Table.{Table, table_says, table_told};
@@ -22,7 +22,7 @@ use least::By;
 use limits::{RECORD_CELLS, ROWS, TABLE_CELLS};
 use refusal::{Input, Reason, Refusal};
 use rows::Place;
-use table::{RowAnswer, TableAnswer};
+use table::TableSize;
 
 // What is kept for the pairs that end at a row becomes 0.
 fn clear_pairs(kept: &mut [u32], last: usize)
@@ -38,14 +38,14 @@ fn clear_pairs(kept: &mut [u32], last: usize)
 }
 
 // Why an edit is turned away before a row is looked at.
-fn turned_away(reason: Reason) -> TableAnswer
-    ensures { table_told result ≡ turned (refused reason input.Table 0) }
+fn turned_away(reason: Reason) -> Refusal
+    ensures { told result ≡ refused reason input.Table 0 }
 {
-    TableAnswer::Refused(Refusal {
+    Refusal {
         reason,
         input: Input::Table,
         place: 0,
-    })
+    }
 }
 
 // A record comes to hold the table whose cells are the first in `next`, of which row r alone is new. Only the pairs with that
@@ -55,7 +55,7 @@ fn work_again(
     next: &[u32; TABLE_CELLS],
     size: usize,
     r: usize,
-) -> TableAnswer
+) -> Result<TableSize, Refusal>
     requires { (size ≤ most_table_cells) × (r < most_rows) }
     ensures { (figure : ℕ) (T : Table) (row : List ℕ) → Holds rec.old figure T → Ready T r row next.now size
         → Holds rec.new figure (table_with T r row) × (table_told result ≡ table_says (read (table_with T r row))) }
@@ -70,13 +70,13 @@ fn work_again(
         &mut all[2052..],
         r + 1,
         r,
-    );
-    let answer = read.answer;
-    if let TableAnswer::Accepted(_, _) = answer {
-        store::copy(&mut *all, 2, room);
-        store::put(&mut *all, 0, size);
-    }
-    answer
+    )?;
+    store::copy(&mut *all, 2, room);
+    store::put(&mut *all, 0, size);
+    Ok(TableSize {
+        width: read.width,
+        rows: read.rows,
+    })
 }
 
 // A row is put at its place: LONG to FRESH, SAME, EXTRA for the row beside the others, and then the record of the table with
@@ -86,7 +86,7 @@ fn put_row(
     row: &[u32],
     starts: &[usize; ROWS],
     at: Place,
-) -> TableAnswer
+) -> Result<TableSize, Refusal>
     requires { Placed rec.old starts.now at }
     ensures { (g : Placed rec.old starts.now at) (figure : ℕ) (e : Edit)
         → Holds rec.old figure g.rows.table
@@ -96,105 +96,88 @@ fn put_row(
     let cells = record::table_of(&*rec);
     let noted = &starts[..];
     let count = at.count;
-    match table::row_beside(at.width, cells, &noted[..count], at.number, row) {
-        RowAnswer::Accepted(_) => {
-            let mut next = [0; TABLE_CELLS];
-            let size = rows::join(cells, row, starts, at, &mut next[..]);
-            work_again(rec, &next, size, at.number)
-        }
-        RowAnswer::Refused(f) => TableAnswer::Refused(f),
-    }
+    table::row_beside(at.width, cells, &noted[..count], at.number, row)?;
+    let mut next = [0; TABLE_CELLS];
+    let size = rows::join(cells, row, starts, at, &mut next[..]);
+    work_again(rec, &next, size, at.number)
 }
 
 // Works a record out for a table and a figure: any cells, any figure. Whatever it held is cleared, so that there is 0 behind
 // the cells and where there is no pair.
-pub fn work_out(cells: &[u32], figure: u32, rec: &mut [u32; RECORD_CELLS]) -> TableAnswer
+pub fn work_out(
+    cells: &[u32],
+    figure: u32,
+    rec: &mut [u32; RECORD_CELLS],
+) -> Result<TableSize, Refusal>
     ensures { WorkedOut figure cells.now rec.old rec.new (table_told result) }
 {
-    let answer = measuring::read_by(By::Work(figure), cells).answer;
-    if let TableAnswer::Accepted(_, _) = answer {
-        let all = &mut rec[..];
-        store::clear(&mut *all, 2, RECORD_CELLS);
-        store::copy(&mut *all, 2, cells);
-        paircosts::fill(By::Work(figure), 0, cells, &mut all[2052..], ROWS, 0);
-        store::put(&mut *all, 0, cells.len());
-        all[1] = figure;
-    }
-    answer
+    let read = measuring::read_by(By::Work(figure), cells)?;
+    let all = &mut rec[..];
+    store::clear(&mut *all, 2, RECORD_CELLS);
+    store::copy(&mut *all, 2, cells);
+    let _ = paircosts::fill(By::Work(figure), 0, cells, &mut all[2052..], ROWS, 0);
+    store::put(&mut *all, 0, cells.len());
+    all[1] = figure;
+    Ok(TableSize {
+        width: read.width,
+        rows: read.rows,
+    })
 }
 
 // Drops the last row, unless it is the only one: its cells and what is kept for the pairs that end there become 0.
-pub fn drop_last(rec: &mut [u32; RECORD_CELLS]) -> TableAnswer
+pub fn drop_last(rec: &mut [u32; RECORD_CELLS]) -> Result<TableSize, Refusal>
     ensures { (figure : ℕ) (T : Table) → Holds rec.old figure T
         → Edited drop-last figure T rec.old rec.new (table_told result) }
 {
     let cells = record::table_of(&*rec);
     let size = cells.len();
-    let read = table::read_table(cells);
-    let answer = read.answer;
-    let starts = read.starts;
-    match answer {
-        TableAnswer::Accepted(width, count) => {
-            if count <= 1 {
-                return turned_away(Reason::Last);
-            }
-            let last = count - 1;
-            let start = starts[last];
-            let all = &mut rec[..];
-            store::clear(&mut *all, 2 + start, 2 + size);
-            clear_pairs(&mut all[2052..], last);
-            store::put(&mut *all, 0, start);
-            store::put(&mut *all, 3, last);
-            TableAnswer::Accepted(width, last)
-        }
-        TableAnswer::Refused(f) => TableAnswer::Refused(f),
+    let read = table::read_table(cells)?;
+    if read.rows <= 1 {
+        return Err(turned_away(Reason::Last));
     }
+    let last = read.rows - 1;
+    let start = read.starts[last];
+    let all = &mut rec[..];
+    store::clear(&mut *all, 2 + start, 2 + size);
+    clear_pairs(&mut all[2052..], last);
+    store::put(&mut *all, 0, start);
+    store::put(&mut *all, 3, last);
+    Ok(TableSize {
+        width: read.width,
+        rows: last,
+    })
 }
 
 // Appends a row, any cells, to fewer than 64.
-pub fn append(rec: &mut [u32; RECORD_CELLS], row: &[u32]) -> TableAnswer
+pub fn append(rec: &mut [u32; RECORD_CELLS], row: &[u32]) -> Result<TableSize, Refusal>
     ensures { (figure : ℕ) (T : Table) → Holds rec.old figure T
         → Edited (append row.now) figure T rec.old rec.new (table_told result) }
 {
-    let read = table::read_table(record::table_of(&*rec));
-    let answer = read.answer;
-    match answer {
-        TableAnswer::Accepted(width, count) => {
-            if ROWS <= count {
-                return turned_away(Reason::Full);
-            }
-            let starts = read.starts;
-            let at = Place {
-                width,
-                count,
-                number: count,
-            };
-            put_row(rec, row, &starts, at)
-        }
-        TableAnswer::Refused(f) => TableAnswer::Refused(f),
+    let read = table::read_table(record::table_of(&*rec))?;
+    if ROWS <= read.rows {
+        return Err(turned_away(Reason::Full));
     }
+    let at = Place {
+        width: read.width,
+        count: read.rows,
+        number: read.rows,
+    };
+    put_row(rec, row, &read.starts, at)
 }
 
 // Replaces row r, any number, by a row, any cells.
-pub fn replace(rec: &mut [u32; RECORD_CELLS], r: usize, row: &[u32]) -> TableAnswer
+pub fn replace(rec: &mut [u32; RECORD_CELLS], r: usize, row: &[u32]) -> Result<TableSize, Refusal>
     ensures { (figure : ℕ) (T : Table) → Holds rec.old figure T
         → Edited (replace r row.now) figure T rec.old rec.new (table_told result) }
 {
-    let read = table::read_table(record::table_of(&*rec));
-    let answer = read.answer;
-    match answer {
-        TableAnswer::Accepted(width, count) => {
-            if count <= r {
-                return turned_away(Reason::Index);
-            }
-            let starts = read.starts;
-            let at = Place {
-                width,
-                count,
-                number: r,
-            };
-            put_row(rec, row, &starts, at)
-        }
-        TableAnswer::Refused(f) => TableAnswer::Refused(f),
+    let read = table::read_table(record::table_of(&*rec))?;
+    if read.rows <= r {
+        return Err(turned_away(Reason::Index));
     }
+    let at = Place {
+        width: read.width,
+        count: read.rows,
+        number: r,
+    };
+    put_row(rec, row, &read.starts, at)
 }

@@ -15,8 +15,7 @@ use Rattle.refusal.specs.declared.Refusal.{Refusal}
 use Rattle.refusal.specs.declared.Reason.TheVariants as reason
 use Rattle.refusal.specs.declared.Input.TheVariants as input
 use Rattle.table.specs.Table.{goal_of, goal_says, goal_told}
-use Rattle.table.specs.declared.GoalAnswer.{GoalAnswer}
-use Rattle.table.specs.declared.GoalAnswer.TheVariants as goal-answer
+use Rattle.table.specs.declared.GoalSize.{GoalSize}
 use Rattle.table.proofs.Accepted.{is-goal}
 use Rattle.grammar.specs.Grammar.{Symbol, Fact, Text}
 use Rattle.grammar.specs.Meaning.{Place, entry_of, width_of, symbols_of, names_of, table_cells, name_list, none, found, other_in, other_than}
@@ -273,15 +272,15 @@ module _ (text names : List ℕ) (p : Predicate) (t whole : List ℕ) (few : len
         one-long o.0 h o.1.1 (same-ours o.0 C q (whole-text o.1.1) S) (omega (arith, C.symbols, n)) e
 
 -- 01'S ANSWER OF A GOAL
-module _ (width : ℕ) (row : List ℕ) {r : GoalAnswer} (e : goal_told r ≡ goal_says row (goal_of width row)) where
-  pub accepted-read : {n v : ℕ} → r ≡ goal-answer.Accepted n v → (u : ℕ) × (goal_of width row ≡ read u)
-  accepted-read {n} {v} q = by (goal_of width row) refl e
+module _ (width : ℕ) (row : List ℕ) {r : Result GoalSize Refusal} (e : goal_told r ≡ goal_says row (goal_of width row)) where
+  pub accepted-read : {s : GoalSize} → r ≡ Ok s → (u : ℕ) × (goal_of width row ≡ read u)
+  accepted-read {s} q = by (goal_of width row) refl e
     where
       by : (o : Read ℕ) → goal_of width row ≡ o → goal_told r ≡ goal_says row o → (u : ℕ) × (goal_of width row ≡ read u)
       by (read u) i j = (u, i)
-      by (refuse f) i j = absurd (let z : answered n v ≡ turned f = sym (ap goal_told q) ∙ j in let y : ◌≡◌ {A = ℕ} 0 1 = cc in omega arith)
+      by (refuse f) i j = absurd (let z : answered s.cells s.vars ≡ turned f = sym (ap goal_told q) ∙ j in let y : ◌≡◌ {A = ℕ} 0 1 = cc in omega arith)
 
-  refused-read : {f : Refusal} → r ≡ goal-answer.Refused f → goal_of width row ≡ refuse (told f)
+  refused-read : {f : Refusal} → r ≡ Err f → goal_of width row ≡ refuse (told f)
   refused-read {f} q = by (goal_of width row) refl e
     where
       by : (o : Read ℕ) → goal_of width row ≡ o → goal_told r ≡ goal_says row o → goal_of width row ≡ refuse (told f)
@@ -294,20 +293,20 @@ pub goal-few : (width : ℕ) (row : List ℕ) {u : ℕ} → goal_of width row �
 goal-few width row e = (is-goal width row e).0.head.short
 
 -- A FACT'S GOAL, put into the rooms; or its refusal
-module _ (text names : List ℕ) (width : ℕ) (whole row list : List ℕ) {g : GoalAnswer}
+module _ (text names : List ℕ) (width : ℕ) (whole row list : List ℕ) {g : Result GoalSize Refusal}
     (e : goal_told g ≡ goal_says row (goal_of width row)) where
-  pub put-accepted : {n v k : ℕ} {zeros numbers cells cells' new new' : List ℕ} → g ≡ goal-answer.Accepted n v → length list ≤ length row
+  pub put-accepted : {size : GoalSize} {k : ℕ} {zeros numbers cells cells' new new' : List ℕ} → g ≡ Ok size → length list ≤ length row
       → length zeros ≡ 32 → length new ≡ 32 → NamesNumbered (words_in text names) whole list zeros numbers new new' k
       → cells' ≡ new_cells numbers row ++ drop (length row) cells
-      → FactAsked text names width whole row list cells cells' new new' (goal-text.Read n k)
-  put-accepted {n} {v} {k} {zeros} {numbers} {cells} {new = new} q l z m N w =
+      → FactAsked text names width whole row list cells cells' new new' (goal-text.Read size.cells k)
+  put-accepted {size} {k} {zeros} {numbers} {cells} {new = new} q l z m N w =
       let a = accepted-read width row e q in
       let few = goal-few width row a.1 in
       let news = new_ones (word_in whole) (words_in text names) list in
       let all = numbers_from (words_in text names) 0 (words_in whole list) in
       let long = numbers-long (words_in text names) 0 (words_in whole list) ∙ words-many whole list in
-      let y : answered n v ≡ answered (length row) a.0 = sym (ap goal_told q) ∙ e ∙ ap (goal_says row) a.1 in
-      let s : n ≡ length row = cc in
+      let y : answered size.cells size.vars ≡ answered (length row) a.0 = sym (ap goal_told q) ∙ e ∙ ap (goal_says row) a.1 in
+      let s : size.cells ≡ length row = cc in
       record {
         numbers = numbers;
         are = λ j i. ap (λ (ns : List ℕ). get_or ns j 0) N.are ∙ stored_at all zeros j (omega arith) (omega arith);
@@ -320,7 +319,7 @@ module _ (text names : List ℕ) (width : ℕ) (whole row list : List ℕ) {g : 
             });
       }
 
-  pub put_refused : {f : Refusal} {cells new : List ℕ} → g ≡ goal-answer.Refused f
+  pub put_refused : {f : Refusal} {cells new : List ℕ} → g ≡ Err f
       → FactAsked text names width whole row list cells cells new new (goal-text.Refused f)
   put_refused {f} q =
       record {

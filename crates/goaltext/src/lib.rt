@@ -18,7 +18,6 @@ use prolog::FactsMade;
 use refusal::{Input, Reason, Refusal};
 use scan::Counted;
 use slices::Span;
-use table::GoalAnswer;
 use termtext::Predicate;
 
 // Where the name of a text's first fact stands.
@@ -149,13 +148,13 @@ fn put_goal(
         cells.old cells.new new.old new.new result }
 {
     match table::goal_for(width, row) {
-        GoalAnswer::Accepted(n, _) => {
+        Ok(size) => {
             let mut numbers = [0u32; ROW_CELLS];
             let k = names::number_names(text, names, whole, list, &mut numbers, new);
             names::put_cells(row, &numbers, cells);
-            GoalText::Read(n, k)
+            GoalText::Read(size.cells, k)
         }
-        GoalAnswer::Refused(f) => GoalText::Refused(f),
+        Err(f) => GoalText::Refused(f),
     }
 }
 

@@ -7,9 +7,8 @@ ghost use Rattle.table.specs.Table.{TableReads};
 ghost use Rattle.least.specs.Measures.{work_of, measure_of, table_by};
 
 use least::By;
-use limits::ROWS;
 use refusal::{Input, Reason, Refusal};
-use table::{TableAnswer, TableRead};
+use table::TableRead;
 
 // W-204, "a variable's branch costs 0, a number 1, a name 1 plus its arguments".
 fn work_of(c: u32) -> u16
@@ -43,18 +42,15 @@ pub fn figure_of(by: By) -> u32
 
 // FIGURE, and then what reading the table answers.
 #[tactic(auto, using(crate::proofs::Figure::by_measure))]
-pub fn read_by(by: By, cells: &[u32]) -> TableRead
+pub fn read_by(by: By, cells: &[u32]) -> Result<TableRead, Refusal>
     ensures { TableReads (table_by by cells.now) result }
 {
     if 15 < figure_of(by) {
-        return TableRead {
-            answer: TableAnswer::Refused(Refusal {
-                reason: Reason::Figure,
-                input: Input::Figure,
-                place: 0,
-            }),
-            starts: [0; ROWS],
-        };
+        return Err(Refusal {
+            reason: Reason::Figure,
+            input: Input::Figure,
+            place: 0,
+        });
     }
     table::read_table(cells)
 }

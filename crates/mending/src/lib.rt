@@ -10,7 +10,6 @@ ghost use Rattle.mending.specs.code.Next.{NextIs};
 ghost use Rattle.limits.specs.Limits.{most_rows};
 
 use limits::ROWS;
-use table::RowAnswer;
 
 // How many rows are kept, and where the last of them ends.
 #[derive(Drop)]
@@ -33,8 +32,8 @@ fn next_row(cells: &[u32], at: usize, starts: &[usize], width: usize) -> Next
         (drop at cells.now) at result }
 {
     match table::row_beside(width, &cells[..at], starts, starts.len(), &cells[at..]) {
-        RowAnswer::Accepted(_) => Next::Ends(cells.len()),
-        RowAnswer::Refused(f) => {
+        Ok(_) => Next::Ends(cells.len()),
+        Err(f) => {
             let reason = f.reason;
             let place = f.place;
             if refusal::number_of(reason) == 9 {

@@ -9,6 +9,8 @@ use lib.ListN.{length}
 use borrow.Author.Tests.{eqb-true, eqb-false}
 use Rattle.refusal.specs.Read.{Read, read, refuse}
 use Rattle.table.specs.Table.{Table}
+use Rattle.std.specs.Prelude.{Result}
+use Rattle.refusal.specs.declared.Refusal.{Refusal}
 use Rattle.table.specs.declared.TableRead.{TableRead}
 use Rattle.table.proofs.Fixed.{reads-fixed}
 use Rattle.plan.specs.Plans.{Measure}
@@ -42,7 +44,7 @@ module _ {m : Measure} {fs : List Bool} {w : ℕ} {rows : List (List ℕ)} {old 
   same-arrays = same_kept new new' f.size.1 g.size.1 same_at
 
 -- where what is kept is right
-pub fill-fixed : {by : By} {t : List ℕ} {named top since : ℕ} {old new new' : List ℕ} {r s : TableRead}
+pub fill-fixed : {by : By} {t : List ℕ} {named top since : ℕ} {old new new' : List ℕ} {r s : Result TableRead Refusal}
     → ((T : Table) → table_by by t ≡ read T → KeptRight (measure_of by) (flags_in T.width named) T.width T.rows top since old)
     → Fills by named t top since old new r → Fills by named t top since old new' s → (new ≡ new') × (r ≡ s)
 fill-fixed {by} {t} {old = old} {new} {new'} right f g = (go (table_by by t) refl, reads-fixed f.reads g.reads)
@@ -58,6 +60,6 @@ fill-fixed {by} {t} {old = old} {new} {new'} right f g = (go (table_by by t) ref
     go (refuse x) e = f.turned-away x e ∙ sym (g.turned-away x e)
 
 -- so where all pairs are asked for
-pub fill-all-fixed : {by : By} {t : List ℕ} {named top : ℕ} {old new new' : List ℕ} {r s : TableRead} → 64 ≤ top
+pub fill-all-fixed : {by : By} {t : List ℕ} {named top : ℕ} {old new new' : List ℕ} {r s : Result TableRead Refusal} → 64 ≤ top
     → Fills by named t top 0 old new r → Fills by named t top 0 old new' s → (new ≡ new') × (r ≡ s)
 fill-all-fixed {by} {t} {named} h f g = fill-fixed (λ T e. all_asked by (flags_in T.width named) t e h) f g

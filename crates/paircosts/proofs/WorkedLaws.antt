@@ -14,8 +14,8 @@ use Rattle.state.specs.Flags.{flags_in}
 use Rattle.state.specs.code.First.{TableRows}
 use Rattle.state.proofs.FirstLaws.{table-rows}
 use Rattle.table.specs.declared.TableRead.{TableRead}
-use Rattle.table.specs.declared.TableAnswer.TheVariants as table-answer
-use Rattle.table.specs.Table.{Table, table_told, TableReads}
+use Rattle.std.specs.Prelude.{Result, Ok, Err}
+use Rattle.table.specs.Table.{Table, TableReads}
 use Rattle.table.proofs.Accepted.{is-table}
 use Rattle.table.proofs.PartLaws.{says-read, says-turned}
 use Rattle.table.proofs.ReadLaws.{apart, read_one}
@@ -27,15 +27,15 @@ use Rattle.paircosts.specs.code.Notes.{Long}
 use Rattle.limits.specs.Limits.{kept_cells}
 
 -- where a table is read for a measure, the figure is small and the table is one
-module _ (by : By) (t : List ℕ) {r : TableRead} (a : TableReads (table_by by t) r) where
-  pub figure-small : {w n : ℕ} → r.answer ≡ table-answer.Accepted w n → (measure_of by).figure ≤ 15
-  figure-small e = by_read by t (says-read (table_by by t) (ap table_told (sym e) ∙ a.answer)).1
+module _ (by : By) (t : List ℕ) {r : Result TableRead Refusal} (a : TableReads (table_by by t) r) where
+  pub figure-small : {x : TableRead} → r ≡ Ok x → (measure_of by).figure ≤ 15
+  figure-small e = by_read by t (says-read (table_by by t) (subst (TableReads (table_by by t)) e a).answer).1
 
-  pub rows-by : {w n : ℕ} → r.answer ≡ table-answer.Accepted w n → TableRows t r.starts w n
+  pub rows-by : {x : TableRead} → r ≡ Ok x → TableRows t x.starts x.width x.rows
   rows-by e = table-rows t (subst (λ (x : Read Table). TableReads x r) (by-table by t (figure-small e)) a) e
 
-  pub turned_by : {f : Refusal} → r.answer ≡ table-answer.Refused f → table_by by t ≡ refuse (told f)
-  turned_by e = says-turned (table_by by t) (ap table_told (sym e) ∙ a.answer)
+  pub turned_by : {f : Refusal} → r ≡ Err f → table_by by t ≡ refuse (told f)
+  turned_by e = says-turned (table_by by t) (subst (TableReads (table_by by t)) e a).answer
 
 -- the array of a table that is read
 refilled-width : (named : ℕ) {m : Measure} {w v top since : ℕ} {rows : List (List ℕ)} {old new : List ℕ} → w ≡ v
@@ -48,7 +48,7 @@ refilled_same : (named : ℕ) {m : Measure} {T T' : Table} {top since : ℕ} {ol
 refilled_same named {m} {top = top} {since} {old} {new} e f =
     subst (λ (X : Table). Refilled m (flags_in X.width named) X.width X.rows top since old new) e f
 
-pub table_filled : (named : ℕ) {t ss : List ℕ} {w n top since : ℕ} {r : TableRead} {old new : List ℕ} (by : By) (k : TableRows t ss w n)
+pub table_filled : (named : ℕ) {t ss : List ℕ} {w n top since : ℕ} {r : Result TableRead Refusal} {old new : List ℕ} (by : By) (k : TableRows t ss w n)
     → (measure_of by).figure ≤ 15
     → TableReads (table_by by t) r → length new ≡ length old → Long old → Refilled (measure_of by) (flags_in w named) w k.table.rows top since old new
     → Fills by named t top since old new r
@@ -63,11 +63,11 @@ table_filled named {t} by k h r size long f =
     }
 
 -- of one that is turned away, and one of another length
-pub none_filled : {by : By} {t : List ℕ} {x : Refused} {named top since : ℕ} {r : TableRead} {old : List ℕ} → table_by by t ≡ refuse x
+pub none_filled : {by : By} {t : List ℕ} {x : Refused} {named top since : ℕ} {r : Result TableRead Refusal} {old : List ℕ} → table_by by t ≡ refuse x
     → TableReads (table_by by t) r → Fills by named t top since old old r
 none_filled q r = record { reads = r; size = refl; turned-away = λ x e. refl; other_length = λ n. refl; accepted = λ T e l. apart (sym e ∙ q) }
 
-pub other-filled : {by : By} {t : List ℕ} {named top since : ℕ} {r : TableRead} {old : List ℕ} → length old ≢ kept_cells → TableReads (table_by by t) r
+pub other-filled : {by : By} {t : List ℕ} {named top since : ℕ} {r : Result TableRead Refusal} {old : List ℕ} → length old ≢ kept_cells → TableReads (table_by by t) r
     → Fills by named t top since old old r
 other-filled n r = record { reads = r; size = refl; turned-away = λ x e. refl; other_length = λ n. refl; accepted = λ T e l. absurd (n l) }
 

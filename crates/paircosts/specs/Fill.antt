@@ -1,6 +1,7 @@
 -- What the function of this crate answers: the array that is lent, as it is filled for a table.
-use Rattle.std.specs.Prelude.{ℕ, ◌≤◌, ◌<◌, ◌≡◌, ◌≢◌, ◌⊎◌, Bool, List, length}
+use Rattle.std.specs.Prelude.{ℕ, ◌≤◌, ◌<◌, ◌≡◌, ◌≢◌, ◌⊎◌, Bool, List, length, Result}
 use Rattle.refusal.specs.Refusal.{Refused}
+use Rattle.refusal.specs.declared.Refusal.{Refusal}
 use Rattle.refusal.specs.Read.{read, refuse}
 use Rattle.table.specs.Table.{Table, TableReads}
 use Rattle.table.specs.declared.TableRead.{TableRead}
@@ -44,7 +45,7 @@ pub record Refilled (measure : Measure) (named : List Bool) (width : ℕ) (rows 
 -- What is answered for a measure, named columns, a table, what is asked for and the array that is lent: FIGURE, or what reading the table
 -- answers. A column is named by its bit (02, W-213); bits from the width on name none. Where the table is turned away the array is as it
 -- was, and so is one of any other length than 12,288
-pub record Fills (by : By) (named : ℕ) (cells : List ℕ) (top since : ℕ) (old new : List ℕ) (answer : TableRead) : Type 0 where
+pub record Fills (by : By) (named : ℕ) (cells : List ℕ) (top since : ℕ) (old new : List ℕ) (answer : Result TableRead Refusal) : Type 0 where
   pub reads : TableReads (table_by by cells) answer
   pub size : length new ≡ length old
   pub turned-away : (f : Refused) → table_by by cells ≡ refuse f → new ≡ old

@@ -8,7 +8,8 @@ ghost use Rattle.paircosts.specs.Fill.{Fills};
 use arrays::Asked;
 use least::By;
 use limits::KEPT_CELLS;
-use table::{TableAnswer, TableRead};
+use refusal::Refusal;
+use table::TableRead;
 
 // Reads a table, any cells at all, and works out the pairs of its rows that begin before row `top` and end at row `since` or
 // later, in an array of 12,288 numbers that is lent, in three parts, each pair at 64 times the first row plus the last: what
@@ -23,23 +24,19 @@ pub fn fill(
     kept: &mut [u32],
     top: usize,
     since: usize,
-) -> TableRead
+) -> Result<TableRead, Refusal>
     ensures { Fills by named cells.now top since kept.old kept.new result }
 {
-    let read = measuring::read_by(by, cells);
-    let answer = read.answer;
-    if let TableAnswer::Accepted(_, count) = answer {
-        if kept.len() == KEPT_CELLS {
-            let starts = read.starts;
-            let asked = Asked {
-                figure: measuring::figure_of(by),
-                named,
-                count,
-                top,
-                since,
-            };
-            arrays::asked_pairs(by, cells, &starts, kept, asked);
-        }
+    let read = measuring::read_by(by, cells)?;
+    if kept.len() == KEPT_CELLS {
+        let asked = Asked {
+            figure: measuring::figure_of(by),
+            named,
+            count: read.rows,
+            top,
+            since,
+        };
+        arrays::asked_pairs(by, cells, &read.starts, kept, asked);
     }
-    read
+    Ok(read)
 }

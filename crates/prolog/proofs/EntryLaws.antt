@@ -13,9 +13,8 @@ use Rattle.refusal.specs.Read.{Read, read, refuse}
 use Rattle.refusal.specs.declared.Refusal.{Refusal}
 use Rattle.refusal.specs.declared.Reason.TheVariants as reason
 use Rattle.refusal.specs.declared.Input.TheVariants as input
-use Rattle.table.specs.Table.{Table, table_of, table_says, table_told}
-use Rattle.table.specs.declared.TableAnswer.{TableAnswer}
-use Rattle.table.specs.declared.TableAnswer.TheVariants as table-answer
+use Rattle.table.specs.Table.{Table, table_of, table_says, read_told}
+use Rattle.table.specs.declared.TableRead.{TableRead}
 use Rattle.grammar.specs.Grammar.{Fact}
 use Rattle.grammar.specs.Meaning.{names_of, table_cells, entry_of, name_list}
 use Rattle.grammar.specs.Taken.{Taken}
@@ -113,12 +112,11 @@ gives-loads t made list cells names cells' names' r facts x e f h k G = by (tabl
         }
 
 -- what the table's reader answered
-pub table-accepted : (made list cells names cells' names' : List ℕ) (w n : ℕ) {a : TableAnswer} → table_told a ≡ table_says (table_of made)
-    → a ≡ table-answer.Accepted w n
+pub table-accepted : (made list cells names cells' names' : List ℕ) (r : TableRead) → read_told (Ok r) ≡ table_says (table_of made)
     → cells' ≡ put_first made cells → names' ≡ put_first list names → Gives made list cells names cells' names' (Ok (sizes (length made) (length list)))
-table-accepted made list cells names cells' names' w n e q b d = by (table_of made) refl (sym (ap table_told q) ∙ e)
+table-accepted made list cells names cells' names' r e b d = by (table_of made) refl e
   where
-    by : (o : Read Table) → table_of made ≡ o → answered w n ≡ table_says o
+    by : (o : Read Table) → table_of made ≡ o → answered r.width r.rows ≡ table_says o
         → Gives made list cells names cells' names' (Ok (sizes (length made) (length list)))
     by (read T) z y =
         let g = ap (given made list) z in
@@ -129,9 +127,9 @@ table-accepted made list cells names cells' names' w n e q b d = by (table_of ma
         }
     by (refuse f) z y = absurd (let u : ◌≡◌ {A = ℕ} 0 1 = cc in omega arith)
 
-pub table-refused : (made list cells names : List ℕ) (f : Refusal) {a : TableAnswer} → table_told a ≡ table_says (table_of made) → a ≡ table-answer.Refused f
+pub table-refused : (made list cells names : List ℕ) (f : Refusal) → turned (told f) ≡ table_says (table_of made)
     → Gives made list cells names cells names (Err f)
-table-refused made list cells names f e q = by (table_of made) refl (sym (ap table_told q) ∙ e)
+table-refused made list cells names f e = by (table_of made) refl e
   where
     by : (o : Read Table) → table_of made ≡ o → turned (told f) ≡ table_says o → Gives made list cells names cells names (Err f)
     by (read T) z y = absurd (let u : ◌≡◌ {A = ℕ} 0 1 = cc in omega arith)

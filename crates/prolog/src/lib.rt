@@ -14,7 +14,6 @@ ghost use Rattle.prolog.specs.code.Parts.{over_of, Gives};
 use limits::{NAMES, TABLE_CELLS};
 use refusal::{Input, Reason, Refusal};
 use scan::Counted;
-use table::TableAnswer;
 use texttable::NamesRead;
 
 // How many cells are made, and how many names listed.
@@ -54,18 +53,13 @@ fn give(
     ensures { Gives made.now list.now cells.old names.old cells.new
         names.new result }
 {
-    let answer = table::read_table(made).answer;
-    match answer {
-        TableAnswer::Accepted(_, _) => {
-            put_front(made, cells);
-            put_front(list, names);
-            Ok(TextSize {
-                cells: made.len(),
-                names: list.len(),
-            })
-        }
-        TableAnswer::Refused(f) => Err(f),
-    }
+    table::read_table(made)?;
+    put_front(made, cells);
+    put_front(list, names);
+    Ok(TextSize {
+        cells: made.len(),
+        names: list.len(),
+    })
 }
 
 // Over 2,048 symbols, with so many names, and room for so many.

@@ -14,7 +14,6 @@ use limits::{MEETING_CELLS, ROWS};
 use octets::cells::put_cells;
 use pass::{Sum, pass};
 use refusal::{Input, Reason, Refusal};
-use table::TableAnswer;
 
 fn turned_away(reason: Reason, input: Input, place: usize) -> Result<ReplyCounts, Refusal>
     ensures { replies_told result ≡ turned (refused reason input place) }
@@ -95,12 +94,9 @@ fn reply_all(
     ensures { (plan : List ℕ) → Found table.now plan goal.now hits.now → Replied
         table.now plan goal.now room.old room.new result }
 {
-    let read = table::read_table(table);
-    let answer = read.answer;
-    let starts = read.starts;
-    match answer {
-        TableAnswer::Accepted(_, rows) => put_replies(table, &starts, rows, goal, hits, room),
-        TableAnswer::Refused(f) => Err(f),
+    match table::read_table(table) {
+        Ok(read) => put_replies(table, &read.starts, read.rows, goal, hits, room),
+        Err(f) => Err(f),
     }
 }
 

@@ -165,8 +165,10 @@ fn reply_each(
 fn starts_of(table: &[u32]) -> [usize; ROWS]
     ensures { result ≡ starts_in (table_of table.now) }
 {
-    let read = table::read_table(table);
-    read.starts
+    match table::read_table(table) {
+        Ok(read) => read.starts,
+        Err(_) => [0; ROWS],
+    }
 }
 
 // A run of any plan for any table on every goal of a list, and the replies of its hits, one goal's after another's in one room. The table and

@@ -13,8 +13,8 @@ use Rattle.refusal.specs.declared.Input.TheVariants as input
 use Rattle.refusal.specs.declared.Refusal.{Refusal}
 use Rattle.refusal.specs.Read.{Read, read, refuse, and_then}
 use Rattle.table.specs.Table.{Table, table_of, goal_of, goal_says, goal_told, up_from, IsGoal}
-use Rattle.table.specs.declared.GoalAnswer.{GoalAnswer}
-use Rattle.table.specs.declared.GoalAnswer.TheVariants as goal-answer
+use Rattle.std.specs.Prelude.{Result, Ok, Err}
+use Rattle.table.specs.declared.GoalSize.{GoalSize}
 use Rattle.table.proofs.Accepted.{is-goal}
 use Rattle.table.proofs.HeadLaws.{up-length}
 use Rattle.plan.specs.Plans.{branches}
@@ -36,13 +36,14 @@ use Rattle.plannotes.specs.code.ForRun.{ForRun}
 use Rattle.plannotes.proofs.HandedLaws.{no_run}
 
 -- what the goal's answer tells of its reading
-pub says-goal : (g : List ℕ) (x : Read ℕ) {a : GoalAnswer} {n v : ℕ} → goal_told a ≡ goal_says g x → a ≡ goal-answer.Accepted n v → (x ≡ read v) × (n ≡ length g)
-says-goal g (read u) {a} {n} {v} e d = let q : goal_told a ≡ answered n v = ap goal_told d in (cc, cc)
-says-goal g (refuse f) {a} {n} {v} e d =
-    let q : goal_told a ≡ answered n v = ap goal_told d in
+pub says-goal : (g : List ℕ) (x : Read ℕ) {a : Result GoalSize Refusal} {s : GoalSize} → goal_told a ≡ goal_says g x → a ≡ Ok s
+    → (x ≡ read s.vars) × (s.cells ≡ length g)
+says-goal g (read u) {a} {s} e d = let q : goal_told a ≡ answered s.cells s.vars = ap goal_told d in (cc, cc)
+says-goal g (refuse f) {a} {s} e d =
+    let q : goal_told a ≡ answered s.cells s.vars = ap goal_told d in
     absurd (let z : ◌≡◌ {A = ℕ} 0 1 = cc in let y : ⊥ = omega arith in y)
 
-pub says-no-goal : (g : List ℕ) (x : Read ℕ) {a : GoalAnswer} {f : Refusal} → goal_told a ≡ goal_says g x → a ≡ goal-answer.Refused f → x ≡ refuse (told f)
+pub says-no-goal : (g : List ℕ) (x : Read ℕ) {a : Result GoalSize Refusal} {f : Refusal} → goal_told a ≡ goal_says g x → a ≡ Err f → x ≡ refuse (told f)
 says-no-goal g (read u) {a} {f} e d =
     let q : goal_told a ≡ turned (told f) = ap goal_told d in
     absurd (let z : ◌≡◌ {A = ℕ} 0 1 = cc in let y : ⊥ = omega arith in y)

@@ -16,7 +16,6 @@ use answer::RunCounts;
 use limits::BRANCHES;
 use plannotes::Noted;
 use refusal::{Input, Reason, Refusal};
-use table::GoalAnswer;
 
 // A run of a plan that the check has accepted, with what is noted of it: the goal, the room, then the walk. The goal of distinct variables,
 // which has as many variables as cells, hits every row and tries every branch: it is answered without a walk.
@@ -32,8 +31,8 @@ fn run_accepted(
         goal.now room.old room.new result }
 {
     match table::goal_for(width, goal) {
-        GoalAnswer::Refused(f) => Err(f),
-        GoalAnswer::Accepted(cells, variables) => {
+        Err(f) => Err(f),
+        Ok(size) => {
             if room.len() < rows {
                 return Err(Refusal {
                     reason: Reason::Room,
@@ -41,7 +40,7 @@ fn run_accepted(
                     place: rows,
                 });
             }
-            if variables == cells {
+            if size.vars == size.cells {
                 walk::put_rows(room, 0, rows, 0);
                 return Ok(RunCounts {
                     hits: rows,

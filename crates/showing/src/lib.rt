@@ -3,7 +3,6 @@
 
 use least::By;
 use refusal::Refusal;
-use table::TableAnswer;
 
 pub fn say(rt: HostRuntime, text: &[u8]) {
     console::say(rt, text);
@@ -57,14 +56,13 @@ fn bytes(rt: HostRuntime, xs: &[u8]) {
 
 // A table's reading.
 pub fn read(rt: HostRuntime, table: &[u32]) {
-    let answer = table::read_table(table).answer;
-    match answer {
-        TableAnswer::Accepted(width, rows) => {
+    match table::read_table(table) {
+        Ok(read) => {
             say(rt, b"accepted: width ");
-            pair(rt, width, b", rows ", rows);
+            pair(rt, read.width, b", rows ", read.rows);
             say(rt, b"\n");
         }
-        TableAnswer::Refused(f) => refused(rt, f),
+        Err(f) => refused(rt, f),
     }
 }
 

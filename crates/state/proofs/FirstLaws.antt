@@ -1,5 +1,5 @@
 -- From a table that is read to the rows of its first state.
-use mathlib.Core.Path.{◌≡◌, sym, ap, ◌∙◌}
+use mathlib.Core.Path.{◌≡◌, sym, ap, subst, ◌∙◌}
 use mathlib.Core.Logic.{by_cases}
 use mathlib.Core.List.{List, []}
 use Prim.Native.Nat.{ℕ, zero, suc, ◌+◌, ◌-◌, ◌≤◌, ◌<◌, min}
@@ -11,9 +11,9 @@ use borrow.Author.Tests.{lt-ltb, le-ltb}
 use Rattle.refusal.specs.Refusal.{told}
 use Rattle.refusal.specs.declared.Refusal.{Refusal}
 use Rattle.refusal.specs.Read.{refuse}
-use Rattle.table.specs.Table.{Table, table_of, starts_in, table_told, TableReads, RowPlace, IsTable}
+use Rattle.table.specs.Table.{Table, table_of, starts_in, TableReads, RowPlace, IsTable}
 use Rattle.table.specs.declared.TableRead.{TableRead}
-use Rattle.table.specs.declared.TableAnswer.TheVariants as table-answer
+use Rattle.std.specs.Prelude.{Result, Ok, Err}
 use Rattle.table.proofs.Accepted.{is-table, accepted-row}
 use Rattle.table.proofs.PartLaws.{says-read, says-turned, part, place-next, place-last, place-cells}
 use Rattle.state.specs.Mask.{full, end_at, OpenRows}
@@ -23,14 +23,15 @@ use Rattle.state.proofs.MaskLaws.{kept_full}
 use Rattle.state.proofs.RowsLaws.{rows-length}
 
 -- what the reading of a table answers
-module _ (t : List ℕ) {r : TableRead} (a : TableReads (table_of t) r) where
-  pub table-rows : {w n : ℕ} → r.answer ≡ table-answer.Accepted w n → TableRows t r.starts w n
+module _ (t : List ℕ) {r : Result TableRead Refusal} (a : TableReads (table_of t) r) where
+  pub table-rows : {x : TableRead} → r ≡ Ok x → TableRows t x.starts x.width x.rows
   table-rows e =
-      let s = says-read (table_of t) (ap table_told (sym e) ∙ a.answer) in
-      record { table = s.0; here = s.1; starts = a.starts ∙ ap starts_in s.1; width = sym s.2; rows = sym s.3 }
+      let b = subst (TableReads (table_of t)) e a in
+      let s = says-read (table_of t) b.answer in
+      record { table = s.0; here = s.1; starts = b.starts ∙ ap starts_in s.1; width = sym s.2; rows = sym s.3 }
 
-  pub table-turned : {f : Refusal} → r.answer ≡ table-answer.Refused f → table_of t ≡ refuse (told f)
-  table-turned e = says-turned (table_of t) (ap table_told (sym e) ∙ a.answer)
+  pub table-turned : {f : Refusal} → r ≡ Err f → table_of t ≡ refuse (told f)
+  table-turned e = says-turned (table_of t) (subst (TableReads (table_of t)) e a).answer
 
 -- a row of a list of rows, by its number
 row_in : (t ss ms : List ℕ) (n r i : ℕ) → i < n → get_or (rows_at t ss ms n r) i [] ≡ row_at t ss ms (r + i)

@@ -8,7 +8,6 @@ ghost use Rattle.textlines.specs.code.Puts.{rows_of, PutsNames, PutsTable};
 
 use octets::{put_byte, put_decimal, put_field, put_word};
 use printing::put_symbol;
-use table::TableAnswer;
 
 // The first line, at the front of the room.
 fn put_heading(out: &mut [u8], cells: usize, names: usize) -> usize
@@ -43,12 +42,11 @@ fn put_row(out: &mut [u8], to: usize, row: &[u32]) -> usize
 fn put_rows(out: &mut [u8], to: usize, cells: &[u32]) -> usize
     ensures { Put out.old out.new to (row_lines (rows_of (table_of cells.now))) result }
 {
-    let read = table::read_table(cells);
-    let answer = read.answer;
-    let starts = read.starts;
-    let TableAnswer::Accepted(_, count) = answer else {
+    let Ok(read) = table::read_table(cells) else {
         return to;
     };
+    let starts = read.starts;
+    let count = read.rows;
     let mut on = to;
     for r in 0..count {
         let start = starts[r];

@@ -11,7 +11,6 @@ use Rattle.refusal.specs.Read.{read}
 use Rattle.table.specs.All.{All}
 use Rattle.table.specs.Table.{Table, TableReads}
 use Rattle.table.specs.declared.TableRead.{TableRead}
-use Rattle.table.specs.declared.TableAnswer.TheVariants as table-answer
 use Rattle.plan.specs.Runs.{Run}
 use Rattle.plan.specs.Plans.{Plan, Branches, write, writes, Measure}
 use Rattle.plan.specs.code.Fits.{Fits}
@@ -85,8 +84,8 @@ pub record Planned (table : Table) (named : ℕ) (kept cells : List ℕ) (size c
   pub cost-is : cost ≡ whole_in kept 0 (length table.rows - 1)
 
 -- what is known of a table that was read, and of columns: where it is accepted, its rows; and no bit is past its width where no column is
-pub record Known (cells : List ℕ) (answer : TableRead) (named : Named) : Type 0 where
-  pub rows : {width count : ℕ} → answer.answer ≡ table-answer.Accepted width count → TableRows cells answer.starts width count
+pub record Known (cells : List ℕ) (answer : Result TableRead Refusal) (named : Named) : Type 0 where
+  pub rows : {x : TableRead} → answer ≡ Ok x → TableRows cells x.starts x.width x.rows
   pub flags : (width : ℕ) → named.past ≤ width → named.mask < 2 ^ width
 
 -- what is kept is a table's: the least cost of all its rows by a measure, and the entry of each pair of them
@@ -97,7 +96,7 @@ pub record KeptOf (measure : Measure) (fs : List Bool) (T : Table) (kept : List 
 
 -- what was answered for cells is what a measure asks, the columns are those of a list, as bits and one more than the largest, and where the
 -- cells are a table, what is kept is that table's for these columns
-pub record Right (by : By) (columns cells : List ℕ) (answer : TableRead) (named : Named) (kept : List ℕ) : Type 0 where
+pub record Right (by : By) (columns cells : List ℕ) (answer : Result TableRead Refusal) (named : Named) (kept : List ℕ) : Type 0 where
   pub reads : TableReads (table_by by cells) answer
   pub mask : named.mask ≡ mask_from 0 columns
   pub past : named.past ≡ past_from 0 columns

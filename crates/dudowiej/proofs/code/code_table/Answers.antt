@@ -1,13 +1,13 @@
 use Rattle.dudowiej.proofs.code.code_table.Goals as goal
 
 pub code_answer-requires : goal.code_answer-requires
-code_answer-requires c = rw c.in-Accepted.is at c.requires
+code_answer-requires c = rw c.in-Ok.is at c.requires
 
 pub code_refusal-requires : goal.code_refusal-requires
-code_refusal-requires c = rw c.in-Refused.is at c.requires
+code_refusal-requires c = rw c.in-Err.is at c.requires
 
-pub returns-in-Accepted : goal.returns-in-Accepted
-returns-in-Accepted c = rw c.in-Accepted.is c.code_answer.ensures
+pub returns-in-Ok : goal.returns-in-Ok
+returns-in-Ok c = rw c.in-Ok.is c.code_answer.ensures
 
-pub returns-in-Refused : goal.returns-in-Refused
-returns-in-Refused c = rw c.in-Refused.is c.code_refusal.ensures
+pub returns-in-Err : goal.returns-in-Err
+returns-in-Err c = rw c.in-Err.is c.code_refusal.ensures
