@@ -3,3 +3,4 @@ pub mod DecimalLaws
 pub mod CellsLaws
 pub mod BytesLaws
 pub mod Fixed
+pub mod RoomLaws

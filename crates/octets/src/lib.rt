@@ -6,27 +6,41 @@ pub mod cells;
 
 ghost use Rattle.std.specs.Prelude.{◌≡◌, [], ◌∷◌};
 ghost use Rattle.octets.specs.Octets.{Put, decimal, field, cell_of, cells_of};
+ghost use Rattle.octets.specs.code.Room.{Puts};
 
-pub fn put_byte(out: &mut [u8], to: usize, b: u8) -> usize
-    ensures { Put out.old out.new to (b ∷ []) result }
+// A byte or a cell, put into a room of them.
+fn put_one<T: Copy>(out: &mut [T], to: usize, x: T) -> usize
+    ensures { Puts out.old out.new to (x ∷ []) result }
 {
     if out.len() <= to {
         return to;
     }
-    out[to] = b;
+    out[to] = x;
     to + 1
+}
+
+// Bytes or cells, as many as there is room for.
+fn put_all<T: Copy>(out: &mut [T], to: usize, xs: &[T]) -> usize
+    ensures { Puts out.old out.new to xs.now result }
+{
+    if out.len() <= to {
+        return to;
+    }
+    let n = xs.len().min(out.len() - to);
+    out[to..to + n].copy_from_slice(&xs[..n]);
+    to + n
+}
+
+pub fn put_byte(out: &mut [u8], to: usize, b: u8) -> usize
+    ensures { Put out.old out.new to (b ∷ []) result }
+{
+    put_one(out, to, b)
 }
 
 pub fn put_word(out: &mut [u8], to: usize, word: &[u8]) -> usize
     ensures { Put out.old out.new to word.now result }
 {
-    let mut on = to;
-    let mut i = 0;
-    while i < word.len() {
-        on = put_byte(out, on, word[i]);
-        i += 1;
-    }
-    on
+    put_all(out, to, word)
 }
 
 // The decimal digits of n, none to spare. It calls itself once for each digit, so at most 20 deep.
@@ -52,18 +66,17 @@ pub fn put_field(out: &mut [u8], to: usize, n: usize, end: u8) -> usize
 fn cell_of(a: u8, b: u8, c: u8, d: u8) -> u32
     ensures { result ≡ cell_of a b c d }
 {
-    a as u32 + 256 * (b as u32 + 256 * (c as u32 + 256 * d as u32))
+    u32::from_le_bytes([a, b, c, d])
 }
 
 // The cells of the bytes, put at the front of a lent room; how many were put.
 pub fn read_cells(bytes: &[u8], cells: &mut [u32]) -> usize
     ensures { Put cells.old cells.new 0 (cells_of bytes.now) result }
 {
-    let mut n = 0;
-    while n < cells.len() && n < bytes.len() / 4 {
-        let at = 4 * n;
-        cells[n] = cell_of(bytes[at], bytes[at + 1], bytes[at + 2], bytes[at + 3]);
-        n += 1;
+    let n = cells.len().min(bytes.len() / 4);
+    for i in 0..n {
+        let at = 4 * i;
+        cells[i] = cell_of(bytes[at], bytes[at + 1], bytes[at + 2], bytes[at + 3]);
     }
     n
 }

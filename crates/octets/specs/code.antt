@@ -1,0 +1,2 @@
+-- what only private functions need
+pub mod Room
