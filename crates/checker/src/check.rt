@@ -20,6 +20,21 @@ pub struct Seen {
     pub next: usize,
 }
 
+// What is lent for a check: the table's cells, where each of its rows starts, and the plan.
+#[derive(Clone, Copy)]
+pub struct Lent<'a> {
+    pub table: &'a [u32],
+    pub starts: &'a [usize; ROWS],
+    pub plan: &'a [u32],
+}
+
+// What a check writes: for each row the mask of the cells that are still open, and its cell at the place that is closed.
+#[derive(Drop)]
+pub struct Room {
+    pub masks: [u32; ROWS],
+    pub column: [u32; ROWS],
+}
+
 // A refusal of the plan.
 pub fn refusal(reason: Reason, place: usize) -> Refusal
     ensures { told result ≡ bad_plan reason place }
@@ -101,24 +116,29 @@ fn alone(
 // of its rows.
 #[cycle(branches_state)]
 pub fn state(
-    table: &[u32],
-    starts: &[usize; ROWS],
-    masks: &mut [u32; ROWS],
-    column: &mut [u32; ROWS],
-    plan: &[u32],
+    lent: &Lent,
+    room: &mut Room,
     first: usize,
     end: usize,
     named: u64,
     k: usize,
     at: usize,
 ) -> Result<Seen, Refusal>
-    requires { Ready table.now starts.now masks.old column.old plan.now first end named k at }
-    ensures { Done table.now starts.now masks.old column.old masks.new
-        column.new plan.now first end named k at result }
+    requires { Ready lent.now.table.now lent.now.starts.now room.old.masks room.old.column lent.now.plan.now first end named k at }
+    ensures { Done lent.now.table.now lent.now.starts.now room.old.masks room.old.column room.new.masks
+        room.new.column lent.now.plan.now first end named k at result }
 {
+    let plan = lent.plan;
     let rows = end - first;
     if rows == 1 && named == 0 {
-        return alone(table, starts[first], masks[first], plan, k, at);
+        return alone(
+            lent.table,
+            lent.starts[first],
+            room.masks[first],
+            plan,
+            k,
+            at,
+        );
     }
     if k == 0 {
         return leaf(plan, rows, 0, at);
@@ -133,39 +153,32 @@ pub fn state(
     if !may(named, i) {
         return Err(refusal(Reason::Early, at));
     }
-    close_rows(table, starts, masks, column, i, first, end);
+    close_rows(
+        lent.table,
+        lent.starts,
+        &mut room.masks,
+        &mut room.column,
+        i,
+        first,
+        end,
+    );
     let next = at + 1;
     if plan.len() <= next {
         return Err(refusal(Reason::Ends, next));
     }
-    let cells = &column[..];
+    let cells = &room.column[..];
     if plan[next] as usize != run_count(&cells[first..end]) {
         return Err(refusal(Reason::Edges, next));
     }
-    branches(
-        table,
-        starts,
-        masks,
-        column,
-        plan,
-        first,
-        end,
-        named,
-        i,
-        k - 1,
-        at + 2,
-    )
+    branches(lent, room, first, end, named, i, k - 1, at + 2)
 }
 
 // The branches from place `at` on, one for each run of the rows from first to before end, at open place i; below each, k places are open
 // beside its symbol's arguments, which are inside the column of their place.
 #[cycle(branches_state)]
 fn branches(
-    table: &[u32],
-    starts: &[usize; ROWS],
-    masks: &mut [u32; ROWS],
-    column: &mut [u32; ROWS],
-    plan: &[u32],
+    lent: &Lent,
+    room: &mut Room,
     first: usize,
     end: usize,
     named: u64,
@@ -173,10 +186,11 @@ fn branches(
     k: usize,
     at: usize,
 ) -> Result<Seen, Refusal>
-    requires { ReadyIn table.now starts.now masks.old column.old plan.now first end named i k at }
-    ensures { DoneIn table.now starts.now masks.old column.old masks.new
-        column.new plan.now first end named i k at result }
+    requires { ReadyIn lent.now.table.now lent.now.starts.now room.old.masks room.old.column lent.now.plan.now first end named i k at }
+    ensures { DoneIn lent.now.table.now lent.now.starts.now room.old.masks room.old.column room.new.masks
+        room.new.column lent.now.plan.now first end named i k at result }
 {
+    let plan = lent.plan;
     let mut row = first;
     let mut place = at;
     let mut count = 0;
@@ -185,11 +199,11 @@ fn branches(
             return Err(refusal(Reason::Ends, place));
         }
         let label = plan[place];
-        let c = column[row];
+        let c = room.column[row];
         if label != c {
             return Err(refusal(Reason::Label, place));
         }
-        let cells = &column[..];
+        let cells = &room.column[..];
         let n = run_length(&cells[row..end]);
         let args = cell::arity_of(c);
         // where no flag stands none does below, and no call is made
@@ -199,18 +213,7 @@ fn branches(
         }
         let open = args + k;
         let under = place + 1;
-        let below = state(
-            table,
-            starts,
-            masks,
-            column,
-            plan,
-            row,
-            row + n,
-            flags,
-            open,
-            under,
-        )?;
+        let below = state(lent, room, row, row + n, flags, open, under)?;
         count += 1 + below.branches;
         place = below.next;
         row += n;

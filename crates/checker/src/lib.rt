@@ -12,6 +12,7 @@ ghost use Rattle.checker.specs.Checked.{plan_says, plan_told};
 ghost use Rattle.checker.specs.code.Steps.{named_plan};
 ghost use Rattle.state.specs.code.First.{TableRows};
 
+use check::{Lent, Room};
 use limits::{PLAN_CELLS, ROWS};
 use refusal::{Input, Reason, Refusal};
 use state::flags::{Named, named_of};
@@ -45,20 +46,16 @@ fn check_rows(
     if PLAN_CELLS < plan.len() {
         return Err(check::refusal(Reason::Size, 0));
     }
-    let mut masks = state::mask::open_rows(starts, rows, table.len());
-    let mut column = [0u32; ROWS];
-    let seen = check::state(
+    let lent = Lent {
         table,
         starts,
-        &mut masks,
-        &mut column,
         plan,
-        0,
-        rows,
-        named.mask,
-        width,
-        0,
-    )?;
+    };
+    let mut room = Room {
+        masks: state::mask::open_rows(starts, rows, table.len()),
+        column: [0; ROWS],
+    };
+    let seen = check::state(&lent, &mut room, 0, rows, named.mask, width, 0)?;
     if seen.next < plan.len() {
         return Err(check::refusal(Reason::Extra, seen.next));
     }

@@ -8,20 +8,20 @@ returns-then-plan-gt-PLAN_CELLS c =
     entry-size c.requires.0 _ _ _ c.if-width-named.false c.if-plan-gt-PLAN_CELLS.true c.refusal.ensures
 
 pub state-requires : goal.state-requires
-state-requires c = ready-first c.requires.0 _ _ _ c.if-width-named.false c.open_rows-masks.ensures c.requires.1 refl
+state-requires c = ready-first c.requires.0 _ _ _ c.if-width-named.false c.open_rows.ensures c.requires.1 refl
 
 pub returns-in_err-seen : goal.returns-in_err-seen
 returns-in_err-seen c =
     let p = err_from_is_err_and c.from_residual.result c.from_residual.ensures.1 in
-    rw (p.1, p.2) (entry-refused c.requires.0 _ _ _ c.if-width-named.false c.open_rows-masks.ensures
+    rw (p.1, p.2) (entry-refused c.requires.0 _ _ _ c.if-width-named.false c.open_rows.ensures
     c.if-plan-gt-PLAN_CELLS.false c.state.ensures c.in_err-seen.was)
 
 pub returns-then-seen-plan : goal.returns-then-seen-plan
 returns-then-seen-plan c =
-    entry-extra c.requires.0 _ _ _ c.if-width-named.false c.open_rows-masks.ensures
+    entry-extra c.requires.0 _ _ _ c.if-width-named.false c.open_rows.ensures
     c.if-plan-gt-PLAN_CELLS.false c.state.ensures c.in_ok-seen.was c.if-seen-plan.true c.refusal-then-seen-plan.ensures
 
 pub returns : goal.returns
 returns c =
-    entry-accepted c.requires.0 _ _ _ c.if-width-named.false c.open_rows-masks.ensures
+    entry-accepted c.requires.0 _ _ _ c.if-width-named.false c.open_rows.ensures
     c.if-plan-gt-PLAN_CELLS.false c.state.ensures c.in_ok-seen.was c.if-seen-plan.false

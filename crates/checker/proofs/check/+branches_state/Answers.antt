@@ -34,20 +34,20 @@ pub branches-state-requires : goal.branches-state-requires
 branches-state-requires t c =
     let w = turn-of c.run_length-n.result c.loop-row.invariant c.loop-row-test.true c.if-plan-place.false c.if-label-c.false c.run_length-n.ensures in
     let flags : c.if-named-ne0.flags ≡ spread_of c.args.named c.args.i c.arity_of-args.result =
-        elim c.if-named-ne0.branch [
-          branches-then-named-ne0 w ↦ w.flags-is ∙ w.spread-flags.ensures
-        | branches-else-named-ne0 w ↦ w.flags-is ∙ sym (none_below _ _ _ w.if-named-ne0.false)
-        ] in
+    elim c.if-named-ne0.branch [
+      | branches-then-named-ne0 w ↦ w.flags-is ∙ w.spread-flags.ensures
+      | branches-else-named-ne0 w ↦ w.flags-is ∙ sym (none_below _ _ _ w.if-named-ne0.false)
+    ] in
     (omega (arith, shorter-below w), rw (flags, c.arity_of-args.ensures) (ready-below w))
 
 pub branches-returns-in_err-below : goal.branches-returns-in_err-below
 branches-returns-in_err-below t c =
     let w = turn-of c.run_length-n.result c.loop-row.invariant c.loop-row-test.true c.if-plan-place.false c.if-label-c.false c.run_length-n.ensures in
     let flags : c.if-named-ne0.flags ≡ spread_of c.args.named c.args.i c.arity_of-args.result =
-        elim c.if-named-ne0.branch [
-          branches-then-named-ne0 w ↦ w.flags-is ∙ w.spread-flags.ensures
-        | branches-else-named-ne0 w ↦ w.flags-is ∙ sym (none_below _ _ _ w.if-named-ne0.false)
-        ] in
+    elim c.if-named-ne0.branch [
+      | branches-then-named-ne0 w ↦ w.flags-is ∙ w.spread-flags.ensures
+      | branches-else-named-ne0 w ↦ w.flags-is ∙ sym (none_below _ _ _ w.if-named-ne0.false)
+    ] in
     let p = err_from_is_err_and c.from_residual.result c.from_residual.ensures.1 in
     rw (p.1, p.2) (turn-refused w (rw (flags, c.arity_of-args.ensures) at c.state.ensures) c.in_err-below.was)
 
@@ -60,10 +60,10 @@ pub branches-loop-row-preserved : goal.branches-loop-row-preserved
 branches-loop-row-preserved t c =
     let w = turn-of c.run_length-n.result c.loop-row.invariant c.loop-row-test.true c.if-plan-place.false c.if-label-c.false c.run_length-n.ensures in
     let flags : c.if-named-ne0.flags ≡ spread_of c.args.named c.args.i c.arity_of-args.result =
-        elim c.if-named-ne0.branch [
-          branches-then-named-ne0 w ↦ w.flags-is ∙ w.spread-flags.ensures
-        | branches-else-named-ne0 w ↦ w.flags-is ∙ sym (none_below _ _ _ w.if-named-ne0.false)
-        ] in
+    elim c.if-named-ne0.branch [
+      | branches-then-named-ne0 w ↦ w.flags-is ∙ w.spread-flags.ensures
+      | branches-else-named-ne0 w ↦ w.flags-is ∙ sym (none_below _ _ _ w.if-named-ne0.false)
+    ] in
     turn_on w (rw (flags, c.arity_of-args.ensures) at c.state.ensures) c.in_ok-below.was
 
 pub state-alone-requires : goal.state-alone-requires
@@ -99,7 +99,7 @@ state-returns-then-plan-next-2 t c =
 
 pub state-branches-requires : goal.state-branches-requires
 state-branches-requires t c =
-    let chosen : may_in c.args.named (get_or c.args.plan.now c.args.at 0) ≡ true = sym c.may.ensures ∙ not-false _ c.if-not-may.false-raw in (
+    let chosen : may_in c.args.named (get_or c.args.lent.now.plan.now c.args.at 0) ≡ true = sym c.may.ensures ∙ not-false _ c.if-not-may.false-raw in (
       omega (arith, shorter c.requires (omega arith) (omega arith) chosen c.close_rows.ensures),
       ready-branches c.requires (omega arith) (omega arith) chosen c.close_rows.ensures (omega arith),
     )
