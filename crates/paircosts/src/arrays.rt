@@ -104,8 +104,7 @@ fn cost_in(kept: &[u32], first: usize, last: usize) -> u32
     requires { (first < most_rows) × (last < most_rows) × Long kept.now }
     ensures { result ≡ read_in kept.now first last }
 {
-    let n = kept[ROWS * first + last];
-    if n < 65535 { n } else { 65535 }
+    kept[ROWS * first + last].min(65535)
 }
 
 // The place noted with one row more in front, whose cell there is c, the cell of the row after it being d.
@@ -260,36 +259,6 @@ struct Found {
     place: u32,
 }
 
-// Further, over the open places in a range of cells of the pair's first row, all of which may be chosen; the leftmost of the
-// cheapest.
-fn cheapest(
-    marks: &[u16; TABLE_CELLS],
-    kept: &[u32],
-    notes: &Notes,
-    range: Row,
-    base: Base,
-    found: Found,
-) -> Found
-    requires { Range marks.now kept.now notes.now range base found }
-    ensures { (g : Range marks.now kept.now notes.now range base found)
-        → result ≡ found_to g.pair.ok g.pair.prices g.opens }
-{
-    let number = range.number;
-    let stop = range.end;
-    let mut best = found.best;
-    let mut place = found.place;
-    let mut q = range.start;
-    while q < stop {
-        let s = note_at(notes, q);
-        if s.runs != 1 {
-            best = consider(best, place, open_cost(s, kept, number, base));
-            place += 1;
-        }
-        q = after(marks, s, q);
-    }
-    Found { best, place }
-}
-
 // Further by a column that is not named, while a place inside named ones is open: nothing in it is closed, so that it is one
 // open place, its argument, and that one may not be chosen.
 fn passed(found: Found) -> Found
@@ -303,120 +272,12 @@ fn passed(found: Found) -> Found
     }
 }
 
-// The open places of a pair where only those inside named columns may be chosen. The lowest bit is the column's own.
-fn cheapest_named(
-    marks: &[u16; TABLE_CELLS],
-    kept: &[u32],
-    notes: &Notes,
-    row: Row,
-    base: Base,
-    named: u64,
-) -> Found
-    requires { Inside marks.now kept.now notes.now row base named }
-    ensures { (g : Inside marks.now kept.now notes.now row base named)
-        → result ≡ found_to g.pair.ok g.pair.prices g.opens }
-{
-    let number = row.number;
-    let stop = row.end;
-    let mut found = Found {
-        best: Choice {
-            cost: 0xffffffff,
-            place: 0,
-        },
-        place: 0,
-    };
-    let mut rest = named;
-    let mut start = row.start;
-    while start < stop {
-        let end = end_in(marks[start]);
-        if rest % 2 == 0 {
-            found = passed(found);
-        } else {
-            let column = Row { number, start, end };
-            found = cheapest(marks, kept, notes, column, base, found);
-        }
-        rest = rest / 2;
-        start = end;
-    }
-    found
-}
-
 // What the closed cells of a pair weigh, and whether they are those inside named columns only: so it is while a place inside
 // them is open.
 #[derive(Clone, Copy)]
 struct Part {
     agreed: u32,
     only: bool,
-}
-
-// With the cells of one named column more.
-fn part_in(marks: &[u16; TABLE_CELLS], notes: &Notes, start: usize, end: usize, part: Part) -> Part
-    requires { Column marks.now notes.now start end part }
-    ensures { (g : Column marks.now notes.now start end part)
-        → (result ≡ part_of (part.agreed + g.weight) (some_to g.ok g.opens)) × (result.agreed ≤ 7 * end) }
-{
-    let mut inside = part.agreed;
-    let mut only = part.only;
-    let mut q = start;
-    while q < end {
-        let s = note_at(notes, q);
-        inside = with_closed(marks, inside, s, q);
-        if s.runs != 1 {
-            only = true;
-        }
-        q = after(marks, s, q);
-    }
-    Part {
-        agreed: inside,
-        only,
-    }
-}
-
-// The cells of all named columns of a row. The lowest bit is the column's own.
-fn part_named(marks: &[u16; TABLE_CELLS], notes: &Notes, row: Row, named: u64) -> Part
-    requires { Columns marks.now notes.now row.start row.end named }
-    ensures { (g : Columns marks.now notes.now row.start row.end named)
-        → (result ≡ part_of g.weight (some_to g.ok g.opens)) × (result.agreed ≤ most_agreed) }
-{
-    let stop = row.end;
-    let mut part = Part {
-        agreed: 0,
-        only: false,
-    };
-    let mut rest = named;
-    let mut start = row.start;
-    while start < stop {
-        let end = end_in(marks[start]);
-        if rest % 2 == 1 {
-            part = part_in(marks, notes, start, end, part);
-        }
-        rest = rest / 2;
-        start = end;
-    }
-    part
-}
-
-// The closed cells of a pair, which weigh `agreed` where every place that its rows agree on is closed. So they are where no
-// column is named, and where no place inside the named ones stays open.
-fn part_of(marks: &[u16; TABLE_CELLS], notes: &Notes, row: Row, agreed: u32, named: u64) -> Part
-    requires { Columns marks.now notes.now row.start row.end named × (agreed ≤ most_agreed) }
-    ensures { (g : Columns marks.now notes.now row.start row.end named)
-        → (result ≡ sort_of agreed g.weight (some_to g.ok g.opens)) × (result.agreed ≤ most_agreed) }
-{
-    if named == 0 {
-        return Part {
-            agreed,
-            only: false,
-        };
-    }
-    let part = part_named(marks, notes, row, named);
-    if part.only {
-        return part;
-    }
-    Part {
-        agreed,
-        only: false,
-    }
 }
 
 // Which pairs are worked out, of a table with so many rows: those that begin before row `top` and end at row `since` or
@@ -438,42 +299,169 @@ struct Shared {
     agreed: u32,
 }
 
-// The cheapest place of a pair of those that may be chosen, and what it costs; 0 and 0 where no place is open. Where only some
-// may be chosen, one of them is open.
-fn best_of(
-    marks: &[u16; TABLE_CELLS],
-    kept: &[u32],
-    notes: &Notes,
-    row: Row,
-    part: Part,
-    asked: Asked,
-) -> Choice
-    requires { Sorted marks.now kept.now notes.now row part asked }
-    ensures { (g : Sorted marks.now kept.now notes.now row part asked)
-        → result ≡ choice_over g.pair.ok g.pair.prices g.opens }
-{
-    let base = Base {
-        agreed: part.agreed,
-        figure: asked.figure,
-    };
-    if part.only {
-        let inside = cheapest_named(marks, kept, notes, row, base, asked.named);
-        let best = inside.best;
-        return best;
+// What a pair's values are read off: the marks of the table's cells, what is kept for the pairs, and the notes of the pair's rows.
+#[derive(Clone, Copy)]
+struct Sheet<'a> {
+    marks: &'a [u16; TABLE_CELLS],
+    kept: &'a [u32],
+    notes: &'a Notes,
+}
+
+impl Sheet<'_> {
+    // Further, over the open places in a range of cells of the pair's first row, all of which may be chosen; the leftmost of the
+    // cheapest.
+    fn cheapest(&self, range: Row, base: Base, found: Found) -> Found
+        requires { Range self.now.marks.now self.now.kept.now self.now.notes.now range base found }
+        ensures { (g : Range self.now.marks.now self.now.kept.now self.now.notes.now range base found)
+            → result ≡ found_to g.pair.ok g.pair.prices g.opens }
+    {
+        let number = range.number;
+        let stop = range.end;
+        let mut best = found.best;
+        let mut place = found.place;
+        let mut q = range.start;
+        while q < stop {
+            let s = note_at(self.notes, q);
+            if s.runs != 1 {
+                best = consider(best, place, open_cost(s, self.kept, number, base));
+                place += 1;
+            }
+            q = after(self.marks, s, q);
+        }
+        Found { best, place }
     }
-    let none = Found {
-        best: Choice {
-            cost: 0xffffffff,
+
+    // The open places of a pair where only those inside named columns may be chosen. The lowest bit is the column's own.
+    fn cheapest_named(&self, row: Row, base: Base, named: u64) -> Found
+        requires { Inside self.now.marks.now self.now.kept.now self.now.notes.now row base named }
+        ensures { (g : Inside self.now.marks.now self.now.kept.now self.now.notes.now row base named)
+            → result ≡ found_to g.pair.ok g.pair.prices g.opens }
+    {
+        let number = row.number;
+        let stop = row.end;
+        let mut found = Found {
+            best: Choice {
+                cost: 0xffffffff,
+                place: 0,
+            },
             place: 0,
-        },
-        place: 0,
-    };
-    let found = cheapest(marks, kept, notes, row, base, none);
-    if found.place == 0 {
-        return Choice { cost: 0, place: 0 };
+        };
+        let mut rest = named;
+        let mut start = row.start;
+        while start < stop {
+            let end = end_in(self.marks[start]);
+            if rest % 2 == 0 {
+                found = passed(found);
+            } else {
+                let column = Row { number, start, end };
+                found = self.cheapest(column, base, found);
+            }
+            rest = rest / 2;
+            start = end;
+        }
+        found
     }
-    let best = found.best;
-    best
+
+    // With the cells of one named column more.
+    fn part_in(&self, start: usize, end: usize, part: Part) -> Part
+        requires { Column self.now.marks.now self.now.notes.now start end part }
+        ensures { (g : Column self.now.marks.now self.now.notes.now start end part)
+            → (result ≡ part_of (part.agreed + g.weight) (some_to g.ok g.opens)) × (result.agreed ≤ 7 * end) }
+    {
+        let mut inside = part.agreed;
+        let mut only = part.only;
+        let mut q = start;
+        while q < end {
+            let s = note_at(self.notes, q);
+            inside = with_closed(self.marks, inside, s, q);
+            if s.runs != 1 {
+                only = true;
+            }
+            q = after(self.marks, s, q);
+        }
+        Part {
+            agreed: inside,
+            only,
+        }
+    }
+
+    // The cells of all named columns of a row. The lowest bit is the column's own.
+    fn part_named(&self, row: Row, named: u64) -> Part
+        requires { Columns self.now.marks.now self.now.notes.now row.start row.end named }
+        ensures { (g : Columns self.now.marks.now self.now.notes.now row.start row.end named)
+            → (result ≡ part_of g.weight (some_to g.ok g.opens)) × (result.agreed ≤ most_agreed) }
+    {
+        let stop = row.end;
+        let mut part = Part {
+            agreed: 0,
+            only: false,
+        };
+        let mut rest = named;
+        let mut start = row.start;
+        while start < stop {
+            let end = end_in(self.marks[start]);
+            if rest % 2 == 1 {
+                part = self.part_in(start, end, part);
+            }
+            rest = rest / 2;
+            start = end;
+        }
+        part
+    }
+
+    // The closed cells of a pair, which weigh `agreed` where every place that its rows agree on is closed. So they are where no
+    // column is named, and where no place inside the named ones stays open.
+    fn part_of(&self, row: Row, agreed: u32, named: u64) -> Part
+        requires { Columns self.now.marks.now self.now.notes.now row.start row.end named × (agreed ≤ most_agreed) }
+        ensures { (g : Columns self.now.marks.now self.now.notes.now row.start row.end named)
+            → (result ≡ sort_of agreed g.weight (some_to g.ok g.opens)) × (result.agreed ≤ most_agreed) }
+    {
+        if named == 0 {
+            return Part {
+                agreed,
+                only: false,
+            };
+        }
+        let part = self.part_named(row, named);
+        if part.only {
+            return part;
+        }
+        Part {
+            agreed,
+            only: false,
+        }
+    }
+
+    // The cheapest place of a pair of those that may be chosen, and what it costs; 0 and 0 where no place is open. Where only some
+    // may be chosen, one of them is open.
+    fn best_of(&self, row: Row, part: Part, asked: Asked) -> Choice
+        requires { Sorted self.now.marks.now self.now.kept.now self.now.notes.now row part asked }
+        ensures { (g : Sorted self.now.marks.now self.now.kept.now self.now.notes.now row part asked)
+            → result ≡ choice_over g.pair.ok g.pair.prices g.opens }
+    {
+        let base = Base {
+            agreed: part.agreed,
+            figure: asked.figure,
+        };
+        if part.only {
+            let inside = self.cheapest_named(row, base, asked.named);
+            let best = inside.best;
+            return best;
+        }
+        let none = Found {
+            best: Choice {
+                cost: 0xffffffff,
+                place: 0,
+            },
+            place: 0,
+        };
+        let found = self.cheapest(row, base, none);
+        if found.place == 0 {
+            return Choice { cost: 0, place: 0 };
+        }
+        let best = found.best;
+        best
+    }
 }
 
 // The values of a pair, read off the notes at its first row.
@@ -491,8 +479,13 @@ fn keep_pair(
         kept.old kept.new }
 {
     let last = shared.last;
-    let part = part_of(marks, notes, row, shared.agreed, asked.named);
-    let best = best_of(marks, &*kept, notes, row, part, asked);
+    let sheet = Sheet {
+        marks,
+        kept: &*kept,
+        notes,
+    };
+    let part = sheet.part_of(row, shared.agreed, asked.named);
+    let best = sheet.best_of(row, part, asked);
     let agreed = part.agreed;
     let count = best.cost;
     let chosen = best.place;
