@@ -39,7 +39,6 @@ pub fn gap_end(text: &[u8], at: usize) -> usize
 
 // Where the letters, digits and underscores from a place on end.
 pub fn word_end(text: &[u8], at: usize) -> usize
-    requires { at ≤ length text.now }
     ensures { WordTo text.now at result }
 {
     for i in at..text.len() {
@@ -47,5 +46,5 @@ pub fn word_end(text: &[u8], at: usize) -> usize
             return i;
         }
     }
-    text.len()
+    at.max(text.len())
 }
