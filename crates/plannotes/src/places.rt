@@ -33,10 +33,7 @@ fn last_new(before: usize, free: usize, a: usize) -> usize
     requires { free + a ≤ 63 }
     ensures { result ≡ last_new before free a }
 {
-    match a {
-        0 => before,
-        _ => free + (a - 1),
-    }
+    if a == 0 { before } else { free + (a - 1) }
 }
 
 // Closes the place with index `i`: `a` new slots from `free` on stand where its slot did, which is answered.
