@@ -23,14 +23,18 @@ fn make(plan: &[u32], width: usize, program: &mut [u32]) -> usize
     ensures { (w : Peopled plan.now 0 width)
         → Put program.old program.new 0 (flat (translated.program w.stands.tree)) result }
 {
-    let to = put_own(plan, 0, width, 0, 1, program, 0);
     let first = Stand {
         at: 0,
+        number: 0,
+        to: 0,
+    };
+    let to = put_own(plan, width, program, first);
+    let below = Stand {
         number: 1,
         to,
+        ..first
     };
-    let last = visit_below(plan, width, program, first);
-    last.to
+    visit_below(plan, width, program, below).to
 }
 
 // The program of any plan for a table, any cells at all for both, put into a room: for each clause four numbers and its head's cells

@@ -7,6 +7,7 @@ ghost use Rattle.unfolding.specs.code.Visits.{Peopled, own_of};
 
 use crate::fold::{Fold, fold_run};
 use crate::past::past_state;
+use crate::walk::Stand;
 use heads::{decide_in, put_clause};
 use limits::ROW_CELLS;
 
@@ -54,30 +55,25 @@ fn put_branch(plan: &[u32], p: usize, index: usize, o: Own, program: &mut [u32],
     )
 }
 
-// The clauses of a state's predicate, number k, the next one that is called being number `next`.
-pub fn put_own(
-    plan: &[u32],
-    at: usize,
-    places: usize,
-    k: usize,
-    next: usize,
-    program: &mut [u32],
-    to: usize,
-) -> usize
-    requires { Peopled plan.now at places × (0 < places) × (k ≤ at) × (next ≤ at + 1) }
-    ensures { (w : Peopled plan.now at places)
-        → Put program.old program.new to (flat (own_of w.stands.tree k next)) result }
+// The clauses of a state's predicate, put from where the walk stands; the next predicate is the first that they call.
+pub fn put_own(plan: &[u32], places: usize, program: &mut [u32], from: Stand) -> usize
+    requires { Peopled plan.now from.at places × (0 < places) × (from.number ≤ from.at) }
+    ensures { (w : Peopled plan.now from.at places)
+        → Put program.old program.new from.to (flat (own_of w.stands.tree from.number (from.number + 1))) result }
 {
+    let at = from.at;
+    let number = from.number;
+    let next = number + 1;
     let index = plan[at] as usize;
     let branches = plan[at + 1];
     let mut p = at + 2;
-    let mut on = to;
+    let mut on = from.to;
     let mut called = next;
     for _ in 0..branches {
         let wider = cell::arity_of(plan[p]) + places - 1;
         let end = past_state(plan, p + 1, wider);
         let o = Own {
-            predicate: k,
+            predicate: number,
             called,
             width: places,
         };

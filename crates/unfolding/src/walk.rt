@@ -25,8 +25,7 @@ pub fn visit(plan: &[u32], places: usize, program: &mut [u32], from: Stand) -> S
     if places == 0 {
         return Stand {
             at: from.at + 1,
-            number: from.number,
-            to: from.to,
+            ..from
         };
     }
     let at = from.at;
@@ -34,17 +33,13 @@ pub fn visit(plan: &[u32], places: usize, program: &mut [u32], from: Stand) -> S
         return visit_below(plan, places, program, from);
     }
     let next = from.number + 1;
-    let to = put_own(plan, at, places, from.number, next, program, from.to);
-    visit_below(
-        plan,
-        places,
-        program,
-        Stand {
-            at,
-            number: next,
-            to,
-        },
-    )
+    let to = put_own(plan, places, program, from);
+    let below = Stand {
+        number: next,
+        to,
+        ..from
+    };
+    visit_below(plan, places, program, below)
 }
 
 // Those below its branches.
@@ -59,17 +54,12 @@ pub fn visit_below(plan: &[u32], places: usize, program: &mut [u32], from: Stand
     let branches = plan[first + 1];
     let mut here = Stand {
         at: first + 2,
-        number: from.number,
-        to: from.to,
+        ..from
     };
     for _ in 0..branches {
         let p = here.at;
         let wider = cell::arity_of(plan[p]) + places - 1;
-        let below = Stand {
-            at: p + 1,
-            number: here.number,
-            to: here.to,
-        };
+        let below = Stand { at: p + 1, ..here };
         here = visit(plan, wider, program, below);
     }
     here

@@ -26,7 +26,7 @@ pub overflow_add-p : goal.overflow_add-p
 overflow_add-p c = let h = own-inside c.requires.0 c.requires.1 in omega (arith, h)
 
 pub loop-init : goal.loop-init
-loop-init c = λ w. own-begins w _ _ c.requires.1 c.requires.3 (omega arith)
+loop-init c = λ w. own-begins w _ _ c.requires.1 (omega arith) (omega arith)
 
 pub offset_bounds-plan-p : goal.offset_bounds-plan-p
 offset_bounds-plan-p c = let g = (own-goes (c.loop.invariant c.requires.0) _ (omega arith) c.requires.2 refl) in omega (arith, g.here, g.size)
@@ -63,3 +63,6 @@ shape_of-program c = put-length (own-ends (c.loop.invariant c.requires.0) (omega
 
 pub returns : goal.returns
 returns c = λ w. own-ends (c.loop.invariant w) (omega arith)
+
+pub overflow_add-next : goal.overflow_add-next
+overflow_add-next c = let h = own-inside c.requires.0 c.requires.1 in omega (arith, h)

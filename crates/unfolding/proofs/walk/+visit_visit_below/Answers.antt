@@ -30,7 +30,7 @@ pub visit-overflow_add-next : goal.visit-overflow_add-next
 visit-overflow_add-next t c = let w = c.requires.0.stands in let h = enters-inside w (omega arith) in omega arith
 
 pub visit-put_own-to-requires : goal.visit-put_own-to-requires
-visit-put_own-to-requires t c = (c.requires.0, omega arith, omega arith, omega arith)
+visit-put_own-to-requires t c = (c.requires.0, omega arith, omega arith)
 
 pub visit-visit_below-requires-2 : goal.visit-visit_below-requires-2
 visit-visit_below-requires-2 t c =
