@@ -14,6 +14,7 @@ use clauses::ProgramSize;
 use refusal::{Input, Reason, Refusal};
 use text::put_program;
 
+// Stays: what the clause says is of the clauses that ProgramWritten holds (w.clauses), which a type's invariant would not name.
 // A program's text, put at the front of the room; or, where the room is too small, how many bytes are needed.
 fn put(program: &[u32], text: &[u8], names: &[u32], room: &mut [u8]) -> Result<ProgramSize, Refusal>
     requires { ProgramWritten program.now }

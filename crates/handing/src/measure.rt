@@ -123,18 +123,12 @@ fn line_bytes(names: &[u32], clause: &[u32]) -> usize
     bytes + 4 + atom_bytes(names, called, &up[..v])
 }
 
-pub fn wide(n: u32) -> usize
-    ensures { (result ≡ n) × (result < 2 ^ 32) }
-{
-    n as usize
-}
-
 // Where the clause at a place ends: after its four numbers and its head.
 pub fn clause_end(program: &[u32], at: usize) -> usize
     requires { Begins program.now at }
     ensures { (result ≡ at + 4 + get_or program.now (at + 3) 0) × (at + 4 ≤ result) × (result ≤ length program.now) }
 {
-    at + 4 + wide(program[at + 3])
+    at + 4 + program[at + 3] as usize
 }
 
 // How many clauses a program has, and how many bytes.
@@ -145,6 +139,7 @@ pub fn measure(names: &[u32], program: &[u32]) -> ProgramSize
     let mut at = 0;
     let mut clauses = 0;
     let mut bytes = 0;
+    // Stays: a step goes from one clause's start to the next one's, and counts no index.
     while at < program.len() {
         let end = clause_end(program, at);
         bytes += line_bytes(names, &program[at..end]);

@@ -7,10 +7,11 @@ ghost use Rattle.clauses.specs.Handed.{text_for};
 ghost use Rattle.handing.specs.code.Lines.{One, ProgramWritten};
 ghost use Rattle.limits.specs.Limits.{most_row_cells};
 
-use crate::measure::{UP, clause_end, variables, wide};
+use crate::measure::{UP, clause_end, variables};
 use octets::{put_decimal, put_word};
 
 // A predicate with its arguments. Their names are all in one list.
+// Stays: put_terms of answertext, and its clause (words_in), take the text and the names one by one.
 fn put_atom(
     out: &mut [u8],
     to: usize,
@@ -38,8 +39,16 @@ fn put_line(out: &mut [u8], to: usize, text: &[u8], names: &[u32], clause: &[u32
 {
     let n = clause.len();
     let head = &clause[4..n];
-    let called = wide(clause[1]);
-    let a = put_atom(out, to, text, names, wide(clause[0]), wide(clause[2]), head);
+    let called = clause[1] as usize;
+    let a = put_atom(
+        out,
+        to,
+        text,
+        names,
+        clause[0] as usize,
+        clause[2] as usize,
+        head,
+    );
     if called == 0 {
         return put_word(out, a, b".\n");
     }
@@ -58,6 +67,7 @@ pub fn put_program(out: &mut [u8], text: &[u8], names: &[u32], program: &[u32]) 
 {
     let mut on = 0;
     let mut at = 0;
+    // Stays: a step goes from one clause's start to the next one's, and counts no index.
     while at < program.len() {
         let end = clause_end(program, at);
         on = put_line(out, on, text, names, &program[at..end]);

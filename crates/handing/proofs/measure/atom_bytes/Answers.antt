@@ -1,12 +1,9 @@
-use Prim.Native.Nat.{◌+◌, ◌-◌, ◌*◌, ◌≤◌}
-use mathlib.Core.Path.{◌≡◌}
 use mathlib.Core.List.{[], ◌∷◌}
 use native.Mathlib.Omega.{arith}
-use borrow.Author.Rules.{rules}
-use lib.ListN.{length, drop, length-append}
+use lib.ListN.{length-append}
 use Rattle.octets.specs.Octets.{decimal}
 use Rattle.octets.proofs.DecimalLaws.{digits-few}
-use Rattle.clauses.specs.code.Size.{cell_bytes, atom_bytes}
+use Rattle.clauses.specs.code.Size.{atom_bytes}
 use Rattle.handing.specs.code.Lines.{blanks}
 use Rattle.handing.proofs.MeasureLaws.{sum-on, no_cells}
 use Rattle.handing.proofs.measure.atom_bytes.Goals as goal

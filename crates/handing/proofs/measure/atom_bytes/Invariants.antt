@@ -1,14 +1,8 @@
-use Prim.Native.Nat.{◌+◌, ◌-◌, ◌*◌, ◌≤◌}
+use Prim.Native.Nat.{◌+◌, ◌*◌, ◌≤◌}
 use mathlib.Core.Path.{◌≡◌}
-use mathlib.Core.List.{[], ◌∷◌}
-use native.Mathlib.Omega.{arith}
-use borrow.Author.Rules.{rules}
-use lib.ListN.{length, drop, length-append}
-use Rattle.octets.specs.Octets.{decimal}
-use Rattle.octets.proofs.DecimalLaws.{digits-few}
+use lib.ListN.{length, drop}
 use Rattle.clauses.specs.code.Size.{cell_bytes, atom_bytes}
 use Rattle.handing.specs.code.Lines.{blanks}
-use Rattle.handing.proofs.MeasureLaws.{sum-on, no_cells}
 use Rattle.handing.proofs.measure.atom_bytes.Given as goal
 
 abbrev pub invariant-loop-c : goal.invariant-loop-c

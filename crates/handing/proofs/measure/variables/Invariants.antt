@@ -1,10 +1,7 @@
-use Prim.Native.Nat.{◌+◌, ◌-◌, ◌≤◌}
-use mathlib.Core.Path.{◌≡◌, refl, sym, ◌∙◌, ap}
-use native.Mathlib.Omega.{arith}
-use borrow.Author.Rules.{rules}
+use Prim.Native.Nat.{◌≤◌}
+use mathlib.Core.Path.{◌≡◌}
 use lib.ListN.{length, drop}
 use Rattle.handing.specs.code.Lines.{met_in}
-use Rattle.handing.proofs.MeasureLaws.{met-on, met-end}
 use Rattle.handing.proofs.measure.variables.Given as goal
 
 abbrev pub invariant-loop-c : goal.invariant-loop-c

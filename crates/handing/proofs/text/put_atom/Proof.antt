@@ -1,7 +1,6 @@
 use mathlib.Core.List.{[]}
 use Rattle.octets.proofs.PutLaws.{put-put}
 use Rattle.handing.proofs.TextLaws.{atom-is}
-use native.Mathlib.Omega.{arith}
 use borrow.Author.Rules.{rules}
 use Rattle.handing.proofs.text.put_atom.Statement.{statement}
 use Rattle.handing.proofs.text.put_atom.Tie as tie
