@@ -49,6 +49,7 @@ fn is_spaced(what: What) -> bool
     !matches!(what, What::Open | What::Digit)
 }
 
+// Stays: the flag is a fact of the place (tabbed, specs/Looking), and no choice of steps.
 #[tactic(auto, using(std::proofs::lemmas::Bool::Decides::nat_tests))]
 fn tab_of(layout: bool, byte: u8) -> Found
     ensures { result ≡ tabbed layout byte }
@@ -60,6 +61,7 @@ fn tab_of(layout: bool, byte: u8) -> Found
 }
 
 // Of a byte, after a number or not, where layout may stand or not.
+// Stays: the flags are facts of the place (found_by, specs/Looking), and no choice of steps.
 #[tactic(auto, using(std::proofs::lemmas::Bool::Decides::nat_tests), unfolding(expecting::specs::Looking::found_by, grammar::specs::Grammar::is_digit))]
 fn found_of(number: bool, layout: bool, byte: u8) -> Found
     ensures { result ≡ found_by number layout byte }

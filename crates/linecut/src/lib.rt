@@ -34,6 +34,7 @@ pub fn move_front(buf: &mut [u8], from: usize, to: usize) -> usize
 }
 
 // Whether a byte stands in a comment. No name and no number has a `%`, so that each begins one; a line feed ends it.
+// Stays: the flag is a fact of the bytes before (in_remark, specs/Cut), and no choice of steps.
 fn in_remark(remark: bool, byte: u8) -> bool
     ensures { result ≡ in_remark remark byte }
 {
@@ -44,6 +45,7 @@ fn in_remark(remark: bool, byte: u8) -> bool
 }
 
 // A closing bracket that is no comment's.
+// Stays: the flag is a fact of the bytes before (closes, specs/Cut), and no choice of steps.
 fn closes(remark: bool, byte: u8) -> bool
     ensures { result ≡ closes remark byte }
 {

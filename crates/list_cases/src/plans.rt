@@ -22,6 +22,7 @@ const Z0: u32 = 0x4000001a;
 const ZERO: u32 = 0x80000000;
 
 // Prints the listing of any bytes.
+// Stays: one function for this and for the texts would take the list as a closure over a room of N bytes, and say more than the two.
 fn show(rt: HostRuntime, bytes: &[u8]) {
     let mut out = [0u8; 43035];
     let n = listing::list_table(bytes, &mut out);

@@ -1,5 +1,6 @@
 // Further cases of the program textlist: the lines of each text are printed after those before it.
 // Prints the lines of any bytes.
+// Stays: one function for this and for the plans would take the list as a closure over a room of N bytes, and say more than the two.
 fn show(rt: HostRuntime, text: &[u8]) {
     let mut out = [0u8; 43030];
     let n = textlines::list_text(text, &mut out);

@@ -4,7 +4,7 @@ ghost use Rattle.plan.specs.Notes.{row_noted};
 ghost use Rattle.listing.specs.code.Walk.{Ready, Walks};
 ghost use Rattle.limits.specs.Limits.{most_branches};
 
-use crate::text::put_line;
+use crate::text::{Branch, put_line};
 use limits::BRANCHES;
 use plannotes::packed::{row_of, skip_of, wide};
 
@@ -30,6 +30,7 @@ fn row_after(noted: &[u64; BRANCHES], next: usize, left: u32, stop: usize) -> us
 
 // The lines below a state with so many open places, whose rows are before `stop`: for each of its branches the branch's own line, then those
 // below it.
+// Stays: places, depth and stop change at each step, each in its own way: one struct for them would be taken apart and made anew each time.
 pub fn state(
     plan: &[u32],
     noted: &[u64; BRANCHES],
@@ -46,11 +47,7 @@ pub fn state(
     let number = from.number;
     let to = from.to;
     if places == 0 {
-        return Stand {
-            at: at + 1,
-            number,
-            to,
-        };
+        return Stand { at: at + 1, ..from };
     }
     let index = plan[at];
     let branches = plan[at + 1];
@@ -65,7 +62,14 @@ pub fn state(
         let n = here.number;
         let w = noted[n];
         let after = row_after(noted, n + 1 + skip_of(w), branches - passed, stop);
-        let on = put_line(out, here.to, depth, index, c, wide(row_of(w)), after - 1);
+        let branch = Branch {
+            depth,
+            index,
+            symbol: c,
+            first: wide(row_of(w)),
+            last: after - 1,
+        };
+        let on = put_line(out, here.to, branch);
         let wider = cell::arity_of(c) + places - 1;
         let below = Stand {
             at: p + 1,

@@ -14,6 +14,7 @@ use refusal::Reason;
 
 // A refusal, after the name of what is refused: line, column, the refusal's name and number, and what is expected. `said` says what is expected
 // where a text goes on no further.
+// Stays: public, and its clause (refusal_line) names the five; line and column are a Mark of crate marks, which stands on other ground.
 pub fn put_refused(
     out: &mut [u8],
     to: usize,

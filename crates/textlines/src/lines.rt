@@ -69,6 +69,7 @@ fn put_name(out: &mut [u8], to: usize, name: u32) -> usize
     put_field(out, on, (name / 65536) as usize, b'\n')
 }
 
+// Stays: put_others of mendwords goes over other items by another line; one function for both would take a closure and its law.
 fn put_names(out: &mut [u8], to: usize, names: &[u32]) -> usize
     ensures { PutsNames names.now out.old out.new to result }
 {

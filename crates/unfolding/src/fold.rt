@@ -14,6 +14,7 @@ pub struct Fold {
 }
 
 // Whether a state has one branch: then the run goes on.
+// Stays: single of plannotes asks it of any place at all, this one of a state that stands there (Stands), by which its clause reads the tree.
 fn straight(plan: &[u32], at: usize, places: usize) -> bool
     requires { Stands plan.now at places }
     ensures { (w : Stands plan.now at places) → result ≡ goes_on w.tree }

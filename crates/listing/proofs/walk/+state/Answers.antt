@@ -59,8 +59,8 @@ overflow_add-n-in-loop-passed t c = omega (arith, ((numbered (c.loop-passed.inva
 pub row_after-after-requires : goal.row_after-after-requires
 row_after-after-requires t c = λ n. rw c.skip_of.ensures (((numbered (c.loop-passed.invariant c.requires) (omega arith))).1 n)
 
-pub overflow_sub-after : goal.overflow_sub-after
-overflow_sub-after t c = omega (
+pub overflow_sub-branch : goal.overflow_sub-branch
+overflow_sub-branch t c = omega (
   arith,
   ((goes (c.loop-passed.invariant c.requires) _ _ _ (omega arith) refl refl refl)).some,
   (c.row_after-after.ensures ∙ ap (λ (s : ℕ). cond (eqb (get_or c.args.plan.now (c.args.from.at + 1) 0 - c.loop-passed.passed) 1) c.args.stop
