@@ -28,6 +28,7 @@ pub struct Known {
 }
 
 // One turn further: on; or all cells are written, and the text has so many names.
+// Stays: both go on with a value of their own, and neither is a failure.
 #[derive(Drop)]
 pub enum Made {
     Go(Making, Known),
@@ -53,6 +54,7 @@ fn value(number: u16) -> u32
 }
 
 // A name is met, and its cell is written; how many names there are now.
+// Stays: tried with the rooms as one struct of slices; lent by one reference, no two of them can be lent on at once (no rule of the borrow checker).
 fn put_name(
     text: &[u8],
     list: &mut [u32],
@@ -147,6 +149,7 @@ fn after_row(text: &[u8], at: usize, count: usize, k: Known, ways: &mut [u16]) -
 }
 
 // One turn. `list` and `links` have the names of the text, `words`, `ways` and `given` the variables of a row.
+// Stays: tried with the rooms as one struct of slices; lent by one reference, no two of them can be lent on at once (no rule of the borrow checker).
 fn make_on(
     text: &[u8],
     m: Making,
@@ -208,6 +211,7 @@ fn make_on(
 }
 
 // Turn after turn, from the first fact's arguments on; how many names there are.
+// Stays: the rooms are lent one by one, as to `make_on`.
 fn make_all(
     text: &[u8],
     list: &mut [u32],

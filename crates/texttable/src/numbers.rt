@@ -31,6 +31,7 @@ fn is_fresh(text: &[u8], start: usize, end: usize) -> bool
 
 // One variable more. Those with a name are listed in `words`, found by `ways`, and each has the number that it was given when it was first
 // met.
+// Stays: the three rooms of a row's variables are lent one by one, as to `make_on`.
 pub fn number_variable(
     text: &[u8],
     words: &mut [u32],
