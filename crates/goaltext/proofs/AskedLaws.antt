@@ -32,7 +32,7 @@ use Rattle.slices.specs.declared.Span.{Span}
 use Rattle.prolog.specs.Entry.{FactsAre, are-made}
 use Rattle.prolog.specs.Entry as entry
 use Rattle.prolog.specs.declared.FactsMade.TheVariants as facts-made
-use Rattle.std.specs.Prelude.{Ok, Err}
+use Rattle.std.specs.Prelude.{Result, Ok, Err}
 use Rattle.prolog.specs.declared.TextSize.{TextSize}
 use Rattle.prolog.proofs.EntryLaws.{cells-long}
 use Rattle.slices.proofs.SliceLaws.{part-is}
