@@ -8,8 +8,5 @@ ghost use Rattle.sums.specs.Sums.{up_by};
 pub fn plus(n: usize, more: usize) -> usize
     ensures { result ≡ up_by n more }
 {
-    if more <= usize::MAX - n {
-        return n + more;
-    }
-    usize::MAX
+    n.saturating_add(more)
 }
