@@ -35,17 +35,9 @@ mark-longer t p e h l =
     rw (n, ← c) (sym (mark-last (drop p t) 0 (e - p) (omega (arith, length-drop p t))))
 
 -- A MARK AMONG THOSE from a place on
-has-next : (marks : List ℕ) (m i : ℕ) → i < length marks → has m (drop i marks) ≡ (eqb (get_or marks i 0) m || has m (drop (i + 1) marks))
+pub has-next : (marks : List ℕ) (m i : ℕ) → i < length marks → has m (drop i marks) ≡ (eqb (get_or marks i 0) m || has m (drop (i + 1) marks))
 unfolding has
 has-next marks m i h = rw (add-one i) (ap (has m) (drop-cons marks i 0 h))
-
-module _ (marks : List ℕ) (m i : ℕ) (h : i < length marks) where
-  pub has_here : (b : Bool) → get_or marks i 0 ≡ m → (b || has m (drop i marks)) ≡ true
-  has_here true e = refl
-  has_here false e = has-next marks m i h ∙ rw (eq-eqb (get_or marks i 0) m e)
-
-  pub has-later : (b : Bool) → (get_or marks i 0 ≡ m → ⊥) → (b || has m (drop i marks)) ≡ (b || has m (drop (i + 1) marks))
-  has-later b n = ap (λ (d : Bool). b || d) (has-next marks m i h ∙ rw (ne_eqb (get_or marks i 0) m n))
 
 pub has_end : (marks : List ℕ) (m i : ℕ) (b : Bool) → i ≡ length marks → (b || has m (drop i marks)) ≡ b
 unfolding has

@@ -13,12 +13,10 @@ use slices::cells::part;
 fn same_cells(a: &[u32], b: &[u32]) -> bool
     ensures { result ≡ same a.now b.now }
 {
-    let mut n = a.len();
-    if n != b.len() {
+    if a.len() != b.len() {
         return false;
     }
-    while 0 < n {
-        n -= 1;
+    for n in (0..a.len()).rev() {
         if a[n] != b[n] {
             return false;
         }
@@ -31,15 +29,11 @@ fn same_cells(a: &[u32], b: &[u32]) -> bool
 pub fn stands_among(row: &[u32], cells: &[u32], starts: &[usize], but: usize) -> bool
     ensures { result ≡ among row.now (rows_lent cells.now starts.now but) }
 {
-    let mut n = starts.len();
     let mut end = cells.len();
-    while 0 < n {
-        n -= 1;
+    for n in (0..starts.len()).rev() {
         let start = starts[n];
-        if n != but {
-            if same_cells(row, part(cells, start, end)) {
-                return true;
-            }
+        if n != but && same_cells(row, part(cells, start, end)) {
+            return true;
         }
         end = start;
     }
@@ -50,7 +44,7 @@ pub fn stands_among(row: &[u32], cells: &[u32], starts: &[usize], but: usize) ->
 pub fn mixed(mark: u32, c: u32) -> u32
     ensures { result ≡ mix mark c }
 {
-    ((mark as u64 * 65599 + c as u64) % 4294967296) as u32
+    mark.wrapping_mul(65599).wrapping_add(c)
 }
 
 // Whether a mark is one of these. All of them are looked at, so that the processor can take several at a time.
@@ -58,12 +52,8 @@ pub fn has_mark(marks: &[u32], mark: u32) -> bool
     ensures { result ≡ has mark marks.now }
 {
     let mut found = false;
-    let mut i = 0;
-    while i < marks.len() {
-        if marks[i] == mark {
-            found = true;
-        }
-        i += 1;
+    for m in marks {
+        found |= *m == mark;
     }
     found
 }
@@ -74,8 +64,5 @@ pub fn seen_before(row: &[u32], mark: u32, cells: &[u32], starts: &[usize], mark
     ensures { result ≡ (has mark marks.now
         && among row.now (rows_lent cells.now starts.now (length starts.now))) }
 {
-    if has_mark(marks, mark) {
-        return stands_among(row, cells, starts, starts.len());
-    }
-    false
+    has_mark(marks, mark) && stands_among(row, cells, starts, starts.len())
 }
