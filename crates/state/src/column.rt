@@ -21,33 +21,26 @@ pub fn same_symbol(c: u32, d: u32) -> bool
 pub fn run_length(column: &[u32]) -> usize
     ensures { result ≡ run_length column.now }
 {
-    if column.len() == 0 {
-        return 0;
-    }
-    let mut n = 1;
-    while n < column.len() {
+    for n in 1..column.len() {
         if !same_symbol(column[n - 1], column[n]) {
             return n;
         }
-        n += 1;
     }
-    n
+    column.len()
 }
 
 // How many runs there are.
 pub fn run_count(column: &[u32]) -> usize
     ensures { result ≡ run_count column.now }
 {
-    if column.len() == 0 {
+    if column.is_empty() {
         return 0;
     }
     let mut count = 1;
-    let mut row = 1;
-    while row < column.len() {
+    for row in 1..column.len() {
         if !same_symbol(column[row - 1], column[row]) {
             count += 1;
         }
-        row += 1;
     }
     count
 }

@@ -1,5 +1,5 @@
 // The flags of a state's open places as one number (02, W-213): bit i is set where open place i is inside a named column.
-ghost use Rattle.std.specs.Prelude.{◌≡◌, ◌<◌, ◌^◌, max};
+ghost use Rattle.std.specs.Prelude.{◌≡◌, ◌<◌, ◌^◌};
 ghost use Rattle.state.specs.Flags.{may_in, spread_of, with_column, mask_from, past_from};
 
 // Place i may be chosen: it is inside a named column, or no open place is.
@@ -56,15 +56,8 @@ fn with_column(mask: u64, c: usize) -> u64
     mask
 }
 
-// The larger of two numbers.
-fn larger(a: usize, b: usize) -> usize
-    ensures { result ≡ max a b }
-{
-    if a < b { b } else { a }
-}
-
 // The named columns of a list as bits, and one more than the largest of its numbers; both 0 where it is empty.
-#[derive(Drop)]
+#[derive(Clone, Copy, PartialEq, Eq)]
 pub struct Named {
     pub mask: u64,
     pub past: usize,
@@ -75,12 +68,10 @@ pub fn named_of(columns: &[u32]) -> Named
 {
     let mut mask = 0;
     let mut past = 0;
-    let mut i = 0;
-    while i < columns.len() {
-        let c = columns[i] as usize;
+    for column in columns {
+        let c = *column as usize;
         mask = with_column(mask, c);
-        past = larger(past, c + 1);
-        i += 1;
+        past = past.max(c + 1);
     }
     Named { mask, past }
 }

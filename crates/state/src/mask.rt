@@ -1,5 +1,5 @@
 // A row's state as a mask of its open cells: bit j is set while cell j of the row is not yet looked at. A row has at most 32 cells.
-ghost use Rattle.std.specs.Prelude.{◌≡◌, ◌-◌, min, drop};
+ghost use Rattle.std.specs.Prelude.{◌≡◌, min, drop};
 ghost use Rattle.state.specs.Mask.{bit_at, full, OpenRows, ClosedAt};
 ghost use Rattle.state.specs.States.{ClosedRows};
 ghost use Rattle.limits.specs.Limits.{most_rows};
@@ -13,30 +13,15 @@ pub fn row_mask(n: usize) -> u32
     if n < 32 { (1 << n) - 1 } else { 0xffffffff }
 }
 
-// How many cells there are from one place to another.
-fn between(start: usize, end: usize) -> usize
-    ensures { result ≡ end - start }
-{
-    if start < end {
-        return end - start;
-    }
-    0
-}
-
 // The masks of a table's rows, all of their cells open: at most 64 rows that start as given, in a table of `length` cells.
 pub fn open_rows(starts: &[usize; ROWS], rows: usize, length: usize) -> [u32; ROWS]
     ensures { OpenRows starts.now rows length result }
 {
     let mut masks = [0; ROWS];
-    let mut row = ROWS;
-    if rows < ROWS {
-        row = rows;
-    }
     let mut end = length;
-    while 0 < row {
-        row -= 1;
+    for row in (0..rows.min(ROWS)).rev() {
         let start = starts[row];
-        masks[row] = row_mask(between(start, end));
+        masks[row] = row_mask(end.saturating_sub(start));
         end = start;
     }
     masks
@@ -104,12 +89,7 @@ pub fn close_rows(
     ensures { ClosedRows cells.now starts.now masks.old column.old masks.new
         column.new i first (min end most_rows) }
 {
-    let mut row = ROWS;
-    if end < ROWS {
-        row = end;
-    }
-    while first < row {
-        row -= 1;
+    for row in (first..end.min(ROWS)).rev() {
         let closed = close_at(cells, starts[row], masks[row], i);
         column[row] = closed.cell;
         masks[row] = closed.mask;
