@@ -27,21 +27,15 @@ fn put_first(file: &mut [u8], cells: &[u32]) {
     blocks::put_block(file, 0, 0, &all);
 }
 
-fn block(rt: HostRuntime, cells: &[u32]) {
+fn block(cells: &[u32]) -> [u8; 512] {
     let mut file = [0u8; 512];
     put_first(&mut file, cells);
-    show(rt, &file);
+    file
 }
 
-fn mend_block(rt: HostRuntime, cells: &[u32]) {
-    let mut file = [0u8; 512];
-    put_first(&mut file, cells);
-    mend(rt, &file);
-}
-
-// 02's example: the table `1 1 a`, the plan `0 1 a 1`, a being the name 0.
+// The table `1 1 a`, the plan `0 1 a 1`, a being the name 0.
 fn whole(rt: HostRuntime) {
-    block(rt, &[3, 4, 1, 1, 0x40000000, 0, 1, 0x40000000, 1]);
+    show(rt, &block(&[3, 4, 1, 1, 0x40000000, 0, 1, 0x40000000, 1]));
 }
 
 // BLOCKS, DAMAGE, SIZES, PADDING.
@@ -56,26 +50,29 @@ fn files(rt: HostRuntime) {
     show(rt, part(&file, 0, 1024));
     blocks::put_block(&mut file, 512, 1, &cells);
     show(rt, part(&file, 0, 1024));
-    block(rt, &[3, 504, 1, 1, 0x40000000, 0, 1, 0x40000000, 1]);
-    block(rt, &[3, 4, 1, 1, 0x40000000, 0, 1, 0x40000000, 1, 1]);
+    show(rt, &block(&[3, 504, 1, 1, 0x40000000, 0, 1, 0x40000000, 1]));
+    show(
+        rt,
+        &block(&[3, 4, 1, 1, 0x40000000, 0, 1, 0x40000000, 1, 1]),
+    );
 }
 
 // LENGTH, WIDTH, COUNT, LONG, SHORT, CELL, FRESH, SAME, EXTRA, each with the plan `0 1 a 1`.
 fn tables(rt: HostRuntime) {
-    block(rt, &[1, 4, 1, 0, 1, 0x40000000, 1]);
-    block(rt, &[3, 4, 9, 1, 0x40000000, 0, 1, 0x40000000, 1]);
-    block(rt, &[3, 4, 1, 65, 0x40000000, 0, 1, 0x40000000, 1]);
+    show(rt, &block(&[1, 4, 1, 0, 1, 0x40000000, 1]));
+    show(rt, &block(&[3, 4, 9, 1, 0x40000000, 0, 1, 0x40000000, 1]));
+    show(rt, &block(&[3, 4, 1, 65, 0x40000000, 0, 1, 0x40000000, 1]));
     long(rt);
-    block(rt, &[3, 4, 2, 1, 0x40000000, 0, 1, 0x40000000, 1]);
-    block(rt, &[3, 4, 1, 1, 0xc0000000, 0, 1, 0x40000000, 1]);
-    block(rt, &[3, 4, 1, 1, 1, 0, 1, 0x40000000, 1]);
-    block(
+    show(rt, &block(&[3, 4, 2, 1, 0x40000000, 0, 1, 0x40000000, 1]));
+    show(rt, &block(&[3, 4, 1, 1, 0xc0000000, 0, 1, 0x40000000, 1]));
+    show(rt, &block(&[3, 4, 1, 1, 1, 0, 1, 0x40000000, 1]));
+    show(
         rt,
-        &[4, 4, 1, 2, 0x40000000, 0x40000000, 0, 1, 0x40000000, 1],
+        &block(&[4, 4, 1, 2, 0x40000000, 0x40000000, 0, 1, 0x40000000, 1]),
     );
-    block(
+    show(
         rt,
-        &[4, 4, 1, 1, 0x40000000, 0x40000000, 0, 1, 0x40000000, 1],
+        &block(&[4, 4, 1, 1, 0x40000000, 0x40000000, 0, 1, 0x40000000, 1]),
     );
 }
 
@@ -83,7 +80,7 @@ fn tables(rt: HostRuntime) {
 fn long(rt: HostRuntime) {
     let mut cells = [0x40010000u32; 36];
     cells[..4].copy_from_slice(&[35, 0, 1, 1]);
-    block(rt, &cells);
+    show(rt, &block(&cells));
 }
 
 // ENDS, OPEN, EDGES, LABEL, ROWS, EXTRA.
@@ -97,7 +94,7 @@ fn plans(rt: HostRuntime) {
         &[3, 5, 1, 1, 0x40000000, 0, 1, 0x40000000, 1, 0],
     ];
     for cells in spoiled {
-        block(rt, cells);
+        show(rt, &block(cells));
     }
 }
 
@@ -127,18 +124,18 @@ fn lost(rt: HostRuntime) {
     let file = [0u8; 511];
     mend(rt, &file[..0]);
     mend(rt, &file);
-    mend_block(rt, &[3, 4, 9, 1, 0x40000000, 0, 1, 0x40000000, 1]);
-    mend_block(rt, &[3, 4, 1, 65, 0x40000000, 0, 1, 0x40000000, 1]);
-    mend_block(rt, &[3, 4, 1, 1, 0xc0000000, 0, 1, 0x40000000, 1]);
-    mend_block(rt, &[2, 4, 1, 1, 0, 1, 0x40000000, 1]);
+    mend(rt, &block(&[3, 4, 9, 1, 0x40000000, 0, 1, 0x40000000, 1]));
+    mend(rt, &block(&[3, 4, 1, 65, 0x40000000, 0, 1, 0x40000000, 1]));
+    mend(rt, &block(&[3, 4, 1, 1, 0xc0000000, 0, 1, 0x40000000, 1]));
+    mend(rt, &block(&[2, 4, 1, 1, 0, 1, 0x40000000, 1]));
 }
 
 // A whole card; a second rule with a cell of no kind; a whole card with a block of zeros and a part of one after it.
 fn mended(rt: HostRuntime) {
-    mend_block(rt, &[3, 4, 1, 1, 0x40000000, 0, 1, 0x40000000, 1]);
-    mend_block(
+    mend(rt, &block(&[3, 4, 1, 1, 0x40000000, 0, 1, 0x40000000, 1]));
+    mend(
         rt,
-        &[4, 4, 1, 2, 0x40000000, 0xc0000000, 0, 1, 0x40000000, 1],
+        &block(&[4, 4, 1, 2, 0x40000000, 0xc0000000, 0, 1, 0x40000000, 1]),
     );
     let mut file = [0u8; 1025];
     put_first(&mut file, &[3, 4, 1, 1, 0x40000000, 0, 1, 0x40000000, 1]);

@@ -46,11 +46,11 @@ pub fn answer_call(rt: HostRuntime, first: usize, end: usize) {
     let mut word = [0u8; NAME];
     let n = console::word(rt, first, &mut word);
     let file = next(first);
-    let named = count == 3;
+    let card = if count == 3 { Some(next(file)) } else { None };
     match wish_of(&word[..n], count) {
-        Wish::Pack => with_files(rt, file, named, b"cannot read RULES", cardwork::pack),
+        Wish::Pack => with_files(rt, file, card, b"cannot read RULES", cardwork::pack),
         Wish::Check => check(rt, file),
-        Wish::Mend => with_files(rt, file, named, b"cannot read BAD", cardwork::mend),
+        Wish::Mend => with_files(rt, file, card, b"cannot read BAD", cardwork::mend),
         Wish::Help => cardhelp::print(rt),
         Wish::Version => cardhelp::version(rt),
         Wish::Nothing => cardhelp::refuse(rt),
@@ -71,11 +71,11 @@ fn check(rt: HostRuntime, file: usize) {
     }
 }
 
-// Work on what a card is made from, which an argument names, and on the card's file, where it is named after it.
+// Work on what a card is made from, which an argument names, and on the card's file, where another argument names it.
 fn with_files<Work: Fn(HostRuntime, &[u8], Option<&[u8]>)>(
     rt: HostRuntime,
     file: usize,
-    named: bool,
+    card: Option<usize>,
     unread: &[u8],
     work: Work,
 )
@@ -83,7 +83,7 @@ fn with_files<Work: Fn(HostRuntime, &[u8], Option<&[u8]>)>(
 {
     let mut from = [0u8; NAME];
     let mut path = [0u8; NAME];
-    if let Some(names) = names_in(rt, file, &mut from, &mut path, named, unread) {
+    if let Some(names) = names_in(rt, file, card, &mut from, &mut path, unread) {
         let from = part(&from, 0, names.from);
         match names.path {
             Some(m) => work(rt, from, Some(part(&path, 0, m))),
@@ -96,19 +96,19 @@ fn with_files<Work: Fn(HostRuntime, &[u8], Option<&[u8]>)>(
 fn names_in(
     rt: HostRuntime,
     file: usize,
+    card: Option<usize>,
     from: &mut [u8],
     path: &mut [u8],
-    named: bool,
     unread: &[u8],
 ) -> Option<Names> {
     let n = argument(rt, file, from, unread)?;
-    if !named {
+    let Some(card) = card else {
         return Some(Names {
             from: n,
             path: None,
         });
-    }
-    let m = argument(rt, next(file), path, b"cannot write FILE")?;
+    };
+    let m = argument(rt, card, path, b"cannot write FILE")?;
     if part(from, 0, n) == part(path, 0, m) {
         // What the card is made from is not written over.
         cardhelp::refuse(rt);

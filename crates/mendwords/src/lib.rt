@@ -8,6 +8,7 @@ use message::put_number_of;
 use octets::{put_byte, put_decimal, put_word};
 
 // The rules kept of all that the card had, whether its plan is kept, and the numbers of the bad blocks.
+// Stays: that the plan is kept or not is what is said (`plan_line`), and chooses no steps.
 pub fn put_report(
     out: &mut [u8],
     to: usize,
@@ -45,6 +46,7 @@ fn put_dropped(out: &mut [u8], to: usize, kept: usize, count: usize) -> usize
     put_word(out, b, b" dropped")
 }
 
+// Stays: as in `put_report`.
 #[tactic(auto, unfolding(crate::specs::Mended::plan_line, message::specs::Words::ascii))]
 fn put_plan(out: &mut [u8], to: usize, keeps: bool) -> usize
     ensures { Put out.old out.new to (plan_line keeps) result }
