@@ -187,8 +187,8 @@ pub fn reply_jobs(
     let mut numbers = [0u64; BRANCHES];
     let noted = plannotes::check_noted(table, plan, &mut numbers);
     let starts = starts_of(table);
-    if shift::accepted(noted) {
+    if noted.answer.is_ok() {
         reply_each(&numbers, noted, table, &starts, cells, jobs, room);
     }
-    shift::answer_of(noted)
+    noted.answer
 }

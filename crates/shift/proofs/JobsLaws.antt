@@ -1,5 +1,5 @@
 -- A goal of a list: what its record is, for each way the code returns.
-use Rattle.std.specs.Prelude.{Result, Ok, Err}
+use Rattle.std.specs.Prelude.{Result, Ok, Err, is_ok}
 use Rattle.answer.specs.declared.RunCounts.{RunCounts}
 use Prim.Native.Nat.{ℕ, ◌+◌, ◌-◌, ◌*◌, ◌^◌, ◌%◌, ◌≤◌, ◌<◌}
 use mathlib.Core.Path.{◌≡◌, refl, sym, ◌∙◌, ap, ap₂, subst}
@@ -29,7 +29,7 @@ use Rattle.answer.proofs.BitsLaws.{bits-next}
 use Rattle.answer.proofs.JobsLaws.{each_map}
 use Rattle.answer.proofs.TakesLaws.{run-takes}
 use Rattle.answer.proofs.Theorems.{picks-ascend, picks-low, picks-few}
-use Rattle.shift.specs.code.Asked.{is_accepted, Hits, AskedBy}
+use Rattle.shift.specs.code.Asked.{Hits, AskedBy}
 
 -- The hits as bits.
 
@@ -95,19 +95,19 @@ module _ {numbers : List ℕ} {noted : Noted} (cells : List ℕ) (j : Job) where
 
 -- The list, by the check's answer.
 module _ {t p before numbers : List ℕ} {m : Noted} (cells : List ℕ) (h : NotedInto t p before numbers m) {jobs : List Job} where
-  pub jobs-asked : {jobs' : List Job} → is_accepted m.answer ≡ true → Each (AskedBy numbers m cells) jobs jobs'
+  pub jobs-asked : {jobs' : List Job} → is_ok m.answer ≡ true → Each (AskedBy numbers m cells) jobs jobs'
       → JobsRun t p cells jobs jobs' (plan_told m.answer)
   jobs-asked {jobs'} is each = go (plan_of t p) refl m.answer (handed-says h) is
     where
-      go : (x : Read ℕ) → plan_of t p ≡ x → (a : Result ℕ Refusal) → plan_told a ≡ plan_says x → is_accepted a ≡ true → JobsRun t p cells jobs jobs' (plan_told a)
+      go : (x : Read ℕ) → plan_of t p ≡ x → (a : Result ℕ Refusal) → plan_told a ≡ plan_says x → is_ok a ≡ true → JobsRun t p cells jobs jobs' (plan_told a)
       go (read n) e a s y = job.asked n e s (each_map (λ j k q. q t p before h) each)
       go (refuse f) e (Ok n) s y = absurd (let z : ◌≡◌ {A = ℕ} 0 1 = cc in let w : ⊥ = omega arith in w)
       go (refuse f) e (Err g) s y = absurd (let z : ◌≡◌ {A = ℕ} 0 1 = cc in let w : ⊥ = omega arith in w)
 
-  pub jobs-left : is_accepted m.answer ≡ false → JobsRun t p cells jobs jobs (plan_told m.answer)
+  pub jobs-left : is_ok m.answer ≡ false → JobsRun t p cells jobs jobs (plan_told m.answer)
   jobs-left is = go (plan_of t p) refl m.answer (handed-says h) is
     where
-      go : (x : Read ℕ) → plan_of t p ≡ x → (a : Result ℕ Refusal) → plan_told a ≡ plan_says x → is_accepted a ≡ false → JobsRun t p cells jobs jobs (plan_told a)
+      go : (x : Read ℕ) → plan_of t p ≡ x → (a : Result ℕ Refusal) → plan_told a ≡ plan_says x → is_ok a ≡ false → JobsRun t p cells jobs jobs (plan_told a)
       go (refuse f) e a s y = job.refusal f e s refl
       go (read n) e (Ok k) s y = absurd (let z : ◌≡◌ {A = ℕ} 0 1 = cc in let w : ⊥ = omega arith in w)
       go (read n) e (Err g) s y = absurd (let z : ◌≡◌ {A = ℕ} 0 1 = cc in let w : ⊥ = omega arith in w)

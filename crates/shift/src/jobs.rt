@@ -1,53 +1,26 @@
-// A list of goals, each answered in its record (02, W-202). What there is to do for a goal is done on a record by value.
-ghost use Rattle.std.specs.Prelude.{◌≡◌, List, ℕ, ◌≤◌, take};
+// A list of goals, each answered in its record. What there is to do for a goal is done on a record by value.
+ghost use Rattle.std.specs.Prelude.{◌≡◌, List, ℕ, take};
 ghost use Rattle.refusal.specs.Refusal.{reason_number};
 ghost use Rattle.answer.specs.Jobs.{bits_of, filled, Each};
 ghost use Rattle.plannotes.specs.Noted.{NotedInto};
 ghost use Rattle.shift.specs.Totals.{TriesInAll};
-ghost use Rattle.shift.specs.code.Asked.{is_accepted, AskedBy, Hits};
-ghost use Rattle.limits.specs.Limits.{most_rows};
+ghost use Rattle.shift.specs.code.Asked.{AskedBy, Hits};
 
 use answer::{Job, RunCounts};
 use joins::node;
 use limits::{BRANCHES, ROWS};
 use plannotes::Noted;
 use plannotes::packed::wide;
-use refusal::{Reason, Refusal};
+use refusal::Reason;
 use sums::plus;
-
-pub fn accepted(noted: Noted) -> bool
-    ensures { result ≡ is_accepted noted.answer }
-{
-    let answer = noted.answer;
-    match answer {
-        Ok(_) => true,
-        Err(_) => false,
-    }
-}
-
-pub fn answer_of(noted: Noted) -> Result<usize, Refusal>
-    ensures { result ≡ noted.answer }
-{
-    noted.answer
-}
-
-// A number of hits: there are no more than 64.
-fn few(n: usize) -> usize
-    ensures { (result ≤ most_rows) × (n ≤ most_rows → result ≡ n) }
-{
-    if n < ROWS { n } else { ROWS }
-}
 
 // The first `n` bytes, numbers of rows, as bits. Where they are the hits of a run, nothing is cut.
 pub fn bits(room: &[u8; ROWS], n: usize) -> u64
     ensures { Hits room.now n → result ≡ bits_of (take n room.now) }
 {
-    let end = few(n);
     let mut rows = 0u64;
-    let mut i = 0;
-    while i < end {
-        rows = rows | (1 << node(wide(room[i])));
-        i += 1;
+    for i in 0..n.min(ROWS) {
+        rows |= 1 << node(wide(room[i]));
     }
     rows
 }
@@ -57,12 +30,11 @@ fn refused(j: Job, reason: Reason, place: usize) -> Job
     ensures { result ≡ filled j (reason_number reason) place 0 0 }
 {
     Job {
-        start: j.start,
-        count: j.count,
         number: refusal::number_of(reason),
         place,
         hits: 0,
         tried: 0,
+        ..j
     }
 }
 
@@ -82,17 +54,13 @@ fn ask_one(numbers: &[u64; BRANCHES], noted: Noted, cells: &[u32], j: Job) -> Jo
     let end = start + count;
     let mut room = [0u8; ROWS];
     match run::run_noted(numbers, noted, &cells[start..end], &mut room) {
-        Err(f) => {
-            let reason = f.reason;
-            refused(j, reason, f.place)
-        }
+        Err(f) => refused(j, f.reason, f.place),
         Ok(RunCounts { hits, tried }) => Job {
-            start,
-            count,
             number: 0,
             place: 0,
             hits: bits(&room, hits),
             tried,
+            ..j
         },
     }
 }
@@ -101,10 +69,8 @@ fn ask_one(numbers: &[u64; BRANCHES], noted: Noted, cells: &[u32], j: Job) -> Jo
 pub fn ask_all(numbers: &[u64; BRANCHES], noted: Noted, cells: &[u32], jobs: &mut [Job])
     ensures { Each (AskedBy numbers.now noted cells.now) jobs.old jobs.new }
 {
-    let mut i = 0;
-    while i < jobs.len() {
-        jobs[i] = ask_one(numbers, noted, cells, jobs[i]);
-        i += 1;
+    for job in jobs.iter_mut() {
+        *job = ask_one(numbers, noted, cells, *job);
     }
 }
 
@@ -114,11 +80,11 @@ pub fn add_all(numbers: &[u64; BRANCHES], noted: Noted, cells: &[u32], list: &[u
         → TriesInAll table plan cells.now list.now result }
 {
     let mut tried = 0;
-    let mut i = 0;
-    while 1 < list.len() - i {
+    for k in 0..list.len() / 2 {
+        let at = 2 * k;
         let asked = Job {
-            start: list[i],
-            count: list[i + 1],
+            start: list[at],
+            count: list[at + 1],
             number: 0,
             place: 0,
             hits: 0,
@@ -126,7 +92,6 @@ pub fn add_all(numbers: &[u64; BRANCHES], noted: Noted, cells: &[u32], list: &[u
         };
         let one = ask_one(numbers, noted, cells, asked);
         tried = plus(tried, one.tried);
-        i += 2;
     }
     tried
 }

@@ -1,4 +1,4 @@
-// A list of goals (02, W-202), each answered in its record; and what goals try together (02, W-214).
+// A list of goals, each answered in its record; and what goals try together.
 #![tactic(auto)]
 
 ghost use Rattle.answer.specs.Jobs.{JobsRun};
@@ -8,7 +8,7 @@ ghost use Rattle.shift.specs.Totals.{TriesInAll};
 mod jobs;
 
 pub use answer::Job;
-pub use jobs::{accepted, answer_of, bits};
+pub use jobs::bits;
 use limits::BRANCHES;
 use refusal::Refusal;
 
@@ -20,10 +20,10 @@ pub fn run_jobs(table: &[u32], plan: &[u32], cells: &[u32], jobs: &mut [Job]) ->
 {
     let mut numbers = [0u64; BRANCHES];
     let noted = plannotes::check_noted(table, plan, &mut numbers);
-    if jobs::accepted(noted) {
+    if noted.answer.is_ok() {
         jobs::ask_all(&numbers, noted, cells, jobs);
     }
-    jobs::answer_of(noted)
+    noted.answer
 }
 
 // What the goals of a list try together by any plan for any table. Where the table or the plan is turned away so is each goal, and nothing is

@@ -1,15 +1,12 @@
 use Rattle.std.proofs.Common.{◌∙◌, sym}
 use Rattle.replyjobs.proofs.JobsLaws.{jobs-replied, jobs-left}
 use Rattle.replyjobs.proofs.reply_jobs.Goals as goal
-use Rattle.replyjobs.proofs.reply_jobs.Goals.{then-accepted, else-accepted}
 
-pub returns : goal.returns
-returns c =
-    let a = c.args in
+pub returns-then-is_ok : goal.returns-then-is_ok
+returns-then-is_ok c =
     let h = c.check_noted-noted.ensures in
-    rw c.answer_of.ensures (elim c.if-accepted.branch [
-      | then-accepted w ↦
-          rw (w.jobs-is, w.room-is)
-          (jobs-replied a.cells.now h (sym c.accepted.ensures ∙ w.if-accepted.true) (w.reply_each.ensures a.plan.now _ h))
-      | else-accepted w ↦ rw (w.jobs-is, w.room-is) (jobs-left a.cells.now h (sym c.accepted.ensures ∙ w.if-accepted.false))
-    ])
+    jobs-replied c.args.cells.now h (sym c.is_ok.ensures.value ∙ c.if-is_ok.true) (c.reply_each.ensures c.args.plan.now _ h)
+
+pub returns-else-is_ok : goal.returns-else-is_ok
+returns-else-is_ok c =
+    jobs-left c.args.cells.now c.check_noted-noted.ensures (sym c.is_ok.ensures.value ∙ c.if-is_ok.false)

@@ -1,13 +1,11 @@
 use Rattle.std.proofs.Common.{◌∙◌, sym}
 use Rattle.shift.proofs.JobsLaws.{jobs-asked, jobs-left}
 use Rattle.shift.proofs.run_jobs.Goals as goal
-use Rattle.shift.proofs.run_jobs.Goals.{then-accepted, else-accepted}
 
-pub returns : goal.returns
-returns c =
-    let a = c.args in
-    let h = c.check_noted-noted.ensures in
-    rw c.answer_of.ensures (elim c.if-accepted.branch [
-      | then-accepted w ↦ rw w.jobs-is (jobs-asked a.cells.now h (sym c.accepted.ensures ∙ w.if-accepted.true) w.ask_all.ensures)
-      | else-accepted w ↦ rw w.jobs-is (jobs-left a.cells.now h (sym c.accepted.ensures ∙ w.if-accepted.false))
-    ])
+pub returns-then-is_ok : goal.returns-then-is_ok
+returns-then-is_ok c =
+    jobs-asked c.args.cells.now c.check_noted-noted.ensures (sym c.is_ok.ensures.value ∙ c.if-is_ok.true) c.ask_all.ensures
+
+pub returns-else-is_ok : goal.returns-else-is_ok
+returns-else-is_ok c =
+    jobs-left c.args.cells.now c.check_noted-noted.ensures (sym c.is_ok.ensures.value ∙ c.if-is_ok.false)

@@ -1,7 +1,5 @@
 -- What the check has answered and noted of a plan (crate plannotes), for a list of goals.
-use Rattle.std.specs.Prelude.{ℕ, ◌≤◌, ◌<◌, ◌≡◌, Bool, true, false, List, length, take}
-use Rattle.std.specs.Prelude.{Result, Ok, Err}
-use Rattle.refusal.specs.declared.Refusal.{Refusal}
+use Rattle.std.specs.Prelude.{ℕ, ◌≤◌, ◌<◌, ◌≡◌, List, length, take}
 use Rattle.table.specs.All.{All}
 use Rattle.plannotes.specs.Noted.{NotedInto}
 use Rattle.plannotes.specs.declared.Noted.{Noted}
@@ -9,10 +7,6 @@ use Rattle.answer.specs.Run.{Ascends}
 use Rattle.answer.specs.Jobs.{Asked}
 use Rattle.answer.specs.declared.Job.{Job}
 use Rattle.limits.specs.Limits.{most_rows}
-
-abbrev pub is_accepted : Result ℕ Refusal → Bool
-is_accepted (Ok n) = true
-is_accepted (Err f) = false
 
 -- what a record becomes, for the table and the plan of which this is noted
 abbrev pub AskedBy : (numbers : List ℕ) (noted : Noted) (cells : List ℕ) → Job → Job → Type 0

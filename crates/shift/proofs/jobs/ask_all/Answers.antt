@@ -3,17 +3,17 @@ use Rattle.shift.specs.code.Upto.{rest}
 use Rattle.shift.proofs.UptoLaws.{upto-long, upto-within, upto-more, upto_all}
 use Rattle.shift.proofs.jobs.ask_all.Goals as goal
 
-pub loop-i-init : goal.loop-i-init
-loop-i-init c = rest
+pub loop-job-init : goal.loop-job-init
+loop-job-init c = rest
 
--- record i is asked, and put in its place
-pub loop-i-preserved : goal.loop-i-preserved
-loop-i-preserved c =
-    let u = c.loop-i.invariant in
-    let within : c.loop-i.i < length c.args.jobs.now = omega (arith, upto-long u) in
+-- a record is asked, and put in its place
+pub loop-job-preserved : goal.loop-job-preserved
+loop-job-preserved c =
+    let u = c.loop-job.invariant in
+    let within : c.loop-job.job-index < length c.args.jobs.now = omega (arith, upto-long u) in
     rw add-one (upto-more _ c.ask_one.result u within c.ask_one.ensures)
 
 pub returns : goal.returns
 returns c =
-    let u = c.loop-i.invariant in
+    let u = c.loop-job.invariant in
     upto_all u (omega (arith, upto-within u))
