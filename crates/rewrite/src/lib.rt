@@ -27,13 +27,11 @@ pub fn put_with(out: &mut [u32], to: usize, cells: &[u32], v: u32, term: &[u32])
     ensures { Put out.old out.new to (put v term.now cells.now) result }
 {
     let mut on = to;
-    let mut i = 0;
-    while i < cells.len() {
+    for &c in cells {
         if out.len() <= on {
             return on;
         }
-        on = put_swapped(out, on, cells[i], v, term);
-        i += 1;
+        on = put_swapped(out, on, c, v, term);
     }
     on
 }
@@ -53,10 +51,8 @@ pub fn put_apart(out: &mut [u32], to: usize, goal: &[u32]) -> usize
     ensures { Put out.old out.new to (renamed goal.now) result }
 {
     let mut on = to;
-    let mut i = 0;
-    while i < goal.len() {
-        on = put_cell(out, on, moved(goal[i]));
-        i += 1;
+    for &c in goal {
+        on = put_cell(out, on, moved(c));
     }
     on
 }
@@ -66,12 +62,10 @@ fn find(met: &[u32; 64], n: usize, v: u32) -> usize
     requires { (n ≤ 64) × (length met.now ≡ 64) }
     ensures { result ≡ place v (take n met.now) }
 {
-    let mut i = 0;
-    while i < n {
+    for i in 0..n {
         if met[i] == v {
             return i;
         }
-        i += 1;
     }
     n
 }
@@ -114,12 +108,10 @@ pub fn put_numbered(out: &mut [u32], to: usize, cells: &[u32]) -> usize
     let mut met = [0u32; 64];
     let mut k = 0;
     let mut on = to;
-    let mut i = 0;
-    while i < cells.len() {
-        let q = number(&mut met, k, cells[i]);
+    for &c in cells {
+        let q = number(&mut met, k, c);
         on = put_cell(out, on, q.cell);
         k = q.many;
-        i += 1;
     }
     on
 }
