@@ -1,4 +1,5 @@
 -- What a replacement makes of the two lists, a step, and all steps: by the case of what the function answers.
+use Rattle.std.specs.Prelude.{Option, Some, None}
 use Prim.Native.Nat.{ℕ, ◌+◌, ◌-◌, ◌≤◌, ◌<◌}
 use mathlib.Core.Path.{◌≡◌, ◌∙◌, subst}
 use mathlib.Core.List.{List}
@@ -6,10 +7,6 @@ use native.Mathlib.Omega.{arith}
 use lib.ListN.{length}
 use Rattle.instance.specs.code.Meet.{Hit, InstanceMet, Over}
 use Rattle.meeting.specs.declared.Stand.{Stand}
-use Rattle.meeting.specs.declared.Turn.{Turn}
-use Rattle.meeting.specs.declared.Turn.TheVariants as turn
-use Rattle.meeting.specs.declared.Made.{Made}
-use Rattle.meeting.specs.declared.Made.TheVariants as made
 use Rattle.meeting.specs.Ended.{Ended, ended, ended-over}
 use Rattle.meeting.specs.code.Turns.{MeetingAt, Turning, turned, Sound, Bound, bound, bound-over, Went, Stepped, stepped, stepped-over}
 use Rattle.meeting.specs.code.Turns.{at_start, Starting, Finished, finished, finished-over}
@@ -19,7 +16,7 @@ use Rattle.meeting.proofs.PartLaws.{put_in}
 use Rattle.limits.specs.Limits.{most_meeting_cells}
 
 -- a variable is replaced: one less
-pub bound-stepped : {cells cells' : List ℕ} {v : ℕ} {t : List ℕ} {k next : Stand} {r : Turn} → length cells ≤ most_meeting_cells → next.turns ≡ k.turns
+pub bound-stepped : {cells cells' : List ℕ} {v : ℕ} {t : List ℕ} {k next : Stand} {r : Option Stand} → length cells ≤ most_meeting_cells → next.turns ≡ k.turns
     → ((row goal : List ℕ) → MeetingAt row goal cells k → (0 < k.turns) × Turning row goal cells v t next)
     → Bound cells v t cells' next r → Stepped cells cells' k r
 bound-stepped h e f (bound g l m) =
@@ -35,7 +32,7 @@ bound-stepped h e f (bound-over o) = stepped-over (λ y row goal w. let x = f ro
 pub bound-fits : {cells cells' t : List ℕ} {v q l m : ℕ} {k : Stand} → q ≤ l → l ≤ m → m ≤ length cells → 0 < k.turns
     → ((row goal : List ℕ) → Turning row goal cells v t k
     → MeetingAt row goal cells' (record { i = l; n = m; at = q; len = l; turns = k.turns - 1 }))
-    → Bound cells v t cells' k (turn.Fits (record { i = l; n = m; at = q; len = l; turns = k.turns - 1 }))
+    → Bound cells v t cells' k (Some (record { i = l; n = m; at = q; len = l; turns = k.turns - 1 }))
 bound-fits {cells = cells} {q = q} {l} {m} {k = k} i a h p f =
     let s : Sound (length cells) (record { i = l; n = m; at = q; len = l; turns = k.turns - 1 }) =
     record { inside = i; apart = omega arith; started = a; held = h } in
@@ -45,7 +42,7 @@ bound-fits {cells = cells} {q = q} {l} {m} {k = k} i a h p f =
 -- nothing moves
 pub bound-still : {cells cells' t : List ℕ} {v : ℕ} {k : Stand} → Sound (length cells) k → 0 < k.turns
     → ((row goal : List ℕ) → Turning row goal cells v t k → MeetingAt row goal cells' (turned k))
-    → Bound cells v t cells' k (turn.Fits (turned k))
+    → Bound cells v t cells' k (Some (turned k))
 bound-still {cells = cells} {k = k} s p f =
     let g : Sound (length cells) (turned k) = record { inside = s.inside; apart = s.apart; started = s.started; held = s.held } in
     let t : k.turns - 1 < k.turns = omega (arith, p) in
@@ -69,7 +66,7 @@ abbrev onward : Stand → Stand
 onward k = record { i = k.i + 1; n = k.n; at = k.at + 1; len = k.len; turns = k.turns }
 
 pub stepped_same : {cells : List ℕ} {k : Stand} → Sound (length cells) k → k.i < k.n → k.at < k.len
-    → ((row goal : List ℕ) → MeetingAt row goal cells k → MeetingAt row goal cells (onward k)) → Stepped cells cells k (turn.Fits (onward k))
+    → ((row goal : List ℕ) → MeetingAt row goal cells k → MeetingAt row goal cells (onward k)) → Stepped cells cells k (Some (onward k))
 stepped_same {cells} {k} s m g f =
     let w : Went cells cells k (onward k) =
     record {
@@ -82,17 +79,17 @@ stepped_same {cells} {k} s m g f =
 
 -- a step
 module _ {cells cells' : List ℕ} {k : Stand} where
-  pub step_fits : {r : Turn} {s : Stand} → r ≡ turn.Fits s → Stepped cells cells' k r → Went cells cells' k s
+  pub step_fits : {r : Option Stand} {s : Stand} → r ≡ Some s → Stepped cells cells' k r → Went cells cells' k s
   step_fits {s = s} e x = go (subst (Stepped cells cells' k) e x)
     where
-      go : Stepped cells cells' k (turn.Fits s) → Went cells cells' k s
+      go : Stepped cells cells' k (Some s) → Went cells cells' k s
       go (stepped w) = w
 
-  pub step-over : {r : Turn} → r ≡ turn.Big → Stepped cells cells' k r → length cells ≡ most_meeting_cells → (row goal : List ℕ) → MeetingAt row goal cells k
+  pub step-over : {r : Option Stand} → r ≡ None → Stepped cells cells' k r → length cells ≡ most_meeting_cells → (row goal : List ℕ) → MeetingAt row goal cells k
       → Over row goal
   step-over e x = go (subst (Stepped cells cells' k) e x)
     where
-      go : Stepped cells cells' k turn.Big → length cells ≡ most_meeting_cells → (row goal : List ℕ) → MeetingAt row goal cells k → Over row goal
+      go : Stepped cells cells' k None → length cells ≡ most_meeting_cells → (row goal : List ℕ) → MeetingAt row goal cells k → Over row goal
       go (stepped-over o) = o
 
 -- the goal's cells and the row's are in the list
@@ -110,11 +107,11 @@ starting l o p q =
 -- the row is at its end
 pub finished-at : {cells cells' : List ℕ} {len n : ℕ} {k : Stand} → Sound (length cells) k
     → ((row goal : List ℕ) → MeetingAt row goal cells (at_start len n) → InstanceMet row goal cells' k.len)
-    → Finished cells cells' len n (made.Cells k.len)
+    → Finished cells cells' len n (Some k.len)
 finished-at {cells} {k = k} s f = let h : k.len ≤ length cells = omega (arith, s.apart, s.started, s.held) in finished h f
 
 -- all steps, from where the work starts for a hit
-pub finished-ended : {row goal lent other cells cells' : List ℕ} {len n : ℕ} {r : Made} → length cells ≡ length lent → length cells' ≡ length cells
+pub finished-ended : {row goal lent other cells cells' : List ℕ} {len n : ℕ} {r : Option ℕ} → length cells ≡ length lent → length cells' ≡ length cells
     → (Hit row goal → MeetingAt row goal cells (at_start len n)) → Finished cells cells' len n r → Ended row goal lent other cells' r
 finished-ended {row} {goal} {cells' = cells'} e l f (finished {m} h w) =
     let i : m ≤ length cells' = omega (arith, l, h) in

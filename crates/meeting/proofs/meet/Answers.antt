@@ -20,33 +20,19 @@ step-requires c =
     }
 
 pub loop-k-smaller : goal.loop-k-smaller
-loop-k-smaller c = (step_fits c.in-Fits.is c.step.ensures).less
+loop-k-smaller c = (step_fits c.in_ok-k.was c.step.ensures).less
 
 pub loop-k-preserved : goal.loop-k-preserved
 loop-k-preserved c =
     let l = c.loop-k.invariant in
     let e = c.step in
-    let w = step_fits c.in-Fits.is e.ensures in
+    let w = step_fits c.in_ok-k.was e.ensures in
     (e.auto.cells ∙ l.0, e.auto.other ∙ l.1, sound-by l.0 w.sound, omega (arith, w.turn, l.3), λ row goal v. w.meeting row goal (l.4 row goal v))
 
-pub shape_of-cells-in-Big : goal.shape_of-cells-in-Big
-shape_of-cells-in-Big c =
-    c.step.auto.cells ∙ c.loop-k.invariant.0
-
-pub shape_of-other-in-Big : goal.shape_of-other-in-Big
-shape_of-other-in-Big c =
-    c.step.auto.other ∙ c.loop-k.invariant.1
-
-pub returns-in-Big : goal.returns-in-Big
-returns-in-Big c =
-    let o = step-over c.in-Big.is c.step.ensures in
-    finished-over (λ y row goal v. o (c.loop-k.invariant.0 ∙ y) row goal (c.loop-k.invariant.4 row goal v))
-
-pub shape_of-cells : goal.shape_of-cells
-shape_of-cells c = c.loop-k.invariant.0
-
-pub shape_of-other : goal.shape_of-other
-shape_of-other c = c.loop-k.invariant.1
+pub returns-in_err-k : goal.returns-in_err-k
+returns-in_err-k c =
+    let o = step-over c.in_err-k.was c.step.ensures in
+    rw c.from_residual.ensures (finished-over (λ y row goal v. o (c.loop-k.invariant.0 ∙ y) row goal (c.loop-k.invariant.4 row goal v)))
 
 pub returns : goal.returns
 returns c =

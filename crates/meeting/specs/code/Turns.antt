@@ -1,11 +1,8 @@
 -- Where the making of one reply stands (crate instance, specs/code/Meet), by the code's own struct.
+use Rattle.std.specs.Prelude.{Option, Some, None}
 use Rattle.std.specs.Prelude.{ℕ, ◌+◌, ◌-◌, ◌*◌, ◌≤◌, ◌<◌, ◌≡◌, cond, List, ◌++◌, map, eqb, length, take, drop}
 use Rattle.instance.specs.code.Meet.{Meeting, After, InstanceMet, Over}
 use Rattle.meeting.specs.declared.Stand.{Stand}
-use Rattle.meeting.specs.declared.Turn.{Turn}
-use Rattle.meeting.specs.declared.Turn.TheVariants as turn
-use Rattle.meeting.specs.declared.Made.{Made}
-use Rattle.meeting.specs.declared.Made.TheVariants as made
 use Rattle.limits.specs.Limits.{most_meeting_cells, most_reply_cells}
 
 abbrev pub MeetingAt : (row goal cells : List ℕ) → Stand → Type 0
@@ -52,11 +49,11 @@ pub record Binding (cells other : List ℕ) (a e : ℕ) (k : Stand) : Type 0 whe
   pub ended : e ≤ length cells
 
 -- after it, or the list is too short for it; one of 2,048 cells is so only where they have too much in common
-pub data Bound (cells : List ℕ) (v : ℕ) (t cells' : List ℕ) (k : Stand) : Turn → Type 0 where
+pub data Bound (cells : List ℕ) (v : ℕ) (t cells' : List ℕ) (k : Stand) : Option Stand → Type 0 where
   bound : {s : Stand} → Sound (length cells) s → s.turns < k.turns
-      → ((row goal : List ℕ) → Turning row goal cells v t k → MeetingAt row goal cells' s) → Bound cells v t cells' k (turn.Fits s)
+      → ((row goal : List ℕ) → Turning row goal cells v t k → MeetingAt row goal cells' s) → Bound cells v t cells' k (Some s)
   bound-over : (length cells ≡ most_meeting_cells → (row goal : List ℕ) → 0 < k.turns → Turning row goal cells v t k → Over row goal)
-      → Bound cells v t cells' k turn.Big
+      → Bound cells v t cells' k None
 
 -- what the loop goes down by: a variable less, or a cell less of the row
 abbrev pub to_do : Stand → ℕ
@@ -75,9 +72,9 @@ pub record Went (cells cells' : List ℕ) (k r : Stand) : Type 0 where
   pub turn : r.turns ≤ k.turns
   pub meeting : (row goal : List ℕ) → MeetingAt row goal cells k → MeetingAt row goal cells' r
 
-pub data Stepped (cells cells' : List ℕ) (k : Stand) : Turn → Type 0 where
-  stepped : {s : Stand} → Went cells cells' k s → Stepped cells cells' k (turn.Fits s)
-  stepped-over : (length cells ≡ most_meeting_cells → (row goal : List ℕ) → MeetingAt row goal cells k → Over row goal) → Stepped cells cells' k turn.Big
+pub data Stepped (cells cells' : List ℕ) (k : Stand) : Option Stand → Type 0 where
+  stepped : {s : Stand} → Went cells cells' k s → Stepped cells cells' k (Some s)
+  stepped-over : (length cells ≡ most_meeting_cells → (row goal : List ℕ) → MeetingAt row goal cells k → Over row goal) → Stepped cells cells' k None
 
 -- the start: nothing is passed
 abbrev pub at_start : (len n : ℕ) → Stand
@@ -88,8 +85,8 @@ pub record Starting (cells other : List ℕ) (len n : ℕ) : Type 0 where
   pub sound : Sound (length cells) (at_start len n)
 
 -- the end
-pub data Finished (cells cells' : List ℕ) (len n : ℕ) : Made → Type 0 where
+pub data Finished (cells cells' : List ℕ) (len n : ℕ) : Option ℕ → Type 0 where
   finished : {m : ℕ} → m ≤ length cells → ((row goal : List ℕ) → MeetingAt row goal cells (at_start len n) → InstanceMet row goal cells' m)
-      → Finished cells cells' len n (made.Cells m)
+      → Finished cells cells' len n (Some m)
   finished-over : (length cells ≡ most_meeting_cells → (row goal : List ℕ) → MeetingAt row goal cells (at_start len n) → Over row goal)
-      → Finished cells cells' len n made.Big
+      → Finished cells cells' len n None
