@@ -1,4 +1,5 @@
 -- What is made of a hit, and what a pass has found, by the case of what the function answers.
+use Rattle.std.specs.Prelude.{Option, Some, None}
 use Prim.Native.Nat.{ℕ, ◌+◌, ◌-◌, ◌≤◌, ◌<◌}
 use mathlib.Core.Path.{◌≡◌, refl, sym, ◌∙◌, ap, subst}
 use mathlib.Core.List.{List, ◌++◌, flatten, append-nil, append_assoc}
@@ -17,52 +18,48 @@ use Rattle.instance.specs.code.Meet.{Hit, InstanceMet, Over}
 use Rattle.instance.specs.code.Passes.{Held, Pass, Passed}
 use Rattle.instance.proofs.PassLaws.{pass-hit, pass-end}
 use Rattle.instance.proofs.RepliesLaws.{not-large}
-use Rattle.meeting.specs.declared.Made.{Made}
-use Rattle.meeting.specs.declared.Made.TheVariants as made
 use Rattle.meeting.specs.Ended.{Lent, Ended, ended, ended-over}
 use Rattle.replies.specs.declared.pass.Done.{Done}
-use Rattle.replies.specs.declared.pass.Sum.{Sum}
-use Rattle.replies.specs.declared.pass.Sum.TheVariants as sum
 use Rattle.replies.specs.code.Sums.{Passing, Upto, Stops, PassedAt, passed, passed_over}
 
 -- what a row and a goal have in common
-pub within_by : {row goal cells other cells' : List ℕ} {r : Made} {n : ℕ} → r ≡ made.Cells n → Ended row goal cells other cells' r
+pub within_by : {row goal cells other cells' : List ℕ} {r : Option ℕ} {n : ℕ} → r ≡ Some n → Ended row goal cells other cells' r
     → n ≤ length cells'
 within_by {row} {goal} {cells} {other} {cells'} {n = n} e x = go (subst (Ended row goal cells other cells') e x)
   where
-    go : Ended row goal cells other cells' (made.Cells n) → n ≤ length cells'
+    go : Ended row goal cells other cells' (Some n) → n ≤ length cells'
     go (ended l m) = l
 
 -- for a row by another name
-module _ {here row goal cells other cells' : List ℕ} {r : Made} where
-  met_by : {n : ℕ} → here ≡ row → r ≡ made.Cells n → Ended here goal cells other cells' r → Hit row goal → InstanceMet row goal cells' n
+module _ {here row goal cells other cells' : List ℕ} {r : Option ℕ} where
+  met_by : {n : ℕ} → here ≡ row → r ≡ Some n → Ended here goal cells other cells' r → Hit row goal → InstanceMet row goal cells' n
   met_by {n} p e x = go (subst (Ended row goal cells other cells') e (subst (λ (l : List ℕ). Ended l goal cells other cells' r) p x))
     where
-      go : Ended row goal cells other cells' (made.Cells n) → Hit row goal → InstanceMet row goal cells' n
+      go : Ended row goal cells other cells' (Some n) → Hit row goal → InstanceMet row goal cells' n
       go (ended l m) = m
 
-  over_by : here ≡ row → r ≡ made.Big → Ended here goal cells other cells' r → Hit row goal → Lent cells other → Over row goal
+  over_by : here ≡ row → r ≡ None → Ended here goal cells other cells' r → Hit row goal → Lent cells other → Over row goal
   over_by p e x = go (subst (Ended row goal cells other cells') e (subst (λ (l : List ℕ). Ended l goal cells other cells' r) p x))
     where
-      go : Ended row goal cells other cells' made.Big → Hit row goal → Lent cells other → Over row goal
+      go : Ended row goal cells other cells' None → Hit row goal → Lent cells other → Over row goal
       go (ended-over o) = o
 
 -- a pass
 module _ {room room' : List ℕ} {all : List (List ℕ)} where
-  pub passed-by : {r : Sum} {n : ℕ} → r ≡ sum.Cells n → PassedAt room room' all r → Passed room room' all n
+  pub passed-by : {r : Option ℕ} {n : ℕ} → r ≡ Some n → PassedAt room room' all r → Passed room room' all n
   passed-by {n = n} e x = go (subst (PassedAt room room' all) e x)
     where
-      go : PassedAt room room' all (sum.Cells n) → Passed room room' all n
+      go : PassedAt room room' all (Some n) → Passed room room' all n
       go (passed p) = p
 
-  pub large-by : {r : Sum} → r ≡ sum.Big → PassedAt room room' all r → Large all
+  pub large-by : {r : Option ℕ} → r ≡ None → PassedAt room room' all r → Large all
   large-by e x = go (subst (PassedAt room room' all) e x)
     where
-      go : PassedAt room room' all sum.Big → Large all
+      go : PassedAt room room' all None → Large all
       go (passed_over l) = l
 
   -- the second finds what the first did
-  pub passed-again : {list list' : List ℕ} {n : ℕ} {r : Sum} → Passed list list' all n → PassedAt room room' all r → Passed room room' all n
+  pub passed-again : {list list' : List ℕ} {n : ℕ} {r : Option ℕ} → Passed list list' all n → PassedAt room room' all r → Passed room room' all n
   passed-again x (passed y) = record { cells = x.cells; wrote = y.wrote; short = x.short }
   passed-again x (passed_over l) = absurd (not-large x.short l)
 
@@ -78,16 +75,16 @@ module _ {room room' : List ℕ} {all : List (List ℕ)} where
 -- a hit of a pass, by the place of its row
 module _ {table starts : List ℕ} {rows : ℕ} {goal hits : List ℕ} {all : List (List ℕ)} {i : ℕ} {room₀ room : List ℕ} {on sum : ℕ}
     (a : Passing table starts rows goal hits all) (w : Pass table goal hits i all room₀ room on sum) (l : i < length hits)
-    {here cells other cells' : List ℕ} {p : Part} {r : Made}
+    {here cells other cells' : List ℕ} {p : Part} {r : Option ℕ}
     (q : Held table starts rows → get_or hits i 0 < rows → RowPlace (table_of table) (get_or hits i 0) p)
     (h : here ≡ take (p.end - p.start) (drop p.start table)) (x : Ended here goal cells other cells' r) where
   row_is : here ≡ row_in (table_of table) (get_or hits i 0)
   row_is = h ∙ place-cells table (get_or hits i 0) (q a.held (all-at (λ (n : ℕ). n < rows) hits i 0 a.below l))
 
-  pub hit-met : {n : ℕ} → r ≡ made.Cells n → InstanceMet (row_in (table_of table) (get_or hits i 0)) goal cells' n
+  pub hit-met : {n : ℕ} → r ≡ Some n → InstanceMet (row_in (table_of table) (get_or hits i 0)) goal cells' n
   hit-met e = met_by row_is e x (pass-hit w l)
 
-  pub hit-over : r ≡ made.Big → Lent cells other → Over (row_in (table_of table) (get_or hits i 0)) goal
+  pub hit-over : r ≡ None → Lent cells other → Over (row_in (table_of table) (get_or hits i 0)) goal
   hit-over e = over_by row_is e x (pass-hit w l)
 
 -- what is put into the part of a room from a place on is put into the room

@@ -1,4 +1,4 @@
-// What a run's hits say (02, W-203): for each the goal with the row's bindings filled in. The run decides by its plan which rows are hits;
+// What a run's hits say: for each the goal with the row's bindings filled in. The run decides by its plan which rows are hits;
 // what follows it tests only how long a reply is.
 #![tactic(auto)]
 
@@ -12,7 +12,7 @@ mod pass;
 use instance::ReplyCounts;
 use limits::{MEETING_CELLS, ROWS};
 use octets::cells::put_cells;
-use pass::{Sum, pass};
+use pass::pass;
 use refusal::{Input, Reason, Refusal};
 
 fn turned_away(reason: Reason, input: Input, place: usize) -> Result<ReplyCounts, Refusal>
@@ -41,8 +41,8 @@ fn put_by(
         table.now plan goal.now room.old room.new result }
 {
     match pass(table, starts, rows, goal, hits, list) {
-        Sum::Big => turned_away(Reason::Big, Input::Goal, 0),
-        Sum::Cells(needed) => {
+        None => turned_away(Reason::Big, Input::Goal, 0),
+        Some(needed) => {
             if room.len() < needed {
                 return turned_away(Reason::Room, Input::Lent, needed);
             }

@@ -9,7 +9,6 @@ ghost use Rattle.replies.specs.code.Sums.{Passing, Upto, Stops, PassedAt};
 ghost use Rattle.limits.specs.Limits.{most_meeting_cells};
 
 use limits::{MEETING_CELLS, ROWS};
-use meeting::Made;
 use plannotes::packed::wide;
 use table::Part;
 
@@ -57,24 +56,22 @@ fn pass_in(
 {
     let mut sum = 0;
     let mut on = 0;
-    let mut i = 0;
     if ROWS < hits.len() {
         return Done {
-            hits: i,
+            hits: 0,
             cells: sum,
             on,
         };
     }
-    while i < hits.len() {
-        let p = row_at(table, starts, rows, hits[i]);
+    for (i, &hit) in hits.iter().enumerate() {
+        let p = row_at(table, starts, rows, hit);
         let row = slices::cells::part(table, p.start, p.end);
         match meeting::common(row, goal, cells, other) {
-            Made::Cells(n) => {
+            Some(n) => {
                 on = rewrite::put_numbered(room, on, &cells[..n]);
                 sum += n;
-                i += 1;
             }
-            Made::Big => {
+            None => {
                 return Done {
                     hits: i,
                     cells: sum,
@@ -84,7 +81,7 @@ fn pass_in(
         }
     }
     Done {
-        hits: i,
+        hits: hits.len(),
         cells: sum,
         on,
     }
@@ -127,14 +124,8 @@ fn pass_long(
     )
 }
 
-// How many cells the replies have together, or that one has over 1,024.
-#[derive(Drop)]
-pub enum Sum {
-    Cells(usize),
-    Big,
-}
-
-// The replies of the hits, put one after another into the room as far as it goes.
+// The replies of the hits, put one after another into the room as far as it goes: how many cells they have together, or None where one has
+// over 1,024.
 pub fn pass(
     table: &[u32],
     starts: &[usize; ROWS],
@@ -142,7 +133,7 @@ pub fn pass(
     goal: &[u32],
     hits: &[u8],
     room: &mut [u32],
-) -> Sum
+) -> Option<usize>
     ensures { (all : List (List ℕ)) → Passing table.now starts.now rows goal.now hits.now all
         → PassedAt room.old room.new all result }
 {
@@ -150,11 +141,11 @@ pub fn pass(
     let i = short.hits;
     let on = short.on;
     if i == hits.len() {
-        return Sum::Cells(short.cells);
+        return Some(short.cells);
     }
     let long = pass_long(table, starts, rows, goal, &hits[i..], &mut room[on..]);
     if long.hits < hits.len() - i {
-        return Sum::Big;
+        return None;
     }
-    Sum::Cells(short.cells + long.cells)
+    Some(short.cells + long.cells)
 }

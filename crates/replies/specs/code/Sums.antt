@@ -1,12 +1,10 @@
 -- What a pass over the hits has found (crate instance, specs/code/Passes), by the code's own types.
-use Rattle.std.specs.Prelude.{ℕ, ◌≤◌, ◌<◌, List, length}
+use Rattle.std.specs.Prelude.{ℕ, ◌≤◌, ◌<◌, List, length, Option, Some, None}
 use Rattle.table.specs.All.{All}
 use Rattle.table.specs.Table.{table_of, row_in}
 use Rattle.instance.specs.Reply.{Large}
 use Rattle.instance.specs.code.Passes.{RepliesAt, Held, Pass, Passed}
 use Rattle.replies.specs.declared.pass.Done.{Done}
-use Rattle.replies.specs.declared.pass.Sum.{Sum}
-use Rattle.replies.specs.declared.pass.Sum.TheVariants.{Cells, Big}
 use Rattle.limits.specs.Limits.{most_rows}
 
 -- the hits of an accepted table, with their replies
@@ -27,6 +25,6 @@ pub record Upto (table starts : List ℕ) (rows : ℕ) (goal hits room room' : L
 abbrev pub Stops : (table starts : List ℕ) (rows : ℕ) (goal hits : List ℕ) → Done → Type 0
 Stops table starts rows goal hits r = (all : List (List ℕ)) → Passing table starts rows goal hits all → r.hits < length hits → Large all
 
-pub data PassedAt (room room' : List ℕ) (all : List (List ℕ)) : Sum → Type 0 where
-  passed : {n : ℕ} → Passed room room' all n → PassedAt room room' all (Cells n)
-  passed_over : Large all → PassedAt room room' all Big
+pub data PassedAt (room room' : List ℕ) (all : List (List ℕ)) : Option ℕ → Type 0 where
+  passed : {n : ℕ} → Passed room room' all n → PassedAt room room' all (Some n)
+  passed_over : Large all → PassedAt room room' all None
