@@ -1,8 +1,8 @@
-// The replies of every goal of a list (02, W-202 and W-203 in one call), each goal's record saying where they stand in the room. What there is
+// The replies of every goal of a list, each goal's record saying where they stand in the room. What there is
 // to do for a goal is done on a record by value.
 #![tactic(auto)]
 
-ghost use Rattle.std.specs.Prelude.{◌≡◌, List, ℕ, ◌-◌, ◌≤◌, length};
+ghost use Rattle.std.specs.Prelude.{◌≡◌, List, ℕ, ◌≤◌, length};
 ghost use Rattle.refusal.specs.Refusal.{reason_number};
 ghost use Rattle.table.specs.Table.{table_of, starts_in};
 ghost use Rattle.plannotes.specs.Noted.{NotedInto};
@@ -22,8 +22,6 @@ fn refused(j: ReplyJob, reason: Reason, place: usize) -> ReplyJob
     ensures { result ≡ declined j (reason_number reason) place }
 {
     ReplyJob {
-        start: j.start,
-        count: j.count,
         number: refusal::number_of(reason),
         place,
         at: 0,
@@ -31,6 +29,7 @@ fn refused(j: ReplyJob, reason: Reason, place: usize) -> ReplyJob
         cells: 0,
         hits: 0,
         tried: 0,
+        ..j
     }
 }
 
@@ -39,8 +38,6 @@ fn found(j: ReplyJob, at: usize, hits: u64, tried: usize) -> ReplyJob
     ensures { result ≡ reply_filled j 0 0 at 0 0 hits tried }
 {
     ReplyJob {
-        start: j.start,
-        count: j.count,
         number: 0,
         place: 0,
         at,
@@ -48,17 +45,8 @@ fn found(j: ReplyJob, at: usize, hits: u64, tried: usize) -> ReplyJob
         cells: 0,
         hits,
         tried,
+        ..j
     }
-}
-
-// A place of the room, or its end.
-fn within(at: usize, end: usize) -> usize
-    ensures { result ≡ at - (at - end) }
-{
-    if end < at {
-        return end;
-    }
-    at
 }
 
 // The replies of a run's hits, from the record's place of the room on.
@@ -75,22 +63,15 @@ fn put_one(
         hits.now → one.at ≤ length room.old → Placed table.now plan goal.now room.old
         room.new one result }
 {
-    let on = within(one.at, room.len());
+    let on = one.at.min(room.len());
     match replies::put_replies(table, starts, rows, goal, hits, &mut room[on..]) {
-        Err(f) => {
-            let reason = f.reason;
-            refused(one, reason, f.place)
-        }
+        Err(f) => refused(one, f.reason, f.place),
         Ok(ReplyCounts { replies, cells }) => ReplyJob {
-            start: one.start,
-            count: one.count,
             number: 0,
             place: 0,
-            at: one.at,
             replies,
             cells,
-            hits: one.hits,
-            tried: one.tried,
+            ..one
         },
     }
 }
@@ -123,10 +104,7 @@ pub fn reply_one(
     let goal = &cells[start..end];
     let mut bytes = [0u8; ROWS];
     match run::run_noted(numbers, noted, goal, &mut bytes) {
-        Err(f) => {
-            let reason = f.reason;
-            refused(j, reason, f.place)
-        }
+        Err(f) => refused(j, f.reason, f.place),
         Ok(RunCounts { hits, tried }) => {
             if ROWS < hits {
                 return j;
@@ -152,12 +130,9 @@ fn reply_each(
         → RepliesEach table.now plan cells.now 0 room.old room.new jobs.old jobs.new }
 {
     let mut on = 0;
-    let mut i = 0;
-    while i < jobs.len() {
-        let one = reply_one(numbers, noted, table, starts, cells, jobs[i], on, room);
-        on += one.cells;
-        jobs[i] = one;
-        i += 1;
+    for job in jobs.iter_mut() {
+        *job = reply_one(numbers, noted, table, starts, cells, *job, on, room);
+        on += job.cells;
     }
 }
 

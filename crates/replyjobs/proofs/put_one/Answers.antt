@@ -6,11 +6,11 @@ pub returns-in-Err : goal.returns-in-Err
 returns-in-Err c =
     let a = c.args in
     λ plan h f l.
-    not-placed a.room.now c.within-on.result a.one (omega arith) (c.put_replies.ensures plan h f) c.in-Err.is
+    not-placed a.room.now c.min-on.result a.one (omega arith) (c.put_replies.ensures plan h f) c.in-Err.is
     c.refused.ensures
 
 pub returns-in-Ok : goal.returns-in-Ok
 returns-in-Ok c =
     let a = c.args in
     λ plan h f l.
-    placed-there a.room.now c.within-on.result a.one (omega arith) (c.put_replies.ensures plan h f) c.in-Ok.is
+    placed-there a.room.now c.min-on.result a.one (omega arith) (c.put_replies.ensures plan h f) c.in-Ok.is

@@ -7,25 +7,24 @@ use Rattle.replyjobs.proofs.reply_each.Goals as goal
 pub overflow_add-on : goal.overflow_add-on
 overflow_add-on c =
     let ok = c.requires in
-    let within : c.loop-i.on ≤ length c.loop-i.room = omega arith in
-    let next = next-within within (c.reply_one-one.ensures ok.plan ok.before ok.handed ok.begin within) in
+    let within : c.loop-job.on ≤ length c.loop-job.room = omega arith in
+    let next = next-within within (c.reply_one.ensures ok.plan ok.before ok.handed ok.begin within) in
     omega (arith, next)
 
-pub loop-i-init : goal.loop-i-init
-loop-i-init c = (omega arith, omega arith, λ plan before a. rest)
+pub loop-job-init : goal.loop-job-init
+loop-job-init c = (omega arith, λ plan before a. rest)
 
 -- record i is asked with what is left of the room, and put in its place
-pub loop-i-preserved : goal.loop-i-preserved
-loop-i-preserved c =
+pub loop-job-preserved : goal.loop-job-preserved
+loop-job-preserved c =
     let ok = c.requires in
-    let v = c.loop-i.invariant in
-    let within : c.loop-i.on ≤ length c.loop-i.room = omega arith in
-    let p = c.reply_one-one.ensures in
+    let v = c.loop-job.invariant in
+    let within : c.loop-job.on ≤ length c.loop-job.room = omega arith in
+    let p = c.reply_one.ensures in
     let next = next-within within (p ok.plan ok.before ok.handed ok.begin within) in (
-      omega arith,
       omega (arith, next),
-      λ plan before a. rw add-one (upto-more _ c.reply_one-one.result (v.2 plan before a) (omega arith) (p plan before a ok.begin within)),
+      λ plan before a. rw add-one (upto-more _ c.reply_one.result (v.1 plan before a) (omega arith) (p plan before a ok.begin within)),
     )
 
 pub returns : goal.returns
-returns c = λ plan before a. upto_all (c.loop-i.invariant.2 plan before a) (omega arith)
+returns c = λ plan before a. upto_all (c.loop-job.invariant.1 plan before a) (omega arith)
