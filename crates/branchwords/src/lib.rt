@@ -17,14 +17,14 @@ pub fn put_sizes(out: &mut [u8], to: usize, rules: usize, branches: usize) -> us
     put_number_of(out, b, branches, b" branch", b" branches")
 }
 
+// A word so many times.
+// Stays: `put_holes` of crate heads puts a cell so often and this a word, each by a function of its own with a promise of its own.
 pub fn put_times(out: &mut [u8], to: usize, word: &[u8], times: usize) -> usize
     ensures { Put out.old out.new to (times_text times word.now) result }
 {
     let mut on = to;
-    let mut left = times;
-    while 0 < left {
+    for _time in 0..times {
         on = put_word(out, on, word);
-        left -= 1;
     }
     on
 }

@@ -1,7 +1,7 @@
 // What `card --help` and `card --version` print, and what is said where the arguments are none of those that there are.
 #![tactic(auto)]
 
-use helptext::line;
+use helptext::print_lines;
 
 const LINES: [&[u8]; 26] = [
     b"card pack RULES [FILE]   a file of Prolog facts with its least plan, as a card\n",
@@ -32,17 +32,12 @@ const LINES: [&[u8]; 26] = [
     b"The program needs 2 MB of stack, and always ends with status 0.\n",
 ];
 
-// The first line that cannot be written is said and ends it.
 pub fn print(rt: HostRuntime) {
-    for text in LINES {
-        if !line(rt, true, text) {
-            return;
-        }
-    }
+    print_lines(rt, &LINES);
 }
 
 pub fn version(rt: HostRuntime) {
-    line(rt, true, b"card 0.1.0\n");
+    print_lines(rt, &[b"card 0.1.0\n"]);
 }
 
 // To standard error, where it can be written.

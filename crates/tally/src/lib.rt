@@ -1,4 +1,4 @@
-// What goals add up to (02, W-214): how often each rule fitted, how many goals were answered and how many refused, and the branches tried in
+// What goals add up to: how often each rule fitted, how many goals were answered and how many refused, and the branches tried in
 // all. The counts have 64 bits; one that would be larger stays at the largest number.
 #![tactic(auto)]
 
@@ -13,6 +13,7 @@ use refusal::Refusal;
 use sums::plus;
 
 // Rule 1 is row 0, as the hits of a run have it.
+// Stays: no number here is a length of the array, which has a place for each rule.
 #[derive(Clone, Copy)]
 pub struct Tally {
     pub fits: [usize; ROWS],
@@ -45,10 +46,8 @@ fn one_more(fits: &mut [usize], row: usize)
 fn add_hits(fits: &mut [usize], hits: &[u8])
     ensures { fits.new ≡ added_to fits.old hits.now }
 {
-    let mut i = 0;
-    while i < hits.len() {
-        one_more(fits, hits[i] as usize);
-        i += 1;
+    for row in hits {
+        one_more(fits, *row as usize);
     }
 }
 

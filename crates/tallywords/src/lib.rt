@@ -16,19 +16,10 @@ pub fn digits(n: usize) -> usize
     put_decimal(&mut room, 0, n)
 }
 
-fn blanks(width: usize, has: usize) -> usize
-    ensures { result ≡ width - has }
-{
-    if width <= has {
-        return 0;
-    }
-    width - has
-}
-
 fn put_number(out: &mut [u8], to: usize, width: usize, n: usize) -> usize
     ensures { Put out.old out.new to (column width n) result }
 {
-    let more = blanks(width, digits(n));
+    let more = width.saturating_sub(digits(n));
     let a = put_word(out, to, b"  ");
     let b = put_word(
         out,
