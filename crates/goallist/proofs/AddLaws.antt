@@ -14,18 +14,18 @@ use Rattle.octets.proofs.PutLaws.{put_whole}
 use Rattle.goallist.specs.Gathering.{words_fit, cells_fit, Adding}
 use Rattle.goallist.specs.declared.Held.{Held}
 use Rattle.goallist.specs.declared.Full.TheVariants as full
-use Rattle.goallist.specs.declared.Added.TheVariants as added
+use Rattle.std.specs.Prelude.{Ok, Err}
 
 module _ (goal : List ℕ) (held : Held) (cells list : List ℕ) where
-  pub no_words : words_fit held list ≡ false → Adding goal held cells list cells list (added.Left full.Goals)
+  pub no_words : words_fit held list ≡ false → Adding goal held cells list cells list (Err full.Goals)
   no_words w = record { told = rw w; puts-cells = rw w; puts-words = rw w }
 
-  pub no_cells : words_fit held list ≡ true → cells_fit goal held cells ≡ false → Adding goal held cells list cells list (added.Left full.Cells)
+  pub no_cells : words_fit held list ≡ true → cells_fit goal held cells ≡ false → Adding goal held cells list cells list (Err full.Cells)
   no_cells w c = record { told = rw (w, c); puts-cells = rw (w, c); puts-words = rw (w, c) }
 
   pub kept : {cells' : List ℕ} {end : ℕ} → words_fit held list ≡ true → cells_fit goal held cells ≡ true → Put cells cells' held.cells goal end
       → Adding goal held cells list cells' (sets list held.words (held.cells ∷ length goal ∷ []))
-      (added.Kept (record { cells = end; words = held.words + 2 }))
+      (Ok (record { cells = end; words = held.words + 2 }))
   kept w c p =
       let e = put_whole p (leb-true _ _ c) in
       record { told = rw (w, c, e.0); puts-cells = rw (w, c) e.1; puts-words = rw (w, c) }

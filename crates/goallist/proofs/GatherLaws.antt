@@ -12,7 +12,7 @@ use Rattle.term.proofs.Tests.{bool_cases}
 use Rattle.goallist.specs.Gathering.{words_fit, cells_fit, with_goal, Adding, goals_at, Pairs, none, pair, Gathered}
 use Rattle.goallist.specs.declared.Held.{Held}
 use Rattle.goallist.specs.declared.Full.{Full}
-use Rattle.goallist.specs.declared.Added.TheVariants as added
+use Rattle.std.specs.Prelude.{Result, Ok, Err}
 
 -- what stands before a part that is put, and the part itself
 module _ (l part : List ℕ) (i : ℕ) (h : i + length part ≤ length l) where
@@ -81,14 +81,14 @@ module _ (goal cells list : List ℕ) (held : Held) (g : Gathered cells list hel
       ap (goals_at cells_with) words-then ∙ goals-last cells_with held.cells (length goal) g.pairs
       ∙ rw (goals-same cells cells_with (before-put cells goal held.cells c) g.pairs, part-put cells goal held.cells c)
 
-kept_same : {x y : Held} → added.Kept x ≡ added.Kept y → x ≡ y
+kept_same : {x y : Held} → ◌≡◌ {A = Result Held Full} (Ok x) (Ok y) → x ≡ y
 kept_same e = cc
 
-kept-left : {x : Held} {f : Full} → added.Kept x ≡ added.Left f → ⊥
+kept-left : {x : Held} {f : Full} → ◌≡◌ {A = Result Held Full} (Ok x) (Err f) → ⊥
 kept-left e = let z : ◌≡◌ {A = ℕ} 0 1 = cc in omega arith
 
 -- a goal that is kept has room for its words and its cells
-module _ {goal cells list cells' list' : List ℕ} {held held' : Held} (a : Adding goal held cells list cells' list' (added.Kept held')) where
+module _ {goal cells list cells' list' : List ℕ} {held held' : Held} (a : Adding goal held cells list cells' list' (Ok held')) where
   kept-room : (words_fit held list ≡ true) × (cells_fit goal held cells ≡ true) × (held' ≡ with_goal goal held)
   kept-room = ⊎_elim
       (λ (w : words_fit held list ≡ true). ⊎_elim

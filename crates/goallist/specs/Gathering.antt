@@ -1,11 +1,10 @@
 -- A list of goals in two rooms: their cells, and two words for each goal, where it begins and how many cells it has.
-use Rattle.std.specs.Prelude.{ℕ, ◌+◌, ◌≤◌, ◌≡◌, Bool, cond, ◌&&◌, List, [], ◌∷◌, leb, length, take}
+use Rattle.std.specs.Prelude.{ℕ, ◌+◌, ◌≤◌, ◌≡◌, Bool, cond, ◌&&◌, List, [], ◌∷◌, leb, length, take, Result, Ok, Err}
 use Rattle.std.proofs.lemmas.List.Edits.{sets}
 use Rattle.std.proofs.Math.Seq.{slice}
 use Rattle.goallist.specs.declared.Held.{Held}
+use Rattle.goallist.specs.declared.Full.{Full}
 use Rattle.goallist.specs.declared.Full.TheVariants as full
-use Rattle.goallist.specs.declared.Added.{Added}
-use Rattle.goallist.specs.declared.Added.TheVariants as added
 
 -- whether there is room for the two words of a goal more, and for its cells
 abbrev pub words_fit : (held : Held) (list : List ℕ) → Bool
@@ -19,9 +18,9 @@ abbrev pub with_goal : (goal : List ℕ) → Held → Held
 with_goal goal held = record { cells = held.cells + length goal; words = held.words + 2 }
 
 -- a goal more: its cells and its words stand behind those that are in use; or there is no room for one of them, and nothing is written
-pub record Adding (goal : List ℕ) (held : Held) (cells list cells' list' : List ℕ) (r : Added) : Type 0 where
-  pub told : r ≡ cond (words_fit held list) (cond (cells_fit goal held cells) (added.Kept (with_goal goal held)) (added.Left full.Cells))
-      (added.Left full.Goals)
+pub record Adding (goal : List ℕ) (held : Held) (cells list cells' list' : List ℕ) (r : Result Held Full) : Type 0 where
+  pub told : r ≡ cond (words_fit held list) (cond (cells_fit goal held cells) (Ok (with_goal goal held)) (Err full.Cells))
+      (Err full.Goals)
   pub puts-cells : cells' ≡ cond (words_fit held list && cells_fit goal held cells) (sets cells held.cells goal) cells
   pub puts-words : list' ≡ cond (words_fit held list && cells_fit goal held cells) (sets list held.words (held.cells ∷ length goal ∷ [])) list
 

@@ -1,7 +1,7 @@
 // A list of goals in two lent rooms: their cells one after another, and two words for each goal, where it begins and how many cells it has.
 #![tactic(auto)]
 
-ghost use Rattle.std.specs.Prelude.{◌≡◌, ◌+◌, min, leb, take};
+ghost use Rattle.std.specs.Prelude.{◌≡◌, ◌+◌, leb, take};
 ghost use Rattle.goallist.specs.Gathering.{Adding};
 
 use octets::cells::put_cells;
@@ -20,56 +20,37 @@ pub enum Full {
     Cells,
 }
 
-// With a goal more; or it is left out, and both rooms are as they were.
-#[derive(Drop)]
-pub enum Added {
-    Kept(Held),
-    Left(Full),
-}
-
 fn fits(room: usize, to: usize, n: usize) -> bool
     ensures { result ≡ leb (to + n) room }
 {
-    if room < to {
-        return false;
-    }
-    if room - to < n {
-        return false;
-    }
-    true
+    to <= room && n <= room - to
 }
 
-// A goal behind those that there are, or none of it.
-pub fn add(goal: &[u32], cells: &mut [u32], list: &mut [usize], held: Held) -> Added
+// A goal behind those that there are; or it is left out, and both rooms are as they were.
+pub fn add(goal: &[u32], cells: &mut [u32], list: &mut [usize], held: Held) -> Result<Held, Full>
     ensures { Adding goal.now held cells.old list.old cells.new list.new result }
 {
     let start = held.cells;
     let at = held.words;
     if !fits(list.len(), at, 2) {
-        return Added::Left(Full::Goals);
+        return Err(Full::Goals);
     }
     if !fits(cells.len(), start, goal.len()) {
-        return Added::Left(Full::Cells);
+        return Err(Full::Cells);
     }
     list[at] = start;
     list[at + 1] = goal.len();
     let end = put_cells(cells, start, goal);
-    Added::Kept(Held {
+    Ok(Held {
         cells: end,
         words: at + 2,
     })
-}
-
-fn lesser(a: usize, b: usize) -> usize
-    ensures { result ≡ min a b }
-{
-    if a < b { a } else { b }
 }
 
 // The words that are in use.
 pub fn words(list: &[usize], held: Held) -> &[usize]
     ensures { result.now ≡ take held.words list.now }
 {
-    let end = lesser(held.words, list.len());
+    let end = held.words.min(list.len());
     &list[..end]
 }
