@@ -1,6 +1,6 @@
 -- Two results that the promise allows are equal, for every text, list of names, goal, new names, cells and room.
 use Prim.Native.Nat.{ℕ}
-use mathlib.Core.Path.{◌≡◌, refl, sym, ap, ◌∙◌}
+use mathlib.Core.Path.{◌≡◌, refl, sym, ap, ap₂, ◌∙◌}
 use mathlib.Core.List.{List}
 use native.Mathlib.Omega.{arith}
 use lib.ListN.{length}
@@ -13,20 +13,25 @@ use Rattle.termtext.specs.Saying.{said_in}
 use Rattle.termtext.specs.declared.Predicate.{Predicate}
 use Rattle.goaltext.proofs.Fixed.{predicate-of-fixed}
 use Rattle.answerroom.specs.Room.{answer_told, AnswerInto, too-big, no_room, is_said}
-use Rattle.answerroom.specs.declared.AnswerText.{AnswerText}
-use Rattle.answerroom.specs.declared.AnswerText.TheVariants as answer-text
+use Rattle.std.specs.Prelude.{Result, Ok, Err}
+use Rattle.answerroom.specs.declared.AnswerTextSize.{AnswerTextSize}
+use Rattle.refusal.specs.declared.Refusal.{Refusal}
 
-told-answer : (a b : AnswerText) → answer_told a ≡ answer_told b → a ≡ b
-told-answer (answer-text.Said c n) (answer-text.Said d m) e = cc
-told-answer (answer-text.Said c n) (answer-text.Refused g) e = absurd (let z : ◌≡◌ {A = ℕ} 0 1 = cc in omega arith)
-told-answer (answer-text.Refused f) (answer-text.Said d m) e = absurd (let z : ◌≡◌ {A = ℕ} 0 1 = cc in omega arith)
-told-answer (answer-text.Refused f) (answer-text.Refused g) e = let q : told f ≡ told g = cc in ap answer-text.Refused (told-one q)
+told-answer : (a b : Result AnswerTextSize Refusal) → answer_told a ≡ answer_told b → a ≡ b
+told-answer (Ok c) (Ok d) e =
+    let first : c.cells ≡ d.cells = cc in
+    let second : c.bytes ≡ d.bytes = cc in
+    let with : ℕ → ℕ → Result AnswerTextSize Refusal = λ m n. Ok (record { cells = m; bytes = n }) in
+    ap₂ with first second
+told-answer (Ok c) (Err g) e = absurd (let z : ◌≡◌ {A = ℕ} 0 1 = cc in omega arith)
+told-answer (Err f) (Ok d) e = absurd (let z : ◌≡◌ {A = ℕ} 0 1 = cc in omega arith)
+told-answer (Err f) (Err g) e = let q : told f ≡ told g = cc in ap Err (told-one q)
 
-both : {r s : AnswerText} {a b : Answer} → answer_told r ≡ a → answer_told s ≡ b → a ≡ b → {x y room' room'' : List ℕ} → room' ≡ x → room'' ≡ y → x ≡ y
+both : {r s : Result AnswerTextSize Refusal} {a b : Answer} → answer_told r ≡ a → answer_told s ≡ b → a ≡ b → {x y room' room'' : List ℕ} → room' ≡ x → room'' ≡ y → x ≡ y
     → (r ≡ s) × (room' ≡ room'')
 both {r = r} {s = s} t u e x y f = (told-answer r s (t ∙ e ∙ sym u), x ∙ f ∙ sym y)
 
-module _ {text names goal new cells room room' room'' : List ℕ} {r s : AnswerText} where
+module _ {text names goal new cells room room' room'' : List ℕ} {r s : Result AnswerTextSize Refusal} where
   pub answer-into-fixed : AnswerInto text names goal new cells room room' r → AnswerInto text names goal new cells room room'' s
       → (r ≡ s) × (room' ≡ room'')
   answer-into-fixed (too-big h t x) (too-big k u y) = both {r = r} {s = s} t u refl x y refl

@@ -17,8 +17,9 @@ use Rattle.answertext.specs.Terms.{terms_said}
 use Rattle.answertext.proofs.LevelLaws.{said-is, terms-are}
 use Rattle.answertext.proofs.BytesLaws.{slice-few, slice-within}
 use Rattle.answerroom.specs.Room.{answer_told, AnswerInto, no_room, is_said}
-use Rattle.answerroom.specs.declared.AnswerText.{AnswerText}
-use Rattle.answerroom.specs.declared.AnswerText.TheVariants as answer-text
+use Rattle.std.specs.Prelude.{Result, Ok}
+use Rattle.answerroom.specs.declared.AnswerTextSize.{AnswerTextSize}
+use Rattle.refusal.specs.declared.Refusal.{Refusal}
 use Rattle.limits.specs.Limits.{most_reply_cells, most_text_bytes}
 
 -- a predicate stands in a text that is taken, which has at most 65,535 bytes; or there is none
@@ -39,10 +40,10 @@ said-long text names goal new p cells h =
 -- and its room
 module _ {text names goal new : List ℕ} {p : Predicate} {cells : List ℕ} {need : ℕ} (h : length cells ≤ most_reply_cells) (q : PredicateIs text p)
     (e : need ≡ length (said_in text names goal new p cells)) {room : List ℕ} where
-  pub short-room : {r : AnswerText} → length room < need → answer_told r ≡ turned (refused reason.Room input.Lent need)
+  pub short-room : {r : Result AnswerTextSize Refusal} → length room < need → answer_told r ≡ turned (refused reason.Room input.Lent need)
       → AnswerInto text names goal new cells room room r
   short-room l t = no_room p h q (omega arith) (t ∙ ap (λ (n : ℕ). turned (refused reason.Room input.Lent n)) e) refl
 
   pub is-put : {room' : List ℕ} {r : ℕ} → need ≤ length room → Put room room' 0 (said_in text names goal new p cells) r
-      → AnswerInto text names goal new cells room room' (answer-text.Said (length cells) need)
+      → AnswerInto text names goal new cells room room' (Ok (record { cells = length cells; bytes = need }))
   is-put l x = is_said p h q (omega arith) (ap (answered (length cells)) e) (put_front x (omega arith)).1

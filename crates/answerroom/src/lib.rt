@@ -15,17 +15,17 @@ use limits::REPLY_CELLS;
 use refusal::{Input, Reason, Refusal};
 use termtext::Predicate;
 
-// So many cells are said, in so many bytes; or why they are not.
-#[derive(Drop)]
-pub enum AnswerText {
-    Said(usize, usize),
-    Refused(Refusal),
+// So many cells are said, in so many bytes.
+#[derive(Clone, Copy)]
+pub struct AnswerTextSize {
+    pub cells: usize,
+    pub bytes: usize,
 }
 
-fn refuse(reason: Reason, input: Input, place: usize) -> AnswerText
+fn refuse(reason: Reason, input: Input, place: usize) -> Result<AnswerTextSize, Refusal>
     ensures { answer_told result ≡ turned (refused reason input place) }
 {
-    AnswerText::Refused(Refusal {
+    Err(Refusal {
         reason,
         input,
         place,
@@ -57,7 +57,7 @@ pub fn put_answer(
     new: &[u32],
     cells: &[u32],
     room: &mut [u8],
-) -> AnswerText
+) -> Result<AnswerTextSize, Refusal>
     ensures answer_into { AnswerInto text.now names.now goal.now new.now cells.now
         room.old room.new result }
     ensures small { Small (answer_told result) }
@@ -71,5 +71,8 @@ pub fn put_answer(
         return refuse(Reason::Room, Input::Lent, need);
     }
     answertext::put_answer(room, text, names, goal, new, p, cells);
-    AnswerText::Said(cells.len(), need)
+    Ok(AnswerTextSize {
+        cells: cells.len(),
+        bytes: need,
+    })
 }

@@ -13,7 +13,9 @@ use Rattle.loading.specs.Load.{put_first}
 use Rattle.termtext.specs.Goal.{Goal}
 use Rattle.termtext.specs.declared.Predicate.{Predicate}
 use Rattle.goaltext.specs.Asked.{PredicateIs, AskedAs, said, goal_cells, new_of}
-use Rattle.goaltext.specs.declared.GoalText.{GoalText}
+use Rattle.std.specs.Prelude.{Result}
+use Rattle.goaltext.specs.declared.GoalTextSize.{GoalTextSize}
+use Rattle.refusal.specs.declared.Refusal.{Refusal}
 use Rattle.goaltext.proofs.Fixed.{predicate-of-fixed, asked-one, told_text}
 use Rattle.goalroom.specs.Rooms.{GoalFits, not-read, no_cells, no_names, fits, GoalInto}
 
@@ -48,7 +50,7 @@ fits_one {text} {names} {goal} {c} {k} x y =
     let s = asked-one (subst (λ (p : Predicate). AskedAs text names p goal u.says) p u.rule) v.rule in
     u.comes ∙ ap (λ (o : Read Goal). and_then o (roomed c k)) s ∙ sym v.comes
 
-pub goal-into-fixed : {text names goal cells cells' cells'' new new' new'' : List ℕ} {r s : GoalText} → GoalInto text names goal cells cells' new new' r
+pub goal-into-fixed : {text names goal cells cells' cells'' new new' new'' : List ℕ} {r s : Result GoalTextSize Refusal} → GoalInto text names goal cells cells' new new' r
     → GoalInto text names goal cells cells'' new new'' s → (r ≡ s) × (cells' ≡ cells'') × (new' ≡ new'')
 goal-into-fixed {cells = cells} {new = new} {r = r} {s = s} x y =
     let e = fits_one x.rule y.rule in

@@ -22,8 +22,8 @@ use Rattle.termtext.specs.Goal.{Whole, NoGoal, Goal}
 use Rattle.termtext.specs.declared.Predicate.{Predicate}
 use Rattle.termtext.proofs.ListLaws.{new-fewer}
 use Rattle.goaltext.specs.Asked.{PredicateIs, AskedAs, asked, goal_text_told, Answers, GoalAsked}
-use Rattle.goaltext.specs.declared.GoalText.{GoalText}
-use Rattle.goaltext.specs.declared.GoalText.TheVariants as goal-text
+use Rattle.std.specs.Prelude.{Result, Ok, Err}
+use Rattle.goaltext.specs.declared.GoalTextSize.{GoalTextSize}
 use Rattle.goalroom.specs.Rooms.{GoalFits, not-read, no_cells, no_names, fits, GoalInto}
 
 -- a goal that was read: it stands at the front of the two arrays
@@ -41,28 +41,30 @@ front-found : (xs room : List ℕ) {room' : List ℕ} {n : ℕ} → n ≡ length
 front-found xs room {n = n} e f =
     (ap (take n) f ∙ take_at xs (drop (length xs) room) n (sym e), omega (arith, ap length f, length-append xs (drop (length xs) room)))
 
-module _ {text names : List ℕ} {p : Predicate} {goal : List ℕ} {made made' list list' : List ℕ} {r : GoalText} where
-  pub found : {n k : ℕ} → GoalAsked text names p goal made made' list list' r → r ≡ goal-text.Read n k → Found text names p goal made' list' n k
-  found {n} {k} x e = by x.says x.rule x.answers
+module _ {text names : List ℕ} {p : Predicate} {goal : List ℕ} {made made' list list' : List ℕ} {r : Result GoalTextSize Refusal} where
+  pub found : {size : GoalTextSize} → GoalAsked text names p goal made made' list list' r → r ≡ Ok size
+      → Found text names p goal made' list' size.cells size.names
+  found {size} x e = by x.says x.rule x.answers
     where
-      by : (o : Read Goal) → AskedAs text names p goal o → Answers o made made' list list' r → Found text names p goal made' list' n k
+      by : (o : Read Goal) → AskedAs text names p goal o → Answers o made made' list list' r
+          → Found text names p goal made' list' size.cells size.names
       by (refuse f) a w = absurd (let t = w.tells in let z : ◌≡◌ {A = ℕ} 0 1 = cc in omega arith)
       by (read g) a w =
           let t = sym (ap goal_text_told e) ∙ w.tells in
-          let c : n ≡ length g.cells = cc in
-          let m : k ≡ length g.new = cc in
+          let c : size.cells ≡ length g.cells = cc in
+          let m : size.names ≡ length g.new = cc in
           let u = front-found g.cells made c w.wrote in
           let v = front-found g.new list m w.listed in
           record { is = g; rule = a; cells = c; new = m; first = u.0; listed = v.0; inside = (u.1, v.1) }
 
   -- and one that was not
   pub is-refused : {cells new : List ℕ} {f : Refusal} → PredicateIs text p → GoalAsked text names p goal made made' list list' r
-      → r ≡ goal-text.Refused f
-      → GoalInto text names goal cells cells new new (goal-text.Refused f)
+      → r ≡ Err f
+      → GoalInto text names goal cells cells new new (Err f)
   is-refused {cells} {new} {f} q x e = by x.says x.rule x.answers
     where
       by : (o : Read Goal) → AskedAs text names p goal o → Answers o made made' list list' r
-          → GoalInto text names goal cells cells new new (goal-text.Refused f)
+          → GoalInto text names goal cells cells new new (Err f)
       by (read g) a w = absurd (let t = w.tells in let z : ◌≡◌ {A = ℕ} 0 1 = cc in omega arith)
       by (refuse g) a w =
           let t : turned (told f) ≡ turned g = sym (ap goal_text_told e) ∙ w.tells in
@@ -70,16 +72,16 @@ module _ {text names : List ℕ} {p : Predicate} {goal : List ℕ} {made made' l
 
 -- the rooms
 module _ {text names : List ℕ} {p : Predicate} {goal made list : List ℕ} {n k : ℕ} (q : PredicateIs text p) (x : Found text names p goal made list n k) where
-  short : {cells new : List ℕ} {r : GoalText} {need : ℕ} {f : Refused} → goal_text_told r ≡ turned (refused reason.Room input.Lent need)
+  short : {cells new : List ℕ} {r : Result GoalTextSize Refusal} {need : ℕ} {f : Refused} → goal_text_told r ≡ turned (refused reason.Room input.Lent need)
       → f ≡ refused reason.Room input.Lent need → GoalFits text names goal (length cells) (length new) (refuse f)
       → GoalInto text names goal cells cells new new r
   short {f = f} t e w = record { says = refuse f; rule = w; answers = record { tells = t ∙ ap turned (sym e); wrote = refl; listed = refl } }
 
-  pub short-cells : {cells new : List ℕ} {r : GoalText} → length cells < n → goal_text_told r ≡ turned (refused reason.Room input.Lent n)
+  pub short-cells : {cells new : List ℕ} {r : Result GoalTextSize Refusal} → length cells < n → goal_text_told r ≡ turned (refused reason.Room input.Lent n)
       → GoalInto text names goal cells cells new new r
   short-cells h t = short t (ap (λ (m : ℕ). refused reason.Room input.Lent m) (sym x.cells)) (no_cells q x.rule (omega (arith, x.cells)))
 
-  pub short-names : {cells new : List ℕ} {r : GoalText} → n ≤ length cells → length new < k → goal_text_told r ≡ turned (refused reason.Room input.Lent k)
+  pub short-names : {cells new : List ℕ} {r : Result GoalTextSize Refusal} → n ≤ length cells → length new < k → goal_text_told r ≡ turned (refused reason.Room input.Lent k)
       → GoalInto text names goal cells cells new new r
   short-names h l t =
       short t (ap (λ (m : ℕ). refused reason.Room input.Lent m) (sym x.new))
@@ -87,7 +89,7 @@ module _ {text names : List ℕ} {p : Predicate} {goal made list : List ℕ} {n 
 
   pub given : {cells cells' new new' : List ℕ} {i j : ℕ} → n ≤ length cells → k ≤ length new → Put cells cells' 0 (take n made) i
       → Put new new' 0 (take k list) j
-      → GoalInto text names goal cells cells' new new' (goal-text.Read n k)
+      → GoalInto text names goal cells cells' new new' (Ok (record { cells = n; names = k }))
   given {cells} {new = new} h l a b =
       let u = put_front (rw x.first at a) (omega (arith, x.cells)) in
       let v = put_front (rw x.listed at b) (omega (arith, x.new)) in

@@ -1,6 +1,6 @@
 -- What the entry for a goal's text answers ("Export what `ask` uses: `dudowiej_read_goal_text` (the facts' text and names, the goal's bytes,
 -- room for cells and for new names)"), and what its two rooms then hold.
-use Rattle.std.specs.Prelude.{ℕ, ◌≤◌, ◌<◌, List, length}
+use Rattle.std.specs.Prelude.{ℕ, ◌≤◌, ◌<◌, List, length, Result}
 use Rattle.refusal.specs.Refusal.{Refused, refused}
 use Rattle.refusal.specs.Read.{Read, read, refuse}
 use Rattle.refusal.specs.declared.Reason.TheVariants as reason
@@ -8,7 +8,8 @@ use Rattle.refusal.specs.declared.Input.TheVariants as input
 use Rattle.termtext.specs.Goal.{Goal}
 use Rattle.termtext.specs.declared.Predicate.{Predicate}
 use Rattle.goaltext.specs.Asked.{PredicateIs, AskedAs, Answers}
-use Rattle.goaltext.specs.declared.GoalText.{GoalText}
+use Rattle.goaltext.specs.declared.GoalTextSize.{GoalTextSize}
+use Rattle.refusal.specs.declared.Refusal.{Refusal}
 
 -- For a text of facts with its list of names, a goal's text, and rooms for so many cells and so many names: what the reader of a goal refuses,
 -- by the facts' predicate; then ROOM, whose place is what is needed, of the cells first and then of the names, as W-201 has it
@@ -24,7 +25,7 @@ pub data GoalFits (text names goal : List ℕ) (cells new : ℕ) : Read Goal →
       → GoalFits text names goal cells new (read g)
 
 -- the promise: how many cells and how many new names there are, each at the front of its room; and a refusal writes nothing
-pub record GoalInto (text names goal cells cells' new new' : List ℕ) (r : GoalText) : Type 0 where
+pub record GoalInto (text names goal cells cells' new new' : List ℕ) (r : Result GoalTextSize Refusal) : Type 0 where
   pub says : Read Goal
   pub rule : GoalFits text names goal (length cells) (length new) says
   pub answers : Answers says cells cells' new new' r

@@ -10,16 +10,16 @@ ghost use Rattle.refusal.specs.declared.Input.TheVariants as input;
 ghost use Rattle.goaltext.specs.Asked.{goal_text_told};
 ghost use Rattle.goalroom.specs.Rooms.{GoalInto};
 
-use goaltext::GoalText;
+use goaltext::GoalTextSize;
 use limits::ROW_CELLS;
 use octets::cells::put_cells;
 use refusal::{Input, Reason, Refusal};
 
 // A lent room that is too small: so many are needed.
-fn no_room(need: usize) -> GoalText
+fn no_room(need: usize) -> Result<GoalTextSize, Refusal>
     ensures { goal_text_told result ≡ turned (refused reason.Room input.Lent need) }
 {
-    GoalText::Refused(Refusal {
+    Err(Refusal {
         reason: Reason::Room,
         input: Input::Lent,
         place: need,
@@ -33,25 +33,23 @@ pub fn read_goal_text(
     goal: &[u8],
     cells: &mut [u32],
     new: &mut [u32],
-) -> GoalText
+) -> Result<GoalTextSize, Refusal>
     ensures { GoalInto text.now names.now goal.now cells.old cells.new
         new.old new.new result }
 {
     let p = goaltext::predicate_of(text);
     let mut made = [0u32; ROW_CELLS];
     let mut list = [0u32; ROW_CELLS];
-    match goaltext::read_goal(text, names, p, goal, &mut made, &mut list) {
-        GoalText::Read(n, k) => {
-            if cells.len() < n {
-                return no_room(n);
-            }
-            if new.len() < k {
-                return no_room(k);
-            }
-            put_cells(cells, 0, &made[..n]);
-            put_cells(new, 0, &list[..k]);
-            GoalText::Read(n, k)
-        }
-        GoalText::Refused(f) => GoalText::Refused(f),
+    let size = goaltext::read_goal(text, names, p, goal, &mut made, &mut list)?;
+    let n = size.cells;
+    let k = size.names;
+    if cells.len() < n {
+        return no_room(n);
     }
+    if new.len() < k {
+        return no_room(k);
+    }
+    put_cells(cells, 0, &made[..n]);
+    put_cells(new, 0, &list[..k]);
+    Ok(size)
 }

@@ -32,7 +32,6 @@ use Rattle.slices.specs.declared.Span.{Span}
 use Rattle.prolog.specs.Entry.{FactsAre, are-made}
 use Rattle.prolog.specs.Entry as entry
 use Rattle.prolog.specs.declared.FactsMade.TheVariants as facts-made
-use Rattle.std.specs.Prelude.{Result, Ok, Err}
 use Rattle.prolog.specs.declared.TextSize.{TextSize}
 use Rattle.prolog.proofs.EntryLaws.{cells-long}
 use Rattle.slices.proofs.SliceLaws.{part-is}
@@ -46,8 +45,9 @@ use Rattle.termtext.proofs.ListLaws.{firsts-in, listed-words}
 use Rattle.termtext.proofs.RenumberLaws.{new-few, new-numbered, goal-new}
 use Rattle.goaltext.specs.Asked.{goal_text_told, Answers}
 use Rattle.goaltext.specs.code.Steps.{NameIs, Same, NamesNumbered, FactAsked, Reads}
-use Rattle.goaltext.specs.declared.GoalText.{GoalText}
-use Rattle.goaltext.specs.declared.GoalText.TheVariants as goal-text
+use Rattle.std.specs.Prelude.{Result, Ok, Err}
+use Rattle.goaltext.specs.declared.GoalTextSize.{GoalTextSize}
+use Rattle.refusal.specs.declared.Refusal.{Refusal}
 use Rattle.goaltext.proofs.StepLaws.{counted-text, some-fact}
 use Rattle.goaltext.proofs.NameLaws.{cells-many, words-many, stored-front}
 use Rattle.limits.specs.Limits.{most_goal_bytes, most_names, most_text_bytes}
@@ -129,7 +129,7 @@ module _ (text names : List ℕ) (p : Predicate) (t whole : List ℕ) (few : len
   abbrev words : Words
   words = words_in text names
 
-  turns : {cells new : List ℕ} {r : GoalText} {g : Refused} → GoalRead words (predicate_in text p) p.width t (refuse g)
+  turns : {cells new : List ℕ} {r : Result GoalTextSize Refusal} {g : Refused} → GoalRead words (predicate_in text p) p.width t (refuse g)
       → goal_text_told r ≡ turned g
       → Reads text names p t cells cells new new r
   turns {g = g} x e = record { says = refuse g; rule = x; answers = record { tells = e; wrote = refl; listed = refl } }
@@ -159,14 +159,14 @@ module _ (text names : List ℕ) (p : Predicate) (t whole : List ℕ) (few : len
         }
 
     -- OTHER
-    other_at : (f : Fact) (fs : List Fact) {cells new : List ℕ} {r : GoalText} → Whole t whole (f ∷ fs)
+    other_at : (f : Fact) (fs : List Fact) {cells new : List ℕ} {r : Result GoalTextSize Refusal} → Whole t whole (f ∷ fs)
         → (Ours (predicate_in text p) p.width whole f fs → ⊥) → goal_text_told r ≡ turned (refused reason.Other input.Text s.start)
         → Reads text names p t cells cells new new r
     other_at f fs w n e =
         let z = (N f fs (whole-text w)).0 in
         turns (goal.other short w n) (e ∙ ap (λ (k : ℕ). turned (refused reason.Other input.Text k)) z)
 
-    pub other-reads : {c : Counted} {fs : List Fact} {cells new : List ℕ} {r : GoalText} → Whole t whole fs → Counts whole c
+    pub other-reads : {c : Counted} {fs : List Fact} {cells new : List ℕ} {r : Result GoalTextSize Refusal} → Whole t whole fs → Counts whole c
         → (Same text p whole s c → ⊥) → goal_text_told r ≡ turned (refused reason.Other input.Text s.start)
         → Reads text names p t cells cells new new r
     other-reads {fs = fs} w C n e =
@@ -176,7 +176,7 @@ module _ (text names : List ℕ) (p : Predicate) (t whole : List ℕ) (few : len
         other_at o.0 o.1.0 (subst (Whole t whole) o.1.1 w)
         (λ O. n (ours_same o.0 o.1.0 C q (subst (Text whole) o.1.1 x) O)) e
 
-    pub refused-reads : (g : Refused) {fs : List Fact} {cells new : List ℕ} {r : GoalText} → Whole t whole fs → Taken whole (refuse g)
+    pub refused-reads : (g : Refused) {fs : List Fact} {cells new : List ℕ} {r : Result GoalTextSize Refusal} → Whole t whole fs → Taken whole (refuse g)
         → goal_text_told r ≡ turned (refused reason.Other input.Text s.start) → Reads text names p t cells cells new new r
     unfolding other_in other_than
     refused-reads g {fs} {cells} {new} {r} w k e = by k refl
@@ -199,7 +199,7 @@ module _ (text names : List ℕ) (p : Predicate) (t whole : List ℕ) (few : len
             other_at u.0 u.1.0 (subst (Whole t whole) u.1.1 w) (λ O. two o (unique whole y x ∙ u.1.1) O.single) e
 
     -- THE GOAL, and 01's refusals of it
-    reads-by : (g : Goal) (row : List ℕ) {cells cells' new new' : List ℕ} {r : GoalText} → Asks words (predicate_in text p) p.width t g
+    reads-by : (g : Goal) (row : List ℕ) {cells cells' new new' : List ℕ} {r : Result GoalTextSize Refusal} → Asks words (predicate_in text p) p.width t g
         → goal_of p.width g.cells ≡ goal_of p.width row
         → Answers (and_then (goal_of p.width row) (λ (vars : ℕ). read g)) cells cells' new new' r
         → Reads text names p t cells cells' new new' r
@@ -210,7 +210,7 @@ module _ (text names : List ℕ) (p : Predicate) (t whole : List ℕ) (few : len
         by (read v) i x = record { says = read g; rule = goal.is-goal short a (e ∙ i); answers = x }
         by (refuse f) i x = record { says = refuse f; rule = goal.no-goal short a (e ∙ i); answers = x }
 
-    one-reads : (f : Fact) {row list cells cells' new new' : List ℕ} {r : GoalText} → length names ≤ most_names → Whole t whole (f ∷ [])
+    one-reads : (f : Fact) {row list cells cells' new new' : List ℕ} {r : Result GoalTextSize Refusal} → length names ≤ most_names → Whole t whole (f ∷ [])
         → Ours (predicate_in text p) p.width whole f [] → row ≡ drop 2 (table_cells whole (f ∷ [])) → list ≡ name_list whole (f ∷ [])
         → FactAsked text names p.width whole row list cells cells' new new' r → Reads text names p t cells cells' new new' r
     one-reads f {row} {list} h w o e l A =
@@ -228,7 +228,7 @@ module _ (text names : List ℕ) (p : Predicate) (t whole : List ℕ) (few : len
         (goal-new p.width A.numbers row) A.answers
 
     -- a goal of over 2,048 symbols
-    one-long : (f : Fact) {cells new : List ℕ} {r : GoalText} → length names ≤ most_names → Whole t whole (f ∷ [])
+    one-long : (f : Fact) {cells new : List ℕ} {r : Result GoalTextSize Refusal} → length names ≤ most_names → Whole t whole (f ∷ [])
         → Ours (predicate_in text p) p.width whole f [] → most_names < length (symbols_of (f ∷ []))
         → goal_text_told r ≡ turned (refused reason.Length input.Goal 0)
         → Reads text names p t cells cells new new r
@@ -251,7 +251,7 @@ module _ (text names : List ℕ) (p : Predicate) (t whole : List ℕ) (few : len
         by (f ∷ []) k l e = (f, (e, subst (Whole t whole) k w))
         by (f ∷ g ∷ gs) k l e = absurd (omega arith)
 
-    pub goal-reads : {c : Counted} {fs : List Fact} {row list cells cells' new new' : List ℕ} {r : GoalText} (C : Counts whole c)
+    pub goal-reads : {c : Counted} {fs : List Fact} {row list cells cells' new new' : List ℕ} {r : Result GoalTextSize Refusal} (C : Counts whole c)
         → length names ≤ most_names → Whole t whole fs → Same text p whole s c → row ≡ drop 2 (table_cells whole C.facts)
         → list ≡ name_list whole C.facts → FactAsked text names p.width whole row list cells cells' new new' r
         → Reads text names p t cells cells' new new' r
@@ -261,7 +261,7 @@ module _ (text names : List ℕ) (p : Predicate) (t whole : List ℕ) (few : len
         one-reads o.0 h o.1.1 (same-ours o.0 C q (whole-text o.1.1) S)
         (e ∙ ap (λ (gs : List Fact). drop 2 (table_cells whole gs)) q) (l ∙ ap (name_list whole) q) A
 
-    pub long-reads : {c : Counted} {fs : List Fact} {cells new : List ℕ} {r : GoalText} (C : Counts whole c) → length names ≤ most_names
+    pub long-reads : {c : Counted} {fs : List Fact} {cells new : List ℕ} {r : Result GoalTextSize Refusal} (C : Counts whole c) → length names ≤ most_names
         → Whole t whole fs
         → Same text p whole s c → most_names < c.symbols → goal_text_told r ≡ turned (refused reason.Length input.Goal 0)
         → Reads text names p t cells cells new new r
@@ -298,7 +298,7 @@ module _ (text names : List ℕ) (width : ℕ) (whole row list : List ℕ) {g : 
   pub put-accepted : {size : GoalSize} {k : ℕ} {zeros numbers cells cells' new new' : List ℕ} → g ≡ Ok size → length list ≤ length row
       → length zeros ≡ 32 → length new ≡ 32 → NamesNumbered (words_in text names) whole list zeros numbers new new' k
       → cells' ≡ new_cells numbers row ++ drop (length row) cells
-      → FactAsked text names width whole row list cells cells' new new' (goal-text.Read size.cells k)
+      → FactAsked text names width whole row list cells cells' new new' (Ok (record { cells = size.cells; names = k }))
   put-accepted {size} {k} {zeros} {numbers} {cells} {new = new} q l z m N w =
       let a = accepted-read width row e q in
       let few = goal-few width row a.1 in
@@ -320,7 +320,7 @@ module _ (text names : List ℕ) (width : ℕ) (whole row list : List ℕ) {g : 
       }
 
   pub put_refused : {f : Refusal} {cells new : List ℕ} → g ≡ Err f
-      → FactAsked text names width whole row list cells cells new new (goal-text.Refused f)
+      → FactAsked text names width whole row list cells cells new new (Err f)
   put_refused {f} q =
       record {
         numbers = numbers_from (words_in text names) 0 (words_in whole list);

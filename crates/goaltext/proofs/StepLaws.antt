@@ -6,6 +6,7 @@ use mathlib.Core.List.{List, [], ◌∷◌}
 use native.Mathlib.Omega.{arith}
 use lib.ListN.{length, take, length-append}
 use lib.Seq.{slice, take_at, take_all}
+use Rattle.std.specs.Prelude.{Some, None, Ok, Err}
 use Rattle.refusal.specs.Refusal.{told, reason_number}
 use Rattle.refusal.specs.Read.{Read, read, refuse}
 use Rattle.refusal.specs.declared.Refusal.{Refusal}
@@ -22,7 +23,6 @@ use Rattle.lex.specs.declared.fact.Head.{Head}
 use Rattle.lex.specs.declared.fact.Head.TheVariants as head
 use Rattle.scan.specs.Scan.{ScanIs, Counts}
 use Rattle.scan.specs.declared.Counted.{Counted}
-use Rattle.std.specs.Prelude.{Err}
 use Rattle.slices.specs.declared.Span.{Span}
 use Rattle.scan.proofs.SaysLaws.{scan-turned}
 use Rattle.termtext.specs.Saying.{predicate_in}
@@ -32,8 +32,6 @@ use Rattle.termtext.specs.declared.Predicate.{Predicate}
 use Rattle.termtext.proofs.HeadLaws.{first_head}
 use Rattle.goaltext.specs.Asked.{predicate_of, PredicateIs, first, none}
 use Rattle.goaltext.specs.code.Steps.{NameIs, EndsAre, SizeOf, OursIs}
-use Rattle.goaltext.specs.declared.Ends.TheVariants as ends
-use Rattle.goaltext.specs.declared.Size.TheVariants as size
 use Rattle.limits.specs.Limits.{most_text_bytes}
 
 -- A TEXT'S FACTS: those that are counted, and at least one
@@ -82,14 +80,14 @@ pub predicate-none : (t : List ℕ) (f : Refusal) → ScanIs t (Err f) → Predi
 predicate-none t f s = none (scan-turned t f s)
 
 -- A TEXT OR NOT
-pub ends-facts : (t : List ℕ) (c : Counted) → Counts t c → EndsAre t ends.Whole
+pub ends-facts : (t : List ℕ) (c : Counted) → Counts t c → EndsAre t None
 ends-facts t c C = by C.taken
   where
     by : Taken t (read C.facts) → (fs : List Fact) × Text t fs
     by (taken h x e) = (C.facts, x)
 
 module _ (t : List ℕ) (f : Refusal) (few : length t ≤ most_text_bytes) where
-  pub ends-stop : ScanIs t (Err f) → reason_number f.reason ≡ 18 → EndsAre t (ends.Stop f.place)
+  pub ends-stop : ScanIs t (Err f) → reason_number f.reason ≡ 18 → EndsAre t (Some f.place)
   ends-stop s n = by (scan-turned t f s) refl
     where
       by : {o : Read (List Fact)} → Taken t o → o ≡ refuse (told f) → Stops t f.place
@@ -106,7 +104,7 @@ module _ (t : List ℕ) (f : Refusal) (few : length t ≤ most_text_bytes) where
           number (refuse r) = r.number
       by (taken h x y) e = absurd (let z : ◌≡◌ {A = ℕ} 0 1 = cc in omega arith)
 
-  pub ends-other : ScanIs t (Err f) → (reason_number f.reason ≡ 18 → ⊥) → EndsAre t ends.Whole
+  pub ends-other : ScanIs t (Err f) → (reason_number f.reason ≡ 18 → ⊥) → EndsAre t None
   ends-other s n = by (scan-turned t f s) refl
     where
       number : Read (List Fact) → ℕ
@@ -131,25 +129,25 @@ module _ (t text : List ℕ) (n : ℕ) (e : text ≡ with_stop t) (l : n ≡ len
   front : take n text ≡ t
   front = ap (take n) e ∙ take_at t (10 ∷ 46 ∷ []) n (sym l)
 
-  pub size-whole : EndsAre (take n text) ends.Whole → SizeOf t text (size.Bytes n)
+  pub size-whole : EndsAre (take n text) None → SizeOf t text (Ok n)
   size-whole x = (x.0, rw front (stopped (subst (λ (u : List ℕ). Text u x.0) front x.1)))
 
-  pub size-byte : {k : ℕ} → EndsAre (take n text) (ends.Stop k) → k < n → SizeOf t text (size.Stop k)
+  pub size-byte : {k : ℕ} → EndsAre (take n text) (Some k) → k < n → SizeOf t text (Err k)
   size-byte {k} x h = goal.at_byte {k = k} (omega arith) (subst (λ (u : List ℕ). Stops u k) front x)
 
   -- it ends too early
-  early : {k : ℕ} → EndsAre (take n text) (ends.Stop k) → n ≤ k → Stops t (length t)
+  early : {k : ℕ} → EndsAre (take n text) (Some k) → n ≤ k → Stops t (length t)
   early {k} x h =
       let s = subst (λ (u : List ℕ). Stops u k) front x in
       let z : k ≡ length t = omega (arith, stops-within t s) in
       subst (Stops t) z s
 
-  pub size-stopped : {k : ℕ} → EndsAre (take n text) (ends.Stop k) → n ≤ k → EndsAre text ends.Whole → SizeOf t text (size.Bytes (n + 2))
+  pub size-stopped : {k : ℕ} → EndsAre (take n text) (Some k) → n ≤ k → EndsAre text None → SizeOf t text (Ok (n + 2))
   size-stopped x h y =
       let all : take (n + 2) text ≡ text = take_all (n + 2) text (omega (arith, long)) in
       (y.0, rw (all, e) (unstopped (early x h) (subst (λ (u : List ℕ). Text u y.0) e y.1)))
 
-  pub size_none : {k j : ℕ} → EndsAre (take n text) (ends.Stop k) → n ≤ k → EndsAre text (ends.Stop j) → SizeOf t text (size.Stop n)
+  pub size_none : {k j : ℕ} → EndsAre (take n text) (Some k) → n ≤ k → EndsAre text (Some j) → SizeOf t text (Err n)
   size_none {j = j} x h y =
       rw l (goal.at-end (early x h) (λ fs z. not-both (with_stop t) j (subst (λ (u : List ℕ). Stops u j) e y) z))
 

@@ -1,17 +1,17 @@
 -- What the reader of a goal's text answers (termtext/specs/Goal), and what its rooms then hold.
-use Rattle.std.specs.Prelude.{ℕ, ◌≤◌, ◌<◌, ◌≡◌, List, [], ◌∷◌, length}
+use Rattle.std.specs.Prelude.{ℕ, ◌≤◌, ◌<◌, ◌≡◌, List, [], ◌∷◌, length, Result, Ok, Err}
 use Rattle.refusal.specs.Refusal.{Refused, refused, told, Answer, answered, turned}
 use Rattle.refusal.specs.Read.{Read, read, refuse}
 use Rattle.refusal.specs.declared.Reason.TheVariants as reason
 use Rattle.refusal.specs.declared.Input.TheVariants as input
+use Rattle.refusal.specs.declared.Refusal.{Refusal}
 use Rattle.grammar.specs.Grammar.{Fact}
 use Rattle.grammar.specs.Taken.{Taken}
 use Rattle.loading.specs.Load.{put_first}
 use Rattle.termtext.specs.Saying.{words_in, predicate_in}
 use Rattle.termtext.specs.Goal.{Goal, GoalRead}
 use Rattle.termtext.specs.declared.Predicate.{Predicate}
-use Rattle.goaltext.specs.declared.GoalText.{GoalText}
-use Rattle.goaltext.specs.declared.GoalText.TheVariants as goal-text
+use Rattle.goaltext.specs.declared.GoalTextSize.{GoalTextSize}
 use Rattle.limits.specs.Limits.{most_names}
 
 -- a fact's predicate: where its name stands, and how many arguments it has
@@ -34,9 +34,9 @@ abbrev pub said : Read Goal → Answer
 said (read g) = answered (length g.cells) (length g.new)
 said (refuse f) = turned f
 
-abbrev pub goal_text_told : GoalText → Answer
-goal_text_told (goal-text.Read cells new) = answered cells new
-goal_text_told (goal-text.Refused f) = turned (told f)
+abbrev pub goal_text_told : Result GoalTextSize Refusal → Answer
+goal_text_told (Ok size) = answered size.cells size.names
+goal_text_told (Err f) = turned (told f)
 
 -- what is written of a goal; and of a refusal, nothing
 abbrev pub goal_cells : Read Goal → List ℕ
@@ -48,13 +48,13 @@ new_of (read g) = g.new
 new_of (refuse f) = []
 
 -- each at the front of its room, the rest of which is kept
-pub record Answers (says : Read Goal) (cells cells' new new' : List ℕ) (r : GoalText) : Type 0 where
+pub record Answers (says : Read Goal) (cells cells' new new' : List ℕ) (r : Result GoalTextSize Refusal) : Type 0 where
   pub tells : goal_text_told r ≡ said says
   pub wrote : cells' ≡ put_first (goal_cells says) cells
   pub listed : new' ≡ put_first (new_of says) new
 
 -- "the reading of a goal against a list of names": a goal's text, by the names of a text of facts and its predicate
-pub record GoalAsked (text names : List ℕ) (p : Predicate) (goal cells cells' new new' : List ℕ) (r : GoalText) : Type 0 where
+pub record GoalAsked (text names : List ℕ) (p : Predicate) (goal cells cells' new new' : List ℕ) (r : Result GoalTextSize Refusal) : Type 0 where
   pub says : Read Goal
   pub rule : AskedAs text names p goal says
   pub answers : Answers says cells cells' new new' r

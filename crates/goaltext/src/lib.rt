@@ -50,66 +50,54 @@ pub fn predicate_of(text: &[u8]) -> Predicate
     }
 }
 
-// A goal's text that is read: how many cells it has, and how many names that the table has not; or why it is turned away.
-#[derive(Drop)]
-pub enum GoalText {
-    Read(usize, usize),
-    Refused(Refusal),
+// A goal's text that is read: how many cells it has, and how many names that the table has not.
+#[derive(Clone, Copy)]
+pub struct GoalTextSize {
+    pub cells: usize,
+    pub names: usize,
 }
 
-fn refuse(reason: Reason, input: Input, place: usize) -> GoalText
+fn refuse(reason: Reason, input: Input, place: usize) -> Result<GoalTextSize, Refusal>
     ensures { goal_text_told result ≡ turned (refused reason input place) }
 {
-    GoalText::Refused(Refusal {
+    Err(Refusal {
         reason,
         input,
         place,
     })
 }
 
-// It is a text, of whatever facts; or where no text goes on so.
-#[derive(Clone, Copy)]
-pub enum Ends {
-    Whole,
-    Stop(usize),
-}
-
-fn text_ends(text: &[u8]) -> Ends
+// Where no text goes on so; none where it is a text, of whatever facts.
+fn text_stop(text: &[u8]) -> Option<usize>
     ensures { length text.now ≤ most_text_bytes → EndsAre text.now result }
 {
     match scan::scan_text(text) {
-        Ok(_) => Ends::Whole,
+        Ok(_) => None,
         Err(f) => {
             let reason = f.reason;
             let place = f.place;
             if refusal::number_of(reason) == 18 {
-                return Ends::Stop(place);
+                return Some(place);
             }
-            Ends::Whole
+            None
         }
     }
 }
 
 // How many bytes of a goal with a full stop after it are read: all, or those before the full stop's line; or TEXT's place.
-#[derive(Clone, Copy)]
-pub enum Size {
-    Bytes(usize),
-    Stop(usize),
-}
-
-fn whole_size(text: &[u8], n: usize) -> Size
+fn whole_size(text: &[u8], n: usize) -> Result<usize, usize>
     requires { (n + 2 ≡ length text.now) × (length text.now ≤ most_text_bytes) }
     ensures { SizeIs text.now n result }
 {
-    match text_ends(&text[..n]) {
-        Ends::Whole => Size::Bytes(n),
-        Ends::Stop(k) => {
+    match text_stop(&text[..n]) {
+        None => Ok(n),
+        Some(k) => {
             if k < n {
-                return Size::Stop(k);
+                return Err(k);
             }
-            match text_ends(text) {
-                Ends::Whole => Size::Bytes(n + 2),
-                Ends::Stop(_) => Size::Stop(n),
+            match text_stop(text) {
+                None => Ok(n + 2),
+                Some(_) => Err(n),
             }
         }
     }
@@ -142,7 +130,7 @@ fn put_goal(
     list: &[u32],
     cells: &mut [u32; ROW_CELLS],
     new: &mut [u32; ROW_CELLS],
-) -> GoalText
+) -> Result<GoalTextSize, Refusal>
     requires { (length names.now ≤ most_names) × (length list.now ≤ length row.now) }
     ensures { FactAsked text.now names.now width whole.now row.now list.now
         cells.old cells.new new.old new.new result }
@@ -152,9 +140,12 @@ fn put_goal(
             let mut numbers = [0u32; ROW_CELLS];
             let k = names::number_names(text, names, whole, list, &mut numbers, new);
             names::put_cells(row, &numbers, cells);
-            GoalText::Read(size.cells, k)
+            Ok(GoalTextSize {
+                cells: size.cells,
+                names: k,
+            })
         }
-        Err(f) => GoalText::Refused(f),
+        Err(f) => Err(f),
     }
 }
 
@@ -166,7 +157,7 @@ fn read_whole(
     whole: &[u8],
     cells: &mut [u32; ROW_CELLS],
     new: &mut [u32; ROW_CELLS],
-) -> GoalText
+) -> Result<GoalTextSize, Refusal>
     requires { (length names.now ≤ most_names) × (length whole.now ≤ most_text_bytes) }
     ensures { TextAsked text.now names.now p whole.now
         cells.old cells.new new.old new.new result }
@@ -210,14 +201,14 @@ fn read_stopped(
     stopped: &[u8],
     cells: &mut [u32; ROW_CELLS],
     new: &mut [u32; ROW_CELLS],
-) -> GoalText
+) -> Result<GoalTextSize, Refusal>
     requires { (length names.now ≤ most_names) × (2 ≤ length stopped.now) × (length stopped.now ≤ most_text_bytes) }
     ensures { StoppedAsked text.now names.now p stopped.now
         cells.old cells.new new.old new.new result }
 {
     match whole_size(stopped, stopped.len() - 2) {
-        Size::Bytes(m) => read_whole(text, names, p, &stopped[..m], cells, new),
-        Size::Stop(k) => refuse(Reason::Text, Input::Text, k),
+        Ok(m) => read_whole(text, names, p, &stopped[..m], cells, new),
+        Err(k) => refuse(Reason::Text, Input::Text, k),
     }
 }
 
@@ -230,7 +221,7 @@ fn read_in(
     stopped: &mut [u8],
     cells: &mut [u32; ROW_CELLS],
     new: &mut [u32; ROW_CELLS],
-) -> GoalText
+) -> Result<GoalTextSize, Refusal>
     requires { (length names.now ≤ most_names) × (length goal.now ≤ most_goal_bytes) × (length goal.now + 2 ≤ length stopped.old) }
     ensures { GoalAsked text.now names.now p goal.now
         cells.old cells.new new.old new.new result }
@@ -249,7 +240,7 @@ pub fn read_goal(
     goal: &[u8],
     cells: &mut [u32; ROW_CELLS],
     new: &mut [u32; ROW_CELLS],
-) -> GoalText
+) -> Result<GoalTextSize, Refusal>
     ensures { GoalAsked text.now names.now p goal.now
         cells.old cells.new new.old new.new result }
 {

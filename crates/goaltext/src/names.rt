@@ -12,14 +12,12 @@ use lex::name::same_bytes;
 fn find(text: &[u8], names: &[u32], word: &[u8]) -> usize
     ensures { result ≡ word_number word.now (words_in text.now names.now) }
 {
-    let mut i = 0;
-    while i < names.len() {
-        if same_bytes(word, nameword::word(text, names[i])) {
+    for (i, name) in names.iter().enumerate() {
+        if same_bytes(word, nameword::word(text, *name)) {
             return i;
         }
-        i += 1;
     }
-    i
+    names.len()
 }
 
 // A name's number, and how many are new with it.
@@ -59,14 +57,11 @@ pub fn number_names(
         numbers.old numbers.new new.old new.new result }
 {
     let mut count = 0;
-    let mut i = 0;
-    while i < list.len() {
-        let name = list[i];
-        let at = find(text, names, nameword::word(whole, name));
-        let next = number_one(names.len(), at, name, new, count);
+    for (i, name) in list.iter().enumerate() {
+        let at = find(text, names, nameword::word(whole, *name));
+        let next = number_one(names.len(), at, *name, new, count);
         numbers[i] = next.number as u32;
         count = next.count;
-        i += 1;
     }
     count
 }
@@ -75,11 +70,7 @@ pub fn number_names(
 fn number_at(numbers: &[u32], k: u32) -> u32
     ensures { result ≡ get_or numbers.now k 0 }
 {
-    let i = k as usize;
-    if numbers.len() <= i {
-        return 0;
-    }
-    numbers[i]
+    numbers.get(k as usize).copied().unwrap_or(0)
 }
 
 fn new_cell(numbers: &[u32], c: u32) -> u32
@@ -99,9 +90,7 @@ pub fn put_cells(row: &[u32], numbers: &[u32], cells: &mut [u32])
     ensures { cells.new ≡ new_cells numbers.now row.now
         ++ drop (length row.now) cells.old }
 {
-    let mut i = 0;
-    while i < row.len() {
-        cells[i] = new_cell(numbers, row[i]);
-        i += 1;
+    for (i, c) in row.iter().enumerate() {
+        cells[i] = new_cell(numbers, *c);
     }
 }

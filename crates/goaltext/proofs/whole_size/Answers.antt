@@ -5,8 +5,8 @@ use Rattle.goaltext.specs.code.Steps.{EndsAre}
 use Rattle.goaltext.proofs.StepLaws.{size-whole, size-byte, size-stopped, size_none}
 use Rattle.goaltext.proofs.whole_size.Goals as goal
 
-pub slice_bounds-text_ends-end : goal.slice_bounds-text_ends-end
-slice_bounds-text_ends-end c =
+pub slice_bounds-text_stop-end : goal.slice_bounds-text_stop-end
+slice_bounds-text_stop-end c =
     let a = c.args in sym (length-take-le a.n a.text.now (omega (arith, c.requires)))
 
 pub returns-then-k-n : goal.returns-then-k-n
@@ -15,36 +15,36 @@ returns-then-k-n c =
     record {
       fits = tt;
       read = λ t e l.
-          size-byte t a.text.now a.n e l (c.in-Stop.ensures (omega (arith, length-take-le c.args.n c.args.text.now (omega (arith, c.requires)), c.requires))) (omega arith);
+          size-byte t a.text.now a.n e l (c.in-Some.ensures (omega (arith, length-take-le c.args.n c.args.text.now (omega (arith, c.requires)), c.requires))) (omega arith);
     }
 
-pub returns-in-Whole : goal.returns-in-Whole
-returns-in-Whole c =
+pub returns-in-None : goal.returns-in-None
+returns-in-None c =
     let a = c.args in
     record {
       fits = omega (arith, c.requires);
       read = λ t e l.
-          size-whole t a.text.now a.n e l (c.in-Whole.ensures (omega (arith, length-take-le c.args.n c.args.text.now (omega (arith, c.requires)), c.requires)));
+          size-whole t a.text.now a.n e l (c.in-None.ensures (omega (arith, length-take-le c.args.n c.args.text.now (omega (arith, c.requires)), c.requires)));
     }
 
-pub returns-in-Whole-text_ends : goal.returns-in-Whole-text_ends
-returns-in-Whole-text_ends c =
+pub returns-in-None-text_stop : goal.returns-in-None-text_stop
+returns-in-None-text_stop c =
     let a = c.args in
     record {
       fits = omega (arith, c.requires);
       read = λ t e l.
-          size-stopped t a.text.now a.n e l (c.in-Stop.ensures (omega (arith, length-take-le c.args.n c.args.text.now (omega (arith, c.requires)), c.requires))) (omega arith)
-          (subst (EndsAre a.text.now) c.in-Whole-text_ends.is
-          (c.text_ends-in-Stop.ensures (omega (arith, c.requires))));
+          size-stopped t a.text.now a.n e l (c.in-Some.ensures (omega (arith, length-take-le c.args.n c.args.text.now (omega (arith, c.requires)), c.requires))) (omega arith)
+          (subst (EndsAre a.text.now) c.in-None-text_stop.is
+          (c.text_stop-in-Some.ensures (omega (arith, c.requires))));
     }
 
-pub returns-in-Stop-text_ends : goal.returns-in-Stop-text_ends
-returns-in-Stop-text_ends c =
+pub returns-in-Some-text_stop : goal.returns-in-Some-text_stop
+returns-in-Some-text_stop c =
     let a = c.args in
     record {
       fits = tt;
       read = λ t e l.
-          size_none t a.text.now a.n e l (c.in-Stop.ensures (omega (arith, length-take-le c.args.n c.args.text.now (omega (arith, c.requires)), c.requires))) (omega arith)
-          (subst (EndsAre a.text.now) c.in-Stop-text_ends.is
-          (c.text_ends-in-Stop.ensures (omega (arith, c.requires))));
+          size_none t a.text.now a.n e l (c.in-Some.ensures (omega (arith, length-take-le c.args.n c.args.text.now (omega (arith, c.requires)), c.requires))) (omega arith)
+          (subst (EndsAre a.text.now) c.in-Some-text_stop.is
+          (c.text_stop-in-Some.ensures (omega (arith, c.requires))));
     }

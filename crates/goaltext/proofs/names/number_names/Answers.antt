@@ -13,7 +13,7 @@ use borrow.Author.Rules.{rules}
 use Rattle.goaltext.proofs.names.number_names.Goals as goal
 
 pub loop-i-init : goal.loop-i-init
-loop-i-init c = (omega arith, omega arith, refl, refl, refl, refl, omega arith)
+loop-i-init c = (omega arith, refl, refl, refl, refl, omega arith)
 
 pub overflow_cast-numbers : goal.overflow_cast-numbers
 overflow_cast-numbers c = omega (arith, (number_small c.number_one-next.ensures).1)
@@ -27,14 +27,13 @@ loop-i-preserved c =
     let known = sym (words-many a.text.now a.names.now) in
     let s = number_small c.number_one-next.ensures in
     let next = numbers-next words a.whole.now a.list.now l.count l.i (omega arith) e known c.number_one-next.ensures in
-    let news = news-next words a.whole.now a.list.now l.count l.i (omega arith) e known c.number_one-next.ensures l.invariant.5
-    l.invariant.6 in (
-      omega arith,
+    let news = news-next words a.whole.now a.list.now l.count l.i (omega arith) e known c.number_one-next.ensures l.invariant.4
+    l.invariant.5 in (
       omega (arith, s.0),
       search rules,
-      s.2 ∙ l.invariant.3,
+      s.2 ∙ l.invariant.2,
       store-next l.numbers (sets a.numbers.now 0 (numbers_left words a.whole.now a.list.now 0 0)) _ _ l.i _ next
-          l.invariant.4,
+          l.invariant.3,
       news.0,
       news.1,
     )
@@ -48,7 +47,7 @@ returns c =
     record {
       are =
           store-end l.numbers (sets a.numbers.now 0 (numbers_left words a.whole.now a.list.now 0 0)) _ l.i
-          (numbers-none words a.whole.now a.list.now l.count l.i (omega arith)) l.invariant.4;
-      news = store-end l.new (sets a.new.now 0 (news_left words a.whole.now a.list.now 0)) _ l.count none l.invariant.5;
-      many = omega (arith, ap length none, l.invariant.6);
+          (numbers-none words a.whole.now a.list.now l.count l.i (omega arith)) l.invariant.3;
+      news = store-end l.new (sets a.new.now 0 (news_left words a.whole.now a.list.now 0)) _ l.count none l.invariant.4;
+      many = omega (arith, ap length none, l.invariant.5);
     }

@@ -11,7 +11,7 @@ use borrow.Author.Rules.{rules}
 use Rattle.goaltext.proofs.names.put_cells.Goals as goal
 
 pub loop-i-init : goal.loop-i-init
-loop-i-init c = (omega arith, refl, refl)
+loop-i-init c = (refl, refl)
 
 pub loop-i-preserved : goal.loop-i-preserved
 loop-i-preserved c =
@@ -21,7 +21,7 @@ loop-i-preserved c =
     let numbers = a.numbers.now in
     let next = cells-next numbers row l.i (omega arith)
     ∙ ap (λ (x : ℕ). x ∷ new_cells numbers (drop (l.i + 1) row)) (sym c.new_cell.ensures) in
-    (omega arith, search rules, store-next l.cells (sets a.cells.now 0 (new_cells numbers row)) _ _ l.i _ next l.invariant.2)
+    (search rules, store-next l.cells (sets a.cells.now 0 (new_cells numbers row)) _ _ l.i _ next l.invariant.1)
 
 pub returns : goal.returns
 returns c =
@@ -30,5 +30,5 @@ returns c =
     let row = a.row.now in
     let numbers = a.numbers.now in
     let e = cells-many numbers row in
-    store-end l.cells (sets a.cells.now 0 (new_cells numbers row)) _ l.i (cells-none numbers row l.i (omega arith)) l.invariant.2
+    store-end l.cells (sets a.cells.now 0 (new_cells numbers row)) _ l.i (cells-none numbers row l.i (omega arith)) l.invariant.1
     ∙ stored-front (new_cells numbers row) a.cells.now (omega arith) ∙ ap (λ (n : ℕ). new_cells numbers row ++ drop n a.cells.now) e

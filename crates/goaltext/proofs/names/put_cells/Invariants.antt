@@ -1,4 +1,3 @@
-use Prim.Native.Nat.{◌-◌, ◌≤◌}
 use mathlib.Core.Path.{◌≡◌}
 use lib.ListN.{length, drop}
 use lib.Seq.{sets}
@@ -7,8 +6,5 @@ use Rattle.goaltext.proofs.names.put_cells.Given as goal
 
 abbrev pub invariant-loop-i : goal.invariant-loop-i
 invariant-loop-i l =
-    (l.i ≤ length l.row) × (length l.cells ≡ length l.initial.cells)
+    (length l.cells ≡ length l.initial.cells)
     × (sets l.cells l.i (new_cells l.numbers (drop l.i l.row)) ≡ sets l.initial.cells 0 (new_cells l.numbers l.row))
-
-abbrev pub decreases-loop-i : goal.decreases-loop-i
-decreases-loop-i l = length l.row - l.i

@@ -1,7 +1,7 @@
 use native.Mathlib.Omega.{arith}
 use Rattle.scan.proofs.SaysLaws.{scan-is, scan-facts}
 use Rattle.goaltext.proofs.StepLaws.{ends-facts, ends-stop, ends-other}
-use Rattle.goaltext.proofs.text_ends.Goals as goal
+use Rattle.goaltext.proofs.text_stop.Goals as goal
 
 pub returns-then-number_of-eq18 : goal.returns-then-number_of-eq18
 returns-then-number_of-eq18 c = λ few.
