@@ -1,39 +1,20 @@
 // A file of blocks read (02, W-211): its table and its plan.
 #![tactic(auto)]
 
-ghost use Rattle.std.specs.Prelude.{◌≡◌, List, ℕ, ◌-◌, ◌*◌, ◌%◌, ◌^◌, ◌≤◌, ◌<◌, min, length, drop};
+ghost use Rattle.std.specs.Prelude.{◌≡◌, ◌==◌, List, ℕ, ◌-◌, ◌*◌, ◌%◌, ◌≤◌, length, drop};
+ghost use Rattle.std.specs.List.{list_all};
 ghost use Rattle.blocks.specs.Blocks.{whole, good, good_cells};
 ghost use Rattle.filing.specs.Files.{zeros, FileLoaded};
-ghost use Rattle.filing.specs.Answers.{file_told};
+ghost use Rattle.filing.specs.Answers.{contents_told};
 ghost use Rattle.filing.specs.code.Front.{Sized};
 
-use filing::{FileAnswer, turn};
-use refusal::{Input, Reason};
-
-// A cell as a number that can be added to another.
-fn wide(c: u32) -> usize
-    ensures { (result ≡ c) × (result < 2 ^ 32) }
-{
-    c as usize
-}
-
-fn least(n: usize, most: usize) -> usize
-    ensures { result ≡ min n most }
-{
-    if n < most { n } else { most }
-}
+use filing::{Contents, turn};
+use refusal::{Input, Reason, Refusal};
 
 fn all_zero(cells: &[u32]) -> bool
-    ensures { result ≡ zeros cells.now }
+    ensures { result ≡ list_all (λ c. c == 0) cells.now }
 {
-    let mut i = 0;
-    while i < cells.len() {
-        if cells[i] != 0 {
-            return false;
-        }
-        i += 1;
-    }
-    true
+    cells.iter().all(|c| *c == 0)
 }
 
 // Whether the cells after the first n are 0, of a file whose blocks are all sound: they are in the last one, which is read once more.
@@ -55,27 +36,26 @@ fn give(
     plans: usize,
     table: &mut [u32],
     plan: &mut [u32],
-) -> FileAnswer
+) -> Result<Contents, Refusal>
     requires { length cells.now ≡ 8250 }
     ensures { (file : List ℕ) → Sized file cells.now tables plans
-        → FileLoaded file table.old plan.old table.new plan.new (file_told result) }
+        → FileLoaded file table.old plan.old table.new plan.new (contents_told result) }
 {
-    let m = 2 + least(tables, 2051);
-    let e = m + least(plans, 6083);
-    match checker::check_plan(&cells[2..m], &cells[m..e]) {
-        Ok(_) => {
-            if table.len() < tables {
-                return turn(Reason::Room, Input::Lent, tables);
-            }
-            if plan.len() < plans {
-                return turn(Reason::Room, Input::Lent, plans);
-            }
-            octets::cells::put_cells(table, 0, &cells[2..m]);
-            octets::cells::put_cells(plan, 0, &cells[m..e]);
-            FileAnswer::Done(tables, plans)
-        }
-        Err(f) => FileAnswer::Refused(f),
+    let m = 2 + tables.min(2051);
+    let e = m + plans.min(6083);
+    checker::check_plan(&cells[2..m], &cells[m..e])?;
+    if table.len() < tables {
+        return turn(Reason::Room, Input::Lent, tables);
     }
+    if plan.len() < plans {
+        return turn(Reason::Room, Input::Lent, plans);
+    }
+    octets::cells::put_cells(table, 0, &cells[2..m]);
+    octets::cells::put_cells(plan, 0, &cells[m..e]);
+    Ok(Contents {
+        table: tables,
+        plan: plans,
+    })
 }
 
 // A file of whole blocks, by way of lent lists: DAMAGE, SIZES, PADDING, and the rest.
@@ -85,17 +65,17 @@ fn read_blocks(
     last: &mut [u32],
     table: &mut [u32],
     plan: &mut [u32],
-) -> FileAnswer
+) -> Result<Contents, Refusal>
     requires { (1 ≤ length file.now) × (length file.now % 512 ≡ 0) × (length cells.old ≡ 8250) × (length last.old ≡ 125) }
-    ensures { FileLoaded file.now table.old plan.old table.new plan.new (file_told result) }
+    ensures { FileLoaded file.now table.old plan.old table.new plan.new (contents_told result) }
 {
     let count = file.len() / 512;
     let good = blocks::sound_run(file, 0, cells);
     if good < count {
         return turn(Reason::Damage, Input::File, good);
     }
-    let tables = wide(cells[0]);
-    let plans = wide(cells[1]);
+    let tables = cells[0] as usize;
+    let plans = cells[1] as usize;
     let n = 2 + tables + plans;
     if (n + 124) / 125 != count {
         return turn(Reason::Sizes, Input::File, 0);
@@ -107,13 +87,10 @@ fn read_blocks(
 }
 
 // The table and the plan of a file, any bytes at all, into any rooms.
-pub fn read_file(file: &[u8], table: &mut [u32], plan: &mut [u32]) -> FileAnswer
-    ensures { FileLoaded file.now table.old plan.old table.new plan.new (file_told result) }
+pub fn read_file(file: &[u8], table: &mut [u32], plan: &mut [u32]) -> Result<Contents, Refusal>
+    ensures { FileLoaded file.now table.old plan.old table.new plan.new (contents_told result) }
 {
-    if file.len() == 0 {
-        return turn(Reason::Blocks, Input::File, 0);
-    }
-    if file.len() % 512 != 0 {
+    if file.is_empty() || file.len() % 512 != 0 {
         return turn(Reason::Blocks, Input::File, 0);
     }
     let mut cells = [0u32; 8250];

@@ -1,6 +1,6 @@
 -- Two results that a promise allows are equal: the answer, and what the rooms hold.
 use Prim.Native.Nat.{ℕ}
-use mathlib.Core.Path.{◌≡◌, sym, ◌∙◌, ap}
+use mathlib.Core.Path.{◌≡◌, sym, ◌∙◌, ap, ap₂}
 use mathlib.Core.List.{List, ◌++◌}
 use native.Mathlib.Omega.{arith}
 use lib.ListN.{length, drop}
@@ -9,9 +9,11 @@ use Rattle.refusal.proofs.RefusalLaws.{told-one}
 use Rattle.table.proofs.ReadLaws.{apart, read_one, refuse-one}
 use Rattle.filing.specs.Files.{Card, no_room, FileWritten, not-accepted, room-short, written}
 use Rattle.filing.specs.Files.{FileLoaded, not-read, table-short, plan-short, loaded}
-use Rattle.filing.specs.Answers.{file_told}
-use Rattle.filing.specs.declared.FileAnswer.{FileAnswer}
-use Rattle.filing.specs.declared.FileAnswer.TheVariants as file-answer
+use Rattle.filing.specs.Answers.{written_told, contents_told}
+use Rattle.std.specs.Prelude.{Result, Ok, Err}
+use Rattle.refusal.specs.declared.Refusal.{Refusal}
+use Rattle.filing.specs.declared.Written.{Written}
+use Rattle.filing.specs.declared.Contents.{Contents}
 
 -- what follows from an equation on both sides
 same : {A : Type 0} {x y z : A} → x ≡ z → y ≡ z → x ≡ y
@@ -62,16 +64,30 @@ loaded-fixed {t = t} {p = p} (loaded c e k l r s u) (loaded d e' k' l' r' s' u')
     )
 
 -- write_file and read_file: the promise gives 01's number and values, which tell the cases apart
-told_same : (a b : FileAnswer) → file_told a ≡ file_told b → a ≡ b
-told_same (file-answer.Done m n) (file-answer.Done k l) e = cc
-told_same (file-answer.Done m n) (file-answer.Refused g) e = absurd (let z : ◌≡◌ {A = ℕ} 0 1 = cc in omega arith)
-told_same (file-answer.Refused f) (file-answer.Done k l) e = absurd (let z : ◌≡◌ {A = ℕ} 0 1 = cc in omega arith)
-told_same (file-answer.Refused f) (file-answer.Refused g) e = let q : told f ≡ told g = cc in ap file-answer.Refused (told-one q)
+same-written : (a b : Result Written Refusal) → written_told a ≡ written_told b → a ≡ b
+same-written (Ok x) (Ok y) e =
+    let first : x.bytes ≡ y.bytes = cc in
+    let second : x.blocks ≡ y.blocks = cc in
+    let with : ℕ → ℕ → Result Written Refusal = λ m n. Ok (record { bytes = m; blocks = n }) in
+    ap₂ with first second
+same-written (Ok x) (Err g) e = absurd (let z : ◌≡◌ {A = ℕ} 0 1 = cc in omega arith)
+same-written (Err f) (Ok y) e = absurd (let z : ◌≡◌ {A = ℕ} 0 1 = cc in omega arith)
+same-written (Err f) (Err g) e = let q : told f ≡ told g = cc in ap Err (told-one q)
 
-pub write-file-fixed : {t p room a b : List ℕ} {x y : FileAnswer} → FileWritten t p room a (file_told x) → FileWritten t p room b (file_told y)
-    → (x ≡ y) × (a ≡ b)
-write-file-fixed {x = x} {y = y} v w = let f = written-fixed v w in (told_same x y f.0, f.1)
+same-contents : (a b : Result Contents Refusal) → contents_told a ≡ contents_told b → a ≡ b
+same-contents (Ok x) (Ok y) e =
+    let first : x.table ≡ y.table = cc in
+    let second : x.plan ≡ y.plan = cc in
+    let with : ℕ → ℕ → Result Contents Refusal = λ m n. Ok (record { table = m; plan = n }) in
+    ap₂ with first second
+same-contents (Ok x) (Err g) e = absurd (let z : ◌≡◌ {A = ℕ} 0 1 = cc in omega arith)
+same-contents (Err f) (Ok y) e = absurd (let z : ◌≡◌ {A = ℕ} 0 1 = cc in omega arith)
+same-contents (Err f) (Err g) e = let q : told f ≡ told g = cc in ap Err (told-one q)
 
-pub read-file-fixed : {f t p t₁ p₁ t₂ p₂ : List ℕ} {x y : FileAnswer} → FileLoaded f t p t₁ p₁ (file_told x)
-    → FileLoaded f t p t₂ p₂ (file_told y) → (x ≡ y) × (t₁ ≡ t₂) × (p₁ ≡ p₂)
-read-file-fixed {x = x} {y = y} v w = let f = loaded-fixed v w in (told_same x y f.0, f.1, f.2)
+pub write-file-fixed : {t p room a b : List ℕ} {x y : Result Written Refusal} → FileWritten t p room a (written_told x)
+    → FileWritten t p room b (written_told y) → (x ≡ y) × (a ≡ b)
+write-file-fixed {x = x} {y = y} v w = let f = written-fixed v w in (same-written x y f.0, f.1)
+
+pub read-file-fixed : {f t p t₁ p₁ t₂ p₂ : List ℕ} {x y : Result Contents Refusal} → FileLoaded f t p t₁ p₁ (contents_told x)
+    → FileLoaded f t p t₂ p₂ (contents_told y) → (x ≡ y) × (t₁ ≡ t₂) × (p₁ ≡ p₂)
+read-file-fixed {x = x} {y = y} v w = let f = loaded-fixed v w in (same-contents x y f.0, f.1, f.2)

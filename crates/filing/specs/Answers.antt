@@ -1,8 +1,14 @@
 -- What writing and reading a file answer, as two values or a refusal.
+use Rattle.std.specs.Prelude.{Result, Ok, Err}
 use Rattle.refusal.specs.Refusal.{told, Answer, answered, turned}
-use Rattle.filing.specs.declared.FileAnswer.{FileAnswer}
-use Rattle.filing.specs.declared.FileAnswer.TheVariants as file-answer
+use Rattle.refusal.specs.declared.Refusal.{Refusal}
+use Rattle.filing.specs.declared.Written.{Written}
+use Rattle.filing.specs.declared.Contents.{Contents}
 
-abbrev pub file_told : FileAnswer → Answer
-file_told (file-answer.Done first second) = answered first second
-file_told (file-answer.Refused f) = turned (told f)
+abbrev pub written_told : Result Written Refusal → Answer
+written_told (Ok size) = answered size.bytes size.blocks
+written_told (Err f) = turned (told f)
+
+abbrev pub contents_told : Result Contents Refusal → Answer
+contents_told (Ok size) = answered size.table size.plan
+contents_told (Err f) = turned (told f)

@@ -3,23 +3,28 @@
 #![tactic(auto)]
 
 ghost use Rattle.std.specs.Prelude.{◌≡◌};
-ghost use Rattle.refusal.specs.Refusal.{refused, turned};
-ghost use Rattle.filing.specs.Answers.{file_told};
 
 use refusal::{Input, Reason, Refusal};
 
-// Bytes and blocks written, or the table's and the plan's cells read; or why the input is turned away.
-#[derive(Drop)]
-pub enum FileAnswer {
-    Done(usize, usize),
-    Refused(Refusal),
+// How many bytes and blocks are written.
+#[derive(Clone, Copy)]
+pub struct Written {
+    pub bytes: usize,
+    pub blocks: usize,
 }
 
-// A refusal as such an answer.
-pub fn turn(reason: Reason, input: Input, place: usize) -> FileAnswer
-    ensures { file_told result ≡ turned (refused reason input place) }
+// How many cells of a table and of a plan are read.
+#[derive(Clone, Copy)]
+pub struct Contents {
+    pub table: usize,
+    pub plan: usize,
+}
+
+// A refusal in place of whatever was asked for.
+pub fn turn<T>(reason: Reason, input: Input, place: usize) -> Result<T, Refusal>
+    ensures { result ≡ Err (record { reason = reason; input = input; place = place }) }
 {
-    FileAnswer::Refused(Refusal {
+    Err(Refusal {
         reason,
         input,
         place,

@@ -1,4 +1,5 @@
-use Rattle.std.proofs.Common.{refl}
+use mathlib.Core.Path.{refl}
+use Rattle.std.proofs.lemmas.Result.{err_from_is_err_and}
 use Rattle.plan.specs.Check.{plan_of}
 use Rattle.filing.specs.Files.{not-accepted}
 use Rattle.filing.proofs.Undo.{accepted-sizes}
@@ -8,18 +9,17 @@ use Rattle.filewriting.proofs.write_file.Goals as goal
 pub put_file-requires : goal.put_file-requires
 put_file-requires c =
     let a = c.args in
-    let e = said_read (plan_of a.table.now a.plan.now) c.check_plan.ensures c.in-Ok.is in
+    let e = said_read (plan_of a.table.now a.plan.now) c.check_plan.ensures c.in_ok-check_plan.was in
     let z = accepted-sizes a.table.now a.plan.now e in
     (z.0, z.1, refl)
 
-pub returns-in-Ok : goal.returns-in-Ok
-returns-in-Ok c =
+pub returns : goal.returns
+returns c =
     let a = c.args in
-    let e = said_read (plan_of a.table.now a.plan.now) c.check_plan.ensures c.in-Ok.is in
-    c.put_file.ensures _ e
+    c.put_file.ensures _ (said_read (plan_of a.table.now a.plan.now) c.check_plan.ensures c.in_ok-check_plan.was)
 
-pub returns-in-Err : goal.returns-in-Err
-returns-in-Err c =
+pub returns-in_err-check_plan : goal.returns-in_err-check_plan
+returns-in_err-check_plan c =
     let a = c.args in
-    let e = said-refused (plan_of a.table.now a.plan.now) c.check_plan.ensures c.in-Err.is in
-    not-accepted _ e refl refl
+    let p = err_from_is_err_and c.from_residual.result c.from_residual.ensures.1 in
+    rw (p.1, p.2) (not-accepted _ (said-refused (plan_of a.table.now a.plan.now) c.check_plan.ensures c.in_err-check_plan.was) refl refl)
