@@ -47,7 +47,6 @@ use Rattle.goaltext.specs.Asked.{goal_text_told, Answers}
 use Rattle.goaltext.specs.code.Steps.{NameIs, Same, NamesNumbered, FactAsked, Reads}
 use Rattle.std.specs.Prelude.{Result, Ok, Err}
 use Rattle.goaltext.specs.declared.GoalTextSize.{GoalTextSize}
-use Rattle.refusal.specs.declared.Refusal.{Refusal}
 use Rattle.goaltext.proofs.StepLaws.{counted-text, some-fact}
 use Rattle.goaltext.proofs.NameLaws.{cells-many, words-many, stored-front}
 use Rattle.limits.specs.Limits.{most_goal_bytes, most_names, most_text_bytes}

@@ -6,6 +6,7 @@ use mathlib.Core.List.{List, [], ◌∷◌, flatten}
 use native.Mathlib.Omega.{arith}
 use lib.ListN.{length, set, take, drop, length-append, length-drop, length-set}
 use lib.Seq.{drop-drop, length-take-le}
+use Rattle.std.specs.Prelude.{Option, Some, None}
 use Rattle.refusal.specs.Read.{read}
 use Rattle.slices.specs.Slices.{between}
 use Rattle.samerows.specs.Starts.{rows_but, rows_lent, Ascends}
@@ -14,8 +15,6 @@ use Rattle.table.specs.Table.{Met, terms_from, doubled}
 use Rattle.salvaging.specs.Kept.{kept_from}
 use Rattle.salvaging.proofs.KeptLaws.{kept_more}
 use Rattle.mending.specs.declared.Kept.{Kept}
-use Rattle.mending.specs.declared.Next.{Next}
-use Rattle.mending.specs.declared.Next.TheVariants as next
 use Rattle.mending.specs.Mending.{Keeps}
 use Rattle.mending.specs.code.Next.{NextIs, ends, stops}
 
@@ -61,10 +60,10 @@ module _ {cells starts : List ℕ} {w count at n : ℕ} (k : Keeping cells w cou
   lent_is : lent ≡ rows_but cells starts 64 n at
   lent_is = rows_before cells starts 64 n at (omega arith) (omega (arith, k.size)) k.within k.up
 
-  pub keep-next : {r : Next} {e : ℕ} → NextIs w lent (drop at cells) at r → r ≡ next.Ends e → Keeping cells w count (set starts n at) e (n + 1)
+  pub keep-next : {r : Option ℕ} {e : ℕ} → NextIs w lent (drop at cells) at r → r ≡ Some e → Keeping cells w count (set starts n at) e (n + 1)
   keep-next (ends m e' h d l q) z = go (rw lent_is at d) z
     where
-      go : doubled m (take m.next (drop at cells)) (rows_but cells starts 64 n at) ≡ false → {e : ℕ} → next.Ends e' ≡ next.Ends e
+      go : doubled m (take m.next (drop at cells)) (rows_but cells starts 64 n at) ≡ false → {e : ℕ} → Some e' ≡ Some e
           → Keeping cells w count (set starts n at) e (n + 1)
       go d {e} z =
           let z' : e' ≡ e = cc in
@@ -88,7 +87,7 @@ module _ {cells starts : List ℕ} {w count at n : ℕ} (k : Keeping cells w cou
           }
   keep-next (stops f) z = absurd (let y : ◌≡◌ {A = ℕ} 0 1 = cc in omega arith)
 
-  pub keep-stops : {r : Next} → NextIs w lent (drop at cells) at r → r ≡ next.Stops → {x : Kept} → x.rows ≡ n → x.end ≡ at
+  pub keep-stops : {r : Option ℕ} → NextIs w lent (drop at cells) at r → r ≡ None → {x : Kept} → x.rows ≡ n → x.end ≡ at
       → Keeps (kept_from w count [] cells) x
   keep-stops (ends m e h d l q) z a b = absurd (let y : ◌≡◌ {A = ℕ} 0 1 = cc in omega arith)
   keep-stops (stops f) z a b = go (rw lent_is at f) a b

@@ -6,14 +6,13 @@ use mathlib.Core.List.{List}
 use native.Mathlib.Omega.{arith}
 use lib.ListN.{length, take, drop, length-drop}
 use lib.Seq.{take_all}
+use Rattle.std.specs.Prelude.{Some, None, Result, Ok, Err}
 use Rattle.refusal.specs.Refusal.{reason_number}
 use Rattle.refusal.specs.declared.Refusal.{Refusal}
 use Rattle.samerows.specs.Starts.{rows_lent}
 use Rattle.table.specs.Table.{row_of, row_told}
-use Rattle.std.specs.Prelude.{Result, Ok, Err}
 use Rattle.table.proofs.WholeLaws.{whole-within}
 use Rattle.salvaging.proofs.NextLaws.{accepted-ends, extra-ends, other-stops}
-use Rattle.mending.specs.declared.Next.TheVariants as next
 use Rattle.mending.specs.code.Next.{NextIs, ends, stops}
 
 module _ (w at : ℕ) (cells starts : List ℕ) (h : at ≤ length cells) (a : Result ℕ Refusal)
@@ -24,7 +23,7 @@ module _ (w at : ℕ) (cells starts : List ℕ) (h : at ≤ length cells) (a : R
   said' : row_of w seen (drop at cells) ≡ row_told a
   said' = ap (row_of w seen) (sym (take_all (length cells - at) (drop at cells) (omega (arith, length-drop at cells)))) ∙ sym said
 
-  pub on-accepted : {v : ℕ} → a ≡ Ok v → NextIs w seen (drop at cells) at (next.Ends (length cells))
+  pub on-accepted : {v : ℕ} → a ≡ Ok v → NextIs w seen (drop at cells) at (Some (length cells))
   on-accepted q =
       let e = accepted-ends w seen (drop at cells) (said' ∙ ap row_told q) in
       ends e.0 (length cells) e.1 e.2 (omega (arith, e.3)) (omega (arith, e.3, length-drop at cells))
@@ -35,11 +34,11 @@ module _ (w at : ℕ) (cells starts : List ℕ) (h : at ≤ length cells) (a : R
       let b = whole-within true (drop at cells) w 0 (omega arith) e.1 in
       omega (arith, b.1, e.3, length-drop at cells)
 
-  pub on-extra : {f : Refusal} → a ≡ Err f → reason_number f.reason ≡ 9 → NextIs w seen (drop at cells) at (next.Ends (at + f.place))
+  pub on-extra : {f : Refusal} → a ≡ Err f → reason_number f.reason ≡ 9 → NextIs w seen (drop at cells) at (Some (at + f.place))
   on-extra {f} q n =
       let e = extra-ends w seen (drop at cells) (said' ∙ ap row_told q) n in
       let b = whole-within true (drop at cells) w 0 (omega arith) e.1 in
       ends e.0 (at + f.place) e.1 e.2 b.1 (ap (λ (k : ℕ). at + k) (sym e.3))
 
-  pub on-other : {f : Refusal} → a ≡ Err f → (reason_number f.reason ≡ 9 → ⊥) → NextIs w seen (drop at cells) at next.Stops
+  pub on-other : {f : Refusal} → a ≡ Err f → (reason_number f.reason ≡ 9 → ⊥) → NextIs w seen (drop at cells) at None
   on-other q n = stops (other-stops w seen (drop at cells) (said' ∙ ap row_told q) n)

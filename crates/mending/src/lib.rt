@@ -18,28 +18,22 @@ pub struct Kept {
     pub end: usize,
 }
 
-// A row that begins at a place, beside the rows before it: where it ends, or that it is refused.
-#[derive(Clone, Copy)]
-enum Next {
-    Ends(usize),
-    Stops,
-}
-
-// What the reading of one row says: one that has cells after it (EXTRA) ends where these begin.
-fn next_row(cells: &[u32], at: usize, starts: &[usize], width: usize) -> Next
+// Where a row ends that begins at a place, beside the rows before it; none where it is refused. One that has cells after it (EXTRA) ends
+// where these begin.
+fn next_row(cells: &[u32], at: usize, starts: &[usize], width: usize) -> Option<usize>
     requires { at ≤ length cells.now }
     ensures { NextIs width (rows_lent (take at cells.now) starts.now (length starts.now))
         (drop at cells.now) at result }
 {
     match table::row_beside(width, &cells[..at], starts, starts.len(), &cells[at..]) {
-        Ok(_) => Next::Ends(cells.len()),
+        Ok(_) => Some(cells.len()),
         Err(f) => {
             let reason = f.reason;
             let place = f.place;
             if refusal::number_of(reason) == 9 {
-                return Next::Ends(at + place);
+                return Some(at + place);
             }
-            Next::Stops
+            None
         }
     }
 }
@@ -50,28 +44,27 @@ pub fn keep_rows(cells: &[u32], width: usize, count: usize) -> Kept
 {
     let mut starts = [0; ROWS];
     let mut at = 0;
-    let mut n = 0;
-    while n < count && n < ROWS {
+    let most = count.min(ROWS);
+    for n in 0..most {
         match next_row(cells, at, &starts[..n], width) {
-            Next::Ends(e) => {
+            Some(e) => {
                 starts[n] = at;
                 at = e;
             }
-            Next::Stops => {
-                return Kept { rows: n, end: at };
-            }
+            None => return Kept { rows: n, end: at },
         }
-        n += 1;
     }
-    Kept { rows: n, end: at }
+    Kept {
+        rows: most,
+        end: at,
+    }
 }
 
 // How many blocks a file has, a part of one with them.
 fn blocks_of(file: &[u8]) -> usize
     ensures { result ≡ (length file.now + 511) / 512 }
 {
-    let n = file.len() / 512;
-    if file.len() % 512 == 0 { n } else { n + 1 }
+    file.len().div_ceil(512)
 }
 
 // A number put into a room, where it has one.

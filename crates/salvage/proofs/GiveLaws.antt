@@ -9,7 +9,9 @@ use lib.Dec.{ltb}
 use lib.ListN.{length, take, drop, length-drop}
 use lib.Seq.{length-take-le, take_all}
 use borrow.Author.Tests.{ltb-true, ltb-false}
-use Rattle.refusal.specs.Refusal.{refused}
+use Rattle.std.specs.Prelude.{Result, Ok, Err}
+use Rattle.refusal.specs.Refusal.{told}
+use Rattle.refusal.specs.declared.Refusal.{Refusal}
 use Rattle.refusal.specs.declared.Reason.TheVariants as reason
 use Rattle.refusal.specs.declared.Input.TheVariants as input
 use Rattle.term.proofs.Tests.{bool_cases}
@@ -25,22 +27,18 @@ use Rattle.mending.specs.Mending.{bad_on, NumbersListed}
 use Rattle.mending.proofs.ListLaws.{bad-from-front}
 use Rattle.salvage.specs.declared.Top.{Top}
 use Rattle.salvage.specs.declared.Laid.{Laid}
-use Rattle.salvage.specs.declared.Rows.{Rows}
-use Rattle.salvage.specs.declared.Rows.TheVariants as rows
 use Rattle.salvage.specs.code.Saving.{TopIs, RowsHad, no-head, no_row, had, PlanLaid, Reported, short_of}
 
 -- a refusal before there is anything to put
-pub no-head-said : {file cells table plan bad : List ℕ} {r : Rows} → RowsHad file cells r → r ≡ rows.NoHead → {x : Outcome}
-    → x ≡ lost (refused reason.Head input.File 0) → Salvaged file table plan bad table plan bad x
-no-head-said (no-head h) e q = head-lost h q refl refl refl
-no-head-said (no_row h k) e q = absurd (let z : ◌≡◌ {A = ℕ} 0 1 = cc in omega arith)
-no-head-said (had top t l s) e q = absurd (let z : ◌≡◌ {A = ℕ} 0 1 = cc in omega arith)
-
-pub no-row-said : {file cells table plan bad : List ℕ} {r : Rows} → RowsHad file cells r → r ≡ rows.NoRow → {x : Outcome}
-    → x ≡ lost (refused reason.None input.File 0) → Salvaged file table plan bad table plan bad x
-no-row-said (no-head h) e q = absurd (let z : ◌≡◌ {A = ℕ} 0 1 = cc in omega arith)
-no-row-said (no_row h k) e q = none_kept h k q refl refl refl
-no-row-said (had top t l s) e q = absurd (let z : ◌≡◌ {A = ℕ} 0 1 = cc in omega arith)
+pub rows-lost : {file cells table plan bad : List ℕ} {r : Result Top Refusal} {f : Refusal} → RowsHad file cells r → r ≡ Err f
+    → Salvaged file table plan bad table plan bad (lost (told f))
+rows-lost {f = f} (no-head h) e =
+    let is : f ≡ record { reason = reason.Head; input = input.File; place = 0 } = cc in
+    head-lost h (ap (λ (g : Refusal). lost (told g)) is) refl refl refl
+rows-lost {f = f} (no_row h k) e =
+    let is : f ≡ record { reason = reason.None; input = input.File; place = 0 } = cc in
+    none_kept h k (ap (λ (g : Refusal). lost (told g)) is) refl refl refl
+rows-lost (had top t l s) e = absurd (let z : ◌≡◌ {A = ℕ} 0 1 = cc in omega arith)
 
 -- and the table that was had
 pub record TableHad (file cells : List ℕ) (top : Top) : Type 0 where
@@ -49,7 +47,7 @@ pub record TableHad (file cells : List ℕ) (top : Top) : Type 0 where
   pub within : top.end ≤ length cells
   pub table : take (top.end - 2) (drop 2 cells) ≡ kept_cells file
 
-pub rows-said : {file cells : List ℕ} {r : Rows} {top : Top} → RowsHad file cells r → r ≡ rows.Had top → TableHad file cells top
+pub rows-said : {file cells : List ℕ} {r : Result Top Refusal} {top : Top} → RowsHad file cells r → r ≡ Ok top → TableHad file cells top
 rows-said (no-head h) e = absurd (let z : ◌≡◌ {A = ℕ} 0 1 = cc in omega arith)
 rows-said (no_row h k) e = absurd (let z : ◌≡◌ {A = ℕ} 0 1 = cc in omega arith)
 rows-said {file} {cells} {top = found} (had top t l s) e =

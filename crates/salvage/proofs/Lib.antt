@@ -1,3 +1,4 @@
+pub mod RangeLaws
 pub mod RowsLaws
 pub mod PlanSaid
 pub mod GiveLaws

@@ -7,6 +7,8 @@ use native.Mathlib.Omega.{arith}
 use lib.Dec.{ltb}
 use lib.ListN.{length, get_or, set, take, drop, length-append, length-set, length-take}
 use borrow.Author.Tests.{ne_eqb}
+use Rattle.std.specs.Prelude.{Ok}
+use Rattle.refusal.specs.declared.Reason.TheVariants as reason
 use Rattle.octets.specs.Octets.{cells_of}
 use Rattle.blocks.specs.Blocks.{whole, good, good_cells, Found}
 use Rattle.blocks.proofs.BlockLaws.{sound-most}
@@ -18,8 +20,7 @@ use Rattle.salvaging.proofs.KeptLaws.{kept-are, no_rows}
 use Rattle.salvaging.proofs.TopLaws.{Head, head-is, no_block, no-width, no-count, a-head, cell-is, rows_cut, no_cells, table-left, flat-front}
 use Rattle.mending.specs.Mending.{Keeps}
 use Rattle.mending.specs.declared.Kept.{Kept}
-use Rattle.salvage.specs.declared.Rows.TheVariants as rows
-use Rattle.salvage.specs.code.Saving.{Fronted, RowsHad, no-head, no_row, had}
+use Rattle.salvage.specs.code.Saving.{Fronted, nothing_had, RowsHad, no-head, no_row, had}
 
 -- rows that are kept lie within the cells, and are at most so many
 pub keeps-within : (w count m : ℕ) (xs : List ℕ) {k : Kept} → Keeps (kept_from w (min count 64) [] (take m xs)) k → (k.rows ≤ 64) × (k.end ≤ m)
@@ -53,7 +54,7 @@ module _ {file cells : List ℕ} {blocks : ℕ} (z : Fronted file cells blocks) 
         em ∙ ap (λ (j : ℕ). min (min (2 + j) (125 * blocks)) 2052) size
         ∙ ap (λ (j : ℕ). min (min (2 + get_or (good_cells file 0) 0 0) (125 * j)) 2052) z.many
 
-    pub short-size : m < 4 → RowsHad file cells rows.NoRow
+    pub short-size : m < 4 → RowsHad file cells (nothing_had reason.None)
     short-size h =
         let b : 1 ≤ blocks = omega (arith, z.many, head.some) in
         no_row z.head (no_cells file cells z.fits head.some z.head (omega (arith, below (2 + s) blocks b em h, size)))
@@ -75,7 +76,7 @@ module _ {file cells : List ℕ} {blocks : ℕ} (z : Fronted file cells blocks) 
       last : k.end ≡ length (flatten (kept file))
       last = keeps.last ∙ ap (λ (l : List (List ℕ)). length (flatten l)) K
 
-      pub none_kept : k.rows ≡ 0 → RowsHad file cells rows.NoRow
+      pub none_kept : k.rows ≡ 0 → RowsHad file cells (nothing_had reason.None)
       none_kept e = no_row z.head (no_rows (kept file) (omega (arith, many)))
 
       flat : take k.end (drop 4 cells) ≡ flatten (kept file)
@@ -85,7 +86,7 @@ module _ {file cells : List ℕ} {blocks : ℕ} (z : Fronted file cells blocks) 
 
       pub rows-kept : length cells ≡ 2052 → {p : ℕ} → (p ≡ get_or cells 1 0) × (p < 2 ^ 32) → (k.rows ≡ 0 → ⊥) → 4 + k.end ≤ length cells
           → RowsHad file (set cells 3 k.rows)
-          (rows.Had (record { good = blocks; count = c; rows = k.rows; end = 4 + k.end; start = 2 + s; plans = p }))
+          (Ok (record { good = blocks; count = c; rows = k.rows; end = 4 + k.end; start = 2 + s; plans = p }))
       rows-kept l {p} ep d fit =
           let at = cell-is file cells z.fits head.some in
           let t : take (4 + k.end - 2) (drop 2 (set cells 3 k.rows)) ≡ kept_cells file =
@@ -114,7 +115,7 @@ module _ {file old new : List ℕ} {k : ℕ} (size : length old ≡ 2052) (found
   front : Front 2052 new (good_cells file 0)
   front = front-found old new (good_cells file 0) size found.put
 
-  pub none-sound : k ≡ 0 → RowsHad file new rows.NoHead
+  pub none-sound : k ≡ 0 → RowsHad file new (nothing_had reason.Head)
   none-sound e = no-head (no_block file (sym found.many ∙ e))
 
   module _ (some : k ≡ 0 → ⊥) where
@@ -128,10 +129,10 @@ module _ {file old new : List ℕ} {k : ℕ} (size : length old ≡ 2052) (found
     at : {i w : ℕ} → i < 4 → w ≡ get_or new i 0 → w ≡ get_or (good_cells file 0) i 0
     at {i} h e = e ∙ cell-is file new front one i h
 
-    pub bad-width : {w : ℕ} {b : Bool} → w ≡ get_or new 2 0 → b ≡ (ltb w 1 || ltb 8 w) → b ≡ true → RowsHad file new rows.NoHead
+    pub bad-width : {w : ℕ} {b : Bool} → w ≡ get_or new 2 0 → b ≡ (ltb w 1 || ltb 8 w) → b ≡ true → RowsHad file new (nothing_had reason.Head)
     bad-width ew eb t = no-head (no-width file (ap (λ (n : ℕ). ltb n 1 || ltb 8 n) (sym (at (omega arith) ew)) ∙ sym eb ∙ t))
 
-    pub bad-count : {w : ℕ} {b : Bool} → w ≡ get_or new 3 0 → b ≡ (ltb w 1 || ltb 64 w) → b ≡ true → RowsHad file new rows.NoHead
+    pub bad-count : {w : ℕ} {b : Bool} → w ≡ get_or new 3 0 → b ≡ (ltb w 1 || ltb 64 w) → b ≡ true → RowsHad file new (nothing_had reason.Head)
     bad-count ew eb t = no-head (no-count file (ap (λ (n : ℕ). ltb n 1 || ltb 64 n) (sym (at (omega arith) ew)) ∙ sym eb ∙ t))
 
     pub fronted : {w c : ℕ} {b d : Bool} → w ≡ get_or new 2 0 → b ≡ (ltb w 1 || ltb 8 w) → b ≡ false → c ≡ get_or new 3 0

@@ -1,15 +1,16 @@
 // A bad file saved (02, W-212): the rows that can be had from its top, a plan for them, and which of its blocks are bad.
 #![tactic(auto)]
 
-ghost use Rattle.std.specs.Prelude.{◌≡◌, ◌||◌, List, ℕ, ◌^◌, ◌≤◌, ◌<◌, min, ltb, length};
+ghost use Rattle.std.specs.Prelude.{◌≡◌, List, ℕ, ◌^◌, ◌≤◌, ◌<◌, length};
 ghost use Rattle.salvaging.specs.Salvage.{kept_cells, Salvaged};
 ghost use Rattle.salvaging.specs.Answers.{salvage_told};
 ghost use Rattle.salvage.specs.code.Saving.{Fronted, RowsHad, TopIs, OwnPlan, PlanLaid, Reported, short_of};
 
+use filing::turn;
 use least::By;
 use limits::{COLUMNS, ROWS};
-use refusal::{Input, Reason};
-use salvaging::{Report, Salvage, turn};
+use refusal::{Input, Reason, Refusal};
+use salvaging::Report;
 
 // What was had of a file but the cells: its sound blocks before the first that is not, the rows it says it has and those that were kept,
 // where their cells end, where its plan begins, and the size of that.
@@ -23,14 +24,6 @@ struct Top {
     plans: usize,
 }
 
-// The rows: that there is no head, or none of them; or what was had.
-#[derive(Clone, Copy)]
-enum Rows {
-    NoHead,
-    NoRow,
-    Had(Top),
-}
-
 // Where a plan lies in a list of cells, and whether it is the file's own.
 #[derive(Clone, Copy)]
 struct Laid {
@@ -39,47 +32,27 @@ struct Laid {
     end: usize,
 }
 
-// A cell as a number that can be added to another.
-fn wide(c: u32) -> usize
-    ensures { (result ≡ c) × (result < 2 ^ 32) }
-{
-    c as usize
-}
-
-fn least(n: usize, most: usize) -> usize
-    ensures { result ≡ min n most }
-{
-    if n < most { n } else { most }
-}
-
-// A number that is not between two others, these included.
-fn outside(n: usize, low: usize, high: usize) -> bool
-    ensures { result ≡ (ltb n low || ltb high n) }
-{
-    n < low || high < n
-}
-
 // The rows of a file that has a head, from the front of its cells. 64 rows of 32 cells end before cell 2,052. Where some are kept, their
 // number takes the place of the file's, and the cells from the third on are a table.
-fn rows_in(good: usize, cells: &mut [u32]) -> Rows
+fn rows_in(good: usize, cells: &mut [u32]) -> Result<Top, Refusal>
     requires { (length cells.old ≡ 2052) × (good < 2 ^ 55) }
     ensures { (file : List ℕ) → Fronted file cells.old good → RowsHad file cells.new result }
 {
-    let start = 2 + wide(cells[0]);
-    let plans = wide(cells[1]);
-    let count = wide(cells[3]);
-    let m = least(least(start, 125 * good), 2052);
+    let start = 2 + cells[0] as usize;
+    let plans = cells[1] as usize;
+    let count = cells[3] as usize;
+    let m = start.min(125 * good).min(2052);
     if m < 4 {
-        return Rows::NoRow;
+        return turn(Reason::None, Input::File, 0);
     }
-    let kept = mending::keep_rows(&cells[4..m], wide(cells[2]), count);
+    let kept = mending::keep_rows(&cells[4..m], cells[2] as usize, count);
     let rows = kept.rows;
     if rows == 0 {
-        return Rows::NoRow;
+        return turn(Reason::None, Input::File, 0);
     }
     let end = 4 + kept.end;
     cells[3] = rows as u32;
-    Rows::Had(Top {
+    Ok(Top {
         good,
         count,
         rows,
@@ -90,19 +63,19 @@ fn rows_in(good: usize, cells: &mut [u32]) -> Rows
 }
 
 // The rows of a file, any bytes at all.
-fn rows_of(file: &[u8], cells: &mut [u32]) -> Rows
+fn rows_of(file: &[u8], cells: &mut [u32]) -> Result<Top, Refusal>
     requires { length cells.old ≡ 2052 }
     ensures { RowsHad file.now cells.new result }
 {
     let good = blocks::sound_run(file, 0, cells);
     if good == 0 {
-        return Rows::NoHead;
+        return turn(Reason::Head, Input::File, 0);
     }
-    if outside(wide(cells[2]), 1, COLUMNS) {
-        return Rows::NoHead;
+    if !(1..=COLUMNS).contains(&(cells[2] as usize)) {
+        return turn(Reason::Head, Input::File, 0);
     }
-    if outside(wide(cells[3]), 1, ROWS) {
-        return Rows::NoHead;
+    if !(1..=ROWS).contains(&(cells[3] as usize)) {
+        return turn(Reason::Head, Input::File, 0);
     }
     rows_in(good, cells)
 }
@@ -121,7 +94,7 @@ fn own_plan(file: &[u8], top: Top, table: &[u32], cells: &mut [u32]) -> bool
     if 125 * n < skip + top.plans {
         return false;
     }
-    let e = skip + least(top.plans, 6083);
+    let e = skip + top.plans.min(6083);
     match checker::check_plan(table, &cells[skip..e]) {
         Ok(_) => true,
         Err(_) => false,
@@ -197,7 +170,7 @@ fn save(
     table: &mut [u32],
     plan: &mut [u32],
     bad: &mut [usize],
-) -> Salvage
+) -> Result<Report, Refusal>
     requires { TopIs file.now top × (kept.now ≡ kept_cells file.now) }
     ensures { Salvaged file.now table.old plan.old bad.old
         table.new plan.new bad.new (salvage_told result) }
@@ -214,21 +187,21 @@ fn save(
     octets::cells::put_cells(table, 0, kept);
     octets::cells::put_cells(plan, 0, &cells[a..e]);
     mending::list_bad(file, top.good, bad);
-    Salvage::Saved(report)
+    Ok(report)
 }
 
 // What can be had of a file, any bytes at all, into any rooms.
-pub fn salvage(file: &[u8], table: &mut [u32], plan: &mut [u32], bad: &mut [usize]) -> Salvage
+pub fn salvage(
+    file: &[u8],
+    table: &mut [u32],
+    plan: &mut [u32],
+    bad: &mut [usize],
+) -> Result<Report, Refusal>
     ensures { Salvaged file.now table.old plan.old bad.old
         table.new plan.new bad.new (salvage_told result) }
 {
     let mut cells = [0u32; 2052];
-    match rows_of(file, &mut cells) {
-        Rows::NoHead => turn(Reason::Head, Input::File, 0),
-        Rows::NoRow => turn(Reason::None, Input::File, 0),
-        Rows::Had(top) => {
-            let end = top.end;
-            save(file, top, &cells[2..end], table, plan, bad)
-        }
-    }
+    let top = rows_of(file, &mut cells)?;
+    let end = top.end;
+    save(file, top, &cells[2..end], table, plan, bad)
 }

@@ -18,8 +18,8 @@ use Rattle.salvaging.specs.Salvage.{Salvaged, head-lost, none_kept, table-short,
 use Rattle.salvaging.specs.Salvage.{Findings}
 use Rattle.salvaging.specs.Answers.{report_told, salvage_told}
 use Rattle.salvaging.specs.declared.Report.{Report}
-use Rattle.salvaging.specs.declared.Salvage.{Salvage}
-use Rattle.salvaging.specs.declared.Salvage.TheVariants as salvage
+use Rattle.std.specs.Prelude.{Result, Ok, Err}
+use Rattle.refusal.specs.declared.Refusal.{Refusal}
 
 -- one least plan for one table
 same-plan : (T U : Table) → T ≡ U → (p : Plan T.width T.rows) (q : Plan U.width U.rows) → Built (work 0) [] p → Built (work 0) [] q
@@ -121,13 +121,13 @@ salvaged-fixed {f = file} {p = room} (all-had h k l u xs y z v r t p b) (all-had
 report-of : Findings → Report
 report-of f = record { kept = f.rows; dropped = f.dropped; plan_kept = f.keeps; table = f.table; plan = f.plan; bad = f.bad }
 
-told_same : (a b : Salvage) → salvage_told a ≡ salvage_told b → a ≡ b
+told_same : (a b : Result Report Refusal) → salvage_told a ≡ salvage_told b → a ≡ b
 unfolding report-of
-told_same (salvage.Saved x) (salvage.Saved y) e = let q : report_told x ≡ report_told y = cc in ap (λ (f : Findings). salvage.Saved (report-of f)) q
-told_same (salvage.Saved x) (salvage.Refused g) e = absurd (let z : ◌≡◌ {A = ℕ} 0 1 = cc in omega arith)
-told_same (salvage.Refused f) (salvage.Saved y) e = absurd (let z : ◌≡◌ {A = ℕ} 0 1 = cc in omega arith)
-told_same (salvage.Refused f) (salvage.Refused g) e = let q : told f ≡ told g = cc in ap salvage.Refused (told-one q)
+told_same (Ok x) (Ok y) e = let q : report_told x ≡ report_told y = cc in ap (λ (f : Findings). Ok (report-of f)) q
+told_same (Ok x) (Err g) e = absurd (let z : ◌≡◌ {A = ℕ} 0 1 = cc in omega arith)
+told_same (Err f) (Ok y) e = absurd (let z : ◌≡◌ {A = ℕ} 0 1 = cc in omega arith)
+told_same (Err f) (Err g) e = let q : told f ≡ told g = cc in ap Err (told-one q)
 
-pub salvage-fixed : {f t p b t₁ p₁ b₁ t₂ p₂ b₂ : List ℕ} {x y : Salvage} → Salvaged f t p b t₁ p₁ b₁ (salvage_told x)
+pub salvage-fixed : {f t p b t₁ p₁ b₁ t₂ p₂ b₂ : List ℕ} {x y : Result Report Refusal} → Salvaged f t p b t₁ p₁ b₁ (salvage_told x)
     → Salvaged f t p b t₂ p₂ b₂ (salvage_told y) → (x ≡ y) × (t₁ ≡ t₂) × (p₁ ≡ p₂) × (b₁ ≡ b₂)
 salvage-fixed {x = x} {y = y} v w = let f = salvaged-fixed v w in (told_same x y f.0, f.1, f.2, f.3)

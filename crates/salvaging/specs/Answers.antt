@@ -1,8 +1,8 @@
 -- What saving a file answers, as the numbers of the report or a refusal.
+use Rattle.std.specs.Prelude.{Result, Ok, Err}
 use Rattle.refusal.specs.Refusal.{told}
+use Rattle.refusal.specs.declared.Refusal.{Refusal}
 use Rattle.salvaging.specs.declared.Report.{Report}
-use Rattle.salvaging.specs.declared.Salvage.{Salvage}
-use Rattle.salvaging.specs.declared.Salvage.TheVariants as salvage
 use Rattle.salvaging.specs.Salvage.{Findings, Outcome, saved, lost}
 
 abbrev pub report_told : Report → Findings
@@ -15,6 +15,6 @@ report_told r = record {
   bad = r.bad;
 }
 
-abbrev pub salvage_told : Salvage → Outcome
-salvage_told (salvage.Saved r) = saved (report_told r)
-salvage_told (salvage.Refused f) = lost (told f)
+abbrev pub salvage_told : Result Report Refusal → Outcome
+salvage_told (Ok r) = saved (report_told r)
+salvage_told (Err f) = lost (told f)

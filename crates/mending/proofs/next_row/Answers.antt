@@ -3,7 +3,6 @@ use Rattle.refusal.specs.Refusal.{reason_number}
 use native.Mathlib.Omega.{arith}
 use lib.Seq.{length-take-le}
 use Rattle.mending.proofs.NextSaid.{on-accepted, extra-place, on-extra, on-other}
-use borrow.Author.Rules.{rules}
 use Rattle.mending.proofs.next_row.Goals as goal
 
 pub slice_bounds-row_beside-end : goal.slice_bounds-row_beside-end

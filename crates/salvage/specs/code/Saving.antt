@@ -1,13 +1,15 @@
 -- What the code has of a file while it saves it.
-use Rattle.std.specs.Prelude.{ℕ, ◌+◌, ◌-◌, ◌%◌, ◌^◌, ◌≤◌, ◌<◌, ◌≡◌, Bool, true, false, cond, List, [], ltb, length, take, drop}
+use Rattle.std.specs.Prelude.{ℕ, ◌+◌, ◌-◌, ◌%◌, ◌^◌, ◌≤◌, ◌<◌, ◌≡◌, Bool, true, false, cond, List, [], ltb, length, take, drop, Result, Ok, Err}
+use Rattle.refusal.specs.declared.Reason.{Reason}
+use Rattle.refusal.specs.declared.Reason.TheVariants as reason
+use Rattle.refusal.specs.declared.Input.TheVariants as input
+use Rattle.refusal.specs.declared.Refusal.{Refusal}
 use Rattle.blocks.specs.Blocks.{good, good_cells}
 use Rattle.filing.specs.Files.{plan_size}
 use Rattle.filing.specs.code.Front.{Front}
 use Rattle.salvaging.specs.Salvage.{bad_in, front, count, no_head, kept, kept_cells, plan_start, plan_cells, plan_kept, PlanHad}
 use Rattle.salvaging.specs.declared.Report.{Report}
 use Rattle.salvage.specs.declared.Top.{Top}
-use Rattle.salvage.specs.declared.Rows.{Rows}
-use Rattle.salvage.specs.declared.Rows.TheVariants as rows
 use Rattle.salvage.specs.declared.Laid.{Laid}
 
 -- a file with a head: so many sound blocks at its front, and their first cells
@@ -29,11 +31,14 @@ pub record TopIs (file : List ℕ) (top : Top) : Type 0 where
   pub narrow : top.plans < 2 ^ 32
 
 -- what comes of any bytes; where rows are kept, the table that they are begins at the third cell
-pub data RowsHad (file cells : List ℕ) : Rows → Type 0 where
-  no-head : no_head file ≡ true → RowsHad file cells rows.NoHead
-  no_row : no_head file ≡ false → kept file ≡ [] → RowsHad file cells rows.NoRow
+abbrev pub nothing_had : Reason → Result Top Refusal
+nothing_had reason = Err (record { reason = reason; input = input.File; place = 0 })
+
+pub data RowsHad (file cells : List ℕ) : Result Top Refusal → Type 0 where
+  no-head : no_head file ≡ true → RowsHad file cells (nothing_had reason.Head)
+  no_row : no_head file ≡ false → kept file ≡ [] → RowsHad file cells (nothing_had reason.None)
   had : (top : Top) → TopIs file top → top.end ≤ length cells → take (top.end - 2) (drop 2 cells) ≡ kept_cells file
-      → RowsHad file cells (rows.Had top)
+      → RowsHad file cells (Ok top)
 
 -- whether the file's own plan is kept, and where it then is
 pub record OwnPlan (file : List ℕ) (top : Top) (cells : List ℕ) (keeps : Bool) : Type 0 where
