@@ -27,7 +27,7 @@ use Rattle.termtext.specs.Goal.{Whole, Ours, Goal, GoalRead}
 use Rattle.termtext.proofs.ListLaws.{new_apart, new-fewer}
 use Rattle.goaltext.specs.Asked as goaltext
 use Rattle.goaltext.specs.Asked.{PredicateIs, AskedAs, said, goal_cells, new_of}
-use Rattle.goaltext.specs.declared.GoalText.{GoalText}
+use Rattle.goaltext.specs.declared.GoalTextSize.{GoalTextSize}
 use Rattle.goaltext.proofs.AskedLaws.{whole-text}
 use Rattle.goaltext.proofs.Fixed.{predicate-of-fixed}
 use Rattle.goalroom.specs.Rooms as rooms
@@ -35,7 +35,7 @@ use Rattle.goalroom.specs.Rooms.{GoalFits, GoalInto}
 use Rattle.goalroom.proofs.Fixed.{fits-is, fits_one}
 use Rattle.answerroom.specs.Room as into
 use Rattle.answerroom.specs.Room.{answer_told, AnswerInto}
-use Rattle.answerroom.specs.declared.AnswerText.{AnswerText}
+use Rattle.answerroom.specs.declared.AnswerTextSize.{AnswerTextSize}
 use Rattle.replyback.proofs.ReplyBack.{replies-back}
 use Rattle.dudowiej.specs.Coded.{GoalTextCoded, AnswerCoded}
 use Rattle.dudowiej.proofs.Back.{goal-text-back, answer_back}
@@ -100,7 +100,7 @@ module _ {text names t : List ℕ} where
     turned_by q (asks.no_names goal i l m) = rooms.no_names i.predicate (is-asked i) l m
 
   -- what is answered, of a goal and its rooms
-  module _ {cells cells' new new' : List ℕ} {r : GoalText} (x : GoalInto text names t cells cells' new new' r) where
+  module _ {cells cells' new new' : List ℕ} {r : Result GoalTextSize Refusal} (x : GoalInto text names t cells cells' new new' r) where
     abbrev answer : Answer
     answer = goaltext.goal_text_told r
 
@@ -188,7 +188,7 @@ same-said : (names goal new cells : List ℕ) {text : List ℕ} {p q : Predicate
     → said_in text names goal new p cells ≡ said_in text names goal new q cells
 same-said names goal new cells {text} a b = ap (λ (p : Predicate). said_in text names goal new p cells) (predicate-of-fixed a b)
 
-module _ {text names goal new cells room room' : List ℕ} {r : AnswerText} where
+module _ {text names goal new cells room room' : List ℕ} {r : Result AnswerTextSize Refusal} where
   said-there : AnswerInto text names goal new cells room room' r → (p : Predicate) → length cells ≤ most_reply_cells → PredicateIs text p
       → length (said_in text names goal new p cells) ≤ length room
       → (answer_told r ≡ answered (length cells) (length (said_in text names goal new p cells)))

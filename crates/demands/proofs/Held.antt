@@ -56,12 +56,13 @@ use Rattle.clauses.specs.declared.ProgramSize.{ProgramSize}
 use Rattle.clauses.specs.Handed as hands
 use Rattle.clauses.proofs.Fixed as clauses
 use Rattle.filing.specs.Files.{FileWritten, FileLoaded}
-use Rattle.filing.specs.Answers.{file_told}
-use Rattle.filing.specs.declared.FileAnswer.{FileAnswer}
+use Rattle.filing.specs.Answers.{written_told, contents_told}
+use Rattle.filing.specs.declared.Written.{Written}
+use Rattle.filing.specs.declared.Contents.{Contents}
 use Rattle.filing.proofs.Fixed.{write-file-fixed, read-file-fixed}
 use Rattle.salvaging.specs.Salvage.{Salvaged}
 use Rattle.salvaging.specs.Answers.{salvage_told}
-use Rattle.salvaging.specs.declared.Salvage.{Salvage}
+use Rattle.salvaging.specs.declared.Report.{Report}
 use Rattle.salvaging.proofs.Fixed.{salvage-fixed}
 
 -- "For all inputs, refused ones too, the promise of a public function determines the result and the final contents of the lent room; the
@@ -123,15 +124,15 @@ pub held-clauses : {t p text names room room' room'' : List ℕ} {r s : Result P
     → hands.Handed t p text names room room'' s → (r ≡ s) × (room' ≡ room'')
 held-clauses = clauses.handed-fixed
 
-pub held-write-file : {t p room room' room'' : List ℕ} {r s : FileAnswer} → FileWritten t p room room' (file_told r)
-    → FileWritten t p room room'' (file_told s) → (r ≡ s) × (room' ≡ room'')
+pub held-write-file : {t p room room' room'' : List ℕ} {r s : Result Written Refusal} → FileWritten t p room room' (written_told r)
+    → FileWritten t p room room'' (written_told s) → (r ≡ s) × (room' ≡ room'')
 held-write-file = write-file-fixed
 
-pub held-read-file : {f t p t' p' t'' p'' : List ℕ} {r s : FileAnswer} → FileLoaded f t p t' p' (file_told r)
-    → FileLoaded f t p t'' p'' (file_told s) → (r ≡ s) × (t' ≡ t'') × (p' ≡ p'')
+pub held-read-file : {f t p t' p' t'' p'' : List ℕ} {r s : Result Contents Refusal} → FileLoaded f t p t' p' (contents_told r)
+    → FileLoaded f t p t'' p'' (contents_told s) → (r ≡ s) × (t' ≡ t'') × (p' ≡ p'')
 held-read-file = read-file-fixed
 
-pub held-salvage : {f t p b t' p' b' t'' p'' b'' : List ℕ} {r s : Salvage} → Salvaged f t p b t' p' b' (salvage_told r)
+pub held-salvage : {f t p b t' p' b' t'' p'' b'' : List ℕ} {r s : Result Report Refusal} → Salvaged f t p b t' p' b' (salvage_told r)
     → Salvaged f t p b t'' p'' b'' (salvage_told s) → (r ≡ s) × (t' ≡ t'') × (p' ≡ p'') × (b' ≡ b'')
 held-salvage = salvage-fixed
 

@@ -20,10 +20,12 @@ use Rattle.answer.specs.Run.{run_told}
 use Rattle.answer.proofs.Fixed.{run-fixed}
 use Rattle.loading.proofs.Fixed.{text-fixed}
 use Rattle.goaltext.specs.Asked.{goal_text_told}
-use Rattle.goaltext.specs.declared.GoalText.{GoalText}
+use Rattle.std.specs.Prelude.{Result}
+use Rattle.refusal.specs.declared.Refusal.{Refusal}
+use Rattle.goaltext.specs.declared.GoalTextSize.{GoalTextSize}
 use Rattle.goalroom.proofs.Fixed.{goal-into-fixed}
 use Rattle.answerroom.specs.Room.{answer_told}
-use Rattle.answerroom.specs.declared.AnswerText.{AnswerText}
+use Rattle.answerroom.specs.declared.AnswerTextSize.{AnswerTextSize}
 use Rattle.answerroom.proofs.Fixed.{answer-into-fixed}
 use Rattle.refusal.specs.Refusal.{Answer}
 use Rattle.refusal.specs.Coded.{coded}
@@ -88,13 +90,13 @@ pub goal-text-coded-fixed : {t names goal cells new cells' new' cells'' new'' : 
     → GoalTextCoded t names goal cells cells'' new new'' n → (m ≡ n) × (cells' ≡ cells'') × (new' ≡ new'')
 goal-text-coded-fixed a b =
     let f = goal-into-fixed a.into b.into in
-    (a.code ∙ ap (λ (x : GoalText). coded (goal_text_told x)) f.0 ∙ sym b.code, f.1, f.2)
+    (a.code ∙ ap (λ (x : Result GoalTextSize Refusal). coded (goal_text_told x)) f.0 ∙ sym b.code, f.1, f.2)
 
 pub answer-coded-fixed : {t names goal new cells room room' room'' : List ℕ} {m n : ℕ} → AnswerCoded t names goal new cells room room' m
     → AnswerCoded t names goal new cells room room'' n → (m ≡ n) × (room' ≡ room'')
 answer-coded-fixed a b =
     let f = answer-into-fixed a.into b.into in
-    (a.code ∙ ap (λ (x : AnswerText). coded (answer_told x)) f.0 ∙ sym b.code, f.1)
+    (a.code ∙ ap (λ (x : Result AnswerTextSize Refusal). coded (answer_told x)) f.0 ∙ sym b.code, f.1)
 
 pub jobs-coded-fixed : {t p cells : List ℕ} {jobs jobs' jobs'' : List Job} {m n : ℕ} → JobsCoded t p cells jobs jobs' m → JobsCoded t p cells jobs jobs'' n
     → (m ≡ n) × (jobs' ≡ jobs'')

@@ -8,8 +8,8 @@ use mathlib.Core.Path.{◌≡◌, refl, sym, ap, ◌∙◌}
 use mathlib.Core.List.{List, [], ◌∷◌, ◌++◌, flatten}
 use Prim.Native.Nat.{ℕ, zero, suc, ◌+◌, ◌-◌, ◌%◌, ◌^◌, ◌≤◌, ◌<◌}
 use native.Mathlib.Omega.{arith}
-use mathlib.Core.Bool.{Bool, true, false, ◌||◌}
-use lib.Dec.{leb, ltb}
+use mathlib.Core.Bool.{Bool, true, false}
+use lib.Dec.{leb}
 use borrow.Author.Tests.{leb-true, leb-false}
 use lib.ListN.{length, get_or, drop, replicate, length-append}
 use Rattle.term.proofs.Lists.{get_d-zeros}
@@ -70,7 +70,9 @@ use Rattle.termtext.specs.Goal.{Goal}
 use Rattle.termtext.specs.declared.Predicate.{Predicate}
 use Rattle.goaltext.specs.Asked as goals
 use Rattle.goaltext.proofs.AskedLaws.{whole-text}
-use Rattle.goaltext.specs.declared.GoalText.{GoalText}
+use Rattle.std.specs.Prelude.{Result}
+use Rattle.refusal.specs.declared.Refusal.{Refusal}
+use Rattle.goaltext.specs.declared.GoalTextSize.{GoalTextSize}
 use Rattle.goalroom.specs.Rooms as rooms
 use Rattle.goalroom.specs.Rooms.{GoalFits, GoalInto}
 use Rattle.goalroom.proofs.RoomLaws.{asked-few, no-goal-within, whole_long, first-within}
@@ -278,7 +280,7 @@ fits-small (rooms.no_cells {g = g} q a l) = refused-small reason.Room input.Lent
 fits-small (rooms.no_names {g = g} q a l m) = let n = asked-few a in refused-small reason.Room input.Lent (length g.new) (omega arith)
 fits-small (rooms.fits q a l m) = let n = asked-few a in (omega arith, omega arith)
 
-pub goal-text-small : {text names t cells cells' new new' : List ℕ} {r : GoalText} → GoalInto text names t cells cells' new new' r
+pub goal-text-small : {text names t cells cells' new new' : List ℕ} {r : Result GoalTextSize Refusal} → GoalInto text names t cells cells' new new' r
     → Small (goals.goal_text_told r)
 goal-text-small x = small_by x.answers.tells (fits-small x.rule)
 

@@ -3,10 +3,10 @@ use Rattle.std.specs.Prelude.{ℕ, ◌%◌, ◌^◌, ◌≡◌, cond, List, [], 
 use Rattle.instance.specs.declared.ReplyCounts.{ReplyCounts}
 use Rattle.builder.specs.declared.BuiltPlan.{BuiltPlan}
 use Rattle.answer.specs.declared.RunCounts.{RunCounts}
-use Rattle.refusal.specs.declared.Refusal.{Refusal}
 use Rattle.refusal.specs.Refusal.{Answer, answered, turned}
 use Rattle.refusal.specs.Read.{Read}
 use Rattle.refusal.specs.Coded.{coded, Small}
+use Rattle.refusal.specs.declared.Refusal.{Refusal}
 use Rattle.table.specs.Table.{Table, starts_in, row_in}
 use Rattle.checker.specs.Checked.{plan_told}
 use Rattle.least.specs.declared.By.TheVariants.{Work}
@@ -15,10 +15,10 @@ use Rattle.liked.specs.Liked.{LikedInto}
 use Rattle.record.specs.Record.{cells_in, Holds, table_in}
 use Rattle.record.specs.Edits.{Edit, WorkedOut, Edited}
 use Rattle.loading.specs.Load.{TextLoads}
-use Rattle.goaltext.specs.declared.GoalText.{GoalText}
+use Rattle.goaltext.specs.declared.GoalTextSize.{GoalTextSize}
 use Rattle.goaltext.specs.Asked.{goal_text_told}
 use Rattle.goalroom.specs.Rooms.{GoalInto}
-use Rattle.answerroom.specs.declared.AnswerText.{AnswerText}
+use Rattle.answerroom.specs.declared.AnswerTextSize.{AnswerTextSize}
 use Rattle.answerroom.specs.Room.{AnswerInto, answer_told}
 use Rattle.answer.specs.Run.{Ran, run_told}
 use Rattle.answer.specs.declared.Job.{Job}
@@ -86,13 +86,13 @@ pub record TextCoded (text cells names cells' names' : List ℕ) (number : ℕ) 
 
 -- what the entry for a goal's text answers and leaves in the two rooms
 pub record GoalTextCoded (text names goal cells cells' new new' : List ℕ) (number : ℕ) : Type 0 where
-  pub answer : GoalText
+  pub answer : Result GoalTextSize Refusal
   pub into : GoalInto text names goal cells cells' new new' answer
   pub code : number ≡ coded (goal_text_told answer)
 
 -- what the entry for an answer's text answers and leaves in the room. The bytes fit their bits, for a listed name has 16 bits for its own
 pub record AnswerCoded (text names goal new cells room room' : List ℕ) (number : ℕ) : Type 0 where
-  pub answer : AnswerText
+  pub answer : Result AnswerTextSize Refusal
   pub into : AnswerInto text names goal new cells room room' answer
   pub small : Small (answer_told answer)
   pub code : number ≡ coded (answer_told answer)

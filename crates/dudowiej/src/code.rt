@@ -11,21 +11,21 @@ ghost use Rattle.goaltext.specs.Asked as goals;
 ghost use Rattle.answerroom.specs.Room.{answer_told};
 ghost use Rattle.instance.specs.Replied.{replies_told};
 ghost use Rattle.clauses.specs.Handed.{hand_told};
-ghost use Rattle.filing.specs.Answers.{file_told};
+ghost use Rattle.filing.specs.Answers.{written_told, contents_told};
 ghost use Rattle.salvaging.specs.Salvage.{saved};
 ghost use Rattle.salvaging.specs.Answers.{report_told, salvage_told};
 ghost use Rattle.dudowiej.specs.Coded.{cut, salvage_says, report_after};
 
 use answer::RunCounts;
-use answerroom::AnswerText;
+use answerroom::AnswerTextSize;
 use builder::BuiltPlan;
 use clauses::ProgramSize;
-use filing::FileAnswer;
-use goaltext::GoalText;
+use filing::{Contents, Written};
+use goaltext::GoalTextSize;
 use instance::ReplyCounts;
 use prolog::TextSize;
 use refusal::Refusal;
-use salvaging::{Report, Salvage};
+use salvaging::Report;
 use table::{GoalSize, TableSize};
 
 pub fn code_answer(first: usize, second: usize) -> u64
@@ -140,23 +140,23 @@ pub fn code_text(a: Result<TextSize, Refusal>) -> u64
     }
 }
 
-pub fn code_goal_text(a: GoalText) -> u64
+pub fn code_goal_text(a: Result<GoalTextSize, Refusal>) -> u64
     requires { Small (goals.goal_text_told a) }
     ensures { result ≡ coded (goals.goal_text_told a) }
 {
     match a {
-        GoalText::Read(cells, new) => code_answer(cells, new),
-        GoalText::Refused(f) => code_refusal(f),
+        Ok(size) => code_answer(size.cells, size.names),
+        Err(f) => code_refusal(f),
     }
 }
 
-pub fn code_answer_text(a: AnswerText) -> u64
+pub fn code_answer_text(a: Result<AnswerTextSize, Refusal>) -> u64
     requires { Small (answer_told a) }
     ensures { result ≡ coded (answer_told a) }
 {
     match a {
-        AnswerText::Said(cells, bytes) => code_answer(cells, bytes),
-        AnswerText::Refused(f) => code_refusal(f),
+        Ok(size) => code_answer(size.cells, size.bytes),
+        Err(f) => code_refusal(f),
     }
 }
 
@@ -180,14 +180,24 @@ pub fn code_hand(a: Result<ProgramSize, Refusal>) -> u64
     }
 }
 
-// The place of a bad block may be any number.
-pub fn code_file(a: FileAnswer) -> u64
-    requires { Small (cut (file_told a)) }
-    ensures { result ≡ coded (cut (file_told a)) }
+pub fn code_written(a: Result<Written, Refusal>) -> u64
+    requires { Small (cut (written_told a)) }
+    ensures { result ≡ coded (cut (written_told a)) }
 {
     match a {
-        FileAnswer::Done(first, second) => code_answer(first, second),
-        FileAnswer::Refused(f) => cut_refusal(f),
+        Ok(size) => code_answer(size.bytes, size.blocks),
+        Err(f) => cut_refusal(f),
+    }
+}
+
+// The place of a bad block may be any number.
+pub fn code_contents(a: Result<Contents, Refusal>) -> u64
+    requires { Small (cut (contents_told a)) }
+    ensures { result ≡ coded (cut (contents_told a)) }
+{
+    match a {
+        Ok(size) => code_answer(size.table, size.plan),
+        Err(f) => cut_refusal(f),
     }
 }
 
@@ -206,16 +216,16 @@ fn put_report(a: Report, report: &mut [usize; 6])
 }
 
 // The rows kept and dropped; the report has them too, and is written where something was saved.
-pub fn code_salvage(a: Salvage, report: &mut [usize; 6]) -> u64
+pub fn code_salvage(a: Result<Report, Refusal>, report: &mut [usize; 6]) -> u64
     requires { Small (cut (salvage_says (salvage_told a))) }
     ensures value { result ≡ coded (cut (salvage_says (salvage_told a))) }
     ensures report_after { report.new ≡ report_after (salvage_told a) report.old }
 {
     match a {
-        Salvage::Saved(s) => {
+        Ok(s) => {
             put_report(s, report);
             code_answer(s.kept, s.dropped)
         }
-        Salvage::Refused(f) => cut_refusal(f),
+        Err(f) => cut_refusal(f),
     }
 }

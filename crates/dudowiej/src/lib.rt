@@ -215,14 +215,14 @@ pub fn dudowiej_write_file(rec: &[u32; RECORD_CELLS], plan: &[u32], room: &mut [
     ensures { FileWriteCoded (table_in rec.now) plan.now room.old room.new result }
 {
     let cells = record::table_of(rec);
-    code::code_file(filewriting::write_file(cells, plan, room))
+    code::code_written(filewriting::write_file(cells, plan, room))
 }
 
 // The number of cells of a file's table and of its plan. The table's are the first of one room, the plan's are the first of the other.
 pub fn dudowiej_read_file(file: &[u8], table: &mut [u32], plan: &mut [u32]) -> u64
     ensures { FileReadCoded file.now table.old plan.old table.new plan.new result }
 {
-    code::code_file(filereading::read_file(file, table, plan))
+    code::code_contents(filereading::read_file(file, table, plan))
 }
 
 // What can be had of a bad file: the rows kept and the rows dropped. The table's cells, the plan's and the numbers of the bad blocks are the

@@ -3,14 +3,14 @@ use Rattle.dudowiej.proofs.code.code_answer_text.Goals as goal
 
 pub code_answer-requires : goal.code_answer-requires
 code_answer-requires c =
-    let s = rw c.in-Said.is at c.requires in
+    let s = rw c.in-Ok.is at c.requires in
     (omega (arith, s), omega (arith, s))
 
 pub code_refusal-requires : goal.code_refusal-requires
-code_refusal-requires c = rw c.in-Refused.is at c.requires
+code_refusal-requires c = rw c.in-Err.is at c.requires
 
-pub returns-in-Said : goal.returns-in-Said
-returns-in-Said c = rw c.in-Said.is c.code_answer.ensures
+pub returns-in-Ok : goal.returns-in-Ok
+returns-in-Ok c = rw c.in-Ok.is c.code_answer.ensures
 
-pub returns-in-Refused : goal.returns-in-Refused
-returns-in-Refused c = rw c.in-Refused.is c.code_refusal.ensures
+pub returns-in-Err : goal.returns-in-Err
+returns-in-Err c = rw c.in-Err.is c.code_refusal.ensures
