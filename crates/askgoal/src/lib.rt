@@ -3,7 +3,6 @@
 
 use answer::RunCounts;
 use goalsay::Source;
-use goaltext::GoalText;
 use instance::ReplyCounts;
 use limits::{BRANCHES, ROW_CELLS, ROWS};
 use page::Page;
@@ -127,18 +126,18 @@ pub fn find(
         &mut cells,
         &mut new,
     ) {
-        GoalText::Read(n, names) => {
-            let answer = run_goal(kept, numbers, ready, front(&cells, n), &mut hits, room);
+        Ok(asked) => {
+            let answer = run_goal(kept, numbers, ready, front(&cells, asked.cells), &mut hits, room);
             Found {
                 answer,
                 hits,
-                names,
+                names: asked.names,
                 new,
-                size: n,
+                size: asked.cells,
                 cells,
             }
         }
-        GoalText::Refused(f) => Found {
+        Err(f) => Found {
             answer: Err(f),
             hits,
             names: 0,

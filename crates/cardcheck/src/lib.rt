@@ -2,7 +2,6 @@
 #![tactic(auto)]
 
 use cardwords::Held;
-use filing::FileAnswer;
 use limits::{PLAN_CELLS, TABLE_CELLS};
 use refusal::Refusal;
 use slices::cells::part;
@@ -19,14 +18,12 @@ pub fn put_checked(out: &mut [u8], to: usize, file: &[u8]) -> Result<usize, usiz
 fn held_by(file: &[u8]) -> Result<Held, Refusal> {
     let mut table = [0u32; TABLE_CELLS];
     let mut plan = [0u32; PLAN_CELLS];
-    match filereading::read_file(file, &mut table, &mut plan) {
-        FileAnswer::Done(n, m) => Ok(held_in(
-            part(&table, 0, n),
-            part(&plan, 0, m),
-            file.len() / 512,
-        )),
-        FileAnswer::Refused(f) => Err(f),
-    }
+    let had = filereading::read_file(file, &mut table, &mut plan)?;
+    Ok(held_in(
+        part(&table, 0, had.table),
+        part(&plan, 0, had.plan),
+        file.len() / 512,
+    ))
 }
 
 fn held_in(table: &[u32], plan: &[u32], blocks: usize) -> Held {

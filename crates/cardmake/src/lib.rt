@@ -1,7 +1,6 @@
 // A card made of a file of facts: its table and the least plan, as bytes.
 #![tactic(auto)]
 
-use filing::FileAnswer;
 use reading::Got;
 use refusal::Refusal;
 use shop::{Loaded, Shop};
@@ -51,8 +50,6 @@ fn write(text: &[u8], card: &mut [u8]) -> Result<usize, Refusal> {
 fn write_kept(kept: &[u32], shop: Shop, card: &mut [u8]) -> Result<usize, Refusal> {
     let table = shop::table_in(kept, shop);
     let plan = shop::plan_in(kept, shop);
-    match filewriting::write_file(table, plan, card) {
-        FileAnswer::Done(n, _) => Ok(n),
-        FileAnswer::Refused(f) => Err(f),
-    }
+    let written = filewriting::write_file(table, plan, card)?;
+    Ok(written.bytes)
 }

@@ -4,13 +4,12 @@
 ghost use Rattle.std.specs.Prelude.{◌+◌, ◌≤◌, length};
 ghost use Rattle.limits.specs.Limits.{most_rows};
 
-use filing::FileAnswer;
 use limits::{PLAN_CELLS, TABLE_CELLS};
 use octets::put_word;
 use page::Page;
 use reading::Got;
 use refusal::Refusal;
-use salvaging::{Report, Salvage};
+use salvaging::Report;
 use slices::cells::part;
 
 // Where the report ends, and how many bytes the card has.
@@ -97,20 +96,14 @@ fn save(out: &mut [u8], file: &[u8], card: &mut [u8]) -> Result<Mended, Refusal>
     let mut table = [0u32; TABLE_CELLS];
     let mut plan = [0u32; PLAN_CELLS];
     let mut bad = [0usize; 2048];
-    match salvage::salvage(file, &mut table, &mut plan, &mut bad) {
-        Salvage::Saved(r) => {
-            let t = part(&table, 0, r.table);
-            let p = part(&plan, 0, r.plan);
-            match filewriting::write_file(t, p, card) {
-                FileAnswer::Done(n, _) => Ok(Mended {
-                    report: put_report(out, r, &bad),
-                    card: n,
-                }),
-                FileAnswer::Refused(f) => Err(f),
-            }
-        }
-        Salvage::Refused(f) => Err(f),
-    }
+    let r = salvage::salvage(file, &mut table, &mut plan, &mut bad)?;
+    let t = part(&table, 0, r.table);
+    let p = part(&plan, 0, r.plan);
+    let written = filewriting::write_file(t, p, card)?;
+    Ok(Mended {
+        report: put_report(out, r, &bad),
+        card: written.bytes,
+    })
 }
 
 fn put_report(out: &mut [u8], r: Report, bad: &[usize]) -> usize

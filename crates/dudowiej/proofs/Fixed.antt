@@ -20,8 +20,6 @@ use Rattle.answer.specs.Run.{run_told}
 use Rattle.answer.proofs.Fixed.{run-fixed}
 use Rattle.loading.proofs.Fixed.{text-fixed}
 use Rattle.goaltext.specs.Asked.{goal_text_told}
-use Rattle.std.specs.Prelude.{Result}
-use Rattle.refusal.specs.declared.Refusal.{Refusal}
 use Rattle.goaltext.specs.declared.GoalTextSize.{GoalTextSize}
 use Rattle.goalroom.proofs.Fixed.{goal-into-fixed}
 use Rattle.answerroom.specs.Room.{answer_told}

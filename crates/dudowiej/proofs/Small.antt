@@ -70,8 +70,6 @@ use Rattle.termtext.specs.Goal.{Goal}
 use Rattle.termtext.specs.declared.Predicate.{Predicate}
 use Rattle.goaltext.specs.Asked as goals
 use Rattle.goaltext.proofs.AskedLaws.{whole-text}
-use Rattle.std.specs.Prelude.{Result}
-use Rattle.refusal.specs.declared.Refusal.{Refusal}
 use Rattle.goaltext.specs.declared.GoalTextSize.{GoalTextSize}
 use Rattle.goalroom.specs.Rooms as rooms
 use Rattle.goalroom.specs.Rooms.{GoalFits, GoalInto}

@@ -5,7 +5,7 @@
 use askgoal::{Found, Ready};
 use console::{Reason, Stream};
 use goallines::{Piece, Place};
-use goallist::{Added, Full, Held};
+use goallist::{Full, Held};
 use limits::BRANCHES;
 use message::Whose;
 use refusal::Refusal;
@@ -158,8 +158,8 @@ fn gather_goal(
 fn keep(found: Found, stand: Stand, cells: &mut [u32], list: &mut [usize]) -> Stand {
     let goal = found.cells;
     match goallist::add(part(&goal, 0, found.size), cells, list, stand.held) {
-        Added::Kept(held) => with_goal(stand, held),
-        Added::Left(full) => ended(stand, Came::Over(full)),
+        Ok(held) => with_goal(stand, held),
+        Err(full) => ended(stand, Came::Over(full)),
     }
 }
 
