@@ -127,7 +127,14 @@ pub fn find(
         &mut new,
     ) {
         Ok(asked) => {
-            let answer = run_goal(kept, numbers, ready, front(&cells, asked.cells), &mut hits, room);
+            let answer = run_goal(
+                kept,
+                numbers,
+                ready,
+                front(&cells, asked.cells),
+                &mut hits,
+                room,
+            );
             Found {
                 answer,
                 hits,
@@ -171,7 +178,13 @@ fn run_goal(
 }
 
 // The answers of the rules that fit.
-fn reply(kept: &[u32], ready: Ready, goal: &[u32], hits: &[u8], room: &mut [u32]) -> Result<ReplyCounts, Refusal> {
+fn reply(
+    kept: &[u32],
+    ready: Ready,
+    goal: &[u32],
+    hits: &[u8],
+    room: &mut [u32],
+) -> Result<ReplyCounts, Refusal> {
     let shop = ready.shop;
     let noted = ready.noted;
     let starts = ready.starts;
