@@ -135,18 +135,14 @@ fn put_goal(
     ensures { FactAsked text.now names.now width whole.now row.now list.now
         cells.old cells.new new.old new.new result }
 {
-    match table::goal_for(width, row) {
-        Ok(size) => {
-            let mut numbers = [0u32; ROW_CELLS];
-            let k = names::number_names(text, names, whole, list, &mut numbers, new);
-            names::put_cells(row, &numbers, cells);
-            Ok(GoalTextSize {
-                cells: size.cells,
-                names: k,
-            })
-        }
-        Err(f) => Err(f),
-    }
+    let size = table::goal_for(width, row)?;
+    let mut numbers = [0u32; ROW_CELLS];
+    let k = names::number_names(text, names, whole, list, &mut numbers, new);
+    names::put_cells(row, &numbers, cells);
+    Ok(GoalTextSize {
+        cells: size.cells,
+        names: k,
+    })
 }
 
 // A goal's text, whole: OTHER, or the goal.
