@@ -243,7 +243,7 @@ module _ {by : By} {columns t room room' : List ℕ} {r : Result BuiltPlan Refus
       gets (no_table l a) = as_read (for-table by columns t l a)
       gets (no-column l i m q) = as_read (for-missing by columns t l (reads i) m ∙ ap refuse (sym q))
       gets (no_room s i h plan u l q) =
-          let no = Err (record { reason = reason.Room; input = input.Lent; place = length (write plan) }) in
+          let no : Result BuiltPlan Refusal = Err (record { reason = reason.Room; input = input.Lent; place = length (write plan) }) in
           let short : BuiltInto by columns t room room no = room-refused (table _ _) plan (for-there by columns t s (reads i) h) u l refl refl in
           ap build_told (build-fixed b short).0 ∙ ap turned (sym q)
 
