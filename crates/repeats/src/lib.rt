@@ -20,6 +20,7 @@ use limits::BRANCHES;
 use plannotes::packed::{cell_of, next_of, slot_of, wide, wide16};
 
 // No node.
+// Stays: a number, and no Option: `Safe` and `Takes` (crate alone, specs/code/Rest) say of the array itself what stands in it.
 const NONE: u8 = 64;
 
 // Where a variable of the row is kept.

@@ -14,6 +14,7 @@ use plannotes::packed::wide;
 pub const EVER: u16 = 4095;
 
 // No cell of a goal.
+// Stays: a number, and no Option: `first_of` (crate walking, specs/code/Goal) says of the array itself what stands in it.
 const NONE: u8 = 64;
 
 // The numbers from `first` on.

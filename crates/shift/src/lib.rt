@@ -14,7 +14,12 @@ use refusal::Refusal;
 
 // A run of any plan for any table on every goal of a list. The table and the plan are checked once; where one of them is turned away, no
 // record is touched. The goals' cells lie among the lent ones.
-pub fn run_jobs(table: &[u32], plan: &[u32], cells: &[u32], jobs: &mut [Job]) -> Result<usize, Refusal>
+pub fn run_jobs(
+    table: &[u32],
+    plan: &[u32],
+    cells: &[u32],
+    jobs: &mut [Job],
+) -> Result<usize, Refusal>
     ensures { JobsRun table.now plan.now cells.now jobs.old jobs.new (plan_told
         result) }
 {

@@ -14,4 +14,3 @@ abbrev pub invariant-finite_args-loop : goal.invariant-finite_args-loop
 invariant-finite_args-loop l =
     Fewer l.initial.mark l.mark
     × (SearchingAll l.bound l.args l.sib l.rep l.initial.mark l.p l.k → Looking l.bound l.args l.sib l.rep l.initial.mark l.mark l.p l.k l.q (l.k - l.counter))
-

@@ -15,4 +15,3 @@ invariant-unify_args-loop l =
     (l.n ≤ l.left)
     × (ReadyAll l.bound l.args l.sib l.initial.rep l.p l.q l.k → classes l.initial.rep ≤ l.left
     → Going l.bound l.args l.sib l.initial.rep l.rep l.p l.q l.k l.i l.j (l.k - l.counter) l.n)
-

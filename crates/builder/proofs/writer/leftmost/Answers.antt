@@ -21,15 +21,17 @@ returns-then-agreed_at c =
 pub loop-i-preserved : goal.loop-i-preserved
 loop-i-preserved c =
     let l = c.loop-i in
-    let r = c.args.rows in
-    (omega arith, λ ms a.
-    let rows = rows_in c.args.table.now c.args.starts.now ms r.first r.end in
-    looking-next _ _ _ _ l.i (omega arith)
-    (elim c.else-may.branch [
-      | else-may-via-then-may+else-agreed_at x ↦ not-agreed (flags_in r.opens r.named) rows l.i (agreed-ahead _ _ ms _ _ a l.i l.auto.i _ x.agreed_at.ensures ∙ x.if-agreed_at.false)
-      | else-may-via-else-may x ↦ not_free r.opens r.named l.i rows (omega arith) c.requires.2 c.requires.3 (sym c.may.ensures ∙ x.if-may.false)
-    ])
-    (l.invariant.1 ms a))
+    let r = c.args.rows in (
+      omega arith,
+      λ ms a.
+          let rows = rows_in c.args.table.now c.args.starts.now ms r.first r.end in
+          looking-next _ _ _ _ l.i (omega arith)
+          (elim c.else-may.branch [
+            | else-may-via-then-may+else-agreed_at x ↦ not-agreed (flags_in r.opens r.named) rows l.i (agreed-ahead _ _ ms _ _ a l.i l.auto.i _ x.agreed_at.ensures ∙ x.if-agreed_at.false)
+            | else-may-via-else-may x ↦ not_free r.opens r.named l.i rows (omega arith) c.requires.2 c.requires.3 (sym c.may.ensures ∙ x.if-may.false)
+          ])
+          (l.invariant.1 ms a),
+    )
 
 -- the number of open places, or where the search began past them
 pub returns : goal.returns
