@@ -1,4 +1,4 @@
-// A record, which is a table with what is kept for every run of its rows, worked out and edited (02, W-207). With any record
+// A record, which is a table with what is kept for every run of its rows, worked out and edited. With any record
 // at all an edit ends, in bounds: the table's part is read again, so that the rows are where the reading says, whatever the
 // rest holds. Where it is no table, its refusal is answered. Nothing is written before the last test.
 #![tactic(auto)]

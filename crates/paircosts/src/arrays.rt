@@ -1,4 +1,4 @@
-// What is kept for every pair of first and last row (01, "The least plan"). For a fixed last row the rows before it are
+// What is kept for every pair of first and last row. For a fixed last row the rows before it are
 // added one by one, in front. What is known of a place of the rows so far is noted at the cell that the first of them has
 // there. A pair's numbers stand at 64 times its first row plus its last, in each of the three parts of one lent array.
 ghost use Rattle.std.specs.Prelude.{◌≡◌, cond, ℕ, ◌+◌, ◌-◌, ◌*◌, ◌/◌, ◌%◌, ◌≤◌, ◌<◌, eqb, ltb, length, get_or};
@@ -174,7 +174,7 @@ fn note_row(
 }
 
 // What the cell c at place q weighs where so many variables of the row are met. Variables are numbered in order of first
-// appearance, so that one below that number is met again: 02, W-209, "a later meeting costs 1". No name or number is below
+// appearance, so that one below that number is met again, and a later meeting costs 1. No name or number is below
 // it.
 fn weight_after(marks: &[u16; TABLE_CELLS], c: u32, met: u32, q: usize) -> u32
     requires { q < most_table_cells }
@@ -282,7 +282,7 @@ struct Part {
 
 // Which pairs are worked out, of a table with so many rows: those that begin before row `top` and end at row `since` or
 // later. All others are kept as they stand. With the figure of the measure, and the named columns, a bit for each; where there
-// is none, every place may be chosen (02, W-213).
+// is none, every place may be chosen.
 #[derive(Clone, Copy)]
 pub struct Asked {
     pub figure: u32,

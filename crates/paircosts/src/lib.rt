@@ -1,4 +1,4 @@
-// What is kept for every pair of first and last row of a table (01, "The least plan").
+// What is kept for every pair of first and last row of a table.
 #![tactic(auto)]
 
 mod arrays;
@@ -14,7 +14,7 @@ use table::TableRead;
 // Reads a table, any cells at all, and works out the pairs of its rows that begin before row `top` and end at row `since` or
 // later, in an array of 12,288 numbers that is lent, in three parts, each pair at 64 times the first row plus the last: what
 // its rows cost with nothing closed, which the others are worked out from; the pair's least cost, from 4,096 on; and its
-// chosen place, from 8,192 on. These are of plans that look into named columns first (02, W-213), a bit of `named` for each
+// chosen place, from 8,192 on. These are of plans that look into named columns first, a bit of `named` for each
 // column; 0 names none. All other numbers stay as they are; so does every number where the figure or the table is turned away,
 // and an array of any other length.
 pub fn fill(

@@ -8,6 +8,6 @@ returns c =
     let n : ℕ = c.args.to - c.args.from in
     let part : List ℕ = take n (drop c.args.from c.args.out.now) in
     let long : length part ≡ n =
-        omega (arith, length-take n (drop c.args.from c.args.out.now), length-drop c.args.from c.args.out.now) in
+    omega (arith, length-take n (drop c.args.from c.args.out.now), length-drop c.args.from c.args.out.now) in
     put_mid-sets c.args.from n c.args.out.now _ (replicate n 0)
     (c.fill.ensures.after (λ y e. e) ∙ ap (λ (m : ℕ). replicate m 0) long) (length-replicate n 0) (omega arith)
