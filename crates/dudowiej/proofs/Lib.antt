@@ -3,3 +3,4 @@ pub mod CutLaws
 pub mod Small
 pub mod Fixed
 pub mod Back
+pub mod CodeLaws

@@ -1,9 +1,9 @@
 -- What the entries answer as one number (crate refusal, specs/Coded), where the crates that they call do not say it.
-use Rattle.std.specs.Prelude.{ℕ, ◌%◌, ◌^◌, ◌≡◌, cond, List, [], ◌∷◌, length, get_or, Result}
+use Rattle.std.specs.Prelude.{ℕ, ◌%◌, ◌^◌, ◌≡◌, cond, List, [], ◌∷◌, length, get_or, Result, Ok, Err}
 use Rattle.instance.specs.declared.ReplyCounts.{ReplyCounts}
 use Rattle.builder.specs.declared.BuiltPlan.{BuiltPlan}
 use Rattle.answer.specs.declared.RunCounts.{RunCounts}
-use Rattle.refusal.specs.Refusal.{Answer, answered, turned}
+use Rattle.refusal.specs.Refusal.{Answer, answered, turned, told}
 use Rattle.refusal.specs.Read.{Read}
 use Rattle.refusal.specs.Coded.{coded, Small}
 use Rattle.refusal.specs.declared.Refusal.{Refusal}
@@ -128,6 +128,11 @@ pub record ClausesCoded (cells plan text names room after : List ℕ) (number : 
 abbrev pub cut : Answer → Answer
 cut (answered first second) = answered first second
 cut (turned f) = turned (record { number = f.number; input = f.input; place = f.place % 2 ^ 48 })
+
+-- what is answered for what was done, or for a refusal
+abbrev pub told_by : {T : Type 0} → (T → Answer) → Result T Refusal → Answer
+told_by said (Ok done) = said done
+told_by said (Err f) = turned (told f)
 
 -- what the entry that writes a file answers and leaves in the room
 pub record FileWriteCoded (cells plan room after : List ℕ) (number : ℕ) : Type 0 where

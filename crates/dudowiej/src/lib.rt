@@ -21,48 +21,40 @@ use instance::ReplyJob;
 use least::By;
 use limits::RECORD_CELLS;
 use shift::Job;
-use table::TableSize;
 
 // A table's width and number of rows.
 pub fn dudowiej_read_table(cells: &[u32]) -> u64
     ensures { result ≡ coded (table_says (table_of cells.now)) }
 {
-    let size = match table::read_table(cells) {
-        Ok(read) => Ok(TableSize {
-            width: read.width,
-            rows: read.rows,
-        }),
-        Err(f) => Err(f),
-    };
-    code::code_table(size)
+    code::as_number(table::read_table(cells))
 }
 
 // A record worked out for a table and a figure: the table's width and number of rows.
 pub fn dudowiej_work_out(cells: &[u32], figure: u32, rec: &mut [u32; RECORD_CELLS]) -> u64
     ensures { WorkCoded figure cells.now rec.old rec.new result }
 {
-    code::code_table(edits::work_out(cells, figure, rec))
+    code::as_number(edits::work_out(cells, figure, rec))
 }
 
 // A row appended in a record: the table's width and number of rows then.
 pub fn dudowiej_append(rec: &mut [u32; RECORD_CELLS], row: &[u32]) -> u64
     ensures { EditCoded (append row.now) rec.old rec.new result }
 {
-    code::code_edit(edits::append(rec, row))
+    code::as_number(edits::append(rec, row))
 }
 
 // The last row dropped.
 pub fn dudowiej_drop_last(rec: &mut [u32; RECORD_CELLS]) -> u64
     ensures { EditCoded drop-last rec.old rec.new result }
 {
-    code::code_edit(edits::drop_last(rec))
+    code::as_number(edits::drop_last(rec))
 }
 
 // Row r replaced.
 pub fn dudowiej_replace(rec: &mut [u32; RECORD_CELLS], r: usize, row: &[u32]) -> u64
     ensures { EditCoded (replace r row.now) rec.old rec.new result }
 {
-    code::code_edit(edits::replace(rec, r, row))
+    code::as_number(edits::replace(rec, r, row))
 }
 
 // A goal's number of cells and of variables.
@@ -70,7 +62,7 @@ pub fn dudowiej_read_goal(rec: &[u32; RECORD_CELLS], goal: &[u32]) -> u64
     ensures { result ≡ coded (goal_says goal.now (goal_with (table_in rec.now) goal.now)) }
 {
     let cells = record::table_of(rec);
-    code::code_goal(table::read_goal(cells, goal))
+    code::as_number(table::read_goal(cells, goal))
 }
 
 // Where the r-th row's cells start in the table, and how many they are; both 0 where there is no such row.
@@ -79,9 +71,7 @@ pub fn dudowiej_row(rec: &[u32; RECORD_CELLS], r: usize) -> u64
 {
     let cells = record::table_of(rec);
     let part = table::row_place(cells, r);
-    let start = part.start;
-    let end = part.end;
-    code::code_answer(start, end - start)
+    code::values_as_number(part.start, part.end - part.start)
 }
 
 // An accepted plan's number of branches.
@@ -89,14 +79,14 @@ pub fn dudowiej_check_plan(rec: &[u32; RECORD_CELLS], plan: &[u32]) -> u64
     ensures { result ≡ coded (plan_says (plan_of (table_in rec.now) plan.now)) }
 {
     let cells = record::table_of(rec);
-    code::code_plan(checker::check_plan(cells, plan))
+    code::as_number(checker::check_plan(cells, plan))
 }
 
 // The number of cells of the least plan by the record's figure (W-204), and its cost; its cells are the room's first.
 pub fn dudowiej_build_plan(rec: &[u32; RECORD_CELLS], room: &mut [u32]) -> u64
     ensures { BuildCoded rec.now room.old room.new result }
 {
-    code::code_built(builder::build_from(rec, room))
+    code::as_number(builder::build_from(rec, room))
 }
 
 // A run's number of hits and of branches tried; the hits are the room's first bytes.
@@ -110,7 +100,7 @@ pub fn dudowiej_run_plan(
         room.new result }
 {
     let cells = record::table_of(rec);
-    code::code_run(run::run_plan(cells, plan, goal, room))
+    code::as_number(run::run_plan(cells, plan, goal, room))
 }
 
 // A table from Prolog text: the number of its cells and of its names. The cells are the first of one room, the list of names is the first
@@ -118,7 +108,7 @@ pub fn dudowiej_run_plan(
 pub fn dudowiej_read_text(text: &[u8], cells: &mut [u32], names: &mut [u32]) -> u64
     ensures { TextCoded text.now cells.old names.old cells.new names.new result }
 {
-    code::code_text(prolog::read_text(text, cells, names))
+    code::as_number(prolog::read_text(text, cells, names))
 }
 
 // A goal from its text, by the names of a text of facts and by its predicate: the number of its cells and of its names that the facts have not.
@@ -133,7 +123,7 @@ pub fn dudowiej_read_goal_text(
     ensures { GoalTextCoded text.now names.now goal.now cells.old cells.new
         new.old new.new result }
 {
-    code::code_goal_text(goalroom::read_goal_text(text, names, goal, cells, new))
+    code::as_number(goalroom::read_goal_text(text, names, goal, cells, new))
 }
 
 // A reply's cells as text, in the names of the facts and in the goal's own: how many cells are said, and in how many bytes; they are the room's
@@ -149,7 +139,7 @@ pub fn dudowiej_put_answer(
     ensures { AnswerCoded text.now names.now goal.now new.now cells.now
         room.old room.new result }
 {
-    code::code_answer_text(answerroom::put_answer(text, names, goal, new, cells, room))
+    code::as_number(answerroom::put_answer(text, names, goal, new, cells, room))
 }
 
 // The plan's number of branches; each goal of the list is answered in its record.
@@ -163,7 +153,7 @@ pub fn dudowiej_run_jobs(
         jobs.new result }
 {
     let table = record::table_of(rec);
-    code::code_plan(shift::run_jobs(table, plan, cells, jobs))
+    code::as_number(shift::run_jobs(table, plan, cells, jobs))
 }
 
 // How many replies there are and how many cells they have together; they are the room's first cells.
@@ -177,7 +167,7 @@ pub fn dudowiej_replies(
         room.new result }
 {
     let cells = record::table_of(rec);
-    code::code_replies(replies::replies(cells, plan, goal, room))
+    code::as_number(replies::replies(cells, plan, goal, room))
 }
 
 // The plan's number of branches; each goal of the list is answered in its record, and the replies follow one another in the room.
@@ -192,7 +182,7 @@ pub fn dudowiej_reply_jobs(
         room.new jobs.old jobs.new result }
 {
     let table = record::table_of(rec);
-    code::code_plan(replyjobs::reply_jobs(table, plan, cells, jobs, room))
+    code::as_number(replyjobs::reply_jobs(table, plan, cells, jobs, room))
 }
 
 // A plan handed back as Prolog: how many clauses it is and how many bytes they have; they are the room's first bytes.
@@ -207,7 +197,7 @@ pub fn dudowiej_clauses(
         room.old room.new result }
 {
     let cells = record::table_of(rec);
-    code::code_hand(handing::hand_back(cells, plan, text, names, room))
+    code::as_number(handing::hand_back(cells, plan, text, names, room))
 }
 
 // The bytes and the blocks of the file of the record's table and a plan; its bytes are the room's first.
@@ -215,14 +205,14 @@ pub fn dudowiej_write_file(rec: &[u32; RECORD_CELLS], plan: &[u32], room: &mut [
     ensures { FileWriteCoded (table_in rec.now) plan.now room.old room.new result }
 {
     let cells = record::table_of(rec);
-    code::code_written(filewriting::write_file(cells, plan, room))
+    code::as_number(filewriting::write_file(cells, plan, room))
 }
 
 // The number of cells of a file's table and of its plan. The table's are the first of one room, the plan's are the first of the other.
 pub fn dudowiej_read_file(file: &[u8], table: &mut [u32], plan: &mut [u32]) -> u64
     ensures { FileReadCoded file.now table.old plan.old table.new plan.new result }
 {
-    code::code_contents(filereading::read_file(file, table, plan))
+    code::as_number(filereading::read_file(file, table, plan))
 }
 
 // What can be had of a bad file: the rows kept and the rows dropped. The table's cells, the plan's and the numbers of the bad blocks are the
@@ -237,7 +227,7 @@ pub fn dudowiej_salvage(
     ensures { SalvageCoded file.now table.old plan.old bad.old report.old
         table.new plan.new bad.new report.new result }
 {
-    code::code_salvage(salvage::salvage(file, table, plan, bad), report)
+    code::salvage_as_number(salvage::salvage(file, table, plan, bad), report)
 }
 
 // The number of cells of the least plan that looks into named columns first, by the record's figure, and its cost; its cells are the room's
@@ -247,7 +237,7 @@ pub fn dudowiej_build_for(rec: &[u32; RECORD_CELLS], columns: &[u32], room: &mut
 {
     let figure = rec[1];
     let cells = record::table_of(rec);
-    code::code_built(builder::build_for(By::Work(figure), columns, cells, room))
+    code::as_number(builder::build_for(By::Work(figure), columns, cells, room))
 }
 
 // The number of branches of a plan that looks into named columns first.
@@ -255,7 +245,7 @@ pub fn dudowiej_check_for(rec: &[u32; RECORD_CELLS], columns: &[u32], plan: &[u3
     ensures { result ≡ coded (plan_says (plan_under (table_in rec.now) columns.now plan.now)) }
 {
     let cells = record::table_of(rec);
-    code::code_plan(checker::check_for(cells, columns, plan))
+    code::as_number(checker::check_for(cells, columns, plan))
 }
 
 // The number of cells of the plan that a list of goals likes best, of those for each set of columns, by the record's figure, and its cost; its
@@ -272,5 +262,5 @@ pub fn dudowiej_build_liked(
 {
     let figure = rec[1];
     let cells = record::table_of(rec);
-    code::code_built(liked::build_liked(By::Work(figure), cells, goals, list, room, liked))
+    code::as_number(liked::build_liked(By::Work(figure), cells, goals, list, room, liked))
 }

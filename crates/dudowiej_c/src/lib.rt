@@ -1,5 +1,6 @@
-// The entries of crate dudowiej, exported to programs in C and Rust under the same names (include/dudowiej.h). A crate of Rattle is a library or
-// such an archive, not both: so each function here calls the library's and says what it says.
+// The entries of crate dudowiej, exported to programs in C and Rust under the same names (include/dudowiej.h).
+// Stays: the C interface. A crate of Rattle is a library or such an archive, not both: so each function here calls the library's and says what it
+// says.
 #![tactic(auto)]
 
 ghost use Rattle.std.specs.Prelude.{◌≡◌};

@@ -1,8 +1,10 @@
 use Rattle.table.specs.Table.{table_told}
+use Rattle.dudowiej.proofs.CodeLaws.{coded_by, table-by}
 use Rattle.dudowiej.proofs.Small.{edit-small}
 use Rattle.dudowiej.proofs.dudowiej_append.Goals as goal
 
 pub returns : goal.returns
 returns c =
-    λ figure T x. let e = c.append.ensures figure T x in
-    record { told = table_told c.append.result; edited = e; code = c.code_edit.ensures (edit-small e) }
+    λ figure T x. let r = c.append.result in
+    let e = c.append.ensures figure T x in
+    record { told = table_told r; edited = e; code = coded_by (table-by r) (edit-small e) c.as_number.ensures }

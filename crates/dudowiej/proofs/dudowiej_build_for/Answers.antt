@@ -1,3 +1,4 @@
+use Rattle.dudowiej.proofs.CodeLaws.{coded_by, build-by}
 use mathlib.Core.Path.{subst}
 use mathlib.Core.List.{List}
 use Prim.Native.Nat.{ℕ}
@@ -14,4 +15,4 @@ returns c =
     let x =
     subst (λ (cells : List ℕ). BuiltInto (Work figure) a.columns.now cells a.room.now c.build_for.new.room c.build_for.result)
     c.table_of-cells.ensures c.build_for.ensures in
-    record { answer = c.build_for.result; built = x; code = c.code_built.ensures (build-small (Work figure) x) }
+    record { answer = c.build_for.result; built = x; code = coded_by (build-by c.build_for.result) (build-small (Work figure) x) c.as_number.ensures }

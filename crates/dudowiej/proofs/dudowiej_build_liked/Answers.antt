@@ -1,3 +1,4 @@
+use Rattle.dudowiej.proofs.CodeLaws.{coded_by, build-by}
 use mathlib.Core.Path.{subst}
 use mathlib.Core.List.{List}
 use Prim.Native.Nat.{ℕ}
@@ -14,4 +15,4 @@ returns c =
     let x =
     subst (λ (cells : List ℕ). LikedInto (Work figure) cells a.goals.now a.list.now a.room.now c.build_liked.new.room
     a.liked.now c.build_liked.new.liked c.build_liked.result) c.table_of-cells.ensures c.build_liked.ensures in
-    record { answer = c.build_liked.result; built = x; code = c.code_built.ensures (liked-small (Work figure) x) }
+    record { answer = c.build_liked.result; built = x; code = coded_by (build-by c.build_liked.result) (liked-small (Work figure) x) c.as_number.ensures }

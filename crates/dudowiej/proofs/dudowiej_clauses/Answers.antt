@@ -1,16 +1,15 @@
+use Rattle.dudowiej.proofs.CodeLaws.{coded_by, hand-by}
 use Rattle.dudowiej.proofs.Small.{clauses-small}
 use Rattle.dudowiej.proofs.dudowiej_clauses.Goals as goal
-
--- the names are numbers of 32 bits
-pub code_hand-requires : goal.code_hand-requires
-code_hand-requires c = clauses-small (λ k. (c.type_inv.names k).fits) c.hand_back.ensures
 
 pub returns : goal.returns
 returns c =
     let h = c.hand_back.ensures in
+    -- the names are numbers of 32 bits
+    let few = clauses-small (λ k. (c.type_inv.names k).fits) h in
     record {
       answer = c.hand_back.result;
       handed = rw c.table_of-cells.ensures at h;
-      small = clauses-small (λ k. (c.type_inv.names k).fits) h;
-      code = c.code_hand.ensures;
+      small = few;
+      code = coded_by (hand-by c.hand_back.result) few c.as_number.ensures;
     }

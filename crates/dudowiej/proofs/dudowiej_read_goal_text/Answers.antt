@@ -1,5 +1,8 @@
+use Rattle.dudowiej.proofs.CodeLaws.{coded_by, goal-text-by}
 use Rattle.dudowiej.proofs.Small.{goal-text-small}
 use Rattle.dudowiej.proofs.dudowiej_read_goal_text.Goals as goal
 
-pub code_goal_text-requires : goal.code_goal_text-requires
-code_goal_text-requires c = goal-text-small c.read_goal_text.ensures
+pub returns : goal.returns
+returns c =
+    let r = c.read_goal_text in
+    record { answer = r.result; into = r.ensures; code = coded_by (goal-text-by r.result) (goal-text-small r.ensures) c.as_number.ensures }

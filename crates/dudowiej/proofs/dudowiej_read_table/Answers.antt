@@ -1,11 +1,11 @@
 use mathlib.Core.Path.{◌∙◌, ap}
 use Rattle.refusal.specs.Coded.{coded}
 use Rattle.refusal.proofs.CodedLaws.{small_by}
+use Rattle.dudowiej.proofs.CodeLaws.{coded_by, read-by}
 use Rattle.dudowiej.proofs.Small.{table-small}
 use Rattle.dudowiej.proofs.dudowiej_read_table.Goals as goal
 
-pub code_table-requires : goal.code_table-requires
-code_table-requires c = small_by c.read_table-read.ensures.answer (table-small c.args.cells.now)
-
 pub returns : goal.returns
-returns c = c.code_table.ensures ∙ ap coded c.read_table-read.ensures.answer
+returns c =
+    let r = c.read_table in
+    coded_by (read-by r.result) (small_by r.ensures.answer (table-small c.args.cells.now)) c.as_number.ensures ∙ ap coded r.ensures.answer

@@ -3,11 +3,8 @@ use native.Mathlib.Omega.{arith}
 use Rattle.dudowiej.proofs.Small.{row_small}
 use Rattle.dudowiej.proofs.dudowiej_row.Goals as goal
 
-pub code_answer-requires : goal.code_answer-requires
-code_answer-requires c =
+pub returns : goal.returns
+returns c =
     let s = row_small c.table_of-cells.result.now c.args.r in
     let p = c.row_place-part.ensures in
-    (omega (arith, p.start, p.end, s), omega (arith, p.start, p.end, s))
-
-pub returns : goal.returns
-returns c = rw (sym c.table_of-cells.ensures) (omega arith)
+    rw (sym c.table_of-cells.ensures) (omega (arith, p.start, p.end, s, c.values_as_number.ensures (omega (arith, p.start, p.end, s), omega (arith, p.start, p.end, s))))
