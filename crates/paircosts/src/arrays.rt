@@ -465,6 +465,7 @@ impl Sheet<'_> {
 }
 
 // The values of a pair, read off the notes at its first row.
+// Stays: `fill`'s clause `Fills` says where each of the three numbers stands in the one array that is lent.
 fn keep_pair(
     marks: &[u16; TABLE_CELLS],
     kept: &mut [u32],

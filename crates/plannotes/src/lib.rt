@@ -13,6 +13,7 @@ use limits::BRANCHES;
 use refusal::Refusal;
 
 // The answer of the check; and the width and the number of rows of the table, both 0 where it or the plan is turned away.
+// Stays: `run_noted` takes any value of it, also a width beside a refusal, so a Result of the three would ask more of its callers.
 #[derive(Clone, Copy)]
 pub struct Noted {
     pub answer: Result<usize, Refusal>,
