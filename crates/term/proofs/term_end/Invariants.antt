@@ -1,5 +1,5 @@
 -- The terms still owed end where the whole does. A cell owes at most four, so their number fits.
-use Rattle.std.proofs.Common.{◌≡◌, ℕ, ◌+◌, ◌-◌, ◌*◌, ◌<◌, ◌≤◌, drop}
+use Rattle.std.proofs.Common.{◌≡◌, ◌+◌, ◌*◌, ◌<◌, ◌≤◌, drop}
 use Rattle.term.specs.code.Owed.{ends}
 use Rattle.term.proofs.term_end.Given as goal
 
