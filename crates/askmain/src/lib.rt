@@ -48,25 +48,27 @@ fn lend(rt: HostRuntime, path: &[u8], call: Call, columns: &[u32]) {
     let mut room = [0u32; 65536];
     let mut kept = [0u32; KEPT];
     let mut out = [0u8; ROOM];
-    let mut page = Page::new(rt, &mut out);
-    open(path, call, columns, &mut room, &mut kept, &mut page);
+    open(rt, path, call, columns, &mut room, &mut kept, &mut out);
 }
 
 // One byte more is read than a text may have, so that too long a file is seen to be one.
+// Stays: what `lend` lends, so that its rooms and their proof stand in a function of their own.
 fn open(
+    rt: HostRuntime,
     path: &[u8],
     call: Call,
     columns: &[u32],
     room: &mut [u32],
     kept: &mut [u32],
-    page: &mut Page<'_>,
+    out: &mut [u8],
 ) {
     let mut file = [0u8; 65536];
-    match reading::read_path(page.rt, path, &mut file) {
+    let mut page = Page::new(rt, out);
+    match reading::read_path(rt, path, &mut file) {
         Ok(n) => {
             let text = bytes::part(&file, 0, n);
-            askwork::answer(Facts { path, text }, call, columns, room, kept, page);
+            askwork::answer(Facts { path, text }, call, columns, room, kept, &mut page);
         }
-        Err(why) => reading::cannot_read(page.rt, path, why, page.room),
+        Err(why) => reading::cannot_read(rt, path, why, page.room),
     }
 }

@@ -40,11 +40,7 @@ fn lend(
 ) {
     let mut cells = [0u32; 800000];
     let mut list = [0usize; 200000];
-    let rooms = Rooms {
-        cells: &mut cells,
-        list: &mut list,
-    };
-    gather(shop, path, jobs, stream, rooms, room, page);
+    gather(shop, path, jobs, stream, &mut cells, &mut list, room, page);
 }
 
 // Stays: what `lend` lends, so that its rooms and their proof stand in a function of their own.
@@ -53,10 +49,12 @@ fn gather(
     path: &[u8],
     jobs: &[u8],
     stream: Stream,
-    rooms: Rooms<'_>,
+    cells: &mut [u32],
+    list: &mut [usize],
     room: &mut [u32],
     page: &mut Page<'_>,
 ) {
+    let rooms = Rooms { cells, list };
     if let Some(goals) = goalfile::gather(jobs, stream, shop, rooms, room, page) {
         bestplan::print(shop, path, goals, page);
     }
