@@ -5,17 +5,6 @@
 mod said;
 
 fn main(rt: HostRuntime) {
-    let count = console::arg_count(rt);
-    let mut first = 1;
-    let mut i = 1;
-    while i < count {
-        let next = i + 1;
-        if calls::ends(rt, i) {
-            calls::print(rt, b"ask", first, i);
-            askmain::answer_call(rt, first, i);
-            first = next;
-        }
-        i = next;
-    }
+    calls::make_each(rt, b"ask", askmain::answer_call);
     said::show(rt);
 }

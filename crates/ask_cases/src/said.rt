@@ -1,10 +1,11 @@
 // What the program ask says where texts of facts, goals, lists of columns and files of goals are refused: calls say it to standard error, which is
 // not stored. And what it says of counts and columns that no call here reaches.
+use askgoal::Ready;
 use goallist::Full;
 use limits::BRANCHES;
 use message::Whose;
 use refusal::Refusal;
-use shop::{Loaded, Shop};
+use shop::{KEPT, Shop};
 
 fn put(rt: HostRuntime, text: &[u8], whose: Whose, f: Refusal) {
     let mut out = [0u8; 256];
@@ -15,31 +16,27 @@ fn put(rt: HostRuntime, text: &[u8], whose: Whose, f: Refusal) {
 // Why a text of facts is refused.
 fn facts(rt: HostRuntime, text: &[u8]) {
     let mut room = [0u32; 65536];
-    let mut kept = [0u32; 10244];
-    match shop::load(text, &mut room, &mut kept) {
-        Loaded::Kept(_) => {}
-        Loaded::Refused(f) => put(rt, text, Whose::Facts, f),
+    let mut kept = [0u32; KEPT];
+    if let Err(f) = shop::load(text, &mut room, &mut kept) {
+        put(rt, text, Whose::Facts, f);
     }
 }
 
 // Why a goal is refused, for some rules: by its text, or by an answer.
 fn goal_of(rt: HostRuntime, rules: &[u8], text: &[u8]) {
     let mut room = [0u32; 65536];
-    let mut kept = [0u32; 10244];
+    let mut kept = [0u32; KEPT];
     match shop::load(rules, &mut room, &mut kept) {
-        Loaded::Kept(shop) => asked(rt, rules, &kept, shop, text, &mut room),
-        Loaded::Refused(f) => put(rt, rules, Whose::Facts, f),
+        Ok(shop) => asked(rt, shop, text, &mut room),
+        Err(f) => put(rt, rules, Whose::Facts, f),
     }
 }
 
-fn asked(rt: HostRuntime, rules: &[u8], kept: &[u32], shop: Shop, text: &[u8], room: &mut [u32]) {
+fn asked(rt: HostRuntime, shop: Shop<'_>, text: &[u8], room: &mut [u32]) {
     let mut numbers = [0u64; BRANCHES];
-    let ready = askgoal::make_ready(kept, shop, &mut numbers);
-    let found = askgoal::find(rules, kept, &numbers, ready, text, room);
-    let answer = found.answer;
-    match answer {
-        Ok(_) => {}
-        Err(f) => put(rt, text, Whose::Goal, f),
+    let ready = Ready::new(shop, &mut numbers);
+    if let Err(f) = ready.find(text, room) {
+        put(rt, text, Whose::Goal, f);
     }
 }
 

@@ -1,109 +1,76 @@
 // What the program ask does with its file: its rules are loaded, and what is asked of them is printed.
 #![tactic(auto)]
 
-use askall::Goals;
+use askall::{Counting, Goals};
 use page::Page;
 use refusal::Refusal;
-use shop::{Loaded, Shop};
-use wishes::{Asked, Wish};
+use shop::Shop;
+use wishes::{Call, Print};
 
-// A file with this name and text, and columns that are known. Lent are a room for answers and, before them, for the table, one for what is kept of
-// the file, and one for what is printed.
+// A file of facts: its name and text.
+// Stays: a name and a text are two slices, and no parallel lists.
+#[derive(Clone, Copy)]
+pub struct Facts<'a> {
+    pub path: &'a [u8],
+    pub text: &'a [u8],
+}
+
+// What a call asks of a file, where these columns are known. Lent are a room for answers and, before them, for the table, and one for what is kept
+// of the file.
 pub fn answer(
-    rt: HostRuntime,
-    path: &[u8],
-    text: &[u8],
-    asked: Asked,
+    facts: Facts<'_>,
+    call: Call,
     columns: &[u32],
     room: &mut [u32],
     kept: &mut [u32],
-    out: &mut [u8],
+    page: &mut Page<'_>,
 ) {
-    match shop::load_for(text, columns, room, kept) {
-        Loaded::Kept(shop) => show(rt, path, text, kept, shop, asked, room, out),
-        Loaded::Refused(f) => refuse(rt, path, text, asked.known, f, out),
+    match shop::load_for(facts.text, columns, room, kept) {
+        Ok(shop) => show(shop, facts, call, room, page),
+        Err(f) => refuse(facts, call.known, f, page),
     }
 }
 
-fn show(
-    rt: HostRuntime,
-    path: &[u8],
-    text: &[u8],
-    kept: &mut [u32],
-    shop: Shop,
-    asked: Asked,
-    room: &mut [u32],
-    out: &mut [u8],
-) {
-    let wish = asked.wish;
-    match wish {
-        Wish::Answers | Wish::Counts => {
-            askall::answer_all(rt, text, &*kept, shop, goals_of(asked), room, out)
+fn show(shop: Shop<'_>, facts: Facts<'_>, call: Call, room: &mut [u32], page: &mut Page<'_>) {
+    let goals = Goals {
+        first: call.goal,
+        end: call.end,
+    };
+    match call.print {
+        Print::Answers => askall::answer_all(shop, goals, Counting::Answers, room, page),
+        Print::Counts => askall::answer_all(shop, goals, Counting::Counts, room, page),
+        Print::Tree => {
+            treetext::print(&shop, page);
+            page.flush();
         }
-        Wish::Tree => show_tree(rt, text, &*kept, shop, out),
-        Wish::Picture => show_picture(rt, text, &*kept, shop, out),
-        Wish::Clauses => show_clauses(rt, path, text, &*kept, shop, out),
-        Wish::Tuned => tune::answer(rt, asked.jobs, path, text, kept, shop, room, out),
-        Wish::Help | Wish::Version | Wish::Nothing => {}
+        Print::Picture => {
+            dottext::print(&shop, page);
+            page.flush();
+        }
+        Print::Clauses => show_clauses(shop, facts, page),
+        Print::Tuned(jobs) => tune::answer(shop, facts.path, jobs, room, page),
     }
 }
 
-fn goals_of(asked: Asked) -> Goals {
-    let wish = asked.wish;
-    Goals {
-        first: asked.goal,
-        end: asked.end,
-        counts: counts(wish),
-    }
-}
-
-fn counts(wish: Wish) -> bool {
-    match wish {
-        Wish::Counts => true,
-        _ => false,
-    }
-}
-
-fn show_tree(rt: HostRuntime, text: &[u8], kept: &[u32], shop: Shop, out: &mut [u8]) {
-    let last = treetext::print(rt, text, kept, shop, out, page::blank());
-    page::flush(rt, out, last);
-}
-
-fn show_picture(rt: HostRuntime, text: &[u8], kept: &[u32], shop: Shop, out: &mut [u8]) {
-    let last = dottext::print(rt, text, kept, shop, out, page::blank());
-    page::flush(rt, out, last);
-}
-
-fn show_clauses(
-    rt: HostRuntime,
-    path: &[u8],
-    text: &[u8],
-    kept: &[u32],
-    shop: Shop,
-    out: &mut [u8],
-) {
-    match clausetext::put_clauses(out, text, kept, shop) {
+fn show_clauses(shop: Shop<'_>, facts: Facts<'_>, page: &mut Page<'_>) {
+    match clausetext::put_clauses(page.room, &shop) {
         Ok(size) => {
-            page::flush(
-                rt,
-                out,
-                Page {
-                    to: size.bytes,
-                    open: true,
-                },
-            );
+            page.to = size.bytes;
+            page.flush();
         }
-        Err(f) => refuse(rt, path, text, 0, f, out),
+        Err(f) => refuse(facts, None, f, page),
     }
 }
 
 // Why a file is not taken, or why a list of known columns is not.
-fn refuse(rt: HostRuntime, path: &[u8], text: &[u8], list: usize, f: Refusal, out: &mut [u8]) {
-    let reason = f.reason;
-    if refusal::number_of(reason) == known::COLUMN {
-        known::complain(rt, list, path, shop::width_of(text), out);
+fn refuse(facts: Facts<'_>, known: Option<usize>, f: Refusal, page: &mut Page<'_>) {
+    if let Some(list) = known
+        && refusal::number_of(f.reason) == known::COLUMN
+    {
+        let width = shop::width_of(facts.text);
+        known::complain(page.rt, list, facts.path, width, page.room);
         return;
     }
-    let n = refusals::put_facts_refusal(out, path, text, f);
-    page::complain(rt, out, n);
+    let n = refusals::put_facts_refusal(page.room, facts.path, facts.text, f);
+    page.complain(n);
 }

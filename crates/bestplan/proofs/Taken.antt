@@ -11,8 +11,7 @@ use Rattle.term.proofs.Tests.{cond-case}
 use Rattle.answer.specs.Jobs.{bit}
 use Rattle.liked.specs.Liked.{columns_from, columns_of}
 use Rattle.known.specs.Known.{Listing, list_text}
-use Rattle.known.specs.declared.Listed.{Listed}
-use Rattle.known.specs.declared.Listed.TheVariants as listed
+use Rattle.std.specs.Prelude.{Option, Some}
 use Rattle.known.proofs.ReadBack.{Small, read_back}
 
 -- the columns of a mask: numbers below 8, at most so many, and some where a bit is set
@@ -40,9 +39,9 @@ some-from c (suc left) mask h g =
     let even = eqb-false (bit c mask) 1 f in
     some-from (suc c) left mask (omega (arith, half, even)) (omega (arith, half, pow-suc 2 left)))
 
-pub taken : (mask : ℕ) {room room' : List ℕ} {r : Listed} → 0 < mask → mask < 2 ^ 8 → 8 ≤ length room
+pub taken : (mask : ℕ) {room room' : List ℕ} {r : Option ℕ} → 0 < mask → mask < 2 ^ 8 → 8 ≤ length room
     → Listing (list_text 0 (columns_of mask)) room room' r
-    → (r ≡ listed.Columns (length (columns_of mask))) × (take (length (columns_of mask)) room' ≡ columns_of mask)
+    → (r ≡ Some (length (columns_of mask))) × (take (length (columns_of mask)) room' ≡ columns_of mask)
 taken mask h g l p =
     let few = few-from 0 8 mask in
     read_back (columns_of mask) (some-from 0 8 mask (omega arith) (omega arith)) (small-from 0 8 mask (omega arith)) (omega arith) p

@@ -14,7 +14,7 @@ use slices::cells::part;
 // number i in the list leads to state i + 1.
 //
 // A place is 16 times its owner and the number of its argument. The owner is 0 for the rule itself, and one more than the number of a name.
-#[derive(Drop)]
+#[derive(Clone, Copy)]
 pub struct Branch {
     pub state: u32,
     pub depth: u32,
@@ -24,72 +24,48 @@ pub struct Branch {
     pub rule: u32,
 }
 
-// A branch is 6 numbers of the list. Each has a symbol of a rule of its own, so that no plan has more than 64 rules have symbols.
-const NUMBERS: usize = 6;
-
-pub const LIST: usize = NUMBERS * BRANCHES;
+// What stands in a list where there is no branch.
+pub const NO_BRANCH: Branch = Branch {
+    state: 0,
+    depth: 0,
+    place: 0,
+    cell: 0,
+    first: 0,
+    rule: 0,
+};
 
 // A state: its number, how many branches lead there, and the place that it looks at.
-#[derive(Drop)]
+#[derive(Clone, Copy)]
 struct State {
     number: u32,
     depth: u32,
     place: u32,
 }
 
-// Where the walk stands: the next cell of the plan, the next rule, how many branches are listed; and where each variable of this rule was first
-// met on the way, 0 where it was not. A branch for a variable has one rule, so that all below it is that rule's.
-#[derive(Drop)]
-struct Stand {
-    at: usize,
-    rule: u32,
-    count: u32,
-    met: [u32; ROW_CELLS],
-}
-
-// One further, and no further than the end.
-fn next(at: usize, end: usize) -> usize {
-    if at < end { at + 1 } else { end }
-}
-
 // One more, and no more than there can be.
 fn more(n: u32, most: u32) -> u32 {
-    if n < most { n + 1 } else { most }
+    n.saturating_add(1).min(most)
 }
 
-// Those of a shop's plan; how many there are.
-pub fn put_branches(list: &mut [u32], kept: &[u32], shop: Shop) -> u32 {
-    let table = shop::table_in(kept, shop);
+// The branches of a shop's plan; how many there are. Each has a symbol of a rule of its own, so that no plan has more than 64 rules have symbols.
+pub fn put_branches(list: &mut [Branch; BRANCHES], shop: &Shop<'_>) -> u32 {
     let mut places = [0u32; ROW_CELLS];
-    let n = put_arguments(&mut places, 0, 0, cell_at(table, 0) as usize);
-    let first = Stand {
+    let n = put_arguments(&mut places, 0, 0, cell_at(shop.table, 0) as usize);
+    let mut walk = Walk {
+        list,
+        plan: shop.plan,
         at: 0,
         rule: 1,
         count: 0,
-        met: [0u32; ROW_CELLS],
+        met: [0; ROW_CELLS],
     };
-    let last = walk(
-        list,
-        shop::plan_in(kept, shop),
-        part(&places, 0, n),
-        0,
-        0,
-        first,
-    );
-    last.count
+    walk.branches(part(&places, 0, n), 0, 0);
+    walk.count
 }
 
 // A branch by its number; one of zeros where there is none.
-pub fn branch_at(list: &[u32], i: u32) -> Branch {
-    let at = NUMBERS * i as usize;
-    Branch {
-        state: cell_at(list, at),
-        depth: cell_at(list, at + 1),
-        place: cell_at(list, at + 2),
-        cell: cell_at(list, at + 3),
-        first: cell_at(list, at + 4),
-        rule: cell_at(list, at + 5),
-    }
+pub fn branch_at(list: &[Branch; BRANCHES], i: u32) -> Branch {
+    list.get(i as usize).copied().unwrap_or(NO_BRANCH)
 }
 
 // The places of so many arguments: of columns, which are at most COLUMNS, or of a name, which has fewer.
@@ -97,10 +73,8 @@ fn put_arguments(places: &mut [u32], to: usize, owner: u32, count: usize) -> usi
     requires { owner ≤ 65536 }
 {
     let mut on = to;
-    let mut i = 0;
-    while i < COLUMNS && i < count {
-        i += 1;
-        on = put_cell(places, on, 16 * owner + i as u32);
+    for i in 0..count.min(COLUMNS) {
+        on = put_cell(places, on, 16 * owner + i as u32 + 1);
     }
     on
 }
@@ -109,95 +83,91 @@ fn put_arguments(places: &mut [u32], to: usize, owner: u32, count: usize) -> usi
 fn put_below(below: &mut [u32], places: &[u32], index: usize, c: u32) -> usize {
     let a = put_cells(below, 0, part(places, 0, index));
     let b = put_arguments(below, a, cell::number(c) + 1, cell::arity_of(c));
-    put_cells(
-        below,
-        b,
-        part(places, next(index, places.len()), places.len()),
-    )
+    let end = places.len();
+    put_cells(below, b, part(places, index.saturating_add(1), end))
 }
 
 // Where a variable was first met, and 0 where that is now, at this place. A variable's cell is its number, and a symbol's is larger than
 // any of a rule's.
 fn meet(met: &mut [u32], cell: u32, place: u32) -> u32 {
     let v = cell as usize;
-    let first = cell_at(&*met, v);
+    let first = cell_at(met, v);
     if first == 0 {
         put_cell(met, v, place);
     }
     first
 }
 
-// The rule, where no place is open any more.
-fn ending(open: usize, rule: u32) -> u32 {
-    if open == 0 { rule } else { 0 }
+// A walk over a plan, which lists its branches. It stands at the next cell of the plan and the next rule, and has listed so many branches; and
+// each variable of this rule was first met on the way at a place, 0 where it was not. A branch for a variable has one rule, so that all below it is
+// that rule's.
+// Stays: no number here is a length of the array, which has a place for each variable.
+#[derive(Drop)]
+struct Walk<'a> {
+    list: &'a mut [Branch; BRANCHES],
+    plan: &'a [u32],
+    at: usize,
+    rule: u32,
+    count: u32,
+    met: [u32; ROW_CELLS],
 }
 
-// The branch of a state at which the walk stands. So many places are open below it.
-fn put_branch(list: &mut [u32], plan: &[u32], state: State, open: usize, from: Stand) -> Stand {
-    let cell = cell_at(plan, from.at);
-    let mut met = from.met;
-    let first = meet(&mut met, cell, state.place);
-    let numbers = [
-        state.number,
-        state.depth,
-        state.place,
-        cell,
-        first,
-        ending(open, from.rule),
-    ];
-    put_cells(list, NUMBERS * from.count as usize, &numbers);
-    Stand {
-        at: next(from.at, plan.len()),
-        rule: from.rule,
-        count: more(from.count, BRANCHES as u32),
-        met,
+impl Walk<'_> {
+    // The next cell of the plan; 0 at its end.
+    fn take(&mut self) -> u32 {
+        let cell = cell_at(self.plan, self.at);
+        self.at = self.at.saturating_add(1).min(self.plan.len());
+        cell
     }
-}
 
-// The end of a rule's way: the variables of the next are others.
-fn ended(from: Stand, end: usize) -> Stand {
-    Stand {
-        at: next(from.at, end),
-        rule: more(from.rule, ROWS as u32),
-        count: from.count,
-        met: [0u32; ROW_CELLS],
-    }
-}
-
-// The branches of a state with these open places, and after each of them those below it. A rule has at most 32 symbols, so that no way has more
-// branches.
-fn walk(
-    list: &mut [u32],
-    plan: &[u32],
-    places: &[u32],
-    number: u32,
-    depth: u32,
-    from: Stand,
-) -> Stand {
-    let end = plan.len();
-    if places.len() == 0 {
-        return ended(from, end);
-    }
-    if ROW_CELLS as u32 <= depth {
-        return from;
-    }
-    let index = cell_at(plan, from.at) as usize;
-    let place = cell_at(places, index);
-    let count = next(from.at, end);
-    let mut left = cell_at(plan, count);
-    let mut here = from;
-    here.at = next(count, end);
-    while 0 < left {
-        left -= 1;
-        let mut below = [0u32; ROW_CELLS];
-        let n = put_below(&mut below, places, index, cell_at(plan, here.at));
+    // The branches of a state with these open places, and after each of them those below it. A rule has at most 32 symbols, so that no way has
+    // more branches.
+    fn branches(&mut self, places: &[u32], number: u32, depth: u32) {
+        if places.is_empty() {
+            self.end_rule();
+            return;
+        }
+        if ROW_CELLS as u32 <= depth {
+            return;
+        }
+        let index = self.take() as usize;
+        let place = cell_at(places, index);
         let state = State {
             number,
             depth,
             place,
         };
-        here = put_branch(list, plan, state, n, here);
-        here = walk(list, plan, part(&below, 0, n), here.count, depth + 1, here);
+        let count = self.take();
+        for _branch in 0..count {
+            let cell = self.take();
+            let mut below = [0u32; ROW_CELLS];
+            let n = put_below(&mut below, places, index, cell);
+            self.put_branch(state, cell, n);
+            self.branches(part(&below, 0, n), self.count, depth + 1);
+        }
     }
-    here
+
+    // The branch of a state for a cell. So many places are open below it: where none is, the rule ends there.
+    fn put_branch(&mut self, state: State, cell: u32, open: usize) {
+        let first = meet(&mut self.met, cell, state.place);
+        let at = self.count as usize;
+        if at < self.list.len() {
+            self.list[at] = Branch {
+                state: state.number,
+                depth: state.depth,
+                place: state.place,
+                cell,
+                first,
+                rule: if open == 0 { self.rule } else { 0 },
+            };
+        }
+        self.count = more(self.count, BRANCHES as u32);
+    }
+
+    // The end of a rule's way: the variables of the next are others. A rule's end is a cell of the plan.
+    fn end_rule(&mut self) {
+        self.take();
+        self.rule = more(self.rule, ROWS as u32);
+        self.met = [0; ROW_CELLS];
+    }
 }

@@ -5,14 +5,6 @@
 mod spoiled;
 
 fn main(rt: HostRuntime) {
-    let count = console::arg_count(rt);
-    let mut first = 1;
-    for i in 1..count {
-        if calls::ends(rt, i) {
-            calls::print(rt, b"card", first, i);
-            cardmain::answer_call(rt, first, i);
-            first = i + 1;
-        }
-    }
+    calls::make_each(rt, b"card", cardmain::answer_call);
     spoiled::show_all(rt);
 }

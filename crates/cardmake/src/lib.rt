@@ -1,9 +1,8 @@
 // A card made of a file of facts: its table and the least plan, as bytes.
 #![tactic(auto)]
 
-use reading::Got;
 use refusal::Refusal;
-use shop::{Loaded, Shop};
+use shop::{KEPT, Shop};
 
 // The largest card: 66 blocks.
 pub const CARD: usize = 33792;
@@ -12,8 +11,8 @@ pub const CARD: usize = 33792;
 pub fn make(rt: HostRuntime, path: &[u8], card: &mut [u8], out: &mut [u8]) -> Option<usize> {
     let mut text = [0u8; 65536];
     match reading::read_path(rt, path, &mut text) {
-        Got::Bytes(n) => made_of(rt, path, slices::bytes::part(&text, 0, n), card, out),
-        Got::Failed(why) => {
+        Ok(n) => made_of(rt, path, slices::bytes::part(&text, 0, n), card, out),
+        Err(why) => {
             reading::cannot_read(rt, path, why, out);
             None
         }
@@ -39,17 +38,13 @@ fn made_of(
 
 fn write(text: &[u8], card: &mut [u8]) -> Result<usize, Refusal> {
     let mut room = [0u32; 65536];
-    let mut kept = [0u32; 10244];
-    match shop::load(text, &mut room, &mut kept) {
-        Loaded::Kept(shop) => write_kept(&kept, shop, card),
-        Loaded::Refused(f) => Err(f),
-    }
+    let mut kept = [0u32; KEPT];
+    let shop = shop::load(text, &mut room, &mut kept)?;
+    write_kept(&shop, card)
 }
 
 // A least plan of a table that was read is not refused, and a room of 33,792 bytes is enough for every card.
-fn write_kept(kept: &[u32], shop: Shop, card: &mut [u8]) -> Result<usize, Refusal> {
-    let table = shop::table_in(kept, shop);
-    let plan = shop::plan_in(kept, shop);
-    let written = filewriting::write_file(table, plan, card)?;
+fn write_kept(shop: &Shop<'_>, card: &mut [u8]) -> Result<usize, Refusal> {
+    let written = filewriting::write_file(shop.table, shop.plan, card)?;
     Ok(written.bytes)
 }

@@ -6,8 +6,6 @@ ghost use Rattle.limits.specs.Limits.{most_rows};
 
 use limits::{PLAN_CELLS, TABLE_CELLS};
 use octets::put_word;
-use page::Page;
-use reading::Got;
 use refusal::Refusal;
 use salvaging::Report;
 use slices::cells::part;
@@ -34,8 +32,8 @@ fn mend_file(
     out: &mut [u8],
 ) -> Option<usize> {
     match reading::read_path(rt, path, file) {
-        Got::Bytes(n) => say(rt, path, slices::bytes::part(file, 0, n), card, out),
-        Got::Failed(why) => {
+        Ok(n) => say(rt, path, slices::bytes::part(file, 0, n), card, out),
+        Err(why) => {
             reading::cannot_read(rt, path, why, out);
             None
         }
@@ -57,14 +55,7 @@ fn say(
     }
     match put_mended(out, path, file, card) {
         Ok(mended) => {
-            page::flush(
-                rt,
-                out,
-                Page {
-                    to: mended.report,
-                    open: true,
-                },
-            );
+            page::print(rt, out, mended.report);
             Some(mended.card)
         }
         Err(n) => {

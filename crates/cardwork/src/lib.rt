@@ -2,8 +2,6 @@
 #![tactic(auto)]
 
 use octets::put_word;
-use page::Page;
-use reading::Got;
 use slices::bytes::part;
 
 // One byte more is read than is looked at, 2,048 blocks, so that a longer file is seen to be one.
@@ -15,8 +13,8 @@ pub fn check(rt: HostRuntime, path: &[u8]) {
 
 fn check_file(rt: HostRuntime, path: &[u8], file: &mut [u8], out: &mut [u8]) {
     match reading::read_path(rt, path, file) {
-        Got::Bytes(n) => say(rt, path, part(file, 0, n), out),
-        Got::Failed(why) => reading::cannot_read(rt, path, why, out),
+        Ok(n) => say(rt, path, part(file, 0, n), out),
+        Err(why) => reading::cannot_read(rt, path, why, out),
     }
 }
 
@@ -29,7 +27,7 @@ fn say(rt: HostRuntime, path: &[u8], file: &[u8], out: &mut [u8]) {
     }
     match cardcheck::put_checked(out, a, file) {
         Ok(n) => {
-            page::flush(rt, out, Page { to: n, open: true });
+            page::print(rt, out, n);
         }
         Err(n) => page::complain(rt, out, n),
     }
@@ -43,7 +41,7 @@ pub fn pack(rt: HostRuntime, rules: &[u8], path: Option<&[u8]>) {
         match path {
             Some(path) => keep(rt, path, part(&card, 0, n), &mut out),
             None => {
-                page::flush(rt, &card, Page { to: n, open: true });
+                page::print(rt, &card, n);
             }
         }
     }

@@ -1,4 +1,4 @@
-// A shop's plan as Prolog clauses (02, W-210), and before them the clause that ties the facts' own predicate to the first of them, so that
+// A shop's plan as Prolog clauses and before them the clause that ties the facts' own predicate to the first of them, so that
 // what calls it goes on as it is.
 #![tactic(auto)]
 
@@ -26,13 +26,8 @@ fn put_tie(out: &mut [u8], text: &[u8], p: Predicate) -> usize {
 
 // The clause that ties, and after it the program of the least plan: how many clauses that has, and where all ends. The words come from one text
 // of 65,535 bytes, each at most once, so that a page has room for all.
-pub fn put_clauses(
-    out: &mut [u8],
-    text: &[u8],
-    kept: &[u32],
-    shop: Shop,
-) -> Result<ProgramSize, Refusal> {
-    let to = put_tie(out, text, shop.p);
+pub fn put_clauses(out: &mut [u8], shop: &Shop<'_>) -> Result<ProgramSize, Refusal> {
+    let to = put_tie(out, shop.text, shop.p);
     let end = out.len();
     if end < to {
         return Ok(ProgramSize {
@@ -40,13 +35,7 @@ pub fn put_clauses(
             bytes: end,
         });
     }
-    let size = handing::hand_back(
-        shop::table_in(kept, shop),
-        shop::plan_in(kept, shop),
-        text,
-        shop::names_in(kept, shop),
-        &mut out[to..],
-    )?;
+    let size = handing::hand_back(shop.table, shop.plan, shop.text, shop.names, &mut out[to..])?;
     Ok(ProgramSize {
         clauses: size.clauses,
         bytes: reading::ahead(to, size.bytes, end),

@@ -110,6 +110,7 @@ fn open_by(rt: HostRuntime, how: &OpenOptions, path: &[u8]) -> Result<File, Reas
 }
 
 // What bytes are read from: standard input, or an open file, which is closed when it is let go.
+// Stays: no Option and no Result, since both variants are what bytes are read from.
 #[derive(Drop)]
 pub enum Stream {
     Input(Stdin),
@@ -128,6 +129,7 @@ pub fn open(rt: HostRuntime, path: &[u8]) -> Result<Stream, Reason> {
 }
 
 // A file to be read and written, which is there.
+// Stays: this and `create` differ in the options alone that they give the system; a function for both would be `open_by`, which they call.
 pub fn open_update(rt: HostRuntime, path: &[u8]) -> Result<File, Reason> {
     let mut how = OpenOptions::new();
     how.read(true).write(true);
@@ -135,6 +137,7 @@ pub fn open_update(rt: HostRuntime, path: &[u8]) -> Result<File, Reason> {
 }
 
 // A file to be written, which is not there.
+// Stays: as `open_update`.
 pub fn create(rt: HostRuntime, path: &[u8]) -> Result<File, Reason> {
     let mut how = OpenOptions::new();
     how.write(true).create_new(true);
@@ -194,6 +197,7 @@ pub fn complain(rt: HostRuntime, bytes: &[u8]) {
 }
 
 // The system's words for an error, as std prints it, in a room of its own. What it has no room for is left out.
+// Stays: nothing is allocated, so that they are an array and how much of it is in use.
 #[derive(Drop)]
 struct Words {
     room: [u8; 256],
@@ -264,6 +268,7 @@ pub fn keep_length(file: &mut File) -> Result<(), Reason> {
     }
 }
 
+// Stays: no helper for a list: it writes to a device.
 // All of the bytes into an open file, as far as its device, and the file closed. That the closing fails is not said.
 pub fn fill(mut file: File, bytes: &[u8]) -> Result<(), Reason> {
     file.write_all(bytes)?;

@@ -17,23 +17,54 @@ pub enum Source {
     Line(usize),
 }
 
-// The line before the answers, which tells the answers of several goals apart.
-pub fn say_goal(rt: HostRuntime, goal: &[u8], source: Source, out: &mut [u8], page: Page) -> Page {
-    match source {
-        Source::Only => page,
-        Source::Argument(_) => say_written(rt, goal, out, page),
-        Source::Line(_) => say_written(rt, goal, out, page),
+impl Source {
+    // Before a refusal: the name of what is refused.
+    fn put_name(self, out: &mut [u8], to: usize) -> usize {
+        match self {
+            Source::Only => put_word(out, to, b"goal 1"),
+            Source::Argument(k) => {
+                let on = put_word(out, to, b"goal ");
+                put_decimal(out, on, k)
+            }
+            Source::Line(_) => put_word(out, to, b"standard input"),
+        }
+    }
+
+    // How many lines stand above the goal.
+    fn above(self) -> usize {
+        match self {
+            Source::Only | Source::Argument(_) => 0,
+            Source::Line(n) => n,
+        }
     }
 }
 
-fn say_written(rt: HostRuntime, goal: &[u8], out: &mut [u8], page: Page) -> Page {
-    let p = page::turn(rt, out, page);
-    let to = message::put_goal(
-        out,
-        p.to,
-        slices::bytes::part(goal, start_of(goal), linecut::goal_end(goal)),
-    );
-    Page { to, open: p.open }
+// A goal's text, and where it stands.
+#[derive(Clone, Copy)]
+pub struct Goal<'a> {
+    pub text: &'a [u8],
+    pub source: Source,
+}
+
+impl Goal<'_> {
+    // The line before the answers, which tells the answers of several goals apart.
+    pub fn say(&self, page: &mut Page<'_>) {
+        if let Source::Only = self.source {
+            return;
+        }
+        let goal = self.text;
+        let written = slices::bytes::part(goal, start_of(goal), linecut::goal_end(goal));
+        page.turn();
+        page.to = message::put_goal(page.room, page.to, written);
+    }
+
+    // Why it is refused, to standard error; what is gathered goes before it.
+    pub fn refuse(&self, f: Refusal, page: &mut Page<'_>) {
+        page.flush();
+        let a = self.source.put_name(page.room, 0);
+        let b = refusals::put_refusal(page.room, a, self.text, self.source.above(), Whose::Goal, f);
+        page.complain(b);
+    }
 }
 
 // Where a goal begins, after layout and comments.
@@ -45,113 +76,48 @@ fn start_of(goal: &[u8]) -> usize {
     }
 }
 
-// A rule that fits, and its answer. One that is longer than a line may be is cut.
-pub fn say_answer(
-    rt: HostRuntime,
-    text: &[u8],
-    kept: &[u32],
-    shop: Shop,
-    goal: &[u8],
-    new: &[u32],
-    row: u8,
-    cells: &[u32],
-    out: &mut [u8],
-    page: Page,
-) -> Page {
-    let p = page::turn(rt, out, page);
-    let a = shop::put_rule(out, p.to, kept, row as usize);
-    let b = put_word(out, a, b": ");
-    let c = put_answer(
-        text,
-        shop::names_in(kept, shop),
-        shop,
-        goal,
-        new,
-        cells,
-        out,
-        b,
-    );
-    Page {
-        to: put_byte(out, c, b'\n'),
-        open: p.open,
-    }
+// What a rule that fits, the first being row 0, answers to a goal: cells, in the names of the facts and those of the goal that are new.
+// Stays: no list here is parallel to another, so that each is a slice of its own.
+#[derive(Clone, Copy)]
+pub struct Answer<'a> {
+    pub row: usize,
+    pub goal: &'a [u8],
+    pub new: &'a [u32],
+    pub cells: &'a [u32],
 }
 
-// The answer's text from a place of the room on, in one byte more than a line may have, so that too long a line is seen to be one.
-fn put_answer(
-    text: &[u8],
-    names: &[u32],
-    shop: Shop,
-    goal: &[u8],
-    new: &[u32],
-    cells: &[u32],
-    out: &mut [u8],
-    to: usize,
-) -> usize {
-    if out.len() < to {
-        return to;
+impl Answer<'_> {
+    // The rule and its answer, as a line. One that is longer than a line may be is cut.
+    pub fn say(&self, shop: &Shop<'_>, page: &mut Page<'_>) {
+        page.turn();
+        let a = shop.put_rule(page.room, page.to, self.row);
+        let b = put_word(page.room, a, b": ");
+        let c = self.put_cut(shop, page.room, b);
+        page.to = put_byte(page.room, c, b'\n');
     }
-    if out.len() - to <= page::LINE {
-        return to;
+
+    // Its text from a place of the room on, in one byte more than a line may have, so that too long a line is seen to be one.
+    fn put_cut(&self, shop: &Shop<'_>, out: &mut [u8], to: usize) -> usize {
+        if out.len().saturating_sub(to) <= page::LINE {
+            return to;
+        }
+        let end = to + page::LINE;
+        let n = self.put(shop, &mut out[to..=end]);
+        if n <= page::LINE {
+            return to + n;
+        }
+        put_word(out, end, b" ..")
     }
-    let end = to + page::LINE + 1;
-    let p = shop.p;
-    let line = &mut out[to..end];
-    let n = answertext::put_answer(line, text, names, goal, new, p, cells);
-    if n <= page::LINE {
-        return to + n;
+
+    fn put(&self, shop: &Shop<'_>, line: &mut [u8]) -> usize {
+        answertext::put_answer(
+            line, shop.text, shop.names, self.goal, self.new, shop.p, self.cells,
+        )
     }
-    put_word(out, to + page::LINE, b" ..")
 }
 
 // The rules that fit, and the branches tried of all that there are.
-pub fn say_counts(
-    rt: HostRuntime,
-    rules: usize,
-    tried: usize,
-    branches: usize,
-    out: &mut [u8],
-    page: Page,
-) -> Page {
-    let p = page::turn(rt, out, page);
-    Page {
-        to: message::put_counts(out, p.to, rules, tried, branches),
-        open: p.open,
-    }
-}
-
-// Why a goal is refused, to standard error; what is gathered goes before it.
-pub fn refuse(
-    rt: HostRuntime,
-    goal: &[u8],
-    f: Refusal,
-    source: Source,
-    out: &mut [u8],
-    page: Page,
-) -> Page {
-    let p = page::flush(rt, out, page);
-    let a = put_source(out, source);
-    let b = refusals::put_refusal(out, a, goal, above(source), Whose::Goal, f);
-    page::complain(rt, out, b);
-    p
-}
-
-fn put_source(out: &mut [u8], source: Source) -> usize {
-    match source {
-        Source::Only => put_word(out, 0, b"goal 1"),
-        Source::Argument(k) => {
-            let on = put_word(out, 0, b"goal ");
-            put_decimal(out, on, k)
-        }
-        Source::Line(_) => put_word(out, 0, b"standard input"),
-    }
-}
-
-// How many lines stand above the goal.
-fn above(source: Source) -> usize {
-    match source {
-        Source::Only => 0,
-        Source::Argument(_) => 0,
-        Source::Line(n) => n,
-    }
+pub fn say_counts(rules: usize, tried: usize, branches: usize, page: &mut Page<'_>) {
+    page.turn();
+    page.to = message::put_counts(page.room, page.to, rules, tried, branches);
 }

@@ -9,7 +9,7 @@ use lib.Seq.{drop-cons}
 use borrow.Author.Tests.{eq-eqb, ne_eqb}
 use Rattle.octets.proofs.PutLaws.{Putting, put-ends}
 use Rattle.known.specs.Known.{step_of, columns_typed, list_from, Listing, next_text, list_text}
-use Rattle.known.specs.declared.Listed.TheVariants as listed
+use Rattle.std.specs.Prelude.{Some, None}
 use Rattle.known.specs.declared.Step.TheVariants as step
 
 module _ (word : List ℕ) (i number : ℕ) where
@@ -61,10 +61,10 @@ module _ (word : List ℕ) (i number : ℕ) where
 
 -- what is answered, once all columns are put
 module _ {word room room' : List ℕ} {n : ℕ} where
-  pub no-list : Putting room room' 0 n [] (columns_typed 0 word) → list_from 0 word ≡ false → Listing word room room' listed.NoList
+  pub no-list : Putting room room' 0 n [] (columns_typed 0 word) → list_from 0 word ≡ false → Listing word room room' None
   no-list p e = record { count = n; puts = put-ends p; told = rw e }
 
-  pub is-list : Putting room room' 0 n [] (columns_typed 0 word) → list_from 0 word ≡ true → Listing word room room' (listed.Columns n)
+  pub is-list : Putting room room' 0 n [] (columns_typed 0 word) → list_from 0 word ≡ true → Listing word room room' (Some n)
   is-list p e = record { count = n; puts = put-ends p; told = rw e }
 
 -- columns put as a list, the next one and the end

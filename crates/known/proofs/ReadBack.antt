@@ -14,8 +14,7 @@ use Rattle.octets.specs.Octets.{decimal, Put}
 use Rattle.octets.proofs.DecimalLaws.{decimal-small, decimal-more}
 use Rattle.octets.proofs.PutLaws.{put-found}
 use Rattle.known.specs.Known.{step_of, columns_typed, list_from, Listing, next_text, list_text}
-use Rattle.known.specs.declared.Listed.{Listed}
-use Rattle.known.specs.declared.Listed.TheVariants as listed
+use Rattle.std.specs.Prelude.{Option, Some}
 use Rattle.known.specs.declared.Step.TheVariants as step
 
 step-digit : (number d : ℕ) → number < 100000000 → d < 10 → step_of number (48 + d) ≡ step.Number (10 * number + d)
@@ -88,8 +87,8 @@ reads-list [] h s = absurd (omega arith)
 reads-list (c ∷ columns) h s = reads-number c s.0 (reads_more 0 c columns s.1)
 
 -- what is put for columns, read in a room that is enough: they, and how many they are
-pub read_back : (columns : List ℕ) {room room' : List ℕ} {r : Listed} → 0 < length columns → Small columns → length columns ≤ length room
-    → Listing (list_text 0 columns) room room' r → (r ≡ listed.Columns (length columns)) × (take (length columns) room' ≡ columns)
+pub read_back : (columns : List ℕ) {room room' : List ℕ} {r : Option ℕ} → 0 < length columns → Small columns → length columns ≤ length room
+    → Listing (list_text 0 columns) room room' r → (r ≡ Some (length columns)) × (take (length columns) room' ≡ columns)
 read_back columns {room} {room'} h s l p =
     let reads = reads-list columns h s in
     let put : Put room room' 0 columns p.count = rw reads.those at p.puts in

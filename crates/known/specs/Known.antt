@@ -1,11 +1,9 @@
 -- A list of columns as people write it, `1,3`: numbers from 1 with commas between them. And what is said where a column is not there, as ASCII
 -- bytes.
-use Rattle.std.specs.Prelude.{ℕ, ◌+◌, ◌-◌, ◌*◌, ◌≡◌, Bool, false, cond, not, List, [], ◌∷◌, ◌++◌, eqb, ltb, leb}
+use Rattle.std.specs.Prelude.{ℕ, ◌+◌, ◌-◌, ◌*◌, ◌≡◌, Bool, false, cond, not, Option, Some, None, List, [], ◌∷◌, ◌++◌, eqb, ltb, leb}
 use Rattle.octets.specs.Octets.{Put, decimal}
 use Rattle.message.specs.Words.{ascii}
 use Rattle.message.specs.Message.{numbered_by}
-use Rattle.known.specs.declared.Listed.{Listed}
-use Rattle.known.specs.declared.Listed.TheVariants as listed
 use Rattle.known.specs.declared.Step.{Step}
 use Rattle.known.specs.declared.Step.TheVariants as step
 
@@ -34,10 +32,10 @@ list_from number [] = not (eqb number 0)
 list_from number (b ∷ bytes) = by_step (step_of number b) (λ n. list_from n bytes) (λ c. list_from 0 bytes) false
 
 -- what is read of a word: its columns are put at the front of the room, and how many they are is answered where it is a list
-pub record Listing (word room room' : List ℕ) (r : Listed) : Type 0 where
+pub record Listing (word room room' : List ℕ) (r : Option ℕ) : Type 0 where
   pub count : ℕ
   pub puts : Put room room' 0 (columns_typed 0 word) count
-  pub told : r ≡ cond (list_from 0 word) (listed.Columns count) listed.NoList
+  pub told : r ≡ cond (list_from 0 word) (Some count) None
 
 -- a number of a list, with a comma before it where others stand before it
 unfoldable pub next_text : (before number : ℕ) → List ℕ

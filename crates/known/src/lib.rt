@@ -1,7 +1,7 @@
 // The columns that `--known` lists, columns as such a list, and what is said where one of them is not there.
 #![tactic(auto)]
 
-ghost use Rattle.std.specs.Prelude.{◌≡◌, ◌+◌};
+ghost use Rattle.std.specs.Prelude.{◌≡◌};
 ghost use Rattle.octets.specs.Octets.{Put};
 ghost use Rattle.known.specs.Known.{step_of, Listing, next_text, list_text, column_line};
 
@@ -13,15 +13,8 @@ use octets::{put_byte, put_decimal, put_word};
 // The number of the refusal COLUMN.
 pub const COLUMN: usize = 33;
 
-// So many columns, the first being 0; or the word is no list of columns.
-#[derive(Drop)]
-pub enum Listed {
-    Columns(usize),
-    NoList,
-}
-
 // After a byte of a list: the value of the digits so far; the column that ends there; or it is no list.
-#[derive(Drop)]
+#[derive(Clone, Copy)]
 pub enum Step {
     Number(u32),
     Column(u32),
@@ -32,68 +25,57 @@ pub enum Step {
 fn step_of(number: u32, byte: u8) -> Step
     ensures { result ≡ step_of number byte }
 {
-    if byte == 44 {
+    if byte == b',' {
         if number == 0 {
             return Step::Wrong;
         }
         return Step::Column(number - 1);
     }
-    if byte < 48 {
+    if byte < b'0' {
         return Step::Wrong;
     }
-    if 57 < byte {
+    if b'9' < byte {
         return Step::Wrong;
     }
     if 100000000 <= number {
         return Step::Wrong;
     }
-    Step::Number(10 * number + (byte - 48) as u32)
+    Step::Number(10 * number + (byte - b'0') as u32)
 }
 
-// A list as `1,3`: numbers from 1 with commas between them, in any order, with repeats. What stands before a fault is put all the same.
-pub fn read_list(word: &[u8], columns: &mut [u32]) -> Listed
+// A list as `1,3`: numbers from 1 with commas between them, in any order, with repeats. How many columns it has, the first being 0; nothing where
+// the word is no list. What stands before a fault is put all the same.
+pub fn read_list(word: &[u8], columns: &mut [u32]) -> Option<usize>
     ensures { Listing word.now columns.old columns.new result }
 {
     let mut n = 0;
     let mut number = 0;
-    let mut i = 0;
-    while i < word.len() {
-        let step = step_of(number, word[i]);
-        i += 1;
-        match step {
-            Step::Number(next) => {
-                number = next;
-            }
+    for byte in word {
+        match step_of(number, *byte) {
+            Step::Number(next) => number = next,
             Step::Column(c) => {
                 n = put_cell(columns, n, c);
                 number = 0;
             }
-            Step::Wrong => {
-                return Listed::NoList;
-            }
+            Step::Wrong => return None,
         }
     }
     if number == 0 {
-        return Listed::NoList;
+        return None;
     }
-    Listed::Columns(put_cell(columns, n, number - 1))
+    Some(put_cell(columns, n, number - 1))
 }
 
-// The columns of the list that is an argument; none where it is argument 0. One that is too long for a name is no list.
-pub fn columns_of(rt: HostRuntime, i: usize, columns: &mut [u32]) -> Listed {
-    if i == 0 {
-        return Listed::Columns(0);
+// The columns of the list that is an argument; none where there is no list. One that is too long for a name is no list.
+pub fn columns_of(rt: HostRuntime, list: Option<usize>, columns: &mut [u32]) -> Option<usize> {
+    match list {
+        None => Some(0),
+        Some(i) => {
+            let mut word = [0u8; NAME];
+            let n = console::word(rt, i, &mut word);
+            read_list(&word[..n], columns)
+        }
     }
-    let mut word = [0u8; NAME];
-    let n = console::word(rt, i, &mut word);
-    read_list(&word[..n], columns)
-}
-
-// A column's number, counted from 1.
-fn number_of(column: u32) -> usize
-    ensures { result ≡ column + 1 }
-{
-    column as usize + 1
 }
 
 // The next number of a list, before which so many stand.
@@ -112,10 +94,8 @@ pub fn put_list(out: &mut [u8], to: usize, columns: &[u32]) -> usize
     ensures { Put out.old out.new to (list_text 0 columns.now) result }
 {
     let mut on = to;
-    let mut i = 0;
-    while i < columns.len() {
-        on = put_next(out, on, i, number_of(columns[i]));
-        i += 1;
+    for (before, column) in columns.iter().enumerate() {
+        on = put_next(out, on, before, *column as usize + 1);
     }
     on
 }

@@ -2,106 +2,60 @@
 #![tactic(auto)]
 
 use console::{NAME, Stream};
-use lex::name::same_bytes;
+use goalfile::Rooms;
+use page::Page;
 use shop::Shop;
-use slices::cells::part;
 
-// The file of goals that an argument names, `-` being standard input. One that is too long for a name names none.
-pub fn answer(
-    rt: HostRuntime,
-    jobs: usize,
-    path: &[u8],
-    text: &[u8],
-    kept: &mut [u32],
-    shop: Shop,
-    room: &mut [u32],
-    out: &mut [u8],
-) {
+// For rules from a file of that name, the file of goals that an argument names, `-` being standard input. One that is too long for a name names none.
+pub fn answer(shop: Shop<'_>, path: &[u8], jobs: usize, room: &mut [u32], page: &mut Page<'_>) {
     let mut name = [0u8; NAME];
-    match console::arg(rt, jobs, &mut name) {
-        Ok(n) => open(rt, &name[..n], path, text, kept, shop, room, out),
-        Err(why) => console::fail(rt, b"cannot read JOBS", why),
+    match console::arg(page.rt, jobs, &mut name) {
+        Ok(n) => open(shop, path, &name[..n], room, page),
+        Err(why) => console::fail(page.rt, b"cannot read JOBS", why),
     }
 }
 
-fn open(
-    rt: HostRuntime,
-    jobs: &[u8],
-    path: &[u8],
-    text: &[u8],
-    kept: &mut [u32],
-    shop: Shop,
-    room: &mut [u32],
-    out: &mut [u8],
-) {
-    if same_bytes(jobs, b"-") {
-        let mut stream = console::input(rt);
-        lend(
-            rt,
-            &mut stream,
-            b"standard input",
-            path,
-            text,
-            kept,
-            shop,
-            room,
-            out,
-        );
+fn open(shop: Shop<'_>, path: &[u8], jobs: &[u8], room: &mut [u32], page: &mut Page<'_>) {
+    if let b"-" = jobs {
+        let stream = console::input(page.rt);
+        lend(shop, path, b"standard input", stream, room, page);
         return;
     }
-    match console::open(rt, jobs) {
-        Ok(mut stream) => lend(rt, &mut stream, jobs, path, text, kept, shop, room, out),
-        Err(why) => reading::cannot_read(rt, jobs, why, out),
+    match console::open(page.rt, jobs) {
+        Ok(stream) => lend(shop, path, jobs, stream, room, page),
+        Err(why) => reading::cannot_read(page.rt, jobs, why, page.room),
     }
 }
 
 // The rooms for the goals: 800,000 cells in all, and two words for each of 100,000. They take 4.8 MB of the 8 that a program has as a rule, of which
-// its arguments may take 2. It is called in two places, so that it is compiled as a function of its own: other calls of the program do not pay
-// for its rooms.
+// its arguments may take 2. It is compiled as a function of its own: other calls of the program do not pay for its rooms.
+#[inline(never)]
 fn lend(
-    rt: HostRuntime,
-    stream: &mut Stream,
-    jobs: &[u8],
+    shop: Shop<'_>,
     path: &[u8],
-    text: &[u8],
-    kept: &mut [u32],
-    shop: Shop,
+    jobs: &[u8],
+    stream: Stream,
     room: &mut [u32],
-    out: &mut [u8],
+    page: &mut Page<'_>,
 ) {
     let mut cells = [0u32; 800000];
     let mut list = [0usize; 200000];
-    gather(
-        rt, stream, jobs, path, text, kept, shop, &mut cells, &mut list, room, out,
-    );
+    gather(shop, path, jobs, stream, &mut cells, &mut list, room, page);
 }
 
+// Stays: what `lend` lends, so that its rooms and their proof stand in a function of their own.
 fn gather(
-    rt: HostRuntime,
-    stream: &mut Stream,
-    jobs: &[u8],
+    shop: Shop<'_>,
     path: &[u8],
-    text: &[u8],
-    kept: &mut [u32],
-    shop: Shop,
+    jobs: &[u8],
+    stream: Stream,
     cells: &mut [u32],
     list: &mut [usize],
     room: &mut [u32],
-    out: &mut [u8],
+    page: &mut Page<'_>,
 ) {
-    let last = goalfile::gather(rt, stream, jobs, text, &*kept, shop, cells, list, room, out);
-    if goalfile::is_whole(last) {
-        let held = last.held;
-        bestplan::print(
-            rt,
-            path,
-            text,
-            kept,
-            shop,
-            part(&*cells, 0, held.cells),
-            goallist::words(&*list, held),
-            last.refused,
-            out,
-        );
+    let rooms = Rooms { cells, list };
+    if let Some(goals) = goalfile::gather(jobs, stream, shop, rooms, room, page) {
+        bestplan::print(shop, path, goals, page);
     }
 }
