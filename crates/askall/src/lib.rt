@@ -67,7 +67,7 @@ fn ask_arguments(
     page: &mut Page<'_>,
 ) {
     for i in goals.first..goals.end {
-        if !page.open {
+        if !page.going {
             return;
         }
         let n = console::front(page.rt, i, buf);

@@ -12,7 +12,7 @@ use page::Page;
 pub fn ask_lines(ready: &Ready<'_>, buf: &mut [u8], sheet: &mut Sheet<'_>, page: &mut Page<'_>) {
     let mut lines = Lines::new(console::input(page.rt), buf);
     for _turn in 0..usize::MAX {
-        if !lines.open || !page.open {
+        if !lines.going || !page.going {
             return;
         }
         ask_next(ready, &mut lines, sheet, page);

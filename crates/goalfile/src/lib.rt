@@ -92,7 +92,7 @@ fn gather_lines(
     let mut held = Held { cells: 0, words: 0 };
     let mut refused = 0;
     for _turn in 0..usize::MAX {
-        if !lines.open {
+        if !lines.going {
             break;
         }
         let piece = lines.next()?;

@@ -38,13 +38,13 @@ pub struct Lines<'a> {
     to: usize,
     above: usize,
     inside: bool,
-    pub open: bool,
+    pub going: bool,
 }
 
 impl<'a> Lines<'a> {
     // Before anything is read.
     pub fn new(stream: Stream, buf: &'a mut [u8]) -> Self
-        ensures { result.open ≡ true }
+        ensures { result.going ≡ true }
     {
         Lines {
             stream,
@@ -53,7 +53,7 @@ impl<'a> Lines<'a> {
             to: 0,
             above: 0,
             inside: false,
-            open: true,
+            going: true,
         }
     }
 
@@ -66,7 +66,7 @@ impl<'a> Lines<'a> {
 
     // The next piece, of which some bytes may be read already. Where the reading fails, it ends.
     pub fn next(&mut self) -> Result<Piece, Reason>
-        ensures { OnErr result (self.new.open ≡ false) }
+        ensures { OnErr result (self.new.going ≡ false) }
     {
         let from = self.from;
         let to = self.to;
@@ -75,14 +75,14 @@ impl<'a> Lines<'a> {
             return Ok(self.line(from, end, to));
         }
         let have = linecut::move_front(self.buf, from, to);
-        self.open = false;
+        self.going = false;
         self.read_piece(have)
     }
 
     // The piece that begins at the front of the buffer, of which so many bytes are there and none of them is a line feed.
     fn read_piece(&mut self, have: usize) -> Result<Piece, Reason>
-        requires { self.old.open ≡ false }
-        ensures { OnErr result (self.new.open ≡ false) }
+        requires { self.old.going ≡ false }
+        ensures { OnErr result (self.new.going ≡ false) }
     {
         let mut to = have;
         while to < self.buf.len() {
@@ -102,8 +102,8 @@ impl<'a> Lines<'a> {
 
     // Some bytes behind those that there are; how many.
     fn read_behind(&mut self, to: usize) -> Result<usize, Reason>
-        requires { self.old.open ≡ false }
-        ensures shut { self.new.open ≡ false }
+        requires { self.old.going ≡ false }
+        ensures shut { self.new.going ≡ false }
         ensures same_length { length self.new.buf.now ≡ length self.old.buf.now }
     {
         let Lines { stream, buf, .. } = self;
@@ -117,7 +117,7 @@ impl<'a> Lines<'a> {
         self.to = to;
         self.above = marks::further(self.above, 1);
         self.inside = false;
-        self.open = true;
+        self.going = true;
         piece
     }
 
@@ -128,7 +128,7 @@ impl<'a> Lines<'a> {
         self.from = 0;
         self.to = 0;
         self.inside = goes_on;
-        self.open = goes_on;
+        self.going = goes_on;
         piece
     }
 

@@ -17,31 +17,31 @@ pub struct Page<'a> {
     pub rt: HostRuntime,
     pub room: &'a mut [u8],
     pub to: usize,
-    pub open: bool,
+    pub going: bool,
 }
 
 impl<'a> Page<'a> {
     // A room with nothing in it yet.
     pub fn new(rt: HostRuntime, room: &'a mut [u8]) -> Self
         ensures empty { result.to ≡ 0 }
-        ensures open { result.open ≡ true }
+        ensures going { result.going ≡ true }
     {
         Page {
             rt,
             room,
             to: 0,
-            open: true,
+            going: true,
         }
     }
 
     // Writes what is gathered. The first write that fails is said, and ends all printing.
     pub fn flush(&mut self)
         ensures written { self.new.to ≡ 0 }
-        ensures closed { self.old.open ≡ false → self.new.open ≡ false }
+        ensures closed { self.old.going ≡ false → self.new.going ≡ false }
     {
         let to = self.to;
         self.to = 0;
-        self.open = self.open && print(self.rt, self.room, to);
+        self.going = self.going && print(self.rt, self.room, to);
     }
 
     // Space for one line.
