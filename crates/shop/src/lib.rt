@@ -39,7 +39,13 @@ pub fn load(text: &[u8], room: &mut [u32], kept: &mut [u32]) -> Loaded {
 pub fn load_for(text: &[u8], columns: &[u32], room: &mut [u32], kept: &mut [u32]) -> Loaded {
     let mut names = [0u32; 32766];
     match prolog::read_text(text, room, &mut names) {
-        Ok(n) => keep(text, columns, part(&names, 0, n.names), part(&*room, 0, n.cells), kept),
+        Ok(n) => keep(
+            text,
+            columns,
+            part(&names, 0, n.names),
+            part(&*room, 0, n.cells),
+            kept,
+        ),
         Err(f) => Loaded::Refused(f),
     }
 }
@@ -53,13 +59,7 @@ pub fn measure() -> By {
 fn keep(text: &[u8], columns: &[u32], names: &[u32], table: &[u32], kept: &mut [u32]) -> Loaded {
     let mut plan = [0u32; PLAN_CELLS];
     match builder::build_for(measure(), columns, table, &mut plan) {
-        Ok(built) => Loaded::Kept(put_lists(
-            text,
-            names,
-            table,
-            part(&plan, 0, built.cells),
-            kept,
-        )),
+        Ok(built) => Loaded::Kept(put_lists(text, names, table, part(&plan, 0, built.cells), kept)),
         Err(f) => Loaded::Refused(f),
     }
 }
