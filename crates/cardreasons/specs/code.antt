@@ -1,0 +1,2 @@
+-- the words by the number of a reason
+pub mod Numbers
