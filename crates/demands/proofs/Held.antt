@@ -57,7 +57,7 @@ use Rattle.clauses.specs.Handed as hands
 use Rattle.clauses.proofs.Fixed as clauses
 use Rattle.filing.specs.Files.{FileWritten, FileLoaded}
 use Rattle.filing.specs.Answers.{written_told, contents_told}
-use Rattle.filing.specs.declared.Written.{Written}
+use Rattle.filing.specs.declared.Written as filed
 use Rattle.filing.specs.declared.Contents.{Contents}
 use Rattle.filing.proofs.Fixed.{write-file-fixed, read-file-fixed}
 use Rattle.salvaging.specs.Salvage.{Salvaged}
@@ -124,7 +124,7 @@ pub held-clauses : {t p text names room room' room'' : List ℕ} {r s : Result P
     → hands.Handed t p text names room room'' s → (r ≡ s) × (room' ≡ room'')
 held-clauses = clauses.handed-fixed
 
-pub held-write-file : {t p room room' room'' : List ℕ} {r s : Result Written Refusal} → FileWritten t p room room' (written_told r)
+pub held-write-file : {t p room room' room'' : List ℕ} {r s : Result filed.Written Refusal} → FileWritten t p room room' (written_told r)
     → FileWritten t p room room'' (written_told s) → (r ≡ s) × (room' ≡ room'')
 held-write-file = write-file-fixed
 
