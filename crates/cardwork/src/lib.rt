@@ -4,7 +4,10 @@
 use octets::put_word;
 use slices::bytes::part;
 
+// What a card needs of the stack is the most of these three, each with its own arrays, and not their sum.
+
 // One byte more is read than is looked at, 2,048 blocks, so that a longer file is seen to be one.
+#[inline(never)]
 pub fn check(rt: HostRuntime, path: &[u8]) {
     let mut file = [0u8; 1048577];
     let mut out = [0u8; 8192];
@@ -34,6 +37,7 @@ fn say(rt: HostRuntime, path: &[u8], file: &[u8], out: &mut [u8]) {
 }
 
 // A card of rules, to a file where one is named, and otherwise to standard output.
+#[inline(never)]
 pub fn pack(rt: HostRuntime, rules: &[u8], path: Option<&[u8]>) {
     let mut card = [0u8; 33792];
     let mut out = [0u8; 8192];
@@ -48,6 +52,7 @@ pub fn pack(rt: HostRuntime, rules: &[u8], path: Option<&[u8]>) {
 }
 
 // What can be had of a bad card, reported, and a card of that to a file where one is named. A report of 2,047 bad blocks has 11,234 bytes at most.
+#[inline(never)]
 pub fn mend(rt: HostRuntime, bad: &[u8], path: Option<&[u8]>) {
     let mut card = [0u8; 33792];
     let mut out = [0u8; 12288];
