@@ -25,31 +25,12 @@ fn refused(rt: HostRuntime, f: Refusal) {
     say(rt, b"\n");
 }
 
-fn wide(c: u32) -> usize {
-    c as usize
-}
-
-fn wide8(b: u8) -> usize {
-    b as usize
-}
-
-// Some cells, or some bytes.
-fn cells(rt: HostRuntime, xs: &[u32]) {
-    let mut i = 0;
-    while i < xs.len() {
+// Some cells, or some bytes, to the end of the line.
+fn numbers<T: Copy + Into<u32>>(rt: HostRuntime, xs: &[T]) {
+    for x in xs {
+        let n: u32 = (*x).into();
         say(rt, b" ");
-        number(rt, wide(xs[i]));
-        i += 1;
-    }
-    say(rt, b"\n");
-}
-
-fn bytes(rt: HostRuntime, xs: &[u8]) {
-    let mut i = 0;
-    while i < xs.len() {
-        say(rt, b" ");
-        number(rt, wide8(xs[i]));
-        i += 1;
+        number(rt, n as usize);
     }
     say(rt, b"\n");
 }
@@ -66,7 +47,7 @@ pub fn read(rt: HostRuntime, table: &[u32]) {
     }
 }
 
-// The builder's plan by 01's measure, and by the work with a figure.
+// The builder's plan by the measure of branches, and by the work with a figure.
 pub fn build(rt: HostRuntime, table: &[u32]) {
     let mut room = [0u32; 128];
     build_into(rt, By::Branches, table, &mut room);
@@ -75,7 +56,7 @@ pub fn build(rt: HostRuntime, table: &[u32]) {
 pub fn build_work(rt: HostRuntime, figure: u32, table: &[u32]) {
     let mut room = [0u32; 128];
     say(rt, b"figure ");
-    number(rt, wide(figure));
+    number(rt, figure as usize);
     say(rt, b" ");
     build_into(rt, By::Work(figure), table, &mut room);
 }
@@ -86,7 +67,7 @@ fn build_into(rt: HostRuntime, by: By, table: &[u32], room: &mut [u32]) {
             say(rt, b"cost ");
             number(rt, built.cost);
             say(rt, b", plan");
-            cells(rt, &room[..built.cells]);
+            numbers(rt, &room[..built.cells]);
         }
         Err(f) => refused(rt, f),
     }
@@ -124,13 +105,13 @@ fn ask_plan(rt: HostRuntime, table: &[u32], plan: &[u32], goal: &[u32], hits: &m
             say(rt, b"tried ");
             number(rt, ran.tried);
             say(rt, b", rows");
-            bytes(rt, &hits[..ran.hits]);
+            numbers(rt, &hits[..ran.hits]);
         }
         Err(f) => refused(rt, f),
     }
 }
 
-// What the least plan costs: by 01's measure, and by the work with the figures 0 and 3.
+// What the least plan costs: by the measure of branches, and by the work with the figures 0 and 3.
 pub fn costs(rt: HostRuntime, table: &[u32]) {
     say(rt, b"costs");
     cost(rt, By::Branches, table);
