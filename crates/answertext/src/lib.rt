@@ -17,6 +17,16 @@ use limits::REPLY_CELLS;
 use octets::{put_byte, put_decimal, put_word};
 use termtext::Predicate;
 
+// The names that an answer is said in: those of the text that the table was read from, and the goal's own.
+// Stays: `put_symbol`, `put_terms`, `put_answer` and `measure::terms_bytes` take the four slices one by one, as other crates call them.
+#[derive(Clone, Copy)]
+struct Dictionary<'a> {
+    text: &'a [u8],
+    names: &'a [u32],
+    goal: &'a [u8],
+    new: &'a [u32],
+}
+
 // The word at a number of one list; nothing for a number that the list has not.
 pub fn put_listed(out: &mut [u8], to: usize, text: &[u8], names: &[u32], k: usize) -> usize
     ensures { Put out.old out.new to (get_or (words_in text.now names.now) k []) result }
@@ -28,22 +38,34 @@ pub fn put_listed(out: &mut [u8], to: usize, text: &[u8], names: &[u32], k: usiz
 }
 
 // The word of a name by its number: the table's names come first, and the goal's new ones are numbered on from them.
-fn put_name(
-    out: &mut [u8],
-    to: usize,
-    text: &[u8],
-    names: &[u32],
-    goal: &[u8],
-    new: &[u32],
-    k: usize,
-) -> usize
+fn put_name(out: &mut [u8], to: usize, words: &Dictionary, k: usize) -> usize
     ensures { Put out.old out.new to
-        (get_or (words_of text.now names.now goal.now new.now) k []) result }
+        (get_or (words_of words.now.text.now words.now.names.now words.now.goal.now words.now.new.now)
+        k []) result }
 {
+    let names = words.names;
     if k < names.len() {
-        return put_listed(out, to, text, names, k);
+        return put_listed(out, to, words.text, names, k);
     }
-    put_listed(out, to, goal, new, k - names.len())
+    put_listed(out, to, words.goal, words.new, k - names.len())
+}
+
+// A symbol's word in these names.
+fn put_symbol_in(out: &mut [u8], to: usize, words: &Dictionary, c: u32) -> usize
+    ensures { Put out.old out.new to
+        (symbol_word
+        (words_of words.now.text.now words.now.names.now words.now.goal.now words.now.new.now)
+        (values_at c)) result }
+{
+    match cell::shape_of(c) {
+        Shape::Variable(n) => {
+            let on = put_byte(out, to, b'_');
+            put_decimal(out, on, n as usize)
+        }
+        Shape::Name(_, n) => put_name(out, to, words, n as usize),
+        Shape::Number(_) => printing::put_value(out, to, c),
+        Shape::Refused => to,
+    }
 }
 
 // A symbol's word.
@@ -59,15 +81,13 @@ pub fn put_symbol(
     ensures { Put out.old out.new to
         (symbol_word (words_of text.now names.now goal.now new.now) (values_at c)) result }
 {
-    match cell::shape_of(c) {
-        Shape::Variable(n) => {
-            let on = put_byte(out, to, b'_');
-            put_decimal(out, on, n as usize)
-        }
-        Shape::Name(_, n) => put_name(out, to, text, names, goal, new, n as usize),
-        Shape::Number(_) => printing::put_value(out, to, c),
-        Shape::Refused => to,
-    }
+    let words = Dictionary {
+        text,
+        names,
+        goal,
+        new,
+    };
+    put_symbol_in(out, to, &words, c)
 }
 
 // Where the text goes on, and how many brackets are open.
@@ -83,19 +103,17 @@ fn put_closing(out: &mut [u8], to: usize, owed: &mut [usize], depth: usize) -> S
     ensures { Closes out.old out.new to owed.old owed.new depth result }
 {
     let mut on = to;
-    let mut left = depth;
-    while 0 < left {
-        let n = owed[left - 1];
+    for level in (0..depth).rev() {
+        let n = owed[level];
         if 1 < n {
-            owed[left - 1] = n - 1;
+            owed[level] = n - 1;
             on = put_word(out, on, b", ");
             return Spot {
                 to: on,
-                depth: left,
+                depth: level + 1,
             };
         }
         on = put_byte(out, on, b')');
-        left -= 1;
     }
     Spot { to: on, depth: 0 }
 }
@@ -121,28 +139,23 @@ fn put_mark(out: &mut [u8], to: usize, owed: &mut [usize], depth: usize, args: u
 fn put_counted(
     out: &mut [u8],
     to: usize,
-    text: &[u8],
-    names: &[u32],
-    goal: &[u8],
-    new: &[u32],
+    words: &Dictionary,
     owed: &mut [usize],
     cells: &[u32],
 ) -> usize
     requires { (length cells.now < length owed.old) × (length cells.now ≤ most_reply_cells) }
     ensures { Put out.old out.new to
-        (terms_text (words_of text.now names.now goal.now new.now) (levels owed.old 1)
-        cells.now) result }
+        (terms_text
+        (words_of words.now.text.now words.now.names.now words.now.goal.now words.now.new.now)
+        (levels owed.old 1) cells.now) result }
 {
     let mut on = to;
     let mut depth = 1;
-    let mut i = 0;
-    while i < cells.len() {
-        let c = cells[i];
-        on = put_symbol(out, on, text, names, goal, new, c);
-        let next = put_mark(out, on, owed, depth, cell::arity_of(c));
+    for c in cells {
+        on = put_symbol_in(out, on, words, *c);
+        let next = put_mark(out, on, owed, depth, cell::arity_of(*c));
         on = next.to;
         depth = next.depth;
-        i += 1;
     }
     on
 }
@@ -165,14 +178,20 @@ pub fn put_terms(
     if REPLY_CELLS < cells.len() {
         return to;
     }
+    let words = Dictionary {
+        text,
+        names,
+        goal,
+        new,
+    };
     if cells.len() < 64 {
         let mut few = [0usize; 64];
         few[0] = width;
-        return put_counted(out, to, text, names, goal, new, &mut few, cells);
+        return put_counted(out, to, &words, &mut few, cells);
     }
     let mut owed = [0usize; 1025];
     owed[0] = width;
-    put_counted(out, to, text, names, goal, new, &mut owed, cells)
+    put_counted(out, to, &words, &mut owed, cells)
 }
 
 // "The answer as Prolog text in the file's own names", at the front of the room.

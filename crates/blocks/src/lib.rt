@@ -1,4 +1,4 @@
-// Blocks of a file (02, W-211): the two running sums, the sound blocks of a file, a block put into a lent room of bytes.
+// Blocks of a file: the two running sums, the sound blocks of a file, a block put into a lent room of bytes.
 #![tactic(auto)]
 
 ghost use Rattle.std.specs.Prelude.{◌≡◌, ◌+◌, ◌*◌, ◌≤◌, ◌∷◌, length};
@@ -17,31 +17,24 @@ pub struct Checks {
 pub fn sums(number: u32, cells: &[u32]) -> Checks
     ensures { (result.one ≡ first 1 (number ∷ cells.now)) × (result.two ≡ second 1 0 (number ∷ cells.now)) }
 {
-    let mut one = std::num::wrapping_add_u32(1, number);
-    let mut two = std::num::wrapping_add_u32(0, one);
-    let mut i = 0;
-    while i < cells.len() {
-        one = std::num::wrapping_add_u32(one, cells[i]);
-        two = std::num::wrapping_add_u32(two, one);
-        i += 1;
+    let mut one = number.wrapping_add(1);
+    // from 0, with the first sum added
+    let mut two = one;
+    for c in cells {
+        one = one.wrapping_add(*c);
+        two = two.wrapping_add(one);
     }
     Checks { one, two }
 }
 
-// A cell as a number that is as wide as a place. Numbers are compared so: a block at place 2^32 or later can have no right number.
-fn wide(c: u32) -> usize
-    ensures { result ≡ c }
-{
-    c as usize
-}
-
-// Whether 128 words are the block of this number: its number and both check words.
+// Whether 128 words are the block of this number: its number and both check words. Numbers are compared as places, so that a block at place
+// 2^32 or later can have no right number.
 fn is_sound(number: usize, block: &[u32]) -> bool
     requires { length block.now ≡ 128 }
     ensures { result ≡ sound number block.now }
 {
     let s = sums(block[0], &block[1..126]);
-    if wide(block[0]) != number {
+    if block[0] as usize != number {
         return false;
     }
     if block[126] != s.one {
@@ -68,15 +61,13 @@ fn run_in(file: &[u8], from: usize, block: &mut [u32], room: &mut [u32]) -> usiz
 {
     let count = file.len() / 512;
     let mut on = 0;
-    let mut i = from;
-    while i < count {
+    for i in from..count {
         if !look(file, i, block) {
             return i - from;
         }
         on = octets::cells::put_cells(room, on, &block[1..126]);
-        i += 1;
     }
-    i - from
+    count.saturating_sub(from)
 }
 
 // The sound blocks of a file from one on, up to the first that is not: how many they are. Their cells are put at the front of a room, as

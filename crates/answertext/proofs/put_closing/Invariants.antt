@@ -13,9 +13,6 @@ Still out₀ out to on owed left owed₀ depth =
     Putting out₀ out to on (closing (levels owed left)) (closing (levels owed₀ depth))
     × (owing (levels owed left) ≡ owing (levels owed₀ depth))
 
-abbrev pub invariant-loop-left : goal.invariant-loop-left
-invariant-loop-left l =
-    (l.left ≤ l.depth) × (length l.owed ≡ length l.initial.owed) × Still l.initial.out l.out l.to l.on l.owed l.left l.initial.owed l.depth
-
-abbrev pub decreases-loop-left : goal.decreases-loop-left
-decreases-loop-left l = l.left
+abbrev pub invariant-loop-level : goal.invariant-loop-level
+invariant-loop-level l =
+    (l.level ≤ l.depth) × (length l.owed ≡ length l.initial.owed) × Still l.initial.out l.out l.to l.on l.owed l.level l.initial.owed l.depth
