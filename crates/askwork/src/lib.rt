@@ -37,8 +37,10 @@ fn show(shop: Shop<'_>, facts: Facts<'_>, call: Call, room: &mut [u32], page: &m
         end: call.end,
     };
     match call.print {
-        Print::Answers => askall::answer_all(shop, goals, Counting::Answers, room, page),
-        Print::Counts => askall::answer_all(shop, goals, Counting::Counts, room, page),
+        // One call for both: called in two places it has rooms of its own on the stack, 83 kB more.
+        Print::Answers | Print::Counts => {
+            askall::answer_all(shop, goals, counting_of(call.print), room, page);
+        }
         Print::Tree => {
             treetext::print(&shop, page);
             page.flush();
@@ -49,6 +51,13 @@ fn show(shop: Shop<'_>, facts: Facts<'_>, call: Call, room: &mut [u32], page: &m
         }
         Print::Clauses => show_clauses(shop, facts, page),
         Print::Tuned(jobs) => tune::answer(shop, facts.path, jobs, room, page),
+    }
+}
+
+fn counting_of(print: Print) -> Counting {
+    match print {
+        Print::Counts => Counting::Counts,
+        _ => Counting::Answers,
     }
 }
 

@@ -101,7 +101,7 @@ fn meet(met: &mut [u32], cell: u32, place: u32) -> u32 {
 // A walk over a plan, which lists its branches. It stands at the next cell of the plan and the next rule, and has listed so many branches; and
 // each variable of this rule was first met on the way at a place, 0 where it was not. A branch for a variable has one rule, so that all below it is
 // that rule's.
-// Stays: no number here is a length of the array, which has a place for each variable.
+// Stays: nothing is allocated, so that the list is a lent array and how much of it is in use; `met` has a place for each variable.
 #[derive(Drop)]
 struct Walk<'a> {
     list: &'a mut [Branch; BRANCHES],

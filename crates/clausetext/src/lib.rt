@@ -1,4 +1,4 @@
-// A shop's plan as Prolog clauses and before them the clause that ties the facts' own predicate to the first of them, so that
+// A shop's plan as Prolog clauses, and before them the clause that ties the facts' own predicate to the first of them, so that
 // what calls it goes on as it is.
 #![tactic(auto)]
 

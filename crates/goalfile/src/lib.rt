@@ -79,7 +79,7 @@ pub fn gather<'a>(
 }
 
 // There is an end to every file.
-// Stays: each room is lent by itself, since two that are fields of one struct behind a reference cannot be lent in one call yet.
+// Stays: each room is lent by itself, since two that are both lent slices of one struct behind a reference cannot be lent in one call yet.
 fn gather_lines(
     jobs: &[u8],
     lines: &mut Lines<'_>,
