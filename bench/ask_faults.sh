@@ -54,6 +54,9 @@ say 'a reader that is gone after a line, and goals without end'
     trap '' PIPE
     yes "$goal" 2>/dev/null | $ask shop.pl | head -n 1
 )
+say 'two goals of 60,000 bytes as arguments, in the stack that --help names'
+long=$(printf 'rule(9, red, ring,%60000sFiring)' '')
+(ulimit -s 1024 && $ask shop.pl "$long" "$long") | cut -c 1-60
 say 'an argument too many, one too few, one that there is not'
 $ask --plan shop.pl "$goal"
 $ask --dot shop.pl "$goal"
