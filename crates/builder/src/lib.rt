@@ -38,7 +38,7 @@ fn put(from: &[u32; PLAN_CELLS], plan: Extent, room: &mut [u32]) -> Result<Built
             place: size,
         });
     }
-    room[..size].copy_from_slice(&from[..size]);
+    octets::cells::put_cells(room, 0, &from[..size]);
     Ok(BuiltPlan {
         cells: size,
         cost: plan.cost as usize,

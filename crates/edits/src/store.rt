@@ -16,7 +16,7 @@ pub fn copy(out: &mut [u32], at: usize, cells: &[u32])
     requires { at + length cells.now ≤ length out.old }
     ensures { out.new ≡ sets out.old at cells.now }
 {
-    out[at..at + cells.len()].copy_from_slice(cells);
+    octets::cells::put_cells(out, at, cells);
 }
 
 // A small number is put at a place.

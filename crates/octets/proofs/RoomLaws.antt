@@ -1,14 +1,13 @@
 -- Elements put into a room: none, one, and as many as there is room for.
 use mathlib.Core.Path.{◌≡◌, sym, ap, ap₂, ◌∙◌}
-use mathlib.Core.List.{List, [], ◌∷◌, ◌++◌, append_assoc}
+use mathlib.Core.List.{List, [], ◌∷◌, ◌++◌}
 use mathlib.Core.Logic.{by_cases}
 use Prim.Native.Nat.{ℕ, ◌+◌, ◌-◌, ◌≤◌, ◌<◌, min}
 use native.Mathlib.Nat.{add-zero}
 use native.Mathlib.Omega.{arith}
 use native.Mathlib.Decide.{dec_le}
-use borrow.Rule.Slice.PartMut.{put_mid}
 use lib.ListN.{length, set, take, drop}
-use lib.Seq.{sets-eq, take_all, length-take-le, drop-drop}
+use lib.Seq.{paste, sets-eq, take_all, length-take-le}
 use Rattle.octets.specs.Octets.{Put}
 use Rattle.octets.specs.code.Room.{Puts}
 
@@ -31,19 +30,15 @@ taken xs n m e =
     (ap (λ (k : ℕ). take k xs) q ∙ take_all (length xs) xs (omega arith) ∙ sym (take_all m xs h), ap length (take_all m xs h) ∙ sym q)))
     (λ h. (let q : n ≡ m = omega (arith, e, h) in (ap (λ (k : ℕ). take k xs) q, length-take-le m xs (omega arith) ∙ sym q)))
 
-pub puts-part : {A : Type 0} (out xs new : List A) (to n : ℕ) → to < length out → n ≡ min (length xs) (length out - to) → new ≡ take n xs
-    → Puts out (put_mid to (to + n - to) out new) to xs (to + n)
-puts-part out xs new to n h e f =
+pub puts-pasted : {A : Type 0} (out xs : List A) (to n : ℕ) → to < length out → n ≡ min (length xs) (length out - to)
+    → Puts out (paste out to xs n) to xs (to + n)
+puts-pasted out xs to n h e =
     let text = take (length out - to) xs in
     let t = taken xs n (length out - to) e in
     let room : to + length text ≤ length out = omega (arith, t.1, e) in
-    let k : to + n - to ≡ n = omega arith in
-    let rest : drop (to + n - to) (drop to out) ≡ drop (to + length text) out =
-    ap (λ (i : ℕ). drop i (drop to out)) k ∙ drop-drop n to out ∙ ap (λ (i : ℕ). drop (to + i) out) (sym t.1) in
+    let rest : drop (to + n) out ≡ drop (to + length text) out = ap (λ (i : ℕ). drop (to + i) out) (sym t.1) in
     record {
-      wrote =
-          ap₂ (λ ys zs. take to out ++ (ys ++ zs)) (f ∙ t.0) rest
-          ∙ sym (append_assoc (take to out) text (drop (to + length text) out)) ∙ sym (sets-eq text out to room);
+      wrote = ap₂ (λ ys zs. take to out ++ ys ++ zs) t.0 rest ∙ sym (sets-eq text out to room);
       after = ap (λ (i : ℕ). to + i) (sym t.1);
     }
 

@@ -27,7 +27,9 @@ fn put_all<T: Copy>(out: &mut [T], to: usize, xs: &[T]) -> usize
         return to;
     }
     let n = xs.len().min(out.len() - to);
-    out[to..to + n].copy_from_slice(&xs[..n]);
+    for i in 0..n {
+        out[to + i] = xs[i];
+    }
     to + n
 }
 

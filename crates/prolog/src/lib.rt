@@ -39,7 +39,7 @@ fn put_front(from: &[u32], room: &mut [u32])
     requires { length from.now ≤ length room.old }
     ensures { room.new ≡ put_first from.now room.old }
 {
-    room[..from.len()].copy_from_slice(from);
+    octets::cells::put_cells(room, 0, from);
 }
 
 // The cells and the list as they are made: the table is read, and only then are they copied.
