@@ -90,12 +90,18 @@ marked_more t S M n p m e h k q w =
     rw (add-one n) (rw (get_or-set_same S n p 0 h, get_or-set_same M n m 0 k) (q, marked-after t S M n p n p m (omega arith) w))
 
 -- so a row that is looked for by its mark first, among the rows before place p, is found where it stands
-pub seen-is : (t S M x : List ℕ) (b n p m : ℕ) → n ≤ b → n ≤ length S → n ≤ length M → p ≤ length t → Ascends S n p → Marked t S M n p
+pub seen-here : (t S M x : List ℕ) (b n p m : ℕ) → n ≤ b → n ≤ length S → n ≤ length M → p ≤ length t → Ascends S n p → Marked t S M n p
     → m ≡ mark_of x
     → (has m (take n M) && among x (rows_lent (take p t) (take n S) (length (take n S)))) ≡ among x (rows_but t S b n p)
-seen-is t S M x b n p m h k l e a w f =
+seen-here t S M x b n p m h k l e a w f =
     rw (rows_before t S b n p h k e a, f) (go (has (mark_of x) (take n M)) refl)
   where
     go : (d : Bool) → has (mark_of x) (take n M) ≡ d → (d && among x (rows_but t S b n p)) ≡ among x (rows_but t S b n p)
     go true g = refl
     go false g = sym (no-mark t S M x b n n p (omega arith) l w g)
+
+-- the same where the place of the row itself is kept already
+pub seen-is : (t S M x : List ℕ) (b n p q m : ℕ) → n ≤ b → n ≤ length S → n ≤ length M → p ≤ length t → Ascends S n p → Marked t S M n p
+    → m ≡ mark_of x
+    → (has m (take n M) && among x (rows_lent (take p t) (take n (set S n q)) (length (take n (set S n q))))) ≡ among x (rows_but t S b n p)
+seen-is t S M x b n p q m h k l e a w f = rw (take-set-le n S n q (omega arith)) (seen-here t S M x b n p m h k l e a w f)
