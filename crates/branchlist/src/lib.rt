@@ -1,4 +1,4 @@
-// The branches of a plan, in its order, as a list of numbers: what is printed of a plan is printed by it.
+// The branches of a plan, in its order, as a list: what is printed of a plan is printed by it.
 #![tactic(auto)]
 
 ghost use Rattle.std.specs.Prelude.{◌≤◌};
@@ -48,7 +48,8 @@ fn more(n: u32, most: u32) -> u32 {
 }
 
 // The branches of a shop's plan; how many there are. Each has a symbol of a rule of its own, so that no plan has more than 64 rules have symbols.
-pub fn put_branches(list: &mut [Branch; BRANCHES], shop: &Shop<'_>) -> u32 {
+// What the list has no room for is left out.
+pub fn put_branches(list: &mut [Branch], shop: &Shop<'_>) -> u32 {
     let mut places = [0u32; ROW_CELLS];
     let n = put_arguments(&mut places, 0, 0, cell_at(shop.table, 0) as usize);
     let mut walk = Walk {
@@ -64,7 +65,7 @@ pub fn put_branches(list: &mut [Branch; BRANCHES], shop: &Shop<'_>) -> u32 {
 }
 
 // A branch by its number; one of zeros where there is none.
-pub fn branch_at(list: &[Branch; BRANCHES], i: u32) -> Branch {
+pub fn branch_at(list: &[Branch], i: u32) -> Branch {
     list.get(i as usize).copied().unwrap_or(NO_BRANCH)
 }
 
@@ -104,7 +105,7 @@ fn meet(met: &mut [u32], cell: u32, place: u32) -> u32 {
 // Stays: nothing is allocated, so that the list is a lent array and how much of it is in use; `met` has a place for each variable.
 #[derive(Drop)]
 struct Walk<'a> {
-    list: &'a mut [Branch; BRANCHES],
+    list: &'a mut [Branch],
     plan: &'a [u32],
     at: usize,
     rule: u32,
