@@ -4,7 +4,7 @@
 use askgoal::{Ready, Sheet};
 use goalsay::{Goal, Source};
 use limits::BRANCHES;
-use page::Page;
+use page::Printer;
 use shop::Shop;
 
 // Which arguments are goals: from a first one up to an end.
@@ -36,25 +36,31 @@ pub fn answer_all(
     goals: Goals,
     counting: Counting,
     room: &mut [u32],
-    page: &mut Page<'_>,
+    printer: &mut Printer<'_>,
 ) {
-    let mut sheet = Sheet::new(room);
-    ask_all(shop, goals, &mut sheet, page);
+    let mut sheet = Sheet::new();
+    ask_all(shop, goals, &mut sheet, room, printer);
     if let Counting::Counts = counting {
-        tallysay::say(&shop, &sheet.tally, page);
+        tallysay::say(&shop, &sheet.tally, printer);
     }
-    page.flush();
+    printer.flush();
 }
 
 // One buffer for an argument or for lines. It has one byte more than a goal may have, so that too long a one is seen to be one.
-fn ask_all(shop: Shop<'_>, goals: Goals, sheet: &mut Sheet<'_>, page: &mut Page<'_>) {
+fn ask_all(
+    shop: Shop<'_>,
+    goals: Goals,
+    sheet: &mut Sheet,
+    room: &mut [u32],
+    printer: &mut Printer<'_>,
+) {
     let mut buf = [0u8; 65534];
     let mut numbers = [0u64; BRANCHES];
     let ready = Ready::new(shop, &mut numbers);
     if goals.end <= goals.first {
-        asklines::ask_lines(&ready, &mut buf, sheet, page);
+        asklines::ask_lines(&ready, &mut buf, sheet, room, printer);
     } else {
-        ask_arguments(&ready, goals, &mut buf, sheet, page);
+        ask_arguments(&ready, goals, &mut buf, sheet, room, printer);
     }
 }
 
@@ -63,16 +69,17 @@ fn ask_arguments(
     ready: &Ready<'_>,
     goals: Goals,
     buf: &mut [u8],
-    sheet: &mut Sheet<'_>,
-    page: &mut Page<'_>,
+    sheet: &mut Sheet,
+    room: &mut [u32],
+    printer: &mut Printer<'_>,
 ) {
     for i in goals.first..goals.end {
-        if !page.going {
+        if !printer.page.going {
             return;
         }
-        let n = console::front(page.rt, i, buf);
+        let n = console::front(printer.rt, i, buf);
         let text = slices::bytes::part(buf, 0, n);
         let source = goals.source_of(i);
-        sheet.ask(ready, Goal { text, source }, page);
+        sheet.ask(ready, Goal { text, source }, room, printer);
     }
 }

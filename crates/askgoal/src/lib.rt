@@ -7,7 +7,7 @@ ghost use Rattle.slices.specs.Slices.{between};
 use answer::RunCounts;
 use goalsay::{Answer, Goal};
 use limits::{BRANCHES, ROW_CELLS, ROWS};
-use page::Page;
+use page::Printer;
 use plannotes::Noted;
 use refusal::Refusal;
 use shop::Shop;
@@ -18,10 +18,10 @@ use tally::Tally;
 // Stays: nothing is allocated, so that the starts are an array; the number of rows beside it is noted of the plan.
 #[derive(Clone, Copy)]
 pub struct Ready<'a> {
-    shop: Shop<'a>,
-    numbers: &'a [u64; BRANCHES],
-    noted: Noted,
-    starts: [usize; ROWS],
+    pub shop: Shop<'a>,
+    pub numbers: &'a [u64; BRANCHES],
+    pub noted: Noted,
+    pub starts: [usize; ROWS],
 }
 
 impl<'a> Ready<'a> {
@@ -74,9 +74,9 @@ impl<'a> Ready<'a> {
 // A goal's cells, or its names, at the front of a list that has room for all that there can be.
 // Stays: the programs allocate nothing, so that such a list is an array and a number.
 #[derive(Clone, Copy)]
-struct Row {
-    list: [u32; ROW_CELLS],
-    count: usize,
+pub struct Row {
+    pub list: [u32; ROW_CELLS],
+    pub count: usize,
 }
 
 impl Row {
@@ -95,10 +95,10 @@ impl Row {
 // Stays: the programs allocate nothing, so that the rules are an array and a number.
 #[derive(Clone, Copy)]
 pub struct Found {
-    goal: Row,
-    new: Row,
-    ran: RunCounts,
-    hits: [u8; ROWS],
+    pub goal: Row,
+    pub new: Row,
+    pub ran: RunCounts,
+    pub hits: [u8; ROWS],
 }
 
 impl Found {
@@ -116,7 +116,7 @@ impl Found {
 
     // A line for each rule that fits: its number and line, and its answer in the names of the facts and the goal's new ones. `cells` has an
     // answer for each.
-    fn say(&self, shop: &Shop<'_>, goal: &[u8], cells: &[u32], page: &mut Page<'_>) {
+    fn say(&self, shop: &Shop<'_>, goal: &[u8], cells: &[u32], printer: &mut Printer<'_>) {
         let new = self.new.front();
         let width = shop.p.width;
         let mut at = 0;
@@ -128,10 +128,10 @@ impl Found {
                 new,
                 cells: cells::part(cells, at, end),
             };
-            answer.say(shop, page);
+            answer.say(shop, printer);
             at = end;
         }
-        goalsay::say_counts(self.ran.hits, self.ran.tried, shop.branches, page);
+        goalsay::say_counts(self.ran.hits, self.ran.tried, shop.branches, printer);
     }
 }
 
@@ -147,30 +147,36 @@ fn terms_end(cells: &[u32], from: usize, count: usize) -> usize {
     at
 }
 
-// What goes from goal to goal: a room that is lent for the answers to each, and what the goals add up to so far.
-#[derive(Drop)]
-pub struct Sheet<'a> {
-    room: &'a mut [u32],
+// What the goals add up to so far.
+#[derive(Clone, Copy)]
+pub struct Sheet {
     pub tally: Tally,
 }
 
-impl<'a> Sheet<'a> {
+impl Sheet {
     // With nothing answered yet.
-    pub fn new(room: &'a mut [u32]) -> Self {
+    pub fn new() -> Self {
         let tally = tally::nothing();
-        Sheet { room, tally }
+        Sheet { tally }
     }
 
-    // A goal asked of a file of facts. Nothing of it is printed before all its answers are there: one that is refused for an answer has none.
-    pub fn ask(&mut self, ready: &Ready<'_>, goal: Goal<'_>, page: &mut Page<'_>) {
-        match ready.find(goal.text, self.room) {
+    // A goal asked of a file of facts. The room is lent for its answers: nothing of it is printed before all of them are there, and one that is
+    // refused for an answer has none.
+    pub fn ask(
+        &mut self,
+        ready: &Ready<'_>,
+        goal: Goal<'_>,
+        room: &mut [u32],
+        printer: &mut Printer<'_>,
+    ) {
+        match ready.find(goal.text, room) {
             Ok(found) => {
-                goal.say(page);
-                found.say(&ready.shop, goal.text, self.room, page);
+                goal.say(printer);
+                found.say(&ready.shop, goal.text, room, printer);
                 self.tally = tally::add(self.tally, Ok(found.ran), &found.hits);
             }
             Err(f) => {
-                goal.refuse(f, page);
+                goal.refuse(f, printer);
                 self.tally = tally::add(self.tally, Err(f), &[]);
             }
         }

@@ -4,7 +4,7 @@
 
 use askwork::Facts;
 use console::NAME;
-use page::{Page, ROOM};
+use page::{Printer, ROOM};
 use shop::KEPT;
 use slices::{bytes, cells};
 use wishes::{Asked, Call};
@@ -63,12 +63,19 @@ fn open(
     out: &mut [u8],
 ) {
     let mut file = [0u8; 65536];
-    let mut page = Page::new(rt, out);
+    let mut printer = Printer::new(rt, out);
     match reading::read_path(rt, path, &mut file) {
         Ok(n) => {
             let text = bytes::part(&file, 0, n);
-            askwork::answer(Facts { path, text }, call, columns, room, kept, &mut page);
+            askwork::answer(
+                Facts { path, text },
+                call,
+                columns,
+                room,
+                kept,
+                &mut printer,
+            );
         }
-        Err(why) => reading::cannot_read(rt, path, why, page.room),
+        Err(why) => reading::cannot_read(rt, path, why, printer.room),
     }
 }

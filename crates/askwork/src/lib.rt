@@ -2,7 +2,7 @@
 #![tactic(auto)]
 
 use askall::{Counting, Goals};
-use page::Page;
+use page::Printer;
 use refusal::Refusal;
 use shop::Shop;
 use wishes::{Call, Print};
@@ -23,15 +23,15 @@ pub fn answer(
     columns: &[u32],
     room: &mut [u32],
     kept: &mut [u32],
-    page: &mut Page<'_>,
+    printer: &mut Printer<'_>,
 ) {
     match shop::load_for(facts.text, columns, room, kept) {
-        Ok(shop) => show(shop, facts, call, room, page),
-        Err(f) => refuse(facts, call.known, f, page),
+        Ok(shop) => show(shop, facts, call, room, printer),
+        Err(f) => refuse(facts, call.known, f, printer),
     }
 }
 
-fn show(shop: Shop<'_>, facts: Facts<'_>, call: Call, room: &mut [u32], page: &mut Page<'_>) {
+fn show(shop: Shop<'_>, facts: Facts<'_>, call: Call, room: &mut [u32], printer: &mut Printer<'_>) {
     let goals = Goals {
         first: call.goal,
         end: call.end,
@@ -39,18 +39,18 @@ fn show(shop: Shop<'_>, facts: Facts<'_>, call: Call, room: &mut [u32], page: &m
     match call.print {
         // One call for both: called in two places it has rooms of its own on the stack, 83 kB more.
         Print::Answers | Print::Counts => {
-            askall::answer_all(shop, goals, counting_of(call.print), room, page);
+            askall::answer_all(shop, goals, counting_of(call.print), room, printer);
         }
         Print::Tree => {
-            treetext::print(&shop, page);
-            page.flush();
+            treetext::print(&shop, printer);
+            printer.flush();
         }
         Print::Picture => {
-            dottext::print(&shop, page);
-            page.flush();
+            dottext::print(&shop, printer);
+            printer.flush();
         }
-        Print::Clauses => show_clauses(shop, facts, page),
-        Print::Tuned(jobs) => tune::answer(shop, facts.path, jobs, room, page),
+        Print::Clauses => show_clauses(shop, facts, printer),
+        Print::Tuned(jobs) => tune::answer(shop, facts.path, jobs, room, printer),
     }
 }
 
@@ -61,25 +61,25 @@ fn counting_of(print: Print) -> Counting {
     }
 }
 
-fn show_clauses(shop: Shop<'_>, facts: Facts<'_>, page: &mut Page<'_>) {
-    match clausetext::put_clauses(page.room, &shop) {
+fn show_clauses(shop: Shop<'_>, facts: Facts<'_>, printer: &mut Printer<'_>) {
+    match clausetext::put_clauses(printer.room, &shop) {
         Ok(size) => {
-            page.to = size.bytes;
-            page.flush();
+            printer.page.to = size.bytes;
+            printer.flush();
         }
-        Err(f) => refuse(facts, None, f, page),
+        Err(f) => refuse(facts, None, f, printer),
     }
 }
 
 // Why a file is not taken, or why a list of known columns is not.
-fn refuse(facts: Facts<'_>, known: Option<usize>, f: Refusal, page: &mut Page<'_>) {
+fn refuse(facts: Facts<'_>, known: Option<usize>, f: Refusal, printer: &mut Printer<'_>) {
     if let Some(list) = known
         && refusal::number_of(f.reason) == known::COLUMN
     {
         let width = shop::width_of(facts.text);
-        known::complain(page.rt, list, facts.path, width, page.room);
+        known::complain(printer.rt, list, facts.path, width, printer.room);
         return;
     }
-    let n = refusals::put_facts_refusal(page.room, facts.path, facts.text, f);
-    page.complain(n);
+    let n = refusals::put_facts_refusal(printer.room, facts.path, facts.text, f);
+    printer.complain(n);
 }

@@ -4,12 +4,12 @@
 
 use goalfile::Goals;
 use limits::PLAN_CELLS;
-use page::Page;
+use page::Printer;
 use shop::Shop;
 use slices::cells::part;
 
 // For rules from a file of that name. A table that was read is refused no more, and 6,082 cells are enough for every plan.
-pub fn print(shop: Shop<'_>, path: &[u8], goals: Goals<'_>, page: &mut Page<'_>) {
+pub fn print(shop: Shop<'_>, path: &[u8], goals: Goals<'_>, printer: &mut Printer<'_>) {
     let mut plan = [0u32; PLAN_CELLS];
     let mut best = [0usize; 3];
     let by = shop::measure();
@@ -22,23 +22,23 @@ pub fn print(shop: Shop<'_>, path: &[u8], goals: Goals<'_>, page: &mut Page<'_>)
         &mut best,
     ) {
         Ok(built) => {
-            put_best(path, goals, best, page);
-            treetext::print(&shop.with_plan(part(&plan, 0, built.cells)), page);
-            page.flush();
+            put_best(path, goals, best, printer);
+            treetext::print(&shop.with_plan(part(&plan, 0, built.cells)), printer);
+            printer.flush();
         }
         Err(f) => {
-            let n = refusals::put_facts_refusal(page.room, path, shop.text, f);
-            page.complain(n);
+            let n = refusals::put_facts_refusal(printer.room, path, shop.text, f);
+            printer.complain(n);
         }
     }
 }
 
 // The set of columns as a number, and what the goals try with it and without.
-fn put_best(path: &[u8], goals: Goals<'_>, best: [usize; 3], page: &mut Page<'_>) {
+fn put_best(path: &[u8], goals: Goals<'_>, best: [usize; 3], printer: &mut Printer<'_>) {
     let [mask, tried, plain] = best;
     let named = liked::columns_of(mask);
     let columns = part(&named.list, 0, named.count);
     let count = goals.list.len() / 2;
-    let a = tunewords::put_look(page.room, 0, columns, path);
-    page.to = tunewords::put_counted(page.room, a, count, goals.refused, tried, plain);
+    let a = tunewords::put_look(printer.room, 0, columns, path);
+    printer.page.to = tunewords::put_counted(printer.room, a, count, goals.refused, tried, plain);
 }

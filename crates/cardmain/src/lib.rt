@@ -18,9 +18,9 @@ pub enum Wish {
 
 // How long the names of two files are: of what a card is made from and, where it is named, of the card's own.
 #[derive(Clone, Copy)]
-struct Names {
-    from: usize,
-    path: Option<usize>,
+pub struct Names {
+    pub from: usize,
+    pub path: Option<usize>,
 }
 
 // By the first argument and by how many there are.

@@ -8,22 +8,28 @@
 use branchlist::{Branch, NO_BRANCH, branch_at};
 use limits::BRANCHES;
 use octets::{put_decimal, put_word};
-use page::Page;
+use page::Printer;
 use shop::Shop;
 
 // After what is gathered on a page. Each branch is followed by the state below it.
-pub fn print(shop: &Shop<'_>, page: &mut Page<'_>) {
+pub fn print(shop: &Shop<'_>, printer: &mut Printer<'_>) {
     let mut list = [NO_BRANCH; BRANCHES];
     let count = branchlist::put_branches(&mut list, shop);
-    page.turn();
-    let a = put_head(page.room, page.to, shop);
-    page.to = put_state(page.room, a, shop, &list, 0);
+    printer.turn();
+    let a = put_head(printer.room, printer.page.to, shop);
+    printer.page.to = put_state(printer.room, a, shop, &list, 0);
     for n in 1..=count {
-        page.turn();
-        let to = put_branch(page.room, page.to, shop, branch_at(&list, n - 1), n);
-        page.to = put_state(page.room, to, shop, &list, n);
+        printer.turn();
+        let to = put_branch(
+            printer.room,
+            printer.page.to,
+            shop,
+            branch_at(&list, n - 1),
+            n,
+        );
+        printer.page.to = put_state(printer.room, to, shop, &list, n);
     }
-    page.to = put_word(page.room, page.to, b"}\n");
+    printer.page.to = put_word(printer.room, printer.page.to, b"}\n");
 }
 
 // How it is drawn: from left to right, the branches of a state from the top, and small.

@@ -8,7 +8,7 @@ use goallines::{Lines, Piece};
 use goallist::{Full, Held};
 use limits::BRANCHES;
 use message::Whose;
-use page::Page;
+use page::Printer;
 use refusal::Refusal;
 use shop::Shop;
 use slices::cells::part;
@@ -58,21 +58,21 @@ pub fn gather<'a>(
     shop: Shop<'_>,
     rooms: Rooms<'a>,
     room: &mut [u32],
-    page: &mut Page<'_>,
+    printer: &mut Printer<'_>,
 ) -> Option<Goals<'a>> {
     let Rooms { cells, list } = rooms;
     let mut buf = [0u8; 65534];
     let mut numbers = [0u64; BRANCHES];
     let ready = Ready::new(shop, &mut numbers);
     let mut lines = Lines::new(stream, &mut buf);
-    match gather_lines(jobs, &mut lines, &ready, cells, list, room, page) {
+    match gather_lines(jobs, &mut lines, &ready, cells, list, room, printer) {
         Ok(count) => Some(Goals {
             cells: part(cells, 0, count.held.cells),
             list: goallist::words(list, count.held),
             refused: count.refused,
         }),
         Err(fault) => {
-            say(jobs, fault, page);
+            say(jobs, fault, printer);
             None
         }
     }
@@ -87,7 +87,7 @@ fn gather_lines(
     cells: &mut [u32],
     list: &mut [usize],
     room: &mut [u32],
-    page: &mut Page<'_>,
+    printer: &mut Printer<'_>,
 ) -> Result<Count, Fault> {
     let mut held = Held { cells: 0, words: 0 };
     let mut refused = 0;
@@ -100,7 +100,7 @@ fn gather_lines(
             match ready.find(goal, room) {
                 Ok(found) => held = keep(found.goal(), piece, cells, list, held)?,
                 Err(f) => {
-                    refuse(jobs, goal, piece, f, page);
+                    refuse(jobs, goal, piece, f, printer);
                     refused = marks::further(refused, 1);
                 }
             }
@@ -127,19 +127,19 @@ fn keep(
 }
 
 // Why a goal is refused, to standard error.
-fn refuse(jobs: &[u8], goal: &[u8], piece: Piece, f: Refusal, page: &mut Page<'_>) {
-    let a = octets::put_word(page.room, 0, jobs);
-    let b = refusals::put_refusal(page.room, a, goal, piece.above, Whose::Goal, f);
-    page.complain(b);
+fn refuse(jobs: &[u8], goal: &[u8], piece: Piece, f: Refusal, printer: &mut Printer<'_>) {
+    let a = octets::put_word(printer.room, 0, jobs);
+    let b = refusals::put_refusal(printer.room, a, goal, piece.above, Whose::Goal, f);
+    printer.complain(b);
 }
 
 // Why not all is gathered: to standard error.
-fn say(jobs: &[u8], fault: Fault, page: &mut Page<'_>) {
+fn say(jobs: &[u8], fault: Fault, printer: &mut Printer<'_>) {
     match fault {
-        Fault::Unread(why) => reading::cannot_read(page.rt, jobs, why, page.room),
+        Fault::Unread(why) => reading::cannot_read(printer.rt, jobs, why, printer.room),
         Fault::Full { full, line } => {
-            let n = tunewords::put_full(page.room, 0, jobs, line, full);
-            page.complain(n);
+            let n = tunewords::put_full(printer.room, 0, jobs, line, full);
+            printer.complain(n);
         }
     }
 }

@@ -4,7 +4,7 @@
 use lex::fact::Head;
 use message::Whose;
 use octets::{put_byte, put_decimal, put_word};
-use page::Page;
+use page::Printer;
 use refusal::Refusal;
 use shop::Shop;
 
@@ -48,22 +48,29 @@ pub struct Goal<'a> {
 
 impl Goal<'_> {
     // The line before the answers, which tells the answers of several goals apart.
-    pub fn say(&self, page: &mut Page<'_>) {
+    pub fn say(&self, printer: &mut Printer<'_>) {
         if let Source::Only = self.source {
             return;
         }
         let goal = self.text;
         let written = slices::bytes::part(goal, start_of(goal), linecut::goal_end(goal));
-        page.turn();
-        page.to = message::put_goal(page.room, page.to, written);
+        printer.turn();
+        printer.page.to = message::put_goal(printer.room, printer.page.to, written);
     }
 
     // Why it is refused, to standard error; what is gathered goes before it.
-    pub fn refuse(&self, f: Refusal, page: &mut Page<'_>) {
-        page.flush();
-        let a = self.source.put_name(page.room, 0);
-        let b = refusals::put_refusal(page.room, a, self.text, self.source.above(), Whose::Goal, f);
-        page.complain(b);
+    pub fn refuse(&self, f: Refusal, printer: &mut Printer<'_>) {
+        printer.flush();
+        let a = self.source.put_name(printer.room, 0);
+        let b = refusals::put_refusal(
+            printer.room,
+            a,
+            self.text,
+            self.source.above(),
+            Whose::Goal,
+            f,
+        );
+        printer.complain(b);
     }
 }
 
@@ -88,12 +95,12 @@ pub struct Answer<'a> {
 
 impl Answer<'_> {
     // The rule and its answer, as a line. One that is longer than a line may be is cut.
-    pub fn say(&self, shop: &Shop<'_>, page: &mut Page<'_>) {
-        page.turn();
-        let a = shop.put_rule(page.room, page.to, self.row);
-        let b = put_word(page.room, a, b": ");
-        let c = self.put_cut(shop, page.room, b);
-        page.to = put_byte(page.room, c, b'\n');
+    pub fn say(&self, shop: &Shop<'_>, printer: &mut Printer<'_>) {
+        printer.turn();
+        let a = shop.put_rule(printer.room, printer.page.to, self.row);
+        let b = put_word(printer.room, a, b": ");
+        let c = self.put_cut(shop, printer.room, b);
+        printer.page.to = put_byte(printer.room, c, b'\n');
     }
 
     // Its text from a place of the room on, in one byte more than a line may have, so that too long a line is seen to be one.
@@ -117,7 +124,7 @@ impl Answer<'_> {
 }
 
 // The rules that fit, and the branches tried of all that there are.
-pub fn say_counts(rules: usize, tried: usize, branches: usize, page: &mut Page<'_>) {
-    page.turn();
-    page.to = message::put_counts(page.room, page.to, rules, tried, branches);
+pub fn say_counts(rules: usize, tried: usize, branches: usize, printer: &mut Printer<'_>) {
+    printer.turn();
+    printer.page.to = message::put_counts(printer.room, printer.page.to, rules, tried, branches);
 }

@@ -10,45 +10,55 @@ pub const GATHERED: usize = 32768;
 
 pub const ROOM: usize = 164864;
 
-// The room, how many of its bytes are not yet written, and whether standard output still takes any.
-// Stays: nothing is allocated, so that what is gathered is a lent room and how much of it is in use.
-#[derive(Drop)]
-pub struct Page<'a> {
-    pub rt: HostRuntime,
-    pub room: &'a mut [u8],
+// How many bytes of the room are not yet written, and whether standard output still takes any.
+#[derive(Clone, Copy)]
+pub struct Page {
     pub to: usize,
     pub going: bool,
 }
 
-impl<'a> Page<'a> {
+// With nothing on it yet.
+pub fn blank() -> Page
+    ensures empty { result.to ≡ 0 }
+    ensures going { result.going ≡ true }
+{
+    Page { to: 0, going: true }
+}
+
+// A page, with the room that it is gathered in.
+// Stays: nothing is allocated, so that what is gathered is a lent room and how much of it is in use.
+#[derive(Drop)]
+pub struct Printer<'a> {
+    pub rt: HostRuntime,
+    pub room: &'a mut [u8],
+    pub page: Page,
+}
+
+impl<'a> Printer<'a> {
     // A room with nothing in it yet.
     pub fn new(rt: HostRuntime, room: &'a mut [u8]) -> Self
-        ensures empty { result.to ≡ 0 }
-        ensures going { result.going ≡ true }
+        ensures empty { result.page.to ≡ 0 }
+        ensures going { result.page.going ≡ true }
     {
-        Page {
-            rt,
-            room,
-            to: 0,
-            going: true,
-        }
+        let page = blank();
+        Printer { rt, room, page }
     }
 
     // Writes what is gathered. The first write that fails is said, and ends all printing.
     pub fn flush(&mut self)
-        ensures written { self.new.to ≡ 0 }
-        ensures closed { self.old.going ≡ false → self.new.going ≡ false }
+        ensures written { self.new.page.to ≡ 0 }
+        ensures closed { self.old.page.going ≡ false → self.new.page.going ≡ false }
     {
-        let to = self.to;
-        self.to = 0;
-        self.going = self.going && print(self.rt, self.room, to);
+        let to = self.page.to;
+        self.page.to = 0;
+        self.page.going = self.page.going && print(self.rt, self.room, to);
     }
 
     // Space for one line.
     pub fn turn(&mut self)
-        ensures { self.new.to ≤ 32768 }
+        ensures { self.new.page.to ≤ 32768 }
     {
-        if GATHERED < self.to {
+        if GATHERED < self.page.to {
             self.flush();
         }
     }

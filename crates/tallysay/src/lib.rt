@@ -3,7 +3,7 @@
 
 use limits::ROWS;
 use octets::put_word;
-use page::Page;
+use page::Printer;
 use shop::{Shop, cell_at};
 use tally::Tally;
 
@@ -17,26 +17,33 @@ fn largest(t: &Tally) -> usize {
 }
 
 // The rules of the file, of which there are at most 64.
-pub fn say(shop: &Shop<'_>, t: &Tally, page: &mut Page<'_>) {
+pub fn say(shop: &Shop<'_>, t: &Tally, printer: &mut Printer<'_>) {
     let width = tallywords::digits(largest(t));
-    page.turn();
-    page.to = put_word(page.room, page.to, b"counts over all goals:\n");
+    printer.turn();
+    printer.page.to = put_word(printer.room, printer.page.to, b"counts over all goals:\n");
     for row in 0..ROWS.min(shop.rules()) {
         let line = cell_at(shop.lines, row) as usize;
-        page.turn();
-        page.to = tallywords::put_fitted(page.room, page.to, width, t.fits[row], row + 1, line);
+        printer.turn();
+        printer.page.to = tallywords::put_fitted(
+            printer.room,
+            printer.page.to,
+            width,
+            t.fits[row],
+            row + 1,
+            line,
+        );
     }
-    say_totals(t, width, page);
+    say_totals(t, width, printer);
 }
 
-fn say_totals(t: &Tally, width: usize, page: &mut Page<'_>) {
+fn say_totals(t: &Tally, width: usize, printer: &mut Printer<'_>) {
     let totals: [(usize, &[u8], &[u8]); 3] = [
         (t.answered, b"goal answered", b"goals answered"),
         (t.refused, b"goal refused", b"goals refused"),
         (t.tried, b"branch tried", b"branches tried"),
     ];
-    page.turn();
+    printer.turn();
     for (n, one, many) in totals {
-        page.to = tallywords::put_total(page.room, page.to, width, n, one, many);
+        printer.page.to = tallywords::put_total(printer.room, printer.page.to, width, n, one, many);
     }
 }

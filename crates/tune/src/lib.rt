@@ -3,27 +3,33 @@
 
 use console::{NAME, Stream};
 use goalfile::Rooms;
-use page::Page;
+use page::Printer;
 use shop::Shop;
 
 // For rules from a file of that name, the file of goals that an argument names, `-` being standard input. One that is too long for a name names none.
-pub fn answer(shop: Shop<'_>, path: &[u8], jobs: usize, room: &mut [u32], page: &mut Page<'_>) {
+pub fn answer(
+    shop: Shop<'_>,
+    path: &[u8],
+    jobs: usize,
+    room: &mut [u32],
+    printer: &mut Printer<'_>,
+) {
     let mut name = [0u8; NAME];
-    match console::arg(page.rt, jobs, &mut name) {
-        Ok(n) => open(shop, path, &name[..n], room, page),
-        Err(why) => console::fail(page.rt, b"cannot read JOBS", why),
+    match console::arg(printer.rt, jobs, &mut name) {
+        Ok(n) => open(shop, path, &name[..n], room, printer),
+        Err(why) => console::fail(printer.rt, b"cannot read JOBS", why),
     }
 }
 
-fn open(shop: Shop<'_>, path: &[u8], jobs: &[u8], room: &mut [u32], page: &mut Page<'_>) {
+fn open(shop: Shop<'_>, path: &[u8], jobs: &[u8], room: &mut [u32], printer: &mut Printer<'_>) {
     if let b"-" = jobs {
-        let stream = console::input(page.rt);
-        lend(shop, path, b"standard input", stream, room, page);
+        let stream = console::input(printer.rt);
+        lend(shop, path, b"standard input", stream, room, printer);
         return;
     }
-    match console::open(page.rt, jobs) {
-        Ok(stream) => lend(shop, path, jobs, stream, room, page),
-        Err(why) => reading::cannot_read(page.rt, jobs, why, page.room),
+    match console::open(printer.rt, jobs) {
+        Ok(stream) => lend(shop, path, jobs, stream, room, printer),
+        Err(why) => reading::cannot_read(printer.rt, jobs, why, printer.room),
     }
 }
 
@@ -36,11 +42,13 @@ fn lend(
     jobs: &[u8],
     stream: Stream,
     room: &mut [u32],
-    page: &mut Page<'_>,
+    printer: &mut Printer<'_>,
 ) {
     let mut cells = [0u32; 800000];
     let mut list = [0usize; 200000];
-    gather(shop, path, jobs, stream, &mut cells, &mut list, room, page);
+    gather(
+        shop, path, jobs, stream, &mut cells, &mut list, room, printer,
+    );
 }
 
 // Stays: what `lend` lends, so that its rooms and their proof stand in a function of their own.
@@ -52,10 +60,10 @@ fn gather(
     cells: &mut [u32],
     list: &mut [usize],
     room: &mut [u32],
-    page: &mut Page<'_>,
+    printer: &mut Printer<'_>,
 ) {
     let rooms = Rooms { cells, list };
-    if let Some(goals) = goalfile::gather(jobs, stream, shop, rooms, room, page) {
-        bestplan::print(shop, path, goals, page);
+    if let Some(goals) = goalfile::gather(jobs, stream, shop, rooms, room, printer) {
+        bestplan::print(shop, path, goals, printer);
     }
 }

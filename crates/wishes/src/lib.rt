@@ -36,7 +36,7 @@ pub enum Asked {
 
 // What an option says is printed.
 #[derive(Clone, Copy)]
-enum Wish {
+pub enum Wish {
     Help,
     Version,
     Print(Print),
@@ -45,7 +45,7 @@ enum Wish {
 // An argument before the goals: an option that says what is printed, the one that a list of columns follows, the one that a file of goals
 // follows, or the file of facts.
 #[derive(Clone, Copy)]
-enum Word {
+pub enum Word {
     Wish(Wish),
     Known,
     Tune,
