@@ -132,42 +132,42 @@ stopped row [] (suc owed) used vars p h f = go (row && leb 32 used)
 stopped row (c ∷ xs) zero used vars p h f = absurd (omega arith)
 stopped row (c ∷ xs) (suc owed) used vars p h f = rw (f (omega arith))
 
--- What is left to read at a place, so many terms being owed: at first all of it, in the end nothing.
+-- What is left to read at a place, terms being owed up to another: at first all of it, in the end nothing.
 abbrev pub left : Bool → List ℕ → ℕ → ℕ → ℕ → ℕ → Read Met
-left row xs from owed vars at = terms_from row (drop at xs) owed (at - from) vars at
+left row xs from to vars at = terms_from row (drop at xs) (to - at) (at - from) vars at
 
 module _ (row : Bool) (xs : List ℕ) (from : ℕ) (l : row ≡ false → length xs ≤ from + 32) where
-  pub at_first : (w : ℕ) → left row xs from (min w 33) 0 from ≡ terms_from row (drop from xs) w 0 0 from
+  pub at_first : (w : ℕ) → left row xs from (from + min w 33) 0 from ≡ terms_from row (drop from xs) w 0 0 from
   at_first w =
+      let o : from + min w 33 - from ≡ min w 33 = omega arith in
       let z : from - from ≡ 0 = omega arith in
-      rw z (by_cases (dec_lt 32 w)
+      rw (o, z) (by_cases (dec_lt 32 w)
       (λ (h : 32 < w). too_many row (drop from xs) (min w 33) w 0 0 from (omega arith) (omega arith) (omega arith)
       (λ q. omega (arith, l q, length-drop from xs)))
       (λ h. let e : min w 33 ≡ w = omega arith in rw e))
 
-  pub used-up : (owed vars at : ℕ) → 0 < owed → (at < length xs → from + 32 ≤ at) → left row xs from owed vars at ≡ refuse (not_whole row (at - from) at)
-  used-up owed vars at t h =
-      stopped row (drop at xs) owed (at - from) vars at t (λ (s : 0 < length (drop at xs)).
-      let n = h (omega (arith, length-drop at xs)) in
-      no_room row (at - from) (omega arith) (λ e. omega (arith, l e, length-drop at xs)))
+  module _ (to vars at : ℕ) where
+    pub used-up : at < to → (at < length xs → from + 32 ≤ at) → left row xs from to vars at ≡ refuse (not_whole row (at - from) at)
+    used-up t h =
+        stopped row (drop at xs) (to - at) (at - from) vars at (omega arith) (λ (s : 0 < length (drop at xs)).
+        let n = h (omega (arith, length-drop at xs)) in
+        no_room row (at - from) (omega arith) (λ e. omega (arith, l e, length-drop at xs)))
 
-module _ (row : Bool) (xs : List ℕ) (from owed vars at : ℕ) where
-  pub in-the-end : owed ≡ 0 → left row xs from owed vars at ≡ read (met at vars)
-  in-the-end z = rw z (none-owed row (drop at xs) (at - from) vars at)
+module _ (row : Bool) (xs : List ℕ) (from to vars at : ℕ) where
+  pub in-the-end : to ≤ at → left row xs from to vars at ≡ read (met at vars)
+  in-the-end h = let z : to - at ≡ 0 = omega arith in rw z (none-owed row (drop at xs) (at - from) vars at)
 
-  pub next-cell : at < length xs → from ≤ at → at < from + 32 → 0 < owed
-      → left row xs from owed vars at
-      ≡ and_then (cell_from row (get_or xs at 0) vars at) (λ (v : ℕ). left row xs from (owed - 1 + arity (get_or xs at 0)) v (at + 1))
+  pub next-cell : at < length xs → from ≤ at → at < from + 32 → at < to
+      → left row xs from to vars at ≡ and_then (cell_from row (get_or xs at 0) vars at) (λ (v : ℕ). left row xs from (to + arity (get_or xs at 0)) v (at + 1))
   unfolding terms_from cell_from arity
   next-cell h f u t =
       let c : ℕ = get_or xs at 0 in
-      let o : owed ≡ suc (owed - 1) = omega arith in
-      let a : owed - 1 + arity c ≡ arity c + (owed - 1) = omega arith in
+      let o : to - at ≡ suc (to - (at + 1)) = omega arith in
+      let a : to + arity c - (at + 1) ≡ arity c + (to - (at + 1)) = omega arith in
       let n : at + 1 - from ≡ suc (at - from) = omega arith in
-      rw (a, n) (ap (λ (k : ℕ). terms_from row (drop at xs) k (at - from) vars at) o
-      ∙ rw (drop-cons xs at 0 h, lt-leb 32 (at - from) (omega arith), and-false row, add-one at)
+      rw (drop-cons xs at 0 h, o, a, n, lt-leb 32 (at - from) (omega arith), and-false row, add-one at)
       (tests_then row (values_at c) vars at (counted (values_at c) vars)
-      (λ (v : ℕ). terms_from row (drop (suc at) xs) (arity c + (owed - 1)) (suc (at - from)) v (suc at))))
+      (λ (v : ℕ). terms_from row (drop (suc at) xs) (arity c + (to - suc at)) (suc (at - from)) v (suc at)))
 
 -- a cell adds one variable at most
 pub one_more : (row : Bool) (c vars p : ℕ) {v : ℕ} → cell_from row c vars p ≡ read v → v ≤ vars + 1

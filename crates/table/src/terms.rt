@@ -87,36 +87,36 @@ fn not_whole(row: bool, used: usize, place: usize) -> Refusal
     refusal(row, Reason::Short, place)
 }
 
-// So many terms from a place on. Each cell pays for one term that is owed, and owes its arguments; no cell after the 32nd is looked at, so of
+// So many terms from a place on. They end at `to` at the earliest, a place for each that is owed; no cell after the 32nd is looked at, so of
 // terms that are too many it does not matter how many they are.
 pub fn read_terms(cells: &[u32], from: usize, width: usize, row: bool) -> Result<TermsRead, Refusal>
     requires { (from ≤ length cells.now) × (row ≡ false → length cells.now ≤ from + most_row_cells) }
     ensures { (terms_told result ≡ terms_from row (drop from cells.now) width 0 0 from) × MarkTold cells.now from result }
 {
     let stop = cells.len().min(from + ROW_CELLS);
-    let mut owed = width.min(ROW_CELLS + 1);
+    let mut to = from + width.min(ROW_CELLS + 1);
     let mut vars: usize = 0;
     let mut mark = 0;
-    if owed == 0 {
-        return Ok(TermsRead {
-            end: from,
-            vars,
-            mark,
-        });
-    }
     for at in from..stop {
-        let c = cell_in(cells, at, row);
-        let tested = test_cell(c, vars, at, row)?;
-        vars = tested.vars;
-        mark = samerows::mixed(mark, c);
-        owed = owed - 1 + tested.args;
-        if owed == 0 {
+        if to <= at {
             return Ok(TermsRead {
-                end: at + 1,
+                end: at,
                 vars,
                 mark,
             });
         }
+        let c = cell_in(cells, at, row);
+        let tested = test_cell(c, vars, at, row)?;
+        vars = tested.vars;
+        to += tested.args;
+        mark = samerows::mixed(mark, c);
     }
-    Err(not_whole(row, stop - from, stop))
+    if stop < to {
+        return Err(not_whole(row, stop - from, stop));
+    }
+    Ok(TermsRead {
+        end: stop,
+        vars,
+        mark,
+    })
 }

@@ -50,8 +50,8 @@ returns-then-seen_before c =
     let l = c.loop-n in
     let i = l.invariant in
     let r = c.in_ok-row.row in
-    let seen = seen-here a.cells.now l.starts l.marks _ 64 l.n l.at r.mark (omega arith) (omega (arith, i.starts)) (omega (arith, i.marks)) i.within i.up i.marked
-    c.in_ok-row.ensures.1 in
+    let seen = seen-here a.cells.now l.starts l.marks _ 64 l.n l.at r.mark (omega arith) (omega (arith, i.starts))
+    (omega (arith, i.marks)) i.within i.up i.marked c.in_ok-row.ensures.1 in
     let found = sym seen ∙ sym c.seen_before.ensures ∙ c.if-seen_before.true in
     let d = is-doubled (met r.end r.vars) _ _ c.if-row-eq0.true found in
     rows-answer a.width a.rows (drop 2 a.cells.now) _ (omega arith)
@@ -68,8 +68,8 @@ loop-n-preserved c =
     let r = c.in_ok-row.row in
     let h : terms_from true (drop l.at a.cells.now) a.width 0 0 l.at ≡ read (met r.end r.vars) = sym c.in_ok-row.ensures.0 in
     let b = whole-within true a.cells.now a.width l.at i.within h in
-    let seen = seen-here a.cells.now l.starts l.marks (between l.at r.end a.cells.now) 64 l.n l.at r.mark (omega arith) (omega (arith, i.starts)) (omega (arith, i.marks)) i.within i.up i.marked
-    c.in_ok-row.ensures.1 in
+    let seen = seen-here a.cells.now l.starts l.marks (between l.at r.end a.cells.now) 64 l.n l.at r.mark (omega arith)
+    (omega (arith, i.starts)) (omega (arith, i.marks)) i.within i.up i.marked c.in_ok-row.ensures.1 in
     let alone : doubled (met r.end r.vars) (between l.at r.end a.cells.now) (rows_but a.cells.now l.starts 64 l.n l.at) ≡ false =
     elim c.else-row-eq0.branch [ else-row-eq0-via-then-row-eq0+else-seen_before w ↦ none-of-them (met r.end r.vars) _ _ (sym seen ∙ sym w.seen_before.ensures ∙ w.if-seen_before.false) | else-row-eq0-via-else-row-eq0 w ↦ has-variable (met r.end r.vars) _ _ w.if-row-eq0.false ] in
     let m : a.rows - l.n - 1 ≡ a.rows - (l.n + 1) = omega arith in
