@@ -3,13 +3,17 @@
 ghost use Rattle.std.specs.Prelude.{[], ◌∷◌};
 ghost use Rattle.octets.specs.Octets.{Put, bytes_in, bytes_of};
 
-use super::{put_all, put_one, put_word};
+use super::{put_all, put_byte, put_one};
 
 // The four bytes of a cell, the least significant first.
 pub fn write_cell(out: &mut [u8], to: usize, c: u32) -> usize
     ensures { Put out.old out.new to (bytes_in c) result }
 {
-    put_word(out, to, &c.to_le_bytes())
+    let [low, second, third, high] = c.to_le_bytes();
+    let a = put_byte(out, to, low);
+    let b = put_byte(out, a, second);
+    let d = put_byte(out, b, third);
+    put_byte(out, d, high)
 }
 
 // Those of cells, one after another.

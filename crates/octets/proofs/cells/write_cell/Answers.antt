@@ -1,10 +1,7 @@
-use mathlib.Core.Path.{subst}
-use Prim.Native.Nat.{ℕ}
-use mathlib.Core.List.{List}
-use Rattle.octets.specs.Octets.{Put}
+use Rattle.octets.proofs.PutLaws.{put-put}
 use Rattle.octets.proofs.cells.write_cell.Goals as goal
 
+-- one byte after another, and what the four of them are
 pub returns : goal.returns
 returns c =
-    subst (λ (bytes : List ℕ). Put c.args.out.now c.put_word.new.out c.args.to bytes c.put_word.result) c.to_le_bytes.ensures
-    c.put_word.ensures
+    rw c.to_le_bytes.ensures at (put-put (put-put (put-put c.put_byte-a.ensures c.put_byte-b.ensures) c.put_byte-d.ensures) c.put_byte.ensures)
