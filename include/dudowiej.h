@@ -20,10 +20,10 @@
  * A list is passed as a pointer and a length, a record or a report as a pointer. A pointer is aligned for its type and not null, even where
  * the length is 0. What a call writes, a lent room, a record or a report, shares no memory with its other inputs: a row that is to be
  * appended again is copied out of its record first. The functions keep nothing between calls, and allocate nothing. Of its caller's stack a
- * call touches at most 128,600 bytes to read a goal's text, 125,128 to build the plan that a list likes best, 117,528 to salvage a file, 83,784
- * to build a plan for named columns, 61,944 to load a text, 47,600 to read a file, 46,608 to write one, 45,976 for the replies to a list, 44,840
- * for replies, 32,304 to hand a plan back, 30,368 to run one, 28,944 to build one, 18,616 to edit a record, 17,472 to write an answer's text,
- * 13,520 to check a plan, 9,704 to work a record out and 2,552 to read (measured: docs/BENCH.md, "Stack"). */
+ * call touches at most 128,600 bytes to read a goal's text, 125,112 to build the plan that a list likes best, 117,496 to salvage a file, 83,768
+ * to build a plan for named columns, 61,944 to load a text, 47,600 to read a file, 46,576 to write one, 45,976 for the replies to a list, 44,840
+ * for replies, 32,304 to hand a plan back, 30,368 to run one, 28,944 to build one, 18,600 to edit a record, 17,472 to write an answer's text,
+ * 13,520 to check a plan, 9,688 to work a record out and 2,536 to read (measured: docs/BENCH.md, "Stack"). */
 #ifndef DUDOWIEJ_H
 #define DUDOWIEJ_H
 
