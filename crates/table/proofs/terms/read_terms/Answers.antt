@@ -22,6 +22,7 @@ pub loop-at-init : goal.loop-at-init
 loop-at-init c =
     let a = c.args in
     record {
+      owed = omega (arith, c.min.ensures);
       few = omega (arith, c.min.ensures);
       seen = omega arith;
       mark = mark-none a.cells.now a.from;
@@ -55,6 +56,7 @@ loop-at-preserved c =
     let i = l.invariant in
     let m = one_more a.row c.cell_in-c.result l.vars l.at (sym c.in_ok-tested.ensures.0) in
     record {
+      owed = omega arith;
       few = omega (arith, i.few, c.in_ok-tested.ensures.1, arity-small c.cell_in-c.result);
       seen = omega (arith, m, i.seen);
       mark = c.mixed-mark.ensures ∙ ap₂ mix i.mark c.cell_in-c.ensures ∙ mark-longer a.cells.now a.from l.at (omega arith) (omega arith);
